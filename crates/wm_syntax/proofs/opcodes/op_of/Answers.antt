@@ -1,0 +1,9 @@
+use Rattle.wm_syntax.proofs.OpTable.{found_in, begins_in, float_in}
+use Rattle.wm_syntax.proofs.opcodes.op_of.Goals as goal
+
+pub returns : goal.returns
+returns c = rw c.within.ensures (record {
+  found = found_in c.args.profile c.args.byte c.class_at.result c.class_at.ensures;
+  only = begins_in c.args.profile c.args.byte c.class_at.result c.class_at.ensures;
+  float = float_in c.args.profile c.args.byte c.class_at.result c.class_at.ensures;
+})

@@ -1,0 +1,10 @@
+pub mod Spelling
+pub mod Leb128
+pub mod Types
+pub mod Opcodes
+pub mod Instructions
+pub mod OpClasses
+pub mod ByteTable
+pub mod Modules
+pub mod Profiles
+pub mod Refusals

@@ -1,0 +1,36 @@
+-- The instructions of a profile.
+use Rattle.std.specs.List.{AllByRecursion}
+use Rattle.wm_syntax.specs.declared.instructions.Simple.{Simple}
+use Rattle.wm_syntax.specs.declared.instructions.Simple.TheVariants.{Numeric}
+use Rattle.wm_syntax.specs.declared.instructions.Numeric.TheVariants.{SignExtend}
+use Rattle.wm_syntax.specs.declared.instructions.Op.{Op}
+use Rattle.wm_syntax.specs.declared.instructions.Op.TheVariants as op
+use Rattle.wm_syntax.specs.declared.profile.Profile.{Profile}
+use Rattle.wm_syntax.specs.declared.profile.Profile.TheVariants.{One}
+use Rattle.wm_syntax.specs.Instructions.{Instruction, Instructions, none, snoc, simple, table, block, loop, choice}
+use Rattle.wm_syntax.specs.Modules.{Module}
+
+abbrev pub HasSimple : Profile → Simple → Type 0
+HasSimple One (Numeric (SignExtend op)) = ⊥
+HasSimple _ _ = Unit {0}
+
+-- of the flat form: an op of the profile
+abbrev pub IsOpOf : Profile → Op → Type 0
+IsOpOf p (op.Simple i) = HasSimple p i
+IsOpOf p _ = Unit {0}
+
+abbrev mutual
+  pub HasInstruction : Profile → Instruction → Type 0
+  HasInstruction p (simple i) = HasSimple p i
+  HasInstruction p (table labels default) = Unit {0}
+  HasInstruction p (block t body) = HasInstructions p body
+  HasInstruction p (loop t body) = HasInstructions p body
+  HasInstruction p (choice t first second) = HasInstructions p first × HasInstructions p second
+
+  pub HasInstructions : Profile → Instructions → Type 0
+  HasInstructions p none = Unit {0}
+  HasInstructions p (snoc s i) = HasInstructions p s × HasInstruction p i
+
+-- each instruction of the module is of the profile
+abbrev pub IsOf : Profile → Module → Type 0
+IsOf p m = AllByRecursion (λ f. HasInstructions p f.body) m.functions

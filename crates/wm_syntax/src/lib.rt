@@ -1,0 +1,12 @@
+//! The words that every other crate of wmod speaks: numbers, names, types, instructions and
+//! modules of WebAssembly 1.0, and the readers and writers of bytes.
+#![tactic(auto)]
+
+pub mod instructions;
+pub mod laws;
+pub mod modules;
+pub mod op_class;
+pub mod opcodes;
+pub mod profile;
+pub mod types;
+pub mod why;

@@ -1,0 +1,47 @@
+//! Types (section 2.3).
+
+use std::marker::Model;
+
+/// A value type of the profile: a whole number of 32 or of 64 bits.
+#[derive(Clone, Copy, PartialEq, Eq, Debug)]
+pub enum ValType {
+    I32,
+    I64,
+}
+
+/// A function type (section 2.3.3): the types of what is passed and of what is returned.
+#[derive(Debug, Drop)]
+pub struct FuncType {
+    pub params: Vec<ValType>,
+    pub results: Vec<ValType>,
+}
+
+impl Model for FuncType {
+    ghost use Rattle.wm_syntax.specs.Types.{Signature};
+
+    ghost Value = { Signature };
+
+    ghost view = { λ f. record { params = f.params.items; results = f.results.items } };
+}
+
+/// How large a table or a memory is at least and at most (section 2.3.4): elements, or pages of 64 KiB.
+#[derive(Clone, Copy, PartialEq, Eq, Debug)]
+pub struct Limits {
+    pub min: u32,
+    pub max: Option<u32>,
+}
+
+/// The type of a global's value, and whether it may be set (section 2.3.7).
+#[derive(Clone, Copy, PartialEq, Eq, Debug)]
+pub struct GlobalType {
+    pub ty: ValType,
+    pub var: bool,
+}
+
+/// A constant expression (section 3.3.7): a number, or the value of the global with this index.
+#[derive(Clone, Copy, PartialEq, Eq, Debug)]
+pub enum Const {
+    I32(i32),
+    I64(i64),
+    Global(u32),
+}
