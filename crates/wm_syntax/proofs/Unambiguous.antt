@@ -13,7 +13,7 @@ use Rattle.wm_syntax.specs.declared.instructions.MemArg.{MemArg}
 use Rattle.wm_syntax.specs.declared.instructions.Simple.{Simple}
 use Rattle.wm_syntax.specs.declared.instructions.Simple.TheVariants as s
 use Rattle.wm_syntax.specs.declared.instructions.Op.TheVariants as op
-use Rattle.wm_syntax.proofs.Numbers.{same_unsigned, same_signed}
+use Rattle.wm_syntax.proofs.Spellings.{same_unsigned, same_signed}
 
 -- one form after another, each with its fact
 pub then_same : {A : Type 0} (P Q P' Q' : Form A) (D E : Type 0)

@@ -5,6 +5,7 @@
 pub mod instructions;
 pub mod laws;
 pub mod modules;
+pub mod numbers;
 pub mod op_class;
 pub mod opcodes;
 pub mod profile;
