@@ -6,9 +6,9 @@ use Rattle.std.proofs.lemmas.Int.{ints}
 use Rattle.std.proofs.Math.Nat.{mul-le-mul_left}
 use Rattle.std.proofs.Math.IntN.{neg_ℤ, suc_ℤ-*ℤ, zero-*ℤ, +ℤ_idl, *ℤ_comm, *ℤ-one}
 use Rattle.wm_syntax.specs.Spelling.{Form}
-use Rattle.wm_syntax.specs.Leb128.{Unsigned, Signed}
+use Rattle.wm_syntax.specs.Leb128.{FitsBits, Signed, Unsigned}
 use Rattle.wm_syntax.specs.Partial.{Partial}
-use Rattle.wm_syntax.specs.Reading.{Answers, FitsBits, IfDone, UnsignedRest, SignedRest, After, over, fresh, last_signed, unsigned_push, signed_push}
+use Rattle.wm_syntax.specs.Reading.{Answers, IfDone, UnsignedRest, SignedRest, After, over, fresh, last_signed, unsigned_push, signed_push}
 use Rattle.wm_syntax.specs.declared.numbers.Step.{Step}
 use Rattle.wm_syntax.specs.declared.numbers.Step.TheVariants.{More, Done, Bad}
 use Rattle.wm_syntax.proofs.Room.{pow7, pow_split, room_last}

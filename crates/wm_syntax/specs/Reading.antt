@@ -37,11 +37,6 @@ abbrev pub IfDone : {A : Type 0} → Step A → (A → Type 0) → Type 0
 IfDone (Done v) P = P v
 IfDone _ P = Unit {0}
 
--- a number of so many bits, one of them for the sign
-abbrev pub FitsBits : ℕ → ℤ → Type 0
-FitsBits bits (pos n) = n < 2 ^ (bits - 1)
-FitsBits bits (negsuc n) = n < 2 ^ (bits - 1)
-
 -- The rest of this file is the exact answer of the readers, for the layer that builds on them.
 
 abbrev pub fresh : Partial

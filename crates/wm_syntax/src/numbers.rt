@@ -1,8 +1,8 @@
 //! Numbers as LEB128 (section 5.2.2), read byte by byte.
 
-ghost use Rattle.wm_syntax.specs.Leb128.{Signed, Unsigned};
+ghost use Rattle.wm_syntax.specs.Leb128.{FitsBits, Signed, Unsigned};
 ghost use Rattle.std.specs.Prelude.{ℕ, List, [], ◌∷◌, ◌++◌, pos, ◌-ℤ◌, ◌≡◌, ◌+◌, ◌-◌, ◌*◌, ◌^◌, ◌<◌, ◌≤◌, nat_lt, nat_le};
-ghost use Rattle.wm_syntax.specs.Reading.{Answers, FitsBits, IfDone, SignedAfter, UnsignedAfter, fresh, go_on, last_signed, signed_push, unsigned_push};
+ghost use Rattle.wm_syntax.specs.Reading.{Answers, IfDone, SignedAfter, UnsignedAfter, fresh, go_on, last_signed, signed_push, unsigned_push};
 
 use std::marker::Model;
 
