@@ -17,7 +17,7 @@ use Rattle.wm_syntax.specs.declared.instructions.Op.TheVariants as op
 use Rattle.wm_syntax.specs.declared.op_class.Kind.TheVariants as k
 use Rattle.wm_syntax.specs.declared.op_class.OpClass.{OpClass}
 use Rattle.wm_syntax.specs.declared.op_class.OpClass.TheVariants.{Plain, With}
-use Rattle.wm_syntax.proofs.OpTable.{found_op, found_simple}
+use Rattle.wm_syntax.proofs.OpTable.{found_simple}
 use Rattle.wm_syntax.proofs.Flat.{each_append, each_one}
 use Rattle.wm_syntax.proofs.Unambiguous.{same_simple, same_u32, then_same}
 
@@ -177,7 +177,7 @@ unfolding Closes
 ends s t h a b u v (x, y, e, p, q) (x', y', e', p', q') f =
     let whole : x ++ (y ++ u) ≡ x' ++ (y' ++ v) = sym (append_assoc x y u) ∙ ap (λ (z : List ℕ). z ++ u) (sym e) ∙ f ∙ ap (λ (z : List ℕ). z ++ v) e' ∙ append_assoc x' y' v in
     let r : (x ≡ x') × (s ≡ t) = lists_same s t h x x' (y ++ u) (y' ++ v) p p' whole
-        (0x0B, u, ap (λ (z : List ℕ). z ++ u) q, inr refl) (0x0B, v, ap (λ (z : List ℕ). z ++ v) q', inr refl) in
+    (0x0B, u, ap (λ (z : List ℕ). z ++ u) q, inr refl) (0x0B, v, ap (λ (z : List ℕ). z ++ v) q', inr refl) in
     (e ∙ ap (λ (z : List ℕ). z ++ y) r.0 ∙ ap (λ (z : List ℕ). x' ++ z) (q ∙ sym q') ∙ sym e', r.1)
 
 same_byte : (c : ℕ) (a b u v : List ℕ) → Byte c a → Byte c b → a ++ u ≡ b ++ v → (a ≡ b) × Unit {0}
@@ -202,9 +202,9 @@ typed_same : (c : ℕ) (t t' : Option ValType) (P P' : Form ℕ) (E : Type 0) �
     → (a b u v : List ℕ) → (Byte c ▸ SpellsBlockType t ▸ P) a → (Byte c ▸ SpellsBlockType t' ▸ P') b → a ++ u ≡ b ++ v → (a ≡ b) × (t ≡ t') × E
 typed_same c t t' P P' E rest a b u v p q e =
     let r : (a ≡ b) × Unit {0} × ((t ≡ t') × E) = then_same (Byte c) (SpellsBlockType t ▸ P) (Byte c) (SpellsBlockType t' ▸ P') (Unit {0}) ((t ≡ t') × E) (same_byte c)
-        (λ a b u v p q e.
-            let m : (a ≡ b) × (t ≡ t') × E = then_same (SpellsBlockType t) P (SpellsBlockType t') P' (t ≡ t') E (same_block_type t t') rest a b u v p q e in
-            (m.0, (m.1, m.2))) a b u v p q e in
+    (λ a b u v p q e.
+    let m : (a ≡ b) × (t ≡ t') × E = then_same (SpellsBlockType t) P (SpellsBlockType t') P' (t ≡ t') E (same_block_type t t') rest a b u v p q e in
+    (m.0, (m.1, m.2))) a b u v p q e in
     (r.0, r.2.0, r.2.1)
 
 -- the two forms of a second list
@@ -273,7 +273,7 @@ labels_same [] (m ∷ ms) n a b u v p q e = cc
 labels_same (l ∷ ls) [] n a b u v p q e = cc
 labels_same (l ∷ ls) (m ∷ ms) n a b u v p q e =
     let r : (a ≡ b) × (l ≡ m) × (ls ≡ ms) = then_same (SpellsU32 l) (Each SpellsU32 ls) (SpellsU32 m) (Each SpellsU32 ms) (l ≡ m) (ls ≡ ms) (same_u32 l m)
-        (λ a b u v p q e. labels_same ls ms (let f : length ls ≡ length ms = cc in f) a b u v p q e) a b u v p q e in
+    (λ a b u v p q e. labels_same ls ms (let f : length ls ≡ length ms = cc in f) a b u v p q e) a b u v p q e in
     (r.0, ap (λ (z : ℕ). z ∷ ls) r.1 ∙ ap (λ (z : List ℕ). m ∷ z) r.2)
 
 list_same : (ls ms : List ℕ) (a b u v : List ℕ) → SpellsList SpellsU32 ls a → SpellsList SpellsU32 ms b → a ++ u ≡ b ++ v → (a ≡ b) × (ls ≡ ms)
@@ -305,8 +305,8 @@ mutual
   same_instruction i (simple j) a b u v p q e = other_kind i (simple j) a b u v p q e (λ f. no_structured j (class_of (first_op i)) (sym f) refl)
   same_instruction (table ls d) (table ls' d') a b u v p q e =
       let r : (a ≡ b) × Unit {0} × ((ls ≡ ls') × (d ≡ d')) =
-          then_same (Byte 0x0E) (SpellsList SpellsU32 ls ▸ SpellsU32 d) (Byte 0x0E) (SpellsList SpellsU32 ls' ▸ SpellsU32 d') (Unit {0}) ((ls ≡ ls') × (d ≡ d')) (same_byte 0x0E)
-          (table_same ls ls' d d') a b u v p q e in
+      then_same (Byte 0x0E) (SpellsList SpellsU32 ls ▸ SpellsU32 d) (Byte 0x0E) (SpellsList SpellsU32 ls' ▸ SpellsU32 d') (Unit {0}) ((ls ≡ ls') × (d ≡ d')) (same_byte 0x0E)
+      (table_same ls ls' d d') a b u v p q e in
       (r.0, ap (λ (z : List ℕ). table z d) r.2.0 ∙ ap (table ls') r.2.1)
   same_instruction (block t s) (block t' s') a b u v p q e =
       let r : (a ≡ b) × (t ≡ t') × (s ≡ s') = typed_same 0x02 t t' (SpellsExpression s) (SpellsExpression s') (s ≡ s') (λ a b u v p q e. ends s s' (same_members s) a b u v p q e) a b u v p q e in
@@ -316,8 +316,8 @@ mutual
       (r.0, ap (λ (z : Option ValType). loop z s) r.1 ∙ ap (loop t') r.2)
   same_instruction (choice t s1 s2) (choice t' s3 s4) a b u v p q e =
       let r : (a ≡ b) × (t ≡ t') × ((s1 ≡ s3) × (s2 ≡ s4)) =
-          typed_same 0x04 t t' (SpellsInstructions s1 ▸ Tail s2) (SpellsInstructions s3 ▸ Tail s4) ((s1 ≡ s3) × (s2 ≡ s4))
-          (λ a b u v p q e. both_same s1 s2 s3 s4 (same_members s1) (same_members s2) a b u v p q e) a b u v p q e in
+      typed_same 0x04 t t' (SpellsInstructions s1 ▸ Tail s2) (SpellsInstructions s3 ▸ Tail s4) ((s1 ≡ s3) × (s2 ≡ s4))
+      (λ a b u v p q e. both_same s1 s2 s3 s4 (same_members s1) (same_members s2) a b u v p q e) a b u v p q e in
       (r.0, ap (λ (z : Option ValType). choice z s1 s2) r.1 ∙ ap (λ (z : Instructions). choice t' z s2) r.2.0 ∙ ap (choice t' s3) r.2.1)
   same_instruction i j a b u v p q e = other_kind i j a b u v p q e (λ f. cc)
 

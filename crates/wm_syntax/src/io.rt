@@ -81,6 +81,7 @@ impl<R: Read> Input<R> {
 
 impl<R: Read> Source for Input<R> {
     ghost remaining = { λ s. R.remaining s.inner };
+
     ghost has_failed = { λ s. s.failed };
 
     fn get(&mut self, buf: &mut [u8]) -> io::Result<usize> {
@@ -124,6 +125,7 @@ impl<W: Write> Output<W> {
 
 impl<W: Write> Dest for Output<W> {
     ghost contents = { λ s. W.contents s.inner };
+
     ghost has_failed = { λ s. s.failed };
 
     fn put(&mut self, buf: &[u8]) -> io::Result<usize> {
@@ -145,3 +147,6 @@ impl<W: Write> Dest for Output<W> {
         self.failed
     }
 }
+
+#[cfg(test)]
+mod tests;

@@ -350,3 +350,6 @@ impl Int64 {
         self.bytes.push_signed(64, byte)
     }
 }
+
+#[cfg(test)]
+mod tests;
