@@ -1,6 +1,9 @@
 ghost use Rattle.std.specs.Prelude.{◌≡◌, IfOk};
 
+use super::input::Input;
+use super::output::Output;
 use super::*;
+use std::io::{ErrorKind, Read, Write};
 use std::test::Fail;
 
 #[test]
