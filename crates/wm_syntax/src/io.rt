@@ -1,8 +1,8 @@
 //! Readers and writers that remember whether they have failed.
 
-ghost use Rattle.std.specs.Prelude.{◌≡◌, ℕ, ◌<◌, ◌||◌, Bool, List, Option, length, is_err, IfOk};
+ghost use Rattle.std.specs.Prelude.{◌≡◌, ℕ, ◌<◌, ◌||◌, Bool, false, List, Option, length, take, is_err, IfOk, OnOk, OnErr, ◌≤◌};
 ghost use Rattle.std.specs.Io.{ReadsAtMost, WritesAtMost};
-ghost use Rattle.std.specs.Io.KnownBytes.{Keeps, ReadConsumes, WriteAppends};
+ghost use Rattle.std.specs.Io.KnownBytes.{Appends, Keeps, ReadConsumes, WriteAppends};
 
 use std::io;
 
@@ -53,4 +53,18 @@ pub trait Dest {
     /// Whether some call has answered an error.
     fn failed(&self) -> bool
         ensures { result ≡ has_failed self.now };
+}
+
+/// Writes all of `bytes`. On an error a beginning of them was written.
+pub fn put_all<W: Dest>(w: &mut W, bytes: &[u8]) -> io::Result<()>
+    requires { W.has_failed w.old ≡ false }
+    ensures written { OnOk result (Appends (W.contents w.old) (W.contents w.new) bytes.now) }
+    ensures beginning { OnErr result ((n : ℕ) × (n ≤ length bytes.now) × Appends (W.contents w.old) (W.contents w.new) (take n bytes.now)) }
+    ensures failed { W.has_failed w.new ≡ is_err result }
+{
+    let mut from = 0;
+    while from < bytes.len() {
+        from += w.put(&bytes[from..])?;
+    }
+    Ok(())
 }

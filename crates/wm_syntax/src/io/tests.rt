@@ -76,3 +76,33 @@ fn faults_stay(rt: HostRuntime) -> Result<(), Fail> {
     assert!(rt; dest.failed());
     Ok(())
 }
+
+/// Takes one byte a call.
+#[derive(Drop)]
+struct Slow {
+    taken: Vec<u8>,
+}
+
+impl Write for Slow {
+    fn write(&mut self, buf: &[u8]) -> io::Result<usize> {
+        let Some(first) = buf.first() else {
+            return Ok(0);
+        };
+        self.taken.push(*first)?;
+        Ok(1)
+    }
+
+    fn flush(&mut self) -> io::Result<()> {
+        Ok(())
+    }
+}
+
+#[test]
+fn all_is_put(rt: HostRuntime) -> Result<(), Fail> {
+    let mut dest = Output::new(Slow {
+        taken: Vec::new(rt.alloc()),
+    });
+    put_all(&mut dest, b"wasm")?;
+    assert_eq!(rt; dest.into_inner().taken.as_slice(), b"wasm".as_slice());
+    Ok(())
+}
