@@ -1,0 +1,4 @@
+pub mod Parts
+pub mod Sections
+pub mod Shapes
+pub mod Grammar

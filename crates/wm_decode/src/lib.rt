@@ -1,0 +1,2 @@
+//! The decoder: bytes in any pieces to the parts of a module, one by one.
+#![tactic(auto)]
