@@ -1,0 +1,4 @@
+pub mod Next
+pub mod Numbers
+pub mod Counts
+pub mod Texts
