@@ -2,3 +2,5 @@ pub mod Next
 pub mod Numbers
 pub mod Counts
 pub mod Texts
+pub mod Contents
+pub mod Customs
