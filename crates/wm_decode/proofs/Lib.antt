@@ -4,3 +4,5 @@ pub mod Counts
 pub mod Texts
 pub mod Contents
 pub mod Customs
+pub mod Chains
+pub mod Whole

@@ -200,7 +200,7 @@ module _ (demanded : Type 0) where
   abbrev pub AnyBytes : ℕ → Shape
   AnyBytes n b k = (length b ≡ n) × AreBytes b × (k ≡ ending None b)
 
-  any_more : (b : List ℕ) (c : ℕ) → ending None (c ∷ b) ≡ said None ∷ ending None b
+  pub any_more : (b : List ℕ) (c : ℕ) → ending None (c ∷ b) ≡ said None ∷ ending None b
   any_more [] c = refl
   any_more (d ∷ b) c = refl
 
