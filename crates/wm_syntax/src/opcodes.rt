@@ -301,3 +301,6 @@ fn class_at(byte: u8) -> OpClass
         _ => OpClass::None,
     }
 }
+
+#[cfg(test)]
+mod tests;

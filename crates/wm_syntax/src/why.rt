@@ -98,3 +98,6 @@ impl Why {
         }
     }
 }
+
+#[cfg(test)]
+mod tests;
