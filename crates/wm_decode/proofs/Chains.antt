@@ -4,8 +4,8 @@ use Rattle.wm_syntax.specs.declared.profile.Profile.{Profile}
 use Rattle.wm_decode.specs.Parts.{Marks}
 use Rattle.wm_decode.specs.Shapes.{Shape, Empty, Byte, Then, Times, Counted, Number, Name, Sized, Filled, nothing_at, said}
 use Rattle.wm_decode.specs.Grammar.{Contents, Section, Custom, Customs, MayMiss, Optional, Chain}
-use Rattle.wm_decode.specs.Steps.{fresh}
 use Rattle.wm_decode.proofs.Next.{Goes, Next, Same, HasBytes, Never, head_same, not_nil, same_refl, next_from, next_byte, byte_has, then_has, then_assoc, ends_first}
+use Rattle.wm_syntax.specs.Reading.{fresh}
 use Rattle.wm_decode.proofs.Numbers.{Left}
 use Rattle.wm_decode.proofs.Counts.{counted_fresh}
 use Rattle.wm_decode.proofs.Customs.{unnamed}

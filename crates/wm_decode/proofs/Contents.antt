@@ -5,10 +5,10 @@ use Rattle.wm_syntax.specs.declared.types.ValType.{ValType}
 use Rattle.wm_syntax.specs.declared.types.ValType.TheVariants.{I32, I64}
 use Rattle.wm_syntax.specs.declared.why.Why.TheVariants as why
 use Rattle.wm_syntax.specs.Types.{type_byte}
-use Rattle.wm_numbers.specs.declared.numbers.Step.{Step}
-use Rattle.wm_numbers.specs.declared.numbers.Step.TheVariants.{More, Done, Bad}
-use Rattle.wm_numbers.specs.Partial.{Partial}
-use Rattle.wm_numbers.specs.Reading.{unsigned_push}
+use Rattle.wm_syntax.specs.declared.numbers.Step.{Step}
+use Rattle.wm_syntax.specs.declared.numbers.Step.TheVariants.{More, Done, Bad}
+use Rattle.wm_syntax.specs.Partial.{Partial}
+use Rattle.wm_syntax.specs.Reading.{fresh, unsigned_push}
 use Rattle.wm_decode.specs.declared.machine.Plain.{Plain}
 use Rattle.wm_decode.specs.declared.machine.Plain.TheVariants as plain
 use Rattle.wm_decode.specs.declared.machine.Inside.{Inside}
@@ -18,7 +18,7 @@ use Rattle.wm_decode.specs.declared.machine.Event.TheVariants as event
 use Rattle.wm_decode.specs.Parts.{Part, new_type, param, result_count, one_result, Marks}
 use Rattle.wm_decode.specs.Shapes.{Shape, Empty, Byte, Then, Times, Counted, Number, Vector, nothing_at, ending, said}
 use Rattle.wm_decode.specs.Grammar.{ValueType, ResultTypes, FunctionType}
-use Rattle.wm_decode.specs.Steps.{fresh, on_number, failed, types_or_over, value_type, after_param, after_result, inside_step}
+use Rattle.wm_decode.specs.Steps.{on_number, failed, types_or_over, value_type, after_param, after_result, inside_step}
 use Rattle.wm_decode.specs.Runs.{heard, Heard, plain_part}
 use Rattle.wm_decode.proofs.Next.{Next, Same, HasBytes, Never, head_same, tail_same, not_nil, same_refl, same_then, next_same, next_from, next_to, next_never, next_byte, other_byte, byte_has, then_has, empty_then, then_assoc, then_same, ends_first, fails_first}
 use Rattle.wm_decode.proofs.Numbers.{Left}

@@ -1,14 +1,14 @@
 -- How numbers and counted parts go on.
 use Rattle.std.proofs.Common.{◌≡◌, ℕ, ◌<◌, ◌^◌, ◌↔◌, List, [], ◌∷◌, ◌++◌, Option, None, refl, sym, ◌∙◌, ap, subst, append_assoc}
 use Rattle.wm_syntax.specs.Types.{SpellsU32}
-use Rattle.wm_numbers.specs.declared.numbers.Step.{Step}
-use Rattle.wm_numbers.specs.declared.numbers.Step.TheVariants.{More, Done, Bad}
-use Rattle.wm_numbers.specs.Partial.{Partial}
-use Rattle.wm_numbers.specs.Reading.{unsigned_push}
+use Rattle.wm_syntax.specs.declared.numbers.Step.{Step}
+use Rattle.wm_syntax.specs.declared.numbers.Step.TheVariants.{More, Done, Bad}
+use Rattle.wm_syntax.specs.Partial.{Partial}
+use Rattle.wm_syntax.specs.Reading.{fresh, unsigned_push}
 use Rattle.wm_decode.specs.Parts.{Part, Marks}
 use Rattle.wm_decode.specs.Shapes.{Shape, Then, Counted, Number, ending, said}
 use Rattle.wm_decode.proofs.Next.{Goes, Next, Same, HasBytes, Never, head_same, tail_same, not_nil, next_never, same_then}
-use Rattle.wm_decode.proofs.Numbers.{Left, fresh, NumberNext, number_next, left_nil, fresh_number}
+use Rattle.wm_decode.proofs.Numbers.{Left, NumberNext, number_next, left_nil, fresh_number}
 
 module _ (demanded : Type 0) where
   abbrev pub CountedNext : (ℕ → Option Part) → (ℕ → Shape) → Partial → ℕ → Step ℕ × Partial → Type 0

@@ -3,10 +3,10 @@ use Rattle.std.proofs.Common.{◌≡◌, ℕ, zero, suc, ◌<◌, ◌^◌, List,
 use Rattle.std.proofs.lemmas.Bool.{cond_both}
 use Rattle.std.specs.Str.{is_utf8}
 use Rattle.wm_syntax.specs.declared.why.Why.TheVariants as why
-use Rattle.wm_numbers.specs.declared.numbers.Step.{Step}
-use Rattle.wm_numbers.specs.declared.numbers.Step.TheVariants.{More, Done, Bad}
-use Rattle.wm_numbers.specs.Partial.{Partial}
-use Rattle.wm_numbers.specs.Reading.{unsigned_push}
+use Rattle.wm_syntax.specs.declared.numbers.Step.{Step}
+use Rattle.wm_syntax.specs.declared.numbers.Step.TheVariants.{More, Done, Bad}
+use Rattle.wm_syntax.specs.Partial.{Partial}
+use Rattle.wm_syntax.specs.Reading.{unsigned_push}
 use Rattle.wm_decode.specs.declared.machine.NameKind.TheVariants as kind
 use Rattle.wm_decode.specs.declared.machine.InCustom.{InCustom}
 use Rattle.wm_decode.specs.declared.machine.InCustom.TheVariants as custom
@@ -14,7 +14,7 @@ use Rattle.wm_decode.specs.declared.machine.Event.{Event}
 use Rattle.wm_decode.specs.declared.machine.Event.TheVariants as event
 use Rattle.wm_decode.specs.Parts.{Part, Mark}
 use Rattle.wm_decode.specs.Shapes.{Shape, Empty, Filled, said}
-use Rattle.wm_decode.specs.Steps.{fresh, on_number, no_custom, after_length, name_step, custom_step}
+use Rattle.wm_decode.specs.Steps.{on_number, no_custom, after_length, name_step, custom_step}
 use Rattle.wm_decode.specs.Runs.{heard, Heard, named}
 use Rattle.wm_decode.proofs.Next.{Next, Same, HasBytes, Never, same_then, next_to, next_never}
 use Rattle.wm_decode.proofs.Texts.{NameLeft, TextLeft, TextNext, text_done, text_next, text_has, named_byte, left_more, left_last, left_bad, left_has, AnyBytes, any_next, any_has, filled_next, filled_has, filled_empty, filled_never}

@@ -6,3 +6,6 @@ pub mod Contents
 pub mod Customs
 pub mod Chains
 pub mod Whole
+pub mod Theorem
+pub mod Ranges
+pub mod Header

@@ -4,14 +4,14 @@ use Rattle.std.specs.Str.{is_utf8}
 use Rattle.std.proofs.lemmas.Str.{IsUtf8-from_is_utf8, is_utf8-from_IsUtf8}
 use Rattle.wm_syntax.specs.Spelling.{AreBytes}
 use Rattle.wm_syntax.specs.Types.{SpellsU32}
-use Rattle.wm_numbers.specs.declared.numbers.Step.{Step}
-use Rattle.wm_numbers.specs.declared.numbers.Step.TheVariants.{More, Done, Bad}
-use Rattle.wm_numbers.specs.Partial.{Partial}
-use Rattle.wm_numbers.specs.Reading.{unsigned_push}
+use Rattle.wm_syntax.specs.declared.numbers.Step.{Step}
+use Rattle.wm_syntax.specs.declared.numbers.Step.TheVariants.{More, Done, Bad}
+use Rattle.wm_syntax.specs.Partial.{Partial}
+use Rattle.wm_syntax.specs.Reading.{fresh, unsigned_push}
 use Rattle.wm_decode.specs.Parts.{Part, name, Mark, Marks}
 use Rattle.wm_decode.specs.Shapes.{Shape, Empty, Sized, Filled, Text, Name, ending, naming, name_marks, said}
 use Rattle.wm_decode.proofs.Next.{Goes, Next, Same, HasBytes, Never, head_same, tail_same, not_nil, next_never}
-use Rattle.wm_decode.proofs.Numbers.{Left, fresh, NumberNext, number_next, left_nil, fresh_number}
+use Rattle.wm_decode.proofs.Numbers.{Left, NumberNext, number_next, left_nil, fresh_number}
 
 -- a byte of a name that goes on
 abbrev pub named_byte : Mark

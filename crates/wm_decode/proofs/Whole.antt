@@ -6,10 +6,10 @@ use Rattle.wm_syntax.specs.declared.why.Why.{Why}
 use Rattle.wm_syntax.specs.declared.why.Why.TheVariants as why
 use Rattle.wm_syntax.specs.declared.profile.Profile.{Profile}
 use Rattle.wm_syntax.specs.Spelling.{AreBytes}
-use Rattle.wm_numbers.specs.declared.numbers.Step.{Step}
-use Rattle.wm_numbers.specs.declared.numbers.Step.TheVariants.{More, Done, Bad}
-use Rattle.wm_numbers.specs.Partial.{Partial}
-use Rattle.wm_numbers.specs.Reading.{unsigned_push}
+use Rattle.wm_syntax.specs.declared.numbers.Step.{Step}
+use Rattle.wm_syntax.specs.declared.numbers.Step.TheVariants.{More, Done, Bad}
+use Rattle.wm_syntax.specs.Partial.{Partial}
+use Rattle.wm_syntax.specs.Reading.{fresh, unsigned_push}
 use Rattle.wm_decode.specs.declared.machine.InCustom.{InCustom}
 use Rattle.wm_decode.specs.declared.machine.InCustom.TheVariants as custom
 use Rattle.wm_decode.specs.declared.machine.Inside.{Inside}
@@ -22,7 +22,7 @@ use Rattle.wm_decode.specs.Parts.{Mark, Marks}
 use Rattle.wm_decode.specs.Shapes.{Shape, Empty, Literal, Then, Times, Name, Sized, Filled, Counted, Vector, nothing_at, ending, said}
 use Rattle.wm_decode.specs.Sections.{header}
 use Rattle.wm_decode.specs.Grammar.{FunctionType, MayMiss, Chain, Module, last_read}
-use Rattle.wm_decode.specs.Steps.{fresh, on_number, custom_framed, framed, refused, section_start, contents, after_size, header_step, step_of, custom_step, inside_step}
+use Rattle.wm_decode.specs.Steps.{on_number, custom_framed, framed, refused, section_start, contents, after_size, header_step, step_of, custom_step, inside_step}
 use Rattle.wm_decode.specs.Runs.{named, heard, Heard, State, hear, after_byte, run, marks, begin, plain_part}
 use Rattle.wm_decode.proofs.Next.{Next, Same, HasBytes, Never, head_same, tail_same, not_nil, same_refl, same_then, next_to, next_never, next_then, then_has, empty_then, never_then, then_same, ends_first, fails_first}
 use Rattle.wm_decode.proofs.Numbers.{Left}

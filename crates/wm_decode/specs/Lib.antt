@@ -6,3 +6,4 @@ pub mod Sinks
 pub mod Steps
 pub mod Runs
 pub mod Live
+pub mod Decoding

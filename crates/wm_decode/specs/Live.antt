@@ -1,5 +1,5 @@
 -- The machine and a sink over a list of bytes: the exact form, for the proofs above it.
-use Rattle.std.specs.Prelude.{◌≡◌, ◌≢◌, IsOk, ℕ, ◌+◌, List, [], ◌∷◌, ◌++◌, Option, Some, None, Result, Ok, Err, nat_lt, if◌then◌else◌}
+use Rattle.std.specs.Prelude.{◌≡◌, ◌≢◌, ◌≤◌, ◌<◌, IsOk, ℕ, ◌+◌, List, [], ◌∷◌, ◌++◌, Option, Some, None, Result, Ok, Err, nat_lt, if◌then◌else◌}
 use Rattle.std.specs.Str.{is_utf8}
 use Rattle.wm_syntax.specs.declared.why.Why.{Why}
 use Rattle.wm_syntax.specs.declared.why.Why.TheVariants as why
@@ -102,3 +102,10 @@ ended l = ended_at l.machine l.held l.at
 abbrev pub Finished : {H S : Type 0} → Result H Refusal → (S → H) → Result S Refusal → Type 0
 Finished expected held (Ok s) = expected ≡ Ok (held s)
 Finished expected held (Err r) = expected ≡ Err r
+
+-- in the header the machine has come as far as this place, and all else comes after the header; memory can't run out
+-- in it
+abbrev pub IsAt : Machine → ℕ → Type 0
+IsAt (machine.Header n) at = n ≡ at
+IsAt (machine.Refused w) at = w ≡ why.Memory → 8 < at
+IsAt m at = 8 ≤ at

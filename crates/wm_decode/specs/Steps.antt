@@ -1,9 +1,9 @@
 -- What each byte does to the machine: the exact form of the byte step, for the proofs above it.
 use Rattle.std.specs.Prelude.{ℕ, zero, suc, ◌+◌, ◌==◌, nat_lt, if◌then◌else◌, slice_index}
-use Rattle.wm_numbers.specs.declared.numbers.Step.{Step}
-use Rattle.wm_numbers.specs.declared.numbers.Step.TheVariants.{More, Done, Bad}
-use Rattle.wm_numbers.specs.Partial.{Partial}
-use Rattle.wm_numbers.specs.Reading.{unsigned_push}
+use Rattle.wm_syntax.specs.declared.numbers.Step.{Step}
+use Rattle.wm_syntax.specs.declared.numbers.Step.TheVariants.{More, Done, Bad}
+use Rattle.wm_syntax.specs.Partial.{Partial}
+use Rattle.wm_syntax.specs.Reading.{fresh, unsigned_push}
 use Rattle.wm_syntax.specs.declared.why.Why.{Why}
 use Rattle.wm_syntax.specs.declared.why.Why.TheVariants as why
 use Rattle.wm_syntax.specs.declared.types.ValType.{ValType}
@@ -21,9 +21,6 @@ use Rattle.wm_decode.specs.declared.machine.Event.{Event}
 use Rattle.wm_decode.specs.declared.machine.Event.TheVariants as event
 use Rattle.wm_decode.specs.Sections.{header}
 use Rattle.wm_decode.specs.Grammar.{last_read}
-
-abbrev pub fresh : Partial
-fresh = record { low = 0; count = 0 }
 
 -- what follows an answer of a number's reader
 abbrev pub on_number : {A : Type 0} → Step ℕ × Partial → (Partial → A) → (ℕ → A) → A → A

@@ -3,7 +3,7 @@ ghost use Rattle.wm_decode.specs.Sinks.{item_parts};
 ghost use Rattle.wm_decode.specs.Runs.{plain_part};
 
 use crate::item::Item;
-use wm_numbers::Num32;
+use wm_syntax::numbers::Num32;
 use wm_syntax::types::ValType;
 use wm_syntax::why::Why;
 

@@ -7,20 +7,21 @@ ghost use Rattle.wm_decode.specs.Live.{name_taken, offered};
 use crate::item::Item;
 use crate::machine::{NameKind, Plain};
 use crate::sink::Sink;
+use wm_syntax::names::is_name;
 use wm_syntax::why::Why;
 
-/// Whether these bytes are a name.
-pub fn is_name(bytes: &[u8]) -> bool
+// the same answer, as a computed test
+fn is_text(bytes: &[u8]) -> bool
     ensures { result ≡ is_utf8 bytes.now }
 {
-    simdutf8::is_utf8(bytes)
+    is_name(bytes)
 }
 
 // gives a name, if it is UTF-8
 fn give_name<S: Sink>(sink: &mut S, kind: NameKind, name: &[u8]) -> Result<(), Why>
     ensures { Taken (name_taken S.after kind name.now (S.held sink.old)) result (S.held sink.new) }
 {
-    if !is_name(name) {
+    if !is_text(name) {
         return Err(Why::BadUtf8);
     }
     match kind {

@@ -3,7 +3,7 @@ ghost use Rattle.wm_decode.specs.Steps.{after_length, length_step, name_step, cu
 ghost use Rattle.wm_decode.specs.declared.machine.Plain.TheVariants as plain;
 
 use crate::machine::{Event, InCustom, Inside, Machine, NameKind, Plain};
-use wm_numbers::{Num32, Step};
+use wm_syntax::numbers::{Num32, Step};
 use wm_syntax::types::ValType;
 use wm_syntax::why::Why;
 
