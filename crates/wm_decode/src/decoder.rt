@@ -1,4 +1,4 @@
-ghost use Rattle.std.specs.Prelude.{◌≡◌, ◌≢◌, ◌+◌, ◌++◌, ◌∷◌, ◌≤◌, ◌<◌, ◌^◌, [], Ok, Err, ℕ, List, IfErr, IsOk, length, slice_range, slice_index, drop, MatchResult};
+ghost use Rattle.std.specs.Prelude.{◌≡◌, ◌≢◌, ◌+◌, ◌++◌, ◌∷◌, ◌≤◌, ◌<◌, ◌^◌, [], Ok, Err, ℕ, List, IfErr, IsOk, length, slice_range, slice_index, drop, Result, MatchResult, OnOk};
 ghost use Rattle.wm_syntax.specs.declared.why.Why.TheVariants.{Memory};
 ghost use Rattle.wm_decode.specs.Sinks.{and_then};
 ghost use Rattle.wm_decode.specs.Decoding.{After};
@@ -92,7 +92,8 @@ impl<S: Sink> Decoder<S> {
             r (standing S.held self.new)) }
         ensures memory { IsAt self.old.machine self.old.at → MatchResult result
             (λ next. IsAt self.new.machine self.new.at × (next < i + 1 → 8 < self.new.at))
-            (λ r. (r.at ≡ self.new.at) × (r.why ≡ Memory → 8 < r.at)) }
+            (λ r. r.why ≡ Memory → 8 < r.at) }
+        ensures place { IfErr result (λ r. r.at ≡ self.new.at) }
     {
         self.at += 1;
         let (next, event) = step(self.machine, piece[i]);
@@ -103,6 +104,63 @@ impl<S: Sink> Decoder<S> {
                 None => Ok(from),
             },
             Err(why) => Err(self.refuse(why)),
+        }
+    }
+
+    // takes the bytes of a piece, and says where in it the name at hand begins
+    fn bytes(&mut self, piece: &[u8]) -> Result<usize, Refusal>
+        requires live { ¬ (IsRefused self.old.machine) }
+        requires room { self.old.at + length piece.now ≤ self.old.max_bytes }
+        ensures limit { self.new.max_bytes ≡ self.old.max_bytes }
+        ensures profile { self.new.profile ≡ self.old.profile }
+        ensures at { MatchResult result (λ from. self.new.at ≡ self.old.at + length piece.now) (λ r. r.at ≤ self.old.at + length piece.now) }
+        ensures taken { MatchResult result
+            (λ from. (from ≤ length piece.now)
+            × ByteTaken (decoded S.after self.old.max_bytes (live_with S.held self.old []) piece.now) (live_with S.held self.new (drop from piece.now)))
+            (λ r. ByteRefused (decoded S.after self.old.max_bytes (live_with S.held self.old []) piece.now) r (standing S.held self.new)) }
+        ensures memory { IsAt self.old.machine self.old.at → MatchResult result
+            (λ from. from < length piece.now → 8 < self.new.at)
+            (λ r. r.why ≡ Memory → 8 < r.at) }
+    {
+        let mut from = 0;
+        for i in 0..piece.len() {
+            match self.byte(piece, from, i) {
+                Ok(next) => from = next,
+                Err(refusal) => return Err(refusal),
+            }
+        }
+        Ok(from)
+    }
+
+    // keeps the bytes so far of a name that is cut
+    fn keep(&mut self, part: &[u8]) -> Result<(), Refusal>
+        requires { ¬ (IsRefused self.old.machine) }
+        ensures kept { MatchResult result
+            (λ u. standing S.held self.new ≡ Ok (live_with S.held self.old part.now))
+            (λ r. (r ≡ record { at = self.old.at; why = Memory }) × (standing S.held self.new ≡ Err r) × (part.now ≢ [])) }
+        ensures at { self.new.at ≡ self.old.at }
+        ensures limit { self.new.max_bytes ≡ self.old.max_bytes }
+        ensures profile { self.new.profile ≡ self.old.profile }
+    {
+        if !part.is_empty() && self.name.extend_from_slice(part).is_err() {
+            return Err(self.refuse(Why::Memory));
+        }
+        Ok(())
+    }
+
+    // takes a piece that is within the limit
+    fn take_cut(&mut self, piece: &[u8]) -> Result<(), Refusal>
+        requires live { ¬ (IsRefused self.old.machine) }
+        requires room { self.old.at + length piece.now ≤ self.old.max_bytes }
+        ensures limit { self.new.max_bytes ≡ self.old.max_bytes }
+        ensures profile { self.new.profile ≡ self.old.profile }
+        ensures fed { Fed (decoded S.after self.old.max_bytes (live_with S.held self.old []) piece.now) result (standing S.held self.new) }
+        ensures at { MatchResult result (λ u. self.new.at ≡ self.old.at + length piece.now) (λ r. r.at ≤ self.old.at + length piece.now) }
+        ensures memory { IsAt self.old.machine self.old.at → IfErr result (λ r. r.why ≡ Memory → 8 < r.at) }
+    {
+        match self.bytes(piece) {
+            Ok(from) => self.keep(&piece[from..]),
+            Err(refusal) => Err(refusal),
         }
     }
 }
