@@ -9,3 +9,4 @@ pub mod Whole
 pub mod Theorem
 pub mod Ranges
 pub mod Header
+pub mod Limits

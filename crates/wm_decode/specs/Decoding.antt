@@ -1,5 +1,5 @@
 -- What a decoder has read, and when a sink takes a module.
-use Rattle.std.specs.Prelude.{◌≡◌, ◌≢◌, ℕ, ◌≤◌, ◌<◌, List, [], ◌++◌, Result, Ok, Err, ◌⊎◌, length}
+use Rattle.std.specs.Prelude.{◌≡◌, ◌≢◌, ℕ, ◌≤◌, ◌<◌, ◌+◌, List, [], ◌∷◌, ◌++◌, Result, Ok, Err, ◌⊎◌, length}
 use Rattle.wm_syntax.specs.declared.profile.Profile.{Profile}
 use Rattle.wm_syntax.specs.declared.why.Why.{Why}
 use Rattle.wm_syntax.specs.declared.why.Why.TheVariants as why
@@ -50,3 +50,24 @@ pub record Refused {H : Type 0} (after : H → Part → Result H Why) (s : Setti
   pub whole : bytes ≡ used ++ rest
   pub at : r.at ≡ length used
   pub never : (more : List ℕ) (last : H) → Takes after s (used ++ more) last → ⊥
+
+-- bytes that stand for a type of floating-point numbers (section 5.3.1)
+abbrev pub IsFloatByte : ℕ → Type 0
+IsFloatByte c = (c ≡ 0x7D) ⊎ (c ≡ 0x7C)
+
+-- the last byte that was used stands for a floating-point type
+pub record EndsInFloat (bytes : List ℕ) (r : Refusal) : Type 0 where
+  pub used : List ℕ
+  pub byte : ℕ
+  pub rest : List ℕ
+  pub whole : bytes ≡ used ++ byte ∷ rest
+  pub at : r.at ≡ length used + 1
+  pub float : IsFloatByte byte
+
+-- a sink that never gives the name Float
+abbrev pub NeverFloat : {H : Type 0} → (H → Part → Result H Why) → Type 0
+NeverFloat {H} after = (h : H) (x : Part) → after h x ≡ Err why.Float → ⊥
+
+-- what the sink of a decoder holds
+abbrev pub held_in : {S H : Type 0} → (S → H) → Decoder S → H
+held_in held d = held d.sink

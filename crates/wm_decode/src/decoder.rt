@@ -1,4 +1,4 @@
-ghost use Rattle.std.specs.Prelude.{◌≡◌, ◌≢◌, ◌+◌, ◌++◌, ◌∷◌, ◌≤◌, ◌<◌, ◌^◌, [], Ok, Err, ℕ, List, IfErr, IsOk, length, slice_range, slice_index, drop, Result, MatchResult, OnOk};
+ghost use Rattle.std.specs.Prelude.{◌≡◌, ◌≢◌, ◌+◌, ◌-◌, ◌++◌, ◌∷◌, ◌≤◌, ◌<◌, ◌^◌, [], Ok, Err, ℕ, List, IfErr, IsOk, length, slice_range, slice_index, drop, Result, MatchResult, OnOk};
 ghost use Rattle.wm_syntax.specs.declared.why.Why.TheVariants.{Memory};
 ghost use Rattle.wm_decode.specs.Sinks.{and_then};
 ghost use Rattle.wm_decode.specs.Decoding.{After};
@@ -110,7 +110,7 @@ impl<S: Sink> Decoder<S> {
     // takes the bytes of a piece, and says where in it the name at hand begins
     fn bytes(&mut self, piece: &[u8]) -> Result<usize, Refusal>
         requires live { ¬ (IsRefused self.old.machine) }
-        requires room { self.old.at + length piece.now ≤ self.old.max_bytes }
+        requires room { length piece.now ≤ self.old.max_bytes - self.old.at }
         ensures limit { self.new.max_bytes ≡ self.old.max_bytes }
         ensures profile { self.new.profile ≡ self.old.profile }
         ensures at { MatchResult result (λ from. self.new.at ≡ self.old.at + length piece.now) (λ r. r.at ≤ self.old.at + length piece.now) }
@@ -151,7 +151,7 @@ impl<S: Sink> Decoder<S> {
     // takes a piece that is within the limit
     fn take_cut(&mut self, piece: &[u8]) -> Result<(), Refusal>
         requires live { ¬ (IsRefused self.old.machine) }
-        requires room { self.old.at + length piece.now ≤ self.old.max_bytes }
+        requires room { length piece.now ≤ self.old.max_bytes - self.old.at }
         ensures limit { self.new.max_bytes ≡ self.old.max_bytes }
         ensures profile { self.new.profile ≡ self.old.profile }
         ensures fed { Fed (decoded S.after self.old.max_bytes (live_with S.held self.old []) piece.now) result (standing S.held self.new) }
@@ -160,6 +160,45 @@ impl<S: Sink> Decoder<S> {
     {
         match self.bytes(piece) {
             Ok(from) => self.keep(&piece[from..]),
+            Err(refusal) => Err(refusal),
+        }
+    }
+
+    fn take_piece(&mut self, piece: &[u8]) -> Result<(), Refusal>
+        ensures fed { Fed (and_then (standing S.held self.old) (λ l. decoded S.after self.old.max_bytes l piece.now)) result (standing S.held self.new) }
+        ensures limit { self.new.max_bytes ≡ self.old.max_bytes }
+        ensures profile { self.new.profile ≡ self.old.profile }
+        ensures sticky { (r : Refusal) → standing S.held self.old ≡ Err r → (result ≡ Err r) × (self.new ≡ self.old) }
+        ensures place { IfErr result (λ r. r.at ≤ self.old.at + length piece.now) }
+        ensures memory { IsAt self.old.machine self.old.at → IfErr result (λ r. r.why ≡ Memory → 8 < r.at) }
+    {
+        if let Some(why) = refusal_of(self.machine) {
+            return Err(Refusal { at: self.at, why });
+        }
+        let room = self.max_bytes.saturating_sub(self.at);
+        if piece.len() as u64 <= room {
+            self.take_cut(piece)
+        } else {
+            self.take_long(piece, room as usize)
+        }
+    }
+
+    // takes a piece that passes the limit after so many bytes
+    fn take_long(&mut self, piece: &[u8], room: usize) -> Result<(), Refusal>
+        requires live { ¬ (IsRefused self.old.machine) }
+        requires room { room ≡ self.old.max_bytes - self.old.at }
+        requires long { room < length piece.now }
+        ensures limit { self.new.max_bytes ≡ self.old.max_bytes }
+        ensures profile { self.new.profile ≡ self.old.profile }
+        ensures fed { Fed (decoded S.after self.old.max_bytes (live_with S.held self.old []) piece.now) result (standing S.held self.new) }
+        ensures place { IfErr result (λ r. r.at ≤ self.old.at + length piece.now) }
+        ensures memory { IsAt self.old.machine self.old.at → IfErr result (λ r. r.why ≡ Memory → 8 < r.at) }
+    {
+        match self.take_cut(&piece[..room]) {
+            Ok(()) => {
+                self.at = self.max_bytes + 1;
+                Err(self.refuse(Why::TooLong))
+            }
             Err(refusal) => Err(refusal),
         }
     }
