@@ -1,5 +1,5 @@
 -- Memory can't run out in the header.
-use Rattle.std.proofs.Common.{◌≡◌, ℕ, zero, suc, ◌+◌, ◌<◌, ◌≤◌, List, refl, inl, inr, ◌⊎◌, arith, nat_eq, nat_lt, get_or, ap, sym, ◌∙◌, subst, Result, Ok, Some, None}
+use Rattle.std.proofs.Common.{◌≡◌, ℕ, zero, suc, ◌+◌, ◌<◌, ◌≤◌, List, [], ◌∷◌, ◌++◌, length, cond, refl, inl, inr, ◌⊎◌, arith, nat_eq, nat_lt, get_or, ap, sym, ◌∙◌, subst, Result, Ok, Err, Some, None}
 use Rattle.std.proofs.lemmas.Bool.{cond_both, ltb-true, ltb-false}
 use Rattle.wm_syntax.specs.declared.why.Why.{Why}
 use Rattle.wm_syntax.specs.declared.why.Why.TheVariants as why
@@ -18,7 +18,13 @@ use Rattle.wm_decode.specs.declared.machine.Event.TheVariants as event
 use Rattle.wm_decode.specs.Sections.{header}
 use Rattle.wm_decode.specs.Grammar.{last_read}
 use Rattle.wm_decode.specs.Steps.{on_number, custom_framed, framed, refused, section_start, after_size, contents, header_step, step_of, custom_step, inside_step}
-use Rattle.wm_decode.specs.Live.{IsAt, refusal_of}
+use Rattle.std.specs.Str.{is_utf8}
+use Rattle.wm_decode.specs.declared.refusal.Refusal.{Refusal}
+use Rattle.wm_decode.specs.Parts.{Part}
+use Rattle.wm_decode.specs.Sinks.{and_then}
+use Rattle.wm_decode.specs.Runs.{heard, Heard, State, hear}
+use Rattle.wm_decode.specs.Live.{IsAt, refusal_of, offered, Live, live_byte, decoded}
+use Rattle.wm_decode.proofs.Theorem.{Stepped, Used, Reached, used_of, reached, live_ok, live_err, state_of}
 
 custom_at : (last more : ℕ) (q : InCustom) (at : ℕ) → 8 ≤ at → IsAt (custom_framed last more q) (at + 1)
 custom_at last more (custom.Failed w) at h = λ e. omega arith
@@ -107,3 +113,66 @@ goes_at m c at next i p r e q f h = (
     | inl quiet ↦ let s : Ok (i + 1) ≡ Ok next = sym (q (ap (λ (x : Machine × Event). x.1) e ∙ quiet)) ∙ f in let t : i + 1 ≡ next = cc in absurd (omega (arith, t, less))
   ],
 )
+
+-- the same over a list of bytes
+heard_at : (name : List ℕ) (c : ℕ) (m : Machine) (e : Event) (at : ℕ) → IsAt m at → IsAt (heard machine.Refused name c (m, e)).at at
+heard_at name c m event.Quiet at h = h
+heard_at name c m (event.Gives q) at h = h
+heard_at name c m event.InName at h = h
+heard_at name c m (event.EmptyName kind) at h = h
+heard_at name c m (event.EndsName kind) at h =
+    cond_both (is_utf8 (name ++ c ∷ [])) _ _ (λ (d : Heard Machine). IsAt d.at at) (λ _. h) (λ _ e. absurd (bad e))
+  where
+    bad : why.BadUtf8 ≡ why.Memory → ⊥
+    bad e = cc
+
+quiet_heard : {H : Type 0} (after : H → Part → Result H Why) (name : List ℕ) (c : ℕ) (q : Machine × Event) (h : H) (w : Why) → q.1 ≡ event.Quiet → offered after (heard machine.Refused name c q).mark.part h ≡ Err w → ⊥
+quiet_heard after name c (m, event.Quiet) h w e o = none o
+  where
+    none : {A : Type 0} {h : A} → Ok h ≡ Err w → ⊥
+    none e = cc
+quiet_heard after name c (m, event.Gives x) h w e o = cc
+quiet_heard after name c (m, event.InName) h w e o = cc
+quiet_heard after name c (m, event.EndsName kind) h w e o = cc
+quiet_heard after name c (m, event.EmptyName kind) h w e o = cc
+
+module _ {H : Type 0} (after : H → Part → Result H Why) (limit : ℕ) where
+  one_at : (l m : Live H) (c : ℕ) → Stepped after limit l c m → IsAt l.machine l.at → IsAt m.machine m.at
+  one_at l m c s h =
+      let a : IsAt (hear (state_of after limit l) c).at (l.at + 1) = heard_at l.name c (step_of l.machine c).0 (step_of l.machine c).1 (l.at + 1) (stays l.machine c l.at h) in
+      subst (λ y. IsAt m.machine y) (sym s.at) (subst (λ y. IsAt y (l.at + 1)) (sym (ap (λ (y : State). y.machine) s.state)) a)
+
+  first : (b : List ℕ) (l m : Live H) (c : ℕ) (q : Result (Live H) Refusal) → live_byte after limit l c ≡ q → and_then q (λ n. decoded after limit n b) ≡ Ok m → (n : Live H) × (live_byte after limit l c ≡ Ok n) × (decoded after limit n b ≡ Ok m)
+  first b l m c (Ok n) s e = (n, s, e)
+  first b l m c (Err r) s e = cc
+
+  pub is_at : (b : List ℕ) (l m : Live H) → decoded after limit l b ≡ Ok m → IsAt l.machine l.at → IsAt m.machine m.at
+  is_at [] l m e h = let s : l ≡ m = cc in subst (λ (y : Live H). IsAt y.machine y.at) s h
+  is_at (c ∷ b) l m e h = let n = first b l m c (live_byte after limit l c) refl e in is_at b n.0 m n.2 (one_at l n.0 c (live_ok after limit l n.0 c n.1) h)
+
+  -- memory that a sink says to be out is not out in the header either
+  pub late_memory : (b : List ℕ) (l : Live H) (r : Refusal) → l.at ≤ limit → IsAt l.machine l.at → r.why ≡ why.Memory → decoded after limit l b ≡ Err r → 8 < r.at
+  late_memory b l r low h f e =
+      let u = used_of after limit b l r low e in
+      let before : IsAt u.before.machine u.before.at = is_at u.used l u.before u.taken h in
+      let at : r.at ≡ u.before.at + 1 = sym (place u) in
+      elim (live_err after limit u.before u.byte r u.refused) [
+        | inl t ↦ absurd (let s : why.TooLong ≡ why.Memory = sym t ∙ f in cc)
+        | inr o ↦ elim o [
+          | inl m ↦
+              let a : IsAt (hear (state_of after limit u.before) u.byte).at (u.before.at + 1) = heard_at u.before.name u.byte (step_of u.before.machine u.byte).0 (step_of u.before.machine u.byte).1 (u.before.at + 1) (stays u.before.machine u.byte u.before.at before) in
+              let late : IsAt (machine.Refused r.why) (u.before.at + 1) = subst (λ y. IsAt y (u.before.at + 1)) m a in
+              let more : 8 < u.before.at + 1 = late f in omega (arith, more, at)
+          | inr g ↦ elim (quiet_or_late u.before.machine u.byte u.before.at before) [
+            | inl q ↦ absurd (quiet_heard after u.before.name u.byte (step_of u.before.machine u.byte) u.before.held r.why q g)
+            | inr late ↦ omega (arith, late, at)
+          ]
+        ]
+      ]
+    where
+      place : (u : Used after limit l b r) → u.before.at + 1 ≡ r.at
+      place u = let s = reached after limit u.used l u.before u.taken in omega (arith, s.at, u.at, at_end u.used u.byte)
+        where
+          at_end : (used : List ℕ) (c : ℕ) → length (used ++ c ∷ []) ≡ length used + 1
+          at_end [] c = refl
+          at_end (d ∷ used) c = let e : length (used ++ c ∷ []) ≡ length used + 1 = at_end used c in omega arith

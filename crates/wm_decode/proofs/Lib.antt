@@ -10,3 +10,5 @@ pub mod Theorem
 pub mod Ranges
 pub mod Header
 pub mod Limits
+pub mod Floats
+pub mod Calls

@@ -34,7 +34,7 @@ pub bytes-append : (a b : List ℕ) → AreBytes a → AreBytes b → AreBytes (
 bytes-append [] b p q = q
 bytes-append (c ∷ a) b p q = (p.0, bytes-append a b p.1 q)
 
-front_bytes : (a b : List ℕ) → AreBytes (a ++ b) → AreBytes a
+pub front_bytes : (a b : List ℕ) → AreBytes (a ++ b) → AreBytes a
 front_bytes [] b h = tt
 front_bytes (c ∷ a) b h = (h.0, front_bytes a b h.1)
 
@@ -87,7 +87,7 @@ module _ {H : Type 0} (after : H → Part → Result H Why) (limit : ℕ) where
       ≡ judged_heard (cond v good bad) at (offered after (cond {A = Heard Machine} v good bad).mark.part h))
       [ true ↦ same_judged m (said (named kind text)) at (offered after (named kind text) h) | false ↦ refl ]
 
-  settled_ok : (m : Machine) (name : List ℕ) (h : H) (at : ℕ) (l : Live H) → settled m name h at ≡ Ok l → record { machine = m; name = name; held = h; at = at } ≡ l
+  pub settled_ok : (m : Machine) (name : List ℕ) (h : H) (at : ℕ) (l : Live H) → settled m name h at ≡ Ok l → record { machine = m; name = name; held = h; at = at } ≡ l
   settled_ok (machine.Refused w) name h at l e = cc
   settled_ok m name h at l e = cc
 
@@ -118,7 +118,7 @@ module _ {H : Type 0} (after : H → Part → Result H Why) (limit : ℕ) where
     pub at : m.at ≡ l.at + 1
     pub live : IsRefused m.machine → ⊥
 
-  live_ok : (l m : Live H) (c : ℕ) → live_byte after limit l c ≡ Ok m → Stepped l c m
+  pub live_ok : (l m : Live H) (c : ℕ) → live_byte after limit l c ≡ Ok m → Stepped l c m
   live_ok l m c = cond_both (nat_lt l.at limit) _ _ (λ (r : Result (Live H) Refusal). r ≡ Ok m → Stepped l c m)
       (λ a e. let f = heard_ok (hear (state_of l) c) (l.at + 1) (offered after (hear (state_of l) c).mark.part l.held) m (sym (same_byte (step_of l.machine c).0 (step_of l.machine c).1 l.name c (l.at + 1) l.held) ∙ e) in
       record { room = ltb-true _ _ a; given = f.1 ∙ ap (λ (y : Live H). Ok y.held) f.2; state = sym (ap state_of f.2); at = sym (ap (λ (y : Live H). y.at) f.2); live = λ i. f.3 (subst IsRefused (sym (ap (λ (y : Live H). y.machine) f.2)) i) })
@@ -214,10 +214,24 @@ module _ {H : Type 0} (after : H → Part → Result H Why) (limit : ℕ) where
   heard_at d at (Ok g) r e = judged_at d.at d.name g at r e
   heard_at d at (Err w) r e = let s : record { at = at; why = w } ≡ r = cc in sym (ap (λ (y : Refusal). y.at) s)
 
-  byte_at : (l : Live H) (c : ℕ) (r : Refusal) → l.at ≤ limit → live_byte after limit l c ≡ Err r → r.at ≡ l.at + 1
+  pub byte_at : (l : Live H) (c : ℕ) (r : Refusal) → l.at ≤ limit → live_byte after limit l c ≡ Err r → r.at ≡ l.at + 1
   byte_at l c r low = cond_both (nat_lt l.at limit) _ _ (λ (q : Result (Live H) Refusal). q ≡ Err r → r.at ≡ l.at + 1)
       (λ a e. heard_at (hear (state_of l) c) (l.at + 1) (offered after (hear (state_of l) c).mark.part l.held) r (sym (same_byte (step_of l.machine c).0 (step_of l.machine c).1 l.name c (l.at + 1) l.held) ∙ e))
       (λ a e. let s : record { at = limit + 1; why = why.TooLong } ≡ r = cc in let t : limit + 1 ≡ r.at = ap (λ (y : Refusal). y.at) s in omega (arith, ltb-false l.at limit a))
+
+  settled_err : (m : Machine) (name : List ℕ) (h : H) (at : ℕ) (r : Refusal) → settled m name h at ≡ Err r → m ≡ machine.Refused r.why
+  settled_err (machine.Refused w) name h at r e = let s : record { at = at; why = w } ≡ r = cc in ap (λ (y : Refusal). machine.Refused y.why) s
+  settled_err m name h at r e = cc
+
+  heard_err : (d : Heard Machine) (at : ℕ) (q : Result H Why) (r : Refusal) → judged_heard d at q ≡ Err r → (d.at ≡ machine.Refused r.why) ⊎ (q ≡ Err r.why)
+  heard_err d at (Ok g) r e = inl (settled_err d.at d.name g at r e)
+  heard_err d at (Err w) r e = let s : record { at = at; why = w } ≡ r = cc in inr (ap (λ (y : Refusal). Err y.why) s)
+
+  -- why a byte was refused: for the limit, by the machine or by the sink
+  pub live_err : (l : Live H) (c : ℕ) (r : Refusal) → live_byte after limit l c ≡ Err r → (r.why ≡ why.TooLong) ⊎ (((hear (state_of l) c).at ≡ machine.Refused r.why) ⊎ (offered after (hear (state_of l) c).mark.part l.held ≡ Err r.why))
+  live_err l c r = cond_both (nat_lt l.at limit) _ _ (λ (q : Result (Live H) Refusal). q ≡ Err r → (r.why ≡ why.TooLong) ⊎ (((hear (state_of l) c).at ≡ machine.Refused r.why) ⊎ (offered after (hear (state_of l) c).mark.part l.held ≡ Err r.why)))
+      (λ a e. inr (heard_err (hear (state_of l) c) (l.at + 1) (offered after (hear (state_of l) c).mark.part l.held) r (sym (same_byte (step_of l.machine c).0 (step_of l.machine c).1 l.name c (l.at + 1) l.held) ∙ e)))
+      (λ a e. let s : record { at = limit + 1; why = why.TooLong } ≡ r = cc in inl (sym (ap (λ (y : Refusal). y.why) s)))
 
   -- the byte that was refused, and what stood before it
   pub record Used (l : Live H) (b : List ℕ) (r : Refusal) : Type 0 where

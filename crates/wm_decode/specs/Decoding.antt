@@ -1,5 +1,5 @@
 -- What a decoder has read, and when a sink takes a module.
-use Rattle.std.specs.Prelude.{◌≡◌, ◌≢◌, ℕ, ◌≤◌, ◌<◌, ◌+◌, List, [], ◌∷◌, ◌++◌, Result, Ok, Err, ◌⊎◌, length}
+use Rattle.std.specs.Prelude.{◌≡◌, ◌≢◌, ℕ, ◌≤◌, ◌<◌, ◌+◌, List, [], ◌∷◌, ◌++◌, Option, Some, None, Result, Ok, Err, ◌⊎◌, length}
 use Rattle.wm_syntax.specs.declared.profile.Profile.{Profile}
 use Rattle.wm_syntax.specs.declared.why.Why.{Why}
 use Rattle.wm_syntax.specs.declared.why.Why.TheVariants as why
@@ -71,3 +71,7 @@ NeverFloat {H} after = (h : H) (x : Part) → after h x ≡ Err why.Float → �
 -- what the sink of a decoder holds
 abbrev pub held_in : {S H : Type 0} → (S → H) → Decoder S → H
 held_in held d = held d.sink
+
+-- the refusal that a decoder has answered
+abbrev pub has_refused : {S H : Type 0} → (S → H) → Decoder S → Option Refusal
+has_refused held d = elim (standing held d) [ Ok l ↦ None | Err r ↦ Some r ]

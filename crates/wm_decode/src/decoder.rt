@@ -1,7 +1,10 @@
-ghost use Rattle.std.specs.Prelude.{◌≡◌, ◌≢◌, ◌+◌, ◌-◌, ◌++◌, ◌∷◌, ◌≤◌, ◌<◌, ◌^◌, [], Ok, Err, ℕ, List, IfErr, IsOk, length, slice_range, slice_index, drop, Result, MatchResult, OnOk};
-ghost use Rattle.wm_syntax.specs.declared.why.Why.TheVariants.{Memory};
-ghost use Rattle.wm_decode.specs.Sinks.{and_then};
-ghost use Rattle.wm_decode.specs.Decoding.{After};
+ghost use Rattle.std.specs.Prelude.{◌≡◌, ◌≢◌, ◌+◌, ◌-◌, ◌++◌, ◌∷◌, ◌≤◌, ◌<◌, ◌^◌, [], Ok, Err, ℕ, List, IfErr, IfOk, IsOk, Some, length, take, slice_range, slice_index, drop, Result, MatchResult, OnOk};
+ghost use Rattle.wm_syntax.specs.declared.why.Why.TheVariants.{Float, Memory};
+ghost use Rattle.wm_decode.specs.declared.refusal.Refusal.{Refusal};
+ghost use Rattle.wm_decode.specs.Sinks.{all_taken, and_then};
+ghost use Rattle.wm_decode.specs.Parts.{Marks, parts_of};
+ghost use Rattle.wm_decode.specs.Grammar.{Items};
+ghost use Rattle.wm_decode.specs.Decoding.{After, EndsInFloat, NeverFloat, Refused, Setting, Takes, answer_of, has_refused, held_in};
 ghost use Rattle.wm_decode.specs.Live.{IsAt, told, live_byte, decoded, IsRefused, standing, live_with, ByteTaken, ByteRefused, Fed, refusal_of, ended, Finished};
 
 use crate::machine::{Event, Machine};
@@ -66,6 +69,81 @@ fn refusal_of(machine: Machine) -> Option<Why>
 }
 
 impl<S: Sink> Decoder<S> {
+    /// A decoder that was fed nothing yet, and takes no memory. It reads the instructions of the
+    /// profile and refuses what is longer than `max_bytes`.
+    pub fn new(alloc: Global, sink: S, profile: Profile, max_bytes: u64) -> Self
+        requires { max_bytes ≤ 2 ^ 62 }
+        ensures { After S.held S.after result (record { profile = profile; limit = max_bytes; first = S.held sink }) [] }
+    {
+        Decoder {
+            sink,
+            machine: Machine::Header(0),
+            name: Vec::new(alloc),
+            at: 0,
+            max_bytes,
+            profile,
+        }
+    }
+
+    /// Takes the next piece of the input, of any length. After a refusal every further piece is
+    /// refused in the same way.
+    pub fn feed(&mut self, piece: &[u8]) -> Result<(), Refusal>
+        ensures after { (s : Setting S.Held) (before : List ℕ) → After S.held S.after self.old s before
+            → After S.held S.after self.new s (before ++ piece.now) }
+        // Of each input that begins with the bytes so far, the sink has taken just the parts that are complete in them.
+        ensures taken { OnOk result ((s : Setting S.Held) (before more : List ℕ) (items : Marks) → After S.held S.after self.old s before
+            → Items s.profile ((before ++ piece.now) ++ more) items
+            → all_taken S.after s.first (parts_of (take (length (before ++ piece.now)) items)) ≡ Ok (held_in S.held self.new)) }
+        // No input that the sink takes begins with the bytes up to the place.
+        ensures refused { IfErr result (λ r. r.why ≢ Memory → (s : Setting S.Held) (before : List ℕ) → After S.held S.after self.old s before
+            → Refused S.after s (before ++ piece.now) r) }
+        // The joined bytes alone say which refusal it is, whatever comes after them.
+        ensures same { IfErr result (λ r. r.why ≢ Memory → (s : Setting S.Held) (before more : List ℕ) → After S.held S.after self.old s before
+            → answer_of S.after s ((before ++ piece.now) ++ more) ≡ Err r) }
+        ensures place { IfErr result (λ r. (s : Setting S.Held) (before : List ℕ) → After S.held S.after self.old s before
+            → r.at ≤ length (before ++ piece.now)) }
+        // The header takes no memory.
+        ensures header { IfErr result (λ r. (s : Setting S.Held) (before : List ℕ) → After S.held S.after self.old s before
+            → length (before ++ piece.now) ≤ 8 → r.why ≢ Memory) }
+        ensures float { IfErr result (λ r. r.why ≡ Float → NeverFloat S.after → (s : Setting S.Held) (before : List ℕ) → After S.held S.after self.old s before
+            → EndsInFloat (before ++ piece.now) r) }
+        // After a refusal nothing changes, and the answer is the same.
+        ensures sticky { (r : Refusal) → has_refused S.held self.old ≡ Some r → (result ≡ Err r) × (self.new ≡ self.old) }
+        ensures refusal { IfErr result (λ r. has_refused S.held self.new ≡ Some r) }
+    {
+        self.take_piece(piece)
+    }
+
+    /// The sink, where the pieces together are a module. A refusal hands nothing back.
+    pub fn finish(self) -> Result<S, Refusal>
+        ensures ok { IfOk result (λ sink. (s : Setting S.Held) (bytes : List ℕ) → After S.held S.after self s bytes
+            → Takes S.after s bytes (S.held sink)) }
+        ensures refused { IfErr result (λ r. r.why ≢ Memory → (s : Setting S.Held) (bytes : List ℕ) → After S.held S.after self s bytes
+            → (last : S.Held) → Takes S.after s bytes last → ⊥) }
+        ensures same { IfErr result (λ r. r.why ≢ Memory → (s : Setting S.Held) (bytes : List ℕ) → After S.held S.after self s bytes
+            → answer_of S.after s bytes ≡ Err r) }
+        ensures place { IfErr result (λ r. (s : Setting S.Held) (bytes : List ℕ) → After S.held S.after self s bytes → r.at ≤ length bytes) }
+        ensures header { IfErr result (λ r. (s : Setting S.Held) (bytes : List ℕ) → After S.held S.after self s bytes
+            → length bytes ≤ 8 → r.why ≢ Memory) }
+        ensures sticky { (r : Refusal) → has_refused S.held self ≡ Some r → result ≡ Err r }
+    {
+        self.end()
+    }
+
+    fn end(self) -> Result<S, Refusal>
+        ensures ended { Finished (and_then (standing S.held self) ended) S.held result }
+        ensures sticky { (r : Refusal) → has_refused S.held self ≡ Some r → result ≡ Err r }
+    {
+        match self.machine {
+            Machine::Refused(why) => Err(Refusal { at: self.at, why }),
+            Machine::Between(_) => Ok(self.sink),
+            _ => Err(Refusal {
+                at: self.at,
+                why: Why::Truncated,
+            }),
+        }
+    }
+
     fn refuse(&mut self, why: Why) -> Refusal
         ensures stands { standing S.held self.new ≡ Err result }
         ensures refusal { result ≡ record { at = self.old.at; why = why } }
