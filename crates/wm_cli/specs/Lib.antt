@@ -1,2 +1,5 @@
 pub mod Answers
 pub mod Codes
+pub mod Reading
+pub mod Rules
+pub mod Validating

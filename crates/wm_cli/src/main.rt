@@ -3,8 +3,11 @@
 
 mod answer;
 mod line;
+mod reading;
 mod run;
 mod status;
+mod type_rules;
+mod validator;
 mod words;
 
 use line::line;
