@@ -73,3 +73,6 @@ fn main(rt: HostRuntime) -> ExitCode {
     complain(&rt, code);
     ExitCode::from(code)
 }
+
+#[cfg(test)]
+mod tests;

@@ -36,8 +36,13 @@ pub enum LineFault {
 }
 
 impl LineFault {
+    ghost use Rattle.std.specs.Prelude.{◌≡◌};
+    ghost use Rattle.wm_cli.specs.Codes.{fault_code};
+
     /// The exit status.
-    pub fn code(&self) -> u8 {
+    pub fn code(&self) -> u8
+        ensures { result ≡ fault_code self.now }
+    {
         match self {
             LineFault::Parser(error) => match error.kind() {
                 ErrorKind::OutOfMemory => 4,
