@@ -64,7 +64,7 @@ module _ (demanded : Type 0) (p : Profile) (f : ℕ) where
             inl (subst (λ y. P y k) eb (subst (λ y. P back y) ek q))
         by_count (suc n) front back fm bm e m t q =
             let all : Then (Then (Custom demanded) (Customs demanded)) P b k =
-                record { front = front; back = back; front_marks = fm; back_marks = bm; bytes = e; marks = m; first = record { front = t.front; back = t.back; front_marks = t.front_marks; back_marks = t.back_marks; bytes = t.bytes; marks = t.marks; first = t.first; second = (n, t.second) }; second = q } in
+            record { front = front; back = back; front_marks = fm; back_marks = bm; bytes = e; marks = m; first = record { front = t.front; back = t.back; front_marks = t.front_marks; back_marks = t.back_marks; bytes = t.bytes; marks = t.marks; first = t.first; second = (n, t.second) }; second = q } in
             inr (assoc b k all)
           where
             assoc : (b : List ℕ) (k : Marks) → Then (Then (Custom demanded) (Customs demanded)) P b k → Then (Custom demanded) (Then (Customs demanded) P) b k

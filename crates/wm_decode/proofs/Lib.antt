@@ -12,3 +12,5 @@ pub mod Header
 pub mod Limits
 pub mod Floats
 pub mod Calls
+pub mod Taking
+pub mod Fronts

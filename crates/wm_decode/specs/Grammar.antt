@@ -162,10 +162,3 @@ last_read = 1
 -- the bytes are a whole input, of which so much is said beside each byte
 abbrev pub Items : Profile → Shape
 Items p = Module strict p last_read
-
--- the bytes so far of an input: some more would make them whole, sizes and names aside
-pub record IsFront (p : Profile) (b : List ℕ) (k : Marks) : Type 0 where
-  pub rest : List ℕ
-  pub rest_marks : Marks
-  pub same : length b ≡ length k
-  pub whole : Module loose p last_read (b ++ rest) (k ++ rest_marks)

@@ -44,9 +44,7 @@ impl Plain {
 pub enum InCustom {
     Length(Num32),
     /// In the name, with so many bytes of it after the next.
-    Name {
-        more: u32,
-    },
+    Name { more: u32 },
     /// After the name.
     Skip,
     Failed(Why),
@@ -57,25 +55,11 @@ pub enum InCustom {
 #[derive(Clone, Copy)]
 pub enum Inside {
     TypeCount(Num32),
-    TypeForm {
-        types: u32,
-    },
-    ParamCount {
-        types: u32,
-        number: Num32,
-    },
-    Param {
-        types: u32,
-        more: u32,
-    },
-    ResultCount {
-        types: u32,
-        number: Num32,
-    },
-    ResultType {
-        types: u32,
-        more: u32,
-    },
+    TypeForm { types: u32 },
+    ParamCount { types: u32, number: Num32 },
+    Param { types: u32, more: u32 },
+    ResultCount { types: u32, number: Num32 },
+    ResultType { types: u32, more: u32 },
     /// Nothing may follow.
     Over,
     Failed(Why),
@@ -92,11 +76,7 @@ pub enum Machine {
     /// In the size of a section with this id.
     Size { id: u8, last: u8, number: Num32 },
     /// In a custom section, with so many bytes of it after the next.
-    Custom {
-        last: u8,
-        more: u32,
-        part: InCustom,
-    },
+    Custom { last: u8, more: u32, part: InCustom },
     /// In the contents of another section, with so many bytes of it after the next.
     Section { last: u8, more: u32, part: Inside },
     Refused(Why),

@@ -149,10 +149,7 @@ fn result_count(types: u32, mut number: Num32, byte: u8) -> (Inside, Event)
 {
     match number.push(byte) {
         Step::More => (Inside::ResultCount { types, number }, Event::Quiet),
-        Step::Done(n) => (
-            after_result(types, n),
-            Event::Gives(Plain::ResultCount(n)),
-        ),
+        Step::Done(n) => (after_result(types, n), Event::Gives(Plain::ResultCount(n))),
         Step::Bad => failed(Why::BadNumber),
     }
 }
