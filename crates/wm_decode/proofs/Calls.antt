@@ -13,7 +13,10 @@ use Rattle.wm_decode.specs.Grammar.{Items}
 use Rattle.wm_decode.specs.Sinks.{and_then, all_taken}
 use Rattle.wm_decode.specs.Live.{Live, IsAt, IsRefused, settled, standing, decoded, begun, Fed, ended_at, ended, Finished}
 use Rattle.wm_decode.specs.Decoding.{Setting, Takes, RanOut, After, Refused, answer_of, NeverFloat, EndsInFloat, held_in, has_refused}
-use Rattle.wm_decode.proofs.Theorem.{bytes-append, front_bytes, Used, Reached, reached, used_of, used_refused, settled_ok, decoded_append, takes_of_ended, ended_of_takes, so_far, never}
+use Rattle.wm_decode.proofs.Theorem.{bytes-append, front_bytes, Used, Reached, reached, used_of, used_refused, settled_ok, decoded_append, takes_of_ended, ended_of_takes, given_taken, marks_of, so_far, never}
+use Rattle.wm_decode.proofs.Fronts.{is_front, name_kept}
+use Rattle.wm_decode.specs.Fronts.{SoFar}
+use Rattle.wm_decode.specs.Runs.{State, run, marks, begin}
 use Rattle.wm_decode.proofs.Header.{is_at, late_memory}
 use Rattle.wm_decode.proofs.Floats.{ends_in_float}
 
@@ -121,6 +124,21 @@ module _ {S H : Type 0} (held : S → H) (after : H → Part → Result H Why) (
   after_taken d b more k i a items =
       let l = live_after d b i a in
       so_far after s b more k l.0 a.are_bytes l.1 items ∙ ap Ok (sym (settled_held d.machine d.name.items (held d.sink) d.at l.0 l.2))
+
+  pub after_so_far : (d : Decoder S) (b : List ℕ) → IsOk (standing held d) → After held after d s b → SoFar held after d s b
+  after_so_far d b i a =
+      let l = live_after d b i a in
+      let r = reached after s.limit b Starts l.0 l.1 in
+      let same = settled_ok after s.limit d.machine d.name.items (held d.sink) d.at l.0 l.2 in
+      let machine : l.0.machine ≡ (run begin b).machine = ap (λ (y : State). y.machine) r.state in
+      let name : d.name.items ≡ (run begin b).name = ap (λ (y : Live H). y.name) same ∙ ap (λ (y : State). y.name) r.state in
+      record {
+        marks = marks begin b;
+        front = is_front s.profile b a.are_bytes (subst (λ y. IsRefused y → ⊥) machine (r.live (λ i. i)));
+        begins = λ more items k. marks_of after s b more items a.are_bytes k;
+        taken = sym (given_taken after (marks begin b) s.first) ∙ (r.held ∙ ap Ok (sym (ap (λ (y : Live H). y.held) same)));
+        name = ap length name ∙ name_kept b;
+      }
 
   -- what a decoder that has refused has come to
   pub refused_after : (d : Decoder S) (b : List ℕ) (r : Refusal) → standing held d ≡ Err r → r.why ≢ why.Memory → After held after d s b → Decoded b ≡ Err r
@@ -256,6 +274,10 @@ module _ {S H : Type 0} (held : S → H) (after : H → Part → Result H Why) {
       → OnOk result ((s : Setting H) (b more : List ℕ) (k : Marks) → After held after old s b → Items s.profile ((b ++ piece) ++ more) k → all_taken after s.first (parts_of (take (length (b ++ piece)) k)) ≡ Ok (held_in held new))
   on_taken (Ok u) i go = λ s b more k a items. after_taken held after s new (b ++ piece) more k i (go s b a) items
   on_taken (Err r) i go = tt
+
+  pub on_so_far : (result : Result U Refusal) → Answered result → GoesOn held after old new piece → OnOk result ((s : Setting H) (b : List ℕ) → After held after old s b → SoFar held after new s (b ++ piece))
+  on_so_far (Ok u) i go = λ s b a. after_so_far held after s new (b ++ piece) i (go s b a)
+  on_so_far (Err r) i go = tt
 
   pub on_refused : (result : Result U Refusal) → Answered result → GoesOn held after old new piece → IfErr result (λ r. r.why ≢ why.Memory → (s : Setting H) (b : List ℕ) → After held after old s b → Refused after s (b ++ piece) r)
   on_refused (Ok u) i go = tt

@@ -321,9 +321,13 @@ module _ {H : Type 0} (after : H → Part → Result H Why) (s : Setting H) wher
       let m : (run begin b).machine ≡ r.0.machine = sym (ap (λ (y : State). y.machine) r.3) in
       ap (λ y. and_then y ended) r.1 ∙ (between_ended after s.limit r.0.machine r.0.held r.0.at (subst IsBetween m d.1) ∙ ap Ok r.2)
 
+  -- the marks so far are those of any module that begins so
+  pub marks_of : (b more : List ℕ) (k : Marks) → AreBytes b → Items s.profile (b ++ more) k → marks begin b ≡ take (length b) k
+  marks_of b more k bytes i =
+      let g = begins_with b more k bytes i in
+      sym (ap (take (length b)) g.1 ∙ take_at (marks begin b) g.0 (length b) (length_marks after s.limit b begin))
+
   -- what a sink has taken of any module that begins so
   pub so_far : (b more : List ℕ) (k : Marks) (m : Live H) → AreBytes b → decoded after s.limit Starts b ≡ Ok m → Items s.profile (b ++ more) k → all_taken after s.first (parts_of (take (length b) k)) ≡ Ok m.held
   so_far b more k m bytes e i =
-      let g = begins_with b more k bytes i in
-      let t : take (length b) k ≡ marks begin b = ap (take (length b)) g.1 ∙ take_at (marks begin b) g.0 (length b) (length_marks after s.limit b begin) in
-      ap (λ y. all_taken after s.first (parts_of y)) t ∙ (sym (given_taken after (marks begin b) s.first) ∙ (reached after s.limit b Starts m e).held)
+      ap (λ y. all_taken after s.first (parts_of y)) (sym (marks_of b more k bytes i)) ∙ (sym (given_taken after (marks begin b) s.first) ∙ (reached after s.limit b Starts m e).held)

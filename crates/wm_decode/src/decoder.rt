@@ -5,6 +5,7 @@ ghost use Rattle.wm_decode.specs.Sinks.{all_taken, and_then};
 ghost use Rattle.wm_decode.specs.Parts.{Marks, parts_of};
 ghost use Rattle.wm_decode.specs.Grammar.{Items};
 ghost use Rattle.wm_decode.specs.Decoding.{After, EndsInFloat, NeverFloat, Refused, Setting, Takes, answer_of, has_refused, held_in};
+ghost use Rattle.wm_decode.specs.Fronts.{SoFar};
 ghost use Rattle.wm_decode.specs.Live.{IsAt, told, live_byte, decoded, IsRefused, standing, live_with, ByteTaken, ByteRefused, Fed, refusal_of, ended, Finished};
 
 use crate::machine::{Event, Machine};
@@ -94,6 +95,10 @@ impl<S: Sink> Decoder<S> {
         ensures taken { OnOk result ((s : Setting S.Held) (before more : List ℕ) (items : Marks) → After S.held S.after self.old s before
             → Items s.profile ((before ++ piece.now) ++ more) items
             → all_taken S.after s.first (parts_of (take (length (before ++ piece.now)) items)) ≡ Ok (held_in S.held self.new)) }
+        // The sink holds the parts that are complete in the bytes so far, whatever may come, and of the input the
+        // decoder keeps a name that goes on.
+        ensures so_far { OnOk result ((s : Setting S.Held) (before : List ℕ) → After S.held S.after self.old s before
+            → SoFar S.held S.after self.new s (before ++ piece.now)) }
         // No input that the sink takes begins with the bytes up to the place.
         ensures refused { IfErr result (λ r. r.why ≢ Memory → (s : Setting S.Held) (before : List ℕ) → After S.held S.after self.old s before
             → Refused S.after s (before ++ piece.now) r) }

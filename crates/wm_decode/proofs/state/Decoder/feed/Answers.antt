@@ -1,5 +1,5 @@
 use Rattle.std.proofs.Common.{arith}
-use Rattle.wm_decode.proofs.Calls.{are_bytes, fed_after, Answered, answered, on_taken, on_refused, on_same, on_place, on_header, on_float, on_refusal, stands_refused}
+use Rattle.wm_decode.proofs.Calls.{are_bytes, fed_after, Answered, answered, on_taken, on_so_far, on_refused, on_same, on_place, on_header, on_float, on_refusal, stands_refused}
 use Rattle.wm_decode.specs.Live.{standing}
 use Rattle.wm_decode.proofs.state.Decoder.feed.Goals as goal
 
@@ -8,6 +8,9 @@ returns-clause-after g c = λ s b a. fed_after g.S.Sink.held g.S.Sink.after s c.
 
 pub returns-clause-taken : goal.returns-clause-taken
 returns-clause-taken g c = on_taken g.S.Sink.held g.S.Sink.after c.args.self.now c.take_piece.new.self c.args.piece.now c.take_piece.result (answered g.S.Sink.held g.S.Sink.after c.args.self.now c.take_piece.new.self c.args.piece.now c.take_piece.result _ c.take_piece.ensures.fed) (returns-clause-after g c)
+
+pub returns-clause-so_far : goal.returns-clause-so_far
+returns-clause-so_far g c = on_so_far g.S.Sink.held g.S.Sink.after c.args.self.now c.take_piece.new.self c.args.piece.now c.take_piece.result (answered g.S.Sink.held g.S.Sink.after c.args.self.now c.take_piece.new.self c.args.piece.now c.take_piece.result _ c.take_piece.ensures.fed) (returns-clause-after g c)
 
 pub returns-clause-refused : goal.returns-clause-refused
 returns-clause-refused g c = on_refused g.S.Sink.held g.S.Sink.after c.args.self.now c.take_piece.new.self c.args.piece.now c.take_piece.result (answered g.S.Sink.held g.S.Sink.after c.args.self.now c.take_piece.new.self c.args.piece.now c.take_piece.result _ c.take_piece.ensures.fed) (returns-clause-after g c)
