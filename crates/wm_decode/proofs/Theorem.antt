@@ -95,7 +95,7 @@ module _ {H : Type 0} (after : H → Part → Result H Why) (limit : ℕ) where
   settled_live (machine.Refused w) name h at n = absurd (n tt)
   settled_live m name h at n = refl
 
-  settled_not : (m : Machine) (name : List ℕ) (h : H) (at : ℕ) (l : Live H) → settled m name h at ≡ Ok l → IsRefused m → ⊥
+  pub settled_not : (m : Machine) (name : List ℕ) (h : H) (at : ℕ) (l : Live H) → settled m name h at ≡ Ok l → IsRefused m → ⊥
   settled_not (machine.Refused w) name h at l e i = cc
   settled_not m name h at l e i = i
 

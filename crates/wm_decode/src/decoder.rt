@@ -1,4 +1,4 @@
-ghost use Rattle.std.specs.Prelude.{◌≡◌, ◌≢◌, ◌+◌, ◌-◌, ◌++◌, ◌∷◌, ◌≤◌, ◌<◌, ◌^◌, [], Ok, Err, ℕ, List, IfErr, IfOk, IsOk, Some, length, take, slice_range, slice_index, drop, Result, MatchResult, OnOk};
+ghost use Rattle.std.specs.Prelude.{◌≡◌, ◌≢◌, ◌+◌, ◌-◌, ◌++◌, ◌∷◌, ◌≤◌, ◌<◌, ◌^◌, [], Ok, Err, ℕ, List, IfErr, IfOk, IsOk, None, Some, length, take, slice_range, slice_index, drop, Result, MatchResult, OnOk};
 ghost use Rattle.wm_syntax.specs.declared.why.Why.TheVariants.{Float, Memory};
 ghost use Rattle.wm_decode.specs.declared.refusal.Refusal.{Refusal};
 ghost use Rattle.wm_decode.specs.Sinks.{all_taken, and_then};
@@ -114,7 +114,7 @@ impl<S: Sink> Decoder<S> {
             → EndsInFloat (before ++ piece.now) r) }
         // After a refusal nothing changes, and the answer is the same.
         ensures sticky { (r : Refusal) → has_refused S.held self.old ≡ Some r → (result ≡ Err r) × (self.new ≡ self.old) }
-        ensures refusal { IfErr result (λ r. has_refused S.held self.new ≡ Some r) }
+        ensures refusal { MatchResult result (λ u. has_refused S.held self.new ≡ None) (λ r. has_refused S.held self.new ≡ Some r) }
     {
         self.take_piece(piece)
     }
@@ -130,6 +130,8 @@ impl<S: Sink> Decoder<S> {
         ensures place { IfErr result (λ r. (s : Setting S.Held) (bytes : List ℕ) → After S.held S.after self s bytes → r.at ≤ length bytes) }
         ensures header { IfErr result (λ r. (s : Setting S.Held) (bytes : List ℕ) → After S.held S.after self s bytes
             → length bytes ≤ 8 → r.why ≢ Memory) }
+        ensures float { IfErr result (λ r. r.why ≡ Float → NeverFloat S.after → (s : Setting S.Held) (bytes : List ℕ) → After S.held S.after self s bytes
+            → EndsInFloat bytes r) }
         ensures sticky { (r : Refusal) → has_refused S.held self ≡ Some r → result ≡ Err r }
     {
         self.end()

@@ -12,7 +12,7 @@ mod state;
 mod step;
 
 pub use item::Item;
-pub use machine::{Event, InCustom, Inside, Machine, NameKind, Plain};
+pub use machine::{InCustom, Inside, Machine};
 pub use refusal::Refusal;
 pub use sink::Sink;
 pub use state::Decoder;

@@ -9,7 +9,7 @@ use wm_syntax::why::Why;
 
 /// Which name is read.
 #[derive(Clone, Copy)]
-pub enum NameKind {
+pub(crate) enum NameKind {
     Custom,
     ImportModule,
     ImportName,
@@ -18,7 +18,7 @@ pub enum NameKind {
 
 /// A part of a module that holds no bytes of the input.
 #[derive(Clone, Copy)]
-pub enum Plain {
+pub(crate) enum Plain {
     NewType,
     Param(ValType),
     ResultCount(u32),
@@ -27,7 +27,7 @@ pub enum Plain {
 
 impl Plain {
     /// The item that it is.
-    pub fn item(self) -> Item<'static>
+    pub(crate) fn item(self) -> Item<'static>
         ensures { item_parts result ≡ plain_part self ∷ [] }
     {
         match self {
@@ -84,7 +84,7 @@ pub enum Machine {
 
 /// What a byte completes.
 #[derive(Clone, Copy)]
-pub enum Event {
+pub(crate) enum Event {
     Quiet,
     Gives(Plain),
     /// It is a byte of a name that goes on.

@@ -282,7 +282,7 @@ fn in_header(at: u8, byte: u8) -> (Machine, Event)
 }
 
 /// The machine after one more byte, and what this byte completes.
-pub fn step(machine: Machine, byte: u8) -> (Machine, Event)
+pub(crate) fn step(machine: Machine, byte: u8) -> (Machine, Event)
     ensures { result ≡ step_of machine byte }
 {
     match machine {
