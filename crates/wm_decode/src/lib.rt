@@ -4,6 +4,7 @@
 
 mod decoder;
 mod item;
+pub mod laws;
 mod machine;
 mod names;
 mod refusal;
