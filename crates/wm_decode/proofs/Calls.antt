@@ -1,6 +1,5 @@
 -- What the calls of a decoder say of all that it was fed.
 use Rattle.std.proofs.Common.{◌≡◌, ◌≢◌, ℕ, suc, ◌+◌, ◌<◌, ◌≤◌, ◌^◌, List, [], ◌∷◌, ◌++◌, Option, Some, None, Result, Ok, Err, IsOk, IfOk, IfErr, OnOk, MatchResult, length, refl, sym, ◌∙◌, ap, subst, inl, inr, ◌⊎◌, arith, take, get_or}
-use Rattle.wm_syntax.specs.declared.profile.Profile.{Profile}
 use Rattle.wm_syntax.specs.declared.why.Why.{Why}
 use Rattle.wm_syntax.specs.declared.why.Why.TheVariants as why
 use Rattle.wm_syntax.specs.Spelling.{AreBytes}
@@ -13,7 +12,7 @@ use Rattle.wm_decode.specs.Grammar.{Items}
 use Rattle.wm_decode.specs.Sinks.{and_then, all_taken}
 use Rattle.wm_decode.specs.Live.{Live, IsAt, IsRefused, settled, standing, decoded, begun, Fed, ended_at, ended, Finished}
 use Rattle.wm_decode.specs.Decoding.{Setting, Takes, RanOut, After, Refused, answer_of, NeverFloat, EndsInFloat, held_in, has_refused}
-use Rattle.wm_decode.proofs.Theorem.{bytes-append, front_bytes, Used, Reached, reached, used_of, used_refused, settled_ok, settled_not, decoded_append, takes_of_ended, ended_of_takes, given_taken, marks_of, so_far, never}
+use Rattle.wm_decode.proofs.Theorem.{bytes-append, front_bytes, Used, reached, used_of, used_refused, settled_ok, settled_not, decoded_append, takes_of_ended, ended_of_takes, given_taken, marks_of, so_far, never}
 use Rattle.wm_decode.proofs.Fronts.{is_front, name_kept}
 use Rattle.wm_decode.specs.Fronts.{SoFar}
 use Rattle.wm_decode.specs.Runs.{State, run, marks, begin}

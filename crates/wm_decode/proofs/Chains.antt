@@ -1,10 +1,10 @@
 -- Which section may come next.
-use Rattle.std.proofs.Common.{◌≡◌, ℕ, zero, suc, ◌+◌, ◌<◌, ◌≤◌, List, [], ◌∷◌, ◌++◌, Option, None, refl, sym, ◌∙◌, ap, subst, inl, inr, ◌⊎◌, arith}
+use Rattle.std.proofs.Common.{◌≡◌, ℕ, zero, suc, ◌+◌, ◌<◌, ◌≤◌, List, [], ◌∷◌, ◌++◌, None, refl, sym, ◌∙◌, ap, subst, inl, inr, ◌⊎◌, arith}
 use Rattle.wm_syntax.specs.declared.profile.Profile.{Profile}
 use Rattle.wm_decode.specs.Parts.{Marks}
-use Rattle.wm_decode.specs.Shapes.{Shape, Empty, Byte, Then, Times, Counted, Number, Name, Sized, Filled, nothing_at, said}
+use Rattle.wm_decode.specs.Shapes.{Shape, Byte, Then, Times, Counted, Number, Name, Sized, Filled, nothing_at, said}
 use Rattle.wm_decode.specs.Grammar.{Contents, Section, Custom, Customs, MayMiss, Optional, Chain}
-use Rattle.wm_decode.proofs.Next.{Goes, Next, Same, HasBytes, Never, head_same, not_nil, same_refl, next_from, next_byte, byte_has, then_has, then_assoc, ends_first}
+use Rattle.wm_decode.proofs.Next.{Next, HasBytes, head_same, not_nil, same_refl, next_from, next_byte, byte_has, then_has, then_assoc, ends_first}
 use Rattle.wm_syntax.specs.Reading.{fresh}
 use Rattle.wm_decode.proofs.Numbers.{Left}
 use Rattle.wm_decode.proofs.Counts.{counted_fresh}

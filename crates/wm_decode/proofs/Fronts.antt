@@ -1,18 +1,16 @@
 -- Bytes that were not refused are those of some module, sizes and names aside.
-use Rattle.std.proofs.Common.{◌≡◌, ℕ, zero, suc, ◌+◌, ◌-◌, ◌*◌, ◌^◌, ◌<◌, ◌≤◌, List, [], ◌∷◌, ◌++◌, Option, Some, None, Result, Ok, Err, length, refl, sym, ◌∙◌, ap, subst, inl, inr, arith, true, false, nat_eq, nat_lt, cond, drop, get_or, take, pow_pos}
+use Rattle.std.proofs.Common.{◌≡◌, ℕ, zero, suc, ◌+◌, ◌-◌, ◌*◌, ◌^◌, ◌<◌, ◌≤◌, List, [], ◌∷◌, ◌++◌, Option, Some, None, length, refl, sym, ◌∙◌, ap, subst, inl, arith, nat_eq, nat_lt, drop, get_or, pow_pos}
 use Rattle.std.proofs.lemmas.Bool.{cond_both, ltb-true, ltb-false}
-use Rattle.std.proofs.lemmas.List.{take_at}
 use Rattle.std.specs.Str.{is_utf8}
 use Rattle.wm_syntax.specs.declared.profile.Profile.{Profile}
 use Rattle.wm_syntax.specs.declared.types.ValType.TheVariants.{I32}
 use Rattle.wm_syntax.specs.declared.types.ValType.{ValType}
-use Rattle.wm_syntax.specs.declared.why.Why.{Why}
 use Rattle.wm_syntax.specs.declared.why.Why.TheVariants as why
 use Rattle.wm_syntax.specs.Spelling.{AreBytes}
 use Rattle.wm_syntax.specs.declared.numbers.Step.{Step}
 use Rattle.wm_syntax.specs.declared.numbers.Step.TheVariants.{More, Done, Bad}
 use Rattle.wm_syntax.specs.Partial.{Partial}
-use Rattle.wm_syntax.specs.Reading.{over, fresh, go_on, end_at, unsigned_push}
+use Rattle.wm_syntax.specs.Reading.{fresh, unsigned_push}
 use Rattle.wm_decode.specs.declared.machine.Plain.{Plain}
 use Rattle.wm_decode.specs.declared.machine.Plain.TheVariants as plain
 use Rattle.wm_decode.specs.declared.machine.InCustom.{InCustom}
@@ -23,22 +21,20 @@ use Rattle.wm_decode.specs.declared.machine.Machine.{Machine}
 use Rattle.wm_decode.specs.declared.machine.Machine.TheVariants as machine
 use Rattle.wm_decode.specs.declared.machine.Event.{Event}
 use Rattle.wm_decode.specs.declared.machine.Event.TheVariants as event
-use Rattle.wm_decode.specs.declared.refusal.Refusal.{Refusal}
-use Rattle.wm_decode.specs.declared.state.Decoder.{Decoder}
 use Rattle.wm_decode.specs.Parts.{Part, new_type, param, one_result, result_count, Marks}
-use Rattle.wm_decode.specs.Shapes.{Shape, Empty, Byte, Then, Times, Counted, Number, Vector, Filled, Sized, Text, Name, nothing_at, ending, naming, name_marks, said}
+use Rattle.wm_decode.specs.Shapes.{Shape, Empty, Byte, Then, Times, Counted, Number, Vector, Filled, Sized, Name, nothing_at, ending, naming, name_marks, said}
 use Rattle.wm_decode.specs.Sections.{header}
 use Rattle.wm_decode.specs.Grammar.{ValueType, ResultTypes, FunctionType, loose, last_read}
-use Rattle.wm_decode.specs.Steps.{on_number, failed, types_or_over, after_param, after_result, value_type, no_custom, after_length, name_step, custom_framed, framed, refused, section_start, contents, after_size, header_step, step_of, custom_step, inside_step}
-use Rattle.wm_decode.specs.Runs.{heard, Heard, State, hear, after_byte, run, marks, begin}
-use Rattle.wm_decode.specs.Live.{IsRefused, Live, decoded, begun}
+use Rattle.wm_decode.specs.Steps.{on_number, failed, types_or_over, after_param, after_result, value_type, no_custom, after_length, name_step, custom_framed, framed, refused, section_start, after_size, header_step, step_of, custom_step, inside_step}
+use Rattle.wm_decode.specs.Runs.{heard, Heard, State, after_byte, run, marks, begin}
+use Rattle.wm_decode.specs.Live.{IsRefused}
 use Rattle.wm_decode.specs.Fronts.{IsFront, name_more, name_after, unfinished_name}
 use Rattle.wm_decode.proofs.Numbers.{Left, fresh_number}
-use Rattle.wm_decode.proofs.Texts.{TextLeft, NameLeft, AnyBytes}
+use Rattle.wm_decode.proofs.Texts.{TextLeft, NameLeft}
 use Rattle.wm_decode.proofs.Contents.{Types, Params, Results, InsideRest}
 use Rattle.wm_decode.proofs.Customs.{unnamed, CustomRest}
 use Rattle.wm_decode.proofs.Chains.{over as no_more}
-use Rattle.wm_decode.proofs.Whole.{no_function, Later, Known, InKnown, InHeader, MachineRest, StateRest, begin_from, run_from}
+use Rattle.wm_decode.proofs.Whole.{no_function, Later, Known, InKnown, MachineRest, begin_from, run_from}
 
 -- states that a decoder can be in: their numbers can still be ended
 abbrev Open : Partial → Type 0
