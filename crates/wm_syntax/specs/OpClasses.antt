@@ -10,7 +10,7 @@ use Rattle.wm_syntax.specs.declared.op_class.Kind.TheVariants as k
 use Rattle.wm_syntax.specs.declared.op_class.OpClass.{OpClass}
 use Rattle.wm_syntax.specs.declared.op_class.OpClass.TheVariants.{Plain, With, Float, None}
 
--- an instruction without its immediates
+-- what an op is by its first byte: the op itself, or a kind that has immediates
 abbrev pub class_of : Op → OpClass
 class_of (op.Simple (s.Br l)) = With k.Br
 class_of (op.Simple (s.BrIf l)) = With k.BrIf
@@ -33,7 +33,7 @@ class_of (op.If t) = With k.If
 class_of (op.BrTable n) = With k.BrTable
 class_of o = Plain o
 
--- the byte that begins an instruction; a label has none of its own
+-- the byte that begins an instruction, an else or an end (section 5.4); a label has none of its own
 abbrev pub first_byte : Op → Option ℕ
 first_byte (op.Simple i) = Some (opcode i).0
 first_byte (op.Block t) = Some 0x02
@@ -44,7 +44,7 @@ first_byte op.End = Some 0x0B
 first_byte (op.BrTable n) = Some 0x0E
 first_byte (op.Label l) = Nothing
 
--- the bytes of floating-point instructions
+-- the bytes of the floating-point instructions (sections 5.4.4, 5.4.5)
 abbrev pub is_float : ℕ → Bool
 is_float b =
     list_any (λ (r : ℕ × ℕ). nat_le r.0 b && nat_le b r.1)

@@ -1,7 +1,7 @@
 -- What stands behind a reader or a writer, and whether it has failed.
 use Rattle.std.specs.Prelude.{Bool}
-use Rattle.wm_syntax.specs.declared.io.Input.{Input}
-use Rattle.wm_syntax.specs.declared.io.Output.{Output}
+use Rattle.wm_syntax.specs.declared.io.input.Input.{Input}
+use Rattle.wm_syntax.specs.declared.io.output.Output.{Output}
 
 module _ {R : Type 0} where
   abbrev pub input_inner : Input R → R

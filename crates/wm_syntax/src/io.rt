@@ -1,11 +1,15 @@
 //! Readers and writers that remember whether they have failed.
 
-ghost use Rattle.std.specs.Prelude.{◌≡◌, ℕ, ◌<◌, ◌||◌, Bool, false, List, Option, length, is_err, IfOk};
+ghost use Rattle.std.specs.Prelude.{◌≡◌, ℕ, ◌<◌, ◌||◌, Bool, false, List, Option, length, take, is_err, IfOk, OnOk, OnErr, ◌≤◌};
 ghost use Rattle.std.specs.Io.{ReadsAtMost, WritesAtMost};
-ghost use Rattle.std.specs.Io.KnownBytes.{Keeps, ReadConsumes, WriteAppends};
+ghost use Rattle.std.specs.Io.KnownBytes.{Appends, Keeps, ReadConsumes, WriteAppends};
 
 use std::io;
-use std::io::{ErrorKind, Read, Write};
+
+pub mod input;
+pub mod output;
+#[cfg(test)]
+mod tests;
 
 /// A reader.
 pub trait Source {
@@ -51,102 +55,16 @@ pub trait Dest {
         ensures { result ≡ has_failed self.now };
 }
 
-/// A `Read` of std as a source.
-#[derive(Drop)]
-pub struct Input<R> {
-    inner: R,
-    failed: bool,
+/// Writes all of `bytes`. On an error a beginning of them was written.
+pub fn put_all<W: Dest>(w: &mut W, bytes: &[u8]) -> io::Result<()>
+    requires { W.has_failed w.old ≡ false }
+    ensures written { OnOk result (Appends (W.contents w.old) (W.contents w.new) bytes.now) }
+    ensures beginning { OnErr result ((n : ℕ) × (n ≤ length bytes.now) × Appends (W.contents w.old) (W.contents w.new) (take n bytes.now)) }
+    ensures failed { W.has_failed w.new ≡ is_err result }
+{
+    let mut from = 0;
+    while from < bytes.len() {
+        from += w.put(&bytes[from..])?;
+    }
+    Ok(())
 }
-
-impl<R: Read> Input<R> {
-    ghost use Rattle.wm_syntax.specs.Streams.{input_failed, input_inner};
-
-    pub fn new(inner: R) -> Self
-        ensures inner { input_inner result ≡ inner }
-        ensures open { input_failed result ≡ false }
-    {
-        Input {
-            inner,
-            failed: false,
-        }
-    }
-
-    pub fn into_inner(self) -> R
-        ensures { result ≡ input_inner self }
-    {
-        let Input { inner, failed: _ } = self;
-        inner
-    }
-}
-
-impl<R: Read> Source for Input<R> {
-    ghost remaining = { λ s. R.remaining s.inner };
-
-    ghost has_failed = { λ s. s.failed };
-
-    fn get(&mut self, buf: &mut [u8]) -> io::Result<usize> {
-        let answer = self.inner.read(buf);
-        self.failed = self.failed || answer.is_err();
-        answer
-    }
-
-    fn failed(&self) -> bool {
-        self.failed
-    }
-}
-
-/// A `Write` of std as a destination. A write that takes nothing of at least one byte is an error.
-#[derive(Drop)]
-pub struct Output<W> {
-    inner: W,
-    failed: bool,
-}
-
-impl<W: Write> Output<W> {
-    ghost use Rattle.wm_syntax.specs.Streams.{output_failed, output_inner};
-
-    pub fn new(inner: W) -> Self
-        ensures inner { output_inner result ≡ inner }
-        ensures open { output_failed result ≡ false }
-    {
-        Output {
-            inner,
-            failed: false,
-        }
-    }
-
-    pub fn into_inner(self) -> W
-        ensures { result ≡ output_inner self }
-    {
-        let Output { inner, failed: _ } = self;
-        inner
-    }
-}
-
-impl<W: Write> Dest for Output<W> {
-    ghost contents = { λ s. W.contents s.inner };
-
-    ghost has_failed = { λ s. s.failed };
-
-    fn put(&mut self, buf: &[u8]) -> io::Result<usize> {
-        let answer = match self.inner.write(buf) {
-            Ok(0) if !buf.is_empty() => Err(io::Error::from(ErrorKind::WriteZero)),
-            answer => answer,
-        };
-        self.failed = self.failed || answer.is_err();
-        answer
-    }
-
-    fn flush(&mut self) -> io::Result<()> {
-        let answer = self.inner.flush();
-        self.failed = self.failed || answer.is_err();
-        answer
-    }
-
-    fn failed(&self) -> bool {
-        self.failed
-    }
-}
-
-#[cfg(test)]
-mod tests;

@@ -158,6 +158,7 @@ impl Leb128 {
         ensures pushed { (result, self.new) ≡ unsigned_push bits self.old byte }
         ensures range { IfDone result (λ n. n < 2 ^ bits) }
     {
+        // the use of a field, so that the proof knows what always holds of a reader
         let _ = &self.low;
         let (step, next) = self.advance_unsigned(bits, byte);
         *self = next;
@@ -172,6 +173,7 @@ impl Leb128 {
         ensures pushed { (result, self.new) ≡ signed_push bits self.old byte }
         ensures range { IfDone result (FitsBits bits) }
     {
+        // the use of a field, so that the proof knows what always holds of a reader
         let _ = &self.low;
         let (step, next) = self.advance_signed(bits, byte);
         *self = next;
@@ -225,9 +227,8 @@ impl Num32 {
         ensures after { UnsignedAfter 32 result [] }
         ensures fresh { result ≡ fresh }
     {
-        Num32 {
-            bytes: Leb128::new(),
-        }
+        let bytes = Leb128::new();
+        Num32 { bytes }
     }
 
     /// Takes the next byte. After `Done` and `Bad` the answer is always `Bad`.
@@ -262,9 +263,8 @@ impl Num64 {
         ensures after { UnsignedAfter 64 result [] }
         ensures fresh { result ≡ fresh }
     {
-        Num64 {
-            bytes: Leb128::new(),
-        }
+        let bytes = Leb128::new();
+        Num64 { bytes }
     }
 
     /// Takes the next byte. After `Done` and `Bad` the answer is always `Bad`.
@@ -299,9 +299,8 @@ impl Int32 {
         ensures after { SignedAfter 32 result [] }
         ensures fresh { result ≡ fresh }
     {
-        Int32 {
-            bytes: Leb128::new(),
-        }
+        let bytes = Leb128::new();
+        Int32 { bytes }
     }
 
     /// Takes the next byte. After `Done` and `Bad` the answer is always `Bad`.
@@ -336,9 +335,8 @@ impl Int64 {
         ensures after { SignedAfter 64 result [] }
         ensures fresh { result ≡ fresh }
     {
-        Int64 {
-            bytes: Leb128::new(),
-        }
+        let bytes = Leb128::new();
+        Int64 { bytes }
     }
 
     /// Takes the next byte. After `Done` and `Bad` the answer is always `Bad`.

@@ -1,6 +1,9 @@
 ghost use Rattle.std.specs.Prelude.{◌≡◌, IfOk};
 
+use super::input::Input;
+use super::output::Output;
 use super::*;
+use std::io::{ErrorKind, Read, Write};
 use std::test::Fail;
 
 #[test]
@@ -71,5 +74,35 @@ fn faults_stay(rt: HostRuntime) -> Result<(), Fail> {
     assert!(rt; !dest.failed());
     assert!(rt; dest.put(b"x").is_err());
     assert!(rt; dest.failed());
+    Ok(())
+}
+
+/// Takes one byte a call.
+#[derive(Drop)]
+struct Slow {
+    taken: Vec<u8>,
+}
+
+impl Write for Slow {
+    fn write(&mut self, buf: &[u8]) -> io::Result<usize> {
+        let Some(first) = buf.first() else {
+            return Ok(0);
+        };
+        self.taken.push(*first)?;
+        Ok(1)
+    }
+
+    fn flush(&mut self) -> io::Result<()> {
+        Ok(())
+    }
+}
+
+#[test]
+fn all_is_put(rt: HostRuntime) -> Result<(), Fail> {
+    let mut dest = Output::new(Slow {
+        taken: Vec::new(rt.alloc()),
+    });
+    put_all(&mut dest, b"wasm")?;
+    assert_eq!(rt; dest.into_inner().taken.as_slice(), b"wasm".as_slice());
     Ok(())
 }
