@@ -11,7 +11,7 @@ use Rattle.wm_decode.specs.Parts.{Part, Marks, parts_of}
 use Rattle.wm_decode.specs.Grammar.{Items}
 use Rattle.wm_decode.specs.Sinks.{and_then, all_taken}
 use Rattle.wm_decode.specs.Live.{Live, IsAt, IsRefused, settled, standing, decoded, begun, Fed, ended_at, ended, Finished}
-use Rattle.wm_decode.specs.Decoding.{Setting, Takes, RanOut, After, Refused, answer_of, NeverFloat, EndsInFloat, held_in, has_refused}
+use Rattle.wm_decode.specs.Decoding.{Setting, Takes, RanOut, After, Refused, answer_of, Having, NeverFloat, EndsInFloat, held_in, has_refused}
 use Rattle.wm_decode.proofs.Theorem.{bytes-append, front_bytes, Used, reached, used_of, used_refused, settled_ok, settled_not, decoded_append, takes_of_ended, ended_of_takes, given_taken, marks_of, so_far, never}
 use Rattle.wm_decode.proofs.Fronts.{is_front, name_kept}
 use Rattle.wm_decode.specs.Fronts.{SoFar}
@@ -269,36 +269,36 @@ none_refused (Err t) i = cc
 
 -- the bytes so far of a decoder are those before and those of a piece
 abbrev pub GoesOn : {S H : Type 0} → (S → H) → (H → Part → Result H Why) → Decoder S → Decoder S → List ℕ → Type 0
-GoesOn {S} {H} held after old new piece = (s : Setting H) (b : List ℕ) → After held after old s b → After held after new s (b ++ piece)
+GoesOn held after old new piece = Having held after old (λ s b. After held after new s (b ++ piece))
 
 -- the clauses, whatever the result
 module _ {S H : Type 0} (held : S → H) (after : H → Part → Result H Why) {U : Type 0} (old new : Decoder S) (piece : List ℕ) where
   pub on_taken : (result : Result U Refusal) (expected : Result (Live H) Refusal) → Fed expected result (standing held new) → GoesOn held after old new piece
-      → OnOk result ((s : Setting H) (b more : List ℕ) (k : Marks) → After held after old s b → Items s.profile ((b ++ piece) ++ more) k → all_taken after s.first (parts_of (take (length (b ++ piece)) k)) ≡ Ok (held_in held new))
-  on_taken (Ok u) expected f go = λ s b more k a items. after_taken held after s new (b ++ piece) more k f.1 (go s b a) items
+      → OnOk result (Having held after old (λ s b. (more : List ℕ) (k : Marks) → Items s.profile ((b ++ piece) ++ more) k → all_taken after s.first (parts_of (take (length (b ++ piece)) k)) ≡ Ok (held_in held new)))
+  on_taken (Ok u) expected f go = λ s b a more k items. after_taken held after s new (b ++ piece) more k f.1 (go s b a) items
   on_taken (Err r) expected f go = tt
 
-  pub on_so_far : (result : Result U Refusal) (expected : Result (Live H) Refusal) → Fed expected result (standing held new) → GoesOn held after old new piece → OnOk result ((s : Setting H) (b : List ℕ) → After held after old s b → SoFar held after new s (b ++ piece))
+  pub on_so_far : (result : Result U Refusal) (expected : Result (Live H) Refusal) → Fed expected result (standing held new) → GoesOn held after old new piece → OnOk result (Having held after old (λ s b. SoFar held after new s (b ++ piece)))
   on_so_far (Ok u) expected f go = λ s b a. after_so_far held after s new (b ++ piece) f.1 (go s b a)
   on_so_far (Err r) expected f go = tt
 
-  pub on_refused : (result : Result U Refusal) (expected : Result (Live H) Refusal) → Fed expected result (standing held new) → GoesOn held after old new piece → IfErr result (λ r. r.why ≢ why.Memory → (s : Setting H) (b : List ℕ) → After held after old s b → Refused after s (b ++ piece) r)
+  pub on_refused : (result : Result U Refusal) (expected : Result (Live H) Refusal) → Fed expected result (standing held new) → GoesOn held after old new piece → IfErr result (λ r. r.why ≢ why.Memory → Having held after old (λ s b. Refused after s (b ++ piece) r))
   on_refused (Ok u) expected f go = tt
   on_refused (Err r) expected f go = λ ne s b a. after_refused held after s new (b ++ piece) r f.1 ne (go s b a)
 
-  pub on_same : (result : Result U Refusal) (expected : Result (Live H) Refusal) → Fed expected result (standing held new) → GoesOn held after old new piece → IfErr result (λ r. r.why ≢ why.Memory → (s : Setting H) (b more : List ℕ) → After held after old s b → answer_of after s ((b ++ piece) ++ more) ≡ Err r)
+  pub on_same : (result : Result U Refusal) (expected : Result (Live H) Refusal) → Fed expected result (standing held new) → GoesOn held after old new piece → IfErr result (λ r. r.why ≢ why.Memory → Having held after old (λ s b. (more : List ℕ) → answer_of after s ((b ++ piece) ++ more) ≡ Err r))
   on_same (Ok u) expected f go = tt
-  on_same (Err r) expected f go = λ ne s b more a. after_answer held after s new (b ++ piece) more r f.1 ne (go s b a)
+  on_same (Err r) expected f go = λ ne s b a more. after_answer held after s new (b ++ piece) more r f.1 ne (go s b a)
 
-  pub on_place : (result : Result U Refusal) (expected : Result (Live H) Refusal) → Fed expected result (standing held new) → GoesOn held after old new piece → IfErr result (λ r. (s : Setting H) (b : List ℕ) → After held after old s b → r.at ≤ length (b ++ piece))
+  pub on_place : (result : Result U Refusal) (expected : Result (Live H) Refusal) → Fed expected result (standing held new) → GoesOn held after old new piece → IfErr result (λ r. Having held after old (λ s b. r.at ≤ length (b ++ piece)))
   on_place (Ok u) expected f go = tt
   on_place (Err r) expected f go = λ s b a. after_place held after s new (b ++ piece) r f.1 (go s b a)
 
-  pub on_header : (result : Result U Refusal) (expected : Result (Live H) Refusal) → Fed expected result (standing held new) → GoesOn held after old new piece → IfErr result (λ r. (s : Setting H) (b : List ℕ) → After held after old s b → length (b ++ piece) ≤ 8 → r.why ≢ why.Memory)
+  pub on_header : (result : Result U Refusal) (expected : Result (Live H) Refusal) → Fed expected result (standing held new) → GoesOn held after old new piece → IfErr result (λ r. Having held after old (λ s b. length (b ++ piece) ≤ 8 → r.why ≢ why.Memory))
   on_header (Ok u) expected f go = tt
   on_header (Err r) expected f go = λ s b a few. after_header held after s new (b ++ piece) r f.1 (go s b a) few
 
-  pub on_float : (result : Result U Refusal) (expected : Result (Live H) Refusal) → Fed expected result (standing held new) → GoesOn held after old new piece → IfErr result (λ r. r.why ≡ why.Float → NeverFloat after → (s : Setting H) (b : List ℕ) → After held after old s b → EndsInFloat (b ++ piece) r)
+  pub on_float : (result : Result U Refusal) (expected : Result (Live H) Refusal) → Fed expected result (standing held new) → GoesOn held after old new piece → IfErr result (λ r. r.why ≡ why.Float → NeverFloat after → Having held after old (λ s b. EndsInFloat (b ++ piece) r))
   on_float (Ok u) expected f go = tt
   on_float (Err r) expected f go = λ float none s b a. after_float held after s new (b ++ piece) r f.1 float none (go s b a)
 
@@ -307,30 +307,30 @@ module _ {S H : Type 0} (held : S → H) (after : H → Part → Result H Why) {
   on_refusal (Err r) expected f = refused_stands (standing held new) r f.1
 
 module _ {S H : Type 0} (held : S → H) (after : H → Part → Result H Why) (d : Decoder S) where
-  pub finish_ok : (result : Result S Refusal) → Finished (and_then (standing held d) ended) held result → IfOk result (λ k. (s : Setting H) (b : List ℕ) → After held after d s b → Takes after s b (held k))
+  pub finish_ok : (result : Result S Refusal) → Finished (and_then (standing held d) ended) held result → IfOk result (λ k. Having held after d (λ s b. Takes after s b (held k)))
   finish_ok (Ok k) f = λ s b a. finish_takes held after s d b (held k) f a
   finish_ok (Err r) f = tt
 
   pub finish_refused : (result : Result S Refusal) → Finished (and_then (standing held d) ended) held result
-      → IfErr result (λ r. r.why ≢ why.Memory → (s : Setting H) (b : List ℕ) → After held after d s b → (last : H) → Takes after s b last → ⊥)
+      → IfErr result (λ r. r.why ≢ why.Memory → Having held after d (λ s b. (last : H) → Takes after s b last → ⊥))
   finish_refused (Ok k) f = tt
   finish_refused (Err r) f = λ ne s b a last t. finish_never held after s d b r f ne a last t
 
   pub finish_same : (result : Result S Refusal) → Finished (and_then (standing held d) ended) held result
-      → IfErr result (λ r. r.why ≢ why.Memory → (s : Setting H) (b : List ℕ) → After held after d s b → answer_of after s b ≡ Err r)
+      → IfErr result (λ r. r.why ≢ why.Memory → Having held after d (λ s b. answer_of after s b ≡ Err r))
   finish_same (Ok k) f = tt
   finish_same (Err r) f = λ ne s b a. finish_answer held after s d b r f ne a
 
-  pub finish_within : (result : Result S Refusal) → Finished (and_then (standing held d) ended) held result → IfErr result (λ r. (s : Setting H) (b : List ℕ) → After held after d s b → r.at ≤ length b)
+  pub finish_within : (result : Result S Refusal) → Finished (and_then (standing held d) ended) held result → IfErr result (λ r. Having held after d (λ s b. r.at ≤ length b))
   finish_within (Ok k) f = tt
   finish_within (Err r) f = λ s b a. (finish_place held after s d b r f a).0
 
-  pub finish_header : (result : Result S Refusal) → Finished (and_then (standing held d) ended) held result → IfErr result (λ r. (s : Setting H) (b : List ℕ) → After held after d s b → length b ≤ 8 → r.why ≢ why.Memory)
+  pub finish_header : (result : Result S Refusal) → Finished (and_then (standing held d) ended) held result → IfErr result (λ r. Having held after d (λ s b. length b ≤ 8 → r.why ≢ why.Memory))
   finish_header (Ok k) f = tt
   finish_header (Err r) f = λ s b a few. (finish_place held after s d b r f a).1 few
 
   pub finish_float : (result : Result S Refusal) → Finished (and_then (standing held d) ended) held result
-      → IfErr result (λ r. r.why ≡ why.Float → NeverFloat after → (s : Setting H) (b : List ℕ) → After held after d s b → EndsInFloat b r)
+      → IfErr result (λ r. r.why ≡ why.Float → NeverFloat after → Having held after d (λ s b. EndsInFloat b r))
   finish_float (Ok k) f = tt
   finish_float (Err r) f = λ float none s b a. after_float held after s d b r (finish_stuck held after s d b r f (λ e. not_both (sym float ∙ e))) float none a
     where

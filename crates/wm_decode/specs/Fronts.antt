@@ -32,10 +32,12 @@ abbrev pub name_in : {S : Type 0} → Decoder S → List ℕ
 name_in d = d.name.items
 
 -- What a decoder that has refused nothing holds of the bytes so far.
-pub record SoFar {S H : Type 0} (held : S → H) (after : H → Part → Result H Why) (d : Decoder S) (s : Setting H) (bytes : List ℕ) : Type 0 where
+pub record SoFar {S H : Type 0} (held : S → H) (after : H → Part → Result H Why) (d : Decoder S) (s : Setting H)
+    (bytes : List ℕ) : Type 0 where
   pub marks : Marks
   pub front : IsFront s.profile bytes marks
   -- the marks are those of each whole input that begins so
-  pub begins : (more : List ℕ) (items : Marks) → Items s.profile (bytes ++ more) items → marks ≡ take (length bytes) items
+  pub begins : (more : List ℕ) (items : Marks) → Items s.profile (bytes ++ more) items
+      → marks ≡ take (length bytes) items
   pub taken : all_taken after s.first (parts_of marks) ≡ Ok (held_in held d)
   pub name : length (name_in d) ≡ unfinished_name marks

@@ -38,7 +38,8 @@ FunctionType = Then (Byte 0x60 (Some new_type)) (Then (Vector (ValueType param))
 -- imports (section 5.5.5)
 abbrev pub Import : Type 0 → Shape
 Import demanded =
-    Then (Name demanded (λ text. Some (import_module text))) (Then (Name demanded (λ text. Some (import_name text))) (Leaf SpellsDesc import_desc))
+    Then (Name demanded (λ text. Some (import_module text)))
+    (Then (Name demanded (λ text. Some (import_name text))) (Leaf SpellsDesc import_desc))
 
 -- how many lists of instructions these ops open, and how many they close
 abbrev pub opens : List Op → ℕ
@@ -148,7 +149,8 @@ Optional demanded p f id b k = Section demanded p f id b k ⊎ (MayMiss f id × 
 -- the sections from one id on, so many, in order, with custom sections before, between and after them
 abbrev pub Chain : Type 0 → Profile → (f count id : ℕ) → Shape
 Chain demanded p f zero id = Customs demanded
-Chain demanded p f (suc count) id = Then (Customs demanded) (Then (Optional demanded p f id) (Chain demanded p f count (suc id)))
+Chain demanded p f (suc count) id =
+    Then (Customs demanded) (Then (Optional demanded p f id) (Chain demanded p f count (suc id)))
 
 -- A module that has no section of an id above the last one here (section 5.5.15): the magic number and the version,
 -- and the sections. With 11 it is any module.

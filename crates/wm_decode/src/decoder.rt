@@ -4,7 +4,7 @@ ghost use Rattle.wm_decode.specs.declared.refusal.Refusal.{Refusal};
 ghost use Rattle.wm_decode.specs.Sinks.{all_taken, and_then};
 ghost use Rattle.wm_decode.specs.Parts.{Marks, parts_of};
 ghost use Rattle.wm_decode.specs.Grammar.{Items};
-ghost use Rattle.wm_decode.specs.Decoding.{After, EndsInFloat, NeverFloat, Refused, Setting, Takes, answer_of, has_refused, held_in};
+ghost use Rattle.wm_decode.specs.Decoding.{After, EndsInFloat, Having, NeverFloat, Refused, Takes, answer_of, has_refused, held_in};
 ghost use Rattle.wm_decode.specs.Fronts.{SoFar};
 ghost use Rattle.wm_decode.specs.Live.{IsAt, told, live_byte, decoded, IsRefused, standing, live_with, ByteTaken, ByteRefused, Fed, refusal_of, ended, Finished};
 
@@ -89,29 +89,25 @@ impl<S: Sink> Decoder<S> {
     /// Takes the next piece of the input, of any length. After a refusal every further piece is
     /// refused in the same way.
     pub fn feed(&mut self, piece: &[u8]) -> Result<(), Refusal>
-        ensures after { (s : Setting S.Held) (before : List ℕ) → After S.held S.after self.old s before
-            → After S.held S.after self.new s (before ++ piece.now) }
+        ensures after { Having S.held S.after self.old (λ s before. After S.held S.after self.new s (before ++ piece.now)) }
         // Of each input that begins with the bytes so far, the sink has taken just the parts that are complete in them.
-        ensures taken { OnOk result ((s : Setting S.Held) (before more : List ℕ) (items : Marks) → After S.held S.after self.old s before
+        ensures taken { OnOk result (Having S.held S.after self.old (λ s before. (more : List ℕ) (items : Marks)
             → Items s.profile ((before ++ piece.now) ++ more) items
-            → all_taken S.after s.first (parts_of (take (length (before ++ piece.now)) items)) ≡ Ok (held_in S.held self.new)) }
-        // The sink holds the parts that are complete in the bytes so far, whatever may come, and of the input the
-        // decoder keeps a name that goes on.
-        ensures so_far { OnOk result ((s : Setting S.Held) (before : List ℕ) → After S.held S.after self.old s before
-            → SoFar S.held S.after self.new s (before ++ piece.now)) }
+            → all_taken S.after s.first (parts_of (take (length (before ++ piece.now)) items)) ≡ Ok (held_in S.held self.new))) }
+        // The same whatever may come; and of the input the decoder keeps a name that goes on.
+        ensures so_far { OnOk result (Having S.held S.after self.old (λ s before. SoFar S.held S.after self.new s (before ++ piece.now))) }
         // No input that the sink takes begins with the bytes up to the place.
-        ensures refused { IfErr result (λ r. r.why ≢ Memory → (s : Setting S.Held) (before : List ℕ) → After S.held S.after self.old s before
-            → Refused S.after s (before ++ piece.now) r) }
+        ensures refused { IfErr result (λ r. r.why ≢ Memory
+            → Having S.held S.after self.old (λ s before. Refused S.after s (before ++ piece.now) r)) }
         // The joined bytes alone say which refusal it is, whatever comes after them.
-        ensures same { IfErr result (λ r. r.why ≢ Memory → (s : Setting S.Held) (before more : List ℕ) → After S.held S.after self.old s before
-            → answer_of S.after s ((before ++ piece.now) ++ more) ≡ Err r) }
-        ensures place { IfErr result (λ r. (s : Setting S.Held) (before : List ℕ) → After S.held S.after self.old s before
-            → r.at ≤ length (before ++ piece.now)) }
+        ensures same { IfErr result (λ r. r.why ≢ Memory
+            → Having S.held S.after self.old (λ s before. (more : List ℕ) → answer_of S.after s ((before ++ piece.now) ++ more) ≡ Err r)) }
+        ensures place { IfErr result (λ r. Having S.held S.after self.old (λ s before. r.at ≤ length (before ++ piece.now))) }
         // The header takes no memory.
-        ensures header { IfErr result (λ r. (s : Setting S.Held) (before : List ℕ) → After S.held S.after self.old s before
-            → length (before ++ piece.now) ≤ 8 → r.why ≢ Memory) }
-        ensures float { IfErr result (λ r. r.why ≡ Float → NeverFloat S.after → (s : Setting S.Held) (before : List ℕ) → After S.held S.after self.old s before
-            → EndsInFloat (before ++ piece.now) r) }
+        ensures header { IfErr result (λ r.
+            Having S.held S.after self.old (λ s before. length (before ++ piece.now) ≤ 8 → r.why ≢ Memory)) }
+        ensures float { IfErr result (λ r. r.why ≡ Float → NeverFloat S.after
+            → Having S.held S.after self.old (λ s before. EndsInFloat (before ++ piece.now) r)) }
         // After a refusal nothing changes, and the answer is the same.
         ensures sticky { (r : Refusal) → has_refused S.held self.old ≡ Some r → (result ≡ Err r) × (self.new ≡ self.old) }
         ensures refusal { MatchResult result (λ u. has_refused S.held self.new ≡ None) (λ r. has_refused S.held self.new ≡ Some r) }
@@ -121,17 +117,14 @@ impl<S: Sink> Decoder<S> {
 
     /// The sink, where the pieces together are a module. A refusal hands nothing back.
     pub fn finish(self) -> Result<S, Refusal>
-        ensures ok { IfOk result (λ sink. (s : Setting S.Held) (bytes : List ℕ) → After S.held S.after self s bytes
-            → Takes S.after s bytes (S.held sink)) }
-        ensures refused { IfErr result (λ r. r.why ≢ Memory → (s : Setting S.Held) (bytes : List ℕ) → After S.held S.after self s bytes
-            → (last : S.Held) → Takes S.after s bytes last → ⊥) }
-        ensures same { IfErr result (λ r. r.why ≢ Memory → (s : Setting S.Held) (bytes : List ℕ) → After S.held S.after self s bytes
-            → answer_of S.after s bytes ≡ Err r) }
-        ensures place { IfErr result (λ r. (s : Setting S.Held) (bytes : List ℕ) → After S.held S.after self s bytes → r.at ≤ length bytes) }
-        ensures header { IfErr result (λ r. (s : Setting S.Held) (bytes : List ℕ) → After S.held S.after self s bytes
-            → length bytes ≤ 8 → r.why ≢ Memory) }
-        ensures float { IfErr result (λ r. r.why ≡ Float → NeverFloat S.after → (s : Setting S.Held) (bytes : List ℕ) → After S.held S.after self s bytes
-            → EndsInFloat bytes r) }
+        ensures ok { IfOk result (λ sink. Having S.held S.after self (λ s bytes. Takes S.after s bytes (S.held sink))) }
+        ensures refused { IfErr result (λ r. r.why ≢ Memory
+            → Having S.held S.after self (λ s bytes. (last : S.Held) → Takes S.after s bytes last → ⊥)) }
+        ensures same { IfErr result (λ r. r.why ≢ Memory → Having S.held S.after self (λ s bytes. answer_of S.after s bytes ≡ Err r)) }
+        ensures place { IfErr result (λ r. Having S.held S.after self (λ s bytes. r.at ≤ length bytes)) }
+        ensures header { IfErr result (λ r. Having S.held S.after self (λ s bytes. length bytes ≤ 8 → r.why ≢ Memory)) }
+        ensures float { IfErr result (λ r. r.why ≡ Float → NeverFloat S.after
+            → Having S.held S.after self (λ s bytes. EndsInFloat bytes r)) }
         ensures sticky { (r : Refusal) → has_refused S.held self ≡ Some r → result ≡ Err r }
     {
         self.end()
