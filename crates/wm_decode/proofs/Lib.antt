@@ -14,3 +14,4 @@ pub mod Floats
 pub mod Calls
 pub mod Taking
 pub mod Fronts
+pub mod Stage

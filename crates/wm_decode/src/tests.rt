@@ -1,7 +1,7 @@
 ghost use Rattle.std.specs.Prelude.{◌≡◌, ◌<◌, Err, IfErr, Ok};
 ghost use Rattle.wm_syntax.specs.declared.why.Why.TheVariants.{Arity, Memory};
 
-use crate::{Decoder, Item, Machine, Refusal, Sink};
+use crate::{Decoder, Item, Machine, Refusal, Sink, laws};
 use std::alloc::Global;
 use std::test::Fail;
 use wm_syntax::profile::Profile;
@@ -248,5 +248,14 @@ fn the_machine_is_copied(rt: HostRuntime) -> Result<(), Fail> {
     let (first, second) = twice(Machine::Header(3));
     assert!(rt; matches!(first, Machine::Header(3)));
     assert!(rt; matches!(second, Machine::Header(3)));
+    Ok(())
+}
+
+#[test]
+fn laws_are_called(rt: HostRuntime) -> Result<(), Fail> {
+    laws::one_reading();
+    laws::read_is_module();
+    laws::slices_join::<Recorder>();
+    assert_eq!(rt; items_in(rt.alloc(), &[], 1), Ok(0));
     Ok(())
 }
