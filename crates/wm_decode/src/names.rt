@@ -39,7 +39,8 @@ pub(crate) fn end_name<S: Sink>(
     kind: NameKind,
     part: &[u8],
 ) -> Result<(), Why>
-    ensures given { Taken (name_taken S.after kind (buffer.old.items ++ part.now) (S.held sink.old)) result (S.held sink.new) }
+    ensures given { Taken (name_taken S.after kind (buffer.old.items ++ part.now) (S.held sink.old)) result
+        (S.held sink.new) }
     ensures empty { OnOk result (buffer.new.items ≡ []) }
 {
     if buffer.is_empty() {
