@@ -134,6 +134,7 @@ module _ {S H : Type 0} (held : S → H) (after : H → Part → Result H Why) (
       record {
         marks = marks begin b;
         front = is_front s.profile b a.are_bytes (subst (λ y. IsRefused y → ⊥) machine (r.live (λ i. i)));
+        alone = refl;
         begins = λ more items k. marks_of after s b more items a.are_bytes k;
         taken = sym (given_taken after (marks begin b) s.first) ∙ (r.held ∙ ap Ok (sym (ap (λ (y : Live H). y.held) same)));
         name = ap length name ∙ name_kept b;

@@ -6,6 +6,7 @@ use Rattle.wm_decode.specs.declared.state.Decoder.{Decoder}
 use Rattle.wm_decode.specs.Parts.{Part, Zone, name, Marks, parts_of}
 use Rattle.wm_decode.specs.Grammar.{Module, Items, loose, last_read}
 use Rattle.wm_decode.specs.Sinks.{all_taken}
+use Rattle.wm_decode.specs.Runs.{begin, marks as marks_of}
 use Rattle.wm_decode.specs.Decoding.{Setting, held_in}
 
 -- Some more bytes would make these a module, sizes and names aside.
@@ -36,7 +37,9 @@ pub record SoFar {S H : Type 0} (held : S → H) (after : H → Part → Result 
     (bytes : List ℕ) : Type 0 where
   pub marks : Marks
   pub front : IsFront s.profile bytes marks
-  -- the marks are those of each whole input that begins so
+  -- they are a function of the bytes alone
+  pub alone : marks ≡ marks_of begin bytes
+  -- and those of each whole input that begins so
   pub begins : (more : List ℕ) (items : Marks) → Items s.profile (bytes ++ more) items
       → marks ≡ take (length bytes) items
   pub taken : all_taken after s.first (parts_of marks) ≡ Ok (held_in held d)
