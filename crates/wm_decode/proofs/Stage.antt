@@ -1,9 +1,8 @@
 -- What is read so far is a module of the whole format.
-use Rattle.std.proofs.Common.{◌≡◌, ℕ, zero, suc, List, [], refl, sym, append-nil, inl, inr}
+use Rattle.std.proofs.Common.{ℕ, zero, suc, List, [], refl, sym, append-nil, inr}
 use Rattle.wm_syntax.specs.declared.profile.Profile.{Profile}
 use Rattle.wm_decode.specs.Parts.{Marks}
-use Rattle.wm_decode.specs.Shapes.{Then}
-use Rattle.wm_decode.specs.Grammar.{Customs, Optional, Chain, Module, Items, strict}
+use Rattle.wm_decode.specs.Grammar.{Customs, Chain, Module, Items, strict}
 use Rattle.wm_decode.proofs.Chains.{over, renumbered}
 use Rattle.wm_decode.proofs.Whole.{no_function}
 
