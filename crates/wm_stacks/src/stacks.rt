@@ -1,0 +1,322 @@
+//! The operands and the frames of a body, and how often something moved on them.
+
+ghost use Rattle.std.specs.Prelude.{◌≡◌, ◌≢◌, ℕ, ◌+◌, ◌^◌, ◌<◌, ◌≤◌, ◌⊎◌, ◌↔◌, IsTrue, List, [], ◌∷◌, Some, IfErr, OnErr, OnOk, MatchResult, false, drop, length, reverse, slice_get};
+ghost use Rattle.wm_stacks.specs.Stack.{above, bare, below, fits as fits_type, fitting, height_sum, is_unreachable, looks_of, marked_frames, moved};
+ghost use Rattle.wm_stacks.specs.Exact.{close, cut, first, looked, opened, popped, pushed, rest, take_all, take_any, take_one};
+
+use crate::entries::{Entry, Frame, Kind, Reach};
+use smallvec::SmallVec;
+use std::alloc::Global;
+use std::marker::Model;
+use wm_syntax::types::ValType;
+use wm_syntax::why::Why;
+
+/// The operands of a body that is being typed and the frames of its open blocks.
+///
+/// Contracts see two lists, the topmost first, and the count of moves: pushes and removals of
+/// operands and frames, and looks that find the floor of an unreachable frame.
+#[derive(Drop)]
+pub struct Stacks {
+    operands: SmallVec<Entry, 64>,
+    frames: SmallVec<Frame, 32>,
+    moves: u64,
+}
+
+impl Model for Stacks {
+    ghost use Rattle.std.specs.Prelude.{reverse, ◌≤◌};
+    ghost use Rattle.wm_stacks.specs.Stack.{Stack};
+
+    ghost Value = { Stack };
+
+    ghost view = { λ s. record { operands = reverse s.operands.items; frames = reverse s.frames.items; moves = s.moves } };
+
+    ghost invariant = { λ s. (64 ≤ s.operands.capacity) × (32 ≤ s.frames.capacity) };
+}
+
+impl Stacks {
+    /// Both stacks empty, and no move made.
+    pub fn new(alloc: Global) -> Self
+        ensures { result ≡ bare }
+    {
+        Stacks {
+            operands: SmallVec::new(alloc),
+            frames: SmallVec::new(alloc),
+            moves: 0,
+        }
+    }
+
+    /// Empties both stacks and forgets the moves; what they took of memory stays theirs.
+    pub fn clear(&mut self)
+        ensures { self.new ≡ bare }
+    {
+        self.operands.clear();
+        self.frames.clear();
+        self.moves = 0;
+    }
+
+    /// How many operands and how many frames stand.
+    pub fn heights(&self) -> (usize, usize)
+        ensures operands { result.0 ≡ length self.now.operands }
+        ensures frames { result.1 ≡ length self.now.frames }
+    {
+        (self.operands.len(), self.frames.len())
+    }
+
+    /// The moves since `new` or `clear`; the count stays at 2^64 - 1 once there.
+    pub fn moves(&self) -> u64
+        ensures { result ≡ self.now.moves }
+    {
+        self.moves
+    }
+
+    /// The frame that a label names (section 3.3.5): 0 is the innermost, None is past the outermost.
+    pub fn label(&self, depth: u32) -> Option<Frame>
+        ensures { result ≡ slice_get self.now.frames depth }
+    {
+        let frames = self.frames.as_slice();
+        let depth = depth as usize;
+        if depth < frames.len() {
+            Some(frames[frames.len() - 1 - depth])
+        } else {
+            None
+        }
+    }
+
+    /// Puts an operand on top: one move. `Memory` leaves everything as it was.
+    pub fn push(&mut self, entry: Entry) -> Result<(), Why>
+        requires open { 0 < length self.old.frames }
+        requires bounded { height_sum self.old < 2 ^ 63 }
+        ensures operands { OnOk result (self.new.operands ≡ entry ∷ self.old.operands) }
+        ensures frames { self.new.frames ≡ self.old.frames }
+        ensures moves { OnOk result (self.new.moves ≡ moved 1 self.old.moves) }
+        ensures err { IfErr result (λ why. (why ≡ Why.Memory) × (self.new ≡ self.old)) }
+        ensures succeeds { OnErr result (64 ≤ length self.old.operands) }
+        ensures exact { OnOk result (self.new ≡ pushed entry self.old) }
+    {
+        match self.operands.push(entry) {
+            Ok(()) => {
+                self.tick();
+                Ok(())
+            }
+            Err(_) => Err(Why::Memory),
+        }
+    }
+
+    /// Opens a reachable frame with this result, its floor the present height: one move. `Memory`
+    /// leaves everything as it was.
+    pub fn open(&mut self, kind: Kind, result_type: Option<ValType>) -> Result<(), Why>
+        requires { height_sum self.old < 2 ^ 63 }
+        ensures operands { self.new.operands ≡ self.old.operands }
+        ensures frames { OnOk result (self.new.frames
+            ≡ record { kind = kind; result = result_type; floor = length self.old.operands; unreachable = false } ∷ self.old.frames) }
+        ensures moves { OnOk result (self.new.moves ≡ moved 1 self.old.moves) }
+        ensures err { IfErr result (λ why. (why ≡ Why.Memory) × (self.new ≡ self.old)) }
+        ensures succeeds { OnErr result (32 ≤ length self.old.frames) }
+        ensures exact { OnOk result (self.new ≡ opened kind result_type self.old) }
+    {
+        let frame = Frame {
+            kind,
+            result: result_type,
+            floor: self.operands.len(),
+            unreachable: false,
+        };
+        match self.frames.push(frame) {
+            Ok(()) => {
+                self.tick();
+                Ok(())
+            }
+            Err(_) => Err(Why::Memory),
+        }
+    }
+
+    /// Removes an operand for each expected type, the last one from the top: one move each.
+    ///
+    /// At an entry of another type it is refused (`Mismatch`). At the floor with types left it is
+    /// refused (`Arity`), unless the frame is unreachable: then it looks once, one move, and stops
+    /// there, whatever is left. What was removed before a refusal stays removed.
+    pub fn take(&mut self, expected: &[ValType]) -> Result<Reach, Why>
+        requires { 0 < length self.old.frames }
+        ensures operands { self.new.operands
+            ≡ drop (fitting (above self.old) (reverse expected.now)) self.old.operands }
+        ensures frames { self.new.frames ≡ self.old.frames }
+        ensures moves { self.new.moves
+            ≡ moved (fitting (above self.old) (reverse expected.now) + looks_of result) self.old.moves }
+
+        // Whole where every type was fitted. Else an entry that does not fit is refused, and at the
+        // floor it depends on the frame.
+        ensures whole { (result ≡ Ok Reach.Whole) ↔ (fitting (above self.old) (reverse expected.now) ≡ length expected.now) }
+        ensures mismatch { (result ≡ Err Why.Mismatch)
+            ↔ ((fitting (above self.old) (reverse expected.now) < length expected.now)
+            × (fitting (above self.old) (reverse expected.now) < length (above self.old))) }
+        ensures floor { (result ≡ Ok Reach.Floor)
+            ↔ ((fitting (above self.old) (reverse expected.now) < length expected.now)
+            × (fitting (above self.old) (reverse expected.now) ≡ length (above self.old))
+            × IsTrue (is_unreachable self.old.frames)) }
+        ensures arity { (result ≡ Err Why.Arity)
+            ↔ ((fitting (above self.old) (reverse expected.now) < length expected.now)
+            × (fitting (above self.old) (reverse expected.now) ≡ length (above self.old))
+            × (is_unreachable self.old.frames ≡ false)) }
+        ensures refusals { IfErr result (λ why. (why ≡ Why.Mismatch) ⊎ (why ≡ Why.Arity)) }
+        ensures fewer { length self.new.operands ≤ length self.old.operands }
+        ensures exact_answer { result ≡ (take_all (reverse expected.now) self.old).0 }
+        ensures exact_after { self.new ≡ (take_all (reverse expected.now) self.old).1 }
+    {
+        self.take_each(expected)
+    }
+
+    fn take_each(&mut self, expected: &[ValType]) -> Result<Reach, Why>
+        requires { 0 < length self.old.frames }
+        ensures exact_answer { result ≡ (take_all (reverse expected.now) self.old).0 }
+        ensures exact_after { self.new ≡ (take_all (reverse expected.now) self.old).1 }
+    {
+        let mut left = expected.len();
+        while left > 0 {
+            left -= 1;
+            match self.take_one(expected[left])? {
+                Reach::Whole => {}
+                Reach::Floor => return Ok(Reach::Floor),
+            }
+        }
+        Ok(Reach::Whole)
+    }
+
+    fn take_one(&mut self, expected: ValType) -> Result<Reach, Why>
+        requires { 0 < length self.old.frames }
+        ensures answer { result ≡ (take_one expected self.old).0 }
+        ensures after { self.new ≡ (take_one expected self.old).1 }
+        ensures frames { self.new.frames ≡ self.old.frames }
+    {
+        let frame = self.innermost();
+        match self.top() {
+            Some(entry) if frame.floor < self.operands.len() => {
+                if fits(entry, expected) {
+                    self.pop();
+                    Ok(Reach::Whole)
+                } else {
+                    Err(Why::Mismatch)
+                }
+            }
+            _ => {
+                if frame.unreachable {
+                    self.tick();
+                    Ok(Reach::Floor)
+                } else {
+                    Err(Why::Arity)
+                }
+            }
+        }
+    }
+
+    /// Removes the top operand, whatever it is: one move. At the floor it is refused (`Arity`),
+    /// unless the frame is unreachable: then it looks once, one move, and gives `Unknown`.
+    pub fn take_any(&mut self) -> Result<Entry, Why>
+        requires { 0 < length self.old.frames }
+        ensures top { (e : Entry) (es : List Entry) → above self.old ≡ e ∷ es
+            → (result ≡ Ok e) × (self.new.operands ≡ drop 1 self.old.operands) }
+        ensures unknown { above self.old ≡ [] → IsTrue (is_unreachable self.old.frames)
+            → (result ≡ Ok Entry.Unknown) × (self.new.operands ≡ self.old.operands) }
+        ensures arity { above self.old ≡ [] → is_unreachable self.old.frames ≡ false
+            → (result ≡ Err Why.Arity) × (self.new ≡ self.old) }
+        ensures frames { self.new.frames ≡ self.old.frames }
+        ensures moves { OnOk result (self.new.moves ≡ moved 1 self.old.moves) }
+        ensures fewer { length self.new.operands ≤ length self.old.operands }
+        ensures refusals { IfErr result (λ why. why ≡ Why.Arity) }
+        ensures exact_answer { result ≡ (take_any self.old).0 }
+        ensures exact_after { self.new ≡ (take_any self.old).1 }
+    {
+        let frame = self.innermost();
+        match self.top() {
+            Some(entry) if frame.floor < self.operands.len() => {
+                self.pop();
+                Ok(entry)
+            }
+            _ => {
+                if frame.unreachable {
+                    self.tick();
+                    Ok(Entry::Unknown)
+                } else {
+                    Err(Why::Arity)
+                }
+            }
+        }
+    }
+
+    /// Removes the operands above the innermost frame's floor, one move each, and marks the frame as
+    /// unreachable.
+    pub fn cut_to_floor(&mut self)
+        requires { 0 < length self.old.frames }
+        ensures operands { self.new.operands ≡ below self.old }
+        ensures frames { self.new.frames ≡ marked_frames self.old.frames }
+        ensures moves { self.new.moves ≡ moved (length (above self.old)) self.old.moves }
+        ensures exact { self.new ≡ cut self.old }
+    {
+        let floor = self.innermost().floor;
+        let height = self.operands.len();
+        self.operands.truncate(floor);
+        self.moves = self.moves.saturating_add(height.saturating_sub(floor) as u64);
+        let last = self.frames.len() - 1;
+        let frame = &mut self.frames.as_mut_slice()[last];
+        frame.unreachable = true;
+    }
+
+    /// Removes the innermost frame: one move. `Arity` where operands stand above its floor, and then
+    /// everything is as it was.
+    pub fn close(&mut self) -> Result<Frame, Why>
+        requires { 0 < length self.old.frames }
+        ensures operands { self.new.operands ≡ self.old.operands }
+        ensures ok { above self.old ≡ [] → MatchResult result (λ frame. self.old.frames ≡ frame ∷ self.new.frames) (λ _. ⊥) }
+        ensures leftover { above self.old ≢ [] → result ≡ Err Why.Arity }
+        ensures moves { OnOk result (self.new.moves ≡ moved 1 self.old.moves) }
+        ensures err { IfErr result (λ why. (why ≡ Why.Arity) × (self.new ≡ self.old)) }
+        ensures exact_answer { result ≡ (close self.old).0 }
+        ensures exact_after { self.new ≡ (close self.old).1 }
+    {
+        let frame = self.innermost();
+        if frame.floor < self.operands.len() {
+            return Err(Why::Arity);
+        }
+        self.frames.pop();
+        self.tick();
+        Ok(frame)
+    }
+
+    fn innermost(&self) -> Frame
+        requires { 0 < length self.now.frames }
+        ensures { Some result ≡ first self.now.frames }
+    {
+        let frames = self.frames.as_slice();
+        frames[frames.len() - 1]
+    }
+
+    fn top(&self) -> Option<Entry>
+        ensures { result ≡ first self.now.operands }
+    {
+        self.operands.as_slice().last().copied()
+    }
+
+    // Takes the top operand away.
+    fn pop(&mut self)
+        ensures { self.new ≡ popped (rest self.old.operands) self.old }
+    {
+        self.operands.pop();
+        self.tick();
+    }
+
+    // Counts one move.
+    fn tick(&mut self)
+        ensures { self.new ≡ looked self.old }
+    {
+        self.moves = self.moves.saturating_add(1);
+    }
+}
+
+fn fits(entry: Entry, expected: ValType) -> bool
+    ensures { result ≡ fits_type entry expected }
+{
+    match (entry, expected) {
+        (Entry::Unknown, _) => true,
+        (Entry::I32, ValType::I32) => true,
+        (Entry::I64, ValType::I64) => true,
+        _ => false,
+    }
+}
