@@ -1,7 +1,7 @@
 -- What each call does, as a function of the two lists and the count, refusals included. These follow
 -- the code step by step, for the layers above, whose answers are functions of what they were given.
 -- No promise rests on them alone: the words of a call's other clauses are in Stack.
-use Rattle.std.specs.Prelude.{ℕ, ◌+◌, ◌-◌, ◌^◌, ◌≡◌, Bool, true, false, List, [], ◌∷◌, Option, Some, None, Result, Ok, Err, length, min, nat_le, nat_lt, if◌then◌else◌}
+use Rattle.std.specs.Prelude.{ℕ, Bool, true, false, List, [], ◌∷◌, Option, Some, None, Result, Ok, Err, length, nat_le, nat_lt, if◌then◌else◌}
 use Rattle.wm_syntax.specs.declared.types.ValType.{ValType}
 use Rattle.wm_syntax.specs.declared.why.Why.{Why}
 use Rattle.wm_syntax.specs.declared.why.Why.TheVariants.{Mismatch, Arity, Memory}
@@ -11,7 +11,7 @@ use Rattle.wm_stacks.specs.declared.entries.Kind.{Kind}
 use Rattle.wm_stacks.specs.declared.entries.Frame.{Frame}
 use Rattle.wm_stacks.specs.declared.entries.Reach.{Reach}
 use Rattle.wm_stacks.specs.declared.entries.Reach.TheVariants.{Whole, Floor}
-use Rattle.wm_stacks.specs.Stack.{Stack, fits}
+use Rattle.wm_stacks.specs.Stack.{Stack, fits, marked_frames, moved}
 
 -- the first element, and those behind it
 abbrev pub first : {A : Type 0} → List A → Option A
@@ -22,9 +22,9 @@ abbrev pub rest : {A : Type 0} → List A → List A
 rest [] = []
 rest (x ∷ xs) = xs
 
--- one move more; the count stays at its greatest value
+-- one move more
 abbrev pub ticked : ℕ → ℕ
-ticked n = min (n + 1) (2 ^ 64 - 1)
+ticked n = moved 1 n
 
 abbrev pub pushed : Entry → Stack → Stack
 pushed e s = record s { operands = e ∷ s.operands; moves = ticked s.moves }
@@ -82,6 +82,10 @@ take_all (t ∷ ts) s = goes_on (take_one t s) (take_all ts)
 abbrev pub down_to : ℕ → List Entry → ℕ → List Entry × ℕ
 down_to floor [] m = ([], m)
 down_to floor (e ∷ es) m = if nat_le floor (length es) then down_to floor es (ticked m) else (e ∷ es, m)
+
+-- the stacks with the innermost frame marked as unreachable
+abbrev pub marked : Stack → Stack
+marked s = record s { frames = marked_frames s.frames }
 
 abbrev pub cut_at : List Frame → Stack → Stack
 cut_at [] s = s

@@ -24,9 +24,9 @@ bare = record { operands = []; frames = []; moves = 0 }
 abbrev pub height_sum : Stack → ℕ
 height_sum s = length s.operands + length s.frames
 
--- the count of moves after n more: it stays at its greatest value
+-- the count after n more moves, or as many of them as there is room for below 2 ^ 64
 abbrev pub moved : ℕ → ℕ → ℕ
-moved n moves = min (moves + n) (2 ^ 64 - 1)
+moved n moves = moves + min n (2 ^ 64 - 1 - moves)
 
 -- the floor of the innermost frame, and whether it is unreachable
 abbrev pub floor_of : List Frame → ℕ

@@ -1,8 +1,8 @@
 //! The operands and the frames of a body, and how often something moved on them.
 
-ghost use Rattle.std.specs.Prelude.{◌≡◌, ◌≢◌, ℕ, ◌+◌, ◌^◌, ◌<◌, ◌≤◌, ◌⊎◌, ◌↔◌, IsTrue, List, [], ◌∷◌, Some, IfErr, OnErr, OnOk, MatchResult, false, drop, length, reverse, slice_get};
+ghost use Rattle.std.specs.Prelude.{◌≡◌, ◌≢◌, ℕ, ◌+◌, ◌-◌, ◌^◌, ◌<◌, ◌≤◌, ◌⊎◌, ◌↔◌, IsTrue, List, [], ◌∷◌, Some, IfErr, OnErr, OnOk, MatchResult, false, drop, length, reverse, slice_get};
 ghost use Rattle.wm_stacks.specs.Stack.{above, bare, below, fits as fits_type, fitting, height_sum, is_unreachable, looks_of, marked_frames, moved};
-ghost use Rattle.wm_stacks.specs.Exact.{close, cut, first, looked, opened, popped, pushed, rest, take_all, take_any, take_one};
+ghost use Rattle.wm_stacks.specs.Exact.{close, cut, first, looked, marked, opened, popped, pushed, rest, take_all, take_any, take_one};
 
 use crate::entries::{Entry, Frame, Kind, Reach};
 use smallvec::SmallVec;
@@ -251,9 +251,26 @@ impl Stacks {
         ensures exact { self.new ≡ cut self.old }
     {
         let floor = self.innermost().floor;
-        let height = self.operands.len();
-        self.operands.truncate(floor);
-        self.moves = self.moves.saturating_add(height.saturating_sub(floor) as u64);
+        self.truncate(floor);
+        self.mark();
+    }
+
+    // Removes the operands above a height.
+    fn truncate(&mut self, height: usize)
+        ensures operands { self.new.operands ≡ drop (length self.old.operands - height) self.old.operands }
+        ensures frames { self.new.frames ≡ self.old.frames }
+        ensures moves { self.new.moves ≡ moved (length self.old.operands - height) self.old.moves }
+    {
+        let removed = self.operands.len().saturating_sub(height);
+        self.operands.truncate(height);
+        self.moves = self.moves.saturating_add(removed as u64);
+    }
+
+    // Marks the innermost frame as unreachable.
+    fn mark(&mut self)
+        requires { 0 < length self.old.frames }
+        ensures { self.new ≡ marked self.old }
+    {
         let last = self.frames.len() - 1;
         let frame = &mut self.frames.as_mut_slice()[last];
         frame.unreachable = true;
