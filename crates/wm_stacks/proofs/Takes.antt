@@ -1,16 +1,16 @@
 -- What a take removes and answers, by how many of the entries above the floor fit.
-use Rattle.std.proofs.Common.{ℕ, zero, suc, ◌≡◌, ◌+◌, ◌-◌, ◌<◌, ◌≤◌, ◌^◌, Bool, true, false, cond, List, [], ◌∷◌, Result, Ok, Err, length, take, drop, nat_le, nat_lt, nat_eq, ◌↔◌, ◌⊎◌, inl, inr, IsTrue, IfErr, sym, refl, ap, ◌∙◌, subst, add-one, arith, if◌then◌else◌}
+use Rattle.std.proofs.Common.{ℕ, zero, suc, ◌≡◌, ◌+◌, ◌-◌, ◌<◌, ◌≤◌, Bool, true, false, cond, List, [], ◌∷◌, Result, Ok, Err, length, take, drop, nat_le, nat_lt, nat_eq, ◌↔◌, ◌⊎◌, inl, inr, IsTrue, IfErr, sym, refl, ap, ◌∙◌, subst, add-one, arith, if◌then◌else◌}
 use Rattle.std.proofs.lemmas.Bool.Decides.{nat_tests}
 use Rattle.wm_syntax.specs.declared.types.ValType.{ValType}
 use Rattle.wm_syntax.specs.declared.why.Why.{Why}
 use Rattle.wm_syntax.specs.declared.why.Why.TheVariants.{Mismatch, Arity}
-use Rattle.wm_stacks.proofs.Cuts.{le_of_test, lt_of_test, moved_tick, moved_none}
+use Rattle.wm_stacks.proofs.Cuts.{le_of_test, lt_of_test, moved_none}
 use Rattle.wm_stacks.specs.declared.entries.Entry.{Entry}
 use Rattle.wm_stacks.specs.declared.entries.Frame.{Frame}
 use Rattle.wm_stacks.specs.declared.entries.Reach.{Reach}
 use Rattle.wm_stacks.specs.declared.entries.Reach.TheVariants.{Whole, Floor}
-use Rattle.wm_stacks.specs.Stack.{Stack, fits, fitting, looks_of, moved, floor_of, is_unreachable, above}
-use Rattle.wm_stacks.specs.Exact.{ticked, looked, popped, at_floor, takes, take_above, in_frame, take_one, goes_on, take_all}
+use Rattle.wm_stacks.specs.Stack.{Stack, fits, fitting, looks_of, moved, is_unreachable, above}
+use Rattle.wm_stacks.specs.Exact.{ticked, at_floor, takes, goes_on, take_all}
 
 -- the answer, where n entries of the h above the floor fit the first n of w types
 abbrev pub answer_of : (n w h : ℕ) → Bool → Result Reach Why

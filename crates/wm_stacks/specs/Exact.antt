@@ -4,7 +4,7 @@
 use Rattle.std.specs.Prelude.{ℕ, Bool, true, false, List, [], ◌∷◌, Option, Some, None, Result, Ok, Err, length, nat_le, nat_lt, if◌then◌else◌}
 use Rattle.wm_syntax.specs.declared.types.ValType.{ValType}
 use Rattle.wm_syntax.specs.declared.why.Why.{Why}
-use Rattle.wm_syntax.specs.declared.why.Why.TheVariants.{Mismatch, Arity, Memory}
+use Rattle.wm_syntax.specs.declared.why.Why.TheVariants.{Mismatch, Arity}
 use Rattle.wm_stacks.specs.declared.entries.Entry.{Entry}
 use Rattle.wm_stacks.specs.declared.entries.Entry.TheVariants.{Unknown}
 use Rattle.wm_stacks.specs.declared.entries.Kind.{Kind}

@@ -1,2 +1,4 @@
-pub mod Stack
 pub mod Exact
+pub mod ExactRuns
+pub mod Runs
+pub mod Stack

@@ -3,4 +3,5 @@
 #![tactic(auto)]
 
 pub mod entries;
+pub mod run_table;
 pub mod stacks;
