@@ -4,8 +4,8 @@ use Rattle.std.proofs.lemmas.List.{reverse-append, length-reverse}
 use Rattle.std.proofs.lemmas.Bool.Decides.{nat_tests}
 use Rattle.wm_stacks.specs.declared.entries.Entry.{Entry}
 use Rattle.wm_stacks.specs.declared.entries.Frame.{Frame}
-use Rattle.wm_stacks.specs.Stack.{Stack, moved}
-use Rattle.wm_stacks.specs.Exact.{first, ticked, down_to, marked, cut, cut_at}
+use Rattle.wm_stacks.specs.Stack.{Stack, floor_of, moved}
+use Rattle.wm_stacks.specs.Exact.{ticked, down_to, marked, cut, cut_at}
 
 drop-append : {A : Type 0} → (xs ys : List A) → drop (length xs) (xs ++ ys) ≡ ys
 drop-append [] ys = refl
@@ -62,16 +62,15 @@ down_stop floor es m h =
     let k : length es - floor ≡ 0 = omega arith in
     down_law floor es m ∙ rw k (ap (λ (z : ℕ). (es, z)) (sym (moved_none m)))
 
-cut_so_at : (gs : List Frame) (f : Frame) (ops : List Entry) (m : ℕ) (z : Stack) → Some f ≡ first gs → z.operands ≡ drop (length ops - f.floor) ops
-    → z.frames ≡ gs → z.moves ≡ moved (length ops - f.floor) m → marked z ≡ cut_at gs (record { operands = ops; frames = gs; moves = m })
-cut_so_at [] f ops m z e o k v = cc
-cut_so_at (g ∷ gs) f ops m z e o k v =
-    let same : f ≡ g = cc in
-    let o' : z.operands ≡ drop (length ops - g.floor) ops = subst (λ (x : Frame). z.operands ≡ drop (length ops - x.floor) ops) same o in
-    let v' : z.moves ≡ moved (length ops - g.floor) m = subst (λ (x : Frame). z.moves ≡ moved (length ops - x.floor) m) same v in
+cut_so_at : (gs : List Frame) (floor : ℕ) (ops : List Entry) (m : ℕ) (z : Stack) → 0 < length gs → floor ≡ floor_of gs → z.operands ≡ drop (length ops - floor) ops
+    → z.frames ≡ gs → z.moves ≡ moved (length ops - floor) m → marked z ≡ cut_at gs (record { operands = ops; frames = gs; moves = m })
+cut_so_at [] floor ops m z h e o k v = absurd (omega (arith, h))
+cut_so_at (g ∷ gs) floor ops m z h e o k v =
+    let o' : z.operands ≡ drop (length ops - g.floor) ops = subst (λ (x : ℕ). z.operands ≡ drop (length ops - x) ops) e o in
+    let v' : z.moves ≡ moved (length ops - g.floor) m = subst (λ (x : ℕ). z.moves ≡ moved (length ops - x) m) e v in
     rw (o', k, v', down_law g.floor ops m) refl
 
--- z has lost the operands above the floor of f, the innermost frame of s: marked, it is s after the cut
-pub cut_so : (f : Frame) (s z : Stack) → Some f ≡ first s.frames → z.operands ≡ drop (length s.operands - f.floor) s.operands
-    → z.frames ≡ s.frames → z.moves ≡ moved (length s.operands - f.floor) s.moves → marked z ≡ cut s
-cut_so f s z e o k v = cut_so_at s.frames f s.operands s.moves z e o k v
+-- z has lost the operands above the floor of the innermost frame of s: marked, it is s after the cut
+pub cut_so : (floor : ℕ) (s z : Stack) → 0 < length s.frames → floor ≡ floor_of s.frames → z.operands ≡ drop (length s.operands - floor) s.operands
+    → z.frames ≡ s.frames → z.moves ≡ moved (length s.operands - floor) s.moves → marked z ≡ cut s
+cut_so floor s z h e o k v = cut_so_at s.frames floor s.operands s.moves z h e o k v

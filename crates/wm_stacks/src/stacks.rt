@@ -1,8 +1,8 @@
 //! The operands and the frames of a body, and how often something moved on them.
 
-ghost use Rattle.std.specs.Prelude.{◌≡◌, ◌≢◌, ℕ, ◌+◌, ◌-◌, ◌^◌, ◌<◌, ◌≤◌, ◌⊎◌, ◌↔◌, IsTrue, List, [], ◌∷◌, Some, IfErr, OnErr, OnOk, MatchResult, false, drop, length, reverse, slice_get};
-ghost use Rattle.wm_stacks.specs.Stack.{above, bare, below, fits as fits_type, fitting, height_sum, is_unreachable, looks_of, marked_frames, moved};
-ghost use Rattle.wm_stacks.specs.Exact.{close, cut, first, looked, marked, opened, popped, pushed, rest, take_all, take_any, take_one};
+ghost use Rattle.std.specs.Prelude.{◌≡◌, ◌≢◌, ℕ, ◌+◌, ◌-◌, ◌^◌, ◌<◌, ◌≤◌, ◌⊎◌, ◌↔◌, IsTrue, List, [], ◌∷◌, Some, IfErr, OnErr, OnOk, MatchOption, MatchResult, false, drop, length, reverse, slice_get};
+ghost use Rattle.wm_stacks.specs.Stack.{above, bare, below, fits as fits_type, fitting, floor_of, height_sum, is_unreachable, looks_of, marked_frames, moved};
+ghost use Rattle.wm_stacks.specs.Exact.{at_floor, close, cut, first, looked, marked, opened, popped, pushed, rest, take_all, take_any, take_one};
 
 use crate::entries::{Entry, Frame, Kind, Reach};
 use smallvec::SmallVec;
@@ -19,18 +19,22 @@ use wm_syntax::why::Why;
 pub struct Stacks {
     operands: SmallVec<Entry, 64>,
     frames: SmallVec<Frame, 32>,
+    // These two are those of the innermost frame, so that a take reads no frame.
+    floor: usize,
+    unreachable: bool,
     moves: u64,
 }
 
 impl Model for Stacks {
-    ghost use Rattle.std.specs.Prelude.{reverse, ◌≤◌};
-    ghost use Rattle.wm_stacks.specs.Stack.{Stack};
+    ghost use Rattle.std.specs.Prelude.{reverse, ◌≡◌, ◌≤◌};
+    ghost use Rattle.wm_stacks.specs.Stack.{Stack, floor_of, is_unreachable};
 
     ghost Value = { Stack };
 
     ghost view = { λ s. record { operands = reverse s.operands.items; frames = reverse s.frames.items; moves = s.moves } };
 
-    ghost invariant = { λ s. (64 ≤ s.operands.capacity) × (32 ≤ s.frames.capacity) };
+    ghost invariant = { λ s. (64 ≤ s.operands.capacity) × (32 ≤ s.frames.capacity)
+        × (s.floor ≡ floor_of (reverse s.frames.items)) × (s.unreachable ≡ is_unreachable (reverse s.frames.items)) };
 }
 
 impl Stacks {
@@ -41,6 +45,8 @@ impl Stacks {
         Stacks {
             operands: SmallVec::new(alloc),
             frames: SmallVec::new(alloc),
+            floor: 0,
+            unreachable: false,
             moves: 0,
         }
     }
@@ -51,6 +57,8 @@ impl Stacks {
     {
         self.operands.clear();
         self.frames.clear();
+        self.floor = 0;
+        self.unreachable = false;
         self.moves = 0;
     }
 
@@ -93,13 +101,11 @@ impl Stacks {
         ensures succeeds { OnErr result (64 ≤ length self.old.operands) }
         ensures exact { OnOk result (self.new ≡ pushed entry self.old) }
     {
-        match self.operands.push(entry) {
-            Ok(()) => {
-                self.tick();
-                Ok(())
-            }
-            Err(_) => Err(Why::Memory),
-        }
+        let Ok(()) = self.operands.push(entry) else {
+            return Err(Why::Memory);
+        };
+        self.tick();
+        Ok(())
     }
 
     /// Opens a reachable frame with this result, its floor the present height: one move. `Memory`
@@ -114,19 +120,20 @@ impl Stacks {
         ensures succeeds { OnErr result (32 ≤ length self.old.frames) }
         ensures exact { OnOk result (self.new ≡ opened kind result_type self.old) }
     {
+        let floor = self.operands.len();
         let frame = Frame {
             kind,
             result: result_type,
-            floor: self.operands.len(),
+            floor,
             unreachable: false,
         };
-        match self.frames.push(frame) {
-            Ok(()) => {
-                self.tick();
-                Ok(())
-            }
-            Err(_) => Err(Why::Memory),
-        }
+        let Ok(()) = self.frames.push(frame) else {
+            return Err(Why::Memory);
+        };
+        self.floor = floor;
+        self.unreachable = false;
+        self.tick();
+        Ok(())
     }
 
     /// Removes an operand for each expected type, the last one from the top: one move each.
@@ -161,13 +168,26 @@ impl Stacks {
         ensures exact_answer { result ≡ (take_all (reverse expected.now) self.old).0 }
         ensures exact_after { self.new ≡ (take_all (reverse expected.now) self.old).1 }
     {
-        self.take_each(expected)
+        self.take_exactly(expected)
+    }
+
+    // Most instructions take one operand or two.
+    fn take_exactly(&mut self, expected: &[ValType]) -> Result<Reach, Why>
+        requires { 0 < length self.old.frames }
+        ensures answer { result ≡ (take_all (reverse expected.now) self.old).0 }
+        ensures after { self.new ≡ (take_all (reverse expected.now) self.old).1 }
+    {
+        match expected {
+            [] => Ok(Reach::Whole),
+            [only] => self.take_one(*only),
+            _ => self.take_each(expected),
+        }
     }
 
     fn take_each(&mut self, expected: &[ValType]) -> Result<Reach, Why>
         requires { 0 < length self.old.frames }
-        ensures exact_answer { result ≡ (take_all (reverse expected.now) self.old).0 }
-        ensures exact_after { self.new ≡ (take_all (reverse expected.now) self.old).1 }
+        ensures answer { result ≡ (take_all (reverse expected.now) self.old).0 }
+        ensures after { self.new ≡ (take_all (reverse expected.now) self.old).1 }
     {
         let mut left = expected.len();
         while left > 0 {
@@ -186,25 +206,14 @@ impl Stacks {
         ensures after { self.new ≡ (take_one expected self.old).1 }
         ensures frames { self.new.frames ≡ self.old.frames }
     {
-        let frame = self.innermost();
-        match self.top() {
-            Some(entry) if frame.floor < self.operands.len() => {
-                if fits(entry, expected) {
-                    self.pop();
-                    Ok(Reach::Whole)
-                } else {
-                    Err(Why::Mismatch)
-                }
-            }
-            _ => {
-                if frame.unreachable {
-                    self.tick();
-                    Ok(Reach::Floor)
-                } else {
-                    Err(Why::Arity)
-                }
-            }
+        let Some(entry) = self.top() else {
+            return self.look();
+        };
+        if !fits(entry, expected) {
+            return Err(Why::Mismatch);
         }
+        self.pop();
+        Ok(Reach::Whole)
     }
 
     /// Removes the top operand, whatever it is: one move. At the floor it is refused (`Arity`),
@@ -224,21 +233,12 @@ impl Stacks {
         ensures exact_answer { result ≡ (take_any self.old).0 }
         ensures exact_after { self.new ≡ (take_any self.old).1 }
     {
-        let frame = self.innermost();
-        match self.top() {
-            Some(entry) if frame.floor < self.operands.len() => {
-                self.pop();
-                Ok(entry)
-            }
-            _ => {
-                if frame.unreachable {
-                    self.tick();
-                    Ok(Entry::Unknown)
-                } else {
-                    Err(Why::Arity)
-                }
-            }
-        }
+        let Some(entry) = self.top() else {
+            self.look()?;
+            return Ok(Entry::Unknown);
+        };
+        self.pop();
+        Ok(entry)
     }
 
     /// Removes the operands above the innermost frame's floor, one move each, and marks the frame as
@@ -250,7 +250,7 @@ impl Stacks {
         ensures moves { self.new.moves ≡ moved (length (above self.old)) self.old.moves }
         ensures exact { self.new ≡ cut self.old }
     {
-        let floor = self.innermost().floor;
+        let floor = self.floor;
         self.truncate(floor);
         self.mark();
     }
@@ -274,6 +274,7 @@ impl Stacks {
         let last = self.frames.len() - 1;
         let frame = &mut self.frames.as_mut_slice()[last];
         frame.unreachable = true;
+        self.unreachable = true;
     }
 
     /// Removes the innermost frame: one move. `Arity` where operands stand above its floor, and then
@@ -288,27 +289,39 @@ impl Stacks {
         ensures exact_answer { result ≡ (close self.old).0 }
         ensures exact_after { self.new ≡ (close self.old).1 }
     {
-        let frame = self.innermost();
-        if frame.floor < self.operands.len() {
+        if self.floor < self.operands.len() {
             return Err(Why::Arity);
         }
-        self.frames.pop();
+        let Some(frame) = self.frames.pop() else {
+            unreachable!();
+        };
+        (self.floor, self.unreachable) = innermost(&self.frames);
         self.tick();
         Ok(frame)
     }
 
-    fn innermost(&self) -> Frame
-        requires { 0 < length self.now.frames }
-        ensures { Some result ≡ first self.now.frames }
+    // The top operand, where one stands above the floor of the innermost frame.
+    fn top(&self) -> Option<Entry>
+        ensures { MatchOption result (length self.now.operands ≤ floor_of self.now.frames)
+            (λ entry. (floor_of self.now.frames < length self.now.operands) × (first self.now.operands ≡ Some entry)) }
     {
-        let frames = self.frames.as_slice();
-        frames[frames.len() - 1]
+        if self.floor < self.operands.len() {
+            self.operands.as_slice().last().copied()
+        } else {
+            None
+        }
     }
 
-    fn top(&self) -> Option<Entry>
-        ensures { result ≡ first self.now.operands }
+    // Looks at the floor: under it an unreachable frame has any operands, a reachable one none.
+    fn look(&mut self) -> Result<Reach, Why>
+        ensures answer { result ≡ (at_floor Reach.Floor (is_unreachable self.old.frames) self.old).0 }
+        ensures after { self.new ≡ (at_floor Reach.Floor (is_unreachable self.old.frames) self.old).1 }
     {
-        self.operands.as_slice().last().copied()
+        if !self.unreachable {
+            return Err(Why::Arity);
+        }
+        self.tick();
+        Ok(Reach::Floor)
     }
 
     // Takes the top operand away.
@@ -327,6 +340,17 @@ impl Stacks {
     }
 }
 
+// The floor of the innermost frame, and whether it is unreachable.
+fn innermost(frames: &[Frame]) -> (usize, bool)
+    ensures floor { result.0 ≡ floor_of (reverse frames.now) }
+    ensures unreachable { result.1 ≡ is_unreachable (reverse frames.now) }
+{
+    match frames.last() {
+        Some(frame) => (frame.floor, frame.unreachable),
+        None => (0, false),
+    }
+}
+
 fn fits(entry: Entry, expected: ValType) -> bool
     ensures { result ≡ fits_type entry expected }
 {
@@ -335,5 +359,63 @@ fn fits(entry: Entry, expected: ValType) -> bool
         (Entry::I32, ValType::I32) => true,
         (Entry::I64, ValType::I64) => true,
         _ => false,
+    }
+}
+
+#[cfg(test)]
+mod tests {
+    use super::*;
+    use std::test::Fail;
+
+    const FUNC: Kind = Kind::Func;
+
+    #[test]
+    fn takes_at_the_floor_of_an_unreachable_frame(rt: HostRuntime) -> Result<(), Fail> {
+        let mut stacks = Stacks::new(rt.alloc());
+        stacks.open(FUNC, None)?;
+        stacks.cut_to_floor();
+        stacks.push(Entry::I32)?;
+        assert_eq!(rt;
+            stacks.take(&[ValType::I32, ValType::I32]),
+            Ok(Reach::Floor)
+        );
+        assert_eq!(rt; stacks.heights(), (0, 1));
+        assert_eq!(rt; stacks.moves(), 4);
+        Ok(())
+    }
+
+    #[test]
+    fn refuses_another_type_at_once(rt: HostRuntime) -> Result<(), Fail> {
+        let mut stacks = Stacks::new(rt.alloc());
+        stacks.open(FUNC, None)?;
+        stacks.push(Entry::I64)?;
+        assert_eq!(rt; stacks.take(&[ValType::I32]), Err(Why::Mismatch));
+        assert_eq!(rt; stacks.heights(), (1, 1));
+        assert_eq!(rt; stacks.moves(), 2);
+        Ok(())
+    }
+
+    #[test]
+    fn keeps_what_it_took_before_a_refusal(rt: HostRuntime) -> Result<(), Fail> {
+        let mut stacks = Stacks::new(rt.alloc());
+        stacks.open(FUNC, None)?;
+        stacks.push(Entry::I64)?;
+        stacks.push(Entry::I32)?;
+        assert_eq!(rt;
+            stacks.take(&[ValType::I32, ValType::I32]),
+            Err(Why::Mismatch)
+        );
+        assert_eq!(rt; stacks.heights(), (1, 1));
+        assert_eq!(rt; stacks.moves(), 4);
+        Ok(())
+    }
+
+    #[test]
+    fn refuses_to_go_below_a_reachable_floor(rt: HostRuntime) -> Result<(), Fail> {
+        let mut stacks = Stacks::new(rt.alloc());
+        stacks.open(FUNC, None)?;
+        assert_eq!(rt; stacks.take_any(), Err(Why::Arity));
+        assert_eq!(rt; stacks.moves(), 1);
+        Ok(())
     }
 }

@@ -10,12 +10,12 @@ returns c =
     let s = c.args.self.now in
     let ts = reverse c.args.expected.now in
     let t =
-    taken_so ts (length c.args.expected.now) s c.take_each.result c.take_each.new.self c.requires (length-reverse c.args.expected.now)
-    c.take_each.ensures.exact_answer c.take_each.ensures.exact_after in
+    taken_so ts (length c.args.expected.now) s c.take_exactly.result c.take_exactly.new.self c.requires (length-reverse c.args.expected.now)
+    c.take_exactly.ensures.answer c.take_exactly.ensures.after in
     let a =
     answers (fitting (above s) ts) (length c.args.expected.now) (length (above s)) (is_unreachable s.frames) s.frames s.operands s.moves
-    c.take_each.result c.take_each.new.self t in
-    let fewer : length c.take_each.new.self.operands ≤ length s.operands = omega (arith, ap length t.operands, length-drop (fitting (above s) ts) s.operands) in
+    c.take_exactly.result c.take_exactly.new.self t in
+    let fewer : length c.take_exactly.new.self.operands ≤ length s.operands = omega (arith, ap length t.operands, length-drop (fitting (above s) ts) s.operands) in
     record {
       operands = t.operands;
       frames = t.frames;
@@ -26,6 +26,6 @@ returns c =
       arity = a.arity;
       refusals = a.refusals;
       fewer = fewer;
-      exact_answer = c.take_each.ensures.exact_answer;
-      exact_after = c.take_each.ensures.exact_after;
+      exact_answer = c.take_exactly.ensures.answer;
+      exact_after = c.take_exactly.ensures.after;
     }
