@@ -168,3 +168,84 @@ fn ends_with(runs: &[Run], ty: ValType) -> bool
         None => false,
     }
 }
+
+#[cfg(test)]
+mod tests {
+    use super::*;
+    use std::test::Fail;
+
+    #[test]
+    fn finds_locals_by_halving(rt: HostRuntime) -> Result<(), Fail> {
+        let mut table = RunTable::new(rt.alloc());
+        table.add(2, ValType::I32)?;
+        table.add(0, ValType::I64)?;
+        table.add(3, ValType::I32)?;
+        table.add(1, ValType::I64)?;
+        assert_eq!(rt; table.runs(), 2);
+        assert_eq!(rt;
+            table.find(0),
+            Found {
+                ty: Some(ValType::I32),
+                probes: 2
+            }
+        );
+        assert_eq!(rt;
+            table.find(5),
+            Found {
+                ty: Some(ValType::I64),
+                probes: 2
+            }
+        );
+        assert_eq!(rt;
+            table.find(6),
+            Found {
+                ty: None,
+                probes: 1
+            }
+        );
+        table.clear();
+        assert_eq!(rt; table.runs(), 0);
+        assert_eq!(rt;
+            table.find(0),
+            Found {
+                ty: None,
+                probes: 0
+            }
+        );
+        Ok(())
+    }
+
+    #[test]
+    fn refuses_locals_from_2_to_the_32_on(rt: HostRuntime) -> Result<(), Fail> {
+        let mut table = RunTable::new(rt.alloc());
+        table.add(4294967295, ValType::I32)?;
+        assert_eq!(rt; table.add(1, ValType::I64), Err(Why::TooManyLocals));
+        table.add(0, ValType::I64)?;
+        assert_eq!(rt; table.runs(), 1);
+        Ok(())
+    }
+
+    // Where no growth is refused each add succeeds. Run with one that is, by
+    // `rt try --test --fail-alloc N`: it answers `Memory` and changes nothing, and the next one succeeds.
+    #[test]
+    fn a_refused_growth_changes_nothing(rt: HostRuntime) {
+        let mut table = RunTable::new(rt.alloc());
+        for _ in 0..40 {
+            let runs = table.runs();
+            assert!(rt; runs < 1000);
+            let ty = if runs % 2 == 0 {
+                ValType::I32
+            } else {
+                ValType::I64
+            };
+            if let Err(why) = table.add(1, ty) {
+                assert_eq!(rt; why, Why::Memory);
+                assert_eq!(rt; table.runs(), runs);
+                assert_eq!(rt; table.find(runs as u32).ty, None);
+            }
+        }
+        let runs = table.runs();
+        assert!(rt; 39 <= runs && runs <= 40);
+        assert_eq!(rt; table.find(38).ty, Some(ValType::I32));
+    }
+}

@@ -289,7 +289,7 @@ impl Stacks {
         ensures exact_answer { result ≡ (close self.old).0 }
         ensures exact_after { self.new ≡ (close self.old).1 }
     {
-        if self.floor < self.operands.len() {
+        if self.operands.len() > self.floor {
             return Err(Why::Arity);
         }
         let Some(frame) = self.frames.pop() else {
@@ -365,6 +365,7 @@ fn fits(entry: Entry, expected: ValType) -> bool
 #[cfg(test)]
 mod tests {
     use super::*;
+    use std::process::Abort;
     use std::test::Fail;
 
     const FUNC: Kind = Kind::Func;
@@ -417,5 +418,102 @@ mod tests {
         assert_eq!(rt; stacks.take_any(), Err(Why::Arity));
         assert_eq!(rt; stacks.moves(), 1);
         Ok(())
+    }
+
+    // Opens forty blocks with an I64 under an I32 each.
+    fn open_forty(rt: &impl Abort, stacks: &mut Stacks) -> Result<(), Fail> {
+        for _ in 0..40 {
+            let (operands, frames) = stacks.heights();
+            assert!(rt; operands < 1000 && frames < 1000);
+            stacks.open(Kind::Block, Some(ValType::I64))?;
+            stacks.push(Entry::I64)?;
+            stacks.push(Entry::I32)?;
+        }
+        Ok(())
+    }
+
+    #[test]
+    fn holds_more_than_it_has_room_for_inline(rt: HostRuntime) -> Result<(), Fail> {
+        let mut stacks = Stacks::new(rt.alloc());
+        open_forty(&rt, &mut stacks)?;
+        let (operands, frames) = stacks.heights();
+        assert!(rt; operands == 80 && frames == 40);
+        assert_eq!(rt; stacks.moves(), 120);
+        let innermost = Frame {
+            kind: Kind::Block,
+            result: Some(ValType::I64),
+            floor: 78,
+            unreachable: false,
+        };
+        assert_eq!(rt; stacks.label(0), Some(innermost));
+        assert_eq!(rt;
+            stacks.label(39),
+            Some(Frame {
+                floor: 0,
+                ..innermost
+            })
+        );
+        assert_eq!(rt; stacks.label(40), None);
+
+        assert_eq!(rt;
+            stacks.take(&[ValType::I64, ValType::I32]),
+            Ok(Reach::Whole)
+        );
+        assert_eq!(rt; stacks.close(), Ok(innermost));
+        let (operands, frames) = stacks.heights();
+        assert!(rt; operands == 78 && frames == 39);
+        assert_eq!(rt; stacks.take_any(), Ok(Entry::I32));
+        assert_eq!(rt; stacks.close(), Err(Why::Arity));
+        assert_eq!(rt; stacks.moves(), 124);
+
+        let (_, frames) = stacks.heights();
+        assert!(rt; frames == 39);
+        stacks.cut_to_floor();
+        assert_eq!(rt; stacks.heights(), (76, 39));
+        assert_eq!(rt; stacks.moves(), 125);
+        assert_eq!(rt;
+            stacks.label(0),
+            Some(Frame {
+                floor: 76,
+                unreachable: true,
+                ..innermost
+            })
+        );
+        assert_eq!(rt; stacks.take_any(), Ok(Entry::Unknown));
+        assert_eq!(rt; stacks.moves(), 126);
+        stacks.clear();
+        assert_eq!(rt; stacks.heights(), (0, 0));
+        assert_eq!(rt; stacks.moves(), 0);
+        Ok(())
+    }
+
+    // Where no growth is refused each push and each open succeeds. Run with one that is, by
+    // `rt try --test --fail-alloc N`: it answers `Memory` and changes nothing, and the next one succeeds.
+    #[test]
+    fn a_refused_growth_changes_nothing(rt: HostRuntime) {
+        let mut stacks = Stacks::new(rt.alloc());
+        for _ in 0..60 {
+            let (operands, frames) = stacks.heights();
+            assert!(rt; operands < 1000 && frames < 1000);
+            let moves = stacks.moves();
+            if let Err(why) = stacks.open(Kind::Loop, None) {
+                assert_eq!(rt; why, Why::Memory);
+                assert!(rt; frames >= 32);
+                assert_eq!(rt; stacks.heights(), (operands, frames));
+                assert_eq!(rt; stacks.moves(), moves);
+            }
+        }
+        for _ in 0..100 {
+            let (operands, frames) = stacks.heights();
+            assert!(rt; operands < 1000 && frames < 1000 && frames >= 59);
+            let moves = stacks.moves();
+            if let Err(why) = stacks.push(Entry::I32) {
+                assert_eq!(rt; why, Why::Memory);
+                assert!(rt; operands >= 64);
+                assert_eq!(rt; stacks.heights(), (operands, frames));
+                assert_eq!(rt; stacks.moves(), moves);
+            }
+        }
+        assert!(rt; stacks.heights().0 >= 99);
     }
 }
