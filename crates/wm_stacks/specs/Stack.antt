@@ -1,6 +1,6 @@
 -- The two stacks, how often something moved on them, and which operand types a frame stands for.
 -- In both lists the topmost is the first: the top operand, and the innermost frame.
-use Rattle.std.specs.Prelude.{ℕ, ◌+◌, ◌-◌, ◌^◌, ◌≡◌, ◌⊎◌, Bool, true, false, IsTrue, List, [], ◌∷◌, ◌++◌, Option, None, Result, Ok, Err, length, min, take, drop, if◌then◌else◌}
+use Rattle.std.specs.Prelude.{ℕ, ◌+◌, ◌-◌, ◌^◌, ◌≡◌, ◌⊎◌, Bool, true, false, IsTrue, List, [], ◌∷◌, ◌++◌, Option, None, Result, Ok, Err, length, min, reverse, take, drop, if◌then◌else◌}
 use Rattle.wm_syntax.specs.declared.types.ValType.{ValType}
 use Rattle.wm_syntax.specs.declared.types.ValType.TheVariants as t
 use Rattle.wm_stacks.specs.declared.entries.Entry.{Entry}
@@ -10,6 +10,7 @@ use Rattle.wm_stacks.specs.declared.entries.Frame.{Frame}
 use Rattle.wm_stacks.specs.declared.entries.Reach.{Reach}
 use Rattle.wm_stacks.specs.declared.entries.Reach.TheVariants.{Whole, Floor}
 use Rattle.wm_syntax.specs.declared.why.Why.{Why}
+use Rattle.wm_syntax.specs.declared.why.Why.TheVariants.{Memory}
 
 -- A move is a push of an operand or a frame, a removal of one, or a look that finds the floor of an
 -- unreachable frame.
@@ -67,11 +68,21 @@ fitting [] ts = 0
 fitting (e ∷ es) [] = 0
 fitting (e ∷ es) (t ∷ ts) = if fits e t then fitting es ts + 1 else 0
 
+-- How many of the types of a take are fitted by the operands above the floor. The last of them is for
+-- the top operand.
+abbrev pub fitted : Stack → List ValType → ℕ
+fitted s expected = fitting (above s) (reverse expected)
+
 -- the looks at a floor that a take with this answer made
 abbrev pub looks_of : Result Reach Why → ℕ
 looks_of (Ok Whole) = 0
 looks_of (Ok Floor) = 1
 looks_of (Err why) = 0
+
+-- it is not refused for want of memory
+abbrev pub NoMemory : {A : Type 0} → Result A Why → Type 0
+NoMemory (Ok a) = Unit {0}
+NoMemory (Err why) = why ≡ Memory → ⊥
 
 -- each entry may stand for the type at its place, and there are as many
 abbrev pub AgreeAll : List Entry → List ValType → Type 0

@@ -1,7 +1,7 @@
 //! The operands and the frames of a body, and how often something moved on them.
 
 ghost use Rattle.std.specs.Prelude.{◌≡◌, ◌≢◌, ℕ, ◌+◌, ◌-◌, ◌^◌, ◌<◌, ◌≤◌, ◌⊎◌, ◌↔◌, IsTrue, List, [], ◌∷◌, Some, IfErr, OnErr, OnOk, MatchOption, MatchResult, false, drop, length, reverse, slice_get};
-ghost use Rattle.wm_stacks.specs.Stack.{above, bare, below, fits as fits_type, fitting, floor_of, height_sum, is_unreachable, looks_of, marked_frames, moved};
+ghost use Rattle.wm_stacks.specs.Stack.{NoMemory, above, bare, below, fits as fits_type, fitted, floor_of, height_sum, is_unreachable, looks_of, marked_frames, moved};
 ghost use Rattle.wm_stacks.specs.Exact.{at_floor, close, cut, first, looked, marked, opened, popped, pushed, rest, take_all, take_any, take_one};
 
 use crate::entries::{Entry, Frame, Kind, Reach};
@@ -144,26 +144,27 @@ impl Stacks {
     pub fn take(&mut self, expected: &[ValType]) -> Result<Reach, Why>
         requires { 0 < length self.old.frames }
         ensures operands { self.new.operands
-            ≡ drop (fitting (above self.old) (reverse expected.now)) self.old.operands }
+            ≡ drop (fitted self.old expected.now) self.old.operands }
         ensures frames { self.new.frames ≡ self.old.frames }
         ensures moves { self.new.moves
-            ≡ moved (fitting (above self.old) (reverse expected.now) + looks_of result) self.old.moves }
+            ≡ moved (fitted self.old expected.now + looks_of result) self.old.moves }
 
         // Whole where every type was fitted. Else an entry that does not fit is refused, and at the
         // floor it depends on the frame.
-        ensures whole { (result ≡ Ok Reach.Whole) ↔ (fitting (above self.old) (reverse expected.now) ≡ length expected.now) }
+        ensures whole { (result ≡ Ok Reach.Whole) ↔ (fitted self.old expected.now ≡ length expected.now) }
         ensures mismatch { (result ≡ Err Why.Mismatch)
-            ↔ ((fitting (above self.old) (reverse expected.now) < length expected.now)
-            × (fitting (above self.old) (reverse expected.now) < length (above self.old))) }
+            ↔ ((fitted self.old expected.now < length expected.now)
+            × (fitted self.old expected.now < length (above self.old))) }
         ensures floor { (result ≡ Ok Reach.Floor)
-            ↔ ((fitting (above self.old) (reverse expected.now) < length expected.now)
-            × (fitting (above self.old) (reverse expected.now) ≡ length (above self.old))
+            ↔ ((fitted self.old expected.now < length expected.now)
+            × (fitted self.old expected.now ≡ length (above self.old))
             × IsTrue (is_unreachable self.old.frames)) }
         ensures arity { (result ≡ Err Why.Arity)
-            ↔ ((fitting (above self.old) (reverse expected.now) < length expected.now)
-            × (fitting (above self.old) (reverse expected.now) ≡ length (above self.old))
+            ↔ ((fitted self.old expected.now < length expected.now)
+            × (fitted self.old expected.now ≡ length (above self.old))
             × (is_unreachable self.old.frames ≡ false)) }
         ensures refusals { IfErr result (λ why. (why ≡ Why.Mismatch) ⊎ (why ≡ Why.Arity)) }
+        ensures memory { NoMemory result }
         ensures fewer { length self.new.operands ≤ length self.old.operands }
         ensures exact_answer { result ≡ (take_all (reverse expected.now) self.old).0 }
         ensures exact_after { self.new ≡ (take_all (reverse expected.now) self.old).1 }
@@ -180,6 +181,10 @@ impl Stacks {
         match expected {
             [] => Ok(Reach::Whole),
             [only] => self.take_one(*only),
+            [first, second] => match self.take_one(*second)? {
+                Reach::Whole => self.take_one(*first),
+                Reach::Floor => Ok(Reach::Floor),
+            },
             _ => self.take_each(expected),
         }
     }
@@ -228,8 +233,9 @@ impl Stacks {
             → (result ≡ Err Why.Arity) × (self.new ≡ self.old) }
         ensures frames { self.new.frames ≡ self.old.frames }
         ensures moves { OnOk result (self.new.moves ≡ moved 1 self.old.moves) }
-        ensures fewer { length self.new.operands ≤ length self.old.operands }
         ensures refusals { IfErr result (λ why. why ≡ Why.Arity) }
+        ensures memory { NoMemory result }
+        ensures fewer { length self.new.operands ≤ length self.old.operands }
         ensures exact_answer { result ≡ (take_any self.old).0 }
         ensures exact_after { self.new ≡ (take_any self.old).1 }
     {
@@ -286,6 +292,8 @@ impl Stacks {
         ensures leftover { above self.old ≢ [] → result ≡ Err Why.Arity }
         ensures moves { OnOk result (self.new.moves ≡ moved 1 self.old.moves) }
         ensures err { IfErr result (λ why. (why ≡ Why.Arity) × (self.new ≡ self.old)) }
+        ensures memory { NoMemory result }
+        ensures fewer { length self.new.frames ≤ length self.old.frames }
         ensures exact_answer { result ≡ (close self.old).0 }
         ensures exact_after { self.new ≡ (close self.old).1 }
     {
