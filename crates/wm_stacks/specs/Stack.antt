@@ -1,10 +1,12 @@
 -- The two stacks, how often something moved on them, and which operand types a frame stands for.
 -- In both lists the topmost is the first: the top operand, and the innermost frame.
-use Rattle.std.specs.Prelude.{ℕ, ◌+◌, ◌-◌, ◌^◌, ◌≡◌, ◌⊎◌, Bool, true, false, IsTrue, List, [], ◌∷◌, ◌++◌, Option, None, Result, Ok, Err, length, min, reverse, take, drop, if◌then◌else◌}
+use Rattle.std.specs.Prelude.{ℕ, ◌+◌, ◌-◌, ◌^◌, ◌≡◌, ◌⊎◌, Bool, true, false, IsTrue, List, [], ◌∷◌, ◌++◌, Option, None, Result, Ok, Err}
+use Rattle.std.specs.Prelude.{length, min, reverse, take, drop, if◌then◌else◌}
 use Rattle.wm_syntax.specs.declared.types.ValType.{ValType}
 use Rattle.wm_syntax.specs.declared.types.ValType.TheVariants as t
 use Rattle.wm_stacks.specs.declared.entries.Entry.{Entry}
 use Rattle.wm_stacks.specs.declared.entries.Entry.TheVariants.{I32, I64, Unknown}
+use Rattle.wm_stacks.specs.declared.entries.Kind.{Kind}
 use Rattle.wm_stacks.specs.declared.entries.Kind.TheVariants.{Func, Block, Loop, If, Else}
 use Rattle.wm_stacks.specs.declared.entries.Frame.{Frame}
 use Rattle.wm_stacks.specs.declared.entries.Reach.{Reach}
@@ -45,6 +47,10 @@ above s = take (length s.operands - floor_of s.frames) s.operands
 abbrev pub below : Stack → List Entry
 below s = drop (length s.operands - floor_of s.frames) s.operands
 
+-- a frame that is just open
+abbrev pub fresh : Kind → Option ValType → ℕ → Frame
+fresh k t floor = record { kind = k; result = t; floor = floor; unreachable = false }
+
 -- the frames, the innermost marked as unreachable
 abbrev pub marked_frames : List Frame → List Frame
 marked_frames [] = []
@@ -52,7 +58,8 @@ marked_frames (f ∷ fs) = record f { unreachable = true } ∷ fs
 
 -- the type of a frame's label (section 3.3.5): a loop's is empty, any other's is its result
 abbrev pub label_of : Frame → Option ValType
-label_of f = elim f.kind [ Loop ↦ None | Func ↦ f.result | Block ↦ f.result | If ↦ f.result | Else ↦ f.result ]
+label_of f =
+    elim f.kind [ Loop ↦ None | Func ↦ f.result | Block ↦ f.result | If ↦ f.result | Else ↦ f.result ]
 
 -- an entry may stand for an operand of this type
 abbrev pub fits : Entry → ValType → Bool
@@ -96,4 +103,5 @@ AgreeAll (e ∷ es) (t ∷ ts) = IsTrue (fits e t) × AgreeAll es ts
 -- both lists is the last, as in the standard's types of instruction sequences (section 3.3.6).
 abbrev pub Denotes : Frame → List Entry → List ValType → Type 0
 Denotes f entries types =
-    (under over : List ValType) × (types ≡ under ++ over) × AgreeAll entries over × (IsTrue f.unreachable ⊎ (under ≡ []))
+    (under over : List ValType) × (types ≡ under ++ over) × AgreeAll entries over
+    × (IsTrue f.unreachable ⊎ (under ≡ []))

@@ -1,7 +1,7 @@
 //! The operands and the frames of a body, and how often something moved on them.
 
 ghost use Rattle.std.specs.Prelude.{◌≡◌, ◌≢◌, ℕ, ◌+◌, ◌-◌, ◌^◌, ◌<◌, ◌≤◌, ◌⊎◌, ◌↔◌, IsTrue, List, [], ◌∷◌, Some, IfErr, OnErr, OnOk, MatchOption, MatchResult, false, drop, length, reverse, slice_get};
-ghost use Rattle.wm_stacks.specs.Stack.{NoMemory, above, bare, below, fits as fits_type, fitted, floor_of, height_sum, is_unreachable, looks_of, marked_frames, moved};
+ghost use Rattle.wm_stacks.specs.Stack.{NoMemory, above, bare, below, fits as fits_type, fitted, floor_of, fresh, height_sum, is_unreachable, looks_of, marked_frames, moved};
 ghost use Rattle.wm_stacks.specs.Exact.{at_floor, close, cut, first, looked, marked, opened, popped, pushed, rest, take_all, take_any, take_one};
 
 use crate::entries::{Entry, Frame, Kind, Reach};
@@ -114,7 +114,7 @@ impl Stacks {
         requires { height_sum self.old < 2 ^ 63 }
         ensures operands { self.new.operands ≡ self.old.operands }
         ensures frames { OnOk result (self.new.frames
-            ≡ record { kind = kind; result = result_type; floor = length self.old.operands; unreachable = false } ∷ self.old.frames) }
+            ≡ fresh kind result_type (length self.old.operands) ∷ self.old.frames) }
         ensures moves { OnOk result (self.new.moves ≡ moved 1 self.old.moves) }
         ensures err { IfErr result (λ why. (why ≡ Why.Memory) × (self.new ≡ self.old)) }
         ensures succeeds { OnErr result (32 ≤ length self.old.frames) }
@@ -143,11 +143,9 @@ impl Stacks {
     /// there, whatever is left. What was removed before a refusal stays removed.
     pub fn take(&mut self, expected: &[ValType]) -> Result<Reach, Why>
         requires { 0 < length self.old.frames }
-        ensures operands { self.new.operands
-            ≡ drop (fitted self.old expected.now) self.old.operands }
+        ensures operands { self.new.operands ≡ drop (fitted self.old expected.now) self.old.operands }
         ensures frames { self.new.frames ≡ self.old.frames }
-        ensures moves { self.new.moves
-            ≡ moved (fitted self.old expected.now + looks_of result) self.old.moves }
+        ensures moves { self.new.moves ≡ moved (fitted self.old expected.now + looks_of result) self.old.moves }
 
         // Whole where every type was fitted. Else an entry that does not fit is refused, and at the
         // floor it depends on the frame.
@@ -288,7 +286,8 @@ impl Stacks {
     pub fn close(&mut self) -> Result<Frame, Why>
         requires { 0 < length self.old.frames }
         ensures operands { self.new.operands ≡ self.old.operands }
-        ensures ok { above self.old ≡ [] → MatchResult result (λ frame. self.old.frames ≡ frame ∷ self.new.frames) (λ _. ⊥) }
+        ensures ok { above self.old ≡ []
+            → MatchResult result (λ frame. self.old.frames ≡ frame ∷ self.new.frames) (λ _. ⊥) }
         ensures leftover { above self.old ≢ [] → result ≡ Err Why.Arity }
         ensures moves { OnOk result (self.new.moves ≡ moved 1 self.old.moves) }
         ensures err { IfErr result (λ why. (why ≡ Why.Arity) × (self.new ≡ self.old)) }
