@@ -31,7 +31,11 @@ impl Model for Stacks {
 
     ghost Value = { Stack };
 
-    ghost view = { λ s. record { operands = reverse s.operands.items; frames = reverse s.frames.items; moves = s.moves } };
+    ghost view = { λ s. record {
+      operands = reverse s.operands.items;
+      frames = reverse s.frames.items;
+      moves = s.moves;
+    } };
 
     ghost invariant = { λ s. (64 ≤ s.operands.capacity) × (32 ≤ s.frames.capacity)
         × (s.floor ≡ floor_of (reverse s.frames.items)) × (s.unreachable ≡ is_unreachable (reverse s.frames.items)) };
