@@ -40,6 +40,8 @@ impl Plain {
 }
 
 /// Where in a custom section the next byte stands.
+///
+/// Of a name, and of what has a size, the counts are those that come after the byte at hand.
 #[derive(Clone, Copy)]
 pub enum InCustom {
     Length(Num32),
@@ -47,6 +49,7 @@ pub enum InCustom {
     Name { more: u32 },
     /// After the name.
     Skip,
+    /// The byte was refused; the section's frame makes this a refusal at once.
     Failed(Why),
 }
 
@@ -62,6 +65,7 @@ pub enum Inside {
     ResultType { types: u32, more: u32 },
     /// Nothing may follow.
     Over,
+    /// The byte was refused; the section's frame makes this a refusal at once.
     Failed(Why),
 }
 
@@ -73,7 +77,8 @@ pub enum Machine {
     Header(u8),
     /// Between sections, after this id.
     Between(u8),
-    /// In the size of a section with this id.
+    /// In the size of a section with this id; the last id that must rise is this one or, of a custom
+    /// section, the one before.
     Size { id: u8, last: u8, number: Num32 },
     /// In a custom section, with so many bytes of it after the next.
     Custom { last: u8, more: u32, part: InCustom },
