@@ -1,6 +1,5 @@
 -- What the calls of a decoder say of all that it was fed.
-use Rattle.std.proofs.Common.{◌≡◌, ◌≢◌, ℕ, suc, ◌+◌, ◌<◌, ◌≤◌, ◌^◌, List, [], ◌∷◌, ◌++◌, Option, Some, None, Result, Ok, Err, IsOk, IfOk, IfErr, OnOk, length, refl, sym, ◌∙◌, ap, subst, inl, inr, ◌⊎◌, arith, take, get_or}
-use Rattle.wm_syntax.specs.declared.profile.Profile.{Profile}
+use Rattle.std.proofs.Common.{◌≡◌, ◌≢◌, ℕ, suc, ◌+◌, ◌<◌, ◌≤◌, ◌^◌, List, [], ◌∷◌, ◌++◌, Option, Some, None, Result, Ok, Err, IsOk, IfOk, IfErr, OnOk, MatchResult, length, refl, sym, ◌∙◌, ap, subst, inl, inr, ◌⊎◌, arith, take, get_or}
 use Rattle.wm_syntax.specs.declared.why.Why.{Why}
 use Rattle.wm_syntax.specs.declared.why.Why.TheVariants as why
 use Rattle.wm_syntax.specs.Spelling.{AreBytes}
@@ -12,8 +11,11 @@ use Rattle.wm_decode.specs.Parts.{Part, Marks, parts_of}
 use Rattle.wm_decode.specs.Grammar.{Items}
 use Rattle.wm_decode.specs.Sinks.{and_then, all_taken}
 use Rattle.wm_decode.specs.Live.{Live, IsAt, IsRefused, settled, standing, decoded, begun, Fed, ended_at, ended, Finished}
-use Rattle.wm_decode.specs.Decoding.{Setting, Takes, RanOut, After, Refused, answer_of, NeverFloat, EndsInFloat, held_in, has_refused}
-use Rattle.wm_decode.proofs.Theorem.{bytes-append, front_bytes, Used, Reached, reached, used_of, used_refused, settled_ok, decoded_append, takes_of_ended, ended_of_takes, so_far, never}
+use Rattle.wm_decode.specs.Decoding.{Setting, Takes, RanOut, After, Refused, answer_of, Having, NeverFloat, EndsInFloat, held_in, has_refused}
+use Rattle.wm_decode.proofs.Theorem.{bytes-append, front_bytes, Used, reached, used_of, used_refused, settled_ok, settled_not, decoded_append, takes_of_ended, ended_of_takes, given_taken, marks_of, so_far, never}
+use Rattle.wm_decode.proofs.Fronts.{is_front, name_kept}
+use Rattle.wm_decode.specs.Fronts.{SoFar}
+use Rattle.wm_decode.specs.Runs.{State, run, marks, begin}
 use Rattle.wm_decode.proofs.Header.{is_at, late_memory}
 use Rattle.wm_decode.proofs.Floats.{ends_in_float}
 
@@ -122,6 +124,22 @@ module _ {S H : Type 0} (held : S → H) (after : H → Part → Result H Why) (
       let l = live_after d b i a in
       so_far after s b more k l.0 a.are_bytes l.1 items ∙ ap Ok (sym (settled_held d.machine d.name.items (held d.sink) d.at l.0 l.2))
 
+  pub after_so_far : (d : Decoder S) (b : List ℕ) → IsOk (standing held d) → After held after d s b → SoFar held after d s b
+  after_so_far d b i a =
+      let l = live_after d b i a in
+      let r = reached after s.limit b Starts l.0 l.1 in
+      let same = settled_ok after s.limit d.machine d.name.items (held d.sink) d.at l.0 l.2 in
+      let machine : l.0.machine ≡ (run begin b).machine = ap (λ (y : State). y.machine) r.state in
+      let name : d.name.items ≡ (run begin b).name = ap (λ (y : Live H). y.name) same ∙ ap (λ (y : State). y.name) r.state in
+      record {
+        marks = marks begin b;
+        front = is_front s.profile b a.are_bytes (subst (λ y. IsRefused y → ⊥) machine (r.live (λ i. i)));
+        alone = refl;
+        begins = λ more items k. marks_of after s b more items a.are_bytes k;
+        taken = sym (given_taken after (marks begin b) s.first) ∙ (r.held ∙ ap Ok (sym (ap (λ (y : Live H). y.held) same)));
+        name = ap length name ∙ name_kept b;
+      }
+
   -- what a decoder that has refused has come to
   pub refused_after : (d : Decoder S) (b : List ℕ) (r : Refusal) → standing held d ≡ Err r → r.why ≢ why.Memory → After held after d s b → Decoded b ≡ Err r
   refused_after d b r e ne a = elim a.stands [
@@ -207,13 +225,23 @@ module _ {S H : Type 0} (held : S → H) (after : H → Part → Result H Why) (
         differ e = cc
 
     -- a decoder that ends in a refusal has refused already, or stands at the end of what it was fed
-    ended_place : (m : Machine) (h : H) (at : ℕ) (r : Refusal) → (IsRefused m → ⊥) → ended_at m h at ≡ Err r → (r.at ≡ at) × (r.why ≡ why.Memory → ⊥)
-    ended_place (machine.Between last) h at r i e = cc
-    ended_place (machine.Refused w) h at r i e = absurd (i tt)
-    ended_place m h at r i e = let t : record { at = at; why = why.Truncated } ≡ r = cc in (sym (ap (λ (y : Refusal). y.at) t), λ f. not_memory (ap (λ (y : Refusal). y.why) t ∙ f))
+    ended_why : (m : Machine) (h : H) (at : ℕ) (r : Refusal) → (IsRefused m → ⊥) → ended_at m h at ≡ Err r → record { at = at; why = why.Truncated } ≡ r
+    ended_why (machine.Between last) h at r i e = cc
+    ended_why (machine.Refused w) h at r i e = absurd (i tt)
+    ended_why m h at r i e = cc
+
+    live_machine : (m : Live H) → standing held d ≡ Ok m → IsRefused m.machine → ⊥
+    live_machine m e i = settled_not after s.limit d.machine d.name.items (held d.sink) d.at m e (subst IsRefused (sym (settled_same d.machine d.name.items (held d.sink) d.at m e).0) i)
+
+    pub finish_stuck : (r : Refusal) → and_then (standing held d) ended ≡ Err r → r.why ≢ why.Truncated → standing held d ≡ Err r
+    finish_stuck r e other = by_case (standing held d) refl e
       where
-        not_memory : why.Truncated ≡ why.Memory → ⊥
-        not_memory e = cc
+        by_case : (x : Result (Live H) Refusal) → standing held d ≡ x → and_then x ended ≡ Err r → standing held d ≡ Err r
+        by_case (Err t) f g = f ∙ (let u : t ≡ r = cc in ap Err u)
+        by_case (Ok m) f g = absurd (other (sym (ap (λ (y : Refusal). y.why) (ended_why m.machine m.held m.at r (live_machine m f) g))))
+
+    not_memory : why.Truncated ≡ why.Memory → ⊥
+    not_memory e = cc
 
     pub finish_place : (r : Refusal) → and_then (standing held d) ended ≡ Err r → After held after d s b → (r.at ≤ length b) × (length b ≤ 8 → r.why ≢ why.Memory)
     finish_place r e a = by_case (standing held d) refl e
@@ -222,12 +250,11 @@ module _ {S H : Type 0} (held : S → H) (after : H → Part → Result H Why) (
         by_case (Err t) f g = let u : t ≡ r = cc in let h : standing held d ≡ Err r = f ∙ ap Err u in (after_place d b r h a, λ few. after_header d b r h a few)
         by_case (Ok m) f g =
             let l = live_after d b (subst (λ (y : Result (Live H) Refusal). IsOk y) (sym f) refl) a in
-            let same : l.0 ≡ m = (let t : Ok l.0 ≡ Ok m = sym l.2 ∙ f in cc) in
+            let same : l.0.at ≡ m.at = (let t : Ok l.0 ≡ Ok m = sym l.2 ∙ f in let u : l.0 ≡ m = cc in ap (λ (y : Live H). y.at) u) in
             let q = reached after s.limit b Starts l.0 l.1 in
-            let live : IsRefused m.machine → ⊥ = subst (λ (y : Live H). IsRefused y.machine → ⊥) same (q.live (λ i. i)) in
-            let p = ended_place m.machine m.held m.at r live g in
-            let at : m.at ≡ length b = (let v : l.0.at ≡ m.at = ap (λ (y : Live H). y.at) same in omega (arith, q.at, v)) in
-            (omega (arith, p.0, at), λ few. p.1)
+            let p = ended_why m.machine m.held m.at r (live_machine m f) g in
+            let at : m.at ≡ r.at = ap (λ (y : Refusal). y.at) p in
+            (omega (arith, at, q.at, same), λ few e. not_memory (ap (λ (y : Refusal). y.why) p ∙ e))
 
 -- a refusal that was answered
 pub stands_refused : {A : Type 0} (now : Result A Refusal) (r : Refusal) → elim now as (λ _. Option Refusal) [ Ok l ↦ None | Err t ↦ Some t ] ≡ Some r → now ≡ Err r
@@ -237,69 +264,76 @@ stands_refused (Err t) r e = let s : t ≡ r = cc in ap Err s
 pub refused_stands : {A : Type 0} (now : Result A Refusal) (r : Refusal) → now ≡ Err r → elim now as (λ _. Option Refusal) [ Ok l ↦ None | Err t ↦ Some t ] ≡ Some r
 refused_stands now r e = ap (λ y. elim y as (λ _. Option Refusal) [ Ok l ↦ None | Err t ↦ Some t ]) e
 
+none_refused : {A : Type 0} (now : Result A Refusal) → IsOk now → elim now as (λ _. Option Refusal) [ Ok l ↦ None | Err t ↦ Some t ] ≡ None
+none_refused (Ok l) i = refl
+none_refused (Err t) i = cc
+
 -- the bytes so far of a decoder are those before and those of a piece
 abbrev pub GoesOn : {S H : Type 0} → (S → H) → (H → Part → Result H Why) → Decoder S → Decoder S → List ℕ → Type 0
-GoesOn {S} {H} held after old new piece = (s : Setting H) (b : List ℕ) → After held after old s b → After held after new s (b ++ piece)
+GoesOn held after old new piece = Having held after old (λ s b. After held after new s (b ++ piece))
 
 -- the clauses, whatever the result
 module _ {S H : Type 0} (held : S → H) (after : H → Part → Result H Why) {U : Type 0} (old new : Decoder S) (piece : List ℕ) where
-  -- what is known of a piece that was fed
-  abbrev pub Answered : Result U Refusal → Type 0
-  Answered (Ok u) = IsOk (standing held new)
-  Answered (Err r) = standing held new ≡ Err r
+  pub on_taken : (result : Result U Refusal) (expected : Result (Live H) Refusal) → Fed expected result (standing held new) → GoesOn held after old new piece
+      → OnOk result (Having held after old (λ s b. (more : List ℕ) (k : Marks) → Items s.profile ((b ++ piece) ++ more) k → all_taken after s.first (parts_of (take (length (b ++ piece)) k)) ≡ Ok (held_in held new)))
+  on_taken (Ok u) expected f go = λ s b a more k items. after_taken held after s new (b ++ piece) more k f.1 (go s b a) items
+  on_taken (Err r) expected f go = tt
 
-  pub answered : (result : Result U Refusal) (expected : Result (Live H) Refusal) → Fed expected result (standing held new) → Answered result
-  answered (Ok u) expected f = f.1
-  answered (Err r) expected f = f.1
+  pub on_so_far : (result : Result U Refusal) (expected : Result (Live H) Refusal) → Fed expected result (standing held new) → GoesOn held after old new piece → OnOk result (Having held after old (λ s b. SoFar held after new s (b ++ piece)))
+  on_so_far (Ok u) expected f go = λ s b a. after_so_far held after s new (b ++ piece) f.1 (go s b a)
+  on_so_far (Err r) expected f go = tt
 
-  pub on_taken : (result : Result U Refusal) → Answered result → GoesOn held after old new piece
-      → OnOk result ((s : Setting H) (b more : List ℕ) (k : Marks) → After held after old s b → Items s.profile ((b ++ piece) ++ more) k → all_taken after s.first (parts_of (take (length (b ++ piece)) k)) ≡ Ok (held_in held new))
-  on_taken (Ok u) i go = λ s b more k a items. after_taken held after s new (b ++ piece) more k i (go s b a) items
-  on_taken (Err r) i go = tt
+  pub on_refused : (result : Result U Refusal) (expected : Result (Live H) Refusal) → Fed expected result (standing held new) → GoesOn held after old new piece → IfErr result (λ r. r.why ≢ why.Memory → Having held after old (λ s b. Refused after s (b ++ piece) r))
+  on_refused (Ok u) expected f go = tt
+  on_refused (Err r) expected f go = λ ne s b a. after_refused held after s new (b ++ piece) r f.1 ne (go s b a)
 
-  pub on_refused : (result : Result U Refusal) → Answered result → GoesOn held after old new piece → IfErr result (λ r. r.why ≢ why.Memory → (s : Setting H) (b : List ℕ) → After held after old s b → Refused after s (b ++ piece) r)
-  on_refused (Ok u) i go = tt
-  on_refused (Err r) i go = λ ne s b a. after_refused held after s new (b ++ piece) r i ne (go s b a)
+  pub on_same : (result : Result U Refusal) (expected : Result (Live H) Refusal) → Fed expected result (standing held new) → GoesOn held after old new piece → IfErr result (λ r. r.why ≢ why.Memory → Having held after old (λ s b. (more : List ℕ) → answer_of after s ((b ++ piece) ++ more) ≡ Err r))
+  on_same (Ok u) expected f go = tt
+  on_same (Err r) expected f go = λ ne s b a more. after_answer held after s new (b ++ piece) more r f.1 ne (go s b a)
 
-  pub on_same : (result : Result U Refusal) → Answered result → GoesOn held after old new piece → IfErr result (λ r. r.why ≢ why.Memory → (s : Setting H) (b more : List ℕ) → After held after old s b → answer_of after s ((b ++ piece) ++ more) ≡ Err r)
-  on_same (Ok u) i go = tt
-  on_same (Err r) i go = λ ne s b more a. after_answer held after s new (b ++ piece) more r i ne (go s b a)
+  pub on_place : (result : Result U Refusal) (expected : Result (Live H) Refusal) → Fed expected result (standing held new) → GoesOn held after old new piece → IfErr result (λ r. Having held after old (λ s b. r.at ≤ length (b ++ piece)))
+  on_place (Ok u) expected f go = tt
+  on_place (Err r) expected f go = λ s b a. after_place held after s new (b ++ piece) r f.1 (go s b a)
 
-  pub on_place : (result : Result U Refusal) → Answered result → GoesOn held after old new piece → IfErr result (λ r. (s : Setting H) (b : List ℕ) → After held after old s b → r.at ≤ length (b ++ piece))
-  on_place (Ok u) i go = tt
-  on_place (Err r) i go = λ s b a. after_place held after s new (b ++ piece) r i (go s b a)
+  pub on_header : (result : Result U Refusal) (expected : Result (Live H) Refusal) → Fed expected result (standing held new) → GoesOn held after old new piece → IfErr result (λ r. Having held after old (λ s b. length (b ++ piece) ≤ 8 → r.why ≢ why.Memory))
+  on_header (Ok u) expected f go = tt
+  on_header (Err r) expected f go = λ s b a few. after_header held after s new (b ++ piece) r f.1 (go s b a) few
 
-  pub on_header : (result : Result U Refusal) → Answered result → GoesOn held after old new piece → IfErr result (λ r. (s : Setting H) (b : List ℕ) → After held after old s b → length (b ++ piece) ≤ 8 → r.why ≢ why.Memory)
-  on_header (Ok u) i go = tt
-  on_header (Err r) i go = λ s b a few. after_header held after s new (b ++ piece) r i (go s b a) few
+  pub on_float : (result : Result U Refusal) (expected : Result (Live H) Refusal) → Fed expected result (standing held new) → GoesOn held after old new piece → IfErr result (λ r. r.why ≡ why.Float → NeverFloat after → Having held after old (λ s b. EndsInFloat (b ++ piece) r))
+  on_float (Ok u) expected f go = tt
+  on_float (Err r) expected f go = λ float none s b a. after_float held after s new (b ++ piece) r f.1 float none (go s b a)
 
-  pub on_float : (result : Result U Refusal) → Answered result → GoesOn held after old new piece → IfErr result (λ r. r.why ≡ why.Float → NeverFloat after → (s : Setting H) (b : List ℕ) → After held after old s b → EndsInFloat (b ++ piece) r)
-  on_float (Ok u) i go = tt
-  on_float (Err r) i go = λ float none s b a. after_float held after s new (b ++ piece) r i float none (go s b a)
-
-  pub on_refusal : (result : Result U Refusal) → Answered result → IfErr result (λ r. has_refused held new ≡ Some r)
-  on_refusal (Ok u) i = tt
-  on_refusal (Err r) i = refused_stands (standing held new) r i
+  pub on_refusal : (result : Result U Refusal) (expected : Result (Live H) Refusal) → Fed expected result (standing held new) → MatchResult result (λ u. has_refused held new ≡ None) (λ r. has_refused held new ≡ Some r)
+  on_refusal (Ok u) expected f = none_refused (standing held new) f.1
+  on_refusal (Err r) expected f = refused_stands (standing held new) r f.1
 
 module _ {S H : Type 0} (held : S → H) (after : H → Part → Result H Why) (d : Decoder S) where
-  pub finish_ok : (result : Result S Refusal) → Finished (and_then (standing held d) ended) held result → IfOk result (λ k. (s : Setting H) (b : List ℕ) → After held after d s b → Takes after s b (held k))
+  pub finish_ok : (result : Result S Refusal) → Finished (and_then (standing held d) ended) held result → IfOk result (λ k. Having held after d (λ s b. Takes after s b (held k)))
   finish_ok (Ok k) f = λ s b a. finish_takes held after s d b (held k) f a
   finish_ok (Err r) f = tt
 
   pub finish_refused : (result : Result S Refusal) → Finished (and_then (standing held d) ended) held result
-      → IfErr result (λ r. r.why ≢ why.Memory → (s : Setting H) (b : List ℕ) → After held after d s b → (last : H) → Takes after s b last → ⊥)
+      → IfErr result (λ r. r.why ≢ why.Memory → Having held after d (λ s b. (last : H) → Takes after s b last → ⊥))
   finish_refused (Ok k) f = tt
   finish_refused (Err r) f = λ ne s b a last t. finish_never held after s d b r f ne a last t
 
   pub finish_same : (result : Result S Refusal) → Finished (and_then (standing held d) ended) held result
-      → IfErr result (λ r. r.why ≢ why.Memory → (s : Setting H) (b : List ℕ) → After held after d s b → answer_of after s b ≡ Err r)
+      → IfErr result (λ r. r.why ≢ why.Memory → Having held after d (λ s b. answer_of after s b ≡ Err r))
   finish_same (Ok k) f = tt
   finish_same (Err r) f = λ ne s b a. finish_answer held after s d b r f ne a
 
-  pub finish_within : (result : Result S Refusal) → Finished (and_then (standing held d) ended) held result → IfErr result (λ r. (s : Setting H) (b : List ℕ) → After held after d s b → r.at ≤ length b)
+  pub finish_within : (result : Result S Refusal) → Finished (and_then (standing held d) ended) held result → IfErr result (λ r. Having held after d (λ s b. r.at ≤ length b))
   finish_within (Ok k) f = tt
   finish_within (Err r) f = λ s b a. (finish_place held after s d b r f a).0
 
-  pub finish_header : (result : Result S Refusal) → Finished (and_then (standing held d) ended) held result → IfErr result (λ r. (s : Setting H) (b : List ℕ) → After held after d s b → length b ≤ 8 → r.why ≢ why.Memory)
+  pub finish_header : (result : Result S Refusal) → Finished (and_then (standing held d) ended) held result → IfErr result (λ r. Having held after d (λ s b. length b ≤ 8 → r.why ≢ why.Memory))
   finish_header (Ok k) f = tt
   finish_header (Err r) f = λ s b a few. (finish_place held after s d b r f a).1 few
+
+  pub finish_float : (result : Result S Refusal) → Finished (and_then (standing held d) ended) held result
+      → IfErr result (λ r. r.why ≡ why.Float → NeverFloat after → Having held after d (λ s b. EndsInFloat b r))
+  finish_float (Ok k) f = tt
+  finish_float (Err r) f = λ float none s b a. after_float held after s d b r (finish_stuck held after s d b r f (λ e. not_both (sym float ∙ e))) float none a
+    where
+      not_both : why.Float ≡ why.Truncated → ⊥
+      not_both e = cc

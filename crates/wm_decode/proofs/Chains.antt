@@ -1,10 +1,10 @@
 -- Which section may come next.
-use Rattle.std.proofs.Common.{◌≡◌, ℕ, zero, suc, ◌+◌, ◌<◌, ◌≤◌, List, [], ◌∷◌, ◌++◌, Option, None, refl, sym, ◌∙◌, ap, subst, inl, inr, ◌⊎◌, arith}
+use Rattle.std.proofs.Common.{◌≡◌, ℕ, zero, suc, ◌+◌, ◌<◌, ◌≤◌, List, [], ◌∷◌, ◌++◌, None, refl, sym, ◌∙◌, ap, subst, inl, inr, ◌⊎◌, arith}
 use Rattle.wm_syntax.specs.declared.profile.Profile.{Profile}
 use Rattle.wm_decode.specs.Parts.{Marks}
-use Rattle.wm_decode.specs.Shapes.{Shape, Empty, Byte, Then, Times, Counted, Number, Name, Sized, Filled, nothing_at, said}
+use Rattle.wm_decode.specs.Shapes.{Shape, Byte, Then, Times, Counted, Number, Name, Sized, Filled, nothing_at, said}
 use Rattle.wm_decode.specs.Grammar.{Contents, Section, Custom, Customs, MayMiss, Optional, Chain}
-use Rattle.wm_decode.proofs.Next.{Goes, Next, Same, HasBytes, Never, head_same, not_nil, same_refl, next_from, next_byte, byte_has, then_has, then_assoc, ends_first}
+use Rattle.wm_decode.proofs.Next.{Next, HasBytes, head_same, not_nil, same_refl, next_from, next_byte, byte_has, then_has, then_assoc, ends_first}
 use Rattle.wm_syntax.specs.Reading.{fresh}
 use Rattle.wm_decode.proofs.Numbers.{Left}
 use Rattle.wm_decode.proofs.Counts.{counted_fresh}
@@ -19,6 +19,10 @@ module _ (demanded : Type 0) (p : Profile) (f : ℕ) where
   -- a section, custom or not
   abbrev pub AnySection : ℕ → Shape
   AnySection id = Then (Byte id None) (Number nothing_at (InSize id))
+
+  -- the size of a section other than a custom one, and its contents
+  abbrev Sizes : ℕ → Shape
+  Sizes id = Number nothing_at (λ n. Sized demanded n (Contents demanded p f id))
 
   -- after the id of a section
   abbrev pub InSection : ℕ → Shape → Shape
@@ -36,9 +40,16 @@ module _ (demanded : Type 0) (p : Profile) (f : ℕ) where
   byte_front id c b [] back k e h = absurd (not_nil id [] (sym h.0))
   byte_front id c b (d ∷ front) back k e h = head_same c d b (front ++ back) e ∙ head_same d id front [] h.0
 
-  section_front : (id c : ℕ) (b : List ℕ) (front back : List ℕ) (k : Marks) → c ∷ b ≡ front ++ back → AnySection id front k → c ≡ id
-  section_front id c b [] back k e h = absurd (then_has (Unit {0}) (Byte id None) (Number nothing_at (InSize id)) (byte_has (Unit {0}) id None) tt k h)
-  section_front id c b (d ∷ front) back k e h = head_same c d b (front ++ back) e ∙ byte_front id d front h.front h.back h.front_marks h.bytes h.first
+  id_has : (id : ℕ) (N : Shape) → HasBytes (Unit {0}) (Then (Byte id None) N)
+  id_has id N = then_has (Unit {0}) (Byte id None) N (byte_has (Unit {0}) id None)
+
+  id_front : (id : ℕ) (N : Shape) (c : ℕ) (b : List ℕ) (front back : List ℕ) (k : Marks) → c ∷ b ≡ front ++ back → Then (Byte id None) N front k → c ≡ id
+  id_front id N c b [] back k e h = absurd (id_has id N tt k h)
+  id_front id N c b (d ∷ front) back k e h = head_same c d b (front ++ back) e ∙ byte_front id d front h.front h.back h.front_marks h.bytes h.first
+
+  -- the same of what stands first
+  first_front : (id : ℕ) (N Q : Shape) (c : ℕ) (b : List ℕ) (k : Marks) → Then (Then (Byte id None) N) Q (c ∷ b) k → c ≡ id
+  first_front id N Q c b k h = id_front id N c b h.front h.back h.front_marks h.bytes h.first
 
   -- no custom section, and then the rest
   module _ {P : Shape} where
@@ -64,7 +75,7 @@ module _ (demanded : Type 0) (p : Profile) (f : ℕ) where
             inl (subst (λ y. P y k) eb (subst (λ y. P back y) ek q))
         by_count (suc n) front back fm bm e m t q =
             let all : Then (Then (Custom demanded) (Customs demanded)) P b k =
-                record { front = front; back = back; front_marks = fm; back_marks = bm; bytes = e; marks = m; first = record { front = t.front; back = t.back; front_marks = t.front_marks; back_marks = t.back_marks; bytes = t.bytes; marks = t.marks; first = t.first; second = (n, t.second) }; second = q } in
+            record { front = front; back = back; front_marks = fm; back_marks = bm; bytes = e; marks = m; first = record { front = t.front; back = t.back; front_marks = t.front_marks; back_marks = t.back_marks; bytes = t.bytes; marks = t.marks; first = t.first; second = (n, t.second) }; second = q } in
             inr (assoc b k all)
           where
             assoc : (b : List ℕ) (k : Marks) → Then (Then (Custom demanded) (Customs demanded)) P b k → Then (Custom demanded) (Then (Customs demanded) P) b k
@@ -109,7 +120,7 @@ module _ (demanded : Type 0) (p : Profile) (f : ℕ) where
   custom_of (suc count) id b k h = elim (split (0 ∷ b) k h) [
     | inr c ↦ c
     | inl o ↦ elim (optional_split count (suc id) (0 ∷ b) k o) [
-      | inl s ↦ absurd (no_zero id (section_front (suc id) 0 b s.front s.back s.front_marks s.bytes s.first))
+      | inl s ↦ absurd (no_zero id (first_front (suc id) (Sizes (suc id)) (Sections count (suc (suc id))) 0 b k s))
       | inr e ↦ with_rest (Custom demanded) (Sections count (suc (suc id))) (Sections (suc count) (suc id)) (left_out count (suc id) e.0) (0 ∷ b) k (custom_of count (suc id) b k e.1)
     ]
   ]
@@ -120,22 +131,20 @@ module _ (demanded : Type 0) (p : Profile) (f : ℕ) where
     from = λ b k g. custom_more count (suc id) (0 ∷ b) k ((section_next 0 (Sections count (suc id))).from b k g);
   }
 
+  -- no custom section begins with another id
+  not_custom : (Q : Shape) (c : ℕ) (b : List ℕ) (k : Marks) → Then (Custom demanded) Q (suc c ∷ b) k → ⊥
+  not_custom Q c b k t = no_zero c (sym (first_front 0 (Number nothing_at (InSize 0)) Q (suc c) b k t))
+
   -- which first bytes there may be
   first_id : (count id c : ℕ) (b : List ℕ) (k : Marks) → Sections count id (suc c ∷ b) k → (id ≤ suc c) × (suc c < id + count)
-  first_id zero id c b k h =
-      let t = times_split h.0 (suc c) b k h.1 in
-      absurd (no_zero c (sym (section_front 0 (suc c) b t.front t.back t.front_marks t.bytes t.first)))
+  first_id zero id c b k h = absurd (not_custom (Customs demanded) c b k (times_split h.0 (suc c) b k h.1))
   first_id (suc count) id c b k h = elim (split (suc c ∷ b) k h) [
-    | inr t ↦ absurd (no_zero c (sym (section_front 0 (suc c) b t.front t.back t.front_marks t.bytes t.first)))
+    | inr t ↦ absurd (not_custom (Then (Customs demanded) (Then (Optional demanded p f id) (Sections count (suc id)))) c b k t)
     | inl o ↦ elim (optional_split count id (suc c ∷ b) k o) [
-      | inl s ↦ let e : suc c ≡ id = by_section id s.front s.back s.front_marks s.bytes s.first in (omega (arith, e), omega (arith, e))
+      | inl s ↦ let e : suc c ≡ id = first_front id (Sizes id) (Sections count (suc id)) (suc c) b k s in (omega (arith, e), omega (arith, e))
       | inr m ↦ let r = first_id count (suc id) c b k m.1 in (omega (arith, r.0), omega (arith, r.1))
     ]
   ]
-    where
-      by_section : (id : ℕ) (front back : List ℕ) (fm : Marks) → suc c ∷ b ≡ front ++ back → Section demanded p f id front fm → suc c ≡ id
-      by_section id [] back fm e h = absurd (then_has (Unit {0}) (Byte id None) (Number nothing_at (λ n. Sized demanded n (Contents demanded p f id))) (byte_has (Unit {0}) id None) tt fm h)
-      by_section id (d ∷ front) back fm e h = head_same (suc c) d b (front ++ back) e ∙ byte_front id d front h.front h.back h.front_marks h.bytes h.first
 
   -- the sections in between are missing
   section_of : (j count id c : ℕ) → suc c ≡ id + j → (b : List ℕ) (k : Marks) → Sections (suc (j + count)) id (suc c ∷ b) k → Then (Section demanded p f (suc c)) (Sections count (suc (suc c))) (suc c ∷ b) k
@@ -143,7 +152,7 @@ module _ (demanded : Type 0) (p : Profile) (f : ℕ) where
       let i : id ≡ suc c = omega (arith, e) in
       let h' : Sections (suc count) (suc c) (suc c ∷ b) k = subst (λ y. Sections (suc count) y (suc c ∷ b) k) i (subst (λ y. Sections (suc y) id (suc c ∷ b) k) (let z : 0 + count ≡ count = omega arith in z) h) in
       elim (split (suc c ∷ b) k h') [
-        | inr t ↦ absurd (no_zero c (sym (section_front 0 (suc c) b t.front t.back t.front_marks t.bytes t.first)))
+        | inr t ↦ absurd (not_custom (Then (Customs demanded) (Then (Optional demanded p f (suc c)) (Sections count (suc (suc c))))) c b k t)
         | inl o ↦ elim (optional_split count (suc c) (suc c ∷ b) k o) [
           | inl s ↦ s
           | inr m ↦ let r = first_id count (suc (suc c)) c b k m.1 in absurd (omega (arith, r.0))
@@ -151,21 +160,14 @@ module _ (demanded : Type 0) (p : Profile) (f : ℕ) where
       ]
   section_of (suc j) count id c e b k h =
       elim (split (suc c ∷ b) k h) [
-        | inr t ↦ absurd (no_zero c (sym (section_front 0 (suc c) b t.front t.back t.front_marks t.bytes t.first)))
+        | inr t ↦ absurd (not_custom (Then (Customs demanded) (Then (Optional demanded p f id) (Sections (suc j + count) (suc id)))) c b k t)
         | inl o ↦ elim (optional_split (suc j + count) id (suc c ∷ b) k o) [
-          | inl s ↦ absurd (not_here s)
+          | inl s ↦ let r : suc c ≡ id = first_front id (Sizes id) (Sections (suc j + count) (suc id)) (suc c) b k s in absurd (omega (arith, r, e))
           | inr m ↦
               let i : suc c ≡ suc id + j = omega (arith, e) in
               section_of j count (suc id) c i b k (subst (λ y. Sections y (suc id) (suc c ∷ b) k) (let z : suc j + count ≡ suc (j + count) = omega arith in z) m.1)
         ]
       ]
-    where
-      not_here : Then (Section demanded p f id) (Sections (suc j + count) (suc id)) (suc c ∷ b) k → ⊥
-      not_here s = let r : suc c ≡ id = head_of id s.front s.back s.front_marks s.bytes s.first in omega (arith, r, e)
-        where
-          head_of : (id : ℕ) (front back : List ℕ) (fm : Marks) → suc c ∷ b ≡ front ++ back → Section demanded p f id front fm → suc c ≡ id
-          head_of id [] back fm e h = absurd (then_has (Unit {0}) (Byte id None) (Number nothing_at (λ n. Sized demanded n (Contents demanded p f id))) (byte_has (Unit {0}) id None) tt fm h)
-          head_of id (d ∷ front) back fm e h = head_same (suc c) d b (front ++ back) e ∙ byte_front id d front h.front h.back h.front_marks h.bytes h.first
 
   of_section : (j count id c : ℕ) → suc c ≡ id + j → ((i : ℕ) → id ≤ i → i < suc c → MayMiss f i) → (b : List ℕ) (k : Marks) → Then (Section demanded p f (suc c)) (Sections count (suc (suc c))) b k → Sections (suc (j + count)) id b k
   of_section zero count id c e may b k h =
@@ -190,15 +192,15 @@ module _ (demanded : Type 0) (p : Profile) (f : ℕ) where
   -- the sections may be over
   no_times : (n : ℕ) (k : Marks) → Times n (Custom demanded) [] k → k ≡ []
   no_times zero k h = h.1
-  no_times (suc n) k h = absurd (then_has (Unit {0}) (Custom demanded) (Times n (Custom demanded)) (then_has (Unit {0}) (Byte 0 None) (Number nothing_at (InSize 0)) (byte_has (Unit {0}) 0 None)) tt k h)
+  no_times (suc n) k h = absurd (then_has (Unit {0}) (Custom demanded) (Times n (Custom demanded)) (id_has 0 (Number nothing_at (InSize 0))) tt k h)
 
   no_section : (id : ℕ) (Q : Shape) → HasBytes (Unit {0}) (Then (Section demanded p f id) Q)
-  no_section id Q = then_has (Unit {0}) (Section demanded p f id) Q (then_has (Unit {0}) (Byte id None) (Number nothing_at (λ n. Sized demanded n (Contents demanded p f id))) (byte_has (Unit {0}) id None))
+  no_section id Q = then_has (Unit {0}) (Section demanded p f id) Q (id_has id (Sizes id))
 
   pub over_marks : (count id : ℕ) (k : Marks) → Sections count id [] k → k ≡ []
   over_marks zero id k h = no_times h.0 k h.1
   over_marks (suc count) id k h = elim (split [] k h) [
-    | inr t ↦ absurd (then_has (Unit {0}) (Custom demanded) (Then (Customs demanded) (Then (Optional demanded p f id) (Sections count (suc id)))) (then_has (Unit {0}) (Byte 0 None) (Number nothing_at (InSize 0)) (byte_has (Unit {0}) 0 None)) tt k t)
+    | inr t ↦ absurd (then_has (Unit {0}) (Custom demanded) (Then (Customs demanded) (Then (Optional demanded p f id) (Sections count (suc id)))) (id_has 0 (Number nothing_at (InSize 0))) tt k t)
     | inl o ↦ elim (optional_split count id [] k o) [
       | inl s ↦ absurd (no_section id (Sections count (suc id)) tt k s)
       | inr m ↦ over_marks count (suc id) k m.1

@@ -1,5 +1,5 @@
 -- What may still come of a section's contents, and that each byte goes on with it.
-use Rattle.std.proofs.Common.{◌≡◌, ℕ, zero, suc, ◌<◌, ◌^◌, List, [], ◌∷◌, ◌++◌, Option, Some, None, refl, sym, ◌∙◌, ap, subst, arith, nat_eq, cond}
+use Rattle.std.proofs.Common.{◌≡◌, ℕ, zero, suc, ◌<◌, ◌^◌, List, [], ◌∷◌, Option, Some, None, refl, sym, ◌∙◌, ap, subst, arith, nat_eq, cond}
 use Rattle.std.proofs.lemmas.Bool.{cond_both, eqb-true, eqb-false}
 use Rattle.wm_syntax.specs.declared.types.ValType.{ValType}
 use Rattle.wm_syntax.specs.declared.types.ValType.TheVariants.{I32, I64}
@@ -15,14 +15,14 @@ use Rattle.wm_decode.specs.declared.machine.Inside.{Inside}
 use Rattle.wm_decode.specs.declared.machine.Inside.TheVariants as inside
 use Rattle.wm_decode.specs.declared.machine.Event.{Event}
 use Rattle.wm_decode.specs.declared.machine.Event.TheVariants as event
-use Rattle.wm_decode.specs.Parts.{Part, new_type, param, result_count, one_result, Marks}
-use Rattle.wm_decode.specs.Shapes.{Shape, Empty, Byte, Then, Times, Counted, Number, Vector, nothing_at, ending, said}
+use Rattle.wm_decode.specs.Parts.{Part, new_type, param, result_count, one_result}
+use Rattle.wm_decode.specs.Shapes.{Shape, Empty, Byte, Then, Times, Counted, Vector, nothing_at, ending, said}
 use Rattle.wm_decode.specs.Grammar.{ValueType, ResultTypes, FunctionType}
 use Rattle.wm_decode.specs.Steps.{on_number, failed, types_or_over, value_type, after_param, after_result, inside_step}
 use Rattle.wm_decode.specs.Runs.{heard, Heard, plain_part}
-use Rattle.wm_decode.proofs.Next.{Next, Same, HasBytes, Never, head_same, tail_same, not_nil, same_refl, same_then, next_same, next_from, next_to, next_never, next_byte, other_byte, byte_has, then_has, empty_then, then_assoc, then_same, ends_first, fails_first}
+use Rattle.wm_decode.proofs.Next.{Next, Same, HasBytes, Never, head_same, tail_same, not_nil, same_refl, same_then, next_from, next_to, next_never, next_byte, other_byte, byte_has, then_has, empty_then, then_assoc, ends_first, fails_first}
 use Rattle.wm_decode.proofs.Numbers.{Left}
-use Rattle.wm_decode.proofs.Counts.{CountedNext, counted_next, counted_has, counted_then, number_fresh, counted_fresh}
+use Rattle.wm_decode.proofs.Counts.{CountedNext, counted_next, counted_has, number_fresh, counted_fresh}
 
 -- no two value types have one byte
 same_type : (t u : ValType) → type_byte t ≡ type_byte u → u ≡ t

@@ -1,5 +1,5 @@
 -- What may still come of a custom section, and that each byte goes on with it.
-use Rattle.std.proofs.Common.{◌≡◌, ℕ, zero, suc, ◌<◌, ◌^◌, List, [], ◌∷◌, ◌++◌, Option, None, refl}
+use Rattle.std.proofs.Common.{ℕ, zero, suc, ◌<◌, ◌^◌, List, [], ◌∷◌, ◌++◌, Option, None}
 use Rattle.std.proofs.lemmas.Bool.{cond_both}
 use Rattle.std.specs.Str.{is_utf8}
 use Rattle.wm_syntax.specs.declared.why.Why.TheVariants as why
@@ -16,7 +16,7 @@ use Rattle.wm_decode.specs.Parts.{Part, Mark}
 use Rattle.wm_decode.specs.Shapes.{Shape, Empty, Filled, said}
 use Rattle.wm_decode.specs.Steps.{on_number, no_custom, after_length, name_step, custom_step}
 use Rattle.wm_decode.specs.Runs.{heard, Heard, named}
-use Rattle.wm_decode.proofs.Next.{Next, Same, HasBytes, Never, same_then, next_to, next_never}
+use Rattle.wm_decode.proofs.Next.{Next, HasBytes, Never, next_to, next_never}
 use Rattle.wm_decode.proofs.Texts.{NameLeft, TextLeft, TextNext, text_done, text_next, text_has, named_byte, left_more, left_last, left_bad, left_has, AnyBytes, any_next, any_has, filled_next, filled_has, filled_empty, filled_never}
 
 -- the name of a custom section gives no part

@@ -1,5 +1,5 @@
 -- The name Float is given for a byte that stands for a floating-point type.
-use Rattle.std.proofs.Common.{◌≡◌, ℕ, zero, suc, ◌+◌, ◌≤◌, List, [], ◌∷◌, ◌++◌, Option, Some, None, Result, Ok, Err, length, refl, sym, ◌∙◌, ap, subst, inl, inr, ◌⊎◌, arith, append_assoc, true, false, nat_eq, nat_lt, get_or, cond}
+use Rattle.std.proofs.Common.{◌≡◌, ℕ, zero, suc, ◌+◌, ◌≤◌, List, [], ◌∷◌, ◌++◌, Option, Some, None, Result, Err, length, refl, sym, ◌∙◌, ap, inl, inr, arith, append_assoc, nat_eq, nat_lt, get_or}
 use Rattle.std.proofs.lemmas.Bool.{cond_both, eqb-true}
 use Rattle.std.specs.Str.{is_utf8}
 use Rattle.wm_syntax.specs.declared.why.Why.{Why}
@@ -21,14 +21,13 @@ use Rattle.wm_decode.specs.declared.machine.Event.{Event}
 use Rattle.wm_decode.specs.declared.machine.Event.TheVariants as event
 use Rattle.wm_decode.specs.declared.refusal.Refusal.{Refusal}
 use Rattle.wm_decode.specs.Parts.{Part}
-use Rattle.wm_decode.specs.Shapes.{said}
 use Rattle.wm_decode.specs.Sections.{header}
 use Rattle.wm_decode.specs.Grammar.{last_read}
 use Rattle.wm_decode.specs.Steps.{on_number, failed, types_or_over, after_param, after_result, value_type, no_custom, after_length, name_step, custom_framed, framed, refused, section_start, after_size, header_step, step_of, custom_step, inside_step}
-use Rattle.wm_decode.specs.Runs.{heard, Heard, State, hear, named}
+use Rattle.wm_decode.specs.Runs.{heard, Heard, hear}
 use Rattle.wm_decode.specs.Live.{IsRefused, Live, offered, live_byte, decoded}
 use Rattle.wm_decode.specs.Decoding.{IsFloatByte, EndsInFloat, NeverFloat}
-use Rattle.wm_decode.proofs.Theorem.{Used, used_of, Reached, reached, live_err, state_of}
+use Rattle.wm_decode.proofs.Theorem.{used_of, reached, live_err, state_of}
 
 -- what is not refused by this name
 abbrev Calm : Machine → Type 0

@@ -1,6 +1,6 @@
 -- Memory can't run out in the header.
-use Rattle.std.proofs.Common.{◌≡◌, ℕ, zero, suc, ◌+◌, ◌<◌, ◌≤◌, List, [], ◌∷◌, ◌++◌, length, cond, refl, inl, inr, ◌⊎◌, arith, nat_eq, nat_lt, get_or, ap, sym, ◌∙◌, subst, Result, Ok, Err, Some, None}
-use Rattle.std.proofs.lemmas.Bool.{cond_both, ltb-true, ltb-false}
+use Rattle.std.proofs.Common.{◌≡◌, ℕ, zero, suc, ◌+◌, ◌<◌, ◌≤◌, List, [], ◌∷◌, ◌++◌, length, refl, inl, inr, ◌⊎◌, arith, nat_eq, nat_lt, get_or, ap, sym, ◌∙◌, subst, Result, Ok, Err, Some, None}
+use Rattle.std.proofs.lemmas.Bool.{cond_both, ltb-false}
 use Rattle.wm_syntax.specs.declared.why.Why.{Why}
 use Rattle.wm_syntax.specs.declared.why.Why.TheVariants as why
 use Rattle.wm_syntax.specs.declared.numbers.Step.{Step}
@@ -17,14 +17,14 @@ use Rattle.wm_decode.specs.declared.machine.Event.{Event}
 use Rattle.wm_decode.specs.declared.machine.Event.TheVariants as event
 use Rattle.wm_decode.specs.Sections.{header}
 use Rattle.wm_decode.specs.Grammar.{last_read}
-use Rattle.wm_decode.specs.Steps.{on_number, custom_framed, framed, refused, section_start, after_size, contents, header_step, step_of, custom_step, inside_step}
+use Rattle.wm_decode.specs.Steps.{on_number, custom_framed, framed, refused, section_start, after_size, header_step, step_of, custom_step, inside_step}
 use Rattle.std.specs.Str.{is_utf8}
 use Rattle.wm_decode.specs.declared.refusal.Refusal.{Refusal}
 use Rattle.wm_decode.specs.Parts.{Part}
 use Rattle.wm_decode.specs.Sinks.{and_then}
 use Rattle.wm_decode.specs.Runs.{heard, Heard, State, hear}
 use Rattle.wm_decode.specs.Live.{IsAt, refusal_of, offered, Live, live_byte, decoded}
-use Rattle.wm_decode.proofs.Theorem.{Stepped, Used, Reached, used_of, reached, live_ok, live_err, state_of}
+use Rattle.wm_decode.proofs.Theorem.{Stepped, Used, used_of, reached, live_ok, live_err, state_of}
 
 custom_at : (last more : ℕ) (q : InCustom) (at : ℕ) → 8 ≤ at → IsAt (custom_framed last more q) (at + 1)
 custom_at last more (custom.Failed w) at h = λ e. omega arith

@@ -12,3 +12,6 @@ pub mod Header
 pub mod Limits
 pub mod Floats
 pub mod Calls
+pub mod Taking
+pub mod Fronts
+pub mod Stage

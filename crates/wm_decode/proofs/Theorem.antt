@@ -1,5 +1,5 @@
 -- The machine and a sink, over whole inputs.
-use Rattle.std.proofs.Common.{◌≡◌, ℕ, suc, ◌+◌, ◌<◌, ◌≤◌, List, [], ◌∷◌, ◌++◌, Option, Some, None, Result, Ok, Err, length, refl, sym, ◌∙◌, ap, subst, inl, inr, ◌⊎◌, arith, append-nil, append_assoc, true, false, nat_lt, cond, take}
+use Rattle.std.proofs.Common.{◌≡◌, ℕ, suc, ◌+◌, ◌<◌, ◌≤◌, List, [], ◌∷◌, ◌++◌, Option, Some, None, Result, Ok, Err, length, refl, sym, ◌∙◌, ap, subst, inl, inr, ◌⊎◌, arith, append-nil, true, false, nat_lt, cond, take}
 use Rattle.std.proofs.lemmas.Bool.{cond_both, ltb-true, ltb-false, lt-ltb}
 use Rattle.std.proofs.lemmas.List.{take_at}
 use Rattle.std.specs.Str.{is_utf8}
@@ -95,7 +95,7 @@ module _ {H : Type 0} (after : H → Part → Result H Why) (limit : ℕ) where
   settled_live (machine.Refused w) name h at n = absurd (n tt)
   settled_live m name h at n = refl
 
-  settled_not : (m : Machine) (name : List ℕ) (h : H) (at : ℕ) (l : Live H) → settled m name h at ≡ Ok l → IsRefused m → ⊥
+  pub settled_not : (m : Machine) (name : List ℕ) (h : H) (at : ℕ) (l : Live H) → settled m name h at ≡ Ok l → IsRefused m → ⊥
   settled_not (machine.Refused w) name h at l e i = cc
   settled_not m name h at l e i = i
 
@@ -266,6 +266,14 @@ module _ {H : Type 0} (after : H → Part → Result H Why) (limit : ℕ) where
   length_marks [] s = refl
   length_marks (c ∷ b) s = ap suc (length_marks b (after_byte s c))
 
+-- what is said of the bytes of a module is what the machine says
+pub items_are : (p : Profile) (b : List ℕ) (k : Marks) → AreBytes b → Items p b k → (k ≡ marks begin b) × IsBetween (run begin b).machine
+items_are p b k bytes i =
+    let whole : Items p (b ++ []) k = subst (λ y. Items p y k) (sym (append-nil b)) i in
+    let g = run_to strict p tt begin b [] k bytes (begin_to strict p (b ++ []) k whole) in
+    let d = ends strict p tt (run begin b).machine (run begin b).name g.0 g.2 in
+    (g.1 ∙ (ap (λ y. marks begin b ++ y) d.0 ∙ append-nil (marks begin b)), d.1)
+
 module _ {H : Type 0} (after : H → Part → Result H Why) (s : Setting H) where
   abbrev Starts : Live H
   Starts = begun s.first
@@ -310,20 +318,27 @@ module _ {H : Type 0} (after : H → Part → Result H Why) (s : Setting H) wher
   pub never : (b more : List ℕ) (last : H) (r : Refusal) → AreBytes b → decoded after s.limit Starts b ≡ Err r → Takes after s (b ++ more) last → ⊥
   never b more last r bytes e t = let f = front_taken b more last bytes t in let no_way : Err r ≡ Ok f.0 = sym e ∙ f.1 in cc
 
+  ended_held : (x : Result (Live H) Refusal) (m : Live H) (last : H) → x ≡ Ok m → IsBetween m.machine → m.held ≡ last → and_then x ended ≡ Ok last
+  ended_held x m last e i h =
+      let at_end : and_then x ended ≡ ended_at m.machine m.held m.at = ap (λ y. and_then y ended) e in
+      at_end ∙ (between_ended after s.limit m.machine m.held m.at i ∙ ap Ok h)
+
   pub ended_of_takes : (last : H) (b : List ℕ) → AreBytes b → Takes after s b last → and_then (decoded after s.limit Starts b) ended ≡ Ok last
   ended_of_takes last b bytes t =
-      let g = begins_with b [] t.items bytes (subst (λ y. Items s.profile y t.items) (sym (append-nil b)) t.module_items) in
-      let d = ends strict s.profile tt (run begin b).machine (run begin b).name g.0 g.2 in
-      let k : t.items ≡ marks begin b = g.1 ∙ (ap (λ y. marks begin b ++ y) d.0 ∙ append-nil (marks begin b)) in
-      let given : all_given after s.first (marks begin b) ≡ Ok last = ap (all_given after s.first) (sym k) ∙ (given_taken after t.items s.first ∙ t.taken) in
+      let i = items_are s.profile b t.items bytes t.module_items in
+      let given : all_given after s.first (marks begin b) ≡ Ok last = ap (all_given after s.first) (sym i.0) ∙ (given_taken after t.items s.first ∙ t.taken) in
       let room : 0 + length b ≤ s.limit = omega (arith, t.within) in
-      let r = reaches after s.limit b Starts last room given (between_live after s.limit (run begin b).machine d.1) in
+      let r = reaches after s.limit b Starts last room given (between_live after s.limit (run begin b).machine i.1) in
       let m : (run begin b).machine ≡ r.0.machine = sym (ap (λ (y : State). y.machine) r.3) in
-      ap (λ y. and_then y ended) r.1 ∙ (between_ended after s.limit r.0.machine r.0.held r.0.at (subst IsBetween m d.1) ∙ ap Ok r.2)
+      ended_held (decoded after s.limit Starts b) r.0 last r.1 (subst IsBetween m i.1) r.2
+
+  -- the marks so far are those of any module that begins so
+  pub marks_of : (b more : List ℕ) (k : Marks) → AreBytes b → Items s.profile (b ++ more) k → marks begin b ≡ take (length b) k
+  marks_of b more k bytes i =
+      let g = begins_with b more k bytes i in
+      sym (ap (take (length b)) g.1 ∙ take_at (marks begin b) g.0 (length b) (length_marks after s.limit b begin))
 
   -- what a sink has taken of any module that begins so
   pub so_far : (b more : List ℕ) (k : Marks) (m : Live H) → AreBytes b → decoded after s.limit Starts b ≡ Ok m → Items s.profile (b ++ more) k → all_taken after s.first (parts_of (take (length b) k)) ≡ Ok m.held
   so_far b more k m bytes e i =
-      let g = begins_with b more k bytes i in
-      let t : take (length b) k ≡ marks begin b = ap (take (length b)) g.1 ∙ take_at (marks begin b) g.0 (length b) (length_marks after s.limit b begin) in
-      ap (λ y. all_taken after s.first (parts_of y)) t ∙ (sym (given_taken after (marks begin b) s.first) ∙ (reached after s.limit b Starts m e).held)
+      ap (λ y. all_taken after s.first (parts_of y)) (sym (marks_of b more k bytes i)) ∙ (sym (given_taken after (marks begin b) s.first) ∙ (reached after s.limit b Starts m e).held)

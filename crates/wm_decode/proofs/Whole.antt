@@ -1,5 +1,5 @@
 -- What may still come of a module, and that each byte goes on with it.
-use Rattle.std.proofs.Common.{◌≡◌, ℕ, zero, suc, ◌+◌, ◌-◌, ◌<◌, ◌≤◌, ◌^◌, ◌↔◌, List, [], ◌∷◌, ◌++◌, Option, Some, None, length, refl, sym, ◌∙◌, ap, subst, inl, inr, append_assoc, append-nil, arith, true, false, nat_eq, nat_lt, cond, drop, get_or, add-one, drop-cons}
+use Rattle.std.proofs.Common.{◌≡◌, ℕ, zero, suc, ◌+◌, ◌-◌, ◌<◌, ◌≤◌, ◌^◌, List, [], ◌∷◌, ◌++◌, Some, None, refl, sym, ◌∙◌, ap, subst, arith, true, false, nat_eq, nat_lt, cond, drop, get_or, add-one, drop-cons}
 use Rattle.std.proofs.lemmas.Bool.{cond_both, eqb-true, eqb-false, ltb-true, ltb-false}
 use Rattle.std.specs.Str.{is_utf8}
 use Rattle.wm_syntax.specs.declared.why.Why.{Why}
@@ -19,7 +19,7 @@ use Rattle.wm_decode.specs.declared.machine.Machine.TheVariants as machine
 use Rattle.wm_decode.specs.declared.machine.Event.{Event}
 use Rattle.wm_decode.specs.declared.machine.Event.TheVariants as event
 use Rattle.wm_decode.specs.Parts.{Mark, Marks}
-use Rattle.wm_decode.specs.Shapes.{Shape, Empty, Literal, Then, Times, Name, Sized, Filled, Counted, Vector, nothing_at, ending, said}
+use Rattle.wm_decode.specs.Shapes.{Shape, Empty, Literal, Then, Name, Sized, Filled, Counted, Vector, nothing_at, ending, said}
 use Rattle.wm_decode.specs.Sections.{header}
 use Rattle.wm_decode.specs.Grammar.{FunctionType, MayMiss, Chain, Module, last_read}
 use Rattle.wm_decode.specs.Steps.{on_number, custom_framed, framed, refused, section_start, contents, after_size, header_step, step_of, custom_step, inside_step}
@@ -28,9 +28,9 @@ use Rattle.wm_decode.proofs.Next.{Next, Same, HasBytes, Never, head_same, tail_s
 use Rattle.wm_decode.proofs.Numbers.{Left}
 use Rattle.wm_decode.proofs.Counts.{CountedNext, counted_next, counted_has}
 use Rattle.wm_decode.proofs.Texts.{NameLeft, TextLeft, text_has, text_fresh, left_has, named_byte, AnyBytes, any_none, any_more, sized_next, sized_has, sized_none, sized_empty, sized_over, sized_never, sized_same, filled_none, filled_same}
-use Rattle.wm_decode.proofs.Contents.{InsideRest, hears, inside_follows, inside_has, vector_same}
-use Rattle.wm_decode.proofs.Customs.{unnamed, CustomRest, custom_hears, custom_follows, custom_has}
-use Rattle.wm_decode.proofs.Chains.{InSection, custom_next, section_goes, not_first, over_marks, over, renumbered}
+use Rattle.wm_decode.proofs.Contents.{InsideRest, inside_follows, inside_has, vector_same}
+use Rattle.wm_decode.proofs.Customs.{unnamed, CustomRest, custom_follows, custom_has}
+use Rattle.wm_decode.proofs.Chains.{custom_next, section_goes, not_first, over_marks, over, renumbered}
 
 -- a section of functions or of code may be left out where there is no function
 pub no_function : (i : ℕ) → MayMiss 0 i

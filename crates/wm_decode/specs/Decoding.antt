@@ -1,5 +1,5 @@
 -- What a decoder has read, and when a sink takes a module.
-use Rattle.std.specs.Prelude.{◌≡◌, ◌≢◌, ℕ, ◌≤◌, ◌<◌, ◌+◌, List, [], ◌∷◌, ◌++◌, Option, Some, None, Result, Ok, Err, ◌⊎◌, length}
+use Rattle.std.specs.Prelude.{◌≡◌, ℕ, ◌≤◌, ◌<◌, ◌+◌, List, ◌∷◌, ◌++◌, Option, Some, None, Result, Ok, Err, ◌⊎◌, length}
 use Rattle.wm_syntax.specs.declared.profile.Profile.{Profile}
 use Rattle.wm_syntax.specs.declared.why.Why.{Why}
 use Rattle.wm_syntax.specs.declared.why.Why.TheVariants as why
@@ -18,7 +18,8 @@ pub record Setting (H : Type 0) : Type 0 where
   pub first : H
 
 -- the bytes are a module within the limit whose parts the sink takes, and it then holds last
-pub record Takes {H : Type 0} (after : H → Part → Result H Why) (s : Setting H) (bytes : List ℕ) (last : H) : Type 0 where
+pub record Takes {H : Type 0} (after : H → Part → Result H Why) (s : Setting H) (bytes : List ℕ) (last : H)
+    : Type 0 where
   pub items : Marks
   pub module_items : Items s.profile bytes items
   pub within : length bytes ≤ s.limit
@@ -33,18 +34,25 @@ pub record RanOut {A : Type 0} (now : Result A Refusal) (bytes : List ℕ) : Typ
   pub place : refusal.at ≤ length bytes
 
 -- the decoder, which was made so, has read just these bytes, or memory ran out
-pub record After {S H : Type 0} (held : S → H) (after : H → Part → Result H Why) (d : Decoder S) (s : Setting H) (bytes : List ℕ) : Type 0 where
+pub record After {S H : Type 0} (held : S → H) (after : H → Part → Result H Why) (d : Decoder S) (s : Setting H)
+    (bytes : List ℕ) : Type 0 where
   pub profile : d.profile ≡ s.profile
   pub limit : d.max_bytes ≡ s.limit
   pub are_bytes : AreBytes bytes
   pub stands : (standing held d ≡ decoded after s.limit (begun s.first) bytes) ⊎ RanOut (standing held d) bytes
+
+-- however the decoder was made and whatever it has read, by the record above
+abbrev pub Having : {S H : Type 0} → (S → H) → (H → Part → Result H Why) → Decoder S
+    → (Setting H → List ℕ → Type 0) → Type 0
+Having {S} {H} held after d P = (s : Setting H) (bytes : List ℕ) → After held after d s bytes → P s bytes
 
 -- what a decoder answers to a whole input, however it is cut, unless memory runs out
 abbrev pub answer_of : {H : Type 0} → (H → Part → Result H Why) → Setting H → List ℕ → Result H Refusal
 answer_of after s bytes = and_then (decoded after s.limit (begun s.first) bytes) ended
 
 -- the input was refused at a place within it, and no module that the sink takes begins with the bytes up to there
-pub record Refused {H : Type 0} (after : H → Part → Result H Why) (s : Setting H) (bytes : List ℕ) (r : Refusal) : Type 0 where
+pub record Refused {H : Type 0} (after : H → Part → Result H Why) (s : Setting H) (bytes : List ℕ) (r : Refusal)
+    : Type 0 where
   pub used : List ℕ
   pub rest : List ℕ
   pub whole : bytes ≡ used ++ rest

@@ -3,19 +3,19 @@
 --
 -- Where all is demanded, sizes and names are as the format has them. Where it is not, they are left open: that is
 -- for fronts of an input that may still be refused for a size or a name that isn't complete.
-use Rattle.std.specs.Prelude.{ℕ, zero, suc, ◌+◌, ◌≤◌, ◌≡◌, ◌<◌, ◌^◌, List, [], ◌∷◌, ◌++◌, ◌⊎◌, Option, Some, None, length}
+use Rattle.std.specs.Prelude.{ℕ, zero, suc, ◌+◌, ◌≤◌, ◌≡◌, ◌<◌, ◌^◌, List, [], ◌∷◌, ◌++◌, ◌⊎◌, Some, None}
 use Rattle.std.specs.List.{AllByRecursion}
 use Rattle.wm_syntax.specs.declared.instructions.Op.{Op}
 use Rattle.wm_syntax.specs.declared.instructions.Op.TheVariants as op
 use Rattle.wm_syntax.specs.declared.modules.ExportKind.{ExportKind}
 use Rattle.wm_syntax.specs.declared.types.ValType.{ValType}
 use Rattle.wm_syntax.specs.declared.profile.Profile.{Profile}
-use Rattle.wm_syntax.specs.Spelling.{Form, Byte as OneByte, ◌▸◌}
+use Rattle.wm_syntax.specs.Spelling.{Byte as OneByte, ◌▸◌}
 use Rattle.wm_syntax.specs.Types.{SpellsU32, SpellsValType, SpellsLimits, SpellsTableType, SpellsGlobalType}
 use Rattle.wm_syntax.specs.Instructions.{SpellsOp}
 use Rattle.wm_syntax.specs.Profiles.{IsOpOf}
 use Rattle.wm_decode.specs.Sections.{SpellsDesc, SpellsRun, kind_byte, header}
-use Rattle.wm_decode.specs.Parts.{Part, new_type, param, result_count, one_result, import_module, import_name, import_desc, function, table, memory, global, const_op, export_name, export, start, element, element_function, body, locals, body_op, segment, data_byte, Marks}
+use Rattle.wm_decode.specs.Parts.{Part, new_type, param, result_count, one_result, import_module, import_name, import_desc, function, table, memory, global, const_op, export_name, export, start, element, element_function, body, locals, body_op, segment, data_byte}
 use Rattle.wm_decode.specs.Shapes.{Shape, Empty, Byte, Literal, Then, Times, Leaf, Number, Vector, Index, Name, Sized, Filled, Entry, nothing_at, ending}
 
 -- sizes and names are as the format has them, or are left open
@@ -38,7 +38,8 @@ FunctionType = Then (Byte 0x60 (Some new_type)) (Then (Vector (ValueType param))
 -- imports (section 5.5.5)
 abbrev pub Import : Type 0 → Shape
 Import demanded =
-    Then (Name demanded (λ text. Some (import_module text))) (Then (Name demanded (λ text. Some (import_name text))) (Leaf SpellsDesc import_desc))
+    Then (Name demanded (λ text. Some (import_module text)))
+    (Then (Name demanded (λ text. Some (import_name text))) (Leaf SpellsDesc import_desc))
 
 -- how many lists of instructions these ops open, and how many they close
 abbrev pub opens : List Op → ℕ
@@ -148,7 +149,8 @@ Optional demanded p f id b k = Section demanded p f id b k ⊎ (MayMiss f id × 
 -- the sections from one id on, so many, in order, with custom sections before, between and after them
 abbrev pub Chain : Type 0 → Profile → (f count id : ℕ) → Shape
 Chain demanded p f zero id = Customs demanded
-Chain demanded p f (suc count) id = Then (Customs demanded) (Then (Optional demanded p f id) (Chain demanded p f count (suc id)))
+Chain demanded p f (suc count) id =
+    Then (Customs demanded) (Then (Optional demanded p f id) (Chain demanded p f count (suc id)))
 
 -- A module that has no section of an id above the last one here (section 5.5.15): the magic number and the version,
 -- and the sections. With 11 it is any module.
@@ -162,10 +164,3 @@ last_read = 1
 -- the bytes are a whole input, of which so much is said beside each byte
 abbrev pub Items : Profile → Shape
 Items p = Module strict p last_read
-
--- the bytes so far of an input: some more would make them whole, sizes and names aside
-pub record IsFront (p : Profile) (b : List ℕ) (k : Marks) : Type 0 where
-  pub rest : List ℕ
-  pub rest_marks : Marks
-  pub same : length b ≡ length k
-  pub whole : Module loose p last_read (b ++ rest) (k ++ rest_marks)

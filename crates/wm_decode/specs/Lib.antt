@@ -7,3 +7,4 @@ pub mod Steps
 pub mod Runs
 pub mod Live
 pub mod Decoding
+pub mod Fronts

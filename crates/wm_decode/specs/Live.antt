@@ -81,7 +81,8 @@ pub record ByteTaken {H : Type 0} (expected : Result (Live H) Refusal) (now : Li
   pub as_expected : expected ≡ Ok now
   pub live : ¬ (IsRefused now.machine)
 
-pub record ByteRefused {H : Type 0} (expected : Result (Live H) Refusal) (r : Refusal) (stands : Result (Live H) Refusal) : Type 0 where
+pub record ByteRefused {H : Type 0} (expected : Result (Live H) Refusal) (r : Refusal)
+    (stands : Result (Live H) Refusal) : Type 0 where
   pub as_expected : r.why ≢ why.Memory → expected ≡ Err r
   pub standing : stands ≡ Err r
 

@@ -38,7 +38,8 @@ pub record Heard (M : Type 0) : Type 0 where
 abbrev pub heard : {M : Type 0} → (Why → M) → List ℕ → ℕ → M × Event → Heard M
 heard refuse so_far c (m, event.Quiet) = record { at = m; name = []; mark = said None }
 heard refuse so_far c (m, event.Gives p) = record { at = m; name = []; mark = said (Some (plain_part p)) }
-heard refuse so_far c (m, event.InName) = record { at = m; name = so_far ++ c ∷ []; mark = record { zone = in_name; part = None } }
+heard refuse so_far c (m, event.InName) =
+    record { at = m; name = so_far ++ c ∷ []; mark = record { zone = in_name; part = None } }
 heard refuse so_far c (m, event.EndsName kind) =
     if is_utf8 (so_far ++ c ∷ [])
     then record { at = m; name = []; mark = said (named kind (so_far ++ c ∷ [])) }

@@ -70,7 +70,8 @@ abbrev pub Leaf : {X : Type 0} → (X → Form ℕ) → (X → Part) → Shape
 Leaf {X} Spells part b k = (x : X) × Spells x b × (k ≡ ending (Some (part x)) b)
 
 -- a number n, spelled so, at whose last byte a part may be complete, and then what n asks for
-pub record Counted (Spells : ℕ → List ℕ → Type 0) (x : ℕ → Option Part) (F : ℕ → Shape) (b : List ℕ) (k : Marks) : Type 0 where
+pub record Counted (Spells : ℕ → List ℕ → Type 0) (x : ℕ → Option Part) (F : ℕ → Shape) (b : List ℕ) (k : Marks)
+    : Type 0 where
   pub n : ℕ
   pub front : List ℕ
   pub back : List ℕ
@@ -95,7 +96,8 @@ abbrev pub Index : (ℕ → Part) → Shape
 Index part = Number (λ n. Some (part n)) (λ n. Empty)
 
 -- A name (section 5.2.4): how long it is, spelled so, and its bytes. Where all is demanded they are UTF-8.
-pub record Text (demanded : Type 0) (Spells : ℕ → List ℕ → Type 0) (x : List ℕ → Option Part) (b : List ℕ) (k : Marks) : Type 0 where
+pub record Text (demanded : Type 0) (Spells : ℕ → List ℕ → Type 0) (x : List ℕ → Option Part) (b : List ℕ) (k : Marks)
+    : Type 0 where
   pub front : List ℕ
   pub text : List ℕ
   pub bytes : b ≡ front ++ text

@@ -37,7 +37,8 @@ after_length zero = (custom.Skip, event.EmptyName kind.Custom)
 after_length (suc n) = (custom.Name n, event.Quiet)
 
 abbrev pub length_step : Partial → ℕ → InCustom × Event
-length_step r c = on_number (unsigned_push 32 r c) (λ s. (custom.Length s, event.Quiet)) after_length (no_custom why.BadNumber)
+length_step r c =
+    on_number (unsigned_push 32 r c) (λ s. (custom.Length s, event.Quiet)) after_length (no_custom why.BadNumber)
 
 abbrev pub name_step : ℕ → InCustom × Event
 name_step zero = (custom.Skip, event.EndsName kind.Custom)
@@ -66,7 +67,8 @@ value_type c part next =
 
 abbrev pub type_count_step : Partial → ℕ → Inside × Event
 type_count_step r c =
-    on_number (unsigned_push 32 r c) (λ s. (inside.TypeCount s, event.Quiet)) (λ n. (types_or_over n, event.Quiet)) (failed why.BadNumber)
+    on_number (unsigned_push 32 r c) (λ s. (inside.TypeCount s, event.Quiet)) (λ n. (types_or_over n, event.Quiet))
+    (failed why.BadNumber)
 
 abbrev pub type_form_step : ℕ → ℕ → Inside × Event
 type_form_step types c =
@@ -79,7 +81,8 @@ after_param types (suc n) = inside.Param types n
 
 abbrev pub param_count_step : ℕ → Partial → ℕ → Inside × Event
 param_count_step types r c =
-    on_number (unsigned_push 32 r c) (λ s. (inside.ParamCount types s, event.Quiet)) (λ n. (after_param types n, event.Quiet)) (failed why.BadNumber)
+    on_number (unsigned_push 32 r c) (λ s. (inside.ParamCount types s, event.Quiet))
+    (λ n. (after_param types n, event.Quiet)) (failed why.BadNumber)
 
 abbrev pub param_step : ℕ → ℕ → ℕ → Inside × Event
 param_step types more c = value_type c plain.Param (after_param types more)
@@ -90,7 +93,8 @@ after_result types (suc n) = inside.ResultType types n
 
 abbrev pub result_count_step : ℕ → Partial → ℕ → Inside × Event
 result_count_step types r c =
-    on_number (unsigned_push 32 r c) (λ s. (inside.ResultCount types s, event.Quiet)) (λ n. (after_result types n, event.Gives (plain.ResultCount n))) (failed why.BadNumber)
+    on_number (unsigned_push 32 r c) (λ s. (inside.ResultCount types s, event.Quiet))
+    (λ n. (after_result types n, event.Gives (plain.ResultCount n))) (failed why.BadNumber)
 
 abbrev pub result_type_step : ℕ → ℕ → ℕ → Inside × Event
 result_type_step types more c = value_type c plain.OneResult (after_result types more)
@@ -141,7 +145,8 @@ after_size (suc m) last (suc n) = machine.Section last n (contents (suc m))
 
 abbrev pub size_step : ℕ → ℕ → Partial → ℕ → Machine × Event
 size_step id last r c =
-    on_number (unsigned_push 32 r c) (λ s. (machine.Size id last s, event.Quiet)) (λ n. (after_size id last n, event.Quiet)) (refused why.BadNumber)
+    on_number (unsigned_push 32 r c) (λ s. (machine.Size id last s, event.Quiet))
+    (λ n. (after_size id last n, event.Quiet)) (refused why.BadNumber)
 
 abbrev pub header_step : ℕ → ℕ → Machine × Event
 header_step n c =

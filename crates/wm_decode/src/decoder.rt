@@ -1,10 +1,11 @@
-ghost use Rattle.std.specs.Prelude.{◌≡◌, ◌≢◌, ◌+◌, ◌-◌, ◌++◌, ◌∷◌, ◌≤◌, ◌<◌, ◌^◌, [], Ok, Err, ℕ, List, IfErr, IfOk, IsOk, Some, length, take, slice_range, slice_index, drop, Result, MatchResult, OnOk};
+ghost use Rattle.std.specs.Prelude.{◌≡◌, ◌≢◌, ◌+◌, ◌-◌, ◌++◌, ◌∷◌, ◌≤◌, ◌<◌, ◌^◌, [], Ok, Err, ℕ, List, IfErr, IfOk, IsOk, None, Some, length, take, slice_range, slice_index, drop, Result, MatchResult, OnOk};
 ghost use Rattle.wm_syntax.specs.declared.why.Why.TheVariants.{Float, Memory};
 ghost use Rattle.wm_decode.specs.declared.refusal.Refusal.{Refusal};
 ghost use Rattle.wm_decode.specs.Sinks.{all_taken, and_then};
 ghost use Rattle.wm_decode.specs.Parts.{Marks, parts_of};
 ghost use Rattle.wm_decode.specs.Grammar.{Items};
-ghost use Rattle.wm_decode.specs.Decoding.{After, EndsInFloat, NeverFloat, Refused, Setting, Takes, answer_of, has_refused, held_in};
+ghost use Rattle.wm_decode.specs.Decoding.{After, EndsInFloat, Having, NeverFloat, Refused, Takes, answer_of, has_refused, held_in};
+ghost use Rattle.wm_decode.specs.Fronts.{SoFar};
 ghost use Rattle.wm_decode.specs.Live.{IsAt, told, live_byte, decoded, IsRefused, standing, live_with, ByteTaken, ByteRefused, Fed, refusal_of, ended, Finished};
 
 use crate::machine::{Event, Machine};
@@ -30,9 +31,12 @@ fn heed<S: Sink>(
     requires within { i < length piece.now }
     requires order { from ≤ i }
     ensures told { MatchResult result
-        (λ next. (next ≤ i + 1) × (told S.after event (name.old.items ++ slice_range piece.now from i) (slice_index piece.now i) (S.held sink.old)
+        (λ next. (next ≤ i + 1)
+        × (told S.after event (name.old.items ++ slice_range piece.now from i) (slice_index piece.now i) (S.held sink.old)
         ≡ Ok (name.new.items ++ slice_range piece.now next (i + 1), S.held sink.new)))
-        (λ w. w ≢ Memory → told S.after event (name.old.items ++ slice_range piece.now from i) (slice_index piece.now i) (S.held sink.old) ≡ Err w) }
+        (λ w. w ≢ Memory
+        → told S.after event (name.old.items ++ slice_range piece.now from i) (slice_index piece.now i) (S.held sink.old)
+        ≡ Err w) }
     ensures quiet { event ≡ Event.Quiet → result ≡ Ok (i + 1) }
 {
     match event {
@@ -88,43 +92,46 @@ impl<S: Sink> Decoder<S> {
     /// Takes the next piece of the input, of any length. After a refusal every further piece is
     /// refused in the same way.
     pub fn feed(&mut self, piece: &[u8]) -> Result<(), Refusal>
-        ensures after { (s : Setting S.Held) (before : List ℕ) → After S.held S.after self.old s before
-            → After S.held S.after self.new s (before ++ piece.now) }
+        ensures after { Having S.held S.after self.old (λ s before. After S.held S.after self.new s (before ++ piece.now)) }
         // Of each input that begins with the bytes so far, the sink has taken just the parts that are complete in them.
-        ensures taken { OnOk result ((s : Setting S.Held) (before more : List ℕ) (items : Marks) → After S.held S.after self.old s before
+        ensures taken { OnOk result (Having S.held S.after self.old (λ s before. (more : List ℕ) (items : Marks)
             → Items s.profile ((before ++ piece.now) ++ more) items
-            → all_taken S.after s.first (parts_of (take (length (before ++ piece.now)) items)) ≡ Ok (held_in S.held self.new)) }
+            → all_taken S.after s.first (parts_of (take (length (before ++ piece.now)) items))
+            ≡ Ok (held_in S.held self.new))) }
+        // The same whatever may come; and of the input the decoder keeps a name that goes on.
+        ensures so_far { OnOk result (Having S.held S.after self.old (λ s before.
+            SoFar S.held S.after self.new s (before ++ piece.now))) }
         // No input that the sink takes begins with the bytes up to the place.
-        ensures refused { IfErr result (λ r. r.why ≢ Memory → (s : Setting S.Held) (before : List ℕ) → After S.held S.after self.old s before
-            → Refused S.after s (before ++ piece.now) r) }
+        ensures refused { IfErr result (λ r. r.why ≢ Memory
+            → Having S.held S.after self.old (λ s before. Refused S.after s (before ++ piece.now) r)) }
         // The joined bytes alone say which refusal it is, whatever comes after them.
-        ensures same { IfErr result (λ r. r.why ≢ Memory → (s : Setting S.Held) (before more : List ℕ) → After S.held S.after self.old s before
-            → answer_of S.after s ((before ++ piece.now) ++ more) ≡ Err r) }
-        ensures place { IfErr result (λ r. (s : Setting S.Held) (before : List ℕ) → After S.held S.after self.old s before
-            → r.at ≤ length (before ++ piece.now)) }
+        ensures same { IfErr result (λ r. r.why ≢ Memory → Having S.held S.after self.old (λ s before. (more : List ℕ)
+            → answer_of S.after s ((before ++ piece.now) ++ more) ≡ Err r)) }
+        ensures place { IfErr result (λ r. Having S.held S.after self.old (λ s before. r.at ≤ length (before ++ piece.now))) }
         // The header takes no memory.
-        ensures header { IfErr result (λ r. (s : Setting S.Held) (before : List ℕ) → After S.held S.after self.old s before
-            → length (before ++ piece.now) ≤ 8 → r.why ≢ Memory) }
-        ensures float { IfErr result (λ r. r.why ≡ Float → NeverFloat S.after → (s : Setting S.Held) (before : List ℕ) → After S.held S.after self.old s before
-            → EndsInFloat (before ++ piece.now) r) }
+        ensures header { IfErr result (λ r.
+            Having S.held S.after self.old (λ s before. length (before ++ piece.now) ≤ 8 → r.why ≢ Memory)) }
+        ensures float { IfErr result (λ r. r.why ≡ Float → NeverFloat S.after
+            → Having S.held S.after self.old (λ s before. EndsInFloat (before ++ piece.now) r)) }
         // After a refusal nothing changes, and the answer is the same.
         ensures sticky { (r : Refusal) → has_refused S.held self.old ≡ Some r → (result ≡ Err r) × (self.new ≡ self.old) }
-        ensures refusal { IfErr result (λ r. has_refused S.held self.new ≡ Some r) }
+        ensures refusal { MatchResult result (λ u. has_refused S.held self.new ≡ None)
+            (λ r. has_refused S.held self.new ≡ Some r) }
     {
         self.take_piece(piece)
     }
 
     /// The sink, where the pieces together are a module. A refusal hands nothing back.
     pub fn finish(self) -> Result<S, Refusal>
-        ensures ok { IfOk result (λ sink. (s : Setting S.Held) (bytes : List ℕ) → After S.held S.after self s bytes
-            → Takes S.after s bytes (S.held sink)) }
-        ensures refused { IfErr result (λ r. r.why ≢ Memory → (s : Setting S.Held) (bytes : List ℕ) → After S.held S.after self s bytes
-            → (last : S.Held) → Takes S.after s bytes last → ⊥) }
-        ensures same { IfErr result (λ r. r.why ≢ Memory → (s : Setting S.Held) (bytes : List ℕ) → After S.held S.after self s bytes
-            → answer_of S.after s bytes ≡ Err r) }
-        ensures place { IfErr result (λ r. (s : Setting S.Held) (bytes : List ℕ) → After S.held S.after self s bytes → r.at ≤ length bytes) }
-        ensures header { IfErr result (λ r. (s : Setting S.Held) (bytes : List ℕ) → After S.held S.after self s bytes
-            → length bytes ≤ 8 → r.why ≢ Memory) }
+        ensures ok { IfOk result (λ sink. Having S.held S.after self (λ s bytes. Takes S.after s bytes (S.held sink))) }
+        ensures refused { IfErr result (λ r. r.why ≢ Memory
+            → Having S.held S.after self (λ s bytes. (last : S.Held) → Takes S.after s bytes last → ⊥)) }
+        ensures same { IfErr result (λ r. r.why ≢ Memory
+            → Having S.held S.after self (λ s bytes. answer_of S.after s bytes ≡ Err r)) }
+        ensures place { IfErr result (λ r. Having S.held S.after self (λ s bytes. r.at ≤ length bytes)) }
+        ensures header { IfErr result (λ r. Having S.held S.after self (λ s bytes. length bytes ≤ 8 → r.why ≢ Memory)) }
+        ensures float { IfErr result (λ r. r.why ≡ Float → NeverFloat S.after
+            → Having S.held S.after self (λ s bytes. EndsInFloat bytes r)) }
         ensures sticky { (r : Refusal) → has_refused S.held self ≡ Some r → result ≡ Err r }
     {
         self.end()
@@ -164,9 +171,11 @@ impl<S: Sink> Decoder<S> {
         ensures at { self.new.at ≡ self.old.at + 1 }
         ensures taken { MatchResult result
             (λ next. (next ≤ i + 1)
-            × ByteTaken (live_byte S.after self.old.max_bytes (live_with S.held self.old (slice_range piece.now from i)) (slice_index piece.now i))
+            × ByteTaken
+            (live_byte S.after self.old.max_bytes (live_with S.held self.old (slice_range piece.now from i)) (slice_index piece.now i))
             (live_with S.held self.new (slice_range piece.now next (i + 1))))
-            (λ r. ByteRefused (live_byte S.after self.old.max_bytes (live_with S.held self.old (slice_range piece.now from i)) (slice_index piece.now i))
+            (λ r. ByteRefused
+            (live_byte S.after self.old.max_bytes (live_with S.held self.old (slice_range piece.now from i)) (slice_index piece.now i))
             r (standing S.held self.new)) }
         ensures memory { IsAt self.old.machine self.old.at → MatchResult result
             (λ next. IsAt self.new.machine self.new.at × (next < i + 1 → 8 < self.new.at))
@@ -191,11 +200,14 @@ impl<S: Sink> Decoder<S> {
         requires room { length piece.now ≤ self.old.max_bytes - self.old.at }
         ensures limit { self.new.max_bytes ≡ self.old.max_bytes }
         ensures profile { self.new.profile ≡ self.old.profile }
-        ensures at { MatchResult result (λ from. self.new.at ≡ self.old.at + length piece.now) (λ r. r.at ≤ self.old.at + length piece.now) }
+        ensures at { MatchResult result (λ from. self.new.at ≡ self.old.at + length piece.now)
+            (λ r. r.at ≤ self.old.at + length piece.now) }
         ensures taken { MatchResult result
             (λ from. (from ≤ length piece.now)
-            × ByteTaken (decoded S.after self.old.max_bytes (live_with S.held self.old []) piece.now) (live_with S.held self.new (drop from piece.now)))
-            (λ r. ByteRefused (decoded S.after self.old.max_bytes (live_with S.held self.old []) piece.now) r (standing S.held self.new)) }
+            × ByteTaken (decoded S.after self.old.max_bytes (live_with S.held self.old []) piece.now)
+            (live_with S.held self.new (drop from piece.now)))
+            (λ r. ByteRefused (decoded S.after self.old.max_bytes (live_with S.held self.old []) piece.now)
+            r (standing S.held self.new)) }
         ensures memory { IsAt self.old.machine self.old.at → MatchResult result
             (λ from. from < length piece.now → 8 < self.new.at)
             (λ r. r.why ≡ Memory → 8 < r.at) }
@@ -232,8 +244,10 @@ impl<S: Sink> Decoder<S> {
         requires room { length piece.now ≤ self.old.max_bytes - self.old.at }
         ensures limit { self.new.max_bytes ≡ self.old.max_bytes }
         ensures profile { self.new.profile ≡ self.old.profile }
-        ensures fed { Fed (decoded S.after self.old.max_bytes (live_with S.held self.old []) piece.now) result (standing S.held self.new) }
-        ensures at { MatchResult result (λ u. self.new.at ≡ self.old.at + length piece.now) (λ r. r.at ≤ self.old.at + length piece.now) }
+        ensures fed { Fed (decoded S.after self.old.max_bytes (live_with S.held self.old []) piece.now) result
+            (standing S.held self.new) }
+        ensures at { MatchResult result (λ u. self.new.at ≡ self.old.at + length piece.now)
+            (λ r. r.at ≤ self.old.at + length piece.now) }
         ensures memory { IsAt self.old.machine self.old.at → IfErr result (λ r. r.why ≡ Memory → 8 < r.at) }
     {
         match self.bytes(piece) {
@@ -243,7 +257,8 @@ impl<S: Sink> Decoder<S> {
     }
 
     fn take_piece(&mut self, piece: &[u8]) -> Result<(), Refusal>
-        ensures fed { Fed (and_then (standing S.held self.old) (λ l. decoded S.after self.old.max_bytes l piece.now)) result (standing S.held self.new) }
+        ensures fed { Fed (and_then (standing S.held self.old) (λ l. decoded S.after self.old.max_bytes l piece.now)) result
+            (standing S.held self.new) }
         ensures limit { self.new.max_bytes ≡ self.old.max_bytes }
         ensures profile { self.new.profile ≡ self.old.profile }
         ensures sticky { (r : Refusal) → standing S.held self.old ≡ Err r → (result ≡ Err r) × (self.new ≡ self.old) }
@@ -268,7 +283,8 @@ impl<S: Sink> Decoder<S> {
         requires long { room < length piece.now }
         ensures limit { self.new.max_bytes ≡ self.old.max_bytes }
         ensures profile { self.new.profile ≡ self.old.profile }
-        ensures fed { Fed (decoded S.after self.old.max_bytes (live_with S.held self.old []) piece.now) result (standing S.held self.new) }
+        ensures fed { Fed (decoded S.after self.old.max_bytes (live_with S.held self.old []) piece.now) result
+            (standing S.held self.new) }
         ensures place { IfErr result (λ r. r.at ≤ self.old.at + length piece.now) }
         ensures memory { IsAt self.old.machine self.old.at → IfErr result (λ r. r.why ≡ Memory → 8 < r.at) }
     {

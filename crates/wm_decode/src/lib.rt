@@ -4,6 +4,7 @@
 
 mod decoder;
 mod item;
+pub mod laws;
 mod machine;
 mod names;
 mod refusal;
@@ -12,7 +13,7 @@ mod state;
 mod step;
 
 pub use item::Item;
-pub use machine::{Event, InCustom, Inside, Machine, NameKind, Plain};
+pub use machine::{InCustom, Inside, Machine};
 pub use refusal::Refusal;
 pub use sink::Sink;
 pub use state::Decoder;

@@ -9,7 +9,7 @@ use wm_syntax::why::Why;
 
 /// Which name is read.
 #[derive(Clone, Copy)]
-pub enum NameKind {
+pub(crate) enum NameKind {
     Custom,
     ImportModule,
     ImportName,
@@ -18,7 +18,7 @@ pub enum NameKind {
 
 /// A part of a module that holds no bytes of the input.
 #[derive(Clone, Copy)]
-pub enum Plain {
+pub(crate) enum Plain {
     NewType,
     Param(ValType),
     ResultCount(u32),
@@ -27,7 +27,7 @@ pub enum Plain {
 
 impl Plain {
     /// The item that it is.
-    pub fn item(self) -> Item<'static>
+    pub(crate) fn item(self) -> Item<'static>
         ensures { item_parts result ≡ plain_part self ∷ [] }
     {
         match self {
@@ -40,15 +40,16 @@ impl Plain {
 }
 
 /// Where in a custom section the next byte stands.
+///
+/// Of a name, and of what has a size, the counts are those that come after the byte at hand.
 #[derive(Clone, Copy)]
 pub enum InCustom {
     Length(Num32),
     /// In the name, with so many bytes of it after the next.
-    Name {
-        more: u32,
-    },
+    Name { more: u32 },
     /// After the name.
     Skip,
+    /// The byte was refused; the section's frame makes this a refusal at once.
     Failed(Why),
 }
 
@@ -57,27 +58,14 @@ pub enum InCustom {
 #[derive(Clone, Copy)]
 pub enum Inside {
     TypeCount(Num32),
-    TypeForm {
-        types: u32,
-    },
-    ParamCount {
-        types: u32,
-        number: Num32,
-    },
-    Param {
-        types: u32,
-        more: u32,
-    },
-    ResultCount {
-        types: u32,
-        number: Num32,
-    },
-    ResultType {
-        types: u32,
-        more: u32,
-    },
+    TypeForm { types: u32 },
+    ParamCount { types: u32, number: Num32 },
+    Param { types: u32, more: u32 },
+    ResultCount { types: u32, number: Num32 },
+    ResultType { types: u32, more: u32 },
     /// Nothing may follow.
     Over,
+    /// The byte was refused; the section's frame makes this a refusal at once.
     Failed(Why),
 }
 
@@ -89,14 +77,11 @@ pub enum Machine {
     Header(u8),
     /// Between sections, after this id.
     Between(u8),
-    /// In the size of a section with this id.
+    /// In the size of a section with this id; the last id that must rise is this one or, of a custom
+    /// section, the one before.
     Size { id: u8, last: u8, number: Num32 },
     /// In a custom section, with so many bytes of it after the next.
-    Custom {
-        last: u8,
-        more: u32,
-        part: InCustom,
-    },
+    Custom { last: u8, more: u32, part: InCustom },
     /// In the contents of another section, with so many bytes of it after the next.
     Section { last: u8, more: u32, part: Inside },
     Refused(Why),
@@ -104,7 +89,7 @@ pub enum Machine {
 
 /// What a byte completes.
 #[derive(Clone, Copy)]
-pub enum Event {
+pub(crate) enum Event {
     Quiet,
     Gives(Plain),
     /// It is a byte of a name that goes on.

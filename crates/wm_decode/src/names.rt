@@ -33,13 +33,14 @@ fn give_name<S: Sink>(sink: &mut S, kind: NameKind, name: &[u8]) -> Result<(), W
 }
 
 // gives the name that is in the buffer and in this part of the piece
-pub fn end_name<S: Sink>(
+pub(crate) fn end_name<S: Sink>(
     sink: &mut S,
     buffer: &mut Vec<u8>,
     kind: NameKind,
     part: &[u8],
 ) -> Result<(), Why>
-    ensures given { Taken (name_taken S.after kind (buffer.old.items ++ part.now) (S.held sink.old)) result (S.held sink.new) }
+    ensures given { Taken (name_taken S.after kind (buffer.old.items ++ part.now) (S.held sink.old)) result
+        (S.held sink.new) }
     ensures empty { OnOk result (buffer.new.items ≡ []) }
 {
     if buffer.is_empty() {
@@ -55,7 +56,7 @@ pub fn end_name<S: Sink>(
 }
 
 // gives a name of no bytes
-pub fn give_empty<S: Sink>(sink: &mut S, kind: NameKind) -> Result<(), Why>
+pub(crate) fn give_empty<S: Sink>(sink: &mut S, kind: NameKind) -> Result<(), Why>
     ensures { Taken (offered S.after (named kind []) (S.held sink.old)) result (S.held sink.new) }
 {
     match kind {
@@ -67,7 +68,7 @@ pub fn give_empty<S: Sink>(sink: &mut S, kind: NameKind) -> Result<(), Why>
 }
 
 // gives a part that holds no bytes
-pub fn give_plain<S: Sink>(sink: &mut S, part: Plain) -> Result<(), Why>
+pub(crate) fn give_plain<S: Sink>(sink: &mut S, part: Plain) -> Result<(), Why>
     ensures { Taken (S.after (S.held sink.old) (plain_part part)) result (S.held sink.new) }
 {
     sink.take(part.item())

@@ -149,10 +149,7 @@ fn result_count(types: u32, mut number: Num32, byte: u8) -> (Inside, Event)
 {
     match number.push(byte) {
         Step::More => (Inside::ResultCount { types, number }, Event::Quiet),
-        Step::Done(n) => (
-            after_result(types, n),
-            Event::Gives(Plain::ResultCount(n)),
-        ),
+        Step::Done(n) => (after_result(types, n), Event::Gives(Plain::ResultCount(n))),
         Step::Bad => failed(Why::BadNumber),
     }
 }
@@ -285,7 +282,7 @@ fn in_header(at: u8, byte: u8) -> (Machine, Event)
 }
 
 /// The machine after one more byte, and what this byte completes.
-pub fn step(machine: Machine, byte: u8) -> (Machine, Event)
+pub(crate) fn step(machine: Machine, byte: u8) -> (Machine, Event)
     ensures { result ≡ step_of machine byte }
 {
     match machine {

@@ -1,0 +1,4 @@
+pub mod Cuts
+pub mod Halving
+pub mod RunLists
+pub mod Takes

@@ -1,0 +1,4 @@
+pub mod Exact
+pub mod ExactRuns
+pub mod Runs
+pub mod Stack
