@@ -34,6 +34,6 @@ abbrev mutual
   HasInstructions p none = Unit {0}
   HasInstructions p (snoc s i) = HasInstructions p s × HasInstruction p i
 
--- each instruction of the module is of the profile
+-- each instruction of the module is of the profile; a constant is of every one
 abbrev pub IsOf : Profile → Module → Type 0
 IsOf p m = AllByRecursion (λ f. HasInstructions p f.body) m.functions

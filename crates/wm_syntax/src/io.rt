@@ -1,6 +1,6 @@
 //! Readers and writers that remember whether they have failed.
 
-ghost use Rattle.std.specs.Prelude.{◌≡◌, ℕ, ◌<◌, ◌||◌, Bool, false, List, Option, length, take, is_err, IfOk, OnOk, OnErr, ◌≤◌};
+ghost use Rattle.std.specs.Prelude.{◌≡◌, ℕ, ◌<◌, ◌||◌, Bool, false, List, Option, length, take, is_err, IfOk, OnOk, IfErr, ◌≤◌};
 ghost use Rattle.std.specs.Io.{ReadsAtMost, WritesAtMost};
 ghost use Rattle.std.specs.Io.KnownBytes.{Appends, Keeps, ReadConsumes, WriteAppends};
 
@@ -55,16 +55,19 @@ pub trait Dest {
         ensures { result ≡ has_failed self.now };
 }
 
-/// Writes all of `bytes`. On an error a beginning of them was written.
-pub fn put_all<W: Dest>(w: &mut W, bytes: &[u8]) -> io::Result<()>
+/// Writes all of `bytes`. An error says how many of them were written before it.
+pub fn put_all<W: Dest>(w: &mut W, bytes: &[u8]) -> Result<(), usize>
     requires { W.has_failed w.old ≡ false }
     ensures written { OnOk result (Appends (W.contents w.old) (W.contents w.new) bytes.now) }
-    ensures beginning { OnErr result ((n : ℕ) × (n ≤ length bytes.now) × Appends (W.contents w.old) (W.contents w.new) (take n bytes.now)) }
+    ensures beginning { IfErr result (λ n. (n ≤ length bytes.now) × Appends (W.contents w.old) (W.contents w.new) (take n bytes.now)) }
     ensures failed { W.has_failed w.new ≡ is_err result }
 {
     let mut from = 0;
     while from < bytes.len() {
-        from += w.put(&bytes[from..])?;
+        match w.put(&bytes[from..]) {
+            Ok(n) => from += n,
+            Err(_) => return Err(from),
+        }
     }
     Ok(())
 }

@@ -15,6 +15,7 @@ fn bytes_go_through(rt: HostRuntime) -> Result<(), Fail> {
     assert_eq!(rt; source.get(&mut buf)?, 1);
     assert_eq!(rt; source.get(&mut buf)?, 0);
     assert!(rt; !source.failed());
+    assert_eq!(rt; source.into_inner().len(), 0);
     let mut dest = Output::new(Vec::new(rt.alloc()));
     assert_eq!(rt; dest.put(b"asm")?, 3);
     dest.flush()?;
@@ -102,7 +103,14 @@ fn all_is_put(rt: HostRuntime) -> Result<(), Fail> {
     let mut dest = Output::new(Slow {
         taken: Vec::new(rt.alloc()),
     });
-    put_all(&mut dest, b"wasm")?;
+    assert_eq!(rt; put_all(&mut dest, b"wasm"), Ok(()));
     assert_eq!(rt; dest.into_inner().taken.as_slice(), b"wasm".as_slice());
     Ok(())
+}
+
+#[test]
+fn what_was_put_before_a_fault(rt: HostRuntime) {
+    let mut dest = Output::new(Unwilling { calls: 1 });
+    assert_eq!(rt; put_all(&mut dest, b"wasm"), Err(0));
+    assert!(rt; dest.failed());
 }
