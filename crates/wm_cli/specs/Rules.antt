@@ -7,7 +7,7 @@ use Rattle.wm_syntax.specs.declared.why.Why.TheVariants.{Arity}
 use Rattle.wm_decode.specs.Parts.{Part, result_count, Marks, parts_of}
 use Rattle.wm_decode.specs.Grammar.{Items}
 
--- a function type has at most one result (section 3.2.3)
+-- a function type has at most one result (section 3.2.2)
 abbrev pub HasOneResult : Part → Type 0
 HasOneResult (result_count n) = n ≤ 1
 HasOneResult _ = Unit {0}

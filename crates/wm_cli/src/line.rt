@@ -8,6 +8,7 @@ use std::alloc::{AllocError, Global};
 use std::convert::AsStr;
 
 const DEFAULT_LIMIT: u64 = 4294967295;
+
 const MOST_LIMIT: u64 = 4611686018427387904;
 
 /// A limit in decimal digits, at most 2^62.
@@ -24,7 +25,11 @@ fn limit_of(text: &str) -> Option<u64>
         }
         limit = limit.checked_mul(10)?.checked_add(u64::from(*byte - b'0'))?;
     }
-    if limit > MOST_LIMIT { None } else { Some(limit) }
+    if limit > MOST_LIMIT {
+        None
+    } else {
+        Some(limit)
+    }
 }
 
 /// The action of this name.
@@ -57,8 +62,7 @@ fn command<'a>(alloc: Global) -> Result<Command<'a>, AllocError> {
 }
 
 /// Reads the words, of which the first is the program's name.
-pub fn line<S: AsStr>(alloc: Global, words: &[S]) -> Result<Line, LineFault>
-{
+pub fn line<S: AsStr>(alloc: Global, words: &[S]) -> Result<Line, LineFault> {
     let command = command(alloc)?;
     let matches = match command.try_get_matches_from(words) {
         Ok(matches) => matches,

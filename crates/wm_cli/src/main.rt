@@ -37,13 +37,27 @@ fn follow<R: Files + Input + Print + AllocGlobal>(rt: &R, line: &Line) -> Status
     match &line.file {
         None => {
             let mut input = InputOf::new(rt.reader());
-            run(rt.alloc(), line.action, Profile::One, line.limit, &mut input, &mut output)
+            run(
+                rt.alloc(),
+                line.action,
+                Profile::One,
+                line.limit,
+                &mut input,
+                &mut output,
+            )
         }
         Some(name) => match fs::open(rt, name.as_str()) {
             Err(_) => Status::Io,
             Ok(file) => {
                 let mut input = InputOf::new(file);
-                run(rt.alloc(), line.action, Profile::One, line.limit, &mut input, &mut output)
+                run(
+                    rt.alloc(),
+                    line.action,
+                    Profile::One,
+                    line.limit,
+                    &mut input,
+                    &mut output,
+                )
             }
         },
     }

@@ -1,4 +1,4 @@
-//! The rules that the checker knows so far: a function type has at most one result (section 3.2.3).
+//! The rules that the checker knows so far: a function type has at most one result (section 3.2.2).
 
 ghost use Rattle.wm_cli.specs.Rules.{at_most_one_result};
 
@@ -11,7 +11,9 @@ pub struct TypeRules;
 
 impl Sink for TypeRules {
     ghost Held = { Unit {0} };
+
     ghost held = { λ _. tt };
+
     ghost after = { λ _ part. at_most_one_result part };
 
     #[tactic(auto, using(crate::proofs::RulesLemmas::data_taken))]

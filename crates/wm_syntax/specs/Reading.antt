@@ -22,7 +22,9 @@ abbrev pub SignedRest : ℕ → Partial → ℤ → Form ℕ
 SignedRest bits r z more =
     (7 * r.count < bits) × (high : ℤ) × (z ≡ pos r.low +ℤ (pos (2 ^ (7 * r.count)) *ℤ high)) × Signed (bits - 7 * r.count) high more
 
--- A reader that was given just the bytes before: what spells a number with them is what it still takes.
+-- From now on the reader reads as after the bytes before: with what follows they spell a number exactly where what
+-- follows is what it still takes. A new reader does so after no bytes, and each push carries it on, so what a reader
+-- says of bytes needs no belief in what it holds.
 pub record After {A : Type 0} (Spells rest : A → Form ℕ) (before : List ℕ) : Type 0 where
   pub same : (n : A) (byte : ℕ) (more : List ℕ) → Spells n (before ++ byte ∷ more) ↔ rest n (byte ∷ more)
 

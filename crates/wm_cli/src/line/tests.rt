@@ -18,7 +18,10 @@ fn words_are_read(rt: HostRuntime) -> Result<(), Fail> {
     let full = line(rt.alloc(), &["wmod", "check", "--limit", "007", "-"])?;
     assert_eq!(rt; full.limit, 7);
     assert_eq!(rt; full.file.as_ref().map(|f| f.as_str()), Some("-"));
-    let most = line(rt.alloc(), &["wmod", "--limit=4611686018427387904", "check"])?;
+    let most = line(
+        rt.alloc(),
+        &["wmod", "--limit=4611686018427387904", "check"],
+    )?;
     assert_eq!(rt; most.limit, 4611686018427387904);
     Ok(())
 }
@@ -29,8 +32,18 @@ fn bad_words(rt: HostRuntime) {
     assert!(rt; is_words(&["wmod", "check", "--limit", "+7"], rt.alloc()));
     assert!(rt; is_words(&["wmod", "check", "--limit", ""], rt.alloc()));
     assert!(rt; is_words(&["wmod", "check", "--limit", "0x7"], rt.alloc()));
-    assert!(rt; is_words(&["wmod", "check", "--limit", "4611686018427387905"], rt.alloc()));
-    assert!(rt; is_words(&["wmod", "check", "--limit", "99999999999999999999"], rt.alloc()));
+    assert!(rt;
+        is_words(
+            &["wmod", "check", "--limit", "4611686018427387905"],
+            rt.alloc()
+        )
+    );
+    assert!(rt;
+        is_words(
+            &["wmod", "check", "--limit", "99999999999999999999"],
+            rt.alloc()
+        )
+    );
     assert!(rt; is_parser(&["wmod"], rt.alloc()));
     assert!(rt; is_parser(&["wmod", "check", "--limit"], rt.alloc()));
     assert!(rt; is_parser(&["wmod", "check", "--most", "7"], rt.alloc()));

@@ -8,5 +8,5 @@ pub returns-in-Ok-clause-answered : goal.returns-in-Ok-clause-answered
 returns-in-Ok-clause-answered g c = λ m. (
   (λ e. c.in_default.not-Memory e),
   subst (λ (text : List ℕ). IsAnswered text status.Refused (g.W.Dest.contents c.args.w.now) (g.W.Dest.contents c.answer.new.w) (g.W.Dest.has_failed c.answer.new.w) c.answer.result)
-  (c.as_bytes.ensures.value ∙ c.in-Ok.ensures.ok ∙ ap (line_with c.args.refusal.at) c.name.ensures) c.answer.ensures,
+      (c.as_bytes.ensures.value ∙ c.in-Ok.ensures.ok ∙ ap (line_with c.args.refusal.at) c.name.ensures) c.answer.ensures,
 )

@@ -12,6 +12,6 @@ returns-in-Refused-clause-answered g c = λ o m. (
   refusal_line c.in-Refused.refusal.at c.in-Refused.refusal.why,
   status.Refused,
   out_of_refusal c.args.profile c.args.limit (g.R.Source.remaining c.args.r.now) c.in-Refused.refusal (c.refuse.ensures.answered m).0
-  (subst (λ (v : Result Summary Fault). Judges c.args.profile c.args.limit (g.R.Source.remaining c.args.r.now) v) (c.in-Err.is ∙ ap Err c.in-Refused.is) c.validate_from-judged.ensures.judged),
+      (subst (λ (v : Result Summary Fault). Judges c.args.profile c.args.limit (g.R.Source.remaining c.args.r.now) v) (c.in-Err.is ∙ ap Err c.in-Refused.is) c.validate_from-judged.ensures.judged),
   (c.refuse.ensures.answered m).1,
 )
