@@ -39,9 +39,6 @@ module _ {S H : Type 0} (held : S → H) (after : H → Part → Result H Why) (
   abbrev Decoded : List ℕ → Result (Live H) Refusal
   Decoded b = decoded after s.limit Starts b
 
-  pub at_first : (d : Decoder S) → d.profile ≡ s.profile → d.max_bytes ≡ s.limit → standing held d ≡ Ok Starts → After held after d s []
-  at_first d p l e = record { profile = p; limit = l; are_bytes = tt; stands = inl e }
-
   -- what was read and what comes
   joined : (b piece : List ℕ) (now : Result (Live H) Refusal) → now ≡ Decoded b → and_then now (λ l. decoded after s.limit l piece) ≡ Decoded (b ++ piece)
   joined b piece now e = ap (λ y. and_then y (λ l. decoded after s.limit l piece)) e ∙ sym (decoded_append after s.limit b piece Starts)

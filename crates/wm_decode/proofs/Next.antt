@@ -95,12 +95,6 @@ module _ (demanded : Type 0) where
     from = λ b k q. record { front = []; back = b; front_marks = []; back_marks = k; bytes = refl; marks = refl; first = (refl, refl); second = q };
   }
 
-  pub then_empty : (Q : Shape) → Same Q (Then Empty Q)
-  then_empty Q = record {
-    to = λ s b k q. (empty_then Q).from b k q;
-    from = λ b k h. subst (λ y. Q b y) (sym (h.marks ∙ ap (λ y. y ++ h.back_marks) h.first.1)) (subst (λ y. Q y h.back_marks) (sym (h.bytes ∙ ap (λ y. y ++ h.back) h.first.0)) h.second);
-  }
-
   pub never_then : (P Q : Shape) → Same P Never → Same (Then P Q) Never
   never_then P Q p = record { to = λ s b k h. p.to s h.front h.front_marks h.first; from = λ b k h. absurd h }
 
