@@ -1,0 +1,12 @@
+pub mod Shapes
+pub mod Machine
+pub mod Run
+pub mod Frame
+pub mod Parse
+pub mod Steps
+pub mod Whole
+pub mod Complete
+pub mod Follow
+pub mod Track
+pub mod Tracking
+pub mod Costs
