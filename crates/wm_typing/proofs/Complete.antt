@@ -1,18 +1,13 @@
 -- Open lists can be closed: their ops are a front of some body's.
-use Rattle.std.proofs.Common.{ℕ, zero, suc, ◌≡◌, ◌+◌, List, [], ◌∷◌, ◌++◌, Option, Some, None, length, map, refl, sym, ap, ◌∙◌, subst, append_assoc, append-nil}
+use Rattle.std.proofs.Common.{ℕ, zero, suc, List, [], ◌∷◌, ◌++◌, Option, sym, subst, append_assoc, append-nil}
 use Rattle.wm_syntax.specs.declared.types.ValType.{ValType}
-use Rattle.wm_syntax.specs.declared.types.ValType.TheVariants.{I32, I64}
-use Rattle.wm_syntax.specs.declared.instructions.Simple.{Simple}
 use Rattle.wm_syntax.specs.declared.instructions.Op.{Op}
 use Rattle.wm_syntax.specs.declared.instructions.Op.TheVariants as op
-use Rattle.wm_syntax.specs.Instructions.{Instruction, Instructions, none, snoc, simple, table, block, loop, choice, HasOp, HasOps, HasElse}
-use Rattle.wm_stacks.specs.declared.entries.Entry.{Entry}
-use Rattle.wm_stacks.specs.declared.entries.Kind.{Kind}
+use Rattle.wm_syntax.specs.Instructions.{Instructions, table, HasOps}
 use Rattle.wm_stacks.specs.declared.entries.Kind.TheVariants.{Func, Block, Loop, If, Else}
-use Rattle.wm_typing.specs.Typing.{Context, TypedInstruction, Typed}
-use Rattle.wm_typing.specs.OpenLists.{Head, head, Work, work, Place, open_at, within, complete, label_type, at, taken_by, FirstHolds, WorkCan, OpenCan, AllHave, SeenCan, CanType, IsWork, IsBodyWork, IsOpen, IsSoFar}
-use Rattle.wm_typing.proofs.Parse.{grow, closed, place_on}
-use Rattle.wm_typing.proofs.Whole.{MaySoFar, end_more, label_more, place_of, from_body}
+use Rattle.wm_typing.specs.OpenLists.{Head, head, Work, work, within, IsOpen, IsSoFar}
+use Rattle.wm_typing.proofs.Parse.{grow, closed}
+use Rattle.wm_typing.proofs.Whole.{end_more, label_more}
 
 abbrev pub Completes : List Op → Type 0
 Completes ops = (s : Instructions) × (rest : List Op) × HasOps s (ops ++ rest)

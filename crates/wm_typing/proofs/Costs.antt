@@ -1,8 +1,6 @@
 -- What each op can add to the moves and to the heights.
-use Rattle.std.proofs.Common.{ℕ, zero, suc, ◌≡◌, ◌≤◌, ◌<◌, ◌+◌, ◌-◌, ◌*◌, Bool, true, false, cond, List, [], ◌∷◌, ◌++◌, Option, Some, None, Result, Ok, Err, reverse, map, length, min, slice_get, option_to_list, sym, refl, ap, ◌∙◌, subst, append-nil, append_assoc, arith, length-append, inl, inr, ◌⊎◌, ◌↔◌}
-use Rattle.std.specs.Prelude.{nat_le, nat_lt, nat_eq, ◌&&◌, ◌^◌}
-use Rattle.std.proofs.lemmas.Bool.Decides.{nat_tests}
-use Rattle.std.proofs.lemmas.List.{reverse-append, map-append}
+use Rattle.std.proofs.Common.{ℕ, zero, suc, ◌≡◌, ◌≤◌, ◌+◌, ◌-◌, Bool, true, false, cond, List, [], ◌∷◌, ◌++◌, Option, Some, None, Result, Ok, Err, reverse, length, slice_get, option_to_list, refl, ap, subst, arith}
+use Rattle.std.specs.Prelude.{nat_le, nat_lt, nat_eq, ◌^◌}
 use Rattle.wm_syntax.specs.declared.types.ValType.{ValType}
 use Rattle.wm_syntax.specs.declared.types.ValType.TheVariants.{I32}
 use Rattle.wm_syntax.specs.declared.why.Why.{Why}
@@ -11,23 +9,20 @@ use Rattle.wm_syntax.specs.declared.instructions.Simple.{Simple}
 use Rattle.wm_syntax.specs.declared.instructions.Op.{Op}
 use Rattle.wm_syntax.specs.declared.instructions.Op.TheVariants as op
 use Rattle.wm_stacks.specs.declared.entries.Entry.{Entry}
-use Rattle.wm_stacks.specs.declared.entries.Entry.TheVariants.{I32 as Int32, I64 as Int64, Unknown}
+use Rattle.wm_stacks.specs.declared.entries.Entry.TheVariants.{Unknown}
 use Rattle.wm_stacks.specs.declared.entries.Kind.{Kind}
 use Rattle.wm_stacks.specs.declared.entries.Kind.TheVariants.{Func, Block, Loop, If, Else}
 use Rattle.wm_stacks.specs.declared.entries.Frame.{Frame}
 use Rattle.wm_stacks.specs.declared.entries.Reach.{Reach}
 use Rattle.wm_stacks.specs.declared.entries.Reach.TheVariants.{Whole, Floor}
-use Rattle.wm_stacks.specs.Stack.{Stack, fits, label_of, moved, marked_frames}
-use Rattle.wm_stacks.specs.Exact.{pushed, opened, ticked, looked, popped, at_floor as stack_at_floor, takes, take_above, in_frame, take_one, take_all, goes_on, any_above, take_any, cut, cut_at, down_to, close, close_at}
+use Rattle.wm_stacks.specs.Stack.{Stack, fits}
+use Rattle.wm_stacks.specs.Exact.{pushed, opened, ticked, popped, at_floor as stack_at_floor, takes, take_above, in_frame, take_one, take_all, goes_on, any_above, take_any, cut, cut_at, down_to, close, close_at}
 use Rattle.wm_typing.specs.declared.labels.Table.{Table}
 use Rattle.wm_typing.specs.Typing.{Context}
 use Rattle.wm_typing.specs.Entries.{known, join}
 use Rattle.wm_typing.specs.Shapes.{Shape, fixed, indirect, diverges, drops, selects, ill, shape_of}
-use Rattle.wm_typing.specs.OpenLists.{Head, head, label_type, at}
-use Rattle.wm_typing.specs.Frames.{Pile, Frames, running, in_table, ended}
-use Rattle.wm_typing.specs.Exact.{push_all, after, drive_fixed, drive_indirect, drive_diverges, drive_drop, push_joined, select_from, drive_select, drive, drive_close, else_of, drive_else, may_end, give_to, end_of, drive_end, drive_if, drive_count, State, with_table, same_type, same_label, goes_with, drive_known, drive_label, labels_of, within_frames, drive_op, step as step_state}
-use Rattle.wm_typing.proofs.Machine.{Take, whole, floor, refused, at_floor, take_types, after_take, cut_after, if_dead, take_any as pile_any, joined, take_two, select_after, apply}
-use Rattle.wm_typing.proofs.Run.{with_pile, step_simple, empty, step_begin, take_condition, step_if, is_closed, closes, where_closed, step_else, push_types, end_frame, step_end, step_table, at_label, with_label_type, step_label, step}
+use Rattle.wm_typing.specs.OpenLists.{at}
+use Rattle.wm_typing.specs.Exact.{push_all, after, drive_fixed, drive_indirect, drive_diverges, drive_drop, push_joined, select_from, drive, drive_close, else_of, drive_else, may_end, give_to, end_of, drive_end, drive_if, drive_count, State, with_table, goes_with, drive_known, drive_label, labels_of, within_frames, drive_op}
 use Rattle.std.specs.Prelude.{option_and_then}
 use Rattle.std.specs.List.{AllByRecursion}
 use Rattle.wm_syntax.specs.declared.instructions.Simple.TheVariants as s
@@ -38,14 +33,8 @@ use Rattle.wm_syntax.specs.Types.{Signature}
 use Rattle.wm_syntax.specs.Opcodes.{numeric, load, store}
 use Rattle.wm_stacks.specs.Stack.{height_sum}
 use Rattle.wm_typing.specs.Typing.{function_type}
+use Rattle.wm_typing.specs.Answers.{weight, Adds}
 use Rattle.wm_typing.specs.Shapes.{with_item, where_true, access}
-
-abbrev pub weight : Stack → ℕ
-weight s = s.moves + height_sum s
-
--- at most this much more weight and height
-abbrev pub Adds : ℕ → ℕ → Stack → Stack → Type 0
-Adds a b s z = (weight z ≤ weight s + a) × (height_sum z ≤ height_sum s + b)
 
 abbrev pub OneAdds : Result Reach Why × Stack → Stack → Type 0
 OneAdds (Ok Whole, z) s = Adds 0 0 s z
@@ -383,3 +372,37 @@ op_adds c one (op.If u) (Some t) s = tt
 op_adds c one op.Else (Some t) s = tt
 op_adds c one op.End (Some t) s = tt
 op_adds c one (op.BrTable n) (Some t) s = tt
+
+-- what the calls on the stacks add, whatever they answer
+pub take_weight : (ts : List ValType) (s : Stack) → weight (take_all ts s).1 ≤ weight s + 1
+take_weight ts s = (take_adds ts s).0
+
+pub take_height : (ts : List ValType) (s : Stack) → height_sum (take_all ts s).1 ≤ height_sum s + 0
+take_height ts s = (take_adds ts s).1
+
+pub any_weight : (s : Stack) → weight (take_any s).1 ≤ weight s + 1
+any_weight s = (any_adds s).0
+
+pub any_height : (s : Stack) → height_sum (take_any s).1 ≤ height_sum s + 0
+any_height s = (any_adds s).1
+
+pub cut_weight : (s : Stack) → weight (cut s) ≤ weight s + 0
+cut_weight s = (cut_adds s).0
+
+pub cut_height : (s : Stack) → height_sum (cut s) ≤ height_sum s + 0
+cut_height s = (cut_adds s).1
+
+close_either_adds : (gs fs : List Frame) (ops : List Entry) (m : ℕ) → gs ≡ fs
+    → Adds 0 0 (record { operands = ops; frames = fs; moves = m }) (close_at gs (record { operands = ops; frames = fs; moves = m })).1
+close_either_adds [] fs ops m e = adds_same (record { operands = ops; frames = fs; moves = m }) 0
+close_either_adds (g ∷ gs) fs ops m e = go (nat_lt g.floor (length ops))
+  where
+    go : (b : Bool) → Adds 0 0 (record { operands = ops; frames = fs; moves = m }) (cond {A = Result Frame Why × Stack} b (Err why.Arity, record { operands = ops; frames = fs; moves = m }) (Ok g, record { operands = ops; frames = gs; moves = ticked m })).1
+    go true = adds_same (record { operands = ops; frames = fs; moves = m }) 0
+    go false = let l : suc (length gs) ≡ length fs = ap length e in (omega (arith, l), omega (arith, l))
+
+pub close_weight : (s : Stack) → weight (close s).1 ≤ weight s + 0
+close_weight s = (close_either_adds s.frames s.frames s.operands s.moves refl).0
+
+pub close_height : (s : Stack) → height_sum (close s).1 ≤ height_sum s + 0
+close_height s = (close_either_adds s.frames s.frames s.operands s.moves refl).1

@@ -1,5 +1,5 @@
 -- What one frame denotes, the top first, and what an instruction's shape does to it.
-use Rattle.std.proofs.Common.{ℕ, ◌≡◌, Bool, true, false, cond, IsTrue, List, [], ◌∷◌, ◌++◌, Option, Some, None, reverse, map, sym, refl, ap, ◌∙◌, subst, append-nil, append_assoc, ◌↔◌}
+use Rattle.std.proofs.Common.{◌≡◌, Bool, true, false, cond, IsTrue, List, [], ◌∷◌, ◌++◌, Option, Some, None, reverse, map, sym, refl, ap, ◌∙◌, subst, append-nil, append_assoc, ◌↔◌}
 use Rattle.std.proofs.lemmas.List.{reverse-append, reverse-reverse}
 use Rattle.wm_syntax.specs.declared.types.ValType.{ValType}
 use Rattle.wm_syntax.specs.declared.types.ValType.TheVariants.{I32, I64}
@@ -8,9 +8,9 @@ use Rattle.wm_stacks.specs.declared.entries.Entry.TheVariants.{I32 as Int32, I64
 use Rattle.wm_stacks.specs.Stack.{fits}
 use Rattle.wm_typing.specs.Entries.{known, join}
 use Rattle.wm_typing.specs.Shapes.{Shape, fixed, indirect, diverges, drops, selects, ill}
-use Rattle.wm_typing.specs.Frames.{Pile, Below, Stands}
+use Rattle.wm_typing.specs.Frames.{Pile, Stands}
 use Rattle.wm_typing.proofs.Shapes.{HasShape}
-use Rattle.wm_typing.proofs.Machine.{Take, whole, floor, refused, at_floor, take_types, after_take, cut_after, if_dead, take_any, joined, take_two, select_after, apply}
+use Rattle.wm_typing.proofs.Machine.{Take, whole, floor, refused, take_types, after_take, cut_after, take_any, joined, take_two, select_after, apply}
 
 abbrev Agrees : Entry → ValType → Type 0
 Agrees e t = IsTrue (fits e t)

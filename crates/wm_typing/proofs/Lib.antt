@@ -10,3 +10,7 @@ pub mod Follow
 pub mod Track
 pub mod Tracking
 pub mod Costs
+pub mod Shown
+pub mod Kept
+pub mod Said
+pub mod FewRuns

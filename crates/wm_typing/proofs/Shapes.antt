@@ -1,17 +1,17 @@
 -- The shape of a simple instruction is its typing.
-use Rattle.std.proofs.Common.{◌≡◌, ℕ, ◌≤◌, ◌^◌, Bool, true, false, List, [], ◌∷◌, ◌++◌, Option, Some, None, IsTrue, slice_get, option_to_list, refl, sym, subst, append-nil, arith, ◌↔◌}
+use Rattle.std.proofs.Common.{◌≡◌, ℕ, ◌≤◌, ◌^◌, Bool, true, false, List, [], ◌∷◌, ◌++◌, Option, Some, None, IsTrue, slice_get, option_to_list, refl, sym, subst, append-nil, arith}
 use Rattle.std.specs.Prelude.{nat_le}
 use Rattle.std.proofs.lemmas.Bool.Decides.{nat_tests}
 use Rattle.wm_syntax.specs.declared.types.ValType.{ValType}
-use Rattle.wm_syntax.specs.declared.types.ValType.TheVariants.{I32, I64}
+use Rattle.wm_syntax.specs.declared.types.ValType.TheVariants.{I32}
 use Rattle.wm_syntax.specs.declared.types.GlobalType.{GlobalType}
 use Rattle.wm_syntax.specs.declared.why.Why.{Why}
 use Rattle.wm_syntax.specs.declared.why.Why.TheVariants as why
 use Rattle.wm_syntax.specs.declared.instructions.Simple.{Simple}
 use Rattle.wm_syntax.specs.declared.instructions.Simple.TheVariants.{Unreachable, Nop, Return, Drop, Select, Br, BrIf, Call, CallIndirect, LocalGet, LocalSet, LocalTee, GlobalGet, GlobalSet, MemorySize, MemoryGrow, I32Const, I64Const, Load, Store, Numeric}
 use Rattle.wm_syntax.specs.Types.{Signature}
-use Rattle.wm_syntax.specs.Opcodes.{numeric, load, store}
-use Rattle.wm_typing.specs.Typing.{Context, Typing, From, FromAbove, Accesses, TypedSimple, function_type}
+use Rattle.wm_syntax.specs.Opcodes.{load, store}
+use Rattle.wm_typing.specs.Typing.{Context, Typing, From, FromAbove, TypedSimple, function_type}
 use Rattle.wm_typing.specs.Shapes.{Shape, fixed, indirect, diverges, drops, selects, ill, with_item, where_true, access, shape_of}
 
 abbrev pub HasShape : Shape → Typing

@@ -1,25 +1,24 @@
 -- One op, on the frames and on the open lists.
-use Rattle.std.proofs.Common.{ℕ, zero, suc, ◌≡◌, ◌+◌, Bool, true, false, cond, List, [], ◌∷◌, ◌++◌, Option, Some, None, reverse, map, length, slice_get, option_to_list, sym, refl, ap, ◌∙◌, subst, append-nil, append_assoc, ◌↔◌}
+use Rattle.std.proofs.Common.{ℕ, zero, suc, ◌≡◌, Bool, true, false, cond, List, [], ◌∷◌, ◌++◌, Option, Some, None, reverse, map, slice_get, option_to_list, sym, refl, ap, ◌∙◌, subst, append-nil, append_assoc, ◌↔◌}
 use Rattle.std.proofs.lemmas.List.{reverse-append, reverse-reverse}
 use Rattle.wm_syntax.specs.declared.types.ValType.{ValType}
 use Rattle.wm_syntax.specs.declared.types.ValType.TheVariants.{I32, I64}
 use Rattle.wm_syntax.specs.declared.instructions.Simple.{Simple}
 use Rattle.wm_syntax.specs.declared.instructions.Op.{Op}
 use Rattle.wm_syntax.specs.declared.instructions.Op.TheVariants as op
-use Rattle.wm_syntax.specs.Instructions.{Instruction, Instructions, none, snoc, simple, table, block, loop, choice, HasOp, HasOps, HasElse}
-use Rattle.wm_stacks.specs.declared.entries.Entry.{Entry}
+use Rattle.wm_syntax.specs.Instructions.{Instruction, Instructions, none, snoc, simple, table, block, loop, choice}
 use Rattle.wm_stacks.specs.declared.entries.Kind.{Kind}
 use Rattle.wm_stacks.specs.declared.entries.Kind.TheVariants.{Func, Block, Loop, If, Else}
 use Rattle.wm_typing.specs.Typing.{Context, TypedInstruction, Typed}
-use Rattle.wm_typing.specs.OpenLists.{Head, head, Work, work, Place, open_at, within, complete, label_type, at, taken_by, FirstHolds, WorkCan, OpenCan, AllHave, SeenCan, CanType, IsWork, IsBodyWork, IsOpen, IsSoFar}
-use Rattle.wm_typing.specs.Shapes.{Shape, fixed, diverges, shape_of}
+use Rattle.wm_typing.specs.OpenLists.{Head, head, Work, work, Place, open_at, within, complete, label_type, at, taken_by, FirstHolds, WorkCan, OpenCan, AllHave, CanType}
+use Rattle.wm_typing.specs.Shapes.{diverges, shape_of}
 use Rattle.wm_typing.specs.Exact.{may_end, same_type, same_label, goes_with}
-use Rattle.wm_typing.specs.Frames.{Pile, Frames, running, in_table, ended, Below, Stands, Reach, Meets, AllMeet, HasSeen, Holds}
-use Rattle.wm_typing.proofs.Shapes.{HasShape, shape, typed}
+use Rattle.wm_typing.specs.Frames.{Pile, Frames, running, in_table, ended, Stands, Reach, Meets, AllMeet, HasSeen, Holds}
+use Rattle.wm_typing.proofs.Shapes.{shape, typed}
 use Rattle.wm_typing.proofs.Machine.{Take, whole, floor, refused, take_types, apply}
-use Rattle.wm_typing.proofs.Run.{with_pile, step_simple, empty, step_begin, take_condition, step_if, is_closed, closes, where_closed, step_else, push_types, end_frame, step_end, step_table, at_label, with_label_type, step_label, step}
+use Rattle.wm_typing.proofs.Run.{with_pile, step_simple, empty, step_begin, take_condition, is_closed, closes, where_closed, push_types, end_frame, at_label, with_label_type, step}
 use Rattle.wm_typing.proofs.Frame.{StandsAfter, some_stand, AfterTake, take_law, give_law, known_law, Post, apply_law}
-use Rattle.wm_typing.proofs.Parse.{grow, place_grown, place_simple, fresh, place_begin, place_else, closed, instructions_of, end_place, place_end, place_table, place_label, place_after}
+use Rattle.wm_typing.proofs.Parse.{grow, place_grown, place_simple, place_begin, place_else, closed, end_place, place_table, place_label, place_after}
 
 abbrev pub PostInstruction : Context → Instruction → (List ValType → Type 0) → List ValType → Type 0
 PostInstruction c i P ts =

@@ -1,33 +1,25 @@
 -- The stacks go with the frames of the typing.
-use Rattle.std.proofs.Common.{ℕ, zero, suc, ◌≡◌, ◌≤◌, ◌<◌, ◌+◌, ◌-◌, ◌*◌, Bool, true, false, cond, List, [], ◌∷◌, ◌++◌, Option, Some, None, Result, Ok, Err, reverse, map, length, min, slice_get, option_to_list, sym, refl, ap, ◌∙◌, subst, append-nil, append_assoc, arith, length-append, inl, inr, ◌⊎◌, ◌↔◌}
-use Rattle.std.specs.Prelude.{nat_le, nat_lt, nat_eq, ◌&&◌, ◌^◌}
+use Rattle.std.proofs.Common.{ℕ, ◌≡◌, ◌≤◌, ◌<◌, Bool, true, false, cond, List, [], ◌∷◌, ◌++◌, Option, Some, None, Result, Ok, Err, reverse, map, length, option_to_list, sym, refl, ap, ◌∙◌, subst, arith, length-append}
+use Rattle.std.specs.Prelude.{nat_lt}
 use Rattle.std.proofs.lemmas.Bool.Decides.{nat_tests}
-use Rattle.std.proofs.lemmas.List.{reverse-append, map-append}
 use Rattle.wm_syntax.specs.declared.types.ValType.{ValType}
 use Rattle.wm_syntax.specs.declared.types.ValType.TheVariants.{I32}
 use Rattle.wm_syntax.specs.declared.why.Why.{Why}
 use Rattle.wm_syntax.specs.declared.why.Why.TheVariants as why
-use Rattle.wm_syntax.specs.declared.instructions.Simple.{Simple}
-use Rattle.wm_syntax.specs.declared.instructions.Op.{Op}
-use Rattle.wm_syntax.specs.declared.instructions.Op.TheVariants as op
 use Rattle.wm_stacks.specs.declared.entries.Entry.{Entry}
-use Rattle.wm_stacks.specs.declared.entries.Entry.TheVariants.{I32 as Int32, I64 as Int64, Unknown}
 use Rattle.wm_stacks.specs.declared.entries.Kind.{Kind}
 use Rattle.wm_stacks.specs.declared.entries.Kind.TheVariants.{Func, Block, Loop, If, Else}
 use Rattle.wm_stacks.specs.declared.entries.Frame.{Frame}
 use Rattle.wm_stacks.specs.declared.entries.Reach.{Reach}
-use Rattle.wm_stacks.specs.declared.entries.Reach.TheVariants.{Whole, Floor}
-use Rattle.wm_stacks.specs.Stack.{Stack, fits, label_of, moved, marked_frames}
-use Rattle.wm_stacks.specs.Exact.{pushed, opened, ticked, looked, popped, at_floor as stack_at_floor, takes, take_above, in_frame, take_one, take_all, goes_on, any_above, take_any, cut, cut_at, down_to, close, close_at}
-use Rattle.wm_typing.specs.declared.labels.Table.{Table}
-use Rattle.wm_typing.specs.Typing.{Context}
-use Rattle.wm_typing.specs.Entries.{known, join}
-use Rattle.wm_typing.specs.Shapes.{Shape, fixed, indirect, diverges, drops, selects, ill, shape_of}
-use Rattle.wm_typing.specs.OpenLists.{Head, head, head_of, label_type, at}
-use Rattle.wm_typing.specs.Frames.{Pile, Frames, running, in_table, ended, Segments, piles_of, Nested, TracksRunning, Tracks, TracksWith}
-use Rattle.wm_typing.specs.Exact.{push_all, after, drive_fixed, drive_indirect, drive_diverges, drive_drop, push_joined, select_from, drive_select, drive, drive_close, else_of, drive_else, may_end, give_to, end_of, drive_end, drive_if, drive_count, State, with_table, same_type, same_label, goes_with, drive_known, drive_label, labels_of, within_frames, drive_op, step as step_state}
-use Rattle.wm_typing.proofs.Machine.{Take, whole, floor, refused, at_floor, take_types, after_take, cut_after, if_dead, take_any as pile_any, joined, take_two, select_after, apply}
-use Rattle.wm_typing.proofs.Run.{with_pile, step_simple, empty, step_begin, take_condition, step_if, is_closed, closes, where_closed, step_else, push_types, end_frame, step_end, step_table, at_label, with_label_type, step_label, step}
+use Rattle.wm_stacks.specs.Stack.{Stack}
+use Rattle.wm_stacks.specs.Exact.{opened, ticked, take_all, close}
+use Rattle.wm_typing.specs.Entries.{known}
+use Rattle.wm_typing.specs.Shapes.{fixed}
+use Rattle.wm_typing.specs.OpenLists.{head, head_of}
+use Rattle.wm_typing.specs.Frames.{Pile, Frames, running, ended, Segments, piles_of, Nested, Tracks}
+use Rattle.wm_typing.specs.Exact.{push_all, after, drive_close, else_of, may_end, give_to, end_of, drive_count}
+use Rattle.wm_typing.proofs.Machine.{Take, whole, floor, refused, take_types}
+use Rattle.wm_typing.proofs.Run.{with_pile, empty, take_condition, is_closed, closes, where_closed, step_else, push_types, end_frame}
 use Rattle.wm_typing.proofs.Follow.{stack_at, push_all_at, TakesTo, takes_to, Follows, drive_follows}
 
 abbrev pub MayTrack : Result Stack Why → Option Frames → Type 0

@@ -1,21 +1,19 @@
 -- Whole lists of ops.
-use Rattle.std.proofs.Common.{ℕ, zero, suc, ◌≡◌, ◌+◌, Bool, true, false, cond, List, [], ◌∷◌, ◌++◌, Option, Some, None, reverse, map, length, option_to_list, sym, refl, ap, ◌∙◌, subst, append-nil, append_assoc, ◌↔◌, arith, length-append, suc-add, inl, inr, ◌⊎◌}
+use Rattle.std.proofs.Common.{ℕ, zero, suc, ◌≡◌, ◌+◌, List, [], ◌∷◌, ◌++◌, Option, Some, None, map, length, option_to_list, sym, refl, ap, ◌∙◌, subst, append-nil, append_assoc, ◌↔◌, arith, length-append, inl, inr}
 use Rattle.std.proofs.lemmas.List.{map-append}
 use Rattle.wm_syntax.specs.Spelling.{Exactly, ◌▸◌}
 use Rattle.wm_syntax.specs.declared.types.ValType.{ValType}
-use Rattle.wm_syntax.specs.declared.types.ValType.TheVariants.{I32, I64}
 use Rattle.wm_syntax.specs.declared.instructions.Simple.{Simple}
 use Rattle.wm_syntax.specs.declared.instructions.Op.{Op}
 use Rattle.wm_syntax.specs.declared.instructions.Op.TheVariants as op
 use Rattle.wm_syntax.specs.Instructions.{Instruction, Instructions, none, snoc, simple, table, block, loop, choice, HasOp, HasOps, HasElse}
-use Rattle.wm_stacks.specs.declared.entries.Entry.{Entry}
 use Rattle.wm_stacks.specs.declared.entries.Kind.{Kind}
 use Rattle.wm_stacks.specs.declared.entries.Kind.TheVariants.{Func, Block, Loop, If, Else}
-use Rattle.wm_typing.specs.Typing.{Context, TypedInstruction, Typed}
-use Rattle.wm_typing.specs.OpenLists.{Head, head, Work, work, Place, open_at, within, complete, label_type, at, taken_by, FirstHolds, WorkCan, OpenCan, AllHave, SeenCan, CanType, IsWork, IsBodyWork, IsOpen, IsSoFar}
-use Rattle.wm_typing.specs.Frames.{Pile, Frames, running, in_table, ended, AllMeet, Holds}
-use Rattle.wm_typing.proofs.Run.{step, continue, start, run, empty}
-use Rattle.wm_typing.proofs.Parse.{grow, place_grown, place_simple, fresh, place_begin, place_else, closed, instructions_of, end_place, place_end, place_table, place_label, place_after, place_on}
+use Rattle.wm_typing.specs.Typing.{Context, Typed}
+use Rattle.wm_typing.specs.OpenLists.{Head, head, Work, work, Place, open_at, within, complete, at, CanType, IsWork, IsBodyWork, IsOpen, IsSoFar}
+use Rattle.wm_typing.specs.Frames.{Frames, running, in_table, ended, Holds}
+use Rattle.wm_typing.proofs.Run.{step, continue, start, run}
+use Rattle.wm_typing.proofs.Parse.{grow, place_grown, fresh, place_else, closed, end_place, place_label, place_after, place_on}
 use Rattle.wm_typing.proofs.Steps.{Verdict, step_verdict, CanBack, place_back, holds_can, fresh_meets}
 
 pub can_back_on : (c : Context) (p : Place) (ops : List Op) → CanBack c p (place_on (Some p) ops)

@@ -1,10 +1,10 @@
 -- How an answer of the code goes with the function that it follows: the same refusal, unless memory was refused.
-use Rattle.std.specs.Prelude.{ℕ, ◌^◌, ◌≡◌, ◌≤◌, ◌⊎◌, Bool, true, false, nat_le, List, Option, Some, None, Result, Ok, Err, length}
+use Rattle.std.specs.Prelude.{ℕ, ◌+◌, ◌^◌, ◌≡◌, ◌≤◌, ◌⊎◌, true, false, nat_le, Option, Some, None, Result, Ok, Err, length}
 use Rattle.wm_syntax.specs.declared.why.Why.{Why}
 use Rattle.wm_syntax.specs.declared.why.Why.TheVariants.{Align, Index, Memory}
 use Rattle.wm_syntax.specs.declared.types.ValType.{ValType}
 use Rattle.wm_stacks.specs.declared.entries.Frame.{Frame}
-use Rattle.wm_stacks.specs.Stack.{Stack}
+use Rattle.wm_stacks.specs.Stack.{Stack, height_sum}
 use Rattle.wm_typing.specs.Exact.{drive_close}
 use Rattle.wm_typing.specs.Typing.{Context}
 
@@ -31,6 +31,14 @@ Room s (Err why) = why ≡ Memory → (64 ≤ length s.operands) ⊎ (32 ≤ len
 abbrev pub Closes : Option ValType → Stack → Result Frame Why → Stack → Type 0
 Closes t s (Ok f) z = (k : Frame → Stack → Result Stack Why) → drive_close t s k ≡ k f z
 Closes t s (Err why) z = (k : Frame → Stack → Result Stack Why) → drive_close t s k ≡ Err why
+
+-- what is held on the stacks and how often it moved, together
+abbrev pub weight : Stack → ℕ
+weight s = s.moves + height_sum s
+
+-- at most this much more weight and height
+abbrev pub Adds : ℕ → ℕ → Stack → Stack → Type 0
+Adds w h s z = (weight z ≤ weight s + w) × (height_sum z ≤ height_sum s + h)
 
 -- memory 0 exists and the alignment is at most the width; else the first of these that fails is named
 abbrev pub MayAccess : {A : Type 0} → Context → ℕ → ℕ → Result A Why → Type 0

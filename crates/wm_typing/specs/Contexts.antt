@@ -43,7 +43,11 @@ params_of c x = params_in (slice_get c.types x)
 abbrev pub result_of : Context → ℕ → Option ValType
 result_of c x = result_in (slice_get c.types x)
 
--- The context of a function of this type with these declared locals (3.4.1). The label of the body itself, its result
--- too, is that of the outermost open list.
+-- The context in which the body of a function is typed (3.4.1): its locals are the parameters of its type and then the
+-- declared ones, its result is its one label too.
+abbrev pub in_function : Context → ℕ → Option ValType → List ValType → Context
+in_function c x result declared =
+    record c { locals = params_of c x ++ declared; labels = result ∷ []; result = result }
+
 abbrev pub body_context : Context → ℕ → List ValType → Context
-body_context c x declared = record c { locals = params_of c x ++ declared; result = result_of c x }
+body_context c x declared = in_function c x (result_of c x) declared

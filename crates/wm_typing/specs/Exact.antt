@@ -1,7 +1,7 @@
 -- What each op does to the stacks, and to a br_table whose labels are being read, refusals included. These follow the
 -- code step by step, for the layers above, whose answers are functions of what they were given. No promise rests on
 -- them alone: the words of a call's other clauses are in After.
-use Rattle.std.specs.Prelude.{ℕ, ◌+◌, ◌-◌, ◌≡◌, Bool, true, false, List, [], ◌∷◌, ◌++◌, Option, Some, None, Result, Ok, Err, reverse, map, slice_get, option_to_list, nat_eq, if◌then◌else◌}
+use Rattle.std.specs.Prelude.{◌-◌, Bool, true, false, List, [], ◌∷◌, Option, Some, None, Result, Ok, Err, reverse, map, slice_get, option_to_list, nat_eq, if◌then◌else◌}
 use Rattle.wm_syntax.specs.declared.types.ValType.{ValType}
 use Rattle.wm_syntax.specs.declared.types.ValType.TheVariants.{I32, I64}
 use Rattle.wm_syntax.specs.declared.instructions.Op.{Op}

@@ -10,7 +10,6 @@ use Rattle.wm_stacks.specs.declared.entries.Frame.{Frame}
 use Rattle.wm_stacks.specs.Stack.{Stack, fits}
 use Rattle.wm_typing.specs.declared.labels.Table.{Table}
 use Rattle.wm_typing.specs.Typing.{Context, Typed}
-use Rattle.wm_typing.specs.Exact.{State}
 use Rattle.wm_typing.specs.OpenLists.{Head, head, head_of, Work, work, Place, open_at, within, complete, label_type, at, taken_by, FirstHolds, AllHave}
 
 -- the operands of a frame, and whether it is unreachable

@@ -6,3 +6,6 @@ pub mod Shapes
 pub mod Exact
 pub mod Frames
 pub mod Answers
+pub mod Bodies
+pub mod ExactBodies
+pub mod After

@@ -1,7 +1,7 @@
 //! What a body may name.
 
 ghost use Rattle.std.specs.Prelude.{◌≡◌, ◌<◌, ◌≤◌, ◌↔◌, IfSome, IsTrue, MatchOption, None, Some, length, option_to_list, slice_get};
-ghost use Rattle.wm_typing.specs.Contexts.{AreTypes, context, params_of};
+ghost use Rattle.wm_typing.specs.Contexts.{AreTypes, context, params_of, result_of};
 ghost use Rattle.wm_typing.specs.Typing.{function_type};
 
 use std::marker::Model;
@@ -85,6 +85,13 @@ impl<'a> Context<'a> {
     {
         let ty = *self.functions.get(index as usize)?;
         self.type_at(ty)
+    }
+
+    // The result of the type with this index.
+    pub(crate) fn result(&self, index: u32) -> Option<ValType>
+        ensures { result ≡ result_of self.now index }
+    {
+        result_type(self.type_at(index)?)
     }
 
     // The parameters of the type with this index.

@@ -1,17 +1,21 @@
 //! Instructions that hold no others (sections 3.3.1 to 3.3.5).
 
-ghost use Rattle.std.specs.Prelude.{◌≡◌, ◌<◌, ◌≤◌, ◌^◌, ◌∷◌, [], nat_le, length, option_to_list};
+ghost use Rattle.std.specs.Prelude.{◌≡◌, ◌+◌, ◌<◌, ◌≤◌, ◌^◌, ◌∷◌, [], max, nat_le, length, option_to_list};
 ghost use Rattle.wm_stacks.specs.Stack.{height_sum};
 ghost use Rattle.wm_syntax.specs.declared.types.ValType.TheVariants.{I32};
 ghost use Rattle.wm_syntax.specs.Opcodes.{load, numeric as numeric_row, store};
-ghost use Rattle.wm_typing.specs.Answers.{Does, MayAccess, Room};
-ghost use Rattle.wm_typing.specs.Exact.{drive};
-ghost use Rattle.wm_typing.specs.Shapes.{access, call_shape, fixed as fixed_shape, global_get_shape, global_set_shape, indirect_shape};
+ghost use Rattle.wm_typing.specs.Answers.{Does, MayAccess, Room, weight};
+ghost use Rattle.wm_typing.specs.ExactBodies.{simple_probes};
+ghost use Rattle.wm_typing.specs.Contexts.{in_function, params_of};
+ghost use Rattle.wm_typing.specs.Exact.{drive, within_frames};
+ghost use Rattle.wm_typing.specs.Shapes.{access, call_shape, fixed as fixed_shape, global_get_shape, global_set_shape, indirect_shape, shape_of};
 
 use crate::context::{Context, result_type};
-use crate::operands::{fixed, indirect};
+use crate::function::{Function, local};
+use crate::labels::label;
+use crate::operands::{breaks, breaks_if, diverges, drop_one, fixed, indirect, select};
 use wm_stacks::stacks::Stacks;
-use wm_syntax::instructions::{LoadOp, Numeric, SignExtension, StoreOp};
+use wm_syntax::instructions::{LoadOp, Numeric, SignExtension, Simple, StoreOp};
 use wm_syntax::types::ValType;
 use wm_syntax::why::Why;
 
@@ -20,6 +24,8 @@ fn numeric(stacks: &mut Stacks, op: Numeric) -> Result<(), Why>
     requires bounded { height_sum stacks.old < 2 ^ 63 }
     ensures does { Does (λ _. stacks.new) (drive (fixed_shape (numeric_row op).takes (numeric_row op).gives) stacks.old) result }
     ensures room { Room stacks.old result }
+    ensures weight { weight stacks.new ≤ weight stacks.old + 3 }
+    ensures height { height_sum stacks.new ≤ height_sum stacks.old + 1 }
 {
     match op {
         Numeric::Test(ty) => fixed(stacks, &[ty], Some(ValType::I32)),
@@ -101,6 +107,8 @@ fn load_from(stacks: &mut Stacks, context: &Context<'_>, op: LoadOp, align: u32)
     requires bounded { height_sum stacks.old < 2 ^ 63 }
     ensures does { Does (λ _. stacks.new) (drive (access context.now align (load op).width (fixed_shape (I32 ∷ []) ((load op).ty ∷ []))) stacks.old) result }
     ensures room { Room stacks.old result }
+    ensures weight { weight stacks.new ≤ weight stacks.old + 3 }
+    ensures height { height_sum stacks.new ≤ height_sum stacks.old + 1 }
 {
     let access = loaded(op);
     reaches_memory(context, align, access.width)?;
@@ -112,6 +120,8 @@ fn store_to(stacks: &mut Stacks, context: &Context<'_>, op: StoreOp, align: u32)
     requires bounded { height_sum stacks.old < 2 ^ 63 }
     ensures does { Does (λ _. stacks.new) (drive (access context.now align (store op).width (fixed_shape (I32 ∷ (store op).ty ∷ []) [])) stacks.old) result }
     ensures room { Room stacks.old result }
+    ensures weight { weight stacks.new ≤ weight stacks.old + 3 }
+    ensures height { height_sum stacks.new ≤ height_sum stacks.old + 1 }
 {
     let access = stored(op);
     reaches_memory(context, align, access.width)?;
@@ -123,6 +133,8 @@ fn call(stacks: &mut Stacks, context: &Context<'_>, index: u32) -> Result<(), Wh
     requires bounded { height_sum stacks.old < 2 ^ 63 }
     ensures does { Does (λ _. stacks.new) (drive (call_shape context.now index) stacks.old) result }
     ensures room { Room stacks.old result }
+    ensures weight { weight stacks.new ≤ weight stacks.old + 3 }
+    ensures height { height_sum stacks.new ≤ height_sum stacks.old + 1 }
 {
     match context.type_of(index) {
         Some(ty) => fixed(stacks, &ty.params, result_type(ty)),
@@ -135,6 +147,8 @@ fn call_indirect(stacks: &mut Stacks, context: &Context<'_>, index: u32) -> Resu
     requires bounded { height_sum stacks.old < 2 ^ 63 }
     ensures does { Does (λ _. stacks.new) (drive (indirect_shape context.now index) stacks.old) result }
     ensures room { Room stacks.old result }
+    ensures weight { weight stacks.new ≤ weight stacks.old + 4 }
+    ensures height { height_sum stacks.new ≤ height_sum stacks.old + 1 }
 {
     if !context.has_table() {
         return Err(Why::Index);
@@ -150,6 +164,8 @@ fn set_global(stacks: &mut Stacks, context: &Context<'_>, index: u32) -> Result<
     requires bounded { height_sum stacks.old < 2 ^ 63 }
     ensures does { Does (λ _. stacks.new) (drive (global_set_shape context.now index) stacks.old) result }
     ensures room { Room stacks.old result }
+    ensures weight { weight stacks.new ≤ weight stacks.old + 3 }
+    ensures height { height_sum stacks.new ≤ height_sum stacks.old + 1 }
 {
     match context.global(index) {
         Some(global) if global.var => fixed(stacks, &[global.ty], None),
@@ -163,9 +179,92 @@ fn get_global(stacks: &mut Stacks, context: &Context<'_>, index: u32) -> Result<
     requires bounded { height_sum stacks.old < 2 ^ 63 }
     ensures does { Does (λ _. stacks.new) (drive (global_get_shape context.now index) stacks.old) result }
     ensures room { Room stacks.old result }
+    ensures weight { weight stacks.new ≤ weight stacks.old + 3 }
+    ensures height { height_sum stacks.new ≤ height_sum stacks.old + 1 }
 {
     match context.global(index) {
         Some(global) => fixed(stacks, &[], Some(global.ty)),
         None => Err(Why::Index),
+    }
+}
+
+/// Types one of them in a function, on top of the operands that stand.
+pub(crate) fn simple(
+    stacks: &mut Stacks,
+    probes: &mut u64,
+    context: &Context<'_>,
+    function: &Function,
+    op: Simple,
+) -> Result<(), Why>
+    requires open { 0 < length stacks.old.frames }
+    requires bounded { height_sum stacks.old < 2 ^ 63 }
+    ensures does { Does (λ _. stacks.new) (drive (shape_of (within_frames (in_function context.now function.now.signature function.now.result function.now.declared) stacks.old.frames) op) stacks.old) result }
+    ensures room { Room stacks.old result }
+    ensures probes { probes.new ≡ max probes.old (simple_probes (params_of context.now function.now.signature) function.now.declared op) }
+    ensures weight { weight stacks.new ≤ weight stacks.old + 4 }
+    ensures height { height_sum stacks.new ≤ height_sum stacks.old + 1 }
+{
+    match op {
+        Simple::Unreachable => diverges(stacks, &[]),
+        Simple::Nop => Ok(()),
+        Simple::Return => breaks(stacks, function.result),
+        Simple::Drop => drop_one(stacks),
+        Simple::Select => select(stacks),
+        Simple::Br(depth) => {
+            let target = label(stacks, depth)?;
+            breaks(stacks, target)
+        }
+        Simple::BrIf(depth) => {
+            let target = label(stacks, depth)?;
+            breaks_if(stacks, target)
+        }
+        Simple::Call(index) => call(stacks, context, index),
+        Simple::CallIndirect(index) => call_indirect(stacks, context, index),
+        Simple::LocalGet(index) => {
+            let ty = local(
+                context.params(function.signature),
+                &function.declared,
+                probes,
+                index,
+            )?;
+            fixed(stacks, &[], Some(ty))
+        }
+        Simple::LocalSet(index) => {
+            let ty = local(
+                context.params(function.signature),
+                &function.declared,
+                probes,
+                index,
+            )?;
+            fixed(stacks, &[ty], None)
+        }
+        Simple::LocalTee(index) => {
+            let ty = local(
+                context.params(function.signature),
+                &function.declared,
+                probes,
+                index,
+            )?;
+            fixed(stacks, &[ty], Some(ty))
+        }
+        Simple::GlobalGet(index) => get_global(stacks, context, index),
+        Simple::GlobalSet(index) => set_global(stacks, context, index),
+        Simple::MemorySize => {
+            if !context.has_memory() {
+                return Err(Why::Index);
+            }
+            fixed(stacks, &[], Some(ValType::I32))
+        }
+        Simple::MemoryGrow => {
+            if !context.has_memory() {
+                return Err(Why::Index);
+            }
+            fixed(stacks, &[ValType::I32], Some(ValType::I32))
+        }
+        Simple::I32Const(_) => fixed(stacks, &[], Some(ValType::I32)),
+        Simple::I64Const(_) => fixed(stacks, &[], Some(ValType::I64)),
+        Simple::Load(op, at) => load_from(stacks, context, op, at.align),
+        Simple::Store(op, at) => store_to(stacks, context, op, at.align),
+        Simple::Numeric(op) => numeric(stacks, op),
     }
 }

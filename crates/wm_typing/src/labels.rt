@@ -1,8 +1,8 @@
 //! Labels, and the br_table whose labels are being read.
 
-ghost use Rattle.std.specs.Prelude.{◌≡◌, ◌<◌, ◌^◌, MatchOption, MatchResult, None, Some, length, slice_get};
+ghost use Rattle.std.specs.Prelude.{◌≡◌, ◌+◌, ◌<◌, ◌≤◌, ◌^◌, MatchOption, MatchResult, None, Some, length, slice_get};
 ghost use Rattle.wm_stacks.specs.Stack.{height_sum, label_of};
-ghost use Rattle.wm_typing.specs.Answers.{Does, IsFound, NoMemory, Room};
+ghost use Rattle.wm_typing.specs.Answers.{Does, IsFound, Room, weight};
 ghost use Rattle.wm_typing.specs.Exact.{drive_label, goes_with, labels_of};
 
 use crate::operands::breaks;
@@ -61,6 +61,8 @@ pub(crate) fn read_label(
     requires bounded { height_sum stacks.old < 2 ^ 63 }
     ensures does { Does (λ t. record { stacks = stacks.new; table = t }) (drive_label (slice_get (labels_of stacks.old.frames) depth) table stacks.old) result }
     ensures room { Room stacks.old result }
+    ensures weight { weight stacks.new ≤ weight stacks.old + 1 }
+    ensures height { height_sum stacks.new ≤ height_sum stacks.old + 0 }
 {
     let ty = label(stacks, depth)?;
     if !goes_with_seen(table.seen, ty) {

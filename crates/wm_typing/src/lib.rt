@@ -2,7 +2,11 @@
 #![tactic(auto)]
 
 mod blocks;
+pub mod body_checker;
 pub mod context;
+mod function;
 mod instructions;
 pub mod labels;
 mod operands;
+mod ops;
+pub mod stats;

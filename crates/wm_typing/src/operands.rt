@@ -1,9 +1,9 @@
 //! What instructions do to the operands of the innermost frame.
 
-ghost use Rattle.std.specs.Prelude.{◌≡◌, ◌<◌, ◌^◌, [], ◌∷◌, ◌++◌, MatchResult, Ok, length, option_to_list};
+ghost use Rattle.std.specs.Prelude.{◌≡◌, ◌+◌, ◌<◌, ◌≤◌, ◌^◌, [], ◌∷◌, ◌++◌, MatchResult, Ok, length, option_to_list};
 ghost use Rattle.wm_stacks.specs.Stack.{height_sum};
 ghost use Rattle.wm_syntax.specs.declared.types.ValType.TheVariants.{I32};
-ghost use Rattle.wm_typing.specs.Answers.{Does, Room};
+ghost use Rattle.wm_typing.specs.Answers.{Does, Room, weight};
 ghost use Rattle.wm_typing.specs.Entries.{join, known};
 ghost use Rattle.wm_typing.specs.Exact.{drive_diverges, drive_drop, drive_fixed, drive_indirect, drive_select, push_all};
 
@@ -26,6 +26,8 @@ pub(crate) fn push_result(stacks: &mut Stacks, given: Option<ValType>) -> Result
     requires bounded { height_sum stacks.old < 2 ^ 63 }
     ensures does { Does (λ _. stacks.new) (Ok (push_all (option_to_list given) stacks.old)) result }
     ensures room { Room stacks.old result }
+    ensures weight { weight stacks.new ≤ weight stacks.old + 2 }
+    ensures height { height_sum stacks.new ≤ height_sum stacks.old + 1 }
 {
     match given {
         Some(ty) => stacks.push(entry(ty)),
@@ -34,6 +36,7 @@ pub(crate) fn push_result(stacks: &mut Stacks, given: Option<ValType>) -> Result
 }
 
 // From these types to this one, or to none.
+#[tactic(auto, using(crate::proofs::Costs::take_weight, crate::proofs::Costs::take_height))]
 pub(crate) fn fixed(
     stacks: &mut Stacks,
     params: &[ValType],
@@ -43,12 +46,15 @@ pub(crate) fn fixed(
     requires bounded { height_sum stacks.old < 2 ^ 63 }
     ensures does { Does (λ _. stacks.new) (drive_fixed params.now (option_to_list given) stacks.old) result }
     ensures room { Room stacks.old result }
+    ensures weight { weight stacks.new ≤ weight stacks.old + 3 }
+    ensures height { height_sum stacks.new ≤ height_sum stacks.old + 1 }
 {
     stacks.take(params)?;
     push_result(stacks, given)
 }
 
 // The same, below an i32 that is taken first.
+#[tactic(auto, using(crate::proofs::Costs::take_weight, crate::proofs::Costs::take_height))]
 pub(crate) fn indirect(
     stacks: &mut Stacks,
     params: &[ValType],
@@ -58,17 +64,22 @@ pub(crate) fn indirect(
     requires bounded { height_sum stacks.old < 2 ^ 63 }
     ensures does { Does (λ _. stacks.new) (drive_indirect params.now (option_to_list given) stacks.old) result }
     ensures room { Room stacks.old result }
+    ensures weight { weight stacks.new ≤ weight stacks.old + 4 }
+    ensures height { height_sum stacks.new ≤ height_sum stacks.old + 1 }
 {
     stacks.take(&[ValType::I32])?;
     fixed(stacks, params, given)
 }
 
 // From these types on top of any others; what follows can't be reached.
+#[tactic(auto, using(crate::proofs::Costs::take_weight, crate::proofs::Costs::take_height, crate::proofs::Costs::cut_weight, crate::proofs::Costs::cut_height))]
 pub(crate) fn diverges(stacks: &mut Stacks, params: &[ValType]) -> Result<(), Why>
     requires open { 0 < length stacks.old.frames }
     requires bounded { height_sum stacks.old < 2 ^ 63 }
     ensures does { Does (λ _. stacks.new) (drive_diverges params.now stacks.old) result }
     ensures room { Room stacks.old result }
+    ensures weight { weight stacks.new ≤ weight stacks.old + 1 }
+    ensures height { height_sum stacks.new ≤ height_sum stacks.old + 0 }
 {
     stacks.take(params)?;
     stacks.cut_to_floor();
@@ -80,6 +91,8 @@ pub(crate) fn breaks(stacks: &mut Stacks, target: Option<ValType>) -> Result<(),
     requires bounded { height_sum stacks.old < 2 ^ 63 }
     ensures does { Does (λ _. stacks.new) (drive_diverges (option_to_list target) stacks.old) result }
     ensures room { Room stacks.old result }
+    ensures weight { weight stacks.new ≤ weight stacks.old + 1 }
+    ensures height { height_sum stacks.new ≤ height_sum stacks.old + 0 }
 {
     match target {
         Some(ty) => diverges(stacks, &[ty]),
@@ -92,6 +105,8 @@ pub(crate) fn breaks_if(stacks: &mut Stacks, target: Option<ValType>) -> Result<
     requires bounded { height_sum stacks.old < 2 ^ 63 }
     ensures does { Does (λ _. stacks.new) (drive_fixed (option_to_list target ++ I32 ∷ []) (option_to_list target) stacks.old) result }
     ensures room { Room stacks.old result }
+    ensures weight { weight stacks.new ≤ weight stacks.old + 3 }
+    ensures height { height_sum stacks.new ≤ height_sum stacks.old + 1 }
 {
     match target {
         Some(ty) => fixed(stacks, &[ty, ValType::I32], target),
@@ -99,11 +114,14 @@ pub(crate) fn breaks_if(stacks: &mut Stacks, target: Option<ValType>) -> Result<
     }
 }
 
+#[tactic(auto, using(crate::proofs::Costs::any_weight, crate::proofs::Costs::any_height))]
 pub(crate) fn drop_one(stacks: &mut Stacks) -> Result<(), Why>
     requires open { 0 < length stacks.old.frames }
     requires bounded { height_sum stacks.old < 2 ^ 63 }
     ensures does { Does (λ _. stacks.new) (drive_drop stacks.old) result }
     ensures room { Room stacks.old result }
+    ensures weight { weight stacks.new ≤ weight stacks.old + 1 }
+    ensures height { height_sum stacks.new ≤ height_sum stacks.old + 0 }
 {
     stacks.take_any()?;
     Ok(())
@@ -121,11 +139,14 @@ fn joined(first: Entry, second: Entry) -> Option<Entry>
     }
 }
 
+#[tactic(auto, using(crate::proofs::Costs::take_weight, crate::proofs::Costs::take_height, crate::proofs::Costs::any_weight, crate::proofs::Costs::any_height))]
 pub(crate) fn select(stacks: &mut Stacks) -> Result<(), Why>
     requires open { 0 < length stacks.old.frames }
     requires bounded { height_sum stacks.old < 2 ^ 63 }
     ensures does { Does (λ _. stacks.new) (drive_select stacks.old) result }
     ensures room { Room stacks.old result }
+    ensures weight { weight stacks.new ≤ weight stacks.old + 4 }
+    ensures height { height_sum stacks.new ≤ height_sum stacks.old + 1 }
 {
     if stacks.take(&[ValType::I32])? == Reach::Floor {
         return stacks.push(Entry::Unknown);

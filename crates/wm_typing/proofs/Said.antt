@@ -1,0 +1,197 @@
+-- What the calls leave, after the ops so far.
+use Rattle.std.proofs.Common.{ℕ, Bool, true, false, cond, ◌≡◌, ◌≤◌, ◌<◌, ◌+◌, ◌^◌, List, [], ◌∷◌, ◌++◌, Option, None, Result, Ok, Err, MatchResult, OnOk, IfOk, length, max, sym, refl, ap, ◌∙◌, subst, arith, lit≤, length-append, ◌⊎◌, inl, inr, ◌↔◌}
+use Rattle.std.specs.Prelude.{nat_lt, replicate}
+use Rattle.wm_syntax.specs.declared.types.ValType.{ValType}
+use Rattle.wm_syntax.specs.declared.why.Why.{Why}
+use Rattle.wm_syntax.specs.declared.why.Why.TheVariants.{Memory, TooManyLocals}
+use Rattle.wm_syntax.specs.declared.instructions.Op.{Op}
+use Rattle.wm_stacks.specs.declared.entries.Frame.{Frame}
+use Rattle.wm_stacks.specs.Stack.{Stack, height_sum}
+use Rattle.wm_stacks.specs.Runs.{run_count}
+use Rattle.wm_stacks.specs.ExactRuns.{added}
+use Rattle.wm_typing.specs.declared.labels.Table.{Table}
+use Rattle.wm_typing.specs.declared.body_checker.Progress.{Progress}
+use Rattle.wm_typing.specs.declared.body_checker.Progress.TheVariants.{Inside, Ended}
+use Rattle.wm_typing.specs.Typing.{Context}
+use Rattle.wm_typing.specs.Contexts.{params_of, result_of, in_function, body_context}
+use Rattle.wm_typing.specs.Exact.{State, step}
+use Rattle.wm_typing.specs.Answers.{weight}
+use Rattle.wm_typing.specs.Bodies.{Body, Within, counted, kept_of}
+use Rattle.wm_typing.specs.ExactBodies.{begun, declared_to, declared_more, context_in, probes_in, while_open, with_state, stepped_to, unless_refused, stepped, progress_at, refused_with}
+use Rattle.wm_typing.specs.After.{After, Keeps, HaveTyping, IsTypedBody, FramesDenote}
+use Rattle.wm_typing.proofs.FewRuns.{op_le}
+use Rattle.wm_typing.proofs.Kept.{first_kept, next, refused, can_be_typed, denoted, typed_at, unfinished, body_can, no_operands, rekept, begun_open}
+
+pub after_begun : (c : Context) (x : ℕ) → After c x [] [] (begun c x)
+after_begun c x = record {
+  unrefused = refl;
+  signature = refl;
+  result = refl;
+  declared = λ o. refl;
+  emptied = λ e. refl;
+  keeps = first_kept (body_context c x []);
+  within = record { heights = lit≤ tt; moves = lit≤ tt; counts = refl; operands = lit≤ tt; controls = lit≤ tt; probes = lit≤ tt };
+}
+
+-- the context of the body at hand is that of the function
+in_context : (c : Context) (x : ℕ) (locals : List ValType) (ops : List Op) (b : Body) → After c x locals ops b → 0 < length b.state.stacks.frames
+    → context_in c b ≡ body_context c x locals
+in_context c x locals ops b a l =
+    ap (λ z. in_function c z b.result b.declared) a.signature ∙ ap (λ z. in_function c x z b.declared) a.result
+    ∙ ap (λ z. in_function c x (result_of c x) z) (a.declared l)
+
+open_keeps : (fs : List Frame) (types : List ValType) → 0 < length fs → while_open fs types ≡ types
+open_keeps [] types l = absurd (omega (arith, l))
+open_keeps (f ∷ fs) types l = refl
+
+pub within_after : (c : Context) (n : ℕ) (b : Body) (x : Op) (z : Body) → Within n b
+    → z.stats ≡ counted z.state.stacks (probes_in c b x) b.stats → weight z.state.stacks ≤ weight b.state.stacks + 4
+    → height_sum z.state.stacks ≤ height_sum b.state.stacks + 1 → Within (n + 1) z
+within_after c n b x z w e h k =
+    let p = op_le (params_of c b.signature) b.declared b.state.table x in
+    let o : z.stats.operands ≡ max b.stats.operands (length z.state.stacks.operands) = ap (λ s. s.operands) e in
+    let f : z.stats.controls ≡ max b.stats.controls (length z.state.stacks.frames) = ap (λ s. s.controls) e in
+    let q : z.stats.probes ≡ max b.stats.probes (probes_in c b x) = ap (λ s. s.probes) e in
+    record {
+      heights = omega (arith, k, w.heights);
+      moves = omega (arith, h, w.moves);
+      counts = ap (λ s. s.moves) e;
+      operands = omega (arith, o, k, w.heights, w.operands);
+      controls = omega (arith, f, k, w.heights, w.controls);
+      probes = omega (arith, q, p, w.probes);
+    }
+
+-- one op of a body that was not refused, in the context of its function
+unrefused_step : (c : Context) (x : ℕ) (locals : List ValType) (ops : List Op) (b : Body) (y : Op) → After c x locals ops b → 0 < length b.state.stacks.frames
+    → stepped c y b ≡ stepped_to b (probes_in c b y) (step (body_context c x locals) b.state y)
+unrefused_step c x locals ops b y a l =
+    ap (λ r. unless_refused r (stepped_to b (probes_in c b y) (step (context_in c b) b.state y))) a.unrefused
+    ∙ ap (λ d. stepped_to b (probes_in c b y) (step d b.state y)) (in_context c x locals ops b a l)
+
+pub after_ok : (c : Context) (x : ℕ) (locals : List ValType) (ops : List Op) (b : Body) (y : Op) (z : Body) → After c x locals ops b → 0 < length b.state.stacks.frames
+    → stepped c y b ≡ Ok z → Within (length ops + 1) z → After c x locals (ops ++ y ∷ []) z
+after_ok c x locals ops b y z a l e w =
+    go (step (body_context c x locals) b.state y) refl (sym (unrefused_step c x locals ops b y a l) ∙ e)
+  where
+    go : (r : Result State Why) → step (body_context c x locals) b.state y ≡ r → stepped_to b (probes_in c b y) r ≡ Ok z → After c x locals (ops ++ y ∷ []) z
+    go (Err why) k f = cc
+    go (Ok s) k f =
+        let q : with_state b (probes_in c b y) s ≡ z = cc in
+        subst (λ v. After c x locals (ops ++ y ∷ []) v) q (record {
+          unrefused = a.unrefused;
+          signature = a.signature;
+          result = a.result;
+          declared = λ o. open_keeps s.stacks.frames b.declared o ∙ a.declared l;
+          emptied = λ n. ap (λ v. while_open v b.declared) n;
+          keeps = next (body_context c x locals) y ops b.state.table s.table b.state.stacks s.stacks l a.keeps k;
+          within = subst (λ v. Within v (with_state b (probes_in c b y) s)) (sym (length-append ops (y ∷ []))) (subst (λ v. Within (length ops + 1) v) (sym q) w);
+        })
+
+pub no_typing : (c : Context) (x : ℕ) (locals : List ValType) (ops : List Op) (b : Body) (y : Op) (why : Why) → After c x locals ops b → 0 < length b.state.stacks.frames
+    → stepped c y b ≡ Err why → HaveTyping (body_context c x locals) (ops ++ y ∷ []) → ⊥
+no_typing c x locals ops b y why a l e h =
+    go (step (body_context c x locals) b.state y) refl (sym (unrefused_step c x locals ops b y a l) ∙ e)
+  where
+    go : (r : Result State Why) → step (body_context c x locals) b.state y ≡ r → stepped_to b (probes_in c b y) r ≡ Err why → ⊥
+    go (Err w) k f = refused (body_context c x locals) y ops b.state.table b.state.stacks w l a.keeps k h
+    go (Ok s) k f = cc
+
+stats_ok : (c : Context) (b : Body) (y : Op) (z : Body) → b.refused ≡ None → stepped c y b ≡ Ok z → z.stats ≡ counted z.state.stacks (probes_in c b y) b.stats
+stats_ok c b y z u e =
+    go (step (context_in c b) b.state y) (sym (ap (λ r. unless_refused r (stepped_to b (probes_in c b y) (step (context_in c b) b.state y))) u) ∙ e)
+  where
+    go : (r : Result State Why) → stepped_to b (probes_in c b y) r ≡ Ok z → z.stats ≡ counted z.state.stacks (probes_in c b y) b.stats
+    go (Err why) f = cc
+    go (Ok s) f = let q : with_state b (probes_in c b y) s ≡ z = cc in subst (λ v. v.stats ≡ counted v.state.stacks (probes_in c b y) b.stats) q refl
+
+-- the answers of a step
+abbrev pub Answers : Context → Op → Body → Body → Result Progress Why → Type 0
+Answers c y b z r =
+    MatchResult r (λ p. stepped c y b ≡ Ok z)
+    (λ why. ((why ≡ Memory) ⊎ (stepped c y b ≡ Err why)) × (z ≡ refused_with why (probes_in c b y) z.state b))
+
+pub stats_said : (c : Context) (b : Body) (y : Op) (z : Body) (r : Result Progress Why) → b.refused ≡ None → Answers c y b z r
+    → z.stats ≡ counted z.state.stacks (probes_in c b y) b.stats
+stats_said c b y z (Ok p) u e = stats_ok c b y z u e
+stats_said c b y z (Err why) u e = ap (λ v. v.stats) e.1
+
+inside_open : (fs : List Frame) → progress_at fs ≡ Inside → 0 < length fs
+inside_open [] e = cc
+inside_open (f ∷ fs) e = omega arith
+
+ended_closed : (fs : List Frame) → progress_at fs ≡ Ended → fs ≡ []
+ended_closed [] e = refl
+ended_closed (f ∷ fs) e = cc
+
+ends : (d : Context) (ops : List Op) (t : Option Table) (s : Stack) → Keeps d ops t s → d.labels ≡ d.result ∷ [] → (p : Progress) → p ≡ progress_at s.frames
+    → (p ≡ Ended) ↔ IsTypedBody d ops
+ends d ops t s k e Ended q = (λ i. typed_at d ops t s k (ended_closed s.frames (sym q)) e, λ h. refl)
+ends d ops t s k e Inside q = (λ i. cc, λ h. absurd (unfinished d ops t s k (inside_open s.frames (sym q)) e h))
+
+all_gone : (z : Body) → z.declared ≡ [] → z.state.stacks.operands ≡ [] → z.state.stacks.frames ≡ [] → kept_of z ≡ 0
+all_gone z d o f =
+    let a : run_count z.declared ≡ 0 = ap run_count d in
+    let n : length z.state.stacks.operands ≡ 0 = ap length o in
+    let m : length z.state.stacks.frames ≡ 0 = ap length f in
+    omega (arith, a, n, m)
+
+module _ (c : Context) (x : ℕ) (locals : List ValType) (ops : List Op) (b : Body) (y : Op) (z : Body) (a : After c x locals ops b) (l : 0 < length b.state.stacks.frames) (w : Within (length ops + 1) z) where
+  pub after_said : (r : Result Progress Why) → Answers c y b z r → OnOk r (After c x locals (ops ++ y ∷ []) z)
+  after_said (Ok p) e = after_ok c x locals ops b y z a l e w
+  after_said (Err why) e = tt
+
+  pub typed_said : (r : Result Progress Why) → Answers c y b z r
+      → MatchResult r (λ p. HaveTyping (body_context c x locals) (ops ++ y ∷ [])) (λ why. (why ≡ Memory) ⊎ (HaveTyping (body_context c x locals) (ops ++ y ∷ []) → ⊥))
+  typed_said (Ok p) e =
+      can_be_typed (body_context c x locals) (ops ++ y ∷ []) z.state.table z.state.stacks (after_ok c x locals ops b y z a l e w).keeps
+  typed_said (Err why) e = elim e.0 [ inl m ↦ inl m | inr n ↦ inr (no_typing c x locals ops b y why a l n) ]
+
+  pub ended_said : (r : Result Progress Why) → Answers c y b z r → IfOk r (λ p. p ≡ progress_at z.state.stacks.frames)
+      → MatchResult r (λ p. (p ≡ Ended) ↔ IsTypedBody (body_context c x locals) (ops ++ y ∷ [])) (λ why. (why ≡ Memory) ⊎ (IsTypedBody (body_context c x locals) (ops ++ y ∷ []) → ⊥))
+  ended_said (Ok p) e q = ends (body_context c x locals) (ops ++ y ∷ []) z.state.table z.state.stacks (after_ok c x locals ops b y z a l e w).keeps refl p q
+  ended_said (Err why) e q = elim e.0 [ inl m ↦ inl m | inr n ↦ inr (λ t. no_typing c x locals ops b y why a l n (body_can (body_context c x locals) (ops ++ y ∷ []) refl t)) ]
+
+  pub denotes_said : (r : Result Progress Why) → Answers c y b z r → IfOk r (λ p. p ≡ progress_at z.state.stacks.frames) → r ≡ Ok Inside
+      → FramesDenote (body_context c x locals) (ops ++ y ∷ []) z.state.table z.state.stacks
+  denotes_said (Ok p) e q i =
+      denoted (body_context c x locals) (ops ++ y ∷ []) z.state.table z.state.stacks (after_ok c x locals ops b y z a l e w).keeps
+      (inside_open z.state.stacks.frames (let k : p ≡ Inside = cc in sym q ∙ k))
+  denotes_said (Err why) e q i = cc
+
+  pub empty_said : (r : Result Progress Why) → Answers c y b z r → IfOk r (λ p. p ≡ progress_at z.state.stacks.frames) → r ≡ Ok Ended → kept_of z ≡ 0
+  empty_said (Ok p) e q i =
+      let n : z.state.stacks.frames ≡ [] = ended_closed z.state.stacks.frames (let k : p ≡ Ended = cc in sym q ∙ k) in
+      let f = after_ok c x locals ops b y z a l e w in
+      all_gone z (f.emptied n) (no_operands (body_context c x locals) (ops ++ y ∷ []) z.state.table z.state.stacks f.keeps n) n
+  empty_said (Err why) e q i = cc
+
+-- more locals, before the first op
+pub locals_said : (c : Context) (x count : ℕ) (t : ValType) (locals : List ValType) (b z : Body) (A : Type 0) (r : Result A Why) → After c x locals [] b
+    → MatchResult r (λ u. declared_more count t b ≡ Ok z) (λ why. ((why ≡ Memory) ⊎ (declared_more count t b ≡ Err why)) × (z ≡ refused_with why 0 b.state b))
+    → OnOk r (After c x (locals ++ replicate count t) [] z)
+locals_said c x count t locals b z A (Err why) a e = tt
+locals_said c x count t locals b z A (Ok u) a e =
+    go (nat_lt (length b.declared + count) (2 ^ 32)) (sym (ap (λ v. unless_refused v (declared_to b (added count t b.declared))) a.unrefused) ∙ e)
+  where
+    go : (o : Bool) → declared_to b (cond o (Ok (b.declared ++ replicate count t)) (Err TooManyLocals)) ≡ Ok z → After c x (locals ++ replicate count t) [] z
+    go false f = cc
+    go true f =
+        let y : Body = record b { declared = b.declared ++ replicate count t; stats = counted b.state.stacks 0 b.stats } in
+        let q : y ≡ z = cc in
+        let l = begun_open (body_context c x locals) b.state.table b.state.stacks a.keeps in
+        subst (λ v. After c x (locals ++ replicate count t) [] v) q (record {
+          unrefused = a.unrefused;
+          signature = a.signature;
+          result = a.result;
+          declared = λ o. ap (λ v. v ++ replicate count t) (a.declared l);
+          emptied = λ n. absurd (let k : length b.state.stacks.frames ≡ 0 = ap length n in omega (arith, k, l));
+          keeps = rekept (body_context c x locals) (body_context c x (locals ++ replicate count t)) b.state.table b.state.stacks refl a.keeps;
+          within = record {
+            heights = a.within.heights;
+            moves = a.within.moves;
+            counts = refl;
+            operands = omega (arith, a.within.operands, a.within.heights);
+            controls = omega (arith, a.within.controls, a.within.heights);
+            probes = omega (arith, a.within.probes);
+          };
+        })
