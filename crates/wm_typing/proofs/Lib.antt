@@ -14,3 +14,4 @@ pub mod Shown
 pub mod Kept
 pub mod Said
 pub mod FewRuns
+pub mod Ends

@@ -2,6 +2,7 @@
 #![tactic(auto)]
 
 mod blocks;
+pub mod bodies;
 pub mod body_checker;
 pub mod context;
 mod function;
