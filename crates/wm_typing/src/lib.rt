@@ -11,3 +11,5 @@ pub mod labels;
 mod operands;
 mod ops;
 pub mod stats;
+#[cfg(test)]
+mod tests;

@@ -11,8 +11,8 @@ returns-in_err-locals-clause-too_many c d x a =
     let p = err_from_is_err_and c.from_residual.result c.from_residual.ensures.1 in
     rw (p.1, p.2)
     (elim (c.in_err-locals.ensures.declared d x (expanded (take c.loop-run.run-index c.args.runs.now)) (c.loop-run.invariant.after d x a)) [
-      inl m ↦ inl m
-    | inr n ↦ inr (front_longer c.args.runs.now c.loop-run.run-index _ c.loop-run-test.true n)
+      | inl m ↦ inl m
+      | inr n ↦ inr (front_longer c.args.runs.now c.loop-run.run-index _ c.loop-run-test.true n)
     ])
 
 pub loop-run-preserved : goal.loop-run-preserved

@@ -18,8 +18,8 @@ returns-in_err-progress-clause-typed c =
     let p = err_from_is_err_and c.from_residual.result c.from_residual.ensures.1 in
     rw (p.1, p.2)
     (elim (c.in_err-progress.ensures.typed c.args.checker.now.signature c.args.checker.now.declared (take c.loop-i.i c.args.ops.now) c.loop-i.invariant.after) [
-      inl m ↦ inl m
-    | inr n ↦ inr (refused_at (body_context c.args.context.now c.args.checker.now.signature c.args.checker.now.declared) c.args.ops.now c.loop-i.i _ refl c.loop-i-test.true n)
+      | inl m ↦ inl m
+      | inr n ↦ inr (refused_at (body_context c.args.context.now c.args.checker.now.signature c.args.checker.now.declared) c.args.ops.now c.loop-i.i _ refl c.loop-i-test.true n)
     ])
 
 pub returns-then-i-ops-clause-after : goal.returns-then-i-ops-clause-after
