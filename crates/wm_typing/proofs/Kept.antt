@@ -1,6 +1,6 @@
 -- What the stacks hold after one op more.
 use Rattle.std.proofs.Common.{◌≡◌, ◌<◌, List, [], ◌∷◌, ◌++◌, Option, Some, None, Ok, Err, map, length, option_to_list, sym, refl, ap, ◌∙◌, subst, arith}
-use Rattle.std.proofs.lemmas.List.{append_cancel_right}
+use Rattle.std.proofs.lemmas.List.{append_cancel_right, length-map}
 use Rattle.wm_syntax.specs.declared.types.ValType.{ValType}
 use Rattle.wm_syntax.specs.declared.why.Why.{Why}
 use Rattle.wm_syntax.specs.declared.instructions.Op.{Op}
@@ -12,7 +12,7 @@ use Rattle.wm_stacks.specs.Stack.{Stack, bare}
 use Rattle.wm_stacks.specs.Exact.{opened}
 use Rattle.wm_typing.specs.declared.labels.Table.{Table}
 use Rattle.wm_typing.specs.Typing.{Context, Typed}
-use Rattle.wm_typing.specs.OpenLists.{head, head_of, Place, open_at, within, complete, at, CanType, IsOpen, IsSoFar}
+use Rattle.wm_typing.specs.OpenLists.{head, head_of, Place, open_at, within, complete, at, CanType, IsOpen, IsSoFar, levels}
 use Rattle.wm_typing.specs.Exact.{drive_op}
 use Rattle.wm_typing.specs.Frames.{Frames, running, in_table, ended, AllMeet, Holds, piles_of, Nested, TracksWith}
 use Rattle.wm_typing.specs.After.{HasBodyOps, IsTypedBody, HaveTyping, FramesDenote, Keeps}
@@ -51,7 +51,7 @@ next c x ops t u s z l a e =
         record { frames = st; place = r.0; so_far = r.1; holds = r.2; goes = m }
 
 -- where the ops so far stand, and one more
-one_more : (r : Option ValType) (p q : Place) (ops : List Op) (x : Op) → IsSoFar r p ops → IsSoFar r q (ops ++ x ∷ []) → place_after p x ≡ Some q
+pub one_more : (r : Option ValType) (p q : Place) (ops : List Op) (x : Op) → IsSoFar r p ops → IsSoFar r q (ops ++ x ∷ []) → place_after p x ≡ Some q
 one_more r p q ops x a b =
     sym (place_on_nil (place_after p x)) ∙ ap (λ z. place_on z (x ∷ [])) (sym (place_of r p ops a)) ∙ sym (place_on_more (Some (from_body r)) ops (x ∷ [])) ∙ place_of r q (ops ++ x ∷ []) b
 
@@ -178,7 +178,7 @@ no_operands c ops t s a n = go t a.frames a.goes
     go (Some t) ended m = absurd m
 
 -- Before the first op nothing depends on the context.
-from_start : (c : Context) (t : Option Table) (s : Stack) (a : Keeps c [] t s) → a.place ≡ from_body c.result
+pub from_start : (c : Context) (t : Option Table) (s : Stack) (a : Keeps c [] t s) → a.place ≡ from_body c.result
 from_start c t s a = let e = place_of c.result a.place [] a.so_far in cc
 
 rehold : (c d : Context) (r : Option ValType) (st : Frames) → Holds c (from_body r) st → Holds d (from_body r) st
@@ -211,3 +211,26 @@ begun_open c t s a = go t a.frames a.goes (subst (λ z. Holds c z a.frames) (fro
     go (Some t) (in_table i seen hs fs) m h = absurd h
     go (Some t) (running hs fs) m h = absurd m
     go (Some t) ended m h = absurd m
+
+-- a list is open for each frame
+pub levels_are : (c : Context) (ops : List Op) (t : Option Table) (s : Stack) (a : Keeps c ops t s) → levels a.place ≡ length s.frames
+levels_are c ops t s a = go t a.frames a.place a.holds a.goes
+  where
+    go : (t : Option Table) (st : Frames) (p : Place) → Holds c p st → TracksWith t s st → levels p ≡ length s.frames
+    go None (running hs fs) (open_at gs ws) h m = ap length (h.0 ∙ m.2) ∙ length-map s.frames head_of
+    go None (running hs fs) (within n seen gs ws) h m = absurd h
+    go None (running hs fs) (complete r b) h m = absurd h
+    go None ended (complete r b) h m = sym (ap length m.0)
+    go None ended (open_at gs ws) h m = absurd h
+    go None ended (within n seen gs ws) h m = absurd h
+    go None (in_table i seen hs fs) p h m = absurd m
+    go (Some t) (in_table i known hs fs) (within n seen gs ws) h m = ap length (h.1 ∙ m.2.2) ∙ length-map s.frames head_of
+    go (Some t) (in_table i known hs fs) (open_at gs ws) h m = absurd h
+    go (Some t) (in_table i known hs fs) (complete r b) h m = absurd h
+    go (Some t) (running hs fs) p h m = absurd m
+    go (Some t) ended p h m = absurd m
+
+-- the ops of a body are at its end
+pub at_end : (c : Context) (ops : List Op) (t : Option Table) (s : Stack) (a : Keeps c ops t s) (b : Instructions) → HasBodyOps b ops → a.place ≡ complete c.result b
+at_end c ops t s a b h =
+    let e : ◌≡◌ {A = Option Place} (Some a.place) (Some (complete c.result b)) = sym (place_of c.result a.place ops a.so_far) ∙ place_of c.result (complete c.result b) ops (refl, h) in cc

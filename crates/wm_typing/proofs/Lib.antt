@@ -15,3 +15,4 @@ pub mod Kept
 pub mod Said
 pub mod FewRuns
 pub mod Ends
+pub mod Depths

@@ -6,7 +6,9 @@ use Rattle.wm_syntax.specs.declared.why.Why.{Why}
 use Rattle.wm_syntax.specs.declared.why.Why.TheVariants.{Memory, TooManyLocals}
 use Rattle.wm_syntax.specs.declared.instructions.Op.{Op}
 use Rattle.wm_stacks.specs.declared.entries.Frame.{Frame}
-use Rattle.wm_stacks.specs.Stack.{Stack, height_sum}
+use Rattle.wm_stacks.specs.declared.entries.Kind.TheVariants.{Func}
+use Rattle.wm_stacks.specs.Stack.{Stack, bare, height_sum}
+use Rattle.wm_stacks.specs.Exact.{opened}
 use Rattle.wm_stacks.specs.Runs.{run_count}
 use Rattle.wm_stacks.specs.ExactRuns.{added}
 use Rattle.wm_typing.specs.declared.labels.Table.{Table}
@@ -18,9 +20,13 @@ use Rattle.wm_typing.specs.Exact.{State, step}
 use Rattle.wm_typing.specs.Answers.{weight}
 use Rattle.wm_typing.specs.Bodies.{Body, Within, counted, kept_of}
 use Rattle.wm_typing.specs.ExactBodies.{begun, declared_to, declared_more, context_in, probes_in, while_open, with_state, stepped_to, unless_refused, stepped, progress_at, refused_with}
-use Rattle.wm_typing.specs.After.{After, Keeps, HaveTyping, IsTypedBody, FramesDenote}
+use Rattle.wm_typing.specs.After.{After, Keeps, HasBodyOps, HaveTyping, IsTypedBody, FramesDenote}
+use Rattle.wm_syntax.specs.Instructions.{Instructions}
+use Rattle.wm_typing.specs.Nesting.{nesting, openings, endings}
+use Rattle.wm_typing.specs.OpenLists.{levels, deepest}
+use Rattle.wm_typing.proofs.Depths.{grown_to, openings-append, endings-append}
 use Rattle.wm_typing.proofs.FewRuns.{op_le}
-use Rattle.wm_typing.proofs.Kept.{first_kept, next, refused, can_be_typed, denoted, typed_at, unfinished, body_can, no_operands, rekept, begun_open}
+use Rattle.wm_typing.proofs.Kept.{first_kept, next, refused, can_be_typed, denoted, typed_at, unfinished, body_can, no_operands, rekept, begun_open, one_more, levels_are, at_end, from_start}
 
 pub after_begun : (c : Context) (x : ℕ) → After c x [] [] (begun c x)
 after_begun c x = record {
@@ -31,6 +37,9 @@ after_begun c x = record {
   emptied = λ e. refl;
   keeps = first_kept (body_context c x []);
   within = record { heights = lit≤ tt; moves = lit≤ tt; counts = refl; operands = lit≤ tt; controls = lit≤ tt; probes = lit≤ tt };
+  nested =
+      let m = ap levels (from_start (body_context c x []) None (opened Func (result_of c x) bare) (first_kept (body_context c x []))) in omega (arith, m);
+  controls = sym (ap deepest (from_start (body_context c x []) None (opened Func (result_of c x) bare) (first_kept (body_context c x []))));
 }
 
 -- the context of the body at hand is that of the function
@@ -77,14 +86,22 @@ after_ok c x locals ops b y z a l e w =
     go (Err why) k f = cc
     go (Ok s) k f =
         let q : with_state b (probes_in c b y) s ≡ z = cc in
+        let d = body_context c x locals in
+        let f = next d y ops b.state.table s.table b.state.stacks s.stacks l a.keeps k in
+        let g = grown_to y a.keeps.place f.place (one_more (result_of c x) a.keeps.place f.place ops y a.keeps.so_far f.so_far) in
+        let n = levels_are d (ops ++ y ∷ []) s.table s.stacks f in
+        let o = openings-append ops (y ∷ []) in
+        let i = endings-append ops (y ∷ []) in
         subst (λ v. After c x locals (ops ++ y ∷ []) v) q (record {
           unrefused = a.unrefused;
           signature = a.signature;
           result = a.result;
           declared = λ o. open_keeps s.stacks.frames b.declared o ∙ a.declared l;
           emptied = λ n. ap (λ v. while_open v b.declared) n;
-          keeps = next (body_context c x locals) y ops b.state.table s.table b.state.stacks s.stacks l a.keeps k;
+          keeps = f;
           within = subst (λ v. Within v (with_state b (probes_in c b y) s)) (sym (length-append ops (y ∷ []))) (subst (λ v. Within (length ops + 1) v) (sym q) w);
+          nested = omega (arith, g.open_lists, a.nested, o, i);
+          controls = ap (λ v. max v (length s.stacks.frames)) a.controls ∙ ap (λ v. max (deepest a.keeps.place) v) (sym n) ∙ sym g.depths;
         })
 
 pub no_typing : (c : Context) (x : ℕ) (locals : List ValType) (ops : List Op) (b : Body) (y : Op) (why : Why) → After c x locals ops b → 0 < length b.state.stacks.frames
@@ -165,6 +182,16 @@ module _ (c : Context) (x : ℕ) (locals : List ValType) (ops : List Op) (b : Bo
       all_gone z (f.emptied n) (no_operands (body_context c x locals) (ops ++ y ∷ []) z.state.table z.state.stacks f.keeps n) n
   empty_said (Err why) e q i = cc
 
+-- the counts of nested lists
+pub nested_said : (c : Context) (x : ℕ) (locals : List ValType) (ops : List Op) (b : Body) → After c x locals ops b
+    → length b.state.stacks.frames + endings ops ≡ openings ops + 1
+nested_said c x locals ops b a =
+    let n = levels_are (body_context c x locals) ops b.state.table b.state.stacks a.keeps in omega (arith, n, a.nested)
+
+pub controls_said : (c : Context) (x : ℕ) (locals : List ValType) (ops : List Op) (b : Body) → After c x locals ops b → (s : Instructions) → HasBodyOps s ops
+    → b.stats.controls ≡ nesting s + 1
+controls_said c x locals ops b a s h = a.controls ∙ ap deepest (at_end (body_context c x locals) ops b.state.table b.state.stacks a.keeps s h)
+
 -- more locals, before the first op
 pub locals_said : (c : Context) (x count : ℕ) (t : ValType) (locals : List ValType) (b z : Body) (A : Type 0) (r : Result A Why) → After c x locals [] b
     → MatchResult r (λ u. declared_more count t b ≡ Ok z) (λ why. ((why ≡ Memory) ⊎ (declared_more count t b ≡ Err why)) × (z ≡ refused_with why 0 b.state b))
@@ -179,13 +206,14 @@ locals_said c x count t locals b z A (Ok u) a e =
         let y : Body = record b { declared = b.declared ++ replicate count t; stats = counted b.state.stacks 0 b.stats } in
         let q : y ≡ z = cc in
         let l = begun_open (body_context c x locals) b.state.table b.state.stacks a.keeps in
+        let k = rekept (body_context c x locals) (body_context c x (locals ++ replicate count t)) b.state.table b.state.stacks refl a.keeps in
         subst (λ v. After c x (locals ++ replicate count t) [] v) q (record {
           unrefused = a.unrefused;
           signature = a.signature;
           result = a.result;
           declared = λ o. ap (λ v. v ++ replicate count t) (a.declared l);
           emptied = λ n. absurd (let k : length b.state.stacks.frames ≡ 0 = ap length n in omega (arith, k, l));
-          keeps = rekept (body_context c x locals) (body_context c x (locals ++ replicate count t)) b.state.table b.state.stacks refl a.keeps;
+          keeps = k;
           within = record {
             heights = a.within.heights;
             moves = a.within.moves;
@@ -194,4 +222,33 @@ locals_said c x count t locals b z A (Ok u) a e =
             controls = omega (arith, a.within.controls, a.within.heights);
             probes = omega (arith, a.within.probes);
           };
+          nested =
+              let m = ap levels (from_start (body_context c x (locals ++ replicate count t)) b.state.table b.state.stacks k) in omega (arith, m);
+          controls =
+              let n = levels_are (body_context c x locals) [] b.state.table b.state.stacks a.keeps in
+              let p = from_start (body_context c x locals) b.state.table b.state.stacks a.keeps in
+              let m : levels a.keeps.place ≡ 1 = ap levels p in
+              let d : deepest a.keeps.place ≡ 1 = ap deepest p in
+              let e : max b.stats.controls (length b.state.stacks.frames) ≡ 1 = omega (arith, a.controls, n, m, d) in
+              e ∙ sym (ap deepest (from_start (body_context c x (locals ++ replicate count t)) b.state.table b.state.stacks k));
         })
+
+pub on_ok : {A : Type 0} {P Q : Type 0} (r : Result A Why) → OnOk r P → (P → Q) → OnOk r Q
+on_ok (Ok u) p f = f p
+on_ok (Err why) p f = tt
+
+-- the function and the locals are those that are held
+pub as_held : (c : Context) (x : ℕ) (locals : List ValType) (b : Body) → After c x locals [] b → After c b.signature b.declared [] b
+as_held c x locals b a =
+    let l = begun_open (body_context c x locals) b.state.table b.state.stacks a.keeps in
+    subst (λ v. After c v b.declared [] b) (sym a.signature) (subst (λ v. After c x v [] b) (sym (a.declared l)) a)
+
+pub held_context : (c : Context) (x : ℕ) (locals : List ValType) (b : Body) → After c x locals [] b → body_context c b.signature b.declared ≡ body_context c x locals
+held_context c x locals b a =
+    let l = begun_open (body_context c x locals) b.state.table b.state.stacks a.keeps in
+    ap (λ v. body_context c v b.declared) a.signature ∙ ap (λ v. body_context c x v) (a.declared l)
+
+pub held_few : (c : Context) (x : ℕ) (locals : List ValType) (b : Body) → After c x locals [] b → length locals < 2 ^ 32 → length b.declared < 2 ^ 32
+held_few c x locals b a h =
+    let l = begun_open (body_context c x locals) b.state.table b.state.stacks a.keeps in
+    let e = ap length (a.declared l) in omega (arith, e, h)

@@ -1,5 +1,5 @@
 -- What a body's check holds after the ops so far, and what its answers say of them.
-use Rattle.std.specs.Prelude.{ℕ, ◌-◌, ◌<◌, ◌≡◌, ◌↔◌, List, [], ◌∷◌, ◌++◌, Option, Some, None, map, length, take, drop, reverse, option_to_list}
+use Rattle.std.specs.Prelude.{ℕ, ◌+◌, ◌-◌, ◌<◌, ◌≡◌, ◌↔◌, List, [], ◌∷◌, ◌++◌, Option, Some, None, map, length, take, drop, reverse, option_to_list}
 use Rattle.wm_syntax.specs.declared.types.ValType.{ValType}
 use Rattle.wm_syntax.specs.declared.instructions.Op.{Op}
 use Rattle.wm_syntax.specs.declared.instructions.Op.TheVariants as op
@@ -10,7 +10,8 @@ use Rattle.wm_stacks.specs.Stack.{Stack, Denotes}
 use Rattle.wm_typing.specs.declared.labels.Table.{Table}
 use Rattle.wm_typing.specs.Typing.{Context, Typed}
 use Rattle.wm_typing.specs.Contexts.{body_context, result_of}
-use Rattle.wm_typing.specs.OpenLists.{Work, work, Place, head_of, at, taken_by, CanType, IsOpen, IsSoFar}
+use Rattle.wm_typing.specs.OpenLists.{Work, work, Place, head_of, at, taken_by, CanType, IsOpen, IsSoFar, levels, deepest}
+use Rattle.wm_typing.specs.Nesting.{openings, endings}
 use Rattle.wm_typing.specs.Frames.{Frames, Holds, TracksWith}
 use Rattle.wm_typing.specs.Bodies.{Body, Within}
 
@@ -63,3 +64,5 @@ pub record After (c : Context) (x : ℕ) (locals : List ValType) (ops : List Op)
   pub emptied : b.state.stacks.frames ≡ [] → b.declared ≡ []
   pub keeps : Keeps (body_context c x locals) ops b.state.table b.state.stacks
   pub within : Within (length ops) b
+  pub nested : levels keeps.place + endings ops ≡ openings ops + 1
+  pub controls : b.stats.controls ≡ deepest keeps.place

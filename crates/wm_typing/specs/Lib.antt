@@ -6,6 +6,7 @@ pub mod Shapes
 pub mod Exact
 pub mod Frames
 pub mod Answers
+pub mod Nesting
 pub mod Bodies
 pub mod ExactBodies
 pub mod After

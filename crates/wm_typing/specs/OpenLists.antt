@@ -1,5 +1,5 @@
 -- Bodies that are not complete: the lists of instructions that are open, the innermost first.
-use Rattle.std.specs.Prelude.{ℕ, ◌+◌, ◌≡◌, List, [], ◌∷◌, ◌++◌, Option, Some, None, map, length, slice_get, option_to_list}
+use Rattle.std.specs.Prelude.{ℕ, ◌+◌, ◌≡◌, List, [], ◌∷◌, ◌++◌, Option, Some, None, map, max, length, slice_get, option_to_list}
 use Rattle.std.specs.List.{AllByRecursion}
 use Rattle.wm_syntax.specs.declared.types.ValType.{ValType}
 use Rattle.wm_syntax.specs.declared.types.ValType.TheVariants.{I32}
@@ -9,6 +9,7 @@ use Rattle.wm_syntax.specs.Instructions.{Instructions, none, HasOps}
 use Rattle.wm_stacks.specs.declared.entries.Kind.{Kind}
 use Rattle.wm_stacks.specs.declared.entries.Kind.TheVariants.{Func, Block, Loop, If, Else}
 use Rattle.wm_stacks.specs.declared.entries.Frame.{Frame}
+use Rattle.wm_typing.specs.Nesting.{nesting}
 use Rattle.wm_typing.specs.Typing.{Context, Typed}
 
 -- what an open list belongs to, with the result of that
@@ -113,3 +114,26 @@ IsSoFar r (open_at hs ws) ops = IsOpen r hs ws ops
 IsSoFar r (within n seen hs ws) ops =
     (before : List Op) × IsOpen r hs ws before × (ops ≡ before ++ op.BrTable (length seen + n) ∷ map op.Label seen)
 IsSoFar r (complete t s) ops = (t ≡ r) × ((inner : List Op) × HasOps s inner × (ops ≡ inner ++ op.End ∷ []))
+
+-- how many lists are open, and how deep the instructions so far are nested: 1 for those that stand in the body itself
+abbrev pub levels : Place → ℕ
+levels (open_at hs ws) = length hs
+levels (within n seen hs ws) = length hs
+levels (complete r s) = 0
+
+abbrev pub work_nesting : Head → Work → ℕ
+work_nesting (head Func t) (work first s) = nesting s
+work_nesting (head Block t) (work first s) = nesting s
+work_nesting (head Loop t) (work first s) = nesting s
+work_nesting (head If t) (work first s) = nesting s
+work_nesting (head Else t) (work first s) = max (nesting first) (nesting s)
+
+abbrev pub deepest_open : List Head → List Work → ℕ
+deepest_open [] ws = 0
+deepest_open (h ∷ hs) [] = 0
+deepest_open (h ∷ hs) (w ∷ ws) = max (length (h ∷ hs) + work_nesting h w) (deepest_open hs ws)
+
+abbrev pub deepest : Place → ℕ
+deepest (open_at hs ws) = deepest_open hs ws
+deepest (within n seen hs ws) = deepest_open hs ws
+deepest (complete r s) = nesting s + 1

@@ -3,8 +3,10 @@
 ghost use Rattle.std.specs.Prelude.{◌≡◌, ◌+◌, ◌*◌, ◌<◌, ◌≤◌, ◌^◌, ◌⊎◌, ℕ, List, [], ◌++◌, IfErr, IfOk, MatchResult, OnOk, None, length};
 ghost use Rattle.wm_stacks.specs.Stack.{height_sum};
 ghost use Rattle.wm_syntax.specs.declared.types.ValType.{ValType as AType};
-ghost use Rattle.wm_typing.specs.After.{After, IsTypedBody};
+ghost use Rattle.wm_typing.specs.After.{After, HasBodyOps, IsTypedBody};
 ghost use Rattle.wm_typing.specs.Contexts.{body_context, expanded};
+ghost use Rattle.wm_typing.specs.Nesting.{nesting};
+ghost use Rattle.wm_syntax.specs.Instructions.{Instructions};
 ghost use Rattle.wm_typing.specs.Typing.{Context as ModuleContext};
 
 use crate::body_checker::{BodyChecker, Progress};
@@ -32,7 +34,7 @@ pub fn check_body(
         (λ why. (why ≡ Why.Memory) ⊎ (2 ^ 32 ≤ length (expanded runs.now)) ⊎ (IsTypedBody (body_context context.now type_index (expanded runs.now)) ops.now → ⊥)) }
     ensures moves { IfOk result (λ stats. stats.moves ≤ 4 * length ops.now + 2) }
     ensures operands { IfOk result (λ stats. stats.operands ≤ length ops.now + 1) }
-    ensures controls { IfOk result (λ stats. stats.controls ≤ length ops.now + 1) }
+    ensures controls { IfOk result (λ stats. (body : Instructions) → HasBodyOps body ops.now → stats.controls ≡ nesting body + 1) }
     ensures probes { IfOk result (λ stats. stats.probes ≤ 32) }
 {
     let mut checker = BodyChecker::new(alloc);

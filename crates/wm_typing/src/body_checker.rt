@@ -4,10 +4,12 @@ ghost use Rattle.std.specs.Prelude.{◌≡◌, ◌≢◌, ◌+◌, ◌*◌, ◌<
 ghost use Rattle.wm_stacks.specs.Stack.{height_sum};
 ghost use Rattle.wm_syntax.specs.declared.instructions.Op.{Op as AnOp};
 ghost use Rattle.wm_syntax.specs.declared.types.ValType.{ValType as AType};
-ghost use Rattle.wm_typing.specs.After.{After, FramesDenote, HaveTyping, IsTypedBody};
+ghost use Rattle.wm_typing.specs.After.{After, FramesDenote, HasBodyOps, HaveTyping, IsTypedBody};
 ghost use Rattle.wm_typing.specs.Answers.{Room, weight};
 ghost use Rattle.wm_typing.specs.Bodies.{Within, counted as counted_so, kept_of, nothing};
 ghost use Rattle.wm_typing.specs.Contexts.{body_context};
+ghost use Rattle.wm_typing.specs.Nesting.{endings, nesting, openings};
+ghost use Rattle.wm_syntax.specs.Instructions.{Instructions};
 ghost use Rattle.wm_typing.specs.Typing.{Context as ModuleContext};
 ghost use Rattle.wm_typing.specs.ExactBodies.{begun, declared_more, probes_in, progress_at, refused_with, stepped};
 
@@ -183,6 +185,13 @@ impl BodyChecker {
             → Within (length ops + 1) self.new }
         ensures empty { (x : ℕ) (locals : List AType) (ops : List AnOp) → After context.now x locals ops self.old
             → result ≡ Ok Progress.Ended → kept_of self.new ≡ 0 }
+
+        // A frame is open for each block, loop and if that has not ended, and one for the body; at its end the
+        // greatest number of them is one more than the deepest nesting.
+        ensures nested { (x : ℕ) (locals : List AType) (ops : List AnOp) → After context.now x locals ops self.old
+            → OnOk result (length self.new.state.stacks.frames + endings (ops ++ op ∷ []) ≡ openings (ops ++ op ∷ []) + 1) }
+        ensures controls { (x : ℕ) (locals : List AType) (ops : List AnOp) → After context.now x locals ops self.old
+            → OnOk result ((body : Instructions) → HasBodyOps body (ops ++ op ∷ []) → self.new.stats.controls ≡ nesting body + 1) }
         ensures progress { IfOk result (λ progress. (progress ≡ Progress.Ended) ↔ (self.new.state.stacks.frames ≡ [])) }
 
         // `Memory` is answered only past 64 operands or 32 frames.

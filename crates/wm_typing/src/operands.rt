@@ -73,15 +73,15 @@ pub(crate) fn indirect(
 
 // From these types on top of any others; what follows can't be reached.
 #[tactic(auto, using(crate::proofs::Costs::take_weight, crate::proofs::Costs::take_height, crate::proofs::Costs::cut_weight, crate::proofs::Costs::cut_height))]
-pub(crate) fn diverges(stacks: &mut Stacks, params: &[ValType]) -> Result<(), Why>
+pub(crate) fn diverges(stacks: &mut Stacks, types: &[ValType]) -> Result<(), Why>
     requires open { 0 < length stacks.old.frames }
     requires bounded { height_sum stacks.old < 2 ^ 63 }
-    ensures does { Does (λ _. stacks.new) (drive_diverges params.now stacks.old) result }
+    ensures does { Does (λ _. stacks.new) (drive_diverges types.now stacks.old) result }
     ensures room { Room stacks.old result }
     ensures weight { weight stacks.new ≤ weight stacks.old + 1 }
     ensures height { height_sum stacks.new ≤ height_sum stacks.old + 0 }
 {
-    stacks.take(params)?;
+    stacks.take(types)?;
     stacks.cut_to_floor();
     Ok(())
 }

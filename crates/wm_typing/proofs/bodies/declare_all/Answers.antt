@@ -1,5 +1,5 @@
 -- The locals of the runs so far are a front of all.
-use Rattle.std.proofs.Common.{[], ◌≡◌, ◌≤◌, ◌+◌, ◌^◌, take, length, length-append, ap, sym, subst, arith, inl, inr, ◌⊎◌, ◌∙◌}
+use Rattle.std.proofs.Common.{take_all, ◌<◌, ◌^◌, [], ◌≡◌, ◌≤◌, ◌+◌, ◌^◌, take, length, length-append, ap, sym, subst, arith, inl, inr, ◌⊎◌, ◌∙◌}
 use Rattle.std.proofs.lemmas.Result.{err_from_is_err_and}
 use Rattle.wm_typing.specs.After.{After}
 use Rattle.wm_typing.specs.Contexts.{expanded}
@@ -24,3 +24,11 @@ loop-run-preserved c = record {
       front_few c.args.runs.now c.loop-run.run-index _ c.loop-run-test.true
       (c.in_ok-locals.ensures.declared d x (expanded (take c.loop-run.run-index c.args.runs.now)) (c.loop-run.invariant.after d x a));
 }
+
+pub returns-clause-after : goal.returns-clause-after
+returns-clause-after c d x a =
+    subst (λ z. After d x (expanded z) [] c.loop-run.checker) (take_all c.loop-run.run-index c.args.runs.now c.loop-run-test.false) (c.loop-run.invariant.after d x a)
+
+pub returns-clause-few : goal.returns-clause-few
+returns-clause-few c d x a =
+    subst (λ z. length (expanded z) < 2 ^ 32) (take_all c.loop-run.run-index c.args.runs.now c.loop-run-test.false) (c.loop-run.invariant.few d x a)
