@@ -16,3 +16,4 @@ pub mod Said
 pub mod FewRuns
 pub mod Ends
 pub mod Depths
+pub mod Gains

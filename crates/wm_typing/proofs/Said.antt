@@ -1,5 +1,5 @@
 -- What the calls leave, after the ops so far.
-use Rattle.std.proofs.Common.{ℕ, Bool, true, false, cond, ◌≡◌, ◌≤◌, ◌<◌, ◌+◌, ◌^◌, List, [], ◌∷◌, ◌++◌, Option, None, Result, Ok, Err, MatchResult, OnOk, IfOk, length, max, sym, refl, ap, ◌∙◌, subst, arith, lit≤, length-append, ◌⊎◌, inl, inr, ◌↔◌}
+use Rattle.std.proofs.Common.{◌-◌, ℕ, Bool, true, false, cond, ◌≡◌, ◌≤◌, ◌<◌, ◌+◌, ◌^◌, List, [], ◌∷◌, ◌++◌, Option, None, Result, Ok, Err, MatchResult, OnOk, IfOk, length, max, sym, refl, ap, ◌∙◌, subst, arith, lit≤, length-append, ◌⊎◌, inl, inr, ◌↔◌}
 use Rattle.std.specs.Prelude.{nat_lt, replicate}
 use Rattle.wm_syntax.specs.declared.types.ValType.{ValType}
 use Rattle.wm_syntax.specs.declared.why.Why.{Why}
@@ -18,12 +18,13 @@ use Rattle.wm_typing.specs.Typing.{Context}
 use Rattle.wm_typing.specs.Contexts.{params_of, result_of, in_function, body_context}
 use Rattle.wm_typing.specs.Exact.{State, step}
 use Rattle.wm_typing.specs.Answers.{weight}
-use Rattle.wm_typing.specs.Bodies.{Body, Within, counted, kept_of}
+use Rattle.wm_typing.specs.Bodies.{Body, Within, Twice, counted, kept_of}
 use Rattle.wm_typing.specs.ExactBodies.{begun, declared_to, declared_more, context_in, probes_in, while_open, with_state, stepped_to, unless_refused, stepped, progress_at, refused_with}
 use Rattle.wm_typing.specs.After.{After, Keeps, HasBodyOps, HaveTyping, IsTypedBody, FramesDenote}
 use Rattle.wm_syntax.specs.Instructions.{Instructions}
 use Rattle.wm_typing.specs.Nesting.{nesting, openings, endings}
 use Rattle.wm_typing.specs.OpenLists.{levels, deepest}
+use Rattle.wm_typing.proofs.Gains.{step_gains}
 use Rattle.wm_typing.proofs.Depths.{grown_to, openings-append, endings-append}
 use Rattle.wm_typing.proofs.FewRuns.{op_le}
 use Rattle.wm_typing.proofs.Kept.{first_kept, next, refused, can_be_typed, denoted, typed_at, unfinished, body_can, no_operands, rekept, begun_open, one_more, levels_are, at_end, from_start}
@@ -40,6 +41,7 @@ after_begun c x = record {
   nested =
       let m = ap levels (from_start (body_context c x []) None (opened Func (result_of c x) bare) (first_kept (body_context c x []))) in omega (arith, m);
   controls = sym (ap deepest (from_start (body_context c x []) None (opened Func (result_of c x) bare) (first_kept (body_context c x []))));
+  steady = λ h. record { operands = lit≤ tt; frames = lit≤ tt; most_operands = lit≤ tt; most_controls = lit≤ tt };
 }
 
 -- the context of the body at hand is that of the function
@@ -102,6 +104,16 @@ after_ok c x locals ops b y z a l e w =
           within = subst (λ v. Within v (with_state b (probes_in c b y) s)) (sym (length-append ops (y ∷ []))) (subst (λ v. Within (length ops + 1) v) (sym q) w);
           nested = omega (arith, g.open_lists, a.nested, o, i);
           controls = ap (λ v. max v (length s.stacks.frames)) a.controls ∙ ap (λ v. max (deepest a.keeps.place) v) (sym n) ∙ sym g.depths;
+          steady = λ h.
+              let v = step_gains d y b.state.table b.state.stacks s k in
+              let w = v.1 h in
+              let u = a.steady (omega (arith, a.within.counts, v.0, h)) in
+              record {
+                operands = omega (arith, w.operands_up, u.operands, a.within.counts);
+                frames = omega (arith, w.frames_up, u.frames, a.within.counts);
+                most_operands = omega (arith, w.operands_up, w.operands_down, u.operands, u.most_operands, a.within.counts);
+                most_controls = omega (arith, w.frames_up, w.frames_down, u.frames, u.most_controls, a.within.counts);
+              };
         })
 
 pub no_typing : (c : Context) (x : ℕ) (locals : List ValType) (ops : List Op) (b : Body) (y : Op) (why : Why) → After c x locals ops b → 0 < length b.state.stacks.frames
@@ -152,6 +164,14 @@ all_gone z d o f =
     let m : length z.state.stacks.frames ≡ 0 = ap length f in
     omega (arith, a, n, m)
 
+pub twice_at : (c : Context) (x : ℕ) (locals : List ValType) (ops : List Op) (b : Body) → After c x locals ops b → b.state.stacks.frames ≡ []
+    → b.stats.moves < 2 ^ 64 - 1 → Twice b.stats
+twice_at c x locals ops b a n l =
+    let u = a.steady l in
+    let f : length b.state.stacks.frames ≡ 0 = ap length n in
+    let o : length b.state.stacks.operands ≡ 0 = ap length (no_operands (body_context c x locals) ops b.state.table b.state.stacks a.keeps n) in
+    record { operands = omega (arith, u.most_operands, o); controls = omega (arith, u.most_controls, f) }
+
 module _ (c : Context) (x : ℕ) (locals : List ValType) (ops : List Op) (b : Body) (y : Op) (z : Body) (a : After c x locals ops b) (l : 0 < length b.state.stacks.frames) (w : Within (length ops + 1) z) where
   pub after_said : (r : Result Progress Why) → Answers c y b z r → OnOk r (After c x locals (ops ++ y ∷ []) z)
   after_said (Ok p) e = after_ok c x locals ops b y z a l e w
@@ -175,6 +195,13 @@ module _ (c : Context) (x : ℕ) (locals : List ValType) (ops : List Op) (b : Bo
       (inside_open z.state.stacks.frames (let k : p ≡ Inside = cc in sym q ∙ k))
   denotes_said (Err why) e q i = cc
 
+  pub ended_twice : (r : Result Progress Why) → Answers c y b z r → IfOk r (λ p. p ≡ progress_at z.state.stacks.frames) → r ≡ Ok Ended
+      → z.stats.moves < 2 ^ 64 - 1 → Twice z.stats
+  ended_twice (Ok p) e q i =
+      let n : z.state.stacks.frames ≡ [] = ended_closed z.state.stacks.frames (let k : p ≡ Ended = cc in sym q ∙ k) in
+      twice_at c x locals (ops ++ y ∷ []) z (after_ok c x locals ops b y z a l e w) n
+  ended_twice (Err why) e q i = cc
+
   pub empty_said : (r : Result Progress Why) → Answers c y b z r → IfOk r (λ p. p ≡ progress_at z.state.stacks.frames) → r ≡ Ok Ended → kept_of z ≡ 0
   empty_said (Ok p) e q i =
       let n : z.state.stacks.frames ≡ [] = ended_closed z.state.stacks.frames (let k : p ≡ Ended = cc in sym q ∙ k) in
@@ -191,6 +218,18 @@ nested_said c x locals ops b a =
 pub controls_said : (c : Context) (x : ℕ) (locals : List ValType) (ops : List Op) (b : Body) → After c x locals ops b → (s : Instructions) → HasBodyOps s ops
     → b.stats.controls ≡ nesting s + 1
 controls_said c x locals ops b a s h = a.controls ∙ ap deepest (at_end (body_context c x locals) ops b.state.table b.state.stacks a.keeps s h)
+
+no_frames : (fs : List Frame) → length fs ≡ 0 → fs ≡ []
+no_frames [] e = refl
+no_frames (f ∷ fs) e = absurd (omega (arith, e))
+
+-- at the end of a body
+pub twice_said : (c : Context) (x : ℕ) (locals : List ValType) (ops : List Op) (b : Body) → After c x locals ops b → IsTypedBody (body_context c x locals) ops
+    → b.stats.moves < 2 ^ 64 - 1 → Twice b.stats
+twice_said c x locals ops b a t l =
+    let n = levels_are (body_context c x locals) ops b.state.table b.state.stacks a.keeps in
+    let e : levels a.keeps.place ≡ 0 = ap levels (at_end (body_context c x locals) ops b.state.table b.state.stacks a.keeps t.body t.flat) in
+    twice_at c x locals ops b a (no_frames b.state.stacks.frames (sym n ∙ e)) l
 
 -- more locals, before the first op
 pub locals_said : (c : Context) (x count : ℕ) (t : ValType) (locals : List ValType) (b z : Body) (A : Type 0) (r : Result A Why) → After c x locals [] b
@@ -231,6 +270,14 @@ locals_said c x count t locals b z A (Ok u) a e =
               let d : deepest a.keeps.place ≡ 1 = ap deepest p in
               let e : max b.stats.controls (length b.state.stacks.frames) ≡ 1 = omega (arith, a.controls, n, m, d) in
               e ∙ sym (ap deepest (from_start (body_context c x (locals ++ replicate count t)) b.state.table b.state.stacks k));
+          steady = λ h.
+              let u = a.steady (omega (arith, a.within.counts, h)) in
+              record {
+                operands = omega (arith, u.operands, a.within.counts);
+                frames = omega (arith, u.frames, a.within.counts);
+                most_operands = omega (arith, u.operands, u.most_operands, a.within.counts);
+                most_controls = omega (arith, u.frames, u.most_controls, a.within.counts);
+              };
         })
 
 pub on_ok : {A : Type 0} {P Q : Type 0} (r : Result A Why) → OnOk r P → (P → Q) → OnOk r Q

@@ -1,5 +1,5 @@
 -- What a body's check holds after the ops so far, and what its answers say of them.
-use Rattle.std.specs.Prelude.{ℕ, ◌+◌, ◌-◌, ◌<◌, ◌≡◌, ◌↔◌, List, [], ◌∷◌, ◌++◌, Option, Some, None, map, length, take, drop, reverse, option_to_list}
+use Rattle.std.specs.Prelude.{ℕ, ◌+◌, ◌-◌, ◌*◌, ◌^◌, ◌<◌, ◌≤◌, ◌≡◌, ◌↔◌, List, [], ◌∷◌, ◌++◌, Option, Some, None, map, length, take, drop, reverse, option_to_list}
 use Rattle.wm_syntax.specs.declared.types.ValType.{ValType}
 use Rattle.wm_syntax.specs.declared.instructions.Op.{Op}
 use Rattle.wm_syntax.specs.declared.instructions.Op.TheVariants as op
@@ -54,6 +54,13 @@ pub record Keeps (c : Context) (ops : List Op) (t : Option Table) (s : Stack) : 
   pub holds : Holds c place frames
   pub goes : TracksWith t s frames
 
+-- what was pushed so far was removed again or still stands
+pub record Steady (b : Body) : Type 0 where
+  pub operands : length b.state.stacks.operands ≤ b.stats.moves
+  pub frames : length b.state.stacks.frames ≤ b.stats.moves
+  pub most_operands : 2 * b.stats.operands ≤ b.stats.moves + length b.state.stacks.operands
+  pub most_controls : 2 * b.stats.controls ≤ b.stats.moves + length b.state.stacks.frames
+
 -- What is held after `begin` in a context and with a type, the declared locals and the ops since then, where nothing
 -- was refused. The clauses of the calls say what follows from it: nothing in it has to be believed.
 pub record After (c : Context) (x : ℕ) (locals : List ValType) (ops : List Op) (b : Body) : Type 0 where
@@ -66,3 +73,4 @@ pub record After (c : Context) (x : ℕ) (locals : List ValType) (ops : List Op)
   pub within : Within (length ops) b
   pub nested : levels keeps.place + endings ops ≡ openings ops + 1
   pub controls : b.stats.controls ≡ deepest keeps.place
+  pub steady : b.stats.moves < 2 ^ 64 - 1 → Steady b

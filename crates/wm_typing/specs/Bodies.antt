@@ -40,6 +40,11 @@ pub record Within (n : ℕ) (b : Body) : Type 0 where
   pub controls : b.stats.controls ≤ n + 1
   pub probes : b.stats.probes ≤ 32
 
+-- what was pushed was removed again
+pub record Twice (s : BodyStats) : Type 0 where
+  pub operands : 2 * s.operands ≤ s.moves
+  pub controls : 2 * s.controls ≤ s.moves
+
 abbrev pub no_stats : BodyStats
 no_stats = record { moves = 0; operands = 0; controls = 0; probes = 0 }
 

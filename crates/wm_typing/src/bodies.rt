@@ -4,6 +4,7 @@ ghost use Rattle.std.specs.Prelude.{◌≡◌, ◌+◌, ◌*◌, ◌<◌, ◌≤
 ghost use Rattle.wm_stacks.specs.Stack.{height_sum};
 ghost use Rattle.wm_syntax.specs.declared.types.ValType.{ValType as AType};
 ghost use Rattle.wm_typing.specs.After.{After, HasBodyOps, IsTypedBody};
+ghost use Rattle.wm_typing.specs.Bodies.{Twice};
 ghost use Rattle.wm_typing.specs.Contexts.{body_context, expanded};
 ghost use Rattle.wm_typing.specs.Nesting.{nesting};
 ghost use Rattle.wm_syntax.specs.Instructions.{Instructions};
@@ -35,6 +36,7 @@ pub fn check_body(
     ensures moves { IfOk result (λ stats. stats.moves ≤ 4 * length ops.now + 2) }
     ensures operands { IfOk result (λ stats. stats.operands ≤ length ops.now + 1) }
     ensures controls { IfOk result (λ stats. (body : Instructions) → HasBodyOps body ops.now → stats.controls ≡ nesting body + 1) }
+    ensures twice { IfOk result Twice }
     ensures probes { IfOk result (λ stats. stats.probes ≤ 32) }
 {
     let mut checker = BodyChecker::new(alloc);

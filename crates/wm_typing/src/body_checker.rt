@@ -1,12 +1,12 @@
 //! The check of one body.
 
-ghost use Rattle.std.specs.Prelude.{◌≡◌, ◌≢◌, ◌+◌, ◌*◌, ◌<◌, ◌≤◌, ◌^◌, ◌⊎◌, ◌↔◌, ℕ, List, [], ◌∷◌, ◌++◌, None, Ok, Some, Err, IfErr, IfOk, IfSome, MatchResult, OnErr, OnOk, length, replicate};
+ghost use Rattle.std.specs.Prelude.{◌≡◌, ◌+◌, ◌-◌, ◌*◌, ◌<◌, ◌≤◌, ◌^◌, ◌⊎◌, ◌↔◌, ℕ, List, [], ◌∷◌, ◌++◌, None, Ok, Some, Err, IfErr, IfOk, IfSome, MatchResult, OnErr, OnOk, length, replicate};
 ghost use Rattle.wm_stacks.specs.Stack.{height_sum};
 ghost use Rattle.wm_syntax.specs.declared.instructions.Op.{Op as AnOp};
 ghost use Rattle.wm_syntax.specs.declared.types.ValType.{ValType as AType};
 ghost use Rattle.wm_typing.specs.After.{After, FramesDenote, HasBodyOps, HaveTyping, IsTypedBody};
 ghost use Rattle.wm_typing.specs.Answers.{Room, weight};
-ghost use Rattle.wm_typing.specs.Bodies.{Within, counted as counted_so, kept_of, nothing};
+ghost use Rattle.wm_typing.specs.Bodies.{Twice, Within, counted as counted_so, kept_of, nothing};
 ghost use Rattle.wm_typing.specs.Contexts.{body_context};
 ghost use Rattle.wm_typing.specs.Nesting.{endings, nesting, openings};
 ghost use Rattle.wm_syntax.specs.Instructions.{Instructions};
@@ -183,6 +183,9 @@ impl BodyChecker {
             → OnOk result (After context.now x locals (ops ++ op ∷ []) self.new) }
         ensures within { (x : ℕ) (locals : List AType) (ops : List AnOp) → After context.now x locals ops self.old
             → Within (length ops + 1) self.new }
+        // At the end all that was pushed is gone again.
+        ensures twice { (x : ℕ) (locals : List AType) (ops : List AnOp) → After context.now x locals ops self.old
+            → result ≡ Ok Progress.Ended → self.new.stats.moves < 2 ^ 64 - 1 → Twice self.new.stats }
         ensures empty { (x : ℕ) (locals : List AType) (ops : List AnOp) → After context.now x locals ops self.old
             → result ≡ Ok Progress.Ended → kept_of self.new ≡ 0 }
 

@@ -1,9 +1,10 @@
 -- The checker holds the function and the locals of the call.
-use Rattle.std.proofs.Common.{◌≡◌, ◌<◌, ◌^◌, [], length, ap, ◌∙◌, subst, inl, inr}
+use Rattle.std.proofs.Common.{◌≡◌, ◌<◌, ◌^◌, [], length, ap, ◌∙◌, sym, arith, subst, inl, inr}
 use Rattle.std.proofs.lemmas.Result.{err_from_is_err_and}
 use Rattle.wm_typing.specs.After.{After, IsTypedBody}
+use Rattle.wm_typing.specs.Bodies.{Twice}
 use Rattle.wm_typing.specs.Contexts.{expanded}
-use Rattle.wm_typing.proofs.Said.{as_held, held_context, held_few, controls_said}
+use Rattle.wm_typing.proofs.Said.{as_held, held_context, held_few, controls_said, twice_said}
 use Rattle.wm_typing.proofs.bodies.check_body.Goals as goal
 
 pub returns-in_err-declare_all-clause-typed : goal.returns-in_err-declare_all-clause-typed
@@ -44,3 +45,11 @@ returns-clause-controls c body h =
     ap (λ s. s.controls) c.stats.ensures
     ∙ controls_said c.args.context.now c.declare_all.new.checker.signature c.declare_all.new.checker.declared c.args.ops.now c.step_all.new.checker
     c.in_ok-step_all.ensures.after body h
+
+pub returns-clause-twice : goal.returns-clause-twice
+returns-clause-twice c =
+    let a = c.in_ok-step_all.ensures.after in
+    let w = a.within in
+    subst Twice (sym c.stats.ensures)
+    (twice_said c.args.context.now c.declare_all.new.checker.signature c.declare_all.new.checker.declared c.args.ops.now c.step_all.new.checker a
+    c.in_ok-step_all.ensures.typed (omega (arith, w.counts, w.moves, c.requires.bounded)))

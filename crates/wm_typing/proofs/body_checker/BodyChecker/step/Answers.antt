@@ -1,6 +1,6 @@
 -- What `advance` does goes with the typing.
 use Rattle.std.proofs.Common.{◌∷◌, ◌++◌, [], length}
-use Rattle.wm_typing.proofs.Said.{within_after, stats_said, after_said, typed_said, ended_said, denotes_said, empty_said, nested_said, controls_said, on_ok}
+use Rattle.wm_typing.proofs.Said.{within_after, stats_said, after_said, typed_said, ended_said, denotes_said, empty_said, ended_twice, nested_said, controls_said, on_ok}
 use Rattle.wm_typing.proofs.body_checker.BodyChecker.step.Goals as goal
 
 pub returns-clause-within : goal.returns-clause-within
@@ -39,3 +39,8 @@ returns-clause-nested c x locals ops a = on_ok c.advance.result (returns-clause-
 
 pub returns-clause-controls : goal.returns-clause-controls
 returns-clause-controls c x locals ops a = on_ok c.advance.result (returns-clause-after c x locals ops a) (controls_said c.args.context.now x locals (ops ++ c.args.op ∷ []) c.advance.new.self)
+
+pub returns-clause-twice : goal.returns-clause-twice
+returns-clause-twice c x locals ops a i =
+    ended_twice c.args.context.now x locals ops c.args.self.now c.args.op c.advance.new.self a (c.requires.open a.unrefused)
+    (returns-clause-within c x locals ops a) c.advance.result c.advance.ensures.exact c.advance.ensures.progress i
