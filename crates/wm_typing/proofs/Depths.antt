@@ -1,14 +1,14 @@
 -- How many lists are open, and how deep instructions were nested so far.
-use Rattle.std.proofs.Common.{ℕ, zero, suc, ◌≡◌, ◌+◌, List, [], ◌∷◌, ◌++◌, Option, Some, None, length, map, max, refl, sym, ap, ◌∙◌, subst, arith}
+use Rattle.std.proofs.Common.{ℕ, zero, suc, ◌≡◌, ◌+◌, List, [], ◌∷◌, ◌++◌, Option, Some, None, max, refl, subst, arith}
 use Rattle.wm_syntax.specs.declared.types.ValType.{ValType}
 use Rattle.wm_syntax.specs.declared.instructions.Op.{Op}
 use Rattle.wm_syntax.specs.declared.instructions.Op.TheVariants as op
-use Rattle.wm_syntax.specs.Instructions.{Instruction, Instructions, none, snoc, simple, table, block, loop, choice}
+use Rattle.wm_syntax.specs.Instructions.{Instruction, Instructions, snoc, simple, table}
 use Rattle.wm_stacks.specs.declared.entries.Kind.{Kind}
 use Rattle.wm_stacks.specs.declared.entries.Kind.TheVariants.{Func, Block, Loop, If, Else}
-use Rattle.wm_typing.specs.Nesting.{depth, nesting, opens, closes, openings, endings}
-use Rattle.wm_typing.specs.OpenLists.{Head, head, Work, work, Place, open_at, within, complete, levels, work_nesting, deepest_open, deepest}
-use Rattle.wm_typing.proofs.Parse.{grow, fresh, closed, end_place, place_grown, place_label, place_else, place_after}
+use Rattle.wm_typing.specs.Nesting.{depth, opens, closes, openings, endings}
+use Rattle.wm_typing.specs.OpenLists.{Head, head, Work, work, Place, open_at, within, complete, levels, work_nesting, deepest}
+use Rattle.wm_typing.proofs.Parse.{fresh, closed, end_place, place_grown, place_label, place_else, place_after}
 
 -- what an op adds
 pub record Grows (x : Op) (p q : Place) : Type 0 where

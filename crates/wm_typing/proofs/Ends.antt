@@ -1,21 +1,15 @@
 -- Whole bodies: where their ops end.
-use Rattle.std.proofs.Common.{ℕ, zero, suc, ◌≡◌, ◌≤◌, ◌<◌, ◌+◌, ◌^◌, List, [], ◌∷◌, ◌++◌, Option, Some, None, length, take, drop, get_or, sym, refl, ap, ◌∙◌, subst, arith, append_assoc, append-nil, length-append, length-drop, take-suc, take-append-drop, take_all}
+use Rattle.std.proofs.Common.{ℕ, suc, ◌≡◌, ◌≤◌, ◌<◌, ◌+◌, ◌^◌, List, [], ◌∷◌, ◌++◌, length, take, drop, get_or, sym, refl, ap, ◌∙◌, subst, arith, append_assoc, append-nil, length-append, length-drop, take-suc, take-append-drop, take_all}
 use Rattle.std.specs.Prelude.{replicate}
 use Rattle.std.proofs.lemmas.List.{length-replicate}
 use Rattle.wm_syntax.specs.declared.types.ValType.{ValType}
 use Rattle.wm_syntax.specs.declared.instructions.Op.{Op}
-use Rattle.wm_syntax.specs.declared.instructions.Op.TheVariants as op
-use Rattle.wm_syntax.specs.Instructions.{Instructions}
-use Rattle.wm_stacks.specs.Runs.{run_count}
 use Rattle.wm_typing.specs.Typing.{Context}
 use Rattle.wm_typing.specs.Contexts.{body_context, expanded}
-use Rattle.wm_typing.specs.OpenLists.{complete}
 use Rattle.wm_typing.specs.Bodies.{Body, kept_of}
 use Rattle.wm_typing.specs.After.{After, HaveTyping, IsTypedBody}
 use Rattle.wm_typing.proofs.FewRuns.{run_count_le}
-use Rattle.wm_typing.proofs.Parse.{place_after, place_on}
-use Rattle.wm_typing.proofs.Whole.{place_on_more, from_body}
-use Rattle.wm_typing.proofs.Kept.{typed_place, refused_on, unfinished}
+use Rattle.wm_typing.proofs.Kept.{body_can, ended_none, refused_on, unfinished}
 
 -- the first so many, and the next
 pub next_taken : (ops : List Op) (i : ℕ) (d : Op) → i < length ops → take (i + 1) ops ≡ take i ops ++ get_or ops i d ∷ []
@@ -30,36 +24,9 @@ pub refused_at : (c : Context) (ops : List Op) (i : ℕ) (d : Op) → c.labels �
 refused_at c ops i d e l n h =
     refused_on c (take i ops ++ get_or ops i d ∷ []) (drop (i + 1) ops) e n (subst (λ z. IsTypedBody c z) (sym (front ops i d l)) h)
 
-none_on : (ys : List Op) → place_on None ys ≡ None
-none_on [] = refl
-none_on (y ∷ ys) = refl
-
-over_one : (r : Option ValType) (b : Instructions) (y : Op) → place_after (complete r b) y ≡ None
-over_one r b (op.Simple p) = refl
-over_one r b (op.Block t) = refl
-over_one r b (op.Loop t) = refl
-over_one r b (op.If t) = refl
-over_one r b op.Else = refl
-over_one r b op.End = refl
-over_one r b (op.BrTable n) = refl
-over_one r b (op.Label l) = refl
-
--- no op comes after the end
-over : (r : Option ValType) (b : Instructions) (y : Op) (ys : List Op) → place_on (Some (complete r b)) (y ∷ ys) ≡ None
-over r b y ys = ap (λ z. place_on z ys) (over_one r b y) ∙ none_on ys
-
-ended_early : (c : Context) (xs ys : List Op) (y : Op) → c.labels ≡ c.result ∷ [] → IsTypedBody c xs → IsTypedBody c (xs ++ y ∷ ys) → ⊥
-ended_early c xs ys y e h t =
-    let a = typed_place c xs e h in
-    let b = typed_place c (xs ++ y ∷ ys) e t in
-    let k = sym (place_on_more (Some (from_body (c.result))) xs (y ∷ ys)) ∙ b.0 in
-    let f = ap (λ z. place_on z (y ∷ ys)) a.0 in
-    let g = over c.result h.body y ys in
-    cc
-
 ended_by : (c : Context) (xs ys ops : List Op) → c.labels ≡ c.result ∷ [] → xs ++ ys ≡ ops → 0 < length ys → IsTypedBody c xs → IsTypedBody c ops → ⊥
 ended_by c xs [] ops e k l h t = omega (arith, l)
-ended_by c xs (y ∷ ys) ops e k l h t = ended_early c xs ys y e h (subst (λ z. IsTypedBody c z) (sym k) t)
+ended_by c xs (y ∷ ys) ops e k l h t = ended_none c xs ys y e h (body_can c (xs ++ y ∷ ys) e (subst (λ z. IsTypedBody c z) (sym k) t))
 
 pub ended_at : (c : Context) (ops : List Op) (i : ℕ) (d : Op) → c.labels ≡ c.result ∷ [] → i + 1 < length ops
     → IsTypedBody c (take i ops ++ get_or ops i d ∷ []) → IsTypedBody c ops → ⊥

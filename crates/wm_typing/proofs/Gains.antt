@@ -1,5 +1,5 @@
 -- Each change of a height is a move, as long as the count of moves goes on.
-use Rattle.std.proofs.Common.{ℕ, zero, suc, ◌≡◌, ◌≤◌, ◌<◌, ◌+◌, ◌-◌, ◌^◌, Bool, true, false, cond, List, [], ◌∷◌, Option, Some, None, Result, Ok, Err, reverse, length, slice_get, option_to_list, refl, ap, subst, arith}
+use Rattle.std.proofs.Common.{ℕ, suc, ◌≡◌, ◌≤◌, ◌<◌, ◌+◌, ◌-◌, ◌^◌, Bool, true, false, cond, List, [], ◌∷◌, Option, Some, None, Result, Ok, Err, reverse, length, slice_get, option_to_list, refl, ap, subst, arith}
 use Rattle.std.specs.Prelude.{nat_le, nat_lt, nat_eq}
 use Rattle.wm_syntax.specs.declared.types.ValType.{ValType}
 use Rattle.wm_syntax.specs.declared.types.ValType.TheVariants.{I32}
@@ -20,7 +20,7 @@ use Rattle.wm_typing.specs.declared.labels.Table.{Table}
 use Rattle.wm_typing.specs.Typing.{Context}
 use Rattle.wm_typing.specs.Entries.{known, join}
 use Rattle.wm_typing.specs.Shapes.{Shape, fixed, indirect, diverges, drops, selects, ill, shape_of}
-use Rattle.wm_typing.specs.Exact.{push_all, after, drive_fixed, drive_indirect, drive_diverges, drive_drop, push_joined, select_from, drive, drive_close, else_of, drive_else, may_end, give_to, drive_end, drive_if, drive_count, State, with_table, goes_with, drive_known, drive_label, labels_of, within_frames, drive_op}
+use Rattle.wm_typing.specs.Exact.{push_all, after, drive_fixed, drive_diverges, push_joined, select_from, drive, drive_close, else_of, drive_else, may_end, give_to, drive_end, drive_if, drive_count, State, with_table, goes_with, drive_known, drive_label, labels_of, within_frames, drive_op}
 
 -- neither height changed by more than the moves
 pub record Changes (s z : Stack) : Type 0 where

@@ -146,20 +146,19 @@ first_kept c = record {
   goes = ([] ∷ [], ([], refl, refl, refl), refl, refl, refl);
 }
 
--- no typing of more ops where these have none
-pub refused_on : (c : Context) (xs ys : List Op) → c.labels ≡ c.result ∷ [] → (HaveTyping c xs → ⊥) → IsTypedBody c (xs ++ ys) → ⊥
-refused_on c xs ys e h t =
-    let k = typed_place c (xs ++ ys) e t in
-    go (place_on (Some (from_body (c.result))) xs) (so_far_on (c.result) xs (Some (from_body (c.result))) [] (refl, refl, refl))
-    (sym (place_on_more (Some (from_body (c.result))) xs ys) ∙ k.0) k.1
-  where
-    none_on : (ys : List Op) → place_on None ys ≡ None
-    none_on [] = refl
-    none_on (y ∷ ys) = refl
+none_on : (ys : List Op) → place_on None ys ≡ None
+none_on [] = refl
+none_on (y ∷ ys) = refl
 
-    go : (o : Option Place) → MaySoFar c.result o xs → place_on o ys ≡ Some (complete (c.result) t.body) → CanType c (complete (c.result) t.body) → ⊥
-    go None m e can = let z = none_on ys in cc
-    go (Some p) m e can = h (p, m, subst (λ z. CanBack c p z) e (can_back_on c p ys) can)
+-- a front of ops that have a typing has one
+pub front_typed : (c : Context) (xs ys : List Op) → HaveTyping c (xs ++ ys) → HaveTyping c xs
+front_typed c xs ys h =
+    go (place_on (Some (from_body (c.result))) xs) (so_far_on (c.result) xs (Some (from_body (c.result))) [] (refl, refl, refl))
+    (sym (place_on_more (Some (from_body (c.result))) xs ys) ∙ place_of c.result h.0 (xs ++ ys) h.1)
+  where
+    go : (o : Option Place) → MaySoFar c.result o xs → place_on o ys ≡ Some h.0 → HaveTyping c xs
+    go None m e = let z = none_on ys in cc
+    go (Some p) m e = (p, m, subst (λ z. CanBack c p z) e (can_back_on c p ys) h.2)
 
 -- a typed body's ops have a typing
 pub body_can : (c : Context) (ops : List Op) → c.labels ≡ c.result ∷ [] → IsTypedBody c ops → HaveTyping c ops
@@ -234,3 +233,27 @@ levels_are c ops t s a = go t a.frames a.place a.holds a.goes
 pub at_end : (c : Context) (ops : List Op) (t : Option Table) (s : Stack) (a : Keeps c ops t s) (b : Instructions) → HasBodyOps b ops → a.place ≡ complete c.result b
 at_end c ops t s a b h =
     let e : ◌≡◌ {A = Option Place} (Some a.place) (Some (complete c.result b)) = sym (place_of c.result a.place ops a.so_far) ∙ place_of c.result (complete c.result b) ops (refl, h) in cc
+
+pub refused_on : (c : Context) (xs ys : List Op) → c.labels ≡ c.result ∷ [] → (HaveTyping c xs → ⊥) → IsTypedBody c (xs ++ ys) → ⊥
+refused_on c xs ys e h t = h (front_typed c xs ys (body_can c (xs ++ ys) e t))
+
+over_one : (r : Option ValType) (b : Instructions) (y : Op) → place_after (complete r b) y ≡ None
+over_one r b (op.Simple p) = refl
+over_one r b (op.Block t) = refl
+over_one r b (op.Loop t) = refl
+over_one r b (op.If t) = refl
+over_one r b op.Else = refl
+over_one r b op.End = refl
+over_one r b (op.BrTable n) = refl
+over_one r b (op.Label l) = refl
+
+-- no op comes after the end
+pub ended_none : (c : Context) (xs ys : List Op) (y : Op) → c.labels ≡ c.result ∷ [] → IsTypedBody c xs → HaveTyping c (xs ++ y ∷ ys) → ⊥
+ended_none c xs ys y e h t =
+    let a = (typed_place c xs e h).0 in
+    let b = place_of c.result t.0 (xs ++ y ∷ ys) t.1 in
+    let k = sym (place_on_more (Some (from_body (c.result))) xs (y ∷ ys)) ∙ b in
+    let f = ap (λ z. place_on z (y ∷ ys)) a in
+    let g = ap (λ z. place_on z ys) (over_one c.result h.body y) in
+    let n = none_on ys in
+    cc

@@ -17,3 +17,4 @@ pub mod FewRuns
 pub mod Ends
 pub mod Depths
 pub mod Gains
+pub mod Folds

@@ -20,6 +20,7 @@ use Rattle.wm_typing.specs.Exact.{State, step}
 use Rattle.wm_typing.specs.Answers.{weight}
 use Rattle.wm_typing.specs.Bodies.{Body, Within, Twice, counted, kept_of}
 use Rattle.wm_typing.specs.ExactBodies.{begun, declared_to, declared_more, context_in, probes_in, while_open, with_state, stepped_to, unless_refused, stepped, progress_at, refused_with}
+use Rattle.wm_typing.specs.Folds.{started}
 use Rattle.wm_typing.specs.After.{After, Keeps, HasBodyOps, HaveTyping, IsTypedBody, FramesDenote}
 use Rattle.wm_syntax.specs.Instructions.{Instructions}
 use Rattle.wm_typing.specs.Nesting.{nesting, openings, endings}
@@ -29,20 +30,25 @@ use Rattle.wm_typing.proofs.Depths.{grown_to, openings-append, endings-append}
 use Rattle.wm_typing.proofs.FewRuns.{op_le}
 use Rattle.wm_typing.proofs.Kept.{first_kept, next, refused, can_be_typed, denoted, typed_at, unfinished, body_can, no_operands, rekept, begun_open, one_more, levels_are, at_end, from_start}
 
+pub after_started : (c : Context) (x : ℕ) (locals : List ValType) → After c x locals [] (started c x locals)
+after_started c x locals =
+    let d = body_context c x locals in
+    let p = from_start d None (opened Func (result_of c x) bare) (first_kept d) in
+    record {
+      unrefused = refl;
+      signature = refl;
+      result = refl;
+      declared = λ o. refl;
+      emptied = λ e. cc;
+      keeps = first_kept d;
+      within = record { heights = lit≤ tt; moves = lit≤ tt; counts = refl; operands = lit≤ tt; controls = lit≤ tt; probes = lit≤ tt };
+      nested = let m = ap levels p in omega (arith, m);
+      controls = sym (ap deepest p);
+      steady = λ h. record { operands = lit≤ tt; frames = lit≤ tt; most_operands = lit≤ tt; most_controls = lit≤ tt };
+    }
+
 pub after_begun : (c : Context) (x : ℕ) → After c x [] [] (begun c x)
-after_begun c x = record {
-  unrefused = refl;
-  signature = refl;
-  result = refl;
-  declared = λ o. refl;
-  emptied = λ e. refl;
-  keeps = first_kept (body_context c x []);
-  within = record { heights = lit≤ tt; moves = lit≤ tt; counts = refl; operands = lit≤ tt; controls = lit≤ tt; probes = lit≤ tt };
-  nested =
-      let m = ap levels (from_start (body_context c x []) None (opened Func (result_of c x) bare) (first_kept (body_context c x []))) in omega (arith, m);
-  controls = sym (ap deepest (from_start (body_context c x []) None (opened Func (result_of c x) bare) (first_kept (body_context c x []))));
-  steady = λ h. record { operands = lit≤ tt; frames = lit≤ tt; most_operands = lit≤ tt; most_controls = lit≤ tt };
-}
+after_begun c x = after_started c x []
 
 -- the context of the body at hand is that of the function
 in_context : (c : Context) (x : ℕ) (locals : List ValType) (ops : List Op) (b : Body) → After c x locals ops b → 0 < length b.state.stacks.frames
@@ -125,7 +131,7 @@ no_typing c x locals ops b y why a l e h =
     go (Err w) k f = refused (body_context c x locals) y ops b.state.table b.state.stacks w l a.keeps k h
     go (Ok s) k f = cc
 
-stats_ok : (c : Context) (b : Body) (y : Op) (z : Body) → b.refused ≡ None → stepped c y b ≡ Ok z → z.stats ≡ counted z.state.stacks (probes_in c b y) b.stats
+pub stats_ok : (c : Context) (b : Body) (y : Op) (z : Body) → b.refused ≡ None → stepped c y b ≡ Ok z → z.stats ≡ counted z.state.stacks (probes_in c b y) b.stats
 stats_ok c b y z u e =
     go (step (context_in c b) b.state y) (sym (ap (λ r. unless_refused r (stepped_to b (probes_in c b y) (step (context_in c b) b.state y))) u) ∙ e)
   where

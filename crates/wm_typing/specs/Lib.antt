@@ -10,3 +10,4 @@ pub mod Nesting
 pub mod Bodies
 pub mod ExactBodies
 pub mod After
+pub mod Folds

@@ -8,6 +8,7 @@ pub mod context;
 mod function;
 mod instructions;
 pub mod labels;
+pub mod laws;
 mod operands;
 mod ops;
 pub mod stats;

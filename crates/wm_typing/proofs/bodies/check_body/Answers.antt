@@ -1,7 +1,7 @@
 -- The checker holds the function and the locals of the call.
-use Rattle.std.proofs.Common.{◌≡◌, ◌<◌, ◌^◌, [], length, ap, ◌∙◌, sym, arith, subst, inl, inr}
+use Rattle.std.proofs.Common.{ap, ◌∙◌, sym, arith, subst, inl, inr}
 use Rattle.std.proofs.lemmas.Result.{err_from_is_err_and}
-use Rattle.wm_typing.specs.After.{After, IsTypedBody}
+use Rattle.wm_typing.specs.After.{IsTypedBody}
 use Rattle.wm_typing.specs.Bodies.{Twice}
 use Rattle.wm_typing.specs.Contexts.{expanded}
 use Rattle.wm_typing.proofs.Said.{as_held, held_context, held_few, controls_said, twice_said}

@@ -1,5 +1,5 @@
 -- The locals of the runs so far are a front of all.
-use Rattle.std.proofs.Common.{take_all, ◌<◌, ◌^◌, [], ◌≡◌, ◌≤◌, ◌+◌, ◌^◌, take, length, length-append, ap, sym, subst, arith, inl, inr, ◌⊎◌, ◌∙◌}
+use Rattle.std.proofs.Common.{take_all, ◌<◌, ◌^◌, [], ◌^◌, take, length, sym, subst, inl, inr}
 use Rattle.std.proofs.lemmas.Result.{err_from_is_err_and}
 use Rattle.wm_typing.specs.After.{After}
 use Rattle.wm_typing.specs.Contexts.{expanded}

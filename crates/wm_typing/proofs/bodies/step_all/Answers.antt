@@ -1,9 +1,8 @@
 -- The ops so far are a front of the ops.
-use Rattle.std.proofs.Common.{◌≡◌, ◌<◌, ◌+◌, take, length, length-take, refl, sym, subst, arith, inl, inr, ◌⊎◌, ◌∙◌}
+use Rattle.std.proofs.Common.{take, length-take, refl, sym, subst, arith, inl, inr}
 use Rattle.std.proofs.lemmas.Result.{err_from_is_err_and}
 use Rattle.wm_typing.specs.After.{After}
 use Rattle.wm_typing.specs.Contexts.{body_context}
-use Rattle.wm_typing.specs.declared.body_checker.Progress.TheVariants.{Ended}
 use Rattle.wm_typing.proofs.Ends.{next_taken, refused_at, ended_at, last_taken, whole_taken, open_body, kept_little, still_open}
 use Rattle.wm_typing.proofs.bodies.step_all.Goals as goal
 

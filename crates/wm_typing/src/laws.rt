@@ -1,0 +1,41 @@
+//! Laws of the definitions.
+
+ghost use Rattle.std.specs.Prelude.{◌≡◌, ◌+◌, ◌≤◌, ◌↔◌, ℕ, List, [], ◌++◌, Ok, Err, length};
+ghost use Rattle.std.specs.List.{AllByRecursion};
+ghost use Rattle.wm_syntax.specs.Instructions.{Instructions};
+ghost use Rattle.wm_syntax.specs.declared.instructions.Op.{Op};
+ghost use Rattle.wm_syntax.specs.declared.types.ValType.{ValType};
+ghost use Rattle.wm_syntax.specs.declared.why.Why.{Why};
+ghost use Rattle.wm_typing.specs.After.{After, HasBodyOps, HaveTyping, IsTypedBody};
+ghost use Rattle.wm_typing.specs.Bodies.{Body};
+ghost use Rattle.wm_typing.specs.Contexts.{body_context};
+ghost use Rattle.wm_typing.specs.Folds.{all_stepped, started};
+ghost use Rattle.wm_typing.specs.Nesting.{endings, nesting, openings};
+ghost use Rattle.wm_typing.specs.Typing.{Context};
+
+/// Ops in turn are taken exactly where they have a typing in their open lists, and what is held then is
+/// what `After` says, if each type has at most one result.
+pub fn ops_in_turn()
+    ensures taken { (c : Context) (x : ℕ) (locals : List ValType) (ops : List Op) (b : Body) → AllByRecursion (λ f. length f.results ≤ 1) c.types
+        → all_stepped c (Ok (started c x locals)) ops ≡ Ok b → After c x locals ops b }
+    ensures refused { (c : Context) (x : ℕ) (locals : List ValType) (ops : List Op) (why : Why) → AllByRecursion (λ f. length f.results ≤ 1) c.types
+        → all_stepped c (Ok (started c x locals)) ops ≡ Err why → HaveTyping (body_context c x locals) ops → ⊥ }
+{}
+
+/// What `After` says of the ops and of what is held.
+pub fn after_ops()
+    ensures typed { (c : Context) (x : ℕ) (locals : List ValType) (ops : List Op) (b : Body) → After c x locals ops b
+        → HaveTyping (body_context c x locals) ops }
+    ensures ended { (c : Context) (x : ℕ) (locals : List ValType) (ops : List Op) (b : Body) → After c x locals ops b
+        → (b.state.stacks.frames ≡ []) ↔ IsTypedBody (body_context c x locals) ops }
+    ensures nested { (c : Context) (x : ℕ) (locals : List ValType) (ops : List Op) (b : Body) → After c x locals ops b
+        → length b.state.stacks.frames + endings ops ≡ openings ops + 1 }
+    ensures controls { (c : Context) (x : ℕ) (locals : List ValType) (ops : List Op) (b : Body) → After c x locals ops b
+        → (body : Instructions) → HasBodyOps body ops → b.stats.controls ≡ nesting body + 1 }
+{}
+
+/// A typed body's ops have a typing at each front of them.
+pub fn fronts_of_typed_bodies()
+    ensures { (c : Context) (x : ℕ) (locals : List ValType) (front back : List Op) → IsTypedBody (body_context c x locals) (front ++ back)
+        → HaveTyping (body_context c x locals) front }
+{}
