@@ -18,3 +18,4 @@ pub mod Ends
 pub mod Depths
 pub mod Gains
 pub mod Folds
+pub mod Tables

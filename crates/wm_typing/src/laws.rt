@@ -1,16 +1,19 @@
 //! Laws of the definitions.
 
-ghost use Rattle.std.specs.Prelude.{◌≡◌, ◌+◌, ◌≤◌, ◌↔◌, ℕ, List, [], ◌++◌, Ok, Err, length};
+ghost use Rattle.std.specs.Prelude.{◌≡◌, ◌+◌, ◌≤◌, ◌↔◌, ℕ, suc, List, [], ◌∷◌, ◌++◌, Ok, Err, length};
 ghost use Rattle.std.specs.List.{AllByRecursion};
 ghost use Rattle.wm_syntax.specs.Instructions.{Instructions};
 ghost use Rattle.wm_syntax.specs.declared.instructions.Op.{Op};
+ghost use Rattle.wm_syntax.specs.declared.instructions.Op.TheVariants as op;
 ghost use Rattle.wm_syntax.specs.declared.types.ValType.{ValType};
+ghost use Rattle.wm_syntax.specs.declared.types.ValType.TheVariants.{I32};
 ghost use Rattle.wm_syntax.specs.declared.why.Why.{Why};
 ghost use Rattle.wm_typing.specs.After.{After, HasBodyOps, HaveTyping, IsTypedBody};
 ghost use Rattle.wm_typing.specs.Bodies.{Body};
 ghost use Rattle.wm_typing.specs.Contexts.{body_context};
 ghost use Rattle.wm_typing.specs.Folds.{all_stepped, started};
 ghost use Rattle.wm_typing.specs.Nesting.{endings, nesting, openings};
+ghost use Rattle.wm_typing.specs.OpenLists.{Head, IsOpen, IsSoFar, OpenCan, SeenCan, Work, within};
 ghost use Rattle.wm_typing.specs.Typing.{Context};
 
 /// Ops in turn are taken exactly where they have a typing in their open lists, and what is held then is
@@ -38,4 +41,15 @@ pub fn after_ops()
 pub fn fronts_of_typed_bodies()
     ensures { (c : Context) (x : ℕ) (locals : List ValType) (front back : List Op) → IsTypedBody (body_context c x locals) (front ++ back)
         → HaveTyping (body_context c x locals) front }
+{}
+
+/// Within a br_table (section 3.3.5): its count has a typing exactly where an i32 can be on top of the
+/// innermost list, and a label before the default exactly where it and those before it exist and have one
+/// type.
+pub fn labels_of_a_table()
+    ensures count { (c : Context) (hs : List Head) (ws : List Work) (ops : List Op) (n : ℕ) → IsOpen c.result hs ws ops
+        → HaveTyping c (ops ++ op.BrTable n ∷ []) ↔ OpenCan c (I32 ∷ []) hs ws }
+    ensures label { (c : Context) (n : ℕ) (seen : List ℕ) (hs : List Head) (ws : List Work) (ops : List Op) (l : ℕ)
+        → IsSoFar c.result (within (suc n) seen hs ws) ops
+        → HaveTyping c (ops ++ op.Label l ∷ []) ↔ (SeenCan hs (seen ++ l ∷ []) × OpenCan c (I32 ∷ []) hs ws) }
 {}
