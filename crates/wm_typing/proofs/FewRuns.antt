@@ -1,7 +1,8 @@
 -- There are no more runs than locals, and no search reads more than 32 of them.
-use Rattle.std.proofs.Common.{ℕ, zero, suc, ◌≡◌, ◌≤◌, ◌+◌, ◌-◌, ◌/◌, Bool, true, false, cond, List, [], ◌∷◌, Option, Some, None, length, refl, arith}
-use Rattle.std.specs.Prelude.{nat_lt, slice_index}
+use Rattle.std.proofs.Common.{◌++◌, ap, ◌∙◌, ℕ, zero, suc, ◌≡◌, ◌≤◌, ◌+◌, ◌-◌, ◌/◌, Bool, true, false, cond, List, [], ◌∷◌, Option, Some, None, length, refl, arith}
+use Rattle.std.specs.Prelude.{nat_lt, replicate, slice_index}
 use Rattle.wm_syntax.specs.declared.types.ValType.{ValType}
+use Rattle.wm_syntax.specs.declared.types.ValType.TheVariants.{I32, I64}
 use Rattle.wm_syntax.specs.declared.instructions.Simple.{Simple}
 use Rattle.wm_syntax.specs.declared.instructions.Simple.TheVariants as s
 use Rattle.wm_syntax.specs.declared.instructions.Op.{Op}
@@ -55,3 +56,33 @@ pub op_le : (params declared : List ValType) (t : Option Table) (x : Op) → op_
 op_le params declared None (op.Simple i) = simple_le params declared i
 op_le params declared (Some t) (op.Simple i) = omega arith
 op_le params declared t _ = omega arith
+
+-- more locals of one type are at most one run more
+same_self : (t : ValType) → same t t ≡ true
+same_self I32 = refl
+same_self I64 = refl
+
+one_end : (t : ValType) (k m : ℕ) → length (ends_from t k (replicate m t)) ≡ 1
+one_end t k zero = refl
+one_end t k (suc m) =
+    ap (λ b. length (cond b (ends_from t (k + 1) (replicate m t)) (k ∷ ends_from t (k + 1) (replicate m t)))) (same_self t) ∙ one_end t (k + 1) m
+
+ends_more : (t v : ValType) (k n : ℕ) (us : List ValType) → length (ends_from t k (us ++ replicate n v)) ≤ length (ends_from t k us) + 1
+ends_more t v k zero [] = omega arith
+ends_more t v k (suc m) [] = go (same t v) (one_end v (k + 1) m)
+  where
+    go : (b : Bool) → length (ends_from v (k + 1) (replicate m v)) ≡ 1 → length (cond b (ends_from v (k + 1) (replicate m v)) (k ∷ ends_from v (k + 1) (replicate m v))) ≤ 2
+    go true e = omega (arith, e)
+    go false e = omega (arith, e)
+ends_more t v k n (u ∷ us) = go (same t u) (ends_more u v (k + 1) n us)
+  where
+    go : (b : Bool) → length (ends_from u (k + 1) (us ++ replicate n v)) ≤ length (ends_from u (k + 1) us) + 1
+        → length (cond b (ends_from u (k + 1) (us ++ replicate n v)) (k ∷ ends_from u (k + 1) (us ++ replicate n v)))
+        ≤ length (cond b (ends_from u (k + 1) us) (k ∷ ends_from u (k + 1) us)) + 1
+    go true e = e
+    go false e = omega (arith, e)
+
+pub run_count_more : (ts : List ValType) (n : ℕ) (t : ValType) → run_count (ts ++ replicate n t) ≤ run_count ts + 1
+run_count_more [] zero t = omega arith
+run_count_more [] (suc m) t = let e = one_end t 1 m in omega (arith, e)
+run_count_more (u ∷ us) n t = ends_more u t 1 n us

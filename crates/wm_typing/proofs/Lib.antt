@@ -5,7 +5,6 @@ pub mod Frame
 pub mod Parse
 pub mod Steps
 pub mod Whole
-pub mod Complete
 pub mod Follow
 pub mod Track
 pub mod Tracking

@@ -95,13 +95,5 @@ step c s op.End = step_end s
 step c s (op.BrTable n) = step_table n s
 step c s (op.Label l) = step_label l s
 
-abbrev pub continue : Context → Option Frames → List Op → Option Frames
-continue c None ops = None
-continue c (Some s) [] = Some s
-continue c (Some s) (x ∷ ops) = continue c (step c s x) ops
-
 abbrev pub start : Context → Frames
 start c = running (head Func (c.result) ∷ []) (empty ∷ [])
-
-abbrev pub run : Context → List Op → Option Frames
-run c ops = continue c (Some (start c)) ops

@@ -1,5 +1,5 @@
 -- Whole lists of ops.
-use Rattle.std.proofs.Common.{ℕ, zero, suc, ◌≡◌, ◌+◌, List, [], ◌∷◌, ◌++◌, Option, Some, None, map, length, option_to_list, sym, refl, ap, ◌∙◌, subst, append-nil, append_assoc, ◌↔◌, arith, length-append, inl, inr}
+use Rattle.std.proofs.Common.{ℕ, zero, suc, ◌≡◌, ◌+◌, List, [], ◌∷◌, ◌++◌, Option, Some, None, map, length, sym, refl, ap, ◌∙◌, subst, append-nil, append_assoc, arith, length-append, inl, inr}
 use Rattle.std.proofs.lemmas.List.{map-append}
 use Rattle.wm_syntax.specs.Spelling.{Exactly, ◌▸◌}
 use Rattle.wm_syntax.specs.declared.types.ValType.{ValType}
@@ -9,12 +9,12 @@ use Rattle.wm_syntax.specs.declared.instructions.Op.TheVariants as op
 use Rattle.wm_syntax.specs.Instructions.{Instruction, Instructions, none, snoc, simple, table, block, loop, choice, HasOp, HasOps, HasElse}
 use Rattle.wm_stacks.specs.declared.entries.Kind.{Kind}
 use Rattle.wm_stacks.specs.declared.entries.Kind.TheVariants.{Func, Block, Loop, If, Else}
-use Rattle.wm_typing.specs.Typing.{Context, Typed}
-use Rattle.wm_typing.specs.OpenLists.{Head, head, Work, work, Place, open_at, within, complete, at, CanType, IsWork, IsBodyWork, IsOpen, IsSoFar}
-use Rattle.wm_typing.specs.Frames.{Frames, running, in_table, ended, Holds}
-use Rattle.wm_typing.proofs.Run.{step, continue, start, run}
+use Rattle.wm_typing.specs.Typing.{Context}
+use Rattle.wm_typing.specs.OpenLists.{Head, head, Work, work, Place, open_at, within, complete, at, IsWork, IsBodyWork, IsOpen, IsSoFar}
+use Rattle.wm_typing.specs.Frames.{Holds}
+use Rattle.wm_typing.proofs.Run.{start}
 use Rattle.wm_typing.proofs.Parse.{grow, place_grown, fresh, place_else, closed, end_place, place_label, place_after, place_on}
-use Rattle.wm_typing.proofs.Steps.{Verdict, step_verdict, CanBack, place_back, holds_can, fresh_meets}
+use Rattle.wm_typing.proofs.Steps.{CanBack, place_back, fresh_meets}
 
 pub can_back_on : (c : Context) (p : Place) (ops : List Op) → CanBack c p (place_on (Some p) ops)
 can_back_on c p [] = λ can. can
@@ -27,25 +27,6 @@ can_back_on c p (x ∷ ops) = go (place_after p x) (place_back c x p) (λ q. can
         into : (o : Option Place) → CanBack c q o → CanBack c p o
         into None d = tt
         into (Some r) d = λ can. b (d can)
-
-refused_on : (c : Context) (o : Option Place) (ops : List Op) → Verdict c o None → Verdict c (place_on o ops) None
-refused_on c None ops v = tt
-refused_on c (Some p) ops v = go (place_on (Some p) ops) (can_back_on c p ops)
-  where
-    go : (o : Option Place) → CanBack c p o → Verdict c o None
-    go None b = tt
-    go (Some q) b = λ can. v (b can)
-
--- what one op decides, every list of ops decides
-pub verdict_on : (c : Context) (ops : List Op) (p : Option Place) (s : Option Frames) → Verdict c p s → Verdict c (place_on p ops) (continue c s ops)
-verdict_on c ops None None v = tt
-verdict_on c ops None (Some s) v = absurd v
-verdict_on c ops (Some p) None v = refused_on c (Some p) ops v
-verdict_on c [] (Some p) (Some s) v = v
-verdict_on c (x ∷ ops) (Some p) (Some s) v = verdict_on c ops (place_after p x) (step c s x) (step_verdict c x p s v)
-
-pub first_place : Context → Place
-first_place c = open_at (head Func (c.result) ∷ []) (fresh ∷ [])
 
 -- trees after trees
 abbrev pub join_lists : Instructions → Instructions → Instructions
@@ -382,12 +363,6 @@ place_of r (complete t s) ops o =
 pub first_holds : (c : Context) → Holds c (from_body c.result) (start c)
 first_holds c = (refl, (fresh_meets (at c (head Func (c.result) ∷ [])) (head Func (c.result)) none tt, tt))
 
-pub run_verdict : (c : Context) (ops : List Op) → Verdict c (place_on (Some (from_body c.result)) ops) (run c ops)
-run_verdict c ops = verdict_on c ops (Some (from_body c.result)) (Some (start c)) (first_holds c)
-
-pub run_so_far : (c : Context) (ops : List Op) → MaySoFar c.result (place_on (Some (from_body c.result)) ops) ops
-run_so_far c ops = so_far_on c.result ops (Some (from_body c.result)) [] (refl, refl, refl)
-
 -- no ops are those of two bodies
 body_place : (r : Option ValType) (s : Instructions) (ops : List Op) → HasOps s ops
     → place_on (Some (from_body r)) (ops ++ op.End ∷ []) ≡ Some (complete r s)
@@ -398,45 +373,6 @@ complete_same r s t e = cc
 
 pub flat_unique : (s t : Instructions) (ops : List Op) → HasOps s ops → HasOps t ops → s ≡ t
 flat_unique s t ops a b = complete_same None s t (sym (body_place None s ops a) ∙ body_place None t ops b)
-
--- the ends
-ends_sound : (c : Context) (ops : List Op) (p : Option Place) → MaySoFar c.result p ops → Verdict c p (Some ended)
-    → (s : Instructions) × (inner : List Op) × HasOps s inner × (ops ≡ inner ++ op.End ∷ []) × Typed (at c (head Func (c.result) ∷ [])) s [] (option_to_list c.result)
-ends_sound c ops None o v = absurd v
-ends_sound c ops (Some (open_at hs ws)) o v = absurd v
-ends_sound c ops (Some (within n seen hs ws)) o v = absurd v
-ends_sound c ops (Some (complete r s)) o v =
-    (s, o.1.0, o.1.1, o.1.2, subst (λ z. Typed (at c (head Func z ∷ [])) s [] (option_to_list z)) o.0 v)
-
-ends_complete : (c : Context) (r : Option ValType) (s : Instructions) (o : Option Frames) → Verdict c (Some (complete r s)) o
-    → Typed (at c (head Func r ∷ [])) s [] (option_to_list r) → o ≡ Some ended
-ends_complete c r s None v t = absurd (v t)
-ends_complete c r s (Some (running hs fs)) v t = absurd v
-ends_complete c r s (Some (in_table n k hs fs)) v t = absurd v
-ends_complete c r s (Some ended) v t = refl
-
-pub ends_exactly : (c : Context) (ops : List Op)
-    → (run c ops ≡ Some ended)
-    ↔ ((s : Instructions) × (inner : List Op) × HasOps s inner × (ops ≡ inner ++ op.End ∷ []) × Typed (at c (head Func (c.result) ∷ [])) s [] (option_to_list c.result))
-ends_exactly c ops = (
-  λ e. ends_sound c ops (place_on (Some (from_body c.result)) ops) (run_so_far c ops)
-      (subst (λ z. Verdict c (place_on (Some (from_body c.result)) ops) z) e (run_verdict c ops)),
-  λ h. ends_complete c c.result h.0 (run c ops)
-      (subst (λ z. Verdict c z (run c ops)) (ap (λ z. place_on (Some (from_body c.result)) z) h.3 ∙ body_place c.result h.0 h.1 h.2) (run_verdict c ops)) h.4,
-)
-
--- the refusals
-refuses_none : (c : Context) (ops : List Op) (p : Option Place) (s : Option Frames) → place_on (Some (from_body c.result)) ops ≡ p
-    → MaySoFar c.result p ops → Verdict c p s
-    → (s ≡ None) ↔ ((q : Place) → IsSoFar c.result q ops → CanType c q → ⊥)
-refuses_none c ops None None e o v = (λ f q k can. let z = place_of c.result q ops k in cc, λ h. refl)
-refuses_none c ops None (Some s) e o v = absurd v
-refuses_none c ops (Some p) None e o v =
-    (λ f q k can. v (subst (λ z. CanType c z) (let z : ◌≡◌ {A = Option Place} (Some q) (Some p) = sym (place_of c.result q ops k) ∙ e in let y : q ≡ p = cc in y) can), λ h. refl)
-refuses_none c ops (Some p) (Some s) e o v = (λ f. cc, λ h. absurd (h p o (holds_can c p s v)))
-
-pub refuses_exactly : (c : Context) (ops : List Op) → (run c ops ≡ None) ↔ ((q : Place) → IsSoFar c.result q ops → CanType c q → ⊥)
-refuses_exactly c ops = refuses_none c ops (place_on (Some (from_body c.result)) ops) (run c ops) refl (run_so_far c ops) (run_verdict c ops)
 
 place_on_none : (ys : List Op) → place_on None ys ≡ None
 place_on_none [] = refl

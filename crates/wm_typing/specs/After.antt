@@ -36,7 +36,8 @@ abbrev pub DenoteEach : Context → List ValType → List Frame → List Entry �
 DenoteEach c taken [] entries [] = Unit {0}
 DenoteEach c taken (f ∷ fs) entries (work first s ∷ ws) =
     ((types : List ValType)
-    → Typed (at c (map head_of (f ∷ fs))) s [] (types ++ taken) ↔ Denotes f (reverse (take (length entries - f.floor) entries)) types)
+    → Typed (at c (map head_of (f ∷ fs))) s [] (types ++ taken)
+    ↔ Denotes f (reverse (take (length entries - f.floor) entries)) types)
     × DenoteEach c (taken_by (head_of f)) fs (drop (length entries - f.floor) entries) ws
 DenoteEach c taken _ entries _ = ⊥
 

@@ -55,14 +55,16 @@ HasSeen hs _ _ = ⊥
 
 abbrev pub Holds : Context → Place → Frames → Type 0
 Holds c (open_at hs ws) (running gs fs) = (hs ≡ gs) × AllMeet c [] hs ws fs
-Holds c (within n seen hs ws) (in_table m t gs fs) = (n ≡ m) × (hs ≡ gs) × HasSeen hs seen t × AllMeet c (I32 ∷ []) hs ws fs
+Holds c (within n seen hs ws) (in_table m t gs fs) =
+    (n ≡ m) × (hs ≡ gs) × HasSeen hs seen t × AllMeet c (I32 ∷ []) hs ws fs
 Holds c (complete r s) ended = Typed (at c (head Func r ∷ [])) s [] (option_to_list r)
 Holds c _ _ = ⊥
 
 -- the entries of each frame, of all operands
 abbrev pub Segments : List Frame → List Entry → List (List Entry) → Type 0
 Segments [] ops [] = ops ≡ []
-Segments (g ∷ gs) ops (es ∷ ess) = (below : List Entry) × (ops ≡ es ++ below) × (g.floor ≡ length below) × Segments gs below ess
+Segments (g ∷ gs) ops (es ∷ ess) =
+    (below : List Entry) × (ops ≡ es ++ below) × (g.floor ≡ length below) × Segments gs below ess
 Segments [] ops (es ∷ ess) = ⊥
 Segments (g ∷ gs) ops [] = ⊥
 
@@ -82,7 +84,8 @@ Nested (head Else t ∷ hs) = Nested hs
 
 abbrev pub TracksRunning : Stack → List Head → List Pile → Type 0
 TracksRunning s hs fs =
-    (ess : List (List Entry)) × Segments s.frames s.operands ess × (hs ≡ map head_of s.frames) × (fs ≡ piles_of s.frames ess) × Nested (map head_of s.frames)
+    (ess : List (List Entry)) × Segments s.frames s.operands ess × (hs ≡ map head_of s.frames)
+    × (fs ≡ piles_of s.frames ess) × Nested (map head_of s.frames)
 
 -- the stacks, cut at the floors, are these frames
 abbrev pub Tracks : Stack → Frames → Type 0

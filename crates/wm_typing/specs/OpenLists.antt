@@ -58,7 +58,8 @@ FirstHolds c (head If t) first = Unit {0}
 FirstHolds c (head Else t) first = Typed c first [] (option_to_list t)
 
 abbrev pub WorkCan : Context → Head → List ValType → Work → Type 0
-WorkCan c h taken (work first before) = FirstHolds c h first × ((types : List ValType) × Typed c before [] (types ++ taken))
+WorkCan c h taken (work first before) =
+    FirstHolds c h first × ((types : List ValType) × Typed c before [] (types ++ taken))
 
 -- each open list has a typing, from which the instruction that opened the list inside it could take what it takes
 abbrev pub OpenCan : Context → List ValType → List Head → List Work → Type 0
@@ -84,9 +85,12 @@ CanType c (complete r s) = Typed (at c (head Func r ∷ [])) s [] (option_to_lis
 -- the ops that opened a list inside of another one, with those of the instructions in it so far
 abbrev pub IsWork : Head → Work → List Op → Type 0
 IsWork (head Func t) (work first s) ops = ⊥
-IsWork (head Block t) (work first s) ops = (first ≡ none) × ((inner : List Op) × HasOps s inner × (ops ≡ op.Block t ∷ inner))
-IsWork (head Loop t) (work first s) ops = (first ≡ none) × ((inner : List Op) × HasOps s inner × (ops ≡ op.Loop t ∷ inner))
-IsWork (head If t) (work first s) ops = (first ≡ none) × ((inner : List Op) × HasOps s inner × (ops ≡ op.If t ∷ inner))
+IsWork (head Block t) (work first s) ops =
+    (first ≡ none) × ((inner : List Op) × HasOps s inner × (ops ≡ op.Block t ∷ inner))
+IsWork (head Loop t) (work first s) ops =
+    (first ≡ none) × ((inner : List Op) × HasOps s inner × (ops ≡ op.Loop t ∷ inner))
+IsWork (head If t) (work first s) ops =
+    (first ≡ none) × ((inner : List Op) × HasOps s inner × (ops ≡ op.If t ∷ inner))
 IsWork (head Else t) (work first s) ops =
     (then_ops : List Op) × (inner : List Op) × HasOps first then_ops × HasOps s inner
     × (ops ≡ op.If t ∷ then_ops ++ op.Else ∷ inner)

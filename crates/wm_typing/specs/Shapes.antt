@@ -36,7 +36,8 @@ abbrev pub call_shape : Context → ℕ → Shape
 call_shape c x = with_item (function_type c x) (λ f. fixed f.params f.results)
 
 abbrev pub indirect_shape : Context → ℕ → Shape
-indirect_shape c x = where_true why.Index c.has_table (with_item (slice_get c.types x) (λ f. indirect f.params f.results))
+indirect_shape c x =
+    where_true why.Index c.has_table (with_item (slice_get c.types x) (λ f. indirect f.params f.results))
 
 abbrev pub global_get_shape : Context → ℕ → Shape
 global_get_shape c x = with_item (slice_get c.globals x) (λ g. fixed [] (g.ty ∷ []))

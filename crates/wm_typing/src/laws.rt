@@ -1,6 +1,6 @@
 //! Laws of the definitions.
 
-ghost use Rattle.std.specs.Prelude.{◌≡◌, ◌+◌, ◌≤◌, ◌↔◌, ℕ, suc, List, [], ◌∷◌, ◌++◌, Ok, Err, length};
+ghost use Rattle.std.specs.Prelude.{◌≡◌, ◌+◌, ◌≤◌, ◌↔◌, ℕ, suc, List, [], ◌∷◌, ◌++◌, Ok, Err, length, replicate};
 ghost use Rattle.std.specs.List.{AllByRecursion};
 ghost use Rattle.wm_syntax.specs.Instructions.{Instructions};
 ghost use Rattle.wm_syntax.specs.declared.instructions.Op.{Op};
@@ -8,6 +8,7 @@ ghost use Rattle.wm_syntax.specs.declared.instructions.Op.TheVariants as op;
 ghost use Rattle.wm_syntax.specs.declared.types.ValType.{ValType};
 ghost use Rattle.wm_syntax.specs.declared.types.ValType.TheVariants.{I32};
 ghost use Rattle.wm_syntax.specs.declared.why.Why.{Why};
+ghost use Rattle.wm_stacks.specs.Runs.{run_count};
 ghost use Rattle.wm_typing.specs.After.{After, HasBodyOps, HaveTyping, IsTypedBody};
 ghost use Rattle.wm_typing.specs.Bodies.{Body};
 ghost use Rattle.wm_typing.specs.Contexts.{body_context};
@@ -52,4 +53,9 @@ pub fn labels_of_a_table()
     ensures label { (c : Context) (n : ℕ) (seen : List ℕ) (hs : List Head) (ws : List Work) (ops : List Op) (l : ℕ)
         → IsSoFar c.result (within (suc n) seen hs ws) ops
         → HaveTyping c (ops ++ op.Label l ∷ []) ↔ (SeenCan hs (seen ++ l ∷ []) × OpenCan c (I32 ∷ []) hs ws) }
+{}
+
+/// Locals of one type are at most one run of them more.
+pub fn one_run_more()
+    ensures { (locals : List ValType) (count : ℕ) (t : ValType) → run_count (locals ++ replicate count t) ≤ run_count locals + 1 }
 {}
