@@ -13,7 +13,7 @@ use Rattle.wm_syntax.specs.declared.instructions.MemArg.{MemArg}
 use Rattle.wm_syntax.specs.declared.instructions.Simple.{Simple}
 use Rattle.wm_syntax.specs.declared.instructions.Simple.TheVariants as s
 use Rattle.wm_syntax.specs.declared.instructions.Op.TheVariants as op
-use Rattle.wm_syntax.proofs.Numbers.{same_unsigned, same_signed}
+use Rattle.wm_syntax.proofs.Spellings.{same_unsigned, same_signed}
 
 -- one form after another, each with its fact
 pub then_same : {A : Type 0} (P Q P' Q' : Form A) (D E : Type 0)
@@ -27,7 +27,7 @@ then_same {A} P Q P' Q' D E one two a b u v (x, y, e, p, q) (x', y', e', p', q')
     let second : (y ≡ y') × E = two y y' u v q q' rest in
     (e ∙ ap (λ (c : List A). c ++ y) first.0 ∙ ap (λ (c : List A). x' ++ c) second.0 ∙ sym e', first.1, second.1)
 
-same_u32 : (n m : ℕ) (a b u v : List ℕ) → Unsigned 32 n a → Unsigned 32 m b → a ++ u ≡ b ++ v → (a ≡ b) × (n ≡ m)
+pub same_u32 : (n m : ℕ) (a b u v : List ℕ) → Unsigned 32 n a → Unsigned 32 m b → a ++ u ≡ b ++ v → (a ≡ b) × (n ≡ m)
 same_u32 n m = same_unsigned 32 n m
 
 same_zero : (a b u v : List ℕ) → Byte 0x00 a → Byte 0x00 b → a ++ u ≡ b ++ v → (a ≡ b) × Unit {0}

@@ -1,5 +1,8 @@
 pub mod Spelling
 pub mod Leb128
+pub mod Partial
+pub mod Reading
+pub mod Streams
 pub mod Types
 pub mod Opcodes
 pub mod Instructions

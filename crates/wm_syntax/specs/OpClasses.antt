@@ -1,16 +1,16 @@
 -- What the first byte of an instruction says of it (section 5.4).
-use Rattle.std.specs.Prelude.{ℕ, Bool, ◌&&◌, nat_le, Option, Some, [], ◌∷◌}
+use Rattle.std.specs.Prelude.{ℕ, Bool, ◌&&◌, nat_le, Option, [], ◌∷◌}
 use Rattle.std.specs.List.{list_any}
-use Rattle.std.specs.Prelude.{None as Nothing}
+use Rattle.std.specs.Option.{option_map}
 use Rattle.wm_syntax.specs.declared.instructions.Simple.TheVariants as s
 use Rattle.wm_syntax.specs.declared.instructions.Op.TheVariants as op
 use Rattle.wm_syntax.specs.declared.instructions.Op.{Op}
-use Rattle.wm_syntax.specs.Opcodes.{opcode}
+use Rattle.wm_syntax.specs.Opcodes.{op_code}
 use Rattle.wm_syntax.specs.declared.op_class.Kind.TheVariants as k
 use Rattle.wm_syntax.specs.declared.op_class.OpClass.{OpClass}
 use Rattle.wm_syntax.specs.declared.op_class.OpClass.TheVariants.{Plain, With, Float, None}
 
--- an instruction without its immediates
+-- what an op is by its first byte: the op itself, or a kind that has immediates
 abbrev pub class_of : Op → OpClass
 class_of (op.Simple (s.Br l)) = With k.Br
 class_of (op.Simple (s.BrIf l)) = With k.BrIf
@@ -33,24 +33,17 @@ class_of (op.If t) = With k.If
 class_of (op.BrTable n) = With k.BrTable
 class_of o = Plain o
 
--- the byte that begins an instruction; a label has none of its own
+-- the byte that begins an instruction, an else or an end; a label has none of its own
 abbrev pub first_byte : Op → Option ℕ
-first_byte (op.Simple i) = Some (opcode i).0
-first_byte (op.Block t) = Some 0x02
-first_byte (op.Loop t) = Some 0x03
-first_byte (op.If t) = Some 0x04
-first_byte op.Else = Some 0x05
-first_byte op.End = Some 0x0B
-first_byte (op.BrTable n) = Some 0x0E
-first_byte (op.Label l) = Nothing
+first_byte o = option_map (λ row. row.0) (op_code o)
 
--- the bytes of floating-point instructions
+-- the bytes of the floating-point instructions (sections 5.4.4, 5.4.5)
 abbrev pub is_float : ℕ → Bool
 is_float b =
     list_any (λ (r : ℕ × ℕ). nat_le r.0 b && nat_le b r.1)
     ((0x2A, 0x2B) ∷ (0x38, 0x39) ∷ (0x43, 0x44) ∷ (0x5B, 0x66) ∷ (0x8B, 0xA6) ∷ (0xA8, 0xAB) ∷ (0xAE, 0xBF) ∷ [])
 
--- the byte begins an instruction of the profile
+-- the class is that of an instruction, an else or an end
 abbrev pub IsFound : OpClass → Type 0
 IsFound (Plain o) = Unit {0}
 IsFound (With kind) = Unit {0}

@@ -1,4 +1,5 @@
--- The instructions of a profile.
+-- The instructions of a profile: the first has those of the standard on whole numbers, the second the five
+-- sign-extension instructions as well.
 use Rattle.std.specs.List.{AllByRecursion}
 use Rattle.wm_syntax.specs.declared.instructions.Simple.{Simple}
 use Rattle.wm_syntax.specs.declared.instructions.Simple.TheVariants.{Numeric}
@@ -10,6 +11,7 @@ use Rattle.wm_syntax.specs.declared.profile.Profile.TheVariants.{One}
 use Rattle.wm_syntax.specs.Instructions.{Instruction, Instructions, none, snoc, simple, table, block, loop, choice}
 use Rattle.wm_syntax.specs.Modules.{Module}
 
+-- an instruction of the profile
 abbrev pub HasSimple : Profile → Simple → Type 0
 HasSimple One (Numeric (SignExtend op)) = ⊥
 HasSimple _ _ = Unit {0}
@@ -19,6 +21,7 @@ abbrev pub IsOpOf : Profile → Op → Type 0
 IsOpOf p (op.Simple i) = HasSimple p i
 IsOpOf p _ = Unit {0}
 
+-- the same of a tree and of a list: every instruction in it is of the profile
 abbrev mutual
   pub HasInstruction : Profile → Instruction → Type 0
   HasInstruction p (simple i) = HasSimple p i
@@ -31,6 +34,6 @@ abbrev mutual
   HasInstructions p none = Unit {0}
   HasInstructions p (snoc s i) = HasInstructions p s × HasInstruction p i
 
--- each instruction of the module is of the profile
+-- each instruction of the module is of the profile; a constant is of every one
 abbrev pub IsOf : Profile → Module → Type 0
 IsOf p m = AllByRecursion (λ f. HasInstructions p f.body) m.functions

@@ -92,6 +92,7 @@ pub enum StoreOp {
     I64Store32,
 }
 
+/// Of a load or a store: the exponent of its alignment, and an offset (section 2.4.4).
 #[derive(Clone, Copy, PartialEq, Eq, Debug)]
 pub struct MemArg {
     pub align: u32,

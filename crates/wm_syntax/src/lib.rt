@@ -3,8 +3,11 @@
 #![tactic(auto)]
 
 pub mod instructions;
+pub mod io;
 pub mod laws;
 pub mod modules;
+pub mod names;
+pub mod numbers;
 pub mod op_class;
 pub mod opcodes;
 pub mod profile;

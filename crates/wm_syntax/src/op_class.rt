@@ -29,8 +29,12 @@ pub enum Kind {
 /// What a byte begins.
 #[derive(Clone, Copy, PartialEq, Eq, Debug)]
 pub enum OpClass {
+    /// An op that is this byte alone.
     Plain(Op),
+    /// An op with immediates after this byte.
     With(Kind),
+    /// A floating-point instruction.
     Float,
+    /// Nothing of the profile.
     None,
 }

@@ -18,7 +18,8 @@ use crate::op_class::{Kind, OpClass};
 use crate::profile::Profile;
 use crate::types::ValType::{I32, I64};
 
-/// What an instruction of the profile is by its first byte (section 5.4).
+/// What this byte begins under the profile: an instruction, an else, an end, a floating-point instruction or
+/// nothing (section 5.4).
 pub fn op_of(profile: Profile, byte: u8) -> OpClass
     // Each instruction of the profile that begins with the byte is of this class, and the class is that
     // of such an instruction.
@@ -301,3 +302,6 @@ fn class_at(byte: u8) -> OpClass
         _ => OpClass::None,
     }
 }
+
+#[cfg(test)]
+mod tests;

@@ -2,7 +2,7 @@
 
 use std::marker::Model;
 
-/// A value type of the profile: a whole number of 32 or of 64 bits.
+/// A value type (section 2.3.1): a whole number of 32 or of 64 bits.
 #[derive(Clone, Copy, PartialEq, Eq, Debug)]
 pub enum ValType {
     I32,

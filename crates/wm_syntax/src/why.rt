@@ -3,7 +3,7 @@
 ghost use Rattle.std.specs.Prelude.{◌≡◌};
 ghost use Rattle.wm_syntax.specs.Refusals.{name_of};
 
-/// Why an input is refused, in the order in which the documentation lists the refusals.
+/// Why an input is refused.
 #[derive(Clone, Copy, PartialEq, Eq, Debug)]
 pub enum Why {
     /// One of the first four bytes is not that of the magic.
@@ -12,7 +12,7 @@ pub enum Why {
     Version,
     /// A section's id is above 11.
     SectionId,
-    /// A section's id is not above the last one.
+    /// A section's id, a custom one's aside, is not above the last such id.
     SectionOrder,
     /// A section's size and its contents do not agree.
     SectionEnd,
@@ -36,7 +36,8 @@ pub enum Why {
     TooManyLocals,
     /// An index that names nothing.
     Index,
-    /// An operand, a label or a constant has another type; printed as `Type`.
+    /// An operand, a label or a constant has another type, or an if with a result has no
+    /// else; printed as `Type`.
     Mismatch,
     /// Too many results, a missing operand, operands left at an end, or not one constant instruction.
     Arity,
@@ -98,3 +99,6 @@ impl Why {
         }
     }
 }
+
+#[cfg(test)]
+mod tests;

@@ -1,0 +1,4 @@
+pub mod Judged
+pub mod RulesLemmas
+pub mod RunLemmas
+pub mod SourceLemmas

@@ -1,0 +1,26 @@
+-- The exit statuses of the program: 0 done, 1 refused, 2 a fault of the command line, 3 input or output, 4 memory.
+use Rattle.std.specs.Prelude.{ℕ}
+use Rattle.clap.specs.Values.{kind_of}
+use Rattle.clap.specs.declared.error.kind.ErrorKind.{ErrorKind}
+use Rattle.clap.specs.declared.error.kind.ErrorKind.TheVariants.{DisplayHelp, OutOfMemory}
+use Rattle.wm_cli.specs.declared.status.Status.{Status}
+use Rattle.wm_cli.specs.declared.status.Status.TheVariants.{Done, Refused, Io, Memory}
+use Rattle.wm_cli.specs.declared.words.LineFault.{LineFault}
+use Rattle.wm_cli.specs.declared.words.LineFault.TheVariants as fault
+
+abbrev pub status_code : Status → ℕ
+status_code Done = 0
+status_code Refused = 1
+status_code Io = 3
+status_code Memory = 4
+
+-- a request for help is no fault
+abbrev pub kind_code : ErrorKind → ℕ
+kind_code OutOfMemory = 4
+kind_code DisplayHelp = 0
+kind_code _ = 2
+
+abbrev pub fault_code : LineFault → ℕ
+fault_code (fault.Parser e) = kind_code (kind_of e)
+fault_code fault.Words = 2
+fault_code fault.Memory = 4

@@ -1,0 +1,24 @@
+-- What the program may write for an input, and how it may end.
+use Rattle.std.specs.Prelude.{◌≡◌, ◌≢◌, ◌≤◌, ◌⊎◌, ℕ, List, [], ◌∷◌, ◌++◌, codes, decimal, length}
+use Rattle.wm_syntax.specs.declared.profile.Profile.{Profile}
+use Rattle.wm_syntax.specs.declared.why.Why.{Why}
+use Rattle.wm_syntax.specs.declared.why.Why.TheVariants.{Memory}
+use Rattle.wm_syntax.specs.Refusals.{name_of}
+use Rattle.wm_cli.specs.declared.status.Status.{Status}
+use Rattle.wm_cli.specs.declared.status.Status.TheVariants.{Done, Refused}
+use Rattle.wm_cli.specs.Rules.{Accepted}
+
+-- the line of a valid input
+abbrev pub valid_line : List ℕ
+valid_line = codes "valid" ++ 10 ∷ []
+
+-- the line of a refusal at this place
+abbrev pub refusal_line : ℕ → Why → List ℕ
+refusal_line place why = codes "refused at " ++ (decimal place ++ (codes ": " ++ (name_of why ++ 10 ∷ [])))
+
+-- Of `check`: `valid` where the input is accepted, and else one refusal, other than for memory, at a place within it.
+abbrev pub OutOfCheck : Profile → ℕ → List ℕ → List ℕ → Status → Type 0
+OutOfCheck p limit input written status =
+    (Accepted p limit input × (written ≡ valid_line) × (status ≡ Done))
+    ⊎ ((Accepted p limit input → ⊥) × ((place : ℕ) × (why : Why) × (why ≢ Memory) × (place ≤ length input) × (written ≡ refusal_line place why))
+    × (status ≡ Refused))

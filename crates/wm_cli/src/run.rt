@@ -1,0 +1,66 @@
+//! What each action does.
+
+ghost use Rattle.std.specs.Prelude.{◌≡◌, ◌≢◌, ◌≤◌, ◌^◌, ◌↔◌, ◌⊎◌, ℕ, List, IfSome, false, true};
+ghost use Rattle.std.specs.Io.KnownBytes.{Keeps};
+ghost use Rattle.wm_cli.specs.Answers.{IsAnswered};
+ghost use Rattle.wm_cli.specs.declared.status.Status.{Status};
+ghost use Rattle.wm_cli.specs.Outcome.{OutOfCheck, refusal_line};
+
+use crate::answer::answer;
+use crate::reading::{Fault, validate_from};
+use crate::status::Status;
+use crate::words::Action;
+use std::alloc::Global;
+use wm_decode::Refusal;
+use wm_syntax::io::{Dest, Source};
+use wm_syntax::profile::Profile;
+use wm_syntax::why::Why;
+
+/// Reads all of the input, does what the action says, and writes the answer, a refusal too. Where memory was
+/// refused or the reader failed nothing is written.
+pub fn run<R: Source, W: Dest>(
+    alloc: Global,
+    action: Action,
+    profile: Profile,
+    limit: u64,
+    r: &mut R,
+    w: &mut W,
+) -> Status
+    requires source { R.has_failed r.old ≡ false }
+    requires dest { W.has_failed w.old ≡ false }
+    requires limit { limit ≤ 2 ^ 62 }
+    // What is to be written for the input is written whole, or, where the writer failed, a beginning of it.
+    ensures answered { R.has_failed r.new ≡ false → result ≢ Status.Memory → (text : List ℕ) × (status : Status)
+        × IfSome (R.remaining r.old) (λ input. OutOfCheck profile limit input text status)
+        × IsAnswered text status (W.contents w.old) (W.contents w.new) (W.has_failed w.new) result }
+    ensures reader { R.has_failed r.new ≡ true → (result ≡ Status.Io) × Keeps (W.contents w.old) (W.contents w.new) }
+    ensures memory { result ≡ Status.Memory → Keeps (W.contents w.old) (W.contents w.new) }
+{
+    let judged = match action {
+        Action::Check => validate_from(alloc, profile, limit, r),
+    };
+    match judged {
+        Ok(_) => answer(w, b"valid\n", Status::Done),
+        Err(fault) => match fault {
+            Fault::Io => Status::Io,
+            Fault::Refused(refusal) => refuse(alloc, refusal, w),
+        },
+    }
+}
+
+/// Writes a refusal, unless memory was refused.
+fn refuse<W: Dest>(alloc: Global, refusal: Refusal, w: &mut W) -> Status
+    requires { W.has_failed w.old ≡ false }
+    ensures answered { result ≢ Status.Memory → (refusal.why ≢ Why.Memory)
+        × IsAnswered (refusal_line refusal.at refusal.why) Status.Refused (W.contents w.old) (W.contents w.new) (W.has_failed w.new) result }
+    ensures memory { result ≡ Status.Memory → Keeps (W.contents w.old) (W.contents w.new) }
+{
+    let why = match refusal.why {
+        Why::Memory => return Status::Memory,
+        why => why,
+    };
+    match format!(in alloc; "refused at {}: {}\n", refusal.at, why.name()) {
+        Ok(text) => answer(w, text.as_bytes(), Status::Refused),
+        Err(_) => Status::Memory,
+    }
+}

@@ -1,0 +1,17 @@
+pub mod Next
+pub mod Numbers
+pub mod Counts
+pub mod Texts
+pub mod Contents
+pub mod Customs
+pub mod Chains
+pub mod Whole
+pub mod Theorem
+pub mod Ranges
+pub mod Header
+pub mod Limits
+pub mod Floats
+pub mod Calls
+pub mod Taking
+pub mod Fronts
+pub mod Stage

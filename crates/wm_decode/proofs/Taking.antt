@@ -1,0 +1,31 @@
+-- A sink that does nothing at a part takes any item of such parts.
+use Rattle.std.proofs.Common.{◌≡◌, ℕ, List, [], ◌∷◌, ◌++◌, Result, Ok, Err, map, refl, ◌∙◌, ap}
+use Rattle.wm_syntax.specs.declared.why.Why.{Why}
+use Rattle.wm_decode.specs.Parts.{Part, data_byte}
+use Rattle.wm_decode.specs.Sinks.{and_then, all_taken, Took}
+
+all_quiet : {H : Type 0} (after : H → Part → Result H Why) (h : H) → ((x : Part) → after h x ≡ Ok h) → (xs : List Part) → all_taken after h xs ≡ Ok h
+all_quiet after h quiet [] = refl
+all_quiet after h quiet (x ∷ xs) = ap (λ y. and_then y (λ g. all_taken after g xs)) (quiet x) ∙ all_quiet after h quiet xs
+
+pub taken_quietly : {H U : Type 0} (after : H → Part → Result H Why) (h : H) → ((x : Part) → after h x ≡ Ok h) → (xs : List Part) (u : U) → Took after h xs (Ok u) h
+taken_quietly after h quiet [] u = refl
+taken_quietly after h quiet (x ∷ []) u = quiet x
+taken_quietly after h quiet (x ∷ y ∷ xs) u = all_quiet after h quiet (x ∷ y ∷ xs)
+
+-- Parts in two lists are taken one list after the other.
+taken_then : {H : Type 0} (after : H → Part → Result H Why) (r : Result H Why) (xs ys : List Part) → ((h : H) → all_taken after h (xs ++ ys) ≡ and_then (all_taken after h xs) (λ g. all_taken after g ys))
+    → and_then r (λ g. all_taken after g (xs ++ ys)) ≡ and_then (and_then r (λ g. all_taken after g xs)) (λ g. all_taken after g ys)
+taken_then after (Ok h) xs ys e = e h
+taken_then after (Err w) xs ys e = refl
+
+pub all_taken-append : {H : Type 0} (after : H → Part → Result H Why) (xs ys : List Part) (h : H) → all_taken after h (xs ++ ys) ≡ and_then (all_taken after h xs) (λ g. all_taken after g ys)
+all_taken-append after [] ys h = refl
+all_taken-append after (x ∷ xs) ys h = taken_then after (after h x) xs ys (λ g. all_taken-append after xs ys g)
+
+each_data : (a b : List ℕ) → map data_byte (a ++ b) ≡ map data_byte a ++ map data_byte b
+each_data [] b = refl
+each_data (c ∷ a) b = ap (λ y. data_byte c ∷ y) (each_data a b)
+
+pub slices_taken : {H : Type 0} (after : H → Part → Result H Why) (h : H) (a b : List ℕ) → all_taken after h (map data_byte (a ++ b)) ≡ and_then (all_taken after h (map data_byte a)) (λ g. all_taken after g (map data_byte b))
+slices_taken after h a b = ap (all_taken after h) (each_data a b) ∙ all_taken-append after (map data_byte a) (map data_byte b) h

@@ -1,0 +1,166 @@
+-- The flat grammar of a whole input (section 5.5): its parts one after another, each beside the byte at which it is
+-- complete.
+--
+-- Where all is demanded, sizes and names are as the format has them. Where it is not, they are left open: that is
+-- for fronts of an input that may still be refused for a size or a name that isn't complete.
+use Rattle.std.specs.Prelude.{ℕ, zero, suc, ◌+◌, ◌≤◌, ◌≡◌, ◌<◌, ◌^◌, List, [], ◌∷◌, ◌++◌, ◌⊎◌, Some, None}
+use Rattle.std.specs.List.{AllByRecursion}
+use Rattle.wm_syntax.specs.declared.instructions.Op.{Op}
+use Rattle.wm_syntax.specs.declared.instructions.Op.TheVariants as op
+use Rattle.wm_syntax.specs.declared.modules.ExportKind.{ExportKind}
+use Rattle.wm_syntax.specs.declared.types.ValType.{ValType}
+use Rattle.wm_syntax.specs.declared.profile.Profile.{Profile}
+use Rattle.wm_syntax.specs.Spelling.{Byte as OneByte, ◌▸◌}
+use Rattle.wm_syntax.specs.Types.{SpellsU32, SpellsValType, SpellsLimits, SpellsTableType, SpellsGlobalType}
+use Rattle.wm_syntax.specs.Instructions.{SpellsOp}
+use Rattle.wm_syntax.specs.Profiles.{IsOpOf}
+use Rattle.wm_decode.specs.Sections.{SpellsDesc, SpellsRun, kind_byte, header}
+use Rattle.wm_decode.specs.Parts.{Part, new_type, param, result_count, one_result, import_module, import_name, import_desc, function, table, memory, global, const_op, export_name, export, start, element, element_function, body, locals, body_op, segment, data_byte}
+use Rattle.wm_decode.specs.Shapes.{Shape, Empty, Byte, Literal, Then, Times, Leaf, Number, Vector, Index, Name, Sized, Filled, Entry, nothing_at, ending}
+
+-- sizes and names are as the format has them, or are left open
+abbrev pub strict : Type 0
+strict = Unit {0}
+
+abbrev pub loose : Type 0
+loose = ⊥
+
+-- value types and function types (sections 5.3.1, 5.3.3)
+abbrev pub ValueType : (ValType → Part) → Shape
+ValueType = Leaf SpellsValType
+
+abbrev pub ResultTypes : Shape
+ResultTypes = Number (λ n. Some (result_count n)) (λ n. Times n (ValueType one_result))
+
+abbrev pub FunctionType : Shape
+FunctionType = Then (Byte 0x60 (Some new_type)) (Then (Vector (ValueType param)) ResultTypes)
+
+-- imports (section 5.5.5)
+abbrev pub Import : Type 0 → Shape
+Import demanded =
+    Then (Name demanded (λ text. Some (import_module text)))
+    (Then (Name demanded (λ text. Some (import_name text))) (Leaf SpellsDesc import_desc))
+
+-- how many lists of instructions these ops open, and how many they close
+abbrev pub opens : List Op → ℕ
+opens [] = 0
+opens (op.Block t ∷ ops) = 1 + opens ops
+opens (op.Loop t ∷ ops) = 1 + opens ops
+opens (op.If t ∷ ops) = 1 + opens ops
+opens (_ ∷ ops) = opens ops
+
+abbrev pub closes : List Op → ℕ
+closes [] = 0
+closes (op.End ∷ ops) = 1 + closes ops
+closes (_ ∷ ops) = closes ops
+
+-- BrTable(n) is followed by n + 1 labels, and no label stands elsewhere
+abbrev pub HasLabels : ℕ → List Op → Type 0
+HasLabels zero [] = Unit {0}
+HasLabels (suc n) [] = ⊥
+HasLabels (suc n) (op.Label l ∷ ops) = HasLabels n ops
+HasLabels (suc n) (_ ∷ ops) = ⊥
+HasLabels zero (op.Label l ∷ ops) = ⊥
+HasLabels zero (op.BrTable n ∷ ops) = HasLabels (suc n) ops
+HasLabels zero (_ ∷ ops) = HasLabels zero ops
+
+-- The ops of an expression (section 5.4.6) up to the end that closes it, else anywhere: as many ends as openings
+-- and one more, and in no shorter front so many.
+pub record IsExpression (ops : List Op) : Type 0 where
+  pub labels : HasLabels 0 ops
+  pub closed : closes ops ≡ opens ops + 1
+  pub first : (front back : List Op) → ops ≡ front ++ back → (back ≡ []) ⊎ (closes front ≤ opens front)
+
+-- the ops in order, each complete at its last byte
+abbrev pub EachOp : (Op → Part) → List Op → Shape
+EachOp part [] = Empty
+EachOp part (o ∷ ops) = Then (λ b k. SpellsOp o b × (k ≡ ending (Some (part o)) b)) (EachOp part ops)
+
+abbrev pub Expression : Profile → (Op → Part) → Shape
+Expression p part b k = (ops : List Op) × IsExpression ops × AllByRecursion (IsOpOf p) ops × EachOp part ops b k
+
+-- globals (section 5.5.9)
+abbrev pub Global : Profile → Shape
+Global p = Then (Leaf SpellsGlobalType global) (Expression p const_op)
+
+-- exports (section 5.5.10)
+abbrev pub Target : Shape
+Target = Leaf {X = ExportKind × ℕ} (λ t. OneByte (kind_byte t.0) ▸ SpellsU32 t.1) (λ t. export t.0 t.1)
+
+abbrev pub Export : Type 0 → Shape
+Export demanded = Then (Name demanded (λ text. Some (export_name text))) Target
+
+-- element segments (section 5.5.12)
+abbrev pub Element : Profile → Shape
+Element p = Then (Index element) (Then (Expression p const_op) (Vector (Index element_function)))
+
+-- code (section 5.5.13): a size, and in so many bytes runs of locals and an expression
+abbrev pub Run : Shape
+Run = Leaf SpellsRun (λ r. locals r.0 r.1)
+
+abbrev pub Code : Type 0 → Profile → Shape
+Code demanded p = Number (λ n. Some body) (λ n. Sized demanded n (Entry (Then (Vector Run) (Expression p body_op))))
+
+-- data segments (section 5.5.14): each byte is a part
+abbrev pub DataByte : Shape
+DataByte = Leaf (λ c b. (b ≡ c ∷ []) × (c < 2 ^ 8)) data_byte
+
+abbrev pub Segment : Profile → Shape
+Segment p = Then (Index segment) (Then (Expression p const_op) (Vector DataByte))
+
+-- so many, as a number says
+abbrev pub Paired : ℕ → Shape → Shape
+Paired f P = Number nothing_at (λ n b k. (n ≡ f) × Times n P b k)
+
+-- The contents of the section with this id, where there are f functions, each with a code entry.
+abbrev pub Contents : Type 0 → Profile → (f id : ℕ) → Shape
+Contents demanded p f (suc zero) = Vector FunctionType
+Contents demanded p f (suc (suc zero)) = Vector (Import demanded)
+Contents demanded p f (suc (suc (suc zero))) = Paired f (Index function)
+Contents demanded p f (suc (suc (suc (suc zero)))) = Vector (Leaf SpellsTableType table)
+Contents demanded p f (suc (suc (suc (suc (suc zero))))) = Vector (Leaf SpellsLimits memory)
+Contents demanded p f (suc (suc (suc (suc (suc (suc zero)))))) = Vector (Global p)
+Contents demanded p f (suc (suc (suc (suc (suc (suc (suc zero))))))) = Vector (Export demanded)
+Contents demanded p f (suc (suc (suc (suc (suc (suc (suc (suc zero)))))))) = Index start
+Contents demanded p f (suc (suc (suc (suc (suc (suc (suc (suc (suc zero))))))))) = Vector (Element p)
+Contents demanded p f (suc (suc (suc (suc (suc (suc (suc (suc (suc (suc zero)))))))))) = Paired f (Code demanded p)
+Contents demanded p f (suc (suc (suc (suc (suc (suc (suc (suc (suc (suc (suc zero))))))))))) = Vector (Segment p)
+Contents demanded p f _ = λ b k. ⊥
+
+-- a section (section 5.5.2): its id, its size, and contents of so many bytes
+abbrev pub Section : Type 0 → Profile → (f id : ℕ) → Shape
+Section demanded p f id = Then (Byte id None) (Number nothing_at (λ n. Sized demanded n (Contents demanded p f id)))
+
+-- a custom section (section 5.5.3): a name, and then any bytes; it gives no part
+abbrev pub Custom : Type 0 → Shape
+Custom demanded = Then (Byte 0 None) (Number nothing_at (λ n. Filled demanded n (Name demanded (λ text. None))))
+
+abbrev pub Customs : Type 0 → Shape
+Customs demanded b k = (n : ℕ) × Times n (Custom demanded) b k
+
+-- a section may be left out; of functions and of code only where there is no function
+abbrev pub MayMiss : (f id : ℕ) → Type 0
+MayMiss f id = (id ≡ 3) ⊎ (id ≡ 10) → f ≡ 0
+
+-- the section, or an empty list and no bytes
+abbrev pub Optional : Type 0 → Profile → (f id : ℕ) → Shape
+Optional demanded p f id b k = Section demanded p f id b k ⊎ (MayMiss f id × Empty b k)
+
+-- the sections from one id on, so many, in order, with custom sections before, between and after them
+abbrev pub Chain : Type 0 → Profile → (f count id : ℕ) → Shape
+Chain demanded p f zero id = Customs demanded
+Chain demanded p f (suc count) id =
+    Then (Customs demanded) (Then (Optional demanded p f id) (Chain demanded p f count (suc id)))
+
+-- A module that has no section of an id above the last one here (section 5.5.15): the magic number and the version,
+-- and the sections. With 11 it is any module.
+abbrev pub Module : Type 0 → Profile → (last : ℕ) → Shape
+Module demanded p last b k = (f : ℕ) × Then (Literal header) (Chain demanded p f last 1) b k
+
+-- the last id that is read so far
+abbrev pub last_read : ℕ
+last_read = 1
+
+-- the bytes are a whole input, of which so much is said beside each byte
+abbrev pub Items : Profile → Shape
+Items p = Module strict p last_read

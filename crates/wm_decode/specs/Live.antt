@@ -1,0 +1,112 @@
+-- The machine and a sink over a list of bytes: the exact form, for the proofs above it.
+use Rattle.std.specs.Prelude.{◌≡◌, ◌≢◌, ◌≤◌, ◌<◌, IsOk, ℕ, ◌+◌, List, [], ◌∷◌, ◌++◌, Option, Some, None, Result, Ok, Err, nat_lt, if◌then◌else◌}
+use Rattle.std.specs.Str.{is_utf8}
+use Rattle.wm_syntax.specs.declared.why.Why.{Why}
+use Rattle.wm_syntax.specs.declared.why.Why.TheVariants as why
+use Rattle.wm_decode.specs.declared.machine.NameKind.{NameKind}
+use Rattle.wm_decode.specs.declared.machine.Machine.{Machine}
+use Rattle.wm_decode.specs.declared.machine.Machine.TheVariants as machine
+use Rattle.wm_decode.specs.declared.machine.Event.{Event}
+use Rattle.wm_decode.specs.declared.machine.Event.TheVariants as event
+use Rattle.wm_decode.specs.declared.refusal.Refusal.{Refusal}
+use Rattle.wm_decode.specs.declared.state.Decoder.{Decoder}
+use Rattle.wm_decode.specs.Parts.{Part}
+use Rattle.wm_decode.specs.Sinks.{and_then}
+use Rattle.wm_decode.specs.Steps.{step_of}
+use Rattle.wm_decode.specs.Runs.{named, plain_part}
+
+-- what a sink holds after a part, if there is one
+abbrev pub offered : {H : Type 0} → (H → Part → Result H Why) → Option Part → H → Result H Why
+offered after None h = Ok h
+offered after (Some x) h = after h x
+
+abbrev pub name_taken : {H : Type 0} → (H → Part → Result H Why) → NameKind → List ℕ → H → Result H Why
+name_taken after kind text h = if is_utf8 text then offered after (named kind text) h else Err why.BadUtf8
+
+-- what a name at hand has become, and what a sink holds, after what a byte completed
+abbrev pub told : {H : Type 0} → (H → Part → Result H Why) → Event → List ℕ → ℕ → H → Result (List ℕ × H) Why
+told after event.Quiet name c h = Ok ([], h)
+told after (event.Gives p) name c h = and_then (after h (plain_part p)) (λ g. Ok ([], g))
+told after event.InName name c h = Ok (name ++ c ∷ [], h)
+told after (event.EndsName kind) name c h = and_then (name_taken after kind (name ++ c ∷ []) h) (λ g. Ok ([], g))
+told after (event.EmptyName kind) name c h = and_then (offered after (named kind []) h) (λ g. Ok ([], g))
+
+-- a decoder that has refused nothing
+pub record Live (H : Type 0) : Type 0 where
+  pub machine : Machine
+  pub name : List ℕ
+  pub held : H
+  pub at : ℕ
+
+abbrev pub settled : {H : Type 0} → Machine → List ℕ → H → ℕ → Result (Live H) Refusal
+settled (machine.Refused w) name h at = Err (record { at = at; why = w })
+settled m name h at = Ok (record { machine = m; name = name; held = h; at = at })
+
+abbrev pub judged : {H : Type 0} → Machine → ℕ → Result (List ℕ × H) Why → Result (Live H) Refusal
+judged m at (Ok p) = settled m p.0 p.1 at
+judged m at (Err w) = Err (record { at = at; why = w })
+
+abbrev pub live_byte : {H : Type 0} → (H → Part → Result H Why) → ℕ → Live H → ℕ → Result (Live H) Refusal
+live_byte after limit l c =
+    if nat_lt l.at limit
+    then judged (step_of l.machine c).0 (l.at + 1) (told after (step_of l.machine c).1 l.name c l.held)
+    else Err (record { at = limit + 1; why = why.TooLong })
+
+-- the same for each byte, up to the first refusal
+abbrev pub decoded : {H : Type 0} → (H → Part → Result H Why) → ℕ → Live H → List ℕ → Result (Live H) Refusal
+decoded after limit l [] = Ok l
+decoded after limit l (c ∷ b) = and_then (live_byte after limit l c) (λ m. decoded after limit m b)
+
+abbrev pub begun : {H : Type 0} → H → Live H
+begun h = record { machine = machine.Header 0; name = []; held = h; at = 0 }
+
+abbrev pub refusal_of : Machine → Option Why
+refusal_of (machine.Refused w) = Some w
+refusal_of m = None
+
+abbrev pub IsRefused : Machine → Type 0
+IsRefused (machine.Refused w) = Unit {0}
+IsRefused m = ⊥
+
+-- how a decoder stands, by what is seen of its sink
+abbrev pub standing : {S H : Type 0} → (S → H) → Decoder S → Result (Live H) Refusal
+standing held d = settled d.machine d.name.items (held d.sink) d.at
+
+-- how it stands within a piece, with this part of it in the name at hand
+abbrev pub live_with : {S H : Type 0} → (S → H) → Decoder S → List ℕ → Live H
+live_with held d part = record { machine = d.machine; name = d.name.items ++ part; held = held d.sink; at = d.at }
+
+-- a byte's answer, unless memory ran out
+pub record ByteTaken {H : Type 0} (expected : Result (Live H) Refusal) (now : Live H) : Type 0 where
+  pub as_expected : expected ≡ Ok now
+  pub live : ¬ (IsRefused now.machine)
+
+pub record ByteRefused {H : Type 0} (expected : Result (Live H) Refusal) (r : Refusal)
+    (stands : Result (Live H) Refusal) : Type 0 where
+  pub as_expected : r.why ≢ why.Memory → expected ≡ Err r
+  pub standing : stands ≡ Err r
+
+-- what a piece was answered, unless memory ran out
+abbrev pub Fed : {H U : Type 0} → Result (Live H) Refusal → Result U Refusal → Result (Live H) Refusal → Type 0
+Fed expected (Ok u) now = (expected ≡ now) × IsOk now
+Fed expected (Err r) now = (r.why ≢ why.Memory → expected ≡ Err r) × (now ≡ Err r)
+
+-- at the input's end
+abbrev pub ended_at : {H : Type 0} → Machine → H → ℕ → Result H Refusal
+ended_at (machine.Between last) h at = Ok h
+ended_at (machine.Refused w) h at = Err (record { at = at; why = w })
+ended_at m h at = Err (record { at = at; why = why.Truncated })
+
+abbrev pub ended : {H : Type 0} → Live H → Result H Refusal
+ended l = ended_at l.machine l.held l.at
+
+abbrev pub Finished : {H S : Type 0} → Result H Refusal → (S → H) → Result S Refusal → Type 0
+Finished expected held (Ok s) = expected ≡ Ok (held s)
+Finished expected held (Err r) = expected ≡ Err r
+
+-- in the header the machine has come as far as this place, and all else comes after the header; memory can't run out
+-- in it
+abbrev pub IsAt : Machine → ℕ → Type 0
+IsAt (machine.Header n) at = n ≡ at
+IsAt (machine.Refused w) at = w ≡ why.Memory → 8 < at
+IsAt m at = 8 ≤ at

@@ -1,0 +1,22 @@
+ghost use Rattle.std.specs.Prelude.{Result};
+ghost use Rattle.wm_syntax.specs.declared.why.Why.{Why};
+ghost use Rattle.wm_decode.specs.Parts.{Part};
+ghost use Rattle.wm_decode.specs.Sinks.{Took, item_parts};
+
+use crate::item::Item;
+use wm_syntax::why::Why;
+
+/// What receives the items of a module, one by one.
+pub trait Sink: Drop {
+    // what is seen of a sink
+    ghost Held: { Type 0 };
+
+    ghost held: { Self → Held };
+
+    // what a sink holds after one more part, or why it refuses it
+    ghost after: { Held → Part → Result Held Why };
+
+    /// Takes one item, or says why it is refused. Data bytes are taken as if they came one by one.
+    fn take(&mut self, item: Item) -> Result<(), Why>
+        ensures { Took after (held self.old) (item_parts item.entry) result (held self.new) };
+}

@@ -1,0 +1,18 @@
+use Rattle.wm_syntax.specs.Partial.{Partial}
+use Rattle.wm_syntax.proofs.Readers.{signed_in_range, signed_reads}
+use Rattle.wm_syntax.proofs.numbers.Leb128.push_signed.Goals as goal
+
+pub returns-clause-answers : goal.returns-clause-answers
+returns-clause-answers c = λ before a.
+    let inner : Partial = record { low = c.self.inside.low; count = c.self.inside.count } in
+    (signed_reads c.args.bits c.requires c.advance_signed-step.result inner c.args.self.now c.args.byte c.advance_signed-step.ensures c.self.view_is c.ranges.byte.fits before a).0
+
+pub returns-clause-after : goal.returns-clause-after
+returns-clause-after c = λ before a.
+    let inner : Partial = record { low = c.self.inside.low; count = c.self.inside.count } in
+    rw c.next.view_is ((signed_reads c.args.bits c.requires c.advance_signed-step.result inner c.args.self.now c.args.byte c.advance_signed-step.ensures c.self.view_is c.ranges.byte.fits before a).1)
+
+pub returns-clause-range : goal.returns-clause-range
+returns-clause-range c =
+    let inner : Partial = record { low = c.self.inside.low; count = c.self.inside.count } in
+    signed_in_range c.args.bits c.advance_signed-step.result inner c.args.byte c.advance_signed-step.ensures c.self.invariant.1

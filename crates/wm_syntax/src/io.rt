@@ -1,0 +1,73 @@
+//! Readers and writers that remember whether they have failed.
+
+ghost use Rattle.std.specs.Prelude.{◌≡◌, ℕ, ◌<◌, ◌||◌, Bool, false, List, Option, length, take, is_err, IfOk, OnOk, IfErr, ◌≤◌};
+ghost use Rattle.std.specs.Io.{ReadsAtMost, WritesAtMost};
+ghost use Rattle.std.specs.Io.KnownBytes.{Appends, Keeps, ReadConsumes, WriteAppends};
+
+use std::io;
+
+pub mod input;
+pub mod output;
+#[cfg(test)]
+mod tests;
+
+/// A reader.
+pub trait Source {
+    // The bytes that are still to come, where the type tells them.
+    ghost remaining: { Self → Option (List ℕ) };
+    // Whether some call has answered an error.
+    ghost has_failed: { Self → Bool };
+
+    /// Reads into `buf` and answers how many bytes: 0 only at the end, or where `buf` is empty. An error took
+    /// nothing; `Interrupted` is one.
+    fn get(&mut self, buf: &mut [u8]) -> io::Result<usize>
+        ensures bound { ReadsAtMost result buf.new }
+        ensures bytes { ReadConsumes (remaining self.old) (remaining self.new) result buf.new }
+        ensures failed { has_failed self.new ≡ (has_failed self.old || is_err result) };
+
+    /// Whether some call has answered an error.
+    fn failed(&self) -> bool
+        ensures { result ≡ has_failed self.now };
+}
+
+/// A writer.
+pub trait Dest {
+    // The bytes that were written, where the type tells them.
+    ghost contents: { Self → Option (List ℕ) };
+    // Whether some call has answered an error.
+    ghost has_failed: { Self → Bool };
+
+    /// Writes the first bytes of `buf` and answers how many: at least one where there is one. An error took none;
+    /// `Interrupted` is one.
+    fn put(&mut self, buf: &[u8]) -> io::Result<usize>
+        ensures bound { WritesAtMost result buf.now }
+        ensures some { IfOk result (λ n. 0 < length buf.now → 0 < n) }
+        ensures bytes { WriteAppends (contents self.old) (contents self.new) result buf.now }
+        ensures failed { has_failed self.new ≡ (has_failed self.old || is_err result) };
+
+    /// Hands on what is held back.
+    fn flush(&mut self) -> io::Result<()>
+        ensures bytes { Keeps (contents self.old) (contents self.new) }
+        ensures failed { has_failed self.new ≡ (has_failed self.old || is_err result) };
+
+    /// Whether some call has answered an error.
+    fn failed(&self) -> bool
+        ensures { result ≡ has_failed self.now };
+}
+
+/// Writes all of `bytes`. An error says how many of them were written before it.
+pub fn put_all<W: Dest>(w: &mut W, bytes: &[u8]) -> Result<(), usize>
+    requires { W.has_failed w.old ≡ false }
+    ensures written { OnOk result (Appends (W.contents w.old) (W.contents w.new) bytes.now) }
+    ensures beginning { IfErr result (λ n. (n ≤ length bytes.now) × Appends (W.contents w.old) (W.contents w.new) (take n bytes.now)) }
+    ensures failed { W.has_failed w.new ≡ is_err result }
+{
+    let mut from = 0;
+    while from < bytes.len() {
+        match w.put(&bytes[from..]) {
+            Ok(n) => from += n,
+            Err(_) => return Err(from),
+        }
+    }
+    Ok(())
+}
