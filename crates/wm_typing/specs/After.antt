@@ -19,7 +19,7 @@ use Rattle.wm_typing.specs.Bodies.{Body, Within}
 abbrev pub HasBodyOps : Instructions → List Op → Type 0
 HasBodyOps s ops = (inner : List Op) × HasOps s inner × (ops ≡ inner ++ op.End ∷ [])
 
--- the ops are those of a body that has its type (3.4.1), and of no other body
+-- the ops are those of a body that has its type (section 3.4.1), and of no other body
 pub record IsTypedBody (c : Context) (ops : List Op) : Type 0 where
   pub body : Instructions
   pub flat : HasBodyOps body ops

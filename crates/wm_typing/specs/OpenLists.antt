@@ -29,7 +29,7 @@ pub data Place : Type 0 where
   within : ℕ → List ℕ → List Head → List Work → Place
   complete : Option ValType → Instructions → Place
 
--- the type of the label that an open list has (3.3.5)
+-- the type of the label that an open list has (section 3.3.5)
 abbrev pub label_type : Head → Option ValType
 label_type (head Loop t) = None
 label_type (head Func t) = t
