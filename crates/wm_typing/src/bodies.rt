@@ -31,11 +31,14 @@ pub fn check_body(
     requires ty { type_index < length context.now.types }
     requires bounded { length ops.now < 2 ^ 62 }
     ensures typed { MatchResult result
-        (λ _. (length (expanded runs.now) < 2 ^ 32) × IsTypedBody (body_context context.now type_index (expanded runs.now)) ops.now)
-        (λ why. (why ≡ Why.Memory) ⊎ (2 ^ 32 ≤ length (expanded runs.now)) ⊎ (IsTypedBody (body_context context.now type_index (expanded runs.now)) ops.now → ⊥)) }
+        (λ _. (length (expanded runs.now) < 2 ^ 32)
+        × IsTypedBody (body_context context.now type_index (expanded runs.now)) ops.now)
+        (λ why. (why ≡ Why.Memory) ⊎ (2 ^ 32 ≤ length (expanded runs.now))
+        ⊎ (IsTypedBody (body_context context.now type_index (expanded runs.now)) ops.now → ⊥)) }
     ensures moves { IfOk result (λ stats. stats.moves ≤ 4 * length ops.now + 2) }
     ensures operands { IfOk result (λ stats. stats.operands ≤ length ops.now + 1) }
-    ensures controls { IfOk result (λ stats. (body : Instructions) → HasBodyOps body ops.now → stats.controls ≡ nesting body + 1) }
+    ensures controls { IfOk result
+        (λ stats. (body : Instructions) → HasBodyOps body ops.now → stats.controls ≡ nesting body + 1) }
     ensures twice { IfOk result Twice }
     ensures probes { IfOk result (λ stats. stats.probes ≤ 32) }
 {
@@ -47,8 +50,10 @@ pub fn check_body(
 }
 
 fn declare_all(checker: &mut BodyChecker, runs: &[(u32, ValType)]) -> Result<(), Why>
-    ensures after { (c : ModuleContext) (x : ℕ) → After c x [] [] checker.old → OnOk result (After c x (expanded runs.now) [] checker.new) }
-    ensures few { (c : ModuleContext) (x : ℕ) → After c x [] [] checker.old → OnOk result (length (expanded runs.now) < 2 ^ 32) }
+    ensures after { (c : ModuleContext) (x : ℕ) → After c x [] [] checker.old
+        → OnOk result (After c x (expanded runs.now) [] checker.new) }
+    ensures few { (c : ModuleContext) (x : ℕ) → After c x [] [] checker.old
+        → OnOk result (length (expanded runs.now) < 2 ^ 32) }
     ensures too_many { (c : ModuleContext) (x : ℕ) → After c x [] [] checker.old
         → IfErr result (λ why. (why ≡ Why.Memory) ⊎ (2 ^ 32 ≤ length (expanded runs.now))) }
 {
@@ -63,8 +68,10 @@ fn step_all(checker: &mut BodyChecker, context: &Context<'_>, ops: &[Op]) -> Res
     requires begun { After context.now checker.old.signature checker.old.declared [] checker.old }
     requires few { length checker.old.declared < 2 ^ 32 }
     requires bounded { length ops.now < 2 ^ 62 }
-    ensures typed { MatchResult result (λ _. IsTypedBody (body_context context.now checker.old.signature checker.old.declared) ops.now)
-        (λ why. (why ≡ Why.Memory) ⊎ (IsTypedBody (body_context context.now checker.old.signature checker.old.declared) ops.now → ⊥)) }
+    ensures typed { MatchResult result
+        (λ _. IsTypedBody (body_context context.now checker.old.signature checker.old.declared) ops.now)
+        (λ why. (why ≡ Why.Memory)
+        ⊎ (IsTypedBody (body_context context.now checker.old.signature checker.old.declared) ops.now → ⊥)) }
     ensures after { OnOk result (After context.now checker.old.signature checker.old.declared ops.now checker.new) }
 {
     for (i, op) in ops.iter().enumerate() {

@@ -132,7 +132,8 @@ impl BodyChecker {
     /// refusal is the answer to every later call until `begin`.
     pub fn locals(&mut self, count: u32, ty: ValType) -> Result<(), Why>
         ensures declared { (c : ModuleContext) (x : ℕ) (locals : List AType) → After c x locals [] self.old
-            → MatchResult result (λ _. length locals + count < 2 ^ 32) (λ why. (why ≡ Why.Memory) ⊎ (2 ^ 32 ≤ length locals + count)) }
+            → MatchResult result (λ _. length locals + count < 2 ^ 32)
+            (λ why. (why ≡ Why.Memory) ⊎ (2 ^ 32 ≤ length locals + count)) }
         ensures after { (c : ModuleContext) (x : ℕ) (locals : List AType) → After c x locals [] self.old
             → OnOk result (After c x (locals ++ replicate count ty) [] self.new) }
         ensures stats { self.old.refused ≡ None → self.new.stats ≡ counted_so self.new.state.stacks 0 self.old.stats }
@@ -150,8 +151,10 @@ impl BodyChecker {
     fn declare(&mut self, count: u32, ty: ValType) -> Result<(), Why>
         requires { self.old.refused ≡ None }
         ensures exact { MatchResult result (λ _. declared_more count ty self.old ≡ Ok self.new)
-            (λ why. ((why ≡ Why.Memory) ⊎ (declared_more count ty self.old ≡ Err why)) × (self.new ≡ refused_with why 0 self.old.state self.old)) }
-        ensures too_many { MatchResult result (λ _. length self.old.declared + count < 2 ^ 32) (λ why. (why ≡ Why.Memory) ⊎ (2 ^ 32 ≤ length self.old.declared + count)) }
+            (λ why. ((why ≡ Why.Memory) ⊎ (declared_more count ty self.old ≡ Err why))
+            × (self.new ≡ refused_with why 0 self.old.state self.old)) }
+        ensures too_many { MatchResult result (λ _. length self.old.declared + count < 2 ^ 32)
+            (λ why. (why ≡ Why.Memory) ⊎ (2 ^ 32 ≤ length self.old.declared + count)) }
     {
         let answer = self.function.declared.add(count, ty);
         self.stats = counted(self.stats, &self.stacks, 0);
@@ -173,16 +176,19 @@ impl BodyChecker {
 
         // It has ended exactly where the ops are a body that has its type.
         ensures ended { (x : ℕ) (locals : List AType) (ops : List AnOp) → After context.now x locals ops self.old
-            → MatchResult result (λ progress. (progress ≡ Progress.Ended) ↔ IsTypedBody (body_context context.now x locals) (ops ++ op ∷ []))
+            → MatchResult result
+            (λ progress. (progress ≡ Progress.Ended) ↔ IsTypedBody (body_context context.now x locals) (ops ++ op ∷ []))
             (λ why. (why ≡ Why.Memory) ⊎ (IsTypedBody (body_context context.now x locals) (ops ++ op ∷ []) → ⊥)) }
 
         // Inside of it each frame denotes just what its instructions can give.
         ensures denotes { (x : ℕ) (locals : List AType) (ops : List AnOp) → After context.now x locals ops self.old
-            → result ≡ Ok Progress.Inside → FramesDenote (body_context context.now x locals) (ops ++ op ∷ []) self.new.state.table self.new.state.stacks }
+            → result ≡ Ok Progress.Inside
+            → FramesDenote (body_context context.now x locals) (ops ++ op ∷ []) self.new.state.table self.new.state.stacks }
         ensures after { (x : ℕ) (locals : List AType) (ops : List AnOp) → After context.now x locals ops self.old
             → OnOk result (After context.now x locals (ops ++ op ∷ []) self.new) }
         ensures within { (x : ℕ) (locals : List AType) (ops : List AnOp) → After context.now x locals ops self.old
             → Within (length ops + 1) self.new }
+
         // At the end all that was pushed is gone again.
         ensures twice { (x : ℕ) (locals : List AType) (ops : List AnOp) → After context.now x locals ops self.old
             → result ≡ Ok Progress.Ended → self.new.stats.moves < 2 ^ 64 - 1 → Twice self.new.stats }
@@ -194,7 +200,8 @@ impl BodyChecker {
         ensures nested { (x : ℕ) (locals : List AType) (ops : List AnOp) → After context.now x locals ops self.old
             → OnOk result (length self.new.state.stacks.frames + endings (ops ++ op ∷ []) ≡ openings (ops ++ op ∷ []) + 1) }
         ensures controls { (x : ℕ) (locals : List AType) (ops : List AnOp) → After context.now x locals ops self.old
-            → OnOk result ((body : Instructions) → HasBodyOps body (ops ++ op ∷ []) → self.new.stats.controls ≡ nesting body + 1) }
+            → OnOk result ((body : Instructions) → HasBodyOps body (ops ++ op ∷ [])
+            → self.new.stats.controls ≡ nesting body + 1) }
         ensures progress { IfOk result (λ progress. (progress ≡ Progress.Ended) ↔ (self.new.state.stacks.frames ≡ [])) }
 
         // `Memory` is answered only past 64 operands or 32 frames.
@@ -203,7 +210,8 @@ impl BodyChecker {
             → self.new.stats ≡ counted_so self.new.state.stacks (probes_in context.now self.old op) self.old.stats }
         ensures err { IfErr result (λ why. self.new.refused ≡ Some why) }
         ensures sticky { IfSome self.old.refused (λ why. (result ≡ Err why) × (self.new ≡ self.old)) }
-        ensures exact { MatchResult result (λ progress. (stepped context.now op self.old ≡ Ok self.new) × (progress ≡ progress_at self.new.state.stacks.frames))
+        ensures exact { MatchResult result
+            (λ progress. (stepped context.now op self.old ≡ Ok self.new) × (progress ≡ progress_at self.new.state.stacks.frames))
             (λ why. (why ≡ Why.Memory) ⊎ (stepped context.now op self.old ≡ Err why)) }
     {
         if let Some(why) = self.refused {
@@ -218,7 +226,8 @@ impl BodyChecker {
         requires open { 0 < length self.old.state.stacks.frames }
         requires bounded { height_sum self.old.state.stacks < 2 ^ 63 }
         ensures exact { MatchResult result (λ p. stepped context.now op self.old ≡ Ok self.new)
-            (λ why. ((why ≡ Why.Memory) ⊎ (stepped context.now op self.old ≡ Err why)) × (self.new ≡ refused_with why (probes_in context.now self.old op) self.new.state self.old)) }
+            (λ why. ((why ≡ Why.Memory) ⊎ (stepped context.now op self.old ≡ Err why))
+            × (self.new ≡ refused_with why (probes_in context.now self.old op) self.new.state self.old)) }
         ensures progress { IfOk result (λ p. p ≡ progress_at self.new.state.stacks.frames) }
         ensures room { Room self.old.state.stacks result }
         ensures weight { weight self.new.state.stacks ≤ weight self.old.state.stacks + 4 }

@@ -105,7 +105,8 @@ fn reaches_memory(context: &Context<'_>, align: u32, width: u32) -> Result<(), W
 fn load_from(stacks: &mut Stacks, context: &Context<'_>, op: LoadOp, align: u32) -> Result<(), Why>
     requires open { 0 < length stacks.old.frames }
     requires bounded { height_sum stacks.old < 2 ^ 63 }
-    ensures does { Does (λ _. stacks.new) (drive (access context.now align (load op).width (fixed_shape (I32 ∷ []) ((load op).ty ∷ []))) stacks.old) result }
+    ensures does { Does (λ _. stacks.new)
+        (drive (access context.now align (load op).width (fixed_shape (I32 ∷ []) ((load op).ty ∷ []))) stacks.old) result }
     ensures room { Room stacks.old result }
     ensures weight { weight stacks.new ≤ weight stacks.old + 3 }
     ensures height { height_sum stacks.new ≤ height_sum stacks.old + 1 }
@@ -118,7 +119,8 @@ fn load_from(stacks: &mut Stacks, context: &Context<'_>, op: LoadOp, align: u32)
 fn store_to(stacks: &mut Stacks, context: &Context<'_>, op: StoreOp, align: u32) -> Result<(), Why>
     requires open { 0 < length stacks.old.frames }
     requires bounded { height_sum stacks.old < 2 ^ 63 }
-    ensures does { Does (λ _. stacks.new) (drive (access context.now align (store op).width (fixed_shape (I32 ∷ (store op).ty ∷ []) [])) stacks.old) result }
+    ensures does { Does (λ _. stacks.new)
+        (drive (access context.now align (store op).width (fixed_shape (I32 ∷ (store op).ty ∷ []) [])) stacks.old) result }
     ensures room { Room stacks.old result }
     ensures weight { weight stacks.new ≤ weight stacks.old + 3 }
     ensures height { height_sum stacks.new ≤ height_sum stacks.old + 1 }
@@ -198,9 +200,12 @@ pub(crate) fn simple(
 ) -> Result<(), Why>
     requires open { 0 < length stacks.old.frames }
     requires bounded { height_sum stacks.old < 2 ^ 63 }
-    ensures does { Does (λ _. stacks.new) (drive (shape_of (within_frames (in_function context.now function.now.signature function.now.result function.now.declared) stacks.old.frames) op) stacks.old) result }
+    ensures does { Does (λ _. stacks.new)
+        (drive (shape_of (within_frames (in_function context.now function.now.signature function.now.result function.now.declared)
+        stacks.old.frames) op) stacks.old) result }
     ensures room { Room stacks.old result }
-    ensures probes { probes.new ≡ max probes.old (simple_probes (params_of context.now function.now.signature) function.now.declared op) }
+    ensures probes { probes.new
+        ≡ max probes.old (simple_probes (params_of context.now function.now.signature) function.now.declared op) }
     ensures weight { weight stacks.new ≤ weight stacks.old + 4 }
     ensures height { height_sum stacks.new ≤ height_sum stacks.old + 1 }
 {

@@ -59,7 +59,8 @@ pub(crate) fn read_label(
 ) -> Result<Option<Table>, Why>
     requires open { 0 < length stacks.old.frames }
     requires bounded { height_sum stacks.old < 2 ^ 63 }
-    ensures does { Does (λ t. record { stacks = stacks.new; table = t }) (drive_label (slice_get (labels_of stacks.old.frames) depth) table stacks.old) result }
+    ensures does { Does (λ t. record { stacks = stacks.new; table = t })
+        (drive_label (slice_get (labels_of stacks.old.frames) depth) table stacks.old) result }
     ensures room { Room stacks.old result }
     ensures weight { weight stacks.new ≤ weight stacks.old + 1 }
     ensures height { height_sum stacks.new ≤ height_sum stacks.old + 0 }

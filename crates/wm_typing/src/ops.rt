@@ -30,9 +30,11 @@ pub(crate) fn take_op(
     requires open { 0 < length stacks.old.frames }
     requires bounded { height_sum stacks.old < 2 ^ 63 }
     ensures does { Does (λ _. record { stacks = stacks.new; table = table.new })
-        (step_exactly (in_function context.now function.now.signature function.now.result function.now.declared) (record { stacks = stacks.old; table = table.old }) op) result }
+        (step_exactly (in_function context.now function.now.signature function.now.result function.now.declared)
+        (record { stacks = stacks.old; table = table.old }) op) result }
     ensures room { Room stacks.old result }
-    ensures probes { probes.new ≡ max probes.old (op_probes (params_of context.now function.now.signature) function.now.declared table.old op) }
+    ensures probes { probes.new
+        ≡ max probes.old (op_probes (params_of context.now function.now.signature) function.now.declared table.old op) }
     ensures weight { weight stacks.new ≤ weight stacks.old + 4 }
     ensures height { height_sum stacks.new ≤ height_sum stacks.old + 1 }
 {
