@@ -1,0 +1,7 @@
+-- More locals before the first op: the frames are the same.
+use Rattle.wm_typing.proofs.Said.{locals_said}
+use Rattle.wm_typing.proofs.body_checker.BodyChecker.locals.Goals as goal
+
+pub returns-clause-after : goal.returns-clause-after
+returns-clause-after c d x locals a =
+    locals_said d x c.args.count c.args.ty locals c.args.self.now c.declare.new.self _ c.declare.result a c.declare.ensures.exact

@@ -1,0 +1,77 @@
+-- What a body's check holds after the ops so far, and what its answers say of them.
+use Rattle.std.specs.Prelude.{ℕ, ◌+◌, ◌-◌, ◌*◌, ◌^◌, ◌<◌, ◌≤◌, ◌≡◌, ◌↔◌, List, [], ◌∷◌, ◌++◌, Option, Some, None, map, length, take, drop, reverse, option_to_list}
+use Rattle.wm_syntax.specs.declared.types.ValType.{ValType}
+use Rattle.wm_syntax.specs.declared.instructions.Op.{Op}
+use Rattle.wm_syntax.specs.declared.instructions.Op.TheVariants as op
+use Rattle.wm_syntax.specs.Instructions.{Instructions, HasOps}
+use Rattle.wm_stacks.specs.declared.entries.Entry.{Entry}
+use Rattle.wm_stacks.specs.declared.entries.Frame.{Frame}
+use Rattle.wm_stacks.specs.Stack.{Stack, Denotes}
+use Rattle.wm_typing.specs.declared.labels.Table.{Table}
+use Rattle.wm_typing.specs.Typing.{Context, Typed}
+use Rattle.wm_typing.specs.Contexts.{body_context, result_of}
+use Rattle.wm_typing.specs.OpenLists.{Work, work, Place, head_of, at, taken_by, CanType, IsOpen, IsSoFar, levels, deepest}
+use Rattle.wm_typing.specs.Nesting.{openings, endings}
+use Rattle.wm_typing.specs.Frames.{Frames, Holds, TracksWith}
+use Rattle.wm_typing.specs.Bodies.{Body, Within}
+
+-- the ops of a list of instructions, and the end of the body
+abbrev pub HasBodyOps : Instructions → List Op → Type 0
+HasBodyOps s ops = (inner : List Op) × HasOps s inner × (ops ≡ inner ++ op.End ∷ [])
+
+-- the ops are those of a body that has its type (section 3.4.1), and of no other body
+pub record IsTypedBody (c : Context) (ops : List Op) : Type 0 where
+  pub body : Instructions
+  pub flat : HasBodyOps body ops
+  pub only : (other : Instructions) → HasBodyOps other ops → other ≡ body
+  pub typed : Typed c body [] (option_to_list c.result)
+
+-- the ops so far have a typing in their open lists
+abbrev pub HaveTyping : Context → List Op → Type 0
+HaveTyping c ops = (p : Place) × IsSoFar c.result p ops × CanType c p
+
+-- Each open list of instructions, the innermost first, has from [] exactly the types that its frame denotes: the
+-- operands above its floor, once those that the instruction which opened the list inside it took are gone.
+abbrev pub DenoteEach : Context → List ValType → List Frame → List Entry → List Work → Type 0
+DenoteEach c taken [] entries [] = Unit {0}
+DenoteEach c taken (f ∷ fs) entries (work first s ∷ ws) =
+    ((types : List ValType)
+    → Typed (at c (map head_of (f ∷ fs))) s [] (types ++ taken)
+    ↔ Denotes f (reverse (take (length entries - f.floor) entries)) types)
+    × DenoteEach c (taken_by (head_of f)) fs (drop (length entries - f.floor) entries) ws
+DenoteEach c taken _ entries _ = ⊥
+
+-- the same of the ops so far, where they don't end within the labels of a br_table
+abbrev pub FramesDenote : Context → List Op → Option Table → Stack → Type 0
+FramesDenote c ops (Some t) s = Unit {0}
+FramesDenote c ops None s =
+    (ws : List Work) × IsOpen c.result (map head_of s.frames) ws ops × DenoteEach c [] s.frames s.operands ws
+
+-- what the stacks hold after these ops, in the context of a body
+pub record Keeps (c : Context) (ops : List Op) (t : Option Table) (s : Stack) : Type 0 where
+  pub frames : Frames
+  pub place : Place
+  pub so_far : IsSoFar c.result place ops
+  pub holds : Holds c place frames
+  pub goes : TracksWith t s frames
+
+-- what was pushed so far was removed again or still stands
+pub record Steady (b : Body) : Type 0 where
+  pub operands : length b.state.stacks.operands ≤ b.stats.moves
+  pub frames : length b.state.stacks.frames ≤ b.stats.moves
+  pub most_operands : 2 * b.stats.operands ≤ b.stats.moves + length b.state.stacks.operands
+  pub most_controls : 2 * b.stats.controls ≤ b.stats.moves + length b.state.stacks.frames
+
+-- What is held after `begin` in a context and with a type, the declared locals and the ops since then, where nothing
+-- was refused. The clauses of the calls say what follows from it: nothing in it has to be believed.
+pub record After (c : Context) (x : ℕ) (locals : List ValType) (ops : List Op) (b : Body) : Type 0 where
+  pub unrefused : b.refused ≡ None
+  pub signature : b.signature ≡ x
+  pub result : b.result ≡ result_of c x
+  pub declared : 0 < length b.state.stacks.frames → b.declared ≡ locals
+  pub emptied : b.state.stacks.frames ≡ [] → b.declared ≡ []
+  pub keeps : Keeps (body_context c x locals) ops b.state.table b.state.stacks
+  pub within : Within (length ops) b
+  pub nested : levels keeps.place + endings ops ≡ openings ops + 1
+  pub controls : b.stats.controls ≡ deepest keeps.place
+  pub steady : b.stats.moves < 2 ^ 64 - 1 → Steady b

@@ -1,0 +1,60 @@
+-- What is held of a body that is being typed, and what it counts.
+use Rattle.std.specs.Prelude.{ℕ, ◌+◌, ◌*◌, ◌≤◌, ◌≡◌, List, [], Option, None, length, max}
+use Rattle.wm_syntax.specs.declared.types.ValType.{ValType}
+use Rattle.wm_syntax.specs.declared.why.Why.{Why}
+use Rattle.wm_stacks.specs.Stack.{Stack, bare, height_sum}
+use Rattle.wm_stacks.specs.Runs.{run_count}
+use Rattle.wm_typing.specs.declared.stats.BodyStats.{BodyStats}
+use Rattle.wm_typing.specs.Exact.{State}
+
+-- the index of the function's type and its result, its declared locals, the stacks, the counts since the body began,
+-- and the refusal that ended it
+pub record Body : Type 0 where
+  pub signature : ℕ
+  pub result : Option ValType
+  pub declared : List ValType
+  pub state : State
+  pub stats : BodyStats
+  pub refused : Option Why
+
+-- the runs, operands and frames that are kept
+abbrev pub kept_of : Body → ℕ
+kept_of b = run_count b.declared + height_sum b.state.stacks
+
+-- The counts after a call that left these stacks, and whose find read so many runs: the moves are those of the stacks,
+-- the others the greatest so far.
+abbrev pub counted : Stack → ℕ → BodyStats → BodyStats
+counted s probes b = record {
+  moves = s.moves;
+  operands = max b.operands (length s.operands);
+  controls = max b.controls (length s.frames);
+  probes = max b.probes probes;
+}
+
+-- what n ops allow: so many entries and moves, and 32 runs read to find a local
+pub record Within (n : ℕ) (b : Body) : Type 0 where
+  pub heights : height_sum b.state.stacks ≤ n + 1
+  pub moves : b.state.stacks.moves + height_sum b.state.stacks ≤ 4 * n + 2
+  pub counts : b.stats.moves ≡ b.state.stacks.moves
+  pub operands : b.stats.operands ≤ n + 1
+  pub controls : b.stats.controls ≤ n + 1
+  pub probes : b.stats.probes ≤ 32
+
+-- what was pushed was removed again
+pub record Twice (s : BodyStats) : Type 0 where
+  pub operands : 2 * s.operands ≤ s.moves
+  pub controls : 2 * s.controls ≤ s.moves
+
+abbrev pub no_stats : BodyStats
+no_stats = record { moves = 0; operands = 0; controls = 0; probes = 0 }
+
+-- before the first body
+abbrev pub nothing : Body
+nothing = record {
+  signature = 0;
+  result = None;
+  declared = [];
+  state = record { stacks = bare; table = None };
+  stats = no_stats;
+  refused = None;
+}

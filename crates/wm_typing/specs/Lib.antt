@@ -1,0 +1,13 @@
+pub mod Typing
+pub mod Contexts
+pub mod OpenLists
+pub mod Entries
+pub mod Shapes
+pub mod Exact
+pub mod Frames
+pub mod Answers
+pub mod Nesting
+pub mod Bodies
+pub mod ExactBodies
+pub mod After
+pub mod Folds

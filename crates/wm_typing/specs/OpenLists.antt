@@ -1,0 +1,143 @@
+-- Bodies that are not complete: the lists of instructions that are open, the innermost first.
+use Rattle.std.specs.Prelude.{ℕ, ◌+◌, ◌≡◌, List, [], ◌∷◌, ◌++◌, Option, Some, None, map, max, length, slice_get, option_to_list}
+use Rattle.std.specs.List.{AllByRecursion}
+use Rattle.wm_syntax.specs.declared.types.ValType.{ValType}
+use Rattle.wm_syntax.specs.declared.types.ValType.TheVariants.{I32}
+use Rattle.wm_syntax.specs.declared.instructions.Op.{Op}
+use Rattle.wm_syntax.specs.declared.instructions.Op.TheVariants as op
+use Rattle.wm_syntax.specs.Instructions.{Instructions, none, HasOps}
+use Rattle.wm_stacks.specs.declared.entries.Kind.{Kind}
+use Rattle.wm_stacks.specs.declared.entries.Kind.TheVariants.{Func, Block, Loop, If, Else}
+use Rattle.wm_stacks.specs.declared.entries.Frame.{Frame}
+use Rattle.wm_typing.specs.Nesting.{nesting}
+use Rattle.wm_typing.specs.Typing.{Context, Typed}
+
+-- what an open list belongs to, with the result of that
+pub data Head : Type 0 where
+  head : Kind → Option ValType → Head
+
+abbrev pub head_of : Frame → Head
+head_of f = head f.kind f.result
+
+-- the complete first list, in the second list of an if; and the complete instructions of the open list so far
+pub data Work : Type 0 where
+  work : (first before : Instructions) → Work
+
+pub data Place : Type 0 where
+  open_at : List Head → List Work → Place
+  -- within the labels of a br_table: how many come before the default, and those that were seen
+  within : ℕ → List ℕ → List Head → List Work → Place
+  complete : Option ValType → Instructions → Place
+
+-- the type of the label that an open list has (section 3.3.5)
+abbrev pub label_type : Head → Option ValType
+label_type (head Loop t) = None
+label_type (head Func t) = t
+label_type (head Block t) = t
+label_type (head If t) = t
+label_type (head Else t) = t
+
+-- the context inside of open lists
+abbrev pub at : Context → List Head → Context
+at c hs = record c { labels = map label_type hs }
+
+-- what the instruction that opened a list took from the list around it
+abbrev pub taken_by : Head → List ValType
+taken_by (head Func t) = []
+taken_by (head Block t) = []
+taken_by (head Loop t) = []
+taken_by (head If t) = I32 ∷ []
+taken_by (head Else t) = I32 ∷ []
+
+-- in the second list of an if the first has its type
+abbrev pub FirstHolds : Context → Head → Instructions → Type 0
+FirstHolds c (head Func t) first = Unit {0}
+FirstHolds c (head Block t) first = Unit {0}
+FirstHolds c (head Loop t) first = Unit {0}
+FirstHolds c (head If t) first = Unit {0}
+FirstHolds c (head Else t) first = Typed c first [] (option_to_list t)
+
+abbrev pub WorkCan : Context → Head → List ValType → Work → Type 0
+WorkCan c h taken (work first before) =
+    FirstHolds c h first × ((types : List ValType) × Typed c before [] (types ++ taken))
+
+-- each open list has a typing, from which the instruction that opened the list inside it could take what it takes
+abbrev pub OpenCan : Context → List ValType → List Head → List Work → Type 0
+OpenCan c taken [] [] = Unit {0}
+OpenCan c taken (h ∷ hs) [] = ⊥
+OpenCan c taken [] (w ∷ ws) = ⊥
+OpenCan c taken (h ∷ hs) (w ∷ ws) = WorkCan (at c (h ∷ hs)) h taken w × OpenCan c (taken_by h) hs ws
+
+-- these labels exist, and have this type
+abbrev pub AllHave : List (Option ValType) → Option ValType → List ℕ → Type 0
+AllHave labels t seen = AllByRecursion (λ l. slice_get labels l ≡ Some t) seen
+
+-- the labels of a br_table so far exist, and have one type
+abbrev pub SeenCan : List Head → List ℕ → Type 0
+SeenCan hs seen = (t : Option ValType) × AllHave (map label_type hs) t seen
+
+-- what is open at a place has a typing
+abbrev pub CanType : Context → Place → Type 0
+CanType c (open_at hs ws) = OpenCan c [] hs ws
+CanType c (within n seen hs ws) = SeenCan hs seen × OpenCan c (I32 ∷ []) hs ws
+CanType c (complete r s) = Typed (at c (head Func r ∷ [])) s [] (option_to_list r)
+
+-- the ops that opened a list inside of another one, with those of the instructions in it so far
+abbrev pub IsWork : Head → Work → List Op → Type 0
+IsWork (head Func t) (work first s) ops = ⊥
+IsWork (head Block t) (work first s) ops =
+    (first ≡ none) × ((inner : List Op) × HasOps s inner × (ops ≡ op.Block t ∷ inner))
+IsWork (head Loop t) (work first s) ops =
+    (first ≡ none) × ((inner : List Op) × HasOps s inner × (ops ≡ op.Loop t ∷ inner))
+IsWork (head If t) (work first s) ops =
+    (first ≡ none) × ((inner : List Op) × HasOps s inner × (ops ≡ op.If t ∷ inner))
+IsWork (head Else t) (work first s) ops =
+    (then_ops : List Op) × (inner : List Op) × HasOps first then_ops × HasOps s inner
+    × (ops ≡ op.If t ∷ then_ops ++ op.Else ∷ inner)
+
+-- the body itself
+abbrev pub IsBodyWork : Option ValType → Head → Work → List Op → Type 0
+IsBodyWork r (head Func t) (work first s) ops = (t ≡ r) × (first ≡ none) × HasOps s ops
+IsBodyWork r (head Block t) w ops = ⊥
+IsBodyWork r (head Loop t) w ops = ⊥
+IsBodyWork r (head If t) w ops = ⊥
+IsBodyWork r (head Else t) w ops = ⊥
+
+-- the ops so far of open lists
+abbrev pub IsOpen : Option ValType → List Head → List Work → List Op → Type 0
+IsOpen r [] ws ops = ⊥
+IsOpen r (h ∷ hs) [] ops = ⊥
+IsOpen r (h ∷ []) (w ∷ []) ops = IsBodyWork r h w ops
+IsOpen r (h ∷ []) (w ∷ v ∷ ws) ops = ⊥
+IsOpen r (h ∷ g ∷ hs) (w ∷ ws) ops =
+    (outer : List Op) × (inner : List Op) × IsOpen r (g ∷ hs) ws outer × IsWork h w inner × (ops ≡ outer ++ inner)
+
+-- the ops so far of a body with this result
+abbrev pub IsSoFar : Option ValType → Place → List Op → Type 0
+IsSoFar r (open_at hs ws) ops = IsOpen r hs ws ops
+IsSoFar r (within n seen hs ws) ops =
+    (before : List Op) × IsOpen r hs ws before × (ops ≡ before ++ op.BrTable (length seen + n) ∷ map op.Label seen)
+IsSoFar r (complete t s) ops = (t ≡ r) × ((inner : List Op) × HasOps s inner × (ops ≡ inner ++ op.End ∷ []))
+
+-- how many lists are open, and how deep the instructions so far are nested: 1 for those that stand in the body itself
+abbrev pub levels : Place → ℕ
+levels (open_at hs ws) = length hs
+levels (within n seen hs ws) = length hs
+levels (complete r s) = 0
+
+abbrev pub work_nesting : Head → Work → ℕ
+work_nesting (head Func t) (work first s) = nesting s
+work_nesting (head Block t) (work first s) = nesting s
+work_nesting (head Loop t) (work first s) = nesting s
+work_nesting (head If t) (work first s) = nesting s
+work_nesting (head Else t) (work first s) = max (nesting first) (nesting s)
+
+abbrev pub deepest_open : List Head → List Work → ℕ
+deepest_open [] ws = 0
+deepest_open (h ∷ hs) [] = 0
+deepest_open (h ∷ hs) (w ∷ ws) = max (length (h ∷ hs) + work_nesting h w) (deepest_open hs ws)
+
+abbrev pub deepest : Place → ℕ
+deepest (open_at hs ws) = deepest_open hs ws
+deepest (within n seen hs ws) = deepest_open hs ws
+deepest (complete r s) = nesting s + 1

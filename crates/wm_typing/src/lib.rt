@@ -1,0 +1,16 @@
+//! The typing of function bodies (chapter 3 of the specification), checked in one pass.
+#![tactic(auto)]
+
+mod blocks;
+pub mod bodies;
+pub mod body_checker;
+pub mod context;
+mod function;
+mod instructions;
+pub mod labels;
+pub mod laws;
+mod operands;
+mod ops;
+pub mod stats;
+#[cfg(test)]
+mod tests;
