@@ -9,8 +9,8 @@ use crate::stats::BodyStats;
 use std::alloc::{AllocError, Global};
 use std::process::Abort;
 use std::test::Fail;
-use wm_syntax::instructions::{BinaryOp, Numeric, Op, Simple};
-use wm_syntax::types::{FuncType, ValType};
+use wm_syntax::instructions::{BinaryOp, LoadOp, MemArg, Numeric, Op, Simple};
+use wm_syntax::types::{FuncType, GlobalType, ValType};
 use wm_syntax::why::Why;
 
 const I32: ValType = ValType::I32;
@@ -22,6 +22,14 @@ const UNREACHABLE: Op = Op::Simple(Simple::Unreachable);
 const ADD: Op = Op::Simple(Simple::Numeric(Numeric::Binary(ValType::I32, BinaryOp::Add)));
 
 const SELECT: Op = Op::Simple(Simple::Select);
+
+const LOAD_AT_8: Op = Op::Simple(Simple::Load(
+    LoadOp::I32Load,
+    MemArg {
+        align: 3,
+        offset: 0,
+    },
+));
 
 const DROP: Op = Op::Simple(Simple::Drop);
 
@@ -61,7 +69,8 @@ fn function(
     Ok(FuncType { params, results })
 }
 
-// Checks a body, in a module whose function 0 takes three i32 and gives nothing.
+// Checks a body, in a module with a memory and a constant global, whose function 0 takes three i32 and
+// gives nothing.
 fn check(
     alloc: Global,
     params: &[ValType],
@@ -78,7 +87,11 @@ fn check(
         return Err(Why::Memory);
     };
     let types = [own, three];
-    let context = Context::new(&types, &[1], &[], false, false);
+    let globals = [GlobalType {
+        ty: I32,
+        var: false,
+    }];
+    let context = Context::new(&types, &[1], &globals, false, true);
     check_body(alloc, &context, 0, runs, ops)
 }
 
@@ -133,7 +146,7 @@ fn types_whole_bodies(rt: HostRuntime) {
 fn refuses_at_the_op_that_has_no_typing(rt: HostRuntime) {
     let alloc = rt.alloc();
     let one = Some(I32);
-    let cases: [(&[Op], Why); 8] = [
+    let cases: [(&[Op], Why); 14] = [
         (&[UNREACHABLE, long(0), ADD], Why::Mismatch),
         (
             &[UNREACHABLE, int(0), long(0), int(1), SELECT],
@@ -165,7 +178,14 @@ fn refuses_at_the_op_that_has_no_typing(rt: HostRuntime) {
             Why::Mismatch,
         ),
         (&[int(0), Op::If(one), int(0), Op::End], Why::Mismatch),
+        // What is named comes before the operands: indices, then what may not be set or aligned so.
         (&[get(0)], Why::Index),
+        (&[Op::Simple(Simple::Br(1))], Why::Index),
+        (&[Op::Simple(Simple::CallIndirect(0))], Why::Index),
+        (&[Op::Simple(Simple::GlobalSet(0))], Why::Immutable),
+        (&[LOAD_AT_8], Why::Align),
+        (&[int(0), Op::If(one), Op::End], Why::Mismatch),
+        (&[long(0), Op::End], Why::Mismatch),
     ];
     for (ops, why) in cases {
         assert!(rt; 0 < ops.len() && ops.len() < 10);
