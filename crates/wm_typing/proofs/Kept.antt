@@ -74,7 +74,11 @@ pub denoted : (c : Context) (ops : List Op) (t : Option Table) (s : Stack) → K
 denoted c ops t s a l = go t a.frames a.place a.so_far a.holds a.goes
   where
     go : (t : Option Table) (st : Frames) (p : Place) → IsSoFar c.result p ops → Holds c p st → TracksWith t s st → FramesDenote c ops t s
-    go (Some t) st p k h m = tt
+    go (Some t) ended p k h m = absurd m
+    go (Some t) (running hs fs) p k h m = absurd m
+    go (Some t) (in_table i seen hs fs) (open_at gs ws) k h m = absurd h
+    go (Some t) (in_table i seen hs fs) (within n before gs ws) k h m = (n, before, gs, ws, k)
+    go (Some t) (in_table i seen hs fs) (complete r b) k h m = absurd h
     go None ended p k h m = absurd (let z : length s.frames ≡ 0 = ap length m.0 in omega (arith, l, z))
     go None (in_table i seen hs fs) p k h m = absurd m
     go None (running hs fs) (open_at gs ws) k h m = (

@@ -360,6 +360,13 @@ place_of r (complete t s) ops o =
     ∙ adds s o.1.0 o.1.1 (head Func r) [] none none [] (op.End ∷ [])
     ∙ ap (λ z. Some (complete r z)) (join_none s) ∙ ap (λ z. Some (complete z s)) (sym o.0)
 
+-- ops so far are open in one way only
+pub one_place : (r : Option ValType) (p q : Place) (ops : List Op) → IsSoFar r p ops → IsSoFar r q ops → p ≡ q
+one_place r p q ops h k = same (sym (place_of r p ops h) ∙ place_of r q ops k)
+  where
+    same : {x y : Place} → Some x ≡ Some y → x ≡ y
+    same e = cc
+
 pub first_holds : (c : Context) → Holds c (from_body c.result) (start c)
 first_holds c = (refl, (fresh_meets (at c (head Func (c.result) ∷ [])) (head Func (c.result)) none tt, tt))
 

@@ -10,7 +10,7 @@ use Rattle.wm_stacks.specs.Stack.{Stack, Denotes}
 use Rattle.wm_typing.specs.declared.labels.Table.{Table}
 use Rattle.wm_typing.specs.Typing.{Context, Typed}
 use Rattle.wm_typing.specs.Contexts.{body_context, result_of}
-use Rattle.wm_typing.specs.OpenLists.{Work, work, Place, head_of, at, taken_by, CanType, IsOpen, IsSoFar, levels, deepest}
+use Rattle.wm_typing.specs.OpenLists.{Head, Work, work, Place, within, head_of, at, taken_by, CanType, IsOpen, IsSoFar, levels, deepest}
 use Rattle.wm_typing.specs.Nesting.{openings, endings}
 use Rattle.wm_typing.specs.Frames.{Frames, Holds, TracksWith}
 use Rattle.wm_typing.specs.Bodies.{Body, Within}
@@ -41,9 +41,11 @@ DenoteEach c taken (f ∷ fs) entries (work first s ∷ ws) =
     × DenoteEach c (taken_by (head_of f)) fs (drop (length entries - f.floor) entries) ws
 DenoteEach c taken _ entries _ = ⊥
 
--- the same of the ops so far, where they don't end within the labels of a br_table
+-- The same of the ops so far. Where a table of labels is held they end within the labels of a br_table, and nothing
+-- more is said.
 abbrev pub FramesDenote : Context → List Op → Option Table → Stack → Type 0
-FramesDenote c ops (Some t) s = Unit {0}
+FramesDenote c ops (Some t) s =
+    (n : ℕ) × (seen : List ℕ) × (hs : List Head) × (ws : List Work) × IsSoFar c.result (within n seen hs ws) ops
 FramesDenote c ops None s =
     (ws : List Work) × IsOpen c.result (map head_of s.frames) ws ops × DenoteEach c [] s.frames s.operands ws
 

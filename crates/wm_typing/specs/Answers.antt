@@ -22,7 +22,7 @@ abbrev pub NoMemory : {A : Type 0} → Result A Why → Type 0
 NoMemory (Ok a) = Unit {0}
 NoMemory (Err why) = why ≡ Memory → ⊥
 
--- memory is refused only where a stack is past what it keeps in itself
+-- memory is refused only where a stack has used up what it keeps in itself
 abbrev pub Room : {A : Type 0} → Stack → Result A Why → Type 0
 Room s (Ok a) = Unit {0}
 Room s (Err why) = why ≡ Memory → (64 ≤ length s.operands) ⊎ (32 ≤ length s.frames)

@@ -1,6 +1,6 @@
 -- What each call does to a body that is being typed, refusals included. These follow the code step by step, for the
--- layers above, whose answers are functions of what they were given. No promise rests on them alone: the words of a
--- call's other clauses are in After.
+-- layers above, whose answers are functions of what they were given. No promise rests on them alone but how many
+-- runs an op reads (`probes_in`), which is that of its `find`: the words of a call's other clauses are in After.
 use Rattle.std.specs.Prelude.{ℕ, ◌-◌, List, [], ◌∷◌, Option, Some, None, Result, Ok, Err, length, nat_lt, if◌then◌else◌}
 use Rattle.wm_syntax.specs.declared.types.ValType.{ValType}
 use Rattle.wm_syntax.specs.declared.why.Why.{Why}

@@ -138,6 +138,7 @@ impl BodyChecker {
             → OnOk result (After c x (locals ++ replicate count ty) [] self.new) }
         ensures stats { self.old.refused ≡ None → self.new.stats ≡ counted_so self.new.state.stacks 0 self.old.stats }
         ensures err { IfErr result (λ why. self.new.refused ≡ Some why) }
+        ensures left { self.old.refused ≡ None → IfErr result (λ why. self.new ≡ refused_with why 0 self.old.state self.old) }
         ensures sticky { IfSome self.old.refused (λ why. (result ≡ Err why) × (self.new ≡ self.old)) }
         ensures exact { MatchResult result (λ _. declared_more count ty self.old ≡ Ok self.new)
             (λ why. (why ≡ Why.Memory) ⊎ (declared_more count ty self.old ≡ Err why)) }
@@ -204,11 +205,13 @@ impl BodyChecker {
             → self.new.stats.controls ≡ nesting body + 1) }
         ensures progress { IfOk result (λ progress. (progress ≡ Progress.Ended) ↔ (self.new.state.stacks.frames ≡ [])) }
 
-        // `Memory` is answered only past 64 operands or 32 frames.
+        // `Memory` is answered only where 64 operands or 32 frames stand.
         ensures room { self.old.refused ≡ None → Room self.old.state.stacks result }
         ensures stats { self.old.refused ≡ None
             → self.new.stats ≡ counted_so self.new.state.stacks (probes_in context.now self.old op) self.old.stats }
         ensures err { IfErr result (λ why. self.new.refused ≡ Some why) }
+        ensures left { self.old.refused ≡ None
+            → IfErr result (λ why. self.new ≡ refused_with why (probes_in context.now self.old op) self.new.state self.old) }
         ensures sticky { IfSome self.old.refused (λ why. (result ≡ Err why) × (self.new ≡ self.old)) }
         ensures exact { MatchResult result
             (λ progress. (stepped context.now op self.old ≡ Ok self.new) × (progress ≡ progress_at self.new.state.stacks.frames))

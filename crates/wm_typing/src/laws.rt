@@ -1,6 +1,6 @@
 //! Laws of the definitions.
 
-ghost use Rattle.std.specs.Prelude.{◌≡◌, ◌+◌, ◌≤◌, ◌↔◌, ℕ, suc, List, [], ◌∷◌, ◌++◌, Ok, Err, length, replicate};
+ghost use Rattle.std.specs.Prelude.{◌≡◌, ◌+◌, ◌≤◌, ◌↔◌, ℕ, suc, List, [], ◌∷◌, ◌++◌, Ok, Err, Option, length, replicate};
 ghost use Rattle.std.specs.List.{AllByRecursion};
 ghost use Rattle.wm_syntax.specs.Instructions.{Instructions};
 ghost use Rattle.wm_syntax.specs.declared.instructions.Op.{Op};
@@ -14,7 +14,7 @@ ghost use Rattle.wm_typing.specs.Bodies.{Body};
 ghost use Rattle.wm_typing.specs.Contexts.{body_context};
 ghost use Rattle.wm_typing.specs.Folds.{all_stepped, started};
 ghost use Rattle.wm_typing.specs.Nesting.{endings, nesting, openings};
-ghost use Rattle.wm_typing.specs.OpenLists.{Head, IsOpen, IsSoFar, OpenCan, SeenCan, Work, within};
+ghost use Rattle.wm_typing.specs.OpenLists.{Head, IsOpen, IsSoFar, OpenCan, Place, SeenCan, Work, within};
 ghost use Rattle.wm_typing.specs.Typing.{Context};
 
 /// Ops in turn are taken exactly where they have a typing in their open lists, and what is held then is
@@ -58,4 +58,9 @@ pub fn labels_of_a_table()
 /// Locals of one type are at most one run of them more.
 pub fn one_run_more()
     ensures { (locals : List ValType) (count : ℕ) (t : ValType) → run_count (locals ++ replicate count t) ≤ run_count locals + 1 }
+{}
+
+/// Ops so far are open in one way only.
+pub fn one_place()
+    ensures { (r : Option ValType) (p q : Place) (ops : List Op) → IsSoFar r p ops → IsSoFar r q ops → p ≡ q }
 {}
