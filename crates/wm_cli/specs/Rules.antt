@@ -8,16 +8,16 @@ use Rattle.wm_decode.specs.Parts.{Part, result_count, Marks, parts_of}
 use Rattle.wm_decode.specs.Grammar.{Items}
 
 -- a function type has at most one result (section 3.2.2)
-abbrev pub HasOneResult : Part → Type 0
-HasOneResult (result_count n) = n ≤ 1
-HasOneResult _ = Unit {0}
+abbrev pub HasAtMostOneResult : Part → Type 0
+HasAtMostOneResult (result_count n) = n ≤ 1
+HasAtMostOneResult _ = Unit {0}
 
 -- An input that is accepted: within the limit, whole, and by the rules. Beside each byte stands what is complete at it.
 pub record Accepted (p : Profile) (limit : ℕ) (input : List ℕ) : Type 0 where
   pub marks : Marks
   pub items : Items p input marks
   pub within : length input ≤ limit
-  pub rules : AllByRecursion HasOneResult (parts_of marks)
+  pub rules : AllByRecursion HasAtMostOneResult (parts_of marks)
 
 -- the same rule as an answer
 abbrev pub at_most_one_result : Part → Result (Unit {0}) Why

@@ -61,7 +61,8 @@ fn command<'a>(alloc: Global) -> Result<Command<'a>, AllocError> {
         .arg(file)
 }
 
-/// Reads the words, of which the first is the program's name.
+/// Reads the words, of which the first is the program's name. Which words give which line, and which fault, is
+/// shown by tests; that the limit is in its range is a part of the type of `Line`.
 pub fn line<S: AsStr>(alloc: Global, words: &[S]) -> Result<Line, LineFault> {
     let command = command(alloc)?;
     let matches = match command.try_get_matches_from(words) {

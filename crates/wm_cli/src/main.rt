@@ -10,6 +10,7 @@ mod type_rules;
 mod validator;
 mod words;
 
+use clap::error::ErrorKind;
 use line::line;
 use run::run;
 use status::Status;
@@ -78,7 +79,7 @@ fn complain<R: Eprint>(rt: &R, status: u8) {
 fn main(rt: HostRuntime) -> ExitCode {
     let code = match read_words(&rt) {
         Ok(line) => follow(&rt, &line).code(),
-        Err(LineFault::Parser(error)) => {
+        Err(LineFault::Parser(error)) if error.kind() != ErrorKind::OutOfMemory => {
             let _ = error.print(&rt);
             return ExitCode::from(LineFault::Parser(error).code());
         }

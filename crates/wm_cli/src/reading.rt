@@ -1,6 +1,7 @@
 //! Judging what a source gives.
 
-ghost use Rattle.std.specs.Prelude.{◌≡◌, ◌≢◌, ◌≤◌, ◌^◌, ◌↔◌, ℕ, List, false, true};
+ghost use Rattle.std.specs.Prelude.{◌≡◌, ◌≢◌, ◌≤◌, ◌^◌, ◌↔◌, ℕ, List, Option, false, true};
+ghost use Rattle.std.specs.Io.KnownBytes.{IsAtEnd};
 ghost use Rattle.wm_cli.specs.Reading.{Judges, JudgesInput};
 ghost use Rattle.wm_cli.specs.Validating.{HasRead};
 ghost use Rattle.wm_syntax.specs.declared.profile.Profile.{Profile};
@@ -33,7 +34,7 @@ pub fn validate_from<R: Source>(
 ) -> Result<Summary, Fault>
     requires open { R.has_failed r.old ≡ false }
     requires limit { max_bytes ≤ 2 ^ 62 }
-    ensures judged { Judges profile max_bytes (R.remaining r.old) result }
+    ensures judged { Judges profile max_bytes (R.remaining r.old) (R.remaining r.new) result }
     ensures failed { (result ≡ Err Fault.Io) ↔ (R.has_failed r.new ≡ true) }
 {
     let mut validator = Validator::new(alloc, profile, max_bytes);
@@ -57,7 +58,8 @@ pub fn validate_from<R: Source>(
 
 /// The end of the input.
 fn finish(validator: Validator) -> Result<Summary, Fault>
-    ensures judged { (p : Profile) (limit : ℕ) (input : List ℕ) → HasRead validator p limit input → JudgesInput p limit input result }
+    ensures judged { (p : Profile) (limit : ℕ) (input : List ℕ) (left : Option (List ℕ)) → HasRead validator p limit input → IsAtEnd left
+        → JudgesInput p limit input left result }
     ensures refused { result ≢ Err Fault.Io }
 {
     match validator.finish() {

@@ -1,10 +1,9 @@
 //! What each action does.
 
-ghost use Rattle.std.specs.Prelude.{◌≡◌, ◌≢◌, ◌≤◌, ◌^◌, ◌↔◌, ◌⊎◌, ℕ, List, IfSome, false, true};
-ghost use Rattle.std.specs.Io.KnownBytes.{Keeps};
+ghost use Rattle.std.specs.Prelude.{◌≡◌, ◌≢◌, ◌≤◌, ◌^◌, ◌↔◌, ◌||◌, ℕ, List, IfSome, false, true};
 ghost use Rattle.wm_cli.specs.Answers.{IsAnswered};
 ghost use Rattle.wm_cli.specs.declared.status.Status.{Status};
-ghost use Rattle.wm_cli.specs.Outcome.{OutOfCheck, refusal_line};
+ghost use Rattle.wm_cli.specs.Outcome.{Answers, IsOutput, refusal_line};
 
 use crate::answer::answer;
 use crate::reading::{Fault, validate_from};
@@ -31,10 +30,12 @@ pub fn run<R: Source, W: Dest>(
     requires limit { limit ≤ 2 ^ 62 }
     // What is to be written for the input is written whole, or, where the writer failed, a beginning of it.
     ensures answered { R.has_failed r.new ≡ false → result ≢ Status.Memory → (text : List ℕ) × (status : Status)
-        × IfSome (R.remaining r.old) (λ input. OutOfCheck profile limit input text status)
+        × IsOutput text status
+        × IfSome (R.remaining r.old) (λ input. Answers profile limit input (R.remaining r.new) text status)
         × IsAnswered text status (W.contents w.old) (W.contents w.new) (W.has_failed w.new) result }
-    ensures reader { R.has_failed r.new ≡ true → (result ≡ Status.Io) × Keeps (W.contents w.old) (W.contents w.new) }
-    ensures memory { result ≡ Status.Memory → Keeps (W.contents w.old) (W.contents w.new) }
+    ensures reader { R.has_failed r.new ≡ true → (result ≡ Status.Io) × (w.new ≡ w.old) }
+    ensures memory { result ≡ Status.Memory → w.new ≡ w.old }
+    ensures io { (result ≡ Status.Io) ↔ ((R.has_failed r.new || W.has_failed w.new) ≡ true) }
 {
     let judged = match action {
         Action::Check => validate_from(alloc, profile, limit, r),
@@ -53,7 +54,8 @@ fn refuse<W: Dest>(alloc: Global, refusal: Refusal, w: &mut W) -> Status
     requires { W.has_failed w.old ≡ false }
     ensures answered { result ≢ Status.Memory → (refusal.why ≢ Why.Memory)
         × IsAnswered (refusal_line refusal.at refusal.why) Status.Refused (W.contents w.old) (W.contents w.new) (W.has_failed w.new) result }
-    ensures memory { result ≡ Status.Memory → Keeps (W.contents w.old) (W.contents w.new) }
+    ensures memory { result ≡ Status.Memory → w.new ≡ w.old }
+    ensures io { (result ≡ Status.Io) ↔ (W.has_failed w.new ≡ true) }
 {
     let why = match refusal.why {
         Why::Memory => return Status::Memory,

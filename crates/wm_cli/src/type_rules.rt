@@ -5,7 +5,7 @@ ghost use Rattle.wm_cli.specs.Rules.{at_most_one_result};
 use wm_decode::{Item, Sink};
 use wm_syntax::why::Why;
 
-/// Takes every item but a second result of a type.
+/// Takes every item but a count of more than one result.
 #[derive(Clone, Copy)]
 pub struct TypeRules;
 

@@ -3,6 +3,7 @@
 --
 -- Where all is demanded, sizes and names are as the format has them. Where it is not, they are left open: that is
 -- for fronts of an input that may still be refused for a size or a name that isn't complete.
+-- `Section`, `Custom` and `Customs` here are the flat twins of those in Sections, which speak of a module value.
 use Rattle.std.specs.Prelude.{ℕ, zero, suc, ◌+◌, ◌≤◌, ◌≡◌, ◌<◌, ◌^◌, List, [], ◌∷◌, ◌++◌, ◌⊎◌, Some, None}
 use Rattle.std.specs.List.{AllByRecursion}
 use Rattle.wm_syntax.specs.declared.instructions.Op.{Op}

@@ -32,7 +32,8 @@ pub data Part : Type 0 where
   segment : ℕ → Part
   data_byte : ℕ → Part
 
--- Where a byte lies: in a name that goes on after it; in a code entry, or as its last byte; anywhere else.
+-- Where a byte lies: anywhere else; in a name that goes on after it; in a code entry that goes on after it; as the last
+-- byte of a code entry.
 pub data Zone : Type 0 where
   outside : Zone
   name : Zone

@@ -10,7 +10,7 @@ pub enum Why {
     Magic,
     /// One of the next four bytes is not that of the version.
     Version,
-    /// A section's id is above 11.
+    /// A section's id is above 11, or is not read yet.
     SectionId,
     /// A section's id, a custom one's aside, is not above the last such id.
     SectionOrder,

@@ -60,3 +60,30 @@ fn codes(rt: HostRuntime) {
         assert_eq!(rt; fault.map(|f| f.code()), Some(code));
     }
 }
+
+#[test]
+fn help_and_fault_texts(rt: HostRuntime) -> Result<(), Fail> {
+    let help = "Validates WebAssembly 1.0 modules, floating point left out\n\n\
+        Usage: wmod [OPTIONS] <ACTION> [FILE]\n\n\
+        Arguments:\n  \
+        <ACTION>  check: say whether the input is a valid module\n  \
+        [FILE]    the file to read; standard input where there is none\n\n\
+        Options:\n      \
+        --limit <N>  the most bytes that the input may have (4294967295)\n  \
+        -h, --help       Print help\n";
+    let missing = "error: the following required arguments were not provided:\n  <ACTION>\n\n\
+        Usage: wmod <ACTION> [FILE]\n\n\
+        For more information, try '--help'.\n";
+    for (words, wanted) in [
+        (["wmod", "--help"].as_slice(), help),
+        (["wmod"].as_slice(), missing),
+    ] {
+        let Err(LineFault::Parser(error)) = line(rt.alloc(), words) else {
+            assert!(rt; false, "no fault of the parser");
+            return Ok(());
+        };
+        let text = format!(in rt.alloc(); "{error}")?;
+        assert_eq!(rt; text.as_str(), wanted);
+    }
+    Ok(())
+}

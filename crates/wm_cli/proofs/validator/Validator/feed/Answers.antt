@@ -9,3 +9,9 @@ returns-clause-refused c = on_err c.feed.result (λ r f why p limit before h. re
 
 pub returns-clause-place : goal.returns-clause-place
 returns-clause-place c = on_err c.feed.result (λ r f p limit before h. f (setting p limit) before h) c.feed.ensures.place
+
+pub returns-clause-same : goal.returns-clause-same
+returns-clause-same c = on_err c.feed.result (λ r f why p limit before more h. f why (setting p limit) before h more) c.feed.ensures.same
+
+pub returns-clause-header : goal.returns-clause-header
+returns-clause-header c = on_err c.feed.result (λ r f p limit before h few. f (setting p limit) before h few) c.feed.ensures.header

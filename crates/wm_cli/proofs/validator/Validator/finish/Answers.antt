@@ -9,3 +9,9 @@ returns-in-Err-clause-refused c = λ why p limit input h a. c.in-Err.ensures.ref
 
 pub returns-in-Err-clause-place : goal.returns-in-Err-clause-place
 returns-in-Err-clause-place c = λ p limit input h. c.in-Err.ensures.place (setting p limit) input h
+
+pub returns-in-Err-clause-same : goal.returns-in-Err-clause-same
+returns-in-Err-clause-same c = λ why p limit input h. c.in-Err.ensures.same why (setting p limit) input h
+
+pub returns-in-Err-clause-header : goal.returns-in-Err-clause-header
+returns-in-Err-clause-header c = λ p limit input h few. c.in-Err.ensures.header (setting p limit) input h few
