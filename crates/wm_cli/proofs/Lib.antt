@@ -1,4 +1,1 @@
-pub mod Judged
-pub mod RulesLemmas
 pub mod RunLemmas
-pub mod SourceLemmas

@@ -4,13 +4,13 @@ use Rattle.std.specs.Prelude.{decimal}
 use Rattle.wm_syntax.specs.declared.profile.Profile.{Profile}
 use Rattle.wm_syntax.specs.declared.why.Why.TheVariants.{Memory}
 use Rattle.wm_decode.specs.declared.refusal.Refusal.{Refusal}
-use Rattle.wm_cli.specs.declared.reading.Fault.TheVariants.{Refused}
+use Rattle.wm_rules.specs.declared.reading.Fault.TheVariants.{Refused}
 use Rattle.wm_cli.specs.declared.status.Status.TheVariants as status
-use Rattle.wm_cli.specs.Reading.{Judges}
+use Rattle.wm_rules.specs.Reading.{Judges}
 use Rattle.wm_cli.specs.Outcome.{Answers, OutOfCheck, refusal_line, valid_line}
-use Rattle.wm_cli.specs.Rules.{Accepted}
-use Rattle.wm_cli.specs.Validating.{NeverAccepted}
-use Rattle.wm_cli.specs.declared.validator.Summary.{Summary}
+use Rattle.wm_rules.specs.Validation.{Accepted}
+use Rattle.wm_rules.specs.Validating.{NeverAccepted}
+use Rattle.wm_rules.specs.declared.checker.Summary.{Summary}
 
 refused_out : (p : Profile) (limit : ℕ) (input : List ℕ) (r : Refusal) → r.why ≢ Memory → (Accepted p limit input → ⊥) → r.at ≤ length input
     → OutOfCheck p limit input (refusal_line r.at r.why) status.Refused

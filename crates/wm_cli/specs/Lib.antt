@@ -1,6 +1,4 @@
 pub mod Answers
 pub mod Codes
+pub mod Lines
 pub mod Outcome
-pub mod Reading
-pub mod Rules
-pub mod Validating

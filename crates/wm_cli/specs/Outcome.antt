@@ -7,7 +7,7 @@ use Rattle.wm_syntax.specs.Refusals.{name_of}
 use Rattle.wm_cli.specs.declared.status.Status.{Status}
 use Rattle.wm_cli.specs.declared.status.Status.TheVariants.{Done, Refused}
 use Rattle.std.specs.Io.KnownBytes.{IsAtEnd}
-use Rattle.wm_cli.specs.Rules.{Accepted}
+use Rattle.wm_rules.specs.Validation.{Accepted}
 
 -- the line of a valid input
 abbrev pub valid_line : List ℕ

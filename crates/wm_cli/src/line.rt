@@ -1,9 +1,13 @@
 //! The words of the command line.
 
-ghost use Rattle.std.specs.Prelude.{◌≤◌, ◌^◌, IfSome};
+ghost use Rattle.std.specs.Prelude.{ℕ, ◌≡◌, ◌≢◌, ◌≤◌, ◌^◌, ◌⊎◌, [], map, option_map, IfOk, IfErr, SomeIff, MatchOption};
+ghost use Rattle.std.specs.Str.Parse.{IsNumeral, digits_value};
+ghost use Rattle.clap.specs.Words.{app_of, fault_of, first_value, found_of};
+ghost use Rattle.wm_cli.specs.declared.words.LineFault.TheVariants.{Memory, Words};
+ghost use Rattle.wm_cli.specs.Lines.{IsFaultOf, IsLimit, Says, SaysNone, action_name, wmod, word_of};
 
 use crate::words::{Action, Line, LineFault};
-use clap::{Arg, ArgAction, Command};
+use clap::{Arg, ArgAction, ArgMatches, Command};
 use std::alloc::{AllocError, Global};
 use std::convert::AsStr;
 
@@ -13,27 +17,22 @@ const MOST_LIMIT: u64 = 4611686018427387904;
 
 /// A limit in decimal digits, at most 2^62.
 fn limit_of(text: &str) -> Option<u64>
-    ensures { IfSome result (λ n. n ≤ 2 ^ 62) }
+    ensures { SomeIff result (IsNumeral 10 text.now × (digits_value 10 text.now ≤ 2 ^ 62)) (digits_value 10 text.now) }
 {
-    if text.is_empty() {
+    // `parse` takes a sign
+    if text.starts_with('+') {
         return None;
     }
-    let mut limit: u64 = 0;
-    for byte in text.as_bytes() {
-        if !byte.is_ascii_digit() {
-            return None;
-        }
-        limit = limit.checked_mul(10)?.checked_add(u64::from(*byte - b'0'))?;
-    }
-    if limit > MOST_LIMIT {
-        None
-    } else {
-        Some(limit)
+    match text.parse::<u64>() {
+        Ok(limit) if limit <= MOST_LIMIT => Some(limit),
+        _ => None,
     }
 }
 
 /// The action of this name.
-fn action_of(text: &str) -> Option<Action> {
+fn action_of(text: &str) -> Option<Action>
+    ensures { MatchOption result ((a : Action) → text.now ≢ action_name a) (λ a. text.now ≡ action_name a) }
+{
     match text {
         "check" => Some(Action::Check),
         _ => None,
@@ -41,7 +40,9 @@ fn action_of(text: &str) -> Option<Action> {
 }
 
 /// The command as `clap` knows it.
-fn command<'a>(alloc: Global) -> Result<Command<'a>, AllocError> {
+fn command<'a>(alloc: Global) -> Result<Command<'a>, AllocError>
+    ensures { IfOk result (λ c. app_of c ≡ wmod) }
+{
     let action = Arg::new(alloc, "ACTION")
         .required(true)
         .action(ArgAction::Set)
@@ -61,20 +62,26 @@ fn command<'a>(alloc: Global) -> Result<Command<'a>, AllocError> {
         .arg(file)
 }
 
-/// Reads the words, of which the first is the program's name. Which words give which line, and which fault, is
-/// shown by tests; that the limit is in its range is a part of the type of `Line`.
-pub fn line<S: AsStr>(alloc: Global, words: &[S]) -> Result<Line, LineFault> {
-    let command = command(alloc)?;
-    let matches = match command.try_get_matches_from(words) {
-        Ok(matches) => matches,
-        Err(error) => return Err(LineFault::Parser(error)),
-    };
+/// The limit that this word says; without one, 2^32 - 1.
+fn limit_by(word: Option<&str>) -> Option<u64>
+    ensures { let said = option_map (λ s. s.now) word.entry in MatchOption result ((n : ℕ) → IsLimit said n → ⊥) (IsLimit said) }
+{
+    match word {
+        None => Some(DEFAULT_LIMIT),
+        Some(text) => limit_of(text),
+    }
+}
+
+/// What the words of the arguments say.
+fn read(alloc: Global, matches: &ArgMatches<'_>) -> Result<Line, LineFault>
+    ensures ok { IfOk result (Says (first_value (found_of matches.now))) }
+    ensures fault { IfErr result (λ e. ((e ≡ Words) × SaysNone (first_value (found_of matches.now))) ⊎ (e ≡ Memory)) }
+{
     let Some(action) = matches.get_str("ACTION").and_then(action_of) else {
         return Err(LineFault::Words);
     };
-    let limit = match matches.get_str("limit") {
-        None => DEFAULT_LIMIT,
-        Some(text) => limit_of(text).ok_or(LineFault::Words)?,
+    let Some(limit) = limit_by(matches.get_str("limit")) else {
+        return Err(LineFault::Words);
     };
     let file = match matches.get_str("FILE") {
         None => None,
@@ -85,6 +92,19 @@ pub fn line<S: AsStr>(alloc: Global, words: &[S]) -> Result<Line, LineFault> {
         limit,
         file,
     })
+}
+
+/// Reads the words, of which the first is the program's name.
+pub fn line<S: AsStr>(alloc: Global, words: &[S]) -> Result<Line, LineFault>
+    // The parser takes the words, and they say this line.
+    ensures ok { IfOk result (λ l. (fault_of wmod (map S.text words.now) ≡ []) × Says (word_of (map S.text words.now)) l) }
+    // The parser has a fault of this kind for them, or takes them and they say no line; or memory was refused.
+    ensures fault { IfErr result (IsFaultOf (map S.text words.now)) }
+{
+    match command(alloc)?.try_get_matches_from(words) {
+        Ok(matches) => read(alloc, &matches),
+        Err(error) => Err(LineFault::Parser(error)),
+    }
 }
 
 #[cfg(test)]

@@ -3,11 +3,8 @@
 
 mod answer;
 mod line;
-mod reading;
 mod run;
 mod status;
-mod type_rules;
-mod validator;
 mod words;
 
 use clap::error::ErrorKind;

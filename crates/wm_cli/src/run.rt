@@ -6,11 +6,11 @@ ghost use Rattle.wm_cli.specs.declared.status.Status.{Status};
 ghost use Rattle.wm_cli.specs.Outcome.{Answers, IsOutput, refusal_line};
 
 use crate::answer::answer;
-use crate::reading::{Fault, validate_from};
 use crate::status::Status;
 use crate::words::Action;
 use std::alloc::Global;
 use wm_decode::Refusal;
+use wm_rules::{Fault, validate_from};
 use wm_syntax::io::{Dest, Source};
 use wm_syntax::profile::Profile;
 use wm_syntax::why::Why;

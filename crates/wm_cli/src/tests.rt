@@ -140,7 +140,7 @@ fn type_sections(rt: HostRuntime) -> Result<(), Fail> {
         (&[0x01, 0x02, 0x01, 0x60], "refused at 12: SectionEnd\n"),
         (&[0x01, 0x01, 0x00, 0x01], "refused at 12: SectionOrder\n"),
         (&[0x0C], "refused at 9: SectionId\n"),
-        (&[0x02], "refused at 9: SectionId\n"),
+        (&[0x02], "refused at 9: Truncated\n"),
         (
             &[0x01, 0x05, 0x01, 0x60, 0x01, 0x7D, 0x00],
             "refused at 14: Float\n",
@@ -148,6 +148,100 @@ fn type_sections(rt: HostRuntime) -> Result<(), Fail> {
         (
             &[0x01, 0x05, 0x01, 0x60, 0x01, 0x70, 0x00],
             "refused at 14: BadByte\n",
+        ),
+    ];
+    for (rest, wanted) in rows {
+        expect(
+            &rt,
+            rt.alloc(),
+            module(rt.alloc(), rest)?.as_slice(),
+            LIMIT,
+            wanted,
+        );
+    }
+    Ok(())
+}
+
+/// Whole modules, and what the rules of validation refuse.
+#[test]
+fn other_sections(rt: HostRuntime) -> Result<(), Fail> {
+    let rows: [(&[u8], &str); 16] = [
+        // an imported function
+        (
+            &[
+                0x01, 0x04, 0x01, 0x60, 0x00, 0x00, 0x02, 0x07, 0x01, 0x01, 0x61, 0x01, 0x62, 0x00,
+                0x00,
+            ],
+            "valid\n",
+        ),
+        // the same of no type
+        (
+            &[0x02, 0x05, 0x01, 0x00, 0x00, 0x00, 0x00],
+            "refused at 15: Index\n",
+        ),
+        // a function of the type [] to []
+        (
+            &[
+                0x01, 0x04, 0x01, 0x60, 0x00, 0x00, 0x03, 0x02, 0x01, 0x00, 0x0A, 0x04, 0x01, 0x02,
+                0x00, 0x0B,
+            ],
+            "valid\n",
+        ),
+        // the same with drop
+        (
+            &[
+                0x01, 0x04, 0x01, 0x60, 0x00, 0x00, 0x03, 0x02, 0x01, 0x00, 0x0A, 0x05, 0x01, 0x03,
+                0x00, 0x1A, 0x0B,
+            ],
+            "refused at 24: Arity\n",
+        ),
+        // a memory
+        (&[0x05, 0x03, 0x01, 0x00, 0x01], "valid\n"),
+        // two memories
+        (
+            &[0x05, 0x05, 0x02, 0x00, 0x01, 0x00, 0x01],
+            "refused at 15: Second\n",
+        ),
+        // the start function
+        (&[0x08, 0x01, 0x00], "refused at 11: Index\n"),
+        // a data segment of no memory
+        (
+            &[0x0B, 0x07, 0x01, 0x00, 0x41, 0x00, 0x0B, 0x01, 0x61],
+            "refused at 12: Index\n",
+        ),
+        // a memory, exported twice under one name
+        (
+            &[
+                0x05, 0x03, 0x01, 0x00, 0x01, 0x07, 0x09, 0x02, 0x01, 0x61, 0x02, 0x00, 0x01, 0x61,
+                0x02, 0x00,
+            ],
+            "refused at 22: DuplicateExport\n",
+        ),
+        // a global of which the initialiser gives another type
+        (
+            &[0x06, 0x06, 0x01, 0x7F, 0x00, 0x42, 0x00, 0x0B],
+            "refused at 15: Type\n",
+        ),
+        // empty sections
+        (&[0x02, 0x01, 0x00], "valid\n"),
+        (&[0x03, 0x01, 0x00], "valid\n"),
+        (&[0x0A, 0x01, 0x00], "valid\n"),
+        (
+            &[
+                0x01, 0x01, 0x00, 0x02, 0x01, 0x00, 0x03, 0x01, 0x00, 0x04, 0x01, 0x00, 0x05, 0x01,
+                0x00, 0x06, 0x01, 0x00, 0x07, 0x01, 0x00, 0x09, 0x01, 0x00, 0x0A, 0x01, 0x00, 0x0B,
+                0x01, 0x00,
+            ],
+            "valid\n",
+        ),
+        // an entry for no function
+        (
+            &[0x0A, 0x04, 0x01, 0x02, 0x00, 0x0B],
+            "refused at 11: CodeCount\n",
+        ),
+        (
+            &[0x03, 0x01, 0x00, 0x02, 0x01, 0x00],
+            "refused at 12: SectionOrder\n",
         ),
     ];
     for (rest, wanted) in rows {

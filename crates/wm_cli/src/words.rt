@@ -56,6 +56,11 @@ impl LineFault {
 }
 
 impl From<AllocError> for LineFault {
+    ghost use Rattle.std.specs.Prelude.{◌≡◌};
+    ghost use Rattle.wm_cli.specs.declared.words.LineFault.TheVariants.{Memory};
+
+    ghost from_gives = { λ _ e. e ≡ Memory };
+
     fn from(_error: AllocError) -> Self {
         LineFault::Memory
     }

@@ -1,5 +1,5 @@
 -- What the calls of a decoder say of all that it was fed.
-use Rattle.std.proofs.Common.{◌≡◌, ◌≢◌, ℕ, suc, ◌+◌, ◌<◌, ◌≤◌, ◌^◌, List, [], ◌∷◌, ◌++◌, Option, Some, None, Result, Ok, Err, IsOk, IfOk, IfErr, OnOk, MatchResult, length, refl, sym, ◌∙◌, ap, subst, inl, inr, ◌⊎◌, arith, take, get_or}
+use Rattle.std.proofs.Common.{◌≡◌, ◌≢◌, ℕ, zero, suc, ◌+◌, ◌<◌, ◌≤◌, ◌^◌, List, [], ◌∷◌, ◌++◌, Option, Some, None, Result, Ok, Err, IsOk, IfOk, IfErr, OnOk, MatchResult, length, refl, sym, ◌∙◌, ap, subst, inl, inr, ◌⊎◌, arith, take, get_or}
 use Rattle.wm_syntax.specs.declared.why.Why.{Why}
 use Rattle.wm_syntax.specs.declared.why.Why.TheVariants as why
 use Rattle.wm_syntax.specs.Spelling.{AreBytes}
@@ -12,7 +12,8 @@ use Rattle.wm_decode.specs.Grammar.{Items}
 use Rattle.wm_decode.specs.Sinks.{and_then, all_taken}
 use Rattle.wm_decode.specs.Live.{Live, IsAt, IsRefused, settled, standing, decoded, begun, Fed, ended_at, ended, Finished}
 use Rattle.wm_decode.specs.Decoding.{Setting, Takes, RanOut, After, Refused, answer_of, Having, NeverFloat, EndsInFloat, held_in, has_refused}
-use Rattle.wm_decode.proofs.Theorem.{bytes-append, front_bytes, Used, reached, used_of, used_refused, settled_ok, settled_not, decoded_append, takes_of_ended, ended_of_takes, given_taken, marks_of, so_far, never}
+use Rattle.wm_decode.proofs.ByteLists.{bytes-append, front_bytes}
+use Rattle.wm_decode.proofs.Theorem.{Used, reached, used_of, used_refused, settled_ok, settled_not, decoded_append, takes_of_ended, ended_of_takes, given_taken, marks_of, so_far, never}
 use Rattle.wm_decode.proofs.Fronts.{is_front, name_kept}
 use Rattle.wm_decode.specs.Fronts.{SoFar}
 use Rattle.wm_decode.specs.Runs.{State, run, marks, begin}
@@ -27,6 +28,16 @@ length-append : (a b : List ℕ) → length (a ++ b) ≡ length a + length b
 length-append [] b = omega arith
 length-append (c ∷ a) b = let e : length (a ++ b) ≡ length a + length b = length-append a b in omega arith
 
+-- why an input is refused at its end
+abbrev AtEnd : Why → Type 0
+AtEnd w = (w ≡ why.Truncated) ⊎ (w ≡ why.CodeCount)
+
+not_memory : (w : Why) → AtEnd w → w ≡ why.Memory → ⊥
+not_memory w e m = elim e [ inl t ↦ cc | inr c ↦ cc ]
+
+not_float : (w : Why) → AtEnd w → w ≡ why.Float → ⊥
+not_float w e m = elim e [ inl t ↦ cc | inr c ↦ cc ]
+
 -- a list of numbers that fit eight bits
 pub are_bytes : (b : List ℕ) → ((i : ℕ) → get_or b i 0 < 2 ^ 8) → AreBytes b
 are_bytes [] h = tt
@@ -37,15 +48,15 @@ module _ {S H : Type 0} (held : S → H) (after : H → Part → Result H Why) (
   Starts = begun s.first
 
   abbrev Decoded : List ℕ → Result (Live H) Refusal
-  Decoded b = decoded after s.limit Starts b
+  Decoded b = decoded after s.profile s.limit Starts b
 
   -- what was read and what comes
-  joined : (b piece : List ℕ) (now : Result (Live H) Refusal) → now ≡ Decoded b → and_then now (λ l. decoded after s.limit l piece) ≡ Decoded (b ++ piece)
-  joined b piece now e = ap (λ y. and_then y (λ l. decoded after s.limit l piece)) e ∙ sym (decoded_append after s.limit b piece Starts)
+  joined : (b piece : List ℕ) (now : Result (Live H) Refusal) → now ≡ Decoded b → and_then now (λ l. decoded after s.profile s.limit l piece) ≡ Decoded (b ++ piece)
+  joined b piece now e = ap (λ y. and_then y (λ l. decoded after s.profile s.limit l piece)) e ∙ sym (decoded_append after s.profile s.limit b piece Starts)
 
   settled_same : (m : Machine) (name : List ℕ) (h : H) (at : ℕ) (l : Live H) → settled m name h at ≡ Ok l → (m ≡ l.machine) × (at ≡ l.at)
   settled_same m name h at l e =
-      let t = settled_ok after s.limit m name h at l e in
+      let t = settled_ok after s.profile s.limit m name h at l e in
       (ap (λ (y : Live H). y.machine) t, ap (λ (y : Live H). y.at) t)
 
   -- where it stands in the input
@@ -53,13 +64,13 @@ module _ {S H : Type 0} (held : S → H) (after : H → Part → Result H Why) (
   placed b d m e f =
       let t = settled_same d.machine d.name.items (held d.sink) d.at m e in
       let begins : IsAt Starts.machine Starts.at = refl in
-      let a : IsAt m.machine m.at = is_at after s.limit b Starts m f begins in
-      let r = reached after s.limit b Starts m f in
+      let a : IsAt m.machine m.at = is_at after s.profile s.limit b Starts m f begins in
+      let r = reached after s.profile s.limit b Starts m f in
       (subst (λ y. IsAt y d.at) (sym t.0) (subst (λ y. IsAt m.machine y) (sym t.1) a), omega (arith, r.at, t.1))
 
   module _ (old new : Decoder S) (piece b : List ℕ) where
     -- what a piece was answered, where nothing had been refused
-    live_stands : {U : Type 0} (result : Result U Refusal) (m : Live H) → standing held old ≡ Ok m → Decoded b ≡ Ok m → Fed (and_then (standing held old) (λ l. decoded after s.limit l piece)) result (standing held new)
+    live_stands : {U : Type 0} (result : Result U Refusal) (m : Live H) → standing held old ≡ Ok m → Decoded b ≡ Ok m → Fed (and_then (standing held old) (λ l. decoded after s.profile s.limit l piece)) result (standing held new)
         → IfErr result (λ r. r.at ≤ old.at + length piece) → (IsAt old.machine old.at → IfErr result (λ r. r.why ≡ why.Memory → 8 < r.at))
         → (standing held new ≡ Decoded (b ++ piece)) ⊎ RanOut (standing held new) (b ++ piece)
     live_stands (Ok u) m e f fed place memory = inl (sym fed.0 ∙ joined b piece (standing held old) (e ∙ sym f))
@@ -73,9 +84,9 @@ module _ {S H : Type 0} (held : S → H) (after : H → Part → Result H Why) (
     -- the same, where something had
     stuck_stands : (r : Refusal) → standing held old ≡ Err r → Decoded b ≡ Err r → new ≡ old → standing held new ≡ Decoded (b ++ piece)
     stuck_stands r e f same =
-        ap (standing held) same ∙ (e ∙ sym (sym (joined b piece (standing held old) (e ∙ sym f)) ∙ ap (λ y. and_then y (λ l. decoded after s.limit l piece)) e))
+        ap (standing held) same ∙ (e ∙ sym (sym (joined b piece (standing held old) (e ∙ sym f)) ∙ ap (λ y. and_then y (λ l. decoded after s.profile s.limit l piece)) e))
 
-    fed_stands : {U : Type 0} (result : Result U Refusal) (x : Result (Live H) Refusal) → Decoded b ≡ x → standing held old ≡ x → Fed (and_then (standing held old) (λ l. decoded after s.limit l piece)) result (standing held new)
+    fed_stands : {U : Type 0} (result : Result U Refusal) (x : Result (Live H) Refusal) → Decoded b ≡ x → standing held old ≡ x → Fed (and_then (standing held old) (λ l. decoded after s.profile s.limit l piece)) result (standing held new)
         → ((r : Refusal) → standing held old ≡ Err r → (result ≡ Err r) × (new ≡ old))
         → IfErr result (λ r. r.at ≤ old.at + length piece) → (IsAt old.machine old.at → IfErr result (λ r. r.why ≡ why.Memory → 8 < r.at))
         → (standing held new ≡ Decoded (b ++ piece)) ⊎ RanOut (standing held new) (b ++ piece)
@@ -85,12 +96,12 @@ module _ {S H : Type 0} (held : S → H) (after : H → Part → Result H Why) (
     still_out : RanOut (standing held old) b → new ≡ old → RanOut (standing held new) (b ++ piece)
     still_out o same = record { refusal = o.refusal; stands = ap (standing held) same ∙ o.stands; memory = o.memory; past_header = o.past_header; place = omega (arith, o.place, length-append b piece) }
 
-    pub fed_after : {U : Type 0} (result : Result U Refusal) → AreBytes piece → new.max_bytes ≡ old.max_bytes → new.profile ≡ old.profile → Fed (and_then (standing held old) (λ l. decoded after old.max_bytes l piece)) result (standing held new)
+    pub fed_after : {U : Type 0} (result : Result U Refusal) → AreBytes piece → new.max_bytes ≡ old.max_bytes → new.profile ≡ old.profile → Fed (and_then (standing held old) (λ l. decoded after old.profile old.max_bytes l piece)) result (standing held new)
         → ((r : Refusal) → standing held old ≡ Err r → (result ≡ Err r) × (new ≡ old))
         → IfErr result (λ r. r.at ≤ old.at + length piece) → (IsAt old.machine old.at → IfErr result (λ r. r.why ≡ why.Memory → 8 < r.at))
         → After held after old s b → After held after new s (b ++ piece)
     fed_after {U} result bytes limit profile fed sticky place memory a =
-        let fed' : Fed (and_then (standing held old) (λ l. decoded after s.limit l piece)) result (standing held new) = subst (λ n. Fed (and_then (standing held old) (λ l. decoded after n l piece)) result (standing held new)) a.limit fed in
+        let fed' : Fed (and_then (standing held old) (λ l. decoded after s.profile s.limit l piece)) result (standing held new) = subst (λ n. Fed (and_then (standing held old) (λ l. decoded after s.profile n l piece)) result (standing held new)) a.limit (subst (λ q. Fed (and_then (standing held old) (λ l. decoded after q old.max_bytes l piece)) result (standing held new)) a.profile fed) in
         record {
           profile = profile ∙ a.profile;
           limit = limit ∙ a.limit;
@@ -106,7 +117,7 @@ module _ {S H : Type 0} (held : S → H) (after : H → Part → Result H Why) (
   ok_not_out (Err r) b i o = cc
 
   settled_held : (m : Machine) (name : List ℕ) (h : H) (at : ℕ) (l : Live H) → settled m name h at ≡ Ok l → h ≡ l.held
-  settled_held m name h at l e = ap (λ (y : Live H). y.held) (settled_ok after s.limit m name h at l e)
+  settled_held m name h at l e = ap (λ (y : Live H). y.held) (settled_ok after s.profile s.limit m name h at l e)
 
   -- what a decoder that stands has come to
   pub live_after : (d : Decoder S) (b : List ℕ) → IsOk (standing held d) → After held after d s b → (m : Live H) × (Decoded b ≡ Ok m) × (standing held d ≡ Ok m)
@@ -124,17 +135,17 @@ module _ {S H : Type 0} (held : S → H) (after : H → Part → Result H Why) (
   pub after_so_far : (d : Decoder S) (b : List ℕ) → IsOk (standing held d) → After held after d s b → SoFar held after d s b
   after_so_far d b i a =
       let l = live_after d b i a in
-      let r = reached after s.limit b Starts l.0 l.1 in
-      let same = settled_ok after s.limit d.machine d.name.items (held d.sink) d.at l.0 l.2 in
-      let machine : l.0.machine ≡ (run begin b).machine = ap (λ (y : State). y.machine) r.state in
-      let name : d.name.items ≡ (run begin b).name = ap (λ (y : Live H). y.name) same ∙ ap (λ (y : State). y.name) r.state in
+      let r = reached after s.profile s.limit b Starts l.0 l.1 in
+      let same = settled_ok after s.profile s.limit d.machine d.name.items (held d.sink) d.at l.0 l.2 in
+      let machine : l.0.machine ≡ (run s.profile begin b).machine = ap (λ (y : State). y.machine) r.state in
+      let name : d.name.items ≡ (run s.profile begin b).name = ap (λ (y : Live H). y.name) same ∙ ap (λ (y : State). y.name) r.state in
       record {
-        marks = marks begin b;
+        marks = marks s.profile begin b;
         front = is_front s.profile b a.are_bytes (subst (λ y. IsRefused y → ⊥) machine (r.live (λ i. i)));
         alone = refl;
         begins = λ more items k. marks_of after s b more items a.are_bytes k;
-        taken = sym (given_taken after (marks begin b) s.first) ∙ (r.held ∙ ap Ok (sym (ap (λ (y : Live H). y.held) same)));
-        name = ap length name ∙ name_kept b;
+        taken = sym (given_taken after (marks s.profile begin b) s.first) ∙ (r.held ∙ ap Ok (sym (ap (λ (y : Live H). y.held) same)));
+        name = ap length name ∙ name_kept s.profile b;
       }
 
   -- what a decoder that has refused has come to
@@ -144,8 +155,8 @@ module _ {S H : Type 0} (held : S → H) (after : H → Part → Result H Why) (
     | inr o ↦ absurd (ne (let t : Err o.refusal ≡ Err r = sym o.stands ∙ e in let u : o.refusal ≡ r = cc in sym (ap (λ (y : Refusal). y.why) u) ∙ o.memory))
   ]
 
-  used_part : (b : List ℕ) (r : Refusal) → Decoded b ≡ Err r → Used after s.limit Starts b r
-  used_part b r e = let low : 0 ≤ s.limit = omega arith in used_of after s.limit b Starts r low e
+  used_part : (b : List ℕ) (r : Refusal) → Decoded b ≡ Err r → Used after s.profile s.limit Starts b r
+  used_part b r e = let low : 0 ≤ s.limit = omega arith in used_of after s.profile s.limit b Starts r low e
 
   pub after_refused : (d : Decoder S) (b : List ℕ) (r : Refusal) → standing held d ≡ Err r → r.why ≢ why.Memory → After held after d s b → Refused after s b r
   after_refused d b r e ne a =
@@ -156,7 +167,7 @@ module _ {S H : Type 0} (held : S → H) (after : H → Part → Result H Why) (
         rest = u.rest;
         whole = u.bytes;
         at = u.at ∙ plain (length used);
-        never = λ more last. never after s used more last r (front_bytes used u.rest (subst AreBytes u.bytes a.are_bytes)) (used_refused after s.limit Starts b r u);
+        never = λ more last. never after s used more last r (front_bytes used u.rest (subst AreBytes u.bytes a.are_bytes)) (used_refused after s.profile s.limit Starts b r u);
       }
     where
       plain : (n : ℕ) → 0 + n ≡ n
@@ -164,7 +175,7 @@ module _ {S H : Type 0} (held : S → H) (after : H → Part → Result H Why) (
 
   pub after_answer : (d : Decoder S) (b more : List ℕ) (r : Refusal) → standing held d ≡ Err r → r.why ≢ why.Memory → After held after d s b → answer_of after s (b ++ more) ≡ Err r
   after_answer d b more r e ne a =
-      ap (λ y. and_then y ended) (decoded_append after s.limit b more Starts ∙ ap (λ y. and_then y (λ m. decoded after s.limit m more)) (refused_after d b r e ne a))
+      ap (λ y. and_then y ended) (decoded_append after s.profile s.limit b more Starts ∙ ap (λ y. and_then y (λ m. decoded after s.profile s.limit m more)) (refused_after d b r e ne a))
 
   pub after_place : (d : Decoder S) (b : List ℕ) (r : Refusal) → standing held d ≡ Err r → After held after d s b → r.at ≤ length b
   after_place d b r e a = elim a.stands [
@@ -182,14 +193,14 @@ module _ {S H : Type 0} (held : S → H) (after : H → Part → Result H Why) (
       elim a.stands [
         | inl f ↦
             let low : 0 ≤ s.limit = omega arith in
-            let late : 8 < r.at = late_memory after s.limit b Starts r low refl memory (sym f ∙ e) in
+            let late : 8 < r.at = late_memory after s.profile s.limit b Starts r low refl memory (sym f ∙ e) in
             omega (arith, place, late, few)
         | inr o ↦ let t : Err o.refusal ≡ Err r = sym o.stands ∙ e in let u : o.refusal ≡ r = cc in let v : o.refusal.at ≡ r.at = ap (λ (y : Refusal). y.at) u in omega (arith, o.past_header, v, place, few)
       ]
 
   pub after_float : (d : Decoder S) (b : List ℕ) (r : Refusal) → standing held d ≡ Err r → r.why ≡ why.Float → NeverFloat after → After held after d s b → EndsInFloat b r
   after_float d b r e float none a =
-      ends_in_float after s.limit none Starts b r refl (λ i. i) float (refused_after d b r e (λ m. not_both (sym float ∙ m)) a)
+      ends_in_float after s.profile s.limit none Starts b r refl (λ i. i) float (refused_after d b r e (λ m. not_both (sym float ∙ m)) a)
     where
       not_both : why.Float ≡ why.Memory → ⊥
       not_both e = cc
@@ -222,23 +233,21 @@ module _ {S H : Type 0} (held : S → H) (after : H → Part → Result H Why) (
         differ e = cc
 
     -- a decoder that ends in a refusal has refused already, or stands at the end of what it was fed
-    ended_why : (m : Machine) (h : H) (at : ℕ) (r : Refusal) → (IsRefused m → ⊥) → ended_at m h at ≡ Err r → record { at = at; why = why.Truncated } ≡ r
-    ended_why (machine.Between last) h at r i e = cc
+    ended_why : (m : Machine) (h : H) (at : ℕ) (r : Refusal) → (IsRefused m → ⊥) → ended_at m h at ≡ Err r → (at ≡ r.at) × AtEnd r.why
+    ended_why (machine.Between last zero) h at r i e = cc
+    ended_why (machine.Between last (suc n)) h at r i e = let s : record { at = at; why = why.CodeCount } ≡ r = cc in (ap (λ (y : Refusal). y.at) s, inr (sym (ap (λ (y : Refusal). y.why) s)))
     ended_why (machine.Refused w) h at r i e = absurd (i tt)
-    ended_why m h at r i e = cc
+    ended_why m h at r i e = let s : record { at = at; why = why.Truncated } ≡ r = cc in (ap (λ (y : Refusal). y.at) s, inl (sym (ap (λ (y : Refusal). y.why) s)))
 
     live_machine : (m : Live H) → standing held d ≡ Ok m → IsRefused m.machine → ⊥
-    live_machine m e i = settled_not after s.limit d.machine d.name.items (held d.sink) d.at m e (subst IsRefused (sym (settled_same d.machine d.name.items (held d.sink) d.at m e).0) i)
+    live_machine m e i = settled_not after s.profile s.limit d.machine d.name.items (held d.sink) d.at m e (subst IsRefused (sym (settled_same d.machine d.name.items (held d.sink) d.at m e).0) i)
 
-    pub finish_stuck : (r : Refusal) → and_then (standing held d) ended ≡ Err r → r.why ≢ why.Truncated → standing held d ≡ Err r
+    pub finish_stuck : (r : Refusal) → and_then (standing held d) ended ≡ Err r → (AtEnd r.why → ⊥) → standing held d ≡ Err r
     finish_stuck r e other = by_case (standing held d) refl e
       where
         by_case : (x : Result (Live H) Refusal) → standing held d ≡ x → and_then x ended ≡ Err r → standing held d ≡ Err r
         by_case (Err t) f g = f ∙ (let u : t ≡ r = cc in ap Err u)
-        by_case (Ok m) f g = absurd (other (sym (ap (λ (y : Refusal). y.why) (ended_why m.machine m.held m.at r (live_machine m f) g))))
-
-    not_memory : why.Truncated ≡ why.Memory → ⊥
-    not_memory e = cc
+        by_case (Ok m) f g = absurd (other (ended_why m.machine m.held m.at r (live_machine m f) g).1)
 
     pub finish_place : (r : Refusal) → and_then (standing held d) ended ≡ Err r → After held after d s b → (r.at ≤ length b) × (length b ≤ 8 → r.why ≢ why.Memory)
     finish_place r e a = by_case (standing held d) refl e
@@ -248,10 +257,9 @@ module _ {S H : Type 0} (held : S → H) (after : H → Part → Result H Why) (
         by_case (Ok m) f g =
             let l = live_after d b (subst (λ (y : Result (Live H) Refusal). IsOk y) (sym f) refl) a in
             let same : l.0.at ≡ m.at = (let t : Ok l.0 ≡ Ok m = sym l.2 ∙ f in let u : l.0 ≡ m = cc in ap (λ (y : Live H). y.at) u) in
-            let q = reached after s.limit b Starts l.0 l.1 in
+            let q = reached after s.profile s.limit b Starts l.0 l.1 in
             let p = ended_why m.machine m.held m.at r (live_machine m f) g in
-            let at : m.at ≡ r.at = ap (λ (y : Refusal). y.at) p in
-            (omega (arith, at, q.at, same), λ few e. not_memory (ap (λ (y : Refusal). y.why) p ∙ e))
+            (omega (arith, p.0, q.at, same), λ few e. not_memory r.why p.1 e)
 
 -- a refusal that was answered
 pub stands_refused : {A : Type 0} (now : Result A Refusal) (r : Refusal) → elim now as (λ _. Option Refusal) [ Ok l ↦ None | Err t ↦ Some t ] ≡ Some r → now ≡ Err r
@@ -330,7 +338,4 @@ module _ {S H : Type 0} (held : S → H) (after : H → Part → Result H Why) (
   pub finish_float : (result : Result S Refusal) → Finished (and_then (standing held d) ended) held result
       → IfErr result (λ r. r.why ≡ why.Float → NeverFloat after → Having held after d (λ s b. EndsInFloat b r))
   finish_float (Ok k) f = tt
-  finish_float (Err r) f = λ float none s b a. after_float held after s d b r (finish_stuck held after s d b r f (λ e. not_both (sym float ∙ e))) float none a
-    where
-      not_both : why.Float ≡ why.Truncated → ⊥
-      not_both e = cc
+  finish_float (Err r) f = λ float none s b a. after_float held after s d b r (finish_stuck held after s d b r f (λ e. not_float r.why e float)) float none a

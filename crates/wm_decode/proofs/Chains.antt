@@ -1,39 +1,58 @@
 -- Which section may come next.
-use Rattle.std.proofs.Common.{◌≡◌, ℕ, zero, suc, ◌+◌, ◌<◌, ◌≤◌, List, [], ◌∷◌, ◌++◌, None, refl, sym, ◌∙◌, ap, subst, inl, inr, ◌⊎◌, arith}
+use Rattle.std.proofs.Common.{◌≡◌, ℕ, zero, suc, ◌+◌, ◌<◌, ◌≤◌, List, [], ◌∷◌, ◌++◌, None, refl, sym, ◌∙◌, ap, subst, inl, inr, ◌⊎◌, arith, true, false, nat_lt}
+use Rattle.std.proofs.lemmas.Bool.{ltb-true, ltb-false}
 use Rattle.wm_syntax.specs.declared.profile.Profile.{Profile}
+use Rattle.wm_syntax.specs.Reading.{fresh}
 use Rattle.wm_decode.specs.Parts.{Marks}
 use Rattle.wm_decode.specs.Shapes.{Shape, Byte, Then, Times, Counted, Number, Name, Sized, Filled, nothing_at, said}
 use Rattle.wm_decode.specs.Grammar.{Contents, Section, Custom, Customs, MayMiss, Optional, Chain}
 use Rattle.wm_decode.proofs.Next.{Next, HasBytes, head_same, not_nil, same_refl, next_from, next_byte, byte_has, then_has, then_assoc, ends_first}
-use Rattle.wm_syntax.specs.Reading.{fresh}
 use Rattle.wm_decode.proofs.Numbers.{Left}
 use Rattle.wm_decode.proofs.Counts.{counted_fresh}
 use Rattle.wm_decode.proofs.Customs.{unnamed}
 
+-- what holds besides
+abbrev pub Where : Type 0 → Shape → Shape
+Where C P b k = C × P b k
+
+-- the sections of these ids may be left out
+abbrev pub Missing : (f low high : ℕ) → Type 0
+Missing f low high = (i : ℕ) → low ≤ i → i < high → MayMiss f i
+
+pub same_or_more : (a b : ℕ) → a ≤ b → (a ≡ b) ⊎ (a < b)
+same_or_more a b h = (elim (nat_lt a b) as (λ v. nat_lt a b ≡ v → (a ≡ b) ⊎ (a < b)) [
+  | true ↦ λ e. inr (ltb-true a b e)
+  | false ↦ λ e. inl (let g : b ≤ a = ltb-false a b e in omega (arith, g, h))
+]) refl
+
+missing_more : (f low high : ℕ) → MayMiss f low → Missing f (suc low) high → Missing f low high
+missing_more f low high m h i above below = elim (same_or_more low i above) [
+  | inl e ↦ subst (λ y. MayMiss f y) e m
+  | inr a ↦ h i (omega (arith, a)) below
+]
+
+missing_none : (f low high : ℕ) → high ≤ low → Missing f low high
+missing_none f low high none i above below = absurd (omega (arith, none, above, below))
+
 module _ (demanded : Type 0) (p : Profile) (f : ℕ) where
-  -- the contents of a section of so many bytes
-  abbrev pub InSize : (id n : ℕ) → Shape
-  InSize zero n = Filled demanded n (Name demanded unnamed)
-  InSize (suc i) n = Sized demanded n (Contents demanded p f (suc i))
-
-  -- a section, custom or not
-  abbrev pub AnySection : ℕ → Shape
-  AnySection id = Then (Byte id None) (Number nothing_at (InSize id))
-
   -- the size of a section other than a custom one, and its contents
   abbrev Sizes : ℕ → Shape
   Sizes id = Number nothing_at (λ n. Sized demanded n (Contents demanded p f id))
 
-  -- after the id of a section
+  -- after the id of a section, and after that of a custom one
   abbrev pub InSection : ℕ → Shape → Shape
-  InSection id Q = Counted (Left fresh) nothing_at (λ n. Then (InSize id n) Q)
+  InSection id Q = Counted (Left fresh) nothing_at (λ n. Then (Sized demanded n (Contents demanded p f id)) Q)
 
-  section_next : (id : ℕ) (Q : Shape) → Next demanded (Then (AnySection id) Q) id (said None) (InSection id Q)
-  section_next id Q =
-      let N : Shape = Number nothing_at (InSize id) in
-      next_from demanded (Then (Byte id None) (Then N Q)) (Then (AnySection id) Q) (InSection id Q) id (said None) (then_assoc demanded (Byte id None) N Q)
-      (ends_first demanded (Byte id None) (Then N Q) (InSection id Q) id (said None) (next_byte demanded id None) (byte_has demanded id None)
-      (counted_fresh demanded nothing_at (InSize id) Q (λ n. Then (InSize id n) Q) (λ n. same_refl demanded (Then (InSize id n) Q))))
+  abbrev pub InCustomSection : Shape → Shape
+  InCustomSection Q = Counted (Left fresh) nothing_at (λ n. Then (Filled demanded n (Name demanded unnamed)) Q)
+
+  section_next : (id : ℕ) (G : ℕ → Shape) (Q : Shape) → Next demanded (Then (Then (Byte id None) (Number nothing_at G)) Q) id (said None) (Counted (Left fresh) nothing_at (λ n. Then (G n) Q))
+  section_next id G Q =
+      let N : Shape = Number nothing_at G in
+      let R : Shape = Counted (Left fresh) nothing_at (λ n. Then (G n) Q) in
+      next_from demanded (Then (Byte id None) (Then N Q)) (Then (Then (Byte id None) N) Q) R id (said None) (then_assoc demanded (Byte id None) N Q)
+      (ends_first demanded (Byte id None) (Then N Q) R id (said None) (next_byte demanded id None) (byte_has demanded id None)
+      (counted_fresh demanded nothing_at G Q (λ n. Then (G n) Q) (λ n. same_refl demanded (Then (G n) Q))))
 
   -- what begins with a section begins with its id
   byte_front : (id c : ℕ) (b : List ℕ) (front back : List ℕ) (k : Marks) → c ∷ b ≡ front ++ back → Byte id None front k → c ≡ id
@@ -125,15 +144,20 @@ module _ (demanded : Type 0) (p : Profile) (f : ℕ) where
     ]
   ]
 
-  pub custom_next : (count id : ℕ) → Next demanded (Sections count (suc id)) 0 (said None) (InSection 0 (Sections count (suc id)))
-  custom_next count id = record {
-    to = λ s b k h. (section_next 0 (Sections count (suc id))).to s b k (custom_of count id b k h);
-    from = λ b k g. custom_more count (suc id) (0 ∷ b) k ((section_next 0 (Sections count (suc id))).from b k g);
-  }
+  abbrev Nameless : ℕ → Shape
+  Nameless n = Filled demanded n (Name demanded unnamed)
+
+  pub custom_next : (count id : ℕ) → Next demanded (Sections count (suc id)) 0 (said None) (InCustomSection (Sections count (suc id)))
+  custom_next count id =
+      let g = section_next 0 Nameless (Sections count (suc id)) in
+      record {
+        to = λ s b k h. g.to s b k (custom_of count id b k h);
+        from = λ b k h. custom_more count (suc id) (0 ∷ b) k (g.from b k h);
+      }
 
   -- no custom section begins with another id
   not_custom : (Q : Shape) (c : ℕ) (b : List ℕ) (k : Marks) → Then (Custom demanded) Q (suc c ∷ b) k → ⊥
-  not_custom Q c b k t = no_zero c (sym (first_front 0 (Number nothing_at (InSize 0)) Q (suc c) b k t))
+  not_custom Q c b k t = no_zero c (sym (first_front 0 (Number nothing_at Nameless) Q (suc c) b k t))
 
   -- which first bytes there may be
   first_id : (count id c : ℕ) (b : List ℕ) (k : Marks) → Sections count id (suc c ∷ b) k → (id ≤ suc c) × (suc c < id + count)
@@ -147,14 +171,17 @@ module _ (demanded : Type 0) (p : Profile) (f : ℕ) where
   ]
 
   -- the sections in between are missing
-  section_of : (j count id c : ℕ) → suc c ≡ id + j → (b : List ℕ) (k : Marks) → Sections (suc (j + count)) id (suc c ∷ b) k → Then (Section demanded p f (suc c)) (Sections count (suc (suc c))) (suc c ∷ b) k
+  abbrev Found : (count id c : ℕ) (b : List ℕ) → Marks → Type 0
+  Found count id c b k = Missing f id (suc c) × Then (Section demanded p f (suc c)) (Sections count (suc (suc c))) (suc c ∷ b) k
+
+  section_of : (j count id c : ℕ) → suc c ≡ id + j → (b : List ℕ) (k : Marks) → Sections (suc (j + count)) id (suc c ∷ b) k → Found count id c b k
   section_of zero count id c e b k h =
       let i : id ≡ suc c = omega (arith, e) in
       let h' : Sections (suc count) (suc c) (suc c ∷ b) k = subst (λ y. Sections (suc count) y (suc c ∷ b) k) i (subst (λ y. Sections (suc y) id (suc c ∷ b) k) (let z : 0 + count ≡ count = omega arith in z) h) in
       elim (split (suc c ∷ b) k h') [
         | inr t ↦ absurd (not_custom (Then (Customs demanded) (Then (Optional demanded p f (suc c)) (Sections count (suc (suc c))))) c b k t)
         | inl o ↦ elim (optional_split count (suc c) (suc c ∷ b) k o) [
-          | inl s ↦ s
+          | inl s ↦ (missing_none f id (suc c) (omega (arith, i)), s)
           | inr m ↦ let r = first_id count (suc (suc c)) c b k m.1 in absurd (omega (arith, r.0))
         ]
       ]
@@ -165,11 +192,12 @@ module _ (demanded : Type 0) (p : Profile) (f : ℕ) where
           | inl s ↦ let r : suc c ≡ id = first_front id (Sizes id) (Sections (suc j + count) (suc id)) (suc c) b k s in absurd (omega (arith, r, e))
           | inr m ↦
               let i : suc c ≡ suc id + j = omega (arith, e) in
-              section_of j count (suc id) c i b k (subst (λ y. Sections y (suc id) (suc c ∷ b) k) (let z : suc j + count ≡ suc (j + count) = omega arith in z) m.1)
+              let r = section_of j count (suc id) c i b k (subst (λ y. Sections y (suc id) (suc c ∷ b) k) (let z : suc j + count ≡ suc (j + count) = omega arith in z) m.1) in
+              (missing_more f id (suc c) m.0 r.0, r.1)
         ]
       ]
 
-  of_section : (j count id c : ℕ) → suc c ≡ id + j → ((i : ℕ) → id ≤ i → i < suc c → MayMiss f i) → (b : List ℕ) (k : Marks) → Then (Section demanded p f (suc c)) (Sections count (suc (suc c))) b k → Sections (suc (j + count)) id b k
+  of_section : (j count id c : ℕ) → suc c ≡ id + j → Missing f id (suc c) → (b : List ℕ) (k : Marks) → Then (Section demanded p f (suc c)) (Sections count (suc (suc c))) b k → Sections (suc (j + count)) id b k
   of_section zero count id c e may b k h =
       let i : suc c ≡ id = omega (arith, e) in
       subst (λ y. Sections (suc y) id b k) (let z : count ≡ 0 + count = omega arith in z) (subst (λ y. Sections (suc count) y b k) i (present count (suc c) b k h))
@@ -180,11 +208,13 @@ module _ (demanded : Type 0) (p : Profile) (f : ℕ) where
       (subst (λ y. Sections y (suc id) b k) (let z : suc (j + count) ≡ suc j + count = omega arith in z)
       (of_section j count (suc id) c i (λ m low high. may m (omega (arith, low)) high) b k h))
 
-  pub section_goes : (j count id c : ℕ) → suc c ≡ id + j → ((i : ℕ) → id ≤ i → i < suc c → MayMiss f i) → Next demanded (Sections (suc (j + count)) id) (suc c) (said None) (InSection (suc c) (Sections count (suc (suc c))))
-  section_goes j count id c e may = record {
-    to = λ s b k h. (section_next (suc c) (Sections count (suc (suc c)))).to s b k (section_of j count id c e b k h);
-    from = λ b k g. of_section j count id c e may (suc c ∷ b) k ((section_next (suc c) (Sections count (suc (suc c)))).from b k g);
-  }
+  pub section_goes : (j count id c : ℕ) → suc c ≡ id + j → Next demanded (Sections (suc (j + count)) id) (suc c) (said None) (Where (Missing f id (suc c)) (InSection (suc c) (Sections count (suc (suc c)))))
+  section_goes j count id c e =
+      let g = section_next (suc c) (λ n. Sized demanded n (Contents demanded p f (suc c))) (Sections count (suc (suc c))) in
+      record {
+        to = λ s b k h. let r = section_of j count id c e b k h in let t = g.to s b k r.1 in (t.0, t.1, (r.0, t.2));
+        from = λ b k h. of_section j count id c e h.2.0 (suc c ∷ b) k (g.from b k (h.0, h.1, h.2.1));
+      }
 
   pub not_first : (count id c : ℕ) (b : List ℕ) (k : Marks) → (id ≤ suc c → suc c < id + count → ⊥) → Sections count id (suc c ∷ b) k → ⊥
   not_first count id c b k none h = let r = first_id count id c b k h in none r.0 r.1
@@ -192,18 +222,20 @@ module _ (demanded : Type 0) (p : Profile) (f : ℕ) where
   -- the sections may be over
   no_times : (n : ℕ) (k : Marks) → Times n (Custom demanded) [] k → k ≡ []
   no_times zero k h = h.1
-  no_times (suc n) k h = absurd (then_has (Unit {0}) (Custom demanded) (Times n (Custom demanded)) (id_has 0 (Number nothing_at (InSize 0))) tt k h)
+  no_times (suc n) k h = absurd (then_has (Unit {0}) (Custom demanded) (Times n (Custom demanded)) (id_has 0 (Number nothing_at Nameless)) tt k h)
 
   no_section : (id : ℕ) (Q : Shape) → HasBytes (Unit {0}) (Then (Section demanded p f id) Q)
   no_section id Q = then_has (Unit {0}) (Section demanded p f id) Q (id_has id (Sizes id))
 
-  pub over_marks : (count id : ℕ) (k : Marks) → Sections count id [] k → k ≡ []
-  over_marks zero id k h = no_times h.0 k h.1
-  over_marks (suc count) id k h = elim (split [] k h) [
-    | inr t ↦ absurd (then_has (Unit {0}) (Custom demanded) (Then (Customs demanded) (Then (Optional demanded p f id) (Sections count (suc id)))) (id_has 0 (Number nothing_at (InSize 0))) tt k t)
+  pub over_missing : (count id : ℕ) (k : Marks) → Sections count id [] k → (k ≡ []) × Missing f id (id + count)
+  over_missing zero id k h = (no_times h.0 k h.1, missing_none f id (id + 0) (omega arith))
+  over_missing (suc count) id k h = elim (split [] k h) [
+    | inr t ↦ absurd (then_has (Unit {0}) (Custom demanded) (Then (Customs demanded) (Then (Optional demanded p f id) (Sections count (suc id)))) (id_has 0 (Number nothing_at Nameless)) tt k t)
     | inl o ↦ elim (optional_split count id [] k o) [
       | inl s ↦ absurd (no_section id (Sections count (suc id)) tt k s)
-      | inr m ↦ over_marks count (suc id) k m.1
+      | inr m ↦
+          let r = over_missing count (suc id) k m.1 in
+          (r.0, missing_more f id (id + suc count) m.0 (λ i low high. r.1 i low (omega (arith, high))))
     ]
   ]
 
@@ -211,8 +243,11 @@ module _ (demanded : Type 0) (p : Profile) (f : ℕ) where
   over zero id may = (0, (refl, refl))
   over (suc count) id may = left_out count id (may id) [] [] (over count (suc id) may)
 
--- where nothing but the number of functions differs, and no section speaks of it
-module _ (demanded : Type 0) (p : Profile) (f g : ℕ) (may : (i : ℕ) → MayMiss f i → MayMiss g i) where
-  pub renumbered : (b : List ℕ) (k : Marks) → Chain demanded p f 1 1 b k → Chain demanded p g 1 1 b k
-  renumbered b k h = let t = h.second in
-      record { front = h.front; back = h.back; front_marks = h.front_marks; back_marks = h.back_marks; bytes = h.bytes; marks = h.marks; first = h.first; second = record { front = t.front; back = t.back; front_marks = t.front_marks; back_marks = t.back_marks; bytes = t.bytes; marks = t.marks; first = elim t.first [ inl s ↦ inl s | inr e ↦ inr (may 1 e.0, e.1) ]; second = t.second } }
+-- after code nothing speaks of the number of functions
+pub renumbered : (demanded : Type 0) (p : Profile) (f g : ℕ) (b : List ℕ) (k : Marks) → Chain demanded p f 1 11 b k → Chain demanded p g 1 11 b k
+renumbered demanded p f g b k h =
+    let t = h.second in
+    record { front = h.front; back = h.back; front_marks = h.front_marks; back_marks = h.back_marks; bytes = h.bytes; marks = h.marks; first = h.first; second = record { front = t.front; back = t.back; front_marks = t.front_marks; back_marks = t.back_marks; bytes = t.bytes; marks = t.marks; first = elim t.first [ inl s ↦ inl s | inr e ↦ inr (last, e.1) ]; second = t.second } }
+  where
+    last : MayMiss g 11
+    last e = elim e [ inl a ↦ absurd (omega (arith, a)) | inr a ↦ absurd (omega (arith, a)) ]

@@ -2,7 +2,6 @@
 use Rattle.std.proofs.Common.{ℕ, zero, suc, ◌<◌, ◌^◌, List, [], ◌∷◌, ◌++◌, Option, None}
 use Rattle.std.proofs.lemmas.Bool.{cond_both}
 use Rattle.std.specs.Str.{is_utf8}
-use Rattle.wm_syntax.specs.declared.why.Why.TheVariants as why
 use Rattle.wm_syntax.specs.declared.numbers.Step.{Step}
 use Rattle.wm_syntax.specs.declared.numbers.Step.TheVariants.{More, Done, Bad}
 use Rattle.wm_syntax.specs.Partial.{Partial}
@@ -11,10 +10,10 @@ use Rattle.wm_decode.specs.declared.machine.NameKind.TheVariants as kind
 use Rattle.wm_decode.specs.declared.machine.InCustom.{InCustom}
 use Rattle.wm_decode.specs.declared.machine.InCustom.TheVariants as custom
 use Rattle.wm_decode.specs.declared.machine.Event.{Event}
-use Rattle.wm_decode.specs.declared.machine.Event.TheVariants as event
-use Rattle.wm_decode.specs.Parts.{Part, Mark}
+use Rattle.wm_decode.specs.Parts.{Part, Mark, outside}
 use Rattle.wm_decode.specs.Shapes.{Shape, Empty, Filled, said}
-use Rattle.wm_decode.specs.Steps.{on_number, no_custom, after_length, name_step, custom_step}
+use Rattle.wm_decode.specs.ComponentSteps.{on_number}
+use Rattle.wm_decode.specs.Steps.{after_length, name_step, custom_step}
 use Rattle.wm_decode.specs.Runs.{heard, Heard, named}
 use Rattle.wm_decode.proofs.Next.{Next, HasBytes, Never, next_to, next_never}
 use Rattle.wm_decode.proofs.Texts.{NameLeft, TextLeft, TextNext, text_done, text_next, text_has, named_byte, left_more, left_last, left_bad, left_has, AnyBytes, any_next, any_has, filled_next, filled_has, filled_empty, filled_never}
@@ -36,7 +35,7 @@ module _ (demanded : Type 0) where
   CustomFollows n P c h = Next demanded P c h.mark (CustomRest n h.at h.name)
 
   abbrev pub custom_hears : List ℕ → ℕ → InCustom × Event → Heard InCustom
-  custom_hears so_far c q = heard custom.Failed so_far c q
+  custom_hears so_far c q = heard custom.Failed outside so_far c q
 
   -- what comes first is over
   ends : (P : Shape) (n c : ℕ) (m : Mark) → Next demanded P c m Empty → HasBytes demanded P → Next demanded (Filled demanded (suc n) P) c m (AnyBytes demanded n)
@@ -50,7 +49,7 @@ module _ (demanded : Type 0) where
     length_done r zero h = ends (TextLeft demanded r unnamed) n c (said None) h (text_has demanded unnamed r)
     length_done r (suc m) h = filled_next demanded (TextLeft demanded r unnamed) (NameLeft demanded [] (suc m) unnamed) n c (said None) h (text_has demanded unnamed r)
 
-    length_cases : (r : Partial) (p : Step ℕ × Partial) → TextNext demanded unnamed r c p → CustomFollows n (CustomRest (suc n) (custom.Length r) so_far) c (custom_hears so_far c (on_number p (λ s. (custom.Length s, event.Quiet)) after_length (no_custom why.BadNumber)))
+    length_cases : (r : Partial) (p : Step ℕ × Partial) → TextNext demanded unnamed r c p → CustomFollows n (CustomRest (suc n) (custom.Length r) so_far) c (custom_hears so_far c (on_number p custom.Length after_length custom.Failed))
     length_cases r (More, s) h = filled_next demanded (TextLeft demanded r unnamed) (TextLeft demanded s unnamed) n c (said None) h (text_has demanded unnamed r)
     length_cases r (Done v, s) h = length_done r v h
     length_cases r (Bad, s) h = fails (TextLeft demanded r unnamed) n c (said None) h (text_has demanded unnamed r)

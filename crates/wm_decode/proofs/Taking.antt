@@ -1,6 +1,7 @@
 -- A sink that does nothing at a part takes any item of such parts.
-use Rattle.std.proofs.Common.{◌≡◌, ℕ, List, [], ◌∷◌, ◌++◌, Result, Ok, Err, map, refl, ◌∙◌, ap}
+use Rattle.std.proofs.Common.{◌≡◌, ℕ, List, [], ◌∷◌, ◌++◌, Result, Ok, Err, IfErr, map, refl, ◌∙◌, ap}
 use Rattle.wm_syntax.specs.declared.why.Why.{Why}
+use Rattle.wm_syntax.specs.declared.why.Why.TheVariants as why
 use Rattle.wm_decode.specs.Parts.{Part, data_byte}
 use Rattle.wm_decode.specs.Sinks.{and_then, all_taken, Took}
 
@@ -12,6 +13,13 @@ pub taken_quietly : {H U : Type 0} (after : H → Part → Result H Why) (h : H)
 taken_quietly after h quiet [] u = refl
 taken_quietly after h quiet (x ∷ []) u = quiet x
 taken_quietly after h quiet (x ∷ y ∷ xs) u = all_quiet after h quiet (x ∷ y ∷ xs)
+
+-- the same of a sink that may run out of memory
+pub quiet_or_memory : {H U : Type 0} (after : H → Part → Result H Why) (h : H) → ((x : Part) → after h x ≡ Ok h) → (xs : List Part) (r : Result U Why) → IfErr r (λ w. w ≡ why.Memory) → Took after h xs r h
+quiet_or_memory after h quiet xs (Ok u) m = taken_quietly after h quiet xs u
+quiet_or_memory after h quiet [] (Err w) m = λ ne. absurd (ne m)
+quiet_or_memory after h quiet (x ∷ []) (Err w) m = λ ne. absurd (ne m)
+quiet_or_memory after h quiet (x ∷ y ∷ xs) (Err w) m = λ ne. absurd (ne m)
 
 -- Parts in two lists are taken one list after the other.
 taken_then : {H : Type 0} (after : H → Part → Result H Why) (r : Result H Why) (xs ys : List Part) → ((h : H) → all_taken after h (xs ++ ys) ≡ and_then (all_taken after h xs) (λ g. all_taken after g ys))

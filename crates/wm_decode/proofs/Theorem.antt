@@ -1,5 +1,5 @@
 -- The machine and a sink, over whole inputs.
-use Rattle.std.proofs.Common.{◌≡◌, ℕ, suc, ◌+◌, ◌<◌, ◌≤◌, List, [], ◌∷◌, ◌++◌, Option, Some, None, Result, Ok, Err, length, refl, sym, ◌∙◌, ap, subst, inl, inr, ◌⊎◌, arith, append-nil, true, false, nat_lt, cond, take}
+use Rattle.std.proofs.Common.{◌≡◌, ℕ, zero, suc, ◌+◌, ◌<◌, ◌≤◌, List, [], ◌∷◌, ◌++◌, Option, Some, None, Result, Ok, Err, length, refl, sym, ◌∙◌, ap, subst, inl, inr, ◌⊎◌, arith, append-nil, true, false, nat_lt, cond, take}
 use Rattle.std.proofs.lemmas.Bool.{cond_both, ltb-true, ltb-false, lt-ltb}
 use Rattle.std.proofs.lemmas.List.{take_at}
 use Rattle.std.specs.Str.{is_utf8}
@@ -12,15 +12,16 @@ use Rattle.wm_decode.specs.declared.machine.Machine.TheVariants as machine
 use Rattle.wm_decode.specs.declared.machine.Event.{Event}
 use Rattle.wm_decode.specs.declared.machine.Event.TheVariants as event
 use Rattle.wm_decode.specs.declared.refusal.Refusal.{Refusal}
-use Rattle.wm_decode.specs.Parts.{Part, Mark, Marks, with_part, parts_of}
+use Rattle.wm_decode.specs.Parts.{Part, data_byte, Zone, Mark, Marks, with_part, parts_of}
 use Rattle.wm_decode.specs.Shapes.{said}
 use Rattle.wm_decode.specs.Grammar.{Items, strict}
 use Rattle.wm_decode.specs.Sinks.{and_then, all_taken}
 use Rattle.wm_decode.specs.Steps.{step_of}
-use Rattle.wm_decode.specs.Runs.{named, heard, Heard, State, hear, after_byte, run, marks, begin, plain_part}
+use Rattle.wm_decode.specs.Runs.{named, zone_of, heard, Heard, State, hear, after_byte, run, marks, begin, plain_part}
 use Rattle.wm_decode.specs.Live.{offered, told, Live, settled, judged, live_byte, decoded, begun, IsRefused, ended_at, ended}
 use Rattle.wm_decode.specs.Decoding.{Setting, Takes}
-use Rattle.wm_decode.proofs.Whole.{IsBetween, MachineRest, StateRest, begin_to, begin_from, run_to, run_from, ends, may_end}
+use Rattle.wm_decode.proofs.Fits.{Fits, run_fits}
+use Rattle.wm_decode.proofs.Whole.{MayEnd, MachineRest, StateRest, begin_to, begin_from, run_to, run_from, ends, may_end}
 
 cases_nil : (b : List ℕ) → (b ≡ []) ⊎ (b ≡ [] → ⊥)
 cases_nil [] = inl refl
@@ -29,14 +30,6 @@ cases_nil (c ∷ b) = inr (λ e. cc)
 given_split : {A B : Type 0} (r : Result A Why) (f : A → Result B Why) (y : B) → and_then r f ≡ Ok y → (x : A) × (r ≡ Ok x) × (f x ≡ Ok y)
 given_split (Ok x) f y e = (x, refl, e)
 given_split (Err r) f y e = cc
-
-pub bytes-append : (a b : List ℕ) → AreBytes a → AreBytes b → AreBytes (a ++ b)
-bytes-append [] b p q = q
-bytes-append (c ∷ a) b p q = (p.0, bytes-append a b p.1 q)
-
-pub front_bytes : (a b : List ℕ) → AreBytes (a ++ b) → AreBytes a
-front_bytes [] b h = tt
-front_bytes (c ∷ a) b h = (h.0, front_bytes a b h.1)
 
 module _ {H : Type 0} (after : H → Part → Result H Why) where
   -- what is held after the parts of some marks
@@ -64,7 +57,7 @@ module _ {H : Type 0} (after : H → Part → Result H Why) where
       let r = given_front j k s.0 g s.2 in
       (r.0, ap (λ y. and_then y (λ f. all_given f j)) s.1 ∙ r.1)
 
-module _ {H : Type 0} (after : H → Part → Result H Why) (limit : ℕ) where
+module _ {H : Type 0} (after : H → Part → Result H Why) (p : Profile) (limit : ℕ) where
   abbrev judged_heard : Heard Machine → ℕ → Result H Why → Result (Live H) Refusal
   judged_heard h at (Ok g) = settled h.at h.name g at
   judged_heard h at (Err w) = Err (record { at = at; why = w })
@@ -73,12 +66,13 @@ module _ {H : Type 0} (after : H → Part → Result H Why) (limit : ℕ) where
   same_judged m x at (Ok g) = refl
   same_judged m x at (Err w) = refl
 
-  same_byte : (m : Machine) (e : Event) (name : List ℕ) (c at : ℕ) (h : H) → judged m at (told after e name c h) ≡ judged_heard (heard machine.Refused name c (m, e)) at (offered after (heard machine.Refused name c (m, e)).mark.part h)
-  same_byte m event.Quiet name c at h = refl
-  same_byte m (event.Gives q) name c at h = same_judged m (said (Some (plain_part q))) at (after h (plain_part q))
-  same_byte m event.InName name c at h = refl
-  same_byte m (event.EmptyName kind) name c at h = same_judged m (said (named kind [])) at (offered after (named kind []) h)
-  same_byte m (event.EndsName kind) name c at h =
+  same_byte : (zone : Zone) (m : Machine) (e : Event) (name : List ℕ) (c at : ℕ) (h : H) → judged m at (told after e name c h) ≡ judged_heard (heard machine.Refused zone name c (m, e)) at (offered after (heard machine.Refused zone name c (m, e)).mark.part h)
+  same_byte zone m event.Quiet name c at h = refl
+  same_byte zone m (event.Gives q) name c at h = same_judged m (record { zone = zone; part = Some (plain_part q) }) at (after h (plain_part q))
+  same_byte zone m event.DataByte name c at h = same_judged m (said (Some (data_byte c))) at (after h (data_byte c))
+  same_byte zone m event.InName name c at h = refl
+  same_byte zone m (event.EmptyName kind) name c at h = same_judged m (said (named kind [])) at (offered after (named kind []) h)
+  same_byte zone m (event.EndsName kind) name c at h =
       let text : List ℕ = name ++ c ∷ [] in
       let good : Heard Machine = record { at = m; name = []; mark = said (named kind text) } in
       let bad : Heard Machine = record { at = machine.Refused why.BadUtf8; name = []; mark = said None } in
@@ -113,97 +107,99 @@ module _ {H : Type 0} (after : H → Part → Result H Why) (limit : ℕ) where
   -- what a byte that was taken has done
   pub record Stepped (l : Live H) (c : ℕ) (m : Live H) : Type 0 where
     pub room : l.at < limit
-    pub given : offered after (hear (state_of l) c).mark.part l.held ≡ Ok m.held
-    pub state : state_of m ≡ after_byte (state_of l) c
+    pub given : offered after (hear p (state_of l) c).mark.part l.held ≡ Ok m.held
+    pub state : state_of m ≡ after_byte p (state_of l) c
     pub at : m.at ≡ l.at + 1
     pub live : IsRefused m.machine → ⊥
 
-  pub live_ok : (l m : Live H) (c : ℕ) → live_byte after limit l c ≡ Ok m → Stepped l c m
+  pub live_ok : (l m : Live H) (c : ℕ) → live_byte after p limit l c ≡ Ok m → Stepped l c m
   live_ok l m c = cond_both (nat_lt l.at limit) _ _ (λ (r : Result (Live H) Refusal). r ≡ Ok m → Stepped l c m)
-      (λ a e. let f = heard_ok (hear (state_of l) c) (l.at + 1) (offered after (hear (state_of l) c).mark.part l.held) m (sym (same_byte (step_of l.machine c).0 (step_of l.machine c).1 l.name c (l.at + 1) l.held) ∙ e) in
+      (λ a e. let f = heard_ok (hear p (state_of l) c) (l.at + 1) (offered after (hear p (state_of l) c).mark.part l.held) m (sym (same_byte (zone_of l.machine) (step_of p l.machine c).0 (step_of p l.machine c).1 l.name c (l.at + 1) l.held) ∙ e) in
       record { room = ltb-true _ _ a; given = f.1 ∙ ap (λ (y : Live H). Ok y.held) f.2; state = sym (ap state_of f.2); at = sym (ap (λ (y : Live H). y.at) f.2); live = λ i. f.3 (subst IsRefused (sym (ap (λ (y : Live H). y.machine) f.2)) i) })
       (λ a e. cc)
 
   -- how far a decoder has come
   pub record Reached (l : Live H) (b : List ℕ) (m : Live H) : Type 0 where
-    pub state : state_of m ≡ run (state_of l) b
+    pub state : state_of m ≡ run p (state_of l) b
     pub at : m.at ≡ l.at + length b
     pub within : (b ≡ [] → ⊥) → l.at + length b ≤ limit
-    pub held : all_given after l.held (marks (state_of l) b) ≡ Ok m.held
+    pub held : all_given after l.held (marks p (state_of l) b) ≡ Ok m.held
     pub live : (IsRefused l.machine → ⊥) → IsRefused m.machine → ⊥
 
   reached_more : (c : ℕ) (b : List ℕ) (l n m : Live H) → Stepped l c n → Reached n b m → Reached l (c ∷ b) m
   reached_more c b l n m o r = record {
-    state = r.state ∙ ap (λ s. run s b) o.state;
+    state = r.state ∙ ap (λ s. run p s b) o.state;
     at = omega (arith, r.at, o.at);
     within = λ _. elim (cases_nil b) [ inl e ↦ omega (arith, o.room, ap length e) | inr ne ↦ omega (arith, r.within ne, o.at) ];
-    held = ap (λ y. and_then y (λ g. all_given after g (marks (after_byte (state_of l) c) b))) o.given ∙ (ap (λ s. all_given after n.held (marks s b)) (sym o.state) ∙ r.held);
+    held = ap (λ y. and_then y (λ g. all_given after g (marks p (after_byte p (state_of l) c) b))) o.given ∙ (ap (λ s. all_given after n.held (marks p s b)) (sym o.state) ∙ r.held);
     live = λ i. r.live o.live;
   }
 
-  pub reached : (b : List ℕ) (l m : Live H) → decoded after limit l b ≡ Ok m → Reached l b m
+  pub reached : (b : List ℕ) (l m : Live H) → decoded after p limit l b ≡ Ok m → Reached l b m
   reached [] l m e = let s : l ≡ m = cc in let t : l.at ≡ m.at = ap (λ (y : Live H). y.at) s in
       record { state = sym (ap state_of s); at = omega arith; within = λ n. absurd (n refl); held = ap (λ (y : Live H). Ok y.held) s; live = λ i j. i (subst IsRefused (sym (ap (λ (y : Live H). y.machine) s)) j) }
   reached (c ∷ b) l m e =
-      let o = then_ok (live_byte after limit l c) (λ n. decoded after limit n b) m e in
+      let o = then_ok (live_byte after p limit l c) (λ n. decoded after p limit n b) m e in
       reached_more c b l o.0 m (live_ok l o.0 c o.1) (reached b o.0 m o.2)
 
   -- and back
-  refused_step : (m : Machine) (name : List ℕ) (c : ℕ) → IsRefused m → IsRefused (heard machine.Refused name c (step_of m c)).at
+  refused_step : (m : Machine) (name : List ℕ) (c : ℕ) → IsRefused m → IsRefused (heard machine.Refused (zone_of m) name c (step_of p m c)).at
   refused_step (machine.Refused w) name c r = tt
   refused_step m name c r = absurd r
 
-  refused_run : (b : List ℕ) (s : State) → IsRefused s.machine → IsRefused (run s b).machine
+  refused_run : (b : List ℕ) (s : State) → IsRefused s.machine → IsRefused (run p s b).machine
   refused_run [] s r = r
-  refused_run (c ∷ b) s r = refused_run b (after_byte s c) (refused_step s.machine s.name c r)
+  refused_run (c ∷ b) s r = refused_run b (after_byte p s c) (refused_step s.machine s.name c r)
 
   given_ok : (x : Mark) (k : Marks) (h g : H) → all_given after h (x ∷ k) ≡ Ok g → (f : H) × (offered after x.part h ≡ Ok f) × (all_given after f k ≡ Ok g)
   given_ok x k h g e = given_split (offered after x.part h) (λ f. all_given after f k) g e
 
-  live_go : (l : Live H) (c : ℕ) (g : H) → l.at < limit → offered after (hear (state_of l) c).mark.part l.held ≡ Ok g → (IsRefused (hear (state_of l) c).at → ⊥)
-      → live_byte after limit l c ≡ Ok (record { machine = (hear (state_of l) c).at; name = (hear (state_of l) c).name; held = g; at = l.at + 1 })
+  live_go : (l : Live H) (c : ℕ) (g : H) → l.at < limit → offered after (hear p (state_of l) c).mark.part l.held ≡ Ok g → (IsRefused (hear p (state_of l) c).at → ⊥)
+      → live_byte after p limit l c ≡ Ok (record { machine = (hear p (state_of l) c).at; name = (hear p (state_of l) c).name; held = g; at = l.at + 1 })
   live_go l c g a o n =
-      let d = hear (state_of l) c in
-      ap (λ v. cond v (judged (step_of l.machine c).0 (l.at + 1) (told after (step_of l.machine c).1 l.name c l.held)) (Err (record { at = limit + 1; why = why.TooLong }))) (lt-ltb l.at limit a)
-      ∙ (same_byte (step_of l.machine c).0 (step_of l.machine c).1 l.name c (l.at + 1) l.held
+      let d = hear p (state_of l) c in
+      ap (λ v. cond v (judged (step_of p l.machine c).0 (l.at + 1) (told after (step_of p l.machine c).1 l.name c l.held)) (Err (record { at = limit + 1; why = why.TooLong }))) (lt-ltb l.at limit a)
+      ∙ (same_byte (zone_of l.machine) (step_of p l.machine c).0 (step_of p l.machine c).1 l.name c (l.at + 1) l.held
       ∙ (ap (judged_heard d (l.at + 1)) o ∙ settled_live d.at d.name g (l.at + 1) n))
 
-  pub reaches : (b : List ℕ) (l : Live H) (g : H) → l.at + length b ≤ limit → all_given after l.held (marks (state_of l) b) ≡ Ok g → (IsRefused (run (state_of l) b).machine → ⊥)
-      → (m : Live H) × (decoded after limit l b ≡ Ok m) × (m.held ≡ g) × (state_of m ≡ run (state_of l) b)
+  pub reaches : (b : List ℕ) (l : Live H) (g : H) → l.at + length b ≤ limit → all_given after l.held (marks p (state_of l) b) ≡ Ok g → (IsRefused (run p (state_of l) b).machine → ⊥)
+      → (m : Live H) × (decoded after p limit l b ≡ Ok m) × (m.held ≡ g) × (state_of m ≡ run p (state_of l) b)
   reaches [] l g a h n = (l, refl, cc, refl)
   reaches (c ∷ b) l g a h n =
-      let f = given_ok (hear (state_of l) c).mark (marks (after_byte (state_of l) c) b) l.held g h in
-      let next : Live H = record { machine = (hear (state_of l) c).at; name = (hear (state_of l) c).name; held = f.0; at = l.at + 1 } in
+      let f = given_ok (hear p (state_of l) c).mark (marks p (after_byte p (state_of l) c) b) l.held g h in
+      let next : Live H = record { machine = (hear p (state_of l) c).at; name = (hear p (state_of l) c).name; held = f.0; at = l.at + 1 } in
       let room : next.at + length b ≤ limit = omega arith in
       let r = reaches b next g room f.2 n in
       let less : l.at < limit = omega arith in
-      (r.0, ap (λ y. and_then y (λ m. decoded after limit m b)) (live_go l c f.0 less f.1 (λ q. n (refused_run b (after_byte (state_of l) c) q))) ∙ r.1, r.2, r.3)
+      (r.0, ap (λ y. and_then y (λ m. decoded after p limit m b)) (live_go l c f.0 less f.1 (λ q. n (refused_run b (after_byte p (state_of l) c) q))) ∙ r.1, r.2, r.3)
 
   -- a whole input
-  ended_between : (m : Machine) (h g : H) (at : ℕ) → ended_at m h at ≡ Ok g → IsBetween m × (h ≡ g)
-  ended_between (machine.Between last) h g at e = (tt, cc)
+  ended_between : (m : Machine) (h g : H) (at : ℕ) → ended_at m h at ≡ Ok g → MayEnd m × (h ≡ g)
+  ended_between (machine.Between last zero) h g at e = (tt, cc)
+  ended_between (machine.Between last (suc n)) h g at e = cc
   ended_between (machine.Refused w) h g at e = cc
   ended_between m h g at e = cc
 
-  between_ended : (m : Machine) (h : H) (at : ℕ) → IsBetween m → ended_at m h at ≡ Ok h
-  between_ended (machine.Between last) h at i = refl
+  between_ended : (m : Machine) (h : H) (at : ℕ) → MayEnd m → ended_at m h at ≡ Ok h
+  between_ended (machine.Between last zero) h at i = refl
+  between_ended (machine.Between last (suc n)) h at i = absurd i
   between_ended m h at i = absurd i
 
-  between_live : (m : Machine) → IsBetween m → IsRefused m → ⊥
-  between_live (machine.Between last) i r = r
+  between_live : (m : Machine) → MayEnd m → IsRefused m → ⊥
+  between_live (machine.Between last functions) i r = r
   between_live m i r = absurd i
 
   within_of : (b : List ℕ) → ((b ≡ [] → ⊥) → 0 + length b ≤ limit) → length b ≤ limit
   within_of [] h = omega arith
   within_of (c ∷ b) h = omega (arith, h (λ e. cc))
 
-  appended : (b : List ℕ) (f g : Live H → Result (Live H) Refusal) → ((m : Live H) → f m ≡ and_then (g m) (λ n. decoded after limit n b)) → (r : Result (Live H) Refusal) → and_then r f ≡ and_then (and_then r g) (λ n. decoded after limit n b)
+  appended : (b : List ℕ) (f g : Live H → Result (Live H) Refusal) → ((m : Live H) → f m ≡ and_then (g m) (λ n. decoded after p limit n b)) → (r : Result (Live H) Refusal) → and_then r f ≡ and_then (and_then r g) (λ n. decoded after p limit n b)
   appended b f g h (Ok m) = h m
   appended b f g h (Err r) = refl
 
-  pub decoded_append : (a b : List ℕ) (l : Live H) → decoded after limit l (a ++ b) ≡ and_then (decoded after limit l a) (λ m. decoded after limit m b)
+  pub decoded_append : (a b : List ℕ) (l : Live H) → decoded after p limit l (a ++ b) ≡ and_then (decoded after p limit l a) (λ m. decoded after p limit m b)
   decoded_append [] b l = refl
-  decoded_append (c ∷ a) b l = appended b (λ m. decoded after limit m (a ++ b)) (λ m. decoded after limit m a) (λ m. decoded_append a b m) (live_byte after limit l c)
+  decoded_append (c ∷ a) b l = appended b (λ m. decoded after p limit m (a ++ b)) (λ m. decoded after p limit m a) (λ m. decoded_append a b m) (live_byte after p limit l c)
 
   -- the bytes that were used when it was refused
   judged_at : (m : Machine) (name : List ℕ) (h : H) (at : ℕ) (r : Refusal) → settled m name h at ≡ Err r → r.at ≡ at
@@ -214,9 +210,9 @@ module _ {H : Type 0} (after : H → Part → Result H Why) (limit : ℕ) where
   heard_at d at (Ok g) r e = judged_at d.at d.name g at r e
   heard_at d at (Err w) r e = let s : record { at = at; why = w } ≡ r = cc in sym (ap (λ (y : Refusal). y.at) s)
 
-  pub byte_at : (l : Live H) (c : ℕ) (r : Refusal) → l.at ≤ limit → live_byte after limit l c ≡ Err r → r.at ≡ l.at + 1
+  pub byte_at : (l : Live H) (c : ℕ) (r : Refusal) → l.at ≤ limit → live_byte after p limit l c ≡ Err r → r.at ≡ l.at + 1
   byte_at l c r low = cond_both (nat_lt l.at limit) _ _ (λ (q : Result (Live H) Refusal). q ≡ Err r → r.at ≡ l.at + 1)
-      (λ a e. heard_at (hear (state_of l) c) (l.at + 1) (offered after (hear (state_of l) c).mark.part l.held) r (sym (same_byte (step_of l.machine c).0 (step_of l.machine c).1 l.name c (l.at + 1) l.held) ∙ e))
+      (λ a e. heard_at (hear p (state_of l) c) (l.at + 1) (offered after (hear p (state_of l) c).mark.part l.held) r (sym (same_byte (zone_of l.machine) (step_of p l.machine c).0 (step_of p l.machine c).1 l.name c (l.at + 1) l.held) ∙ e))
       (λ a e. let s : record { at = limit + 1; why = why.TooLong } ≡ r = cc in let t : limit + 1 ≡ r.at = ap (λ (y : Refusal). y.at) s in omega (arith, ltb-false l.at limit a))
 
   settled_err : (m : Machine) (name : List ℕ) (h : H) (at : ℕ) (r : Refusal) → settled m name h at ≡ Err r → m ≡ machine.Refused r.why
@@ -228,9 +224,9 @@ module _ {H : Type 0} (after : H → Part → Result H Why) (limit : ℕ) where
   heard_err d at (Err w) r e = let s : record { at = at; why = w } ≡ r = cc in inr (ap (λ (y : Refusal). Err y.why) s)
 
   -- why a byte was refused: for the limit, by the machine or by the sink
-  pub live_err : (l : Live H) (c : ℕ) (r : Refusal) → live_byte after limit l c ≡ Err r → (r.why ≡ why.TooLong) ⊎ (((hear (state_of l) c).at ≡ machine.Refused r.why) ⊎ (offered after (hear (state_of l) c).mark.part l.held ≡ Err r.why))
-  live_err l c r = cond_both (nat_lt l.at limit) _ _ (λ (q : Result (Live H) Refusal). q ≡ Err r → (r.why ≡ why.TooLong) ⊎ (((hear (state_of l) c).at ≡ machine.Refused r.why) ⊎ (offered after (hear (state_of l) c).mark.part l.held ≡ Err r.why)))
-      (λ a e. inr (heard_err (hear (state_of l) c) (l.at + 1) (offered after (hear (state_of l) c).mark.part l.held) r (sym (same_byte (step_of l.machine c).0 (step_of l.machine c).1 l.name c (l.at + 1) l.held) ∙ e)))
+  pub live_err : (l : Live H) (c : ℕ) (r : Refusal) → live_byte after p limit l c ≡ Err r → (r.why ≡ why.TooLong) ⊎ (((hear p (state_of l) c).at ≡ machine.Refused r.why) ⊎ (offered after (hear p (state_of l) c).mark.part l.held ≡ Err r.why))
+  live_err l c r = cond_both (nat_lt l.at limit) _ _ (λ (q : Result (Live H) Refusal). q ≡ Err r → (r.why ≡ why.TooLong) ⊎ (((hear p (state_of l) c).at ≡ machine.Refused r.why) ⊎ (offered after (hear p (state_of l) c).mark.part l.held ≡ Err r.why)))
+      (λ a e. inr (heard_err (hear p (state_of l) c) (l.at + 1) (offered after (hear p (state_of l) c).mark.part l.held) r (sym (same_byte (zone_of l.machine) (step_of p l.machine c).0 (step_of p l.machine c).1 l.name c (l.at + 1) l.held) ∙ e)))
       (λ a e. let s : record { at = limit + 1; why = why.TooLong } ≡ r = cc in inl (sym (ap (λ (y : Refusal). y.why) s)))
 
   -- the byte that was refused, and what stood before it
@@ -241,104 +237,107 @@ module _ {H : Type 0} (after : H → Part → Result H Why) (limit : ℕ) where
     pub before : Live H
     pub bytes : b ≡ (used ++ byte ∷ []) ++ rest
     pub at : r.at ≡ l.at + length (used ++ byte ∷ [])
-    pub taken : decoded after limit l used ≡ Ok before
-    pub refused : live_byte after limit before byte ≡ Err r
+    pub taken : decoded after p limit l used ≡ Ok before
+    pub refused : live_byte after p limit before byte ≡ Err r
 
-  used_more : (l : Live H) (c : ℕ) (b : List ℕ) (r : Refusal) → l.at ≤ limit → (q : Result (Live H) Refusal) → live_byte after limit l c ≡ q → and_then q (λ m. decoded after limit m b) ≡ Err r
-      → ((m : Live H) → live_byte after limit l c ≡ Ok m → decoded after limit m b ≡ Err r → Used m b r) → Used l (c ∷ b) r
+  used_more : (l : Live H) (c : ℕ) (b : List ℕ) (r : Refusal) → l.at ≤ limit → (q : Result (Live H) Refusal) → live_byte after p limit l c ≡ q → and_then q (λ m. decoded after p limit m b) ≡ Err r
+      → ((m : Live H) → live_byte after p limit l c ≡ Ok m → decoded after p limit m b ≡ Err r → Used m b r) → Used l (c ∷ b) r
   used_more l c b r low (Ok m) s e more =
       let u = more m s e in
       let o = live_ok l m c s in
-      record { used = c ∷ u.used; byte = u.byte; rest = u.rest; before = u.before; bytes = ap (λ y. c ∷ y) u.bytes; at = omega (arith, u.at, o.at); taken = ap (λ y. and_then y (λ n. decoded after limit n u.used)) s ∙ u.taken; refused = u.refused }
+      record { used = c ∷ u.used; byte = u.byte; rest = u.rest; before = u.before; bytes = ap (λ y. c ∷ y) u.bytes; at = omega (arith, u.at, o.at); taken = ap (λ y. and_then y (λ n. decoded after p limit n u.used)) s ∙ u.taken; refused = u.refused }
   used_more l c b r low (Err t) s e more =
       let same : t ≡ r = cc in
       record { used = []; byte = c; rest = b; before = l; bytes = refl; at = byte_at l c r low (s ∙ ap Err same); taken = refl; refused = s ∙ ap Err same }
 
-  pub used_of : (b : List ℕ) (l : Live H) (r : Refusal) → l.at ≤ limit → decoded after limit l b ≡ Err r → Used l b r
+  pub used_of : (b : List ℕ) (l : Live H) (r : Refusal) → l.at ≤ limit → decoded after p limit l b ≡ Err r → Used l b r
   used_of [] l r low e = cc
-  used_of (c ∷ b) l r low e = used_more l c b r low (live_byte after limit l c) refl e (λ m s f. let o = live_ok l m c s in let within : m.at ≤ limit = omega (arith, o.room, o.at) in used_of b m r within f)
+  used_of (c ∷ b) l r low e = used_more l c b r low (live_byte after p limit l c) refl e (λ m s f. let o = live_ok l m c s in let within : m.at ≤ limit = omega (arith, o.room, o.at) in used_of b m r within f)
 
-  pub used_refused : (l : Live H) (b : List ℕ) (r : Refusal) (u : Used l b r) → decoded after limit l (u.used ++ u.byte ∷ []) ≡ Err r
+  pub used_refused : (l : Live H) (b : List ℕ) (r : Refusal) (u : Used l b r) → decoded after p limit l (u.used ++ u.byte ∷ []) ≡ Err r
   used_refused l b r u =
-      decoded_append u.used (u.byte ∷ []) l ∙ (ap (λ y. and_then y (λ m. decoded after limit m (u.byte ∷ []))) u.taken ∙ ap (λ y. and_then y (λ m. decoded after limit m [])) u.refused)
+      decoded_append u.used (u.byte ∷ []) l ∙ (ap (λ y. and_then y (λ m. decoded after p limit m (u.byte ∷ []))) u.taken ∙ ap (λ y. and_then y (λ m. decoded after p limit m [])) u.refused)
 
-  length_marks : (b : List ℕ) (s : State) → length (marks s b) ≡ length b
+  length_marks : (b : List ℕ) (s : State) → length (marks p s b) ≡ length b
   length_marks [] s = refl
-  length_marks (c ∷ b) s = ap suc (length_marks b (after_byte s c))
+  length_marks (c ∷ b) s = ap suc (length_marks b (after_byte p s c))
+
+pub begin_fits : Fits begin.machine
+begin_fits = omega arith
 
 -- what is said of the bytes of a module is what the machine says
-pub items_are : (p : Profile) (b : List ℕ) (k : Marks) → AreBytes b → Items p b k → (k ≡ marks begin b) × IsBetween (run begin b).machine
+pub items_are : (p : Profile) (b : List ℕ) (k : Marks) → AreBytes b → Items p b k → (k ≡ marks p begin b) × MayEnd (run p begin b).machine
 items_are p b k bytes i =
     let whole : Items p (b ++ []) k = subst (λ y. Items p y k) (sym (append-nil b)) i in
-    let g = run_to strict p tt begin b [] k bytes (begin_to strict p (b ++ []) k whole) in
-    let d = ends strict p tt (run begin b).machine (run begin b).name g.0 g.2 in
-    (g.1 ∙ (ap (λ y. marks begin b ++ y) d.0 ∙ append-nil (marks begin b)), d.1)
+    let g = run_to strict p tt begin b [] k bytes begin_fits (begin_to strict p (b ++ []) k whole) in
+    let d = ends strict p tt (run p begin b).machine (run p begin b).name g.0 (run_fits p begin b bytes begin_fits) g.2 in
+    (g.1 ∙ (ap (λ y. marks p begin b ++ y) d.0 ∙ append-nil (marks p begin b)), d.1)
 
 module _ {H : Type 0} (after : H → Part → Result H Why) (s : Setting H) where
   abbrev Starts : Live H
   Starts = begun s.first
 
-  pub takes_of_ended : (last : H) (b : List ℕ) → AreBytes b → and_then (decoded after s.limit Starts b) ended ≡ Ok last → Takes after s b last
+  pub takes_of_ended : (last : H) (b : List ℕ) → AreBytes b → and_then (decoded after s.profile s.limit Starts b) ended ≡ Ok last → Takes after s b last
   takes_of_ended last b bytes e =
-      let o = then_ok after s.limit (decoded after s.limit Starts b) ended last e in
-      let r = reached after s.limit b Starts o.0 o.1 in
-      let d = ended_between after s.limit o.0.machine o.0.held last o.0.at o.2 in
-      let m : o.0.machine ≡ (run begin b).machine = ap (λ (y : State). y.machine) r.state in
-      let rest : MachineRest strict s.profile (run begin b).machine (run begin b).name [] [] = may_end strict s.profile (run begin b).machine (run begin b).name (subst IsBetween m d.0) in
-      let all : Items s.profile (b ++ []) (marks begin b ++ []) = begin_from strict s.profile (b ++ []) (marks begin b ++ []) (run_from strict s.profile begin b [] [] bytes rest) in
+      let o = then_ok after s.profile s.limit (decoded after s.profile s.limit Starts b) ended last e in
+      let r = reached after s.profile s.limit b Starts o.0 o.1 in
+      let d = ended_between after s.profile s.limit o.0.machine o.0.held last o.0.at o.2 in
+      let m : o.0.machine ≡ (run s.profile begin b).machine = ap (λ (y : State). y.machine) r.state in
+      let rest : MachineRest strict s.profile (run s.profile begin b).machine (run s.profile begin b).name [] [] = may_end strict s.profile (run s.profile begin b).machine (run s.profile begin b).name (subst MayEnd m d.0) in
+      let all : Items s.profile (b ++ []) (marks s.profile begin b ++ []) = begin_from strict s.profile (b ++ []) (marks s.profile begin b ++ []) (run_from strict s.profile begin b [] [] bytes begin_fits rest) in
       record {
-        items = marks begin b;
-        module_items = subst (λ k. Items s.profile b k) (append-nil (marks begin b)) (subst (λ y. Items s.profile y (marks begin b ++ [])) (append-nil b) all);
-        within = within_of after s.limit b r.within;
-        taken = sym (given_taken after (marks begin b) s.first) ∙ (r.held ∙ ap Ok d.1);
+        items = marks s.profile begin b;
+        module_items = subst (λ k. Items s.profile b k) (append-nil (marks s.profile begin b)) (subst (λ y. Items s.profile y (marks s.profile begin b ++ [])) (append-nil b) all);
+        within = within_of after s.profile s.limit b r.within;
+        taken = sym (given_taken after (marks s.profile begin b) s.first) ∙ (r.held ∙ ap Ok d.1);
       }
 
   -- the marks of any module that begins so
-  pub begins_with : (b more : List ℕ) (k : Marks) → AreBytes b → Items s.profile (b ++ more) k → (later : Marks) × (k ≡ marks begin b ++ later) × StateRest strict s.profile (run begin b) more later
-  begins_with b more k bytes i = run_to strict s.profile tt begin b more k bytes (begin_to strict s.profile (b ++ more) k i)
+  pub begins_with : (b more : List ℕ) (k : Marks) → AreBytes b → Items s.profile (b ++ more) k → (later : Marks) × (k ≡ marks s.profile begin b ++ later) × StateRest strict s.profile (run s.profile begin b) more later
+  begins_with b more k bytes i = run_to strict s.profile tt begin b more k bytes begin_fits (begin_to strict s.profile (b ++ more) k i)
 
   not_refused : (m : Machine) (name : List ℕ) (b : List ℕ) (k : Marks) → MachineRest strict s.profile m name b k → IsRefused m → ⊥
   not_refused (machine.Refused w) name b k h i = h
   not_refused m name b k h i = i
 
   -- a front of what the sink takes is not refused
-  pub front_taken : (b more : List ℕ) (last : H) → AreBytes b → Takes after s (b ++ more) last → (m : Live H) × (decoded after s.limit Starts b ≡ Ok m)
+  pub front_taken : (b more : List ℕ) (last : H) → AreBytes b → Takes after s (b ++ more) last → (m : Live H) × (decoded after s.profile s.limit Starts b ≡ Ok m)
   front_taken b more last bytes t =
       let g = begins_with b more t.items bytes t.module_items in
-      let all : all_given after s.first (marks begin b ++ g.0) ≡ Ok last = ap (all_given after s.first) (sym g.1) ∙ (given_taken after t.items s.first ∙ t.taken) in
-      let f = given_front after (marks begin b) g.0 s.first last all in
+      let all : all_given after s.first (marks s.profile begin b ++ g.0) ≡ Ok last = ap (all_given after s.first) (sym g.1) ∙ (given_taken after t.items s.first ∙ t.taken) in
+      let f = given_front after (marks s.profile begin b) g.0 s.first last all in
       let room : 0 + length b ≤ s.limit = omega (arith, t.within, length-append b more) in
-      let r = reaches after s.limit b Starts f.0 room f.1 (λ i. not_refused (run begin b).machine (run begin b).name more g.0 g.2 i) in
+      let r = reaches after s.profile s.limit b Starts f.0 room f.1 (λ i. not_refused (run s.profile begin b).machine (run s.profile begin b).name more g.0 g.2 i) in
       (r.0, r.1)
     where
       length-append : (a b : List ℕ) → length (a ++ b) ≡ length a + length b
       length-append [] b = omega arith
       length-append (c ∷ a) b = let e : length (a ++ b) ≡ length a + length b = length-append a b in omega arith
 
-  pub never : (b more : List ℕ) (last : H) (r : Refusal) → AreBytes b → decoded after s.limit Starts b ≡ Err r → Takes after s (b ++ more) last → ⊥
+  pub never : (b more : List ℕ) (last : H) (r : Refusal) → AreBytes b → decoded after s.profile s.limit Starts b ≡ Err r → Takes after s (b ++ more) last → ⊥
   never b more last r bytes e t = let f = front_taken b more last bytes t in let no_way : Err r ≡ Ok f.0 = sym e ∙ f.1 in cc
 
-  ended_held : (x : Result (Live H) Refusal) (m : Live H) (last : H) → x ≡ Ok m → IsBetween m.machine → m.held ≡ last → and_then x ended ≡ Ok last
+  ended_held : (x : Result (Live H) Refusal) (m : Live H) (last : H) → x ≡ Ok m → MayEnd m.machine → m.held ≡ last → and_then x ended ≡ Ok last
   ended_held x m last e i h =
       let at_end : and_then x ended ≡ ended_at m.machine m.held m.at = ap (λ y. and_then y ended) e in
-      at_end ∙ (between_ended after s.limit m.machine m.held m.at i ∙ ap Ok h)
+      at_end ∙ (between_ended after s.profile s.limit m.machine m.held m.at i ∙ ap Ok h)
 
-  pub ended_of_takes : (last : H) (b : List ℕ) → AreBytes b → Takes after s b last → and_then (decoded after s.limit Starts b) ended ≡ Ok last
+  pub ended_of_takes : (last : H) (b : List ℕ) → AreBytes b → Takes after s b last → and_then (decoded after s.profile s.limit Starts b) ended ≡ Ok last
   ended_of_takes last b bytes t =
       let i = items_are s.profile b t.items bytes t.module_items in
-      let given : all_given after s.first (marks begin b) ≡ Ok last = ap (all_given after s.first) (sym i.0) ∙ (given_taken after t.items s.first ∙ t.taken) in
+      let given : all_given after s.first (marks s.profile begin b) ≡ Ok last = ap (all_given after s.first) (sym i.0) ∙ (given_taken after t.items s.first ∙ t.taken) in
       let room : 0 + length b ≤ s.limit = omega (arith, t.within) in
-      let r = reaches after s.limit b Starts last room given (between_live after s.limit (run begin b).machine i.1) in
-      let m : (run begin b).machine ≡ r.0.machine = sym (ap (λ (y : State). y.machine) r.3) in
-      ended_held (decoded after s.limit Starts b) r.0 last r.1 (subst IsBetween m i.1) r.2
+      let r = reaches after s.profile s.limit b Starts last room given (between_live after s.profile s.limit (run s.profile begin b).machine i.1) in
+      let m : (run s.profile begin b).machine ≡ r.0.machine = sym (ap (λ (y : State). y.machine) r.3) in
+      ended_held (decoded after s.profile s.limit Starts b) r.0 last r.1 (subst MayEnd m i.1) r.2
 
   -- the marks so far are those of any module that begins so
-  pub marks_of : (b more : List ℕ) (k : Marks) → AreBytes b → Items s.profile (b ++ more) k → marks begin b ≡ take (length b) k
+  pub marks_of : (b more : List ℕ) (k : Marks) → AreBytes b → Items s.profile (b ++ more) k → marks s.profile begin b ≡ take (length b) k
   marks_of b more k bytes i =
       let g = begins_with b more k bytes i in
-      sym (ap (take (length b)) g.1 ∙ take_at (marks begin b) g.0 (length b) (length_marks after s.limit b begin))
+      sym (ap (take (length b)) g.1 ∙ take_at (marks s.profile begin b) g.0 (length b) (length_marks after s.profile s.limit b begin))
 
   -- what a sink has taken of any module that begins so
-  pub so_far : (b more : List ℕ) (k : Marks) (m : Live H) → AreBytes b → decoded after s.limit Starts b ≡ Ok m → Items s.profile (b ++ more) k → all_taken after s.first (parts_of (take (length b) k)) ≡ Ok m.held
+  pub so_far : (b more : List ℕ) (k : Marks) (m : Live H) → AreBytes b → decoded after s.profile s.limit Starts b ≡ Ok m → Items s.profile (b ++ more) k → all_taken after s.first (parts_of (take (length b) k)) ≡ Ok m.held
   so_far b more k m bytes e i =
-      ap (λ y. all_taken after s.first (parts_of y)) (sym (marks_of b more k bytes i)) ∙ (sym (given_taken after (marks begin b) s.first) ∙ (reached after s.limit b Starts m e).held)
+      ap (λ y. all_taken after s.first (parts_of y)) (sym (marks_of b more k bytes i)) ∙ (sym (given_taken after (marks s.profile begin b) s.first) ∙ (reached after s.profile s.limit b Starts m e).held)

@@ -1,6 +1,6 @@
 -- What may still come of a module, and that each byte goes on with it.
-use Rattle.std.proofs.Common.{◌≡◌, ℕ, zero, suc, ◌+◌, ◌-◌, ◌<◌, ◌≤◌, ◌^◌, List, [], ◌∷◌, ◌++◌, Some, None, refl, sym, ◌∙◌, ap, subst, arith, true, false, nat_eq, nat_lt, cond, drop, get_or, add-one, drop-cons}
-use Rattle.std.proofs.lemmas.Bool.{cond_both, eqb-true, eqb-false, ltb-true, ltb-false}
+use Rattle.std.proofs.Common.{◌≡◌, ℕ, zero, suc, ◌+◌, ◌-◌, ◌<◌, ◌≤◌, ◌^◌, ◌⊎◌, inl, inr, List, [], ◌∷◌, ◌++◌, Option, Some, None, refl, sym, ◌∙◌, ap, subst, arith, true, false, nat_eq, nat_lt, nat_le, cond, drop, get_or, add-one, drop-cons}
+use Rattle.std.proofs.lemmas.Bool.{cond_both, eqb-true, eqb-false, ltb-true, ltb-false, leb-true, leb-false}
 use Rattle.std.specs.Str.{is_utf8}
 use Rattle.wm_syntax.specs.declared.why.Why.{Why}
 use Rattle.wm_syntax.specs.declared.why.Why.TheVariants as why
@@ -12,152 +12,308 @@ use Rattle.wm_syntax.specs.Partial.{Partial}
 use Rattle.wm_syntax.specs.Reading.{fresh, unsigned_push}
 use Rattle.wm_decode.specs.declared.machine.InCustom.{InCustom}
 use Rattle.wm_decode.specs.declared.machine.InCustom.TheVariants as custom
-use Rattle.wm_decode.specs.declared.machine.Inside.{Inside}
-use Rattle.wm_decode.specs.declared.machine.Inside.TheVariants as inside
 use Rattle.wm_decode.specs.declared.machine.Machine.{Machine}
 use Rattle.wm_decode.specs.declared.machine.Machine.TheVariants as machine
 use Rattle.wm_decode.specs.declared.machine.Event.{Event}
 use Rattle.wm_decode.specs.declared.machine.Event.TheVariants as event
-use Rattle.wm_decode.specs.Parts.{Mark, Marks}
-use Rattle.wm_decode.specs.Shapes.{Shape, Empty, Literal, Then, Name, Sized, Filled, Counted, Vector, nothing_at, ending, said}
+use Rattle.wm_decode.specs.declared.component.Component.{Component}
+use Rattle.wm_decode.specs.declared.component.Component.TheVariants as component
+use Rattle.wm_decode.specs.declared.component.InComponent.{InComponent}
+use Rattle.wm_decode.specs.declared.component.InComponent.TheVariants as at
+use Rattle.wm_decode.specs.Parts.{Zone, outside, Mark, Marks, data_byte}
+use Rattle.wm_decode.specs.Shapes.{Shape, Empty, Literal, Then, Times, Name, Sized, Filled, Counted, nothing_at, ending, said}
 use Rattle.wm_decode.specs.Sections.{header}
-use Rattle.wm_decode.specs.Grammar.{FunctionType, MayMiss, Chain, Module, last_read}
-use Rattle.wm_decode.specs.Steps.{on_number, custom_framed, framed, refused, section_start, contents, after_size, header_step, step_of, custom_step, inside_step}
-use Rattle.wm_decode.specs.Runs.{named, heard, Heard, State, hear, after_byte, run, marks, begin, plain_part}
+use Rattle.wm_decode.specs.Grammar.{Contents, Chain, Module}
+use Rattle.wm_decode.specs.Components.{id_of, component_of, begin as begin_component}
+use Rattle.wm_decode.specs.ComponentSteps.{on_number, component_step}
+use Rattle.wm_decode.specs.Steps.{custom_framed, custom_step, framed, listed, counted, after_count, begun_section, rising, section_start, after_size, custom_size, header_step, step_of}
+use Rattle.wm_decode.specs.Runs.{named, heard, Heard, State, zone_in, zone_of, hear, after_byte, run, marks, begin, plain_part}
 use Rattle.wm_decode.proofs.Next.{Next, Same, HasBytes, Never, head_same, tail_same, not_nil, same_refl, same_then, next_to, next_never, next_then, then_has, empty_then, never_then, then_same, ends_first, fails_first}
 use Rattle.wm_decode.proofs.Numbers.{Left}
-use Rattle.wm_decode.proofs.Counts.{CountedNext, counted_next, counted_has}
+use Rattle.wm_decode.proofs.Counts.{CountedNext, counted_next, counted_has, counted_same, number_fresh}
 use Rattle.wm_decode.proofs.Texts.{NameLeft, TextLeft, text_has, text_fresh, left_has, named_byte, AnyBytes, any_none, any_more, sized_next, sized_has, sized_none, sized_empty, sized_over, sized_never, sized_same, filled_none, filled_same}
-use Rattle.wm_decode.proofs.Contents.{InsideRest, inside_follows, inside_has, vector_same}
+use Rattle.wm_decode.proofs.ComponentBytes.{OneOf, ComponentRest, then_empty, begin_same, component_has, component_follows}
 use Rattle.wm_decode.proofs.Customs.{unnamed, CustomRest, custom_follows, custom_has}
-use Rattle.wm_decode.proofs.Chains.{custom_next, section_goes, not_first, over_marks, over, renumbered}
-
--- a section of functions or of code may be left out where there is no function
-pub no_function : (i : ℕ) → MayMiss 0 i
-no_function i = λ h. refl
+use Rattle.wm_decode.proofs.Chains.{Where, Missing, same_or_more, InSection, InCustomSection, custom_next, section_goes, not_first, over_missing, over, renumbered}
+use Rattle.wm_decode.proofs.Depends.{ForSome, some_next, some_none, some_same, some_never, some_then, some_counted, some_known, some_where, some_read}
+use Rattle.wm_decode.proofs.ComponentSound.{MayGo, can_begin, can_go_on}
+use Rattle.wm_decode.proofs.Fits.{IsNamed, component_named, FitsAt, Fits, may_begin, byte_fits}
 
 -- a module may end here
-abbrev pub IsBetween : Machine → Type 0
-IsBetween (machine.Between last) = Unit {0}
-IsBetween m = ⊥
+abbrev pub MayEnd : Machine → Type 0
+MayEnd (machine.Between last zero) = Unit {0}
+MayEnd m = ⊥
+
+-- The number of functions is known after their section, and after code it is zero.
+abbrev pub Known : (last functions f : ℕ) → Type 0
+Known last functions f = 3 ≤ last → f ≡ functions
+
+-- the same in the section of this id
+abbrev pub KnownIn : (id functions f : ℕ) → Type 0
+KnownIn id functions f = 3 < id → f ≡ functions
+
+below_or : (a b : ℕ) → (a < b) ⊎ (b ≤ a)
+below_or a b = (elim (nat_lt a b) as (λ v. nat_lt a b ≡ v → (a < b) ⊎ (b ≤ a)) [
+  | true ↦ λ e. inl (ltb-true a b e)
+  | false ↦ λ e. inr (ltb-false a b e)
+]) refl
 
 module _ (demanded : Type 0) (p : Profile) where
-  -- the sections after the one of this id
-  abbrev pub Later : ℕ → Shape
-  Later last = Chain demanded p 0 (last_read - last) (suc last)
+  -- the sections after the last one, where so many functions await their code
+  abbrev pub Later : (last functions : ℕ) → Shape
+  Later last functions = ForSome (Known last functions) (λ f. Chain demanded p f (11 - last) (suc last))
 
-  -- the contents of a section that is read, of so many bytes
-  abbrev pub Known : (id n : ℕ) → Shape
-  Known zero n = Filled demanded n (Name demanded unnamed)
-  Known (suc zero) n = Sized demanded n (Vector FunctionType)
-  Known (suc (suc i)) n = Never
+  -- the sections after this one
+  abbrev pub After : Component → ℕ → Shape
+  After of f = Chain demanded p f (11 - id_of of) (suc (id_of of))
 
-  abbrev pub InKnown : (id last n : ℕ) → Shape
-  InKnown id last n = Then (Known id n) (Later last)
+  abbrev pub InSize : Component → (f n : ℕ) → Shape
+  InSize of f n = Then (Sized demanded n (Contents demanded p f (id_of of))) (After of f)
+
+  -- so many components
+  abbrev pub ListOf : Component → (f n : ℕ) → Shape
+  ListOf component.Function f n = Where (demanded → n ≡ f) (Times n (OneOf demanded p component.Function))
+  ListOf component.Code f n = Where (demanded → n ≡ f) (Times n (OneOf demanded p component.Code))
+  ListOf of f n = Times n (OneOf demanded p of)
+
+  abbrev pub Listed : Component → Partial → ℕ → Shape
+  Listed of r f = Counted (Left r) nothing_at (ListOf of f)
+
+  -- the rest of a component, and so many more
+  abbrev pub Within : Component → ℕ → InComponent → List ℕ → Shape
+  Within of left q so_far = Then (ComponentRest demanded p q so_far) (Times left (OneOf demanded p of))
 
   abbrev pub InHeader : ℕ → Shape
-  InHeader n b k = (n < 8) × Then (Literal (drop n header)) (Later 0) b k
+  InHeader n b k = (n < 8) × Then (Literal (drop n header)) (Later 0 0) b k
 
   abbrev pub MachineRest : Machine → List ℕ → Shape
   MachineRest (machine.Header n) so_far = InHeader n
-  MachineRest (machine.Between last) so_far = Later last
-  MachineRest (machine.Size id last r) so_far = Counted (Left r) nothing_at (InKnown id last)
-  MachineRest (machine.Custom last more q) so_far = Then (CustomRest demanded (suc more) q so_far) (Later last)
-  MachineRest (machine.Section last more q) so_far = Then (Sized demanded (suc more) (InsideRest demanded q so_far)) (Later last)
+  MachineRest (machine.Between last functions) so_far = Later last functions
+  MachineRest (machine.CustomSize last functions r) so_far = Counted (Left r) nothing_at (λ n. Then (Filled demanded n (Name demanded unnamed)) (Later last functions))
+  MachineRest (machine.Custom last functions more q) so_far = Then (CustomRest demanded (suc more) q so_far) (Later last functions)
+  MachineRest (machine.Size of functions r) so_far = ForSome (KnownIn (id_of of) functions) (λ f. Counted (Left r) nothing_at (InSize of f))
+  MachineRest (machine.Count of functions more r) so_far = ForSome (KnownIn (id_of of) functions) (λ f. Then (Sized demanded (suc more) (Listed of r f)) (After of f))
+  MachineRest (machine.Section of functions more left q) so_far = Then (Sized demanded (suc more) (Within of left q so_far)) (Later (id_of of) functions)
   MachineRest (machine.Refused w) so_far = Never
+
+  abbrev pub StateRest : State → Shape
+  StateRest s = MachineRest s.machine s.name
 
   abbrev pub Continues : Shape → ℕ → Heard Machine → Type 0
   Continues P c h = Next demanded P c h.mark (MachineRest h.at h.name)
 
-  abbrev pub listens : List ℕ → ℕ → Machine × Event → Heard Machine
-  listens so_far c q = heard machine.Refused so_far c q
+  abbrev listens : List ℕ → ℕ → Machine × Event → Heard Machine
+  listens so_far c q = heard machine.Refused outside so_far c q
+
+  has_same : (P Q : Shape) → Same demanded P Q → HasBytes demanded Q → HasBytes demanded P
+  has_same P Q e h = λ s k i. h s k (e.to s [] k i)
 
   -- from a part of the machine to the whole of it, whatever the byte completes
   module _ {M : Type 0} (refuse : Why → M) (rest : M → List ℕ → Shape) (frame : M → Machine) (stuck : (w : Why) → frame (refuse w) ≡ machine.Refused w)
-      (P F : Shape) (so_far : List ℕ) (c : ℕ) (go : (m : M) (x : Mark) (y : List ℕ) → Next demanded P c x (rest m y) → Next demanded F c x (MachineRest (frame m) y)) where
+      (Fine : M → Type 0) (fine : (w : Why) → Fine (refuse w)) (P F : Shape) (zone : Zone) (so_far : List ℕ) (c : ℕ)
+      (go : (m : M) (x : Mark) (y : List ℕ) → Fine m → Next demanded P c x (rest m y) → Next demanded F c x (MachineRest (frame m) y)) where
     abbrev Inner : Heard M → Type 0
     Inner h = Next demanded P c h.mark (rest h.at h.name)
 
-    lifted : (m : M) (e : Event) → Inner (heard refuse so_far c (m, e)) → Continues F c (listens so_far c (frame m, e))
-    lifted m event.Quiet h = go m (said None) [] h
-    lifted m (event.Gives q) h = go m (said (Some (plain_part q))) [] h
-    lifted m event.InName h = go m named_byte (so_far ++ c ∷ []) h
-    lifted m (event.EmptyName kind) h = go m (said (named kind [])) [] h
-    lifted m (event.EndsName kind) h =
+    lifted : (m : M) (e : Event) → Fine m → Inner (heard refuse zone so_far c (m, e)) → Continues F c (heard machine.Refused zone so_far c (frame m, e))
+    lifted m event.Quiet i h = go m (record { zone = zone; part = None }) [] i h
+    lifted m (event.Gives q) i h = go m (record { zone = zone; part = Some (plain_part q) }) [] i h
+    lifted m event.DataByte i h = go m (said (Some (data_byte c))) [] i h
+    lifted m event.InName i h = go m named_byte (so_far ++ c ∷ []) i h
+    lifted m (event.EmptyName kind) i h = go m (said (named kind [])) [] i h
+    lifted m (event.EndsName kind) i h =
         let name : List ℕ = so_far ++ c ∷ [] in
         (elim (is_utf8 name) as (λ v.
         Inner (cond v (record { at = m; name = []; mark = said (named kind name) }) (record { at = refuse why.BadUtf8; name = []; mark = said None }))
         → Continues F c (cond v (record { at = frame m; name = []; mark = said (named kind name) }) (record { at = machine.Refused why.BadUtf8; name = []; mark = said None }))) [
-          | true ↦ λ g. go m (said (named kind name)) [] g
-          | false ↦ λ g. subst (λ y. Next demanded F c (said None) (MachineRest y [])) (stuck why.BadUtf8) (go (refuse why.BadUtf8) (said None) [] g)
+          | true ↦ λ g. go m (said (named kind name)) [] i g
+          | false ↦ λ g. subst (λ y. Next demanded F c (said None) (MachineRest y [])) (stuck why.BadUtf8) (go (refuse why.BadUtf8) (said None) [] (fine why.BadUtf8) g)
         ]) h
 
   -- in a custom section
-  custom_same : (last more : ℕ) (q : InCustom) (y : List ℕ) → Same demanded (Then (CustomRest demanded more q y) (Later last)) (MachineRest (custom_framed last more q) y)
-  custom_same last more (custom.Failed w) y = never_then demanded Never (Later last) (same_refl demanded Never)
-  custom_same last zero custom.Skip y = same_then demanded (Then (AnyBytes demanded 0) (Later last)) (Then Empty (Later last)) (Later last) (then_same demanded (AnyBytes demanded 0) (Later last) Empty (Later last) (any_none demanded) (same_refl demanded (Later last))) (empty_then demanded (Later last))
-  custom_same last zero (custom.Length r) y = never_then demanded (CustomRest demanded 0 (custom.Length r) y) (Later last) (filled_none demanded (TextLeft demanded r unnamed) (text_has demanded unnamed r))
-  custom_same last zero (custom.Name more) y = never_then demanded (CustomRest demanded 0 (custom.Name more) y) (Later last) (filled_none demanded (NameLeft demanded y (suc more) unnamed) (left_has demanded y more unnamed))
-  custom_same last (suc n) custom.Skip y = same_refl demanded (MachineRest (machine.Custom last n custom.Skip) y)
-  custom_same last (suc n) (custom.Length r) y = same_refl demanded (MachineRest (machine.Custom last n (custom.Length r)) y)
-  custom_same last (suc n) (custom.Name more) y = same_refl demanded (MachineRest (machine.Custom last n (custom.Name more)) y)
+  custom_same : (last functions more : ℕ) (q : InCustom) (y : List ℕ) → Same demanded (Then (CustomRest demanded more q y) (Later last functions)) (MachineRest (custom_framed last functions more q) y)
+  custom_same last functions more (custom.Failed w) y = never_then demanded Never (Later last functions) (same_refl demanded Never)
+  custom_same last functions zero custom.Skip y = let L : Shape = Later last functions in
+      same_then demanded (Then (AnyBytes demanded 0) L) (Then Empty L) L (then_same demanded (AnyBytes demanded 0) L Empty L (any_none demanded) (same_refl demanded L)) (empty_then demanded L)
+  custom_same last functions zero (custom.Length r) y = never_then demanded (CustomRest demanded 0 (custom.Length r) y) (Later last functions) (filled_none demanded (TextLeft demanded r unnamed) (text_has demanded unnamed r))
+  custom_same last functions zero (custom.Name more) y = never_then demanded (CustomRest demanded 0 (custom.Name more) y) (Later last functions) (filled_none demanded (NameLeft demanded y (suc more) unnamed) (left_has demanded y more unnamed))
+  custom_same last functions (suc n) custom.Skip y = same_refl demanded (MachineRest (machine.Custom last functions n custom.Skip) y)
+  custom_same last functions (suc n) (custom.Length r) y = same_refl demanded (MachineRest (machine.Custom last functions n (custom.Length r)) y)
+  custom_same last functions (suc n) (custom.Name more) y = same_refl demanded (MachineRest (machine.Custom last functions n (custom.Name more)) y)
 
-  in_custom : (last more : ℕ) (q : InCustom) (so_far : List ℕ) (c : ℕ) → c < 2 ^ 8 → Continues (MachineRest (machine.Custom last more q) so_far) c (listens so_far c (step_of (machine.Custom last more q) c))
-  in_custom last more q so_far c byte =
+  in_custom : (last functions more : ℕ) (q : InCustom) (so_far : List ℕ) (c : ℕ) → c < 2 ^ 8 → Continues (MachineRest (machine.Custom last functions more q) so_far) c (listens so_far c (step_of p (machine.Custom last functions more q) c))
+  in_custom last functions more q so_far c byte =
       let P : Shape = CustomRest demanded (suc more) q so_far in
-      lifted custom.Failed (CustomRest demanded more) (custom_framed last more) (λ w. refl) P (Then P (Later last)) so_far c
-      (λ m x y h. next_to demanded (Then P (Later last)) (Then (CustomRest demanded more m y) (Later last)) (MachineRest (custom_framed last more m) y) c x (custom_same last more m y) (next_then demanded P (Later last) c x (CustomRest demanded more m y) h (custom_has demanded more q so_far)))
-      (custom_step q c).0 (custom_step q c).1 (custom_follows demanded more so_far c q byte)
+      let L : Shape = Later last functions in
+      lifted custom.Failed (CustomRest demanded more) (custom_framed last functions more) (λ w. refl) (λ m. Unit {0}) (λ w. tt) P (Then P L) outside so_far c
+      (λ m x y i h. next_to demanded (Then P L) (Then (CustomRest demanded more m y) L) (MachineRest (custom_framed last functions more m) y) c x (custom_same last functions more m y) (next_then demanded P L c x (CustomRest demanded more m y) h (custom_has demanded more q so_far)))
+      (custom_step q c).0 (custom_step q c).1 tt (custom_follows demanded more so_far c q byte)
 
-  -- in another section
-  frame_same : (last more : ℕ) (q : Inside) (y : List ℕ) → Same demanded (Then (Sized demanded more (InsideRest demanded q y)) (Later last)) (MachineRest (framed last more q) y)
-  frame_same last more (inside.Failed w) y = never_then demanded (Sized demanded more Never) (Later last) (sized_never demanded more)
-  frame_same last zero inside.Over y = same_then demanded (Then (Sized demanded 0 Empty) (Later last)) (Then Empty (Later last)) (Later last) (then_same demanded (Sized demanded 0 Empty) (Later last) Empty (Later last) (sized_empty demanded) (same_refl demanded (Later last))) (empty_then demanded (Later last))
-  frame_same last (suc n) inside.Over y = never_then demanded (Sized demanded (suc n) Empty) (Later last) (sized_over demanded n)
-  frame_same last zero q y = never_then demanded (Sized demanded 0 (InsideRest demanded q y)) (Later last) (sized_none demanded (InsideRest demanded q y) (inside_has demanded q y tt))
-  frame_same last (suc n) q y = same_refl demanded (MachineRest (machine.Section last n q) y)
+  -- at its size
+  abbrev InCustoms : (last functions n : ℕ) → Shape
+  InCustoms last functions n = Then (Filled demanded n (Name demanded unnamed)) (Later last functions)
 
-  in_section : (last more : ℕ) (q : Inside) (so_far : List ℕ) (c : ℕ) → c < 2 ^ 8 → Continues (MachineRest (machine.Section last more q) so_far) c (listens so_far c (step_of (machine.Section last more q) c))
-  in_section last more q so_far c byte =
-      let P : Shape = InsideRest demanded q so_far in
-      let F : Shape = Then (Sized demanded (suc more) P) (Later last) in
-      lifted inside.Failed (InsideRest demanded) (framed last more) (λ w. refl) P F so_far c
-      (λ m x y h. next_to demanded F (Then (Sized demanded more (InsideRest demanded m y)) (Later last)) (MachineRest (framed last more m) y) c x (frame_same last more m y) (next_then demanded (Sized demanded (suc more) P) (Later last) c x (Sized demanded more (InsideRest demanded m y)) (sized_next demanded P (InsideRest demanded m y) more c x h) (sized_has demanded P more)))
-      (inside_step q c).0 (inside_step q c).1 (inside_follows demanded q so_far c byte)
+  custom_size_same : (last functions n : ℕ) → Same demanded (InCustoms last functions n) (MachineRest (custom_size last functions n) [])
+  custom_size_same last functions n =
+      let L : Shape = Later last functions in
+      let R : Shape = CustomRest demanded n (custom.Length fresh) [] in
+      same_then demanded (InCustoms last functions n) (Then R L) (MachineRest (custom_size last functions n) [])
+      (then_same demanded (Filled demanded n (Name demanded unnamed)) L R L (filled_same demanded (Name demanded unnamed) (TextLeft demanded fresh unnamed) n (text_fresh demanded unnamed)) (same_refl demanded L))
+      (custom_same last functions n (custom.Length fresh) [])
+
+  custom_sizes : (last functions : ℕ) (r : Partial) (so_far : List ℕ) (c : ℕ) (q : Step ℕ × Partial) → CountedNext demanded nothing_at (InCustoms last functions) r c q
+      → Continues (Counted (Left r) nothing_at (InCustoms last functions)) c (listens so_far c (on_number q (λ s. machine.CustomSize last functions s) (λ n. (custom_size last functions n, event.Quiet)) machine.Refused))
+  custom_sizes last functions r so_far c (More, s) h = h
+  custom_sizes last functions r so_far c (Done v, s) h = next_to demanded (Counted (Left r) nothing_at (InCustoms last functions)) (InCustoms last functions v) (MachineRest (custom_size last functions v) []) c (said None) (custom_size_same last functions v) h
+  custom_sizes last functions r so_far c (Bad, s) h = h
+
+  -- the contents of a section
+  abbrev IsList : Component → ℕ → Shape
+  IsList component.Start f = OneOf demanded p component.Start
+  IsList of f = Listed of fresh f
+
+  contents_same : (of : Component) (f : ℕ) → Same demanded (Contents demanded p f (id_of of)) (IsList of f)
+  contents_same component.Start f = same_refl demanded (OneOf demanded p component.Start)
+  contents_same of f = number_fresh demanded nothing_at (ListOf of f) (ListOf of f) (λ n. same_refl demanded (ListOf of f n))
+
+  -- once the number of functions was read
+  list_read : (of : Component) (functions more v : ℕ) → (id_of of ≡ 3 → ⊥) → Same demanded (ForSome (KnownIn (id_of of) functions) (λ f. Then (Sized demanded more (Times v (OneOf demanded p of))) (After of f))) (Then (Sized demanded more (Times v (OneOf demanded p of))) (Later (id_of of) functions))
+  list_read of functions more v other =
+      let S : Shape = Sized demanded more (Times v (OneOf demanded p of)) in
+      let C : ℕ → Type 0 = KnownIn (id_of of) functions in
+      let D : ℕ → Type 0 = Known (id_of of) functions in
+      same_then demanded (ForSome C (λ f. Then S (After of f))) (Then S (ForSome C (After of))) (Then S (ForSome D (After of)))
+      (some_then demanded C S (After of))
+      (then_same demanded S (ForSome C (After of)) S (ForSome D (After of)) (same_refl demanded S)
+      (some_known demanded C D (After of) (λ f k l. k (above (id_of of) other l)) (λ f k l. k (omega (arith, l)))))
+    where
+      above : (id : ℕ) → (id ≡ 3 → ⊥) → 3 ≤ id → 3 < id
+      above id other l = elim (same_or_more 3 id l) [ inl e ↦ absurd (other (sym e)) | inr a ↦ a ]
+
+  code_read : (functions more v : ℕ) → v ≡ functions
+      → Same demanded (ForSome (KnownIn 10 functions) (λ f. Then (Sized demanded more (ListOf component.Code f v)) (After component.Code f))) (Then (Sized demanded more (Times v (OneOf demanded p component.Code))) (Later 10 0))
+  code_read functions more v e =
+      let X : Shape = Times v (OneOf demanded p component.Code) in
+      let D : ℕ → Type 0 = λ f. f ≡ functions in
+      let Q : ℕ → Shape = After component.Code in
+      same_then demanded (ForSome (KnownIn 10 functions) (λ f. Then (Sized demanded more (Where (demanded → v ≡ f) X)) (Q f))) (Then (Sized demanded more X) (ForSome D Q)) (Then (Sized demanded more X) (Later 10 0))
+      (some_read demanded (KnownIn 10 functions) D v more X Q (λ f k w. k (omega arith)) (λ f d. (λ l. d, e ∙ sym d)))
+      (then_same demanded (Sized demanded more X) (ForSome D Q) (Sized demanded more X) (Later 10 0) (same_refl demanded (Sized demanded more X)) (record {
+        to = λ s b k h. (0, λ l. refl, renumbered demanded p h.0 0 b k h.2);
+        from = λ b k h. (functions, refl, renumbered demanded p h.0 functions b k h.2);
+      }))
+
+  code_other : (functions more v : ℕ) → (v ≡ functions → ⊥) → Same demanded (ForSome (KnownIn 10 functions) (λ f. Then (Sized demanded more (ListOf component.Code f v)) (After component.Code f))) Never
+  code_other functions more v ne =
+      some_never demanded (KnownIn 10 functions) (λ f. Then (Sized demanded more (ListOf component.Code f v)) (After component.Code f)) (λ f k.
+      never_then demanded (Sized demanded more (ListOf component.Code f v)) (After component.Code f) (record {
+        to = λ s b m h. ne (h.1.0 s ∙ k (omega arith));
+        from = λ b m h. absurd h;
+      }))
+
+  function_read : (functions more v : ℕ)
+      → Same demanded (ForSome (KnownIn 3 functions) (λ f. Then (Sized demanded more (ListOf component.Function f v)) (After component.Function f))) (Then (Sized demanded more (Times v (OneOf demanded p component.Function))) (Later 3 v))
+  function_read functions more v =
+      some_read demanded (KnownIn 3 functions) (Known 3 v) v more (Times v (OneOf demanded p component.Function)) (After component.Function) (λ f k e l. sym e)
+      (λ f d. (λ l. absurd (omega (arith, l)), sym (d (omega arith))))
 
   -- between sections
-  section_start_next : (last m : ℕ) → suc m ≤ last_read → last < suc m → Next demanded (Later last) (suc m) (said None) (Counted (Left fresh) nothing_at (InKnown (suc m) (suc m)))
-  section_start_next last zero few above =
-      let e : last ≡ 0 = omega arith in
-      rw e (section_goes demanded p 0 0 0 1 0 refl (λ i low high. no_function i))
-  section_start_next last (suc m) few above = absurd (omega (arith, few))
+  none_rises : (last functions m : ℕ) → (suc last ≤ suc m → suc m < suc last + (11 - last) → ⊥) → Next demanded (Later last functions) (suc m) (said None) Never
+  none_rises last functions m none = next_never demanded (Later last functions) (suc m) (said None) (λ s b k h. not_first demanded p h.0 (11 - last) (suc last) m b k none h.2)
 
-  between : (last : ℕ) (so_far : List ℕ) (c : ℕ) → Continues (Later last) c (listens so_far c (section_start last c))
-  between last so_far zero = custom_next demanded p 0 (last_read - last) last
-  between last so_far (suc m) =
-      let P : Machine × Event → Type 0 = λ q. Continues (Later last) (suc m) (listens so_far (suc m) q) in
-      cond_both (nat_lt last_read (suc m)) _ _ P
-      (λ a. let big : last_read < suc m = ltb-true last_read (suc m) a in
-      next_never demanded (Later last) (suc m) (said None) (λ s b k h. not_first demanded p 0 (last_read - last) (suc last) m b k (λ low high. omega (arith, big, low, high)) h))
-      (λ a. cond_both (nat_lt last (suc m)) _ _ P
-      (λ d. section_start_next last m (ltb-false last_read (suc m) a) (ltb-true last (suc m) d))
-      (λ d. let low : suc m ≤ last = ltb-false last (suc m) d in
-      next_never demanded (Later last) (suc m) (said None) (λ s b k h. not_first demanded p 0 (last_read - last) (suc last) m b k (λ up high. omega (arith, low, up)) h)))
+  -- a section whose id is above the last one
+  abbrev Opens : (f last id : ℕ) → Type 0
+  Opens f last id = Next demanded (Chain demanded p f (11 - last) (suc last)) id (said None) (Where (Missing f (suc last) id) (InSection demanded p f id (Chain demanded p f (11 - id) (suc id))))
 
-  -- at a section's size
-  size_same : (id last n : ℕ) → Same demanded (InKnown id last n) (MachineRest (after_size id last n) [])
-  size_same zero last zero = never_then demanded (Known 0 0) (Later last) (filled_none demanded (Name demanded unnamed) (λ s k h. text_has demanded unnamed fresh s k ((text_fresh demanded unnamed).to s [] k h)))
-  size_same (suc zero) last zero = never_then demanded (Known 1 0) (Later last) (sized_none demanded (Vector FunctionType) (λ s k h. inside_has demanded (contents 1) [] tt s k ((vector_same demanded FunctionType).to s [] k h)))
-  size_same (suc (suc i)) last zero = never_then demanded Never (Later last) (same_refl demanded Never)
-  size_same zero last (suc n) = then_same demanded (Known 0 (suc n)) (Later last) (CustomRest demanded (suc n) (custom.Length fresh) []) (Later last) (filled_same demanded (Name demanded unnamed) (TextLeft demanded fresh unnamed) (suc n) (text_fresh demanded unnamed)) (same_refl demanded (Later last))
-  size_same (suc zero) last (suc n) = then_same demanded (Known 1 (suc n)) (Later last) (Sized demanded (suc n) (InsideRest demanded (contents 1) [])) (Later last) (sized_same demanded (Vector FunctionType) (InsideRest demanded (contents 1) []) (suc n) (vector_same demanded FunctionType)) (same_refl demanded (Later last))
-  size_same (suc (suc i)) last (suc n) = record { to = λ s b k h. absurd h.first; from = λ b k h. record { front = h.front; back = h.back; front_marks = h.front_marks; back_marks = h.back_marks; bytes = h.bytes; marks = h.marks; first = h.first.1; second = h.second } }
+  opens : (f last m : ℕ) → last ≤ m → suc m ≤ 11 → Opens f last (suc m)
+  opens f last m above few =
+      let e : suc m ≡ suc last + (m - last) = omega (arith, above) in
+      let n : suc ((m - last) + (11 - suc m)) ≡ 11 - last = omega (arith, above, few) in
+      subst (λ y. Next demanded (Chain demanded p f y (suc last)) (suc m) (said None) (Where (Missing f (suc last) (suc m)) (InSection demanded p f (suc m) (Chain demanded p f (11 - suc m) (suc (suc m)))))) n
+      (section_goes demanded p f (m - last) (11 - suc m) (suc last) m e)
 
-  size_cases : (id last : ℕ) (r : Partial) (so_far : List ℕ) (c : ℕ) (q : Step ℕ × Partial) → CountedNext demanded nothing_at (InKnown id last) r c q
-      → Continues (Counted (Left r) nothing_at (InKnown id last)) c (listens so_far c (on_number q (λ s. (machine.Size id last s, event.Quiet)) (λ n. (after_size id last n, event.Quiet)) (refused why.BadNumber)))
-  size_cases id last r so_far c (More, s) h = h
-  size_cases id last r so_far c (Done v, s) h = next_to demanded (Counted (Left r) nothing_at (InKnown id last)) (InKnown id last v) (MachineRest (after_size id last v) []) c (said None) (size_same id last v) h
-  size_cases id last r so_far c (Bad, s) h = h
+  id_few : (of : Component) → id_of of ≤ 11
+  id_few component.Type = omega arith
+  id_few component.Import = omega arith
+  id_few component.Function = omega arith
+  id_few component.Table = omega arith
+  id_few component.Memory = omega arith
+  id_few component.Global = omega arith
+  id_few component.Export = omega arith
+  id_few component.Start = omega arith
+  id_few component.Element = omega arith
+  id_few component.Code = omega arith
+  id_few component.Segment = omega arith
+
+  opens_of : (of : Component) (f last m : ℕ) → suc m ≡ id_of of → last < id_of of → Opens f last (id_of of)
+  opens_of of f last m e above = subst (Opens f last) e (opens f last m (omega (arith, e, above)) (omega (arith, e, id_few of)))
+
+  -- what is known where it opens
+  module _ (last functions id : ℕ) (fits : FitsAt last functions) (above : last < id) (late : 10 < id → functions ≡ 0) where
+    known_in : (f : ℕ) → Known last functions f → Missing f (suc last) id → KnownIn id functions f
+    known_in f k miss l = elim (below_or last 3) [
+      | inl few ↦ miss 3 (omega (arith, few)) l (inl refl) ∙ sym (fits.0 few)
+      | inr a ↦ k a
+    ]
+
+    none_left : (f : ℕ) → KnownIn id functions f → Missing f (suc last) id
+    none_left f k i low high e = elim e [
+      | inl a ↦ k (omega (arith, a, high)) ∙ fits.0 (omega (arith, a, low))
+      | inr a ↦ k (omega (arith, a, high)) ∙ late (omega (arith, a, high))
+    ]
+
+    known_before : (f : ℕ) → KnownIn id functions f → Known last functions f
+    known_before f k l = k (omega (arith, l, above))
+
+  size_opens : (of : Component) (last functions m : ℕ) → suc m ≡ id_of of → FitsAt last functions → last < id_of of → (10 < id_of of → functions ≡ 0) → Next demanded (Later last functions) (id_of of) (said None) (MachineRest (machine.Size of functions fresh) [])
+  size_opens of last functions m e fits above late =
+      let C : ℕ → Type 0 = Known last functions in
+      let D : ℕ → Type 0 = KnownIn (id_of of) functions in
+      let M : ℕ → Type 0 = λ f. Missing f (suc last) (id_of of) in
+      let Q : ℕ → Shape = λ f. Counted (Left fresh) nothing_at (InSize of f) in
+      next_to demanded (Later last functions) (ForSome C (λ f. Where (M f) (Q f))) (ForSome D Q) (id_of of) (said None)
+      (some_where demanded C D M Q (known_in last functions (id_of of) fits above late) (λ f k. (known_before last functions (id_of of) fits above late f k, none_left last functions (id_of of) fits above late f k)))
+      (some_next demanded C (λ f. Chain demanded p f (11 - last) (suc last)) (λ f. Where (M f) (Q f)) (id_of of) (said None) (λ f. opens_of of f last m e above))
+
+  -- no code can come after data
+  no_code : (last n m : ℕ) → suc m ≡ 11 → FitsAt last (suc n) → last < 11 → Next demanded (Later last (suc n)) 11 (said None) Never
+  no_code last n m e fits above = next_never demanded (Later last (suc n)) 11 (said None) (λ s b k h.
+      elim (below_or last 3) [
+        | inl few ↦ let z = fits.0 few in omega (arith, z)
+        | inr known ↦ elim (below_or last 10) [
+          | inr late ↦ let z = fits.1 late in omega (arith, z)
+          | inl early ↦
+              let g = (opens_of component.Segment h.0 last m e above).to s b k h.2 in
+              let z : h.0 ≡ 0 = g.2.0 10 (omega (arith, early)) (omega arith) (inr refl) in
+              let y : h.0 ≡ suc n = h.1 known in
+              omega (arith, y, z)
+        ]
+      ])
+
+  begun : (of : Component) (last functions m : ℕ) (so_far : List ℕ) → suc m ≡ id_of of → FitsAt last functions → last < id_of of → Continues (Later last functions) (id_of of) (listens so_far (id_of of) (begun_section of functions))
+  begun component.Segment last zero m so_far e fits above = size_opens component.Segment last 0 m e fits above (λ l. refl)
+  begun component.Segment last (suc n) m so_far e fits above = no_code last n m e fits above
+  begun of last functions m so_far e fits above = size_opens of last functions m e fits above (λ l. absurd (omega (arith, l)))
+
+  rises : (last functions m : ℕ) (so_far : List ℕ) (q : Option Component) → IsNamed (suc m) q → FitsAt last functions → Continues (Later last functions) (suc m) (listens so_far (suc m) (rising last functions (suc m) q))
+  rises last functions m so_far None named fits = none_rises last functions m (λ low high. omega (arith, named, low, high))
+  rises last functions m so_far (Some of) named fits =
+      cond_both (nat_le (suc m) last) _ _ (λ (q : Machine × Event). Continues (Later last functions) (suc m) (listens so_far (suc m) q))
+      (λ a. let low : suc m ≤ last = leb-true (suc m) last a in none_rises last functions m (λ up high. omega (arith, low, up)))
+      (λ a. let above : last < suc m = leb-false (suc m) last a in
+      subst (λ i. Continues (Later last functions) i (listens so_far i (begun_section of functions))) (sym named) (begun of last functions m so_far named fits (omega (arith, above, named))))
+
+  between : (last functions : ℕ) (so_far : List ℕ) (c : ℕ) → FitsAt last functions → Continues (Later last functions) c (listens so_far c (section_start last functions c))
+  between last functions so_far zero fits =
+      let C : ℕ → Type 0 = Known last functions in
+      let Q : ℕ → Shape = λ f. Chain demanded p f (11 - last) (suc last) in
+      let N : ℕ → Shape = λ n. Filled demanded n (Name demanded unnamed) in
+      next_to demanded (Later last functions) (ForSome C (λ f. InCustomSection demanded p f (Q f))) (MachineRest (machine.CustomSize last functions fresh) []) 0 (said None)
+      (same_then demanded (ForSome C (λ f. Counted (Left fresh) nothing_at (λ n. Then (N n) (Q f)))) (Counted (Left fresh) nothing_at (λ n. ForSome C (λ f. Then (N n) (Q f)))) (Counted (Left fresh) nothing_at (λ n. Then (N n) (Later last functions)))
+      (some_counted demanded C (Left fresh) nothing_at (λ f n. Then (N n) (Q f)))
+      (counted_same demanded (Left fresh) (Left fresh) nothing_at (λ n. ForSome C (λ f. Then (N n) (Q f))) (λ n. Then (N n) (Later last functions)) (λ n b. (λ h. h, λ h. h)) (λ n. some_then demanded C (N n) Q)))
+      (some_next demanded C Q (λ f. InCustomSection demanded p f (Q f)) 0 (said None) (λ f. custom_next demanded p f (11 - last) last))
+  between last functions so_far (suc m) fits = rises last functions m so_far (component_of (suc m)) (component_named m) fits
 
   -- in the header
   literal_next : (d : ℕ) (text : List ℕ) → Next demanded (Literal (d ∷ text)) d (said None) (Literal text)
@@ -175,25 +331,25 @@ module _ (demanded : Type 0) (p : Profile) where
   header_cut : (n : ℕ) → n < 8 → drop n header ≡ get_or header n 0 ∷ drop (n + 1) header
   header_cut n h = rw add-one (drop-cons header n 0 h)
 
-  header_first : (n c : ℕ) (x : Mark) (Q : Shape) → n < 8 → Next demanded (Then (Literal (get_or header n 0 ∷ drop (n + 1) header)) (Later 0)) c x Q → Next demanded (InHeader n) c x Q
+  header_first : (n c : ℕ) (x : Mark) (Q : Shape) → n < 8 → Next demanded (Then (Literal (get_or header n 0 ∷ drop (n + 1) header)) (Later 0 0)) c x Q → Next demanded (InHeader n) c x Q
   header_first n c x Q few h = record {
-    to = λ s b k i. h.to s b k (subst (λ y. Then (Literal y) (Later 0) (c ∷ b) k) (header_cut n few) i.1);
-    from = λ b k g. (few, subst (λ y. Then (Literal y) (Later 0) (c ∷ b) k) (sym (header_cut n few)) (h.from b k g));
+    to = λ s b k i. h.to s b k (subst (λ y. Then (Literal y) (Later 0 0) (c ∷ b) k) (header_cut n few) i.1);
+    from = λ b k g. (few, subst (λ y. Then (Literal y) (Later 0 0) (c ∷ b) k) (sym (header_cut n few)) (h.from b k g));
   }
 
-  header_more : (n : ℕ) → n < 8 → n < 7 → Next demanded (Then (Literal (get_or header n 0 ∷ drop (n + 1) header)) (Later 0)) (get_or header n 0) (said None) (InHeader (n + 1))
+  header_more : (n : ℕ) → n < 8 → n < 7 → Next demanded (Then (Literal (get_or header n 0 ∷ drop (n + 1) header)) (Later 0 0)) (get_or header n 0) (said None) (InHeader (n + 1))
   header_more n few fewer =
       let d : ℕ = get_or header n 0 in
       let later : List ℕ = drop (n + 1) header in
       let lt : n + 1 < 8 = omega arith in
-      next_to demanded (Then (Literal (d ∷ later)) (Later 0)) (Then (Literal later) (Later 0)) (InHeader (n + 1)) d (said None)
+      next_to demanded (Then (Literal (d ∷ later)) (Later 0 0)) (Then (Literal later) (Later 0 0)) (InHeader (n + 1)) d (said None)
       (record { to = λ s b k h. (lt, h); from = λ b k h. h.1 })
-      (next_then demanded (Literal (d ∷ later)) (Later 0) d (said None) (Literal later) (literal_next d later) (literal_has d later))
+      (next_then demanded (Literal (d ∷ later)) (Later 0 0) d (said None) (Literal later) (literal_next d later) (literal_has d later))
 
-  header_last : (n : ℕ) → n < 8 → 7 ≤ n → Next demanded (Then (Literal (get_or header n 0 ∷ drop (n + 1) header)) (Later 0)) (get_or header n 0) (said None) (Later 0)
+  header_last : (n : ℕ) → n < 8 → 7 ≤ n → Next demanded (Then (Literal (get_or header n 0 ∷ drop (n + 1) header)) (Later 0 0)) (get_or header n 0) (said None) (Later 0 0)
   header_last n few last =
       let e : n ≡ 7 = omega arith in
-      rw e (ends_first demanded (Literal (0 ∷ [])) (Later 0) (Later 0) 0 (said None) (literal_next 0 []) (literal_has 0 []) (same_refl demanded (Later 0)))
+      rw e (ends_first demanded (Literal (0 ∷ [])) (Later 0 0) (Later 0 0) 0 (said None) (literal_next 0 []) (literal_has 0 []) (same_refl demanded (Later 0 0)))
 
   in_header : (n : ℕ) (so_far : List ℕ) (c : ℕ) → Continues (InHeader n) c (listens so_far c (header_step n c))
   in_header n so_far c =
@@ -205,57 +361,244 @@ module _ (demanded : Type 0) (p : Profile) where
       cond_both (nat_eq c d) _ _ P
       (λ e. rw (eqb-true c d e) (cond_both (nat_lt n 7) _ _ (λ (q : Machine × Event). Continues (InHeader n) d (listens so_far d q))
       (λ f. header_first n d (said None) (InHeader (n + 1)) few (header_more n few (ltb-true n 7 f)))
-      (λ f. header_first n d (said None) (Later 0) few (header_last n few (ltb-false n 7 f)))))
-      (λ e. let halt : Next demanded (InHeader n) c (said None) Never = header_first n c (said None) Never few (fails_first demanded (Literal (d ∷ later)) (Later 0) c (said None) (literal_none d c later (eqb-false c d e)) (literal_has d later)) in
+      (λ f. header_first n d (said None) (Later 0 0) few (header_last n few (ltb-false n 7 f)))))
+      (λ e. let halt : Next demanded (InHeader n) c (said None) Never = header_first n c (said None) Never few (fails_first demanded (Literal (d ∷ later)) (Later 0 0) c (said None) (literal_none d c later (eqb-false c d e)) (literal_has d later)) in
       cond_both (nat_lt n 4) _ _ P (λ _. halt) (λ _. halt)))
       (λ a. next_never demanded (InHeader n) c (said None) (λ s b k h. omega (arith, ltb-false n 8 a, h.0)))
 
-  -- each byte goes on with what may still come
-  pub machine_follows : (m : Machine) (so_far : List ℕ) (c : ℕ) → c < 2 ^ 8 → Continues (MachineRest m so_far) c (listens so_far c (step_of m c))
-  machine_follows (machine.Header n) so_far c byte = in_header n so_far c
-  machine_follows (machine.Between last) so_far c byte = between last so_far c
-  machine_follows (machine.Size id last r) so_far c byte = size_cases id last r so_far c (unsigned_push 32 r c) (counted_next demanded nothing_at (InKnown id last) r c byte)
-  machine_follows (machine.Custom last more q) so_far c byte = in_custom last more q so_far c byte
-  machine_follows (machine.Section last more q) so_far c byte = in_section last more q so_far c byte
-  machine_follows (machine.Refused w) so_far c byte = next_never demanded Never c (said None) (λ s b k h. h)
-
   in_header_has : (n : ℕ) → HasBytes demanded (InHeader n)
-  in_header_has n s k h = then_has demanded (Literal (get_or header n 0 ∷ drop (n + 1) header)) (Later 0) (literal_has (get_or header n 0) (drop (n + 1) header)) s k (subst (λ y. Then (Literal y) (Later 0) [] k) (header_cut n h.0) h.1)
-
-  pub ends : demanded → (m : Machine) (so_far : List ℕ) (k : Marks) → MachineRest m so_far [] k → (k ≡ []) × IsBetween m
-  ends s (machine.Header n) so_far k h = absurd (in_header_has n s k h)
-  ends s (machine.Between last) so_far k h = (over_marks demanded p 0 (last_read - last) (suc last) k h, tt)
-  ends s (machine.Size id last r) so_far k h = absurd (counted_has demanded nothing_at (InKnown id last) r s k h)
-  ends s (machine.Custom last more q) so_far k h = absurd (then_has demanded (CustomRest demanded (suc more) q so_far) (Later last) (custom_has demanded more q so_far) s k h)
-  ends s (machine.Section last more q) so_far k h = absurd (then_has demanded (Sized demanded (suc more) (InsideRest demanded q so_far)) (Later last) (sized_has demanded (InsideRest demanded q so_far) more) s k h)
-  ends s (machine.Refused w) so_far k h = absurd h
-
-  pub may_end : (m : Machine) (so_far : List ℕ) → IsBetween m → MachineRest m so_far [] []
-  may_end (machine.Between last) so_far i = over demanded p 0 (last_read - last) (suc last) no_function
-  may_end m so_far i = absurd i
-
-  abbrev pub StateRest : State → Shape
-  StateRest s = MachineRest s.machine s.name
-
-  -- what a module that begins with these bytes is after them
-  pub run_to : demanded → (s : State) (b more : List ℕ) (k : Marks) → AreBytes b → StateRest s (b ++ more) k → (later : Marks) × (k ≡ marks s b ++ later) × StateRest (run s b) more later
-  run_to d s [] more k a h = (k, refl, h)
-  run_to d s (c ∷ b) more k a h =
-      let g = (machine_follows s.machine s.name c a.0).to d (b ++ more) k h in
-      let r = run_to d (after_byte s c) b more g.0 a.1 g.2 in
-      (r.0, g.1 ∙ ap (λ y. (hear s c).mark ∷ y) r.1, r.2)
-
-  pub run_from : (s : State) (b more : List ℕ) (k : Marks) → AreBytes b → StateRest (run s b) more k → StateRest s (b ++ more) (marks s b ++ k)
-  run_from s [] more k a h = h
-  run_from s (c ∷ b) more k a h =
-      (machine_follows s.machine s.name c a.0).from (b ++ more) ((hear s c).mark ∷ (marks (after_byte s c) b ++ k)) (marks (after_byte s c) b ++ k, refl, run_from (after_byte s c) b more k a.1 h)
+  in_header_has n s k h = then_has demanded (Literal (get_or header n 0 ∷ drop (n + 1) header)) (Later 0 0) (literal_has (get_or header n 0) (drop (n + 1) header)) s k (subst (λ y. Then (Literal y) (Later 0 0) [] k) (header_cut n h.0) h.1)
 
   -- a module as the machine sees it
-  pub begin_to : (b : List ℕ) (k : Marks) → Module demanded p last_read b k → StateRest begin b k
+  pub begin_to : (b : List ℕ) (k : Marks) → Module demanded p b k → StateRest begin b k
   begin_to b k h =
       let few : 0 < 8 = omega arith in
       let t = h.1 in
-      (few, record { front = t.front; back = t.back; front_marks = t.front_marks; back_marks = t.back_marks; bytes = t.bytes; marks = t.marks; first = t.first; second = renumbered demanded p h.0 0 (λ i m. no_function i) t.back t.back_marks t.second })
+      (few, record { front = t.front; back = t.back; front_marks = t.front_marks; back_marks = t.back_marks; bytes = t.bytes; marks = t.marks; first = t.first; second = (h.0, λ l. absurd (omega (arith, l)), t.second) })
 
-  pub begin_from : (b : List ℕ) (k : Marks) → StateRest begin b k → Module demanded p last_read b k
-  begin_from b k h = (0, h.1)
+  pub begin_from : (b : List ℕ) (k : Marks) → StateRest begin b k → Module demanded p b k
+  begin_from b k h =
+      let t = h.1 in let q = t.second in
+      (q.0, record { front = t.front; back = t.back; front_marks = t.front_marks; back_marks = t.back_marks; bytes = t.bytes; marks = t.marks; first = t.first; second = q.2 })
+
+  pub may_end : (m : Machine) (so_far : List ℕ) → MayEnd m → MachineRest m so_far [] []
+  may_end (machine.Between last zero) so_far i = (0, λ l. refl, over demanded p 0 (11 - last) (suc last) (λ i e. refl))
+  may_end m so_far i = absurd i
+
+  -- no function awaits its code where a module ends
+  end_known : (last functions : ℕ) → FitsAt last functions → (f : ℕ) → Known last functions f → Missing f (suc last) (suc last + (11 - last)) → functions ≡ 0
+  end_known last functions fits f k miss = elim (below_or last 3) [
+    | inl few ↦ fits.0 few
+    | inr known ↦ elim (below_or last 10) [
+      | inr late ↦ fits.1 late
+      | inl early ↦ sym (k known) ∙ miss 10 (omega (arith, early)) (omega (arith, early)) (inr refl)
+    ]
+  ]
+
+  is_end : (last functions : ℕ) → functions ≡ 0 → MayEnd (machine.Between last functions)
+  is_end last zero e = tt
+  is_end last (suc n) e = omega (arith, e)
+
+  -- where a component begins
+  begin_at : (of : Component) (y : List ℕ) → Same demanded (OneOf demanded p of) (ComponentRest demanded p (begin_component of) y)
+  begin_at component.Type y = begin_same demanded p component.Type
+  begin_at component.Import y = begin_same demanded p component.Import
+  begin_at component.Function y = begin_same demanded p component.Function
+  begin_at component.Table y = begin_same demanded p component.Table
+  begin_at component.Memory y = begin_same demanded p component.Memory
+  begin_at component.Global y = begin_same demanded p component.Global
+  begin_at component.Export y = begin_same demanded p component.Export
+  begin_at component.Start y = begin_same demanded p component.Start
+  begin_at component.Element y = begin_same demanded p component.Element
+  begin_at component.Code y = begin_same demanded p component.Code
+  begin_at component.Segment y = begin_same demanded p component.Segment
+
+  one_has : (of : Component) → HasBytes demanded (OneOf demanded p of)
+  one_has of = has_same (OneOf demanded p of) (ComponentRest demanded p (begin_component of) []) (begin_same demanded p of) (component_has demanded p 0 (begin_component of) [] (can_begin 0 (omega arith) of))
+
+  -- in a section
+  abbrev Rest : Component → ℕ → ℕ → InComponent → List ℕ → ℕ → Shape
+  Rest of more left q y functions = Then (Sized demanded more (Within of left q y)) (Later (id_of of) functions)
+
+  frame_same : (of : Component) (functions more left : ℕ) (q : InComponent) (y : List ℕ) → more < 2 ^ 32 → MayGo more q → Same demanded (Rest of more left q y functions) (MachineRest (framed of functions more left q) y)
+  frame_same of functions more left (at.Failed w) y few go =
+      let T : Shape = Times left (OneOf demanded p of) in
+      never_then demanded (Sized demanded more (Then Never T)) (Later (id_of of) functions)
+      (same_then demanded (Sized demanded more (Then Never T)) (Sized demanded more Never) Never (sized_same demanded (Then Never T) Never more (never_then demanded Never T (same_refl demanded Never))) (sized_never demanded more))
+  frame_same of functions zero zero at.Over y few go =
+      let L : Shape = Later (id_of of) functions in
+      let E : Shape = Then Empty Empty in
+      same_then demanded (Then (Sized demanded 0 E) L) (Then Empty L) L
+      (then_same demanded (Sized demanded 0 E) L Empty L
+      (same_then demanded (Sized demanded 0 E) (Sized demanded 0 Empty) Empty (sized_same demanded E Empty 0 (empty_then demanded Empty)) (sized_empty demanded)) (same_refl demanded L))
+      (empty_then demanded L)
+  frame_same of functions (suc n) zero at.Over y few go =
+      let E : Shape = Then Empty Empty in
+      never_then demanded (Sized demanded (suc n) E) (Later (id_of of) functions)
+      (same_then demanded (Sized demanded (suc n) E) (Sized demanded (suc n) Empty) Never (sized_same demanded E Empty (suc n) (empty_then demanded Empty)) (sized_over demanded n))
+  frame_same of functions zero (suc l) at.Over y few go =
+      let T : Shape = Then (OneOf demanded p of) (Times l (OneOf demanded p of)) in
+      never_then demanded (Sized demanded 0 (Then Empty T)) (Later (id_of of) functions)
+      (sized_none demanded (Then Empty T) (has_same (Then Empty T) T (empty_then demanded T) (then_has demanded (OneOf demanded p of) (Times l (OneOf demanded p of)) (one_has of))))
+  frame_same of functions (suc n) (suc l) at.Over y few go =
+      let L : Shape = Later (id_of of) functions in
+      let T : Shape = Times l (OneOf demanded p of) in
+      let O : Shape = Then (OneOf demanded p of) T in
+      let B : Shape = ComponentRest demanded p (begin_component of) y in
+      then_same demanded (Sized demanded (suc n) (Then Empty O)) L (Sized demanded (suc n) (Then B T)) L
+      (sized_same demanded (Then Empty O) (Then B T) (suc n) (same_then demanded (Then Empty O) O (Then B T) (empty_then demanded O) (then_same demanded (OneOf demanded p of) T B T (begin_at of y) (same_refl demanded T))))
+      (same_refl demanded L)
+  frame_same of functions zero left q y few go =
+      never_then demanded (Sized demanded 0 (Within of left q y)) (Later (id_of of) functions)
+      (sized_none demanded (Within of left q y) (then_has demanded (ComponentRest demanded p q y) (Times left (OneOf demanded p of)) (component_has demanded p 0 q y go)))
+  frame_same of functions (suc n) left q y few go = same_refl demanded (MachineRest (machine.Section of functions n left q) y)
+
+  in_section : (of : Component) (functions more left : ℕ) (q : InComponent) (so_far : List ℕ) (c : ℕ) → c < 2 ^ 8 → Fits (machine.Section of functions more left q)
+      → Continues (MachineRest (machine.Section of functions more left q) so_far) c (heard machine.Refused (zone_in q) so_far c (step_of p (machine.Section of functions more left q) c))
+  in_section of functions more left q so_far c byte fits =
+      let P : Shape = ComponentRest demanded p q so_far in
+      let T : Shape = Times left (OneOf demanded p of) in
+      let L : Shape = Later (id_of of) functions in
+      let F : Shape = Then (Sized demanded (suc more) (Then P T)) L in
+      let few : more < 2 ^ 32 = (let l = fits.1 in omega (arith, l)) in
+      lifted at.Failed (ComponentRest demanded p) (framed of functions more left) (λ w. refl) (MayGo more) (λ w. tt) P F (zone_in q) so_far c
+      (λ m x y i h.
+      let R : Shape = ComponentRest demanded p m y in
+      next_to demanded F (Then (Sized demanded more (Then R T)) L) (MachineRest (framed of functions more left m) y) c x (frame_same of functions more left m y few i)
+      (next_then demanded (Sized demanded (suc more) (Then P T)) L c x (Sized demanded more (Then R T))
+      (sized_next demanded (Then P T) (Then R T) more c x (next_then demanded P T c x R h (component_has demanded p (suc more) q so_far fits.2))) (sized_has demanded (Then P T) more)))
+      (component_step p q c).0 (component_step p q c).1 (can_go_on p more q c byte fits.2) (component_follows demanded p more q so_far c fits.2 byte)
+
+  -- at the count of its components
+  listed_same : (of : Component) (functions more n : ℕ) → more < 2 ^ 32 → Same demanded (Then (Sized demanded more (Times n (OneOf demanded p of))) (Later (id_of of) functions)) (MachineRest (listed of functions more n) [])
+  listed_same of functions more zero few =
+      let L : Shape = Later (id_of of) functions in
+      let E : Shape = Then Empty Empty in
+      same_then demanded (Then (Sized demanded more Empty) L) (Then (Sized demanded more E) L) (MachineRest (listed of functions more zero) [])
+      (then_same demanded (Sized demanded more Empty) L (Sized demanded more E) L (sized_same demanded Empty E more (then_empty demanded Empty)) (same_refl demanded L))
+      (frame_same of functions more zero at.Over [] few tt)
+  listed_same of functions more (suc n) few =
+      let L : Shape = Later (id_of of) functions in
+      let O : Shape = OneOf demanded p of in
+      let B : Shape = ComponentRest demanded p (begin_component of) [] in
+      let T : Shape = Times n O in
+      same_then demanded (Then (Sized demanded more (Then O T)) L) (Then (Sized demanded more (Then B T)) L) (MachineRest (listed of functions more (suc n)) [])
+      (then_same demanded (Sized demanded more (Then O T)) L (Sized demanded more (Then B T)) L (sized_same demanded (Then O T) (Then B T) more (then_same demanded O T B T (begin_same demanded p of) (same_refl demanded T))) (same_refl demanded L))
+      (frame_same of functions more n (begin_component of) [] few (may_begin more few of))
+
+  abbrev Read : Component → (functions more v : ℕ) → Shape
+  Read of functions more v = ForSome (KnownIn (id_of of) functions) (λ f. Then (Sized demanded more (ListOf of f v)) (After of f))
+
+  abbrev AllOf : Component → (functions more v : ℕ) → Shape
+  AllOf of functions more v = Then (Sized demanded more (Times v (OneOf demanded p of))) (Later (id_of of) functions)
+
+  counted_as : (of : Component) (functions more v : ℕ) → more < 2 ^ 32 → Same demanded (Read of functions more v) (MachineRest (counted of functions more v) [])
+  counted_as component.Function functions more v few =
+      same_then demanded (Read component.Function functions more v) (AllOf component.Function v more v) (MachineRest (listed component.Function v more v) [])
+      (function_read functions more v) (listed_same component.Function v more v few)
+  counted_as component.Code functions more v few =
+      cond_both (nat_eq v functions) _ _ (λ (m : Machine). Same demanded (Read component.Code functions more v) (MachineRest m []))
+      (λ a. same_then demanded (Read component.Code functions more v) (AllOf component.Code 0 more v) (MachineRest (listed component.Code 0 more v) [])
+      (code_read functions more v (eqb-true v functions a)) (listed_same component.Code 0 more v few))
+      (λ a. code_other functions more v (eqb-false v functions a))
+  counted_as of functions more v few =
+      same_then demanded (Read of functions more v) (AllOf of functions more v) (MachineRest (listed of functions more v) [])
+      (list_read of functions more v (λ e. omega (arith, e))) (listed_same of functions more v few)
+
+  module _ (of : Component) (functions more : ℕ) (r : Partial) (so_far : List ℕ) (c : ℕ) where
+    abbrev AtCount : Shape
+    AtCount = MachineRest (machine.Count of functions more r) so_far
+
+    count_next : (X : ℕ → Shape) → ((f : ℕ) → Next demanded (Listed of r f) c (said None) (X f)) → Next demanded AtCount c (said None) (ForSome (KnownIn (id_of of) functions) (λ f. Then (Sized demanded more (X f)) (After of f)))
+    count_next X h =
+        some_next demanded (KnownIn (id_of of) functions) (λ f. Then (Sized demanded (suc more) (Listed of r f)) (After of f)) (λ f. Then (Sized demanded more (X f)) (After of f)) c (said None)
+        (λ f. next_then demanded (Sized demanded (suc more) (Listed of r f)) (After of f) c (said None) (Sized demanded more (X f)) (sized_next demanded (Listed of r f) (X f) more c (said None) (h f)) (sized_has demanded (Listed of r f) more))
+
+    count_ends : (X : ℕ → Shape) → ((f : ℕ) → Next demanded (Listed of r f) c (said None) (X f)) → ((f : ℕ) → Same demanded (Sized demanded more (X f)) Never) → Next demanded AtCount c (said None) Never
+    count_ends X h never =
+        next_to demanded AtCount (ForSome (KnownIn (id_of of) functions) (λ f. Then (Sized demanded more (X f)) (After of f))) Never c (said None)
+        (some_never demanded (KnownIn (id_of of) functions) (λ f. Then (Sized demanded more (X f)) (After of f)) (λ f k. never_then demanded (Sized demanded more (X f)) (After of f) (never f)))
+        (count_next X h)
+
+  counts : (of : Component) (functions more : ℕ) (r : Partial) (so_far : List ℕ) (c : ℕ) (q : Step ℕ × Partial) → suc more < 2 ^ 32 → ((f : ℕ) → CountedNext demanded nothing_at (ListOf of f) r c q)
+      → Continues (AtCount of functions more r so_far c) c (listens so_far c (after_count of functions more q))
+  counts of functions zero r so_far c (More, s) few h = count_ends of functions 0 r so_far c (Listed of s) h (λ f. sized_none demanded (Listed of s f) (counted_has demanded nothing_at (ListOf of f) s))
+  counts of functions (suc n) r so_far c (More, s) few h = count_next of functions (suc n) r so_far c (Listed of s) h
+  counts of functions more r so_far c (Done v, s) few h =
+      next_to demanded (AtCount of functions more r so_far c) (Read of functions more v) (MachineRest (counted of functions more v) []) c (said None) (counted_as of functions more v (omega (arith, few)))
+      (count_next of functions more r so_far c (λ f. ListOf of f v) h)
+  counts of functions more r so_far c (Bad, s) few h = count_ends of functions more r so_far c (λ f. Never) h (λ f. sized_never demanded more)
+
+  -- at its size
+  contents_has : (of : Component) (f : ℕ) → HasBytes demanded (Contents demanded p f (id_of of))
+  contents_has component.Start f = one_has component.Start
+  contents_has of f = has_same (Contents demanded p f (id_of of)) (Listed of fresh f) (contents_same of f) (counted_has demanded nothing_at (ListOf of f) fresh)
+
+  size_same : (of : Component) (functions n : ℕ) → Same demanded (ForSome (KnownIn (id_of of) functions) (λ f. InSize of f n)) (MachineRest (after_size of functions n) [])
+  size_same of functions zero =
+      some_never demanded (KnownIn (id_of of) functions) (λ f. InSize of f 0) (λ f k.
+      never_then demanded (Sized demanded 0 (Contents demanded p f (id_of of))) (After of f) (sized_none demanded (Contents demanded p f (id_of of)) (contents_has of f)))
+  size_same component.Start functions (suc n) =
+      let O : Shape = OneOf demanded p component.Start in
+      let B : Shape = ComponentRest demanded p (begin_component component.Start) [] in
+      let C : ℕ → Type 0 = KnownIn 8 functions in
+      let D : ℕ → Type 0 = Known 8 functions in
+      let Q : ℕ → Shape = After component.Start in
+      same_then demanded (ForSome C (λ f. Then (Sized demanded (suc n) O) (Q f))) (Then (Sized demanded (suc n) O) (ForSome C Q)) (Then (Sized demanded (suc n) (Then B Empty)) (ForSome D Q))
+      (some_then demanded C (Sized demanded (suc n) O) Q)
+      (then_same demanded (Sized demanded (suc n) O) (ForSome C Q) (Sized demanded (suc n) (Then B Empty)) (ForSome D Q)
+      (sized_same demanded O (Then B Empty) (suc n) (same_then demanded O B (Then B Empty) (begin_same demanded p component.Start) (then_empty demanded B)))
+      (some_known demanded C D Q (λ f k l. k (omega arith)) (λ f k l. k (omega arith))))
+  size_same of functions (suc n) =
+      some_same demanded (KnownIn (id_of of) functions) (λ f. InSize of f (suc n)) (λ f. Then (Sized demanded (suc n) (Listed of fresh f)) (After of f)) (λ f.
+      then_same demanded (Sized demanded (suc n) (Contents demanded p f (id_of of))) (After of f) (Sized demanded (suc n) (Listed of fresh f)) (After of f)
+      (sized_same demanded (Contents demanded p f (id_of of)) (Listed of fresh f) (suc n) (contents_same of f)) (same_refl demanded (After of f)))
+
+  abbrev AtSize : Component → ℕ → Partial → Shape
+  AtSize of functions r = ForSome (KnownIn (id_of of) functions) (λ f. Counted (Left r) nothing_at (InSize of f))
+
+  sizes : (of : Component) (functions : ℕ) (r : Partial) (so_far : List ℕ) (c : ℕ) (q : Step ℕ × Partial) → ((f : ℕ) → CountedNext demanded nothing_at (InSize of f) r c q)
+      → Continues (AtSize of functions r) c (listens so_far c (on_number q (λ s. machine.Size of functions s) (λ n. (after_size of functions n, event.Quiet)) machine.Refused))
+  sizes of functions r so_far c (More, s) h =
+      some_next demanded (KnownIn (id_of of) functions) (λ f. Counted (Left r) nothing_at (InSize of f)) (λ f. Counted (Left s) nothing_at (InSize of f)) c (said None) h
+  sizes of functions r so_far c (Done v, s) h =
+      next_to demanded (AtSize of functions r) (ForSome (KnownIn (id_of of) functions) (λ f. InSize of f v)) (MachineRest (after_size of functions v) []) c (said None) (size_same of functions v)
+      (some_next demanded (KnownIn (id_of of) functions) (λ f. Counted (Left r) nothing_at (InSize of f)) (λ f. InSize of f v) c (said None) h)
+  sizes of functions r so_far c (Bad, s) h = some_none demanded (KnownIn (id_of of) functions) (λ f. Counted (Left r) nothing_at (InSize of f)) c (said None) h
+
+  -- each byte goes on with what may still come
+  pub machine_follows : (m : Machine) (so_far : List ℕ) (c : ℕ) → c < 2 ^ 8 → Fits m → Continues (MachineRest m so_far) c (heard machine.Refused (zone_of m) so_far c (step_of p m c))
+  machine_follows (machine.Header n) so_far c byte fits = in_header n so_far c
+  machine_follows (machine.Between last functions) so_far c byte fits = between last functions so_far c fits
+  machine_follows (machine.CustomSize last functions r) so_far c byte fits = custom_sizes last functions r so_far c (unsigned_push 32 r c) (counted_next demanded nothing_at (InCustoms last functions) r c byte)
+  machine_follows (machine.Custom last functions more q) so_far c byte fits = in_custom last functions more q so_far c byte
+  machine_follows (machine.Size of functions r) so_far c byte fits = sizes of functions r so_far c (unsigned_push 32 r c) (λ f. counted_next demanded nothing_at (InSize of f) r c byte)
+  machine_follows (machine.Count of functions more r) so_far c byte fits = counts of functions more r so_far c (unsigned_push 32 r c) fits.2 (λ f. counted_next demanded nothing_at (ListOf of f) r c byte)
+  machine_follows (machine.Section of functions more left q) so_far c byte fits = in_section of functions more left q so_far c byte fits
+  machine_follows (machine.Refused w) so_far c byte fits = next_never demanded Never c (said None) (λ s b k h. h)
+
+  pub ends : demanded → (m : Machine) (so_far : List ℕ) (k : Marks) → Fits m → MachineRest m so_far [] k → (k ≡ []) × MayEnd m
+  ends s (machine.Header n) so_far k fits h = absurd (in_header_has n s k h)
+  ends s (machine.Between last functions) so_far k fits h =
+      let r = over_missing demanded p h.0 (11 - last) (suc last) k h.2 in
+      (r.0, is_end last functions (end_known last functions fits h.0 h.1 r.1))
+  ends s (machine.CustomSize last functions r) so_far k fits h = absurd (counted_has demanded nothing_at (InCustoms last functions) r s k h)
+  ends s (machine.Custom last functions more q) so_far k fits h = absurd (then_has demanded (CustomRest demanded (suc more) q so_far) (Later last functions) (custom_has demanded more q so_far) s k h)
+  ends s (machine.Size of functions r) so_far k fits h = absurd (counted_has demanded nothing_at (InSize of h.0) r s k h.2)
+  ends s (machine.Count of functions more r) so_far k fits h = absurd (then_has demanded (Sized demanded (suc more) (Listed of r h.0)) (After of h.0) (sized_has demanded (Listed of r h.0) more) s k h.2)
+  ends s (machine.Section of functions more left q) so_far k fits h = absurd (then_has demanded (Sized demanded (suc more) (Within of left q so_far)) (Later (id_of of) functions) (sized_has demanded (Within of left q so_far) more) s k h)
+  ends s (machine.Refused w) so_far k fits h = absurd h
+
+  -- what a module that begins with these bytes is after them
+  pub run_to : demanded → (s : State) (b more : List ℕ) (k : Marks) → AreBytes b → Fits s.machine → StateRest s (b ++ more) k → (later : Marks) × (k ≡ marks p s b ++ later) × StateRest (run p s b) more later
+  run_to d s [] more k a fits h = (k, refl, h)
+  run_to d s (c ∷ b) more k a fits h =
+      let g = (machine_follows s.machine s.name c a.0 fits).to d (b ++ more) k h in
+      let r = run_to d (after_byte p s c) b more g.0 a.1 (byte_fits p s c a.0 fits) g.2 in
+      (r.0, g.1 ∙ ap (λ y. (hear p s c).mark ∷ y) r.1, r.2)
+
+  pub run_from : (s : State) (b more : List ℕ) (k : Marks) → AreBytes b → Fits s.machine → StateRest (run p s b) more k → StateRest s (b ++ more) (marks p s b ++ k)
+  run_from s [] more k a fits h = h
+  run_from s (c ∷ b) more k a fits h =
+      (machine_follows s.machine s.name c a.0 fits).from (b ++ more) ((hear p s c).mark ∷ (marks p (after_byte p s c) b ++ k))
+      (marks p (after_byte p s c) b ++ k, refl, run_from (after_byte p s c) b more k a.1 (byte_fits p s c a.0 fits) h)

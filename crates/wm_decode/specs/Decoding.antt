@@ -1,9 +1,10 @@
 -- What a decoder has read, and when a sink takes a module.
-use Rattle.std.specs.Prelude.{◌≡◌, ℕ, ◌≤◌, ◌<◌, ◌+◌, List, ◌∷◌, ◌++◌, Option, Some, None, Result, Ok, Err, ◌⊎◌, length}
+use Rattle.std.specs.Prelude.{◌≡◌, ℕ, ◌≤◌, ◌<◌, ◌+◌, IsTrue, List, ◌∷◌, ◌++◌, Option, Some, None, Result, Ok, Err, ◌⊎◌, length}
 use Rattle.wm_syntax.specs.declared.profile.Profile.{Profile}
 use Rattle.wm_syntax.specs.declared.why.Why.{Why}
 use Rattle.wm_syntax.specs.declared.why.Why.TheVariants as why
 use Rattle.wm_syntax.specs.Spelling.{AreBytes}
+use Rattle.wm_syntax.specs.OpClasses.{is_float}
 use Rattle.wm_decode.specs.declared.refusal.Refusal.{Refusal}
 use Rattle.wm_decode.specs.declared.state.Decoder.{Decoder}
 use Rattle.wm_decode.specs.Parts.{Part, Marks, parts_of}
@@ -39,7 +40,7 @@ pub record After {S H : Type 0} (held : S → H) (after : H → Part → Result 
   pub profile : d.profile ≡ s.profile
   pub limit : d.max_bytes ≡ s.limit
   pub are_bytes : AreBytes bytes
-  pub stands : (standing held d ≡ decoded after s.limit (begun s.first) bytes) ⊎ RanOut (standing held d) bytes
+  pub stands : (standing held d ≡ decoded after s.profile s.limit (begun s.first) bytes) ⊎ RanOut (standing held d) bytes
 
 -- however the decoder was made and whatever it has read, by the record above
 abbrev pub Having : {S H : Type 0} → (S → H) → (H → Part → Result H Why) → Decoder S
@@ -48,7 +49,7 @@ Having {S} {H} held after d P = (s : Setting H) (bytes : List ℕ) → After hel
 
 -- what a decoder answers to a whole input, however it is cut, unless memory runs out
 abbrev pub answer_of : {H : Type 0} → (H → Part → Result H Why) → Setting H → List ℕ → Result H Refusal
-answer_of after s bytes = and_then (decoded after s.limit (begun s.first) bytes) ended
+answer_of after s bytes = and_then (decoded after s.profile s.limit (begun s.first) bytes) ended
 
 -- the input was refused at a place within it, and no module that the sink takes begins with the bytes up to there
 pub record Refused {H : Type 0} (after : H → Part → Result H Why) (s : Setting H) (bytes : List ℕ) (r : Refusal)
@@ -59,11 +60,11 @@ pub record Refused {H : Type 0} (after : H → Part → Result H Why) (s : Setti
   pub at : r.at ≡ length used
   pub never : (more : List ℕ) (last : H) → Takes after s (used ++ more) last → ⊥
 
--- bytes that stand for a type of floating-point numbers (section 5.3.1)
+-- bytes that stand for a type of floating-point numbers (section 5.3.1), or begin an instruction on them (section 5.4)
 abbrev pub IsFloatByte : ℕ → Type 0
-IsFloatByte c = (c ≡ 0x7D) ⊎ (c ≡ 0x7C)
+IsFloatByte c = (c ≡ 0x7D) ⊎ (c ≡ 0x7C) ⊎ IsTrue (is_float c)
 
--- the last byte that was used stands for a floating-point type
+-- the last byte that was used is one of those
 pub record EndsInFloat (bytes : List ℕ) (r : Refusal) : Type 0 where
   pub used : List ℕ
   pub byte : ℕ

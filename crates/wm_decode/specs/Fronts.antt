@@ -1,20 +1,20 @@
--- What is said of the bytes so far of an input, which may still be refused for a size or a name.
+-- What is said of the bytes so far of an input, which may still be refused for a size, a name or a count.
 use Rattle.std.specs.Prelude.{ℕ, zero, suc, ◌≡◌, List, [], ◌∷◌, ◌++◌, Result, Ok, length, take}
 use Rattle.wm_syntax.specs.declared.profile.Profile.{Profile}
 use Rattle.wm_syntax.specs.declared.why.Why.{Why}
 use Rattle.wm_decode.specs.declared.state.Decoder.{Decoder}
-use Rattle.wm_decode.specs.Parts.{Part, Zone, name, Marks, parts_of}
-use Rattle.wm_decode.specs.Grammar.{Module, Items, loose, last_read}
+use Rattle.wm_decode.specs.Parts.{Part, Zone, outside, name, entry, closing, Marks, parts_of}
+use Rattle.wm_decode.specs.Grammar.{Module, Items, loose}
 use Rattle.wm_decode.specs.Sinks.{all_taken}
 use Rattle.wm_decode.specs.Runs.{begin, marks as marks_of}
 use Rattle.wm_decode.specs.Decoding.{Setting, held_in}
 
--- Some more bytes would make these a module, sizes and names aside.
+-- Some more bytes would make these a module, sizes, names and the number of code entries aside.
 pub record IsFront (p : Profile) (b : List ℕ) (k : Marks) : Type 0 where
   pub rest : List ℕ
   pub rest_marks : Marks
   pub same : length b ≡ length k
-  pub whole : Module loose p last_read (b ++ rest) (k ++ rest_marks)
+  pub whole : Module loose p (b ++ rest) (k ++ rest_marks)
 
 abbrev pub name_more : Zone → ℕ → ℕ
 name_more name n = suc n
@@ -28,6 +28,28 @@ name_after n (m ∷ k) = name_after (name_more m.zone n) k
 abbrev pub unfinished_name : Marks → ℕ
 unfinished_name k = name_after 0 k
 
+-- how many bytes lie outside code entries, those of names too
+abbrev pub outside_bytes : Marks → ℕ
+outside_bytes [] = zero
+outside_bytes (m ∷ k) = elim m.zone [ outside ↦ suc (outside_bytes k) | name ↦ suc (outside_bytes k) | entry ↦ outside_bytes k | closing ↦ outside_bytes k ]
+
+-- how many bytes lie in code entries
+abbrev pub inside_bytes : Marks → ℕ
+inside_bytes [] = zero
+inside_bytes (m ∷ k) = elim m.zone [ outside ↦ inside_bytes k | name ↦ inside_bytes k | entry ↦ suc (inside_bytes k) | closing ↦ suc (inside_bytes k) ]
+
+abbrev pub entry_more : Zone → ℕ → ℕ
+entry_more entry n = suc n
+entry_more _ n = zero
+
+abbrev pub entry_after : ℕ → Marks → ℕ
+entry_after n [] = n
+entry_after n (m ∷ k) = entry_after (entry_more m.zone n) k
+
+-- how many bytes there are so far of the code entry at hand; none is where its last byte was read
+abbrev pub entry_bytes : Marks → ℕ
+entry_bytes k = entry_after 0 k
+
 -- the bytes so far of a name that goes on, which is all that a decoder keeps of the input
 abbrev pub name_in : {S : Type 0} → Decoder S → List ℕ
 name_in d = d.name.items
@@ -38,7 +60,7 @@ pub record SoFar {S H : Type 0} (held : S → H) (after : H → Part → Result 
   pub marks : Marks
   pub front : IsFront s.profile bytes marks
   -- they are a function of the bytes alone
-  pub alone : marks ≡ marks_of begin bytes
+  pub alone : marks ≡ marks_of s.profile begin bytes
   -- and those of each whole input that begins so
   pub begins : (more : List ℕ) (items : Marks) → Items s.profile (bytes ++ more) items
       → marks ≡ take (length bytes) items

@@ -1,8 +1,9 @@
 -- The flat grammar of a whole input (section 5.5): its parts one after another, each beside the byte at which it is
 -- complete.
 --
--- Where all is demanded, sizes and names are as the format has them. Where it is not, they are left open: that is
--- for fronts of an input that may still be refused for a size or a name that isn't complete.
+-- Where all is demanded, sizes, names and the number of code entries are as the format has them. Where it is not,
+-- they are left open: that is for fronts of an input that may still be refused for a size, a name or a count that
+-- isn't complete.
 -- `Section`, `Custom` and `Customs` here are the flat twins of those in Sections, which speak of a module value.
 use Rattle.std.specs.Prelude.{ℕ, zero, suc, ◌+◌, ◌≤◌, ◌≡◌, ◌<◌, ◌^◌, List, [], ◌∷◌, ◌++◌, ◌⊎◌, Some, None}
 use Rattle.std.specs.List.{AllByRecursion}
@@ -19,7 +20,7 @@ use Rattle.wm_decode.specs.Sections.{SpellsDesc, SpellsRun, kind_byte, header}
 use Rattle.wm_decode.specs.Parts.{Part, new_type, param, result_count, one_result, import_module, import_name, import_desc, function, table, memory, global, const_op, export_name, export, start, element, element_function, body, locals, body_op, segment, data_byte}
 use Rattle.wm_decode.specs.Shapes.{Shape, Empty, Byte, Literal, Then, Times, Leaf, Number, Vector, Index, Name, Sized, Filled, Entry, nothing_at, ending}
 
--- sizes and names are as the format has them, or are left open
+-- these are as the format has them, or are left open
 abbrev pub strict : Type 0
 strict = Unit {0}
 
@@ -109,22 +110,22 @@ DataByte = Leaf (λ c b. (b ≡ c ∷ []) × (c < 2 ^ 8)) data_byte
 abbrev pub Segment : Profile → Shape
 Segment p = Then (Index segment) (Then (Expression p const_op) (Vector DataByte))
 
--- so many, as a number says
-abbrev pub Paired : ℕ → Shape → Shape
-Paired f P = Number nothing_at (λ n b k. (n ≡ f) × Times n P b k)
+-- so many as a number says, and where all is demanded just f
+abbrev pub Paired : Type 0 → ℕ → Shape → Shape
+Paired demanded f P = Number nothing_at (λ n b k. (demanded → n ≡ f) × Times n P b k)
 
 -- The contents of the section with this id, where there are f functions, each with a code entry.
 abbrev pub Contents : Type 0 → Profile → (f id : ℕ) → Shape
 Contents demanded p f (suc zero) = Vector FunctionType
 Contents demanded p f (suc (suc zero)) = Vector (Import demanded)
-Contents demanded p f (suc (suc (suc zero))) = Paired f (Index function)
+Contents demanded p f (suc (suc (suc zero))) = Paired demanded f (Index function)
 Contents demanded p f (suc (suc (suc (suc zero)))) = Vector (Leaf SpellsTableType table)
 Contents demanded p f (suc (suc (suc (suc (suc zero))))) = Vector (Leaf SpellsLimits memory)
 Contents demanded p f (suc (suc (suc (suc (suc (suc zero)))))) = Vector (Global p)
 Contents demanded p f (suc (suc (suc (suc (suc (suc (suc zero))))))) = Vector (Export demanded)
 Contents demanded p f (suc (suc (suc (suc (suc (suc (suc (suc zero)))))))) = Index start
 Contents demanded p f (suc (suc (suc (suc (suc (suc (suc (suc (suc zero))))))))) = Vector (Element p)
-Contents demanded p f (suc (suc (suc (suc (suc (suc (suc (suc (suc (suc zero)))))))))) = Paired f (Code demanded p)
+Contents demanded p f (suc (suc (suc (suc (suc (suc (suc (suc (suc (suc zero)))))))))) = Paired demanded f (Code demanded p)
 Contents demanded p f (suc (suc (suc (suc (suc (suc (suc (suc (suc (suc (suc zero))))))))))) = Vector (Segment p)
 Contents demanded p f _ = λ b k. ⊥
 
@@ -153,15 +154,10 @@ Chain demanded p f zero id = Customs demanded
 Chain demanded p f (suc count) id =
     Then (Customs demanded) (Then (Optional demanded p f id) (Chain demanded p f count (suc id)))
 
--- A module that has no section of an id above the last one here (section 5.5.15): the magic number and the version,
--- and the sections. With 11 it is any module.
-abbrev pub Module : Type 0 → Profile → (last : ℕ) → Shape
-Module demanded p last b k = (f : ℕ) × Then (Literal header) (Chain demanded p f last 1) b k
-
--- the last id that is read so far
-abbrev pub last_read : ℕ
-last_read = 1
+-- a module (section 5.5.15): the magic number and the version, and the sections with ids 1 to 11
+abbrev pub Module : Type 0 → Profile → Shape
+Module demanded p b k = (f : ℕ) × Then (Literal header) (Chain demanded p f 11 1) b k
 
 -- the bytes are a whole input, of which so much is said beside each byte
 abbrev pub Items : Profile → Shape
-Items p = Module strict p last_read
+Items p = Module strict p

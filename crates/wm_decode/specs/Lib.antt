@@ -2,9 +2,16 @@ pub mod Parts
 pub mod Sections
 pub mod Shapes
 pub mod Grammar
+pub mod Flat
 pub mod Sinks
+pub mod ValueSteps
+pub mod Components
+pub mod ComponentSteps
 pub mod Steps
+pub mod Readings
 pub mod Runs
 pub mod Live
 pub mod Decoding
 pub mod Fronts
+pub mod OpSteps
+pub mod ExpressionSteps

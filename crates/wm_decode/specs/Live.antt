@@ -1,5 +1,5 @@
 -- The machine and a sink over a list of bytes: the exact form, for the proofs above it.
-use Rattle.std.specs.Prelude.{◌≡◌, ◌≢◌, ◌≤◌, ◌<◌, IsOk, ℕ, ◌+◌, List, [], ◌∷◌, ◌++◌, Option, Some, None, Result, Ok, Err, nat_lt, if◌then◌else◌}
+use Rattle.std.specs.Prelude.{◌≡◌, ◌≢◌, ◌≤◌, ◌<◌, IsOk, ℕ, zero, suc, ◌+◌, List, [], ◌∷◌, ◌++◌, Option, Some, None, Result, Ok, Err, nat_lt, if◌then◌else◌}
 use Rattle.std.specs.Str.{is_utf8}
 use Rattle.wm_syntax.specs.declared.why.Why.{Why}
 use Rattle.wm_syntax.specs.declared.why.Why.TheVariants as why
@@ -10,7 +10,8 @@ use Rattle.wm_decode.specs.declared.machine.Event.{Event}
 use Rattle.wm_decode.specs.declared.machine.Event.TheVariants as event
 use Rattle.wm_decode.specs.declared.refusal.Refusal.{Refusal}
 use Rattle.wm_decode.specs.declared.state.Decoder.{Decoder}
-use Rattle.wm_decode.specs.Parts.{Part}
+use Rattle.wm_syntax.specs.declared.profile.Profile.{Profile}
+use Rattle.wm_decode.specs.Parts.{Part, data_byte}
 use Rattle.wm_decode.specs.Sinks.{and_then}
 use Rattle.wm_decode.specs.Steps.{step_of}
 use Rattle.wm_decode.specs.Runs.{named, plain_part}
@@ -27,6 +28,7 @@ name_taken after kind text h = if is_utf8 text then offered after (named kind te
 abbrev pub told : {H : Type 0} → (H → Part → Result H Why) → Event → List ℕ → ℕ → H → Result (List ℕ × H) Why
 told after event.Quiet name c h = Ok ([], h)
 told after (event.Gives p) name c h = and_then (after h (plain_part p)) (λ g. Ok ([], g))
+told after event.DataByte name c h = and_then (after h (data_byte c)) (λ g. Ok ([], g))
 told after event.InName name c h = Ok (name ++ c ∷ [], h)
 told after (event.EndsName kind) name c h = and_then (name_taken after kind (name ++ c ∷ []) h) (λ g. Ok ([], g))
 told after (event.EmptyName kind) name c h = and_then (offered after (named kind []) h) (λ g. Ok ([], g))
@@ -46,16 +48,16 @@ abbrev pub judged : {H : Type 0} → Machine → ℕ → Result (List ℕ × H) 
 judged m at (Ok p) = settled m p.0 p.1 at
 judged m at (Err w) = Err (record { at = at; why = w })
 
-abbrev pub live_byte : {H : Type 0} → (H → Part → Result H Why) → ℕ → Live H → ℕ → Result (Live H) Refusal
-live_byte after limit l c =
+abbrev pub live_byte : {H : Type 0} → (H → Part → Result H Why) → Profile → ℕ → Live H → ℕ → Result (Live H) Refusal
+live_byte after p limit l c =
     if nat_lt l.at limit
-    then judged (step_of l.machine c).0 (l.at + 1) (told after (step_of l.machine c).1 l.name c l.held)
+    then judged (step_of p l.machine c).0 (l.at + 1) (told after (step_of p l.machine c).1 l.name c l.held)
     else Err (record { at = limit + 1; why = why.TooLong })
 
 -- the same for each byte, up to the first refusal
-abbrev pub decoded : {H : Type 0} → (H → Part → Result H Why) → ℕ → Live H → List ℕ → Result (Live H) Refusal
-decoded after limit l [] = Ok l
-decoded after limit l (c ∷ b) = and_then (live_byte after limit l c) (λ m. decoded after limit m b)
+abbrev pub decoded : {H : Type 0} → (H → Part → Result H Why) → Profile → ℕ → Live H → List ℕ → Result (Live H) Refusal
+decoded after p limit l [] = Ok l
+decoded after p limit l (c ∷ b) = and_then (live_byte after p limit l c) (λ m. decoded after p limit m b)
 
 abbrev pub begun : {H : Type 0} → H → Live H
 begun h = record { machine = machine.Header 0; name = []; held = h; at = 0 }
@@ -93,7 +95,8 @@ Fed expected (Err r) now = (r.why ≢ why.Memory → expected ≡ Err r) × (now
 
 -- at the input's end
 abbrev pub ended_at : {H : Type 0} → Machine → H → ℕ → Result H Refusal
-ended_at (machine.Between last) h at = Ok h
+ended_at (machine.Between last zero) h at = Ok h
+ended_at (machine.Between last (suc n)) h at = Err (record { at = at; why = why.CodeCount })
 ended_at (machine.Refused w) h at = Err (record { at = at; why = w })
 ended_at m h at = Err (record { at = at; why = why.Truncated })
 

@@ -5,11 +5,11 @@ ghost use Rattle.wm_decode.specs.Sinks.{all_taken, and_then};
 ghost use Rattle.wm_decode.specs.Parts.{Marks, parts_of};
 ghost use Rattle.wm_decode.specs.Grammar.{Items};
 ghost use Rattle.wm_decode.specs.Decoding.{After, EndsInFloat, Having, NeverFloat, Refused, Takes, answer_of, has_refused, held_in};
-ghost use Rattle.wm_decode.specs.Fronts.{SoFar};
+ghost use Rattle.wm_decode.specs.Fronts.{SoFar, name_in};
 ghost use Rattle.wm_decode.specs.Live.{IsAt, told, live_byte, decoded, IsRefused, standing, live_with, ByteTaken, ByteRefused, Fed, refusal_of, ended, Finished};
 
 use crate::machine::{Event, Machine};
-use crate::names::{end_name, give_empty, give_plain};
+use crate::names::{end_name, give_data, give_empty, give_plain};
 use crate::refusal::Refusal;
 use crate::sink::Sink;
 use crate::state::Decoder;
@@ -47,6 +47,11 @@ fn heed<S: Sink>(
         }
         Event::Gives(part) => {
             give_plain(sink, part)?;
+            name.clear();
+            Ok(i + 1)
+        }
+        Event::DataByte => {
+            give_data(sink, &piece[i..=i])?;
             name.clear();
             Ok(i + 1)
         }
@@ -137,13 +142,31 @@ impl<S: Sink> Decoder<S> {
         self.end()
     }
 
+    /// The sink, which holds what the items so far leave.
+    pub fn sink(&self) -> &S
+        ensures { S.held result.now ≡ held_in S.held self.now }
+    {
+        &self.sink
+    }
+
+    /// How many bytes are kept of a name that goes on.
+    pub fn name_len(&self) -> u64
+        ensures { result ≡ length (name_in self.now) }
+    {
+        self.name.len() as u64
+    }
+
     fn end(self) -> Result<S, Refusal>
         ensures ended { Finished (and_then (standing S.held self) ended) S.held result }
         ensures sticky { (r : Refusal) → has_refused S.held self ≡ Some r → result ≡ Err r }
     {
         match self.machine {
             Machine::Refused(why) => Err(Refusal { at: self.at, why }),
-            Machine::Between(_) => Ok(self.sink),
+            Machine::Between { functions: 0, .. } => Ok(self.sink),
+            Machine::Between { .. } => Err(Refusal {
+                at: self.at,
+                why: Why::CodeCount,
+            }),
             _ => Err(Refusal {
                 at: self.at,
                 why: Why::Truncated,
@@ -172,10 +195,10 @@ impl<S: Sink> Decoder<S> {
         ensures taken { MatchResult result
             (λ next. (next ≤ i + 1)
             × ByteTaken
-            (live_byte S.after self.old.max_bytes (live_with S.held self.old (slice_range piece.now from i)) (slice_index piece.now i))
+            (live_byte S.after self.old.profile self.old.max_bytes (live_with S.held self.old (slice_range piece.now from i)) (slice_index piece.now i))
             (live_with S.held self.new (slice_range piece.now next (i + 1))))
             (λ r. ByteRefused
-            (live_byte S.after self.old.max_bytes (live_with S.held self.old (slice_range piece.now from i)) (slice_index piece.now i))
+            (live_byte S.after self.old.profile self.old.max_bytes (live_with S.held self.old (slice_range piece.now from i)) (slice_index piece.now i))
             r (standing S.held self.new)) }
         ensures memory { IsAt self.old.machine self.old.at → MatchResult result
             (λ next. IsAt self.new.machine self.new.at × (next < i + 1 → 8 < self.new.at))
@@ -183,7 +206,7 @@ impl<S: Sink> Decoder<S> {
         ensures place { IfErr result (λ r. r.at ≡ self.new.at) }
     {
         self.at += 1;
-        let (next, event) = step(self.machine, piece[i]);
+        let (next, event) = step(self.profile, self.machine, piece[i]);
         self.machine = next;
         match heed(&mut self.sink, &mut self.name, event, piece, from, i) {
             Ok(from) => match refusal_of(self.machine) {
@@ -204,9 +227,9 @@ impl<S: Sink> Decoder<S> {
             (λ r. r.at ≤ self.old.at + length piece.now) }
         ensures taken { MatchResult result
             (λ from. (from ≤ length piece.now)
-            × ByteTaken (decoded S.after self.old.max_bytes (live_with S.held self.old []) piece.now)
+            × ByteTaken (decoded S.after self.old.profile self.old.max_bytes (live_with S.held self.old []) piece.now)
             (live_with S.held self.new (drop from piece.now)))
-            (λ r. ByteRefused (decoded S.after self.old.max_bytes (live_with S.held self.old []) piece.now)
+            (λ r. ByteRefused (decoded S.after self.old.profile self.old.max_bytes (live_with S.held self.old []) piece.now)
             r (standing S.held self.new)) }
         ensures memory { IsAt self.old.machine self.old.at → MatchResult result
             (λ from. from < length piece.now → 8 < self.new.at)
@@ -244,7 +267,7 @@ impl<S: Sink> Decoder<S> {
         requires room { length piece.now ≤ self.old.max_bytes - self.old.at }
         ensures limit { self.new.max_bytes ≡ self.old.max_bytes }
         ensures profile { self.new.profile ≡ self.old.profile }
-        ensures fed { Fed (decoded S.after self.old.max_bytes (live_with S.held self.old []) piece.now) result
+        ensures fed { Fed (decoded S.after self.old.profile self.old.max_bytes (live_with S.held self.old []) piece.now) result
             (standing S.held self.new) }
         ensures at { MatchResult result (λ u. self.new.at ≡ self.old.at + length piece.now)
             (λ r. r.at ≤ self.old.at + length piece.now) }
@@ -257,7 +280,7 @@ impl<S: Sink> Decoder<S> {
     }
 
     fn take_piece(&mut self, piece: &[u8]) -> Result<(), Refusal>
-        ensures fed { Fed (and_then (standing S.held self.old) (λ l. decoded S.after self.old.max_bytes l piece.now)) result
+        ensures fed { Fed (and_then (standing S.held self.old) (λ l. decoded S.after self.old.profile self.old.max_bytes l piece.now)) result
             (standing S.held self.new) }
         ensures limit { self.new.max_bytes ≡ self.old.max_bytes }
         ensures profile { self.new.profile ≡ self.old.profile }
@@ -283,7 +306,7 @@ impl<S: Sink> Decoder<S> {
         requires long { room < length piece.now }
         ensures limit { self.new.max_bytes ≡ self.old.max_bytes }
         ensures profile { self.new.profile ≡ self.old.profile }
-        ensures fed { Fed (decoded S.after self.old.max_bytes (live_with S.held self.old []) piece.now) result
+        ensures fed { Fed (decoded S.after self.old.profile self.old.max_bytes (live_with S.held self.old []) piece.now) result
             (standing S.held self.new) }
         ensures place { IfErr result (λ r. r.at ≤ self.old.at + length piece.now) }
         ensures memory { IsAt self.old.machine self.old.at → IfErr result (λ r. r.why ≡ Memory → 8 < r.at) }

@@ -1,26 +1,81 @@
 //! Laws of the definitions, as the contracts of functions that do nothing.
 
-ghost use Rattle.std.specs.Prelude.{◌≡◌, ◌++◌, ℕ, List, map};
+ghost use Rattle.std.specs.Prelude.{◌≡◌, ◌+◌, ◌≤◌, ◌++◌, ℕ, List, length, map};
 ghost use Rattle.wm_syntax.specs.declared.profile.Profile.{Profile};
+ghost use Rattle.wm_syntax.specs.declared.profile.Profile.TheVariants.{Two};
 ghost use Rattle.wm_syntax.specs.Spelling.{AreBytes};
-ghost use Rattle.wm_decode.specs.Parts.{Marks, data_byte};
+ghost use Rattle.wm_syntax.specs.Modules.{Module as ModuleValue};
+ghost use Rattle.wm_syntax.specs.Profiles.{IsOf};
+ghost use Rattle.wm_decode.specs.Flat.{FlatModule, IsFlatOf, SpellsFlat, flat_parts};
+ghost use Rattle.wm_decode.specs.Parts.{Marks, data_byte, parts_of};
+ghost use Rattle.wm_decode.specs.Sections.{SpellsModule};
 ghost use Rattle.wm_decode.specs.Sinks.{all_taken, and_then};
-ghost use Rattle.wm_decode.specs.Grammar.{Items, Module, strict};
+ghost use Rattle.wm_decode.specs.Grammar.{Items};
+ghost use Rattle.wm_decode.specs.Fronts.{entry_bytes, inside_bytes, outside_bytes};
 
 use crate::sink::Sink;
 
 /// No input is read in two ways: beside each byte there is one mark.
 pub fn one_reading()
-    ensures { (p : Profile) (b : List ℕ) (j k : Marks) → AreBytes b → Items p b j → Items p b k → j ≡ k }
+    ensures { (p : Profile) (b : List ℕ) (j k : Marks) → Items p b j → Items p b k → j ≡ k }
 {}
 
-/// What is read so far is a module of the whole format: one without the sections that come later.
-pub fn read_is_module()
-    ensures { (p : Profile) (b : List ℕ) (k : Marks) → Items p b k → Module strict p 11 b k }
+/// Each byte lies in a code entry or outside, and those of the entry at hand lie in one.
+pub fn bytes_are_in_zones()
+    ensures all { (k : Marks) → outside_bytes k + inside_bytes k ≡ length k }
+    ensures at_hand { (k : Marks) → entry_bytes k ≤ inside_bytes k }
 {}
 
 /// A sink takes a slice of data bytes as it takes the slice in two parts.
 pub fn slices_join<S: Sink>()
     ensures { (h : S.Held) (a b : List ℕ) → all_taken S.after h (map data_byte (a ++ b))
         ≡ and_then (all_taken S.after h (map data_byte a)) (λ g. all_taken S.after g (map data_byte b)) }
+{}
+
+/// A whole input has the parts of a flat value with its bytes, and what has the bytes of a flat value is a whole input
+/// with its parts.
+pub fn items_are_flat()
+    ensures read { (p : Profile) (b : List ℕ) (k : Marks) → Items p b k
+        → (v : FlatModule) × SpellsFlat p v b × (parts_of k ≡ flat_parts v) }
+    ensures spelled { (p : Profile) (v : FlatModule) (b : List ℕ) → SpellsFlat p v b
+        → (k : Marks) × Items p b k × (parts_of k ≡ flat_parts v) }
+{}
+
+/// The bytes of a module are those of a flat value of it, and the other way round.
+pub fn module_is_flat()
+    ensures flat { (p : Profile) (m : ModuleValue) (b : List ℕ) → SpellsModule m b → IsOf p m
+        → (v : FlatModule) × IsFlatOf m v × SpellsFlat p v b }
+    ensures nested { (p : Profile) (m : ModuleValue) (v : FlatModule) (b : List ℕ) → IsFlatOf m v → SpellsFlat p v b
+        → SpellsModule m b × IsOf p m }
+{}
+
+/// What spells a module is a whole input with the parts of a flat value of the module, and such an input spells it.
+pub fn items_are_module()
+    ensures items { (p : Profile) (m : ModuleValue) (b : List ℕ) → SpellsModule m b → IsOf p m
+        → (k : Marks) × (v : FlatModule) × Items p b k × IsFlatOf m v × (parts_of k ≡ flat_parts v) }
+    ensures nested { (p : Profile) (m : ModuleValue) (v : FlatModule) (b : List ℕ) (k : Marks)
+        → Items p b k → IsFlatOf m v → parts_of k ≡ flat_parts v → SpellsModule m b × IsOf p m }
+{}
+
+/// The parts determine the flat value and the module.
+pub fn parts_determine_module()
+    ensures flat { (v w : FlatModule) → flat_parts v ≡ flat_parts w → v ≡ w }
+    ensures nested { (m n : ModuleValue) (v w : FlatModule) → IsFlatOf m v → IsFlatOf n w → flat_parts v ≡ flat_parts w
+        → m ≡ n }
+{}
+
+/// Every module is of the second profile.
+pub fn second_profile_has_all()
+    ensures { (m : ModuleValue) → IsOf Two m }
+{}
+
+/// A whole input, and what spells a module, consist of bytes.
+pub fn input_is_bytes()
+    ensures whole { (p : Profile) (b : List ℕ) (k : Marks) → Items p b k → AreBytes b }
+    ensures spelled { (m : ModuleValue) (b : List ℕ) → SpellsModule m b → AreBytes b }
+{}
+
+/// No bytes spell two modules (section 5.5.15).
+pub fn one_spelling_one_module()
+    ensures { (m n : ModuleValue) (b : List ℕ) → SpellsModule m b → SpellsModule n b → m ≡ n }
 {}

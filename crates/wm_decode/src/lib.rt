@@ -2,18 +2,25 @@
 //! (chapter 5 of the specification).
 #![tactic(auto)]
 
+mod component;
+mod component_step;
 mod decoder;
+mod entry_step;
+mod expressions;
 mod item;
 pub mod laws;
 mod machine;
 mod names;
+mod ops;
+mod reading;
 mod refusal;
 mod sink;
 mod state;
 mod step;
+mod type_step;
+mod values;
 
 pub use item::Item;
-pub use machine::{InCustom, Inside, Machine};
 pub use refusal::Refusal;
 pub use sink::Sink;
 pub use state::Decoder;

@@ -2,9 +2,12 @@ ghost use Rattle.std.specs.Prelude.{◌≡◌, ◌∷◌, []};
 ghost use Rattle.wm_decode.specs.Sinks.{item_parts};
 ghost use Rattle.wm_decode.specs.Runs.{plain_part};
 
+use crate::component::{Component, InComponent};
 use crate::item::Item;
+use wm_syntax::instructions::Op;
+use wm_syntax::modules::{ExportKind, ImportDesc};
 use wm_syntax::numbers::Num32;
-use wm_syntax::types::ValType;
+use wm_syntax::types::{GlobalType, Limits, ValType};
 use wm_syntax::why::Why;
 
 /// Which name is read.
@@ -23,6 +26,31 @@ pub(crate) enum Plain {
     Param(ValType),
     ResultCount(u32),
     OneResult(ValType),
+    Import(ImportDesc),
+    Function(u32),
+    Table(Limits),
+    Memory(Limits),
+    Global(GlobalType),
+    ConstOp(Op),
+    Export(ExportKind, u32),
+    Start(u32),
+    Element(u32),
+    ElementFunction(u32),
+    Body,
+    Locals(u32, ValType),
+    BodyOp(Op),
+    Segment(u32),
+}
+
+fn import(desc: ImportDesc) -> Item<'static>
+    ensures { item_parts result ≡ plain_part (Plain.Import desc) ∷ [] }
+{
+    match desc {
+        ImportDesc::Func(index) => Item::ImportFunc(index),
+        ImportDesc::Table(limits) => Item::ImportTable(limits),
+        ImportDesc::Memory(limits) => Item::ImportMemory(limits),
+        ImportDesc::Global(ty) => Item::ImportGlobal(ty),
+    }
 }
 
 impl Plain {
@@ -35,6 +63,20 @@ impl Plain {
             Plain::Param(ty) => Item::Param(ty),
             Plain::ResultCount(n) => Item::Results(n),
             Plain::OneResult(ty) => Item::Result(ty),
+            Plain::Import(desc) => import(desc),
+            Plain::Function(index) => Item::Func(index),
+            Plain::Table(limits) => Item::Table(limits),
+            Plain::Memory(limits) => Item::Memory(limits),
+            Plain::Global(ty) => Item::Global(ty),
+            Plain::ConstOp(op) => Item::ConstOp(op),
+            Plain::Export(kind, index) => Item::Export(kind, index),
+            Plain::Start(index) => Item::Start(index),
+            Plain::Element(index) => Item::Elem(index),
+            Plain::ElementFunction(index) => Item::ElemFunc(index),
+            Plain::Body => Item::Body,
+            Plain::Locals(count, ty) => Item::Locals(count, ty),
+            Plain::BodyOp(op) => Item::Op(op),
+            Plain::Segment(index) => Item::Segment(index),
         }
     }
 }
@@ -43,7 +85,7 @@ impl Plain {
 ///
 /// Of a name, and of what has a size, the counts are those that come after the byte at hand.
 #[derive(Clone, Copy)]
-pub enum InCustom {
+pub(crate) enum InCustom {
     Length(Num32),
     /// In the name, with so many bytes of it after the next.
     Name { more: u32 },
@@ -53,37 +95,53 @@ pub enum InCustom {
     Failed(Why),
 }
 
-/// Where in a section's contents the next byte stands. The counts are of what comes after the one
-/// at hand, so that each number is one that may be.
-#[derive(Clone, Copy)]
-pub enum Inside {
-    TypeCount(Num32),
-    TypeForm { types: u32 },
-    ParamCount { types: u32, number: Num32 },
-    Param { types: u32, more: u32 },
-    ResultCount { types: u32, number: Num32 },
-    ResultType { types: u32, more: u32 },
-    /// Nothing may follow.
-    Over,
-    /// The byte was refused; the section's frame makes this a refusal at once.
-    Failed(Why),
-}
-
 /// Where in the input the next byte stands: all that is known of the bytes so far, but for the
 /// bytes of a name that was cut.
+///
+/// `functions` is how many functions await their code; `more` is how many bytes of the section come
+/// after the next one.
 #[derive(Clone, Copy)]
-pub enum Machine {
+pub(crate) enum Machine {
     /// In the header, after so many bytes of it.
     Header(u8),
     /// Between sections, after this id.
-    Between(u8),
-    /// In the size of a section with this id; the last id that must rise is this one or, of a custom
-    /// section, the one before.
-    Size { id: u8, last: u8, number: Num32 },
-    /// In a custom section, with so many bytes of it after the next.
-    Custom { last: u8, more: u32, part: InCustom },
-    /// In the contents of another section, with so many bytes of it after the next.
-    Section { last: u8, more: u32, part: Inside },
+    Between {
+        last: u8,
+        functions: u32,
+    },
+    /// In the size of a custom section.
+    CustomSize {
+        last: u8,
+        functions: u32,
+        number: Num32,
+    },
+    Custom {
+        last: u8,
+        functions: u32,
+        more: u32,
+        part: InCustom,
+    },
+    /// In the size of another section.
+    Size {
+        of: Component,
+        functions: u32,
+        number: Num32,
+    },
+    /// In how many components the section has.
+    Count {
+        of: Component,
+        functions: u32,
+        more: u32,
+        number: Num32,
+    },
+    /// In a component of the section, with so many after it.
+    Section {
+        of: Component,
+        functions: u32,
+        more: u32,
+        left: u32,
+        at: InComponent,
+    },
     Refused(Why),
 }
 
@@ -92,6 +150,8 @@ pub enum Machine {
 pub(crate) enum Event {
     Quiet,
     Gives(Plain),
+    /// It is a byte of a data segment.
+    DataByte,
     /// It is a byte of a name that goes on.
     InName,
     EndsName(NameKind),

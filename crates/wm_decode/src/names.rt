@@ -1,8 +1,9 @@
-ghost use Rattle.std.specs.Prelude.{◌≡◌, ◌++◌, OnOk, []};
+ghost use Rattle.std.specs.Prelude.{◌≡◌, ◌++◌, OnOk, [], length, slice_index};
 ghost use Rattle.std.specs.Str.{is_utf8};
 ghost use Rattle.wm_decode.specs.Sinks.{Taken};
 ghost use Rattle.wm_decode.specs.Runs.{named, plain_part};
 ghost use Rattle.wm_decode.specs.Live.{name_taken, offered};
+ghost use Rattle.wm_decode.specs.Parts.{data_byte};
 
 use crate::item::Item;
 use crate::machine::{NameKind, Plain};
@@ -72,4 +73,12 @@ pub(crate) fn give_plain<S: Sink>(sink: &mut S, part: Plain) -> Result<(), Why>
     ensures { Taken (S.after (S.held sink.old) (plain_part part)) result (S.held sink.new) }
 {
     sink.take(part.item())
+}
+
+// gives a byte of a data segment
+pub(crate) fn give_data<S: Sink>(sink: &mut S, bytes: &[u8]) -> Result<(), Why>
+    requires { length bytes.now ≡ 1 }
+    ensures { Taken (S.after (S.held sink.old) (data_byte (slice_index bytes.now 0))) result (S.held sink.new) }
+{
+    sink.take(Item::DataBytes(bytes))
 }

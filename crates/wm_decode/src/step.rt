@@ -1,10 +1,13 @@
-ghost use Rattle.std.specs.Prelude.{◌≡◌};
-ghost use Rattle.wm_decode.specs.Steps.{after_length, length_step, name_step, custom_step, types_or_over, value_type, type_count_step, type_form_step, after_param, param_count_step, after_result, result_count_step, inside_step, custom_framed, framed, refused, section_start, contents, after_size, size_step, header_step, step_of};
-ghost use Rattle.wm_decode.specs.declared.machine.Plain.TheVariants as plain;
+//! What one byte does between sections and to the frame of one.
 
-use crate::machine::{Event, InCustom, Inside, Machine, NameKind, Plain};
+ghost use Rattle.std.specs.Prelude.{◌≡◌};
+ghost use Rattle.wm_decode.specs.Steps.{length_step, name_step, custom_step, custom_framed, framed, refused, section_start, listed, counted, count_step, after_size, size_step, custom_size, custom_size_step, header_step, step_of};
+
+use crate::component::{Component, InComponent};
+use crate::component_step::{begin, component_byte};
+use crate::machine::{Event, InCustom, Machine, NameKind};
 use wm_syntax::numbers::{Num32, Step};
-use wm_syntax::types::ValType;
+use wm_syntax::profile::Profile;
 use wm_syntax::why::Why;
 
 fn no_custom(why: Why) -> (InCustom, Event)
@@ -45,129 +48,6 @@ fn custom_byte(part: InCustom, byte: u8) -> (InCustom, Event)
     }
 }
 
-fn failed(why: Why) -> (Inside, Event)
-    ensures { result ≡ (Inside.Failed why, Event.Quiet) }
-{
-    (Inside::Failed(why), Event::Quiet)
-}
-
-fn types_or_over(types: u32) -> Inside
-    ensures { result ≡ types_or_over types }
-{
-    if types == 0 {
-        Inside::Over
-    } else {
-        Inside::TypeForm { types: types - 1 }
-    }
-}
-
-fn param_type(byte: u8, next: Inside) -> (Inside, Event)
-    ensures { result ≡ value_type byte plain.Param next }
-{
-    match byte {
-        0x7F => (next, Event::Gives(Plain::Param(ValType::I32))),
-        0x7E => (next, Event::Gives(Plain::Param(ValType::I64))),
-        0x7D | 0x7C => failed(Why::Float),
-        _ => failed(Why::BadByte),
-    }
-}
-
-fn result_type(byte: u8, next: Inside) -> (Inside, Event)
-    ensures { result ≡ value_type byte plain.OneResult next }
-{
-    match byte {
-        0x7F => (next, Event::Gives(Plain::OneResult(ValType::I32))),
-        0x7E => (next, Event::Gives(Plain::OneResult(ValType::I64))),
-        0x7D | 0x7C => failed(Why::Float),
-        _ => failed(Why::BadByte),
-    }
-}
-
-fn type_count(mut number: Num32, byte: u8) -> (Inside, Event)
-    ensures { result ≡ type_count_step number byte }
-{
-    match number.push(byte) {
-        Step::More => (Inside::TypeCount(number), Event::Quiet),
-        Step::Done(n) => (types_or_over(n), Event::Quiet),
-        Step::Bad => failed(Why::BadNumber),
-    }
-}
-
-fn type_form(types: u32, byte: u8) -> (Inside, Event)
-    ensures { result ≡ type_form_step types byte }
-{
-    if byte == 0x60 {
-        let number = Num32::new();
-        (
-            Inside::ParamCount { types, number },
-            Event::Gives(Plain::NewType),
-        )
-    } else {
-        failed(Why::BadByte)
-    }
-}
-
-fn after_param(types: u32, left: u32) -> Inside
-    ensures { result ≡ after_param types left }
-{
-    if left == 0 {
-        let number = Num32::new();
-        Inside::ResultCount { types, number }
-    } else {
-        Inside::Param {
-            types,
-            more: left - 1,
-        }
-    }
-}
-
-fn param_count(types: u32, mut number: Num32, byte: u8) -> (Inside, Event)
-    ensures { result ≡ param_count_step types number byte }
-{
-    match number.push(byte) {
-        Step::More => (Inside::ParamCount { types, number }, Event::Quiet),
-        Step::Done(n) => (after_param(types, n), Event::Quiet),
-        Step::Bad => failed(Why::BadNumber),
-    }
-}
-
-fn after_result(types: u32, left: u32) -> Inside
-    ensures { result ≡ after_result types left }
-{
-    if left == 0 {
-        types_or_over(types)
-    } else {
-        Inside::ResultType {
-            types,
-            more: left - 1,
-        }
-    }
-}
-
-fn result_count(types: u32, mut number: Num32, byte: u8) -> (Inside, Event)
-    ensures { result ≡ result_count_step types number byte }
-{
-    match number.push(byte) {
-        Step::More => (Inside::ResultCount { types, number }, Event::Quiet),
-        Step::Done(n) => (after_result(types, n), Event::Gives(Plain::ResultCount(n))),
-        Step::Bad => failed(Why::BadNumber),
-    }
-}
-
-fn inside_byte(part: Inside, byte: u8) -> (Inside, Event)
-    ensures { result ≡ inside_step part byte }
-{
-    match part {
-        Inside::TypeCount(number) => type_count(number, byte),
-        Inside::TypeForm { types } => type_form(types, byte),
-        Inside::ParamCount { types, number } => param_count(types, number, byte),
-        Inside::Param { types, more } => param_type(byte, after_param(types, more)),
-        Inside::ResultCount { types, number } => result_count(types, number, byte),
-        Inside::ResultType { types, more } => result_type(byte, after_result(types, more)),
-        Inside::Over | Inside::Failed(_) => failed(Why::SectionEnd),
-    }
-}
-
 fn refused(why: Why) -> (Machine, Event)
     ensures { result ≡ refused why }
 {
@@ -175,91 +55,192 @@ fn refused(why: Why) -> (Machine, Event)
 }
 
 // the machine in a custom section with so many bytes left
-fn custom_framed(last: u8, more: u32, part: InCustom) -> Machine
-    ensures { result ≡ custom_framed last more part }
+fn custom_framed(last: u8, functions: u32, left: u32, part: InCustom) -> Machine
+    ensures { result ≡ custom_framed last functions left part }
 {
     match part {
         InCustom::Failed(why) => Machine::Refused(why),
-        InCustom::Skip if more == 0 => Machine::Between(last),
-        _ if more == 0 => Machine::Refused(Why::SectionEnd),
-        _ => Machine::Custom {
-            last,
-            more: more - 1,
-            part,
-        },
+        InCustom::Skip if left == 0 => Machine::Between { last, functions },
+        _ if left == 0 => Machine::Refused(Why::SectionEnd),
+        _ => {
+            let more = left - 1;
+            Machine::Custom {
+                last,
+                functions,
+                more,
+                part,
+            }
+        }
     }
 }
 
-// the machine in another section with so many bytes left
-fn framed(last: u8, more: u32, part: Inside) -> Machine
-    ensures { result ≡ framed last more part }
+// the machine at a place in a component, with so many bytes of the section left and so many components after this
+fn framed(of: Component, functions: u32, bytes: u32, left: u32, at: InComponent) -> Machine
+    ensures { result ≡ framed of functions bytes left at }
 {
-    match part {
-        Inside::Failed(why) => Machine::Refused(why),
-        Inside::Over if more == 0 => Machine::Between(last),
-        Inside::Over => Machine::Refused(Why::SectionEnd),
-        _ if more == 0 => Machine::Refused(Why::SectionEnd),
-        _ => Machine::Section {
-            last,
-            more: more - 1,
-            part,
-        },
+    let (left, at) = match at {
+        InComponent::Failed(why) => return Machine::Refused(why),
+        InComponent::Over if left == 0 && bytes == 0 => {
+            let last = of.id();
+            return Machine::Between { last, functions };
+        }
+        InComponent::Over if left == 0 => return Machine::Refused(Why::SectionEnd),
+        InComponent::Over => (left - 1, begin(of)),
+        _ => (left, at),
+    };
+    if bytes == 0 {
+        return Machine::Refused(Why::SectionEnd);
+    }
+    let more = bytes - 1;
+    Machine::Section {
+        of,
+        functions,
+        more,
+        left,
+        at,
     }
 }
 
-/// The last section id that is read so far; the others are refused by their id.
-const LAST_READ: u8 = 1;
+// the machine after the count of a section's components
+fn listed(of: Component, functions: u32, bytes: u32, count: u32) -> Machine
+    ensures { result ≡ listed of functions bytes count }
+{
+    if count == 0 {
+        framed(of, functions, bytes, 0, InComponent::Over)
+    } else {
+        framed(of, functions, bytes, count - 1, begin(of))
+    }
+}
 
-fn section_start(last: u8, byte: u8) -> (Machine, Event)
-    ensures { result ≡ section_start last byte }
+// the same, where functions begin to await their code, or get it
+fn counted(of: Component, functions: u32, bytes: u32, count: u32) -> Machine
+    ensures { result ≡ counted of functions bytes count }
+{
+    match of {
+        Component::Function => listed(of, count, bytes, count),
+        Component::Code if count == functions => listed(of, 0, bytes, count),
+        Component::Code => Machine::Refused(Why::CodeCount),
+        _ => listed(of, functions, bytes, count),
+    }
+}
+
+fn count(of: Component, functions: u32, more: u32, mut number: Num32, byte: u8) -> (Machine, Event)
+    ensures { result ≡ count_step of functions more number byte }
+{
+    match number.push(byte) {
+        Step::More if more == 0 => refused(Why::SectionEnd),
+        Step::More => {
+            let more = more - 1;
+            (
+                Machine::Count {
+                    of,
+                    functions,
+                    more,
+                    number,
+                },
+                Event::Quiet,
+            )
+        }
+        Step::Done(n) => (counted(of, functions, more, n), Event::Quiet),
+        Step::Bad => refused(Why::BadNumber),
+    }
+}
+
+fn section_start(last: u8, functions: u32, byte: u8) -> (Machine, Event)
+    ensures { result ≡ section_start last functions byte }
 {
     let number = Num32::new();
     if byte == 0 {
-        let id = byte;
-        (Machine::Size { id, last, number }, Event::Quiet)
-    } else if byte > LAST_READ {
-        refused(Why::SectionId)
-    } else if byte > last {
-        let id = byte;
-        let last = byte;
-        (Machine::Size { id, last, number }, Event::Quiet)
-    } else {
-        refused(Why::SectionOrder)
+        return (
+            Machine::CustomSize {
+                last,
+                functions,
+                number,
+            },
+            Event::Quiet,
+        );
+    }
+    match Component::of(byte) {
+        None => refused(Why::SectionId),
+        Some(_) if byte <= last => refused(Why::SectionOrder),
+        Some(Component::Segment) if functions > 0 => refused(Why::CodeCount),
+        Some(of) => (
+            Machine::Size {
+                of,
+                functions,
+                number,
+            },
+            Event::Quiet,
+        ),
     }
 }
 
-// the contents of a section other than a custom one
-fn contents(id: u8) -> Inside
-    ensures { result ≡ contents id }
-{
-    match id {
-        1 => Inside::TypeCount(Num32::new()),
-        _ => Inside::Failed(Why::SectionId),
-    }
-}
-
-fn after_size(id: u8, last: u8, size: u32) -> Machine
-    ensures { result ≡ after_size id last size }
+fn after_size(of: Component, functions: u32, size: u32) -> Machine
+    ensures { result ≡ after_size of functions size }
 {
     if size == 0 {
         return Machine::Refused(Why::SectionEnd);
     }
     let more = size - 1;
-    if id == 0 {
-        let part = InCustom::Length(Num32::new());
-        Machine::Custom { last, more, part }
-    } else {
-        let part = contents(id);
-        Machine::Section { last, more, part }
+    match of {
+        Component::Start => {
+            let at = begin(of);
+            Machine::Section {
+                of,
+                functions,
+                more,
+                left: 0,
+                at,
+            }
+        }
+        _ => {
+            let number = Num32::new();
+            Machine::Count {
+                of,
+                functions,
+                more,
+                number,
+            }
+        }
     }
 }
 
-fn section_size(id: u8, last: u8, mut number: Num32, byte: u8) -> (Machine, Event)
-    ensures { result ≡ size_step id last number byte }
+fn section_size(of: Component, functions: u32, mut number: Num32, byte: u8) -> (Machine, Event)
+    ensures { result ≡ size_step of functions number byte }
 {
     match number.push(byte) {
-        Step::More => (Machine::Size { id, last, number }, Event::Quiet),
-        Step::Done(n) => (after_size(id, last, n), Event::Quiet),
+        Step::More => (
+            Machine::Size {
+                of,
+                functions,
+                number,
+            },
+            Event::Quiet,
+        ),
+        Step::Done(n) => (after_size(of, functions, n), Event::Quiet),
+        Step::Bad => refused(Why::BadNumber),
+    }
+}
+
+fn after_custom_size(last: u8, functions: u32, size: u32) -> Machine
+    ensures { result ≡ custom_size last functions size }
+{
+    custom_framed(last, functions, size, InCustom::Length(Num32::new()))
+}
+
+fn custom_size(last: u8, functions: u32, mut number: Num32, byte: u8) -> (Machine, Event)
+    ensures { result ≡ custom_size_step last functions number byte }
+{
+    match number.push(byte) {
+        Step::More => (
+            Machine::CustomSize {
+                last,
+                functions,
+                number,
+            },
+            Event::Quiet,
+        ),
+        Step::Done(n) => (after_custom_size(last, functions, n), Event::Quiet),
         Step::Bad => refused(Why::BadNumber),
     }
 }
@@ -277,25 +258,55 @@ fn in_header(at: u8, byte: u8) -> (Machine, Event)
     } else if at < 7 {
         (Machine::Header(at + 1), Event::Quiet)
     } else {
-        (Machine::Between(0), Event::Quiet)
+        let start = Machine::Between {
+            last: 0,
+            functions: 0,
+        };
+        (start, Event::Quiet)
     }
 }
 
 /// The machine after one more byte, and what this byte completes.
-pub(crate) fn step(machine: Machine, byte: u8) -> (Machine, Event)
-    ensures { result ≡ step_of machine byte }
+pub(crate) fn step(profile: Profile, machine: Machine, byte: u8) -> (Machine, Event)
+    ensures { result ≡ step_of profile machine byte }
 {
     match machine {
         Machine::Header(at) => in_header(at, byte),
-        Machine::Between(last) => section_start(last, byte),
-        Machine::Size { id, last, number } => section_size(id, last, number, byte),
-        Machine::Custom { last, more, part } => {
-            let (next, event) = custom_byte(part, byte);
-            (custom_framed(last, more, next), event)
+        Machine::Between { last, functions } => section_start(last, functions, byte),
+        Machine::CustomSize {
+            last,
+            functions,
+            number,
+        } => custom_size(last, functions, number, byte),
+        Machine::Custom {
+            last,
+            functions,
+            more,
+            part,
+        } => {
+            let (part, event) = custom_byte(part, byte);
+            (custom_framed(last, functions, more, part), event)
         }
-        Machine::Section { last, more, part } => {
-            let (next, event) = inside_byte(part, byte);
-            (framed(last, more, next), event)
+        Machine::Size {
+            of,
+            functions,
+            number,
+        } => section_size(of, functions, number, byte),
+        Machine::Count {
+            of,
+            functions,
+            more,
+            number,
+        } => count(of, functions, more, number, byte),
+        Machine::Section {
+            of,
+            functions,
+            more,
+            left,
+            at,
+        } => {
+            let (at, event) = component_byte(profile, at, byte);
+            (framed(of, functions, more, left, at), event)
         }
         Machine::Refused(why) => refused(why),
     }

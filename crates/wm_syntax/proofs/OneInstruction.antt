@@ -52,7 +52,7 @@ heads_same : {c d : ℕ} {x y : List ℕ} → c ∷ x ≡ d ∷ y → c ≡ d
 heads_same e = cc
 
 -- the class that stands at a byte in the table
-class_there : (o : Op) (c : ℕ) → first_byte o ≡ Some c → slice_get classes c ≡ Some (class_of o)
+pub class_there : (o : Op) (c : ℕ) → first_byte o ≡ Some c → slice_get classes c ≡ Some (class_of o)
 class_there (op.Simple i) c f = subst (λ (n : ℕ). slice_get classes n ≡ Some (class_of (op.Simple i))) (some_same f) (found_simple i)
 class_there (op.Block t) c f = subst (λ (n : ℕ). slice_get classes n ≡ Some (With k.Block)) (some_same f) refl
 class_there (op.Loop t) c f = subst (λ (n : ℕ). slice_get classes n ≡ Some (With k.Loop)) (some_same f) refl

@@ -1,6 +1,7 @@
--- The rows of the code's table of first bytes, for the proof of `op_of`: no promise rests on this list, since the
--- contract of `op_of` speaks of the table of instructions alone.
-use Rattle.std.specs.Prelude.{List, [], ◌∷◌}
+-- The rows of the code's table of first bytes, for the proof of `op_of`, and its exact answer, for the layer that
+-- builds on it: no promise rests on this list, since the other clauses of `op_of` speak of the table of instructions
+-- alone.
+use Rattle.std.specs.Prelude.{ℕ, List, [], ◌∷◌, Option, Some, None as Nothing, slice_get}
 use Rattle.wm_syntax.specs.declared.types.ValType.TheVariants.{I32, I64}
 use Rattle.wm_syntax.specs.declared.instructions.Comparison.TheVariants.{Eq, Ne, LtS, LtU, GtS, GtU, LeS, LeU, GeS, GeU}
 use Rattle.wm_syntax.specs.declared.instructions.UnaryOp.TheVariants.{Clz, Ctz, Popcnt}
@@ -282,3 +283,11 @@ classes =
 abbrev pub class_in : Profile → OpClass → OpClass
 class_in One (Plain (op.Simple (s.Numeric (SignExtend o)))) = None
 class_in _ c = c
+
+abbrev pub row_in : Profile → Option OpClass → OpClass
+row_in p (Some c) = class_in p c
+row_in p Nothing = None
+
+-- what a byte begins under a profile; what is no byte begins nothing
+unfoldable pub class_under : Profile → ℕ → OpClass
+class_under p byte = row_in p (slice_get classes byte)

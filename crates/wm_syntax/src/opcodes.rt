@@ -2,7 +2,7 @@
 
 ghost use Rattle.std.specs.Prelude.{◌≡◌, ◌↔◌, IsTrue, slice_get};
 ghost use Rattle.wm_syntax.specs.declared.instructions.Op.{Op};
-ghost use Rattle.wm_syntax.specs.ByteTable.{classes, class_in};
+ghost use Rattle.wm_syntax.specs.ByteTable.{classes, class_in, class_under};
 ghost use Rattle.wm_syntax.specs.OpClasses.{IsFound, class_of, first_byte, is_float};
 ghost use Rattle.wm_syntax.specs.Profiles.{IsOpOf};
 
@@ -26,6 +26,7 @@ pub fn op_of(profile: Profile, byte: u8) -> OpClass
     ensures found { (op : Op) → first_byte op ≡ Some byte → IsOpOf profile op → result ≡ class_of op }
     ensures only { IsFound result → (op : Op) × (first_byte op ≡ Some byte) × IsOpOf profile op × (class_of op ≡ result) }
     ensures float { (result ≡ OpClass.Float) ↔ IsTrue (is_float byte) }
+    ensures exact { result ≡ class_under profile byte }
 {
     within(profile, class_at(byte))
 }

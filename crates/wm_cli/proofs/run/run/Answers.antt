@@ -1,9 +1,9 @@
 use Rattle.std.proofs.Common.{Result, Err, inr, refl, ap, subst, ◌∙◌}
 use Rattle.wm_cli.proofs.RunLemmas.{out_of_refusal}
 use Rattle.wm_cli.specs.Outcome.{refusal_line}
-use Rattle.wm_cli.specs.Reading.{Judges}
-use Rattle.wm_cli.specs.declared.reading.Fault.{Fault}
-use Rattle.wm_cli.specs.declared.validator.Summary.{Summary}
+use Rattle.wm_rules.specs.Reading.{Judges}
+use Rattle.wm_rules.specs.declared.reading.Fault.{Fault}
+use Rattle.wm_rules.specs.declared.checker.Summary.{Summary}
 use Rattle.wm_cli.specs.declared.status.Status.TheVariants as status
 use Rattle.wm_cli.proofs.run.run.Goals as goal
 

@@ -16,7 +16,7 @@ returns-in-Ok-clause-fed g c = (
       let s = c.args.self.now in
       let n = c.take_cut.new.self in
       let b = c.args.piece.now in
-      rw (c.refuse.ensures.refusal, c.take_cut.ensures.limit) (long_fed g.S.Sink.after s.max_bytes (live_with g.S.Sink.held s []) (take c.args.room b) (drop c.args.room b) b n.machine n.name.items (g.S.Sink.held n.sink) n.at (sym (take-append-drop c.args.room b)) (some c.args.room b c.requires.long)
+      rw (c.refuse.ensures.refusal, c.take_cut.ensures.limit) (long_fed g.S.Sink.after s.profile s.max_bytes (live_with g.S.Sink.held s []) (take c.args.room b) (drop c.args.room b) b n.machine n.name.items (g.S.Sink.held n.sink) n.at (sym (take-append-drop c.args.room b)) (some c.args.room b c.requires.long)
       c.in-Ok.ensures.fed.0 c.in-Ok.ensures.fed.1 (far s.max_bytes n.at s.at c.args.room b c.requires.room c.requires.long c.in-Ok.ensures.at)),
   c.refuse.ensures.stands,
 )
@@ -25,6 +25,6 @@ pub returns-in-Err-clause-fed : goal.returns-in-Err-clause-fed
 returns-in-Err-clause-fed g c =
     let s = c.args.self.now in
     let b = c.args.piece.now in (
-      λ ne. refused_cut g.S.Sink.after s.max_bytes (live_with g.S.Sink.held s []) (take c.args.room b) (drop c.args.room b) b c.in-Err.refusal (sym (take-append-drop c.args.room b)) (c.in-Err.ensures.fed.0 ne),
+      λ ne. refused_cut g.S.Sink.after s.profile s.max_bytes (live_with g.S.Sink.held s []) (take c.args.room b) (drop c.args.room b) b c.in-Err.refusal (sym (take-append-drop c.args.room b)) (c.in-Err.ensures.fed.0 ne),
       c.in-Err.ensures.fed.1,
     )

@@ -1,0 +1,265 @@
+-- Within a component the name Float is given for a byte of floating-point numbers only.
+use Rattle.std.proofs.Common.{◌≡◌, ℕ, zero, suc, Bool, true, false, Some, ap, inl, inr, nat_eq, Result, Ok, Err}
+use Rattle.std.proofs.lemmas.Bool.{cond_both, eqb-true}
+use Rattle.wm_syntax.specs.declared.numbers.Step.{Step}
+use Rattle.wm_syntax.specs.declared.numbers.Step.TheVariants as step
+use Rattle.wm_syntax.specs.Partial.{Partial}
+use Rattle.wm_syntax.specs.Reading.{fresh, unsigned_push}
+use Rattle.wm_syntax.specs.declared.why.Why.{Why}
+use Rattle.wm_syntax.specs.declared.why.Why.TheVariants as why
+use Rattle.wm_syntax.specs.declared.profile.Profile.{Profile}
+use Rattle.wm_syntax.specs.declared.types.ValType.{ValType}
+use Rattle.wm_decode.specs.declared.machine.NameKind.{NameKind}
+use Rattle.wm_decode.specs.declared.machine.NameKind.TheVariants as name
+use Rattle.wm_decode.specs.declared.machine.Plain.TheVariants as plain
+use Rattle.wm_decode.specs.declared.machine.Event.{Event}
+use Rattle.wm_decode.specs.declared.machine.Event.TheVariants as event
+use Rattle.wm_decode.specs.declared.reading.Reading.{Reading}
+use Rattle.wm_decode.specs.declared.reading.Reading.TheVariants.{More, Done, Bad}
+use Rattle.wm_decode.specs.declared.values.InLimits.{InLimits}
+use Rattle.wm_decode.specs.declared.values.InLimits.TheVariants as limits
+use Rattle.wm_decode.specs.declared.values.InTableType.{InTableType}
+use Rattle.wm_decode.specs.declared.values.InTableType.TheVariants as table
+use Rattle.wm_decode.specs.declared.values.InGlobalType.{InGlobalType}
+use Rattle.wm_decode.specs.declared.values.InGlobalType.TheVariants as global
+use Rattle.wm_decode.specs.declared.values.InDesc.{InDesc}
+use Rattle.wm_decode.specs.declared.values.InDesc.TheVariants as import
+use Rattle.wm_decode.specs.declared.values.InTarget.{InTarget}
+use Rattle.wm_decode.specs.declared.values.InTarget.TheVariants as target
+use Rattle.wm_decode.specs.declared.values.InRun.{InRun}
+use Rattle.wm_decode.specs.declared.values.InRun.TheVariants as run
+use Rattle.wm_decode.specs.declared.values.InValue.{InValue}
+use Rattle.wm_decode.specs.declared.values.InValue.TheVariants as value
+use Rattle.wm_decode.specs.declared.component.IndexOf.{IndexOf}
+use Rattle.wm_decode.specs.declared.component.IndexOf.TheVariants as index
+use Rattle.wm_decode.specs.declared.component.ConstantOf.{ConstantOf}
+use Rattle.wm_decode.specs.declared.component.ConstantOf.TheVariants as constant
+use Rattle.wm_decode.specs.declared.component.LengthOf.{LengthOf}
+use Rattle.wm_decode.specs.declared.component.LengthOf.TheVariants as length_of
+use Rattle.wm_decode.specs.declared.component.InEntry.{InEntry}
+use Rattle.wm_decode.specs.declared.component.InEntry.TheVariants as entry
+use Rattle.wm_decode.specs.declared.component.InComponent.{InComponent}
+use Rattle.wm_decode.specs.declared.component.InComponent.TheVariants as at
+use Rattle.wm_decode.specs.declared.expressions.InExpression.{InExpression}
+use Rattle.wm_decode.specs.declared.expressions.InExpression.TheVariants as expression
+use Rattle.wm_decode.specs.Decoding.{IsFloatByte}
+use Rattle.wm_decode.specs.ValueSteps.{read_number, mapped, after_min, limits_push, table_type_push, value_type_of, read_type, var_step, global_type_push, desc_kind_step, desc_push, target_kind_step, target_push, run_push, value_push}
+use Rattle.wm_decode.specs.ExpressionSteps.{start, expression_step}
+use Rattle.wm_decode.specs.ComponentSteps.{on_number, on_value, on_type, given, after_param, after_result, after_name, after_length, name_step, functions_or_over, index_part, after_index, constant_over, after_constant, data_or_over, list_or_over, runs_or_body, after_op, entry_step, entry_framed, component_step}
+use Rattle.wm_decode.proofs.ExpressionSound.{expression_float}
+
+module _ (c : ℕ) where
+  -- a reader that is refused by this name is so at such a byte
+  abbrev Reads : {R X : Type 0} → Reading R X → Type 0
+  Reads q = q ≡ Bad why.Float → IsFloatByte c
+
+  number_reads : {R X : Type 0} (q : Step ℕ × Partial) (more : Partial → R) (done : ℕ → Reading R X) → ((n : ℕ) → Reads (done n)) → Reads (read_number q more done)
+  number_reads (step.More, s) more done h e = cc
+  number_reads (step.Done n, s) more done h e = h n e
+  number_reads (step.Bad, s) more done h e = cc
+
+  within_reads : {R S X Y : Type 0} (f : R → S) (g : X → Y) (q : Reading R X) → Reads q → Reads (mapped f g q)
+  within_reads f g (More r) h e = cc
+  within_reads f g (Done x) h e = cc
+  within_reads f g (Bad w) h e = h (let s : w ≡ why.Float = cc in ap Bad s)
+
+  pub type_float : value_type_of c ≡ Err why.Float → IsFloatByte c
+  type_float =
+      let P : Result ValType Why → Type 0 = λ q. q ≡ Err why.Float → IsFloatByte c in
+      cond_both (nat_eq c 0x7F) _ _ P (λ _ e. cc)
+      (λ _. cond_both (nat_eq c 0x7E) _ _ P (λ _ e. cc)
+      (λ _. cond_both (nat_eq c 0x7D) _ _ P (λ a e. inl (eqb-true c 0x7D a))
+      (λ _. cond_both (nat_eq c 0x7C) _ _ P (λ a e. inr (inl (eqb-true c 0x7C a))) (λ _ e. cc))))
+
+  type_reads : {R X : Type 0} (q : Result ValType Why) (f : ValType → Reading R X) → (q ≡ Err why.Float → IsFloatByte c) → ((t : ValType) → Reads (f t)) → Reads (read_type q f)
+  type_reads (Ok t) f h g = g t
+  type_reads (Err w) f h g = λ e. h (let s : w ≡ why.Float = cc in ap Err s)
+
+  min_reads : (bounded : Bool) (n : ℕ) → Reads (after_min bounded n)
+  min_reads true n e = cc
+  min_reads false n e = cc
+
+  limits_reads : (l : InLimits) → Reads (limits_push l c)
+  limits_reads limits.Flag = cond_both (nat_eq c 0x00) _ _ Reads (λ _ e. cc) (λ _. cond_both (nat_eq c 0x01) _ _ Reads (λ _ e. cc) (λ _ e. cc))
+  limits_reads (limits.Min bounded r) = number_reads (unsigned_push 32 r c) (λ s. limits.Min bounded s) (after_min bounded) (min_reads bounded)
+  limits_reads (limits.Max min r) = number_reads (unsigned_push 32 r c) (λ s. limits.Max min s) (λ n. Done (record { min = min; max = Some n })) (λ n e. cc)
+
+  table_reads : (t : InTableType) → Reads (table_type_push t c)
+  table_reads table.ElementType = cond_both (nat_eq c 0x70) _ _ Reads (λ _ e. cc) (λ _ e. cc)
+  table_reads (table.Limits l) = within_reads table.Limits (λ y. y) (limits_push l c) (limits_reads l)
+
+  var_reads : (t : ValType) (d : ℕ) → Reads (var_step t d)
+  var_reads t zero e = cc
+  var_reads t (suc zero) e = cc
+  var_reads t (suc (suc d)) e = cc
+
+  global_reads : (g : InGlobalType) → Reads (global_type_push g c)
+  global_reads global.Type = type_reads (value_type_of c) (λ t. More (global.Var t)) type_float (λ t e. cc)
+  global_reads (global.Var t) = var_reads t c
+
+  kind_reads : (d : ℕ) → Reads (desc_kind_step d)
+  kind_reads zero e = cc
+  kind_reads (suc zero) e = cc
+  kind_reads (suc (suc zero)) e = cc
+  kind_reads (suc (suc (suc zero))) e = cc
+  kind_reads (suc (suc (suc (suc d)))) e = cc
+
+  desc_reads : (d : InDesc) → Reads (desc_push d c)
+  desc_reads import.Kind = kind_reads c
+  desc_reads (import.Func r) = number_reads (unsigned_push 32 r c) import.Func _ (λ n e. cc)
+  desc_reads (import.Table t) = within_reads import.Table _ (table_type_push t c) (table_reads t)
+  desc_reads (import.Memory l) = within_reads import.Memory _ (limits_push l c) (limits_reads l)
+  desc_reads (import.Global g) = within_reads import.Global _ (global_type_push g c) (global_reads g)
+
+  target_kind_reads : (d : ℕ) → Reads (target_kind_step d)
+  target_kind_reads zero e = cc
+  target_kind_reads (suc zero) e = cc
+  target_kind_reads (suc (suc zero)) e = cc
+  target_kind_reads (suc (suc (suc zero))) e = cc
+  target_kind_reads (suc (suc (suc (suc d)))) e = cc
+
+  target_reads : (t : InTarget) → Reads (target_push t c)
+  target_reads target.Kind = target_kind_reads c
+  target_reads (target.Index k r) = number_reads (unsigned_push 32 r c) (λ s. target.Index k s) (λ n. Done (k, n)) (λ n e. cc)
+
+  run_reads : (r : InRun) → Reads (run_push r c)
+  run_reads (run.Count r) = number_reads (unsigned_push 32 r c) run.Count (λ n. More (run.Type n)) (λ n e. cc)
+  run_reads (run.Type n) = type_reads (value_type_of c) (λ t. Done (n, t)) type_float (λ t e. cc)
+
+  value_reads : (v : InValue) → Reads (value_push v c)
+  value_reads (value.Import d) = within_reads value.Import plain.Import (desc_push d c) (desc_reads d)
+  value_reads (value.Table t) = within_reads value.Table plain.Table (table_type_push t c) (table_reads t)
+  value_reads (value.Memory l) = within_reads value.Memory plain.Memory (limits_push l c) (limits_reads l)
+  value_reads (value.Export t) = within_reads value.Export _ (target_push t c) (target_reads t)
+
+  -- a place that has not failed by this name, or at such a byte
+  abbrev Fails : InComponent → Type 0
+  Fails q = q ≡ at.Failed why.Float → IsFloatByte c
+
+  abbrev FailsEntry : InEntry → Type 0
+  FailsEntry q = q ≡ entry.Failed why.Float → IsFloatByte c
+
+  module _ {M : Type 0} (P : M → Type 0) where
+    on_number_any : (q : Step ℕ × Partial) (more : Partial → M) (done : ℕ → M × Event) (bad : Why → M) → ((s : Partial) → P (more s)) → ((n : ℕ) → P (done n).0) → P (bad why.BadNumber) → P (on_number q more done bad).0
+    on_number_any (step.More, s) more done bad a b w = a s
+    on_number_any (step.Done n, s) more done bad a b w = b n
+    on_number_any (step.Bad, s) more done bad a b w = w
+
+    on_value_any : {R X : Type 0} (q : Reading R X) (more : R → M) (done : X → M × Event) (bad : Why → M) → Reads q → ((s : R) → P (more s)) → ((x : X) → P (done x).0) → ((w : Why) → (w ≡ why.Float → IsFloatByte c) → P (bad w)) → P (on_value q more done bad).0
+    on_value_any (More s) more done bad h a b g = a s
+    on_value_any (Done x) more done bad h a b g = b x
+    on_value_any (Bad w) more done bad h a b g = g w (λ e. h (ap Bad e))
+
+    on_type_any : (q : Result ValType Why) (done : ValType → M × Event) (bad : Why → M) → (q ≡ Err why.Float → IsFloatByte c) → ((t : ValType) → P (done t).0) → ((w : Why) → (w ≡ why.Float → IsFloatByte c) → P (bad w)) → P (on_type q done bad).0
+    on_type_any (Ok t) done bad h b g = b t
+    on_type_any (Err w) done bad h b g = g w (λ e. h (ap Err e))
+
+  fails_by : (w : Why) → (w ≡ why.Float → IsFloatByte c) → Fails (at.Failed w)
+  fails_by w h e = h (cc)
+
+  entry_by : (w : Why) → (w ≡ why.Float → IsFloatByte c) → FailsEntry (entry.Failed w)
+  entry_by w h e = h (cc)
+
+  -- code entries
+  runs_float : (n : ℕ) → FailsEntry (runs_or_body n)
+  runs_float zero e = cc
+  runs_float (suc n) e = cc
+
+  op_float : (e : InExpression) → (e ≡ expression.Failed why.Float → IsFloatByte c) → FailsEntry (after_op e)
+  op_float expression.Over h i = cc
+  op_float (expression.Failed w) h i = h (let s : w ≡ why.Float = cc in ap expression.Failed s)
+  op_float (expression.Op depth q) h i = cc
+  op_float (expression.Label depth n r) h i = cc
+
+  entry_float : (p : Profile) (q : InEntry) → FailsEntry (entry_step p q c).0
+  entry_float p (entry.RunCount r) = on_number_any FailsEntry (unsigned_push 32 r c) entry.RunCount (λ n. (runs_or_body n, event.Quiet)) entry.Failed (λ s e. cc) runs_float (λ e. cc)
+  entry_float p (entry.Run more r) = on_value_any FailsEntry (run_push r c) (λ s. entry.Run more s) _ entry.Failed (run_reads r) (λ s e. cc) (λ x. runs_float more) entry_by
+  entry_float p (entry.Body e) = op_float (expression_step p e c).0 (expression_float p e c)
+  entry_float p entry.Over = λ e. cc
+  entry_float p (entry.Failed w) = λ e. cc
+
+  -- what each place becomes
+  param_float : (n : ℕ) → Fails (after_param n)
+  param_float zero e = cc
+  param_float (suc n) e = cc
+
+  result_float : (n : ℕ) → Fails (after_result n)
+  result_float zero e = cc
+  result_float (suc n) e = cc
+
+  name_float : (of : NameKind) → Fails (after_name of)
+  name_float name.ImportModule e = cc
+  name_float name.ImportName e = cc
+  name_float name.Export e = cc
+  name_float name.Custom e = cc
+
+  length_float : (of : NameKind) (n : ℕ) → Fails (after_length of n).0
+  length_float of zero = name_float of
+  length_float of (suc n) = λ e. cc
+
+  name_step_float : (of : NameKind) (n : ℕ) → Fails (name_step of n).0
+  name_step_float of zero = name_float of
+  name_step_float of (suc n) = λ e. cc
+
+  functions_float : (n : ℕ) → Fails (functions_or_over n)
+  functions_float zero e = cc
+  functions_float (suc n) e = cc
+
+  data_float : (n : ℕ) → Fails (data_or_over n)
+  data_float zero e = cc
+  data_float (suc n) e = cc
+
+  list_float : (of : LengthOf) (n : ℕ) → Fails (list_or_over of n)
+  list_float length_of.Functions n = functions_float n
+  list_float length_of.Bytes n = data_float n
+
+  index_float : (of : IndexOf) → Fails (after_index of)
+  index_float index.Function = λ e. cc
+  index_float index.Start = λ e. cc
+  index_float index.Element = λ e. cc
+  index_float (index.ElementFunction more) = functions_float more
+  index_float index.Segment = λ e. cc
+
+  over_float : (of : ConstantOf) → Fails (constant_over of)
+  over_float constant.Global e = cc
+  over_float constant.Element e = cc
+  over_float constant.Segment e = cc
+
+  constant_float : (of : ConstantOf) (e : InExpression) → (e ≡ expression.Failed why.Float → IsFloatByte c) → Fails (after_constant of e)
+  constant_float of expression.Over h = over_float of
+  constant_float of (expression.Failed w) h = λ i. h (let s : w ≡ why.Float = cc in ap expression.Failed s)
+  constant_float of (expression.Op depth q) h = λ i. cc
+  constant_float of (expression.Label depth n r) h = λ i. cc
+
+  framed_float : (n : ℕ) (q : InEntry) → FailsEntry q → Fails (entry_framed n q)
+  framed_float n (entry.Failed w) h e = h (let s : w ≡ why.Float = cc in ap entry.Failed s)
+  framed_float zero entry.Over h e = cc
+  framed_float (suc n) entry.Over h e = cc
+  framed_float zero (entry.RunCount r) h e = cc
+  framed_float zero (entry.Run more r) h e = cc
+  framed_float zero (entry.Body x) h e = cc
+  framed_float (suc n) (entry.RunCount r) h e = cc
+  framed_float (suc n) (entry.Run more r) h e = cc
+  framed_float (suc n) (entry.Body x) h e = cc
+
+  size_float : (n : ℕ) → Fails (entry_framed n (entry.RunCount fresh))
+  size_float n = framed_float n (entry.RunCount fresh) (λ e. cc)
+
+  pub component_float : (p : Profile) (q : InComponent) → (component_step p q c).0 ≡ at.Failed why.Float → IsFloatByte c
+  component_float p at.TypeForm = cond_both (nat_eq c 0x60) _ _ (λ (x : InComponent × Event). Fails x.0) (λ _ e. cc) (λ _ e. cc)
+  component_float p (at.ParamCount r) = on_number_any Fails (unsigned_push 32 r c) at.ParamCount (λ n. (after_param n, event.Quiet)) at.Failed (λ s e. cc) param_float (λ e. cc)
+  component_float p (at.Param more) = on_type_any Fails (value_type_of c) (λ t. given (after_param more) (plain.Param t)) at.Failed type_float (λ t. param_float more) fails_by
+  component_float p (at.ResultCount r) = on_number_any Fails (unsigned_push 32 r c) at.ResultCount (λ n. given (after_result n) (plain.ResultCount n)) at.Failed (λ s e. cc) result_float (λ e. cc)
+  component_float p (at.ResultType more) = on_type_any Fails (value_type_of c) (λ t. given (after_result more) (plain.OneResult t)) at.Failed type_float (λ t. result_float more) fails_by
+  component_float p (at.NameLength of r) = on_number_any Fails (unsigned_push 32 r c) (λ s. at.NameLength of s) (after_length of) at.Failed (λ s e. cc) (length_float of) (λ e. cc)
+  component_float p (at.Name of more) = name_step_float of more
+  component_float p (at.Value v) = on_value_any Fails (value_push v c) at.Value (λ q. given at.Over q) at.Failed (value_reads v) (λ s e. cc) (λ x e. cc) fails_by
+  component_float p (at.Index of r) = on_number_any Fails (unsigned_push 32 r c) (λ s. at.Index of s) (λ n. given (after_index of) (index_part of n)) at.Failed (λ s e. cc) (λ n. index_float of) (λ e. cc)
+  component_float p (at.GlobalType g) = on_value_any Fails (global_type_push g c) at.GlobalType (λ t. given (at.Constant constant.Global start) (plain.Global t)) at.Failed (global_reads g) (λ s e. cc) (λ x e. cc) fails_by
+  component_float p (at.Constant of e) = constant_float of (expression_step p e c).0 (expression_float p e c)
+  component_float p (at.Length of r) = on_number_any Fails (unsigned_push 32 r c) (λ s. at.Length of s) (λ n. (list_or_over of n, event.Quiet)) at.Failed (λ s e. cc) (list_float of) (λ e. cc)
+  component_float p (at.Data more) = data_float more
+  component_float p (at.EntrySize r) = on_number_any Fails (unsigned_push 32 r c) at.EntrySize (λ n. given (entry_framed n (entry.RunCount fresh)) plain.Body) at.Failed (λ s e. cc) size_float (λ e. cc)
+  component_float p (at.Entry more q) = framed_float more (entry_step p q c).0 (entry_float p q)
+  component_float p at.Over = λ e. cc
+  component_float p (at.Failed w) = λ e. cc

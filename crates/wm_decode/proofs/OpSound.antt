@@ -1,0 +1,187 @@
+-- Which states a reader of an op can be in, that something may still come in each, and where it gives the name Float.
+use Rattle.std.proofs.Common.{◌≡◌, ℕ, ◌+◌, ◌-◌, ◌*◌, ◌<◌, ◌^◌, inl, inr, List, [], ◌∷◌, ℤ, pos, refl, arith, nat_eq, nat_lt, nat_le, pow_pos}
+use Rattle.std.specs.Prelude.{None as Nothing}
+use Rattle.std.proofs.lemmas.Bool.{cond_both, eqb-true, ltb-true}
+use Rattle.wm_syntax.specs.declared.profile.Profile.{Profile}
+use Rattle.wm_syntax.specs.declared.why.Why.TheVariants as why
+use Rattle.wm_syntax.specs.declared.instructions.Op.{Op}
+use Rattle.wm_syntax.specs.declared.instructions.Op.TheVariants as op
+use Rattle.wm_syntax.specs.declared.op_class.OpClass.{OpClass}
+use Rattle.wm_syntax.specs.declared.op_class.OpClass.TheVariants.{Plain, With, Float, None}
+use Rattle.wm_syntax.specs.declared.op_class.Kind.{Kind}
+use Rattle.wm_syntax.specs.declared.op_class.Kind.TheVariants as k
+use Rattle.wm_syntax.specs.declared.numbers.Step.{Step}
+use Rattle.wm_syntax.specs.declared.numbers.Step.TheVariants as step
+use Rattle.wm_syntax.specs.Partial.{Partial}
+use Rattle.wm_syntax.specs.Reading.{SignedRest, fresh, last_signed, unsigned_push, signed_push}
+use Rattle.wm_syntax.specs.ByteTable.{class_under}
+use Rattle.wm_syntax.proofs.Room.{room_more}
+use Rattle.wm_syntax.proofs.FirstBytes.{float_under}
+use Rattle.wm_decode.specs.declared.reading.Reading.{Reading}
+use Rattle.wm_decode.specs.declared.reading.Reading.TheVariants.{More, Done, Bad}
+use Rattle.wm_decode.specs.declared.ops.Opening.{Opening}
+use Rattle.wm_decode.specs.declared.ops.InOp.{InOp}
+use Rattle.wm_decode.specs.declared.ops.InOp.TheVariants as at
+use Rattle.wm_decode.specs.OpSteps.{block_op, index_op, call_op, memory_op, const_32_op, const_64_op, on_answer, immediates, first_step, block_step, closing_step, op_push}
+use Rattle.wm_decode.proofs.Numbers.{Left}
+use Rattle.wm_decode.proofs.OpRest.{at_offset, op_rest}
+use Rattle.wm_decode.specs.Decoding.{IsFloatByte}
+
+-- the number so far can still be ended, and is as small as its bytes say
+abbrev pub HasRoom : ℕ → Partial → Type 0
+HasRoom bits r = (7 * r.count < bits) × (r.low < 2 ^ (7 * r.count))
+
+pub fresh_room : (bits : ℕ) → 0 < bits → HasRoom bits fresh
+fresh_room bits some = (omega arith, omega arith)
+
+-- the same of an answer
+abbrev pub RoomAfter : {T : Type 0} → ℕ → Step T × Partial → Type 0
+RoomAfter bits (step.More, r) = HasRoom bits r
+RoomAfter bits (step.Done v, r) = Unit {0}
+RoomAfter bits (step.Bad, r) = Unit {0}
+
+more_room : (bits : ℕ) (r : Partial) (c : ℕ) → HasRoom bits r → c < 2 ^ 8 → 7 * r.count + 7 < bits → HasRoom bits (record { low = r.low + (c - 128) * 2 ^ (7 * r.count); count = r.count + 1 })
+more_room bits r c h byte few = (omega (arith, few), room_more r.low (c - 128) r.count (2 ^ (7 * r.count)) refl h.1 (omega (arith, byte)))
+
+pub unsigned_room : (bits : ℕ) (r : Partial) (c : ℕ) → HasRoom bits r → c < 2 ^ 8 → RoomAfter bits (unsigned_push bits r c)
+unfolding unsigned_push
+unsigned_room bits r c h byte =
+    let P : Step ℕ × Partial → Type 0 = RoomAfter bits in
+    cond_both (nat_lt (7 * r.count) bits) _ _ P
+    (λ _. cond_both (nat_lt c (2 ^ 7)) _ _ P
+    (λ _. cond_both (nat_lt c (2 ^ (bits - 7 * r.count))) _ _ P (λ _. tt) (λ _. tt))
+    (λ _. cond_both (nat_lt (7 * r.count + 7) bits) _ _ P (λ a. more_room bits r c h byte (ltb-true (7 * r.count + 7) bits a)) (λ _. tt)))
+    (λ _. tt)
+
+pub signed_room : (bits : ℕ) (r : Partial) (c : ℕ) → HasRoom bits r → c < 2 ^ 8 → RoomAfter bits (signed_push bits r c)
+unfolding signed_push
+signed_room bits r c h byte =
+    let P : Step ℤ × Partial → Type 0 = RoomAfter bits in
+    cond_both (nat_lt (7 * r.count) bits) _ _ P
+    (λ _. cond_both (nat_lt c (2 ^ 6)) _ _ P
+    (λ _. cond_both (nat_lt c (2 ^ (bits - 7 * r.count - 1))) _ _ P (λ _. tt) (λ _. tt))
+    (λ _. cond_both (nat_lt c (2 ^ 7)) _ _ P
+    (λ _. cond_both (nat_le (2 ^ 7) (c + 2 ^ (bits - 7 * r.count - 1))) _ _ P (λ _. tt) (λ _. tt))
+    (λ _. cond_both (nat_lt (7 * r.count + 7) bits) _ _ P (λ a. more_room bits r c h byte (ltb-true (7 * r.count + 7) bits a)) (λ _. tt))))
+    (λ _. tt)
+
+-- the states in which something may still come
+abbrev pub SoundOp : InOp → Type 0
+SoundOp (at.Index i r) = HasRoom 32 r
+SoundOp (at.CallType r) = HasRoom 32 r
+SoundOp (at.Const32 r) = HasRoom 32 r
+SoundOp (at.Const64 r) = HasRoom 64 r
+SoundOp (at.Align a r) = HasRoom 32 r
+SoundOp (at.Offset a n r) = HasRoom 32 r
+SoundOp _ = Unit {0}
+
+abbrev pub FineOp : Reading InOp Op → Type 0
+FineOp (More r) = SoundOp r
+FineOp (Done o) = Unit {0}
+FineOp (Bad w) = Unit {0}
+
+pub fresh_32 : HasRoom 32 fresh
+fresh_32 = fresh_room 32 (omega arith)
+
+immediates_sound : (kind : Kind) → SoundOp (immediates kind)
+immediates_sound k.Block = tt
+immediates_sound k.Loop = tt
+immediates_sound k.If = tt
+immediates_sound k.MemorySize = tt
+immediates_sound k.MemoryGrow = tt
+immediates_sound k.I64Const = fresh_room 64 (omega arith)
+immediates_sound _ = fresh_32
+
+first_fine : (class : OpClass) → FineOp (first_step class)
+first_fine (Plain o) = tt
+first_fine (With kind) = immediates_sound kind
+first_fine Float = tt
+first_fine None = tt
+
+block_fine : (i : Opening) (c : ℕ) → FineOp (block_step i c)
+block_fine i c =
+    let P : Reading InOp Op → Type 0 = FineOp in
+    cond_both (nat_eq c 0x40) _ _ P (λ _. tt) (λ _. cond_both (nat_eq c 0x7F) _ _ P (λ _. tt) (λ _. cond_both (nat_eq c 0x7E) _ _ P (λ _. tt) (λ _. cond_both (nat_eq c 0x7D) _ _ P (λ _. tt) (λ _. cond_both (nat_eq c 0x7C) _ _ P (λ _. tt) (λ _. tt)))))
+
+closing_fine : (o : Op) (c : ℕ) → FineOp (closing_step o c)
+closing_fine o c = cond_both (nat_eq c 0x00) _ _ (λ (a : Reading InOp Op). FineOp a) (λ _. tt) (λ _. tt)
+
+answer_fine : {T : Type 0} (bits : ℕ) (q : Step T × Partial) (more : Partial → InOp) (done : T → Reading InOp Op) → RoomAfter bits q → ((r : Partial) → HasRoom bits r → SoundOp (more r)) → ((v : T) → FineOp (done v)) → FineOp (on_answer q (λ r. More (more r)) done (Bad why.BadNumber))
+answer_fine bits (step.More, r) more done h f g = f r h
+answer_fine bits (step.Done v, r) more done h f g = g v
+answer_fine bits (step.Bad, r) more done h f g = tt
+
+pub op_fine : (p : Profile) (r : InOp) (c : ℕ) → c < 2 ^ 8 → SoundOp r → FineOp (op_push p r c)
+op_fine p at.First c byte h = first_fine (class_under p c)
+op_fine p (at.BlockType i) c byte h = block_fine i c
+op_fine p (at.Index i r) c byte h = answer_fine 32 (unsigned_push 32 r c) (λ t. at.Index i t) (λ n. Done (index_op i n)) (unsigned_room 32 r c h byte) (λ t g. g) (λ n. tt)
+op_fine p (at.CallType r) c byte h = answer_fine 32 (unsigned_push 32 r c) (λ t. at.CallType t) (λ n. More (at.CallTable n)) (unsigned_room 32 r c h byte) (λ t g. g) (λ n. tt)
+op_fine p (at.CallTable n) c byte h = closing_fine (call_op n) c
+op_fine p (at.Memory m) c byte h = closing_fine (memory_op m) c
+op_fine p (at.Const32 r) c byte h = answer_fine 32 (signed_push 32 r c) (λ t. at.Const32 t) (λ z. Done (const_32_op z)) (signed_room 32 r c h byte) (λ t g. g) (λ z. tt)
+op_fine p (at.Const64 r) c byte h = answer_fine 64 (signed_push 64 r c) (λ t. at.Const64 t) (λ z. Done (const_64_op z)) (signed_room 64 r c h byte) (λ t g. g) (λ z. tt)
+op_fine p (at.Align a r) c byte h = answer_fine 32 (unsigned_push 32 r c) (λ t. at.Align a t) (λ n. More (at.Offset a n fresh)) (unsigned_room 32 r c h byte) (λ t g. g) (λ n. fresh_32)
+op_fine p (at.Offset a n r) c byte h = answer_fine 32 (unsigned_push 32 r c) (λ t. at.Offset a n t) (λ m. Done (at_offset a n m)) (unsigned_room 32 r c h byte) (λ t g. g) (λ m. tt)
+
+-- the last byte of a number
+pub last_byte : (r : Partial) → 7 * r.count < 32 → Left r r.low (0 ∷ [])
+last_byte r h = (h, 0, omega arith, inl (omega arith, pow_pos (32 - 7 * r.count), refl, refl))
+
+last_signed_byte : (bits : ℕ) (r : Partial) → 7 * r.count < bits → SignedRest bits r (last_signed r (pos 0)) (0 ∷ [])
+last_signed_byte bits r h = (h, pos 0, refl, inl (omega arith, pow_pos (bits - 7 * r.count - 1), refl, refl))
+
+fresh_last : Left fresh 0 (0 ∷ [])
+fresh_last = last_byte fresh (omega arith)
+
+pub some_op : (p : Profile) (r : InOp) → SoundOp r → (o : Op) × (b : List ℕ) × op_rest p r o b
+some_op p at.First h = (op.End, 0x0B ∷ [], (tt, tt, refl))
+some_op p (at.BlockType i) h = (block_op i Nothing, 0x40 ∷ [], (Nothing, refl, refl))
+some_op p (at.Index i r) h = (index_op i r.low, 0 ∷ [], (r.low, refl, last_byte r h.0))
+some_op p (at.CallType r) h = (call_op r.low, 0 ∷ 0 ∷ [], (r.low, 0 ∷ [], 0 ∷ [], refl, last_byte r h.0, (refl, refl)))
+some_op p (at.CallTable n) h = (call_op n, 0 ∷ [], (refl, refl))
+some_op p (at.Memory m) h = (memory_op m, 0 ∷ [], (refl, refl))
+some_op p (at.Const32 r) h = (const_32_op (last_signed r (pos 0)), 0 ∷ [], (last_signed r (pos 0), refl, last_signed_byte 32 r h.0))
+some_op p (at.Const64 r) h = (const_64_op (last_signed r (pos 0)), 0 ∷ [], (last_signed r (pos 0), refl, last_signed_byte 64 r h.0))
+some_op p (at.Align a r) h = (at_offset a r.low 0, 0 ∷ 0 ∷ [], (r.low, 0 ∷ [], 0 ∷ [], refl, last_byte r h.0, (0, refl, fresh_last)))
+some_op p (at.Offset a n r) h = (at_offset a n r.low, 0 ∷ [], (r.low, refl, last_byte r h.0))
+
+abbrev Floats : ℕ → Reading InOp Op → Type 0
+Floats c a = a ≡ Bad why.Float → IsFloatByte c
+
+more_calm : (c : ℕ) (r : InOp) → Floats c (More r)
+more_calm c r e = cc
+
+done_calm : (c : ℕ) (o : Op) → Floats c (Done o)
+done_calm c o e = cc
+
+first_floats : (p : Profile) (c : ℕ) (class : OpClass) → class_under p c ≡ class → Floats c (first_step class)
+first_floats p c (Plain o) e = done_calm c o
+first_floats p c (With kind) e = more_calm c (immediates kind)
+first_floats p c Float e = λ f. inr (inr (float_under p c e))
+first_floats p c None e = λ f. cc
+
+block_floats : (i : Opening) (c : ℕ) → Floats c (block_step i c)
+block_floats i c =
+    let P : Reading InOp Op → Type 0 = Floats c in
+    cond_both (nat_eq c 0x40) _ _ P (λ _ f. cc) (λ _. cond_both (nat_eq c 0x7F) _ _ P (λ _ f. cc) (λ _. cond_both (nat_eq c 0x7E) _ _ P (λ _ f. cc)
+    (λ _. cond_both (nat_eq c 0x7D) _ _ P (λ a f. inl (eqb-true c 0x7D a)) (λ _. cond_both (nat_eq c 0x7C) _ _ P (λ a f. inr (inl (eqb-true c 0x7C a))) (λ _ f. cc)))))
+
+closing_floats : (o : Op) (c : ℕ) → Floats c (closing_step o c)
+closing_floats o c = cond_both (nat_eq c 0x00) _ _ (λ (a : Reading InOp Op). Floats c a) (λ _. done_calm c o) (λ _ f. cc)
+
+answer_floats : {T : Type 0} (c : ℕ) (q : Step T × Partial) (more : Partial → InOp) (done : T → Reading InOp Op) → ((v : T) → Floats c (done v)) → Floats c (on_answer q (λ r. More (more r)) done (Bad why.BadNumber))
+answer_floats c (step.More, r) more done g = more_calm c (more r)
+answer_floats c (step.Done v, r) more done g = g v
+answer_floats c (step.Bad, r) more done g = λ f. cc
+
+pub op_floats : (p : Profile) (r : InOp) (c : ℕ) → op_push p r c ≡ Bad why.Float → IsFloatByte c
+op_floats p at.First c = first_floats p c (class_under p c) refl
+op_floats p (at.BlockType i) c = block_floats i c
+op_floats p (at.Index i r) c = answer_floats c (unsigned_push 32 r c) (λ t. at.Index i t) (λ n. Done (index_op i n)) (λ n. done_calm c (index_op i n))
+op_floats p (at.CallType r) c = answer_floats c (unsigned_push 32 r c) (λ t. at.CallType t) (λ n. More (at.CallTable n)) (λ n. more_calm c (at.CallTable n))
+op_floats p (at.CallTable n) c = closing_floats (call_op n) c
+op_floats p (at.Memory m) c = closing_floats (memory_op m) c
+op_floats p (at.Const32 r) c = answer_floats c (signed_push 32 r c) (λ t. at.Const32 t) (λ z. Done (const_32_op z)) (λ z. done_calm c (const_32_op z))
+op_floats p (at.Const64 r) c = answer_floats c (signed_push 64 r c) (λ t. at.Const64 t) (λ z. Done (const_64_op z)) (λ z. done_calm c (const_64_op z))
+op_floats p (at.Align a r) c = answer_floats c (unsigned_push 32 r c) (λ t. at.Align a t) (λ n. More (at.Offset a n fresh)) (λ n. more_calm c (at.Offset a n fresh))
+op_floats p (at.Offset a n r) c = answer_floats c (unsigned_push 32 r c) (λ t. at.Offset a n t) (λ m. Done (at_offset a n m)) (λ m. done_calm c (at_offset a n m))

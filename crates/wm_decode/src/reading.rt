@@ -1,0 +1,11 @@
+use wm_syntax::why::Why;
+
+/// What a reader of a value says of one more byte.
+pub(crate) enum Reading<R, T> {
+    /// The value goes on.
+    More(R),
+    /// The value ends with this byte.
+    Done(T),
+    /// No value goes on so.
+    Bad(Why),
+}

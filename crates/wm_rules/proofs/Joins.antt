@@ -1,0 +1,27 @@
+-- The pieces so far, and one more.
+use Rattle.std.proofs.Common.{◌≡◌, ◌++◌, ◌<◌, ◌≤◌, ◌+◌, ℕ, zero, suc, List, [], ◌∷◌, take, length, get_or, refl, sym, ◌∙◌, ap, append_assoc, append-nil, arith, Result, Ok, Err}
+use Rattle.std.specs.Prelude.{IfOk, IfErr}
+use Rattle.std.specs.Borrow.{Bor}
+use Rattle.wm_rules.specs.Joining.{joined}
+
+pub joined_more : (pieces : List (Bor (List ℕ))) (i : ℕ) (d : Bor (List ℕ)) → i < length pieces → joined (take i pieces) ++ (get_or pieces i d).now ≡ joined (take (i + 1) pieces)
+joined_more pieces i d h = let e : i + 1 ≡ suc i = omega arith in sym (ap (λ n. joined (take n pieces)) e ∙ step pieces i h)
+  where
+    step : (pieces : List (Bor (List ℕ))) (i : ℕ) → i < length pieces → joined (take (suc i) pieces) ≡ joined (take i pieces) ++ (get_or pieces i d).now
+    step [] i h = absurd (omega (arith, h))
+    step (p ∷ ps) zero h = append-nil p.now
+    step (p ∷ ps) (suc i) h = ap (λ z. p.now ++ z) (step ps i (omega (arith, h))) ∙ sym (append_assoc p.now (joined (take i ps)) (get_or ps i d).now)
+
+pub whole : (pieces : List (Bor (List ℕ))) (i : ℕ) → length pieces ≤ i → joined (take i pieces) ≡ joined pieces
+whole [] zero h = refl
+whole [] (suc i) h = refl
+whole (p ∷ ps) zero h = absurd (omega (arith, h))
+whole (p ∷ ps) (suc i) h = ap (λ z. p.now ++ z) (whole ps i (omega (arith, h)))
+
+pub if_ok : {A E : Type 0} (r : Result A E) (P Q : A → Type 0) → ((x : A) → P x → Q x) → IfOk r P → IfOk r Q
+if_ok (Ok x) P Q f h = f x h
+if_ok (Err e) P Q f h = tt
+
+pub if_err : {A E : Type 0} (r : Result A E) (P Q : E → Type 0) → ((e : E) → P e → Q e) → IfErr r P → IfErr r Q
+if_err (Ok x) P Q f h = tt
+if_err (Err e) P Q f h = f e h

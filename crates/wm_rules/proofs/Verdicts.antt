@@ -1,0 +1,101 @@
+-- What is true after a refusal, and of a decoder over a checker.
+use Rattle.std.proofs.Common.{◌≡◌, ◌≢◌, ℕ, ◌+◌, ◌<◌, ◌≤◌, List, [], ◌∷◌, ◌++◌, Some, Result, Ok, Err, IfErr, IfOk, length, refl, sym, ◌∙◌, ap, subst, inl, inr, arith, append-nil}
+use Rattle.wm_syntax.specs.declared.profile.Profile.{Profile}
+use Rattle.wm_syntax.specs.declared.why.Why.TheVariants as why
+use Rattle.wm_syntax.specs.Spelling.{AreBytes}
+use Rattle.wm_decode.specs.declared.refusal.Refusal.{Refusal}
+use Rattle.wm_decode.specs.declared.state.Decoder.{Decoder}
+use Rattle.wm_decode.specs.Decoding.{After, RanOut, has_refused}
+use Rattle.wm_decode.specs.Live.{Live, decoded, begun, ended, standing}
+use Rattle.wm_decode.specs.Sinks.{and_then}
+use Rattle.wm_decode.proofs.ByteLists.{bytes-append, front_bytes}
+use Rattle.wm_decode.proofs.Theorem.{used_of, used_refused, decoded_append, never}
+use Rattle.wm_decode.proofs.Header.{late_memory}
+use Rattle.wm_decode.proofs.Calls.{stands_refused}
+use Rattle.wm_rules.specs.declared.checker.Checker.{Checker}
+use Rattle.wm_rules.specs.Checking.{Held, after, empty}
+use Rattle.wm_rules.specs.Validation.{Accepted}
+use Rattle.wm_rules.specs.Validating.{RefusedAfter, NeverAccepted, setting, verdict}
+use Rattle.wm_rules.proofs.Judged.{accepted_takes}
+
+length-append : (a b : List ℕ) → length (a ++ b) ≡ length a + length b
+length-append [] b = omega arith
+length-append (c ∷ a) b = let e : length (a ++ b) ≡ length a + length b = length-append a b in omega arith
+
+-- a fact of a result, carried on
+pub on_err : {A E : Type 0} {P Q : E → Type 0} (r : Result A E) → ((e : E) → P e → Q e) → IfErr r P → IfErr r Q
+on_err (Ok x) f h = h
+on_err (Err e) f h = f e h
+
+pub on_ok : {A E : Type 0} {P Q : A → Type 0} (r : Result A E) → ((x : A) → P x → Q x) → IfOk r P → IfOk r Q
+on_ok (Ok x) f h = f x h
+on_ok (Err e) f h = h
+
+module _ (p : Profile) (limit : ℕ) where
+  abbrev Starts : Live Held
+  Starts = begun empty
+
+  abbrev Decoded : List ℕ → Result (Live Held) Refusal
+  Decoded b = decoded after p limit Starts b
+
+  more_refused : (b more : List ℕ) (r : Refusal) → Decoded b ≡ Err r → Decoded (b ++ more) ≡ Err r
+  more_refused b more r e = decoded_append after p limit b more Starts ∙ ap (λ y. and_then y (λ m. decoded after p limit m more)) e
+
+  -- a refusal stays
+  pub still_refused : (b piece : List ℕ) (r : Refusal) → AreBytes piece → RefusedAfter p limit b r → RefusedAfter p limit (b ++ piece) r
+  still_refused b piece r bytes h = record {
+    are_bytes = bytes-append b piece h.are_bytes bytes;
+    place = omega (arith, h.place, length-append b piece);
+    stands = elim h.stands [ inl e ↦ inl (more_refused b piece r e) | inr m ↦ inr m ];
+  }
+
+  low : Starts.at ≤ limit
+  low = omega arith
+
+  pub never_accepted : (b : List ℕ) (r : Refusal) → RefusedAfter p limit b r → r.why ≢ why.Memory → NeverAccepted p limit b r
+  never_accepted b r h ne = elim h.stands [
+    | inr m ↦ absurd (ne m.0)
+    | inl e ↦
+        let u = used_of after p limit b Starts r low e in
+        let used : List ℕ = u.used ++ u.byte ∷ [] in
+        record {
+          used = used;
+          rest = u.rest;
+          whole = u.bytes;
+          at = omega (arith, u.at);
+          never = λ more a.
+              let t = accepted_takes p limit (used ++ more) a in
+              never after (setting p limit) used more t.0 r (front_bytes used u.rest (subst AreBytes u.bytes h.are_bytes)) (used_refused after p limit Starts b r u) t.1;
+        }
+  ]
+
+  pub same_verdict : (b more : List ℕ) (r : Refusal) → RefusedAfter p limit b r → r.why ≢ why.Memory → verdict p limit (b ++ more) ≡ Err r
+  same_verdict b more r h ne = elim h.stands [
+    | inr m ↦ absurd (ne m.0)
+    | inl e ↦ ap (λ y. and_then y ended) (more_refused b more r e)
+  ]
+
+  pub not_in_header : (b : List ℕ) (r : Refusal) → RefusedAfter p limit b r → length b ≤ 8 → r.why ≢ why.Memory
+  not_in_header b r h few m = elim h.stands [
+    | inr o ↦ omega (arith, o.1, few, h.place)
+    | inl e ↦ let late : 8 < r.at = late_memory after p limit b Starts r low refl m e in omega (arith, late, few, h.place)
+  ]
+
+  -- a decoder that has refused
+  pub refused_after : (d : Decoder Checker) (b : List ℕ) (r : Refusal) → has_refused (λ (c : Checker). c) d ≡ Some r → After (λ (c : Checker). c) after d (setting p limit) b → r.at ≤ length b → RefusedAfter p limit b r
+  refused_after d b r e a place =
+      let s : standing (λ (c : Checker). c) d ≡ Err r = stands_refused (standing (λ (c : Checker). c) d) r e in
+      record { are_bytes = a.are_bytes; place = place; stands = elim a.stands [ inl q ↦ inl (sym q ∙ s) | inr o ↦ inr (by_memory s o) ] }
+    where
+      by_memory : standing (λ (c : Checker). c) d ≡ Err r → RanOut (standing (λ (c : Checker). c) d) b → (r.why ≡ why.Memory) × (8 < r.at)
+      by_memory s o = let t : Err o.refusal ≡ Err r = sym o.stands ∙ s in let u : o.refusal ≡ r = cc in
+          (subst (λ (y : Refusal). y.why ≡ why.Memory) u o.memory, subst (λ (y : Refusal). 8 < y.at) u o.past_header)
+
+  -- what is refused is not accepted
+  pub not_accepted : (b : List ℕ) (r : Refusal) → RefusedAfter p limit b r → r.why ≢ why.Memory → Accepted p limit b → ⊥
+  not_accepted b r h ne a =
+      let n = never_accepted b r h ne in
+      n.never n.rest (subst (λ y. Accepted p limit y) n.whole a)
+
+  pub its_verdict : (b : List ℕ) (r : Refusal) → RefusedAfter p limit b r → r.why ≢ why.Memory → verdict p limit b ≡ Err r
+  its_verdict b r h ne = subst (λ y. verdict p limit y ≡ Err r) (append-nil b) (same_verdict b [] r h ne)

@@ -1,0 +1,9 @@
+pub mod Names
+pub mod Validation
+pub mod Spaces
+pub mod Constants
+pub mod Checking
+pub mod Kept
+pub mod Validating
+pub mod Reading
+pub mod Joining

@@ -1,0 +1,77 @@
+-- What a validator has read, and what its refusals mean.
+use Rattle.std.specs.Prelude.{◌≡◌, ℕ, ◌≤◌, ◌<◌, ◌+◌, List, ◌++◌, take, ◌⊎◌, Option, Some, None, Result, Ok, Err, length}
+use Rattle.wm_syntax.specs.declared.profile.Profile.{Profile}
+use Rattle.wm_syntax.specs.declared.why.Why.TheVariants as why
+use Rattle.wm_syntax.specs.Spelling.{AreBytes}
+use Rattle.wm_decode.specs.declared.refusal.Refusal.{Refusal}
+use Rattle.wm_decode.specs.declared.state.Decoder.{Decoder}
+use Rattle.wm_decode.specs.Decoding.{After, Setting, answer_of}
+use Rattle.wm_decode.specs.Fronts.{IsFront, name_in, unfinished_name}
+use Rattle.wm_decode.specs.Grammar.{Items}
+use Rattle.wm_decode.specs.Live.{decoded, begun}
+use Rattle.wm_decode.specs.Parts.{Marks, parts_of}
+use Rattle.wm_decode.specs.Runs.{begin, marks as marks_of}
+use Rattle.wm_decode.specs.Sinks.{all_taken}
+use Rattle.wm_rules.specs.declared.checker.Checker.{Checker}
+use Rattle.wm_rules.specs.declared.validator.Validator.{Validator}
+use Rattle.wm_rules.specs.Checking.{Held, after, empty}
+use Rattle.wm_rules.specs.Kept.{entries_of}
+use Rattle.wm_rules.specs.Validation.{Accepted}
+
+-- over a checker that holds nothing
+abbrev pub setting : Profile → ℕ → Setting Held
+setting p limit = record { profile = p; limit = limit; first = empty }
+
+-- these bytes were refused so, or memory ran out in them and not in the header
+pub record RefusedAfter (p : Profile) (limit : ℕ) (bytes : List ℕ) (r : Refusal) : Type 0 where
+  pub are_bytes : AreBytes bytes
+  pub place : r.at ≤ length bytes
+  pub stands : (decoded after p limit (begun empty) bytes ≡ Err r) ⊎ ((r.why ≡ why.Memory) × (8 < r.at))
+
+-- the validator, for this profile and limit, has read just these bytes
+abbrev pub StateRead : Result (Decoder Checker) Refusal → Profile → ℕ → List ℕ → Type 0
+StateRead (Ok d) p limit bytes = After (λ (c : Checker). c) after d (setting p limit) bytes
+StateRead (Err r) p limit bytes = RefusedAfter p limit bytes r
+
+abbrev pub HasRead : Validator → Profile → ℕ → List ℕ → Type 0
+HasRead v p limit bytes = StateRead v.state p limit bytes
+
+-- the refusal that it has answered
+abbrev pub refusal_of : Result (Decoder Checker) Refusal → Option Refusal
+refusal_of (Ok d) = None
+refusal_of (Err r) = Some r
+
+abbrev pub refusal_in : Validator → Option Refusal
+refusal_in v = refusal_of v.state
+
+-- How much it keeps: the bytes so far of a name that goes on, and what its checker keeps; nothing after a refusal.
+abbrev pub kept_of : Result (Decoder Checker) Refusal → ℕ
+kept_of (Ok d) = length (name_in d) + entries_of d.sink
+kept_of (Err r) = 0
+
+abbrev pub kept_in : Validator → ℕ
+kept_in v = kept_of v.state
+
+-- What it keeps is told by the bytes read, which may still be refused: by what is complete in them, beside each byte, and
+-- by the name that goes on. Each input that begins so has the same there.
+pub record KeepsOf (v : Validator) (p : Profile) (bytes : List ℕ) : Type 0 where
+  pub marks : Marks
+  pub front : IsFront p bytes marks
+  pub alone : marks ≡ marks_of p begin bytes
+  pub begins : (more : List ℕ) (items : Marks) → Items p (bytes ++ more) items → marks ≡ take (length bytes) items
+  pub held : Held
+  pub taken : all_taken after empty (parts_of marks) ≡ Ok held
+  pub kept : kept_in v ≡ unfinished_name marks + entries_of held
+
+-- What is answered to a whole input, however it is cut, unless memory runs out. Of this function only that it is one
+-- of the bytes matters.
+abbrev pub verdict : Profile → ℕ → List ℕ → Result Held Refusal
+verdict p limit input = answer_of after (setting p limit) input
+
+-- the input was refused at a place within it, and no input that begins with the bytes up to there is accepted
+pub record NeverAccepted (p : Profile) (limit : ℕ) (input : List ℕ) (r : Refusal) : Type 0 where
+  pub used : List ℕ
+  pub rest : List ℕ
+  pub whole : input ≡ used ++ rest
+  pub at : r.at ≡ length used
+  pub never : (more : List ℕ) → Accepted p limit (used ++ more) → ⊥

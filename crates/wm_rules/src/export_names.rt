@@ -1,0 +1,77 @@
+//! The names of a module's exports.
+
+ghost use Rattle.std.specs.Prelude.{◌≡◌, [], OnErr};
+ghost use Rattle.wm_decode.specs.Sinks.{Taken};
+ghost use Rattle.wm_rules.specs.Checking.{names_with};
+ghost use Rattle.wm_rules.specs.Kept.{capped, name_entries};
+ghost use Rattle.wm_rules.specs.Names.{bytes_of};
+
+use std::alloc::Global;
+use std::collections::BTreeSet;
+use std::marker::Model;
+use wm_syntax::why::Why;
+
+// A set in the order of the bytes: a stranger chooses the names, and could make those of a hash set collide.
+#[derive(Drop)]
+pub(crate) struct ExportNames {
+    alloc: Global,
+    names: BTreeSet<Vec<u8>>,
+    kept: u64,
+}
+
+impl Model for ExportNames {
+    ghost use Rattle.std.specs.Prelude.{◌≡◌, ℕ, List};
+    ghost use Rattle.wm_rules.specs.Kept.{capped, name_entries};
+    ghost use Rattle.wm_rules.specs.Names.{bytes_of};
+
+    ghost Value = { List (List ℕ) };
+
+    ghost view = { λ n. bytes_of n.names };
+
+    ghost invariant = { λ n. n.kept ≡ capped (name_entries (bytes_of n.names)) };
+}
+
+impl ExportNames {
+    pub(crate) fn new(alloc: Global) -> Self
+        ensures { result ≡ [] }
+    {
+        ExportNames {
+            alloc,
+            names: BTreeSet::new(alloc),
+            kept: 0,
+        }
+    }
+
+    // The names and their bytes.
+    pub(crate) fn kept(&self) -> u64
+        ensures { result ≡ capped (name_entries self.now) }
+    {
+        self.kept
+    }
+
+    // Adds a name, which is refused where it stands already.
+    pub(crate) fn add(&mut self, name: &[u8]) -> Result<(), Why>
+        ensures { Taken (names_with name.now self.old) result self.new }
+    {
+        put(self.alloc, &mut self.names, name)?;
+        self.kept = self
+            .kept
+            .saturating_add(1)
+            .saturating_add(name.len() as u64);
+        Ok(())
+    }
+}
+
+fn put(alloc: Global, names: &mut BTreeSet<Vec<u8>>, name: &[u8]) -> Result<(), Why>
+    ensures taken { Taken (names_with name.now (bytes_of names.old)) result (bytes_of names.new) }
+    ensures err { OnErr result (bytes_of names.new ≡ bytes_of names.old) }
+{
+    let Ok(owned) = Vec::from_slice(alloc, name) else {
+        return Err(Why::Memory);
+    };
+    match names.insert(owned) {
+        Ok(true) => Ok(()),
+        Ok(false) => Err(Why::DuplicateExport),
+        Err(_) => Err(Why::Memory),
+    }
+}

@@ -1,0 +1,20 @@
+//! The rules of whole modules (sections 3.2, 3.3.7 and 3.4 of the specification).
+#![tactic(auto)]
+
+mod checker;
+mod constants;
+mod export_names;
+pub mod laws;
+mod limits;
+mod pieces;
+mod reading;
+mod spaces;
+#[cfg(test)]
+mod tests;
+mod validator;
+
+pub use checker::{Checker, Summary};
+pub use pieces::validate;
+pub use reading::{Fault, validate_from};
+pub use spaces::Spaces;
+pub use validator::Validator;

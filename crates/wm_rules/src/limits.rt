@@ -1,0 +1,31 @@
+//! Limits (section 3.2.1).
+
+ghost use Rattle.std.specs.Prelude.{◌≡◌, ◌^◌};
+ghost use Rattle.wm_rules.specs.Spaces.{is_within};
+
+use wm_syntax::types::Limits;
+
+const MOST_PAGES: u32 = 65536;
+
+// Of a table: every number of 32 bits is in range.
+pub(crate) fn is_table_size(limits: Limits) -> bool
+    ensures { result ≡ is_within (2 ^ 32) limits }
+{
+    match limits.max {
+        None => true,
+        Some(max) => limits.min <= max,
+    }
+}
+
+// Of a memory, in pages.
+pub(crate) fn is_memory_size(limits: Limits) -> bool
+    ensures { result ≡ is_within (2 ^ 16) limits }
+{
+    if limits.min > MOST_PAGES {
+        return false;
+    }
+    match limits.max {
+        None => true,
+        Some(max) => max <= MOST_PAGES && limits.min <= max,
+    }
+}

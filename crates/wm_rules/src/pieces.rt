@@ -1,0 +1,40 @@
+//! A whole input, in pieces.
+
+ghost use Rattle.std.specs.Prelude.{◌≡◌, ◌≢◌, ◌≤◌, ◌^◌, length, IfOk, IfErr, Err};
+ghost use Rattle.wm_syntax.specs.declared.why.Why.TheVariants.{Memory};
+ghost use Rattle.wm_rules.specs.Joining.{joined};
+ghost use Rattle.wm_rules.specs.Validating.{verdict};
+ghost use Rattle.wm_rules.specs.Validation.{Accepted};
+
+use crate::checker::Summary;
+use crate::validator::Validator;
+use std::alloc::Global;
+use wm_decode::Refusal;
+use wm_syntax::profile::Profile;
+
+#[cfg(test)]
+mod tests;
+
+/// Judges the pieces joined. Memory aside, they are valid exactly where they spell, within the limit, a module
+/// of the profile that is valid (section 3.4.10), however they are cut.
+pub fn validate(
+    alloc: Global,
+    profile: Profile,
+    max_bytes: u64,
+    pieces: &[&[u8]],
+) -> Result<Summary, Refusal>
+    requires { max_bytes ≤ 2 ^ 62 }
+    ensures valid { IfOk result (λ _. Accepted profile max_bytes (joined pieces.now)) }
+    ensures functions { IfOk result (λ s. (a : Accepted profile max_bytes (joined pieces.now)) → s.functions ≡ length a.module_value.functions) }
+    ensures refused { IfErr result (λ r. r.why ≢ Memory → (Accepted profile max_bytes (joined pieces.now) → ⊥)) }
+    // The joined bytes alone say which refusal it is.
+    ensures same { IfErr result (λ r. r.why ≢ Memory → verdict profile max_bytes (joined pieces.now) ≡ Err r) }
+    ensures place { IfErr result (λ r. r.at ≤ length (joined pieces.now)) }
+{
+    let mut validator = Validator::new(alloc, profile, max_bytes);
+    for piece in pieces {
+        // A refusal stays: the pieces after it go by, and the end answers it.
+        let _ = validator.feed(piece);
+    }
+    validator.finish()
+}

@@ -1,0 +1,98 @@
+ghost use Rattle.std.specs.Prelude.{◌<◌};
+
+use super::validate;
+use crate::{Fault, Summary, validate_from};
+use std::alloc::Global;
+use std::io;
+use std::io::Read;
+use std::test::Fail;
+use wm_decode::Refusal;
+use wm_syntax::io::input::Input;
+use wm_syntax::profile::Profile;
+use wm_syntax::why::Why;
+
+const LIMIT: u64 = 1000;
+
+/// A function that adds two numbers.
+const ADD: [u8; 32] = [
+    0x00, 0x61, 0x73, 0x6D, 0x01, 0x00, 0x00, 0x00, 0x01, 0x07, 0x01, 0x60, 0x02, 0x7F, 0x7F, 0x01,
+    0x7F, 0x03, 0x02, 0x01, 0x00, 0x0A, 0x09, 0x01, 0x07, 0x00, 0x20, 0x00, 0x20, 0x01, 0x6A, 0x0B,
+];
+
+const FIGURES: Summary = Summary {
+    functions: 1,
+    moves: 8,
+    operands: 2,
+    controls: 1,
+    probes: 0,
+};
+
+/// The answer to these bytes in pieces of this size, with an empty piece after each.
+fn judged(alloc: Global, bytes: &[u8], size: usize) -> Result<Result<Summary, Refusal>, Fail>
+    requires { 0 < size }
+{
+    let mut pieces = Vec::new(alloc);
+    for piece in bytes.chunks(size) {
+        pieces.push(piece)?;
+        pieces.push(&[])?;
+    }
+    Ok(validate(alloc, Profile::One, LIMIT, pieces.as_slice()))
+}
+
+#[test]
+fn any_cut(rt: HostRuntime) -> Result<(), Fail> {
+    for size in [1, 7, 32] {
+        assert_eq!(rt; judged(rt.alloc(), &ADD, size)?, Ok(FIGURES));
+        let cut = Refusal {
+            at: 31,
+            why: Why::Truncated,
+        };
+        assert_eq!(rt; judged(rt.alloc(), &ADD[..31], size)?, Err(cut));
+    }
+    Ok(())
+}
+
+#[test]
+fn limits(rt: HostRuntime) {
+    let whole: [&[u8]; 1] = [&ADD];
+    let long = Refusal {
+        at: 32,
+        why: Why::TooLong,
+    };
+    assert_eq!(rt; validate(rt.alloc(), Profile::One, 31, &whole), Err(long));
+    assert_eq!(rt; validate(rt.alloc(), Profile::One, 32, &whole), Ok(FIGURES));
+}
+
+/// Gives what is left, as much as there is room for.
+#[derive(Drop)]
+struct Bytes<'a> {
+    rest: &'a [u8],
+}
+
+impl Read for Bytes<'_> {
+    fn read(&mut self, buf: &mut [u8]) -> io::Result<usize> {
+        let n = self.rest.len().min(buf.len());
+        let (front, rest) = self.rest.split_at(n);
+        buf[..n].copy_from_slice(front);
+        self.rest = rest;
+        Ok(n)
+    }
+}
+
+#[test]
+fn from_a_source(rt: HostRuntime) {
+    let mut source = Input::new(Bytes { rest: &ADD });
+    assert_eq!(rt;
+        validate_from(rt.alloc(), Profile::One, LIMIT, &mut source),
+        Ok(FIGURES)
+    );
+    let mut source = Input::new(Bytes { rest: &ADD[8..] });
+    let magic = Fault::Refused(Refusal {
+        at: 1,
+        why: Why::Magic,
+    });
+    assert_eq!(rt;
+        validate_from(rt.alloc(), Profile::One, LIMIT, &mut source),
+        Err(magic)
+    );
+}

@@ -1,0 +1,70 @@
+//! Judging what a source gives.
+
+ghost use Rattle.std.specs.Prelude.{◌≡◌, ◌≢◌, ◌≤◌, ◌^◌, ◌↔◌, ℕ, List, Option, false, true};
+ghost use Rattle.std.specs.Io.KnownBytes.{IsAtEnd};
+ghost use Rattle.wm_rules.specs.Reading.{Judges, JudgesInput};
+ghost use Rattle.wm_rules.specs.Validating.{HasRead};
+ghost use Rattle.wm_syntax.specs.declared.profile.Profile.{Profile};
+
+use crate::checker::Summary;
+use crate::validator::Validator;
+use std::alloc::Global;
+use wm_decode::Refusal;
+use wm_syntax::io::Source;
+use wm_syntax::profile::Profile;
+use wm_syntax::why::Why;
+
+/// Why there is no summary.
+#[derive(Clone, Copy, PartialEq, Eq, Debug)]
+pub enum Fault {
+    /// The input is refused.
+    Refused(Refusal),
+    /// The reader failed.
+    Io,
+}
+
+const PIECE: usize = 4096;
+
+/// Reads a source to its end, in pieces of at most 4,096 bytes, and judges what it gave. After a refusal
+/// nothing more is read.
+pub fn validate_from<R: Source>(
+    alloc: Global,
+    profile: Profile,
+    max_bytes: u64,
+    r: &mut R,
+) -> Result<Summary, Fault>
+    requires open { R.has_failed r.old ≡ false }
+    requires limit { max_bytes ≤ 2 ^ 62 }
+    ensures judged { Judges profile max_bytes (R.remaining r.old) (R.remaining r.new) result }
+    ensures failed { (result ≡ Err Fault.Io) ↔ (R.has_failed r.new ≡ true) }
+{
+    let mut validator = Validator::new(alloc, profile, max_bytes);
+    let mut piece = [0u8; PIECE];
+    // each turn but the last takes at least one byte
+    for _ in 0..max_bytes + 1 {
+        let n = match r.get(&mut piece) {
+            Ok(0) => return finish(validator),
+            Ok(n) => n,
+            Err(_) => return Err(Fault::Io),
+        };
+        if let Err(refusal) = validator.feed(&piece[..n]) {
+            return Err(Fault::Refused(refusal));
+        }
+    }
+    Err(Fault::Refused(Refusal {
+        at: max_bytes + 1,
+        why: Why::TooLong,
+    }))
+}
+
+/// The end of the input.
+fn finish(validator: Validator) -> Result<Summary, Fault>
+    ensures judged { (p : Profile) (limit : ℕ) (input : List ℕ) (left : Option (List ℕ)) → HasRead validator p limit input → IsAtEnd left
+        → JudgesInput p limit input left result }
+    ensures refused { result ≢ Err Fault.Io }
+{
+    match validator.finish() {
+        Ok(summary) => Ok(summary),
+        Err(refusal) => Err(Fault::Refused(refusal)),
+    }
+}

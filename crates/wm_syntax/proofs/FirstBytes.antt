@@ -1,0 +1,39 @@
+-- What a byte begins under a profile, by the table of instructions.
+use Rattle.std.proofs.Common.{◌≡◌, ℕ, true, Option, Some, slice_get, refl, sym, ap, ◌∙◌}
+use Rattle.std.specs.Prelude.{None as Nothing}
+use Rattle.wm_syntax.specs.declared.instructions.Op.{Op}
+use Rattle.wm_syntax.specs.declared.op_class.OpClass.{OpClass}
+use Rattle.wm_syntax.specs.declared.op_class.OpClass.TheVariants.{Float}
+use Rattle.wm_syntax.specs.declared.profile.Profile.{Profile}
+use Rattle.wm_syntax.specs.OpClasses.{class_of, first_byte, is_float, IsFound}
+use Rattle.wm_syntax.specs.ByteTable.{classes, class_in, row_in, class_under}
+use Rattle.wm_syntax.specs.Profiles.{IsOpOf}
+use Rattle.wm_syntax.proofs.OpTable.{found_in, begins_in, float_in}
+use Rattle.wm_syntax.proofs.OneInstruction.{class_there}
+
+pub row_under : (p : Profile) (byte : ℕ) (c : OpClass) → slice_get classes byte ≡ Some c → class_in p c ≡ class_under p byte
+unfolding class_under
+row_under p byte c e = ap (row_in p) (sym e)
+
+-- each op of the profile that begins with the byte is of its class
+pub found_under : (p : Profile) (byte : ℕ) (o : Op) → first_byte o ≡ Some byte → IsOpOf p o → class_under p byte ≡ class_of o
+found_under p byte o f i =
+    let e : slice_get classes byte ≡ Some (class_of o) = class_there o byte f in
+    sym (row_under p byte (class_of o) e) ∙ found_in p byte (class_of o) e o f i
+
+-- and there is one
+pub begins_under : (p : Profile) (byte : ℕ) → IsFound (class_under p byte) → (o : Op) × (first_byte o ≡ Some byte) × IsOpOf p o × (class_of o ≡ class_under p byte)
+unfolding class_under
+begins_under p byte f = go (slice_get classes byte) refl f
+  where
+    go : (row : Option OpClass) → slice_get classes byte ≡ row → IsFound (row_in p row) → (o : Op) × (first_byte o ≡ Some byte) × IsOpOf p o × (class_of o ≡ row_in p row)
+    go (Some c) e f = begins_in p byte c e f
+    go Nothing e f = absurd f
+
+pub float_under : (p : Profile) (byte : ℕ) → class_under p byte ≡ Float → is_float byte ≡ true
+unfolding class_under
+float_under p byte f = go (slice_get classes byte) refl f
+  where
+    go : (row : Option OpClass) → slice_get classes byte ≡ row → row_in p row ≡ Float → is_float byte ≡ true
+    go (Some c) e f = (float_in p byte c e).0 f
+    go Nothing e f = cc
