@@ -17,7 +17,7 @@ parts-append (m ∷ j) k = added m.part (parts_of (j ++ k)) (parts_of j) (parts_
     added None a b c e = e
     added (Some part) a b c e = ap (λ y. part ∷ y) e
 
-parts-entered : (k : Marks) → parts_of (entered k) ≡ parts_of k
+pub parts-entered : (k : Marks) → parts_of (entered k) ≡ parts_of k
 parts-entered [] = refl
 parts-entered (m ∷ []) = refl
 parts-entered (m ∷ n ∷ k) = ap (λ y. with_part m.part y) (parts-entered (n ∷ k))

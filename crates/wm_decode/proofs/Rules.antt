@@ -17,8 +17,9 @@ use Rattle.wm_syntax.specs.Opcodes.{opcode}
 use Rattle.wm_decode.specs.Sections.{Section as SectionForm, ListSection, StartSection, Customs as CustomForms, SpellsCustom, SpellsDesc, SpellsImport, SpellsExport, SpellsRun, kind_byte, header}
 use Rattle.wm_decode.specs.Parts.{Part, Marks, parts_of, new_type, param, result_count, one_result, import_module, import_name, import_desc, function, table, memory, global, const_op, export_name, export, start, element, element_function, body, locals, body_op, segment, data_byte}
 use Rattle.wm_decode.specs.Shapes.{Shape, Empty, Byte, Literal, Then, Times, Number, Vector, Index, Name, Sized, nothing_at, ending}
-use Rattle.wm_decode.specs.Grammar.{strict, ValueType, FunctionType, Import, EachOp, Expression, Global, Export, Element, Code, DataByte, Segment, Paired, Custom, Customs, MayMiss, Chain, Module}
+use Rattle.wm_decode.specs.Grammar.{strict, ValueType, FunctionType, Import, EachOp, Expression, Global, Export, Element, Run, Code, DataByte, Segment, Paired, Custom, Customs, MayMiss, Chain, Module}
 use Rattle.wm_decode.specs.Flat.{FlatModule, type_parts, import_parts, global_parts, export_parts, start_parts, element_parts, code_parts, segment_parts, flat_parts, SpellsOps, SpellsFlatGlobal, SpellsFlatElement, SpellsFlatCode, SpellsFlatSegment, InOrder, flat_sections, SpellsFlat}
+use Rattle.wm_decode.proofs.EntryBytes.{run_part}
 use Rattle.wm_decode.proofs.ReadValues.{Reads, HasByte, parts-append, parts-nothing, parts-some, number_some, front_some, byte_some, Many, reads_as, reads_byte, reads_leaf, reads_then, reads_after, reads_number, reads_times, reads_vector, reads_sized, reads_entry, reads_list, reads_index, reads_name}
 
 -- function types
@@ -117,13 +118,11 @@ reads_element p = reads_as (reads_then (reads_index element) (reads_then (reads_
     (λ e b h. ((e.table, (e.offset, e.functions)), h, refl))
 
 -- code: the size, at which the body begins, and then runs and ops in just so many bytes
-run_part : ℕ × ValType → Part
-run_part r = locals r.0 r.1
+pub reads_body : (p : Profile) → Reads {X = List (ℕ × ValType) × List Op} (Then (Vector Run) (Expression p body_op)) (λ z. SpellsList SpellsRun z.0 ▸ SpellsOps p z.1) (λ z. map run_part z.0 ++ map body_op z.1)
+reads_body p = reads_then (reads_list run_part (reads_leaf SpellsRun run_part (λ r b h. front_some b h.0 h.1 h.2 (number_some r.0 h.0 h.3)))) (reads_ops body_op p)
 
 reads_code : (p : Profile) → Reads (Code strict p) (SpellsFlatCode p) code_parts
-unfolding run_part
-reads_code p = reads_as
-    (reads_sized (reads_entry (reads_then (reads_list run_part (reads_leaf SpellsRun run_part (λ r b h. front_some b h.0 h.1 h.2 (number_some r.0 h.0 h.3)))) (reads_ops body_op p))) (Some body))
+reads_code p = reads_as (reads_sized (reads_entry (reads_body p)) (Some body))
     (λ z b h. (record { runs = z.0; ops = z.1 }, h, refl))
     (λ c b h. ((c.runs, c.ops), h, refl))
 

@@ -1,5 +1,5 @@
 -- What the checker does to the parts of a code entry.
-use Rattle.std.proofs.Common.{ℕ, ◌+◌, ◌≡◌, ◌≤◌, ◌<◌, ◌^◌, List, [], ◌∷◌, ◌++◌, Option, Some, None, Bool, true, false, cond, Result, Ok, Err, length, replicate, refl, sym, ◌∙◌, ap, subst, append_assoc, append-nil, length-append, lit<, arith, map, nat_lt}
+use Rattle.std.proofs.Common.{ℕ, ◌+◌, ◌≡◌, ◌≤◌, ◌<◌, ◌^◌, List, [], ◌∷◌, ◌++◌, Option, Some, None, Bool, true, false, cond, Result, Ok, Err, length, max, replicate, refl, sym, ◌∙◌, ap, subst, append_assoc, append-nil, length-append, lit<, arith, map, nat_lt}
 use Rattle.std.specs.List.{AllByRecursion}
 use Rattle.std.proofs.lemmas.Bool.{lt-ltb, ltb-true}
 use Rattle.std.proofs.lemmas.List.{length-replicate}
@@ -8,6 +8,7 @@ use Rattle.wm_syntax.specs.declared.instructions.Op.{Op}
 use Rattle.wm_syntax.specs.declared.instructions.Op.TheVariants as op
 use Rattle.wm_syntax.specs.declared.why.Why.{Why}
 use Rattle.wm_syntax.specs.declared.why.Why.TheVariants as why
+use Rattle.wm_syntax.specs.Modules.{Function}
 use Rattle.wm_stacks.specs.declared.entries.Frame.{Frame}
 use Rattle.wm_typing.specs.declared.body_checker.Progress.{Progress}
 use Rattle.wm_typing.specs.declared.body_checker.Progress.TheVariants.{Inside, Ended}
@@ -17,18 +18,18 @@ use Rattle.wm_typing.specs.Contexts.{body_context}
 use Rattle.wm_typing.specs.Typing.{Context}
 use Rattle.wm_typing.specs.ExactBodies.{stepped, progress_at, declared_to}
 use Rattle.wm_typing.specs.Folds.{all_stepped, started, while_inside}
-use Rattle.wm_typing.specs.Nesting.{openings, endings}
+use Rattle.wm_typing.specs.Nesting.{nesting, openings, endings}
 use Rattle.wm_typing.proofs.Folds.{taken_from, refused_from, ended_iff}
 use Rattle.wm_typing.proofs.Kept.{front_typed, body_can}
-use Rattle.wm_typing.proofs.Said.{after_started, nested_said}
+use Rattle.wm_typing.proofs.Said.{after_started, controls_said, nested_said}
 use Rattle.wm_decode.specs.Grammar.{IsExpression, opens, closes}
 use Rattle.wm_decode.specs.Parts.{Part, body_op}
 use Rattle.wm_decode.specs.Sections.{expansion}
 use Rattle.wm_decode.specs.Sinks.{and_then, all_taken}
 use Rattle.wm_rules.specs.Spaces.{context_of, next_type}
 use Rattle.wm_rules.specs.Checking.{Held, after, body_begun, greatest, stepped_to, with_body, with_progress}
-use Rattle.wm_decode.specs.Flat.{FlatCode, code_parts}
-use Rattle.wm_rules.proofs.Members.{run_part}
+use Rattle.wm_decode.specs.Flat.{FlatCode, IsCodeOf, code_parts}
+use Rattle.wm_decode.proofs.EntryBytes.{run_part}
 use Rattle.wm_rules.proofs.Folding.{Member}
 
 -- a body is at hand, or it has just ended
@@ -58,7 +59,7 @@ agree_step h b ops (Err w) rest = failed ops
     failed : (ops : List Op) → Agree h (all_stepped (context_of h.spaces) (Err w) ops) (Err w)
     failed ops = (w, refl)
 
-ops_agree : (h : Held) (ops : List Op) (b : Body) → Agree h (all_stepped (context_of h.spaces) (Ok b) ops) (all_taken after (settled h b) (map body_op ops))
+pub ops_agree : (h : Held) (ops : List Op) (b : Body) → Agree h (all_stepped (context_of h.spaces) (Ok b) ops) (all_taken after (settled h b) (map body_op ops))
 ops_agree h [] b = refl
 ops_agree h (o ∷ ops) b = go (λ d. ops_agree h ops d) b.state.stacks.frames refl
   where
@@ -68,7 +69,7 @@ ops_agree h (o ∷ ops) b = go (λ d. ops_agree h ops d) b.state.stacks.frames r
         (agree_step h b ops (stepped (context_of h.spaces) o b) rest)
 
 -- The declared locals, before the first op.
-abbrev declared : Held → ℕ → List ValType → Held
+abbrev pub declared : Held → ℕ → List ValType → Held
 declared h x ls = in_body h (started (context_of h.spaces) x ls)
 
 abbrev run_step : Held → ℕ → List ValType → ℕ → ValType → Bool → Result Held Why
@@ -77,7 +78,7 @@ run_step h x ls n t b = with_body (declared h x ls) (declared_to (started (conte
 run_room : (a c : List ValType) (n : ℕ) (t : ValType) → length (a ++ (replicate n t ++ c)) < 2 ^ 32 → length a + n < 2 ^ 32
 run_room a c n t h = omega (arith, simp (length-append, length-replicate) at h)
 
-runs_takes : (runs : List (ℕ × ValType)) (rest : List Part) (h : Held) (x : ℕ) (ls : List ValType) → length (ls ++ expansion runs) < 2 ^ 32
+pub runs_takes : (runs : List (ℕ × ValType)) (rest : List Part) (h : Held) (x : ℕ) (ls : List ValType) → length (ls ++ expansion runs) < 2 ^ 32
     → all_taken after (declared h x ls) (map run_part runs ++ rest) ≡ all_taken after (declared h x (ls ++ expansion runs)) rest
 runs_takes [] rest h x ls few = ap (λ z. all_taken after (declared h x z) rest) (sym (append-nil ls))
 runs_takes (r ∷ runs) rest h x ls few =
@@ -87,7 +88,7 @@ runs_takes (r ∷ runs) rest h x ls few =
     ∙ (runs_takes runs rest h x (ls ++ replicate r.0 r.1) all
     ∙ ap (λ z. all_taken after (declared h x z) rest) (append_assoc ls (replicate r.0 r.1) (expansion runs)))
 
-runs_sound : (runs : List (ℕ × ValType)) (rest : List Part) (h g : Held) (x : ℕ) (ls : List ValType) → length ls < 2 ^ 32
+pub runs_sound : (runs : List (ℕ × ValType)) (rest : List Part) (h g : Held) (x : ℕ) (ls : List ValType) → length ls < 2 ^ 32
     → all_taken after (declared h x ls) (map run_part runs ++ rest) ≡ Ok g → length (ls ++ expansion runs) < 2 ^ 32
 runs_sound [] rest h g x ls few e = rw (append-nil ls) few
 runs_sound (r ∷ runs) rest h g x ls few e = go (λ small e. runs_sound runs rest h g x (ls ++ replicate r.0 r.1) small e) (nat_lt (length ls + r.0) (2 ^ 32)) refl e
@@ -119,7 +120,7 @@ abbrev first_body : Option ℕ → ℕ
 first_body None = 0
 first_body (Some x) = x
 
-abbrev entry_held : Held → Held
+abbrev pub entry_held : Held → Held
 entry_held h = record h { spaces = record h.spaces { bodies = h.spaces.bodies + 1 } }
 
 abbrev code_run : Held → FlatCode → Result Body Why
@@ -146,7 +147,7 @@ typed_ends k x ls ops one h = go (all_stepped k (Ok (started k x ls)) ops) refl
     go (Err w) e = absurd (refused_from k one x ls [] ops (started k x ls) w (after_started k x ls) e front)
 
 -- ops that are taken, and are an expression, are a typed body
-taken_typed : (k : Context) (x : ℕ) (ls : List ValType) (ops : List Op) (d : Body) → AllByRecursion (λ f. length f.results ≤ 1) k.types → IsExpression ops
+pub taken_typed : (k : Context) (x : ℕ) (ls : List ValType) (ops : List Op) (d : Body) → AllByRecursion (λ f. length f.results ≤ 1) k.types → IsExpression ops
     → all_stepped k (Ok (started k x ls)) ops ≡ Ok d → IsTypedBody (body_context k x ls) ops × (d.state.stacks.frames ≡ [])
 taken_typed k x ls ops d one i e =
     let a = taken_from k one x ls [] ops (started k x ls) d (after_started k x ls) e in
@@ -221,3 +222,15 @@ code_member = record {
   takes = λ h c q g. code_takes h c q.0 g;
   sound = λ h g c q e. code_sound h g c q.0 q.1 e;
 }
+
+-- a code entry counts one control more than its function's body is nested deep
+pub code_controls : (h : Held) (f : Function) (c : FlatCode) → OneResults h → CodeOf h c → IsCodeOf f c → (put_code h c).most.controls ≡ max h.most.controls (nesting f.body + 1)
+code_controls h f c one g i =
+    let k = context_of h.spaces in
+    let ls = expansion c.runs in
+    let t = typed_ends k g.index ls c.ops one g.typed in
+    let a = taken_from k one g.index ls [] c.ops (started k g.index ls) t.0 (after_started k g.index ls) t.1 in
+    let flat = i.2 in
+    let n : t.0.stats.controls ≡ nesting f.body + 1 = controls_said k g.index ls c.ops t.0 a f.body (flat.0, flat.3, flat.2 ∙ ap (λ z. flat.0 ++ z) flat.4) in
+    ap (λ r. max h.most.controls (ended_body r).stats.controls) (ap (λ o. all_stepped k (Ok (started k (first_body o) ls)) c.ops) g.has_index ∙ t.1)
+    ∙ ap (λ z. max h.most.controls z) n

@@ -1,5 +1,5 @@
 -- The parts of a flat value are taken exactly where it is good.
-use Rattle.std.proofs.Common.{ℕ, ◌+◌, ◌≡◌, ◌≤◌, ◌<◌, List, [], ◌∷◌, ◌++◌, Option, Some, None, IfSome, false, ◌||◌, Ok, length, take, refl, sym, ◌∙◌, ap, subst, append_assoc, append-nil, length-append, arith, map, ◌↔◌, slice_get, option_to_list}
+use Rattle.std.proofs.Common.{ℕ, ◌+◌, ◌≡◌, ◌≤◌, ◌<◌, List, [], ◌∷◌, ◌++◌, Option, Some, None, IfSome, false, ◌||◌, Ok, length, max, take, refl, sym, ◌∙◌, ap, subst, append_assoc, append-nil, length-append, arith, map, ◌↔◌, slice_get, option_to_list}
 use Rattle.std.specs.List.{AllByRecursion, filter_map}
 use Rattle.std.proofs.lemmas.List.{take-append-le}
 use Rattle.std.proofs.Math.Seq.{take-append_seam}
@@ -8,25 +8,27 @@ use Rattle.wm_syntax.specs.declared.types.GlobalType.{GlobalType}
 use Rattle.wm_syntax.specs.declared.modules.ExportKind.{ExportKind}
 use Rattle.wm_syntax.specs.declared.modules.ExportKind.TheVariants as kind
 use Rattle.wm_syntax.specs.declared.instructions.Op.{Op}
-use Rattle.wm_syntax.specs.Modules.{Export, function_of, table_of, memory_of, global_of}
+use Rattle.wm_syntax.specs.Modules.{Export, Function, function_of, table_of, memory_of, global_of}
 use Rattle.wm_typing.specs.After.{IsTypedBody}
+use Rattle.wm_typing.specs.Bodies.{no_stats}
 use Rattle.wm_typing.specs.Contexts.{body_context}
 use Rattle.wm_typing.specs.Typing.{function_type}
 use Rattle.wm_decode.specs.Grammar.{IsExpression}
 use Rattle.wm_decode.specs.Parts.{Part}
 use Rattle.wm_decode.specs.Sections.{expansion}
 use Rattle.wm_decode.specs.Sinks.{all_taken}
+use Rattle.wm_rules.specs.Bounds.{deepest}
 use Rattle.wm_rules.specs.Validation.{TypedConst, is_some_item}
 use Rattle.wm_rules.specs.Spaces.{IndexSpaces, context_of, items_in, next_type, one_if}
 use Rattle.wm_rules.specs.Checking.{Held, after, empty}
 use Rattle.std.specs.List.{flat_map, AllZip}
-use Rattle.wm_decode.specs.Flat.{FlatModule, FlatGlobal, FlatElement, FlatCode, FlatSegment, type_parts, import_parts, global_parts, export_parts, element_parts, code_parts, segment_parts}
+use Rattle.wm_decode.specs.Flat.{FlatModule, FlatGlobal, FlatElement, FlatCode, FlatSegment, IsCodeOf, type_parts, import_parts, global_parts, export_parts, element_parts, code_parts, segment_parts}
 use Rattle.wm_rules.proofs.Good.{IsGrammatical, IsTypedConst, flat_functions, flat_tables, flat_memories, flat_globals, flat_context, flat_items, TypedCode, IsGood}
 use Rattle.wm_rules.proofs.Members.{parts_by_member, function_part, table_part, memory_part, start_part}
 use Rattle.wm_rules.proofs.Folding.{puts, puts_keep, GoodAll, seq_takes, seq_sound, all_to, all_from}
 use Rattle.wm_rules.proofs.ItemMembers.{Any, in_types, no_type, put_sig, GoodSig, sig_member, put_import, GoodImport, import_member, put_function, GoodFunction, function_member, put_table, GoodTable, table_member, put_memory, GoodMemory, memory_member, put_export, GoodExport, export_member, GoodStart, start_member}
 use Rattle.wm_rules.proofs.ConstantMembers.{Expresses, put_global, GoodGlobal, global_member, put_segment, GoodElement, element_member, GoodSegment, segment_member}
-use Rattle.wm_rules.proofs.CodeMembers.{CodeOf, put_code, IsCode, code_member}
+use Rattle.wm_rules.proofs.CodeMembers.{OneResults, CodeOf, put_code, IsCode, code_member, code_controls}
 use Rattle.wm_rules.proofs.NewNames.{New, distinct_new}
 use Rattle.wm_rules.proofs.Stages.{sigs, in_functions, functions, in_table, tables, in_memory, memories, tables_to, tables_from, memories_to, memories_from, after_imports, imports, GoodImports, imports_to, imports_from, in_globals, globals}
 
@@ -309,6 +311,29 @@ module _ (v : FlatModule) where
 
   counted : length (filter_map function_of v.imports) ≡ all_spaces.imported_functions + 0
   counted = omega arith
+
+  -- the greatest controls so far, and those of these functions' bodies
+  codes_controls : (fs : List Function) (cs : List FlatCode) (h : Held) → OneResults h → GoodAll CodeOf put_code h cs → AllZip IsCodeOf fs cs
+      → (puts put_code h cs).most.controls ≡ max h.most.controls (deepest fs)
+  codes_controls [] [] h one g r = omega arith
+  codes_controls [] (c ∷ cs) h one g r = absurd r
+  codes_controls (f ∷ fs) [] h one g r = absurd r
+  codes_controls (f ∷ fs) (c ∷ cs) h one g r = omega (arith, codes_controls fs cs (put_code h c) one g.1 r.1, code_controls h f c one g.0 r.0)
+
+  no_stats_before_code : after_elements.most ≡ no_stats
+  no_stats_before_code =
+      puts_keep put_segment (λ h. h.most ≡ no_stats) (λ h x i. i) v.elements after_start
+      (puts_keep (λ h x. h) (λ h. h.most ≡ no_stats) (λ h x i. i) (option_to_list v.start) after_exports
+      (puts_keep put_export (λ h. h.most ≡ no_stats) (λ h x i. i) v.exports after_globals refl))
+
+  -- the greatest controls are those of the deepest body
+  pub controls_at_end : (fs : List Function) → IsGood v → AllZip IsCodeOf fs v.codes → at_end.most.controls ≡ deepest fs
+  controls_at_end fs d r =
+      let one : OneResults after_elements = subst (λ s. AllByRecursion (λ f. length f.results ≤ 1) s.types) (sym spaces_before_code) d.types in
+      let g = codes_from v.codes (filter_map function_of v.imports) v.functions after_elements 0 spaces_before_code refl counted d.codes in
+      let e = codes_controls fs v.codes after_elements one g r in
+      let n : after_elements.most.controls ≡ 0 = ap (λ s. s.controls) no_stats_before_code in
+      puts_keep put_segment (λ h. h.most.controls ≡ deepest fs) (λ h x i. i) v.segments after_codes (omega (arith, e, n))
 
   -- what a code entry is asked for before its parts
   codes_asked : AllByRecursion (λ s. length s.results ≤ 1) v.types → AllByRecursion (λ c. IsExpression c.ops) v.codes → GoodAll IsCode put_code after_elements v.codes

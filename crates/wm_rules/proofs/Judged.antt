@@ -13,11 +13,12 @@ use Rattle.wm_decode.proofs.Rules.{items_to, items_from}
 use Rattle.wm_decode.proofs.SpelledBytes.{whole_bytes}
 use Rattle.wm_decode.proofs.Theorem.{items_are}
 use Rattle.wm_decode.proofs.Nesting.{flat_to, flat_from}
+use Rattle.wm_rules.specs.Bounds.{deepest}
 use Rattle.wm_rules.specs.Checking.{Held, after, empty}
 use Rattle.wm_rules.specs.Validation.{Accepted}
 use Rattle.wm_rules.proofs.Good.{IsGrammatical}
 use Rattle.wm_rules.proofs.Members.{same_parts}
-use Rattle.wm_rules.proofs.Exactly.{at_end, bodies_at_end, good_taken, taken_good}
+use Rattle.wm_rules.proofs.Exactly.{at_end, bodies_at_end, controls_at_end, good_taken, taken_good}
 use Rattle.wm_rules.proofs.Made.{good_of, made}
 
 -- what every member that is spelled has, each has
@@ -83,14 +84,30 @@ same_ok x y (Err e) a b = absurd (cc (a))
 one_last : (i k : List Part) (x y : Held) → i ≡ k → all_taken after empty i ≡ Ok x → all_taken after empty k ≡ Ok y → x ≡ y
 one_last i k x y e a b = same_ok x y (all_taken after empty i) a (ap (λ z. all_taken after empty z) e ∙ b)
 
--- the bodies that were taken are as many as the module's functions
-pub functions_counted : (p : Profile) (limit : ℕ) (b : List ℕ) (last : Held) → Takes after (record { profile = p; limit = limit; first = empty }) b last
-    → (a : Accepted p limit b) → last.spaces.bodies ≡ length a.module_value.functions
+-- what is held at the end is what the parts of the accepted module's flat value leave
+abbrev flat_of : (p : Profile) (limit : ℕ) (b : List ℕ) → Accepted p limit b → FlatModule
+flat_of p limit b a = (flat_to p a.module_value b a.spelled.1 a.of_profile).0
+
+left_at_end : (p : Profile) (limit : ℕ) (b : List ℕ) (last : Held) → Takes after (record { profile = p; limit = limit; first = empty }) b last
+    → (a : Accepted p limit b) → last ≡ at_end (flat_of p limit b a)
 unfolding accepted_takes
-functions_counted p limit b last t a =
-    let f = flat_to p a.module_value b a.spelled.1 a.of_profile in
+left_at_end p limit b last t a =
     let u = accepted_takes p limit b a in
     let bytes = whole_bytes p b t.items t.module_items in
     let items : t.items ≡ u.1.items = (items_are p b t.items bytes t.module_items).0 ∙ sym (items_are p b u.1.items bytes u.1.module_items).0 in
-    let same : last ≡ at_end f.0 = one_last (parts_of t.items) (parts_of u.1.items) last (at_end f.0) (ap parts_of items) t.taken u.1.taken in
-    ap (λ h. h.spaces.bodies) same ∙ (bodies_at_end f.0 ∙ zip_long IsCodeOf a.module_value.functions f.0.codes f.1.codes)
+    one_last (parts_of t.items) (parts_of u.1.items) last (at_end (flat_of p limit b a)) (ap parts_of items) t.taken u.1.taken
+
+-- the bodies that were taken are as many as the module's functions
+pub functions_counted : (p : Profile) (limit : ℕ) (b : List ℕ) (last : Held) → Takes after (record { profile = p; limit = limit; first = empty }) b last
+    → (a : Accepted p limit b) → last.spaces.bodies ≡ length a.module_value.functions
+functions_counted p limit b last t a =
+    let f = flat_to p a.module_value b a.spelled.1 a.of_profile in
+    ap (λ h. h.spaces.bodies) (left_at_end p limit b last t a) ∙ (bodies_at_end f.0 ∙ zip_long IsCodeOf a.module_value.functions f.0.codes f.1.codes)
+
+-- the greatest controls that were counted are those of the module's deepest body
+pub nesting_counted : (p : Profile) (limit : ℕ) (b : List ℕ) (last : Held) → Takes after (record { profile = p; limit = limit; first = empty }) b last
+    → (a : Accepted p limit b) → last.most.controls ≡ deepest a.module_value.functions
+nesting_counted p limit b last t a =
+    let f = flat_to p a.module_value b a.spelled.1 a.of_profile in
+    ap (λ h. h.most.controls) (left_at_end p limit b last t a)
+    ∙ controls_at_end f.0 a.module_value.functions (good_of a.module_value f.0 f.1 a.valid) f.1.codes

@@ -15,5 +15,11 @@ pub mod Made
 pub mod Judged
 pub mod Verdicts
 pub mod Weights
+pub mod EveryRule
+pub mod Costs
+pub mod Calm
+pub mod Entries
+pub mod Moments
+pub mod Keeping
 pub mod SourceLemmas
 pub mod Joins

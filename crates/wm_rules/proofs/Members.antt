@@ -25,9 +25,6 @@ start_alone : (o : Option ℕ) → start_parts o ≡ flat_map start_part (option
 start_alone None = refl
 start_alone (Some x) = refl
 
-abbrev pub run_part : ℕ × ValType → Part
-run_part r = locals r.0 r.1
-
 abbrev pub parts_by_member : FlatModule → List Part
 parts_by_member v =
     flat_map type_parts v.types ++ (flat_map import_parts v.imports ++ (flat_map function_part v.functions ++ (flat_map table_part v.tables

@@ -1,12 +1,13 @@
 -- What a validator has read, and what its refusals mean.
-use Rattle.std.specs.Prelude.{◌≡◌, ℕ, ◌≤◌, ◌<◌, ◌+◌, List, ◌++◌, take, ◌⊎◌, Option, Some, None, Result, Ok, Err, length}
+use Rattle.std.specs.Prelude.{◌≡◌, ℕ, ◌≤◌, ◌<◌, ◌+◌, ◌*◌, List, ◌++◌, take, ◌⊎◌, Option, Some, None, MatchOption, Result, Ok, Err, length, if◌then◌else◌}
 use Rattle.wm_syntax.specs.declared.profile.Profile.{Profile}
 use Rattle.wm_syntax.specs.declared.why.Why.TheVariants as why
 use Rattle.wm_syntax.specs.Spelling.{AreBytes}
 use Rattle.wm_decode.specs.declared.refusal.Refusal.{Refusal}
 use Rattle.wm_decode.specs.declared.state.Decoder.{Decoder}
-use Rattle.wm_decode.specs.Decoding.{After, Setting, answer_of}
-use Rattle.wm_decode.specs.Fronts.{IsFront, name_in, unfinished_name}
+use Rattle.wm_stacks.specs.Stack.{height_sum}
+use Rattle.wm_decode.specs.Decoding.{After, Setting, answer_of, has_refused}
+use Rattle.wm_decode.specs.Fronts.{IsFront, entry_bytes, name_in, outside_bytes, unfinished_name}
 use Rattle.wm_decode.specs.Grammar.{Items}
 use Rattle.wm_decode.specs.Live.{decoded, begun}
 use Rattle.wm_decode.specs.Parts.{Marks, parts_of}
@@ -28,9 +29,10 @@ pub record RefusedAfter (p : Profile) (limit : ℕ) (bytes : List ℕ) (r : Refu
   pub place : r.at ≤ length bytes
   pub stands : (decoded after p limit (begun empty) bytes ≡ Err r) ⊎ ((r.why ≡ why.Memory) × (8 < r.at))
 
--- the validator, for this profile and limit, has read just these bytes
+-- the validator, for this profile and limit, has read just these bytes; it has refused nothing, or so
 abbrev pub StateRead : Result (Decoder Checker) Refusal → Profile → ℕ → List ℕ → Type 0
-StateRead (Ok d) p limit bytes = After (λ (c : Checker). c) after d (setting p limit) bytes
+StateRead (Ok d) p limit bytes =
+    After (λ (c : Checker). c) after d (setting p limit) bytes × (has_refused (λ (c : Checker). c) d ≡ None)
 StateRead (Err r) p limit bytes = RefusedAfter p limit bytes r
 
 abbrev pub HasRead : Validator → Profile → ℕ → List ℕ → Type 0
@@ -52,8 +54,25 @@ kept_of (Err r) = 0
 abbrev pub kept_in : Validator → ℕ
 kept_in v = kept_of v.state
 
+-- how many operands and frames the body at hand has
+abbrev pub heights_of : Result (Decoder Checker) Refusal → ℕ
+heights_of (Ok d) = height_sum d.sink.body.state.stacks
+heights_of (Err r) = 0
+
+abbrev pub heights_in : Validator → ℕ
+heights_in v = heights_of v.state
+
+-- its moves: each push and each removal of one of these, and each look that finds the floor of unreachable code
+abbrev pub moves_of : Result (Decoder Checker) Refusal → ℕ
+moves_of (Ok d) = if d.sink.in_body then d.sink.body.state.stacks.moves else 0
+moves_of (Err r) = 0
+
+abbrev pub moves_in : Validator → ℕ
+moves_in v = moves_of v.state
+
 -- What it keeps is told by the bytes read, which may still be refused: by what is complete in them, beside each byte, and
--- by the name that goes on. Each input that begins so has the same there.
+-- by the name that goes on. Each input that begins so has the same there. It is at most one entry more than the bytes
+-- outside code entries and those of the entry at hand, whose n bytes hold both stacks to n + 1 entries and 4n + 4 moves.
 pub record KeepsOf (v : Validator) (p : Profile) (bytes : List ℕ) : Type 0 where
   pub marks : Marks
   pub front : IsFront p bytes marks
@@ -62,6 +81,19 @@ pub record KeepsOf (v : Validator) (p : Profile) (bytes : List ℕ) : Type 0 whe
   pub held : Held
   pub taken : all_taken after empty (parts_of marks) ≡ Ok held
   pub kept : kept_in v ≡ unfinished_name marks + entries_of held
+  pub at_most : kept_in v ≤ 1 + outside_bytes marks + entry_bytes marks
+  pub heights : heights_in v ≤ entry_bytes marks + 1
+  pub moves : moves_in v ≤ 4 * entry_bytes marks + 4
+
+-- it keeps no entry
+pub record KeepsNothing (v : Validator) : Type 0 where
+  pub kept : kept_in v ≡ 0
+  pub heights : heights_in v ≡ 0
+  pub moves : moves_in v ≡ 0
+
+-- at any moment: what the bytes read tell, and after a refusal nothing
+abbrev pub AtMoment : Validator → Profile → List ℕ → Type 0
+AtMoment v p bytes = MatchOption (refusal_in v) (KeepsOf v p bytes) (λ r. KeepsNothing v)
 
 -- What is answered to a whole input, however it is cut, unless memory runs out. Of this function only that it is one
 -- of the bytes matters.

@@ -1,9 +1,10 @@
 //! A whole input, in pieces.
 
-ghost use Rattle.std.specs.Prelude.{◌≡◌, ◌≢◌, ◌≤◌, ◌^◌, length, IfOk, IfErr, Err};
+ghost use Rattle.std.specs.Prelude.{◌≡◌, ◌≢◌, ◌≤◌, ◌^◌, ℕ, length, take, IfOk, IfErr, Err};
 ghost use Rattle.wm_syntax.specs.declared.why.Why.TheVariants.{Memory};
 ghost use Rattle.wm_rules.specs.Joining.{joined};
-ghost use Rattle.wm_rules.specs.Validating.{verdict};
+ghost use Rattle.wm_rules.specs.Validating.{AtMoment, HasRead, verdict};
+ghost use Rattle.wm_rules.specs.declared.validator.Validator.{Validator};
 ghost use Rattle.wm_rules.specs.Validation.{Accepted};
 
 use crate::checker::Summary;
@@ -30,6 +31,9 @@ pub fn validate(
     // The joined bytes alone say which refusal it is.
     ensures same { IfErr result (λ r. r.why ≢ Memory → verdict profile max_bytes (joined pieces.now) ≡ Err r) }
     ensures place { IfErr result (λ r. r.at ≤ length (joined pieces.now)) }
+    // At every moment, after any number of the pieces, what a validator keeps is told and bounded by the bytes read.
+    ensures moments { (n : ℕ) (v : Validator) → HasRead v profile max_bytes (joined (take n pieces.now))
+        → AtMoment v profile (joined (take n pieces.now)) }
 {
     let mut validator = Validator::new(alloc, profile, max_bytes);
     for piece in pieces {

@@ -4,7 +4,7 @@ ghost use Rattle.std.specs.Prelude.{◌≡◌, ◌≢◌, ◌≤◌, ◌^◌, �
 ghost use Rattle.wm_syntax.specs.declared.profile.Profile.{Profile};
 ghost use Rattle.wm_syntax.specs.declared.why.Why.TheVariants.{Memory};
 ghost use Rattle.wm_decode.specs.declared.refusal.Refusal.{Refusal};
-ghost use Rattle.wm_rules.specs.Validating.{HasRead, KeepsOf, NeverAccepted, StateRead, kept_in, refusal_in, verdict};
+ghost use Rattle.wm_rules.specs.Validating.{AtMoment, HasRead, KeepsOf, NeverAccepted, StateRead, kept_in, refusal_in, verdict};
 ghost use Rattle.wm_rules.specs.Kept.{capped};
 ghost use Rattle.wm_rules.specs.Validation.{Accepted};
 
@@ -87,9 +87,12 @@ impl Validator {
 
     /// How many entries its lists have: the bytes of a name that goes on, parameters and results of all types,
     /// types, functions and globals (imported ones too), export names and their bytes, and of the body at hand
-    /// its runs of locals, its operands and its frames; 2^64 - 1 where there are more. After a refusal 0.
+    /// its runs of locals, its operands and its frames. After a refusal 0.
     pub fn kept(&self) -> u64
-        ensures { result ≡ capped (kept_in self.now) }
+        ensures exact { (p : Profile) (limit : ℕ) (bytes : List ℕ) → HasRead self.now p limit bytes → result ≡ kept_in self.now }
+        // At every moment it is told and bounded by the bytes read.
+        ensures moment { (p : Profile) (limit : ℕ) (bytes : List ℕ) → HasRead self.now p limit bytes → AtMoment self.now p bytes }
+        ensures capped { result ≡ capped (kept_in self.now) }
     {
         match &self.state {
             Ok(decoder) => decoder.name_len().saturating_add(decoder.sink().kept()),

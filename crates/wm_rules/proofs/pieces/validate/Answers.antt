@@ -1,6 +1,7 @@
 use Rattle.std.proofs.Common.{◌<◌, take, length, subst, arith}
 use Rattle.wm_rules.specs.Joining.{joined}
 use Rattle.wm_rules.specs.Validating.{HasRead}
+use Rattle.wm_rules.proofs.Keeping.{at_moment}
 use Rattle.wm_rules.proofs.Joins.{joined_more, whole, if_ok, if_err}
 use Rattle.wm_rules.proofs.pieces.validate.Goals as goal
 
@@ -28,3 +29,6 @@ returns-clause-place c = if_err c.finish.result _ _ (λ r h. h c.args.profile c.
 
 pub returns-clause-functions : goal.returns-clause-functions
 returns-clause-functions c = if_ok c.finish.result _ _ (λ s h. h c.args.profile c.args.max_bytes (joined c.args.pieces.now) (read c)) c.finish.ensures.functions
+
+pub returns-clause-moments : goal.returns-clause-moments
+returns-clause-moments c = λ n v h. at_moment v c.args.profile c.args.max_bytes (joined (take n c.args.pieces.now)) h

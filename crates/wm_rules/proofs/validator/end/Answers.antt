@@ -5,19 +5,19 @@ use Rattle.wm_rules.proofs.Judged.{takes_accepted, accepted_takes, functions_cou
 use Rattle.wm_rules.proofs.validator.end.Goals as goal
 
 pub returns-in-Ok-clause-valid : goal.returns-in-Ok-clause-valid
-returns-in-Ok-clause-valid c = λ p limit input h. takes_accepted p limit input _ (c.in-Ok.ensures.ok (setting p limit) input h)
+returns-in-Ok-clause-valid c = λ p limit input h. takes_accepted p limit input _ (c.in-Ok.ensures.ok (setting p limit) input h.0)
 
 pub returns-in-Err-clause-refused : goal.returns-in-Err-clause-refused
-returns-in-Err-clause-refused c = λ ne p limit input h a. let t = accepted_takes p limit input a in c.in-Err.ensures.refused ne (setting p limit) input h t.0 t.1
+returns-in-Err-clause-refused c = λ ne p limit input h a. let t = accepted_takes p limit input a in c.in-Err.ensures.refused ne (setting p limit) input h.0 t.0 t.1
 
 pub returns-in-Err-clause-same : goal.returns-in-Err-clause-same
-returns-in-Err-clause-same c = λ ne p limit input h. c.in-Err.ensures.same ne (setting p limit) input h
+returns-in-Err-clause-same c = λ ne p limit input h. c.in-Err.ensures.same ne (setting p limit) input h.0
 
 pub returns-in-Err-clause-place : goal.returns-in-Err-clause-place
-returns-in-Err-clause-place c = λ p limit input h. c.in-Err.ensures.place (setting p limit) input h
+returns-in-Err-clause-place c = λ p limit input h. c.in-Err.ensures.place (setting p limit) input h.0
 
 pub returns-in-Err-clause-header : goal.returns-in-Err-clause-header
-returns-in-Err-clause-header c = λ p limit input h few. c.in-Err.ensures.header (setting p limit) input h few
+returns-in-Err-clause-header c = λ p limit input h few. c.in-Err.ensures.header (setting p limit) input h.0 few
 
 pub returns-in-Ok-clause-functions : goal.returns-in-Ok-clause-functions
-returns-in-Ok-clause-functions c = λ p limit input h a. ap (λ (s : Summary). s.functions) c.summary.ensures ∙ functions_counted p limit input _ (c.in-Ok.ensures.ok (setting p limit) input h) a
+returns-in-Ok-clause-functions c = λ p limit input h a. ap (λ (s : Summary). s.functions) c.summary.ensures ∙ functions_counted p limit input _ (c.in-Ok.ensures.ok (setting p limit) input h.0) a

@@ -1,10 +1,10 @@
-use Rattle.std.proofs.Common.{◌++◌, ◌+◌, Result, ap, subst, arith}
+use Rattle.std.proofs.Common.{◌++◌, Result, Ok, refl, subst, arith}
 use Rattle.wm_decode.specs.declared.refusal.Refusal.{Refusal}
 use Rattle.wm_decode.specs.declared.state.Decoder.{Decoder}
 use Rattle.wm_decode.proofs.Calls.{are_bytes}
 use Rattle.wm_rules.specs.declared.checker.Checker.{Checker}
-use Rattle.wm_rules.specs.Kept.{entries_of}
 use Rattle.wm_rules.specs.Validating.{RefusedAfter, StateRead, setting}
+use Rattle.wm_rules.proofs.Keeping.{keeps_ok}
 use Rattle.wm_rules.proofs.Verdicts.{still_refused, never_accepted, same_verdict, not_in_header, refused_after}
 use Rattle.wm_rules.proofs.validator.Validator.feed.Goals as goal
 
@@ -21,12 +21,14 @@ pub returns-in-Err-clause-header : goal.returns-in-Err-clause-header
 returns-in-Err-clause-header c = λ p limit before h few. not_in_header p limit (before ++ c.args.piece.now) c.in-Err.refusal (returns-in-Err-clause-read c p limit before h) few
 
 pub returns-in-Ok-feed-clause-read : goal.returns-in-Ok-feed-clause-read
-returns-in-Ok-feed-clause-read c = λ p limit before h. c.feed.ensures.after (setting p limit) before (subst (λ (s : Result (Decoder Checker) Refusal). StateRead s p limit before) c.in-Ok.is h)
+returns-in-Ok-feed-clause-read c = λ p limit before h.
+    let a = subst (λ (s : Result (Decoder Checker) Refusal). StateRead s p limit before) c.in-Ok.is h in
+    (c.feed.ensures.after (setting p limit) before a.0, c.in-Ok-feed.ensures.refusal)
 
 pub returns-in-Err-feed-clause-read : goal.returns-in-Err-feed-clause-read
 returns-in-Err-feed-clause-read c = λ p limit before h.
     let a = subst (λ (s : Result (Decoder Checker) Refusal). StateRead s p limit before) c.in-Ok.is h in
-    refused_after p limit c.feed.new.self (before ++ c.args.piece.now) c.in-Err-feed.refusal c.in-Err-feed.ensures.refusal (c.feed.ensures.after (setting p limit) before a) (c.in-Err-feed.ensures.place (setting p limit) before a)
+    refused_after p limit c.feed.new.self (before ++ c.args.piece.now) c.in-Err-feed.refusal c.in-Err-feed.ensures.refusal (c.feed.ensures.after (setting p limit) before a.0) (c.in-Err-feed.ensures.place (setting p limit) before a.0)
 
 pub returns-in-Err-feed-clause-refused : goal.returns-in-Err-feed-clause-refused
 returns-in-Err-feed-clause-refused c = λ ne p limit before h. never_accepted p limit (before ++ c.args.piece.now) c.in-Err-feed.refusal (returns-in-Err-feed-clause-read c p limit before h) ne
@@ -42,14 +44,4 @@ returns-in-Err-feed-clause-header c = λ p limit before h few. not_in_header p l
 
 pub returns-in-Ok-feed-clause-so_far : goal.returns-in-Ok-feed-clause-so_far
 returns-in-Ok-feed-clause-so_far c = λ p limit before h.
-    let a = subst (λ (s : Result (Decoder Checker) Refusal). StateRead s p limit before) c.in-Ok.is h in
-    let s = c.in-Ok-feed.ensures.so_far (setting p limit) before a in
-    record {
-      marks = s.marks;
-      front = s.front;
-      alone = s.alone;
-      begins = s.begins;
-      held = c.feed.new.self.sink;
-      taken = s.taken;
-      kept = ap (λ n. n + entries_of c.feed.new.self.sink) s.name;
-    }
+    keeps_ok _ p limit (before ++ c.args.piece.now) c.feed.new.self refl (returns-in-Ok-feed-clause-read c p limit before h)
