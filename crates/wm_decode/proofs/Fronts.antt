@@ -104,7 +104,7 @@ module _ (p : Profile) where
       some_then (Sized loose (suc more) (Within loose p of left q y)) (Later loose p (id_of of) functions) (some_sized (suc more) (Within loose p of left q y) (some_within of left (suc more) q y h.2)) (some_later (id_of of) functions)
   some_machine (machine.Refused w) y h live = absurd (live tt)
 
-  length_marks : (b : List ℕ) (s : State) → length b ≡ length (marks p s b)
+  pub length_marks : (b : List ℕ) (s : State) → length b ≡ length (marks p s b)
   length_marks [] s = refl
   length_marks (c ∷ b) s = ap suc (length_marks b (after_byte p s c))
 

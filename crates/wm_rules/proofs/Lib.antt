@@ -21,5 +21,6 @@ pub mod Calm
 pub mod Entries
 pub mod Moments
 pub mod Keeping
+pub mod Figures
 pub mod SourceLemmas
 pub mod Joins

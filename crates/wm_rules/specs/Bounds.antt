@@ -44,3 +44,5 @@ figures s = record { moves = s.moves; operands = s.operands; controls = s.contro
 -- bodies; and bounds by the longest code entry.
 pub record SummaryOf (p : Profile) (limit : ℕ) (input : List ℕ) (s : Summary) : Type 0 where
   pub functions : (a : Accepted p limit input) → s.functions ≡ length a.module_value.functions
+  pub controls : (a : Accepted p limit input) → s.controls ≡ deepest a.module_value.functions
+  pub bounds : (items : Marks) → Items p input items → FiguresWithin (longest_entry items) (figures s)
