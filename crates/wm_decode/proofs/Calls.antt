@@ -1,5 +1,5 @@
 -- What the calls of a decoder say of all that it was fed.
-use Rattle.std.proofs.Common.{◌≡◌, ◌≢◌, ℕ, zero, suc, ◌+◌, ◌<◌, ◌≤◌, ◌^◌, List, [], ◌∷◌, ◌++◌, Option, Some, None, Result, Ok, Err, IsOk, IfOk, IfErr, OnOk, MatchResult, length, refl, sym, ◌∙◌, ap, subst, inl, inr, ◌⊎◌, arith, take, get_or}
+use Rattle.std.proofs.Common.{◌≡◌, ◌≢◌, ℕ, zero, suc, ◌+◌, ◌<◌, ◌≤◌, ◌^◌, List, [], ◌∷◌, ◌++◌, Option, Some, None, Result, Ok, Err, IsOk, IfOk, IfErr, OnOk, MatchResult, length, refl, sym, ◌∙◌, ap, subst, inl, inr, ◌⊎◌, arith, take, get_or, length-append}
 use Rattle.wm_syntax.specs.declared.why.Why.{Why}
 use Rattle.wm_syntax.specs.declared.why.Why.TheVariants as why
 use Rattle.wm_syntax.specs.Spelling.{AreBytes}
@@ -23,10 +23,6 @@ use Rattle.wm_decode.proofs.Floats.{ends_in_float}
 is_memory : (w : Why) → (w ≡ why.Memory) ⊎ (w ≡ why.Memory → ⊥)
 is_memory why.Memory = inl refl
 is_memory w = inr (λ e. cc)
-
-length-append : (a b : List ℕ) → length (a ++ b) ≡ length a + length b
-length-append [] b = omega arith
-length-append (c ∷ a) b = let e : length (a ++ b) ≡ length a + length b = length-append a b in omega arith
 
 -- why an input is refused at its end
 abbrev AtEnd : Why → Type 0

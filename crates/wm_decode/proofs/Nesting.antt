@@ -14,7 +14,7 @@ use Rattle.wm_syntax.specs.Instructions.{Instructions, SpellsExpression, SpellsO
 use Rattle.wm_syntax.specs.Modules.{Function, Module, constant, constant_body}
 use Rattle.wm_syntax.specs.Profiles.{HasSimple, HasInstructions, IsOpOf, IsOf}
 use Rattle.wm_syntax.proofs.Flat.{each_append, each_one, each_split, each_only, ops_of_instructions, spelled_by_ops}
-use Rattle.wm_syntax.proofs.ProfileLaws.{by_ops}
+use Rattle.wm_syntax.proofs.ProfileLaws.{all_append, all_front, by_ops}
 use Rattle.wm_decode.specs.Sections.{ListSection, StartSection, Customs, header, SpellsImport, SpellsConst, SpellsGlobal, SpellsExport, SpellsElement, SpellsCode, SpellsSegment, SpellsModule}
 use Rattle.wm_decode.specs.Flat.{FlatModule, SpellsOps, SpellsFlatGlobal, SpellsFlatElement, SpellsFlatCode, SpellsFlatSegment, InOrder, flat_sections, SpellsFlat, constant_ops, IsIndexOf, IsCodeOf, IsGlobalOf, IsElementOf, IsSegmentOf, IsFlatOf}
 use Rattle.wm_decode.proofs.ExpressionOps.{is_expression}
@@ -104,16 +104,6 @@ nests_next n m = record {
 
 nests_end : Nests {X = Unit {0}} {Y = Unit {0}} Always (λ x. Customs) (λ y. Customs) (λ x y. Unit {0})
 nests_end = record { to = λ x b g h. (tt, tt, h); from = λ x y b r h. (tt, h) }
-
--- what holds of two lists holds of the two joined, and the other way round
-module _ {X : Type 0} (P : X → Type 0) where
-  all_append : (xs ys : List X) → AllByRecursion P xs → AllByRecursion P ys → AllByRecursion P (xs ++ ys)
-  all_append [] ys h k = k
-  all_append (x ∷ xs) ys h k = (h.0, all_append xs ys h.1 k)
-
-  all_front : (xs ys : List X) → AllByRecursion P (xs ++ ys) → AllByRecursion P xs
-  all_front [] ys h = tt
-  all_front (x ∷ xs) ys h = (h.0, all_front xs ys h.1)
 
 -- the ops of a list of instructions, and its end
 abbrev HasAllOps : Instructions → Form Op

@@ -9,6 +9,7 @@ use Rattle.wm_syntax.specs.declared.modules.ImportDesc.TheVariants as desc
 use Rattle.wm_syntax.specs.declared.why.Why.{Why}
 use Rattle.wm_syntax.specs.declared.why.Why.TheVariants as why
 use Rattle.wm_syntax.specs.Types.{Signature}
+use Rattle.wm_syntax.proofs.ProfileLaws.{all_append}
 use Rattle.wm_decode.specs.Parts.{Part, new_type, param, result_count, one_result, import_module, import_name, import_desc, function, table, memory, global, const_op, export_name, export, start, element, element_function, body, locals, body_op, segment, data_byte}
 use Rattle.wm_decode.specs.Sinks.{and_then}
 use Rattle.wm_rules.specs.declared.constants.Constant.{Constant}
@@ -32,10 +33,6 @@ IsOutside _ = Unit {0}
 
 abbrev One : List Signature → Type 0
 One types = AllByRecursion (λ f. length f.results ≤ 1) types
-
-one_more : (fs : List Signature) (f : Signature) → length f.results ≤ 1 → One fs → One (fs ++ f ∷ [])
-one_more [] f n h = (n, tt)
-one_more (g ∷ fs) f n h = (h.0, one_more fs f n h.1)
 
 last_one : (k : Signature → Result Signature Why) → ((x y : Signature) → length x.results ≤ 1 → k x ≡ Ok y → length y.results ≤ 1)
     → (xs ys : List Signature) → on_last k xs ≡ Ok ys → One xs → One ys
@@ -124,7 +121,7 @@ begun_calm t sees h = record { body = refl; in_body = refl; most = refl; one = �
 
 pub part_calm : (h g : Held) (x : Part) → IsOutside x → after h x ≡ Ok g → Calm h g
 part_calm h g new_type i e = spaces_calm h g (type_begun h.spaces) (λ z q o. let is : record h.spaces { types = h.spaces.types ++ record { params = []; results = [] } ∷ [] } ≡ z = cc in
-    subst (λ (y : IndexSpaces). One y.types) is (one_more h.spaces.types (record { params = []; results = [] }) (omega arith) o)) e
+    subst (λ (y : IndexSpaces). One y.types) is (all_append (λ (f : Signature). length f.results ≤ 1) h.spaces.types (record { params = []; results = [] } ∷ []) o (omega arith, tt))) e
 part_calm h g (param t) i e = spaces_calm h g (param_added t h.spaces) (types_one (one_param_more t) h.spaces (param_one t)) e
 part_calm h g (result_count n) i e = where_calm h g _ e
 part_calm h g (one_result t) i e = spaces_calm h g (result_added t h.spaces) (types_one (one_result_more t) h.spaces (result_one t)) e

@@ -5,6 +5,7 @@ use Rattle.std.specs.List.{AllByRecursion}
 use Rattle.std.proofs.lemmas.List.{length-map}
 use Rattle.wm_syntax.specs.declared.profile.Profile.{Profile}
 use Rattle.wm_syntax.specs.Types.{SpellsU32}
+use Rattle.wm_syntax.proofs.ProfileLaws.{all_append, all_front}
 use Rattle.wm_decode.specs.Fronts.{IsFront, entry_more, entry_after, entry_bytes}
 use Rattle.wm_decode.specs.Grammar.{Code, IsExpression, Items, loose, strict}
 use Rattle.wm_decode.specs.Parts.{Part, Zone, outside, name, entry, closing, Mark, Marks, body, locals, body_op, with_part, parts_of}
@@ -169,13 +170,9 @@ module _ (top : ℕ) where
             one = c.one i.one;
           }) s.2
 
-  quiet_front : (j l : Marks) → Quiet (j ++ l) → Quiet j
-  quiet_front [] l h = tt
-  quiet_front (m ∷ j) l h = (h.0, quiet_front j l h.1)
-
   quiet_fine : (k : Marks) → Quiet k → Fine top k
   quiet_fine k q = record {
-    along = λ j l e few h g i t. idle_at_hand top (entry_bytes j) g (quiet_parts j h g (quiet_front j l (subst Quiet e q)) i t);
+    along = λ j l e few h g i t. idle_at_hand top (entry_bytes j) g (quiet_parts j h g (all_front IsQuiet j l (subst Quiet e q)) i t);
     whole = λ few h g i t. quiet_parts k h g q i t;
     done = quiet_bytes k q;
   }
@@ -210,13 +207,9 @@ module _ (top : ℕ) where
   quiet_naming x c [] o = ((refl, o), tt)
   quiet_naming x c (d ∷ b) o = ((refl, none_outside), quiet_naming x d b o)
 
-  quiet_both : (j k : Marks) → Quiet j → Quiet k → Quiet (j ++ k)
-  quiet_both [] k q r = r
-  quiet_both (m ∷ j) k q r = (q.0, quiet_both j k q.1 r)
-
   quiet_name : (x : Option Part) (front text : List ℕ) → ((y : Part) → x ≡ Some y → IsOutside y) → Quiet (name_marks x front text)
   quiet_name x front [] o = quiet_ending x front o
-  quiet_name x front (c ∷ text) o = quiet_both (ending None front) (naming x (c ∷ text)) (quiet_ending None front none_outside) (quiet_naming x c text o)
+  quiet_name x front (c ∷ text) o = all_append IsQuiet (ending None front) (naming x (c ∷ text)) (quiet_ending None front none_outside) (quiet_naming x c text o)
 
   -- the size of a code entry, and the entry
   module _ (front : List ℕ) (inner : Marks) (runs : List (ℕ × ValType)) (ops : List Op) (some : HasByte front) (i : IsExpression ops) (inside : parts_of inner ≡ map run_part runs ++ map body_op ops) where

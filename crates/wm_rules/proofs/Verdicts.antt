@@ -1,5 +1,5 @@
 -- What is true after a refusal, and of a decoder over a checker.
-use Rattle.std.proofs.Common.{◌≡◌, ◌≢◌, ℕ, ◌+◌, ◌<◌, ◌≤◌, List, [], ◌∷◌, ◌++◌, Some, Result, Ok, Err, IfErr, IfOk, length, refl, sym, ◌∙◌, ap, subst, inl, inr, arith, append-nil}
+use Rattle.std.proofs.Common.{◌≡◌, ◌≢◌, ℕ, ◌+◌, ◌<◌, ◌≤◌, List, [], ◌∷◌, ◌++◌, Some, Result, Ok, Err, IfErr, IfOk, length, refl, sym, ◌∙◌, ap, subst, inl, inr, arith, append-nil, length-append}
 use Rattle.wm_syntax.specs.declared.profile.Profile.{Profile}
 use Rattle.wm_syntax.specs.declared.why.Why.TheVariants as why
 use Rattle.wm_syntax.specs.Spelling.{AreBytes}
@@ -17,10 +17,6 @@ use Rattle.wm_rules.specs.Checking.{Held, after, empty}
 use Rattle.wm_rules.specs.Validation.{Accepted}
 use Rattle.wm_rules.specs.Validating.{RefusedAfter, NeverAccepted, setting, verdict}
 use Rattle.wm_rules.proofs.Judged.{accepted_takes}
-
-length-append : (a b : List ℕ) → length (a ++ b) ≡ length a + length b
-length-append [] b = omega arith
-length-append (c ∷ a) b = let e : length (a ++ b) ≡ length a + length b = length-append a b in omega arith
 
 -- a fact of a result, carried on
 pub on_err : {A E : Type 0} {P Q : E → Type 0} (r : Result A E) → ((e : E) → P e → Q e) → IfErr r P → IfErr r Q

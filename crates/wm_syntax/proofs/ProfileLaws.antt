@@ -35,15 +35,15 @@ op_of_two _ h = tt
 
 -- a fact of each member of a joined list
 module _ {X : Type 0} (P : X → Type 0) where
-  all_append : (xs ys : List X) → AllByRecursion P xs → AllByRecursion P ys → AllByRecursion P (xs ++ ys)
+  pub all_append : (xs ys : List X) → AllByRecursion P xs → AllByRecursion P ys → AllByRecursion P (xs ++ ys)
   all_append [] ys h k = k
   all_append (x ∷ xs) ys h k = (h.0, all_append xs ys h.1 k)
 
-  all_front : (xs ys : List X) → AllByRecursion P (xs ++ ys) → AllByRecursion P xs
+  pub all_front : (xs ys : List X) → AllByRecursion P (xs ++ ys) → AllByRecursion P xs
   all_front [] ys h = tt
   all_front (x ∷ xs) ys h = (h.0, all_front xs ys h.1)
 
-  all_back : (xs ys : List X) → AllByRecursion P (xs ++ ys) → AllByRecursion P ys
+  pub all_back : (xs ys : List X) → AllByRecursion P (xs ++ ys) → AllByRecursion P ys
   all_back [] ys h = h
   all_back (x ∷ xs) ys h = all_back xs ys h.1
 

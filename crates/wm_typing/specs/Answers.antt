@@ -18,10 +18,6 @@ abbrev pub IsFound : {A : Type 0} → Option A → Why → Result A Why → Type
 IsFound o why (Ok a) = o ≡ Some a
 IsFound o why (Err w) = (o ≡ None) × (w ≡ why)
 
-abbrev pub NoMemory : {A : Type 0} → Result A Why → Type 0
-NoMemory (Ok a) = Unit {0}
-NoMemory (Err why) = why ≡ Memory → ⊥
-
 -- memory is refused only where a stack has used up what it keeps in itself
 abbrev pub Room : {A : Type 0} → Stack → Result A Why → Type 0
 Room s (Ok a) = Unit {0}

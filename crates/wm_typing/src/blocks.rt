@@ -1,8 +1,8 @@
 //! What the ops that open, divide and close lists of instructions do.
 
 ghost use Rattle.std.specs.Prelude.{◌≡◌, ◌+◌, ◌<◌, ◌≤◌, ◌^◌, length, option_to_list};
-ghost use Rattle.wm_stacks.specs.Stack.{height_sum};
-ghost use Rattle.wm_typing.specs.Answers.{Closes, Does, NoMemory, Room, weight};
+ghost use Rattle.wm_stacks.specs.Stack.{NoMemory, height_sum};
+ghost use Rattle.wm_typing.specs.Answers.{Closes, Does, Room, weight};
 ghost use Rattle.wm_typing.specs.Exact.{drive_count, drive_else, drive_end, drive_if};
 
 use crate::operands::push_result;
