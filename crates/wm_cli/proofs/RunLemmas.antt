@@ -1,44 +1,39 @@
--- A refusal of an input is an outcome of `check`.
-use Rattle.std.proofs.Common.{◌≢◌, ℕ, List, [], ◌∷◌, ◌++◌, Option, Some, None, Ok, Err, IfSome, inl, inr, refl, codes, ◌≤◌, ◌≡◌, ◌+◌, length, length-append, arith}
+-- A refusal of an input is an outcome of each action.
+use Rattle.std.proofs.Common.{◌≢◌, ℕ, List, [], ◌∷◌, ◌++◌, Option, Some, None, Err, IfSome, inl, inr, refl, codes, ◌≤◌, ◌≡◌, ◌+◌, length, length-append, arith}
 use Rattle.std.specs.Prelude.{decimal}
 use Rattle.wm_syntax.specs.declared.profile.Profile.{Profile}
 use Rattle.wm_syntax.specs.declared.why.Why.TheVariants.{Memory}
 use Rattle.wm_decode.specs.declared.refusal.Refusal.{Refusal}
 use Rattle.wm_rules.specs.declared.reading.Fault.TheVariants.{Refused}
 use Rattle.wm_cli.specs.declared.status.Status.TheVariants as status
+use Rattle.wm_cli.specs.declared.words.Action.{Action}
 use Rattle.wm_rules.specs.Reading.{Judges}
-use Rattle.wm_cli.specs.Outcome.{Answers, OutOfCheck, refusal_line, valid_line}
+use Rattle.wm_cli.specs.Outcome.{Answers, OutOf, refusal_line}
 use Rattle.wm_rules.specs.Validation.{Accepted}
 use Rattle.wm_rules.specs.Validating.{NeverAccepted}
-use Rattle.wm_rules.specs.declared.checker.Summary.{Summary}
 
-refused_out : (p : Profile) (limit : ℕ) (input : List ℕ) (r : Refusal) → r.why ≢ Memory → (Accepted p limit input → ⊥) → r.at ≤ length input
-    → OutOfCheck p limit input (refusal_line r.at r.why) status.Refused
-refused_out p limit input r why none place = inr (none, (r.at, r.why, why, place, refl), refl)
+refused_out : (action : Action) (p : Profile) (limit : ℕ) (input : List ℕ) (r : Refusal) → r.why ≢ Memory → (Accepted p limit input → ⊥) → r.at ≤ length input
+    → OutOf action p limit input (refusal_line r.at r.why) status.Refused
+refused_out action p limit input r why none place = inr (none, (r.at, r.why, why, place, refl), refl)
 
-early_out : (p : Profile) (limit : ℕ) (input : List ℕ) (left : Option (List ℕ)) (r : Refusal) → r.why ≢ Memory → NeverAccepted p limit input r
-    → Answers p limit input left (refusal_line r.at r.why) status.Refused
-early_out p limit input left r why n = inr (
+early_out : (action : Action) (p : Profile) (limit : ℕ) (input : List ℕ) (left : Option (List ℕ)) (r : Refusal) → r.why ≢ Memory → NeverAccepted p limit input r
+    → Answers action p limit input left (refusal_line r.at r.why) status.Refused
+early_out action p limit input left r why n = inr (
   n.used,
   n.rest,
   n.whole,
   λ more.
-      refused_out p limit (n.used ++ more) r why (n.never more) (let e : length (n.used ++ more) ≡ length n.used + length more = length-append n.used more in omega (arith, e, n.at)),
+      refused_out action p limit (n.used ++ more) r why (n.never more) (let e : length (n.used ++ more) ≡ length n.used + length more = length-append n.used more in omega (arith, e, n.at)),
 )
 
-pub out_of_refusal : (p : Profile) (limit : ℕ) (all left : Option (List ℕ)) (r : Refusal) → r.why ≢ Memory → Judges p limit all left (Err (Refused r))
-    → IfSome all (λ input. Answers p limit input left (refusal_line r.at r.why) status.Refused)
-out_of_refusal p limit None left r why j = tt
-out_of_refusal p limit (Some input) left r why j =
+pub out_of_refusal : (action : Action) (p : Profile) (limit : ℕ) (all left : Option (List ℕ)) (r : Refusal) → r.why ≢ Memory → Judges p limit all left (Err (Refused r))
+    → IfSome all (λ input. Answers action p limit input left (refusal_line r.at r.why) status.Refused)
+out_of_refusal action p limit None left r why j = tt
+out_of_refusal action p limit (Some input) left r why j =
     elim (j.0 why) [
-      | inl n ↦ early_out p limit input left r why n
-      | inr e ↦ inl (e.0, refused_out p limit input r why e.1 j.1)
+      | inl n ↦ early_out action p limit input left r why n
+      | inr e ↦ inl (e.0, refused_out action p limit input r why e.1 j.1)
     ]
-
-pub out_of_valid : (p : Profile) (limit : ℕ) (all left : Option (List ℕ)) (s : Summary) → Judges p limit all left (Ok s)
-    → IfSome all (λ input. Answers p limit input left valid_line status.Done)
-out_of_valid p limit None left s j = tt
-out_of_valid p limit (Some input) left s j = inl (j.0, inl (j.1, refl, refl))
 
 -- the line of a refusal, by the text of its name
 abbrev pub line_with : ℕ → List ℕ → List ℕ

@@ -5,7 +5,7 @@ use Rattle.std.specs.String.{string_bytes}
 use Rattle.clap.specs.Words.{App, Rule, Text, HasKind, fault_of, first_of, matches_of, new_app, new_rule, with_rule}
 use Rattle.clap.specs.declared.builder.action.ArgAction.TheVariants.{Set}
 use Rattle.wm_cli.specs.declared.words.Action.{Action}
-use Rattle.wm_cli.specs.declared.words.Action.TheVariants.{Check}
+use Rattle.wm_cli.specs.declared.words.Action.TheVariants.{Check, Stats}
 use Rattle.wm_cli.specs.declared.words.Line.{Line}
 use Rattle.wm_cli.specs.declared.words.LineFault.{LineFault}
 use Rattle.wm_cli.specs.declared.words.LineFault.TheVariants as fault
@@ -29,6 +29,7 @@ wmod = with_rule (with_rule (with_rule (new_app (codes "wmod")) action_rule) lim
 -- the word that names an action
 abbrev pub action_name : Action → Text
 action_name Check = codes "check"
+action_name Stats = codes "stats"
 
 -- the number that decimal digits write, up to 2^62; 2^32 - 1 where no limit is given
 abbrev pub IsLimit : Option Text → ℕ → Type 0

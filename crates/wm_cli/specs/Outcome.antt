@@ -6,33 +6,60 @@ use Rattle.wm_syntax.specs.declared.why.Why.TheVariants.{Memory}
 use Rattle.wm_syntax.specs.Refusals.{name_of}
 use Rattle.wm_cli.specs.declared.status.Status.{Status}
 use Rattle.wm_cli.specs.declared.status.Status.TheVariants.{Done, Refused}
+use Rattle.wm_cli.specs.declared.words.Action.{Action}
+use Rattle.wm_cli.specs.declared.words.Action.TheVariants.{Check, Stats}
 use Rattle.std.specs.Io.KnownBytes.{IsAtEnd}
+use Rattle.wm_rules.specs.declared.checker.Summary.{Summary}
+use Rattle.wm_rules.specs.Bounds.{SummaryOf}
 use Rattle.wm_rules.specs.Validation.{Accepted}
 
 -- the line of a valid input
 abbrev pub valid_line : List ℕ
 valid_line = codes "valid" ++ 10 ∷ []
 
+-- the line of a figure: its name, a space and the number
+abbrev pub figure_line : List ℕ → ℕ → List ℕ
+figure_line name n = name ++ (codes " " ++ (decimal n ++ 10 ∷ []))
+
+-- the five lines of a summary
+abbrev pub stats_text : Summary → List ℕ
+stats_text s =
+    figure_line (codes "functions") s.functions
+    ++ (figure_line (codes "moves") s.moves
+    ++ (figure_line (codes "operands") s.operands
+    ++ (figure_line (codes "controls") s.controls
+    ++ figure_line (codes "probes") s.probes)))
+
 -- the line of a refusal at this place
 abbrev pub refusal_line : ℕ → Why → List ℕ
 refusal_line place why = codes "refused at " ++ (decimal place ++ (codes ": " ++ (name_of why ++ 10 ∷ [])))
 
--- Of `check`: `valid` where the input is accepted, and else one refusal, other than for memory, at a place within it.
-abbrev pub OutOfCheck : Profile → ℕ → List ℕ → List ℕ → Status → Type 0
-OutOfCheck p limit input written status =
-    (Accepted p limit input × (written ≡ valid_line) × (status ≡ Done))
+-- what an action writes for an accepted input: `valid`, or the figures of its summary
+abbrev pub Reports : Action → Profile → ℕ → List ℕ → List ℕ → Type 0
+Reports Check p limit input written = written ≡ valid_line
+Reports Stats p limit input written = (s : Summary) × SummaryOf p limit input s × (written ≡ stats_text s)
+
+-- Of an action: its report where the input is accepted, and else one refusal, other than for memory, at a place within it.
+abbrev pub OutOf : Action → Profile → ℕ → List ℕ → List ℕ → Status → Type 0
+OutOf action p limit input written status =
+    (Accepted p limit input × Reports action p limit input written × (status ≡ Done))
     ⊎ ((Accepted p limit input → ⊥) × ((place : ℕ) × (why : Why) × (why ≢ Memory) × (place ≤ length input) × (written ≡ refusal_line place why))
     × (status ≡ Refused))
 
 -- What was written and answered is right for the input, where all of it was read; else it is right for every input that
 -- begins with what was read.
-abbrev pub Answers : Profile → ℕ → List ℕ → Option (List ℕ) → List ℕ → Status → Type 0
-Answers p limit input left written status =
-    (IsAtEnd left × OutOfCheck p limit input written status)
-    ⊎ ((read rest : List ℕ) × (input ≡ read ++ rest) × ((more : List ℕ) → OutOfCheck p limit (read ++ more) written status))
+abbrev pub Answers : Action → Profile → ℕ → List ℕ → Option (List ℕ) → List ℕ → Status → Type 0
+Answers action p limit input left written status =
+    (IsAtEnd left × OutOf action p limit input written status)
+    ⊎ ((read rest : List ℕ) × (input ≡ read ++ rest) × ((more : List ℕ) → OutOf action p limit (read ++ more) written status))
 
--- one of the lines that `check` writes, and the status that goes with it
-abbrev pub IsOutput : List ℕ → Status → Type 0
-IsOutput written status =
-    ((written ≡ valid_line) × (status ≡ Done))
+-- a text that an action may report
+abbrev pub IsReport : Action → List ℕ → Type 0
+IsReport Check written = written ≡ valid_line
+IsReport Stats written = (s : Summary) × (written ≡ stats_text s)
+
+-- one of the texts that an action writes, and the status that goes with it
+abbrev pub IsOutput : Action → List ℕ → Status → Type 0
+IsOutput action written status =
+    (IsReport action written × (status ≡ Done))
     ⊎ (((place : ℕ) × (why : Why) × (why ≢ Memory) × (written ≡ refusal_line place why)) × (status ≡ Refused))

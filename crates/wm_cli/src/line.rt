@@ -35,6 +35,7 @@ fn action_of(text: &str) -> Option<Action>
 {
     match text {
         "check" => Some(Action::Check),
+        "stats" => Some(Action::Stats),
         _ => None,
     }
 }
@@ -46,7 +47,7 @@ fn command<'a>(alloc: Global) -> Result<Command<'a>, AllocError>
     let action = Arg::new(alloc, "ACTION")
         .required(true)
         .action(ArgAction::Set)
-        .help("check: say whether the input is a valid module");
+        .help("check: say whether the input is a valid module; stats: write its figures");
     let limit = Arg::new(alloc, "limit")
         .long("limit")
         .value_name("N")

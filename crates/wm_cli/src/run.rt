@@ -3,14 +3,14 @@
 ghost use Rattle.std.specs.Prelude.{◌≡◌, ◌≢◌, ◌≤◌, ◌^◌, ◌↔◌, ◌||◌, ℕ, List, IfSome, false, true};
 ghost use Rattle.wm_cli.specs.Answers.{IsAnswered};
 ghost use Rattle.wm_cli.specs.declared.status.Status.{Status};
-ghost use Rattle.wm_cli.specs.Outcome.{Answers, IsOutput, refusal_line};
+ghost use Rattle.wm_cli.specs.Outcome.{Answers, IsOutput, refusal_line, stats_text};
 
 use crate::answer::answer;
 use crate::status::Status;
 use crate::words::Action;
 use std::alloc::Global;
 use wm_decode::Refusal;
-use wm_rules::{Fault, validate_from};
+use wm_rules::{Fault, Summary, validate_from};
 use wm_syntax::io::{Dest, Source};
 use wm_syntax::profile::Profile;
 use wm_syntax::why::Why;
@@ -30,22 +30,47 @@ pub fn run<R: Source, W: Dest>(
     requires limit { limit ≤ 2 ^ 62 }
     // What is to be written for the input is written whole, or, where the writer failed, a beginning of it.
     ensures answered { R.has_failed r.new ≡ false → result ≢ Status.Memory → (text : List ℕ) × (status : Status)
-        × IsOutput text status
-        × IfSome (R.remaining r.old) (λ input. Answers profile limit input (R.remaining r.new) text status)
+        × IsOutput action text status
+        × IfSome (R.remaining r.old) (λ input. Answers action profile limit input (R.remaining r.new) text status)
         × IsAnswered text status (W.contents w.old) (W.contents w.new) (W.has_failed w.new) result }
     ensures reader { R.has_failed r.new ≡ true → (result ≡ Status.Io) × (w.new ≡ w.old) }
     ensures memory { result ≡ Status.Memory → w.new ≡ w.old }
     ensures io { (result ≡ Status.Io) ↔ ((R.has_failed r.new || W.has_failed w.new) ≡ true) }
 {
-    let judged = match action {
-        Action::Check => validate_from(alloc, profile, limit, r),
-    };
-    match judged {
-        Ok(_) => answer(w, b"valid\n", Status::Done),
+    match validate_from(alloc, profile, limit, r) {
+        Ok(summary) => match action {
+            Action::Check => answer(w, b"valid\n", Status::Done),
+            Action::Stats => report(alloc, summary, w),
+        },
         Err(fault) => match fault {
             Fault::Io => Status::Io,
             Fault::Refused(refusal) => refuse(alloc, refusal, w),
         },
+    }
+}
+
+/// Writes the five figures, unless memory was refused.
+fn report<W: Dest>(alloc: Global, summary: Summary, w: &mut W) -> Status
+    requires { W.has_failed w.old ≡ false }
+    ensures answered { result ≢ Status.Memory
+        → IsAnswered (stats_text summary) Status.Done (W.contents w.old) (W.contents w.new) (W.has_failed w.new) result }
+    ensures memory { result ≡ Status.Memory → w.new ≡ w.old }
+    ensures io { (result ≡ Status.Io) ↔ (W.has_failed w.new ≡ true) }
+{
+    let Summary {
+        functions,
+        moves,
+        operands,
+        controls,
+        probes,
+    } = summary;
+    let text = format!(in alloc;
+        "functions {functions}\nmoves {moves}\noperands {operands}\n\
+        controls {controls}\nprobes {probes}\n"
+    );
+    match text {
+        Ok(text) => answer(w, text.as_bytes(), Status::Done),
+        Err(_) => Status::Memory,
     }
 }
 

@@ -1,3 +1,5 @@
+mod modules;
+
 use crate::run::run;
 use crate::status::Status;
 use crate::words::Action;
@@ -31,30 +33,36 @@ impl Read for Pieces<'_> {
     }
 }
 
-/// What `check` writes for an input in pieces of at most `most` bytes, and how it ends.
-fn checked(alloc: Global, input: &[u8], most: usize, limit: u64) -> (Status, Vec<u8>) {
+/// What an action writes for an input in pieces of at most `most` bytes, and how it ends.
+fn output_of(
+    alloc: Global,
+    action: Action,
+    input: &[u8],
+    most: usize,
+    limit: u64,
+) -> (Status, Vec<u8>) {
     let mut source = Input::new(Pieces { rest: input, most });
     let mut dest = Output::new(Vec::new(alloc));
     let limit = limit.min(LIMIT);
-    let status = run(
-        alloc,
-        Action::Check,
-        Profile::One,
-        limit,
-        &mut source,
-        &mut dest,
-    );
+    let status = run(alloc, action, Profile::One, limit, &mut source, &mut dest);
     (status, dest.into_inner())
 }
 
-fn expect(rt: &impl Abort, alloc: Global, input: &[u8], limit: u64, wanted: &str) {
-    let ends = if wanted == "valid\n" {
-        Status::Done
-    } else {
+fn expect_of(
+    rt: &impl Abort,
+    alloc: Global,
+    action: Action,
+    input: &[u8],
+    limit: u64,
+    wanted: &str,
+) {
+    let ends = if wanted.starts_with("refused") {
         Status::Refused
+    } else {
+        Status::Done
     };
     for most in [4096, 1, 7] {
-        let (status, written) = checked(alloc, input, most, limit);
+        let (status, written) = output_of(alloc, action, input, most, limit);
         assert_eq!(rt;
             written.as_slice(),
             wanted.as_bytes(),
@@ -64,11 +72,9 @@ fn expect(rt: &impl Abort, alloc: Global, input: &[u8], limit: u64, wanted: &str
     }
 }
 
-/// The header, and then these bytes.
-fn module(alloc: Global, rest: &[u8]) -> Result<Vec<u8>, Fail> {
-    let mut bytes = HEADER.to_vec(alloc)?;
-    bytes.extend_from_slice(rest)?;
-    Ok(bytes)
+/// Of `check`.
+fn expect(rt: &impl Abort, alloc: Global, input: &[u8], limit: u64, wanted: &str) {
+    expect_of(rt, alloc, Action::Check, input, limit, wanted)
 }
 
 #[test]
@@ -95,164 +101,35 @@ fn headers(rt: HostRuntime) -> Result<(), Fail> {
     Ok(())
 }
 
-#[test]
-fn custom_sections(rt: HostRuntime) -> Result<(), Fail> {
-    let rows: [(&[u8], &str); 4] = [
-        (&[0x00, 0x05, 0x04, 0x6E, 0x61, 0x6D, 0x65], "valid\n"),
-        (&[0x00, 0x02, 0x01, 0xFF], "refused at 12: BadUtf8\n"),
-        (&[0x00, 0x02, 0x02, 0x61], "refused at 12: SectionEnd\n"),
-        (&[0x00, 0x05, 0x01, 0x61, 0xFF, 0x00, 0xFE], "valid\n"),
-    ];
-    for (rest, wanted) in rows {
-        expect(
-            &rt,
-            rt.alloc(),
-            module(rt.alloc(), rest)?.as_slice(),
-            LIMIT,
-            wanted,
-        );
+/// An imported function with 100,000 parameters, and one that calls it 50,000 times after `unreachable`.
+fn wide_calls(alloc: Global) -> Result<Vec<u8>, Fail> {
+    let mut bytes = HEADER.to_vec(alloc)?;
+    bytes.extend_from_slice(&[0x01, 0xA9, 0x8D, 0x06, 0x02, 0x60, 0xA0, 0x8D, 0x06])?;
+    for _ in 0..100_000 {
+        bytes.push(0x7F)?;
     }
-    Ok(())
+    bytes.extend_from_slice(&[0x00, 0x60, 0x00, 0x00])?;
+    bytes.extend_from_slice(&[
+        0x02, 0x05, 0x01, 0x00, 0x00, 0x00, 0x00, 0x03, 0x02, 0x01, 0x01,
+    ])?;
+    bytes.extend_from_slice(&[0x0A, 0xA7, 0x8D, 0x06, 0x01, 0xA3, 0x8D, 0x06, 0x00, 0x00])?;
+    for _ in 0..50_000 {
+        bytes.extend_from_slice(&[0x10, 0x00])?;
+    }
+    bytes.push(0x0B)?;
+    Ok(bytes)
 }
 
 #[test]
-fn type_sections(rt: HostRuntime) -> Result<(), Fail> {
-    let rows: [(&[u8], &str); 13] = [
-        (&[0x01, 0x01, 0x00], "valid\n"),
-        (
-            &[0x01, 0x84, 0x80, 0x80, 0x80, 0x00, 0x01, 0x60, 0x00, 0x00],
-            "valid\n",
-        ),
-        (
-            &[0x01, 0x84, 0x80, 0x80, 0x80, 0x80, 0x00],
-            "refused at 14: BadNumber\n",
-        ),
-        (
-            &[0x01, 0x04, 0x01, 0x60, 0x00],
-            "refused at 13: Truncated\n",
-        ),
-        (
-            &[0x01, 0x05, 0x01, 0x60, 0x00, 0x02, 0x7F],
-            "refused at 14: Arity\n",
-        ),
-        (&[0x01, 0x00], "refused at 10: SectionEnd\n"),
-        (&[0x01, 0x02, 0x00, 0x00], "refused at 11: SectionEnd\n"),
-        (&[0x01, 0x02, 0x01, 0x60], "refused at 12: SectionEnd\n"),
-        (&[0x01, 0x01, 0x00, 0x01], "refused at 12: SectionOrder\n"),
-        (&[0x0C], "refused at 9: SectionId\n"),
-        (&[0x02], "refused at 9: Truncated\n"),
-        (
-            &[0x01, 0x05, 0x01, 0x60, 0x01, 0x7D, 0x00],
-            "refused at 14: Float\n",
-        ),
-        (
-            &[0x01, 0x05, 0x01, 0x60, 0x01, 0x70, 0x00],
-            "refused at 14: BadByte\n",
-        ),
-    ];
-    for (rest, wanted) in rows {
-        expect(
-            &rt,
-            rt.alloc(),
-            module(rt.alloc(), rest)?.as_slice(),
-            LIMIT,
-            wanted,
-        );
-    }
-    Ok(())
-}
-
-/// Whole modules, and what the rules of validation refuse.
-#[test]
-fn other_sections(rt: HostRuntime) -> Result<(), Fail> {
-    let rows: [(&[u8], &str); 16] = [
-        // an imported function
-        (
-            &[
-                0x01, 0x04, 0x01, 0x60, 0x00, 0x00, 0x02, 0x07, 0x01, 0x01, 0x61, 0x01, 0x62, 0x00,
-                0x00,
-            ],
-            "valid\n",
-        ),
-        // the same of no type
-        (
-            &[0x02, 0x05, 0x01, 0x00, 0x00, 0x00, 0x00],
-            "refused at 15: Index\n",
-        ),
-        // a function of the type [] to []
-        (
-            &[
-                0x01, 0x04, 0x01, 0x60, 0x00, 0x00, 0x03, 0x02, 0x01, 0x00, 0x0A, 0x04, 0x01, 0x02,
-                0x00, 0x0B,
-            ],
-            "valid\n",
-        ),
-        // the same with drop
-        (
-            &[
-                0x01, 0x04, 0x01, 0x60, 0x00, 0x00, 0x03, 0x02, 0x01, 0x00, 0x0A, 0x05, 0x01, 0x03,
-                0x00, 0x1A, 0x0B,
-            ],
-            "refused at 24: Arity\n",
-        ),
-        // a memory
-        (&[0x05, 0x03, 0x01, 0x00, 0x01], "valid\n"),
-        // two memories
-        (
-            &[0x05, 0x05, 0x02, 0x00, 0x01, 0x00, 0x01],
-            "refused at 15: Second\n",
-        ),
-        // the start function
-        (&[0x08, 0x01, 0x00], "refused at 11: Index\n"),
-        // a data segment of no memory
-        (
-            &[0x0B, 0x07, 0x01, 0x00, 0x41, 0x00, 0x0B, 0x01, 0x61],
-            "refused at 12: Index\n",
-        ),
-        // a memory, exported twice under one name
-        (
-            &[
-                0x05, 0x03, 0x01, 0x00, 0x01, 0x07, 0x09, 0x02, 0x01, 0x61, 0x02, 0x00, 0x01, 0x61,
-                0x02, 0x00,
-            ],
-            "refused at 22: DuplicateExport\n",
-        ),
-        // a global of which the initialiser gives another type
-        (
-            &[0x06, 0x06, 0x01, 0x7F, 0x00, 0x42, 0x00, 0x0B],
-            "refused at 15: Type\n",
-        ),
-        // empty sections
-        (&[0x02, 0x01, 0x00], "valid\n"),
-        (&[0x03, 0x01, 0x00], "valid\n"),
-        (&[0x0A, 0x01, 0x00], "valid\n"),
-        (
-            &[
-                0x01, 0x01, 0x00, 0x02, 0x01, 0x00, 0x03, 0x01, 0x00, 0x04, 0x01, 0x00, 0x05, 0x01,
-                0x00, 0x06, 0x01, 0x00, 0x07, 0x01, 0x00, 0x09, 0x01, 0x00, 0x0A, 0x01, 0x00, 0x0B,
-                0x01, 0x00,
-            ],
-            "valid\n",
-        ),
-        // an entry for no function
-        (
-            &[0x0A, 0x04, 0x01, 0x02, 0x00, 0x0B],
-            "refused at 11: CodeCount\n",
-        ),
-        (
-            &[0x03, 0x01, 0x00, 0x02, 0x01, 0x00],
-            "refused at 12: SectionOrder\n",
-        ),
-    ];
-    for (rest, wanted) in rows {
-        expect(
-            &rt,
-            rt.alloc(),
-            module(rt.alloc(), rest)?.as_slice(),
-            LIMIT,
-            wanted,
-        );
-    }
+fn figures_of_wide_calls(rt: HostRuntime) -> Result<(), Fail> {
+    expect_of(
+        &rt,
+        rt.alloc(),
+        Action::Stats,
+        wide_calls(rt.alloc())?.as_slice(),
+        LIMIT,
+        "functions 1\nmoves 50002\noperands 0\ncontrols 1\nprobes 0\n",
+    );
     Ok(())
 }
 

@@ -11,6 +11,8 @@ use std::alloc::AllocError;
 pub enum Action {
     /// Say whether it is a valid module.
     Check,
+    /// Write the figures of its bodies, where it is valid.
+    Stats,
 }
 
 /// The words, read.

@@ -2,6 +2,7 @@
 
 ghost use Rattle.std.specs.Prelude.{◌≡◌, ◌≢◌, ◌≤◌, ◌^◌, ℕ, length, take, IfOk, IfErr, Err};
 ghost use Rattle.wm_syntax.specs.declared.why.Why.TheVariants.{Memory};
+ghost use Rattle.wm_rules.specs.Bounds.{SummaryOf};
 ghost use Rattle.wm_rules.specs.Joining.{joined};
 ghost use Rattle.wm_rules.specs.Validating.{AtMoment, HasRead, verdict};
 ghost use Rattle.wm_rules.specs.declared.validator.Validator.{Validator};
@@ -26,7 +27,7 @@ pub fn validate(
 ) -> Result<Summary, Refusal>
     requires { max_bytes ≤ 2 ^ 62 }
     ensures valid { IfOk result (λ _. Accepted profile max_bytes (joined pieces.now)) }
-    ensures functions { IfOk result (λ s. (a : Accepted profile max_bytes (joined pieces.now)) → s.functions ≡ length a.module_value.functions) }
+    ensures summary { IfOk result (λ s. SummaryOf profile max_bytes (joined pieces.now) s) }
     ensures refused { IfErr result (λ r. r.why ≢ Memory → (Accepted profile max_bytes (joined pieces.now) → ⊥)) }
     // The joined bytes alone say which refusal it is.
     ensures same { IfErr result (λ r. r.why ≢ Memory → verdict profile max_bytes (joined pieces.now) ≡ Err r) }

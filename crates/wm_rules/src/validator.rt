@@ -4,6 +4,7 @@ ghost use Rattle.std.specs.Prelude.{◌≡◌, ◌≢◌, ◌≤◌, ◌^◌, �
 ghost use Rattle.wm_syntax.specs.declared.profile.Profile.{Profile};
 ghost use Rattle.wm_syntax.specs.declared.why.Why.TheVariants.{Memory};
 ghost use Rattle.wm_decode.specs.declared.refusal.Refusal.{Refusal};
+ghost use Rattle.wm_rules.specs.Bounds.{SummaryOf};
 ghost use Rattle.wm_rules.specs.Validating.{AtMoment, HasRead, KeepsOf, NeverAccepted, StateRead, kept_in, refusal_in, verdict};
 ghost use Rattle.wm_rules.specs.Kept.{capped};
 ghost use Rattle.wm_rules.specs.Validation.{Accepted};
@@ -25,8 +26,7 @@ pub struct Validator {
 // what the decoder and the checker say of the whole input
 fn end(decoder: Decoder<Checker>) -> Result<Summary, Refusal>
     ensures valid { IfOk result (λ _. (p : Profile) (limit : ℕ) (input : List ℕ) → StateRead (Ok decoder) p limit input → Accepted p limit input) }
-    ensures functions { IfOk result (λ s. (p : Profile) (limit : ℕ) (input : List ℕ) → StateRead (Ok decoder) p limit input
-        → (a : Accepted p limit input) → s.functions ≡ length a.module_value.functions) }
+    ensures summary { IfOk result (λ s. (p : Profile) (limit : ℕ) (input : List ℕ) → StateRead (Ok decoder) p limit input → SummaryOf p limit input s) }
     ensures refused { IfErr result (λ r. r.why ≢ Memory → (p : Profile) (limit : ℕ) (input : List ℕ) → StateRead (Ok decoder) p limit input
         → (Accepted p limit input → ⊥)) }
     ensures same { IfErr result (λ r. r.why ≢ Memory → (p : Profile) (limit : ℕ) (input : List ℕ) → StateRead (Ok decoder) p limit input
@@ -104,9 +104,7 @@ impl Validator {
     pub fn finish(self) -> Result<Summary, Refusal>
         // Valid exactly for accepted inputs, memory aside.
         ensures valid { IfOk result (λ _. (p : Profile) (limit : ℕ) (input : List ℕ) → HasRead self p limit input → Accepted p limit input) }
-        // As many as the module has, imported ones not counted.
-        ensures functions { IfOk result (λ s. (p : Profile) (limit : ℕ) (input : List ℕ) → HasRead self p limit input
-            → (a : Accepted p limit input) → s.functions ≡ length a.module_value.functions) }
+        ensures summary { IfOk result (λ s. (p : Profile) (limit : ℕ) (input : List ℕ) → HasRead self p limit input → SummaryOf p limit input s) }
         ensures refused { IfErr result (λ r. r.why ≢ Memory → (p : Profile) (limit : ℕ) (input : List ℕ) → HasRead self p limit input
             → (Accepted p limit input → ⊥)) }
         ensures same { IfErr result (λ r. r.why ≢ Memory → (p : Profile) (limit : ℕ) (input : List ℕ) → HasRead self p limit input

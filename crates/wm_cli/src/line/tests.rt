@@ -20,8 +20,9 @@ fn words_are_read(rt: HostRuntime) -> Result<(), Fail> {
     assert_eq!(rt; full.file.as_ref().map(|f| f.as_str()), Some("-"));
     let most = line(
         rt.alloc(),
-        &["wmod", "--limit=4611686018427387904", "check"],
+        &["wmod", "--limit=4611686018427387904", "stats"],
     )?;
+    assert_eq!(rt; most.action, Action::Stats);
     assert_eq!(rt; most.limit, 4611686018427387904);
     Ok(())
 }
@@ -66,7 +67,7 @@ fn help_and_fault_texts(rt: HostRuntime) -> Result<(), Fail> {
     let help = "Validates WebAssembly 1.0 modules, floating point left out\n\n\
         Usage: wmod [OPTIONS] <ACTION> [FILE]\n\n\
         Arguments:\n  \
-        <ACTION>  check: say whether the input is a valid module\n  \
+        <ACTION>  check: say whether the input is a valid module; stats: write its figures\n  \
         [FILE]    the file to read; standard input where there is none\n\n\
         Options:\n      \
         --limit <N>  the most bytes that the input may have (4294967295)\n  \

@@ -1,21 +1,25 @@
 use super::Validator;
+use crate::Summary;
+use crate::tests::ADD;
+use std::alloc::Global;
 use std::test::Fail;
 use wm_syntax::profile::Profile;
-
-/// A function that adds two numbers.
-const ADD: [u8; 32] = [
-    0x00, 0x61, 0x73, 0x6D, 0x01, 0x00, 0x00, 0x00, 0x01, 0x07, 0x01, 0x60, 0x02, 0x7F, 0x7F, 0x01,
-    0x7F, 0x03, 0x02, 0x01, 0x00, 0x0A, 0x09, 0x01, 0x07, 0x00, 0x20, 0x00, 0x20, 0x01, 0x6A, 0x0B,
-];
 
 /// A custom section of the name `name`.
 const CUSTOM: [u8; 15] = [
     0x00, 0x61, 0x73, 0x6D, 0x01, 0x00, 0x00, 0x00, 0x00, 0x05, 0x04, 0x6E, 0x61, 0x6D, 0x65,
 ];
 
+/// A memory, and a data segment of four bytes.
+const DATA: [u8; 25] = [
+    0x00, 0x61, 0x73, 0x6D, 0x01, 0x00, 0x00, 0x00, 0x05, 0x03, 0x01, 0x00, 0x01, 0x0B, 0x0A, 0x01,
+    0x00, 0x41, 0x00, 0x0B, 0x04, 0x00, 0xC3, 0xA9, 0x22,
+];
+
 #[test]
 fn kept_after_each_byte(rt: HostRuntime) -> Result<(), Fail> {
-    let rows: [(&[u8], &[u64]); 2] = [
+    let rows: [(&[u8], &[u64]); 3] = [
+        (&DATA, &[0; 25]),
         (
             &ADD,
             &[
@@ -42,4 +46,42 @@ fn nothing_is_kept_after_a_refusal(rt: HostRuntime) {
     assert_eq!(rt; validator.kept(), 4);
     assert!(rt; validator.feed(&[0x01]).is_err());
     assert_eq!(rt; validator.kept(), 0);
+}
+
+/// An imported function with 100,000 parameters, and one that calls it 50,000 times after `unreachable`.
+fn wide_calls(alloc: Global) -> Result<Vec<u8>, Fail> {
+    let mut bytes = ADD[..8].to_vec(alloc)?;
+    bytes.extend_from_slice(&[0x01, 0xA9, 0x8D, 0x06, 0x02, 0x60, 0xA0, 0x8D, 0x06])?;
+    for _ in 0..100_000 {
+        bytes.push(0x7F)?;
+    }
+    bytes.extend_from_slice(&[0x00, 0x60, 0x00, 0x00])?;
+    bytes.extend_from_slice(&[
+        0x02, 0x05, 0x01, 0x00, 0x00, 0x00, 0x00, 0x03, 0x02, 0x01, 0x01,
+    ])?;
+    bytes.extend_from_slice(&[0x0A, 0xA7, 0x8D, 0x06, 0x01, 0xA3, 0x8D, 0x06, 0x00, 0x00])?;
+    for _ in 0..50_000 {
+        bytes.extend_from_slice(&[0x10, 0x00])?;
+    }
+    bytes.push(0x0B)?;
+    Ok(bytes)
+}
+
+#[test]
+fn kept_of_wide_calls(rt: HostRuntime) -> Result<(), Fail> {
+    let bytes = wide_calls(rt.alloc())?;
+    let mut validator = Validator::new(rt.alloc(), Profile::One, 4294967295);
+    for piece in bytes.as_slice().chunks(4096) {
+        assert_eq!(rt; validator.feed(piece), Ok(()));
+        assert!(rt; validator.kept() <= 100_005);
+    }
+    let figures = Summary {
+        functions: 1,
+        moves: 50_002,
+        operands: 0,
+        controls: 1,
+        probes: 0,
+    };
+    assert_eq!(rt; validator.finish(), Ok(figures));
+    Ok(())
 }

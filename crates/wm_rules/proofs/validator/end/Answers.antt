@@ -1,7 +1,9 @@
-use Rattle.std.proofs.Common.{ap, ◌∙◌}
+use Rattle.std.proofs.Common.{◌≤◌, ◌^◌, ap, subst}
 use Rattle.wm_rules.specs.declared.checker.Summary.{Summary}
+use Rattle.wm_rules.specs.Bounds.{figures}
 use Rattle.wm_rules.specs.Validating.{setting}
-use Rattle.wm_rules.proofs.Judged.{takes_accepted, accepted_takes, functions_counted}
+use Rattle.wm_rules.proofs.Figures.{summary_of}
+use Rattle.wm_rules.proofs.Judged.{takes_accepted, accepted_takes}
 use Rattle.wm_rules.proofs.validator.end.Goals as goal
 
 pub returns-in-Ok-clause-valid : goal.returns-in-Ok-clause-valid
@@ -19,5 +21,7 @@ returns-in-Err-clause-place c = λ p limit input h. c.in-Err.ensures.place (sett
 pub returns-in-Err-clause-header : goal.returns-in-Err-clause-header
 returns-in-Err-clause-header c = λ p limit input h few. c.in-Err.ensures.header (setting p limit) input h.0 few
 
-pub returns-in-Ok-clause-functions : goal.returns-in-Ok-clause-functions
-returns-in-Ok-clause-functions c = λ p limit input h a. ap (λ (s : Summary). s.functions) c.summary.ensures ∙ functions_counted p limit input _ (c.in-Ok.ensures.ok (setting p limit) input h.0) a
+pub returns-in-Ok-clause-summary : goal.returns-in-Ok-clause-summary
+returns-in-Ok-clause-summary c = λ p limit input h.
+    let low = subst (λ n. n ≤ 2 ^ 62) h.0.limit c.args.decoder.in_range in
+    summary_of p limit input _ low (c.in-Ok.ensures.ok (setting p limit) input h.0) _ (ap (λ (s : Summary). s.functions) c.summary.ensures) (ap figures c.summary.ensures)

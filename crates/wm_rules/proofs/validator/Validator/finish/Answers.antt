@@ -21,5 +21,5 @@ returns-in-Err-clause-refused c = λ ne p limit input h a. not_accepted p limit 
 pub returns-in-Err-clause-header : goal.returns-in-Err-clause-header
 returns-in-Err-clause-header c = λ p limit input h few m. not_in_header p limit input c.in-Err.refusal (subst (λ (s : Result (Decoder Checker) Refusal). StateRead s p limit input) c.in-Err.is h) few m
 
-pub returns-in-Ok-clause-functions : goal.returns-in-Ok-clause-functions
-returns-in-Ok-clause-functions c = on_ok c.end.result (λ x f p limit input h. f p limit input (subst (λ (d : Decoder Checker). StateRead (Ok d) p limit input) (sym c.in-Ok.decoder-is) (subst (λ (s : Result (Decoder Checker) Refusal). StateRead s p limit input) c.in-Ok.is h))) c.end.ensures.functions
+pub returns-in-Ok-clause-summary : goal.returns-in-Ok-clause-summary
+returns-in-Ok-clause-summary c = on_ok c.end.result (λ x f p limit input h. f p limit input (subst (λ (d : Decoder Checker). StateRead (Ok d) p limit input) (sym c.in-Ok.decoder-is) (subst (λ (s : Result (Decoder Checker) Refusal). StateRead s p limit input) c.in-Ok.is h))) c.end.ensures.summary
