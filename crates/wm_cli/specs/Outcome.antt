@@ -1,5 +1,5 @@
 -- What the program may write for an input, and how it may end.
-use Rattle.std.specs.Prelude.{◌≡◌, ◌≢◌, ◌≤◌, ◌⊎◌, ℕ, List, [], ◌∷◌, ◌++◌, Option, codes, decimal, length}
+use Rattle.std.specs.Prelude.{◌≡◌, ◌≢◌, ◌≤◌, ◌⊎◌, ℕ, List, [], ◌∷◌, ◌++◌, Option, Ok, Err, codes, decimal, length}
 use Rattle.wm_syntax.specs.declared.profile.Profile.{Profile}
 use Rattle.wm_syntax.specs.declared.why.Why.{Why}
 use Rattle.wm_syntax.specs.declared.why.Why.TheVariants.{Memory}
@@ -11,7 +11,9 @@ use Rattle.wm_cli.specs.declared.words.Action.TheVariants.{Check, Stats}
 use Rattle.std.specs.Io.KnownBytes.{IsAtEnd}
 use Rattle.wm_rules.specs.declared.checker.Summary.{Summary}
 use Rattle.wm_rules.specs.Bounds.{SummaryOf}
+use Rattle.wm_rules.specs.Validating.{verdict}
 use Rattle.wm_rules.specs.Validation.{Accepted}
+use Rattle.wm_decode.specs.declared.refusal.Refusal.{Refusal}
 
 -- the line of a valid input
 abbrev pub valid_line : List ℕ
@@ -34,16 +36,19 @@ stats_text s =
 abbrev pub refusal_line : ℕ → Why → List ℕ
 refusal_line place why = codes "refused at " ++ (decimal place ++ (codes ": " ++ (name_of why ++ 10 ∷ [])))
 
--- what an action writes for an accepted input: `valid`, or the figures of its summary
+-- what an action writes for an accepted input: `valid`, or the figures of its summary, which the bytes alone determine
 abbrev pub Reports : Action → Profile → ℕ → List ℕ → List ℕ → Type 0
 Reports Check p limit input written = written ≡ valid_line
-Reports Stats p limit input written = (s : Summary) × SummaryOf p limit input s × (written ≡ stats_text s)
+Reports Stats p limit input written =
+    (s : Summary) × SummaryOf p limit input s × (verdict p limit input ≡ Ok s) × (written ≡ stats_text s)
 
--- Of an action: its report where the input is accepted, and else one refusal, other than for memory, at a place within it.
+-- Of an action: its report where the input is accepted, and else one refusal, other than for memory, at a place within it,
+-- which the bytes alone determine.
 abbrev pub OutOf : Action → Profile → ℕ → List ℕ → List ℕ → Status → Type 0
 OutOf action p limit input written status =
     (Accepted p limit input × Reports action p limit input written × (status ≡ Done))
-    ⊎ ((Accepted p limit input → ⊥) × ((place : ℕ) × (why : Why) × (why ≢ Memory) × (place ≤ length input) × (written ≡ refusal_line place why))
+    ⊎ ((Accepted p limit input → ⊥)
+    × ((r : Refusal) × (r.why ≢ Memory) × (r.at ≤ length input) × (verdict p limit input ≡ Err r) × (written ≡ refusal_line r.at r.why))
     × (status ≡ Refused))
 
 -- What was written and answered is right for the input, where all of it was read; else it is right for every input that

@@ -10,12 +10,13 @@ use crate::status::Status;
 use crate::words::Action;
 use std::alloc::Global;
 use wm_decode::Refusal;
-use wm_rules::{Fault, Summary, validate_from};
+use wm_rules::{FromFault, Summary, validate_from};
 use wm_syntax::io::{Dest, Source};
 use wm_syntax::profile::Profile;
 use wm_syntax::why::Why;
 
-/// Reads all of the input, does what the action says, and writes the answer, a refusal too. Where memory was
+/// Reads the input to its end, or to where it is refused, does what the action says, and writes the answer, a
+/// refusal too. Where memory was
 /// refused or the reader failed nothing is written.
 pub fn run<R: Source, W: Dest>(
     alloc: Global,
@@ -37,14 +38,14 @@ pub fn run<R: Source, W: Dest>(
     ensures memory { result ≡ Status.Memory → w.new ≡ w.old }
     ensures io { (result ≡ Status.Io) ↔ ((R.has_failed r.new || W.has_failed w.new) ≡ true) }
 {
-    match validate_from(alloc, profile, limit, r) {
+    match validate_from(alloc, r, profile, limit) {
         Ok(summary) => match action {
             Action::Check => answer(w, b"valid\n", Status::Done),
             Action::Stats => report(alloc, summary, w),
         },
         Err(fault) => match fault {
-            Fault::Io => Status::Io,
-            Fault::Refused(refusal) => refuse(alloc, refusal, w),
+            FromFault::Io => Status::Io,
+            FromFault::Refused(refusal) => refuse(alloc, refusal, w),
         },
     }
 }

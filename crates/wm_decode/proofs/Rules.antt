@@ -15,7 +15,7 @@ use Rattle.wm_syntax.specs.Types.{SpellsU32, SpellsList, SpellsBytes, SpellsName
 use Rattle.wm_syntax.specs.Instructions.{SpellsOp}
 use Rattle.wm_syntax.specs.Opcodes.{opcode}
 use Rattle.wm_decode.specs.Sections.{Section as SectionForm, ListSection, StartSection, Customs as CustomForms, SpellsCustom, SpellsDesc, SpellsImport, SpellsExport, SpellsRun, kind_byte, header}
-use Rattle.wm_decode.specs.Parts.{Part, Marks, parts_of, new_type, param, result_count, one_result, import_module, import_name, import_desc, function, table, memory, global, const_op, export_name, export, start, element, element_function, body, locals, body_op, segment, data_byte}
+use Rattle.wm_decode.specs.Parts.{Part, Marks, parts_of, new_type, param, result_count, one_result, import_module, import_name, import_desc, function, table, memory, global, const_op, export_name, export, start, element, element_function, body, body_op, segment, data_byte}
 use Rattle.wm_decode.specs.Shapes.{Shape, Empty, Byte, Literal, Then, Times, Number, Vector, Index, Name, Sized, nothing_at, ending}
 use Rattle.wm_decode.specs.Grammar.{strict, ValueType, FunctionType, Import, EachOp, Expression, Global, Export, Element, Run, Code, DataByte, Segment, Paired, Custom, Customs, MayMiss, Chain, Module}
 use Rattle.wm_decode.specs.Flat.{FlatModule, type_parts, import_parts, global_parts, export_parts, start_parts, element_parts, code_parts, segment_parts, flat_parts, SpellsOps, SpellsFlatGlobal, SpellsFlatElement, SpellsFlatCode, SpellsFlatSegment, InOrder, flat_sections, SpellsFlat}

@@ -1,5 +1,5 @@
 -- A part outside code entries leaves the body at hand and the figures as they are; and no type gets a second result.
-use Rattle.std.proofs.Common.{ℕ, ◌+◌, ◌≡◌, ◌≤◌, List, [], ◌∷◌, ◌++◌, Option, Some, None, Bool, true, false, cond, Result, Ok, Err, length, refl, sym, ◌∙◌, ap, subst, arith, length-append, nat_eq, nat_lt}
+use Rattle.std.proofs.Common.{ℕ, ◌+◌, ◌≡◌, ◌≤◌, List, [], ◌∷◌, ◌++◌, Option, Some, None, Bool, true, false, cond, Result, Ok, Err, length, refl, sym, subst, arith, length-append, nat_eq, nat_lt}
 use Rattle.std.specs.List.{AllByRecursion}
 use Rattle.std.proofs.lemmas.Bool.{eqb-true}
 use Rattle.wm_syntax.specs.declared.types.ValType.{ValType}
@@ -14,7 +14,7 @@ use Rattle.wm_decode.specs.Parts.{Part, new_type, param, result_count, one_resul
 use Rattle.wm_decode.specs.Sinks.{and_then}
 use Rattle.wm_rules.specs.declared.constants.Constant.{Constant}
 use Rattle.wm_rules.specs.Spaces.{IndexSpaces, on_last, one_param_more, one_result_more, type_begun, param_added, result_added, function_added, global_added, table_added, memory_added, import_added, with_types}
-use Rattle.wm_rules.specs.Checking.{Held, after, constant_begun, in_constant, in_names, in_spaces, names_with, where_ok, with_constant}
+use Rattle.wm_rules.specs.Checking.{Held, after, constant_begun, in_constant, in_names, in_spaces, where_ok, with_constant}
 use Rattle.wm_rules.proofs.CodeMembers.{OneResults}
 use Rattle.wm_rules.proofs.Folding.{cond_ok, ok_then}
 

@@ -1,5 +1,5 @@
 -- A code entry part by part: what its body keeps is within the parts so far, and after the last nothing is kept.
-use Rattle.std.proofs.Common.{ℕ, ◌+◌, ◌-◌, ◌*◌, ◌≡◌, ◌≤◌, ◌<◌, ◌^◌, List, [], ◌∷◌, ◌++◌, Option, Some, None, Bool, true, false, Result, Ok, Err, length, replicate, refl, sym, ◌∙◌, ap, subst, append_assoc, append-nil, arith, lit<, map, length-append, inl, inr, ◌⊎◌}
+use Rattle.std.proofs.Common.{ℕ, ◌+◌, ◌-◌, ◌*◌, ◌≡◌, ◌≤◌, ◌<◌, ◌^◌, List, [], ◌∷◌, ◌++◌, Option, Some, None, true, false, Result, Ok, Err, length, replicate, refl, sym, ◌∙◌, ap, subst, append_assoc, append-nil, arith, lit<, map, length-append, inl, inr, ◌⊎◌}
 use Rattle.std.proofs.lemmas.List.{length-map}
 use Rattle.wm_syntax.specs.declared.types.ValType.{ValType}
 use Rattle.wm_syntax.specs.declared.instructions.Op.{Op}
@@ -11,7 +11,7 @@ use Rattle.wm_typing.specs.declared.body_checker.Progress.{Progress}
 use Rattle.wm_typing.specs.declared.body_checker.Progress.TheVariants.{Inside, Ended}
 use Rattle.wm_typing.specs.declared.stats.BodyStats.{BodyStats}
 use Rattle.wm_typing.specs.After.{After}
-use Rattle.wm_typing.specs.Bodies.{Body, Within, kept_of}
+use Rattle.wm_typing.specs.Bodies.{Body, kept_of}
 use Rattle.wm_typing.specs.Contexts.{body_context}
 use Rattle.wm_typing.specs.Typing.{Context}
 use Rattle.wm_typing.specs.ExactBodies.{progress_at}

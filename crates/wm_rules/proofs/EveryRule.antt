@@ -6,10 +6,10 @@ use Rattle.wm_syntax.specs.declared.profile.Profile.{Profile}
 use Rattle.wm_syntax.specs.Types.{SpellsU32}
 use Rattle.wm_syntax.specs.Instructions.{SpellsOp}
 use Rattle.wm_syntax.specs.Spelling.{Form}
-use Rattle.wm_decode.specs.Parts.{Part, new_type, param, result_count, one_result, import_module, import_name, import_desc, function, table, memory, global, const_op, export_name, export, start, element, element_function, body, locals, body_op, segment, data_byte, Marks}
+use Rattle.wm_decode.specs.Parts.{Part, new_type, param, one_result, import_module, import_name, import_desc, function, table, memory, global, const_op, export_name, start, element, element_function, body, locals, body_op, segment, data_byte, Marks}
 use Rattle.wm_decode.specs.Sections.{header}
-use Rattle.wm_decode.specs.Shapes.{Shape, Empty, Byte, Then, Times, Leaf, Number, Vector, Index, Name, Filled, nothing_at, ending, name_marks}
-use Rattle.wm_decode.specs.Grammar.{FunctionType, Import, EachOp, Expression, Global, Target, Export, Element, Code, Segment, Paired, Contents, Section, Custom, Customs, Optional, Chain, Module}
+use Rattle.wm_decode.specs.Shapes.{Shape, Empty, Byte, Then, Times, Leaf, Number, Vector, Index, Name, nothing_at, ending, name_marks}
+use Rattle.wm_decode.specs.Grammar.{FunctionType, Import, EachOp, Expression, Global, Export, Element, Code, Segment, Paired, Contents, Section, Custom, Customs, Optional, Chain, Module}
 
 -- a part that is complete at a byte outside names and code entries, or none
 abbrev pub IsPlain : Option Part → Type 0

@@ -1,12 +1,12 @@
 -- What a validator keeps at any moment.
-use Rattle.std.proofs.Common.{◌≡◌, ℕ, ◌+◌, ◌-◌, ◌*◌, ◌≤◌, ◌<◌, ◌^◌, List, [], ◌∷◌, ◌++◌, Bool, true, false, cond, Option, Some, None, Result, Ok, Err, length, IsOk, refl, sym, ◌∙◌, ap, subst, arith}
+use Rattle.std.proofs.Common.{◌≡◌, ℕ, ◌+◌, ◌-◌, ◌*◌, ◌≤◌, ◌<◌, ◌^◌, List, [], ◌∷◌, Bool, true, false, cond, Option, Some, None, Result, Ok, Err, length, IsOk, inl, inr, refl, sym, ◌∙◌, ap, subst, arith}
 use Rattle.std.specs.Prelude.{MatchOption}
 use Rattle.wm_syntax.specs.declared.profile.Profile.{Profile}
 use Rattle.wm_decode.specs.declared.refusal.Refusal.{Refusal}
 use Rattle.wm_decode.specs.declared.state.Decoder.{Decoder}
-use Rattle.wm_decode.specs.Decoding.{After, has_refused}
-use Rattle.wm_decode.specs.Fronts.{IsFront, SoFar, entry_bytes, inside_bytes, name_in, outside_bytes, unfinished_name}
-use Rattle.wm_decode.specs.Live.{Live, begun, decoded, standing}
+use Rattle.wm_decode.specs.Decoding.{has_refused}
+use Rattle.wm_decode.specs.Fronts.{entry_bytes}
+use Rattle.wm_decode.specs.Live.{Live, begun, standing}
 use Rattle.wm_decode.proofs.Calls.{after_so_far, live_after}
 use Rattle.wm_decode.proofs.Theorem.{reached}
 use Rattle.wm_decode.proofs.Zones.{all_bytes, at_hand}
@@ -14,7 +14,7 @@ use Rattle.wm_rules.specs.declared.checker.Checker.{Checker}
 use Rattle.wm_rules.specs.declared.validator.Validator.{Validator}
 use Rattle.wm_rules.specs.Checking.{Held, after, empty}
 use Rattle.wm_rules.specs.Kept.{entries_of}
-use Rattle.wm_rules.specs.Validating.{AtMoment, HasRead, KeepsOf, KeepsNothing, StateRead, heights_of, kept_in, kept_of, moves_of, refusal_of, setting}
+use Rattle.wm_rules.specs.Validating.{AtMoment, HasRead, KeepsOf, KeepsNothing, StateRead, heights_of, holds_of, kept_in, kept_of, moves_of, refusal_in, refusal_of, setting}
 use Rattle.wm_rules.proofs.Costs.{at_most_kept}
 use Rattle.wm_rules.proofs.Moments.{front_at_hand}
 
@@ -57,6 +57,7 @@ module _ (v : Validator) (p : Profile) (limit : ℕ) (bytes : List ℕ) where
         begins = s.begins;
         held = d.sink;
         taken = s.taken;
+        holds = ap holds_of e;
         kept = kept ∙ ap (λ n. n + entries_of d.sink) s.name;
         at_most = omega (arith, kept, s.name, few, a.kept);
         heights = subst (λ n. n ≤ entry_bytes s.marks + 1) (sym (ap heights_of e)) a.heights;
@@ -77,3 +78,19 @@ module _ (v : Validator) (p : Profile) (limit : ℕ) (bytes : List ℕ) where
       let k = keeps_ok d e h in
       let same : length bytes ≡ length k.marks = k.front.same in
       omega (arith, low, h.0.limit, fits d p limit bytes h, same, k.at_most, all_bytes k.marks, at_hand k.marks)
+
+  -- what it has read without a refusal is within the limit
+  pub within_limit : HasRead v p limit bytes → refusal_in v ≡ None → length bytes ≤ limit
+  within_limit h none = go v.state h none
+    where
+      go : (s : Result (Decoder Checker) Refusal) → StateRead s p limit bytes → refusal_of s ≡ None → length bytes ≤ limit
+      go (Ok d) h none = fits d p limit bytes h
+      go (Err r) h none = absurd (cc)
+
+-- nothing is refused before anything is read
+pub nothing_refused : (v : Validator) (p : Profile) (limit : ℕ) → HasRead v p limit [] → refusal_in v ≡ None
+nothing_refused v p limit h = go v.state h
+  where
+    go : (s : Result (Decoder Checker) Refusal) → StateRead s p limit [] → refusal_of s ≡ None
+    go (Ok d) h = refl
+    go (Err r) h = elim h.stands [ inl e ↦ absurd (cc (e)) | inr m ↦ (let p = h.place in absurd (omega (arith, p, m.1))) ]

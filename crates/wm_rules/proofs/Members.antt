@@ -1,9 +1,8 @@
 -- The parts of a flat value, each list by its members.
 use Rattle.std.proofs.Common.{ℕ, ◌≡◌, List, [], ◌∷◌, ◌++◌, Option, Some, None, refl, ap, map, flat_map, option_to_list}
-use Rattle.wm_syntax.specs.declared.types.ValType.{ValType}
 use Rattle.wm_syntax.specs.declared.types.Limits.{Limits}
 use Rattle.wm_decode.specs.Flat.{FlatModule, type_parts, import_parts, global_parts, export_parts, start_parts, element_parts, code_parts, segment_parts, flat_parts}
-use Rattle.wm_decode.specs.Parts.{Part, function, table, memory, start, locals}
+use Rattle.wm_decode.specs.Parts.{Part, function, table, memory, start}
 
 abbrev pub function_part : ℕ → List Part
 function_part x = function x ∷ []

@@ -1,15 +1,14 @@
 -- At every front of an input: the bytes of the entry at hand pay for what is kept of its body, and between entries
 -- nothing is kept of any.
-use Rattle.std.proofs.Common.{ℕ, zero, suc, ◌+◌, ◌-◌, ◌≡◌, ◌≤◌, ◌<◌, ◌^◌, List, [], ◌∷◌, ◌++◌, Option, Some, None, Ok, length, max, refl, sym, ◌∙◌, ap, subst, append_assoc, append-nil, arith, map, length-append, inl, inr, ◌⊎◌}
+use Rattle.std.proofs.Common.{ℕ, suc, ◌+◌, ◌-◌, ◌≡◌, ◌≤◌, List, [], ◌∷◌, ◌++◌, Option, Some, None, Ok, length, refl, sym, ◌∙◌, ap, subst, append-nil, arith, map, length-append, inl, inr, ◌⊎◌}
 use Rattle.std.specs.List.{AllByRecursion}
 use Rattle.std.proofs.lemmas.List.{length-map}
 use Rattle.wm_syntax.specs.declared.profile.Profile.{Profile}
-use Rattle.wm_syntax.specs.Types.{SpellsU32}
 use Rattle.wm_syntax.proofs.ProfileLaws.{all_append, all_front}
 use Rattle.wm_decode.specs.Fronts.{IsFront, entry_more, entry_after, entry_bytes}
 use Rattle.wm_decode.specs.Grammar.{Code, IsExpression, Items, loose, strict}
 use Rattle.wm_decode.specs.Parts.{Part, Zone, outside, name, entry, closing, Mark, Marks, body, locals, body_op, with_part, parts_of}
-use Rattle.wm_decode.specs.Shapes.{ending, naming, name_marks, entered, said, in_zone}
+use Rattle.wm_decode.specs.Shapes.{ending, naming, name_marks, entered, in_zone}
 use Rattle.wm_decode.specs.Sinks.{all_taken}
 use Rattle.wm_decode.proofs.ReadValues.{HasByte, number_some, parts-append, parts-entered, parts-some}
 use Rattle.wm_decode.proofs.EntryBytes.{run_part}

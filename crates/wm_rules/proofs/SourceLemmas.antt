@@ -5,10 +5,10 @@ use Rattle.std.specs.Io.KnownBytes.{Consumes, IsAtEnd}
 use Rattle.wm_syntax.specs.declared.profile.Profile.{Profile}
 use Rattle.wm_syntax.specs.declared.why.Why.TheVariants.{Memory}
 use Rattle.wm_decode.specs.declared.refusal.Refusal.{Refusal}
-use Rattle.wm_rules.specs.declared.reading.Fault.{Fault}
-use Rattle.wm_rules.specs.declared.reading.Fault.TheVariants.{Refused}
+use Rattle.wm_rules.specs.declared.reading.FromFault.{FromFault}
+use Rattle.wm_rules.specs.declared.reading.FromFault.TheVariants.{Refused}
 use Rattle.wm_rules.specs.declared.checker.Summary.{Summary}
-use Rattle.wm_rules.specs.Validating.{NeverAccepted}
+use Rattle.wm_rules.specs.Validating.{NeverAccepted, verdict}
 use Rattle.wm_rules.specs.Reading.{Judges, JudgesInput}
 
 pub consumes_then : (a b c : Option (List ℕ)) (x y : List ℕ) → Consumes a b x → Consumes b c y → Consumes a c (x ++ y)
@@ -17,7 +17,7 @@ consumes_then (Some xs) None c x y p q = absurd p
 consumes_then (Some xs) (Some ys) None x y p q = absurd q
 consumes_then (Some xs) (Some ys) (Some zs) x y p q = p ∙ ap (λ (l : List ℕ). x ++ l) q ∙ sym (append_assoc x y zs)
 
-pub judged_at_end : (p : Profile) (limit : ℕ) (old new : Option (List ℕ)) (read : List ℕ) (result : Result Summary Fault)
+pub judged_at_end : (p : Profile) (limit : ℕ) (old new : Option (List ℕ)) (read : List ℕ) (result : Result Summary FromFault)
     → Consumes old new read → IsAtEnd new → JudgesInput p limit read new result → Judges p limit old new result
 judged_at_end p limit None new read result c e j = tt
 judged_at_end p limit (Some xs) None read result c e j = absurd c
@@ -32,40 +32,25 @@ never_more p limit read ys xs r e n = record {
   whole = e ∙ ap (λ (l : List ℕ). l ++ ys) n.whole ∙ append_assoc n.used n.rest ys;
   at = n.at;
   never = n.never;
+  same = n.same;
 }
 
 pub judged_refused : (p : Profile) (limit : ℕ) (old new : Option (List ℕ)) (read : List ℕ) (r : Refusal)
-    → Consumes old new read → (r.why ≢ Memory → NeverAccepted p limit read r) → r.at ≤ length read → Judges p limit old new (Err (Refused r))
-judged_refused p limit None new read r c h k = tt
-judged_refused p limit (Some xs) None read r c h k = absurd c
-judged_refused p limit (Some xs) (Some ys) read r c h k = (
-  (λ why. inl (never_more p limit read ys xs r c (h why))),
-  (let e : length xs ≡ length read + length ys = ap length c ∙ length-append read ys in omega arith),
-)
-
--- no input that begins with more bytes than the limit is accepted
-too_long_never : (p : Profile) (limit : ℕ) (xs : List ℕ) (r : Refusal) → limit + 1 ≤ length xs → r.at ≡ limit + 1 → NeverAccepted p limit xs r
-too_long_never p limit xs r h k =
-    let size : length (take (limit + 1) xs) ≡ limit + 1 = (let e : length (take (limit + 1) xs) ≡ min (limit + 1) (length xs) = length-take (limit + 1) xs in omega arith) in record {
-      used = take (limit + 1) xs;
-      rest = drop (limit + 1) xs;
-      whole = sym (take-append-drop (limit + 1) xs);
-      at = k ∙ sym size;
-      never = λ more a. let w : length (take (limit + 1) xs ++ more) ≤ limit = a.spelled.0 in omega (arith, w, size, length-append (take (limit + 1) xs) more);
+    → Consumes old new read → (r.why ≢ Memory → NeverAccepted p limit read r) → (r.why ≢ Memory → (more : List ℕ) → verdict p limit (read ++ more) ≡ Err r)
+    → (length read ≤ 8 → r.why ≢ Memory) → r.at ≤ length read → Judges p limit old new (Err (Refused r))
+judged_refused p limit None new read r c never same header place = tt
+judged_refused p limit (Some xs) None read r c never same header place = absurd c
+judged_refused p limit (Some xs) (Some ys) read r c never same header place =
+    let size : length xs ≡ length read + length ys = ap length c ∙ length-append read ys in
+    record {
+      not_accepted = λ why. inl (never_more p limit read ys xs r c (never why));
+      same = λ why. subst (λ (l : List ℕ). verdict p limit l ≡ Err r) (sym c) (same why ys);
+      header = λ few. header (omega (arith, size, few));
+      place = omega (arith, size, place);
     }
 
-pub judged_too_long : (p : Profile) (limit : ℕ) (old new : Option (List ℕ)) (read : List ℕ) (r : Refusal)
-    → Consumes old new read → limit + 1 ≤ length read → r.at ≡ limit + 1 → Judges p limit old new (Err (Refused r))
-judged_too_long p limit None new read r c h k = tt
-judged_too_long p limit (Some xs) None read r c h k = absurd c
-judged_too_long p limit (Some xs) (Some ys) read r c h k =
-    let e : length xs ≡ length read + length ys = ap length c ∙ length-append read ys in (
-      (λ why. inl (too_long_never p limit xs r (omega arith) k)),
-      omega arith,
-    )
-
 -- a read of nothing ends the input
-pub judged_at_zero : (p : Profile) (limit : ℕ) (old mid new : Option (List ℕ)) (read last : List ℕ) (result : Result Summary Fault)
+pub judged_at_zero : (p : Profile) (limit : ℕ) (old mid new : Option (List ℕ)) (read last : List ℕ) (result : Result Summary FromFault)
     → Consumes old mid read → Consumes mid new last → last ≡ [] → IsAtEnd new → JudgesInput p limit read new result → Judges p limit old new result
 judged_at_zero p limit old mid new read last result c d none e j =
     judged_at_end p limit old new (read ++ last) result (consumes_then old mid new read last c d) e

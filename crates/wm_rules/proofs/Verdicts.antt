@@ -1,5 +1,5 @@
 -- What is true after a refusal, and of a decoder over a checker.
-use Rattle.std.proofs.Common.{◌≡◌, ◌≢◌, ℕ, ◌+◌, ◌<◌, ◌≤◌, List, [], ◌∷◌, ◌++◌, Some, Result, Ok, Err, IfErr, IfOk, length, refl, sym, ◌∙◌, ap, subst, inl, inr, arith, append-nil, length-append}
+use Rattle.std.proofs.Common.{◌≡◌, ◌≢◌, ℕ, ◌<◌, ◌≤◌, List, [], ◌∷◌, ◌++◌, Some, Result, Ok, Err, IfErr, IfOk, length, refl, sym, ◌∙◌, ap, subst, inl, inr, arith, append-nil, length-append}
 use Rattle.wm_syntax.specs.declared.profile.Profile.{Profile}
 use Rattle.wm_syntax.specs.declared.why.Why.TheVariants as why
 use Rattle.wm_syntax.specs.Spelling.{AreBytes}
@@ -13,7 +13,7 @@ use Rattle.wm_decode.proofs.Theorem.{used_of, used_refused, decoded_append, neve
 use Rattle.wm_decode.proofs.Header.{late_memory}
 use Rattle.wm_decode.proofs.Calls.{stands_refused}
 use Rattle.wm_rules.specs.declared.checker.Checker.{Checker}
-use Rattle.wm_rules.specs.Checking.{Held, after, empty}
+use Rattle.wm_rules.specs.Checking.{Held, after, empty, summary_in}
 use Rattle.wm_rules.specs.Validation.{Accepted}
 use Rattle.wm_rules.specs.Validating.{RefusedAfter, NeverAccepted, setting, verdict}
 use Rattle.wm_rules.proofs.Judged.{accepted_takes}
@@ -62,13 +62,14 @@ module _ (p : Profile) (limit : ℕ) where
           never = λ more a.
               let t = accepted_takes p limit (used ++ more) a in
               never after (setting p limit) used more t.0 r (front_bytes used u.rest (subst AreBytes u.bytes h.are_bytes)) (used_refused after p limit Starts b r u) t.1;
+          same = λ more. ap (λ y. and_then (and_then y ended) (λ h. Ok (summary_in h))) (more_refused used more r (used_refused after p limit Starts b r u));
         }
   ]
 
   pub same_verdict : (b more : List ℕ) (r : Refusal) → RefusedAfter p limit b r → r.why ≢ why.Memory → verdict p limit (b ++ more) ≡ Err r
   same_verdict b more r h ne = elim h.stands [
     | inr m ↦ absurd (ne m.0)
-    | inl e ↦ ap (λ y. and_then y ended) (more_refused b more r e)
+    | inl e ↦ ap (λ y. and_then (and_then y ended) (λ h. Ok (summary_in h))) (more_refused b more r e)
   ]
 
   pub not_in_header : (b : List ℕ) (r : Refusal) → RefusedAfter p limit b r → length b ≤ 8 → r.why ≢ why.Memory

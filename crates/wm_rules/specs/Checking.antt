@@ -22,6 +22,7 @@ use Rattle.wm_typing.specs.Typing.{function_type}
 use Rattle.wm_typing.specs.ExactBodies.{begun, declared_more, progress_at, stepped}
 use Rattle.wm_decode.specs.Parts.{Part, new_type, param, result_count, one_result, import_module, import_name, import_desc, function, table, memory, global, const_op, export_name, export, start, element, element_function, body, locals, body_op, segment, data_byte}
 use Rattle.wm_decode.specs.Sinks.{and_then}
+use Rattle.wm_rules.specs.declared.checker.Summary.{Summary}
 use Rattle.wm_rules.specs.declared.constants.Constant.{Constant}
 use Rattle.wm_rules.specs.Spaces.{IndexSpaces, no_items, context_of, type_begun, param_added, result_added, function_added, global_added, table_added, memory_added, import_added, named, plain, next_type}
 use Rattle.wm_rules.specs.Constants.{constant_after, expecting}
@@ -42,6 +43,16 @@ BodyIsOpen in_body b = in_body ≡ true → b.refused ≡ None → 0 < length b.
 
 abbrev pub empty : Held
 empty = record { spaces = no_items; names = []; constant = None; body = nothing; in_body = false; most = no_stats }
+
+-- the figures of the bodies that have ended
+abbrev pub summary_in : Held → Summary
+summary_in h = record {
+  functions = h.spaces.bodies;
+  moves = h.most.moves;
+  operands = h.most.operands;
+  controls = h.most.controls;
+  probes = h.most.probes;
+}
 
 abbrev pub in_spaces : Held → Result IndexSpaces Why → Result Held Why
 in_spaces h (Ok s) = Ok (record h { spaces = s })

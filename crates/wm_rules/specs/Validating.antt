@@ -12,10 +12,11 @@ use Rattle.wm_decode.specs.Grammar.{Items}
 use Rattle.wm_decode.specs.Live.{decoded, begun}
 use Rattle.wm_decode.specs.Parts.{Marks, parts_of}
 use Rattle.wm_decode.specs.Runs.{begin, marks as marks_of}
-use Rattle.wm_decode.specs.Sinks.{all_taken}
+use Rattle.wm_decode.specs.Sinks.{all_taken, and_then}
 use Rattle.wm_rules.specs.declared.checker.Checker.{Checker}
+use Rattle.wm_rules.specs.declared.checker.Summary.{Summary}
 use Rattle.wm_rules.specs.declared.validator.Validator.{Validator}
-use Rattle.wm_rules.specs.Checking.{Held, after, empty}
+use Rattle.wm_rules.specs.Checking.{Held, after, empty, summary_in}
 use Rattle.wm_rules.specs.Kept.{entries_of}
 use Rattle.wm_rules.specs.Validation.{Accepted}
 
@@ -29,7 +30,7 @@ pub record RefusedAfter (p : Profile) (limit : ℕ) (bytes : List ℕ) (r : Refu
   pub place : r.at ≤ length bytes
   pub stands : (decoded after p limit (begun empty) bytes ≡ Err r) ⊎ ((r.why ≡ why.Memory) × (8 < r.at))
 
--- the validator, for this profile and limit, has read just these bytes; it has refused nothing, or so
+-- The validator, for this profile and limit, has read just these bytes: it stands after them, or it has refused them.
 abbrev pub StateRead : Result (Decoder Checker) Refusal → Profile → ℕ → List ℕ → Type 0
 StateRead (Ok d) p limit bytes =
     After (λ (c : Checker). c) after d (setting p limit) bytes × (has_refused (λ (c : Checker). c) d ≡ None)
@@ -45,6 +46,14 @@ refusal_of (Err r) = Some r
 
 abbrev pub refusal_in : Validator → Option Refusal
 refusal_in v = refusal_of v.state
+
+-- what its checker holds
+abbrev pub holds_of : Result (Decoder Checker) Refusal → Option Held
+holds_of (Ok d) = Some d.sink
+holds_of (Err r) = None
+
+abbrev pub holds_in : Validator → Option Held
+holds_in v = holds_of v.state
 
 -- How much it keeps: the bytes so far of a name that goes on, and what its checker keeps; nothing after a refusal.
 abbrev pub kept_of : Result (Decoder Checker) Refusal → ℕ
@@ -70,9 +79,10 @@ moves_of (Err r) = 0
 abbrev pub moves_in : Validator → ℕ
 moves_in v = moves_of v.state
 
--- What it keeps is told by the bytes read, which may still be refused: by what is complete in them, beside each byte, and
--- by the name that goes on. Each input that begins so has the same there. It is at most one entry more than the bytes
--- outside code entries and those of the entry at hand, whose n bytes hold both stacks to n + 1 entries and 4n + 4 moves.
+-- What it keeps is told by the bytes read, which may still be refused: by the parts that are complete in them and by the
+-- name that goes on. The bytes alone tell these, and each whole input that begins so has the same there. It is at most one
+-- entry more than the bytes outside code entries and those of the entry at hand, whose n bytes hold both stacks to n + 1
+-- entries and 4n + 4 moves.
 pub record KeepsOf (v : Validator) (p : Profile) (bytes : List ℕ) : Type 0 where
   pub marks : Marks
   pub front : IsFront p bytes marks
@@ -80,6 +90,7 @@ pub record KeepsOf (v : Validator) (p : Profile) (bytes : List ℕ) : Type 0 whe
   pub begins : (more : List ℕ) (items : Marks) → Items p (bytes ++ more) items → marks ≡ take (length bytes) items
   pub held : Held
   pub taken : all_taken after empty (parts_of marks) ≡ Ok held
+  pub holds : holds_in v ≡ Some held
   pub kept : kept_in v ≡ unfinished_name marks + entries_of held
   pub at_most : kept_in v ≤ 1 + outside_bytes marks + entry_bytes marks
   pub heights : heights_in v ≤ entry_bytes marks + 1
@@ -95,15 +106,17 @@ pub record KeepsNothing (v : Validator) : Type 0 where
 abbrev pub AtMoment : Validator → Profile → List ℕ → Type 0
 AtMoment v p bytes = MatchOption (refusal_in v) (KeepsOf v p bytes) (λ r. KeepsNothing v)
 
--- What is answered to a whole input, however it is cut, unless memory runs out. Of this function only that it is one
--- of the bytes matters.
-abbrev pub verdict : Profile → ℕ → List ℕ → Result Held Refusal
-verdict p limit input = answer_of after (setting p limit) input
+-- What is answered to a whole input, however it is cut, unless memory runs out. That the bytes alone determine it is all
+-- that matters of this function.
+abbrev pub verdict : Profile → ℕ → List ℕ → Result Summary Refusal
+verdict p limit input = and_then (answer_of after (setting p limit) input) (λ h. Ok (summary_in h))
 
--- the input was refused at a place within it, and no input that begins with the bytes up to there is accepted
+-- The input was refused at a place within it, and no input that begins with the bytes up to there is accepted: each is
+-- answered the same.
 pub record NeverAccepted (p : Profile) (limit : ℕ) (input : List ℕ) (r : Refusal) : Type 0 where
   pub used : List ℕ
   pub rest : List ℕ
   pub whole : input ≡ used ++ rest
   pub at : r.at ≡ length used
   pub never : (more : List ℕ) → Accepted p limit (used ++ more) → ⊥
+  pub same : (more : List ℕ) → verdict p limit (used ++ more) ≡ Err r

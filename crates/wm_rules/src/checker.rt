@@ -4,7 +4,7 @@ ghost use Rattle.std.specs.Prelude.{◌≡◌};
 ghost use Rattle.wm_decode.specs.Sinks.{Taken};
 ghost use Rattle.wm_rules.specs.Spaces.{next_type};
 ghost use Rattle.wm_rules.specs.Kept.{capped, entries_of};
-ghost use Rattle.wm_rules.specs.Checking.{Held, after, body_begun, empty, global_begun, greatest as greatest_of, in_constant, locals_added, offset_begun, one_at_most, op_taken};
+ghost use Rattle.wm_rules.specs.Checking.{Held, after, body_begun, empty, global_begun, greatest as greatest_of, in_constant, locals_added, offset_begun, one_at_most, op_taken, summary_in};
 
 use crate::constants::Constant;
 use crate::export_names::ExportNames;
@@ -137,13 +137,7 @@ impl Checker {
 
     /// The figures of the bodies that have ended.
     pub fn summary(&self) -> Summary
-        ensures { result ≡ record {
-          functions = self.now.spaces.bodies;
-          moves = self.now.most.moves;
-          operands = self.now.most.operands;
-          controls = self.now.most.controls;
-          probes = self.now.most.probes;
-        } }
+        ensures { result ≡ summary_in self.now }
     {
         Summary {
             functions: self.spaces.bodies(),

@@ -14,7 +14,7 @@ mod tests;
 mod validator;
 
 pub use checker::{Checker, Summary};
-pub use pieces::validate;
-pub use reading::{Fault, validate_from};
+pub use pieces::{read_pieces, validate};
+pub use reading::{FromFault, validate_from};
 pub use spaces::Spaces;
 pub use validator::Validator;

@@ -1,6 +1,6 @@
 //! A whole input, in pieces.
 
-ghost use Rattle.std.specs.Prelude.{◌≡◌, ◌≢◌, ◌≤◌, ◌^◌, ℕ, length, take, IfOk, IfErr, Err};
+ghost use Rattle.std.specs.Prelude.{◌≡◌, ◌≢◌, ◌≤◌, ◌^◌, ℕ, length, take, IfOk, IfErr, Ok, Err};
 ghost use Rattle.wm_syntax.specs.declared.why.Why.TheVariants.{Memory};
 ghost use Rattle.wm_rules.specs.Bounds.{SummaryOf};
 ghost use Rattle.wm_rules.specs.Joining.{joined};
@@ -18,7 +18,9 @@ use wm_syntax::profile::Profile;
 mod tests;
 
 /// Judges the pieces joined. Memory aside, they are valid exactly where they spell, within the limit, a module
-/// of the profile that is valid (section 3.4.10), however they are cut.
+/// of the profile that is valid (section 3.4.10), however they are cut. At every moment a validator keeps at most
+/// one entry more than the bytes read outside code entries and of the entry at hand, whose n bytes hold both stacks
+/// to n + 1 entries together and 4n + 4 moves.
 pub fn validate(
     alloc: Global,
     profile: Profile,
@@ -28,18 +30,36 @@ pub fn validate(
     requires { max_bytes ≤ 2 ^ 62 }
     ensures valid { IfOk result (λ _. Accepted profile max_bytes (joined pieces.now)) }
     ensures summary { IfOk result (λ s. SummaryOf profile max_bytes (joined pieces.now) s) }
+    // The joined bytes alone say which summary it is, and which refusal.
+    ensures same_summary { IfOk result (λ s. verdict profile max_bytes (joined pieces.now) ≡ Ok s) }
     ensures refused { IfErr result (λ r. r.why ≢ Memory → (Accepted profile max_bytes (joined pieces.now) → ⊥)) }
-    // The joined bytes alone say which refusal it is.
     ensures same { IfErr result (λ r. r.why ≢ Memory → verdict profile max_bytes (joined pieces.now) ≡ Err r) }
     ensures place { IfErr result (λ r. r.at ≤ length (joined pieces.now)) }
+    // The header takes no memory.
+    ensures header { IfErr result (λ r. length (joined pieces.now) ≤ 8 → r.why ≢ Memory) }
     // At every moment, after any number of the pieces, what a validator keeps is told and bounded by the bytes read.
     ensures moments { (n : ℕ) (v : Validator) → HasRead v profile max_bytes (joined (take n pieces.now))
         → AtMoment v profile (joined (take n pieces.now)) }
+{
+    read_pieces(alloc, profile, max_bytes, pieces).finish()
+}
+
+/// A validator that was fed these pieces, one after another.
+pub fn read_pieces(
+    alloc: Global,
+    profile: Profile,
+    max_bytes: u64,
+    pieces: &[&[u8]],
+) -> Validator
+    requires { max_bytes ≤ 2 ^ 62 }
+    ensures read { HasRead result profile max_bytes (joined pieces.now) }
+    // What it then keeps is told and bounded by the bytes read.
+    ensures moment { AtMoment result profile (joined pieces.now) }
 {
     let mut validator = Validator::new(alloc, profile, max_bytes);
     for piece in pieces {
         // A refusal stays: the pieces after it go by, and the end answers it.
         let _ = validator.feed(piece);
     }
-    validator.finish()
+    validator
 }

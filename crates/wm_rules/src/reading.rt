@@ -16,7 +16,7 @@ use wm_syntax::why::Why;
 
 /// Why there is no summary.
 #[derive(Clone, Copy, PartialEq, Eq, Debug)]
-pub enum Fault {
+pub enum FromFault {
     /// The input is refused.
     Refused(Refusal),
     /// The reader failed.
@@ -29,14 +29,14 @@ const PIECE: usize = 4096;
 /// nothing more is read.
 pub fn validate_from<R: Source>(
     alloc: Global,
+    r: &mut R,
     profile: Profile,
     max_bytes: u64,
-    r: &mut R,
-) -> Result<Summary, Fault>
+) -> Result<Summary, FromFault>
     requires open { R.has_failed r.old ≡ false }
     requires limit { max_bytes ≤ 2 ^ 62 }
     ensures judged { Judges profile max_bytes (R.remaining r.old) (R.remaining r.new) result }
-    ensures failed { (result ≡ Err Fault.Io) ↔ (R.has_failed r.new ≡ true) }
+    ensures failed { (result ≡ Err FromFault.Io) ↔ (R.has_failed r.new ≡ true) }
 {
     let mut validator = Validator::new(alloc, profile, max_bytes);
     let mut piece = [0u8; PIECE];
@@ -45,26 +45,26 @@ pub fn validate_from<R: Source>(
         let n = match r.get(&mut piece) {
             Ok(0) => return finish(validator),
             Ok(n) => n,
-            Err(_) => return Err(Fault::Io),
+            Err(_) => return Err(FromFault::Io),
         };
         if let Err(refusal) = validator.feed(&piece[..n]) {
-            return Err(Fault::Refused(refusal));
+            return Err(FromFault::Refused(refusal));
         }
     }
-    Err(Fault::Refused(Refusal {
+    Err(FromFault::Refused(Refusal {
         at: max_bytes + 1,
         why: Why::TooLong,
     }))
 }
 
 /// The end of the input.
-fn finish(validator: Validator) -> Result<Summary, Fault>
+fn finish(validator: Validator) -> Result<Summary, FromFault>
     ensures judged { (p : Profile) (limit : ℕ) (input : List ℕ) (left : Option (List ℕ)) → HasRead validator p limit input → IsAtEnd left
         → JudgesInput p limit input left result }
-    ensures refused { result ≢ Err Fault.Io }
+    ensures refused { result ≢ Err FromFault.Io }
 {
     match validator.finish() {
         Ok(summary) => Ok(summary),
-        Err(refusal) => Err(Fault::Refused(refusal)),
+        Err(refusal) => Err(FromFault::Refused(refusal)),
     }
 }

@@ -27,6 +27,8 @@ pub struct Validator {
 fn end(decoder: Decoder<Checker>) -> Result<Summary, Refusal>
     ensures valid { IfOk result (λ _. (p : Profile) (limit : ℕ) (input : List ℕ) → StateRead (Ok decoder) p limit input → Accepted p limit input) }
     ensures summary { IfOk result (λ s. (p : Profile) (limit : ℕ) (input : List ℕ) → StateRead (Ok decoder) p limit input → SummaryOf p limit input s) }
+    ensures same_summary { IfOk result (λ s. (p : Profile) (limit : ℕ) (input : List ℕ) → StateRead (Ok decoder) p limit input
+        → verdict p limit input ≡ Ok s) }
     ensures refused { IfErr result (λ r. r.why ≢ Memory → (p : Profile) (limit : ℕ) (input : List ℕ) → StateRead (Ok decoder) p limit input
         → (Accepted p limit input → ⊥)) }
     ensures same { IfErr result (λ r. r.why ≢ Memory → (p : Profile) (limit : ℕ) (input : List ℕ) → StateRead (Ok decoder) p limit input
@@ -105,6 +107,9 @@ impl Validator {
         // Valid exactly for accepted inputs, memory aside.
         ensures valid { IfOk result (λ _. (p : Profile) (limit : ℕ) (input : List ℕ) → HasRead self p limit input → Accepted p limit input) }
         ensures summary { IfOk result (λ s. (p : Profile) (limit : ℕ) (input : List ℕ) → HasRead self p limit input → SummaryOf p limit input s) }
+        // The joined bytes alone say which summary it is, and which refusal.
+        ensures same_summary { IfOk result (λ s. (p : Profile) (limit : ℕ) (input : List ℕ) → HasRead self p limit input
+            → verdict p limit input ≡ Ok s) }
         ensures refused { IfErr result (λ r. r.why ≢ Memory → (p : Profile) (limit : ℕ) (input : List ℕ) → HasRead self p limit input
             → (Accepted p limit input → ⊥)) }
         ensures same { IfErr result (λ r. r.why ≢ Memory → (p : Profile) (limit : ℕ) (input : List ℕ) → HasRead self p limit input

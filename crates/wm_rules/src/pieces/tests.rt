@@ -2,7 +2,7 @@ ghost use Rattle.std.specs.Prelude.{◌<◌};
 
 use super::validate;
 use crate::tests::ADD;
-use crate::{Fault, Summary, validate_from};
+use crate::{FromFault, Summary, validate_from};
 use std::alloc::Global;
 use std::io;
 use std::io::Read;
@@ -78,16 +78,16 @@ impl Read for Bytes<'_> {
 fn from_a_source(rt: HostRuntime) {
     let mut source = Input::new(Bytes { rest: &ADD });
     assert_eq!(rt;
-        validate_from(rt.alloc(), Profile::One, LIMIT, &mut source),
+        validate_from(rt.alloc(), &mut source, Profile::One, LIMIT),
         Ok(FIGURES)
     );
     let mut source = Input::new(Bytes { rest: &ADD[8..] });
-    let magic = Fault::Refused(Refusal {
+    let magic = FromFault::Refused(Refusal {
         at: 1,
         why: Why::Magic,
     });
     assert_eq!(rt;
-        validate_from(rt.alloc(), Profile::One, LIMIT, &mut source),
+        validate_from(rt.alloc(), &mut source, Profile::One, LIMIT),
         Err(magic)
     );
 }

@@ -2,7 +2,7 @@ use Rattle.std.proofs.Common.{Result, Err, inr, refl, ap, subst, ◌∙◌}
 use Rattle.wm_cli.proofs.RunLemmas.{out_of_refusal}
 use Rattle.wm_cli.specs.Outcome.{refusal_line}
 use Rattle.wm_rules.specs.Reading.{Judges}
-use Rattle.wm_rules.specs.declared.reading.Fault.{Fault}
+use Rattle.wm_rules.specs.declared.reading.FromFault.{FromFault}
 use Rattle.wm_rules.specs.declared.checker.Summary.{Summary}
 use Rattle.wm_cli.specs.declared.status.Status.TheVariants as status
 use Rattle.wm_cli.proofs.run.run.Goals as goal
@@ -17,6 +17,6 @@ returns-in-Refused-clause-answered g c = λ o m.
       status.Refused,
       inr ((refusal.at, refusal.why, refused.0, refl), refl),
       out_of_refusal c.args.action c.args.profile c.args.limit all left refusal refused.0
-          (subst (λ (v : Result Summary Fault). Judges c.args.profile c.args.limit all left v) (c.in-Err.is ∙ ap Err c.in-Refused.is) c.validate_from.ensures.judged),
+          (subst (λ (v : Result Summary FromFault). Judges c.args.profile c.args.limit all left v) (c.in-Err.is ∙ ap Err c.in-Refused.is) c.validate_from.ensures.judged),
       refused.1,
     )

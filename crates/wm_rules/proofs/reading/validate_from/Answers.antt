@@ -1,5 +1,6 @@
 use Rattle.std.proofs.Common.{◌++◌, ap, take, length-append, refl, arith}
-use Rattle.wm_rules.proofs.SourceLemmas.{consumes_then, judged_at_zero, judged_refused, judged_too_long, stays_open}
+use Rattle.wm_rules.proofs.Keeping.{within_limit}
+use Rattle.wm_rules.proofs.SourceLemmas.{consumes_then, judged_at_zero, judged_refused, stays_open}
 use Rattle.wm_rules.proofs.reading.validate_from.Goals as goal
 
 pub returns-in-Ok-eq0-clause-judged : goal.returns-in-Ok-eq0-clause-judged
@@ -13,6 +14,8 @@ returns-in-Err-feed-clause-judged g c =
     judged_refused c.args.profile c.args.max_bytes _ _ (c.loop.invariant.0 ++ take c.in-Ok.n c.get.new.buf) c.in-Err-feed.refusal
     (consumes_then _ _ _ c.loop.invariant.0 (take c.in-Ok.n c.get.new.buf) c.loop.invariant.3 c.in-Ok.ensures.bytes.0)
     (λ why. c.in-Err-feed.ensures.refused why c.args.profile c.args.max_bytes c.loop.invariant.0 c.loop.invariant.1)
+    (λ why more. c.in-Err-feed.ensures.same why c.args.profile c.args.max_bytes c.loop.invariant.0 more c.loop.invariant.1)
+    (c.in-Err-feed.ensures.header c.args.profile c.args.max_bytes c.loop.invariant.0 c.loop.invariant.1)
     (c.in-Err-feed.ensures.place c.args.profile c.args.max_bytes c.loop.invariant.0 c.loop.invariant.1)
 
 pub loop-preserved : goal.loop-preserved
@@ -22,7 +25,10 @@ loop-preserved g c = (
   omega (arith, c.in-Ok.ensures.bound.1, length-append c.loop.invariant.0 (take c.in-Ok.n c.get.new.buf), c.in-Ok.n-test, c.loop.invariant.2),
   consumes_then _ _ _ c.loop.invariant.0 (take c.in-Ok.n c.get.new.buf) c.loop.invariant.3 c.in-Ok.ensures.bytes.0,
   stays_open c.loop.invariant.4 c.in-Ok.ensures.failed,
+  c.in_default.ensures.refusal,
 )
 
 pub returns-clause-judged : goal.returns-clause-judged
-returns-clause-judged g c = judged_too_long c.args.profile c.args.max_bytes _ _ c.loop.invariant.0 _ c.loop.invariant.3 (omega (arith, c.loop.invariant.2)) refl
+returns-clause-judged g c =
+    let few = within_limit c.loop.validator c.args.profile c.args.max_bytes c.loop.invariant.0 c.loop.invariant.1 c.loop.invariant.5 in
+    absurd (omega (arith, few, c.loop.invariant.2))

@@ -1,4 +1,4 @@
-use Rattle.std.proofs.Common.{◌++◌, Result, Ok, refl, subst, arith}
+use Rattle.std.proofs.Common.{◌++◌, Result, refl, subst, arith}
 use Rattle.wm_decode.specs.declared.refusal.Refusal.{Refusal}
 use Rattle.wm_decode.specs.declared.state.Decoder.{Decoder}
 use Rattle.wm_decode.proofs.Calls.{are_bytes}

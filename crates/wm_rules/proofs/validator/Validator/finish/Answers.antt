@@ -23,3 +23,6 @@ returns-in-Err-clause-header c = λ p limit input h few m. not_in_header p limit
 
 pub returns-in-Ok-clause-summary : goal.returns-in-Ok-clause-summary
 returns-in-Ok-clause-summary c = on_ok c.end.result (λ x f p limit input h. f p limit input (subst (λ (d : Decoder Checker). StateRead (Ok d) p limit input) (sym c.in-Ok.decoder-is) (subst (λ (s : Result (Decoder Checker) Refusal). StateRead s p limit input) c.in-Ok.is h))) c.end.ensures.summary
+
+pub returns-in-Ok-clause-same_summary : goal.returns-in-Ok-clause-same_summary
+returns-in-Ok-clause-same_summary c = on_ok c.end.result (λ x f p limit input h. f p limit input (subst (λ (d : Decoder Checker). StateRead (Ok d) p limit input) (sym c.in-Ok.decoder-is) (subst (λ (s : Result (Decoder Checker) Refusal). StateRead s p limit input) c.in-Ok.is h))) c.end.ensures.same_summary
