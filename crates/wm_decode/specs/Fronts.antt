@@ -46,7 +46,7 @@ abbrev pub entry_after : ℕ → Marks → ℕ
 entry_after n [] = n
 entry_after n (m ∷ k) = entry_after (entry_more m.zone n) k
 
--- how many bytes there are so far of the code entry at hand; none is where its last byte was read
+-- how many bytes there are so far of the code entry at hand; after its last byte none is at hand
 abbrev pub entry_bytes : Marks → ℕ
 entry_bytes k = entry_after 0 k
 

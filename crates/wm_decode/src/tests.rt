@@ -660,13 +660,31 @@ fn headers_that_are_refused(rt: HostRuntime) -> Result<(), Fail> {
 
 #[test]
 fn a_limit(rt: HostRuntime) -> Result<(), Fail> {
-    let mut decoder = Decoder::new(rt.alloc(), nothing_seen(rt.alloc()), Profile::One, 7);
     let refusal = Refusal {
         at: 8,
         why: Why::TooLong,
     };
-    assert_eq!(rt; decoder.feed(&HEADER), Err(refusal));
-    assert_eq!(rt; decoder.feed(&[]), Err(refusal));
+    let cuts: [&[&[u8]]; 3] = [
+        &[&HEADER],
+        &[&HEADER[..7], &[], &HEADER[7..]],
+        &[
+            &HEADER[..1],
+            &HEADER[1..2],
+            &HEADER[2..3],
+            &HEADER[3..4],
+            &HEADER[4..5],
+            &HEADER[5..6],
+            &HEADER[6..7],
+            &HEADER[7..],
+        ],
+    ];
+    for pieces in cuts {
+        let mut decoder = Decoder::new(rt.alloc(), nothing_seen(rt.alloc()), Profile::One, 7);
+        for piece in pieces {
+            let _ = decoder.feed(piece);
+        }
+        assert_eq!(rt; decoder.feed(&[]), Err(refusal));
+    }
     Ok(())
 }
 

@@ -11,10 +11,14 @@ use Rattle.wm_syntax.specs.declared.why.Why.TheVariants as why
 use Rattle.wm_syntax.specs.Types.{Signature}
 use Rattle.wm_syntax.proofs.ProfileLaws.{all_append}
 use Rattle.wm_decode.specs.Parts.{Part, new_type, param, result_count, one_result, import_module, import_name, import_desc, function, table, memory, global, const_op, export_name, export, start, element, element_function, body, locals, body_op, segment, data_byte}
-use Rattle.wm_decode.specs.Sinks.{and_then}
+use Rattle.wm_decode.specs.Sinks.{all_taken, and_then}
+use Rattle.wm_typing.specs.declared.body_checker.Progress.{Progress}
+use Rattle.wm_typing.specs.declared.body_checker.Progress.TheVariants.{Inside, Ended}
+use Rattle.wm_typing.specs.Bodies.{Body}
+use Rattle.wm_typing.specs.ExactBodies.{begun, progress_at}
 use Rattle.wm_rules.specs.declared.constants.Constant.{Constant}
-use Rattle.wm_rules.specs.Spaces.{IndexSpaces, on_last, one_param_more, one_result_more, type_begun, param_added, result_added, function_added, global_added, table_added, memory_added, import_added, with_types}
-use Rattle.wm_rules.specs.Checking.{Held, after, constant_begun, in_constant, in_names, in_spaces, where_ok, with_constant}
+use Rattle.wm_rules.specs.Spaces.{IndexSpaces, on_last, one_param_more, one_result_more, type_begun, param_added, result_added, function_added, global_added, table_added, memory_added, import_added, context_of, next_type, with_types}
+use Rattle.wm_rules.specs.Checking.{Held, after, body_begun, stepped_to, with_body, with_progress, constant_begun, in_constant, in_names, in_spaces, where_ok, with_constant}
 use Rattle.wm_rules.proofs.CodeMembers.{OneResults}
 use Rattle.wm_rules.proofs.Folding.{cond_ok, ok_then}
 
@@ -146,3 +150,50 @@ part_calm h g (locals n t) i e = absurd i
 part_calm h g (body_op o) i e = absurd i
 part_calm h g (segment x) i e = offset_calm h g _ _ (begun_calm _ _ h) e
 part_calm h g (data_byte c) i e = itself h h g (same h) e
+
+-- no part gives a type a second result
+with_body_one : (h g : Held) (b : Bool) (r : Result Body Why) → cond b (with_body h r) (Err why.Index) ≡ Ok g → OneResults h → OneResults g
+with_body_one h g true (Ok d) e o = let is : record h { body = d } ≡ g = cc in subst OneResults is o
+with_body_one h g true (Err w) e o = absurd (cc)
+with_body_one h g false r e o = absurd (cc)
+
+progress_one : (h : Held) (d : Body) (p : Progress) → OneResults h → OneResults (with_progress h d p)
+progress_one h d Inside o = o
+progress_one h d Ended o = o
+
+op_one : (h g : Held) (b : Bool) (r : Result Body Why) → cond b (stepped_to h r) (Err why.Index) ≡ Ok g → OneResults h → OneResults g
+op_one h g true (Ok d) e o = let is : with_progress h d (progress_at d.state.stacks.frames) ≡ g = cc in subst OneResults is (progress_one h d (progress_at d.state.stacks.frames) o)
+op_one h g true (Err w) e o = absurd (cc)
+op_one h g false r e o = absurd (cc)
+
+begun_one : (h g : Held) (x : Option ℕ) → body_begun h x ≡ Ok g → OneResults h → OneResults g
+begun_one h g None e o = absurd (cc)
+begun_one h g (Some x) e o = let is : record h { spaces = record h.spaces { bodies = h.spaces.bodies + 1 }; body = begun (context_of h.spaces) x; in_body = true } ≡ g = cc in subst OneResults is o
+
+part_one : (h g : Held) (x : Part) → after h x ≡ Ok g → OneResults h → OneResults g
+part_one h g body e o = begun_one h g (next_type h.spaces) e o
+part_one h g (locals n t) e o = with_body_one h g h.in_body _ e o
+part_one h g (body_op x) e o = op_one h g h.in_body _ e o
+part_one h g new_type e o = (part_calm h g new_type tt e).one o
+part_one h g (param t) e o = (part_calm h g (param t) tt e).one o
+part_one h g (result_count n) e o = (part_calm h g (result_count n) tt e).one o
+part_one h g (one_result t) e o = (part_calm h g (one_result t) tt e).one o
+part_one h g (import_module name) e o = (part_calm h g (import_module name) tt e).one o
+part_one h g (import_name name) e o = (part_calm h g (import_name name) tt e).one o
+part_one h g (import_desc d) e o = (part_calm h g (import_desc d) tt e).one o
+part_one h g (function x) e o = (part_calm h g (function x) tt e).one o
+part_one h g (table l) e o = (part_calm h g (table l) tt e).one o
+part_one h g (memory l) e o = (part_calm h g (memory l) tt e).one o
+part_one h g (global t) e o = (part_calm h g (global t) tt e).one o
+part_one h g (const_op x) e o = (part_calm h g (const_op x) tt e).one o
+part_one h g (export_name name) e o = (part_calm h g (export_name name) tt e).one o
+part_one h g (export k x) e o = (part_calm h g (export k x) tt e).one o
+part_one h g (start x) e o = (part_calm h g (start x) tt e).one o
+part_one h g (element x) e o = (part_calm h g (element x) tt e).one o
+part_one h g (element_function x) e o = (part_calm h g (element_function x) tt e).one o
+part_one h g (segment x) e o = (part_calm h g (segment x) tt e).one o
+part_one h g (data_byte c) e o = (part_calm h g (data_byte c) tt e).one o
+
+pub parts_one : (ps : List Part) (h g : Held) → all_taken after h ps ≡ Ok g → OneResults h → OneResults g
+parts_one [] h g e o = let is : h ≡ g = cc in subst OneResults is o
+parts_one (x ∷ ps) h g e o = let s = ok_then (after h x) (λ k. all_taken after k ps) g e in parts_one ps s.0 g s.2 (part_one h s.0 x s.1 o)

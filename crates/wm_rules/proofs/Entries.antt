@@ -25,7 +25,9 @@ use Rattle.wm_decode.specs.Parts.{Part, body, body_op}
 use Rattle.wm_decode.specs.Sections.{expansion}
 use Rattle.wm_decode.specs.Sinks.{and_then, all_taken}
 use Rattle.wm_rules.specs.Bounds.{FiguresWithin}
-use Rattle.wm_rules.specs.Checking.{Held, after, body_begun, greatest, with_progress}
+use Rattle.wm_rules.specs.Checking.{Held, after, body_begun, empty, greatest, with_progress}
+use Rattle.wm_decode.specs.Flat.{FlatCode, code_parts}
+use Rattle.wm_rules.proofs.Calm.{parts_one}
 use Rattle.wm_rules.specs.Spaces.{context_of, next_type}
 use Rattle.wm_rules.proofs.CodeMembers.{Agree, OneResults, declared, entry_held, in_body, ops_agree, runs_sound, runs_takes, settled, taken_typed}
 use Rattle.wm_decode.proofs.EntryBytes.{run_part}
@@ -117,23 +119,24 @@ module _ (h g : Held) (one : OneResults h) (runs : List (ℕ × ValType)) where
   -- among the ops: the body after them
   pub record Reached (ops : List Op) : Type 0 where
     pub index : ℕ
+    pub named : next_type h.spaces ≡ Some index
     pub last : Body
     pub taken : all_stepped (context_of h.spaces) (Ok (started (context_of h.spaces) index (expansion runs))) ops ≡ Ok last
     pub is : settled (entry_held h) last ≡ g
 
   reached : (ops : List Op) → Taken (body ∷ map run_part runs ++ map body_op ops) → Reached ops
-  reached ops e = go (next_type h.spaces) e
+  reached ops e = go (next_type h.spaces) refl e
     where
-      by_run : (x : ℕ) (r : Result Body Why) → all_stepped (context_of h.spaces) (Ok (started (context_of h.spaces) x (expansion runs))) ops ≡ r → Agree (entry_held h) r (Ok g) → Reached ops
-      by_run x (Ok d) is a = record { index = x; last = d; taken = is; is = cc (a) }
-      by_run x (Err w) is a = absurd (cc (a.1))
+      by_run : (x : ℕ) → next_type h.spaces ≡ Some x → (r : Result Body Why) → all_stepped (context_of h.spaces) (Ok (started (context_of h.spaces) x (expansion runs))) ops ≡ r → Agree (entry_held h) r (Ok g) → Reached ops
+      by_run x named (Ok d) is a = record { index = x; named = named; last = d; taken = is; is = cc (a) }
+      by_run x named (Err w) is a = absurd (cc (a.1))
 
-      go : (o : Option ℕ) → and_then (body_begun h o) (λ z. all_taken after z (map run_part runs ++ map body_op ops)) ≡ Ok g → Reached ops
-      go None e = absurd (cc)
-      go (Some x) e =
+      go : (o : Option ℕ) → next_type h.spaces ≡ o → and_then (body_begun h o) (λ z. all_taken after z (map run_part runs ++ map body_op ops)) ≡ Ok g → Reached ops
+      go None named e = absurd (cc)
+      go (Some x) named e =
           let few = runs_sound runs (map body_op ops) (entry_held h) g x [] (lit< tt) e in
           let a : all_taken after (declared (entry_held h) x (expansion runs)) (map body_op ops) ≡ Ok g = sym (runs_takes runs (map body_op ops) (entry_held h) x [] few) ∙ e in
-          by_run x (all_stepped (context_of h.spaces) (Ok (started (context_of h.spaces) x (expansion runs))) ops) refl
+          by_run x named (all_stepped (context_of h.spaces) (Ok (started (context_of h.spaces) x (expansion runs))) ops) refl
           (subst (λ r. Agree (entry_held h) (all_stepped (context_of h.spaces) (Ok (started (context_of h.spaces) x (expansion runs))) ops) r) a (ops_agree (entry_held h) ops (started (context_of h.spaces) x (expansion runs))))
 
   after_ops : (ops : List Op) (r : Reached ops) → After (context_of h.spaces) r.index (expansion runs) ops r.last
@@ -176,6 +179,16 @@ module _ (h g : Held) (one : OneResults h) (runs : List (ℕ × ValType)) where
         most = λ low. greatest_within top h.most r.last.stats (most low) (own low);
         one = one;
       })
+
+-- what the checker holds of the entry at hand is what the check of its body holds
+pub at_hand : (before : List Part) (h g : Held) (c : FlatCode) → all_taken after empty before ≡ Ok h → all_taken after h (code_parts c) ≡ Ok g
+    → (x : ℕ) × (next_type h.spaces ≡ Some x) × After (context_of h.spaces) x (expansion c.runs) c.ops g.body
+at_hand before h g c from e =
+    let one = parts_one before empty h from tt in
+    let r = reached h g one c.runs c.ops e in
+    let same : (settled (entry_held h) r.last).body ≡ r.last = progress_body (entry_held h) r.last (progress_at r.last.state.stacks.frames) in
+    let is : r.last ≡ g.body = sym same ∙ ap (λ (z : Held). z.body) r.is in
+    (r.index, r.named, subst (After (context_of h.spaces) r.index (expansion c.runs) c.ops) is (after_ops h g one c.runs c.ops r))
 
 -- a front of members that are a part each, and what comes after them
 split_map : {X : Type 0} (f : X → Part) (xs : List X) (a b c : List Part) → a ++ b ≡ map f xs ++ c

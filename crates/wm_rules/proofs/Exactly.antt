@@ -335,6 +335,12 @@ module _ (v : FlatModule) where
       let n : after_elements.most.controls ≡ 0 = ap (λ s. s.controls) no_stats_before_code in
       puts_keep put_segment (λ h. h.most.controls ≡ deepest fs) (λ h x i. i) v.segments after_codes (omega (arith, e, n))
 
+  -- without code entries there are no figures
+  pub nothing_at_end : v.codes ≡ [] → at_end.most ≡ no_stats
+  nothing_at_end e =
+      puts_keep put_segment (λ h. h.most ≡ no_stats) (λ h x i. i) v.segments after_codes
+      (ap (λ cs. (puts put_code after_elements cs).most) e ∙ no_stats_before_code)
+
   -- what a code entry is asked for before its parts
   codes_asked : AllByRecursion (λ s. length s.results ≤ 1) v.types → AllByRecursion (λ c. IsExpression c.ops) v.codes → GoodAll IsCode put_code after_elements v.codes
   codes_asked one q = all_from IsCode put_code (λ c. IsExpression c.ops) Types (λ h x i. i) same v.codes after_elements (ap (λ s. s.types) spaces_before_code) q

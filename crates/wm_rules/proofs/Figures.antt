@@ -18,7 +18,7 @@ use Rattle.wm_rules.specs.declared.checker.Summary.{Summary}
 use Rattle.wm_rules.specs.Bounds.{FiguresWithin, SummaryOf, figures, run_more, longest_after, longest_entry}
 use Rattle.wm_rules.specs.Checking.{Held, after, empty}
 use Rattle.wm_rules.specs.Validating.{setting}
-use Rattle.wm_rules.proofs.Judged.{functions_counted, nesting_counted}
+use Rattle.wm_rules.proofs.Judged.{functions_counted, nesting_counted, nothing_counted}
 use Rattle.wm_rules.proofs.Moments.{whole_idle}
 
 -- an entry lies in code entries
@@ -56,5 +56,6 @@ module _ (p : Profile) (limit : ℕ) (b : List ℕ) (last : Held) (low : limit �
   summary_of s count most = record {
     functions = λ a. count ∙ functions_counted p limit b last t a;
     controls = λ a. ap (λ (f : BodyStats). f.controls) most ∙ nesting_counted p limit b last t a;
+    nothing = λ a none. most ∙ nothing_counted p limit b last t a none;
     bounds = λ items m. subst (FiguresWithin (longest_entry items)) (sym most) (within items m);
   }

@@ -1,8 +1,9 @@
 -- The checker takes the parts of an input exactly where some module that it spells is valid.
-use Rattle.std.proofs.Common.{ℕ, ◌≡◌, List, [], ◌∷◌, Ok, inl, inr, sym, ◌∙◌, ap, subst, refl, suc, length, Result, Err}
+use Rattle.std.proofs.Common.{ℕ, ◌≡◌, List, [], ◌∷◌, Ok, inl, inr, sym, ◌∙◌, ap, subst, refl, suc, length, arith, Result, Err}
 use Rattle.std.specs.List.{AllByRecursion, AllZip}
 use Rattle.wm_syntax.specs.Spelling.{Form, Each}
 use Rattle.wm_syntax.specs.declared.profile.Profile.{Profile}
+use Rattle.wm_typing.specs.Bodies.{no_stats}
 use Rattle.wm_decode.specs.Decoding.{Takes}
 use Rattle.wm_decode.specs.Flat.{FlatModule, IsCodeOf, SpellsFlat, SpellsFlatGlobal, SpellsFlatElement, SpellsFlatCode, SpellsFlatSegment, flat_parts}
 use Rattle.wm_decode.specs.Grammar.{IsExpression}
@@ -18,7 +19,7 @@ use Rattle.wm_rules.specs.Checking.{Held, after, empty}
 use Rattle.wm_rules.specs.Validation.{Accepted}
 use Rattle.wm_rules.proofs.Good.{IsGrammatical}
 use Rattle.wm_rules.proofs.Members.{same_parts}
-use Rattle.wm_rules.proofs.Exactly.{at_end, bodies_at_end, controls_at_end, good_taken, taken_good}
+use Rattle.wm_rules.proofs.Exactly.{at_end, bodies_at_end, controls_at_end, nothing_at_end, good_taken, taken_good}
 use Rattle.wm_rules.proofs.Made.{good_of, made}
 
 -- what every member that is spelled has, each has
@@ -111,3 +112,15 @@ nesting_counted p limit b last t a =
     let f = flat_to p a.module_value b a.spelled.1 a.of_profile in
     ap (λ h. h.most.controls) (left_at_end p limit b last t a)
     ∙ controls_at_end f.0 a.module_value.functions (good_of a.module_value f.0 f.1 a.valid) f.1.codes
+
+-- nothing is counted where the module has no function
+pub nothing_counted : (p : Profile) (limit : ℕ) (b : List ℕ) (last : Held) → Takes after (record { profile = p; limit = limit; first = empty }) b last
+    → (a : Accepted p limit b) → a.module_value.functions ≡ [] → last.most ≡ no_stats
+nothing_counted p limit b last t a none =
+    let f = flat_to p a.module_value b a.spelled.1 a.of_profile in
+    let long : length f.0.codes ≡ 0 = zip_long IsCodeOf a.module_value.functions f.0.codes f.1.codes ∙ ap length none in
+    ap (λ h. h.most) (left_at_end p limit b last t a) ∙ nothing_at_end f.0 (no_items f.0.codes long)
+  where
+    no_items : {X : Type 0} (xs : List X) → length xs ≡ 0 → xs ≡ []
+    no_items [] e = refl
+    no_items (x ∷ xs) e = absurd (omega (arith, e))

@@ -5,7 +5,10 @@ use Rattle.wm_syntax.specs.declared.profile.Profile.{Profile}
 use Rattle.wm_decode.specs.declared.refusal.Refusal.{Refusal}
 use Rattle.wm_decode.specs.declared.state.Decoder.{Decoder}
 use Rattle.wm_decode.specs.Decoding.{has_refused}
-use Rattle.wm_decode.specs.Fronts.{entry_bytes}
+use Rattle.wm_decode.specs.Fronts.{entry_bytes, unfinished_name}
+use Rattle.wm_syntax.specs.declared.why.Why.{Why}
+use Rattle.wm_decode.specs.Parts.{parts_of}
+use Rattle.wm_decode.specs.Sinks.{all_taken}
 use Rattle.wm_decode.specs.Live.{Live, begun, standing}
 use Rattle.wm_decode.proofs.Calls.{after_so_far, live_after}
 use Rattle.wm_decode.proofs.Theorem.{reached}
@@ -94,3 +97,12 @@ nothing_refused v p limit h = go v.state h
     go : (s : Result (Decoder Checker) Refusal) → StateRead s p limit [] → refusal_of s ≡ None
     go (Ok d) h = refl
     go (Err r) h = elim h.stands [ inl e ↦ absurd (cc (e)) | inr m ↦ (let p = h.place in absurd (omega (arith, p, m.1))) ]
+
+-- what two validators keep that have read the same bytes
+pub same_bytes : (p : Profile) (bytes : List ℕ) (v w : Validator) (k : KeepsOf v p bytes) (l : KeepsOf w p bytes)
+    → (k.marks ≡ l.marks) × (k.held ≡ l.held) × (kept_in v ≡ kept_in w)
+same_bytes p bytes v w k l =
+    let marks : k.marks ≡ l.marks = k.alone ∙ sym l.alone in
+    let both : ◌≡◌ {A = Result Held Why} (Ok k.held) (Ok l.held) = sym k.taken ∙ (ap (λ m. all_taken after empty (parts_of m)) marks ∙ l.taken) in
+    let held : k.held ≡ l.held = cc in
+    (marks, held, k.kept ∙ (ap (λ m. unfinished_name m + entries_of k.held) marks ∙ (ap (λ h. unfinished_name l.marks + entries_of h) held ∙ sym l.kept)))

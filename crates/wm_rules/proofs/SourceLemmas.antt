@@ -1,6 +1,5 @@
 -- What was read is a front of the input, and at the end it is the input.
-use Rattle.std.proofs.Common.{inl, take, drop, min, ◌≡◌, ◌≤◌, ◌+◌, ◌≢◌, ℕ, List, [], ◌++◌, Option, Some, None, Result, Err, length, sym, ap, subst, ◌∙◌, append_assoc, append-nil, length-append, ◌||◌, Bool, false, arith}
-use Rattle.std.proofs.lemmas.List.{length-take, take-append-drop}
+use Rattle.std.proofs.Common.{inl, ◌≡◌, ◌≤◌, ◌+◌, ◌≢◌, ℕ, List, [], ◌++◌, Option, Some, None, Result, Err, length, sym, ap, subst, ◌∙◌, append_assoc, append-nil, length-append, ◌||◌, Bool, false, arith}
 use Rattle.std.specs.Io.KnownBytes.{Consumes, IsAtEnd}
 use Rattle.wm_syntax.specs.declared.profile.Profile.{Profile}
 use Rattle.wm_syntax.specs.declared.why.Why.TheVariants.{Memory}

@@ -3,6 +3,7 @@ use Rattle.std.specs.Prelude.{◌≡◌, ℕ, suc, ◌+◌, ◌*◌, ◌≤◌, 
 use Rattle.wm_syntax.specs.declared.profile.Profile.{Profile}
 use Rattle.wm_syntax.specs.Modules.{Function}
 use Rattle.wm_typing.specs.declared.stats.BodyStats.{BodyStats}
+use Rattle.wm_typing.specs.Bodies.{no_stats}
 use Rattle.wm_typing.specs.Nesting.{nesting}
 use Rattle.wm_decode.specs.Grammar.{Items}
 use Rattle.wm_decode.specs.Parts.{Zone, outside, name, Marks}
@@ -28,7 +29,7 @@ abbrev pub deepest : List Function → ℕ
 deepest [] = 0
 deepest (f ∷ fs) = max (nesting f.body + 1) (deepest fs)
 
--- What the figures of bodies may be whose code entries have at most n bytes. What was pushed was removed again.
+-- What the figures of bodies may be whose code entries have at most n bytes. Each push is a move, and so is its removal.
 pub record FiguresWithin (n : ℕ) (b : BodyStats) : Type 0 where
   pub operands : b.operands ≤ n + 1
   pub controls : b.controls ≤ n + 1
@@ -41,8 +42,9 @@ abbrev pub figures : Summary → BodyStats
 figures s = record { moves = s.moves; operands = s.operands; controls = s.controls; probes = s.probes }
 
 -- The summary of an accepted input: as many functions as its module has, imported ones not counted; the nesting of their
--- bodies; and bounds by the longest code entry.
+-- bodies; no figures where there is no function; and bounds by the longest code entry.
 pub record SummaryOf (p : Profile) (limit : ℕ) (input : List ℕ) (s : Summary) : Type 0 where
   pub functions : (a : Accepted p limit input) → s.functions ≡ length a.module_value.functions
   pub controls : (a : Accepted p limit input) → s.controls ≡ deepest a.module_value.functions
+  pub nothing : (a : Accepted p limit input) → a.module_value.functions ≡ [] → figures s ≡ no_stats
   pub bounds : (items : Marks) → Items p input items → FiguresWithin (longest_entry items) (figures s)

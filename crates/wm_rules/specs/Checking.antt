@@ -1,5 +1,5 @@
 -- What a checker holds, and what each part makes of it, refusals included: an exact mirror of the code, for the layers
--- above. No promise rests on it alone: which modules are valid is said in Validation.
+-- above. Which modules are valid is said in Validation, and how much of this is kept in Kept.
 use Rattle.std.specs.Prelude.{◌≡◌, ℕ, ◌<◌, ◌+◌, max, Bool, true, false, List, [], Option, Some, None, Result, Ok, Err, length, nat_le, if◌then◌else◌}
 use Rattle.std.specs.BTreeSet.{insert_key}
 use Rattle.std.specs.List.{list_any}

@@ -1,6 +1,5 @@
 -- The index spaces that a checker keeps, and what each part makes of them, refusals included. These follow the code, for
--- the layers above, whose answers are functions of what they were given. No promise rests on them alone: which modules
--- are valid is said in Validation.
+-- the layers above, whose answers are functions of what they were given. Which modules are valid is said in Validation.
 use Rattle.std.specs.Prelude.{ℕ, ◌+◌, ◌≤◌, ◌^◌, ◌&&◌, Bool, true, false, List, [], ◌∷◌, ◌++◌, Option, Some, None, Result, Ok, Err, length, slice_get, nat_lt, nat_le, nat_eq, if◌then◌else◌}
 use Rattle.wm_syntax.specs.declared.types.ValType.{ValType}
 use Rattle.wm_syntax.specs.declared.types.Limits.{Limits}

@@ -1,6 +1,6 @@
 //! Laws of the definitions, each the contract of a function that does nothing.
 
-ghost use Rattle.std.specs.Prelude.{◌≡◌, ℕ, List, Ok, sum_by};
+ghost use Rattle.std.specs.Prelude.{◌≡◌, ℕ, List, Ok, Some, sum_by};
 ghost use Rattle.wm_syntax.specs.declared.profile.Profile.{Profile};
 ghost use Rattle.wm_decode.specs.Decoding.{Takes};
 ghost use Rattle.wm_decode.specs.Parts.{Part};
@@ -8,7 +8,12 @@ ghost use Rattle.wm_decode.specs.Sinks.{all_taken};
 ghost use Rattle.wm_rules.specs.Validation.{Accepted};
 ghost use Rattle.wm_rules.specs.Checking.{Held, after, empty};
 ghost use Rattle.wm_rules.specs.Kept.{listed, weight};
-ghost use Rattle.wm_rules.specs.Validating.{setting};
+ghost use Rattle.wm_typing.specs.After.{After};
+ghost use Rattle.wm_decode.specs.Flat.{FlatCode, code_parts};
+ghost use Rattle.wm_decode.specs.Sections.{expansion};
+ghost use Rattle.wm_rules.specs.Spaces.{context_of, next_type};
+ghost use Rattle.wm_rules.specs.declared.validator.Validator.{Validator};
+ghost use Rattle.wm_rules.specs.Validating.{KeepsOf, kept_in, setting};
 
 /// The parts of an input are taken exactly where a module that it spells is valid (section 3.4.10).
 pub fn taken_is_accepted()
@@ -19,4 +24,17 @@ pub fn taken_is_accepted()
 /// What is kept of the parts that were taken, but for those of a body, is the sum of their weights.
 pub fn kept_is_the_weight_of_the_parts()
     ensures { (parts : List Part) (h : Held) → all_taken after empty parts ≡ Ok h → listed h ≡ sum_by weight parts }
+{}
+
+/// Of a code entry so far, its runs of locals and then its ops, the body that is held is what the check of the
+/// function's body holds after these, from the entry's size on.
+pub fn body_at_hand()
+    ensures { (before : List Part) (h g : Held) (c : FlatCode) → all_taken after empty before ≡ Ok h → all_taken after h (code_parts c) ≡ Ok g
+        → (x : ℕ) × (next_type h.spaces ≡ Some x) × After (context_of h.spaces) x (expansion c.runs) c.ops g.body }
+{}
+
+/// The bytes read determine what is complete in them, where each byte lies, and what is kept.
+pub fn bytes_determine_what_is_kept()
+    ensures { (p : Profile) (bytes : List ℕ) (v w : Validator) (k : KeepsOf v p bytes) (l : KeepsOf w p bytes)
+        → (k.marks ≡ l.marks) × (k.held ≡ l.held) × (kept_in v ≡ kept_in w) }
 {}

@@ -45,12 +45,7 @@ pub fn validate(
 }
 
 /// A validator that was fed these pieces, one after another.
-pub fn read_pieces(
-    alloc: Global,
-    profile: Profile,
-    max_bytes: u64,
-    pieces: &[&[u8]],
-) -> Validator
+pub fn read_pieces(alloc: Global, profile: Profile, max_bytes: u64, pieces: &[&[u8]]) -> Validator
     requires { max_bytes ≤ 2 ^ 62 }
     ensures read { HasRead result profile max_bytes (joined pieces.now) }
     // What it then keeps is told and bounded by the bytes read.
