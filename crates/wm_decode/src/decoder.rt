@@ -137,6 +137,8 @@ impl<S: Sink> Decoder<S> {
         ensures header { IfErr result (λ r. Having S.held S.after self (λ s bytes. length bytes ≤ 8 → r.why ≢ Memory)) }
         ensures float { IfErr result (λ r. r.why ≡ Float → NeverFloat S.after
             → Having S.held S.after self (λ s bytes. EndsInFloat bytes r)) }
+        // The end takes no memory.
+        ensures memory { IfErr result (λ r. r.why ≡ Memory → has_refused S.held self ≡ Some r) }
         ensures sticky { (r : Refusal) → has_refused S.held self ≡ Some r → result ≡ Err r }
     {
         self.end()
@@ -158,6 +160,7 @@ impl<S: Sink> Decoder<S> {
 
     fn end(self) -> Result<S, Refusal>
         ensures ended { Finished (and_then (standing S.held self) ended) S.held result }
+        ensures memory { IfErr result (λ r. r.why ≡ Memory → has_refused S.held self ≡ Some r) }
         ensures sticky { (r : Refusal) → has_refused S.held self ≡ Some r → result ≡ Err r }
     {
         match self.machine {

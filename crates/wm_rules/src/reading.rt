@@ -55,6 +55,7 @@ pub fn validate_from<R: Source>(
             return Err(FromFault::Refused(refusal));
         }
     }
+    // not reached: what is longer than the limit was refused
     Err(FromFault::Refused(Refusal {
         at: max_bytes + 1,
         why: Why::TooLong,

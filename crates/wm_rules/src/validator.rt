@@ -34,8 +34,8 @@ fn end(decoder: Decoder<Checker>) -> Result<Summary, Refusal>
     ensures same { IfErr result (λ r. r.why ≢ Memory → (p : Profile) (limit : ℕ) (input : List ℕ) → StateRead (Ok decoder) p limit input
         → verdict p limit input ≡ Err r) }
     ensures place { IfErr result (λ r. (p : Profile) (limit : ℕ) (input : List ℕ) → StateRead (Ok decoder) p limit input → r.at ≤ length input) }
-    ensures header { IfErr result (λ r. (p : Profile) (limit : ℕ) (input : List ℕ) → StateRead (Ok decoder) p limit input
-        → length input ≤ 8 → r.why ≢ Memory) }
+    ensures memory { IfErr result (λ r. (p : Profile) (limit : ℕ) (input : List ℕ) → StateRead (Ok decoder) p limit input
+        → r.why ≢ Memory) }
 {
     match decoder.finish() {
         Ok(checker) => Ok(checker.summary()),
@@ -117,6 +117,9 @@ impl Validator {
         ensures place { IfErr result (λ r. (p : Profile) (limit : ℕ) (input : List ℕ) → HasRead self p limit input → r.at ≤ length input) }
         ensures header { IfErr result (λ r. (p : Profile) (limit : ℕ) (input : List ℕ) → HasRead self p limit input
             → length input ≤ 8 → r.why ≢ Memory) }
+        // The end takes no memory: where no piece was refused this is not answered.
+        ensures memory { IfErr result (λ r. r.why ≡ Memory → (p : Profile) (limit : ℕ) (input : List ℕ) → HasRead self p limit input
+            → refusal_in self ≡ Some r) }
         ensures sticky { (r : Refusal) → refusal_in self ≡ Some r → result ≡ Err r }
     {
         match self.state {

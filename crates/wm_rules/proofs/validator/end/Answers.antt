@@ -21,8 +21,8 @@ returns-in-Err-clause-same c = λ ne p limit input h. ap (λ y. and_then y (λ h
 pub returns-in-Err-clause-place : goal.returns-in-Err-clause-place
 returns-in-Err-clause-place c = λ p limit input h. c.in-Err.ensures.place (setting p limit) input h.0
 
-pub returns-in-Err-clause-header : goal.returns-in-Err-clause-header
-returns-in-Err-clause-header c = λ p limit input h few. c.in-Err.ensures.header (setting p limit) input h.0 few
+pub returns-in-Err-clause-memory : goal.returns-in-Err-clause-memory
+returns-in-Err-clause-memory c = λ p limit input h why. let no = h.1 in let is = c.in-Err.ensures.memory why in absurd (cc)
 
 pub returns-in-Ok-clause-summary : goal.returns-in-Ok-clause-summary
 returns-in-Ok-clause-summary c = λ p limit input h.

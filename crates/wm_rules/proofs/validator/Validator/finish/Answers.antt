@@ -26,3 +26,6 @@ returns-in-Ok-clause-summary c = on_ok c.end.result (λ x f p limit input h. f p
 
 pub returns-in-Ok-clause-same_summary : goal.returns-in-Ok-clause-same_summary
 returns-in-Ok-clause-same_summary c = on_ok c.end.result (λ x f p limit input h. f p limit input (subst (λ (d : Decoder Checker). StateRead (Ok d) p limit input) (sym c.in-Ok.decoder-is) (subst (λ (s : Result (Decoder Checker) Refusal). StateRead s p limit input) c.in-Ok.is h))) c.end.ensures.same_summary
+
+pub returns-in-Ok-clause-memory : goal.returns-in-Ok-clause-memory
+returns-in-Ok-clause-memory c = on_err c.end.result (λ r f why p limit input h. absurd (f p limit input (subst (λ (d : Decoder Checker). StateRead (Ok d) p limit input) (sym c.in-Ok.decoder-is) (subst (λ (s : Result (Decoder Checker) Refusal). StateRead s p limit input) c.in-Ok.is h)) why)) c.end.ensures.memory
