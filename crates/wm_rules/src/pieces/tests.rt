@@ -1,6 +1,6 @@
 ghost use Rattle.std.specs.Prelude.{◌<◌};
 
-use super::validate;
+use super::{read_pieces, validate};
 use crate::tests::ADD;
 use crate::{FromFault, Summary, validate_from};
 use std::alloc::Global;
@@ -58,6 +58,26 @@ fn limits(rt: HostRuntime) {
     assert_eq!(rt; validate(rt.alloc(), Profile::One, 32, &whole), Ok(FIGURES));
 }
 
+/// What is kept after the second get of a local, and after the last byte.
+#[test]
+fn kept_after_pieces(rt: HostRuntime) {
+    let pieces: [&[u8]; 3] = [&ADD[..25], &[], &ADD[25..30]];
+    assert_eq!(rt;
+        read_pieces(rt.alloc(), Profile::One, LIMIT, &pieces).kept(),
+        8
+    );
+    let pieces: [&[u8]; 2] = [&ADD[..30], &ADD[30..]];
+    assert_eq!(rt;
+        read_pieces(rt.alloc(), Profile::One, LIMIT, &pieces).kept(),
+        5
+    );
+    let pieces: [&[u8]; 2] = [&ADD[8..], &ADD];
+    assert_eq!(rt;
+        read_pieces(rt.alloc(), Profile::One, LIMIT, &pieces).kept(),
+        0
+    );
+}
+
 /// Gives what is left, as much as there is room for.
 #[derive(Drop)]
 struct Bytes<'a> {
@@ -82,6 +102,38 @@ fn from_a_source(rt: HostRuntime) {
         Ok(FIGURES)
     );
     let mut source = Input::new(Bytes { rest: &ADD[8..] });
+    let magic = FromFault::Refused(Refusal {
+        at: 1,
+        why: Why::Magic,
+    });
+    assert_eq!(rt;
+        validate_from(rt.alloc(), &mut source, Profile::One, LIMIT),
+        Err(magic)
+    );
+}
+
+/// Gives one byte, and fails from then on.
+#[derive(Drop)]
+struct Once {
+    given: bool,
+}
+
+impl Read for Once {
+    fn read(&mut self, buf: &mut [u8]) -> io::Result<usize> {
+        match buf.first_mut() {
+            Some(first) if !self.given => {
+                self.given = true;
+                *first = 0x01;
+                Ok(1)
+            }
+            _ => Err(io::Error::from(io::ErrorKind::Interrupted)),
+        }
+    }
+}
+
+#[test]
+fn nothing_is_read_after_a_refusal(rt: HostRuntime) {
+    let mut source = Input::new(Once { given: false });
     let magic = FromFault::Refused(Refusal {
         at: 1,
         why: Why::Magic,
