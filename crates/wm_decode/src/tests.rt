@@ -3,7 +3,8 @@ ghost use Rattle.wm_syntax.specs.declared.why.Why.TheVariants.{Arity, Memory};
 
 use crate::machine::Machine;
 use crate::{Decoder, Item, Refusal, Sink, laws};
-use std::alloc::Global;
+use std::alloc::{AllocError, Global};
+use std::process::Abort;
 use std::test::Fail;
 use wm_syntax::instructions::{BinaryOp, Numeric, Op, Simple};
 use wm_syntax::modules::ExportKind;
@@ -193,16 +194,15 @@ impl Sink for Full {
 
 const HEADER: [u8; 8] = [0x00, 0x61, 0x73, 0x6D, 0x01, 0x00, 0x00, 0x00];
 
-fn joined(alloc: Global, front: &[u8], back: &[u8]) -> Result<Vec<u8>, Refusal> {
-    let mut bytes = Vec::new(alloc);
-    if bytes.extend_from_slice(front).is_err() || bytes.extend_from_slice(back).is_err() {
-        return Err(Refusal {
-            at: 0,
-            why: Why::Memory,
-        });
-    }
+// A header, and these bytes after it.
+fn after_header(alloc: Global, sections: &[u8]) -> Result<Vec<u8>, AllocError> {
+    let mut bytes = HEADER.to_vec(alloc)?;
+    bytes.extend_from_slice(sections)?;
     Ok(bytes)
 }
+
+// How an input is cut: whole, byte by byte and seven by seven.
+const SIZES: [usize; 3] = [1000, 1, 7];
 
 // what is written down of an input, in pieces of so many bytes and an empty one after each
 fn seen_in(alloc: Global, bytes: &[u8], size: usize) -> Result<Vec<Seen>, Refusal>
@@ -216,29 +216,15 @@ fn seen_in(alloc: Global, bytes: &[u8], size: usize) -> Result<Vec<Seen>, Refusa
     Ok(decoder.finish()?.seen)
 }
 
-// how many items the sections after a header have
-fn items_in(alloc: Global, sections: &[u8], size: usize) -> Result<usize, Refusal>
-    requires { 0 < size }
-{
-    let bytes = joined(alloc, &HEADER, sections)?;
-    Ok(seen_in(alloc, &bytes, size)?.len())
-}
-
-// the items of an input, each with the count of bytes at which it came
-fn placed_in(alloc: Global, bytes: &[u8]) -> Result<Vec<(u64, Seen)>, Refusal> {
-    let memory = Refusal {
-        at: 0,
-        why: Why::Memory,
-    };
+// The items of an input, each with the count of bytes at which it came.
+fn placed_in(alloc: Global, bytes: &[u8]) -> Result<Vec<(u64, Seen)>, Fail> {
     let mut decoder = Decoder::new(alloc, nothing_seen(alloc), Profile::One, 1000);
     let mut placed = Vec::new(alloc);
     let mut known = 0;
     for piece in bytes.chunks(1) {
         decoder.feed(piece)?;
         for item in decoder.sink.seen.iter().skip(known) {
-            if placed.push((decoder.at, *item)).is_err() {
-                return Err(memory);
-            }
+            placed.push((decoder.at, *item))?;
         }
         known = decoder.sink.seen.len();
     }
@@ -255,13 +241,10 @@ fn items_of_a_type_section(rt: HostRuntime) -> Result<(), Fail> {
         Seen::Results(1),
         Seen::Result(ValType::I32),
     ];
-    for size in [1000, 1, 7] {
-        if let Ok(bytes) = joined(rt.alloc(), &HEADER, &sections) {
-            match seen_in(rt.alloc(), &bytes, size) {
-                Ok(seen) => assert_eq!(rt; seen.as_slice(), &want[..]),
-                Err(_) => assert!(rt; false),
-            }
-        }
+    let bytes = after_header(rt.alloc(), &sections)?;
+    for size in SIZES {
+        let seen = seen_in(rt.alloc(), &bytes, size)?;
+        assert_eq!(rt; seen.as_slice(), &want[..], "in pieces of {size}");
     }
     Ok(())
 }
@@ -309,13 +292,8 @@ fn places_of_items(rt: HostRuntime) -> Result<(), Fail> {
     ];
     let cases: [(&[u8], &[(u64, Seen)]); 2] = [(&ADDING, &adding), (&DATA, &data)];
     for (sections, want) in cases {
-        match joined(rt.alloc(), &HEADER, sections) {
-            Ok(bytes) => match placed_in(rt.alloc(), &bytes) {
-                Ok(placed) => assert_eq!(rt; placed.as_slice(), want),
-                Err(_) => assert!(rt; false),
-            },
-            Err(_) => assert!(rt; false),
-        }
+        let bytes = after_header(rt.alloc(), sections)?;
+        assert_eq!(rt; placed_in(rt.alloc(), &bytes)?.as_slice(), want);
     }
     Ok(())
 }
@@ -374,23 +352,20 @@ const IN_ALL: [Seen; 28] = [
     Seen::Data(0x61),
 ];
 
-fn all_sections(alloc: Global) -> Result<Vec<u8>, Refusal> {
-    let mut bytes = joined(alloc, &HEADER, &[])?;
+fn all_sections(alloc: Global) -> Result<Vec<u8>, AllocError> {
+    let mut bytes = HEADER.to_vec(alloc)?;
     for section in ALL {
-        bytes = joined(alloc, &bytes, section)?;
+        bytes.extend_from_slice(section)?;
     }
     Ok(bytes)
 }
 
 #[test]
 fn items_of_all_sections(rt: HostRuntime) -> Result<(), Fail> {
-    for size in [1000, 1, 7] {
-        if let Ok(bytes) = all_sections(rt.alloc()) {
-            match seen_in(rt.alloc(), &bytes, size) {
-                Ok(seen) => assert_eq!(rt; seen.as_slice(), &IN_ALL[..]),
-                Err(_) => assert!(rt; false),
-            }
-        }
+    let bytes = all_sections(rt.alloc())?;
+    for size in SIZES {
+        let seen = seen_in(rt.alloc(), &bytes, size)?;
+        assert_eq!(rt; seen.as_slice(), &IN_ALL[..], "in pieces of {size}");
     }
     Ok(())
 }
@@ -399,18 +374,12 @@ fn items_of_all_sections(rt: HostRuntime) -> Result<(), Fail> {
 fn a_sink_that_counts(rt: HostRuntime) -> Result<(), Fail> {
     let counter = Counter { items: 0, data: 0 };
     let mut decoder = Decoder::new(rt.alloc(), counter, Profile::One, 1000);
-    if let Ok(bytes) = all_sections(rt.alloc()) {
-        for piece in bytes.chunks(7) {
-            assert_eq!(rt; decoder.feed(piece), Ok(()));
-        }
+    for piece in all_sections(rt.alloc())?.chunks(7) {
+        assert_eq!(rt; decoder.feed(piece), Ok(()));
     }
-    match decoder.finish() {
-        Ok(counter) => {
-            assert_eq!(rt; counter.items, 27);
-            assert_eq!(rt; counter.data, 1);
-        }
-        Err(_) => assert!(rt; false),
-    }
+    let counter = decoder.finish()?;
+    assert_eq!(rt; counter.items, 27);
+    assert_eq!(rt; counter.data, 1);
     Ok(())
 }
 
@@ -419,20 +388,14 @@ fn names_that_are_cut(rt: HostRuntime) -> Result<(), Fail> {
     let sections = [
         0x02, 0x09, 0x01, 0x02, 0xC3, 0xA9, 0x02, 0x62, 0x63, 0x00, 0x00,
     ];
-    for size in [1000, 1, 7] {
+    let bytes = after_header(rt.alloc(), &sections)?;
+    for size in SIZES {
         let mut decoder = Decoder::new(rt.alloc(), nothing_seen(rt.alloc()), Profile::One, 1000);
-        if let Ok(bytes) = joined(rt.alloc(), &HEADER, &sections) {
-            for piece in bytes.chunks(size) {
-                assert_eq!(rt; decoder.feed(piece), Ok(()));
-            }
+        for piece in bytes.chunks(size) {
+            assert_eq!(rt; decoder.feed(piece), Ok(()));
         }
-        match decoder.finish() {
-            Ok(recorder) => assert_eq!(rt;
-                recorder.names.as_slice(),
-                [0xC3, 0xA9, 0x62, 0x63].as_slice()
-            ),
-            Err(_) => assert!(rt; false),
-        }
+        let names = decoder.finish()?.names;
+        assert_eq!(rt; names.as_slice(), [0xC3, 0xA9, 0x62, 0x63].as_slice());
     }
     Ok(())
 }
@@ -478,24 +441,32 @@ fn inputs_that_are_taken(rt: HostRuntime) -> Result<(), Fail> {
         ),
     ];
     for (sections, items) in cases {
-        for size in [1000, 1, 7] {
-            assert_eq!(rt; items_in(rt.alloc(), sections, size), Ok(items));
+        let bytes = after_header(rt.alloc(), sections)?;
+        for size in SIZES {
+            let seen = seen_in(rt.alloc(), &bytes, size)?;
+            assert_eq!(rt; seen.len(), items, "{sections:?} in pieces of {size}");
         }
     }
     Ok(())
 }
 
-// each of these sections, after those before them, is refused so, however it is cut
-fn refused_at(alloc: Global, front: &[u8], cases: &[(&[u8], u64, Why)]) -> bool {
-    cases.iter().all(|(sections, at, why)| {
+// Sees that a header, the sections before and then each of these are refused so, however they are cut.
+fn expect_refusals(
+    rt: &impl Abort,
+    alloc: Global,
+    front: &[u8],
+    cases: &[(&[u8], u64, Why)],
+) -> Result<(), Fail> {
+    for (sections, at, why) in cases {
+        let mut bytes = after_header(alloc, front)?;
+        bytes.extend_from_slice(sections)?;
         let refusal = Refusal { at: *at, why: *why };
-        match joined(alloc, front, sections) {
-            Ok(bytes) => [1000, 1, 7]
-                .iter()
-                .all(|size| items_in(alloc, &bytes, *size) == Err(refusal)),
-            Err(_) => false,
+        for size in SIZES {
+            let answer = seen_in(alloc, &bytes, size).err();
+            assert_eq!(rt; answer, Some(refusal), "{sections:?} in pieces of {size}");
         }
-    })
+    }
+    Ok(())
 }
 
 #[test]
@@ -527,8 +498,7 @@ fn sections_that_are_refused(rt: HostRuntime) -> Result<(), Fail> {
         (&[0x01, 0x04, 0x01, 0x60, 0x00], 13, Why::Truncated),
         (&[0x00, 0x05, 0x04, 0x6E], 12, Why::Truncated),
     ];
-    assert!(rt; refused_at(rt.alloc(), &[], &cases));
-    Ok(())
+    expect_refusals(&rt, rt.alloc(), &[], &cases)
 }
 
 #[test]
@@ -586,8 +556,7 @@ fn components_that_are_refused(rt: HostRuntime) -> Result<(), Fail> {
             Why::SectionEnd,
         ),
     ];
-    assert!(rt; refused_at(rt.alloc(), &[], &cases));
-    Ok(())
+    expect_refusals(&rt, rt.alloc(), &[], &cases)
 }
 
 #[test]
@@ -635,8 +604,7 @@ fn code_that_is_refused(rt: HostRuntime) -> Result<(), Fail> {
             Why::BadByte,
         ),
     ];
-    assert!(rt; refused_at(rt.alloc(), &front, &cases));
-    Ok(())
+    expect_refusals(&rt, rt.alloc(), &front, &cases)
 }
 
 #[test]
@@ -648,11 +616,13 @@ fn headers_that_are_refused(rt: HostRuntime) -> Result<(), Fail> {
         (&[0x00, 0x61, 0x73, 0x6D, 0x02], 5, Why::Version),
     ];
     for (bytes, at, why) in cases {
-        for size in [1000, 1, 7] {
-            match seen_in(rt.alloc(), bytes, size) {
-                Ok(_) => assert!(rt; false),
-                Err(refusal) => assert_eq!(rt; refusal, Refusal { at, why }),
-            }
+        for size in SIZES {
+            let answer = seen_in(rt.alloc(), bytes, size).err();
+            assert_eq!(rt;
+                answer,
+                Some(Refusal { at, why }),
+                "{bytes:?} in pieces of {size}"
+            );
         }
     }
     Ok(())
@@ -700,10 +670,7 @@ fn a_sink_that_refuses(rt: HostRuntime) -> Result<(), Fail> {
         decoder.feed(&[0x01, 0x04, 0x01, 0x60, 0x00, 0x00]),
         Err(refusal)
     );
-    match decoder.finish() {
-        Ok(_) => assert!(rt; false),
-        Err(last) => assert_eq!(rt; last, refusal),
-    }
+    assert_eq!(rt; decoder.finish().err(), Some(refusal));
     Ok(())
 }
 
@@ -733,6 +700,7 @@ fn laws_are_called(rt: HostRuntime) -> Result<(), Fail> {
     laws::input_is_bytes();
     laws::one_spelling_one_module();
     laws::slices_join::<Recorder>();
-    assert_eq!(rt; items_in(rt.alloc(), &[], 1), Ok(0));
+    let seen = seen_in(rt.alloc(), &HEADER, 1)?;
+    assert!(rt; seen.is_empty());
     Ok(())
 }
