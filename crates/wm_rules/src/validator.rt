@@ -63,6 +63,9 @@ impl Validator {
         // No accepted input begins with the bytes up to the place.
         ensures refused { IfErr result (λ r. r.why ≢ Memory → (p : Profile) (limit : ℕ) (before : List ℕ) → HasRead self.old p limit before
             → NeverAccepted p limit (before ++ piece.now) r) }
+        // Whatever comes after these bytes, the input is not accepted.
+        ensures never { IfErr result (λ r. r.why ≢ Memory → (p : Profile) (limit : ℕ) (before more : List ℕ) → HasRead self.old p limit before
+            → Accepted p limit ((before ++ piece.now) ++ more) → ⊥) }
         // The joined bytes alone say which refusal it is, whatever comes after them.
         ensures same { IfErr result (λ r. r.why ≢ Memory → (p : Profile) (limit : ℕ) (before more : List ℕ) → HasRead self.old p limit before
             → verdict p limit ((before ++ piece.now) ++ more) ≡ Err r) }

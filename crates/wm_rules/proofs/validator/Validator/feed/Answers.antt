@@ -5,7 +5,7 @@ use Rattle.wm_decode.proofs.Calls.{are_bytes}
 use Rattle.wm_rules.specs.declared.checker.Checker.{Checker}
 use Rattle.wm_rules.specs.Validating.{RefusedAfter, StateRead, setting}
 use Rattle.wm_rules.proofs.Keeping.{keeps_ok}
-use Rattle.wm_rules.proofs.Verdicts.{still_refused, never_accepted, same_verdict, not_in_header, refused_after}
+use Rattle.wm_rules.proofs.Verdicts.{still_refused, never_accepted, not_begun, same_verdict, not_in_header, refused_after}
 use Rattle.wm_rules.proofs.validator.Validator.feed.Goals as goal
 
 pub returns-in-Err-clause-read : goal.returns-in-Err-clause-read
@@ -13,6 +13,10 @@ returns-in-Err-clause-read c = λ p limit before h. still_refused p limit before
 
 pub returns-in-Err-clause-refused : goal.returns-in-Err-clause-refused
 returns-in-Err-clause-refused c = λ ne p limit before h. never_accepted p limit (before ++ c.args.piece.now) c.in-Err.refusal (returns-in-Err-clause-read c p limit before h) ne
+
+pub returns-in-Err-clause-never : goal.returns-in-Err-clause-never
+returns-in-Err-clause-never c = λ ne p limit before more h.
+    not_begun p limit (before ++ c.args.piece.now) more c.in-Err.refusal (returns-in-Err-clause-refused c ne p limit before h)
 
 pub returns-in-Err-clause-same : goal.returns-in-Err-clause-same
 returns-in-Err-clause-same c = λ ne p limit before more h. same_verdict p limit (before ++ c.args.piece.now) more c.in-Err.refusal (returns-in-Err-clause-read c p limit before h) ne
@@ -32,6 +36,10 @@ returns-in-Err-feed-clause-read c = λ p limit before h.
 
 pub returns-in-Err-feed-clause-refused : goal.returns-in-Err-feed-clause-refused
 returns-in-Err-feed-clause-refused c = λ ne p limit before h. never_accepted p limit (before ++ c.args.piece.now) c.in-Err-feed.refusal (returns-in-Err-feed-clause-read c p limit before h) ne
+
+pub returns-in-Err-feed-clause-never : goal.returns-in-Err-feed-clause-never
+returns-in-Err-feed-clause-never c = λ ne p limit before more h.
+    not_begun p limit (before ++ c.args.piece.now) more c.in-Err-feed.refusal (returns-in-Err-feed-clause-refused c ne p limit before h)
 
 pub returns-in-Err-feed-clause-same : goal.returns-in-Err-feed-clause-same
 returns-in-Err-feed-clause-same c = λ ne p limit before more h. same_verdict p limit (before ++ c.args.piece.now) more c.in-Err-feed.refusal (returns-in-Err-feed-clause-read c p limit before h) ne
