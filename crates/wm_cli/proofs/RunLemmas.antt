@@ -10,9 +10,7 @@ use Rattle.wm_cli.specs.declared.words.Action.{Action}
 use Rattle.wm_rules.specs.Reading.{Judges}
 use Rattle.wm_cli.specs.Outcome.{Answers, OutOf, refusal_line}
 use Rattle.wm_rules.specs.Validation.{Accepted}
-use Rattle.wm_rules.specs.Validating.{AtMoment, HasRead, NeverAccepted, verdict}
-use Rattle.wm_rules.specs.declared.validator.Validator.{Validator}
-use Rattle.wm_rules.proofs.Keeping.{at_moment}
+use Rattle.wm_rules.specs.Validating.{NeverAccepted, verdict}
 
 refused_out : (action : Action) (p : Profile) (limit : ℕ) (input : List ℕ) (r : Refusal) → r.why ≢ Memory → (Accepted p limit input → ⊥) → r.at ≤ length input
     → verdict p limit input ≡ Err r → OutOf action p limit input (refusal_line r.at r.why) status.Refused
@@ -41,7 +39,3 @@ out_of_refusal action p limit (Some input) left r why j =
 -- the line of a refusal, by the text of its name
 abbrev pub line_with : ℕ → List ℕ → List ℕ
 line_with place name = codes "refused at " ++ (decimal place ++ (codes ": " ++ (name ++ 10 ∷ [])))
-
--- what a validator keeps
-pub at_every_moment : (p : Profile) (limit : ℕ) (read : List ℕ) (v : Validator) → HasRead v p limit read → AtMoment v p read
-at_every_moment p limit read v h = at_moment v p limit read h

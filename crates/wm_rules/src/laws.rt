@@ -13,7 +13,7 @@ ghost use Rattle.wm_decode.specs.Flat.{FlatCode, code_parts};
 ghost use Rattle.wm_decode.specs.Sections.{expansion};
 ghost use Rattle.wm_rules.specs.Spaces.{context_of, next_type};
 ghost use Rattle.wm_rules.specs.declared.validator.Validator.{Validator};
-ghost use Rattle.wm_rules.specs.Validating.{KeepsOf, kept_in, setting};
+ghost use Rattle.wm_rules.specs.Validating.{AtMoment, HasRead, KeepsOf, kept_in, setting};
 
 /// The parts of an input are taken exactly where a module that it spells is valid (section 3.4.10).
 pub fn taken_is_accepted()
@@ -37,4 +37,11 @@ pub fn body_at_hand()
 pub fn bytes_determine_what_is_kept()
     ensures { (p : Profile) (bytes : List ℕ) (v w : Validator) (k : KeepsOf v p bytes) (l : KeepsOf w p bytes)
         → (k.marks ≡ l.marks) × (k.held ≡ l.held) × (kept_in v ≡ kept_in w) }
+{}
+
+/// At every moment what a validator keeps is told and bounded by the bytes that it has read. It is at most one entry
+/// more than those outside code entries and those of the entry at hand, whose n bytes hold both stacks to n + 1
+/// entries together and 4n + 4 moves.
+pub fn bytes_bound_what_is_kept()
+    ensures { (p : Profile) (limit : ℕ) (bytes : List ℕ) (v : Validator) → HasRead v p limit bytes → AtMoment v p bytes }
 {}

@@ -3,8 +3,7 @@
 ghost use Rattle.std.specs.Prelude.{◌≡◌, ◌≢◌, ◌≤◌, ◌^◌, ◌↔◌, ℕ, List, Option, false, true};
 ghost use Rattle.std.specs.Io.KnownBytes.{IsAtEnd};
 ghost use Rattle.wm_rules.specs.Reading.{Judges, JudgesInput};
-ghost use Rattle.wm_rules.specs.Validating.{AtMoment, HasRead};
-ghost use Rattle.wm_rules.specs.declared.validator.Validator.{Validator};
+ghost use Rattle.wm_rules.specs.Validating.{HasRead};
 ghost use Rattle.wm_syntax.specs.declared.profile.Profile.{Profile};
 
 use crate::checker::Summary;
@@ -28,7 +27,6 @@ const PIECE: usize = 4096;
 
 /// Reads a source to its end, in pieces of at most 4,096 bytes, and judges what it gave. After a refusal
 /// nothing more is read.
-#[tactic(auto, using(crate::proofs::Keeping::at_moment))]
 pub fn validate_from<R: Source>(
     alloc: Global,
     r: &mut R,
@@ -39,8 +37,6 @@ pub fn validate_from<R: Source>(
     requires limit { max_bytes ≤ 2 ^ 62 }
     ensures judged { Judges profile max_bytes (R.remaining r.old) (R.remaining r.new) result }
     ensures failed { (result ≡ Err FromFault.Io) ↔ (R.has_failed r.new ≡ true) }
-    // At every moment, whatever was read by then, what a validator keeps is told and bounded by the bytes read.
-    ensures moments { (read : List ℕ) (v : Validator) → HasRead v profile max_bytes read → AtMoment v profile read }
 {
     let mut validator = Validator::new(alloc, profile, max_bytes);
     let mut piece = [0u8; PIECE];

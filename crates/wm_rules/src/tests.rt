@@ -380,4 +380,5 @@ fn laws_are_called(_rt: HostRuntime) {
     laws::kept_is_the_weight_of_the_parts();
     laws::body_at_hand();
     laws::bytes_determine_what_is_kept();
+    laws::bytes_bound_what_is_kept();
 }
