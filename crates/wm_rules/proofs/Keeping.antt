@@ -62,6 +62,7 @@ module _ (v : Validator) (p : Profile) (limit : ℕ) (bytes : List ℕ) where
         taken = s.taken;
         holds = ap holds_of e;
         kept = kept ∙ ap (λ n. n + entries_of d.sink) s.name;
+        idle = λ e. let none = a.idle e in omega (arith, none);
         at_most = omega (arith, kept, s.name, few, a.kept);
         heights = subst (λ n. n ≤ entry_bytes s.marks + 1) (sym (ap heights_of e)) a.heights;
         moves = subst (λ n. n ≤ 4 * entry_bytes s.marks + 4) (sym (ap moves_of e)) (few_moves d.sink.in_body d.sink.body.state.stacks.moves (4 * entry_bytes s.marks + 4) a.moves);
