@@ -2,6 +2,7 @@
 
 ghost use Rattle.std.specs.Prelude.{◌≡◌, ℕ, List, Ok, Some, sum_by};
 ghost use Rattle.wm_syntax.specs.declared.profile.Profile.{Profile};
+ghost use Rattle.wm_syntax.specs.declared.profile.Profile.TheVariants.{One, Two};
 ghost use Rattle.wm_decode.specs.Decoding.{Takes};
 ghost use Rattle.wm_decode.specs.Parts.{Part};
 ghost use Rattle.wm_decode.specs.Sinks.{all_taken};
@@ -19,6 +20,12 @@ ghost use Rattle.wm_rules.specs.Validating.{AtMoment, HasRead, KeepsOf, kept_in,
 pub fn taken_is_accepted()
     ensures to { (p : Profile) (limit : ℕ) (input : List ℕ) (last : Held) → Takes after (setting p limit) input last → Accepted p limit input }
     ensures from { (p : Profile) (limit : ℕ) (input : List ℕ) → Accepted p limit input → (last : Held) × Takes after (setting p limit) input last }
+{}
+
+/// What is accepted under the first profile is accepted under the second, with the same module.
+pub fn second_profile_accepts_the_first()
+    ensures { (limit : ℕ) (bytes : List ℕ) (a : Accepted One limit bytes)
+        → (b : Accepted Two limit bytes) × (b.module_value ≡ a.module_value) }
 {}
 
 /// What is kept of the parts that were taken, but for those of a body, is the sum of their weights.
