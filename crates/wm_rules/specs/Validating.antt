@@ -39,6 +39,10 @@ StateRead (Err r) p limit bytes = RefusedAfter p limit bytes r
 abbrev pub HasRead : Validator → Profile → ℕ → List ℕ → Type 0
 HasRead v p limit bytes = StateRead v.state p limit bytes
 
+-- for whatever profile, limit and bytes, by the above
+abbrev pub HavingRead : Validator → (Profile → ℕ → List ℕ → Type 0) → Type 0
+HavingRead v P = (p : Profile) (limit : ℕ) (bytes : List ℕ) → HasRead v p limit bytes → P p limit bytes
+
 -- the refusal that it has answered
 abbrev pub refusal_of : Result (Decoder Checker) Refusal → Option Refusal
 refusal_of (Ok d) = None

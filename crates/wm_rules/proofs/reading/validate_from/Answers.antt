@@ -14,7 +14,7 @@ returns-in-Err-feed-clause-judged g c =
     judged_refused c.args.profile c.args.max_bytes _ _ (c.loop.invariant.0 ++ take c.in-Ok.n c.get.new.buf) c.in-Err-feed.refusal
     (consumes_then _ _ _ c.loop.invariant.0 (take c.in-Ok.n c.get.new.buf) c.loop.invariant.3 c.in-Ok.ensures.bytes.0)
     (λ why. c.in-Err-feed.ensures.refused why c.args.profile c.args.max_bytes c.loop.invariant.0 c.loop.invariant.1)
-    (λ why more. c.in-Err-feed.ensures.same why c.args.profile c.args.max_bytes c.loop.invariant.0 more c.loop.invariant.1)
+    (λ why. c.in-Err-feed.ensures.same why c.args.profile c.args.max_bytes c.loop.invariant.0 c.loop.invariant.1)
     (c.in-Err-feed.ensures.header c.args.profile c.args.max_bytes c.loop.invariant.0 c.loop.invariant.1)
     (c.in-Err-feed.ensures.place c.args.profile c.args.max_bytes c.loop.invariant.0 c.loop.invariant.1)
 

@@ -15,11 +15,11 @@ pub returns-in-Err-clause-refused : goal.returns-in-Err-clause-refused
 returns-in-Err-clause-refused c = λ ne p limit before h. never_accepted p limit (before ++ c.args.piece.now) c.in-Err.refusal (returns-in-Err-clause-read c p limit before h) ne
 
 pub returns-in-Err-clause-never : goal.returns-in-Err-clause-never
-returns-in-Err-clause-never c = λ ne p limit before more h.
+returns-in-Err-clause-never c = λ ne p limit before h more.
     not_begun p limit (before ++ c.args.piece.now) more c.in-Err.refusal (returns-in-Err-clause-refused c ne p limit before h)
 
 pub returns-in-Err-clause-same : goal.returns-in-Err-clause-same
-returns-in-Err-clause-same c = λ ne p limit before more h. same_verdict p limit (before ++ c.args.piece.now) more c.in-Err.refusal (returns-in-Err-clause-read c p limit before h) ne
+returns-in-Err-clause-same c = λ ne p limit before h more. same_verdict p limit (before ++ c.args.piece.now) more c.in-Err.refusal (returns-in-Err-clause-read c p limit before h) ne
 
 pub returns-in-Err-clause-header : goal.returns-in-Err-clause-header
 returns-in-Err-clause-header c = λ p limit before h few. not_in_header p limit (before ++ c.args.piece.now) c.in-Err.refusal (returns-in-Err-clause-read c p limit before h) few
@@ -38,11 +38,11 @@ pub returns-in-Err-feed-clause-refused : goal.returns-in-Err-feed-clause-refused
 returns-in-Err-feed-clause-refused c = λ ne p limit before h. never_accepted p limit (before ++ c.args.piece.now) c.in-Err-feed.refusal (returns-in-Err-feed-clause-read c p limit before h) ne
 
 pub returns-in-Err-feed-clause-never : goal.returns-in-Err-feed-clause-never
-returns-in-Err-feed-clause-never c = λ ne p limit before more h.
+returns-in-Err-feed-clause-never c = λ ne p limit before h more.
     not_begun p limit (before ++ c.args.piece.now) more c.in-Err-feed.refusal (returns-in-Err-feed-clause-refused c ne p limit before h)
 
 pub returns-in-Err-feed-clause-same : goal.returns-in-Err-feed-clause-same
-returns-in-Err-feed-clause-same c = λ ne p limit before more h. same_verdict p limit (before ++ c.args.piece.now) more c.in-Err-feed.refusal (returns-in-Err-feed-clause-read c p limit before h) ne
+returns-in-Err-feed-clause-same c = λ ne p limit before h more. same_verdict p limit (before ++ c.args.piece.now) more c.in-Err-feed.refusal (returns-in-Err-feed-clause-read c p limit before h) ne
 
 pub returns-in-Err-feed-clause-place : goal.returns-in-Err-feed-clause-place
 returns-in-Err-feed-clause-place c = λ p limit before h. let r : RefusedAfter p limit (before ++ c.args.piece.now) c.in-Err-feed.refusal = returns-in-Err-feed-clause-read c p limit before h in r.place
