@@ -33,7 +33,7 @@ out_of_refusal action p limit None left r why j = tt
 out_of_refusal action p limit (Some input) left r why j =
     elim (j.not_accepted why) [
       | inl n ↦ early_out action p limit input left r why n
-      | inr e ↦ inl (e.0, refused_out action p limit input r why e.1 j.place (j.same why))
+      | inr e ↦ inl (e.0, refused_out action p limit input r why e.1 (omega (arith, j.place)) (j.same why))
     ]
 
 -- the line of a refusal, by the text of its name

@@ -1,10 +1,9 @@
 //! Judging what a source gives.
 
-ghost use Rattle.std.specs.Prelude.{◌≡◌, ◌≢◌, ◌≤◌, ◌^◌, ◌↔◌, ℕ, List, Option, false, true};
+ghost use Rattle.std.specs.Prelude.{◌≡◌, ◌≢◌, ◌≤◌, ◌^◌, ◌↔◌, ℕ, List, None, Option, false, true};
 ghost use Rattle.std.specs.Io.KnownBytes.{IsAtEnd};
 ghost use Rattle.wm_rules.specs.Reading.{Judges, JudgesInput};
-ghost use Rattle.wm_rules.specs.Validating.{HasRead};
-ghost use Rattle.wm_syntax.specs.declared.profile.Profile.{Profile};
+ghost use Rattle.wm_rules.specs.Validating.{HavingRead, refusal_in};
 
 use crate::checker::Summary;
 use crate::validator::Validator;
@@ -58,10 +57,10 @@ pub fn validate_from<R: Source>(
     }))
 }
 
-/// The end of the input.
+/// The end of an input of which no piece was refused.
 fn finish(validator: Validator) -> Result<Summary, FromFault>
-    ensures judged { (p : Profile) (limit : ℕ) (input : List ℕ) (left : Option (List ℕ)) → HasRead validator p limit input → IsAtEnd left
-        → JudgesInput p limit input left result }
+    ensures judged { refusal_in validator ≡ None → HavingRead validator (λ p limit input. (left : Option (List ℕ)) → IsAtEnd left
+        → JudgesInput p limit input left result) }
     ensures refused { result ≢ Err FromFault.Io }
 {
     match validator.finish() {

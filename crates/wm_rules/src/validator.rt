@@ -1,6 +1,6 @@
 //! A whole module in pieces, judged as it comes.
 
-ghost use Rattle.std.specs.Prelude.{◌≡◌, ◌≢◌, ◌≤◌, ◌^◌, ◌++◌, ℕ, List, [], length, IfOk, IfErr, MatchResult, OnOk, Some, None, Ok, Err};
+ghost use Rattle.std.specs.Prelude.{◌≡◌, ◌≢◌, ◌<◌, ◌≤◌, ◌^◌, ◌++◌, ℕ, List, [], length, IfOk, IfErr, MatchResult, OnOk, Some, None, Ok, Err};
 ghost use Rattle.wm_syntax.specs.declared.why.Why.TheVariants.{Memory};
 ghost use Rattle.wm_decode.specs.declared.refusal.Refusal.{Refusal};
 ghost use Rattle.wm_rules.specs.Bounds.{SummaryOf};
@@ -48,6 +48,9 @@ impl Validator {
         ensures same { IfErr result (λ r. r.why ≢ Memory → HavingRead self.old (λ p limit before. (more : List ℕ)
             → verdict p limit ((before ++ piece.now) ++ more) ≡ Err r)) }
         ensures place { IfErr result (λ r. HavingRead self.old (λ p limit before. r.at ≤ length (before ++ piece.now))) }
+        // A first refusal has its place in this piece.
+        ensures in_piece { IfErr result (λ r. r.why ≢ Memory → refusal_in self.old ≡ None
+            → HavingRead self.old (λ p limit before. length before < r.at)) }
         // The header takes no memory.
         ensures header { IfErr result (λ r.
             HavingRead self.old (λ p limit before. length (before ++ piece.now) ≤ 8 → r.why ≢ Memory)) }
@@ -92,6 +95,8 @@ impl Validator {
         ensures refused { IfErr result (λ r. r.why ≢ Memory → HavingRead self (λ p limit input. Accepted p limit input → ⊥)) }
         ensures same { IfErr result (λ r. r.why ≢ Memory → HavingRead self (λ p limit input. verdict p limit input ≡ Err r)) }
         ensures place { IfErr result (λ r. HavingRead self (λ p limit input. r.at ≤ length input)) }
+        // Where no piece was refused, the place is the input's length.
+        ensures at_end { IfErr result (λ r. refusal_in self ≡ None → HavingRead self (λ p limit input. r.at ≡ length input)) }
         ensures header { IfErr result (λ r. HavingRead self (λ p limit input. length input ≤ 8 → r.why ≢ Memory)) }
         // The end takes no memory: where no piece was refused this is not answered.
         ensures memory { IfErr result (λ r. r.why ≡ Memory → HavingRead self (λ p limit input. refusal_in self ≡ Some r)) }

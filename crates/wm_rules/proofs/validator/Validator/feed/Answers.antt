@@ -4,7 +4,7 @@ use Rattle.wm_decode.specs.declared.state.Decoder.{Decoder}
 use Rattle.wm_decode.proofs.Calls.{are_bytes}
 use Rattle.wm_rules.specs.declared.checker.Checker.{Checker}
 use Rattle.wm_rules.specs.Validating.{RefusedAfter, StateRead, setting}
-use Rattle.wm_rules.proofs.Keeping.{keeps_ok}
+use Rattle.wm_rules.proofs.Keeping.{keeps_ok, place_in_piece}
 use Rattle.wm_rules.proofs.Verdicts.{still_refused, never_accepted, not_begun, same_verdict, not_in_header, refused_after}
 use Rattle.wm_rules.proofs.validator.Validator.feed.Goals as goal
 
@@ -53,3 +53,8 @@ returns-in-Err-feed-clause-header c = λ p limit before h few. not_in_header p l
 pub returns-in-Ok-feed-clause-so_far : goal.returns-in-Ok-feed-clause-so_far
 returns-in-Ok-feed-clause-so_far c = λ p limit before h.
     keeps_ok _ p limit (before ++ c.args.piece.now) c.feed.new.self refl (returns-in-Ok-feed-clause-read c p limit before h)
+
+pub returns-in-Err-feed-clause-in_piece : goal.returns-in-Err-feed-clause-in_piece
+returns-in-Err-feed-clause-in_piece c = λ ne none p limit before h.
+    let read = subst (λ (s : Result (Decoder Checker) Refusal). StateRead s p limit before) c.in-Ok.is h in
+    place_in_piece _ p limit before c.args.piece.now c.in-Err-feed.refusal read (returns-in-Err-feed-clause-read c p limit before h) ne

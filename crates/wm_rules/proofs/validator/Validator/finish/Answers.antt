@@ -1,5 +1,6 @@
-use Rattle.std.proofs.Common.{◌≡◌, ◌≤◌, ◌^◌, ℕ, List, Result, Ok, sym, ◌∙◌, ap, subst}
+use Rattle.std.proofs.Common.{◌≡◌, ◌≢◌, ◌≤◌, ◌^◌, ℕ, List, Result, Ok, sym, ◌∙◌, ap, subst}
 use Rattle.wm_syntax.specs.declared.profile.Profile.{Profile}
+use Rattle.wm_syntax.specs.declared.why.Why.TheVariants.{Memory}
 use Rattle.wm_decode.specs.declared.refusal.Refusal.{Refusal}
 use Rattle.wm_decode.specs.declared.state.Decoder.{Decoder}
 use Rattle.wm_decode.specs.Sinks.{and_then}
@@ -10,6 +11,7 @@ use Rattle.wm_rules.specs.Bounds.{figures}
 use Rattle.wm_rules.specs.Checking.{after, summary_in}
 use Rattle.wm_rules.specs.Validating.{StateRead, setting}
 use Rattle.wm_rules.proofs.Figures.{summary_of}
+use Rattle.wm_rules.proofs.Keeping.{place_at_end}
 use Rattle.wm_rules.proofs.Judged.{takes_accepted, accepted_takes}
 use Rattle.wm_rules.proofs.Verdicts.{not_accepted, not_in_header}
 use Rattle.wm_rules.proofs.validator.Validator.finish.Goals as goal
@@ -54,6 +56,12 @@ pub returns-in-Err-finish-clause-place : goal.returns-in-Err-finish-clause-place
 returns-in-Err-finish-clause-place c = λ p limit input h.
     let read = read_by _ _ _ c.in-Ok.is c.in-Ok.decoder-is p limit input h in
     c.in-Err-finish.ensures.place (setting p limit) input read.0
+
+pub returns-in-Err-finish-clause-at_end : goal.returns-in-Err-finish-clause-at_end
+returns-in-Err-finish-clause-at_end c = λ none p limit input h.
+    let read = read_by _ _ _ c.in-Ok.is c.in-Ok.decoder-is p limit input h in
+    let live : c.in-Err-finish.refusal.why ≢ Memory = λ m. let no = read.1 in let is = c.in-Err-finish.ensures.memory m in cc in
+    place_at_end _ p limit input c.in-Err-finish.refusal read (returns-in-Err-finish-clause-same c live p limit input h)
 
 pub returns-in-Err-clause-refused : goal.returns-in-Err-clause-refused
 returns-in-Err-clause-refused c = λ ne p limit input h a.
