@@ -10,9 +10,7 @@ use Rattle.wm_cli.specs.declared.words.Action.{Action}
 use Rattle.wm_rules.specs.Reading.{Judges}
 use Rattle.wm_cli.specs.Outcome.{Answers, OutOf, refusal_line}
 use Rattle.wm_rules.specs.Validation.{Accepted}
-use Rattle.wm_rules.specs.Validating.{AtMoment, HasRead, NeverAccepted, verdict}
-use Rattle.wm_rules.specs.declared.validator.Validator.{Validator}
-use Rattle.wm_rules.proofs.Keeping.{at_moment}
+use Rattle.wm_rules.specs.Validating.{NeverAccepted, verdict}
 
 refused_out : (action : Action) (p : Profile) (limit : ℕ) (input : List ℕ) (r : Refusal) → r.why ≢ Memory → (Accepted p limit input → ⊥) → r.at ≤ length input
     → verdict p limit input ≡ Err r → OutOf action p limit input (refusal_line r.at r.why) status.Refused
@@ -35,13 +33,9 @@ out_of_refusal action p limit None left r why j = tt
 out_of_refusal action p limit (Some input) left r why j =
     elim (j.not_accepted why) [
       | inl n ↦ early_out action p limit input left r why n
-      | inr e ↦ inl (e.0, refused_out action p limit input r why e.1 j.place (j.same why))
+      | inr e ↦ inl (e.0, refused_out action p limit input r why e.1 (omega (arith, j.place)) (j.same why))
     ]
 
 -- the line of a refusal, by the text of its name
 abbrev pub line_with : ℕ → List ℕ → List ℕ
 line_with place name = codes "refused at " ++ (decimal place ++ (codes ": " ++ (name ++ 10 ∷ [])))
-
--- what a validator keeps
-pub at_every_moment : (p : Profile) (limit : ℕ) (read : List ℕ) (v : Validator) → HasRead v p limit read → AtMoment v p read
-at_every_moment p limit read v h = at_moment v p limit read h

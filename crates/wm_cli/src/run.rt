@@ -1,8 +1,6 @@
 //! What each action does.
 
 ghost use Rattle.std.specs.Prelude.{◌≡◌, ◌≢◌, ◌≤◌, ◌^◌, ◌↔◌, ◌||◌, ℕ, List, IfSome, false, true};
-ghost use Rattle.wm_rules.specs.Validating.{AtMoment, HasRead};
-ghost use Rattle.wm_rules.specs.declared.validator.Validator.{Validator};
 ghost use Rattle.wm_cli.specs.Answers.{IsAnswered};
 ghost use Rattle.wm_cli.specs.declared.status.Status.{Status};
 ghost use Rattle.wm_cli.specs.Outcome.{Answers, IsOutput, refusal_line, stats_text};
@@ -20,7 +18,6 @@ use wm_syntax::why::Why;
 /// Reads the input to its end, or to where it is refused, does what the action says, and writes the answer, a
 /// refusal too. Where memory was
 /// refused or the reader failed nothing is written.
-#[tactic(auto, using(crate::proofs::RunLemmas::at_every_moment))]
 pub fn run<R: Source, W: Dest>(
     alloc: Global,
     action: Action,
@@ -40,8 +37,6 @@ pub fn run<R: Source, W: Dest>(
     ensures reader { R.has_failed r.new ≡ true → (result ≡ Status.Io) × (w.new ≡ w.old) }
     ensures memory { result ≡ Status.Memory → w.new ≡ w.old }
     ensures io { (result ≡ Status.Io) ↔ ((R.has_failed r.new || W.has_failed w.new) ≡ true) }
-    // At every moment, whatever was read by then, what a validator keeps is told and bounded by the bytes read.
-    ensures moments { (read : List ℕ) (v : Validator) → HasRead v profile limit read → AtMoment v profile read }
 {
     match validate_from(alloc, r, profile, limit) {
         Ok(summary) => match action {

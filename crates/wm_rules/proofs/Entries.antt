@@ -45,16 +45,23 @@ pub record AtHand (n : ℕ) (h : Held) : Type 0 where
   pub heights : height_sum h.body.state.stacks ≤ n + 1
   pub kept : kept_of h.body ≤ n + 1
   pub moves : h.in_body ≡ true → h.body.state.stacks.moves ≤ 4 * n + 4
+  pub idle : h.in_body ≡ false → kept_of h.body ≡ 0
 
 pub idle_at_hand : (top n : ℕ) (h : Held) → Idle top h → AtHand n h
 idle_at_hand top n h i = record {
   heights = omega (arith, i.kept);
   kept = omega (arith, i.kept);
   moves = λ e. let c : true ≡ false = sym e ∙ i.closed in absurd (cc (c));
+  idle = λ e. i.kept;
 }
 
 pub more_at_hand : (m n : ℕ) (h : Held) → m ≤ n → AtHand m h → AtHand n h
-more_at_hand m n h l a = record { heights = omega (arith, l, a.heights); kept = omega (arith, l, a.kept); moves = λ e. let v = a.moves e in omega (arith, l, v) }
+more_at_hand m n h l a = record {
+  heights = omega (arith, l, a.heights);
+  kept = omega (arith, l, a.kept);
+  moves = λ e. let v = a.moves e in omega (arith, l, v);
+  idle = a.idle;
+}
 
 greatest_within : (n : ℕ) (a b : BodyStats) → FiguresWithin n a → FiguresWithin n b → FiguresWithin n (greatest a b)
 greatest_within n a b f g = record {
@@ -78,6 +85,11 @@ runs_few (r ∷ runs) ls =
 progress_body : (h : Held) (d : Body) (p : Progress) → (with_progress (in_body h d) d p).body ≡ d
 progress_body h d Inside = refl
 progress_body h d Ended = refl
+
+-- a body that is not at hand any more has no open frame
+none_open : (h : Held) (d : Body) (fs : List Frame) → (with_progress (in_body h d) d (progress_at fs)).in_body ≡ false → fs ≡ []
+none_open h d [] e = refl
+none_open h d (f ∷ fs) e = let c : true ≡ false = e in absurd (cc (c))
 
 -- the declared locals are held as long as a frame is open
 declared_runs : (k : Context) (x : ℕ) (runs : List (ℕ × ValType)) (os : List Op) (d : Body) → After k x (expansion runs) os d → run_count d.declared ≤ length runs
@@ -114,7 +126,12 @@ module _ (h g : Held) (one : OneResults h) (runs : List (ℕ × ValType)) where
           let is : declared (entry_held h) x (expansion runs) ≡ g = cc in
           let w = (after_started (context_of h.spaces) x (expansion runs)).within in
           let n = runs_few runs [] in
-          subst (AtHand (length runs)) is (record { heights = omega (arith, w.heights); kept = omega (arith, w.heights, n); moves = λ i. omega (arith, w.moves) })
+          subst (AtHand (length runs)) is (record {
+            heights = omega (arith, w.heights);
+            kept = omega (arith, w.heights, n);
+            moves = λ i. omega (arith, w.moves);
+            idle = λ i. let c : true ≡ false = i in absurd (cc (c));
+          })
 
   -- among the ops: the body after them
   pub record Reached (ops : List Op) : Type 0 where
@@ -153,6 +170,9 @@ module _ (h g : Held) (one : OneResults h) (runs : List (ℕ × ValType)) where
         heights = subst (λ (b : Body). height_sum b.state.stacks ≤ length runs + length ops + 1) is (omega (arith, a.within.heights));
         kept = subst (λ (b : Body). kept_of b ≤ length runs + length ops + 1) is (omega (arith, a.within.heights, n));
         moves = λ i. subst (λ (b : Body). b.state.stacks.moves ≤ 4 * (length runs + length ops) + 4) is (omega (arith, a.within.moves));
+        idle = λ i.
+            let over = none_open (entry_held h) r.last r.last.state.stacks.frames (ap (λ (z : Held). z.in_body) r.is ∙ i) in
+            subst (λ (b : Body). kept_of b ≡ 0) is (nothing_kept (context_of h.spaces) r.index (expansion runs) ops r.last a over);
       }
 
   -- after the last op

@@ -1,5 +1,5 @@
 -- What a validator keeps at any moment.
-use Rattle.std.proofs.Common.{◌≡◌, ℕ, ◌+◌, ◌-◌, ◌*◌, ◌≤◌, ◌<◌, ◌^◌, List, [], ◌∷◌, Bool, true, false, cond, Option, Some, None, Result, Ok, Err, length, IsOk, inl, inr, refl, sym, ◌∙◌, ap, subst, arith}
+use Rattle.std.proofs.Common.{◌≡◌, ◌≢◌, ℕ, zero, suc, ◌+◌, ◌-◌, ◌*◌, ◌≤◌, ◌<◌, ◌^◌, List, [], ◌∷◌, ◌++◌, Bool, true, false, cond, Option, Some, None, Result, Ok, Err, length, IsOk, inl, inr, refl, sym, ◌∙◌, ap, subst, arith, length-append}
 use Rattle.std.specs.Prelude.{MatchOption}
 use Rattle.wm_syntax.specs.declared.profile.Profile.{Profile}
 use Rattle.wm_decode.specs.declared.refusal.Refusal.{Refusal}
@@ -7,17 +7,20 @@ use Rattle.wm_decode.specs.declared.state.Decoder.{Decoder}
 use Rattle.wm_decode.specs.Decoding.{has_refused}
 use Rattle.wm_decode.specs.Fronts.{entry_bytes, unfinished_name}
 use Rattle.wm_syntax.specs.declared.why.Why.{Why}
+use Rattle.wm_syntax.specs.declared.why.Why.TheVariants as why
+use Rattle.wm_decode.specs.declared.machine.Machine.{Machine}
+use Rattle.wm_decode.specs.declared.machine.Machine.TheVariants as machine
 use Rattle.wm_decode.specs.Parts.{parts_of}
-use Rattle.wm_decode.specs.Sinks.{all_taken}
-use Rattle.wm_decode.specs.Live.{Live, begun, standing}
+use Rattle.wm_decode.specs.Sinks.{all_taken, and_then}
+use Rattle.wm_decode.specs.Live.{Live, begun, decoded, ended, ended_at, standing}
 use Rattle.wm_decode.proofs.Calls.{after_so_far, live_after}
-use Rattle.wm_decode.proofs.Theorem.{reached}
+use Rattle.wm_decode.proofs.Theorem.{decoded_append, reached, used_of}
 use Rattle.wm_decode.proofs.Zones.{all_bytes, at_hand}
 use Rattle.wm_rules.specs.declared.checker.Checker.{Checker}
 use Rattle.wm_rules.specs.declared.validator.Validator.{Validator}
-use Rattle.wm_rules.specs.Checking.{Held, after, empty}
+use Rattle.wm_rules.specs.Checking.{Held, after, empty, summary_in}
 use Rattle.wm_rules.specs.Kept.{entries_of}
-use Rattle.wm_rules.specs.Validating.{AtMoment, HasRead, KeepsOf, KeepsNothing, StateRead, heights_of, holds_of, kept_in, kept_of, moves_of, refusal_in, refusal_of, setting}
+use Rattle.wm_rules.specs.Validating.{AtMoment, HasRead, KeepsOf, KeepsNothing, RefusedAfter, StateRead, heights_of, holds_of, kept_in, kept_of, moves_of, refusal_in, refusal_of, setting, verdict}
 use Rattle.wm_rules.proofs.Costs.{at_most_kept}
 use Rattle.wm_rules.proofs.Moments.{front_at_hand}
 
@@ -42,6 +45,44 @@ fits d p limit bytes h =
     go [] f = omega arith
     go (c ∷ b) f = let n : 0 + length (c ∷ b) ≤ limit = f (λ e. cc) in omega (arith, n)
 
+-- a first refusal, other than for memory, has its place after what was read before
+pub place_in_piece : (d : Decoder Checker) (p : Profile) (limit : ℕ) (before piece : List ℕ) (r : Refusal) → StateRead (Ok d) p limit before
+    → RefusedAfter p limit (before ++ piece) r → r.why ≢ why.Memory → length before < r.at
+place_in_piece d p limit before piece r h new ne =
+    let l = live_after held after (setting p limit) d before (unrefused d h.1) h.0 in
+    let q = reached after p limit before (begun empty) l.0 l.1 in
+    let few = fits d p limit before h in
+    let low : l.0.at ≤ limit = omega (arith, q.at, few) in
+    elim new.stands [
+      | inr m ↦ absurd (ne m.0)
+      | inl e ↦
+          let more = decoded_append after p limit before piece (begun empty) ∙ ap (λ y. and_then y (λ m. decoded after p limit m piece)) l.1 in
+          let u = used_of after p limit piece l.0 r low (sym more ∙ e) in
+          omega (arith, q.at, u.at, length-append u.used (u.byte ∷ []))
+    ]
+
+-- and one at the end has it there
+pub place_at_end : (d : Decoder Checker) (p : Profile) (limit : ℕ) (input : List ℕ) (r : Refusal) → StateRead (Ok d) p limit input
+    → verdict p limit input ≡ Err r → r.at ≡ length input
+place_at_end d p limit input r h e =
+    let l = live_after held after (setting p limit) d input (unrefused d h.1) h.0 in
+    let q = reached after p limit input (begun empty) l.0 l.1 in
+    let end = sym (ap (λ y. and_then (and_then y ended) (λ g. Ok (summary_in g))) l.1) ∙ e in
+    omega (arith, q.at, ended_at_place l.0.machine l.0.held l.0.at r (same_refusal (ended l.0) end))
+  where
+    same_refusal : (x : Result Held Refusal) → and_then x (λ g. Ok (summary_in g)) ≡ Err r → x ≡ Err r
+    same_refusal (Ok g) e = absurd (cc)
+    same_refusal (Err t) e = let s : t ≡ r = cc in ap Err s
+
+    its_place : (at : ℕ) (w : Why) (r : Refusal) → record { at = at; why = w } ≡ r → r.at ≡ at
+    its_place at w r e = sym (ap (λ (y : Refusal). y.at) e)
+
+    ended_at_place : (m : Machine) (g : Held) (at : ℕ) (r : Refusal) → ended_at m g at ≡ Err r → r.at ≡ at
+    ended_at_place (machine.Between last zero) g at r e = absurd (cc)
+    ended_at_place (machine.Between last (suc n)) g at r e = its_place at why.CodeCount r (cc (e))
+    ended_at_place (machine.Refused w) g at r e = its_place at w r (cc (e))
+    ended_at_place m g at r e = its_place at why.Truncated r (cc (e))
+
 few_moves : (b : Bool) (m n : ℕ) → (b ≡ true → m ≤ n) → cond b m 0 ≤ n
 few_moves true m n f = f refl
 few_moves false m n f = omega arith
@@ -62,6 +103,7 @@ module _ (v : Validator) (p : Profile) (limit : ℕ) (bytes : List ℕ) where
         taken = s.taken;
         holds = ap holds_of e;
         kept = kept ∙ ap (λ n. n + entries_of d.sink) s.name;
+        idle = λ e. let none = a.idle e in omega (arith, none);
         at_most = omega (arith, kept, s.name, few, a.kept);
         heights = subst (λ n. n ≤ entry_bytes s.marks + 1) (sym (ap heights_of e)) a.heights;
         moves = subst (λ n. n ≤ 4 * entry_bytes s.marks + 4) (sym (ap moves_of e)) (few_moves d.sink.in_body d.sink.body.state.stacks.moves (4 * entry_bytes s.marks + 4) a.moves);

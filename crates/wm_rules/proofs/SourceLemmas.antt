@@ -1,5 +1,5 @@
 -- What was read is a front of the input, and at the end it is the input.
-use Rattle.std.proofs.Common.{inl, ◌≡◌, ◌≤◌, ◌+◌, ◌≢◌, ℕ, List, [], ◌++◌, Option, Some, None, Result, Err, length, sym, ap, subst, ◌∙◌, append_assoc, append-nil, length-append, ◌||◌, Bool, false, arith}
+use Rattle.std.proofs.Common.{inl, ◌≡◌, ◌<◌, ◌≤◌, ◌+◌, ◌≢◌, ℕ, List, [], ◌++◌, Option, Some, None, Result, Err, length, refl, sym, ap, subst, ◌∙◌, append_assoc, append-nil, length-append, ◌||◌, Bool, false, arith}
 use Rattle.std.specs.Io.KnownBytes.{Consumes, IsAtEnd}
 use Rattle.wm_syntax.specs.declared.profile.Profile.{Profile}
 use Rattle.wm_syntax.specs.declared.why.Why.TheVariants.{Memory}
@@ -8,7 +8,7 @@ use Rattle.wm_rules.specs.declared.reading.FromFault.{FromFault}
 use Rattle.wm_rules.specs.declared.reading.FromFault.TheVariants.{Refused}
 use Rattle.wm_rules.specs.declared.checker.Summary.{Summary}
 use Rattle.wm_rules.specs.Validating.{NeverAccepted, verdict}
-use Rattle.wm_rules.specs.Reading.{Judges, JudgesInput}
+use Rattle.wm_rules.specs.Reading.{Judges, JudgesInput, bytes_left}
 
 pub consumes_then : (a b c : Option (List ℕ)) (x y : List ℕ) → Consumes a b x → Consumes b c y → Consumes a c (x ++ y)
 consumes_then None b c x y p q = p
@@ -23,6 +23,10 @@ judged_at_end p limit (Some xs) None read result c e j = absurd c
 judged_at_end p limit (Some xs) (Some ys) read result c e j =
     subst (λ (l : List ℕ). JudgesInput p limit l (Some ys) result) (sym (c ∙ ap (λ (l : List ℕ). read ++ l) e ∙ append-nil read)) j
 
+pub none_left : (left : Option (List ℕ)) → IsAtEnd left → bytes_left left ≡ 0
+none_left None e = refl
+none_left (Some rest) e = ap length e
+
 -- what no longer front of the input makes acceptable
 never_more : (p : Profile) (limit : ℕ) (read ys xs : List ℕ) (r : Refusal) → xs ≡ read ++ ys → NeverAccepted p limit read r → NeverAccepted p limit xs r
 never_more p limit read ys xs r e n = record {
@@ -36,16 +40,17 @@ never_more p limit read ys xs r e n = record {
 
 pub judged_refused : (p : Profile) (limit : ℕ) (old new : Option (List ℕ)) (read : List ℕ) (r : Refusal)
     → Consumes old new read → (r.why ≢ Memory → NeverAccepted p limit read r) → (r.why ≢ Memory → (more : List ℕ) → verdict p limit (read ++ more) ≡ Err r)
-    → (length read ≤ 8 → r.why ≢ Memory) → r.at ≤ length read → Judges p limit old new (Err (Refused r))
-judged_refused p limit None new read r c never same header place = tt
-judged_refused p limit (Some xs) None read r c never same header place = absurd c
-judged_refused p limit (Some xs) (Some ys) read r c never same header place =
+    → (length read ≤ 8 → r.why ≢ Memory) → r.at ≤ length read → (r.why ≢ Memory → length read < r.at + 4096) → Judges p limit old new (Err (Refused r))
+judged_refused p limit None new read r c never same header place stops = tt
+judged_refused p limit (Some xs) None read r c never same header place stops = absurd c
+judged_refused p limit (Some xs) (Some ys) read r c never same header place stops =
     let size : length xs ≡ length read + length ys = ap length c ∙ length-append read ys in
     record {
       not_accepted = λ why. inl (never_more p limit read ys xs r c (never why));
       same = λ why. subst (λ (l : List ℕ). verdict p limit l ≡ Err r) (sym c) (same why ys);
       header = λ few. header (omega (arith, size, few));
       place = omega (arith, size, place);
+      stops = λ why. let early = stops why in omega (arith, size, early);
     }
 
 -- a read of nothing ends the input

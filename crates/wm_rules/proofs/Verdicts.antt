@@ -1,5 +1,5 @@
 -- What is true after a refusal, and of a decoder over a checker.
-use Rattle.std.proofs.Common.{◌≡◌, ◌≢◌, ℕ, ◌<◌, ◌≤◌, List, [], ◌∷◌, ◌++◌, Some, Result, Ok, Err, IfErr, IfOk, length, refl, sym, ◌∙◌, ap, subst, inl, inr, arith, append-nil, length-append}
+use Rattle.std.proofs.Common.{◌≡◌, ◌≢◌, ℕ, ◌<◌, ◌≤◌, List, [], ◌∷◌, ◌++◌, Some, Result, Ok, Err, IfErr, IfOk, length, refl, sym, ◌∙◌, ap, subst, inl, inr, arith, append-nil, append_assoc, length-append}
 use Rattle.wm_syntax.specs.declared.profile.Profile.{Profile}
 use Rattle.wm_syntax.specs.declared.why.Why.TheVariants as why
 use Rattle.wm_syntax.specs.Spelling.{AreBytes}
@@ -65,6 +65,12 @@ module _ (p : Profile) (limit : ℕ) where
           same = λ more. ap (λ y. and_then (and_then y ended) (λ h. Ok (summary_in h))) (more_refused used more r (used_refused after p limit Starts b r u));
         }
   ]
+
+  -- nor is any input that begins with all these bytes
+  pub not_begun : (b more : List ℕ) (r : Refusal) → NeverAccepted p limit b r → Accepted p limit (b ++ more) → ⊥
+  not_begun b more r n a =
+      let whole : b ++ more ≡ n.used ++ (n.rest ++ more) = ap (λ y. y ++ more) n.whole ∙ append_assoc n.used n.rest more in
+      n.never (n.rest ++ more) (subst (λ y. Accepted p limit y) whole a)
 
   pub same_verdict : (b more : List ℕ) (r : Refusal) → RefusedAfter p limit b r → r.why ≢ why.Memory → verdict p limit (b ++ more) ≡ Err r
   same_verdict b more r h ne = elim h.stands [

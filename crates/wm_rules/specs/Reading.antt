@@ -1,5 +1,5 @@
 -- What is said of the bytes that a source gives.
-use Rattle.std.specs.Prelude.{◌≡◌, ◌≢◌, ◌≤◌, ◌⊎◌, ℕ, List, Option, Result, Ok, Err, length, IfSome}
+use Rattle.std.specs.Prelude.{◌≡◌, ◌≢◌, ◌+◌, ◌<◌, ◌≤◌, ◌⊎◌, ℕ, List, Option, Some, None, Result, Ok, Err, length, IfSome}
 use Rattle.wm_syntax.specs.declared.profile.Profile.{Profile}
 use Rattle.wm_syntax.specs.declared.why.Why.TheVariants.{Memory}
 use Rattle.wm_rules.specs.declared.reading.FromFault.{FromFault}
@@ -18,13 +18,19 @@ pub record ValidInput (p : Profile) (limit : ℕ) (input : List ℕ) (left : Opt
   pub summary : SummaryOf p limit input s
   pub same : verdict p limit input ≡ Ok s
 
+-- how many bytes are left to read, where that is told
+abbrev pub bytes_left : Option (List ℕ) → ℕ
+bytes_left None = 0
+bytes_left (Some rest) = length rest
+
 -- An input is refused: but for memory, no input that begins with the bytes up to the place is accepted, or all was read and
--- the input is not.
+-- the input is not. The place lies within what was read, and but for memory less than 4,096 bytes were read from there on.
 pub record RefusedInput (p : Profile) (limit : ℕ) (input : List ℕ) (left : Option (List ℕ)) (r : Refusal) : Type 0 where
   pub not_accepted : r.why ≢ Memory → NeverAccepted p limit input r ⊎ (IsAtEnd left × (Accepted p limit input → ⊥))
   pub same : r.why ≢ Memory → verdict p limit input ≡ Err r
   pub header : length input ≤ 8 → r.why ≢ Memory
-  pub place : r.at ≤ length input
+  pub place : r.at + bytes_left left ≤ length input
+  pub stops : r.why ≢ Memory → length input < r.at + 4096 + bytes_left left
 
 -- what is answered to an input, of which so much is left to read
 abbrev pub JudgesInput : Profile → ℕ → List ℕ → Option (List ℕ) → Result Summary FromFault → Type 0

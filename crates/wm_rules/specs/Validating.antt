@@ -1,5 +1,5 @@
 -- What a validator has read, and what its refusals mean.
-use Rattle.std.specs.Prelude.{◌≡◌, ℕ, ◌≤◌, ◌<◌, ◌+◌, ◌*◌, List, ◌++◌, take, ◌⊎◌, Option, Some, None, MatchOption, Result, Ok, Err, length, if◌then◌else◌}
+use Rattle.std.specs.Prelude.{◌≡◌, ℕ, ◌≤◌, ◌<◌, ◌+◌, ◌*◌, List, ◌++◌, take, ◌⊎◌, Option, Some, None, MatchOption, Result, Ok, Err, length, if◌then◌else◌, false}
 use Rattle.wm_syntax.specs.declared.profile.Profile.{Profile}
 use Rattle.wm_syntax.specs.declared.why.Why.TheVariants as why
 use Rattle.wm_syntax.specs.Spelling.{AreBytes}
@@ -17,7 +17,7 @@ use Rattle.wm_rules.specs.declared.checker.Checker.{Checker}
 use Rattle.wm_rules.specs.declared.checker.Summary.{Summary}
 use Rattle.wm_rules.specs.declared.validator.Validator.{Validator}
 use Rattle.wm_rules.specs.Checking.{Held, after, empty, summary_in}
-use Rattle.wm_rules.specs.Kept.{entries_of}
+use Rattle.wm_rules.specs.Kept.{entries_of, listed}
 use Rattle.wm_rules.specs.Validation.{Accepted}
 
 -- over a checker that holds nothing
@@ -38,6 +38,10 @@ StateRead (Err r) p limit bytes = RefusedAfter p limit bytes r
 
 abbrev pub HasRead : Validator → Profile → ℕ → List ℕ → Type 0
 HasRead v p limit bytes = StateRead v.state p limit bytes
+
+-- for whatever profile, limit and bytes, by the above
+abbrev pub HavingRead : Validator → (Profile → ℕ → List ℕ → Type 0) → Type 0
+HavingRead v P = (p : Profile) (limit : ℕ) (bytes : List ℕ) → HasRead v p limit bytes → P p limit bytes
 
 -- the refusal that it has answered
 abbrev pub refusal_of : Result (Decoder Checker) Refusal → Option Refusal
@@ -92,6 +96,8 @@ pub record KeepsOf (v : Validator) (p : Profile) (bytes : List ℕ) : Type 0 whe
   pub taken : all_taken after empty (parts_of marks) ≡ Ok held
   pub holds : holds_in v ≡ Some held
   pub kept : kept_in v ≡ unfinished_name marks + entries_of held
+  -- of a body nothing, where none is at hand
+  pub idle : held.in_body ≡ false → entries_of held ≡ listed held
   pub at_most : kept_in v ≤ 1 + outside_bytes marks + entry_bytes marks
   pub heights : heights_in v ≤ entry_bytes marks + 1
   pub moves : moves_in v ≤ 4 * entry_bytes marks + 4

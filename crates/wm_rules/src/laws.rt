@@ -2,6 +2,7 @@
 
 ghost use Rattle.std.specs.Prelude.{◌≡◌, ℕ, List, Ok, Some, sum_by};
 ghost use Rattle.wm_syntax.specs.declared.profile.Profile.{Profile};
+ghost use Rattle.wm_syntax.specs.declared.profile.Profile.TheVariants.{One, Two};
 ghost use Rattle.wm_decode.specs.Decoding.{Takes};
 ghost use Rattle.wm_decode.specs.Parts.{Part};
 ghost use Rattle.wm_decode.specs.Sinks.{all_taken};
@@ -13,12 +14,18 @@ ghost use Rattle.wm_decode.specs.Flat.{FlatCode, code_parts};
 ghost use Rattle.wm_decode.specs.Sections.{expansion};
 ghost use Rattle.wm_rules.specs.Spaces.{context_of, next_type};
 ghost use Rattle.wm_rules.specs.declared.validator.Validator.{Validator};
-ghost use Rattle.wm_rules.specs.Validating.{KeepsOf, kept_in, setting};
+ghost use Rattle.wm_rules.specs.Validating.{AtMoment, HasRead, KeepsOf, kept_in, setting};
 
 /// The parts of an input are taken exactly where a module that it spells is valid (section 3.4.10).
 pub fn taken_is_accepted()
     ensures to { (p : Profile) (limit : ℕ) (input : List ℕ) (last : Held) → Takes after (setting p limit) input last → Accepted p limit input }
     ensures from { (p : Profile) (limit : ℕ) (input : List ℕ) → Accepted p limit input → (last : Held) × Takes after (setting p limit) input last }
+{}
+
+/// What is accepted under the first profile is accepted under the second, with the same module.
+pub fn second_profile_accepts_the_first()
+    ensures { (limit : ℕ) (bytes : List ℕ) (a : Accepted One limit bytes)
+        → (b : Accepted Two limit bytes) × (b.module_value ≡ a.module_value) }
 {}
 
 /// What is kept of the parts that were taken, but for those of a body, is the sum of their weights.
@@ -37,4 +44,11 @@ pub fn body_at_hand()
 pub fn bytes_determine_what_is_kept()
     ensures { (p : Profile) (bytes : List ℕ) (v w : Validator) (k : KeepsOf v p bytes) (l : KeepsOf w p bytes)
         → (k.marks ≡ l.marks) × (k.held ≡ l.held) × (kept_in v ≡ kept_in w) }
+{}
+
+/// At every moment what a validator keeps is told and bounded by the bytes that it has read. It is at most one entry
+/// more than those outside code entries and those of the entry at hand, whose n bytes hold both stacks to n + 1
+/// entries together and 4n + 4 moves.
+pub fn bytes_bound_what_is_kept()
+    ensures { (p : Profile) (limit : ℕ) (bytes : List ℕ) (v : Validator) → HasRead v p limit bytes → AtMoment v p bytes }
 {}

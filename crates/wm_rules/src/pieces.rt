@@ -1,11 +1,10 @@
 //! A whole input, in pieces.
 
-ghost use Rattle.std.specs.Prelude.{◌≡◌, ◌≢◌, ◌≤◌, ◌^◌, ℕ, length, take, IfOk, IfErr, Ok, Err};
+ghost use Rattle.std.specs.Prelude.{◌≡◌, ◌≢◌, ◌≤◌, ◌^◌, ℕ, length, IfOk, IfErr, Ok, Err};
 ghost use Rattle.wm_syntax.specs.declared.why.Why.TheVariants.{Memory};
 ghost use Rattle.wm_rules.specs.Bounds.{SummaryOf};
 ghost use Rattle.wm_rules.specs.Joining.{joined};
 ghost use Rattle.wm_rules.specs.Validating.{AtMoment, HasRead, verdict};
-ghost use Rattle.wm_rules.specs.declared.validator.Validator.{Validator};
 ghost use Rattle.wm_rules.specs.Validation.{Accepted};
 
 use crate::checker::Summary;
@@ -18,9 +17,8 @@ use wm_syntax::profile::Profile;
 mod tests;
 
 /// Judges the pieces joined. Memory aside, they are valid exactly where they spell, within the limit, a module
-/// of the profile that is valid (section 3.4.10), however they are cut. At every moment a validator keeps at most
-/// one entry more than the bytes read outside code entries and of the entry at hand, whose n bytes hold both stacks
-/// to n + 1 entries together and 4n + 4 moves.
+/// of the profile that is valid (section 3.4.10), however they are cut. What a validator keeps meanwhile is said by
+/// `laws::bytes_bound_what_is_kept`.
 pub fn validate(
     alloc: Global,
     profile: Profile,
@@ -37,9 +35,6 @@ pub fn validate(
     ensures place { IfErr result (λ r. r.at ≤ length (joined pieces.now)) }
     // The header takes no memory.
     ensures header { IfErr result (λ r. length (joined pieces.now) ≤ 8 → r.why ≢ Memory) }
-    // At every moment, after any number of the pieces, what a validator keeps is told and bounded by the bytes read.
-    ensures moments { (n : ℕ) (v : Validator) → HasRead v profile max_bytes (joined (take n pieces.now))
-        → AtMoment v profile (joined (take n pieces.now)) }
 {
     read_pieces(alloc, profile, max_bytes, pieces).finish()
 }

@@ -1,11 +1,9 @@
 //! Judging what a source gives.
 
-ghost use Rattle.std.specs.Prelude.{◌≡◌, ◌≢◌, ◌≤◌, ◌^◌, ◌↔◌, ℕ, List, Option, false, true};
+ghost use Rattle.std.specs.Prelude.{◌≡◌, ◌≢◌, ◌≤◌, ◌^◌, ◌↔◌, ℕ, List, None, Option, false, true};
 ghost use Rattle.std.specs.Io.KnownBytes.{IsAtEnd};
 ghost use Rattle.wm_rules.specs.Reading.{Judges, JudgesInput};
-ghost use Rattle.wm_rules.specs.Validating.{AtMoment, HasRead};
-ghost use Rattle.wm_rules.specs.declared.validator.Validator.{Validator};
-ghost use Rattle.wm_syntax.specs.declared.profile.Profile.{Profile};
+ghost use Rattle.wm_rules.specs.Validating.{HavingRead, refusal_in};
 
 use crate::checker::Summary;
 use crate::validator::Validator;
@@ -28,7 +26,6 @@ const PIECE: usize = 4096;
 
 /// Reads a source to its end, in pieces of at most 4,096 bytes, and judges what it gave. After a refusal
 /// nothing more is read.
-#[tactic(auto, using(crate::proofs::Keeping::at_moment))]
 pub fn validate_from<R: Source>(
     alloc: Global,
     r: &mut R,
@@ -39,8 +36,6 @@ pub fn validate_from<R: Source>(
     requires limit { max_bytes ≤ 2 ^ 62 }
     ensures judged { Judges profile max_bytes (R.remaining r.old) (R.remaining r.new) result }
     ensures failed { (result ≡ Err FromFault.Io) ↔ (R.has_failed r.new ≡ true) }
-    // At every moment, whatever was read by then, what a validator keeps is told and bounded by the bytes read.
-    ensures moments { (read : List ℕ) (v : Validator) → HasRead v profile max_bytes read → AtMoment v profile read }
 {
     let mut validator = Validator::new(alloc, profile, max_bytes);
     let mut piece = [0u8; PIECE];
@@ -62,10 +57,10 @@ pub fn validate_from<R: Source>(
     }))
 }
 
-/// The end of the input.
+/// The end of an input of which no piece was refused.
 fn finish(validator: Validator) -> Result<Summary, FromFault>
-    ensures judged { (p : Profile) (limit : ℕ) (input : List ℕ) (left : Option (List ℕ)) → HasRead validator p limit input → IsAtEnd left
-        → JudgesInput p limit input left result }
+    ensures judged { refusal_in validator ≡ None → HavingRead validator (λ p limit input. (left : Option (List ℕ)) → IsAtEnd left
+        → JudgesInput p limit input left result) }
     ensures refused { result ≢ Err FromFault.Io }
 {
     match validator.finish() {

@@ -112,7 +112,7 @@ fn from_a_source(rt: HostRuntime) {
     );
 }
 
-/// Gives one byte, and fails from then on.
+/// Fills a buffer of at most 4,096 bytes once. It fails at a longer one, and from then on.
 #[derive(Drop)]
 struct Once {
     given: bool,
@@ -120,11 +120,12 @@ struct Once {
 
 impl Read for Once {
     fn read(&mut self, buf: &mut [u8]) -> io::Result<usize> {
+        let len = buf.len();
         match buf.first_mut() {
-            Some(first) if !self.given => {
+            Some(first) if !self.given && len <= 4096 => {
                 self.given = true;
                 *first = 0x01;
-                Ok(1)
+                Ok(len)
             }
             _ => Err(io::Error::from(io::ErrorKind::Interrupted)),
         }

@@ -1,6 +1,4 @@
-use Rattle.std.proofs.Common.{take}
 use Rattle.wm_rules.specs.Joining.{joined}
-use Rattle.wm_rules.proofs.Keeping.{at_moment}
 use Rattle.wm_rules.proofs.Verdicts.{on_err, on_ok}
 use Rattle.wm_rules.proofs.pieces.validate.Goals as goal
 
@@ -24,6 +22,3 @@ returns-clause-place c = on_err c.finish.result (λ r h. h c.args.profile c.args
 
 pub returns-clause-header : goal.returns-clause-header
 returns-clause-header c = on_err c.finish.result (λ r h. h c.args.profile c.args.max_bytes (joined c.args.pieces.now) c.read_pieces.ensures.read) c.finish.ensures.header
-
-pub returns-clause-moments : goal.returns-clause-moments
-returns-clause-moments c = λ n v h. at_moment v c.args.profile c.args.max_bytes (joined (take n c.args.pieces.now)) h

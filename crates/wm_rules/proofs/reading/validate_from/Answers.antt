@@ -7,16 +7,19 @@ pub returns-in-Ok-eq0-clause-judged : goal.returns-in-Ok-eq0-clause-judged
 returns-in-Ok-eq0-clause-judged g c =
     judged_at_zero c.args.profile c.args.max_bytes _ _ _ c.loop.invariant.0 (take c.in-Ok-eq0.field-0 c.get.new.buf) c.finish.result c.loop.invariant.3 c.in-Ok-eq0.ensures.bytes.0
     (ap (λ k. take k c.get.new.buf) c.in-Ok-eq0.field-0-test) (c.in-Ok-eq0.ensures.bytes.1 c.in-Ok-eq0.field-0-test (omega arith))
-    (c.finish.ensures.judged c.args.profile c.args.max_bytes c.loop.invariant.0 (g.R.Source.remaining c.get.new.self) c.loop.invariant.1 (c.in-Ok-eq0.ensures.bytes.1 c.in-Ok-eq0.field-0-test (omega arith)))
+    (c.finish.ensures.judged c.loop.invariant.5 c.args.profile c.args.max_bytes c.loop.invariant.0 c.loop.invariant.1 (g.R.Source.remaining c.get.new.self) (c.in-Ok-eq0.ensures.bytes.1 c.in-Ok-eq0.field-0-test (omega arith)))
 
 pub returns-in-Err-feed-clause-judged : goal.returns-in-Err-feed-clause-judged
 returns-in-Err-feed-clause-judged g c =
     judged_refused c.args.profile c.args.max_bytes _ _ (c.loop.invariant.0 ++ take c.in-Ok.n c.get.new.buf) c.in-Err-feed.refusal
     (consumes_then _ _ _ c.loop.invariant.0 (take c.in-Ok.n c.get.new.buf) c.loop.invariant.3 c.in-Ok.ensures.bytes.0)
     (λ why. c.in-Err-feed.ensures.refused why c.args.profile c.args.max_bytes c.loop.invariant.0 c.loop.invariant.1)
-    (λ why more. c.in-Err-feed.ensures.same why c.args.profile c.args.max_bytes c.loop.invariant.0 more c.loop.invariant.1)
+    (λ why. c.in-Err-feed.ensures.same why c.args.profile c.args.max_bytes c.loop.invariant.0 c.loop.invariant.1)
     (c.in-Err-feed.ensures.header c.args.profile c.args.max_bytes c.loop.invariant.0 c.loop.invariant.1)
     (c.in-Err-feed.ensures.place c.args.profile c.args.max_bytes c.loop.invariant.0 c.loop.invariant.1)
+    (λ why.
+    let late = c.in-Err-feed.ensures.in_piece why c.loop.invariant.5 c.args.profile c.args.max_bytes c.loop.invariant.0 c.loop.invariant.1 in
+    omega (arith, late, c.in-Ok.ensures.bound, length-append c.loop.invariant.0 (take c.in-Ok.n c.get.new.buf)))
 
 pub loop-preserved : goal.loop-preserved
 loop-preserved g c = (

@@ -4,8 +4,8 @@ use Rattle.wm_decode.specs.declared.state.Decoder.{Decoder}
 use Rattle.wm_decode.proofs.Calls.{are_bytes}
 use Rattle.wm_rules.specs.declared.checker.Checker.{Checker}
 use Rattle.wm_rules.specs.Validating.{RefusedAfter, StateRead, setting}
-use Rattle.wm_rules.proofs.Keeping.{keeps_ok}
-use Rattle.wm_rules.proofs.Verdicts.{still_refused, never_accepted, same_verdict, not_in_header, refused_after}
+use Rattle.wm_rules.proofs.Keeping.{keeps_ok, place_in_piece}
+use Rattle.wm_rules.proofs.Verdicts.{still_refused, never_accepted, not_begun, same_verdict, not_in_header, refused_after}
 use Rattle.wm_rules.proofs.validator.Validator.feed.Goals as goal
 
 pub returns-in-Err-clause-read : goal.returns-in-Err-clause-read
@@ -14,8 +14,12 @@ returns-in-Err-clause-read c = λ p limit before h. still_refused p limit before
 pub returns-in-Err-clause-refused : goal.returns-in-Err-clause-refused
 returns-in-Err-clause-refused c = λ ne p limit before h. never_accepted p limit (before ++ c.args.piece.now) c.in-Err.refusal (returns-in-Err-clause-read c p limit before h) ne
 
+pub returns-in-Err-clause-never : goal.returns-in-Err-clause-never
+returns-in-Err-clause-never c = λ ne p limit before h more.
+    not_begun p limit (before ++ c.args.piece.now) more c.in-Err.refusal (returns-in-Err-clause-refused c ne p limit before h)
+
 pub returns-in-Err-clause-same : goal.returns-in-Err-clause-same
-returns-in-Err-clause-same c = λ ne p limit before more h. same_verdict p limit (before ++ c.args.piece.now) more c.in-Err.refusal (returns-in-Err-clause-read c p limit before h) ne
+returns-in-Err-clause-same c = λ ne p limit before h more. same_verdict p limit (before ++ c.args.piece.now) more c.in-Err.refusal (returns-in-Err-clause-read c p limit before h) ne
 
 pub returns-in-Err-clause-header : goal.returns-in-Err-clause-header
 returns-in-Err-clause-header c = λ p limit before h few. not_in_header p limit (before ++ c.args.piece.now) c.in-Err.refusal (returns-in-Err-clause-read c p limit before h) few
@@ -33,8 +37,12 @@ returns-in-Err-feed-clause-read c = λ p limit before h.
 pub returns-in-Err-feed-clause-refused : goal.returns-in-Err-feed-clause-refused
 returns-in-Err-feed-clause-refused c = λ ne p limit before h. never_accepted p limit (before ++ c.args.piece.now) c.in-Err-feed.refusal (returns-in-Err-feed-clause-read c p limit before h) ne
 
+pub returns-in-Err-feed-clause-never : goal.returns-in-Err-feed-clause-never
+returns-in-Err-feed-clause-never c = λ ne p limit before h more.
+    not_begun p limit (before ++ c.args.piece.now) more c.in-Err-feed.refusal (returns-in-Err-feed-clause-refused c ne p limit before h)
+
 pub returns-in-Err-feed-clause-same : goal.returns-in-Err-feed-clause-same
-returns-in-Err-feed-clause-same c = λ ne p limit before more h. same_verdict p limit (before ++ c.args.piece.now) more c.in-Err-feed.refusal (returns-in-Err-feed-clause-read c p limit before h) ne
+returns-in-Err-feed-clause-same c = λ ne p limit before h more. same_verdict p limit (before ++ c.args.piece.now) more c.in-Err-feed.refusal (returns-in-Err-feed-clause-read c p limit before h) ne
 
 pub returns-in-Err-feed-clause-place : goal.returns-in-Err-feed-clause-place
 returns-in-Err-feed-clause-place c = λ p limit before h. let r : RefusedAfter p limit (before ++ c.args.piece.now) c.in-Err-feed.refusal = returns-in-Err-feed-clause-read c p limit before h in r.place
@@ -45,3 +53,8 @@ returns-in-Err-feed-clause-header c = λ p limit before h few. not_in_header p l
 pub returns-in-Ok-feed-clause-so_far : goal.returns-in-Ok-feed-clause-so_far
 returns-in-Ok-feed-clause-so_far c = λ p limit before h.
     keeps_ok _ p limit (before ++ c.args.piece.now) c.feed.new.self refl (returns-in-Ok-feed-clause-read c p limit before h)
+
+pub returns-in-Err-feed-clause-in_piece : goal.returns-in-Err-feed-clause-in_piece
+returns-in-Err-feed-clause-in_piece c = λ ne none p limit before h.
+    let read = subst (λ (s : Result (Decoder Checker) Refusal). StateRead s p limit before) c.in-Ok.is h in
+    place_in_piece _ p limit before c.args.piece.now c.in-Err-feed.refusal read (returns-in-Err-feed-clause-read c p limit before h) ne
