@@ -1,13 +1,11 @@
 -- The bytes so far of an input have one reading: as long as the bytes of two inputs agree, so does what is said of them.
 use Rattle.std.proofs.Common.{ℕ, zero, suc, ◌≡◌, ◌+◌, ◌-◌, ◌≤◌, ◌<◌, ◌^◌, ◌⊎◌, inl, inr, List, [], ◌∷◌, ◌++◌, Option, Some, None, length, refl, sym, ◌∙◌, ap, subst, append-nil, append_assoc, arith, nat_eq, true, false}
 use Rattle.std.proofs.lemmas.Bool.{eqb-true, eqb-false}
-use Rattle.std.specs.List.{AllByRecursion}
 use Rattle.wm_syntax.specs.declared.instructions.Op.{Op}
 use Rattle.wm_syntax.specs.declared.instructions.Op.TheVariants as op
 use Rattle.wm_syntax.specs.declared.instructions.Simple.{Simple}
 use Rattle.wm_syntax.specs.declared.instructions.Simple.TheVariants as simple
 use Rattle.wm_syntax.specs.declared.modules.ExportKind.{ExportKind}
-use Rattle.wm_syntax.specs.declared.op_class.Kind.{Kind}
 use Rattle.wm_syntax.specs.declared.op_class.Kind.TheVariants as kind
 use Rattle.wm_syntax.specs.declared.op_class.OpClass.{OpClass}
 use Rattle.wm_syntax.specs.declared.op_class.OpClass.TheVariants.{Plain, With}
@@ -17,17 +15,17 @@ use Rattle.wm_syntax.specs.declared.types.ValType.TheVariants.{I32, I64}
 use Rattle.wm_syntax.specs.OpClasses.{class_of, first_byte}
 use Rattle.wm_syntax.specs.Opcodes.{opcode}
 use Rattle.wm_syntax.specs.Spelling.{Form, Byte as OneByte, ◌▸◌}
-use Rattle.wm_syntax.specs.Types.{SpellsU32, SpellsValType, SpellsBlockType, SpellsLimits, SpellsTableType, SpellsGlobalType}
+use Rattle.wm_syntax.specs.Types.{SpellsU32, SpellsBlockType}
 use Rattle.wm_syntax.specs.Instructions.{SpellsOp}
 use Rattle.wm_syntax.proofs.Unambiguous.{same_u32, same_simple}
 use Rattle.wm_syntax.proofs.OneInstruction.{class_there}
-use Rattle.wm_decode.specs.Sections.{SpellsDesc, SpellsRun, kind_byte, header}
-use Rattle.wm_decode.specs.Parts.{Part, Zone, name, entry, closing, Mark, Marks, new_type, param, result_count, one_result, import_module, import_name, import_desc, function, table, memory, global, const_op, export_name, export, start, element, element_function, body, locals, body_op, segment, data_byte}
+use Rattle.wm_decode.specs.Sections.{kind_byte, header}
+use Rattle.wm_decode.specs.Parts.{Part, entry, closing, Mark, Marks, new_type, param, result_count, one_result, import_module, import_name, import_desc, function, table, memory, global, const_op, export_name, export, start, element, element_function, body, locals, body_op, segment, data_byte}
 use Rattle.wm_decode.specs.Shapes.{Shape, Empty, Byte, Literal, Then, Times, Leaf, Number, Vector, Index, Name, Sized, Filled, Entry, nothing_at, said, ending, naming, name_marks, in_zone, entered}
-use Rattle.wm_decode.specs.Grammar.{loose, ValueType, ResultTypes, FunctionType, Import, opens, closes, HasLabels, IsExpression, EachOp, Expression, Global, Target, Export, Element, Run, Code, DataByte, Segment, Paired, Contents, Section, Custom, Customs, MayMiss, Optional, Chain, Module}
+use Rattle.wm_decode.specs.Grammar.{loose, ValueType, ResultTypes, FunctionType, Import, opens, closes, HasLabels, IsExpression, EachOp, Expression, Global, Export, Element, Run, Code, DataByte, Segment, Paired, Contents, Section, Custom, Optional, Chain, Module}
 use Rattle.wm_decode.specs.Fronts.{IsFront}
 use Rattle.wm_decode.proofs.Next.{head_same, tail_same, not_nil}
-use Rattle.wm_decode.proofs.OneSpelling.{Same, Once, byte_same, then_same, same_as, differ, tagged, once_then, once_type, once_limits, once_table, once_global_type, once_desc, once_kind}
+use Rattle.wm_decode.proofs.OneSpelling.{Same, Once, byte_same, same_as, tagged, once_then, once_type, once_limits, once_table, once_global_type, once_desc, once_kind}
 
 abbrev Done : Type 0
 Done = Unit {0}
@@ -445,12 +443,19 @@ module _ (p : Profile) where
   after_customs : (n id : ℕ) (a : List ℕ) (j : Marks) → Times n (Custom loose) a j → (b : List ℕ) (k : Marks) → Tail id b k → Tail id (a ++ b) (j ++ k)
   after_customs zero id a j h b k t = subst (λ y. Tail id y (j ++ k)) (sym (ap (λ y. y ++ b) h.0)) (subst (λ y. Tail id b y) (sym (ap (λ y. y ++ k) h.1)) t)
   after_customs (suc n) id a j h b k t =
-      let r = after_customs n id h.back h.back_marks h.second b k t in
-      (suc r.0, inl (record {
-        front = h.front; back = h.back ++ b; front_marks = h.front_marks; back_marks = h.back_marks ++ k;
-        bytes = ap (λ y. y ++ b) h.bytes ∙ append_assoc h.front h.back b; marks = ap (λ y. y ++ k) h.marks ∙ append_assoc h.front_marks h.back_marks k;
-        first = h.first; second = r.1;
-      }))
+      let r = after_customs n id h.back h.back_marks h.second b k t in (
+        suc r.0,
+        inl (record {
+          front = h.front;
+          back = h.back ++ b;
+          front_marks = h.front_marks;
+          back_marks = h.back_marks ++ k;
+          bytes = ap (λ y. y ++ b) h.bytes ∙ append_assoc h.front h.back b;
+          marks = ap (λ y. y ++ k) h.marks ∙ append_assoc h.front_marks h.back_marks k;
+          first = h.first;
+          second = r.1;
+        }),
+      )
 
   after_section : (f id : ℕ) (a : List ℕ) (j : Marks) → Optional loose p f id a j → (b : List ℕ) (k : Marks) → Tail (suc id) b k → Tail id (a ++ b) (j ++ k)
   after_section f id a j (inl h) b k t = (suc t.0, inr (id, f, (omega arith), record { front = a; back = b; front_marks = j; back_marks = k; bytes = refl; marks = refl; first = h; second = t.1 }))
@@ -470,10 +475,12 @@ module _ (p : Profile) where
   -- the first byte of a section, of which nothing is said
   begun : (id : ℕ) (F : ℕ → Shape) (Q : Shape) (b : List ℕ) (k : Marks) → Then (Then (Byte id None) (Number nothing_at F)) Q b k → (rest : List ℕ) × (later : Marks) × (b ≡ id ∷ rest) × (k ≡ said None ∷ later)
   begun id F Q b k h =
-      let s = h.first in
-      (s.back ++ h.back, s.back_marks ++ h.back_marks,
-      h.bytes ∙ ap (λ y. y ++ h.back) (s.bytes ∙ ap (λ y. y ++ s.back) s.first.0),
-      h.marks ∙ ap (λ y. y ++ h.back_marks) (s.marks ∙ ap (λ y. y ++ s.back_marks) s.first.1))
+      let s = h.first in (
+        s.back ++ h.back,
+        s.back_marks ++ h.back_marks,
+        h.bytes ∙ ap (λ y. y ++ h.back) (s.bytes ∙ ap (λ y. y ++ s.back) s.first.0),
+        h.marks ∙ ap (λ y. y ++ h.back_marks) (s.marks ∙ ap (λ y. y ++ s.back_marks) s.first.1),
+      )
 
   other_sections : (x y : ℕ) (F G : ℕ → Shape) (P Q : Shape) → (x ≡ y → ⊥) → (a : List ℕ) (j : Marks) (b : List ℕ) (k : Marks)
       → Then (Then (Byte x None) (Number nothing_at F)) P a j → Then (Then (Byte y None) (Number nothing_at G)) Q b k → Agree a j b k
