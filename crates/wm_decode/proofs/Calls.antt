@@ -15,7 +15,8 @@ use Rattle.wm_decode.specs.Decoding.{Setting, Takes, RanOut, After, Refused, ans
 use Rattle.wm_decode.proofs.ByteLists.{bytes-append, front_bytes}
 use Rattle.wm_decode.proofs.Theorem.{Used, reached, used_of, used_refused, settled_ok, settled_not, decoded_append, takes_of_ended, ended_of_takes, given_taken, marks_of, so_far, never}
 use Rattle.wm_decode.proofs.Fronts.{is_front, name_kept}
-use Rattle.wm_decode.specs.Fronts.{SoFar}
+use Rattle.wm_decode.specs.Fronts.{IsFront, SoFar}
+use Rattle.wm_decode.proofs.OneFront.{one_front}
 use Rattle.wm_decode.specs.Runs.{State, run, marks, begin}
 use Rattle.wm_decode.proofs.Header.{is_at, late_memory}
 use Rattle.wm_decode.proofs.Floats.{ends_in_float}
@@ -135,10 +136,11 @@ module _ {S H : Type 0} (held : S → H) (after : H → Part → Result H Why) (
       let same = settled_ok after s.profile s.limit d.machine d.name.items (held d.sink) d.at l.0 l.2 in
       let machine : l.0.machine ≡ (run s.profile begin b).machine = ap (λ (y : State). y.machine) r.state in
       let name : d.name.items ≡ (run s.profile begin b).name = ap (λ (y : Live H). y.name) same ∙ ap (λ (y : State). y.name) r.state in
+      let front : IsFront s.profile b (marks s.profile begin b) = is_front s.profile b a.are_bytes (subst (λ y. IsRefused y → ⊥) machine (r.live (λ i. i))) in
       record {
         marks = marks s.profile begin b;
-        front = is_front s.profile b a.are_bytes (subst (λ y. IsRefused y → ⊥) machine (r.live (λ i. i)));
-        alone = refl;
+        front = front;
+        alone = λ other h. one_front s.profile b other (marks s.profile begin b) h front;
         begins = λ more items k. marks_of after s b more items a.are_bytes k;
         taken = sym (given_taken after (marks s.profile begin b) s.first) ∙ (r.held ∙ ap Ok (sym (ap (λ (y : Live H). y.held) same)));
         name = ap length name ∙ name_kept s.profile b;

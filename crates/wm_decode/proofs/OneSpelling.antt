@@ -16,18 +16,18 @@ use Rattle.wm_decode.specs.Sections.{Sized, Section, ListSection, StartSection, 
 use Rattle.wm_decode.proofs.OneModule.{constants_same}
 
 -- Of the first form's bytes and the second's, whatever follows: they are the same, and then D holds.
-abbrev Same : Form ℕ → Form ℕ → Type 0 → Type 0
+abbrev pub Same : Form ℕ → Form ℕ → Type 0 → Type 0
 Same P Q D = (a b u v : List ℕ) → P a → Q b → a ++ u ≡ b ++ v → (a ≡ b) × D
 
 -- no bytes spell two values, and no spelling begins another
-abbrev Once : {X : Type 0} → (X → Form ℕ) → Type 0
+abbrev pub Once : {X : Type 0} → (X → Form ℕ) → Type 0
 Once {X} V = (x y : X) → Same (V x) (V y) (x ≡ y)
 
-byte_same : (c d : ℕ) → Same (Byte c) (Byte d) (c ≡ d)
+pub byte_same : (c d : ℕ) → Same (Byte c) (Byte d) (c ≡ d)
 byte_same c d a b u v h k e = let same : c ≡ d = cc in (h ∙ (ap (λ x. x ∷ []) same ∙ sym k), same)
 
 -- the one and then the other, where the second may rest on what is known of the first
-then_same : {P Q P' Q' : Form ℕ} {D E : Type 0} → Same P P' D → (D → Same Q Q' E) → Same (P ▸ Q) (P' ▸ Q') (D × E)
+pub then_same : {P Q P' Q' : Form ℕ} {D E : Type 0} → Same P P' D → (D → Same Q Q' E) → Same (P ▸ Q) (P' ▸ Q') (D × E)
 then_same one two a b u v h k e =
     let whole : h.0 ++ (h.1 ++ u) ≡ k.0 ++ (k.1 ++ v) = sym (append_assoc h.0 h.1 u) ∙ (ap (λ y. y ++ u) (sym h.2) ∙ (e ∙ (ap (λ y. y ++ v) k.2 ∙ append_assoc k.0 k.1 v))) in
     let first = one h.0 k.0 (h.1 ++ u) (k.1 ++ v) h.3 k.3 whole in
@@ -35,16 +35,16 @@ then_same one two a b u v h k e =
     let second = two first.1 h.1 k.1 u v h.4 k.4 rest in
     (h.2 ∙ (ap (λ y. y ++ h.1) first.0 ∙ (ap (λ y. k.0 ++ y) second.0 ∙ sym k.2)), (first.1, second.1))
 
-same_as : {P Q : Form ℕ} {D E : Type 0} → (D → E) → Same P Q D → Same P Q E
+pub same_as : {P Q : Form ℕ} {D E : Type 0} → (D → E) → Same P Q D → Same P Q E
 same_as f s a b u v h k e = let r = s a b u v h k e in (r.0, f r.1)
 
 -- what begins with different bytes is different
-differ : {P Q : Form ℕ} {E : Type 0} (c d : ℕ) → (c ≡ d → ⊥) → Same (Byte c ▸ P) (Byte d ▸ Q) E
+pub differ : {P Q : Form ℕ} {E : Type 0} (c d : ℕ) → (c ≡ d → ⊥) → Same (Byte c ▸ P) (Byte d ▸ Q) E
 differ c d n a b u v h k e =
     let heads : c ≡ d = cc (h.2, h.3, k.2, k.3, e) in
     absurd (n heads)
 
-once_then : {X Y : Type 0} {V : X → Form ℕ} {W : Y → Form ℕ} → Once V → Once W → Once {X = X × Y} (λ z. V z.0 ▸ W z.1)
+pub once_then : {X Y : Type 0} {V : X → Form ℕ} {W : Y → Form ℕ} → Once V → Once W → Once {X = X × Y} (λ z. V z.0 ▸ W z.1)
 once_then o p z w = same_as (λ (d : (z.0 ≡ w.0) × (z.1 ≡ w.1)). pair d.0 d.1) (then_same (o z.0 w.0) (λ d. p z.1 w.1))
   where
     pair : z.0 ≡ w.0 → z.1 ≡ w.1 → z ≡ w
@@ -108,17 +108,17 @@ type_same I32 I64 e = absurd (omega (arith, e))
 type_same I64 I32 e = absurd (omega (arith, e))
 type_same I64 I64 e = refl
 
-once_type : Once SpellsValType
+pub once_type : Once SpellsValType
 once_type t u = same_as (type_same t u) (byte_same (type_byte t) (type_byte u))
 
-tagged : {P Q : Form ℕ} {D E : Type 0} (c : ℕ) → (D → E) → Same P Q D → Same (Byte c ▸ P) (Byte c ▸ Q) E
+pub tagged : {P Q : Form ℕ} {D E : Type 0} (c : ℕ) → (D → E) → Same P Q D → Same (Byte c ▸ P) (Byte c ▸ Q) E
 tagged c f s = same_as (λ d. f d.1) (then_same (byte_same c c) (λ e. s))
 
 once_signature : Once SpellsSignature
 once_signature x y = tagged 0x60 (λ d. d)
     (once_as (λ f. (f.params, f.results)) (λ z. record { params = z.0; results = z.1 }) (λ f. refl) (once_then (once_list once_type) (once_list once_type)) x y)
 
-once_limits : Once SpellsLimits
+pub once_limits : Once SpellsLimits
 once_limits x y = same_as (λ d. let all : record { min = x.min; max = x.max } ≡ record { min = y.min; max = y.max } = cc (d.0, d.1) in all) (bounds x.min y.min x.max y.max)
   where
     bounds : (n m : ℕ) (i j : Option ℕ) → Same (SpellsBounds n i) (SpellsBounds m j) ((n ≡ m) × (i ≡ j))
@@ -127,7 +127,7 @@ once_limits x y = same_as (λ d. let all : record { min = x.min; max = x.max } �
     bounds n m (Some i) None = differ 0x01 0x00 (λ e. cc)
     bounds n m (Some i) (Some j) = tagged 0x01 (λ d. (d.0, ap Some d.1)) (then_same (same_u32 n m) (λ e. same_u32 i j))
 
-once_table : Once SpellsTableType
+pub once_table : Once SpellsTableType
 once_table x y = tagged 0x70 (λ d. d) (once_limits x y)
 
 once_var : Once SpellsVar
@@ -136,11 +136,11 @@ once_var false true = same_as (λ e. cc) (byte_same 0x00 0x01)
 once_var true false = same_as (λ e. cc) (byte_same 0x01 0x00)
 once_var true true = same_as (λ e. refl) (byte_same 0x01 0x01)
 
-once_global_type : Once SpellsGlobalType
+pub once_global_type : Once SpellsGlobalType
 once_global_type = once_as (λ g. (g.ty, g.var)) (λ z. record { ty = z.0; var = z.1 }) (λ g. refl) (once_then once_type once_var)
 
 -- imports and exports
-once_desc : Once SpellsDesc
+pub once_desc : Once SpellsDesc
 once_desc (desc.Func x) (desc.Func y) = tagged 0x00 (λ d. ap desc.Func d) (same_u32 x y)
 once_desc (desc.Func x) (desc.Table y) = differ 0x00 0x01 (λ e. cc)
 once_desc (desc.Func x) (desc.Memory y) = differ 0x00 0x02 (λ e. cc)
@@ -171,7 +171,7 @@ kind_same kind.Memory _ e = cc
 kind_same kind.Global kind.Global e = refl
 kind_same kind.Global _ e = cc
 
-once_kind : Once (λ k. Byte (kind_byte k))
+pub once_kind : Once (λ k. Byte (kind_byte k))
 once_kind k l = same_as (kind_same k l) (byte_same (kind_byte k) (kind_byte l))
 
 once_export : Once SpellsExport

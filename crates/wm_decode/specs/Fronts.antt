@@ -6,7 +6,6 @@ use Rattle.wm_decode.specs.declared.state.Decoder.{Decoder}
 use Rattle.wm_decode.specs.Parts.{Part, Zone, outside, name, entry, closing, Marks, parts_of}
 use Rattle.wm_decode.specs.Grammar.{Module, Items, loose}
 use Rattle.wm_decode.specs.Sinks.{all_taken}
-use Rattle.wm_decode.specs.Runs.{begin, marks as marks_of}
 use Rattle.wm_decode.specs.Decoding.{Setting, held_in}
 
 -- Some more bytes would make these a module, sizes, names and the number of code entries aside.
@@ -59,8 +58,8 @@ pub record SoFar {S H : Type 0} (held : S → H) (after : H → Part → Result 
     (bytes : List ℕ) : Type 0 where
   pub marks : Marks
   pub front : IsFront s.profile bytes marks
-  -- they are a function of the bytes alone
-  pub alone : marks ≡ marks_of s.profile begin bytes
+  -- the bytes alone tell these marks
+  pub alone : (other : Marks) → IsFront s.profile bytes other → other ≡ marks
   -- and those of each whole input that begins so
   pub begins : (more : List ℕ) (items : Marks) → Items s.profile (bytes ++ more) items
       → marks ≡ take (length bytes) items

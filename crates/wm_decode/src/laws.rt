@@ -11,13 +11,18 @@ ghost use Rattle.wm_decode.specs.Parts.{Marks, data_byte, parts_of};
 ghost use Rattle.wm_decode.specs.Sections.{SpellsModule};
 ghost use Rattle.wm_decode.specs.Sinks.{all_taken, and_then};
 ghost use Rattle.wm_decode.specs.Grammar.{Items};
-ghost use Rattle.wm_decode.specs.Fronts.{entry_bytes, inside_bytes, outside_bytes};
+ghost use Rattle.wm_decode.specs.Fronts.{IsFront, entry_bytes, inside_bytes, outside_bytes};
 
 use crate::sink::Sink;
 
 /// No input is read in two ways: beside each byte there is one mark.
 pub fn one_reading()
     ensures { (p : Profile) (b : List ℕ) (j k : Marks) → Items p b j → Items p b k → j ≡ k }
+{}
+
+/// The bytes so far of an input have one reading too, whatever may come.
+pub fn one_front()
+    ensures { (p : Profile) (b : List ℕ) (j k : Marks) → IsFront p b j → IsFront p b k → j ≡ k }
 {}
 
 /// Each byte lies in a code entry or outside, and those of the entry at hand lie in one.

@@ -144,7 +144,7 @@ nothing_refused v p limit h = go v.state h
 pub same_bytes : (p : Profile) (bytes : List ℕ) (v w : Validator) (k : KeepsOf v p bytes) (l : KeepsOf w p bytes)
     → (k.marks ≡ l.marks) × (k.held ≡ l.held) × (kept_in v ≡ kept_in w)
 same_bytes p bytes v w k l =
-    let marks : k.marks ≡ l.marks = k.alone ∙ sym l.alone in
+    let marks : k.marks ≡ l.marks = l.alone k.marks k.front in
     let both : ◌≡◌ {A = Result Held Why} (Ok k.held) (Ok l.held) = sym k.taken ∙ (ap (λ m. all_taken after empty (parts_of m)) marks ∙ l.taken) in
     let held : k.held ≡ l.held = cc in
     (marks, held, k.kept ∙ (ap (λ m. unfinished_name m + entries_of k.held) marks ∙ (ap (λ h. unfinished_name l.marks + entries_of h) held ∙ sym l.kept)))

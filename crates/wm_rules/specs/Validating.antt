@@ -11,7 +11,6 @@ use Rattle.wm_decode.specs.Fronts.{IsFront, entry_bytes, name_in, outside_bytes,
 use Rattle.wm_decode.specs.Grammar.{Items}
 use Rattle.wm_decode.specs.Live.{decoded, begun}
 use Rattle.wm_decode.specs.Parts.{Marks, parts_of}
-use Rattle.wm_decode.specs.Runs.{begin, marks as marks_of}
 use Rattle.wm_decode.specs.Sinks.{all_taken, and_then}
 use Rattle.wm_rules.specs.declared.checker.Checker.{Checker}
 use Rattle.wm_rules.specs.declared.checker.Summary.{Summary}
@@ -90,7 +89,7 @@ moves_in v = moves_of v.state
 pub record KeepsOf (v : Validator) (p : Profile) (bytes : List ℕ) : Type 0 where
   pub marks : Marks
   pub front : IsFront p bytes marks
-  pub alone : marks ≡ marks_of p begin bytes
+  pub alone : (other : Marks) → IsFront p bytes other → other ≡ marks
   pub begins : (more : List ℕ) (items : Marks) → Items p (bytes ++ more) items → marks ≡ take (length bytes) items
   pub held : Held
   pub taken : all_taken after empty (parts_of marks) ≡ Ok held
