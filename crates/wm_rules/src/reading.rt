@@ -10,6 +10,8 @@ ghost use Rattle.wm_syntax.specs.declared.profile.Profile.{Profile};
 use crate::checker::Summary;
 use crate::validator::Validator;
 use std::alloc::Global;
+use std::error::Error;
+use std::fmt;
 use wm_decode::Refusal;
 use wm_syntax::io::Source;
 use wm_syntax::profile::Profile;
@@ -23,6 +25,17 @@ pub enum FromFault {
     /// The reader failed.
     Io,
 }
+
+impl fmt::Display for FromFault {
+    fn fmt<W: fmt::Write>(&self, f: &mut fmt::Formatter<W>) -> fmt::Result {
+        match self {
+            FromFault::Refused(refusal) => write!(f, "{refusal}"),
+            FromFault::Io => f.write_str("the reader failed"),
+        }
+    }
+}
+
+impl Error for FromFault {}
 
 const PIECE: usize = 4096;
 
