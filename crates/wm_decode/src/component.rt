@@ -10,7 +10,7 @@ use wm_syntax::numbers::Num32;
 use wm_syntax::why::Why;
 
 /// Of what a section is a list (section 5.5.2); the start section is one component.
-#[derive(Clone, Copy)]
+#[derive(Clone, Copy, Debug)]
 pub(crate) enum Component {
     Type,
     Import,
@@ -67,7 +67,7 @@ impl Component {
 }
 
 /// Which index is read.
-#[derive(Clone, Copy)]
+#[derive(Clone, Copy, Debug)]
 pub(crate) enum IndexOf {
     /// The type of a function.
     Function,
@@ -81,7 +81,7 @@ pub(crate) enum IndexOf {
 }
 
 /// Which constant expression is read.
-#[derive(Clone, Copy)]
+#[derive(Clone, Copy, Debug)]
 pub(crate) enum ConstantOf {
     Global,
     Element,
@@ -89,14 +89,14 @@ pub(crate) enum ConstantOf {
 }
 
 /// Of what the length is read, after an offset.
-#[derive(Clone, Copy)]
+#[derive(Clone, Copy, Debug)]
 pub(crate) enum LengthOf {
     Functions,
     Bytes,
 }
 
 /// Where in a code entry the next byte stands.
-#[derive(Clone, Copy)]
+#[derive(Clone, Copy, Debug)]
 pub(crate) enum InEntry {
     RunCount(Num32),
     /// In a run of locals, with so many after it.
@@ -110,7 +110,7 @@ pub(crate) enum InEntry {
 
 /// Where in a component the next byte stands. The counts are of what comes after the one at hand, so
 /// that each number is one that may be.
-#[derive(Clone, Copy)]
+#[derive(Clone, Copy, Debug)]
 pub(crate) enum InComponent {
     TypeForm,
     ParamCount(Num32),

@@ -4,7 +4,7 @@ use wm_syntax::types::{GlobalType, Limits, ValType};
 
 /// A part of a module, as it is complete at a byte. Names and data bytes are lent: they lie in the
 /// piece that was fed, or in the decoder where a name was cut.
-#[derive(Clone, Copy)]
+#[derive(Clone, Copy, Debug)]
 pub enum Item<'a> {
     /// A function type begins.
     NewType,

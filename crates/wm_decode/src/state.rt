@@ -4,7 +4,7 @@ use crate::machine::Machine;
 use wm_syntax::profile::Profile;
 
 /// Takes a module in pieces, and gives its items to a sink.
-#[derive(Drop)]
+#[derive(Debug, Drop)]
 pub struct Decoder<S> {
     pub(crate) sink: S,
     pub(crate) machine: Machine,

@@ -12,7 +12,7 @@ use std::marker::Model;
 use wm_syntax::why::Why;
 
 // A set in the order of the bytes: a stranger chooses the names, and could make those of a hash set collide.
-#[derive(Drop)]
+#[derive(Debug, Drop)]
 pub(crate) struct ExportNames {
     alloc: Global,
     names: BTreeSet<Vec<u8>>,

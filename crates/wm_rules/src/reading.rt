@@ -8,6 +8,8 @@ ghost use Rattle.wm_rules.specs.Validating.{HavingRead, refusal_in};
 use crate::checker::Summary;
 use crate::validator::Validator;
 use std::alloc::Global;
+use std::error::Error;
+use std::fmt;
 use wm_decode::Refusal;
 use wm_syntax::io::Source;
 use wm_syntax::profile::Profile;
@@ -21,6 +23,17 @@ pub enum FromFault {
     /// The reader failed.
     Io,
 }
+
+impl fmt::Display for FromFault {
+    fn fmt<W: fmt::Write>(&self, f: &mut fmt::Formatter<W>) -> fmt::Result {
+        match self {
+            FromFault::Refused(refusal) => write!(f, "{refusal}"),
+            FromFault::Io => f.write_str("the reader failed"),
+        }
+    }
+}
+
+impl Error for FromFault {}
 
 const PIECE: usize = 4096;
 

@@ -17,7 +17,7 @@ use wm_syntax::profile::Profile;
 mod tests;
 
 /// Judges a module that comes in pieces. After a refusal it holds that alone.
-#[derive(Drop)]
+#[derive(Debug, Drop)]
 pub struct Validator {
     state: Result<Decoder<Checker>, Refusal>,
 }

@@ -19,7 +19,7 @@ pub enum Step<T> {
 
 /// The bytes so far of a number of any width up to 64 bits (section 5.2.2), of which none is kept. The other
 /// readers of this module are this one at a width.
-#[derive(Clone, Copy)]
+#[derive(Clone, Copy, Debug)]
 pub struct Leb128 {
     low: u64,
     count: u8,
@@ -206,7 +206,7 @@ fn narrow_signed(step: Step<i64>) -> Step<i32>
 }
 
 /// Reads one u32 (section 5.2.2), byte by byte, keeping none of the bytes.
-#[derive(Clone, Copy)]
+#[derive(Clone, Copy, Debug)]
 pub struct Num32 {
     bytes: Leb128,
 }
@@ -242,7 +242,7 @@ impl Num32 {
 }
 
 /// Reads one u64 (section 5.2.2), byte by byte, keeping none of the bytes.
-#[derive(Clone, Copy)]
+#[derive(Clone, Copy, Debug)]
 pub struct Num64 {
     bytes: Leb128,
 }
@@ -278,7 +278,7 @@ impl Num64 {
 }
 
 /// Reads one s32 (section 5.2.2), byte by byte, keeping none of the bytes.
-#[derive(Clone, Copy)]
+#[derive(Clone, Copy, Debug)]
 pub struct Int32 {
     bytes: Leb128,
 }
@@ -314,7 +314,7 @@ impl Int32 {
 }
 
 /// Reads one s64 (section 5.2.2), byte by byte, keeping none of the bytes.
-#[derive(Clone, Copy)]
+#[derive(Clone, Copy, Debug)]
 pub struct Int64 {
     bytes: Leb128,
 }

@@ -2,6 +2,11 @@
 
 ghost use Rattle.std.specs.Prelude.{◌≡◌};
 ghost use Rattle.wm_syntax.specs.Refusals.{name_of};
+ghost use Rattle.wm_syntax.specs.declared.why.Why.TheVariants.{Memory};
+
+use std::alloc::{AllocError, AllocFailed};
+use std::error::Error;
+use std::fmt;
 
 /// Why an input is refused.
 #[derive(Clone, Copy, PartialEq, Eq, Debug)]
@@ -10,7 +15,7 @@ pub enum Why {
     Magic,
     /// One of the next four bytes is not that of the version.
     Version,
-    /// A section's id is above 11, or is not read yet.
+    /// A section's id is above 11.
     SectionId,
     /// A section's id, a custom one's aside, is not above the last such id.
     SectionOrder,
@@ -97,6 +102,65 @@ impl Why {
             Why::TooLong => "TooLong",
             Why::Memory => "Memory",
         }
+    }
+}
+
+impl Why {
+    /// What is wrong, in a sentence with no full stop.
+    fn sentence(self) -> &'static str {
+        match self {
+            Why::Magic => "a module begins with the bytes 00 61 73 6D",
+            Why::Version => "the version must be 1, the bytes 01 00 00 00",
+            Why::SectionId => "a section's id is above 11",
+            Why::SectionOrder => "a section appears twice, or after one that must follow it",
+            Why::SectionEnd => "a section's contents do not fill its size exactly",
+            Why::BadNumber => "a number has too many bytes, or does not fit its type",
+            Why::BadUtf8 => "a name is not UTF-8",
+            Why::BadByte => "another byte must stand here",
+            Why::Float => "floating-point types and instructions are not supported",
+            Why::BadOpcode => "no instruction of the profile begins with this byte",
+            Why::Truncated => "the input ends inside the header or a section",
+            Why::CodeCount => "there are not as many function bodies as declared functions",
+            Why::BodyEnd => "a function body does not fill its size exactly",
+            Why::TooManyLocals => "a function declares 2^32 locals or more",
+            Why::Index => "an index names nothing",
+            Why::Mismatch => "a value, a label or a constant has the wrong type",
+            Why::Arity => "there are too few or too many values",
+            Why::Limits => "the limits of a table or a memory are out of range",
+            Why::Second => "a module has at most one table and one memory",
+            Why::DuplicateExport => "two exports have the same name",
+            Why::StartType => "the start function has a parameter or a result",
+            Why::NotConst => "a constant expression cannot hold this instruction",
+            Why::Immutable => "a global that cannot change is set",
+            Why::Align => "an alignment is above the width of the access",
+            Why::ElsePlace => "an else stands outside the first branch of an if",
+            Why::TooLong => "the input is longer than the limit",
+            Why::Memory => "memory ran out",
+        }
+    }
+}
+
+impl fmt::Display for Why {
+    fn fmt<W: fmt::Write>(&self, f: &mut fmt::Formatter<W>) -> fmt::Result {
+        f.write_str(self.sentence())
+    }
+}
+
+impl Error for Why {}
+
+impl From<AllocError> for Why {
+    ghost from_gives = { λ _ why. why ≡ Memory };
+
+    fn from(_error: AllocError) -> Self {
+        Why::Memory
+    }
+}
+
+impl<T: Drop> From<AllocFailed<T>> for Why {
+    ghost from_gives = { λ _ why. why ≡ Memory };
+
+    fn from(_error: AllocFailed<T>) -> Self {
+        Why::Memory
     }
 }
 

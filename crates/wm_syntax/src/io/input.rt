@@ -7,7 +7,7 @@ use std::io;
 use std::io::Read;
 
 /// A `Read` of std as a source. Its `Interrupted` is an error as any other.
-#[derive(Drop)]
+#[derive(Debug, Drop)]
 pub struct Input<R> {
     inner: R,
     failed: bool,

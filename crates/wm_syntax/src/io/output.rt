@@ -7,7 +7,7 @@ use std::io;
 use std::io::{ErrorKind, Write};
 
 /// A `Write` of std as a destination. A write that takes nothing of at least one byte is an error.
-#[derive(Drop)]
+#[derive(Debug, Drop)]
 pub struct Output<W> {
     inner: W,
     failed: bool,
