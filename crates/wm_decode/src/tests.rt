@@ -371,6 +371,27 @@ fn items_of_all_sections(rt: HostRuntime) -> Result<(), Fail> {
 }
 
 #[test]
+fn cut_in_two_at_every_place(rt: HostRuntime) -> Result<(), Fail> {
+    let alloc = rt.alloc();
+    for bytes in [
+        all_sections(alloc)?,
+        after_header(alloc, &ADDING)?,
+        after_header(alloc, &DATA)?,
+    ] {
+        let whole = seen_in(alloc, &bytes, 1000)?;
+        for cut in 0..=bytes.len() {
+            let recorder = nothing_seen(alloc);
+            let mut decoder = Decoder::new(alloc, recorder, Profile::One, 1000);
+            decoder.feed(&bytes[..cut])?;
+            decoder.feed(&bytes[cut..])?;
+            let seen = decoder.finish()?.seen;
+            assert_eq!(rt; seen.as_slice(), whole.as_slice(), "cut at {cut}");
+        }
+    }
+    Ok(())
+}
+
+#[test]
 fn a_sink_that_counts(rt: HostRuntime) -> Result<(), Fail> {
     let counter = Counter { items: 0, data: 0 };
     let mut decoder = Decoder::new(rt.alloc(), counter, Profile::One, 1000);
