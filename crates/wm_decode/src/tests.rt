@@ -371,6 +371,27 @@ fn items_of_all_sections(rt: HostRuntime) -> Result<(), Fail> {
 }
 
 #[test]
+fn cut_in_two_at_every_place(rt: HostRuntime) -> Result<(), Fail> {
+    let alloc = rt.alloc();
+    for bytes in [
+        all_sections(alloc)?,
+        after_header(alloc, &ADDING)?,
+        after_header(alloc, &DATA)?,
+    ] {
+        let whole = seen_in(alloc, &bytes, 1000)?;
+        for cut in 0..=bytes.len() {
+            let recorder = nothing_seen(alloc);
+            let mut decoder = Decoder::new(alloc, recorder, Profile::One, 1000);
+            decoder.feed(&bytes[..cut])?;
+            decoder.feed(&bytes[cut..])?;
+            let seen = decoder.finish()?.seen;
+            assert_eq!(rt; seen.as_slice(), whole.as_slice(), "cut at {cut}");
+        }
+    }
+    Ok(())
+}
+
+#[test]
 fn a_sink_that_counts(rt: HostRuntime) -> Result<(), Fail> {
     let counter = Counter { items: 0, data: 0 };
     let mut decoder = Decoder::new(rt.alloc(), counter, Profile::One, 1000);
@@ -414,37 +435,54 @@ fn a_name_that_goes_on(rt: HostRuntime) -> Result<(), Fail> {
 
 #[test]
 fn inputs_that_are_taken(rt: HostRuntime) -> Result<(), Fail> {
-    let cases: [(&[u8], usize); 9] = [
-        (&[], 0),
-        (&[0x01, 0x01, 0x00], 0),
+    let cases: [(&str, &[u8], usize); 9] = [
+        ("no section", &[], 0),
+        ("no types", &[0x01, 0x01, 0x00], 0),
         (
+            "a size in five bytes",
             &[0x01, 0x84, 0x80, 0x80, 0x80, 0x00, 0x01, 0x60, 0x00, 0x00],
             2,
         ),
-        (&[0x00, 0x05, 0x04, 0x6E, 0x61, 0x6D, 0x65], 0),
         (
+            "a custom section of no data",
+            &[0x00, 0x05, 0x04, 0x6E, 0x61, 0x6D, 0x65],
+            0,
+        ),
+        (
+            "a custom section, and then no types",
             &[
                 0x00, 0x06, 0x03, 0x61, 0xC3, 0xA9, 0x00, 0x01, 0x01, 0x01, 0x00,
             ],
             0,
         ),
-        (&[0x00, 0x01, 0x00, 0x01, 0x01, 0x00, 0x00, 0x01, 0x00], 0),
-        // no function and no code, each section there or not
-        (&[0x03, 0x01, 0x00, 0x0A, 0x01, 0x00], 0),
-        (&[0x03, 0x01, 0x00, 0x0B, 0x01, 0x00], 0),
-        // a constant in five bytes
         (
+            "custom sections of no name around no types",
+            &[0x00, 0x01, 0x00, 0x01, 0x01, 0x00, 0x00, 0x01, 0x00],
+            0,
+        ),
+        (
+            "no functions and no code",
+            &[0x03, 0x01, 0x00, 0x0A, 0x01, 0x00],
+            0,
+        ),
+        (
+            "no functions and no data",
+            &[0x03, 0x01, 0x00, 0x0B, 0x01, 0x00],
+            0,
+        ),
+        (
+            "a constant in five bytes",
             &[
                 0x06, 0x0A, 0x01, 0x7F, 0x00, 0x41, 0x80, 0x80, 0x80, 0x80, 0x78, 0x0B,
             ],
             3,
         ),
     ];
-    for (sections, items) in cases {
+    for (case, sections, items) in cases {
         let bytes = after_header(rt.alloc(), sections)?;
         for size in SIZES {
             let seen = seen_in(rt.alloc(), &bytes, size)?;
-            assert_eq!(rt; seen.len(), items, "{sections:?} in pieces of {size}");
+            assert_eq!(rt; seen.len(), items, "{case} in pieces of {size}");
         }
     }
     Ok(())
@@ -455,15 +493,15 @@ fn expect_refusals(
     rt: &impl Abort,
     alloc: Global,
     front: &[u8],
-    cases: &[(&[u8], u64, Why)],
+    cases: &[(&str, &[u8], u64, Why)],
 ) -> Result<(), Fail> {
-    for (sections, at, why) in cases {
+    for (case, sections, at, why) in cases {
         let mut bytes = after_header(alloc, front)?;
         bytes.extend_from_slice(sections)?;
         let refusal = Refusal { at: *at, why: *why };
         for size in SIZES {
             let answer = seen_in(alloc, &bytes, size).err();
-            assert_eq!(rt; answer, Some(refusal), "{sections:?} in pieces of {size}");
+            assert_eq!(rt; answer, Some(refusal), "{case} in pieces of {size}");
         }
     }
     Ok(())
@@ -471,65 +509,145 @@ fn expect_refusals(
 
 #[test]
 fn sections_that_are_refused(rt: HostRuntime) -> Result<(), Fail> {
-    let cases: [(&[u8], u64, Why); 17] = [
-        (&[0x0C], 9, Why::SectionId),
-        (&[0x02], 9, Why::Truncated),
-        (&[0x01, 0x01, 0x00, 0x01], 12, Why::SectionOrder),
-        (&[0x03, 0x01, 0x00, 0x01], 12, Why::SectionOrder),
-        (&[0x01, 0x00], 10, Why::SectionEnd),
-        (&[0x00, 0x00], 10, Why::SectionEnd),
-        (&[0x00, 0x02, 0x02, 0x61], 12, Why::SectionEnd),
-        (&[0x01, 0x02, 0x00, 0x00], 11, Why::SectionEnd),
-        (&[0x01, 0x02, 0x01, 0x60], 12, Why::SectionEnd),
+    let cases: [(&str, &[u8], u64, Why); 17] = [
+        ("an id that no section has", &[0x0C], 9, Why::SectionId),
+        ("a section that ends at its id", &[0x02], 9, Why::Truncated),
         (
+            "types twice",
+            &[0x01, 0x01, 0x00, 0x01],
+            12,
+            Why::SectionOrder,
+        ),
+        (
+            "types after functions",
+            &[0x03, 0x01, 0x00, 0x01],
+            12,
+            Why::SectionOrder,
+        ),
+        ("a size of 0", &[0x01, 0x00], 10, Why::SectionEnd),
+        (
+            "a custom section of size 0",
+            &[0x00, 0x00],
+            10,
+            Why::SectionEnd,
+        ),
+        (
+            "a name that passes its section",
+            &[0x00, 0x02, 0x02, 0x61],
+            12,
+            Why::SectionEnd,
+        ),
+        (
+            "a byte after the types",
+            &[0x01, 0x02, 0x00, 0x00],
+            11,
+            Why::SectionEnd,
+        ),
+        (
+            "a type that passes its section",
+            &[0x01, 0x02, 0x01, 0x60],
+            12,
+            Why::SectionEnd,
+        ),
+        (
+            "a count that passes its section",
             &[0x01, 0x06, 0xFF, 0xFF, 0xFF, 0xFF, 0x0F, 0x60],
             16,
             Why::SectionEnd,
         ),
         (
+            "a size in six bytes",
             &[0x01, 0x84, 0x80, 0x80, 0x80, 0x80, 0x00],
             14,
             Why::BadNumber,
         ),
-        (&[0x00, 0x02, 0x01, 0xFF], 12, Why::BadUtf8),
-        (&[0x00, 0x04, 0x03, 0xED, 0xA0, 0x80], 14, Why::BadUtf8),
-        (&[0x01, 0x02, 0x01, 0x61], 12, Why::BadByte),
-        (&[0x01, 0x05, 0x01, 0x60, 0x01, 0x7D, 0x00], 14, Why::Float),
-        (&[0x01, 0x04, 0x01, 0x60, 0x00], 13, Why::Truncated),
-        (&[0x00, 0x05, 0x04, 0x6E], 12, Why::Truncated),
+        (
+            "a name of one bad byte",
+            &[0x00, 0x02, 0x01, 0xFF],
+            12,
+            Why::BadUtf8,
+        ),
+        (
+            "a name with a surrogate",
+            &[0x00, 0x04, 0x03, 0xED, 0xA0, 0x80],
+            14,
+            Why::BadUtf8,
+        ),
+        (
+            "a type with another form",
+            &[0x01, 0x02, 0x01, 0x61],
+            12,
+            Why::BadByte,
+        ),
+        (
+            "a parameter of type f64",
+            &[0x01, 0x05, 0x01, 0x60, 0x01, 0x7D, 0x00],
+            14,
+            Why::Float,
+        ),
+        (
+            "a type that the input cuts",
+            &[0x01, 0x04, 0x01, 0x60, 0x00],
+            13,
+            Why::Truncated,
+        ),
+        (
+            "a name that the input cuts",
+            &[0x00, 0x05, 0x04, 0x6E],
+            12,
+            Why::Truncated,
+        ),
     ];
     expect_refusals(&rt, rt.alloc(), &[], &cases)
 }
 
 #[test]
 fn components_that_are_refused(rt: HostRuntime) -> Result<(), Fail> {
-    let cases: [(&[u8], u64, Why); 11] = [
-        // a kind, an element type, two flags
-        (&[0x02, 0x04, 0x01, 0x00, 0x00, 0x04], 14, Why::BadByte),
+    let cases: [(&str, &[u8], u64, Why); 11] = [
         (
+            "a kind of import",
+            &[0x02, 0x04, 0x01, 0x00, 0x00, 0x04],
+            14,
+            Why::BadByte,
+        ),
+        (
+            "a kind of export",
             &[0x07, 0x05, 0x01, 0x01, 0x61, 0x04, 0x00],
             14,
             Why::BadByte,
         ),
-        (&[0x04, 0x04, 0x01, 0x6F, 0x00, 0x01], 12, Why::BadByte),
-        (&[0x05, 0x03, 0x01, 0x02, 0x01], 12, Why::BadByte),
         (
+            "an element type",
+            &[0x04, 0x04, 0x01, 0x6F, 0x00, 0x01],
+            12,
+            Why::BadByte,
+        ),
+        (
+            "a flag of limits",
+            &[0x05, 0x03, 0x01, 0x02, 0x01],
+            12,
+            Why::BadByte,
+        ),
+        (
+            "a flag of a global",
             &[0x06, 0x06, 0x01, 0x7F, 0x02, 0x41, 0x00, 0x0B],
             13,
             Why::BadByte,
         ),
         (
+            "a global of type f32",
             &[0x06, 0x06, 0x01, 0x7C, 0x00, 0x41, 0x00, 0x0B],
             12,
             Why::Float,
         ),
         (
+            "a module name of a bad byte",
             &[0x02, 0x05, 0x01, 0x01, 0xFF, 0x00, 0x00],
             13,
             Why::BadUtf8,
         ),
-        // the fifth byte of an i32, the tenth of an i64
         (
+            "the fifth byte of an i32",
             &[
                 0x06, 0x0A, 0x01, 0x7F, 0x00, 0x41, 0x80, 0x80, 0x80, 0x80, 0x08, 0x0B,
             ],
@@ -537,6 +655,7 @@ fn components_that_are_refused(rt: HostRuntime) -> Result<(), Fail> {
             Why::BadNumber,
         ),
         (
+            "the tenth byte of an i64",
             &[
                 0x06, 0x0F, 0x01, 0x7E, 0x00, 0x42, 0x80, 0x80, 0x80, 0x80, 0x80, 0x80, 0x80, 0x80,
                 0x80, 0x01, 0x0B,
@@ -544,13 +663,14 @@ fn components_that_are_refused(rt: HostRuntime) -> Result<(), Fail> {
             24,
             Why::BadNumber,
         ),
-        // data and their length
         (
+            "data that pass their section",
             &[0x0B, 0x07, 0x01, 0x00, 0x41, 0x00, 0x0B, 0x02, 0x61],
             17,
             Why::SectionEnd,
         ),
         (
+            "a byte after the data",
             &[0x0B, 0x07, 0x01, 0x00, 0x41, 0x00, 0x0B, 0x00, 0x61],
             16,
             Why::SectionEnd,
@@ -563,26 +683,59 @@ fn components_that_are_refused(rt: HostRuntime) -> Result<(), Fail> {
 fn code_that_is_refused(rt: HostRuntime) -> Result<(), Fail> {
     // one function of type [] to []
     let front = [0x01, 0x04, 0x01, 0x60, 0x00, 0x00, 0x03, 0x02, 0x01, 0x00];
-    let cases: [(&[u8], u64, Why); 13] = [
-        (&[], 18, Why::CodeCount),
-        (&[0x0B], 19, Why::CodeCount),
-        (&[0x00, 0x01, 0x00, 0x0B], 22, Why::CodeCount),
+    let cases: [(&str, &[u8], u64, Why); 13] = [
+        ("no code", &[], 18, Why::CodeCount),
+        ("data before the code", &[0x0B], 19, Why::CodeCount),
         (
+            "no code after a custom section",
+            &[0x00, 0x01, 0x00, 0x0B],
+            22,
+            Why::CodeCount,
+        ),
+        (
+            "two entries for one function",
             &[0x0A, 0x07, 0x02, 0x02, 0x00, 0x0B, 0x02, 0x00, 0x0B],
             21,
             Why::CodeCount,
         ),
-        (&[0x0A, 0x01, 0x00], 21, Why::CodeCount),
-        (&[0x0A, 0x02, 0x01, 0x00], 22, Why::BodyEnd),
         (
+            "no entry for one function",
+            &[0x0A, 0x01, 0x00],
+            21,
+            Why::CodeCount,
+        ),
+        (
+            "an entry of size 0",
+            &[0x0A, 0x02, 0x01, 0x00],
+            22,
+            Why::BodyEnd,
+        ),
+        (
+            "a byte after the last end",
             &[0x0A, 0x05, 0x01, 0x03, 0x00, 0x0B, 0x0B],
             24,
             Why::BodyEnd,
         ),
-        (&[0x0A, 0x04, 0x01, 0x7F, 0x00, 0x0B], 24, Why::BodyEnd),
-        (&[0x0A, 0x04, 0x01, 0x7F, 0x00, 0x01], 24, Why::SectionEnd),
-        (&[0x0A, 0x04, 0x01, 0x02, 0x00, 0x01], 24, Why::BodyEnd),
         (
+            "a size that passes its section",
+            &[0x0A, 0x04, 0x01, 0x7F, 0x00, 0x0B],
+            24,
+            Why::BodyEnd,
+        ),
+        (
+            "an entry that its section cuts",
+            &[0x0A, 0x04, 0x01, 0x7F, 0x00, 0x01],
+            24,
+            Why::SectionEnd,
+        ),
+        (
+            "an entry without an end",
+            &[0x0A, 0x04, 0x01, 0x02, 0x00, 0x01],
+            24,
+            Why::BodyEnd,
+        ),
+        (
+            "an instruction on floats",
             &[
                 0x0A, 0x09, 0x01, 0x07, 0x00, 0x43, 0x00, 0x00, 0x00, 0x00, 0x0B,
             ],
@@ -590,6 +743,7 @@ fn code_that_is_refused(rt: HostRuntime) -> Result<(), Fail> {
             Why::Float,
         ),
         (
+            "no instruction",
             &[
                 0x0A, 0x09, 0x01, 0x07, 0x00, 0xC0, 0x00, 0x00, 0x00, 0x00, 0x0B,
             ],
@@ -597,6 +751,7 @@ fn code_that_is_refused(rt: HostRuntime) -> Result<(), Fail> {
             Why::BadOpcode,
         ),
         (
+            "a padded index of a table",
             &[
                 0x0A, 0x09, 0x01, 0x07, 0x00, 0x11, 0x00, 0x80, 0x80, 0x00, 0x0B,
             ],
@@ -609,19 +764,34 @@ fn code_that_is_refused(rt: HostRuntime) -> Result<(), Fail> {
 
 #[test]
 fn headers_that_are_refused(rt: HostRuntime) -> Result<(), Fail> {
-    let cases: [(&[u8], u64, Why); 4] = [
-        (&[], 0, Why::Truncated),
-        (&[0x00, 0x61, 0x73, 0x6D], 4, Why::Truncated),
-        (&[0x00, 0x61, 0x73, 0x6C, 0x01], 4, Why::Magic),
-        (&[0x00, 0x61, 0x73, 0x6D, 0x02], 5, Why::Version),
+    let cases: [(&str, &[u8], u64, Why); 4] = [
+        ("nothing", &[], 0, Why::Truncated),
+        (
+            "half a header",
+            &[0x00, 0x61, 0x73, 0x6D],
+            4,
+            Why::Truncated,
+        ),
+        (
+            "another magic",
+            &[0x00, 0x61, 0x73, 0x6C, 0x01],
+            4,
+            Why::Magic,
+        ),
+        (
+            "another version",
+            &[0x00, 0x61, 0x73, 0x6D, 0x02],
+            5,
+            Why::Version,
+        ),
     ];
-    for (bytes, at, why) in cases {
+    for (case, bytes, at, why) in cases {
         for size in SIZES {
             let answer = seen_in(rt.alloc(), bytes, size).err();
             assert_eq!(rt;
                 answer,
                 Some(Refusal { at, why }),
-                "{bytes:?} in pieces of {size}"
+                "{case} in pieces of {size}"
             );
         }
     }
