@@ -874,3 +874,29 @@ fn laws_are_called(rt: HostRuntime) -> Result<(), Fail> {
     assert!(rt; seen.is_empty());
     Ok(())
 }
+
+/// A field of this type, of a struct that a test takes apart.
+fn is<T>(_field: &T) {}
+
+/// What can be copied is no list.
+fn is_copy<T: Copy>(_field: &T) {}
+
+/// A further field has to be named here, and a further list to be counted.
+#[test]
+fn every_field_is_a_list_that_is_counted(rt: HostRuntime) {
+    let decoder = Decoder::new(rt.alloc(), nothing_seen(rt.alloc()), Profile::One, 8);
+    let Decoder {
+        sink,
+        machine,
+        name,
+        at,
+        max_bytes,
+        profile,
+    } = &decoder;
+    is::<Recorder>(sink);
+    is_copy(machine);
+    is::<Vec<u8>>(name);
+    is_copy(at);
+    is_copy(max_bytes);
+    is_copy(profile);
+}

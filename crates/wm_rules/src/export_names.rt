@@ -75,3 +75,19 @@ fn put(alloc: Global, names: &mut BTreeSet<Vec<u8>>, name: &[u8]) -> Result<(), 
         Err(_) => Err(Why::Memory),
     }
 }
+
+#[cfg(test)]
+mod tests {
+    use super::*;
+    use crate::tests::{is, is_copy};
+
+    /// A further field has to be named here, and a further list to be counted.
+    #[test]
+    fn every_field_is_a_list_that_is_counted(rt: HostRuntime) {
+        let exports = ExportNames::new(rt.alloc());
+        let ExportNames { alloc, names, kept } = &exports;
+        is::<Global>(alloc);
+        is::<BTreeSet<Vec<u8>>>(names);
+        is_copy(kept);
+    }
+}

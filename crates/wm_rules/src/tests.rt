@@ -14,6 +14,12 @@ pub(crate) const ADD: [u8; 32] = [
     0x7F, 0x03, 0x02, 0x01, 0x00, 0x0A, 0x09, 0x01, 0x07, 0x00, 0x20, 0x00, 0x20, 0x01, 0x6A, 0x0B,
 ];
 
+/// A field of this type, of a struct that a test takes apart.
+pub(crate) fn is<T>(_field: &T) {}
+
+/// What can be copied is no list.
+pub(crate) fn is_copy<T: Copy>(_field: &T) {}
+
 const I32: ValType = ValType::I32;
 
 const I64: ValType = ValType::I64;

@@ -13,6 +13,12 @@ use wm_syntax::instructions::{BinaryOp, LoadOp, MemArg, Numeric, Op, Simple};
 use wm_syntax::types::{FuncType, GlobalType, ValType};
 use wm_syntax::why::Why;
 
+/// A field of this type, of a struct that a test takes apart.
+pub(crate) fn is<T>(_field: &T) {}
+
+/// What can be copied is no list.
+pub(crate) fn is_copy<T: Copy>(_field: &T) {}
+
 const I32: ValType = ValType::I32;
 
 const I64: ValType = ValType::I64;

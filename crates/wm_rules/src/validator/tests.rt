@@ -1,8 +1,9 @@
 use super::Validator;
-use crate::Summary;
-use crate::tests::ADD;
+use crate::tests::{ADD, is};
+use crate::{Checker, Summary};
 use std::alloc::Global;
 use std::test::Fail;
+use wm_decode::{Decoder, Refusal};
 use wm_syntax::profile::Profile;
 
 /// A custom section of the name `name`.
@@ -84,4 +85,12 @@ fn kept_of_wide_calls(rt: HostRuntime) -> Result<(), Fail> {
     };
     assert_eq!(rt; validator.finish(), Ok(figures));
     Ok(())
+}
+
+/// A further field has to be named here, and a further list to be counted.
+#[test]
+fn every_field_is_a_list_that_is_counted(rt: HostRuntime) {
+    let validator = Validator::new(rt.alloc(), Profile::One, 1000);
+    let Validator { state } = &validator;
+    is::<Result<Decoder<Checker>, Refusal>>(state);
 }
