@@ -1,4 +1,5 @@
 mod modules;
+mod refusals;
 
 use crate::run::run;
 use crate::status::Status;
