@@ -7,7 +7,7 @@ ghost use Rattle.wm_cli.specs.Outcome.{Answers, IsOutput, refusal_line, stats_te
 
 use crate::answer::answer;
 use crate::status::Status;
-use crate::words::Action;
+use crate::words::{Action, Line};
 use std::alloc::Global;
 use wm_decode::Refusal;
 use wm_rules::{FromFault, Summary, validate_from};
@@ -48,6 +48,23 @@ pub fn run<R: Source, W: Dest>(
             FromFault::Refused(refusal) => refuse(alloc, refusal, w),
         },
     }
+}
+
+/// Does what the line says with this input, and writes the answer.
+pub fn run_line<R: Source, W: Dest>(alloc: Global, line: &Line, r: &mut R, w: &mut W) -> Status
+    requires source { R.has_failed r.old ≡ false }
+    requires dest { W.has_failed w.old ≡ false }
+    // What is to be written for the input is written whole, or, where the writer failed, a beginning of it.
+    ensures answered { R.has_failed r.new ≡ false → result ≢ Status.Memory → (text : List ℕ) × (status : Status)
+        × IsOutput line.now.action text status
+        × IfSome (R.remaining r.old)
+        (λ input. Answers line.now.action line.now.profile line.now.limit input (R.remaining r.new) text status)
+        × IsAnswered text status (W.contents w.old) (W.contents w.new) (W.has_failed w.new) result }
+    ensures reader { R.has_failed r.new ≡ true → (result ≡ Status.Io) × (w.new ≡ w.old) }
+    ensures memory { result ≡ Status.Memory → w.new ≡ w.old }
+    ensures io { (result ≡ Status.Io) ↔ ((R.has_failed r.new || W.has_failed w.new) ≡ true) }
+{
+    run(alloc, line.action, line.profile, line.limit, r, w)
 }
 
 /// Writes the five figures, unless memory was refused.

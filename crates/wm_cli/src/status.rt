@@ -1,5 +1,8 @@
 //! How a run ends.
 
+use crate::words::LineFault;
+use std::fmt;
+
 /// How a run ended.
 #[derive(Clone, Copy, PartialEq, Eq, Debug)]
 pub enum Status {
@@ -27,5 +30,29 @@ impl Status {
             Status::Io => 3,
             Status::Memory => 4,
         }
+    }
+}
+
+impl fmt::Display for Status {
+    fn fmt<W: fmt::Write>(&self, f: &mut fmt::Formatter<W>) -> fmt::Result {
+        f.write_str(match self {
+            Status::Done => "done",
+            Status::Refused => "the input is refused",
+            Status::Io => "input or output failed",
+            Status::Memory => "out of memory",
+        })
+    }
+}
+
+ghost use Rattle.std.specs.Prelude.{◌≡◌};
+ghost use Rattle.wm_cli.specs.Codes.{end_code};
+
+/// The exit status of the program, however it ended.
+pub fn exit_code(end: &Result<Status, LineFault>) -> u8
+    ensures { result ≡ end_code end.now }
+{
+    match end {
+        Ok(status) => status.code(),
+        Err(fault) => fault.code(),
     }
 }

@@ -1,16 +1,22 @@
 mod modules;
+mod profiles;
+mod refusals;
 
-use crate::run::run;
-use crate::status::Status;
-use crate::words::Action;
+use crate::run::{run, run_line};
+use crate::status::{Status, exit_code};
+use crate::witness::Witness;
+use crate::words::{Action, Line, LineFault};
 use std::alloc::Global;
 use std::io;
 use std::io::{ErrorKind, Read, Write};
 use std::process::Abort;
 use std::test::Fail;
+use wm_decode::Refusal;
+use wm_rules::FromFault;
 use wm_syntax::io::input::Input;
 use wm_syntax::io::output::Output;
 use wm_syntax::profile::Profile;
+use wm_syntax::why::Why;
 
 const HEADER: [u8; 8] = [0x00, 0x61, 0x73, 0x6D, 0x01, 0x00, 0x00, 0x00];
 
@@ -204,6 +210,64 @@ fn a_writer_that_fails(rt: HostRuntime) {
 
 #[test]
 fn exit_statuses(rt: HostRuntime) {
+    assert_eq!(rt; exit_code(&Ok(Status::Refused)), 1);
+    assert_eq!(rt; exit_code(&Err(LineFault::Words)), 2);
     let codes = [Status::Done, Status::Refused, Status::Io, Status::Memory].map(Status::code);
     assert_eq!(rt; codes, [0, 1, 3, 4]);
+}
+
+/// `wmod check`, with no file.
+fn plain_line() -> Line {
+    Line {
+        action: Action::Check,
+        profile: Profile::One,
+        limit: LIMIT,
+        file: None,
+    }
+}
+
+#[test]
+fn errors_of_readers_are_kept(rt: HostRuntime) {
+    let mut source = Input::new(Witness::new(Broken));
+    let mut dest = Output::new(Vec::new(rt.alloc()));
+    let status = run_line(rt.alloc(), &plain_line(), &mut source, &mut dest);
+    assert_eq!(rt; status, Status::Io);
+    let error = source.into_inner().error();
+    assert_eq!(rt; error.map(|e| e.kind()), Some(ErrorKind::Interrupted));
+}
+
+#[test]
+fn errors_of_writers_are_kept(rt: HostRuntime) {
+    let rest = HEADER.as_slice();
+    let mut source = Input::new(Witness::new(Pieces { rest, most: 4096 }));
+    let taken = Vec::new(rt.alloc());
+    let mut dest = Output::new(Witness::new(Narrow { taken, most: 3 }));
+    let status = run_line(rt.alloc(), &plain_line(), &mut source, &mut dest);
+    assert_eq!(rt; status, Status::Io);
+    assert!(rt; source.into_inner().error().is_none());
+    let error = dest.into_inner().error();
+    assert_eq!(rt; error.map(|e| e.kind()), Some(ErrorKind::BrokenPipe));
+}
+
+#[test]
+fn texts_of_refusals(rt: HostRuntime) -> Result<(), Fail> {
+    let alloc = rt.alloc();
+    let wanted =
+        "refused at 12: SectionOrder (a section appears twice, or after one that must follow it)";
+    let refusal = Refusal {
+        at: 12,
+        why: Why::SectionOrder,
+    };
+    assert_eq!(rt; format!(in alloc; "{refusal}")?.as_str(), wanted);
+    let fault = FromFault::Refused(refusal);
+    assert_eq!(rt; format!(in alloc; "{fault}")?.as_str(), wanted);
+    assert_eq!(rt;
+        format!(in alloc; "{}", FromFault::Io)?.as_str(),
+        "the reader failed"
+    );
+    assert_eq!(rt;
+        format!(in alloc; "{}", Status::Io)?.as_str(),
+        "input or output failed"
+    );
+    Ok(())
 }

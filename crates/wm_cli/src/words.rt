@@ -2,9 +2,11 @@
 
 ghost use Rattle.std.specs.Prelude.{◌≤◌, ◌^◌};
 
-use clap::Error;
 use clap::error::ErrorKind;
 use std::alloc::AllocError;
+use std::error::Error;
+use std::fmt;
+use wm_syntax::profile::Profile;
 
 /// What to do with the input.
 #[derive(Clone, Copy, PartialEq, Eq, Debug)]
@@ -19,19 +21,38 @@ pub enum Action {
 #[derive(Debug, Drop)]
 pub struct Line {
     pub action: Action,
+    /// The instructions that there are.
+    pub profile: Profile,
     /// The most bytes that the input may have, at most 2^62.
     pub limit: u64,
-    /// The file to read; standard input where there is none.
+    /// The file to read; standard input where there is none, or where it is `-`.
     pub file: Option<String>,
     ghost in_range: { limit ≤ 2 ^ 62 },
+}
+
+impl Line {
+    ghost use Rattle.std.specs.Prelude.{◌≡◌, option_map};
+    ghost use Rattle.std.specs.String.{string_bytes};
+    ghost use Rattle.wm_cli.specs.Lines.{path_of};
+
+    /// The path of the file to read; none where that is standard input.
+    pub fn path(&self) -> Option<&str>
+        ensures { option_map (λ s. s.now) result ≡ path_of (option_map string_bytes self.now.file) }
+    {
+        match &self.file {
+            None => None,
+            Some(name) if name.as_str() == "-" => None,
+            Some(name) => Some(name.as_str()),
+        }
+    }
 }
 
 /// Why the words can't be followed.
 #[derive(Debug, Drop)]
 pub enum LineFault {
     /// The parser's own fault, which has its text; a request for help is one.
-    Parser(Error),
-    /// No such action, or a limit that is no number in its range.
+    Parser(clap::Error),
+    /// No such action or profile, or a limit that is no number in its range.
     Words,
     /// Memory was refused.
     Memory,
@@ -48,7 +69,7 @@ impl LineFault {
         match self {
             LineFault::Parser(error) => match error.kind() {
                 ErrorKind::OutOfMemory => 4,
-                ErrorKind::DisplayHelp => 0,
+                ErrorKind::DisplayHelp | ErrorKind::DisplayVersion => 0,
                 _ => 2,
             },
             LineFault::Words => 2,
@@ -56,6 +77,18 @@ impl LineFault {
         }
     }
 }
+
+impl fmt::Display for LineFault {
+    fn fmt<W: fmt::Write>(&self, f: &mut fmt::Formatter<W>) -> fmt::Result {
+        match self {
+            LineFault::Parser(error) => write!(f, "{error}"),
+            LineFault::Words => f.write_str("bad words"),
+            LineFault::Memory => f.write_str("out of memory"),
+        }
+    }
+}
+
+impl Error for LineFault {}
 
 impl From<AllocError> for LineFault {
     ghost use Rattle.std.specs.Prelude.{◌≡◌};

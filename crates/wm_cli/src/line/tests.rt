@@ -14,15 +14,27 @@ fn words_are_read(rt: HostRuntime) -> Result<(), Fail> {
     let plain = line(rt.alloc(), &["wmod", "check"])?;
     assert_eq!(rt; plain.action, Action::Check);
     assert_eq!(rt; plain.limit, 4294967295);
+    assert_eq!(rt; plain.profile, Profile::One);
     assert!(rt; plain.file.is_none());
+    assert!(rt; plain.path().is_none());
     let full = line(rt.alloc(), &["wmod", "check", "--limit", "007", "-"])?;
     assert_eq!(rt; full.limit, 7);
     assert_eq!(rt; full.file.as_ref().map(|f| f.as_str()), Some("-"));
+    assert!(rt; full.path().is_none());
     let most = line(
         rt.alloc(),
-        &["wmod", "--limit=4611686018427387904", "stats"],
+        &[
+            "wmod",
+            "--limit=4611686018427387904",
+            "stats",
+            "--profile",
+            "2",
+            "a.wasm",
+        ],
     )?;
     assert_eq!(rt; most.action, Action::Stats);
+    assert_eq!(rt; most.profile, Profile::Two);
+    assert_eq!(rt; most.path(), Some("a.wasm"));
     assert_eq!(rt; most.limit, 4611686018427387904);
     Ok(())
 }
@@ -30,6 +42,12 @@ fn words_are_read(rt: HostRuntime) -> Result<(), Fail> {
 #[test]
 fn bad_words(rt: HostRuntime) {
     assert!(rt; is_words(&["wmod", "run"], rt.alloc()));
+    for profile in ["0", "3", "01", "one", "", "+1"] {
+        assert!(rt;
+            is_words(&["wmod", "check", "--profile", profile], rt.alloc()),
+            "{profile}"
+        );
+    }
     assert!(rt; is_words(&["wmod", "check", "--limit", "+7"], rt.alloc()));
     assert!(rt; is_words(&["wmod", "check", "--limit", ""], rt.alloc()));
     assert!(rt; is_words(&["wmod", "check", "--limit", "0x7"], rt.alloc()));
@@ -47,6 +65,8 @@ fn bad_words(rt: HostRuntime) {
     );
     assert!(rt; is_parser(&["wmod"], rt.alloc()));
     assert!(rt; is_parser(&["wmod", "check", "--limit"], rt.alloc()));
+    assert!(rt; is_parser(&["wmod", "run", "--profile"], rt.alloc()));
+    assert!(rt; is_parser(&["wmod", "check", "--profile=1", "--profile=2"], rt.alloc()));
     assert!(rt; is_parser(&["wmod", "check", "--most", "7"], rt.alloc()));
     assert!(rt; is_parser(&["wmod", "check", "a", "b"], rt.alloc()));
     assert!(rt; is_parser(&["wmod", "run", "--limit"], rt.alloc()));
@@ -56,7 +76,11 @@ fn bad_words(rt: HostRuntime) {
 fn codes(rt: HostRuntime) {
     assert_eq!(rt; LineFault::Words.code(), 2);
     assert_eq!(rt; LineFault::Memory.code(), 4);
-    for (words, code) in [(["wmod", "--help"], 0), (["wmod", "--most"], 2)] {
+    for (words, code) in [
+        (["wmod", "--help"], 0),
+        (["wmod", "--version"], 0),
+        (["wmod", "--most"], 2),
+    ] {
         let fault = line(rt.alloc(), words.as_slice()).err();
         assert_eq!(rt; fault.map(|f| f.code()), Some(code));
     }
@@ -64,19 +88,31 @@ fn codes(rt: HostRuntime) {
 
 #[test]
 fn help_and_fault_texts(rt: HostRuntime) -> Result<(), Fail> {
-    let help = "Validates WebAssembly 1.0 modules, floating point left out\n\n\
+    let help =
+        "Checks WebAssembly 1.0 modules (integer instructions only), reading them once.\n\n  \
+        check   write `valid`, or why not and where\n  \
+        stats   write figures of a valid module's function bodies\n\n\
         Usage: wmod [OPTIONS] <ACTION> [FILE]\n\n\
         Arguments:\n  \
-        <ACTION>  check: say whether the input is a valid module; stats: write its figures\n  \
-        [FILE]    the file to read; standard input where there is none\n\n\
+        <ACTION>  check or stats\n  \
+        [FILE]    The file to read; standard input where there is none, or where it is -\n\n\
         Options:\n      \
-        --limit <N>  the most bytes that the input may have (4294967295)\n  \
-        -h, --help       Print help\n";
+        --profile <N>  1, or 2 for sign-extension instructions too [default: 1]\n      \
+        --limit <N>    The most bytes that the input may have [default: 4294967295]\n  \
+        -h, --help         Print help\n  \
+        -V, --version      Print version\n\n\
+        Writes `refused at N: NAME` of any other input: N bytes were read when it was decided.\n\
+        docs/REFUSALS.md explains each NAME.\n\n\
+        Exit status: 0 done, 1 refused, 2 wrong arguments, 3 cannot read or write, 4 out of memory.\n\n\
+        Examples:\n  \
+        wmod check module.wasm\n  \
+        wmod stats --limit 1000000 < module.wasm\n";
     let missing = "error: the following required arguments were not provided:\n  <ACTION>\n\n\
         Usage: wmod <ACTION> [FILE]\n\n\
         For more information, try '--help'.\n";
     for (words, wanted) in [
         (["wmod", "--help"].as_slice(), help),
+        (["wmod", "--version"].as_slice(), "wmod 0.1\n"),
         (["wmod"].as_slice(), missing),
     ] {
         let Err(LineFault::Parser(error)) = line(rt.alloc(), words) else {
@@ -86,5 +122,47 @@ fn help_and_fault_texts(rt: HostRuntime) -> Result<(), Fail> {
         let text = format!(in rt.alloc(); "{error}")?;
         assert_eq!(rt; text.as_str(), wanted);
     }
+    Ok(())
+}
+
+#[test]
+fn wrong_words_are_named(rt: HostRuntime) -> Result<(), Fail> {
+    let rows: [(&[&str], &str); 5] = [
+        (
+            &["wmod", "run", "--limit", "x"],
+            "'run' is no action: check, stats",
+        ),
+        (&["wmod", "CHECK"], "'CHECK' is no action: check, stats"),
+        (
+            &["wmod", "check", "--limit", "0x10"],
+            "'0x10' is no limit: decimal digits, at most 4611686018427387904",
+        ),
+        (
+            &["wmod", "check", "--profile", "3"],
+            "'3' is no profile: 1, 2",
+        ),
+        (
+            &["wmod", "check", "--profile", ""],
+            "'' is no profile: 1, 2",
+        ),
+    ];
+    for (words, wanted) in rows {
+        let text = match wrong_word(rt.alloc(), words) {
+            Some(word) => format!(in rt.alloc(); "{word}")?,
+            None => String::new(rt.alloc()),
+        };
+        assert_eq!(rt; text.as_str(), wanted);
+    }
+    assert!(rt; wrong_word(rt.alloc(), &["wmod", "check", "--limit", "7", "a"]).is_none());
+    assert!(rt; wrong_word(rt.alloc(), &["wmod", "--most"]).is_none());
+    Ok(())
+}
+
+#[test]
+fn texts_of_faults(rt: HostRuntime) -> Result<(), Fail> {
+    let words = format!(in rt.alloc(); "{}", LineFault::Words)?;
+    assert_eq!(rt; words.as_str(), "bad words");
+    let memory = format!(in rt.alloc(); "{}", LineFault::Memory)?;
+    assert_eq!(rt; memory.as_str(), "out of memory");
     Ok(())
 }

@@ -34,9 +34,9 @@ fn digit(c: u8) -> u8 {
     }
 }
 
-/// The header, and then the bytes of these sections.
-fn module_of(alloc: Global, sections: &[&str]) -> Result<Vec<u8>, Fail> {
-    let mut bytes = HEADER.to_vec(alloc)?;
+/// These first bytes, and then those of the sections.
+pub(super) fn bytes_of(alloc: Global, front: &[u8], sections: &[&str]) -> Result<Vec<u8>, Fail> {
+    let mut bytes = front.to_vec(alloc)?;
     for section in sections {
         for word in section.as_bytes().chunks(3) {
             if let [high, low, ..] = word {
@@ -54,7 +54,7 @@ fn expect_rows(
     rows: &[Row<'_>],
 ) -> Result<(), Fail> {
     for (sections, wanted) in rows {
-        let module = module_of(alloc, sections)?;
+        let module = bytes_of(alloc, &HEADER, sections)?;
         expect_of(rt, alloc, action, module.as_slice(), LIMIT, wanted);
     }
     Ok(())

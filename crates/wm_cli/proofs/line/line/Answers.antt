@@ -1,36 +1,18 @@
-use Rattle.std.proofs.Common.{◌≡◌, ◌∙◌, ◌⊎◌, inl, inr, refl, sym, ap, subst, true, map, codes, [], List, Option}
+use Rattle.std.proofs.Common.{◌≡◌, ◌∙◌, ◌⊎◌, inl, inr, sym, subst, map, codes, [], List, Option}
 use Rattle.std.proofs.lemmas.Result.{IfErr-weaker, IfOk-weaker}
-use Rattle.clap.specs.Words.{App, HasMatchesOf, Text, app_of, fault_of, first_of, first_value, found_of, is_simple, is_simple_and_free, matches_of}
-use Rattle.clap.specs.declared.parser.matches.ArgMatches.{ArgMatches}
-use Rattle.clap.proofs.OnLiterals.{clap_on_literals}
-use Rattle.clap.proofs.WalkLemmas.{first_value-rows}
-use Rattle.wm_cli.specs.Lines.{IsFaultOf, IsLimit, Says, SaysNone, wmod, word_of}
+use Rattle.clap.specs.Words.{Text, app_of, fault_of, first_value, found_of}
+use Rattle.wm_cli.proofs.LineLemmas.{taken}
+use Rattle.wm_cli.specs.Lines.{IsFaultOf, IsLimit, IsProfile, Says, SaysNone, wmod, word_of}
 use Rattle.wm_cli.specs.declared.words.Line.{Line}
 use Rattle.wm_cli.specs.declared.words.LineFault.{LineFault}
 use Rattle.wm_cli.specs.declared.words.LineFault.TheVariants.{Memory, Words}
 use Rattle.wm_cli.proofs.line.line.Goals as goal
 
-simple : is_simple wmod ≡ true
-unfolding clap_on_literals
-simple = refl
-
-simple_and_free : is_simple_and_free wmod ≡ true
-unfolding clap_on_literals
-simple_and_free = refl
-
--- words that the parser takes: the getters of its matches read what the command gives each argument
-taken : (a : App) (m : ArgMatches) (words : List Text) → a ≡ wmod → HasMatchesOf a words m → (is_simple_and_free a ≡ true → fault_of a words ≡ [])
-    → (fault_of wmod words ≡ []) × ((id : Text) → first_value (found_of m) id ≡ word_of words id)
-taken a m words is matches none =
-    let rows = (matches (ap is_simple is ∙ simple)).0 ∙ ap (λ b. matches_of b words) is in (
-      ap (λ b. fault_of b words) (sym is) ∙ none (ap is_simple_and_free is ∙ simple_and_free),
-      λ id. first_value-rows (found_of m) id ∙ ap (first_of id) rows,
-    )
-
 -- what the words say depends on each argument's word alone
 says_along : (word other : Text → Option Text) → ((id : Text) → word id ≡ other id) → (l : Line) → Says word l → Says other l
 says_along word other same l says = record {
   action = sym (same (codes "ACTION")) ∙ says.action;
+  profile = subst (λ o. IsProfile o l.profile) (same (codes "profile")) says.profile;
   limit = subst (λ o. IsLimit o l.limit) (same (codes "limit")) says.limit;
   file = sym (same (codes "FILE")) ∙ says.file;
 }

@@ -1,0 +1,50 @@
+//! Doing what a line says, with the file that it names.
+
+use crate::complaint::{complain, complain_of};
+use crate::run::run_line;
+use crate::status::Status;
+use crate::witness::Witness;
+use crate::words::Line;
+use std::io::Read;
+use std::rt::Files;
+use std::{fs, io};
+use wm_syntax::io::input::Input as InputOf;
+use wm_syntax::io::output::Output as OutputOf;
+
+/// Opens what the line names and does what it says.
+pub fn execute<R: Files + Input + Print + Eprint + AllocGlobal>(rt: &R, line: &Line) -> Status {
+    match line.path() {
+        None => follow(rt, line, "standard input", rt.reader()),
+        Some(path) => match fs::open(rt, path) {
+            Ok(file) => follow(rt, line, path, file),
+            Err(error) => {
+                complain_of(rt, path, error);
+                Status::Io
+            }
+        },
+    }
+}
+
+/// Does what the line says with what this reader gives, and writes to standard output. `name` is
+/// what a complaint calls the reader.
+fn follow<R: Print + Eprint + AllocGlobal, I: Read + Drop>(
+    rt: &R,
+    line: &Line,
+    name: &str,
+    reader: I,
+) -> Status {
+    let mut source = InputOf::new(Witness::new(reader));
+    let mut dest = OutputOf::new(Witness::new(io::writer(rt)));
+    let status = run_line(rt.alloc(), line, &mut source, &mut dest);
+    match status {
+        Status::Done | Status::Refused => {}
+        Status::Memory => complain(rt, &status),
+        Status::Io => match (source.into_inner().error(), dest.into_inner().error()) {
+            (Some(error), _) => complain_of(rt, name, error),
+            (None, Some(error)) => complain_of(rt, "standard output", error),
+            // a write that took nothing
+            (None, None) => complain(rt, &status),
+        },
+    }
+    status
+}

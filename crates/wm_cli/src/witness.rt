@@ -1,0 +1,48 @@
+//! Readers and writers whose errors are kept, to be told of later.
+
+use std::io;
+use std::io::{Read, Write};
+
+/// A reader or a writer, and the last error that it answered.
+#[derive(Drop)]
+pub struct Witness<T> {
+    inner: T,
+    error: Option<io::Error>,
+}
+
+impl<T> Witness<T> {
+    pub fn new(inner: T) -> Self {
+        Witness { inner, error: None }
+    }
+
+    /// The last error.
+    pub fn error(&self) -> Option<io::Error> {
+        self.error
+    }
+}
+
+impl<R: Read> Read for Witness<R> {
+    ghost remaining = { λ s. R.remaining s.inner };
+
+    fn read(&mut self, buf: &mut [u8]) -> io::Result<usize> {
+        let answer = self.inner.read(buf);
+        self.error = answer.err().or(self.error);
+        answer
+    }
+}
+
+impl<W: Write> Write for Witness<W> {
+    ghost contents = { λ s. W.contents s.inner };
+
+    fn write(&mut self, buf: &[u8]) -> io::Result<usize> {
+        let answer = self.inner.write(buf);
+        self.error = answer.err().or(self.error);
+        answer
+    }
+
+    fn flush(&mut self) -> io::Result<()> {
+        let answer = self.inner.flush();
+        self.error = answer.err().or(self.error);
+        answer
+    }
+}
