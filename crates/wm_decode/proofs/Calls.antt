@@ -136,11 +136,13 @@ module _ {S H : Type 0} (held : S → H) (after : H → Part → Result H Why) (
       let machine : l.0.machine ≡ (run s.profile begin b).machine = ap (λ (y : State). y.machine) r.state in
       let name : d.name.items ≡ (run s.profile begin b).name = ap (λ (y : Live H). y.name) same ∙ ap (λ (y : State). y.name) r.state in
       record {
-        marks = marks s.profile begin b;
-        front = is_front s.profile b a.are_bytes (subst (λ y. IsRefused y → ⊥) machine (r.live (λ i. i)));
-        alone = refl;
-        begins = λ more items k. marks_of after s b more items a.are_bytes k;
-        taken = sym (given_taken after (marks s.profile begin b) s.first) ∙ (r.held ∙ ap Ok (sym (ap (λ (y : Live H). y.held) same)));
+        tells = record {
+          marks = marks s.profile begin b;
+          front = is_front s.profile b a.are_bytes (subst (λ y. IsRefused y → ⊥) machine (r.live (λ i. i)));
+          alone = refl;
+          begins = λ more items k. marks_of after s b more items a.are_bytes k;
+          taken = sym (given_taken after (marks s.profile begin b) s.first) ∙ (r.held ∙ ap Ok (sym (ap (λ (y : Live H). y.held) same)));
+        };
         name = ap length name ∙ name_kept s.profile b;
       }
 
