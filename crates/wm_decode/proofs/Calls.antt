@@ -138,11 +138,13 @@ module _ {S H : Type 0} (held : S → H) (after : H → Part → Result H Why) (
       let name : d.name.items ≡ (run s.profile begin b).name = ap (λ (y : Live H). y.name) same ∙ ap (λ (y : State). y.name) r.state in
       let front : IsFront s.profile b (marks s.profile begin b) = is_front s.profile b a.are_bytes (subst (λ y. IsRefused y → ⊥) machine (r.live (λ i. i))) in
       record {
-        marks = marks s.profile begin b;
-        front = front;
-        alone = λ other h. one_front s.profile b other (marks s.profile begin b) h front;
-        begins = λ more items k. marks_of after s b more items a.are_bytes k;
-        taken = sym (given_taken after (marks s.profile begin b) s.first) ∙ (r.held ∙ ap Ok (sym (ap (λ (y : Live H). y.held) same)));
+        tells = record {
+          marks = marks s.profile begin b;
+          front = front;
+          alone = λ other h. one_front s.profile b other (marks s.profile begin b) h front;
+          begins = λ more items k. marks_of after s b more items a.are_bytes k;
+          taken = sym (given_taken after (marks s.profile begin b) s.first) ∙ (r.held ∙ ap Ok (sym (ap (λ (y : Live H). y.held) same)));
+        };
         name = ap length name ∙ name_kept s.profile b;
       }
 
@@ -196,9 +198,9 @@ module _ {S H : Type 0} (held : S → H) (after : H → Part → Result H Why) (
         | inr o ↦ let t : Err o.refusal ≡ Err r = sym o.stands ∙ e in let u : o.refusal ≡ r = cc in let v : o.refusal.at ≡ r.at = ap (λ (y : Refusal). y.at) u in omega (arith, o.past_header, v, place, few)
       ]
 
-  pub after_float : (d : Decoder S) (b : List ℕ) (r : Refusal) → standing held d ≡ Err r → r.why ≡ why.Float → NeverFloat after → After held after d s b → EndsInFloat b r
+  pub after_float : (d : Decoder S) (b : List ℕ) (r : Refusal) → standing held d ≡ Err r → r.why ≡ why.Float → NeverFloat after s.first → After held after d s b → EndsInFloat b r
   after_float d b r e float none a =
-      ends_in_float after s.profile s.limit none Starts b r refl (λ i. i) float (refused_after d b r e (λ m. not_both (sym float ∙ m)) a)
+      ends_in_float after s.profile s.limit Starts b r none refl (λ i. i) float (refused_after d b r e (λ m. not_both (sym float ∙ m)) a)
     where
       not_both : why.Float ≡ why.Memory → ⊥
       not_both e = cc
@@ -302,9 +304,9 @@ module _ {S H : Type 0} (held : S → H) (after : H → Part → Result H Why) {
   on_header (Ok u) expected f go = tt
   on_header (Err r) expected f go = λ s b a few. after_header held after s new (b ++ piece) r f.1 (go s b a) few
 
-  pub on_float : (result : Result U Refusal) (expected : Result (Live H) Refusal) → Fed expected result (standing held new) → GoesOn held after old new piece → IfErr result (λ r. r.why ≡ why.Float → NeverFloat after → Having held after old (λ s b. EndsInFloat (b ++ piece) r))
+  pub on_float : (result : Result U Refusal) (expected : Result (Live H) Refusal) → Fed expected result (standing held new) → GoesOn held after old new piece → IfErr result (λ r. r.why ≡ why.Float → Having held after old (λ s b. NeverFloat after s.first → EndsInFloat (b ++ piece) r))
   on_float (Ok u) expected f go = tt
-  on_float (Err r) expected f go = λ float none s b a. after_float held after s new (b ++ piece) r f.1 float none (go s b a)
+  on_float (Err r) expected f go = λ float s b a none. after_float held after s new (b ++ piece) r f.1 float none (go s b a)
 
   pub on_refusal : (result : Result U Refusal) (expected : Result (Live H) Refusal) → Fed expected result (standing held new) → MatchResult result (λ u. has_refused held new ≡ None) (λ r. has_refused held new ≡ Some r)
   on_refusal (Ok u) expected f = none_refused (standing held new) f.1
@@ -334,6 +336,6 @@ module _ {S H : Type 0} (held : S → H) (after : H → Part → Result H Why) (
   finish_header (Err r) f = λ s b a few. (finish_place held after s d b r f a).1 few
 
   pub finish_float : (result : Result S Refusal) → Finished (and_then (standing held d) ended) held result
-      → IfErr result (λ r. r.why ≡ why.Float → NeverFloat after → Having held after d (λ s b. EndsInFloat b r))
+      → IfErr result (λ r. r.why ≡ why.Float → Having held after d (λ s b. NeverFloat after s.first → EndsInFloat b r))
   finish_float (Ok k) f = tt
-  finish_float (Err r) f = λ float none s b a. after_float held after s d b r (finish_stuck held after s d b r f (λ e. not_float r.why e float)) float none a
+  finish_float (Err r) f = λ float s b a none. after_float held after s d b r (finish_stuck held after s d b r f (λ e. not_float r.why e float)) float none a

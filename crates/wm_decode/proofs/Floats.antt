@@ -1,5 +1,5 @@
 -- The name Float is given for a byte of floating-point numbers only.
-use Rattle.std.proofs.Common.{◌≡◌, ℕ, zero, suc, ◌+◌, ◌≤◌, List, [], ◌∷◌, ◌++◌, Option, Some, None, Result, Err, length, refl, sym, ◌∙◌, ap, subst, inl, inr, arith, append_assoc, nat_eq, nat_lt, get_or}
+use Rattle.std.proofs.Common.{◌≡◌, ℕ, zero, suc, ◌+◌, ◌≤◌, List, [], ◌∷◌, ◌++◌, Option, Some, None, Result, Ok, Err, length, refl, sym, ◌∙◌, ap, subst, inl, inr, arith, append_assoc, nat_eq, nat_lt, get_or}
 use Rattle.std.proofs.lemmas.Bool.{cond_both}
 use Rattle.std.specs.Str.{is_utf8}
 use Rattle.wm_syntax.specs.declared.why.Why.{Why}
@@ -17,16 +17,17 @@ use Rattle.wm_decode.specs.declared.machine.Event.{Event}
 use Rattle.wm_decode.specs.declared.machine.Event.TheVariants as event
 use Rattle.wm_decode.specs.declared.component.InComponent.TheVariants as at
 use Rattle.wm_decode.specs.declared.refusal.Refusal.{Refusal}
-use Rattle.wm_decode.specs.Parts.{Part, Zone}
+use Rattle.wm_decode.specs.Parts.{Part, Zone, parts_of}
 use Rattle.wm_decode.specs.Sections.{header}
 use Rattle.wm_decode.specs.ComponentSteps.{on_number}
 use Rattle.wm_decode.specs.Steps.{after_length, name_step, header_step, step_of, custom_step}
-use Rattle.wm_decode.specs.Runs.{zone_of, heard, Heard, hear}
+use Rattle.wm_decode.specs.Runs.{zone_of, heard, Heard, hear, marks}
+use Rattle.wm_decode.specs.Sinks.{all_taken}
 use Rattle.wm_decode.specs.Live.{IsRefused, Live, offered, live_byte, decoded}
 use Rattle.wm_decode.specs.Decoding.{IsFloatByte, EndsInFloat, NeverFloat}
 use Rattle.wm_decode.proofs.ComponentFloats.{component_float}
 use Rattle.wm_decode.proofs.Outcomes.{IsLive, IsHeader, step_out}
-use Rattle.wm_decode.proofs.Theorem.{used_of, reached, live_err, state_of}
+use Rattle.wm_decode.proofs.Theorem.{given_taken, used_of, reached, live_err, state_of}
 
 module _ (c : ℕ) where
   abbrev Fails : Machine → Type 0
@@ -101,17 +102,19 @@ heard_float zone name c m (event.EndsName kind) h =
     cond_both (is_utf8 (name ++ c ∷ [])) _ _ (λ (d : Heard Machine). d.at ≡ machine.Refused why.Float → m ≡ machine.Refused why.Float)
     (λ _ e. e) (λ _ e. absurd (bad_utf8 e)) h
 
-not_offered : {H : Type 0} (after : H → Part → Result H Why) → NeverFloat after → (x : Option Part) (h : H) → offered after x h ≡ Err why.Float → ⊥
-not_offered after never None h e = cc
-not_offered after never (Some x) h e = never h x e
+not_offered : {H : Type 0} (after : H → Part → Result H Why) (h : H) → ((x : Part) → after h x ≡ Err why.Float → ⊥)
+    → (x : Option Part) → offered after x h ≡ Err why.Float → ⊥
+not_offered after h never None e = cc
+not_offered after h never (Some x) e = never x e
 
-module _ {H : Type 0} (after : H → Part → Result H Why) (p : Profile) (limit : ℕ) (never : NeverFloat after) where
-  byte_float : (l : Live H) (c : ℕ) (r : Refusal) → r.why ≡ why.Float → (IsRefused l.machine → ⊥) → live_byte after p limit l c ≡ Err r → IsFloatByte c
-  byte_float l c r f live e = elim (live_err after p limit l c r e) [
+module _ {H : Type 0} (after : H → Part → Result H Why) (p : Profile) (limit : ℕ) where
+  byte_float : (l : Live H) (c : ℕ) (r : Refusal) → ((x : Part) → after l.held x ≡ Err why.Float → ⊥) → r.why ≡ why.Float → (IsRefused l.machine → ⊥)
+      → live_byte after p limit l c ≡ Err r → IsFloatByte c
+  byte_float l c r never f live e = elim (live_err after p limit l c r e) [
     | inl t ↦ absurd (let s : why.TooLong ≡ why.Float = sym t ∙ f in cc)
     | inr o ↦ elim o [
       | inl m ↦ step_float c p l.machine live (heard_float (zone_of l.machine) l.name c (step_of p l.machine c).0 (step_of p l.machine c).1 (m ∙ ap machine.Refused f))
-      | inr g ↦ absurd (not_offered after never (hear p (state_of after p limit l) c).mark.part l.held (g ∙ ap Err f))
+      | inr g ↦ absurd (not_offered after l.held never (hear p (state_of after p limit l) c).mark.part (g ∙ ap Err f))
     ]
   ]
 
@@ -119,15 +122,19 @@ module _ {H : Type 0} (after : H → Part → Result H Why) (p : Profile) (limit
   at_end [] c = refl
   at_end (d ∷ used) c = let e : length (used ++ c ∷ []) ≡ length used + 1 = at_end used c in omega arith
 
-  pub ends_in_float : (l : Live H) (b : List ℕ) (r : Refusal) → l.at ≡ 0 → (IsRefused l.machine → ⊥) → r.why ≡ why.Float → decoded after p limit l b ≡ Err r → EndsInFloat b r
-  ends_in_float l b r zero_at live f e =
+  pub ends_in_float : (l : Live H) (b : List ℕ) (r : Refusal) → NeverFloat after l.held → l.at ≡ 0 → (IsRefused l.machine → ⊥) → r.why ≡ why.Float
+      → decoded after p limit l b ≡ Err r → EndsInFloat b r
+  ends_in_float l b r never zero_at live f e =
       let low : l.at ≤ limit = omega (arith, zero_at) in
       let u = used_of after p limit b l r low e in
+      let q = reached after p limit u.used l u.before u.taken in
+      let said = marks p (state_of after p limit l) u.used in
+      let taken : all_taken after l.held (parts_of said) ≡ Ok u.before.held = sym (given_taken after said l.held) ∙ q.held in
       record {
         used = u.used;
         byte = u.byte;
         rest = u.rest;
         whole = u.bytes ∙ append_assoc u.used (u.byte ∷ []) u.rest;
         at = omega (arith, u.at, zero_at, at_end u.used u.byte);
-        float = byte_float u.before u.byte r f ((reached after p limit u.used l u.before u.taken).live live) u.refused;
+        float = byte_float u.before u.byte r (λ x. never (parts_of said) u.before.held x taken) f (q.live live) u.refused;
       }

@@ -73,9 +73,10 @@ pub record EndsInFloat (bytes : List ℕ) (r : Refusal) : Type 0 where
   pub at : r.at ≡ length used + 1
   pub float : IsFloatByte byte
 
--- a sink that never gives the name Float
-abbrev pub NeverFloat : {H : Type 0} → (H → Part → Result H Why) → Type 0
-NeverFloat {H} after = (h : H) (x : Part) → after h x ≡ Err why.Float → ⊥
+-- a sink that never gives the name Float, whatever parts it has taken since it held this
+abbrev pub NeverFloat : {H : Type 0} → (H → Part → Result H Why) → H → Type 0
+NeverFloat {H} after first =
+    (parts : List Part) (h : H) (x : Part) → all_taken after first parts ≡ Ok h → after h x ≡ Err why.Float → ⊥
 
 -- what the sink of a decoder holds
 abbrev pub held_in : {S H : Type 0} → (S → H) → Decoder S → H

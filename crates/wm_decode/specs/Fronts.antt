@@ -53,15 +53,20 @@ entry_bytes k = entry_after 0 k
 abbrev pub name_in : {S : Type 0} → Decoder S → List ℕ
 name_in d = d.name.items
 
+-- What the bytes so far tell, which may still be refused: where each lies, which parts are complete in them, and what a
+-- sink holds that took these.
+pub record Tells {H : Type 0} (after : H → Part → Result H Why) (p : Profile) (first : H) (bytes : List ℕ) (h : H)
+    : Type 0 where
+  pub marks : Marks
+  pub front : IsFront p bytes marks
+  -- the bytes alone tell these marks
+  pub alone : (other : Marks) → IsFront p bytes other → other ≡ marks
+  -- and those of each whole input that begins so
+  pub begins : (more : List ℕ) (items : Marks) → Items p (bytes ++ more) items → marks ≡ take (length bytes) items
+  pub taken : all_taken after first (parts_of marks) ≡ Ok h
+
 -- What a decoder that has refused nothing holds of the bytes so far.
 pub record SoFar {S H : Type 0} (held : S → H) (after : H → Part → Result H Why) (d : Decoder S) (s : Setting H)
     (bytes : List ℕ) : Type 0 where
-  pub marks : Marks
-  pub front : IsFront s.profile bytes marks
-  -- the bytes alone tell these marks
-  pub alone : (other : Marks) → IsFront s.profile bytes other → other ≡ marks
-  -- and those of each whole input that begins so
-  pub begins : (more : List ℕ) (items : Marks) → Items s.profile (bytes ++ more) items
-      → marks ≡ take (length bytes) items
-  pub taken : all_taken after s.first (parts_of marks) ≡ Ok (held_in held d)
-  pub name : length (name_in d) ≡ unfinished_name marks
+  pub tells : Tells after s.profile s.first bytes (held_in held d)
+  pub name : length (name_in d) ≡ unfinished_name tells.marks

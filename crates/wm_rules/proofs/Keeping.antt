@@ -91,22 +91,18 @@ module _ (v : Validator) (p : Profile) (limit : ℕ) (bytes : List ℕ) where
   pub keeps_ok : (d : Decoder Checker) → v.state ≡ Ok d → StateRead (Ok d) p limit bytes → KeepsOf v p bytes
   keeps_ok d e h =
       let s = after_so_far held after (setting p limit) d bytes (unrefused d h.1) h.0 in
-      let a = front_at_hand p bytes s.marks d.sink s.front s.taken in
-      let few = at_most_kept p bytes s.marks d.sink s.front s.taken in
+      let a = front_at_hand p bytes s.tells.marks d.sink s.tells.front s.tells.taken in
+      let few = at_most_kept p bytes s.tells.marks d.sink s.tells.front s.tells.taken in
       let kept = ap kept_of e in
       record {
-        marks = s.marks;
-        front = s.front;
-        alone = s.alone;
-        begins = s.begins;
         held = d.sink;
-        taken = s.taken;
+        tells = s.tells;
         holds = ap holds_of e;
         kept = kept ∙ ap (λ n. n + entries_of d.sink) s.name;
         idle = λ e. let none = a.idle e in omega (arith, none);
         at_most = omega (arith, kept, s.name, few, a.kept);
-        heights = subst (λ n. n ≤ entry_bytes s.marks + 1) (sym (ap heights_of e)) a.heights;
-        moves = subst (λ n. n ≤ 4 * entry_bytes s.marks + 4) (sym (ap moves_of e)) (few_moves d.sink.in_body d.sink.body.state.stacks.moves (4 * entry_bytes s.marks + 4) a.moves);
+        heights = subst (λ n. n ≤ entry_bytes s.tells.marks + 1) (sym (ap heights_of e)) a.heights;
+        moves = subst (λ n. n ≤ 4 * entry_bytes s.tells.marks + 4) (sym (ap moves_of e)) (few_moves d.sink.in_body d.sink.body.state.stacks.moves (4 * entry_bytes s.tells.marks + 4) a.moves);
       }
 
   -- at any moment
@@ -121,8 +117,8 @@ module _ (v : Validator) (p : Profile) (limit : ℕ) (bytes : List ℕ) where
   pub kept_fits : (d : Decoder Checker) → v.state ≡ Ok d → d.max_bytes ≤ 2 ^ 62 → StateRead (Ok d) p limit bytes → kept_in v < 2 ^ 64 - 1
   kept_fits d e low h =
       let k = keeps_ok d e h in
-      let same : length bytes ≡ length k.marks = k.front.same in
-      omega (arith, low, h.0.limit, fits d p limit bytes h, same, k.at_most, all_bytes k.marks, at_hand k.marks)
+      let same : length bytes ≡ length k.tells.marks = k.tells.front.same in
+      omega (arith, low, h.0.limit, fits d p limit bytes h, same, k.at_most, all_bytes k.tells.marks, at_hand k.tells.marks)
 
   -- what it has read without a refusal is within the limit
   pub within_limit : HasRead v p limit bytes → refusal_in v ≡ None → length bytes ≤ limit
@@ -142,9 +138,9 @@ nothing_refused v p limit h = go v.state h
 
 -- what two validators keep that have read the same bytes
 pub same_bytes : (p : Profile) (bytes : List ℕ) (v w : Validator) (k : KeepsOf v p bytes) (l : KeepsOf w p bytes)
-    → (k.marks ≡ l.marks) × (k.held ≡ l.held) × (kept_in v ≡ kept_in w)
+    → (k.tells.marks ≡ l.tells.marks) × (k.held ≡ l.held) × (kept_in v ≡ kept_in w)
 same_bytes p bytes v w k l =
-    let marks : k.marks ≡ l.marks = l.alone k.marks k.front in
-    let both : ◌≡◌ {A = Result Held Why} (Ok k.held) (Ok l.held) = sym k.taken ∙ (ap (λ m. all_taken after empty (parts_of m)) marks ∙ l.taken) in
+    let marks : k.tells.marks ≡ l.tells.marks = l.tells.alone k.tells.marks k.tells.front in
+    let both : ◌≡◌ {A = Result Held Why} (Ok k.held) (Ok l.held) = sym k.tells.taken ∙ (ap (λ m. all_taken after empty (parts_of m)) marks ∙ l.tells.taken) in
     let held : k.held ≡ l.held = cc in
-    (marks, held, k.kept ∙ (ap (λ m. unfinished_name m + entries_of k.held) marks ∙ (ap (λ h. unfinished_name l.marks + entries_of h) held ∙ sym l.kept)))
+    (marks, held, k.kept ∙ (ap (λ m. unfinished_name m + entries_of k.held) marks ∙ (ap (λ h. unfinished_name l.tells.marks + entries_of h) held ∙ sym l.kept)))

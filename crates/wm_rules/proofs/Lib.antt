@@ -24,3 +24,4 @@ pub mod Keeping
 pub mod Figures
 pub mod SourceLemmas
 pub mod Joins
+pub mod NeverFloat

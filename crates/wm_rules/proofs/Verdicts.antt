@@ -5,11 +5,12 @@ use Rattle.wm_syntax.specs.declared.why.Why.TheVariants as why
 use Rattle.wm_syntax.specs.Spelling.{AreBytes}
 use Rattle.wm_decode.specs.declared.refusal.Refusal.{Refusal}
 use Rattle.wm_decode.specs.declared.state.Decoder.{Decoder}
-use Rattle.wm_decode.specs.Decoding.{After, RanOut, has_refused}
+use Rattle.wm_decode.specs.Decoding.{After, EndsInFloat, RanOut, has_refused}
 use Rattle.wm_decode.specs.Live.{Live, decoded, begun, ended, standing}
 use Rattle.wm_decode.specs.Sinks.{and_then}
 use Rattle.wm_decode.proofs.ByteLists.{bytes-append, front_bytes}
 use Rattle.wm_decode.proofs.Theorem.{used_of, used_refused, decoded_append, never}
+use Rattle.wm_decode.proofs.Floats.{ends_in_float}
 use Rattle.wm_decode.proofs.Header.{late_memory}
 use Rattle.wm_decode.proofs.Calls.{stands_refused}
 use Rattle.wm_rules.specs.declared.checker.Checker.{Checker}
@@ -17,6 +18,7 @@ use Rattle.wm_rules.specs.Checking.{Held, after, empty, summary_in}
 use Rattle.wm_rules.specs.Validation.{Accepted}
 use Rattle.wm_rules.specs.Validating.{RefusedAfter, NeverAccepted, setting, verdict}
 use Rattle.wm_rules.proofs.Judged.{accepted_takes}
+use Rattle.wm_rules.proofs.NeverFloat.{never_float}
 
 -- a fact of a result, carried on
 pub on_err : {A E : Type 0} {P Q : E → Type 0} (r : Result A E) → ((e : E) → P e → Q e) → IfErr r P → IfErr r Q
@@ -82,6 +84,13 @@ module _ (p : Profile) (limit : ℕ) where
   not_in_header b r h few m = elim h.stands [
     | inr o ↦ omega (arith, o.1, few, h.place)
     | inl e ↦ let late : 8 < r.at = late_memory after p limit b Starts r low refl m e in omega (arith, late, few, h.place)
+  ]
+
+  -- why it can be Float
+  pub float_at : (b : List ℕ) (r : Refusal) → RefusedAfter p limit b r → r.why ≡ why.Float → EndsInFloat b r
+  float_at b r h f = elim h.stands [
+    | inl e ↦ ends_in_float after p limit Starts b r never_float refl (λ i. i) f e
+    | inr m ↦ absurd (let t : why.Float ≡ why.Memory = sym f ∙ m.0 in cc)
   ]
 
   -- a decoder that has refused

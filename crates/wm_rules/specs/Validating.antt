@@ -1,5 +1,5 @@
 -- What a validator has read, and what its refusals mean.
-use Rattle.std.specs.Prelude.{◌≡◌, ℕ, ◌≤◌, ◌<◌, ◌+◌, ◌*◌, List, ◌++◌, take, ◌⊎◌, Option, Some, None, MatchOption, Result, Ok, Err, length, if◌then◌else◌, false}
+use Rattle.std.specs.Prelude.{◌≡◌, ℕ, ◌≤◌, ◌<◌, ◌+◌, ◌*◌, List, ◌++◌, ◌⊎◌, Option, Some, None, MatchOption, Result, Ok, Err, length, if◌then◌else◌, false}
 use Rattle.wm_syntax.specs.declared.profile.Profile.{Profile}
 use Rattle.wm_syntax.specs.declared.why.Why.TheVariants as why
 use Rattle.wm_syntax.specs.Spelling.{AreBytes}
@@ -7,11 +7,9 @@ use Rattle.wm_decode.specs.declared.refusal.Refusal.{Refusal}
 use Rattle.wm_decode.specs.declared.state.Decoder.{Decoder}
 use Rattle.wm_stacks.specs.Stack.{height_sum}
 use Rattle.wm_decode.specs.Decoding.{After, Setting, answer_of, has_refused}
-use Rattle.wm_decode.specs.Fronts.{IsFront, entry_bytes, name_in, outside_bytes, unfinished_name}
-use Rattle.wm_decode.specs.Grammar.{Items}
+use Rattle.wm_decode.specs.Fronts.{Tells, entry_bytes, name_in, outside_bytes, unfinished_name}
 use Rattle.wm_decode.specs.Live.{decoded, begun}
-use Rattle.wm_decode.specs.Parts.{Marks, parts_of}
-use Rattle.wm_decode.specs.Sinks.{all_taken, and_then}
+use Rattle.wm_decode.specs.Sinks.{and_then}
 use Rattle.wm_rules.specs.declared.checker.Checker.{Checker}
 use Rattle.wm_rules.specs.declared.checker.Summary.{Summary}
 use Rattle.wm_rules.specs.declared.validator.Validator.{Validator}
@@ -87,19 +85,15 @@ moves_in v = moves_of v.state
 -- entry more than the bytes outside code entries and those of the entry at hand, whose n bytes hold both stacks to n + 1
 -- entries and 4n + 4 moves.
 pub record KeepsOf (v : Validator) (p : Profile) (bytes : List ℕ) : Type 0 where
-  pub marks : Marks
-  pub front : IsFront p bytes marks
-  pub alone : (other : Marks) → IsFront p bytes other → other ≡ marks
-  pub begins : (more : List ℕ) (items : Marks) → Items p (bytes ++ more) items → marks ≡ take (length bytes) items
   pub held : Held
-  pub taken : all_taken after empty (parts_of marks) ≡ Ok held
+  pub tells : Tells after p empty bytes held
   pub holds : holds_in v ≡ Some held
-  pub kept : kept_in v ≡ unfinished_name marks + entries_of held
+  pub kept : kept_in v ≡ unfinished_name tells.marks + entries_of held
   -- of a body nothing, where none is at hand
   pub idle : held.in_body ≡ false → entries_of held ≡ listed held
-  pub at_most : kept_in v ≤ 1 + outside_bytes marks + entry_bytes marks
-  pub heights : heights_in v ≤ entry_bytes marks + 1
-  pub moves : moves_in v ≤ 4 * entry_bytes marks + 4
+  pub at_most : kept_in v ≤ 1 + outside_bytes tells.marks + entry_bytes tells.marks
+  pub heights : heights_in v ≤ entry_bytes tells.marks + 1
+  pub moves : moves_in v ≤ 4 * entry_bytes tells.marks + 4
 
 -- it keeps no entry
 pub record KeepsNothing (v : Validator) : Type 0 where

@@ -43,7 +43,7 @@ pub fn body_at_hand()
 /// The bytes read determine what is complete in them, where each byte lies, and what is kept.
 pub fn bytes_determine_what_is_kept()
     ensures { (p : Profile) (bytes : List ℕ) (v w : Validator) (k : KeepsOf v p bytes) (l : KeepsOf w p bytes)
-        → (k.marks ≡ l.marks) × (k.held ≡ l.held) × (kept_in v ≡ kept_in w) }
+        → (k.tells.marks ≡ l.tells.marks) × (k.held ≡ l.held) × (kept_in v ≡ kept_in w) }
 {}
 
 /// At every moment what a validator keeps is told and bounded by the bytes that it has read. It is at most one entry

@@ -1,8 +1,9 @@
 //! A whole module in pieces, judged as it comes.
 
 ghost use Rattle.std.specs.Prelude.{◌≡◌, ◌≢◌, ◌<◌, ◌≤◌, ◌^◌, ◌++◌, ℕ, List, [], length, IfOk, IfErr, MatchResult, OnOk, Some, None, Ok, Err};
-ghost use Rattle.wm_syntax.specs.declared.why.Why.TheVariants.{Memory};
+ghost use Rattle.wm_syntax.specs.declared.why.Why.TheVariants.{Float, Memory};
 ghost use Rattle.wm_decode.specs.declared.refusal.Refusal.{Refusal};
+ghost use Rattle.wm_decode.specs.Decoding.{EndsInFloat};
 ghost use Rattle.wm_rules.specs.Bounds.{SummaryOf};
 ghost use Rattle.wm_rules.specs.Validating.{AtMoment, HasRead, HavingRead, KeepsOf, NeverAccepted, kept_in, refusal_in, verdict};
 ghost use Rattle.wm_rules.specs.Kept.{capped};
@@ -54,6 +55,9 @@ impl Validator {
         // The header takes no memory.
         ensures header { IfErr result (λ r.
             HavingRead self.old (λ p limit before. length (before ++ piece.now) ≤ 8 → r.why ≢ Memory)) }
+        // `Float` comes only at a byte of floating-point numbers.
+        ensures float { IfErr result (λ r. r.why ≡ Float
+            → HavingRead self.old (λ p limit before. EndsInFloat (before ++ piece.now) r)) }
         // After a refusal nothing changes, and the answer is the same.
         ensures sticky { (r : Refusal) → refusal_in self.old ≡ Some r → (result ≡ Err r) × (self.new ≡ self.old) }
         ensures refusal { MatchResult result (λ _. refusal_in self.new ≡ None) (λ r. refusal_in self.new ≡ Some r) }
@@ -98,6 +102,7 @@ impl Validator {
         // Where no piece was refused, the place is the input's length.
         ensures at_end { IfErr result (λ r. refusal_in self ≡ None → HavingRead self (λ p limit input. r.at ≡ length input)) }
         ensures header { IfErr result (λ r. HavingRead self (λ p limit input. length input ≤ 8 → r.why ≢ Memory)) }
+        ensures float { IfErr result (λ r. r.why ≡ Float → HavingRead self (λ p limit input. EndsInFloat input r)) }
         // The end takes no memory: where no piece was refused this is not answered.
         ensures memory { IfErr result (λ r. r.why ≡ Memory → HavingRead self (λ p limit input. refusal_in self ≡ Some r)) }
         ensures sticky { (r : Refusal) → refusal_in self ≡ Some r → result ≡ Err r }

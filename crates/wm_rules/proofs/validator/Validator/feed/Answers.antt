@@ -5,7 +5,7 @@ use Rattle.wm_decode.proofs.Calls.{are_bytes}
 use Rattle.wm_rules.specs.declared.checker.Checker.{Checker}
 use Rattle.wm_rules.specs.Validating.{RefusedAfter, StateRead, setting}
 use Rattle.wm_rules.proofs.Keeping.{keeps_ok, place_in_piece}
-use Rattle.wm_rules.proofs.Verdicts.{still_refused, never_accepted, not_begun, same_verdict, not_in_header, refused_after}
+use Rattle.wm_rules.proofs.Verdicts.{float_at, still_refused, never_accepted, not_begun, same_verdict, not_in_header, refused_after}
 use Rattle.wm_rules.proofs.validator.Validator.feed.Goals as goal
 
 pub returns-in-Err-clause-read : goal.returns-in-Err-clause-read
@@ -58,3 +58,9 @@ pub returns-in-Err-feed-clause-in_piece : goal.returns-in-Err-feed-clause-in_pie
 returns-in-Err-feed-clause-in_piece c = λ ne none p limit before h.
     let read = subst (λ (s : Result (Decoder Checker) Refusal). StateRead s p limit before) c.in-Ok.is h in
     place_in_piece _ p limit before c.args.piece.now c.in-Err-feed.refusal read (returns-in-Err-feed-clause-read c p limit before h) ne
+
+pub returns-in-Err-clause-float : goal.returns-in-Err-clause-float
+returns-in-Err-clause-float c = λ f p limit before h. float_at p limit (before ++ c.args.piece.now) c.in-Err.refusal (returns-in-Err-clause-read c p limit before h) f
+
+pub returns-in-Err-feed-clause-float : goal.returns-in-Err-feed-clause-float
+returns-in-Err-feed-clause-float c = λ f p limit before h. float_at p limit (before ++ c.args.piece.now) c.in-Err-feed.refusal (returns-in-Err-feed-clause-read c p limit before h) f

@@ -13,7 +13,8 @@ use Rattle.wm_rules.specs.Validating.{StateRead, setting}
 use Rattle.wm_rules.proofs.Figures.{summary_of}
 use Rattle.wm_rules.proofs.Keeping.{place_at_end}
 use Rattle.wm_rules.proofs.Judged.{takes_accepted, accepted_takes}
-use Rattle.wm_rules.proofs.Verdicts.{not_accepted, not_in_header}
+use Rattle.wm_rules.proofs.NeverFloat.{never_float}
+use Rattle.wm_rules.proofs.Verdicts.{float_at, not_accepted, not_in_header}
 use Rattle.wm_rules.proofs.validator.Validator.finish.Goals as goal
 
 -- what was read, of the decoder that is moved out
@@ -70,3 +71,12 @@ returns-in-Err-clause-refused c = λ ne p limit input h a.
 pub returns-in-Err-clause-header : goal.returns-in-Err-clause-header
 returns-in-Err-clause-header c = λ p limit input h few m.
     not_in_header p limit input c.in-Err.refusal (subst (λ (s : Result (Decoder Checker) Refusal). StateRead s p limit input) c.in-Err.is h) few m
+
+pub returns-in-Err-finish-clause-float : goal.returns-in-Err-finish-clause-float
+returns-in-Err-finish-clause-float c = λ f p limit input h.
+    let read = read_by _ _ _ c.in-Ok.is c.in-Ok.decoder-is p limit input h in
+    c.in-Err-finish.ensures.float f (setting p limit) input read.0 never_float
+
+pub returns-in-Err-clause-float : goal.returns-in-Err-clause-float
+returns-in-Err-clause-float c = λ f p limit input h.
+    float_at p limit input c.in-Err.refusal (subst (λ (s : Result (Decoder Checker) Refusal). StateRead s p limit input) c.in-Err.is h) f
