@@ -143,6 +143,8 @@ impl Sink for Recorder {
 
     ghost after = { λ h x. Ok h };
 
+    ghost may_run_out = { λ h x. Unit {0} };
+
     fn take(&mut self, item: Item) -> Result<(), Why> {
         self.write_item(item)
     }
@@ -161,6 +163,8 @@ impl Sink for Counter {
     ghost held = { λ s. tt };
 
     ghost after = { λ h x. Ok h };
+
+    ghost may_run_out = { λ h x. ⊥ };
 
     fn take(&mut self, item: Item) -> Result<(), Why> {
         if let Item::DataBytes(bytes) = item {
@@ -182,6 +186,8 @@ impl Sink for Full {
     ghost held = { λ s. tt };
 
     ghost after = { λ h x. Err Arity };
+
+    ghost may_run_out = { λ h x. Unit {0} };
 
     fn take(&mut self, item: Item) -> Result<(), Why> {
         match item {
@@ -724,6 +730,7 @@ fn the_machine_is_copied(rt: HostRuntime) -> Result<(), Fail> {
 #[test]
 fn laws_are_called(rt: HostRuntime) -> Result<(), Fail> {
     laws::one_reading();
+    laws::one_front();
     laws::bytes_are_in_zones();
     laws::items_are_flat();
     laws::module_is_flat();

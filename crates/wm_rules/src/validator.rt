@@ -1,11 +1,12 @@
 //! A whole module in pieces, judged as it comes.
 
-ghost use Rattle.std.specs.Prelude.{◌≡◌, ◌≢◌, ◌≤◌, ◌^◌, ◌++◌, ℕ, List, [], length, IfOk, IfErr, MatchResult, OnOk, Some, None, Ok, Err};
+ghost use Rattle.std.specs.Prelude.{◌≡◌, ◌≢◌, ◌≤◌, ◌^◌, ◌++◌, ◌∷◌, ℕ, List, [], length, IfOk, IfErr, MatchResult, OnOk, Some, None, Ok, Err};
 ghost use Rattle.wm_syntax.specs.declared.profile.Profile.{Profile};
 ghost use Rattle.wm_syntax.specs.declared.why.Why.TheVariants.{Memory};
 ghost use Rattle.wm_decode.specs.declared.refusal.Refusal.{Refusal};
+ghost use Rattle.wm_decode.specs.Fronts.{InExpression};
 ghost use Rattle.wm_rules.specs.Bounds.{SummaryOf};
-ghost use Rattle.wm_rules.specs.Validating.{AtMoment, HasRead, KeepsOf, NeverAccepted, StateRead, kept_in, refusal_in, verdict};
+ghost use Rattle.wm_rules.specs.Validating.{AtMoment, HasRead, HasRoom, KeepsOf, NeverAccepted, StateRead, kept_in, refusal_in, verdict};
 ghost use Rattle.wm_rules.specs.Kept.{capped};
 ghost use Rattle.wm_rules.specs.Validation.{Accepted};
 
@@ -71,6 +72,10 @@ impl Validator {
         // The header takes no memory.
         ensures header { IfErr result (λ r. (p : Profile) (limit : ℕ) (before : List ℕ) → HasRead self.old p limit before
             → length (before ++ piece.now) ≤ 8 → r.why ≢ Memory) }
+        // Inside the expression of a code entry memory is not refused to one byte, where fewer than 64 operands and fewer
+        // than 32 frames stand.
+        ensures room { IfErr result (λ r. (p : Profile) (limit : ℕ) (before : List ℕ) (byte : ℕ) → HasRead self.old p limit before
+            → piece.now ≡ byte ∷ [] → InExpression p before → HasRoom self.old → r.why ≢ Memory) }
         // After a refusal nothing changes, and the answer is the same.
         ensures sticky { (r : Refusal) → refusal_in self.old ≡ Some r → (result ≡ Err r) × (self.new ≡ self.old) }
         ensures refusal { MatchResult result (λ _. refusal_in self.new ≡ None) (λ r. refusal_in self.new ≡ Some r) }
