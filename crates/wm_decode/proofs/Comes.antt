@@ -196,7 +196,7 @@ module _ (p : Profile) where
       let s = some_expression p part 0 start (start_sound 0 few) in
       record { bytes = s.0; marks = s.1; spelled = (expression_same loose p part).from s.0 s.1 s.2 }
 
-  some_runs : (n : ℕ) → Comes (Then (Times n Run) (Expression p body_op))
+  pub some_runs : (n : ℕ) → Comes (Then (Times n Run) (Expression p body_op))
   some_runs n = some_then (Times n Run) (Expression p body_op) (some_times n Run a_run) (some_whole body_op)
 
   some_of_entry : (left : ℕ) (q : InEntry) → StandsEntry left q → Comes (EntryRest loose p q)

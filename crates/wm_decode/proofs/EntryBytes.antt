@@ -97,7 +97,7 @@ module _ (demanded : Type 0) (p : Profile) where
     from = λ b k h. (h.0, (run_begins h.0 b).1 h.1, h.2);
   }
 
-  runs_same : (n : ℕ) → Same demanded (Then (Times n Run) Body) (EntryRest (runs_or_body n))
+  pub runs_same : (n : ℕ) → Same demanded (Then (Times n Run) Body) (EntryRest (runs_or_body n))
   runs_same zero = same_then demanded (Then Empty Body) Body (ExpressionRest p body_op start) (empty_then demanded Body) (expression_same demanded p body_op)
   runs_same (suc n) =
       same_then demanded (Then (Then Run (Times n Run)) Body) (Then Run (Then (Times n Run) Body)) (EntryRest (entry.Run n (run.Count fresh))) (then_assoc demanded Run (Times n Run) Body)

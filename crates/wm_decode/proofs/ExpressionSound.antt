@@ -1,9 +1,10 @@
 -- Which states a reader of an expression can be in, that something may still come in each, and where it gives the name
 -- Float.
-use Rattle.std.proofs.Common.{◌≡◌, ℕ, zero, suc, ◌+◌, ◌-◌, ◌<◌, ◌≤◌, ◌^◌, List, [], ◌∷◌, ◌++◌, Some, None, refl, ap, arith, nat_lt}
+use Rattle.std.proofs.Common.{◌≡◌, subst, ℕ, zero, suc, ◌+◌, ◌-◌, ◌<◌, ◌≤◌, ◌^◌, List, [], ◌∷◌, ◌++◌, Some, None, refl, ap, arith, nat_lt}
 use Rattle.std.specs.List.{AllByRecursion}
 use Rattle.std.proofs.lemmas.Bool.{cond_both}
 use Rattle.wm_syntax.specs.declared.profile.Profile.{Profile}
+use Rattle.wm_syntax.specs.declared.why.Why.{Why}
 use Rattle.wm_syntax.specs.declared.why.Why.TheVariants as why
 use Rattle.wm_syntax.specs.declared.instructions.Op.{Op}
 use Rattle.wm_syntax.specs.declared.instructions.Op.TheVariants as op
@@ -27,7 +28,7 @@ use Rattle.wm_decode.proofs.Numbers.{fresh_number}
 use Rattle.wm_decode.proofs.OpBytes.{NoLabel}
 use Rattle.wm_decode.proofs.OpRest.{op_rest, rest_good}
 use Rattle.wm_decode.specs.Decoding.{IsFloatByte}
-use Rattle.wm_decode.proofs.OpSound.{HasRoom, RoomAfter, fresh_32, unsigned_room, SoundOp, FineOp, op_fine, some_op, last_byte, op_floats}
+use Rattle.wm_decode.proofs.OpSound.{HasRoom, RoomAfter, fresh_32, unsigned_room, SoundOp, FineOp, op_fine, some_op, last_byte, IsOther, op_faults}
 use Rattle.wm_decode.proofs.Endings.{Ends}
 use Rattle.wm_decode.proofs.ExpressionRest.{OpsFrom, OpsAfter, label_part, ExpressionRest, CanOpen}
 
@@ -142,35 +143,42 @@ module _ (p : Profile) (part : Op → Part) where
   some_expression left expression.Over h = ([], [], (refl, refl))
   some_expression left (expression.Failed w) h = absurd h
 
--- the name Float
-abbrev Calm : InExpression → Type 0
-Calm at = at ≡ expression.Failed why.Float → ⊥
+-- By which names an expression is refused: never by one that neither the byte nor its op is refused by.
+module _ (name : Why) (Fault : ℕ → Type 0) (other : (w : Why) → IsOther w → w ≡ name → ⊥) (float : (c : ℕ) → why.Float ≡ name → IsFloatByte c → Fault c) where
+  abbrev Calm : InExpression → Type 0
+  Calm at = at ≡ expression.Failed name → ⊥
 
-ends_calm : (depth : ℕ) → Calm (ends depth)
-ends_calm zero e = cc
-ends_calm (suc d) e = cc
+  ends_calm : (depth : ℕ) → Calm (ends depth)
+  ends_calm zero e = cc
+  ends_calm (suc d) e = cc
 
-after_calm : (depth : ℕ) (o : Op) → Calm (after_op depth o)
-after_calm depth op.End = ends_calm depth
-after_calm depth (op.BrTable n) = λ e. cc
-after_calm depth _ = λ e. cc
+  after_calm : (depth : ℕ) (o : Op) → Calm (after_op depth o)
+  after_calm depth op.End = ends_calm depth
+  after_calm depth (op.BrTable n) = λ e. cc
+  after_calm depth _ = λ e. cc
 
-after_label_calm : (depth labels : ℕ) → Calm (after_label depth labels)
-after_label_calm depth zero e = cc
-after_label_calm depth (suc n) e = cc
+  after_label_calm : (depth labels : ℕ) → Calm (after_label depth labels)
+  after_label_calm depth zero e = cc
+  after_label_calm depth (suc n) e = cc
 
-op_float : (depth c : ℕ) (a : Reading InOp Op) → (a ≡ Bad why.Float → IsFloatByte c) → (after_reading depth a).0 ≡ expression.Failed why.Float → IsFloatByte c
-op_float depth c (More s) f e = cc
-op_float depth c (Done o) f e = absurd (after_calm depth o e)
-op_float depth c (Bad w) f e = let same : w ≡ why.Float = cc in f (ap Bad same)
+  failed_calm : (w : Why) → IsOther w → Calm (expression.Failed w)
+  failed_calm w i e = other w i (let same : w ≡ name = cc in same)
 
-label_calm : (depth labels : ℕ) (q : Step ℕ × Partial) → Calm (on_answer q (λ s. (expression.Label depth labels s, None)) (λ l. (after_label depth labels, Some (op.Label l))) (failed why.BadNumber)).0
-label_calm depth labels (step.More, s) = λ e. cc
-label_calm depth labels (step.Done v, s) = after_label_calm depth labels
-label_calm depth labels (step.Bad, s) = λ e. cc
+  reading_fault : (depth c : ℕ) (a : Reading InOp Op) → (a ≡ Bad name → Fault c) → (after_reading depth a).0 ≡ expression.Failed name → Fault c
+  reading_fault depth c (More s) f e = cc
+  reading_fault depth c (Done o) f e = absurd (after_calm depth o e)
+  reading_fault depth c (Bad w) f e = let same : w ≡ name = cc in f (ap Bad same)
+
+  label_calm : (depth labels : ℕ) (q : Step ℕ × Partial) → Calm (on_answer q (λ s. (expression.Label depth labels s, None)) (λ l. (after_label depth labels, Some (op.Label l))) (failed why.BadNumber)).0
+  label_calm depth labels (step.More, s) = λ e. cc
+  label_calm depth labels (step.Done v, s) = after_label_calm depth labels
+  label_calm depth labels (step.Bad, s) = failed_calm why.BadNumber tt
+
+  pub expression_fault : (p : Profile) (at : InExpression) (c : ℕ) → (expression_step p at c).0 ≡ expression.Failed name → Fault c
+  expression_fault p (expression.Op depth at) c e = reading_fault depth c (op_push p at c) (op_faults name Fault other float p at c) e
+  expression_fault p (expression.Label depth labels r) c e = absurd (label_calm depth labels (unsigned_push 32 r c) e)
+  expression_fault p expression.Over c e = absurd (failed_calm why.SectionEnd tt e)
+  expression_fault p (expression.Failed w) c e = absurd (failed_calm why.SectionEnd tt e)
 
 pub expression_float : (p : Profile) (at : InExpression) (c : ℕ) → (expression_step p at c).0 ≡ expression.Failed why.Float → IsFloatByte c
-expression_float p (expression.Op depth at) c e = op_float depth c (op_push p at c) (op_floats p at c) e
-expression_float p (expression.Label depth labels r) c e = absurd (label_calm depth labels (unsigned_push 32 r c) e)
-expression_float p expression.Over c e = cc
-expression_float p (expression.Failed w) c e = cc
+expression_float = expression_fault why.Float IsFloatByte (λ w i e. subst IsOther e i) (λ c e h. h)

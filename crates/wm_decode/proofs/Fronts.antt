@@ -78,7 +78,7 @@ module _ (p : Profile) where
   some_for : (C : ℕ → Type 0) (P : ℕ → Shape) (f : ℕ) → C f → Comes (P f) → Comes (ForSome C P)
   some_for C P f c s = record { bytes = s.bytes; marks = s.marks; spelled = (f, c, s.spelled) }
 
-  some_later : (last functions : ℕ) → Comes (Later loose p last functions)
+  pub some_later : (last functions : ℕ) → Comes (Later loose p last functions)
   some_later last functions = some_for (Known last functions) (λ f. Chain loose p f (11 - last) (suc last)) functions (λ l. refl) (some_chain functions (11 - last) (suc last))
 
   some_after : (of : Component) (f : ℕ) → Comes (After loose p of f)

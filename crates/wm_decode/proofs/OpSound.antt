@@ -1,8 +1,9 @@
 -- Which states a reader of an op can be in, that something may still come in each, and where it gives the name Float.
-use Rattle.std.proofs.Common.{◌≡◌, ℕ, ◌+◌, ◌-◌, ◌*◌, ◌<◌, ◌^◌, inl, inr, List, [], ◌∷◌, ℤ, pos, refl, arith, nat_eq, nat_lt, nat_le, pow_pos}
+use Rattle.std.proofs.Common.{◌≡◌, ℕ, ◌+◌, ◌-◌, ◌*◌, ◌<◌, ◌^◌, inl, inr, List, [], ◌∷◌, ℤ, pos, refl, subst, arith, nat_eq, nat_lt, nat_le, pow_pos}
 use Rattle.std.specs.Prelude.{None as Nothing}
 use Rattle.std.proofs.lemmas.Bool.{cond_both, eqb-true, ltb-true}
 use Rattle.wm_syntax.specs.declared.profile.Profile.{Profile}
+use Rattle.wm_syntax.specs.declared.why.Why.{Why}
 use Rattle.wm_syntax.specs.declared.why.Why.TheVariants as why
 use Rattle.wm_syntax.specs.declared.instructions.Op.{Op}
 use Rattle.wm_syntax.specs.declared.instructions.Op.TheVariants as op
@@ -145,43 +146,61 @@ some_op p (at.Const64 r) h = (const_64_op (last_signed r (pos 0)), 0 ∷ [], (la
 some_op p (at.Align a r) h = (at_offset a r.low 0, 0 ∷ 0 ∷ [], (r.low, 0 ∷ [], 0 ∷ [], refl, last_byte r h.0, (0, refl, fresh_last)))
 some_op p (at.Offset a n r) h = (at_offset a n r.low, 0 ∷ [], (r.low, refl, last_byte r h.0))
 
-abbrev Floats : ℕ → Reading InOp Op → Type 0
-Floats c a = a ≡ Bad why.Float → IsFloatByte c
+-- A name that the machine gives, whatever the byte: neither Float nor Memory.
+abbrev pub IsOther : Why → Type 0
+IsOther why.Float = ⊥
+IsOther why.Memory = ⊥
+IsOther w = Unit {0}
 
-more_calm : (c : ℕ) (r : InOp) → Floats c (More r)
-more_calm c r e = cc
+same_bad : (v w : Why) → ◌≡◌ {A = Reading InOp Op} (Bad v) (Bad w) → v ≡ w
+same_bad v w e = cc
 
-done_calm : (c : ℕ) (o : Op) → Floats c (Done o)
-done_calm c o e = cc
+-- An op is refused by one of those two names only where that is so of the byte.
+module _ (name : Why) (Fault : ℕ → Type 0) (other : (w : Why) → IsOther w → w ≡ name → ⊥) (float : (c : ℕ) → why.Float ≡ name → IsFloatByte c → Fault c) where
+  abbrev Faults : ℕ → Reading InOp Op → Type 0
+  Faults c a = a ≡ Bad name → Fault c
 
-first_floats : (p : Profile) (c : ℕ) (class : OpClass) → class_under p c ≡ class → Floats c (first_step class)
-first_floats p c (Plain o) e = done_calm c o
-first_floats p c (With kind) e = more_calm c (immediates kind)
-first_floats p c Float e = λ f. inr (inr (float_under p c e))
-first_floats p c None e = λ f. cc
+  no_fault : (c : ℕ) (w : Why) → IsOther w → Faults c (Bad w)
+  no_fault c w i e = absurd (other w i (same_bad w name e))
 
-block_floats : (i : Opening) (c : ℕ) → Floats c (block_step i c)
-block_floats i c =
-    let P : Reading InOp Op → Type 0 = Floats c in
-    cond_both (nat_eq c 0x40) _ _ P (λ _ f. cc) (λ _. cond_both (nat_eq c 0x7F) _ _ P (λ _ f. cc) (λ _. cond_both (nat_eq c 0x7E) _ _ P (λ _ f. cc)
-    (λ _. cond_both (nat_eq c 0x7D) _ _ P (λ a f. inl (eqb-true c 0x7D a)) (λ _. cond_both (nat_eq c 0x7C) _ _ P (λ a f. inr (inl (eqb-true c 0x7C a))) (λ _ f. cc)))))
+  more_faults : (c : ℕ) (r : InOp) → Faults c (More r)
+  more_faults c r e = cc
 
-closing_floats : (o : Op) (c : ℕ) → Floats c (closing_step o c)
-closing_floats o c = cond_both (nat_eq c 0x00) _ _ (λ (a : Reading InOp Op). Floats c a) (λ _. done_calm c o) (λ _ f. cc)
+  done_faults : (c : ℕ) (o : Op) → Faults c (Done o)
+  done_faults c o e = cc
 
-answer_floats : {T : Type 0} (c : ℕ) (q : Step T × Partial) (more : Partial → InOp) (done : T → Reading InOp Op) → ((v : T) → Floats c (done v)) → Floats c (on_answer q (λ r. More (more r)) done (Bad why.BadNumber))
-answer_floats c (step.More, r) more done g = more_calm c (more r)
-answer_floats c (step.Done v, r) more done g = g v
-answer_floats c (step.Bad, r) more done g = λ f. cc
+  first_faults : (p : Profile) (c : ℕ) (class : OpClass) → class_under p c ≡ class → Faults c (first_step class)
+  first_faults p c (Plain o) e = done_faults c o
+  first_faults p c (With kind) e = more_faults c (immediates kind)
+  first_faults p c Float e = λ f. float c (same_bad why.Float name f) (inr (inr (float_under p c e)))
+  first_faults p c None e = no_fault c why.BadOpcode tt
+
+  block_faults : (i : Opening) (c : ℕ) → Faults c (block_step i c)
+  block_faults i c =
+      let P : Reading InOp Op → Type 0 = Faults c in
+      cond_both (nat_eq c 0x40) _ _ P (λ _. done_faults c (block_op i Nothing)) (λ _. cond_both (nat_eq c 0x7F) _ _ P (λ _ f. cc) (λ _. cond_both (nat_eq c 0x7E) _ _ P (λ _ f. cc)
+      (λ _. cond_both (nat_eq c 0x7D) _ _ P (λ a f. float c (same_bad why.Float name f) (inl (eqb-true c 0x7D a)))
+      (λ _. cond_both (nat_eq c 0x7C) _ _ P (λ a f. float c (same_bad why.Float name f) (inr (inl (eqb-true c 0x7C a)))) (λ _. no_fault c why.BadByte tt)))))
+
+  closing_faults : (o : Op) (c : ℕ) → Faults c (closing_step o c)
+  closing_faults o c = cond_both (nat_eq c 0x00) _ _ (λ (a : Reading InOp Op). Faults c a) (λ _. done_faults c o) (λ _. no_fault c why.BadByte tt)
+
+  answer_faults : {T : Type 0} (c : ℕ) (q : Step T × Partial) (more : Partial → InOp) (done : T → Reading InOp Op) → ((v : T) → Faults c (done v)) → Faults c (on_answer q (λ r. More (more r)) done (Bad why.BadNumber))
+  answer_faults c (step.More, r) more done g = more_faults c (more r)
+  answer_faults c (step.Done v, r) more done g = g v
+  answer_faults c (step.Bad, r) more done g = no_fault c why.BadNumber tt
+
+  pub op_faults : (p : Profile) (r : InOp) (c : ℕ) → op_push p r c ≡ Bad name → Fault c
+  op_faults p at.First c = first_faults p c (class_under p c) refl
+  op_faults p (at.BlockType i) c = block_faults i c
+  op_faults p (at.Index i r) c = answer_faults c (unsigned_push 32 r c) (λ t. at.Index i t) (λ n. Done (index_op i n)) (λ n. done_faults c (index_op i n))
+  op_faults p (at.CallType r) c = answer_faults c (unsigned_push 32 r c) (λ t. at.CallType t) (λ n. More (at.CallTable n)) (λ n. more_faults c (at.CallTable n))
+  op_faults p (at.CallTable n) c = closing_faults (call_op n) c
+  op_faults p (at.Memory m) c = closing_faults (memory_op m) c
+  op_faults p (at.Const32 r) c = answer_faults c (signed_push 32 r c) (λ t. at.Const32 t) (λ z. Done (const_32_op z)) (λ z. done_faults c (const_32_op z))
+  op_faults p (at.Const64 r) c = answer_faults c (signed_push 64 r c) (λ t. at.Const64 t) (λ z. Done (const_64_op z)) (λ z. done_faults c (const_64_op z))
+  op_faults p (at.Align a r) c = answer_faults c (unsigned_push 32 r c) (λ t. at.Align a t) (λ n. More (at.Offset a n fresh)) (λ n. more_faults c (at.Offset a n fresh))
+  op_faults p (at.Offset a n r) c = answer_faults c (unsigned_push 32 r c) (λ t. at.Offset a n t) (λ m. Done (at_offset a n m)) (λ m. done_faults c (at_offset a n m))
 
 pub op_floats : (p : Profile) (r : InOp) (c : ℕ) → op_push p r c ≡ Bad why.Float → IsFloatByte c
-op_floats p at.First c = first_floats p c (class_under p c) refl
-op_floats p (at.BlockType i) c = block_floats i c
-op_floats p (at.Index i r) c = answer_floats c (unsigned_push 32 r c) (λ t. at.Index i t) (λ n. Done (index_op i n)) (λ n. done_calm c (index_op i n))
-op_floats p (at.CallType r) c = answer_floats c (unsigned_push 32 r c) (λ t. at.CallType t) (λ n. More (at.CallTable n)) (λ n. more_calm c (at.CallTable n))
-op_floats p (at.CallTable n) c = closing_floats (call_op n) c
-op_floats p (at.Memory m) c = closing_floats (memory_op m) c
-op_floats p (at.Const32 r) c = answer_floats c (signed_push 32 r c) (λ t. at.Const32 t) (λ z. Done (const_32_op z)) (λ z. done_calm c (const_32_op z))
-op_floats p (at.Const64 r) c = answer_floats c (signed_push 64 r c) (λ t. at.Const64 t) (λ z. Done (const_64_op z)) (λ z. done_calm c (const_64_op z))
-op_floats p (at.Align a r) c = answer_floats c (unsigned_push 32 r c) (λ t. at.Align a t) (λ n. More (at.Offset a n fresh)) (λ n. more_calm c (at.Offset a n fresh))
-op_floats p (at.Offset a n r) c = answer_floats c (unsigned_push 32 r c) (λ t. at.Offset a n t) (λ m. Done (at_offset a n m)) (λ m. done_calm c (at_offset a n m))
+op_floats = op_faults why.Float IsFloatByte (λ w i e. subst IsOther e i) (λ c e h. h)

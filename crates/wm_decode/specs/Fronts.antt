@@ -1,9 +1,10 @@
 -- What is said of the bytes so far of an input, which may still be refused for a size, a name or a count.
-use Rattle.std.specs.Prelude.{ℕ, zero, suc, ◌≡◌, List, [], ◌∷◌, ◌++◌, Result, Ok, length, take}
+use Rattle.std.specs.Prelude.{ℕ, zero, suc, ◌≡◌, ◌<◌, List, [], ◌∷◌, ◌++◌, Result, Ok, length, take}
 use Rattle.wm_syntax.specs.declared.profile.Profile.{Profile}
 use Rattle.wm_syntax.specs.declared.why.Why.{Why}
+use Rattle.wm_syntax.specs.declared.types.ValType.{ValType}
 use Rattle.wm_decode.specs.declared.state.Decoder.{Decoder}
-use Rattle.wm_decode.specs.Parts.{Part, Zone, outside, name, entry, closing, Marks, parts_of}
+use Rattle.wm_decode.specs.Parts.{Part, locals, Zone, outside, name, entry, closing, Marks, parts_of}
 use Rattle.wm_decode.specs.Grammar.{Module, Items, loose}
 use Rattle.wm_decode.specs.Sinks.{all_taken}
 use Rattle.wm_decode.specs.Decoding.{Setting, held_in}
@@ -48,6 +49,16 @@ entry_after n (m ∷ k) = entry_after (entry_more m.zone n) k
 -- how many bytes there are so far of the code entry at hand; after its last byte none is at hand
 abbrev pub entry_bytes : Marks → ℕ
 entry_bytes k = entry_after 0 k
+
+-- The bytes so far end inside the expression of a code entry: one is at hand, and whatever comes, sizes, names and the
+-- number of code entries aside, no run of locals is the next part.
+pub record InExpression (p : Profile) (b : List ℕ) : Type 0 where
+  pub marks : Marks
+  pub front : IsFront p b marks
+  pub at_hand : 0 < entry_bytes marks
+  pub no_run : (more : List ℕ) (later : Marks) (n : ℕ) (t : ValType) (rest : List Part)
+      → Module loose p (b ++ more) (marks ++ later)
+      → parts_of later ≡ locals n t ∷ rest → ⊥
 
 -- the bytes so far of a name that goes on, which is all that a decoder keeps of the input
 abbrev pub name_in : {S : Type 0} → Decoder S → List ℕ

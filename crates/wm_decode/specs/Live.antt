@@ -1,5 +1,5 @@
 -- The machine and a sink over a list of bytes: the exact form, for the proofs above it.
-use Rattle.std.specs.Prelude.{◌≡◌, ◌≢◌, ◌≤◌, ◌<◌, IsOk, ℕ, zero, suc, ◌+◌, List, [], ◌∷◌, ◌++◌, Option, Some, None, Result, Ok, Err, nat_lt, if◌then◌else◌}
+use Rattle.std.specs.Prelude.{◌≡◌, ◌≢◌, ◌⊎◌, ◌≤◌, ◌<◌, IsOk, ℕ, zero, suc, ◌+◌, List, [], ◌∷◌, ◌++◌, Option, Some, None, Result, Ok, Err, nat_lt, if◌then◌else◌}
 use Rattle.std.specs.Str.{is_utf8}
 use Rattle.wm_syntax.specs.declared.why.Why.{Why}
 use Rattle.wm_syntax.specs.declared.why.Why.TheVariants as why
@@ -33,6 +33,20 @@ told after event.InName name c h = Ok (name ++ c ∷ [], h)
 told after (event.EndsName kind) name c h = and_then (name_taken after kind (name ++ c ∷ []) h) (λ g. Ok ([], g))
 told after (event.EmptyName kind) name c h = and_then (offered after (named kind []) h) (λ g. Ok ([], g))
 
+-- Memory may run out at the part, if there is one.
+abbrev pub MayRunOutAt : {H : Type 0} → (H → Part → Type 0) → Option Part → H → Type 0
+MayRunOutAt may None h = ⊥
+MayRunOutAt may (Some x) h = may h x
+
+-- Memory may run out at what a byte completed: where the sink says so, or where bytes of a name have to be kept.
+abbrev pub MayHeed : {H : Type 0} → (H → Part → Type 0) → Event → List ℕ → ℕ → H → Type 0
+MayHeed may event.Quiet name c h = ⊥
+MayHeed may (event.Gives p) name c h = may h (plain_part p)
+MayHeed may event.DataByte name c h = may h (data_byte c)
+MayHeed may event.InName name c h = Unit {0}
+MayHeed may (event.EndsName kind) name c h = (name ≢ []) ⊎ MayRunOutAt may (named kind (name ++ c ∷ [])) h
+MayHeed may (event.EmptyName kind) name c h = MayRunOutAt may (named kind []) h
+
 -- a decoder that has refused nothing
 pub record Live (H : Type 0) : Type 0 where
   pub machine : Machine
@@ -47,6 +61,11 @@ settled m name h at = Ok (record { machine = m; name = name; held = h; at = at }
 abbrev pub judged : {H : Type 0} → Machine → ℕ → Result (List ℕ × H) Why → Result (Live H) Refusal
 judged m at (Ok p) = settled m p.0 p.1 at
 judged m at (Err w) = Err (record { at = at; why = w })
+
+-- Memory may run out at this byte. The last case is none: a machine never refuses for memory.
+abbrev pub MayRunOut : {H : Type 0} → (H → Part → Type 0) → Profile → Live H → ℕ → Type 0
+MayRunOut may p l c =
+    MayHeed may (step_of p l.machine c).1 l.name c l.held ⊎ ((step_of p l.machine c).0 ≡ machine.Refused why.Memory)
 
 abbrev pub live_byte : {H : Type 0} → (H → Part → Result H Why) → Profile → ℕ → Live H → ℕ → Result (Live H) Refusal
 live_byte after p limit l c =

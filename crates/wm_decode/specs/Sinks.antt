@@ -49,6 +49,11 @@ abbrev pub Taken : {H U : Type 0} → Result H Why → Result U Why → H → Ty
 Taken expected (Ok u) now = expected ≡ Ok now
 Taken expected (Err w) now = w ≢ why.Memory → expected ≡ Err w
 
+-- Memory is refused only where it may run out at the part; of several parts nothing is said.
+abbrev pub RunsOut : {H U : Type 0} → (H → Part → Type 0) → H → List Part → Result U Why → Type 0
+RunsOut may h (x ∷ []) (Err w) = w ≡ why.Memory → may h x
+RunsOut may h xs result = Unit {0}
+
 -- The same, but for why it is refused.
 abbrev pub TakenOrNot : {H U : Type 0} → Result H Why → Result U Why → H → Type 0
 TakenOrNot {H} expected (Ok u) now = expected ≡ Ok now

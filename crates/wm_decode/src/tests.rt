@@ -144,6 +144,8 @@ impl Sink for Recorder {
 
     ghost after = { λ h x. Ok h };
 
+    ghost may_run_out = { λ h x. Unit {0} };
+
     fn take(&mut self, item: Item) -> Result<(), Why> {
         self.write_item(item)
     }
@@ -162,6 +164,8 @@ impl Sink for Counter {
     ghost held = { λ s. tt };
 
     ghost after = { λ h x. Ok h };
+
+    ghost may_run_out = { λ h x. ⊥ };
 
     fn take(&mut self, item: Item) -> Result<(), Why> {
         if let Item::DataBytes(bytes) = item {
@@ -183,6 +187,8 @@ impl Sink for Full {
     ghost held = { λ s. tt };
 
     ghost after = { λ h x. Err Arity };
+
+    ghost may_run_out = { λ h x. Unit {0} };
 
     fn take(&mut self, item: Item) -> Result<(), Why> {
         match item {
@@ -861,6 +867,7 @@ fn the_machine_is_copied(rt: HostRuntime) -> Result<(), Fail> {
 #[test]
 fn laws_are_called(rt: HostRuntime) -> Result<(), Fail> {
     laws::one_reading();
+    laws::one_front();
     laws::bytes_are_in_zones();
     laws::items_are_flat();
     laws::module_is_flat();

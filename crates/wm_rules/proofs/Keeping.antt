@@ -27,7 +27,7 @@ use Rattle.wm_rules.proofs.Moments.{front_at_hand}
 abbrev held : Checker → Checker
 held c = c
 
-unrefused : (d : Decoder Checker) → has_refused held d ≡ None → IsOk (standing held d)
+pub unrefused : (d : Decoder Checker) → has_refused held d ≡ None → IsOk (standing held d)
 unrefused d e = go (standing held d) e
   where
     go : (r : Result (Live Held) Refusal) → elim r as (λ _. Option Refusal) [ Ok l ↦ None | Err t ↦ Some t ] ≡ None → IsOk r

@@ -21,6 +21,8 @@ pub mod Calm
 pub mod Entries
 pub mod Moments
 pub mod Keeping
+pub mod Unrefused
+pub mod Rooms
 pub mod Figures
 pub mod SourceLemmas
 pub mod Joins

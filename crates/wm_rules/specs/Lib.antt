@@ -4,6 +4,7 @@ pub mod Spaces
 pub mod Constants
 pub mod Checking
 pub mod Kept
+pub mod Room
 pub mod Bounds
 pub mod Validating
 pub mod Reading

@@ -80,6 +80,10 @@ moves_of (Err r) = 0
 abbrev pub moves_in : Validator → ℕ
 moves_in v = moves_of v.state
 
+-- it has refused nothing, and of the body at hand fewer than 64 operands and fewer than 32 frames stand
+abbrev pub HasRoom : Validator → Type 0
+HasRoom v = MatchOption (holds_in v) ⊥ (λ h. (length h.body.state.stacks.operands < 64) × (length h.body.state.stacks.frames < 32))
+
 -- What it keeps is told by the bytes read, which may still be refused: by the parts that are complete in them and by the
 -- name that goes on. The bytes alone tell these, and each whole input that begins so has the same there. It is at most one
 -- entry more than the bytes outside code entries and those of the entry at hand, whose n bytes hold both stacks to n + 1

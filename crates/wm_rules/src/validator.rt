@@ -1,11 +1,12 @@
 //! A whole module in pieces, judged as it comes.
 
-ghost use Rattle.std.specs.Prelude.{◌≡◌, ◌≢◌, ◌<◌, ◌≤◌, ◌^◌, ◌++◌, ℕ, List, [], length, IfOk, IfErr, MatchResult, OnOk, Some, None, Ok, Err};
+ghost use Rattle.std.specs.Prelude.{◌≡◌, ◌≢◌, ◌<◌, ◌≤◌, ◌^◌, ◌++◌, ◌∷◌, ℕ, List, [], length, IfOk, IfErr, MatchResult, OnOk, Some, None, Ok, Err};
 ghost use Rattle.wm_syntax.specs.declared.why.Why.TheVariants.{Float, Memory};
 ghost use Rattle.wm_decode.specs.declared.refusal.Refusal.{Refusal};
 ghost use Rattle.wm_decode.specs.Decoding.{EndsInFloat};
+ghost use Rattle.wm_decode.specs.Fronts.{InExpression};
 ghost use Rattle.wm_rules.specs.Bounds.{SummaryOf};
-ghost use Rattle.wm_rules.specs.Validating.{AtMoment, HasRead, HavingRead, KeepsOf, NeverAccepted, kept_in, refusal_in, verdict};
+ghost use Rattle.wm_rules.specs.Validating.{AtMoment, HasRead, HasRoom, HavingRead, KeepsOf, NeverAccepted, kept_in, refusal_in, verdict};
 ghost use Rattle.wm_rules.specs.Kept.{capped};
 ghost use Rattle.wm_rules.specs.Validation.{Accepted};
 
@@ -58,6 +59,10 @@ impl Validator {
         // `Float` comes only at a byte of floating-point numbers.
         ensures float { IfErr result (λ r. r.why ≡ Float
             → HavingRead self.old (λ p limit before. EndsInFloat (before ++ piece.now) r)) }
+        // Inside the expression of a code entry memory is not refused to one byte, where fewer than 64 operands and fewer
+        // than 32 frames stand.
+        ensures room { IfErr result (λ r. HavingRead self.old (λ p limit before. (byte : ℕ) → piece.now ≡ byte ∷ []
+            → InExpression p before → HasRoom self.old → r.why ≢ Memory)) }
         // After a refusal nothing changes, and the answer is the same.
         ensures sticky { (r : Refusal) → refusal_in self.old ≡ Some r → (result ≡ Err r) × (self.new ≡ self.old) }
         ensures refusal { MatchResult result (λ _. refusal_in self.new ≡ None) (λ r. refusal_in self.new ≡ Some r) }

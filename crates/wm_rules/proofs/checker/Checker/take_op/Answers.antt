@@ -1,12 +1,14 @@
 use Rattle.std.proofs.Common.{◌≡◌, Err, inl, inr, subst}
+use Rattle.wm_typing.specs.declared.body_checker.Progress.{Progress}
 use Rattle.wm_typing.specs.ExactBodies.{stepped}
 use Rattle.wm_typing.specs.Typing.{Context}
 use Rattle.wm_rules.specs.Checking.{Held, op_taken}
-use Rattle.wm_rules.proofs.StepLemmas.{refused_op}
+use Rattle.wm_rules.specs.Room.{IsFull}
+use Rattle.wm_rules.proofs.StepLemmas.{full_where, refused_op}
 use Rattle.wm_rules.proofs.checker.Checker.take_op.Goals as goal
 
-pub returns-in-Err : goal.returns-in-Err
-returns-in-Err c = λ no.
+pub returns-in-Err-clause-taken : goal.returns-in-Err-clause-taken
+returns-in-Err-clause-taken c = λ no.
     let h : Held = record {
       spaces = c.self.inside.spaces;
       names = c.self.inside.names;
@@ -22,3 +24,7 @@ returns-in-Err c = λ no.
           (refused_op h c.args.op c.in-Err.why c.if-not-self.false
           (subst (λ (k : Context). stepped k c.args.op c.self.inside.body ≡ Err c.in-Err.why) c.context.ensures e))
     ]
+
+pub returns-in-Err-clause-room : goal.returns-in-Err-clause-room
+returns-in-Err-clause-room c = λ memory.
+    subst (λ (z : Held). IsFull z.body) c.self.view_is (full_where Progress c.self.inside.body c.in-Err.why c.in-Err.ensures.room memory)

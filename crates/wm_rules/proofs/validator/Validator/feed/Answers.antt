@@ -1,12 +1,17 @@
-use Rattle.std.proofs.Common.{◌++◌, Result, refl, subst, arith}
+use Rattle.std.proofs.Common.{◌<◌, ◌++◌, Result, length, refl, subst, arith}
+use Rattle.std.specs.Prelude.{MatchOption}
 use Rattle.wm_decode.specs.declared.refusal.Refusal.{Refusal}
 use Rattle.wm_decode.specs.declared.state.Decoder.{Decoder}
 use Rattle.wm_decode.proofs.Calls.{are_bytes}
 use Rattle.wm_rules.specs.declared.checker.Checker.{Checker}
-use Rattle.wm_rules.specs.Validating.{RefusedAfter, StateRead, setting}
+use Rattle.wm_rules.specs.Validating.{RefusedAfter, StateRead, holds_of, setting}
 use Rattle.wm_rules.proofs.Keeping.{keeps_ok, place_in_piece}
+use Rattle.wm_rules.proofs.Rooms.{no_memory}
 use Rattle.wm_rules.proofs.Verdicts.{float_at, still_refused, never_accepted, not_begun, same_verdict, not_in_header, refused_after}
 use Rattle.wm_rules.proofs.validator.Validator.feed.Goals as goal
+
+abbrev HasRoomIn : Result (Decoder Checker) Refusal → Type 0
+HasRoomIn s = MatchOption (holds_of s) ⊥ (λ h. (length h.body.state.stacks.operands < 64) × (length h.body.state.stacks.frames < 32))
 
 pub returns-in-Err-clause-read : goal.returns-in-Err-clause-read
 returns-in-Err-clause-read c = λ p limit before h. still_refused p limit before c.args.piece.now c.in-Err.refusal (are_bytes c.args.piece.now (λ i. omega (arith, c.type_inv.piece i))) (subst (λ (s : Result (Decoder Checker) Refusal). StateRead s p limit before) c.in-Err.is h)
@@ -64,3 +69,12 @@ returns-in-Err-clause-float c = λ f p limit before h. float_at p limit (before 
 
 pub returns-in-Err-feed-clause-float : goal.returns-in-Err-feed-clause-float
 returns-in-Err-feed-clause-float c = λ f p limit before h. float_at p limit (before ++ c.args.piece.now) c.in-Err-feed.refusal (returns-in-Err-feed-clause-read c p limit before h) f
+
+pub returns-in-Err-clause-room : goal.returns-in-Err-clause-room
+returns-in-Err-clause-room c = λ p limit before h byte one i room. absurd (subst HasRoomIn c.in-Err.is room)
+
+pub returns-in-Err-feed-clause-room : goal.returns-in-Err-feed-clause-room
+returns-in-Err-feed-clause-room c = λ p limit before h byte one i room memory.
+    let a = subst (λ (s : Result (Decoder Checker) Refusal). StateRead s p limit before) c.in-Ok.is h in
+    let few = subst HasRoomIn c.in-Ok.is room in
+    no_memory _ p limit before byte a i few.0 few.1 (c.in-Err-feed.ensures.room byte one memory)
