@@ -94,3 +94,41 @@ fn every_field_is_a_list_that_is_counted(rt: HostRuntime) {
     let Validator { state } = &validator;
     is::<Result<Decoder<Checker>, Refusal>>(state);
 }
+
+/// A custom section and an export with a name of 300 bytes each, and 1,100 functions with empty bodies.
+fn many_functions(alloc: Global) -> Result<Vec<u8>, Fail> {
+    let mut bytes = ADD[..8].to_vec(alloc)?;
+    bytes.extend_from_slice(&[0x00, 0xAE, 0x02, 0xAC, 0x02])?;
+    bytes.extend_from_slice(&[0x63; 300])?;
+    bytes.extend_from_slice(&[0x01, 0x04, 0x01, 0x60, 0x00, 0x00])?;
+    bytes.extend_from_slice(&[0x03, 0xCE, 0x08, 0xCC, 0x08])?;
+    bytes.extend_from_slice(&[0x00; 1100])?;
+    bytes.extend_from_slice(&[0x07, 0xB1, 0x02, 0x01, 0xAC, 0x02])?;
+    bytes.extend_from_slice(&[0x65; 300])?;
+    bytes.extend_from_slice(&[0x00, 0x00])?;
+    bytes.extend_from_slice(&[0x0A, 0xE6, 0x19, 0xCC, 0x08])?;
+    for _ in 0..1100 {
+        bytes.extend_from_slice(&[0x02, 0x00, 0x0B])?;
+    }
+    Ok(bytes)
+}
+
+#[test]
+fn many_functions_and_long_names(rt: HostRuntime) -> Result<(), Fail> {
+    let bytes = many_functions(rt.alloc())?;
+    let figures = Summary {
+        functions: 1100,
+        moves: 2,
+        operands: 0,
+        controls: 1,
+        probes: 0,
+    };
+    for size in [1, 100_000] {
+        let mut validator = Validator::new(rt.alloc(), Profile::One, 100_000);
+        for piece in bytes.as_slice().chunks(size) {
+            assert_eq!(rt; validator.feed(piece), Ok(()));
+        }
+        assert_eq!(rt; validator.finish(), Ok(figures));
+    }
+    Ok(())
+}
