@@ -18,7 +18,7 @@ pub fn execute<R: Files + Input + Print + Eprint + AllocGlobal>(rt: &R, line: &L
         Some(path) => match fs::open(rt, path) {
             Ok(file) => follow(rt, line, path, file),
             Err(error) => {
-                complain_of(rt, path, error);
+                complain_of(rt, &Status::Io, path, error);
                 Status::Io
             }
         },
@@ -40,8 +40,8 @@ fn follow<R: Print + Eprint + AllocGlobal, I: Read + Drop>(
         Status::Done | Status::Refused => {}
         Status::Memory => complain(rt, &status),
         Status::Io => match (source.into_inner().error(), dest.into_inner().error()) {
-            (Some(error), _) => complain_of(rt, name, error),
-            (None, Some(error)) => complain_of(rt, "standard output", error),
+            (Some(error), _) => complain_of(rt, &status, name, error),
+            (None, Some(error)) => complain_of(rt, &status, "standard output", error),
             // a write that took nothing
             (None, None) => complain(rt, &status),
         },

@@ -10,7 +10,7 @@ mod status;
 mod witness;
 mod words;
 
-use complaint::{complain, explain};
+use complaint::{complain, complain_of, explain};
 use execute::execute;
 use line::line;
 use status::{Status, exit_code};
@@ -27,7 +27,10 @@ fn read_words<R: Env + Eprint + AllocGlobal>(rt: &R) -> Result<Vec<String>, Line
             Err(_) => LineFault::Memory,
         },
         Err(error) if error.kind() == io::ErrorKind::OutOfMemory => LineFault::Memory,
-        Err(_) => LineFault::Words,
+        Err(error) => {
+            complain_of(rt, &LineFault::Words, "the arguments", error);
+            return Err(LineFault::Words);
+        }
     };
     complain(rt, &fault);
     Err(fault)
@@ -40,10 +43,7 @@ fn obey<R: Env + Files + Input + Print + Eprint + AllocGlobal>(
     let words = read_words(rt)?;
     match line(rt.alloc(), words.as_slice()) {
         Ok(line) => Ok(execute(rt, &line)),
-        Err(fault) => {
-            explain(rt, words.as_slice(), &fault);
-            Err(fault)
-        }
+        Err(fault) => explain(rt, words.as_slice(), fault),
     }
 }
 
