@@ -62,10 +62,13 @@ abbrev pub judged : {H : Type 0} → Machine → ℕ → Result (List ℕ × H) 
 judged m at (Ok p) = settled m p.0 p.1 at
 judged m at (Err w) = Err (record { at = at; why = w })
 
--- Memory may run out at this byte. The last case is none: a machine never refuses for memory.
+-- Memory may run out at what this byte completes.
+abbrev pub MayTake : {H : Type 0} → (H → Part → Type 0) → Profile → Live H → ℕ → Type 0
+MayTake may p l c = MayHeed may (step_of p l.machine c).1 l.name c l.held
+
+-- the same where nothing is known of the machine: one that has refused nothing never refuses for memory
 abbrev pub MayRunOut : {H : Type 0} → (H → Part → Type 0) → Profile → Live H → ℕ → Type 0
-MayRunOut may p l c =
-    MayHeed may (step_of p l.machine c).1 l.name c l.held ⊎ ((step_of p l.machine c).0 ≡ machine.Refused why.Memory)
+MayRunOut may p l c = MayTake may p l c ⊎ ((step_of p l.machine c).0 ≡ machine.Refused why.Memory)
 
 abbrev pub live_byte : {H : Type 0} → (H → Part → Result H Why) → Profile → ℕ → Live H → ℕ → Result (Live H) Refusal
 live_byte after p limit l c =

@@ -4,7 +4,7 @@ use Rattle.wm_syntax.specs.declared.profile.Profile.{Profile}
 use Rattle.wm_decode.specs.declared.machine.Machine.{Machine}
 use Rattle.wm_decode.specs.declared.state.Decoder.{Decoder}
 use Rattle.wm_decode.specs.Fronts.{InExpression}
-use Rattle.wm_decode.specs.Live.{IsRefused, Live, begun, live_with, MayRunOut as MayRunOutIn}
+use Rattle.wm_decode.specs.Live.{IsRefused, Live, begun, live_with, MayTake}
 use Rattle.wm_decode.specs.Parts.{parts_of}
 use Rattle.wm_decode.specs.Runs.{State, begin, run}
 use Rattle.wm_decode.proofs.Calls.{after_so_far, live_after}
@@ -21,7 +21,7 @@ abbrev held : Checker → Checker
 held c = c
 
 pub no_memory : (d : Decoder Checker) (p : Profile) (limit : ℕ) (before : List ℕ) (byte : ℕ) → StateRead (Ok d) p limit before → InExpression p before
-    → length d.sink.body.state.stacks.operands < 64 → length d.sink.body.state.stacks.frames < 32 → MayRunOutIn MayRunOut d.profile (live_with held d []) byte → ⊥
+    → length d.sink.body.state.stacks.operands < 64 → length d.sink.body.state.stacks.frames < 32 → MayTake MayRunOut d.profile (live_with held d []) byte → ⊥
 no_memory d p limit before byte h i few low m =
     let ok = unrefused d h.1 in
     let l = live_after held after (setting p limit) d before ok h.0 in
@@ -30,8 +30,8 @@ no_memory d p limit before byte h i few low m =
     let at : d.machine ≡ l.0.machine = ap (λ (y : Live Held). y.machine) same in
     let machine : l.0.machine ≡ (run p begin before).machine = ap (λ (y : State). y.machine) r.state in
     let live : IsRefused (run p begin before).machine → ⊥ = λ x. r.live (λ y. y) (subst IsRefused (sym machine) x) in
-    let run_out : MayRunOutIn MayRunOut p (live_with held d []) byte = subst (λ q. MayRunOutIn MayRunOut q (live_with held d []) byte) h.0.profile m in
-    let o = runs_out_at_op MayRunOut p before h.0.are_bytes live i (live_with held d []) byte (at ∙ machine) run_out in
+    let run_out : MayTake MayRunOut p (live_with held d []) byte = subst (λ q. MayTake MayRunOut q (live_with held d []) byte) h.0.profile m in
+    let o = runs_out_at_op MayRunOut p before h.0.are_bytes live i (live_with held d []) byte (at ∙ machine) (inl run_out) in
     let s = after_so_far held after (setting p limit) d before ok h.0 in
     elim o.1 [
       | inl refused ↦ refused (parts_unrefused (parts_of s.marks) empty d.sink s.taken refl)

@@ -1,6 +1,7 @@
 use Rattle.std.proofs.Common.{arith}
 use Rattle.wm_decode.proofs.Calls.{are_bytes, fed_after, on_taken, on_so_far, on_refused, on_same, on_place, on_header, on_float, on_refusal, stands_refused}
 use Rattle.wm_decode.specs.Live.{standing}
+use Rattle.wm_decode.proofs.NoMemory.{take_room}
 use Rattle.wm_decode.proofs.state.Decoder.feed.Goals as goal
 
 pub returns-clause-after : goal.returns-clause-after
@@ -32,3 +33,7 @@ returns-clause-sticky g c = λ r e. c.take_piece.ensures.sticky r (stands_refuse
 
 pub returns-clause-refusal : goal.returns-clause-refusal
 returns-clause-refusal g c = on_refusal g.S.Sink.held g.S.Sink.after c.args.self.now c.take_piece.new.self c.args.piece.now c.take_piece.result _ c.take_piece.ensures.fed
+
+pub returns-clause-room : goal.returns-clause-room
+returns-clause-room g c = λ live b one.
+    take_room g.S.Sink.may_run_out c.args.self.now.profile g.S.Sink.held c.args.self.now b live c.take_piece.result (c.take_piece.ensures.room b one)

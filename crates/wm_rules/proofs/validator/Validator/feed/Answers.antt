@@ -77,4 +77,4 @@ pub returns-in-Err-feed-clause-room : goal.returns-in-Err-feed-clause-room
 returns-in-Err-feed-clause-room c = λ p limit before h byte one i room memory.
     let a = subst (λ (s : Result (Decoder Checker) Refusal). StateRead s p limit before) c.in-Ok.is h in
     let few = subst HasRoomIn c.in-Ok.is room in
-    no_memory _ p limit before byte a i few.0 few.1 (c.in-Err-feed.ensures.room byte one memory)
+    no_memory _ p limit before byte a i few.0 few.1 (c.in-Err-feed.ensures.room a.1 byte one memory)
