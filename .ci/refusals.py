@@ -13,16 +13,16 @@ WORDS = TOP / "crates/wm_syntax/src/why.rt"
 def rows_of_page():
     """The word, the bytes and the place of each row."""
     row = re.compile(r"^\| `(\w+)` \|.*?`((?:[0-9A-F]{2} ?)+)`: refused at (\d+) \|", re.M)
-    return row.findall(PAGE.read_text())
+    return row.findall(PAGE.read_text(encoding="utf8"))
 
 
 def rows_of_tests():
     row = re.compile(r'\(\s*"(\w+)",\s*"((?:[0-9A-F]{2} ?)+)",\s*(\d+),?\s*\)')
-    return row.findall(TESTS.read_text())
+    return row.findall(TESTS.read_text(encoding="utf8"))
 
 
 def printed_words():
-    words = re.findall(r'Why::\w+ => "(\w+)",', WORDS.read_text())
+    words = re.findall(r'Why::\w+ => "(\w+)",', WORDS.read_text(encoding="utf8"))
     return set(words) - {"Memory"}
 
 

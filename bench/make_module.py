@@ -1,19 +1,22 @@
 #!/usr/bin/env python3
-"""Writes a valid module of about so many megabytes to standard output: `make_module.py 8 > big.wasm`.
+"""Writes a valid module of a shape and of about so many megabytes to standard output: `make_module.py clang 8 > big.wasm`.
 
-Every run writes the same bytes for the same size. There are functions of 200 to 300 bytes with locals, nested
-blocks, loads and stores, calls and arithmetic, as compilers write them, and a data segment of a tenth of the size.
+Every run writes the same bytes for the same words. Without a shape it prints their names.
 """
 import sys
 
+I32, I64 = 0x7F, 0x7E
 
-def unsigned(n):
+
+def unsigned(n, width=0):
+    """The shortest spelling of n, or one of so many bytes."""
     out = bytearray()
     while True:
         byte = n & 0x7F
         n >>= 7
-        out.append(byte | (0x80 if n else 0))
-        if not n:
+        more = n or len(out) + 1 < width
+        out.append(byte | (0x80 if more else 0))
+        if not more:
             return bytes(out)
 
 
@@ -34,6 +37,27 @@ def section(number, contents):
 
 def vector(items):
     return unsigned(len(items)) + b"".join(items)
+
+
+def name(text):
+    return unsigned(len(text)) + text
+
+
+def entry(runs, code):
+    contents = vector([unsigned(n) + bytes([ty]) for n, ty in runs]) + code + b"\x0b"
+    return unsigned(len(contents)) + contents
+
+
+HEADER = b"\x00asm\x01\x00\x00\x00"
+NOTHING = b"\x60\x00\x00"
+BINARY = b"\x60\x02\x7f\x7f\x01\x7f"
+MEMORY = section(5, b"\x01\x00\x01")
+
+
+def module(types, entries, memory=b""):
+    """One function of type 0 for each code entry."""
+    declared = section(3, unsigned(len(entries)) + b"\x00" * len(entries))
+    return HEADER + section(1, vector(types)) + declared + memory + section(10, vector(entries))
 
 
 class Numbers:
@@ -66,30 +90,113 @@ def statement(numbers, functions):
     return b"\x20" + a + b"\x20" + b + b"\x10" + unsigned(numbers.below(functions)) + b"\x21" + a
 
 
-def body(numbers, functions):
+def statements(numbers, functions, size):
     code = bytearray()
-    while len(code) < 200 + numbers.below(100):
+    while len(code) < size:
         code += statement(numbers, functions)
-    locals_ = vector([b"\x02\x7f", b"\x02\x7e"])
-    entry = locals_ + bytes(code) + b"\x20\x00\x0b"
-    return unsigned(len(entry)) + entry
+    return bytes(code) + b"\x20\x00"
 
 
-def module(size):
+LOCALS = [(2, I32), (2, I64)]
+
+
+def clang(size):
+    """Functions of 200 to 300 bytes, with locals, nested blocks, loads, stores, calls and arithmetic."""
     numbers = Numbers(1)
-    functions = max(1, size * 9 // 10 // 260)
-    types = section(1, vector([b"\x60\x02\x7f\x7f\x01\x7f"]))
-    declared = section(3, unsigned(functions) + b"\x00" * functions)
-    memory = section(5, b"\x01\x00\x01")
-    code = section(10, vector([body(numbers, functions) for _ in range(functions)]))
-    data = bytes(numbers.below(256) for _ in range(size // 10))
-    segment = section(11, b"\x01\x00\x41\x00\x0b" + unsigned(len(data)) + data)
-    return b"\x00asm\x01\x00\x00\x00" + types + declared + memory + code + segment
+    functions = max(1, size // 262)
+    return module([BINARY], [entry(LOCALS, statements(numbers, functions, 200 + numbers.below(100))) for _ in range(functions)], MEMORY)
+
+
+def one_long_function(size):
+    return module([BINARY], [entry(LOCALS, statements(Numbers(2), 1, size))], MEMORY)
+
+
+def deep_blocks(size):
+    depth = size // 3
+    return module([NOTHING], [entry([], b"\x02\x40" * depth + b"\x0b" * depth)])
+
+
+def wide_br_tables(size):
+    labels = 10_000
+    table = b"\x41\x00\x0e" + unsigned(labels) + b"\x00" * (labels + 1)
+    block = b"\x02\x40" + table + b"\x0b"
+    return module([NOTHING], [entry([], block * max(1, size // len(block)))])
+
+
+def many_short_functions(size):
+    one = entry([], b"")
+    return module([NOTHING], [one] * (size // (len(one) + 1)))
+
+
+def many_types(size):
+    return HEADER + section(1, vector([BINARY] * (size // len(BINARY))))
+
+
+def many_imports(size):
+    one = name(b"env") + name(b"f") + b"\x00\x00"
+    return HEADER + section(1, vector([NOTHING])) + section(2, vector([one] * (size // len(one))))
+
+
+def many_exports(size):
+    count = size // 13
+    exports = [name(b"e%08d" % i) + b"\x00\x00" for i in range(count)]
+    return HEADER + section(1, vector([NOTHING])) + section(3, b"\x01\x00") + section(7, vector(exports)) + section(10, vector([entry([], b"")]))
+
+
+def one_data_segment(size):
+    data = bytes(range(256)) * (size // 256)
+    return HEADER + section(5, b"\x01\x00\x01") + section(11, b"\x01\x00\x41\x00\x0b" + unsigned(len(data)) + data)
+
+
+def custom_sections(size):
+    one = section(0, name(b"custom") + b"\x00" * 100_000)
+    return HEADER + one * max(1, size // len(one))
+
+
+def long_numbers(size):
+    """Numbers of full width: an i64 constant of ten bytes, locals and offsets of five."""
+    numbers = Numbers(3)
+    code = bytearray()
+    while len(code) < size:
+        a = unsigned(numbers.below(2), 5)
+        code += b"\x20" + a + b"\x28\x02" + unsigned(numbers.below(4096), 5) + b"\x21" + a
+        code += b"\x42" + signed(-(2**63)) + b"\x1a"
+    return module([BINARY], [entry(LOCALS, bytes(code) + b"\x20\x00")], MEMORY)
+
+
+def many_runs(size):
+    """Functions with a thousand runs of one local each, and a get and a drop for each of them."""
+    runs = [(1, I32 if i % 2 else I64) for i in range(1000)]
+    code = b"".join(b"\x20" + unsigned(i) + b"\x1a" for i in range(1000))
+    one = entry(runs, code)
+    return module([NOTHING], [one] * max(1, size // len(one)))
+
+
+SHAPES = [
+    clang,
+    one_long_function,
+    deep_blocks,
+    wide_br_tables,
+    many_short_functions,
+    many_types,
+    many_imports,
+    many_exports,
+    one_data_segment,
+    custom_sections,
+    long_numbers,
+    many_runs,
+]
+
+
+def make(shape, megabytes):
+    return {f.__name__: f for f in SHAPES}[shape](int(megabytes * 1_000_000))
 
 
 def main():
-    size = int(sys.argv[1]) if len(sys.argv) > 1 else 8
-    sys.stdout.buffer.write(module(size * 1_000_000))
+    if len(sys.argv) < 2:
+        print("\n".join(f.__name__ for f in SHAPES))
+        return
+    sys.stdout.buffer.write(make(sys.argv[1], float(sys.argv[2]) if len(sys.argv) > 2 else 8))
 
 
 if __name__ == "__main__":

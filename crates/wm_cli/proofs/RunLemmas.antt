@@ -8,16 +8,17 @@ use Rattle.wm_rules.specs.declared.reading.FromFault.TheVariants.{Refused}
 use Rattle.wm_cli.specs.declared.status.Status.TheVariants as status
 use Rattle.wm_cli.specs.declared.words.Action.{Action}
 use Rattle.wm_rules.specs.Reading.{Judges}
-use Rattle.wm_cli.specs.Outcome.{Answers, OutOf, refusal_line}
+use Rattle.wm_cli.specs.Outcome.{IsRightFor, OutOf, refusal_line}
 use Rattle.wm_rules.specs.Validation.{Accepted}
-use Rattle.wm_rules.specs.Validating.{NeverAccepted, verdict}
+use Rattle.wm_rules.specs.Validating.{NeverAccepted}
+use Rattle.wm_rules.specs.inner.Validators.{verdict}
 
 refused_out : (action : Action) (p : Profile) (limit : ℕ) (input : List ℕ) (r : Refusal) → r.why ≢ Memory → (Accepted p limit input → ⊥) → r.at ≤ length input
     → verdict p limit input ≡ Err r → OutOf action p limit input (refusal_line r.at r.why) status.Refused
 refused_out action p limit input r why none place same = inr (none, (r, why, place, same, refl), refl)
 
 early_out : (action : Action) (p : Profile) (limit : ℕ) (input : List ℕ) (left : Option (List ℕ)) (r : Refusal) → r.why ≢ Memory → NeverAccepted p limit input r
-    → Answers action p limit input left (refusal_line r.at r.why) status.Refused
+    → IsRightFor action p limit input left (refusal_line r.at r.why) status.Refused
 early_out action p limit input left r why n = inr (
   n.used,
   n.rest,
@@ -28,7 +29,7 @@ early_out action p limit input left r why n = inr (
 )
 
 pub out_of_refusal : (action : Action) (p : Profile) (limit : ℕ) (all left : Option (List ℕ)) (r : Refusal) → r.why ≢ Memory → Judges p limit all left (Err (Refused r))
-    → IfSome all (λ input. Answers action p limit input left (refusal_line r.at r.why) status.Refused)
+    → IfSome all (λ input. IsRightFor action p limit input left (refusal_line r.at r.why) status.Refused)
 out_of_refusal action p limit None left r why j = tt
 out_of_refusal action p limit (Some input) left r why j =
     elim (j.not_accepted why) [

@@ -11,7 +11,7 @@ use Rattle.wm_cli.specs.declared.words.Action.TheVariants.{Check, Stats}
 use Rattle.std.specs.Io.KnownBytes.{IsAtEnd}
 use Rattle.wm_rules.specs.declared.checker.Summary.{Summary}
 use Rattle.wm_rules.specs.Bounds.{SummaryOf}
-use Rattle.wm_rules.specs.Validating.{verdict}
+use Rattle.wm_rules.specs.inner.Validators.{verdict}
 use Rattle.wm_rules.specs.Validation.{Accepted}
 use Rattle.wm_decode.specs.declared.refusal.Refusal.{Refusal}
 
@@ -53,8 +53,8 @@ OutOf action p limit input written status =
 
 -- What was written and answered is right for the input, where all of it was read; else it is right for every input that
 -- begins with what was read.
-abbrev pub Answers : Action → Profile → ℕ → List ℕ → Option (List ℕ) → List ℕ → Status → Type 0
-Answers action p limit input left written status =
+abbrev pub IsRightFor : Action → Profile → ℕ → List ℕ → Option (List ℕ) → List ℕ → Status → Type 0
+IsRightFor action p limit input left written status =
     (IsAtEnd left × OutOf action p limit input written status)
     ⊎ ((read rest : List ℕ) × (input ≡ read ++ rest) × ((more : List ℕ) → OutOf action p limit (read ++ more) written status))
 

@@ -131,7 +131,8 @@ fn command<'a>(alloc: Global) -> Result<Command<'a>, AllocError>
 
 /// The profile that this word names; without one, the first.
 fn profile_by(word: Option<&str>) -> Option<Profile>
-    ensures { let said = option_map (λ s. s.now) word.entry in MatchOption result ((p : Profile) → IsProfile said p → ⊥) (IsProfile said) }
+    ensures { let said = option_map (λ s. s.now) word.entry in MatchOption result ((p : Profile) → IsProfile said p
+        → ⊥) (IsProfile said) }
 {
     match word {
         None => Some(Profile::One),
@@ -141,7 +142,8 @@ fn profile_by(word: Option<&str>) -> Option<Profile>
 
 /// The limit that this word says; without one, 2^32 - 1.
 fn limit_by(word: Option<&str>) -> Option<u64>
-    ensures { let said = option_map (λ s. s.now) word.entry in MatchOption result ((n : ℕ) → IsLimit said n → ⊥) (IsLimit said) }
+    ensures { let said = option_map (λ s. s.now) word.entry in MatchOption result ((n : ℕ) → IsLimit said n
+        → ⊥) (IsLimit said) }
 {
     match word {
         None => Some(DEFAULT_LIMIT),

@@ -3,7 +3,7 @@
 ghost use Rattle.std.specs.Prelude.{◌≡◌, ◌≢◌, ◌≤◌, ◌^◌, ◌↔◌, ◌||◌, ℕ, List, IfSome, false, true};
 ghost use Rattle.wm_cli.specs.Answers.{IsAnswered};
 ghost use Rattle.wm_cli.specs.declared.status.Status.{Status};
-ghost use Rattle.wm_cli.specs.Outcome.{Answers, IsOutput, refusal_line, stats_text};
+ghost use Rattle.wm_cli.specs.Outcome.{IsRightFor, IsOutput, refusal_line, stats_text};
 
 use crate::answer::answer;
 use crate::status::Status;
@@ -32,7 +32,7 @@ pub fn run<R: Source, W: Dest>(
     // What is to be written for the input is written whole, or, where the writer failed, a beginning of it.
     ensures answered { R.has_failed r.new ≡ false → result ≢ Status.Memory → (text : List ℕ) × (status : Status)
         × IsOutput action text status
-        × IfSome (R.remaining r.old) (λ input. Answers action profile limit input (R.remaining r.new) text status)
+        × IfSome (R.remaining r.old) (λ input. IsRightFor action profile limit input (R.remaining r.new) text status)
         × IsAnswered text status (W.contents w.old) (W.contents w.new) (W.has_failed w.new) result }
     ensures reader { R.has_failed r.new ≡ true → (result ≡ Status.Io) × (w.new ≡ w.old) }
     ensures memory { result ≡ Status.Memory → w.new ≡ w.old }
@@ -58,7 +58,7 @@ pub fn run_line<R: Source, W: Dest>(alloc: Global, line: &Line, r: &mut R, w: &m
     ensures answered { R.has_failed r.new ≡ false → result ≢ Status.Memory → (text : List ℕ) × (status : Status)
         × IsOutput line.now.action text status
         × IfSome (R.remaining r.old)
-        (λ input. Answers line.now.action line.now.profile line.now.limit input (R.remaining r.new) text status)
+        (λ input. IsRightFor line.now.action line.now.profile line.now.limit input (R.remaining r.new) text status)
         × IsAnswered text status (W.contents w.old) (W.contents w.new) (W.has_failed w.new) result }
     ensures reader { R.has_failed r.new ≡ true → (result ≡ Status.Io) × (w.new ≡ w.old) }
     ensures memory { result ≡ Status.Memory → w.new ≡ w.old }

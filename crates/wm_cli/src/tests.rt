@@ -1,3 +1,5 @@
+//! Tests of what the program writes.
+
 mod modules;
 mod profiles;
 mod refusals;

@@ -2,17 +2,17 @@
 use Rattle.std.proofs.Common.{◌≡◌, ℕ, zero, suc, ◌+◌, ◌<◌, ◌≤◌, List, [], ◌∷◌, ◌++◌, None, refl, sym, ◌∙◌, ap, subst, inl, inr, ◌⊎◌, arith, true, false, nat_lt}
 use Rattle.std.proofs.lemmas.Bool.{ltb-true, ltb-false}
 use Rattle.wm_syntax.specs.declared.profile.Profile.{Profile}
-use Rattle.wm_syntax.specs.Reading.{fresh}
-use Rattle.wm_decode.specs.Parts.{Marks}
-use Rattle.wm_decode.specs.Shapes.{Shape, Byte, Then, Times, Counted, Number, Name, Sized, Filled, nothing_at, said}
+use Rattle.wm_syntax.specs.exact.Reading.{fresh}
+use Rattle.wm_decode.specs.Items.{Marks}
+use Rattle.wm_decode.specs.MarkedForms.{MarkedForm, Byte, Then, Times, Counted, Number, Name, Sized, Filled, nothing_at, outside_mark}
 use Rattle.wm_decode.specs.Grammar.{Contents, Section, Custom, Customs, MayMiss, Optional, Chain}
-use Rattle.wm_decode.proofs.Next.{Next, HasBytes, head_same, not_nil, same_refl, next_from, next_byte, byte_has, then_has, then_assoc, ends_first}
+use Rattle.wm_decode.proofs.FirstBytes.{Next, HasBytes, head_same, not_nil, same_refl, next_from, next_byte, byte_has, then_has, then_assoc, ends_first}
 use Rattle.wm_decode.proofs.Numbers.{Left}
 use Rattle.wm_decode.proofs.Counts.{counted_fresh}
 use Rattle.wm_decode.proofs.Customs.{unnamed}
 
 -- what holds besides
-abbrev pub Where : Type 0 → Shape → Shape
+abbrev pub Where : Type 0 → MarkedForm → MarkedForm
 Where C P b k = C × P b k
 
 -- the sections of these ids may be left out
@@ -36,22 +36,22 @@ missing_none f low high none i above below = absurd (omega (arith, none, above, 
 
 module _ (demanded : Type 0) (p : Profile) (f : ℕ) where
   -- the size of a section other than a custom one, and its contents
-  abbrev Sizes : ℕ → Shape
+  abbrev Sizes : ℕ → MarkedForm
   Sizes id = Number nothing_at (λ n. Sized demanded n (Contents demanded p f id))
 
   -- after the id of a section, and after that of a custom one
-  abbrev pub InSection : ℕ → Shape → Shape
+  abbrev pub InSection : ℕ → MarkedForm → MarkedForm
   InSection id Q = Counted (Left fresh) nothing_at (λ n. Then (Sized demanded n (Contents demanded p f id)) Q)
 
-  abbrev pub InCustomSection : Shape → Shape
+  abbrev pub InCustomSection : MarkedForm → MarkedForm
   InCustomSection Q = Counted (Left fresh) nothing_at (λ n. Then (Filled demanded n (Name demanded unnamed)) Q)
 
-  section_next : (id : ℕ) (G : ℕ → Shape) (Q : Shape) → Next demanded (Then (Then (Byte id None) (Number nothing_at G)) Q) id (said None) (Counted (Left fresh) nothing_at (λ n. Then (G n) Q))
+  section_next : (id : ℕ) (G : ℕ → MarkedForm) (Q : MarkedForm) → Next demanded (Then (Then (Byte id None) (Number nothing_at G)) Q) id (outside_mark None) (Counted (Left fresh) nothing_at (λ n. Then (G n) Q))
   section_next id G Q =
-      let N : Shape = Number nothing_at G in
-      let R : Shape = Counted (Left fresh) nothing_at (λ n. Then (G n) Q) in
-      next_from demanded (Then (Byte id None) (Then N Q)) (Then (Then (Byte id None) N) Q) R id (said None) (then_assoc demanded (Byte id None) N Q)
-      (ends_first demanded (Byte id None) (Then N Q) R id (said None) (next_byte demanded id None) (byte_has demanded id None)
+      let N : MarkedForm = Number nothing_at G in
+      let R : MarkedForm = Counted (Left fresh) nothing_at (λ n. Then (G n) Q) in
+      next_from demanded (Then (Byte id None) (Then N Q)) (Then (Then (Byte id None) N) Q) R id (outside_mark None) (then_assoc demanded (Byte id None) N Q)
+      (ends_first demanded (Byte id None) (Then N Q) R id (outside_mark None) (next_byte demanded id None) (byte_has demanded id None)
       (counted_fresh demanded nothing_at G Q (λ n. Then (G n) Q) (λ n. same_refl demanded (Then (G n) Q))))
 
   -- what begins with a section begins with its id
@@ -59,19 +59,19 @@ module _ (demanded : Type 0) (p : Profile) (f : ℕ) where
   byte_front id c b [] back k e h = absurd (not_nil id [] (sym h.0))
   byte_front id c b (d ∷ front) back k e h = head_same c d b (front ++ back) e ∙ head_same d id front [] h.0
 
-  id_has : (id : ℕ) (N : Shape) → HasBytes (Unit {0}) (Then (Byte id None) N)
+  id_has : (id : ℕ) (N : MarkedForm) → HasBytes (Unit {0}) (Then (Byte id None) N)
   id_has id N = then_has (Unit {0}) (Byte id None) N (byte_has (Unit {0}) id None)
 
-  id_front : (id : ℕ) (N : Shape) (c : ℕ) (b : List ℕ) (front back : List ℕ) (k : Marks) → c ∷ b ≡ front ++ back → Then (Byte id None) N front k → c ≡ id
+  id_front : (id : ℕ) (N : MarkedForm) (c : ℕ) (b : List ℕ) (front back : List ℕ) (k : Marks) → c ∷ b ≡ front ++ back → Then (Byte id None) N front k → c ≡ id
   id_front id N c b [] back k e h = absurd (id_has id N tt k h)
   id_front id N c b (d ∷ front) back k e h = head_same c d b (front ++ back) e ∙ byte_front id d front h.front h.back h.front_marks h.bytes h.first
 
   -- the same of what stands first
-  first_front : (id : ℕ) (N Q : Shape) (c : ℕ) (b : List ℕ) (k : Marks) → Then (Then (Byte id None) N) Q (c ∷ b) k → c ≡ id
+  first_front : (id : ℕ) (N Q : MarkedForm) (c : ℕ) (b : List ℕ) (k : Marks) → Then (Then (Byte id None) N) Q (c ∷ b) k → c ≡ id
   first_front id N Q c b k h = id_front id N c b h.front h.back h.front_marks h.bytes h.first
 
   -- no custom section, and then the rest
-  module _ {P : Shape} where
+  module _ {P : MarkedForm} where
     none_first : (b : List ℕ) (k : Marks) → P b k → Then (Customs demanded) P b k
     none_first b k h = record { front = []; back = b; front_marks = []; back_marks = k; bytes = refl; marks = refl; first = (0, (refl, refl)); second = h }
 
@@ -100,7 +100,7 @@ module _ (demanded : Type 0) (p : Profile) (f : ℕ) where
             assoc : (b : List ℕ) (k : Marks) → Then (Then (Custom demanded) (Customs demanded)) P b k → Then (Custom demanded) (Then (Customs demanded) P) b k
             assoc b k h = (then_assoc (Unit {0}) (Custom demanded) (Customs demanded) P).to tt b k h
 
-  abbrev Sections : (count id : ℕ) → Shape
+  abbrev Sections : (count id : ℕ) → MarkedForm
   Sections count id = Chain demanded p f count id
 
   -- a section that may be missing is
@@ -124,7 +124,7 @@ module _ (demanded : Type 0) (p : Profile) (f : ℕ) where
   custom_more zero id b k h = (suc h.second.0, record { front = h.front; back = h.back; front_marks = h.front_marks; back_marks = h.back_marks; bytes = h.bytes; marks = h.marks; first = h.first; second = h.second.1 })
   custom_more (suc count) id b k h = one_more b k h
 
-  with_rest : (P Q R : Shape) → ((b : List ℕ) (k : Marks) → Q b k → R b k) → (b : List ℕ) (k : Marks) → Then P Q b k → Then P R b k
+  with_rest : (P Q R : MarkedForm) → ((b : List ℕ) (k : Marks) → Q b k → R b k) → (b : List ℕ) (k : Marks) → Then P Q b k → Then P R b k
   with_rest P Q R g b k h = record { front = h.front; back = h.back; front_marks = h.front_marks; back_marks = h.back_marks; bytes = h.bytes; marks = h.marks; first = h.first; second = g h.back h.back_marks h.second }
 
   times_split : (n : ℕ) (c : ℕ) (b : List ℕ) (k : Marks) → Times n (Custom demanded) (c ∷ b) k → Then (Custom demanded) (Customs demanded) (c ∷ b) k
@@ -144,10 +144,10 @@ module _ (demanded : Type 0) (p : Profile) (f : ℕ) where
     ]
   ]
 
-  abbrev Nameless : ℕ → Shape
+  abbrev Nameless : ℕ → MarkedForm
   Nameless n = Filled demanded n (Name demanded unnamed)
 
-  pub custom_next : (count id : ℕ) → Next demanded (Sections count (suc id)) 0 (said None) (InCustomSection (Sections count (suc id)))
+  pub custom_next : (count id : ℕ) → Next demanded (Sections count (suc id)) 0 (outside_mark None) (InCustomSection (Sections count (suc id)))
   custom_next count id =
       let g = section_next 0 Nameless (Sections count (suc id)) in
       record {
@@ -156,7 +156,7 @@ module _ (demanded : Type 0) (p : Profile) (f : ℕ) where
       }
 
   -- no custom section begins with another id
-  not_custom : (Q : Shape) (c : ℕ) (b : List ℕ) (k : Marks) → Then (Custom demanded) Q (suc c ∷ b) k → ⊥
+  not_custom : (Q : MarkedForm) (c : ℕ) (b : List ℕ) (k : Marks) → Then (Custom demanded) Q (suc c ∷ b) k → ⊥
   not_custom Q c b k t = no_zero c (sym (first_front 0 (Number nothing_at Nameless) Q (suc c) b k t))
 
   -- which first bytes there may be
@@ -208,7 +208,7 @@ module _ (demanded : Type 0) (p : Profile) (f : ℕ) where
       (subst (λ y. Sections y (suc id) b k) (let z : suc (j + count) ≡ suc j + count = omega arith in z)
       (of_section j count (suc id) c i (λ m low high. may m (omega (arith, low)) high) b k h))
 
-  pub section_goes : (j count id c : ℕ) → suc c ≡ id + j → Next demanded (Sections (suc (j + count)) id) (suc c) (said None) (Where (Missing f id (suc c)) (InSection (suc c) (Sections count (suc (suc c)))))
+  pub section_goes : (j count id c : ℕ) → suc c ≡ id + j → Next demanded (Sections (suc (j + count)) id) (suc c) (outside_mark None) (Where (Missing f id (suc c)) (InSection (suc c) (Sections count (suc (suc c)))))
   section_goes j count id c e =
       let g = section_next (suc c) (λ n. Sized demanded n (Contents demanded p f (suc c))) (Sections count (suc (suc c))) in
       record {
@@ -224,7 +224,7 @@ module _ (demanded : Type 0) (p : Profile) (f : ℕ) where
   no_times zero k h = h.1
   no_times (suc n) k h = absurd (then_has (Unit {0}) (Custom demanded) (Times n (Custom demanded)) (id_has 0 (Number nothing_at Nameless)) tt k h)
 
-  no_section : (id : ℕ) (Q : Shape) → HasBytes (Unit {0}) (Then (Section demanded p f id) Q)
+  no_section : (id : ℕ) (Q : MarkedForm) → HasBytes (Unit {0}) (Then (Section demanded p f id) Q)
   no_section id Q = then_has (Unit {0}) (Section demanded p f id) Q (id_has id (Sizes id))
 
   pub over_missing : (count id : ℕ) (k : Marks) → Sections count id [] k → (k ≡ []) × Missing f id (id + count)

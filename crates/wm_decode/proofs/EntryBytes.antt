@@ -2,8 +2,8 @@
 use Rattle.std.proofs.Common.{◌≡◌, ℕ, zero, suc, ◌<◌, ◌^◌, List, [], ◌∷◌, ◌++◌, Option, Some, None, length, refl, sym, ◌∙◌, ap, subst, arith}
 use Rattle.wm_syntax.specs.declared.numbers.Step.{Step}
 use Rattle.wm_syntax.specs.declared.numbers.Step.TheVariants as step
-use Rattle.wm_syntax.specs.Partial.{Partial}
-use Rattle.wm_syntax.specs.Reading.{fresh, unsigned_push}
+use Rattle.wm_syntax.specs.inner.Numbers.{Partial}
+use Rattle.wm_syntax.specs.exact.Reading.{fresh, unsigned_push}
 use Rattle.wm_syntax.specs.declared.why.Why.{Why}
 use Rattle.wm_syntax.specs.declared.profile.Profile.{Profile}
 use Rattle.wm_syntax.specs.declared.types.ValType.{ValType}
@@ -15,34 +15,34 @@ use Rattle.wm_decode.specs.declared.machine.Event.TheVariants as event
 use Rattle.wm_decode.specs.declared.reading.Reading.{Reading}
 use Rattle.wm_decode.specs.declared.reading.Reading.TheVariants.{More, Done, Bad}
 use Rattle.wm_decode.specs.declared.values.InRun.TheVariants as run
-use Rattle.wm_decode.specs.declared.component.InEntry.{InEntry}
-use Rattle.wm_decode.specs.declared.component.InEntry.TheVariants as entry
+use Rattle.wm_decode.specs.declared.member.InEntry.{InEntry}
+use Rattle.wm_decode.specs.declared.member.InEntry.TheVariants as entry
 use Rattle.wm_decode.specs.declared.expressions.InExpression.{InExpression}
 use Rattle.wm_decode.specs.declared.expressions.InExpression.TheVariants as expression
-use Rattle.wm_decode.specs.Parts.{Part, locals, body_op, outside, entry as in_entry, closing, Mark, Marks}
-use Rattle.wm_decode.specs.Shapes.{Shape, Empty, Then, Times, Leaf, Vector, Counted, Sized, Entry, nothing_at, in_zone, entered, said}
+use Rattle.wm_decode.specs.Items.{Item, locals, body_op, outside, entry as in_entry, closing, Mark, Marks}
+use Rattle.wm_decode.specs.MarkedForms.{MarkedForm, Empty, Then, Times, Leaf, Vector, Counted, Sized, Entry, nothing_at, in_zone, entry_marks, outside_mark}
 use Rattle.wm_decode.specs.Grammar.{Run, Expression}
-use Rattle.wm_decode.specs.Runs.{heard}
-use Rattle.wm_decode.specs.ValueSteps.{run_push}
-use Rattle.wm_decode.specs.ExpressionSteps.{start, expression_step}
-use Rattle.wm_decode.specs.ComponentSteps.{on_number, on_value, given, runs_or_body, after_op, op_event, body_step, entry_step}
-use Rattle.wm_decode.proofs.Next.{Next, Same, HasBytes, Never, not_nil, same_refl, same_then, next_to, next_never, then_has, empty_then, then_assoc, then_same}
+use Rattle.wm_decode.specs.exact.Runs.{byte_read}
+use Rattle.wm_decode.specs.exact.ValueSteps.{run_push}
+use Rattle.wm_decode.specs.exact.ExpressionSteps.{start, expression_step}
+use Rattle.wm_decode.specs.exact.MemberSteps.{on_number, on_value, with_item_given, runs_or_body, entry_after_op, op_event, body_step, entry_step}
+use Rattle.wm_decode.proofs.FirstBytes.{Next, Same, HasBytes, Never, not_nil, same_refl, same_then, next_to, next_never, then_has, empty_then, then_assoc, then_same}
 use Rattle.wm_decode.proofs.Numbers.{Left, left_nil}
 use Rattle.wm_decode.proofs.Counts.{counted_has, counted_fresh}
 use Rattle.wm_decode.proofs.Leaves.{leaf_has, leaf_marked}
-use Rattle.wm_decode.proofs.Led.{has_mark}
+use Rattle.wm_decode.proofs.ValuesThatAsk.{has_mark}
 use Rattle.wm_decode.proofs.ValueBytes.{run_rest, run_reader, run_begins}
 use Rattle.wm_decode.proofs.ExpressionRest.{ExpressionRest, IsInside, CanOpen, expression_has, expression_marked, expression_same, expression_follows, mark_of}
-use Rattle.wm_decode.proofs.Following.{Follows, number_follows, leaf_follows}
+use Rattle.wm_decode.proofs.MachineParts.{Follows, number_follows, leaf_follows}
 
--- the part of a run of locals
-abbrev pub run_part : ℕ × ValType → Part
+-- the item of a run of locals
+abbrev pub run_part : ℕ × ValType → Item
 run_part r = locals r.0 r.1
 
--- a byte of an entry completes a part or nothing
+-- a byte of an entry completes an item or nothing
 abbrev pub OnlyParts : Event → Type 0
-OnlyParts event.Quiet = Unit {0}
-OnlyParts (event.Gives q) = Unit {0}
+OnlyParts event.Nothing = Unit {0}
+OnlyParts (event.Complete q) = Unit {0}
 OnlyParts _ = ⊥
 
 number_parts : {M : Type 0} (q : Step ℕ × Partial) (more : Partial → M) (done : ℕ → M × Event) (bad : Why → M) → ((n : ℕ) → OnlyParts (done n).1) → OnlyParts (on_number q more done bad).1
@@ -60,8 +60,8 @@ op_parts f None = tt
 op_parts f (Some o) = tt
 
 pub entry_parts : (p : Profile) (q : InEntry) (c : ℕ) → OnlyParts (entry_step p q c).1
-entry_parts p (entry.RunCount r) c = number_parts (unsigned_push 32 r c) entry.RunCount (λ n. (runs_or_body n, event.Quiet)) entry.Failed (λ n. tt)
-entry_parts p (entry.Run more r) c = value_parts (run_push r c) (λ s. entry.Run more s) (λ x. given (runs_or_body more) (plain.Locals x.0 x.1)) entry.Failed (λ x. tt)
+entry_parts p (entry.RunCount r) c = number_parts (unsigned_push 32 r c) entry.RunCount (λ n. (runs_or_body n, event.Nothing)) entry.Failed (λ n. tt)
+entry_parts p (entry.Run more r) c = value_parts (run_push r c) (λ s. entry.Run more s) (λ x. with_item_given (runs_or_body more) (plain.Locals x.0 x.1)) entry.Failed (λ x. tt)
 entry_parts p (entry.Body e) c = op_parts plain.BodyOp (expression_step p e c).1
 entry_parts p entry.Over c = tt
 entry_parts p (entry.Failed w) c = tt
@@ -78,17 +78,17 @@ CanOpenIn (entry.Body e) = CanOpen e
 CanOpenIn q = Unit {0}
 
 module _ (demanded : Type 0) (p : Profile) where
-  abbrev Body : Shape
+  abbrev Body : MarkedForm
   Body = Expression p body_op
 
-  abbrev pub EntryRest : InEntry → Shape
+  abbrev pub EntryRest : InEntry → MarkedForm
   EntryRest (entry.RunCount r) = Counted (Left r) nothing_at (λ n. Then (Times n Run) Body)
   EntryRest (entry.Run more r) = Then (Leaf (run_rest r) run_part) (Then (Times more Run) Body)
   EntryRest (entry.Body e) = ExpressionRest p body_op e
   EntryRest entry.Over = Empty
   EntryRest (entry.Failed w) = Never
 
-  abbrev named_rest : InEntry → List ℕ → Shape
+  abbrev named_rest : InEntry → List ℕ → MarkedForm
   named_rest q y = EntryRest q
 
   run_same : Same demanded Run (Leaf (run_rest (run.Count fresh)) run_part)
@@ -107,41 +107,41 @@ module _ (demanded : Type 0) (p : Profile) where
   pub entry_same : Same demanded (Then (Vector Run) Body) (EntryRest (entry.RunCount fresh))
   entry_same = counted_fresh demanded nothing_at (λ n. Times n Run) Body (λ n. Then (Times n Run) Body) (λ n. same_refl demanded (Then (Times n Run) Body))
 
-  abbrev EntryFollows : ℕ → Shape → InEntry × Event → Type 0
+  abbrev EntryFollows : ℕ → MarkedForm → InEntry × Event → Type 0
   EntryFollows c P q = Follows demanded entry.Failed named_rest (λ w. same_refl demanded Never) [] c P q
 
-  after_same : (e : InExpression) → Same demanded (ExpressionRest p body_op e) (EntryRest (after_op e))
+  after_same : (e : InExpression) → Same demanded (ExpressionRest p body_op e) (EntryRest (entry_after_op e))
   after_same expression.Over = same_refl demanded Empty
   after_same (expression.Failed w) = same_refl demanded Never
   after_same (expression.Op depth q) = same_refl demanded (ExpressionRest p body_op (expression.Op depth q))
   after_same (expression.Label depth left r) = same_refl demanded (ExpressionRest p body_op (expression.Label depth left r))
 
-  heard_op : (m : InEntry) (c : ℕ) (o : Option Op) → (heard entry.Failed outside [] c (m, op_event plain.BodyOp o)).mark ≡ said (mark_of body_op o)
+  heard_op : (m : InEntry) (c : ℕ) (o : Option Op) → (byte_read entry.Failed outside [] c (m, op_event plain.BodyOp o)).mark ≡ outside_mark (mark_of body_op o)
   heard_op m c None = refl
   heard_op m c (Some o) = refl
 
-  heard_at : (m : InEntry) (c : ℕ) (o : Option Op) → (heard entry.Failed outside [] c (m, op_event plain.BodyOp o)).at ≡ m
+  heard_at : (m : InEntry) (c : ℕ) (o : Option Op) → (byte_read entry.Failed outside [] c (m, op_event plain.BodyOp o)).at ≡ m
   heard_at m c None = refl
   heard_at m c (Some o) = refl
 
   body_follows : (e : InExpression) (c : ℕ) → CanOpen e → c < 2 ^ 8 → EntryFollows c (ExpressionRest p body_op e) (body_step p e c)
   body_follows e c room byte =
       let x = expression_step p e c in
-      let P : Shape = ExpressionRest p body_op e in
-      subst (λ y. Next demanded P c y (EntryRest (heard entry.Failed outside [] c (after_op x.0, op_event plain.BodyOp x.1)).at)) (sym (heard_op (after_op x.0) c x.1))
-      (subst (λ y. Next demanded P c (said (mark_of body_op x.1)) (EntryRest y)) (sym (heard_at (after_op x.0) c x.1))
-      (next_to demanded P (ExpressionRest p body_op x.0) (EntryRest (after_op x.0)) c (said (mark_of body_op x.1)) (after_same x.0) (expression_follows demanded p body_op e c room byte)))
+      let P : MarkedForm = ExpressionRest p body_op e in
+      subst (λ y. Next demanded P c y (EntryRest (byte_read entry.Failed outside [] c (entry_after_op x.0, op_event plain.BodyOp x.1)).at)) (sym (heard_op (entry_after_op x.0) c x.1))
+      (subst (λ y. Next demanded P c (outside_mark (mark_of body_op x.1)) (EntryRest y)) (sym (heard_at (entry_after_op x.0) c x.1))
+      (next_to demanded P (ExpressionRest p body_op x.0) (EntryRest (entry_after_op x.0)) c (outside_mark (mark_of body_op x.1)) (after_same x.0) (expression_follows demanded p body_op e c room byte)))
 
   pub entry_follows : (q : InEntry) (c : ℕ) → CanOpenIn q → c < 2 ^ 8 → EntryFollows c (EntryRest q) (entry_step p q c)
   entry_follows (entry.RunCount r) c room byte =
-      number_follows demanded entry.Failed named_rest (λ w. same_refl demanded Never) [] c nothing_at (λ n. Then (Times n Run) Body) entry.RunCount (λ n. (runs_or_body n, event.Quiet))
+      number_follows demanded entry.Failed named_rest (λ w. same_refl demanded Never) [] c nothing_at (λ n. Then (Times n Run) Body) entry.RunCount (λ n. (runs_or_body n, event.Nothing))
       (λ s. same_refl demanded (EntryRest (entry.RunCount s))) (λ n. refl) runs_same r byte
   entry_follows (entry.Run more r) c room byte =
-      leaf_follows demanded entry.Failed named_rest (λ w. same_refl demanded Never) [] c run_rest run_push run_reader run_part (Then (Times more Run) Body) (λ s. entry.Run more s) (λ x. given (runs_or_body more) (plain.Locals x.0 x.1))
+      leaf_follows demanded entry.Failed named_rest (λ w. same_refl demanded Never) [] c run_rest run_push run_reader run_part (Then (Times more Run) Body) (λ s. entry.Run more s) (λ x. with_item_given (runs_or_body more) (plain.Locals x.0 x.1))
       (λ s. same_refl demanded (EntryRest (entry.Run more s))) (λ x. refl) (λ x. runs_same more) r byte
   entry_follows (entry.Body e) c room byte = body_follows e c room byte
-  entry_follows entry.Over c room byte = next_never demanded Empty c (said None) (λ s b k h. not_nil c b h.0)
-  entry_follows (entry.Failed w) c room byte = next_never demanded Never c (said None) (λ s b k h. h)
+  entry_follows entry.Over c room byte = next_never demanded Empty c (outside_mark None) (λ s b k h. not_nil c b h.0)
+  entry_follows (entry.Failed w) c room byte = next_never demanded Never c (outside_mark None) (λ s b k h. h)
 
   -- an entry that is not over has bytes, and as many marks
   pub entry_has : (q : InEntry) → IsInEntry q → HasBytes demanded (EntryRest q)
@@ -163,27 +163,27 @@ module _ (demanded : Type 0) (p : Profile) where
   entry_marked (entry.Failed w) i b h = i
 
   -- all bytes of an entry are marked so
-  entered_more : (m : Mark) (k : Marks) → (k ≡ [] → ⊥) → entered (m ∷ k) ≡ in_zone in_entry m ∷ entered k
+  entered_more : (m : Mark) (k : Marks) → (k ≡ [] → ⊥) → entry_marks (m ∷ k) ≡ in_zone in_entry m ∷ entry_marks k
   entered_more m [] h = absurd (h refl)
   entered_more m (n ∷ k) h = refl
 
-  module _ (P Q : Shape) (c : ℕ) (m : Mark) (n : Next demanded P c m Q) where
+  module _ (P Q : MarkedForm) (c : ℕ) (m : Mark) (n : Next demanded P c m Q) where
     pub goes_inside : ((b : List ℕ) → Q b [] → ⊥) → Next demanded (Entry P) c (in_zone in_entry m) (Entry Q)
     goes_inside some = record {
       to = λ s b k h.
           let g = n.to s b h.inner h.contents in
-          (entered g.0, h.marks ∙ (ap entered g.1 ∙ entered_more m g.0 (λ e. some b (subst (λ y. Q b y) e g.2))), record { inner = g.0; marks = refl; contents = g.2 });
+          (entry_marks g.0, h.marks ∙ (ap entry_marks g.1 ∙ entered_more m g.0 (λ e. some b (subst (λ y. Q b y) e g.2))), record { inner = g.0; marks = refl; contents = g.2 });
       from = λ b k g.
           let t = g.2 in
           record { inner = m ∷ t.inner; marks = g.1 ∙ (ap (λ y. in_zone in_entry m ∷ y) t.marks ∙ sym (entered_more m t.inner (λ e. some b (subst (λ y. Q b y) e t.contents)))); contents = n.from b (m ∷ t.inner) (t.inner, refl, t.contents) };
     }
 
-  pub ends_inside : (P : Shape) (c : ℕ) (m : Mark) → Next demanded P c m Empty → Next demanded (Sized demanded 1 (Entry P)) c (in_zone closing m) Empty
+  pub ends_inside : (P : MarkedForm) (c : ℕ) (m : Mark) → Next demanded P c m Empty → Next demanded (Sized demanded 1 (Entry P)) c (in_zone closing m) Empty
   ends_inside P c m n = record {
     to = λ s b k h.
         let e = h.1 in
         let g = n.to s b e.inner e.contents in
-        ([], e.marks ∙ (ap entered g.1 ∙ ap (λ y. entered (m ∷ y)) g.2.1), (g.2.0, refl));
+        ([], e.marks ∙ (ap entry_marks g.1 ∙ ap (λ y. entry_marks (m ∷ y)) g.2.1), (g.2.0, refl));
     from = λ b k g. (
       (λ s. ap (λ y. length (c ∷ y)) g.2.0),
       record { inner = m ∷ []; marks = g.1 ∙ ap (λ y. in_zone closing m ∷ y) g.2.1; contents = n.from b (m ∷ []) ([], refl, (g.2.0, refl)) },
@@ -191,5 +191,5 @@ module _ (demanded : Type 0) (p : Profile) where
   }
 
   -- the byte at which an entry fails
-  pub no_entry : (n : ℕ) (P : Shape) (c : ℕ) (m : Mark) → (demanded → (b : List ℕ) (k : Marks) → length b ≡ n → P (c ∷ b) k → ⊥) → Next demanded (Sized demanded (suc n) (Entry P)) c m Never
+  pub no_entry : (n : ℕ) (P : MarkedForm) (c : ℕ) (m : Mark) → (demanded → (b : List ℕ) (k : Marks) → length b ≡ n → P (c ∷ b) k → ⊥) → Next demanded (Sized demanded (suc n) (Entry P)) c m Never
   no_entry n P c m none = next_never demanded (Sized demanded (suc n) (Entry P)) c m (λ s b k h. none s b h.1.inner (let l : length (c ∷ b) ≡ suc n = h.0 s in omega (arith, l)) h.1.contents)

@@ -8,24 +8,24 @@ use Rattle.wm_syntax.specs.declared.instructions.Op.{Op}
 use Rattle.wm_syntax.specs.declared.instructions.Op.TheVariants as op
 use Rattle.wm_syntax.specs.declared.numbers.Step.{Step}
 use Rattle.wm_syntax.specs.declared.numbers.Step.TheVariants as step
-use Rattle.wm_syntax.specs.Partial.{Partial}
-use Rattle.wm_syntax.specs.Reading.{fresh, unsigned_push}
+use Rattle.wm_syntax.specs.inner.Numbers.{Partial}
+use Rattle.wm_syntax.specs.exact.Reading.{fresh, unsigned_push}
 use Rattle.wm_syntax.specs.Profiles.{IsOpOf}
 use Rattle.wm_decode.specs.declared.reading.Reading.{Reading}
 use Rattle.wm_decode.specs.declared.reading.Reading.TheVariants.{More, Done, Bad}
 use Rattle.wm_decode.specs.declared.ops.InOp.{InOp}
 use Rattle.wm_decode.specs.declared.expressions.InExpression.{InExpression}
 use Rattle.wm_decode.specs.declared.expressions.InExpression.TheVariants as expression
-use Rattle.wm_decode.specs.Parts.{Part, Marks}
-use Rattle.wm_decode.specs.Shapes.{Shape, Empty, Counted, ending, said}
+use Rattle.wm_decode.specs.Items.{Item, Marks}
+use Rattle.wm_decode.specs.MarkedForms.{MarkedForm, Empty, Counted, marks_ending, outside_mark}
 use Rattle.wm_decode.specs.Grammar.{EachOp, Expression}
-use Rattle.wm_decode.specs.OpSteps.{on_answer, op_push}
-use Rattle.wm_decode.specs.ExpressionSteps.{start, opened, deeper, after_op, after_label, after_reading, failed, expression_step}
-use Rattle.wm_decode.specs.Readings.{Goes}
-use Rattle.wm_decode.proofs.Next.{Next, Same, Never, not_nil, next_to, next_never}
+use Rattle.wm_decode.specs.exact.OpSteps.{on_answer, op_push}
+use Rattle.wm_decode.specs.exact.ExpressionSteps.{start, at_next_op, deeper, after_op, after_label, after_reading, expression_failed, expression_step}
+use Rattle.wm_decode.specs.exact.Readings.{Goes}
+use Rattle.wm_decode.proofs.FirstBytes.{Next, Same, Never, not_nil, next_to, next_never}
 use Rattle.wm_decode.proofs.Numbers.{Left, left_nil, fresh_number}
 use Rattle.wm_decode.proofs.Counts.{CountedNext, counted_next}
-use Rattle.wm_decode.proofs.Led.{Led, LedNext, led_next, led_has, led_marked, has_mark, no_front}
+use Rattle.wm_decode.proofs.ValuesThatAsk.{Led, LedNext, led_next, led_has, led_marked, has_mark, no_front}
 use Rattle.wm_decode.proofs.OpBytes.{NoLabel}
 use Rattle.wm_decode.proofs.OpRest.{op_rest, op_reader, rest_good}
 use Rattle.wm_decode.proofs.Endings.{Ends, expression_ends}
@@ -37,19 +37,19 @@ IsInside (expression.Label depth left r) = Unit {0}
 IsInside expression.Over = ⊥
 IsInside (expression.Failed w) = ⊥
 
-module _ (p : Profile) (part : Op → Part) where
+module _ (p : Profile) (part : Op → Item) where
   -- ops up to the end, with so many blocks open and so many labels to come
-  abbrev pub OpsFrom : (depth labels : ℕ) → Shape
+  abbrev pub OpsFrom : (depth labels : ℕ) → MarkedForm
   OpsFrom depth labels b k = (ops : List Op) × Ends depth labels ops × AllByRecursion (IsOpOf p) ops × EachOp part ops b k
 
   -- the same after an op
-  abbrev pub OpsAfter : ℕ → Op → Shape
+  abbrev pub OpsAfter : ℕ → Op → MarkedForm
   OpsAfter depth o b k = (ops : List Op) × Ends depth 0 (o ∷ ops) × AllByRecursion (IsOpOf p) ops × EachOp part ops b k
 
-  abbrev pub label_part : ℕ → Option Part
+  abbrev pub label_part : ℕ → Option Item
   label_part l = Some (part (op.Label l))
 
-  abbrev pub ExpressionRest : InExpression → Shape
+  abbrev pub ExpressionRest : InExpression → MarkedForm
   ExpressionRest (expression.Op depth at) = Led (op_rest p at) part (OpsAfter depth)
   ExpressionRest (expression.Label depth left r) = Counted (Left r) label_part (λ l. OpsFrom depth left)
   ExpressionRest expression.Over = Empty
@@ -67,8 +67,8 @@ module _ (p : Profile) (part : Op → Part) where
   expression_marked expression.Over i b h = i
   expression_marked (expression.Failed w) i b h = i
 
--- the part of an op that is complete
-abbrev pub mark_of : (Op → Part) → Option Op → Option Part
+-- the item of an op that is complete
+abbrev pub mark_of : (Op → Item) → Option Op → Option Item
 mark_of part None = None
 mark_of part (Some o) = Some (part o)
 
@@ -84,9 +84,9 @@ not_label : (depth : ℕ) (o : Op) (ops : List Op) → Ends depth 0 (o ∷ ops) 
 not_label depth (op.Label l) ops e = e
 not_label depth _ ops e = tt
 
-module _ (demanded : Type 0) (p : Profile) (part : Op → Part) where
+module _ (demanded : Type 0) (p : Profile) (part : Op → Item) where
   -- the next op
-  opened_to : (depth : ℕ) (b : List ℕ) (k : Marks) (ops : List Op) → Ends depth 0 ops → AllByRecursion (IsOpOf p) ops → EachOp part ops b k → ExpressionRest p part (opened depth) b k
+  opened_to : (depth : ℕ) (b : List ℕ) (k : Marks) (ops : List Op) → Ends depth 0 ops → AllByRecursion (IsOpOf p) ops → EachOp part ops b k → ExpressionRest p part (at_next_op depth) b k
   opened_to depth b k [] e a h = absurd e
   opened_to depth b k (o ∷ ops) e a h = let f = h.first in record {
     value = o;
@@ -99,7 +99,7 @@ module _ (demanded : Type 0) (p : Profile) (part : Op → Part) where
     rest = (ops, e, a.1, h.second);
   }
 
-  opened_from : (depth : ℕ) (b : List ℕ) (k : Marks) → ExpressionRest p part (opened depth) b k → OpsFrom p part depth 0 b k
+  opened_from : (depth : ℕ) (b : List ℕ) (k : Marks) → ExpressionRest p part (at_next_op depth) b k → OpsFrom p part depth 0 b k
   opened_from depth b k h = let r = h.rest in let u = h.spelled in (
     h.value ∷ r.0,
     r.1,
@@ -107,7 +107,7 @@ module _ (demanded : Type 0) (p : Profile) (part : Op → Part) where
     record {
       front = h.front;
       back = h.back;
-      front_marks = ending (Some (part h.value)) h.front;
+      front_marks = marks_ending (Some (part h.value)) h.front;
       back_marks = h.back_marks;
       bytes = h.bytes;
       marks = h.marks;
@@ -116,7 +116,7 @@ module _ (demanded : Type 0) (p : Profile) (part : Op → Part) where
     },
   )
 
-  pub opened_same : (depth : ℕ) → Same demanded (OpsFrom p part depth 0) (ExpressionRest p part (opened depth))
+  pub opened_same : (depth : ℕ) → Same demanded (OpsFrom p part depth 0) (ExpressionRest p part (at_next_op depth))
   opened_same depth = record { to = λ s b k h. opened_to depth b k h.0 h.1 h.2 h.3; from = opened_from depth }
 
   -- the next label
@@ -142,7 +142,7 @@ module _ (demanded : Type 0) (p : Profile) (part : Op → Part) where
     record {
       front = h.front;
       back = h.back;
-      front_marks = ending (label_part p part h.n) h.front;
+      front_marks = marks_ending (label_part p part h.n) h.front;
       back_marks = h.back_marks;
       bytes = h.bytes;
       marks = h.marks;
@@ -158,8 +158,8 @@ module _ (demanded : Type 0) (p : Profile) (part : Op → Part) where
   over_same : Same demanded (OpsAfter p part 0 op.End) Empty
   over_same = record { to = λ s b k h. subst (λ y. EachOp part y b k) h.1 h.3; from = λ b k h. ([], refl, tt, h) }
 
-  deeper_same : (depth : ℕ) → depth + 1 < 2 ^ 32 → Same demanded (OpsFrom p part (suc depth) 0) (ExpressionRest p part (opened (deeper depth)))
-  deeper_same depth h = subst (λ y. Same demanded (OpsFrom p part (suc depth) 0) (ExpressionRest p part (opened y))) (sym (deeper_is depth h)) (opened_same (suc depth))
+  deeper_same : (depth : ℕ) → depth + 1 < 2 ^ 32 → Same demanded (OpsFrom p part (suc depth) 0) (ExpressionRest p part (at_next_op (deeper depth)))
+  deeper_same depth h = subst (λ y. Same demanded (OpsFrom p part (suc depth) 0) (ExpressionRest p part (at_next_op y))) (sym (deeper_is depth h)) (opened_same (suc depth))
 
   after_same : (depth : ℕ) → depth + 1 < 2 ^ 32 → (o : Op) → NoLabel o → Same demanded (OpsAfter p part depth o) (ExpressionRest p part (after_op depth o))
   after_same depth h (op.Block t) n = deeper_same depth h
@@ -183,13 +183,13 @@ module _ (demanded : Type 0) (p : Profile) (part : Op → Part) where
     from = λ b k h. let g = (opened_same 0).from b k h in (g.0, (expression_ends g.0).1 g.1, g.2, g.3);
   }
 
-  abbrev Follows : Shape → ℕ → InExpression × Option Op → Type 0
-  Follows P c a = Next demanded P c (said (mark_of part a.1)) (ExpressionRest p part a.0)
+  abbrev Follows : MarkedForm → ℕ → InExpression × Option Op → Type 0
+  Follows P c a = Next demanded P c (outside_mark (mark_of part a.1)) (ExpressionRest p part a.0)
 
   op_follows : (depth : ℕ) → depth + 1 < 2 ^ 32 → (at : InOp) (c : ℕ) (a : Reading InOp Op) → ((o : Op) → a ≡ Done o → NoLabel o) → LedNext demanded (op_rest p) (op_push p) (op_reader p) part (OpsAfter p part depth) at c a
       → Follows (ExpressionRest p part (expression.Op depth at)) c (after_reading depth a)
   op_follows depth h at c (More s) n next = next
-  op_follows depth h at c (Done o) n next = next_to demanded (ExpressionRest p part (expression.Op depth at)) (OpsAfter p part depth o) (ExpressionRest p part (after_op depth o)) c (said (Some (part o))) (after_same depth h o (n o refl)) next
+  op_follows depth h at c (Done o) n next = next_to demanded (ExpressionRest p part (expression.Op depth at)) (OpsAfter p part depth o) (ExpressionRest p part (after_op depth o)) c (outside_mark (Some (part o))) (after_same depth h o (n o refl)) next
   op_follows depth h at c (Bad w) n next = next
 
   done_good : (at : InOp) (c : ℕ) → c < 2 ^ 8 → (o : Op) → op_push p at c ≡ Done o → NoLabel o
@@ -198,14 +198,14 @@ module _ (demanded : Type 0) (p : Profile) (part : Op → Part) where
       (rest_good p at o (c ∷ []) ((r.law at c byte o []).1 (subst (λ y. Goes (op_rest p) y o []) (sym e) (refl, refl)))).0
 
   label_follows : (depth left : ℕ) (r : Partial) (c : ℕ) (q : Step ℕ × Partial) → CountedNext demanded (label_part p part) (λ l. OpsFrom p part depth left) r c q
-      → Follows (ExpressionRest p part (expression.Label depth left r)) c (on_answer q (λ s. (expression.Label depth left s, None)) (λ l. (after_label depth left, Some (op.Label l))) (failed why.BadNumber))
+      → Follows (ExpressionRest p part (expression.Label depth left r)) c (on_answer q (λ s. (expression.Label depth left s, None)) (λ l. (after_label depth left, Some (op.Label l))) (expression_failed why.BadNumber))
   label_follows depth left r c (step.More, s) next = next
-  label_follows depth left r c (step.Done v, s) next = next_to demanded (ExpressionRest p part (expression.Label depth left r)) (OpsFrom p part depth left) (ExpressionRest p part (after_label depth left)) c (said (label_part p part v)) (after_label_same depth left) next
+  label_follows depth left r c (step.Done v, s) next = next_to demanded (ExpressionRest p part (expression.Label depth left r)) (OpsFrom p part depth left) (ExpressionRest p part (after_label depth left)) c (outside_mark (label_part p part v)) (after_label_same depth left) next
   label_follows depth left r c (step.Bad, s) next = next
 
   -- each byte goes on with what may still come
-  pub expression_follows : (at : InExpression) (c : ℕ) → CanOpen at → c < 2 ^ 8 → Next demanded (ExpressionRest p part at) c (said (mark_of part (expression_step p at c).1)) (ExpressionRest p part (expression_step p at c).0)
+  pub expression_follows : (at : InExpression) (c : ℕ) → CanOpen at → c < 2 ^ 8 → Next demanded (ExpressionRest p part at) c (outside_mark (mark_of part (expression_step p at c).1)) (ExpressionRest p part (expression_step p at c).0)
   expression_follows (expression.Op depth at) c h byte = op_follows depth h at c (op_push p at c) (done_good at c byte) (led_next demanded (op_rest p) (op_push p) (op_reader p) part (OpsAfter p part depth) at c byte)
   expression_follows (expression.Label depth left r) c h byte = label_follows depth left r c (unsigned_push 32 r c) (counted_next demanded (label_part p part) (λ l. OpsFrom p part depth left) r c byte)
-  expression_follows expression.Over c h byte = next_never demanded Empty c (said None) (λ s b k e. not_nil c b e.0)
-  expression_follows (expression.Failed w) c h byte = next_never demanded Never c (said None) (λ s b k e. e)
+  expression_follows expression.Over c h byte = next_never demanded Empty c (outside_mark None) (λ s b k e. not_nil c b e.0)
+  expression_follows (expression.Failed w) c h byte = next_never demanded Never c (outside_mark None) (λ s b k e. e)

@@ -10,8 +10,8 @@ use Rattle.wm_syntax.specs.declared.instructions.Op.{Op}
 use Rattle.wm_syntax.specs.declared.instructions.Op.TheVariants as op
 use Rattle.wm_syntax.specs.declared.numbers.Step.{Step}
 use Rattle.wm_syntax.specs.declared.numbers.Step.TheVariants as step
-use Rattle.wm_syntax.specs.Partial.{Partial}
-use Rattle.wm_syntax.specs.Reading.{fresh, unsigned_push}
+use Rattle.wm_syntax.specs.inner.Numbers.{Partial}
+use Rattle.wm_syntax.specs.exact.Reading.{fresh, unsigned_push}
 use Rattle.wm_syntax.specs.Profiles.{IsOpOf}
 use Rattle.wm_syntax.specs.Instructions.{SpellsOp}
 use Rattle.wm_decode.specs.declared.reading.Reading.{Reading}
@@ -19,11 +19,11 @@ use Rattle.wm_decode.specs.declared.reading.Reading.TheVariants.{More, Done, Bad
 use Rattle.wm_decode.specs.declared.ops.InOp.{InOp}
 use Rattle.wm_decode.specs.declared.expressions.InExpression.{InExpression}
 use Rattle.wm_decode.specs.declared.expressions.InExpression.TheVariants as expression
-use Rattle.wm_decode.specs.Parts.{Part, Marks}
-use Rattle.wm_decode.specs.Shapes.{Shape, ending}
+use Rattle.wm_decode.specs.Items.{Item, Marks}
+use Rattle.wm_decode.specs.MarkedForms.{MarkedForm, marks_ending}
 use Rattle.wm_decode.specs.Grammar.{EachOp}
-use Rattle.wm_decode.specs.OpSteps.{on_answer, op_push}
-use Rattle.wm_decode.specs.ExpressionSteps.{start, deeper, ends, after_op, after_label, after_reading, failed, expression_step}
+use Rattle.wm_decode.specs.exact.OpSteps.{on_answer, op_push}
+use Rattle.wm_decode.specs.exact.ExpressionSteps.{start, deeper, ends, after_op, after_label, after_reading, expression_failed, expression_step}
 use Rattle.wm_decode.proofs.Numbers.{fresh_number}
 use Rattle.wm_decode.proofs.OpBytes.{NoLabel}
 use Rattle.wm_decode.proofs.OpRest.{op_rest, rest_good}
@@ -40,7 +40,7 @@ SoundExpression left (expression.Label depth labels r) = HasRoom 32 r × (depth 
 SoundExpression left expression.Over = Unit {0}
 SoundExpression left (expression.Failed w) = ⊥
 
--- the same of what a byte leaves, which may have failed
+-- the same of what a byte leaves, which may have expression_failed
 abbrev pub FineExpression : ℕ → InExpression → Type 0
 FineExpression left (expression.Failed w) = Unit {0}
 FineExpression left at = SoundExpression left at
@@ -78,7 +78,7 @@ op_sound left depth (Done o) h f = after_fine left depth o h
 op_sound left depth (Bad w) h f = tt
 
 label_sound : (left depth labels : ℕ) (q : Step ℕ × Partial) → depth + suc left < 2 ^ 32 → RoomAfter 32 q
-    → FineExpression left (on_answer q (λ s. (expression.Label depth labels s, None)) (λ l. (after_label depth labels, Some (op.Label l))) (failed why.BadNumber)).0
+    → FineExpression left (on_answer q (λ s. (expression.Label depth labels s, None)) (λ l. (after_label depth labels, Some (op.Label l))) (expression_failed why.BadNumber)).0
 label_sound left depth labels (step.More, s) h f = (f, omega (arith, h))
 label_sound left depth labels (step.Done v, s) h f = after_label_fine left depth labels h
 label_sound left depth labels (step.Bad, s) h f = tt
@@ -90,14 +90,14 @@ expression_sound p left expression.Over c byte h = tt
 expression_sound p left (expression.Failed w) c byte h = tt
 
 -- Something may still come: what is left of an op or a label, zeros for labels, and ends.
-module _ (p : Profile) (part : Op → Part) where
-  abbrev Comes : Shape → Type 0
+module _ (p : Profile) (part : Op → Item) where
+  abbrev Comes : MarkedForm → Type 0
   Comes P = (b : List ℕ) × (k : Marks) × P b k
 
   first_op : (o : Op) (depth labels : ℕ) (ops : List Op) (front b : List ℕ) (k : Marks) → SpellsOp o front → IsOpOf p o → Ends depth labels (o ∷ ops) → AllByRecursion (IsOpOf p) ops → EachOp part ops b k → Comes (OpsFrom p part depth labels)
   first_op o depth labels ops front b k s i e a h = (
     front ++ b,
-    ending (Some (part o)) front ++ k,
+    marks_ending (Some (part o)) front ++ k,
     (
       o ∷ ops,
       e,
@@ -105,7 +105,7 @@ module _ (p : Profile) (part : Op → Part) where
       record {
         front = front;
         back = b;
-        front_marks = ending (Some (part o)) front;
+        front_marks = marks_ending (Some (part o)) front;
         back_marks = k;
         bytes = refl;
         marks = refl;
@@ -135,11 +135,11 @@ module _ (p : Profile) (part : Op → Part) where
   some_expression left (expression.Op depth at) h =
       let s : (o : Op) × (b : List ℕ) × op_rest p at o b = some_op p at h.0 in
       let g = some_after depth s.0 (rest_good p at s.0 s.1 s.2).0 in
-      (s.1 ++ g.0, ending (Some (part s.0)) s.1 ++ g.1, record { value = s.0; front = s.1; back = g.0; back_marks = g.1; bytes = refl; marks = refl; spelled = s.2; rest = g.2 })
+      (s.1 ++ g.0, marks_ending (Some (part s.0)) s.1 ++ g.1, record { value = s.0; front = s.1; back = g.0; back_marks = g.1; bytes = refl; marks = refl; spelled = s.2; rest = g.2 })
   some_expression left (expression.Label depth labels r) h =
       let room : HasRoom 32 r = h.0 in
       let g = some_ops depth labels in
-      (0 ∷ g.0, ending (label_part p part r.low) (0 ∷ []) ++ g.1, record { n = r.low; front = 0 ∷ []; back = g.0; back_marks = g.1; bytes = refl; marks = refl; number = last_byte r room.0; rest = g.2 })
+      (0 ∷ g.0, marks_ending (label_part p part r.low) (0 ∷ []) ++ g.1, record { n = r.low; front = 0 ∷ []; back = g.0; back_marks = g.1; bytes = refl; marks = refl; number = last_byte r room.0; rest = g.2 })
   some_expression left expression.Over h = ([], [], (refl, refl))
   some_expression left (expression.Failed w) h = absurd h
 
@@ -169,7 +169,7 @@ module _ (name : Why) (Fault : ℕ → Type 0) (other : (w : Why) → IsOther w 
   reading_fault depth c (Done o) f e = absurd (after_calm depth o e)
   reading_fault depth c (Bad w) f e = let same : w ≡ name = cc in f (ap Bad same)
 
-  label_calm : (depth labels : ℕ) (q : Step ℕ × Partial) → Calm (on_answer q (λ s. (expression.Label depth labels s, None)) (λ l. (after_label depth labels, Some (op.Label l))) (failed why.BadNumber)).0
+  label_calm : (depth labels : ℕ) (q : Step ℕ × Partial) → Calm (on_answer q (λ s. (expression.Label depth labels s, None)) (λ l. (after_label depth labels, Some (op.Label l))) (expression_failed why.BadNumber)).0
   label_calm depth labels (step.More, s) = λ e. cc
   label_calm depth labels (step.Done v, s) = after_label_calm depth labels
   label_calm depth labels (step.Bad, s) = failed_calm why.BadNumber tt

@@ -9,19 +9,19 @@ use Rattle.wm_decode.specs.declared.machine.Machine.TheVariants as machine
 use Rattle.wm_decode.specs.declared.machine.Event.{Event}
 use Rattle.wm_decode.specs.declared.machine.Event.TheVariants as event
 use Rattle.wm_decode.specs.Sections.{header}
-use Rattle.wm_decode.specs.Steps.{header_step, step_of}
+use Rattle.wm_decode.specs.exact.Steps.{header_step, step_of}
 use Rattle.std.specs.Str.{is_utf8}
 use Rattle.wm_decode.specs.declared.refusal.Refusal.{Refusal}
-use Rattle.wm_decode.specs.Parts.{Part, Zone}
+use Rattle.wm_decode.specs.Items.{Item, Zone}
 use Rattle.wm_decode.specs.Sinks.{and_then}
-use Rattle.wm_decode.specs.Runs.{zone_of, heard, Heard, State, hear}
-use Rattle.wm_decode.specs.Live.{IsAt, refusal_of, offered, Live, live_byte, decoded}
-use Rattle.wm_decode.proofs.Outcomes.{IsLive, IsHeader, step_out}
-use Rattle.wm_decode.proofs.Theorem.{Stepped, Used, used_of, reached, live_ok, live_err, state_of}
+use Rattle.wm_decode.specs.exact.Runs.{zone_of, byte_read, ByteRead, MachineState, read_byte}
+use Rattle.wm_decode.specs.exact.Live.{IsAt, refusal_in_machine, effect_of_maybe, Live, live_byte, decoder_after}
+use Rattle.wm_decode.proofs.AfterTheHeader.{IsLive, IsHeader, step_out}
+use Rattle.wm_decode.proofs.MachineAndSink.{Stepped, Used, used_of, reached, live_ok, live_err, state_of}
 
-header_at : (n c at : ℕ) → n ≡ at → IsAt (header_step n c).0 (at + 1) × ((header_step n c).1 ≡ event.Quiet)
+header_at : (n c at : ℕ) → n ≡ at → IsAt (header_step n c).0 (at + 1) × ((header_step n c).1 ≡ event.Nothing)
 header_at n c at h =
-    let P : Machine × Event → Type 0 = λ q. IsAt q.0 (at + 1) × (q.1 ≡ event.Quiet) in
+    let P : Machine × Event → Type 0 = λ q. IsAt q.0 (at + 1) × (q.1 ≡ event.Nothing) in
     cond_both (nat_lt n 8) _ _ P
     (λ _. cond_both (nat_eq c (get_or header n 0)) _ _ P
     (λ _. cond_both (nat_lt n 7) _ _ P (λ _. (omega arith, refl)) (λ f. (omega (arith, ltb-false n 7 f), refl)))
@@ -63,7 +63,7 @@ stays p (machine.Size of functions r) c at h = late p (machine.Size of functions
 stays p (machine.Count of functions more r) c at h = late p (machine.Count of functions more r) c at (λ i. i) h
 stays p (machine.Section of functions more left q) c at h = late p (machine.Section of functions more left q) c at (λ i. i) h
 
-pub quiet_or_late : (p : Profile) (m : Machine) (c at : ℕ) → IsAt m at → ((step_of p m c).1 ≡ event.Quiet) ⊎ (8 ≤ at)
+pub quiet_or_late : (p : Profile) (m : Machine) (c at : ℕ) → IsAt m at → ((step_of p m c).1 ≡ event.Nothing) ⊎ (8 ≤ at)
 quiet_or_late p (machine.Header n) c at h = inl (header_at n c at h).1
 quiet_or_late p (machine.Refused w) c at h = inl refl
 quiet_or_late p (machine.Between last functions) c at h = inr h
@@ -73,7 +73,7 @@ quiet_or_late p (machine.Size of functions r) c at h = inr h
 quiet_or_late p (machine.Count of functions more r) c at h = inr h
 quiet_or_late p (machine.Section of functions more left q) c at h = inr h
 
-names : (n : Machine) (at : ℕ) (w : Why) → IsAt n at → refusal_of n ≡ Some w → w ≡ why.Memory → 8 < at
+names : (n : Machine) (at : ℕ) (w : Why) → IsAt n at → refusal_in_machine n ≡ Some w → w ≡ why.Memory → 8 < at
 names (machine.Refused v) at w h e m = let s : v ≡ w = cc in h (s ∙ m)
 names (machine.Header n) at w h e m = absurd (none e)
   where
@@ -85,10 +85,10 @@ names n at w h e m = absurd (none e)
     none e = cc
 
 -- the same, as the byte step says it
-pub memory_late : (p : Profile) (m : Machine) (c at : ℕ) (q : Machine × Event) (w : Why) → q ≡ step_of p m c → IsAt m at → refusal_of q.0 ≡ Some w → w ≡ why.Memory → 8 < at + 1
+pub memory_late : (p : Profile) (m : Machine) (c at : ℕ) (q : Machine × Event) (w : Why) → q ≡ step_of p m c → IsAt m at → refusal_in_machine q.0 ≡ Some w → w ≡ why.Memory → 8 < at + 1
 memory_late p m c at q w e h r f = names q.0 (at + 1) w (subst (λ (x : Machine × Event). IsAt x.0 (at + 1)) (sym e) (stays p m c at h)) r f
 
-pub goes_at : (p : Profile) (m : Machine) (c at next i : ℕ) (x : Machine × Event) (r : Result ℕ Why) → x ≡ step_of p m c → (x.1 ≡ event.Quiet → r ≡ Ok (i + 1)) → r ≡ Ok next → IsAt m at
+pub goes_at : (p : Profile) (m : Machine) (c at next i : ℕ) (x : Machine × Event) (r : Result ℕ Why) → x ≡ step_of p m c → (x.1 ≡ event.Nothing → r ≡ Ok (i + 1)) → r ≡ Ok next → IsAt m at
     → IsAt x.0 (at + 1) × (next < i + 1 → 8 < at + 1)
 goes_at p m c at next i x r e q f h = (
   subst (λ (y : Machine × Event). IsAt y.0 (at + 1)) (sym e) (stays p m c at h),
@@ -99,45 +99,45 @@ goes_at p m c at next i x r e q f h = (
 )
 
 -- the same over a list of bytes
-heard_at : (zone : Zone) (name : List ℕ) (c : ℕ) (m : Machine) (e : Event) (at : ℕ) → IsAt m at → IsAt (heard machine.Refused zone name c (m, e)).at at
-heard_at zone name c m event.Quiet at h = h
-heard_at zone name c m (event.Gives q) at h = h
+heard_at : (zone : Zone) (name : List ℕ) (c : ℕ) (m : Machine) (e : Event) (at : ℕ) → IsAt m at → IsAt (byte_read machine.Refused zone name c (m, e)).at at
+heard_at zone name c m event.Nothing at h = h
+heard_at zone name c m (event.Complete q) at h = h
 heard_at zone name c m event.DataByte at h = h
 heard_at zone name c m event.InName at h = h
 heard_at zone name c m (event.EmptyName kind) at h = h
 heard_at zone name c m (event.EndsName kind) at h =
-    cond_both (is_utf8 (name ++ c ∷ [])) _ _ (λ (d : Heard Machine). IsAt d.at at) (λ _. h) (λ _ e. absurd (bad e))
+    cond_both (is_utf8 (name ++ c ∷ [])) _ _ (λ (d : ByteRead Machine). IsAt d.at at) (λ _. h) (λ _ e. absurd (bad e))
   where
     bad : why.BadUtf8 ≡ why.Memory → ⊥
     bad e = cc
 
-quiet_heard : {H : Type 0} (after : H → Part → Result H Why) (zone : Zone) (name : List ℕ) (c : ℕ) (q : Machine × Event) (h : H) (w : Why) → q.1 ≡ event.Quiet → offered after (heard machine.Refused zone name c q).mark.part h ≡ Err w → ⊥
-quiet_heard after zone name c (m, event.Quiet) h w e o = none o
+quiet_heard : {H : Type 0} (after : H → Item → Result H Why) (zone : Zone) (name : List ℕ) (c : ℕ) (q : Machine × Event) (h : H) (w : Why) → q.1 ≡ event.Nothing → effect_of_maybe after (byte_read machine.Refused zone name c q).mark.item h ≡ Err w → ⊥
+quiet_heard after zone name c (m, event.Nothing) h w e o = none o
   where
     none : {A : Type 0} {h : A} → Ok h ≡ Err w → ⊥
     none e = cc
-quiet_heard after zone name c (m, event.Gives x) h w e o = cc
+quiet_heard after zone name c (m, event.Complete x) h w e o = cc
 quiet_heard after zone name c (m, event.DataByte) h w e o = cc
 quiet_heard after zone name c (m, event.InName) h w e o = cc
 quiet_heard after zone name c (m, event.EndsName kind) h w e o = cc
 quiet_heard after zone name c (m, event.EmptyName kind) h w e o = cc
 
-module _ {H : Type 0} (after : H → Part → Result H Why) (p : Profile) (limit : ℕ) where
+module _ {H : Type 0} (after : H → Item → Result H Why) (p : Profile) (limit : ℕ) where
   one_at : (l m : Live H) (c : ℕ) → Stepped after p limit l c m → IsAt l.machine l.at → IsAt m.machine m.at
   one_at l m c s h =
-      let a : IsAt (hear p (state_of after p limit l) c).at (l.at + 1) = heard_at (zone_of l.machine) l.name c (step_of p l.machine c).0 (step_of p l.machine c).1 (l.at + 1) (stays p l.machine c l.at h) in
-      subst (λ y. IsAt m.machine y) (sym s.at) (subst (λ y. IsAt y (l.at + 1)) (sym (ap (λ (y : State). y.machine) s.state)) a)
+      let a : IsAt (read_byte p (state_of after p limit l) c).at (l.at + 1) = heard_at (zone_of l.machine) l.name c (step_of p l.machine c).0 (step_of p l.machine c).1 (l.at + 1) (stays p l.machine c l.at h) in
+      subst (λ y. IsAt m.machine y) (sym s.at) (subst (λ y. IsAt y (l.at + 1)) (sym (ap (λ (y : MachineState). y.machine) s.state)) a)
 
-  first : (b : List ℕ) (l m : Live H) (c : ℕ) (q : Result (Live H) Refusal) → live_byte after p limit l c ≡ q → and_then q (λ n. decoded after p limit n b) ≡ Ok m → (n : Live H) × (live_byte after p limit l c ≡ Ok n) × (decoded after p limit n b ≡ Ok m)
+  first : (b : List ℕ) (l m : Live H) (c : ℕ) (q : Result (Live H) Refusal) → live_byte after p limit l c ≡ q → and_then q (λ n. decoder_after after p limit n b) ≡ Ok m → (n : Live H) × (live_byte after p limit l c ≡ Ok n) × (decoder_after after p limit n b ≡ Ok m)
   first b l m c (Ok n) s e = (n, s, e)
   first b l m c (Err r) s e = cc
 
-  pub is_at : (b : List ℕ) (l m : Live H) → decoded after p limit l b ≡ Ok m → IsAt l.machine l.at → IsAt m.machine m.at
+  pub is_at : (b : List ℕ) (l m : Live H) → decoder_after after p limit l b ≡ Ok m → IsAt l.machine l.at → IsAt m.machine m.at
   is_at [] l m e h = let s : l ≡ m = cc in subst (λ (y : Live H). IsAt y.machine y.at) s h
   is_at (c ∷ b) l m e h = let n = first b l m c (live_byte after p limit l c) refl e in is_at b n.0 m n.2 (one_at l n.0 c (live_ok after p limit l n.0 c n.1) h)
 
   -- memory that a sink says to be out is not out in the header either
-  pub late_memory : (b : List ℕ) (l : Live H) (r : Refusal) → l.at ≤ limit → IsAt l.machine l.at → r.why ≡ why.Memory → decoded after p limit l b ≡ Err r → 8 < r.at
+  pub late_memory : (b : List ℕ) (l : Live H) (r : Refusal) → l.at ≤ limit → IsAt l.machine l.at → r.why ≡ why.Memory → decoder_after after p limit l b ≡ Err r → 8 < r.at
   late_memory b l r low h f e =
       let u = used_of after p limit b l r low e in
       let before : IsAt u.before.machine u.before.at = is_at u.used l u.before u.taken h in
@@ -146,7 +146,7 @@ module _ {H : Type 0} (after : H → Part → Result H Why) (p : Profile) (limit
         | inl t ↦ absurd (let s : why.TooLong ≡ why.Memory = sym t ∙ f in cc)
         | inr o ↦ elim o [
           | inl m ↦
-              let a : IsAt (hear p (state_of after p limit u.before) u.byte).at (u.before.at + 1) = heard_at (zone_of u.before.machine) u.before.name u.byte (step_of p u.before.machine u.byte).0 (step_of p u.before.machine u.byte).1 (u.before.at + 1) (stays p u.before.machine u.byte u.before.at before) in
+              let a : IsAt (read_byte p (state_of after p limit u.before) u.byte).at (u.before.at + 1) = heard_at (zone_of u.before.machine) u.before.name u.byte (step_of p u.before.machine u.byte).0 (step_of p u.before.machine u.byte).1 (u.before.at + 1) (stays p u.before.machine u.byte u.before.at before) in
               let late : IsAt (machine.Refused r.why) (u.before.at + 1) = subst (λ y. IsAt y (u.before.at + 1)) m a in
               let more : 8 < u.before.at + 1 = late f in omega (arith, more, at)
           | inr g ↦ elim (quiet_or_late p u.before.machine u.byte u.before.at before) [

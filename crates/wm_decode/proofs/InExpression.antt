@@ -1,7 +1,7 @@
 -- Inside the expression of a code entry the machine stands before a byte of an op.
 use Rattle.std.proofs.Common.{◌≡◌, ◌≢◌, ℕ, zero, suc, ◌+◌, ◌-◌, ◌*◌, ◌<◌, ◌≤◌, ◌^◌, ◌⊎◌, inl, inr, List, [], ◌∷◌, ◌++◌, Option, Some, None, Result, Ok, Err, length, refl, sym, ◌∙◌, ap, subst, append_assoc, arith}
-use Rattle.wm_syntax.specs.Partial.{Partial}
-use Rattle.wm_syntax.specs.Reading.{fresh}
+use Rattle.wm_syntax.specs.inner.Numbers.{Partial}
+use Rattle.wm_syntax.specs.exact.Reading.{fresh}
 use Rattle.wm_syntax.specs.Spelling.{AreBytes}
 use Rattle.wm_syntax.specs.declared.profile.Profile.{Profile}
 use Rattle.wm_syntax.specs.declared.instructions.Op.{Op}
@@ -9,11 +9,11 @@ use Rattle.wm_syntax.specs.declared.types.ValType.{ValType}
 use Rattle.wm_syntax.specs.declared.types.ValType.TheVariants.{I32}
 use Rattle.wm_syntax.specs.declared.why.Why.{Why}
 use Rattle.wm_syntax.specs.declared.why.Why.TheVariants as why
-use Rattle.wm_decode.specs.declared.component.Component.{Component}
-use Rattle.wm_decode.specs.declared.component.InComponent.{InComponent}
-use Rattle.wm_decode.specs.declared.component.InComponent.TheVariants as at
-use Rattle.wm_decode.specs.declared.component.InEntry.{InEntry}
-use Rattle.wm_decode.specs.declared.component.InEntry.TheVariants as entry
+use Rattle.wm_decode.specs.declared.member.SectionKind.{SectionKind}
+use Rattle.wm_decode.specs.declared.member.InMember.{InMember}
+use Rattle.wm_decode.specs.declared.member.InMember.TheVariants as at
+use Rattle.wm_decode.specs.declared.member.InEntry.{InEntry}
+use Rattle.wm_decode.specs.declared.member.InEntry.TheVariants as entry
 use Rattle.wm_decode.specs.declared.expressions.InExpression.{InExpression as Place}
 use Rattle.wm_decode.specs.declared.expressions.InExpression.TheVariants as expression
 use Rattle.wm_decode.specs.declared.machine.Event.{Event}
@@ -21,42 +21,40 @@ use Rattle.wm_decode.specs.declared.machine.Event.TheVariants as event
 use Rattle.wm_decode.specs.declared.machine.Machine.{Machine}
 use Rattle.wm_decode.specs.declared.machine.Machine.TheVariants as machine
 use Rattle.wm_decode.specs.declared.machine.Plain.TheVariants as plain
-use Rattle.wm_decode.specs.ComponentSteps.{after_op, entry_framed, entry_step, op_event}
-use Rattle.wm_decode.specs.ExpressionSteps.{expression_step}
+use Rattle.wm_decode.specs.exact.MemberSteps.{entry_after_op, member_in_entry, entry_step, op_event}
+use Rattle.wm_decode.specs.exact.ExpressionSteps.{expression_step}
 use Rattle.wm_decode.specs.Fronts.{IsFront, InExpression, entry_more, entry_after}
-use Rattle.wm_decode.specs.Live.{IsRefused, Live, MayHeed, MayRunOut}
-use Rattle.wm_decode.specs.Parts.{Part, body_op, Zone, entry as in_entry, Mark, Marks}
-use Rattle.wm_decode.specs.Runs.{State, after_byte, begin, hear, heard, Heard, marks, run, zone_in, zone_of}
-use Rattle.wm_decode.specs.Steps.{framed, step_of}
+use Rattle.wm_decode.specs.exact.Live.{IsRefused, Live, MayRunOutAtEvent, MayRunOutAtByte}
+use Rattle.wm_decode.specs.Items.{Item, body_op, Zone, entry as in_entry, Mark, Marks, locals, items_at}
+use Rattle.wm_decode.specs.exact.Runs.{MachineState, after_byte, state_at_start, read_byte, byte_read, ByteRead, marks, state_after, zone_in, zone_of}
+use Rattle.wm_decode.specs.exact.Steps.{machine_in_member, step_of}
 use Rattle.std.specs.Str.{is_utf8}
 use Rattle.std.proofs.Math.Pow.{pow_mono}
 use Rattle.std.proofs.lemmas.Bool.{cond_both}
 use Rattle.std.proofs.lemmas.Nat.{pow_pos}
 use Rattle.wm_decode.specs.declared.values.InRun.{InRun}
 use Rattle.wm_decode.specs.declared.values.InRun.TheVariants as run_at
-use Rattle.wm_decode.specs.Components.{id_of}
+use Rattle.wm_decode.specs.exact.Members.{id_of}
 use Rattle.wm_decode.specs.Grammar.{Module, Run, Expression, loose}
-use Rattle.wm_decode.specs.Parts.{locals, parts_of}
-use Rattle.wm_decode.specs.Shapes.{Shape, Then, Times, Leaf, Counted, Sized, Entry, nothing_at, ending, entered, said}
-use Rattle.wm_decode.proofs.Comes.{Comes, some_times, some_runs, some_one}
-use Rattle.wm_decode.proofs.ComponentBytes.{OneOf, ComponentRest}
-use Rattle.wm_decode.proofs.ComponentSound.{SoundRun, StandsEntry}
+use Rattle.wm_decode.specs.MarkedForms.{MarkedForm, Then, Times, Leaf, Counted, Sized, Entry, nothing_at, marks_ending, entry_marks, outside_mark}
+use Rattle.wm_decode.proofs.OpenMembers.{Comes, some_times, some_runs, some_one}
+use Rattle.wm_decode.proofs.MemberBytes.{OneOf, ComponentRest}
+use Rattle.wm_decode.proofs.MemberSound.{SoundRun, StandsEntry}
 use Rattle.wm_decode.proofs.EntryBytes.{EntryRest, run_part, runs_same}
-use Rattle.wm_decode.proofs.Fits.{Fits, run_fits}
+use Rattle.wm_decode.proofs.MachineStates.{Fits, run_fits}
 use Rattle.wm_decode.proofs.Fronts.{is_front, some_later}
 use Rattle.wm_decode.proofs.Numbers.{Left}
 use Rattle.wm_decode.proofs.OneFront.{one_front}
-use Rattle.wm_decode.proofs.OpSound.{HasRoom, fresh_32, last_byte}
+use Rattle.wm_decode.proofs.OpSound.{HasRoom, fresh_32, last_byte, IsOther}
 use Rattle.wm_decode.proofs.ReadValues.{parts-append, parts-entered}
-use Rattle.wm_decode.proofs.Theorem.{begin_fits}
+use Rattle.wm_decode.proofs.MachineAndSink.{begin_fits}
 use Rattle.wm_decode.proofs.ValueBytes.{run_rest}
-use Rattle.wm_decode.proofs.Whole.{Later, MachineRest, Within, begin_from, run_from}
+use Rattle.wm_decode.proofs.WholeMachine.{Later, MachineRest, Within, begin_from, run_from}
 use Rattle.wm_decode.proofs.ExpressionSound.{expression_fault}
-use Rattle.wm_decode.proofs.OpSound.{IsOther}
 
 -- the machine in a code entry, with so many bytes of it after the next
 pub record AtEntry (m : Machine) : Type 0 where
-  pub of : Component
+  pub of : SectionKind
   pub functions : ℕ
   pub more : ℕ
   pub left : ℕ
@@ -64,18 +62,18 @@ pub record AtEntry (m : Machine) : Type 0 where
   pub place : InEntry
   pub is : m ≡ machine.Section of functions more left (at.Entry rest place)
 
-abbrev entry_machine : Component → ℕ → ℕ → ℕ → ℕ → InEntry → Machine
+abbrev entry_machine : SectionKind → ℕ → ℕ → ℕ → ℕ → InEntry → Machine
 entry_machine of functions more left rest q = machine.Section of functions more left (at.Entry rest q)
 
 -- within a code entry the machine stands in one, or has refused
 abbrev Enters : Machine → Type 0
 Enters m = IsRefused m ⊎ AtEntry m
 
-framed_enters : (of : Component) (functions more left rest : ℕ) (q : InEntry) → Enters (framed of functions more left (at.Entry rest q))
+framed_enters : (of : SectionKind) (functions more left rest : ℕ) (q : InEntry) → Enters (machine_in_member of functions more left (at.Entry rest q))
 framed_enters of functions zero left rest q = inl tt
 framed_enters of functions (suc n) left rest q = inr (record { of = of; functions = functions; more = n; left = left; rest = rest; place = q; is = refl })
 
-entry_enters : (of : Component) (functions more left rest : ℕ) (q : InEntry) → Enters (framed of functions more left (entry_framed (suc rest) q))
+entry_enters : (of : SectionKind) (functions more left rest : ℕ) (q : InEntry) → Enters (machine_in_member of functions more left (member_in_entry (suc rest) q))
 entry_enters of functions more left rest (entry.Failed w) = inl tt
 entry_enters of functions more left rest entry.Over = inl tt
 entry_enters of functions more left rest (entry.RunCount r) = framed_enters of functions more left rest (entry.RunCount r)
@@ -110,55 +108,64 @@ step_enters p (machine.Count of functions more r) c e = cc
 step_enters p (machine.Refused w) c e = cc
 
 heard_enters : (zone : Zone) (name : List ℕ) (c : ℕ) (m : Machine) (e : Event) → (zone ≡ in_entry → Enters m)
-    → (heard machine.Refused zone name c (m, e)).mark.zone ≡ in_entry → Enters (heard machine.Refused zone name c (m, e)).at
-heard_enters zone name c m event.Quiet f h = f h
-heard_enters zone name c m (event.Gives q) f h = f h
+    → (byte_read machine.Refused zone name c (m, e)).mark.zone ≡ in_entry → Enters (byte_read machine.Refused zone name c (m, e)).at
+heard_enters zone name c m event.Nothing f h = f h
+heard_enters zone name c m (event.Complete q) f h = f h
 heard_enters zone name c m event.DataByte f h = cc
 heard_enters zone name c m event.InName f h = cc
 heard_enters zone name c m (event.EmptyName kind) f h = cc
 heard_enters zone name c m (event.EndsName kind) f h =
-    cond_both (is_utf8 (name ++ c ∷ [])) _ _ (λ (d : Heard Machine). d.mark.zone ≡ in_entry → Enters d.at) (λ _ e. cc) (λ _ e. cc) h
+    cond_both (is_utf8 (name ++ c ∷ [])) _ _ (λ (d : ByteRead Machine). d.mark.zone ≡ in_entry → Enters d.at) (λ _ e. cc) (λ _ e. cc) h
 
 some_more : (z : Zone) (n : ℕ) → 0 < entry_more z n → z ≡ in_entry
 some_more in_entry n l = refl
 some_more _ n l = absurd (omega (arith, l))
 
-run_enters : (p : Profile) (b : List ℕ) (s : State) (n : ℕ) → (0 < n → Enters s.machine) → 0 < entry_after n (marks p s b) → Enters (run p s b).machine
+run_enters : (p : Profile) (b : List ℕ) (s : MachineState) (n : ℕ) → (0 < n → Enters s.machine) → 0 < entry_after n (marks p s b) → Enters (state_after p s b).machine
 run_enters p [] s n f l = f l
 run_enters p (c ∷ b) s n f l =
-    run_enters p b (after_byte p s c) (entry_more (hear p s c).mark.zone n)
-    (λ m. heard_enters (zone_of s.machine) s.name c (step_of p s.machine c).0 (step_of p s.machine c).1 (step_enters p s.machine c) (some_more (hear p s c).mark.zone n m)) l
+    run_enters p b (after_byte p s c) (entry_more (read_byte p s c).mark.zone n)
+    (λ m. heard_enters (zone_of s.machine) s.name c (step_of p s.machine c).0 (step_of p s.machine c).1 (step_enters p s.machine c) (some_more (read_byte p s c).mark.zone n m)) l
 
--- something that may come, and begins with a run of locals
-record RunComes (P : Shape) : Type 0 where
+-- something that may come, and begins with a state_after of locals
+record RunComes (P : MarkedForm) : Type 0 where
   bytes : List ℕ
   marks : Marks
   spelled : P bytes marks
   count : ℕ
   type : ValType
-  rest : List Part
-  first : parts_of marks ≡ locals count type ∷ rest
+  rest : List Item
+  first : items_at marks ≡ locals count type ∷ rest
 
-run_then : (P Q : Shape) → RunComes P → Comes Q → RunComes (Then P Q)
+run_then : (P Q : MarkedForm) → RunComes P → Comes Q → RunComes (Then P Q)
 run_then P Q h q = record {
   bytes = h.bytes ++ q.bytes;
   marks = h.marks ++ q.marks;
   spelled = record { front = h.bytes; back = q.bytes; front_marks = h.marks; back_marks = q.marks; bytes = refl; marks = refl; first = h.spelled; second = q.spelled };
   count = h.count;
   type = h.type;
-  rest = h.rest ++ parts_of q.marks;
-  first = parts-append h.marks q.marks ∙ ap (λ y. y ++ parts_of q.marks) h.first;
+  rest = h.rest ++ items_at q.marks;
+  first = parts-append h.marks q.marks ∙ ap (λ y. y ++ items_at q.marks) h.first;
 }
 
 run_comes : (r : InRun) → SoundRun r → RunComes (Leaf (run_rest r) run_part)
 run_comes (run_at.Count r) h = record {
-  bytes = 0 ∷ 0x7F ∷ []; marks = ending (Some (locals r.low I32)) (0 ∷ 0x7F ∷ []);
+  bytes = 0 ∷ 0x7F ∷ [];
+  marks = marks_ending (Some (locals r.low I32)) (0 ∷ 0x7F ∷ []);
   spelled = ((r.low, I32), (r.low, 0 ∷ [], 0x7F ∷ [], refl, last_byte r h.0, (refl, refl)), refl);
-  count = r.low; type = I32; rest = []; first = refl;
+  count = r.low;
+  type = I32;
+  rest = [];
+  first = refl;
 }
 run_comes (run_at.Type n) h = record {
-  bytes = 0x7F ∷ []; marks = ending (Some (locals n I32)) (0x7F ∷ []); spelled = ((n, I32), (refl, refl), refl);
-  count = n; type = I32; rest = []; first = refl;
+  bytes = 0x7F ∷ [];
+  marks = marks_ending (Some (locals n I32)) (0x7F ∷ []);
+  spelled = ((n, I32), (refl, refl), refl);
+  count = n;
+  type = I32;
+  rest = [];
+  first = refl;
 }
 
 -- a count that is not 0 ends with a byte
@@ -181,7 +188,7 @@ module _ (p : Profile) where
   runs_come : (more : ℕ) (r : InRun) → SoundRun r → RunComes (EntryRest loose p (entry.Run more r))
   runs_come more r h = run_then (Leaf (run_rest r) run_part) (Then (Times more Run) (Expression p body_op)) (run_comes r h) (some_runs p more)
 
-  -- a whole run, and what follows it
+  -- a whole state_after, and what follows it
   first_run : (n : ℕ) → RunComes (Then (Times (suc n) Run) (Expression p body_op))
   first_run n =
       let rest = some_runs p n in
@@ -194,9 +201,13 @@ module _ (p : Profile) where
       let n = some_count r h in
       let t = first_run n.0 in
       record {
-        bytes = 1 ∷ t.bytes; marks = said None ∷ t.marks;
+        bytes = 1 ∷ t.bytes;
+        marks = outside_mark None ∷ t.marks;
         spelled = record { n = suc n.0; front = 1 ∷ []; back = t.bytes; back_marks = t.marks; bytes = refl; marks = refl; number = n.1; rest = t.spelled };
-        count = t.count; type = t.type; rest = t.rest; first = t.first;
+        count = t.count;
+        type = t.type;
+        rest = t.rest;
+        first = t.first;
       }
   entry_comes left (entry.Run more r) h i = runs_come more r h
   entry_comes left (entry.Body e) h i = absurd i
@@ -204,25 +215,35 @@ module _ (p : Profile) where
   entry_comes left (entry.Failed w) h i = absurd i
 
   -- what may come of a machine in an entry before its runs are complete
-  machine_comes : (of : Component) (functions more left rest : ℕ) (q : InEntry) (y : List ℕ) → StandsEntry (suc rest) q → IsBefore q → RunComes (MachineRest loose p (entry_machine of functions more left rest q) y)
+  machine_comes : (of : SectionKind) (functions more left rest : ℕ) (q : InEntry) (y : List ℕ) → StandsEntry (suc rest) q → IsBefore q → RunComes (MachineRest loose p (entry_machine of functions more left rest q) y)
   machine_comes of functions more left rest q y h i =
       let t = entry_comes (suc rest) q h i in
       let others = some_times left (OneOf loose p of) (some_one p of) in
       let later = some_later p (id_of of) functions in
       let inner : RunComes (ComponentRest loose p (at.Entry rest q) y) = record {
-        bytes = t.bytes; marks = entered t.marks; spelled = ((λ d. absurd d), record { inner = t.marks; marks = refl; contents = t.spelled });
-        count = t.count; type = t.type; rest = t.rest; first = parts-entered t.marks ∙ t.first;
+        bytes = t.bytes;
+        marks = entry_marks t.marks;
+        spelled = ((λ d. absurd d), record { inner = t.marks; marks = refl; contents = t.spelled });
+        count = t.count;
+        type = t.type;
+        rest = t.rest;
+        first = parts-entered t.marks ∙ t.first;
       } in
       let within = run_then (ComponentRest loose p (at.Entry rest q) y) (Times left (OneOf loose p of)) inner others in
       let sized : RunComes (Sized loose (suc more) (Within loose p of left (at.Entry rest q) y)) = record {
-        bytes = within.bytes; marks = within.marks; spelled = ((λ d. absurd d), within.spelled);
-        count = within.count; type = within.type; rest = within.rest; first = within.first;
+        bytes = within.bytes;
+        marks = within.marks;
+        spelled = ((λ d. absurd d), within.spelled);
+        count = within.count;
+        type = within.type;
+        rest = within.rest;
+        first = within.first;
       } in
       run_then (Sized loose (suc more) (Within loose p of left (at.Entry rest q) y)) (Later loose p (id_of of) functions) sized later
 
   -- the machine before a byte of an op of a code entry
   record AtOp (m : Machine) : Type 0 where
-    of : Component
+    of : SectionKind
     functions : ℕ
     more : ℕ
     left : ℕ
@@ -230,49 +251,49 @@ module _ (p : Profile) where
     place : Place
     is : m ≡ entry_machine of functions more left rest (entry.Body place)
 
-  module _ (b : List ℕ) (bytes : AreBytes b) (live : IsRefused (run p begin b).machine → ⊥) (i : InExpression p b) where
-    same_marks : i.marks ≡ marks p begin b
-    same_marks = one_front p b i.marks (marks p begin b) i.front (is_front p b bytes live)
+  module _ (b : List ℕ) (bytes : AreBytes b) (live : IsRefused (state_after p state_at_start b).machine → ⊥) (i : InExpression p b) where
+    same_marks : i.marks ≡ marks p state_at_start b
+    same_marks = one_front p b i.marks (marks p state_at_start b) i.front (is_front p b bytes live)
 
-    not_before : (of : Component) (functions more left rest : ℕ) (q : InEntry) → (run p begin b).machine ≡ entry_machine of functions more left rest q → StandsEntry (suc rest) q → IsBefore q → ⊥
+    not_before : (of : SectionKind) (functions more left rest : ℕ) (q : InEntry) → (state_after p state_at_start b).machine ≡ entry_machine of functions more left rest q → StandsEntry (suc rest) q → IsBefore q → ⊥
     not_before of functions more left rest q e h before =
-        let t = machine_comes of functions more left rest q (run p begin b).name h before in
-        let spelled : MachineRest loose p (run p begin b).machine (run p begin b).name t.bytes t.marks = subst (λ m. MachineRest loose p m (run p begin b).name t.bytes t.marks) (sym e) t.spelled in
-        let whole : Module loose p (b ++ t.bytes) (marks p begin b ++ t.marks) = begin_from loose p (b ++ t.bytes) (marks p begin b ++ t.marks) (run_from loose p begin b t.bytes t.marks bytes begin_fits spelled) in
+        let t = machine_comes of functions more left rest q (state_after p state_at_start b).name h before in
+        let spelled : MachineRest loose p (state_after p state_at_start b).machine (state_after p state_at_start b).name t.bytes t.marks = subst (λ m. MachineRest loose p m (state_after p state_at_start b).name t.bytes t.marks) (sym e) t.spelled in
+        let whole : Module loose p (b ++ t.bytes) (marks p state_at_start b ++ t.marks) = begin_from loose p (b ++ t.bytes) (marks p state_at_start b ++ t.marks) (run_from loose p state_at_start b t.bytes t.marks bytes begin_fits spelled) in
         i.no_run t.bytes t.marks t.count t.type t.rest (subst (λ k. Module loose p (b ++ t.bytes) (k ++ t.marks)) (sym same_marks) whole) t.first
 
-    by_place : (of : Component) (functions more left rest : ℕ) (q : InEntry) → (run p begin b).machine ≡ entry_machine of functions more left rest q → StandsEntry (suc rest) q → AtOp (run p begin b).machine
+    by_place : (of : SectionKind) (functions more left rest : ℕ) (q : InEntry) → (state_after p state_at_start b).machine ≡ entry_machine of functions more left rest q → StandsEntry (suc rest) q → AtOp (state_after p state_at_start b).machine
     by_place of functions more left rest (entry.Body e) is h = record { of = of; functions = functions; more = more; left = left; rest = rest; place = e; is = is }
     by_place of functions more left rest entry.Over is h = absurd h
     by_place of functions more left rest (entry.Failed w) is h = absurd h
     by_place of functions more left rest (entry.RunCount r) is h = absurd (not_before of functions more left rest (entry.RunCount r) is h tt)
     by_place of functions more left rest (entry.Run n r) is h = absurd (not_before of functions more left rest (entry.Run n r) is h tt)
 
-    at_op : AtOp (run p begin b).machine
-    at_op = elim (run_enters p b begin 0 (λ l. absurd (omega (arith, l))) (subst (λ k. 0 < entry_after 0 k) same_marks i.at_hand)) [
+    at_op : AtOp (state_after p state_at_start b).machine
+    at_op = elim (run_enters p b state_at_start 0 (λ l. absurd (omega (arith, l))) (subst (λ k. 0 < entry_after 0 k) same_marks i.at_hand)) [
       | inl r ↦ absurd (live r)
       | inr e ↦
-          let fits : Fits (entry_machine e.of e.functions e.more e.left e.rest e.place) = subst Fits e.is (run_fits p begin b bytes begin_fits) in
+          let fits : Fits (entry_machine e.of e.functions e.more e.left e.rest e.place) = subst Fits e.is (run_fits p state_at_start b bytes begin_fits) in
           by_place e.of e.functions e.more e.left e.rest e.place e.is fits.2.1.1
     ]
 
--- at such a byte memory may run out at an op of the body alone
+-- at such a byte memory may state_after out at an op of the body alone
 not_memory : why.Float ≡ why.Memory → ⊥
 not_memory e = cc
 
 expression_memory : (p : Profile) (e : Place) (c : ℕ) → (expression_step p e c).0 ≡ expression.Failed why.Memory → ⊥
 expression_memory p e c = expression_fault why.Memory (λ c. ⊥) (λ w i s. subst IsOther s i) (λ c s f. absurd (not_memory s)) p e c
 
-abbrev Never : InComponent → Type 0
+abbrev Never : InMember → Type 0
 Never q = q ≡ at.Failed why.Memory → ⊥
 
-op_never : (e : Place) → (e ≡ expression.Failed why.Memory → ⊥) → after_op e ≡ entry.Failed why.Memory → ⊥
+op_never : (e : Place) → (e ≡ expression.Failed why.Memory → ⊥) → entry_after_op e ≡ entry.Failed why.Memory → ⊥
 op_never expression.Over h i = cc
 op_never (expression.Failed w) h i = h (let s : w ≡ why.Memory = cc in ap expression.Failed s)
 op_never (expression.Op depth q) h i = cc
 op_never (expression.Label depth n r) h i = cc
 
-entry_never : (n : ℕ) (q : InEntry) → (q ≡ entry.Failed why.Memory → ⊥) → Never (entry_framed n q)
+entry_never : (n : ℕ) (q : InEntry) → (q ≡ entry.Failed why.Memory → ⊥) → Never (member_in_entry n q)
 entry_never n (entry.Failed w) h e = h (let s : w ≡ why.Memory = cc in ap entry.Failed s)
 entry_never zero entry.Over h e = cc
 entry_never (suc n) entry.Over h e = cc
@@ -283,7 +304,7 @@ entry_never (suc n) (entry.RunCount r) h e = cc
 entry_never (suc n) (entry.Run more r) h e = cc
 entry_never (suc n) (entry.Body x) h e = cc
 
-framed_never : (of : Component) (functions more left : ℕ) (q : InComponent) → Never q → framed of functions more left q ≡ machine.Refused why.Memory → ⊥
+framed_never : (of : SectionKind) (functions more left : ℕ) (q : InMember) → Never q → machine_in_member of functions more left q ≡ machine.Refused why.Memory → ⊥
 framed_never of functions more left (at.Failed w) h e = h (let s : w ≡ why.Memory = cc in ap at.Failed s)
 framed_never of functions zero zero at.Over h e = cc
 framed_never of functions (suc n) zero at.Over h e = cc
@@ -292,18 +313,18 @@ framed_never of functions (suc n) (suc l) at.Over h e = cc
 framed_never of functions zero left q h e = cc
 framed_never of functions (suc n) left q h e = cc
 
-event_op : {H : Type 0} (may : H → Part → Type 0) (o : Option Op) (name : List ℕ) (c : ℕ) (h : H) → MayHeed may (op_event plain.BodyOp o) name c h → (x : Op) × may h (body_op x)
+event_op : {H : Type 0} (may : H → Item → Type 0) (o : Option Op) (name : List ℕ) (c : ℕ) (h : H) → MayRunOutAtEvent may (op_event plain.BodyOp o) name c h → (x : Op) × may h (body_op x)
 event_op may None name c h m = absurd m
 event_op may (Some x) name c h m = (x, m)
 
-pub runs_out_at_op : {H : Type 0} (may : H → Part → Type 0) (p : Profile) (b : List ℕ) → AreBytes b → (IsRefused (run p begin b).machine → ⊥) → InExpression p b
-    → (l : Live H) (c : ℕ) → l.machine ≡ (run p begin b).machine → MayRunOut may p l c → (x : Op) × may l.held (body_op x)
+pub runs_out_at_op : {H : Type 0} (may : H → Item → Type 0) (p : Profile) (b : List ℕ) → AreBytes b → (IsRefused (state_after p state_at_start b).machine → ⊥) → InExpression p b
+    → (l : Live H) (c : ℕ) → l.machine ≡ (state_after p state_at_start b).machine → MayRunOutAtByte may p l c → (x : Op) × may l.held (body_op x)
 runs_out_at_op {H} may p b bytes live i l c same m =
     let a = at_op p b bytes live i in
     let is : l.machine ≡ entry_machine a.of a.functions a.more a.left a.rest (entry.Body a.place) = same ∙ a.is in
-    let n : MayRunOut may p (record l { machine = entry_machine a.of a.functions a.more a.left a.rest (entry.Body a.place) }) c = subst (λ x. MayRunOut may p (record l { machine = x }) c) is m in
+    let n : MayRunOutAtByte may p (record l { machine = entry_machine a.of a.functions a.more a.left a.rest (entry.Body a.place) }) c = subst (λ x. MayRunOutAtByte may p (record l { machine = x }) c) is m in
     elim n [
       | inl g ↦ event_op may (expression_step p a.place c).1 l.name c l.held g
-      | inr r ↦ absurd (framed_never a.of a.functions a.more a.left (entry_framed a.rest (after_op (expression_step p a.place c).0))
-          (entry_never a.rest (after_op (expression_step p a.place c).0) (op_never (expression_step p a.place c).0 (expression_memory p a.place c))) r)
+      | inr r ↦ absurd (framed_never a.of a.functions a.more a.left (member_in_entry a.rest (entry_after_op (expression_step p a.place c).0))
+          (entry_never a.rest (entry_after_op (expression_step p a.place c).0) (op_never (expression_step p a.place c).0 (expression_memory p a.place c))) r)
     ]

@@ -3,8 +3,8 @@ use Rattle.std.proofs.Common.{◌≡◌, ℕ, zero, suc, inl, inr, List, [], Opt
 use Rattle.std.proofs.lemmas.Bool.{cond_both}
 use Rattle.wm_syntax.specs.declared.numbers.Step.{Step}
 use Rattle.wm_syntax.specs.declared.numbers.Step.TheVariants.{More, Done, Bad}
-use Rattle.wm_syntax.specs.Partial.{Partial}
-use Rattle.wm_syntax.specs.Reading.{unsigned_push}
+use Rattle.wm_syntax.specs.inner.Numbers.{Partial}
+use Rattle.wm_syntax.specs.exact.Reading.{unsigned_push}
 use Rattle.wm_syntax.specs.declared.profile.Profile.{Profile}
 use Rattle.wm_syntax.specs.declared.why.Why.{Why}
 use Rattle.wm_syntax.specs.declared.why.Why.TheVariants as why
@@ -15,15 +15,15 @@ use Rattle.wm_decode.specs.declared.machine.Machine.{Machine}
 use Rattle.wm_decode.specs.declared.machine.Machine.TheVariants as machine
 use Rattle.wm_decode.specs.declared.refusal.Refusal.{Refusal}
 use Rattle.wm_decode.specs.declared.state.Decoder.{Decoder}
-use Rattle.wm_decode.specs.declared.component.InComponent.TheVariants as at
-use Rattle.wm_decode.specs.ComponentSteps.{on_number}
-use Rattle.wm_decode.specs.Decoding.{has_refused}
-use Rattle.wm_decode.specs.Live.{IsRefused, Live, MayRunOut, MayTake, live_with, settled, standing}
-use Rattle.wm_decode.specs.Parts.{Part}
+use Rattle.wm_decode.specs.declared.member.InMember.TheVariants as at
+use Rattle.wm_decode.specs.exact.MemberSteps.{on_number}
+use Rattle.wm_decode.specs.inner.Decoders.{refusal_of_decoder}
+use Rattle.wm_decode.specs.exact.Live.{IsRefused, Live, MayRunOutAtByte, MayTake, live_with, live_or_refused, state_of}
+use Rattle.wm_decode.specs.Items.{Item}
 use Rattle.wm_decode.specs.Sections.{header}
-use Rattle.wm_decode.specs.Steps.{after_length, custom_step, header_step, name_step, step_of}
-use Rattle.wm_decode.proofs.ComponentFloats.{component_memory}
-use Rattle.wm_decode.proofs.Outcomes.{IsLive, IsHeader, step_out}
+use Rattle.wm_decode.specs.exact.Steps.{custom_after_length, custom_step, header_step, custom_name_step, step_of}
+use Rattle.wm_decode.proofs.MemberFloats.{component_memory}
+use Rattle.wm_decode.proofs.AfterTheHeader.{IsLive, IsHeader, step_out}
 
 abbrev Never : Machine → Type 0
 Never m = m ≡ machine.Refused why.Memory → ⊥
@@ -36,16 +36,16 @@ live_never m i e = cc
 abbrev NeverCustom : InCustom → Type 0
 NeverCustom q = q ≡ custom.Failed why.Memory → ⊥
 
-length_done : (n : ℕ) → NeverCustom (after_length n).0
+length_done : (n : ℕ) → NeverCustom (custom_after_length n).0
 length_done zero e = cc
 length_done (suc n) e = cc
 
-length_never : (q : Step ℕ × Partial) → NeverCustom (on_number q custom.Length after_length custom.Failed).0
+length_never : (q : Step ℕ × Partial) → NeverCustom (on_number q custom.Length custom_after_length custom.Failed).0
 length_never (More, s) = λ e. cc
 length_never (Done n, s) = length_done n
 length_never (Bad, s) = λ e. cc
 
-name_never : (more : ℕ) → NeverCustom (name_step more).0
+name_never : (more : ℕ) → NeverCustom (custom_name_step more).0
 name_never zero e = cc
 name_never (suc n) e = cc
 
@@ -84,13 +84,13 @@ step_never p (machine.Size of functions r) c live = past p (machine.Size of func
 step_never p (machine.Count of functions more r) c live = past p (machine.Count of functions more r) c (λ i. i) live
 step_never p (machine.Section of functions more left q) c live = past p (machine.Section of functions more left q) c (λ i. i) live
 
-unrefused : {H : Type 0} (m : Machine) (name : List ℕ) (h : H) (at : ℕ) → elim (settled m name h at) as (λ _. Option Refusal) [ Ok l ↦ None | Err r ↦ Some r ] ≡ None → IsRefused m → ⊥
+unrefused : {H : Type 0} (m : Machine) (name : List ℕ) (h : H) (at : ℕ) → elim (live_or_refused m name h at) as (λ _. Option Refusal) [ Ok l ↦ None | Err r ↦ Some r ] ≡ None → IsRefused m → ⊥
 unrefused (machine.Refused w) name h at e i = cc
 unrefused m name h at e i = i
 
 -- of a call on such a machine
-pub take_room : {S H U : Type 0} (may : H → Part → Type 0) (p : Profile) (held : S → H) (d : Decoder S) (c : ℕ) → has_refused held d ≡ None → (result : Result U Refusal)
-    → IfErr result (λ r. r.why ≡ why.Memory → MayRunOut may p (live_with held d []) c) → IfErr result (λ r. r.why ≡ why.Memory → MayTake may p (live_with held d []) c)
+pub take_room : {S H U : Type 0} (may : H → Item → Type 0) (p : Profile) (held : S → H) (d : Decoder S) (c : ℕ) → refusal_of_decoder held d ≡ None → (result : Result U Refusal)
+    → IfErr result (λ r. r.why ≡ why.Memory → MayRunOutAtByte may p (live_with held d []) c) → IfErr result (λ r. r.why ≡ why.Memory → MayTake may p (live_with held d []) c)
 take_room may p held d c none (Ok u) h = tt
 take_room may p held d c none (Err r) h = λ m. elim (h m) [
   | inl t ↦ t

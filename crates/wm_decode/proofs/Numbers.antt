@@ -3,8 +3,8 @@ use Rattle.std.proofs.Common.{◌≡◌, ℕ, ◌<◌, ◌^◌, ◌↔◌, List,
 use Rattle.wm_syntax.specs.Types.{SpellsU32}
 use Rattle.wm_syntax.specs.declared.numbers.Step.{Step}
 use Rattle.wm_syntax.specs.declared.numbers.Step.TheVariants.{More, Done, Bad}
-use Rattle.wm_syntax.specs.Partial.{Partial}
-use Rattle.wm_syntax.specs.Reading.{UnsignedRest, fresh, unsigned_push}
+use Rattle.wm_syntax.specs.inner.Numbers.{Partial, UnsignedRest}
+use Rattle.wm_syntax.specs.exact.Reading.{fresh, unsigned_push}
 use Rattle.wm_syntax.proofs.Readers.{unsigned_law, unsigned_fresh, Goes as NumberGoes}
 
 -- these bytes may still come of a number, after what was read of it

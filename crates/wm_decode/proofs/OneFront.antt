@@ -1,4 +1,4 @@
--- The bytes so far of an input have one reading: as long as the bytes of two inputs agree, so does what is said of them.
+-- The bytes so far of an input have one reading: as long as the bytes of two inputs agree, so does what is outside_mark of them.
 use Rattle.std.proofs.Common.{ℕ, zero, suc, ◌≡◌, ◌+◌, ◌-◌, ◌≤◌, ◌<◌, ◌^◌, ◌⊎◌, inl, inr, List, [], ◌∷◌, ◌++◌, Option, Some, None, length, refl, sym, ◌∙◌, ap, subst, append-nil, append_assoc, arith, nat_eq, true, false}
 use Rattle.std.proofs.lemmas.Bool.{eqb-true, eqb-false}
 use Rattle.wm_syntax.specs.declared.instructions.Op.{Op}
@@ -6,7 +6,7 @@ use Rattle.wm_syntax.specs.declared.instructions.Op.TheVariants as op
 use Rattle.wm_syntax.specs.declared.instructions.Simple.{Simple}
 use Rattle.wm_syntax.specs.declared.instructions.Simple.TheVariants as simple
 use Rattle.wm_syntax.specs.declared.modules.ExportKind.{ExportKind}
-use Rattle.wm_syntax.specs.declared.op_class.Kind.TheVariants as kind
+use Rattle.wm_syntax.specs.declared.op_class.Immediates.TheVariants as kind
 use Rattle.wm_syntax.specs.declared.op_class.OpClass.{OpClass}
 use Rattle.wm_syntax.specs.declared.op_class.OpClass.TheVariants.{Plain, With}
 use Rattle.wm_syntax.specs.declared.profile.Profile.{Profile}
@@ -20,11 +20,12 @@ use Rattle.wm_syntax.specs.Instructions.{SpellsOp}
 use Rattle.wm_syntax.proofs.Unambiguous.{same_u32, same_simple}
 use Rattle.wm_syntax.proofs.OneInstruction.{class_there}
 use Rattle.wm_decode.specs.Sections.{kind_byte, header}
-use Rattle.wm_decode.specs.Parts.{Part, entry, closing, Mark, Marks, new_type, param, result_count, one_result, import_module, import_name, import_desc, function, table, memory, global, const_op, export_name, export, start, element, element_function, body, locals, body_op, segment, data_byte}
-use Rattle.wm_decode.specs.Shapes.{Shape, Empty, Byte, Literal, Then, Times, Leaf, Number, Vector, Index, Name, Sized, Filled, Entry, nothing_at, said, ending, naming, name_marks, in_zone, entered}
-use Rattle.wm_decode.specs.Grammar.{loose, ValueType, ResultTypes, FunctionType, Import, opens, closes, HasLabels, IsExpression, EachOp, Expression, Global, Export, Element, Run, Code, DataByte, Segment, Paired, Contents, Section, Custom, Optional, Chain, Module}
+use Rattle.wm_decode.specs.Items.{Item, entry, closing, Mark, Marks, new_type, param, result_count, one_result, import_module, import_name, import_desc, function, table, memory, global, const_op, export_name, export, start, element, element_function, body, locals, body_op, segment, data_byte}
+use Rattle.wm_decode.specs.MarkedForms.{MarkedForm, Empty, Byte, Literal, Then, Times, Leaf, Number, Vector, Index, Name, Sized, Filled, Entry, nothing_at, outside_mark, marks_ending, name_byte_marks, name_marks, in_zone, entry_marks}
+use Rattle.wm_decode.specs.Grammar.{loose, ValueType, ResultTypes, FunctionType, Import, HasLabels, IsExpression, EachOp, Expression, Global, Export, Element, Run, Code, DataByte, Segment, Paired, Contents, Section, Custom, Optional, Chain, Module}
+use Rattle.wm_syntax.specs.Instructions.{openings, endings}
 use Rattle.wm_decode.specs.Fronts.{IsFront}
-use Rattle.wm_decode.proofs.Next.{head_same, tail_same, not_nil}
+use Rattle.wm_decode.proofs.FirstBytes.{head_same, tail_same, not_nil}
 use Rattle.wm_decode.proofs.OneSpelling.{Same, Once, byte_same, same_as, tagged, once_then, once_type, once_limits, once_table, once_global_type, once_desc, once_kind}
 
 abbrev Done : Type 0
@@ -68,12 +69,12 @@ Cut a b D = (u v : List ℕ) → a ++ u ≡ b ++ v → (a ≡ b) × D
 cut_tail : (D : Type 0) (c d : ℕ) (a b : List ℕ) → c ≡ d → Cut (c ∷ a) (d ∷ b) D → Cut a b D
 cut_tail D c d a b e s u v h = let whole : c ∷ (a ++ u) ≡ d ∷ (b ++ v) = cc in let r = s u v whole in (tail_same c d a b r.0, r.1)
 
--- a part is complete at the last byte
-meet_ending : (D : Type 0) (x y : Option Part) (a b : List ℕ) → Cut a b D → (D → x ≡ y) → Meet D a (ending x a) b (ending y b)
+-- an item is complete at the last byte
+meet_ending : (D : Type 0) (x y : Option Item) (a b : List ℕ) → Cut a b D → (D → x ≡ y) → Meet D a (marks_ending x a) b (marks_ending y b)
 meet_ending D x y [] [] s f = (s [] [] refl).1
 meet_ending D x y [] (d ∷ b) s f = absurd (not_nil d b (sym (s (d ∷ b) [] (sym (append-nil (d ∷ b)))).0))
 meet_ending D x y (c ∷ a) [] s f = absurd (not_nil c a (s [] (c ∷ a) (append-nil (c ∷ a))).0)
-meet_ending D x y (c ∷ []) (d ∷ []) s f = λ e. let g = (s [] [] (ap (λ y. y ∷ []) e)).1 in (ap said (f g), g)
+meet_ending D x y (c ∷ []) (d ∷ []) s f = λ e. let g = (s [] [] (ap (λ y. y ∷ []) e)).1 in (ap outside_mark (f g), g)
 meet_ending D x y (c ∷ []) (d ∷ e ∷ b) s f =
     λ h. let r = cut_tail D c d [] (e ∷ b) h s (e ∷ b) [] (sym (append-nil (e ∷ b))) in absurd (not_nil e b (sym r.0))
 meet_ending D x y (c ∷ e ∷ a) (d ∷ []) s f =
@@ -81,17 +82,17 @@ meet_ending D x y (c ∷ e ∷ a) (d ∷ []) s f =
 meet_ending D x y (c ∷ e ∷ a) (d ∷ g ∷ b) s f = λ h. (refl, meet_ending D x y (e ∷ a) (g ∷ b) (cut_tail D c d (e ∷ a) (g ∷ b) h s) f)
 
 -- the bytes of a name, as many
-meet_naming : (x y : Option Part) (a b : List ℕ) → length a ≡ length b → (a ≡ b → x ≡ y) → Meet Done a (naming x a) b (naming y b)
+meet_naming : (x y : Option Item) (a b : List ℕ) → length a ≡ length b → (a ≡ b → x ≡ y) → Meet Done a (name_byte_marks x a) b (name_byte_marks y b)
 meet_naming x y [] [] l f = tt
 meet_naming x y [] (d ∷ b) l f = cc
 meet_naming x y (c ∷ a) [] l f = cc
-meet_naming x y (c ∷ []) (d ∷ []) l f = λ e. (ap said (f (ap (λ y. y ∷ []) e)), tt)
+meet_naming x y (c ∷ []) (d ∷ []) l f = λ e. (ap outside_mark (f (ap (λ y. y ∷ []) e)), tt)
 meet_naming x y (c ∷ []) (d ∷ e ∷ b) l f = cc
 meet_naming x y (c ∷ e ∷ a) (d ∷ []) l f = cc
 meet_naming x y (c ∷ e ∷ a) (d ∷ g ∷ b) l f = λ h. (refl, meet_naming x y (e ∷ a) (g ∷ b) (cc) (λ i. f (cc (h, i))))
 
 -- any bytes, as many
-meet_any : (a b : List ℕ) → length a ≡ length b → Meet Done a (ending None a) b (ending None b)
+meet_any : (a b : List ℕ) → length a ≡ length b → Meet Done a (marks_ending None a) b (marks_ending None b)
 meet_any [] [] l = tt
 meet_any [] (d ∷ b) l = cc
 meet_any (c ∷ a) [] l = cc
@@ -113,7 +114,7 @@ more_marks D [] (d ∷ b) m j h = h
 more_marks D (c ∷ a) [] m j h = h
 more_marks D (c ∷ a) (d ∷ b) m j h = h
 
-meet_entered : (D : Type 0) (a : List ℕ) (j : Marks) (b : List ℕ) (k : Marks) → Meet D a j b k → Meet D a (entered j) b (entered k)
+meet_entered : (D : Type 0) (a : List ℕ) (j : Marks) (b : List ℕ) (k : Marks) → Meet D a j b k → Meet D a (entry_marks j) b (entry_marks k)
 meet_entered D [] [] [] [] h = h
 meet_entered D (c ∷ a) (m ∷ []) (d ∷ b) (n ∷ []) h = λ e. let r = h e in (ap (in_zone closing) r.0, r.1)
 meet_entered D (c ∷ a) (m ∷ []) (d ∷ b) (n ∷ q ∷ k) h = λ e. absurd (no_marks D a b q k (h e).1)
@@ -122,87 +123,87 @@ meet_entered D (c ∷ a) (m ∷ p ∷ j) (d ∷ b) (n ∷ q ∷ k) h = λ e. let
 meet_entered D _ _ _ _ h = absurd h
 
 -- of any bytes of the one shape and any of the other
-abbrev Meets : Shape → Shape → Type 0 → Type 0
+abbrev Meets : MarkedForm → MarkedForm → Type 0 → Type 0
 Meets P Q D = (a : List ℕ) (j : Marks) (b : List ℕ) (k : Marks) → P a j → Q b k → Meet D a j b k
 
-abbrev Alike : Shape → Type 0
+abbrev Alike : MarkedForm → Type 0
 Alike P = Meets P P Done
 
 empty_alike : Alike Empty
 empty_alike a j b k h i = meet_at Done h.0 h.1 i.0 i.1 tt
 
-then_meets : {P Q P' Q' : Shape} (D E : Type 0) → Meets P P' D → (D → Meets Q Q' E) → Meets (Then P Q) (Then P' Q') E
+then_meets : {P Q P' Q' : MarkedForm} (D E : Type 0) → Meets P P' D → (D → Meets Q Q' E) → Meets (Then P Q) (Then P' Q') E
 then_meets D E f g a j b k h i =
     meet_at E h.bytes h.marks i.bytes i.marks
     (meet_then D E h.front h.front_marks i.front i.front_marks h.back h.back_marks i.back i.back_marks (f h.front h.front_marks i.front i.front_marks h.first i.first) (λ d. g d h.back h.back_marks i.back i.back_marks h.second i.second))
 
-then_alike : {P Q : Shape} → Alike P → Alike Q → Alike (Then P Q)
+then_alike : {P Q : MarkedForm} → Alike P → Alike Q → Alike (Then P Q)
 then_alike f g = then_meets Done Done f (λ d. g)
 
-times_alike : {P : Shape} → Alike P → (n : ℕ) → Alike (Times n P)
+times_alike : {P : MarkedForm} → Alike P → (n : ℕ) → Alike (Times n P)
 times_alike f zero = empty_alike
 times_alike f (suc n) = then_alike f (times_alike f n)
 
-bytes_meet : (c d : ℕ) (x y : Option Part) → (c ≡ d → x ≡ y) → Meets (Byte c x) (Byte d y) (c ≡ d)
-bytes_meet c d x y f a j b k h i = meet_at (c ≡ d) h.0 h.1 i.0 i.1 (λ e. (ap said (f e), e))
+bytes_meet : (c d : ℕ) (x y : Option Item) → (c ≡ d → x ≡ y) → Meets (Byte c x) (Byte d y) (c ≡ d)
+bytes_meet c d x y f a j b k h i = meet_at (c ≡ d) h.0 h.1 i.0 i.1 (λ e. (ap outside_mark (f e), e))
 
-byte_alike : (c : ℕ) (x : Option Part) → Alike (Byte c x)
+byte_alike : (c : ℕ) (x : Option Item) → Alike (Byte c x)
 byte_alike c x a j b k h i = meet_as (c ≡ c) Done a j b k (λ d. tt) (bytes_meet c c x x (λ e. refl) a j b k h i)
 
 literal_alike : (text : List ℕ) → Alike (Literal text)
 literal_alike text a j b k h i = meet_at Done h.0 h.1 i.0 i.1 (meet_ending Done None None text text (λ u v e. (refl, tt)) (λ e. refl))
 
-leaf_alike : {X : Type 0} {V : X → Form ℕ} (o : Once V) (part : X → Part) → Alike (Leaf V part)
+leaf_alike : {X : Type 0} {V : X → Form ℕ} (o : Once V) (part : X → Item) → Alike (Leaf V part)
 leaf_alike o part a j b k h i =
     meet_at Done refl h.2 refl i.2
-    (meet_as (h.0 ≡ i.0) Done a (ending (Some (part h.0)) a) b (ending (Some (part i.0)) b) (λ d. tt)
+    (meet_as (h.0 ≡ i.0) Done a (marks_ending (Some (part h.0)) a) b (marks_ending (Some (part i.0)) b) (λ d. tt)
     (meet_ending (h.0 ≡ i.0) (Some (part h.0)) (Some (part i.0)) a b (λ u v e. o h.0 i.0 a b u v h.1 i.1 e) (λ e. ap (λ y. Some (part y)) e)))
 
-number_alike : (x : ℕ → Option Part) (F G : ℕ → Shape) → ((n : ℕ) → Meets (F n) (G n) Done) → Meets (Number x F) (Number x G) Done
+number_alike : (x : ℕ → Option Item) (F G : ℕ → MarkedForm) → ((n : ℕ) → Meets (F n) (G n) Done) → Meets (Number x F) (Number x G) Done
 number_alike x F G f a j b k h i =
     meet_at Done h.bytes h.marks i.bytes i.marks
-    (meet_then (h.n ≡ i.n) Done h.front (ending (x h.n) h.front) i.front (ending (x i.n) i.front) h.back h.back_marks i.back i.back_marks
+    (meet_then (h.n ≡ i.n) Done h.front (marks_ending (x h.n) h.front) i.front (marks_ending (x i.n) i.front) h.back h.back_marks i.back i.back_marks
     (meet_ending (h.n ≡ i.n) (x h.n) (x i.n) h.front i.front (λ u v e. same_u32 h.n i.n h.front i.front u v h.number i.number e) (λ e. ap x e))
     (λ e. f i.n h.back h.back_marks i.back i.back_marks (subst (λ y. F y h.back h.back_marks) e h.rest) i.rest))
 
-vector_alike : {P : Shape} → Alike P → Alike (Vector P)
+vector_alike : {P : MarkedForm} → Alike P → Alike (Vector P)
 vector_alike {P} f = number_alike nothing_at (λ n. Times n P) (λ n. Times n P) (times_alike f)
 
-index_alike : (part : ℕ → Part) → Alike (Index part)
+index_alike : (part : ℕ → Item) → Alike (Index part)
 index_alike part = number_alike (λ n. Some (part n)) (λ n. Empty) (λ n. Empty) (λ n. empty_alike)
 
-sized_meets : {P Q : Shape} (D : Type 0) (n m : ℕ) → Meets P Q D → Meets (Sized loose n P) (Sized loose m Q) D
+sized_meets : {P Q : MarkedForm} (D : Type 0) (n m : ℕ) → Meets P Q D → Meets (Sized loose n P) (Sized loose m Q) D
 sized_meets D n m f a j b k h i = f a j b k h.1 i.1
 
-entry_alike : {P : Shape} → Alike P → Alike (Entry P)
+entry_alike : {P : MarkedForm} → Alike P → Alike (Entry P)
 entry_alike f a j b k h i = meet_at Done refl h.marks refl i.marks (meet_entered Done a h.inner b i.inner (f a h.inner b i.inner h.contents i.contents))
 
-filled_alike : {P : Shape} (n : ℕ) → Alike P → Alike (Filled loose n P)
+filled_alike : {P : MarkedForm} (n : ℕ) → Alike P → Alike (Filled loose n P)
 filled_alike n f a j b k h i =
     meet_at Done h.bytes h.marks i.bytes i.marks
-    (meet_then (Done × (h.front ≡ i.front)) Done h.front h.front_marks i.front i.front_marks h.back (ending None h.back) i.back (ending None i.back)
+    (meet_then (Done × (h.front ≡ i.front)) Done h.front h.front_marks i.front i.front_marks h.back (marks_ending None h.back) i.back (marks_ending None i.back)
     (meet_bytes Done h.front h.front_marks i.front i.front_marks (f h.front h.front_marks i.front i.front_marks h.first i.first))
     (λ d. meet_any h.back i.back (h.size ∙ (ap (λ (y : List ℕ). n - length y) d.1 ∙ sym i.size))))
 
 -- names
-name_parts : (x : List ℕ → Option Part) (f t g u : List ℕ) → SpellsU32 (length t) f → SpellsU32 (length u) g → Meet Done (f ++ t) (name_marks (x t) f t) (g ++ u) (name_marks (x u) g u)
+name_parts : (x : List ℕ → Option Item) (f t g u : List ℕ) → SpellsU32 (length t) f → SpellsU32 (length u) g → Meet Done (f ++ t) (name_marks (x t) f t) (g ++ u) (name_marks (x u) g u)
 name_parts x f [] g [] p q =
     meet_at Done (append-nil f) refl (append-nil g) refl
-    (meet_as (0 ≡ 0) Done f (ending (x []) f) g (ending (x []) g) (λ d. tt) (meet_ending (0 ≡ 0) (x []) (x []) f g (λ a b e. same_u32 0 0 f g a b p q e) (λ e. refl)))
+    (meet_as (0 ≡ 0) Done f (marks_ending (x []) f) g (marks_ending (x []) g) (λ d. tt) (meet_ending (0 ≡ 0) (x []) (x []) f g (λ a b e. same_u32 0 0 f g a b p q e) (λ e. refl)))
 name_parts x f [] g (d ∷ u) p q =
-    meet_at Done refl (sym (append-nil (ending (x []) f))) refl refl
-    (meet_then (0 ≡ length (d ∷ u)) Done f (ending (x []) f) g (ending None g) [] [] (d ∷ u) (naming (x (d ∷ u)) (d ∷ u))
+    meet_at Done refl (sym (append-nil (marks_ending (x []) f))) refl refl
+    (meet_then (0 ≡ length (d ∷ u)) Done f (marks_ending (x []) f) g (marks_ending None g) [] [] (d ∷ u) (name_byte_marks (x (d ∷ u)) (d ∷ u))
     (meet_ending (0 ≡ length (d ∷ u)) (x []) None f g (λ a b e. same_u32 0 (length (d ∷ u)) f g a b p q e) (λ e. cc)) (λ e. cc))
 name_parts x f (c ∷ t) g [] p q =
-    meet_at Done refl refl refl (sym (append-nil (ending (x []) g)))
-    (meet_then (length (c ∷ t) ≡ 0) Done f (ending None f) g (ending (x []) g) (c ∷ t) (naming (x (c ∷ t)) (c ∷ t)) [] []
+    meet_at Done refl refl refl (sym (append-nil (marks_ending (x []) g)))
+    (meet_then (length (c ∷ t) ≡ 0) Done f (marks_ending None f) g (marks_ending (x []) g) (c ∷ t) (name_byte_marks (x (c ∷ t)) (c ∷ t)) [] []
     (meet_ending (length (c ∷ t) ≡ 0) None (x []) f g (λ a b e. same_u32 (length (c ∷ t)) 0 f g a b p q e) (λ e. cc)) (λ e. cc))
 name_parts x f (c ∷ t) g (d ∷ u) p q =
-    meet_then (length (c ∷ t) ≡ length (d ∷ u)) Done f (ending None f) g (ending None g) (c ∷ t) (naming (x (c ∷ t)) (c ∷ t)) (d ∷ u) (naming (x (d ∷ u)) (d ∷ u))
+    meet_then (length (c ∷ t) ≡ length (d ∷ u)) Done f (marks_ending None f) g (marks_ending None g) (c ∷ t) (name_byte_marks (x (c ∷ t)) (c ∷ t)) (d ∷ u) (name_byte_marks (x (d ∷ u)) (d ∷ u))
     (meet_ending (length (c ∷ t) ≡ length (d ∷ u)) None None f g (λ a b e. same_u32 (length (c ∷ t)) (length (d ∷ u)) f g a b p q e) (λ e. refl))
     (λ e. meet_naming (x (c ∷ t)) (x (d ∷ u)) (c ∷ t) (d ∷ u) e (λ i. ap x i))
 
-name_alike : (x : List ℕ → Option Part) → Alike (Name loose x)
+name_alike : (x : List ℕ → Option Item) → Alike (Name loose x)
 name_alike x a j b k h i = meet_at Done h.bytes h.marks i.bytes i.marks (name_parts x h.front h.text i.front i.text h.number i.number)
 
 -- Ops. A label stands just where one is due.
@@ -303,10 +304,10 @@ one_of_due (suc n) o q d f = absurd d
 no_more : (ops : List Op) (o : Op) (more : List Op) → IsExpression (ops ++ []) → IsExpression (ops ++ o ∷ more) → ⊥
 no_more ops o more h k =
     let all : ops ++ [] ≡ ops = append-nil ops in
-    let closed : closes ops ≡ opens ops + 1 = subst (λ y. closes y ≡ opens y + 1) all h.closed in
+    let closed : endings ops ≡ openings ops + 1 = subst (λ y. endings y ≡ openings y + 1) all h.closed in
     elim (k.first ops (o ∷ more) refl) [ inl e ↦ not_nil o more e | inr l ↦ omega (arith, closed, l) ]
 
-module _ (part : Op → Part) where
+module _ (part : Op → Item) where
   ops_alike : (n : ℕ) (before ops more : List Op) → HasLabels n ops → HasLabels n more → IsExpression (before ++ ops) → IsExpression (before ++ more) → Meets (EachOp part ops) (EachOp part more) Done
   ops_alike n before [] [] l m e f = empty_alike
   ops_alike n before [] (q ∷ more) l m e f = λ a j b k h i. absurd (no_more before q more e f)
@@ -319,15 +320,15 @@ module _ (part : Op → Part) where
       (subst IsExpression (sym (append_assoc before (o ∷ []) ops)) e)
       (subst IsExpression (sym (append_assoc before (o ∷ []) more)) (subst (λ z. IsExpression (before ++ z ∷ more)) (sym same) f)))
     where
-      one : IsDue n o → IsDue n q → Meets (λ b k. SpellsOp o b × (k ≡ ending (Some (part o)) b)) (λ b k. SpellsOp q b × (k ≡ ending (Some (part q)) b)) (o ≡ q)
+      one : IsDue n o → IsDue n q → Meets (λ b k. SpellsOp o b × (k ≡ marks_ending (Some (part o)) b)) (λ b k. SpellsOp q b × (k ≡ marks_ending (Some (part q)) b)) (o ≡ q)
       one d g a j b k h i =
           meet_at (o ≡ q) refl h.1 refl i.1 (meet_ending (o ≡ q) (Some (part o)) (Some (part q)) a b (λ u v e. one_of_due n o q d g a b u v h.0 i.0 e) (λ e. ap (λ y. Some (part y)) e))
 
   expression_alike : (p : Profile) → Alike (Expression p part)
   expression_alike p a j b k h i = ops_alike 0 [] h.0 i.0 h.1.labels i.1.labels h.1 i.1 a j b k h.3 i.3
 
--- components
-value_alike : (part : ValType → Part) → Alike (ValueType part)
+-- members
+value_alike : (part : ValType → Item) → Alike (ValueType part)
 value_alike part = leaf_alike once_type part
 
 results_alike : Alike ResultTypes
@@ -365,11 +366,11 @@ module _ (p : Profile) where
 
   code_alike : Alike (Code loose p)
   code_alike =
-      let S : ℕ → Shape = λ n. Sized loose n (Entry (Then (Vector Run) (Expression p body_op))) in
+      let S : ℕ → MarkedForm = λ n. Sized loose n (Entry (Then (Vector Run) (Expression p body_op))) in
       number_alike (λ n. Some body) S S (λ n. sized_meets Done n n (entry_alike (then_alike (vector_alike run_alike) (expression_alike body_op p))))
 
   -- however many functions there are
-  paired_alike : {P : Shape} (f g : ℕ) → Alike P → Meets (Paired loose f P) (Paired loose g P) Done
+  paired_alike : {P : MarkedForm} (f g : ℕ) → Alike P → Meets (Paired loose f P) (Paired loose g P) Done
   paired_alike {P} f g h =
       number_alike nothing_at (λ n b k. (loose → n ≡ f) × Times n P b k) (λ n b k. (loose → n ≡ g) × Times n P b k) (λ n a j b k x y. times_alike h n a j b k x.1 y.1)
 
@@ -393,7 +394,7 @@ module _ (p : Profile) where
 
 custom_alike : Alike (Custom loose)
 custom_alike =
-    let F : ℕ → Shape = λ n. Filled loose n (Name loose (λ text. None)) in
+    let F : ℕ → MarkedForm = λ n. Filled loose n (Name loose (λ text. None)) in
     then_alike (byte_alike 0 None) (number_alike nothing_at F F (λ n. filled_alike n (name_alike (λ text. None))))
 
 -- As long as both lists of bytes agree, so do the marks; the one may go on where the other ends.
@@ -427,11 +428,11 @@ same_or x y = (elim (nat_eq x y) as (λ v. nat_eq x y ≡ v → (x ≡ y) ⊎ (x
 
 module _ (p : Profile) where
   -- so many sections in all, custom ones too, of which the others have ids from one on
-  abbrev Tails : ℕ → ℕ → Shape
+  abbrev Tails : ℕ → ℕ → MarkedForm
   Tails zero id b k = Empty b k
   Tails (suc n) id b k = Then (Custom loose) (Tails n id) b k ⊎ ((x : ℕ) × (f : ℕ) × (id ≤ x) × Then (Section loose p f x) (Tails n (suc x)) b k)
 
-  abbrev Tail : ℕ → Shape
+  abbrev Tail : ℕ → MarkedForm
   Tail id b k = (n : ℕ) × Tails n id b k
 
   tails_from : (n id id' : ℕ) → id ≤ id' → (b : List ℕ) (k : Marks) → Tails n id' b k → Tails n id b k
@@ -472,8 +473,8 @@ module _ (p : Profile) where
       let section : Tail id h.back h.back_marks = subst (λ y. Tail id y h.back_marks) (sym s.bytes) (subst (λ y. Tail id (s.front ++ s.back) y) (sym s.marks) (after_section f id s.front s.front_marks s.first s.back s.back_marks rest)) in
       subst (λ y. Tail id y k) (sym h.bytes) (subst (λ y. Tail id (h.front ++ h.back) y) (sym h.marks) (after_customs h.first.0 id h.front h.front_marks h.first.1 h.back h.back_marks section))
 
-  -- the first byte of a section, of which nothing is said
-  begun : (id : ℕ) (F : ℕ → Shape) (Q : Shape) (b : List ℕ) (k : Marks) → Then (Then (Byte id None) (Number nothing_at F)) Q b k → (rest : List ℕ) × (later : Marks) × (b ≡ id ∷ rest) × (k ≡ said None ∷ later)
+  -- the first byte of a section, of which nothing is outside_mark
+  begun : (id : ℕ) (F : ℕ → MarkedForm) (Q : MarkedForm) (b : List ℕ) (k : Marks) → Then (Then (Byte id None) (Number nothing_at F)) Q b k → (rest : List ℕ) × (later : Marks) × (b ≡ id ∷ rest) × (k ≡ outside_mark None ∷ later)
   begun id F Q b k h =
       let s = h.first in (
         s.back ++ h.back,
@@ -482,7 +483,7 @@ module _ (p : Profile) where
         h.marks ∙ ap (λ y. y ++ h.back_marks) (s.marks ∙ ap (λ y. y ++ s.back_marks) s.first.1),
       )
 
-  other_sections : (x y : ℕ) (F G : ℕ → Shape) (P Q : Shape) → (x ≡ y → ⊥) → (a : List ℕ) (j : Marks) (b : List ℕ) (k : Marks)
+  other_sections : (x y : ℕ) (F G : ℕ → MarkedForm) (P Q : MarkedForm) → (x ≡ y → ⊥) → (a : List ℕ) (j : Marks) (b : List ℕ) (k : Marks)
       → Then (Then (Byte x None) (Number nothing_at F)) P a j → Then (Then (Byte y None) (Number nothing_at G)) Q b k → Agree a j b k
   other_sections x y F G P Q n a j b k h i =
       let s = begun x F P a j h in
@@ -520,7 +521,7 @@ module _ (p : Profile) where
       (agree_then Done h.front h.front_marks i.front i.front_marks h.back h.back_marks i.back i.back_marks (literal_alike header h.front h.front_marks i.front i.front_marks h.first i.first)
       (λ d. tails_agree t.0 u.0 1 low h.back h.back_marks i.back i.back_marks t.1 u.1))
 
--- what is said of the bytes that both begin with
+-- what is outside_mark of the bytes that both begin with
 same_front : (b u v : List ℕ) (j k s t : Marks) → length b ≡ length j → length b ≡ length k → Agree (b ++ u) (j ++ s) (b ++ v) (k ++ t) → j ≡ k
 same_front [] u v [] [] s t l m h = refl
 same_front [] u v [] (n ∷ k) s t l m h = cc

@@ -13,12 +13,11 @@ use Rattle.wm_syntax.specs.Modules.{Function, GlobalDef, Element, Segment, Modul
 use Rattle.wm_syntax.specs.Profiles.{HasInstructions, IsOpOf, IsOf}
 use Rattle.wm_syntax.proofs.Bodies.{has_ops, same_instructions}
 use Rattle.wm_syntax.proofs.ProfileLaws.{by_ops}
-use Rattle.wm_decode.specs.Parts.{Marks, parts_of}
+use Rattle.wm_decode.specs.Items.{Marks, items_at}
 use Rattle.wm_decode.specs.Sections.{SpellsModule}
-use Rattle.wm_decode.specs.Grammar.{strict}
-use Rattle.wm_decode.specs.Grammar.{Module as Whole}
-use Rattle.wm_decode.specs.Flat.{FlatGlobal, FlatElement, FlatCode, FlatSegment, FlatModule, flat_parts, SpellsFlat, constant_ops, IsIndexOf, IsCodeOf, IsGlobalOf, IsElementOf, IsSegmentOf, IsFlatOf}
-use Rattle.wm_decode.proofs.Rules.{items_from, items_to}
+use Rattle.wm_decode.specs.Grammar.{strict, Module as Whole}
+use Rattle.wm_decode.specs.Flat.{FlatGlobal, FlatElement, FlatCode, FlatSegment, FlatModule, flat_items, SpellsFlat, constant_ops, IsIndexOf, IsCodeOf, IsGlobalOf, IsElementOf, IsSegmentOf, IsFlatOf}
+use Rattle.wm_decode.proofs.GrammarValues.{items_from, items_to}
 use Rattle.wm_decode.proofs.Nesting.{flat_from, flat_to}
 use Rattle.wm_decode.proofs.OneFlat.{one_flat}
 
@@ -115,8 +114,8 @@ module_of_flat m n v r s =
     = cc (types, imports, functions, tables, memories, globals, exports, begins, elements, segments) in
     all
 
--- one list of parts is that of one module alone
-pub module_of_parts : (m n : Module) (v w : FlatModule) → IsFlatOf m v → IsFlatOf n w → flat_parts v ≡ flat_parts w → m ≡ n
+-- one list of items is that of one module alone
+pub module_of_parts : (m n : Module) (v w : FlatModule) → IsFlatOf m v → IsFlatOf n w → flat_items v ≡ flat_items w → m ≡ n
 module_of_parts m n v w r s e = module_of_flat m n v r (subst (IsFlatOf n) (sym (one_flat v w e)) s)
 
 -- every module is of the second profile
@@ -136,13 +135,13 @@ pub module_of_two : (m : Module) → IsOf Two m
 module_of_two m = functions_of_two m.functions
 
 -- an input's marks, and the flat value of the module that it spells
-pub marks_to : (p : Profile) (m : Module) (b : List ℕ) → SpellsModule m b → IsOf p m → (k : Marks) × (v : FlatModule) × Whole strict p b k × IsFlatOf m v × (parts_of k ≡ flat_parts v)
+pub marks_to : (p : Profile) (m : Module) (b : List ℕ) → SpellsModule m b → IsOf p m → (k : Marks) × (v : FlatModule) × Whole strict p b k × IsFlatOf m v × (items_at k ≡ flat_items v)
 marks_to p m b h g =
     let u = flat_to p m b h g in
     let k = items_from p u.0 b u.2 in
     (k.0, u.0, k.1, u.1, k.2)
 
-pub marks_from : (p : Profile) (m : Module) (v : FlatModule) (b : List ℕ) (k : Marks) → Whole strict p b k → IsFlatOf m v → parts_of k ≡ flat_parts v → SpellsModule m b × IsOf p m
+pub marks_from : (p : Profile) (m : Module) (v : FlatModule) (b : List ℕ) (k : Marks) → Whole strict p b k → IsFlatOf m v → items_at k ≡ flat_items v → SpellsModule m b × IsOf p m
 marks_from p m v b k h r e =
     let u = items_to p b k h in
     flat_from p m v b r (subst (λ w. SpellsFlat p w b) (one_flat u.0 v (sym u.2 ∙ e)) u.1)

@@ -12,7 +12,8 @@ use Rattle.wm_syntax.specs.Instructions.{Instructions, SpellsExpression}
 use Rattle.wm_syntax.specs.Modules.{Function, Module, constant_body}
 use Rattle.wm_syntax.proofs.Unambiguous.{same_u32}
 use Rattle.wm_syntax.proofs.OneInstruction.{one_expression}
-use Rattle.wm_decode.specs.Sections.{Sized, Section, ListSection, StartSection, Custom, Customs, SpellsCustom, header, SpellsConst, SpellsDesc, SpellsImport, SpellsGlobal, SpellsExport, SpellsElement, SpellsLocals, SpellsSegment, SpellsModule, kind_byte, expansion}
+use Rattle.wm_decode.specs.Sections.{Sized, Section, ListSection, StartSection, Custom, Customs, SpellsCustom, header, SpellsConst, SpellsDesc, SpellsImport, SpellsGlobal, SpellsExport, SpellsElement, SpellsLocals, SpellsSegment, SpellsModule, kind_byte}
+use Rattle.wm_syntax.specs.Modules.{locals_of}
 use Rattle.wm_decode.proofs.OneModule.{constants_same}
 
 -- Of the first form's bytes and the second's, whatever follows: they are the same, and then D holds.
@@ -193,7 +194,7 @@ once_segment = once_as (λ s. (s.memory, (s.offset, s.bytes))) (λ z. record { m
 once_locals : Once SpellsLocals
 once_locals x y a b u v h k e =
     let r = once_list (once_then same_u32 once_type) h.0 k.0 a b u v h.3 k.3 e in
-    (r.0, sym h.1 ∙ (ap expansion r.1 ∙ k.1))
+    (r.0, sym h.1 ∙ (ap locals_of r.1 ∙ k.1))
 
 -- of a function what stands in its code entry
 abbrev body_of : Function → List ValType × Instructions

@@ -8,8 +8,8 @@ use Rattle.wm_syntax.specs.declared.instructions.Simple.{Simple}
 use Rattle.wm_syntax.specs.declared.instructions.Simple.TheVariants as s
 use Rattle.wm_syntax.specs.declared.instructions.Op.{Op}
 use Rattle.wm_syntax.specs.declared.instructions.Op.TheVariants as op
-use Rattle.wm_syntax.specs.declared.op_class.Kind.{Kind}
-use Rattle.wm_syntax.specs.declared.op_class.Kind.TheVariants as k
+use Rattle.wm_syntax.specs.declared.op_class.Immediates.{Immediates}
+use Rattle.wm_syntax.specs.declared.op_class.Immediates.TheVariants as k
 use Rattle.wm_syntax.specs.declared.op_class.OpClass.{OpClass}
 use Rattle.wm_syntax.specs.declared.op_class.OpClass.TheVariants.{Plain, With, Float, None}
 use Rattle.wm_syntax.specs.Opcodes.{opcode, load, store}
@@ -17,7 +17,7 @@ use Rattle.wm_syntax.specs.OpClasses.{class_of, first_byte}
 use Rattle.wm_syntax.specs.Profiles.{IsOpOf}
 use Rattle.wm_syntax.specs.Spelling.{Form, Byte, ◌▸◌}
 use Rattle.wm_syntax.specs.Instructions.{SpellsOp, SpellsImmediates}
-use Rattle.wm_decode.proofs.Next.{tail_same, not_nil}
+use Rattle.wm_decode.proofs.FirstBytes.{tail_same, not_nil}
 
 -- an op other than a label
 abbrev pub NoLabel : Op → Type 0
@@ -26,7 +26,7 @@ NoLabel o = Unit {0}
 
 -- an op that has immediates
 abbrev pub HasImmediates : Op → Type 0
-HasImmediates o = (kind : Kind) × (class_of o ≡ With kind)
+HasImmediates o = (kind : Immediates) × (class_of o ≡ With kind)
 
 pub no_label : (o : Op) → HasImmediates o → NoLabel o
 no_label (op.Label l) h = let e : Plain (op.Label l) ≡ With h.0 = h.1 in cc
@@ -40,7 +40,7 @@ of_each Two (op.Simple i) h = tt
 of_each Two _ h = tt
 
 -- the byte of a class
-abbrev pub kind_byte : Kind → ℕ
+abbrev pub kind_byte : Immediates → ℕ
 kind_byte k.Block = 0x02
 kind_byte k.Loop = 0x03
 kind_byte k.If = 0x04
@@ -76,7 +76,7 @@ byte_of_class _ = refl
 some_same : {x y : ℕ} → Some x ≡ Some y → x ≡ y
 some_same e = cc
 
-pub with_byte : (o : Op) (kind : Kind) (c : ℕ) → class_of o ≡ With kind → first_byte o ≡ Some c → c ≡ kind_byte kind
+pub with_byte : (o : Op) (kind : Immediates) (c : ℕ) → class_of o ≡ With kind → first_byte o ≡ Some c → c ≡ kind_byte kind
 unfolding class_byte
 with_byte o kind c e f = some_same (sym f ∙ (byte_of_class o ∙ ap class_byte e))
 

@@ -11,20 +11,20 @@ use Rattle.wm_syntax.specs.declared.instructions.Simple.{Simple}
 use Rattle.wm_syntax.specs.declared.instructions.Simple.TheVariants as s
 use Rattle.wm_syntax.specs.declared.instructions.Op.{Op}
 use Rattle.wm_syntax.specs.declared.instructions.Op.TheVariants as op
-use Rattle.wm_syntax.specs.declared.op_class.Kind.{Kind}
-use Rattle.wm_syntax.specs.declared.op_class.Kind.TheVariants as k
+use Rattle.wm_syntax.specs.declared.op_class.Immediates.{Immediates}
+use Rattle.wm_syntax.specs.declared.op_class.Immediates.TheVariants as k
 use Rattle.wm_syntax.specs.declared.op_class.OpClass.{OpClass}
 use Rattle.wm_syntax.specs.declared.op_class.OpClass.TheVariants.{Plain, With, Float, None}
 use Rattle.wm_syntax.specs.declared.numbers.Step.{Step}
 use Rattle.wm_syntax.specs.declared.numbers.Step.TheVariants as step
-use Rattle.wm_syntax.specs.Partial.{Partial}
-use Rattle.wm_syntax.specs.Reading.{SignedRest, fresh, unsigned_push, signed_push}
+use Rattle.wm_syntax.specs.inner.Numbers.{Partial, SignedRest}
+use Rattle.wm_syntax.specs.exact.Reading.{fresh, unsigned_push, signed_push}
 use Rattle.wm_syntax.specs.Leb128.{Signed}
 use Rattle.wm_syntax.specs.Spelling.{Form, Byte}
 use Rattle.wm_syntax.specs.Types.{SpellsU32, SpellsBlockType, type_byte}
 use Rattle.wm_syntax.specs.Opcodes.{load, store}
-use Rattle.wm_syntax.specs.ByteTable.{class_under}
-use Rattle.wm_syntax.specs.OpClasses.{IsFound, class_of, first_byte}
+use Rattle.wm_syntax.specs.exact.ByteTable.{class_under}
+use Rattle.wm_syntax.specs.OpClasses.{IsClassOfOp, class_of, first_byte}
 use Rattle.wm_syntax.specs.Profiles.{IsOpOf}
 use Rattle.wm_syntax.specs.Instructions.{SpellsOp, SpellsImmediates}
 use Rattle.wm_syntax.proofs.Readers.{Goes as NumberGoes, unsigned_law, signed_law, signed_fresh}
@@ -38,13 +38,13 @@ use Rattle.wm_decode.specs.declared.ops.Indexed.{Indexed}
 use Rattle.wm_decode.specs.declared.ops.Indexed.TheVariants as indexed
 use Rattle.wm_decode.specs.declared.ops.Sizing.{Sizing}
 use Rattle.wm_decode.specs.declared.ops.Sizing.TheVariants as sizing
-use Rattle.wm_decode.specs.declared.ops.Access.{Access}
-use Rattle.wm_decode.specs.declared.ops.Access.TheVariants as accesses
+use Rattle.wm_decode.specs.declared.ops.LoadOrStore.{LoadOrStore}
+use Rattle.wm_decode.specs.declared.ops.LoadOrStore.TheVariants as accesses
 use Rattle.wm_decode.specs.declared.ops.InOp.{InOp}
 use Rattle.wm_decode.specs.declared.ops.InOp.TheVariants as at
-use Rattle.wm_decode.specs.OpSteps.{block_op, index_op, call_op, memory_op, const_32_op, const_64_op, access_op, on_answer, immediates, first_step, block_step, closing_step, op_push}
-use Rattle.wm_decode.specs.Readings.{Goes}
-use Rattle.wm_decode.proofs.Next.{head_same, tail_same, not_nil}
+use Rattle.wm_decode.specs.exact.OpSteps.{block_op, index_op, call_op, memory_op, const_32_op, const_64_op, access_op, on_answer, immediates, first_step, block_step, closing_step, op_push}
+use Rattle.wm_decode.specs.exact.Readings.{Goes}
+use Rattle.wm_decode.proofs.FirstBytes.{head_same, tail_same, not_nil}
 use Rattle.wm_decode.proofs.Numbers.{Left, left_nil, fresh_number}
 use Rattle.wm_decode.proofs.Leaves.{IsReader}
 use Rattle.wm_decode.proofs.OpBytes.{NoLabel, HasImmediates, no_label, of_each, kind_byte, with_byte, has_first, plain_same, plain_whole, after_byte, from_byte, op_some}
@@ -61,7 +61,7 @@ Leads {T} rest then o b = (v : T) × (front back : List ℕ) × (b ≡ front ++ 
 abbrev pub Closed : Op → Op → Form ℕ
 Closed f o b = (o ≡ f) × Byte 0x00 b
 
-abbrev pub at_offset : Access → ℕ → ℕ → Op
+abbrev pub at_offset : LoadOrStore → ℕ → ℕ → Op
 at_offset a align offset = access_op a (record { align = align; offset = offset })
 
 -- with these further bytes the op is spelled, is of the profile and is no label
@@ -234,14 +234,14 @@ module _ (p : Profile) where
       subst (λ y. Goes (op_rest p) (first_step y) o b) (sym class) (starts o c b h.0 h.2)
 
   -- back from the immediates of an op to all of it
-  abbrev IsWhole : Kind → Op → List ℕ → Type 0
+  abbrev IsWhole : Immediates → Op → List ℕ → Type 0
   IsWhole kind o b = (class_of o ≡ With kind) × SpellsOp o (kind_byte kind ∷ b)
 
-  module _ (kind : Kind) (o : Op) (b : List ℕ) where
+  module _ (kind : Immediates) (o : Op) (b : List ℕ) where
     made : {T : Type 0} (f : T → Op) (rest : T → Form ℕ) → ((v : T) → rest v b → IsWhole kind (f v) b) → Makes f rest o b → IsWhole kind o b
     made f rest h m = subst (λ y. IsWhole kind y b) (sym m.1) (h m.0 m.2)
 
-    access_made : (a : Access) → ((n m : ℕ) → class_of (at_offset a n m) ≡ With kind)
+    access_made : (a : LoadOrStore) → ((n m : ℕ) → class_of (at_offset a n m) ≡ With kind)
         → ((n m : ℕ) → ((front back : List ℕ) → b ≡ front ++ back → Left fresh n front → Left fresh m back → SpellsOp (at_offset a n m) (kind_byte kind ∷ b)))
         → Leads (Left fresh) (λ n. Makes (at_offset a n) (Left fresh)) o b → IsWhole kind o b
     access_made a class whole m =
@@ -249,7 +249,7 @@ module _ (p : Profile) where
         let i = m.5 in
         subst (λ y. IsWhole kind y b) (sym i.1) (class n i.0, whole n i.0 m.1 m.2 m.3 m.4 i.2)
 
-  whole : (kind : Kind) (o : Op) (b : List ℕ) → op_rest p (immediates kind) o b → IsWhole kind o b
+  whole : (kind : Immediates) (o : Op) (b : List ℕ) → op_rest p (immediates kind) o b → IsWhole kind o b
   whole k.Block o b h = made k.Block o b (block_op opening.Block) SpellsBlockType (λ t u. (refl, from_byte 0x02 (SpellsBlockType t) b u)) h
   whole k.Loop o b h = made k.Loop o b (block_op opening.Loop) SpellsBlockType (λ t u. (refl, from_byte 0x03 (SpellsBlockType t) b u)) h
   whole k.If o b h = made k.If o b (block_op opening.If) SpellsBlockType (λ t u. (refl, from_byte 0x04 (SpellsBlockType t) b u)) h
@@ -277,14 +277,14 @@ module _ (p : Profile) where
 
   first_from : (c : ℕ) (class : OpClass) → class_under p c ≡ class → (o : Op) (b : List ℕ) → Goes (op_rest p) (first_step class) o b → op_rest p at.First o (c ∷ b)
   first_from c (Plain v) e o b g =
-      let i : (x : Op) × (first_byte x ≡ Some c) × IsOpOf p x × (class_of x ≡ class_under p c) = begins_under p c (subst IsFound (sym e) tt) in
+      let i : (x : Op) × (first_byte x ≡ Some c) × IsOpOf p x × (class_of x ≡ class_under p c) = begins_under p c (subst IsClassOfOp (sym e) tt) in
       let same : i.0 ≡ o = plain_same i.0 v (i.3 ∙ e) ∙ sym g.0 in
       let class : class_of o ≡ Plain o = ap class_of (sym same) ∙ (i.3 ∙ (e ∙ ap Plain (sym g.0))) in
       let f : first_byte o ≡ Some c = ap first_byte (sym same) ∙ i.1 in
       let w : NoLabel o × SpellsOp o (c ∷ []) = plain_whole o c class f in
       (w.0, subst (IsOpOf p) same i.2, subst (λ y. SpellsOp o (c ∷ y)) (sym g.1) w.1)
   first_from c (With kind) e o b g =
-      let i : (x : Op) × (first_byte x ≡ Some c) × IsOpOf p x × (class_of x ≡ class_under p c) = begins_under p c (subst IsFound (sym e) tt) in
+      let i : (x : Op) × (first_byte x ≡ Some c) × IsOpOf p x × (class_of x ≡ class_under p c) = begins_under p c (subst IsClassOfOp (sym e) tt) in
       let byte : c ≡ kind_byte kind = with_byte i.0 kind c (i.3 ∙ e) i.1 in
       let w : IsWhole kind o b = whole kind o b g in
       let has : HasImmediates o = (kind, w.0) in
@@ -359,7 +359,7 @@ module _ (p : Profile) where
   memory_has sizing.Size = (k.MemorySize, refl)
   memory_has sizing.Grow = (k.MemoryGrow, refl)
 
-  access_has : (a : Access) (m : MemArg) → HasImmediates (access_op a m)
+  access_has : (a : LoadOrStore) (m : MemArg) → HasImmediates (access_op a m)
   access_has (accesses.Load i) m = (k.Load i, refl)
   access_has (accesses.Store i) m = (k.Store i, refl)
 

@@ -9,13 +9,13 @@ use Rattle.wm_syntax.specs.declared.instructions.Op.{Op}
 use Rattle.wm_syntax.specs.declared.instructions.Op.TheVariants as op
 use Rattle.wm_syntax.specs.declared.op_class.OpClass.{OpClass}
 use Rattle.wm_syntax.specs.declared.op_class.OpClass.TheVariants.{Plain, With, Float, None}
-use Rattle.wm_syntax.specs.declared.op_class.Kind.{Kind}
-use Rattle.wm_syntax.specs.declared.op_class.Kind.TheVariants as k
+use Rattle.wm_syntax.specs.declared.op_class.Immediates.{Immediates}
+use Rattle.wm_syntax.specs.declared.op_class.Immediates.TheVariants as k
 use Rattle.wm_syntax.specs.declared.numbers.Step.{Step}
 use Rattle.wm_syntax.specs.declared.numbers.Step.TheVariants as step
-use Rattle.wm_syntax.specs.Partial.{Partial}
-use Rattle.wm_syntax.specs.Reading.{SignedRest, fresh, last_signed, unsigned_push, signed_push}
-use Rattle.wm_syntax.specs.ByteTable.{class_under}
+use Rattle.wm_syntax.specs.inner.Numbers.{Partial, SignedRest}
+use Rattle.wm_syntax.specs.exact.Reading.{fresh, last_signed, unsigned_push, signed_push}
+use Rattle.wm_syntax.specs.exact.ByteTable.{class_under}
 use Rattle.wm_syntax.proofs.Room.{room_more}
 use Rattle.wm_syntax.proofs.FirstBytes.{float_under}
 use Rattle.wm_decode.specs.declared.reading.Reading.{Reading}
@@ -23,7 +23,7 @@ use Rattle.wm_decode.specs.declared.reading.Reading.TheVariants.{More, Done, Bad
 use Rattle.wm_decode.specs.declared.ops.Opening.{Opening}
 use Rattle.wm_decode.specs.declared.ops.InOp.{InOp}
 use Rattle.wm_decode.specs.declared.ops.InOp.TheVariants as at
-use Rattle.wm_decode.specs.OpSteps.{block_op, index_op, call_op, memory_op, const_32_op, const_64_op, on_answer, immediates, first_step, block_step, closing_step, op_push}
+use Rattle.wm_decode.specs.exact.OpSteps.{block_op, index_op, call_op, memory_op, const_32_op, const_64_op, on_answer, immediates, first_step, block_step, closing_step, op_push}
 use Rattle.wm_decode.proofs.Numbers.{Left}
 use Rattle.wm_decode.proofs.OpRest.{at_offset, op_rest}
 use Rattle.wm_decode.specs.Decoding.{IsFloatByte}
@@ -84,7 +84,7 @@ FineOp (Bad w) = Unit {0}
 pub fresh_32 : HasRoom 32 fresh
 fresh_32 = fresh_room 32 (omega arith)
 
-immediates_sound : (kind : Kind) → SoundOp (immediates kind)
+immediates_sound : (kind : Immediates) → SoundOp (immediates kind)
 immediates_sound k.Block = tt
 immediates_sound k.Loop = tt
 immediates_sound k.If = tt

@@ -5,28 +5,28 @@ use Rattle.wm_syntax.specs.declared.why.Why.{Why}
 use Rattle.wm_syntax.specs.declared.why.Why.TheVariants as why
 use Rattle.wm_decode.specs.declared.machine.NameKind.{NameKind}
 use Rattle.wm_decode.specs.declared.refusal.Refusal.{Refusal}
-use Rattle.wm_decode.specs.Parts.{Part}
-use Rattle.wm_decode.specs.Runs.{named}
-use Rattle.wm_decode.specs.Live.{Live, MayRunOut, MayRunOutAt}
+use Rattle.wm_decode.specs.Items.{Item}
+use Rattle.wm_decode.specs.exact.Runs.{name_item}
+use Rattle.wm_decode.specs.exact.Live.{Live, MayRunOutAtByte, MayRunOutAt}
 use Rattle.wm_decode.proofs.Ranges.{name_more}
 
 -- at the last byte of a name
-pub name_ends : {H : Type 0} (may : H → Part → Type 0) (kind : NameKind) (buffer piece : List ℕ) (from i : ℕ) (h : H) → from ≤ i → i < length piece
-    → (buffer ≢ []) ⊎ MayRunOutAt may (named kind (buffer ++ slice_range piece from (i + 1))) h
-    → (buffer ++ slice_range piece from i ≢ []) ⊎ MayRunOutAt may (named kind ((buffer ++ slice_range piece from i) ++ slice_index piece i ∷ [])) h
+pub name_ends : {H : Type 0} (may : H → Item → Type 0) (kind : NameKind) (buffer piece : List ℕ) (from i : ℕ) (h : H) → from ≤ i → i < length piece
+    → (buffer ≢ []) ⊎ MayRunOutAt may (name_item kind (buffer ++ slice_range piece from (i + 1))) h
+    → (buffer ++ slice_range piece from i ≢ []) ⊎ MayRunOutAt may (name_item kind ((buffer ++ slice_range piece from i) ++ slice_index piece i ∷ [])) h
 name_ends may kind buffer piece from i h order within (inl n) = inl (λ e. n (first buffer (slice_range piece from i) e))
   where
     first : (a b : List ℕ) → a ++ b ≡ [] → a ≡ []
     first [] b e = refl
     first (c ∷ a) b e = cc
-name_ends may kind buffer piece from i h order within (inr m) = inr (subst (λ y. MayRunOutAt may (named kind y) h) (sym (name_more buffer piece from i order within)) m)
+name_ends may kind buffer piece from i h order within (inr m) = inr (subst (λ y. MayRunOutAt may (name_item kind y) h) (sym (name_more buffer piece from i order within)) m)
 
 -- at the only byte of a piece
-pub only_byte : {H : Type 0} (may : H → Part → Type 0) (p q : Profile) (l m : Live H) (piece : List ℕ) (i c : ℕ) → p ≡ q → l ≡ m → i ≡ 0 → piece ≡ c ∷ []
-    → MayRunOut may p l (slice_index piece i) → MayRunOut may q m c
+pub only_byte : {H : Type 0} (may : H → Item → Type 0) (p q : Profile) (l m : Live H) (piece : List ℕ) (i c : ℕ) → p ≡ q → l ≡ m → i ≡ 0 → piece ≡ c ∷ []
+    → MayRunOutAtByte may p l (slice_index piece i) → MayRunOutAtByte may q m c
 only_byte may p q l m piece i c e f g h r =
     let at : slice_index piece i ≡ c = ap (slice_index piece) g ∙ ap (λ (y : List ℕ). slice_index y 0) h in
-    subst (λ x. MayRunOut may x m c) e (subst (λ x. MayRunOut may p x c) f (subst (MayRunOut may p l) at r))
+    subst (λ x. MayRunOutAtByte may x m c) e (subst (λ x. MayRunOutAtByte may p x c) f (subst (MayRunOutAtByte may p l) at r))
 
 abbrev no_bytes : List ℕ
 no_bytes = []

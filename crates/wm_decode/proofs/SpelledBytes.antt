@@ -21,16 +21,15 @@ use Rattle.wm_syntax.specs.Types.{SpellsU32, SpellsBytes, SpellsName, SpellsList
 use Rattle.wm_syntax.specs.Instructions.{SpellsImmediates, SpellsOp}
 use Rattle.wm_syntax.specs.Opcodes.{opcode}
 use Rattle.wm_syntax.specs.OpClasses.{class_of}
-use Rattle.wm_syntax.specs.ByteTable.{classes}
+use Rattle.wm_syntax.specs.exact.ByteTable.{classes}
 use Rattle.wm_syntax.specs.Modules.{Module}
 use Rattle.wm_syntax.proofs.OpTable.{found_simple}
 use Rattle.wm_decode.specs.Sections.{Sized, Section, ListSection, StartSection, Customs, SpellsCustom, header, SpellsDesc, SpellsImport, SpellsExport, SpellsRun, SpellsModule, kind_byte}
-use Rattle.wm_decode.specs.Parts.{Marks}
-use Rattle.wm_decode.specs.Grammar.{strict}
-use Rattle.wm_decode.specs.Grammar.{Module as Whole}
+use Rattle.wm_decode.specs.Items.{Marks}
+use Rattle.wm_decode.specs.Grammar.{strict, Module as Whole}
 use Rattle.wm_decode.specs.Flat.{SpellsOps, SpellsFlatGlobal, SpellsFlatElement, SpellsFlatCode, SpellsFlatSegment, FlatModule, InOrder, flat_sections, SpellsFlat}
 use Rattle.wm_decode.proofs.ByteLists.{bytes-append}
-use Rattle.wm_decode.proofs.Rules.{items_to}
+use Rattle.wm_decode.proofs.GrammarValues.{items_to}
 use Rattle.wm_decode.proofs.Nesting.{flat_to}
 use Rattle.wm_decode.proofs.OneModule.{module_of_two}
 

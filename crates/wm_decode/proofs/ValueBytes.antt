@@ -3,8 +3,8 @@ use Rattle.std.proofs.Common.{◌≡◌, ℕ, zero, suc, ◌<◌, ◌^◌, ◌�
 use Rattle.std.proofs.lemmas.Bool.{cond_both, eqb-true, eqb-false}
 use Rattle.wm_syntax.specs.declared.numbers.Step.{Step}
 use Rattle.wm_syntax.specs.declared.numbers.Step.TheVariants as step
-use Rattle.wm_syntax.specs.Partial.{Partial}
-use Rattle.wm_syntax.specs.Reading.{fresh, unsigned_push}
+use Rattle.wm_syntax.specs.inner.Numbers.{Partial}
+use Rattle.wm_syntax.specs.exact.Reading.{fresh, unsigned_push}
 use Rattle.wm_syntax.specs.Spelling.{Form, Byte, ◌▸◌}
 use Rattle.wm_syntax.specs.Types.{SpellsU32, SpellsValType, SpellsBounds, SpellsLimits, SpellsTableType, SpellsVar, SpellsGlobalType, type_byte}
 use Rattle.wm_syntax.specs.declared.why.Why.{Why}
@@ -17,7 +17,7 @@ use Rattle.wm_syntax.specs.declared.modules.ImportDesc.TheVariants as desc
 use Rattle.wm_syntax.specs.declared.modules.ExportKind.{ExportKind}
 use Rattle.wm_syntax.specs.declared.modules.ExportKind.TheVariants as kind
 use Rattle.wm_decode.specs.Sections.{SpellsDesc, SpellsRun, kind_byte}
-use Rattle.wm_decode.specs.Readings.{Goes}
+use Rattle.wm_decode.specs.exact.Readings.{Goes}
 use Rattle.wm_decode.specs.declared.machine.Plain.{Plain}
 use Rattle.wm_decode.specs.declared.machine.Plain.TheVariants as plain
 use Rattle.wm_decode.specs.declared.reading.Reading.{Reading}
@@ -28,16 +28,16 @@ use Rattle.wm_decode.specs.declared.values.InTableType.{InTableType}
 use Rattle.wm_decode.specs.declared.values.InTableType.TheVariants as table
 use Rattle.wm_decode.specs.declared.values.InGlobalType.{InGlobalType}
 use Rattle.wm_decode.specs.declared.values.InGlobalType.TheVariants as global
-use Rattle.wm_decode.specs.declared.values.InDesc.{InDesc}
-use Rattle.wm_decode.specs.declared.values.InDesc.TheVariants as import
-use Rattle.wm_decode.specs.declared.values.InTarget.{InTarget}
-use Rattle.wm_decode.specs.declared.values.InTarget.TheVariants as target
+use Rattle.wm_decode.specs.declared.values.InImportDesc.{InImportDesc}
+use Rattle.wm_decode.specs.declared.values.InImportDesc.TheVariants as import
+use Rattle.wm_decode.specs.declared.values.InExportDesc.{InExportDesc}
+use Rattle.wm_decode.specs.declared.values.InExportDesc.TheVariants as target
 use Rattle.wm_decode.specs.declared.values.InRun.{InRun}
 use Rattle.wm_decode.specs.declared.values.InRun.TheVariants as run
 use Rattle.wm_decode.specs.declared.values.InValue.{InValue}
 use Rattle.wm_decode.specs.declared.values.InValue.TheVariants as value
-use Rattle.wm_decode.specs.ValueSteps.{read_number, mapped, after_min, flag_step, limits_push, table_type_push, value_type_of, read_type, var_step, global_type_push, desc_kind_step, desc_push, target_kind_step, target_push, run_push, value_push}
-use Rattle.wm_decode.proofs.Next.{head_same, tail_same, not_nil}
+use Rattle.wm_decode.specs.exact.ValueSteps.{read_number, map_reading, after_min, flag_step, limits_push, table_type_push, value_type_of, read_type, var_step, global_type_push, desc_kind_step, desc_push, target_kind_step, target_push, run_push, value_push}
+use Rattle.wm_decode.proofs.FirstBytes.{head_same, tail_same, not_nil}
 use Rattle.wm_decode.proofs.Numbers.{Left, NumberNext, number_next, left_nil, fresh_number}
 use Rattle.wm_decode.proofs.Leaves.{IsReader}
 
@@ -209,7 +209,7 @@ abbrev pub Within : {R X Y : Type 0} → (R → X → Form ℕ) → (X → Y) �
 Within {R} {X} rest g r y b = (x : X) × (y ≡ g x) × rest r x b
 
 module _ {R S X Y : Type 0} (rest : R → X → Form ℕ) (g : X → Y) (outer : S → Y → Form ℕ) (f : R → S) (is : (r : R) (y : Y) (b : List ℕ) → outer (f r) y b ↔ Within rest g r y b) where
-  within_reads : (r : R) (c : ℕ) (q : Reading R X) → Reads rest r c q → (y : Y) (b : List ℕ) → Within rest g r y (c ∷ b) ↔ Goes outer (mapped f g q) y b
+  within_reads : (r : R) (c : ℕ) (q : Reading R X) → Reads rest r c q → (y : Y) (b : List ℕ) → Within rest g r y (c ∷ b) ↔ Goes outer (map_reading f g q) y b
   within_reads r c (More s) h y b = (
     λ i. (is s y b).1 (i.0, i.1, (h i.0 b).0 i.2),
     λ j. let i = (is s y b).0 j in (i.0, i.1, (h i.0 b).1 i.2),
@@ -310,7 +310,7 @@ pub global_reader : IsReader global_rest global_type_push
 global_reader = record { law = global_reads; some = global_some }
 
 -- what an import brings in
-abbrev pub desc_rest : InDesc → ImportDesc → Form ℕ
+abbrev pub desc_rest : InImportDesc → ImportDesc → Form ℕ
 desc_rest import.Kind d b = SpellsDesc d b
 desc_rest (import.Func r) d b = NumberThen r (Ends desc.Func d) b
 desc_rest (import.Table at) d b = Within table_rest desc.Table at d b
@@ -331,7 +331,7 @@ kind_from d (suc (suc zero)) b h = subst (λ y. SpellsDesc y (2 ∷ b)) (sym h.1
 kind_from d (suc (suc (suc zero))) b h = subst (λ y. SpellsDesc y (3 ∷ b)) (sym h.1) (with_byte 0x03 (SpellsGlobalType h.0) b h.2)
 kind_from d (suc (suc (suc (suc c)))) b h = absurd h
 
-desc_reads : (at : InDesc) (c : ℕ) → c < 2 ^ 8 → Reads desc_rest at c (desc_push at c)
+desc_reads : (at : InImportDesc) (c : ℕ) → c < 2 ^ 8 → Reads desc_rest at c (desc_push at c)
 desc_reads import.Kind c byte d b = (kind_to d c b, kind_from d c b)
 desc_reads (import.Func r) c byte d b = number_reads desc_rest c r import.Func (λ n. Done (desc.Func n)) (Ends desc.Func) (λ s x b. same) (λ n x b. same) byte d b
 desc_reads (import.Table at) c byte d b = within_reads table_rest desc.Table desc_rest import.Table (λ r y b. same) at c (table_type_push at c) (table_reads at c byte) d b
@@ -344,7 +344,7 @@ kind_some (desc.Table l) h = byte_some 0x01 (SpellsTableType l) h
 kind_some (desc.Memory l) h = byte_some 0x02 (SpellsLimits l) h
 kind_some (desc.Global g) h = byte_some 0x03 (SpellsGlobalType g) h
 
-desc_some : (at : InDesc) (d : ImportDesc) → desc_rest at d [] → ⊥
+desc_some : (at : InImportDesc) (d : ImportDesc) → desc_rest at d [] → ⊥
 desc_some import.Kind d h = kind_some d h
 desc_some (import.Func r) d h = number_some r (Ends desc.Func d) h
 desc_some (import.Table at) d h = table_some at h.0 h.2
@@ -355,7 +355,7 @@ desc_some (import.Global at) d h = global_some at h.0 h.2
 abbrev exporting : ExportKind → ℕ → ExportKind × ℕ
 exporting k n = (k, n)
 
-abbrev pub target_rest : InTarget → ExportKind × ℕ → Form ℕ
+abbrev pub target_rest : InExportDesc → ExportKind × ℕ → Form ℕ
 target_rest target.Kind t b = (Byte (kind_byte t.0) ▸ SpellsU32 t.1) b
 target_rest (target.Index k r) t b = NumberThen r (Ends (exporting k) t) b
 
@@ -383,11 +383,11 @@ target_from t (suc (suc zero)) b h = target_of kind.Memory t b h
 target_from t (suc (suc (suc zero))) b h = target_of kind.Global t b h
 target_from t (suc (suc (suc (suc c)))) b h = absurd h
 
-target_reads : (at : InTarget) (c : ℕ) → c < 2 ^ 8 → Reads target_rest at c (target_push at c)
+target_reads : (at : InExportDesc) (c : ℕ) → c < 2 ^ 8 → Reads target_rest at c (target_push at c)
 target_reads target.Kind c byte t b = (target_to t.0 t.1 c b, target_from t c b)
 target_reads (target.Index k r) c byte t b = number_reads target_rest c r (λ s. target.Index k s) (λ n. Done (k, n)) (Ends (exporting k)) (λ s x b. same) (λ n x b. same) byte t b
 
-target_some : (at : InTarget) (t : ExportKind × ℕ) → target_rest at t [] → ⊥
+target_some : (at : InExportDesc) (t : ExportKind × ℕ) → target_rest at t [] → ⊥
 target_some target.Kind t h = byte_some (kind_byte t.0) (SpellsU32 t.1) h
 target_some (target.Index k r) t h = number_some r (Ends (exporting k) t) h
 

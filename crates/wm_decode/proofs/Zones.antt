@@ -1,6 +1,6 @@
 -- The bytes of code entries and those outside.
 use Rattle.std.proofs.Common.{◌≡◌, ℕ, suc, ◌+◌, ◌≤◌, [], ◌∷◌, length, arith}
-use Rattle.wm_decode.specs.Parts.{Zone, outside, name, entry, closing, Marks}
+use Rattle.wm_decode.specs.Items.{Zone, outside, name, entry, closing, Marks}
 use Rattle.wm_decode.specs.Fronts.{outside_bytes, inside_bytes, entry_more, entry_after, entry_bytes}
 
 -- a byte by its zone

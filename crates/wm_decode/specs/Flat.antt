@@ -1,4 +1,4 @@
--- The flat value of a module (section 5.5): what its parts tell in order, an expression as its ops and locals as runs.
+-- The flat value of a module (section 5.5): what its items tell in order, an expression as its ops and locals as runs.
 use Rattle.std.specs.Prelude.{◌≡◌, ℕ, ◌<◌, ◌^◌, List, [], ◌∷◌, ◌++◌, Option, Some, None, length, map, flat_map}
 use Rattle.std.specs.List.{AllByRecursion, AllZip}
 use Rattle.wm_syntax.specs.declared.types.ValType.{ValType}
@@ -13,9 +13,10 @@ use Rattle.wm_syntax.specs.Types.{Signature, SpellsU32, SpellsList, SpellsBytes,
 use Rattle.wm_syntax.specs.Instructions.{HasOps, SpellsOp}
 use Rattle.wm_syntax.specs.Modules.{Import, Function, GlobalDef, Export, Element, Segment, Module, constant}
 use Rattle.wm_syntax.specs.Profiles.{IsOpOf}
-use Rattle.wm_decode.specs.Sections.{Sized, ListSection, StartSection, Customs, SpellsImport, SpellsExport, SpellsRun, expansion, header}
+use Rattle.wm_decode.specs.Sections.{Sized, ListSection, StartSection, Customs, SpellsImport, SpellsExport, SpellsRun, header}
+use Rattle.wm_syntax.specs.Modules.{locals_of}
 use Rattle.wm_decode.specs.Grammar.{IsExpression}
-use Rattle.wm_decode.specs.Parts.{Part, new_type, param, result_count, one_result, import_module, import_name, import_desc, function, table, memory, global, const_op, export_name, export, start, element, element_function, body, locals, body_op, segment, data_byte}
+use Rattle.wm_decode.specs.Items.{Item, new_type, param, result_count, one_result, import_module, import_name, import_desc, function, table, memory, global, const_op, export_name, export, start, element, element_function, body, locals, body_op, segment, data_byte}
 
 -- a global: its type, and the ops of its initialiser (section 5.5.9)
 pub record FlatGlobal : Type 0 where
@@ -54,46 +55,46 @@ pub record FlatModule : Type 0 where
   pub codes : List FlatCode
   pub segments : List FlatSegment
 
--- The parts of each member, in the order of its bytes.
-abbrev pub type_parts : Signature → List Part
-type_parts f = new_type ∷ map param f.params ++ result_count (length f.results) ∷ map one_result f.results
+-- The items of each member, in the order of its bytes.
+abbrev pub type_items : Signature → List Item
+type_items f = new_type ∷ map param f.params ++ result_count (length f.results) ∷ map one_result f.results
 
-abbrev pub import_parts : Import → List Part
-import_parts i = import_module i.module_name ∷ import_name i.item_name ∷ import_desc i.desc ∷ []
+abbrev pub import_items : Import → List Item
+import_items i = import_module i.module_name ∷ import_name i.item_name ∷ import_desc i.desc ∷ []
 
-abbrev pub global_parts : FlatGlobal → List Part
-global_parts g = global g.ty ∷ map const_op g.init
+abbrev pub global_items : FlatGlobal → List Item
+global_items g = global g.ty ∷ map const_op g.init
 
-abbrev pub export_parts : Export → List Part
-export_parts e = export_name e.name ∷ export e.kind e.index ∷ []
+abbrev pub export_items : Export → List Item
+export_items e = export_name e.name ∷ export e.kind e.index ∷ []
 
-abbrev pub start_parts : Option ℕ → List Part
-start_parts None = []
-start_parts (Some x) = start x ∷ []
+abbrev pub start_items : Option ℕ → List Item
+start_items None = []
+start_items (Some x) = start x ∷ []
 
-abbrev pub element_parts : FlatElement → List Part
-element_parts e = element e.table ∷ map const_op e.offset ++ map element_function e.functions
+abbrev pub element_items : FlatElement → List Item
+element_items e = element e.table ∷ map const_op e.offset ++ map element_function e.functions
 
-abbrev pub code_parts : FlatCode → List Part
-code_parts c = body ∷ map (λ r. locals r.0 r.1) c.runs ++ map body_op c.ops
+abbrev pub code_items : FlatCode → List Item
+code_items c = body ∷ map (λ r. locals r.0 r.1) c.runs ++ map body_op c.ops
 
-abbrev pub segment_parts : FlatSegment → List Part
-segment_parts s = segment s.memory ∷ map const_op s.offset ++ map data_byte s.bytes
+abbrev pub segment_items : FlatSegment → List Item
+segment_items s = segment s.memory ∷ map const_op s.offset ++ map data_byte s.bytes
 
--- the parts of a module, in order
-abbrev pub flat_parts : FlatModule → List Part
-flat_parts v =
-    flat_map type_parts v.types
-    ++ (flat_map import_parts v.imports
+-- the items of a module, in order
+abbrev pub flat_items : FlatModule → List Item
+flat_items v =
+    flat_map type_items v.types
+    ++ (flat_map import_items v.imports
     ++ (map function v.functions
     ++ (map table v.tables
     ++ (map memory v.memories
-    ++ (flat_map global_parts v.globals
-    ++ (flat_map export_parts v.exports
-    ++ (start_parts v.start
-    ++ (flat_map element_parts v.elements
-    ++ (flat_map code_parts v.codes
-    ++ flat_map segment_parts v.segments)))))))))
+    ++ (flat_map global_items v.globals
+    ++ (flat_map export_items v.exports
+    ++ (start_items v.start
+    ++ (flat_map element_items v.elements
+    ++ (flat_map code_items v.codes
+    ++ flat_map segment_items v.segments)))))))))
 
 -- an expression of the profile: its ops, each spelled, joined (section 5.4.6)
 abbrev pub SpellsOps : Profile → List Op → Form ℕ
@@ -150,7 +151,7 @@ IsIndexOf f x = x ≡ f.type_index
 
 -- its locals, run by run, and its body's ops, which are those of its instructions and the end;
 abbrev pub IsCodeOf : Function → FlatCode → Type 0
-IsCodeOf f c = (expansion c.runs ≡ f.locals) × (length f.locals < 2 ^ 32) × (HasOps f.body ▸ Exactly (op.End ∷ [])) c.ops
+IsCodeOf f c = (locals_of c.runs ≡ f.locals) × (length f.locals < 2 ^ 32) × (HasOps f.body ▸ Exactly (op.End ∷ [])) c.ops
 
 -- a global, an element segment and a data segment, with the ops of a constant.
 abbrev pub IsGlobalOf : GlobalDef → FlatGlobal → Type 0

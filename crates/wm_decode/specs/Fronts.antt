@@ -4,7 +4,7 @@ use Rattle.wm_syntax.specs.declared.profile.Profile.{Profile}
 use Rattle.wm_syntax.specs.declared.why.Why.{Why}
 use Rattle.wm_syntax.specs.declared.types.ValType.{ValType}
 use Rattle.wm_decode.specs.declared.state.Decoder.{Decoder}
-use Rattle.wm_decode.specs.Parts.{Part, locals, Zone, outside, name, entry, closing, Marks, parts_of}
+use Rattle.wm_decode.specs.Items.{Item, locals, Zone, outside, name, entry, closing, Marks, items_at}
 use Rattle.wm_decode.specs.Grammar.{Module, Items, loose}
 use Rattle.wm_decode.specs.Sinks.{all_taken}
 use Rattle.wm_decode.specs.Decoding.{Setting, held_in}
@@ -51,22 +51,22 @@ abbrev pub entry_bytes : Marks → ℕ
 entry_bytes k = entry_after 0 k
 
 -- The bytes so far end inside the expression of a code entry: one is at hand, and whatever comes, sizes, names and the
--- number of code entries aside, no run of locals is the next part.
+-- number of code entries aside, no run of locals is the next item.
 pub record InExpression (p : Profile) (b : List ℕ) : Type 0 where
   pub marks : Marks
   pub front : IsFront p b marks
   pub at_hand : 0 < entry_bytes marks
-  pub no_run : (more : List ℕ) (later : Marks) (n : ℕ) (t : ValType) (rest : List Part)
+  pub no_run : (more : List ℕ) (later : Marks) (n : ℕ) (t : ValType) (rest : List Item)
       → Module loose p (b ++ more) (marks ++ later)
-      → parts_of later ≡ locals n t ∷ rest → ⊥
+      → items_at later ≡ locals n t ∷ rest → ⊥
 
 -- the bytes so far of a name that goes on, which is all that a decoder keeps of the input
 abbrev pub name_in : {S : Type 0} → Decoder S → List ℕ
 name_in d = d.name.items
 
--- What the bytes so far tell, which may still be refused: where each lies, which parts are complete in them, and what a
+-- What the bytes so far tell, which may still be refused: where each lies, which items are complete in them, and what a
 -- sink holds that took these.
-pub record Tells {H : Type 0} (after : H → Part → Result H Why) (p : Profile) (first : H) (bytes : List ℕ) (h : H)
+pub record Tells {H : Type 0} (after : H → Item → Result H Why) (p : Profile) (first : H) (bytes : List ℕ) (h : H)
     : Type 0 where
   pub marks : Marks
   pub front : IsFront p bytes marks
@@ -74,10 +74,10 @@ pub record Tells {H : Type 0} (after : H → Part → Result H Why) (p : Profile
   pub alone : (other : Marks) → IsFront p bytes other → other ≡ marks
   -- and those of each whole input that begins so
   pub begins : (more : List ℕ) (items : Marks) → Items p (bytes ++ more) items → marks ≡ take (length bytes) items
-  pub taken : all_taken after first (parts_of marks) ≡ Ok h
+  pub taken : all_taken after first (items_at marks) ≡ Ok h
 
 -- What a decoder that has refused nothing holds of the bytes so far.
-pub record SoFar {S H : Type 0} (held : S → H) (after : H → Part → Result H Why) (d : Decoder S) (s : Setting H)
+pub record SoFar {S H : Type 0} (held : S → H) (after : H → Item → Result H Why) (d : Decoder S) (s : Setting H)
     (bytes : List ℕ) : Type 0 where
   pub tells : Tells after s.profile s.first bytes (held_in held d)
   pub name : length (name_in d) ≡ unfinished_name tells.marks

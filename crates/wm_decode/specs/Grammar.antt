@@ -1,4 +1,4 @@
--- The flat grammar of a whole input (section 5.5): its parts one after another, each beside the byte at which it is
+-- The flat grammar of a whole input (section 5.5): its items one after another, each beside the byte at which it is
 -- complete.
 --
 -- Where all is demanded, sizes, names and the number of code entries are as the format has them. Where it is not,
@@ -14,11 +14,11 @@ use Rattle.wm_syntax.specs.declared.types.ValType.{ValType}
 use Rattle.wm_syntax.specs.declared.profile.Profile.{Profile}
 use Rattle.wm_syntax.specs.Spelling.{Byte as OneByte, ◌▸◌}
 use Rattle.wm_syntax.specs.Types.{SpellsU32, SpellsValType, SpellsLimits, SpellsTableType, SpellsGlobalType}
-use Rattle.wm_syntax.specs.Instructions.{SpellsOp}
+use Rattle.wm_syntax.specs.Instructions.{SpellsOp, openings, endings}
 use Rattle.wm_syntax.specs.Profiles.{IsOpOf}
 use Rattle.wm_decode.specs.Sections.{SpellsDesc, SpellsRun, kind_byte, header}
-use Rattle.wm_decode.specs.Parts.{Part, new_type, param, result_count, one_result, import_module, import_name, import_desc, function, table, memory, global, const_op, export_name, export, start, element, element_function, body, locals, body_op, segment, data_byte}
-use Rattle.wm_decode.specs.Shapes.{Shape, Empty, Byte, Literal, Then, Times, Leaf, Number, Vector, Index, Name, Sized, Filled, Entry, nothing_at, ending}
+use Rattle.wm_decode.specs.Items.{Item, new_type, param, result_count, one_result, import_module, import_name, import_desc, function, table, memory, global, const_op, export_name, export, start, element, element_function, body, locals, body_op, segment, data_byte}
+use Rattle.wm_decode.specs.MarkedForms.{MarkedForm, Empty, Byte, Literal, Then, Times, Leaf, Number, Vector, Index, Name, Sized, Filled, Entry, nothing_at, marks_ending}
 
 -- these are as the format has them, or are left open
 abbrev pub strict : Type 0
@@ -28,33 +28,20 @@ abbrev pub loose : Type 0
 loose = ⊥
 
 -- value types and function types (sections 5.3.1, 5.3.3)
-abbrev pub ValueType : (ValType → Part) → Shape
+abbrev pub ValueType : (ValType → Item) → MarkedForm
 ValueType = Leaf SpellsValType
 
-abbrev pub ResultTypes : Shape
+abbrev pub ResultTypes : MarkedForm
 ResultTypes = Number (λ n. Some (result_count n)) (λ n. Times n (ValueType one_result))
 
-abbrev pub FunctionType : Shape
+abbrev pub FunctionType : MarkedForm
 FunctionType = Then (Byte 0x60 (Some new_type)) (Then (Vector (ValueType param)) ResultTypes)
 
 -- imports (section 5.5.5)
-abbrev pub Import : Type 0 → Shape
+abbrev pub Import : Type 0 → MarkedForm
 Import demanded =
     Then (Name demanded (λ text. Some (import_module text)))
     (Then (Name demanded (λ text. Some (import_name text))) (Leaf SpellsDesc import_desc))
-
--- how many lists of instructions these ops open, and how many they close
-abbrev pub opens : List Op → ℕ
-opens [] = 0
-opens (op.Block t ∷ ops) = 1 + opens ops
-opens (op.Loop t ∷ ops) = 1 + opens ops
-opens (op.If t ∷ ops) = 1 + opens ops
-opens (_ ∷ ops) = opens ops
-
-abbrev pub closes : List Op → ℕ
-closes [] = 0
-closes (op.End ∷ ops) = 1 + closes ops
-closes (_ ∷ ops) = closes ops
 
 -- BrTable(n) is followed by n + 1 labels, and no label stands elsewhere
 abbrev pub HasLabels : ℕ → List Op → Type 0
@@ -66,56 +53,56 @@ HasLabels zero (op.Label l ∷ ops) = ⊥
 HasLabels zero (op.BrTable n ∷ ops) = HasLabels (suc n) ops
 HasLabels zero (_ ∷ ops) = HasLabels zero ops
 
--- The ops of an expression (section 5.4.6) up to the end that closes it, else anywhere: as many ends as openings
+-- The ops of an expression (section 5.4.6) up to the end that endings it, else anywhere: as many ends as openings
 -- and one more, and in no shorter front so many.
 pub record IsExpression (ops : List Op) : Type 0 where
   pub labels : HasLabels 0 ops
-  pub closed : closes ops ≡ opens ops + 1
-  pub first : (front back : List Op) → ops ≡ front ++ back → (back ≡ []) ⊎ (closes front ≤ opens front)
+  pub closed : endings ops ≡ openings ops + 1
+  pub first : (front back : List Op) → ops ≡ front ++ back → (back ≡ []) ⊎ (endings front ≤ openings front)
 
 -- the ops in order, each complete at its last byte
-abbrev pub EachOp : (Op → Part) → List Op → Shape
+abbrev pub EachOp : (Op → Item) → List Op → MarkedForm
 EachOp part [] = Empty
-EachOp part (o ∷ ops) = Then (λ b k. SpellsOp o b × (k ≡ ending (Some (part o)) b)) (EachOp part ops)
+EachOp part (o ∷ ops) = Then (λ b k. SpellsOp o b × (k ≡ marks_ending (Some (part o)) b)) (EachOp part ops)
 
-abbrev pub Expression : Profile → (Op → Part) → Shape
+abbrev pub Expression : Profile → (Op → Item) → MarkedForm
 Expression p part b k = (ops : List Op) × IsExpression ops × AllByRecursion (IsOpOf p) ops × EachOp part ops b k
 
 -- globals (section 5.5.9)
-abbrev pub Global : Profile → Shape
+abbrev pub Global : Profile → MarkedForm
 Global p = Then (Leaf SpellsGlobalType global) (Expression p const_op)
 
 -- exports (section 5.5.10)
-abbrev pub Target : Shape
+abbrev pub Target : MarkedForm
 Target = Leaf {X = ExportKind × ℕ} (λ t. OneByte (kind_byte t.0) ▸ SpellsU32 t.1) (λ t. export t.0 t.1)
 
-abbrev pub Export : Type 0 → Shape
+abbrev pub Export : Type 0 → MarkedForm
 Export demanded = Then (Name demanded (λ text. Some (export_name text))) Target
 
 -- element segments (section 5.5.12)
-abbrev pub Element : Profile → Shape
+abbrev pub Element : Profile → MarkedForm
 Element p = Then (Index element) (Then (Expression p const_op) (Vector (Index element_function)))
 
 -- code (section 5.5.13): a size, and in so many bytes runs of locals and an expression
-abbrev pub Run : Shape
+abbrev pub Run : MarkedForm
 Run = Leaf SpellsRun (λ r. locals r.0 r.1)
 
-abbrev pub Code : Type 0 → Profile → Shape
+abbrev pub Code : Type 0 → Profile → MarkedForm
 Code demanded p = Number (λ n. Some body) (λ n. Sized demanded n (Entry (Then (Vector Run) (Expression p body_op))))
 
--- data segments (section 5.5.14): each byte is a part
-abbrev pub DataByte : Shape
+-- data segments (section 5.5.14): each byte is an item
+abbrev pub DataByte : MarkedForm
 DataByte = Leaf (λ c b. (b ≡ c ∷ []) × (c < 2 ^ 8)) data_byte
 
-abbrev pub Segment : Profile → Shape
+abbrev pub Segment : Profile → MarkedForm
 Segment p = Then (Index segment) (Then (Expression p const_op) (Vector DataByte))
 
 -- so many as a number says, and where all is demanded just f
-abbrev pub Paired : Type 0 → ℕ → Shape → Shape
+abbrev pub Paired : Type 0 → ℕ → MarkedForm → MarkedForm
 Paired demanded f P = Number nothing_at (λ n b k. (demanded → n ≡ f) × Times n P b k)
 
 -- The contents of the section with this id, where there are f functions, each with a code entry.
-abbrev pub Contents : Type 0 → Profile → (f id : ℕ) → Shape
+abbrev pub Contents : Type 0 → Profile → (f id : ℕ) → MarkedForm
 Contents demanded p f (suc zero) = Vector FunctionType
 Contents demanded p f (suc (suc zero)) = Vector (Import demanded)
 Contents demanded p f (suc (suc (suc zero))) = Paired demanded f (Index function)
@@ -130,14 +117,14 @@ Contents demanded p f (suc (suc (suc (suc (suc (suc (suc (suc (suc (suc (suc zer
 Contents demanded p f _ = λ b k. ⊥
 
 -- a section (section 5.5.2): its id, its size, and contents of so many bytes
-abbrev pub Section : Type 0 → Profile → (f id : ℕ) → Shape
+abbrev pub Section : Type 0 → Profile → (f id : ℕ) → MarkedForm
 Section demanded p f id = Then (Byte id None) (Number nothing_at (λ n. Sized demanded n (Contents demanded p f id)))
 
--- a custom section (section 5.5.3): a name, and then any bytes; it gives no part
-abbrev pub Custom : Type 0 → Shape
+-- a custom section (section 5.5.3): a name, and then any bytes; it gives no item
+abbrev pub Custom : Type 0 → MarkedForm
 Custom demanded = Then (Byte 0 None) (Number nothing_at (λ n. Filled demanded n (Name demanded (λ text. None))))
 
-abbrev pub Customs : Type 0 → Shape
+abbrev pub Customs : Type 0 → MarkedForm
 Customs demanded b k = (n : ℕ) × Times n (Custom demanded) b k
 
 -- a section may be left out; of functions and of code only where there is no function
@@ -145,19 +132,19 @@ abbrev pub MayMiss : (f id : ℕ) → Type 0
 MayMiss f id = (id ≡ 3) ⊎ (id ≡ 10) → f ≡ 0
 
 -- the section, or an empty list and no bytes
-abbrev pub Optional : Type 0 → Profile → (f id : ℕ) → Shape
+abbrev pub Optional : Type 0 → Profile → (f id : ℕ) → MarkedForm
 Optional demanded p f id b k = Section demanded p f id b k ⊎ (MayMiss f id × Empty b k)
 
 -- the sections from one id on, so many, in order, with custom sections before, between and after them
-abbrev pub Chain : Type 0 → Profile → (f count id : ℕ) → Shape
+abbrev pub Chain : Type 0 → Profile → (f count id : ℕ) → MarkedForm
 Chain demanded p f zero id = Customs demanded
 Chain demanded p f (suc count) id =
     Then (Customs demanded) (Then (Optional demanded p f id) (Chain demanded p f count (suc id)))
 
 -- a module (section 5.5.15): the magic number and the version, and the sections with ids 1 to 11
-abbrev pub Module : Type 0 → Profile → Shape
+abbrev pub Module : Type 0 → Profile → MarkedForm
 Module demanded p b k = (f : ℕ) × Then (Literal header) (Chain demanded p f 11 1) b k
 
 -- the bytes are a whole input, of which so much is said beside each byte
-abbrev pub Items : Profile → Shape
+abbrev pub Items : Profile → MarkedForm
 Items p = Module strict p

@@ -1,11 +1,11 @@
 //! What one byte does within a code entry (section 5.5.13).
 
 ghost use Rattle.std.specs.Prelude.{◌≡◌};
-ghost use Rattle.wm_decode.specs.ComponentSteps.{no_entry, runs_or_body, run_count_step, run_step, after_op, body_step, entry_step, entry_framed, entry_of, entry_size_step};
+ghost use Rattle.wm_decode.specs.exact.MemberSteps.{no_entry, runs_or_body, runs_count_step, run_step, entry_after_op, body_step, entry_step, member_in_entry, member_of_entry, entry_size_step};
 
-use crate::component::{InComponent, InEntry};
 use crate::expressions::{InExpression, expression_byte};
 use crate::machine::{Event, Plain};
+use crate::member::{InEntry, InMember};
 use crate::reading::Reading::{Bad, Done, More};
 use crate::values::{InRun, run_byte};
 use wm_syntax::numbers::{Num32, Step};
@@ -15,7 +15,7 @@ use wm_syntax::why::Why;
 fn no_entry(why: Why) -> (InEntry, Event)
     ensures { result ≡ no_entry why }
 {
-    (InEntry::Failed(why), Event::Quiet)
+    (InEntry::Failed(why), Event::Nothing)
 }
 
 fn runs_or_body(left: u32) -> InEntry
@@ -32,11 +32,11 @@ fn runs_or_body(left: u32) -> InEntry
 }
 
 fn run_count(mut number: Num32, byte: u8) -> (InEntry, Event)
-    ensures { result ≡ run_count_step number byte }
+    ensures { result ≡ runs_count_step number byte }
 {
     match number.push(byte) {
-        Step::More => (InEntry::RunCount(number), Event::Quiet),
-        Step::Done(n) => (runs_or_body(n), Event::Quiet),
+        Step::More => (InEntry::RunCount(number), Event::Nothing),
+        Step::Done(n) => (runs_or_body(n), Event::Nothing),
         Step::Bad => no_entry(Why::BadNumber),
     }
 }
@@ -45,14 +45,17 @@ fn run(more: u32, at: InRun, byte: u8) -> (InEntry, Event)
     ensures { result ≡ run_step more at byte }
 {
     match run_byte(at, byte) {
-        More(at) => (InEntry::Run { more, at }, Event::Quiet),
-        Done((count, ty)) => (runs_or_body(more), Event::Gives(Plain::Locals(count, ty))),
+        More(at) => (InEntry::Run { more, at }, Event::Nothing),
+        Done((count, ty)) => (
+            runs_or_body(more),
+            Event::Complete(Plain::Locals(count, ty)),
+        ),
         Bad(why) => no_entry(why),
     }
 }
 
 fn after_op(at: InExpression) -> InEntry
-    ensures { result ≡ after_op at }
+    ensures { result ≡ entry_after_op at }
 {
     match at {
         InExpression::Over => InEntry::Over,
@@ -66,8 +69,8 @@ fn body(profile: Profile, at: InExpression, byte: u8) -> (InEntry, Event)
 {
     let (next, op) = expression_byte(profile, at, byte);
     let event = match op {
-        Some(op) => Event::Gives(Plain::BodyOp(op)),
-        None => Event::Quiet,
+        Some(op) => Event::Complete(Plain::BodyOp(op)),
+        None => Event::Nothing,
     };
     (after_op(next), event)
 }
@@ -83,34 +86,34 @@ fn entry_byte(profile: Profile, at: InEntry, byte: u8) -> (InEntry, Event)
     }
 }
 
-// the place in a code entry with so many bytes left
-fn entry_framed(left: u32, at: InEntry) -> InComponent
-    ensures { result ≡ entry_framed left at }
+// The place in a code entry with so many bytes left
+fn entry_framed(left: u32, at: InEntry) -> InMember
+    ensures { result ≡ member_in_entry left at }
 {
     match at {
-        InEntry::Failed(why) => InComponent::Failed(why),
-        InEntry::Over if left == 0 => InComponent::Over,
-        InEntry::Over => InComponent::Failed(Why::BodyEnd),
-        _ if left == 0 => InComponent::Failed(Why::BodyEnd),
-        _ => InComponent::Entry { more: left - 1, at },
+        InEntry::Failed(why) => InMember::Failed(why),
+        InEntry::Over if left == 0 => InMember::Over,
+        InEntry::Over => InMember::Failed(Why::BodyEnd),
+        _ if left == 0 => InMember::Failed(Why::BodyEnd),
+        _ => InMember::Entry { more: left - 1, at },
     }
 }
 
-pub(crate) fn entry_size(mut number: Num32, byte: u8) -> (InComponent, Event)
+pub(crate) fn entry_size(mut number: Num32, byte: u8) -> (InMember, Event)
     ensures { result ≡ entry_size_step number byte }
 {
     match number.push(byte) {
-        Step::More => (InComponent::EntrySize(number), Event::Quiet),
+        Step::More => (InMember::EntrySize(number), Event::Nothing),
         Step::Done(n) => {
             let at = InEntry::RunCount(Num32::new());
-            (entry_framed(n, at), Event::Gives(Plain::Body))
+            (entry_framed(n, at), Event::Complete(Plain::Body))
         }
-        Step::Bad => (InComponent::Failed(Why::BadNumber), Event::Quiet),
+        Step::Bad => (InMember::Failed(Why::BadNumber), Event::Nothing),
     }
 }
 
-pub(crate) fn entry(profile: Profile, more: u32, at: InEntry, byte: u8) -> (InComponent, Event)
-    ensures { result ≡ entry_of profile more at byte }
+pub(crate) fn entry(profile: Profile, more: u32, at: InEntry, byte: u8) -> (InMember, Event)
+    ensures { result ≡ member_of_entry profile more at byte }
 {
     let (at, event) = entry_byte(profile, at, byte);
     (entry_framed(more, at), event)

@@ -1,7 +1,7 @@
 //! One expression (section 5.4.6), byte by byte: ops up to the end that closes it.
 
 ghost use Rattle.std.specs.Prelude.{◌≡◌};
-ghost use Rattle.wm_decode.specs.ExpressionSteps.{after_label, after_op, ends, expression_step, failed, label_step, op_step, opened, start};
+ghost use Rattle.wm_decode.specs.exact.ExpressionSteps.{after_label, after_op, ends, expression_step, expression_failed, label_step, op_step, at_next_op, start};
 
 use crate::ops::InOp;
 use crate::reading::Reading;
@@ -30,9 +30,9 @@ pub(crate) enum InExpression {
     Failed(Why),
 }
 
-// before an op
+// Before an op
 fn opened(depth: u32) -> InExpression
-    ensures { result ≡ opened depth }
+    ensures { result ≡ at_next_op depth }
 {
     let at = InOp::First;
     InExpression::Op { depth, at }
@@ -79,7 +79,7 @@ fn after_label(depth: u32, left: u32) -> InExpression
 }
 
 fn failed(why: Why) -> (InExpression, Option<Op>)
-    ensures { result ≡ failed why }
+    ensures { result ≡ expression_failed why }
 {
     (InExpression::Failed(why), None)
 }

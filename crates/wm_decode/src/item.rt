@@ -1,8 +1,10 @@
+//! The items that a decoder gives.
+
 use wm_syntax::instructions::Op;
 use wm_syntax::modules::ExportKind;
 use wm_syntax::types::{GlobalType, Limits, ValType};
 
-/// A part of a module, as it is complete at a byte. Names and data bytes are lent: they lie in the
+/// An item of a module, as it is complete at a byte. Names and data bytes are lent: they lie in the
 /// piece that was fed, or in the decoder where a name was cut.
 #[derive(Clone, Copy, Debug)]
 pub enum Item<'a> {

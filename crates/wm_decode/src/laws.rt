@@ -6,8 +6,8 @@ ghost use Rattle.wm_syntax.specs.declared.profile.Profile.TheVariants.{Two};
 ghost use Rattle.wm_syntax.specs.Spelling.{AreBytes};
 ghost use Rattle.wm_syntax.specs.Modules.{Module as ModuleValue};
 ghost use Rattle.wm_syntax.specs.Profiles.{IsOf};
-ghost use Rattle.wm_decode.specs.Flat.{FlatModule, IsFlatOf, SpellsFlat, flat_parts};
-ghost use Rattle.wm_decode.specs.Parts.{Marks, data_byte, parts_of};
+ghost use Rattle.wm_decode.specs.Flat.{FlatModule, IsFlatOf, SpellsFlat, flat_items};
+ghost use Rattle.wm_decode.specs.Items.{Marks, data_byte, items_at};
 ghost use Rattle.wm_decode.specs.Sections.{SpellsModule};
 ghost use Rattle.wm_decode.specs.Sinks.{all_taken, and_then};
 ghost use Rattle.wm_decode.specs.Grammar.{Items};
@@ -37,13 +37,13 @@ pub fn slices_join<S: Sink>()
         ≡ and_then (all_taken S.after h (map data_byte a)) (λ g. all_taken S.after g (map data_byte b)) }
 {}
 
-/// A whole input has the parts of a flat value with its bytes, and what has the bytes of a flat value is a whole input
-/// with its parts.
+/// A whole input has the items of a flat value with its bytes, and what has the bytes of a flat value is a whole input
+/// with its items.
 pub fn items_are_flat()
     ensures read { (p : Profile) (b : List ℕ) (k : Marks) → Items p b k
-        → (v : FlatModule) × SpellsFlat p v b × (parts_of k ≡ flat_parts v) }
+        → (v : FlatModule) × SpellsFlat p v b × (items_at k ≡ flat_items v) }
     ensures spelled { (p : Profile) (v : FlatModule) (b : List ℕ) → SpellsFlat p v b
-        → (k : Marks) × Items p b k × (parts_of k ≡ flat_parts v) }
+        → (k : Marks) × Items p b k × (items_at k ≡ flat_items v) }
 {}
 
 /// The bytes of a module are those of a flat value of it, and the other way round.
@@ -54,18 +54,18 @@ pub fn module_is_flat()
         → SpellsModule m b × IsOf p m }
 {}
 
-/// What spells a module is a whole input with the parts of a flat value of the module, and such an input spells it.
+/// What spells a module is a whole input with the items of a flat value of the module, and such an input spells it.
 pub fn items_are_module()
     ensures items { (p : Profile) (m : ModuleValue) (b : List ℕ) → SpellsModule m b → IsOf p m
-        → (k : Marks) × (v : FlatModule) × Items p b k × IsFlatOf m v × (parts_of k ≡ flat_parts v) }
+        → (k : Marks) × (v : FlatModule) × Items p b k × IsFlatOf m v × (items_at k ≡ flat_items v) }
     ensures nested { (p : Profile) (m : ModuleValue) (v : FlatModule) (b : List ℕ) (k : Marks)
-        → Items p b k → IsFlatOf m v → parts_of k ≡ flat_parts v → SpellsModule m b × IsOf p m }
+        → Items p b k → IsFlatOf m v → items_at k ≡ flat_items v → SpellsModule m b × IsOf p m }
 {}
 
-/// The parts determine the flat value and the module.
-pub fn parts_determine_module()
-    ensures flat { (v w : FlatModule) → flat_parts v ≡ flat_parts w → v ≡ w }
-    ensures nested { (m n : ModuleValue) (v w : FlatModule) → IsFlatOf m v → IsFlatOf n w → flat_parts v ≡ flat_parts w
+/// The items determine the flat value and the module.
+pub fn items_determine_module()
+    ensures flat { (v w : FlatModule) → flat_items v ≡ flat_items w → v ≡ w }
+    ensures nested { (m n : ModuleValue) (v w : FlatModule) → IsFlatOf m v → IsFlatOf n w → flat_items v ≡ flat_items w
         → m ≡ n }
 {}
 

@@ -1,9 +1,11 @@
-ghost use Rattle.std.specs.Prelude.{◌≡◌, ◌∷◌, []};
-ghost use Rattle.wm_decode.specs.Sinks.{item_parts};
-ghost use Rattle.wm_decode.specs.Runs.{plain_part};
+//! Where in the input the next byte stands, and what a byte completes.
 
-use crate::component::{Component, InComponent};
+ghost use Rattle.std.specs.Prelude.{◌≡◌, ◌∷◌, []};
+ghost use Rattle.wm_decode.specs.Sinks.{items_for};
+ghost use Rattle.wm_decode.specs.exact.Runs.{plain_item};
+
 use crate::item::Item;
+use crate::member::{InMember, SectionKind};
 use wm_syntax::instructions::Op;
 use wm_syntax::modules::{ExportKind, ImportDesc};
 use wm_syntax::numbers::Num32;
@@ -19,7 +21,7 @@ pub(crate) enum NameKind {
     Export,
 }
 
-/// A part of a module that holds no bytes of the input.
+/// An item of a module that holds no bytes of the input.
 #[derive(Clone, Copy, Debug)]
 pub(crate) enum Plain {
     NewType,
@@ -43,7 +45,7 @@ pub(crate) enum Plain {
 }
 
 fn import(desc: ImportDesc) -> Item<'static>
-    ensures { item_parts result ≡ plain_part (Plain.Import desc) ∷ [] }
+    ensures { items_for result ≡ plain_item (Plain.Import desc) ∷ [] }
 {
     match desc {
         ImportDesc::Func(index) => Item::ImportFunc(index),
@@ -56,7 +58,7 @@ fn import(desc: ImportDesc) -> Item<'static>
 impl Plain {
     /// The item that it is.
     pub(crate) fn item(self) -> Item<'static>
-        ensures { item_parts result ≡ plain_part self ∷ [] }
+        ensures { items_for result ≡ plain_item self ∷ [] }
     {
         match self {
             Plain::NewType => Item::NewType,
@@ -123,24 +125,24 @@ pub(crate) enum Machine {
     },
     /// In the size of another section.
     Size {
-        of: Component,
+        of: SectionKind,
         functions: u32,
         number: Num32,
     },
-    /// In how many components the section has.
+    /// In how many members the section has.
     Count {
-        of: Component,
+        of: SectionKind,
         functions: u32,
         more: u32,
         number: Num32,
     },
-    /// In a component of the section, with so many after it.
+    /// In a member of the section, with so many after it.
     Section {
-        of: Component,
+        of: SectionKind,
         functions: u32,
         more: u32,
         left: u32,
-        at: InComponent,
+        at: InMember,
     },
     Refused(Why),
 }
@@ -148,8 +150,8 @@ pub(crate) enum Machine {
 /// What a byte completes.
 #[derive(Clone, Copy, Debug)]
 pub(crate) enum Event {
-    Quiet,
-    Gives(Plain),
+    Nothing,
+    Complete(Plain),
     /// It is a byte of a data segment.
     DataByte,
     /// It is a byte of a name that goes on.

@@ -1,3 +1,5 @@
+//! What the reader of a value says of a byte.
+
 use wm_syntax::why::Why;
 
 /// What a reader of a value says of one more byte.

@@ -1,7 +1,9 @@
+//! Who receives the items of a module.
+
 ghost use Rattle.std.specs.Prelude.{Result};
 ghost use Rattle.wm_syntax.specs.declared.why.Why.{Why};
-ghost use Rattle.wm_decode.specs.Parts.{Part};
-ghost use Rattle.wm_decode.specs.Sinks.{RunsOut, Took, item_parts};
+ghost use Rattle.wm_decode.specs.Items.{Item as AnItem};
+ghost use Rattle.wm_decode.specs.Sinks.{RunsOut, Took, items_for};
 
 use crate::item::Item;
 use wm_syntax::why::Why;
@@ -13,14 +15,14 @@ pub trait Sink: Drop {
 
     ghost held: { Self → Held };
 
-    // what a sink holds after one more part, or why it refuses it
-    ghost after: { Held → Part → Result Held Why };
+    // what a sink holds after one more item, or why it refuses it
+    ghost after: { Held → AnItem → Result Held Why };
 
-    // where it may refuse a part because memory ran out
-    ghost may_run_out: { Held → Part → Type 0 };
+    // where it may refuse an item because memory ran out
+    ghost may_run_out: { Held → AnItem → Type 0 };
 
     /// Takes one item, or says why it is refused. Data bytes are taken as if they came one by one.
     fn take(&mut self, item: Item) -> Result<(), Why>
-        ensures took { Took after (held self.old) (item_parts item.entry) result (held self.new) }
-        ensures room { RunsOut may_run_out (held self.old) (item_parts item.entry) result };
+        ensures took { Took after (held self.old) (items_for item.entry) result (held self.new) }
+        ensures room { RunsOut may_run_out (held self.old) (items_for item.entry) result };
 }

@@ -1,3 +1,5 @@
+//! What a decoder holds.
+
 ghost use Rattle.std.specs.Prelude.{◌≤◌, ◌^◌};
 
 use crate::machine::Machine;

@@ -1,34 +1,34 @@
 //! What one byte does between sections and to the frame of one.
 
 ghost use Rattle.std.specs.Prelude.{◌≡◌};
-ghost use Rattle.wm_decode.specs.Steps.{length_step, name_step, custom_step, custom_framed, framed, refused, section_start, listed, counted, count_step, after_size, size_step, custom_size, custom_size_step, header_step, step_of};
+ghost use Rattle.wm_decode.specs.exact.Steps.{custom_length_step, custom_name_step, custom_step, machine_in_custom, machine_in_member, machine_refused, section_start, machine_after_count, machine_after_paired_count, count_step, after_size, size_step, custom_size, custom_size_step, header_step, step_of};
 
-use crate::component::{Component, InComponent};
-use crate::component_step::{begin, component_byte};
 use crate::machine::{Event, InCustom, Machine, NameKind};
+use crate::member::{InMember, SectionKind};
+use crate::member_step::{begin, member_byte};
 use wm_syntax::numbers::{Num32, Step};
 use wm_syntax::profile::Profile;
 use wm_syntax::why::Why;
 
 fn no_custom(why: Why) -> (InCustom, Event)
-    ensures { result ≡ (InCustom.Failed why, Event.Quiet) }
+    ensures { result ≡ (InCustom.Failed why, Event.Nothing) }
 {
-    (InCustom::Failed(why), Event::Quiet)
+    (InCustom::Failed(why), Event::Nothing)
 }
 
 fn name_length(mut number: Num32, byte: u8) -> (InCustom, Event)
-    ensures { result ≡ length_step number byte }
+    ensures { result ≡ custom_length_step number byte }
 {
     match number.push(byte) {
-        Step::More => (InCustom::Length(number), Event::Quiet),
+        Step::More => (InCustom::Length(number), Event::Nothing),
         Step::Done(0) => (InCustom::Skip, Event::EmptyName(NameKind::Custom)),
-        Step::Done(n) => (InCustom::Name { more: n - 1 }, Event::Quiet),
+        Step::Done(n) => (InCustom::Name { more: n - 1 }, Event::Nothing),
         Step::Bad => no_custom(Why::BadNumber),
     }
 }
 
 fn name_byte(more: u32) -> (InCustom, Event)
-    ensures { result ≡ name_step more }
+    ensures { result ≡ custom_name_step more }
 {
     if more == 0 {
         (InCustom::Skip, Event::EndsName(NameKind::Custom))
@@ -43,20 +43,20 @@ fn custom_byte(part: InCustom, byte: u8) -> (InCustom, Event)
     match part {
         InCustom::Length(number) => name_length(number, byte),
         InCustom::Name { more } => name_byte(more),
-        InCustom::Skip => (InCustom::Skip, Event::Quiet),
+        InCustom::Skip => (InCustom::Skip, Event::Nothing),
         InCustom::Failed(_) => no_custom(Why::SectionEnd),
     }
 }
 
 fn refused(why: Why) -> (Machine, Event)
-    ensures { result ≡ refused why }
+    ensures { result ≡ machine_refused why }
 {
-    (Machine::Refused(why), Event::Quiet)
+    (Machine::Refused(why), Event::Nothing)
 }
 
-// the machine in a custom section with so many bytes left
+// The machine in a custom section with so many bytes left
 fn custom_framed(last: u8, functions: u32, left: u32, part: InCustom) -> Machine
-    ensures { result ≡ custom_framed last functions left part }
+    ensures { result ≡ machine_in_custom last functions left part }
 {
     match part {
         InCustom::Failed(why) => Machine::Refused(why),
@@ -74,18 +74,18 @@ fn custom_framed(last: u8, functions: u32, left: u32, part: InCustom) -> Machine
     }
 }
 
-// the machine at a place in a component, with so many bytes of the section left and so many components after this
-fn framed(of: Component, functions: u32, bytes: u32, left: u32, at: InComponent) -> Machine
-    ensures { result ≡ framed of functions bytes left at }
+// The machine at a place in a member, with so many bytes of the section left and so many members after this
+fn framed(of: SectionKind, functions: u32, bytes: u32, left: u32, at: InMember) -> Machine
+    ensures { result ≡ machine_in_member of functions bytes left at }
 {
     let (left, at) = match at {
-        InComponent::Failed(why) => return Machine::Refused(why),
-        InComponent::Over if left == 0 && bytes == 0 => {
+        InMember::Failed(why) => return Machine::Refused(why),
+        InMember::Over if left == 0 && bytes == 0 => {
             let last = of.id();
             return Machine::Between { last, functions };
         }
-        InComponent::Over if left == 0 => return Machine::Refused(Why::SectionEnd),
-        InComponent::Over => (left - 1, begin(of)),
+        InMember::Over if left == 0 => return Machine::Refused(Why::SectionEnd),
+        InMember::Over => (left - 1, begin(of)),
         _ => (left, at),
     };
     if bytes == 0 {
@@ -101,30 +101,36 @@ fn framed(of: Component, functions: u32, bytes: u32, left: u32, at: InComponent)
     }
 }
 
-// the machine after the count of a section's components
-fn listed(of: Component, functions: u32, bytes: u32, count: u32) -> Machine
-    ensures { result ≡ listed of functions bytes count }
+// The machine after the count of a section's members
+fn listed(of: SectionKind, functions: u32, bytes: u32, count: u32) -> Machine
+    ensures { result ≡ machine_after_count of functions bytes count }
 {
     if count == 0 {
-        framed(of, functions, bytes, 0, InComponent::Over)
+        framed(of, functions, bytes, 0, InMember::Over)
     } else {
         framed(of, functions, bytes, count - 1, begin(of))
     }
 }
 
-// the same, where functions begin to await their code, or get it
-fn counted(of: Component, functions: u32, bytes: u32, count: u32) -> Machine
-    ensures { result ≡ counted of functions bytes count }
+// The same, where functions begin to await their code, or get it
+fn counted(of: SectionKind, functions: u32, bytes: u32, count: u32) -> Machine
+    ensures { result ≡ machine_after_paired_count of functions bytes count }
 {
     match of {
-        Component::Function => listed(of, count, bytes, count),
-        Component::Code if count == functions => listed(of, 0, bytes, count),
-        Component::Code => Machine::Refused(Why::CodeCount),
+        SectionKind::Function => listed(of, count, bytes, count),
+        SectionKind::Code if count == functions => listed(of, 0, bytes, count),
+        SectionKind::Code => Machine::Refused(Why::CodeCount),
         _ => listed(of, functions, bytes, count),
     }
 }
 
-fn count(of: Component, functions: u32, more: u32, mut number: Num32, byte: u8) -> (Machine, Event)
+fn count(
+    of: SectionKind,
+    functions: u32,
+    more: u32,
+    mut number: Num32,
+    byte: u8,
+) -> (Machine, Event)
     ensures { result ≡ count_step of functions more number byte }
 {
     match number.push(byte) {
@@ -138,10 +144,10 @@ fn count(of: Component, functions: u32, more: u32, mut number: Num32, byte: u8) 
                     more,
                     number,
                 },
-                Event::Quiet,
+                Event::Nothing,
             )
         }
-        Step::Done(n) => (counted(of, functions, more, n), Event::Quiet),
+        Step::Done(n) => (counted(of, functions, more, n), Event::Nothing),
         Step::Bad => refused(Why::BadNumber),
     }
 }
@@ -157,25 +163,25 @@ fn section_start(last: u8, functions: u32, byte: u8) -> (Machine, Event)
                 functions,
                 number,
             },
-            Event::Quiet,
+            Event::Nothing,
         );
     }
-    match Component::of(byte) {
+    match SectionKind::of(byte) {
         None => refused(Why::SectionId),
         Some(_) if byte <= last => refused(Why::SectionOrder),
-        Some(Component::Segment) if functions > 0 => refused(Why::CodeCount),
+        Some(SectionKind::Segment) if functions > 0 => refused(Why::CodeCount),
         Some(of) => (
             Machine::Size {
                 of,
                 functions,
                 number,
             },
-            Event::Quiet,
+            Event::Nothing,
         ),
     }
 }
 
-fn after_size(of: Component, functions: u32, size: u32) -> Machine
+fn after_size(of: SectionKind, functions: u32, size: u32) -> Machine
     ensures { result ≡ after_size of functions size }
 {
     if size == 0 {
@@ -183,7 +189,7 @@ fn after_size(of: Component, functions: u32, size: u32) -> Machine
     }
     let more = size - 1;
     match of {
-        Component::Start => {
+        SectionKind::Start => {
             let at = begin(of);
             Machine::Section {
                 of,
@@ -205,7 +211,7 @@ fn after_size(of: Component, functions: u32, size: u32) -> Machine
     }
 }
 
-fn section_size(of: Component, functions: u32, mut number: Num32, byte: u8) -> (Machine, Event)
+fn section_size(of: SectionKind, functions: u32, mut number: Num32, byte: u8) -> (Machine, Event)
     ensures { result ≡ size_step of functions number byte }
 {
     match number.push(byte) {
@@ -215,9 +221,9 @@ fn section_size(of: Component, functions: u32, mut number: Num32, byte: u8) -> (
                 functions,
                 number,
             },
-            Event::Quiet,
+            Event::Nothing,
         ),
-        Step::Done(n) => (after_size(of, functions, n), Event::Quiet),
+        Step::Done(n) => (after_size(of, functions, n), Event::Nothing),
         Step::Bad => refused(Why::BadNumber),
     }
 }
@@ -238,9 +244,9 @@ fn custom_size(last: u8, functions: u32, mut number: Num32, byte: u8) -> (Machin
                 functions,
                 number,
             },
-            Event::Quiet,
+            Event::Nothing,
         ),
-        Step::Done(n) => (after_custom_size(last, functions, n), Event::Quiet),
+        Step::Done(n) => (after_custom_size(last, functions, n), Event::Nothing),
         Step::Bad => refused(Why::BadNumber),
     }
 }
@@ -256,13 +262,13 @@ fn in_header(at: u8, byte: u8) -> (Machine, Event)
     if byte != HEADER[at as usize] {
         refused(if at < 4 { Why::Magic } else { Why::Version })
     } else if at < 7 {
-        (Machine::Header(at + 1), Event::Quiet)
+        (Machine::Header(at + 1), Event::Nothing)
     } else {
         let start = Machine::Between {
             last: 0,
             functions: 0,
         };
-        (start, Event::Quiet)
+        (start, Event::Nothing)
     }
 }
 
@@ -305,7 +311,7 @@ pub(crate) fn step(profile: Profile, machine: Machine, byte: u8) -> (Machine, Ev
             left,
             at,
         } => {
-            let (at, event) = component_byte(profile, at, byte);
+            let (at, event) = member_byte(profile, at, byte);
             (framed(of, functions, more, left, at), event)
         }
         Machine::Refused(why) => refused(why),

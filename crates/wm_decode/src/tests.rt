@@ -1,3 +1,5 @@
+//! Tests of the decoder over sinks that record, count or refuse.
+
 ghost use Rattle.std.specs.Prelude.{◌≡◌, ◌<◌, Err, IfErr, Ok};
 ghost use Rattle.wm_syntax.specs.declared.why.Why.TheVariants.{Arity, Memory};
 
@@ -177,7 +179,7 @@ impl Sink for Counter {
     }
 }
 
-// Refuses every part.
+// Refuses every item.
 #[derive(Drop)]
 struct Full {}
 
@@ -210,7 +212,7 @@ fn after_header(alloc: Global, sections: &[u8]) -> Result<Vec<u8>, AllocError> {
 // How an input is cut: whole, byte by byte and seven by seven.
 const SIZES: [usize; 3] = [1000, 1, 7];
 
-// what is written down of an input, in pieces of so many bytes and an empty one after each
+// What is written down of an input, in pieces of so many bytes and an empty one after each
 fn seen_in(alloc: Global, bytes: &[u8], size: usize) -> Result<Vec<Seen>, Refusal>
     requires { 0 < size }
 {
@@ -255,13 +257,13 @@ fn items_of_a_type_section(rt: HostRuntime) -> Result<(), Fail> {
     Ok(())
 }
 
-// one function of type [i32 i32] to [i32], which adds
+// One function of type [i32 i32] to [i32], which adds
 const ADDING: [u8; 24] = [
     0x01, 0x07, 0x01, 0x60, 0x02, 0x7F, 0x7F, 0x01, 0x7F, 0x03, 0x02, 0x01, 0x00, 0x0A, 0x09, 0x01,
     0x07, 0x00, 0x20, 0x00, 0x20, 0x01, 0x6A, 0x0B,
 ];
 
-// a memory, and four bytes for it
+// A memory, and four bytes for it
 const DATA: [u8; 17] = [
     0x05, 0x03, 0x01, 0x00, 0x01, 0x0B, 0x0A, 0x01, 0x00, 0x41, 0x00, 0x0B, 0x04, 0x00, 0xC3, 0xA9,
     0x22,
@@ -304,7 +306,7 @@ fn places_of_items(rt: HostRuntime) -> Result<(), Fail> {
     Ok(())
 }
 
-// every section that holds items, none of them twice
+// Every section that holds items, none of them twice
 const ALL: [&[u8]; 11] = [
     &[0x01, 0x04, 0x01, 0x60, 0x00, 0x00],
     &[0x02, 0x07, 0x01, 0x01, 0x61, 0x01, 0x62, 0x00, 0x00],
@@ -872,7 +874,7 @@ fn laws_are_called(rt: HostRuntime) -> Result<(), Fail> {
     laws::items_are_flat();
     laws::module_is_flat();
     laws::items_are_module();
-    laws::parts_determine_module();
+    laws::items_determine_module();
     laws::second_profile_has_all();
     laws::input_is_bytes();
     laws::one_spelling_one_module();

@@ -2,8 +2,7 @@
 //! brings in and an export gives out, and a run of locals.
 
 ghost use Rattle.std.specs.Prelude.{◌≡◌};
-ghost use Rattle.wm_decode.specs.ValueSteps.{limits_push, min_step, max_step, table_type_push, global_type_push, var_step, desc_push, func_step, target_push, target_step, run_push, run_count_step, value_push};
-ghost use Rattle.wm_decode.specs.ValueSteps.{in_table, in_memory, in_global, of_import, of_table, of_memory, of_export, value_type_of};
+ghost use Rattle.wm_decode.specs.exact.ValueSteps.{limits_push, min_step, max_step, table_type_push, global_type_push, var_step, desc_push, func_step, target_push, target_step, run_push, run_count_step, value_push, in_table, in_memory, in_global, of_import, of_table, of_memory, of_export, value_type_of};
 
 use crate::machine::Plain;
 use crate::reading::Reading::{self, Bad, Done, More};
@@ -124,7 +123,7 @@ pub(crate) fn global_type_byte(at: InGlobalType, byte: u8) -> Reading<InGlobalTy
 
 /// Where in what an import brings in the next byte stands (section 5.5.5).
 #[derive(Clone, Copy, Debug)]
-pub(crate) enum InDesc {
+pub(crate) enum InImportDesc {
     Kind,
     Func(Num32),
     Table(InTableType),
@@ -132,67 +131,67 @@ pub(crate) enum InDesc {
     Global(InGlobalType),
 }
 
-fn func_byte(mut number: Num32, byte: u8) -> Reading<InDesc, ImportDesc>
+fn func_byte(mut number: Num32, byte: u8) -> Reading<InImportDesc, ImportDesc>
     ensures { result ≡ func_step number byte }
 {
     match number.push(byte) {
-        Step::More => More(InDesc::Func(number)),
+        Step::More => More(InImportDesc::Func(number)),
         Step::Done(index) => Done(ImportDesc::Func(index)),
         Step::Bad => Bad(Why::BadNumber),
     }
 }
 
-fn table_desc(reading: Reading<InTableType, Limits>) -> Reading<InDesc, ImportDesc>
+fn table_desc(reading: Reading<InTableType, Limits>) -> Reading<InImportDesc, ImportDesc>
     ensures { result ≡ in_table reading }
 {
     match reading {
-        More(at) => More(InDesc::Table(at)),
+        More(at) => More(InImportDesc::Table(at)),
         Done(limits) => Done(ImportDesc::Table(limits)),
         Bad(why) => Bad(why),
     }
 }
 
-fn memory_desc(reading: Reading<InLimits, Limits>) -> Reading<InDesc, ImportDesc>
+fn memory_desc(reading: Reading<InLimits, Limits>) -> Reading<InImportDesc, ImportDesc>
     ensures { result ≡ in_memory reading }
 {
     match reading {
-        More(at) => More(InDesc::Memory(at)),
+        More(at) => More(InImportDesc::Memory(at)),
         Done(limits) => Done(ImportDesc::Memory(limits)),
         Bad(why) => Bad(why),
     }
 }
 
-fn global_desc(reading: Reading<InGlobalType, GlobalType>) -> Reading<InDesc, ImportDesc>
+fn global_desc(reading: Reading<InGlobalType, GlobalType>) -> Reading<InImportDesc, ImportDesc>
     ensures { result ≡ in_global reading }
 {
     match reading {
-        More(at) => More(InDesc::Global(at)),
+        More(at) => More(InImportDesc::Global(at)),
         Done(ty) => Done(ImportDesc::Global(ty)),
         Bad(why) => Bad(why),
     }
 }
 
-fn desc_byte(at: InDesc, byte: u8) -> Reading<InDesc, ImportDesc>
+fn desc_byte(at: InImportDesc, byte: u8) -> Reading<InImportDesc, ImportDesc>
     ensures { result ≡ desc_push at byte }
 {
     match at {
-        InDesc::Kind => match byte {
-            0x00 => More(InDesc::Func(Num32::new())),
-            0x01 => More(InDesc::Table(InTableType::ElementType)),
-            0x02 => More(InDesc::Memory(InLimits::Flag)),
-            0x03 => More(InDesc::Global(InGlobalType::Type)),
+        InImportDesc::Kind => match byte {
+            0x00 => More(InImportDesc::Func(Num32::new())),
+            0x01 => More(InImportDesc::Table(InTableType::ElementType)),
+            0x02 => More(InImportDesc::Memory(InLimits::Flag)),
+            0x03 => More(InImportDesc::Global(InGlobalType::Type)),
             _ => Bad(Why::BadByte),
         },
-        InDesc::Func(number) => func_byte(number, byte),
-        InDesc::Table(at) => table_desc(table_type_byte(at, byte)),
-        InDesc::Memory(at) => memory_desc(limits_byte(at, byte)),
-        InDesc::Global(at) => global_desc(global_type_byte(at, byte)),
+        InImportDesc::Func(number) => func_byte(number, byte),
+        InImportDesc::Table(at) => table_desc(table_type_byte(at, byte)),
+        InImportDesc::Memory(at) => memory_desc(limits_byte(at, byte)),
+        InImportDesc::Global(at) => global_desc(global_type_byte(at, byte)),
     }
 }
 
 /// Where in what an export gives out the next byte stands (section 5.5.10).
 #[derive(Clone, Copy, Debug)]
-pub(crate) enum InTarget {
+pub(crate) enum InExportDesc {
     Kind,
     Index { kind: ExportKind, number: Num32 },
 }
@@ -201,22 +200,22 @@ fn target_index(
     kind: ExportKind,
     mut number: Num32,
     byte: u8,
-) -> Reading<InTarget, (ExportKind, u32)>
+) -> Reading<InExportDesc, (ExportKind, u32)>
     ensures { result ≡ target_step kind number byte }
 {
     match number.push(byte) {
-        Step::More => More(InTarget::Index { kind, number }),
+        Step::More => More(InExportDesc::Index { kind, number }),
         Step::Done(index) => Done((kind, index)),
         Step::Bad => Bad(Why::BadNumber),
     }
 }
 
-fn target_byte(at: InTarget, byte: u8) -> Reading<InTarget, (ExportKind, u32)>
+fn target_byte(at: InExportDesc, byte: u8) -> Reading<InExportDesc, (ExportKind, u32)>
     ensures { result ≡ target_push at byte }
 {
     let kind = match at {
-        InTarget::Index { kind, number } => return target_index(kind, number, byte),
-        InTarget::Kind => match byte {
+        InExportDesc::Index { kind, number } => return target_index(kind, number, byte),
+        InExportDesc::Kind => match byte {
             0x00 => ExportKind::Func,
             0x01 => ExportKind::Table,
             0x02 => ExportKind::Memory,
@@ -224,7 +223,7 @@ fn target_byte(at: InTarget, byte: u8) -> Reading<InTarget, (ExportKind, u32)>
             _ => return Bad(Why::BadByte),
         },
     };
-    More(InTarget::Index {
+    More(InExportDesc::Index {
         kind,
         number: Num32::new(),
     })
@@ -262,13 +261,13 @@ pub(crate) fn run_byte(at: InRun, byte: u8) -> Reading<InRun, (u32, ValType)>
 /// Where in the value that ends an import, a table, a memory or an export the next byte stands.
 #[derive(Clone, Copy, Debug)]
 pub(crate) enum InValue {
-    Import(InDesc),
+    Import(InImportDesc),
     Table(InTableType),
     Memory(InLimits),
-    Export(InTarget),
+    Export(InExportDesc),
 }
 
-fn import_part(reading: Reading<InDesc, ImportDesc>) -> Reading<InValue, Plain>
+fn import_part(reading: Reading<InImportDesc, ImportDesc>) -> Reading<InValue, Plain>
     ensures { result ≡ of_import reading }
 {
     match reading {
@@ -298,7 +297,7 @@ fn memory_part(reading: Reading<InLimits, Limits>) -> Reading<InValue, Plain>
     }
 }
 
-fn export_part(reading: Reading<InTarget, (ExportKind, u32)>) -> Reading<InValue, Plain>
+fn export_part(reading: Reading<InExportDesc, (ExportKind, u32)>) -> Reading<InValue, Plain>
     ensures { result ≡ of_export reading }
 {
     match reading {

@@ -1,4 +1,4 @@
--- What the checker does to the parts of a global, an element segment and a data segment.
+-- What the checker does to the items of a global, an element segment and a data segment.
 use Rattle.std.proofs.Common.{ℕ, zero, suc, ◌+◌, ◌≡◌, ◌<◌, List, [], ◌∷◌, ◌++◌, Option, Some, None, Bool, true, false, cond, Result, Ok, Err, length, take, refl, sym, ◌∙◌, ap, subst, append-nil, arith, map, nat_lt, slice_get}
 use Rattle.std.specs.List.{AllByRecursion}
 use Rattle.std.proofs.lemmas.Bool.{lt-ltb, ltb-true}
@@ -16,17 +16,19 @@ use Rattle.wm_syntax.specs.declared.why.Why.{Why}
 use Rattle.wm_syntax.specs.declared.why.Why.TheVariants as why
 use Rattle.wm_syntax.specs.Modules.{constant}
 use Rattle.wm_stacks.specs.Runs.{same}
-use Rattle.wm_decode.specs.Grammar.{IsExpression, opens, closes}
-use Rattle.wm_decode.specs.Parts.{Part, const_op, element_function, data_byte}
+use Rattle.wm_decode.specs.Grammar.{IsExpression}
+use Rattle.wm_syntax.specs.Instructions.{openings, endings}
+use Rattle.wm_decode.specs.Items.{Item, const_op, element_function, data_byte}
 use Rattle.wm_decode.specs.Sinks.{and_then, all_taken}
 use Rattle.wm_rules.specs.declared.constants.Constant.{Constant}
 use Rattle.wm_rules.specs.Validation.{TypedConst}
-use Rattle.wm_rules.specs.Spaces.{one_if}
-use Rattle.wm_rules.specs.Constants.{constant_after, expecting, of_global, of_type, visible}
-use Rattle.wm_rules.specs.Checking.{Held, after, constant_begun, where_ok, with_constant}
-use Rattle.wm_decode.specs.Flat.{FlatGlobal, FlatElement, FlatSegment, constant_ops, global_parts, element_parts, segment_parts}
-use Rattle.wm_rules.proofs.Good.{IsTypedConst}
-use Rattle.wm_rules.proofs.Folding.{cond_ok, Member}
+use Rattle.wm_rules.specs.exact.Spaces.{one_if}
+use Rattle.wm_rules.specs.exact.Constants.{constant_after, constant_expecting, of_global, of_type, visible}
+use Rattle.wm_rules.specs.exact.Checking.{after, constant_begun, where_ok, with_constant}
+use Rattle.wm_rules.specs.Holding.{Held}
+use Rattle.wm_decode.specs.Flat.{FlatGlobal, FlatElement, FlatSegment, constant_ops, global_items, element_items, segment_items}
+use Rattle.wm_rules.proofs.GoodValues.{IsTypedConst}
+use Rattle.wm_rules.proofs.MemberFolds.{cond_ok, Member}
 
 same_self : (t : ValType) → same t t ≡ true
 same_self I32 = refl
@@ -64,30 +66,30 @@ with_const h k = record h { constant = k }
 abbrev seen_of : ValType → ℕ → Constant
 seen_of t n = record { expects = t; sees = n; seen = true }
 
-type_takes : (t u : ValType) (n : ℕ) → t ≡ u → of_type t (expecting u n) ≡ Ok (Some (seen_of u n))
+type_takes : (t u : ValType) (n : ℕ) → t ≡ u → of_type t (constant_expecting u n) ≡ Ok (Some (seen_of u n))
 type_takes t u n e = ap (λ b. cond b (Ok (Some (seen_of u n))) (Err why.Mismatch)) (ap (λ z. same z u) e ∙ same_self u)
 
 -- the instruction of a constant that has the type
 first_takes : (c : Const) (globals : List GlobalType) (t : ValType) (n : ℕ) → TypedConst (take n globals) c t
-    → constant_after globals (op.Simple (constant c)) (expecting t n) ≡ Ok (Some (seen_of t n))
+    → constant_after globals (op.Simple (constant c)) (constant_expecting t n) ≡ Ok (Some (seen_of t n))
 first_takes (const.I32 k) globals t n e = type_takes I32 t n (sym e)
 first_takes (const.I64 k) globals t n e = type_takes I64 t n (sym e)
 first_takes (const.Global x) globals t n e =
-    ap (λ o. of_global o (expecting t n)) (visible_take n globals x ∙ e) ∙ type_takes t t n refl
+    ap (λ o. of_global o (constant_expecting t n)) (visible_take n globals x ∙ e) ∙ type_takes t t n refl
 
-pub const_takes : (c : Const) (h : Held) (t : ValType) (n : ℕ) (rest : List Part) → TypedConst (take n h.spaces.globals) c t
-    → all_taken after (with_const h (Some (expecting t n))) (map const_op (constant_ops c) ++ rest) ≡ all_taken after (with_const h None) rest
+pub const_takes : (c : Const) (h : Held) (t : ValType) (n : ℕ) (rest : List Item) → TypedConst (take n h.spaces.globals) c t
+    → all_taken after (with_const h (Some (constant_expecting t n))) (map const_op (constant_ops c) ++ rest) ≡ all_taken after (with_const h None) rest
 const_takes c h t n rest e =
-    ap (λ r. and_then (with_constant (with_const h (Some (expecting t n))) r) (λ g. all_taken after g (const_op op.End ∷ rest))) (first_takes c h.spaces.globals t n e)
+    ap (λ r. and_then (with_constant (with_const h (Some (constant_expecting t n))) r) (λ g. all_taken after g (const_op op.End ∷ rest))) (first_takes c h.spaces.globals t n e)
 
-type_back : (t u : ValType) (n : ℕ) (k : Option Constant) → of_type t (expecting u n) ≡ Ok k → (t ≡ u) × (k ≡ Some (seen_of u n))
+type_back : (t u : ValType) (n : ℕ) (k : Option Constant) → of_type t (constant_expecting u n) ≡ Ok k → (t ≡ u) × (k ≡ Some (seen_of u n))
 type_back t u n k e = let c = cond_ok (same t u) (Some (seen_of u n)) k why.Mismatch e in (same_is t u c.0, sym c.1)
 
-global_back : (o : Option GlobalType) (t : ValType) (n : ℕ) (k : Option Constant) → of_global o (expecting t n) ≡ Ok k → (o ≡ Some (record { ty = t; var = false })) × (k ≡ Some (seen_of t n))
+global_back : (o : Option GlobalType) (t : ValType) (n : ℕ) (k : Option Constant) → of_global o (constant_expecting t n) ≡ Ok k → (o ≡ Some (record { ty = t; var = false })) × (k ≡ Some (seen_of t n))
 global_back None t n k e = absurd (cc)
 global_back (Some g) t n k e = by_var g.var g.ty refl e
   where
-    by_var : (b : Bool) (ty : ValType) → g ≡ record { ty = ty; var = b } → cond b (Err why.NotConst) (of_type ty (expecting t n)) ≡ Ok k
+    by_var : (b : Bool) (ty : ValType) → g ≡ record { ty = ty; var = b } → cond b (Err why.NotConst) (of_type ty (constant_expecting t n)) ≡ Ok k
         → (Some g ≡ Some (record { ty = t; var = false })) × (k ≡ Some (seen_of t n))
     by_var true ty s e = absurd (cc)
     by_var false ty s e = let q = type_back ty t n k e in (ap Some s ∙ ap (λ z. Some (record { ty = z; var = false })) q.0, q.1)
@@ -99,7 +101,7 @@ pub record First (o : Op) (globals : List GlobalType) (t : ValType) (n : ℕ) (k
   pub typed : TypedConst (take n globals) c t
   pub next : k ≡ Some (seen_of t n)
 
-simple_back : (i : Simple) (globals : List GlobalType) (t : ValType) (n : ℕ) (k : Option Constant) → constant_after globals (op.Simple i) (expecting t n) ≡ Ok k → First (op.Simple i) globals t n k
+simple_back : (i : Simple) (globals : List GlobalType) (t : ValType) (n : ℕ) (k : Option Constant) → constant_after globals (op.Simple i) (constant_expecting t n) ≡ Ok k → First (op.Simple i) globals t n k
 simple_back (I32Const m) globals t n k e = let q = type_back I32 t n k e in record { c = const.I32 m; is = refl; typed = sym q.0; next = q.1 }
 simple_back (I64Const m) globals t n k e = let q = type_back I64 t n k e in record { c = const.I64 m; is = refl; typed = sym q.0; next = q.1 }
 simple_back (GlobalGet x) globals t n k e =
@@ -107,7 +109,7 @@ simple_back (GlobalGet x) globals t n k e =
     record { c = const.Global x; is = refl; typed = sym (visible_take n globals x) ∙ q.0; next = q.1 }
 simple_back _ globals t n k e = absurd (cc)
 
-first_back : (o : Op) (globals : List GlobalType) (t : ValType) (n : ℕ) (k : Option Constant) → constant_after globals o (expecting t n) ≡ Ok k → First o globals t n k
+first_back : (o : Op) (globals : List GlobalType) (t : ValType) (n : ℕ) (k : Option Constant) → constant_after globals o (constant_expecting t n) ≡ Ok k → First o globals t n k
 first_back (op.Simple i) globals t n k e = simple_back i globals t n k e
 first_back op.End globals t n k e = absurd (cc)
 first_back _ globals t n k e = absurd (cc)
@@ -123,34 +125,34 @@ second_back (op.Simple i) globals t n k e = second_simple i globals t n k e
 second_back op.End globals t n k e = (refl, cc)
 second_back _ globals t n k e = absurd (cc)
 
-abbrev step_on : Held → Result (Option Constant) Why → List Part → Result Held Why
-step_on h r parts = and_then (with_constant h r) (λ g. all_taken after g parts)
+abbrev step_on : Held → Result (Option Constant) Why → List Item → Result Held Why
+step_on h r items = and_then (with_constant h r) (λ g. all_taken after g items)
 
-constant_step : (h g : Held) (r : Result (Option Constant) Why) (parts : List Part) → step_on h r parts ≡ Ok g → (k : Option Constant) × (r ≡ Ok k) × (all_taken after (with_const h k) parts ≡ Ok g)
-constant_step h g (Ok k) parts e = (k, refl, e)
-constant_step h g (Err w) parts e = absurd (cc)
+constant_step : (h g : Held) (r : Result (Option Constant) Why) (items : List Item) → step_on h r items ≡ Ok g → (k : Option Constant) × (r ≡ Ok k) × (all_taken after (with_const h k) items ≡ Ok g)
+constant_step h g (Ok k) items e = (k, refl, e)
+constant_step h g (Err w) items e = absurd (cc)
 
-none_left : (ops : List Op) (h g : Held) (rest : List Part) → all_taken after (with_const h None) (map const_op ops ++ rest) ≡ Ok g → ops ≡ []
+none_left : (ops : List Op) (h g : Held) (rest : List Item) → all_taken after (with_const h None) (map const_op ops ++ rest) ≡ Ok g → ops ≡ []
 none_left [] h g rest e = refl
 none_left (o ∷ ops) h g rest e = absurd (cc)
 
-one_op : (o : Op) (c : Const) → o ≡ op.Simple (constant c) → closes (o ∷ []) ≡ opens (o ∷ []) + 1 → ⊥
-one_op o c s e = go c (subst (λ q. closes (q ∷ []) ≡ opens (q ∷ []) + 1) s e)
+one_op : (o : Op) (c : Const) → o ≡ op.Simple (constant c) → endings (o ∷ []) ≡ openings (o ∷ []) + 1 → ⊥
+one_op o c s e = go c (subst (λ q. endings (q ∷ []) ≡ openings (q ∷ []) + 1) s e)
   where
-    go : (c : Const) → closes (op.Simple (constant c) ∷ []) ≡ opens (op.Simple (constant c) ∷ []) + 1 → ⊥
+    go : (c : Const) → endings (op.Simple (constant c) ∷ []) ≡ openings (op.Simple (constant c) ∷ []) + 1 → ⊥
     go (const.I32 n) z = absurd (omega (arith, z))
     go (const.I64 n) z = absurd (omega (arith, z))
     go (const.Global x) z = absurd (omega (arith, z))
 
-pub const_sound : (ops : List Op) (rest : List Part) (t : ValType) (n : ℕ) (h g : Held) → IsExpression ops
-    → all_taken after (with_const h (Some (expecting t n))) (map const_op ops ++ rest) ≡ Ok g → IsTypedConst (take n h.spaces.globals) ops t
+pub const_sound : (ops : List Op) (rest : List Item) (t : ValType) (n : ℕ) (h g : Held) → IsExpression ops
+    → all_taken after (with_const h (Some (constant_expecting t n))) (map const_op ops ++ rest) ≡ Ok g → IsTypedConst (take n h.spaces.globals) ops t
 const_sound [] rest t n h g i e = let z : 0 ≡ 0 + 1 = i.closed in absurd (omega (arith, z))
 const_sound (o ∷ []) rest t n h g i e =
-    let a = constant_step (with_const h (Some (expecting t n))) g (constant_after h.spaces.globals o (expecting t n)) rest e in
+    let a = constant_step (with_const h (Some (constant_expecting t n))) g (constant_after h.spaces.globals o (constant_expecting t n)) rest e in
     let b = first_back o h.spaces.globals t n a.0 a.1 in
     absurd (one_op o b.c b.is i.closed)
 const_sound (o ∷ p ∷ ops) rest t n h g i e =
-    let a = constant_step (with_const h (Some (expecting t n))) g (constant_after h.spaces.globals o (expecting t n)) (const_op p ∷ map const_op ops ++ rest) e in
+    let a = constant_step (with_const h (Some (constant_expecting t n))) g (constant_after h.spaces.globals o (constant_expecting t n)) (const_op p ∷ map const_op ops ++ rest) e in
     let b = first_back o h.spaces.globals t n a.0 a.1 in
     let d = constant_step (with_const h (Some (seen_of t n))) g (constant_after h.spaces.globals p (seen_of t n)) (map const_op ops ++ rest)
     (subst (λ k. all_taken after (with_const h k) (const_op p ∷ map const_op ops ++ rest) ≡ Ok g) b.next a.2) in
@@ -171,24 +173,24 @@ Expresses ops h x = IsExpression (ops x)
 abbrev begun_global : Held → FlatGlobal → Held
 begun_global h g = record h { spaces = record h.spaces { globals = h.spaces.globals ++ g.ty ∷ [] } }
 
-pub global_member : Member after global_parts (Expresses (λ g. g.init)) GoodGlobal put_global
+pub global_member : Member after global_items (Expresses (λ g. g.init)) GoodGlobal put_global
 global_member = record {
   takes = λ h g i good.
-      ap (λ z. all_taken after (with_const (begun_global h g) (Some (expecting g.ty.ty h.spaces.imported_globals))) z) (ap (λ z. map const_op z) good.1 ∙ sym (append-nil (map const_op (constant_ops good.0))))
+      ap (λ z. all_taken after (with_const (begun_global h g) (Some (constant_expecting g.ty.ty h.spaces.imported_globals))) z) (ap (λ z. map const_op z) good.1 ∙ sym (append-nil (map const_op (constant_ops good.0))))
       ∙ const_takes good.0 (begun_global h g) g.ty.ty h.spaces.imported_globals [] good.2;
   sound = λ h k g i e. const_sound g.init [] g.ty.ty h.spaces.imported_globals (begun_global h g) k i
-      (ap (λ z. all_taken after (with_const (begun_global h g) (Some (expecting g.ty.ty h.spaces.imported_globals))) z) (append-nil (map const_op g.init)) ∙ e);
+      (ap (λ z. all_taken after (with_const (begun_global h g) (Some (constant_expecting g.ty.ty h.spaces.imported_globals))) z) (append-nil (map const_op g.init)) ∙ e);
 }
 
 -- a segment's head: its table or memory exists
-head_takes : (b : Bool) (h : Held) (rest : List Part) → b ≡ true
+head_takes : (b : Bool) (h : Held) (rest : List Item) → b ≡ true
     → and_then (and_then (cond b (Ok tt) (Err why.Index)) (λ (u : Unit {0}). Ok (constant_begun I32 (length h.spaces.globals) h))) (λ g. all_taken after g rest)
-    ≡ all_taken after (with_const h (Some (expecting I32 (length h.spaces.globals)))) rest
+    ≡ all_taken after (with_const h (Some (constant_expecting I32 (length h.spaces.globals)))) rest
 head_takes b h rest e = ap (λ v. and_then (and_then (cond v (Ok tt) (Err why.Index)) (λ (u : Unit {0}). Ok (constant_begun I32 (length h.spaces.globals) h))) (λ g. all_taken after g rest)) e
 
-head_sound : (b : Bool) (h g : Held) (rest : List Part)
+head_sound : (b : Bool) (h g : Held) (rest : List Item)
     → and_then (and_then (cond b (Ok tt) (Err why.Index)) (λ (u : Unit {0}). Ok (constant_begun I32 (length h.spaces.globals) h))) (λ g. all_taken after g rest) ≡ Ok g
-    → (b ≡ true) × (all_taken after (with_const h (Some (expecting I32 (length h.spaces.globals)))) rest ≡ Ok g)
+    → (b ≡ true) × (all_taken after (with_const h (Some (constant_expecting I32 (length h.spaces.globals)))) rest ≡ Ok g)
 head_sound true h g rest e = (refl, e)
 head_sound false h g rest e = absurd (cc)
 
@@ -216,22 +218,22 @@ functions_sound (x ∷ xs) h g e = go (functions_sound xs h g) (nat_lt x (length
     go next true is e = (ltb-true x (length h.spaces.functions) is, next e)
     go next false is e = absurd (cc)
 
-element_takes : (h : Held) (e : FlatElement) → GoodElement h e → all_taken after h (element_parts e) ≡ Ok (put_segment h e)
+element_takes : (h : Held) (e : FlatElement) → GoodElement h e → all_taken after h (element_items e) ≡ Ok (put_segment h e)
 element_takes h e good =
     head_takes (nat_lt e.table (one_if h.spaces.has_table)) h (map const_op e.offset ++ map element_function e.functions) (lt-ltb e.table (one_if h.spaces.has_table) good.0)
-    ∙ (ap (λ z. all_taken after (with_const h (Some (expecting I32 (length h.spaces.globals)))) (map const_op z ++ map element_function e.functions)) good.1.1
+    ∙ (ap (λ z. all_taken after (with_const h (Some (constant_expecting I32 (length h.spaces.globals)))) (map const_op z ++ map element_function e.functions)) good.1.1
     ∙ (const_takes good.1.0 h I32 (length h.spaces.globals) (map element_function e.functions) good.1.2
     ∙ functions_take e.functions (with_const h None) good.2))
 
-element_sound : (h g : Held) (e : FlatElement) → IsExpression e.offset → all_taken after h (element_parts e) ≡ Ok g → GoodElement h e
+element_sound : (h g : Held) (e : FlatElement) → IsExpression e.offset → all_taken after h (element_items e) ≡ Ok g → GoodElement h e
 element_sound h g e i q =
     let a = head_sound (nat_lt e.table (one_if h.spaces.has_table)) h g (map const_op e.offset ++ map element_function e.functions) q in
     let b = const_sound e.offset (map element_function e.functions) I32 (length h.spaces.globals) h g i a.1 in
     let rest = sym (const_takes b.0 h I32 (length h.spaces.globals) (map element_function e.functions) b.2)
-    ∙ (sym (ap (λ z. all_taken after (with_const h (Some (expecting I32 (length h.spaces.globals)))) (map const_op z ++ map element_function e.functions)) b.1) ∙ a.1) in
+    ∙ (sym (ap (λ z. all_taken after (with_const h (Some (constant_expecting I32 (length h.spaces.globals)))) (map const_op z ++ map element_function e.functions)) b.1) ∙ a.1) in
     (ltb-true e.table (one_if h.spaces.has_table) a.0, b, functions_sound e.functions (with_const h None) g rest)
 
-pub element_member : Member after element_parts (Expresses (λ e. e.offset)) GoodElement put_segment
+pub element_member : Member after element_items (Expresses (λ e. e.offset)) GoodElement put_segment
 element_member = record { takes = λ h e i good. element_takes h e good; sound = λ h g e i q. element_sound h g e i q }
 
 -- data segments
@@ -243,17 +245,17 @@ bytes_take : (bytes : List ℕ) (h : Held) → all_taken after h (map data_byte 
 bytes_take [] h = refl
 bytes_take (b ∷ bytes) h = bytes_take bytes h
 
-segment_takes : (h : Held) (s : FlatSegment) → GoodSegment h s → all_taken after h (segment_parts s) ≡ Ok (put_segment h s)
+segment_takes : (h : Held) (s : FlatSegment) → GoodSegment h s → all_taken after h (segment_items s) ≡ Ok (put_segment h s)
 segment_takes h s good =
     head_takes (nat_lt s.memory (one_if h.spaces.has_memory)) h (map const_op s.offset ++ map data_byte s.bytes) (lt-ltb s.memory (one_if h.spaces.has_memory) good.0)
-    ∙ (ap (λ z. all_taken after (with_const h (Some (expecting I32 (length h.spaces.globals)))) (map const_op z ++ map data_byte s.bytes)) good.1.1
+    ∙ (ap (λ z. all_taken after (with_const h (Some (constant_expecting I32 (length h.spaces.globals)))) (map const_op z ++ map data_byte s.bytes)) good.1.1
     ∙ (const_takes good.1.0 h I32 (length h.spaces.globals) (map data_byte s.bytes) good.1.2
     ∙ bytes_take s.bytes (with_const h None)))
 
-segment_sound : (h g : Held) (s : FlatSegment) → IsExpression s.offset → all_taken after h (segment_parts s) ≡ Ok g → GoodSegment h s
+segment_sound : (h g : Held) (s : FlatSegment) → IsExpression s.offset → all_taken after h (segment_items s) ≡ Ok g → GoodSegment h s
 segment_sound h g s i q =
     let a = head_sound (nat_lt s.memory (one_if h.spaces.has_memory)) h g (map const_op s.offset ++ map data_byte s.bytes) q in
     (ltb-true s.memory (one_if h.spaces.has_memory) a.0, const_sound s.offset (map data_byte s.bytes) I32 (length h.spaces.globals) h g i a.1)
 
-pub segment_member : Member after segment_parts (Expresses (λ s. s.offset)) GoodSegment put_segment
+pub segment_member : Member after segment_items (Expresses (λ s. s.offset)) GoodSegment put_segment
 segment_member = record { takes = λ h s i good. segment_takes h s good; sound = λ h g s i q. segment_sound h g s i q }

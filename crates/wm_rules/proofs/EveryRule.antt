@@ -6,13 +6,13 @@ use Rattle.wm_syntax.specs.declared.profile.Profile.{Profile}
 use Rattle.wm_syntax.specs.Types.{SpellsU32}
 use Rattle.wm_syntax.specs.Instructions.{SpellsOp}
 use Rattle.wm_syntax.specs.Spelling.{Form}
-use Rattle.wm_decode.specs.Parts.{Part, new_type, param, one_result, import_module, import_name, import_desc, function, table, memory, global, const_op, export_name, start, element, element_function, body, locals, body_op, segment, data_byte, Marks}
+use Rattle.wm_decode.specs.Items.{Item, new_type, param, one_result, import_module, import_name, import_desc, function, table, memory, global, const_op, export_name, start, element, element_function, body, locals, body_op, segment, data_byte, Marks}
 use Rattle.wm_decode.specs.Sections.{header}
-use Rattle.wm_decode.specs.Shapes.{Shape, Empty, Byte, Then, Times, Leaf, Number, Vector, Index, Name, nothing_at, ending, name_marks}
+use Rattle.wm_decode.specs.MarkedForms.{MarkedForm, Empty, Byte, Then, Times, Leaf, Number, Vector, Index, Name, nothing_at, marks_ending, name_marks}
 use Rattle.wm_decode.specs.Grammar.{FunctionType, Import, EachOp, Expression, Global, Export, Element, Code, Segment, Paired, Contents, Section, Custom, Customs, Optional, Chain, Module}
 
--- a part that is complete at a byte outside names and code entries, or none
-abbrev pub IsPlain : Option Part → Type 0
+-- an item that is complete at a byte outside names and code entries, or none
+abbrev pub IsPlain : Option Item → Type 0
 IsPlain (Some (import_module text)) = ⊥
 IsPlain (Some (import_name text)) = ⊥
 IsPlain (Some (export_name text)) = ⊥
@@ -21,8 +21,8 @@ IsPlain (Some (locals n t)) = ⊥
 IsPlain (Some (body_op o)) = ⊥
 IsPlain _ = Unit {0}
 
--- a part that this name is, or none
-abbrev pub IsNamed : List ℕ → Option Part → Type 0
+-- an item that this name is, or none
+abbrev pub IsNamed : List ℕ → Option Item → Type 0
 IsNamed text None = Unit {0}
 IsNamed text (Some (import_module t)) = t ≡ text
 IsNamed text (Some (import_name t)) = t ≡ text
@@ -32,50 +32,50 @@ IsNamed text (Some _) = ⊥
 pub record Passes (demanded : Type 0) (p : Profile) (T : Marks → Type 0) : Type 0 where
   pub none : T []
   pub both : (a b : Marks) → T a → T b → T (a ++ b)
-  pub plain : (x : Option Part) (b : List ℕ) → IsPlain x → T (ending x b)
-  pub named : (x : Option Part) (front text : List ℕ) → IsNamed text x → SpellsU32 (length text) front → T (name_marks x front text)
+  pub plain : (x : Option Item) (b : List ℕ) → IsPlain x → T (marks_ending x b)
+  pub named : (x : Option Item) (front text : List ℕ) → IsNamed text x → SpellsU32 (length text) front → T (name_marks x front text)
   pub code : (b : List ℕ) (k : Marks) → Code demanded p b k → T k
 
 module _ (demanded : Type 0) (p : Profile) (T : Marks → Type 0) (t : Passes demanded p T) where
-  abbrev Has : Shape → Type 0
+  abbrev Has : MarkedForm → Type 0
   Has P = (b : List ℕ) (k : Marks) → P b k → T k
 
   has_empty : Has Empty
   has_empty b k h = subst T (sym h.1) t.none
 
-  has_byte : (c : ℕ) → (x : Option Part) → IsPlain x → Has (Byte c x)
+  has_byte : (c : ℕ) → (x : Option Item) → IsPlain x → Has (Byte c x)
   has_byte c x i b k h = subst T (sym h.1) (t.plain x (c ∷ []) i)
 
-  has_then : {P Q : Shape} → Has P → Has Q → Has (Then P Q)
+  has_then : {P Q : MarkedForm} → Has P → Has Q → Has (Then P Q)
   has_then f g b k h = subst T (sym h.marks) (t.both h.front_marks h.back_marks (f h.front h.front_marks h.first) (g h.back h.back_marks h.second))
 
-  has_times : {P : Shape} (n : ℕ) → Has P → Has (Times n P)
+  has_times : {P : MarkedForm} (n : ℕ) → Has P → Has (Times n P)
   has_times zero f = has_empty
   has_times (suc n) f = has_then f (has_times n f)
 
-  has_leaf : {X : Type 0} (V : X → Form ℕ) (part : X → Part) → ((v : X) → IsPlain (Some (part v))) → Has (Leaf V part)
+  has_leaf : {X : Type 0} (V : X → Form ℕ) (part : X → Item) → ((v : X) → IsPlain (Some (part v))) → Has (Leaf V part)
   has_leaf V part i b k h = subst T (sym h.2) (t.plain (Some (part h.0)) b (i h.0))
 
-  has_number : (x : ℕ → Option Part) (F : ℕ → Shape) → ((n : ℕ) → IsPlain (x n)) → ((n : ℕ) → Has (F n)) → Has (Number x F)
-  has_number x F i f b k h = subst T (sym h.marks) (t.both (ending (x h.n) h.front) h.back_marks (t.plain (x h.n) h.front (i h.n)) (f h.n h.back h.back_marks h.rest))
+  has_number : (x : ℕ → Option Item) (F : ℕ → MarkedForm) → ((n : ℕ) → IsPlain (x n)) → ((n : ℕ) → Has (F n)) → Has (Number x F)
+  has_number x F i f b k h = subst T (sym h.marks) (t.both (marks_ending (x h.n) h.front) h.back_marks (t.plain (x h.n) h.front (i h.n)) (f h.n h.back h.back_marks h.rest))
 
-  has_vector : {P : Shape} → Has P → Has (Vector P)
+  has_vector : {P : MarkedForm} → Has P → Has (Vector P)
   has_vector {P} f = has_number nothing_at (λ n. Times n P) (λ n. tt) (λ n. has_times n f)
 
-  has_index : (part : ℕ → Part) → ((n : ℕ) → IsPlain (Some (part n))) → Has (Index part)
+  has_index : (part : ℕ → Item) → ((n : ℕ) → IsPlain (Some (part n))) → Has (Index part)
   has_index part i = has_number (λ n. Some (part n)) (λ n. Empty) i (λ n. has_empty)
 
-  has_name : (x : List ℕ → Option Part) → ((text : List ℕ) → IsNamed text (x text)) → Has (Name demanded x)
+  has_name : (x : List ℕ → Option Item) → ((text : List ℕ) → IsNamed text (x text)) → Has (Name demanded x)
   has_name x i b k h = subst T (sym h.marks) (t.named (x h.text) h.front h.text (i h.text) h.number)
 
   has_ops : (ops : List Op) → Has (EachOp const_op ops)
   has_ops [] = has_empty
-  has_ops (o ∷ ops) = has_then {P = λ b k. SpellsOp o b × (k ≡ ending (Some (const_op o)) b)} (λ b k h. subst T (sym h.1) (t.plain (Some (const_op o)) b tt)) (has_ops ops)
+  has_ops (o ∷ ops) = has_then {P = λ b k. SpellsOp o b × (k ≡ marks_ending (Some (const_op o)) b)} (λ b k h. subst T (sym h.1) (t.plain (Some (const_op o)) b tt)) (has_ops ops)
 
   has_expression : Has (Expression p const_op)
   has_expression b k h = has_ops h.0 b k h.3
 
-  has_paired : {P : Shape} (f : ℕ) → Has P → Has (Paired demanded f P)
+  has_paired : {P : MarkedForm} (f : ℕ) → Has P → Has (Paired demanded f P)
   has_paired {P} f g = has_number nothing_at (λ n b k. (demanded → n ≡ f) × Times n P b k) (λ n. tt) (λ n b k h. has_times n g b k h.1)
 
   has_type : Has FunctionType
@@ -115,7 +115,7 @@ module _ (demanded : Type 0) (p : Profile) (T : Marks → Type 0) (t : Passes de
 
   has_custom : Has (Custom demanded)
   has_custom = has_then (has_byte 0 None tt) (has_number nothing_at _ (λ n. tt) (λ n b k h.
-      subst T (sym h.marks) (t.both h.front_marks (ending None h.back) (has_name (λ text. None) (λ s. tt) h.front h.front_marks h.first) (t.plain None h.back tt))))
+      subst T (sym h.marks) (t.both h.front_marks (marks_ending None h.back) (has_name (λ text. None) (λ s. tt) h.front h.front_marks h.first) (t.plain None h.back tt))))
 
   has_customs : Has (Customs demanded)
   has_customs b k h = has_times h.0 has_custom b k h.1

@@ -5,21 +5,22 @@ use Rattle.wm_typing.specs.declared.stats.BodyStats.{BodyStats}
 use Rattle.wm_decode.specs.Decoding.{Takes}
 use Rattle.wm_decode.specs.Fronts.{inside_bytes, outside_bytes}
 use Rattle.wm_decode.specs.Grammar.{Items}
-use Rattle.wm_decode.specs.Parts.{Zone, outside, name, entry, closing, Marks, parts_of}
-use Rattle.wm_decode.specs.Runs.{begin}
+use Rattle.wm_decode.specs.Items.{Zone, outside, name, entry, closing, Marks, items_at}
+use Rattle.wm_decode.specs.exact.Runs.{state_at_start}
 use Rattle.wm_decode.specs.Sections.{header}
-use Rattle.wm_decode.specs.Shapes.{ending}
+use Rattle.wm_decode.specs.MarkedForms.{marks_ending}
 use Rattle.wm_decode.specs.Sinks.{all_taken}
 use Rattle.wm_decode.proofs.Fronts.{length_marks}
 use Rattle.wm_decode.proofs.SpelledBytes.{whole_bytes}
-use Rattle.wm_decode.proofs.Theorem.{items_are}
+use Rattle.wm_decode.proofs.MachineAndSink.{items_are}
 use Rattle.wm_decode.proofs.Zones.{all_bytes}
 use Rattle.wm_rules.specs.declared.checker.Summary.{Summary}
 use Rattle.wm_rules.specs.Bounds.{FiguresWithin, SummaryOf, figures, run_more, longest_after, longest_entry}
-use Rattle.wm_rules.specs.Checking.{Held, after, empty}
-use Rattle.wm_rules.specs.Validating.{setting}
-use Rattle.wm_rules.proofs.Judged.{functions_counted, nesting_counted, nothing_counted}
-use Rattle.wm_rules.proofs.Moments.{whole_idle}
+use Rattle.wm_rules.specs.exact.Checking.{after, empty_checker}
+use Rattle.wm_rules.specs.Holding.{Held}
+use Rattle.wm_rules.specs.inner.Validators.{validator_setting}
+use Rattle.wm_rules.proofs.AcceptedInputs.{functions_counted, nesting_counted, nothing_counted}
+use Rattle.wm_rules.proofs.KeptOfBodies.{whole_idle}
 
 -- an entry lies in code entries
 run_inside : (z : Zone) (n a : ℕ) → run_more z n + a ≤ n + elim z [ outside ↦ a | name ↦ a | entry ↦ suc a | closing ↦ suc a ]
@@ -38,17 +39,17 @@ longest_inside (m ∷ k) n =
 -- the header lies outside of them
 header_outside : (p : Profile) (b : List ℕ) (k : Marks) → Items p b k → 1 ≤ outside_bytes k
 header_outside p b k h =
-    let e : k ≡ ending None header ++ h.1.back_marks = h.1.marks ∙ ap (λ j. j ++ h.1.back_marks) h.1.first.1 in
+    let e : k ≡ marks_ending None header ++ h.1.back_marks = h.1.marks ∙ ap (λ j. j ++ h.1.back_marks) h.1.first.1 in
     subst (λ j. 1 ≤ outside_bytes j) (sym e) (omega arith)
 
-module _ (p : Profile) (limit : ℕ) (b : List ℕ) (last : Held) (low : limit ≤ 2 ^ 62) (t : Takes after (setting p limit) b last) where
+module _ (p : Profile) (limit : ℕ) (b : List ℕ) (last : Held) (low : limit ≤ 2 ^ 62) (t : Takes after (validator_setting p limit) b last) where
   within : (items : Marks) → Items p b items → FiguresWithin (longest_entry items) last.most
   within items m =
       let bytes = whole_bytes p b items m in
       let is = (items_are p b items bytes m).0 in
       let same : t.items ≡ items = (items_are p b t.items bytes t.module_items).0 ∙ sym is in
-      let idle = whole_idle p b items last m (subst (λ k. all_taken after empty (parts_of k) ≡ _) same t.taken) in
-      let long = length_marks p b begin in
+      let idle = whole_idle p b items last m (subst (λ k. all_taken after empty_checker (items_at k) ≡ _) same t.taken) in
+      let long = length_marks p b state_at_start in
       let size = ap length is in
       idle.most (omega (arith, low, t.within, long, size, all_bytes items, header_outside p b items m, longest_inside items 0))
 

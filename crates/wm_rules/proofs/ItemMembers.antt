@@ -1,4 +1,4 @@
--- What the checker does to the parts of a type, an import, a function, a table, a memory, an export and a start.
+-- What the checker does to the items of a type, an import, a function, a table, a memory, an export and a start.
 use Rattle.std.proofs.Common.{ℕ, suc, ◌+◌, ◌≡◌, ◌≤◌, ◌<◌, ◌^◌, List, [], ◌∷◌, ◌++◌, Option, Some, None, IfSome, Bool, true, false, cond, ◌&&◌, Result, Ok, Err, length, refl, sym, ◌∙◌, ap, append_assoc, append-nil, arith, map, nat_lt, nat_le, nat_eq}
 use Rattle.std.proofs.lemmas.Bool.{lt-ltb, ltb-true, le-leb, leb-true, eqb-true}
 use Rattle.wm_syntax.specs.declared.types.ValType.{ValType}
@@ -10,14 +10,15 @@ use Rattle.wm_syntax.specs.declared.why.Why.TheVariants as why
 use Rattle.wm_syntax.specs.Types.{Signature}
 use Rattle.wm_syntax.specs.Modules.{Import, Export}
 use Rattle.wm_typing.specs.Typing.{function_type}
-use Rattle.wm_decode.specs.Parts.{Part, param, result_count, one_result, import_desc, export}
+use Rattle.wm_decode.specs.Items.{Item, param, result_count, one_result, import_desc, export}
 use Rattle.wm_decode.specs.Sinks.{and_then, all_taken}
 use Rattle.wm_rules.specs.Validation.{WithinRange, ValidTable, ValidMemory}
-use Rattle.wm_rules.specs.Spaces.{IndexSpaces, context_of, on_last, one_param_more, one_result_more, max_is_within, is_within, items_in, plain, is_plain}
-use Rattle.wm_rules.specs.Checking.{Held, after, in_names, in_spaces, is_taken, put_name, where_ok}
-use Rattle.wm_decode.specs.Flat.{type_parts, import_parts, export_parts}
+use Rattle.wm_rules.specs.exact.Spaces.{context_of, on_last, one_param_more, one_result_more, max_is_within, is_within, items_in, plain, is_plain}
+use Rattle.wm_rules.specs.Holding.{IndexSpaces, Held}
+use Rattle.wm_rules.specs.exact.Checking.{after, in_names, in_spaces, is_taken, put_name, where_ok}
+use Rattle.wm_decode.specs.Flat.{type_items, import_items, export_items}
 use Rattle.wm_rules.proofs.Members.{function_part, table_part, memory_part, start_part}
-use Rattle.wm_rules.proofs.Folding.{Member}
+use Rattle.wm_rules.proofs.MemberFolds.{Member}
 
 -- what is asked of nothing more
 abbrev pub Any : {X : Type 0} → Held → X → Type 0
@@ -35,7 +36,7 @@ on_last_put f x y (z ∷ w ∷ xs) e = ap (λ r. and_then r (λ zs. Ok (z ∷ zs
 param_one : (p : ValType) (h : Held) (ts : List Signature) (s : Signature) → after (in_types h (ts ++ s ∷ [])) (param p) ≡ Ok (in_types h (ts ++ record s { params = s.params ++ p ∷ [] } ∷ []))
 param_one p h ts s = rw (on_last_put (one_param_more p) s (record s { params = s.params ++ p ∷ [] }) ts refl) refl
 
-params_run : (ps : List ValType) (rest : List Part) (h : Held) (ts : List Signature) (s : Signature)
+params_run : (ps : List ValType) (rest : List Item) (h : Held) (ts : List Signature) (s : Signature)
     → all_taken after (in_types h (ts ++ s ∷ [])) (map param ps ++ rest) ≡ all_taken after (in_types h (ts ++ record s { params = s.params ++ ps } ∷ [])) rest
 params_run [] rest h ts s = ap (λ z. all_taken after (in_types h (ts ++ record s { params = z } ∷ [])) rest) (sym (append-nil s.params))
 params_run (p ∷ ps) rest h ts s =
@@ -66,10 +67,10 @@ results_sound ps rs h g e = leb-true (length rs) 1 (go (nat_le (length rs) 1) e)
     go true e = refl
     go false e = absurd (cc)
 
-sig_run : (h : Held) (s : Signature) → all_taken after h (type_parts s) ≡ all_taken after (put_sig h (record { params = s.params; results = [] })) (result_count (length s.results) ∷ map one_result s.results)
+sig_run : (h : Held) (s : Signature) → all_taken after h (type_items s) ≡ all_taken after (put_sig h (record { params = s.params; results = [] })) (result_count (length s.results) ∷ map one_result s.results)
 sig_run h s = params_run s.params (result_count (length s.results) ∷ map one_result s.results) h h.spaces.types (record { params = []; results = [] })
 
-pub sig_member : Member after type_parts Any GoodSig put_sig
+pub sig_member : Member after type_items Any GoodSig put_sig
 sig_member = record {
   takes = λ h s q g. sig_run h s ∙ results_takes s.params s.results h g;
   sound = λ h g s q e. results_sound s.params s.results h g (sym (sig_run h s) ∙ e);
@@ -205,7 +206,7 @@ import_sound h g (desc.Table l) e = table_member.sound h g l tt e
 import_sound h g (desc.Memory l) e = memory_member.sound h g l tt e
 import_sound h g (desc.Global v) e = tt
 
-pub import_member : Member after import_parts Any GoodImport put_import
+pub import_member : Member after import_items Any GoodImport put_import
 import_member = record {
   takes = λ h i q g. import_takes h i.desc g;
   sound = λ h g i q e. import_sound h g i.desc e;
@@ -218,19 +219,19 @@ put_export h e = record h { names = put_name e.name h.names }
 abbrev pub GoodExport : Held → Export → Type 0
 GoodExport h e = (is_taken e.name h.names ≡ false) × (e.index < items_in e.kind h.spaces)
 
-export_takes : (h : Held) (e : Export) → GoodExport h e → all_taken after h (export_parts e) ≡ Ok (put_export h e)
+export_takes : (h : Held) (e : Export) → GoodExport h e → all_taken after h (export_items e) ≡ Ok (put_export h e)
 export_takes h e g =
     ap (λ b. and_then (in_names h (cond b (Err why.DuplicateExport) (Ok (put_name e.name h.names)))) (λ k. and_then (after k (export e.kind e.index)) (λ g. Ok g))) g.0
     ∙ test_takes (nat_lt e.index (items_in e.kind h.spaces)) (put_export h e) why.Index (lt-ltb e.index (items_in e.kind h.spaces) g.1)
 
-export_sound : (h g : Held) (e : Export) → all_taken after h (export_parts e) ≡ Ok g → GoodExport h e
+export_sound : (h g : Held) (e : Export) → all_taken after h (export_items e) ≡ Ok g → GoodExport h e
 export_sound h g e q = go (is_taken e.name h.names) refl q
   where
     go : (b : Bool) → is_taken e.name h.names ≡ b → and_then (in_names h (cond b (Err why.DuplicateExport) (Ok (put_name e.name h.names)))) (λ k. and_then (after k (export e.kind e.index)) (λ g. Ok g)) ≡ Ok g → GoodExport h e
     go true is q = absurd (cc)
     go false is q = (is, ltb-true e.index (items_in e.kind h.spaces) (test_sound (nat_lt e.index (items_in e.kind h.spaces)) (put_export h e) g why.Index q))
 
-pub export_member : Member after export_parts Any GoodExport put_export
+pub export_member : Member after export_items Any GoodExport put_export
 export_member = record { takes = λ h e q g. export_takes h e g; sound = λ h g e q p. export_sound h g e p }
 
 -- the start function

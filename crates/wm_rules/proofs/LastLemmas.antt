@@ -8,7 +8,7 @@ use Rattle.wm_syntax.specs.declared.why.Why.TheVariants.{Arity}
 use Rattle.wm_syntax.specs.Types.{Signature}
 use Rattle.wm_typing.specs.Contexts.{AreTypes}
 use Rattle.wm_decode.specs.Sinks.{Taken, and_then}
-use Rattle.wm_rules.specs.Spaces.{on_last, one_param_more, one_result_more}
+use Rattle.wm_rules.specs.exact.Spaces.{on_last, one_param_more, one_result_more}
 
 -- an answer that is carried on by a function
 pub taken_then : {A B U : Type 0} (g : A → B) (e : Result A Why) (r : Result U Why) (a : A) → Taken e r a → Taken (and_then e (λ x. Ok (g x))) r (g a)

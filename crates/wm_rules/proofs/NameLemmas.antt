@@ -9,7 +9,7 @@ use Rattle.std.specs.Ordering.{match_ordering, nat_cmp}
 use Rattle.std.specs.Cmp.Lexicographic.{slice_cmp}
 use Rattle.std.specs.Str.{bytes_eq}
 use Rattle.std.proofs.lemmas.Map.Text.{is_eq-slice_cmp}
-use Rattle.wm_rules.specs.Checking.{is_taken, names_with, put_name}
+use Rattle.wm_rules.specs.exact.Checking.{is_taken, names_with, put_name}
 use Rattle.wm_syntax.specs.declared.why.Why.TheVariants.{DuplicateExport}
 
 not_true : {b : Bool} → not b ≡ true → b ≡ false

@@ -18,32 +18,34 @@ use Rattle.wm_syntax.specs.Opcodes.{load, store}
 use Rattle.wm_syntax.specs.Types.{Signature}
 use Rattle.wm_stacks.specs.declared.entries.Entry.{Entry}
 use Rattle.wm_stacks.specs.declared.entries.Entry.TheVariants.{Unknown}
-use Rattle.wm_stacks.specs.declared.entries.Kind.{Kind}
-use Rattle.wm_stacks.specs.declared.entries.Kind.TheVariants.{Func, Block, Loop, If, Else}
+use Rattle.wm_stacks.specs.declared.entries.FrameKind.{Kind}
+use Rattle.wm_stacks.specs.declared.entries.FrameKind.TheVariants.{Func, Block, Loop, If, Else}
 use Rattle.wm_stacks.specs.declared.entries.Frame.{Frame}
 use Rattle.wm_stacks.specs.declared.entries.Reach.{Reach}
 use Rattle.wm_stacks.specs.declared.entries.Reach.TheVariants.{Whole, Floor}
 use Rattle.wm_stacks.specs.Runs as runs
 use Rattle.wm_stacks.specs.Stack.{Stack, fits}
-use Rattle.wm_stacks.specs.Exact.{opened, ticked, popped, at_floor, takes, take_above, in_frame, take_one, take_all, goes_on, any_above, take_any, cut, close, close_at}
-use Rattle.wm_stacks.specs.ExactRuns.{added}
-use Rattle.wm_typing.specs.declared.labels.Table.{Table}
+use Rattle.wm_stacks.specs.exact.Stacks.{open_frame, count_after_move, pop_to, at_floor, takes, take_above, in_frame, take_one, take_all, goes_on, any_above, take_any, cut, close, close_at}
+use Rattle.wm_stacks.specs.exact.Runs.{add_run}
+use Rattle.wm_typing.specs.declared.labels.BrTable.{Table}
 use Rattle.wm_typing.specs.Typing.{Context, function_type}
 use Rattle.wm_typing.specs.Entries.{join}
-use Rattle.wm_typing.specs.Shapes.{Shape, fixed, indirect, diverges, drops, selects, ill, with_item, where_true, shape_of}
-use Rattle.wm_typing.specs.Exact.{push_all, after as then_on, drive_fixed, drive_diverges, push_joined, select_from, drive, drive_close, else_of, drive_else, may_end, give_to, drive_end, drive_if, drive_count, State, with_table, goes_with, drive_known, drive_label, labels_of, within_frames, drive_op, step}
-use Rattle.wm_typing.specs.Bodies.{Body}
-use Rattle.wm_typing.specs.ExactBodies.{context_in, declared_more, declared_to, probes_in, progress_at, stepped, stepped_to as body_stepped_to, unless_refused}
+use Rattle.wm_typing.specs.exact.Effects.{Effect, fixed, indirect, is_polymorphic, drops, selects, ill, with_item, where_true, effect_of}
+use Rattle.wm_typing.specs.exact.Ops.{push_all, after_call as then_on, drive_fixed, drive_diverges, push_joined, select_from, drive, drive_close, else_of, drive_else, may_end, give_to, drive_end, drive_if, drive_count, with_table, goes_with, drive_known, drive_label, labels_of, within_frames, drive_op, step}
+use Rattle.wm_typing.specs.Bodies.{BodyState, Body}
+use Rattle.wm_typing.specs.exact.Bodies.{context_in, declared_more, declared_to, progress_at, body_after_op, body_from as body_stepped_to, unless_refused}
+use Rattle.wm_typing.specs.Probes.{probes_in}
 use Rattle.wm_typing.specs.declared.body_checker.Progress.{Progress}
 use Rattle.wm_typing.specs.declared.body_checker.Progress.TheVariants.{Inside, Ended}
-use Rattle.wm_decode.specs.Parts.{Part, new_type, param, result_count, one_result, import_module, import_name, import_desc, function, table, memory, global, const_op, export_name, export, start, element, element_function, body, locals, body_op, segment, data_byte}
+use Rattle.wm_decode.specs.Items.{Item, new_type, param, result_count, one_result, import_module, import_name, import_desc, function, table, memory, global, const_op, export_name, export, start, element, element_function, body, locals, body_op, segment, data_byte}
 use Rattle.wm_decode.specs.Sinks.{all_taken, and_then}
 use Rattle.wm_rules.specs.declared.constants.Constant.{Constant}
-use Rattle.wm_rules.specs.Constants.{constant_after, first_only, of_global, of_type, visible}
-use Rattle.wm_rules.specs.Spaces.{IndexSpaces, on_last, one_param_more, one_result_more, with_types, function_added, table_added, memory_added, import_added, is_within, items_in, named, is_plain, plain, context_of, next_type}
-use Rattle.wm_rules.specs.Checking.{Held, after, body_begun, constant_begun, empty, in_constant, in_names, in_spaces, is_taken, names_with, offset_begun, one_at_most, put_name, stepped_to, where_ok, with_body, with_constant, with_progress}
-use Rattle.wm_rules.proofs.Calm.{IsOutside, part_calm}
-use Rattle.wm_rules.proofs.Folding.{ok_then}
+use Rattle.wm_rules.specs.exact.Constants.{constant_after, first_only, of_global, of_type, visible}
+use Rattle.wm_rules.specs.exact.Spaces.{on_last, one_param_more, one_result_more, with_types, function_added, table_added, memory_added, import_added, is_within, items_in, index_check, is_plain, plain, context_of, next_type}
+use Rattle.wm_rules.specs.Holding.{IndexSpaces, Held}
+use Rattle.wm_rules.specs.exact.Checking.{after, body_begun, constant_begun, empty_checker, in_constant, in_names, in_spaces, is_taken, names_with, offset_begun, one_at_most, put_name, checker_after_op, where_ok, with_body, with_constant, with_progress}
+use Rattle.wm_rules.proofs.OutsideBodies.{IsOutside, part_calm}
+use Rattle.wm_rules.proofs.MemberFolds.{ok_then}
 
 abbrev IsOther : Why → Type 0
 IsOther why.Float = ⊥
@@ -95,7 +97,7 @@ take_other (t ∷ ts) s = goes_other (take_one t s) (take_all ts) (one_other t s
 
 any_above_other : (f : Frame) (es : List Entry) (s : Stack) → Other (any_above f es s).0
 any_above_other f [] s = floor_other Unknown f.unreachable s
-any_above_other f (e ∷ es) s = both_on (nat_le f.floor (length es)) (Ok e, popped es s) (at_floor Unknown f.unreachable s) tt (floor_other Unknown f.unreachable s)
+any_above_other f (e ∷ es) s = both_on (nat_le f.floor (length es)) (Ok e, pop_to es s) (at_floor Unknown f.unreachable s) tt (floor_other Unknown f.unreachable s)
 
 any_in_other : (fs : List Frame) (s : Stack) → Other (in_frame fs (λ f. any_above f s.operands s) s).0
 any_in_other [] s = tt
@@ -107,7 +109,7 @@ any_other s = any_in_other s.frames s
 close_at_other : (fs : List Frame) (s : Stack) → Other (close_at fs s).0
 close_at_other [] s = tt
 close_at_other (f ∷ fs) s =
-    both_on (nat_lt f.floor (length s.operands)) (Err why.Arity, s) (Ok f, record s { frames = fs; moves = ticked s.moves }) tt tt
+    both_on (nat_lt f.floor (length s.operands)) (Err why.Arity, s) (Ok f, record s { frames = fs; moves = count_after_move s.moves }) tt tt
 
 on_other : {A : Type 0} (r : Result A Why × Stack) (k : A → Stack → Result Stack Why) → Other r.0 → ((x : A) (z : Stack) → Other (k x z)) → Other (then_on r k)
 on_other (Ok x, z) k p q = q x z
@@ -130,27 +132,27 @@ select_other Whole s =
     on_other (take_any s) (λ a y. then_on (take_any y) (λ b x. push_joined (join a b) x)) (any_other s)
     (λ a y. on_other (take_any y) (λ b x. push_joined (join a b) x) (any_other y) (λ b x. joined_other (join a b) x))
 
-abbrev OtherShape : Shape → Type 0
+abbrev OtherShape : Effect → Type 0
 OtherShape (ill w) = IsOther w
 OtherShape _ = Unit {0}
 
-item_shape : {X : Type 0} (o : Option X) (f : X → Shape) → ((x : X) → OtherShape (f x)) → OtherShape (with_item o f)
+item_shape : {X : Type 0} (o : Option X) (f : X → Effect) → ((x : X) → OtherShape (f x)) → OtherShape (with_item o f)
 item_shape None f h = tt
 item_shape (Some x) f h = h x
 
-true_shape : (w : Why) → IsOther w → (b : Bool) (s : Shape) → OtherShape s → OtherShape (where_true w b s)
+true_shape : (w : Why) → IsOther w → (b : Bool) (s : Effect) → OtherShape s → OtherShape (where_true w b s)
 true_shape w i true s h = h
 true_shape w i false s h = i
 
-access_shape : (c : Context) (align width : ℕ) (s : Shape) → OtherShape s
+access_shape : (c : Context) (align width : ℕ) (s : Effect) → OtherShape s
     → OtherShape (where_true why.Index c.has_memory (where_true why.Align (nat_le (2 ^ align) width) s))
 access_shape c align width s h =
     true_shape why.Index tt c.has_memory (where_true why.Align (nat_le (2 ^ align) width) s) (true_shape why.Align tt (nat_le (2 ^ align) width) s h)
 
-shape_other : (c : Context) (p : Simple) → OtherShape (shape_of c p)
+shape_other : (c : Context) (p : Simple) → OtherShape (effect_of c p)
 shape_other c simple.Unreachable = tt
 shape_other c simple.Nop = tt
-shape_other c (simple.Br l) = item_shape (slice_get c.labels l) (λ t. diverges (option_to_list t)) (λ t. tt)
+shape_other c (simple.Br l) = item_shape (slice_get c.labels l) (λ t. is_polymorphic (option_to_list t)) (λ t. tt)
 shape_other c (simple.BrIf l) = item_shape (slice_get c.labels l) (λ t. fixed (option_to_list t ++ I32 ∷ []) (option_to_list t)) (λ t. tt)
 shape_other c simple.Return = tt
 shape_other c (simple.Call x) = item_shape (function_type c x) (λ (f : Signature). fixed f.params f.results) (λ f. tt)
@@ -174,10 +176,10 @@ shape_other c (simple.Load o at) = access_shape c at.align (load o).width (fixed
 shape_other c (simple.Store o at) = access_shape c at.align (store o).width (fixed (I32 ∷ (store o).ty ∷ []) []) tt
 shape_other c (simple.Numeric o) = tt
 
-drive_other : (d : Shape) (s : Stack) → OtherShape d → Other (drive d s)
+drive_other : (d : Effect) (s : Stack) → OtherShape d → Other (drive d s)
 drive_other (fixed p q) s h = fixed_other p q s
 drive_other (indirect p q) s h = on_other (take_all (I32 ∷ []) s) (λ r z. drive_fixed p q z) (take_other (I32 ∷ []) s) (λ r z. fixed_other p q z)
-drive_other (diverges p) s h = diverges_other p s
+drive_other (is_polymorphic p) s h = diverges_other p s
 drive_other drops s h = on_other (take_any s) (λ e z. Ok z) (any_other s) (λ e z. tt)
 drive_other selects s h = on_other (take_all (I32 ∷ []) s) select_from (take_other (I32 ∷ []) s) select_other
 drive_other (ill w) s h = h
@@ -188,7 +190,7 @@ close_other t s k h =
     (λ r z. on_other (close z) k (close_at_other z.frames z) h)
 
 else_of_other : (k : Kind) (t : Option ValType) (s : Stack) → Other (else_of k t s)
-else_of_other If t s = close_other t s (λ f z. Ok (opened Else t z)) (λ f z. tt)
+else_of_other If t s = close_other t s (λ f z. Ok (open_frame Else t z)) (λ f z. tt)
 else_of_other Func t s = tt
 else_of_other Block t s = tt
 else_of_other Loop t s = tt
@@ -220,10 +222,10 @@ label_other (Some u) t s = both (goes_with t.seen u) (drive_known u t s) (Err wh
 drive_op_other : (c : Context) (x : Op) (t : Option Table) (s : Stack) → Other (drive_op c x t s)
 drive_op_other c (op.Label l) (Some t) s = label_other (slice_get (labels_of s.frames) l) t s
 drive_op_other c (op.Simple p) None s =
-    table_other None (drive (shape_of (within_frames c s.frames) p) s) (drive_other (shape_of (within_frames c s.frames) p) s (shape_other (within_frames c s.frames) p))
+    table_other None (drive (effect_of (within_frames c s.frames) p) s) (drive_other (effect_of (within_frames c s.frames) p) s (shape_other (within_frames c s.frames) p))
 drive_op_other c (op.Block t) None s = tt
 drive_op_other c (op.Loop t) None s = tt
-drive_op_other c (op.If t) None s = table_other None (drive_if t s) (on_other (take_all (I32 ∷ []) s) (λ r z. Ok (opened If t z)) (take_other (I32 ∷ []) s) (λ r z. tt))
+drive_op_other c (op.If t) None s = table_other None (drive_if t s) (on_other (take_all (I32 ∷ []) s) (λ r z. Ok (open_frame If t z)) (take_other (I32 ∷ []) s) (λ r z. tt))
 drive_op_other c op.Else None s = table_other None (drive_else s.frames s) (else_other s.frames s)
 drive_op_other c op.End None s = table_other None (drive_end s.frames s) (end_other s.frames s)
 drive_op_other c (op.BrTable n) None s =
@@ -241,24 +243,24 @@ drive_op_other c (op.BrTable n) (Some t) s = tt
 abbrev IsUnrefused : Held → Type 0
 IsUnrefused h = h.body.refused ≡ None
 
-to_other : (b : Body) (n : ℕ) (r : Result State Why) → Other r → Other (body_stepped_to b n r)
+to_other : (b : Body) (n : ℕ) (r : Result BodyState Why) → Other r → Other (body_stepped_to b n r)
 to_other b n (Ok s) h = tt
 to_other b n (Err w) h = h
 
-stepped_other : (c : Context) (x : Op) (b : Body) → b.refused ≡ None → Other (stepped c x b)
+stepped_other : (c : Context) (x : Op) (b : Body) → b.refused ≡ None → Other (body_after_op c x b)
 stepped_other c x b e =
     let r : Result Body Why = body_stepped_to b (probes_in c b x) (step (context_in c b) b.state x) in
     subst (λ w. Other (unless_refused w r)) (sym e)
     (to_other b (probes_in c b x) (step (context_in c b) b.state x) (drive_op_other (context_in c b) x b.state.table b.state.stacks))
 
 declared_other : (n : ℕ) (t : ValType) (b : Body) → b.refused ≡ None → Other (declared_more n t b)
-declared_other n t b e = subst (λ w. Other (unless_refused w (declared_to b (added n t b.declared)))) (sym e) (go (nat_lt (length b.declared + n) (2 ^ 32)))
+declared_other n t b e = subst (λ w. Other (unless_refused w (declared_to b (add_run n t b.declared)))) (sym e) (go (nat_lt (length b.declared + n) (2 ^ 32)))
   where
     go : (c : Bool) → Other (declared_to b (cond c (Ok (b.declared ++ replicate n t)) (Err why.TooManyLocals)))
     go true = tt
     go false = tt
 
-to_held : (h : Held) (r : Result Body Why) → Other r → Other (stepped_to h r)
+to_held : (h : Held) (r : Result Body Why) → Other r → Other (checker_after_op h r)
 to_held h (Ok b) p = tt
 to_held h (Err w) p = p
 
@@ -301,7 +303,7 @@ import_other (desc.Table l) s = sized_other s.has_table (is_within (2 ^ 32) l) (
 import_other (desc.Memory l) s = sized_other s.has_memory (is_within (2 ^ 16) l) (record s { has_memory = true })
 import_other (desc.Global g) s = tt
 
-named_other : (k : ExportKind) (x : ℕ) (s : IndexSpaces) → Other (named k x s)
+named_other : (k : ExportKind) (x : ℕ) (s : IndexSpaces) → Other (index_check k x s)
 named_other k x s = both (nat_lt x (items_in k s)) (Ok tt) (Err why.Index) tt tt
 
 plain_other : (f : Option Signature) → Other (plain f)
@@ -347,10 +349,10 @@ begun_other h None = tt
 begun_other h (Some x) = tt
 
 offset_other : (k : ExportKind) (x : ℕ) (h : Held) → Other (offset_begun k x h)
-offset_other k x h = other_then (named k x h.spaces) (λ u. Ok (constant_begun I32 (length h.spaces.globals) h)) (named_other k x h.spaces) (λ u. tt)
+offset_other k x h = other_then (index_check k x h.spaces) (λ u. Ok (constant_begun I32 (length h.spaces.globals) h)) (named_other k x h.spaces) (λ u. tt)
 
 -- one item
-part_other : (h : Held) (x : Part) → IsUnrefused h → Other (after h x)
+part_other : (h : Held) (x : Item) → IsUnrefused h → Other (after h x)
 part_other h new_type e = tt
 part_other h (param t) e = spaces_other h _ (types_other h.spaces _ (last_other (one_param_more t) (λ f. tt) h.spaces.types))
 part_other h (result_count n) e = ok_other h (one_at_most n) (both (nat_le n 1) (Ok tt) (Err why.Arity) tt tt)
@@ -364,15 +366,15 @@ part_other h (memory l) e = spaces_other h (memory_added l h.spaces) (sized_othe
 part_other h (global g) e = tt
 part_other h (const_op o) e = in_constant_other o h h.constant
 part_other h (export_name name) e = names_other h (names_with name h.names) (both (is_taken name h.names) (Err why.DuplicateExport) (Ok (put_name name h.names)) tt tt)
-part_other h (export k x) e = ok_other h (named k x h.spaces) (named_other k x h.spaces)
+part_other h (export k x) e = ok_other h (index_check k x h.spaces) (named_other k x h.spaces)
 part_other h (start x) e = ok_other h _ (plain_other (function_type (context_of h.spaces) x))
 part_other h (element x) e = offset_other kind.Table x h
-part_other h (element_function x) e = ok_other h (named kind.Func x h.spaces) (named_other kind.Func x h.spaces)
+part_other h (element_function x) e = ok_other h (index_check kind.Func x h.spaces) (named_other kind.Func x h.spaces)
 part_other h body e = begun_other h (next_type h.spaces)
 part_other h (locals n t) e = both h.in_body (with_body h (declared_more n t h.body)) (Err why.Index) (body_held h (declared_more n t h.body) (declared_other n t h.body e)) tt
 part_other h (body_op o) e =
-    both h.in_body (stepped_to h (stepped (context_of h.spaces) o h.body)) (Err why.Index)
-    (to_held h (stepped (context_of h.spaces) o h.body) (stepped_other (context_of h.spaces) o h.body e)) tt
+    both h.in_body (checker_after_op h (body_after_op (context_of h.spaces) o h.body)) (Err why.Index)
+    (to_held h (body_after_op (context_of h.spaces) o h.body) (stepped_other (context_of h.spaces) o h.body e)) tt
 part_other h (segment x) e = offset_other kind.Memory x h
 part_other h (data_byte c) e = tt
 
@@ -391,7 +393,7 @@ declared_kept : (b d : Body) (r : Result (List ValType) Why) → IsOpen b → de
 declared_kept b d (Ok ts) n e = subst IsOpen (ok_is _ d e) n
 declared_kept b d (Err w) n e = absurd (cc)
 
-step_kept : (b d : Body) (probes : ℕ) (r : Result State Why) → IsOpen b → body_stepped_to b probes r ≡ Ok d → IsOpen d
+step_kept : (b d : Body) (probes : ℕ) (r : Result BodyState Why) → IsOpen b → body_stepped_to b probes r ≡ Ok d → IsOpen d
 step_kept b d probes (Ok s) n e = subst IsOpen (ok_is _ d e) n
 step_kept b d probes (Err w) n e = absurd (cc)
 
@@ -399,7 +401,7 @@ progress_kept : (h : Held) (b : Body) (p : Progress) → IsOpen b → IsUnrefuse
 progress_kept h b Inside n = n
 progress_kept h b Ended n = n
 
-op_kept : (h g : Held) (c : Bool) (r : Result Body Why) → ((b : Body) → r ≡ Ok b → IsOpen b) → cond c (stepped_to h r) (Err why.Index) ≡ Ok g → IsUnrefused g
+op_kept : (h g : Held) (c : Bool) (r : Result Body Why) → ((b : Body) → r ≡ Ok b → IsOpen b) → cond c (checker_after_op h r) (Err why.Index) ≡ Ok g → IsUnrefused g
 op_kept h g true (Ok b) k e = subst IsUnrefused (ok_is _ g e) (progress_kept h b (progress_at b.state.stacks.frames) (k b refl))
 op_kept h g true (Err w) k e = absurd (cc)
 op_kept h g false r k e = absurd (cc)
@@ -413,20 +415,20 @@ begun_kept : (h g : Held) (x : Option ℕ) → body_begun h x ≡ Ok g → IsUnr
 begun_kept h g None e = absurd (cc)
 begun_kept h g (Some x) e = subst IsUnrefused (ok_is _ g e) refl
 
-part_kept : (h g : Held) (x : Part) → after h x ≡ Ok g → IsUnrefused h → IsUnrefused g
+part_kept : (h g : Held) (x : Item) → after h x ≡ Ok g → IsUnrefused h → IsUnrefused g
 part_kept h g x e n = go x e
   where
-    outside : (y : Part) → IsOutside y → after h y ≡ Ok g → IsUnrefused g
+    outside : (y : Item) → IsOutside y → after h y ≡ Ok g → IsUnrefused g
     outside y i t = let c = part_calm h g y i t in ap (λ (b : Body). b.refused) c.body ∙ n
 
-    go : (y : Part) → after h y ≡ Ok g → IsUnrefused g
+    go : (y : Item) → after h y ≡ Ok g → IsUnrefused g
     go body t = begun_kept h g (next_type h.spaces) t
     go (locals k v) t =
         locals_kept h g h.in_body (declared_more k v h.body)
-        (λ b e. declared_kept h.body b (added k v h.body.declared) n (unless_kept h.body.refused _ b n e)) t
+        (λ b e. declared_kept h.body b (add_run k v h.body.declared) n (unless_kept h.body.refused _ b n e)) t
     go (body_op o) t =
         let c = context_of h.spaces in
-        op_kept h g h.in_body (stepped c o h.body)
+        op_kept h g h.in_body (body_after_op c o h.body)
         (λ b e. step_kept h.body b (probes_in c h.body o) (step (context_in c h.body) h.body.state o) n (unless_kept h.body.refused _ b n e)) t
     go new_type t = outside new_type tt t
     go (param v) t = outside (param v) tt t
@@ -448,12 +450,12 @@ part_kept h g x e n = go x e
     go (segment y) t = outside (segment y) tt t
     go (data_byte y) t = outside (data_byte y) tt t
 
-all_kept : (parts : List Part) (h g : Held) → all_taken after h parts ≡ Ok g → IsUnrefused h → IsUnrefused g
+all_kept : (items : List Item) (h g : Held) → all_taken after h items ≡ Ok g → IsUnrefused h → IsUnrefused g
 all_kept [] h g e n = subst IsUnrefused (ok_is h g e) n
-all_kept (x ∷ parts) h g e n =
-    let s = ok_then (after h x) (λ k. all_taken after k parts) g e in
-    all_kept parts s.0 g s.2 (part_kept h s.0 x s.1 n)
+all_kept (x ∷ items) h g e n =
+    let s = ok_then (after h x) (λ k. all_taken after k items) g e in
+    all_kept items s.0 g s.2 (part_kept h s.0 x s.1 n)
 
 -- whatever items it has taken
-pub never_float : (parts : List Part) (h : Held) (x : Part) → all_taken after empty parts ≡ Ok h → after h x ≡ Err why.Float → ⊥
-never_float parts h x t e = subst Other e (part_other h x (all_kept parts empty h t refl))
+pub never_float : (items : List Item) (h : Held) (x : Item) → all_taken after empty_checker items ≡ Ok h → after h x ≡ Err why.Float → ⊥
+never_float items h x t e = subst Other e (part_other h x (all_kept items empty_checker h t refl))

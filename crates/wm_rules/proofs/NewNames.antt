@@ -10,9 +10,9 @@ use Rattle.std.proofs.lemmas.Map.Text.{is_eq-slice_cmp}
 use Rattle.std.proofs.lemmas.Slice.Eq.{bytes_eq-Decides}
 use Rattle.std.proofs.lemmas.List.Sums.{sum_by-cons}
 use Rattle.wm_syntax.specs.declared.why.Why.TheVariants.{DuplicateExport}
-use Rattle.wm_rules.specs.Checking.{is_taken, names_with, put_name}
-use Rattle.wm_rules.specs.Kept.{capped, name_entries}
-use Rattle.wm_rules.proofs.Good.{AreDistinct}
+use Rattle.wm_rules.specs.exact.Checking.{is_taken, names_with, put_name}
+use Rattle.wm_rules.specs.Kept.{capped_count, name_entries}
+use Rattle.wm_rules.proofs.GoodValues.{AreDistinct}
 
 or_swap : (a b c : Bool) → (a || (b || c)) ≡ (b || (a || c))
 or_swap true true c = refl
@@ -109,5 +109,5 @@ names_more x ys zs e = go (is_taken x ys) refl e
         let n = put_count x ys t in
         subst (λ ns. name_entries ns ≡ name_entries ys + 1 + length x) same (omega (arith, n.0, n.1))
 
-pub capped_more : (k a n s r : ℕ) → k ≡ capped a → n ≡ a + 1 + s → r ≡ min (min (k + 1) (2 ^ 64 - 1) + s) (2 ^ 64 - 1) → r ≡ capped n
+pub capped_more : (k a n s r : ℕ) → k ≡ capped_count a → n ≡ a + 1 + s → r ≡ min (min (k + 1) (2 ^ 64 - 1) + s) (2 ^ 64 - 1) → r ≡ capped_count n
 capped_more k a n s r hk hn hr = omega arith

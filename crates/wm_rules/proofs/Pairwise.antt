@@ -2,7 +2,7 @@
 use Rattle.std.proofs.Common.{ℕ, zero, suc, ◌≡◌, ◌≢◌, ◌≤◌, ◌<◌, List, [], ◌∷◌, Some, length, refl, subst, arith, slice_get, slice_index_or, option_to_list}
 use Rattle.std.specs.List.{AllByRecursion, AllPairs}
 use Rattle.wm_typing.specs.Contexts.{first_of}
-use Rattle.wm_rules.proofs.Good.{AreDistinct}
+use Rattle.wm_rules.proofs.GoodValues.{AreDistinct}
 
 all_at : {X : Type 0} (P : X → Type 0) (xs : List X) → AllByRecursion P xs → (j : ℕ) (d : X) → j < length xs → P (slice_index_or xs j d)
 all_at P [] h j d l = absurd (omega (arith, l))

@@ -7,7 +7,8 @@ use Rattle.wm_decode.specs.declared.refusal.Refusal.{Refusal}
 use Rattle.wm_rules.specs.declared.reading.FromFault.{FromFault}
 use Rattle.wm_rules.specs.declared.reading.FromFault.TheVariants.{Refused}
 use Rattle.wm_rules.specs.declared.checker.Summary.{Summary}
-use Rattle.wm_rules.specs.Validating.{NeverAccepted, verdict}
+use Rattle.wm_rules.specs.Validating.{NeverAccepted}
+use Rattle.wm_rules.specs.inner.Validators.{verdict}
 use Rattle.wm_rules.specs.Reading.{Judges, JudgesInput, bytes_left}
 
 pub consumes_then : (a b c : Option (List ℕ)) (x y : List ℕ) → Consumes a b x → Consumes b c y → Consumes a c (x ++ y)

@@ -5,11 +5,12 @@ use Rattle.wm_typing.specs.Answers.{Room}
 use Rattle.wm_typing.specs.Bodies.{Body}
 use Rattle.wm_syntax.specs.declared.why.Why.{Why}
 use Rattle.wm_syntax.specs.declared.instructions.Op.{Op}
-use Rattle.wm_typing.specs.ExactBodies.{stepped}
-use Rattle.wm_decode.specs.Parts.{data_byte}
+use Rattle.wm_typing.specs.exact.Bodies.{body_after_op}
+use Rattle.wm_decode.specs.Items.{data_byte}
 use Rattle.wm_decode.specs.Sinks.{RunsOut, Took, all_taken}
-use Rattle.wm_rules.specs.Spaces.{context_of}
-use Rattle.wm_rules.specs.Checking.{Held, after, op_taken}
+use Rattle.wm_rules.specs.exact.Spaces.{context_of}
+use Rattle.wm_rules.specs.exact.Checking.{after, op_taken}
+use Rattle.wm_rules.specs.Holding.{Held}
 use Rattle.wm_rules.specs.Room.{IsFull, MayRunOut}
 
 data_all : (bytes : List ℕ) (h : Held) → all_taken after h (map data_byte bytes) ≡ Ok h
@@ -23,7 +24,7 @@ data_taken (b ∷ []) h = refl
 data_taken (b ∷ c ∷ bytes) h = data_all bytes h
 
 -- an op that the body refuses
-pub refused_op : (h : Held) (o : Op) (w : Why) → h.in_body ≡ true → stepped (context_of h.spaces) o h.body ≡ Err w → op_taken o h ≡ Err w
+pub refused_op : (h : Held) (o : Op) (w : Why) → h.in_body ≡ true → body_after_op (context_of h.spaces) o h.body ≡ Err w → op_taken o h ≡ Err w
 refused_op h o w is e = rw (is, e) refl
 
 -- data bytes take no memory

@@ -5,19 +5,22 @@ use Rattle.wm_syntax.specs.declared.why.Why.TheVariants as why
 use Rattle.wm_syntax.specs.Spelling.{AreBytes}
 use Rattle.wm_decode.specs.declared.refusal.Refusal.{Refusal}
 use Rattle.wm_decode.specs.declared.state.Decoder.{Decoder}
-use Rattle.wm_decode.specs.Decoding.{After, EndsInFloat, RanOut, has_refused}
-use Rattle.wm_decode.specs.Live.{Live, decoded, begun, ended, standing}
+use Rattle.wm_decode.specs.Decoding.{EndsInFloat}
+use Rattle.wm_decode.specs.inner.Decoders.{HasDecoded, RanOut, refusal_of_decoder}
+use Rattle.wm_decode.specs.exact.Live.{Live, decoder_after, live_at_start, answer_at_end, state_of}
 use Rattle.wm_decode.specs.Sinks.{and_then}
 use Rattle.wm_decode.proofs.ByteLists.{bytes-append, front_bytes}
-use Rattle.wm_decode.proofs.Theorem.{used_of, used_refused, decoded_append, never}
+use Rattle.wm_decode.proofs.MachineAndSink.{used_of, used_refused, decoded_append, never}
 use Rattle.wm_decode.proofs.Floats.{ends_in_float}
 use Rattle.wm_decode.proofs.Header.{late_memory}
-use Rattle.wm_decode.proofs.Calls.{stands_refused}
+use Rattle.wm_decode.proofs.DecoderCalls.{stands_refused}
 use Rattle.wm_rules.specs.declared.checker.Checker.{Checker}
-use Rattle.wm_rules.specs.Checking.{Held, after, empty, summary_in}
+use Rattle.wm_rules.specs.exact.Checking.{after, empty_checker, summary_in}
+use Rattle.wm_rules.specs.Holding.{Held}
 use Rattle.wm_rules.specs.Validation.{Accepted}
-use Rattle.wm_rules.specs.Validating.{RefusedAfter, NeverAccepted, setting, verdict}
-use Rattle.wm_rules.proofs.Judged.{accepted_takes}
+use Rattle.wm_rules.specs.Validating.{NeverAccepted}
+use Rattle.wm_rules.specs.inner.Validators.{RefusedAfter, validator_setting, verdict}
+use Rattle.wm_rules.proofs.AcceptedInputs.{accepted_takes}
 use Rattle.wm_rules.proofs.NeverFloat.{never_float}
 
 -- a fact of a result, carried on
@@ -31,13 +34,13 @@ on_ok (Err e) f h = h
 
 module _ (p : Profile) (limit : ℕ) where
   abbrev Starts : Live Held
-  Starts = begun empty
+  Starts = live_at_start empty_checker
 
   abbrev Decoded : List ℕ → Result (Live Held) Refusal
-  Decoded b = decoded after p limit Starts b
+  Decoded b = decoder_after after p limit Starts b
 
   more_refused : (b more : List ℕ) (r : Refusal) → Decoded b ≡ Err r → Decoded (b ++ more) ≡ Err r
-  more_refused b more r e = decoded_append after p limit b more Starts ∙ ap (λ y. and_then y (λ m. decoded after p limit m more)) e
+  more_refused b more r e = decoded_append after p limit b more Starts ∙ ap (λ y. and_then y (λ m. decoder_after after p limit m more)) e
 
   -- a refusal stays
   pub still_refused : (b piece : List ℕ) (r : Refusal) → AreBytes piece → RefusedAfter p limit b r → RefusedAfter p limit (b ++ piece) r
@@ -63,8 +66,8 @@ module _ (p : Profile) (limit : ℕ) where
           at = omega (arith, u.at);
           never = λ more a.
               let t = accepted_takes p limit (used ++ more) a in
-              never after (setting p limit) used more t.0 r (front_bytes used u.rest (subst AreBytes u.bytes h.are_bytes)) (used_refused after p limit Starts b r u) t.1;
-          same = λ more. ap (λ y. and_then (and_then y ended) (λ h. Ok (summary_in h))) (more_refused used more r (used_refused after p limit Starts b r u));
+              never after (validator_setting p limit) used more t.0 r (front_bytes used u.rest (subst AreBytes u.bytes h.are_bytes)) (used_refused after p limit Starts b r u) t.1;
+          same = λ more. ap (λ y. and_then (and_then y answer_at_end) (λ h. Ok (summary_in h))) (more_refused used more r (used_refused after p limit Starts b r u));
         }
   ]
 
@@ -77,7 +80,7 @@ module _ (p : Profile) (limit : ℕ) where
   pub same_verdict : (b more : List ℕ) (r : Refusal) → RefusedAfter p limit b r → r.why ≢ why.Memory → verdict p limit (b ++ more) ≡ Err r
   same_verdict b more r h ne = elim h.stands [
     | inr m ↦ absurd (ne m.0)
-    | inl e ↦ ap (λ y. and_then (and_then y ended) (λ h. Ok (summary_in h))) (more_refused b more r e)
+    | inl e ↦ ap (λ y. and_then (and_then y answer_at_end) (λ h. Ok (summary_in h))) (more_refused b more r e)
   ]
 
   pub not_in_header : (b : List ℕ) (r : Refusal) → RefusedAfter p limit b r → length b ≤ 8 → r.why ≢ why.Memory
@@ -94,12 +97,12 @@ module _ (p : Profile) (limit : ℕ) where
   ]
 
   -- a decoder that has refused
-  pub refused_after : (d : Decoder Checker) (b : List ℕ) (r : Refusal) → has_refused (λ (c : Checker). c) d ≡ Some r → After (λ (c : Checker). c) after d (setting p limit) b → r.at ≤ length b → RefusedAfter p limit b r
+  pub refused_after : (d : Decoder Checker) (b : List ℕ) (r : Refusal) → refusal_of_decoder (λ (c : Checker). c) d ≡ Some r → HasDecoded (λ (c : Checker). c) after d (validator_setting p limit) b → r.at ≤ length b → RefusedAfter p limit b r
   refused_after d b r e a place =
-      let s : standing (λ (c : Checker). c) d ≡ Err r = stands_refused (standing (λ (c : Checker). c) d) r e in
+      let s : state_of (λ (c : Checker). c) d ≡ Err r = stands_refused (state_of (λ (c : Checker). c) d) r e in
       record { are_bytes = a.are_bytes; place = place; stands = elim a.stands [ inl q ↦ inl (sym q ∙ s) | inr o ↦ inr (by_memory s o) ] }
     where
-      by_memory : standing (λ (c : Checker). c) d ≡ Err r → RanOut (standing (λ (c : Checker). c) d) b → (r.why ≡ why.Memory) × (8 < r.at)
+      by_memory : state_of (λ (c : Checker). c) d ≡ Err r → RanOut (state_of (λ (c : Checker). c) d) b → (r.why ≡ why.Memory) × (8 < r.at)
       by_memory s o = let t : Err o.refusal ≡ Err r = sym o.stands ∙ s in let u : o.refusal ≡ r = cc in
           (subst (λ (y : Refusal). y.why ≡ why.Memory) u o.memory, subst (λ (y : Refusal). 8 < y.at) u o.past_header)
 

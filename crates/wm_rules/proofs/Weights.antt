@@ -1,4 +1,4 @@
--- What is kept of the parts that were taken is their weight.
+-- What is kept of the items that were taken is their item_weight.
 use Rattle.std.proofs.Common.{ℕ, ◌+◌, ◌≡◌, List, [], ◌∷◌, ◌++◌, Option, Some, None, Bool, true, false, cond, Result, Ok, Err, length, refl, subst, arith, length-append, sum_by, nat_eq, nat_lt}
 use Rattle.std.proofs.lemmas.List.Sums.{sum_by-cons, sum_by_push}
 use Rattle.wm_syntax.specs.declared.types.ValType.{ValType}
@@ -12,13 +12,14 @@ use Rattle.wm_syntax.specs.Types.{Signature}
 use Rattle.wm_typing.specs.declared.body_checker.Progress.{Progress}
 use Rattle.wm_typing.specs.declared.body_checker.Progress.TheVariants.{Inside, Ended}
 use Rattle.wm_typing.specs.Bodies.{Body}
-use Rattle.wm_decode.specs.Parts.{Part, new_type, param, result_count, one_result, import_module, import_name, import_desc, function, table, memory, global, const_op, export_name, export, start, element, element_function, body, locals, body_op, segment, data_byte}
+use Rattle.wm_decode.specs.Items.{Item, new_type, param, result_count, one_result, import_module, import_name, import_desc, function, table, memory, global, const_op, export_name, export, start, element, element_function, body, locals, body_op, segment, data_byte}
 use Rattle.wm_decode.specs.Sinks.{and_then, all_taken}
 use Rattle.wm_rules.specs.declared.constants.Constant.{Constant}
-use Rattle.wm_rules.specs.Spaces.{IndexSpaces, on_last, one_param_more, one_result_more, type_begun, param_added, result_added, function_added, function_imported, global_added, global_imported, table_added, memory_added, import_added, with_types}
-use Rattle.wm_rules.specs.Checking.{Held, after, constant_begun, empty, in_constant, in_names, in_spaces, names_with, stepped_to, where_ok, with_body, with_constant, with_progress, body_begun}
-use Rattle.wm_rules.specs.Kept.{entries_in, listed, weight, width}
-use Rattle.wm_rules.proofs.Folding.{cond_ok, ok_then}
+use Rattle.wm_rules.specs.exact.Spaces.{on_last, one_param_more, one_result_more, type_begun, param_added, result_added, function_added, function_imported, global_added, global_imported, table_added, memory_added, import_added, with_types}
+use Rattle.wm_rules.specs.Holding.{IndexSpaces, Held}
+use Rattle.wm_rules.specs.exact.Checking.{after, constant_begun, empty_checker, in_constant, in_names, in_spaces, names_with, checker_after_op, where_ok, with_body, with_constant, with_progress, body_begun}
+use Rattle.wm_rules.specs.Kept.{entries_in, list_entries, item_weight, width}
+use Rattle.wm_rules.proofs.MemberFolds.{cond_ok, ok_then}
 use Rattle.wm_rules.proofs.NewNames.{names_more}
 
 -- in the index spaces
@@ -90,15 +91,15 @@ sized_stays true good s y z n e = absurd (cc)
 sized_stays false true s y z n e = let same : y ≡ z = cc in subst (Grows s 0) same (omega (arith, n))
 sized_stays false false s y z n e = absurd (cc)
 
-import_grows : (d : ImportDesc) (s z : IndexSpaces) → import_added d s ≡ Ok z → Grows s (weight (import_desc d)) z
+import_grows : (d : ImportDesc) (s z : IndexSpaces) → import_added d s ≡ Ok z → Grows s (item_weight (import_desc d)) z
 import_grows (desc.Func x) s z e = imported_grows x s z e
 import_grows (desc.Table l) s z e = sized_stays s.has_table _ s (record s { has_table = true }) z refl e
 import_grows (desc.Memory l) s z e = sized_stays s.has_memory _ s (record s { has_memory = true }) z refl e
 import_grows (desc.Global g) s z e = global_import_grows g s z e
 
--- a part that is taken adds its weight
+-- an item that is taken adds its item_weight
 abbrev Adds : Held → ℕ → Held → Type 0
-Adds h n g = listed g ≡ listed h + n
+Adds h n g = list_entries g ≡ list_entries h + n
 
 spaces_add : (h g : Held) (r : Result IndexSpaces Why) (n : ℕ) → ((z : IndexSpaces) → r ≡ Ok z → Grows h.spaces n z) → in_spaces h r ≡ Ok g → Adds h n g
 spaces_add h g (Ok z) n grows e =
@@ -110,7 +111,7 @@ spaces_add h g (Err w) n grows e = absurd (cc)
 abbrev taken_as : Held → Result Held Why
 taken_as h = Ok h
 
-stays : (h g k : Held) → listed k ≡ listed h → taken_as k ≡ Ok g → Adds h 0 g
+stays : (h g k : Held) → list_entries k ≡ list_entries h → taken_as k ≡ Ok g → Adds h 0 g
 stays h g k n e = let same : k ≡ g = cc in subst (Adds h 0) same (omega (arith, n))
 
 where_stays : (h g : Held) (r : Result (Unit {0}) Why) → where_ok h r ≡ Ok g → Adds h 0 g
@@ -144,27 +145,27 @@ with_body_stays h g true (Ok b) e = stays h g (record h { body = b }) refl e
 with_body_stays h g true (Err w) e = absurd (cc)
 with_body_stays h g false r e = absurd (cc)
 
-progress_stays : (h : Held) (b : Body) (p : Progress) → listed (with_progress h b p) ≡ listed h
+progress_stays : (h : Held) (b : Body) (p : Progress) → list_entries (with_progress h b p) ≡ list_entries h
 progress_stays h b Inside = refl
 progress_stays h b Ended = refl
 
-op_stays : (h g : Held) (b : Bool) (r : Result Body Why) → cond b (stepped_to h r) (Err why.Index) ≡ Ok g → Adds h 0 g
+op_stays : (h g : Held) (b : Bool) (r : Result Body Why) → cond b (checker_after_op h r) (Err why.Index) ≡ Ok g → Adds h 0 g
 op_stays h g true (Ok b) e = stays h g _ (progress_stays h b _) e
 op_stays h g true (Err w) e = absurd (cc)
 op_stays h g false r e = absurd (cc)
 
-offset_stays : (h g k : Held) (r : Result (Unit {0}) Why) → listed k ≡ listed h → and_then r (λ u. Ok k) ≡ Ok g → Adds h 0 g
+offset_stays : (h g k : Held) (r : Result (Unit {0}) Why) → list_entries k ≡ list_entries h → and_then r (λ u. Ok k) ≡ Ok g → Adds h 0 g
 offset_stays h g k (Ok u) n e = stays h g k n e
 offset_stays h g k (Err w) n e = absurd (cc)
 
-pub part_adds : (h g : Held) (p : Part) → after h p ≡ Ok g → Adds h (weight p) g
+pub part_adds : (h g : Held) (p : Item) → after h p ≡ Ok g → Adds h (item_weight p) g
 part_adds h g new_type e = spaces_add h g (type_begun h.spaces) 1 (type_grows h.spaces) e
 part_adds h g (param t) e = spaces_add h g (param_added t h.spaces) 1 (λ z. wider_types (one_param_more t) h.spaces z (param_wider t)) e
 part_adds h g (result_count n) e = where_stays h g _ e
 part_adds h g (one_result t) e = spaces_add h g (result_added t h.spaces) 1 (λ z. wider_types (one_result_more t) h.spaces z (result_wider t)) e
 part_adds h g (import_module name) e = stays h g h refl e
 part_adds h g (import_name name) e = stays h g h refl e
-part_adds h g (import_desc d) e = spaces_add h g (import_added d h.spaces) (weight (import_desc d)) (import_grows d h.spaces) e
+part_adds h g (import_desc d) e = spaces_add h g (import_added d h.spaces) (item_weight (import_desc d)) (import_grows d h.spaces) e
 part_adds h g (function x) e = spaces_add h g (function_added x h.spaces) 1 (function_grows x h.spaces) e
 part_adds h g (table l) e = spaces_add h g (table_added l h.spaces) 0 (λ z. sized_stays h.spaces.has_table _ h.spaces (record h.spaces { has_table = true }) z refl) e
 part_adds h g (memory l) e = spaces_add h g (memory_added l h.spaces) 0 (λ z. sized_stays h.spaces.has_memory _ h.spaces (record h.spaces { has_memory = true }) z refl) e
@@ -181,12 +182,12 @@ part_adds h g (body_op o) e = op_stays h g h.in_body _ e
 part_adds h g (segment x) e = offset_stays h g _ _ refl e
 part_adds h g (data_byte c) e = stays h g h refl e
 
-parts_add : (h g : Held) (ps : List Part) → all_taken after h ps ≡ Ok g → listed g ≡ listed h + sum_by weight ps
-parts_add h g [] e = let same : h ≡ g = cc in subst (λ z. listed z ≡ listed h + 0) same (omega arith)
+parts_add : (h g : Held) (ps : List Item) → all_taken after h ps ≡ Ok g → list_entries g ≡ list_entries h + sum_by item_weight ps
+parts_add h g [] e = let same : h ≡ g = cc in subst (λ z. list_entries z ≡ list_entries h + 0) same (omega arith)
 parts_add h g (p ∷ ps) e =
     let s = ok_then (after h p) (λ k. all_taken after k ps) g e in
-    omega (arith, part_adds h s.0 p s.1, parts_add s.0 g ps s.2, sum_by-cons weight p ps)
+    omega (arith, part_adds h s.0 p s.1, parts_add s.0 g ps s.2, sum_by-cons item_weight p ps)
 
 -- from the beginning
-pub kept_weight : (ps : List Part) (g : Held) → all_taken after empty ps ≡ Ok g → listed g ≡ sum_by weight ps
-kept_weight ps g e = omega (arith, parts_add empty g ps e)
+pub kept_weight : (ps : List Item) (g : Held) → all_taken after empty_checker ps ≡ Ok g → list_entries g ≡ sum_by item_weight ps
+kept_weight ps g e = omega (arith, parts_add empty_checker g ps e)

@@ -6,7 +6,7 @@ use Rattle.wm_typing.specs.declared.stats.BodyStats.{BodyStats}
 use Rattle.wm_typing.specs.Bodies.{no_stats}
 use Rattle.wm_typing.specs.Nesting.{nesting}
 use Rattle.wm_decode.specs.Grammar.{Items}
-use Rattle.wm_decode.specs.Parts.{Zone, outside, name, Marks}
+use Rattle.wm_decode.specs.Items.{Zone, outside, name, Marks}
 use Rattle.wm_rules.specs.declared.checker.Summary.{Summary}
 use Rattle.wm_rules.specs.Validation.{Accepted}
 
@@ -24,10 +24,10 @@ longest_after n (m ∷ k) = max n (longest_after (run_more m.zone n) k)
 abbrev pub longest_entry : Marks → ℕ
 longest_entry k = longest_after 0 k
 
--- one more than the deepest nesting of block, loop and if in the body of any of these functions; 0 where there is none
-abbrev pub deepest : List Function → ℕ
-deepest [] = 0
-deepest (f ∷ fs) = max (nesting f.body + 1) (deepest fs)
+-- one more than the deepest_nesting nesting of block, loop and if in the body of any of these functions; 0 where there is none
+abbrev pub deepest_nesting : List Function → ℕ
+deepest_nesting [] = 0
+deepest_nesting (f ∷ fs) = max (nesting f.body + 1) (deepest_nesting fs)
 
 -- What the figures of bodies may be whose code entries have at most n bytes. Each push is a move, and so is its removal.
 pub record FiguresWithin (n : ℕ) (b : BodyStats) : Type 0 where
@@ -45,6 +45,6 @@ figures s = record { moves = s.moves; operands = s.operands; controls = s.contro
 -- bodies; no figures where there is no function; and bounds by the longest code entry.
 pub record SummaryOf (p : Profile) (limit : ℕ) (input : List ℕ) (s : Summary) : Type 0 where
   pub functions : (a : Accepted p limit input) → s.functions ≡ length a.module_value.functions
-  pub controls : (a : Accepted p limit input) → s.controls ≡ deepest a.module_value.functions
+  pub controls : (a : Accepted p limit input) → s.controls ≡ deepest_nesting a.module_value.functions
   pub nothing : (a : Accepted p limit input) → a.module_value.functions ≡ [] → figures s ≡ no_stats
   pub bounds : (items : Marks) → Items p input items → FiguresWithin (longest_entry items) (figures s)

@@ -3,6 +3,6 @@ use Rattle.std.specs.Prelude.{ℕ, List, [], ◌∷◌, ◌++◌}
 use Rattle.std.specs.Borrow.{Bor}
 
 -- of all pieces, in order
-abbrev pub joined : List (Bor (List ℕ)) → List ℕ
-joined [] = []
-joined (piece ∷ pieces) = piece.now ++ joined pieces
+abbrev pub joined_bytes : List (Bor (List ℕ)) → List ℕ
+joined_bytes [] = []
+joined_bytes (piece ∷ pieces) = piece.now ++ joined_bytes pieces

@@ -8,7 +8,8 @@ use Rattle.wm_rules.specs.declared.checker.Summary.{Summary}
 use Rattle.std.specs.Io.KnownBytes.{IsAtEnd}
 use Rattle.wm_rules.specs.Validation.{Accepted}
 use Rattle.wm_rules.specs.Bounds.{SummaryOf}
-use Rattle.wm_rules.specs.Validating.{NeverAccepted, verdict}
+use Rattle.wm_rules.specs.Validating.{NeverAccepted}
+use Rattle.wm_rules.specs.inner.Validators.{verdict}
 use Rattle.wm_decode.specs.declared.refusal.Refusal.{Refusal}
 
 -- An input is valid, and all of it was read.

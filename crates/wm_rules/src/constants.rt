@@ -1,7 +1,7 @@
 //! Constant expressions (section 3.3.7).
 
 ghost use Rattle.std.specs.Prelude.{◌≡◌, None, if◌then◌else◌};
-ghost use Rattle.wm_rules.specs.Constants.{constant_after, expecting, first_only, of_global, of_type, visible};
+ghost use Rattle.wm_rules.specs.exact.Constants.{constant_after, constant_expecting, first_only, of_global, of_type, visible};
 
 use wm_syntax::instructions::{Op, Simple};
 use wm_syntax::types::{GlobalType, ValType};
@@ -21,7 +21,7 @@ pub struct Constant {
 impl Constant {
     // Before its first op.
     pub(crate) fn expecting(expects: ValType, sees: usize) -> Self
-        ensures { result ≡ expecting expects sees }
+        ensures { result ≡ constant_expecting expects sees }
     {
         Constant {
             expects,

@@ -2,9 +2,9 @@
 
 ghost use Rattle.std.specs.Prelude.{◌≡◌, [], OnErr};
 ghost use Rattle.wm_decode.specs.Sinks.{Taken};
-ghost use Rattle.wm_rules.specs.Checking.{names_with};
-ghost use Rattle.wm_rules.specs.Kept.{capped, name_entries};
-ghost use Rattle.wm_rules.specs.Names.{bytes_of};
+ghost use Rattle.wm_rules.specs.exact.Checking.{names_with};
+ghost use Rattle.wm_rules.specs.Kept.{capped_count, name_entries};
+ghost use Rattle.wm_rules.specs.exact.Names.{bytes_of};
 
 use std::alloc::Global;
 use std::collections::BTreeSet;
@@ -21,14 +21,14 @@ pub(crate) struct ExportNames {
 
 impl Model for ExportNames {
     ghost use Rattle.std.specs.Prelude.{◌≡◌, ℕ, List};
-    ghost use Rattle.wm_rules.specs.Kept.{capped, name_entries};
-    ghost use Rattle.wm_rules.specs.Names.{bytes_of};
+    ghost use Rattle.wm_rules.specs.Kept.{capped_count, name_entries};
+    ghost use Rattle.wm_rules.specs.exact.Names.{bytes_of};
 
     ghost Value = { List (List ℕ) };
 
     ghost view = { λ n. bytes_of n.names };
 
-    ghost invariant = { λ n. n.kept ≡ capped (name_entries (bytes_of n.names)) };
+    ghost invariant = { λ n. n.kept ≡ capped_count (name_entries (bytes_of n.names)) };
 }
 
 impl ExportNames {
@@ -44,7 +44,7 @@ impl ExportNames {
 
     // The names and their bytes.
     pub(crate) fn kept(&self) -> u64
-        ensures { result ≡ capped (name_entries self.now) }
+        ensures { result ≡ capped_count (name_entries self.now) }
     {
         self.kept
     }

@@ -1,7 +1,7 @@
 //! Limits (section 3.2.1).
 
 ghost use Rattle.std.specs.Prelude.{◌≡◌, ◌^◌};
-ghost use Rattle.wm_rules.specs.Spaces.{is_within};
+ghost use Rattle.wm_rules.specs.exact.Spaces.{is_within};
 
 use wm_syntax::types::Limits;
 

@@ -3,7 +3,7 @@
 ghost use Rattle.std.specs.Prelude.{◌≡◌, ◌≢◌, ◌≤◌, ◌^◌, ◌↔◌, ℕ, List, None, Option, false, true};
 ghost use Rattle.std.specs.Io.KnownBytes.{IsAtEnd};
 ghost use Rattle.wm_rules.specs.Reading.{Judges, JudgesInput};
-ghost use Rattle.wm_rules.specs.Validating.{HavingRead, refusal_in};
+ghost use Rattle.wm_rules.specs.inner.Validators.{HavingRead, refusal_in};
 
 use crate::checker::Summary;
 use crate::validator::Validator;
@@ -72,7 +72,8 @@ pub fn validate_from<R: Source>(
 
 /// The end of an input of which no piece was refused.
 fn finish(validator: Validator) -> Result<Summary, FromFault>
-    ensures judged { refusal_in validator ≡ None → HavingRead validator (λ p limit input. (left : Option (List ℕ)) → IsAtEnd left
+    ensures judged { refusal_in validator ≡ None
+        → HavingRead validator (λ p limit input. (left : Option (List ℕ)) → IsAtEnd left
         → JudgesInput p limit input left result) }
     ensures refused { result ≢ Err FromFault.Io }
 {

@@ -384,7 +384,7 @@ fn lends_its_spaces(rt: HostRuntime) {
 fn laws_are_called(_rt: HostRuntime) {
     laws::taken_is_accepted();
     laws::second_profile_accepts_the_first();
-    laws::kept_is_the_weight_of_the_parts();
+    laws::kept_is_the_weight_of_the_items();
     laws::body_at_hand();
     laws::bytes_determine_what_is_kept();
     laws::bytes_bound_what_is_kept();

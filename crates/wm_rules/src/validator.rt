@@ -6,8 +6,9 @@ ghost use Rattle.wm_decode.specs.declared.refusal.Refusal.{Refusal};
 ghost use Rattle.wm_decode.specs.Decoding.{EndsInFloat};
 ghost use Rattle.wm_decode.specs.Fronts.{InExpression};
 ghost use Rattle.wm_rules.specs.Bounds.{SummaryOf};
-ghost use Rattle.wm_rules.specs.Validating.{AtMoment, HasRead, HasRoom, HavingRead, KeepsOf, NeverAccepted, kept_in, refusal_in, verdict};
-ghost use Rattle.wm_rules.specs.Kept.{capped};
+ghost use Rattle.wm_rules.specs.Validating.{AtMoment, HasRoom, KeepsOf, NeverAccepted};
+ghost use Rattle.wm_rules.specs.inner.Validators.{HasRead, HavingRead, kept_in, refusal_in, verdict};
+ghost use Rattle.wm_rules.specs.Kept.{capped_count};
 ghost use Rattle.wm_rules.specs.Validation.{Accepted};
 
 use crate::checker::{Checker, Summary};
@@ -86,7 +87,7 @@ impl Validator {
         ensures exact { HavingRead self.now (λ p limit bytes. result ≡ kept_in self.now) }
         // At every moment it is told and bounded by the bytes read.
         ensures moment { HavingRead self.now (λ p limit bytes. AtMoment self.now p bytes) }
-        ensures capped { result ≡ capped (kept_in self.now) }
+        ensures capped { result ≡ capped_count (kept_in self.now) }
     {
         match &self.state {
             Ok(decoder) => decoder.name_len().saturating_add(decoder.sink().kept()),

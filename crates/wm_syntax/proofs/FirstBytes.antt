@@ -5,8 +5,8 @@ use Rattle.wm_syntax.specs.declared.instructions.Op.{Op}
 use Rattle.wm_syntax.specs.declared.op_class.OpClass.{OpClass}
 use Rattle.wm_syntax.specs.declared.op_class.OpClass.TheVariants.{Float}
 use Rattle.wm_syntax.specs.declared.profile.Profile.{Profile}
-use Rattle.wm_syntax.specs.OpClasses.{class_of, first_byte, is_float, IsFound}
-use Rattle.wm_syntax.specs.ByteTable.{classes, class_in, row_in, class_under}
+use Rattle.wm_syntax.specs.OpClasses.{class_of, first_byte, is_float, IsClassOfOp}
+use Rattle.wm_syntax.specs.exact.ByteTable.{classes, class_in, row_in, class_under}
 use Rattle.wm_syntax.specs.Profiles.{IsOpOf}
 use Rattle.wm_syntax.proofs.OpTable.{found_in, begins_in, float_in}
 use Rattle.wm_syntax.proofs.OneInstruction.{class_there}
@@ -22,11 +22,11 @@ found_under p byte o f i =
     sym (row_under p byte (class_of o) e) ∙ found_in p byte (class_of o) e o f i
 
 -- and there is one
-pub begins_under : (p : Profile) (byte : ℕ) → IsFound (class_under p byte) → (o : Op) × (first_byte o ≡ Some byte) × IsOpOf p o × (class_of o ≡ class_under p byte)
+pub begins_under : (p : Profile) (byte : ℕ) → IsClassOfOp (class_under p byte) → (o : Op) × (first_byte o ≡ Some byte) × IsOpOf p o × (class_of o ≡ class_under p byte)
 unfolding class_under
 begins_under p byte f = go (slice_get classes byte) refl f
   where
-    go : (row : Option OpClass) → slice_get classes byte ≡ row → IsFound (row_in p row) → (o : Op) × (first_byte o ≡ Some byte) × IsOpOf p o × (class_of o ≡ row_in p row)
+    go : (row : Option OpClass) → slice_get classes byte ≡ row → IsClassOfOp (row_in p row) → (o : Op) × (first_byte o ≡ Some byte) × IsOpOf p o × (class_of o ≡ row_in p row)
     go (Some c) e f = begins_in p byte c e f
     go Nothing e f = absurd f
 

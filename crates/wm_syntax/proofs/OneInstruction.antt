@@ -6,7 +6,7 @@ use Rattle.wm_syntax.specs.Spelling.{Form, Byte, Each, ◌▸◌}
 use Rattle.wm_syntax.specs.Types.{SpellsU32, SpellsList, SpellsBlockType}
 use Rattle.wm_syntax.specs.Opcodes.{opcode}
 use Rattle.wm_syntax.specs.OpClasses.{class_of, first_byte}
-use Rattle.wm_syntax.specs.ByteTable.{classes}
+use Rattle.wm_syntax.specs.exact.ByteTable.{classes}
 use Rattle.wm_syntax.specs.Instructions.{Instruction, Instructions, none, snoc, simple, table, block, loop, choice, SpellsInstruction, SpellsInstructions, SpellsExpression, SpellsElse}
 use Rattle.wm_syntax.specs.declared.types.ValType.{ValType}
 use Rattle.wm_syntax.specs.declared.types.ValType.TheVariants.{I32, I64}
@@ -14,7 +14,7 @@ use Rattle.wm_syntax.specs.declared.instructions.Simple.{Simple}
 use Rattle.wm_syntax.specs.declared.instructions.Simple.TheVariants as s
 use Rattle.wm_syntax.specs.declared.instructions.Op.{Op}
 use Rattle.wm_syntax.specs.declared.instructions.Op.TheVariants as op
-use Rattle.wm_syntax.specs.declared.op_class.Kind.TheVariants as k
+use Rattle.wm_syntax.specs.declared.op_class.Immediates.TheVariants as k
 use Rattle.wm_syntax.specs.declared.op_class.OpClass.{OpClass}
 use Rattle.wm_syntax.specs.declared.op_class.OpClass.TheVariants.{Plain, With}
 use Rattle.wm_syntax.proofs.OpTable.{found_simple}

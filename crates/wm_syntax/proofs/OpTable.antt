@@ -1,17 +1,17 @@
 -- The table of bytes and the table of instructions say the same.
 use Rattle.std.proofs.Common.{◌≡◌, ◌↔◌, ℕ, zero, suc, ◌+◌, Bool, true, false, ◌&&◌, ◌==◌, not, List, [], ◌∷◌, Option, Some, slice_get, refl, sym, ap, ◌∙◌, subst, add-zero, arith}
-use Rattle.std.specs.Prelude.{None as Nothing}
+use Rattle.std.specs.Prelude.{None as Nothing, pos}
 use Rattle.std.specs.List.{list_all, enumerate_from}
 use Rattle.wm_syntax.specs.declared.instructions.Op.{Op}
 use Rattle.wm_syntax.specs.declared.instructions.Op.TheVariants as op
 use Rattle.wm_syntax.specs.declared.instructions.Simple.TheVariants as s
-use Rattle.wm_syntax.specs.declared.op_class.Kind.{Kind}
-use Rattle.wm_syntax.specs.declared.op_class.Kind.TheVariants as k
+use Rattle.wm_syntax.specs.declared.op_class.Immediates.{Immediates}
+use Rattle.wm_syntax.specs.declared.op_class.Immediates.TheVariants as k
 use Rattle.wm_syntax.specs.declared.op_class.OpClass.{OpClass}
 use Rattle.wm_syntax.specs.declared.op_class.OpClass.TheVariants.{Plain, With, Float, None}
 use Rattle.wm_syntax.specs.Opcodes.{opcode}
-use Rattle.wm_syntax.specs.OpClasses.{class_of, first_byte, is_float, IsFound}
-use Rattle.wm_syntax.specs.ByteTable.{classes, class_in}
+use Rattle.wm_syntax.specs.OpClasses.{class_of, first_byte, is_float, IsClassOfOp}
+use Rattle.wm_syntax.specs.exact.ByteTable.{classes, class_in}
 use Rattle.wm_syntax.specs.Profiles.{IsOpOf}
 use Rattle.wm_syntax.specs.declared.profile.Profile.{Profile}
 use Rattle.wm_syntax.specs.declared.profile.Profile.TheVariants.{One, Two}
@@ -24,7 +24,6 @@ use Rattle.wm_syntax.specs.declared.instructions.Numeric.TheVariants.{Test, Comp
 use Rattle.wm_syntax.specs.declared.instructions.SignExtension.TheVariants.{I32From8}
 use Rattle.wm_syntax.specs.declared.instructions.LoadOp.TheVariants.{I32Load}
 use Rattle.wm_syntax.specs.declared.instructions.StoreOp.TheVariants.{I32Store}
-use Rattle.std.specs.Prelude.{pos}
 use Rattle.std.proofs.lemmas.Bool.Decides.{nat_tests}
 
 some_injective : {X : Type 0} {x y : X} → Some x ≡ Some y → x ≡ y
@@ -163,7 +162,7 @@ unfolding is_at
 is_at_means Nothing n e = cc
 is_at_means (Some m) n e = ap Some (let q : m ≡ n = grind (arith, nat_tests) in q)
 
-with_class : (kind : Kind) → class_of (sample (With kind)) ≡ With kind
+with_class : (kind : Immediates) → class_of (sample (With kind)) ≡ With kind
 unfolding sample
 with_class k.Block = refl
 with_class (k.Load o) = refl
@@ -183,11 +182,11 @@ plain_class op.End e = refl
 plain_class (op.Label l) e = refl
 plain_class _ e = cc
 
-pub class_begins : (byte : ℕ) (c : OpClass) → slice_get classes byte ≡ Some c → IsFound c → (o : Op) × (first_byte o ≡ Some byte) × (class_of o ≡ c)
+pub class_begins : (byte : ℕ) (c : OpClass) → slice_get classes byte ≡ Some c → IsClassOfOp c → (o : Op) × (first_byte o ≡ Some byte) × (class_of o ≡ c)
 unfolding begins sample
 class_begins byte c e i = go c i (subst (λ (m : ℕ). begins m c ≡ true) (let q : 0 + byte ≡ byte = omega arith in q) (tested begins classes 0 byte c all_begin e))
   where
-    go : (c : OpClass) → IsFound c → begins byte c ≡ true → (o : Op) × (first_byte o ≡ Some byte) × (class_of o ≡ c)
+    go : (c : OpClass) → IsClassOfOp c → begins byte c ≡ true → (o : Op) × (first_byte o ≡ Some byte) × (class_of o ≡ c)
     go (Plain o) i t = (o, is_at_means (first_byte o) byte (both (is_at (first_byte o) byte) _ t).0, plain_class o (both (is_at (first_byte o) byte) _ t).1)
     go (With kind) i t = (sample (With kind), is_at_means (first_byte (sample (With kind))) byte t, with_class kind)
     go Float i t = absurd i
@@ -199,14 +198,14 @@ kept One (op.Simple (s.Numeric (SignExtend x))) i = absurd i
 kept One _ i = refl
 kept Two o i = refl
 
-is_of : (p : Profile) (o : Op) → IsFound (class_in p (class_of o)) → IsOpOf p o
+is_of : (p : Profile) (o : Op) → IsClassOfOp (class_in p (class_of o)) → IsOpOf p o
 is_of One (op.Simple (s.Numeric (SignExtend x))) f = absurd f
 is_of One (op.Simple _) f = tt
 is_of One _ f = tt
 is_of Two (op.Simple i) f = tt
 is_of Two _ f = tt
 
-found_unmasked : (p : Profile) (c : OpClass) → IsFound (class_in p c) → class_in p c ≡ c
+found_unmasked : (p : Profile) (c : OpClass) → IsClassOfOp (class_in p c) → class_in p c ≡ c
 found_unmasked One (Plain (op.Simple (s.Numeric (SignExtend x)))) f = absurd f
 found_unmasked One _ f = refl
 found_unmasked Two c f = refl
@@ -214,12 +213,12 @@ found_unmasked Two c f = refl
 pub found_in : (p : Profile) (byte : ℕ) (c : OpClass) → slice_get classes byte ≡ Some c → (o : Op) → first_byte o ≡ Some byte → IsOpOf p o → class_in p c ≡ class_of o
 found_in p byte c e o f i = ap (class_in p) (found_op byte c e o f) ∙ kept p o i
 
-pub begins_in : (p : Profile) (byte : ℕ) (c : OpClass) → slice_get classes byte ≡ Some c → IsFound (class_in p c)
+pub begins_in : (p : Profile) (byte : ℕ) (c : OpClass) → slice_get classes byte ≡ Some c → IsClassOfOp (class_in p c)
     → (o : Op) × (first_byte o ≡ Some byte) × IsOpOf p o × (class_of o ≡ class_in p c)
 begins_in p byte c e f =
     let same : class_in p c ≡ c = found_unmasked p c f in
-    let found : (o : Op) × (first_byte o ≡ Some byte) × (class_of o ≡ c) = class_begins byte c e (subst IsFound same f) in
-    (found.0, found.1, is_of p found.0 (subst (λ (d : OpClass). IsFound (class_in p d)) (sym found.2) f), found.2 ∙ sym same)
+    let found : (o : Op) × (first_byte o ≡ Some byte) × (class_of o ≡ c) = class_begins byte c e (subst IsClassOfOp same f) in
+    (found.0, found.1, is_of p found.0 (subst (λ (d : OpClass). IsClassOfOp (class_in p d)) (sym found.2) f), found.2 ∙ sym same)
 
 float_kept : (p : Profile) (c : OpClass) → (class_in p c ≡ Float) ↔ (c ≡ Float)
 float_kept One (Plain (op.Simple (s.Numeric (SignExtend x)))) = (λ e. cc, λ e. cc)

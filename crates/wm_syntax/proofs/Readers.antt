@@ -7,8 +7,9 @@ use Rattle.std.proofs.Math.Nat.{mul-le-mul_left}
 use Rattle.std.proofs.Math.IntN.{neg_ℤ, suc_ℤ-*ℤ, zero-*ℤ, +ℤ_idl, *ℤ_comm, *ℤ-one}
 use Rattle.wm_syntax.specs.Spelling.{Form}
 use Rattle.wm_syntax.specs.Leb128.{FitsBits, Signed, Unsigned}
-use Rattle.wm_syntax.specs.Partial.{Partial}
-use Rattle.wm_syntax.specs.Reading.{Answers, IfDone, UnsignedRest, SignedRest, After, over, fresh, last_signed, unsigned_push, signed_push}
+use Rattle.wm_syntax.specs.inner.Numbers.{Partial, UnsignedRest, SignedRest, NumberAfter}
+use Rattle.wm_syntax.specs.Reading.{Answers, IfDone}
+use Rattle.wm_syntax.specs.exact.Reading.{over, fresh, last_signed, unsigned_push, signed_push}
 use Rattle.wm_syntax.specs.declared.numbers.Step.{Step}
 use Rattle.wm_syntax.specs.declared.numbers.Step.TheVariants.{More, Done, Bad}
 use Rattle.wm_syntax.proofs.Room.{pow7, pow_split, room_last}
@@ -165,31 +166,31 @@ both_ways p q = (λ a. q.0 (p.0 a), λ c. p.1 (q.1 c))
 
 -- What a reader answers and holds after one byte more, by the law of that byte.
 module _ {A : Type 0} (Spells : A → Form ℕ) (rest : Partial → A → Form ℕ) where
-  next_after : (r : Partial) (before : List ℕ) (c : ℕ) (p : Step A × Partial) → After Spells (rest r) before
+  next_after : (r : Partial) (before : List ℕ) (c : ℕ) (p : Step A × Partial) → NumberAfter Spells (rest r) before
       → ((n : A) (more : List ℕ) → rest r n (c ∷ more) ↔ Goes rest p n more) → ((n : A) (d : ℕ) (more : List ℕ) → Goes rest p n (d ∷ more) ↔ rest p.1 n (d ∷ more))
-      → After Spells (rest p.1) (before ++ c ∷ [])
+      → NumberAfter Spells (rest p.1) (before ++ c ∷ [])
   next_after r before c p a law goes = record {
     same = λ n d more. rw (append_assoc before (c ∷ []) (d ∷ more)) (both_ways (a.same n c (d ∷ more)) (both_ways (law n (d ∷ more)) (goes n d more)));
   }
 
-  next_spelled : (r : Partial) (before : List ℕ) (c : ℕ) (p : Step A × Partial) → After Spells (rest r) before
+  next_spelled : (r : Partial) (before : List ℕ) (c : ℕ) (p : Step A × Partial) → NumberAfter Spells (rest r) before
       → ((n : A) (more : List ℕ) → rest r n (c ∷ more) ↔ Goes rest p n more)
       → (n : A) (more : List ℕ) → Spells n ((before ++ c ∷ []) ++ more) ↔ Goes rest p n more
   next_spelled r before c p a law n more = rw (append_assoc before (c ∷ []) more) (both_ways (a.same n c more) (law n more))
 
-pub unsigned_after : (bits : ℕ) → bits ≤ 64 → (r : Partial) (before : List ℕ) (c : ℕ) → c < 256 → After (Unsigned bits) (UnsignedRest bits r) before
-    → After (Unsigned bits) (UnsignedRest bits (unsigned_push bits r c).1) (before ++ c ∷ [])
+pub unsigned_after : (bits : ℕ) → bits ≤ 64 → (r : Partial) (before : List ℕ) (c : ℕ) → c < 256 → NumberAfter (Unsigned bits) (UnsignedRest bits r) before
+    → NumberAfter (Unsigned bits) (UnsignedRest bits (unsigned_push bits r c).1) (before ++ c ∷ [])
 unsigned_after bits few r before c byte a =
     next_after (Unsigned bits) (UnsignedRest bits) r before c (unsigned_push bits r c) a (λ n more. unsigned_law bits r n c more byte)
     (goes_on (UnsignedRest bits) (unsigned_push bits r c) (unsigned_closed bits r c) (unsigned_over bits few))
 
-pub unsigned_answers : (bits : ℕ) (r : Partial) (before : List ℕ) (c : ℕ) → c < 256 → After (Unsigned bits) (UnsignedRest bits r) before
+pub unsigned_answers : (bits : ℕ) (r : Partial) (before : List ℕ) (c : ℕ) → c < 256 → NumberAfter (Unsigned bits) (UnsignedRest bits r) before
     → Answers (Unsigned bits) (unsigned_push bits r c).0 (before ++ c ∷ [])
 unsigned_answers bits r before c byte a =
     said (UnsignedRest bits) (Unsigned bits) (unsigned_push bits r c) (before ++ c ∷ [])
     (next_spelled (Unsigned bits) (UnsignedRest bits) r before c (unsigned_push bits r c) a (λ n more. unsigned_law bits r n c more byte)) (unsigned_live bits r c) (unsigned_some bits)
 
-pub unsigned_fresh : (bits : ℕ) → 0 < bits → After (Unsigned bits) (UnsignedRest bits fresh) []
+pub unsigned_fresh : (bits : ℕ) → 0 < bits → NumberAfter (Unsigned bits) (UnsignedRest bits fresh) []
 unsigned_fresh bits some = record {
   same = λ n c more. (
     (λ u. (omega arith, n, omega arith, subst (λ (b : ℕ). Unsigned b n (c ∷ more)) (let z : bits ≡ bits - 0 = omega arith in z) u)),
@@ -295,13 +296,13 @@ signed_over bits few n b h = omega (arith, h.0)
 signed_some : (bits : ℕ) (r : Partial) (n : ℤ) → SignedRest bits r n [] → ⊥
 signed_some bits r n h = h.3
 
-pub signed_after : (bits : ℕ) → bits ≤ 64 → (r : Partial) (before : List ℕ) (c : ℕ) → c < 256 → After (Signed bits) (SignedRest bits r) before
-    → After (Signed bits) (SignedRest bits (signed_push bits r c).1) (before ++ c ∷ [])
+pub signed_after : (bits : ℕ) → bits ≤ 64 → (r : Partial) (before : List ℕ) (c : ℕ) → c < 256 → NumberAfter (Signed bits) (SignedRest bits r) before
+    → NumberAfter (Signed bits) (SignedRest bits (signed_push bits r c).1) (before ++ c ∷ [])
 signed_after bits few r before c byte a =
     next_after (Signed bits) (SignedRest bits) r before c (signed_push bits r c) a (λ n more. signed_law bits r n c more byte)
     (goes_on (SignedRest bits) (signed_push bits r c) (signed_closed bits r c) (signed_over bits few))
 
-pub signed_answers : (bits : ℕ) (r : Partial) (before : List ℕ) (c : ℕ) → c < 256 → After (Signed bits) (SignedRest bits r) before
+pub signed_answers : (bits : ℕ) (r : Partial) (before : List ℕ) (c : ℕ) → c < 256 → NumberAfter (Signed bits) (SignedRest bits r) before
     → Answers (Signed bits) (signed_push bits r c).0 (before ++ c ∷ [])
 signed_answers bits r before c byte a =
     said (SignedRest bits) (Signed bits) (signed_push bits r c) (before ++ c ∷ [])
@@ -311,7 +312,7 @@ unweighed : (x : ℤ) → pos 0 +ℤ (pos 1 *ℤ x) ≡ x
 unfolding lib.IntN.one
 unweighed x = +ℤ_idl (pos 1 *ℤ x) ∙ *ℤ_comm (pos 1) x ∙ *ℤ-one x
 
-pub signed_fresh : (bits : ℕ) → 0 < bits → After (Signed bits) (SignedRest bits fresh) []
+pub signed_fresh : (bits : ℕ) → 0 < bits → NumberAfter (Signed bits) (SignedRest bits fresh) []
 signed_fresh bits some = record {
   same = λ n c more. (
     (λ u. (omega arith, n, sym (unweighed n), subst (λ (b : ℕ). Signed b n (c ∷ more)) (let z : bits ≡ bits - 0 = omega arith in z) u)),
@@ -376,12 +377,12 @@ signed_range bits r c low =
 
 -- both, for a reader that was pushed a byte
 pub unsigned_reads : (bits : ℕ) → bits ≤ 64 → (p : Step ℕ × Partial) (r old : Partial) (c : ℕ) → p ≡ unsigned_push bits r c → r ≡ old → c < 256
-    → (before : List ℕ) → After (Unsigned bits) (UnsignedRest bits old) before
-    → Answers (Unsigned bits) p.0 (before ++ c ∷ []) × After (Unsigned bits) (UnsignedRest bits p.1) (before ++ c ∷ [])
+    → (before : List ℕ) → NumberAfter (Unsigned bits) (UnsignedRest bits old) before
+    → Answers (Unsigned bits) p.0 (before ++ c ∷ []) × NumberAfter (Unsigned bits) (UnsignedRest bits p.1) (before ++ c ∷ [])
 unsigned_reads bits few p r old c e same byte before a =
     let pushed : unsigned_push bits old c ≡ p = ap (λ (r : Partial). unsigned_push bits r c) (sym same) ∙ sym e in (
       subst (λ (q : Step ℕ × Partial). Answers (Unsigned bits) q.0 (before ++ c ∷ [])) pushed (unsigned_answers bits old before c byte a),
-      subst (λ (q : Step ℕ × Partial). After (Unsigned bits) (UnsignedRest bits q.1) (before ++ c ∷ [])) pushed (unsigned_after bits few old before c byte a),
+      subst (λ (q : Step ℕ × Partial). NumberAfter (Unsigned bits) (UnsignedRest bits q.1) (before ++ c ∷ [])) pushed (unsigned_after bits few old before c byte a),
     )
 
 pub unsigned_in_range : (bits : ℕ) (p : Step ℕ × Partial) (r : Partial) (c : ℕ) → p ≡ unsigned_push bits r c → r.low < 2 ^ (7 * r.count) → IfDone p.0 (λ n. n < 2 ^ bits)
@@ -389,12 +390,12 @@ unsigned_in_range bits p r c e low = subst (λ (q : Step ℕ × Partial). IfDone
 
 -- both, for a reader that was pushed a byte
 pub signed_reads : (bits : ℕ) → bits ≤ 64 → (p : Step ℤ × Partial) (r old : Partial) (c : ℕ) → p ≡ signed_push bits r c → r ≡ old → c < 256
-    → (before : List ℕ) → After (Signed bits) (SignedRest bits old) before
-    → Answers (Signed bits) p.0 (before ++ c ∷ []) × After (Signed bits) (SignedRest bits p.1) (before ++ c ∷ [])
+    → (before : List ℕ) → NumberAfter (Signed bits) (SignedRest bits old) before
+    → Answers (Signed bits) p.0 (before ++ c ∷ []) × NumberAfter (Signed bits) (SignedRest bits p.1) (before ++ c ∷ [])
 signed_reads bits few p r old c e same byte before a =
     let pushed : signed_push bits old c ≡ p = ap (λ (r : Partial). signed_push bits r c) (sym same) ∙ sym e in (
       subst (λ (q : Step ℤ × Partial). Answers (Signed bits) q.0 (before ++ c ∷ [])) pushed (signed_answers bits old before c byte a),
-      subst (λ (q : Step ℤ × Partial). After (Signed bits) (SignedRest bits q.1) (before ++ c ∷ [])) pushed (signed_after bits few old before c byte a),
+      subst (λ (q : Step ℤ × Partial). NumberAfter (Signed bits) (SignedRest bits q.1) (before ++ c ∷ [])) pushed (signed_after bits few old before c byte a),
     )
 
 pub signed_in_range : (bits : ℕ) (p : Step ℤ × Partial) (r : Partial) (c : ℕ) → p ≡ signed_push bits r c → r.low < 2 ^ (7 * r.count) → IfDone p.0 (FitsBits bits)

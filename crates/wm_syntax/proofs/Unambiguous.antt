@@ -5,7 +5,7 @@ use Rattle.wm_syntax.specs.Leb128.{Unsigned}
 use Rattle.wm_syntax.specs.Spelling.{Form, Byte, ◌▸◌}
 use Rattle.wm_syntax.specs.Opcodes.{opcode}
 use Rattle.wm_syntax.specs.OpClasses.{class_of}
-use Rattle.wm_syntax.specs.ByteTable.{classes}
+use Rattle.wm_syntax.specs.exact.ByteTable.{classes}
 use Rattle.wm_syntax.proofs.OpTable.{found_simple}
 use Rattle.wm_syntax.specs.Instructions.{SpellsSimple, SpellsImmediates}
 use Rattle.wm_syntax.specs.declared.op_class.OpClass.{OpClass}

@@ -6,7 +6,7 @@ use Rattle.wm_syntax.specs.declared.instructions.Simple.TheVariants as s
 use Rattle.wm_syntax.specs.declared.instructions.Op.TheVariants as op
 use Rattle.wm_syntax.specs.declared.instructions.Op.{Op}
 use Rattle.wm_syntax.specs.Opcodes.{op_code}
-use Rattle.wm_syntax.specs.declared.op_class.Kind.TheVariants as k
+use Rattle.wm_syntax.specs.declared.op_class.Immediates.TheVariants as k
 use Rattle.wm_syntax.specs.declared.op_class.OpClass.{OpClass}
 use Rattle.wm_syntax.specs.declared.op_class.OpClass.TheVariants.{Plain, With, Float, None}
 
@@ -44,8 +44,8 @@ is_float b =
     ((0x2A, 0x2B) ∷ (0x38, 0x39) ∷ (0x43, 0x44) ∷ (0x5B, 0x66) ∷ (0x8B, 0xA6) ∷ (0xA8, 0xAB) ∷ (0xAE, 0xBF) ∷ [])
 
 -- the class is that of an instruction, an else or an end
-abbrev pub IsFound : OpClass → Type 0
-IsFound (Plain o) = Unit {0}
-IsFound (With kind) = Unit {0}
-IsFound Float = ⊥
-IsFound None = ⊥
+abbrev pub IsClassOfOp : OpClass → Type 0
+IsClassOfOp (Plain o) = Unit {0}
+IsClassOfOp (With kind) = Unit {0}
+IsClassOfOp Float = ⊥
+IsClassOfOp None = ⊥

@@ -59,7 +59,8 @@ pub trait Dest {
 pub fn put_all<W: Dest>(w: &mut W, bytes: &[u8]) -> Result<(), usize>
     requires { W.has_failed w.old ≡ false }
     ensures written { OnOk result (Appends (W.contents w.old) (W.contents w.new) bytes.now) }
-    ensures beginning { IfErr result (λ n. (n ≤ length bytes.now) × Appends (W.contents w.old) (W.contents w.new) (take n bytes.now)) }
+    ensures beginning { IfErr result (λ n. (n ≤ length bytes.now)
+        × Appends (W.contents w.old) (W.contents w.new) (take n bytes.now)) }
     ensures failed { W.has_failed w.new ≡ is_err result }
 {
     let mut from = 0;

@@ -2,7 +2,9 @@
 
 ghost use Rattle.wm_syntax.specs.Leb128.{FitsBits, Signed, Unsigned};
 ghost use Rattle.std.specs.Prelude.{ℕ, List, [], ◌∷◌, ◌++◌, pos, ◌-ℤ◌, ◌≡◌, ◌+◌, ◌-◌, ◌*◌, ◌^◌, ◌<◌, ◌≤◌, nat_lt, nat_le};
-ghost use Rattle.wm_syntax.specs.Reading.{Answers, IfDone, SignedAfter, UnsignedAfter, fresh, go_on, last_signed, signed_push, unsigned_push};
+ghost use Rattle.wm_syntax.specs.Reading.{Answers, IfDone};
+ghost use Rattle.wm_syntax.specs.exact.Reading.{fresh, go_on, last_signed, signed_push, unsigned_push};
+ghost use Rattle.wm_syntax.specs.inner.Numbers.{SignedAfter, UnsignedAfter};
 
 use std::marker::Model;
 
@@ -27,7 +29,7 @@ pub struct Leb128 {
 
 impl Model for Leb128 {
     ghost use Rattle.std.specs.Prelude.{◌≤◌, ◌<◌, ◌^◌, ◌*◌};
-    ghost use Rattle.wm_syntax.specs.Partial.{Partial};
+    ghost use Rattle.wm_syntax.specs.inner.Numbers.{Partial};
 
     ghost Value = { Partial };
 
@@ -90,7 +92,7 @@ impl Leb128 {
         }
     }
 
-    #[tactic(auto, unfolding(crate::specs::Reading::unsigned_push))]
+    #[tactic(auto, unfolding(crate::specs::exact::Reading::unsigned_push))]
     fn advance_unsigned(self, bits: u8, byte: u8) -> (Step<u64>, Self)
         requires { bits ≤ 64 }
         ensures { result ≡ unsigned_push bits self byte }
@@ -130,7 +132,7 @@ impl Leb128 {
         -1 - inverted as i64
     }
 
-    #[tactic(auto, unfolding(crate::specs::Reading::signed_push))]
+    #[tactic(auto, unfolding(crate::specs::exact::Reading::signed_push))]
     fn advance_signed(self, bits: u8, byte: u8) -> (Step<i64>, Self)
         requires { bits ≤ 64 }
         ensures { result ≡ signed_push bits self byte }
@@ -153,8 +155,10 @@ impl Leb128 {
     /// Takes the next byte of an unsigned number of so many bits.
     pub fn push_unsigned(&mut self, bits: u8, byte: u8) -> Step<u64>
         requires { bits ≤ 64 }
-        ensures answers { (before : List ℕ) → UnsignedAfter bits self.old before → Answers (Unsigned bits) result (before ++ byte ∷ []) }
-        ensures after { (before : List ℕ) → UnsignedAfter bits self.old before → UnsignedAfter bits self.new (before ++ byte ∷ []) }
+        ensures answers { (before : List ℕ) → UnsignedAfter bits self.old before
+            → Answers (Unsigned bits) result (before ++ byte ∷ []) }
+        ensures after { (before : List ℕ) → UnsignedAfter bits self.old before
+            → UnsignedAfter bits self.new (before ++ byte ∷ []) }
         ensures pushed { (result, self.new) ≡ unsigned_push bits self.old byte }
         ensures range { IfDone result (λ n. n < 2 ^ bits) }
     {
@@ -168,8 +172,10 @@ impl Leb128 {
     /// Takes the next byte of a signed number of so many bits.
     pub fn push_signed(&mut self, bits: u8, byte: u8) -> Step<i64>
         requires { bits ≤ 64 }
-        ensures answers { (before : List ℕ) → SignedAfter bits self.old before → Answers (Signed bits) result (before ++ byte ∷ []) }
-        ensures after { (before : List ℕ) → SignedAfter bits self.old before → SignedAfter bits self.new (before ++ byte ∷ []) }
+        ensures answers { (before : List ℕ) → SignedAfter bits self.old before
+            → Answers (Signed bits) result (before ++ byte ∷ []) }
+        ensures after { (before : List ℕ) → SignedAfter bits self.old before
+            → SignedAfter bits self.new (before ++ byte ∷ []) }
         ensures pushed { (result, self.new) ≡ signed_push bits self.old byte }
         ensures range { IfDone result (FitsBits bits) }
     {
@@ -212,7 +218,7 @@ pub struct Num32 {
 }
 
 impl Model for Num32 {
-    ghost use Rattle.wm_syntax.specs.Partial.{Partial};
+    ghost use Rattle.wm_syntax.specs.inner.Numbers.{Partial};
 
     ghost Value = { Partial };
 
@@ -233,8 +239,10 @@ impl Num32 {
 
     /// Takes the next byte. After `Done` and `Bad` the answer is always `Bad`.
     pub fn push(&mut self, byte: u8) -> Step<u32>
-        ensures answers { (before : List ℕ) → UnsignedAfter 32 self.old before → Answers (Unsigned 32) result (before ++ byte ∷ []) }
-        ensures after { (before : List ℕ) → UnsignedAfter 32 self.old before → UnsignedAfter 32 self.new (before ++ byte ∷ []) }
+        ensures answers { (before : List ℕ) → UnsignedAfter 32 self.old before
+            → Answers (Unsigned 32) result (before ++ byte ∷ []) }
+        ensures after { (before : List ℕ) → UnsignedAfter 32 self.old before
+            → UnsignedAfter 32 self.new (before ++ byte ∷ []) }
         ensures pushed { (result, self.new) ≡ unsigned_push 32 self.old byte }
     {
         narrow(self.bytes.push_unsigned(32, byte))
@@ -248,7 +256,7 @@ pub struct Num64 {
 }
 
 impl Model for Num64 {
-    ghost use Rattle.wm_syntax.specs.Partial.{Partial};
+    ghost use Rattle.wm_syntax.specs.inner.Numbers.{Partial};
 
     ghost Value = { Partial };
 
@@ -269,8 +277,10 @@ impl Num64 {
 
     /// Takes the next byte. After `Done` and `Bad` the answer is always `Bad`.
     pub fn push(&mut self, byte: u8) -> Step<u64>
-        ensures answers { (before : List ℕ) → UnsignedAfter 64 self.old before → Answers (Unsigned 64) result (before ++ byte ∷ []) }
-        ensures after { (before : List ℕ) → UnsignedAfter 64 self.old before → UnsignedAfter 64 self.new (before ++ byte ∷ []) }
+        ensures answers { (before : List ℕ) → UnsignedAfter 64 self.old before
+            → Answers (Unsigned 64) result (before ++ byte ∷ []) }
+        ensures after { (before : List ℕ) → UnsignedAfter 64 self.old before
+            → UnsignedAfter 64 self.new (before ++ byte ∷ []) }
         ensures pushed { (result, self.new) ≡ unsigned_push 64 self.old byte }
     {
         self.bytes.push_unsigned(64, byte)
@@ -284,7 +294,7 @@ pub struct Int32 {
 }
 
 impl Model for Int32 {
-    ghost use Rattle.wm_syntax.specs.Partial.{Partial};
+    ghost use Rattle.wm_syntax.specs.inner.Numbers.{Partial};
 
     ghost Value = { Partial };
 
@@ -305,7 +315,8 @@ impl Int32 {
 
     /// Takes the next byte. After `Done` and `Bad` the answer is always `Bad`.
     pub fn push(&mut self, byte: u8) -> Step<i32>
-        ensures answers { (before : List ℕ) → SignedAfter 32 self.old before → Answers (Signed 32) result (before ++ byte ∷ []) }
+        ensures answers { (before : List ℕ) → SignedAfter 32 self.old before
+            → Answers (Signed 32) result (before ++ byte ∷ []) }
         ensures after { (before : List ℕ) → SignedAfter 32 self.old before → SignedAfter 32 self.new (before ++ byte ∷ []) }
         ensures pushed { (result, self.new) ≡ signed_push 32 self.old byte }
     {
@@ -320,7 +331,7 @@ pub struct Int64 {
 }
 
 impl Model for Int64 {
-    ghost use Rattle.wm_syntax.specs.Partial.{Partial};
+    ghost use Rattle.wm_syntax.specs.inner.Numbers.{Partial};
 
     ghost Value = { Partial };
 
@@ -341,7 +352,8 @@ impl Int64 {
 
     /// Takes the next byte. After `Done` and `Bad` the answer is always `Bad`.
     pub fn push(&mut self, byte: u8) -> Step<i64>
-        ensures answers { (before : List ℕ) → SignedAfter 64 self.old before → Answers (Signed 64) result (before ++ byte ∷ []) }
+        ensures answers { (before : List ℕ) → SignedAfter 64 self.old before
+            → Answers (Signed 64) result (before ++ byte ∷ []) }
         ensures after { (before : List ℕ) → SignedAfter 64 self.old before → SignedAfter 64 self.new (before ++ byte ∷ []) }
         ensures pushed { (result, self.new) ≡ signed_push 64 self.old byte }
     {

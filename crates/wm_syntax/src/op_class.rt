@@ -4,7 +4,7 @@ use crate::instructions::{LoadOp, Op, StoreOp};
 
 /// An instruction that has immediates, without them.
 #[derive(Clone, Copy, PartialEq, Eq, Debug)]
-pub enum Kind {
+pub enum Immediates {
     Block,
     Loop,
     If,
@@ -32,7 +32,7 @@ pub enum OpClass {
     /// An op that is this byte alone.
     Plain(Op),
     /// An op with immediates after this byte.
-    With(Kind),
+    With(Immediates),
     /// A floating-point instruction.
     Float,
     /// Nothing of the profile.

@@ -2,8 +2,8 @@
 
 ghost use Rattle.std.specs.Prelude.{◌≡◌, ◌↔◌, IsTrue, slice_get};
 ghost use Rattle.wm_syntax.specs.declared.instructions.Op.{Op};
-ghost use Rattle.wm_syntax.specs.ByteTable.{classes, class_in, class_under};
-ghost use Rattle.wm_syntax.specs.OpClasses.{IsFound, class_of, first_byte, is_float};
+ghost use Rattle.wm_syntax.specs.exact.ByteTable.{classes, class_in, class_under};
+ghost use Rattle.wm_syntax.specs.OpClasses.{IsClassOfOp, class_of, first_byte, is_float};
 ghost use Rattle.wm_syntax.specs.Profiles.{IsOpOf};
 
 use crate::instructions::Numeric::{
@@ -14,7 +14,7 @@ use crate::instructions::{
     BinaryOp, Comparison, LoadOp, Op, SignExtension, Simple, StoreOp, UnaryOp,
 };
 use crate::op_class::OpClass::{Plain, With};
-use crate::op_class::{Kind, OpClass};
+use crate::op_class::{Immediates, OpClass};
 use crate::profile::Profile;
 use crate::types::ValType::{I32, I64};
 
@@ -24,7 +24,7 @@ pub fn op_of(profile: Profile, byte: u8) -> OpClass
     // Each instruction of the profile that begins with the byte is of this class, and the class is that
     // of such an instruction.
     ensures found { (op : Op) → first_byte op ≡ Some byte → IsOpOf profile op → result ≡ class_of op }
-    ensures only { IsFound result → (op : Op) × (first_byte op ≡ Some byte) × IsOpOf profile op × (class_of op ≡ result) }
+    ensures only { IsClassOfOp result → (op : Op) × (first_byte op ≡ Some byte) × IsOpOf profile op × (class_of op ≡ result) }
     ensures float { (result ≡ OpClass.Float) ↔ IsTrue (is_float byte) }
     ensures exact { result ≡ class_under profile byte }
 {
@@ -47,9 +47,9 @@ fn class_at(byte: u8) -> OpClass
     match byte {
         0x00 => Plain(Op::Simple(Simple::Unreachable)),
         0x01 => Plain(Op::Simple(Simple::Nop)),
-        0x02 => With(Kind::Block),
-        0x03 => With(Kind::Loop),
-        0x04 => With(Kind::If),
+        0x02 => With(Immediates::Block),
+        0x03 => With(Immediates::Loop),
+        0x04 => With(Immediates::If),
         0x05 => Plain(Op::Else),
         0x06 => OpClass::None,
         0x07 => OpClass::None,
@@ -57,12 +57,12 @@ fn class_at(byte: u8) -> OpClass
         0x09 => OpClass::None,
         0x0A => OpClass::None,
         0x0B => Plain(Op::End),
-        0x0C => With(Kind::Br),
-        0x0D => With(Kind::BrIf),
-        0x0E => With(Kind::BrTable),
+        0x0C => With(Immediates::Br),
+        0x0D => With(Immediates::BrIf),
+        0x0E => With(Immediates::BrTable),
         0x0F => Plain(Op::Simple(Simple::Return)),
-        0x10 => With(Kind::Call),
-        0x11 => With(Kind::CallIndirect),
+        0x10 => With(Immediates::Call),
+        0x11 => With(Immediates::CallIndirect),
         0x12 => OpClass::None,
         0x13 => OpClass::None,
         0x14 => OpClass::None,
@@ -77,41 +77,41 @@ fn class_at(byte: u8) -> OpClass
         0x1D => OpClass::None,
         0x1E => OpClass::None,
         0x1F => OpClass::None,
-        0x20 => With(Kind::LocalGet),
-        0x21 => With(Kind::LocalSet),
-        0x22 => With(Kind::LocalTee),
-        0x23 => With(Kind::GlobalGet),
-        0x24 => With(Kind::GlobalSet),
+        0x20 => With(Immediates::LocalGet),
+        0x21 => With(Immediates::LocalSet),
+        0x22 => With(Immediates::LocalTee),
+        0x23 => With(Immediates::GlobalGet),
+        0x24 => With(Immediates::GlobalSet),
         0x25 => OpClass::None,
         0x26 => OpClass::None,
         0x27 => OpClass::None,
-        0x28 => With(Kind::Load(LoadOp::I32Load)),
-        0x29 => With(Kind::Load(LoadOp::I64Load)),
+        0x28 => With(Immediates::Load(LoadOp::I32Load)),
+        0x29 => With(Immediates::Load(LoadOp::I64Load)),
         0x2A => OpClass::Float,
         0x2B => OpClass::Float,
-        0x2C => With(Kind::Load(LoadOp::I32Load8S)),
-        0x2D => With(Kind::Load(LoadOp::I32Load8U)),
-        0x2E => With(Kind::Load(LoadOp::I32Load16S)),
-        0x2F => With(Kind::Load(LoadOp::I32Load16U)),
-        0x30 => With(Kind::Load(LoadOp::I64Load8S)),
-        0x31 => With(Kind::Load(LoadOp::I64Load8U)),
-        0x32 => With(Kind::Load(LoadOp::I64Load16S)),
-        0x33 => With(Kind::Load(LoadOp::I64Load16U)),
-        0x34 => With(Kind::Load(LoadOp::I64Load32S)),
-        0x35 => With(Kind::Load(LoadOp::I64Load32U)),
-        0x36 => With(Kind::Store(StoreOp::I32Store)),
-        0x37 => With(Kind::Store(StoreOp::I64Store)),
+        0x2C => With(Immediates::Load(LoadOp::I32Load8S)),
+        0x2D => With(Immediates::Load(LoadOp::I32Load8U)),
+        0x2E => With(Immediates::Load(LoadOp::I32Load16S)),
+        0x2F => With(Immediates::Load(LoadOp::I32Load16U)),
+        0x30 => With(Immediates::Load(LoadOp::I64Load8S)),
+        0x31 => With(Immediates::Load(LoadOp::I64Load8U)),
+        0x32 => With(Immediates::Load(LoadOp::I64Load16S)),
+        0x33 => With(Immediates::Load(LoadOp::I64Load16U)),
+        0x34 => With(Immediates::Load(LoadOp::I64Load32S)),
+        0x35 => With(Immediates::Load(LoadOp::I64Load32U)),
+        0x36 => With(Immediates::Store(StoreOp::I32Store)),
+        0x37 => With(Immediates::Store(StoreOp::I64Store)),
         0x38 => OpClass::Float,
         0x39 => OpClass::Float,
-        0x3A => With(Kind::Store(StoreOp::I32Store8)),
-        0x3B => With(Kind::Store(StoreOp::I32Store16)),
-        0x3C => With(Kind::Store(StoreOp::I64Store8)),
-        0x3D => With(Kind::Store(StoreOp::I64Store16)),
-        0x3E => With(Kind::Store(StoreOp::I64Store32)),
-        0x3F => With(Kind::MemorySize),
-        0x40 => With(Kind::MemoryGrow),
-        0x41 => With(Kind::I32Const),
-        0x42 => With(Kind::I64Const),
+        0x3A => With(Immediates::Store(StoreOp::I32Store8)),
+        0x3B => With(Immediates::Store(StoreOp::I32Store16)),
+        0x3C => With(Immediates::Store(StoreOp::I64Store8)),
+        0x3D => With(Immediates::Store(StoreOp::I64Store16)),
+        0x3E => With(Immediates::Store(StoreOp::I64Store32)),
+        0x3F => With(Immediates::MemorySize),
+        0x40 => With(Immediates::MemoryGrow),
+        0x41 => With(Immediates::I32Const),
+        0x42 => With(Immediates::I64Const),
         0x43 => OpClass::Float,
         0x44 => OpClass::Float,
         0x45 => Plain(Op::Simple(Numeric(Test(I32)))),

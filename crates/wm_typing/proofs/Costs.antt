@@ -1,6 +1,6 @@
 -- What each op can add to the moves and to the heights.
 use Rattle.std.proofs.Common.{ℕ, zero, suc, ◌≡◌, ◌≤◌, ◌+◌, ◌-◌, Bool, true, false, cond, List, [], ◌∷◌, ◌++◌, Option, Some, None, Result, Ok, Err, reverse, length, slice_get, option_to_list, refl, ap, subst, arith}
-use Rattle.std.specs.Prelude.{nat_le, nat_lt, nat_eq, ◌^◌}
+use Rattle.std.specs.Prelude.{nat_le, nat_lt, nat_eq, ◌^◌, option_and_then}
 use Rattle.wm_syntax.specs.declared.types.ValType.{ValType}
 use Rattle.wm_syntax.specs.declared.types.ValType.TheVariants.{I32}
 use Rattle.wm_syntax.specs.declared.why.Why.{Why}
@@ -10,20 +10,20 @@ use Rattle.wm_syntax.specs.declared.instructions.Op.{Op}
 use Rattle.wm_syntax.specs.declared.instructions.Op.TheVariants as op
 use Rattle.wm_stacks.specs.declared.entries.Entry.{Entry}
 use Rattle.wm_stacks.specs.declared.entries.Entry.TheVariants.{Unknown}
-use Rattle.wm_stacks.specs.declared.entries.Kind.{Kind}
-use Rattle.wm_stacks.specs.declared.entries.Kind.TheVariants.{Func, Block, Loop, If, Else}
+use Rattle.wm_stacks.specs.declared.entries.FrameKind.{FrameKind}
+use Rattle.wm_stacks.specs.declared.entries.FrameKind.TheVariants.{Func, Block, Loop, If, Else}
 use Rattle.wm_stacks.specs.declared.entries.Frame.{Frame}
 use Rattle.wm_stacks.specs.declared.entries.Reach.{Reach}
 use Rattle.wm_stacks.specs.declared.entries.Reach.TheVariants.{Whole, Floor}
-use Rattle.wm_stacks.specs.Stack.{Stack, fits}
-use Rattle.wm_stacks.specs.Exact.{pushed, opened, ticked, popped, at_floor as stack_at_floor, takes, take_above, in_frame, take_one, take_all, goes_on, any_above, take_any, cut, cut_at, down_to, close, close_at}
-use Rattle.wm_typing.specs.declared.labels.Table.{Table}
-use Rattle.wm_typing.specs.Typing.{Context}
-use Rattle.wm_typing.specs.Entries.{known, join}
-use Rattle.wm_typing.specs.Shapes.{Shape, fixed, indirect, diverges, drops, selects, ill, shape_of}
+use Rattle.wm_stacks.specs.Stack.{Stack, fits, height_sum}
+use Rattle.wm_stacks.specs.exact.Stacks.{push, open_frame, count_after_move, pop_to, at_floor as stack_at_floor, takes, take_above, in_frame, take_one, take_all, goes_on, any_above, take_any, cut, cut_at, down_to, close, close_at}
+use Rattle.wm_typing.specs.declared.labels.BrTable.{BrTable}
+use Rattle.wm_typing.specs.Typing.{Context, function_type}
+use Rattle.wm_typing.specs.Entries.{entry_of_type, join}
+use Rattle.wm_typing.specs.exact.Effects.{Effect, fixed, indirect, is_polymorphic, drops, selects, ill, effect_of, with_item, where_true, access_effect}
 use Rattle.wm_typing.specs.OpenLists.{at}
-use Rattle.wm_typing.specs.Exact.{push_all, after, drive_fixed, drive_indirect, drive_diverges, drive_drop, push_joined, select_from, drive, drive_close, else_of, drive_else, may_end, give_to, end_of, drive_end, drive_if, drive_count, State, with_table, goes_with, drive_known, drive_label, labels_of, within_frames, drive_op}
-use Rattle.std.specs.Prelude.{option_and_then}
+use Rattle.wm_typing.specs.exact.Ops.{push_all, after_call, drive_fixed, drive_indirect, drive_diverges, drive_drop, push_joined, select_from, drive, drive_close, else_of, drive_else, may_end, give_to, end_of, drive_end, drive_if, drive_count, with_table, goes_with, drive_known, drive_label, labels_of, within_frames, drive_op}
+use Rattle.wm_typing.specs.Bodies.{BodyState}
 use Rattle.std.specs.List.{AllByRecursion}
 use Rattle.wm_syntax.specs.declared.instructions.Simple.TheVariants as s
 use Rattle.wm_syntax.specs.declared.instructions.Numeric.{Numeric}
@@ -31,10 +31,8 @@ use Rattle.wm_syntax.specs.declared.instructions.Numeric.TheVariants as num
 use Rattle.wm_syntax.specs.declared.instructions.SignExtension.TheVariants as ext
 use Rattle.wm_syntax.specs.Types.{Signature}
 use Rattle.wm_syntax.specs.Opcodes.{numeric, load, store}
-use Rattle.wm_stacks.specs.Stack.{height_sum}
-use Rattle.wm_typing.specs.Typing.{function_type}
-use Rattle.wm_typing.specs.Answers.{weight, Adds}
-use Rattle.wm_typing.specs.Shapes.{with_item, where_true, access}
+use Rattle.wm_typing.specs.Answers.{stack_weight}
+use Rattle.wm_typing.specs.exact.Answers.{Adds}
 
 abbrev pub OneAdds : Result Reach Why × Stack → Stack → Type 0
 OneAdds (Ok Whole, z) s = Adds 0 0 s z
@@ -86,7 +84,7 @@ any_above_adds : (f : Frame) (ops : List Entry) (fs : List Frame) (m : ℕ)
 any_above_adds f [] fs m = any_floor_adds f.unreachable (record { operands = []; frames = fs; moves = m })
 any_above_adds f (e ∷ es) fs m = go (nat_le f.floor (length es))
   where
-    go : (b : Bool) → Adds 1 0 (record { operands = e ∷ es; frames = fs; moves = m }) (cond {A = Result Entry Why × Stack} b (Ok e, popped es (record { operands = e ∷ es; frames = fs; moves = m })) (stack_at_floor Unknown f.unreachable (record { operands = e ∷ es; frames = fs; moves = m }))).1
+    go : (b : Bool) → Adds 1 0 (record { operands = e ∷ es; frames = fs; moves = m }) (cond {A = Result Entry Why × Stack} b (Ok e, pop_to es (record { operands = e ∷ es; frames = fs; moves = m })) (stack_at_floor Unknown f.unreachable (record { operands = e ∷ es; frames = fs; moves = m }))).1
     go true = (omega arith, omega arith)
     go false = any_floor_adds f.unreachable (record { operands = e ∷ es; frames = fs; moves = m })
 
@@ -100,10 +98,10 @@ any_adds s = any_in_adds s.frames s.frames s.operands s.moves
 
 down_adds : (n : ℕ) (ops : List Entry) (m : ℕ) → ((down_to n ops m).1 + length (down_to n ops m).0 ≤ m + length ops) × (length (down_to n ops m).0 ≤ length ops)
 down_adds n [] m = (omega arith, omega arith)
-down_adds n (e ∷ es) m = go (nat_le n (length es)) (down_adds n es (ticked m))
+down_adds n (e ∷ es) m = go (nat_le n (length es)) (down_adds n es (count_after_move m))
   where
-    go : (b : Bool) → ((down_to n es (ticked m)).1 + length (down_to n es (ticked m)).0 ≤ ticked m + length es) × (length (down_to n es (ticked m)).0 ≤ length es)
-        → ((cond {A = List Entry × ℕ} b (down_to n es (ticked m)) (e ∷ es, m)).1 + length (cond {A = List Entry × ℕ} b (down_to n es (ticked m)) (e ∷ es, m)).0 ≤ m + length (e ∷ es)) × (length (cond {A = List Entry × ℕ} b (down_to n es (ticked m)) (e ∷ es, m)).0 ≤ length (e ∷ es))
+    go : (b : Bool) → ((down_to n es (count_after_move m)).1 + length (down_to n es (count_after_move m)).0 ≤ count_after_move m + length es) × (length (down_to n es (count_after_move m)).0 ≤ length es)
+        → ((cond {A = List Entry × ℕ} b (down_to n es (count_after_move m)) (e ∷ es, m)).1 + length (cond {A = List Entry × ℕ} b (down_to n es (count_after_move m)) (e ∷ es, m)).0 ≤ m + length (e ∷ es)) × (length (cond {A = List Entry × ℕ} b (down_to n es (count_after_move m)) (e ∷ es, m)).0 ≤ length (e ∷ es))
     go true h = (omega (arith, h.0), omega (arith, h.1))
     go false h = (omega arith, omega arith)
 
@@ -118,7 +116,7 @@ cut_at_adds (g ∷ gs) fs ops m e =
 pub cut_adds : (s : Stack) → Adds 0 0 s (cut s)
 cut_adds s = cut_at_adds s.frames s.frames s.operands s.moves refl
 
-pub pushed_adds : (e : Entry) (s : Stack) → Adds 2 1 s (pushed e s)
+pub pushed_adds : (e : Entry) (s : Stack) → Adds 2 1 s (push e s)
 pushed_adds e s = (omega arith, omega arith)
 
 -- what may be left is at most this much more
@@ -127,7 +125,7 @@ MayAdd a b s (Err w) = Unit {0}
 MayAdd a b s (Ok z) = Adds a b s z
 
 after_adds : {A : Type 0} (a b : ℕ) (s : Stack) (r : Result A Why × Stack) (k : A → Stack → Result Stack Why) → Adds 1 0 s r.1
-    → ((x : A) (z : Stack) → MayAdd a b z (k x z)) → MayAdd (a + 1) b s (after r k)
+    → ((x : A) (z : Stack) → MayAdd a b z (k x z)) → MayAdd (a + 1) b s (after_call r k)
 after_adds a b s (Ok x, z) k h f = go (k x z) (f x z)
   where
     go : (o : Result Stack Why) → MayAdd a b z o → MayAdd (a + 1) b s o
@@ -143,7 +141,7 @@ Small (t ∷ u ∷ ts) = ⊥
 
 push_all_adds : (q : List ValType) (s : Stack) → Small q → Adds 2 1 s (push_all q s)
 push_all_adds [] s h = (omega arith, omega arith)
-push_all_adds (t ∷ []) s h = pushed_adds (known t) s
+push_all_adds (t ∷ []) s h = pushed_adds (entry_of_type t) s
 push_all_adds (t ∷ u ∷ ts) s h = absurd h
 
 fixed_adds : (p q : List ValType) (s : Stack) → Small q → MayAdd 3 1 s (drive_fixed p q s)
@@ -168,11 +166,11 @@ along a b z s (Err w) h d = tt
 along a b z s (Ok y) h d = (omega (arith, d.0, h.0), omega (arith, d.1, h.1))
 
 -- The floor that a select meets at its i32 is its one look.
-select_adds : (s : Stack) (r : Result Reach Why × Stack) → OneAdds r s → MayAdd 4 1 s (after r select_from)
+select_adds : (s : Stack) (r : Result Reach Why × Stack) → OneAdds r s → MayAdd 4 1 s (after_call r select_from)
 select_adds s (Ok Floor, z) h = (omega (arith, h.0), omega (arith, h.1))
 select_adds s (Ok Whole, z) h =
     along 4 1 z s (select_from Whole z) h
-    (after_adds 3 1 z (take_any z) (λ a y. after (take_any y) (λ b x. push_joined (join a b) x)) (any_adds z)
+    (after_adds 3 1 z (take_any z) (λ a y. after_call (take_any y) (λ b x. push_joined (join a b) x)) (any_adds z)
     (λ a y. after_adds 2 1 y (take_any y) (λ b x. push_joined (join a b) x) (any_adds y) (λ b x. joined_adds (join a b) x)))
 select_adds s (Err w, z) h = tt
 
@@ -180,10 +178,10 @@ indirect_adds : (p q : List ValType) (s : Stack) → Small q → MayAdd 4 1 s (d
 indirect_adds p q s h = after_adds 3 1 s (take_all (I32 ∷ []) s) (λ r z. drive_fixed p q z) (take_adds (I32 ∷ []) s) (λ r z. fixed_adds p q z h)
 
 -- no instruction gives more than one result
-abbrev SmallShape : Shape → Type 0
+abbrev SmallShape : Effect → Type 0
 SmallShape (fixed p q) = Small q
 SmallShape (indirect p q) = Small q
-SmallShape (diverges p) = Unit {0}
+SmallShape (is_polymorphic p) = Unit {0}
 SmallShape drops = Unit {0}
 SmallShape selects = Unit {0}
 SmallShape (ill w) = Unit {0}
@@ -192,15 +190,15 @@ small_option : (t : Option ValType) → Small (option_to_list t)
 small_option None = tt
 small_option (Some t) = tt
 
-small_item : {A : Type 0} (o : Option A) (f : A → Shape) → ((x : A) → o ≡ Some x → SmallShape (f x)) → SmallShape (with_item o f)
+small_item : {A : Type 0} (o : Option A) (f : A → Effect) → ((x : A) → o ≡ Some x → SmallShape (f x)) → SmallShape (with_item o f)
 small_item None f h = tt
 small_item (Some x) f h = h x refl
 
-small_where : (w : Why) (b : Bool) (s : Shape) → SmallShape s → SmallShape (where_true w b s)
+small_where : (w : Why) (b : Bool) (s : Effect) → SmallShape s → SmallShape (where_true w b s)
 small_where w true s h = h
 small_where w false s h = tt
 
-small_access : (c : Context) (align width : ℕ) (s : Shape) → SmallShape s → SmallShape (access c align width s)
+small_access : (c : Context) (align width : ℕ) (s : Effect) → SmallShape s → SmallShape (access_effect c align width s)
 small_access c align width s h = small_where why.Index c.has_memory (where_true why.Align (nat_le (2 ^ align) width) s) (small_where why.Align (nat_le (2 ^ align) width) s h)
 
 small_results : (q : List ValType) → length q ≤ 1 → Small q
@@ -238,10 +236,10 @@ small_numeric (num.SignExtend ext.I64From8) = tt
 small_numeric (num.SignExtend ext.I64From16) = tt
 small_numeric (num.SignExtend ext.I64From32) = tt
 
-small : (c : Context) (p : Simple) → OneResult c → SmallShape (shape_of c p)
+small : (c : Context) (p : Simple) → OneResult c → SmallShape (effect_of c p)
 small c s.Unreachable h = tt
 small c s.Nop h = tt
-small c (s.Br l) h = small_item (slice_get c.labels l) (λ t. diverges (option_to_list t)) (λ t e. tt)
+small c (s.Br l) h = small_item (slice_get c.labels l) (λ t. is_polymorphic (option_to_list t)) (λ t e. tt)
 small c (s.BrIf l) h = small_item (slice_get c.labels l) (λ t. fixed (option_to_list t ++ I32 ∷ []) (option_to_list t)) (λ t e. small_option t)
 small c s.Return h = tt
 small c (s.Call x) h = small_item (function_type c x) (λ f. fixed f.params f.results) (small_function c h (slice_get c.functions x))
@@ -269,10 +267,10 @@ one_all (Ok Whole, z) s h = h
 one_all (Ok Floor, z) s h = h
 one_all (Err w, z) s h = h
 
-shape_adds : (sh : Shape) (s : Stack) → SmallShape sh → MayAdd 4 1 s (drive sh s)
+shape_adds : (sh : Effect) (s : Stack) → SmallShape sh → MayAdd 4 1 s (drive sh s)
 shape_adds (fixed p q) s h = widen 4 1 3 1 s (drive_fixed p q s) (omega arith) (omega arith) (fixed_adds p q s h)
 shape_adds (indirect p q) s h = indirect_adds p q s h
-shape_adds (diverges p) s h = widen 4 1 1 0 s (drive_diverges p s) (omega arith) (omega arith) (diverges_adds p s)
+shape_adds (is_polymorphic p) s h = widen 4 1 1 0 s (drive_diverges p s) (omega arith) (omega arith) (diverges_adds p s)
 shape_adds drops s h = widen 4 1 1 0 s (drive_drop s) (omega arith) (omega arith) (drop_adds s)
 shape_adds selects s h = select_adds s (take_all (I32 ∷ []) s) (one_all (take_one I32 s) s (one_adds I32 s.frames s.frames s.operands s.moves))
 shape_adds (ill w) s h = tt
@@ -286,7 +284,7 @@ close_at_adds : (gs fs : List Frame) (ops : List Entry) (m : ℕ) → gs ≡ fs
 close_at_adds [] fs ops m e = tt
 close_at_adds (g ∷ gs) fs ops m e = go (nat_lt g.floor (length ops))
   where
-    go : (b : Bool) → CloseAdds (cond {A = Result Frame Why × Stack} b (Err why.Arity, record { operands = ops; frames = fs; moves = m }) (Ok g, record { operands = ops; frames = gs; moves = ticked m })) (record { operands = ops; frames = fs; moves = m })
+    go : (b : Bool) → CloseAdds (cond {A = Result Frame Why × Stack} b (Err why.Arity, record { operands = ops; frames = fs; moves = m }) (Ok g, record { operands = ops; frames = gs; moves = count_after_move m })) (record { operands = ops; frames = fs; moves = m })
     go true = tt
     go false = let l : suc (length gs) ≡ length fs = ap length e in (omega (arith, l), omega (arith, l))
 
@@ -294,21 +292,21 @@ close_adds : (s : Stack) → CloseAdds (close s) s
 close_adds s = close_at_adds s.frames s.frames s.operands s.moves refl
 
 after_close_adds : (a b : ℕ) (s : Stack) (r : Result Frame Why × Stack) (k : Frame → Stack → Result Stack Why) → CloseAdds r s
-    → ((f : Frame) (z : Stack) → MayAdd a b z (k f z)) → MayAdd a b s (after r k)
+    → ((f : Frame) (z : Stack) → MayAdd a b z (k f z)) → MayAdd a b s (after_call r k)
 after_close_adds a b s (Ok f, z) k h d = along a b z s (k f z) h (d f z)
 after_close_adds a b s (Err w, z) k h d = tt
 
 drive_close_adds : (a b : ℕ) (t : Option ValType) (s : Stack) (k : Frame → Stack → Result Stack Why) → ((f : Frame) (z : Stack) → MayAdd a b z (k f z))
     → MayAdd (a + 1) b s (drive_close t s k)
 drive_close_adds a b t s k d =
-    after_adds a b s (take_all (reverse (option_to_list t)) s) (λ r z. after (close z) k) (take_adds (reverse (option_to_list t)) s)
+    after_adds a b s (take_all (reverse (option_to_list t)) s) (λ r z. after_call (close z) k) (take_adds (reverse (option_to_list t)) s)
     (λ r z. after_close_adds a b z (close z) k (close_adds z) d)
 
-opened_adds : (k : Kind) (t : Option ValType) (s : Stack) → Adds 2 1 s (opened k t s)
+opened_adds : (k : FrameKind) (t : Option ValType) (s : Stack) → Adds 2 1 s (open_frame k t s)
 opened_adds k t s = (omega arith, omega arith)
 
-else_of_adds : (k : Kind) (t : Option ValType) (s : Stack) → MayAdd 3 1 s (else_of k t s)
-else_of_adds If t s = drive_close_adds 2 1 t s (λ f z. Ok (opened Else t z)) (λ f z. opened_adds Else t z)
+else_of_adds : (k : FrameKind) (t : Option ValType) (s : Stack) → MayAdd 3 1 s (else_of k t s)
+else_of_adds If t s = drive_close_adds 2 1 t s (λ f z. Ok (open_frame Else t z)) (λ f z. opened_adds Else t z)
 else_of_adds Func t s = tt
 else_of_adds Block t s = tt
 else_of_adds Loop t s = tt
@@ -330,35 +328,35 @@ end_adds : (fs : List Frame) (s : Stack) → MayAdd 4 1 s (drive_end fs s)
 end_adds [] s = tt
 end_adds (f ∷ fs) s = widen 4 1 3 1 s (end_of f.kind f.result s) (omega arith) (omega arith) (end_of_adds (may_end f.kind f.result) f.result s)
 
-abbrev pub MayAddOp : ℕ → ℕ → Stack → Result State Why → Type 0
+abbrev pub MayAddOp : ℕ → ℕ → Stack → Result BodyState Why → Type 0
 MayAddOp a b s (Err w) = Unit {0}
 MayAddOp a b s (Ok d) = Adds a b s d.stacks
 
-with_table_adds : (t : Option Table) (a b : ℕ) (s : Stack) (o : Result Stack Why) → MayAdd a b s o → MayAddOp a b s (with_table t o)
+with_table_adds : (t : Option BrTable) (a b : ℕ) (s : Stack) (o : Result Stack Why) → MayAdd a b s o → MayAddOp a b s (with_table t o)
 with_table_adds t a b s (Err w) h = tt
 with_table_adds t a b s (Ok z) h = h
 
-known_adds : (z : Bool) (u : Option ValType) (t : Option Table) (s : Stack)
+known_adds : (z : Bool) (u : Option ValType) (t : Option BrTable) (s : Stack)
     → MayAddOp 4 1 s (cond z (with_table None (drive_diverges (option_to_list u) s)) (Ok (record { stacks = s; table = t })))
 known_adds true u t s = with_table_adds None 4 1 s (drive_diverges (option_to_list u) s) (widen 4 1 1 0 s (drive_diverges (option_to_list u) s) (omega arith) (omega arith) (diverges_adds (option_to_list u) s))
 known_adds false u t s = (omega arith, omega arith)
 
-goes_label_adds : (b : Bool) (u : Option ValType) (t : Table) (s : Stack) → MayAddOp 4 1 s (cond b (drive_known u t s) (Err why.Mismatch))
+goes_label_adds : (b : Bool) (u : Option ValType) (t : BrTable) (s : Stack) → MayAddOp 4 1 s (cond b (drive_known u t s) (Err why.Mismatch))
 goes_label_adds true u t s = known_adds (nat_eq t.left 0) u (Some (record { left = t.left - 1; seen = Some u })) s
 goes_label_adds false u t s = tt
 
-label_adds : (o : Option (Option ValType)) (t : Table) (s : Stack) → MayAddOp 4 1 s (drive_label o t s)
+label_adds : (o : Option (Option ValType)) (t : BrTable) (s : Stack) → MayAddOp 4 1 s (drive_label o t s)
 label_adds None t s = tt
 label_adds (Some u) t s = goes_label_adds (goes_with t.seen u) u t s
 
-pub op_adds : (c : Context) → OneResult c → (x : Op) (t : Option Table) (s : Stack) → MayAddOp 4 1 s (drive_op c x t s)
+pub op_adds : (c : Context) → OneResult c → (x : Op) (t : Option BrTable) (s : Stack) → MayAddOp 4 1 s (drive_op c x t s)
 op_adds c one (op.Label l) (Some t) s = label_adds (slice_get (labels_of s.frames) l) t s
-op_adds c one (op.Simple p) None s = with_table_adds None 4 1 s (drive (shape_of (within_frames c s.frames) p) s) (shape_adds (shape_of (within_frames c s.frames) p) s (small (within_frames c s.frames) p one))
+op_adds c one (op.Simple p) None s = with_table_adds None 4 1 s (drive (effect_of (within_frames c s.frames) p) s) (shape_adds (effect_of (within_frames c s.frames) p) s (small (within_frames c s.frames) p one))
 op_adds c one (op.Block t) None s = (omega arith, omega arith)
 op_adds c one (op.Loop t) None s = (omega arith, omega arith)
 op_adds c one (op.If t) None s =
     with_table_adds None 4 1 s (drive_if t s) (widen 4 1 3 1 s (drive_if t s) (omega arith) (omega arith)
-    (after_adds 2 1 s (take_all (I32 ∷ []) s) (λ r z. Ok (opened If t z)) (take_adds (I32 ∷ []) s) (λ r z. opened_adds If t z)))
+    (after_adds 2 1 s (take_all (I32 ∷ []) s) (λ r z. Ok (open_frame If t z)) (take_adds (I32 ∷ []) s) (λ r z. opened_adds If t z)))
 op_adds c one op.Else None s = with_table_adds None 4 1 s (drive_else s.frames s) (else_adds s.frames s)
 op_adds c one op.End None s = with_table_adds None 4 1 s (drive_end s.frames s) (end_adds s.frames s)
 op_adds c one (op.BrTable n) None s =
@@ -374,19 +372,19 @@ op_adds c one op.End (Some t) s = tt
 op_adds c one (op.BrTable n) (Some t) s = tt
 
 -- what the calls on the stacks add, whatever they answer
-pub take_weight : (ts : List ValType) (s : Stack) → weight (take_all ts s).1 ≤ weight s + 1
+pub take_weight : (ts : List ValType) (s : Stack) → stack_weight (take_all ts s).1 ≤ stack_weight s + 1
 take_weight ts s = (take_adds ts s).0
 
 pub take_height : (ts : List ValType) (s : Stack) → height_sum (take_all ts s).1 ≤ height_sum s + 0
 take_height ts s = (take_adds ts s).1
 
-pub any_weight : (s : Stack) → weight (take_any s).1 ≤ weight s + 1
+pub any_weight : (s : Stack) → stack_weight (take_any s).1 ≤ stack_weight s + 1
 any_weight s = (any_adds s).0
 
 pub any_height : (s : Stack) → height_sum (take_any s).1 ≤ height_sum s + 0
 any_height s = (any_adds s).1
 
-pub cut_weight : (s : Stack) → weight (cut s) ≤ weight s + 0
+pub cut_weight : (s : Stack) → stack_weight (cut s) ≤ stack_weight s + 0
 cut_weight s = (cut_adds s).0
 
 pub cut_height : (s : Stack) → height_sum (cut s) ≤ height_sum s + 0
@@ -397,11 +395,11 @@ close_either_adds : (gs fs : List Frame) (ops : List Entry) (m : ℕ) → gs ≡
 close_either_adds [] fs ops m e = adds_same (record { operands = ops; frames = fs; moves = m }) 0
 close_either_adds (g ∷ gs) fs ops m e = go (nat_lt g.floor (length ops))
   where
-    go : (b : Bool) → Adds 0 0 (record { operands = ops; frames = fs; moves = m }) (cond {A = Result Frame Why × Stack} b (Err why.Arity, record { operands = ops; frames = fs; moves = m }) (Ok g, record { operands = ops; frames = gs; moves = ticked m })).1
+    go : (b : Bool) → Adds 0 0 (record { operands = ops; frames = fs; moves = m }) (cond {A = Result Frame Why × Stack} b (Err why.Arity, record { operands = ops; frames = fs; moves = m }) (Ok g, record { operands = ops; frames = gs; moves = count_after_move m })).1
     go true = adds_same (record { operands = ops; frames = fs; moves = m }) 0
     go false = let l : suc (length gs) ≡ length fs = ap length e in (omega (arith, l), omega (arith, l))
 
-pub close_weight : (s : Stack) → weight (close s).1 ≤ weight s + 0
+pub close_weight : (s : Stack) → stack_weight (close s).1 ≤ stack_weight s + 0
 close_weight s = (close_either_adds s.frames s.frames s.operands s.moves refl).0
 
 pub close_height : (s : Stack) → height_sum (close s).1 ≤ height_sum s + 0

@@ -4,16 +4,17 @@ use Rattle.wm_syntax.specs.declared.types.ValType.{ValType}
 use Rattle.wm_syntax.specs.declared.instructions.Op.{Op}
 use Rattle.wm_syntax.specs.declared.instructions.Op.TheVariants as op
 use Rattle.wm_syntax.specs.Instructions.{Instruction, Instructions, snoc, simple, table}
-use Rattle.wm_stacks.specs.declared.entries.Kind.{Kind}
-use Rattle.wm_stacks.specs.declared.entries.Kind.TheVariants.{Func, Block, Loop, If, Else}
-use Rattle.wm_typing.specs.Nesting.{depth, opens, closes, openings, endings}
-use Rattle.wm_typing.specs.OpenLists.{Head, head, Work, work, Place, open_at, within, complete, levels, work_nesting, deepest}
-use Rattle.wm_typing.proofs.Parse.{fresh, closed, end_place, place_grown, place_label, place_else, place_after}
+use Rattle.wm_stacks.specs.declared.entries.FrameKind.{FrameKind}
+use Rattle.wm_stacks.specs.declared.entries.FrameKind.TheVariants.{Func, Block, Loop, If, Else}
+use Rattle.wm_typing.specs.Nesting.{depth}
+use Rattle.wm_syntax.specs.Instructions.{opens, closes, openings, endings}
+use Rattle.wm_typing.specs.OpenLists.{Head, head, Work, work, Place, open_at, within, complete, levels, work_nesting, deepest_so_far}
+use Rattle.wm_typing.proofs.OpenListOps.{fresh, closed, end_place, place_grown, place_label, place_else, place_after}
 
 -- what an op adds
 pub record Grows (x : Op) (p q : Place) : Type 0 where
   pub open_lists : levels q + closes x ≡ levels p + opens x
-  pub depths : deepest q ≡ max (deepest p) (levels q)
+  pub depths : deepest_so_far q ≡ max (deepest_so_far p) (levels q)
 
 abbrev MayGrow : Op → Place → Option Place → Type 0
 MayGrow x p None = Unit {0}
@@ -26,7 +27,7 @@ work_grown (head Loop t) g b i = refl
 work_grown (head If t) g b i = refl
 work_grown (head Else t) g b i = omega arith
 
-closed_depth : (k : Kind) (t : Option ValType) (w : Work) → depth (closed k t w) ≡ work_nesting (head k t) w + 1
+closed_depth : (k : FrameKind) (t : Option ValType) (w : Work) → depth (closed k t w) ≡ work_nesting (head k t) w + 1
 closed_depth Func t (work f s) = refl
 closed_depth Block t (work f s) = refl
 closed_depth Loop t (work f s) = refl
@@ -54,14 +55,14 @@ else_grows (open_at (head Else t ∷ hs) ws) = tt
 else_grows (within n seen hs ws) = tt
 else_grows (complete r s) = tt
 
-inner_grows : (k : Kind) (t : Option ValType) (w : Work) (h : Head) (hs : List Head) (g b : Instructions) (ws : List Work)
+inner_grows : (k : FrameKind) (t : Option ValType) (w : Work) (h : Head) (hs : List Head) (g b : Instructions) (ws : List Work)
     → Grows op.End (open_at (head k t ∷ h ∷ hs) (w ∷ work g b ∷ ws)) (open_at (h ∷ hs) (work g (snoc b (closed k t w)) ∷ ws))
 inner_grows k t w h hs g b ws =
     let e = work_grown h g b (closed k t w) in
     let d = closed_depth k t w in
     record { open_lists = omega arith; depths = omega (arith, e, d) }
 
-end_grows : (k : Kind) (t : Option ValType) (w : Work) (hs : List Head) (ws : List Work) → MayGrow op.End (open_at (head k t ∷ hs) (w ∷ ws)) (end_place k t w hs ws)
+end_grows : (k : FrameKind) (t : Option ValType) (w : Work) (hs : List Head) (ws : List Work) → MayGrow op.End (open_at (head k t ∷ hs) (w ∷ ws)) (end_place k t w hs ws)
 end_grows Func t (work first s) [] [] = record { open_lists = omega arith; depths = omega arith }
 end_grows Func t w (h ∷ hs) ws = tt
 end_grows Func t w [] (v ∷ ws) = tt

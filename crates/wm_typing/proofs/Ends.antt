@@ -5,11 +5,13 @@ use Rattle.std.proofs.lemmas.List.{length-replicate}
 use Rattle.wm_syntax.specs.declared.types.ValType.{ValType}
 use Rattle.wm_syntax.specs.declared.instructions.Op.{Op}
 use Rattle.wm_typing.specs.Typing.{Context}
-use Rattle.wm_typing.specs.Contexts.{body_context, expanded}
-use Rattle.wm_typing.specs.Bodies.{Body, kept_of}
-use Rattle.wm_typing.specs.After.{After, HaveTyping, IsTypedBody}
+use Rattle.wm_typing.specs.Contexts.{body_context}
+use Rattle.wm_syntax.specs.Modules.{locals_of}
+use Rattle.wm_typing.specs.Bodies.{Body, body_entries}
+use Rattle.wm_typing.specs.TypedBodies.{HaveTyping, IsTypedBody}
+use Rattle.wm_typing.specs.inner.Checking.{BodyAfter}
 use Rattle.wm_typing.proofs.FewRuns.{run_count_le}
-use Rattle.wm_typing.proofs.Kept.{body_can, ended_none, refused_on, unfinished}
+use Rattle.wm_typing.proofs.StacksAfterOps.{body_can, ended_none, refused_on, unfinished}
 
 -- the first so many, and the next
 pub next_taken : (ops : List Op) (i : ℕ) (d : Op) → i < length ops → take (i + 1) ops ≡ take i ops ++ get_or ops i d ∷ []
@@ -45,50 +47,50 @@ last_taken ops i d e =
 pub whole_taken : (ops : List Op) (i : ℕ) → length ops ≤ i → take i ops ≡ ops
 whole_taken ops i l = take_all i ops l
 
-pub open_body : (c : Context) (x : ℕ) (locals : List ValType) (ops : List Op) (b : Body) → After c x locals ops b → 0 < length b.state.stacks.frames
+pub open_body : (c : Context) (x : ℕ) (locals : List ValType) (ops : List Op) (b : Body) → BodyAfter c x locals ops b → 0 < length b.state.stacks.frames
     → IsTypedBody (body_context c x locals) ops → ⊥
 open_body c x locals ops b a l h = unfinished (body_context c x locals) ops b.state.table b.state.stacks a.keeps l refl h
 
 -- what is kept is little
-pub kept_little : (c : Context) (x : ℕ) (locals : List ValType) (ops : List Op) (b : Body) → After c x locals ops b → 0 < length b.state.stacks.frames
-    → length locals < 2 ^ 32 → length ops < 2 ^ 62 → kept_of b < 2 ^ 63
+pub kept_little : (c : Context) (x : ℕ) (locals : List ValType) (ops : List Op) (b : Body) → BodyAfter c x locals ops b → 0 < length b.state.stacks.frames
+    → length locals < 2 ^ 32 → length ops < 2 ^ 62 → body_entries b < 2 ^ 63
 kept_little c x locals ops b a l few m =
     let r = run_count_le b.declared in
     let e : length b.declared ≡ length locals = ap length (a.declared l) in
     omega (arith, r, e, few, m, a.within.heights)
 
 -- runs of locals
-expanded-append : (xs ys : List (ℕ × ValType)) → expanded (xs ++ ys) ≡ expanded xs ++ expanded ys
+expanded-append : (xs ys : List (ℕ × ValType)) → locals_of (xs ++ ys) ≡ locals_of xs ++ locals_of ys
 expanded-append [] ys = refl
 expanded-append (r ∷ xs) ys =
-    ap (λ z. replicate r.0 r.1 ++ z) (expanded-append xs ys) ∙ sym (append_assoc (replicate r.0 r.1) (expanded xs) (expanded ys))
+    ap (λ z. replicate r.0 r.1 ++ z) (expanded-append xs ys) ∙ sym (append_assoc (replicate r.0 r.1) (locals_of xs) (locals_of ys))
 
 pub next_run : (runs : List (ℕ × ValType)) (i : ℕ) (d : ℕ × ValType) → i < length runs
-    → expanded (take (i + 1) runs) ≡ expanded (take i runs) ++ replicate (get_or runs i d).0 (get_or runs i d).1
+    → locals_of (take (i + 1) runs) ≡ locals_of (take i runs) ++ replicate (get_or runs i d).0 (get_or runs i d).1
 next_run runs i d l =
     let e : i + 1 ≡ suc i = omega arith in
-    ap (λ n. expanded (take n runs)) e ∙ ap expanded (take-suc runs i d l) ∙ expanded-append (take i runs) (get_or runs i d ∷ [])
-    ∙ ap (λ z. expanded (take i runs) ++ z) (append-nil (replicate (get_or runs i d).0 (get_or runs i d).1))
+    ap (λ n. locals_of (take n runs)) e ∙ ap locals_of (take-suc runs i d l) ∙ expanded-append (take i runs) (get_or runs i d ∷ [])
+    ∙ ap (λ z. locals_of (take i runs) ++ z) (append-nil (replicate (get_or runs i d).0 (get_or runs i d).1))
 
-pub front_shorter : (runs : List (ℕ × ValType)) (i : ℕ) → length (expanded (take i runs)) ≤ length (expanded runs)
+pub front_shorter : (runs : List (ℕ × ValType)) (i : ℕ) → length (locals_of (take i runs)) ≤ length (locals_of runs)
 front_shorter runs i =
-    let e : length (expanded runs) ≡ length (expanded (take i runs)) + length (expanded (drop i runs)) =
-    ap (λ z. length (expanded z)) (sym (take-append-drop i runs)) ∙ ap length (expanded-append (take i runs) (drop i runs)) ∙ length-append (expanded (take i runs)) (expanded (drop i runs)) in
+    let e : length (locals_of runs) ≡ length (locals_of (take i runs)) + length (locals_of (drop i runs)) =
+    ap (λ z. length (locals_of z)) (sym (take-append-drop i runs)) ∙ ap length (expanded-append (take i runs) (drop i runs)) ∙ length-append (locals_of (take i runs)) (locals_of (drop i runs)) in
     omega (arith, e)
 
 longer_by : (runs : List (ℕ × ValType)) (i : ℕ) (d : ℕ × ValType) → i < length runs
-    → length (expanded (take (i + 1) runs)) ≡ length (expanded (take i runs)) + (get_or runs i d).0
+    → length (locals_of (take (i + 1) runs)) ≡ length (locals_of (take i runs)) + (get_or runs i d).0
 longer_by runs i d l =
-    ap length (next_run runs i d l) ∙ length-append (expanded (take i runs)) (replicate (get_or runs i d).0 (get_or runs i d).1)
-    ∙ ap (λ n. length (expanded (take i runs)) + n) (length-replicate (get_or runs i d).0 (get_or runs i d).1)
+    ap length (next_run runs i d l) ∙ length-append (locals_of (take i runs)) (replicate (get_or runs i d).0 (get_or runs i d).1)
+    ∙ ap (λ n. length (locals_of (take i runs)) + n) (length-replicate (get_or runs i d).0 (get_or runs i d).1)
 
 -- where the locals so far and those of the next run are too many, so are all
 pub front_longer : (runs : List (ℕ × ValType)) (i : ℕ) (d : ℕ × ValType) → i < length runs
-    → 2 ^ 32 ≤ length (expanded (take i runs)) + (get_or runs i d).0 → 2 ^ 32 ≤ length (expanded runs)
+    → 2 ^ 32 ≤ length (locals_of (take i runs)) + (get_or runs i d).0 → 2 ^ 32 ≤ length (locals_of runs)
 front_longer runs i d l h = let k = front_shorter runs (i + 1) in let e = longer_by runs i d l in omega (arith, h, k, e)
 
 pub front_few : (runs : List (ℕ × ValType)) (i : ℕ) (d : ℕ × ValType) → i < length runs
-    → length (expanded (take i runs)) + (get_or runs i d).0 < 2 ^ 32 → length (expanded (take (i + 1) runs)) < 2 ^ 32
+    → length (locals_of (take i runs)) + (get_or runs i d).0 < 2 ^ 32 → length (locals_of (take (i + 1) runs)) < 2 ^ 32
 front_few runs i d l h = let e = longer_by runs i d l in omega (arith, h, e)
 
 pub still_open : {A : Type 0} → (xs : List A) → (xs ≡ [] → ⊥) → 0 < length xs

@@ -8,9 +8,9 @@ use Rattle.wm_syntax.specs.declared.instructions.Simple.TheVariants as s
 use Rattle.wm_syntax.specs.declared.instructions.Op.{Op}
 use Rattle.wm_syntax.specs.declared.instructions.Op.TheVariants as op
 use Rattle.wm_stacks.specs.Runs.{same, ends_from, run_ends, run_count}
-use Rattle.wm_stacks.specs.ExactRuns.{halvings, probes_for}
-use Rattle.wm_typing.specs.declared.labels.Table.{Table}
-use Rattle.wm_typing.specs.ExactBodies.{local_probes, simple_probes, op_probes}
+use Rattle.wm_stacks.specs.Probes.{halvings, probes_for}
+use Rattle.wm_typing.specs.declared.labels.BrTable.{BrTable}
+use Rattle.wm_typing.specs.Probes.{local_probes, simple_probes, op_probes}
 
 ends_le : (t : ValType) (n : ℕ) (ts : List ValType) → length (ends_from t n ts) ≤ length ts + 1
 ends_le t n [] = omega arith
@@ -52,7 +52,7 @@ simple_le params declared (s.LocalSet x) = local_le params declared x
 simple_le params declared (s.LocalTee x) = local_le params declared x
 simple_le params declared _ = omega arith
 
-pub op_le : (params declared : List ValType) (t : Option Table) (x : Op) → op_probes params declared t x ≤ 32
+pub op_le : (params declared : List ValType) (t : Option BrTable) (x : Op) → op_probes params declared t x ≤ 32
 op_le params declared None (op.Simple i) = simple_le params declared i
 op_le params declared (Some t) (op.Simple i) = omega arith
 op_le params declared t _ = omega arith

@@ -6,11 +6,11 @@ use Rattle.wm_syntax.specs.declared.types.ValType.TheVariants.{I32, I64}
 use Rattle.wm_stacks.specs.declared.entries.Entry.{Entry}
 use Rattle.wm_stacks.specs.declared.entries.Entry.TheVariants.{I32 as Int32, I64 as Int64, Unknown}
 use Rattle.wm_stacks.specs.Stack.{fits}
-use Rattle.wm_typing.specs.Entries.{known, join}
-use Rattle.wm_typing.specs.Shapes.{Shape, fixed, indirect, diverges, drops, selects, ill}
-use Rattle.wm_typing.specs.Frames.{Pile, Stands}
-use Rattle.wm_typing.proofs.Shapes.{HasShape}
-use Rattle.wm_typing.proofs.Machine.{Take, whole, floor, refused, take_types, after_take, cut_after, take_any, joined, take_two, select_after, apply}
+use Rattle.wm_typing.specs.Entries.{entry_of_type, join}
+use Rattle.wm_typing.specs.exact.Effects.{Effect, fixed, indirect, is_polymorphic, drops, selects, ill}
+use Rattle.wm_typing.specs.inner.Frames.{Pile, Stands}
+use Rattle.wm_typing.proofs.Effects.{HasShape}
+use Rattle.wm_typing.proofs.FrameOperands.{Take, whole, floor, refused, take_types, after_take, cut_after, take_any, joined, take_two, select_after, apply}
 
 abbrev Agrees : Entry → ValType → Type 0
 Agrees e t = IsTrue (fits e t)
@@ -45,37 +45,37 @@ take_law true [] (x ∷ xs) ts = (λ h. tt, λ h. tt)
 take_law false [] (x ∷ xs) ts = (λ h. cc, λ h. absurd h)
 take_law un (e ∷ es) (x ∷ xs) ts = take_step un es xs ts e x (fits e x) refl (take_law un es xs ts)
 
--- the lists that known types on top of a frame give
-known_agrees : (x : ValType) → Agrees (known x) x
+-- the lists that entry_of_type types on top of a frame give
+known_agrees : (x : ValType) → Agrees (entry_of_type x) x
 known_agrees I32 = refl
 known_agrees I64 = refl
 
-known_only : (x t : ValType) → Agrees (known x) t → t ≡ x
+known_only : (x t : ValType) → Agrees (entry_of_type x) t → t ≡ x
 known_only I32 I32 h = refl
 known_only I32 I64 h = cc
 known_only I64 I32 h = cc
 known_only I64 I64 h = refl
 
 pub known_law : (un : Bool) (es : List Entry) (xs ts : List ValType)
-    → ((below : List ValType) × Stands un es below × (ts ≡ xs ++ below)) ↔ Stands un (map known xs ++ es) ts
+    → ((below : List ValType) × Stands un es below × (ts ≡ xs ++ below)) ↔ Stands un (map entry_of_type xs ++ es) ts
 known_law un es [] ts = ((λ h. subst (λ z. Stands un es z) (sym h.2) h.1), (λ h. (ts, h, refl)))
 known_law un es (x ∷ xs) [] = ((λ h. absurd (let e = h.2 in cc)), (λ h. absurd h))
 known_law un es (x ∷ xs) (t ∷ ts) = (
-  (λ h. (subst (λ z. Agrees (known x) z) (let e = h.2 in cc) (known_agrees x), (known_law un es xs ts).0 (h.0, h.1, (let e = h.2 in cc)))),
+  (λ h. (subst (λ z. Agrees (entry_of_type x) z) (let e = h.2 in cc) (known_agrees x), (known_law un es xs ts).0 (h.0, h.1, (let e = h.2 in cc)))),
   (λ h. let r = (known_law un es xs ts).1 h.1 in (r.0, r.1, (let e = r.2 in let f = known_only x t h.0 in cc))),
 )
 
 -- what a shape makes of a set of lists, the top first
-abbrev pub Post : Shape → (List ValType → Type 0) → List ValType → Type 0
+abbrev pub Post : Effect → (List ValType → Type 0) → List ValType → Type 0
 Post s P ts =
     (took : List ValType) × (gave : List ValType) × (below : List ValType)
     × HasShape s took gave × P (reverse took ++ below) × (ts ≡ reverse gave ++ below)
 
 pub give_law : (un : Bool) (tk : Take) (xs ts : List ValType)
-    → ((below : List ValType) × AfterTake un tk below × (ts ≡ xs ++ below)) ↔ StandsAfter (after_take un (map known xs) tk) ts
+    → ((below : List ValType) × AfterTake un tk below × (ts ≡ xs ++ below)) ↔ StandsAfter (after_take un (map entry_of_type xs) tk) ts
 give_law un (whole es) xs ts = known_law un es xs ts
 give_law un floor xs ts =
-    subst (λ z. ((below : List ValType) × Unit {0} × (ts ≡ xs ++ below)) ↔ Stands true z ts) (append-nil (map known xs)) (known_law true [] xs ts)
+    subst (λ z. ((below : List ValType) × Unit {0} × (ts ≡ xs ++ below)) ↔ Stands true z ts) (append-nil (map entry_of_type xs)) (known_law true [] xs ts)
 give_law un refused xs ts = ((λ h. h.1), (λ h. absurd h))
 
 -- a take that was not refused leaves some list
@@ -166,7 +166,7 @@ reverse_back p r = reverse_below (reverse r) p [] ∙ ap (λ z. reverse p ++ z) 
 -- the frame refuses.
 fixed_law : (p q : List ValType) (f : Pile) (ts : List ValType)
     → ((took : List ValType) × (gave : List ValType) × (below : List ValType) × ((took ≡ p) × (gave ≡ q)) × Stands f.dead f.entries (reverse took ++ below) × (ts ≡ reverse gave ++ below))
-    ↔ StandsAfter (after_take f.dead (map known (reverse q)) (take_types f.dead f.entries (reverse p))) ts
+    ↔ StandsAfter (after_take f.dead (map entry_of_type (reverse q)) (take_types f.dead f.entries (reverse p))) ts
 fixed_law p q f ts =
     let g = give_law f.dead (take_types f.dead f.entries (reverse p)) (reverse q) ts in (
       λ h. let a = h.3.0 in let b = h.3.1 in
@@ -178,10 +178,10 @@ fixed_law p q f ts =
       λ h. let r = g.1 h in (p, q, r.0, (refl, refl), (take_law f.dead f.entries (reverse p) r.0).1 r.1, r.2),
     )
 
-pub apply_law : (s : Shape) (f : Pile) (ts : List ValType) → Post s (Stands f.dead f.entries) ts ↔ StandsAfter (apply s f) ts
+pub apply_law : (s : Effect) (f : Pile) (ts : List ValType) → Post s (Stands f.dead f.entries) ts ↔ StandsAfter (apply s f) ts
 apply_law (fixed p q) f ts = fixed_law p q f ts
 apply_law (indirect p q) f ts = fixed_law (p ++ I32 ∷ []) q f ts
-apply_law (diverges p) f ts =
+apply_law (is_polymorphic p) f ts =
     let c = cut_law (take_types f.dead f.entries (reverse p)) ts in (
       λ h. c.0 (succeeds_of f.dead (take_types f.dead f.entries (reverse p)) (reverse h.3.0 ++ h.2)
           ((take_law f.dead f.entries (reverse p) (reverse h.3.0 ++ h.2)).0

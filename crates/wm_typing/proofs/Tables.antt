@@ -5,10 +5,10 @@ use Rattle.wm_syntax.specs.declared.instructions.Op.{Op}
 use Rattle.wm_syntax.specs.declared.instructions.Op.TheVariants as op
 use Rattle.wm_typing.specs.Typing.{Context}
 use Rattle.wm_typing.specs.OpenLists.{Head, Work, Place, open_at, within, OpenCan, SeenCan, CanType, IsOpen, IsSoFar}
-use Rattle.wm_typing.specs.After.{HaveTyping}
-use Rattle.wm_typing.proofs.Parse.{place_after}
-use Rattle.wm_typing.proofs.Whole.{MaySoFar, place_more}
-use Rattle.wm_typing.proofs.Kept.{one_more}
+use Rattle.wm_typing.specs.TypedBodies.{HaveTyping}
+use Rattle.wm_typing.proofs.OpenListOps.{place_after}
+use Rattle.wm_typing.proofs.WholeBodies.{MaySoFar, place_more}
+use Rattle.wm_typing.proofs.StacksAfterOps.{one_more}
 
 -- one op more leads to one place
 only_place : (c : Context) (p q : Place) (ops : List Op) (x : Op) → IsSoFar c.result p ops → place_after p x ≡ Some q

@@ -1,43 +1,14 @@
 -- How an answer of the code goes with the function that it follows: the same refusal, unless memory was refused.
-use Rattle.std.specs.Prelude.{ℕ, ◌+◌, ◌^◌, ◌≡◌, ◌≤◌, ◌⊎◌, true, false, nat_le, Option, Some, None, Result, Ok, Err, length}
+use Rattle.std.specs.Prelude.{ℕ, ◌+◌, ◌≡◌, ◌≤◌, ◌⊎◌, Result, Ok, Err, length}
 use Rattle.wm_syntax.specs.declared.why.Why.{Why}
-use Rattle.wm_syntax.specs.declared.why.Why.TheVariants.{Align, Index, Memory}
-use Rattle.wm_syntax.specs.declared.types.ValType.{ValType}
-use Rattle.wm_stacks.specs.declared.entries.Frame.{Frame}
+use Rattle.wm_syntax.specs.declared.why.Why.TheVariants.{Memory}
 use Rattle.wm_stacks.specs.Stack.{Stack, height_sum}
-use Rattle.wm_typing.specs.Exact.{drive_close}
-use Rattle.wm_typing.specs.Typing.{Context}
-
--- this is done, or refused for this reason, or memory is refused
-abbrev pub Does : {A S : Type 0} → (A → S) → Result S Why → Result A Why → Type 0
-Does made r (Ok a) = r ≡ Ok (made a)
-Does made r (Err why) = (why ≡ Memory) ⊎ (r ≡ Err why)
-
--- the item, or this refusal where there is none
-abbrev pub IsFound : {A : Type 0} → Option A → Why → Result A Why → Type 0
-IsFound o why (Ok a) = o ≡ Some a
-IsFound o why (Err w) = (o ≡ None) × (w ≡ why)
 
 -- memory is refused only where a stack has used up what it keeps in itself
 abbrev pub Room : {A : Type 0} → Stack → Result A Why → Type 0
 Room s (Ok a) = Unit {0}
 Room s (Err why) = why ≡ Memory → (64 ≤ length s.operands) ⊎ (32 ≤ length s.frames)
 
--- the result is taken and the frame is closed, or it is refused for this reason, whatever would come then
-abbrev pub Closes : Option ValType → Stack → Result Frame Why → Stack → Type 0
-Closes t s (Ok f) z = (k : Frame → Stack → Result Stack Why) → drive_close t s k ≡ k f z
-Closes t s (Err why) z = (k : Frame → Stack → Result Stack Why) → drive_close t s k ≡ Err why
-
 -- what is held on the stacks and how often it moved, together
-abbrev pub weight : Stack → ℕ
-weight s = s.moves + height_sum s
-
--- at most this much more weight and height
-abbrev pub Adds : ℕ → ℕ → Stack → Stack → Type 0
-Adds w h s z = (weight z ≤ weight s + w) × (height_sum z ≤ height_sum s + h)
-
--- memory 0 exists and the alignment is at most the width; else the first of these that fails is named
-abbrev pub MayAccess : {A : Type 0} → Context → ℕ → ℕ → Result A Why → Type 0
-MayAccess c align width (Ok a) = (c.has_memory ≡ true) × (nat_le (2 ^ align) width ≡ true)
-MayAccess c align width (Err w) =
-    ((c.has_memory ≡ false) × (w ≡ Index)) ⊎ ((c.has_memory ≡ true) × (nat_le (2 ^ align) width ≡ false) × (w ≡ Align))
+abbrev pub stack_weight : Stack → ℕ
+stack_weight s = s.moves + height_sum s

@@ -5,26 +5,31 @@ use Rattle.wm_syntax.specs.declared.why.Why.{Why}
 use Rattle.wm_stacks.specs.Stack.{Stack, bare, height_sum}
 use Rattle.wm_stacks.specs.Runs.{run_count}
 use Rattle.wm_typing.specs.declared.stats.BodyStats.{BodyStats}
-use Rattle.wm_typing.specs.Exact.{State}
+use Rattle.wm_typing.specs.declared.labels.BrTable.{BrTable}
+
+-- the stacks, and the br_table whose labels are being read
+pub record BodyState : Type 0 where
+  pub stacks : Stack
+  pub table : Option BrTable
 
 -- the index of the function's type and its result, its declared locals, the stacks, the counts since the body began,
 -- and the refusal that ended it
 pub record Body : Type 0 where
-  pub signature : ℕ
+  pub type_index : ℕ
   pub result : Option ValType
   pub declared : List ValType
-  pub state : State
+  pub state : BodyState
   pub stats : BodyStats
   pub refused : Option Why
 
 -- the runs, operands and frames that are kept
-abbrev pub kept_of : Body → ℕ
-kept_of b = run_count b.declared + height_sum b.state.stacks
+abbrev pub body_entries : Body → ℕ
+body_entries b = run_count b.declared + height_sum b.state.stacks
 
 -- The counts after a call that left these stacks, and whose find read so many runs: the moves are those of the stacks,
 -- the others the greatest so far.
-abbrev pub counted : Stack → ℕ → BodyStats → BodyStats
-counted s probes b = record {
+abbrev pub stats_after : Stack → ℕ → BodyStats → BodyStats
+stats_after s probes b = record {
   moves = s.moves;
   operands = max b.operands (length s.operands);
   controls = max b.controls (length s.frames);
@@ -49,9 +54,9 @@ abbrev pub no_stats : BodyStats
 no_stats = record { moves = 0; operands = 0; controls = 0; probes = 0 }
 
 -- before the first body
-abbrev pub nothing : Body
-nothing = record {
-  signature = 0;
+abbrev pub no_body : Body
+no_body = record {
+  type_index = 0;
   result = None;
   declared = [];
   state = record { stacks = bare; table = None };

@@ -1,5 +1,5 @@
 -- Contexts that a module gives, and the context of a body (sections 3.1.1, 3.4.1).
-use Rattle.std.specs.Prelude.{ℕ, ◌<◌, ◌≤◌, List, [], ◌∷◌, ◌++◌, Bool, Option, Some, None, length, replicate, slice_get}
+use Rattle.std.specs.Prelude.{ℕ, ◌<◌, ◌≤◌, List, [], ◌∷◌, ◌++◌, Bool, Option, Some, None, length, slice_get}
 use Rattle.std.specs.List.{AllByRecursion}
 use Rattle.wm_syntax.specs.declared.types.ValType.{ValType}
 use Rattle.wm_syntax.specs.declared.types.GlobalType.{GlobalType}
@@ -51,8 +51,3 @@ in_function c x result declared =
 
 abbrev pub body_context : Context → ℕ → List ValType → Context
 body_context c x declared = in_function c x (result_of c x) declared
-
--- the types that runs of them are (section 5.5.13)
-abbrev pub expanded : List (ℕ × ValType) → List ValType
-expanded [] = []
-expanded (run ∷ runs) = replicate run.0 run.1 ++ expanded runs

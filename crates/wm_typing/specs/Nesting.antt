@@ -1,7 +1,5 @@
 -- How deep instructions are nested in one another.
-use Rattle.std.specs.Prelude.{ℕ, ◌+◌, List, [], ◌∷◌, max}
-use Rattle.wm_syntax.specs.declared.instructions.Op.{Op}
-use Rattle.wm_syntax.specs.declared.instructions.Op.TheVariants as op
+use Rattle.std.specs.Prelude.{ℕ, ◌+◌, max}
 use Rattle.wm_syntax.specs.Instructions.{Instruction, Instructions, none, snoc, simple, table, block, loop, choice}
 
 -- the deepest nesting of block, loop and if: 0 where there is none
@@ -16,22 +14,3 @@ abbrev mutual
   pub nesting : Instructions → ℕ
   nesting none = 0
   nesting (snoc s i) = max (nesting s) (depth i)
-
--- of the flat form: how many blocks, loops and ifs begin, and how many end
-abbrev pub opens : Op → ℕ
-opens (op.Block t) = 1
-opens (op.Loop t) = 1
-opens (op.If t) = 1
-opens _ = 0
-
-abbrev pub closes : Op → ℕ
-closes op.End = 1
-closes _ = 0
-
-abbrev pub openings : List Op → ℕ
-openings [] = 0
-openings (x ∷ ops) = opens x + openings ops
-
-abbrev pub endings : List Op → ℕ
-endings [] = 0
-endings (x ∷ ops) = closes x + endings ops

@@ -6,15 +6,15 @@ use Rattle.wm_syntax.specs.declared.types.ValType.TheVariants.{I32}
 use Rattle.wm_syntax.specs.declared.instructions.Op.{Op}
 use Rattle.wm_syntax.specs.declared.instructions.Op.TheVariants as op
 use Rattle.wm_syntax.specs.Instructions.{Instructions, none, HasOps}
-use Rattle.wm_stacks.specs.declared.entries.Kind.{Kind}
-use Rattle.wm_stacks.specs.declared.entries.Kind.TheVariants.{Func, Block, Loop, If, Else}
+use Rattle.wm_stacks.specs.declared.entries.FrameKind.{FrameKind}
+use Rattle.wm_stacks.specs.declared.entries.FrameKind.TheVariants.{Func, Block, Loop, If, Else}
 use Rattle.wm_stacks.specs.declared.entries.Frame.{Frame}
 use Rattle.wm_typing.specs.Nesting.{nesting}
 use Rattle.wm_typing.specs.Typing.{Context, Typed}
 
 -- what an open list belongs to, with the result of that
 pub data Head : Type 0 where
-  head : Kind → Option ValType → Head
+  head : FrameKind → Option ValType → Head
 
 abbrev pub head_of : Frame → Head
 head_of f = head f.kind f.result
@@ -137,7 +137,7 @@ deepest_open [] ws = 0
 deepest_open (h ∷ hs) [] = 0
 deepest_open (h ∷ hs) (w ∷ ws) = max (length (h ∷ hs) + work_nesting h w) (deepest_open hs ws)
 
-abbrev pub deepest : Place → ℕ
-deepest (open_at hs ws) = deepest_open hs ws
-deepest (within n seen hs ws) = deepest_open hs ws
-deepest (complete r s) = nesting s + 1
+abbrev pub deepest_so_far : Place → ℕ
+deepest_so_far (open_at hs ws) = deepest_open hs ws
+deepest_so_far (within n seen hs ws) = deepest_open hs ws
+deepest_so_far (complete r s) = nesting s + 1

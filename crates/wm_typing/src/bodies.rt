@@ -3,9 +3,11 @@
 ghost use Rattle.std.specs.Prelude.{◌≡◌, ◌+◌, ◌*◌, ◌<◌, ◌≤◌, ◌^◌, ◌⊎◌, ℕ, List, [], ◌++◌, IfErr, IfOk, MatchResult, OnOk, None, length};
 ghost use Rattle.wm_stacks.specs.Stack.{height_sum};
 ghost use Rattle.wm_syntax.specs.declared.types.ValType.{ValType as AType};
-ghost use Rattle.wm_typing.specs.After.{After, HasBodyOps, IsTypedBody};
+ghost use Rattle.wm_typing.specs.TypedBodies.{HasBodyOps, IsTypedBody};
+ghost use Rattle.wm_typing.specs.inner.Checking.{BodyAfter};
 ghost use Rattle.wm_typing.specs.Bodies.{Twice};
-ghost use Rattle.wm_typing.specs.Contexts.{body_context, expanded};
+ghost use Rattle.wm_typing.specs.Contexts.{body_context};
+ghost use Rattle.wm_syntax.specs.Modules.{locals_of};
 ghost use Rattle.wm_typing.specs.Nesting.{nesting};
 ghost use Rattle.wm_syntax.specs.Instructions.{Instructions};
 ghost use Rattle.wm_typing.specs.Typing.{Context as ModuleContext};
@@ -31,10 +33,10 @@ pub fn check_body(
     requires ty { type_index < length context.now.types }
     requires bounded { length ops.now < 2 ^ 62 }
     ensures typed { MatchResult result
-        (λ _. (length (expanded runs.now) < 2 ^ 32)
-        × IsTypedBody (body_context context.now type_index (expanded runs.now)) ops.now)
-        (λ why. (why ≡ Why.Memory) ⊎ (2 ^ 32 ≤ length (expanded runs.now))
-        ⊎ (IsTypedBody (body_context context.now type_index (expanded runs.now)) ops.now → ⊥)) }
+        (λ _. (length (locals_of runs.now) < 2 ^ 32)
+        × IsTypedBody (body_context context.now type_index (locals_of runs.now)) ops.now)
+        (λ why. (why ≡ Why.Memory) ⊎ (2 ^ 32 ≤ length (locals_of runs.now))
+        ⊎ (IsTypedBody (body_context context.now type_index (locals_of runs.now)) ops.now → ⊥)) }
     ensures moves { IfOk result (λ stats. stats.moves ≤ 4 * length ops.now + 2) }
     ensures operands { IfOk result (λ stats. stats.operands ≤ length ops.now + 1) }
     ensures controls { IfOk result
@@ -50,12 +52,12 @@ pub fn check_body(
 }
 
 fn declare_all(checker: &mut BodyChecker, runs: &[(u32, ValType)]) -> Result<(), Why>
-    ensures after { (c : ModuleContext) (x : ℕ) → After c x [] [] checker.old
-        → OnOk result (After c x (expanded runs.now) [] checker.new) }
-    ensures few { (c : ModuleContext) (x : ℕ) → After c x [] [] checker.old
-        → OnOk result (length (expanded runs.now) < 2 ^ 32) }
-    ensures too_many { (c : ModuleContext) (x : ℕ) → After c x [] [] checker.old
-        → IfErr result (λ why. (why ≡ Why.Memory) ⊎ (2 ^ 32 ≤ length (expanded runs.now))) }
+    ensures after { (c : ModuleContext) (x : ℕ) → BodyAfter c x [] [] checker.old
+        → OnOk result (BodyAfter c x (locals_of runs.now) [] checker.new) }
+    ensures few { (c : ModuleContext) (x : ℕ) → BodyAfter c x [] [] checker.old
+        → OnOk result (length (locals_of runs.now) < 2 ^ 32) }
+    ensures too_many { (c : ModuleContext) (x : ℕ) → BodyAfter c x [] [] checker.old
+        → IfErr result (λ why. (why ≡ Why.Memory) ⊎ (2 ^ 32 ≤ length (locals_of runs.now))) }
 {
     for run in runs {
         checker.locals(run.0, run.1)?;
@@ -65,14 +67,14 @@ fn declare_all(checker: &mut BodyChecker, runs: &[(u32, ValType)]) -> Result<(),
 
 // Takes each op, the last of which ends the body.
 fn step_all(checker: &mut BodyChecker, context: &Context<'_>, ops: &[Op]) -> Result<(), Why>
-    requires begun { After context.now checker.old.signature checker.old.declared [] checker.old }
+    requires begun { BodyAfter context.now checker.old.type_index checker.old.declared [] checker.old }
     requires few { length checker.old.declared < 2 ^ 32 }
     requires bounded { length ops.now < 2 ^ 62 }
     ensures typed { MatchResult result
-        (λ _. IsTypedBody (body_context context.now checker.old.signature checker.old.declared) ops.now)
+        (λ _. IsTypedBody (body_context context.now checker.old.type_index checker.old.declared) ops.now)
         (λ why. (why ≡ Why.Memory)
-        ⊎ (IsTypedBody (body_context context.now checker.old.signature checker.old.declared) ops.now → ⊥)) }
-    ensures after { OnOk result (After context.now checker.old.signature checker.old.declared ops.now checker.new) }
+        ⊎ (IsTypedBody (body_context context.now checker.old.type_index checker.old.declared) ops.now → ⊥)) }
+    ensures after { OnOk result (BodyAfter context.now checker.old.type_index checker.old.declared ops.now checker.new) }
 {
     for (i, op) in ops.iter().enumerate() {
         let progress = checker.step(context, *op)?;

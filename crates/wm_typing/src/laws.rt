@@ -9,38 +9,43 @@ ghost use Rattle.wm_syntax.specs.declared.types.ValType.{ValType};
 ghost use Rattle.wm_syntax.specs.declared.types.ValType.TheVariants.{I32};
 ghost use Rattle.wm_syntax.specs.declared.why.Why.{Why};
 ghost use Rattle.wm_stacks.specs.Runs.{run_count};
-ghost use Rattle.wm_typing.specs.After.{After, HasBodyOps, HaveTyping, IsTypedBody};
+ghost use Rattle.wm_typing.specs.TypedBodies.{HasBodyOps, HaveTyping, IsTypedBody};
+ghost use Rattle.wm_typing.specs.inner.Checking.{BodyAfter};
 ghost use Rattle.wm_typing.specs.Bodies.{Body};
 ghost use Rattle.wm_typing.specs.Contexts.{body_context};
-ghost use Rattle.wm_typing.specs.Folds.{all_stepped, started};
-ghost use Rattle.wm_typing.specs.Nesting.{endings, nesting, openings};
+ghost use Rattle.wm_typing.specs.exact.Folds.{body_after_ops, body_with_locals};
+ghost use Rattle.wm_syntax.specs.Instructions.{endings, openings};
+ghost use Rattle.wm_typing.specs.Nesting.{nesting};
 ghost use Rattle.wm_typing.specs.OpenLists.{Head, IsOpen, IsSoFar, OpenCan, Place, SeenCan, Work, within};
 ghost use Rattle.wm_typing.specs.Typing.{Context};
 
 /// Ops in turn are taken exactly where they have a typing in their open lists, and what is held then is
 /// what `After` says, if each type has at most one result.
 pub fn ops_in_turn()
-    ensures taken { (c : Context) (x : ℕ) (locals : List ValType) (ops : List Op) (b : Body) → AllByRecursion (λ f. length f.results ≤ 1) c.types
-        → all_stepped c (Ok (started c x locals)) ops ≡ Ok b → After c x locals ops b }
-    ensures refused { (c : Context) (x : ℕ) (locals : List ValType) (ops : List Op) (why : Why) → AllByRecursion (λ f. length f.results ≤ 1) c.types
-        → all_stepped c (Ok (started c x locals)) ops ≡ Err why → HaveTyping (body_context c x locals) ops → ⊥ }
+    ensures taken { (c : Context) (x : ℕ) (locals : List ValType) (ops : List Op) (b : Body)
+        → AllByRecursion (λ f. length f.results ≤ 1) c.types
+        → body_after_ops c (Ok (body_with_locals c x locals)) ops ≡ Ok b → BodyAfter c x locals ops b }
+    ensures refused { (c : Context) (x : ℕ) (locals : List ValType) (ops : List Op) (why : Why)
+        → AllByRecursion (λ f. length f.results ≤ 1) c.types
+        → body_after_ops c (Ok (body_with_locals c x locals)) ops ≡ Err why → HaveTyping (body_context c x locals) ops → ⊥ }
 {}
 
 /// What `After` says of the ops and of what is held.
 pub fn after_ops()
-    ensures typed { (c : Context) (x : ℕ) (locals : List ValType) (ops : List Op) (b : Body) → After c x locals ops b
+    ensures typed { (c : Context) (x : ℕ) (locals : List ValType) (ops : List Op) (b : Body) → BodyAfter c x locals ops b
         → HaveTyping (body_context c x locals) ops }
-    ensures ended { (c : Context) (x : ℕ) (locals : List ValType) (ops : List Op) (b : Body) → After c x locals ops b
+    ensures ended { (c : Context) (x : ℕ) (locals : List ValType) (ops : List Op) (b : Body) → BodyAfter c x locals ops b
         → (b.state.stacks.frames ≡ []) ↔ IsTypedBody (body_context c x locals) ops }
-    ensures nested { (c : Context) (x : ℕ) (locals : List ValType) (ops : List Op) (b : Body) → After c x locals ops b
+    ensures nested { (c : Context) (x : ℕ) (locals : List ValType) (ops : List Op) (b : Body) → BodyAfter c x locals ops b
         → length b.state.stacks.frames + endings ops ≡ openings ops + 1 }
-    ensures controls { (c : Context) (x : ℕ) (locals : List ValType) (ops : List Op) (b : Body) → After c x locals ops b
+    ensures controls { (c : Context) (x : ℕ) (locals : List ValType) (ops : List Op) (b : Body) → BodyAfter c x locals ops b
         → (body : Instructions) → HasBodyOps body ops → b.stats.controls ≡ nesting body + 1 }
 {}
 
 /// A typed body's ops have a typing at each front of them.
 pub fn fronts_of_typed_bodies()
-    ensures { (c : Context) (x : ℕ) (locals : List ValType) (front back : List Op) → IsTypedBody (body_context c x locals) (front ++ back)
+    ensures { (c : Context) (x : ℕ) (locals : List ValType) (front back : List Op)
+        → IsTypedBody (body_context c x locals) (front ++ back)
         → HaveTyping (body_context c x locals) front }
 {}
 
@@ -57,7 +62,8 @@ pub fn labels_of_a_table()
 
 /// Locals of one type are at most one run of them more.
 pub fn one_run_more()
-    ensures { (locals : List ValType) (count : ℕ) (t : ValType) → run_count (locals ++ replicate count t) ≤ run_count locals + 1 }
+    ensures { (locals : List ValType) (count : ℕ) (t : ValType)
+        → run_count (locals ++ replicate count t) ≤ run_count locals + 1 }
 {}
 
 /// Ops so far are open in one way only.

@@ -1,3 +1,5 @@
+//! Tests of the words of the command line.
+
 use super::*;
 use std::test::Fail;
 

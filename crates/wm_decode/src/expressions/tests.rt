@@ -1,9 +1,11 @@
+//! Tests of expressions, byte by byte.
+
 use super::*;
 use std::alloc::{AllocError, Global};
 use wm_syntax::instructions::{LoadOp, MemArg, Simple};
 use wm_syntax::types::ValType;
 
-// the ops that some bytes complete, and where the reader then stands
+// The ops that some bytes complete, and where the reader then stands
 fn read(alloc: Global, bytes: &[u8]) -> Result<(Vec<Op>, InExpression), AllocError> {
     let mut ops = Vec::new(alloc);
     let mut at = InExpression::new();

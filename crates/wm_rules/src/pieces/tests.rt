@@ -1,3 +1,5 @@
+//! Tests of whole inputs in pieces.
+
 ghost use Rattle.std.specs.Prelude.{◌<◌};
 
 use super::{read_pieces, validate};

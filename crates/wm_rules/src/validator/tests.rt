@@ -1,3 +1,5 @@
+//! Tests of what a validator keeps, byte by byte.
+
 use super::Validator;
 use crate::tests::{ADD, is};
 use crate::{Checker, Summary};

@@ -14,7 +14,7 @@ pub struct Input<R> {
 }
 
 impl<R: Read> Input<R> {
-    ghost use Rattle.wm_syntax.specs.Streams.{input_failed, input_inner};
+    ghost use Rattle.wm_syntax.specs.inner.Streams.{input_failed, input_inner};
 
     pub fn new(inner: R) -> Self
         ensures inner { input_inner result ≡ inner }

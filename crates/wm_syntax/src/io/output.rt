@@ -14,7 +14,7 @@ pub struct Output<W> {
 }
 
 impl<W: Write> Output<W> {
-    ghost use Rattle.wm_syntax.specs.Streams.{output_failed, output_inner};
+    ghost use Rattle.wm_syntax.specs.inner.Streams.{output_failed, output_inner};
 
     pub fn new(inner: W) -> Self
         ensures inner { output_inner result ≡ inner }

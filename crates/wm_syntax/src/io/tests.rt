@@ -1,3 +1,5 @@
+//! Tests of sources and destinations that fail.
+
 ghost use Rattle.std.specs.Prelude.{◌≡◌, IfOk};
 
 use super::input::Input;

@@ -1,3 +1,5 @@
+//! Tests of the readers of numbers.
+
 use super::*;
 use std::process::Abort;
 

@@ -1,3 +1,5 @@
+//! Tests of the table of first bytes.
+
 use super::*;
 
 #[test]
@@ -8,10 +10,10 @@ fn first_bytes(rt: HostRuntime) {
     );
     assert_eq!(rt; op_of(Profile::One, 0x05), Plain(Op::Else));
     assert_eq!(rt; op_of(Profile::One, 0x0B), Plain(Op::End));
-    assert_eq!(rt; op_of(Profile::One, 0x0E), With(Kind::BrTable));
+    assert_eq!(rt; op_of(Profile::One, 0x0E), With(Immediates::BrTable));
     assert_eq!(rt;
         op_of(Profile::One, 0x35),
-        With(Kind::Load(LoadOp::I64Load32U))
+        With(Immediates::Load(LoadOp::I64Load32U))
     );
     assert_eq!(rt;
         op_of(Profile::One, 0x6A),

@@ -1,3 +1,5 @@
+//! Tests of the words of refusals.
+
 use super::*;
 use std::alloc::Global;
 use std::test::Fail;

@@ -1,4 +1,4 @@
-use Rattle.wm_decode.proofs.Rules.{items_from, items_to}
+use Rattle.wm_decode.proofs.GrammarValues.{items_from, items_to}
 use Rattle.wm_decode.proofs.laws.items_are_flat.Goals as goal
 
 pub returns : goal.returns

@@ -1,6 +1,6 @@
 use Rattle.std.proofs.Common.{sym, ◌∙◌}
 use Rattle.wm_decode.proofs.SpelledBytes.{whole_bytes}
-use Rattle.wm_decode.proofs.Theorem.{items_are}
+use Rattle.wm_decode.proofs.MachineAndSink.{items_are}
 use Rattle.wm_decode.proofs.laws.one_reading.Goals as goal
 
 pub returns : goal.returns

@@ -1,4 +1,4 @@
-use Rattle.wm_rules.proofs.Entries.{at_hand}
+use Rattle.wm_rules.proofs.CodeEntries.{at_hand}
 use Rattle.wm_rules.proofs.laws.body_at_hand.Goals as goal
 
 pub returns : goal.returns

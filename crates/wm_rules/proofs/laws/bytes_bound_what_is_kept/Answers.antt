@@ -1,4 +1,4 @@
-use Rattle.wm_rules.proofs.Keeping.{at_moment}
+use Rattle.wm_rules.proofs.KeptAtAnyMoment.{at_moment}
 use Rattle.wm_rules.proofs.laws.bytes_bound_what_is_kept.Goals as goal
 
 pub returns : goal.returns

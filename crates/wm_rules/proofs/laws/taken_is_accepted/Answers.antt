@@ -1,4 +1,4 @@
-use Rattle.wm_rules.proofs.Judged.{takes_accepted, accepted_takes}
+use Rattle.wm_rules.proofs.AcceptedInputs.{takes_accepted, accepted_takes}
 use Rattle.wm_rules.proofs.laws.taken_is_accepted.Goals as goal
 
 pub returns-clause-to : goal.returns-clause-to

@@ -1,5 +1,5 @@
 use Rattle.std.proofs.Common.{◌++◌, ap, take, length-append, arith}
-use Rattle.wm_rules.proofs.Keeping.{within_limit}
+use Rattle.wm_rules.proofs.KeptAtAnyMoment.{within_limit}
 use Rattle.wm_rules.proofs.SourceLemmas.{consumes_then, judged_at_zero, judged_refused, stays_open}
 use Rattle.wm_rules.proofs.reading.validate_from.Goals as goal
 

@@ -1,6 +1,6 @@
 use Rattle.std.proofs.Common.{◌≡◌, ◌≤◌, ℕ, List, false, None, length}
 use Rattle.std.specs.Io.KnownBytes.{Consumes}
-use Rattle.wm_rules.specs.Validating.{HasRead, refusal_in}
+use Rattle.wm_rules.specs.inner.Validators.{HasRead, refusal_in}
 use Rattle.wm_rules.proofs.reading.validate_from.Given as goal
 
 -- the bytes read so far, at least one a turn, of which none was refused

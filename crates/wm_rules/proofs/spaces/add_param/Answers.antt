@@ -1,5 +1,5 @@
 use Rattle.std.proofs.Common.{◌-◌, ◌<◌, refl}
-use Rattle.wm_rules.specs.Spaces.{one_param_more}
+use Rattle.wm_rules.specs.exact.Spaces.{one_param_more}
 use Rattle.wm_rules.proofs.LastLemmas.{put_back, taken_at_end}
 use Rattle.wm_rules.proofs.spaces.add_param.Goals as goal
 

@@ -1,7 +1,7 @@
 use Rattle.std.proofs.Common.{◌≡◌, sum_by, take}
-use Rattle.wm_rules.specs.Kept.{capped, width}
+use Rattle.wm_rules.specs.Kept.{capped_count, width}
 use Rattle.wm_rules.proofs.spaces.widths.Given as goal
 
 -- what the types so far make
 abbrev pub invariant-loop-ty : goal.invariant-loop-ty
-invariant-loop-ty l = l.sum ≡ capped (sum_by width (take l.ty-index l.types))
+invariant-loop-ty l = l.sum ≡ capped_count (sum_by width (take l.ty-index l.types))

@@ -1,7 +1,7 @@
 -- What stands and what was counted is that of the open lists.
 use Rattle.wm_typing.specs.Contexts.{body_context}
-use Rattle.wm_typing.proofs.Kept.{can_be_typed}
-use Rattle.wm_typing.proofs.Said.{nested_said, controls_said}
+use Rattle.wm_typing.proofs.StacksAfterOps.{can_be_typed}
+use Rattle.wm_typing.proofs.AfterCalls.{nested_said, controls_said}
 use Rattle.wm_typing.proofs.Folds.{ended_iff}
 use Rattle.wm_typing.proofs.laws.after_ops.Goals as goal
 

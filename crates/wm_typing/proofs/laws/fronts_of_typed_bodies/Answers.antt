@@ -1,7 +1,7 @@
 -- A typing of the whole is one of each front.
 use Rattle.std.proofs.Common.{◌++◌, refl}
 use Rattle.wm_typing.specs.Contexts.{body_context}
-use Rattle.wm_typing.proofs.Kept.{front_typed, body_can}
+use Rattle.wm_typing.proofs.StacksAfterOps.{front_typed, body_can}
 use Rattle.wm_typing.proofs.laws.fronts_of_typed_bodies.Goals as goal
 
 pub returns : goal.returns

@@ -1,4 +1,4 @@
-use Rattle.wm_typing.proofs.Whole.{one_place}
+use Rattle.wm_typing.proofs.WholeBodies.{one_place}
 use Rattle.wm_typing.proofs.laws.one_place.Goals as goal
 
 pub returns : goal.returns

@@ -7,4 +7,4 @@ returns-in-Some-clause-memory g c = λ at. memory_late c.args.self.now.profile c
 
 pub returns-in-None-clause-memory : goal.returns-in-None-clause-memory
 returns-in-None-clause-memory g c =
-    goes_at c.args.self.now.profile c.args.self.now.machine (get_or c.args.piece.now c.args.i 0) c.args.self.now.at c.in-Ok.from c.args.i c.step-next.result c.heed.result c.step-next.ensures c.heed.ensures.quiet c.in-Ok.is
+    goes_at c.args.self.now.profile c.args.self.now.machine (get_or c.args.piece.now c.args.i 0) c.args.self.now.at c.in-Ok.from c.args.i c.step-next.result c.deliver.result c.step-next.ensures c.deliver.ensures.quiet c.in-Ok.is

@@ -1,6 +1,6 @@
 use Rattle.std.proofs.Common.{arith}
-use Rattle.wm_decode.proofs.Calls.{are_bytes, fed_after, on_taken, on_so_far, on_refused, on_same, on_place, on_header, on_float, on_refusal, stands_refused}
-use Rattle.wm_decode.specs.Live.{standing}
+use Rattle.wm_decode.proofs.DecoderCalls.{are_bytes, fed_after, on_taken, on_so_far, on_refused, on_same, on_place, on_header, on_float, on_refusal, stands_refused}
+use Rattle.wm_decode.specs.exact.Live.{state_of}
 use Rattle.wm_decode.proofs.NoMemory.{take_room}
 use Rattle.wm_decode.proofs.state.Decoder.feed.Goals as goal
 
@@ -29,7 +29,7 @@ pub returns-clause-float : goal.returns-clause-float
 returns-clause-float g c = on_float g.S.Sink.held g.S.Sink.after c.args.self.now c.take_piece.new.self c.args.piece.now c.take_piece.result _ c.take_piece.ensures.fed (returns-clause-after g c)
 
 pub returns-clause-sticky : goal.returns-clause-sticky
-returns-clause-sticky g c = λ r e. c.take_piece.ensures.sticky r (stands_refused (standing g.S.Sink.held c.args.self.now) r e)
+returns-clause-sticky g c = λ r e. c.take_piece.ensures.sticky r (stands_refused (state_of g.S.Sink.held c.args.self.now) r e)
 
 pub returns-clause-refusal : goal.returns-clause-refusal
 returns-clause-refusal g c = on_refusal g.S.Sink.held g.S.Sink.after c.args.self.now c.take_piece.new.self c.args.piece.now c.take_piece.result _ c.take_piece.ensures.fed

@@ -1,4 +1,4 @@
-use Rattle.wm_decode.proofs.Calls.{finish_ok, finish_refused, finish_same, finish_within, finish_header, finish_float}
+use Rattle.wm_decode.proofs.DecoderCalls.{finish_ok, finish_refused, finish_same, finish_within, finish_header, finish_float}
 use Rattle.wm_decode.proofs.state.Decoder.finish.Goals as goal
 
 pub returns-clause-ok : goal.returns-clause-ok

@@ -1,10 +1,10 @@
 use Rattle.std.proofs.Common.{Ok, refl}
-use Rattle.wm_decode.specs.Sinks.{item_parts}
-use Rattle.wm_decode.proofs.Taking.{ok_room, taken_quietly}
+use Rattle.wm_decode.specs.Sinks.{items_for}
+use Rattle.wm_decode.proofs.IdleSinks.{ok_room, taken_quietly}
 use Rattle.wm_decode.proofs.tests.CounterSink.take.Goals as goal
 
 pub returns-in-DataBytes-clause-took : goal.returns-in-DataBytes-clause-took
-returns-in-DataBytes-clause-took c = taken_quietly (λ h x. Ok h) tt (λ x. refl) (item_parts c.args.item) tt
+returns-in-DataBytes-clause-took c = taken_quietly (λ h x. Ok h) tt (λ x. refl) (items_for c.args.item) tt
 
 pub returns-in-DataBytes-clause-room : goal.returns-in-DataBytes-clause-room
-returns-in-DataBytes-clause-room c = ok_room {H = Unit {0}} (λ h x. ⊥) tt (item_parts c.args.item) tt
+returns-in-DataBytes-clause-room c = ok_room {H = Unit {0}} (λ h x. ⊥) tt (items_for c.args.item) tt

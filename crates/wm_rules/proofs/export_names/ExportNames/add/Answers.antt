@@ -1,6 +1,6 @@
 use Rattle.std.proofs.Common.{length}
 use Rattle.wm_rules.specs.Kept.{name_entries}
-use Rattle.wm_rules.specs.Names.{bytes_of}
+use Rattle.wm_rules.specs.exact.Names.{bytes_of}
 use Rattle.wm_rules.proofs.NewNames.{capped_more, names_more}
 use Rattle.wm_rules.proofs.export_names.ExportNames.add.Goals as goal
 

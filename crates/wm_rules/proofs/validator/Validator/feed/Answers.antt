@@ -2,16 +2,16 @@ use Rattle.std.proofs.Common.{◌<◌, ◌++◌, Result, length, refl, subst, ar
 use Rattle.std.specs.Prelude.{MatchOption}
 use Rattle.wm_decode.specs.declared.refusal.Refusal.{Refusal}
 use Rattle.wm_decode.specs.declared.state.Decoder.{Decoder}
-use Rattle.wm_decode.proofs.Calls.{are_bytes}
+use Rattle.wm_decode.proofs.DecoderCalls.{are_bytes}
 use Rattle.wm_rules.specs.declared.checker.Checker.{Checker}
-use Rattle.wm_rules.specs.Validating.{RefusedAfter, StateRead, holds_of, setting}
-use Rattle.wm_rules.proofs.Keeping.{keeps_ok, place_in_piece}
+use Rattle.wm_rules.specs.inner.Validators.{RefusedAfter, StateRead, validator_value, validator_setting}
+use Rattle.wm_rules.proofs.KeptAtAnyMoment.{keeps_ok, place_in_piece}
 use Rattle.wm_rules.proofs.Rooms.{no_memory}
 use Rattle.wm_rules.proofs.Verdicts.{float_at, still_refused, never_accepted, not_begun, same_verdict, not_in_header, refused_after}
 use Rattle.wm_rules.proofs.validator.Validator.feed.Goals as goal
 
 abbrev HasRoomIn : Result (Decoder Checker) Refusal → Type 0
-HasRoomIn s = MatchOption (holds_of s) ⊥ (λ h. (length h.body.state.stacks.operands < 64) × (length h.body.state.stacks.frames < 32))
+HasRoomIn s = MatchOption (validator_value s) ⊥ (λ h. (length h.body.state.stacks.operands < 64) × (length h.body.state.stacks.frames < 32))
 
 pub returns-in-Err-clause-read : goal.returns-in-Err-clause-read
 returns-in-Err-clause-read c = λ p limit before h. still_refused p limit before c.args.piece.now c.in-Err.refusal (are_bytes c.args.piece.now (λ i. omega (arith, c.type_inv.piece i))) (subst (λ (s : Result (Decoder Checker) Refusal). StateRead s p limit before) c.in-Err.is h)
@@ -32,12 +32,12 @@ returns-in-Err-clause-header c = λ p limit before h few. not_in_header p limit 
 pub returns-in-Ok-feed-clause-read : goal.returns-in-Ok-feed-clause-read
 returns-in-Ok-feed-clause-read c = λ p limit before h.
     let a = subst (λ (s : Result (Decoder Checker) Refusal). StateRead s p limit before) c.in-Ok.is h in
-    (c.feed.ensures.after (setting p limit) before a.0, c.in-Ok-feed.ensures.refusal)
+    (c.feed.ensures.after (validator_setting p limit) before a.0, c.in-Ok-feed.ensures.refusal)
 
 pub returns-in-Err-feed-clause-read : goal.returns-in-Err-feed-clause-read
 returns-in-Err-feed-clause-read c = λ p limit before h.
     let a = subst (λ (s : Result (Decoder Checker) Refusal). StateRead s p limit before) c.in-Ok.is h in
-    refused_after p limit c.feed.new.self (before ++ c.args.piece.now) c.in-Err-feed.refusal c.in-Err-feed.ensures.refusal (c.feed.ensures.after (setting p limit) before a.0) (c.in-Err-feed.ensures.place (setting p limit) before a.0)
+    refused_after p limit c.feed.new.self (before ++ c.args.piece.now) c.in-Err-feed.refusal c.in-Err-feed.ensures.refusal (c.feed.ensures.after (validator_setting p limit) before a.0) (c.in-Err-feed.ensures.place (validator_setting p limit) before a.0)
 
 pub returns-in-Err-feed-clause-refused : goal.returns-in-Err-feed-clause-refused
 returns-in-Err-feed-clause-refused c = λ ne p limit before h. never_accepted p limit (before ++ c.args.piece.now) c.in-Err-feed.refusal (returns-in-Err-feed-clause-read c p limit before h) ne

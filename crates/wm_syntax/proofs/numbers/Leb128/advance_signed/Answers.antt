@@ -1,7 +1,7 @@
 use Rattle.std.proofs.Common.{◌≡◌, ◌+◌, ◌*◌, ◌-◌, ◌^◌, ◌<◌, ◌≤◌, nat_le, true, arith, ap, sym, ◌∙◌}
 use Rattle.std.proofs.lemmas.Bool.{ltb-true}
 use Rattle.std.proofs.lemmas.Bool.Decides.{nat_tests}
-use Rattle.wm_syntax.specs.Partial.{Partial}
+use Rattle.wm_syntax.specs.inner.Numbers.{Partial}
 use Rattle.wm_syntax.proofs.Room.{room_signed}
 use Rattle.wm_syntax.proofs.numbers.Leb128.advance_signed.Goals as goal
 

@@ -1,4 +1,4 @@
-use Rattle.wm_syntax.specs.Partial.{Partial}
+use Rattle.wm_syntax.specs.inner.Numbers.{Partial}
 use Rattle.wm_syntax.proofs.Readers.{unsigned_in_range, unsigned_reads}
 use Rattle.wm_syntax.proofs.numbers.Leb128.push_unsigned.Goals as goal
 

@@ -1,5 +1,5 @@
 -- More locals before the first op: the frames are the same.
-use Rattle.wm_typing.proofs.Said.{locals_said}
+use Rattle.wm_typing.proofs.AfterCalls.{locals_said}
 use Rattle.wm_typing.proofs.body_checker.BodyChecker.locals.Goals as goal
 
 pub returns-clause-after : goal.returns-clause-after

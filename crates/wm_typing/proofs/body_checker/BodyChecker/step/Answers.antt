@@ -1,6 +1,6 @@
 -- What `advance` does goes with the typing.
 use Rattle.std.proofs.Common.{◌∷◌, ◌++◌, [], length}
-use Rattle.wm_typing.proofs.Said.{within_after, stats_said, after_said, typed_said, ended_said, denotes_said, empty_said, ended_twice, nested_said, controls_said, on_ok}
+use Rattle.wm_typing.proofs.AfterCalls.{within_after, stats_said, after_said, typed_said, ended_said, denotes_said, empty_said, ended_twice, nested_said, controls_said, on_ok}
 use Rattle.wm_typing.proofs.body_checker.BodyChecker.step.Goals as goal
 
 pub returns-clause-within : goal.returns-clause-within

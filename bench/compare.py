@@ -1,0 +1,152 @@
+#!/usr/bin/env python3
+"""Compares `wmod check` with node and wasm-validate, where these are there: `compare.py [SHAPE..]`.
+
+For each shape it makes a module of 7 MB, and prints MB/s of processor time (medians of seven runs, all programs in
+turn), instructions a byte where valgrind is there, and the peak memory of wmod. With `--growth` it makes modules of
+2 MB and 8 MB and prints how many times the time a byte grows.
+"""
+import json
+import os
+import pathlib
+import shutil
+import statistics
+import subprocess
+import sys
+import tempfile
+
+import make_module
+
+HERE = pathlib.Path(__file__).resolve().parent
+PROGRAM = HERE.parent / "crates/wm_cli/out/wm_cli"
+RUNS = 7
+NODE = """
+const bytes = require('fs').readFileSync(process.argv[1]);
+const times = [];
+let valid = true;
+for (let i = 0; i < 8; i++) {
+  const before = process.cpuUsage();
+  valid = WebAssembly.validate(bytes) && valid;
+  const used = process.cpuUsage(before);
+  if (i) times.push((used.user + used.system) / 1e6);
+}
+times.sort((a, b) => a - b);
+console.log(JSON.stringify({ valid, seconds: times[times.length >> 1] }));
+"""
+
+
+def spent(command):
+    """The processor seconds of a run, its peak memory in KiB, and whether it ended well."""
+    # `time` starts it, since a child of Python itself would count Python's memory as its own
+    with tempfile.NamedTemporaryFile("r") as out, open(os.devnull, "wb") as nothing:
+        before = os.times()
+        ended = subprocess.run(
+            ["/usr/bin/time", "-q", "-f", "%M", "-o", out.name, *command], stdout=nothing, stderr=nothing, check=False
+        )
+        after = os.times()
+        memory = int(out.read().split()[-1])
+    used = after.children_user + after.children_system - before.children_user - before.children_system
+    return used, memory, ended.returncode == 0
+
+
+def medians(commands):
+    """The median seconds of each command, run in turn; the peak memory of the first one."""
+    times = [[] for _ in commands]
+    peak = 0
+    for _ in range(RUNS):
+        for i, command in enumerate(commands):
+            seconds, memory, well = spent(command)
+            if not well:
+                times[i].append(float("nan"))
+                continue
+            times[i].append(seconds)
+            if i == 0:
+                peak = max(peak, memory)
+    return [statistics.median(t) for t in times], peak
+
+
+def instructions(command, empty):
+    """How many instructions a run has, the start of the program left out."""
+
+    def count(words):
+        with tempfile.TemporaryDirectory() as folder:
+            out = os.path.join(folder, "out")
+            subprocess.run(
+                ["valgrind", "--tool=callgrind", f"--callgrind-out-file={out}", *words],
+                stdout=subprocess.DEVNULL,
+                stderr=subprocess.DEVNULL,
+                check=False,
+            )
+            for line in open(out, encoding="utf8"):
+                if line.startswith(("summary:", "totals:")):
+                    return int(line.split()[1])
+        return 0
+
+    return count(command) - count(empty)
+
+
+def speed(size, seconds):
+    return f"{size / seconds / 1e6:.0f}" if size < seconds * 1e10 else "> 10000"
+
+
+def row(shape, folder, others):
+    path = os.path.join(folder, f"{shape}.wasm")
+    header = os.path.join(folder, "header.wasm")
+    with open(path, "wb") as file:
+        file.write(make_module.make(shape, 7))
+    with open(header, "wb") as file:
+        file.write(make_module.HEADER)
+    size = os.path.getsize(path)
+    commands = [[str(PROGRAM), "check", path]] + [[*words, path] for words in others]
+    (own, *rest), peak = medians(commands)
+    cells = [shape.replace("_", " "), f"{size / 1e6:.1f}", speed(size, own)]
+    if shutil.which("node"):
+        answer = subprocess.run(
+            ["node", "--single-threaded", "-e", NODE, path], capture_output=True, text=True, check=False
+        )
+        told = json.loads(answer.stdout) if answer.returncode == 0 else {"valid": False}
+        cells.append(speed(size, told["seconds"]) if told["valid"] else "refused")
+    cells += [speed(size, seconds) if seconds == seconds else "refused" for seconds in rest]
+    if shutil.which("valgrind"):
+        small = os.path.join(folder, f"{shape}.small.wasm")
+        with open(small, "wb") as file:
+            file.write(make_module.make(shape, 1))
+        used = instructions([str(PROGRAM), "check", small], [str(PROGRAM), "check", header])
+        cells.append(f"{used / os.path.getsize(small):.1f}")
+    cells.append(f"{peak / 1024:.1f}")
+    return cells
+
+
+def growth(shape, folder):
+    ratios = []
+    for megabytes in (2, 8):
+        path = os.path.join(folder, f"{shape}.{megabytes}.wasm")
+        with open(path, "wb") as file:
+            file.write(make_module.make(shape, megabytes))
+        (seconds,), _ = medians([[str(PROGRAM), "check", path]])
+        ratios.append(seconds / os.path.getsize(path))
+    return f"{shape.replace('_', ' ')}: {ratios[1] / ratios[0]:.2f}"
+
+
+def main():
+    words = [w for w in sys.argv[1:] if not w.startswith("--")]
+    shapes = words or [f.__name__ for f in make_module.SHAPES]
+    subprocess.run([str(HERE.parent / "wmod"), "--help"], stdout=subprocess.DEVNULL, check=True)
+    with tempfile.TemporaryDirectory() as folder:
+        if "--growth" in sys.argv:
+            for shape in shapes:
+                print(growth(shape, folder), flush=True)
+            return
+        others = [["wasm-validate"]] if shutil.which("wasm-validate") else []
+        heads = ["Shape", "MB", "wmod MB/s"]
+        heads += ["node MB/s"] if shutil.which("node") else []
+        heads += ["wasm-validate MB/s"] if others else []
+        heads += ["instructions a byte"] if shutil.which("valgrind") else []
+        heads += ["peak MiB"]
+        print("| " + " | ".join(heads) + " |")
+        print("|" + "---|" * len(heads))
+        for shape in shapes:
+            print("| " + " | ".join(row(shape, folder, others)) + " |", flush=True)
+
+
+if __name__ == "__main__":
+    main()

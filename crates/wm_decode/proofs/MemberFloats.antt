@@ -1,0 +1,294 @@
+-- Within a member the name Float is with_item_given for a byte of floating-point numbers only, and Memory never.
+use Rattle.std.proofs.Common.{◌≡◌, ℕ, zero, suc, Bool, true, false, Some, ap, subst, inl, inr, nat_eq, Result, Ok, Err}
+use Rattle.std.proofs.lemmas.Bool.{cond_both, eqb-true}
+use Rattle.wm_syntax.specs.declared.numbers.Step.{Step}
+use Rattle.wm_syntax.specs.declared.numbers.Step.TheVariants as step
+use Rattle.wm_syntax.specs.inner.Numbers.{Partial}
+use Rattle.wm_syntax.specs.exact.Reading.{fresh, unsigned_push}
+use Rattle.wm_syntax.specs.declared.why.Why.{Why}
+use Rattle.wm_syntax.specs.declared.why.Why.TheVariants as why
+use Rattle.wm_syntax.specs.declared.profile.Profile.{Profile}
+use Rattle.wm_syntax.specs.declared.types.ValType.{ValType}
+use Rattle.wm_decode.specs.declared.machine.NameKind.{NameKind}
+use Rattle.wm_decode.specs.declared.machine.NameKind.TheVariants as name
+use Rattle.wm_decode.specs.declared.machine.Plain.TheVariants as plain
+use Rattle.wm_decode.specs.declared.machine.Event.{Event}
+use Rattle.wm_decode.specs.declared.machine.Event.TheVariants as event
+use Rattle.wm_decode.specs.declared.reading.Reading.{Reading}
+use Rattle.wm_decode.specs.declared.reading.Reading.TheVariants.{More, Done, Bad}
+use Rattle.wm_decode.specs.declared.values.InLimits.{InLimits}
+use Rattle.wm_decode.specs.declared.values.InLimits.TheVariants as limits
+use Rattle.wm_decode.specs.declared.values.InTableType.{InTableType}
+use Rattle.wm_decode.specs.declared.values.InTableType.TheVariants as table
+use Rattle.wm_decode.specs.declared.values.InGlobalType.{InGlobalType}
+use Rattle.wm_decode.specs.declared.values.InGlobalType.TheVariants as global
+use Rattle.wm_decode.specs.declared.values.InImportDesc.{InImportDesc}
+use Rattle.wm_decode.specs.declared.values.InImportDesc.TheVariants as import
+use Rattle.wm_decode.specs.declared.values.InExportDesc.{InExportDesc}
+use Rattle.wm_decode.specs.declared.values.InExportDesc.TheVariants as target
+use Rattle.wm_decode.specs.declared.values.InRun.{InRun}
+use Rattle.wm_decode.specs.declared.values.InRun.TheVariants as run
+use Rattle.wm_decode.specs.declared.values.InValue.{InValue}
+use Rattle.wm_decode.specs.declared.values.InValue.TheVariants as value
+use Rattle.wm_decode.specs.declared.member.IndexOf.{IndexOf}
+use Rattle.wm_decode.specs.declared.member.IndexOf.TheVariants as index
+use Rattle.wm_decode.specs.declared.member.ConstantOf.{ConstantOf}
+use Rattle.wm_decode.specs.declared.member.ConstantOf.TheVariants as constant
+use Rattle.wm_decode.specs.declared.member.LengthOf.{LengthOf}
+use Rattle.wm_decode.specs.declared.member.LengthOf.TheVariants as length_of
+use Rattle.wm_decode.specs.declared.member.InEntry.{InEntry}
+use Rattle.wm_decode.specs.declared.member.InEntry.TheVariants as entry
+use Rattle.wm_decode.specs.declared.member.InMember.{InMember}
+use Rattle.wm_decode.specs.declared.member.InMember.TheVariants as at
+use Rattle.wm_decode.specs.declared.expressions.InExpression.{InExpression}
+use Rattle.wm_decode.specs.declared.expressions.InExpression.TheVariants as expression
+use Rattle.wm_decode.specs.Decoding.{IsFloatByte}
+use Rattle.wm_decode.specs.exact.ValueSteps.{read_number, map_reading, after_min, limits_push, table_type_push, value_type_of, read_type, var_step, global_type_push, desc_kind_step, desc_push, target_kind_step, target_push, run_push, value_push}
+use Rattle.wm_decode.specs.exact.ExpressionSteps.{start, expression_step}
+use Rattle.wm_decode.specs.exact.MemberSteps.{on_number, on_value, on_type, with_item_given, after_param, after_result, after_name, after_length, name_step, functions_or_over, index_item, after_index, constant_over, after_constant, data_or_over, list_or_over, runs_or_body, entry_after_op, entry_step, member_in_entry, member_step}
+use Rattle.wm_decode.proofs.ExpressionSound.{expression_fault}
+use Rattle.wm_decode.proofs.OpSound.{IsOther}
+
+-- Of two names, neither of which the machine gives whatever the byte: the one for such bytes only, the other never.
+module _ (refusal : Why) (Fault : ℕ → Type 0) (other : (w : Why) → IsOther w → w ≡ refusal → ⊥) (float : (c : ℕ) → why.Float ≡ refusal → IsFloatByte c → Fault c) (c : ℕ) where
+  same_bad : {R X : Type 0} (v w : Why) → ◌≡◌ {A = Reading R X} (Bad v) (Bad w) → v ≡ w
+  same_bad v w e = cc
+
+  same_err : (v w : Why) → ◌≡◌ {A = Result ValType Why} (Err v) (Err w) → v ≡ w
+  same_err v w e = cc
+
+  same_place : (v w : Why) → at.Failed v ≡ at.Failed w → v ≡ w
+  same_place v w e = cc
+
+  same_entry : (v w : Why) → entry.Failed v ≡ entry.Failed w → v ≡ w
+  same_entry v w e = cc
+
+  -- a reader that is refused by this name is so at such a byte
+  abbrev Reads : {R X : Type 0} → Reading R X → Type 0
+  Reads q = q ≡ Bad refusal → Fault c
+
+  no_read : {R X : Type 0} (w : Why) → IsOther w → Reads {R = R} {X = X} (Bad w)
+  no_read w i e = absurd (other w i (same_bad w refusal e))
+
+  number_reads : {R X : Type 0} (q : Step ℕ × Partial) (more : Partial → R) (done : ℕ → Reading R X) → ((n : ℕ) → Reads (done n)) → Reads (read_number q more done)
+  number_reads (step.More, s) more done h = λ e. cc
+  number_reads (step.Done n, s) more done h = h n
+  number_reads (step.Bad, s) more done h = no_read why.BadNumber tt
+
+  within_reads : {R S X Y : Type 0} (f : R → S) (g : X → Y) (q : Reading R X) → Reads q → Reads (map_reading f g q)
+  within_reads f g (More r) h e = cc
+  within_reads f g (Done x) h e = cc
+  within_reads f g (Bad w) h e = h (let s : w ≡ refusal = cc in ap Bad s)
+
+  type_float : value_type_of c ≡ Err refusal → Fault c
+  type_float =
+      let P : Result ValType Why → Type 0 = λ q. q ≡ Err refusal → Fault c in
+      cond_both (nat_eq c 0x7F) _ _ P (λ _ e. cc)
+      (λ _. cond_both (nat_eq c 0x7E) _ _ P (λ _ e. cc)
+      (λ _. cond_both (nat_eq c 0x7D) _ _ P (λ a e. float c (same_err why.Float refusal e) (inl (eqb-true c 0x7D a)))
+      (λ _. cond_both (nat_eq c 0x7C) _ _ P (λ a e. float c (same_err why.Float refusal e) (inr (inl (eqb-true c 0x7C a)))) (λ _ e. absurd (other why.BadByte tt (same_err why.BadByte refusal e))))))
+
+  type_reads : {R X : Type 0} (q : Result ValType Why) (f : ValType → Reading R X) → (q ≡ Err refusal → Fault c) → ((t : ValType) → Reads (f t)) → Reads (read_type q f)
+  type_reads (Ok t) f h g = g t
+  type_reads (Err w) f h g = λ e. h (let s : w ≡ refusal = cc in ap Err s)
+
+  min_reads : (bounded : Bool) (n : ℕ) → Reads (after_min bounded n)
+  min_reads true n e = cc
+  min_reads false n e = cc
+
+  limits_reads : (l : InLimits) → Reads (limits_push l c)
+  limits_reads limits.Flag = cond_both (nat_eq c 0x00) _ _ Reads (λ _ e. cc) (λ _. cond_both (nat_eq c 0x01) _ _ Reads (λ _ e. cc) (λ _. no_read why.BadByte tt))
+  limits_reads (limits.Min bounded r) = number_reads (unsigned_push 32 r c) (λ s. limits.Min bounded s) (after_min bounded) (min_reads bounded)
+  limits_reads (limits.Max min r) = number_reads (unsigned_push 32 r c) (λ s. limits.Max min s) (λ n. Done (record { min = min; max = Some n })) (λ n e. cc)
+
+  table_reads : (t : InTableType) → Reads (table_type_push t c)
+  table_reads table.ElementType = cond_both (nat_eq c 0x70) _ _ Reads (λ _ e. cc) (λ _. no_read why.BadByte tt)
+  table_reads (table.Limits l) = within_reads table.Limits (λ y. y) (limits_push l c) (limits_reads l)
+
+  var_reads : (t : ValType) (d : ℕ) → Reads (var_step t d)
+  var_reads t zero = λ e. cc
+  var_reads t (suc zero) = λ e. cc
+  var_reads t (suc (suc d)) = no_read why.BadByte tt
+
+  global_reads : (g : InGlobalType) → Reads (global_type_push g c)
+  global_reads global.Type = type_reads (value_type_of c) (λ t. More (global.Var t)) type_float (λ t e. cc)
+  global_reads (global.Var t) = var_reads t c
+
+  kind_reads : (d : ℕ) → Reads (desc_kind_step d)
+  kind_reads zero = λ e. cc
+  kind_reads (suc zero) = λ e. cc
+  kind_reads (suc (suc zero)) = λ e. cc
+  kind_reads (suc (suc (suc zero))) = λ e. cc
+  kind_reads (suc (suc (suc (suc d)))) = no_read why.BadByte tt
+
+  desc_reads : (d : InImportDesc) → Reads (desc_push d c)
+  desc_reads import.Kind = kind_reads c
+  desc_reads (import.Func r) = number_reads (unsigned_push 32 r c) import.Func _ (λ n e. cc)
+  desc_reads (import.Table t) = within_reads import.Table _ (table_type_push t c) (table_reads t)
+  desc_reads (import.Memory l) = within_reads import.Memory _ (limits_push l c) (limits_reads l)
+  desc_reads (import.Global g) = within_reads import.Global _ (global_type_push g c) (global_reads g)
+
+  target_kind_reads : (d : ℕ) → Reads (target_kind_step d)
+  target_kind_reads zero = λ e. cc
+  target_kind_reads (suc zero) = λ e. cc
+  target_kind_reads (suc (suc zero)) = λ e. cc
+  target_kind_reads (suc (suc (suc zero))) = λ e. cc
+  target_kind_reads (suc (suc (suc (suc d)))) = no_read why.BadByte tt
+
+  target_reads : (t : InExportDesc) → Reads (target_push t c)
+  target_reads target.Kind = target_kind_reads c
+  target_reads (target.Index k r) = number_reads (unsigned_push 32 r c) (λ s. target.Index k s) (λ n. Done (k, n)) (λ n e. cc)
+
+  run_reads : (r : InRun) → Reads (run_push r c)
+  run_reads (run.Count r) = number_reads (unsigned_push 32 r c) run.Count (λ n. More (run.Type n)) (λ n e. cc)
+  run_reads (run.Type n) = type_reads (value_type_of c) (λ t. Done (n, t)) type_float (λ t e. cc)
+
+  value_reads : (v : InValue) → Reads (value_push v c)
+  value_reads (value.Import d) = within_reads value.Import plain.Import (desc_push d c) (desc_reads d)
+  value_reads (value.Table t) = within_reads value.Table plain.Table (table_type_push t c) (table_reads t)
+  value_reads (value.Memory l) = within_reads value.Memory plain.Memory (limits_push l c) (limits_reads l)
+  value_reads (value.Export t) = within_reads value.Export _ (target_push t c) (target_reads t)
+
+  -- a place that has not failed by this name, or at such a byte
+  abbrev Fails : InMember → Type 0
+  Fails q = q ≡ at.Failed refusal → Fault c
+
+  abbrev FailsEntry : InEntry → Type 0
+  FailsEntry q = q ≡ entry.Failed refusal → Fault c
+
+  no_place : (w : Why) → IsOther w → Fails (at.Failed w)
+  no_place w i e = absurd (other w i (same_place w refusal e))
+
+  no_entry : (w : Why) → IsOther w → FailsEntry (entry.Failed w)
+  no_entry w i e = absurd (other w i (same_entry w refusal e))
+
+  module _ {M : Type 0} (P : M → Type 0) where
+    on_number_any : (q : Step ℕ × Partial) (more : Partial → M) (done : ℕ → M × Event) (bad : Why → M) → ((s : Partial) → P (more s)) → ((n : ℕ) → P (done n).0) → P (bad why.BadNumber) → P (on_number q more done bad).0
+    on_number_any (step.More, s) more done bad a b w = a s
+    on_number_any (step.Done n, s) more done bad a b w = b n
+    on_number_any (step.Bad, s) more done bad a b w = w
+
+    on_value_any : {R X : Type 0} (q : Reading R X) (more : R → M) (done : X → M × Event) (bad : Why → M) → Reads q → ((s : R) → P (more s)) → ((x : X) → P (done x).0) → ((w : Why) → (w ≡ refusal → Fault c) → P (bad w)) → P (on_value q more done bad).0
+    on_value_any (More s) more done bad h a b g = a s
+    on_value_any (Done x) more done bad h a b g = b x
+    on_value_any (Bad w) more done bad h a b g = g w (λ e. h (ap Bad e))
+
+    on_type_any : (q : Result ValType Why) (done : ValType → M × Event) (bad : Why → M) → (q ≡ Err refusal → Fault c) → ((t : ValType) → P (done t).0) → ((w : Why) → (w ≡ refusal → Fault c) → P (bad w)) → P (on_type q done bad).0
+    on_type_any (Ok t) done bad h b g = b t
+    on_type_any (Err w) done bad h b g = g w (λ e. h (ap Err e))
+
+  fails_by : (w : Why) → (w ≡ refusal → Fault c) → Fails (at.Failed w)
+  fails_by w h e = h (cc)
+
+  entry_by : (w : Why) → (w ≡ refusal → Fault c) → FailsEntry (entry.Failed w)
+  entry_by w h e = h (cc)
+
+  -- code entries
+  runs_float : (n : ℕ) → FailsEntry (runs_or_body n)
+  runs_float zero e = cc
+  runs_float (suc n) e = cc
+
+  op_float : (e : InExpression) → (e ≡ expression.Failed refusal → Fault c) → FailsEntry (entry_after_op e)
+  op_float expression.Over h i = cc
+  op_float (expression.Failed w) h i = h (let s : w ≡ refusal = cc in ap expression.Failed s)
+  op_float (expression.Op depth q) h i = cc
+  op_float (expression.Label depth n r) h i = cc
+
+  entry_float : (p : Profile) (q : InEntry) → FailsEntry (entry_step p q c).0
+  entry_float p (entry.RunCount r) = on_number_any FailsEntry (unsigned_push 32 r c) entry.RunCount (λ n. (runs_or_body n, event.Nothing)) entry.Failed (λ s e. cc) runs_float (no_entry why.BadNumber tt)
+  entry_float p (entry.Run more r) = on_value_any FailsEntry (run_push r c) (λ s. entry.Run more s) _ entry.Failed (run_reads r) (λ s e. cc) (λ x. runs_float more) entry_by
+  entry_float p (entry.Body e) = op_float (expression_step p e c).0 (expression_fault refusal Fault other float p e c)
+  entry_float p entry.Over = no_entry why.BodyEnd tt
+  entry_float p (entry.Failed w) = no_entry why.BodyEnd tt
+
+  -- what each place becomes
+  param_float : (n : ℕ) → Fails (after_param n)
+  param_float zero e = cc
+  param_float (suc n) e = cc
+
+  result_float : (n : ℕ) → Fails (after_result n)
+  result_float zero e = cc
+  result_float (suc n) e = cc
+
+  name_float : (of : NameKind) → Fails (after_name of)
+  name_float name.ImportModule e = cc
+  name_float name.ImportName e = cc
+  name_float name.Export e = cc
+  name_float name.Custom e = cc
+
+  length_float : (of : NameKind) (n : ℕ) → Fails (after_length of n).0
+  length_float of zero = name_float of
+  length_float of (suc n) = λ e. cc
+
+  name_step_float : (of : NameKind) (n : ℕ) → Fails (name_step of n).0
+  name_step_float of zero = name_float of
+  name_step_float of (suc n) = λ e. cc
+
+  functions_float : (n : ℕ) → Fails (functions_or_over n)
+  functions_float zero e = cc
+  functions_float (suc n) e = cc
+
+  data_float : (n : ℕ) → Fails (data_or_over n)
+  data_float zero e = cc
+  data_float (suc n) e = cc
+
+  list_float : (of : LengthOf) (n : ℕ) → Fails (list_or_over of n)
+  list_float length_of.Functions n = functions_float n
+  list_float length_of.Bytes n = data_float n
+
+  index_float : (of : IndexOf) → Fails (after_index of)
+  index_float index.Function = λ e. cc
+  index_float index.Start = λ e. cc
+  index_float index.Element = λ e. cc
+  index_float (index.ElementFunction more) = functions_float more
+  index_float index.Segment = λ e. cc
+
+  over_float : (of : ConstantOf) → Fails (constant_over of)
+  over_float constant.Global e = cc
+  over_float constant.Element e = cc
+  over_float constant.Segment e = cc
+
+  constant_float : (of : ConstantOf) (e : InExpression) → (e ≡ expression.Failed refusal → Fault c) → Fails (after_constant of e)
+  constant_float of expression.Over h = over_float of
+  constant_float of (expression.Failed w) h = λ i. h (let s : w ≡ refusal = cc in ap expression.Failed s)
+  constant_float of (expression.Op depth q) h = λ i. cc
+  constant_float of (expression.Label depth n r) h = λ i. cc
+
+  framed_float : (n : ℕ) (q : InEntry) → FailsEntry q → Fails (member_in_entry n q)
+  framed_float n (entry.Failed w) h = λ e. h (let s : w ≡ refusal = cc in ap entry.Failed s)
+  framed_float zero entry.Over h = λ e. cc
+  framed_float (suc n) entry.Over h = no_place why.BodyEnd tt
+  framed_float zero (entry.RunCount r) h = no_place why.BodyEnd tt
+  framed_float zero (entry.Run more r) h = no_place why.BodyEnd tt
+  framed_float zero (entry.Body x) h = no_place why.BodyEnd tt
+  framed_float (suc n) (entry.RunCount r) h = λ e. cc
+  framed_float (suc n) (entry.Run more r) h = λ e. cc
+  framed_float (suc n) (entry.Body x) h = λ e. cc
+
+  size_float : (n : ℕ) → Fails (member_in_entry n (entry.RunCount fresh))
+  size_float n = framed_float n (entry.RunCount fresh) (λ e. cc)
+
+  pub component_fault : (p : Profile) (q : InMember) → (member_step p q c).0 ≡ at.Failed refusal → Fault c
+  component_fault p at.TypeForm = cond_both (nat_eq c 0x60) _ _ (λ (x : InMember × Event). Fails x.0) (λ _ e. cc) (λ _. no_place why.BadByte tt)
+  component_fault p (at.ParamCount r) = on_number_any Fails (unsigned_push 32 r c) at.ParamCount (λ n. (after_param n, event.Nothing)) at.Failed (λ s e. cc) param_float (no_place why.BadNumber tt)
+  component_fault p (at.Param more) = on_type_any Fails (value_type_of c) (λ t. with_item_given (after_param more) (plain.Param t)) at.Failed type_float (λ t. param_float more) fails_by
+  component_fault p (at.ResultCount r) = on_number_any Fails (unsigned_push 32 r c) at.ResultCount (λ n. with_item_given (after_result n) (plain.ResultCount n)) at.Failed (λ s e. cc) result_float (no_place why.BadNumber tt)
+  component_fault p (at.ResultType more) = on_type_any Fails (value_type_of c) (λ t. with_item_given (after_result more) (plain.OneResult t)) at.Failed type_float (λ t. result_float more) fails_by
+  component_fault p (at.NameLength of r) = on_number_any Fails (unsigned_push 32 r c) (λ s. at.NameLength of s) (after_length of) at.Failed (λ s e. cc) (length_float of) (no_place why.BadNumber tt)
+  component_fault p (at.Name of more) = name_step_float of more
+  component_fault p (at.Value v) = on_value_any Fails (value_push v c) at.Value (λ q. with_item_given at.Over q) at.Failed (value_reads v) (λ s e. cc) (λ x e. cc) fails_by
+  component_fault p (at.Index of r) = on_number_any Fails (unsigned_push 32 r c) (λ s. at.Index of s) (λ n. with_item_given (after_index of) (index_item of n)) at.Failed (λ s e. cc) (λ n. index_float of) (no_place why.BadNumber tt)
+  component_fault p (at.GlobalType g) = on_value_any Fails (global_type_push g c) at.GlobalType (λ t. with_item_given (at.Constant constant.Global start) (plain.Global t)) at.Failed (global_reads g) (λ s e. cc) (λ x e. cc) fails_by
+  component_fault p (at.Constant of e) = constant_float of (expression_step p e c).0 (expression_fault refusal Fault other float p e c)
+  component_fault p (at.Length of r) = on_number_any Fails (unsigned_push 32 r c) (λ s. at.Length of s) (λ n. (list_or_over of n, event.Nothing)) at.Failed (λ s e. cc) (list_float of) (no_place why.BadNumber tt)
+  component_fault p (at.Data more) = data_float more
+  component_fault p (at.EntrySize r) = on_number_any Fails (unsigned_push 32 r c) at.EntrySize (λ n. with_item_given (member_in_entry n (entry.RunCount fresh)) plain.Body) at.Failed (λ s e. cc) size_float (no_place why.BadNumber tt)
+  component_fault p (at.Entry more q) = framed_float more (entry_step p q c).0 (entry_float p q)
+  component_fault p at.Over = no_place why.SectionEnd tt
+  component_fault p (at.Failed w) = no_place why.SectionEnd tt
+
+pub component_float : (c : ℕ) (p : Profile) (q : InMember) → (member_step p q c).0 ≡ at.Failed why.Float → IsFloatByte c
+component_float = component_fault why.Float IsFloatByte (λ w i e. subst IsOther e i) (λ c e h. h)
+
+pub component_memory : (c : ℕ) (p : Profile) (q : InMember) → (member_step p q c).0 ≡ at.Failed why.Memory → ⊥
+component_memory = component_fault why.Memory (λ c. ⊥) (λ w i e. subst IsOther e i) (λ c e h. cc)

@@ -1,0 +1,40 @@
+-- What a decoder has read, and what it answers to a whole input.
+use Rattle.std.specs.Prelude.{◌≡◌, ℕ, ◌≤◌, ◌<◌, List, Option, Some, None, Result, Ok, Err, ◌⊎◌, length}
+use Rattle.wm_syntax.specs.declared.why.Why.{Why}
+use Rattle.wm_syntax.specs.Spelling.{AreBytes}
+use Rattle.wm_decode.specs.declared.refusal.Refusal.{Refusal}
+use Rattle.wm_decode.specs.declared.state.Decoder.{Decoder}
+use Rattle.wm_decode.specs.Items.{Item}
+use Rattle.wm_decode.specs.Sinks.{and_then}
+use Rattle.wm_decode.specs.exact.Live.{state_of, decoder_after, live_at_start, answer_at_end}
+use Rattle.wm_decode.specs.Decoding.{Setting}
+use Rattle.wm_syntax.specs.declared.why.Why.TheVariants as why
+
+-- memory ran out somewhere in these bytes, and not in the header
+pub record RanOut {A : Type 0} (now : Result A Refusal) (bytes : List ℕ) : Type 0 where
+  pub refusal : Refusal
+  pub stands : now ≡ Err refusal
+  pub memory : refusal.why ≡ why.Memory
+  pub past_header : 8 < refusal.at
+  pub place : refusal.at ≤ length bytes
+
+-- the decoder, which was made so, has read just these bytes, or memory ran out
+pub record HasDecoded {S H : Type 0} (held : S → H) (after : H → Item → Result H Why) (d : Decoder S) (s : Setting H)
+    (bytes : List ℕ) : Type 0 where
+  pub profile : d.profile ≡ s.profile
+  pub limit : d.max_bytes ≡ s.limit
+  pub are_bytes : AreBytes bytes
+  pub stands : (state_of held d ≡ decoder_after after s.profile s.limit (live_at_start s.first) bytes) ⊎ RanOut (state_of held d) bytes
+
+-- however the decoder was made and whatever it has read, by the record above
+abbrev pub Having : {S H : Type 0} → (S → H) → (H → Item → Result H Why) → Decoder S
+    → (Setting H → List ℕ → Type 0) → Type 0
+Having {S} {H} held after d P = (s : Setting H) (bytes : List ℕ) → HasDecoded held after d s bytes → P s bytes
+
+-- what a decoder answers to a whole input, however it is cut, unless memory runs out
+abbrev pub answer_of : {H : Type 0} → (H → Item → Result H Why) → Setting H → List ℕ → Result H Refusal
+answer_of after s bytes = and_then (decoder_after after s.profile s.limit (live_at_start s.first) bytes) answer_at_end
+
+-- the refusal that a decoder has answered
+abbrev pub refusal_of_decoder : {S H : Type 0} → (S → H) → Decoder S → Option Refusal
+refusal_of_decoder held d = elim (state_of held d) [ Ok l ↦ None | Err r ↦ Some r ]

@@ -1,0 +1,5 @@
+-- Exact answers of functions, refusals included. They follow the code for the layers above, and need not be believed.
+pub mod Checking
+pub mod Constants
+pub mod Names
+pub mod Spaces

@@ -1,0 +1,18 @@
+-- How many runs of locals a search reads. A stranger can count them: the search halves what lies between two places.
+use Rattle.std.specs.Prelude.{ℕ, zero, suc, ◌+◌, ◌-◌, ◌/◌, List, length, nat_lt, slice_index, if◌then◌else◌}
+use Rattle.wm_syntax.specs.declared.types.ValType.{ValType}
+use Rattle.wm_stacks.specs.Runs.{run_ends}
+
+-- How many ends are read to find the first one above an index, by halving what lies between low and
+-- high, in at most so many steps.
+unfoldable pub halvings : ℕ → List ℕ → ℕ → ℕ → ℕ → ℕ
+halvings zero ends index low high = 0
+halvings (suc left) ends index low high =
+    let middle = low + (high - low) / 2 in
+    if nat_lt low high then (
+    if nat_lt index (slice_index ends middle) then halvings left ends index low middle + 1
+    else halvings left ends index (middle + 1) high + 1)
+    else 0
+
+abbrev pub probes_for : List ValType → ℕ → ℕ
+probes_for ts index = halvings 32 (run_ends ts) index 0 (length (run_ends ts))

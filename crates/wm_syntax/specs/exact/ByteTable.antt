@@ -1,0 +1,293 @@
+-- The rows of the code's table of first bytes, for the proof of `op_of`, and its exact answer, for the layer that
+-- builds on it: no promise rests on this list, since the other clauses of `op_of` speak of the table of instructions
+-- alone.
+use Rattle.std.specs.Prelude.{ℕ, List, [], ◌∷◌, Option, Some, None as Nothing, slice_get}
+use Rattle.wm_syntax.specs.declared.types.ValType.TheVariants.{I32, I64}
+use Rattle.wm_syntax.specs.declared.instructions.Comparison.TheVariants.{Eq, Ne, LtS, LtU, GtS, GtU, LeS, LeU, GeS, GeU}
+use Rattle.wm_syntax.specs.declared.instructions.UnaryOp.TheVariants.{Clz, Ctz, Popcnt}
+use Rattle.wm_syntax.specs.declared.instructions.BinaryOp.TheVariants.{Add, Sub, Mul, DivS, DivU, RemS, RemU, And, Or, Xor, Shl, ShrS, ShrU, Rotl, Rotr}
+use Rattle.wm_syntax.specs.declared.instructions.Numeric.TheVariants.{Test, Compare, Unary, Binary, Wrap, ExtendS, ExtendU, SignExtend}
+use Rattle.wm_syntax.specs.declared.instructions.SignExtension.TheVariants.{I32From8, I32From16, I64From8, I64From16, I64From32}
+use Rattle.wm_syntax.specs.declared.instructions.LoadOp.TheVariants.{I32Load, I64Load, I32Load8S, I32Load8U, I32Load16S, I32Load16U, I64Load8S, I64Load8U, I64Load16S, I64Load16U, I64Load32S, I64Load32U}
+use Rattle.wm_syntax.specs.declared.instructions.StoreOp.TheVariants.{I32Store, I64Store, I32Store8, I32Store16, I64Store8, I64Store16, I64Store32}
+use Rattle.wm_syntax.specs.declared.instructions.Simple.TheVariants as s
+use Rattle.wm_syntax.specs.declared.instructions.Op.TheVariants as op
+use Rattle.wm_syntax.specs.declared.op_class.Immediates.TheVariants as k
+use Rattle.wm_syntax.specs.declared.op_class.OpClass.{OpClass}
+use Rattle.wm_syntax.specs.declared.op_class.OpClass.TheVariants.{Plain, With, Float, None}
+use Rattle.wm_syntax.specs.declared.profile.Profile.{Profile}
+use Rattle.wm_syntax.specs.declared.profile.Profile.TheVariants.{One}
+
+-- what each byte begins, from 00 to FF
+abbrev pub classes : List OpClass
+classes =
+    Plain (op.Simple s.Unreachable) ∷
+    Plain (op.Simple s.Nop) ∷
+    With k.Block ∷
+    With k.Loop ∷
+    With k.If ∷
+    Plain op.Else ∷
+    None ∷
+    None ∷
+    None ∷
+    None ∷
+    None ∷
+    Plain op.End ∷
+    With k.Br ∷
+    With k.BrIf ∷
+    With k.BrTable ∷
+    Plain (op.Simple s.Return) ∷
+    With k.Call ∷
+    With k.CallIndirect ∷
+    None ∷
+    None ∷
+    None ∷
+    None ∷
+    None ∷
+    None ∷
+    None ∷
+    None ∷
+    Plain (op.Simple s.Drop) ∷
+    Plain (op.Simple s.Select) ∷
+    None ∷
+    None ∷
+    None ∷
+    None ∷
+    With k.LocalGet ∷
+    With k.LocalSet ∷
+    With k.LocalTee ∷
+    With k.GlobalGet ∷
+    With k.GlobalSet ∷
+    None ∷
+    None ∷
+    None ∷
+    With (k.Load I32Load) ∷
+    With (k.Load I64Load) ∷
+    Float ∷
+    Float ∷
+    With (k.Load I32Load8S) ∷
+    With (k.Load I32Load8U) ∷
+    With (k.Load I32Load16S) ∷
+    With (k.Load I32Load16U) ∷
+    With (k.Load I64Load8S) ∷
+    With (k.Load I64Load8U) ∷
+    With (k.Load I64Load16S) ∷
+    With (k.Load I64Load16U) ∷
+    With (k.Load I64Load32S) ∷
+    With (k.Load I64Load32U) ∷
+    With (k.Store I32Store) ∷
+    With (k.Store I64Store) ∷
+    Float ∷
+    Float ∷
+    With (k.Store I32Store8) ∷
+    With (k.Store I32Store16) ∷
+    With (k.Store I64Store8) ∷
+    With (k.Store I64Store16) ∷
+    With (k.Store I64Store32) ∷
+    With k.MemorySize ∷
+    With k.MemoryGrow ∷
+    With k.I32Const ∷
+    With k.I64Const ∷
+    Float ∷
+    Float ∷
+    Plain (op.Simple (s.Numeric (Test I32))) ∷
+    Plain (op.Simple (s.Numeric (Compare I32 Eq))) ∷
+    Plain (op.Simple (s.Numeric (Compare I32 Ne))) ∷
+    Plain (op.Simple (s.Numeric (Compare I32 LtS))) ∷
+    Plain (op.Simple (s.Numeric (Compare I32 LtU))) ∷
+    Plain (op.Simple (s.Numeric (Compare I32 GtS))) ∷
+    Plain (op.Simple (s.Numeric (Compare I32 GtU))) ∷
+    Plain (op.Simple (s.Numeric (Compare I32 LeS))) ∷
+    Plain (op.Simple (s.Numeric (Compare I32 LeU))) ∷
+    Plain (op.Simple (s.Numeric (Compare I32 GeS))) ∷
+    Plain (op.Simple (s.Numeric (Compare I32 GeU))) ∷
+    Plain (op.Simple (s.Numeric (Test I64))) ∷
+    Plain (op.Simple (s.Numeric (Compare I64 Eq))) ∷
+    Plain (op.Simple (s.Numeric (Compare I64 Ne))) ∷
+    Plain (op.Simple (s.Numeric (Compare I64 LtS))) ∷
+    Plain (op.Simple (s.Numeric (Compare I64 LtU))) ∷
+    Plain (op.Simple (s.Numeric (Compare I64 GtS))) ∷
+    Plain (op.Simple (s.Numeric (Compare I64 GtU))) ∷
+    Plain (op.Simple (s.Numeric (Compare I64 LeS))) ∷
+    Plain (op.Simple (s.Numeric (Compare I64 LeU))) ∷
+    Plain (op.Simple (s.Numeric (Compare I64 GeS))) ∷
+    Plain (op.Simple (s.Numeric (Compare I64 GeU))) ∷
+    Float ∷
+    Float ∷
+    Float ∷
+    Float ∷
+    Float ∷
+    Float ∷
+    Float ∷
+    Float ∷
+    Float ∷
+    Float ∷
+    Float ∷
+    Float ∷
+    Plain (op.Simple (s.Numeric (Unary I32 Clz))) ∷
+    Plain (op.Simple (s.Numeric (Unary I32 Ctz))) ∷
+    Plain (op.Simple (s.Numeric (Unary I32 Popcnt))) ∷
+    Plain (op.Simple (s.Numeric (Binary I32 Add))) ∷
+    Plain (op.Simple (s.Numeric (Binary I32 Sub))) ∷
+    Plain (op.Simple (s.Numeric (Binary I32 Mul))) ∷
+    Plain (op.Simple (s.Numeric (Binary I32 DivS))) ∷
+    Plain (op.Simple (s.Numeric (Binary I32 DivU))) ∷
+    Plain (op.Simple (s.Numeric (Binary I32 RemS))) ∷
+    Plain (op.Simple (s.Numeric (Binary I32 RemU))) ∷
+    Plain (op.Simple (s.Numeric (Binary I32 And))) ∷
+    Plain (op.Simple (s.Numeric (Binary I32 Or))) ∷
+    Plain (op.Simple (s.Numeric (Binary I32 Xor))) ∷
+    Plain (op.Simple (s.Numeric (Binary I32 Shl))) ∷
+    Plain (op.Simple (s.Numeric (Binary I32 ShrS))) ∷
+    Plain (op.Simple (s.Numeric (Binary I32 ShrU))) ∷
+    Plain (op.Simple (s.Numeric (Binary I32 Rotl))) ∷
+    Plain (op.Simple (s.Numeric (Binary I32 Rotr))) ∷
+    Plain (op.Simple (s.Numeric (Unary I64 Clz))) ∷
+    Plain (op.Simple (s.Numeric (Unary I64 Ctz))) ∷
+    Plain (op.Simple (s.Numeric (Unary I64 Popcnt))) ∷
+    Plain (op.Simple (s.Numeric (Binary I64 Add))) ∷
+    Plain (op.Simple (s.Numeric (Binary I64 Sub))) ∷
+    Plain (op.Simple (s.Numeric (Binary I64 Mul))) ∷
+    Plain (op.Simple (s.Numeric (Binary I64 DivS))) ∷
+    Plain (op.Simple (s.Numeric (Binary I64 DivU))) ∷
+    Plain (op.Simple (s.Numeric (Binary I64 RemS))) ∷
+    Plain (op.Simple (s.Numeric (Binary I64 RemU))) ∷
+    Plain (op.Simple (s.Numeric (Binary I64 And))) ∷
+    Plain (op.Simple (s.Numeric (Binary I64 Or))) ∷
+    Plain (op.Simple (s.Numeric (Binary I64 Xor))) ∷
+    Plain (op.Simple (s.Numeric (Binary I64 Shl))) ∷
+    Plain (op.Simple (s.Numeric (Binary I64 ShrS))) ∷
+    Plain (op.Simple (s.Numeric (Binary I64 ShrU))) ∷
+    Plain (op.Simple (s.Numeric (Binary I64 Rotl))) ∷
+    Plain (op.Simple (s.Numeric (Binary I64 Rotr))) ∷
+    Float ∷
+    Float ∷
+    Float ∷
+    Float ∷
+    Float ∷
+    Float ∷
+    Float ∷
+    Float ∷
+    Float ∷
+    Float ∷
+    Float ∷
+    Float ∷
+    Float ∷
+    Float ∷
+    Float ∷
+    Float ∷
+    Float ∷
+    Float ∷
+    Float ∷
+    Float ∷
+    Float ∷
+    Float ∷
+    Float ∷
+    Float ∷
+    Float ∷
+    Float ∷
+    Float ∷
+    Float ∷
+    Plain (op.Simple (s.Numeric Wrap)) ∷
+    Float ∷
+    Float ∷
+    Float ∷
+    Float ∷
+    Plain (op.Simple (s.Numeric ExtendS)) ∷
+    Plain (op.Simple (s.Numeric ExtendU)) ∷
+    Float ∷
+    Float ∷
+    Float ∷
+    Float ∷
+    Float ∷
+    Float ∷
+    Float ∷
+    Float ∷
+    Float ∷
+    Float ∷
+    Float ∷
+    Float ∷
+    Float ∷
+    Float ∷
+    Float ∷
+    Float ∷
+    Float ∷
+    Float ∷
+    Plain (op.Simple (s.Numeric (SignExtend I32From8))) ∷
+    Plain (op.Simple (s.Numeric (SignExtend I32From16))) ∷
+    Plain (op.Simple (s.Numeric (SignExtend I64From8))) ∷
+    Plain (op.Simple (s.Numeric (SignExtend I64From16))) ∷
+    Plain (op.Simple (s.Numeric (SignExtend I64From32))) ∷
+    None ∷
+    None ∷
+    None ∷
+    None ∷
+    None ∷
+    None ∷
+    None ∷
+    None ∷
+    None ∷
+    None ∷
+    None ∷
+    None ∷
+    None ∷
+    None ∷
+    None ∷
+    None ∷
+    None ∷
+    None ∷
+    None ∷
+    None ∷
+    None ∷
+    None ∷
+    None ∷
+    None ∷
+    None ∷
+    None ∷
+    None ∷
+    None ∷
+    None ∷
+    None ∷
+    None ∷
+    None ∷
+    None ∷
+    None ∷
+    None ∷
+    None ∷
+    None ∷
+    None ∷
+    None ∷
+    None ∷
+    None ∷
+    None ∷
+    None ∷
+    None ∷
+    None ∷
+    None ∷
+    None ∷
+    None ∷
+    None ∷
+    None ∷
+    None ∷
+    None ∷
+    None ∷
+    None ∷
+    None ∷
+    None ∷
+    None ∷
+    None ∷
+    None ∷
+    []
+
+-- what is left of a class under a profile
+abbrev pub class_in : Profile → OpClass → OpClass
+class_in One (Plain (op.Simple (s.Numeric (SignExtend o)))) = None
+class_in _ c = c
+
+abbrev pub row_in : Profile → Option OpClass → OpClass
+row_in p (Some c) = class_in p c
+row_in p Nothing = None
+
+-- what a byte begins under a profile; what is no byte begins nothing
+unfoldable pub class_under : Profile → ℕ → OpClass
+class_under p byte = row_in p (slice_get classes byte)

@@ -1,0 +1,69 @@
+-- An exact mirror for the layers above: what a simple instruction does to operands, as a function of the context,
+-- with the name of the refusal where it can do nothing. No promise rests on it alone: see `Typing`.
+use Rattle.std.specs.Prelude.{ℕ, ◌^◌, Bool, true, false, List, [], ◌∷◌, ◌++◌, Option, Some, None, slice_get, option_to_list, nat_le}
+use Rattle.wm_syntax.specs.declared.types.ValType.{ValType}
+use Rattle.wm_syntax.specs.declared.types.ValType.TheVariants.{I32, I64}
+use Rattle.wm_syntax.specs.declared.why.Why.{Why}
+use Rattle.wm_syntax.specs.declared.why.Why.TheVariants as why
+use Rattle.wm_syntax.specs.declared.instructions.Simple.{Simple}
+use Rattle.wm_syntax.specs.declared.instructions.Simple.TheVariants.{Unreachable, Nop, Return, Drop, Select, Br, BrIf, Call, CallIndirect, LocalGet, LocalSet, LocalTee, GlobalGet, GlobalSet, MemorySize, MemoryGrow, I32Const, I64Const, Load, Store, Numeric}
+use Rattle.wm_syntax.specs.Opcodes.{numeric, load, store}
+use Rattle.wm_typing.specs.Typing.{Context, function_type}
+
+pub data Effect : Type 0 where
+  -- from just these to those
+  fixed : (takes gives : List ValType) → Effect
+  -- the same, below an i32 that is taken first
+  indirect : (takes gives : List ValType) → Effect
+  -- these on top of any others, to any
+  is_polymorphic : List ValType → Effect
+  drops : Effect
+  selects : Effect
+  ill : Why → Effect
+
+abbrev pub with_item : {X : Type 0} → Option X → (X → Effect) → Effect
+with_item None f = ill why.Index
+with_item (Some x) f = f x
+
+abbrev pub where_true : Why → Bool → Effect → Effect
+where_true w true s = s
+where_true w false s = ill w
+
+abbrev pub access_effect : Context → ℕ → ℕ → Effect → Effect
+access_effect c align width s = where_true why.Index c.has_memory (where_true why.Align (nat_le (2 ^ align) width) s)
+
+abbrev pub call_effect : Context → ℕ → Effect
+call_effect c x = with_item (function_type c x) (λ f. fixed f.params f.results)
+
+abbrev pub indirect_effect : Context → ℕ → Effect
+indirect_effect c x =
+    where_true why.Index c.has_table (with_item (slice_get c.types x) (λ f. indirect f.params f.results))
+
+abbrev pub global_get_effect : Context → ℕ → Effect
+global_get_effect c x = with_item (slice_get c.globals x) (λ g. fixed [] (g.ty ∷ []))
+
+abbrev pub global_set_effect : Context → ℕ → Effect
+global_set_effect c x = with_item (slice_get c.globals x) (λ g. where_true why.Immutable g.var (fixed (g.ty ∷ []) []))
+
+abbrev pub effect_of : Context → Simple → Effect
+effect_of c Unreachable = is_polymorphic []
+effect_of c Nop = fixed [] []
+effect_of c (Br l) = with_item (slice_get c.labels l) (λ t. is_polymorphic (option_to_list t))
+effect_of c (BrIf l) = with_item (slice_get c.labels l) (λ t. fixed (option_to_list t ++ I32 ∷ []) (option_to_list t))
+effect_of c Return = is_polymorphic (option_to_list c.result)
+effect_of c (Call x) = call_effect c x
+effect_of c (CallIndirect x) = indirect_effect c x
+effect_of c Drop = drops
+effect_of c Select = selects
+effect_of c (LocalGet x) = with_item (slice_get c.locals x) (λ t. fixed [] (t ∷ []))
+effect_of c (LocalSet x) = with_item (slice_get c.locals x) (λ t. fixed (t ∷ []) [])
+effect_of c (LocalTee x) = with_item (slice_get c.locals x) (λ t. fixed (t ∷ []) (t ∷ []))
+effect_of c (GlobalGet x) = global_get_effect c x
+effect_of c (GlobalSet x) = global_set_effect c x
+effect_of c MemorySize = where_true why.Index c.has_memory (fixed [] (I32 ∷ []))
+effect_of c MemoryGrow = where_true why.Index c.has_memory (fixed (I32 ∷ []) (I32 ∷ []))
+effect_of c (I32Const n) = fixed [] (I32 ∷ [])
+effect_of c (I64Const n) = fixed [] (I64 ∷ [])
+effect_of c (Load op at) = access_effect c at.align (load op).width (fixed (I32 ∷ []) ((load op).ty ∷ []))
+effect_of c (Store op at) = access_effect c at.align (store op).width (fixed (I32 ∷ (store op).ty ∷ []) [])
+effect_of c (Numeric op) = fixed (numeric op).takes (numeric op).gives

@@ -1,0 +1,24 @@
+-- Ops in turn, as the layers above take them: an exact mirror, of which the laws in `laws` say what it means.
+use Rattle.std.specs.Prelude.{ℕ, List, [], ◌∷◌, Result, Ok, Err}
+use Rattle.wm_syntax.specs.declared.types.ValType.{ValType}
+use Rattle.wm_syntax.specs.declared.why.Why.{Why}
+use Rattle.wm_syntax.specs.declared.why.Why.TheVariants.{BodyEnd}
+use Rattle.wm_syntax.specs.declared.instructions.Op.{Op}
+use Rattle.wm_stacks.specs.declared.entries.Frame.{Frame}
+use Rattle.wm_typing.specs.Typing.{Context}
+use Rattle.wm_typing.specs.Bodies.{Body}
+use Rattle.wm_typing.specs.exact.Bodies.{body_at_start, body_after_op}
+
+-- a body that has body_at_start, with these declared locals
+abbrev pub body_with_locals : Context → ℕ → List ValType → Body
+body_with_locals c x locals = record (body_at_start c x) { declared = locals }
+
+-- nothing comes after the end
+abbrev pub while_inside : List Frame → Result Body Why → Result Body Why
+while_inside [] r = Err BodyEnd
+while_inside (f ∷ fs) r = r
+
+abbrev pub body_after_ops : Context → Result Body Why → List Op → Result Body Why
+body_after_ops c (Err why) ops = Err why
+body_after_ops c (Ok b) [] = Ok b
+body_after_ops c (Ok b) (x ∷ ops) = body_after_ops c (while_inside b.state.stacks.frames (body_after_op c x b)) ops
