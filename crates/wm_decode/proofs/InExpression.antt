@@ -1,5 +1,5 @@
 -- Inside the expression of a code entry the machine stands before a byte of an op.
-use Rattle.std.proofs.Common.{◌≡◌, ◌≢◌, ℕ, zero, suc, ◌+◌, ◌-◌, ◌*◌, ◌<◌, ◌≤◌, ◌^◌, ◌⊎◌, inl, inr, List, [], ◌∷◌, ◌++◌, Option, Some, None, Result, Ok, Err, length, refl, sym, ◌∙◌, ap, subst, append_assoc, arith}
+use Rattle.std.proofs.Common.{◌≡◌, ℕ, zero, suc, ◌+◌, ◌-◌, ◌*◌, ◌<◌, ◌≤◌, ◌^◌, ◌⊎◌, inl, inr, List, [], ◌∷◌, ◌++◌, Option, Some, None, refl, sym, ◌∙◌, ap, subst, arith}
 use Rattle.wm_syntax.specs.inner.Numbers.{Partial}
 use Rattle.wm_syntax.specs.exact.Reading.{fresh}
 use Rattle.wm_syntax.specs.Spelling.{AreBytes}
@@ -7,7 +7,6 @@ use Rattle.wm_syntax.specs.declared.profile.Profile.{Profile}
 use Rattle.wm_syntax.specs.declared.instructions.Op.{Op}
 use Rattle.wm_syntax.specs.declared.types.ValType.{ValType}
 use Rattle.wm_syntax.specs.declared.types.ValType.TheVariants.{I32}
-use Rattle.wm_syntax.specs.declared.why.Why.{Why}
 use Rattle.wm_syntax.specs.declared.why.Why.TheVariants as why
 use Rattle.wm_decode.specs.declared.member.SectionKind.{SectionKind}
 use Rattle.wm_decode.specs.declared.member.InMember.{InMember}
@@ -23,10 +22,10 @@ use Rattle.wm_decode.specs.declared.machine.Machine.TheVariants as machine
 use Rattle.wm_decode.specs.declared.machine.Plain.TheVariants as plain
 use Rattle.wm_decode.specs.exact.MemberSteps.{entry_after_op, member_in_entry, entry_step, op_event}
 use Rattle.wm_decode.specs.exact.ExpressionSteps.{expression_step}
-use Rattle.wm_decode.specs.Fronts.{IsFront, InExpression, entry_more, entry_after}
+use Rattle.wm_decode.specs.Fronts.{InExpression, entry_more, entry_after}
 use Rattle.wm_decode.specs.exact.Live.{IsRefused, Live, MayRunOutAtEvent, MayRunOutAtByte}
-use Rattle.wm_decode.specs.Items.{Item, body_op, Zone, entry as in_entry, Mark, Marks, locals, items_at}
-use Rattle.wm_decode.specs.exact.Runs.{MachineState, after_byte, state_at_start, read_byte, byte_read, ByteRead, marks, state_after, zone_in, zone_of}
+use Rattle.wm_decode.specs.Items.{Item, body_op, Zone, entry as in_entry, Marks, locals, items_at}
+use Rattle.wm_decode.specs.exact.Runs.{MachineState, after_byte, state_at_start, read_byte, byte_read, ByteRead, marks, state_after, zone_of}
 use Rattle.wm_decode.specs.exact.Steps.{machine_in_member, step_of}
 use Rattle.std.specs.Str.{is_utf8}
 use Rattle.std.proofs.Math.Pow.{pow_mono}
@@ -36,7 +35,7 @@ use Rattle.wm_decode.specs.declared.values.InRun.{InRun}
 use Rattle.wm_decode.specs.declared.values.InRun.TheVariants as run_at
 use Rattle.wm_decode.specs.exact.Members.{id_of}
 use Rattle.wm_decode.specs.Grammar.{Module, Run, Expression, loose}
-use Rattle.wm_decode.specs.MarkedForms.{MarkedForm, Then, Times, Leaf, Counted, Sized, Entry, nothing_at, marks_ending, entry_marks, outside_mark}
+use Rattle.wm_decode.specs.MarkedForms.{MarkedForm, Then, Times, Leaf, Sized, marks_ending, entry_marks, outside_mark}
 use Rattle.wm_decode.proofs.OpenMembers.{Comes, some_times, some_runs, some_one}
 use Rattle.wm_decode.proofs.MemberBytes.{OneOf, ComponentRest}
 use Rattle.wm_decode.proofs.MemberSound.{SoundRun, StandsEntry}

@@ -18,7 +18,7 @@ use Rattle.wm_decode.specs.declared.state.Decoder.{Decoder}
 use Rattle.wm_decode.specs.declared.member.InMember.TheVariants as at
 use Rattle.wm_decode.specs.exact.MemberSteps.{on_number}
 use Rattle.wm_decode.specs.inner.Decoders.{refusal_of_decoder}
-use Rattle.wm_decode.specs.exact.Live.{IsRefused, Live, MayRunOutAtByte, MayTake, live_with, live_or_refused, state_of}
+use Rattle.wm_decode.specs.exact.Live.{IsRefused, MayRunOutAtByte, MayTake, live_with, live_or_refused}
 use Rattle.wm_decode.specs.Items.{Item}
 use Rattle.wm_decode.specs.Sections.{header}
 use Rattle.wm_decode.specs.exact.Steps.{custom_after_length, custom_step, header_step, custom_name_step, step_of}

@@ -1,7 +1,6 @@
 -- Where memory may run out at one byte.
-use Rattle.std.proofs.Common.{◌≡◌, ◌≢◌, ℕ, zero, suc, ◌+◌, ◌<◌, ◌≤◌, ◌⊎◌, inl, inr, List, [], ◌∷◌, ◌++◌, Option, Some, None, Result, Ok, Err, MatchResult, IfErr, length, drop, take, refl, sym, ◌∙◌, ap, subst, slice_range, slice_index, arith}
+use Rattle.std.proofs.Common.{◌≡◌, ◌≢◌, ℕ, zero, suc, ◌+◌, ◌<◌, ◌≤◌, ◌⊎◌, inl, inr, List, [], ◌∷◌, ◌++◌, Result, Ok, Err, MatchResult, IfErr, length, drop, take, refl, sym, ◌∙◌, ap, subst, slice_range, slice_index, arith}
 use Rattle.wm_syntax.specs.declared.profile.Profile.{Profile}
-use Rattle.wm_syntax.specs.declared.why.Why.{Why}
 use Rattle.wm_syntax.specs.declared.why.Why.TheVariants as why
 use Rattle.wm_decode.specs.declared.machine.NameKind.{NameKind}
 use Rattle.wm_decode.specs.declared.refusal.Refusal.{Refusal}

@@ -18,7 +18,7 @@ use Rattle.wm_syntax.specs.Opcodes.{load, store}
 use Rattle.wm_syntax.specs.Types.{Signature}
 use Rattle.wm_stacks.specs.declared.entries.Entry.{Entry}
 use Rattle.wm_stacks.specs.declared.entries.Entry.TheVariants.{Unknown}
-use Rattle.wm_stacks.specs.declared.entries.FrameKind.{Kind}
+use Rattle.wm_stacks.specs.declared.entries.FrameKind.{FrameKind}
 use Rattle.wm_stacks.specs.declared.entries.FrameKind.TheVariants.{Func, Block, Loop, If, Else}
 use Rattle.wm_stacks.specs.declared.entries.Frame.{Frame}
 use Rattle.wm_stacks.specs.declared.entries.Reach.{Reach}
@@ -27,7 +27,7 @@ use Rattle.wm_stacks.specs.Runs as runs
 use Rattle.wm_stacks.specs.Stack.{Stack, fits}
 use Rattle.wm_stacks.specs.exact.Stacks.{open_frame, count_after_move, pop_to, at_floor, takes, take_above, in_frame, take_one, take_all, goes_on, any_above, take_any, cut, close, close_at}
 use Rattle.wm_stacks.specs.exact.Runs.{add_run}
-use Rattle.wm_typing.specs.declared.labels.BrTable.{Table}
+use Rattle.wm_typing.specs.declared.labels.BrTable.{BrTable}
 use Rattle.wm_typing.specs.Typing.{Context, function_type}
 use Rattle.wm_typing.specs.Entries.{join}
 use Rattle.wm_typing.specs.exact.Effects.{Effect, fixed, indirect, is_polymorphic, drops, selects, ill, with_item, where_true, effect_of}
@@ -189,7 +189,7 @@ close_other t s k h =
     on_other (take_all (reverse (option_to_list t)) s) (λ r z. then_on (close z) k) (take_other (reverse (option_to_list t)) s)
     (λ r z. on_other (close z) k (close_at_other z.frames z) h)
 
-else_of_other : (k : Kind) (t : Option ValType) (s : Stack) → Other (else_of k t s)
+else_of_other : (k : FrameKind) (t : Option ValType) (s : Stack) → Other (else_of k t s)
 else_of_other If t s = close_other t s (λ f z. Ok (open_frame Else t z)) (λ f z. tt)
 else_of_other Func t s = tt
 else_of_other Block t s = tt
@@ -206,20 +206,20 @@ end_other (f ∷ fs) s =
     both (may_end f.kind f.result) (drive_close f.result s (λ g z. Ok (give_to z.frames f.result z))) (Err why.Mismatch)
     (close_other f.result s (λ g z. Ok (give_to z.frames f.result z)) (λ g z. tt)) tt
 
-table_other : (t : Option Table) (r : Result Stack Why) → Other r → Other (with_table t r)
+table_other : (t : Option BrTable) (r : Result Stack Why) → Other r → Other (with_table t r)
 table_other t (Ok s) h = tt
 table_other t (Err w) h = h
 
-known_other : (u : Option ValType) (t : Table) (s : Stack) → Other (drive_known u t s)
+known_other : (u : Option ValType) (t : BrTable) (s : Stack) → Other (drive_known u t s)
 known_other u t s =
     both (nat_eq t.left 0) (with_table None (drive_diverges (option_to_list u) s)) (Ok (record { stacks = s; table = Some (record { left = t.left - 1; seen = Some u }) }))
     (table_other None (drive_diverges (option_to_list u) s) (diverges_other (option_to_list u) s)) tt
 
-label_other : (o : Option (Option ValType)) (t : Table) (s : Stack) → Other (drive_label o t s)
+label_other : (o : Option (Option ValType)) (t : BrTable) (s : Stack) → Other (drive_label o t s)
 label_other None t s = tt
 label_other (Some u) t s = both (goes_with t.seen u) (drive_known u t s) (Err why.Mismatch) (known_other u t s) tt
 
-drive_op_other : (c : Context) (x : Op) (t : Option Table) (s : Stack) → Other (drive_op c x t s)
+drive_op_other : (c : Context) (x : Op) (t : Option BrTable) (s : Stack) → Other (drive_op c x t s)
 drive_op_other c (op.Label l) (Some t) s = label_other (slice_get (labels_of s.frames) l) t s
 drive_op_other c (op.Simple p) None s =
     table_other None (drive (effect_of (within_frames c s.frames) p) s) (drive_other (effect_of (within_frames c s.frames) p) s (shape_other (within_frames c s.frames) p))

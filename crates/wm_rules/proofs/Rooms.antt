@@ -1,7 +1,6 @@
 -- Inside the expression of a code entry memory runs out nowhere where there is room.
-use Rattle.std.proofs.Common.{◌≡◌, ℕ, ◌<◌, List, [], ◌∷◌, Ok, length, inl, inr, sym, ◌∙◌, ap, subst, refl, arith}
+use Rattle.std.proofs.Common.{◌≡◌, ℕ, ◌<◌, List, [], Ok, length, inl, inr, sym, ◌∙◌, ap, subst, refl, arith}
 use Rattle.wm_syntax.specs.declared.profile.Profile.{Profile}
-use Rattle.wm_decode.specs.declared.machine.Machine.{Machine}
 use Rattle.wm_decode.specs.declared.state.Decoder.{Decoder}
 use Rattle.wm_decode.specs.Fronts.{InExpression}
 use Rattle.wm_decode.specs.exact.Live.{IsRefused, Live, live_at_start, live_with, MayTake}
@@ -35,6 +34,6 @@ no_memory d p limit before byte h i few low m =
     let o = runs_out_at_op MayRunOut p before h.0.are_bytes live i (live_with held d []) byte (at ∙ machine) (inl run_out) in
     let s = after_so_far held after (validator_setting p limit) d before ok h.0 in
     elim o.1 [
-      | inl refused ↦ refused (parts_unrefused (items_at s.marks) empty_checker d.sink s.taken refl)
+      | inl refused ↦ refused (parts_unrefused (items_at s.tells.marks) empty_checker d.sink s.tells.taken refl)
       | inr full ↦ elim full [ inl a ↦ omega (arith, a, few) | inr b ↦ omega (arith, b, low) ]
     ]

@@ -1,5 +1,5 @@
 -- What the checker makes of an item.
-use Rattle.std.proofs.Common.{◌≡◌, ℕ, true, List, [], ◌∷◌, map, Option, Some, None, Ok, Err, refl, sym, ◌∙◌, inl, inr, ◌⊎◌}
+use Rattle.std.proofs.Common.{◌≡◌, ℕ, true, List, [], ◌∷◌, map, Option, Some, None, Ok, Err, refl, sym, ◌∙◌, inl, inr}
 use Rattle.wm_syntax.specs.declared.why.Why.TheVariants as why
 use Rattle.wm_typing.specs.Answers.{Room}
 use Rattle.wm_typing.specs.Bodies.{Body}

@@ -1,5 +1,5 @@
 -- What a reader of numbers says of the bytes that it was given, one by one.
-use Rattle.std.specs.Prelude.{◌≡◌, ℕ, ◌+◌, ◌↔◌, List, [], ◌++◌}
+use Rattle.std.specs.Prelude.{◌≡◌, ℕ, ◌↔◌, List, [], ◌++◌}
 use Rattle.wm_syntax.specs.Spelling.{Form}
 use Rattle.wm_syntax.specs.declared.numbers.Step.{Step}
 use Rattle.wm_syntax.specs.declared.numbers.Step.TheVariants.{More, Done, Bad}

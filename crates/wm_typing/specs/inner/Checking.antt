@@ -6,7 +6,7 @@ use Rattle.wm_stacks.specs.Stack.{Stack}
 use Rattle.wm_typing.specs.declared.labels.BrTable.{BrTable}
 use Rattle.wm_typing.specs.Typing.{Context}
 use Rattle.wm_typing.specs.Contexts.{body_context, result_of}
-use Rattle.wm_typing.specs.OpenLists.{Place, within, IsSoFar, levels, deepest_so_far}
+use Rattle.wm_typing.specs.OpenLists.{Place, IsSoFar, levels, deepest_so_far}
 use Rattle.wm_syntax.specs.Instructions.{openings, endings}
 use Rattle.wm_typing.specs.inner.Frames.{Frames, Holds, TracksWith}
 use Rattle.wm_typing.specs.Bodies.{Body, Within}

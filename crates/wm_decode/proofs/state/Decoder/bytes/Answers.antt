@@ -1,4 +1,4 @@
-use Rattle.std.proofs.Common.{◌≡◌, ◌≤◌, ◌<◌, ◌+◌, ℕ, length, arith, ap}
+use Rattle.std.proofs.Common.{◌≡◌, length, arith, ap}
 use Rattle.wm_decode.proofs.Room.{only_byte}
 use Rattle.wm_decode.proofs.state.Decoder.bytes.Goals as goal
 
