@@ -1,13 +1,14 @@
 #!/usr/bin/env python3
 """Compares `wmod check` with node and wasm-validate, where these are there: `compare.py [SHAPE..]`.
 
-For each shape it makes a module of 7 MB, and prints MB/s of processor time (medians of seven runs, all programs in
+For each shape it makes a module of 7 MB, and prints MB/s of processor time (medians of five runs, all programs in
 turn), instructions a byte where valgrind is there, and the peak memory of wmod. With `--growth` it makes modules of
 2 MB and 8 MB and prints how many times the time a byte grows.
 """
 import json
 import os
 import pathlib
+import resource
 import shutil
 import statistics
 import subprocess
@@ -18,7 +19,7 @@ import make_module
 
 HERE = pathlib.Path(__file__).resolve().parent
 PROGRAM = HERE.parent / "crates/wm_cli/out/wm_cli"
-RUNS = 7
+RUNS = 5
 NODE = """
 const bytes = require('fs').readFileSync(process.argv[1]);
 const times = [];
@@ -38,13 +39,13 @@ def spent(command):
     """The processor seconds of a run, its peak memory in KiB, and whether it ended well."""
     # `time` starts it, since a child of Python itself would count Python's memory as its own
     with tempfile.NamedTemporaryFile("r") as out, open(os.devnull, "wb") as nothing:
-        before = os.times()
+        before = resource.getrusage(resource.RUSAGE_CHILDREN)
         ended = subprocess.run(
             ["/usr/bin/time", "-q", "-f", "%M", "-o", out.name, *command], stdout=nothing, stderr=nothing, check=False
         )
-        after = os.times()
+        after = resource.getrusage(resource.RUSAGE_CHILDREN)
         memory = int(out.read().split()[-1])
-    used = after.children_user + after.children_system - before.children_user - before.children_system
+    used = after.ru_utime + after.ru_stime - before.ru_utime - before.ru_stime
     return used, memory, ended.returncode == 0
 
 

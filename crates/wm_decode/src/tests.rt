@@ -610,7 +610,7 @@ fn sections_that_are_refused(rt: HostRuntime) -> Result<(), Fail> {
 }
 
 #[test]
-fn components_that_are_refused(rt: HostRuntime) -> Result<(), Fail> {
+fn members_that_are_refused(rt: HostRuntime) -> Result<(), Fail> {
     let cases: [(&str, &[u8], u64, Why); 11] = [
         (
             "a kind of import",

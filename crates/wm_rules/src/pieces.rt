@@ -34,7 +34,7 @@ pub fn validate(
     ensures refused { IfErr result (λ r. r.why ≢ Memory → (Accepted profile max_bytes (joined_bytes pieces.now) → ⊥)) }
     ensures same { IfErr result (λ r. r.why ≢ Memory → verdict profile max_bytes (joined_bytes pieces.now) ≡ Err r) }
     ensures place { IfErr result (λ r. r.at ≤ length (joined_bytes pieces.now)) }
-    // The header takes no memory.
+    // The header answers no `Memory`.
     ensures header { IfErr result (λ r. length (joined_bytes pieces.now) ≤ 8 → r.why ≢ Memory) }
 {
     read_pieces(alloc, profile, max_bytes, pieces).finish()

@@ -54,7 +54,7 @@ impl Validator {
         // A first refusal has its place in this piece.
         ensures in_piece { IfErr result (λ r. r.why ≢ Memory → refusal_in self.old ≡ None
             → HavingRead self.old (λ p limit before. length before < r.at)) }
-        // The header takes no memory.
+        // The header answers no `Memory`.
         ensures header { IfErr result (λ r.
             HavingRead self.old (λ p limit before. length (before ++ piece.now) ≤ 8 → r.why ≢ Memory)) }
         // `Float` comes only at a byte of floating-point numbers.
@@ -109,7 +109,7 @@ impl Validator {
         ensures at_end { IfErr result (λ r. refusal_in self ≡ None → HavingRead self (λ p limit input. r.at ≡ length input)) }
         ensures header { IfErr result (λ r. HavingRead self (λ p limit input. length input ≤ 8 → r.why ≢ Memory)) }
         ensures float { IfErr result (λ r. r.why ≡ Float → HavingRead self (λ p limit input. EndsInFloat input r)) }
-        // The end takes no memory: where no piece was refused this is not answered.
+        // The end answers no `Memory` of its own: only where a piece was refused so.
         ensures memory { IfErr result (λ r. r.why ≡ Memory → HavingRead self (λ p limit input. refusal_in self ≡ Some r)) }
         ensures sticky { (r : Refusal) → refusal_in self ≡ Some r → result ≡ Err r }
     {
