@@ -10,13 +10,13 @@ use clap::error::ErrorKind;
 use std::fmt::Display;
 use std::io;
 
-/// Says what went wrong.
+/// Says what went wrong. No clause: what standard error gets no contract can say.
 pub fn complain<R: Eprint, D: Display>(rt: &R, what: &D) {
     // where standard error fails too there is no one left to tell
     let _ = eprintln!(rt; "wmod: {what}");
 }
 
-/// Says what went wrong, and then with which file, and why.
+/// Says what went wrong, and then with which file, and why. No clause, for the same reason.
 pub fn complain_of<R: Eprint, D: Display>(rt: &R, what: &D, file: &str, cause: io::Error) {
     complain(rt, what);
     let _ = eprintln!(rt; "wmod: {file}: {cause}");

@@ -11,7 +11,8 @@ use std::{fs, io};
 use wm_syntax::io::input::Input as InputOf;
 use wm_syntax::io::output::Output as OutputOf;
 
-/// Opens what the line names and does what it says.
+/// Opens what the line names and does what it says. No clause: what a file holds no contract can say. What is done
+/// with its bytes `run_line` says.
 pub fn execute<R: Files + Input + Print + Eprint + AllocGlobal>(rt: &R, line: &Line) -> Status {
     match line.path() {
         None => follow(rt, line, "standard input", rt.reader()),

@@ -11,11 +11,13 @@ pub struct Witness<T> {
 }
 
 impl<T> Witness<T> {
+    /// A reader or a writer that has answered no error. No clause: which error is kept is for a
+    /// complaint alone, and tests show it.
     pub fn new(inner: T) -> Self {
         Witness { inner, error: None }
     }
 
-    /// The last error.
+    /// The last error. No clause, as for `new`.
     pub fn error(&self) -> Option<io::Error> {
         self.error
     }
