@@ -6,11 +6,11 @@ ghost use Rattle.wm_syntax.specs.Instructions.{Instructions};
 ghost use Rattle.wm_syntax.specs.inner.Builders.{fits, fits_list, is_else, is_first, last_of, last_set, next_left, next_open, next_ops};
 
 use crate::body::Body;
+use crate::instructions::Op;
 use std::alloc::Global;
 use std::error::Error;
 use std::fmt;
 use std::marker::Model;
-use crate::instructions::Op;
 
 #[cfg(test)]
 mod tests;
@@ -103,7 +103,12 @@ fn push_end(ops: &mut Vec<Op>) -> Result<(), BodyFault>
 }
 
 // An op that opens a list.
-fn push_open(ops: &mut Vec<Op>, begun: &mut Vec<Opened>, op: Op, opened: Opened) -> Result<(), BodyFault>
+fn push_open(
+    ops: &mut Vec<Op>,
+    begun: &mut Vec<Opened>,
+    op: Op,
+    opened: Opened,
+) -> Result<(), BodyFault>
     ensures ok { OnOk result ((ops.new.items ≡ ops.old.items ++ op ∷ []) × (begun.new.items ≡ begun.old.items ++ opened ∷ [])) }
     ensures err { IfErr result (λ fault. (fault ≡ BodyFault.Memory) × (ops.new.items ≡ ops.old.items) × (begun.new.items ≡ begun.old.items)) }
 {
@@ -120,7 +125,12 @@ fn push_open(ops: &mut Vec<Op>, begun: &mut Vec<Opened>, op: Op, opened: Opened)
 }
 
 // Takes an op where it may stand.
-fn push_op(ops: &mut Vec<Op>, begun: &mut Vec<Opened>, left: &mut u64, op: Op) -> Result<(), BodyFault>
+fn push_op(
+    ops: &mut Vec<Op>,
+    begun: &mut Vec<Opened>,
+    left: &mut u64,
+    op: Op,
+) -> Result<(), BodyFault>
     ensures ok { OnOk result ((ops.new.items ≡ next_ops op ops.old.items) × (begun.new.items ≡ next_open op begun.old.items) × (left.new ≡ next_left op left.old)) }
     ensures err { OnErr result ((ops.new.items ≡ ops.old.items) × (begun.new.items ≡ begun.old.items) × (left.new ≡ left.old)) }
     ensures fits { fits begun.old.items left.old op ≡ true → result ≢ Err BodyFault.Unbalanced }
