@@ -27,3 +27,7 @@ pub mod Figures
 pub mod SourceLemmas
 pub mod JoinedPieces
 pub mod NeverFloat
+pub mod BothSinks
+pub mod ChangedLast
+pub mod BuiltData
+pub mod BuiltModules

@@ -1,6 +1,8 @@
 //! The rules of whole modules (sections 3.2, 3.3.7 and 3.4 of the specification).
 #![tactic(auto)]
 
+mod both;
+mod builder;
 mod checker;
 mod constants;
 mod export_names;
@@ -13,6 +15,8 @@ mod spaces;
 mod tests;
 mod validator;
 
+pub use both::Both;
+pub use builder::Builder;
 pub use checker::{Checker, Summary};
 pub use pieces::{read_pieces, validate};
 pub use reading::{FromFault, validate_from};

@@ -1,0 +1,4 @@
+pub mod Builders
+pub mod Building
+pub mod Codes
+pub mod Values

@@ -1,0 +1,10 @@
+use Rattle.std.proofs.Common.{◌∙◌, refl}
+use Rattle.std.proofs.lemmas.Bool.{false_from_ne_true}
+use Rattle.std.proofs.lemmas.Str.{IsUtf8-from_is_utf8, is_utf8-from_IsUtf8}
+use Rattle.wm_rules.proofs.builder.name_of.Goals as goal
+
+pub returns-in-Ok-from_str-clause-ok : goal.returns-in-Ok-from_str-clause-ok
+returns-in-Ok-from_str-clause-ok c = (c.in-Ok-from_str.ensures.ok ∙ c.in-Ok.ensures.cases.0, is_utf8-from_IsUtf8 _ c.in-Ok.ensures.cases.1)
+
+pub returns-in-Err-clause-err : goal.returns-in-Err-clause-err
+returns-in-Err-clause-err c = λ ne. (refl, false_from_ne_true _ (λ e. c.in-Err.ensures.cases.0 (IsUtf8-from_is_utf8 _ e)))
