@@ -31,3 +31,9 @@ pub mod BothSinks
 pub mod ChangedLast
 pub mod BuiltData
 pub mod BuiltModules
+pub mod FrameKinds
+pub mod FollowedOps
+pub mod FollowedItems
+pub mod LoadedModules
+pub mod SameAnswers
+pub mod LoaderCalls

@@ -16,10 +16,13 @@ ghost use Rattle.wm_decode.specs.Flat.{FlatCode, FlatModule, IsFlatOf, code_item
 ghost use Rattle.wm_decode.specs.exact.TwoSinks.{after_both};
 ghost use Rattle.wm_syntax.specs.Modules.{Module, locals_of};
 ghost use Rattle.wm_rules.specs.exact.Spaces.{context_of, next_type};
-ghost use Rattle.wm_rules.specs.exact.Built.{after as built_after, holding, nothing};
+ghost use Rattle.wm_rules.specs.exact.Built.{Built, after as built_after, holding, nothing};
+ghost use Rattle.wm_decode.specs.inner.Decoders.{answer_of};
+ghost use Rattle.wm_rules.specs.Loading.{Loads, SameAnswer};
+ghost use Rattle.wm_rules.specs.inner.Loading.{loader_after, loader_setting};
 ghost use Rattle.wm_rules.specs.declared.validator.Validator.{Validator};
 ghost use Rattle.wm_rules.specs.Validating.{AtMoment, KeepsOf};
-ghost use Rattle.wm_rules.specs.inner.Validators.{HasRead, kept_in, validator_setting};
+ghost use Rattle.wm_rules.specs.inner.Validators.{HasRead, kept_in, validator_setting, verdict};
 
 use wm_decode::Sink;
 
@@ -80,4 +83,20 @@ pub fn items_build_their_module()
         → AllByRecursion (λ i. IsUtf8 i.module_name × IsUtf8 i.item_name) m.imports
         → AllByRecursion (λ e. IsUtf8 e.name) m.exports
         → all_taken built_after nothing (flat_items v) ≡ Ok (holding m (map (λ f. f.type_index) m.functions)) }
+{}
+
+/// A checker and a builder take the items of an input exactly where it is accepted, and the builder then holds the
+/// module that it spells.
+pub fn taken_is_loaded()
+    ensures to { (p : Profile) (limit : ℕ) (input : List ℕ) (h : Held) (b : Built)
+        → Takes loader_after (loader_setting p limit) input (h, b) → Loads p limit input b.value }
+    ensures from { (p : Profile) (limit : ℕ) (input : List ℕ) (m : Module) → Loads p limit input m
+        → (h : Held) × (b : Built) × Takes loader_after (loader_setting p limit) input (h, b) × (b.value ≡ m) }
+{}
+
+/// A loader answers a whole input as a validator does: the same refusal at the same place, or with a module where that
+/// answers with a summary.
+pub fn loader_answers_as_validator()
+    ensures { (p : Profile) (limit : ℕ) (input : List ℕ)
+        → SameAnswer (verdict p limit input) (answer_of loader_after (loader_setting p limit) input) }
 {}
