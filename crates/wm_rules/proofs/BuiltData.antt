@@ -31,7 +31,7 @@ data_all [] h =
 data_all (c ∷ bytes) h =
     data_all bytes (with_segments h (change_last (longer (c ∷ [])) h.value.segments))
     ∙ ap (λ ss. Ok (with_segments h ss)) (last_again (longer (c ∷ [])) (longer bytes) h.value.segments
-      ∙ same_last (λ s. longer bytes (longer (c ∷ []) s)) (longer (c ∷ bytes)) (λ s. ap (λ b. record s { bytes = b }) (append_assoc s.bytes (c ∷ []) bytes)) h.value.segments)
+    ∙ same_last (λ s. longer bytes (longer (c ∷ []) s)) (longer (c ∷ bytes)) (λ s. ap (λ b. record s { bytes = b }) (append_assoc s.bytes (c ∷ []) bytes)) h.value.segments)
 
 pub bytes_took : (bytes : List ℕ) (h : Built) (ss : List Segment) (r : Result (Unit {0}) Why) → Taken (Ok (change_last (longer bytes) h.value.segments)) r ss → Took after h (map data_byte bytes) r (with_segments h ss)
 bytes_took [] h ss (Ok u) t = data_all [] h ∙ ap (λ z. Ok (with_segments h z)) (let q : change_last (longer []) h.value.segments ≡ ss = cc (t) in q)

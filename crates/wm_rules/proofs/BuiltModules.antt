@@ -15,9 +15,9 @@ use Rattle.wm_syntax.specs.declared.why.Why.TheVariants as why
 use Rattle.wm_syntax.specs.Types.{Signature}
 use Rattle.wm_syntax.specs.Modules.{Module, Import, Function, GlobalDef, Export, Element, Segment}
 use Rattle.wm_syntax.specs.Modules as modules
-use Rattle.wm_held.specs.Building.{Place, at, start, placed, if_placed, place_after}
-use Rattle.wm_held.proofs.Places.{leads}
-use Rattle.wm_stacks.specs.exact.Runs.{add_run}
+use Rattle.wm_syntax.specs.Building.{Place, at, start, placed, if_placed, place_after}
+use Rattle.wm_syntax.proofs.Places.{leads}
+use Rattle.wm_syntax.specs.exact.Runs.{add_run}
 use Rattle.wm_syntax.specs.Modules.{locals_of}
 use Rattle.wm_decode.specs.Items.{Item, param, result_count, one_result, import_name, import_desc, function, table, memory, global, const_op, export, element, element_function, locals, body_op, segment, data_byte}
 use Rattle.wm_decode.specs.Sinks.{and_then, all_taken}
@@ -140,9 +140,9 @@ element_built m xs es e v r =
     ap (λ t. all_taken after (elements_held m xs es) (element t ∷ map const_op v.offset ++ map element_function v.functions)) r.0
     ∙ ap (λ o. all_taken after (expecting (purpose.Element e.table) (elements_held m xs es)) (map const_op o ++ map element_function v.functions)) r.1
     ∙ first_then (map const_op (constant_ops e.offset)) (map element_function v.functions) (expecting (purpose.Element e.table) (elements_held m xs es)) _
-      (constant_built (purpose.Element e.table) e.offset (record m { elements = es }) xs)
+    (constant_built (purpose.Element e.table) e.offset (record m { elements = es }) xs)
     ∙ each_part_only (λ fs. elements_held m xs (es ++ record { table = e.table; offset = e.offset; functions = fs } ∷ [])) element_function
-      (λ fs y. element_function_taken m xs es e.table e.offset fs y) [] v.functions
+    (λ fs y. element_function_taken m xs es e.table e.offset fs y) [] v.functions
     ∙ ap (λ fs. Ok (elements_held m xs (es ++ record { table = e.table; offset = e.offset; functions = fs } ∷ []))) r.2
 
 abbrev segments_held : Module → List ℕ → List Segment → Built
@@ -158,9 +158,9 @@ segment_built m xs ss s v r =
     ap (λ t. all_taken after (segments_held m xs ss) (segment t ∷ map const_op v.offset ++ map data_byte v.bytes)) r.0
     ∙ ap (λ o. all_taken after (expecting (purpose.Segment s.memory) (segments_held m xs ss)) (map const_op o ++ map data_byte v.bytes)) r.1
     ∙ first_then (map const_op (constant_ops s.offset)) (map data_byte v.bytes) (expecting (purpose.Segment s.memory) (segments_held m xs ss)) _
-      (constant_built (purpose.Segment s.memory) s.offset (record m { segments = ss }) xs)
+    (constant_built (purpose.Segment s.memory) s.offset (record m { segments = ss }) xs)
     ∙ each_part_only (λ bs. segments_held m xs (ss ++ record { memory = s.memory; offset = s.offset; bytes = bs } ∷ [])) data_byte
-      (λ bs c. byte_taken m xs ss s.memory s.offset bs c) [] v.bytes
+    (λ bs c. byte_taken m xs ss s.memory s.offset bs c) [] v.bytes
     ∙ ap (λ bs. Ok (segments_held m xs (ss ++ record { memory = s.memory; offset = s.offset; bytes = bs } ∷ []))) r.2
 
 -- code entries

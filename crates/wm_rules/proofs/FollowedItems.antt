@@ -13,16 +13,16 @@ use Rattle.wm_syntax.specs.declared.why.Why.{Why}
 use Rattle.wm_syntax.specs.declared.why.Why.TheVariants as why
 use Rattle.wm_syntax.specs.Instructions.{Instructions}
 use Rattle.wm_stacks.specs.declared.entries.Frame.{Frame}
-use Rattle.wm_stacks.specs.Runs.{same}
-use Rattle.wm_stacks.specs.exact.Runs.{add_run}
+use Rattle.wm_syntax.specs.Runs.{same}
+use Rattle.wm_syntax.specs.exact.Runs.{add_run}
 use Rattle.wm_typing.specs.Bodies.{Body, stats_after, BodyState}
 use Rattle.wm_typing.specs.exact.Ops.{step}
 use Rattle.wm_typing.specs.exact.Bodies.{body_at_start, context_in, declared_to, declared_more, progress_at, body_after_op, body_from, unless_refused, while_open, with_state}
 use Rattle.wm_typing.specs.Probes.{probes_in}
 use Rattle.wm_typing.specs.Typing.{function_type}
 use Rattle.wm_syntax.specs.declared.modules.ExportKind.TheVariants as kind
-use Rattle.wm_held.specs.Building.{Place, at, labels, placed}
-use Rattle.wm_held.specs.Building as places
+use Rattle.wm_syntax.specs.Building.{Place, at, labels, placed}
+use Rattle.wm_syntax.specs.Building as places
 use Rattle.wm_decode.specs.Items.{Item, new_type, param, result_count, one_result, import_module, import_name, import_desc, function, table, memory, global, const_op, export_name, export, start, element, element_function, body, locals, body_op, segment, data_byte}
 use Rattle.wm_decode.specs.Sinks.{and_then}
 use Rattle.wm_decode.proofs.Alike.{IsGiven}
@@ -103,9 +103,12 @@ given : (h h' : holding.Held) (b : Built) (k : Constant) (j : Pending) (v : Opti
     → with_constant h (first_only k r) ≡ Ok h' → (b' : Built) × (valued c b j v ≡ Ok b') × Agrees h' b'
 given h h' b k j (Some d) c r is seen f code e = let z = subst (λ s. with_constant h (cond s (Err why.Arity) r) ≡ Ok h') seen e in absurd (cc (z))
 given h h' b k j None c r is seen f code e =
-    let z = with_constant_ok h h' r (subst (λ s. with_constant h (cond s (Err why.Arity) r) ≡ Ok h') seen e) in
-    (record b { constant = Some (record j { value = Some c }) }, refl, subst (λ y. Agrees y (record b { constant = Some (record j { value = Some c }) })) z.2
-      (record { constant = subst (λ y. SameConstant y (Some (record j { value = Some c }))) (sym (f z.0 z.1)) refl; code = code }))
+    let z = with_constant_ok h h' r (subst (λ s. with_constant h (cond s (Err why.Arity) r) ≡ Ok h') seen e) in (
+      record b { constant = Some (record j { value = Some c }) },
+      refl,
+      subst (λ y. Agrees y (record b { constant = Some (record j { value = Some c }) })) z.2
+          (record { constant = subst (λ y. SameConstant y (Some (record j { value = Some c }))) (sym (f z.0 z.1)) refl; code = code }),
+    )
 
 ended_constant : (h h' : holding.Held) (b : Built) (k : Constant) (j : Pending) (v : Option Const) → k.seen ≡ is_some v → SameCode h.in_body h.body b.code
     → with_constant h (cond k.seen (Ok None) (Err why.Arity)) ≡ Ok h' → (b' : Built) × (constant_ended b j v ≡ Ok b') × Agrees h' b'
@@ -145,9 +148,11 @@ offset_follows h h' b p (Err w) n code e = absurd (cc (e))
 body_follows : (h h' : holding.Held) (b : Built) (x : Option ℕ) → SameConstant h.constant b.constant → body_begun h x ≡ Ok h' → Takes h' b body
 body_follows h h' b None con e = absurd (cc (e))
 body_follows h h' b (Some x) con e =
-    let q : record h { spaces = record h.spaces { bodies = h.spaces.bodies + 1 }; body = body_at_start (context_of h.spaces) x; in_body = true } ≡ h' = cc (e) in
-    (record b { code = Some (record { locals = []; body = places.start }) }, refl,
-     subst (λ z. Agrees z (record b { code = Some (record { locals = []; body = places.start }) })) q (record { constant = con; code = (refl, (refl, refl)) }))
+    let q : record h { spaces = record h.spaces { bodies = h.spaces.bodies + 1 }; body = body_at_start (context_of h.spaces) x; in_body = true } ≡ h' = cc (e) in (
+      record b { code = Some (record { locals = []; body = places.start }) },
+      refl,
+      subst (λ z. Agrees z (record b { code = Some (record { locals = []; body = places.start }) })) q (record { constant = con; code = (refl, (refl, refl)) }),
+    )
 
 unrefused : {A : Type 0} (o : Option Why) (r : Result A Why) (a : A) → unless_refused o r ≡ Ok a → r ≡ Ok a
 unrefused None r a e = e
@@ -169,9 +174,11 @@ locals_follow h h' b n t true (Some c) con is code e =
     let z = with_body_ok h h' (declared_more n t h.body) e in
     let d = declared_ok h.body (add_run n t h.body.declared) z.0 (unrefused h.body.refused (declared_to h.body (add_run n t h.body.declared)) z.0 z.1) in
     let r : add_run n t c.locals ≡ Ok d.0 = ap (add_run n t) (sym code.0) ∙ d.1 in
-    let b' = record b { code = Some (record c { locals = d.0 }) } in
-    (b', ap (λ y. and_then y (λ ts. Ok (record b { code = Some (record c { locals = ts }) }))) r,
-     subst (λ y. Agrees y b') z.2 (record { constant = con; code = subst (λ j. SameCode j z.0 (Some (record c { locals = d.0 }))) is (d.2, subst (λ st. SamePlace st c.body) (sym d.3) code.1) }))
+    let b' = record b { code = Some (record c { locals = d.0 }) } in (
+      b',
+      ap (λ y. and_then y (λ ts. Ok (record b { code = Some (record c { locals = ts }) }))) r,
+      subst (λ y. Agrees y b') z.2 (record { constant = con; code = subst (λ j. SameCode j z.0 (Some (record c { locals = d.0 }))) is (d.2, subst (λ st. SamePlace st c.body) (sym d.3) code.1) }),
+    )
 
 stepped_ok : (h h' : holding.Held) (r : Result Body Why) → checker_after_op h r ≡ Ok h' → (z : Body) × (r ≡ Ok z) × (with_progress h z (progress_at z.state.stacks.frames) ≡ h')
 stepped_ok h h' (Ok z) e = (z, refl, cc (e))
@@ -204,9 +211,12 @@ op_follows h h' b x true (Some c) con is code e =
       | inl f ↦
           let o = frames_open s.0 f.0 f.2 in
           let b' = record b { code = Some (record c { body = f.0 }) } in
-          let held : record h { body = with_state h.body probes s.0 } ≡ h' = ap (λ gs. with_progress h (with_state h.body probes s.0) (progress_at gs)) (sym o.2) ∙ fin in
-          (b', ap (if_it_stands x b c) f.1, subst (λ y. Agrees y b') held
-            (record { constant = con; code = subst (λ j. SameCode j (with_state h.body probes s.0) (Some (record c { body = f.0 }))) is (ap (λ gs. while_open gs h.body.declared) o.2 ∙ code.0, f.2) }))
+          let held : record h { body = with_state h.body probes s.0 } ≡ h' = ap (λ gs. with_progress h (with_state h.body probes s.0) (progress_at gs)) (sym o.2) ∙ fin in (
+            b',
+            ap (if_it_stands x b c) f.1,
+            subst (λ y. Agrees y b') held
+                (record { constant = con; code = subst (λ j. SameCode j (with_state h.body probes s.0) (Some (record c { body = f.0 }))) is (ap (λ gs. while_open gs h.body.declared) o.2 ∙ code.0, f.2) }),
+          )
       | inr f ↦
           let b' = record b { value = record b.value { functions = b.value.functions ++ record { type_index = building.next_type b; locals = c.locals; body = f.0 } ∷ [] }; code = None } in
           let held = ap (λ gs. with_progress h (with_state h.body probes s.0) (progress_at gs)) (sym f.3) ∙ fin in

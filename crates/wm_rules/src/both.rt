@@ -7,7 +7,7 @@ use wm_decode::{Item, Sink};
 use wm_syntax::why::Why;
 
 /// Two sinks that receive the same items: the first is asked first.
-#[derive(Drop)]
+#[derive(Debug, Drop)]
 pub struct Both<A, B> {
     pub first: A,
     pub second: B,

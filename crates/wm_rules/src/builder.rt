@@ -8,16 +8,17 @@ ghost use Rattle.wm_decode.specs.Sinks.{Taken};
 ghost use Rattle.wm_decode.specs.Items.{body, export, export_name, import_desc, import_module, import_name, new_type};
 ghost use Rattle.wm_rules.specs.exact.Built.{Built, after, body_ended, constant_ended, constant_taken, expecting, locals_taken, nothing, change_last, op_taken, valued};
 ghost use Rattle.wm_rules.specs.inner.Builders.{built};
-ghost use Rattle.wm_held.specs.Values.{value_of};
+ghost use Rattle.wm_syntax.specs.Values.{value_of};
 
 use std::alloc::Global;
 use std::mem;
 use wm_decode::{Item, Sink};
-use wm_held::body_builder::{BodyBuilder, BodyFault};
-use wm_held::module::{Element, Export, Function, GlobalDef, Import, Module, Segment};
-use wm_stacks::run_table::RunTable;
+use wm_syntax::body_builder::{BodyBuilder, BodyFault};
 use wm_syntax::instructions::{Op, Simple};
-use wm_syntax::modules::{ExportKind, ImportDesc};
+use wm_syntax::locals::Locals;
+use wm_syntax::modules::{
+    Element, Export, ExportKind, Function, GlobalDef, Import, ImportDesc, Module, Segment,
+};
 use wm_syntax::types::{Const, FuncType, GlobalType, ValType};
 use wm_syntax::why::Why;
 
@@ -37,14 +38,14 @@ pub struct Pending {
 }
 
 // A code entry at hand: its locals and its body so far.
-#[derive(Drop)]
+#[derive(Debug, Drop)]
 pub struct Code {
-    locals: RunTable,
+    locals: Locals,
     body: BodyBuilder,
 }
 
 /// Makes a module of its items.
-#[derive(Drop)]
+#[derive(Debug, Drop)]
 pub struct Builder {
     alloc: Global,
     module_value: Module,
@@ -344,7 +345,10 @@ impl Builder {
         };
         self.constant = None;
         match pending.purpose {
-            Purpose::Global(ty) => push(&mut self.module_value.globals, GlobalDef { ty, init: value }),
+            Purpose::Global(ty) => push(
+                &mut self.module_value.globals,
+                GlobalDef { ty, init: value },
+            ),
             Purpose::Element(table) => {
                 let element = Element {
                     table,
@@ -368,7 +372,7 @@ impl Builder {
         ensures { Ok (built self.new) ≡ after (built self.old) body }
     {
         self.code = Some(Code {
-            locals: RunTable::new(self.alloc),
+            locals: Locals::new(self.alloc),
             body: BodyBuilder::new(self.alloc),
         });
     }

@@ -4,7 +4,7 @@ ghost use Rattle.std.specs.Prelude.{◌≡◌, ◌≢◌, ◌<◌, ◌≤◌, �
 ghost use Rattle.wm_syntax.specs.declared.why.Why.TheVariants.{Float, Memory};
 ghost use Rattle.wm_decode.specs.declared.refusal.Refusal.{Refusal};
 ghost use Rattle.wm_decode.specs.Decoding.{EndsInFloat};
-ghost use Rattle.wm_held.specs.Values.{value_of};
+ghost use Rattle.wm_syntax.specs.Values.{value_of};
 ghost use Rattle.wm_rules.specs.Loading.{IsLoaded, Loads};
 ghost use Rattle.wm_rules.specs.Validating.{NeverAccepted};
 ghost use Rattle.wm_rules.specs.Validation.{Accepted};
@@ -17,7 +17,7 @@ use crate::builder::Builder;
 use crate::checker::Checker;
 use std::alloc::Global;
 use wm_decode::{Decoder, Refusal};
-use wm_held::module::Module;
+use wm_syntax::modules::Module;
 use wm_syntax::profile::Profile;
 
 mod state;

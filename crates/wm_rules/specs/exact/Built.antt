@@ -15,13 +15,13 @@ use Rattle.wm_syntax.specs.declared.why.Why.TheVariants as why
 use Rattle.wm_syntax.specs.Types.{Signature}
 use Rattle.wm_syntax.specs.Modules.{Module, Import, Function, GlobalDef, Export, Element, Segment}
 use Rattle.wm_syntax.specs.Modules as modules
-use Rattle.wm_held.specs.Building.{Place, at, labels, placed}
-use Rattle.wm_held.specs.Building as building
+use Rattle.wm_syntax.specs.Building.{Place, at, labels, placed}
+use Rattle.wm_syntax.specs.Building as building
 use Rattle.wm_rules.specs.declared.builder.Purpose.{Purpose}
 use Rattle.wm_rules.specs.declared.builder.Purpose.TheVariants as purpose
 use Rattle.wm_rules.specs.declared.builder.Pending.{Pending}
 use Rattle.wm_rules.specs.declared.builder.Code.{Code}
-use Rattle.wm_stacks.specs.exact.Runs.{add_run}
+use Rattle.wm_syntax.specs.exact.Runs.{add_run}
 use Rattle.wm_decode.specs.Items.{Item, new_type, param, result_count, one_result, import_module, import_name, import_desc, function, table, memory, global, const_op, export_name, export, start, element, element_function, body, locals, body_op, segment, data_byte}
 use Rattle.wm_decode.specs.Sinks.{and_then}
 

@@ -1,6 +1,6 @@
 -- What a builder holds.
 use Rattle.std.specs.String.{string_bytes}
-use Rattle.wm_held.specs.Values.{value_of}
+use Rattle.wm_syntax.specs.Values.{value_of}
 use Rattle.wm_rules.specs.declared.builder.Builder.{Builder}
 use Rattle.wm_rules.specs.exact.Built.{Built}
 

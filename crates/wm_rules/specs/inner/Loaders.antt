@@ -3,7 +3,7 @@ use Rattle.std.specs.Prelude.{ℕ, List, Option}
 use Rattle.wm_syntax.specs.declared.profile.Profile.{Profile}
 use Rattle.wm_decode.specs.declared.refusal.Refusal.{Refusal}
 use Rattle.wm_decode.specs.Fronts.{Tells}
-use Rattle.wm_held.specs.declared.module.Module.{Module}
+use Rattle.wm_syntax.specs.declared.modules.Module.{Module}
 use Rattle.wm_rules.specs.declared.loader.state.Checked.{Checked}
 use Rattle.wm_rules.specs.declared.loader.state.Loader.{Loader}
 use Rattle.wm_rules.specs.inner.Loading.{LoaderHeld, LoaderRead, held_of_state, loader_after, loader_setting, refusal_of_state}

@@ -1,4 +1,0 @@
-pub mod Builders
-pub mod Building
-pub mod Codes
-pub mod Values
