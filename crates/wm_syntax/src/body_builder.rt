@@ -7,6 +7,8 @@ ghost use Rattle.wm_syntax.specs.inner.Builders.{fits, fits_list, is_else, is_fi
 
 use crate::body::Body;
 use std::alloc::Global;
+use std::error::Error;
+use std::fmt;
 use std::marker::Model;
 use crate::instructions::Op;
 
@@ -24,14 +26,25 @@ enum Opened {
     Second,
 }
 
-/// Why an op is not taken.
+/// Why an op, or the end of a body, is not taken.
 #[derive(Clone, Copy, PartialEq, Eq, Debug)]
 pub enum BodyFault {
-    /// It can't stand there.
+    /// No body has ops that begin so, or, at the end, these ops.
     Unbalanced,
     /// A growth was refused.
     Memory,
 }
+
+impl fmt::Display for BodyFault {
+    fn fmt<W: fmt::Write>(&self, f: &mut fmt::Formatter<W>) -> fmt::Result {
+        f.write_str(match self {
+            BodyFault::Unbalanced => "these ops open and close no list of instructions",
+            BodyFault::Memory => "memory ran out",
+        })
+    }
+}
+
+impl Error for BodyFault {}
 
 // Whether an op may stand in a list of instructions.
 fn fits_list(begun: &[Opened], op: Op) -> bool
@@ -144,7 +157,8 @@ fn push_op(ops: &mut Vec<Op>, begun: &mut Vec<Opened>, left: &mut u64, op: Op) -
     }
 }
 
-/// Builds a body op by op. Contracts see where the ops so far stand.
+/// Builds a body op by op. Contracts see where the ops so far stand; the laws `ops_lead_to_their_body` and
+/// `ops_lead_on` say which ops lead where.
 #[derive(Debug, Drop)]
 pub struct BodyBuilder {
     ops: Vec<Op>,
