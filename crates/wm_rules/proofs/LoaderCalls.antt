@@ -1,5 +1,5 @@
 -- What is true of a loader after a piece, after a refusal and at the end.
-use Rattle.std.proofs.Common.{◌≡◌, ◌≢◌, ℕ, ◌≤◌, ◌<◌, List, ◌++◌, Option, Some, None, Result, Ok, Err, IsOk, length, inl, inr, sym, ◌∙◌, subst}
+use Rattle.std.proofs.Common.{◌≡◌, ◌≢◌, ℕ, ◌≤◌, ◌<◌, List, [], ◌++◌, Option, Some, None, Result, Ok, Err, IsOk, length, inl, inr, refl, arith, sym, ◌∙◌, subst}
 use Rattle.wm_syntax.specs.declared.profile.Profile.{Profile}
 use Rattle.wm_syntax.specs.declared.why.Why.TheVariants as why
 use Rattle.wm_decode.specs.declared.refusal.Refusal.{Refusal}
@@ -8,8 +8,9 @@ use Rattle.wm_decode.specs.exact.Live.{Live, decoder_after, live_at_start, state
 use Rattle.wm_decode.proofs.DecoderCalls.{after_so_far, live_after, stands_refused}
 use Rattle.wm_rules.specs.exact.Checking.{after, empty_checker}
 use Rattle.wm_rules.specs.Holding.{Held}
-use Rattle.wm_rules.specs.inner.Loading.{LoaderHeld, LoaderRead, Reading, loader_after, loader_held, loader_setting}
-use Rattle.wm_rules.specs.inner.Loaders.{TellsBoth}
+use Rattle.wm_rules.specs.declared.loader.state.Loader.{Loader}
+use Rattle.wm_rules.specs.inner.Loading.{LoaderHeld, LoaderRead, Reading, loader_after, loader_held, loader_setting, refusal_of_state}
+use Rattle.wm_rules.specs.inner.Loaders.{HasLoaded, TellsBoth, refusal_of}
 use Rattle.wm_rules.specs.inner.Validators.{RefusedAfter, verdict}
 use Rattle.wm_rules.proofs.SameAnswers.{refused_so_far, taken_so_far}
 use Rattle.wm_rules.proofs.Verdicts as verdicts
@@ -54,3 +55,19 @@ module _ (p : Profile) (limit : ℕ) where
 
   pub no_float_at_end : (d : Reading) (input : List ℕ) (r : Refusal) → LoaderRead (Ok d) p limit input → verdict p limit input ≡ Err r → r.why ≢ why.Float
   no_float_at_end d input r h = let l = came_to d input h in verdicts.no_float_at_end p limit input r l.0 l.1
+
+  -- what it has read without a refusal is within the limit
+  pub within_limit : (l : Loader) (bytes : List ℕ) → HasLoaded l p limit bytes → refusal_of l ≡ None → length bytes ≤ limit
+  within_limit l bytes h none = go l.state h none
+    where
+      go : (s : Result Reading Refusal) → LoaderRead s p limit bytes → refusal_of_state s ≡ None → length bytes ≤ limit
+      go (Ok d) h none = let m = came_to d bytes h in verdicts.fits p limit bytes m.0 m.1
+      go (Err r) h none = absurd (cc)
+
+-- nothing is refused before anything is read
+pub none_refused : (l : Loader) (p : Profile) (limit : ℕ) → HasLoaded l p limit [] → refusal_of l ≡ None
+none_refused l p limit h = go l.state h
+  where
+    go : (s : Result Reading Refusal) → LoaderRead s p limit [] → refusal_of_state s ≡ None
+    go (Ok d) h = refl
+    go (Err r) h = elim h.stands [ inl e ↦ absurd (cc (e)) | inr m ↦ (let p = h.place in absurd (omega (arith, p, m.1))) ]

@@ -21,6 +21,6 @@ pub use builder::Builder;
 pub use checker::{Checker, Summary};
 pub use loader::{Checked, Loader};
 pub use pieces::{read_pieces, validate};
-pub use reading::{FromFault, validate_from};
+pub use reading::{FromFault, load_from, validate_from};
 pub use spaces::Spaces;
 pub use validator::Validator;
