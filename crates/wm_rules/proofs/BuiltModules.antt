@@ -24,7 +24,7 @@ use Rattle.wm_decode.specs.Sinks.{and_then, all_taken}
 use Rattle.wm_decode.specs.Flat.{FlatModule, FlatGlobal, FlatElement, FlatCode, FlatSegment, type_items, import_items, global_items, export_items, start_items, element_items, code_items, segment_items, flat_items, constant_ops, IsFlatOf, IsIndexOf, IsCodeOf, IsGlobalOf, IsElementOf, IsSegmentOf}
 use Rattle.wm_rules.specs.declared.builder.Purpose.{Purpose}
 use Rattle.wm_rules.specs.declared.builder.Purpose.TheVariants as purpose
-use Rattle.wm_rules.specs.exact.Built.{Built, change_last, holding, nothing, expecting, member_added, if_it_stands, a_name, after}
+use Rattle.wm_rules.specs.exact.Built.{Built, change_last, holding, nothing, expecting, member_added, if_it_stands, name_from, after}
 
 -- a fold over items, put together
 then_more : (r : Result Built Why) (a b : List Item) → ((g : Built) → all_taken after g (a ++ b) ≡ and_then (all_taken after g a) (λ k. all_taken after k b))
@@ -89,8 +89,8 @@ type_built m xs ts s =
     ∙ each_part_only (λ rs. types_held m xs (ts ++ record { params = s.params; results = rs } ∷ [])) one_result (λ rs t. result_taken m xs ts s.params rs t) [] s.results
 
 -- names
-name_taken : (text : List ℕ) (h : Built) → IsUtf8 text → a_name text h ≡ Ok h
-name_taken text h u = ap (λ b. cond b (Ok h) (Err why.BadUtf8)) (is_utf8-from_IsUtf8 text u)
+name_taken : (text : List ℕ) (f : List ℕ → Built) → IsUtf8 text → and_then (name_from text) (λ name. Ok (f name)) ≡ Ok (f text)
+name_taken text f u = ap (λ b. and_then (cond b (Ok text) (Err why.BadUtf8)) (λ name. Ok (f name))) (is_utf8-from_IsUtf8 text u)
 
 abbrev imports_held : Module → List ℕ → List Import → Built
 imports_held m xs is = holding (record m { imports = is }) xs
@@ -99,9 +99,9 @@ import_built : (m : Module) (xs : List ℕ) (is : List Import) (i : Import) → 
     → all_taken after (imports_held m xs is) (import_items i) ≡ Ok (imports_held m xs (is ++ i ∷ []))
 import_built m xs is i u =
     ap (λ r. and_then r (λ g. all_taken after g (import_name i.item_name ∷ import_desc i.desc ∷ [])))
-    (name_taken i.module_name (record (imports_held m xs is) { module_name = i.module_name }) u.0)
+    (name_taken i.module_name (λ name. record (imports_held m xs is) { module_name = name }) u.0)
     ∙ ap (λ r. and_then r (λ g. all_taken after g (import_desc i.desc ∷ [])))
-    (name_taken i.item_name (record (imports_held m xs is) { module_name = i.module_name; item_name = i.item_name }) u.1)
+    (name_taken i.item_name (λ name. record (imports_held m xs is) { module_name = i.module_name; item_name = name }) u.1)
 
 abbrev exports_held : Module → List ℕ → List Export → Built
 exports_held m xs es = holding (record m { exports = es }) xs
@@ -109,7 +109,7 @@ exports_held m xs es = holding (record m { exports = es }) xs
 export_built : (m : Module) (xs : List ℕ) (es : List Export) (e : Export) → IsUtf8 e.name
     → all_taken after (exports_held m xs es) (export_items e) ≡ Ok (exports_held m xs (es ++ e ∷ []))
 export_built m xs es e u =
-    ap (λ r. and_then r (λ g. all_taken after g (export e.kind e.index ∷ []))) (name_taken e.name (record (exports_held m xs es) { exported = e.name }) u)
+    ap (λ r. and_then r (λ g. all_taken after g (export e.kind e.index ∷ []))) (name_taken e.name (λ name. record (exports_held m xs es) { exported = name }) u)
 
 -- the ops of a constant expression
 constant_built : (p : Purpose) (c : Const) (m : Module) (xs : List ℕ) → all_taken after (expecting p (holding m xs)) (map const_op (constant_ops c)) ≡ Ok (holding (member_added p c m) xs)

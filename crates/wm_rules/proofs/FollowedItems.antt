@@ -38,7 +38,7 @@ use Rattle.wm_rules.specs.declared.builder.Purpose.TheVariants as purpose
 use Rattle.wm_rules.specs.declared.builder.Pending.{Pending}
 use Rattle.wm_rules.specs.declared.builder.Code.{Code}
 use Rattle.wm_rules.specs.exact.Built as building
-use Rattle.wm_rules.specs.exact.Built.{Built, a_name, valued, constant_ended, if_it_stands}
+use Rattle.wm_rules.specs.exact.Built.{Built, name_from, valued, constant_ended, if_it_stands}
 use Rattle.wm_rules.proofs.FollowedOps.{SamePlace, follow, kinds_in, first_is}
 
 abbrev pub SameConstant : Option Constant → Option Pending → Type 0
@@ -75,8 +75,8 @@ on_names : (h h' : holding.Held) (b : Built) (r : Result (List (List ℕ)) Why) 
 on_names h h' b (Ok s) e a = let q : record h { names = s } ≡ h' = cc (e) in subst (λ z. Agrees z b) q (record { constant = a.constant; code = a.code })
 on_names h h' b (Err w) e a = absurd (cc (e))
 
-named_ok : (text : List ℕ) (b : Built) → is_utf8 text ≡ true → a_name text b ≡ Ok b
-named_ok text b u = ap (λ t. cond t (Ok b) (Err why.BadUtf8)) u
+named_ok : (text : List ℕ) (f : List ℕ → Built) → is_utf8 text ≡ true → and_then (name_from text) (λ name. Ok (f name)) ≡ Ok (f text)
+named_ok text f u = ap (λ t. and_then (cond t (Ok text) (Err why.BadUtf8)) (λ name. Ok (f name))) u
 
 -- constant expressions
 typed_is : (t : ValType) (k : Constant) (o : Option Constant) → of_type t k ≡ Ok o → o ≡ Some (record k { seen = true })
@@ -229,15 +229,15 @@ follows h b new_type h' g a e = (_, refl, on_spaces h h' b (type_begun h.spaces)
 follows h b (param t) h' g a e = (_, refl, on_spaces h h' b (param_added t h.spaces) e a)
 follows h b (result_count n) h' g a e = (_, refl, on_same h h' b (checking.one_at_most n) e a)
 follows h b (one_result t) h' g a e = (_, refl, on_spaces h h' b (result_added t h.spaces) e a)
-follows h b (import_module text) h' g a e = (record b { module_name = text }, named_ok text (record b { module_name = text }) g, let q : h ≡ h' = cc (e) in subst (λ y. Agrees y b) q a)
-follows h b (import_name text) h' g a e = (record b { item_name = text }, named_ok text (record b { item_name = text }) g, let q : h ≡ h' = cc (e) in subst (λ y. Agrees y b) q a)
+follows h b (import_module text) h' g a e = (record b { module_name = text }, named_ok text (λ name. record b { module_name = name }) g, let q : h ≡ h' = cc (e) in subst (λ y. Agrees y b) q a)
+follows h b (import_name text) h' g a e = (record b { item_name = text }, named_ok text (λ name. record b { item_name = name }) g, let q : h ≡ h' = cc (e) in subst (λ y. Agrees y b) q a)
 follows h b (import_desc d) h' g a e = (_, refl, on_spaces h h' b (import_added d h.spaces) e a)
 follows h b (function x) h' g a e = (_, refl, on_spaces h h' b (function_added x h.spaces) e a)
 follows h b (table l) h' g a e = (_, refl, on_spaces h h' b (table_added l h.spaces) e a)
 follows h b (memory l) h' g a e = (_, refl, on_spaces h h' b (memory_added l h.spaces) e a)
 follows h b (global t) h' g a e = (_, refl, global_follows h h' b t (global_added t h.spaces) h.spaces.imported_globals a.code e)
 follows h b (const_op o) h' g a e = constant_follows h h' b o h.constant b.constant a.constant a.code e
-follows h b (export_name text) h' g a e = (record b { exported = text }, named_ok text (record b { exported = text }) g, on_names h h' b (checking.names_with text h.names) e a)
+follows h b (export_name text) h' g a e = (record b { exported = text }, named_ok text (λ name. record b { exported = name }) g, on_names h h' b (checking.names_with text h.names) e a)
 follows h b (export k x) h' g a e = (_, refl, on_same h h' b (index_check k x h.spaces) e a)
 follows h b (start x) h' g a e = (_, refl, on_same h h' b (plain (function_type (context_of h.spaces) x)) e a)
 follows h b (element x) h' g a e = (_, refl, offset_follows h h' b (purpose.Element x) (index_check kind.Table x h.spaces) (length h.spaces.globals) a.code e)

@@ -1,12 +1,10 @@
-//! A module, made item by item.
+//! A module, built item by item.
 
-ghost use Rattle.std.specs.Prelude.{◌≡◌, ◌≢◌, ◌∷◌, [], ◌++◌, IfErr, IfOk, Ok, true, false};
-ghost use Rattle.std.specs.Str.{is_utf8};
+ghost use Rattle.std.specs.Prelude.{◌≡◌, ◌∷◌, [], ◌++◌, Ok};
 ghost use Rattle.std.specs.String.{string_bytes};
-ghost use Rattle.wm_syntax.specs.declared.why.Why.TheVariants.{BadUtf8, Memory};
 ghost use Rattle.wm_decode.specs.Sinks.{Taken};
-ghost use Rattle.wm_decode.specs.Items.{body, export, export_name, import_desc, import_module, import_name, new_type};
-ghost use Rattle.wm_rules.specs.exact.Built.{Built, after, body_ended, constant_ended, constant_taken, expecting, locals_taken, nothing, change_last, op_taken, valued};
+ghost use Rattle.wm_decode.specs.Items.{body, export, import_desc, new_type, start};
+ghost use Rattle.wm_rules.specs.exact.Built.{Built, after, body_ended, change_last, constant_ended, constant_taken, expecting, locals_taken, name_from, nothing, op_taken, valued};
 ghost use Rattle.wm_rules.specs.inner.Builders.{built};
 ghost use Rattle.wm_syntax.specs.Values.{value_of};
 
@@ -22,7 +20,7 @@ use wm_syntax::modules::{
 use wm_syntax::types::{Const, FuncType, GlobalType, ValType};
 use wm_syntax::why::Why;
 
-// What a constant expression is for: the initialiser of a global, or where a segment begins in a table or a memory.
+/// What a constant expression is for: the initialiser of a global, or where a segment begins in a table or a memory.
 #[derive(Clone, Copy, PartialEq, Eq, Debug)]
 pub enum Purpose {
     Global(GlobalType),
@@ -30,21 +28,22 @@ pub enum Purpose {
     Segment(u32),
 }
 
-// A constant expression at hand: what it is for, and its value once that came.
+/// A constant expression at hand: what it is for, and its value once that came.
 #[derive(Clone, Copy, PartialEq, Eq, Debug)]
 pub struct Pending {
     purpose: Purpose,
     value: Option<Const>,
 }
 
-// A code entry at hand: its locals and its body so far.
+/// A code entry at hand: its locals and its body so far.
 #[derive(Debug, Drop)]
 pub struct Code {
     locals: Locals,
     body: BodyBuilder,
 }
 
-/// Makes a module of its items.
+/// Builds a module of its items, valid or not. It refuses a name that is not UTF-8, a constant expression of another form,
+/// a misplaced op of a body, and 2^32 locals; items in an order that no decoder sends may be refused under any name.
 #[derive(Debug, Drop)]
 pub struct Builder {
     alloc: Global,
@@ -134,17 +133,19 @@ fn add_bytes(segments: &mut Vec<Segment>, bytes: &[u8]) -> Result<(), Why>
     extend_bytes(last, bytes)
 }
 
-// A name of these bytes.
-fn name_of(alloc: Global, bytes: &[u8]) -> Result<String, Why>
-    ensures ok { IfOk result (λ name. (string_bytes name ≡ bytes.now) × (is_utf8 bytes.now ≡ true)) }
-    ensures err { IfErr result (λ w. w ≢ Memory → (w ≡ BadUtf8) × (is_utf8 bytes.now ≡ false)) }
+// The name of these bytes takes the place of another.
+fn set_name(alloc: Global, name: &mut String, bytes: &[u8]) -> Result<(), Why>
+    ensures { Taken (name_from bytes.now) result (string_bytes name.new) }
 {
-    match str::from_utf8(bytes) {
-        Ok(text) => match String::from_str(alloc, text) {
-            Ok(name) => Ok(name),
-            Err(_) => Err(Why::Memory),
-        },
-        Err(_) => Err(Why::BadUtf8),
+    let Ok(text) = str::from_utf8(bytes) else {
+        return Err(Why::BadUtf8);
+    };
+    match String::from_str(alloc, text) {
+        Ok(new) => {
+            *name = new;
+            Ok(())
+        }
+        Err(_) => Err(Why::Memory),
     }
 }
 
@@ -158,15 +159,15 @@ impl Sink for Builder {
     // at any item
     ghost may_run_out = { λ h x. Unit {0} };
 
-    #[tactic(auto, using(crate::proofs::BuiltData::bytes_took, crate::proofs::BuiltData::bytes_room))]
+    #[tactic(auto, using(crate::proofs::BuiltData::bytes_took, crate::proofs::BuiltData::bytes_room, crate::proofs::LastLemmas::taken_then))]
     fn take(&mut self, item: Item) -> Result<(), Why> {
         match item {
             Item::NewType => self.begin_type(),
             Item::Param(ty) => add_param(&mut self.module_value.types, ty),
             Item::Results(_) => Ok(()),
             Item::Result(ty) => add_result(&mut self.module_value.types, ty),
-            Item::ImportModule(name) => self.set_module_name(name),
-            Item::ImportName(name) => self.set_item_name(name),
+            Item::ImportModule(name) => set_name(self.alloc, &mut self.module_name, name),
+            Item::ImportName(name) => set_name(self.alloc, &mut self.item_name, name),
             Item::ImportFunc(index) => self.import(ImportDesc::Func(index)),
             Item::ImportTable(limits) => self.import(ImportDesc::Table(limits)),
             Item::ImportMemory(limits) => self.import(ImportDesc::Memory(limits)),
@@ -174,32 +175,17 @@ impl Sink for Builder {
             Item::Func(index) => push(&mut self.indices, index),
             Item::Table(limits) => push(&mut self.module_value.tables, limits),
             Item::Memory(limits) => push(&mut self.module_value.memories, limits),
-            Item::Global(ty) => {
-                self.expect(Purpose::Global(ty));
-                Ok(())
-            }
+            Item::Global(ty) => self.expect(Purpose::Global(ty)),
             Item::ConstOp(op) => self.take_constant(op),
-            Item::ExportName(name) => self.set_exported(name),
+            Item::ExportName(name) => set_name(self.alloc, &mut self.exported, name),
             Item::Export(kind, index) => self.export(kind, index),
-            Item::Start(index) => {
-                self.module_value.start = Some(index);
-                Ok(())
-            }
-            Item::Elem(index) => {
-                self.expect(Purpose::Element(index));
-                Ok(())
-            }
+            Item::Start(index) => self.set_start(index),
+            Item::Elem(index) => self.expect(Purpose::Element(index)),
             Item::ElemFunc(index) => add_element(&mut self.module_value.elements, index),
-            Item::Body => {
-                self.begin_body();
-                Ok(())
-            }
+            Item::Body => self.begin_body(),
             Item::Locals(count, ty) => self.add_locals(count, ty),
             Item::Op(op) => self.take_op(op),
-            Item::Segment(index) => {
-                self.expect(Purpose::Segment(index));
-                Ok(())
-            }
+            Item::Segment(index) => self.expect(Purpose::Segment(index)),
             Item::DataBytes(bytes) => add_bytes(&mut self.module_value.segments, bytes),
         }
     }
@@ -239,42 +225,6 @@ impl Builder {
         push(&mut self.module_value.types, ty)
     }
 
-    fn set_module_name(&mut self, bytes: &[u8]) -> Result<(), Why>
-        ensures { Taken (after (built self.old) (import_module bytes.now)) result (built self.new) }
-    {
-        match name_of(self.alloc, bytes) {
-            Ok(name) => {
-                self.module_name = name;
-                Ok(())
-            }
-            Err(why) => Err(why),
-        }
-    }
-
-    fn set_item_name(&mut self, bytes: &[u8]) -> Result<(), Why>
-        ensures { Taken (after (built self.old) (import_name bytes.now)) result (built self.new) }
-    {
-        match name_of(self.alloc, bytes) {
-            Ok(name) => {
-                self.item_name = name;
-                Ok(())
-            }
-            Err(why) => Err(why),
-        }
-    }
-
-    fn set_exported(&mut self, bytes: &[u8]) -> Result<(), Why>
-        ensures { Taken (after (built self.old) (export_name bytes.now)) result (built self.new) }
-    {
-        match name_of(self.alloc, bytes) {
-            Ok(name) => {
-                self.exported = name;
-                Ok(())
-            }
-            Err(why) => Err(why),
-        }
-    }
-
     fn import(&mut self, desc: ImportDesc) -> Result<(), Why>
         ensures { Taken (after (built self.old) (import_desc desc)) result (built self.new) }
     {
@@ -297,14 +247,22 @@ impl Builder {
         push(&mut self.module_value.exports, Export { name, kind, index })
     }
 
+    fn set_start(&mut self, index: u32) -> Result<(), Why>
+        ensures { Taken (after (built self.old) (start index)) result (built self.new) }
+    {
+        self.module_value.start = Some(index);
+        Ok(())
+    }
+
     // A constant expression begins.
-    fn expect(&mut self, purpose: Purpose)
-        ensures { built self.new ≡ expecting purpose (built self.old) }
+    fn expect(&mut self, purpose: Purpose) -> Result<(), Why>
+        ensures { Taken (Ok (expecting purpose (built self.old))) result (built self.new) }
     {
         self.constant = Some(Pending {
             purpose,
             value: None,
         });
+        Ok(())
     }
 
     fn take_constant(&mut self, op: Op) -> Result<(), Why>
@@ -368,13 +326,14 @@ impl Builder {
         }
     }
 
-    fn begin_body(&mut self)
-        ensures { Ok (built self.new) ≡ after (built self.old) body }
+    fn begin_body(&mut self) -> Result<(), Why>
+        ensures { Taken (after (built self.old) body) result (built self.new) }
     {
         self.code = Some(Code {
             locals: Locals::new(self.alloc),
             body: BodyBuilder::new(self.alloc),
         });
+        Ok(())
     }
 
     fn add_locals(&mut self, count: u32, ty: ValType) -> Result<(), Why>

@@ -58,8 +58,9 @@ with_elements h es = record h { value = record h.value { elements = es } }
 abbrev pub with_segments : Built → List Segment → Built
 with_segments h ss = record h { value = record h.value { segments = ss } }
 
-abbrev pub a_name : List ℕ → Built → Result Built Why
-a_name text h = if is_utf8 text then Ok h else Err why.BadUtf8
+-- a name is UTF-8
+abbrev pub name_from : List ℕ → Result (List ℕ) Why
+name_from text = if is_utf8 text then Ok text else Err why.BadUtf8
 
 abbrev pub imported : Built → ImportDesc → Built
 imported h d = record h {
@@ -138,15 +139,15 @@ after h new_type = Ok (with_types h (h.value.types ++ record { params = []; resu
 after h (param t) = Ok (with_types h (change_last (λ s. record s { params = s.params ++ t ∷ [] }) h.value.types))
 after h (result_count n) = Ok h
 after h (one_result t) = Ok (with_types h (change_last (λ s. record s { results = s.results ++ t ∷ [] }) h.value.types))
-after h (import_module text) = a_name text (record h { module_name = text })
-after h (import_name text) = a_name text (record h { item_name = text })
+after h (import_module text) = and_then (name_from text) (λ name. Ok (record h { module_name = name }))
+after h (import_name text) = and_then (name_from text) (λ name. Ok (record h { item_name = name }))
 after h (import_desc d) = Ok (imported h d)
 after h (function x) = Ok (record h { indices = h.indices ++ x ∷ [] })
 after h (table l) = Ok (record h { value = record h.value { tables = h.value.tables ++ l ∷ [] } })
 after h (memory l) = Ok (record h { value = record h.value { memories = h.value.memories ++ l ∷ [] } })
 after h (global g) = Ok (expecting (purpose.Global g) h)
 after h (const_op o) = constant_taken o h h.constant
-after h (export_name text) = a_name text (record h { exported = text })
+after h (export_name text) = and_then (name_from text) (λ name. Ok (record h { exported = name }))
 after h (export k x) = Ok (exports_one h k x)
 after h (start x) = Ok (record h { value = record h.value { start = Some x } })
 after h (element x) = Ok (expecting (purpose.Element x) h)
