@@ -1,0 +1,4 @@
+pub mod PutLemmas
+pub mod CanonLemmas
+pub mod Ranges
+pub mod Least

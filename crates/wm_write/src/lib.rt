@@ -1,0 +1,7 @@
+//! Writing: the canonical binary of a module.
+#![tactic(auto)]
+
+mod chunk;
+pub mod laws;
+mod ops;
+mod spell;
