@@ -15,7 +15,7 @@ use Rattle.wm_syntax.specs.declared.instructions.Op.TheVariants as op
 use Rattle.wm_syntax.specs.declared.why.Why.{Why}
 use Rattle.wm_syntax.specs.declared.why.Why.TheVariants as why
 use Rattle.wm_syntax.specs.Modules.{constant}
-use Rattle.wm_stacks.specs.Runs.{same}
+use Rattle.wm_syntax.specs.Runs.{same}
 use Rattle.wm_decode.specs.Grammar.{IsExpression}
 use Rattle.wm_syntax.specs.Instructions.{openings, endings}
 use Rattle.wm_decode.specs.Items.{Item, const_op, element_function, data_byte}

@@ -23,10 +23,10 @@ use Rattle.wm_stacks.specs.declared.entries.FrameKind.TheVariants.{Func, Block, 
 use Rattle.wm_stacks.specs.declared.entries.Frame.{Frame}
 use Rattle.wm_stacks.specs.declared.entries.Reach.{Reach}
 use Rattle.wm_stacks.specs.declared.entries.Reach.TheVariants.{Whole, Floor}
-use Rattle.wm_stacks.specs.Runs as runs
+use Rattle.wm_syntax.specs.Runs as runs
 use Rattle.wm_stacks.specs.Stack.{Stack, fits}
 use Rattle.wm_stacks.specs.exact.Stacks.{open_frame, count_after_move, pop_to, at_floor, takes, take_above, in_frame, take_one, take_all, goes_on, any_above, take_any, cut, close, close_at}
-use Rattle.wm_stacks.specs.exact.Runs.{add_run}
+use Rattle.wm_syntax.specs.exact.Runs.{add_run}
 use Rattle.wm_typing.specs.declared.labels.BrTable.{BrTable}
 use Rattle.wm_typing.specs.Typing.{Context, function_type}
 use Rattle.wm_typing.specs.Entries.{join}

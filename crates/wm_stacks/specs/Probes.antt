@@ -1,7 +1,7 @@
 -- How many runs of locals a search reads. A stranger can count them: the search halves what lies between two places.
 use Rattle.std.specs.Prelude.{ℕ, zero, suc, ◌+◌, ◌-◌, ◌/◌, List, length, nat_lt, slice_index, if◌then◌else◌}
 use Rattle.wm_syntax.specs.declared.types.ValType.{ValType}
-use Rattle.wm_stacks.specs.Runs.{run_ends}
+use Rattle.wm_syntax.specs.Runs.{run_ends}
 
 -- How many ends are read to find the first one above an index, by halving what lies between low and
 -- high, in at most so many steps.

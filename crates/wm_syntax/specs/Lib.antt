@@ -1,3 +1,4 @@
+pub mod Building
 pub mod Instructions
 pub mod Leb128
 pub mod Modules
@@ -6,7 +7,9 @@ pub mod Opcodes
 pub mod Profiles
 pub mod Reading
 pub mod Refusals
+pub mod Runs
 pub mod Spelling
 pub mod Types
+pub mod Values
 pub mod exact
 pub mod inner

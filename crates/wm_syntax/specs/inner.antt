@@ -1,3 +1,6 @@
 -- What values hold inside. Contracts name these words and say what follows from them: their bodies need not be believed.
+pub mod Builders
+pub mod Codes
 pub mod Numbers
+pub mod Runs
 pub mod Streams

@@ -2,9 +2,12 @@
 //! modules of WebAssembly 1.0, and the readers and writers of bytes.
 #![tactic(auto)]
 
+pub mod body;
+pub mod body_builder;
 pub mod instructions;
 pub mod io;
 pub mod laws;
+pub mod locals;
 pub mod modules;
 pub mod names;
 pub mod numbers;

@@ -1,6 +1,14 @@
-//! Parts of a module (section 2.5).
+//! Modules (section 2.5).
 
-use crate::types::{GlobalType, Limits};
+ghost use Rattle.std.specs.Prelude.{◌≡◌};
+ghost use Rattle.wm_syntax.specs.Modules.{empty_module};
+ghost use Rattle.wm_syntax.specs.Values.{value_of};
+
+use crate::body::Body;
+use crate::locals::Locals;
+use crate::types::{Const, FuncType, GlobalType, Limits};
+use std::alloc::Global;
+use std::marker::Model;
 
 /// What an import brings in (section 2.5.11). Of a function it is the index of its type.
 #[derive(Clone, Copy, PartialEq, Eq, Debug)]
@@ -18,4 +26,139 @@ pub enum ExportKind {
     Table,
     Memory,
     Global,
+}
+
+/// An import (section 2.5.11).
+#[derive(Debug, Drop)]
+pub struct Import {
+    pub module_name: String,
+    pub item_name: String,
+    pub desc: ImportDesc,
+}
+
+impl Model for Import {
+    ghost use Rattle.std.specs.String.{string_bytes};
+    ghost use Rattle.wm_syntax.specs.Modules.{Import as ImportValue};
+
+    ghost Value = { ImportValue };
+
+    ghost view = { λ i. record { module_name = string_bytes i.module_name; item_name = string_bytes i.item_name; desc = i.desc } };
+}
+
+/// A function (section 2.5.3): the index of its type, its declared locals, and its body.
+#[derive(Debug, Drop)]
+pub struct Function {
+    pub type_index: u32,
+    pub locals: Locals,
+    pub body: Body,
+}
+
+impl Model for Function {
+    ghost use Rattle.wm_syntax.specs.Modules.{Function as FunctionValue};
+    ghost use Rattle.wm_syntax.specs.inner.Codes.{function_code};
+
+    ghost Value = { FunctionValue };
+
+    ghost coded = { function_code };
+
+    ghost view = { λ f. record { type_index = f.type_index; locals = f.locals; body = f.body } };
+}
+
+/// A global (section 2.5.6): its type and its initialiser.
+#[derive(Debug, Drop)]
+pub struct GlobalDef {
+    pub ty: GlobalType,
+    pub init: Const,
+}
+
+impl Model for GlobalDef {
+    ghost use Rattle.wm_syntax.specs.Modules.{GlobalDef as GlobalValue};
+
+    ghost Value = { GlobalValue };
+
+    ghost view = { λ g. record { ty = g.ty; init = g.init } };
+}
+
+/// An export (section 2.5.10).
+#[derive(Debug, Drop)]
+pub struct Export {
+    pub name: String,
+    pub kind: ExportKind,
+    pub index: u32,
+}
+
+impl Model for Export {
+    ghost use Rattle.std.specs.String.{string_bytes};
+    ghost use Rattle.wm_syntax.specs.Modules.{Export as ExportValue};
+
+    ghost Value = { ExportValue };
+
+    ghost view = { λ e. record { name = string_bytes e.name; kind = e.kind; index = e.index } };
+}
+
+/// An element segment (section 2.5.7).
+#[derive(Debug, Drop)]
+pub struct Element {
+    pub table: u32,
+    pub offset: Const,
+    pub functions: Vec<u32>,
+}
+
+impl Model for Element {
+    ghost use Rattle.wm_syntax.specs.Modules.{Element as ElementValue};
+
+    ghost Value = { ElementValue };
+
+    ghost view = { λ e. record { table = e.table; offset = e.offset; functions = e.functions.items } };
+}
+
+/// A data segment (section 2.5.8).
+#[derive(Debug, Drop)]
+pub struct Segment {
+    pub memory: u32,
+    pub offset: Const,
+    pub bytes: Vec<u8>,
+}
+
+impl Model for Segment {
+    ghost use Rattle.wm_syntax.specs.Modules.{Segment as SegmentValue};
+
+    ghost Value = { SegmentValue };
+
+    ghost view = { λ s. record { memory = s.memory; offset = s.offset; bytes = s.bytes.items } };
+}
+
+/// A module (section 2.5), valid or not. Tables and memories are lists, so that one with two can be held.
+#[derive(Debug, Drop)]
+pub struct Module {
+    pub types: Vec<FuncType>,
+    pub imports: Vec<Import>,
+    pub functions: Vec<Function>,
+    pub tables: Vec<Limits>,
+    pub memories: Vec<Limits>,
+    pub globals: Vec<GlobalDef>,
+    pub exports: Vec<Export>,
+    pub start: Option<u32>,
+    pub elements: Vec<Element>,
+    pub segments: Vec<Segment>,
+}
+
+impl Module {
+    /// The module without any part.
+    pub fn new(alloc: Global) -> Self
+        ensures { value_of result ≡ empty_module }
+    {
+        Module {
+            types: Vec::new(alloc),
+            imports: Vec::new(alloc),
+            functions: Vec::new(alloc),
+            tables: Vec::new(alloc),
+            memories: Vec::new(alloc),
+            globals: Vec::new(alloc),
+            exports: Vec::new(alloc),
+            start: None,
+            elements: Vec::new(alloc),
+            segments: Vec::new(alloc),
+        }
+    }
 }

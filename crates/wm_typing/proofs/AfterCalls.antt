@@ -9,8 +9,8 @@ use Rattle.wm_stacks.specs.declared.entries.Frame.{Frame}
 use Rattle.wm_stacks.specs.declared.entries.FrameKind.TheVariants.{Func}
 use Rattle.wm_stacks.specs.Stack.{Stack, bare, height_sum}
 use Rattle.wm_stacks.specs.exact.Stacks.{open_frame}
-use Rattle.wm_stacks.specs.Runs.{run_count}
-use Rattle.wm_stacks.specs.exact.Runs.{add_run}
+use Rattle.wm_syntax.specs.Runs.{run_count}
+use Rattle.wm_syntax.specs.exact.Runs.{add_run}
 use Rattle.wm_typing.specs.declared.labels.BrTable.{BrTable}
 use Rattle.wm_typing.specs.declared.body_checker.Progress.{Progress}
 use Rattle.wm_typing.specs.declared.body_checker.Progress.TheVariants.{Inside, Ended}

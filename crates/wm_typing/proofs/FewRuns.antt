@@ -7,7 +7,7 @@ use Rattle.wm_syntax.specs.declared.instructions.Simple.{Simple}
 use Rattle.wm_syntax.specs.declared.instructions.Simple.TheVariants as s
 use Rattle.wm_syntax.specs.declared.instructions.Op.{Op}
 use Rattle.wm_syntax.specs.declared.instructions.Op.TheVariants as op
-use Rattle.wm_stacks.specs.Runs.{same, ends_from, run_ends, run_count}
+use Rattle.wm_syntax.specs.Runs.{same, ends_from, run_ends, run_count}
 use Rattle.wm_stacks.specs.Probes.{halvings, probes_for}
 use Rattle.wm_typing.specs.declared.labels.BrTable.{BrTable}
 use Rattle.wm_typing.specs.Probes.{local_probes, simple_probes, op_probes}

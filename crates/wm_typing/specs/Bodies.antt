@@ -3,7 +3,7 @@ use Rattle.std.specs.Prelude.{ℕ, ◌+◌, ◌*◌, ◌≤◌, ◌≡◌, List,
 use Rattle.wm_syntax.specs.declared.types.ValType.{ValType}
 use Rattle.wm_syntax.specs.declared.why.Why.{Why}
 use Rattle.wm_stacks.specs.Stack.{Stack, bare, height_sum}
-use Rattle.wm_stacks.specs.Runs.{run_count}
+use Rattle.wm_syntax.specs.Runs.{run_count}
 use Rattle.wm_typing.specs.declared.stats.BodyStats.{BodyStats}
 use Rattle.wm_typing.specs.declared.labels.BrTable.{BrTable}
 

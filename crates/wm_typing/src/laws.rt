@@ -8,7 +8,7 @@ ghost use Rattle.wm_syntax.specs.declared.instructions.Op.TheVariants as op;
 ghost use Rattle.wm_syntax.specs.declared.types.ValType.{ValType};
 ghost use Rattle.wm_syntax.specs.declared.types.ValType.TheVariants.{I32};
 ghost use Rattle.wm_syntax.specs.declared.why.Why.{Why};
-ghost use Rattle.wm_stacks.specs.Runs.{run_count};
+ghost use Rattle.wm_syntax.specs.Runs.{run_count};
 ghost use Rattle.wm_typing.specs.TypedBodies.{HasBodyOps, HaveTyping, IsTypedBody};
 ghost use Rattle.wm_typing.specs.inner.Checking.{BodyAfter};
 ghost use Rattle.wm_typing.specs.Bodies.{Body};

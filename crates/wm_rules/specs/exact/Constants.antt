@@ -9,7 +9,7 @@ use Rattle.wm_syntax.specs.declared.instructions.Op.{Op}
 use Rattle.wm_syntax.specs.declared.instructions.Op.TheVariants as op
 use Rattle.wm_syntax.specs.declared.why.Why.{Why}
 use Rattle.wm_syntax.specs.declared.why.Why.TheVariants.{Arity, Index, Mismatch, NotConst}
-use Rattle.wm_stacks.specs.Runs.{same}
+use Rattle.wm_syntax.specs.Runs.{same}
 use Rattle.wm_rules.specs.declared.constants.Constant.{Constant}
 
 -- before its instruction came: the type that it is to have, and how many of the globals it may name

@@ -9,7 +9,7 @@ use Rattle.wm_stacks.specs.declared.entries.FrameKind.TheVariants.{Func}
 use Rattle.wm_stacks.specs.declared.entries.Frame.{Frame}
 use Rattle.wm_stacks.specs.Stack.{bare}
 use Rattle.wm_stacks.specs.exact.Stacks.{open_frame}
-use Rattle.wm_stacks.specs.exact.Runs.{add_run}
+use Rattle.wm_syntax.specs.exact.Runs.{add_run}
 use Rattle.wm_typing.specs.declared.body_checker.Progress.{Progress}
 use Rattle.wm_typing.specs.declared.body_checker.Progress.TheVariants.{Inside, Ended}
 use Rattle.wm_typing.specs.Typing.{Context}

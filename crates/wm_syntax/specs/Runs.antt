@@ -1,0 +1,37 @@
+-- The types of locals as maximal runs of one type (section 5.5.13).
+use Rattle.std.specs.Prelude.{ℕ, ◌+◌, Bool, true, false, List, [], ◌∷◌, length, if◌then◌else◌}
+use Rattle.wm_syntax.specs.declared.types.ValType.{ValType}
+use Rattle.wm_syntax.specs.declared.types.ValType.TheVariants.{I32, I64}
+
+abbrev pub same : ValType → ValType → Bool
+same I32 I32 = true
+same I32 I64 = false
+same I64 I32 = false
+same I64 I64 = true
+
+-- Where each maximal run of one type ends, as the number of types up to there: n types were passed,
+-- the last of them t, and the rest comes next.
+abbrev pub ends_from : ValType → ℕ → List ValType → List ℕ
+ends_from t n [] = n ∷ []
+ends_from t n (u ∷ us) = if same t u then ends_from u (n + 1) us else n ∷ ends_from u (n + 1) us
+
+abbrev pub run_ends : List ValType → List ℕ
+run_ends [] = []
+run_ends (t ∷ ts) = ends_from t 1 ts
+
+-- the number of maximal runs
+abbrev pub run_count : List ValType → ℕ
+run_count ts = length (run_ends ts)
+
+-- one type before maximal runs
+abbrev pub type_before : ValType → List (ℕ × ValType) → List (ℕ × ValType)
+type_before t [] = (1, t) ∷ []
+type_before I32 ((n, I32) ∷ runs) = (n + 1, I32) ∷ runs
+type_before I32 ((n, I64) ∷ runs) = (1, I32) ∷ (n, I64) ∷ runs
+type_before I64 ((n, I32) ∷ runs) = (1, I64) ∷ (n, I32) ∷ runs
+type_before I64 ((n, I64) ∷ runs) = (n + 1, I64) ∷ runs
+
+-- types as maximal runs, each by how many types it has, and which
+abbrev pub runs_of : List ValType → List (ℕ × ValType)
+runs_of [] = []
+runs_of (t ∷ ts) = type_before t (runs_of ts)

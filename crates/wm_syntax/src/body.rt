@@ -1,0 +1,46 @@
+//! Bodies, as their ops.
+
+ghost use Rattle.std.specs.Prelude.{◌≡◌};
+ghost use Rattle.wm_syntax.specs.Instructions.{ops_of};
+ghost use Rattle.wm_syntax.specs.Building.{tree_of};
+
+use std::marker::Model;
+use crate::instructions::Op;
+
+/// The body of a function.
+#[derive(Debug, Drop)]
+pub struct Body {
+    ops: Vec<Op>,
+}
+
+impl Model for Body {
+    ghost use Rattle.std.specs.Prelude.{◌≡◌};
+    ghost use Rattle.wm_syntax.specs.Instructions.{Instructions, ops_of};
+    ghost use Rattle.wm_syntax.specs.Building.{tree_of};
+    ghost use Rattle.wm_syntax.specs.inner.Codes.{instructions_code};
+
+    ghost Value = { Instructions };
+
+    ghost coded = { instructions_code };
+
+    ghost view = { λ b. tree_of b.ops.items };
+
+    ghost invariant = { λ b. b.ops.items ≡ ops_of (tree_of b.ops.items) };
+}
+
+impl Body {
+    // The body with these ops.
+    pub(crate) fn from_ops(ops: Vec<Op>) -> Self
+        requires { ops.items ≡ ops_of (tree_of ops.items) }
+        ensures { result ≡ tree_of ops.items }
+    {
+        Body { ops }
+    }
+
+    /// Its ops, without the end that closes it.
+    pub fn ops(&self) -> &[Op]
+        ensures { result.now ≡ ops_of self.now }
+    {
+        &self.ops
+    }
+}
