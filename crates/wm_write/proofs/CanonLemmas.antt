@@ -1,36 +1,34 @@
 -- The canonical binary spells its module.
-use Rattle.std.proofs.Common.{ℕ, suc, ◌+◌, ◌*◌, ◌≡◌, ◌<◌, ◌≤◌, ◌^◌, List, [], ◌∷◌, ◌++◌, Option, Some, None, Bool, true, false, length, refl, sym, ◌∙◌, ap, subst, append_assoc, append-nil, length-append, arith, map, flat_map, replicate, inl, inr, cond, nat_lt, ◌%◌, ◌/◌}
+use Rattle.std.proofs.Common.{ℕ, suc, ◌+◌, ◌≡◌, ◌<◌, ◌≤◌, ◌^◌, List, [], ◌∷◌, ◌++◌, Option, Some, None, Bool, true, false, length, refl, sym, ◌∙◌, ap, subst, append-nil, length-append, arith, map, flat_map, replicate, inl, inr, cond, nat_lt, ◌%◌, ◌/◌}
 use Rattle.wm_write.proofs.PutLemmas.{short}
 use Rattle.std.specs.Prelude.{IsUtf8, IfSome}
 use Rattle.std.specs.List.{AllByRecursion}
 use Rattle.std.proofs.lemmas.List.{length-replicate}
-use Rattle.std.proofs.lemmas.Grind.{flat_map-append}
-use Rattle.wm_syntax.specs.Leb128.{Unsigned, Signed, FitsBits, unsigned_bytes, signed_bytes}
+use Rattle.wm_syntax.specs.Leb128.{unsigned_bytes, signed_bytes}
 use Rattle.wm_syntax.specs.Spelling.{Form, Byte, Exactly, Each, AreBytes, ◌▸◌}
 use Rattle.wm_syntax.specs.declared.types.ValType.{ValType}
 use Rattle.wm_syntax.specs.declared.types.ValType.TheVariants.{I32, I64}
 use Rattle.wm_syntax.specs.declared.types.Limits.{Limits}
 use Rattle.wm_syntax.specs.declared.types.GlobalType.{GlobalType}
 use Rattle.wm_syntax.specs.declared.types.Const.{Const}
-use Rattle.wm_syntax.specs.declared.types.Const.TheVariants as const
 use Rattle.wm_syntax.specs.declared.modules.ImportDesc.{ImportDesc}
 use Rattle.wm_syntax.specs.declared.modules.ImportDesc.TheVariants.{Func, Table, Memory, Global}
 use Rattle.wm_syntax.specs.declared.instructions.Simple.{Simple}
 use Rattle.wm_syntax.specs.declared.instructions.Simple.TheVariants.{Unreachable, Nop, Return, Drop, Select, Br, BrIf, Call, CallIndirect, LocalGet, LocalSet, LocalTee, GlobalGet, GlobalSet, MemorySize, MemoryGrow, I32Const, I64Const, Load, Store, Numeric}
 use Rattle.wm_syntax.specs.declared.instructions.Op.{Op}
 use Rattle.wm_syntax.specs.declared.instructions.Op.TheVariants as op
-use Rattle.wm_syntax.specs.Opcodes.{opcode}
 use Rattle.wm_syntax.specs.Types.{Signature, type_byte, SpellsU32, SpellsList, SpellsName, SpellsValType, SpellsSignature, SpellsBounds, SpellsLimits, SpellsTableType, SpellsVar, SpellsGlobalType, SpellsBlockType}
-use Rattle.wm_syntax.specs.Instructions.{Instruction, Instructions, none, snoc, simple, table, block, loop, choice, SpellsSimple, SpellsOp, SpellsInstructions, SpellsExpression, instruction_ops, ops_of, else_ops}
-use Rattle.wm_syntax.specs.Modules.{IsU32, IsSimple, IsInstruction, AreInstructions, AreLimits, IsDesc, IsConst, IsModule, Module, Import, Function, GlobalDef, Export, Element, Segment, constant, constant_body}
+use Rattle.wm_syntax.specs.Instructions.{Instruction, Instructions, none, snoc, simple, table, block, loop, choice, SpellsSimple, SpellsOp, SpellsInstructions, instruction_ops, ops_of, else_ops}
+use Rattle.wm_syntax.specs.Modules.{IsU32, IsSimple, IsInstruction, AreInstructions, AreLimits, IsDesc, IsConst, IsModule, Module, Import, Function, GlobalDef, Export, Element, Segment, constant}
 use Rattle.wm_syntax.proofs.Spellings.{unsigned_spells, signed_spells}
 use Rattle.wm_syntax.proofs.Bodies.{has_ops}
 use Rattle.wm_syntax.proofs.Flat.{spelled_by_ops}
-use Rattle.wm_decode.specs.Sections.{Sized, Section, ListSection, StartSection, Customs, Custom, SpellsConst, SpellsDesc, SpellsImport, SpellsGlobal, SpellsExport, SpellsElement, SpellsRun, SpellsLocals, SpellsCode, SpellsSegment, SpellsModule, kind_byte}
+use Rattle.wm_decode.specs.Sections.{ListSection, StartSection, Customs, SpellsConst, SpellsDesc, SpellsImport, SpellsGlobal, SpellsExport, SpellsElement, SpellsRun, SpellsLocals, SpellsCode, SpellsSegment, SpellsModule, kind_byte}
 use Rattle.wm_syntax.specs.Modules.{locals_of}
 use Rattle.wm_decode.proofs.NameBytes.{utf8_bytes}
-use Rattle.wm_write.specs.Canon.{u32_bytes, block_byte, immediates, op_bytes, ops_bytes}
-use Rattle.wm_write.specs.Canon.{listed, sized, val_bytes, sig_bytes, bounds_bytes, limits_bytes, table_bytes, var_byte, global_type_bytes, desc_bytes, import_bytes, const_bytes, global_bytes, export_bytes, element_bytes, add_run, runs_of, run_bytes, code_contents, code_bytes, segment_bytes, list_section, start_section, canon, Fits}
+use Rattle.wm_syntax.specs.Runs.{type_before, runs_of}
+use Rattle.wm_write.specs.Canon.{u32_bytes, block_byte, op_bytes, ops_bytes}
+use Rattle.wm_write.specs.Canon.{listed, sized, val_bytes, sig_bytes, bounds_bytes, limits_bytes, table_bytes, var_byte, global_type_bytes, desc_bytes, import_bytes, const_bytes, global_bytes, export_bytes, element_bytes, run_bytes, code_contents, code_bytes, segment_bytes, list_section, start_section, canon, Fits}
 
 -- numbers
 number : (n : ℕ) → IsU32 n → SpellsU32 n (u32_bytes n)
@@ -226,7 +224,7 @@ element_spells e h few =
     (u32_bytes e.table, const_bytes e.offset ++ listed u32_bytes e.functions, refl, number e.table h.0, (const_bytes e.offset, listed u32_bytes e.functions, refl, const_spells e.offset h.1, list_spells SpellsU32 u32_bytes IsU32 (λ x i l. number x i) number_some e.functions h.2 k.1))
 
 -- locals
-added : (t : ValType) (runs : List (ℕ × ValType)) → locals_of (add_run t runs) ≡ t ∷ locals_of runs
+added : (t : ValType) (runs : List (ℕ × ValType)) → locals_of (type_before t runs) ≡ t ∷ locals_of runs
 added t [] = refl
 added I32 ((n, I32) ∷ runs) = let e : n + 1 ≡ suc n = omega arith in ap (λ k. replicate k I32 ++ locals_of runs) e
 added I32 ((n, I64) ∷ runs) = refl

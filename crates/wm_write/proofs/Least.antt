@@ -1,13 +1,14 @@
 -- No runs of the same locals are shorter than the maximal ones.
-use Rattle.std.proofs.Common.{ℕ, zero, suc, ◌+◌, ◌-◌, ◌/◌, ◌≡◌, ◌<◌, ◌≤◌, ◌^◌, List, [], ◌∷◌, ◌++◌, length, refl, sym, ◌∙◌, ap, subst, arith, length-append, inl, inr, replicate, flat_map, ◌⊎◌}
+use Rattle.std.proofs.Common.{ℕ, zero, suc, ◌+◌, ◌-◌, ◌/◌, ◌≡◌, ◌<◌, ◌≤◌, List, [], ◌∷◌, ◌++◌, length, refl, ◌∙◌, ap, arith, length-append, inl, inr, replicate, flat_map, ◌⊎◌}
 use Rattle.std.proofs.lemmas.Bool.{cases_lt}
 use Rattle.wm_syntax.specs.Leb128.{unsigned_bytes}
 use Rattle.wm_syntax.specs.declared.types.ValType.{ValType}
 use Rattle.wm_syntax.specs.declared.types.ValType.TheVariants.{I32, I64}
+use Rattle.wm_syntax.specs.Runs.{type_before, runs_of}
 use Rattle.wm_write.specs.Canon.{u32_bytes}
 use Rattle.wm_write.proofs.PutLemmas.{last_byte, more_bytes}
 use Rattle.wm_syntax.specs.Modules.{locals_of}
-use Rattle.wm_write.specs.Canon.{add_run, runs_of, run_bytes, val_bytes}
+use Rattle.wm_write.specs.Canon.{run_bytes, val_bytes}
 
 pub len : ℕ → ℕ → ℕ
 len k n = length (unsigned_bytes k n)
@@ -73,20 +74,20 @@ Joined n t rest runs =
     (runs ≡ (n, t) ∷ rest)
     ⊎ ((k : ℕ) × (more : List (ℕ × ValType)) × (rest ≡ (k, t) ∷ more) × (runs ≡ (k + n, t) ∷ more))
 
-one_joined : (t : ValType) (rest : List (ℕ × ValType)) → Joined 1 t rest (add_run t rest)
+one_joined : (t : ValType) (rest : List (ℕ × ValType)) → Joined 1 t rest (type_before t rest)
 one_joined t [] = inl refl
 one_joined I32 ((k, I32) ∷ more) = inr (k, more, refl, refl)
 one_joined I32 ((k, I64) ∷ more) = inl refl
 one_joined I64 ((k, I32) ∷ more) = inl refl
 one_joined I64 ((k, I64) ∷ more) = inr (k, more, refl, refl)
 
-grown : (t : ValType) (n : ℕ) (more : List (ℕ × ValType)) → add_run t ((n, t) ∷ more) ≡ (n + 1, t) ∷ more
+grown : (t : ValType) (n : ℕ) (more : List (ℕ × ValType)) → type_before t ((n, t) ∷ more) ≡ (n + 1, t) ∷ more
 grown I32 n more = refl
 grown I64 n more = refl
 
-next_joined : (n : ℕ) (t : ValType) (rest runs : List (ℕ × ValType)) → Joined n t rest runs → Joined (suc n) t rest (add_run t runs)
-next_joined n t rest runs (inl e) = let s : n + 1 ≡ suc n = omega arith in inl (ap (add_run t) e ∙ grown t n rest ∙ ap (λ j. (j, t) ∷ rest) s)
-next_joined n t rest runs (inr (k, more, e, f)) = let s : (k + n) + 1 ≡ k + suc n = omega arith in inr (k, more, e, ap (add_run t) f ∙ grown t (k + n) more ∙ ap (λ j. (j, t) ∷ more) s)
+next_joined : (n : ℕ) (t : ValType) (rest runs : List (ℕ × ValType)) → Joined n t rest runs → Joined (suc n) t rest (type_before t runs)
+next_joined n t rest runs (inl e) = let s : n + 1 ≡ suc n = omega arith in inl (ap (type_before t) e ∙ grown t n rest ∙ ap (λ j. (j, t) ∷ rest) s)
+next_joined n t rest runs (inr (k, more, e, f)) = let s : (k + n) + 1 ≡ k + suc n = omega arith in inr (k, more, e, ap (type_before t) f ∙ grown t (k + n) more ∙ ap (λ j. (j, t) ∷ more) s)
 
 all_joined : (n : ℕ) (t : ValType) (ts : List ValType) → Joined (suc n) t (runs_of ts) (runs_of (replicate (suc n) t ++ ts))
 all_joined zero t ts = one_joined t (runs_of ts)

@@ -1,4 +1,5 @@
 pub mod PutLemmas
+pub mod Writes
 pub mod CanonLemmas
 pub mod Ranges
 pub mod Least

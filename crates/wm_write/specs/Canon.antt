@@ -1,11 +1,12 @@
 -- The canonical binary of a module: shortest numbers, empty sections omitted, no custom section, locals in maximal runs of
 -- one type, no else before an empty second branch (section 5.5).
-use Rattle.std.specs.Prelude.{ℕ, ◌+◌, ◌<◌, ◌^◌, List, [], ◌∷◌, ◌++◌, Option, Some, None, Bool, true, false, ℤ, length, flat_map}
+use Rattle.std.specs.Prelude.{ℕ, ◌<◌, ◌^◌, List, [], ◌∷◌, ◌++◌, Option, Some, None, Bool, true, false, ℤ, length, flat_map}
 use Rattle.wm_decode.specs.Sections.{header, kind_byte}
 use Rattle.wm_syntax.specs.Instructions.{ops_of}
 use Rattle.wm_syntax.specs.Leb128.{signed_bytes, unsigned_bytes}
 use Rattle.wm_syntax.specs.Modules.{Import, Function, GlobalDef, Export, Element, Segment, Module, constant}
 use Rattle.wm_syntax.specs.Opcodes.{opcode}
+use Rattle.wm_syntax.specs.Runs.{runs_of}
 use Rattle.wm_syntax.specs.Types.{Signature, type_byte}
 use Rattle.wm_syntax.specs.declared.instructions.Op.TheVariants as op
 use Rattle.wm_syntax.specs.declared.instructions.Op.{Op}
@@ -16,7 +17,6 @@ use Rattle.wm_syntax.specs.declared.modules.ImportDesc.{ImportDesc}
 use Rattle.wm_syntax.specs.declared.types.Const.{Const}
 use Rattle.wm_syntax.specs.declared.types.GlobalType.{GlobalType}
 use Rattle.wm_syntax.specs.declared.types.Limits.{Limits}
-use Rattle.wm_syntax.specs.declared.types.ValType.TheVariants.{I32, I64}
 use Rattle.wm_syntax.specs.declared.types.ValType.{ValType}
 
 -- the shortest spellings of numbers
@@ -122,19 +122,7 @@ export_bytes e = sized e.name ++ kind_byte e.kind ∷ u32_bytes e.index
 abbrev pub element_bytes : Element → List ℕ
 element_bytes e = u32_bytes e.table ++ (const_bytes e.offset ++ listed u32_bytes e.functions)
 
--- one more of a type before runs of one type
-abbrev pub add_run : ValType → List (ℕ × ValType) → List (ℕ × ValType)
-add_run t [] = (1, t) ∷ []
-add_run I32 ((n, I32) ∷ runs) = (n + 1, I32) ∷ runs
-add_run I32 ((n, I64) ∷ runs) = (1, I32) ∷ (n, I64) ∷ runs
-add_run I64 ((n, I32) ∷ runs) = (1, I64) ∷ (n, I32) ∷ runs
-add_run I64 ((n, I64) ∷ runs) = (n + 1, I64) ∷ runs
-
--- types as maximal runs of one
-abbrev pub runs_of : List ValType → List (ℕ × ValType)
-runs_of [] = []
-runs_of (t ∷ ts) = add_run t (runs_of ts)
-
+-- code (5.5.13)
 abbrev pub run_bytes : ℕ × ValType → List ℕ
 run_bytes r = u32_bytes r.0 ++ val_bytes r.1
 

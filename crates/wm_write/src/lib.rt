@@ -3,5 +3,6 @@
 
 mod chunk;
 pub mod laws;
-mod ops;
+mod parts;
+mod put;
 mod spell;

@@ -3,6 +3,7 @@
 ghost use Rattle.std.specs.Prelude.{◌≡◌, ◌++◌, ◌∷◌, [], length, ◌≤◌};
 ghost use Rattle.wm_write.specs.Canon.{block_byte, immediates, op_bytes, u32_bytes};
 ghost use Rattle.wm_syntax.specs.Leb128.{signed_bytes};
+ghost use Rattle.wm_syntax.specs.Types.{type_byte};
 ghost use Rattle.wm_syntax.specs.Opcodes.{binary, comparison, load, numeric, opcode, store, unary};
 
 use crate::chunk::Chunk;
@@ -116,17 +117,27 @@ fn numeric_byte(op: Numeric) -> u8
     }
 }
 
+/// The byte of a value type (section 5.3.1).
+pub(crate) fn value_byte(ty: ValType) -> u8
+    ensures { result ≡ type_byte ty }
+{
+    match ty {
+        ValType::I32 => 0x7F,
+        ValType::I64 => 0x7E,
+    }
+}
+
 fn block_byte(ty: Option<ValType>) -> u8
     ensures { result ≡ block_byte ty }
 {
     match ty {
         None => 0x40,
-        Some(ValType::I32) => 0x7F,
-        Some(ValType::I64) => 0x7E,
+        Some(ty) => value_byte(ty),
     }
 }
 
-fn one(byte: u8) -> Chunk
+/// One byte.
+pub(crate) fn one(byte: u8) -> Chunk
     ensures { result ≡ byte ∷ [] }
 {
     let mut chunk = Chunk::new();
@@ -142,11 +153,12 @@ fn two(first: u8, second: u8) -> Chunk
     chunk
 }
 
-fn number(value: u32) -> Chunk
+/// A number.
+pub(crate) fn number(value: u64) -> Chunk
     ensures { result ≡ u32_bytes value }
 {
     let mut chunk = Chunk::new();
-    chunk.push_unsigned(u64::from(value), 5);
+    chunk.push_unsigned(value, 5);
     chunk
 }
 
@@ -213,7 +225,7 @@ fn spell_simple(simple: Simple) -> Chunk
 }
 
 /// The bytes of one op.
-pub fn spell(op: Op) -> Chunk
+pub(crate) fn spell(op: Op) -> Chunk
     ensures { result ≡ op_bytes op }
 {
     match op {
@@ -224,6 +236,6 @@ pub fn spell(op: Op) -> Chunk
         Op::Else => one(0x05),
         Op::End => one(0x0B),
         Op::BrTable(count) => with_number(0x0E, count),
-        Op::Label(label) => number(label),
+        Op::Label(label) => number(u64::from(label)),
     }
 }
