@@ -1,7 +1,8 @@
 //! Instructions in bytes, by the shortest numbers (section 5.4).
 
-ghost use Rattle.std.specs.Prelude.{◌≡◌, ◌++◌, ◌∷◌, [], length, ◌≤◌};
-ghost use Rattle.wm_write.specs.Canon.{block_byte, immediates, op_bytes, u32_bytes};
+ghost use Rattle.std.specs.Prelude.{◌≡◌, ◌++◌, ◌∷◌, [], length, ◌≤◌, ◌+◌};
+ghost use Rattle.wm_write.specs.Canon.{block_byte, desc_bytes, global_type_bytes, limits_bytes, immediates, op_bytes, u32_bytes};
+ghost use Rattle.wm_decode.specs.Sections.{kind_byte};
 ghost use Rattle.wm_syntax.specs.Leb128.{signed_bytes};
 ghost use Rattle.wm_syntax.specs.Types.{type_byte};
 ghost use Rattle.wm_syntax.specs.Opcodes.{binary, comparison, load, numeric, opcode, store, unary};
@@ -10,7 +11,8 @@ use crate::chunk::Chunk;
 use wm_syntax::instructions::{
     BinaryOp, Comparison, LoadOp, MemArg, Numeric, Op, SignExtension, Simple, StoreOp, UnaryOp,
 };
-use wm_syntax::types::ValType;
+use wm_syntax::modules::{ExportKind, ImportDesc};
+use wm_syntax::types::{GlobalType, Limits, ValType};
 
 fn comparison_place(op: Comparison) -> u8
     ensures { result ≡ (comparison op).0 }
@@ -238,4 +240,73 @@ pub(crate) fn spell(op: Op) -> Chunk
         Op::BrTable(count) => with_number(0x0E, count),
         Op::Label(label) => number(u64::from(label)),
     }
+}
+
+/// Limits (section 5.3.4), at most eleven bytes.
+pub(crate) fn push_limits(chunk: &mut Chunk, limits: Limits)
+    requires { length chunk.old + 11 ≤ 16 }
+    ensures { chunk.new ≡ chunk.old ++ limits_bytes limits }
+{
+    match limits.max {
+        None => {
+            chunk.push(0x00);
+            chunk.push_unsigned(u64::from(limits.min), 5);
+        }
+        Some(max) => {
+            chunk.push(0x01);
+            chunk.push_unsigned(u64::from(limits.min), 5);
+            chunk.push_unsigned(u64::from(max), 5);
+        }
+    }
+}
+
+/// A global type (section 5.3.7).
+pub(crate) fn push_global_type(chunk: &mut Chunk, ty: GlobalType)
+    requires { length chunk.old + 2 ≤ 16 }
+    ensures { chunk.new ≡ chunk.old ++ global_type_bytes ty }
+{
+    chunk.push(value_byte(ty.ty));
+    chunk.push(if ty.var { 0x01 } else { 0x00 });
+}
+
+/// What an import brings in (section 5.5.5).
+pub(crate) fn spell_desc(desc: ImportDesc) -> Chunk
+    ensures { result ≡ desc_bytes desc }
+{
+    match desc {
+        ImportDesc::Func(index) => with_number(0x00, index),
+        ImportDesc::Table(limits) => {
+            let mut chunk = two(0x01, 0x70);
+            push_limits(&mut chunk, limits);
+            chunk
+        }
+        ImportDesc::Memory(limits) => {
+            let mut chunk = one(0x02);
+            push_limits(&mut chunk, limits);
+            chunk
+        }
+        ImportDesc::Global(ty) => {
+            let mut chunk = one(0x03);
+            push_global_type(&mut chunk, ty);
+            chunk
+        }
+    }
+}
+
+fn kind_byte(kind: ExportKind) -> u8
+    ensures { result ≡ kind_byte kind }
+{
+    match kind {
+        ExportKind::Func => 0x00,
+        ExportKind::Table => 0x01,
+        ExportKind::Memory => 0x02,
+        ExportKind::Global => 0x03,
+    }
+}
+
+/// What an export gives out (section 5.5.10).
+pub(crate) fn spell_item(kind: ExportKind, index: u32) -> Chunk
+    ensures { result ≡ kind_byte kind ∷ u32_bytes index }
+{
+    with_number(kind_byte(kind), index)
 }
