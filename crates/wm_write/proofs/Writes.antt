@@ -1,7 +1,10 @@
 -- What is written piece by piece.
-use Rattle.std.proofs.Common.{◌≡◌, ℕ, suc, ◌+◌, ◌^◌, ◌≤◌, ◌<◌, Bool, true, false, List, [], ◌∷◌, ◌++◌, length, take, flat_map, refl, sym, ap, ◌∙◌, append_assoc, append-nil, length-append, arith, get_or, Option, Some, None, subst}
+use Rattle.std.proofs.Common.{◌≡◌, ℕ, zero, suc, ◌+◌, ◌^◌, ◌≤◌, ◌<◌, Bool, true, false, List, [], ◌∷◌, ◌++◌, length, take, flat_map, refl, sym, ap, ◌∙◌, append_assoc, append-nil, length-append, arith, get_or, Option, Some, None, subst}
 use Rattle.std.proofs.lemmas.List.{take-append-le, take_more, flat_map_more}
 use Rattle.std.specs.Io.KnownBytes.{Appends}
+use Rattle.std.specs.Prelude.{slice_get}
+use Rattle.std.proofs.lemmas.Option.{get_or_from_slice_get, slice_get_within}
+use Rattle.wm_write.specs.Canon.{sized, u32_bytes}
 use Rattle.wm_write.specs.exact.Writing.{Counts, Sent, State, capped}
 
 appends_then : (a b c : Option (List ℕ)) (x y : List ℕ) → Appends a b x → Appends b c y → Appends a c (x ++ y)
@@ -45,6 +48,24 @@ pub counted : (bytes : List ℕ) (c d : Option (List ℕ)) (v : ℕ) → Sent by
 unfolding Sent
 counted bytes c d v h = let e = h.1 (omega arith) in omega (arith, e)
 
+-- what a writer that had not failed was given, and how much of that was counted
+pub sent_whole : (bytes : List ℕ) (f g : Bool) (c d : Option (List ℕ)) (v : ℕ)
+    → f ≡ false → g ≡ false → length bytes < 2 ^ 64 → Sent bytes (f, c, 0) (g, d, v) → (v ≡ length bytes) × Appends c d bytes
+unfolding Sent
+sent_whole bytes false false c d v h k few s = let e = s.1 (omega arith) in (omega (arith, e, few), s.0)
+sent_whole bytes false true c d v h k few s = let e : ⊥ = cc k in absurd e
+sent_whole bytes true g c d v h k few s = let e : ⊥ = cc h in absurd e
+
+pub sent_front : (bytes : List ℕ) (f g : Bool) (c d : Option (List ℕ)) (v : ℕ)
+    → f ≡ false → g ≡ true → length bytes < 2 ^ 64 → Sent bytes (f, c, 0) (g, d, v) → (v ≤ length bytes) × Appends c d (take v bytes)
+unfolding Sent
+sent_front bytes false true c d v h k few (n, less, some, now) =
+    let e = now (omega arith) in
+    let same : n ≡ v = omega (arith, e, few, less) in
+    subst (λ z. (z ≤ length bytes) × Appends c d (take z bytes)) same (less, some)
+sent_front bytes false false c d v h k few s = let e : ⊥ = cc k in absurd e
+sent_front bytes true g c d v h k few s = let e : ⊥ = cc h in absurd e
+
 -- no bytes
 pub sent_none : (s : State) → Sent [] s s
 unfolding Sent
@@ -72,12 +93,32 @@ sent_then front back (false, c0, w0) (true, c1, w1) (true, c2, w2) (n, few, some
 pub sent_byte : (byte : ℕ) (back : List ℕ) (s t u : State) → Sent (byte ∷ []) s t → Sent back t u → Sent (byte ∷ back) s u
 sent_byte byte back s t u h k = sent_then (byte ∷ []) back s t u h k
 
--- one member more
+-- how many bytes there are, and then those
+pub sent_sized : (n : ℕ) (bytes : List ℕ) (s t u : State)
+    → n ≡ capped (length bytes) → length bytes < 2 ^ 32 → Sent (u32_bytes n) s t → Sent bytes t u → Sent (sized bytes) s u
+sent_sized n bytes s t u counts few h k =
+    let e : n ≡ length bytes = omega (arith, counts, few) in
+    sent_then (u32_bytes (length bytes)) bytes s t u (subst (λ z. Sent (u32_bytes z) s t) e h) k
+
 module _ {X : Type 0} (f : X → List ℕ) where
-  pub each_more : (xs : List X) (i : ℕ) (d : X) → i < length xs → flat_map f (take (i + 1) xs) ≡ flat_map f (take i xs) ++ f (get_or xs i d)
+  each_more : (xs : List X) (i : ℕ) (d : X) → i < length xs → flat_map f (take (i + 1) xs) ≡ flat_map f (take i xs) ++ f (get_or xs i d)
   each_more xs i d h = ap (flat_map f) (take_more xs i d h) ∙ sym (flat_map_more f [] (take i xs) (get_or xs i d))
 
-  pub sent_more : (xs : List X) (i : ℕ) (x : X) (s t u : State)
-      → i < length xs → x ≡ get_or xs i x → Sent (flat_map f (take i xs)) s t → Sent (f x) t u → Sent (flat_map f (take (i + 1) xs)) s u
-  sent_more xs i x s t u few is h k =
-      subst (λ z. Sent z s u) (sym (each_more xs i x few ∙ ap (λ y. flat_map f (take i xs) ++ f y) (sym is))) (sent_then (flat_map f (take i xs)) (f x) s t u h k)
+  -- one member more
+  pub sent_more : (front : List ℕ) (xs : List X) (i : ℕ) (x : X) (s t u : State)
+      → i < length xs → x ≡ get_or xs i x → Sent (front ++ flat_map f (take i xs)) s t → Sent (f x) t u → Sent (front ++ flat_map f (take (i + 1) xs)) s u
+  sent_more front xs i x s t u few is h k =
+      let e : front ++ flat_map f (take (i + 1) xs) ≡ (front ++ flat_map f (take i xs)) ++ f x =
+      ap (λ l. front ++ l) (each_more xs i x few ∙ ap (λ y. flat_map f (take i xs) ++ f y) (sym is)) ∙ sym (append_assoc front (flat_map f (take i xs)) (f x)) in
+      subst (λ z. Sent z s u) (sym e) (sent_then (front ++ flat_map f (take i xs)) (f x) s t u h k)
+
+  pub sent_read : (xs : List X) (i : ℕ) (x : X) (bytes : List ℕ) (s t u : State)
+      → slice_get xs i ≡ Some x → bytes ≡ f x → Sent (flat_map f (take i xs)) s t → Sent bytes t u → Sent (flat_map f (take (i + 1) xs)) s u
+  sent_read xs i x bytes s t u is spelled h k =
+      sent_more [] xs i x s t u (slice_get_within xs i x is) (sym (get_or_from_slice_get xs i x x is)) h (subst (λ z. Sent z t u) spelled k)
+
+  -- a member is no longer than all of them
+  pub member_less : (xs : List X) (i : ℕ) (x : X) → i < length xs → x ≡ get_or xs i x → length (f x) ≤ length (flat_map f xs)
+  member_less [] i x h is = absurd (omega (arith, h))
+  member_less (y ∷ ys) zero x h is = omega (arith, length-append (f y) (flat_map f ys), ap (λ z. length (f z)) is)
+  member_less (y ∷ ys) (suc i) x h is = omega (arith, length-append (f y) (flat_map f ys), member_less ys i x (omega (arith, h)) is)

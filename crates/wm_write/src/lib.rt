@@ -2,7 +2,11 @@
 #![tactic(auto)]
 
 mod chunk;
+mod code;
+pub mod encode;
 pub mod laws;
 mod parts;
 mod put;
+mod sections;
+mod sizes;
 mod spell;

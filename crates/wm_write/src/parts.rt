@@ -39,7 +39,7 @@ impl Part for Index {
 }
 
 /// An instruction, or what divides or ends instructions (section 5.4).
-struct Instruction;
+pub(crate) struct Instruction;
 
 impl Part for Instruction {
     ghost use Rattle.wm_write.specs.Canon.{op_bytes};

@@ -44,7 +44,7 @@ pub(crate) fn put_number<W: Dest>(w: &mut W, written: &mut u64, value: u64)
 }
 
 /// Writes each of some values.
-#[tactic(auto, using(crate::proofs::Writes::sent_none, crate::proofs::Writes::sent_more))]
+#[tactic(auto, using(crate::proofs::Writes::sent_none))]
 pub(crate) fn put_each<P: Part, W: Dest>(w: &mut W, written: &mut u64, values: &[P::Value])
     ensures { Sent (flat_map P.bytes values.now) (W.has_failed w.old, W.contents w.old, written.old)
         (W.has_failed w.new, W.contents w.new, written.new) }

@@ -310,3 +310,13 @@ pub(crate) fn spell_item(kind: ExportKind, index: u32) -> Chunk
 {
     with_number(kind_byte(kind), index)
 }
+
+/// A run of locals of one type (section 5.5.13).
+pub(crate) fn spell_run(count: u32, ty: ValType) -> Chunk
+    ensures { result ≡ u32_bytes count ++ type_byte ty ∷ [] }
+{
+    let mut chunk = Chunk::new();
+    chunk.push_unsigned(u64::from(count), 5);
+    chunk.push(value_byte(ty));
+    chunk
+}
