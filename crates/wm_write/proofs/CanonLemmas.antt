@@ -1,0 +1,334 @@
+-- The canonical binary spells its module.
+use Rattle.std.proofs.Common.{ℕ, suc, ◌+◌, ◌≡◌, ◌<◌, ◌≤◌, ◌^◌, List, [], ◌∷◌, ◌++◌, Option, Some, None, Bool, true, false, length, refl, sym, ◌∙◌, ap, subst, append-nil, length-append, arith, map, flat_map, replicate, inl, inr, cond, nat_lt, ◌%◌, ◌/◌}
+use Rattle.wm_write.proofs.PutLemmas.{short}
+use Rattle.std.specs.Prelude.{IsUtf8, IfSome}
+use Rattle.std.specs.List.{AllByRecursion}
+use Rattle.std.proofs.lemmas.List.{length-replicate}
+use Rattle.wm_syntax.specs.Leb128.{unsigned_bytes, signed_bytes}
+use Rattle.wm_syntax.specs.Spelling.{Form, Byte, Exactly, Each, AreBytes, ◌▸◌}
+use Rattle.wm_syntax.specs.declared.types.ValType.{ValType}
+use Rattle.wm_syntax.specs.declared.types.ValType.TheVariants.{I32, I64}
+use Rattle.wm_syntax.specs.declared.types.Limits.{Limits}
+use Rattle.wm_syntax.specs.declared.types.GlobalType.{GlobalType}
+use Rattle.wm_syntax.specs.declared.types.Const.{Const}
+use Rattle.wm_syntax.specs.declared.modules.ImportDesc.{ImportDesc}
+use Rattle.wm_syntax.specs.declared.modules.ImportDesc.TheVariants.{Func, Table, Memory, Global}
+use Rattle.wm_syntax.specs.declared.instructions.Simple.{Simple}
+use Rattle.wm_syntax.specs.declared.instructions.Simple.TheVariants.{Unreachable, Nop, Return, Drop, Select, Br, BrIf, Call, CallIndirect, LocalGet, LocalSet, LocalTee, GlobalGet, GlobalSet, MemorySize, MemoryGrow, I32Const, I64Const, Load, Store, Numeric}
+use Rattle.wm_syntax.specs.declared.instructions.Op.{Op}
+use Rattle.wm_syntax.specs.declared.instructions.Op.TheVariants as op
+use Rattle.wm_syntax.specs.Types.{Signature, type_byte, SpellsU32, SpellsList, SpellsName, SpellsValType, SpellsSignature, SpellsBounds, SpellsLimits, SpellsTableType, SpellsVar, SpellsGlobalType, SpellsBlockType}
+use Rattle.wm_syntax.specs.Instructions.{Instruction, Instructions, none, snoc, simple, table, block, loop, choice, SpellsSimple, SpellsOp, SpellsInstructions, instruction_ops, ops_of, else_ops}
+use Rattle.wm_syntax.specs.Modules.{IsU32, IsSimple, IsInstruction, AreInstructions, AreLimits, IsDesc, IsConst, IsModule, Module, Import, Function, GlobalDef, Export, Element, Segment, constant}
+use Rattle.wm_syntax.proofs.Spellings.{unsigned_spells, signed_spells}
+use Rattle.wm_syntax.proofs.Bodies.{has_ops}
+use Rattle.wm_syntax.proofs.Flat.{spelled_by_ops}
+use Rattle.wm_decode.specs.Sections.{ListSection, StartSection, Customs, SpellsConst, SpellsDesc, SpellsImport, SpellsGlobal, SpellsExport, SpellsElement, SpellsRun, SpellsLocals, SpellsCode, SpellsSegment, SpellsModule, kind_byte}
+use Rattle.wm_syntax.specs.Modules.{locals_of}
+use Rattle.wm_decode.proofs.NameBytes.{utf8_bytes}
+use Rattle.wm_syntax.specs.Runs.{type_before, runs_of}
+use Rattle.wm_write.specs.Canon.{u32_bytes, block_byte, op_bytes, ops_bytes}
+use Rattle.wm_write.specs.Canon.{listed, sized, val_bytes, sig_bytes, bounds_bytes, limits_bytes, table_bytes, var_byte, global_type_bytes, desc_bytes, import_bytes, const_bytes, global_bytes, export_bytes, element_bytes, run_bytes, code_contents, code_bytes, segment_bytes, list_section, start_section, canon, Fits}
+
+-- numbers
+number : (n : ℕ) → IsU32 n → SpellsU32 n (u32_bytes n)
+number n h = unsigned_spells 32 5 n (omega arith) (omega arith) h
+
+-- ops
+one_number : (byte n : ℕ) → IsU32 n → (Byte byte ▸ SpellsU32 n) (byte ∷ u32_bytes n)
+one_number byte n h = (byte ∷ [], u32_bytes n, refl, refl, number n h)
+
+two_numbers : (byte n k : ℕ) → IsU32 n → IsU32 k → (Byte byte ▸ SpellsU32 n ▸ SpellsU32 k) (byte ∷ (u32_bytes n ++ u32_bytes k))
+two_numbers byte n k h j = (byte ∷ [], u32_bytes n ++ u32_bytes k, refl, refl, (u32_bytes n, u32_bytes k, refl, number n h, number k j))
+
+alone : (byte : ℕ) → (Byte byte ▸ Exactly []) (byte ∷ [])
+alone byte = (byte ∷ [], [], refl, refl, refl)
+
+simple_spells : (i : Simple) → IsSimple i → SpellsSimple i (op_bytes (op.Simple i))
+simple_spells (Br l) h = one_number _ l h
+simple_spells (BrIf l) h = one_number _ l h
+simple_spells (Call x) h = one_number _ x h
+simple_spells (CallIndirect x) h = (0x11 ∷ [], u32_bytes x ++ 0x00 ∷ [], refl, refl, (u32_bytes x, 0x00 ∷ [], refl, number x h, refl))
+simple_spells (LocalGet x) h = one_number _ x h
+simple_spells (LocalSet x) h = one_number _ x h
+simple_spells (LocalTee x) h = one_number _ x h
+simple_spells (GlobalGet x) h = one_number _ x h
+simple_spells (GlobalSet x) h = one_number _ x h
+simple_spells MemorySize h = (0x3F ∷ [], 0x00 ∷ [], refl, refl, refl)
+simple_spells MemoryGrow h = (0x40 ∷ [], 0x00 ∷ [], refl, refl, refl)
+simple_spells (I32Const n) h = (0x41 ∷ [], signed_bytes 5 n, refl, refl, signed_spells 32 5 n (omega arith) (omega arith) h)
+simple_spells (I64Const n) h = (0x42 ∷ [], signed_bytes 10 n, refl, refl, signed_spells 64 10 n (omega arith) (omega arith) h)
+simple_spells (Load o at) h = two_numbers _ at.align at.offset h.0 h.1
+simple_spells (Store o at) h = two_numbers _ at.align at.offset h.0 h.1
+simple_spells Unreachable h = alone _
+simple_spells Nop h = alone _
+simple_spells Return h = alone _
+simple_spells Drop h = alone _
+simple_spells Select h = alone _
+simple_spells (Numeric o) h = alone _
+
+block_spells : (byte : ℕ) (t : Option ValType) → (Byte byte ▸ SpellsBlockType t) (byte ∷ block_byte t ∷ [])
+block_spells byte None = (byte ∷ [], 0x40 ∷ [], refl, refl, refl)
+block_spells byte (Some t) = (byte ∷ [], val_bytes t, refl, refl, refl)
+
+-- an op whose numbers are in the ranges of their types
+abbrev IsOp : Op → Type 0
+IsOp (op.Simple i) = IsSimple i
+IsOp (op.BrTable n) = IsU32 n
+IsOp (op.Label l) = IsU32 l
+IsOp _ = Unit {0}
+
+op_spells : (o : Op) → IsOp o → SpellsOp o (op_bytes o)
+op_spells (op.Simple i) h = simple_spells i h
+op_spells (op.Block t) h = block_spells 0x02 t
+op_spells (op.Loop t) h = block_spells 0x03 t
+op_spells (op.If t) h = block_spells 0x04 t
+op_spells op.Else h = refl
+op_spells op.End h = refl
+op_spells (op.BrTable n) h = one_number 0x0E n h
+op_spells (op.Label l) h = number l h
+
+-- the ops of instructions have the ranges of these
+all_append : {X : Type 0} (P : X → Type 0) (xs ys : List X) → AllByRecursion P xs → AllByRecursion P ys → AllByRecursion P (xs ++ ys)
+all_append P [] ys h k = k
+all_append P (x ∷ xs) ys h k = (h.0, all_append P xs ys h.1 k)
+
+labels_in : (ls : List ℕ) → AllByRecursion IsU32 ls → AllByRecursion IsOp (map op.Label ls)
+labels_in [] h = tt
+labels_in (l ∷ ls) h = (h.0, labels_in ls h.1)
+
+else_in : (s : Instructions) → AllByRecursion IsOp (ops_of s) → AllByRecursion IsOp (else_ops s (ops_of s))
+else_in none h = tt
+else_in (snoc s i) h = (tt, h)
+
+mutual
+  op_in : (i : Instruction) → IsInstruction i → AllByRecursion IsOp (instruction_ops i)
+  op_in (simple i) h = (h, tt)
+  op_in (table ls d) h = (h.1, all_append IsOp (map op.Label ls) (op.Label d ∷ []) (labels_in ls h.0) (h.2, tt))
+  op_in (block t s) h = (tt, all_append IsOp (ops_of s) (op.End ∷ []) (ops_in s h) (tt, tt))
+  op_in (loop t s) h = (tt, all_append IsOp (ops_of s) (op.End ∷ []) (ops_in s h) (tt, tt))
+  op_in (choice t f s) h =
+      (tt, all_append IsOp (ops_of f ++ else_ops s (ops_of s)) (op.End ∷ []) (all_append IsOp (ops_of f) (else_ops s (ops_of s)) (ops_in f h.0) (else_in s (ops_in s h.1))) (tt, tt))
+
+  ops_in : (s : Instructions) → AreInstructions s → AllByRecursion IsOp (ops_of s)
+  ops_in none h = tt
+  ops_in (snoc s i) h = all_append IsOp (ops_of s) (instruction_ops i) (ops_in s h.0) (op_in i h.1)
+
+each_op : (ops : List Op) → AllByRecursion IsOp ops → Each SpellsOp ops (ops_bytes ops)
+each_op [] h = refl
+each_op (o ∷ ops) h = (op_bytes o, ops_bytes ops, refl, op_spells o h.0, each_op ops h.1)
+
+pub instructions_spell : (s : Instructions) → AreInstructions s → SpellsInstructions s (ops_bytes (ops_of s))
+instructions_spell s h = spelled_by_ops s (ops_of s) (ops_bytes (ops_of s)) (has_ops s) (each_op (ops_of s) (ops_in s h))
+
+-- Lists: each member is spelled where it is not too large, and is at least a byte.
+part_less : (a b : List ℕ) (n : ℕ) → length (a ++ b) < n → (length a < n) × (length b < n)
+part_less a b n h = let e : length (a ++ b) ≡ length a + length b = length-append a b in (omega arith, omega arith)
+
+module _ {X : Type 0} (P : X → Form ℕ) (f : X → List ℕ) (I : X → Type 0) (item : (x : X) → I x → length (f x) < 2 ^ 32 → P x (f x)) where
+  each_spells : (xs : List X) → AllByRecursion I xs → length (flat_map f xs) < 2 ^ 32 → Each P xs (flat_map f xs)
+  each_spells [] h few = refl
+  each_spells (x ∷ xs) h few = let l = part_less (f x) (flat_map f xs) (2 ^ 32) few in (f x, flat_map f xs, refl, item x h.0 l.0, each_spells xs h.1 l.1)
+
+  module _ (some : (x : X) → 1 ≤ length (f x)) where
+    many : (xs : List X) → length xs ≤ length (flat_map f xs)
+    many [] = omega arith
+    many (x ∷ xs) = omega (arith, some x, many xs, length-append (f x) (flat_map f xs))
+
+    pub list_spells : (xs : List X) → AllByRecursion I xs → length (listed f xs) < 2 ^ 32 → SpellsList P xs (listed f xs)
+    list_spells xs h few =
+        let l = part_less (u32_bytes (length xs)) (flat_map f xs) (2 ^ 32) few in
+        (u32_bytes (length xs), flat_map f xs, refl, number (length xs) (omega (arith, many xs, l.1)), each_spells xs h l.1)
+
+    pub section_spells : (id : ℕ) (xs : List X) → AllByRecursion I xs → length (listed f xs) < 2 ^ 32 → ListSection id P xs (list_section id f xs)
+    section_spells id [] h few = inr (refl, refl)
+    section_spells id (x ∷ xs) h few =
+        inl (id ∷ [], sized (listed f (x ∷ xs)), refl, refl, (u32_bytes (length (listed f (x ∷ xs))), listed f (x ∷ xs), refl, number (length (listed f (x ∷ xs))) few, list_spells (x ∷ xs) h few))
+
+any_all : {X : Type 0} (xs : List X) → AllByRecursion (λ x. Unit {0}) xs
+any_all [] = tt
+any_all (x ∷ xs) = (tt, any_all xs)
+
+some_bytes : (k n : ℕ) → 1 ≤ length (unsigned_bytes (suc k) n)
+unfolding unsigned_bytes
+some_bytes k n = go (nat_lt n 128)
+  where
+    go : (b : Bool) → 1 ≤ length (cond b (n ∷ []) ((n % 128 + 128) ∷ unsigned_bytes k (n / 128)))
+    go true = omega arith
+    go false = omega arith
+
+number_some : (n : ℕ) → 1 ≤ length (u32_bytes n)
+number_some n = some_bytes 4 n
+
+one_more : (x : ℕ) (xs : List ℕ) → 1 ≤ length (x ∷ xs)
+one_more x xs = omega arith
+
+types_spell : (ts : List ValType) → length (listed val_bytes ts) < 2 ^ 32 → SpellsList SpellsValType ts (listed val_bytes ts)
+types_spell ts few = list_spells SpellsValType val_bytes (λ t. Unit {0}) (λ t h l. refl) (λ t. one_more (type_byte t) []) ts (any_all ts) few
+
+sig_spells : (s : Signature) → length (sig_bytes s) < 2 ^ 32 → SpellsSignature s (sig_bytes s)
+sig_spells s few =
+    let l = part_less (listed val_bytes s.params) (listed val_bytes s.results) (2 ^ 32) (omega arith) in
+    (0x60 ∷ [], listed val_bytes s.params ++ listed val_bytes s.results, refl, refl, (listed val_bytes s.params, listed val_bytes s.results, refl, types_spell s.params l.0, types_spell s.results l.1))
+
+limits_spell : (l : Limits) → AreLimits l → SpellsLimits l (limits_bytes l)
+limits_spell l h = go l.min l.max h.0 h.1
+  where
+    go : (min : ℕ) (max : Option ℕ) → IsU32 min → IfSome max IsU32 → SpellsBounds min max (bounds_bytes min max)
+    go min None a b = one_number 0x00 min a
+    go min (Some max) a b = two_numbers 0x01 min max a b
+
+table_spells : (l : Limits) → AreLimits l → SpellsTableType l (table_bytes l)
+table_spells l h = (0x70 ∷ [], limits_bytes l, refl, refl, limits_spell l h)
+
+global_type_spells : (g : GlobalType) → SpellsGlobalType g (global_type_bytes g)
+global_type_spells g = (val_bytes g.ty, var_byte g.var ∷ [], refl, refl, go g.var)
+  where
+    go : (b : Bool) → SpellsVar b (var_byte b ∷ [])
+    go false = refl
+    go true = refl
+
+bytes_spell : (b : List ℕ) → AreBytes b → length (sized b) < 2 ^ 32 → (SpellsU32 (length b) ▸ λ c. (c ≡ b) × AreBytes b) (sized b)
+bytes_spell b h few = let l = part_less (u32_bytes (length b)) b (2 ^ 32) few in (u32_bytes (length b), b, refl, number (length b) l.1, (refl, h))
+
+name_spells : (b : List ℕ) → IsUtf8 b → length (sized b) < 2 ^ 32 → SpellsName b (sized b)
+name_spells b u few = (bytes_spell b (utf8_bytes b u) few, u)
+
+desc_spells : (d : ImportDesc) → IsDesc d → SpellsDesc d (desc_bytes d)
+desc_spells (Func x) h = one_number 0x00 x h
+desc_spells (Table l) h = (0x01 ∷ [], table_bytes l, refl, refl, table_spells l h)
+desc_spells (Memory l) h = (0x02 ∷ [], limits_bytes l, refl, refl, limits_spell l h)
+desc_spells (Global g) h = (0x03 ∷ [], global_type_bytes g, refl, refl, global_type_spells g)
+
+import_spells : (i : Import) → IsUtf8 i.module_name × IsUtf8 i.item_name × IsDesc i.desc → length (import_bytes i) < 2 ^ 32 → SpellsImport i (import_bytes i)
+import_spells i h few =
+    let l = part_less (sized i.module_name) (sized i.item_name ++ desc_bytes i.desc) (2 ^ 32) few in
+    let k = part_less (sized i.item_name) (desc_bytes i.desc) (2 ^ 32) l.1 in
+    (sized i.module_name, sized i.item_name ++ desc_bytes i.desc, refl, name_spells i.module_name h.0 l.0, (sized i.item_name, desc_bytes i.desc, refl, name_spells i.item_name h.1 k.0, desc_spells i.desc h.2))
+
+const_spells : (c : Const) → IsConst c → SpellsConst c (const_bytes c)
+const_spells c h = (op_bytes (op.Simple (constant c)), 0x0B ∷ [], refl, ([], op_bytes (op.Simple (constant c)), refl, refl, simple_spells (constant c) h), refl)
+
+global_spells : (g : GlobalDef) → IsConst g.init → SpellsGlobal g (global_bytes g)
+global_spells g h = (global_type_bytes g.ty, const_bytes g.init, refl, global_type_spells g.ty, const_spells g.init h)
+
+export_spells : (e : Export) → IsUtf8 e.name × IsU32 e.index → length (export_bytes e) < 2 ^ 32 → SpellsExport e (export_bytes e)
+export_spells e h few =
+    let l = part_less (sized e.name) (kind_byte e.kind ∷ u32_bytes e.index) (2 ^ 32) few in
+    (sized e.name, kind_byte e.kind ∷ u32_bytes e.index, refl, name_spells e.name h.0 l.0, one_number (kind_byte e.kind) e.index h.1)
+
+element_spells : (e : Element) → IsU32 e.table × IsConst e.offset × AllByRecursion IsU32 e.functions → length (element_bytes e) < 2 ^ 32 → SpellsElement e (element_bytes e)
+element_spells e h few =
+    let l = part_less (u32_bytes e.table) (const_bytes e.offset ++ listed u32_bytes e.functions) (2 ^ 32) few in
+    let k = part_less (const_bytes e.offset) (listed u32_bytes e.functions) (2 ^ 32) l.1 in
+    (u32_bytes e.table, const_bytes e.offset ++ listed u32_bytes e.functions, refl, number e.table h.0, (const_bytes e.offset, listed u32_bytes e.functions, refl, const_spells e.offset h.1, list_spells SpellsU32 u32_bytes IsU32 (λ x i l. number x i) number_some e.functions h.2 k.1))
+
+-- locals
+added : (t : ValType) (runs : List (ℕ × ValType)) → locals_of (type_before t runs) ≡ t ∷ locals_of runs
+added t [] = refl
+added I32 ((n, I32) ∷ runs) = let e : n + 1 ≡ suc n = omega arith in ap (λ k. replicate k I32 ++ locals_of runs) e
+added I32 ((n, I64) ∷ runs) = refl
+added I64 ((n, I32) ∷ runs) = refl
+added I64 ((n, I64) ∷ runs) = let e : n + 1 ≡ suc n = omega arith in ap (λ k. replicate k I64 ++ locals_of runs) e
+
+expanded : (ts : List ValType) → locals_of (runs_of ts) ≡ ts
+expanded [] = refl
+expanded (t ∷ ts) = added t (runs_of ts) ∙ ap (λ z. t ∷ z) (expanded ts)
+
+-- no run is longer than what the runs make
+run_within : (runs : List (ℕ × ValType)) (n : ℕ) → length (locals_of runs) < n → AllByRecursion (λ r. r.0 < n) runs
+run_within [] n h = tt
+run_within (r ∷ runs) n h =
+    let e : length (locals_of (r ∷ runs)) ≡ r.0 + length (locals_of runs) = length-append (replicate r.0 r.1) (locals_of runs) ∙ ap (λ k. k + length (locals_of runs)) (length-replicate r.0 r.1) in
+    (omega arith, run_within runs n (omega arith))
+
+run_spells : (r : ℕ × ValType) → r.0 < 2 ^ 32 → SpellsRun r (run_bytes r)
+run_spells r h = (u32_bytes r.0, val_bytes r.1, refl, number r.0 h, refl)
+
+run_some : (r : ℕ × ValType) → 1 ≤ length (run_bytes r)
+run_some r = omega (arith, length-append (u32_bytes r.0) (val_bytes r.1))
+
+locals_spell : (ts : List ValType) → length ts < 2 ^ 32 → length (listed run_bytes (runs_of ts)) < 2 ^ 32 → SpellsLocals ts (listed run_bytes (runs_of ts))
+locals_spell ts few short =
+    (runs_of ts, expanded ts, few, list_spells SpellsRun run_bytes (λ r. r.0 < 2 ^ 32) (λ r h l. run_spells r h) run_some (runs_of ts) (run_within (runs_of ts) (2 ^ 32) (subst (λ z. length z < 2 ^ 32) (sym (expanded ts)) few)) short)
+
+code_spells : (f : Function) → IsU32 f.type_index × (length f.locals < 2 ^ 32) × AreInstructions f.body → length (code_bytes f) < 2 ^ 32 → SpellsCode f (code_bytes f)
+code_spells f h few =
+    let l = part_less (u32_bytes (length (code_contents f))) (code_contents f) (2 ^ 32) few in
+    let k = part_less (listed run_bytes (runs_of f.locals)) (ops_bytes (ops_of f.body) ++ 0x0B ∷ []) (2 ^ 32) l.1 in (
+      u32_bytes (length (code_contents f)),
+      code_contents f,
+      refl,
+      number (length (code_contents f)) l.1,
+      (listed run_bytes (runs_of f.locals), ops_bytes (ops_of f.body) ++ 0x0B ∷ [], refl, locals_spell f.locals h.1 k.0, (ops_bytes (ops_of f.body), 0x0B ∷ [], refl, instructions_spell f.body h.2, refl)),
+    )
+
+segment_spells : (s : Segment) → IsU32 s.memory × IsConst s.offset × AreBytes s.bytes → length (segment_bytes s) < 2 ^ 32 → SpellsSegment s (segment_bytes s)
+segment_spells s h few =
+    let l = part_less (u32_bytes s.memory) (const_bytes s.offset ++ sized s.bytes) (2 ^ 32) few in
+    let k = part_less (const_bytes s.offset) (sized s.bytes) (2 ^ 32) l.1 in
+    (u32_bytes s.memory, const_bytes s.offset ++ sized s.bytes, refl, number s.memory h.0, (const_bytes s.offset, sized s.bytes, refl, const_spells s.offset h.1, bytes_spell s.bytes h.2 k.1))
+
+start_spells : (s : Option ℕ) → IfSome s IsU32 → StartSection s (start_section s)
+start_spells None h = refl
+start_spells (Some x) h = (8 ∷ [], sized (u32_bytes x), refl, refl, (u32_bytes (length (u32_bytes x)), u32_bytes x, refl, number (length (u32_bytes x)) (omega (arith, number_short x)), number x h))
+  where
+    number_short : (x : ℕ) → length (u32_bytes x) ≤ 5
+    number_short x = short 5 x
+
+no_customs : Customs []
+no_customs = ([], refl)
+
+-- no custom section, and then a section
+plainly : (P Q : Form ℕ) (a b : List ℕ) → P a → Q b → (Customs ▸ P ▸ Q) (a ++ b)
+plainly P Q a b p q = ([], a ++ b, refl, no_customs, (a, b, refl, p, q))
+
+last_one : (P : Form ℕ) (a : List ℕ) → P a → (Customs ▸ P ▸ Customs) a
+last_one P a p = ([], a, refl, no_customs, (a, [], sym (append-nil a), p, no_customs))
+
+some_sized : (b : List ℕ) → 1 ≤ length (sized b)
+some_sized b = omega (arith, length-append (u32_bytes (length b)) b, number_some (length b))
+
+limits_some : (l : Limits) → 1 ≤ length (limits_bytes l)
+limits_some l = go l.min l.max
+  where
+    go : (min : ℕ) (max : Option ℕ) → 1 ≤ length (bounds_bytes min max)
+    go min None = omega arith
+    go min (Some max) = omega arith
+
+import_some : (i : Import) → 1 ≤ length (import_bytes i)
+import_some i = omega (arith, length-append (sized i.module_name) (sized i.item_name ++ desc_bytes i.desc), some_sized i.module_name)
+
+global_some : (g : GlobalDef) → 1 ≤ length (global_bytes g)
+global_some g = omega (arith, length-append (global_type_bytes g.ty) (const_bytes g.init))
+
+export_some : (e : Export) → 1 ≤ length (export_bytes e)
+export_some e = omega (arith, length-append (sized e.name) (kind_byte e.kind ∷ u32_bytes e.index), some_sized e.name)
+
+element_some : (e : Element) → 1 ≤ length (element_bytes e)
+element_some e = omega (arith, length-append (u32_bytes e.table) (const_bytes e.offset ++ listed u32_bytes e.functions), number_some e.table)
+
+segment_some : (s : Segment) → 1 ≤ length (segment_bytes s)
+segment_some s = omega (arith, length-append (u32_bytes s.memory) (const_bytes s.offset ++ sized s.bytes), number_some s.memory)
+
+pub spells : (m : Module) → IsModule m → Fits m → SpellsModule m (canon m)
+spells m h fit = (
+  _,
+  _,
+  refl,
+  refl,
+  plainly _ _ (list_section 1 sig_bytes m.types) _ (section_spells SpellsSignature sig_bytes (λ s. Unit {0}) (λ s u l. sig_spells s l) (λ s. one_more 0x60 _) 1 m.types (any_all m.types) fit.types)
+      (plainly _ _ (list_section 2 import_bytes m.imports) _ (section_spells SpellsImport import_bytes (λ i. IsUtf8 i.module_name × IsUtf8 i.item_name × IsDesc i.desc) import_spells import_some 2 m.imports h.imports fit.imports)
+      (plainly _ _ (list_section 3 (λ f. u32_bytes f.type_index) m.functions) _
+      (section_spells (λ f. SpellsU32 f.type_index) (λ f. u32_bytes f.type_index) (λ f. IsU32 f.type_index × (length f.locals < 2 ^ 32) × AreInstructions f.body) (λ f i l. number f.type_index i.0) (λ f. number_some f.type_index) 3 m.functions h.functions fit.functions)
+      (plainly _ _ (list_section 4 table_bytes m.tables) _ (section_spells SpellsTableType table_bytes AreLimits (λ l i k. table_spells l i) (λ l. one_more 0x70 _) 4 m.tables h.tables fit.tables)
+      (plainly _ _ (list_section 5 limits_bytes m.memories) _ (section_spells SpellsLimits limits_bytes AreLimits (λ l i k. limits_spell l i) limits_some 5 m.memories h.memories fit.memories)
+      (plainly _ _ (list_section 6 global_bytes m.globals) _ (section_spells SpellsGlobal global_bytes (λ g. IsConst g.init) (λ g i l. global_spells g i) global_some 6 m.globals h.globals fit.globals)
+      (plainly _ _ (list_section 7 export_bytes m.exports) _ (section_spells SpellsExport export_bytes (λ e. IsUtf8 e.name × IsU32 e.index) export_spells export_some 7 m.exports h.exports fit.exports)
+      (plainly _ _ (start_section m.start) _ (start_spells m.start h.start)
+      (plainly _ _ (list_section 9 element_bytes m.elements) _ (section_spells SpellsElement element_bytes (λ e. IsU32 e.table × IsConst e.offset × AllByRecursion IsU32 e.functions) element_spells element_some 9 m.elements h.elements fit.elements)
+      (plainly _ _ (list_section 10 code_bytes m.functions) _
+      (section_spells SpellsCode code_bytes (λ f. IsU32 f.type_index × (length f.locals < 2 ^ 32) × AreInstructions f.body) code_spells (λ f. some_sized (code_contents f)) 10 m.functions h.functions fit.codes)
+      (last_one _ (list_section 11 segment_bytes m.segments)
+      (section_spells SpellsSegment segment_bytes (λ s. IsU32 s.memory × IsConst s.offset × AreBytes s.bytes) segment_spells segment_some 11 m.segments h.segments fit.segments))))))))))),
+)

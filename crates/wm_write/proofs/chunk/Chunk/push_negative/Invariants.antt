@@ -1,0 +1,10 @@
+use Rattle.std.proofs.Common.{◌≡◌, ◌≤◌, ◌+◌, ◌-◌, ◌++◌, length, negsuc}
+use Rattle.wm_syntax.specs.Leb128.{signed_bytes}
+use Rattle.wm_write.proofs.chunk.Chunk.push_negative.Given as goal
+
+-- what went out, and what is left of the number in the bytes that are left, spell it
+abbrev pub invariant-loop : goal.invariant-loop
+invariant-loop l = record {
+  room : length l.self + (l.most - l.counter) ≤ 16;
+  spelled : l.self ++ signed_bytes (l.most - l.counter) (negsuc l.rest) ≡ l.fn.self ++ signed_bytes l.most (negsuc l.value);
+}

@@ -1,0 +1,179 @@
+-- The canonical binary of a module: shortest numbers, empty sections omitted, no custom section, locals in maximal runs of
+-- one type, no else before an empty second branch (section 5.5).
+use Rattle.std.specs.Prelude.{ℕ, ◌<◌, ◌^◌, List, [], ◌∷◌, ◌++◌, Option, Some, None, Bool, true, false, ℤ, length, flat_map}
+use Rattle.wm_decode.specs.Sections.{header, kind_byte}
+use Rattle.wm_syntax.specs.Instructions.{ops_of}
+use Rattle.wm_syntax.specs.Leb128.{signed_bytes, unsigned_bytes}
+use Rattle.wm_syntax.specs.Modules.{Import, Function, GlobalDef, Export, Element, Segment, Module, constant}
+use Rattle.wm_syntax.specs.Opcodes.{opcode}
+use Rattle.wm_syntax.specs.Runs.{runs_of}
+use Rattle.wm_syntax.specs.Types.{Signature, type_byte}
+use Rattle.wm_syntax.specs.declared.instructions.Op.TheVariants as op
+use Rattle.wm_syntax.specs.declared.instructions.Op.{Op}
+use Rattle.wm_syntax.specs.declared.instructions.Simple.TheVariants.{Br, BrIf, Call, CallIndirect, LocalGet, LocalSet, LocalTee, GlobalGet, GlobalSet, MemorySize, MemoryGrow, I32Const, I64Const, Load, Store}
+use Rattle.wm_syntax.specs.declared.instructions.Simple.{Simple}
+use Rattle.wm_syntax.specs.declared.modules.ImportDesc.TheVariants.{Func, Table, Memory, Global}
+use Rattle.wm_syntax.specs.declared.modules.ImportDesc.{ImportDesc}
+use Rattle.wm_syntax.specs.declared.types.Const.{Const}
+use Rattle.wm_syntax.specs.declared.types.GlobalType.{GlobalType}
+use Rattle.wm_syntax.specs.declared.types.Limits.{Limits}
+use Rattle.wm_syntax.specs.declared.types.ValType.{ValType}
+
+-- the shortest spellings of numbers
+abbrev pub u32_bytes : ℕ → List ℕ
+u32_bytes n = unsigned_bytes 5 n
+
+abbrev pub s32_bytes : ℤ → List ℕ
+s32_bytes z = signed_bytes 5 z
+
+abbrev pub s64_bytes : ℤ → List ℕ
+s64_bytes z = signed_bytes 10 z
+
+abbrev pub block_byte : Option ValType → ℕ
+block_byte None = 0x40
+block_byte (Some t) = type_byte t
+
+-- what follows the byte of an instruction
+abbrev pub immediates : Simple → List ℕ
+immediates (Br l) = u32_bytes l
+immediates (BrIf l) = u32_bytes l
+immediates (Call x) = u32_bytes x
+immediates (CallIndirect x) = u32_bytes x ++ 0x00 ∷ []
+immediates (LocalGet x) = u32_bytes x
+immediates (LocalSet x) = u32_bytes x
+immediates (LocalTee x) = u32_bytes x
+immediates (GlobalGet x) = u32_bytes x
+immediates (GlobalSet x) = u32_bytes x
+immediates MemorySize = 0x00 ∷ []
+immediates MemoryGrow = 0x00 ∷ []
+immediates (I32Const n) = s32_bytes n
+immediates (I64Const n) = s64_bytes n
+immediates (Load o at) = u32_bytes at.align ++ u32_bytes at.offset
+immediates (Store o at) = u32_bytes at.align ++ u32_bytes at.offset
+immediates _ = []
+
+-- one op
+abbrev pub op_bytes : Op → List ℕ
+op_bytes (op.Simple i) = (opcode i).0 ∷ immediates i
+op_bytes (op.Block t) = 0x02 ∷ block_byte t ∷ []
+op_bytes (op.Loop t) = 0x03 ∷ block_byte t ∷ []
+op_bytes (op.If t) = 0x04 ∷ block_byte t ∷ []
+op_bytes op.Else = 0x05 ∷ []
+op_bytes op.End = 0x0B ∷ []
+op_bytes (op.BrTable n) = 0x0E ∷ u32_bytes n
+op_bytes (op.Label l) = u32_bytes l
+
+-- ops, joined
+abbrev pub ops_bytes : List Op → List ℕ
+ops_bytes ops = flat_map op_bytes ops
+
+-- how many there are, and then each
+abbrev pub listed : {X : Type 0} → (X → List ℕ) → List X → List ℕ
+listed f xs = u32_bytes (length xs) ++ flat_map f xs
+
+-- how many bytes there are, and then the bytes
+abbrev pub sized : List ℕ → List ℕ
+sized b = u32_bytes (length b) ++ b
+
+-- types
+abbrev pub val_bytes : ValType → List ℕ
+val_bytes t = type_byte t ∷ []
+
+abbrev pub sig_bytes : Signature → List ℕ
+sig_bytes s = 0x60 ∷ (listed val_bytes s.params ++ listed val_bytes s.results)
+
+abbrev pub bounds_bytes : ℕ → Option ℕ → List ℕ
+bounds_bytes min None = 0x00 ∷ u32_bytes min
+bounds_bytes min (Some max) = 0x01 ∷ (u32_bytes min ++ u32_bytes max)
+
+abbrev pub limits_bytes : Limits → List ℕ
+limits_bytes l = bounds_bytes l.min l.max
+
+abbrev pub table_bytes : Limits → List ℕ
+table_bytes l = 0x70 ∷ limits_bytes l
+
+abbrev pub var_byte : Bool → ℕ
+var_byte false = 0x00
+var_byte true = 0x01
+
+abbrev pub global_type_bytes : GlobalType → List ℕ
+global_type_bytes g = type_byte g.ty ∷ var_byte g.var ∷ []
+
+-- imports
+abbrev pub desc_bytes : ImportDesc → List ℕ
+desc_bytes (Func x) = 0x00 ∷ u32_bytes x
+desc_bytes (Table l) = 0x01 ∷ table_bytes l
+desc_bytes (Memory l) = 0x02 ∷ limits_bytes l
+desc_bytes (Global g) = 0x03 ∷ global_type_bytes g
+
+abbrev pub import_bytes : Import → List ℕ
+import_bytes i = sized i.module_name ++ (sized i.item_name ++ desc_bytes i.desc)
+
+-- globals
+abbrev pub const_bytes : Const → List ℕ
+const_bytes c = op_bytes (op.Simple (constant c)) ++ 0x0B ∷ []
+
+abbrev pub global_bytes : GlobalDef → List ℕ
+global_bytes g = global_type_bytes g.ty ++ const_bytes g.init
+
+abbrev pub export_bytes : Export → List ℕ
+export_bytes e = sized e.name ++ kind_byte e.kind ∷ u32_bytes e.index
+
+abbrev pub element_bytes : Element → List ℕ
+element_bytes e = u32_bytes e.table ++ (const_bytes e.offset ++ listed u32_bytes e.functions)
+
+-- code (5.5.13)
+abbrev pub run_bytes : ℕ × ValType → List ℕ
+run_bytes r = u32_bytes r.0 ++ val_bytes r.1
+
+abbrev pub code_contents : Function → List ℕ
+code_contents f = listed run_bytes (runs_of f.locals) ++ (ops_bytes (ops_of f.body) ++ 0x0B ∷ [])
+
+abbrev pub code_bytes : Function → List ℕ
+code_bytes f = sized (code_contents f)
+
+abbrev pub segment_bytes : Segment → List ℕ
+segment_bytes s = u32_bytes s.memory ++ (const_bytes s.offset ++ sized s.bytes)
+
+-- sections
+abbrev pub section : ℕ → List ℕ → List ℕ
+section id contents = id ∷ sized contents
+
+abbrev pub list_section : {X : Type 0} → ℕ → (X → List ℕ) → List X → List ℕ
+list_section id f [] = []
+list_section id f (x ∷ xs) = section id (listed f (x ∷ xs))
+
+abbrev pub start_section : Option ℕ → List ℕ
+start_section None = []
+start_section (Some x) = section 8 (u32_bytes x)
+
+abbrev pub canon : Module → List ℕ
+canon m =
+    header
+    ++ (list_section 1 sig_bytes m.types
+    ++ (list_section 2 import_bytes m.imports
+    ++ (list_section 3 (λ f. u32_bytes f.type_index) m.functions
+    ++ (list_section 4 table_bytes m.tables
+    ++ (list_section 5 limits_bytes m.memories
+    ++ (list_section 6 global_bytes m.globals
+    ++ (list_section 7 export_bytes m.exports
+    ++ (start_section m.start
+    ++ (list_section 9 element_bytes m.elements
+    ++ (list_section 10 code_bytes m.functions
+    ++ list_section 11 segment_bytes m.segments))))))))))
+
+-- no section is too large
+abbrev pub Within : {X : Type 0} → (X → List ℕ) → List X → Type 0
+Within f xs = length (listed f xs) < 2 ^ 32
+
+pub record Fits (m : Module) : Type 0 where
+  pub types : Within sig_bytes m.types
+  pub imports : Within import_bytes m.imports
+  pub functions : Within (λ f. u32_bytes f.type_index) m.functions
+  pub tables : Within table_bytes m.tables
+  pub memories : Within limits_bytes m.memories
+  pub globals : Within global_bytes m.globals
+  pub exports : Within export_bytes m.exports
+  pub elements : Within element_bytes m.elements
+  pub codes : Within code_bytes m.functions
+  pub segments : Within segment_bytes m.segments

@@ -1,0 +1,74 @@
+//! Modules in bytes (section 5.5.15).
+
+ghost use Rattle.std.specs.Prelude.{◌≡◌, ◌≤◌, ◌↔◌, ℕ, Err, IfOk, length, take, false, true};
+ghost use Rattle.std.specs.Io.KnownBytes.{Appends};
+ghost use Rattle.wm_syntax.specs.Values.{value_of};
+ghost use Rattle.wm_write.specs.Canon.{Fits, canon};
+ghost use Rattle.wm_write.specs.exact.Measures.{Measures};
+ghost use Rattle.wm_write.specs.exact.Writing.{Sent};
+
+use crate::parts::{
+    ElementEntry, ExportEntry, FunctionEntry, GlobalEntry, ImportEntry, MemoryEntry, SegmentEntry,
+    TableEntry, TypeEntry,
+};
+use crate::put::put_bytes;
+use crate::sections::{put_code_section, put_section, put_start_section};
+use crate::sizes::Sizes;
+use thiserror::Error;
+use wm_syntax::io::Dest;
+use wm_syntax::modules::Module;
+
+/// Why a module was not written.
+#[derive(Clone, Copy, PartialEq, Eq, Debug, Error)]
+pub enum WriteFault {
+    /// The contents of a section have 2^32 bytes or more. Nothing was written.
+    #[error("a section would have 2^32 bytes or more")]
+    TooLarge,
+    /// The writer failed, after so many bytes.
+    #[error("the writer failed after {written} bytes")]
+    Io { written: u64 },
+}
+
+/// Writes the canonical binary of a module, and answers its length. No memory is taken.
+pub fn encode<W: Dest>(m: &Module, w: &mut W) -> Result<u64, WriteFault>
+    requires open { W.has_failed w.old ≡ false }
+    ensures written { IfOk result (λ n. (n ≡ length (canon (value_of m.now)))
+        × Appends (W.contents w.old) (W.contents w.new) (canon (value_of m.now))) }
+    ensures beginning { (n : ℕ) → result ≡ Err (WriteFault.Io n) → (n ≤ length (canon (value_of m.now)))
+        × Appends (W.contents w.old) (W.contents w.new) (take n (canon (value_of m.now))) }
+    ensures too_large { (result ≡ Err WriteFault.TooLarge) ↔ (¬ Fits (value_of m.now)) }
+    ensures untouched { result ≡ Err WriteFault.TooLarge → w.new ≡ w.old }
+    ensures failed { ((n : ℕ) × (result ≡ Err (WriteFault.Io n))) ↔ (W.has_failed w.new ≡ true) }
+{
+    let Some(sizes) = Sizes::of(m) else {
+        return Err(WriteFault::TooLarge);
+    };
+    let mut written = 0;
+    put_module(w, &mut written, m, &sizes);
+    if w.failed() {
+        Err(WriteFault::Io { written })
+    } else {
+        Ok(written)
+    }
+}
+
+// Writes a module by the sizes of its sections.
+fn put_module<W: Dest>(w: &mut W, written: &mut u64, m: &Module, sizes: &Sizes)
+    requires measured { Measures sizes.now (value_of m.now) }
+    requires fits { Fits (value_of m.now) }
+    ensures { Sent (canon (value_of m.now)) (W.has_failed w.old, W.contents w.old, written.old)
+        (W.has_failed w.new, W.contents w.new, written.new) }
+{
+    put_bytes(w, written, b"\0asm\x01\0\0\0");
+    put_section::<TypeEntry, W>(w, written, 1, sizes.types, &m.types);
+    put_section::<ImportEntry, W>(w, written, 2, sizes.imports, &m.imports);
+    put_section::<FunctionEntry, W>(w, written, 3, sizes.functions, &m.functions);
+    put_section::<TableEntry, W>(w, written, 4, sizes.tables, &m.tables);
+    put_section::<MemoryEntry, W>(w, written, 5, sizes.memories, &m.memories);
+    put_section::<GlobalEntry, W>(w, written, 6, sizes.globals, &m.globals);
+    put_section::<ExportEntry, W>(w, written, 7, sizes.exports, &m.exports);
+    put_start_section(w, written, m.start);
+    put_section::<ElementEntry, W>(w, written, 9, sizes.elements, &m.elements);
+    put_code_section(w, written, sizes.codes, &m.functions);
+    put_section::<SegmentEntry, W>(w, written, 11, sizes.segments, &m.segments);
+}

@@ -1,0 +1,119 @@
+//! Bytes to a writer, and how many.
+
+ghost use Rattle.std.specs.Prelude.{◌≡◌, List, flat_map, length, ℕ};
+ghost use Rattle.wm_write.specs.Canon.{listed, sized, u32_bytes};
+ghost use Rattle.wm_write.specs.exact.Writing.{Sent, capped};
+
+use crate::spell::number;
+use std::io;
+use wm_syntax::io::{Dest, put_all};
+
+/// A part of a module, in one of its forms.
+pub(crate) trait Part {
+    type Value;
+
+    // its bytes
+    ghost bytes: { Self.Value → List ℕ };
+
+    /// Writes the bytes of a value, unless the writer has failed or fails, and adds what went out to `written`.
+    fn put<W: Dest>(w: &mut W, written: &mut u64, value: &Self::Value)
+        ensures { Sent (bytes value.now) (W.has_failed w.old, W.contents w.old, written.old)
+            (W.has_failed w.new, W.contents w.new, written.new) };
+}
+
+/// Writes some bytes.
+pub(crate) fn put_bytes<W: Dest>(w: &mut W, written: &mut u64, bytes: &[u8])
+    ensures { Sent bytes.now (W.has_failed w.old, W.contents w.old, written.old)
+        (W.has_failed w.new, W.contents w.new, written.new) }
+{
+    if w.failed() {
+        return;
+    }
+    match put_all(w, bytes) {
+        Ok(()) => *written = written.saturating_add(bytes.len() as u64),
+        Err(count) => *written = written.saturating_add(count as u64),
+    }
+}
+
+/// Writes a number.
+pub(crate) fn put_number<W: Dest>(w: &mut W, written: &mut u64, value: u64)
+    ensures { Sent (u32_bytes value) (W.has_failed w.old, W.contents w.old, written.old)
+        (W.has_failed w.new, W.contents w.new, written.new) }
+{
+    put_bytes(w, written, number(value).as_slice());
+}
+
+/// Writes each of some values.
+#[tactic(auto, using(crate::proofs::Writes::sent_none))]
+pub(crate) fn put_each<P: Part, W: Dest>(w: &mut W, written: &mut u64, values: &[P::Value])
+    ensures { Sent (flat_map P.bytes values.now) (W.has_failed w.old, W.contents w.old, written.old)
+        (W.has_failed w.new, W.contents w.new, written.new) }
+{
+    for value in values {
+        P::put(w, written, value);
+    }
+}
+
+/// Writes how many values there are, and then each (section 5.1.3).
+#[tactic(auto, using(crate::proofs::Writes::sent_then))]
+pub(crate) fn put_list<P: Part, W: Dest>(w: &mut W, written: &mut u64, values: &[P::Value])
+    ensures { Sent (listed P.bytes values.now) (W.has_failed w.old, W.contents w.old, written.old)
+        (W.has_failed w.new, W.contents w.new, written.new) }
+{
+    put_number(w, written, values.len() as u64);
+    put_each::<P, W>(w, written, values);
+}
+
+/// Writes how many bytes there are, and then those (section 5.1.3).
+#[tactic(auto, using(crate::proofs::Writes::sent_then))]
+pub(crate) fn put_sized<W: Dest>(w: &mut W, written: &mut u64, bytes: &[u8])
+    ensures { Sent (sized bytes.now) (W.has_failed w.old, W.contents w.old, written.old)
+        (W.has_failed w.new, W.contents w.new, written.new) }
+{
+    put_number(w, written, bytes.len() as u64);
+    put_bytes(w, written, bytes);
+}
+
+#[tactic(auto, using(crate::proofs::Writes::counted))]
+/// How many bytes a value has; 2^64 - 1 where there are more.
+pub(crate) fn len<P: Part>(value: &P::Value) -> u64
+    ensures { result ≡ capped (length (P.bytes value.now)) }
+{
+    let mut written = 0;
+    P::put(&mut Nowhere, &mut written, value);
+    written
+}
+
+#[tactic(auto, using(crate::proofs::Writes::counted))]
+/// How many bytes a list has; 2^64 - 1 where there are more.
+pub(crate) fn list_len<P: Part>(values: &[P::Value]) -> u64
+    ensures { result ≡ capped (length (listed P.bytes values.now)) }
+{
+    let mut written = 0;
+    put_list::<P, Nowhere>(&mut Nowhere, &mut written, values);
+    written
+}
+
+/// A writer that takes everything and keeps nothing.
+#[derive(Drop)]
+struct Nowhere;
+
+impl Dest for Nowhere {
+    ghost use Rattle.std.specs.Prelude.{None, false};
+
+    ghost contents = { λ _. None };
+
+    ghost has_failed = { λ _. false };
+
+    fn put(&mut self, buf: &[u8]) -> io::Result<usize> {
+        Ok(buf.len())
+    }
+
+    fn flush(&mut self) -> io::Result<()> {
+        Ok(())
+    }
+
+    fn failed(&self) -> bool {
+        false
+    }
+}

@@ -1,0 +1,322 @@
+//! Instructions in bytes, by the shortest numbers (section 5.4).
+
+ghost use Rattle.std.specs.Prelude.{◌≡◌, ◌++◌, ◌∷◌, [], length, ◌≤◌, ◌+◌};
+ghost use Rattle.wm_write.specs.Canon.{block_byte, desc_bytes, global_type_bytes, limits_bytes, immediates, op_bytes, u32_bytes};
+ghost use Rattle.wm_decode.specs.Sections.{kind_byte};
+ghost use Rattle.wm_syntax.specs.Leb128.{signed_bytes};
+ghost use Rattle.wm_syntax.specs.Types.{type_byte};
+ghost use Rattle.wm_syntax.specs.Opcodes.{binary, comparison, load, numeric, opcode, store, unary};
+
+use crate::chunk::Chunk;
+use wm_syntax::instructions::{
+    BinaryOp, Comparison, LoadOp, MemArg, Numeric, Op, SignExtension, Simple, StoreOp, UnaryOp,
+};
+use wm_syntax::modules::{ExportKind, ImportDesc};
+use wm_syntax::types::{GlobalType, Limits, ValType};
+
+fn comparison_place(op: Comparison) -> u8
+    ensures { result ≡ (comparison op).0 }
+{
+    match op {
+        Comparison::Eq => 0,
+        Comparison::Ne => 1,
+        Comparison::LtS => 2,
+        Comparison::LtU => 3,
+        Comparison::GtS => 4,
+        Comparison::GtU => 5,
+        Comparison::LeS => 6,
+        Comparison::LeU => 7,
+        Comparison::GeS => 8,
+        Comparison::GeU => 9,
+    }
+}
+
+fn unary_place(op: UnaryOp) -> u8
+    ensures { result ≡ (unary op).0 }
+{
+    match op {
+        UnaryOp::Clz => 0,
+        UnaryOp::Ctz => 1,
+        UnaryOp::Popcnt => 2,
+    }
+}
+
+fn binary_place(op: BinaryOp) -> u8
+    ensures { result ≡ (binary op).0 }
+{
+    match op {
+        BinaryOp::Add => 0,
+        BinaryOp::Sub => 1,
+        BinaryOp::Mul => 2,
+        BinaryOp::DivS => 3,
+        BinaryOp::DivU => 4,
+        BinaryOp::RemS => 5,
+        BinaryOp::RemU => 6,
+        BinaryOp::And => 7,
+        BinaryOp::Or => 8,
+        BinaryOp::Xor => 9,
+        BinaryOp::Shl => 10,
+        BinaryOp::ShrS => 11,
+        BinaryOp::ShrU => 12,
+        BinaryOp::Rotl => 13,
+        BinaryOp::Rotr => 14,
+    }
+}
+
+fn load_byte(op: LoadOp) -> u8
+    ensures { result ≡ (load op).byte }
+{
+    match op {
+        LoadOp::I32Load => 0x28,
+        LoadOp::I64Load => 0x29,
+        LoadOp::I32Load8S => 0x2C,
+        LoadOp::I32Load8U => 0x2D,
+        LoadOp::I32Load16S => 0x2E,
+        LoadOp::I32Load16U => 0x2F,
+        LoadOp::I64Load8S => 0x30,
+        LoadOp::I64Load8U => 0x31,
+        LoadOp::I64Load16S => 0x32,
+        LoadOp::I64Load16U => 0x33,
+        LoadOp::I64Load32S => 0x34,
+        LoadOp::I64Load32U => 0x35,
+    }
+}
+
+fn store_byte(op: StoreOp) -> u8
+    ensures { result ≡ (store op).byte }
+{
+    match op {
+        StoreOp::I32Store => 0x36,
+        StoreOp::I64Store => 0x37,
+        StoreOp::I32Store8 => 0x3A,
+        StoreOp::I32Store16 => 0x3B,
+        StoreOp::I64Store8 => 0x3C,
+        StoreOp::I64Store16 => 0x3D,
+        StoreOp::I64Store32 => 0x3E,
+    }
+}
+
+fn numeric_byte(op: Numeric) -> u8
+    ensures { result ≡ (numeric op).byte }
+{
+    match op {
+        Numeric::Test(ValType::I32) => 0x45,
+        Numeric::Test(ValType::I64) => 0x50,
+        Numeric::Compare(ValType::I32, op) => 0x46 + comparison_place(op),
+        Numeric::Compare(ValType::I64, op) => 0x51 + comparison_place(op),
+        Numeric::Unary(ValType::I32, op) => 0x67 + unary_place(op),
+        Numeric::Unary(ValType::I64, op) => 0x79 + unary_place(op),
+        Numeric::Binary(ValType::I32, op) => 0x6A + binary_place(op),
+        Numeric::Binary(ValType::I64, op) => 0x7C + binary_place(op),
+        Numeric::Wrap => 0xA7,
+        Numeric::ExtendS => 0xAC,
+        Numeric::ExtendU => 0xAD,
+        Numeric::SignExtend(SignExtension::I32From8) => 0xC0,
+        Numeric::SignExtend(SignExtension::I32From16) => 0xC1,
+        Numeric::SignExtend(SignExtension::I64From8) => 0xC2,
+        Numeric::SignExtend(SignExtension::I64From16) => 0xC3,
+        Numeric::SignExtend(SignExtension::I64From32) => 0xC4,
+    }
+}
+
+/// The byte of a value type (section 5.3.1).
+pub(crate) fn value_byte(ty: ValType) -> u8
+    ensures { result ≡ type_byte ty }
+{
+    match ty {
+        ValType::I32 => 0x7F,
+        ValType::I64 => 0x7E,
+    }
+}
+
+fn block_byte(ty: Option<ValType>) -> u8
+    ensures { result ≡ block_byte ty }
+{
+    match ty {
+        None => 0x40,
+        Some(ty) => value_byte(ty),
+    }
+}
+
+/// One byte.
+pub(crate) fn one(byte: u8) -> Chunk
+    ensures { result ≡ byte ∷ [] }
+{
+    let mut chunk = Chunk::new();
+    chunk.push(byte);
+    chunk
+}
+
+fn two(first: u8, second: u8) -> Chunk
+    ensures { result ≡ first ∷ second ∷ [] }
+{
+    let mut chunk = one(first);
+    chunk.push(second);
+    chunk
+}
+
+/// A number.
+pub(crate) fn number(value: u64) -> Chunk
+    ensures { result ≡ u32_bytes value }
+{
+    let mut chunk = Chunk::new();
+    chunk.push_unsigned(value, 5);
+    chunk
+}
+
+fn with_number(byte: u8, value: u32) -> Chunk
+    ensures value { result ≡ byte ∷ u32_bytes value }
+    ensures short { length result ≤ 6 }
+{
+    let mut chunk = one(byte);
+    chunk.push_unsigned(u64::from(value), 5);
+    chunk
+}
+
+fn access(byte: u8, at: MemArg) -> Chunk
+    ensures { result ≡ byte ∷ (u32_bytes at.align ++ u32_bytes at.offset) }
+{
+    let mut chunk = with_number(byte, at.align);
+    chunk.push_unsigned(u64::from(at.offset), 5);
+    chunk
+}
+
+fn indirect(index: u32) -> Chunk
+    ensures { result ≡ 0x11 ∷ (u32_bytes index ++ 0x00 ∷ []) }
+{
+    let mut chunk = with_number(0x11, index);
+    chunk.push(0x00);
+    chunk
+}
+
+fn constant(byte: u8, value: i64, most: usize) -> Chunk
+    requires { most ≤ 10 }
+    ensures { result ≡ byte ∷ signed_bytes most value }
+{
+    let mut chunk = one(byte);
+    chunk.push_signed(value, most);
+    chunk
+}
+
+fn spell_simple(simple: Simple) -> Chunk
+    ensures { result ≡ (opcode simple).0 ∷ immediates simple }
+{
+    match simple {
+        Simple::Unreachable => one(0x00),
+        Simple::Nop => one(0x01),
+        Simple::Br(label) => with_number(0x0C, label),
+        Simple::BrIf(label) => with_number(0x0D, label),
+        Simple::Return => one(0x0F),
+        Simple::Call(index) => with_number(0x10, index),
+        Simple::CallIndirect(index) => indirect(index),
+        Simple::Drop => one(0x1A),
+        Simple::Select => one(0x1B),
+        Simple::LocalGet(index) => with_number(0x20, index),
+        Simple::LocalSet(index) => with_number(0x21, index),
+        Simple::LocalTee(index) => with_number(0x22, index),
+        Simple::GlobalGet(index) => with_number(0x23, index),
+        Simple::GlobalSet(index) => with_number(0x24, index),
+        Simple::MemorySize => two(0x3F, 0x00),
+        Simple::MemoryGrow => two(0x40, 0x00),
+        Simple::I32Const(value) => constant(0x41, i64::from(value), 5),
+        Simple::I64Const(value) => constant(0x42, value, 10),
+        Simple::Load(op, at) => access(load_byte(op), at),
+        Simple::Store(op, at) => access(store_byte(op), at),
+        Simple::Numeric(op) => one(numeric_byte(op)),
+    }
+}
+
+/// The bytes of one op.
+pub(crate) fn spell(op: Op) -> Chunk
+    ensures { result ≡ op_bytes op }
+{
+    match op {
+        Op::Simple(simple) => spell_simple(simple),
+        Op::Block(ty) => two(0x02, block_byte(ty)),
+        Op::Loop(ty) => two(0x03, block_byte(ty)),
+        Op::If(ty) => two(0x04, block_byte(ty)),
+        Op::Else => one(0x05),
+        Op::End => one(0x0B),
+        Op::BrTable(count) => with_number(0x0E, count),
+        Op::Label(label) => number(u64::from(label)),
+    }
+}
+
+/// Limits (section 5.3.4), at most eleven bytes.
+pub(crate) fn push_limits(chunk: &mut Chunk, limits: Limits)
+    requires { length chunk.old + 11 ≤ 16 }
+    ensures { chunk.new ≡ chunk.old ++ limits_bytes limits }
+{
+    match limits.max {
+        None => {
+            chunk.push(0x00);
+            chunk.push_unsigned(u64::from(limits.min), 5);
+        }
+        Some(max) => {
+            chunk.push(0x01);
+            chunk.push_unsigned(u64::from(limits.min), 5);
+            chunk.push_unsigned(u64::from(max), 5);
+        }
+    }
+}
+
+/// A global type (section 5.3.7).
+pub(crate) fn push_global_type(chunk: &mut Chunk, ty: GlobalType)
+    requires { length chunk.old + 2 ≤ 16 }
+    ensures { chunk.new ≡ chunk.old ++ global_type_bytes ty }
+{
+    chunk.push(value_byte(ty.ty));
+    chunk.push(if ty.var { 0x01 } else { 0x00 });
+}
+
+/// What an import brings in (section 5.5.5).
+pub(crate) fn spell_desc(desc: ImportDesc) -> Chunk
+    ensures { result ≡ desc_bytes desc }
+{
+    match desc {
+        ImportDesc::Func(index) => with_number(0x00, index),
+        ImportDesc::Table(limits) => {
+            let mut chunk = two(0x01, 0x70);
+            push_limits(&mut chunk, limits);
+            chunk
+        }
+        ImportDesc::Memory(limits) => {
+            let mut chunk = one(0x02);
+            push_limits(&mut chunk, limits);
+            chunk
+        }
+        ImportDesc::Global(ty) => {
+            let mut chunk = one(0x03);
+            push_global_type(&mut chunk, ty);
+            chunk
+        }
+    }
+}
+
+fn kind_byte(kind: ExportKind) -> u8
+    ensures { result ≡ kind_byte kind }
+{
+    match kind {
+        ExportKind::Func => 0x00,
+        ExportKind::Table => 0x01,
+        ExportKind::Memory => 0x02,
+        ExportKind::Global => 0x03,
+    }
+}
+
+/// What an export gives out (section 5.5.10).
+pub(crate) fn spell_item(kind: ExportKind, index: u32) -> Chunk
+    ensures { result ≡ kind_byte kind ∷ u32_bytes index }
+{
+    with_number(kind_byte(kind), index)
+}
+
+/// A run of locals of one type (section 5.5.13).
+pub(crate) fn spell_run(count: u32, ty: ValType) -> Chunk
+    ensures { result ≡ u32_bytes count ++ type_byte ty ∷ [] }
+{
+    let mut chunk = Chunk::new();
+    chunk.push_unsigned(u64::from(count), 5);
+    chunk.push(value_byte(ty));
+    chunk
+}
