@@ -18,6 +18,9 @@ use thiserror::Error;
 use wm_syntax::io::Dest;
 use wm_syntax::modules::Module;
 
+#[cfg(test)]
+mod tests;
+
 /// Why a module was not written.
 #[derive(Clone, Copy, PartialEq, Eq, Debug, Error)]
 pub enum WriteFault {
