@@ -4,3 +4,4 @@ pub mod SectionLemmas
 pub mod CanonLemmas
 pub mod Ranges
 pub mod Least
+pub mod Shortest

@@ -36,7 +36,7 @@ pub no_start : (start : Option ℕ) (s : State) → start ≡ None → Sent (sta
 no_start None s is = sent_none s
 no_start (Some x) s is = let e : ⊥ = cc is in absurd e
 
--- A module whose sections fit has fewer than 2 ^ 64 bytes.
+-- A module whose sections fit has fewer than 2 ^ 62 bytes.
 section_short : {X : Type 0} (id : ℕ) (f : X → List ℕ) (xs : List X) → length (list_section id f xs) ≤ 6 + length (listed f xs)
 section_short id f [] = omega arith
 section_short id f (x ∷ xs) =
@@ -46,7 +46,7 @@ start_short : (start : Option ℕ) → length (start_section start) ≤ 11
 start_short None = omega arith
 start_short (Some x) = omega (arith, length-append (u32_bytes (length (u32_bytes x))) (u32_bytes x), short 5 (length (u32_bytes x)), short 5 x)
 
-pub canon_short : (m : Module) → Fits m → length (canon m) < 2 ^ 64
+pub canon_short : (m : Module) → Fits m → length (canon m) < 2 ^ 62
 canon_short m fit =
     let s1 = list_section 1 sig_bytes m.types in
     let s2 = list_section 2 import_bytes m.imports in
