@@ -9,7 +9,7 @@ use Rattle.clap.specs.declared.builder.action.ArgAction.TheVariants.{Set}
 use Rattle.wm_syntax.specs.declared.profile.Profile.{Profile}
 use Rattle.wm_syntax.specs.declared.profile.Profile.TheVariants.{One, Two}
 use Rattle.wm_cli.specs.declared.words.Action.{Action}
-use Rattle.wm_cli.specs.declared.words.Action.TheVariants.{Check, Stats}
+use Rattle.wm_cli.specs.declared.words.Action.TheVariants.{Check, Stats, Canon}
 use Rattle.wm_cli.specs.declared.words.Line.{Line}
 use Rattle.wm_cli.specs.declared.line.WrongWord.{WrongWord}
 use Rattle.wm_cli.specs.declared.line.WrongWord.TheVariants as wrong
@@ -44,6 +44,7 @@ wmod = with_rule (with_rule (with_rule (with_rule (versioned (codes "wmod")) act
 abbrev pub action_name : Action → Text
 action_name Check = codes "check"
 action_name Stats = codes "stats"
+action_name Canon = codes "canon"
 
 -- the word that names a profile
 abbrev pub profile_name : Profile → Text

@@ -39,6 +39,7 @@ fn action_of(text: &str) -> Option<Action>
     match text {
         "check" => Some(Action::Check),
         "stats" => Some(Action::Stats),
+        "canon" => Some(Action::Canon),
         _ => None,
     }
 }
@@ -55,9 +56,10 @@ fn profile_of(text: &str) -> Option<Profile>
 }
 
 const ABOUT: &str =
-    "Checks WebAssembly 1.0 modules (integer instructions only), reading them once.\n\n  \
+    "Checks and converts WebAssembly 1.0 modules (integer instructions only), reading them once.\n\n  \
     check   write `valid`, or why not and where\n  \
-    stats   write figures of a valid module's function bodies";
+    stats   write figures of a valid module's function bodies\n  \
+    canon   write a valid module as its canonical binary: shortest numbers, no custom sections";
 
 const ANSWERS: &str =
     "Writes `refused at N: NAME` of any other input: N bytes were read when it was decided.\n\
@@ -65,7 +67,8 @@ const ANSWERS: &str =
     Exit status: 0 done, 1 refused, 2 wrong arguments, 3 cannot read or write, 4 out of memory.\n\n\
     Examples:\n  \
     wmod check module.wasm\n  \
-    wmod stats --limit 1000000 < module.wasm";
+    wmod stats --limit 1000000 < module.wasm\n  \
+    wmod canon module.wasm > canonical.wasm";
 
 fn action_arg<'a>(alloc: Global) -> Arg<'a>
     ensures rule { rule_of result ≡ action_rule }
@@ -74,7 +77,7 @@ fn action_arg<'a>(alloc: Global) -> Arg<'a>
     Arg::new(alloc, "ACTION")
         .required(true)
         .action(ArgAction::Set)
-        .help("check or stats")
+        .help("check, stats or canon")
 }
 
 fn profile_arg<'a>(alloc: Global) -> Arg<'a>
@@ -201,7 +204,7 @@ pub enum WrongWord<'a> {
 impl fmt::Display for WrongWord<'_> {
     fn fmt<W: fmt::Write>(&self, f: &mut fmt::Formatter<W>) -> fmt::Result {
         match self {
-            WrongWord::Action(word) => write!(f, "'{word}' is no action: check, stats"),
+            WrongWord::Action(word) => write!(f, "'{word}' is no action: check, stats, canon"),
             WrongWord::Profile(word) => write!(f, "'{word}' is no profile: 1, 2"),
             WrongWord::Limit(word) => {
                 write!(

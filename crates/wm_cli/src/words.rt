@@ -15,6 +15,8 @@ pub enum Action {
     Check,
     /// Write the figures of its bodies, where it is valid.
     Stats,
+    /// Write its canonical binary, where it is valid.
+    Canon,
 }
 
 /// The words, read.

@@ -7,5 +7,6 @@ pub mod OpSteps
 pub mod Readings
 pub mod Runs
 pub mod Steps
+pub mod TwoSinks
 pub mod ValueSteps
 pub mod WholeOps

@@ -28,7 +28,7 @@ all_spelled : {X : Type 0} (S : X → Form ℕ) (P : X → Type 0) → ((x : X) 
 all_spelled S P f [] b h = tt
 all_spelled S P f (x ∷ xs) b h = (f x h.0 h.3, all_spelled S P f xs h.1 h.4)
 
-in_section : {X : Type 0} (id : ℕ) (S : X → Form ℕ) (P : X → Type 0) → ((x : X) (b : List ℕ) → S x b → P x) → (xs : List X) (b : List ℕ) → ListSection id S xs b → AllByRecursion P xs
+pub in_section : {X : Type 0} (id : ℕ) (S : X → Form ℕ) (P : X → Type 0) → ((x : X) (b : List ℕ) → S x b → P x) → (xs : List X) (b : List ℕ) → ListSection id S xs b → AllByRecursion P xs
 in_section id S P f xs b (inl h) = all_spelled S P f xs h.4.4.1 h.4.4.4
 in_section id S P f xs b (inr h) = subst (λ z. AllByRecursion P z) (sym h.0) tt
 

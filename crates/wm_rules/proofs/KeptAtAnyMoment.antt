@@ -1,5 +1,5 @@
 -- What a validator keeps at any moment.
-use Rattle.std.proofs.Common.{◌≡◌, ◌≢◌, ℕ, zero, suc, ◌+◌, ◌-◌, ◌*◌, ◌≤◌, ◌<◌, ◌^◌, List, [], ◌∷◌, ◌++◌, Bool, true, false, cond, Option, Some, None, Result, Ok, Err, length, IsOk, inl, inr, refl, sym, ◌∙◌, ap, subst, arith, length-append}
+use Rattle.std.proofs.Common.{◌≡◌, ◌≢◌, ℕ, ◌+◌, ◌-◌, ◌*◌, ◌≤◌, ◌<◌, ◌^◌, List, [], ◌++◌, Bool, true, false, cond, Option, Some, None, Result, Ok, Err, length, IsOk, inl, inr, refl, sym, ◌∙◌, ap, subst, arith}
 use Rattle.std.specs.Prelude.{MatchOption}
 use Rattle.wm_syntax.specs.declared.profile.Profile.{Profile}
 use Rattle.wm_decode.specs.declared.refusal.Refusal.{Refusal}
@@ -8,21 +8,19 @@ use Rattle.wm_decode.specs.inner.Decoders.{refusal_of_decoder}
 use Rattle.wm_decode.specs.Fronts.{entry_bytes, unfinished_name}
 use Rattle.wm_syntax.specs.declared.why.Why.{Why}
 use Rattle.wm_syntax.specs.declared.why.Why.TheVariants as why
-use Rattle.wm_decode.specs.declared.machine.Machine.{Machine}
-use Rattle.wm_decode.specs.declared.machine.Machine.TheVariants as machine
 use Rattle.wm_decode.specs.Items.{items_at}
-use Rattle.wm_decode.specs.Sinks.{all_taken, and_then}
-use Rattle.wm_decode.specs.exact.Live.{Live, live_at_start, decoder_after, answer_at_end, answer_at_end_of, state_of}
+use Rattle.wm_decode.specs.Sinks.{all_taken}
+use Rattle.wm_decode.specs.exact.Live.{Live, live_at_start, decoder_after, state_of}
 use Rattle.wm_decode.proofs.DecoderCalls.{after_so_far, live_after}
-use Rattle.wm_decode.proofs.MachineAndSink.{decoded_append, reached, used_of}
 use Rattle.wm_decode.proofs.Zones.{all_bytes, at_hand}
 use Rattle.wm_rules.specs.declared.checker.Checker.{Checker}
 use Rattle.wm_rules.specs.declared.validator.Validator.{Validator}
-use Rattle.wm_rules.specs.exact.Checking.{after, empty_checker, summary_in}
+use Rattle.wm_rules.specs.exact.Checking.{after, empty_checker}
 use Rattle.wm_rules.specs.Holding.{Held}
 use Rattle.wm_rules.specs.Kept.{entries_of}
 use Rattle.wm_rules.specs.Validating.{AtMoment, KeepsOf, KeepsNothing}
 use Rattle.wm_rules.specs.inner.Validators.{HasRead, RefusedAfter, StateRead, validator_heights, validator_value, kept_in, validator_entries, validator_moves, refusal_in, validator_refusal, validator_setting, verdict}
+use Rattle.wm_rules.proofs.Verdicts as verdicts
 use Rattle.wm_rules.proofs.Costs.{at_most_kept}
 use Rattle.wm_rules.proofs.KeptOfBodies.{front_at_hand}
 
@@ -36,54 +34,23 @@ unrefused d e = go (state_of held d) e
     go (Ok l) e = cc
     go (Err r) e = absurd (cc)
 
+-- what its checker holds
+came_to : (d : Decoder Checker) (p : Profile) (limit : ℕ) (bytes : List ℕ) → StateRead (Ok d) p limit bytes → (l : Live Held) × (decoder_after after p limit (live_at_start empty_checker) bytes ≡ Ok l)
+came_to d p limit bytes h = let l = live_after held after (validator_setting p limit) d bytes (unrefused d h.1) h.0 in (l.0, l.1)
+
 -- so many bytes were read as the limit allows
 fits : (d : Decoder Checker) (p : Profile) (limit : ℕ) (bytes : List ℕ) → StateRead (Ok d) p limit bytes → length bytes ≤ limit
-fits d p limit bytes h =
-    let l = live_after held after (validator_setting p limit) d bytes (unrefused d h.1) h.0 in
-    let r = reached after p limit bytes (live_at_start empty_checker) l.0 l.1 in
-    go bytes r.within
-  where
-    go : (b : List ℕ) → ((b ≡ [] → ⊥) → 0 + length b ≤ limit) → length b ≤ limit
-    go [] f = omega arith
-    go (c ∷ b) f = let n : 0 + length (c ∷ b) ≤ limit = f (λ e. cc) in omega (arith, n)
+fits d p limit bytes h = let l = came_to d p limit bytes h in verdicts.fits p limit bytes l.0 l.1
 
--- a first refusal, other than for memory, has its place after what was read before
+-- the place of a first refusal, other than for memory
 pub place_in_piece : (d : Decoder Checker) (p : Profile) (limit : ℕ) (before piece : List ℕ) (r : Refusal) → StateRead (Ok d) p limit before
     → RefusedAfter p limit (before ++ piece) r → r.why ≢ why.Memory → length before < r.at
-place_in_piece d p limit before piece r h new ne =
-    let l = live_after held after (validator_setting p limit) d before (unrefused d h.1) h.0 in
-    let q = reached after p limit before (live_at_start empty_checker) l.0 l.1 in
-    let few = fits d p limit before h in
-    let low : l.0.at ≤ limit = omega (arith, q.at, few) in
-    elim new.stands [
-      | inr m ↦ absurd (ne m.0)
-      | inl e ↦
-          let more = decoded_append after p limit before piece (live_at_start empty_checker) ∙ ap (λ y. and_then y (λ m. decoder_after after p limit m piece)) l.1 in
-          let u = used_of after p limit piece l.0 r low (sym more ∙ e) in
-          omega (arith, q.at, u.at, length-append u.used (u.byte ∷ []))
-    ]
+place_in_piece d p limit before piece r h = let l = came_to d p limit before h in verdicts.place_in_piece p limit before piece r l.0 l.1
 
--- and one at the end has it there
+-- and of one at the end
 pub place_at_end : (d : Decoder Checker) (p : Profile) (limit : ℕ) (input : List ℕ) (r : Refusal) → StateRead (Ok d) p limit input
     → verdict p limit input ≡ Err r → r.at ≡ length input
-place_at_end d p limit input r h e =
-    let l = live_after held after (validator_setting p limit) d input (unrefused d h.1) h.0 in
-    let q = reached after p limit input (live_at_start empty_checker) l.0 l.1 in
-    let end = sym (ap (λ y. and_then (and_then y answer_at_end) (λ g. Ok (summary_in g))) l.1) ∙ e in
-    omega (arith, q.at, ended_at_place l.0.machine l.0.held l.0.at r (same_refusal (answer_at_end l.0) end))
-  where
-    same_refusal : (x : Result Held Refusal) → and_then x (λ g. Ok (summary_in g)) ≡ Err r → x ≡ Err r
-    same_refusal (Ok g) e = absurd (cc)
-    same_refusal (Err t) e = let s : t ≡ r = cc in ap Err s
-
-    its_place : (at : ℕ) (w : Why) (r : Refusal) → record { at = at; why = w } ≡ r → r.at ≡ at
-    its_place at w r e = sym (ap (λ (y : Refusal). y.at) e)
-
-    ended_at_place : (m : Machine) (g : Held) (at : ℕ) (r : Refusal) → answer_at_end_of m g at ≡ Err r → r.at ≡ at
-    ended_at_place (machine.Between last zero) g at r e = absurd (cc)
-    ended_at_place (machine.Between last (suc n)) g at r e = its_place at why.CodeCount r (cc (e))
-    ended_at_place (machine.Refused w) g at r e = its_place at w r (cc (e))
-    ended_at_place m g at r e = its_place at why.Truncated r (cc (e))
+place_at_end d p limit input r h = let l = came_to d p limit input h in verdicts.place_at_end p limit input r l.0 l.1
 
 few_moves : (b : Bool) (m n : ℕ) → (b ≡ true → m ≤ n) → cond b m 0 ≤ n
 few_moves true m n f = f refl

@@ -27,3 +27,13 @@ pub mod Figures
 pub mod SourceLemmas
 pub mod JoinedPieces
 pub mod NeverFloat
+pub mod BothSinks
+pub mod ChangedLast
+pub mod BuiltData
+pub mod BuiltModules
+pub mod FrameKinds
+pub mod FollowedOps
+pub mod FollowedItems
+pub mod LoadedModules
+pub mod SameAnswers
+pub mod LoaderCalls

@@ -1,16 +1,19 @@
 -- What is true after a refusal, and of a decoder over a checker.
-use Rattle.std.proofs.Common.{◌≡◌, ◌≢◌, ℕ, ◌<◌, ◌≤◌, List, [], ◌∷◌, ◌++◌, Some, Result, Ok, Err, IfErr, IfOk, length, refl, sym, ◌∙◌, ap, subst, inl, inr, arith, append-nil, append_assoc, length-append}
+use Rattle.std.proofs.Common.{◌≡◌, ◌≢◌, ℕ, zero, suc, ◌+◌, ◌<◌, ◌≤◌, List, [], ◌∷◌, ◌++◌, Some, Result, Ok, Err, IfErr, IfOk, length, refl, sym, ◌∙◌, ap, subst, inl, inr, arith, append-nil, append_assoc, length-append}
 use Rattle.wm_syntax.specs.declared.profile.Profile.{Profile}
+use Rattle.wm_syntax.specs.declared.why.Why.{Why}
 use Rattle.wm_syntax.specs.declared.why.Why.TheVariants as why
 use Rattle.wm_syntax.specs.Spelling.{AreBytes}
 use Rattle.wm_decode.specs.declared.refusal.Refusal.{Refusal}
 use Rattle.wm_decode.specs.declared.state.Decoder.{Decoder}
+use Rattle.wm_decode.specs.declared.machine.Machine.{Machine}
+use Rattle.wm_decode.specs.declared.machine.Machine.TheVariants as machine
 use Rattle.wm_decode.specs.Decoding.{EndsInFloat}
 use Rattle.wm_decode.specs.inner.Decoders.{HasDecoded, RanOut, refusal_of_decoder}
-use Rattle.wm_decode.specs.exact.Live.{Live, decoder_after, live_at_start, answer_at_end, state_of}
+use Rattle.wm_decode.specs.exact.Live.{IsRefused, Live, decoder_after, live_at_start, answer_at_end, answer_at_end_of, state_of}
 use Rattle.wm_decode.specs.Sinks.{and_then}
 use Rattle.wm_decode.proofs.ByteLists.{bytes-append, front_bytes}
-use Rattle.wm_decode.proofs.MachineAndSink.{used_of, used_refused, decoded_append, never}
+use Rattle.wm_decode.proofs.MachineAndSink.{reached, used_of, used_refused, decoded_append, never}
 use Rattle.wm_decode.proofs.Floats.{ends_in_float}
 use Rattle.wm_decode.proofs.Header.{late_memory}
 use Rattle.wm_decode.proofs.DecoderCalls.{stands_refused}
@@ -105,6 +108,66 @@ module _ (p : Profile) (limit : ℕ) where
       by_memory : state_of (λ (c : Checker). c) d ≡ Err r → RanOut (state_of (λ (c : Checker). c) d) b → (r.why ≡ why.Memory) × (8 < r.at)
       by_memory s o = let t : Err o.refusal ≡ Err r = sym o.stands ∙ s in let u : o.refusal ≡ r = cc in
           (subst (λ (y : Refusal). y.why ≡ why.Memory) u o.memory, subst (λ (y : Refusal). 8 < y.at) u o.past_header)
+
+  -- a checker that has come so far: what was read is within the limit
+  pub fits : (b : List ℕ) (l : Live Held) → Decoded b ≡ Ok l → length b ≤ limit
+  fits b l e = go b (reached after p limit b Starts l e).within
+    where
+      go : (b : List ℕ) → ((b ≡ [] → ⊥) → 0 + length b ≤ limit) → length b ≤ limit
+      go [] f = omega arith
+      go (c ∷ b) f = let n : 0 + length (c ∷ b) ≤ limit = f (λ e. cc) in omega (arith, n)
+
+  -- a first refusal, other than for memory, has its place after what was read before
+  pub place_in_piece : (before piece : List ℕ) (r : Refusal) (l : Live Held) → Decoded before ≡ Ok l
+      → RefusedAfter p limit (before ++ piece) r → r.why ≢ why.Memory → length before < r.at
+  place_in_piece before piece r l is new ne =
+      let q = reached after p limit before Starts l is in
+      let few = fits before l is in
+      let under : l.at ≤ limit = omega (arith, q.at, few) in
+      elim new.stands [
+        | inr m ↦ absurd (ne m.0)
+        | inl e ↦
+            let more = decoded_append after p limit before piece Starts ∙ ap (λ y. and_then y (λ m. decoder_after after p limit m piece)) is in
+            let u = used_of after p limit piece l r under (sym more ∙ e) in
+            omega (arith, q.at, u.at, length-append u.used (u.byte ∷ []))
+      ]
+
+  at_end : (input : List ℕ) (r : Refusal) (l : Live Held) → Decoded input ≡ Ok l → verdict p limit input ≡ Err r → answer_at_end l ≡ Err r
+  at_end input r l is e = same_refusal (answer_at_end l) (sym (ap (λ y. and_then (and_then y answer_at_end) (λ g. Ok (summary_in g))) is) ∙ e)
+    where
+      same_refusal : (x : Result Held Refusal) → and_then x (λ g. Ok (summary_in g)) ≡ Err r → x ≡ Err r
+      same_refusal (Ok g) e = absurd (cc)
+      same_refusal (Err t) e = let s : t ≡ r = cc in ap Err s
+
+  -- one at the end has it there
+  pub place_at_end : (input : List ℕ) (r : Refusal) (l : Live Held) → Decoded input ≡ Ok l → verdict p limit input ≡ Err r → r.at ≡ length input
+  place_at_end input r l is e =
+      let q = reached after p limit input Starts l is in
+      omega (arith, q.at, ended_at_place l.machine l.held l.at (at_end input r l is e))
+    where
+      its_place : (at : ℕ) (w : Why) → record { at = at; why = w } ≡ r → r.at ≡ at
+      its_place at w e = sym (ap (λ (y : Refusal). y.at) e)
+
+      ended_at_place : (m : Machine) (g : Held) (at : ℕ) → answer_at_end_of m g at ≡ Err r → r.at ≡ at
+      ended_at_place (machine.Between last zero) g at e = absurd (cc)
+      ended_at_place (machine.Between last (suc n)) g at e = its_place at why.CodeCount (cc (e))
+      ended_at_place (machine.Refused w) g at e = its_place at w (cc (e))
+      ended_at_place m g at e = its_place at why.Truncated (cc (e))
+
+  -- and is not for a byte of floating-point numbers
+  pub no_float_at_end : (input : List ℕ) (r : Refusal) (l : Live Held) → Decoded input ≡ Ok l → verdict p limit input ≡ Err r → r.why ≢ why.Float
+  no_float_at_end input r l is e =
+      let q = reached after p limit input Starts l is in
+      ended l.machine l.held l.at (q.live (λ i. i)) (at_end input r l is e)
+    where
+      its_name : (at : ℕ) (w : Why) → record { at = at; why = w } ≡ r → r.why ≡ w
+      its_name at w e = sym (ap (λ (y : Refusal). y.why) e)
+
+      ended : (m : Machine) (g : Held) (at : ℕ) → (IsRefused m → ⊥) → answer_at_end_of m g at ≡ Err r → r.why ≢ why.Float
+      ended (machine.Between last zero) g at live e f = absurd (cc)
+      ended (machine.Between last (suc n)) g at live e f = let is : why.CodeCount ≡ why.Float = sym (its_name at why.CodeCount (cc (e))) ∙ f in cc
+      ended (machine.Refused w) g at live e f = absurd (live tt)
+      ended m g at live e f = let is : why.Truncated ≡ why.Float = sym (its_name at why.Truncated (cc (e))) ∙ f in cc
 
   -- what is refused is not accepted
   pub not_accepted : (b : List ℕ) (r : Refusal) → RefusedAfter p limit b r → r.why ≢ why.Memory → Accepted p limit b → ⊥

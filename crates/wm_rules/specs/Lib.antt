@@ -2,6 +2,7 @@ pub mod Bounds
 pub mod Holding
 pub mod Joining
 pub mod Kept
+pub mod Loading
 pub mod Reading
 pub mod Room
 pub mod Validating

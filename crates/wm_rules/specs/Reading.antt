@@ -8,7 +8,11 @@ use Rattle.wm_rules.specs.declared.checker.Summary.{Summary}
 use Rattle.std.specs.Io.KnownBytes.{IsAtEnd}
 use Rattle.wm_rules.specs.Validation.{Accepted}
 use Rattle.wm_rules.specs.Bounds.{SummaryOf}
+use Rattle.wm_syntax.specs.Values.{value_of}
+use Rattle.wm_rules.specs.declared.loader.state.Checked.{Checked}
+use Rattle.wm_rules.specs.Loading.{Loads}
 use Rattle.wm_rules.specs.Validating.{NeverAccepted}
+use Rattle.wm_rules.specs.inner.Loaders.{module_in}
 use Rattle.wm_rules.specs.inner.Validators.{verdict}
 use Rattle.wm_decode.specs.declared.refusal.Refusal.{Refusal}
 
@@ -33,12 +37,25 @@ pub record RefusedInput (p : Profile) (limit : ℕ) (input : List ℕ) (left : O
   pub place : r.at + bytes_left left ≤ length input
   pub stops : r.why ≢ Memory → length input < r.at + 4096 + bytes_left left
 
--- what is answered to an input, of which so much is left to read
-abbrev pub JudgesInput : Profile → ℕ → List ℕ → Option (List ℕ) → Result Summary FromFault → Type 0
-JudgesInput p limit input left (Ok s) = ValidInput p limit input left s
-JudgesInput p limit input left (Err (Refused r)) = RefusedInput p limit input left r
-JudgesInput p limit input left (Err Io) = Unit {0}
+-- A module is loaded of an input, and all of it was read.
+pub record LoadedInput (p : Profile) (limit : ℕ) (input : List ℕ) (left : Option (List ℕ)) (c : Checked) : Type 0 where
+  pub at_end : IsAtEnd left
+  pub loads : Loads p limit input (value_of (module_in c))
+
+-- What is answered to an input, of which so much is left to read: to an accepted one something of which IsRight holds.
+abbrev pub AnswersInput : {A : Type 0} → (List ℕ → Option (List ℕ) → A → Type 0) → Profile → ℕ → List ℕ → Option (List ℕ)
+    → Result A FromFault → Type 0
+AnswersInput {A} IsRight p limit input left (Ok x) = IsRight input left x
+AnswersInput {A} IsRight p limit input left (Err (Refused r)) = RefusedInput p limit input left r
+AnswersInput {A} IsRight p limit input left (Err Io) = Unit {0}
 
 -- the same of a source before and after, where it tells its bytes
+abbrev pub Answers : {A : Type 0} → (List ℕ → Option (List ℕ) → A → Type 0) → Profile → ℕ → Option (List ℕ) → Option (List ℕ)
+    → Result A FromFault → Type 0
+Answers IsRight p limit all left result = IfSome all (λ input. AnswersInput IsRight p limit input left result)
+
 abbrev pub Judges : Profile → ℕ → Option (List ℕ) → Option (List ℕ) → Result Summary FromFault → Type 0
-Judges p limit all left result = IfSome all (λ input. JudgesInput p limit input left result)
+Judges p limit all left result = Answers (ValidInput p limit) p limit all left result
+
+abbrev pub LoadsFrom : Profile → ℕ → Option (List ℕ) → Option (List ℕ) → Result Checked FromFault → Type 0
+LoadsFrom p limit all left result = Answers (LoadedInput p limit) p limit all left result

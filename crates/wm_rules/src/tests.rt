@@ -1,7 +1,8 @@
 //! Modules as lists of items, each rule once kept and once broken.
 
-use crate::{Checker, laws};
+use crate::{Builder, Checker, laws};
 use std::alloc::Global;
+use std::io::{self, Read};
 use wm_decode::{Item, Sink};
 use wm_syntax::instructions::{Op, Simple};
 use wm_syntax::modules::ExportKind;
@@ -13,6 +14,22 @@ pub(crate) const ADD: [u8; 32] = [
     0x00, 0x61, 0x73, 0x6D, 0x01, 0x00, 0x00, 0x00, 0x01, 0x07, 0x01, 0x60, 0x02, 0x7F, 0x7F, 0x01,
     0x7F, 0x03, 0x02, 0x01, 0x00, 0x0A, 0x09, 0x01, 0x07, 0x00, 0x20, 0x00, 0x20, 0x01, 0x6A, 0x0B,
 ];
+
+/// Gives what is left, as much as there is room for.
+#[derive(Drop)]
+pub(crate) struct Bytes<'a> {
+    pub(crate) rest: &'a [u8],
+}
+
+impl Read for Bytes<'_> {
+    fn read(&mut self, buf: &mut [u8]) -> io::Result<usize> {
+        let n = self.rest.len().min(buf.len());
+        let (front, rest) = self.rest.split_at(n);
+        buf[..n].copy_from_slice(front);
+        self.rest = rest;
+        Ok(n)
+    }
+}
 
 /// A field of this type, of a struct that a test takes apart.
 pub(crate) fn is<T>(_field: &T) {}
@@ -388,4 +405,8 @@ fn laws_are_called(_rt: HostRuntime) {
     laws::body_at_hand();
     laws::bytes_determine_what_is_kept();
     laws::bytes_bound_what_is_kept();
+    laws::both_take_what_each_takes::<Checker, Builder>();
+    laws::items_build_their_module();
+    laws::taken_is_loaded();
+    laws::loader_answers_as_validator();
 }

@@ -163,7 +163,7 @@ next_op (labels outer s seen (suc n)) q (op.Label l) e =
     let count : length seen + suc n ≡ length (seen ++ l ∷ []) + n = omega (arith, length-append seen (l ∷ [])) in
     append_assoc (outer_ops outer) (ops_of s ++ op.BrTable (length seen + suc n) ∷ map op.Label seen) (op.Label l ∷ [])
     ∙ ap (λ y. outer_ops outer ++ y) (append_assoc (ops_of s) (op.BrTable (length seen + suc n) ∷ map op.Label seen) (op.Label l ∷ [])
-      ∙ ap (λ k. ops_of s ++ (op.BrTable k ∷ map op.Label seen ++ op.Label l ∷ [])) count ∙ ap (λ y. ops_of s ++ op.BrTable (length (seen ++ l ∷ []) + n) ∷ y) (sym (labels_more seen)))
+    ∙ ap (λ k. ops_of s ++ (op.BrTable k ∷ map op.Label seen ++ op.Label l ∷ [])) count ∙ ap (λ y. ops_of s ++ op.BrTable (length (seen ++ l ∷ []) + n) ∷ y) (sym (labels_more seen)))
     ∙ ap ops_at same
   where
     labels_more : (xs : List ℕ) → map op.Label (xs ++ l ∷ []) ≡ map op.Label xs ++ op.Label l ∷ []

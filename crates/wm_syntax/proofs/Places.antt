@@ -265,3 +265,24 @@ on p ops e =
 -- the ops of a body, in any form, are those of that tree
 pub tree_is : (s : Instructions) (ops : List Op) → HasOps s ops → tree_of ops ≡ s
 tree_is s ops h = ap body_in (leads s ops h)
+
+-- one op more, where it may stand
+step : (r : Option Place) (q : Place) → r ≡ Some q → if_placed r (λ p. place_after p []) ≡ Some q
+step None q e = absurd cc
+step (Some p) q e = e
+
+pub one_more : (p q : Place) (ops : List Op) (o : Op) → place_after start ops ≡ Some p → placed p o ≡ Some q → place_after start (ops ++ o ∷ []) ≡ Some q
+one_more p q ops o e n =
+    after_append ops (o ∷ []) start
+    ∙ ap (λ r. if_placed r (λ x. place_after x (o ∷ []))) e
+    ∙ step (placed p o) q n
+
+-- and where it may not
+stuck : (r : Option Place) (more : List Op) (q : Place) → r ≡ None → if_placed r (λ p. place_after p more) ≡ Some q → ⊥
+stuck None more q e n = cc
+stuck (Some p) more q e n = cc
+
+pub no_body : (p : Place) (ops more : List Op) (o : Op) (s : Instructions) → place_after start ops ≡ Some p → placed p o ≡ None → HasOps s (ops ++ o ∷ more) → ⊥
+no_body p ops more o s e n h =
+    stuck (placed p o) more (at [] s) n
+    (sym (after_append ops (o ∷ more) start ∙ ap (λ r. if_placed r (λ x. place_after x (o ∷ more))) e) ∙ leads s (ops ++ o ∷ more) h)

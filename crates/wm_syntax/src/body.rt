@@ -4,8 +4,8 @@ ghost use Rattle.std.specs.Prelude.{◌≡◌};
 ghost use Rattle.wm_syntax.specs.Instructions.{ops_of};
 ghost use Rattle.wm_syntax.specs.Building.{tree_of};
 
-use std::marker::Model;
 use crate::instructions::Op;
+use std::marker::Model;
 
 /// The body of a function.
 #[derive(Debug, Drop)]

@@ -6,9 +6,11 @@ ghost use Rattle.wm_syntax.specs.Instructions.{Instructions};
 ghost use Rattle.wm_syntax.specs.inner.Builders.{fits, fits_list, is_else, is_first, last_of, last_set, next_left, next_open, next_ops};
 
 use crate::body::Body;
-use std::alloc::Global;
-use std::marker::Model;
 use crate::instructions::Op;
+use std::alloc::Global;
+use std::error::Error;
+use std::fmt;
+use std::marker::Model;
 
 #[cfg(test)]
 mod tests;
@@ -24,14 +26,25 @@ enum Opened {
     Second,
 }
 
-/// Why an op is not taken.
+/// Why an op, or the end of a body, is not taken.
 #[derive(Clone, Copy, PartialEq, Eq, Debug)]
 pub enum BodyFault {
-    /// It can't stand there.
+    /// No body has ops that begin so, or, at the end, these ops.
     Unbalanced,
     /// A growth was refused.
     Memory,
 }
+
+impl fmt::Display for BodyFault {
+    fn fmt<W: fmt::Write>(&self, f: &mut fmt::Formatter<W>) -> fmt::Result {
+        f.write_str(match self {
+            BodyFault::Unbalanced => "these ops open and close no list of instructions",
+            BodyFault::Memory => "memory ran out",
+        })
+    }
+}
+
+impl Error for BodyFault {}
 
 // Whether an op may stand in a list of instructions.
 fn fits_list(begun: &[Opened], op: Op) -> bool
@@ -90,7 +103,12 @@ fn push_end(ops: &mut Vec<Op>) -> Result<(), BodyFault>
 }
 
 // An op that opens a list.
-fn push_open(ops: &mut Vec<Op>, begun: &mut Vec<Opened>, op: Op, opened: Opened) -> Result<(), BodyFault>
+fn push_open(
+    ops: &mut Vec<Op>,
+    begun: &mut Vec<Opened>,
+    op: Op,
+    opened: Opened,
+) -> Result<(), BodyFault>
     ensures ok { OnOk result ((ops.new.items ≡ ops.old.items ++ op ∷ []) × (begun.new.items ≡ begun.old.items ++ opened ∷ [])) }
     ensures err { IfErr result (λ fault. (fault ≡ BodyFault.Memory) × (ops.new.items ≡ ops.old.items) × (begun.new.items ≡ begun.old.items)) }
 {
@@ -107,7 +125,12 @@ fn push_open(ops: &mut Vec<Op>, begun: &mut Vec<Opened>, op: Op, opened: Opened)
 }
 
 // Takes an op where it may stand.
-fn push_op(ops: &mut Vec<Op>, begun: &mut Vec<Opened>, left: &mut u64, op: Op) -> Result<(), BodyFault>
+fn push_op(
+    ops: &mut Vec<Op>,
+    begun: &mut Vec<Opened>,
+    left: &mut u64,
+    op: Op,
+) -> Result<(), BodyFault>
     ensures ok { OnOk result ((ops.new.items ≡ next_ops op ops.old.items) × (begun.new.items ≡ next_open op begun.old.items) × (left.new ≡ next_left op left.old)) }
     ensures err { OnErr result ((ops.new.items ≡ ops.old.items) × (begun.new.items ≡ begun.old.items) × (left.new ≡ left.old)) }
     ensures fits { fits begun.old.items left.old op ≡ true → result ≢ Err BodyFault.Unbalanced }
@@ -144,7 +167,8 @@ fn push_op(ops: &mut Vec<Op>, begun: &mut Vec<Opened>, left: &mut u64, op: Op) -
     }
 }
 
-/// Builds a body op by op. Contracts see where the ops so far stand.
+/// Builds a body op by op. Contracts see where the ops so far stand; the laws `ops_lead_to_their_body` and
+/// `ops_lead_on` say which ops lead where.
 #[derive(Debug, Drop)]
 pub struct BodyBuilder {
     ops: Vec<Op>,

@@ -132,11 +132,7 @@ fn start_of(runs: &[Run], index: usize) -> u32
     requires { index < length runs.now }
     ensures { result ≡ start_at 0 runs.now index }
 {
-    if index == 0 {
-        0
-    } else {
-        runs[index - 1].end
-    }
+    if index == 0 { 0 } else { runs[index - 1].end }
 }
 
 // The end of the last run.

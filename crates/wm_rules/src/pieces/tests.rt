@@ -3,7 +3,7 @@
 ghost use Rattle.std.specs.Prelude.{◌<◌};
 
 use super::{read_pieces, validate};
-use crate::tests::ADD;
+use crate::tests::{ADD, Bytes};
 use crate::{FromFault, Summary, validate_from};
 use std::alloc::Global;
 use std::io;
@@ -78,22 +78,6 @@ fn kept_after_pieces(rt: HostRuntime) {
         read_pieces(rt.alloc(), Profile::One, LIMIT, &pieces).kept(),
         0
     );
-}
-
-/// Gives what is left, as much as there is room for.
-#[derive(Drop)]
-struct Bytes<'a> {
-    rest: &'a [u8],
-}
-
-impl Read for Bytes<'_> {
-    fn read(&mut self, buf: &mut [u8]) -> io::Result<usize> {
-        let n = self.rest.len().min(buf.len());
-        let (front, rest) = self.rest.split_at(n);
-        buf[..n].copy_from_slice(front);
-        self.rest = rest;
-        Ok(n)
-    }
 }
 
 #[test]

@@ -13,7 +13,9 @@ found xs ys i r e l g = ap (λ z. slice_get z i) (sym e) ∙ slice_get-get_or xs
 pub overflow_sub-result : goal.overflow_sub-result
 overflow_sub-result c =
     omega (
-      arith, c.start_of.ensures, ap (λ z. start_at 0 z c.args.index) c.deref-in-Some.ensures.value,
+      arith,
+      c.start_of.ensures,
+      ap (λ z. start_at 0 z c.args.index) c.deref-in-Some.ensures.value,
       starts_before c.self.inside.runs.items None 0 c.args.index c.in-Some.run'.now c.self.invariant (found _ _ _ _ c.deref.ensures.value c.in-Some.ensures.lookup.3.0 (c.in-Some.ensures.lookup.3.1 c.in-Some.run'.now)),
     )
 
@@ -26,9 +28,9 @@ returns-in-Some c =
 pub returns-in-None : goal.returns-in-None
 returns-in-None c =
     let past : c.args.index < length c.self.inside.runs.items → ⊥ =
-        λ l.
-        let k : c.args.index < length c.deref.result.now = subst (λ z. c.args.index < length z) (sym c.deref.ensures.value) l in
-        let e : false ≡ true = c.in-None.ensures.lookup.2 k in
-        cc
+    λ l.
+    let k : c.args.index < length c.deref.result.now = subst (λ z. c.args.index < length z) (sym c.deref.ensures.value) l in
+    let e : false ≡ true = c.in-None.ensures.lookup.2 k in
+    cc
     in
     no_run c.self.inside.runs.items c.args.index c.self.invariant past ∙ ap (λ z. slice_get (runs_of z) c.args.index) c.self.view_is

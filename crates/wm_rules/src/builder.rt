@@ -1,0 +1,384 @@
+//! A module, built item by item.
+
+ghost use Rattle.std.specs.Prelude.{◌≡◌, ◌∷◌, [], ◌++◌, Ok};
+ghost use Rattle.std.specs.String.{string_bytes};
+ghost use Rattle.wm_decode.specs.Sinks.{Taken};
+ghost use Rattle.wm_decode.specs.Items.{body, export, import_desc, new_type, start};
+ghost use Rattle.wm_rules.specs.exact.Built.{Built, after, body_ended, change_last, constant_ended, constant_taken, expecting, locals_taken, name_from, nothing, op_taken, valued};
+ghost use Rattle.wm_rules.specs.inner.Builders.{built};
+ghost use Rattle.wm_syntax.specs.Values.{value_of};
+
+use std::alloc::Global;
+use std::mem;
+use wm_decode::{Item, Sink};
+use wm_syntax::body_builder::{BodyBuilder, BodyFault};
+use wm_syntax::instructions::{Op, Simple};
+use wm_syntax::locals::Locals;
+use wm_syntax::modules::{
+    Element, Export, ExportKind, Function, GlobalDef, Import, ImportDesc, Module, Segment,
+};
+use wm_syntax::types::{Const, FuncType, GlobalType, ValType};
+use wm_syntax::why::Why;
+
+/// What a constant expression is for: the initialiser of a global, or where a segment begins in a table or a memory.
+#[derive(Clone, Copy, PartialEq, Eq, Debug)]
+pub enum Purpose {
+    Global(GlobalType),
+    Element(u32),
+    Segment(u32),
+}
+
+/// A constant expression at hand: what it is for, and its value once that came.
+#[derive(Clone, Copy, PartialEq, Eq, Debug)]
+pub struct Pending {
+    purpose: Purpose,
+    value: Option<Const>,
+}
+
+/// A code entry at hand: its locals and its body so far.
+#[derive(Debug, Drop)]
+pub struct Code {
+    locals: Locals,
+    body: BodyBuilder,
+}
+
+/// Builds a module of its items, valid or not. It refuses a name that is not UTF-8, a constant expression of another form,
+/// a misplaced op of a body, and 2^32 locals; items in an order that no decoder sends may be refused under any name.
+#[derive(Debug, Drop)]
+pub struct Builder {
+    alloc: Global,
+    module_value: Module,
+    // of each function the index of its type
+    indices: Vec<u32>,
+    // the names of an import, and of an export
+    module_name: String,
+    item_name: String,
+    exported: String,
+    constant: Option<Pending>,
+    code: Option<Code>,
+}
+
+fn push<T: Drop>(items: &mut Vec<T>, item: T) -> Result<(), Why>
+    ensures { Taken (Ok (items.old.items ++ item ∷ [])) result items.new.items }
+{
+    match items.push(item) {
+        Ok(()) => Ok(()),
+        Err(_) => Err(Why::Memory),
+    }
+}
+
+fn push_param(last: &mut FuncType, ty: ValType) -> Result<(), Why>
+    ensures { Taken (Ok (record last.old { params = last.old.params ++ ty ∷ [] })) result last.new }
+{
+    push(&mut last.params, ty)
+}
+
+// The last type has one more parameter.
+fn add_param(types: &mut Vec<FuncType>, ty: ValType) -> Result<(), Why>
+    ensures { Taken (Ok (change_last (λ s. record s { params = s.params ++ ty ∷ [] }) types.old.items)) result types.new.items }
+{
+    let Some(last) = types.last_mut() else {
+        return Ok(());
+    };
+    push_param(last, ty)
+}
+
+fn push_result(last: &mut FuncType, ty: ValType) -> Result<(), Why>
+    ensures { Taken (Ok (record last.old { results = last.old.results ++ ty ∷ [] })) result last.new }
+{
+    push(&mut last.results, ty)
+}
+
+fn add_result(types: &mut Vec<FuncType>, ty: ValType) -> Result<(), Why>
+    ensures { Taken (Ok (change_last (λ s. record s { results = s.results ++ ty ∷ [] }) types.old.items)) result types.new.items }
+{
+    let Some(last) = types.last_mut() else {
+        return Ok(());
+    };
+    push_result(last, ty)
+}
+
+fn push_function(last: &mut Element, index: u32) -> Result<(), Why>
+    ensures { Taken (Ok (record last.old { functions = last.old.functions ++ index ∷ [] })) result last.new }
+{
+    push(&mut last.functions, index)
+}
+
+// The last element segment has one more function.
+fn add_element(elements: &mut Vec<Element>, index: u32) -> Result<(), Why>
+    ensures { Taken (Ok (change_last (λ e. record e { functions = e.functions ++ index ∷ [] }) elements.old.items)) result elements.new.items }
+{
+    let Some(last) = elements.last_mut() else {
+        return Ok(());
+    };
+    push_function(last, index)
+}
+
+fn extend_bytes(last: &mut Segment, bytes: &[u8]) -> Result<(), Why>
+    ensures { Taken (Ok (record last.old { bytes = last.old.bytes ++ bytes.now })) result last.new }
+{
+    match last.bytes.extend_from_slice(bytes) {
+        Ok(()) => Ok(()),
+        Err(_) => Err(Why::Memory),
+    }
+}
+
+// The last data segment has more bytes.
+fn add_bytes(segments: &mut Vec<Segment>, bytes: &[u8]) -> Result<(), Why>
+    ensures { Taken (Ok (change_last (λ s. record s { bytes = s.bytes ++ bytes.now }) segments.old.items)) result segments.new.items }
+{
+    let Some(last) = segments.last_mut() else {
+        return Ok(());
+    };
+    extend_bytes(last, bytes)
+}
+
+// The name of these bytes takes the place of another.
+fn set_name(alloc: Global, name: &mut String, bytes: &[u8]) -> Result<(), Why>
+    ensures { Taken (name_from bytes.now) result (string_bytes name.new) }
+{
+    let Ok(text) = str::from_utf8(bytes) else {
+        return Err(Why::BadUtf8);
+    };
+    match String::from_str(alloc, text) {
+        Ok(new) => {
+            *name = new;
+            Ok(())
+        }
+        Err(_) => Err(Why::Memory),
+    }
+}
+
+impl Sink for Builder {
+    ghost Held = { Built };
+
+    ghost held = { built };
+
+    ghost after = { after };
+
+    // at any item
+    ghost may_run_out = { λ h x. Unit {0} };
+
+    #[tactic(auto, using(crate::proofs::BuiltData::bytes_took, crate::proofs::BuiltData::bytes_room, crate::proofs::LastLemmas::taken_then))]
+    fn take(&mut self, item: Item) -> Result<(), Why> {
+        match item {
+            Item::NewType => self.begin_type(),
+            Item::Param(ty) => add_param(&mut self.module_value.types, ty),
+            Item::Results(_) => Ok(()),
+            Item::Result(ty) => add_result(&mut self.module_value.types, ty),
+            Item::ImportModule(name) => set_name(self.alloc, &mut self.module_name, name),
+            Item::ImportName(name) => set_name(self.alloc, &mut self.item_name, name),
+            Item::ImportFunc(index) => self.import(ImportDesc::Func(index)),
+            Item::ImportTable(limits) => self.import(ImportDesc::Table(limits)),
+            Item::ImportMemory(limits) => self.import(ImportDesc::Memory(limits)),
+            Item::ImportGlobal(ty) => self.import(ImportDesc::Global(ty)),
+            Item::Func(index) => push(&mut self.indices, index),
+            Item::Table(limits) => push(&mut self.module_value.tables, limits),
+            Item::Memory(limits) => push(&mut self.module_value.memories, limits),
+            Item::Global(ty) => self.expect(Purpose::Global(ty)),
+            Item::ConstOp(op) => self.take_constant(op),
+            Item::ExportName(name) => set_name(self.alloc, &mut self.exported, name),
+            Item::Export(kind, index) => self.export(kind, index),
+            Item::Start(index) => self.set_start(index),
+            Item::Elem(index) => self.expect(Purpose::Element(index)),
+            Item::ElemFunc(index) => add_element(&mut self.module_value.elements, index),
+            Item::Body => self.begin_body(),
+            Item::Locals(count, ty) => self.add_locals(count, ty),
+            Item::Op(op) => self.take_op(op),
+            Item::Segment(index) => self.expect(Purpose::Segment(index)),
+            Item::DataBytes(bytes) => add_bytes(&mut self.module_value.segments, bytes),
+        }
+    }
+}
+
+impl Builder {
+    /// Nothing came yet.
+    pub fn new(alloc: Global) -> Self
+        ensures { built result ≡ nothing }
+    {
+        Builder {
+            alloc,
+            module_value: Module::new(alloc),
+            indices: Vec::new(alloc),
+            module_name: String::new(alloc),
+            item_name: String::new(alloc),
+            exported: String::new(alloc),
+            constant: None,
+            code: None,
+        }
+    }
+
+    /// The module so far.
+    pub fn into_module(self) -> Module
+        ensures { value_of result ≡ (built self).value }
+    {
+        self.module_value
+    }
+
+    fn begin_type(&mut self) -> Result<(), Why>
+        ensures { Taken (after (built self.old) new_type) result (built self.new) }
+    {
+        let ty = FuncType {
+            params: Vec::new(self.alloc),
+            results: Vec::new(self.alloc),
+        };
+        push(&mut self.module_value.types, ty)
+    }
+
+    fn import(&mut self, desc: ImportDesc) -> Result<(), Why>
+        ensures { Taken (after (built self.old) (import_desc desc)) result (built self.new) }
+    {
+        let module_name = mem::replace(&mut self.module_name, String::new(self.alloc));
+        let item_name = mem::replace(&mut self.item_name, String::new(self.alloc));
+        push(
+            &mut self.module_value.imports,
+            Import {
+                module_name,
+                item_name,
+                desc,
+            },
+        )
+    }
+
+    fn export(&mut self, kind: ExportKind, index: u32) -> Result<(), Why>
+        ensures { Taken (after (built self.old) (export kind index)) result (built self.new) }
+    {
+        let name = mem::replace(&mut self.exported, String::new(self.alloc));
+        push(&mut self.module_value.exports, Export { name, kind, index })
+    }
+
+    fn set_start(&mut self, index: u32) -> Result<(), Why>
+        ensures { Taken (after (built self.old) (start index)) result (built self.new) }
+    {
+        self.module_value.start = Some(index);
+        Ok(())
+    }
+
+    // A constant expression begins.
+    fn expect(&mut self, purpose: Purpose) -> Result<(), Why>
+        ensures { Taken (Ok (expecting purpose (built self.old))) result (built self.new) }
+    {
+        self.constant = Some(Pending {
+            purpose,
+            value: None,
+        });
+        Ok(())
+    }
+
+    fn take_constant(&mut self, op: Op) -> Result<(), Why>
+        ensures { Taken (constant_taken op (built self.old) self.old.constant) result (built self.new) }
+    {
+        let Some(pending) = self.constant else {
+            return Err(Why::Index);
+        };
+        match op {
+            Op::Simple(Simple::I32Const(value)) => self.give(pending, Const::I32(value)),
+            Op::Simple(Simple::I64Const(value)) => self.give(pending, Const::I64(value)),
+            Op::Simple(Simple::GlobalGet(index)) => self.give(pending, Const::Global(index)),
+            Op::End => self.end_constant(pending),
+            _ => Err(Why::NotConst),
+        }
+    }
+
+    // Its instruction came.
+    fn give(&mut self, pending: Pending, value: Const) -> Result<(), Why>
+        ensures { Taken (valued value (built self.old) pending pending.value) result (built self.new) }
+    {
+        if pending.value.is_some() {
+            return Err(Why::Arity);
+        }
+        self.constant = Some(Pending {
+            value: Some(value),
+            ..pending
+        });
+        Ok(())
+    }
+
+    // It ends: what it was for is complete, but for the rest of a segment.
+    fn end_constant(&mut self, pending: Pending) -> Result<(), Why>
+        ensures { Taken (constant_ended (built self.old) pending pending.value) result (built self.new) }
+    {
+        let Some(value) = pending.value else {
+            return Err(Why::Arity);
+        };
+        self.constant = None;
+        match pending.purpose {
+            Purpose::Global(ty) => push(
+                &mut self.module_value.globals,
+                GlobalDef { ty, init: value },
+            ),
+            Purpose::Element(table) => {
+                let element = Element {
+                    table,
+                    offset: value,
+                    functions: Vec::new(self.alloc),
+                };
+                push(&mut self.module_value.elements, element)
+            }
+            Purpose::Segment(memory) => {
+                let segment = Segment {
+                    memory,
+                    offset: value,
+                    bytes: Vec::new(self.alloc),
+                };
+                push(&mut self.module_value.segments, segment)
+            }
+        }
+    }
+
+    fn begin_body(&mut self) -> Result<(), Why>
+        ensures { Taken (after (built self.old) body) result (built self.new) }
+    {
+        self.code = Some(Code {
+            locals: Locals::new(self.alloc),
+            body: BodyBuilder::new(self.alloc),
+        });
+        Ok(())
+    }
+
+    fn add_locals(&mut self, count: u32, ty: ValType) -> Result<(), Why>
+        ensures { Taken (locals_taken count ty (built self.old) self.old.code) result (built self.new) }
+    {
+        match &mut self.code {
+            None => Err(Why::Index),
+            Some(code) => code.locals.add(count, ty),
+        }
+    }
+
+    fn take_op(&mut self, op: Op) -> Result<(), Why>
+        ensures { Taken (op_taken op (built self.old) self.old.code) result (built self.new) }
+    {
+        let pushed = match &mut self.code {
+            None => return Err(Why::Index),
+            Some(code) => code.body.push(op),
+        };
+        match pushed {
+            Ok(()) => Ok(()),
+            Err(BodyFault::Memory) => Err(Why::Memory),
+            Err(BodyFault::Unbalanced) => self.end_body(op),
+        }
+    }
+
+    // An end that closes no list inside the body ends it.
+    fn end_body(&mut self, op: Op) -> Result<(), Why>
+        ensures { Taken (body_ended op (built self.old) self.old.code) result (built self.new) }
+    {
+        let Some(code) = self.code.take() else {
+            return Err(Why::Index);
+        };
+        if op != Op::End {
+            return Err(Why::ElsePlace);
+        }
+        let Ok(body) = code.body.finish() else {
+            return Err(Why::ElsePlace);
+        };
+        let next = self.module_value.functions.len();
+        let type_index = self.indices.get(next).copied().unwrap_or(0);
+        let function = Function {
+            type_index,
+            locals: code.locals,
+            body,
+        };
+        push(&mut self.module_value.functions, function)
+    }
+}

@@ -1,0 +1,25 @@
+//! What a loader holds, and what it gives.
+
+ghost use Rattle.wm_syntax.specs.Values.{value_of};
+ghost use Rattle.wm_rules.specs.Loading.{IsLoaded};
+ghost use Rattle.wm_rules.specs.inner.Loading.{HasReadSome};
+
+use crate::both::Both;
+use crate::builder::Builder;
+use crate::checker::Checker;
+use wm_decode::{Decoder, Refusal};
+use wm_syntax::modules::Module;
+
+/// A valid module (section 3.4.10) whose encoding is not too large: it was loaded.
+#[derive(Debug, Drop)]
+pub struct Checked {
+    pub(crate) module_value: Module,
+    ghost loaded: { ∥ IsLoaded (value_of module_value) ∥₁ },
+}
+
+/// Loads a module that comes in pieces. After a refusal it holds that alone.
+#[derive(Debug, Drop)]
+pub struct Loader {
+    pub(crate) state: Result<Decoder<Both<Checker, Builder>>, Refusal>,
+    ghost read: { ∥ HasReadSome state ∥₁ },
+}
