@@ -18,9 +18,9 @@ use Rattle.wm_syntax.specs.Instructions.{Instruction, Instructions, none, snoc, 
 use Rattle.wm_syntax.specs.Modules.{Module, Import, Function, GlobalDef, Export, Element, Segment, constant, constant_body}
 use Rattle.wm_syntax.proofs.Spellings.{shortest_is_least, signed_is_least, unsigned_range}
 use Rattle.wm_decode.specs.Sections.{Customs, ListSection, StartSection, header, SpellsConst, SpellsDesc, SpellsImport, SpellsGlobal, SpellsExport, SpellsElement, SpellsRun, SpellsLocals, SpellsCode, SpellsSegment, SpellsModule, kind_byte}
-use Rattle.wm_write.specs.Canon.{u32_bytes, block_byte, op_bytes, ops_bytes, listed, sized, val_bytes, sig_bytes, bounds_bytes, limits_bytes, table_bytes, global_type_bytes, desc_bytes, import_bytes, const_bytes, global_bytes, export_bytes, element_bytes, run_bytes, code_contents, code_bytes, segment_bytes, list_section, start_section, canon, Fits}
-use Rattle.wm_write.proofs.PutLemmas.{short}
-use Rattle.wm_write.proofs.Least.{least_locals, number_rises}
+use Rattle.wm_write.specs.Canon.{u32_bytes, block_byte, op_bytes, ops_bytes, listed, sized, value_type_bytes, signature_bytes, bounds_bytes, limits_bytes, table_bytes, global_type_bytes, desc_bytes, import_bytes, constant_bytes, global_bytes, export_bytes, element_bytes, run_bytes, code_contents, code_bytes, segment_bytes, list_section, start_section, canon, Fits}
+use Rattle.wm_write.proofs.NumberLoops.{short}
+use Rattle.wm_write.proofs.LeastRuns.{least_locals, number_rises}
 
 -- these bytes are no longer than any that the form describes
 abbrev NoLonger : List ℕ → Form ℕ → Type 0
@@ -49,13 +49,13 @@ name : (a : List ℕ) → NoLonger (sized a) (SpellsName a)
 name a b h = bytes a b h.0
 
 -- types
-value_type : (t : ValType) → NoLonger (val_bytes t) (SpellsValType t)
-value_type t = exactly (val_bytes t)
+value_type : (t : ValType) → NoLonger (value_type_bytes t) (SpellsValType t)
+value_type t = exactly (value_type_bytes t)
 
-signature : (s : Signature) → NoLonger (sig_bytes s) (SpellsSignature s)
+signature : (s : Signature) → NoLonger (signature_bytes s) (SpellsSignature s)
 signature s =
-    then (0x60 ∷ []) (listed val_bytes s.params ++ listed val_bytes s.results) (Byte 0x60) (SpellsList SpellsValType s.params ▸ SpellsList SpellsValType s.results) (exactly (0x60 ∷ []))
-        (then (listed val_bytes s.params) (listed val_bytes s.results) (SpellsList SpellsValType s.params) (SpellsList SpellsValType s.results) (list val_bytes SpellsValType value_type s.params) (list val_bytes SpellsValType value_type s.results))
+    then (0x60 ∷ []) (listed value_type_bytes s.params ++ listed value_type_bytes s.results) (Byte 0x60) (SpellsList SpellsValType s.params ▸ SpellsList SpellsValType s.results) (exactly (0x60 ∷ []))
+    (then (listed value_type_bytes s.params) (listed value_type_bytes s.results) (SpellsList SpellsValType s.params) (SpellsList SpellsValType s.results) (list value_type_bytes SpellsValType value_type s.params) (list value_type_bytes SpellsValType value_type s.results))
 
 byte_number : (byte n : ℕ) → NoLonger (byte ∷ u32_bytes n) (Byte byte ▸ SpellsU32 n)
 byte_number byte n = then (byte ∷ []) (u32_bytes n) (Byte byte) (SpellsU32 n) (exactly (byte ∷ [])) (number n)
@@ -93,7 +93,7 @@ desc (Global g) = then (0x03 ∷ []) (global_type_bytes g) (Byte 0x03) (SpellsGl
 imported : (i : Import) → NoLonger (import_bytes i) (SpellsImport i)
 imported i =
     then (sized i.module_name) (sized i.item_name ++ desc_bytes i.desc) (SpellsName i.module_name) (SpellsName i.item_name ▸ SpellsDesc i.desc) (name i.module_name)
-        (then (sized i.item_name) (desc_bytes i.desc) (SpellsName i.item_name) (SpellsDesc i.desc) (name i.item_name) (desc i.desc))
+    (then (sized i.item_name) (desc_bytes i.desc) (SpellsName i.item_name) (SpellsDesc i.desc) (name i.item_name) (desc i.desc))
 
 exported : (e : Export) → NoLonger (export_bytes e) (SpellsExport e)
 exported e = then (sized e.name) (kind_byte e.kind ∷ u32_bytes e.index) (SpellsName e.name) (Byte (kind_byte e.kind) ▸ SpellsU32 e.index) (name e.name) (byte_number (kind_byte e.kind) e.index)
@@ -125,7 +125,7 @@ instruction (Numeric o) = byte_alone _
 
 block_type : (t : Option ValType) → NoLonger (block_byte t ∷ []) (SpellsBlockType t)
 block_type None = exactly (0x40 ∷ [])
-block_type (Some t) = exactly (val_bytes t)
+block_type (Some t) = exactly (value_type_bytes t)
 
 equal : (a c : List ℕ) (P : Form ℕ) → a ≡ c → NoLonger c P → NoLonger a P
 equal a c P e f b h = omega (arith, ap length e, f b h)
@@ -134,7 +134,7 @@ equal a c P e f b h = omega (arith, ap length e, f b h)
 between : (byte : ℕ) (t : Option ValType) (a : List ℕ) (P : Form ℕ) → NoLonger a P → NoLonger (byte ∷ block_byte t ∷ (a ++ 0x0B ∷ [])) (Byte byte ▸ SpellsBlockType t ▸ P ▸ Byte 0x0B)
 between byte t a P f =
     then (byte ∷ []) (block_byte t ∷ (a ++ 0x0B ∷ [])) (Byte byte) (SpellsBlockType t ▸ P ▸ Byte 0x0B) (exactly (byte ∷ []))
-        (then (block_byte t ∷ []) (a ++ 0x0B ∷ []) (SpellsBlockType t) (P ▸ Byte 0x0B) (block_type t) (then a (0x0B ∷ []) P (Byte 0x0B) f (exactly (0x0B ∷ []))))
+    (then (block_byte t ∷ []) (a ++ 0x0B ∷ []) (SpellsBlockType t) (P ▸ Byte 0x0B) (block_type t) (then a (0x0B ∷ []) P (Byte 0x0B) f (exactly (0x0B ∷ []))))
 
 labels : (ls : List ℕ) → ops_bytes (map op.Label ls) ≡ flat_map u32_bytes ls
 labels [] = refl
@@ -149,56 +149,56 @@ mutual
   one (simple i) = equal _ (op_bytes (op.Simple i)) (SpellsSimple i) (append-nil (op_bytes (op.Simple i))) (instruction i)
   one (table ls d) =
       let e : ops_bytes (map op.Label ls ++ op.Label d ∷ []) ≡ flat_map u32_bytes ls ++ u32_bytes d =
-        flat_map-append op_bytes (map op.Label ls) (op.Label d ∷ []) ∙ ap (λ z. z ++ (u32_bytes d ++ [])) (labels ls) ∙ ap (λ z. flat_map u32_bytes ls ++ z) (append-nil (u32_bytes d)) in
+      flat_map-append op_bytes (map op.Label ls) (op.Label d ∷ []) ∙ ap (λ z. z ++ (u32_bytes d ++ [])) (labels ls) ∙ ap (λ z. flat_map u32_bytes ls ++ z) (append-nil (u32_bytes d)) in
       equal _ (0x0E ∷ (listed u32_bytes ls ++ u32_bytes d)) _
-          (ap (λ z. 0x0E ∷ (u32_bytes (length ls) ++ z)) e ∙ ap (λ z. 0x0E ∷ z) (sym (append_assoc (u32_bytes (length ls)) (flat_map u32_bytes ls) (u32_bytes d))))
-          (then (0x0E ∷ []) (listed u32_bytes ls ++ u32_bytes d) (Byte 0x0E) (SpellsList SpellsU32 ls ▸ SpellsU32 d) (exactly (0x0E ∷ []))
-          (then (listed u32_bytes ls) (u32_bytes d) (SpellsList SpellsU32 ls) (SpellsU32 d) (list u32_bytes SpellsU32 number ls) (number d)))
+      (ap (λ z. 0x0E ∷ (u32_bytes (length ls) ++ z)) e ∙ ap (λ z. 0x0E ∷ z) (sym (append_assoc (u32_bytes (length ls)) (flat_map u32_bytes ls) (u32_bytes d))))
+      (then (0x0E ∷ []) (listed u32_bytes ls ++ u32_bytes d) (Byte 0x0E) (SpellsList SpellsU32 ls ▸ SpellsU32 d) (exactly (0x0E ∷ []))
+      (then (listed u32_bytes ls) (u32_bytes d) (SpellsList SpellsU32 ls) (SpellsU32 d) (list u32_bytes SpellsU32 number ls) (number d)))
   one (block t s) =
       equal _ (0x02 ∷ block_byte t ∷ (ops_bytes (ops_of s) ++ 0x0B ∷ [])) _ (ap (λ z. 0x02 ∷ block_byte t ∷ z) (flat_map-append op_bytes (ops_of s) (op.End ∷ [])))
-          (between 0x02 t (ops_bytes (ops_of s)) (SpellsInstructions s) (some s))
+      (between 0x02 t (ops_bytes (ops_of s)) (SpellsInstructions s) (some s))
   one (loop t s) =
       equal _ (0x03 ∷ block_byte t ∷ (ops_bytes (ops_of s) ++ 0x0B ∷ [])) _ (ap (λ z. 0x03 ∷ block_byte t ∷ z) (flat_map-append op_bytes (ops_of s) (op.End ∷ [])))
-          (between 0x03 t (ops_bytes (ops_of s)) (SpellsInstructions s) (some s))
+      (between 0x03 t (ops_bytes (ops_of s)) (SpellsInstructions s) (some s))
   one (choice t f s) =
       let first = ops_bytes (ops_of f) in
       let second = ops_bytes (else_ops s (ops_of s)) in
       let e : ops_bytes ((ops_of f ++ else_ops s (ops_of s)) ++ op.End ∷ []) ≡ first ++ (second ++ 0x0B ∷ []) =
-        flat_map-append op_bytes (ops_of f ++ else_ops s (ops_of s)) (op.End ∷ []) ∙ ap (λ z. z ++ 0x0B ∷ []) (flat_map-append op_bytes (ops_of f) (else_ops s (ops_of s))) ∙ append_assoc first second (0x0B ∷ []) in
+      flat_map-append op_bytes (ops_of f ++ else_ops s (ops_of s)) (op.End ∷ []) ∙ ap (λ z. z ++ 0x0B ∷ []) (flat_map-append op_bytes (ops_of f) (else_ops s (ops_of s))) ∙ append_assoc first second (0x0B ∷ []) in
       equal _ (0x04 ∷ block_byte t ∷ (first ++ (second ++ 0x0B ∷ []))) _ (ap (λ z. 0x04 ∷ block_byte t ∷ z) e)
-          (then (0x04 ∷ []) (block_byte t ∷ (first ++ (second ++ 0x0B ∷ []))) (Byte 0x04) (SpellsBlockType t ▸ SpellsInstructions f ▸ SpellsElse s (SpellsInstructions s) ▸ Byte 0x0B) (exactly (0x04 ∷ []))
-          (then (block_byte t ∷ []) (first ++ (second ++ 0x0B ∷ [])) (SpellsBlockType t) (SpellsInstructions f ▸ SpellsElse s (SpellsInstructions s) ▸ Byte 0x0B) (block_type t)
-          (then first (second ++ 0x0B ∷ []) (SpellsInstructions f) (SpellsElse s (SpellsInstructions s) ▸ Byte 0x0B) (some f)
-          (then second (0x0B ∷ []) (SpellsElse s (SpellsInstructions s)) (Byte 0x0B) (otherwise s (SpellsInstructions s) (some s)) (exactly (0x0B ∷ []))))))
+      (then (0x04 ∷ []) (block_byte t ∷ (first ++ (second ++ 0x0B ∷ []))) (Byte 0x04) (SpellsBlockType t ▸ SpellsInstructions f ▸ SpellsElse s (SpellsInstructions s) ▸ Byte 0x0B) (exactly (0x04 ∷ []))
+      (then (block_byte t ∷ []) (first ++ (second ++ 0x0B ∷ [])) (SpellsBlockType t) (SpellsInstructions f ▸ SpellsElse s (SpellsInstructions s) ▸ Byte 0x0B) (block_type t)
+      (then first (second ++ 0x0B ∷ []) (SpellsInstructions f) (SpellsElse s (SpellsInstructions s) ▸ Byte 0x0B) (some f)
+      (then second (0x0B ∷ []) (SpellsElse s (SpellsInstructions s)) (Byte 0x0B) (otherwise s (SpellsInstructions s) (some s)) (exactly (0x0B ∷ []))))))
 
   some : (s : Instructions) → NoLonger (ops_bytes (ops_of s)) (SpellsInstructions s)
   some none = exactly []
   some (snoc s i) =
       equal _ (ops_bytes (ops_of s) ++ ops_bytes (instruction_ops i)) _ (flat_map-append op_bytes (ops_of s) (instruction_ops i))
-          (then (ops_bytes (ops_of s)) (ops_bytes (instruction_ops i)) (SpellsInstructions s) (SpellsInstruction i) (some s) (one i))
+      (then (ops_bytes (ops_of s)) (ops_bytes (instruction_ops i)) (SpellsInstructions s) (SpellsInstruction i) (some s) (one i))
 
 expression : (s : Instructions) → NoLonger (ops_bytes (ops_of s) ++ 0x0B ∷ []) (SpellsExpression s)
 expression s = then (ops_bytes (ops_of s)) (0x0B ∷ []) (SpellsInstructions s) (Byte 0x0B) (some s) (exactly (0x0B ∷ []))
 
-constant_expression : (c : Const) → NoLonger (const_bytes c) (SpellsConst c)
+constant_expression : (c : Const) → NoLonger (constant_bytes c) (SpellsConst c)
 constant_expression c = equal _ _ (SpellsConst c) (ap (λ z. z ++ 0x0B ∷ []) (sym (append-nil (op_bytes (op.Simple (constant c)))))) (expression (constant_body c))
 
 -- entries
 defined : (g : GlobalDef) → NoLonger (global_bytes g) (SpellsGlobal g)
-defined g = then (global_type_bytes g.ty) (const_bytes g.init) (SpellsGlobalType g.ty) (SpellsConst g.init) (global_type g.ty) (constant_expression g.init)
+defined g = then (global_type_bytes g.ty) (constant_bytes g.init) (SpellsGlobalType g.ty) (SpellsConst g.init) (global_type g.ty) (constant_expression g.init)
 
 element : (e : Element) → NoLonger (element_bytes e) (SpellsElement e)
 element e =
-    then (u32_bytes e.table) (const_bytes e.offset ++ listed u32_bytes e.functions) (SpellsU32 e.table) (SpellsConst e.offset ▸ SpellsList SpellsU32 e.functions) (number e.table)
-        (then (const_bytes e.offset) (listed u32_bytes e.functions) (SpellsConst e.offset) (SpellsList SpellsU32 e.functions) (constant_expression e.offset) (list u32_bytes SpellsU32 number e.functions))
+    then (u32_bytes e.table) (constant_bytes e.offset ++ listed u32_bytes e.functions) (SpellsU32 e.table) (SpellsConst e.offset ▸ SpellsList SpellsU32 e.functions) (number e.table)
+    (then (constant_bytes e.offset) (listed u32_bytes e.functions) (SpellsConst e.offset) (SpellsList SpellsU32 e.functions) (constant_expression e.offset) (list u32_bytes SpellsU32 number e.functions))
 
 segment : (s : Segment) → NoLonger (segment_bytes s) (SpellsSegment s)
 segment s =
-    then (u32_bytes s.memory) (const_bytes s.offset ++ sized s.bytes) (SpellsU32 s.memory) (SpellsConst s.offset ▸ SpellsBytes s.bytes) (number s.memory)
-        (then (const_bytes s.offset) (sized s.bytes) (SpellsConst s.offset) (SpellsBytes s.bytes) (constant_expression s.offset) (bytes s.bytes))
+    then (u32_bytes s.memory) (constant_bytes s.offset ++ sized s.bytes) (SpellsU32 s.memory) (SpellsConst s.offset ▸ SpellsBytes s.bytes) (number s.memory)
+    (then (constant_bytes s.offset) (sized s.bytes) (SpellsConst s.offset) (SpellsBytes s.bytes) (constant_expression s.offset) (bytes s.bytes))
 
 run : (r : ℕ × ValType) → NoLonger (run_bytes r) (SpellsRun r)
-run r = then (u32_bytes r.0) (val_bytes r.1) (SpellsU32 r.0) (SpellsValType r.1) (number r.0) (value_type r.1)
+run r = then (u32_bytes r.0) (value_type_bytes r.1) (SpellsU32 r.0) (SpellsValType r.1) (number r.0) (value_type r.1)
 
 locals : (ts : List ValType) → NoLonger (listed run_bytes (runs_of ts)) (SpellsLocals ts)
 locals ts b (runs, is, few, h) =
@@ -229,7 +229,7 @@ spelled_fits m b h =
     let s10 = s9.4.4 in
     let s11 = s10.4.4 in
     record {
-      types = in_section 1 sig_bytes SpellsSignature signature m.types _ s1.4.3;
+      types = in_section 1 signature_bytes SpellsSignature signature m.types _ s1.4.3;
       imports = in_section 2 import_bytes SpellsImport imported m.imports _ s2.4.3;
       functions = in_section 3 (λ f. u32_bytes f.type_index) (λ f. SpellsU32 f.type_index) (λ f. number f.type_index) m.functions _ s3.4.3;
       tables = in_section 4 table_bytes SpellsTableType table_type m.tables _ s4.4.3;
@@ -269,7 +269,7 @@ last a P f b (front, back, is, p, (one, other, e, q, r)) = omega (arith, ap leng
 pub canon_shortest : (m : Module) → NoLonger (canon m) (SpellsModule m)
 canon_shortest m =
     then header _ (Exactly header) _ (exactly header)
-    (both (list_section 1 sig_bytes m.types) _ (ListSection 1 SpellsSignature m.types) _ (section 1 sig_bytes SpellsSignature signature m.types)
+    (both (list_section 1 signature_bytes m.types) _ (ListSection 1 SpellsSignature m.types) _ (section 1 signature_bytes SpellsSignature signature m.types)
     (both (list_section 2 import_bytes m.imports) _ (ListSection 2 SpellsImport m.imports) _ (section 2 import_bytes SpellsImport imported m.imports)
     (both (list_section 3 (λ f. u32_bytes f.type_index) m.functions) _ (ListSection 3 (λ f. SpellsU32 f.type_index) m.functions) _ (section 3 (λ f. u32_bytes f.type_index) (λ f. SpellsU32 f.type_index) (λ f. number f.type_index) m.functions)
     (both (list_section 4 table_bytes m.tables) _ (ListSection 4 SpellsTableType m.tables) _ (section 4 table_bytes SpellsTableType table_type m.tables)

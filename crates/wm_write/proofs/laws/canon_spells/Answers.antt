@@ -1,5 +1,5 @@
 use Rattle.std.proofs.Common.{arith}
-use Rattle.wm_write.proofs.CanonLemmas.{spells}
+use Rattle.wm_write.proofs.CanonSpells.{spells}
 use Rattle.wm_write.proofs.SectionLemmas.{canon_short}
 use Rattle.wm_write.proofs.laws.canon_spells.Goals as goal
 

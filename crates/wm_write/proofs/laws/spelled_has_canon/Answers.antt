@@ -1,5 +1,5 @@
 use Rattle.std.proofs.Common.{arith}
-use Rattle.wm_write.proofs.CanonLemmas.{spells}
+use Rattle.wm_write.proofs.CanonSpells.{spells}
 use Rattle.wm_write.proofs.Ranges.{module_in}
 use Rattle.wm_write.proofs.Shortest.{canon_shortest, spelled_fits}
 use Rattle.wm_write.proofs.laws.spelled_has_canon.Goals as goal

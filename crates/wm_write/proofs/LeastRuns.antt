@@ -6,9 +6,9 @@ use Rattle.wm_syntax.specs.declared.types.ValType.{ValType}
 use Rattle.wm_syntax.specs.declared.types.ValType.TheVariants.{I32, I64}
 use Rattle.wm_syntax.specs.Runs.{type_before, runs_of}
 use Rattle.wm_write.specs.Canon.{u32_bytes}
-use Rattle.wm_write.proofs.PutLemmas.{last_byte, more_bytes}
+use Rattle.wm_write.proofs.NumberLoops.{last_byte, more_bytes}
 use Rattle.wm_syntax.specs.Modules.{locals_of}
-use Rattle.wm_write.specs.Canon.{listed, run_bytes, val_bytes}
+use Rattle.wm_write.specs.Canon.{listed, run_bytes, value_type_bytes}
 
 len : ℕ → ℕ → ℕ
 len k n = length (unsigned_bytes k n)
@@ -66,7 +66,7 @@ sizes runs = length (flat_map run_bytes runs)
 
 size_of : (n : ℕ) (t : ValType) (runs : List (ℕ × ValType)) → sizes ((n, t) ∷ runs) ≡ (len 5 n + 1) + sizes runs
 unfolding sizes len
-size_of n t runs = omega (arith, length-append (u32_bytes n ++ val_bytes t) (flat_map run_bytes runs), length-append (u32_bytes n) (val_bytes t))
+size_of n t runs = omega (arith, length-append (u32_bytes n ++ value_type_bytes t) (flat_map run_bytes runs), length-append (u32_bytes n) (value_type_bytes t))
 
 -- a run of a type before others of the same type, or before none of it
 abbrev Joined : ℕ → ValType → List (ℕ × ValType) → List (ℕ × ValType) → Type 0
