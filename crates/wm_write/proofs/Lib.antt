@@ -1,6 +1,7 @@
-pub mod PutLemmas
+pub mod NumberLoops
 pub mod Writes
 pub mod SectionLemmas
-pub mod CanonLemmas
+pub mod CanonSpells
 pub mod Ranges
-pub mod Least
+pub mod LeastRuns
+pub mod Shortest

@@ -2,10 +2,10 @@
 use Rattle.std.proofs.Common.{ℕ, ◌≡◌, ◌<◌, ◌≤◌, ◌+◌, ◌^◌, length-append, true, false, List, [], ◌∷◌, ◌++◌, length, sym, ap, ◌∙◌, subst, arith, Option, Some, None}
 use Rattle.std.specs.Bool.{◌==◌}
 use Rattle.std.proofs.lemmas.Bool.Decides.{nat_tests}
-use Rattle.wm_write.specs.Canon.{Fits, canon, code_bytes, element_bytes, export_bytes, global_bytes, import_bytes, limits_bytes, list_section, listed, segment_bytes, sig_bytes, start_section, table_bytes, u32_bytes}
+use Rattle.wm_write.specs.Canon.{Fits, canon, code_bytes, element_bytes, export_bytes, global_bytes, import_bytes, limits_bytes, list_section, listed, segment_bytes, signature_bytes, start_section, table_bytes, u32_bytes}
 use Rattle.wm_write.specs.exact.Writing.{Sent, State}
 use Rattle.wm_syntax.specs.Modules.{Module}
-use Rattle.wm_write.proofs.PutLemmas.{short}
+use Rattle.wm_write.proofs.NumberLoops.{short}
 use Rattle.wm_write.proofs.Writes.{sent_none, sent_then}
 
 module _ {X : Type 0} (id : ℕ) (f : X → List ℕ) where
@@ -36,7 +36,7 @@ pub no_start : (start : Option ℕ) (s : State) → start ≡ None → Sent (sta
 no_start None s is = sent_none s
 no_start (Some x) s is = let e : ⊥ = cc is in absurd e
 
--- A module whose sections fit has fewer than 2 ^ 64 bytes.
+-- A module whose sections fit has fewer than 2 ^ 62 bytes.
 section_short : {X : Type 0} (id : ℕ) (f : X → List ℕ) (xs : List X) → length (list_section id f xs) ≤ 6 + length (listed f xs)
 section_short id f [] = omega arith
 section_short id f (x ∷ xs) =
@@ -46,9 +46,9 @@ start_short : (start : Option ℕ) → length (start_section start) ≤ 11
 start_short None = omega arith
 start_short (Some x) = omega (arith, length-append (u32_bytes (length (u32_bytes x))) (u32_bytes x), short 5 (length (u32_bytes x)), short 5 x)
 
-pub canon_short : (m : Module) → Fits m → length (canon m) < 2 ^ 64
+pub canon_short : (m : Module) → Fits m → length (canon m) < 2 ^ 62
 canon_short m fit =
-    let s1 = list_section 1 sig_bytes m.types in
+    let s1 = list_section 1 signature_bytes m.types in
     let s2 = list_section 2 import_bytes m.imports in
     let s3 = list_section 3 (λ f. u32_bytes f.type_index) m.functions in
     let s4 = list_section 4 table_bytes m.tables in
@@ -71,7 +71,7 @@ canon_short m fit =
       length-append s8 (s9 ++ (s10 ++ s11)),
       length-append s9 (s10 ++ s11),
       length-append s10 s11,
-      section_short 1 sig_bytes m.types,
+      section_short 1 signature_bytes m.types,
       section_short 2 import_bytes m.imports,
       section_short 3 (λ f. u32_bytes f.type_index) m.functions,
       section_short 4 table_bytes m.tables,

@@ -19,7 +19,7 @@ use Rattle.wm_syntax.specs.declared.types.GlobalType.{GlobalType}
 use Rattle.wm_syntax.specs.declared.types.Limits.{Limits}
 use Rattle.wm_syntax.specs.declared.types.ValType.{ValType}
 
--- the shortest spellings of numbers
+-- numbers in the fewest bytes (section 5.2.2)
 abbrev pub u32_bytes : ℕ → List ℕ
 u32_bytes n = unsigned_bytes 5 n
 
@@ -29,11 +29,12 @@ s32_bytes z = signed_bytes 5 z
 abbrev pub s64_bytes : ℤ → List ℕ
 s64_bytes z = signed_bytes 10 z
 
+-- a block type (section 5.3.2)
 abbrev pub block_byte : Option ValType → ℕ
 block_byte None = 0x40
 block_byte (Some t) = type_byte t
 
--- what follows the byte of an instruction
+-- what follows the byte of an instruction (sections 5.4.1 to 5.4.5)
 abbrev pub immediates : Simple → List ℕ
 immediates (Br l) = u32_bytes l
 immediates (BrIf l) = u32_bytes l
@@ -52,7 +53,7 @@ immediates (Load o at) = u32_bytes at.align ++ u32_bytes at.offset
 immediates (Store o at) = u32_bytes at.align ++ u32_bytes at.offset
 immediates _ = []
 
--- one op
+-- one op (section 5.4)
 abbrev pub op_bytes : Op → List ℕ
 op_bytes (op.Simple i) = (opcode i).0 ∷ immediates i
 op_bytes (op.Block t) = 0x02 ∷ block_byte t ∷ []
@@ -67,21 +68,23 @@ op_bytes (op.Label l) = u32_bytes l
 abbrev pub ops_bytes : List Op → List ℕ
 ops_bytes ops = flat_map op_bytes ops
 
--- how many there are, and then each
+-- vec(X): how many there are, and then each (section 5.1.3)
 abbrev pub listed : {X : Type 0} → (X → List ℕ) → List X → List ℕ
 listed f xs = u32_bytes (length xs) ++ flat_map f xs
 
--- how many bytes there are, and then the bytes
+-- how many bytes there are, and then those (sections 5.1.3, 5.5.2)
 abbrev pub sized : List ℕ → List ℕ
 sized b = u32_bytes (length b) ++ b
 
--- types
-abbrev pub val_bytes : ValType → List ℕ
-val_bytes t = type_byte t ∷ []
+-- a value type (section 5.3.1)
+abbrev pub value_type_bytes : ValType → List ℕ
+value_type_bytes t = type_byte t ∷ []
 
-abbrev pub sig_bytes : Signature → List ℕ
-sig_bytes s = 0x60 ∷ (listed val_bytes s.params ++ listed val_bytes s.results)
+-- a function type (section 5.3.3)
+abbrev pub signature_bytes : Signature → List ℕ
+signature_bytes s = 0x60 ∷ (listed value_type_bytes s.params ++ listed value_type_bytes s.results)
 
+-- limits (section 5.3.4), which are also a memory type (section 5.3.5)
 abbrev pub bounds_bytes : ℕ → Option ℕ → List ℕ
 bounds_bytes min None = 0x00 ∷ u32_bytes min
 bounds_bytes min (Some max) = 0x01 ∷ (u32_bytes min ++ u32_bytes max)
@@ -89,9 +92,11 @@ bounds_bytes min (Some max) = 0x01 ∷ (u32_bytes min ++ u32_bytes max)
 abbrev pub limits_bytes : Limits → List ℕ
 limits_bytes l = bounds_bytes l.min l.max
 
+-- a table type (section 5.3.6)
 abbrev pub table_bytes : Limits → List ℕ
 table_bytes l = 0x70 ∷ limits_bytes l
 
+-- a global type (section 5.3.7)
 abbrev pub var_byte : Bool → ℕ
 var_byte false = 0x00
 var_byte true = 0x01
@@ -99,7 +104,7 @@ var_byte true = 0x01
 abbrev pub global_type_bytes : GlobalType → List ℕ
 global_type_bytes g = type_byte g.ty ∷ var_byte g.var ∷ []
 
--- imports
+-- an import (section 5.5.5)
 abbrev pub desc_bytes : ImportDesc → List ℕ
 desc_bytes (Func x) = 0x00 ∷ u32_bytes x
 desc_bytes (Table l) = 0x01 ∷ table_bytes l
@@ -109,22 +114,25 @@ desc_bytes (Global g) = 0x03 ∷ global_type_bytes g
 abbrev pub import_bytes : Import → List ℕ
 import_bytes i = sized i.module_name ++ (sized i.item_name ++ desc_bytes i.desc)
 
--- globals
-abbrev pub const_bytes : Const → List ℕ
-const_bytes c = op_bytes (op.Simple (constant c)) ++ 0x0B ∷ []
+-- a constant expression (section 5.4.6)
+abbrev pub constant_bytes : Const → List ℕ
+constant_bytes c = op_bytes (op.Simple (constant c)) ++ 0x0B ∷ []
 
+-- a global (section 5.5.9)
 abbrev pub global_bytes : GlobalDef → List ℕ
-global_bytes g = global_type_bytes g.ty ++ const_bytes g.init
+global_bytes g = global_type_bytes g.ty ++ constant_bytes g.init
 
+-- an export (section 5.5.10)
 abbrev pub export_bytes : Export → List ℕ
 export_bytes e = sized e.name ++ kind_byte e.kind ∷ u32_bytes e.index
 
+-- an element segment (section 5.5.12)
 abbrev pub element_bytes : Element → List ℕ
-element_bytes e = u32_bytes e.table ++ (const_bytes e.offset ++ listed u32_bytes e.functions)
+element_bytes e = u32_bytes e.table ++ (constant_bytes e.offset ++ listed u32_bytes e.functions)
 
--- code (5.5.13)
+-- a code entry (section 5.5.13): maximal runs of locals of one type, and the body, behind how many bytes they have
 abbrev pub run_bytes : ℕ × ValType → List ℕ
-run_bytes r = u32_bytes r.0 ++ val_bytes r.1
+run_bytes r = u32_bytes r.0 ++ value_type_bytes r.1
 
 abbrev pub code_contents : Function → List ℕ
 code_contents f = listed run_bytes (runs_of f.locals) ++ (ops_bytes (ops_of f.body) ++ 0x0B ∷ [])
@@ -132,10 +140,11 @@ code_contents f = listed run_bytes (runs_of f.locals) ++ (ops_bytes (ops_of f.bo
 abbrev pub code_bytes : Function → List ℕ
 code_bytes f = sized (code_contents f)
 
+-- a data segment (section 5.5.14)
 abbrev pub segment_bytes : Segment → List ℕ
-segment_bytes s = u32_bytes s.memory ++ (const_bytes s.offset ++ sized s.bytes)
+segment_bytes s = u32_bytes s.memory ++ (constant_bytes s.offset ++ sized s.bytes)
 
--- sections
+-- a section (section 5.5.2), which is not there where it would be empty
 abbrev pub section : ℕ → List ℕ → List ℕ
 section id contents = id ∷ sized contents
 
@@ -143,14 +152,16 @@ abbrev pub list_section : {X : Type 0} → ℕ → (X → List ℕ) → List X �
 list_section id f [] = []
 list_section id f (x ∷ xs) = section id (listed f (x ∷ xs))
 
+-- the start section (section 5.5.11)
 abbrev pub start_section : Option ℕ → List ℕ
 start_section None = []
 start_section (Some x) = section 8 (u32_bytes x)
 
+-- a module (section 5.5.15)
 abbrev pub canon : Module → List ℕ
 canon m =
     header
-    ++ (list_section 1 sig_bytes m.types
+    ++ (list_section 1 signature_bytes m.types
     ++ (list_section 2 import_bytes m.imports
     ++ (list_section 3 (λ f. u32_bytes f.type_index) m.functions
     ++ (list_section 4 table_bytes m.tables
@@ -162,12 +173,12 @@ canon m =
     ++ (list_section 10 code_bytes m.functions
     ++ list_section 11 segment_bytes m.segments))))))))))
 
--- no section is too large
+-- The contents of each section can be sized: they have fewer than 2 ^ 32 bytes (section 5.5.2).
 abbrev pub Within : {X : Type 0} → (X → List ℕ) → List X → Type 0
 Within f xs = length (listed f xs) < 2 ^ 32
 
 pub record Fits (m : Module) : Type 0 where
-  pub types : Within sig_bytes m.types
+  pub types : Within signature_bytes m.types
   pub imports : Within import_bytes m.imports
   pub functions : Within (λ f. u32_bytes f.type_index) m.functions
   pub tables : Within table_bytes m.tables

@@ -18,6 +18,9 @@ use thiserror::Error;
 use wm_syntax::io::Dest;
 use wm_syntax::modules::Module;
 
+#[cfg(test)]
+mod tests;
+
 /// Why a module was not written.
 #[derive(Clone, Copy, PartialEq, Eq, Debug, Error)]
 pub enum WriteFault {
@@ -29,7 +32,8 @@ pub enum WriteFault {
     Io { written: u64 },
 }
 
-/// Writes the canonical binary of a module, and answers its length. No memory is taken.
+/// Writes the canonical binary of a module, and answers its length. No memory is taken. Each number, name and
+/// instruction is one `put`, so a slow writer wants a buffer.
 pub fn encode<W: Dest>(m: &Module, w: &mut W) -> Result<u64, WriteFault>
     requires open { W.has_failed w.old ≡ false }
     ensures written { IfOk result (λ n. (n ≡ length (canon (value_of m.now)))

@@ -12,11 +12,11 @@ use wm_syntax::types::{Const, FuncType, Limits, ValType};
 struct ValueType;
 
 impl Part for ValueType {
-    ghost use Rattle.wm_write.specs.Canon.{val_bytes};
+    ghost use Rattle.wm_write.specs.Canon.{value_type_bytes};
 
     type Value = ValType;
 
-    ghost bytes = { val_bytes };
+    ghost bytes = { value_type_bytes };
 
     fn put<W: Dest>(w: &mut W, written: &mut u64, ty: &ValType) {
         put_bytes(w, written, one(value_byte(*ty)).as_slice());
@@ -58,11 +58,11 @@ struct ConstantExpression;
 
 #[tactic(auto, using(crate::proofs::Writes::sent_then))]
 impl Part for ConstantExpression {
-    ghost use Rattle.wm_write.specs.Canon.{const_bytes};
+    ghost use Rattle.wm_write.specs.Canon.{constant_bytes};
 
     type Value = Const;
 
-    ghost bytes = { const_bytes };
+    ghost bytes = { constant_bytes };
 
     fn put<W: Dest>(w: &mut W, written: &mut u64, value: &Const) {
         let instruction = match *value {
@@ -80,11 +80,11 @@ pub(crate) struct TypeEntry;
 
 #[tactic(auto, using(crate::proofs::Writes::sent_byte, crate::proofs::Writes::sent_then))]
 impl Part for TypeEntry {
-    ghost use Rattle.wm_write.specs.Canon.{sig_bytes};
+    ghost use Rattle.wm_write.specs.Canon.{signature_bytes};
 
     type Value = FuncType;
 
-    ghost bytes = { sig_bytes };
+    ghost bytes = { signature_bytes };
 
     fn put<W: Dest>(w: &mut W, written: &mut u64, ty: &FuncType) {
         put_bytes(w, written, &[0x60]);

@@ -2,10 +2,10 @@
 use Rattle.std.specs.Prelude.{◌≡◌, length}
 use Rattle.wm_syntax.specs.Modules.{Module}
 use Rattle.wm_write.specs.declared.sizes.Sizes.{Sizes}
-use Rattle.wm_write.specs.Canon.{code_bytes, element_bytes, export_bytes, global_bytes, import_bytes, limits_bytes, listed, segment_bytes, sig_bytes, table_bytes, u32_bytes}
+use Rattle.wm_write.specs.Canon.{code_bytes, element_bytes, export_bytes, global_bytes, import_bytes, limits_bytes, listed, segment_bytes, signature_bytes, table_bytes, u32_bytes}
 
 pub record Measures (s : Sizes) (m : Module) : Type 0 where
-  pub types : s.types ≡ length (listed sig_bytes m.types)
+  pub types : s.types ≡ length (listed signature_bytes m.types)
   pub imports : s.imports ≡ length (listed import_bytes m.imports)
   pub functions : s.functions ≡ length (listed (λ f. u32_bytes f.type_index) m.functions)
   pub tables : s.tables ≡ length (listed table_bytes m.tables)

@@ -1,5 +1,7 @@
-use Rattle.wm_write.proofs.CanonLemmas.{spells}
+use Rattle.std.proofs.Common.{arith}
+use Rattle.wm_write.proofs.CanonSpells.{spells}
+use Rattle.wm_write.proofs.SectionLemmas.{canon_short}
 use Rattle.wm_write.proofs.laws.canon_spells.Goals as goal
 
 pub returns : goal.returns
-returns c = spells
+returns c = λ m h fit. (omega (arith, canon_short m fit), spells m h fit)

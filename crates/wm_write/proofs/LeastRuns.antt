@@ -6,11 +6,11 @@ use Rattle.wm_syntax.specs.declared.types.ValType.{ValType}
 use Rattle.wm_syntax.specs.declared.types.ValType.TheVariants.{I32, I64}
 use Rattle.wm_syntax.specs.Runs.{type_before, runs_of}
 use Rattle.wm_write.specs.Canon.{u32_bytes}
-use Rattle.wm_write.proofs.PutLemmas.{last_byte, more_bytes}
+use Rattle.wm_write.proofs.NumberLoops.{last_byte, more_bytes}
 use Rattle.wm_syntax.specs.Modules.{locals_of}
-use Rattle.wm_write.specs.Canon.{run_bytes, val_bytes}
+use Rattle.wm_write.specs.Canon.{listed, run_bytes, value_type_bytes}
 
-pub len : ℕ → ℕ → ℕ
+len : ℕ → ℕ → ℕ
 len k n = length (unsigned_bytes k n)
 
 len_none : (n : ℕ) → len 0 n ≡ 0
@@ -41,7 +41,7 @@ one_short zero = omega (arith, len_none 1)
 one_short (suc k) = omega (arith, len_last k 1 (omega arith))
 
 -- the sum of two numbers is no longer than both of them
-pub together : (k n m : ℕ) → len k (n + m) ≤ len k n + len k m
+together : (k n m : ℕ) → len k (n + m) ≤ len k n + len k m
 together zero n m = omega (arith, len_none (n + m))
 together (suc k) n m = elim (cases_lt (n + m) 128) [
   | inl s ↦ omega (arith, len_last k (n + m) s, len_some k n)
@@ -61,12 +61,12 @@ together (suc k) n m = elim (cases_lt (n + m) 128) [
 ]
 
 -- how many bytes runs have, without their count
-pub sizes : List (ℕ × ValType) → ℕ
+sizes : List (ℕ × ValType) → ℕ
 sizes runs = length (flat_map run_bytes runs)
 
 size_of : (n : ℕ) (t : ValType) (runs : List (ℕ × ValType)) → sizes ((n, t) ∷ runs) ≡ (len 5 n + 1) + sizes runs
 unfolding sizes len
-size_of n t runs = omega (arith, length-append (u32_bytes n ++ val_bytes t) (flat_map run_bytes runs), length-append (u32_bytes n) (val_bytes t))
+size_of n t runs = omega (arith, length-append (u32_bytes n ++ value_type_bytes t) (flat_map run_bytes runs), length-append (u32_bytes n) (value_type_bytes t))
 
 -- a run of a type before others of the same type, or before none of it
 abbrev Joined : ℕ → ValType → List (ℕ × ValType) → List (ℕ × ValType) → Type 0
@@ -103,9 +103,20 @@ front_size zero t ts = (omega arith, omega arith)
 front_size (suc n) t ts = joined_size (suc n) t (runs_of ts) (runs_of (replicate (suc n) t ++ ts)) (all_joined n t ts)
 
 -- the maximal runs are no longer than any runs of the same types
-pub least_runs : (runs : List (ℕ × ValType)) → (sizes (runs_of (locals_of runs)) ≤ sizes runs) × (length (runs_of (locals_of runs)) ≤ length runs)
+least_runs : (runs : List (ℕ × ValType)) → (sizes (runs_of (locals_of runs)) ≤ sizes runs) × (length (runs_of (locals_of runs)) ≤ length runs)
 least_runs [] = (omega arith, omega arith)
 least_runs (r ∷ runs) =
     let h = least_runs runs in
     let f = front_size r.0 r.1 (locals_of runs) in
     (omega (arith, h.0, f.0, size_of r.0 r.1 runs), omega (arith, h.1, f.1))
+
+pub number_rises : (n m : ℕ) → n ≤ m → length (u32_bytes n) ≤ length (u32_bytes m)
+unfolding len
+number_rises n m h = rises 5 n m h
+
+pub least_locals : (runs : List (ℕ × ValType)) → length (listed run_bytes (runs_of (locals_of runs))) ≤ length (listed run_bytes runs)
+unfolding sizes
+least_locals runs =
+    let h = least_runs runs in
+    let best = runs_of (locals_of runs) in
+    omega (arith, h.0, number_rises (length best) (length runs) h.1, length-append (u32_bytes (length best)) (flat_map run_bytes best), length-append (u32_bytes (length runs)) (flat_map run_bytes runs))

@@ -1,6 +1,6 @@
 -- The canonical binary spells its module.
 use Rattle.std.proofs.Common.{ℕ, suc, ◌+◌, ◌≡◌, ◌<◌, ◌≤◌, ◌^◌, List, [], ◌∷◌, ◌++◌, Option, Some, None, Bool, true, false, length, refl, sym, ◌∙◌, ap, subst, append-nil, length-append, arith, map, flat_map, replicate, inl, inr, cond, nat_lt, ◌%◌, ◌/◌}
-use Rattle.wm_write.proofs.PutLemmas.{short}
+use Rattle.wm_write.proofs.NumberLoops.{short}
 use Rattle.std.specs.Prelude.{IsUtf8, IfSome}
 use Rattle.std.specs.List.{AllByRecursion}
 use Rattle.std.proofs.lemmas.List.{length-replicate}
@@ -28,7 +28,7 @@ use Rattle.wm_syntax.specs.Modules.{locals_of}
 use Rattle.wm_decode.proofs.NameBytes.{utf8_bytes}
 use Rattle.wm_syntax.specs.Runs.{type_before, runs_of}
 use Rattle.wm_write.specs.Canon.{u32_bytes, block_byte, op_bytes, ops_bytes}
-use Rattle.wm_write.specs.Canon.{listed, sized, val_bytes, sig_bytes, bounds_bytes, limits_bytes, table_bytes, var_byte, global_type_bytes, desc_bytes, import_bytes, const_bytes, global_bytes, export_bytes, element_bytes, run_bytes, code_contents, code_bytes, segment_bytes, list_section, start_section, canon, Fits}
+use Rattle.wm_write.specs.Canon.{listed, sized, value_type_bytes, signature_bytes, bounds_bytes, limits_bytes, table_bytes, var_byte, global_type_bytes, desc_bytes, import_bytes, constant_bytes, global_bytes, export_bytes, element_bytes, run_bytes, code_contents, code_bytes, segment_bytes, list_section, start_section, canon, Fits}
 
 -- numbers
 number : (n : ℕ) → IsU32 n → SpellsU32 n (u32_bytes n)
@@ -69,7 +69,7 @@ simple_spells (Numeric o) h = alone _
 
 block_spells : (byte : ℕ) (t : Option ValType) → (Byte byte ▸ SpellsBlockType t) (byte ∷ block_byte t ∷ [])
 block_spells byte None = (byte ∷ [], 0x40 ∷ [], refl, refl, refl)
-block_spells byte (Some t) = (byte ∷ [], val_bytes t, refl, refl, refl)
+block_spells byte (Some t) = (byte ∷ [], value_type_bytes t, refl, refl, refl)
 
 -- an op whose numbers are in the ranges of their types
 abbrev IsOp : Op → Type 0
@@ -163,13 +163,13 @@ number_some n = some_bytes 4 n
 one_more : (x : ℕ) (xs : List ℕ) → 1 ≤ length (x ∷ xs)
 one_more x xs = omega arith
 
-types_spell : (ts : List ValType) → length (listed val_bytes ts) < 2 ^ 32 → SpellsList SpellsValType ts (listed val_bytes ts)
-types_spell ts few = list_spells SpellsValType val_bytes (λ t. Unit {0}) (λ t h l. refl) (λ t. one_more (type_byte t) []) ts (any_all ts) few
+types_spell : (ts : List ValType) → length (listed value_type_bytes ts) < 2 ^ 32 → SpellsList SpellsValType ts (listed value_type_bytes ts)
+types_spell ts few = list_spells SpellsValType value_type_bytes (λ t. Unit {0}) (λ t h l. refl) (λ t. one_more (type_byte t) []) ts (any_all ts) few
 
-sig_spells : (s : Signature) → length (sig_bytes s) < 2 ^ 32 → SpellsSignature s (sig_bytes s)
+sig_spells : (s : Signature) → length (signature_bytes s) < 2 ^ 32 → SpellsSignature s (signature_bytes s)
 sig_spells s few =
-    let l = part_less (listed val_bytes s.params) (listed val_bytes s.results) (2 ^ 32) (omega arith) in
-    (0x60 ∷ [], listed val_bytes s.params ++ listed val_bytes s.results, refl, refl, (listed val_bytes s.params, listed val_bytes s.results, refl, types_spell s.params l.0, types_spell s.results l.1))
+    let l = part_less (listed value_type_bytes s.params) (listed value_type_bytes s.results) (2 ^ 32) (omega arith) in
+    (0x60 ∷ [], listed value_type_bytes s.params ++ listed value_type_bytes s.results, refl, refl, (listed value_type_bytes s.params, listed value_type_bytes s.results, refl, types_spell s.params l.0, types_spell s.results l.1))
 
 limits_spell : (l : Limits) → AreLimits l → SpellsLimits l (limits_bytes l)
 limits_spell l h = go l.min l.max h.0 h.1
@@ -182,7 +182,7 @@ table_spells : (l : Limits) → AreLimits l → SpellsTableType l (table_bytes l
 table_spells l h = (0x70 ∷ [], limits_bytes l, refl, refl, limits_spell l h)
 
 global_type_spells : (g : GlobalType) → SpellsGlobalType g (global_type_bytes g)
-global_type_spells g = (val_bytes g.ty, var_byte g.var ∷ [], refl, refl, go g.var)
+global_type_spells g = (value_type_bytes g.ty, var_byte g.var ∷ [], refl, refl, go g.var)
   where
     go : (b : Bool) → SpellsVar b (var_byte b ∷ [])
     go false = refl
@@ -206,11 +206,11 @@ import_spells i h few =
     let k = part_less (sized i.item_name) (desc_bytes i.desc) (2 ^ 32) l.1 in
     (sized i.module_name, sized i.item_name ++ desc_bytes i.desc, refl, name_spells i.module_name h.0 l.0, (sized i.item_name, desc_bytes i.desc, refl, name_spells i.item_name h.1 k.0, desc_spells i.desc h.2))
 
-const_spells : (c : Const) → IsConst c → SpellsConst c (const_bytes c)
+const_spells : (c : Const) → IsConst c → SpellsConst c (constant_bytes c)
 const_spells c h = (op_bytes (op.Simple (constant c)), 0x0B ∷ [], refl, ([], op_bytes (op.Simple (constant c)), refl, refl, simple_spells (constant c) h), refl)
 
 global_spells : (g : GlobalDef) → IsConst g.init → SpellsGlobal g (global_bytes g)
-global_spells g h = (global_type_bytes g.ty, const_bytes g.init, refl, global_type_spells g.ty, const_spells g.init h)
+global_spells g h = (global_type_bytes g.ty, constant_bytes g.init, refl, global_type_spells g.ty, const_spells g.init h)
 
 export_spells : (e : Export) → IsUtf8 e.name × IsU32 e.index → length (export_bytes e) < 2 ^ 32 → SpellsExport e (export_bytes e)
 export_spells e h few =
@@ -219,9 +219,9 @@ export_spells e h few =
 
 element_spells : (e : Element) → IsU32 e.table × IsConst e.offset × AllByRecursion IsU32 e.functions → length (element_bytes e) < 2 ^ 32 → SpellsElement e (element_bytes e)
 element_spells e h few =
-    let l = part_less (u32_bytes e.table) (const_bytes e.offset ++ listed u32_bytes e.functions) (2 ^ 32) few in
-    let k = part_less (const_bytes e.offset) (listed u32_bytes e.functions) (2 ^ 32) l.1 in
-    (u32_bytes e.table, const_bytes e.offset ++ listed u32_bytes e.functions, refl, number e.table h.0, (const_bytes e.offset, listed u32_bytes e.functions, refl, const_spells e.offset h.1, list_spells SpellsU32 u32_bytes IsU32 (λ x i l. number x i) number_some e.functions h.2 k.1))
+    let l = part_less (u32_bytes e.table) (constant_bytes e.offset ++ listed u32_bytes e.functions) (2 ^ 32) few in
+    let k = part_less (constant_bytes e.offset) (listed u32_bytes e.functions) (2 ^ 32) l.1 in
+    (u32_bytes e.table, constant_bytes e.offset ++ listed u32_bytes e.functions, refl, number e.table h.0, (constant_bytes e.offset, listed u32_bytes e.functions, refl, const_spells e.offset h.1, list_spells SpellsU32 u32_bytes IsU32 (λ x i l. number x i) number_some e.functions h.2 k.1))
 
 -- locals
 added : (t : ValType) (runs : List (ℕ × ValType)) → locals_of (type_before t runs) ≡ t ∷ locals_of runs
@@ -243,10 +243,10 @@ run_within (r ∷ runs) n h =
     (omega arith, run_within runs n (omega arith))
 
 run_spells : (r : ℕ × ValType) → r.0 < 2 ^ 32 → SpellsRun r (run_bytes r)
-run_spells r h = (u32_bytes r.0, val_bytes r.1, refl, number r.0 h, refl)
+run_spells r h = (u32_bytes r.0, value_type_bytes r.1, refl, number r.0 h, refl)
 
 run_some : (r : ℕ × ValType) → 1 ≤ length (run_bytes r)
-run_some r = omega (arith, length-append (u32_bytes r.0) (val_bytes r.1))
+run_some r = omega (arith, length-append (u32_bytes r.0) (value_type_bytes r.1))
 
 locals_spell : (ts : List ValType) → length ts < 2 ^ 32 → length (listed run_bytes (runs_of ts)) < 2 ^ 32 → SpellsLocals ts (listed run_bytes (runs_of ts))
 locals_spell ts few short =
@@ -265,9 +265,9 @@ code_spells f h few =
 
 segment_spells : (s : Segment) → IsU32 s.memory × IsConst s.offset × AreBytes s.bytes → length (segment_bytes s) < 2 ^ 32 → SpellsSegment s (segment_bytes s)
 segment_spells s h few =
-    let l = part_less (u32_bytes s.memory) (const_bytes s.offset ++ sized s.bytes) (2 ^ 32) few in
-    let k = part_less (const_bytes s.offset) (sized s.bytes) (2 ^ 32) l.1 in
-    (u32_bytes s.memory, const_bytes s.offset ++ sized s.bytes, refl, number s.memory h.0, (const_bytes s.offset, sized s.bytes, refl, const_spells s.offset h.1, bytes_spell s.bytes h.2 k.1))
+    let l = part_less (u32_bytes s.memory) (constant_bytes s.offset ++ sized s.bytes) (2 ^ 32) few in
+    let k = part_less (constant_bytes s.offset) (sized s.bytes) (2 ^ 32) l.1 in
+    (u32_bytes s.memory, constant_bytes s.offset ++ sized s.bytes, refl, number s.memory h.0, (constant_bytes s.offset, sized s.bytes, refl, const_spells s.offset h.1, bytes_spell s.bytes h.2 k.1))
 
 start_spells : (s : Option ℕ) → IfSome s IsU32 → StartSection s (start_section s)
 start_spells None h = refl
@@ -300,16 +300,16 @@ import_some : (i : Import) → 1 ≤ length (import_bytes i)
 import_some i = omega (arith, length-append (sized i.module_name) (sized i.item_name ++ desc_bytes i.desc), some_sized i.module_name)
 
 global_some : (g : GlobalDef) → 1 ≤ length (global_bytes g)
-global_some g = omega (arith, length-append (global_type_bytes g.ty) (const_bytes g.init))
+global_some g = omega (arith, length-append (global_type_bytes g.ty) (constant_bytes g.init))
 
 export_some : (e : Export) → 1 ≤ length (export_bytes e)
 export_some e = omega (arith, length-append (sized e.name) (kind_byte e.kind ∷ u32_bytes e.index), some_sized e.name)
 
 element_some : (e : Element) → 1 ≤ length (element_bytes e)
-element_some e = omega (arith, length-append (u32_bytes e.table) (const_bytes e.offset ++ listed u32_bytes e.functions), number_some e.table)
+element_some e = omega (arith, length-append (u32_bytes e.table) (constant_bytes e.offset ++ listed u32_bytes e.functions), number_some e.table)
 
 segment_some : (s : Segment) → 1 ≤ length (segment_bytes s)
-segment_some s = omega (arith, length-append (u32_bytes s.memory) (const_bytes s.offset ++ sized s.bytes), number_some s.memory)
+segment_some s = omega (arith, length-append (u32_bytes s.memory) (constant_bytes s.offset ++ sized s.bytes), number_some s.memory)
 
 pub spells : (m : Module) → IsModule m → Fits m → SpellsModule m (canon m)
 spells m h fit = (
@@ -317,7 +317,7 @@ spells m h fit = (
   _,
   refl,
   refl,
-  plainly _ _ (list_section 1 sig_bytes m.types) _ (section_spells SpellsSignature sig_bytes (λ s. Unit {0}) (λ s u l. sig_spells s l) (λ s. one_more 0x60 _) 1 m.types (any_all m.types) fit.types)
+  plainly _ _ (list_section 1 signature_bytes m.types) _ (section_spells SpellsSignature signature_bytes (λ s. Unit {0}) (λ s u l. sig_spells s l) (λ s. one_more 0x60 _) 1 m.types (any_all m.types) fit.types)
       (plainly _ _ (list_section 2 import_bytes m.imports) _ (section_spells SpellsImport import_bytes (λ i. IsUtf8 i.module_name × IsUtf8 i.item_name × IsDesc i.desc) import_spells import_some 2 m.imports h.imports fit.imports)
       (plainly _ _ (list_section 3 (λ f. u32_bytes f.type_index) m.functions) _
       (section_spells (λ f. SpellsU32 f.type_index) (λ f. u32_bytes f.type_index) (λ f. IsU32 f.type_index × (length f.locals < 2 ^ 32) × AreInstructions f.body) (λ f i l. number f.type_index i.0) (λ f. number_some f.type_index) 3 m.functions h.functions fit.functions)

@@ -1,0 +1,282 @@
+-- The canonical binary is no longer than any other spelling of the same parts.
+use Rattle.std.proofs.Common.{ℕ, ◌≡◌, ◌<◌, ◌≤◌, ◌^◌, List, [], ◌∷◌, ◌++◌, Option, Some, None, length, refl, sym, ap, subst, ◌∙◌, arith, length-append, append-nil, append_assoc, map, flat_map, inl, inr, Bool, true, false}
+use Rattle.std.proofs.lemmas.Grind.{flat_map-append}
+use Rattle.wm_syntax.specs.Leb128.{Signed, signed_bytes}
+use Rattle.wm_syntax.specs.Spelling.{Form, Byte, Exactly, Each, AreBytes, ◌▸◌}
+use Rattle.wm_syntax.specs.declared.types.ValType.{ValType}
+use Rattle.wm_syntax.specs.declared.types.Limits.{Limits}
+use Rattle.wm_syntax.specs.declared.types.GlobalType.{GlobalType}
+use Rattle.wm_syntax.specs.declared.types.Const.{Const}
+use Rattle.wm_syntax.specs.declared.modules.ImportDesc.{ImportDesc}
+use Rattle.wm_syntax.specs.declared.modules.ImportDesc.TheVariants.{Func, Table, Memory, Global}
+use Rattle.wm_syntax.specs.declared.instructions.Simple.{Simple}
+use Rattle.wm_syntax.specs.declared.instructions.Simple.TheVariants.{Unreachable, Nop, Return, Drop, Select, Br, BrIf, Call, CallIndirect, LocalGet, LocalSet, LocalTee, GlobalGet, GlobalSet, MemorySize, MemoryGrow, I32Const, I64Const, Load, Store, Numeric}
+use Rattle.wm_syntax.specs.declared.instructions.Op.TheVariants as op
+use Rattle.wm_syntax.specs.Runs.{runs_of}
+use Rattle.wm_syntax.specs.Types.{Signature, SpellsU32, SpellsList, SpellsBytes, SpellsName, SpellsValType, SpellsSignature, SpellsBounds, SpellsLimits, SpellsTableType, SpellsVar, SpellsGlobalType, SpellsBlockType}
+use Rattle.wm_syntax.specs.Instructions.{Instruction, Instructions, none, snoc, simple, table, block, loop, choice, SpellsSimple, SpellsElse, SpellsInstruction, SpellsInstructions, SpellsExpression, instruction_ops, ops_of, else_ops}
+use Rattle.wm_syntax.specs.Modules.{Module, Import, Function, GlobalDef, Export, Element, Segment, constant, constant_body}
+use Rattle.wm_syntax.proofs.Spellings.{shortest_is_least, signed_is_least, unsigned_range}
+use Rattle.wm_decode.specs.Sections.{Customs, ListSection, StartSection, header, SpellsConst, SpellsDesc, SpellsImport, SpellsGlobal, SpellsExport, SpellsElement, SpellsRun, SpellsLocals, SpellsCode, SpellsSegment, SpellsModule, kind_byte}
+use Rattle.wm_write.specs.Canon.{u32_bytes, block_byte, op_bytes, ops_bytes, listed, sized, value_type_bytes, signature_bytes, bounds_bytes, limits_bytes, table_bytes, global_type_bytes, desc_bytes, import_bytes, constant_bytes, global_bytes, export_bytes, element_bytes, run_bytes, code_contents, code_bytes, segment_bytes, list_section, start_section, canon, Fits}
+use Rattle.wm_write.proofs.NumberLoops.{short}
+use Rattle.wm_write.proofs.LeastRuns.{least_locals, number_rises}
+
+-- these bytes are no longer than any that the form describes
+abbrev NoLonger : List ℕ → Form ℕ → Type 0
+NoLonger a P = (b : List ℕ) → P b → length a ≤ length b
+
+exactly : (a : List ℕ) → NoLonger a (Exactly a)
+exactly a b h = omega (arith, ap length h)
+
+then : (a c : List ℕ) (P Q : Form ℕ) → NoLonger a P → NoLonger c Q → NoLonger (a ++ c) (P ▸ Q)
+then a c P Q f g b (front, back, is, p, q) = omega (arith, ap length is, length-append front back, length-append a c, f front p, g back q)
+
+number : (n : ℕ) → NoLonger (u32_bytes n) (SpellsU32 n)
+number n b h = shortest_is_least 32 5 n b h
+
+each : {X : Type 0} (f : X → List ℕ) (S : X → Form ℕ) → ((x : X) → NoLonger (f x) (S x)) → (xs : List X) → NoLonger (flat_map f xs) (Each S xs)
+each f S g [] = exactly []
+each f S g (x ∷ xs) = then (f x) (flat_map f xs) (S x) (Each S xs) (g x) (each f S g xs)
+
+list : {X : Type 0} (f : X → List ℕ) (S : X → Form ℕ) → ((x : X) → NoLonger (f x) (S x)) → (xs : List X) → NoLonger (listed f xs) (SpellsList S xs)
+list f S g xs = then (u32_bytes (length xs)) (flat_map f xs) (SpellsU32 (length xs)) (Each S xs) (number (length xs)) (each f S g xs)
+
+bytes : (a : List ℕ) → NoLonger (sized a) (SpellsBytes a)
+bytes a = then (u32_bytes (length a)) a (SpellsU32 (length a)) (λ b. (b ≡ a) × AreBytes a) (number (length a)) (λ b h. exactly a b h.0)
+
+name : (a : List ℕ) → NoLonger (sized a) (SpellsName a)
+name a b h = bytes a b h.0
+
+-- types
+value_type : (t : ValType) → NoLonger (value_type_bytes t) (SpellsValType t)
+value_type t = exactly (value_type_bytes t)
+
+signature : (s : Signature) → NoLonger (signature_bytes s) (SpellsSignature s)
+signature s =
+    then (0x60 ∷ []) (listed value_type_bytes s.params ++ listed value_type_bytes s.results) (Byte 0x60) (SpellsList SpellsValType s.params ▸ SpellsList SpellsValType s.results) (exactly (0x60 ∷ []))
+    (then (listed value_type_bytes s.params) (listed value_type_bytes s.results) (SpellsList SpellsValType s.params) (SpellsList SpellsValType s.results) (list value_type_bytes SpellsValType value_type s.params) (list value_type_bytes SpellsValType value_type s.results))
+
+byte_number : (byte n : ℕ) → NoLonger (byte ∷ u32_bytes n) (Byte byte ▸ SpellsU32 n)
+byte_number byte n = then (byte ∷ []) (u32_bytes n) (Byte byte) (SpellsU32 n) (exactly (byte ∷ [])) (number n)
+
+byte_numbers : (byte n k : ℕ) → NoLonger (byte ∷ (u32_bytes n ++ u32_bytes k)) (Byte byte ▸ SpellsU32 n ▸ SpellsU32 k)
+byte_numbers byte n k = then (byte ∷ []) (u32_bytes n ++ u32_bytes k) (Byte byte) (SpellsU32 n ▸ SpellsU32 k) (exactly (byte ∷ [])) (then (u32_bytes n) (u32_bytes k) (SpellsU32 n) (SpellsU32 k) (number n) (number k))
+
+byte_alone : (byte : ℕ) → NoLonger (byte ∷ []) (Byte byte ▸ Exactly [])
+byte_alone byte = then (byte ∷ []) [] (Byte byte) (Exactly []) (exactly (byte ∷ [])) (exactly [])
+
+limits : (l : Limits) → NoLonger (limits_bytes l) (SpellsLimits l)
+limits l = go l.min l.max
+  where
+    go : (min : ℕ) (max : Option ℕ) → NoLonger (bounds_bytes min max) (SpellsBounds min max)
+    go min None = byte_number 0x00 min
+    go min (Some max) = byte_numbers 0x01 min max
+
+table_type : (l : Limits) → NoLonger (table_bytes l) (SpellsTableType l)
+table_type l = then (0x70 ∷ []) (limits_bytes l) (Byte 0x70) (SpellsLimits l) (exactly (0x70 ∷ [])) (limits l)
+
+global_type : (g : GlobalType) → NoLonger (global_type_bytes g) (SpellsGlobalType g)
+global_type g b (front, back, is, p, q) = omega (arith, ap length is, length-append front back, ap length p, some g.var back q)
+  where
+    some : (v : Bool) (back : List ℕ) → SpellsVar v back → 1 ≤ length back
+    some false back q = omega (arith, ap length q)
+    some true back q = omega (arith, ap length q)
+
+-- imports, exports
+desc : (d : ImportDesc) → NoLonger (desc_bytes d) (SpellsDesc d)
+desc (Func x) = byte_number 0x00 x
+desc (Table l) = then (0x01 ∷ []) (table_bytes l) (Byte 0x01) (SpellsTableType l) (exactly (0x01 ∷ [])) (table_type l)
+desc (Memory l) = then (0x02 ∷ []) (limits_bytes l) (Byte 0x02) (SpellsLimits l) (exactly (0x02 ∷ [])) (limits l)
+desc (Global g) = then (0x03 ∷ []) (global_type_bytes g) (Byte 0x03) (SpellsGlobalType g) (exactly (0x03 ∷ [])) (global_type g)
+
+imported : (i : Import) → NoLonger (import_bytes i) (SpellsImport i)
+imported i =
+    then (sized i.module_name) (sized i.item_name ++ desc_bytes i.desc) (SpellsName i.module_name) (SpellsName i.item_name ▸ SpellsDesc i.desc) (name i.module_name)
+    (then (sized i.item_name) (desc_bytes i.desc) (SpellsName i.item_name) (SpellsDesc i.desc) (name i.item_name) (desc i.desc))
+
+exported : (e : Export) → NoLonger (export_bytes e) (SpellsExport e)
+exported e = then (sized e.name) (kind_byte e.kind ∷ u32_bytes e.index) (SpellsName e.name) (Byte (kind_byte e.kind) ▸ SpellsU32 e.index) (name e.name) (byte_number (kind_byte e.kind) e.index)
+
+-- instructions
+instruction : (i : Simple) → NoLonger (op_bytes (op.Simple i)) (SpellsSimple i)
+instruction (Br l) = byte_number _ l
+instruction (BrIf l) = byte_number _ l
+instruction (Call x) = byte_number _ x
+instruction (CallIndirect x) =
+    then (0x11 ∷ []) (u32_bytes x ++ 0x00 ∷ []) (Byte 0x11) (SpellsU32 x ▸ Byte 0x00) (exactly (0x11 ∷ [])) (then (u32_bytes x) (0x00 ∷ []) (SpellsU32 x) (Byte 0x00) (number x) (exactly (0x00 ∷ [])))
+instruction (LocalGet x) = byte_number _ x
+instruction (LocalSet x) = byte_number _ x
+instruction (LocalTee x) = byte_number _ x
+instruction (GlobalGet x) = byte_number _ x
+instruction (GlobalSet x) = byte_number _ x
+instruction MemorySize = then (0x3F ∷ []) (0x00 ∷ []) (Byte 0x3F) (Byte 0x00) (exactly (0x3F ∷ [])) (exactly (0x00 ∷ []))
+instruction MemoryGrow = then (0x40 ∷ []) (0x00 ∷ []) (Byte 0x40) (Byte 0x00) (exactly (0x40 ∷ [])) (exactly (0x00 ∷ []))
+instruction (I32Const n) = then (0x41 ∷ []) (signed_bytes 5 n) (Byte 0x41) (Signed 32 n) (exactly (0x41 ∷ [])) (λ b h. signed_is_least 32 5 n b h)
+instruction (I64Const n) = then (0x42 ∷ []) (signed_bytes 10 n) (Byte 0x42) (Signed 64 n) (exactly (0x42 ∷ [])) (λ b h. signed_is_least 64 10 n b h)
+instruction (Load o at) = byte_numbers _ at.align at.offset
+instruction (Store o at) = byte_numbers _ at.align at.offset
+instruction Unreachable = byte_alone _
+instruction Nop = byte_alone _
+instruction Return = byte_alone _
+instruction Drop = byte_alone _
+instruction Select = byte_alone _
+instruction (Numeric o) = byte_alone _
+
+block_type : (t : Option ValType) → NoLonger (block_byte t ∷ []) (SpellsBlockType t)
+block_type None = exactly (0x40 ∷ [])
+block_type (Some t) = exactly (value_type_bytes t)
+
+equal : (a c : List ℕ) (P : Form ℕ) → a ≡ c → NoLonger c P → NoLonger a P
+equal a c P e f b h = omega (arith, ap length e, f b h)
+
+-- what stands between a first byte with a block type and an end
+between : (byte : ℕ) (t : Option ValType) (a : List ℕ) (P : Form ℕ) → NoLonger a P → NoLonger (byte ∷ block_byte t ∷ (a ++ 0x0B ∷ [])) (Byte byte ▸ SpellsBlockType t ▸ P ▸ Byte 0x0B)
+between byte t a P f =
+    then (byte ∷ []) (block_byte t ∷ (a ++ 0x0B ∷ [])) (Byte byte) (SpellsBlockType t ▸ P ▸ Byte 0x0B) (exactly (byte ∷ []))
+    (then (block_byte t ∷ []) (a ++ 0x0B ∷ []) (SpellsBlockType t) (P ▸ Byte 0x0B) (block_type t) (then a (0x0B ∷ []) P (Byte 0x0B) f (exactly (0x0B ∷ []))))
+
+labels : (ls : List ℕ) → ops_bytes (map op.Label ls) ≡ flat_map u32_bytes ls
+labels [] = refl
+labels (l ∷ ls) = ap (λ z. u32_bytes l ++ z) (labels ls)
+
+otherwise : (s : Instructions) (P : Form ℕ) → NoLonger (ops_bytes (ops_of s)) P → NoLonger (ops_bytes (else_ops s (ops_of s))) (SpellsElse s P)
+otherwise none P f = λ b h. omega arith
+otherwise (snoc s i) P f = then (0x05 ∷ []) (ops_bytes (ops_of (snoc s i))) (Byte 0x05) P (exactly (0x05 ∷ [])) f
+
+mutual
+  one : (i : Instruction) → NoLonger (ops_bytes (instruction_ops i)) (SpellsInstruction i)
+  one (simple i) = equal _ (op_bytes (op.Simple i)) (SpellsSimple i) (append-nil (op_bytes (op.Simple i))) (instruction i)
+  one (table ls d) =
+      let e : ops_bytes (map op.Label ls ++ op.Label d ∷ []) ≡ flat_map u32_bytes ls ++ u32_bytes d =
+      flat_map-append op_bytes (map op.Label ls) (op.Label d ∷ []) ∙ ap (λ z. z ++ (u32_bytes d ++ [])) (labels ls) ∙ ap (λ z. flat_map u32_bytes ls ++ z) (append-nil (u32_bytes d)) in
+      equal _ (0x0E ∷ (listed u32_bytes ls ++ u32_bytes d)) _
+      (ap (λ z. 0x0E ∷ (u32_bytes (length ls) ++ z)) e ∙ ap (λ z. 0x0E ∷ z) (sym (append_assoc (u32_bytes (length ls)) (flat_map u32_bytes ls) (u32_bytes d))))
+      (then (0x0E ∷ []) (listed u32_bytes ls ++ u32_bytes d) (Byte 0x0E) (SpellsList SpellsU32 ls ▸ SpellsU32 d) (exactly (0x0E ∷ []))
+      (then (listed u32_bytes ls) (u32_bytes d) (SpellsList SpellsU32 ls) (SpellsU32 d) (list u32_bytes SpellsU32 number ls) (number d)))
+  one (block t s) =
+      equal _ (0x02 ∷ block_byte t ∷ (ops_bytes (ops_of s) ++ 0x0B ∷ [])) _ (ap (λ z. 0x02 ∷ block_byte t ∷ z) (flat_map-append op_bytes (ops_of s) (op.End ∷ [])))
+      (between 0x02 t (ops_bytes (ops_of s)) (SpellsInstructions s) (some s))
+  one (loop t s) =
+      equal _ (0x03 ∷ block_byte t ∷ (ops_bytes (ops_of s) ++ 0x0B ∷ [])) _ (ap (λ z. 0x03 ∷ block_byte t ∷ z) (flat_map-append op_bytes (ops_of s) (op.End ∷ [])))
+      (between 0x03 t (ops_bytes (ops_of s)) (SpellsInstructions s) (some s))
+  one (choice t f s) =
+      let first = ops_bytes (ops_of f) in
+      let second = ops_bytes (else_ops s (ops_of s)) in
+      let e : ops_bytes ((ops_of f ++ else_ops s (ops_of s)) ++ op.End ∷ []) ≡ first ++ (second ++ 0x0B ∷ []) =
+      flat_map-append op_bytes (ops_of f ++ else_ops s (ops_of s)) (op.End ∷ []) ∙ ap (λ z. z ++ 0x0B ∷ []) (flat_map-append op_bytes (ops_of f) (else_ops s (ops_of s))) ∙ append_assoc first second (0x0B ∷ []) in
+      equal _ (0x04 ∷ block_byte t ∷ (first ++ (second ++ 0x0B ∷ []))) _ (ap (λ z. 0x04 ∷ block_byte t ∷ z) e)
+      (then (0x04 ∷ []) (block_byte t ∷ (first ++ (second ++ 0x0B ∷ []))) (Byte 0x04) (SpellsBlockType t ▸ SpellsInstructions f ▸ SpellsElse s (SpellsInstructions s) ▸ Byte 0x0B) (exactly (0x04 ∷ []))
+      (then (block_byte t ∷ []) (first ++ (second ++ 0x0B ∷ [])) (SpellsBlockType t) (SpellsInstructions f ▸ SpellsElse s (SpellsInstructions s) ▸ Byte 0x0B) (block_type t)
+      (then first (second ++ 0x0B ∷ []) (SpellsInstructions f) (SpellsElse s (SpellsInstructions s) ▸ Byte 0x0B) (some f)
+      (then second (0x0B ∷ []) (SpellsElse s (SpellsInstructions s)) (Byte 0x0B) (otherwise s (SpellsInstructions s) (some s)) (exactly (0x0B ∷ []))))))
+
+  some : (s : Instructions) → NoLonger (ops_bytes (ops_of s)) (SpellsInstructions s)
+  some none = exactly []
+  some (snoc s i) =
+      equal _ (ops_bytes (ops_of s) ++ ops_bytes (instruction_ops i)) _ (flat_map-append op_bytes (ops_of s) (instruction_ops i))
+      (then (ops_bytes (ops_of s)) (ops_bytes (instruction_ops i)) (SpellsInstructions s) (SpellsInstruction i) (some s) (one i))
+
+expression : (s : Instructions) → NoLonger (ops_bytes (ops_of s) ++ 0x0B ∷ []) (SpellsExpression s)
+expression s = then (ops_bytes (ops_of s)) (0x0B ∷ []) (SpellsInstructions s) (Byte 0x0B) (some s) (exactly (0x0B ∷ []))
+
+constant_expression : (c : Const) → NoLonger (constant_bytes c) (SpellsConst c)
+constant_expression c = equal _ _ (SpellsConst c) (ap (λ z. z ++ 0x0B ∷ []) (sym (append-nil (op_bytes (op.Simple (constant c)))))) (expression (constant_body c))
+
+-- entries
+defined : (g : GlobalDef) → NoLonger (global_bytes g) (SpellsGlobal g)
+defined g = then (global_type_bytes g.ty) (constant_bytes g.init) (SpellsGlobalType g.ty) (SpellsConst g.init) (global_type g.ty) (constant_expression g.init)
+
+element : (e : Element) → NoLonger (element_bytes e) (SpellsElement e)
+element e =
+    then (u32_bytes e.table) (constant_bytes e.offset ++ listed u32_bytes e.functions) (SpellsU32 e.table) (SpellsConst e.offset ▸ SpellsList SpellsU32 e.functions) (number e.table)
+    (then (constant_bytes e.offset) (listed u32_bytes e.functions) (SpellsConst e.offset) (SpellsList SpellsU32 e.functions) (constant_expression e.offset) (list u32_bytes SpellsU32 number e.functions))
+
+segment : (s : Segment) → NoLonger (segment_bytes s) (SpellsSegment s)
+segment s =
+    then (u32_bytes s.memory) (constant_bytes s.offset ++ sized s.bytes) (SpellsU32 s.memory) (SpellsConst s.offset ▸ SpellsBytes s.bytes) (number s.memory)
+    (then (constant_bytes s.offset) (sized s.bytes) (SpellsConst s.offset) (SpellsBytes s.bytes) (constant_expression s.offset) (bytes s.bytes))
+
+run : (r : ℕ × ValType) → NoLonger (run_bytes r) (SpellsRun r)
+run r = then (u32_bytes r.0) (value_type_bytes r.1) (SpellsU32 r.0) (SpellsValType r.1) (number r.0) (value_type r.1)
+
+locals : (ts : List ValType) → NoLonger (listed run_bytes (runs_of ts)) (SpellsLocals ts)
+locals ts b (runs, is, few, h) =
+    let l = list run_bytes SpellsRun run runs b h in
+    subst (λ z. length (listed run_bytes (runs_of z)) ≤ length b) is (omega (arith, l, least_locals runs))
+
+code : (f : Function) → NoLonger (code_bytes f) (SpellsCode f)
+code f b (size, contents, is, h, k) =
+    let l = then (listed run_bytes (runs_of f.locals)) (ops_bytes (ops_of f.body) ++ 0x0B ∷ []) (SpellsLocals f.locals) (SpellsExpression f.body) (locals f.locals) (expression f.body) contents k in
+    omega (arith, ap length is, length-append size contents, length-append (u32_bytes (length (code_contents f))) (code_contents f), l, number (length contents) size h, number_rises (length (code_contents f)) (length contents) l)
+
+-- sections: their contents are as long as a size can be, or not there
+in_section : {X : Type 0} (id : ℕ) (f : X → List ℕ) (S : X → Form ℕ) → ((x : X) → NoLonger (f x) (S x)) → (xs : List X) (b : List ℕ) → ListSection id S xs b → length (listed f xs) < 2 ^ 32
+in_section id f S g xs b (inl (byte, back, is, p, (size, contents, e, h, k))) = omega (arith, list f S g xs contents k, unsigned_range 32 (length contents) size h)
+in_section id f S g xs b (inr h) = subst (λ z. length (listed f z) < 2 ^ 32) (sym h.0) (omega (arith, length-append (u32_bytes 0) [], short 5 0))
+
+pub spelled_fits : (m : Module) (b : List ℕ) → SpellsModule m b → Fits m
+spelled_fits m b h =
+    let s1 = h.4 in
+    let s2 = s1.4.4 in
+    let s3 = s2.4.4 in
+    let s4 = s3.4.4 in
+    let s5 = s4.4.4 in
+    let s6 = s5.4.4 in
+    let s7 = s6.4.4 in
+    let s8 = s7.4.4 in
+    let s9 = s8.4.4 in
+    let s10 = s9.4.4 in
+    let s11 = s10.4.4 in
+    record {
+      types = in_section 1 signature_bytes SpellsSignature signature m.types _ s1.4.3;
+      imports = in_section 2 import_bytes SpellsImport imported m.imports _ s2.4.3;
+      functions = in_section 3 (λ f. u32_bytes f.type_index) (λ f. SpellsU32 f.type_index) (λ f. number f.type_index) m.functions _ s3.4.3;
+      tables = in_section 4 table_bytes SpellsTableType table_type m.tables _ s4.4.3;
+      memories = in_section 5 limits_bytes SpellsLimits limits m.memories _ s5.4.3;
+      globals = in_section 6 global_bytes SpellsGlobal defined m.globals _ s6.4.3;
+      exports = in_section 7 export_bytes SpellsExport exported m.exports _ s7.4.3;
+      elements = in_section 9 element_bytes SpellsElement element m.elements _ s9.4.3;
+      codes = in_section 10 code_bytes SpellsCode code m.functions _ s10.4.3;
+      segments = in_section 11 segment_bytes SpellsSegment segment m.segments _ s11.4.3;
+    }
+
+section : {X : Type 0} (id : ℕ) (f : X → List ℕ) (S : X → Form ℕ) → ((x : X) → NoLonger (f x) (S x)) → (xs : List X) → NoLonger (list_section id f xs) (ListSection id S xs)
+section id f S g [] b h = omega arith
+section id f S g (x ∷ xs) b (inr h) = let e : ⊥ = cc h.0 in absurd e
+section id f S g (x ∷ xs) b (inl (byte, back, is, p, (size, contents, e, h, k))) =
+    let whole = listed f (x ∷ xs) in
+    let l = list f S g (x ∷ xs) contents k in
+    omega (arith, ap length is, length-append byte back, ap length p, ap length e, length-append size contents, l, number (length contents) size h, number_rises (length whole) (length contents) l, length-append (u32_bytes (length whole)) whole)
+
+started : (start : Option ℕ) → NoLonger (start_section start) (StartSection start)
+started None b h = omega arith
+started (Some x) b (byte, back, is, p, (size, contents, e, h, k)) =
+    let l = number x contents k in
+    omega (arith, ap length is, length-append byte back, ap length p, ap length e, length-append size contents, l, number (length contents) size h, number_rises (length (u32_bytes x)) (length contents) l, length-append (u32_bytes (length (u32_bytes x))) (u32_bytes x))
+
+-- behind custom sections
+after : (a : List ℕ) (P : Form ℕ) → NoLonger a P → NoLonger a (Customs ▸ P)
+after a P f b (front, back, is, p, q) = omega (arith, ap length is, length-append front back, f back q)
+
+both : (a c : List ℕ) (P Q : Form ℕ) → NoLonger a P → NoLonger c Q → NoLonger (a ++ c) (Customs ▸ P ▸ Q)
+both a c P Q f g = after (a ++ c) (P ▸ Q) (then a c P Q f g)
+
+-- the last section has custom ones behind it
+last : (a : List ℕ) (P : Form ℕ) → NoLonger a P → NoLonger a (Customs ▸ P ▸ Customs)
+last a P f b (front, back, is, p, (one, other, e, q, r)) = omega (arith, ap length is, length-append front back, ap length e, length-append one other, f one q)
+
+pub canon_shortest : (m : Module) → NoLonger (canon m) (SpellsModule m)
+canon_shortest m =
+    then header _ (Exactly header) _ (exactly header)
+    (both (list_section 1 signature_bytes m.types) _ (ListSection 1 SpellsSignature m.types) _ (section 1 signature_bytes SpellsSignature signature m.types)
+    (both (list_section 2 import_bytes m.imports) _ (ListSection 2 SpellsImport m.imports) _ (section 2 import_bytes SpellsImport imported m.imports)
+    (both (list_section 3 (λ f. u32_bytes f.type_index) m.functions) _ (ListSection 3 (λ f. SpellsU32 f.type_index) m.functions) _ (section 3 (λ f. u32_bytes f.type_index) (λ f. SpellsU32 f.type_index) (λ f. number f.type_index) m.functions)
+    (both (list_section 4 table_bytes m.tables) _ (ListSection 4 SpellsTableType m.tables) _ (section 4 table_bytes SpellsTableType table_type m.tables)
+    (both (list_section 5 limits_bytes m.memories) _ (ListSection 5 SpellsLimits m.memories) _ (section 5 limits_bytes SpellsLimits limits m.memories)
+    (both (list_section 6 global_bytes m.globals) _ (ListSection 6 SpellsGlobal m.globals) _ (section 6 global_bytes SpellsGlobal defined m.globals)
+    (both (list_section 7 export_bytes m.exports) _ (ListSection 7 SpellsExport m.exports) _ (section 7 export_bytes SpellsExport exported m.exports)
+    (both (start_section m.start) _ (StartSection m.start) _ (started m.start)
+    (both (list_section 9 element_bytes m.elements) _ (ListSection 9 SpellsElement m.elements) _ (section 9 element_bytes SpellsElement element m.elements)
+    (both (list_section 10 code_bytes m.functions) _ (ListSection 10 SpellsCode m.functions) _ (section 10 code_bytes SpellsCode code m.functions)
+    (last (list_section 11 segment_bytes m.segments) (ListSection 11 SpellsSegment m.segments) (section 11 segment_bytes SpellsSegment segment m.segments))))))))))))
