@@ -109,11 +109,8 @@ fn write_canonical<W: Dest>(checked: &Checked, w: &mut W) -> Status
         (W.has_failed w.new) result }
 {
     match encode(checked.module(), w) {
-        Ok(_) => match w.flush() {
-            Ok(()) => Status::Done,
-            Err(_) => Status::Io,
-        },
-        // what was loaded is not too large
+        Ok(_) => answer(w, b"", Status::Done),
+        // no module that was loaded is too large
         Err(WriteFault::TooLarge) => Status::Io,
         Err(WriteFault::Io { written: _ }) => Status::Io,
     }
