@@ -1,14 +1,27 @@
 -- A refusal of an input is an outcome of each action.
-use Rattle.std.proofs.Common.{◌≢◌, ℕ, List, [], ◌∷◌, ◌++◌, Option, Some, None, Err, IfSome, inl, inr, refl, codes, ◌≤◌, ◌≡◌, ◌+◌, length, length-append, arith}
+use Rattle.std.proofs.KnownBytes.{Appends-trans}
+use Rattle.std.proofs.Math.Seq.{take-length}
+use Rattle.std.proofs.Math.Logic.{∥∥₁_elim}
+use Rattle.std.specs.Io.KnownBytes.{Appends}
+use Rattle.std.proofs.Common.{◌≢◌, ℕ, zero, suc, Bool, true, false, subst, sym, append-nil, take, List, [], ◌∷◌, ◌++◌, Option, Some, None, Err, IfSome, inl, inr, refl, codes, ◌≤◌, ◌≡◌, ◌+◌, length, length-append, arith}
 use Rattle.std.specs.Prelude.{decimal}
 use Rattle.wm_syntax.specs.declared.profile.Profile.{Profile}
 use Rattle.wm_syntax.specs.declared.why.Why.TheVariants.{Memory}
 use Rattle.wm_decode.specs.declared.refusal.Refusal.{Refusal}
-use Rattle.wm_rules.specs.declared.reading.FromFault.TheVariants.{Refused}
+use Rattle.wm_cli.specs.declared.status.Status.{Status}
 use Rattle.wm_cli.specs.declared.status.Status.TheVariants as status
+use Rattle.wm_cli.specs.declared.words.Action.TheVariants.{Canon}
+use Rattle.wm_cli.specs.Answers.{IsAnswered}
+use Rattle.wm_syntax.specs.Modules.{Module}
+use Rattle.wm_syntax.specs.Values.{value_of}
+use Rattle.wm_rules.specs.Loading.{IsLoaded}
+use Rattle.wm_rules.specs.declared.loader.state.Checked.{Checked}
+use Rattle.wm_rules.specs.inner.Loaders.{module_in}
+use Rattle.wm_write.specs.Canon.{Fits, canon}
+use Rattle.wm_write.proofs.Shortest.{spelled_fits}
 use Rattle.wm_cli.specs.declared.words.Action.{Action}
 use Rattle.wm_rules.specs.Reading.{LoadedInput, RefusedInput}
-use Rattle.wm_cli.specs.Outcome.{IsRightFor, OutOf, refusal_line}
+use Rattle.wm_cli.specs.Outcome.{IsOutput, IsRightFor, OutOf, refusal_line}
 use Rattle.wm_rules.specs.Validation.{Accepted}
 use Rattle.wm_rules.specs.Validating.{NeverAccepted}
 use Rattle.wm_rules.specs.inner.Validators.{verdict}
@@ -38,26 +51,45 @@ out_of_refusal action p limit (Some input) left r why j =
     ]
 
 -- a module that was loaded, and its canonical binary
-pub out_of_loaded : (p : Profile) (limit : ℕ) (all left : Option (List ℕ)) (c : Checked) → IfSome all (λ input. LoadedInput p limit input left c)
+loaded_out : (p : Profile) (limit : ℕ) (all left : Option (List ℕ)) (c : Checked) → IfSome all (λ input. LoadedInput p limit input left c)
     → IfSome all (λ input. IsRightFor Canon p limit input left (canon (value_of (module_in c))) status.Done)
-out_of_loaded p limit None left c j = tt
-out_of_loaded p limit (Some input) left c j =
+loaded_out p limit None left c j = tt
+loaded_out p limit (Some input) left c j =
     let m = value_of (module_in c) in
     let accepted : Accepted p limit input = record { module_value = m; spelled = j.loads.spelled; of_profile = j.loads.of_profile; valid = j.loads.valid } in
     inl (j.at_end, inl (accepted, (m, j.loads, refl), refl))
+
+pub out_of_loaded : (action : Action) (p : Profile) (limit : ℕ) (all left : Option (List ℕ)) (c : Checked) → action ≡ Canon
+    → IfSome all (λ input. LoadedInput p limit input left c)
+    → IsOutput action (canon (value_of (module_in c))) status.Done
+    × IfSome all (λ input. IsRightFor action p limit input left (canon (value_of (module_in c))) status.Done)
+out_of_loaded action p limit all left c is j =
+    let text = canon (value_of (module_in c)) in (
+      subst (λ a. IsOutput a text status.Done) (sym is) (inl ((value_of (module_in c), refl), refl)),
+      subst (λ a. IfSome all (λ input. IsRightFor a p limit input left text status.Done)) (sym is) (loaded_out p limit all left c j),
+    )
 
 -- what was loaded is not too large
 pub loaded_fits : (m : Module) → ∥ IsLoaded m ∥₁ → (¬ Fits m) → ⊥
 loaded_fits m l n = ∥∥₁_elim l (λ x y. absurd x) (λ h. n (spelled_fits m h.bytes h.loads.spelled.1))
 
 -- all of a text went out, and then the writer was flushed
+take-nil : (n : ℕ) → ◌≡◌ {A = List ℕ} (take n []) []
+take-nil zero = refl
+take-nil (suc n) = refl
+
 pub flushed : (text : List ℕ) (wanted : Status) (old mid new : Option (List ℕ)) (failed : Bool) (result : Status) → Appends old mid text
     → IsAnswered [] wanted mid new failed result → IsAnswered text wanted old new failed result
 flushed text wanted old mid new false result p q = (subst (Appends old new) (append-nil text) (Appends-trans old mid new text [] p q.0), q.1)
 flushed text wanted old mid new true result p q =
-    let none : (n : ℕ) → take n ([] {A = ℕ}) ≡ [] = λ n. take-nil n in
-    let all : Appends old new text = subst (Appends old new) (append-nil text) (Appends-trans old mid new text [] p (subst (Appends mid new) (none q.0.0) q.0.2)) in
-    ((length text, omega arith, subst (Appends old new) (sym (take-all text)) all), q.1)
+    let all : Appends old new text = subst (Appends old new) (append-nil text) (Appends-trans old mid new text [] p (subst (Appends mid new) (take-nil q.0.0) q.0.2)) in
+    ((length text, omega arith, subst (Appends old new) (sym (take-length text)) all), q.1)
+
+-- a beginning of a text went out
+pub unwritten : (text : List ℕ) (wanted : Status) (old new : Option (List ℕ)) (failed : Bool) → failed ≡ true
+    → (n : ℕ) × (n ≤ length text) × Appends old new (take n text) → IsAnswered text wanted old new failed status.Io
+unwritten text wanted old new true e out = (out, refl)
+unwritten text wanted old new false e out = absurd cc
 
 -- the line of a refusal, by the text of its name
 abbrev pub line_with : ℕ → List ℕ → List ℕ

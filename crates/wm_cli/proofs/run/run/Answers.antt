@@ -1,22 +1,60 @@
-use Rattle.std.proofs.Common.{Result, Err, inr, refl, ap, subst, ◌∙◌}
-use Rattle.wm_cli.proofs.RunLemmas.{out_of_refusal}
+-- What was found is what is told.
+use Rattle.std.proofs.Common.{Err, inr, refl, subst}
+use Rattle.wm_rules.specs.Reading.{Judges, LoadsFrom}
+use Rattle.wm_rules.specs.inner.Loaders.{module_in}
+use Rattle.wm_syntax.specs.Values.{value_of}
+use Rattle.wm_write.specs.Canon.{canon}
 use Rattle.wm_cli.specs.Outcome.{refusal_line}
-use Rattle.wm_rules.specs.Reading.{Judges}
-use Rattle.wm_rules.specs.declared.reading.FromFault.{FromFault}
-use Rattle.wm_rules.specs.declared.checker.Summary.{Summary}
 use Rattle.wm_cli.specs.declared.status.Status.TheVariants as status
+use Rattle.wm_cli.proofs.RunLemmas.{out_of_loaded, out_of_refusal}
 use Rattle.wm_cli.proofs.run.run.Goals as goal
 
-pub returns-in-Refused-clause-answered : goal.returns-in-Refused-clause-answered
-returns-in-Refused-clause-answered g c = λ o m.
-    let refusal = c.in-Refused.refusal in
+pub returns-in-Err-Refused-clause-answered : goal.returns-in-Err-Refused-clause-answered
+returns-in-Err-Refused-clause-answered g c = λ o m.
     let all = g.R.Source.remaining c.args.r.now in
     let left = g.R.Source.remaining c.validate_from.new.r in
+    let r = c.in-Err-Refused.refusal in
     let refused = c.refuse.ensures.answered m in (
-      refusal_line refusal.at refusal.why,
+      refusal_line r.at r.why,
       status.Refused,
-      inr ((refusal.at, refusal.why, refused.0, refl), refl),
-      out_of_refusal c.args.action c.args.profile c.args.limit all left refusal refused.0
-          (subst (λ (v : Result Summary FromFault). Judges c.args.profile c.args.limit all left v) (c.in-Err.is ∙ ap Err c.in-Refused.is) c.validate_from.ensures.judged),
+      inr ((r.at, r.why, refused.0, refl), refl),
+      out_of_refusal c.args.action c.args.profile c.args.limit all left r refused.0
+          (subst (λ f. Judges c.args.profile c.args.limit all left (Err f)) c.in-Err-Refused.field-0-is c.in-Err-Refused.ensures.judged),
       refused.1,
     )
+
+pub returns-in-Err-Refused-validate_from-clause-answered : goal.returns-in-Err-Refused-validate_from-clause-answered
+returns-in-Err-Refused-validate_from-clause-answered g c = λ o m.
+    let all = g.R.Source.remaining c.args.r.now in
+    let left = g.R.Source.remaining c.validate_from-in-Stats.new.r in
+    let r = c.in-Err-Refused-validate_from.refusal in
+    let refused = c.refuse-in-Err-Refused-validate_from.ensures.answered m in (
+      refusal_line r.at r.why,
+      status.Refused,
+      inr ((r.at, r.why, refused.0, refl), refl),
+      out_of_refusal c.args.action c.args.profile c.args.limit all left r refused.0
+          (subst (λ f. Judges c.args.profile c.args.limit all left (Err f)) c.in-Err-Refused-validate_from.field-0-is c.in-Err-Refused-validate_from.ensures.judged),
+      refused.1,
+    )
+
+pub returns-in-Err-Refused-load_from-clause-answered : goal.returns-in-Err-Refused-load_from-clause-answered
+returns-in-Err-Refused-load_from-clause-answered g c = λ o m.
+    let all = g.R.Source.remaining c.args.r.now in
+    let left = g.R.Source.remaining c.load_from.new.r in
+    let r = c.in-Err-Refused-load_from.refusal in
+    let refused = c.refuse-in-Err-Refused-load_from.ensures.answered m in (
+      refusal_line r.at r.why,
+      status.Refused,
+      inr ((r.at, r.why, refused.0, refl), refl),
+      out_of_refusal c.args.action c.args.profile c.args.limit all left r refused.0
+          (subst (λ f. LoadsFrom c.args.profile c.args.limit all left (Err f)) c.in-Err-Refused-load_from.field-0-is c.in-Err-Refused-load_from.ensures.loaded),
+      refused.1,
+    )
+
+pub returns-in-Ok-load_from-clause-answered : goal.returns-in-Ok-load_from-clause-answered
+returns-in-Ok-load_from-clause-answered g c = λ o m.
+    let checked = c.in-Ok-load_from.checked in
+    let out =
+        out_of_loaded c.args.action c.args.profile c.args.limit (g.R.Source.remaining c.args.r.now) (g.R.Source.remaining c.load_from.new.r) checked
+        c.in-Canon.is c.in-Ok-load_from.ensures.loaded
+    in (canon (value_of (module_in checked)), status.Done, out.0, out.1, c.write_canonical.ensures)
