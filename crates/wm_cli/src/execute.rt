@@ -5,7 +5,7 @@ use crate::run::run_line;
 use crate::status::Status;
 use crate::witness::Witness;
 use crate::words::Line;
-use std::io::Read;
+use std::io::{BufWriter, Read};
 use std::rt::Files;
 use std::{fs, io};
 use wm_syntax::io::input::Input as InputOf;
@@ -34,8 +34,13 @@ fn follow<R: Print + Eprint + AllocGlobal, I: Read + Drop>(
     name: &str,
     reader: I,
 ) -> Status {
+    // a module is written instruction by instruction, and reaches the system in pieces of some kilobytes
+    let Ok(writer) = BufWriter::new(rt.alloc(), io::writer(rt)) else {
+        complain(rt, &Status::Memory);
+        return Status::Memory;
+    };
     let mut source = InputOf::new(Witness::new(reader));
-    let mut dest = OutputOf::new(Witness::new(io::writer(rt)));
+    let mut dest = OutputOf::new(Witness::new(writer));
     let status = run_line(rt.alloc(), line, &mut source, &mut dest);
     match status {
         Status::Done | Status::Refused => {}

@@ -1,6 +1,9 @@
 //! What each action does.
 
 ghost use Rattle.std.specs.Prelude.{◌≡◌, ◌≢◌, ◌≤◌, ◌^◌, ◌↔◌, ◌||◌, ℕ, List, IfSome, false, true};
+ghost use Rattle.wm_syntax.specs.Values.{value_of};
+ghost use Rattle.wm_rules.specs.inner.Loaders.{module_in};
+ghost use Rattle.wm_write.specs.Canon.{canon};
 ghost use Rattle.wm_cli.specs.Answers.{IsAnswered};
 ghost use Rattle.wm_cli.specs.declared.status.Status.{Status};
 ghost use Rattle.wm_cli.specs.Outcome.{IsRightFor, IsOutput, refusal_line, stats_text};
@@ -10,14 +13,14 @@ use crate::status::Status;
 use crate::words::{Action, Line};
 use std::alloc::Global;
 use wm_decode::Refusal;
-use wm_rules::{FromFault, Summary, validate_from};
+use wm_rules::{Checked, FromFault, Summary, load_from, validate_from};
 use wm_syntax::io::{Dest, Source};
 use wm_syntax::profile::Profile;
 use wm_syntax::why::Why;
+use wm_write::encode::{WriteFault, encode};
 
 /// Reads the input to its end, or to where it is refused, does what the action says, and writes the answer, a
-/// refusal too. Where memory was
-/// refused or the reader failed nothing is written.
+/// refusal too. Where memory was refused or the reader failed nothing is written.
 pub fn run<R: Source, W: Dest>(
     alloc: Global,
     action: Action,
@@ -38,14 +41,21 @@ pub fn run<R: Source, W: Dest>(
     ensures memory { result ≡ Status.Memory → w.new ≡ w.old }
     ensures io { (result ≡ Status.Io) ↔ ((R.has_failed r.new || W.has_failed w.new) ≡ true) }
 {
-    match validate_from(alloc, r, profile, limit) {
-        Ok(summary) => match action {
-            Action::Check => answer(w, b"valid\n", Status::Done),
-            Action::Stats => report(alloc, summary, w),
+    match action {
+        Action::Check => match validate_from(alloc, r, profile, limit) {
+            Ok(_) => answer(w, b"valid\n", Status::Done),
+            Err(FromFault::Refused(refusal)) => refuse(alloc, refusal, w),
+            Err(FromFault::Io) => Status::Io,
         },
-        Err(fault) => match fault {
-            FromFault::Io => Status::Io,
-            FromFault::Refused(refusal) => refuse(alloc, refusal, w),
+        Action::Stats => match validate_from(alloc, r, profile, limit) {
+            Ok(summary) => report(alloc, summary, w),
+            Err(FromFault::Refused(refusal)) => refuse(alloc, refusal, w),
+            Err(FromFault::Io) => Status::Io,
+        },
+        Action::Canon => match load_from(alloc, r, profile, limit) {
+            Ok(checked) => write_canonical(&checked, w),
+            Err(FromFault::Refused(refusal)) => refuse(alloc, refusal, w),
+            Err(FromFault::Io) => Status::Io,
         },
     }
 }
@@ -89,6 +99,20 @@ fn report<W: Dest>(alloc: Global, summary: Summary, w: &mut W) -> Status
     match text {
         Ok(text) => answer(w, text.as_bytes(), Status::Done),
         Err(_) => Status::Memory,
+    }
+}
+
+/// Writes the canonical binary of a module, and flushes.
+fn write_canonical<W: Dest>(checked: &Checked, w: &mut W) -> Status
+    requires { W.has_failed w.old ≡ false }
+    ensures { IsAnswered (canon (value_of (module_in checked.now))) Status.Done (W.contents w.old) (W.contents w.new)
+        (W.has_failed w.new) result }
+{
+    match encode(checked.module(), w) {
+        Ok(_) => answer(w, b"", Status::Done),
+        // no module that was loaded is too large
+        Err(WriteFault::TooLarge) => Status::Io,
+        Err(WriteFault::Io { written: _ }) => Status::Io,
     }
 }
 

@@ -1,5 +1,6 @@
 //! Tests of what the program writes.
 
+mod canonical;
 mod modules;
 mod profiles;
 mod refusals;

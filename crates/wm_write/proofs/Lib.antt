@@ -5,3 +5,4 @@ pub mod CanonSpells
 pub mod Ranges
 pub mod LeastRuns
 pub mod Shortest
+pub mod RoundTrip

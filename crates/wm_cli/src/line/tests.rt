@@ -91,12 +91,13 @@ fn codes(rt: HostRuntime) {
 #[test]
 fn help_and_fault_texts(rt: HostRuntime) -> Result<(), Fail> {
     let help =
-        "Checks WebAssembly 1.0 modules (integer instructions only), reading them once.\n\n  \
+        "Checks and converts WebAssembly 1.0 modules (integer instructions only), reading them once.\n\n  \
         check   write `valid`, or why not and where\n  \
-        stats   write figures of a valid module's function bodies\n\n\
+        stats   write figures of a valid module's function bodies\n  \
+        canon   write a valid module as its canonical binary: shortest numbers, no custom sections\n\n\
         Usage: wmod [OPTIONS] <ACTION> [FILE]\n\n\
         Arguments:\n  \
-        <ACTION>  check or stats\n  \
+        <ACTION>  check, stats or canon\n  \
         [FILE]    The file to read; standard input where there is none, or where it is -\n\n\
         Options:\n      \
         --profile <N>  1, or 2 for sign-extension instructions too [default: 1]\n      \
@@ -108,7 +109,8 @@ fn help_and_fault_texts(rt: HostRuntime) -> Result<(), Fail> {
         Exit status: 0 done, 1 refused, 2 wrong arguments, 3 cannot read or write, 4 out of memory.\n\n\
         Examples:\n  \
         wmod check module.wasm\n  \
-        wmod stats --limit 1000000 < module.wasm\n";
+        wmod stats --limit 1000000 < module.wasm\n  \
+        wmod canon module.wasm > canonical.wasm\n";
     let missing = "error: the following required arguments were not provided:\n  <ACTION>\n\n\
         Usage: wmod <ACTION> [FILE]\n\n\
         For more information, try '--help'.\n";
@@ -132,9 +134,9 @@ fn wrong_words_are_named(rt: HostRuntime) -> Result<(), Fail> {
     let rows: [(&[&str], &str); 5] = [
         (
             &["wmod", "run", "--limit", "x"],
-            "'run' is no action: check, stats",
+            "'run' is no action: check, stats, canon",
         ),
-        (&["wmod", "CHECK"], "'CHECK' is no action: check, stats"),
+        (&["wmod", "CHECK"], "'CHECK' is no action: check, stats, canon"),
         (
             &["wmod", "check", "--limit", "0x10"],
             "'0x10' is no limit: decimal digits, at most 4611686018427387904",

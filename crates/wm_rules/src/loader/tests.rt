@@ -1,5 +1,7 @@
 //! Tests of what is loaded.
 
+ghost use Rattle.std.specs.Prelude.{◌<◌};
+
 use super::*;
 use crate::tests::{ADD, Bytes};
 use crate::{FromFault, load_from};
