@@ -17,7 +17,8 @@ pub fn canon_spells()
     ensures { (m : Module) → IsModule m → Fits m → Spells (2 ^ 62) m (canon m) }
 {}
 
-/// What is spelled at all is a module whose sections fit, so its canonical binary spells it too, and in the fewest bytes.
+/// What is spelled at all is a module whose sections fit, so its canonical binary spells it too,
+/// in the fewest bytes.
 pub fn spelled_has_canon()
     ensures range { (limit : ℕ) (m : Module) (b : List ℕ) → Spells limit m b → IsModule m }
     ensures fits { (limit : ℕ) (m : Module) (b : List ℕ) → Spells limit m b → Fits m }

@@ -14,7 +14,7 @@ use wm_syntax::modules::{
 };
 use wm_syntax::types::{Const, FuncType, GlobalType, Limits, ValType};
 
-/// Takes so many bytes in all, and no more than three a call.
+/// Takes so many bytes in all, one a call.
 #[derive(Drop)]
 struct Narrow {
     taken: Vec<u8>,
@@ -23,15 +23,14 @@ struct Narrow {
 
 impl Write for Narrow {
     fn write(&mut self, buf: &[u8]) -> io::Result<usize> {
-        let mut count = 0;
-        for byte in buf {
-            if count == 3 || self.taken.len() >= self.room {
-                break;
-            }
-            self.taken.push(*byte)?;
-            count += 1;
+        let Some(first) = buf.first() else {
+            return Ok(0);
+        };
+        if self.taken.len() >= self.room {
+            return Ok(0);
         }
-        Ok(count)
+        self.taken.push(*first)?;
+        Ok(1)
     }
 
     fn flush(&mut self) -> io::Result<()> {
