@@ -64,7 +64,7 @@ fn after_op(depth: u32, op: Op) -> InExpression
     }
 }
 
-pub(crate) fn after_label(depth: u32, left: u32) -> InExpression
+fn after_label(depth: u32, left: u32) -> InExpression
     ensures { result ≡ after_label depth left }
 {
     if left == 0 {

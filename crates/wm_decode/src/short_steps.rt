@@ -3,11 +3,12 @@
 //!
 //! What ends a section or is refused for its bytes is left to the byte step.
 
-ghost use Rattle.std.specs.Prelude.{IfSome};
+ghost use Rattle.std.specs.Prelude.{◌≡◌, ◌<◌, IfSome};
+ghost use Rattle.wm_syntax.specs.exact.Reading.{unsigned_push};
 ghost use Rattle.wm_decode.specs.exact.ShortSteps.{StepsTo};
 
 use crate::entry_step::runs_or_body;
-use crate::expressions::{InExpression, after_label};
+use crate::expressions::InExpression;
 use crate::machine::Plain;
 use crate::member::{InEntry, InMember, IndexOf, SectionKind};
 use crate::ops::InOp;
@@ -111,30 +112,28 @@ fn local_byte(left: u32, more: u32, runs: u32, at: InRun, byte: u8) -> Option<St
     })
 }
 
-// In a label of a br_table
+/// The label of a br_table that ends with this byte, where bytes of the section and of the entry come after it, and
+/// another label.
 #[inline(always)]
-fn label_byte(
-    left: u32,
+pub(crate) fn next_label(
     more: u32,
-    depth: u32,
+    rest: u32,
     labels: u32,
     mut number: Num32,
     byte: u8,
-) -> Option<Stepped>
-    ensures { IfSome result (λ s. StepsTo SectionKind.Code left (InMember.Entry more (InEntry.Body (InExpression.Label depth labels number))) byte s) }
+) -> Option<u32>
+    ensures more { IfSome result (λ n. 0 < more) }
+    ensures rest { IfSome result (λ n. 0 < rest) }
+    ensures labels { IfSome result (λ n. 0 < labels) }
+    ensures number { IfSome result (λ n. (unsigned_push 32 number byte).0 ≡ Step.Done n) }
 {
-    let Step::Done(label) = number.push(byte) else {
-        return None;
-    };
-    if more == 0 {
+    if more == 0 || rest == 0 || labels == 0 {
         return None;
     }
-    let at = InEntry::Body(after_label(depth, labels));
-    Some(Stepped {
-        left,
-        at: InMember::Entry { more: more - 1, at },
-        part: Some(Plain::BodyOp(Op::Label(label))),
-    })
+    match number.push(byte) {
+        Step::Done(label) => Some(label),
+        _ => None,
+    }
 }
 
 // The last byte of an entry, where another comes after it
@@ -161,11 +160,6 @@ fn body_byte(left: u32, more: u32, at: InExpression, byte: u8) -> Option<Stepped
     ensures { IfSome result (λ s. StepsTo SectionKind.Code left (InMember.Entry more (InEntry.Body at)) byte s) }
 {
     match at {
-        InExpression::Label {
-            depth,
-            left: labels,
-            number,
-        } => label_byte(left, more, depth, labels, number, byte),
         InExpression::Op { depth, at } => last_byte(left, more, depth, at, byte),
         _ => None,
     }
