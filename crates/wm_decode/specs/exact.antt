@@ -6,6 +6,7 @@ pub mod Members
 pub mod OpSteps
 pub mod Readings
 pub mod Runs
+pub mod ShortSteps
 pub mod Steps
 pub mod TwoSinks
 pub mod ValueSteps

@@ -18,7 +18,7 @@ fn no_entry(why: Why) -> (InEntry, Event)
     (InEntry::Failed(why), Event::Nothing)
 }
 
-fn runs_or_body(left: u32) -> InEntry
+pub(crate) fn runs_or_body(left: u32) -> InEntry
     ensures { result ≡ runs_or_body left }
 {
     if left == 0 {

@@ -11,7 +11,7 @@ use wm_syntax::profile::Profile;
 use wm_syntax::why::Why;
 
 /// Where in an expression the next byte stands.
-#[derive(Clone, Copy, Debug)]
+#[derive(Clone, Copy)]
 pub(crate) enum InExpression {
     /// In an op, with so many blocks open inside the expression.
     Op {

@@ -13,7 +13,7 @@ use wm_syntax::types::{GlobalType, Limits, ValType};
 use wm_syntax::why::Why;
 
 /// Which name is read.
-#[derive(Clone, Copy, Debug)]
+#[derive(Clone, Copy)]
 pub(crate) enum NameKind {
     Custom,
     ImportModule,
@@ -22,7 +22,7 @@ pub(crate) enum NameKind {
 }
 
 /// An item of a module that holds no bytes of the input.
-#[derive(Clone, Copy, Debug)]
+#[derive(Clone, Copy)]
 pub(crate) enum Plain {
     NewType,
     Param(ValType),
@@ -86,7 +86,7 @@ impl Plain {
 /// Where in a custom section the next byte stands.
 ///
 /// Of a name, and of what has a size, the counts are those that come after the byte at hand.
-#[derive(Clone, Copy, Debug)]
+#[derive(Clone, Copy)]
 pub(crate) enum InCustom {
     Length(Num32),
     /// In the name, with so many bytes of it after the next.
@@ -102,7 +102,7 @@ pub(crate) enum InCustom {
 ///
 /// `functions` is how many functions await their code; `more` is how many bytes of the section come
 /// after the next one.
-#[derive(Clone, Copy, Debug)]
+#[derive(Clone, Copy)]
 pub(crate) enum Machine {
     /// In the header, after so many bytes of it.
     Header(u8),
@@ -148,7 +148,7 @@ pub(crate) enum Machine {
 }
 
 /// What a byte completes.
-#[derive(Clone, Copy, Debug)]
+#[derive(Clone, Copy)]
 pub(crate) enum Event {
     Nothing,
     Complete(Plain),

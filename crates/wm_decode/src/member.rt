@@ -10,7 +10,7 @@ use wm_syntax::numbers::Num32;
 use wm_syntax::why::Why;
 
 /// Of what a section is a list (section 5.5.2); the start section is one member.
-#[derive(Clone, Copy, Debug)]
+#[derive(Clone, Copy)]
 pub(crate) enum SectionKind {
     Type,
     Import,
@@ -67,7 +67,7 @@ impl SectionKind {
 }
 
 /// Which index is read.
-#[derive(Clone, Copy, Debug)]
+#[derive(Clone, Copy)]
 pub(crate) enum IndexOf {
     /// The type of a function.
     Function,
@@ -81,7 +81,7 @@ pub(crate) enum IndexOf {
 }
 
 /// Which constant expression is read.
-#[derive(Clone, Copy, Debug)]
+#[derive(Clone, Copy)]
 pub(crate) enum ConstantOf {
     Global,
     Element,
@@ -89,14 +89,14 @@ pub(crate) enum ConstantOf {
 }
 
 /// Of what the length is read, after an offset.
-#[derive(Clone, Copy, Debug)]
+#[derive(Clone, Copy)]
 pub(crate) enum LengthOf {
     Functions,
     Bytes,
 }
 
 /// Where in a code entry the next byte stands.
-#[derive(Clone, Copy, Debug)]
+#[derive(Clone, Copy)]
 pub(crate) enum InEntry {
     RunCount(Num32),
     /// In a run of locals, with so many after it.
@@ -110,7 +110,7 @@ pub(crate) enum InEntry {
 
 /// Where in a member the next byte stands. The counts are of what comes after the one at hand, so
 /// that each number is one that may be.
-#[derive(Clone, Copy, Debug)]
+#[derive(Clone, Copy)]
 pub(crate) enum InMember {
     TypeForm,
     ParamCount(Num32),

@@ -306,6 +306,46 @@ fn places_of_items(rt: HostRuntime) -> Result<(), Fail> {
     Ok(())
 }
 
+// Three functions, of which the second has two runs of locals and a br_table of two labels. The size of the first
+// entry, the count of the second run and the last label are spelled in two bytes.
+const ENTRIES: [u8; 40] = [
+    0x01, 0x04, 0x01, 0x60, 0x00, 0x00, 0x03, 0x04, 0x03, 0x00, 0x00, 0x00, 0x0A, 0x1A, 0x03, 0x82,
+    0x00, 0x00, 0x0B, 0x11, 0x02, 0x01, 0x7F, 0x81, 0x00, 0x7E, 0x02, 0x40, 0x41, 0x00, 0x0E, 0x01,
+    0x00, 0x80, 0x00, 0x0B, 0x0B, 0x02, 0x00, 0x0B,
+];
+
+const PLACES_IN_ENTRIES: [(u64, Seen); 17] = [
+    (12, Seen::NewType),
+    (14, Seen::Results(0)),
+    (18, Seen::Func(0)),
+    (19, Seen::Func(0)),
+    (20, Seen::Func(0)),
+    (25, Seen::Body),
+    (27, Seen::Op(Op::End)),
+    (28, Seen::Body),
+    (31, Seen::Locals(1, ValType::I32)),
+    (34, Seen::Locals(1, ValType::I64)),
+    (36, Seen::Op(Op::Block(None))),
+    (38, Seen::Op(Op::Simple(Simple::I32Const(0)))),
+    (40, Seen::Op(Op::BrTable(1))),
+    (41, Seen::Op(Op::Label(0))),
+    (43, Seen::Op(Op::Label(0))),
+    (44, Seen::Op(Op::End)),
+    (45, Seen::Op(Op::End)),
+];
+
+const LAST_ENTRY: [(u64, Seen); 2] = [(46, Seen::Body), (48, Seen::Op(Op::End))];
+
+#[test]
+fn places_in_code_entries(rt: HostRuntime) -> Result<(), Fail> {
+    let bytes = after_header(rt.alloc(), &ENTRIES)?;
+    let placed = placed_in(rt.alloc(), &bytes)?;
+    let (first, last) = placed.as_slice().split_at(placed.len().min(17));
+    assert_eq!(rt; first, &PLACES_IN_ENTRIES[..]);
+    assert_eq!(rt; last, &LAST_ENTRY[..]);
+    Ok(())
+}
+
 // Every section that holds items, none of them twice
 const ALL: [&[u8]; 11] = [
     &[0x01, 0x04, 0x01, 0x60, 0x00, 0x00],
@@ -385,6 +425,7 @@ fn cut_in_two_at_every_place(rt: HostRuntime) -> Result<(), Fail> {
         all_sections(alloc)?,
         after_header(alloc, &ADDING)?,
         after_header(alloc, &DATA)?,
+        after_header(alloc, &ENTRIES)?,
     ] {
         let whole = seen_in(alloc, &bytes, 1000)?;
         for cut in 0..=bytes.len() {
@@ -838,17 +879,20 @@ fn a_limit(rt: HostRuntime) -> Result<(), Fail> {
 
 #[test]
 fn a_sink_that_refuses(rt: HostRuntime) -> Result<(), Fail> {
-    let mut decoder = Decoder::new(rt.alloc(), Full {}, Profile::One, 1000);
+    let sections: [&[u8]; 2] = [
+        &[0x01, 0x04, 0x01, 0x60, 0x00, 0x00],
+        &[0x03, 0x04, 0x03, 0x00, 0x00, 0x00],
+    ];
     let refusal = Refusal {
         at: 12,
         why: Why::Arity,
     };
-    assert_eq!(rt; decoder.feed(&HEADER), Ok(()));
-    assert_eq!(rt;
-        decoder.feed(&[0x01, 0x04, 0x01, 0x60, 0x00, 0x00]),
-        Err(refusal)
-    );
-    assert_eq!(rt; decoder.finish().err(), Some(refusal));
+    for section in sections {
+        let mut decoder = Decoder::new(rt.alloc(), Full {}, Profile::One, 1000);
+        assert_eq!(rt; decoder.feed(&HEADER), Ok(()));
+        assert_eq!(rt; decoder.feed(section), Err(refusal));
+        assert_eq!(rt; decoder.finish().err(), Some(refusal));
+    }
     Ok(())
 }
 

@@ -12,7 +12,7 @@ use wm_syntax::types::{GlobalType, Limits, ValType};
 use wm_syntax::why::Why;
 
 /// Where in limits the next byte stands (section 5.3.4).
-#[derive(Clone, Copy, Debug)]
+#[derive(Clone, Copy)]
 pub(crate) enum InLimits {
     Flag,
     /// In the least size, before a greatest one if it is bounded.
@@ -64,7 +64,7 @@ fn limits_byte(at: InLimits, byte: u8) -> Reading<InLimits, Limits>
 }
 
 /// Where in a table type the next byte stands (section 5.3.6).
-#[derive(Clone, Copy, Debug)]
+#[derive(Clone, Copy)]
 pub(crate) enum InTableType {
     ElementType,
     Limits(InLimits),
@@ -99,7 +99,7 @@ pub(crate) fn value_type(byte: u8) -> Result<ValType, Why>
 }
 
 /// Where in a global type the next byte stands (section 5.3.7).
-#[derive(Clone, Copy, Debug)]
+#[derive(Clone, Copy)]
 pub(crate) enum InGlobalType {
     Type,
     Var(ValType),
@@ -122,7 +122,7 @@ pub(crate) fn global_type_byte(at: InGlobalType, byte: u8) -> Reading<InGlobalTy
 }
 
 /// Where in what an import brings in the next byte stands (section 5.5.5).
-#[derive(Clone, Copy, Debug)]
+#[derive(Clone, Copy)]
 pub(crate) enum InImportDesc {
     Kind,
     Func(Num32),
@@ -190,7 +190,7 @@ fn desc_byte(at: InImportDesc, byte: u8) -> Reading<InImportDesc, ImportDesc>
 }
 
 /// Where in what an export gives out the next byte stands (section 5.5.10).
-#[derive(Clone, Copy, Debug)]
+#[derive(Clone, Copy)]
 pub(crate) enum InExportDesc {
     Kind,
     Index { kind: ExportKind, number: Num32 },
@@ -230,7 +230,7 @@ fn target_byte(at: InExportDesc, byte: u8) -> Reading<InExportDesc, (ExportKind,
 }
 
 /// Where in a run of locals the next byte stands (section 5.5.13).
-#[derive(Clone, Copy, Debug)]
+#[derive(Clone, Copy)]
 pub(crate) enum InRun {
     Count(Num32),
     Type { count: u32 },
@@ -259,7 +259,7 @@ pub(crate) fn run_byte(at: InRun, byte: u8) -> Reading<InRun, (u32, ValType)>
 }
 
 /// Where in the value that ends an import, a table, a memory or an export the next byte stands.
-#[derive(Clone, Copy, Debug)]
+#[derive(Clone, Copy)]
 pub(crate) enum InValue {
     Import(InImportDesc),
     Table(InTableType),

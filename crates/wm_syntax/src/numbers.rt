@@ -112,6 +112,7 @@ impl Leb128 {
     }
 
     /// The number that ends with this byte, whose sign bit is not set.
+    #[inline(always)]
     fn positive(self, byte: u8) -> i64
         requires place { self.count < 10 }
         requires room { (byte + 1) * 2 ^ (7 * self.count) ≤ 2 ^ 63 }
@@ -121,6 +122,7 @@ impl Leb128 {
     }
 
     /// The number that ends with this byte, whose sign bit is set: -1 less the number of the inverted bits.
+    #[inline(always)]
     fn negative(self, byte: u8) -> i64
         requires place { self.count < 10 }
         requires byte { byte < 2 ^ 7 }
@@ -132,6 +134,7 @@ impl Leb128 {
         -1 - inverted as i64
     }
 
+    #[inline(always)]
     #[tactic(auto, unfolding(crate::specs::exact::Reading::signed_push))]
     fn advance_signed(self, bits: u8, byte: u8) -> (Step<i64>, Self)
         requires { bits ≤ 64 }
@@ -170,6 +173,7 @@ impl Leb128 {
     }
 
     /// Takes the next byte of a signed number of so many bits.
+    #[inline(always)]
     pub fn push_signed(&mut self, bits: u8, byte: u8) -> Step<i64>
         requires { bits ≤ 64 }
         ensures answers { (before : List ℕ) → SignedAfter bits self.old before
@@ -200,6 +204,7 @@ fn narrow(step: Step<u64>) -> Step<u32>
 }
 
 /// The same answer with an i32.
+#[inline(always)]
 fn narrow_signed(step: Step<i64>) -> Step<i32>
     requires { IfDone step (FitsBits 32) }
     ensures { result ≡ step }
@@ -314,6 +319,7 @@ impl Int32 {
     }
 
     /// Takes the next byte. After `Done` and `Bad` the answer is always `Bad`.
+    #[inline(always)]
     pub fn push(&mut self, byte: u8) -> Step<i32>
         ensures answers { (before : List ℕ) → SignedAfter 32 self.old before
             → Answers (Signed 32) result (before ++ byte ∷ []) }
@@ -351,6 +357,7 @@ impl Int64 {
     }
 
     /// Takes the next byte. After `Done` and `Bad` the answer is always `Bad`.
+    #[inline(always)]
     pub fn push(&mut self, byte: u8) -> Step<i64>
         ensures answers { (before : List ℕ) → SignedAfter 64 self.old before
             → Answers (Signed 64) result (before ++ byte ∷ []) }

@@ -1,0 +1,147 @@
+-- A byte that goes by a shorter way does what the byte step says.
+use Rattle.std.proofs.Common.{◌≡◌, ℕ, zero, suc, ◌+◌, ◌-◌, ◌<◌, inl, Option, Some, None, List, [], Result, Ok, Err, length, refl, sym, ◌∙◌, ap, subst, drop, slice_index, cond, arith}
+use Rattle.std.proofs.lemmas.Bool.{lt-ltb}
+use Rattle.std.proofs.lemmas.List.{drop_more}
+use Rattle.wm_syntax.specs.declared.profile.Profile.{Profile}
+use Rattle.wm_syntax.specs.declared.why.Why.{Why}
+use Rattle.wm_syntax.specs.declared.why.Why.TheVariants as why
+use Rattle.wm_syntax.specs.declared.instructions.Op.TheVariants as op
+use Rattle.wm_syntax.specs.exact.Reading.{fresh, unsigned_push}
+use Rattle.wm_syntax.specs.declared.numbers.Step.{Step}
+use Rattle.wm_syntax.specs.declared.numbers.Step.TheVariants as step
+use Rattle.wm_syntax.specs.inner.Numbers.{Partial}
+use Rattle.wm_decode.specs.declared.machine.Machine.{Machine}
+use Rattle.wm_decode.specs.declared.machine.Machine.TheVariants as machine
+use Rattle.wm_decode.specs.declared.machine.Event.{Event}
+use Rattle.wm_decode.specs.declared.machine.Event.TheVariants as event
+use Rattle.wm_decode.specs.declared.machine.Plain.{Plain}
+use Rattle.wm_decode.specs.declared.machine.Plain.TheVariants as plain
+use Rattle.wm_decode.specs.declared.member.SectionKind.{SectionKind}
+use Rattle.wm_decode.specs.declared.member.SectionKind.TheVariants as section_kind
+use Rattle.wm_decode.specs.declared.member.InMember.{InMember}
+use Rattle.wm_decode.specs.declared.member.InMember.TheVariants as at
+use Rattle.wm_decode.specs.declared.member.InEntry.{InEntry}
+use Rattle.wm_decode.specs.declared.member.InEntry.TheVariants as entry
+use Rattle.wm_decode.specs.declared.expressions.InExpression.{InExpression}
+use Rattle.wm_decode.specs.declared.expressions.InExpression.TheVariants as expression
+use Rattle.wm_decode.specs.declared.ops.InOp.{InOp}
+use Rattle.wm_decode.specs.declared.ops.InOp.TheVariants as in_op
+use Rattle.wm_decode.specs.declared.refusal.Refusal.{Refusal}
+use Rattle.wm_decode.specs.Items.{Item}
+use Rattle.wm_decode.specs.Sinks.{and_then}
+use Rattle.wm_decode.specs.exact.Steps.{step_of, machine_in_member}
+use Rattle.wm_decode.specs.exact.MemberSteps.{member_in_entry, entry_after_op, op_event}
+use Rattle.wm_decode.specs.exact.OpSteps.{on_answer}
+use Rattle.wm_decode.specs.exact.ExpressionSteps.{after_reading, expression_failed}
+use Rattle.wm_decode.specs.exact.ShortSteps.{StepsTo, PartMayRunOut, part_event, part_taken}
+use Rattle.wm_decode.specs.exact.Live.{Live, MayRunOutAtByte, MayRunOutAtEvent, live_from, event_effect, decoder_after}
+use Rattle.wm_decode.proofs.OpLists.{is_alone}
+
+-- the end of a body, where another entry comes after this one
+pub last_end : (p : Profile) (f more left : ℕ)
+    → step_of p (machine.Section section_kind.Code f (suc more) (suc left) (at.Entry 0 (entry.Body (expression.Op 0 in_op.First)))) 0x0B
+    ≡ (machine.Section section_kind.Code f more left (at.EntrySize fresh), event.Complete (plain.BodyOp op.End))
+last_end p f more left =
+    ap (λ y. (machine_in_member section_kind.Code f (suc more) (suc left) (member_in_entry 0 (entry_after_op (after_reading 0 y).0)), op_event plain.BodyOp (after_reading 0 y).1)) (is_alone p 0x0B op.End tt refl)
+
+-- the same for what the code knows
+pub last_steps : (left more depth c : ℕ) (q : InOp) (r : Partial) → q ≡ in_op.First → c ≡ 0x0B → depth ≡ 0 → more ≡ 0 → 0 < left → r ≡ fresh
+    → StepsTo section_kind.Code left (at.Entry more (entry.Body (expression.Op depth q))) c (record { left = left - 1; at = at.EntrySize r; part = Some (plain.BodyOp op.End) })
+last_steps zero more depth c q r eq ec ed em less er = absurd (omega arith)
+last_steps (suc l) more depth c q r eq ec ed em less er = λ p f n.
+    let one : l ≡ suc l - 1 = omega arith in
+    ap (λ y. step_of p (machine.Section section_kind.Code f (suc n) (suc l) (at.Entry more (entry.Body (expression.Op depth y)))) c) eq
+    ∙ (ap (λ y. step_of p (machine.Section section_kind.Code f (suc n) (suc l) (at.Entry more (entry.Body (expression.Op depth in_op.First)))) y) ec
+    ∙ (ap (λ y. step_of p (machine.Section section_kind.Code f (suc n) (suc l) (at.Entry more (entry.Body (expression.Op y in_op.First)))) 0x0B) ed
+    ∙ (ap (λ y. step_of p (machine.Section section_kind.Code f (suc n) (suc l) (at.Entry y (entry.Body (expression.Op 0 in_op.First)))) 0x0B) em
+    ∙ (last_end p f n l
+    ∙ (ap (λ y. (machine.Section section_kind.Code f n y (at.EntrySize fresh), event.Complete (plain.BodyOp op.End))) one
+    ∙ ap (λ y. (machine.Section section_kind.Code f n (suc l - 1) (at.EntrySize y), event.Complete (plain.BodyOp op.End))) (sym er))))))
+
+-- the last byte of a label, where another comes
+done_label : (depth l n : ℕ) (x : Step ℕ × Partial) → x.0 ≡ step.Done n
+    → on_answer x (λ s. (expression.Label depth (suc l) s, None)) (λ k. (expression.Label depth l fresh, Some (op.Label k))) (expression_failed why.BadNumber)
+    ≡ (expression.Label depth l fresh, Some (op.Label n))
+done_label depth l n (step.Done k, s) e = let same : k ≡ n = cc in ap (λ y. (expression.Label depth l fresh, Some (op.Label y))) same
+done_label depth l n (step.More, s) e = cc
+done_label depth l n (step.Bad, s) e = cc
+
+one_label : (p : Profile) (of : SectionKind) (f m left rest depth l n c : ℕ) (r : Partial) → (unsigned_push 32 r c).0 ≡ step.Done n
+    → step_of p (machine.Section of f (suc m) left (at.Entry (suc rest) (entry.Body (expression.Label depth (suc l) r)))) c
+    ≡ (machine.Section of f m left (at.Entry rest (entry.Body (expression.Label depth l fresh))), event.Complete (plain.BodyOp (op.Label n)))
+one_label p of f m left rest depth l n c r e =
+    ap (λ y. (machine_in_member of f (suc m) left (member_in_entry (suc rest) (entry_after_op y.0)), op_event plain.BodyOp y.1)) (done_label depth l n (unsigned_push 32 r c) e)
+
+-- the same for what the code knows
+pub label_steps : (p : Profile) (m : Machine) (of : SectionKind) (f more left rest depth labels n c : ℕ) (q : InMember) (x : InEntry) (y : InExpression) (r s : Partial)
+    → m ≡ machine.Section of f more left q → q ≡ at.Entry rest x → x ≡ entry.Body y → y ≡ expression.Label depth labels r → 0 < more → 0 < rest → 0 < labels
+    → (unsigned_push 32 r c).0 ≡ step.Done n → s ≡ fresh
+    → step_of p m c
+    ≡ (machine.Section of f (more - 1) left (at.Entry (rest - 1) (entry.Body (expression.Label depth (labels - 1) s))), event.Complete (plain.BodyOp (op.Label n)))
+label_steps p m of f zero left rest depth labels n c q x y r s em eq ex ey a b d e es = absurd (omega arith)
+label_steps p m of f (suc more) left zero depth labels n c q x y r s em eq ex ey a b d e es = absurd (omega arith)
+label_steps p m of f (suc more) left (suc rest) depth zero n c q x y r s em eq ex ey a b d e es = absurd (omega arith)
+label_steps p m of f (suc more) left (suc rest) depth (suc l) n c q x y r s em eq ex ey a b d e es =
+    let u : more ≡ suc more - 1 = omega arith in
+    let v : rest ≡ suc rest - 1 = omega arith in
+    let w : l ≡ suc l - 1 = omega arith in
+    ap (λ z. step_of p z c) (em ∙ ap (machine.Section of f (suc more) left) (eq ∙ ap (at.Entry (suc rest)) (ex ∙ ap entry.Body ey)))
+    ∙ (one_label p of f more left rest depth l n c r e
+    ∙ (ap (λ z. (machine.Section of f z left (at.Entry rest (entry.Body (expression.Label depth l fresh))), event.Complete (plain.BodyOp (op.Label n)))) u
+    ∙ (ap (λ z. (machine.Section of f (suc more - 1) left (at.Entry z (entry.Body (expression.Label depth l fresh))), event.Complete (plain.BodyOp (op.Label n)))) v
+    ∙ (ap (λ z. (machine.Section of f (suc more - 1) left (at.Entry (suc rest - 1) (entry.Body (expression.Label depth z fresh))), event.Complete (plain.BodyOp (op.Label n)))) w
+    ∙ ap (λ z. (machine.Section of f (suc more - 1) left (at.Entry (suc rest - 1) (entry.Body (expression.Label depth (suc l - 1) z))), event.Complete (plain.BodyOp (op.Label n)))) (sym es)))))
+
+-- one byte, after which the section goes on
+module _ {H : Type 0} (after : H → Item → Result H Why) (p : Profile) (limit : ℕ) where
+  abbrev stands : Machine → List ℕ → H → ℕ → Live H
+  stands m name h k = record { machine = m; name = name; held = h; at = k }
+
+  by_event : Machine → ℕ → Event → List ℕ → ℕ → H → Result (Live H) Refusal
+  by_event m k e name c h = live_from m (k + 1) (event_effect after e name c h)
+
+  one_step : (bytes : List ℕ) (i : ℕ) (m n : Machine) (e : Event) (name : List ℕ) (h : H) (k : ℕ) → i < length bytes → k < limit
+      → step_of p m (slice_index bytes i) ≡ (n, e)
+      → decoder_after after p limit (stands m name h k) (drop i bytes)
+      ≡ and_then (live_from n (k + 1) (event_effect after e name (slice_index bytes i) h)) (λ l. decoder_after after p limit l (drop (i + 1) bytes))
+  one_step bytes i m n e name h k inside less step =
+      ap (λ (z : List ℕ). decoder_after after p limit (stands m name h k) z) (drop_more bytes i 0 inside)
+      ∙ (ap (λ y. and_then (cond y (live_from (step_of p m (slice_index bytes i)).0 (k + 1) (event_effect after (step_of p m (slice_index bytes i)).1 name (slice_index bytes i) h)) (Err (record { at = limit + 1; why = why.TooLong }))) (λ l. decoder_after after p limit l (drop (i + 1) bytes))) (lt-ltb k limit less)
+      ∙ ap (λ y. and_then (live_from y.0 (k + 1) (event_effect after y.1 name (slice_index bytes i) h)) (λ l. decoder_after after p limit l (drop (i + 1) bytes))) step)
+
+  pub short_moved : (bytes : List ℕ) (i : ℕ) (m n : Machine) (of : SectionKind) (f more left : ℕ) (q : InMember) (e : Event) (name left_name : List ℕ) (h g : H) (k l : ℕ)
+      → i < length bytes → k < limit → n ≡ machine.Section of f more left q → step_of p m (slice_index bytes i) ≡ (machine.Section of f more left q, e)
+      → event_effect after e name (slice_index bytes i) h ≡ Ok ([], g) → left_name ≡ [] → l ≡ k + 1
+      → decoder_after after p limit (stands m name h k) (drop i bytes) ≡ decoder_after after p limit (stands n left_name g l) (drop (i + 1) bytes)
+  short_moved bytes i m n of f more left q e name left_name h g k l inside less en step given el ek =
+      one_step bytes i m (machine.Section of f more left q) e name h k inside less step
+      ∙ (ap (λ y. and_then (live_from (machine.Section of f more left q) (k + 1) y) (λ l. decoder_after after p limit l (drop (i + 1) bytes))) given
+      ∙ (ap (λ y. decoder_after after p limit (stands y [] g (k + 1)) (drop (i + 1) bytes)) (sym en)
+      ∙ (ap (λ (y : List ℕ). decoder_after after p limit (stands n y g (k + 1)) (drop (i + 1) bytes)) (sym el)
+      ∙ ap (λ y. decoder_after after p limit (stands n left_name g y) (drop (i + 1) bytes)) (sym ek))))
+
+  pub short_refused : (bytes : List ℕ) (i : ℕ) (m n : Machine) (e : Event) (name : List ℕ) (h : H) (k l : ℕ) (w : Why)
+      → i < length bytes → k < limit → step_of p m (slice_index bytes i) ≡ (n, e)
+      → event_effect after e name (slice_index bytes i) h ≡ Err w → l ≡ k + 1
+      → decoder_after after p limit (stands m name h k) (drop i bytes) ≡ Err (record { at = l; why = w })
+  short_refused bytes i m n e name h k l w inside less step refused ek =
+      one_step bytes i m n e name h k inside less step
+      ∙ (ap (λ y. and_then (live_from n (k + 1) y) (λ l. decoder_after after p limit l (drop (i + 1) bytes))) refused
+      ∙ ap (λ y. Err (record { at = y; why = w })) (sym ek))
+
+-- what was completed, as an event
+pub part_ok : {H : Type 0} (after : H → Item → Result H Why) (part : Option Plain) (name : List ℕ) (c : ℕ) (h g : H) → part_taken after part h ≡ Ok g → event_effect after (part_event part) name c h ≡ Ok ([], g)
+part_ok after (Some x) name c h g taken = ap (λ y. and_then y (λ g. Ok ([], g))) taken
+part_ok after None name c h g taken = ap (λ y. and_then y (λ g. Ok ([], g))) taken
+
+pub part_err : {H : Type 0} (after : H → Item → Result H Why) (part : Option Plain) (name : List ℕ) (c : ℕ) (h : H) (w : Why) → part_taken after part h ≡ Err w → event_effect after (part_event part) name c h ≡ Err w
+part_err after (Some x) name c h w refused = ap (λ y. and_then y (λ g. Ok ([], g))) refused
+part_err after None name c h w refused = cc
+
+pub part_room : {H : Type 0} (may : H → Item → Type 0) (p : Profile) (m n : Machine) (part : Option Plain) (name : List ℕ) (h : H) (k c : ℕ)
+    → step_of p m c ≡ (n, part_event part) → PartMayRunOut may part h → MayRunOutAtByte may p (record { machine = m; name = name; held = h; at = k }) c
+part_room may p m n part name h k c step room = inl (subst (λ y. MayRunOutAtEvent may y.1 name c h) (sym step) (at_event part room))
+  where
+    at_event : (part : Option Plain) → PartMayRunOut may part h → MayRunOutAtEvent may (part_event part) name c h
+    at_event (Some x) r = r
+    at_event None r = absurd r

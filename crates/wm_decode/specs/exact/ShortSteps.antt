@@ -1,0 +1,38 @@
+-- What the byte step makes of a byte of function indices and of code entries, where the section goes on: the exact form,
+-- for the proofs above it.
+use Rattle.std.specs.Prelude.{◌≡◌, ℕ, suc, Option, Some, None, Result, Ok}
+use Rattle.wm_syntax.specs.declared.why.Why.{Why}
+use Rattle.wm_syntax.specs.declared.profile.Profile.{Profile}
+use Rattle.wm_decode.specs.declared.machine.Plain.{Plain}
+use Rattle.wm_decode.specs.declared.machine.Event.{Event}
+use Rattle.wm_decode.specs.declared.machine.Event.TheVariants as event
+use Rattle.wm_decode.specs.declared.machine.Machine.{Machine}
+use Rattle.wm_decode.specs.declared.machine.Machine.TheVariants as machine
+use Rattle.wm_decode.specs.declared.member.SectionKind.{SectionKind}
+use Rattle.wm_decode.specs.declared.member.InMember.{InMember}
+use Rattle.wm_decode.specs.declared.short_steps.Stepped.{Stepped}
+use Rattle.wm_decode.specs.Items.{Item}
+use Rattle.wm_decode.specs.exact.Runs.{plain_item}
+use Rattle.wm_decode.specs.exact.Steps.{step_of}
+
+-- what a byte completes, if it completes an item
+abbrev pub part_event : Option Plain → Event
+part_event (Some part) = event.Complete part
+part_event None = event.Nothing
+
+abbrev pub after_stepped : SectionKind → ℕ → ℕ → Stepped → Machine
+after_stepped of functions more s = machine.Section of functions more s.left s.at
+
+-- under each profile this is what the byte does, where bytes of the section come after it
+abbrev pub StepsTo : SectionKind → ℕ → InMember → ℕ → Stepped → Type 0
+StepsTo of left at c s = (p : Profile) (functions more : ℕ)
+    → step_of p (machine.Section of functions (suc more) left at) c ≡ (after_stepped of functions more s, part_event s.part)
+
+-- what a sink holds after what a byte completed, if it completed an item
+abbrev pub part_taken : {H : Type 0} → (H → Item → Result H Why) → Option Plain → H → Result H Why
+part_taken after (Some part) h = after h (plain_item part)
+part_taken after None h = Ok h
+
+abbrev pub PartMayRunOut : {H : Type 0} → (H → Item → Type 0) → Option Plain → H → Type 0
+PartMayRunOut may (Some part) h = may h (plain_item part)
+PartMayRunOut may None h = ⊥
