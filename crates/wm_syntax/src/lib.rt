@@ -4,6 +4,7 @@
 
 pub mod body;
 pub mod body_builder;
+pub mod chunk;
 pub mod equality;
 pub mod instructions;
 pub mod io;

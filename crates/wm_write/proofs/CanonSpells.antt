@@ -1,6 +1,6 @@
 -- The canonical binary spells its module.
 use Rattle.std.proofs.Common.{ℕ, suc, ◌+◌, ◌≡◌, ◌<◌, ◌≤◌, ◌^◌, List, [], ◌∷◌, ◌++◌, Option, Some, None, Bool, true, false, length, refl, sym, ◌∙◌, ap, subst, append-nil, length-append, arith, map, flat_map, replicate, inl, inr, cond, nat_lt, ◌%◌, ◌/◌}
-use Rattle.wm_write.proofs.NumberLoops.{short}
+use Rattle.wm_syntax.proofs.NumberLoops.{short}
 use Rattle.std.specs.Prelude.{IsUtf8, IfSome}
 use Rattle.std.specs.List.{AllByRecursion}
 use Rattle.std.proofs.lemmas.List.{length-replicate}

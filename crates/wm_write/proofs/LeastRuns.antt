@@ -6,7 +6,7 @@ use Rattle.wm_syntax.specs.declared.types.ValType.{ValType}
 use Rattle.wm_syntax.specs.declared.types.ValType.TheVariants.{I32, I64}
 use Rattle.wm_syntax.specs.Runs.{type_before, runs_of}
 use Rattle.wm_write.specs.Canon.{u32_bytes}
-use Rattle.wm_write.proofs.NumberLoops.{last_byte, more_bytes}
+use Rattle.wm_syntax.proofs.NumberLoops.{last_byte, more_bytes}
 use Rattle.wm_syntax.specs.Modules.{locals_of}
 use Rattle.wm_write.specs.Canon.{listed, run_bytes, value_type_bytes}
 

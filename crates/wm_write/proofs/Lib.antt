@@ -1,4 +1,3 @@
-pub mod NumberLoops
 pub mod Writes
 pub mod SectionLemmas
 pub mod CanonSpells

@@ -5,7 +5,7 @@ use Rattle.std.proofs.lemmas.Bool.Decides.{nat_tests}
 use Rattle.wm_write.specs.Canon.{Fits, canon, code_bytes, element_bytes, export_bytes, global_bytes, import_bytes, limits_bytes, list_section, listed, segment_bytes, signature_bytes, start_section, table_bytes, u32_bytes}
 use Rattle.wm_write.specs.exact.Writing.{Sent, State}
 use Rattle.wm_syntax.specs.Modules.{Module}
-use Rattle.wm_write.proofs.NumberLoops.{short}
+use Rattle.wm_syntax.proofs.NumberLoops.{short}
 use Rattle.wm_write.proofs.Writes.{sent_none, sent_then}
 
 module _ {X : Type 0} (id : ℕ) (f : X → List ℕ) where

@@ -1,7 +1,6 @@
 //! Writing: the canonical binary of a module.
 #![tactic(auto)]
 
-mod chunk;
 mod code;
 pub mod encode;
 pub mod laws;

@@ -7,7 +7,7 @@ ghost use Rattle.wm_syntax.specs.Leb128.{signed_bytes};
 ghost use Rattle.wm_syntax.specs.Types.{type_byte};
 ghost use Rattle.wm_syntax.specs.Opcodes.{binary, comparison, load, numeric, opcode, store, unary};
 
-use crate::chunk::Chunk;
+use wm_syntax::chunk::Chunk;
 use wm_syntax::instructions::{
     BinaryOp, Comparison, LoadOp, MemArg, Numeric, Op, SignExtension, Simple, StoreOp, UnaryOp,
 };

@@ -1,6 +1,6 @@
 use Rattle.std.proofs.Common.{◌≡◌, ◌≤◌, ◌+◌, ◌-◌, ◌++◌, length}
 use Rattle.wm_syntax.specs.Leb128.{unsigned_bytes}
-use Rattle.wm_write.proofs.chunk.Chunk.push_unsigned.Given as goal
+use Rattle.wm_syntax.proofs.chunk.Chunk.push_unsigned.Given as goal
 
 -- what went out, and what is left of the number in the bytes that are left, spell it
 abbrev pub invariant-loop : goal.invariant-loop

@@ -1,7 +1,7 @@
 use Rattle.std.proofs.Common.{◌≡◌, ◌-◌, ◌+◌, ◌/◌, ◌%◌, ◌∷◌, ap, ◌∙◌, ℕ, arith}
 use Rattle.wm_syntax.specs.Leb128.{unsigned_bytes}
-use Rattle.wm_write.proofs.NumberLoops.{last_byte, more_bytes, no_unsigned, last_out, one_out, none_out, room_less, short_after}
-use Rattle.wm_write.proofs.chunk.Chunk.push_unsigned.Goals as goal
+use Rattle.wm_syntax.proofs.NumberLoops.{last_byte, more_bytes, no_unsigned, last_out, one_out, none_out, room_less, short_after}
+use Rattle.wm_syntax.proofs.chunk.Chunk.push_unsigned.Goals as goal
 
 pub returns-then-rest-lt128-clause-value : goal.returns-then-rest-lt128-clause-value
 returns-then-rest-lt128-clause-value c =

@@ -76,3 +76,20 @@ short (suc k) n = go (nat_lt n 128) (short k (n / 128))
 
 pub short_after : (new old : List ℕ) (k n : ℕ) → new ≡ old ++ unsigned_bytes k n → length new ≤ length old + k
 short_after new old k n e = omega (arith, ap length e, length-append old (unsigned_bytes k n), short k n)
+
+pub short_signed : (k : ℕ) (z : ℤ) → length (signed_bytes k z) ≤ k
+unfolding signed_bytes
+short_signed zero z = omega arith
+short_signed (suc k) (pos n) = go (nat_lt n 64) (short_signed k (pos (n / 128)))
+  where
+    go : (b : Bool) → length (signed_bytes k (pos (n / 128))) ≤ k → length (cond b (n ∷ []) ((n % 128 + 128) ∷ signed_bytes k (pos (n / 128)))) ≤ suc k
+    go true h = omega arith
+    go false h = omega arith
+short_signed (suc k) (negsuc n) = go (nat_lt n 64) (short_signed k (negsuc (n / 128)))
+  where
+    go : (b : Bool) → length (signed_bytes k (negsuc (n / 128))) ≤ k → length (cond b ((127 - n) ∷ []) ((255 - n % 128) ∷ signed_bytes k (negsuc (n / 128)))) ≤ suc k
+    go true h = omega arith
+    go false h = omega arith
+
+pub signed_short_after : (new old : List ℕ) (k : ℕ) (z : ℤ) → new ≡ old ++ signed_bytes k z → length new ≤ length old + k
+signed_short_after new old k z e = omega (arith, ap length e, length-append old (signed_bytes k z), short_signed k z)

@@ -1,7 +1,7 @@
 use Rattle.std.proofs.Common.{◌≡◌, ◌-◌, ◌+◌, ◌/◌, ◌%◌, ◌∷◌, ap, ◌∙◌, ℕ, arith, negsuc}
 use Rattle.wm_syntax.specs.Leb128.{signed_bytes}
-use Rattle.wm_write.proofs.NumberLoops.{last_negative, more_negative, no_signed, last_out, one_out, none_out, room_less}
-use Rattle.wm_write.proofs.chunk.Chunk.push_negative.Goals as goal
+use Rattle.wm_syntax.proofs.NumberLoops.{last_negative, more_negative, no_signed, last_out, one_out, none_out, room_less}
+use Rattle.wm_syntax.proofs.chunk.Chunk.push_negative.Goals as goal
 
 pub returns-then-rest-lt64 : goal.returns-then-rest-lt64
 returns-then-rest-lt64 c =
