@@ -3,7 +3,8 @@
 
 For each shape it makes a module of 7 MB, and prints MB/s of processor time (medians of five runs, all programs in
 turn), instructions a byte where valgrind is there, and the peak memory of wmod. With `--growth` it makes modules of
-2 MB and 8 MB and prints how many times the time a byte grows.
+2 MB and 8 MB and prints how many times the time a byte grows. With `--canon` it measures `wmod canon` on the two: MB/s,
+that growth, the peak memory, and how many bytes of memory a byte of the module takes.
 """
 import json
 import os
@@ -117,15 +118,33 @@ def row(shape, folder, others):
     return cells
 
 
-def growth(shape, folder):
+def growth(shape, folder, action):
+    """How many times the time a byte grows from 2 MB to 8 MB; of the second its size, seconds and peak memory."""
     ratios = []
     for megabytes in (2, 8):
         path = os.path.join(folder, f"{shape}.{megabytes}.wasm")
         with open(path, "wb") as file:
             file.write(make_module.make(shape, megabytes))
-        (seconds,), _ = medians([[str(PROGRAM), "check", path]])
+        (seconds,), peak = medians([[str(PROGRAM), action, path]])
         ratios.append(seconds / os.path.getsize(path))
-    return f"{shape.replace('_', ' ')}: {ratios[1] / ratios[0]:.2f}"
+    return ratios[1] / ratios[0], os.path.getsize(path), seconds, peak
+
+
+def canon_row(shape, folder):
+    grown, size, seconds, peak = growth(shape, folder, "canon")
+    header = os.path.join(folder, "header.wasm")
+    with open(header, "wb") as file:
+        file.write(make_module.HEADER)
+    _, least = medians([[str(PROGRAM), "canon", header]])
+    taken = (peak - least) * 1024 / size
+    return [shape.replace("_", " "), speed(size, seconds), f"{grown:.2f}", f"{peak / 1024:.0f}", f"{taken:.1f}"]
+
+
+def print_table(heads, rows):
+    print("| " + " | ".join(heads) + " |")
+    print("|" + "---|" * len(heads))
+    for cells in rows:
+        print("| " + " | ".join(cells) + " |", flush=True)
 
 
 def main():
@@ -135,7 +154,11 @@ def main():
     with tempfile.TemporaryDirectory() as folder:
         if "--growth" in sys.argv:
             for shape in shapes:
-                print(growth(shape, folder), flush=True)
+                print(f"{shape.replace('_', ' ')}: {growth(shape, folder, 'check')[0]:.2f}", flush=True)
+            return
+        if "--canon" in sys.argv:
+            heads = ["Shape", "MB/s", "time a byte, 8 MB to 2 MB", "peak MiB", "bytes of memory a byte"]
+            print_table(heads, (canon_row(shape, folder) for shape in shapes))
             return
         others = [["wasm-validate"]] if shutil.which("wasm-validate") else []
         heads = ["Shape", "MB", "wmod MB/s"]
@@ -143,10 +166,7 @@ def main():
         heads += ["wasm-validate MB/s"] if others else []
         heads += ["instructions a byte"] if shutil.which("valgrind") else []
         heads += ["peak MiB"]
-        print("| " + " | ".join(heads) + " |")
-        print("|" + "---|" * len(heads))
-        for shape in shapes:
-            print("| " + " | ".join(row(shape, folder, others)) + " |", flush=True)
+        print_table(heads, (row(shape, folder, others) for shape in shapes))
 
 
 if __name__ == "__main__":
