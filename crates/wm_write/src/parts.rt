@@ -1,8 +1,8 @@
 //! The parts of a module in bytes (section 5.5).
 
-use crate::chunk::Chunk;
 use crate::put::{Part, put_bytes, put_list, put_number, put_sized};
 use crate::spell::{one, push_global_type, push_limits, spell, spell_desc, spell_item, value_byte};
+use wm_syntax::chunk::Chunk;
 use wm_syntax::instructions::{Op, Simple};
 use wm_syntax::io::Dest;
 use wm_syntax::modules::{Element, Export, Function, GlobalDef, Import, Segment};
