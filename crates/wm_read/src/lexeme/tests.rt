@@ -1,0 +1,3 @@
+//! Tests of tokens.
+
+use super::*;

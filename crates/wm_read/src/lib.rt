@@ -1,0 +1,6 @@
+//! The text format (chapter 6), read.
+#![tactic(auto)]
+
+pub mod faults;
+pub mod lexeme;
+mod scan;
