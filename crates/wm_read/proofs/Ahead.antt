@@ -28,7 +28,7 @@ class_law : (c : ℕ) → IsOf c (class_of c)
 unfolding class_of
 class_law c =
     cond_both (is_space c) _ _ (IsOf c) (λ t. t) (λ _. cond_both (c == 59) _ _ (IsOf c) (λ t. eqb-true c 59 t) (λ _. cond_both (c == 40) _ _ (IsOf c) (λ t. eqb-true c 40 t)
-      (λ _. cond_both (c == 41) _ _ (IsOf c) (λ t. eqb-true c 41 t) (λ _. cond_both (c == 34) _ _ (IsOf c) (λ t. eqb-true c 34 t) (λ _. cond_both (is_id_char c) _ _ (IsOf c) (λ t. t) (λ _. tt))))))
+    (λ _. cond_both (c == 41) _ _ (IsOf c) (λ t. eqb-true c 41 t) (λ _. cond_both (c == 34) _ _ (IsOf c) (λ t. eqb-true c 34 t) (λ _. cond_both (is_id_char c) _ _ (IsOf c) (λ t. t) (λ _. tt))))))
 
 class_space : (c : ℕ) → is_space c ≡ true → class_of c ≡ k.Space
 unfolding class_of
@@ -39,15 +39,15 @@ unfolding class_of
 class_atom c h =
     let apart : (x : ℕ) → is_id_char x ≡ false → (c == x) ≡ false = λ x n. ne_eqb c x (λ e. let f : false ≡ true = sym n ∙ ap is_id_char (sym e) ∙ h in cc) in
     let not_space : is_space c ≡ false = false_from_ne_true (is_space c) (λ s. elim (or_cases _ (c == 13) s) [
-        | inl s ↦ elim (or_cases _ (c == 10) s) [
-            | inl s ↦ elim (or_cases (c == 32) (c == 9) s) [
-                | inl s ↦ (let f : true ≡ false = sym s ∙ apart 32 refl in cc)
-                | inr s ↦ (let f : true ≡ false = sym s ∙ apart 9 refl in cc)
-              ]
-            | inr s ↦ (let f : true ≡ false = sym s ∙ apart 10 refl in cc)
-          ]
-        | inr s ↦ (let f : true ≡ false = sym s ∙ apart 13 refl in cc)
-      ]) in
+      | inl s ↦ elim (or_cases _ (c == 10) s) [
+        | inl s ↦ elim (or_cases (c == 32) (c == 9) s) [
+          | inl s ↦ (let f : true ≡ false = sym s ∙ apart 32 refl in cc)
+          | inr s ↦ (let f : true ≡ false = sym s ∙ apart 9 refl in cc)
+        ]
+        | inr s ↦ (let f : true ≡ false = sym s ∙ apart 10 refl in cc)
+      ]
+      | inr s ↦ (let f : true ≡ false = sym s ∙ apart 13 refl in cc)
+    ]) in
     cond-false (is_space c) _ _ not_space ∙ cond-false (c == 59) _ _ (apart 59 refl) ∙ cond-false (c == 40) _ _ (apart 40 refl) ∙ cond-false (c == 41) _ _ (apart 41 refl)
     ∙ cond-false (c == 34) _ _ (apart 34 refl) ∙ cond-true (is_id_char c) _ _ h
 
@@ -94,6 +94,7 @@ ahead_token (atom a) text r (is, (chars, kind)) e = ap (λ (z : List ℕ). ahead
     ends : (r : List ℕ) → Ends (atom a) r → EndsAtom r
     ends [] e = tt
     ends (c ∷ r) e = e
+
     by : (a : List ℕ) → list_all is_id_char a ≡ true → IsKind a → EndsAtom r → ahead (a ++ r) ≡ first (atom a) r
     by [] chars kind e = absurd (let f : false ≡ true = kind_more [] kind in cc)
     by (c ∷ a) chars kind e =
@@ -117,10 +118,18 @@ stands_line : (b : List ℕ) → Stands (59 ∷ 59 ∷ b) (blank (after_line b))
 stands_line b = by (line_front b)
   where
     by : LineFront b (after_line b) → Stands (59 ∷ 59 ∷ b) (blank (after_line b))
-    by (q, line, inl e) = (59, 59 ∷ q ++ 10 ∷ [], ap (λ (z : List ℕ). 59 ∷ 59 ∷ z) (e ∙ sym (append_assoc q (10 ∷ []) (after_line b))),
-        inl (inr (inl (59 ∷ 59 ∷ q, 10 ∷ [], refl, (59 ∷ 59 ∷ [], q, refl, refl, line), refl))))
-    by (q, line, inr (e, r)) = (59, 59 ∷ q, ap (λ (z : List ℕ). 59 ∷ 59 ∷ z) (e ∙ sym (append-nil q) ∙ ap (λ (z : List ℕ). q ++ z) (sym r)),
-        inr ((59 ∷ 59 ∷ [], q, refl, refl, line), r))
+    by (q, line, inl e) = (
+      59,
+      59 ∷ q ++ 10 ∷ [],
+      ap (λ (z : List ℕ). 59 ∷ 59 ∷ z) (e ∙ sym (append_assoc q (10 ∷ []) (after_line b))),
+      inl (inr (inl (59 ∷ 59 ∷ q, 10 ∷ [], refl, (59 ∷ 59 ∷ [], q, refl, refl, line), refl))),
+    )
+    by (q, line, inr (e, r)) = (
+      59,
+      59 ∷ q,
+      ap (λ (z : List ℕ). 59 ∷ 59 ∷ z) (e ∙ sym (append-nil q) ∙ ap (λ (z : List ℕ). q ++ z) (sym r)),
+      inr ((59 ∷ 59 ∷ [], q, refl, refl, line), r),
+    )
 
 stands_semicolon : (b : List ℕ) → Stands (59 ∷ b) (ahead_semicolon b)
 stands_semicolon [] = tt
@@ -148,8 +157,8 @@ stands_atom : (c : ℕ) (b : List ℕ) → is_id_char c ≡ true → Stands (c �
 stands_atom c b h =
     let g = atom_front b in
     cond_both (is_atom (c ∷ (atom_in b).0)) _ _ (Stands (c ∷ b))
-      (λ t. (c, (atom_in b).0, ap (λ (z : List ℕ). c ∷ z) g.0, (refl, (ap (λ (x : Bool). x && list_all is_id_char (atom_in b).0) h ∙ g.1, kind_found (c ∷ (atom_in b).0) t)), ends (atom_in b).1 g.2))
-      (λ _. tt)
+    (λ t. (c, (atom_in b).0, ap (λ (z : List ℕ). c ∷ z) g.0, (refl, (ap (λ (x : Bool). x && list_all is_id_char (atom_in b).0) h ∙ g.1, kind_found (c ∷ (atom_in b).0) t)), ends (atom_in b).1 g.2))
+    (λ _. tt)
   where
     ends : (r : List ℕ) → EndsAtom r → Ends (atom (c ∷ (atom_in b).0)) r
     ends [] e = tt

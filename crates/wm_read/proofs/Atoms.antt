@@ -111,10 +111,10 @@ magnitude_more n b (inl (ds, h, k)) = by b (digits_more 10 0 false ds b h ∙ ap
     by [] e = absurd cc
     by (c ∷ []) e = e
     by (c ∷ d ∷ b) e = cond_both ((c == 48) && (d == 120)) _ _ (λ x. x ≡ Some n)
-      (λ t. let are = both_are c d 48 120 t in
+        (λ t. let are = both_are c d 48 120 t in
         let f : digits_in 10 0 false (48 ∷ 120 ∷ b) ≡ Some n = ap (λ (x : ℕ). digits_in 10 0 false (48 ∷ x ∷ b)) (sym are.1) ∙ ap (λ (x : ℕ). digits_in 10 0 false (x ∷ d ∷ b)) (sym are.0) ∙ e in
         absurd (let g : ◌≡◌ {A = Option ℕ} None (Some n) = f in cc))
-      (λ _. e)
+        (λ _. e)
 magnitude_more n b (inr (ds, (x, y, e, p, h), k)) =
     ap magnitude_of (e ∙ ap (λ (z : List ℕ). z ++ y) p) ∙ digits_more 16 0 false ds y h ∙ ap Some (sym k)
 
@@ -136,9 +136,9 @@ number_found [] e = absurd (let f : false ≡ true = e in cc)
 number_found (c ∷ b) e = elim (chosen (c == 43) _ _ true e) [
   | inl p ↦ (let g = some_is (magnitude_of b) p.1 in (g.0, inr (inl (43 ∷ [], b, ap (λ (x : ℕ). x ∷ b) (eqb-true c 43 p.0), refl, magnitude_found g.0 b g.1))))
   | inr p ↦ elim (chosen (c == 45) _ _ true p.1) [
-      | inl q ↦ (let g = some_is (magnitude_of b) q.1 in (g.0, inr (inr (45 ∷ [], b, ap (λ (x : ℕ). x ∷ b) (eqb-true c 45 q.0), refl, magnitude_found g.0 b g.1))))
-      | inr q ↦ (let g = some_is (magnitude_of (c ∷ b)) q.1 in (g.0, inl (magnitude_found g.0 (c ∷ b) g.1)))
-    ]
+    | inl q ↦ (let g = some_is (magnitude_of b) q.1 in (g.0, inr (inr (45 ∷ [], b, ap (λ (x : ℕ). x ∷ b) (eqb-true c 45 q.0), refl, magnitude_found g.0 b g.1))))
+    | inr q ↦ (let g = some_is (magnitude_of (c ∷ b)) q.1 in (g.0, inl (magnitude_found g.0 (c ∷ b) g.1)))
+  ]
 ]
 
 -- a number with no sign begins with a digit
@@ -149,6 +149,7 @@ first_digit c b n v e = by b (magnitude_found n (c ∷ b) e)
     here base [] b h = h
     here base (d ∷ []) b (u, e, w, lt) = let f : digit_value c ≡ Some d = ap digit_value (same_head c u b [] e) ∙ w in let g : ◌≡◌ {A = Option ℕ} None (Some d) = sym v ∙ f in cc
     here base (d ∷ x ∷ ds) b (p, q, e, (u, is, w, lt), more) = let f : digit_value c ≡ Some d = ap digit_value (same_head c u b q (e ∙ ap (λ (z : List ℕ). z ++ q) is)) ∙ w in let g : ◌≡◌ {A = Option ℕ} None (Some d) = sym v ∙ f in cc
+
     by : (b : List ℕ) → Magnitude n (c ∷ b) → ⊥
     by b (inl (ds, h, k)) = here 10 ds b h
     by b (inr (ds, (x, y, e, p, h), k)) = let z : c ≡ 48 = same_head c 48 b (120 ∷ y) (e ∙ ap (λ (w : List ℕ). w ++ y) p) in let g : ◌≡◌ {A = Option ℕ} None (Some 0) = sym v ∙ ap digit_value z in cc
@@ -184,9 +185,9 @@ kind_found [] e = absurd (let f : false ≡ true = e in cc)
 kind_found (c ∷ b) e = elim (chosen (c == 36) _ _ true e) [
   | inl p ↦ inl (eqb-true c 36 p.0, nil_length b p.1)
   | inr p ↦ elim (chosen (is_lower c) _ _ true p.1) [
-      | inl q ↦ inr (inr q.0)
-      | inr q ↦ inr (inl (number_found (c ∷ b) q.1))
-    ]
+    | inl q ↦ inr (inr q.0)
+    | inr q ↦ inr (inl (number_found (c ∷ b) q.1))
+  ]
 ]
 
 pub kind_more : (a : List ℕ) → IsKind a → is_atom a ≡ true
@@ -253,7 +254,7 @@ capped_digits base n m true (c ∷ b) h e =
   where
     by : (t : Bool) → number_in base n false b ≡ number_in base m false b → ((d : ℕ) → number_in base (n * base + d) true b ≡ number_in base (m * base + d) true b)
         → option_map (λ k. min k large) (cond t (digits_in base n false b) (with_digit base c None (λ d. digits_in base (n * base + d) true b)))
-          ≡ option_map (λ k. min k large) (cond t (digits_in base m false b) (with_digit base c None (λ d. digits_in base (m * base + d) true b)))
+        ≡ option_map (λ k. min k large) (cond t (digits_in base m false b) (with_digit base c None (λ d. digits_in base (m * base + d) true b)))
     by true p q = p
     by false p q = some_digit base c _ _ q
 capped_digits base n m false (c ∷ b) h e =
@@ -261,7 +262,7 @@ capped_digits base n m false (c ∷ b) h e =
   where
     by : (t : Bool) → number_in base n false b ≡ number_in base m false b → ((d : ℕ) → number_in base (n * base + d) true b ≡ number_in base (m * base + d) true b)
         → option_map (λ k. min k large) (cond t (digits_in base n false b) (with_digit base c None (λ d. digits_in base (n * base + d) true b)))
-          ≡ option_map (λ k. min k large) (cond t (digits_in base m false b) (with_digit base c None (λ d. digits_in base (m * base + d) true b)))
+        ≡ option_map (λ k. min k large) (cond t (digits_in base m false b) (with_digit base c None (λ d. digits_in base (m * base + d) true b)))
     by true p q = p
     by false p q = some_digit base c _ _ q
 
@@ -279,12 +280,12 @@ no_digit base n c false b t e = cond-false ((c == 95) && false) _ _ t ∙ e
 pub number_large : (base n c d : ℕ) (after : Bool) (b : List ℕ) → base ≤ d → Some d ≡ digit_value c → number_in base n after (c ∷ b) ≡ None
 number_large base n c d after b le v =
     ap (option_map (λ k. min k large)) (no_digit base n c after b (and_left (c == 95) after (not_underscore c d (sym v)))
-      (ap (λ (o : Option ℕ). elim o as (λ _. Option ℕ) [ None ↦ None | Some e ↦ cond (ltb e base) (digits_in base (n * base + e) true b) None ]) (sym v) ∙ cond-false (ltb d base) _ _ (le-ltb d base le)))
+    (ap (λ (o : Option ℕ). elim o as (λ _. Option ℕ) [ None ↦ None | Some e ↦ cond (ltb e base) (digits_in base (n * base + e) true b) None ]) (sym v) ∙ cond-false (ltb d base) _ _ (le-ltb d base le)))
 
 pub number_other : (base n c : ℕ) (after : Bool) (b : List ℕ) → None ≡ digit_value c → ((c ≡ 95 → ⊥) ⊎ (after ≡ false)) → number_in base n after (c ∷ b) ≡ None
 number_other base n c after b v h =
     ap (option_map (λ k. min k large)) (no_digit base n c after b (by h)
-      (ap (λ (o : Option ℕ). elim o as (λ _. Option ℕ) [ None ↦ None | Some e ↦ cond (ltb e base) (digits_in base (n * base + e) true b) None ]) (sym v)))
+    (ap (λ (o : Option ℕ). elim o as (λ _. Option ℕ) [ None ↦ None | Some e ↦ cond (ltb e base) (digits_in base (n * base + e) true b) None ]) (sym v)))
   where
     by : ((c ≡ 95 → ⊥) ⊎ (after ≡ false)) → ((c == 95) && after) ≡ false
     by (inl ne) = and_left (c == 95) after (ne_eqb c 95 ne)

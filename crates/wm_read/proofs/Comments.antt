@@ -116,16 +116,16 @@ comment_front (suc n) (c ∷ []) r e = absurd cc
 comment_front zero (c ∷ d ∷ b) r e = elim (chosen ((c == 59) && (d == 41)) _ _ (Some r) e) [
   | inl p ↦ found_close zero c d b r p.0 p.1 (λ m h. absurd (omega arith))
   | inr p ↦ elim (chosen ((c == 40) && (d == 59)) _ _ (Some r) p.1) [
-      | inl q ↦ found_open zero c d b r q.0 (comment_front 1 b r q.1)
-      | inr q ↦ found_plain zero c d b r (two_false _ _ p.0 q.0) (comment_front zero (d ∷ b) r q.1)
-    ]
+    | inl q ↦ found_open zero c d b r q.0 (comment_front 1 b r q.1)
+    | inr q ↦ found_plain zero c d b r (two_false _ _ p.0 q.0) (comment_front zero (d ∷ b) r q.1)
+  ]
 ]
 comment_front (suc n) (c ∷ d ∷ b) r e = elim (chosen ((c == 59) && (d == 41)) _ _ (Some r) e) [
   | inl p ↦ found_close (suc n) c d b r p.0 p.1 (λ m h. let k : m ≡ n = omega arith in subst (λ (x : ℕ). CommentFront x b r) (sym k) (comment_front n b r p.1))
   | inr p ↦ elim (chosen ((c == 40) && (d == 59)) _ _ (Some r) p.1) [
-      | inl q ↦ found_open (suc n) c d b r q.0 (comment_front (suc (suc n)) b r q.1)
-      | inr q ↦ found_plain (suc n) c d b r (two_false _ _ p.0 q.0) (comment_front (suc n) (d ∷ b) r q.1)
-    ]
+    | inl q ↦ found_open (suc n) c d b r q.0 (comment_front (suc (suc n)) b r q.1)
+    | inr q ↦ found_plain (suc n) c d b r (two_false _ _ p.0 q.0) (comment_front (suc n) (d ∷ b) r q.1)
+  ]
 ]
 
 -- ---- line comments

@@ -19,9 +19,12 @@ before_all text = ([], refl, λ _ _ _ s. s)
 -- what every front of a rest allows, one piece further on
 before_more : (text b piece r : List ℕ) → b ≡ piece ++ r → ((front back : List ℕ) → r ≡ front ++ back → Stands front → Stands (piece ++ front)) → Before text b → Before text r
 unfolding Before
-before_more text b piece r e more (part, is, all) = (part ++ piece, is ∙ ap (λ (z : List ℕ). part ++ z) e ∙ sym (append_assoc part piece r),
-    λ front back cut s. subst Stands (sym (append_assoc part piece front))
-      (all (piece ++ front) back (e ∙ ap (λ (z : List ℕ). piece ++ z) cut ∙ sym (append_assoc piece front back)) (more front back cut s)))
+before_more text b piece r e more (part, is, all) = (
+  part ++ piece,
+  is ∙ ap (λ (z : List ℕ). part ++ z) e ∙ sym (append_assoc part piece r),
+  λ front back cut s. subst Stands (sym (append_assoc part piece front))
+      (all (piece ++ front) back (e ∙ ap (λ (z : List ℕ). piece ++ z) cut ∙ sym (append_assoc piece front back)) (more front back cut s)),
+)
 
 nil_front : (front back : List ℕ) → [] ≡ front ++ back → front ≡ []
 nil_front [] back e = refl
@@ -35,8 +38,8 @@ before_skip text b r e h = by (subst (StandsAhead b) (sym e) (ahead_stands b))
         (λ front back _ s. ap is_some (tokens_go (c ∷ part ++ front) (blank front) (ahead_blank (c ∷ part) front space)) ∙ s) h
     by (c, part, is, inr (line, none)) = before_more text b (c ∷ part) r is
         (λ front back cut _. ap is_some
-          (ap (λ (z : List ℕ). tokens_of (c ∷ part ++ z)) (nil_front front back (sym none ∙ cut)) ∙ ap tokens_of (append-nil (c ∷ part))
-            ∙ tokens_go (c ∷ part) (blank []) (ahead_last (c ∷ part) line) ∙ tokens_nil)) h
+        (ap (λ (z : List ℕ). tokens_of (c ∷ part ++ z)) (nil_front front back (sym none ∙ cut)) ∙ ap tokens_of (append-nil (c ∷ part))
+        ∙ tokens_go (c ∷ part) (blank []) (ahead_last (c ∷ part) line) ∙ tokens_nil)) h
 
 ends_front : (t : Token) (front back : List ℕ) → Ends t (front ++ back) → Ends t front
 ends_front open_paren [] back h = tt
@@ -52,7 +55,7 @@ before_take text b r t e h = by (subst (StandsAhead b) (sym e) (ahead_stands b))
     by : StandsAhead b (first t r) → Before text r
     by (c, part, is, token, ends) = before_more text b (c ∷ part) r is
         (λ front back cut s. ap is_some (tokens_go (c ∷ part ++ front) (first t front) (ahead_token t (c ∷ part) front token (ends_front t front back (subst (Ends t) cut ends))))
-          ∙ some_adding t (tokens_of front) ∙ s) h
+        ∙ some_adding t (tokens_of front) ∙ s) h
 
 pub before_length : (text rest : List ℕ) → Before text rest → length rest ≤ length text
 unfolding Before
@@ -63,7 +66,7 @@ unfolding Before
 before_place text rest (part, is, all) =
     let n : length text - length rest ≡ length part = (let l : length text ≡ length (part ++ rest) = ap length is in omega (arith, l, length-append part rest)) in
     subst Stands (sym (ap (λ (m : ℕ). take m text) n ∙ ap (take (length part)) is ∙ take-append-le (length part) part rest (omega arith) ∙ take_all (length part) part (omega arith)))
-      (subst Stands (append-nil part) (all [] rest refl (ap is_some tokens_nil)))
+    (subst Stands (append-nil part) (all [] rest refl (ap is_some tokens_nil)))
 
 pub ruleset place_laws = (before_all, before_skip, before_take)
 

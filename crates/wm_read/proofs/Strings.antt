@@ -25,7 +25,7 @@ capped_again : (n d : ℕ) → capped (capped n * 16 + d) ≡ capped (n * 16 + d
 capped_again n d = cond_both (nat_lt n 0x11_0000) n 0x11_0000 (λ x. capped (x * 16 + d) ≡ capped (n * 16 + d))
     (λ _. refl)
     (λ h. let big : 0x11_0000 ≤ n = ltb-false n 0x11_0000 h in
-      cond-false (nat_lt (0x11_0000 * 16 + d) 0x11_0000) _ _ (le-ltb _ _ (omega arith)) ∙ sym (cond-false (nat_lt (n * 16 + d) 0x11_0000) _ _ (le-ltb _ _ (omega arith))))
+    cond-false (nat_lt (0x11_0000 * 16 + d) 0x11_0000) _ _ (le-ltb _ _ (omega arith)) ∙ sym (cond-false (nat_lt (n * 16 + d) 0x11_0000) _ _ (le-ltb _ _ (omega arith))))
 
 capped_value : (n : ℕ) (ds : List ℕ) → fold next_capped (capped n) ds ≡ capped (fold (λ n d. n * 16 + d) n ds)
 capped_value n [] = refl
@@ -60,9 +60,13 @@ Left m.Brace b given r = Body (92 ∷ 117 ∷ b) given r
 Left (m.Digits n after) b given r = DigitsBody n after b given r
 
 element_body : (part u b given r : List ℕ) → Element part u → Body b given r → Body (u ++ b) (part ++ given) r
-element_body part u b given r h (t, parts, e, g, (x, y, s, p, q)) =
-    (u ++ t, part ∷ parts, ap (λ (z : List ℕ). u ++ z) e ∙ sym (append_assoc u t r), ap (λ (z : List ℕ). part ++ z) g,
-      (u ++ x, y, ap (λ (z : List ℕ). u ++ z) s ∙ sym (append_assoc u x y), (u, x, refl, h, p), q))
+element_body part u b given r h (t, parts, e, g, (x, y, s, p, q)) = (
+  u ++ t,
+  part ∷ parts,
+  ap (λ (z : List ℕ). u ++ z) e ∙ sym (append_assoc u t r),
+  ap (λ (z : List ℕ). part ++ z) g,
+  (u ++ x, y, ap (λ (z : List ℕ). u ++ z) s ∙ sym (append_assoc u x y), (u, x, refl, h, p), q),
+)
 
 abbrev pub Law : Mode → ℕ → Step → Type 0
 Law mode c (On next) = (b given r : List ℕ) → Left next b given r → Left mode (c ∷ b) given r
@@ -82,12 +86,12 @@ plain_law : (c : ℕ) → Law m.Plain c (string_step m.Plain c)
 unfolding string_step
 plain_law c =
     cond_both (c == 34) _ _ (Law m.Plain c)
-      (λ t b. let e : c ≡ 34 = eqb-true c 34 t in (34 ∷ [], [], ap (λ (x : ℕ). x ∷ b) e, refl, ([], 34 ∷ [], refl, refl, refl)))
-      (λ _. cond_both (c == 92) _ _ (Law m.Plain c)
-        (λ t b given r h. let e : c ≡ 92 = eqb-true c 92 t in subst (λ (x : ℕ). Body (x ∷ b) given r) (sym e) h)
-        (λ _. cond_both (is_plain c) _ _ (Law m.Plain c)
-          (λ t b given r h. element_body (c ∷ []) (c ∷ []) b given r (inl (c, refl, t, refl)) h)
-          (λ _. tt)))
+    (λ t b. let e : c ≡ 34 = eqb-true c 34 t in (34 ∷ [], [], ap (λ (x : ℕ). x ∷ b) e, refl, ([], 34 ∷ [], refl, refl, refl)))
+    (λ _. cond_both (c == 92) _ _ (Law m.Plain c)
+    (λ t b given r h. let e : c ≡ 92 = eqb-true c 92 t in subst (λ (x : ℕ). Body (x ∷ b) given r) (sym e) h)
+    (λ _. cond_both (is_plain c) _ _ (Law m.Plain c)
+    (λ t b given r h. element_body (c ∷ []) (c ∷ []) b given r (inl (c, refl, t, refl)) h)
+    (λ _. tt)))
 
 abbrev pub IsShort : ℕ → ℕ → Type 0
 IsShort letter c = list_any (λ e. (e.0 == letter) && (e.1 == c)) short_escapes ≡ true
@@ -107,14 +111,14 @@ escape_law c = by (short_escape c) refl
     by : (o : Option ℕ) → short_escape c ≡ o → Law m.Escape c (first_escape o c)
     by (Some x) o = λ b given r h. element_body (x ∷ []) (92 ∷ c ∷ []) b given r (inr (inl (c, x, refl, short_found c x o, refl))) h
     by None o = cond_both (c == 117) _ _ (Law m.Escape c)
-      (λ t b given r h. subst (λ (x : ℕ). Body (92 ∷ x ∷ b) given r) (sym (eqb-true c 117 t)) h)
-      (λ _. with_digit_both 16 c Bad (λ d. On (m.Low d)) (Law m.Escape c) tt (λ d v lt b given r h. h c v lt))
+        (λ t b given r h. subst (λ (x : ℕ). Body (92 ∷ x ∷ b) given r) (sym (eqb-true c 117 t)) h)
+        (λ _. with_digit_both 16 c Bad (λ d. On (m.Low d)) (Law m.Escape c) tt (λ d v lt b given r h. h c v lt))
 
 low_law : (h c : ℕ) → Law (m.Low h) c (string_step (m.Low h) c)
 unfolding string_step
 low_law h c = with_digit_both 16 c Bad (λ d. Byte (h * 16 + d)) (Law (m.Low h) c) tt
     (λ d v lt b given r body u w low. element_body ((h * 16 + d) ∷ []) (92 ∷ u ∷ c ∷ []) b given r
-      (inr (inr (inl (h, d, refl, (92 ∷ [], u ∷ c ∷ [], refl, refl, (u ∷ [], c ∷ [], refl, (u, refl, w, low), (c, refl, v, lt))))))) body)
+    (inr (inr (inl (h, d, refl, (92 ∷ [], u ∷ c ∷ [], refl, refl, (u ∷ [], c ∷ [], refl, (u, refl, w, low), (c, refl, v, lt))))))) body)
 
 opened : (b given r : List ℕ) → DigitsBody 0 false b given r → Body (92 ∷ 117 ∷ 123 ∷ b) given r
 opened b given r (w, more, rest, k, e, (ds, hd, kd), sc, g, body) =
@@ -122,7 +126,7 @@ opened b given r (w, more, rest, k, e, (ds, hd, kd), sc, g, body) =
     let same : k ≡ value 16 ds = k-is ∙ scalar_back (value 16 ds) (subst (λ (x : ℕ). is_scalar x ≡ true) k-is sc) in
     let text : 92 ∷ 117 ∷ 123 ∷ b ≡ (92 ∷ 117 ∷ 123 ∷ w ++ 125 ∷ []) ++ more = ap (λ (z : List ℕ). 92 ∷ 117 ∷ 123 ∷ z) (e ∙ sym (append_assoc w (125 ∷ []) more)) in
     let element : Element (encode_utf8 k) (92 ∷ 117 ∷ 123 ∷ w ++ 125 ∷ []) =
-        inr (inr (inr (ds, ap encode_utf8 same, subst (λ (x : ℕ). is_scalar x ≡ true) same sc, (92 ∷ 117 ∷ 123 ∷ [], w ++ 125 ∷ [], refl, refl, (w, 125 ∷ [], refl, hd, refl))))) in
+    inr (inr (inr (ds, ap encode_utf8 same, subst (λ (x : ℕ). is_scalar x ≡ true) same sc, (92 ∷ 117 ∷ 123 ∷ [], w ++ 125 ∷ [], refl, refl, (w, 125 ∷ [], refl, hd, refl))))) in
     subst (λ (z : List ℕ). Body z given r) (sym text) (subst (λ (z : List ℕ). Body ((92 ∷ 117 ∷ 123 ∷ w ++ 125 ∷ []) ++ more) z r) (sym g) (element_body (encode_utf8 k) (92 ∷ 117 ∷ 123 ∷ w ++ 125 ∷ []) more rest r element body))
 
 brace_law : (c : ℕ) → Law m.Brace c (string_step m.Brace c)
@@ -136,15 +140,16 @@ unfolding string_step
 digits_law n after c = cond_both ((c == 95) && after) _ _ (Law (m.Digits n after) c)
     (λ t b given r. under after (and_parts (c == 95) after t) b given r)
     (λ _. cond_both ((c == 125) && (after && is_scalar n)) _ _ (Law (m.Digits n after) c)
-      (λ t b given r h. let p = and_parts (c == 125) (after && is_scalar n) t in let q = and_parts after (is_scalar n) p.1 in ended after (eqb-true c 125 p.0) q.0 q.1 b given r h)
-      (λ _. with_digit_both 16 c Bad (λ d. On (m.Digits (capped (n * 16 + d)) true)) (Law (m.Digits n after) c) tt
-        (λ d v lt b given r (w, more, rest, k, e, left, sc, g, body).
-          (c ∷ w, more, rest, k, ap (λ (z : List ℕ). c ∷ z) e, any_after next_capped 16 n after (c ∷ w) k (digit_before next_capped 16 n c d w k v lt left), sc, g, body))))
+    (λ t b given r h. let p = and_parts (c == 125) (after && is_scalar n) t in let q = and_parts after (is_scalar n) p.1 in ended after (eqb-true c 125 p.0) q.0 q.1 b given r h)
+    (λ _. with_digit_both 16 c Bad (λ d. On (m.Digits (capped (n * 16 + d)) true)) (Law (m.Digits n after) c) tt
+    (λ d v lt b given r (w, more, rest, k, e, left, sc, g, body).
+    (c ∷ w, more, rest, k, ap (λ (z : List ℕ). c ∷ z) e, any_after next_capped 16 n after (c ∷ w) k (digit_before next_capped 16 n c d w k v lt left), sc, g, body))))
   where
     under : (after : Bool) → ((c == 95) ≡ true) × (after ≡ true) → (b given r : List ℕ) → DigitsBody n false b given r → DigitsBody n after (c ∷ b) given r
     under false t b given r h = absurd (let f : false ≡ true = t.1 in cc)
     under true t b given r (w, more, rest, k, e, (ds, hd, kd), sc, g, body) =
         (95 ∷ w, more, rest, k, ap (λ (x : ℕ). x ∷ b) (eqb-true c 95 t.0) ∙ ap (λ (z : List ℕ). 95 ∷ z) e, inr (ds, w, inl refl, hd, kd), sc, g, body)
+
     ended : (after : Bool) → c ≡ 125 → after ≡ true → is_scalar n ≡ true → (b given r : List ℕ) → Body b given r → DigitsBody n after (c ∷ b) (encode_utf8 n ++ given) r
     ended false e a sc b given r h = absurd (let f : false ≡ true = a in cc)
     ended true e a sc b given r h = ([], b, given, n, ap (λ (x : ℕ). x ∷ b) e, inl (refl, refl), sc, refl, h)
@@ -350,6 +355,7 @@ given_same mode (c ∷ b) r e = by (string_step mode c) (λ n s g. given_same n 
   where
     part_same : (part g : List ℕ) (o : Option (List ℕ × List ℕ)) → ((s : List ℕ) → rest_of o ≡ Some s → o ≡ Some (g, s)) → rest_of (giving part o) ≡ Some r → giving part o ≡ Some (part ++ g, r)
     part_same part g o h e = ap (giving part) (h r (sym (rest_giving part o) ∙ e))
+
     by : (s : Step) → ((n : Mode) (s : List ℕ) → rest_of (string_in n b) ≡ Some s → string_in n b ≡ Some (given_in n b, s)) → rest_of (string_next s b (λ n. string_in n b)) ≡ Some r
         → string_next s b (λ n. string_in n b) ≡ Some (given_next s (λ n. given_in n b), r)
     by (On n) again e = again n r e

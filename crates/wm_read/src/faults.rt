@@ -131,3 +131,6 @@ impl fmt::Display for TextFault {
 }
 
 impl Error for TextFault {}
+
+#[cfg(test)]
+mod tests;

@@ -11,7 +11,10 @@ ghost use Rattle.wm_read.specs.inner.Lexemes.{token_of, ahead_of, FaultOfTokens}
 ghost use Rattle.wm_read.specs.inner.Places.{Before, IsPlace};
 
 use crate::faults::{TextFault, TextWhy};
-use crate::scan::{Class, Mode, Step, after_comment, after_line, after_string, atom_len, class_of, is_atom, string_step};
+use crate::scan::{
+    Class, Mode, Step, after_comment, after_line, after_string, atom_len, class_of, is_atom,
+    string_step,
+};
 use std::alloc::{AllocError, Global};
 
 /// A token (section 6.3), as it lies in the text.
