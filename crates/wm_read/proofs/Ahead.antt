@@ -108,16 +108,16 @@ ahead_token (atom a) text r (is, (chars, kind)) e = ap (λ (z : List ℕ). ahead
 abbrev pub IsBlank : List ℕ → List ℕ → Type 0
 IsBlank part r = Blank part ⊎ (LineComment part × (r ≡ []))
 
-abbrev pub Stands : List ℕ → Ahead → Type 0
-Stands b no_more = b ≡ []
-Stands b (blank r) = (c : ℕ) × (part : List ℕ) × (b ≡ c ∷ part ++ r) × IsBlank (c ∷ part) r
-Stands b (first t r) = (c : ℕ) × (text : List ℕ) × (b ≡ c ∷ text ++ r) × TokenText t (c ∷ text) × Ends t r
-Stands b fault = Unit {0}
+abbrev pub IsAhead : List ℕ → Ahead → Type 0
+IsAhead b no_more = b ≡ []
+IsAhead b (blank r) = (c : ℕ) × (part : List ℕ) × (b ≡ c ∷ part ++ r) × IsBlank (c ∷ part) r
+IsAhead b (first t r) = (c : ℕ) × (text : List ℕ) × (b ≡ c ∷ text ++ r) × TokenText t (c ∷ text) × Ends t r
+IsAhead b fault = Unit {0}
 
-stands_line : (b : List ℕ) → Stands (59 ∷ 59 ∷ b) (blank (after_line b))
-stands_line b = by (line_front b)
+ahead_at_line : (b : List ℕ) → IsAhead (59 ∷ 59 ∷ b) (blank (after_line b))
+ahead_at_line b = by (line_front b)
   where
-    by : LineFront b (after_line b) → Stands (59 ∷ 59 ∷ b) (blank (after_line b))
+    by : LineFront b (after_line b) → IsAhead (59 ∷ 59 ∷ b) (blank (after_line b))
     by (q, line, inl e) = (
       59,
       59 ∷ q ++ 10 ∷ [],
@@ -131,32 +131,32 @@ stands_line b = by (line_front b)
       inr ((59 ∷ 59 ∷ [], q, refl, refl, line), r),
     )
 
-stands_semicolon : (b : List ℕ) → Stands (59 ∷ b) (ahead_semicolon b)
-stands_semicolon [] = tt
-stands_semicolon (d ∷ b) = cond_both (d == 59) _ _ (Stands (59 ∷ d ∷ b)) (λ t. subst (λ (x : ℕ). Stands (59 ∷ x ∷ b) (blank (after_line b))) (sym (eqb-true d 59 t)) (stands_line b)) (λ _. tt)
+ahead_at_semicolon : (b : List ℕ) → IsAhead (59 ∷ b) (ahead_semicolon b)
+ahead_at_semicolon [] = tt
+ahead_at_semicolon (d ∷ b) = cond_both (d == 59) _ _ (IsAhead (59 ∷ d ∷ b)) (λ t. subst (λ (x : ℕ). IsAhead (59 ∷ x ∷ b) (blank (after_line b))) (sym (eqb-true d 59 t)) (ahead_at_line b)) (λ _. tt)
 
-stands_comment : (b : List ℕ) (o : Option (List ℕ)) → after_comment zero b ≡ o → Stands (40 ∷ 59 ∷ b) (blank_or_fault o)
-stands_comment b None e = tt
-stands_comment b (Some r) e = let g = comment_front zero b r e in (40, 59 ∷ g.0, ap (λ (z : List ℕ). 40 ∷ 59 ∷ z) g.1, inl (inr (inr (40 ∷ 59 ∷ [], g.0, refl, refl, g.2))))
+ahead_at_comment : (b : List ℕ) (o : Option (List ℕ)) → after_comment zero b ≡ o → IsAhead (40 ∷ 59 ∷ b) (blank_or_fault o)
+ahead_at_comment b None e = tt
+ahead_at_comment b (Some r) e = let g = comment_front zero b r e in (40, 59 ∷ g.0, ap (λ (z : List ℕ). 40 ∷ 59 ∷ z) g.1, inl (inr (inr (40 ∷ 59 ∷ [], g.0, refl, refl, g.2))))
 
-stands_opening : (b : List ℕ) → Stands (40 ∷ b) (ahead_opening b)
-stands_opening [] = (40, [], refl, refl, tt)
-stands_opening (d ∷ b) = cond_both (d == 59) _ _ (Stands (40 ∷ d ∷ b))
-    (λ t. subst (λ (x : ℕ). Stands (40 ∷ x ∷ b) (blank_or_fault (after_comment zero b))) (sym (eqb-true d 59 t)) (stands_comment b (after_comment zero b) refl))
+ahead_at_opening : (b : List ℕ) → IsAhead (40 ∷ b) (ahead_opening b)
+ahead_at_opening [] = (40, [], refl, refl, tt)
+ahead_at_opening (d ∷ b) = cond_both (d == 59) _ _ (IsAhead (40 ∷ d ∷ b))
+    (λ t. subst (λ (x : ℕ). IsAhead (40 ∷ x ∷ b) (blank_or_fault (after_comment zero b))) (sym (eqb-true d 59 t)) (ahead_at_comment b (after_comment zero b) refl))
     (λ f. (40, [], refl, refl, f))
 
-stands_string : (b : List ℕ) (o : Option (List ℕ × List ℕ)) → string_in m.Plain b ≡ o → Stands (34 ∷ b) (string_or_fault o)
-stands_string b None e = tt
-stands_string b (Some (bytes, r)) e = by (string_found b bytes r e)
+ahead_at_string : (b : List ℕ) (o : Option (List ℕ × List ℕ)) → string_in m.Plain b ≡ o → IsAhead (34 ∷ b) (string_or_fault o)
+ahead_at_string b None e = tt
+ahead_at_string b (Some (bytes, r)) e = by (string_found b bytes r e)
   where
-    by : ((t : List ℕ) × (34 ∷ b ≡ t ++ r) × String bytes t) → Stands (34 ∷ b) (first (string bytes) r)
+    by : ((t : List ℕ) × (34 ∷ b ≡ t ++ r) × String bytes t) → IsAhead (34 ∷ b) (first (string bytes) r)
     by ([], e, (parts, g, (x, y, e2, p, q))) = absurd (let f : [] ≡ 34 ∷ y = e2 ∙ ap (λ (z : List ℕ). z ++ y) p in cc)
     by (c ∷ t, e, h) = (c, t, e, h, tt)
 
-stands_atom : (c : ℕ) (b : List ℕ) → is_id_char c ≡ true → Stands (c ∷ b) (ahead_by k.Atom c b)
-stands_atom c b h =
+ahead_at_atom : (c : ℕ) (b : List ℕ) → is_id_char c ≡ true → IsAhead (c ∷ b) (ahead_by k.Atom c b)
+ahead_at_atom c b h =
     let g = atom_front b in
-    cond_both (is_atom (c ∷ (atom_in b).0)) _ _ (Stands (c ∷ b))
+    cond_both (is_atom (c ∷ (atom_in b).0)) _ _ (IsAhead (c ∷ b))
     (λ t. (c, (atom_in b).0, ap (λ (z : List ℕ). c ∷ z) g.0, (refl, (ap (λ (x : Bool). x && list_all is_id_char (atom_in b).0) h ∙ g.1, kind_found (c ∷ (atom_in b).0) t)), ends (atom_in b).1 g.2))
     (λ _. tt)
   where
@@ -164,19 +164,19 @@ stands_atom c b h =
     ends [] e = tt
     ends (d ∷ r) e = e
 
-stands_by : (c : ℕ) (b : List ℕ) (x : Class) → IsOf c x → Stands (c ∷ b) (ahead_by x c b)
-stands_by c b k.Space h = (c, [], refl, inl (inl (c, refl, h)))
-stands_by c b k.Semicolon h = subst (λ (x : ℕ). Stands (x ∷ b) (ahead_semicolon b)) (sym h) (stands_semicolon b)
-stands_by c b k.Opening h = subst (λ (x : ℕ). Stands (x ∷ b) (ahead_opening b)) (sym h) (stands_opening b)
-stands_by c b k.Closing h = (c, [], refl, ap (λ (x : ℕ). x ∷ []) h, tt)
-stands_by c b k.Quote h = subst (λ (x : ℕ). Stands (x ∷ b) (string_or_fault (string_in m.Plain b))) (sym h) (stands_string b (string_in m.Plain b) refl)
-stands_by c b k.Atom h = stands_atom c b h
-stands_by c b k.Other h = tt
+ahead_at_by : (c : ℕ) (b : List ℕ) (x : Class) → IsOf c x → IsAhead (c ∷ b) (ahead_by x c b)
+ahead_at_by c b k.Space h = (c, [], refl, inl (inl (c, refl, h)))
+ahead_at_by c b k.Semicolon h = subst (λ (x : ℕ). IsAhead (x ∷ b) (ahead_semicolon b)) (sym h) (ahead_at_semicolon b)
+ahead_at_by c b k.Opening h = subst (λ (x : ℕ). IsAhead (x ∷ b) (ahead_opening b)) (sym h) (ahead_at_opening b)
+ahead_at_by c b k.Closing h = (c, [], refl, ap (λ (x : ℕ). x ∷ []) h, tt)
+ahead_at_by c b k.Quote h = subst (λ (x : ℕ). IsAhead (x ∷ b) (string_or_fault (string_in m.Plain b))) (sym h) (ahead_at_string b (string_in m.Plain b) refl)
+ahead_at_by c b k.Atom h = ahead_at_atom c b h
+ahead_at_by c b k.Other h = tt
 
-pub ahead_stands : (b : List ℕ) → Stands b (ahead b)
+pub ahead_is_so : (b : List ℕ) → IsAhead b (ahead b)
 unfolding ahead
-ahead_stands [] = refl
-ahead_stands (c ∷ b) = stands_by c b (class_of c) (class_law c)
+ahead_is_so [] = refl
+ahead_is_so (c ∷ b) = ahead_at_by c b (class_of c) (class_law c)
 
 -- ---- as the code reads an atom
 

@@ -8,8 +8,8 @@ use Rattle.wm_read.specs.Faults.{IsOfTheEnd, IsOfAToken}
 use Rattle.wm_read.specs.declared.faults.TextFault.{TextFault}
 use Rattle.wm_read.specs.declared.faults.TextWhy.{TextWhy}
 use Rattle.wm_read.specs.declared.faults.TextWhy.TheVariants.{OpenComment, OpenString}
-use Rattle.wm_read.specs.inner.Places.{Stands, Before, IsPlace}
-use Rattle.wm_read.proofs.Ahead.{Stands as StandsAhead, ahead_stands, ahead_blank, ahead_last, ahead_token}
+use Rattle.wm_read.specs.inner.Places.{HasTokens, Before, IsPlace}
+use Rattle.wm_read.proofs.Ahead.{IsAhead, ahead_is_so, ahead_blank, ahead_last, ahead_token}
 use Rattle.wm_read.proofs.Whole.{tokens_go, tokens_nil, tokens_found, some_adding}
 
 pub before_all : (text : List ℕ) → Before text text
@@ -17,12 +17,12 @@ unfolding Before
 before_all text = ([], refl, λ _ _ _ s. s)
 
 -- what every front of a rest allows, one piece further on
-before_more : (text b piece r : List ℕ) → b ≡ piece ++ r → ((front back : List ℕ) → r ≡ front ++ back → Stands front → Stands (piece ++ front)) → Before text b → Before text r
+before_more : (text b piece r : List ℕ) → b ≡ piece ++ r → ((front back : List ℕ) → r ≡ front ++ back → HasTokens front → HasTokens (piece ++ front)) → Before text b → Before text r
 unfolding Before
 before_more text b piece r e more (part, is, all) = (
   part ++ piece,
   is ∙ ap (λ (z : List ℕ). part ++ z) e ∙ sym (append_assoc part piece r),
-  λ front back cut s. subst Stands (sym (append_assoc part piece front))
+  λ front back cut s. subst HasTokens (sym (append_assoc part piece front))
       (all (piece ++ front) back (e ∙ ap (λ (z : List ℕ). piece ++ z) cut ∙ sym (append_assoc piece front back)) (more front back cut s)),
 )
 
@@ -31,9 +31,9 @@ nil_front [] back e = refl
 nil_front (c ∷ front) back e = absurd cc
 
 pub before_skip : (text b r : List ℕ) → blank r ≡ ahead b → Before text b → Before text r
-before_skip text b r e h = by (subst (StandsAhead b) (sym e) (ahead_stands b))
+before_skip text b r e h = by (subst (IsAhead b) (sym e) (ahead_is_so b))
   where
-    by : StandsAhead b (blank r) → Before text r
+    by : IsAhead b (blank r) → Before text r
     by (c, part, is, inl space) = before_more text b (c ∷ part) r is
         (λ front back _ s. ap is_some (tokens_go (c ∷ part ++ front) (blank front) (ahead_blank (c ∷ part) front space)) ∙ s) h
     by (c, part, is, inr (line, none)) = before_more text b (c ∷ part) r is
@@ -50,9 +50,9 @@ ends_front (atom a) [] back h = tt
 ends_front (atom a) (c ∷ front) back h = h
 
 pub before_take : (text b r : List ℕ) (t : Token) → first t r ≡ ahead b → Before text b → Before text r
-before_take text b r t e h = by (subst (StandsAhead b) (sym e) (ahead_stands b))
+before_take text b r t e h = by (subst (IsAhead b) (sym e) (ahead_is_so b))
   where
-    by : StandsAhead b (first t r) → Before text r
+    by : IsAhead b (first t r) → Before text r
     by (c, part, is, token, ends) = before_more text b (c ∷ part) r is
         (λ front back cut s. ap is_some (tokens_go (c ∷ part ++ front) (first t front) (ahead_token t (c ∷ part) front token (ends_front t front back (subst (Ends t) cut ends))))
         ∙ some_adding t (tokens_of front) ∙ s) h
@@ -61,12 +61,12 @@ pub before_length : (text rest : List ℕ) → Before text rest → length rest 
 unfolding Before
 before_length text rest (part, is, all) = let n : length text ≡ length (part ++ rest) = ap length is in omega (arith, n, length-append part rest)
 
-pub before_place : (text rest : List ℕ) → Before text rest → Stands (take (length text - length rest) text)
+pub before_place : (text rest : List ℕ) → Before text rest → HasTokens (take (length text - length rest) text)
 unfolding Before
 before_place text rest (part, is, all) =
     let n : length text - length rest ≡ length part = (let l : length text ≡ length (part ++ rest) = ap length is in omega (arith, l, length-append part rest)) in
-    subst Stands (sym (ap (λ (m : ℕ). take m text) n ∙ ap (take (length part)) is ∙ take-append-le (length part) part rest (omega arith) ∙ take_all (length part) part (omega arith)))
-    (subst Stands (append-nil part) (all [] rest refl (ap is_some tokens_nil)))
+    subst HasTokens (sym (ap (λ (m : ℕ). take m text) n ∙ ap (take (length part)) is ∙ take-append-le (length part) part rest (omega arith) ∙ take_all (length part) part (omega arith)))
+    (subst HasTokens (append-nil part) (all [] rest refl (ap is_some tokens_nil)))
 
 pub ruleset place_laws = (before_all, before_skip, before_take)
 
@@ -77,8 +77,8 @@ not_of_the_end why c s (inr e) = s e
 
 pub ruleset fault_laws = (before_length, before_place, not_of_the_end)
 
-stands_tokens : (b : List ℕ) → Stands b → (k : List Token) × AreTokens k b
-stands_tokens b h = by (tokens_of b) refl h
+has_them : (b : List ℕ) → HasTokens b → (k : List Token) × AreTokens k b
+has_them b h = by (tokens_of b) refl h
   where
     by : (o : Option (List Token)) → tokens_of b ≡ o → is_some o ≡ true → (k : List Token) × AreTokens k b
     by None e h = absurd cc
@@ -86,4 +86,4 @@ stands_tokens b h = by (tokens_of b) refl h
 
 pub token_at_err : (text : List ℕ) (r : Result (Unit {0}) TextFault) → IfErr r (λ e. IsPlace text e) → IfErr r (λ e. IsOfAToken e.why → (k : List Token) × AreTokens k (take e.at text))
 token_at_err text (Ok x) h = tt
-token_at_err text (Err e) h = λ w. stands_tokens (take e.at text) (h.2 w)
+token_at_err text (Err e) h = λ w. has_them (take e.at text) (h.2 w)

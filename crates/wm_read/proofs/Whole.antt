@@ -3,10 +3,10 @@ use Rattle.std.proofs.Common.{◌≡◌, ℕ, zero, suc, ◌<◌, ◌↔◌, tru
 use Rattle.std.proofs.lemmas.List.{append-nil}
 use Rattle.wm_syntax.specs.Spelling.{Each}
 use Rattle.wm_read.specs.Tokens.{Token, Blank, LineComment, Space, AreTokens, Tokens}
-use Rattle.wm_read.specs.exact.Scan.{ahead, Ahead, no_more, blank, first, fault, adding, going, tokens_within, tokens_of, lexing, lexed_within, lexed, is_some, Stand}
-use Rattle.std.specs.Prelude.{Result, Ok, Err, OnErr}
+use Rattle.wm_read.specs.exact.Scan.{ahead, Ahead, no_more, blank, first, fault, adding, going, tokens_within, tokens_of, lexing, lexed_within, lexed, is_some, has_tokens}
+use Rattle.std.specs.Prelude.{Result, Ok, Err, OnErr, MatchResult}
 use Rattle.wm_read.proofs.Basics.{same_some}
-use Rattle.wm_read.proofs.Ahead.{Stands, ahead_stands, ahead_blank, ahead_last, ahead_token}
+use Rattle.wm_read.proofs.Ahead.{IsAhead, ahead_is_so, ahead_blank, ahead_last, ahead_token}
 
 -- ---- it goes on from what stands first
 
@@ -16,14 +16,14 @@ Shorter b (blank r) = length r < length b
 Shorter b (first t r) = length r < length b
 Shorter b fault = Unit {0}
 
-shorter_by : (b : List ℕ) (f : Ahead) → Stands b f → Shorter b f
+shorter_by : (b : List ℕ) (f : Ahead) → IsAhead b f → Shorter b f
 shorter_by b no_more h = tt
 shorter_by b (blank r) (c, part, e, h) = let n : length b ≡ length (c ∷ part ++ r) = ap length e in omega (arith, n, length-append part r)
 shorter_by b (first t r) (c, text, e, h, g) = let n : length b ≡ length (c ∷ text ++ r) = ap length e in omega (arith, n, length-append text r)
 shorter_by b fault h = tt
 
 pub ahead_shorter : (b : List ℕ) → Shorter b (ahead b)
-ahead_shorter b = shorter_by b (ahead b) (ahead_stands b)
+ahead_shorter b = shorter_by b (ahead b) (ahead_is_so b)
 
 any_fuel : (m n : ℕ) (b : List ℕ) → length b < m → length b < n → tokens_within m b ≡ tokens_within n b
 any_fuel zero n b h g = absurd (omega (arith, h))
@@ -90,9 +90,9 @@ nil_tokens (suc n) k e = let f : going (tokens_within n) no_more ≡ Some k = ap
 
 pub within_found : (n : ℕ) (b : List ℕ) (k : List Token) → tokens_within n b ≡ Some k → AreTokens k b
 within_found zero b k e = absurd cc
-within_found (suc n) b k e = by (λ r j g. within_found n r j g) (ahead b) (ahead_stands b) e
+within_found (suc n) b k e = by (λ r j g. within_found n r j g) (ahead b) (ahead_is_so b) e
   where
-    by : ((r : List ℕ) (j : List Token) → tokens_within n r ≡ Some j → AreTokens j r) → (f : Ahead) → Stands b f → going (tokens_within n) f ≡ Some k → AreTokens k b
+    by : ((r : List ℕ) (j : List Token) → tokens_within n r ≡ Some j → AreTokens j r) → (f : Ahead) → IsAhead b f → going (tokens_within n) f ≡ Some k → AreTokens k b
     by again no_more s e = subst (λ (z : List Token). AreTokens z b) (same_some [] k e) (inl ([], s))
     by again (blank r) (c, part, is, inl h) e = subst (AreTokens k) (sym is) (blank_before k (c ∷ part) r h (again r k e))
     by again (blank r) (c, part, is, inr (line, end)) e =
@@ -186,30 +186,30 @@ pub some_adding : (t : Token) (o : Option (List Token)) → is_some (adding t o)
 some_adding t None = refl
 some_adding t (Some k) = refl
 
-pub stand_end : (b : List ℕ) → no_more ≡ ahead b → is_some (tokens_of b) ≡ true
+pub stand_end : (b : List ℕ) → no_more ≡ ahead b → has_tokens b ≡ true
 stand_end b e = ap is_some (tokens_end b e)
 
-pub stand_skip : (b r : List ℕ) → blank r ≡ ahead b → is_some (tokens_of b) ≡ is_some (tokens_of r)
+pub stand_skip : (b r : List ℕ) → blank r ≡ ahead b → has_tokens b ≡ has_tokens r
 stand_skip b r e = ap is_some (tokens_skip b r e)
 
-pub stand_take : (b r : List ℕ) (t : Token) → first t r ≡ ahead b → is_some (tokens_of b) ≡ is_some (tokens_of r)
+pub stand_take : (b r : List ℕ) (t : Token) → first t r ≡ ahead b → has_tokens b ≡ has_tokens r
 stand_take b r t e = ap is_some (tokens_take b r t e) ∙ some_adding t (tokens_of r)
 
-pub stand_stop : (b : List ℕ) → fault ≡ ahead b → is_some (tokens_of b) ≡ false
+pub stand_stop : (b : List ℕ) → fault ≡ ahead b → has_tokens b ≡ false
 stand_stop b e = ap is_some (tokens_stop b e)
 
 pub ruleset stand_laws = (stand_end, stand_skip, stand_take, stand_stop, blank_shorter, first_shorter)
 
-pub stand_has : (b : List ℕ) → IsUtf8 b → is_some (tokens_of b) ≡ true → Tokens b (lexed b)
+pub stand_has : (b : List ℕ) → IsUtf8 b → has_tokens b ≡ true → Tokens b (lexed b)
 stand_has b u h = by (tokens_of b) refl h
   where
     by : (o : Option (List Token)) → tokens_of b ≡ o → is_some o ≡ true → Tokens b (lexed b)
     by None e h = absurd (let f : false ≡ true = h in cc)
     by (Some k) e h = (u, subst (λ (z : List Token). AreTokens z b) (sym (lexed_tokens b k e)) (tokens_found b k e))
 
-stand_none : (b : List ℕ) → is_some (tokens_of b) ≡ false → (k : List Token) → Tokens b k → ⊥
+stand_none : (b : List ℕ) → has_tokens b ≡ false → (k : List Token) → Tokens b k → ⊥
 stand_none b h k t = let f : true ≡ false = sym (ap is_some (tokens_more k b t.1)) ∙ h in cc
 
-pub stand_err : {E : Type 0} (b : List ℕ) (r : Result (Unit {0}) E) → Stand r (tokens_of b) → OnErr r ((k : List Token) → Tokens b k → ⊥)
+pub stand_err : {E : Type 0} (b : List ℕ) (r : Result (Unit {0}) E) → MatchResult r (λ _. has_tokens b ≡ true) (λ _. has_tokens b ≡ false) → OnErr r ((k : List Token) → Tokens b k → ⊥)
 stand_err b (Ok x) h = tt
 stand_err b (Err e) h = stand_none b h

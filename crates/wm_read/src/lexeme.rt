@@ -1,13 +1,13 @@
 //! The tokens of a text (section 6.3), one at a time.
 
-ghost use Rattle.std.specs.Prelude.{◌≡◌, ◌<◌, ◌≤◌, ◌+◌, ℕ, zero, length, Some, None, MatchOption, OnSome, OnOk, OnErr, IfSome, IfNone, IfErr, IsUtf8, ◌↔◌, ◌⊎◌, take, List, [], ◌∷◌, ◌++◌, IsTrue, IfOk, Option, map, encode_utf8};
+ghost use Rattle.std.specs.Prelude.{◌≡◌, ◌<◌, ◌≤◌, ◌+◌, ℕ, zero, length, Some, None, MatchOption, MatchResult, true, false, OnSome, OnOk, OnErr, IfSome, IfNone, IfErr, IsUtf8, ◌↔◌, ◌⊎◌, take, List, [], ◌∷◌, ◌++◌, IsTrue, IfOk, Option, map, encode_utf8};
 ghost use Rattle.std.specs.Str.{IsValidUpTo};
 ghost use Rattle.wm_read.specs.exact.Scan as scan;
 ghost use Rattle.wm_read.specs.Faults.{IsOfAToken, IsOfTheEnd, IsOfTokens};
 ghost use Rattle.wm_read.specs.Tokens as tokens;
 ghost use Rattle.wm_read.specs.declared.faults.TextWhy.TheVariants.{NotUtf8};
 ghost use Rattle.wm_read.specs.declared.scan.Mode.TheVariants as mode;
-ghost use Rattle.wm_read.specs.inner.Lexemes.{token_of, ahead_of, FaultOfTokens};
+ghost use Rattle.wm_read.specs.inner.Lexemes.{token_of, bytes_of, ahead_of, FaultOfTokens};
 ghost use Rattle.wm_read.specs.inner.Places.{Before, IsPlace};
 
 use crate::faults::{TextFault, TextWhy};
@@ -128,7 +128,8 @@ fn atom(text: &[u8]) -> Found
 /// The first token, and the text after it; none at the end, or where `check_tokens` finds a fault.
 #[tactic(auto, using(crate::proofs::Whole::ahead_laws))]
 pub fn next_token(text: &[u8]) -> Option<(Lexeme, &[u8])>
-    ensures { MatchOption result (scan.lexed text.now ≡ []) (λ x. (scan.lexed text.now ≡ token_of x.0 ∷ scan.lexed x.1.now) × (length x.1.now < length text.now)) }
+    ensures token { MatchOption result (scan.lexed text.now ≡ []) (λ x. scan.lexed text.now ≡ token_of x.0 ∷ scan.lexed x.1.now) }
+    ensures shorter { IfSome result (λ x. length x.1.now < length text.now) }
 {
     let mut rest = text;
     loop {
@@ -156,7 +157,7 @@ pub fn check_tokens(text: &[u8]) -> Result<(), TextFault>
     ensures token_at { IfErr result (λ e. IsOfAToken e.why → (k : List tokens.Token) × tokens.AreTokens k (take e.at text.now)) }
 {
     match std::str::from_utf8(text) {
-        Ok(_) => tokens_stand(text),
+        Ok(_) => check_whole(text),
         Err(error) => Err(TextFault {
             at: error.valid_up_to(),
             why: TextWhy::NotUtf8,
@@ -166,8 +167,8 @@ pub fn check_tokens(text: &[u8]) -> Result<(), TextFault>
 
 /// Whether a whole text is made of tokens.
 #[tactic(auto, using(crate::proofs::Whole::stand_laws, crate::proofs::Places::place_laws))]
-fn tokens_stand(text: &[u8]) -> Result<(), TextFault>
-    ensures stand { scan.Stand result (scan.tokens_of text.now) }
+fn check_whole(text: &[u8]) -> Result<(), TextFault>
+    ensures tokens { MatchResult result (λ _. scan.has_tokens text.now ≡ true) (λ _. scan.has_tokens text.now ≡ false) }
     ensures why { IfErr result (λ e. IsOfTokens e.why) }
     ensures at { IfErr result (λ e. IsPlace text.now e) }
 {
@@ -199,7 +200,7 @@ fn fault(text: &[u8], rest: &[u8], why: TextWhy) -> TextFault
 /// The bytes of a string (section 6.3.3), from the text after its quotation mark.
 #[tactic(auto, using(crate::proofs::Strings::given_laws))]
 pub fn string_bytes(alloc: Global, text: &[u8]) -> Result<Vec<u8>, AllocError>
-    ensures { IfOk result (λ v. v.items ≡ scan.given_in mode.Plain text.now) }
+    ensures { IfOk result (λ v. v.items ≡ bytes_of text.now) }
 {
     let mut bytes = Vec::new(alloc);
     let mut rest = text;

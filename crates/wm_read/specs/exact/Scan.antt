@@ -1,5 +1,5 @@
 -- The tokens of a text, read from its first byte to its last.
-use Rattle.std.specs.Prelude.{ℕ, suc, zero, ◌+◌, ◌*◌, ◌==◌, ◌&&◌, not, List, [], ◌∷◌, ◌++◌, Bool, true, false, Option, Some, None, if◌then◌else◌, length, nat_lt, encode_utf8, ◌≡◌, Result, Ok, Err, min}
+use Rattle.std.specs.Prelude.{ℕ, suc, zero, ◌+◌, ◌*◌, ◌==◌, ◌&&◌, not, List, [], ◌∷◌, ◌++◌, Bool, true, false, Option, Some, None, if◌then◌else◌, length, nat_lt, encode_utf8, ◌≡◌, min}
 use Rattle.std.specs.Option.{option_map}
 use Rattle.wm_read.specs.Tokens.{Token, open_paren, close_paren, string, atom, is_space, is_id_char, is_lower, is_plain, is_scalar, digit_value}
 use Rattle.wm_read.specs.declared.scan.Class.{Class}
@@ -175,6 +175,9 @@ tokens_within (suc n) b = going (tokens_within n) (ahead b)
 unfoldable pub tokens_of : List ℕ → Option (List Token)
 tokens_of b = tokens_within (suc (length b)) b
 
+abbrev pub has_tokens : List ℕ → Bool
+has_tokens b = is_some (tokens_of b)
+
 -- the tokens before the first fault
 abbrev pub lexing : (List ℕ → List Token) → Ahead → List Token
 lexing more no_more = []
@@ -210,8 +213,3 @@ rest_of (Some x) = Some x.1
 abbrev pub starts_atom : List ℕ → Type 0
 starts_atom [] = ⊥
 starts_atom (c ∷ b) = class_of c ≡ Atom
-
--- whether bytes are tokens
-abbrev pub Stand : {E : Type 0} → Result (Unit {0}) E → Option (List Token) → Type 0
-Stand (Ok x) o = is_some o ≡ true
-Stand (Err e) o = is_some o ≡ false

@@ -1,5 +1,5 @@
 -- The values of the code, without where they lie in memory.
-use Rattle.std.specs.Prelude.{◌<◌, ◌≤◌, IsTrue}
+use Rattle.std.specs.Prelude.{◌<◌, ◌≤◌, ℕ, List, IsTrue}
 use Rattle.wm_read.specs.Faults.{IsOfTokens}
 use Rattle.wm_read.specs.Tokens.{Token, open_paren, close_paren, string, atom, is_scalar}
 use Rattle.wm_read.specs.exact.Scan.{CommentPart, close, opening, on, over, Ahead, no_more, blank, first, fault, given_in}
@@ -20,10 +20,15 @@ part_of (p.Open b) = opening b.now
 part_of (p.On b) = on b.now
 part_of p.End = over
 
+-- the bytes of a string, by the text after its quotation mark
+abbrev pub bytes_of : List ℕ → List ℕ
+bytes_of text = given_in Plain text
+
+-- the token that a lexeme is
 abbrev pub token_of : Lexeme → Token
 token_of Open = open_paren
 token_of Close = close_paren
-token_of (Text b) = string (given_in Plain b.now)
+token_of (Text b) = string (bytes_of b.now)
 token_of (Atom a) = atom a.now
 
 abbrev pub ahead_of : Found → Ahead

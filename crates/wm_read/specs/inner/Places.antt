@@ -1,21 +1,21 @@
 -- The place of a fault.
 use Rattle.std.specs.Prelude.{◌≡◌, ◌≤◌, ℕ, List, ◌++◌, true, length, take}
 use Rattle.wm_read.specs.Faults.{IsOfTheEnd, IsOfAToken}
-use Rattle.wm_read.specs.exact.Scan.{tokens_of, is_some}
+use Rattle.wm_read.specs.exact.Scan.{has_tokens}
 use Rattle.wm_read.specs.declared.faults.TextFault.{TextFault}
 
 -- a text has tokens
-abbrev pub Stands : List ℕ → Type 0
-Stands text = is_some (tokens_of text) ≡ true
+abbrev pub HasTokens : List ℕ → Type 0
+HasTokens text = has_tokens text ≡ true
 
 -- These bytes stand before the rest, and where a front of the rest has tokens they have tokens together.
 unfoldable pub Before : List ℕ → List ℕ → Type 0
 Before text rest =
     (part : List ℕ) × (text ≡ part ++ rest)
-    × ((front back : List ℕ) → rest ≡ front ++ back → Stands front → Stands (part ++ front))
+    × ((front back : List ℕ) → rest ≡ front ++ back → HasTokens front → HasTokens (part ++ front))
 
 abbrev pub IsPlace : List ℕ → TextFault → Type 0
 IsPlace text fault =
     (fault.at ≤ length text)
     × (IsOfTheEnd fault.why → fault.at ≡ length text)
-    × (IsOfAToken fault.why → Stands (take fault.at text))
+    × (IsOfAToken fault.why → HasTokens (take fault.at text))
