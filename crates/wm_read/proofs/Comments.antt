@@ -4,7 +4,7 @@ use Rattle.std.specs.Prelude.{◌==◌, ◌&&◌, ◌||◌, ◌≢◌}
 use Rattle.std.specs.List.{AllByRecursion}
 use Rattle.std.proofs.lemmas.Bool.{cond-false, eqb-false, eqb-true, ne_eqb}
 use Rattle.wm_syntax.specs.Spelling.{Form, ◌▸◌}
-use Rattle.wm_read.specs.Tokens.{CommentRest, ends, plain, nested, turns}
+use Rattle.wm_read.specs.Tokens.{CommentRest, ends, plain, nested, opens_or_ends}
 use Rattle.wm_read.specs.exact.Scan.{after_comment, after_line}
 use Rattle.wm_read.proofs.Basics.{chosen, same_some, same_head, both_are}
 
@@ -32,7 +32,7 @@ or_false : (x y : Bool) → (x || y) ≡ false → (x ≡ false) × (y ≡ false
 or_false true y h = absurd (let f : true ≡ false = h in cc)
 or_false false y h = (refl, h)
 
-after_plain : (n c d : ℕ) (b : List ℕ) → turns c (d ∷ b) ≡ false → after_comment n (c ∷ d ∷ b) ≡ after_comment n (d ∷ b)
+after_plain : (n c d : ℕ) (b : List ℕ) → opens_or_ends c (d ∷ b) ≡ false → after_comment n (c ∷ d ∷ b) ≡ after_comment n (d ∷ b)
 after_plain zero c d b h =
     let p = or_false ((c == 59) && (d == 41)) ((c == 40) && (d == 59)) h in
     cond-false ((c == 59) && (d == 41)) _ _ p.0 ∙ cond-false ((c == 40) && (d == 59)) _ _ p.1
@@ -51,7 +51,7 @@ comment_more n b (ends e) r = ap (λ (x : List ℕ). after_comment n (x ++ r)) e
 comment_more n b (plain {c = c} {b = b'} t h) r =
     let f = comment_first b' h in
     let whole : c ∷ b' ++ r ≡ c ∷ f.0 ∷ f.1 ++ r = ap (λ (x : List ℕ). c ∷ x ++ r) f.2 in
-    let goes : after_comment n (c ∷ f.0 ∷ f.1 ++ r) ≡ after_comment n (f.0 ∷ f.1 ++ r) = after_plain n c f.0 (f.1 ++ r) (ap (λ (x : List ℕ). turns c x) (sym f.2) ∙ t) in
+    let goes : after_comment n (c ∷ f.0 ∷ f.1 ++ r) ≡ after_comment n (f.0 ∷ f.1 ++ r) = after_plain n c f.0 (f.1 ++ r) (ap (λ (x : List ℕ). opens_or_ends c x) (sym f.2) ∙ t) in
     ap (after_comment n) whole ∙ goes ∙ ap (λ (x : List ℕ). after_comment n (x ++ r)) (sym f.2) ∙ comment_more n b' h r
 comment_more n b (nested {inner = i} {rest = s} e h g) r =
     ap (λ (x : List ℕ). after_comment n (x ++ r)) e ∙ after_open n ((i ++ s) ++ r)
@@ -62,13 +62,13 @@ comments_nested zero b (x, y, e, p, q) = nested (ap (λ (z : List ℕ). 40 ∷ 5
 comments_nested (suc n) b (x, y, e, p, (u, v, f, q, s)) =
     (40 ∷ 59 ∷ x ++ u, v, ap (λ (z : List ℕ). 40 ∷ 59 ∷ z) (e ∙ ap (λ (z : List ℕ). x ++ z) f ∙ sym (append_assoc x u v)), nested refl p q, s)
 
-turns_front : (c : ℕ) (x y : List ℕ) → CommentRest x → turns c (x ++ y) ≡ false → turns c x ≡ false
+turns_front : (c : ℕ) (x y : List ℕ) → CommentRest x → opens_or_ends c (x ++ y) ≡ false → opens_or_ends c x ≡ false
 turns_front c [] y h t = absurd (let f = comment_first [] h in let e : [] ≡ f.0 ∷ f.1 = f.2 in cc)
 turns_front c (d ∷ x) y h t = t
 
-comments_plain : (n c : ℕ) (b : List ℕ) → turns c b ≡ false → Comments n b → Comments n (c ∷ b)
+comments_plain : (n c : ℕ) (b : List ℕ) → opens_or_ends c b ≡ false → Comments n b → Comments n (c ∷ b)
 comments_plain zero c b t h = plain t h
-comments_plain (suc n) c b t (x, y, e, p, q) = (c ∷ x, y, ap (λ (z : List ℕ). c ∷ z) e, plain (turns_front c x y p (ap (λ (z : List ℕ). turns c z) (sym e) ∙ t)) p, q)
+comments_plain (suc n) c b t (x, y, e, p, q) = (c ∷ x, y, ap (λ (z : List ℕ). c ∷ z) e, plain (turns_front c x y p (ap (λ (z : List ℕ). opens_or_ends c z) (sym e) ∙ t)) p, q)
 
 comments_first : (n : ℕ) (b : List ℕ) → Comments n b → (c : ℕ) × (rest : List ℕ) × (b ≡ c ∷ rest)
 comments_first zero b h = comment_first b h
@@ -93,12 +93,12 @@ found_open n c d b r t g =
     let are = both_are c d 40 59 t in
     (40 ∷ 59 ∷ g.0, ap (λ (x : ℕ). x ∷ d ∷ b) are.0 ∙ ap (λ (x : ℕ). 40 ∷ x ∷ b) are.1 ∙ ap (λ (x : List ℕ). 40 ∷ 59 ∷ x) g.1, comments_nested n g.0 g.2)
 
-found_plain : (n c d : ℕ) (b r : List ℕ) → turns c (d ∷ b) ≡ false → CommentFront n (d ∷ b) r → CommentFront n (c ∷ d ∷ b) r
+found_plain : (n c d : ℕ) (b r : List ℕ) → opens_or_ends c (d ∷ b) ≡ false → CommentFront n (d ∷ b) r → CommentFront n (c ∷ d ∷ b) r
 found_plain n c d b r t (f, e, h) =
     let first = comments_first n f h in
     let whole : d ∷ b ≡ first.0 ∷ first.1 ++ r = e ∙ ap (λ (x : List ℕ). x ++ r) first.2 in
     let one : d ≡ first.0 = same_head d first.0 b (first.1 ++ r) whole in
-    let t' : turns c f ≡ false = ap (λ (x : List ℕ). turns c x) first.2 ∙ ap (λ (x : ℕ). turns c (x ∷ [])) (sym one) ∙ t in
+    let t' : opens_or_ends c f ≡ false = ap (λ (x : List ℕ). opens_or_ends c x) first.2 ∙ ap (λ (x : ℕ). opens_or_ends c (x ∷ [])) (sym one) ∙ t in
     (c ∷ f, ap (λ (x : List ℕ). c ∷ x) e, comments_plain n c f t' h)
 
 two_false : (x y : Bool) → x ≡ false → y ≡ false → (x || y) ≡ false
