@@ -1,5 +1,5 @@
 -- The tokens of a whole text.
-use Rattle.std.proofs.Common.{◌≡◌, ℕ, zero, suc, ◌<◌, ◌↔◌, true, false, List, [], ◌∷◌, ◌++◌, length, Option, Some, None, refl, sym, ap, subst, ◌∙◌, inl, inr, arith, append_assoc, length-append, IsUtf8}
+use Rattle.std.proofs.Common.{◌≡◌, ℕ, zero, suc, ◌<◌, true, false, List, [], ◌∷◌, ◌++◌, length, Option, Some, None, refl, sym, ap, subst, ◌∙◌, inl, inr, arith, append_assoc, length-append, IsUtf8}
 use Rattle.std.proofs.lemmas.List.{append-nil}
 use Rattle.wm_syntax.specs.Spelling.{Each}
 use Rattle.wm_read.specs.Tokens.{Token, Blank, LineComment, Space, AreTokens, Tokens}
@@ -70,6 +70,9 @@ tokens_more [] b (inr (x, y, e, (parts, h), line)) = ap tokens_of e ∙ space_mo
 tokens_more (t ∷ k) b (x, y, e, (parts, h), (text, rest, e2, is, ends, more)) =
     ap tokens_of e ∙ space_more parts x y h ∙ tokens_go y (first t rest) (ap ahead e2 ∙ ahead_token t text rest is ends) ∙ ap (adding t) (tokens_more k rest more)
 
+pub one_list : (b : List ℕ) (j k : List Token) → Tokens b j → Tokens b k → j ≡ k
+one_list b j k s t = same_some j k (sym (tokens_more j b s.1) ∙ tokens_more k b t.1)
+
 -- ---- what is read are its tokens
 
 before_space : (part b : List ℕ) → Blank part → Space b → Space (part ++ b)
@@ -106,9 +109,6 @@ within_found (suc n) b k e = by (λ r j g. within_found n r j g) (ahead b) (ahea
 pub tokens_found : (b : List ℕ) (k : List Token) → tokens_of b ≡ Some k → AreTokens k b
 unfolding tokens_of
 tokens_found b k e = within_found (suc (length b)) b k e
-
-pub tokens_law : (b : List ℕ) (k : List Token) → AreTokens k b ↔ (tokens_of b ≡ Some k)
-tokens_law b k = (tokens_more k b, tokens_found b k)
 
 -- ---- the tokens before the first fault
 

@@ -2,5 +2,6 @@
 #![tactic(auto)]
 
 pub mod faults;
+pub mod laws;
 pub mod lexeme;
 mod scan;
