@@ -198,5 +198,3 @@ atom_cut b a r n h e p q t = atom_stands b a r h (e ∙ ap (λ (x : List ℕ). (
 
 pub atom_bad : (b a r : List ℕ) (n : ℕ) → starts_atom b → atom_in b ≡ (take n b, drop n b) → a ≡ take n b → r ≡ drop n b → is_atom a ≡ false → fault ≡ ahead b
 atom_bad b a r n h e p q t = atom_falls b a r h (e ∙ ap (λ (x : List ℕ). (x, drop n b)) (sym p) ∙ ap (λ (x : List ℕ). (a, x)) (sym q)) t
-
-pub ruleset atom_laws = (atom_stands, atom_falls)

@@ -273,36 +273,9 @@ number_digit base n c d after b h lt v =
     twice : (x : ℕ) → min x large ≡ min (min x large) large
     twice x = omega arith
 
-no_digit : (base n c : ℕ) (after : Bool) (b : List ℕ) → ((c == 95) && after) ≡ false → with_digit base c None (λ d. digits_in base (n * base + d) true b) ≡ None → digits_in base n after (c ∷ b) ≡ None
-no_digit base n c true b t e = cond-false ((c == 95) && true) _ _ t ∙ e
-no_digit base n c false b t e = cond-false ((c == 95) && false) _ _ t ∙ e
-
-pub number_large : (base n c d : ℕ) (after : Bool) (b : List ℕ) → base ≤ d → Some d ≡ digit_value c → number_in base n after (c ∷ b) ≡ None
-number_large base n c d after b le v =
-    ap (option_map (λ k. min k large)) (no_digit base n c after b (and_left (c == 95) after (not_underscore c d (sym v)))
-    (ap (λ (o : Option ℕ). elim o as (λ _. Option ℕ) [ None ↦ None | Some e ↦ cond (ltb e base) (digits_in base (n * base + e) true b) None ]) (sym v) ∙ cond-false (ltb d base) _ _ (le-ltb d base le)))
-
-pub number_other : (base n c : ℕ) (after : Bool) (b : List ℕ) → None ≡ digit_value c → ((c ≡ 95 → ⊥) ⊎ (after ≡ false)) → number_in base n after (c ∷ b) ≡ None
-number_other base n c after b v h =
-    ap (option_map (λ k. min k large)) (no_digit base n c after b (by h)
-    (ap (λ (o : Option ℕ). elim o as (λ _. Option ℕ) [ None ↦ None | Some e ↦ cond (ltb e base) (digits_in base (n * base + e) true b) None ]) (sym v)))
-  where
-    by : ((c ≡ 95 → ⊥) ⊎ (after ≡ false)) → ((c == 95) && after) ≡ false
-    by (inl ne) = and_left (c == 95) after (ne_eqb c 95 ne)
-    by (inr f) = and_right (c == 95) after f
-
-pub number_not : (base n c : ℕ) (after : Bool) (b : List ℕ) → None ≡ digit_value c → c ≢ 95 → number_in base n after (c ∷ b) ≡ None
-number_not base n c after b v ne = number_other base n c after b v (inl ne)
-
-pub number_no : (base n c : ℕ) (after : Bool) (b : List ℕ) → None ≡ digit_value c → after ≡ false → number_in base n after (c ∷ b) ≡ None
-number_no base n c after b v f = number_other base n c after b v (inr f)
-
 pub number_under : (base n c : ℕ) (after : Bool) (b : List ℕ) → c ≡ 95 → after ≡ true → number_in base n after (c ∷ b) ≡ number_in base n false b
 number_under base n c true b e f = ap (option_map (λ k. min k large)) (cond-true ((c == 95) && true) _ _ (and_from (c == 95) true (eq-eqb c 95 e) refl))
 number_under base n c false b e f = absurd (let g : false ≡ true = f in cc)
-
-pub number_step : (base n c d m : ℕ) (after : Bool) (b : List ℕ) → 2 ≤ base → d < base → Some d ≡ digit_value c → m ≡ min (n * base + d) large → number_in base n after (c ∷ b) ≡ number_in base m true b
-number_step base n c d m after b h lt v e = number_digit base n c d after b (omega (arith, h)) lt v ∙ ap (λ (x : ℕ). number_in base x true b) (sym e)
 
 none_digit : {X Y : Type 0} (base c : ℕ) (f : ℕ → X) (g : ℕ → Option Y) → with_digit base c None (λ d. Some (f d)) ≡ None → with_digit base c None g ≡ None
 none_digit {X} {Y} base c f g e = by (digit_value c) e

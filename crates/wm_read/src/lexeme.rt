@@ -111,7 +111,6 @@ fn quote(text: &[u8]) -> Found
 }
 
 /// What stands first where a character of atoms does.
-#[tactic(auto, using(crate::proofs::Ahead::atom_laws))]
 fn atom(text: &[u8]) -> Found
     requires { scan.starts_atom text.now }
     ensures found { ahead_of result ≡ scan.ahead text.now }
@@ -128,7 +127,8 @@ fn atom(text: &[u8]) -> Found
 /// The first token, and the text after it; none at the end, or where `check_tokens` finds a fault.
 #[tactic(auto, using(crate::proofs::Whole::ahead_laws))]
 pub fn next_token(text: &[u8]) -> Option<(Lexeme, &[u8])>
-    ensures token { MatchOption result (scan.lexed text.now ≡ []) (λ x. scan.lexed text.now ≡ token_of x.0 ∷ scan.lexed x.1.now) }
+    ensures token { MatchOption result (scan.lexed text.now ≡ [])
+        (λ x. scan.lexed text.now ≡ token_of x.0 ∷ scan.lexed x.1.now) }
     ensures shorter { IfSome result (λ x. length x.1.now < length text.now) }
 {
     let mut rest = text;
@@ -154,7 +154,8 @@ pub fn check_tokens(text: &[u8]) -> Result<(), TextFault>
     ensures at { IfErr result (λ e. e.at ≤ length text.now) }
     ensures utf8_at { IfErr result (λ e. e.why ≡ NotUtf8 → IsValidUpTo text.now e.at) }
     ensures end_at { IfErr result (λ e. IsOfTheEnd e.why → e.at ≡ length text.now) }
-    ensures token_at { IfErr result (λ e. IsOfAToken e.why → (k : List tokens.Token) × tokens.AreTokens k (take e.at text.now)) }
+    ensures token_at { IfErr result (λ e. IsOfAToken e.why
+        → (k : List tokens.Token) × tokens.AreTokens k (take e.at text.now)) }
 {
     match std::str::from_utf8(text) {
         Ok(_) => check_whole(text),
@@ -168,7 +169,8 @@ pub fn check_tokens(text: &[u8]) -> Result<(), TextFault>
 /// Whether a whole text is made of tokens.
 #[tactic(auto, using(crate::proofs::Whole::stand_laws, crate::proofs::Places::place_laws))]
 fn check_whole(text: &[u8]) -> Result<(), TextFault>
-    ensures tokens { MatchResult result (λ _. scan.has_tokens text.now ≡ true) (λ _. scan.has_tokens text.now ≡ false) }
+    ensures tokens { MatchResult result (λ _. scan.has_tokens text.now ≡ true)
+        (λ _. scan.has_tokens text.now ≡ false) }
     ensures why { IfErr result (λ e. IsOfTokens e.why) }
     ensures at { IfErr result (λ e. IsPlace text.now e) }
 {

@@ -3,7 +3,7 @@
 ghost use Rattle.std.specs.Prelude.{◌≡◌, ◌<◌, ◌≤◌, ◌+◌, ℕ, zero, length, take, drop, false, Some, None, MatchOption, OnSome, IfSome, IfNone, IfErr, MatchResult, List, IsTrue, ◌^◌, ◌*◌, min};
 ghost use Rattle.std.specs.Option.{option_map};
 ghost use Rattle.wm_read.specs.exact.Scan as scan;
-ghost use Rattle.wm_read.specs.declared.scan.Mode.TheVariants.{Plain};
+ghost use Rattle.wm_read.specs.declared.scan.Mode.TheVariants.{Plain, Escape, Digits};
 ghost use Rattle.wm_read.specs.Faults.{IsOfTokens};
 ghost use Rattle.wm_read.specs.Tokens as tokens;
 ghost use Rattle.wm_read.specs.inner.Lexemes.{part_of, IsMode, IsStep};
@@ -103,11 +103,17 @@ pub fn after_line(text: &[u8]) -> &[u8]
 
 /// What stands first in a block comment, and what follows it.
 enum Part<'a> {
+    /// `;)`
     Close(&'a [u8]),
+    /// `(;`
     Open(&'a [u8]),
+    /// Another byte.
     On(&'a [u8]),
+    /// The end of the text.
     End,
 }
+
+/// What stands first in a block comment.
 
 #[tactic(auto, unfolding(crate::specs::exact::Scan::comment_part))]
 fn comment_part(text: &[u8]) -> Part
@@ -133,7 +139,8 @@ fn comment_part(text: &[u8]) -> Part
 /// What stands behind a block comment (section 6.2.4), from the text after its `(;`; none where it does not end.
 #[tactic(auto, using(crate::proofs::Parts::part_laws))]
 pub fn after_comment(text: &[u8]) -> Option<&[u8]>
-    ensures { MatchOption result (scan.after_comment zero text.now ≡ None) (λ r. scan.after_comment zero text.now ≡ Some r.now) }
+    ensures { MatchOption result (scan.after_comment zero text.now ≡ None)
+        (λ r. scan.after_comment zero text.now ≡ Some r.now) }
 {
     let mut rest = text;
     let mut open = 0usize;
@@ -187,19 +194,7 @@ pub fn string_step(mode: Mode, byte: u8) -> Step
                 }
             }
         },
-        Mode::Escape => match byte {
-            b't' => Step::Byte(0x09),
-            b'n' => Step::Byte(0x0A),
-            b'r' => Step::Byte(0x0D),
-            b'"' => Step::Byte(0x22),
-            b'\'' => Step::Byte(0x27),
-            b'\\' => Step::Byte(0x5C),
-            b'u' => Step::On(Mode::Brace),
-            _ => match digit_value(byte) {
-                Some(high) => Step::On(Mode::Low(high)),
-                None => Step::Bad,
-            },
-        },
+        Mode::Escape => escape_step(byte),
         Mode::Low(high) => match digit_value(byte) {
             Some(low) => Step::Byte(high * 16 + low),
             None => Step::Bad,
@@ -211,21 +206,51 @@ pub fn string_step(mode: Mode, byte: u8) -> Step
                 Step::Bad
             }
         }
-        Mode::Digits(n, after) => {
-            if byte == b'_' && after {
-                return Step::On(Mode::Digits(n, false));
-            }
-            if byte == b'}' && after && is_scalar(n) {
-                return Step::Scalar(n);
-            }
-            match digit_value(byte) {
-                Some(d) => Step::On(Mode::Digits((n * 16 + u32::from(d)).min(0x11_0000), true)),
-                None => Step::Bad,
-            }
-        }
+        Mode::Digits(n, after) => digits_step(n, after, byte),
     }
 }
 
+/// What the byte behind a backslash does.
+#[tactic(auto, unfolding(crate::specs::exact::Scan::string_step))]
+fn escape_step(byte: u8) -> Step
+    ensures step { result ≡ scan.string_step Escape byte }
+    ensures next { IsStep result }
+{
+    match byte {
+        b't' => Step::Byte(0x09),
+        b'n' => Step::Byte(0x0A),
+        b'r' => Step::Byte(0x0D),
+        b'"' => Step::Byte(0x22),
+        b'\'' => Step::Byte(0x27),
+        b'\\' => Step::Byte(0x5C),
+        b'u' => Step::On(Mode::Brace),
+        _ => match digit_value(byte) {
+            Some(high) => Step::On(Mode::Low(high)),
+            None => Step::Bad,
+        },
+    }
+}
+
+/// What a byte behind `\u{` does.
+#[tactic(auto, unfolding(crate::specs::exact::Scan::string_step))]
+fn digits_step(n: u32, after: bool, byte: u8) -> Step
+    requires { n ≤ 0x11_0000 }
+    ensures step { result ≡ scan.string_step (Digits n after) byte }
+    ensures next { IsStep result }
+{
+    if byte == b'_' && after {
+        return Step::On(Mode::Digits(n, false));
+    }
+    if byte == b'}' && after && is_scalar(n) {
+        return Step::Scalar(n);
+    }
+    match digit_value(byte) {
+        Some(d) => Step::On(Mode::Digits((n * 16 + u32::from(d)).min(0x11_0000), true)),
+        None => Step::Bad,
+    }
+}
+
+/// Whether a number is a scalar value of Unicode.
 fn is_scalar(n: u32) -> bool
     ensures { result ≡ tokens.is_scalar n }
 {
@@ -235,7 +260,8 @@ fn is_scalar(n: u32) -> bool
 /// What stands behind a string (section 6.3.3), from the text after its quotation mark.
 #[tactic(auto, using(crate::proofs::Strings::rest_laws))]
 pub fn after_string(text: &[u8]) -> Result<&[u8], TextWhy>
-    ensures rest { MatchResult result (λ r. scan.rest_of (scan.string_in Plain text.now) ≡ Some r.now) (λ why. scan.rest_of (scan.string_in Plain text.now) ≡ None) }
+    ensures rest { MatchResult result (λ r. scan.rest_of (scan.string_in Plain text.now) ≡ Some r.now)
+        (λ _. scan.rest_of (scan.string_in Plain text.now) ≡ None) }
     ensures why { IfErr result IsOfTokens }
 {
     let mut rest = text;
@@ -332,6 +358,7 @@ pub fn digits(base: u8, text: &[u8]) -> Option<u128>
     if after { Some(n) } else { None }
 }
 
+/// The value of digits with one more byte, and whether a digit stands last; none where this byte can't follow.
 #[tactic(auto, unfolding(crate::specs::exact::Scan::number_next))]
 fn number_next(base: u8, n: u128, after: bool, byte: u8) -> Option<(u128, bool)>
     requires high { base ≤ 16 }
