@@ -2,9 +2,9 @@
 use Rattle.std.proofs.Common.{◌≡◌, ℕ, zero, suc, ◌<◌, ◌≤◌, ◌+◌, ◌*◌, ◌⊎◌, Bool, true, false, cond, List, [], ◌∷◌, ◌++◌, length, Option, Some, None, refl, sym, ap, ◌∙◌, inl, inr, arith, ltb, take, drop, get_or, min}
 use Rattle.std.specs.Option.{option_map}
 use Rattle.std.proofs.Math.Nat.{mul-le-mul_right, mul-le-mul_left}
-use Rattle.std.specs.Prelude.{◌==◌, ◌&&◌, ◌≢◌, fold, not}
+use Rattle.std.specs.Prelude.{◌==◌, ◌&&◌, fold, not}
 use Rattle.std.specs.List.{list_all}
-use Rattle.std.proofs.lemmas.Bool.{cond-true, cond-false, cond_both, eqb-true, eq-eqb, ne_eqb, and_parts, and_from, lt-ltb, ltb-true, and_left, and_right, le-ltb, cases_lt}
+use Rattle.std.proofs.lemmas.Bool.{cond-true, cond-false, cond_both, eqb-true, eq-eqb, ne_eqb, and_parts, and_from, lt-ltb, ltb-true, and_left, cases_lt}
 use Rattle.wm_read.specs.Tokens.{is_id_char, digit_value, Digits, Magnitude, IsNumber, IsIdentifier, IsWord, is_lower}
 use Rattle.wm_read.specs.exact.Scan.{atom_in, digits_in, with_digit, magnitude_of, is_number, is_atom, is_nil, is_some, number_in, number_next}
 use Rattle.wm_read.proofs.Basics.{chosen, same_some, same_head, both_are}

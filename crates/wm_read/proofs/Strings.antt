@@ -1,8 +1,9 @@
 -- Strings and their escapes.
-use Rattle.std.proofs.Common.{◌≡◌, ℕ, ◌<◌, ◌≤◌, ◌+◌, ◌*◌, Bool, true, false, cond, List, [], ◌∷◌, ◌++◌, Option, Some, None, refl, sym, ap, subst, ◌∙◌, inl, inr, arith, append_assoc, ltb}
+use Rattle.std.proofs.Common.{◌≡◌, ℕ, ◌<◌, ◌≤◌, ◌+◌, ◌*◌, Bool, true, false, cond, List, [], ◌∷◌, ◌++◌, Option, Some, None, refl, sym, ap, subst, ◌∙◌, inl, inr, arith, append_assoc, ltb, ◌-◌, take, length, length-append}
 use Rattle.std.specs.Prelude.{◌==◌, ◌&&◌, ◌||◌, fold, encode_utf8, flat_map, nat_lt}
 use Rattle.std.specs.List.{list_any}
 use Rattle.std.proofs.lemmas.Bool.{cond-true, cond-false, cond_both, eqb-true, ne_eqb, and_parts, or_cases, lt-ltb, le-ltb, ltb-true, ltb-false, and_left}
+use Rattle.std.proofs.lemmas.List.{take_at}
 use Rattle.wm_syntax.specs.Spelling.{Exactly, Each, ◌▸◌}
 use Rattle.wm_read.specs.Tokens.{digit_value, Digits, value, is_plain, is_scalar, short_escapes, Element, String, string}
 use Rattle.wm_read.specs.declared.scan.Mode.{Mode}
@@ -364,5 +365,35 @@ given_same mode (c ∷ b) r e = by (string_step mode c) (λ n s g. given_same n 
     by End again e = ap (λ (x : List ℕ). Some ([], x)) (same_some b r e)
     by Bad again e = absurd cc
 
-pub text_first : (b r : List ℕ) → rest_of (string_in m.Plain b) ≡ Some r → first (string (given_in m.Plain b)) r ≡ string_or_fault (string_in m.Plain b)
-text_first b r e = sym (ap string_or_fault (given_same m.Plain b r e))
+-- what stands before the last quotation mark gives all that the string gives
+given_cut : (mode : Mode) (b r : List ℕ) → rest_of (string_in mode b) ≡ Some r → (part : List ℕ) × (last : ℕ) × (b ≡ part ++ last ∷ r) × (given_in mode part ≡ given_in mode b)
+given_cut mode [] r e = absurd cc
+given_cut mode (c ∷ b) r e = by (string_step mode c) refl (λ n s g. given_cut n b s g) e
+  where
+    at : (part : List ℕ) (s : Step) → string_step mode c ≡ s → given_in mode (c ∷ part) ≡ given_next s (λ n. given_in n part)
+    at part s is = ap (λ (x : Step). given_next x (λ n. given_in n part)) is
+
+    by : (s : Step) → string_step mode c ≡ s
+        → ((n : Mode) (t : List ℕ) → rest_of (string_in n b) ≡ Some t → (part : List ℕ) × (last : ℕ) × (b ≡ part ++ last ∷ t) × (given_in n part ≡ given_in n b))
+        → rest_of (string_next s b (λ n. string_in n b)) ≡ Some r → (part : List ℕ) × (last : ℕ) × (c ∷ b ≡ part ++ last ∷ r) × (given_in mode part ≡ given_next s (λ n. given_in n b))
+    by (On n) is again e = let g = again n r e in (c ∷ g.0, g.1, ap (λ (z : List ℕ). c ∷ z) g.2, at g.0 (On n) is ∙ g.3)
+    by (Byte x) is again e =
+        let g = again m.Plain r (sym (rest_giving (x ∷ []) (string_in m.Plain b)) ∙ e) in
+        (c ∷ g.0, g.1, ap (λ (z : List ℕ). c ∷ z) g.2, at g.0 (Byte x) is ∙ ap (λ (z : List ℕ). x ∷ z) g.3)
+    by (Scalar x) is again e =
+        let g = again m.Plain r (sym (rest_giving (encode_utf8 x) (string_in m.Plain b)) ∙ e) in
+        (c ∷ g.0, g.1, ap (λ (z : List ℕ). c ∷ z) g.2, at g.0 (Scalar x) is ∙ ap (λ (z : List ℕ). encode_utf8 x ++ z) g.3)
+    by End is again e = ([], c, ap (λ (z : List ℕ). c ∷ z) (same_some b r e), refl)
+    by Bad is again e = absurd cc
+
+pub string_shorter : (b r : List ℕ) → rest_of (string_in m.Plain b) ≡ Some r → length r < length b
+string_shorter b r e = let g = given_cut m.Plain b r e in let n : length b ≡ length (g.0 ++ g.1 ∷ r) = ap length g.2 in omega (arith, n, length-append g.0 (g.1 ∷ r))
+
+pub string_first : (b r x : List ℕ) → rest_of (string_in m.Plain b) ≡ Some r → x ≡ take (length b - length r - 1) b → first (string (given_in m.Plain x)) r ≡ string_or_fault (string_in m.Plain b)
+string_first b r x e is =
+    let g = given_cut m.Plain b r e in
+    let n : length g.0 ≡ length b - length r - 1 = (let l : length b ≡ length (g.0 ++ g.1 ∷ r) = ap length g.2 in omega (arith, l, length-append g.0 (g.1 ∷ r))) in
+    let inside : x ≡ g.0 = is ∙ ap (take (length b - length r - 1)) g.2 ∙ take_at g.0 (g.1 ∷ r) (length b - length r - 1) n in
+    ap (λ (z : List ℕ). first (string (given_in m.Plain z)) r) inside ∙ ap (λ (z : List ℕ). first (string z) r) g.3 ∙ sym (ap string_or_fault (given_same m.Plain b r e))
+
+pub ruleset string_laws = (string_shorter, string_first)

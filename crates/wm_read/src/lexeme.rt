@@ -24,8 +24,8 @@ pub enum Lexeme<'a> {
     Open,
     /// `)`
     Close,
-    /// A string: all the text after its quotation mark. `string_bytes` gives its bytes.
-    Text(&'a [u8]),
+    /// A string: what stands between its quotation marks. `string_bytes` gives the bytes that it means.
+    String(&'a [u8]),
     /// An identifier, a number or a word.
     Atom(&'a [u8]),
 }
@@ -99,13 +99,16 @@ fn opening(text: &[u8]) -> Found
 }
 
 /// What stands first where a quotation mark does, from the text after it.
-#[tactic(auto, using(crate::proofs::Strings::text_first))]
+#[tactic(auto, using(crate::proofs::Strings::string_laws))]
 fn quote(text: &[u8]) -> Found
     ensures found { ahead_of result ≡ scan.string_or_fault (scan.string_in mode.Plain text.now) }
     ensures why { FaultOfTokens result }
 {
     match after_string(text) {
-        Ok(rest) => Found::First(Lexeme::Text(text), rest),
+        Ok(rest) => {
+            let (inside, _) = text.split_at(text.len() - rest.len() - 1);
+            Found::First(Lexeme::String(inside), rest)
+        }
         Err(why) => Found::Fault(why),
     }
 }
@@ -199,7 +202,7 @@ fn fault(text: &[u8], rest: &[u8], why: TextWhy) -> TextFault
     TextFault { at, why }
 }
 
-/// The bytes of a string (section 6.3.3), from the text after its quotation mark.
+/// The bytes of a string (section 6.3.3), from what stands between its quotation marks.
 #[tactic(auto, using(crate::proofs::Strings::given_laws))]
 pub fn string_bytes(alloc: Global, text: &[u8]) -> Result<Vec<u8>, AllocError>
     ensures { IfOk result (λ v. v.items ≡ bytes_of text.now) }

@@ -10,7 +10,7 @@ use Rattle.wm_read.specs.declared.scan.Mode.TheVariants.{Plain, Low, Digits}
 use Rattle.wm_read.specs.declared.scan.Step.{Step}
 use Rattle.wm_read.specs.declared.scan.Step.TheVariants as s
 use Rattle.wm_read.specs.declared.lexeme.Lexeme.{Lexeme}
-use Rattle.wm_read.specs.declared.lexeme.Lexeme.TheVariants.{Open, Close, Text, Atom}
+use Rattle.wm_read.specs.declared.lexeme.Lexeme.TheVariants.{Open, Close, String, Atom}
 use Rattle.wm_read.specs.declared.lexeme.Found.{Found}
 use Rattle.wm_read.specs.declared.lexeme.Found.TheVariants.{Nothing, Blank, First, Fault}
 
@@ -20,7 +20,7 @@ part_of (p.Open b) = opening b.now
 part_of (p.On b) = on b.now
 part_of p.End = over
 
--- the bytes of a string, by the text after its quotation mark
+-- the bytes of a string, by what stands between its quotation marks
 abbrev pub bytes_of : List ℕ → List ℕ
 bytes_of text = given_in Plain text
 
@@ -28,7 +28,7 @@ bytes_of text = given_in Plain text
 abbrev pub token_of : Lexeme → Token
 token_of Open = open_paren
 token_of Close = close_paren
-token_of (Text b) = string (bytes_of b.now)
+token_of (String b) = string (bytes_of b.now)
 token_of (Atom a) = atom a.now
 
 abbrev pub ahead_of : Found → Ahead

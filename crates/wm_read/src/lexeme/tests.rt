@@ -19,7 +19,7 @@ use Meant::{Atom, Bytes, Close, Open};
 fn means(alloc: Global, token: Lexeme<'_>, meant: &Meant<'_>) -> Result<bool, Fail> {
     Ok(match (token, meant) {
         (Lexeme::Open, Open) | (Lexeme::Close, Close) => true,
-        (Lexeme::Text(text), Bytes(bytes)) => string_bytes(alloc, text)?.as_slice() == *bytes,
+        (Lexeme::String(inside), Bytes(bytes)) => string_bytes(alloc, inside)?.as_slice() == *bytes,
         (Lexeme::Atom(atom), Atom(word)) => atom == word.as_bytes(),
         _ => false,
     })
