@@ -208,6 +208,7 @@ fn bad_tokens(rt: HostRuntime) {
 #[test]
 fn bad_escapes(rt: HostRuntime) {
     for (text, at) in [
+        (r#""\x"#, 0),
         (r#""\x""#, 0),
         (r#"a "b\q""#, 2),
         (r#"(x "\ ""#, 3),
