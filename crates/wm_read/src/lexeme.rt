@@ -1,6 +1,6 @@
 //! The tokens of a text (section 6.3), one at a time.
 
-ghost use Rattle.std.specs.Prelude.{◌≡◌, ◌<◌, ◌≤◌, ◌+◌, ℕ, zero, length, Some, None, MatchOption, MatchResult, true, false, OnSome, OnOk, OnErr, IfSome, IfNone, IfErr, IsUtf8, ◌↔◌, ◌⊎◌, take, List, [], ◌∷◌, ◌++◌, IsTrue, IfOk, Option, map, encode_utf8};
+ghost use Rattle.std.specs.Prelude.{◌≡◌, ◌<◌, ◌≤◌, length, MatchOption, MatchResult, true, false, OnOk, OnErr, IfSome, IfErr, IsUtf8, ◌↔◌, ◌⊎◌, take, List, [], ◌∷◌, ◌++◌, IsTrue, IfOk, encode_utf8};
 ghost use Rattle.std.specs.Str.{IsValidUpTo};
 ghost use Rattle.wm_read.specs.exact.Scan as scan;
 ghost use Rattle.wm_read.specs.Faults.{IsOfAToken, IsOfTheEnd, IsOfTokens};

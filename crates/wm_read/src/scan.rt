@@ -1,6 +1,6 @@
 //! How the bytes of a text are told apart.
 
-ghost use Rattle.std.specs.Prelude.{◌≡◌, ◌<◌, ◌≤◌, ◌+◌, ℕ, zero, length, take, drop, false, Some, None, MatchOption, OnSome, IfSome, IfNone, IfErr, MatchResult, List, IsTrue, ◌^◌, ◌*◌, min};
+ghost use Rattle.std.specs.Prelude.{◌≡◌, ◌≤◌, ◌+◌, zero, length, take, drop, false, Some, None, MatchOption, IfSome, IfErr, MatchResult, ◌*◌, min};
 ghost use Rattle.std.specs.Option.{option_map};
 ghost use Rattle.wm_read.specs.exact.Scan as scan;
 ghost use Rattle.wm_read.specs.declared.scan.Mode.TheVariants.{Plain, Escape, Digits};
