@@ -1,8 +1,8 @@
 -- What stands before the place of a fault.
-use Rattle.std.proofs.Common.{◌≡◌, ℕ, ◌≤◌, ◌-◌, ◌≢◌, true, List, [], ◌∷◌, ◌++◌, length, take, Option, Some, None, refl, sym, ap, subst, ◌∙◌, inl, inr, arith, append_assoc, length-append}
-use Rattle.std.proofs.lemmas.List.{append-nil, take-append-le, take_all}
-use Rattle.wm_read.specs.Tokens.{Token, open_paren, close_paren, string, atom, Ends, AreTokens}
-use Rattle.wm_read.specs.exact.Scan.{ahead, blank, first, tokens_of, is_some}
+use Rattle.std.proofs.Common.{◌≡◌, ℕ, ◌≤◌, ◌-◌, ◌≢◌, true, List, [], ◌∷◌, ◌++◌, length, take, drop, Option, Some, None, refl, sym, ap, subst, ◌∙◌, inl, inr, arith, append_assoc, length-append}
+use Rattle.std.proofs.lemmas.List.{append-nil, take-append-le, take_all, drop_at}
+use Rattle.wm_read.specs.Tokens.{Token, open_paren, close_paren, string, atom, Ends, AreTokens, BeginsNothing}
+use Rattle.wm_read.specs.exact.Scan.{ahead, blank, first, fault, tokens_of, is_some}
 use Rattle.std.specs.Prelude.{Result, Ok, Err, IfErr}
 use Rattle.wm_read.specs.Faults.{IsOfTheEnd, IsOfAToken}
 use Rattle.wm_read.specs.declared.faults.TextFault.{TextFault}
@@ -68,6 +68,12 @@ before_place text rest (part, is, all) =
     subst HasTokens (sym (ap (λ (m : ℕ). take m text) n ∙ ap (take (length part)) is ∙ take-append-le (length part) part rest (omega arith) ∙ take_all (length part) part (omega arith)))
     (subst HasTokens (append-nil part) (all [] rest refl (ap is_some tokens_nil)))
 
+pub fault_place : (text rest : List ℕ) → Before text rest → fault ≡ ahead rest → ahead (drop (length text - length rest) text) ≡ fault
+unfolding Before
+fault_place text rest (part, is, all) e =
+    let n : length part ≡ length text - length rest = (let l : length text ≡ length (part ++ rest) = ap length is in omega (arith, l, length-append part rest)) in
+    ap ahead (ap (drop (length text - length rest)) is ∙ drop_at part rest (length text - length rest) n) ∙ sym e
+
 pub ruleset place_laws = (before_all, before_skip, before_take)
 
 -- every other fault lies before the end
@@ -75,7 +81,7 @@ pub not_of_the_end : (why : TextWhy) → why ≢ OpenComment → why ≢ OpenStr
 not_of_the_end why c s (inl e) = c e
 not_of_the_end why c s (inr e) = s e
 
-pub ruleset fault_laws = (before_length, before_place, not_of_the_end)
+pub ruleset fault_laws = (before_length, before_place, fault_place, not_of_the_end)
 
 has_them : (b : List ℕ) → HasTokens b → (k : List Token) × AreTokens k b
 has_them b h = by (tokens_of b) refl h
@@ -84,6 +90,12 @@ has_them b h = by (tokens_of b) refl h
     by None e h = absurd cc
     by (Some k) e h = (k, tokens_found b k e)
 
-pub token_at_err : (text : List ℕ) (r : Result (Unit {0}) TextFault) → IfErr r (λ e. IsPlace text e) → IfErr r (λ e. IsOfAToken e.why → (k : List Token) × AreTokens k (take e.at text))
+begins_nothing : (b : List ℕ) → ahead b ≡ fault → BeginsNothing b
+begins_nothing b none part rest e = (
+  (λ h. let f : blank rest ≡ fault = sym (ahead_blank part rest h) ∙ ap ahead (sym e) ∙ none in cc),
+  (λ t is ends. let f : first t rest ≡ fault = sym (ahead_token t part rest is ends) ∙ ap ahead (sym e) ∙ none in cc),
+)
+
+pub token_at_err : (text : List ℕ) (r : Result (Unit {0}) TextFault) → IfErr r (λ e. IsPlace text e) → IfErr r (λ e. IsOfAToken e.why → ((k : List Token) × AreTokens k (take e.at text)) × BeginsNothing (drop e.at text))
 token_at_err text (Ok x) h = tt
-token_at_err text (Err e) h = λ w. has_them (take e.at text) (h.2 w)
+token_at_err text (Err e) h = λ w. (has_them (take e.at text) (h.2 w).0, begins_nothing (drop e.at text) (h.2 w).1)

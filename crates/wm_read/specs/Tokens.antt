@@ -147,3 +147,7 @@ AreTokens (t ∷ k) = Space ▸ (λ b. (text rest : List ℕ) × (b ≡ text ++ 
 -- The text is UTF-8 and these are its tokens (section 6.2.2). What is not ASCII stands in comments and strings alone.
 abbrev pub Tokens : List ℕ → List Token → Type 0
 Tokens text k = IsUtf8 text × AreTokens k text
+
+-- neither white space nor a token begins here
+abbrev pub BeginsNothing : List ℕ → Type 0
+BeginsNothing b = (part rest : List ℕ) → b ≡ part ++ rest → (Blank part → ⊥) × ((t : Token) → TokenText t part → Ends t rest → ⊥)

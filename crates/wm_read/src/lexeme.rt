@@ -1,6 +1,6 @@
 //! The tokens of a text (section 6.3), one at a time.
 
-ghost use Rattle.std.specs.Prelude.{◌≡◌, ◌<◌, ◌≤◌, length, MatchOption, MatchResult, true, false, OnOk, OnErr, IfSome, IfErr, IsUtf8, ◌↔◌, ◌⊎◌, take, List, [], ◌∷◌, ◌++◌, IsTrue, IfOk, encode_utf8};
+ghost use Rattle.std.specs.Prelude.{◌≡◌, ◌<◌, ◌≤◌, length, MatchOption, MatchResult, true, false, OnOk, OnErr, IfSome, IfErr, IsUtf8, ◌↔◌, ◌⊎◌, take, drop, List, [], ◌∷◌, ◌++◌, IsTrue, IfOk, encode_utf8};
 ghost use Rattle.std.specs.Str.{IsValidUpTo};
 ghost use Rattle.wm_read.specs.exact.Scan as scan;
 ghost use Rattle.wm_read.specs.Faults.{IsOfAToken, IsOfTheEnd, IsOfTokens};
@@ -158,7 +158,8 @@ pub fn check_tokens(text: &[u8]) -> Result<(), TextFault>
     ensures utf8_at { IfErr result (λ e. e.why ≡ NotUtf8 → IsValidUpTo text.now e.at) }
     ensures end_at { IfErr result (λ e. IsOfTheEnd e.why → e.at ≡ length text.now) }
     ensures token_at { IfErr result (λ e. IsOfAToken e.why
-        → (k : List tokens.Token) × tokens.AreTokens k (take e.at text.now)) }
+        → ((k : List tokens.Token) × tokens.AreTokens k (take e.at text.now))
+        × tokens.BeginsNothing (drop e.at text.now)) }
 {
     match std::str::from_utf8(text) {
         Ok(_) => check_whole(text),
@@ -191,7 +192,8 @@ fn check_whole(text: &[u8]) -> Result<(), TextFault>
 /// The fault of what stands first in the rest of a text.
 #[tactic(auto, using(crate::proofs::Places::fault_laws))]
 fn fault(text: &[u8], rest: &[u8], why: TextWhy) -> TextFault
-    requires { Before text.now rest.now }
+    requires before { Before text.now rest.now }
+    requires none { scan.fault ≡ scan.ahead rest.now }
     ensures why { result.why ≡ why }
     ensures at { IsPlace text.now result }
 {

@@ -1,7 +1,8 @@
 -- The place of a fault.
-use Rattle.std.specs.Prelude.{◌≡◌, ◌≤◌, ℕ, List, ◌++◌, true, length, take}
+use Rattle.std.specs.Prelude.{◌≡◌, ◌≤◌, ℕ, List, ◌++◌, true, length, take, drop}
 use Rattle.wm_read.specs.Faults.{IsOfTheEnd, IsOfAToken}
-use Rattle.wm_read.specs.exact.Scan.{has_tokens}
+use Rattle.wm_read.specs.exact.Scan.{ahead, has_tokens}
+use Rattle.wm_read.specs.exact.Scan as scan
 use Rattle.wm_read.specs.declared.faults.TextFault.{TextFault}
 
 -- a text has tokens
@@ -18,4 +19,4 @@ abbrev pub IsPlace : List ℕ → TextFault → Type 0
 IsPlace text fault =
     (fault.at ≤ length text)
     × (IsOfTheEnd fault.why → fault.at ≡ length text)
-    × (IsOfAToken fault.why → HasTokens (take fault.at text))
+    × (IsOfAToken fault.why → HasTokens (take fault.at text) × (ahead (drop fault.at text) ≡ scan.fault))
