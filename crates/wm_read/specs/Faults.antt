@@ -1,0 +1,42 @@
+-- Why a text is refused: the printed words, and which of them the tokens of a text can give.
+use Rattle.std.specs.Prelude.{◌≡◌, ◌⊎◌, ℕ, List, codes}
+use Rattle.wm_read.specs.declared.faults.TextWhy.{TextWhy}
+use Rattle.wm_read.specs.declared.faults.TextWhy.TheVariants.{NotUtf8, BadToken, OpenComment, OpenString, BadEscape, Expected, UnknownWord, BadInteger, BadName, UnknownId, RepeatedId, TypeUse, ImportPlace, SecondStart, NotConst, BadAlign, LabelEnd, TooManyLocals, Float, Memory}
+
+abbrev pub name_of : TextWhy → List ℕ
+name_of NotUtf8 = codes "NotUtf8"
+name_of BadToken = codes "BadToken"
+name_of OpenComment = codes "OpenComment"
+name_of OpenString = codes "OpenString"
+name_of BadEscape = codes "BadEscape"
+name_of Expected = codes "Expected"
+name_of UnknownWord = codes "UnknownWord"
+name_of BadInteger = codes "BadInteger"
+name_of BadName = codes "BadName"
+name_of UnknownId = codes "UnknownId"
+name_of RepeatedId = codes "RepeatedId"
+name_of TypeUse = codes "TypeUse"
+name_of ImportPlace = codes "ImportPlace"
+name_of SecondStart = codes "SecondStart"
+name_of NotConst = codes "NotConst"
+name_of BadAlign = codes "BadAlign"
+name_of LabelEnd = codes "LabelEnd"
+name_of TooManyLocals = codes "TooManyLocals"
+name_of Float = codes "Float"
+name_of Memory = codes "Memory"
+
+-- the refusals of tokens in a text that is UTF-8
+abbrev pub IsOfTokens : TextWhy → Type 0
+IsOfTokens BadToken = Unit {0}
+IsOfTokens OpenComment = Unit {0}
+IsOfTokens OpenString = Unit {0}
+IsOfTokens BadEscape = Unit {0}
+IsOfTokens _ = ⊥
+
+-- what is missing would stand at the end of the text
+abbrev pub IsOfTheEnd : TextWhy → Type 0
+IsOfTheEnd why = (why ≡ OpenComment) ⊎ (why ≡ OpenString)
+
+-- an atom or a string is wrong
+abbrev pub IsOfAToken : TextWhy → Type 0
+IsOfAToken why = (why ≡ BadToken) ⊎ (why ≡ BadEscape)

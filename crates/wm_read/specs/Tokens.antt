@@ -1,0 +1,153 @@
+-- The tokens of a text (sections 6.2 and 6.3). A text is the list of its bytes; a byte of an ASCII character is that character.
+use Rattle.std.specs.Prelude.{◌≡◌, ◌≢◌, ℕ, ◌+◌, ◌-◌, ◌*◌, ◌<◌, ◌⊎◌, ◌==◌, ◌&&◌, ◌||◌, not, List, [], ◌∷◌, ◌++◌, Bool, false, Option, Some, None, IsTrue, IsFalse, IsUtf8, if◌then◌else◌, flat_map, codes, length, fold, nat_le, nat_lt, encode_utf8}
+use Rattle.std.specs.List.{list_any, list_all, AllByRecursion}
+use Rattle.wm_syntax.specs.Spelling.{Form, Byte, Exactly, Each, ◌▸◌, ◌∣◌}
+
+-- A token (section 6.2.2): a parenthesis; a string, by the bytes that it means; or an atom, by its characters.
+pub data Token : Type 0 where
+  open_paren : Token
+  close_paren : Token
+  string : List ℕ → Token
+  atom : List ℕ → Token
+
+-- space, tab, line feed, carriage return (section 6.2.3)
+abbrev pub is_space : ℕ → Bool
+is_space c = (c == 32) || (c == 9) || (c == 10) || (c == 13)
+
+-- a line comment (section 6.2.4), without the line feed that ends it
+abbrev pub LineComment : Form ℕ
+LineComment = Exactly (codes ";;") ▸ (λ b. AllByRecursion (λ c. c ≢ 10) b)
+
+-- ;) or (; stands here
+abbrev pub opens_or_ends : ℕ → List ℕ → Bool
+opens_or_ends c [] = false
+opens_or_ends c (d ∷ b) = ((c == 59) && (d == 41)) || ((c == 40) && (d == 59))
+
+-- What follows the (; of a block comment (section 6.2.4): its ;), or a byte where neither ;) nor (; stands and then
+-- the rest, or a block comment within it and then the rest.
+pub data CommentRest : List ℕ → Type 0 where
+  ends : {b : List ℕ} → b ≡ codes ";)" → CommentRest b
+  plain : {c : ℕ} {b : List ℕ} → opens_or_ends c b ≡ false → CommentRest b → CommentRest (c ∷ b)
+  nested : {b inner rest : List ℕ} → b ≡ codes "(;" ++ inner ++ rest → CommentRest inner → CommentRest rest → CommentRest b
+
+abbrev pub BlockComment : Form ℕ
+BlockComment = Exactly (codes "(;") ▸ CommentRest
+
+-- one piece of white space (section 6.2.3)
+abbrev pub Blank : Form ℕ
+Blank = (λ b. (c : ℕ) × (b ≡ c ∷ []) × IsTrue (is_space c)) ∣ (LineComment ▸ Byte 10) ∣ BlockComment
+
+-- white space: any number of these
+abbrev pub Space : Form ℕ
+Space b = (parts : List (List ℕ)) × Each (λ part b. (b ≡ part) × Blank part) parts b
+
+-- at the end of the text a line comment may lack its line feed
+abbrev pub LastSpace : Form ℕ
+LastSpace = Space ∣ (Space ▸ LineComment)
+
+-- characters of atoms (section 6.3.5, idchar)
+abbrev pub is_digit : ℕ → Bool
+is_digit c = nat_le 48 c && nat_le c 57
+
+abbrev pub is_lower : ℕ → Bool
+is_lower c = nat_le 97 c && nat_le c 122
+
+abbrev pub is_upper : ℕ → Bool
+is_upper c = nat_le 65 c && nat_le c 90
+
+abbrev pub is_id_char : ℕ → Bool
+is_id_char c = is_digit c || is_lower c || is_upper c || list_any (λ d. c == d) (codes "!#$%&'*+-./:<=>?@\\^_`|~")
+
+-- the value of a digit (section 6.3.1)
+abbrev pub digit_value : ℕ → Option ℕ
+digit_value c = if is_digit c then Some (c - 48) else if nat_le 97 c && nat_le c 102 then Some (c - 87) else if nat_le 65 c && nat_le c 70 then Some (c - 55) else None
+
+-- a digit of this value in a base
+abbrev pub IsDigit : ℕ → ℕ → Form ℕ
+IsDigit base d b = (c : ℕ) × (b ≡ c ∷ []) × (digit_value c ≡ Some d) × (d < base)
+
+-- digits with single underscores between them, and their values (section 6.3.1)
+abbrev pub Digits : ℕ → List ℕ → Form ℕ
+Digits base [] b = ⊥
+Digits base (d ∷ []) b = IsDigit base d b
+Digits base (d ∷ e ∷ ds) b = (IsDigit base d ▸ (Byte 95 ∣ Exactly []) ▸ Digits base (e ∷ ds)) b
+
+-- the number that digits make
+abbrev pub value : ℕ → List ℕ → ℕ
+value base ds = fold (λ n d. n * base + d) 0 ds
+
+-- a number with no sign (section 6.3.1): decimal, or hexadecimal after 0x
+abbrev pub Magnitude : ℕ → Form ℕ
+Magnitude n b =
+    ((ds : List ℕ) × Digits 10 ds b × (n ≡ value 10 ds))
+    ⊎ ((ds : List ℕ) × (Exactly (codes "0x") ▸ Digits 16 ds) b × (n ≡ value 16 ds))
+
+-- an identifier is $ and at least one character (section 6.3.5)
+abbrev pub IsIdentifier : List ℕ → Type 0
+IsIdentifier [] = ⊥
+IsIdentifier (c ∷ a) = (c ≡ 36) × (0 < length a)
+
+-- a number, with a sign or with none (section 6.3.1)
+abbrev pub IsNumber : List ℕ → Type 0
+IsNumber a = (n : ℕ) × (Magnitude n a ⊎ (Byte 43 ▸ Magnitude n) a ⊎ (Byte 45 ▸ Magnitude n) a)
+
+-- a word begins with a lower-case letter (section 6.2.2, keyword)
+abbrev pub IsWord : List ℕ → Type 0
+IsWord [] = ⊥
+IsWord (c ∷ a) = IsTrue (is_lower c)
+
+-- an atom is one of these; other characters in a row are no token (section 6.2.2, reserved)
+abbrev pub IsAtom : List ℕ → Type 0
+IsAtom a = IsTrue (list_all is_id_char a) × (IsIdentifier a ⊎ IsNumber a ⊎ IsWord a)
+
+-- what stands in a string for itself (section 6.3.3): no control character, no ", no \
+abbrev pub is_plain : ℕ → Bool
+is_plain c = nat_le 0x20 c && not (c == 0x7F) && not (c == 34) && not (c == 92)
+
+-- \t \n \r \" \' \\, and the byte that each gives
+abbrev pub short_escapes : List (ℕ × ℕ)
+short_escapes = (116, 0x09) ∷ (110, 0x0A) ∷ (114, 0x0D) ∷ (34, 0x22) ∷ (39, 0x27) ∷ (92, 0x5C) ∷ []
+
+-- the scalar values of Unicode
+abbrev pub is_scalar : ℕ → Bool
+is_scalar c = nat_lt c 0xD800 || (nat_le 0xE000 c && nat_lt c 0x11_0000)
+
+-- One element of a string (section 6.3.3) and the bytes that it gives: a byte for itself; an escape of one letter;
+-- \ and two hexadecimal digits, which give a byte; \u{ and hexadecimal digits and }, which give the UTF-8 of a scalar value.
+abbrev pub Element : List ℕ → Form ℕ
+Element given b =
+    ((c : ℕ) × (given ≡ c ∷ []) × IsTrue (is_plain c) × (b ≡ c ∷ []))
+    ⊎ ((letter c : ℕ) × (given ≡ c ∷ []) × IsTrue (list_any (λ e. (e.0 == letter) && (e.1 == c)) short_escapes) × (b ≡ 92 ∷ letter ∷ []))
+    ⊎ ((h l : ℕ) × (given ≡ (h * 16 + l) ∷ []) × (Byte 92 ▸ IsDigit 16 h ▸ IsDigit 16 l) b)
+    ⊎ ((ds : List ℕ) × (given ≡ encode_utf8 (value 16 ds)) × IsTrue (is_scalar (value 16 ds))
+    × (Exactly (codes "\\u{") ▸ Digits 16 ds ▸ Byte 125) b)
+
+-- a string (section 6.3.3): its elements between quotation marks
+abbrev pub String : List ℕ → Form ℕ
+String bytes b = (parts : List (List ℕ)) × (bytes ≡ flat_map (λ part. part) parts) × (Byte 34 ▸ Each Element parts ▸ Byte 34) b
+
+-- the text of a token
+abbrev pub TokenText : Token → Form ℕ
+TokenText open_paren = Byte 40
+TokenText close_paren = Byte 41
+TokenText (string bytes) = String bytes
+TokenText (atom a) = λ b. (b ≡ a) × IsAtom a
+
+-- What may follow a token: an atom is as long as it can be (section 6.2.2), and (; opens a comment (section 6.2.4).
+abbrev pub Ends : Token → List ℕ → Type 0
+Ends (atom a) (c ∷ rest) = IsFalse (is_id_char c)
+Ends open_paren (c ∷ rest) = IsFalse (c == 59)
+Ends _ _ = Unit {0}
+
+-- white space and these tokens by turns, white space first and last
+abbrev pub AreTokens : List Token → Form ℕ
+AreTokens [] = LastSpace
+AreTokens (t ∷ k) = Space ▸ (λ b. (text rest : List ℕ) × (b ≡ text ++ rest) × TokenText t text × Ends t rest × AreTokens k rest)
+
+-- The text is UTF-8 and these are its tokens (section 6.2.2). What is not ASCII stands in comments and strings alone.
+abbrev pub Tokens : List ℕ → List Token → Type 0
+Tokens text k = IsUtf8 text × AreTokens k text
+
+-- neither white space nor a token begins here
+abbrev pub BeginsNothing : List ℕ → Type 0
+BeginsNothing b = (part rest : List ℕ) → b ≡ part ++ rest → (Blank part → ⊥) × ((t : Token) → TokenText t part → Ends t rest → ⊥)
