@@ -5,7 +5,7 @@ use Rattle.wm_read.specs.Tokens.{Token, open_paren, close_paren, string, atom, E
 use Rattle.wm_read.specs.exact.Scan.{ahead, blank, first, fault, tokens_of, is_some}
 use Rattle.std.specs.Prelude.{Result, Ok, Err, IfErr}
 use Rattle.wm_read.specs.Faults.{IsOfTheEnd, IsOfAToken}
-use Rattle.wm_read.specs.declared.faults.TextFault.{TextFault}
+use Rattle.wm_read.specs.declared.faults.TextRefusal.{TextRefusal}
 use Rattle.wm_read.specs.declared.faults.TextWhy.{TextWhy}
 use Rattle.wm_read.specs.declared.faults.TextWhy.TheVariants.{OpenComment, OpenString}
 use Rattle.wm_read.specs.inner.Places.{HasTokens, Before, IsPlace}
@@ -96,6 +96,6 @@ begins_nothing b none part rest e = (
   (λ t is ends. let f : first t rest ≡ fault = sym (ahead_token t part rest is ends) ∙ ap ahead (sym e) ∙ none in cc),
 )
 
-pub token_at_err : (text : List ℕ) (r : Result (Unit {0}) TextFault) → IfErr r (λ e. IsPlace text e) → IfErr r (λ e. IsOfAToken e.why → ((k : List Token) × AreTokens k (take e.at text)) × BeginsNothing (drop e.at text))
+pub token_at_err : (text : List ℕ) (r : Result (Unit {0}) TextRefusal) → IfErr r (λ e. IsPlace text e) → IfErr r (λ e. IsOfAToken e.why → ((k : List Token) × AreTokens k (take e.at text)) × BeginsNothing (drop e.at text))
 token_at_err text (Ok x) h = tt
 token_at_err text (Err e) h = λ w. (has_them (take e.at text) (h.2 w).0, begins_nothing (drop e.at text) (h.2 w).1)

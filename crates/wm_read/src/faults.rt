@@ -117,20 +117,20 @@ impl Error for TextWhy {}
 
 /// Where and why a text is refused.
 #[derive(Clone, Copy, Debug, PartialEq, Eq)]
-pub struct TextFault {
+pub struct TextRefusal {
     /// How many bytes stand before the token that decided it; the length of the text where its end did.
     pub at: usize,
     pub why: TextWhy,
 }
 
-impl fmt::Display for TextFault {
+impl fmt::Display for TextRefusal {
     fn fmt<W: fmt::Write>(&self, f: &mut fmt::Formatter<W>) -> fmt::Result {
-        let TextFault { at, why } = self;
+        let TextRefusal { at, why } = self;
         write!(f, "text refused at {at}: {} ({why})", why.name())
     }
 }
 
-impl Error for TextFault {}
+impl Error for TextRefusal {}
 
 #[cfg(test)]
 mod tests;

@@ -10,7 +10,7 @@ ghost use Rattle.wm_read.specs.declared.scan.Mode.TheVariants as mode;
 ghost use Rattle.wm_read.specs.inner.Lexemes.{token_of, bytes_of, ahead_of, FaultOfTokens};
 ghost use Rattle.wm_read.specs.inner.Places.{Before, IsPlace};
 
-use crate::faults::{TextFault, TextWhy};
+use crate::faults::{TextRefusal, TextWhy};
 use crate::scan::{
     Class, Mode, Step, after_comment, after_line, after_string, atom_len, class_of, is_atom,
     string_step,
@@ -149,7 +149,7 @@ pub fn next_token(text: &[u8]) -> Option<(Lexeme, &[u8])>
 /// A text that is no UTF-8 is refused at the first byte that is none. Otherwise the first fault is told: at the first
 /// byte of the atom or string that has it, or at the text's length where a comment or a string does not end.
 #[tactic(auto, using(crate::proofs::Whole::stand_has))]
-pub fn check_tokens(text: &[u8]) -> Result<(), TextFault>
+pub fn check_tokens(text: &[u8]) -> Result<(), TextRefusal>
     ensures ok { OnOk result (tokens.Tokens text.now (scan.lexed text.now)) }
     ensures err { OnErr result ((k : List tokens.Token) → tokens.Tokens text.now k → ⊥) }
     ensures why { IfErr result (λ e. (e.why ≡ NotUtf8) ⊎ IsOfTokens e.why) }
@@ -163,7 +163,7 @@ pub fn check_tokens(text: &[u8]) -> Result<(), TextFault>
 {
     match std::str::from_utf8(text) {
         Ok(_) => check_whole(text),
-        Err(error) => Err(TextFault {
+        Err(error) => Err(TextRefusal {
             at: error.valid_up_to(),
             why: TextWhy::NotUtf8,
         }),
@@ -172,7 +172,7 @@ pub fn check_tokens(text: &[u8]) -> Result<(), TextFault>
 
 /// Whether a whole text is made of tokens.
 #[tactic(auto, using(crate::proofs::Whole::stand_laws, crate::proofs::Places::place_laws))]
-fn check_whole(text: &[u8]) -> Result<(), TextFault>
+fn check_whole(text: &[u8]) -> Result<(), TextRefusal>
     ensures tokens { MatchResult result (λ _. scan.has_tokens text.now ≡ true)
         (λ _. scan.has_tokens text.now ≡ false) }
     ensures why { IfErr result (λ e. IsOfTokens e.why) }
@@ -191,7 +191,7 @@ fn check_whole(text: &[u8]) -> Result<(), TextFault>
 
 /// The fault of what stands first in the rest of a text.
 #[tactic(auto, using(crate::proofs::Places::fault_laws))]
-fn fault(text: &[u8], rest: &[u8], why: TextWhy) -> TextFault
+fn fault(text: &[u8], rest: &[u8], why: TextWhy) -> TextRefusal
     requires before { Before text.now rest.now }
     requires none { scan.fault ≡ scan.ahead rest.now }
     ensures why { result.why ≡ why }
@@ -201,7 +201,7 @@ fn fault(text: &[u8], rest: &[u8], why: TextWhy) -> TextFault
         TextWhy::OpenComment | TextWhy::OpenString => text.len(),
         _ => text.len() - rest.len(),
     };
-    TextFault { at, why }
+    TextRefusal { at, why }
 }
 
 /// The bytes of a string (section 6.3.3), from what stands between its quotation marks.

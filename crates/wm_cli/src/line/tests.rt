@@ -136,7 +136,10 @@ fn wrong_words_are_named(rt: HostRuntime) -> Result<(), Fail> {
             &["wmod", "run", "--limit", "x"],
             "'run' is no action: check, stats, canon",
         ),
-        (&["wmod", "CHECK"], "'CHECK' is no action: check, stats, canon"),
+        (
+            &["wmod", "CHECK"],
+            "'CHECK' is no action: check, stats, canon",
+        ),
         (
             &["wmod", "check", "--limit", "0x10"],
             "'0x10' is no limit: decimal digits, at most 4611686018427387904",

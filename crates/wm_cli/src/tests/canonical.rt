@@ -21,8 +21,7 @@ fn expect_canonical(rt: &impl Abort, alloc: Global, rows: &[Row<'_>]) -> Result<
         let input = bytes_of(alloc, &HEADER, sections)?;
         let wanted = bytes_of(alloc, &HEADER, wanted)?;
         for most in [4096, 1, 7] {
-            let (status, written) =
-                output_of(alloc, Action::Canon, input.as_slice(), most, LIMIT);
+            let (status, written) = output_of(alloc, Action::Canon, input.as_slice(), most, LIMIT);
             assert_eq!(rt; status, Status::Done);
             assert_eq!(rt; written.as_slice(), wanted.as_slice(), "of {sections:?}");
         }
@@ -37,12 +36,18 @@ fn expect_canonical(rt: &impl Abort, alloc: Global, rows: &[Row<'_>]) -> Result<
 #[test]
 fn empty_sections_and_custom_sections_are_left_out(rt: HostRuntime) -> Result<(), Fail> {
     let rows: [Row<'_>; 5] = [
-        (&[], &[]),
-        (&["01 01 00"], &[]),
-        (&["03 01 00", "0A 01 00"], &[]),
-        (&["00 05 04 6E 61 6D 65"], &[]),
+        (&[""], &[""]),
+        (&["01 01 00"], &[""]),
+        (&["03 01 00", "0A 01 00"], &[""]),
+        (&["00 05 04 6E 61 6D 65"], &[""]),
         (
-            &["00 02 01 61", NOTHING, "00 03 01 62 FF", "04 01 00", "05 03 01 00 01"],
+            &[
+                "00 02 01 61",
+                NOTHING,
+                "00 03 01 62 FF",
+                "04 01 00",
+                "05 03 01 00 01",
+            ],
             &[NOTHING, "05 03 01 00 01"],
         ),
     ];
@@ -53,14 +58,25 @@ fn empty_sections_and_custom_sections_are_left_out(rt: HostRuntime) -> Result<()
 fn numbers_are_the_shortest(rt: HostRuntime) -> Result<(), Fail> {
     let rows: [Row<'_>; 4] = [
         (
-            &["01 87 80 80 80 00 01 60 02 7F 7F 01 7F", ONE, "0A 09 01 07 00 20 00 20 01 6A 0B"],
-            &["01 07 01 60 02 7F 7F 01 7F", ONE, "0A 09 01 07 00 20 00 20 01 6A 0B"],
+            &[
+                "01 87 80 80 80 00 01 60 02 7F 7F 01 7F",
+                ONE,
+                "0A 09 01 07 00 20 00 20 01 6A 0B",
+            ],
+            &[
+                "01 07 01 60 02 7F 7F 01 7F",
+                ONE,
+                "0A 09 01 07 00 20 00 20 01 6A 0B",
+            ],
         ),
         (
             &["06 0A 01 7F 00 41 80 80 80 80 78 0B"],
             &["06 0A 01 7F 00 41 80 80 80 80 78 0B"],
         ),
-        (&["06 08 01 7F 00 41 FF FF 7F 0B"], &["06 06 01 7F 00 41 7F 0B"]),
+        (
+            &["06 08 01 7F 00 41 FF FF 7F 0B"],
+            &["06 06 01 7F 00 41 7F 0B"],
+        ),
         (
             &["06 0F 01 7E 01 42 80 80 80 80 80 80 80 80 80 00 0B"],
             &["06 06 01 7E 01 42 00 0B"],
@@ -74,7 +90,11 @@ fn bodies(rt: HostRuntime) -> Result<(), Fail> {
     let rows: [Row<'_>; 4] = [
         // runs of one type are joined, and runs of none left out
         (
-            &["01 05 01 60 00 01 7F", ONE, "0A 0C 01 0A 03 01 7F 00 7E 02 7F 41 00 0B"],
+            &[
+                "01 05 01 60 00 01 7F",
+                ONE,
+                "0A 0C 01 0A 03 01 7F 00 7E 02 7F 41 00 0B",
+            ],
             &["01 05 01 60 00 01 7F", ONE, "0A 08 01 06 01 03 7F 41 00 0B"],
         ),
         // an else before an empty second branch is left out, another one stays
@@ -88,8 +108,16 @@ fn bodies(rt: HostRuntime) -> Result<(), Fail> {
         ),
         // two bodies stay in their order
         (
-            &["01 08 02 60 00 00 60 00 01 7E", "03 03 02 00 01", "0A 0B 02 03 00 01 0B 05 00 42 80 00 0B"],
-            &["01 08 02 60 00 00 60 00 01 7E", "03 03 02 00 01", "0A 0A 02 03 00 01 0B 04 00 42 00 0B"],
+            &[
+                "01 08 02 60 00 00 60 00 01 7E",
+                "03 03 02 00 01",
+                "0A 0B 02 03 00 01 0B 05 00 42 80 00 0B",
+            ],
+            &[
+                "01 08 02 60 00 00 60 00 01 7E",
+                "03 03 02 00 01",
+                "0A 0A 02 03 00 01 0B 04 00 42 00 0B",
+            ],
         ),
     ];
     expect_canonical(&rt, rt.alloc(), &rows)

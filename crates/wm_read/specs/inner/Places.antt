@@ -3,7 +3,7 @@ use Rattle.std.specs.Prelude.{◌≡◌, ◌≤◌, ℕ, List, ◌++◌, true, l
 use Rattle.wm_read.specs.Faults.{IsOfTheEnd, IsOfAToken}
 use Rattle.wm_read.specs.exact.Scan.{ahead, has_tokens}
 use Rattle.wm_read.specs.exact.Scan as scan
-use Rattle.wm_read.specs.declared.faults.TextFault.{TextFault}
+use Rattle.wm_read.specs.declared.faults.TextRefusal.{TextRefusal}
 
 -- a text has tokens
 abbrev pub HasTokens : List ℕ → Type 0
@@ -15,7 +15,7 @@ Before text rest =
     (part : List ℕ) × (text ≡ part ++ rest)
     × ((front back : List ℕ) → rest ≡ front ++ back → HasTokens front → HasTokens (part ++ front))
 
-abbrev pub IsPlace : List ℕ → TextFault → Type 0
+abbrev pub IsPlace : List ℕ → TextRefusal → Type 0
 IsPlace text fault =
     (fault.at ≤ length text)
     × (IsOfTheEnd fault.why → fault.at ≡ length text)

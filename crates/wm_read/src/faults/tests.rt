@@ -4,7 +4,7 @@ use super::*;
 use std::alloc::Global;
 use std::test::Fail;
 
-fn text_of(alloc: Global, fault: TextFault) -> Result<String, Fail> {
+fn text_of(alloc: Global, fault: TextRefusal) -> Result<String, Fail> {
     Ok(format!(in alloc; "{fault}")?)
 }
 
@@ -39,7 +39,7 @@ fn printed_names(rt: HostRuntime) {
 
 #[test]
 fn sentences(rt: HostRuntime) -> Result<(), Fail> {
-    let fault = TextFault {
+    let fault = TextRefusal {
         at: 7,
         why: TextWhy::BadToken,
     };

@@ -143,7 +143,11 @@ fn strings(rt: HostRuntime) -> Result<(), Fail> {
 
 /// The text is refused so.
 fn expect_fault(rt: &impl Abort, text: &[u8], why: TextWhy, at: usize) {
-    assert_eq!(rt; check_tokens(text), Err(TextFault { at, why }), "{text:?}");
+    assert_eq!(rt;
+        check_tokens(text),
+        Err(TextRefusal { at, why }),
+        "{text:?}"
+    );
 }
 
 #[test]

@@ -55,6 +55,6 @@ pub returns-in-Ok-load_from-clause-answered : goal.returns-in-Ok-load_from-claus
 returns-in-Ok-load_from-clause-answered g c = λ o m.
     let checked = c.in-Ok-load_from.checked in
     let out =
-        out_of_loaded c.args.action c.args.profile c.args.limit (g.R.Source.remaining c.args.r.now) (g.R.Source.remaining c.load_from.new.r) checked
-        c.in-Canon.is c.in-Ok-load_from.ensures.loaded
+    out_of_loaded c.args.action c.args.profile c.args.limit (g.R.Source.remaining c.args.r.now) (g.R.Source.remaining c.load_from.new.r) checked
+    c.in-Canon.is c.in-Ok-load_from.ensures.loaded
     in (canon (value_of (module_in checked)), status.Done, out.0, out.1, c.write_canonical.ensures)
