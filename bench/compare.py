@@ -3,8 +3,8 @@
 
 For each shape it makes a module of 7 MB, and prints MB/s of processor time (medians of five runs, all programs in
 turn), instructions a byte where valgrind is there, and the peak memory of wmod. With `--growth` it makes modules of
-2 MB and 8 MB and prints how many times the time a byte grows. With `--canon` it measures `wmod canon` on the two: MB/s,
-that growth, the peak memory, and how many bytes of memory a byte of the module takes.
+2 MB and 8 MB and prints how many times the time a byte grows. With `--canon` or `--show` it measures that action on the
+two: MB/s, that growth, the peak memory, and how many bytes of memory a byte of the module takes.
 """
 import json
 import os
@@ -130,12 +130,12 @@ def growth(shape, folder, action):
     return ratios[1] / ratios[0], os.path.getsize(path), seconds, peak
 
 
-def canon_row(shape, folder):
-    grown, size, seconds, peak = growth(shape, folder, "canon")
+def writing_row(shape, folder, action):
+    grown, size, seconds, peak = growth(shape, folder, action)
     header = os.path.join(folder, "header.wasm")
     with open(header, "wb") as file:
         file.write(make_module.HEADER)
-    _, least = medians([[str(PROGRAM), "canon", header]])
+    _, least = medians([[str(PROGRAM), action, header]])
     taken = (peak - least) * 1024 / size
     return [shape.replace("_", " "), speed(size, seconds), f"{grown:.2f}", f"{peak / 1024:.0f}", f"{taken:.1f}"]
 
@@ -156,10 +156,11 @@ def main():
             for shape in shapes:
                 print(f"{shape.replace('_', ' ')}: {growth(shape, folder, 'check')[0]:.2f}", flush=True)
             return
-        if "--canon" in sys.argv:
-            heads = ["Shape", "MB/s", "time a byte, 8 MB to 2 MB", "peak MiB", "bytes of memory a byte"]
-            print_table(heads, (canon_row(shape, folder) for shape in shapes))
-            return
+        for action in ("canon", "show"):
+            if f"--{action}" in sys.argv:
+                heads = ["Shape", "MB/s", "time a byte, 8 MB to 2 MB", "peak MiB", "bytes of memory a byte"]
+                print_table(heads, (writing_row(shape, folder, action) for shape in shapes))
+                return
         others = [["wasm-validate"]] if shutil.which("wasm-validate") else []
         heads = ["Shape", "MB", "wmod MB/s"]
         heads += ["node MB/s"] if shutil.which("node") else []

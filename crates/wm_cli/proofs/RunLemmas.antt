@@ -10,18 +10,19 @@ use Rattle.wm_syntax.specs.declared.why.Why.TheVariants.{Memory}
 use Rattle.wm_decode.specs.declared.refusal.Refusal.{Refusal}
 use Rattle.wm_cli.specs.declared.status.Status.{Status}
 use Rattle.wm_cli.specs.declared.status.Status.TheVariants as status
-use Rattle.wm_cli.specs.declared.words.Action.TheVariants.{Canon}
+use Rattle.wm_cli.specs.declared.words.Action.TheVariants.{Canon, Show}
 use Rattle.wm_cli.specs.Answers.{IsAnswered}
 use Rattle.wm_syntax.specs.Modules.{Module}
 use Rattle.wm_syntax.specs.Values.{value_of}
-use Rattle.wm_rules.specs.Loading.{IsLoaded}
+use Rattle.wm_rules.specs.Loading.{IsLoaded, Loads}
 use Rattle.wm_rules.specs.declared.loader.state.Checked.{Checked}
 use Rattle.wm_rules.specs.inner.Loaders.{module_in}
 use Rattle.wm_write.specs.Canon.{Fits, canon}
+use Rattle.wm_write.specs.Layout.{layout}
 use Rattle.wm_write.proofs.Shortest.{spelled_fits}
 use Rattle.wm_cli.specs.declared.words.Action.{Action}
 use Rattle.wm_rules.specs.Reading.{LoadedInput, RefusedInput}
-use Rattle.wm_cli.specs.Outcome.{IsOutput, IsRightFor, OutOf, refusal_line}
+use Rattle.wm_cli.specs.Outcome.{IsOutput, IsReport, IsRightFor, OutOf, Reports, refusal_line}
 use Rattle.wm_rules.specs.Validation.{Accepted}
 use Rattle.wm_rules.specs.Validating.{NeverAccepted}
 use Rattle.wm_rules.specs.inner.Validators.{verdict}
@@ -50,24 +51,34 @@ out_of_refusal action p limit (Some input) left r why j =
       | inr e ↦ inl (e.0, refused_out action p limit input r why e.1 (omega (arith, j.place)) (j.same why))
     ]
 
--- a module that was loaded, and its canonical binary
-loaded_out : (p : Profile) (limit : ℕ) (all left : Option (List ℕ)) (c : Checked) → IfSome all (λ input. LoadedInput p limit input left c)
-    → IfSome all (λ input. IsRightFor Canon p limit input left (canon (value_of (module_in c))) status.Done)
-loaded_out p limit None left c j = tt
-loaded_out p limit (Some input) left c j =
+-- an action that writes this of a module that it loaded
+pub record WritesOf (action : Action) (form : Module → List ℕ) : Type 0 where
+  pub reports : (p : Profile) (limit : ℕ) (input : List ℕ) (m : Module) → Loads p limit input m → Reports action p limit input (form m)
+  pub report : (m : Module) → IsReport action (form m)
+
+pub writes_canon : (action : Action) → action ≡ Canon → WritesOf action canon
+writes_canon action is =
+    subst (λ a. WritesOf a canon) (sym is) (record { reports = λ p limit input m l. (m, l, refl); report = λ m. (m, refl) })
+
+pub writes_layout : (action : Action) → action ≡ Show → WritesOf action layout
+writes_layout action is =
+    subst (λ a. WritesOf a layout) (sym is) (record { reports = λ p limit input m l. (m, l, refl); report = λ m. (m, refl) })
+
+-- a module that was loaded, and what is written of it
+loaded_out : (action : Action) (form : Module → List ℕ) → WritesOf action form → (p : Profile) (limit : ℕ) (all left : Option (List ℕ)) (c : Checked)
+    → IfSome all (λ input. LoadedInput p limit input left c)
+    → IfSome all (λ input. IsRightFor action p limit input left (form (value_of (module_in c))) status.Done)
+loaded_out action form w p limit None left c j = tt
+loaded_out action form w p limit (Some input) left c j =
     let m = value_of (module_in c) in
     let accepted : Accepted p limit input = record { module_value = m; spelled = j.loads.spelled; of_profile = j.loads.of_profile; valid = j.loads.valid } in
-    inl (j.at_end, inl (accepted, (m, j.loads, refl), refl))
+    inl (j.at_end, inl (accepted, w.reports p limit input m j.loads, refl))
 
-pub out_of_loaded : (action : Action) (p : Profile) (limit : ℕ) (all left : Option (List ℕ)) (c : Checked) → action ≡ Canon
+pub out_of_loaded : (action : Action) (form : Module → List ℕ) → WritesOf action form → (p : Profile) (limit : ℕ) (all left : Option (List ℕ)) (c : Checked)
     → IfSome all (λ input. LoadedInput p limit input left c)
-    → IsOutput action (canon (value_of (module_in c))) status.Done
-    × IfSome all (λ input. IsRightFor action p limit input left (canon (value_of (module_in c))) status.Done)
-out_of_loaded action p limit all left c is j =
-    let text = canon (value_of (module_in c)) in (
-      subst (λ a. IsOutput a text status.Done) (sym is) (inl ((value_of (module_in c), refl), refl)),
-      subst (λ a. IfSome all (λ input. IsRightFor a p limit input left text status.Done)) (sym is) (loaded_out p limit all left c j),
-    )
+    → IsOutput action (form (value_of (module_in c))) status.Done
+    × IfSome all (λ input. IsRightFor action p limit input left (form (value_of (module_in c))) status.Done)
+out_of_loaded action form w p limit all left c j = (inl (w.report (value_of (module_in c)), refl), loaded_out action form w p limit all left c j)
 
 -- what was loaded is not too large
 pub loaded_fits : (m : Module) → ∥ IsLoaded m ∥₁ → (¬ Fits m) → ⊥

@@ -7,13 +7,14 @@ use Rattle.wm_syntax.specs.Refusals.{name_of}
 use Rattle.wm_cli.specs.declared.status.Status.{Status}
 use Rattle.wm_cli.specs.declared.status.Status.TheVariants.{Done, Refused}
 use Rattle.wm_cli.specs.declared.words.Action.{Action}
-use Rattle.wm_cli.specs.declared.words.Action.TheVariants.{Check, Stats, Canon}
+use Rattle.wm_cli.specs.declared.words.Action.TheVariants.{Check, Stats, Canon, Show}
 use Rattle.std.specs.Io.KnownBytes.{IsAtEnd}
 use Rattle.wm_rules.specs.declared.checker.Summary.{Summary}
 use Rattle.wm_rules.specs.Bounds.{SummaryOf}
 use Rattle.wm_rules.specs.Loading.{Loads}
 use Rattle.wm_syntax.specs.Modules.{Module}
 use Rattle.wm_write.specs.Canon.{canon}
+use Rattle.wm_write.specs.Layout.{layout}
 use Rattle.wm_rules.specs.inner.Validators.{verdict}
 use Rattle.wm_rules.specs.Validation.{Accepted}
 use Rattle.wm_decode.specs.declared.refusal.Refusal.{Refusal}
@@ -39,13 +40,14 @@ stats_text s =
 abbrev pub refusal_line : ℕ → Why → List ℕ
 refusal_line place why = codes "refused at " ++ (decimal place ++ (codes ": " ++ (name_of why ++ 10 ∷ [])))
 
--- What an action writes for an accepted input: `valid`; the figures of its summary, which the bytes alone determine; or the
--- canonical binary of the module that it spells (section 5.5.15).
+-- What an action writes for an accepted input: `valid`; the figures of its summary, which the bytes alone determine; the
+-- canonical binary of the module that it spells (section 5.5.15); or the printed text of that module (chapter 6).
 abbrev pub Reports : Action → Profile → ℕ → List ℕ → List ℕ → Type 0
 Reports Check p limit input written = written ≡ valid_line
 Reports Stats p limit input written =
     (s : Summary) × SummaryOf p limit input s × (verdict p limit input ≡ Ok s) × (written ≡ stats_text s)
 Reports Canon p limit input written = (m : Module) × Loads p limit input m × (written ≡ canon m)
+Reports Show p limit input written = (m : Module) × Loads p limit input m × (written ≡ layout m)
 
 -- Of an action: its report where the input is accepted, and else one refusal, other than for memory, at a place within it,
 -- which the bytes alone determine.
@@ -68,6 +70,7 @@ abbrev pub IsReport : Action → List ℕ → Type 0
 IsReport Check written = written ≡ valid_line
 IsReport Stats written = (s : Summary) × (written ≡ stats_text s)
 IsReport Canon written = (m : Module) × (written ≡ canon m)
+IsReport Show written = (m : Module) × (written ≡ layout m)
 
 -- one of the texts that an action writes, and the status that goes with it
 abbrev pub IsOutput : Action → List ℕ → Status → Type 0

@@ -40,6 +40,7 @@ fn action_of(text: &str) -> Option<Action>
         "check" => Some(Action::Check),
         "stats" => Some(Action::Stats),
         "canon" => Some(Action::Canon),
+        "show" => Some(Action::Show),
         _ => None,
     }
 }
@@ -59,7 +60,8 @@ const ABOUT: &str =
     "Checks and converts WebAssembly 1.0 modules (integer instructions only), reading them once.\n\n  \
     check   write `valid`, or why not and where\n  \
     stats   write figures of a valid module's function bodies\n  \
-    canon   write a valid module as its canonical binary: shortest numbers, no custom sections";
+    canon   write a valid module as its canonical binary: shortest numbers, no custom sections\n  \
+    show    write a valid module as text: a field a line, and in a function an instruction a line";
 
 const ANSWERS: &str =
     "Writes `refused at N: NAME` of any other input: N bytes were read when it was decided.\n\
@@ -68,7 +70,8 @@ const ANSWERS: &str =
     Examples:\n  \
     wmod check module.wasm\n  \
     wmod stats --limit 1000000 < module.wasm\n  \
-    wmod canon module.wasm > canonical.wasm";
+    wmod canon module.wasm > canonical.wasm\n  \
+    wmod show module.wasm > module.wat";
 
 fn action_arg<'a>(alloc: Global) -> Arg<'a>
     ensures rule { rule_of result ≡ action_rule }
@@ -77,7 +80,7 @@ fn action_arg<'a>(alloc: Global) -> Arg<'a>
     Arg::new(alloc, "ACTION")
         .required(true)
         .action(ArgAction::Set)
-        .help("check, stats or canon")
+        .help("check, stats, canon or show")
 }
 
 fn profile_arg<'a>(alloc: Global) -> Arg<'a>
@@ -204,7 +207,10 @@ pub enum WrongWord<'a> {
 impl fmt::Display for WrongWord<'_> {
     fn fmt<W: fmt::Write>(&self, f: &mut fmt::Formatter<W>) -> fmt::Result {
         match self {
-            WrongWord::Action(word) => write!(f, "'{word}' is no action: check, stats, canon"),
+            WrongWord::Action(word) => write!(
+                f,
+                "'{word}' is no action: check, stats, canon, show"
+            ),
             WrongWord::Profile(word) => write!(f, "'{word}' is no profile: 1, 2"),
             WrongWord::Limit(word) => {
                 write!(

@@ -4,6 +4,7 @@ ghost use Rattle.std.specs.Prelude.{◌≡◌, ◌≢◌, ◌≤◌, ◌^◌, �
 ghost use Rattle.wm_syntax.specs.Values.{value_of};
 ghost use Rattle.wm_rules.specs.inner.Loaders.{module_in};
 ghost use Rattle.wm_write.specs.Canon.{canon};
+ghost use Rattle.wm_write.specs.Layout.{layout};
 ghost use Rattle.wm_cli.specs.Answers.{IsAnswered};
 ghost use Rattle.wm_cli.specs.declared.status.Status.{Status};
 ghost use Rattle.wm_cli.specs.Outcome.{IsRightFor, IsOutput, refusal_line, stats_text};
@@ -18,6 +19,7 @@ use wm_syntax::io::{Dest, Source};
 use wm_syntax::profile::Profile;
 use wm_syntax::why::Why;
 use wm_write::encode::{WriteFault, encode};
+use wm_write::print::{PrintFault, print};
 
 /// Reads the input to its end, or to where it is refused, does what the action says, and writes the answer, a
 /// refusal too. Where memory was refused or the reader failed nothing is written.
@@ -54,6 +56,11 @@ pub fn run<R: Source, W: Dest>(
         },
         Action::Canon => match load_from(alloc, r, profile, limit) {
             Ok(checked) => write_canonical(&checked, w),
+            Err(FromFault::Refused(refusal)) => refuse(alloc, refusal, w),
+            Err(FromFault::Io) => Status::Io,
+        },
+        Action::Show => match load_from(alloc, r, profile, limit) {
+            Ok(checked) => write_text(&checked, w),
             Err(FromFault::Refused(refusal)) => refuse(alloc, refusal, w),
             Err(FromFault::Io) => Status::Io,
         },
@@ -113,6 +120,18 @@ fn write_canonical<W: Dest>(checked: &Checked, w: &mut W) -> Status
         // no module that was loaded is too large
         Err(WriteFault::TooLarge) => Status::Io,
         Err(WriteFault::Io { written: _ }) => Status::Io,
+    }
+}
+
+/// Writes the text of a module, and flushes.
+fn write_text<W: Dest>(checked: &Checked, w: &mut W) -> Status
+    requires { W.has_failed w.old ≡ false }
+    ensures { IsAnswered (layout (value_of (module_in checked.now))) Status.Done (W.contents w.old) (W.contents w.new)
+        (W.has_failed w.new) result }
+{
+    match print(checked, w) {
+        Ok(()) => answer(w, b"", Status::Done),
+        Err(PrintFault::Io) => Status::Io,
     }
 }
 

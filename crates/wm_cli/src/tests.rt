@@ -4,6 +4,7 @@ mod canonical;
 mod modules;
 mod profiles;
 mod refusals;
+mod shown;
 
 use crate::run::{run, run_line};
 use crate::status::{Status, exit_code};
@@ -193,14 +194,20 @@ fn a_reader_that_fails(rt: HostRuntime) {
 
 #[test]
 fn a_writer_that_fails(rt: HostRuntime) {
-    for (most, wanted) in [(0, ""), (3, "val"), (6, "valid\n"), (9, "valid\n")] {
+    for (action, most, wanted) in [
+        (Action::Check, 0, ""),
+        (Action::Check, 3, "val"),
+        (Action::Check, 6, "valid\n"),
+        (Action::Check, 9, "valid\n"),
+        (Action::Show, 3, "(mo"),
+    ] {
         let taken = Vec::new(rt.alloc());
         let mut dest = Output::new(Narrow { taken, most });
         let rest = HEADER.as_slice();
         let mut source = Input::new(Pieces { rest, most: 4096 });
         let status = run(
             rt.alloc(),
-            Action::Check,
+            action,
             Profile::One,
             LIMIT,
             &mut source,

@@ -17,6 +17,8 @@ pub enum Action {
     Stats,
     /// Write its canonical binary, where it is valid.
     Canon,
+    /// Write its text, where it is valid.
+    Show,
 }
 
 /// The words, read.

@@ -27,6 +27,7 @@ use Rattle.wm_decode.specs.declared.expressions.InExpression.TheVariants as expr
 use Rattle.wm_decode.specs.declared.ops.InOp.{InOp}
 use Rattle.wm_decode.specs.declared.ops.InOp.TheVariants as in_op
 use Rattle.wm_decode.specs.declared.refusal.Refusal.{Refusal}
+use Rattle.wm_decode.specs.declared.short_steps.Stepped.{Stepped}
 use Rattle.wm_decode.specs.Items.{Item}
 use Rattle.wm_decode.specs.Sinks.{and_then}
 use Rattle.wm_decode.specs.exact.Steps.{step_of, machine_in_member}
@@ -34,7 +35,7 @@ use Rattle.wm_decode.specs.exact.MemberSteps.{member_in_entry, entry_after_op, o
 use Rattle.wm_decode.specs.exact.OpSteps.{on_answer}
 use Rattle.wm_decode.specs.exact.ExpressionSteps.{after_reading, expression_failed}
 use Rattle.wm_decode.specs.exact.ShortSteps.{StepsTo, PartMayRunOut, part_event, part_taken}
-use Rattle.wm_decode.specs.exact.Live.{Live, MayRunOutAtByte, MayRunOutAtEvent, live_from, event_effect, decoder_after}
+use Rattle.wm_decode.specs.exact.Live.{Live, MayRunOutAtByte, MayRunOutAtEvent, live_from, event_effect, decoder_after, ByteRefused}
 use Rattle.wm_decode.proofs.OpLists.{is_alone}
 
 -- the end of a body, where another entry comes after this one
@@ -145,3 +146,14 @@ part_room may p m n part name h k c step room = inl (subst (λ y. MayRunOutAtEve
     at_event : (part : Option Plain) → PartMayRunOut may part h → MayRunOutAtEvent may (part_event part) name c h
     at_event (Some x) r = r
     at_event None r = absurd r
+
+-- a step after another
+pub moved_later : {H : Type 0} (x y z : Result (Live H) Refusal) → x ≡ y → y ≡ z → x ≡ z
+moved_later x y z a b = a ∙ b
+
+pub refused_later : {H : Type 0} (x y : Result (Live H) Refusal) (r : Refusal) (s : Result (Live H) Refusal) → x ≡ y → ByteRefused y r s → ByteRefused x r s
+refused_later x y r s a b = record { as_expected = λ ne. a ∙ b.as_expected ne; standing = b.standing }
+
+-- the same place, by what is known of it
+pub steps_so : (of kind : SectionKind) (left : ℕ) (q r : InMember) (c : ℕ) (s : Stepped) → of ≡ kind → q ≡ r → StepsTo kind left r c s → StepsTo of left q c s
+steps_so of kind left q r c s e f h = subst (λ y. StepsTo y left q c s) (sym e) (subst (λ y. StepsTo kind left y c s) (sym f) h)

@@ -1,19 +1,19 @@
-//! One byte of function indices, or of a code entry's head, labels or last `end`: what the byte step makes of it, by a
-//! shorter way.
+//! One byte of function types or indices, or of a code entry's head, labels or last `end`: what the byte step makes of
+//! it, by a shorter way.
 //!
 //! What ends a section or is refused for its bytes is left to the byte step.
 
-ghost use Rattle.std.specs.Prelude.{◌≡◌, ◌<◌, IfSome};
+ghost use Rattle.std.specs.Prelude.{◌≡◌, ◌-◌, ◌<◌, IfSome};
 ghost use Rattle.wm_syntax.specs.exact.Reading.{unsigned_push};
-ghost use Rattle.wm_decode.specs.exact.ShortSteps.{StepsTo};
+ghost use Rattle.wm_decode.specs.exact.ShortSteps.{StepsTo, standing};
 
 use crate::entry_step::runs_or_body;
 use crate::expressions::InExpression;
-use crate::machine::Plain;
+use crate::machine::{Machine, Plain};
 use crate::member::{InEntry, InMember, IndexOf, SectionKind};
 use crate::ops::InOp;
-use crate::reading::Reading::{Bad, Done, More};
-use crate::values::{InRun, run_byte};
+use crate::type_step::after_param;
+use crate::values::{InRun, value_type};
 use wm_syntax::instructions::Op;
 use wm_syntax::numbers::{Num32, Step};
 
@@ -26,9 +26,50 @@ pub(crate) struct Stepped {
     pub(crate) part: Option<Plain>,
 }
 
-// In the index of a function's type
+/// Where a byte stands in a section that goes on after it: of what it is a list, how many functions await their code, how
+/// many bytes come after the next one and how many members after this one.
+#[derive(Clone, Copy)]
+pub(crate) struct Place {
+    pub(crate) of: SectionKind,
+    pub(crate) functions: u32,
+    pub(crate) more: u32,
+    pub(crate) left: u32,
+    pub(crate) at: InMember,
+}
+
+impl Place {
+    /// That of a machine, where it stands so.
+    #[inline(always)]
+    pub(crate) fn of(machine: Machine) -> Option<Place>
+        ensures machine { IfSome result (λ p. machine ≡ standing p) }
+        ensures more { IfSome result (λ p. 0 < p.more) }
+    {
+        let Machine::Section {
+            of,
+            functions,
+            more,
+            left,
+            at,
+        } = machine
+        else {
+            return None;
+        };
+        if more == 0 {
+            return None;
+        }
+        Some(Place {
+            of,
+            functions,
+            more,
+            left,
+            at,
+        })
+    }
+}
+
+/// In the index of a function's type
 #[inline(always)]
-fn function_byte(left: u32, of: IndexOf, mut number: Num32, byte: u8) -> Option<Stepped>
+pub(crate) fn function_byte(left: u32, of: IndexOf, mut number: Num32, byte: u8) -> Option<Stepped>
     ensures { IfSome result (λ s. StepsTo SectionKind.Function left (InMember.Index of number) byte s) }
 {
     let IndexOf::Function = of else {
@@ -50,9 +91,9 @@ fn function_byte(left: u32, of: IndexOf, mut number: Num32, byte: u8) -> Option<
     })
 }
 
-// In the size of a code entry
+/// In the size of a code entry
 #[inline(always)]
-fn size_byte(left: u32, mut number: Num32, byte: u8) -> Option<Stepped>
+pub(crate) fn size_byte(left: u32, mut number: Num32, byte: u8) -> Option<Stepped>
     ensures { IfSome result (λ s. StepsTo SectionKind.Code left (InMember.EntrySize number) byte s) }
 {
     match number.push(byte) {
@@ -73,9 +114,9 @@ fn size_byte(left: u32, mut number: Num32, byte: u8) -> Option<Stepped>
     }
 }
 
-// In the count of an entry's runs of locals
+/// In the count of an entry's runs of locals
 #[inline(always)]
-fn run_count_byte(left: u32, more: u32, mut number: Num32, byte: u8) -> Option<Stepped>
+pub(crate) fn run_count_byte(left: u32, more: u32, mut number: Num32, byte: u8) -> Option<Stepped>
     ensures { IfSome result (λ s. StepsTo SectionKind.Code left (InMember.Entry more (InEntry.RunCount number)) byte s) }
 {
     let Step::Done(runs) = number.push(byte) else {
@@ -92,24 +133,113 @@ fn run_count_byte(left: u32, more: u32, mut number: Num32, byte: u8) -> Option<S
     })
 }
 
-// In a run of locals
+/// In the count of a run of locals
 #[inline(always)]
-fn local_byte(left: u32, more: u32, runs: u32, at: InRun, byte: u8) -> Option<Stepped>
-    ensures { IfSome result (λ s. StepsTo SectionKind.Code left (InMember.Entry more (InEntry.Run runs at)) byte s) }
+pub(crate) fn local_count_byte(
+    left: u32,
+    more: u32,
+    runs: u32,
+    mut number: Num32,
+    byte: u8,
+) -> Option<Stepped>
+    ensures { IfSome result (λ s. StepsTo SectionKind.Code left (InMember.Entry more (InEntry.Run runs (InRun.Count number))) byte s) }
 {
     if more == 0 {
         return None;
     }
-    let (at, part) = match run_byte(at, byte) {
-        More(at) => (InEntry::Run { more: runs, at }, None),
-        Done((count, ty)) => (runs_or_body(runs), Some(Plain::Locals(count, ty))),
-        Bad(_) => return None,
+    let at = match number.push(byte) {
+        Step::More => InRun::Count(number),
+        Step::Done(count) => InRun::Type { count },
+        Step::Bad => return None,
     };
     Some(Stepped {
         left,
-        at: InMember::Entry { more: more - 1, at },
-        part,
+        at: InMember::Entry {
+            more: more - 1,
+            at: InEntry::Run { more: runs, at },
+        },
+        part: None,
     })
+}
+
+/// At the type of a run of so many locals
+#[inline(always)]
+pub(crate) fn local_type_byte(
+    left: u32,
+    more: u32,
+    runs: u32,
+    count: u32,
+    byte: u8,
+) -> Option<Stepped>
+    ensures { IfSome result (λ s. StepsTo SectionKind.Code left (InMember.Entry more (InEntry.Run runs (InRun.Type count))) byte s) }
+{
+    if more == 0 {
+        return None;
+    }
+    let Ok(ty) = value_type(byte) else {
+        return None;
+    };
+    let at = runs_or_body(runs);
+    Some(Stepped {
+        left,
+        at: InMember::Entry { more: more - 1, at },
+        part: Some(Plain::Locals(count, ty)),
+    })
+}
+
+/// The size of a code entry that ends with the second of these bytes
+#[inline(always)]
+pub(crate) fn long_size(
+    left: u32,
+    mut number: Num32,
+    first: u8,
+    second: u8,
+) -> Option<(Stepped, Stepped)>
+    ensures first { IfSome result (λ p. StepsTo SectionKind.Code left (InMember.EntrySize number) first p.0) }
+    ensures second { IfSome result (λ p. StepsTo SectionKind.Code p.0.left p.0.at second p.1) }
+{
+    let Step::More = number.push(first) else {
+        return None;
+    };
+    let begun = Stepped {
+        left,
+        at: InMember::EntrySize(number),
+        part: None,
+    };
+    let ended = size_byte(left, number, second)?;
+    Some((begun, ended))
+}
+
+/// The count and the type of a run of locals
+#[inline(always)]
+pub(crate) fn short_run(
+    left: u32,
+    more: u32,
+    runs: u32,
+    mut number: Num32,
+    first: u8,
+    second: u8,
+) -> Option<(Stepped, Stepped)>
+    ensures first { IfSome result (λ p. StepsTo SectionKind.Code left (InMember.Entry more (InEntry.Run runs (InRun.Count number))) first p.0) }
+    ensures second { IfSome result (λ p. StepsTo SectionKind.Code p.0.left p.0.at second p.1) }
+{
+    if more == 0 {
+        return None;
+    }
+    let Step::Done(count) = number.push(first) else {
+        return None;
+    };
+    let at = InEntry::Run {
+        more: runs,
+        at: InRun::Type { count },
+    };
+    let begun = Stepped {
+        left,
+        at: InMember::Entry { more: more - 1, at },
+        part: None,
+    };
+    let ended = local_type_byte(left, more - 1, runs, count, second)?;
+    Some((begun, ended))
 }
 
 /// The label of a br_table that ends with this byte, where bytes of the section and of the entry come after it, and
@@ -154,9 +284,9 @@ fn last_byte(left: u32, more: u32, depth: u32, at: InOp, byte: u8) -> Option<Ste
     })
 }
 
-// In a body
+/// In a body
 #[inline(always)]
-fn body_byte(left: u32, more: u32, at: InExpression, byte: u8) -> Option<Stepped>
+pub(crate) fn body_byte(left: u32, more: u32, at: InExpression, byte: u8) -> Option<Stepped>
     ensures { IfSome result (λ s. StepsTo SectionKind.Code left (InMember.Entry more (InEntry.Body at)) byte s) }
 {
     match at {
@@ -165,43 +295,95 @@ fn body_byte(left: u32, more: u32, at: InExpression, byte: u8) -> Option<Stepped
     }
 }
 
-// In a code entry
+/// At the form of a function type
 #[inline(always)]
-fn entry_byte(left: u32, more: u32, at: InEntry, byte: u8) -> Option<Stepped>
-    ensures { IfSome result (λ s. StepsTo SectionKind.Code left (InMember.Entry more at) byte s) }
+pub(crate) fn form_byte(left: u32, byte: u8) -> Option<Stepped>
+    ensures { IfSome result (λ s. StepsTo SectionKind.Type left InMember.TypeForm byte s) }
 {
-    match at {
-        InEntry::RunCount(number) => run_count_byte(left, more, number, byte),
-        InEntry::Run { more: runs, at } => local_byte(left, more, runs, at, byte),
-        InEntry::Body(at) => body_byte(left, more, at, byte),
-        _ => None,
+    if byte != 0x60 {
+        return None;
     }
+    Some(Stepped {
+        left,
+        at: InMember::ParamCount(Num32::new()),
+        part: Some(Plain::NewType),
+    })
 }
 
-// In the code section
+/// In the count of its parameters
 #[inline(always)]
-fn code_byte(left: u32, at: InMember, byte: u8) -> Option<Stepped>
-    ensures { IfSome result (λ s. StepsTo SectionKind.Code left at byte s) }
+pub(crate) fn param_count_byte(left: u32, mut number: Num32, byte: u8) -> Option<Stepped>
+    ensures { IfSome result (λ s. StepsTo SectionKind.Type left (InMember.ParamCount number) byte s) }
 {
-    match at {
-        InMember::EntrySize(number) => size_byte(left, number, byte),
-        InMember::Entry { more, at } => entry_byte(left, more, at, byte),
-        _ => None,
-    }
+    let Step::Done(count) = number.push(byte) else {
+        return None;
+    };
+    Some(Stepped {
+        left,
+        at: after_param(count),
+        part: None,
+    })
 }
 
-/// What a byte does at a place of a section that has so many members after this one, where bytes of the section come
-/// after it.
+/// At a parameter, with so many after it
 #[inline(always)]
-pub(crate) fn short_step(of: SectionKind, left: u32, at: InMember, byte: u8) -> Option<Stepped>
-    ensures { IfSome result (λ s. StepsTo of left at byte s) }
+pub(crate) fn param_byte(left: u32, more: u32, byte: u8) -> Option<Stepped>
+    ensures { IfSome result (λ s. StepsTo SectionKind.Type left (InMember.Param more) byte s) }
 {
-    match of {
-        SectionKind::Code => code_byte(left, at, byte),
-        SectionKind::Function => match at {
-            InMember::Index { of, number } => function_byte(left, of, number, byte),
-            _ => None,
-        },
-        _ => None,
+    let Ok(ty) = value_type(byte) else {
+        return None;
+    };
+    Some(Stepped {
+        left,
+        at: after_param(more),
+        part: Some(Plain::Param(ty)),
+    })
+}
+
+/// In the count of its results
+#[inline(always)]
+pub(crate) fn result_count_byte(left: u32, mut number: Num32, byte: u8) -> Option<Stepped>
+    ensures { IfSome result (λ s. StepsTo SectionKind.Type left (InMember.ResultCount number) byte s) }
+{
+    let Step::Done(count) = number.push(byte) else {
+        return None;
+    };
+    let part = Some(Plain::ResultCount(count));
+    if count > 0 {
+        let at = InMember::ResultType { more: count - 1 };
+        return Some(Stepped { left, at, part });
     }
+    next_type(left, part)
+}
+
+/// At a result, with so many after it
+#[inline(always)]
+pub(crate) fn result_byte(left: u32, more: u32, byte: u8) -> Option<Stepped>
+    ensures { IfSome result (λ s. StepsTo SectionKind.Type left (InMember.ResultType more) byte s) }
+{
+    let Ok(ty) = value_type(byte) else {
+        return None;
+    };
+    let part = Some(Plain::OneResult(ty));
+    if more > 0 {
+        let at = InMember::ResultType { more: more - 1 };
+        return Some(Stepped { left, at, part });
+    }
+    next_type(left, part)
+}
+
+// At the next function type, where there is one
+#[inline(always)]
+fn next_type(left: u32, part: Option<Plain>) -> Option<Stepped>
+    ensures some { IfSome result (λ s. 0 < left) }
+    ensures next { IfSome result (λ s. s ≡ record { left = left - 1; at = InMember.TypeForm; part = part }) }
+{
+    if left == 0 {
+        return None;
+    }
+    Some(Stepped {
+        left: left - 1,
+        at: InMember::TypeForm,
+        part,
+    })
 }

@@ -23,7 +23,7 @@ pub(crate) fn type_form(byte: u8) -> (InMember, Event)
     }
 }
 
-fn after_param(left: u32) -> InMember
+pub(crate) fn after_param(left: u32) -> InMember
     ensures { result ≡ after_param left }
 {
     if left == 0 {

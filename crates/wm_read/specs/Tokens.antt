@@ -1,5 +1,5 @@
 -- The tokens of a text (sections 6.2 and 6.3). A text is the list of its bytes; a byte of an ASCII character is that character.
-use Rattle.std.specs.Prelude.{◌≡◌, ◌≢◌, ℕ, ◌+◌, ◌-◌, ◌*◌, ◌<◌, ◌⊎◌, ◌==◌, ◌&&◌, ◌||◌, not, List, [], ◌∷◌, ◌++◌, Bool, false, Option, Some, None, IsTrue, IsFalse, IsUtf8, if◌then◌else◌, flat_map, codes, length, fold, nat_le, nat_lt, encode_utf8}
+use Rattle.std.specs.Prelude.{◌≡◌, ◌≢◌, ℕ, ◌+◌, ◌-◌, ◌*◌, ◌^◌, ◌<◌, ◌≤◌, ◌⊎◌, ◌==◌, ◌&&◌, ◌||◌, not, List, [], ◌∷◌, ◌++◌, Bool, false, Option, Some, None, IsTrue, IsFalse, IsUtf8, ℤ, pos, neg_ℤ, ◌-ℤ◌, if◌then◌else◌, flat_map, codes, length, fold, nat_le, nat_lt, encode_utf8}
 use Rattle.std.specs.List.{list_any, list_all, AllByRecursion}
 use Rattle.wm_syntax.specs.Spelling.{Form, Byte, Exactly, Each, ◌▸◌, ◌∣◌}
 
@@ -81,6 +81,19 @@ abbrev pub Magnitude : ℕ → Form ℕ
 Magnitude n b =
     ((ds : List ℕ) × Digits 10 ds b × (n ≡ value 10 ds))
     ⊎ ((ds : List ℕ) × (Exactly (codes "0x") ▸ Digits 16 ds) b × (n ≡ value 16 ds))
+
+-- a number of so many bits with no sign (section 6.3.1, uN)
+abbrev pub IsUnsigned : ℕ → ℕ → Form ℕ
+IsUnsigned bits n b = (n < 2 ^ bits) × Magnitude n b
+
+-- A constant of so many bits (section 6.3.1, iN): with no sign a number, of which the upper half means itself less
+-- 2 ^ bits; with a sign one in the signed range.
+abbrev pub IsInteger : ℕ → ℤ → Form ℕ
+IsInteger bits z b =
+    (n : ℕ) × (((n < 2 ^ (bits - 1)) × (z ≡ pos n) × Magnitude n b)
+    ⊎ ((2 ^ (bits - 1) ≤ n) × (n < 2 ^ bits) × (z ≡ pos n -ℤ pos (2 ^ bits)) × Magnitude n b)
+    ⊎ ((n < 2 ^ (bits - 1)) × (z ≡ pos n) × (Byte 43 ▸ Magnitude n) b)
+    ⊎ ((n ≤ 2 ^ (bits - 1)) × (z ≡ neg_ℤ (pos n)) × (Byte 45 ▸ Magnitude n) b))
 
 -- an identifier is $ and at least one character (section 6.3.5)
 abbrev pub IsIdentifier : List ℕ → Type 0

@@ -1,8 +1,10 @@
 //! Where and why a text is refused.
 
-ghost use Rattle.std.specs.Prelude.{◌≡◌};
+ghost use Rattle.std.specs.Prelude.{◌≡◌, ◌+◌, ◌≤◌, length};
 ghost use Rattle.wm_read.specs.Faults.{name_of};
+ghost use Rattle.wm_read.specs.declared.faults.TextWhy.TheVariants.{Memory};
 
+use std::alloc::{AllocError, AllocFailed};
 use std::error::Error;
 use std::fmt;
 
@@ -131,6 +133,49 @@ impl fmt::Display for TextRefusal {
 }
 
 impl Error for TextRefusal {}
+
+/// Why a reader of tokens refuses, and how many bytes of the text are left at the token that decided it.
+#[derive(Clone, Copy, Debug, PartialEq, Eq)]
+pub struct TextFault {
+    pub why: TextWhy,
+    pub left: usize,
+}
+
+impl TextFault {
+    /// The same with its place in the whole text.
+    pub fn refusal(self, text: &[u8]) -> TextRefusal
+        ensures why { result.why ≡ self.why }
+        ensures at { result.at ≤ length text.now }
+        ensures left { self.left ≤ length text.now → result.at + self.left ≡ length text.now }
+    {
+        TextRefusal {
+            at: text.len().saturating_sub(self.left),
+            why: self.why,
+        }
+    }
+}
+
+impl From<AllocError> for TextFault {
+    ghost from_gives = { λ _ e. e.why ≡ Memory };
+
+    fn from(_e: AllocError) -> TextFault {
+        TextFault {
+            why: TextWhy::Memory,
+            left: 0,
+        }
+    }
+}
+
+impl<T: Drop> From<AllocFailed<T>> for TextFault {
+    ghost from_gives = { λ _ e. e.why ≡ Memory };
+
+    fn from(_e: AllocFailed<T>) -> TextFault {
+        TextFault {
+            why: TextWhy::Memory,
+            left: 0,
+        }
+    }
+}
 
 #[cfg(test)]
 mod tests;

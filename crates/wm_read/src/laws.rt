@@ -1,9 +1,56 @@
 //! Laws of the definitions, as the contracts of functions that do nothing.
 
-ghost use Rattle.std.specs.Prelude.{◌≡◌, ℕ, List};
-ghost use Rattle.wm_read.specs.Tokens.{Token, Tokens};
+ghost use Rattle.std.specs.Prelude.{◌≡◌, ◌∷◌, ◌++◌, [], ℕ, List, Some, codes, false};
+ghost use Rattle.wm_read.specs.Fields.{HasDistinct};
+ghost use Rattle.wm_read.specs.Identifiers.{AreDistinct};
+ghost use Rattle.wm_read.specs.Tokens.{Token, Tokens, close_paren};
+ghost use Rattle.wm_read.specs.Written.{Named, Names, Scope, TypeUse, WritesGroups, WritesInstructions};
+ghost use Rattle.wm_read.specs.exact.NamedUses.{named_use_at};
+ghost use Rattle.wm_read.specs.exact.TypeUses.{begins_group, instructions_at, named_at};
+ghost use Rattle.wm_syntax.specs.Instructions.{Instructions};
+ghost use Rattle.wm_syntax.specs.Profiles.{HasInstructions};
+ghost use Rattle.wm_syntax.specs.declared.profile.Profile.{Profile};
 
 /// A text has one list of tokens.
 pub fn one_list_of_tokens()
     ensures { (text : List ℕ) (j k : List Token) → Tokens text j → Tokens text k → j ≡ k }
+{}
+
+/// Where identifiers are distinct in their spaces: what is read of a body is what the tokens before a closing
+/// parenthesis write, and what tokens before one write is read.
+pub fn bodies_are_read_as_written()
+    ensures read { (p : Profile) (sc : Scope) (k rest : List Token) (s : Instructions)
+        → HasDistinct sc.names → AreDistinct sc.locals → instructions_at p sc k ≡ Some (s, rest)
+        → (front more : List Token) × (k ≡ front ++ close_paren ∷ more) × (rest ≡ close_paren ∷ more)
+        × WritesInstructions sc [] s front × HasInstructions p s }
+    ensures written { (p : Profile) (sc : Scope) (front more : List Token) (s : Instructions)
+        → HasDistinct sc.names → AreDistinct sc.locals → WritesInstructions sc [] s front → HasInstructions p s
+        → instructions_at p sc (front ++ close_paren ∷ more) ≡ Some (s, close_paren ∷ more) }
+{}
+
+/// Where identifiers are distinct in their spaces, tokens write one list of instructions.
+pub fn one_body()
+    ensures { (p : Profile) (sc : Scope) (front : List Token) (s t : Instructions)
+        → HasDistinct sc.names → AreDistinct sc.locals → WritesInstructions sc [] s front → HasInstructions p s
+        → WritesInstructions sc [] t front → HasInstructions p t → s ≡ t }
+{}
+
+/// What is read of groups of parameters or locals is what the tokens write, and what tokens write is read where no
+/// further group follows.
+pub fn groups_are_read_as_written()
+    ensures read { (word : List ℕ) (k : List Token) (all : List Named) (rest : List Token) → named_at word k ≡ Some (all, rest)
+        → (front : List Token) × (k ≡ front ++ rest) × WritesGroups word all front }
+    ensures written { (word : List ℕ) (all : List Named) (front rest : List Token) → WritesGroups word all front
+        → begins_group word rest ≡ false → named_at word (front ++ rest) ≡ Some (all, rest) }
+{}
+
+/// What is read of a type use is what the tokens write; and, where identifiers of types are distinct, what tokens write
+/// is read where no further form of a type use follows.
+pub fn type_uses_are_read_as_written()
+    ensures read { (names : Names) (k : List Token) (u : ℕ × List Named) (rest : List Token) → named_use_at names k ≡ Some (u, rest)
+        → (front : List Token) × (k ≡ front ++ rest) × TypeUse names u.0 u.1 front }
+    ensures written { (names : Names) → AreDistinct names.types → (u : ℕ × List Named) (front rest : List Token)
+        → TypeUse names u.0 u.1 front
+        → (begins_group (codes "param") rest ≡ false) × (begins_group (codes "result") rest ≡ false)
+        → named_use_at names (front ++ rest) ≡ Some (u, rest) }
 {}

@@ -144,6 +144,21 @@ pub fn next_token(text: &[u8]) -> Option<(Lexeme, &[u8])>
     }
 }
 
+/// A text from its first token on.
+#[tactic(auto, using(crate::proofs::Whole::ahead_laws))]
+pub fn skip_space(text: &[u8]) -> &[u8]
+    ensures same { scan.lexed result.now ≡ scan.lexed text.now }
+    ensures within { length result.now ≤ length text.now }
+{
+    let mut rest = text;
+    loop {
+        match ahead(rest) {
+            Found::Blank(more) => rest = more,
+            _ => return rest,
+        }
+    }
+}
+
 /// Whether a text is UTF-8 and has tokens (section 6.3); then these are what `next_token` finds, one after the other.
 ///
 /// A text that is no UTF-8 is refused at the first byte that is none. Otherwise the first fault is told: at the first

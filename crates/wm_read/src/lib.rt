@@ -1,7 +1,17 @@
 //! The text format (chapter 6), read.
 #![tactic(auto)]
 
+pub mod blocks;
+pub mod bodies;
+pub mod check;
 pub mod faults;
+pub mod identifiers;
 pub mod laws;
 pub mod lexeme;
+pub mod literals;
+pub mod named;
+pub mod named_uses;
+pub mod operands;
+pub mod pieces;
 mod scan;
+pub mod type_uses;

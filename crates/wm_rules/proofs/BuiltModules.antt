@@ -15,7 +15,7 @@ use Rattle.wm_syntax.specs.declared.why.Why.TheVariants as why
 use Rattle.wm_syntax.specs.Types.{Signature}
 use Rattle.wm_syntax.specs.Modules.{Module, Import, Function, GlobalDef, Export, Element, Segment}
 use Rattle.wm_syntax.specs.Modules as modules
-use Rattle.wm_syntax.specs.Building.{Place, at, start, placed, if_placed, place_after}
+use Rattle.wm_syntax.specs.inner.Building.{Place, at, start, placed, if_placed, place_after}
 use Rattle.wm_syntax.proofs.Places.{leads}
 use Rattle.wm_syntax.specs.exact.Runs.{add_run}
 use Rattle.wm_syntax.specs.Modules.{locals_of}

@@ -21,8 +21,8 @@ use Rattle.wm_typing.specs.exact.Bodies.{body_at_start, context_in, declared_to,
 use Rattle.wm_typing.specs.Probes.{probes_in}
 use Rattle.wm_typing.specs.Typing.{function_type}
 use Rattle.wm_syntax.specs.declared.modules.ExportKind.TheVariants as kind
-use Rattle.wm_syntax.specs.Building.{Place, at, labels, placed}
-use Rattle.wm_syntax.specs.Building as places
+use Rattle.wm_syntax.specs.inner.Building.{Place, at, labels, placed}
+use Rattle.wm_syntax.specs.inner.Building as places
 use Rattle.wm_decode.specs.Items.{Item, new_type, param, result_count, one_result, import_module, import_name, import_desc, function, table, memory, global, const_op, export_name, export, start, element, element_function, body, locals, body_op, segment, data_byte}
 use Rattle.wm_decode.specs.Sinks.{and_then}
 use Rattle.wm_decode.proofs.Alike.{IsGiven}

@@ -18,7 +18,7 @@ use Rattle.wm_typing.specs.Typing.{Context}
 use Rattle.wm_typing.specs.exact.Effects.{effect_of, is_polymorphic}
 use Rattle.wm_typing.specs.exact.Ops.{drive, drive_close, drive_if, drive_count, else_of, drive_else, may_end, give_to, end_of, drive_end, drive_diverges, drive_known, drive_label, goes_with, labels_of, within_frames, with_table, drive_op, step}
 use Rattle.wm_typing.specs.Bodies.{BodyState}
-use Rattle.wm_syntax.specs.Building.{Open, in_block, in_loop, in_first, in_second, Place, at, labels, divided, placed}
+use Rattle.wm_syntax.specs.inner.Building.{Open, in_block, in_loop, in_first, in_second, Place, at, labels, divided, placed}
 use Rattle.wm_rules.proofs.FrameKinds.{kinds, drive_kinds, drive_close_kinds, after_ok, all_frames, push_frames}
 
 abbrev pub kind_in : Open → FrameKind

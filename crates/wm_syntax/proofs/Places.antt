@@ -5,7 +5,7 @@ use Rattle.wm_syntax.specs.declared.instructions.Op.{Op}
 use Rattle.wm_syntax.specs.declared.instructions.Op.TheVariants as op
 use Rattle.wm_syntax.specs.Spelling.{Exactly, ◌▸◌}
 use Rattle.wm_syntax.specs.Instructions.{Instruction, Instructions, none, snoc, simple, table, block, loop, choice, HasOp, HasOps, HasElse}
-use Rattle.wm_syntax.specs.Building.{Open, in_block, in_loop, in_first, in_second, Place, at, labels, start, closed, divided, placed, if_placed, place_after, body_in, tree_of}
+use Rattle.wm_syntax.specs.inner.Building.{Open, in_block, in_loop, in_first, in_second, Place, at, labels, start, closed, divided, placed, if_placed, place_after, body_in, tree_of}
 
 -- on from where some ops lead
 then_on : (r : Option Place) (a b : List Op) → ((q : Place) → place_after q (a ++ b) ≡ if_placed (place_after q a) (λ p. place_after p b))

@@ -1,8 +1,8 @@
-pub mod Building
 pub mod Instructions
 pub mod Leb128
 pub mod Modules
 pub mod OpClasses
+pub mod OpNames
 pub mod Opcodes
 pub mod Profiles
 pub mod Reading

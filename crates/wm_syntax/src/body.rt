@@ -2,7 +2,7 @@
 
 ghost use Rattle.std.specs.Prelude.{◌≡◌};
 ghost use Rattle.wm_syntax.specs.Instructions.{ops_of};
-ghost use Rattle.wm_syntax.specs.Building.{tree_of};
+ghost use Rattle.wm_syntax.specs.inner.Building.{tree_of};
 
 use crate::instructions::Op;
 use std::marker::Model;
@@ -16,7 +16,7 @@ pub struct Body {
 impl Model for Body {
     ghost use Rattle.std.specs.Prelude.{◌≡◌};
     ghost use Rattle.wm_syntax.specs.Instructions.{Instructions, ops_of};
-    ghost use Rattle.wm_syntax.specs.Building.{tree_of};
+    ghost use Rattle.wm_syntax.specs.inner.Building.{tree_of};
     ghost use Rattle.wm_syntax.specs.inner.Codes.{instructions_code};
 
     ghost Value = { Instructions };

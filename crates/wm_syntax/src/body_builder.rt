@@ -1,7 +1,7 @@
 //! Bodies, built op by op.
 
 ghost use Rattle.std.specs.Prelude.{◌≡◌, ◌≢◌, ◌+◌, ◌++◌, ◌∷◌, [], None, Some, Ok, Err, IfErr, IfOk, MatchResult, OnErr, OnOk, false, true};
-ghost use Rattle.wm_syntax.specs.Building.{Place, at, placed, start};
+ghost use Rattle.wm_syntax.specs.inner.Building.{Place, at, placed, start};
 ghost use Rattle.wm_syntax.specs.Instructions.{Instructions};
 ghost use Rattle.wm_syntax.specs.inner.Builders.{fits, fits_list, is_else, is_first, last_of, last_set, next_left, next_open, next_ops};
 
@@ -179,7 +179,7 @@ pub struct BodyBuilder {
 }
 
 impl Model for BodyBuilder {
-    ghost use Rattle.wm_syntax.specs.Building.{Place, place_in};
+    ghost use Rattle.wm_syntax.specs.inner.Building.{Place, place_in};
     ghost use Rattle.wm_syntax.specs.inner.Codes.{place_code};
     ghost use Rattle.wm_syntax.specs.inner.Builders.{Keeps};
 
@@ -222,6 +222,8 @@ impl BodyBuilder {
         if self.left != 0 || !self.begun.is_empty() {
             return Err(BodyFault::Unbalanced);
         }
-        Ok(Body::from_ops(self.ops))
+        let mut ops = self.ops;
+        ops.shrink_to_fit();
+        Ok(Body::from_ops(ops))
     }
 }

@@ -1,7 +1,9 @@
-//! Equality of the values of modules and of what they are made of.
+//! `==` on modules and on what they are made of (section 2.5): whether two are one value. What memory they hold, and in how
+//! many runs their locals were given, makes no difference.
 
 ghost use Rattle.std.specs.Prelude.{◌≡◌, ◌↔◌, true};
 ghost use Rattle.wm_syntax.specs.Values.{value_of};
+ghost use Rattle.wm_syntax.specs.declared.modules.Module.{Module};
 
 use crate::body::Body;
 use crate::instructions::{Numeric, Op, Simple};
@@ -296,9 +298,117 @@ impl Same for Segment {
     }
 }
 
+impl PartialEq for Body {
+    ghost use Rattle.wm_syntax.specs.inner.Equality.{body_code, same_by, same_laws};
+
+    ghost eq = { same_by body_code };
+
+    ghost laws = { same_laws body_code };
+
+    fn eq(&self, other: &Body) -> bool {
+        self.same(other)
+    }
+}
+
+impl PartialEq for Locals {
+    ghost use Rattle.wm_syntax.specs.inner.Equality.{locals_code, same_by, same_laws};
+
+    ghost eq = { same_by locals_code };
+
+    ghost laws = { same_laws locals_code };
+
+    fn eq(&self, other: &Locals) -> bool {
+        self.same(other)
+    }
+}
+
+impl PartialEq for FuncType {
+    ghost use Rattle.wm_syntax.specs.inner.Equality.{signature_code, same_by, same_laws};
+
+    ghost eq = { same_by signature_code };
+
+    ghost laws = { same_laws signature_code };
+
+    fn eq(&self, other: &FuncType) -> bool {
+        self.same(other)
+    }
+}
+
+impl PartialEq for Import {
+    ghost use Rattle.wm_syntax.specs.inner.Equality.{import_code, same_by, same_laws};
+
+    ghost eq = { same_by import_code };
+
+    ghost laws = { same_laws import_code };
+
+    fn eq(&self, other: &Import) -> bool {
+        self.same(other)
+    }
+}
+
+impl PartialEq for Function {
+    ghost use Rattle.wm_syntax.specs.inner.Equality.{entry_code, same_by, same_laws};
+
+    ghost eq = { same_by entry_code };
+
+    ghost laws = { same_laws entry_code };
+
+    fn eq(&self, other: &Function) -> bool {
+        self.same(other)
+    }
+}
+
+impl PartialEq for GlobalDef {
+    ghost use Rattle.wm_syntax.specs.inner.Equality.{global_code, same_by, same_laws};
+
+    ghost eq = { same_by global_code };
+
+    ghost laws = { same_laws global_code };
+
+    fn eq(&self, other: &GlobalDef) -> bool {
+        self.same(other)
+    }
+}
+
+impl PartialEq for Export {
+    ghost use Rattle.wm_syntax.specs.inner.Equality.{export_code, same_by, same_laws};
+
+    ghost eq = { same_by export_code };
+
+    ghost laws = { same_laws export_code };
+
+    fn eq(&self, other: &Export) -> bool {
+        self.same(other)
+    }
+}
+
+impl PartialEq for Element {
+    ghost use Rattle.wm_syntax.specs.inner.Equality.{element_code, same_by, same_laws};
+
+    ghost eq = { same_by element_code };
+
+    ghost laws = { same_laws element_code };
+
+    fn eq(&self, other: &Element) -> bool {
+        self.same(other)
+    }
+}
+
+impl PartialEq for Segment {
+    ghost use Rattle.wm_syntax.specs.inner.Equality.{segment_code, same_by, same_laws};
+
+    ghost eq = { same_by segment_code };
+
+    ghost laws = { same_laws segment_code };
+
+    fn eq(&self, other: &Segment) -> bool {
+        self.same(other)
+    }
+}
+
 impl Module {
-    /// Whether the two modules are one value (section 2.5): what memory they hold makes no difference.
-    pub fn same(&self, other: &Module) -> bool
+    // Whether the two modules are one value (section 2.5): what memory they hold makes no difference.
+    fn same(&self, other: &Module) -> bool
         ensures { (result ≡ true) ↔ (value_of self.now ≡ value_of other.now) }
     {
         same_list(&self.types, &other.types)
@@ -313,3 +423,20 @@ impl Module {
             && same_list(&self.segments, &other.segments)
     }
 }
+
+impl PartialEq for Module {
+    ghost use Rattle.wm_syntax.specs.inner.Equality.{module_code, same_by, value_laws};
+
+    ghost eq = { λ a b. same_by module_code (value_of a) (value_of b) };
+
+    ghost laws = { value_laws };
+
+    fn eq(&self, other: &Module) -> bool {
+        self.same(other)
+    }
+}
+
+/// `==` holds of two modules exactly where they are one value (section 2.5).
+pub fn equal_modules_are_one_value()
+    ensures { (m n : Module) → (⟦<Module as PartialEq>⟧.eq m n ≡ true) ↔ (value_of m ≡ value_of n) }
+{}

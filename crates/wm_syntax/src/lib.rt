@@ -2,6 +2,7 @@
 //! modules of WebAssembly 1.0, and the readers and writers of bytes.
 #![tactic(auto)]
 
+pub mod accesses;
 pub mod body;
 pub mod body_builder;
 pub mod chunk;
@@ -14,7 +15,9 @@ pub mod modules;
 pub mod names;
 pub mod numbers;
 pub mod op_class;
+pub mod op_names;
 pub mod opcodes;
 pub mod profile;
+pub mod ranges;
 pub mod types;
 pub mod why;

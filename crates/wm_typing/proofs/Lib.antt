@@ -18,3 +18,4 @@ pub mod Depths
 pub mod HeightsAndMoves
 pub mod Folds
 pub mod Tables
+pub mod OpenFrames

@@ -4,3 +4,4 @@ pub mod Bodies
 pub mod Effects
 pub mod Folds
 pub mod Ops
+pub mod Takes

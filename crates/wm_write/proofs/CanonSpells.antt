@@ -231,7 +231,7 @@ added I32 ((n, I64) ∷ runs) = refl
 added I64 ((n, I32) ∷ runs) = refl
 added I64 ((n, I64) ∷ runs) = let e : n + 1 ≡ suc n = omega arith in ap (λ k. replicate k I64 ++ locals_of runs) e
 
-expanded : (ts : List ValType) → locals_of (runs_of ts) ≡ ts
+pub expanded : (ts : List ValType) → locals_of (runs_of ts) ≡ ts
 expanded [] = refl
 expanded (t ∷ ts) = added t (runs_of ts) ∙ ap (λ z. t ∷ z) (expanded ts)
 

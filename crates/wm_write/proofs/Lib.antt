@@ -1,4 +1,7 @@
 pub mod Writes
+pub mod PrintedWords
+pub mod PrintedImports
+pub mod PrintedModules
 pub mod SectionLemmas
 pub mod CanonSpells
 pub mod Ranges

@@ -18,13 +18,9 @@ use Rattle.wm_syntax.specs.Instructions.{Instruction, Instructions, none, snoc, 
 use Rattle.wm_syntax.specs.Modules.{Module, Import, Function, GlobalDef, Export, Element, Segment, constant, constant_body}
 use Rattle.wm_syntax.proofs.Spellings.{shortest_is_least, signed_is_least, unsigned_range}
 use Rattle.wm_decode.specs.Sections.{Customs, ListSection, StartSection, header, SpellsConst, SpellsDesc, SpellsImport, SpellsGlobal, SpellsExport, SpellsElement, SpellsRun, SpellsLocals, SpellsCode, SpellsSegment, SpellsModule, kind_byte}
-use Rattle.wm_write.specs.Canon.{u32_bytes, block_byte, op_bytes, ops_bytes, listed, sized, value_type_bytes, signature_bytes, bounds_bytes, limits_bytes, table_bytes, global_type_bytes, desc_bytes, import_bytes, constant_bytes, global_bytes, export_bytes, element_bytes, run_bytes, code_contents, code_bytes, segment_bytes, list_section, start_section, canon, Fits}
+use Rattle.wm_write.specs.Canon.{u32_bytes, block_byte, op_bytes, ops_bytes, listed, sized, value_type_bytes, signature_bytes, bounds_bytes, limits_bytes, table_bytes, global_type_bytes, desc_bytes, import_bytes, constant_bytes, global_bytes, export_bytes, element_bytes, run_bytes, code_contents, code_bytes, segment_bytes, list_section, start_section, canon, Fits, NoLonger, HasShortestSections}
 use Rattle.wm_syntax.proofs.NumberLoops.{short}
 use Rattle.wm_write.proofs.LeastRuns.{least_locals, number_rises}
-
--- these bytes are no longer than any that the form describes
-abbrev NoLonger : List ℕ → Form ℕ → Type 0
-NoLonger a P = (b : List ℕ) → P b → length a ≤ length b
 
 exactly : (a : List ℕ) → NoLonger a (Exactly a)
 exactly a b h = omega (arith, ap length h)
@@ -280,3 +276,18 @@ canon_shortest m =
     (both (list_section 9 element_bytes m.elements) _ (ListSection 9 SpellsElement m.elements) _ (section 9 element_bytes SpellsElement element m.elements)
     (both (list_section 10 code_bytes m.functions) _ (ListSection 10 SpellsCode m.functions) _ (section 10 code_bytes SpellsCode code m.functions)
     (last (list_section 11 segment_bytes m.segments) (ListSection 11 SpellsSegment m.segments) (section 11 segment_bytes SpellsSegment segment m.segments))))))))))))
+
+pub shortest_sections : (m : Module) → HasShortestSections m
+shortest_sections m = record {
+  types = list signature_bytes SpellsSignature signature m.types;
+  imports = list import_bytes SpellsImport imported m.imports;
+  functions = list (λ f. u32_bytes f.type_index) (λ f. SpellsU32 f.type_index) (λ f. number f.type_index) m.functions;
+  tables = list table_bytes SpellsTableType table_type m.tables;
+  memories = list limits_bytes SpellsLimits limits m.memories;
+  globals = list global_bytes SpellsGlobal defined m.globals;
+  exports = list export_bytes SpellsExport exported m.exports;
+  start = λ x is. number x;
+  elements = list element_bytes SpellsElement element m.elements;
+  codes = list code_bytes SpellsCode code m.functions;
+  segments = list segment_bytes SpellsSegment segment m.segments;
+}

@@ -1,13 +1,14 @@
 -- The canonical binary of a module: shortest numbers, empty sections omitted, no custom section, locals in maximal runs of
 -- one type, no else before an empty second branch (section 5.5).
-use Rattle.std.specs.Prelude.{ℕ, ◌<◌, ◌^◌, List, [], ◌∷◌, ◌++◌, Option, Some, None, Bool, true, false, ℤ, length, flat_map}
-use Rattle.wm_decode.specs.Sections.{header, kind_byte}
+use Rattle.std.specs.Prelude.{ℕ, ◌≡◌, ◌<◌, ◌≤◌, ◌^◌, List, [], ◌∷◌, ◌++◌, Option, Some, None, Bool, true, false, ℤ, length, flat_map}
+use Rattle.wm_decode.specs.Sections.{header, kind_byte, SpellsImport, SpellsGlobal, SpellsExport, SpellsElement, SpellsCode, SpellsSegment}
 use Rattle.wm_syntax.specs.Instructions.{ops_of}
 use Rattle.wm_syntax.specs.Leb128.{signed_bytes, unsigned_bytes}
 use Rattle.wm_syntax.specs.Modules.{Import, Function, GlobalDef, Export, Element, Segment, Module, constant}
 use Rattle.wm_syntax.specs.Opcodes.{opcode}
 use Rattle.wm_syntax.specs.Runs.{runs_of}
-use Rattle.wm_syntax.specs.Types.{Signature, type_byte}
+use Rattle.wm_syntax.specs.Spelling.{Form}
+use Rattle.wm_syntax.specs.Types.{Signature, type_byte, SpellsU32, SpellsList, SpellsSignature, SpellsLimits, SpellsTableType}
 use Rattle.wm_syntax.specs.declared.instructions.Op.TheVariants as op
 use Rattle.wm_syntax.specs.declared.instructions.Op.{Op}
 use Rattle.wm_syntax.specs.declared.instructions.Simple.TheVariants.{Br, BrIf, Call, CallIndirect, LocalGet, LocalSet, LocalTee, GlobalGet, GlobalSet, MemorySize, MemoryGrow, I32Const, I64Const, Load, Store}
@@ -188,3 +189,24 @@ pub record Fits (m : Module) : Type 0 where
   pub elements : Within element_bytes m.elements
   pub codes : Within code_bytes m.functions
   pub segments : Within segment_bytes m.segments
+
+-- These bytes are no longer than any that the form describes.
+abbrev pub NoLonger : List ℕ → Form ℕ → Type 0
+NoLonger a P = (b : List ℕ) → P b → length a ≤ length b
+
+-- The contents of each section are no longer than in any spelling of the same part (section 5.5).
+abbrev pub IsShortest : {X : Type 0} → (X → List ℕ) → (X → Form ℕ) → List X → Type 0
+IsShortest f S xs = NoLonger (listed f xs) (SpellsList S xs)
+
+pub record HasShortestSections (m : Module) : Type 0 where
+  pub types : IsShortest signature_bytes SpellsSignature m.types
+  pub imports : IsShortest import_bytes SpellsImport m.imports
+  pub functions : IsShortest (λ f. u32_bytes f.type_index) (λ f. SpellsU32 f.type_index) m.functions
+  pub tables : IsShortest table_bytes SpellsTableType m.tables
+  pub memories : IsShortest limits_bytes SpellsLimits m.memories
+  pub globals : IsShortest global_bytes SpellsGlobal m.globals
+  pub exports : IsShortest export_bytes SpellsExport m.exports
+  pub start : (x : ℕ) → m.start ≡ Some x → NoLonger (u32_bytes x) (SpellsU32 x)
+  pub elements : IsShortest element_bytes SpellsElement m.elements
+  pub codes : IsShortest code_bytes SpellsCode m.functions
+  pub segments : IsShortest segment_bytes SpellsSegment m.segments

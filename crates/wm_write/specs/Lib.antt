@@ -1,2 +1,3 @@
 pub mod Canon
+pub mod Layout
 pub mod exact

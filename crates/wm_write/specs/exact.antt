@@ -1,3 +1,5 @@
 -- Exact answers of functions. They follow the code for the layers above, and need not be believed.
+pub mod Aligns
 pub mod Measures
+pub mod Printing
 pub mod Writing

@@ -10,7 +10,7 @@ ghost use Rattle.wm_rules.specs.Loading.{IsLoaded, Loads};
 ghost use Rattle.wm_rules.specs.Validation.{Accepted};
 ghost use Rattle.wm_rules.specs.exact.Built.{Built};
 ghost use Rattle.wm_rules.specs.inner.Loading.{loader_after, loader_setting};
-ghost use Rattle.wm_write.specs.Canon.{Fits, canon};
+ghost use Rattle.wm_write.specs.Canon.{Fits, HasShortestSections, canon};
 
 /// The canonical binary of a module spells it, unless a section would be too large.
 pub fn canon_spells()
@@ -24,6 +24,11 @@ pub fn spelled_has_canon()
     ensures fits { (limit : ℕ) (m : Module) (b : List ℕ) → Spells limit m b → Fits m }
     ensures canon { (limit : ℕ) (m : Module) (b : List ℕ) → Spells limit m b → Spells limit m (canon m) }
     ensures shortest { (limit : ℕ) (m : Module) (b : List ℕ) → Spells limit m b → length (canon m) ≤ length b }
+{}
+
+/// The contents of each section of a canonical binary are no longer than in any spelling of the same part.
+pub fn canon_has_shortest_sections()
+    ensures { (m : Module) → HasShortestSections m }
 {}
 
 /// Modules of one canonical binary are one.

@@ -1,9 +1,11 @@
 //! The parts of a module in bytes (section 5.5).
 
 use crate::put::{Part, put_bytes, put_list, put_number, put_sized};
-use crate::spell::{one, push_global_type, push_limits, spell, spell_desc, spell_item, value_byte};
+use crate::spell::{
+    instruction_of, one, push_global_type, push_limits, spell, spell_desc, spell_item, value_byte,
+};
 use wm_syntax::chunk::Chunk;
-use wm_syntax::instructions::{Op, Simple};
+use wm_syntax::instructions::Op;
 use wm_syntax::io::Dest;
 use wm_syntax::modules::{Element, Export, Function, GlobalDef, Import, Segment};
 use wm_syntax::types::{Const, FuncType, Limits, ValType};
@@ -65,12 +67,7 @@ impl Part for ConstantExpression {
     ghost bytes = { constant_bytes };
 
     fn put<W: Dest>(w: &mut W, written: &mut u64, value: &Const) {
-        let instruction = match *value {
-            Const::I32(number) => Simple::I32Const(number),
-            Const::I64(number) => Simple::I64Const(number),
-            Const::Global(index) => Simple::GlobalGet(index),
-        };
-        Instruction::put(w, written, &Op::Simple(instruction));
+        Instruction::put(w, written, &Op::Simple(instruction_of(*value)));
         Instruction::put(w, written, &Op::End);
     }
 }

@@ -4,6 +4,7 @@ ghost use Rattle.std.specs.Prelude.{◌≡◌, ◌++◌, ◌∷◌, [], length, 
 ghost use Rattle.wm_write.specs.Canon.{block_byte, desc_bytes, global_type_bytes, limits_bytes, immediates, op_bytes, u32_bytes};
 ghost use Rattle.wm_decode.specs.Sections.{kind_byte};
 ghost use Rattle.wm_syntax.specs.Leb128.{signed_bytes};
+ghost use Rattle.wm_syntax.specs.Modules.{constant};
 ghost use Rattle.wm_syntax.specs.Types.{type_byte};
 ghost use Rattle.wm_syntax.specs.Opcodes.{binary, comparison, load, numeric, opcode, store, unary};
 
@@ -12,7 +13,7 @@ use wm_syntax::instructions::{
     BinaryOp, Comparison, LoadOp, MemArg, Numeric, Op, SignExtension, Simple, StoreOp, UnaryOp,
 };
 use wm_syntax::modules::{ExportKind, ImportDesc};
-use wm_syntax::types::{GlobalType, Limits, ValType};
+use wm_syntax::types::{Const, GlobalType, Limits, ValType};
 
 fn comparison_place(op: Comparison) -> u8
     ensures { result ≡ (comparison op).0 }
@@ -223,6 +224,17 @@ fn spell_simple(simple: Simple) -> Chunk
         Simple::Load(op, at) => access(load_byte(op), at),
         Simple::Store(op, at) => access(store_byte(op), at),
         Simple::Numeric(op) => one(numeric_byte(op)),
+    }
+}
+
+/// The instruction of a constant expression (section 3.3.7).
+pub(crate) fn instruction_of(value: Const) -> Simple
+    ensures { result ≡ constant value }
+{
+    match value {
+        Const::I32(number) => Simple::I32Const(number),
+        Const::I64(number) => Simple::I64Const(number),
+        Const::Global(index) => Simple::GlobalGet(index),
     }
 }
 

@@ -23,6 +23,7 @@ fn words_are_read(rt: HostRuntime) -> Result<(), Fail> {
     assert_eq!(rt; full.limit, 7);
     assert_eq!(rt; full.file.as_ref().map(|f| f.as_str()), Some("-"));
     assert!(rt; full.path().is_none());
+    assert_eq!(rt; line(rt.alloc(), &["wmod", "show"])?.action, Action::Show);
     let most = line(
         rt.alloc(),
         &[
@@ -94,10 +95,11 @@ fn help_and_fault_texts(rt: HostRuntime) -> Result<(), Fail> {
         "Checks and converts WebAssembly 1.0 modules (integer instructions only), reading them once.\n\n  \
         check   write `valid`, or why not and where\n  \
         stats   write figures of a valid module's function bodies\n  \
-        canon   write a valid module as its canonical binary: shortest numbers, no custom sections\n\n\
+        canon   write a valid module as its canonical binary: shortest numbers, no custom sections\n  \
+        show    write a valid module as text: a field a line, and in a function an instruction a line\n\n\
         Usage: wmod [OPTIONS] <ACTION> [FILE]\n\n\
         Arguments:\n  \
-        <ACTION>  check, stats or canon\n  \
+        <ACTION>  check, stats, canon or show\n  \
         [FILE]    The file to read; standard input where there is none, or where it is -\n\n\
         Options:\n      \
         --profile <N>  1, or 2 for sign-extension instructions too [default: 1]\n      \
@@ -110,7 +112,8 @@ fn help_and_fault_texts(rt: HostRuntime) -> Result<(), Fail> {
         Examples:\n  \
         wmod check module.wasm\n  \
         wmod stats --limit 1000000 < module.wasm\n  \
-        wmod canon module.wasm > canonical.wasm\n";
+        wmod canon module.wasm > canonical.wasm\n  \
+        wmod show module.wasm > module.wat\n";
     let missing = "error: the following required arguments were not provided:\n  <ACTION>\n\n\
         Usage: wmod <ACTION> [FILE]\n\n\
         For more information, try '--help'.\n";
@@ -134,11 +137,11 @@ fn wrong_words_are_named(rt: HostRuntime) -> Result<(), Fail> {
     let rows: [(&[&str], &str); 5] = [
         (
             &["wmod", "run", "--limit", "x"],
-            "'run' is no action: check, stats, canon",
+            "'run' is no action: check, stats, canon, show",
         ),
         (
             &["wmod", "CHECK"],
-            "'CHECK' is no action: check, stats, canon",
+            "'CHECK' is no action: check, stats, canon, show",
         ),
         (
             &["wmod", "check", "--limit", "0x10"],

@@ -11,6 +11,7 @@ use Rattle.wm_decode.specs.declared.machine.Machine.TheVariants as machine
 use Rattle.wm_decode.specs.declared.member.SectionKind.{SectionKind}
 use Rattle.wm_decode.specs.declared.member.InMember.{InMember}
 use Rattle.wm_decode.specs.declared.short_steps.Stepped.{Stepped}
+use Rattle.wm_decode.specs.declared.short_steps.Place.{Place}
 use Rattle.wm_decode.specs.Items.{Item}
 use Rattle.wm_decode.specs.exact.Runs.{plain_item}
 use Rattle.wm_decode.specs.exact.Steps.{step_of}
@@ -19,6 +20,9 @@ use Rattle.wm_decode.specs.exact.Steps.{step_of}
 abbrev pub part_event : Option Plain → Event
 part_event (Some part) = event.Complete part
 part_event None = event.Nothing
+
+abbrev pub standing : Place → Machine
+standing p = machine.Section p.of p.functions p.more p.left p.at
 
 abbrev pub after_stepped : SectionKind → ℕ → ℕ → Stepped → Machine
 after_stepped of functions more s = machine.Section of functions more s.left s.at

@@ -87,9 +87,9 @@ NoSign o = Unit {0}
 -- the sink was given what was read, if that lies in so many bytes
 abbrev pub GaveAs : {H : Type 0} → (H → Item → Result H Why) → H → ℕ → Option Read → Took → H → Type 0
 GaveAs after h room (Some r) (took.Next n d) g = (r.next ≡ n) × (r.depth ≡ d) × (n ≤ room) × (after h (body_op r.op) ≡ Ok g)
-GaveAs after h room (Some r) (took.Refused n w) g = (r.next ≡ n) × (n ≤ room) × (w ≢ why.Memory → after h (body_op r.op) ≡ Err w)
+GaveAs after h room (Some r) (took.Refused w n) g = (r.next ≡ n) × (n ≤ room) × (w ≢ why.Memory → after h (body_op r.op) ≡ Err w)
 GaveAs after h room Nothing (took.Next n d) g = ⊥
-GaveAs after h room Nothing (took.Refused n w) g = ⊥
+GaveAs after h room Nothing (took.Refused w n) g = ⊥
 GaveAs after h room x took.Left g = h ≡ g
 
 -- what came of the op at a place: the sink took it, it was left, or the sink refused it
@@ -97,7 +97,7 @@ abbrev pub TookAs : {H : Type 0} → (H → Item → Result H Why) → H → Lis
 TookAs after h bytes start depth room (took.Next n d) g =
     (o : Op) × WholeOp bytes start n depth d o × (n ≤ room) × (after h (body_op o) ≡ Ok g)
 TookAs after h bytes start depth room took.Left g = h ≡ g
-TookAs after h bytes start depth room (took.Refused n w) g =
+TookAs after h bytes start depth room (took.Refused w n) g =
     (o : Op) × (d : ℕ) × WholeOp bytes start n depth d o × (n ≤ room) × (w ≢ why.Memory → after h (body_op o) ≡ Err w)
 
 -- from one place in a list to another lie whole ops, and the sink took them

@@ -15,8 +15,8 @@ use Rattle.wm_syntax.specs.declared.why.Why.TheVariants as why
 use Rattle.wm_syntax.specs.Types.{Signature}
 use Rattle.wm_syntax.specs.Modules.{Module, Import, Function, GlobalDef, Export, Element, Segment}
 use Rattle.wm_syntax.specs.Modules as modules
-use Rattle.wm_syntax.specs.Building.{Place, at, labels, placed}
-use Rattle.wm_syntax.specs.Building as building
+use Rattle.wm_syntax.specs.inner.Building.{Place, at, labels, placed}
+use Rattle.wm_syntax.specs.inner.Building as building
 use Rattle.wm_rules.specs.declared.builder.Purpose.{Purpose}
 use Rattle.wm_rules.specs.declared.builder.Purpose.TheVariants as purpose
 use Rattle.wm_rules.specs.declared.builder.Pending.{Pending}

@@ -4,7 +4,7 @@ use Rattle.wm_syntax.specs.declared.instructions.Op.{Op}
 use Rattle.wm_syntax.specs.declared.instructions.Op.TheVariants as op
 use Rattle.wm_syntax.specs.declared.body_builder.Opened.{Opened}
 use Rattle.wm_syntax.specs.declared.body_builder.Opened.TheVariants as opened
-use Rattle.wm_syntax.specs.Building.{Open, in_block, in_loop, in_first, in_second, Place, at, labels, ops_at}
+use Rattle.wm_syntax.specs.inner.Building.{Open, in_block, in_loop, in_first, in_second, Place, at, labels, ops_at}
 
 -- how the lists that are open were opened, the outermost first
 abbrev pub kind_of : Open → Opened

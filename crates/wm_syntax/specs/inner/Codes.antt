@@ -9,7 +9,7 @@ use Rattle.wm_syntax.specs.declared.instructions.Op.{Op}
 use Rattle.wm_syntax.specs.declared.instructions.Op.TheVariants as op
 use Rattle.wm_syntax.specs.contracts.instructions.Op as rows
 use Rattle.wm_syntax.specs.Instructions.{Instruction, Instructions, none, snoc, simple, table, block, loop, choice, instruction_ops, ops_of, else_ops}
-use Rattle.wm_syntax.specs.Building.{Open, in_block, in_loop, in_first, in_second, Place, at, labels, start, place_after, body_in, tree_of, outer_ops, ops_at, place_in, place_of}
+use Rattle.wm_syntax.specs.inner.Building.{Open, in_block, in_loop, in_first, in_second, Place, at, labels, start, place_after, body_in, tree_of, outer_ops, ops_at, place_in, place_of}
 
 pub join : Instructions → Instructions → Instructions
 join s none = s

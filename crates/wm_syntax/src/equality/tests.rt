@@ -43,11 +43,11 @@ fn what_is_the_same_and_what_is_not(rt: HostRuntime) -> Result<(), Fail> {
         &[(3, ValType::I32)],
         &[Op::Simple(Simple::Br(7))],
     )?;
-    assert!(rt; one.same(&joined));
-    assert!(rt; !one.same(&other_locals));
-    assert!(rt; !one.same(&longer));
-    assert!(rt; !one.same(&other_op));
-    assert!(rt; !one.same(&Module::new(rt.alloc())));
+    assert!(rt; one == joined);
+    assert!(rt; one != other_locals);
+    assert!(rt; one != longer);
+    assert!(rt; one != other_op);
+    assert!(rt; one != Module::new(rt.alloc()));
     Ok(())
 }
 
@@ -55,6 +55,6 @@ fn what_is_the_same_and_what_is_not(rt: HostRuntime) -> Result<(), Fail> {
 fn an_empty_else_makes_no_difference(rt: HostRuntime) -> Result<(), Fail> {
     let with = module_of(rt.alloc(), &[], &[Op::If(None), Op::Else, Op::End])?;
     let without = module_of(rt.alloc(), &[], &[Op::If(None), Op::End])?;
-    assert!(rt; with.same(&without));
+    assert!(rt; with == without);
     Ok(())
 }

@@ -6,6 +6,8 @@ use Rattle.wm_syntax.specs.declared.types.ValType.{ValType}
 use Rattle.wm_syntax.specs.declared.types.ValType.TheVariants.{I32, I64}
 use Rattle.wm_syntax.specs.declared.instructions.Op.{Op}
 use Rattle.wm_syntax.specs.declared.instructions.Op.TheVariants as op
+use Rattle.wm_syntax.specs.declared.instructions.Simple.{Simple}
+use Rattle.wm_syntax.specs.declared.instructions.Simple.TheVariants as simple
 use Rattle.wm_syntax.specs.declared.why.Why.{Why}
 use Rattle.wm_syntax.specs.declared.why.Why.TheVariants as why
 use Rattle.wm_stacks.specs.declared.entries.Entry.{Entry}
@@ -62,6 +64,18 @@ drive (is_polymorphic p) s = drive_diverges p s
 drive drops s = drive_drop s
 drive selects s = drive_select s
 drive (ill w) s = Err w
+
+-- an instruction whose type depends on no label, function, global or operand
+abbrev pub HasFixedType : Simple → Type 0
+HasFixedType (simple.LocalGet x) = Unit {0}
+HasFixedType (simple.LocalSet x) = Unit {0}
+HasFixedType (simple.LocalTee x) = Unit {0}
+HasFixedType (simple.I32Const n) = Unit {0}
+HasFixedType (simple.I64Const n) = Unit {0}
+HasFixedType (simple.Load o at) = Unit {0}
+HasFixedType (simple.Store o at) = Unit {0}
+HasFixedType (simple.Numeric o) = Unit {0}
+HasFixedType p = ⊥
 
 -- takes the result of the innermost frame, and closes it
 abbrev pub drive_close : Option ValType → Stack → (Frame → Stack → Result Stack Why) → Result Stack Why

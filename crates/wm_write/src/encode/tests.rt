@@ -1,7 +1,6 @@
 use super::*;
+use crate::narrow::Narrow;
 use std::alloc::Global;
-use std::io;
-use std::io::Write;
 use std::process::Abort;
 use std::test::Fail;
 use wm_syntax::body::Body;
@@ -13,30 +12,6 @@ use wm_syntax::modules::{
     Element, Export, ExportKind, Function, GlobalDef, Import, ImportDesc, Segment,
 };
 use wm_syntax::types::{Const, FuncType, GlobalType, Limits, ValType};
-
-/// Takes so many bytes in all, one a call.
-#[derive(Drop)]
-struct Narrow {
-    taken: Vec<u8>,
-    room: usize,
-}
-
-impl Write for Narrow {
-    fn write(&mut self, buf: &[u8]) -> io::Result<usize> {
-        let Some(first) = buf.first() else {
-            return Ok(0);
-        };
-        if self.taken.len() >= self.room {
-            return Ok(0);
-        }
-        self.taken.push(*first)?;
-        Ok(1)
-    }
-
-    fn flush(&mut self) -> io::Result<()> {
-        Ok(())
-    }
-}
 
 fn body_of(alloc: Global, ops: &[Op]) -> Result<Body, Fail> {
     let mut builder = BodyBuilder::new(alloc);
@@ -216,10 +191,7 @@ fn each_kind_of_section(rt: HostRuntime) -> Result<(), Fail> {
 fn a_writer_that_fails_was_given_what_is_counted(rt: HostRuntime) -> Result<(), Fail> {
     let module = adding(rt.alloc())?;
     for room in 0..ADDING.len() {
-        let mut dest = Output::new(Narrow {
-            taken: Vec::new(rt.alloc()),
-            room,
-        });
+        let mut dest = Output::new(Narrow::new(rt.alloc(), room));
         let answer = encode(&module, &mut dest);
         assert_eq!(rt;
             answer,
@@ -227,7 +199,7 @@ fn a_writer_that_fails_was_given_what_is_counted(rt: HostRuntime) -> Result<(), 
                 written: room as u64
             })
         );
-        assert_eq!(rt; dest.into_inner().taken.as_slice(), &ADDING[..room]);
+        assert_eq!(rt; dest.into_inner().taken(), &ADDING[..room]);
     }
     Ok(())
 }

@@ -4,9 +4,10 @@ use Rattle.wm_rules.specs.Reading.{Judges, LoadsFrom}
 use Rattle.wm_rules.specs.inner.Loaders.{module_in}
 use Rattle.wm_syntax.specs.Values.{value_of}
 use Rattle.wm_write.specs.Canon.{canon}
+use Rattle.wm_write.specs.Layout.{layout}
 use Rattle.wm_cli.specs.Outcome.{refusal_line}
 use Rattle.wm_cli.specs.declared.status.Status.TheVariants as status
-use Rattle.wm_cli.proofs.RunLemmas.{out_of_loaded, out_of_refusal}
+use Rattle.wm_cli.proofs.RunLemmas.{out_of_loaded, out_of_refusal, writes_canon, writes_layout}
 use Rattle.wm_cli.proofs.run.run.Goals as goal
 
 pub returns-in-Err-Refused-clause-answered : goal.returns-in-Err-Refused-clause-answered
@@ -55,6 +56,28 @@ pub returns-in-Ok-load_from-clause-answered : goal.returns-in-Ok-load_from-claus
 returns-in-Ok-load_from-clause-answered g c = λ o m.
     let checked = c.in-Ok-load_from.checked in
     let out =
-    out_of_loaded c.args.action c.args.profile c.args.limit (g.R.Source.remaining c.args.r.now) (g.R.Source.remaining c.load_from.new.r) checked
-    c.in-Canon.is c.in-Ok-load_from.ensures.loaded
+    out_of_loaded c.args.action canon (writes_canon c.args.action c.in-Canon.is) c.args.profile c.args.limit (g.R.Source.remaining c.args.r.now)
+    (g.R.Source.remaining c.load_from.new.r) checked c.in-Ok-load_from.ensures.loaded
     in (canon (value_of (module_in checked)), status.Done, out.0, out.1, c.write_canonical.ensures)
+
+pub returns-in-Err-Refused-load_from-2-clause-answered : goal.returns-in-Err-Refused-load_from-2-clause-answered
+returns-in-Err-Refused-load_from-2-clause-answered g c = λ o m.
+    let all = g.R.Source.remaining c.args.r.now in
+    let left = g.R.Source.remaining c.load_from-in-Show.new.r in
+    let r = c.in-Err-Refused-load_from-2.refusal in
+    let refused = c.refuse-in-Err-Refused-load_from-2.ensures.answered m in (
+      refusal_line r.at r.why,
+      status.Refused,
+      inr ((r.at, r.why, refused.0, refl), refl),
+      out_of_refusal c.args.action c.args.profile c.args.limit all left r refused.0
+          (subst (λ f. LoadsFrom c.args.profile c.args.limit all left (Err f)) c.in-Err-Refused-load_from-2.field-0-is c.in-Err-Refused-load_from-2.ensures.loaded),
+      refused.1,
+    )
+
+pub returns-in-Ok-load_from-2-clause-answered : goal.returns-in-Ok-load_from-2-clause-answered
+returns-in-Ok-load_from-2-clause-answered g c = λ o m.
+    let checked = c.in-Ok-load_from-2.checked in
+    let out =
+    out_of_loaded c.args.action layout (writes_layout c.args.action c.in-Show.is) c.args.profile c.args.limit (g.R.Source.remaining c.args.r.now)
+    (g.R.Source.remaining c.load_from-in-Show.new.r) checked c.in-Ok-load_from-2.ensures.loaded
+    in (layout (value_of (module_in checked)), status.Done, out.0, out.1, c.write_text.ensures)

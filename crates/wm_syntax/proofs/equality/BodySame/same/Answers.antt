@@ -1,6 +1,6 @@
 -- A body is its ops.
 use Rattle.std.proofs.Common.{◌∙◌, sym, ap}
-use Rattle.wm_syntax.specs.Building.{tree_of}
+use Rattle.wm_syntax.specs.inner.Building.{tree_of}
 use Rattle.wm_syntax.specs.Instructions.{ops_of}
 use Rattle.wm_syntax.specs.inner.Codes.{again}
 use Rattle.wm_syntax.proofs.equality.BodySame.same.Goals as goal

@@ -1,0 +1,245 @@
+-- Type uses whose parameters may have identifiers.
+use Rattle.std.proofs.Common.{◌≡◌, ℕ, ◌<◌, ◌≤◌, ◌+◌, ◌⊎◌, Bool, true, false, cond, ◌&&◌, List, [], ◌∷◌, ◌++◌, length, Option, Some, None, refl, sym, ap, subst, ◌∙◌, inl, inr, take, get_or}
+use Rattle.std.specs.Prelude.{codes, map, slice_get}
+use Rattle.std.proofs.lemmas.Bool.{cond-true, cond-false, and_parts}
+use Rattle.std.proofs.lemmas.List.{map-append, take_more, take_all}
+use Rattle.wm_syntax.specs.Spelling.{Form, Each}
+use Rattle.wm_syntax.specs.Types.{Signature}
+use Rattle.wm_syntax.specs.declared.types.ValType.{ValType}
+use Rattle.wm_read.specs.Tokens.{Token}
+use Rattle.wm_read.specs.Identifiers.{AreDistinct, Resolves}
+use Rattle.wm_read.specs.Written.{Named, Names, Paren, TypeUse, WritesGroups, WritesResults, WritesUnnamed, types_of}
+use Rattle.wm_read.specs.exact.Reading.{◌>>=◌, made, atom_at, index_of, then_at, paren_at}
+use Rattle.wm_read.specs.exact.TypeUses.{begins_group, fits, groups_at, joined, named_at, no_types, unnamed}
+use Rattle.wm_read.specs.exact.NamedUses.{none_written, used_of, used_at, results_at, use_parts, named_use_at}
+use Rattle.wm_read.specs.declared.faults.TextWhy.{TextWhy}
+use Rattle.wm_read.specs.declared.named.Named.{Named as Code}
+use Rattle.wm_read.specs.inner.Named.{named_of, named_list}
+use Rattle.wm_read.specs.inner.Views.{Fails}
+use Rattle.wm_read.proofs.Basics.{chosen, same_some}
+use Rattle.wm_read.proofs.Groups.{fails_on}
+use Rattle.wm_read.proofs.Indices.{index_sound, index_complete}
+use Rattle.wm_read.proofs.NamedGroups.{groups_are_read, groups_are_written}
+use Rattle.wm_read.proofs.Readers.{Sound, Complete, Any, Both, bind_ok, bind_is, made_is, made_sound, paren_complete, paren_sound, then_complete, then_sound}
+use Rattle.wm_read.proofs.TypeUseLaws.{Fitting, fits_found, fits_more, groups_complete, groups_sound, none_are}
+
+-- ---- the forms of a use
+
+abbrev NotGroup : List ℕ → List Token → Type 0
+NotGroup word k = begins_group word k ≡ false
+
+-- no further form of a use follows
+abbrev pub UseEnds : List Token → Type 0
+UseEnds k = (begins_group (codes "param") k ≡ false) × (begins_group (codes "result") k ≡ false)
+
+results_sound : Sound results_at WritesResults
+unfolding results_at
+results_sound = made_sound joined (groups_at (codes "result")) (Each (WritesUnnamed (codes "result"))) WritesResults (groups_sound (codes "result")) (λ gs front h. (gs, refl, h))
+
+results_complete : Complete results_at WritesResults (NotGroup (codes "result"))
+unfolding results_at
+results_complete rs front rest (gs, e, h) f =
+    made_is joined (groups_at (codes "result") (front ++ rest)) gs rest (groups_complete (codes "result") gs front rest h f) ∙ ap (λ (z : List ValType). Some (z, rest)) (sym e)
+
+no_param : (gs : List (List ValType)) (front rest : List Token) → Each (WritesUnnamed (codes "result")) gs front → NotGroup (codes "param") rest → NotGroup (codes "param") (front ++ rest)
+no_param [] front rest h f = subst (λ (z : List Token). NotGroup (codes "param") (z ++ rest)) (sym h) f
+no_param (g ∷ gs) front rest (x, y, e, (a, b, d, is, w), more) f =
+    subst (λ (z : List Token). NotGroup (codes "param") (z ++ rest)) (sym (e ∙ ap (λ (z : List Token). z ++ y) (d ∙ ap (λ (z : List Token). z ++ b) is))) refl
+
+abbrev Forms : Names → ℕ × (List Named × List ValType) → Form Token
+Forms names = Both (λ x. Paren (codes "type") (Resolves names.types x)) (Both (WritesGroups (codes "param")) WritesResults)
+
+forms_sound : (names : Names) → Sound (use_parts names) (Forms names)
+forms_sound names =
+    then_sound (paren_at (codes "type") (atom_at (index_of names.types))) (then_at (named_at (codes "param")) results_at) (λ x. Paren (codes "type") (Resolves names.types x)) (Both (WritesGroups (codes "param")) WritesResults)
+    (paren_sound (codes "type") (atom_at (index_of names.types)) (Resolves names.types) (index_sound names.types))
+    (then_sound (named_at (codes "param")) results_at (WritesGroups (codes "param")) WritesResults (groups_are_written (codes "param")) results_sound)
+
+forms_complete : (names : Names) → AreDistinct names.types → Complete (use_parts names) (Forms names) UseEnds
+forms_complete names d =
+    then_complete (paren_at (codes "type") (atom_at (index_of names.types))) (then_at (named_at (codes "param")) results_at) (λ x. Paren (codes "type") (Resolves names.types x)) (Both (WritesGroups (codes "param")) WritesResults) Any UseEnds
+    (paren_complete (codes "type") (atom_at (index_of names.types)) (Resolves names.types) (λ x f r h i. index_complete names.types d x f r h tt))
+    (then_complete (named_at (codes "param")) results_at (WritesGroups (codes "param")) WritesResults (NotGroup (codes "param")) UseEnds
+    (groups_are_read (codes "param")) (λ rs f r h i. results_complete rs f r h i.1) (λ rs f r h i. no_param h.0 f r h.2 i.0))
+    (λ y f r h g. tt)
+
+-- ---- what is used
+
+abbrev Which : Signature → List Named → List ValType → List Named → Type 0
+Which f ps rs params = ((ps ≡ []) × (rs ≡ []) × (params ≡ map (λ t. (None, t)) f.params)) ⊎ ((types_of ps ≡ f.params) × (rs ≡ f.results) × (params ≡ ps))
+
+no_named : (ps : List Named) → no_types (types_of ps) ≡ true → ps ≡ []
+no_named [] h = refl
+no_named (p ∷ ps) h = absurd (let f : false ≡ true = h in cc)
+
+which : (f : Signature) (ps : List Named) (rs : List ValType) → fits f (types_of ps) rs ≡ true → Which f ps rs (cond (none_written ps rs) (unnamed f.params) ps)
+which f ps rs h = by (none_written ps rs) refl
+  where
+    by : (t : Bool) → none_written ps rs ≡ t → Which f ps rs (cond t (unnamed f.params) ps)
+    by true e = let p = and_parts (no_types (types_of ps)) (no_types rs) e in inl (no_named ps p.0, none_are rs p.1, refl)
+    by false e = elim (fits_found f (types_of ps) rs h) [
+      | inl a ↦ absurd (let n : none_written ps rs ≡ true = ap (λ (z : List ValType). no_types z && no_types rs) a.0 ∙ ap no_types a.1 in let c : true ≡ false = sym n ∙ e in cc)
+      | inr a ↦ inr (a.0, a.1, refl)
+    ]
+
+fitting : (f : Signature) (ps : List Named) (rs : List ValType) (params : List Named) → Which f ps rs params → Fitting f (types_of ps) rs
+fitting f ps rs params (inl (a, b, c)) = inl (ap types_of a, b)
+fitting f ps rs params (inr (a, b, c)) = inr (a, b)
+
+used : (f : Signature) (ps : List Named) (rs : List ValType) (params : List Named) → Which f ps rs params → cond (none_written ps rs) (unnamed f.params) ps ≡ params
+used f ps rs params (inl (a, b, c)) = ap (λ (z : List Named). cond (none_written z rs) (unnamed f.params) z) a ∙ ap (λ (z : List ValType). cond (none_written [] z) (unnamed f.params) []) b ∙ sym c
+used f ps rs params (inr (a, b, c)) = by (none_written ps rs) refl ∙ sym c
+  where
+    by : (t : Bool) → none_written ps rs ≡ t → cond t (unnamed f.params) ps ≡ ps
+    by true e =
+        let none = no_named ps (and_parts (no_types (types_of ps)) (no_types rs) e).0 in
+        ap unnamed (sym a ∙ ap types_of none) ∙ sym none
+    by false e = refl
+
+-- ---- the whole use
+
+pub uses_are_written : (names : Names) → Sound (named_use_at names) (λ y. TypeUse names y.0 y.1)
+unfolding named_use_at
+uses_are_written names k y rest e =
+    let a = bind_ok (use_parts names k) (λ r. used_at names r.0.0 r.0.1.0 r.0.1.1 >>= λ y. Some (y, r.1)) (y, rest) e in
+    let x = a.0.0.0 in let ps = a.0.0.1.0 in let rs = a.0.0.1.1 in
+    let b = bind_ok (used_at names x ps rs) (λ y. Some (y, a.0.1)) (y, rest) a.2 in
+    let c = bind_ok (slice_get names.signatures x) (λ f. used_of f ps rs >>= λ qs. Some (x, qs)) b.0 b.1 in
+    let d = bind_ok (used_of c.0 ps rs) (λ qs. Some (x, qs)) b.0 c.2 in
+    let one = forms_sound names k a.0.0 a.0.1 a.1 in
+    let is : ◌≡◌ {A = (ℕ × List Named) × List Token} ((x, d.0), a.0.1) (y, rest) =
+    ap (λ (z : ℕ × List Named). (z, a.0.1)) (same_some (x, d.0) b.0 d.2) ∙ same_some (b.0, a.0.1) (y, rest) b.2 in (
+      one.0,
+      one.1 ∙ ap (λ (z : (ℕ × List Named) × List Token). one.0 ++ z.1) is,
+      subst (λ (z : (ℕ × List Named) × List Token). TypeUse names z.0.0 z.0.1 one.0) is
+          (elim (chosen (fits c.0 (types_of ps) rs) (Some (cond (none_written ps rs) (unnamed c.0.params) ps)) None (Some d.0) d.1) as (λ _. TypeUse names x d.0 one.0) [
+            | inl t ↦ (c.0, ps, rs, c.1, one.2, subst (Which c.0 ps rs) (same_some (cond (none_written ps rs) (unnamed c.0.params) ps) d.0 t.1) (which c.0 ps rs t.0))
+            | inr t ↦ absurd (let f : ◌≡◌ {A = Option (List Named)} None (Some d.0) = t.1 in cc)
+          ]),
+    )
+
+used_found : (f : Signature) (ps : List Named) (rs : List ValType) (params : List Named) → Which f ps rs params → used_of f ps rs ≡ Some params
+used_found f ps rs params w = cond-true (fits f (types_of ps) rs) (Some (cond (none_written ps rs) (unnamed f.params) ps)) None (fits_more f (types_of ps) rs (fitting f ps rs params w)) ∙ ap Some (used f ps rs params w)
+
+pub uses_are_read : (names : Names) → AreDistinct names.types → Complete (named_use_at names) (λ y. TypeUse names y.0 y.1) UseEnds
+unfolding named_use_at
+uses_are_read names distinct y front rest (f, ps, rs, look, w, h) after =
+    bind_is (use_parts names (front ++ rest)) (λ r. used_at names r.0.0 r.0.1.0 r.0.1.1 >>= λ y. Some (y, r.1)) ((y.0, (ps, rs)), rest)
+    (forms_complete names distinct (y.0, (ps, rs)) front rest w after)
+    ∙ bind_is (used_at names y.0 ps rs) (λ y. Some (y, rest)) (y.0, y.1)
+    (bind_is (slice_get names.signatures y.0) (λ f. used_of f ps rs >>= λ qs. Some (y.0, qs)) f look ∙ bind_is (used_of f ps rs) (λ qs. Some (y.0, qs)) y.1 (used_found f ps rs y.1 h))
+
+-- ---- the code
+
+abbrev TypeOf : Names → List Token → Option (ℕ × List Token)
+TypeOf names k = paren_at (codes "type") (atom_at (index_of names.types)) k
+
+abbrev Written : Type 0
+Written = List Named × List ValType
+
+abbrev Ends : Names → Option ((ℕ × Written) × List Token) → Option ((ℕ × List Named) × List Token)
+Ends names o = o >>= λ r. used_at names r.0.0 r.0.1.0 r.0.1.1 >>= λ y. Some (y, r.1)
+
+abbrev both : List Token → Option (Written × List Token)
+both k = then_at (named_at (codes "param")) results_at k
+
+abbrev After : Names → ℕ → Option (Written × List Token) → Option ((ℕ × List Named) × List Token)
+After names x o = Ends names (o >>= λ b. Some ((x, b.0), b.1))
+
+abbrev By : Names → Option (ℕ × List Token) → Option ((ℕ × List Named) × List Token)
+By names o = Ends names (o >>= λ a. both a.1 >>= λ b. Some ((a.0, b.0), b.1))
+
+pub named_untaken : (names : Names) (i : List Token) → TypeOf names i ≡ None → named_use_at names i ≡ None
+unfolding named_use_at
+named_untaken names i e = ap (By names) e
+
+use_is : (names : Names) (x : ℕ) (i j : List Token) → TypeOf names i ≡ Some (x, j) → named_use_at names i ≡ After names x (both j)
+unfolding named_use_at
+use_is names x i j e = ap (By names) e
+
+pub named_untyped : (names : Names) (x : ℕ) (i j : List Token) → TypeOf names i ≡ Some (x, j) → slice_get names.signatures x ≡ None → named_use_at names i ≡ None
+named_untyped names x i j t e = use_is names x i j t ∙ by (both j)
+  where
+    none : (ps : List Named) (rs : List ValType) → used_at names x ps rs ≡ None
+    none ps rs = ap (λ (o : Option Signature). ◌>>=◌ {B = ℕ × List Named} o (λ f. used_of f ps rs >>= λ qs. Some (x, qs))) e
+
+    by : (o : Option (Written × List Token)) → After names x o ≡ None
+    by None = refl
+    by (Some r) = ap (λ (o : Option (ℕ × List Named)). ◌>>=◌ {B = (ℕ × List Named) × List Token} o (λ y. Some (y, r.1))) (none r.0.0 r.0.1)
+
+pub named_params : (names : Names) (x : ℕ) (i j : List Token) → TypeOf names i ≡ Some (x, j) → named_at (codes "param") j ≡ None → named_use_at names i ≡ None
+named_params names x i j t g = use_is names x i j t ∙ ap (λ (o : Option (List Named × List Token)). After names x (o >>= λ a. results_at a.1 >>= λ b. Some ((a.0, b.0), b.1))) g
+
+pub named_results : (names : Names) (x : ℕ) (ps : List Named) (i j k : List Token) → TypeOf names i ≡ Some (x, j) → named_at (codes "param") j ≡ Some (ps, k)
+    → made joined (groups_at (codes "result") k) ≡ None → named_use_at names i ≡ None
+unfolding results_at
+named_results names x ps i j k t g h =
+    use_is names x i j t
+    ∙ ap (After names x) (bind_is (named_at (codes "param") j) (λ a. results_at a.1 >>= λ b. Some ((a.0, b.0), b.1)) (ps, k) g ∙ ap (λ (o : Option (List ValType × List Token)). o >>= λ b. Some ((ps, b.0), b.1)) h)
+
+pub named_ends : (names : Names) (x : ℕ) (f : Signature) (ps : List Named) (rs : List ValType) (o : Option (List Named)) (i j k l : List Token)
+    → TypeOf names i ≡ Some (x, j) → slice_get names.signatures x ≡ Some f → named_at (codes "param") j ≡ Some (ps, k) → made joined (groups_at (codes "result") k) ≡ Some (rs, l) → o ≡ used_of f ps rs
+    → named_use_at names i ≡ (o >>= λ qs. Some ((x, qs), l))
+unfolding results_at
+named_ends names x f ps rs o i j k l t e g h u =
+    use_is names x i j t
+    ∙ ap (After names x) (bind_is (named_at (codes "param") j) (λ a. results_at a.1 >>= λ b. Some ((a.0, b.0), b.1)) (ps, k) g ∙ bind_is (results_at k) (λ b. Some ((ps, b.0), b.1)) (rs, l) h)
+    ∙ ap (λ (z : Option (ℕ × List Named)). ◌>>=◌ {B = (ℕ × List Named) × List Token} z (λ y. Some (y, l))) (bind_is (slice_get names.signatures x) (λ f. used_of f ps rs >>= λ qs. Some (x, qs)) f e ∙ ap (λ (z : Option (List Named)). z >>= λ qs. Some (x, qs)) (sym u))
+    ∙ by o
+  where
+    by : (o : Option (List Named)) → ◌>>=◌ {B = (ℕ × List Named) × List Token} (o >>= λ qs. Some (x, qs)) (λ y. Some (y, l)) ≡ (o >>= λ qs. Some ((x, qs), l))
+    by None = refl
+    by (Some qs) = refl
+
+-- ---- types and parameters, one by one
+
+pub types_step : (ps : List Code) (i : ℕ) (d : Code) (ts : List ValType) → i < length ps → ts ≡ types_of (named_list (take i ps)) → ts ++ (get_or ps i d).ty ∷ [] ≡ types_of (named_list (take (i + 1) ps))
+types_step ps i d ts lt e =
+    ap (λ (z : List ValType). z ++ (get_or ps i d).ty ∷ []) e
+    ∙ sym (ap (λ (z : List Code). types_of (named_list z)) (take_more ps i d lt) ∙ ap types_of (map-append named_of (take i ps) (get_or ps i d ∷ []))
+    ∙ map-append (λ (p : Named). p.1) (named_list (take i ps)) (named_of (get_or ps i d) ∷ []))
+
+pub types_all : (ps : List Code) (i : ℕ) (ts : List ValType) → length ps ≤ i → ts ≡ types_of (named_list (take i ps)) → ts ≡ types_of (named_list ps)
+types_all ps i ts le e = e ∙ ap (λ (z : List Code). types_of (named_list z)) (take_all i ps le)
+
+pub unnamed_step : (ts : List ValType) (i : ℕ) (d : ValType) (ps : List Code) (p : Code) → i < length ts → named_list ps ≡ unnamed (take i ts) → named_of p ≡ (None, get_or ts i d)
+    → named_list (ps ++ p ∷ []) ≡ unnamed (take (i + 1) ts)
+unnamed_step ts i d ps p lt e h =
+    map-append named_of ps (p ∷ []) ∙ ap (λ (z : List Named). z ++ named_of p ∷ []) e ∙ ap (λ (z : Named). unnamed (take i ts) ++ z ∷ []) h
+    ∙ sym (ap unnamed (take_more ts i d lt) ∙ map-append (λ (t : ValType). (None, t)) (take i ts) (get_or ts i d ∷ []))
+
+pub unnamed_all : (ts : List ValType) (i : ℕ) (ps : List Code) → length ts ≤ i → named_list ps ≡ unnamed (take i ts) → named_list ps ≡ unnamed ts
+unnamed_all ts i ps le e = e ∙ ap unnamed (take_all i ts le)
+
+pub ruleset types_laws = (types_step, types_all)
+
+pub ruleset unnamed_laws = (unnamed_step, unnamed_all)
+
+-- ---- the parameters of a use
+
+pub used_none : (f : Signature) (ps : List Named) (rs ts : List ValType) → ts ≡ types_of ps → fits f ts rs ≡ false → used_of f ps rs ≡ None
+used_none f ps rs ts e h = cond-false (fits f (types_of ps) rs) (Some (cond (none_written ps rs) (unnamed f.params) ps)) None (ap (λ (z : List ValType). fits f z rs) (sym e) ∙ h)
+
+used_some : (f : Signature) (ps qs : List Named) (rs ts : List ValType) (b : Bool) → ts ≡ types_of ps → fits f ts rs ≡ true → (no_types ts && no_types rs) ≡ b → cond b (unnamed f.params) ps ≡ qs → used_of f ps rs ≡ Some qs
+used_some f ps qs rs ts b e h n q =
+    cond-true (fits f (types_of ps) rs) (Some (cond (none_written ps rs) (unnamed f.params) ps)) None (ap (λ (z : List ValType). fits f z rs) (sym e) ∙ h)
+    ∙ ap (λ (z : Bool). Some (cond z (unnamed f.params) ps)) (ap (λ (z : List ValType). no_types z && no_types rs) (sym e) ∙ n) ∙ ap Some q
+
+pub used_types : (f : Signature) (ps qs : List Named) (rs ts : List ValType) → ts ≡ types_of ps → fits f ts rs ≡ true → (no_types ts && no_types rs) ≡ true → qs ≡ unnamed f.params → used_of f ps rs ≡ Some qs
+used_types f ps qs rs ts e h n q = used_some f ps qs rs ts true e h n (sym q)
+
+pub used_written : (f : Signature) (ps : List Named) (rs ts : List ValType) → ts ≡ types_of ps → fits f ts rs ≡ true → (no_types ts && no_types rs) ≡ false → used_of f ps rs ≡ Some ps
+used_written f ps rs ts e h n = used_some f ps ps rs ts false e h n refl
+
+pub ruleset used_laws = (used_none, used_types, used_written)
+
+-- ---- refusals
+
+pub named_params_fail : (names : Names) (x : ℕ) (w : TextWhy) (i j : List Token) → TypeOf names i ≡ Some (x, j) → Fails w (named_at (codes "param") j) → Fails w (named_use_at names i)
+named_params_fail names x w i j t h = fails_on w (named_at (codes "param") j) (named_use_at names i) (named_params names x i j t) h
+
+pub named_results_fail : (names : Names) (x : ℕ) (ps : List Named) (w : TextWhy) (i j k : List Token) → TypeOf names i ≡ Some (x, j) → named_at (codes "param") j ≡ Some (ps, k)
+    → Fails w (made joined (groups_at (codes "result") k)) → Fails w (named_use_at names i)
+named_results_fail names x ps w i j k t g h = fails_on w (made joined (groups_at (codes "result") k)) (named_use_at names i) (named_results names x ps i j k t g) h
+
+pub ruleset named_laws = (named_untaken, named_params_fail, named_results_fail)

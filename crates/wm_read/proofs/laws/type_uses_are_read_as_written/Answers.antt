@@ -1,0 +1,8 @@
+use Rattle.wm_read.proofs.NamedUses.{uses_are_written, uses_are_read}
+use Rattle.wm_read.proofs.laws.type_uses_are_read_as_written.Goals as goal
+
+pub returns-clause-read : goal.returns-clause-read
+returns-clause-read c = uses_are_written
+
+pub returns-clause-written : goal.returns-clause-written
+returns-clause-written c = uses_are_read

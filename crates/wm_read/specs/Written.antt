@@ -1,0 +1,158 @@
+-- The text of instructions (section 6.5): which tokens write an instruction, and a list of them.
+use Rattle.std.specs.Prelude.{◌≡◌, ℕ, ◌<◌, ◌^◌, ◌⊎◌, List, [], ◌∷◌, ◌++◌, Option, Some, None, codes, length, map, flat_map, slice_get, ℤ}
+use Rattle.wm_syntax.specs.Spelling.{Form, Exactly, Each, ◌▸◌, ◌∣◌}
+use Rattle.wm_syntax.specs.declared.types.ValType.{ValType}
+use Rattle.wm_syntax.specs.declared.types.ValType.TheVariants.{I32, I64}
+use Rattle.wm_syntax.specs.declared.instructions.MemArg.{MemArg}
+use Rattle.wm_syntax.specs.declared.instructions.Simple.{Simple}
+use Rattle.wm_syntax.specs.declared.instructions.Simple.TheVariants.{Br, BrIf, Call, CallIndirect, LocalGet, LocalSet, LocalTee, GlobalGet, GlobalSet, I32Const, I64Const, Load, Store}
+use Rattle.wm_syntax.specs.Types.{Signature}
+use Rattle.wm_syntax.specs.Opcodes.{opcode, load, store}
+use Rattle.wm_syntax.specs.Instructions.{Instruction, Instructions, none, snoc, simple, table, block, loop, choice}
+use Rattle.wm_read.specs.Tokens.{Token, open_paren, close_paren, atom, IsUnsigned, IsInteger}
+use Rattle.wm_read.specs.Identifiers.{Id, Ids, One, WritesId, Resolves, ResolvesLabel}
+
+abbrev pub Word : List ℕ → Form Token
+Word w = Exactly (atom w ∷ [])
+
+-- ( word .. )
+abbrev pub Paren : List ℕ → Form Token → Form Token
+Paren word P = Exactly (open_paren ∷ atom word ∷ []) ▸ P ▸ Exactly (close_paren ∷ [])
+
+abbrev pub Nothing : Form Token
+Nothing = Exactly []
+
+abbrev pub Number : ℕ → Form Token
+Number = One (IsUnsigned 32)
+
+-- types (section 6.4)
+abbrev pub type_text : ValType → List ℕ
+type_text I32 = codes "i32"
+type_text I64 = codes "i64"
+
+abbrev pub WritesType : ValType → Form Token
+WritesType t = Word (type_text t)
+
+-- a parameter or a local, with its identifier
+abbrev pub Named : Type 0
+Named = Id × ValType
+
+-- ( word id type ), or ( word type* ) for several with no identifier
+abbrev pub WritesNamed : List ℕ → List ℕ → ValType → Form Token
+WritesNamed word name t = Paren word (WritesId (Some name) ▸ WritesType t)
+
+abbrev pub WritesUnnamed : List ℕ → List ValType → Form Token
+WritesUnnamed word ts = Paren word (Each WritesType ts)
+
+abbrev pub WritesGroup : List ℕ → List Named → Form Token
+WritesGroup word group k =
+    ((name : List ℕ) × (t : ValType) × (group ≡ (Some name, t) ∷ []) × WritesNamed word name t k)
+    ⊎ ((ts : List ValType) × (group ≡ map (λ t. (None, t)) ts) × WritesUnnamed word ts k)
+
+-- any number of such groups
+abbrev pub WritesGroups : List ℕ → List Named → Form Token
+WritesGroups word all k = (groups : List (List Named)) × (all ≡ flat_map (λ g. g) groups) × Each (WritesGroup word) groups k
+
+abbrev pub WritesResults : List ValType → Form Token
+WritesResults results k = (groups : List (List ValType)) × (results ≡ flat_map (λ g. g) groups) × Each (WritesUnnamed (codes "result")) groups k
+
+abbrev pub types_of : List Named → List ValType
+types_of ps = map (λ p. p.1) ps
+
+abbrev pub ids_of : List Named → Ids
+ids_of ps = map (λ p. p.0) ps
+
+-- what the text has defined: the types, and the identifiers of each space
+pub record Names : Type 0 where
+  pub signatures : List Signature
+  pub types : Ids
+  pub functions : Ids
+  pub tables : Ids
+  pub memories : Ids
+  pub globals : Ids
+
+-- A type use (section 6.4.5): written parameters and results are those of the type, or none are written. The
+-- parameters are as many as the type's, and have the identifiers written.
+abbrev pub TypeUse : Names → ℕ → List Named → Form Token
+TypeUse names x params k =
+    (f : Signature) × (ps : List Named) × (rs : List ValType) × (slice_get names.signatures x ≡ Some f)
+    × (Paren (codes "type") (Resolves names.types x) ▸ WritesGroups (codes "param") ps ▸ WritesResults rs) k
+    × (((ps ≡ []) × (rs ≡ []) × (params ≡ map (λ t. (None, t)) f.params))
+    ⊎ ((types_of ps ≡ f.params) × (rs ≡ f.results) × (params ≡ ps)))
+
+-- Instructions (section 6.5), with the identifiers of the locals and of the open labels, innermost first.
+pub record Scope : Type 0 where
+  pub names : Names
+  pub locals : Ids
+
+-- offset=N and align=N, each left out where it is 0 or the width
+abbrev pub WritesKey : List ℕ → ℕ → ℕ → Form Token
+WritesKey key usual n =
+    (λ k. (n ≡ usual) × (k ≡ [])) ∣ One (λ n a. (digits : List ℕ) × (a ≡ key ++ digits) × IsUnsigned 32 n digits) n
+
+abbrev pub WritesAccess : ℕ → MemArg → Form Token
+WritesAccess width at = WritesKey (codes "offset=") 0 at.offset ▸ WritesKey (codes "align=") width (2 ^ at.align)
+
+abbrev pub WritesInteger : ℕ → ℤ → Form Token
+WritesInteger bits = One (IsInteger bits)
+
+-- a type use whose parameters have no identifiers
+abbrev pub UnnamedTypeUse : Names → ℕ → Form Token
+UnnamedTypeUse names x k = (ts : List ValType) × TypeUse names x (map (λ t. (None, t)) ts) k
+
+abbrev pub WritesOperand : Scope → Ids → Simple → Form Token
+WritesOperand s labels (Br l) = ResolvesLabel labels l
+WritesOperand s labels (BrIf l) = ResolvesLabel labels l
+WritesOperand s labels (Call x) = Resolves s.names.functions x
+WritesOperand s labels (CallIndirect x) = UnnamedTypeUse s.names x
+WritesOperand s labels (LocalGet x) = Resolves s.locals x
+WritesOperand s labels (LocalSet x) = Resolves s.locals x
+WritesOperand s labels (LocalTee x) = Resolves s.locals x
+WritesOperand s labels (GlobalGet x) = Resolves s.names.globals x
+WritesOperand s labels (GlobalSet x) = Resolves s.names.globals x
+WritesOperand s labels (I32Const n) = WritesInteger 32 n
+WritesOperand s labels (I64Const n) = WritesInteger 64 n
+WritesOperand s labels (Load op at) = WritesAccess (load op).width at
+WritesOperand s labels (Store op at) = WritesAccess (store op).width at
+WritesOperand s labels _ = Nothing
+
+abbrev pub WritesSimple : Scope → Ids → Simple → Form Token
+WritesSimple s labels i = Word (opcode i).1 ▸ WritesOperand s labels i
+
+abbrev pub WritesBlockType : Option ValType → Form Token
+WritesBlockType None = Nothing
+WritesBlockType (Some t) = Paren (codes "result") (WritesType t)
+
+-- the word else or end, and the block's identifier once more, or not
+abbrev pub Closes : List ℕ → Id → Form Token
+Closes word None = Word word
+Closes word (Some name) = Word word ∣ Exactly (atom word ∷ atom name ∷ [])
+
+abbrev pub WritesElse : Id → Instructions → Form Token → Form Token
+WritesElse id none written = (Closes (codes "else") id ▸ written) ∣ Nothing
+WritesElse id (snoc s i) written = Closes (codes "else") id ▸ written
+
+-- a block's word, its identifier and its type
+abbrev pub Opens : List ℕ → Id → Option ValType → Form Token
+Opens word id t = Word word ▸ WritesId id ▸ WritesBlockType t
+
+-- a br_table: labels, fewer than 2 ^ 32, and then the default
+abbrev pub WritesTable : Ids → List ℕ → ℕ → Form Token
+WritesTable labels ls default =
+    λ k. (length ls < 2 ^ 32) × (Word (codes "br_table") ▸ Each (ResolvesLabel labels) ls ▸ ResolvesLabel labels default) k
+
+abbrev mutual
+  pub WritesInstruction : Scope → Ids → Instruction → Form Token
+  WritesInstruction s labels (simple i) = WritesSimple s labels i
+  WritesInstruction s labels (table ls default) = WritesTable labels ls default
+  WritesInstruction s labels (block t body) =
+      λ k. (id : Id) × (Opens (codes "block") id t ▸ WritesInstructions s (id ∷ labels) body ▸ Closes (codes "end") id) k
+  WritesInstruction s labels (loop t body) =
+      λ k. (id : Id) × (Opens (codes "loop") id t ▸ WritesInstructions s (id ∷ labels) body ▸ Closes (codes "end") id) k
+  WritesInstruction s labels (choice t first second) =
+      λ k. (id : Id) × (Opens (codes "if") id t ▸ WritesInstructions s (id ∷ labels) first
+      ▸ WritesElse id second (WritesInstructions s (id ∷ labels) second) ▸ Closes (codes "end") id) k
+
+  pub WritesInstructions : Scope → Ids → Instructions → Form Token
+  WritesInstructions s labels none = Nothing
+  WritesInstructions s labels (snoc is i) = WritesInstructions s labels is ▸ WritesInstruction s labels i

@@ -1,0 +1,28 @@
+-- Identifiers of the code, without where they lie in memory.
+use Rattle.std.specs.Prelude.{◌≡◌, ℕ, List, Option, Some, None, if◌then◌else◌, map}
+use Rattle.std.specs.Borrow.{Bor}
+use Rattle.std.specs.BTreeMap.{BTreeMap, get_by}
+use Rattle.std.specs.Cmp.Lexicographic.{slice_cmp}
+use Rattle.std.specs.Ordering.{nat_cmp}
+use Rattle.wm_read.specs.Identifiers.{Id, Ids}
+use Rattle.wm_read.specs.exact.Reading.{is_same_id, place_of}
+
+abbrev pub id_of : Option (Bor (List ℕ)) → Id
+id_of None = None
+id_of (Some r) = Some r.now
+
+abbrev pub ids_of : List (Option (Bor (List ℕ))) → Ids
+ids_of ids = map id_of ids
+
+-- what a map has for an identifier
+abbrev pub place_in : BTreeMap (Bor (List ℕ)) ℕ → List ℕ → Option ℕ
+place_in places name = get_by (λ k. slice_cmp nat_cmp name k.now) places
+
+-- the map has the first place of each identifier
+abbrev pub HasPlaces : BTreeMap (Bor (List ℕ)) ℕ → Ids → Type 0
+HasPlaces places ids = (name : List ℕ) → place_in places name ≡ place_of ids name
+
+-- a first place stays, once an item with this identifier comes at this place
+abbrev pub defined : Option ℕ → Id → ℕ → List ℕ → Option ℕ
+defined (Some x) id at name = Some x
+defined None id at name = if is_same_id id name then Some at else None

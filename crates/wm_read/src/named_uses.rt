@@ -1,0 +1,99 @@
+//! Type uses of functions and imports (section 6.4.5), whose parameters may have identifiers.
+
+ghost use Rattle.std.specs.Prelude.{◌≡◌, IfOk};
+ghost use Rattle.std.specs.Option.{option_map};
+ghost use Rattle.wm_read.specs.Written as written;
+ghost use Rattle.wm_read.specs.exact.NamedUses as uses;
+ghost use Rattle.wm_read.specs.exact.Scan.{lexed};
+ghost use Rattle.wm_read.specs.exact.TypeUses as plain;
+ghost use Rattle.wm_read.specs.inner.Blocks.{names_of};
+ghost use Rattle.wm_read.specs.inner.Named.{named_list};
+ghost use Rattle.wm_read.specs.inner.Views.{Reads};
+
+use crate::faults::{TextFault, TextWhy};
+use crate::identifiers::Names;
+use crate::named;
+use crate::named::Named;
+use crate::type_uses::{fits, groups, nothing, refuse_index, type_at, type_index};
+use std::alloc::{AllocError, Global};
+use wm_syntax::types::{FuncType, ValType};
+
+/// A type use: the index of the type, and as many parameters as the type has, with the identifiers that are written.
+#[derive(Debug, Drop)]
+pub struct NamedUse<'a> {
+    pub index: u32,
+    pub params: Vec<Named<'a>>,
+}
+
+/// The types of parameters.
+#[tactic(auto, using(crate::proofs::NamedUses::types_laws))]
+fn types_of(alloc: Global, params: &[Named]) -> Result<Vec<ValType>, AllocError>
+    ensures { IfOk result (λ ts. ts.items ≡ written.types_of (named_list params.now)) }
+{
+    let mut types = Vec::new(alloc);
+    for param in params {
+        types.push(param.ty)?;
+    }
+    Ok(types)
+}
+
+/// Parameters of these types, with no identifiers.
+#[tactic(auto, using(crate::proofs::NamedUses::unnamed_laws))]
+fn unnamed<'a>(alloc: Global, types: &[ValType]) -> Result<Vec<Named<'a>>, AllocError>
+    ensures { IfOk result (λ ps. named_list ps.items ≡ plain.unnamed types.now) }
+{
+    let mut params = Vec::new(alloc);
+    for ty in types {
+        params.push(Named { id: None, ty: *ty })?;
+    }
+    Ok(params)
+}
+
+/// The parameters of a use: those of the type where nothing is written, or those written where all is as in the type.
+#[tactic(auto, using(crate::proofs::NamedUses::used_laws))]
+fn used<'a>(
+    alloc: Global,
+    ty: &FuncType,
+    params: Vec<Named<'a>>,
+    results: &[ValType],
+) -> Result<Option<Vec<Named<'a>>>, AllocError>
+    ensures { IfOk result (λ o. option_map (λ ps. named_list ps.items) o
+        ≡ uses.used_of ty.now (named_list params.entry.items) results.now) }
+{
+    let written = types_of(alloc, &params)?;
+    if !fits(ty, &written, results) {
+        Ok(None)
+    } else if nothing(&written) && nothing(results) {
+        Ok(Some(unnamed(alloc, &ty.params)?))
+    } else {
+        Ok(Some(params))
+    }
+}
+
+/// `( type idx )`, parameters and results, as many as stand first. Parameters and results that are not those of the type
+/// are a fault at the index.
+#[tactic(auto, using(crate::proofs::NamedUses::named_laws))]
+pub fn named_use<'a>(
+    alloc: Global,
+    names: &Names,
+    text: &'a [u8],
+) -> Result<(NamedUse<'a>, &'a [u8]), TextFault>
+    ensures { Reads (λ x. ((x.0.index, named_list x.0.params.items), lexed x.1.now)) result
+        (uses.named_use_at (names_of names.now) (lexed text.now)) }
+{
+    let (index, rest) = type_index(&names.types, text)?;
+    match type_at(names, index) {
+        Some(ty) => {
+            let (params, rest) = named::groups(alloc, b"param", rest)?;
+            let (results, rest) = groups(alloc, b"result", rest)?;
+            match used(alloc, ty, params, &results)? {
+                Some(params) => Ok((NamedUse { index, params }, rest)),
+                None => Err(refuse_index(TextWhy::TypeUse, text)),
+            }
+        }
+        None => Err(refuse_index(TextWhy::TypeUse, text)),
+    }
+}
+
+#[cfg(test)]
+mod tests;

@@ -1,0 +1,287 @@
+//! Pieces of a body: an instruction, or what opens, divides or closes a block.
+
+ghost use Rattle.std.specs.Prelude.{◌≡◌, Some, IfOk, length};
+ghost use Rattle.wm_read.specs.exact.Scan.{lexed};
+ghost use Rattle.wm_read.specs.inner.Blocks.{blocks_of, names_of, scope_of};
+ghost use Rattle.wm_read.specs.exact.TypeUses.{call_use_at};
+ghost use Rattle.wm_read.specs.inner.CodePieces.{FitsPiece, piece_of, HasOperand};
+ghost use Rattle.wm_read.specs.inner.Pieces as flat;
+ghost use Rattle.wm_read.specs.exact.Reading as reading;
+ghost use Rattle.wm_read.specs.inner.Views.{Reads};
+ghost use Rattle.wm_syntax.specs.Opcodes as table;
+ghost use Rattle.wm_syntax.specs.declared.instructions.Simple.TheVariants as Simple;
+
+use crate::blocks::{Block, Opening, innermost};
+use crate::faults::{TextFault, TextWhy};
+use crate::identifiers::{Names, Scope};
+use crate::lexeme::{Lexeme, next_token};
+use crate::literals::{constant32, constant64, is_float, is_id, is_word};
+use crate::operands::{access, again, block_type, id, index, label, refuse};
+use crate::type_uses::type_use;
+use std::alloc::Global;
+use wm_syntax::accesses::{loaded, stored};
+use wm_syntax::instructions::{LoadOp, Op, Simple, StoreOp};
+use wm_syntax::op_class::{Immediates, OpClass};
+use wm_syntax::op_names::op_named;
+use wm_syntax::profile::Profile;
+use wm_syntax::types::ValType;
+
+/// A piece of a body.
+#[derive(Debug, Drop)]
+pub enum Piece<'a> {
+    Plain(Simple),
+    Table(Vec<u32>, u32),
+    Opens(Opening, Option<&'a [u8]>, Option<ValType>),
+    Middle,
+    Closes,
+}
+
+fn opens(opening: Opening, text: &[u8]) -> Result<(Piece, &[u8]), TextFault>
+    ensures fits { IfOk result (λ x. FitsPiece (piece_of x.0)) }
+    ensures read { Reads (λ x. (piece_of x.0, lexed x.1.now)) result (reading.opens_at opening (lexed text.now)) }
+{
+    let (id, rest) = id(text);
+    let (ty, rest) = block_type(rest)?;
+    Ok((Piece::Opens(opening, id, ty), rest))
+}
+
+fn load(op: LoadOp, text: &[u8]) -> Result<(Simple, &[u8]), TextFault>
+    ensures { Reads (λ x. (flat.plain x.0, lexed x.1.now)) result
+        (reading.simple_at (Simple.Load op) (reading.access_at (table.load op).width) (lexed text.now)) }
+{
+    let (at, rest) = access(loaded(op).width, text)?;
+    Ok((Simple::Load(op, at), rest))
+}
+
+fn store(op: StoreOp, text: &[u8]) -> Result<(Simple, &[u8]), TextFault>
+    ensures { Reads (λ x. (flat.plain x.0, lexed x.1.now)) result
+        (reading.simple_at (Simple.Store op) (reading.access_at (table.store op).width) (lexed text.now)) }
+{
+    let (at, rest) = access(stored(op).width, text)?;
+    Ok((Simple::Store(op, at), rest))
+}
+
+fn constant_32(text: &[u8]) -> Result<(Simple, &[u8]), TextFault>
+    ensures { Reads (λ x. (flat.plain x.0, lexed x.1.now)) result
+        (reading.simple_at Simple.I32Const (reading.atom_at (reading.integer_of 32)) (lexed text.now)) }
+{
+    match next_token(text) {
+        Some((Lexeme::Atom(atom), rest)) => match constant32(atom) {
+            Some(n) => Ok((Simple::I32Const(n), rest)),
+            None => {
+                if is_word(atom) || is_id(atom) {
+                    Err(refuse(TextWhy::Expected, text))
+                } else {
+                    Err(refuse(TextWhy::BadInteger, text))
+                }
+            }
+        },
+        _ => Err(refuse(TextWhy::Expected, text)),
+    }
+}
+
+fn constant_64(text: &[u8]) -> Result<(Simple, &[u8]), TextFault>
+    ensures { Reads (λ x. (flat.plain x.0, lexed x.1.now)) result
+        (reading.simple_at Simple.I64Const (reading.atom_at (reading.integer_of 64)) (lexed text.now)) }
+{
+    match next_token(text) {
+        Some((Lexeme::Atom(atom), rest)) => match constant64(atom) {
+            Some(n) => Ok((Simple::I64Const(n), rest)),
+            None => {
+                if is_word(atom) || is_id(atom) {
+                    Err(refuse(TextWhy::Expected, text))
+                } else {
+                    Err(refuse(TextWhy::BadInteger, text))
+                }
+            }
+        },
+        _ => Err(refuse(TextWhy::Expected, text)),
+    }
+}
+
+fn begins_index(text: &[u8]) -> bool
+    ensures { result ≡ reading.begins_index (lexed text.now) }
+{
+    match next_token(text) {
+        Some((Lexeme::Atom(atom), _)) => !is_word(atom),
+        _ => false,
+    }
+}
+
+/// Labels, of which the last is the default.
+#[tactic(auto, using(crate::proofs::Tables::table_laws))]
+fn table<'a>(
+    alloc: Global,
+    blocks: &[Block],
+    text: &'a [u8],
+) -> Result<(Piece<'a>, &'a [u8]), TextFault>
+    ensures fits { IfOk result (λ x. FitsPiece (piece_of x.0)) }
+    ensures read { Reads (λ x. (piece_of x.0, lexed x.1.now)) result
+        (reading.table_at (flat.labels (blocks_of blocks.now)) (lexed text.now)) }
+{
+    let mut labels = Vec::new(alloc);
+    let mut rest = text;
+    while begins_index(rest) {
+        let (l, more) = label(blocks, rest)?;
+        labels.push(l)?;
+        rest = more;
+    }
+    match labels.pop() {
+        Some(default) => {
+            if labels.len() < 0x1_0000_0000 {
+                Ok((Piece::Table(labels, default), rest))
+            } else {
+                Err(refuse(TextWhy::Expected, rest))
+            }
+        }
+        None => Err(refuse(TextWhy::Expected, rest)),
+    }
+}
+
+fn middle<'a>(
+    blocks: &[Block],
+    here: &[u8],
+    text: &'a [u8],
+) -> Result<(Piece<'a>, &'a [u8]), TextFault>
+    ensures fits { IfOk result (λ x. FitsPiece (piece_of x.0)) }
+    ensures read { Reads (λ x. (piece_of x.0, lexed x.1.now)) result
+        (reading.middle_at (blocks_of blocks.now) (lexed text.now)) }
+{
+    match innermost(blocks) {
+        Some(block) => {
+            if block.may_else {
+                let rest = again(block.id, text)?;
+                Ok((Piece::Middle, rest))
+            } else {
+                Err(refuse(TextWhy::UnknownWord, here))
+            }
+        }
+        None => Err(refuse(TextWhy::UnknownWord, here)),
+    }
+}
+
+fn closes<'a>(
+    blocks: &[Block],
+    here: &[u8],
+    text: &'a [u8],
+) -> Result<(Piece<'a>, &'a [u8]), TextFault>
+    ensures fits { IfOk result (λ x. FitsPiece (piece_of x.0)) }
+    ensures read { Reads (λ x. (piece_of x.0, lexed x.1.now)) result
+        (reading.closes_at (blocks_of blocks.now) (lexed text.now)) }
+{
+    match innermost(blocks) {
+        Some(block) => {
+            let rest = again(block.id, text)?;
+            Ok((Piece::Closes, rest))
+        }
+        None => Err(refuse(TextWhy::UnknownWord, here)),
+    }
+}
+
+/// What follows the word of an instruction with one operand.
+fn operand<'a>(
+    scope: &Scope,
+    blocks: &[Block],
+    kind: Immediates,
+    text: &'a [u8],
+) -> Result<(Piece<'a>, &'a [u8]), TextFault>
+    requires { HasOperand kind }
+    ensures fits { IfOk result (λ x. FitsPiece (piece_of x.0)) }
+    ensures read { Reads (λ x. (piece_of x.0, lexed x.1.now)) result
+        (reading.kind_at (call_use_at (names_of scope.now.names)) (scope_of scope.now) (blocks_of blocks.now) kind (lexed text.now)) }
+{
+    let (simple, rest) = match kind {
+        Immediates::Br => {
+            let (l, rest) = label(blocks, text)?;
+            (Simple::Br(l), rest)
+        }
+        Immediates::BrIf => {
+            let (l, rest) = label(blocks, text)?;
+            (Simple::BrIf(l), rest)
+        }
+        Immediates::Call => {
+            let (x, rest) = index(&scope.names.functions, text)?;
+            (Simple::Call(x), rest)
+        }
+        Immediates::LocalGet => {
+            let (x, rest) = index(&scope.locals, text)?;
+            (Simple::LocalGet(x), rest)
+        }
+        Immediates::LocalSet => {
+            let (x, rest) = index(&scope.locals, text)?;
+            (Simple::LocalSet(x), rest)
+        }
+        Immediates::LocalTee => {
+            let (x, rest) = index(&scope.locals, text)?;
+            (Simple::LocalTee(x), rest)
+        }
+        Immediates::GlobalGet => {
+            let (x, rest) = index(&scope.names.globals, text)?;
+            (Simple::GlobalGet(x), rest)
+        }
+        Immediates::GlobalSet => {
+            let (x, rest) = index(&scope.names.globals, text)?;
+            (Simple::GlobalSet(x), rest)
+        }
+        Immediates::MemorySize => (Simple::MemorySize, text),
+        Immediates::MemoryGrow => (Simple::MemoryGrow, text),
+        Immediates::I32Const => constant_32(text)?,
+        Immediates::I64Const => constant_64(text)?,
+        Immediates::Load(op) => load(op, text)?,
+        Immediates::Store(op) => store(op, text)?,
+        _ => return Err(refuse(TextWhy::UnknownWord, text)),
+    };
+    Ok((Piece::Plain(simple), rest))
+}
+
+/// What follows the word of a call_indirect.
+fn indirect<'a>(
+    alloc: Global,
+    names: &Names,
+    text: &'a [u8],
+) -> Result<(Piece<'a>, &'a [u8]), TextFault>
+    ensures fits { IfOk result (λ x. FitsPiece (piece_of x.0)) }
+    ensures read { Reads (λ x. (piece_of x.0, lexed x.1.now)) result
+        (reading.simple_at Simple.CallIndirect (call_use_at (names_of names.now)) (lexed text.now)) }
+{
+    let (x, rest) = type_use(alloc, names, text)?;
+    Ok((Piece::Plain(Simple::CallIndirect(x)), rest))
+}
+
+/// The piece that begins with this word, which stands first in `here`, before `text`.
+#[tactic(auto, unfolding(crate::specs::exact::Reading::piece_at))]
+pub fn read_piece<'a>(
+    alloc: Global,
+    profile: Profile,
+    scope: &Scope,
+    blocks: &[Block],
+    word: &[u8],
+    here: &[u8],
+    text: &'a [u8],
+) -> Result<(Piece<'a>, &'a [u8]), TextFault>
+    ensures fits { IfOk result (λ x. FitsPiece (piece_of x.0)) }
+    ensures read { Reads (λ x. (piece_of x.0, lexed x.1.now)) result
+        (reading.piece_at (call_use_at (names_of scope.now.names)) profile (scope_of scope.now) (blocks_of blocks.now) word.now
+        (lexed text.now)) }
+{
+    match op_named(profile, word) {
+        OpClass::Plain(Op::Simple(simple)) => Ok((Piece::Plain(simple), text)),
+        OpClass::Plain(Op::Else) => middle(blocks, here, text),
+        OpClass::Plain(Op::End) => closes(blocks, here, text),
+        OpClass::Plain(_) => Err(refuse(TextWhy::UnknownWord, here)),
+        OpClass::With(Immediates::Block) => opens(Opening::Block, text),
+        OpClass::With(Immediates::Loop) => opens(Opening::Loop, text),
+        OpClass::With(Immediates::If) => opens(Opening::If, text),
+        OpClass::With(Immediates::BrTable) => table(alloc, blocks, text),
+        OpClass::With(Immediates::CallIndirect) => indirect(alloc, &scope.names, text),
+        OpClass::With(kind) => operand(scope, blocks, kind, text),
+        OpClass::Float => Err(refuse(TextWhy::Float, here)),
+        OpClass::None => {
+            if is_float(word) {
+                Err(refuse(TextWhy::Float, here))
+            } else {
+                Err(refuse(TextWhy::UnknownWord, here))
+            }
+        }
+    }
+}

@@ -1,0 +1,13 @@
+use Rattle.std.proofs.Common.{◌≢◌}
+use Rattle.wm_syntax.specs.declared.instructions.Op.TheVariants.{End}
+use Rattle.wm_typing.specs.Contexts.{in_function}
+use Rattle.wm_typing.specs.exact.Effects.{effect_of}
+use Rattle.wm_typing.specs.exact.Ops.{within_frames}
+use Rattle.wm_typing.proofs.OpenFrames.{simple_stays}
+use Rattle.wm_typing.proofs.ops.take_op.Goals as goal
+
+pub returns-in-Simple-clause-stays : goal.returns-in-Simple-clause-stays
+returns-in-Simple-clause-stays c =
+    let f = c.args.function.now in
+    simple_stays (effect_of (within_frames (in_function c.args.context.now f.type_index f.result f.declared) c.args.stacks.now.frames) c.in-Simple.op) c.args.stacks.now c.simple.new.stacks c.simple.result (c.args.op ≢ End)
+    c.requires.open c.simple.ensures.does
