@@ -25,3 +25,11 @@ pub mod Groups
 pub mod NamedGroups
 pub mod NamedUses
 pub mod Spaces
+pub mod PrintedNumbers
+pub mod PrintedTokens
+pub mod PrintedForms
+pub mod PrintedRanges
+pub mod PrintedBodies
+pub mod PrintedFields
+pub mod PrintedParts
+pub mod PrintedTexts

@@ -8,3 +8,4 @@ pub mod Named
 pub mod Pieces
 pub mod Places
 pub mod Views
+pub mod Printed

@@ -1,15 +1,18 @@
 //! Laws of the definitions, as the contracts of functions that do nothing.
 
 ghost use Rattle.std.specs.Prelude.{◌≡◌, ◌∷◌, ◌++◌, [], ℕ, List, Some, codes, false};
-ghost use Rattle.wm_read.specs.Fields.{HasDistinct};
+ghost use Rattle.wm_read.specs.Fields.{HasDistinct, Writes};
 ghost use Rattle.wm_read.specs.Identifiers.{AreDistinct};
 ghost use Rattle.wm_read.specs.Tokens.{Token, Tokens, close_paren};
 ghost use Rattle.wm_read.specs.Written.{Named, Names, Scope, TypeUse, WritesGroups, WritesInstructions};
 ghost use Rattle.wm_read.specs.exact.NamedUses.{named_use_at};
 ghost use Rattle.wm_read.specs.exact.TypeUses.{begins_group, instructions_at, named_at};
+ghost use Rattle.wm_rules.specs.Loading.{Loads};
 ghost use Rattle.wm_syntax.specs.Instructions.{Instructions};
+ghost use Rattle.wm_syntax.specs.Modules.{Module};
 ghost use Rattle.wm_syntax.specs.Profiles.{HasInstructions};
 ghost use Rattle.wm_syntax.specs.declared.profile.Profile.{Profile};
+ghost use Rattle.wm_write.specs.Layout.{layout};
 
 /// A text has one list of tokens.
 pub fn one_list_of_tokens()
@@ -53,4 +56,10 @@ pub fn type_uses_are_read_as_written()
         → TypeUse names u.0 u.1 front
         → (begins_group (codes "param") rest ≡ false) × (begins_group (codes "result") rest ≡ false)
         → named_use_at names (front ++ rest) ≡ Some (u, rest) }
+{}
+
+/// The printed text of a loaded module writes that module.
+pub fn printed_texts_write_their_modules()
+    ensures { (p : Profile) (limit : ℕ) (b : List ℕ) (m : Module) → Loads p limit b m
+        → (k : List Token) × Tokens (layout m) k × Writes p k m }
 {}

@@ -65,7 +65,7 @@ store_width I64Store8 = omega arith
 store_width I64Store16 = omega arith
 store_width I64Store32 = omega arith
 
-simple_printable : (c : Context) (i : Simple) (a b : List ValType) → TypedSimple c i a b → is_simple_printable i ≡ true
+pub simple_printable : (c : Context) (i : Simple) (a b : List ValType) → TypedSimple c i a b → is_simple_printable i ≡ true
 simple_printable c (Load o at) a b h = small at.align (load o).width (load_width o) h.1
 simple_printable c (Store o at) a b h = small at.align (store o).width (store_width o) h.1
 simple_printable c _ a b h = refl

@@ -1,0 +1,7 @@
+use Rattle.wm_write.specs.Layout.{module_words}
+use Rattle.wm_read.specs.inner.Printed.{tokens}
+use Rattle.wm_read.proofs.PrintedTexts.{printed_writes}
+use Rattle.wm_read.proofs.laws.printed_texts_write_their_modules.Goals as goal
+
+pub returns : goal.returns
+returns c = λ p limit b m loads. let h = printed_writes p limit b m loads in (tokens (module_words m), h.0, h.1)

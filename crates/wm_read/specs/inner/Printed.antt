@@ -1,0 +1,13 @@
+-- The tokens that printed words are meant for.
+use Rattle.std.specs.Prelude.{List, map}
+use Rattle.wm_write.specs.Layout.{Meaning, Word, opening, closing, string, atom}
+use Rattle.wm_read.specs.Tokens as tok
+
+abbrev pub token_of : Meaning → tok.Token
+token_of opening = tok.open_paren
+token_of closing = tok.close_paren
+token_of (string bytes) = tok.string bytes
+token_of (atom a) = tok.atom a
+
+abbrev pub tokens : List Word → List tok.Token
+tokens words = map (λ w. token_of w.means) words
