@@ -2,15 +2,15 @@
 use Rattle.std.proofs.KnownBytes.{Appends-trans}
 use Rattle.std.proofs.Math.Seq.{take-length}
 use Rattle.std.proofs.Math.Logic.{∥∥₁_elim}
-use Rattle.std.specs.Io.KnownBytes.{Appends}
-use Rattle.std.proofs.Common.{◌≢◌, ℕ, zero, suc, Bool, true, false, subst, sym, append-nil, take, List, [], ◌∷◌, ◌++◌, Option, Some, None, Err, IfSome, inl, inr, refl, codes, ◌≤◌, ◌≡◌, ◌+◌, length, length-append, arith}
-use Rattle.std.specs.Prelude.{decimal}
+use Rattle.std.specs.Io.KnownBytes.{Appends, Consumes, IsAtEnd}
+use Rattle.std.proofs.Common.{◌≢◌, ℕ, zero, suc, Bool, true, false, subst, sym, append-nil, take, List, [], ◌++◌, Option, Some, None, Err, IfSome, inl, inr, refl, ◌≤◌, ◌<◌, ◌≡◌, ◌+◌, ◌∙◌, ap, length, length-append, arith}
 use Rattle.wm_syntax.specs.declared.profile.Profile.{Profile}
-use Rattle.wm_syntax.specs.declared.why.Why.TheVariants.{Memory}
+use Rattle.wm_syntax.specs.declared.why.Why.{Why}
+use Rattle.wm_syntax.specs.declared.why.Why.TheVariants.{Memory, TooLong}
 use Rattle.wm_decode.specs.declared.refusal.Refusal.{Refusal}
 use Rattle.wm_cli.specs.declared.status.Status.{Status}
 use Rattle.wm_cli.specs.declared.status.Status.TheVariants as status
-use Rattle.wm_cli.specs.declared.words.Action.TheVariants.{Canon, Show}
+use Rattle.wm_cli.specs.declared.words.Action.TheVariants.{Check, Stats, Canon, Show, Build}
 use Rattle.wm_cli.specs.Answers.{IsAnswered}
 use Rattle.wm_syntax.specs.Modules.{Module}
 use Rattle.wm_syntax.specs.Values.{value_of}
@@ -22,47 +22,65 @@ use Rattle.wm_write.specs.Layout.{layout}
 use Rattle.wm_write.proofs.Shortest.{spelled_fits}
 use Rattle.wm_cli.specs.declared.words.Action.{Action}
 use Rattle.wm_rules.specs.Reading.{LoadedInput, RefusedInput}
-use Rattle.wm_cli.specs.Outcome.{IsOutput, IsReport, IsRightFor, OutOf, Reports, refusal_line}
+use Rattle.wm_cli.specs.Outcome.{IsOutput, IsRefusalLine, IsReport, IsRightFor, OutOf}
+use Rattle.wm_cli.specs.Building.{ModuleOut, TextOut}
+use Rattle.wm_cli.specs.Refused.{refusal_line}
 use Rattle.wm_rules.specs.Validation.{Accepted}
 use Rattle.wm_rules.specs.Validating.{NeverAccepted}
 use Rattle.wm_rules.specs.inner.Validators.{verdict}
 
-refused_out : (action : Action) (p : Profile) (limit : ℕ) (input : List ℕ) (r : Refusal) → r.why ≢ Memory → (Accepted p limit input → ⊥) → r.at ≤ length input
-    → verdict p limit input ≡ Err r → OutOf action p limit input (refusal_line r.at r.why) status.Refused
-refused_out action p limit input r why none place same = inr (none, (r, why, place, same, refl), refl)
+-- an action on the bytes of a module
+abbrev pub IsJudged : Action → Type 0
+IsJudged Build = ⊥
+IsJudged _ = Unit {0}
 
-early_out : (action : Action) (p : Profile) (limit : ℕ) (input : List ℕ) (left : Option (List ℕ)) (r : Refusal) → r.why ≢ Memory → NeverAccepted p limit input r
+pub line_of_action : (action : Action) → IsJudged action → (place : ℕ) (why : Why) → why ≢ Memory → IsRefusalLine action (refusal_line place why)
+line_of_action Check j place why n = (place, why, n, refl)
+line_of_action Stats j place why n = (place, why, n, refl)
+line_of_action Canon j place why n = (place, why, n, refl)
+line_of_action Show j place why n = (place, why, n, refl)
+line_of_action Build j place why n = absurd j
+
+refused_out : (action : Action) → IsJudged action → (p : Profile) (limit : ℕ) (input : List ℕ) (r : Refusal) → r.why ≢ Memory → (Accepted p limit input → ⊥) → r.at ≤ length input
+    → verdict p limit input ≡ Err r → OutOf action p limit input (refusal_line r.at r.why) status.Refused
+refused_out Check j p limit input r why none place same = inr (none, (r, why, place, same, refl), refl)
+refused_out Stats j p limit input r why none place same = inr (none, (r, why, place, same, refl), refl)
+refused_out Canon j p limit input r why none place same = inr (none, (r, why, place, same, refl), refl)
+refused_out Show j p limit input r why none place same = inr (none, (r, why, place, same, refl), refl)
+refused_out Build j p limit input r why none place same = absurd j
+
+early_out : (action : Action) → IsJudged action → (p : Profile) (limit : ℕ) (input : List ℕ) (left : Option (List ℕ)) (r : Refusal) → r.why ≢ Memory → NeverAccepted p limit input r
     → IsRightFor action p limit input left (refusal_line r.at r.why) status.Refused
-early_out action p limit input left r why n = inr (
+early_out action j p limit input left r why n = inr (
   n.used,
   n.rest,
   n.whole,
   λ more.
       let size : length (n.used ++ more) ≡ length n.used + length more = length-append n.used more in
-      refused_out action p limit (n.used ++ more) r why (n.never more) (omega (arith, size, n.at)) (n.same more),
+      refused_out action j p limit (n.used ++ more) r why (n.never more) (omega (arith, size, n.at)) (n.same more),
 )
 
-pub out_of_refusal : (action : Action) (p : Profile) (limit : ℕ) (all left : Option (List ℕ)) (r : Refusal) → r.why ≢ Memory
+pub out_of_refusal : (action : Action) → IsJudged action → (p : Profile) (limit : ℕ) (all left : Option (List ℕ)) (r : Refusal) → r.why ≢ Memory
     → IfSome all (λ input. RefusedInput p limit input left r) → IfSome all (λ input. IsRightFor action p limit input left (refusal_line r.at r.why) status.Refused)
-out_of_refusal action p limit None left r why j = tt
-out_of_refusal action p limit (Some input) left r why j =
+out_of_refusal action judged p limit None left r why j = tt
+out_of_refusal action judged p limit (Some input) left r why j =
     elim (j.not_accepted why) [
-      | inl n ↦ early_out action p limit input left r why n
-      | inr e ↦ inl (e.0, refused_out action p limit input r why e.1 (omega (arith, j.place)) (j.same why))
+      | inl n ↦ early_out action judged p limit input left r why n
+      | inr e ↦ inl (e.0, refused_out action judged p limit input r why e.1 (omega (arith, j.place)) (j.same why))
     ]
 
 -- an action that writes this of a module that it loaded
 pub record WritesOf (action : Action) (form : Module → List ℕ) : Type 0 where
-  pub reports : (p : Profile) (limit : ℕ) (input : List ℕ) (m : Module) → Loads p limit input m → Reports action p limit input (form m)
+  pub out : (p : Profile) (limit : ℕ) (input : List ℕ) (m : Module) → Accepted p limit input → Loads p limit input m → OutOf action p limit input (form m) status.Done
   pub report : (m : Module) → IsReport action (form m)
 
 pub writes_canon : (action : Action) → action ≡ Canon → WritesOf action canon
 writes_canon action is =
-    subst (λ a. WritesOf a canon) (sym is) (record { reports = λ p limit input m l. (m, l, refl); report = λ m. (m, refl) })
+    subst (λ a. WritesOf a canon) (sym is) (record { out = λ p limit input m a l. inl (a, (m, l, refl), refl); report = λ m. (m, refl) })
 
 pub writes_layout : (action : Action) → action ≡ Show → WritesOf action layout
 writes_layout action is =
-    subst (λ a. WritesOf a layout) (sym is) (record { reports = λ p limit input m l. (m, l, refl); report = λ m. (m, refl) })
+    subst (λ a. WritesOf a layout) (sym is) (record { out = λ p limit input m a l. inl (a, (m, l, refl), refl); report = λ m. (m, refl) })
 
 -- a module that was loaded, and what is written of it
 loaded_out : (action : Action) (form : Module → List ℕ) → WritesOf action form → (p : Profile) (limit : ℕ) (all left : Option (List ℕ)) (c : Checked)
@@ -72,7 +90,7 @@ loaded_out action form w p limit None left c j = tt
 loaded_out action form w p limit (Some input) left c j =
     let m = value_of (module_in c) in
     let accepted : Accepted p limit input = record { module_value = m; spelled = j.loads.spelled; of_profile = j.loads.of_profile; valid = j.loads.valid } in
-    inl (j.at_end, inl (accepted, w.reports p limit input m j.loads, refl))
+    inl (j.at_end, w.out p limit input m accepted j.loads)
 
 pub out_of_loaded : (action : Action) (form : Module → List ℕ) → WritesOf action form → (p : Profile) (limit : ℕ) (all left : Option (List ℕ)) (c : Checked)
     → IfSome all (λ input. LoadedInput p limit input left c)
@@ -102,6 +120,42 @@ pub unwritten : (text : List ℕ) (wanted : Status) (old new : Option (List ℕ)
 unwritten text wanted old new true e out = (out, refl)
 unwritten text wanted old new false e out = absurd cc
 
--- the line of a refusal, by the text of its name
-abbrev pub line_with : ℕ → List ℕ → List ℕ
-line_with place name = codes "refused at " ++ (decimal place ++ (codes ": " ++ (name ++ 10 ∷ [])))
+-- what was read is longer than the limit
+pub longer : (limit : ℕ) (all left : Option (List ℕ)) (read : List ℕ) → Consumes all left read → limit < length read
+    → IfSome all (λ input. (read rest : List ℕ) × (input ≡ read ++ rest) × (limit < length read))
+longer limit None left read c lt = tt
+longer limit (Some input) None read c lt = absurd c
+longer limit (Some input) (Some rest) read c lt = (read, rest, c, lt)
+
+-- what was read is all of it
+pub read_whole : (limit : ℕ) (all left : Option (List ℕ)) (read : List ℕ) → Consumes all left read → length read ≤ limit → IsAtEnd left
+    → IfSome all (λ input. IsAtEnd left × (read ≡ input) × (length input ≤ limit))
+read_whole limit None left read c le e = tt
+read_whole limit (Some input) None read c le e = absurd c
+read_whole limit (Some input) (Some rest) read c le e =
+    let is : input ≡ read = c ∙ ap (λ z. read ++ z) e ∙ append-nil read in
+    (e, sym is, subst (λ z. length z ≤ limit) (sym is) le)
+
+-- ---- of a text
+
+module_output : (p : Profile) (m : Module) (written : List ℕ) (status : Status) → ModuleOut p m written status → IsOutput Build written status
+module_output p m written status (inl (v, f, e, s)) = inl ((m, e), s)
+module_output p m written status (inr (inl (n, (r, why, place, same, e), s))) = inr (inr (inr (inl (r.at, r.why, why, e))), s)
+module_output p m written status (inr (inr (n, e, s))) = inr (inr (inr (inr e)), s)
+
+pub text_output : (p : Profile) (text written : List ℕ) (status : Status) → TextOut p text written status → IsOutput Build written status
+text_output p text written status (inl (m, t, out)) = module_output p m written status out
+text_output p text written status (inr (n, (place, why, w, le, e), s)) = inr (inr (inl (place, why, w, e)), s)
+
+-- what was answered of a text that was read whole, and of one that is longer than the limit
+pub right_text : (p : Profile) (limit : ℕ) (all left : Option (List ℕ)) (read written : List ℕ) (status : Status)
+    → IfSome all (λ input. IsAtEnd left × (read ≡ input) × (length input ≤ limit)) → TextOut p read written status
+    → IfSome all (λ input. IsRightFor Build p limit input left written status)
+right_text p limit None left read written status h out = tt
+right_text p limit (Some input) left read written status h out = inl (h.0, inl (h.2, subst (λ z. TextOut p z written status) h.1 out))
+
+pub right_long : (p : Profile) (limit : ℕ) (all left : Option (List ℕ))
+    → IfSome all (λ input. (read rest : List ℕ) × (input ≡ read ++ rest) × (limit < length read))
+    → IfSome all (λ input. IsRightFor Build p limit input left (refusal_line (limit + 1) TooLong) status.Refused)
+right_long p limit None left h = tt
+right_long p limit (Some input) left (read, rest, e, lt) = inr (read, rest, e, λ more. inr (omega (arith, lt, length-append read more), refl, refl))

@@ -1,4 +1,6 @@
 pub mod Answers
+pub mod Building
 pub mod Codes
 pub mod Lines
 pub mod Outcome
+pub mod Refused

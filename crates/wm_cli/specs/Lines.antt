@@ -9,7 +9,7 @@ use Rattle.clap.specs.declared.builder.action.ArgAction.TheVariants.{Set}
 use Rattle.wm_syntax.specs.declared.profile.Profile.{Profile}
 use Rattle.wm_syntax.specs.declared.profile.Profile.TheVariants.{One, Two}
 use Rattle.wm_cli.specs.declared.words.Action.{Action}
-use Rattle.wm_cli.specs.declared.words.Action.TheVariants.{Check, Stats, Canon, Show}
+use Rattle.wm_cli.specs.declared.words.Action.TheVariants.{Check, Stats, Canon, Show, Build}
 use Rattle.wm_cli.specs.declared.words.Line.{Line}
 use Rattle.wm_cli.specs.declared.line.WrongWord.{WrongWord}
 use Rattle.wm_cli.specs.declared.line.WrongWord.TheVariants as wrong
@@ -46,6 +46,7 @@ action_name Check = codes "check"
 action_name Stats = codes "stats"
 action_name Canon = codes "canon"
 action_name Show = codes "show"
+action_name Build = codes "build"
 
 -- the word that names a profile
 abbrev pub profile_name : Profile → Text

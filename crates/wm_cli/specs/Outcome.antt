@@ -3,11 +3,10 @@ use Rattle.std.specs.Prelude.{◌≡◌, ◌≢◌, ◌≤◌, ◌⊎◌, ℕ, L
 use Rattle.wm_syntax.specs.declared.profile.Profile.{Profile}
 use Rattle.wm_syntax.specs.declared.why.Why.{Why}
 use Rattle.wm_syntax.specs.declared.why.Why.TheVariants.{Memory}
-use Rattle.wm_syntax.specs.Refusals.{name_of}
 use Rattle.wm_cli.specs.declared.status.Status.{Status}
 use Rattle.wm_cli.specs.declared.status.Status.TheVariants.{Done, Refused}
 use Rattle.wm_cli.specs.declared.words.Action.{Action}
-use Rattle.wm_cli.specs.declared.words.Action.TheVariants.{Check, Stats, Canon, Show}
+use Rattle.wm_cli.specs.declared.words.Action.TheVariants.{Check, Stats, Canon, Show, Build}
 use Rattle.std.specs.Io.KnownBytes.{IsAtEnd}
 use Rattle.wm_rules.specs.declared.checker.Summary.{Summary}
 use Rattle.wm_rules.specs.Bounds.{SummaryOf}
@@ -18,6 +17,8 @@ use Rattle.wm_write.specs.Layout.{layout}
 use Rattle.wm_rules.specs.inner.Validators.{verdict}
 use Rattle.wm_rules.specs.Validation.{Accepted}
 use Rattle.wm_decode.specs.declared.refusal.Refusal.{Refusal}
+use Rattle.wm_cli.specs.Refused.{refusal_line}
+use Rattle.wm_cli.specs.Building.{BuildOut, IsBuildRefusal}
 
 -- the line of a valid input
 abbrev pub valid_line : List ℕ
@@ -36,27 +37,25 @@ stats_text s =
     ++ (figure_line (codes "controls") s.controls
     ++ figure_line (codes "probes") s.probes)))
 
--- the line of a refusal at this place
-abbrev pub refusal_line : ℕ → Why → List ℕ
-refusal_line place why = codes "refused at " ++ (decimal place ++ (codes ": " ++ (name_of why ++ 10 ∷ [])))
-
--- What an action writes for an accepted input: `valid`; the figures of its summary, which the bytes alone determine; the
--- canonical binary of the module that it spells (section 5.5.15); or the printed text of that module (chapter 6).
-abbrev pub Reports : Action → Profile → ℕ → List ℕ → List ℕ → Type 0
-Reports Check p limit input written = written ≡ valid_line
-Reports Stats p limit input written =
-    (s : Summary) × SummaryOf p limit input s × (verdict p limit input ≡ Ok s) × (written ≡ stats_text s)
-Reports Canon p limit input written = (m : Module) × Loads p limit input m × (written ≡ canon m)
-Reports Show p limit input written = (m : Module) × Loads p limit input m × (written ≡ layout m)
-
--- Of an action: its report where the input is accepted, and else one refusal, other than for memory, at a place within it,
--- which the bytes alone determine.
-abbrev pub OutOf : Action → Profile → ℕ → List ℕ → List ℕ → Status → Type 0
-OutOf action p limit input written status =
-    (Accepted p limit input × Reports action p limit input written × (status ≡ Done))
+-- The bytes of a module are judged: where they are accepted, a report; else one refusal, other than for memory, at a place
+-- within them, which they alone determine.
+abbrev pub Judged : (List ℕ → Type 0) → Profile → ℕ → List ℕ → List ℕ → Status → Type 0
+Judged Report p limit input written status =
+    (Accepted p limit input × Report written × (status ≡ Done))
     ⊎ ((Accepted p limit input → ⊥)
     × ((r : Refusal) × (r.why ≢ Memory) × (r.at ≤ length input) × (verdict p limit input ≡ Err r) × (written ≡ refusal_line r.at r.why))
     × (status ≡ Refused))
+
+-- What an action writes of an input: `valid`; the figures of its summary, which the bytes alone determine; the canonical
+-- binary of the module that it spells (section 5.5.15); or the printed text of that module (chapter 6). What `build`
+-- writes of a text is the canonical binary of the module that it writes.
+abbrev pub OutOf : Action → Profile → ℕ → List ℕ → List ℕ → Status → Type 0
+OutOf Check p limit input = Judged (λ written. written ≡ valid_line) p limit input
+OutOf Stats p limit input =
+    Judged (λ written. (s : Summary) × SummaryOf p limit input s × (verdict p limit input ≡ Ok s) × (written ≡ stats_text s)) p limit input
+OutOf Canon p limit input = Judged (λ written. (m : Module) × Loads p limit input m × (written ≡ canon m)) p limit input
+OutOf Show p limit input = Judged (λ written. (m : Module) × Loads p limit input m × (written ≡ layout m)) p limit input
+OutOf Build p limit input = BuildOut p limit input
 
 -- What was written and answered is right for the input, where all of it was read; else it is right for every input that
 -- begins with what was read.
@@ -71,9 +70,13 @@ IsReport Check written = written ≡ valid_line
 IsReport Stats written = (s : Summary) × (written ≡ stats_text s)
 IsReport Canon written = (m : Module) × (written ≡ canon m)
 IsReport Show written = (m : Module) × (written ≡ layout m)
+IsReport Build written = (m : Module) × (written ≡ canon m)
+
+-- the line of a refusal, which for `build` may be one of a text or of the module that it writes
+abbrev pub IsRefusalLine : Action → List ℕ → Type 0
+IsRefusalLine Build written = ((place : ℕ) × (why : Why) × (why ≢ Memory) × (written ≡ refusal_line place why)) ⊎ IsBuildRefusal written
+IsRefusalLine _ written = (place : ℕ) × (why : Why) × (why ≢ Memory) × (written ≡ refusal_line place why)
 
 -- one of the texts that an action writes, and the status that goes with it
 abbrev pub IsOutput : Action → List ℕ → Status → Type 0
-IsOutput action written status =
-    (IsReport action written × (status ≡ Done))
-    ⊎ (((place : ℕ) × (why : Why) × (why ≢ Memory) × (written ≡ refusal_line place why)) × (status ≡ Refused))
+IsOutput action written status = (IsReport action written × (status ≡ Done)) ⊎ (IsRefusalLine action written × (status ≡ Refused))

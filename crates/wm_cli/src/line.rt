@@ -41,6 +41,7 @@ fn action_of(text: &str) -> Option<Action>
         "stats" => Some(Action::Stats),
         "canon" => Some(Action::Canon),
         "show" => Some(Action::Show),
+        "build" => Some(Action::Build),
         _ => None,
     }
 }
@@ -61,17 +62,21 @@ const ABOUT: &str =
     check   write `valid`, or why not and where\n  \
     stats   write figures of a valid module's function bodies\n  \
     canon   write a valid module as its canonical binary: shortest numbers, no custom sections\n  \
-    show    write a valid module as text: a field a line, and in a function an instruction a line";
+    show    write a valid module as text: a field a line, and in a function an instruction a line\n  \
+    build   read a module as text, and write it as its canonical binary";
 
 const ANSWERS: &str =
     "Writes `refused at N: NAME` of any other input: N bytes were read when it was decided.\n\
+    `build` writes `text refused at N: NAME` of a text that is none, and `module refused ..`\n\
+    where its module is not valid: N is then a place of the canonical binary.\n\
     docs/REFUSALS.md explains each NAME.\n\n\
     Exit status: 0 done, 1 refused, 2 wrong arguments, 3 cannot read or write, 4 out of memory.\n\n\
     Examples:\n  \
     wmod check module.wasm\n  \
     wmod stats --limit 1000000 < module.wasm\n  \
     wmod canon module.wasm > canonical.wasm\n  \
-    wmod show module.wasm > module.wat";
+    wmod show module.wasm > module.wat\n  \
+    wmod build module.wat > module.wasm";
 
 fn action_arg<'a>(alloc: Global) -> Arg<'a>
     ensures rule { rule_of result ≡ action_rule }
@@ -80,7 +85,7 @@ fn action_arg<'a>(alloc: Global) -> Arg<'a>
     Arg::new(alloc, "ACTION")
         .required(true)
         .action(ArgAction::Set)
-        .help("check, stats, canon or show")
+        .help("check, stats, canon, show or build")
 }
 
 fn profile_arg<'a>(alloc: Global) -> Arg<'a>

@@ -2,6 +2,7 @@
 #![tactic(auto)]
 
 mod answer;
+mod build;
 mod complaint;
 mod execute;
 mod line;

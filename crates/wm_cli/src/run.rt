@@ -7,9 +7,11 @@ ghost use Rattle.wm_write.specs.Canon.{canon};
 ghost use Rattle.wm_write.specs.Layout.{layout};
 ghost use Rattle.wm_cli.specs.Answers.{IsAnswered};
 ghost use Rattle.wm_cli.specs.declared.status.Status.{Status};
-ghost use Rattle.wm_cli.specs.Outcome.{IsRightFor, IsOutput, refusal_line, stats_text};
+ghost use Rattle.wm_cli.specs.Outcome.{IsRightFor, IsOutput, stats_text};
+ghost use Rattle.wm_cli.specs.Refused.{refusal_line};
 
 use crate::answer::answer;
+use crate::build::build;
 use crate::status::Status;
 use crate::words::{Action, Line};
 use std::alloc::Global;
@@ -64,6 +66,7 @@ pub fn run<R: Source, W: Dest>(
             Err(FromFault::Refused(refusal)) => refuse(alloc, refusal, w),
             Err(FromFault::Io) => Status::Io,
         },
+        Action::Build => build(alloc, profile, limit, r, w),
     }
 }
 
@@ -110,7 +113,7 @@ fn report<W: Dest>(alloc: Global, summary: Summary, w: &mut W) -> Status
 }
 
 /// Writes the canonical binary of a module, and flushes.
-fn write_canonical<W: Dest>(checked: &Checked, w: &mut W) -> Status
+pub(crate) fn write_canonical<W: Dest>(checked: &Checked, w: &mut W) -> Status
     requires { W.has_failed w.old ≡ false }
     ensures { IsAnswered (canon (value_of (module_in checked.now))) Status.Done (W.contents w.old) (W.contents w.new)
         (W.has_failed w.new) result }
@@ -136,7 +139,7 @@ fn write_text<W: Dest>(checked: &Checked, w: &mut W) -> Status
 }
 
 /// Writes a refusal, unless memory was refused.
-fn refuse<W: Dest>(alloc: Global, refusal: Refusal, w: &mut W) -> Status
+pub(crate) fn refuse<W: Dest>(alloc: Global, refusal: Refusal, w: &mut W) -> Status
     requires { W.has_failed w.old ≡ false }
     ensures answered { result ≢ Status.Memory → (refusal.why ≢ Why.Memory)
         × IsAnswered (refusal_line refusal.at refusal.why) Status.Refused (W.contents w.old) (W.contents w.new) (W.has_failed w.new) result }

@@ -19,6 +19,8 @@ pub enum Action {
     Canon,
     /// Write its text, where it is valid.
     Show,
+    /// Read it as text, and write the canonical binary of the module, where that is valid.
+    Build,
 }
 
 /// The words, read.

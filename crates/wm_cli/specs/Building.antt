@@ -1,0 +1,52 @@
+-- What `build` may write for a text, and how it may end.
+use Rattle.std.specs.Prelude.{◌≡◌, ◌≢◌, ◌≤◌, ◌<◌, ◌^◌, ◌+◌, ◌⊎◌, ℕ, List, Err, length}
+use Rattle.wm_syntax.specs.declared.profile.Profile.{Profile}
+use Rattle.wm_syntax.specs.declared.why.Why.{Why}
+use Rattle.wm_syntax.specs.declared.why.Why.TheVariants.{Memory, TooLong}
+use Rattle.wm_syntax.specs.Modules.{Module}
+use Rattle.wm_decode.specs.declared.refusal.Refusal.{Refusal}
+use Rattle.wm_rules.specs.Validation.{Valid}
+use Rattle.wm_rules.specs.inner.Validators.{verdict}
+use Rattle.wm_write.specs.Canon.{Fits, canon}
+use Rattle.wm_read.specs.declared.faults.TextWhy.{TextWhy}
+use Rattle.wm_read.specs.declared.faults.TextWhy.TheVariants as fault
+use Rattle.wm_read.specs.Tokens.{Token, Tokens}
+use Rattle.wm_read.specs.Fields.{Writes}
+use Rattle.wm_cli.specs.declared.status.Status.{Status}
+use Rattle.wm_cli.specs.declared.status.Status.TheVariants.{Done, Refused}
+use Rattle.wm_cli.specs.Refused.{module_line, refusal_line, text_line, too_large_line}
+
+-- the text is UTF-8, and its tokens write this module (sections 6.2.2 and 6.6.12)
+abbrev pub IsTextOf : Profile → Module → List ℕ → Type 0
+IsTextOf p m text = (k : List Token) × Tokens text k × Writes p k m
+
+-- Of a module that a text writes: its canonical binary, where it is valid and no section would be too large; else a
+-- refusal, where it is not valid that of its canonical binary.
+abbrev pub ModuleOut : Profile → Module → List ℕ → Status → Type 0
+ModuleOut p m written status =
+    (Valid m × Fits m × (written ≡ canon m) × (status ≡ Done))
+    ⊎ ((Valid m → ⊥)
+    × ((r : Refusal) × (r.why ≢ Memory) × (r.at ≤ length (canon m)) × (verdict p (2 ^ 62) (canon m) ≡ Err r) × (written ≡ module_line r.at r.why))
+    × (status ≡ Refused))
+    ⊎ ((Fits m → ⊥) × (written ≡ too_large_line) × (status ≡ Refused))
+
+-- Of a text: what becomes of the module that it writes, or a refusal at a place within it where it writes none.
+abbrev pub TextOut : Profile → List ℕ → List ℕ → Status → Type 0
+TextOut p text written status =
+    ((m : Module) × IsTextOf p m text × ModuleOut p m written status)
+    ⊎ (((m : Module) → IsTextOf p m text → ⊥)
+    × ((place : ℕ) × (why : TextWhy) × (why ≢ fault.Memory) × (place ≤ length text) × (written ≡ text_line place why))
+    × (status ≡ Refused))
+
+-- of an input, which is a text where it is no longer than the limit
+abbrev pub BuildOut : Profile → ℕ → List ℕ → List ℕ → Status → Type 0
+BuildOut p limit input written status =
+    ((length input ≤ limit) × TextOut p input written status)
+    ⊎ ((limit < length input) × (written ≡ refusal_line (limit + 1) TooLong) × (status ≡ Refused))
+
+-- a refusal of a text or of its module
+abbrev pub IsBuildRefusal : List ℕ → Type 0
+IsBuildRefusal written =
+    ((place : ℕ) × (why : TextWhy) × (why ≢ fault.Memory) × (written ≡ text_line place why))
+    ⊎ ((place : ℕ) × (why : Why) × (why ≢ Memory) × (written ≡ module_line place why))
+    ⊎ (written ≡ too_large_line)
