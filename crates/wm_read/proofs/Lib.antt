@@ -24,4 +24,5 @@ pub mod BuiltBodies
 pub mod Groups
 pub mod NamedGroups
 pub mod NamedUses
+pub mod SignatureLaws
 pub mod Spaces

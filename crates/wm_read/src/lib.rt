@@ -14,4 +14,5 @@ pub mod named_uses;
 pub mod operands;
 pub mod pieces;
 mod scan;
+pub mod signatures;
 pub mod type_uses;

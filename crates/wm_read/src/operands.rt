@@ -148,6 +148,17 @@ pub fn close(text: &[u8]) -> Result<&[u8], TextFault>
     }
 }
 
+/// A closing parenthesis where forms may stand: one that does is wrong by the word after its parenthesis.
+pub fn close_forms(text: &[u8]) -> Result<&[u8], TextFault>
+    ensures { Reads (λ r. (tt, lexed r.now)) result (reading.close_at (lexed text.now)) }
+{
+    match next_token(text) {
+        Some((Lexeme::Close, rest)) => Ok(rest),
+        Some((Lexeme::Open, inner)) => Err(refuse(TextWhy::Expected, inner)),
+        _ => Err(refuse(TextWhy::Expected, text)),
+    }
+}
+
 /// This word.
 pub fn word<'a>(word: &[u8], text: &'a [u8]) -> Result<&'a [u8], TextFault>
     ensures { Reads (λ r. (tt, lexed r.now)) result (reading.atom_at (reading.word_of word.now) (lexed text.now)) }
