@@ -23,5 +23,6 @@ pub mod Tables
 pub mod BuiltBodies
 pub mod Groups
 pub mod NamedGroups
+pub mod FieldTypes
 pub mod NamedUses
 pub mod Spaces
