@@ -23,6 +23,7 @@ pub mod Tables
 pub mod BuiltBodies
 pub mod Groups
 pub mod NamedGroups
+pub mod FieldTypes
 pub mod NamedUses
 pub mod SignatureLaws
 pub mod Spaces

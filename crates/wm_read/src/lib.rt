@@ -5,6 +5,7 @@ pub mod blocks;
 pub mod bodies;
 pub mod check;
 pub mod faults;
+pub mod field_types;
 pub mod identifiers;
 pub mod laws;
 pub mod lexeme;

@@ -28,7 +28,7 @@ pub fn refuse(why: TextWhy, text: &[u8]) -> TextFault
 }
 
 /// An index or a depth from its number, the first token of a text.
-fn number(atom: &[u8], text: &[u8]) -> Result<u32, TextFault>
+pub fn number(atom: &[u8], text: &[u8]) -> Result<u32, TextFault>
     ensures { Reads (λ n. n) result (reading.unsigned_of atom.now) }
 {
     match unsigned(atom) {
