@@ -24,6 +24,11 @@ pub mod BuiltBodies
 pub mod Groups
 pub mod NamedGroups
 pub mod FieldTypes
+pub mod FieldParts
+pub mod DistinctIds
+pub mod FunctionLaws
+pub mod FieldLaws
+pub mod FieldCode
 pub mod NamedUses
 pub mod SignatureLaws
 pub mod Spaces

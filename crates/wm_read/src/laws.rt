@@ -1,14 +1,16 @@
 //! Laws of the definitions, as the contracts of functions that do nothing.
 
 ghost use Rattle.std.specs.Prelude.{◌≡◌, ◌∷◌, ◌++◌, [], ℕ, List, Some, codes, false};
-ghost use Rattle.wm_read.specs.Fields.{HasDistinct};
+ghost use Rattle.wm_read.specs.Fields.{Field, HasDistinct, WritesField, module_of};
 ghost use Rattle.wm_read.specs.Identifiers.{AreDistinct};
 ghost use Rattle.wm_read.specs.Tokens.{Token, Tokens, close_paren};
 ghost use Rattle.wm_read.specs.Written.{Named, Names, Scope, TypeUse, WritesGroups, WritesInstructions};
+ghost use Rattle.wm_read.specs.exact.Fields.{fields_at};
 ghost use Rattle.wm_read.specs.exact.NamedUses.{named_use_at};
 ghost use Rattle.wm_read.specs.exact.TypeUses.{begins_group, instructions_at, named_at};
 ghost use Rattle.wm_syntax.specs.Instructions.{Instructions};
-ghost use Rattle.wm_syntax.specs.Profiles.{HasInstructions};
+ghost use Rattle.wm_syntax.specs.Profiles.{HasInstructions, IsOf};
+ghost use Rattle.wm_syntax.specs.Spelling.{Each};
 ghost use Rattle.wm_syntax.specs.declared.profile.Profile.{Profile};
 
 /// A text has one list of tokens.
@@ -53,4 +55,15 @@ pub fn type_uses_are_read_as_written()
         → TypeUse names u.0 u.1 front
         → (begins_group (codes "param") rest ≡ false) × (begins_group (codes "result") rest ≡ false)
         → named_use_at names (front ++ rest) ≡ Some (u, rest) }
+{}
+
+/// Where identifiers are distinct in their spaces: what is read of fields is what the tokens write, with instructions of
+/// the profile, and what tokens before a closing parenthesis write is read.
+pub fn fields_are_read_as_written()
+    ensures read { (p : Profile) (names : Names) (k : List Token) (fields : List Field) (rest : List Token)
+        → HasDistinct names → fields_at p names k ≡ Some (fields, rest)
+        → (front : List Token) × (k ≡ front ++ rest) × Each (WritesField names) fields front × IsOf p (module_of fields) }
+    ensures written { (p : Profile) (names : Names) (fields : List Field) (front more : List Token)
+        → HasDistinct names → Each (WritesField names) fields front → IsOf p (module_of fields)
+        → fields_at p names (front ++ close_paren ∷ more) ≡ Some (fields, close_paren ∷ more) }
 {}

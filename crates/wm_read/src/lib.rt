@@ -4,9 +4,13 @@
 pub mod blocks;
 pub mod bodies;
 pub mod check;
+pub mod constants;
 pub mod faults;
+pub mod field_strings;
 pub mod field_types;
+pub mod field_words;
 pub mod identifiers;
+pub mod items;
 pub mod laws;
 pub mod lexeme;
 pub mod literals;
