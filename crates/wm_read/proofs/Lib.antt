@@ -24,11 +24,16 @@ pub mod BuiltBodies
 pub mod Groups
 pub mod NamedGroups
 pub mod FieldTypes
-pub mod FieldParts
 pub mod DistinctIds
+pub mod FieldParts
 pub mod FunctionLaws
 pub mod FieldLaws
 pub mod FieldCode
 pub mod NamedUses
 pub mod SignatureLaws
+pub mod HeadSteps
+pub mod Balanced
+pub mod Rules
+pub mod HeadLaws
+pub mod ModuleLaws
 pub mod Spaces
