@@ -1,5 +1,5 @@
 -- A module is read exactly where the tokens write it.
-use Rattle.std.proofs.Common.{◌≡◌, ℕ, false, List, [], ◌∷◌, ◌++◌, Option, Some, None, refl, sym, ap, subst, ◌∙◌, append_assoc}
+use Rattle.std.proofs.Common.{◌≡◌, List, [], ◌∷◌, ◌++◌, Option, Some, None, refl, sym, ap, subst, ◌∙◌, ◌↔◌, append_assoc}
 use Rattle.std.specs.Prelude.{codes}
 use Rattle.std.proofs.lemmas.List.{append-nil}
 use Rattle.wm_syntax.specs.Spelling.{Form, Each, ◌▸◌}
@@ -16,14 +16,12 @@ use Rattle.wm_read.specs.exact.Reading.{◌>>=◌, open_at, close_at, atom_at, w
 use Rattle.wm_read.specs.exact.TextModules.{end_at, frame_at, all_names_at, module_within, module_at}
 use Rattle.wm_read.specs.exact.TypeUses.{begins_open}
 use Rattle.wm_read.proofs.Basics.{same_some}
+use Rattle.wm_read.proofs.FieldLaws.{fields_sound, fields_complete}
 use Rattle.wm_read.proofs.HeadLaws.{inside, field_opens, heads_are}
 use Rattle.wm_read.proofs.HeadSteps.{heads_distinct}
 use Rattle.wm_read.proofs.Immediates.{NotId, id_sound, id_complete}
 use Rattle.wm_read.proofs.Readers.{Sound, Complete, BeginsClose, bind_ok, bind_is, open_found, close_found, word_found, word_is}
 use Rattle.wm_read.proofs.Rules.{Keeps, note_all, nothing_distinct, rules_kept, rules_noted}
-
-abbrev Fields : Profile → Names → List Field → Form Token
-Fields p names fs k = Each (WritesField names) fs k × IsOf p (module_of fs)
 
 -- ---- the frame
 
@@ -105,63 +103,64 @@ fields_not_id names [] front rest h = subst (λ (z : List Token). NotId (z ++ cl
 fields_not_id names (f ∷ fs) front rest (a, b, e, w, more) =
     let o = field_opens names f a w in subst (λ (z : List Token). NotId (z ++ close_paren ∷ rest)) (sym (e ∙ ap (λ (z : List Token). z ++ b) o.1)) tt
 
-module _ (p : Profile) (fields_sound : (names : Names) → HasDistinct names → Sound (fields_at p names) (Fields p names))
-    (fields_complete : (names : Names) → HasDistinct names → Complete (fields_at p names) (Fields p names) BeginsClose) where
-  pub found : (k : List Token) (m : Module) → module_at p k ≡ Some m → Writes p k m
-  unfolding module_at
-  found k m e =
-      let frame = bind_ok (frame_at k) (λ j. all_names_at j >>= λ names. module_within p names j) m e in
-      let j = frame.0 in
-      let names = bind_ok (all_names_at j) (λ names. module_within p names j) m frame.2 in
-      let fields = bind_ok (fields_at p names.0 j) (λ f. close_at f.1 >>= λ c. Some (module_of f.0)) m names.2 in
-      let fs = fields.0.0 in
-      let c = bind_ok (close_at fields.0.1) (λ c. Some (module_of fs)) m fields.2 in
-      let f = fields_sound names.0 (names_distinct j names.0 names.1) j fs fields.0.1 fields.1 in
-      let rest = c.0.1 in
-      let behind : j ≡ f.0 ++ close_paren ∷ rest = f.1 ∙ ap (λ (z : List Token). f.0 ++ z) (close_found fields.0.1 c.0 c.1) in
-      let g = names_found names.0 names.0 fs f.0 rest f.2.0 (ap all_names_at (sym behind) ∙ names.1) in
-      let h = frame_found k j frame.1 in
-      let all : k ≡ open_paren ∷ atom (codes "module") ∷ ((h.1 ++ f.0) ++ close_paren ∷ []) =
-      h.2 ∙ ap (λ (z : List Token). open_paren ∷ atom (codes "module") ∷ z)
-      (ap (λ (z : List Token). h.1 ++ z) (behind ∙ ap (λ (z : List Token). f.0 ++ close_paren ∷ z) g.ends) ∙ sym (append_assoc h.1 f.0 (close_paren ∷ []))) in
-      let value : module_of fs ≡ m = same_some (module_of fs) m c.2 in
-      record {
-        id = h.0;
-        fields = fs;
-        text = (
-          open_paren ∷ atom (codes "module") ∷ [],
-          (h.1 ++ f.0) ++ close_paren ∷ [],
-          all,
-          refl,
-          (h.1 ++ f.0, close_paren ∷ [], refl, (h.1, f.0, refl, h.3, subst (λ (z : Names). Each (WritesField z) fs f.0) g.same f.2.0), refl),
-        );
-        value = value;
-        instructions = subst (IsOf p) value f.2.1;
-        imports_first = g.keeps.imports_first;
-        one_start = g.keeps.one_start;
-        distinct = g.keeps.distinct;
-      }
+pub found : (p : Profile) (k : List Token) (m : Module) → module_at p k ≡ Some m → Writes p k m
+unfolding module_at
+found p k m e =
+    let frame = bind_ok (frame_at k) (λ j. all_names_at j >>= λ names. module_within p names j) m e in
+    let j = frame.0 in
+    let names = bind_ok (all_names_at j) (λ names. module_within p names j) m frame.2 in
+    let fields = bind_ok (fields_at p names.0 j) (λ f. close_at f.1 >>= λ c. Some (module_of f.0)) m names.2 in
+    let fs = fields.0.0 in
+    let c = bind_ok (close_at fields.0.1) (λ c. Some (module_of fs)) m fields.2 in
+    let f = fields_sound p names.0 (names_distinct j names.0 names.1) j fs fields.0.1 fields.1 in
+    let rest = c.0.1 in
+    let behind : j ≡ f.0 ++ close_paren ∷ rest = f.1 ∙ ap (λ (z : List Token). f.0 ++ z) (close_found fields.0.1 c.0 c.1) in
+    let g = names_found names.0 names.0 fs f.0 rest f.2.0 (ap all_names_at (sym behind) ∙ names.1) in
+    let h = frame_found k j frame.1 in
+    let all : k ≡ open_paren ∷ atom (codes "module") ∷ ((h.1 ++ f.0) ++ close_paren ∷ []) =
+    h.2 ∙ ap (λ (z : List Token). open_paren ∷ atom (codes "module") ∷ z)
+    (ap (λ (z : List Token). h.1 ++ z) (behind ∙ ap (λ (z : List Token). f.0 ++ close_paren ∷ z) g.ends) ∙ sym (append_assoc h.1 f.0 (close_paren ∷ []))) in
+    let value : module_of fs ≡ m = same_some (module_of fs) m c.2 in
+    record {
+      id = h.0;
+      fields = fs;
+      text = (
+        open_paren ∷ atom (codes "module") ∷ [],
+        (h.1 ++ f.0) ++ close_paren ∷ [],
+        all,
+        refl,
+        (h.1 ++ f.0, close_paren ∷ [], refl, (h.1, f.0, refl, h.3, subst (λ (z : Names). Each (WritesField z) fs f.0) g.same f.2.0), refl),
+      );
+      value = value;
+      instructions = subst (IsOf p) value f.2.1;
+      imports_first = g.keeps.imports_first;
+      one_start = g.keeps.one_start;
+      distinct = g.keeps.distinct;
+    }
 
-  pub more : (k : List Token) (m : Module) → Writes p k m → module_at p k ≡ Some m
-  unfolding module_at
-  more k m w = by (inside (codes "module") (WritesId w.id ▸ Each (WritesField (names_of w.fields)) w.fields) k w.text)
-    where
-      names : Names
-      names = names_of w.fields
+pub more : (p : Profile) (k : List Token) (m : Module) → Writes p k m → module_at p k ≡ Some m
+unfolding module_at
+more p k m w = by (inside (codes "module") (WritesId w.id ▸ Each (WritesField (names_of w.fields)) w.fields) k w.text)
+  where
+    names : Names
+    names = names_of w.fields
 
-      by : (x : List Token) × ((WritesId w.id ▸ Each (WritesField (names_of w.fields)) w.fields) x) × ((rest : List Token) → k ++ rest ≡ open_paren ∷ atom (codes "module") ∷ (x ++ close_paren ∷ rest)) → module_at p k ≡ Some m
-      by (x, (a, b, e, i, h), text) =
-          let j : List Token = b ++ close_paren ∷ [] in
-          let all : k ≡ open_paren ∷ atom (codes "module") ∷ (a ++ j) =
-          sym (append-nil k) ∙ text [] ∙ ap (λ (z : List Token). open_paren ∷ atom (codes "module") ∷ z) (ap (λ (z : List Token). z ++ close_paren ∷ []) e ∙ append_assoc a b (close_paren ∷ [])) in
-          ap (module_at p) all
-          ∙ bind_is (frame_at (open_paren ∷ atom (codes "module") ∷ (a ++ j))) (λ j. all_names_at j >>= λ names. module_within p names j) j (frame_is w.id a j i (fields_not_id (names_of w.fields) w.fields b [] h))
-          ∙ bind_is (all_names_at j) (λ names. module_within p names j) (names_of w.fields)
-          (all_names_is (names_of w.fields) w.fields b h (record { imports_first = w.imports_first; one_start = w.one_start; distinct = w.distinct }))
-          ∙ bind_is (fields_at p (names_of w.fields) j) (λ f. close_at f.1 >>= λ c. Some (module_of f.0)) (w.fields, close_paren ∷ [])
-          (fields_complete (names_of w.fields) w.distinct w.fields b (close_paren ∷ []) (h, subst (IsOf p) (sym w.value) w.instructions) tt)
-          ∙ ap Some w.value
+    by : (x : List Token) × ((WritesId w.id ▸ Each (WritesField (names_of w.fields)) w.fields) x) × ((rest : List Token) → k ++ rest ≡ open_paren ∷ atom (codes "module") ∷ (x ++ close_paren ∷ rest)) → module_at p k ≡ Some m
+    by (x, (a, b, e, i, h), text) =
+        let j : List Token = b ++ close_paren ∷ [] in
+        let all : k ≡ open_paren ∷ atom (codes "module") ∷ (a ++ j) =
+        sym (append-nil k) ∙ text [] ∙ ap (λ (z : List Token). open_paren ∷ atom (codes "module") ∷ z) (ap (λ (z : List Token). z ++ close_paren ∷ []) e ∙ append_assoc a b (close_paren ∷ [])) in
+        ap (module_at p) all
+        ∙ bind_is (frame_at (open_paren ∷ atom (codes "module") ∷ (a ++ j))) (λ j. all_names_at j >>= λ names. module_within p names j) j (frame_is w.id a j i (fields_not_id (names_of w.fields) w.fields b [] h))
+        ∙ bind_is (all_names_at j) (λ names. module_within p names j) (names_of w.fields)
+        (all_names_is (names_of w.fields) w.fields b h (record { imports_first = w.imports_first; one_start = w.one_start; distinct = w.distinct }))
+        ∙ bind_is (fields_at p (names_of w.fields) j) (λ f. close_at f.1 >>= λ c. Some (module_of f.0)) (w.fields, close_paren ∷ [])
+        (fields_complete p (names_of w.fields) w.distinct w.fields b (close_paren ∷ []) (h, subst (IsOf p) (sym w.value) w.instructions) tt)
+        ∙ ap Some w.value
 
-  -- tokens write one module
-  pub one_module : (k : List Token) (m n : Module) → Writes p k m → Writes p k n → m ≡ n
-  one_module k m n v w = same_some m n (sym (more k m v) ∙ more k n w)
+-- tokens write one module
+pub one_module : (p : Profile) (k : List Token) (m n : Module) → Writes p k m → Writes p k n → m ≡ n
+one_module p k m n v w = same_some m n (sym (more p k m v) ∙ more p k n w)
+
+pub law_modules : (p : Profile) (k : List Token) (m : Module) → (module_at p k ≡ Some m) ↔ Writes p k m
+law_modules p k m = (found p k m, more p k m)

@@ -1,14 +1,16 @@
 //! Laws of the definitions, as the contracts of functions that do nothing.
 
-ghost use Rattle.std.specs.Prelude.{◌≡◌, ◌∷◌, ◌++◌, [], ℕ, List, Some, codes, false};
-ghost use Rattle.wm_read.specs.Fields.{Field, HasDistinct, WritesField, module_of};
+ghost use Rattle.std.specs.Prelude.{◌≡◌, ◌↔◌, ◌∷◌, ◌++◌, [], ℕ, List, Some, codes, false};
+ghost use Rattle.wm_read.specs.Fields.{Field, HasDistinct, Writes, WritesField, module_of};
 ghost use Rattle.wm_read.specs.Identifiers.{AreDistinct};
 ghost use Rattle.wm_read.specs.Tokens.{Token, Tokens, close_paren};
 ghost use Rattle.wm_read.specs.Written.{Named, Names, Scope, TypeUse, WritesGroups, WritesInstructions};
 ghost use Rattle.wm_read.specs.exact.Fields.{fields_at};
 ghost use Rattle.wm_read.specs.exact.NamedUses.{named_use_at};
+ghost use Rattle.wm_read.specs.exact.TextModules.{module_at};
 ghost use Rattle.wm_read.specs.exact.TypeUses.{begins_group, instructions_at, named_at};
 ghost use Rattle.wm_syntax.specs.Instructions.{Instructions};
+ghost use Rattle.wm_syntax.specs.Modules.{Module};
 ghost use Rattle.wm_syntax.specs.Profiles.{HasInstructions, IsOf};
 ghost use Rattle.wm_syntax.specs.Spelling.{Each};
 ghost use Rattle.wm_syntax.specs.declared.profile.Profile.{Profile};
@@ -66,4 +68,14 @@ pub fn fields_are_read_as_written()
     ensures written { (p : Profile) (names : Names) (fields : List Field) (front more : List Token)
         → HasDistinct names → Each (WritesField names) fields front → IsOf p (module_of fields)
         → fields_at p names (front ++ close_paren ∷ more) ≡ Some (fields, close_paren ∷ more) }
+{}
+
+/// A module is read exactly where the tokens write it.
+pub fn modules_are_read_as_written()
+    ensures { (p : Profile) (k : List Token) (m : Module) → (module_at p k ≡ Some m) ↔ Writes p k m }
+{}
+
+/// Tokens write one module.
+pub fn one_module()
+    ensures { (p : Profile) (k : List Token) (m n : Module) → Writes p k m → Writes p k n → m ≡ n }
 {}
