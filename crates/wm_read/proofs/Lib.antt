@@ -29,6 +29,7 @@ pub mod FieldParts
 pub mod FunctionLaws
 pub mod FieldLaws
 pub mod FieldCode
+pub mod FunctionCode
 pub mod NamedUses
 pub mod SignatureLaws
 pub mod HeadSteps

@@ -94,8 +94,8 @@ pub struct Names<'a> {
 
 /// What the identifiers of a function's body mean, its labels aside.
 #[derive(Debug, Drop)]
-pub struct Scope<'a> {
-    pub names: Names<'a>,
+pub struct Scope<'n, 'a> {
+    pub names: &'n Names<'a>,
     pub locals: Space<'a>,
 }
 

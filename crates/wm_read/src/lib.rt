@@ -9,6 +9,7 @@ pub mod faults;
 pub mod field_strings;
 pub mod field_types;
 pub mod field_words;
+pub mod functions;
 pub mod heads;
 pub mod identifiers;
 pub mod items;

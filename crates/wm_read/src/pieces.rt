@@ -143,7 +143,7 @@ fn operand<'a>(
     requires { HasOperand kind }
     ensures fits { IfOk result (λ x. FitsPiece (piece_of x.0)) }
     ensures read { Reads (λ x. (piece_of x.0, lexed x.1.now)) result
-        (reading.kind_at (call_use_at (names_of scope.now.names)) (scope_of scope.now) (blocks_of blocks.now) kind (lexed text.now)) }
+        (reading.kind_at (call_use_at (names_of scope.now.names.now)) (scope_of scope.now) (blocks_of blocks.now) kind (lexed text.now)) }
 {
     let (simple, rest) = match kind {
         Immediates::Br => {
@@ -222,7 +222,7 @@ pub fn read_piece<'a>(
 ) -> Result<(Piece<'a>, &'a [u8]), TextFault>
     ensures fits { IfOk result (λ x. FitsPiece (piece_of x.0)) }
     ensures read { Reads (λ x. (piece_of x.0, lexed x.1.now)) result
-        (reading.piece_at (call_use_at (names_of scope.now.names)) profile (scope_of scope.now) (blocks_of blocks.now) word.now
+        (reading.piece_at (call_use_at (names_of scope.now.names.now)) profile (scope_of scope.now) (blocks_of blocks.now) word.now
         (lexed text.now)) }
 {
     match op_named(profile, word) {
@@ -234,7 +234,7 @@ pub fn read_piece<'a>(
         OpClass::With(Immediates::Loop) => opens(Opening::Loop, text),
         OpClass::With(Immediates::If) => opens(Opening::If, text),
         OpClass::With(Immediates::BrTable) => table(alloc, blocks, text),
-        OpClass::With(Immediates::CallIndirect) => indirect(alloc, &scope.names, text),
+        OpClass::With(Immediates::CallIndirect) => indirect(alloc, scope.names, text),
         OpClass::With(kind) => operand(scope, blocks, kind, text),
         OpClass::Float => Err(refuse(TextWhy::Float, here)),
         OpClass::None => {

@@ -117,11 +117,15 @@ item_at names = headed_at item_named (λ kind t. made (λ x. (kind, x)) (atom_at
 
 -- ---- functions
 
+-- no item of the space has this identifier
+abbrev pub is_new : Ids → Id → Bool
+is_new seen None = true
+is_new seen (Some a) = is_none (place_of seen a)
+
 -- each identifier comes for the first time
 abbrev pub all_new : Ids → Ids → Bool
 all_new seen [] = true
-all_new seen (None ∷ ids) = all_new (seen ++ None ∷ []) ids
-all_new seen (Some a ∷ ids) = is_none (place_of seen a) && all_new (seen ++ Some a ∷ []) ids
+all_new seen (id ∷ ids) = is_new seen id && all_new (seen ++ id ∷ []) ids
 
 abbrev pub function_of : ℕ → List Named → List Named → Profile → Names → Reader Function
 function_of x params locals p names t =
