@@ -16,8 +16,8 @@ use Rattle.wm_read.specs.Tokens.{Token, open_paren, close_paren, string, atom, I
 use Rattle.wm_read.specs.Identifiers.{Id, WritesId, Resolves}
 use Rattle.wm_read.specs.Written.{Word, Paren, Number, WritesType, type_text, Named, WritesGroups, Names, TypeUse, WritesInstructions, types_of, ids_of}
 use Rattle.wm_read.specs.Fields.{Field, type_field, import_field, function_field, table_field, memory_field, global_field, export_field, start_field, element_field, segment_field, WritesName, WritesSignature, WritesMax, WritesLimits, WritesTableType, WritesGlobalType, WritesConst, WritesDesc, WritesExport, WritesOffset, WritesStrings, WritesField}
-use Rattle.wm_read.specs.exact.Fields.{name_at, space_of}
-use Rattle.wm_read.specs.exact.FirstReading.{Noted, with_item, with_type, is_free, free_id_at, skip, type_head_at, desc_head_at, import_head_at, item_head_at, head_by, head_at, heads_within, heads_at}
+use Rattle.wm_read.specs.exact.Fields.{is_new, name_at, space_of}
+use Rattle.wm_read.specs.exact.FirstReading.{Noted, with_item, with_type, free_id_at, skip, type_head_at, desc_head_at, import_head_at, item_head_at, head_by, head_at, heads_within, heads_at}
 use Rattle.wm_read.specs.exact.Heads.{signature_at}
 use Rattle.wm_read.specs.exact.Reading.{Reader, ◌>>=◌, close_at, id_at, is_id}
 use Rattle.wm_read.specs.exact.TypeUses.{begins_open}
@@ -80,17 +80,17 @@ plain_use names x ps f rest (g, qs, rs, look, (a, b, e, h, more), which) =
 
 -- what is read where an identifier stands first
 free_is : (s : Noted) (id : Id) (Q : Form Token) → Plain Q → (ids : List Id) (x rest : List Token) → (w : (WritesId id ▸ Q) x)
-    → free_id_at ids (x ++ rest) ≡ cond (is_free ids id) (Some (id, w.1 ++ rest)) None
+    → free_id_at ids (x ++ rest) ≡ cond (is_new ids id) (Some (id, w.1 ++ rest)) None
 free_is s id Q q ids x rest (i, b, e, w, h) =
     ap (λ (z : List Token). free_id_at ids (z ++ rest)) e ∙ ap (free_id_at ids) (append_assoc i b rest)
-    ∙ bind_is (id_at (i ++ (b ++ rest))) (λ j. cond (is_free ids j.0) (Some j) None) (id, b ++ rest) (id_complete id i (b ++ rest) w (q b rest h))
+    ∙ bind_is (id_at (i ++ (b ++ rest))) (λ j. cond (is_new ids j.0) (Some j) None) (id, b ++ rest) (id_complete id i (b ++ rest) w (q b rest h))
 
 type_is : (s : Noted) (id : Id) (f : Signature) (x rest : List Token) → (WritesId id ▸ WritesSignature f) x
-    → type_head_at s (x ++ close_paren ∷ rest) ≡ cond (is_free s.names.types id) (Some (record s { names = with_type s.names id f }, rest)) None
+    → type_head_at s (x ++ close_paren ∷ rest) ≡ cond (is_new s.names.types id) (Some (record s { names = with_type s.names id f }, rest)) None
 type_is s id f x rest w =
     ap (λ (o : Option (Id × List Token)). ◌>>=◌ {B = Noted × List Token} o (λ i. signature_at i.1 >>= λ g. close_at g.1 >>= λ c. Some (record s { names = with_type s.names i.0 g.0 }, c.1)))
     (free_is s id (WritesSignature f) (λ g r h. plain_paren (codes "func") _ g r h.2) s.names.types x (close_paren ∷ rest) w)
-    ∙ by (is_free s.names.types id)
+    ∙ by (is_new s.names.types id)
   where
     by : (t : Bool) → ◌>>=◌ {A = Id × List Token} {B = Noted × List Token} (cond t (Some (id, w.1 ++ close_paren ∷ rest)) None) (λ i. signature_at i.1 >>= λ g. close_at g.1 >>= λ c. Some (record s { names = with_type s.names i.0 g.0 }, c.1))
         ≡ cond t (Some (record s { names = with_type s.names id f }, rest)) None
@@ -98,11 +98,11 @@ type_is s id f x rest w =
     by false = refl
 
 item_is : (kind : ExportKind) (s : Noted) (id : Id) (Q : Form Token) → AllBalanced Q → Plain Q → (x rest : List Token) → (WritesId id ▸ Q) x
-    → item_head_at kind s (x ++ close_paren ∷ rest) ≡ cond (is_free (space_of s.names kind) id) (Some (record s { names = with_item s.names kind id; defined = true }, rest)) None
+    → item_head_at kind s (x ++ close_paren ∷ rest) ≡ cond (is_new (space_of s.names kind) id) (Some (record s { names = with_item s.names kind id; defined = true }, rest)) None
 item_is kind s id Q balanced q x rest w =
     ap (λ (o : Option (Id × List Token)). ◌>>=◌ {B = Noted × List Token} o (λ i. skip 1 i.1 >>= λ r. Some (record s { names = with_item s.names kind i.0; defined = true }, r)))
     (free_is s id Q q (space_of s.names kind) x (close_paren ∷ rest) w)
-    ∙ by (is_free (space_of s.names kind) id)
+    ∙ by (is_new (space_of s.names kind) id)
   where
     by : (t : Bool) → ◌>>=◌ {A = Id × List Token} {B = Noted × List Token} (cond t (Some (id, w.1 ++ close_paren ∷ rest)) None) (λ i. skip 1 i.1 >>= λ r. Some (record s { names = with_item s.names kind i.0; defined = true }, r))
         ≡ cond t (Some (record s { names = with_item s.names kind id; defined = true }, rest)) None
@@ -112,7 +112,7 @@ item_is kind s id Q balanced q x rest w =
 -- ---- imports
 
 abbrev Imported : Noted → ExportKind → Id → List Token → Option (Noted × List Token)
-Imported s kind id rest = cond (is_free (space_of s.names kind) id) (Some (record s { names = with_item s.names kind id }, rest)) None
+Imported s kind id rest = cond (is_new (space_of s.names kind) id) (Some (record s { names = with_item s.names kind id }, rest)) None
 
 -- from what is brought in to the end of the import
 abbrev skipped : Option (Noted × List Token) → Option (Noted × List Token)
@@ -127,7 +127,7 @@ kind_is : (kind : ExportKind) (s : Noted) (id : Id) (Q : Form Token) → AllBala
 kind_is kind s id Q balanced q x rest w =
     ap (λ (o : Option (Id × List Token)). skipped (o >>= λ i. Some (record s { names = with_item s.names kind i.0 }, i.1)))
     (free_is s id Q q (space_of s.names kind) x (close_paren ∷ close_paren ∷ rest) w)
-    ∙ by (is_free (space_of s.names kind) id)
+    ∙ by (is_new (space_of s.names kind) id)
   where
     by : (t : Bool) → skipped (◌>>=◌ {A = Id × List Token} (cond t (Some (id, w.1 ++ close_paren ∷ close_paren ∷ rest)) None) (λ i. Some (record s { names = with_item s.names kind i.0 }, i.1)))
         ≡ cond t (Some (record s { names = with_item s.names kind id }, rest)) None
@@ -209,7 +209,7 @@ head_is names s (type_field id f) front rest h =
 head_is names s (import_field id i) front rest h =
     let g = inside (codes "import") (WritesName i.module_name ▸ WritesName i.item_name ▸ WritesDesc names id i.desc) front h in
     ap (head_at s) (g.2 rest)
-    ∙ placed s.defined (is_free (space_of s.names (kind_of i.desc)) id) (import_head_at s (g.0 ++ close_paren ∷ rest)) (after s (import_field id i), rest) (import_is names s id i g.0 rest g.1)
+    ∙ placed s.defined (is_new (space_of s.names (kind_of i.desc)) id) (import_head_at s (g.0 ++ close_paren ∷ rest)) (after s (import_field id i), rest) (import_is names s id i g.0 rest g.1)
 head_is names s (function_field id f) front rest (params, locals, types, few, distinct, h) =
     let g = inside (codes "func") (WritesId id ▸ Body names f params locals) front h in
     ap (head_at s) (g.2 rest) ∙ item_is kind.Func s id (Body names f params locals) (body_balanced names f params locals) (body_plain names f params locals) g.0 rest g.1

@@ -1,6 +1,5 @@
 -- The first reading, head by head: it uses its tokens up, and keeps identifiers distinct.
 use Rattle.std.proofs.Common.{◌≡◌, ℕ, zero, suc, ◌<◌, ◌≤◌, ◌+◌, ◌-◌, Bool, true, false, cond, List, [], ◌∷◌, ◌++◌, length, Option, Some, None, refl, sym, ap, subst, ◌∙◌, inl, inr, arith, length-append}
-use Rattle.std.specs.Prelude.{◌&&◌, is_none}
 use Rattle.std.proofs.lemmas.Bool.{cond-true, cond-false, and_from}
 use Rattle.wm_syntax.specs.declared.modules.ExportKind.{ExportKind}
 use Rattle.wm_syntax.specs.declared.modules.ExportKind.TheVariants as kind
@@ -11,10 +10,10 @@ use Rattle.wm_read.specs.Written.{Names}
 use Rattle.wm_read.specs.Fields.{HasDistinct, WritesName, WritesSignature}
 use Rattle.wm_read.specs.declared.field_words.FieldKind.{FieldKind}
 use Rattle.wm_read.specs.declared.field_words.FieldKind.TheVariants as field
-use Rattle.wm_read.specs.exact.Fields.{all_new, field_named, item_named, name_at, space_of}
-use Rattle.wm_read.specs.exact.FirstReading.{Noted, with_item, with_type, is_free, free_id_at, skip, type_head_at, desc_head_at, import_head_at, item_head_at, start_head_at, other_head_at, head_by, head_at, heads_within, heads_at, names_in}
+use Rattle.wm_read.specs.exact.Fields.{field_named, is_new, item_named, name_at, space_of}
+use Rattle.wm_read.specs.exact.FirstReading.{Noted, with_item, with_type, free_id_at, skip, type_head_at, desc_head_at, import_head_at, item_head_at, start_head_at, other_head_at, head_by, head_at, heads_within, heads_at, names_in}
 use Rattle.wm_read.specs.exact.Heads.{signature_at}
-use Rattle.wm_read.specs.exact.Reading.{Reader, ◌>>=◌, open_at, close_at, atom_at, id_at, place_of}
+use Rattle.wm_read.specs.exact.Reading.{Reader, ◌>>=◌, open_at, close_at, atom_at, id_at}
 use Rattle.wm_read.specs.exact.TypeUses.{begins_open}
 use Rattle.wm_read.proofs.Basics.{chosen, same_some}
 use Rattle.wm_read.proofs.DistinctIds.{new_distinct}
@@ -90,26 +89,22 @@ worded {X} read (atom a ∷ j) x e =
 
 -- ---- identifiers stay distinct
 
-free_new : (ids : Ids) (id : Id) → is_free ids id ≡ true → all_new ids (id ∷ []) ≡ true
-free_new ids None h = refl
-free_new ids (Some name) h = and_from (is_none (place_of ids name)) true h refl
+pub free_distinct : (ids : Ids) (id : Id) → is_new ids id ≡ true → AreDistinct ids → AreDistinct (ids ++ id ∷ [])
+free_distinct ids id h d = new_distinct ids (id ∷ []) d (and_from (is_new ids id) true h refl)
 
-pub free_distinct : (ids : Ids) (id : Id) → is_free ids id ≡ true → AreDistinct ids → AreDistinct (ids ++ id ∷ [])
-free_distinct ids id h d = new_distinct ids (id ∷ []) d (free_new ids id h)
-
-free_found : (ids : Ids) (j : List Token) (x : Id × List Token) → free_id_at ids j ≡ Some x → (is_free ids x.0 ≡ true) × (length x.1 ≤ length j)
+free_found : (ids : Ids) (j : List Token) (x : Id × List Token) → free_id_at ids j ≡ Some x → (is_new ids x.0 ≡ true) × (length x.1 ≤ length j)
 free_found ids j x e =
-    let g = bind_ok (id_at j) (λ i. cond (is_free ids i.0) (Some i) None) x e in
-    elim (chosen (is_free ids g.0.0) (Some g.0) None (Some x) g.2) [
-      | inl p ↦ (let s = same_some g.0 x p.1 in (subst (λ (z : Id × List Token). is_free ids z.0 ≡ true) s p.0, subst (λ (z : Id × List Token). length z.1 ≤ length j) s (behind id_at WritesId id_sound j g.0.0 g.0.1 g.1)))
+    let g = bind_ok (id_at j) (λ i. cond (is_new ids i.0) (Some i) None) x e in
+    elim (chosen (is_new ids g.0.0) (Some g.0) None (Some x) g.2) [
+      | inl p ↦ (let s = same_some g.0 x p.1 in (subst (λ (z : Id × List Token). is_new ids z.0 ≡ true) s p.0, subst (λ (z : Id × List Token). length z.1 ≤ length j) s (behind id_at WritesId id_sound j g.0.0 g.0.1 g.1)))
       | inr p ↦ absurd (let f : ◌≡◌ {A = Option (Id × List Token)} None (Some x) = p.1 in cc)
     ]
 
-pub with_type_distinct : (names : Names) (id : Id) (f : Signature) → is_free names.types id ≡ true → HasDistinct names → HasDistinct (with_type names id f)
+pub with_type_distinct : (names : Names) (id : Id) (f : Signature) → is_new names.types id ≡ true → HasDistinct names → HasDistinct (with_type names id f)
 with_type_distinct names id f h d =
     record { types = free_distinct names.types id h d.types; functions = d.functions; tables = d.tables; memories = d.memories; globals = d.globals }
 
-pub with_item_distinct : (names : Names) (kind : ExportKind) (id : Id) → is_free (space_of names kind) id ≡ true → HasDistinct names → HasDistinct (with_item names kind id)
+pub with_item_distinct : (names : Names) (kind : ExportKind) (id : Id) → is_new (space_of names kind) id ≡ true → HasDistinct names → HasDistinct (with_item names kind id)
 with_item_distinct names kind.Func id h d =
     record { types = d.types; functions = free_distinct names.functions id h d.functions; tables = d.tables; memories = d.memories; globals = d.globals }
 with_item_distinct names kind.Table id h d =

@@ -1,6 +1,6 @@
 -- The rules of identifiers and of order: which fields may stand after what is noted, and what is noted after them.
 use Rattle.std.proofs.Common.{◌≡◌, ℕ, zero, suc, ◌<◌, ◌≤◌, ◌+◌, ◌⊎◌, Bool, true, false, cond, List, [], ◌∷◌, ◌++◌, length, Option, Some, None, All, AllPairs, refl, sym, ap, subst, ◌∙◌, inl, inr, arith, append_assoc}
-use Rattle.std.specs.Prelude.{not, ◌&&◌, is_none, filter_map, map, slice_get}
+use Rattle.std.specs.Prelude.{not, ◌&&◌, filter_map, map, slice_get}
 use Rattle.std.specs.List.{AllByRecursion}
 use Rattle.std.proofs.lemmas.Bool.{cond-true, cond-false, and_parts, and_from}
 use Rattle.std.proofs.lemmas.List.{append-nil}
@@ -15,9 +15,8 @@ use Rattle.wm_syntax.specs.Modules.{Import}
 use Rattle.wm_read.specs.Identifiers.{Id, Ids, AreDistinct}
 use Rattle.wm_read.specs.Written.{Names}
 use Rattle.wm_read.specs.Fields.{Field, type_field, import_field, function_field, table_field, memory_field, global_field, export_field, start_field, element_field, segment_field, start_of, names_of, IsDefinition, IsImport, HasDistinct}
-use Rattle.wm_read.specs.exact.Fields.{all_new, space_of}
-use Rattle.wm_read.specs.exact.FirstReading.{Noted, nothing, no_names, with_item, with_type, is_free}
-use Rattle.wm_read.specs.exact.Reading.{place_of}
+use Rattle.wm_read.specs.exact.Fields.{is_new, space_of}
+use Rattle.wm_read.specs.exact.FirstReading.{Noted, nothing, no_names, with_item, with_type}
 use Rattle.wm_read.proofs.Basics.{chosen, same_some}
 use Rattle.wm_read.proofs.DistinctIds.{distinct_new}
 use Rattle.wm_read.proofs.HeadSteps.{with_item_distinct, with_type_distinct}
@@ -46,12 +45,12 @@ after s (element_field e) = s
 after s (segment_field d) = s
 
 abbrev pub allowed : Noted → Field → Bool
-allowed s (type_field id f) = is_free s.names.types id
-allowed s (import_field id i) = not s.defined && is_free (space_of s.names (kind_of i.desc)) id
-allowed s (function_field id f) = is_free s.names.functions id
-allowed s (table_field id l) = is_free s.names.tables id
-allowed s (memory_field id l) = is_free s.names.memories id
-allowed s (global_field id g) = is_free s.names.globals id
+allowed s (type_field id f) = is_new s.names.types id
+allowed s (import_field id i) = not s.defined && is_new (space_of s.names (kind_of i.desc)) id
+allowed s (function_field id f) = is_new s.names.functions id
+allowed s (table_field id l) = is_new s.names.tables id
+allowed s (memory_field id l) = is_new s.names.memories id
+allowed s (global_field id g) = is_new s.names.globals id
 allowed s (export_field e) = true
 allowed s (start_field x) = not s.started
 allowed s (element_field e) = true
@@ -143,7 +142,7 @@ names_found fs = names_joined nothing fs
 -- a field that may stand keeps identifiers distinct
 keeps : (s : Noted) (f : Field) → allowed s f ≡ true → HasDistinct s.names → HasDistinct (after s f).names
 keeps s (type_field id f) h d = with_type_distinct s.names id f h d
-keeps s (import_field id i) h d = with_item_distinct s.names (kind_of i.desc) id (and_parts (not s.defined) (is_free (space_of s.names (kind_of i.desc)) id) h).1 d
+keeps s (import_field id i) h d = with_item_distinct s.names (kind_of i.desc) id (and_parts (not s.defined) (is_new (space_of s.names (kind_of i.desc)) id) h).1 d
 keeps s (function_field id f) h d = with_item_distinct s.names kind.Func id h d
 keeps s (table_field id l) h d = with_item_distinct s.names kind.Table id h d
 keeps s (memory_field id l) h d = with_item_distinct s.names kind.Memory id h d
@@ -164,9 +163,8 @@ pub nothing_distinct : HasDistinct nothing.names
 nothing_distinct = record { types = none_distinct; functions = none_distinct; tables = none_distinct; memories = none_distinct; globals = none_distinct }
 
 -- an identifier that is added to distinct ones is a new one
-new_free : (ids : Ids) (id : Id) → AreDistinct (ids ++ id ∷ []) → is_free ids id ≡ true
-new_free ids None d = refl
-new_free ids (Some name) d = (and_parts (is_none (place_of ids name)) true (distinct_new ids (Some name ∷ []) d)).0
+new_free : (ids : Ids) (id : Id) → AreDistinct (ids ++ id ∷ []) → is_new ids id ≡ true
+new_free ids id d = (and_parts (is_new ids id) true (distinct_new ids (id ∷ []) d)).0
 
 front_get : (ids more : Ids) (x : ℕ) (id : Id) → slice_get ids x ≡ Some id → slice_get (ids ++ more) x ≡ Some id
 front_get [] more x id e = absurd cc
@@ -176,7 +174,7 @@ front_get (i ∷ ids) more (suc x) id e = front_get ids more x id e
 front_distinct : (ids more : Ids) → AreDistinct (ids ++ more) → AreDistinct ids
 front_distinct ids more d name x y e g = d name x y (front_get ids more x (Some name) e) (front_get ids more y (Some name) g)
 
-fresh_item : (names : Names) (kind : ExportKind) (id : Id) → HasDistinct (with_item names kind id) → (is_free (space_of names kind) id ≡ true) × HasDistinct names
+fresh_item : (names : Names) (kind : ExportKind) (id : Id) → HasDistinct (with_item names kind id) → (is_new (space_of names kind) id ≡ true) × HasDistinct names
 fresh_item names kind.Func id d = (
   new_free names.functions id d.functions,
   record { types = d.types; functions = front_distinct names.functions (id ∷ []) d.functions; tables = d.tables; memories = d.memories; globals = d.globals },
@@ -196,12 +194,12 @@ fresh_item names kind.Global id d = (
 
 -- whether its identifier is new
 abbrev Free : Noted → Field → Type 0
-Free s (type_field id f) = is_free s.names.types id ≡ true
-Free s (import_field id i) = is_free (space_of s.names (kind_of i.desc)) id ≡ true
-Free s (function_field id f) = is_free s.names.functions id ≡ true
-Free s (table_field id l) = is_free s.names.tables id ≡ true
-Free s (memory_field id l) = is_free s.names.memories id ≡ true
-Free s (global_field id g) = is_free s.names.globals id ≡ true
+Free s (type_field id f) = is_new s.names.types id ≡ true
+Free s (import_field id i) = is_new (space_of s.names (kind_of i.desc)) id ≡ true
+Free s (function_field id f) = is_new s.names.functions id ≡ true
+Free s (table_field id l) = is_new s.names.tables id ≡ true
+Free s (memory_field id l) = is_new s.names.memories id ≡ true
+Free s (global_field id g) = is_new s.names.globals id ≡ true
 Free s _ = Unit {0}
 
 fresh : (s : Noted) (f : Field) → HasDistinct (after s f).names → Free s f × HasDistinct s.names
@@ -275,7 +273,7 @@ not_both false n h = cc
 
 not_defined : (s : Noted) (f : Field) → allowed s f ≡ true → s.defined ≡ true → NoImport f
 not_defined s (type_field id f) h d i = i
-not_defined s (import_field id g) h d i = not_both s.defined (and_parts (not s.defined) (is_free (space_of s.names (kind_of g.desc)) id) h).0 d
+not_defined s (import_field id g) h d i = not_both s.defined (and_parts (not s.defined) (is_new (space_of s.names (kind_of g.desc)) id) h).0 d
 not_defined s (function_field id f) h d i = i
 not_defined s (table_field id l) h d i = i
 not_defined s (memory_field id l) h d i = i
@@ -340,7 +338,7 @@ unstarted false n l = refl
 
 may_stand : (s : Noted) (f : Field) (fs : List Field) → Free s f → (s.defined ≡ true → NoImport f) → starts s + start_count (f ∷ fs) ≤ 1 → allowed s f ≡ true
 may_stand s (type_field id f) fs free order one = free
-may_stand s (import_field id i) fs free order one = and_from (not s.defined) (is_free (space_of s.names (kind_of i.desc)) id) (is_not s.defined (λ d. order d tt)) free
+may_stand s (import_field id i) fs free order one = and_from (not s.defined) (is_new (space_of s.names (kind_of i.desc)) id) (is_not s.defined (λ d. order d tt)) free
 may_stand s (function_field id f) fs free order one = free
 may_stand s (table_field id l) fs free order one = free
 may_stand s (memory_field id l) fs free order one = free

@@ -7,13 +7,12 @@ ghost use Rattle.wm_read.specs.exact.Fields as fields;
 ghost use Rattle.wm_read.specs.exact.Scan.{lexed};
 ghost use Rattle.wm_read.specs.inner.Blocks.{names_of};
 ghost use Rattle.wm_read.specs.inner.Fields.{head_at};
-ghost use Rattle.wm_read.specs.inner.Ids.{id_of};
 ghost use Rattle.wm_read.specs.inner.Named.{named_list};
 ghost use Rattle.wm_read.specs.inner.Views.{IsRefusal, Reads};
 
 use crate::bodies::read_body;
 use crate::faults::{TextFault, TextWhy};
-use crate::identifiers::{Names, Scope, Space};
+use crate::identifiers::{Names, Scope, Space, is_new};
 use crate::lexeme::{Lexeme, next_token, skip_space};
 use crate::literals::is_id;
 use crate::named;
@@ -26,16 +25,6 @@ use wm_syntax::locals::Locals;
 use wm_syntax::modules::Function;
 use wm_syntax::profile::Profile;
 use wm_syntax::why::Why;
-
-/// Whether an item may have this identifier, or none, after the others of its space.
-fn is_new(space: &Space, id: Option<&[u8]>) -> bool
-    ensures { result ≡ fields.is_new space.now (id_of id.entry) }
-{
-    match id {
-        Some(name) => space.place(name).is_none(),
-        None => true,
-    }
-}
 
 /// Adds the identifiers of parameters or locals, up to one that is there. It tells whether it added all.
 #[tactic(auto, using(crate::proofs::FunctionCode::ids_laws))]

@@ -13,7 +13,7 @@ ghost use Rattle.wm_read.specs.inner.Views.{Reads};
 use crate::faults::{TextFault, TextWhy};
 use crate::field_strings::name;
 use crate::field_words::{FieldKind, field_kind, item_kind};
-use crate::identifiers::{Names, Space};
+use crate::identifiers::{Names, Space, is_new};
 use crate::lexeme::{Lexeme, next_token};
 use crate::operands::{close, id, open, refuse};
 use crate::signatures::signature;
@@ -63,15 +63,10 @@ fn free_id<'a>(space: &Space, text: &'a [u8]) -> Result<(Option<&'a [u8]>, &'a [
     ensures { Reads (λ x. (id_of x.0, lexed x.1.now)) result (first.free_id_at space.now (lexed text.now)) }
 {
     let (id, rest) = id(text);
-    match id {
-        Some(name) => {
-            if space.place(name).is_none() {
-                Ok((Some(name), rest))
-            } else {
-                Err(refuse(TextWhy::RepeatedId, text))
-            }
-        }
-        None => Ok((None, rest)),
+    if is_new(space, id) {
+        Ok((id, rest))
+    } else {
+        Err(refuse(TextWhy::RepeatedId, text))
     }
 }
 

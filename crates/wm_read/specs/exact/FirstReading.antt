@@ -1,7 +1,6 @@
 -- What a first reading of a module finds: the types, and the identifiers of the index spaces. Of each field it reads the
 -- head, and skips the rest. The exact answers of the code's readers.
 use Rattle.std.specs.Prelude.{ℕ, zero, suc, List, [], ◌∷◌, ◌++◌, Bool, true, false, Option, Some, None, if◌then◌else◌, length}
-use Rattle.std.specs.Option.{is_none}
 use Rattle.wm_syntax.specs.declared.modules.ExportKind.{ExportKind}
 use Rattle.wm_syntax.specs.declared.modules.ExportKind.TheVariants as kind
 use Rattle.wm_syntax.specs.Types.{Signature}
@@ -10,9 +9,9 @@ use Rattle.wm_read.specs.Identifiers.{Id, Ids}
 use Rattle.wm_read.specs.Written.{Names}
 use Rattle.wm_read.specs.declared.field_words.FieldKind.{FieldKind}
 use Rattle.wm_read.specs.declared.field_words.FieldKind.TheVariants as field
-use Rattle.wm_read.specs.exact.Fields.{field_named, item_named, name_at, space_of}
+use Rattle.wm_read.specs.exact.Fields.{field_named, is_new, item_named, name_at, space_of}
 use Rattle.wm_read.specs.exact.Heads.{signature_at}
-use Rattle.wm_read.specs.exact.Reading.{Reader, ◌>>=◌, made, open_at, close_at, atom_at, id_at, place_of}
+use Rattle.wm_read.specs.exact.Reading.{Reader, ◌>>=◌, made, open_at, close_at, atom_at, id_at}
 use Rattle.wm_read.specs.exact.TypeUses.{begins_open}
 
 -- ---- what the heads so far have said
@@ -42,12 +41,8 @@ with_type names id f = record names { types = names.types ++ id ∷ []; signatur
 -- ---- parts of heads
 
 -- an identifier that no item of the space has, or none
-abbrev pub is_free : Ids → Id → Bool
-is_free ids None = true
-is_free ids (Some name) = is_none (place_of ids name)
-
 abbrev pub free_id_at : Ids → Reader Id
-free_id_at ids k = id_at k >>= λ i. if is_free ids i.0 then Some i else None
+free_id_at ids k = id_at k >>= λ i. if is_new ids i.0 then Some i else None
 
 -- past the parenthesis that closes so many
 abbrev pub skip : ℕ → List Token → Option (List Token)
