@@ -12,7 +12,7 @@ use Rattle.wm_read.specs.Written.{Names, Paren}
 use Rattle.wm_read.specs.Fields.{Field, HasDistinct, WritesField, Writes, module_of, names_of}
 use Rattle.wm_read.specs.exact.Fields.{fields_at}
 use Rattle.wm_read.specs.exact.FirstReading.{Noted, nothing, heads_at, names_in, names_at}
-use Rattle.wm_read.specs.exact.Reading.{◌>>=◌, open_at, close_at, atom_at, word_of, id_at}
+use Rattle.wm_read.specs.exact.Reading.{◌>>=◌, made, open_at, close_at, atom_at, word_of, id_at}
 use Rattle.wm_read.specs.exact.TextModules.{end_at, frame_at, all_names_at, module_within, module_at}
 use Rattle.wm_read.specs.exact.TypeUses.{begins_open}
 use Rattle.wm_read.proofs.Basics.{same_some}
@@ -20,7 +20,7 @@ use Rattle.wm_read.proofs.FieldLaws.{fields_sound, fields_complete}
 use Rattle.wm_read.proofs.HeadLaws.{inside, field_opens, heads_are}
 use Rattle.wm_read.proofs.HeadSteps.{heads_distinct}
 use Rattle.wm_read.proofs.Immediates.{NotId, id_sound, id_complete}
-use Rattle.wm_read.proofs.Readers.{Sound, Complete, BeginsClose, bind_ok, bind_is, open_found, close_found, word_found, word_is}
+use Rattle.wm_read.proofs.Readers.{Sound, Complete, BeginsClose, bind_ok, bind_is, made_is, open_found, close_found, word_found, word_is}
 use Rattle.wm_read.proofs.Rules.{Keeps, note_all, nothing_distinct, rules_kept, rules_noted}
 
 -- ---- the frame
@@ -109,18 +109,20 @@ found p k m e =
     let frame = bind_ok (frame_at k) (λ j. all_names_at j >>= λ names. module_within p names j) m e in
     let j = frame.0 in
     let names = bind_ok (all_names_at j) (λ names. module_within p names j) m frame.2 in
-    let fields = bind_ok (fields_at p names.0 j) (λ f. close_at f.1 >>= λ c. Some (module_of f.0)) m names.2 in
+    let value = bind_ok (made module_of (fields_at p names.0 j)) (λ f. close_at f.1 >>= λ c. Some f.0) m names.2 in
+    let fields = bind_ok (fields_at p names.0 j) (λ f. Some (module_of f.0, f.1)) value.0 value.1 in
     let fs = fields.0.0 in
-    let c = bind_ok (close_at fields.0.1) (λ c. Some (module_of fs)) m fields.2 in
+    let read : ◌≡◌ {A = Module × List Token} (module_of fs, fields.0.1) value.0 = same_some (module_of fs, fields.0.1) value.0 fields.2 in
+    let c = bind_ok (close_at value.0.1) (λ c. Some value.0.0) m value.2 in
     let f = fields_sound p names.0 (names_distinct j names.0 names.1) j fs fields.0.1 fields.1 in
     let rest = c.0.1 in
-    let behind : j ≡ f.0 ++ close_paren ∷ rest = f.1 ∙ ap (λ (z : List Token). f.0 ++ z) (close_found fields.0.1 c.0 c.1) in
+    let behind : j ≡ f.0 ++ close_paren ∷ rest = f.1 ∙ ap (λ (z : List Token). f.0 ++ z) (ap (λ (z : Module × List Token). z.1) read ∙ close_found value.0.1 c.0 c.1) in
     let g = names_found names.0 names.0 fs f.0 rest f.2.0 (ap all_names_at (sym behind) ∙ names.1) in
     let h = frame_found k j frame.1 in
     let all : k ≡ open_paren ∷ atom (codes "module") ∷ ((h.1 ++ f.0) ++ close_paren ∷ []) =
     h.2 ∙ ap (λ (z : List Token). open_paren ∷ atom (codes "module") ∷ z)
     (ap (λ (z : List Token). h.1 ++ z) (behind ∙ ap (λ (z : List Token). f.0 ++ close_paren ∷ z) g.ends) ∙ sym (append_assoc h.1 f.0 (close_paren ∷ []))) in
-    let value : module_of fs ≡ m = same_some (module_of fs) m c.2 in
+    let is : module_of fs ≡ m = ap (λ (z : Module × List Token). z.0) read ∙ same_some value.0.0 m c.2 in
     record {
       id = h.0;
       fields = fs;
@@ -131,8 +133,8 @@ found p k m e =
         refl,
         (h.1 ++ f.0, close_paren ∷ [], refl, (h.1, f.0, refl, h.3, subst (λ (z : Names). Each (WritesField z) fs f.0) g.same f.2.0), refl),
       );
-      value = value;
-      instructions = subst (IsOf p) value f.2.1;
+      value = is;
+      instructions = subst (IsOf p) is f.2.1;
       imports_first = g.keeps.imports_first;
       one_start = g.keeps.one_start;
       distinct = g.keeps.distinct;
@@ -154,8 +156,9 @@ more p k m w = by (inside (codes "module") (WritesId w.id ▸ Each (WritesField 
         ∙ bind_is (frame_at (open_paren ∷ atom (codes "module") ∷ (a ++ j))) (λ j. all_names_at j >>= λ names. module_within p names j) j (frame_is w.id a j i (fields_not_id (names_of w.fields) w.fields b [] h))
         ∙ bind_is (all_names_at j) (λ names. module_within p names j) (names_of w.fields)
         (all_names_is (names_of w.fields) w.fields b h (record { imports_first = w.imports_first; one_start = w.one_start; distinct = w.distinct }))
-        ∙ bind_is (fields_at p (names_of w.fields) j) (λ f. close_at f.1 >>= λ c. Some (module_of f.0)) (w.fields, close_paren ∷ [])
-        (fields_complete p (names_of w.fields) w.distinct w.fields b (close_paren ∷ []) (h, subst (IsOf p) (sym w.value) w.instructions) tt)
+        ∙ bind_is (made module_of (fields_at p (names_of w.fields) j)) (λ f. close_at f.1 >>= λ c. Some f.0) (module_of w.fields, close_paren ∷ [])
+        (made_is module_of (fields_at p (names_of w.fields) j) w.fields (close_paren ∷ [])
+        (fields_complete p (names_of w.fields) w.distinct w.fields b (close_paren ∷ []) (h, subst (IsOf p) (sym w.value) w.instructions) tt))
         ∙ ap Some w.value
 
 -- tokens write one module

@@ -8,7 +8,7 @@ use Rattle.wm_read.specs.Fields.{module_of}
 use Rattle.wm_read.specs.Written.{Names}
 use Rattle.wm_read.specs.exact.Fields.{fields_at}
 use Rattle.wm_read.specs.exact.FirstReading.{names_at}
-use Rattle.wm_read.specs.exact.Reading.{Reader, ◌>>=◌, open_at, close_at, atom_at, word_of, id_at}
+use Rattle.wm_read.specs.exact.Reading.{◌>>=◌, made, open_at, close_at, atom_at, word_of, id_at}
 
 -- no token is left
 abbrev pub end_at : List Token → Option (Unit {0})
@@ -24,7 +24,7 @@ abbrev pub all_names_at : List Token → Option Names
 all_names_at k = names_at k >>= λ n. close_at n.1 >>= λ c. end_at c.1 >>= λ e. Some n.0
 
 abbrev pub module_within : Profile → Names → List Token → Option Module
-module_within p names k = fields_at p names k >>= λ f. close_at f.1 >>= λ c. Some (module_of f.0)
+module_within p names k = made module_of (fields_at p names k) >>= λ m. close_at m.1 >>= λ c. Some m.0
 
 unfoldable pub module_at : Profile → List Token → Option Module
 module_at p k = frame_at k >>= λ j. all_names_at j >>= λ names. module_within p names j
