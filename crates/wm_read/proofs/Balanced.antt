@@ -13,11 +13,10 @@ use Rattle.wm_syntax.specs.declared.modules.ExportKind.TheVariants as kind
 use Rattle.wm_syntax.specs.Instructions.{Instruction, Instructions, none, snoc, simple, table, block, loop, choice}
 use Rattle.wm_syntax.specs.Modules.{Export, Element, Segment, constant}
 use Rattle.wm_syntax.specs.Opcodes.{opcode, load, store}
-use Rattle.wm_syntax.specs.Types.{Signature}
 use Rattle.wm_read.specs.Tokens.{Token, open_paren, close_paren, string, atom, IsUnsigned}
 use Rattle.wm_read.specs.Identifiers.{Id, Ids, One, IsIndex, IsLabel, WritesId, Resolves, ResolvesLabel}
-use Rattle.wm_read.specs.Written.{Word, Paren, Number, WritesType, type_text, Named, WritesGroup, WritesGroups, WritesUnnamed, WritesResults, Names, TypeUse, UnnamedTypeUse, Scope, WritesKey, WritesAccess, WritesOperand, WritesSimple, WritesBlockType, Closes, WritesElse, Opens, WritesTable, WritesInstruction, WritesInstructions}
-use Rattle.wm_read.specs.Fields.{WritesName, WritesSignature, WritesMax, WritesLimits, WritesTableType, WritesGlobalType, WritesConst, WritesExport, WritesStrings, WritesOffset}
+use Rattle.wm_read.specs.Written.{Word, Paren, Number, WritesType, type_text, Named, WritesGroup, WritesGroups, WritesUnnamed, WritesResults, Names, TypeUse, Scope, WritesKey, WritesAccess, WritesOperand, WritesSimple, WritesBlockType, Closes, WritesElse, Opens, WritesTable, WritesInstruction, WritesInstructions}
+use Rattle.wm_read.specs.Fields.{WritesName, WritesMax, WritesLimits, WritesTableType, WritesGlobalType, WritesConst, WritesExport, WritesStrings, WritesOffset}
 use Rattle.wm_read.specs.exact.FirstReading.{skip}
 
 abbrev pub Balanced : List Token → Type 0

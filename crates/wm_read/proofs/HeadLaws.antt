@@ -1,5 +1,5 @@
 -- What the tokens of fields are, the first reading notes, and their rules.
-use Rattle.std.proofs.Common.{◌≡◌, ℕ, zero, suc, ◌<◌, Bool, true, false, cond, List, [], ◌∷◌, ◌++◌, length, Option, Some, None, refl, sym, ap, subst, ◌∙◌, inl, inr, arith, append_assoc, length-append}
+use Rattle.std.proofs.Common.{◌≡◌, ℕ, zero, suc, ◌<◌, Bool, true, false, cond, List, [], ◌∷◌, ◌++◌, length, Option, Some, None, refl, sym, ap, subst, ◌∙◌, arith, append_assoc, length-append}
 use Rattle.std.specs.Prelude.{codes, not, ◌&&◌}
 use Rattle.std.proofs.lemmas.Bool.{cond-true, cond-false}
 use Rattle.wm_syntax.specs.Spelling.{Form, Each, ◌▸◌}
@@ -11,18 +11,18 @@ use Rattle.wm_syntax.specs.declared.modules.ExportKind.TheVariants as kind
 use Rattle.wm_syntax.specs.declared.modules.ImportDesc.{ImportDesc}
 use Rattle.wm_syntax.specs.declared.modules.ImportDesc.TheVariants.{Func, Table, Memory, Global}
 use Rattle.wm_syntax.specs.Types.{Signature}
-use Rattle.wm_syntax.specs.Modules.{Import, Function, GlobalDef}
-use Rattle.wm_read.specs.Tokens.{Token, open_paren, close_paren, string, atom, IsUnsigned}
+use Rattle.wm_syntax.specs.Modules.{Import, Function}
+use Rattle.wm_read.specs.Tokens.{Token, open_paren, close_paren, atom}
 use Rattle.wm_read.specs.Identifiers.{Id, WritesId, Resolves}
-use Rattle.wm_read.specs.Written.{Word, Paren, Number, WritesType, type_text, Named, WritesGroups, Names, TypeUse, WritesInstructions, types_of, ids_of}
+use Rattle.wm_read.specs.Written.{Word, Paren, Number, WritesType, Named, WritesGroups, Names, TypeUse, WritesInstructions, ids_of}
 use Rattle.wm_read.specs.Fields.{Field, type_field, import_field, function_field, table_field, memory_field, global_field, export_field, start_field, element_field, segment_field, WritesName, WritesSignature, WritesMax, WritesLimits, WritesTableType, WritesGlobalType, WritesConst, WritesDesc, WritesExport, WritesOffset, WritesStrings, WritesField}
 use Rattle.wm_read.specs.exact.Fields.{is_new, name_at, space_of}
 use Rattle.wm_read.specs.exact.FirstReading.{Noted, with_item, with_type, free_id_at, skip, type_head_at, desc_head_at, import_head_at, item_head_at, head_by, head_at, heads_within, heads_at}
 use Rattle.wm_read.specs.exact.Heads.{signature_at}
-use Rattle.wm_read.specs.exact.Reading.{Reader, ◌>>=◌, close_at, id_at, is_id}
+use Rattle.wm_read.specs.exact.Reading.{Reader, ◌>>=◌, close_at, id_at}
 use Rattle.wm_read.specs.exact.TypeUses.{begins_open}
 use Rattle.wm_read.proofs.Atoms.{magnitude_more}
-use Rattle.wm_read.proofs.Balanced.{Balanced, AllBalanced, balanced_then, balanced_groups, balanced_use, balanced_instructions, balanced_limits, balanced_table_type, balanced_global_type, balanced_const, balanced_export, balanced_start, balanced_element, balanced_segment}
+use Rattle.wm_read.proofs.Balanced.{AllBalanced, balanced_then, balanced_groups, balanced_use, balanced_instructions, balanced_limits, balanced_table_type, balanced_global_type, balanced_const, balanced_export, balanced_start, balanced_element, balanced_segment}
 use Rattle.wm_read.proofs.FieldParts.{name_complete}
 use Rattle.wm_read.proofs.Immediates.{NotId, id_complete}
 use Rattle.wm_read.proofs.Indices.{number_not_id}

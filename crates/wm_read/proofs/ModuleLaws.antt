@@ -2,25 +2,24 @@
 use Rattle.std.proofs.Common.{◌≡◌, List, [], ◌∷◌, ◌++◌, Option, Some, None, refl, sym, ap, subst, ◌∙◌, ◌↔◌, append_assoc}
 use Rattle.std.specs.Prelude.{codes}
 use Rattle.std.proofs.lemmas.List.{append-nil}
-use Rattle.wm_syntax.specs.Spelling.{Form, Each, ◌▸◌}
+use Rattle.wm_syntax.specs.Spelling.{Each, ◌▸◌}
 use Rattle.wm_syntax.specs.declared.profile.Profile.{Profile}
 use Rattle.wm_syntax.specs.Modules.{Module}
 use Rattle.wm_syntax.specs.Profiles.{IsOf}
-use Rattle.wm_read.specs.Tokens.{Token, open_paren, close_paren, string, atom}
+use Rattle.wm_read.specs.Tokens.{Token, open_paren, close_paren, atom}
 use Rattle.wm_read.specs.Identifiers.{Id, WritesId}
-use Rattle.wm_read.specs.Written.{Names, Paren}
+use Rattle.wm_read.specs.Written.{Names}
 use Rattle.wm_read.specs.Fields.{Field, HasDistinct, WritesField, Writes, module_of, names_of}
 use Rattle.wm_read.specs.exact.Fields.{fields_at}
 use Rattle.wm_read.specs.exact.FirstReading.{Noted, nothing, heads_at, names_in, names_at}
 use Rattle.wm_read.specs.exact.Reading.{◌>>=◌, made, open_at, close_at, atom_at, word_of, id_at}
 use Rattle.wm_read.specs.exact.TextModules.{end_at, frame_at, all_names_at, module_within, module_at}
-use Rattle.wm_read.specs.exact.TypeUses.{begins_open}
 use Rattle.wm_read.proofs.Basics.{same_some}
 use Rattle.wm_read.proofs.FieldLaws.{fields_sound, fields_complete}
 use Rattle.wm_read.proofs.HeadLaws.{inside, field_opens, heads_are}
 use Rattle.wm_read.proofs.HeadSteps.{heads_distinct}
 use Rattle.wm_read.proofs.Immediates.{NotId, id_sound, id_complete}
-use Rattle.wm_read.proofs.Readers.{Sound, Complete, BeginsClose, bind_ok, bind_is, made_is, open_found, close_found, word_found, word_is}
+use Rattle.wm_read.proofs.Readers.{bind_ok, bind_is, made_is, open_found, close_found, word_found, word_is}
 use Rattle.wm_read.proofs.Rules.{Keeps, note_all, nothing_distinct, rules_kept, rules_noted}
 
 -- ---- the frame

@@ -1,8 +1,8 @@
 -- The rules of identifiers and of order: which fields may stand after what is noted, and what is noted after them.
-use Rattle.std.proofs.Common.{◌≡◌, ℕ, zero, suc, ◌<◌, ◌≤◌, ◌+◌, ◌⊎◌, Bool, true, false, cond, List, [], ◌∷◌, ◌++◌, length, Option, Some, None, All, AllPairs, refl, sym, ap, subst, ◌∙◌, inl, inr, arith, append_assoc}
-use Rattle.std.specs.Prelude.{not, ◌&&◌, filter_map, map, slice_get}
+use Rattle.std.proofs.Common.{◌≡◌, ℕ, zero, suc, ◌≤◌, ◌+◌, ◌⊎◌, Bool, true, false, cond, List, [], ◌∷◌, ◌++◌, length, Option, Some, None, AllPairs, refl, sym, ap, subst, ◌∙◌, inl, inr, arith, append_assoc}
+use Rattle.std.specs.Prelude.{not, ◌&&◌, filter_map, slice_get}
 use Rattle.std.specs.List.{AllByRecursion}
-use Rattle.std.proofs.lemmas.Bool.{cond-true, cond-false, and_parts, and_from}
+use Rattle.std.proofs.lemmas.Bool.{cond-true, and_parts, and_from}
 use Rattle.std.proofs.lemmas.List.{append-nil}
 use Rattle.std.proofs.lemmas.List.Elements.{All-from_recursion, recursion_from_All}
 use Rattle.std.proofs.lemmas.List.Kept.{AllPairs-cons}
@@ -11,12 +11,11 @@ use Rattle.wm_syntax.specs.declared.modules.ExportKind.TheVariants as kind
 use Rattle.wm_syntax.specs.declared.modules.ImportDesc.{ImportDesc}
 use Rattle.wm_syntax.specs.declared.modules.ImportDesc.TheVariants.{Func, Table, Memory, Global}
 use Rattle.wm_syntax.specs.Types.{Signature}
-use Rattle.wm_syntax.specs.Modules.{Import}
 use Rattle.wm_read.specs.Identifiers.{Id, Ids, AreDistinct}
 use Rattle.wm_read.specs.Written.{Names}
 use Rattle.wm_read.specs.Fields.{Field, type_field, import_field, function_field, table_field, memory_field, global_field, export_field, start_field, element_field, segment_field, start_of, names_of, IsDefinition, IsImport, HasDistinct}
 use Rattle.wm_read.specs.exact.Fields.{is_new, space_of}
-use Rattle.wm_read.specs.exact.FirstReading.{Noted, nothing, no_names, with_item, with_type}
+use Rattle.wm_read.specs.exact.FirstReading.{Noted, nothing, with_item, with_type}
 use Rattle.wm_read.proofs.Basics.{chosen, same_some}
 use Rattle.wm_read.proofs.DistinctIds.{distinct_new}
 use Rattle.wm_read.proofs.HeadSteps.{with_item_distinct, with_type_distinct}

@@ -1,9 +1,8 @@
 -- The types of type fields.
 use Rattle.std.proofs.Common.{◌≡◌, ℕ, List, [], ◌∷◌, ◌++◌, Some, false, refl, ap, ◌∙◌}
 use Rattle.std.specs.Prelude.{codes}
-use Rattle.wm_syntax.specs.Spelling.{Form, ◌▸◌}
+use Rattle.wm_syntax.specs.Spelling.{Form}
 use Rattle.wm_syntax.specs.declared.types.ValType.{ValType}
-use Rattle.wm_syntax.specs.Types.{Signature}
 use Rattle.wm_read.specs.Tokens.{Token, open_paren, close_paren, string, atom}
 use Rattle.wm_read.specs.Written.{Named, Paren, WritesGroups, WritesResults}
 use Rattle.wm_read.specs.Fields.{WritesSignature}

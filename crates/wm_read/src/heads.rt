@@ -1,6 +1,6 @@
 //! A first reading of a module (section 6.6): what its fields define. Of each field it reads the head, and skips the rest.
 
-ghost use Rattle.std.specs.Prelude.{◌≡◌, ◌≤◌, ◌<◌, OnOk, IfOk, length};
+ghost use Rattle.std.specs.Prelude.{◌≡◌, ◌≤◌, OnOk};
 ghost use Rattle.wm_read.specs.exact.Fields as fields;
 ghost use Rattle.wm_read.specs.exact.FirstReading as first;
 ghost use Rattle.wm_read.specs.exact.Scan.{lexed};
