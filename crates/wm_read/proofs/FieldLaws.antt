@@ -58,22 +58,22 @@ abbrev GlobalForm : GlobalType → Form Token
 GlobalForm g = WritesGlobalType g.var g.ty
 
 -- what stands after a field's word
-abbrev Inside : Profile → Names → Field → Form Token
-Inside p names (type_field id f) = WritesId id ▸ WritesSignature f
-Inside p names (import_field id i) = WritesName i.module_name ▸ WritesName i.item_name ▸ Desc names (id, i.desc)
-Inside p names (function_field id f) = WritesId id ▸ FunctionAt p names f
-Inside p names (table_field id l) = WritesId id ▸ WritesTableType l
-Inside p names (memory_field id l) = WritesId id ▸ WritesLimits l
-Inside p names (global_field id g) = WritesId id ▸ GlobalForm g.ty ▸ WritesConst names g.init
-Inside p names (export_field e) = WritesName e.name ▸ Item names (e.kind, e.index)
-Inside p names (start_field x) = Resolves names.functions x
-Inside p names (element_field e) = Resolves names.tables e.table ▸ WritesOffset names e.offset ▸ Each (Resolves names.functions) e.functions
-Inside p names (segment_field s) = Resolves names.memories s.memory ▸ WritesOffset names s.offset ▸ WritesStrings s.bytes
+abbrev pub Inside : (Function → Form Token) → Names → Field → Form Token
+Inside Fn names (type_field id f) = WritesId id ▸ WritesSignature f
+Inside Fn names (import_field id i) = WritesName i.module_name ▸ WritesName i.item_name ▸ Desc names (id, i.desc)
+Inside Fn names (function_field id f) = WritesId id ▸ Fn f
+Inside Fn names (table_field id l) = WritesId id ▸ WritesTableType l
+Inside Fn names (memory_field id l) = WritesId id ▸ WritesLimits l
+Inside Fn names (global_field id g) = WritesId id ▸ GlobalForm g.ty ▸ WritesConst names g.init
+Inside Fn names (export_field e) = WritesName e.name ▸ Item names (e.kind, e.index)
+Inside Fn names (start_field x) = Resolves names.functions x
+Inside Fn names (element_field e) = Resolves names.tables e.table ▸ WritesOffset names e.offset ▸ Each (Resolves names.functions) e.functions
+Inside Fn names (segment_field s) = Resolves names.memories s.memory ▸ WritesOffset names s.offset ▸ WritesStrings s.bytes
 
 abbrev Written : Profile → Names → Field → Form Token
 Written p names f k = WritesField names f k × FieldOf p f
 
-to_field : (p : Profile) (names : Names) (f : Field) (k : List Token) → Paren (field_word (kind_of f)) (Inside p names f) k → Written p names f k
+to_field : (p : Profile) (names : Names) (f : Field) (k : List Token) → Paren (field_word (kind_of f)) (Inside (FunctionAt p names) names f) k → Written p names f k
 to_field p names (type_field id f) k h = (h, tt)
 to_field p names (import_field id i) k h = (h, tt)
 to_field p names (function_field id f) k (a, b, e, w, (x, c, e2, (y, z, e3, i, (ps, ls, t, few, d, forms, of)), l)) =
@@ -86,7 +86,7 @@ to_field p names (start_field x) k h = (h, tt)
 to_field p names (element_field e) k h = (h, tt)
 to_field p names (segment_field s) k h = (h, tt)
 
-from_field : (p : Profile) (names : Names) (f : Field) (k : List Token) → Written p names f k → Paren (field_word (kind_of f)) (Inside p names f) k
+from_field : (p : Profile) (names : Names) (f : Field) (k : List Token) → Written p names f k → Paren (field_word (kind_of f)) (Inside (FunctionAt p names) names f) k
 from_field p names (type_field id f) k (h, of) = h
 from_field p names (import_field id i) k (h, of) = h
 from_field p names (function_field id f) k ((ps, ls, t, few, d, (a, b, e, w, (x, c, e2, (y, z, e3, i, forms), l))), of) =
@@ -99,47 +99,57 @@ from_field p names (start_field x) k (h, of) = h
 from_field p names (element_field e) k (h, of) = h
 from_field p names (segment_field s) k (h, of) = h
 
-abbrev OfKind : Profile → Names → FieldKind → Field → Form Token
-OfKind p names x f k = (kind_of f ≡ x) × Inside p names f k
+abbrev pub OfKind : (Function → Form Token) → Names → FieldKind → Field → Form Token
+OfKind Fn names x f k = (kind_of f ≡ x) × Inside Fn names f k
 
-module _ (p : Profile) (names : Names) (d : HasDistinct names) where
-  inside_sound : (x : FieldKind) → Sound (inside_at p names x) (OfKind p names x)
+field_found : (a : List ℕ) (x : FieldKind) → field_named a ≡ Some x → a ≡ field_word x
+field_found a x e =
+    with_found field_word (kind.Type ∷ kind.Import ∷ kind.Func ∷ kind.Table ∷ kind.Memory ∷ kind.Global ∷ kind.Export ∷ kind.Start ∷ kind.Elem ∷ kind.Data ∷ []) a x e
+
+-- where functions are read so
+module _ (p : Profile) (names : Names) (Fn : Function → Form Token) (fn_sound : Sound (function_at p names) Fn) where
+  inside_sound : (x : FieldKind) → Sound (inside_at p names x) (OfKind Fn names x)
   inside_sound kind.Type =
-      made_sound (λ x. type_field x.0 x.1) (then_at id_at signature_at) (Both WritesId WritesSignature) (OfKind p names kind.Type)
+      made_sound (λ x. type_field x.0 x.1) (then_at id_at signature_at) (Both WritesId WritesSignature) (OfKind Fn names kind.Type)
       (then_sound id_at signature_at WritesId WritesSignature id_sound signature_sound) (λ x front h. (refl, h))
   inside_sound kind.Import =
       made_sound (λ x. import_field x.1.1.0 (record { module_name = x.0; item_name = x.1.0; desc = x.1.1.1 })) (then_at name_at (then_at name_at (desc_at names)))
-      (Both WritesName (Both WritesName (Desc names))) (OfKind p names kind.Import)
+      (Both WritesName (Both WritesName (Desc names))) (OfKind Fn names kind.Import)
       (then_sound name_at (then_at name_at (desc_at names)) WritesName (Both WritesName (Desc names)) name_sound
       (then_sound name_at (desc_at names) WritesName (Desc names) name_sound (desc_sound names))) (λ x front h. (refl, h))
   inside_sound kind.Func =
-      made_sound (λ x. function_field x.0 x.1) (then_at id_at (function_at p names)) (Both WritesId (FunctionAt p names)) (OfKind p names kind.Func)
-      (then_sound id_at (function_at p names) WritesId (FunctionAt p names) id_sound (function_sound p names d)) (λ x front h. (refl, h))
+      made_sound (λ x. function_field x.0 x.1) (then_at id_at (function_at p names)) (Both WritesId Fn) (OfKind Fn names kind.Func)
+      (then_sound id_at (function_at p names) WritesId Fn id_sound fn_sound) (λ x front h. (refl, h))
   inside_sound kind.Table =
-      made_sound (λ x. table_field x.0 x.1) (then_at id_at table_type_at) (Both WritesId WritesTableType) (OfKind p names kind.Table)
+      made_sound (λ x. table_field x.0 x.1) (then_at id_at table_type_at) (Both WritesId WritesTableType) (OfKind Fn names kind.Table)
       (then_sound id_at table_type_at WritesId WritesTableType id_sound table_type_sound) (λ x front h. (refl, h))
   inside_sound kind.Memory =
-      made_sound (λ x. memory_field x.0 x.1) (then_at id_at limits_at) (Both WritesId WritesLimits) (OfKind p names kind.Memory)
+      made_sound (λ x. memory_field x.0 x.1) (then_at id_at limits_at) (Both WritesId WritesLimits) (OfKind Fn names kind.Memory)
       (then_sound id_at limits_at WritesId WritesLimits id_sound limits_sound) (λ x front h. (refl, h))
   inside_sound kind.Global =
-      made_sound (λ x. global_field x.0 (record { ty = x.1.0; init = x.1.1 })) (then_at id_at (then_at global_type_at (const_at p names))) (Both WritesId (Both GlobalForm (WritesConst names))) (OfKind p names kind.Global)
+      made_sound (λ x. global_field x.0 (record { ty = x.1.0; init = x.1.1 })) (then_at id_at (then_at global_type_at (const_at p names))) (Both WritesId (Both GlobalForm (WritesConst names))) (OfKind Fn names kind.Global)
       (then_sound id_at (then_at global_type_at (const_at p names)) WritesId (Both GlobalForm (WritesConst names)) id_sound
       (then_sound global_type_at (const_at p names) GlobalForm (WritesConst names) global_type_sound (const_sound p names))) (λ x front h. (refl, h))
   inside_sound kind.Export =
-      made_sound (λ x. export_field (record { name = x.0; kind = x.1.0; index = x.1.1 })) (then_at name_at (item_at names)) (Both WritesName (Item names)) (OfKind p names kind.Export)
+      made_sound (λ x. export_field (record { name = x.0; kind = x.1.0; index = x.1.1 })) (then_at name_at (item_at names)) (Both WritesName (Item names)) (OfKind Fn names kind.Export)
       (then_sound name_at (item_at names) WritesName (Item names) name_sound (item_sound names)) (λ x front h. (refl, h))
-  inside_sound kind.Start = made_sound start_field (atom_at (index_of names.functions)) (Resolves names.functions) (OfKind p names kind.Start) (index_sound names.functions) (λ x front h. (refl, h))
+  inside_sound kind.Start = made_sound start_field (atom_at (index_of names.functions)) (Resolves names.functions) (OfKind Fn names kind.Start) (index_sound names.functions) (λ x front h. (refl, h))
   inside_sound kind.Elem =
       made_sound (λ x. element_field (record { table = x.0; offset = x.1.0; functions = x.1.1 })) (then_at (atom_at (index_of names.tables)) (then_at (offset_at p names) (labels_at names.functions)))
-      (Both (Resolves names.tables) (Both (WritesOffset names) (Each (Resolves names.functions)))) (OfKind p names kind.Elem)
+      (Both (Resolves names.tables) (Both (WritesOffset names) (Each (Resolves names.functions)))) (OfKind Fn names kind.Elem)
       (then_sound (atom_at (index_of names.tables)) (then_at (offset_at p names) (labels_at names.functions)) (Resolves names.tables) (Both (WritesOffset names) (Each (Resolves names.functions))) (index_sound names.tables)
       (then_sound (offset_at p names) (labels_at names.functions) (WritesOffset names) (Each (Resolves names.functions)) (offset_sound p names) (indices_sound names.functions))) (λ x front h. (refl, h))
   inside_sound kind.Data =
       made_sound (λ x. segment_field (record { memory = x.0; offset = x.1.0; bytes = x.1.1 })) (then_at (atom_at (index_of names.memories)) (then_at (offset_at p names) bytes_at))
-      (Both (Resolves names.memories) (Both (WritesOffset names) WritesStrings)) (OfKind p names kind.Data)
+      (Both (Resolves names.memories) (Both (WritesOffset names) WritesStrings)) (OfKind Fn names kind.Data)
       (then_sound (atom_at (index_of names.memories)) (then_at (offset_at p names) bytes_at) (Resolves names.memories) (Both (WritesOffset names) WritesStrings) (index_sound names.memories)
       (then_sound (offset_at p names) bytes_at (WritesOffset names) WritesStrings (offset_sound p names) bytes_sound)) (λ x front h. (refl, h))
 
+  pub field_front : Sound (field_at p names) (λ f k. (x : FieldKind) × Paren (field_word x) (OfKind Fn names x f) k)
+  unfolding field_at
+  field_front k f rest e = headed_sound field_named field_word (inside_at p names) (OfKind Fn names) field_found inside_sound k f rest e
+
+module _ (p : Profile) (names : Names) (d : HasDistinct names) where
   signature_not_id : (f : Signature) (front rest : List Token) → WritesSignature f front → NotId (front ++ rest)
   signature_not_id f front rest (ps, t, (a, b, e, w, m)) = subst (λ (z : List Token). NotId (z ++ rest)) (sym (e ∙ ap (λ (z : List Token). z ++ b) w)) tt
 
@@ -150,7 +160,7 @@ module _ (p : Profile) (names : Names) (d : HasDistinct names) where
   global_not_id : (y : GlobalType × Const) (front rest : List Token) → Both GlobalForm (WritesConst names) y front → NotId (front ++ rest)
   global_not_id y front rest (a, b, e, w, m) = subst NotId (sym (ap (λ (z : List Token). z ++ rest) e ∙ append_assoc a b rest)) (type_not_id y.0.var y.0.ty a (b ++ rest) w)
 
-  inside_complete : (f : Field) (front rest : List Token) → Inside p names f front → BeginsClose rest → inside_at p names (kind_of f) (front ++ rest) ≡ Some (f, rest)
+  inside_complete : (f : Field) (front rest : List Token) → Inside (FunctionAt p names) names f front → BeginsClose rest → inside_at p names (kind_of f) (front ++ rest) ≡ Some (f, rest)
   inside_complete (type_field id f) front rest h c =
       made_is (λ x. type_field x.0 x.1) (then_at id_at signature_at (front ++ rest)) (id, f) rest
       (then_complete id_at signature_at WritesId WritesSignature NotId Any id_complete signature_complete (λ y a b w g. signature_not_id y a b w) (id, f) front rest h tt)
@@ -194,10 +204,6 @@ module _ (p : Profile) (names : Names) (d : HasDistinct names) where
 
   -- ---- a field
 
-  field_found : (a : List ℕ) (x : FieldKind) → field_named a ≡ Some x → a ≡ field_word x
-  field_found a x e =
-      with_found field_word (kind.Type ∷ kind.Import ∷ kind.Func ∷ kind.Table ∷ kind.Memory ∷ kind.Global ∷ kind.Export ∷ kind.Start ∷ kind.Elem ∷ kind.Data ∷ []) a x e
-
   field_more : (x : FieldKind) → field_named (field_word x) ≡ Some x
   field_more kind.Type = refl
   field_more kind.Import = refl
@@ -210,29 +216,26 @@ module _ (p : Profile) (names : Names) (d : HasDistinct names) where
   field_more kind.Elem = refl
   field_more kind.Data = refl
 
-  of_kind : (x : FieldKind) (f : Field) (k : List Token) → Paren (field_word x) (OfKind p names x f) k → Written p names f k
+  of_kind : (x : FieldKind) (f : Field) (k : List Token) → Paren (field_word x) (OfKind (FunctionAt p names) names x f) k → Written p names f k
   of_kind x f k (a, b, e, w, (u, v, e2, (s, h), l)) = to_field p names f k (a, b, e, subst (λ (z : FieldKind). a ≡ open_paren ∷ atom (field_word z) ∷ []) (sym s) w, (u, v, e2, h, l))
 
-  with_kind : (f : Field) (k : List Token) → Paren (field_word (kind_of f)) (Inside p names f) k → Paren (field_word (kind_of f)) (OfKind p names (kind_of f) f) k
+  with_kind : (f : Field) (k : List Token) → Paren (field_word (kind_of f)) (Inside (FunctionAt p names) names f) k → Paren (field_word (kind_of f)) (OfKind (FunctionAt p names) names (kind_of f) f) k
   with_kind f k (a, b, e, w, (u, v, e2, h, l)) = (a, b, e, w, (u, v, e2, (refl, h), l))
 
   pub field_sound : Sound (field_at p names) (Written p names)
-  unfolding field_at
-  field_sound k f rest e =
-      let g = headed_sound field_named field_word (inside_at p names) (OfKind p names) field_found inside_sound k f rest e in
-      (g.0, g.1, of_kind g.2.0 f g.0 g.2.1)
+  field_sound k f rest e = let g = field_front p names (FunctionAt p names) (function_sound p names d) k f rest e in (g.0, g.1, of_kind g.2.0 f g.0 g.2.1)
 
   pub field_complete : Complete (field_at p names) (Written p names) Any
   unfolding field_at
   field_complete f front rest h any =
-      headed_complete field_named field_word (inside_at p names) (OfKind p names (kind_of f)) (kind_of f) (field_more (kind_of f))
+      headed_complete field_named field_word (inside_at p names) (OfKind (FunctionAt p names) names (kind_of f)) (kind_of f) (field_more (kind_of f))
       (λ y a b w c. ap (λ (z : FieldKind). inside_at p names z (a ++ b)) (sym w.0) ∙ inside_complete y a b w.1 c)
       f front rest (with_kind f front (from_field p names f front h))
 
   field_begins : Begins begins_open (Written p names)
   field_begins f front rest h = by (from_field p names f front h)
     where
-      by : Paren (field_word (kind_of f)) (Inside p names f) front → (begins_open (front ++ rest) ≡ true) × (0 < length front)
+      by : Paren (field_word (kind_of f)) (Inside (FunctionAt p names) names f) front → (begins_open (front ++ rest) ≡ true) × (0 < length front)
       by (a, b, e, w, m) =
           let text : front ≡ open_paren ∷ atom (field_word (kind_of f)) ∷ b = e ∙ ap (λ (z : List Token). z ++ b) w in
           (ap (λ (z : List Token). begins_open (z ++ rest)) text, subst (λ (z : List Token). 0 < length z) (sym text) (omega arith))

@@ -30,6 +30,7 @@ pub mod FunctionLaws
 pub mod FieldLaws
 pub mod FieldCode
 pub mod FunctionCode
+pub mod ModuleFields
 pub mod NamedUses
 pub mod SignatureLaws
 pub mod HeadSteps

@@ -144,24 +144,39 @@ function_at p names t = then_at (named_use_at names) (named_at (codes "local")) 
 
 -- ---- fields
 
+abbrev pub import_at : Names → Reader Field
+import_at names t =
+    made (λ x. import_field x.1.1.0 (record { module_name = x.0; item_name = x.1.0; desc = x.1.1.1 })) (then_at name_at (then_at name_at (desc_at names)) t)
+
+abbrev pub global_at : Profile → Names → Reader Field
+global_at p names t =
+    made (λ x. global_field x.0 (record { ty = x.1.0; init = x.1.1 })) (then_at id_at (then_at global_type_at (const_at p names)) t)
+
+abbrev pub export_at : Names → Reader Field
+export_at names t = made (λ x. export_field (record { name = x.0; kind = x.1.0; index = x.1.1 })) (then_at name_at (item_at names) t)
+
+abbrev pub element_at : Profile → Names → Reader Field
+element_at p names t =
+    made (λ x. element_field (record { table = x.0; offset = x.1.0; functions = x.1.1 }))
+    (then_at (atom_at (index_of names.tables)) (then_at (offset_at p names) (labels_at names.functions)) t)
+
+abbrev pub segment_at : Profile → Names → Reader Field
+segment_at p names t =
+    made (λ x. segment_field (record { memory = x.0; offset = x.1.0; bytes = x.1.1 }))
+    (then_at (atom_at (index_of names.memories)) (then_at (offset_at p names) bytes_at) t)
+
+-- what stands between a field's word and its closing parenthesis
 abbrev pub inside_at : Profile → Names → FieldKind → Reader Field
 inside_at p names field.Type t = made (λ x. type_field x.0 x.1) (then_at id_at signature_at t)
-inside_at p names field.Import t =
-    made (λ x. import_field x.1.1.0 (record { module_name = x.0; item_name = x.1.0; desc = x.1.1.1 })) (then_at name_at (then_at name_at (desc_at names)) t)
+inside_at p names field.Import t = import_at names t
 inside_at p names field.Func t = made (λ x. function_field x.0 x.1) (then_at id_at (function_at p names) t)
 inside_at p names field.Table t = made (λ x. table_field x.0 x.1) (then_at id_at table_type_at t)
 inside_at p names field.Memory t = made (λ x. memory_field x.0 x.1) (then_at id_at limits_at t)
-inside_at p names field.Global t =
-    made (λ x. global_field x.0 (record { ty = x.1.0; init = x.1.1 })) (then_at id_at (then_at global_type_at (const_at p names)) t)
-inside_at p names field.Export t =
-    made (λ x. export_field (record { name = x.0; kind = x.1.0; index = x.1.1 })) (then_at name_at (item_at names) t)
+inside_at p names field.Global t = global_at p names t
+inside_at p names field.Export t = export_at names t
 inside_at p names field.Start t = made start_field (atom_at (index_of names.functions) t)
-inside_at p names field.Elem t =
-    made (λ x. element_field (record { table = x.0; offset = x.1.0; functions = x.1.1 }))
-    (then_at (atom_at (index_of names.tables)) (then_at (offset_at p names) (labels_at names.functions)) t)
-inside_at p names field.Data t =
-    made (λ x. segment_field (record { memory = x.0; offset = x.1.0; bytes = x.1.1 }))
-    (then_at (atom_at (index_of names.memories)) (then_at (offset_at p names) bytes_at) t)
+inside_at p names field.Elem t = element_at p names t
+inside_at p names field.Data t = segment_at p names t
 
 unfoldable pub field_at : Profile → Names → Reader Field
 field_at p names = headed_at field_named (inside_at p names)
