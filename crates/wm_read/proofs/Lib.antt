@@ -38,4 +38,5 @@ pub mod Balanced
 pub mod Rules
 pub mod HeadLaws
 pub mod ModuleLaws
+pub mod TextLaws
 pub mod Spaces

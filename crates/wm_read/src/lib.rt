@@ -24,4 +24,5 @@ pub mod operands;
 pub mod pieces;
 mod scan;
 pub mod signatures;
+pub mod text;
 pub mod type_uses;
