@@ -32,16 +32,16 @@ NotGroup word k = begins_group word k ≡ false
 abbrev pub UseEnds : List Token → Type 0
 UseEnds k = (begins_group (codes "param") k ≡ false) × (begins_group (codes "result") k ≡ false)
 
-results_sound : Sound results_at WritesResults
+pub results_sound : Sound results_at WritesResults
 unfolding results_at
 results_sound = made_sound joined (groups_at (codes "result")) (Each (WritesUnnamed (codes "result"))) WritesResults (groups_sound (codes "result")) (λ gs front h. (gs, refl, h))
 
-results_complete : Complete results_at WritesResults (NotGroup (codes "result"))
+pub results_complete : Complete results_at WritesResults (NotGroup (codes "result"))
 unfolding results_at
 results_complete rs front rest (gs, e, h) f =
     made_is joined (groups_at (codes "result") (front ++ rest)) gs rest (groups_complete (codes "result") gs front rest h f) ∙ ap (λ (z : List ValType). Some (z, rest)) (sym e)
 
-no_param : (gs : List (List ValType)) (front rest : List Token) → Each (WritesUnnamed (codes "result")) gs front → NotGroup (codes "param") rest → NotGroup (codes "param") (front ++ rest)
+pub no_param : (gs : List (List ValType)) (front rest : List Token) → Each (WritesUnnamed (codes "result")) gs front → NotGroup (codes "param") rest → NotGroup (codes "param") (front ++ rest)
 no_param [] front rest h f = subst (λ (z : List Token). NotGroup (codes "param") (z ++ rest)) (sym h) f
 no_param (g ∷ gs) front rest (x, y, e, (a, b, d, is, w), more) f =
     subst (λ (z : List Token). NotGroup (codes "param") (z ++ rest)) (sym (e ∙ ap (λ (z : List Token). z ++ y) (d ∙ ap (λ (z : List Token). z ++ b) is))) refl

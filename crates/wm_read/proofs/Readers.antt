@@ -81,14 +81,14 @@ abbrev pub BeginsClose : List Token → Type 0
 BeginsClose (close_paren ∷ k) = Unit {0}
 BeginsClose _ = ⊥
 
-open_found : (k : List Token) (x : Unit {0} × List Token) → open_at k ≡ Some x → k ≡ open_paren ∷ x.1
+pub open_found : (k : List Token) (x : Unit {0} × List Token) → open_at k ≡ Some x → k ≡ open_paren ∷ x.1
 open_found [] x e = absurd cc
 open_found (open_paren ∷ k) x e = ap (λ (z : Unit {0} × List Token). open_paren ∷ z.1) (same_some (tt, k) x e)
 open_found (close_paren ∷ k) x e = absurd cc
 open_found (string b ∷ k) x e = absurd cc
 open_found (atom a ∷ k) x e = absurd cc
 
-close_found : (k : List Token) (x : Unit {0} × List Token) → close_at k ≡ Some x → k ≡ close_paren ∷ x.1
+pub close_found : (k : List Token) (x : Unit {0} × List Token) → close_at k ≡ Some x → k ≡ close_paren ∷ x.1
 close_found [] x e = absurd cc
 close_found (close_paren ∷ k) x e = ap (λ (z : Unit {0} × List Token). close_paren ∷ z.1) (same_some (tt, k) x e)
 close_found (open_paren ∷ k) x e = absurd cc

@@ -1,5 +1,10 @@
 -- Exact answers of functions, refusals included. They follow the code for the layers above, and need not be believed.
+pub mod FieldTypes
+pub mod Fields
+pub mod FirstReading
+pub mod Heads
 pub mod NamedUses
 pub mod Reading
 pub mod Scan
+pub mod TextModules
 pub mod TypeUses

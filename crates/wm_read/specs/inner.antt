@@ -2,6 +2,8 @@
 pub mod Blocks
 pub mod Bodies
 pub mod CodePieces
+pub mod Fields
+pub mod Heads
 pub mod Ids
 pub mod Lexemes
 pub mod Named

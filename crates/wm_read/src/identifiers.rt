@@ -1,6 +1,7 @@
 //! What identifiers mean (section 6.6): the index spaces of a module, and the locals of a function.
 
 ghost use Rattle.std.specs.Prelude.{◌≡◌, ◌++◌, ◌∷◌, [], ℕ, List, OnErr, OnOk};
+ghost use Rattle.wm_read.specs.exact.Fields.{is_new as new};
 ghost use Rattle.wm_read.specs.exact.Reading.{is_same_id as same_id, place_of};
 ghost use Rattle.wm_read.specs.inner.Ids.{defined, id_of, place_in};
 
@@ -94,8 +95,8 @@ pub struct Names<'a> {
 
 /// What the identifiers of a function's body mean, its labels aside.
 #[derive(Debug, Drop)]
-pub struct Scope<'a> {
-    pub names: Names<'a>,
+pub struct Scope<'n, 'a> {
+    pub names: &'n Names<'a>,
     pub locals: Space<'a>,
 }
 
@@ -106,6 +107,16 @@ pub fn is_same_id(id: Option<&[u8]>, name: &[u8]) -> bool
     match id {
         Some(id) => is(name, id),
         None => false,
+    }
+}
+
+/// Whether an item may have this identifier, or none, after the others of its space.
+pub fn is_new(space: &Space, id: Option<&[u8]>) -> bool
+    ensures { result ≡ new space.now (id_of id.entry) }
+{
+    match id {
+        Some(name) => space.place(name).is_none(),
+        None => true,
     }
 }
 

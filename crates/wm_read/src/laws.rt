@@ -1,16 +1,19 @@
 //! Laws of the definitions, as the contracts of functions that do nothing.
 
-ghost use Rattle.std.specs.Prelude.{◌≡◌, ◌∷◌, ◌++◌, [], ℕ, List, Some, codes, false};
-ghost use Rattle.wm_read.specs.Fields.{HasDistinct, Writes};
+ghost use Rattle.std.specs.Prelude.{◌≡◌, ◌↔◌, ◌∷◌, ◌++◌, [], ℕ, List, Some, codes, false};
+ghost use Rattle.wm_read.specs.Fields.{Field, HasDistinct, Writes, WritesField, module_of};
 ghost use Rattle.wm_read.specs.Identifiers.{AreDistinct};
 ghost use Rattle.wm_read.specs.Tokens.{Token, Tokens, close_paren};
 ghost use Rattle.wm_read.specs.Written.{Named, Names, Scope, TypeUse, WritesGroups, WritesInstructions};
+ghost use Rattle.wm_read.specs.exact.Fields.{fields_at};
 ghost use Rattle.wm_read.specs.exact.NamedUses.{named_use_at};
+ghost use Rattle.wm_read.specs.exact.TextModules.{module_at};
 ghost use Rattle.wm_read.specs.exact.TypeUses.{begins_group, instructions_at, named_at};
 ghost use Rattle.wm_rules.specs.Loading.{Loads};
 ghost use Rattle.wm_syntax.specs.Instructions.{Instructions};
 ghost use Rattle.wm_syntax.specs.Modules.{Module};
-ghost use Rattle.wm_syntax.specs.Profiles.{HasInstructions};
+ghost use Rattle.wm_syntax.specs.Profiles.{HasInstructions, IsOf};
+ghost use Rattle.wm_syntax.specs.Spelling.{Each};
 ghost use Rattle.wm_syntax.specs.declared.profile.Profile.{Profile};
 ghost use Rattle.wm_write.specs.Layout.{layout};
 
@@ -58,8 +61,31 @@ pub fn type_uses_are_read_as_written()
         → named_use_at names (front ++ rest) ≡ Some (u, rest) }
 {}
 
-/// The printed text of a loaded module writes that module.
+/// Where identifiers are distinct in their spaces: what is read of fields is what the tokens write, with instructions of
+/// the profile, and what tokens before a closing parenthesis write is read.
+pub fn fields_are_read_as_written()
+    ensures read { (p : Profile) (names : Names) (k : List Token) (fields : List Field) (rest : List Token)
+        → HasDistinct names → fields_at p names k ≡ Some (fields, rest)
+        → (front : List Token) × (k ≡ front ++ rest) × Each (WritesField names) fields front × IsOf p (module_of fields) }
+    ensures written { (p : Profile) (names : Names) (fields : List Field) (front more : List Token)
+        → HasDistinct names → Each (WritesField names) fields front → IsOf p (module_of fields)
+        → fields_at p names (front ++ close_paren ∷ more) ≡ Some (fields, close_paren ∷ more) }
+{}
+
+/// A module is read exactly where the tokens write it.
+pub fn modules_are_read_as_written()
+    ensures { (p : Profile) (k : List Token) (m : Module) → (module_at p k ≡ Some m) ↔ Writes p k m }
+{}
+
+/// Tokens write one module.
+pub fn one_module()
+    ensures { (p : Profile) (k : List Token) (m n : Module) → Writes p k m → Writes p k n → m ≡ n }
+{}
+
+/// The printed text of a loaded module writes that module, and no other.
 pub fn printed_texts_write_their_modules()
-    ensures { (p : Profile) (limit : ℕ) (b : List ℕ) (m : Module) → Loads p limit b m
+    ensures written { (p : Profile) (limit : ℕ) (b : List ℕ) (m : Module) → Loads p limit b m
         → (k : List Token) × Tokens (layout m) k × Writes p k m }
+    ensures alone { (p : Profile) (limit : ℕ) (b : List ℕ) (m n : Module) (k : List Token) → Loads p limit b m
+        → Tokens (layout m) k → Writes p k n → n ≡ m }
 {}

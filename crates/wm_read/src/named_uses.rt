@@ -27,7 +27,7 @@ pub struct NamedUse<'a> {
 
 /// The types of parameters.
 #[tactic(auto, using(crate::proofs::NamedUses::types_laws))]
-fn types_of(alloc: Global, params: &[Named]) -> Result<Vec<ValType>, AllocError>
+pub(crate) fn types_of(alloc: Global, params: &[Named]) -> Result<Vec<ValType>, AllocError>
     ensures { IfOk result (λ ts. ts.items ≡ written.types_of (named_list params.now)) }
 {
     let mut types = Vec::new(alloc);

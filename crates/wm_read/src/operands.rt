@@ -12,7 +12,9 @@ use crate::blocks::{Block, depth};
 use crate::faults::{TextFault, TextWhy};
 use crate::identifiers::{Space, is_same_id};
 use crate::lexeme::{Lexeme, next_token, skip_space};
-use crate::literals::{after_key, exponent, is, is_float, is_id, is_word, small, unsigned};
+use crate::literals::{
+    after_key, constant32, constant64, exponent, is, is_float, is_id, is_word, small, unsigned,
+};
 use wm_syntax::instructions::MemArg;
 use wm_syntax::types::ValType;
 
@@ -28,7 +30,7 @@ pub fn refuse(why: TextWhy, text: &[u8]) -> TextFault
 }
 
 /// An index or a depth from its number, the first token of a text.
-fn number(atom: &[u8], text: &[u8]) -> Result<u32, TextFault>
+pub fn number(atom: &[u8], text: &[u8]) -> Result<u32, TextFault>
     ensures { Reads (λ n. n) result (reading.unsigned_of atom.now) }
 {
     match unsigned(atom) {
@@ -71,6 +73,53 @@ pub fn index<'a>(space: &Space, text: &'a [u8]) -> Result<(u32, &'a [u8]), TextF
             }
         }
         _ => Err(refuse(TextWhy::Expected, text)),
+    }
+}
+
+/// A constant of 32 bits.
+pub fn integer_32(text: &[u8]) -> Result<(i32, &[u8]), TextFault>
+    ensures { Reads (λ x. (x.0, lexed x.1.now)) result (reading.atom_at (reading.integer_of 32) (lexed text.now)) }
+{
+    match next_token(text) {
+        Some((Lexeme::Atom(atom), rest)) => match constant32(atom) {
+            Some(n) => Ok((n, rest)),
+            None => Err(no_integer(atom, text)),
+        },
+        _ => Err(refuse(TextWhy::Expected, text)),
+    }
+}
+
+/// A constant of 64 bits.
+pub fn integer_64(text: &[u8]) -> Result<(i64, &[u8]), TextFault>
+    ensures { Reads (λ x. (x.0, lexed x.1.now)) result (reading.atom_at (reading.integer_of 64) (lexed text.now)) }
+{
+    match next_token(text) {
+        Some((Lexeme::Atom(atom), rest)) => match constant64(atom) {
+            Some(n) => Ok((n, rest)),
+            None => Err(no_integer(atom, text)),
+        },
+        _ => Err(refuse(TextWhy::Expected, text)),
+    }
+}
+
+/// What is wrong with an atom, the first token of a text, where a constant is expected.
+fn no_integer(atom: &[u8], text: &[u8]) -> TextFault
+    ensures { IsRefusal result.why }
+{
+    if is_word(atom) || is_id(atom) {
+        refuse(TextWhy::Expected, text)
+    } else {
+        refuse(TextWhy::BadInteger, text)
+    }
+}
+
+/// Whether a number or an identifier stands first.
+pub fn begins_index(text: &[u8]) -> bool
+    ensures { result ≡ reading.begins_index (lexed text.now) }
+{
+    match next_token(text) {
+        Some((Lexeme::Atom(atom), _)) => !is_word(atom),
+        _ => false,
     }
 }
 
@@ -144,6 +193,17 @@ pub fn close(text: &[u8]) -> Result<&[u8], TextFault>
 {
     match next_token(text) {
         Some((Lexeme::Close, rest)) => Ok(rest),
+        _ => Err(refuse(TextWhy::Expected, text)),
+    }
+}
+
+/// A closing parenthesis where forms may stand: one that does is wrong by the word after its parenthesis.
+pub fn close_forms(text: &[u8]) -> Result<&[u8], TextFault>
+    ensures { Reads (λ r. (tt, lexed r.now)) result (reading.close_at (lexed text.now)) }
+{
+    match next_token(text) {
+        Some((Lexeme::Close, rest)) => Ok(rest),
+        Some((Lexeme::Open, inner)) => Err(refuse(TextWhy::Expected, inner)),
         _ => Err(refuse(TextWhy::Expected, text)),
     }
 }

@@ -15,8 +15,10 @@ use crate::blocks::{Block, Opening, innermost};
 use crate::faults::{TextFault, TextWhy};
 use crate::identifiers::{Names, Scope};
 use crate::lexeme::{Lexeme, next_token};
-use crate::literals::{constant32, constant64, is_float, is_id, is_word};
-use crate::operands::{access, again, block_type, id, index, label, refuse};
+use crate::literals::{is_float, is_word};
+use crate::operands::{
+    access, again, begins_index, block_type, id, index, integer_32, integer_64, label, refuse,
+};
 use crate::type_uses::type_use;
 use std::alloc::Global;
 use wm_syntax::accesses::{loaded, stored};
@@ -59,53 +61,6 @@ fn store(op: StoreOp, text: &[u8]) -> Result<(Simple, &[u8]), TextFault>
 {
     let (at, rest) = access(stored(op).width, text)?;
     Ok((Simple::Store(op, at), rest))
-}
-
-fn constant_32(text: &[u8]) -> Result<(Simple, &[u8]), TextFault>
-    ensures { Reads (λ x. (flat.plain x.0, lexed x.1.now)) result
-        (reading.simple_at Simple.I32Const (reading.atom_at (reading.integer_of 32)) (lexed text.now)) }
-{
-    match next_token(text) {
-        Some((Lexeme::Atom(atom), rest)) => match constant32(atom) {
-            Some(n) => Ok((Simple::I32Const(n), rest)),
-            None => {
-                if is_word(atom) || is_id(atom) {
-                    Err(refuse(TextWhy::Expected, text))
-                } else {
-                    Err(refuse(TextWhy::BadInteger, text))
-                }
-            }
-        },
-        _ => Err(refuse(TextWhy::Expected, text)),
-    }
-}
-
-fn constant_64(text: &[u8]) -> Result<(Simple, &[u8]), TextFault>
-    ensures { Reads (λ x. (flat.plain x.0, lexed x.1.now)) result
-        (reading.simple_at Simple.I64Const (reading.atom_at (reading.integer_of 64)) (lexed text.now)) }
-{
-    match next_token(text) {
-        Some((Lexeme::Atom(atom), rest)) => match constant64(atom) {
-            Some(n) => Ok((Simple::I64Const(n), rest)),
-            None => {
-                if is_word(atom) || is_id(atom) {
-                    Err(refuse(TextWhy::Expected, text))
-                } else {
-                    Err(refuse(TextWhy::BadInteger, text))
-                }
-            }
-        },
-        _ => Err(refuse(TextWhy::Expected, text)),
-    }
-}
-
-fn begins_index(text: &[u8]) -> bool
-    ensures { result ≡ reading.begins_index (lexed text.now) }
-{
-    match next_token(text) {
-        Some((Lexeme::Atom(atom), _)) => !is_word(atom),
-        _ => false,
-    }
 }
 
 /// Labels, of which the last is the default.
@@ -188,7 +143,7 @@ fn operand<'a>(
     requires { HasOperand kind }
     ensures fits { IfOk result (λ x. FitsPiece (piece_of x.0)) }
     ensures read { Reads (λ x. (piece_of x.0, lexed x.1.now)) result
-        (reading.kind_at (call_use_at (names_of scope.now.names)) (scope_of scope.now) (blocks_of blocks.now) kind (lexed text.now)) }
+        (reading.kind_at (call_use_at (names_of scope.now.names.now)) (scope_of scope.now) (blocks_of blocks.now) kind (lexed text.now)) }
 {
     let (simple, rest) = match kind {
         Immediates::Br => {
@@ -225,8 +180,14 @@ fn operand<'a>(
         }
         Immediates::MemorySize => (Simple::MemorySize, text),
         Immediates::MemoryGrow => (Simple::MemoryGrow, text),
-        Immediates::I32Const => constant_32(text)?,
-        Immediates::I64Const => constant_64(text)?,
+        Immediates::I32Const => {
+            let (n, rest) = integer_32(text)?;
+            (Simple::I32Const(n), rest)
+        }
+        Immediates::I64Const => {
+            let (n, rest) = integer_64(text)?;
+            (Simple::I64Const(n), rest)
+        }
         Immediates::Load(op) => load(op, text)?,
         Immediates::Store(op) => store(op, text)?,
         _ => return Err(refuse(TextWhy::UnknownWord, text)),
@@ -261,7 +222,7 @@ pub fn read_piece<'a>(
 ) -> Result<(Piece<'a>, &'a [u8]), TextFault>
     ensures fits { IfOk result (λ x. FitsPiece (piece_of x.0)) }
     ensures read { Reads (λ x. (piece_of x.0, lexed x.1.now)) result
-        (reading.piece_at (call_use_at (names_of scope.now.names)) profile (scope_of scope.now) (blocks_of blocks.now) word.now
+        (reading.piece_at (call_use_at (names_of scope.now.names.now)) profile (scope_of scope.now) (blocks_of blocks.now) word.now
         (lexed text.now)) }
 {
     match op_named(profile, word) {
@@ -273,7 +234,7 @@ pub fn read_piece<'a>(
         OpClass::With(Immediates::Loop) => opens(Opening::Loop, text),
         OpClass::With(Immediates::If) => opens(Opening::If, text),
         OpClass::With(Immediates::BrTable) => table(alloc, blocks, text),
-        OpClass::With(Immediates::CallIndirect) => indirect(alloc, &scope.names, text),
+        OpClass::With(Immediates::CallIndirect) => indirect(alloc, scope.names, text),
         OpClass::With(kind) => operand(scope, blocks, kind, text),
         OpClass::Float => Err(refuse(TextWhy::Float, here)),
         OpClass::None => {

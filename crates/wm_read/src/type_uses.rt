@@ -120,7 +120,7 @@ pub(crate) fn fits(ty: &FuncType, params: &[ValType], results: &[ValType]) -> bo
 }
 
 /// No form stands first. One that does is wrong by the word after its parenthesis.
-fn no_form(text: &[u8]) -> Result<(), TextFault>
+pub(crate) fn no_form(text: &[u8]) -> Result<(), TextFault>
     ensures none { OnOk result (uses.begins_open (lexed text.now) ≡ false) }
     ensures form { IfErr result (λ e. (e.why ≡ Expected) × (uses.begins_open (lexed text.now) ≡ true)) }
 {

@@ -26,7 +26,7 @@ names_of n = record {
 }
 
 abbrev pub scope_of : scope.Scope → Scope
-scope_of s = record { names = names_of s.names; locals = s.locals }
+scope_of s = record { names = names_of s.names.now; locals = s.locals }
 
 abbrev pub opened : Id → Bool → Open
 opened id b = record { id = id; may_else = b }

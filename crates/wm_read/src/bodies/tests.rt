@@ -18,8 +18,8 @@ fn space<'a>(alloc: Global, ids: &[Option<&'a [u8]>]) -> Result<Space<'a>, Fail>
 }
 
 /// Type 0 is `$s`, of no parameters and results; type 1 takes an i32 and an i64 and gives an i64. Function 1 is `$f`,
-/// global 0 is `$g`, local 1 is `$x`.
-fn scope(alloc: Global) -> Result<Scope<'static>, Fail> {
+/// global 0 is `$g`.
+fn names(alloc: Global) -> Result<Names<'static>, Fail> {
     let mut signatures = Vec::new(alloc);
     signatures.push(FuncType {
         params: Vec::new(alloc),
@@ -29,22 +29,26 @@ fn scope(alloc: Global) -> Result<Scope<'static>, Fail> {
         params: vec![in alloc; ValType::I32, ValType::I64]?,
         results: vec![in alloc; ValType::I64]?,
     })?;
-    Ok(Scope {
-        names: Names {
-            signatures,
-            types: space(alloc, &[Some(b"$s"), None])?,
-            functions: space(alloc, &[None, Some(b"$f")])?,
-            tables: Space::new(alloc),
-            memories: Space::new(alloc),
-            globals: space(alloc, &[Some(b"$g")])?,
-        },
-        locals: space(alloc, &[None, Some(b"$x")])?,
+    Ok(Names {
+        signatures,
+        types: space(alloc, &[Some(b"$s"), None])?,
+        functions: space(alloc, &[None, Some(b"$f")])?,
+        tables: Space::new(alloc),
+        memories: Space::new(alloc),
+        globals: space(alloc, &[Some(b"$g")])?,
     })
+}
+
+/// Local 1 is `$x`.
+fn scope<'n>(alloc: Global, names: &'n Names<'static>) -> Result<Scope<'n, 'static>, Fail> {
+    let locals = space(alloc, &[None, Some(b"$x")])?;
+    Ok(Scope { names, locals })
 }
 
 /// The text is a body with these ops, and the parenthesis after it.
 fn expect_ops(rt: &impl Abort, alloc: Global, text: &str, ops: &[Op]) -> Result<(), Fail> {
-    let scope = scope(alloc)?;
+    let names = names(alloc)?;
+    let scope = scope(alloc, &names)?;
     match read_body(alloc, Profile::One, &scope, text.as_bytes()) {
         Ok((body, rest)) => {
             assert!(rt; body.ops() == ops, "{text}");
@@ -197,7 +201,8 @@ fn expect_refusal(
     why: TextWhy,
     at: usize,
 ) -> Result<(), Fail> {
-    let scope = scope(alloc)?;
+    let names = names(alloc)?;
+    let scope = scope(alloc, &names)?;
     match read_body(alloc, Profile::One, &scope, text.as_bytes()) {
         Ok(_) => assert!(rt; false, "{text} is read"),
         Err(fault) => assert_eq!(rt;
@@ -290,7 +295,8 @@ fn op_count(alloc: Global, profile: Profile, scope: &Scope, text: &[u8]) -> Opti
 #[test]
 fn second_profile(rt: HostRuntime) -> Result<(), Fail> {
     let alloc = rt.alloc();
-    let scope = scope(alloc)?;
+    let names = names(alloc)?;
+    let scope = scope(alloc, &names)?;
     let text = b"i64.extend32_s)";
     assert_eq!(rt; op_count(alloc, Profile::One, &scope, text), None);
     assert_eq!(rt; op_count(alloc, Profile::Two, &scope, text), Some(1));
@@ -310,7 +316,8 @@ fn nested_blocks(rt: HostRuntime) -> Result<(), Fail> {
         text.extend_from_slice(b"end ")?;
     }
     text.extend_from_slice(b")")?;
-    let scope = scope(alloc)?;
+    let names = names(alloc)?;
+    let scope = scope(alloc, &names)?;
     assert_eq!(rt;
         op_count(alloc, Profile::One, &scope, text.as_slice()),
         Some(2 * depth + 1)

@@ -1,0 +1,125 @@
+-- The types of tables, memories and globals.
+use Rattle.std.proofs.Common.{◌≡◌, ℕ, Bool, true, false, ◌||◌, List, [], ◌∷◌, ◌++◌, Option, Some, None, refl, sym, ap, subst, ◌∙◌, inl, inr}
+use Rattle.std.specs.Prelude.{codes}
+use Rattle.std.proofs.lemmas.Bool.{cond-false, cond-true}
+use Rattle.wm_syntax.specs.declared.types.ValType.{ValType}
+use Rattle.wm_read.specs.Tokens.{Token, open_paren, close_paren, string, atom, IsUnsigned}
+use Rattle.wm_read.specs.Fields.{WritesGlobalType, WritesLimits, WritesMax, WritesTableType}
+use Rattle.wm_read.specs.Written.{Number, Word, WritesType, type_text}
+use Rattle.wm_read.specs.exact.FieldTypes.{const_type, global_type_at, limits_at, limits_of, max_at, table_type_at, var_type}
+use Rattle.wm_read.specs.exact.Reading.{◌>>=◌, atom_at, is_id, is_word, paren_at, then_at, type_of, unsigned_of, word_of}
+use Rattle.wm_read.proofs.Basics.{chosen, same_some}
+use Rattle.wm_read.proofs.Immediates.{number_not_word, type_complete, type_sound}
+use Rattle.wm_read.proofs.Indices.{number_not_id, unsigned_found, unsigned_more}
+use Rattle.wm_read.proofs.Readers.{Sound, Complete, Any, Both, atom_complete, atom_sound, bind_is, bind_ok, made_is, made_sound, paren_complete, paren_sound, then_complete, then_sound, word_found, word_is}
+
+-- ---- limits
+
+number_sound : Sound (atom_at unsigned_of) Number
+number_sound = atom_sound unsigned_of (IsUnsigned 32) unsigned_found
+
+number_complete : Complete (atom_at unsigned_of) Number Any
+number_complete = atom_complete unsigned_of (IsUnsigned 32) unsigned_more
+
+no_number : (n : ℕ) (a : List ℕ) → IsUnsigned 32 n a → (is_word a || is_id a) ≡ false
+no_number n a u = by (unsigned_more a n u)
+  where
+    by : unsigned_of a ≡ Some n → (is_word a || is_id a) ≡ false
+    by e = let g = bind_ok _ _ n e in ap (λ (z : Bool). z || is_id a) (number_not_word g.0 a g.1) ∙ number_not_id g.0 a g.1
+
+-- no number follows
+abbrev pub NoNumber : List Token → Type 0
+NoNumber (atom a ∷ k) = (is_word a || is_id a) ≡ true
+NoNumber _ = Unit {0}
+
+none_max : (k : List Token) (m : Option ℕ) (rest : List Token) → ◌≡◌ {A = Option (Option ℕ × List Token)} (Some (None, k)) (Some (m, rest)) → (front : List Token) × (k ≡ front ++ rest) × WritesMax m front
+none_max k m rest e = let p = same_some (None, k) (m, rest) e in ([], ap (λ (z : Option ℕ × List Token). z.1) p, subst (λ (z : Option ℕ × List Token). WritesMax z.0 []) p refl)
+
+max_sound : Sound max_at WritesMax
+max_sound [] m rest e = none_max [] m rest e
+max_sound (open_paren ∷ k) m rest e = none_max (open_paren ∷ k) m rest e
+max_sound (close_paren ∷ k) m rest e = none_max (close_paren ∷ k) m rest e
+max_sound (string b ∷ k) m rest e = none_max (string b ∷ k) m rest e
+max_sound (atom a ∷ k) m rest e = elim (chosen (is_word a || is_id a) (Some (None, atom a ∷ k)) (◌>>=◌ {B = Option ℕ × List Token} (unsigned_of a) (λ n. Some (Some n, k))) (Some (m, rest)) e) [
+  | inl p ↦ none_max (atom a ∷ k) m rest p.1
+  | inr p ↦ (
+      let g = bind_ok (unsigned_of a) (λ n. Some (Some n, k)) (m, rest) p.1 in
+      let is : ◌≡◌ {A = Option ℕ × List Token} (Some g.0, k) (m, rest) = same_some (Some g.0, k) (m, rest) g.2 in
+      (atom a ∷ [], ap (λ (z : Option ℕ × List Token). atom a ∷ z.1) is, subst (λ (z : Option ℕ × List Token). WritesMax z.0 (atom a ∷ [])) is (a, refl, unsigned_found a g.0 g.1)))
+]
+
+max_complete : Complete max_at WritesMax NoNumber
+max_complete None front rest e f = ap (λ (z : List Token). max_at (z ++ rest)) e ∙ by rest f
+  where
+    by : (k : List Token) → NoNumber k → max_at k ≡ Some (None, k)
+    by [] f = refl
+    by (open_paren ∷ k) f = refl
+    by (close_paren ∷ k) f = refl
+    by (string b ∷ k) f = refl
+    by (atom a ∷ k) f = cond-true (is_word a || is_id a) _ _ f
+max_complete (Some n) front rest (a, e, u) f =
+    ap (λ (z : List Token). max_at (z ++ rest)) e ∙ cond-false (is_word a || is_id a) _ _ (no_number n a u) ∙ bind_is (unsigned_of a) (λ n. Some (Some n, rest)) n (unsigned_more a n u)
+
+pub limits_sound : Sound limits_at WritesLimits
+limits_sound = made_sound limits_of (then_at (atom_at unsigned_of) max_at) (Both Number WritesMax) WritesLimits (then_sound (atom_at unsigned_of) max_at Number WritesMax number_sound max_sound) (λ x front h. h)
+
+pub limits_complete : Complete limits_at WritesLimits NoNumber
+limits_complete l front rest h f =
+    made_is limits_of (then_at (atom_at unsigned_of) max_at (front ++ rest)) (l.min, l.max) rest
+    (then_complete (atom_at unsigned_of) max_at Number WritesMax Any NoNumber number_complete max_complete (λ m g r i j. tt) (l.min, l.max) front rest h f)
+
+-- ---- global types
+
+mut_sound : Sound (paren_at (codes "mut") (atom_at type_of)) (WritesGlobalType true)
+mut_sound = paren_sound (codes "mut") (atom_at type_of) WritesType type_sound
+
+const_sound : Sound (λ k. atom_at type_of k >>= λ t. Some (const_type t.0, t.1)) (λ g. WritesGlobalType g.var g.ty)
+const_sound = made_sound const_type (atom_at type_of) WritesType (λ g. WritesGlobalType g.var g.ty) type_sound (λ t front h. h)
+
+pub global_type_sound : Sound global_type_at (λ g. WritesGlobalType g.var g.ty)
+global_type_sound [] g rest e = const_sound [] g rest e
+global_type_sound (close_paren ∷ k) g rest e = const_sound (close_paren ∷ k) g rest e
+global_type_sound (string b ∷ k) g rest e = const_sound (string b ∷ k) g rest e
+global_type_sound (atom a ∷ k) g rest e = const_sound (atom a ∷ k) g rest e
+global_type_sound (open_paren ∷ k) g rest e =
+    made_sound var_type (paren_at (codes "mut") (atom_at type_of)) (WritesGlobalType true) (λ g. WritesGlobalType g.var g.ty) mut_sound (λ t front h. h) (open_paren ∷ k) g rest e
+
+pub global_type_complete : Complete global_type_at (λ g. WritesGlobalType g.var g.ty) Any
+global_type_complete g front rest h f = by g.var g.ty h
+  where
+    by : (var : Bool) (t : ValType) → WritesGlobalType var t front → global_type_at (front ++ rest) ≡ Some (record { ty = t; var = var }, rest)
+    by false t e = ap (λ (z : List Token). global_type_at (z ++ rest)) e ∙ made_is const_type (atom_at type_of (atom (type_text t) ∷ rest)) t rest (type_complete t (atom (type_text t) ∷ []) rest refl tt)
+    by true t (a, b, e, is, more) =
+        let text : front ++ rest ≡ open_paren ∷ atom (codes "mut") ∷ (b ++ rest) = ap (λ (z : List Token). z ++ rest) (e ∙ ap (λ (z : List Token). z ++ b) is) in
+        ap global_type_at text
+        ∙ made_is var_type (paren_at (codes "mut") (atom_at type_of) (open_paren ∷ atom (codes "mut") ∷ (b ++ rest))) t rest
+        (ap (paren_at (codes "mut") (atom_at type_of)) (sym text)
+        ∙ paren_complete (codes "mut") (atom_at type_of) WritesType (λ u x r w i. type_complete u x r w tt) t front rest (a, b, e, is, more) tt)
+
+-- ---- table types
+
+word_sound : (w : List ℕ) → Sound (atom_at (word_of w)) (λ u. Word w)
+word_sound w k u rest e = (atom w ∷ [], word_found w k (u, rest) e, refl)
+
+word_complete : (w : List ℕ) → Complete (atom_at (word_of w)) (λ u. Word w) Any
+word_complete w u front rest h f = ap (λ (z : List Token). atom_at (word_of w) (z ++ rest)) h ∙ word_is w rest
+
+pub table_type_sound : Sound table_type_at WritesTableType
+table_type_sound =
+    made_sound (λ x. x.0) (then_at limits_at (atom_at (word_of (codes "funcref")))) (Both WritesLimits (λ u. Word (codes "funcref"))) WritesTableType
+    (then_sound limits_at (atom_at (word_of (codes "funcref"))) WritesLimits (λ u. Word (codes "funcref")) limits_sound (word_sound (codes "funcref"))) (λ x front h. h)
+
+pub table_type_complete : Complete table_type_at WritesTableType Any
+table_type_complete l front rest h f =
+    made_is (λ x. x.0) (then_at limits_at (atom_at (word_of (codes "funcref"))) (front ++ rest)) (l, tt) rest
+    (then_complete limits_at (atom_at (word_of (codes "funcref"))) WritesLimits (λ u. Word (codes "funcref")) NoNumber Any limits_complete (word_complete (codes "funcref"))
+    (λ u g r w i. subst (λ (z : List Token). NoNumber (z ++ r)) (sym w) refl) (l, tt) front rest h f)
+
+-- ---- the code
+
+pub id_no_number : (a : List ℕ) → is_id a ≡ true → unsigned_of a ≡ None
+id_no_number a h = by (unsigned_of a) refl
+  where
+    by : (o : Option ℕ) → unsigned_of a ≡ o → unsigned_of a ≡ None
+    by None e = e
+    by (Some n) e = absurd (let g = bind_ok _ _ n e in let f : true ≡ false = sym h ∙ number_not_id g.0 a g.1 in cc)

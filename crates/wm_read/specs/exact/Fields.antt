@@ -1,0 +1,186 @@
+-- How the fields of a module are read, given what its heads define: the exact answers of the code's readers.
+use Rattle.std.specs.Prelude.{ℕ, suc, ◌&&◌, List, [], ◌∷◌, ◌++◌, Bool, true, Option, Some, None, if◌then◌else◌, codes, flat_map, is_none, length, nat_lt}
+use Rattle.std.specs.Str.{is_utf8}
+use Rattle.wm_syntax.specs.declared.types.Const.{Const}
+use Rattle.wm_syntax.specs.declared.types.Const.TheVariants as const
+use Rattle.wm_syntax.specs.declared.modules.ImportDesc.{ImportDesc}
+use Rattle.wm_syntax.specs.declared.modules.ImportDesc.TheVariants as desc
+use Rattle.wm_syntax.specs.declared.modules.ExportKind.{ExportKind}
+use Rattle.wm_syntax.specs.declared.modules.ExportKind.TheVariants as kind
+use Rattle.wm_syntax.specs.declared.op_class.Immediates.{Immediates}
+use Rattle.wm_syntax.specs.declared.op_class.Immediates.TheVariants as k
+use Rattle.wm_syntax.specs.declared.op_class.OpClass.{OpClass}
+use Rattle.wm_syntax.specs.declared.op_class.OpClass.TheVariants as class
+use Rattle.wm_syntax.specs.declared.profile.Profile.{Profile}
+use Rattle.wm_syntax.specs.exact.NameTable.{class_named}
+use Rattle.wm_syntax.specs.Modules.{Function}
+use Rattle.wm_read.specs.Tokens.{string, atom}
+use Rattle.wm_read.specs.Identifiers.{Id, Ids}
+use Rattle.wm_read.specs.Written.{Named, Names, types_of, ids_of}
+use Rattle.wm_read.specs.Fields.{Field, type_field, import_field, function_field, table_field, memory_field, global_field, export_field, start_field, element_field, segment_field}
+use Rattle.wm_read.specs.declared.field_words.FieldKind.{FieldKind}
+use Rattle.wm_read.specs.declared.field_words.FieldKind.TheVariants as field
+use Rattle.wm_read.specs.exact.Reading.{Reader, ◌>>=◌, made, same_bytes, open_at, close_at, atom_at, then_at, paren_at, many_at, id_at, index_of, place_of, integer_of, labels_at}
+use Rattle.wm_read.specs.exact.FieldTypes.{limits_at, table_type_at, global_type_at}
+use Rattle.wm_read.specs.exact.Heads.{signature_at}
+use Rattle.wm_read.specs.exact.NamedUses.{named_use_at}
+use Rattle.wm_read.specs.exact.TypeUses.{begins_open, instructions_at, named_at}
+
+-- ---- words that begin a field or an item
+
+abbrev pub field_word : FieldKind → List ℕ
+field_word field.Type = codes "type"
+field_word field.Import = codes "import"
+field_word field.Func = codes "func"
+field_word field.Table = codes "table"
+field_word field.Memory = codes "memory"
+field_word field.Global = codes "global"
+field_word field.Export = codes "export"
+field_word field.Start = codes "start"
+field_word field.Elem = codes "elem"
+field_word field.Data = codes "data"
+
+abbrev pub item_word : ExportKind → List ℕ
+item_word kind.Func = codes "func"
+item_word kind.Table = codes "table"
+item_word kind.Memory = codes "memory"
+item_word kind.Global = codes "global"
+
+-- the first of these that has this word
+abbrev pub with_word : {K : Type 0} → (K → List ℕ) → List K → List ℕ → Option K
+with_word word [] a = None
+with_word word (x ∷ xs) a = if same_bytes a (word x) then Some x else with_word word xs a
+
+abbrev pub field_named : List ℕ → Option FieldKind
+field_named a =
+    with_word field_word (field.Type ∷ field.Import ∷ field.Func ∷ field.Table ∷ field.Memory ∷ field.Global ∷ field.Export ∷ field.Start ∷ field.Elem ∷ field.Data ∷ []) a
+
+abbrev pub item_named : List ℕ → Option ExportKind
+item_named a = with_word item_word (kind.Func ∷ kind.Table ∷ kind.Memory ∷ kind.Global ∷ []) a
+
+-- ( word .. ), where the word says how the rest is read
+abbrev pub headed_at : {K X : Type 0} → (List ℕ → Option K) → (K → Reader X) → Reader X
+headed_at named r k = open_at k >>= λ o. atom_at named o.1 >>= λ w. r w.0 w.1 >>= λ x. close_at x.1 >>= λ c. Some (x.0, c.1)
+
+-- ---- names and strings
+
+abbrev pub name_at : Reader (List ℕ)
+name_at (string b ∷ k) = if is_utf8 b then Some (b, k) else None
+name_at _ = None
+
+abbrev pub strings_at : Reader (List (List ℕ))
+strings_at (string b ∷ k) = strings_at k >>= λ x. Some (b ∷ x.0, x.1)
+strings_at k = Some ([], k)
+
+-- the bytes of all strings that stand first, joined
+abbrev pub bytes_at : Reader (List ℕ)
+bytes_at k = made (λ parts. flat_map (λ part. part) parts) (strings_at k)
+
+-- ---- constants
+
+abbrev pub const_kind : Names → Immediates → Reader Const
+const_kind names k.I32Const t = made const.I32 (atom_at (integer_of 32) t)
+const_kind names k.I64Const t = made const.I64 (atom_at (integer_of 64) t)
+const_kind names k.GlobalGet t = made const.Global (atom_at (index_of names.globals) t)
+const_kind names _ t = None
+
+abbrev pub const_class : Names → OpClass → Reader Const
+const_class names (class.With kind) t = const_kind names kind t
+const_class names _ t = None
+
+abbrev pub const_at : Profile → Names → Reader Const
+const_at p names (atom w ∷ t) = const_class names (class_named p w) t
+const_at p names _ = None
+
+abbrev pub offset_at : Profile → Names → Reader Const
+offset_at p names = paren_at (codes "offset") (const_at p names)
+
+-- ---- what is imported, and what is exported
+
+abbrev pub desc_kind : Names → ExportKind → Reader ImportDesc
+desc_kind names kind.Func t = made (λ u. desc.Func u.0) (named_use_at names t)
+desc_kind names kind.Table t = made desc.Table (table_type_at t)
+desc_kind names kind.Memory t = made desc.Memory (limits_at t)
+desc_kind names kind.Global t = made desc.Global (global_type_at t)
+
+abbrev pub desc_at : Names → Reader (Id × ImportDesc)
+desc_at names = headed_at item_named (λ kind. then_at id_at (desc_kind names kind))
+
+abbrev pub space_of : Names → ExportKind → Ids
+space_of names kind.Func = names.functions
+space_of names kind.Table = names.tables
+space_of names kind.Memory = names.memories
+space_of names kind.Global = names.globals
+
+abbrev pub item_at : Names → Reader (ExportKind × ℕ)
+item_at names = headed_at item_named (λ kind t. made (λ x. (kind, x)) (atom_at (index_of (space_of names kind)) t))
+
+-- ---- functions
+
+-- no item of the space has this identifier
+abbrev pub is_new : Ids → Id → Bool
+is_new seen None = true
+is_new seen (Some a) = is_none (place_of seen a)
+
+-- each identifier comes for the first time
+abbrev pub all_new : Ids → Ids → Bool
+all_new seen [] = true
+all_new seen (id ∷ ids) = is_new seen id && all_new (seen ++ id ∷ []) ids
+
+abbrev pub function_of : ℕ → List Named → List Named → Profile → Names → Reader Function
+function_of x params locals p names t =
+    instructions_at p (record { names = names; locals = ids_of (params ++ locals) }) t
+    >>= λ b. Some (record { type_index = x; locals = types_of locals; body = b.0 }, b.1)
+
+-- fewer than 2 ^ 32 locals, and identifiers that are distinct
+abbrev pub is_function : List Named → List Named → Bool
+is_function params locals = nat_lt (length (types_of locals)) 0x1_0000_0000 && all_new [] (ids_of (params ++ locals))
+
+abbrev pub function_by : Profile → Names → ℕ → List Named → List Named → Reader Function
+function_by p names x params locals t = if is_function params locals then function_of x params locals p names t else None
+
+unfoldable pub function_at : Profile → Names → Reader Function
+function_at p names t = then_at (named_use_at names) (named_at (codes "local")) t >>= λ h. function_by p names h.0.0.0 h.0.0.1 h.0.1 h.1
+
+-- ---- fields
+
+abbrev pub import_at : Names → Reader Field
+import_at names t =
+    made (λ x. import_field x.1.1.0 (record { module_name = x.0; item_name = x.1.0; desc = x.1.1.1 })) (then_at name_at (then_at name_at (desc_at names)) t)
+
+abbrev pub global_at : Profile → Names → Reader Field
+global_at p names t =
+    made (λ x. global_field x.0 (record { ty = x.1.0; init = x.1.1 })) (then_at id_at (then_at global_type_at (const_at p names)) t)
+
+abbrev pub export_at : Names → Reader Field
+export_at names t = made (λ x. export_field (record { name = x.0; kind = x.1.0; index = x.1.1 })) (then_at name_at (item_at names) t)
+
+abbrev pub element_at : Profile → Names → Reader Field
+element_at p names t =
+    made (λ x. element_field (record { table = x.0; offset = x.1.0; functions = x.1.1 }))
+    (then_at (atom_at (index_of names.tables)) (then_at (offset_at p names) (labels_at names.functions)) t)
+
+abbrev pub segment_at : Profile → Names → Reader Field
+segment_at p names t =
+    made (λ x. segment_field (record { memory = x.0; offset = x.1.0; bytes = x.1.1 }))
+    (then_at (atom_at (index_of names.memories)) (then_at (offset_at p names) bytes_at) t)
+
+-- what stands between a field's word and its closing parenthesis
+abbrev pub inside_at : Profile → Names → FieldKind → Reader Field
+inside_at p names field.Type t = made (λ x. type_field x.0 x.1) (then_at id_at signature_at t)
+inside_at p names field.Import t = import_at names t
+inside_at p names field.Func t = made (λ x. function_field x.0 x.1) (then_at id_at (function_at p names) t)
+inside_at p names field.Table t = made (λ x. table_field x.0 x.1) (then_at id_at table_type_at t)
+inside_at p names field.Memory t = made (λ x. memory_field x.0 x.1) (then_at id_at limits_at t)
+inside_at p names field.Global t = global_at p names t
+inside_at p names field.Export t = export_at names t
+inside_at p names field.Start t = made start_field (atom_at (index_of names.functions) t)
+inside_at p names field.Elem t = element_at p names t
+inside_at p names field.Data t = segment_at p names t
+
+unfoldable pub field_at : Profile → Names → Reader Field
+field_at p names = headed_at field_named (inside_at p names)
+
+-- as many as begin with a parenthesis
+unfoldable pub fields_at : Profile → Names → Reader (List Field)
+fields_at p names t = many_at (suc (length t)) begins_open (field_at p names) t

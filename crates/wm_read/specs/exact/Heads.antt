@@ -1,0 +1,15 @@
+-- How the heads of fields are read: the exact answers of the code's readers.
+use Rattle.std.specs.Prelude.{List, codes}
+use Rattle.wm_syntax.specs.declared.types.ValType.{ValType}
+use Rattle.wm_syntax.specs.Types.{Signature}
+use Rattle.wm_read.specs.Written.{Named, types_of}
+use Rattle.wm_read.specs.exact.Reading.{Reader, made, then_at, paren_at}
+use Rattle.wm_read.specs.exact.NamedUses.{results_at}
+use Rattle.wm_read.specs.exact.TypeUses.{named_at}
+
+-- identifiers of a type's parameters mean nothing
+abbrev pub signature_of : List Named × List ValType → Signature
+signature_of x = record { params = types_of x.0; results = x.1 }
+
+unfoldable pub signature_at : Reader Signature
+signature_at k = made signature_of (paren_at (codes "func") (then_at (named_at (codes "param")) results_at) k)

@@ -1,0 +1,30 @@
+-- How the text of a module is read: what its fields define, to the end of the text, and then its fields with these names.
+-- The exact answer of the code.
+use Rattle.std.specs.Prelude.{List, [], Option, Some, None, codes}
+use Rattle.wm_syntax.specs.declared.profile.Profile.{Profile}
+use Rattle.wm_syntax.specs.Modules.{Module}
+use Rattle.wm_read.specs.Tokens.{Token}
+use Rattle.wm_read.specs.Fields.{module_of}
+use Rattle.wm_read.specs.Written.{Names}
+use Rattle.wm_read.specs.exact.Fields.{fields_at}
+use Rattle.wm_read.specs.exact.FirstReading.{names_at}
+use Rattle.wm_read.specs.exact.Reading.{◌>>=◌, made, open_at, close_at, atom_at, word_of, id_at}
+
+-- no token is left
+abbrev pub end_at : List Token → Option (Unit {0})
+end_at [] = Some tt
+end_at _ = None
+
+-- up to the first field; the identifier means nothing
+abbrev pub frame_at : List Token → Option (List Token)
+frame_at k = open_at k >>= λ o. atom_at (word_of (codes "module")) o.1 >>= λ w. id_at w.1 >>= λ i. Some i.1
+
+-- the names of fields, behind which the text ends
+abbrev pub all_names_at : List Token → Option Names
+all_names_at k = names_at k >>= λ n. close_at n.1 >>= λ c. end_at c.1 >>= λ e. Some n.0
+
+abbrev pub module_within : Profile → Names → List Token → Option Module
+module_within p names k = made module_of (fields_at p names k) >>= λ m. close_at m.1 >>= λ c. Some m.0
+
+unfoldable pub module_at : Profile → List Token → Option Module
+module_at p k = frame_at k >>= λ j. all_names_at j >>= λ names. module_within p names j

@@ -1,0 +1,212 @@
+//! Fields (section 6.6), given what the module defines.
+
+ghost use Rattle.std.specs.Prelude.{◌≡◌};
+ghost use Rattle.wm_read.specs.exact.Fields as fields;
+ghost use Rattle.wm_read.specs.exact.Reading as reading;
+ghost use Rattle.wm_read.specs.exact.Scan.{lexed};
+ghost use Rattle.wm_read.specs.inner.Blocks.{names_of};
+ghost use Rattle.wm_read.specs.inner.Fields.{field_of};
+ghost use Rattle.wm_read.specs.inner.Views.{Reads};
+
+use crate::constants::{constant, constant_end, offset};
+use crate::faults::TextFault;
+use crate::field_strings::{bytes, name};
+use crate::field_types::{global_type, limits, table_type};
+use crate::field_words::{FieldKind, field_kind};
+use crate::functions::function;
+use crate::identifiers::{Names, Space};
+use crate::items::{desc, item};
+use crate::operands::{begins_index, close, id, index, open};
+use crate::signatures::signature;
+use std::alloc::Global;
+use wm_syntax::modules::{Element, Export, Function, GlobalDef, Import, Segment};
+use wm_syntax::profile::Profile;
+use wm_syntax::types::{FuncType, Limits};
+
+/// A field, with the identifier that it defines.
+#[derive(Debug, Drop)]
+pub enum Field<'a> {
+    Type(Option<&'a [u8]>, FuncType),
+    Import(Option<&'a [u8]>, Import),
+    Function(Option<&'a [u8]>, Function),
+    Table(Option<&'a [u8]>, Limits),
+    Memory(Option<&'a [u8]>, Limits),
+    Global(Option<&'a [u8]>, GlobalDef),
+    Export(Export),
+    Start(u32),
+    Element(Element),
+    Segment(Segment),
+}
+
+/// Two names and an item.
+fn import<'a>(
+    alloc: Global,
+    names: &Names,
+    text: &'a [u8],
+) -> Result<(Field<'a>, &'a [u8]), TextFault>
+    ensures { Reads (λ x. (field_of x.0, lexed x.1.now)) result (fields.import_at (names_of names.now) (lexed text.now)) }
+{
+    let (module_name, rest) = name(alloc, text)?;
+    let (item_name, rest) = name(alloc, rest)?;
+    let (id, desc, rest) = desc(alloc, names, rest)?;
+    let import = Import {
+        module_name,
+        item_name,
+        desc,
+    };
+    Ok((Field::Import(id, import), rest))
+}
+
+/// A global's identifier, type and initialiser.
+fn global<'a>(
+    profile: Profile,
+    names: &Names,
+    text: &'a [u8],
+) -> Result<(Field<'a>, &'a [u8]), TextFault>
+    ensures { Reads (λ x. (field_of x.0, lexed x.1.now)) result
+        (fields.global_at profile (names_of names.now) (lexed text.now)) }
+{
+    let (id, rest) = id(text);
+    let (ty, rest) = global_type(rest)?;
+    let (init, rest) = constant(profile, names, rest)?;
+    Ok((Field::Global(id, GlobalDef { ty, init }), rest))
+}
+
+/// A name and an item.
+fn export<'a>(
+    alloc: Global,
+    names: &Names,
+    text: &'a [u8],
+) -> Result<(Field<'a>, &'a [u8]), TextFault>
+    ensures { Reads (λ x. (field_of x.0, lexed x.1.now)) result (fields.export_at (names_of names.now) (lexed text.now)) }
+{
+    let (name, rest) = name(alloc, text)?;
+    let (kind, index, rest) = item(names, rest)?;
+    Ok((Field::Export(Export { name, kind, index }), rest))
+}
+
+/// The functions of an element segment.
+#[tactic(auto, using(crate::proofs::Tables::table_laws, crate::proofs::FieldCode::atom_shrinks))]
+fn indices<'a>(
+    alloc: Global,
+    space: &Space,
+    text: &'a [u8],
+) -> Result<(Vec<u32>, &'a [u8]), TextFault>
+    ensures { Reads (λ x. (x.0.items, lexed x.1.now)) result (reading.labels_at space.now (lexed text.now)) }
+{
+    let mut indices = Vec::new(alloc);
+    let mut rest = text;
+    while begins_index(rest) {
+        let (x, more) = index(space, rest)?;
+        indices.push(x)?;
+        rest = more;
+    }
+    Ok((indices, rest))
+}
+
+/// A table's index, an offset and functions.
+fn element<'a>(
+    alloc: Global,
+    profile: Profile,
+    names: &Names,
+    text: &'a [u8],
+) -> Result<(Field<'a>, &'a [u8]), TextFault>
+    ensures { Reads (λ x. (field_of x.0, lexed x.1.now)) result
+        (fields.element_at profile (names_of names.now) (lexed text.now)) }
+{
+    let (table, rest) = index(&names.tables, text)?;
+    let (offset, rest) = offset(profile, names, rest)?;
+    let (functions, rest) = indices(alloc, &names.functions, rest)?;
+    let element = Element {
+        table,
+        offset,
+        functions,
+    };
+    Ok((Field::Element(element), rest))
+}
+
+/// A memory's index, an offset and strings.
+fn segment<'a>(
+    alloc: Global,
+    profile: Profile,
+    names: &Names,
+    text: &'a [u8],
+) -> Result<(Field<'a>, &'a [u8]), TextFault>
+    ensures { Reads (λ x. (field_of x.0, lexed x.1.now)) result
+        (fields.segment_at profile (names_of names.now) (lexed text.now)) }
+{
+    let (memory, rest) = index(&names.memories, text)?;
+    let (offset, rest) = offset(profile, names, rest)?;
+    let (bytes, rest) = bytes(alloc, rest)?;
+    let segment = Segment {
+        memory,
+        offset,
+        bytes,
+    };
+    Ok((Field::Segment(segment), rest))
+}
+
+/// What stands between a field's word and its closing parenthesis.
+fn inside<'a>(
+    alloc: Global,
+    profile: Profile,
+    names: &Names<'a>,
+    kind: FieldKind,
+    text: &'a [u8],
+) -> Result<(Field<'a>, &'a [u8]), TextFault>
+    ensures { Reads (λ x. (field_of x.0, lexed x.1.now)) result
+        (fields.inside_at profile (names_of names.now) kind (lexed text.now)) }
+{
+    match kind {
+        FieldKind::Type => {
+            let (id, rest) = id(text);
+            let (ty, rest) = signature(alloc, rest)?;
+            Ok((Field::Type(id, ty), rest))
+        }
+        FieldKind::Import => import(alloc, names, text),
+        FieldKind::Func => {
+            let (id, rest) = id(text);
+            let (function, rest) = function(alloc, profile, names, rest)?;
+            Ok((Field::Function(id, function), rest))
+        }
+        FieldKind::Table => {
+            let (id, rest) = id(text);
+            let (limits, rest) = table_type(rest)?;
+            Ok((Field::Table(id, limits), rest))
+        }
+        FieldKind::Memory => {
+            let (id, rest) = id(text);
+            let (limits, rest) = limits(rest)?;
+            Ok((Field::Memory(id, limits), rest))
+        }
+        FieldKind::Global => global(profile, names, text),
+        FieldKind::Export => export(alloc, names, text),
+        FieldKind::Start => {
+            let (x, rest) = index(&names.functions, text)?;
+            Ok((Field::Start(x), rest))
+        }
+        FieldKind::Elem => element(alloc, profile, names, text),
+        FieldKind::Data => segment(alloc, profile, names, text),
+    }
+}
+
+/// A field.
+#[tactic(auto, unfolding(crate::specs::exact::Fields::field_at))]
+pub fn read_field<'a>(
+    alloc: Global,
+    profile: Profile,
+    names: &Names<'a>,
+    text: &'a [u8],
+) -> Result<(Field<'a>, &'a [u8]), TextFault>
+    ensures { Reads (λ x. (field_of x.0, lexed x.1.now)) result
+        (fields.field_at profile (names_of names.now) (lexed text.now)) }
+{
+    let rest = open(text)?;
+    let (kind, rest) = field_kind(rest)?;
+    let (field, rest) = inside(alloc, profile, names, kind, rest)?;
+    let rest = match kind {
+        FieldKind::Global => constant_end(profile, rest)?,
+        _ => close(rest)?,
+    };
+    Ok((field, rest))
+}

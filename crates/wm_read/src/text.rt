@@ -1,0 +1,82 @@
+//! Whole texts (section 6.6.12).
+
+ghost use Rattle.std.specs.Prelude.{◌≡◌, ◌≢◌, ◌≤◌, IfErr, IfOk, List, length};
+ghost use Rattle.wm_read.specs.Fields.{Writes};
+ghost use Rattle.wm_read.specs.Tokens.{Token, Tokens};
+ghost use Rattle.wm_read.specs.declared.faults.TextWhy.TheVariants.{Memory};
+ghost use Rattle.wm_read.specs.exact.Scan.{lexed};
+ghost use Rattle.wm_read.specs.exact.TextModules as modules;
+ghost use Rattle.wm_read.specs.inner.Blocks.{names_of};
+ghost use Rattle.wm_read.specs.inner.Views.{Reads};
+ghost use Rattle.wm_syntax.specs.Modules as values;
+ghost use Rattle.wm_syntax.specs.Values.{value_of};
+
+use crate::faults::{TextFault, TextRefusal, TextWhy};
+use crate::field_lists::read_fields;
+use crate::heads::read_heads;
+use crate::identifiers::Names;
+use crate::lexeme::{check_tokens, next_token};
+use crate::operands::{close, id, open, refuse, word};
+use std::alloc::Global;
+use wm_syntax::modules::Module;
+use wm_syntax::profile::Profile;
+
+/// `( module id?`; the identifier means nothing.
+fn frame(text: &[u8]) -> Result<&[u8], TextFault>
+    ensures { Reads (λ r. lexed r.now) result (modules.frame_at (lexed text.now)) }
+{
+    let rest = open(text)?;
+    let rest = word(b"module", rest)?;
+    let (_id, rest) = id(rest);
+    Ok(rest)
+}
+
+/// No token is left.
+fn end(text: &[u8]) -> Result<(), TextFault>
+    ensures { Reads (λ _. tt) result (modules.end_at (lexed text.now)) }
+{
+    match next_token(text) {
+        None => Ok(()),
+        Some(_) => Err(refuse(TextWhy::Expected, text)),
+    }
+}
+
+/// What the fields of a module define, behind which the text ends.
+fn all_names<'a>(alloc: Global, text: &'a [u8]) -> Result<Names<'a>, TextFault>
+    ensures { Reads (λ n. names_of n) result (modules.all_names_at (lexed text.now)) }
+{
+    let (names, rest) = read_heads(alloc, text)?;
+    let rest = close(rest)?;
+    end(rest)?;
+    Ok(names)
+}
+
+/// The module that the tokens of a whole text write: first what its fields define is read, and then the fields.
+#[tactic(auto, unfolding(crate::specs::exact::TextModules::module_at))]
+fn read_module(alloc: Global, profile: Profile, text: &[u8]) -> Result<Module, TextFault>
+    ensures { Reads value_of result (modules.module_at profile (lexed text.now)) }
+{
+    let inner = frame(text)?;
+    let names = all_names(alloc, inner)?;
+    let (module, rest) = read_fields(alloc, profile, &names, inner)?;
+    close(rest)?;
+    Ok(module)
+}
+
+/// The module that a text writes (chapter 6), of the profile. A text that is no UTF-8 is refused first, then the first
+/// fault of its tokens, then the first of what its fields define, and then the first of its fields.
+#[tactic(auto, using(crate::proofs::TextLaws::text_laws))]
+pub fn read_text(alloc: Global, profile: Profile, text: &[u8]) -> Result<Module, TextRefusal>
+    ensures written { IfOk result (λ m. (k : List Token) × Tokens text.now k × Writes profile k (value_of m)) }
+    ensures refused { IfErr result (λ e. e.why ≢ Memory → (k : List Token) (m : values.Module) → Tokens text.now k → Writes profile k m → ⊥) }
+    ensures at { IfErr result (λ e. e.at ≤ length text.now) }
+{
+    check_tokens(text)?;
+    match read_module(alloc, profile, text) {
+        Ok(module) => Ok(module),
+        Err(fault) => Err(fault.refusal(text)),
+    }
+}
+
+#[cfg(test)]
+mod tests;
