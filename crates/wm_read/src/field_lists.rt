@@ -70,3 +70,6 @@ pub fn read_fields<'a>(
     }
     Ok((whole, rest))
 }
+
+#[cfg(test)]
+mod tests;
