@@ -1,5 +1,5 @@
 -- A sink that does nothing at an item takes any item of such items.
-use Rattle.std.proofs.Common.{◌≡◌, ℕ, List, [], ◌∷◌, ◌++◌, Result, Ok, Err, IfErr, map, refl, ◌∙◌, ap, ◌+◌, ◌<◌, length, take, slice_index}
+use Rattle.std.proofs.Common.{arith, ◌≡◌, ◌≢◌, ◌⊎◌, inl, inr, ℕ, List, [], ◌∷◌, ◌++◌, Result, Ok, Err, IfErr, IsOk, MatchResult, map, refl, ◌∙◌, ap, ◌+◌, ◌<◌, length, take, slice_index}
 use Rattle.std.proofs.lemmas.List.{take_more}
 use Rattle.wm_syntax.specs.declared.why.Why.{Why}
 use Rattle.wm_syntax.specs.declared.why.Why.TheVariants as why
@@ -59,3 +59,42 @@ data_more after h f g bytes i less before given =
     ∙ (slices_taken after h (take i bytes) (slice_index bytes i ∷ [])
     ∙ (ap (λ r. and_then r (λ k. all_taken after k (data_byte (slice_index bytes i) ∷ []))) before
     ∙ ap (λ r. and_then r (λ k. Ok k)) given))
+
+-- where no byte of data is refused
+pub is_memory : (w : Why) → (w ≡ why.Memory) ⊎ (w ≡ why.Memory → ⊥)
+is_memory why.Memory = inl refl
+is_memory w = inr (λ e. cc)
+
+one_taken : {H : Type 0} (after : H → Item → Result H Why) (r : Result H Why) → IsOk r → (xs : List Item) → ((g : H) → (k : H) × (all_taken after g xs ≡ Ok k))
+    → (k : H) × (and_then r (λ g. all_taken after g xs) ≡ Ok k)
+one_taken after (Ok g) ok xs rest = rest g
+one_taken after (Err w) ok xs rest = cc
+
+data_taken : {H : Type 0} (after : H → Item → Result H Why) → ((h : H) (c : ℕ) → IsOk (after h (data_byte c))) → (bytes : List ℕ) (h : H)
+    → (g : H) × (all_taken after h (map data_byte bytes) ≡ Ok g)
+data_taken after law [] h = (h, refl)
+data_taken after law (c ∷ b) h = one_taken after (after h (data_byte c)) (law h c) (map data_byte b) (λ g. data_taken after law b g)
+
+only_memory : {H : Type 0} (x : Result H Why) (w : Why) → IsOk x → (w ≢ why.Memory → x ≡ Err w) → w ≡ why.Memory
+only_memory (Ok h) why.Memory ok refused = refl
+only_memory (Ok h) w ok refused = elim (is_memory w) [ inl e ↦ e | inr ne ↦ let bad = refused ne in cc ]
+only_memory (Err v) w ok refused = cc
+
+not_taken : {H : Type 0} (x : Result H Why) (g : H) (w : Why) → x ≡ Ok g → (w ≢ why.Memory → (h : H) → x ≡ Ok h → ⊥) → w ≡ why.Memory
+not_taken x g w e refused = elim (is_memory w) [ inl m ↦ m | inr ne ↦ absurd (refused ne g e) ]
+
+pub slice_taken : {H U : Type 0} (after : H → Item → Result H Why) → ((h : H) (c : ℕ) → IsOk (after h (data_byte c))) → (h g : H) (bytes : List ℕ) (r : Result U Why)
+    → Took after h (map data_byte bytes) r g → MatchResult r (λ u. all_taken after h (map data_byte bytes) ≡ Ok g) (λ w. w ≡ why.Memory)
+slice_taken after law h g [] (Ok u) t = t
+slice_taken after law h g (c ∷ []) (Ok u) t = ap (λ r. and_then r (λ k. Ok k)) t
+slice_taken after law h g (c ∷ d ∷ b) (Ok u) t = t
+slice_taken after law h g [] (Err w) t = not_taken (Ok h) h w refl t
+slice_taken after law h g (c ∷ []) (Err w) t = only_memory (after h (data_byte c)) w (law h c) t
+slice_taken after law h g (c ∷ d ∷ b) (Err w) t = let s = data_taken after law (c ∷ d ∷ b) h in not_taken (all_taken after h (map data_byte (c ∷ d ∷ b))) s.0 w s.1 t
+
+pub slice_room : {H U : Type 0} (may : H → Item → Type 0) (h : H) (bytes : List ℕ) (r : Result U Why)
+    → RunsOut may h (map data_byte bytes) r → length bytes ≡ 1 → IfErr r (λ w. w ≡ why.Memory → may h (data_byte (slice_index bytes 0)))
+slice_room may h bytes (Ok u) t one = tt
+slice_room may h [] (Err w) t one = absurd (omega (arith, one))
+slice_room may h (c ∷ []) (Err w) t one = t
+slice_room may h (c ∷ d ∷ b) (Err w) t one = absurd (omega (arith, one))

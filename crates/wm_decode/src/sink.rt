@@ -1,8 +1,8 @@
 //! Who receives the items of a module.
 
-ghost use Rattle.std.specs.Prelude.{Result};
+ghost use Rattle.std.specs.Prelude.{IsOk, Result, ℕ};
 ghost use Rattle.wm_syntax.specs.declared.why.Why.{Why};
-ghost use Rattle.wm_decode.specs.Items.{Item as AnItem};
+ghost use Rattle.wm_decode.specs.Items.{Item as AnItem, data_byte};
 ghost use Rattle.wm_decode.specs.Sinks.{RunsOut, Took, items_for};
 
 use crate::item::Item;
@@ -25,4 +25,7 @@ pub trait Sink: Drop {
     fn take(&mut self, item: Item) -> Result<(), Why>
         ensures took { Took after (held self.old) (items_for item.entry) result (held self.new) }
         ensures room { RunsOut may_run_out (held self.old) (items_for item.entry) result };
+
+    // No sink refuses data bytes, but for want of memory: a refusal that the bytes decide never lies within a slice of them.
+    ghost takes_data: { (h : Held) (c : ℕ) → IsOk (after h (data_byte c)) };
 }

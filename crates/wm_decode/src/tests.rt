@@ -1,6 +1,7 @@
 //! Tests of the decoder over sinks that record, count or refuse.
 
-ghost use Rattle.std.specs.Prelude.{◌≡◌, ◌<◌, Err, IfErr, Ok};
+ghost use Rattle.std.specs.Prelude.{◌≡◌, ◌<◌, Err, IfErr, Ok, refl};
+ghost use Rattle.wm_decode.specs.Items.{data_byte};
 ghost use Rattle.wm_syntax.specs.declared.why.Why.TheVariants.{Arity, Memory};
 
 use crate::machine::Machine;
@@ -151,14 +152,23 @@ impl Sink for Recorder {
     fn take(&mut self, item: Item) -> Result<(), Why> {
         self.write_item(item)
     }
+
+    ghost takes_data = { λ h c. refl };
 }
 
-// Counts the items and the bytes of data.
+// Counts the items, the bytes of data, and the slices in which these came.
 #[derive(Drop)]
 struct Counter {
     items: u64,
     data: u64,
+    slices: u64,
 }
+
+const NONE: Counter = Counter {
+    items: 0,
+    data: 0,
+    slices: 0,
+};
 
 impl Sink for Counter {
     ghost Held = { Unit {0} };
@@ -172,14 +182,17 @@ impl Sink for Counter {
     fn take(&mut self, item: Item) -> Result<(), Why> {
         if let Item::DataBytes(bytes) = item {
             self.data = self.data.saturating_add(bytes.len() as u64);
+            self.slices = self.slices.saturating_add(1);
         } else {
             self.items = self.items.saturating_add(1);
         }
         Ok(())
     }
+
+    ghost takes_data = { λ h c. refl };
 }
 
-// Refuses every item.
+// Refuses every item but data.
 #[derive(Drop)]
 struct Full {}
 
@@ -188,7 +201,7 @@ impl Sink for Full {
 
     ghost held = { λ s. tt };
 
-    ghost after = { λ h x. Err Arity };
+    ghost after = { λ h. elim [ data_byte c ↦ Ok h | x ↦ Err Arity ] };
 
     ghost may_run_out = { λ h x. Unit {0} };
 
@@ -198,6 +211,8 @@ impl Sink for Full {
             _ => Err(Why::Arity),
         }
     }
+
+    ghost takes_data = { λ h c. refl };
 }
 
 const HEADER: [u8; 8] = [0x00, 0x61, 0x73, 0x6D, 0x01, 0x00, 0x00, 0x00];
@@ -442,14 +457,56 @@ fn cut_in_two_at_every_place(rt: HostRuntime) -> Result<(), Fail> {
 
 #[test]
 fn a_sink_that_counts(rt: HostRuntime) -> Result<(), Fail> {
-    let counter = Counter { items: 0, data: 0 };
-    let mut decoder = Decoder::new(rt.alloc(), counter, Profile::One, 1000);
+    let mut decoder = Decoder::new(rt.alloc(), NONE, Profile::One, 1000);
     for piece in all_sections(rt.alloc())?.chunks(7) {
         assert_eq!(rt; decoder.feed(piece), Ok(()));
     }
     let counter = decoder.finish()?;
     assert_eq!(rt; counter.items, 27);
     assert_eq!(rt; counter.data, 1);
+    Ok(())
+}
+
+// Two segments, of seven bytes and of none.
+const SEGMENTS: [u8; 20] = [
+    0x0B, 0x12, 0x02, 0x00, 0x41, 0x00, 0x0B, 0x07, 1, 2, 3, 4, 5, 6, 7, 0x00, 0x41, 0x00, 0x0B,
+    0x00,
+];
+
+// Of each piece a segment's bytes come in one slice.
+#[test]
+fn data_come_in_slices(rt: HostRuntime) -> Result<(), Fail> {
+    let bytes = after_header(rt.alloc(), &SEGMENTS)?;
+    for cut in 0..=bytes.len() {
+        let mut decoder = Decoder::new(rt.alloc(), NONE, Profile::One, 1000);
+        for piece in [&bytes[..cut], &bytes[cut..]] {
+            let before = decoder.sink.slices;
+            assert_eq!(rt; decoder.feed(piece), Ok(()));
+            assert!(rt;
+                decoder.sink.slices <= before.saturating_add(1),
+                "cut at {cut}"
+            );
+        }
+        let counter = decoder.finish()?;
+        assert_eq!(rt; counter.data, 7, "cut at {cut}");
+        let slices = if cut > 16 && cut < 23 { 2 } else { 1 };
+        assert_eq!(rt; counter.slices, slices, "cut at {cut}");
+    }
+    Ok(())
+}
+
+// A name that lies whole in a piece is lent from it, and takes no memory.
+#[test]
+fn a_whole_name_is_not_copied(rt: HostRuntime) -> Result<(), Fail> {
+    let sections = [0x00, 0x04, 0x03, 0x61, 0x62, 0x63];
+    let bytes = after_header(rt.alloc(), &sections)?;
+    for cut in 8..=bytes.len() {
+        let mut decoder = Decoder::new(rt.alloc(), NONE, Profile::One, 1000);
+        assert_eq!(rt; decoder.feed(&bytes[..cut]), Ok(()));
+        assert_eq!(rt; decoder.feed(&bytes[cut..]), Ok(()));
+        let is_cut = cut > 11 && cut < 14;
+        assert_eq!(rt; decoder.name.capacity() > 0, is_cut, "cut at {cut}");
+    }
     Ok(())
 }
 
@@ -873,6 +930,30 @@ fn a_limit(rt: HostRuntime) -> Result<(), Fail> {
             let _ = decoder.feed(piece);
         }
         assert_eq!(rt; decoder.feed(&[]), Err(refusal));
+    }
+    Ok(())
+}
+
+// A custom section of 127 bytes, of which 9 are within the limit.
+#[test]
+fn a_limit_within_custom_bytes(rt: HostRuntime) -> Result<(), Fail> {
+    let refusal = Refusal {
+        at: 21,
+        why: Why::TooLong,
+    };
+    let mut bytes = after_header(rt.alloc(), &[0x00, 0x7F, 0x01, 0x61])?;
+    bytes.extend_from_slice(&[0; 125])?;
+    for size in SIZES {
+        let mut decoder = Decoder::new(rt.alloc(), NONE, Profile::One, 20);
+        for piece in bytes.chunks(size) {
+            let _ = decoder.feed(piece);
+        }
+        assert_eq!(rt; decoder.feed(&[]), Err(refusal), "in pieces of {size}");
+    }
+    for cut in 0..=bytes.len() {
+        let mut decoder = Decoder::new(rt.alloc(), NONE, Profile::One, 20);
+        let _ = decoder.feed(&bytes[..cut]);
+        assert_eq!(rt; decoder.feed(&bytes[cut..]), Err(refusal), "cut at {cut}");
     }
     Ok(())
 }

@@ -1,7 +1,7 @@
 //! Two sinks at once.
 
 ghost use Rattle.std.specs.Prelude.{◌≡◌};
-ghost use Rattle.wm_decode.specs.exact.TwoSinks.{after_both, either_runs_out};
+ghost use Rattle.wm_decode.specs.exact.TwoSinks.{after_both, both_take_data, either_runs_out};
 
 use wm_decode::{Item, Sink};
 use wm_syntax::why::Why;
@@ -37,4 +37,6 @@ impl<A: Sink, B: Sink> Sink for Both<A, B> {
             Err(why) => Err(why),
         }
     }
+
+    ghost takes_data = { λ h c. both_take_data A.after B.after A.takes_data B.takes_data h c };
 }

@@ -1,6 +1,6 @@
 //! A module, built item by item.
 
-ghost use Rattle.std.specs.Prelude.{◌≡◌, ◌∷◌, [], ◌++◌, Ok};
+ghost use Rattle.std.specs.Prelude.{◌≡◌, ◌∷◌, [], ◌++◌, Ok, refl};
 ghost use Rattle.std.specs.String.{string_bytes};
 ghost use Rattle.wm_decode.specs.Sinks.{Taken};
 ghost use Rattle.wm_decode.specs.Items.{body, export, import_desc, new_type, start};
@@ -189,6 +189,8 @@ impl Sink for Builder {
             Item::DataBytes(bytes) => add_bytes(&mut self.module_value.segments, bytes),
         }
     }
+
+    ghost takes_data = { λ h c. refl };
 }
 
 impl Builder {

@@ -1,6 +1,6 @@
 -- Numbers and ops that lie whole in a list of bytes, as the byte step reads them: the exact form, for the proofs above
 -- it.
-use Rattle.std.specs.Prelude.{◌≡◌, ◌≢◌, ◌≤◌, ◌<◌, ℕ, ◌^◌, nat_lt, if◌then◌else◌, ℤ, pos, ◌-ℤ◌, List, [], ◌∷◌, length, slice_range, Result, Ok, Err, Option, Some, None as Nothing, slice_get, ◌+◌, map, take, slice_index}
+use Rattle.std.specs.Prelude.{◌≡◌, ◌≢◌, ◌≤◌, ◌<◌, ℕ, ◌^◌, nat_lt, if◌then◌else◌, ℤ, pos, ◌-ℤ◌, List, [], ◌∷◌, length, slice_range, Result, Ok, Err, Option, Some, None as Nothing, slice_get}
 use Rattle.wm_syntax.specs.declared.why.Why.{Why}
 use Rattle.wm_syntax.specs.declared.why.Why.TheVariants as why
 use Rattle.wm_syntax.specs.declared.numbers.Step.{Step}
@@ -26,8 +26,7 @@ use Rattle.wm_decode.specs.declared.reading.Reading.{Reading}
 use Rattle.wm_decode.specs.declared.reading.Reading.TheVariants.{More, Done, Bad}
 use Rattle.wm_decode.specs.declared.ops.InOp.{InOp}
 use Rattle.wm_decode.specs.declared.ops.InOp.TheVariants.{First}
-use Rattle.wm_decode.specs.Items.{Item, body_op, data_byte}
-use Rattle.wm_decode.specs.Sinks.{all_taken}
+use Rattle.wm_decode.specs.Items.{Item, body_op}
 use Rattle.wm_syntax.specs.exact.ByteTable.{classes}
 use Rattle.wm_syntax.specs.declared.op_class.OpClass.{OpClass}
 use Rattle.wm_decode.specs.exact.OpSteps.{op_push, first_step}
@@ -121,10 +120,3 @@ in_body of functions more left rest depth q =
 
 abbrev pub before_op : InBody → Machine
 before_op b = in_body b.of b.functions b.more b.left b.rest b.depth First
-
--- what came of data bytes that the sink was given one by one: where it refused one, that is the last used
-abbrev pub DataRan : {H : Type 0} → (H → Item → Result H Why) → H → List ℕ → ℕ → Option Why → H → Type 0
-DataRan after h bytes used Nothing g = all_taken after h (map data_byte (take used bytes)) ≡ Ok g
-DataRan {H} after h bytes used (Some w) g =
-    (n : ℕ) × (f : H) × (used ≡ n + 1) × (n < length bytes) × (all_taken after h (map data_byte (take n bytes)) ≡ Ok f)
-    × (w ≢ why.Memory → after f (data_byte (slice_index bytes n)) ≡ Err w)

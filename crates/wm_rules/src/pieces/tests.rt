@@ -49,6 +49,30 @@ fn any_cut(rt: HostRuntime) -> Result<(), Fail> {
     Ok(())
 }
 
+// Four functions of which the third has a type that there is not: the refusal has the place of its index, whatever else
+// lies in the piece.
+const BAD_TYPE: [u8; 21] = [
+    0x00, 0x61, 0x73, 0x6D, 0x01, 0x00, 0x00, 0x00, 0x01, 0x04, 0x01, 0x60, 0x00, 0x00, 0x03, 0x05,
+    0x04, 0x00, 0x00, 0x01, 0x00,
+];
+
+#[test]
+fn a_refused_index_has_its_place(rt: HostRuntime) -> Result<(), Fail> {
+    let refusal = Refusal {
+        at: 20,
+        why: Why::Index,
+    };
+    for size in [1, 7, 21] {
+        assert_eq!(rt; judged(rt.alloc(), &BAD_TYPE, size)?, Err(refusal));
+    }
+    for cut in 0..=BAD_TYPE.len() {
+        let pieces = [&BAD_TYPE[..cut], &BAD_TYPE[cut..]];
+        let answer = validate(rt.alloc(), Profile::One, LIMIT, &pieces);
+        assert_eq!(rt; answer, Err(refusal), "cut at {cut}");
+    }
+    Ok(())
+}
+
 #[test]
 fn limits(rt: HostRuntime) {
     let whole: [&[u8]; 1] = [&ADD];
