@@ -93,7 +93,14 @@ pub fn build<R: Source, W: Dest>(
         Ok(text) => convert(alloc, profile, &text, w),
         Err(InputFault::TooLong) => {
             let at = limit + 1;
-            refuse(alloc, Refusal { at, why: Why::TooLong }, w)
+            refuse(
+                alloc,
+                Refusal {
+                    at,
+                    why: Why::TooLong,
+                },
+                w,
+            )
         }
         Err(InputFault::Io) => Status::Io,
         Err(InputFault::Memory) => Status::Memory,
@@ -159,7 +166,11 @@ fn refuse_module<W: Dest>(alloc: Global, refusal: Refusal, w: &mut W) -> Status
     ensures memory { result ≡ Status.Memory → w.new ≡ w.old }
     ensures io { (result ≡ Status.Io) ↔ (W.has_failed w.new ≡ true) }
 {
-    match format!(in alloc; "module refused at {}: {}\n", refusal.at, refusal.why.name()) {
+    match format!(in alloc;
+        "module refused at {}: {}\n",
+        refusal.at,
+        refusal.why.name()
+    ) {
         Ok(text) => answer(w, text.as_bytes(), Status::Refused),
         Err(_) => Status::Memory,
     }
