@@ -1,5 +1,6 @@
 //! Tests of what the program writes.
 
+mod built;
 mod canonical;
 mod modules;
 mod profiles;
@@ -66,7 +67,7 @@ fn expect_of(
     limit: u64,
     wanted: &str,
 ) {
-    let ends = if wanted.starts_with("refused") {
+    let ends = if wanted.contains("refused") {
         Status::Refused
     } else {
         Status::Done

@@ -24,6 +24,7 @@ fn words_are_read(rt: HostRuntime) -> Result<(), Fail> {
     assert_eq!(rt; full.file.as_ref().map(|f| f.as_str()), Some("-"));
     assert!(rt; full.path().is_none());
     assert_eq!(rt; line(rt.alloc(), &["wmod", "show"])?.action, Action::Show);
+    assert_eq!(rt; line(rt.alloc(), &["wmod", "build"])?.action, Action::Build);
     let most = line(
         rt.alloc(),
         &[

@@ -1,4 +1,4 @@
-use Rattle.std.proofs.Common.{◌+◌, ◌∙◌, inl, inr, refl, subst, sym}
+use Rattle.std.proofs.Common.{◌+◌, Err, ap, inl, inr, refl, subst}
 use Rattle.wm_syntax.specs.declared.why.Why.TheVariants.{TooLong}
 use Rattle.wm_cli.specs.Building.{TextOut}
 use Rattle.wm_cli.specs.declared.status.Status.TheVariants as status
@@ -18,6 +18,6 @@ returns-in-Err-TooLong-clause-answered g c = λ o n.
       refusal_line (c.args.limit + 1) TooLong,
       status.Refused,
       inr (inl (c.args.limit + 1, TooLong, out.0, refl), refl),
-      right_long c.args.profile c.args.limit _ _ (c.in-Err-TooLong.ensures.long refl),
+      right_long c.args.profile c.args.limit _ _ (c.in-Err-TooLong.ensures.long (ap Err c.in-Err-TooLong.field-0-is)),
       out.1,
     )
