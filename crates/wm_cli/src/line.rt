@@ -67,8 +67,8 @@ const ABOUT: &str =
 
 const ANSWERS: &str =
     "Writes `refused at N: NAME` of any other input: N bytes were read when it was decided.\n\
-    `build` writes `text refused at N: NAME` of a text that is none, and `module refused ..`\n\
-    where its module is not valid: N is then a place of the canonical binary.\n\
+    `build` writes `text refused at N: NAME`: N bytes stand before the token that decided it;\n\
+    or `module refused at N: NAME` of an invalid module: N is a place of its canonical binary.\n\
     docs/REFUSALS.md explains each NAME.\n\n\
     Exit status: 0 done, 1 refused, 2 wrong arguments, 3 cannot read or write, 4 out of memory.\n\n\
     Examples:\n  \

@@ -5,7 +5,6 @@ ghost use Rattle.wm_read.specs.Fields.{module_of};
 ghost use Rattle.wm_read.specs.exact.Fields as fields;
 ghost use Rattle.wm_read.specs.exact.Reading as reading;
 ghost use Rattle.wm_read.specs.exact.Scan.{lexed};
-ghost use Rattle.wm_read.specs.exact.TypeUses as uses;
 ghost use Rattle.wm_read.specs.inner.Blocks.{names_of};
 ghost use Rattle.wm_read.specs.inner.Fields.{field_of, with_field};
 ghost use Rattle.wm_read.specs.inner.Views.{Reads};
@@ -14,7 +13,7 @@ ghost use Rattle.wm_syntax.specs.Values.{value_of};
 use crate::faults::TextFault;
 use crate::fields::{Field, read_field};
 use crate::identifiers::Names;
-use crate::lexeme::{Lexeme, next_token};
+use crate::operands::begins_open;
 use std::alloc::{AllocError, Global};
 use wm_syntax::modules::Module;
 use wm_syntax::profile::Profile;
@@ -40,13 +39,6 @@ fn add(whole: &mut Module, field: Field) -> Result<(), AllocError>
         Field::Segment(segment) => whole.segments.push(segment)?,
     }
     Ok(())
-}
-
-/// Whether a parenthesis is opened first.
-fn begins_open(text: &[u8]) -> bool
-    ensures { result ≡ uses.begins_open (lexed text.now) }
-{
-    matches!(next_token(text), Some((Lexeme::Open, _)))
 }
 
 /// The module of all fields that stand first, and the text after them. Where identifiers are distinct in their spaces,

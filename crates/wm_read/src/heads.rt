@@ -4,7 +4,6 @@ ghost use Rattle.std.specs.Prelude.{◌≡◌, ◌≤◌, OnOk};
 ghost use Rattle.wm_read.specs.exact.Fields as fields;
 ghost use Rattle.wm_read.specs.exact.FirstReading as first;
 ghost use Rattle.wm_read.specs.exact.Scan.{lexed};
-ghost use Rattle.wm_read.specs.exact.TypeUses as uses;
 ghost use Rattle.wm_read.specs.inner.Blocks.{names_of};
 ghost use Rattle.wm_read.specs.inner.Heads.{noted_of};
 ghost use Rattle.wm_read.specs.inner.Ids.{id_of};
@@ -15,7 +14,7 @@ use crate::field_strings::name;
 use crate::field_words::{FieldKind, field_kind, item_kind};
 use crate::identifiers::{Names, Space, is_new};
 use crate::lexeme::{Lexeme, next_token};
-use crate::operands::{close, id, open, refuse};
+use crate::operands::{begins_open, close, id, open, refuse};
 use crate::signatures::signature;
 use std::alloc::{AllocError, Global};
 use wm_syntax::modules::ExportKind;
@@ -195,16 +194,6 @@ fn head<'a>(alloc: Global, noted: &mut Noted<'a>, text: &'a [u8]) -> Result<&'a 
     let word = open(text)?;
     let (kind, rest) = field_kind(word)?;
     head_of(alloc, noted, kind, word, rest)
-}
-
-/// Whether a parenthesis is opened.
-fn begins_open(text: &[u8]) -> bool
-    ensures { result ≡ uses.begins_open (lexed text.now) }
-{
-    match next_token(text) {
-        Some((Lexeme::Open, _)) => true,
-        _ => false,
-    }
 }
 
 /// What the fields define that stand first, and the text after them. An identifier is refused where it is defined a second

@@ -3,6 +3,7 @@
 ghost use Rattle.std.specs.Prelude.{◌≡◌, ◌≤◌, ◌<◌, Some, None, codes, Option, nat_lt, if◌then◌else◌, IfOk, length};
 ghost use Rattle.wm_read.specs.exact.Reading as reading;
 ghost use Rattle.wm_read.specs.exact.Scan.{lexed};
+ghost use Rattle.wm_read.specs.exact.TypeUses as uses;
 ghost use Rattle.wm_read.specs.inner.Blocks.{blocks_of};
 ghost use Rattle.wm_read.specs.inner.Ids.{id_of};
 ghost use Rattle.wm_read.specs.inner.Pieces.{labels};
@@ -185,6 +186,13 @@ pub fn open(text: &[u8]) -> Result<&[u8], TextFault>
         Some((Lexeme::Open, rest)) => Ok(rest),
         _ => Err(refuse(TextWhy::Expected, text)),
     }
+}
+
+/// Whether a parenthesis is opened.
+pub fn begins_open(text: &[u8]) -> bool
+    ensures { result ≡ uses.begins_open (lexed text.now) }
+{
+    matches!(next_token(text), Some((Lexeme::Open, _)))
 }
 
 /// A closing parenthesis.

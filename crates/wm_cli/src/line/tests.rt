@@ -97,10 +97,11 @@ fn help_and_fault_texts(rt: HostRuntime) -> Result<(), Fail> {
         check   write `valid`, or why not and where\n  \
         stats   write figures of a valid module's function bodies\n  \
         canon   write a valid module as its canonical binary: shortest numbers, no custom sections\n  \
-        show    write a valid module as text: a field a line, and in a function an instruction a line\n\n\
+        show    write a valid module as text: a field a line, and in a function an instruction a line\n  \
+        build   read a module as text, and write it as its canonical binary\n\n\
         Usage: wmod [OPTIONS] <ACTION> [FILE]\n\n\
         Arguments:\n  \
-        <ACTION>  check, stats, canon or show\n  \
+        <ACTION>  check, stats, canon, show or build\n  \
         [FILE]    The file to read; standard input where there is none, or where it is -\n\n\
         Options:\n      \
         --profile <N>  1, or 2 for sign-extension instructions too [default: 1]\n      \
@@ -108,13 +109,16 @@ fn help_and_fault_texts(rt: HostRuntime) -> Result<(), Fail> {
         -h, --help         Print help\n  \
         -V, --version      Print version\n\n\
         Writes `refused at N: NAME` of any other input: N bytes were read when it was decided.\n\
+        `build` writes `text refused at N: NAME`: N bytes stand before the token that decided it;\n\
+        or `module refused at N: NAME` of an invalid module: N is a place of its canonical binary.\n\
         docs/REFUSALS.md explains each NAME.\n\n\
         Exit status: 0 done, 1 refused, 2 wrong arguments, 3 cannot read or write, 4 out of memory.\n\n\
         Examples:\n  \
         wmod check module.wasm\n  \
         wmod stats --limit 1000000 < module.wasm\n  \
         wmod canon module.wasm > canonical.wasm\n  \
-        wmod show module.wasm > module.wat\n";
+        wmod show module.wasm > module.wat\n  \
+        wmod build module.wat > module.wasm\n";
     let missing = "error: the following required arguments were not provided:\n  <ACTION>\n\n\
         Usage: wmod <ACTION> [FILE]\n\n\
         For more information, try '--help'.\n";
