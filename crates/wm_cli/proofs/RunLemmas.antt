@@ -140,7 +140,7 @@ read_whole limit (Some input) (Some rest) read c le e =
 
 module_output : (p : Profile) (m : Module) (written : List ℕ) (status : Status) → ModuleOut p m written status → IsOutput Build written status
 module_output p m written status (inl (v, f, e, s)) = inl ((m, e), s)
-module_output p m written status (inr (inl (n, (r, why, place, same, e), s))) = inr (inr (inr (inl (r.at, r.why, why, e))), s)
+module_output p m written status (inr (inl (n, f, (r, why, place, same, e), s))) = inr (inr (inr (inl (r.at, r.why, why, e))), s)
 module_output p m written status (inr (inr (n, e, s))) = inr (inr (inr (inr e)), s)
 
 pub text_output : (p : Profile) (text written : List ℕ) (status : Status) → TextOut p text written status → IsOutput Build written status

@@ -20,12 +20,12 @@ use Rattle.wm_cli.specs.Refused.{module_line, refusal_line, text_line, too_large
 abbrev pub IsTextOf : Profile → Module → List ℕ → Type 0
 IsTextOf p m text = (k : List Token) × Tokens text k × Writes p k m
 
--- Of a module that a text writes: its canonical binary, where it is valid and no section would be too large; else a
--- refusal, where it is not valid that of its canonical binary.
+-- Of a module that a text writes: its canonical binary, where it is valid; where it is not, the refusal of that binary. A
+-- module of which a section would be too large has none, and is refused for that.
 abbrev pub ModuleOut : Profile → Module → List ℕ → Status → Type 0
 ModuleOut p m written status =
     (Valid m × Fits m × (written ≡ canon m) × (status ≡ Done))
-    ⊎ ((Valid m → ⊥)
+    ⊎ ((Valid m → ⊥) × Fits m
     × ((r : Refusal) × (r.why ≢ Memory) × (r.at ≤ length (canon m)) × (verdict p (2 ^ 62) (canon m) ≡ Err r) × (written ≡ module_line r.at r.why))
     × (status ≡ Refused))
     ⊎ ((Fits m → ⊥) × (written ≡ too_large_line) × (status ≡ Refused))

@@ -1,8 +1,9 @@
-use Rattle.std.proofs.Common.{inl, refl, subst}
+use Rattle.std.proofs.Common.{◌∙◌, Err, ap, inl, inr, refl, subst, sym}
 use Rattle.wm_syntax.specs.Values.{value_of}
 use Rattle.wm_write.specs.Canon.{canon}
 use Rattle.wm_read.proofs.Checks.{fits}
 use Rattle.wm_cli.specs.Answers.{IsAnswered}
+use Rattle.wm_cli.specs.Refused.{module_line}
 use Rattle.wm_cli.specs.declared.status.Status.TheVariants as status
 use Rattle.wm_cli.proofs.build.convert_module.Goals as goal
 
@@ -15,4 +16,21 @@ returns-in-Ok-clause-answered g c = λ n.
       inl (given.2, fits m (λ n. let e = c.in-Ok.ensures.too_large.1 n in cc), refl, refl),
       subst (λ z. IsAnswered (canon z) status.Done (g.W.Dest.contents c.args.w.now) (g.W.Dest.contents c.write_canonical.new.w) (g.W.Dest.has_failed c.write_canonical.new.w) c.write_canonical.result)
           given.0 c.write_canonical.ensures,
+    )
+
+pub returns-in-Err-Refused-clause-answered : goal.returns-in-Err-Refused-clause-answered
+returns-in-Err-Refused-clause-answered g c = λ n.
+    let m = value_of c.args.m.now in
+    let r = c.in-Err-Refused.refusal in
+    let is = ap Err c.in-Err-Refused.field-0-is in
+    let place = c.in-Err-Refused.ensures.place r is in (
+      module_line r.at r.why,
+      status.Refused,
+      inr (inl (
+        (λ v. c.in-Err-Refused.ensures.refused r is c.requires.instructions v),
+        fits m (λ no. let e = sym is ∙ c.in-Err-Refused.ensures.too_large.1 no in cc),
+        (r, place.0, place.1, c.in-Err-Refused.ensures.same r is, refl),
+        refl,
+      )),
+      c.refuse_module.ensures.answered n,
     )
