@@ -1,4 +1,4 @@
-//! The fields of a module (section 6.6.12), given what it defines.
+//! The fields of a module (section 6.6.13), given what it defines.
 
 ghost use Rattle.std.specs.Prelude.{◌≡◌, OnOk};
 ghost use Rattle.wm_read.specs.Fields.{module_of};

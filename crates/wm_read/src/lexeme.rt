@@ -1,4 +1,4 @@
-//! The tokens of a text (section 6.3), one at a time.
+//! The tokens of a text (sections 6.2 and 6.3), one at a time.
 
 ghost use Rattle.std.specs.Prelude.{◌≡◌, ◌<◌, ◌≤◌, length, MatchOption, MatchResult, true, false, OnOk, OnErr, IfSome, IfErr, IsUtf8, ◌↔◌, ◌⊎◌, take, drop, List, [], ◌∷◌, ◌++◌, IsTrue, IfOk, encode_utf8};
 ghost use Rattle.std.specs.Str.{IsValidUpTo};

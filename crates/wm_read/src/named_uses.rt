@@ -1,4 +1,4 @@
-//! Type uses of functions and imports (section 6.4.5), whose parameters may have identifiers.
+//! Type uses of functions and imports (section 6.6.3), whose parameters may have identifiers.
 
 ghost use Rattle.std.specs.Prelude.{◌≡◌, IfOk};
 ghost use Rattle.std.specs.Option.{option_map};

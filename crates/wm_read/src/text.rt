@@ -1,4 +1,4 @@
-//! Whole texts (section 6.6.12).
+//! Whole texts (section 6.6.13).
 
 ghost use Rattle.std.specs.Prelude.{◌≡◌, ◌≢◌, ◌≤◌, IfErr, IfOk, List, length};
 ghost use Rattle.wm_read.specs.Fields.{Writes};

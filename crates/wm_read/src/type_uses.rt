@@ -1,4 +1,4 @@
-//! Type uses (section 6.4.5): an index of a type, and what may be written of its parameters and results.
+//! Type uses (section 6.6.3): an index of a type, and what may be written of its parameters and results.
 
 ghost use Rattle.std.specs.Prelude.{◌≡◌, IfErr, MatchOption, None, Some, OnOk, codes, false, slice_get, true};
 ghost use Rattle.wm_read.specs.declared.faults.TextWhy.TheVariants.{Expected};
