@@ -16,7 +16,7 @@ use Rattle.wm_cli.specs.declared.status.Status.{Status}
 use Rattle.wm_cli.specs.declared.status.Status.TheVariants.{Done, Refused}
 use Rattle.wm_cli.specs.Refused.{module_line, refusal_line, text_line, too_large_line}
 
--- the text is UTF-8, and its tokens write this module (sections 6.2.2 and 6.6.12)
+-- the text is UTF-8, and its tokens write this module (sections 6.2.2 and 6.6.13)
 abbrev pub IsTextOf : Profile → Module → List ℕ → Type 0
 IsTextOf p m text = (k : List Token) × Tokens text k × Writes p k m
 

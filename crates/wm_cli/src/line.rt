@@ -214,7 +214,7 @@ impl fmt::Display for WrongWord<'_> {
         match self {
             WrongWord::Action(word) => write!(
                 f,
-                "'{word}' is no action: check, stats, canon, show"
+                "'{word}' is no action: check, stats, canon, show, build"
             ),
             WrongWord::Profile(word) => write!(f, "'{word}' is no profile: 1, 2"),
             WrongWord::Limit(word) => {

@@ -1,4 +1,4 @@
--- Identifiers and what they mean (sections 6.1.5, 6.6).
+-- Identifiers and what they mean (sections 6.1.3, 6.6).
 use Rattle.std.specs.Prelude.{◌≡◌, ◌≢◌, ℕ, ◌<◌, ◌^◌, ◌⊎◌, List, [], ◌∷◌, Option, Some, None, slice_get}
 use Rattle.wm_syntax.specs.Spelling.{Form, Exactly}
 use Rattle.wm_read.specs.Tokens.{Token, atom, IsUnsigned, IsIdentifier}

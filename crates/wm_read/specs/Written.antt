@@ -71,7 +71,7 @@ pub record Names : Type 0 where
   pub memories : Ids
   pub globals : Ids
 
--- A type use (section 6.4.5): written parameters and results are those of the type, or none are written. The
+-- A type use (section 6.6.3): written parameters and results are those of the type, or none are written. The
 -- parameters are as many as the type's, and have the identifiers written.
 abbrev pub TypeUse : Names → ℕ → List Named → Form Token
 TypeUse names x params k =

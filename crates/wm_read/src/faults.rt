@@ -92,7 +92,7 @@ impl TextWhy {
             TextWhy::BadEscape => "a string has a malformed escape",
             TextWhy::Expected => "another token must stand here",
             TextWhy::UnknownWord => "this word names no field or instruction",
-            TextWhy::BadInteger => "an integer is missing, malformed or out of range",
+            TextWhy::BadInteger => "an integer is malformed or out of range",
             TextWhy::BadName => "a name is not UTF-8",
             TextWhy::UnknownId => "an identifier is not defined",
             TextWhy::RepeatedId => "an identifier is defined twice",

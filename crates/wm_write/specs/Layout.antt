@@ -127,7 +127,7 @@ params_words ts = types_words gap (codes "param") ts
 abbrev pub results_words : List ValType → List Word
 results_words ts = types_words gap (codes "result") ts
 
--- limits (section 6.4.3), which are also a memory type; a table type has `funcref` behind them (section 6.4.5)
+-- limits (section 6.4.4), which are also a memory type; a table type has `funcref` behind them (section 6.4.6)
 abbrev pub max_words : Option ℕ → List Word
 max_words None = []
 max_words (Some max) = number max ∷ []
@@ -138,7 +138,7 @@ limits_words l = number l.min ∷ max_words l.max
 abbrev pub table_words : Limits → List Word
 table_words l = limits_words l ++ spaced (codes "funcref") ∷ []
 
--- a global type (section 6.4.6)
+-- a global type (section 6.4.7)
 abbrev pub global_type_words : GlobalType → List Word
 global_type_words g = if g.var then form gap (codes "mut") (type_word g.ty ∷ []) else type_word g.ty ∷ []
 

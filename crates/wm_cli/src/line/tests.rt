@@ -142,11 +142,11 @@ fn wrong_words_are_named(rt: HostRuntime) -> Result<(), Fail> {
     let rows: [(&[&str], &str); 5] = [
         (
             &["wmod", "run", "--limit", "x"],
-            "'run' is no action: check, stats, canon, show",
+            "'run' is no action: check, stats, canon, show, build",
         ),
         (
             &["wmod", "CHECK"],
-            "'CHECK' is no action: check, stats, canon, show",
+            "'CHECK' is no action: check, stats, canon, show, build",
         ),
         (
             &["wmod", "check", "--limit", "0x10"],
