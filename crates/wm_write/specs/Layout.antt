@@ -116,7 +116,7 @@ type_text I64 = codes "i64"
 abbrev pub type_word : ValType → Word
 type_word t = spaced (type_text t)
 
--- ( head types ), or nothing where there are none: parameters, results and locals (sections 6.4.2, 6.6.5)
+-- ( head types ), or nothing where there are none: parameters, results and locals (sections 6.4.3, 6.6.5)
 abbrev pub types_words : List ℕ → List ℕ → List ValType → List Word
 types_words before head [] = []
 types_words before head (t ∷ ts) = form before head (map type_word (t ∷ ts))
