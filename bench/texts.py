@@ -138,7 +138,7 @@ def of_elements_and_data():
         yield module(*items, f"(elem 0 {offset})")
         yield module(*items, f'(data $m {offset} "a" "b")')
         yield module(*items, f"(data 0 {offset})")
-    yield module(*items, '(data $d (offset i32.const 0) "a")', '(data 9 (offset i32.const 0) "a")')
+    yield module(*items, '(data $d (offset i32.const 0) "a")')
     yield module(*items, '(data 9 (offset i32.const 0) "a")')
     yield module(*items, "(elem (offset i32.const 0) $f)")
     yield module(*items, '(data (offset i32.const 0) "a")')
