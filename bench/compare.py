@@ -4,7 +4,9 @@
 For each shape it makes a module of 7 MB, and prints MB/s of processor time (medians of five runs, all programs in
 turn), instructions a byte where valgrind is there, and the peak memory of wmod. With `--growth` it makes modules of
 2 MB and 8 MB and prints how many times the time a byte grows. With `--canon` or `--show` it measures that action on the
-two: MB/s, that growth, the peak memory, and how many bytes of memory a byte of the module takes.
+two: MB/s, that growth, the peak memory, and how many bytes of memory a byte of the module takes. With `--build` it
+measures that action on the texts that `wmod show` prints of modules of 0.5 MB and 2 MB, beside wat2wasm where it is there;
+what is built has to be what `wmod canon` writes.
 """
 import json
 import os
@@ -51,9 +53,9 @@ def spent(command):
 
 
 def medians(commands):
-    """The median seconds of each command, run in turn; the peak memory of the first one."""
+    """The median seconds of each command, run in turn, and its peak memory."""
     times = [[] for _ in commands]
-    peak = 0
+    peaks = [0 for _ in commands]
     for _ in range(RUNS):
         for i, command in enumerate(commands):
             seconds, memory, well = spent(command)
@@ -61,9 +63,8 @@ def medians(commands):
                 times[i].append(float("nan"))
                 continue
             times[i].append(seconds)
-            if i == 0:
-                peak = max(peak, memory)
-    return [statistics.median(t) for t in times], peak
+            peaks[i] = max(peaks[i], memory)
+    return [statistics.median(t) for t in times], peaks
 
 
 def instructions(command, empty):
@@ -99,7 +100,7 @@ def row(shape, folder, others):
         file.write(make_module.HEADER)
     size = os.path.getsize(path)
     commands = [[str(PROGRAM), "check", path]] + [[*words, path] for words in others]
-    (own, *rest), peak = medians(commands)
+    (own, *rest), (peak, *_) = medians(commands)
     cells = [shape.replace("_", " "), f"{size / 1e6:.1f}", speed(size, own)]
     if shutil.which("node"):
         answer = subprocess.run(
@@ -125,7 +126,7 @@ def growth(shape, folder, action):
         path = os.path.join(folder, f"{shape}.{megabytes}.wasm")
         with open(path, "wb") as file:
             file.write(make_module.make(shape, megabytes))
-        (seconds,), peak = medians([[str(PROGRAM), action, path]])
+        (seconds,), (peak,) = medians([[str(PROGRAM), action, path]])
         ratios.append(seconds / os.path.getsize(path))
     return ratios[1] / ratios[0], os.path.getsize(path), seconds, peak
 
@@ -135,9 +136,44 @@ def writing_row(shape, folder, action):
     header = os.path.join(folder, "header.wasm")
     with open(header, "wb") as file:
         file.write(make_module.HEADER)
-    _, least = medians([[str(PROGRAM), action, header]])
+    _, (least,) = medians([[str(PROGRAM), action, header]])
     taken = (peak - least) * 1024 / size
     return [shape.replace("_", " "), speed(size, seconds), f"{grown:.2f}", f"{peak / 1024:.0f}", f"{taken:.1f}"]
+
+
+def output(action, path):
+    return subprocess.run([str(PROGRAM), action, path], stdout=subprocess.PIPE, check=True).stdout
+
+
+def shown(shape, folder, megabytes):
+    """The path of the text of a module, after a look that it is built into the canonical binary, and that binary's size."""
+    module, text = (os.path.join(folder, f"{shape}.{megabytes}.{kind}") for kind in ("wasm", "wat"))
+    with open(module, "wb") as file:
+        file.write(make_module.make(shape, megabytes))
+    with open(text, "wb") as file:
+        file.write(output("show", module))
+    canonical = output("canon", module)
+    if output("build", text) != canonical:
+        sys.exit(f"{text} is not built into the canonical binary")
+    return text, len(canonical)
+
+
+def building_row(shape, folder):
+    """Figures of the larger text; its time a byte beside that of the smaller one."""
+    others = [["wat2wasm", "--output=/dev/null"]] if shutil.which("wat2wasm") else []
+    empty, _ = shown("custom_sections", folder, 0)
+    _, (least,) = medians([[str(PROGRAM), "build", empty]])
+    per_byte = []
+    for megabytes in (0.5, 2):
+        path, binary = shown(shape, folder, megabytes)
+        size = os.path.getsize(path)
+        (own, *rest), (peak, *peaks) = medians([[str(PROGRAM), "build", path]] + [[*words, path] for words in others])
+        per_byte.append(own / size)
+    cells = [shape.replace("_", " "), f"{size / 1e6:.1f}", speed(size, own), speed(binary, own)]
+    cells += [f"{per_byte[1] / per_byte[0]:.2f}", f"{peak / 1024:.0f}", f"{(peak - least) * 1024 / size:.1f}"]
+    for seconds, memory in zip(rest, peaks):
+        cells += [speed(size, seconds), f"{memory / 1024:.0f}"] if seconds == seconds else ["refused", ""]
+    return cells
 
 
 def print_table(heads, rows):
@@ -161,6 +197,13 @@ def main():
                 heads = ["Shape", "MB/s", "time a byte, 8 MB to 2 MB", "peak MiB", "bytes of memory a byte"]
                 print_table(heads, (writing_row(shape, folder, action) for shape in shapes))
                 return
+        if "--build" in sys.argv:
+            heads = ["Shape", "MB of text", "MB/s of text", "MB/s of binary", "time a byte, 2 MB to 0.5 MB of binary"]
+            heads += ["peak MiB", "bytes of memory a byte of text"]
+            heads += ["wat2wasm MB/s of text", "wat2wasm peak MiB"] if shutil.which("wat2wasm") else []
+            # custom sections are no part of a text
+            print_table(heads, (building_row(shape, folder) for shape in shapes if shape != "custom_sections"))
+            return
         others = [["wasm-validate"]] if shutil.which("wasm-validate") else []
         heads = ["Shape", "MB", "wmod MB/s"]
         heads += ["node MB/s"] if shutil.which("node") else []
