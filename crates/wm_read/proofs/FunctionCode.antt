@@ -1,5 +1,5 @@
 -- Functions as the code reads them.
-use Rattle.std.proofs.Common.{◌≡◌, ℕ, ◌<◌, ◌≤◌, ◌+◌, Bool, true, false, cond, List, [], ◌∷◌, ◌++◌, length, Option, Some, None, refl, sym, ap, subst, ◌∙◌, arith, append_assoc, length-append}
+use Rattle.std.proofs.Common.{◌≡◌, ℕ, ◌<◌, ◌≤◌, ◌+◌, Bool, true, false, cond, List, [], ◌∷◌, ◌++◌, length, replicate, Option, Some, None, refl, sym, ap, subst, ◌∙◌, arith, append_assoc, length-append}
 use Rattle.std.specs.Prelude.{MatchOption, nat_lt, ◌&&◌, ◌^◌}
 use Rattle.std.proofs.lemmas.Bool.{and_from, and_left, cond-false, cond-true, le-ltb, lt-ltb}
 use Rattle.std.proofs.lemmas.List.{append-nil, map-append}
@@ -14,7 +14,7 @@ use Rattle.wm_read.specs.declared.faults.TextWhy.{TextWhy}
 use Rattle.wm_read.specs.declared.faults.TextWhy.TheVariants as why
 use Rattle.wm_read.specs.declared.named.Named.{Named as Code}
 use Rattle.wm_read.specs.exact.Reading.{◌>>=◌, ops_at}
-use Rattle.wm_read.specs.exact.TypeUses.{begins_open, instructions_at}
+use Rattle.wm_read.specs.exact.TypeUses.{begins_open, instructions_at, unnamed}
 use Rattle.wm_read.specs.exact.Fields.{all_new, function_at, function_by, function_of, is_function, is_new}
 use Rattle.wm_read.specs.inner.Fields.{head_at}
 use Rattle.wm_read.specs.inner.Named.{named_of, named_list}
@@ -76,6 +76,18 @@ pub space_is : (s t : Ids) (ps ls : List Named) → s ≡ ids_of ps → t ≡ s 
 space_is s t ps ls e g = g ∙ ap (λ (z : Ids). z ++ ids_of ls) e ∙ sym (ids_append ps ls)
 
 pub ruleset space_laws = (space_none, space_again, space_all, space_is)
+
+-- ---- parameters that are not written
+
+pub unnamed_ids : (ts : List ValType) → replicate (length ts) None ≡ ids_of (unnamed ts)
+unnamed_ids [] = refl
+unnamed_ids (t ∷ ts) = ap (λ (z : Ids). None ∷ z) (unnamed_ids ts)
+
+pub unnamed_new : (seen : Ids) (ts : List ValType) → all_new seen (ids_of (unnamed ts)) ≡ true
+unnamed_new seen [] = refl
+unnamed_new seen (t ∷ ts) = unnamed_new (seen ++ None ∷ []) ts
+
+pub ruleset params_laws = (unnamed_ids, unnamed_new)
 
 -- ---- types of locals
 
@@ -185,11 +197,11 @@ pub match_some : {X : Type 0} (o : Option X) (x : X) (A : Type 0) (B : X → Typ
 match_some None x A B e h = absurd cc
 match_some (Some y) x A B e h = subst B (same_some y x e) h
 
-pub repeated_fails : (p : Profile) (names : Names) (x : ℕ) (ps ls qs rs : List Named) (v w : TextWhy) (k j : List Token) → head_at names k ≡ Some (((x, ps), ls), j) → all_new [] (ids_of (qs ++ rs)) ≡ false → qs ≡ ps → rs ≡ ls
+pub repeated_fails : (p : Profile) (names : Names) (x : ℕ) (ps ls rs : List Named) (v w : TextWhy) (k j : List Token) → head_at names k ≡ Some (((x, ps), ls), j) → all_new [] (ids_of (ps ++ rs)) ≡ false → rs ≡ ls
     → v ≡ why.RepeatedId → (IsRefusal w → IsRefusal v) → Fails w (function_at p names k)
-repeated_fails p names x ps ls qs rs v w k j e h a b r c =
+repeated_fails p names x ps ls rs v w k j e h b r c =
     fails_carried v w (function_at p names k) c
     (subst (λ (z : TextWhy). Fails z (function_at p names k)) (sym r)
-    (function_again p names x ps ls k j e (ap (λ (z : List Named). all_new [] (ids_of (z ++ ls))) (sym a) ∙ ap (λ (z : List Named). all_new [] (ids_of (qs ++ z))) (sym b) ∙ h)))
+    (function_again p names x ps ls k j e (ap (λ (z : List Named). all_new [] (ids_of (ps ++ z))) (sym b) ∙ h)))
 
 pub ruleset function_laws = (fails_carried, head_none, function_form, function_again, function_many, function_no_body, function_found)

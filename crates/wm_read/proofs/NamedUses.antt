@@ -202,18 +202,7 @@ types_step ps i d ts lt e =
 pub types_all : (ps : List Code) (i : ℕ) (ts : List ValType) → length ps ≤ i → ts ≡ types_of (named_list (take i ps)) → ts ≡ types_of (named_list ps)
 types_all ps i ts le e = e ∙ ap (λ (z : List Code). types_of (named_list z)) (take_all i ps le)
 
-pub unnamed_step : (ts : List ValType) (i : ℕ) (d : ValType) (ps : List Code) (p : Code) → i < length ts → named_list ps ≡ unnamed (take i ts) → named_of p ≡ (None, get_or ts i d)
-    → named_list (ps ++ p ∷ []) ≡ unnamed (take (i + 1) ts)
-unnamed_step ts i d ps p lt e h =
-    map-append named_of ps (p ∷ []) ∙ ap (λ (z : List Named). z ++ named_of p ∷ []) e ∙ ap (λ (z : Named). unnamed (take i ts) ++ z ∷ []) h
-    ∙ sym (ap unnamed (take_more ts i d lt) ∙ map-append (λ (t : ValType). (None, t)) (take i ts) (get_or ts i d ∷ []))
-
-pub unnamed_all : (ts : List ValType) (i : ℕ) (ps : List Code) → length ts ≤ i → named_list ps ≡ unnamed (take i ts) → named_list ps ≡ unnamed ts
-unnamed_all ts i ps le e = e ∙ ap unnamed (take_all i ts le)
-
 pub ruleset types_laws = (types_step, types_all)
-
-pub ruleset unnamed_laws = (unnamed_step, unnamed_all)
 
 -- ---- the parameters of a use
 

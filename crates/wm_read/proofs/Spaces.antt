@@ -1,16 +1,16 @@
 -- The places of a space's identifiers, in its list and in its map.
-use Rattle.std.proofs.Common.{◌≡◌, ℕ, suc, Bool, true, false, cond, List, [], ◌∷◌, ◌++◌, length, Option, Some, None, refl, sym, ap, ◌∙◌}
+use Rattle.std.proofs.Common.{◌≡◌, ℕ, zero, suc, ◌+◌, Bool, true, false, cond, List, [], ◌∷◌, ◌++◌, length, replicate, Option, Some, None, refl, sym, ap, ◌∙◌, append_assoc, length-append}
 use Rattle.std.specs.Prelude.{is_some}
 use Rattle.std.specs.Borrow.{Bor}
 use Rattle.std.specs.Map.{update}
 use Rattle.std.specs.Option.{option_copied}
 use Rattle.std.specs.Str.{bytes_eq}
 use Rattle.std.proofs.lemmas.Bool.{cond-true, cond-false}
-use Rattle.std.proofs.lemmas.List.{map-append}
+use Rattle.std.proofs.lemmas.List.{append-nil, length-replicate, map-append}
 use Rattle.std.proofs.lemmas.Slice.Eq.{bytes_eq-Decides}
 use Rattle.wm_read.specs.Identifiers.{Id, Ids}
 use Rattle.wm_read.specs.exact.Reading.{◌>>=◌, is_same_id, place_of, same_bytes}
-use Rattle.wm_read.specs.inner.Ids.{defined, id_of, ids_of}
+use Rattle.wm_read.specs.inner.Ids.{behind, defined, id_of, ids_of}
 use Rattle.wm_read.proofs.OpenBlocks.{same_back, differ_back}
 use Rattle.wm_read.proofs.Readers.{same_is, same_from}
 
@@ -48,10 +48,26 @@ length_ids : (ids : List Raw) → length (ids_of ids) ≡ length ids
 length_ids [] = refl
 length_ids (i ∷ ids) = ap suc (length_ids ids)
 
-pub place_pushed : (ids more : List Raw) (id : Raw) (name : List ℕ) → more ≡ ids ++ id ∷ [] → place_of (ids_of more) name ≡ defined (place_of (ids_of ids) name) (id_of id) (length ids) name
-place_pushed ids more id name e =
-    ap (λ (z : List Raw). place_of (ids_of z) name) e ∙ ap (λ (z : Ids). place_of z name) (map-append id_of ids (id ∷ [])) ∙ place_added (ids_of ids) (id_of id) name
-    ∙ ap (λ (n : ℕ). defined (place_of (ids_of ids) name) (id_of id) n name) (length_ids ids)
+length_behind : (n : ℕ) (ids : List Raw) → length (behind n ids) ≡ n + length ids
+length_behind n ids = length-append (replicate n None) (ids_of ids) ∙ ap (λ (k : ℕ). k + length (ids_of ids)) (length-replicate n None) ∙ ap (λ (k : ℕ). n + k) (length_ids ids)
+
+pub behind_pushed : (n : ℕ) (ids more : List Raw) (id : Raw) → more ≡ ids ++ id ∷ [] → behind n more ≡ behind n ids ++ id_of id ∷ []
+behind_pushed n ids more id e =
+    ap (behind n) e ∙ ap (λ (z : Ids). replicate n None ++ z) (map-append id_of ids (id ∷ [])) ∙ sym (append_assoc (replicate n None) (ids_of ids) (id_of id ∷ []))
+
+pub place_pushed : (n : ℕ) (ids more : List Raw) (id : Raw) (name : List ℕ) → more ≡ ids ++ id ∷ [] → place_of (behind n more) name ≡ defined (place_of (behind n ids) name) (id_of id) (n + length ids) name
+place_pushed n ids more id name e =
+    ap (λ (z : Ids). place_of z name) (behind_pushed n ids more id e) ∙ place_added (behind n ids) (id_of id) name
+    ∙ ap (λ (k : ℕ). defined (place_of (behind n ids) name) (id_of id) k name) (length_behind n ids)
+
+pub behind_none : (n : ℕ) → behind n [] ≡ replicate n None
+behind_none n = append-nil (replicate n None)
+
+pub place_behind_none : (n : ℕ) (name : List ℕ) → None ≡ place_of (behind n []) name
+place_behind_none zero name = refl
+place_behind_none (suc n) name = ap (λ (o : Option ℕ). o >>= λ x. Some (suc x)) (place_behind_none n name)
+
+pub ruleset of_laws = (behind_none, place_behind_none)
 
 -- ---- in the map, by its answers
 

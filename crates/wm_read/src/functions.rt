@@ -7,7 +7,7 @@ ghost use Rattle.wm_read.specs.exact.Fields as fields;
 ghost use Rattle.wm_read.specs.exact.Scan.{lexed};
 ghost use Rattle.wm_read.specs.inner.Blocks.{names_of};
 ghost use Rattle.wm_read.specs.inner.Fields.{head_at};
-ghost use Rattle.wm_read.specs.inner.Named.{named_list};
+ghost use Rattle.wm_read.specs.inner.Named.{named_list, params_of};
 ghost use Rattle.wm_read.specs.inner.Views.{IsRefusal, Reads};
 
 use crate::bodies::read_body;
@@ -17,7 +17,7 @@ use crate::lexeme::{Lexeme, next_token, skip_space};
 use crate::literals::is_id;
 use crate::named;
 use crate::named::Named;
-use crate::named_uses::{NamedUse, named_use};
+use crate::named_uses::{NamedUse, Params, named_use};
 use crate::operands::refuse;
 use crate::type_uses::{no_form, type_index};
 use std::alloc::{AllocError, Global};
@@ -43,26 +43,49 @@ fn add_ids<'a>(space: &mut Space<'a>, items: &[Named<'a>]) -> Result<bool, Alloc
     Ok(true)
 }
 
+/// The space of a function's parameters, if their identifiers are distinct. Those of the type take no time.
+#[tactic(auto, using(crate::proofs::FunctionCode::params_laws))]
+fn params_space<'a>(alloc: Global, params: &Params<'_, 'a>) -> Result<Option<Space<'a>>, AllocError>
+    ensures { IfOk result (λ o. MatchOption o
+        (fields.all_new [] (written.ids_of (params_of params.now)) ≡ false)
+        (λ s. (s ≡ written.ids_of (params_of params.now))
+        × (fields.all_new [] (written.ids_of (params_of params.now)) ≡ true))) }
+{
+    match params {
+        Params::OfType(types) => Ok(Some(Space::of_unnamed(alloc, types))),
+        Params::Written(params) => {
+            let mut space = Space::new(alloc);
+            if add_ids(&mut space, params)? {
+                Ok(Some(space))
+            } else {
+                Ok(None)
+            }
+        }
+    }
+}
+
 /// The space of a function's parameters and locals, if their identifiers are distinct.
 #[tactic(auto, using(crate::proofs::FunctionCode::space_laws))]
 fn locals_space<'a>(
     alloc: Global,
-    params: &[Named<'a>],
+    params: &Params<'_, 'a>,
     locals: &[Named<'a>],
 ) -> Result<Option<Space<'a>>, AllocError>
     ensures { IfOk result (λ o. MatchOption o
-        (fields.all_new [] (written.ids_of (named_list params.now ++ named_list locals.now)) ≡ false)
-        (λ s. (s ≡ written.ids_of (named_list params.now ++ named_list locals.now))
-        × (fields.all_new [] (written.ids_of (named_list params.now ++ named_list locals.now)) ≡ true))) }
+        (fields.all_new [] (written.ids_of (params_of params.now ++ named_list locals.now)) ≡ false)
+        (λ s. (s ≡ written.ids_of (params_of params.now ++ named_list locals.now))
+        × (fields.all_new [] (written.ids_of (params_of params.now ++ named_list locals.now)) ≡ true))) }
 {
-    let mut space = Space::new(alloc);
-    if !add_ids(&mut space, params)? {
-        return Ok(None);
+    match params_space(alloc, params)? {
+        Some(mut space) => {
+            if add_ids(&mut space, locals)? {
+                Ok(Some(space))
+            } else {
+                Ok(None)
+            }
+        }
+        None => Ok(None),
     }
-    if !add_ids(&mut space, locals)? {
-        return Ok(None);
-    }
-    Ok(Some(space))
 }
 
 /// The types of locals, which stand before this text.
@@ -90,12 +113,12 @@ fn local_types(alloc: Global, locals: &[Named], text: &[u8]) -> Result<Locals, T
 }
 
 /// A type use, and the locals after it.
-fn read_head<'a>(
+fn read_head<'n, 'a>(
     alloc: Global,
-    names: &Names,
+    names: &'n Names,
     text: &'a [u8],
-) -> Result<(NamedUse<'a>, Vec<Named<'a>>, &'a [u8]), TextFault>
-    ensures { Reads (λ x. (((x.0.index, named_list x.0.params.items), named_list x.1.items), lexed x.2.now)) result
+) -> Result<(NamedUse<'n, 'a>, Vec<Named<'a>>, &'a [u8]), TextFault>
+    ensures { Reads (λ x. (((x.0.index, params_of x.0.params), named_list x.1.items), lexed x.2.now)) result
         (head_at (names_of names.now) (lexed text.now)) }
 {
     let (used, rest) = named_use(alloc, names, text)?;

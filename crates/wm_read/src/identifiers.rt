@@ -1,6 +1,6 @@
 //! What identifiers mean (section 6.6): the index spaces of a module, and the locals of a function.
 
-ghost use Rattle.std.specs.Prelude.{◌≡◌, ◌++◌, ◌∷◌, [], ℕ, List, OnErr, OnOk};
+ghost use Rattle.std.specs.Prelude.{◌≡◌, ◌++◌, ◌∷◌, [], ℕ, List, None, OnErr, OnOk, length, replicate};
 ghost use Rattle.wm_read.specs.exact.Fields.{is_new as new};
 ghost use Rattle.wm_read.specs.exact.Reading.{is_same_id as same_id, place_of};
 ghost use Rattle.wm_read.specs.inner.Ids.{defined, id_of, place_in};
@@ -9,11 +9,14 @@ use crate::literals::is;
 use std::alloc::{AllocError, Global};
 use std::collections::BTreeMap;
 use std::marker::Model;
-use wm_syntax::types::FuncType;
+use wm_syntax::types::{FuncType, ValType};
 
 /// The identifiers of an index space, in the order of its items.
 #[derive(Debug, Drop)]
 pub struct Space<'a> {
+    /// How many items with no identifiers come first.
+    unnamed: usize,
+    /// The identifiers of those after them.
     ids: Vec<Option<&'a [u8]>>,
     /// The first place of each identifier.
     places: BTreeMap<&'a [u8], usize>,
@@ -21,13 +24,14 @@ pub struct Space<'a> {
 
 impl<'a> Model for Space<'a> {
     ghost use Rattle.wm_read.specs.Identifiers.{Ids};
-    ghost use Rattle.wm_read.specs.inner.Ids.{HasPlaces, ids_of};
+    ghost use Rattle.std.specs.Prelude.{◌<◌, ◌^◌};
+    ghost use Rattle.wm_read.specs.inner.Ids.{HasPlaces, behind};
 
     ghost Value = { Ids };
 
-    ghost view = { λ s. ids_of s.ids.items };
+    ghost view = { λ s. behind s.unnamed s.ids.items };
 
-    ghost invariant = { λ s. HasPlaces s.places (ids_of s.ids.items) };
+    ghost invariant = { λ s. HasPlaces s.places (behind s.unnamed s.ids.items) × (s.unnamed < 2 ^ 63) };
 }
 
 impl<'a> Space<'a> {
@@ -36,17 +40,31 @@ impl<'a> Space<'a> {
         ensures { result ≡ [] }
     {
         Space {
+            unnamed: 0,
+            ids: Vec::new(alloc),
+            places: BTreeMap::new(alloc),
+        }
+    }
+
+    /// Items of these types, with no identifiers, in constant time.
+    #[tactic(auto, using(crate::proofs::Spaces::of_laws))]
+    pub fn of_unnamed(alloc: Global, types: &[ValType]) -> Self
+        ensures { result ≡ replicate (length types.now) None }
+    {
+        Space {
+            unnamed: types.len(),
             ids: Vec::new(alloc),
             places: BTreeMap::new(alloc),
         }
     }
 
     /// One item more, with its identifier or with none. An error adds nothing.
+    #[tactic(auto, using(crate::proofs::Spaces::behind_pushed))]
     pub fn push(&mut self, id: Option<&'a [u8]>) -> Result<(), AllocError>
         ensures added { OnOk result (self.new ≡ self.old ++ id_of id.entry ∷ []) }
         ensures unchanged { OnErr result (self.new ≡ self.old) }
     {
-        let at = self.ids.len();
+        let at = self.unnamed + self.ids.len();
         self.ids.push(id)?;
         match define(&mut self.places, id, at) {
             Ok(()) => Ok(()),

@@ -5,9 +5,8 @@ ghost use Rattle.std.specs.Option.{option_map};
 ghost use Rattle.wm_read.specs.Written as written;
 ghost use Rattle.wm_read.specs.exact.NamedUses as uses;
 ghost use Rattle.wm_read.specs.exact.Scan.{lexed};
-ghost use Rattle.wm_read.specs.exact.TypeUses as plain;
 ghost use Rattle.wm_read.specs.inner.Blocks.{names_of};
-ghost use Rattle.wm_read.specs.inner.Named.{named_list};
+ghost use Rattle.wm_read.specs.inner.Named.{named_list, params_of};
 ghost use Rattle.wm_read.specs.inner.Views.{Reads};
 
 use crate::faults::{TextFault, TextWhy};
@@ -18,11 +17,18 @@ use crate::type_uses::{fits, groups, nothing, refuse_index, type_at, type_index}
 use std::alloc::{AllocError, Global};
 use wm_syntax::types::{FuncType, ValType};
 
+/// The parameters of a type use: those of its type, with no identifiers, or those that are written.
+#[derive(Debug, Drop)]
+pub enum Params<'n, 'a> {
+    OfType(&'n [ValType]),
+    Written(Vec<Named<'a>>),
+}
+
 /// A type use: the index of the type, and as many parameters as the type has, with the identifiers that are written.
 #[derive(Debug, Drop)]
-pub struct NamedUse<'a> {
+pub struct NamedUse<'n, 'a> {
     pub index: u32,
-    pub params: Vec<Named<'a>>,
+    pub params: Params<'n, 'a>,
 }
 
 /// The types of parameters.
@@ -37,48 +43,37 @@ pub(crate) fn types_of(alloc: Global, params: &[Named]) -> Result<Vec<ValType>, 
     Ok(types)
 }
 
-/// Parameters of these types, with no identifiers.
-#[tactic(auto, using(crate::proofs::NamedUses::unnamed_laws))]
-fn unnamed<'a>(alloc: Global, types: &[ValType]) -> Result<Vec<Named<'a>>, AllocError>
-    ensures { IfOk result (λ ps. named_list ps.items ≡ plain.unnamed types.now) }
-{
-    let mut params = Vec::new(alloc);
-    for ty in types {
-        params.push(Named { id: None, ty: *ty })?;
-    }
-    Ok(params)
-}
-
 /// The parameters of a use: those of the type where nothing is written, or those written where all is as in the type.
+/// Those of the type are not copied, so that they take no time.
 #[tactic(auto, using(crate::proofs::NamedUses::used_laws))]
-fn used<'a>(
+fn used<'n, 'a>(
     alloc: Global,
-    ty: &FuncType,
+    ty: &'n FuncType,
     params: Vec<Named<'a>>,
     results: &[ValType],
-) -> Result<Option<Vec<Named<'a>>>, AllocError>
-    ensures { IfOk result (λ o. option_map (λ ps. named_list ps.items) o
+) -> Result<Option<Params<'n, 'a>>, AllocError>
+    ensures { IfOk result (λ o. option_map params_of o
         ≡ uses.used_of ty.now (named_list params.entry.items) results.now) }
 {
     let written = types_of(alloc, &params)?;
     if !fits(ty, &written, results) {
         Ok(None)
     } else if nothing(&written) && nothing(results) {
-        Ok(Some(unnamed(alloc, &ty.params)?))
+        Ok(Some(Params::OfType(&ty.params)))
     } else {
-        Ok(Some(params))
+        Ok(Some(Params::Written(params)))
     }
 }
 
 /// `( type idx )`, parameters and results, as many as stand first. Parameters and results that are not those of the type
 /// are a fault at the index.
 #[tactic(auto, using(crate::proofs::NamedUses::named_laws))]
-pub fn named_use<'a>(
+pub fn named_use<'n, 'a>(
     alloc: Global,
-    names: &Names,
+    names: &'n Names,
     text: &'a [u8],
-) -> Result<(NamedUse<'a>, &'a [u8]), TextFault>
-    ensures { Reads (λ x. ((x.0.index, named_list x.0.params.items), lexed x.1.now)) result
+) -> Result<(NamedUse<'n, 'a>, &'a [u8]), TextFault>
+    ensures { Reads (λ x. ((x.0.index, params_of x.0.params), lexed x.1.now)) result
         (uses.named_use_at (names_of names.now) (lexed text.now)) }
 {
     let (index, rest) = type_index(&names.types, text)?;

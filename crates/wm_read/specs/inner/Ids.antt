@@ -1,5 +1,5 @@
 -- Identifiers of the code, without where they lie in memory.
-use Rattle.std.specs.Prelude.{◌≡◌, ℕ, List, Option, Some, None, if◌then◌else◌, map}
+use Rattle.std.specs.Prelude.{◌≡◌, ℕ, List, ◌++◌, Option, Some, None, if◌then◌else◌, map, replicate}
 use Rattle.std.specs.Borrow.{Bor}
 use Rattle.std.specs.BTreeMap.{BTreeMap, get_by}
 use Rattle.std.specs.Cmp.Lexicographic.{slice_cmp}
@@ -13,6 +13,10 @@ id_of (Some r) = Some r.now
 
 abbrev pub ids_of : List (Option (Bor (List ℕ))) → Ids
 ids_of ids = map id_of ids
+
+-- so many items with no identifiers, and those after them
+abbrev pub behind : ℕ → List (Option (Bor (List ℕ))) → Ids
+behind unnamed ids = replicate unnamed None ++ ids_of ids
 
 -- what a map has for an identifier
 abbrev pub place_in : BTreeMap (Bor (List ℕ)) ℕ → List ℕ → Option ℕ

@@ -17,3 +17,14 @@ fn the_first_place(rt: HostRuntime) -> Result<(), Fail> {
     assert_eq!(rt; space.place(b""), None);
     Ok(())
 }
+
+#[test]
+fn places_behind_unnamed_items(rt: HostRuntime) -> Result<(), Fail> {
+    let mut space = Space::of_unnamed(rt.alloc(), &[ValType::I32, ValType::I64]);
+    assert_eq!(rt; space.place(b"$a"), None);
+    for id in [None, Some(b"$a".as_slice())] {
+        space.push(id)?;
+    }
+    assert_eq!(rt; space.place(b"$a"), Some(3));
+    Ok(())
+}

@@ -43,9 +43,17 @@ fn expect_use(
         Ok((read, rest)) => {
             assert_eq!(rt; rest, left.as_bytes());
             assert_eq!(rt; read.index, index);
-            assert_eq!(rt; read.params.len(), ids.len());
-            for (param, id) in read.params.iter().zip(ids) {
-                assert_eq!(rt; param.id.unwrap_or(b""), id.as_bytes());
+            match read.params {
+                Params::OfType(types) => {
+                    assert_eq!(rt; types.len(), ids.len());
+                    assert!(rt; ids.iter().all(|id| id.is_empty()));
+                }
+                Params::Written(params) => {
+                    assert_eq!(rt; params.len(), ids.len());
+                    for (param, id) in params.iter().zip(ids) {
+                        assert_eq!(rt; param.id.unwrap_or(b""), id.as_bytes());
+                    }
+                }
             }
         }
         Err(fault) => assert!(rt; false, "{text} {:?}", fault.why),

@@ -7,7 +7,7 @@ use Rattle.wm_read.specs.exact.Scan.{lexed}
 use Rattle.wm_read.specs.exact.TypeUses.{groups_at, joined, named_at}
 use Rattle.wm_read.specs.exact.NamedUses.{named_use_at, used_of}
 use Rattle.wm_read.specs.inner.Blocks.{names_of}
-use Rattle.wm_read.specs.inner.Named.{named_list}
+use Rattle.wm_read.specs.inner.Named.{named_list, params_of}
 use Rattle.wm_read.specs.inner.Views.{Fails}
 use Rattle.wm_read.proofs.Groups.{fails_use}
 use Rattle.wm_read.proofs.NamedUses.{named_ends, named_untyped, named_params_fail, named_results_fail}
@@ -16,19 +16,19 @@ use Rattle.wm_read.proofs.named_uses.named_use.Goals as goal
 pub returns-in-Some-2 : goal.returns-in-Some-2
 returns-in-Some-2 c =
     named_ends (names_of c.args.names.now) c.in_ok-index.index c.in-Some.ty.now (named_list c.in_ok-params-in-Some.params.items) c.in_ok-results-in-Some.results.items
-    (option_map (λ ps. named_list ps.items) c.in_ok-params-in-Some-2.field-0) (lexed c.args.text.now) (lexed c.in_ok-index.rest.now) (lexed c.in_ok-params-in-Some.rest.now) (lexed c.in_ok-results-in-Some.rest.now)
+    (option_map params_of c.in_ok-params-in-Some-2.field-0) (lexed c.args.text.now) (lexed c.in_ok-index.rest.now) (lexed c.in_ok-params-in-Some.rest.now) (lexed c.in_ok-results-in-Some.rest.now)
     c.in_ok-index.ensures c.in-Some.ensures c.in_ok-params-in-Some.ensures c.in_ok-results-in-Some.ensures
     (c.in_ok-params-in-Some-2.ensures ∙ ap (used_of c.in-Some.ty.now (named_list c.in_ok-params-in-Some.params.items)) c.deref.ensures.value)
-    ∙ ap (λ o. ◌>>=◌ (option_map (λ ps. named_list ps.items) o) (λ qs. Some ((c.in_ok-index.index, qs), lexed c.in_ok-results-in-Some.rest.now))) c.in-Some-2.is
+    ∙ ap (λ o. ◌>>=◌ (option_map params_of o) (λ qs. Some ((c.in_ok-index.index, qs), lexed c.in_ok-results-in-Some.rest.now))) c.in-Some-2.is
 
 pub returns-in-Some : goal.returns-in-Some
 returns-in-Some c =
     fails_use _ (named_use_at (names_of c.args.names.now) (lexed c.args.text.now)) c.refuse_index.ensures
     (named_ends (names_of c.args.names.now) c.in_ok-index.index c.in-Some.ty.now (named_list c.in_ok-params-in-Some.params.items) c.in_ok-results-in-Some.results.items
-    (option_map (λ ps. named_list ps.items) c.in_ok-params-in-Some-2.field-0) (lexed c.args.text.now) (lexed c.in_ok-index.rest.now) (lexed c.in_ok-params-in-Some.rest.now) (lexed c.in_ok-results-in-Some.rest.now)
+    (option_map params_of c.in_ok-params-in-Some-2.field-0) (lexed c.args.text.now) (lexed c.in_ok-index.rest.now) (lexed c.in_ok-params-in-Some.rest.now) (lexed c.in_ok-results-in-Some.rest.now)
     c.in_ok-index.ensures c.in-Some.ensures c.in_ok-params-in-Some.ensures c.in_ok-results-in-Some.ensures
     (c.in_ok-params-in-Some-2.ensures ∙ ap (used_of c.in-Some.ty.now (named_list c.in_ok-params-in-Some.params.items)) c.deref.ensures.value)
-    ∙ ap (λ o. ◌>>=◌ (option_map (λ ps. named_list ps.items) o) (λ qs. Some ((c.in_ok-index.index, qs), lexed c.in_ok-results-in-Some.rest.now))) c.in-None-2.is)
+    ∙ ap (λ o. ◌>>=◌ (option_map params_of o) (λ qs. Some ((c.in_ok-index.index, qs), lexed c.in_ok-results-in-Some.rest.now))) c.in-None-2.is)
 
 pub returns : goal.returns
 returns c =
