@@ -3,7 +3,6 @@ use Rattle.std.proofs.Common.{◌≡◌, ℕ, ◌<◌, ◌≤◌, List, [], ◌�
 use Rattle.wm_syntax.specs.declared.instructions.Op.{Op}
 use Rattle.wm_syntax.specs.declared.profile.Profile.{Profile}
 use Rattle.wm_read.specs.Tokens.{Token, open_paren, close_paren, string, atom}
-use Rattle.wm_read.specs.inner.Blocks.{blocks_of}
 use Rattle.wm_read.specs.declared.faults.TextWhy.{TextWhy}
 use Rattle.wm_read.specs.declared.faults.TextWhy.TheVariants.{Expected}
 use Rattle.wm_read.specs.inner.Views.{Fails}
@@ -56,10 +55,6 @@ body_over p sc place s bs j k e t g =
 pub body_begin : (p : Profile) (sc : Scope) (bs : Opened) (j : List Token) → bs ≡ [] → body_from start (ops_at (call_use_at sc.names) p sc bs j) ≡ instructions_at p sc j
 body_begin p sc bs j e = ap (λ (z : Opened). body_from start (ops_at (Use sc) p sc z j)) e
 
-pub blocks_begin : blocks_of [] ≡ []
-unfolding blocks_of
-blocks_begin = refl
-
 abbrev pub IsStop : List Token → Type 0
 IsStop (atom a ∷ k) = ⊥
 IsStop (close_paren ∷ k) = ⊥
@@ -107,4 +102,4 @@ body_start bs e = subst (IsOver start) (sym e) refl
 pub body_whole : (place : Place) (bs : Opened) → IsOver place bs → bs ≡ [] → (s : Instructions) × (place ≡ at [] s)
 body_whole place bs h e = whole place bs h e
 
-pub ruleset body_laws = (body_more, body_fail, body_over, body_stop, body_open, body_smaller, body_begin, blocks_begin, body_can, body_still, body_start, body_whole)
+pub ruleset body_laws = (body_more, body_fail, body_over, body_stop, body_open, body_smaller, body_begin, body_can, body_still, body_start, body_whole)

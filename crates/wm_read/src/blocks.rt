@@ -1,13 +1,14 @@
-//! The open blocks of a body, the innermost last.
+//! The open blocks of a body.
 
-ghost use Rattle.std.specs.Prelude.{◌≡◌, ◌-◌, ◌∷◌, [], IfNone, IfSome, MatchOption, OnOk, length, take};
+ghost use Rattle.std.specs.Prelude.{◌≡◌, ◌∷◌, [], ℕ, IfNone, IfSome, List, MatchOption, OnErr, OnOk, drop};
 ghost use Rattle.wm_read.specs.exact.Reading.{place_of};
-ghost use Rattle.wm_read.specs.inner.Blocks.{blocks_of, open_of, opened};
-ghost use Rattle.wm_read.specs.inner.Ids.{id_of};
+ghost use Rattle.wm_read.specs.inner.Blocks.{IsMissing, changed, open_of, opened};
+ghost use Rattle.wm_read.specs.inner.Ids.{id_of, place_in};
 ghost use Rattle.wm_read.specs.inner.Pieces.{labels};
 
-use crate::identifiers::is_same_id;
-use std::alloc::AllocError;
+use std::alloc::{AllocError, Global};
+use std::collections::BTreeMap;
+use std::marker::Model;
 
 /// What opens a block.
 #[derive(Clone, Copy, PartialEq, Eq, Debug)]
@@ -22,54 +23,123 @@ pub enum Opening {
 pub struct Block<'a> {
     pub id: Option<&'a [u8]>,
     pub may_else: bool,
+    /// The place of the nearest block around it that has its identifier too.
+    outer: Option<usize>,
 }
 
-/// How deep the nearest block with this identifier is.
-#[tactic(auto, using(crate::proofs::OpenBlocks::place_laws))]
-pub fn depth(blocks: &[Block], name: &[u8]) -> Option<usize>
-    ensures { result ≡ place_of (labels (blocks_of blocks.now)) name.now }
-{
-    let mut left = blocks.len();
-    while left > 0 {
-        left -= 1;
-        if is_same_id(blocks[left].id, name) {
-            return Some(blocks.len() - 1 - left);
+/// The open blocks of a body, the innermost last.
+#[derive(Debug, Drop)]
+pub struct OpenBlocks<'a> {
+    blocks: Vec<Block<'a>>,
+    /// The place of the innermost block with each identifier.
+    places: BTreeMap<&'a [u8], usize>,
+}
+
+impl<'a> Model for OpenBlocks<'a> {
+    ghost use Rattle.std.specs.Prelude.{reverse};
+    ghost use Rattle.wm_read.specs.inner.Blocks.{HasInnermost, HasOuter, blocks_of};
+    ghost use Rattle.wm_read.specs.inner.Pieces.{Opened};
+
+    ghost Value = { Opened };
+
+    ghost view = { λ o. blocks_of o.blocks.items };
+
+    ghost invariant = { λ o. HasInnermost o.places (reverse o.blocks.items) × HasOuter (reverse o.blocks.items) };
+}
+
+impl<'a> OpenBlocks<'a> {
+    /// No blocks.
+    pub fn new(alloc: Global) -> Self
+        ensures { result ≡ [] }
+    {
+        OpenBlocks {
+            blocks: Vec::new(alloc),
+            places: BTreeMap::new(alloc),
         }
     }
-    None
-}
 
-/// The innermost open block.
-#[tactic(auto, using(crate::proofs::OpenBlocks::last_laws))]
-pub fn innermost<'a>(blocks: &[Block<'a>]) -> Option<Block<'a>>
-    ensures { MatchOption result (blocks_of blocks.now ≡ [])
-        (λ b. blocks_of blocks.now ≡ open_of b ∷ blocks_of (take (length blocks.now - 1) blocks.now)) }
-{
-    if blocks.is_empty() {
-        None
-    } else {
-        Some(blocks[blocks.len() - 1])
+    /// How deep the nearest block with this identifier is, in time logarithmic in the number of identifiers.
+    pub fn depth(&self, name: &[u8]) -> Option<usize>
+        ensures { result ≡ place_of (labels self.now) name.now }
+    {
+        match self.places.get(name).copied() {
+            Some(place) => Some(self.blocks.len() - 1 - place),
+            None => None,
+        }
+    }
+
+    /// The innermost open block.
+    #[tactic(auto, using(crate::proofs::OpenBlocks::last_laws))]
+    pub fn innermost(&self) -> Option<Block<'a>>
+        ensures { MatchOption result (self.now ≡ []) (λ b. self.now ≡ open_of b ∷ drop 1 self.now) }
+    {
+        if self.blocks.is_empty() {
+            None
+        } else {
+            Some(self.blocks[self.blocks.len() - 1])
+        }
+    }
+
+    /// Opens a block. An error opens none.
+    #[tactic(auto, using(crate::proofs::OpenBlocks::blocks_push))]
+    pub fn open(&mut self, id: Option<&'a [u8]>, may_else: bool) -> Result<(), AllocError>
+        ensures opened { OnOk result (self.new ≡ opened (id_of id.entry) may_else ∷ self.old) }
+        ensures unchanged { OnErr result (self.new ≡ self.old) }
+    {
+        let place = self.blocks.len();
+        let outer = match id {
+            Some(name) => self.places.get(name).copied(),
+            None => None,
+        };
+        self.blocks.push(Block {
+            id,
+            may_else,
+            outer,
+        })?;
+        match put(&mut self.places, id, Some(place)) {
+            Ok(()) => Ok(()),
+            Err(fault) => {
+                let _taken = self.blocks.pop();
+                Err(fault)
+            }
+        }
+    }
+
+    /// Closes the innermost block.
+    #[tactic(auto, using(crate::proofs::OpenBlocks::pop_laws))]
+    pub fn close(&mut self) -> Option<Block<'a>>
+        ensures none { IfNone result ((self.old ≡ []) × (self.new ≡ [])) }
+        ensures some { IfSome result (λ b. self.old ≡ open_of b ∷ self.new) }
+    {
+        match self.blocks.pop() {
+            Some(block) => match put(&mut self.places, block.id, block.outer) {
+                Ok(()) => Some(block),
+                Err(_) => unreachable!(),
+            },
+            None => None,
+        }
     }
 }
 
-/// Opens a block.
-#[tactic(auto, using(crate::proofs::OpenBlocks::blocks_push))]
-pub fn open_block<'a>(
-    blocks: &mut Vec<Block<'a>>,
+/// Notes a place of an identifier, or that it has none. Memory is needed only for an identifier that has no place.
+fn put<'a>(
+    places: &mut BTreeMap<&'a [u8], usize>,
     id: Option<&'a [u8]>,
-    may_else: bool,
+    place: Option<usize>,
 ) -> Result<(), AllocError>
-    ensures { OnOk result (blocks_of blocks.new.items ≡ opened (id_of id.entry) may_else ∷ blocks_of blocks.old.items) }
+    ensures put { OnOk result ((name : List ℕ) → place_in places.new name ≡ changed (id_of id.entry) place (place_in places.old) name) }
+    ensures missing { OnErr result (IsMissing (place_in places.old) (id_of id.entry)) }
+    ensures unchanged { OnErr result ((name : List ℕ) → place_in places.new name ≡ place_in places.old name) }
 {
-    blocks.push(Block { id, may_else })?;
+    if let Some(name) = id {
+        match place {
+            Some(place) => {
+                places.insert(name, place)?;
+            }
+            None => {
+                let _removed = places.remove(name);
+            }
+        }
+    }
     Ok(())
-}
-
-/// Closes the innermost block.
-#[tactic(auto, using(crate::proofs::OpenBlocks::pop_laws))]
-pub fn close_block<'a>(blocks: &mut Vec<Block<'a>>) -> Option<Block<'a>>
-    ensures none { IfNone result ((blocks_of blocks.old.items ≡ []) × (blocks_of blocks.new.items ≡ [])) }
-    ensures some { IfSome result (λ b. blocks_of blocks.old.items ≡ open_of b ∷ blocks_of blocks.new.items) }
-{
-    blocks.pop()
 }

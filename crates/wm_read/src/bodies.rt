@@ -4,7 +4,7 @@ ghost use Rattle.std.specs.Prelude.{◌≡◌, ◌∷◌, ◌<◌, ◌^◌, [], 
 ghost use Rattle.wm_read.specs.declared.faults.TextWhy.TheVariants.{Memory};
 ghost use Rattle.wm_read.specs.exact.Scan.{lexed};
 ghost use Rattle.wm_read.specs.exact.TypeUses.{instructions_at};
-ghost use Rattle.wm_read.specs.inner.Blocks.{blocks_of, scope_of};
+ghost use Rattle.wm_read.specs.inner.Blocks.{scope_of};
 ghost use Rattle.wm_read.specs.inner.Bodies.{CanTake};
 ghost use Rattle.wm_read.specs.inner.CodePieces.{FitsPiece, piece_of};
 ghost use Rattle.wm_read.specs.inner.Pieces as flat;
@@ -13,7 +13,7 @@ ghost use Rattle.wm_syntax.specs.inner.Building.{at, place_after};
 ghost use Rattle.wm_syntax.specs.Instructions.{Instructions};
 ghost use Rattle.wm_syntax.specs.declared.instructions.Op.TheVariants as Op;
 
-use crate::blocks::{Block, Opening, close_block, innermost, open_block};
+use crate::blocks::{OpenBlocks, Opening};
 use crate::faults::{TextFault, TextWhy};
 use crate::identifiers::Scope;
 use crate::lexeme::{Lexeme, next_token};
@@ -29,7 +29,7 @@ use wm_syntax::profile::Profile;
 #[derive(Debug, Drop)]
 struct OpenBody<'a> {
     builder: BodyBuilder,
-    blocks: Vec<Block<'a>>,
+    blocks: OpenBlocks<'a>,
 }
 
 /// Takes an op that may stand next.
@@ -81,33 +81,32 @@ fn add<'a>(body: &mut OpenBody<'a>, piece: Piece<'a>) -> Result<(), TextFault>
     requires stands { CanTake body.old.builder (flat.piece_ops (piece_of piece)) }
     ensures memory { IfErr result (λ e. e.why ≡ Memory) }
     ensures ops { OnOk result (place_after body.old.builder (flat.piece_ops (piece_of piece.entry)) ≡ Some body.new.builder) }
-    ensures blocks { OnOk result (blocks_of body.new.blocks.items
-        ≡ flat.after (blocks_of body.old.blocks.items) (piece_of piece.entry)) }
+    ensures blocks { OnOk result (body.new.blocks ≡ flat.after body.old.blocks (piece_of piece.entry)) }
 {
     match piece {
         Piece::Plain(simple) => push(&mut body.builder, Op::Simple(simple))?,
         Piece::Table(labels, default) => push_table(&mut body.builder, &labels, default)?,
         Piece::Opens(Opening::Block, id, ty) => {
             push(&mut body.builder, Op::Block(ty))?;
-            open_block(&mut body.blocks, id, false)?;
+            body.blocks.open(id, false)?;
         }
         Piece::Opens(Opening::Loop, id, ty) => {
             push(&mut body.builder, Op::Loop(ty))?;
-            open_block(&mut body.blocks, id, false)?;
+            body.blocks.open(id, false)?;
         }
         Piece::Opens(Opening::If, id, ty) => {
             push(&mut body.builder, Op::If(ty))?;
-            open_block(&mut body.blocks, id, true)?;
+            body.blocks.open(id, true)?;
         }
         Piece::Middle => {
             push(&mut body.builder, Op::Else)?;
-            if let Some(block) = close_block(&mut body.blocks) {
-                open_block(&mut body.blocks, block.id, false)?;
+            if let Some(block) = body.blocks.close() {
+                body.blocks.open(block.id, false)?;
             }
         }
         Piece::Closes => {
             push(&mut body.builder, Op::End)?;
-            let _closed = close_block(&mut body.blocks);
+            let _closed = body.blocks.close();
         }
     }
     Ok(())
@@ -136,7 +135,7 @@ pub fn read_body<'a>(
 {
     let mut body = OpenBody {
         builder: BodyBuilder::new(alloc),
-        blocks: Vec::new(alloc),
+        blocks: OpenBlocks::new(alloc),
     };
     let mut rest = text;
     loop {
@@ -154,7 +153,7 @@ pub fn read_body<'a>(
                 add(&mut body, piece)?;
                 rest = more;
             }
-            Some((Lexeme::Close, _)) => match innermost(&body.blocks) {
+            Some((Lexeme::Close, _)) => match body.blocks.innermost() {
                 None => return Ok((finish(body.builder), rest)),
                 Some(_) => return Err(refuse(TextWhy::Expected, rest)),
             },

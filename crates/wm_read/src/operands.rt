@@ -4,12 +4,11 @@ ghost use Rattle.std.specs.Prelude.{◌≡◌, ◌≤◌, ◌<◌, Some, None, c
 ghost use Rattle.wm_read.specs.exact.Reading as reading;
 ghost use Rattle.wm_read.specs.exact.Scan.{lexed};
 ghost use Rattle.wm_read.specs.exact.TypeUses as uses;
-ghost use Rattle.wm_read.specs.inner.Blocks.{blocks_of};
 ghost use Rattle.wm_read.specs.inner.Ids.{id_of};
 ghost use Rattle.wm_read.specs.inner.Pieces.{labels};
 ghost use Rattle.wm_read.specs.inner.Views.{IsRefusal, Reads};
 
-use crate::blocks::{Block, depth};
+use crate::blocks::OpenBlocks;
 use crate::faults::{TextFault, TextWhy};
 use crate::identifiers::{Space, is_same_id};
 use crate::lexeme::{Lexeme, next_token, skip_space};
@@ -125,15 +124,15 @@ pub fn begins_index(text: &[u8]) -> bool
 }
 
 /// A number or the identifier of an open block.
-pub fn label<'a>(blocks: &[Block], text: &'a [u8]) -> Result<(u32, &'a [u8]), TextFault>
+pub fn label<'a>(blocks: &OpenBlocks, text: &'a [u8]) -> Result<(u32, &'a [u8]), TextFault>
     ensures shorter { IfOk result (λ x. length x.1.now < length text.now) }
     ensures read { Reads (λ x. (x.0, lexed x.1.now)) result
-        (reading.atom_at (reading.index_of (labels (blocks_of blocks.now))) (lexed text.now)) }
+        (reading.atom_at (reading.index_of (labels blocks.now)) (lexed text.now)) }
 {
     match next_token(text) {
         Some((Lexeme::Atom(atom), rest)) => {
             if is_id(atom) {
-                let l = known(depth(blocks, atom), text)?;
+                let l = known(blocks.depth(atom), text)?;
                 Ok((l, rest))
             } else {
                 let l = number(atom, text)?;

@@ -2,7 +2,7 @@
 
 ghost use Rattle.std.specs.Prelude.{◌≡◌, Some, IfOk, length};
 ghost use Rattle.wm_read.specs.exact.Scan.{lexed};
-ghost use Rattle.wm_read.specs.inner.Blocks.{blocks_of, names_of, scope_of};
+ghost use Rattle.wm_read.specs.inner.Blocks.{names_of, scope_of};
 ghost use Rattle.wm_read.specs.exact.TypeUses.{call_use_at};
 ghost use Rattle.wm_read.specs.inner.CodePieces.{FitsPiece, piece_of, HasOperand};
 ghost use Rattle.wm_read.specs.inner.Pieces as flat;
@@ -11,7 +11,7 @@ ghost use Rattle.wm_read.specs.inner.Views.{Reads};
 ghost use Rattle.wm_syntax.specs.Opcodes as table;
 ghost use Rattle.wm_syntax.specs.declared.instructions.Simple.TheVariants as Simple;
 
-use crate::blocks::{Block, Opening, innermost};
+use crate::blocks::{OpenBlocks, Opening};
 use crate::faults::{TextFault, TextWhy};
 use crate::identifiers::{Names, Scope};
 use crate::lexeme::{Lexeme, next_token};
@@ -67,12 +67,12 @@ fn store(op: StoreOp, text: &[u8]) -> Result<(Simple, &[u8]), TextFault>
 #[tactic(auto, using(crate::proofs::Tables::table_laws))]
 fn table<'a>(
     alloc: Global,
-    blocks: &[Block],
+    blocks: &OpenBlocks,
     text: &'a [u8],
 ) -> Result<(Piece<'a>, &'a [u8]), TextFault>
     ensures fits { IfOk result (λ x. FitsPiece (piece_of x.0)) }
     ensures read { Reads (λ x. (piece_of x.0, lexed x.1.now)) result
-        (reading.table_at (flat.labels (blocks_of blocks.now)) (lexed text.now)) }
+        (reading.table_at (flat.labels blocks.now) (lexed text.now)) }
 {
     let mut labels = Vec::new(alloc);
     let mut rest = text;
@@ -94,15 +94,15 @@ fn table<'a>(
 }
 
 fn middle<'a>(
-    blocks: &[Block],
+    blocks: &OpenBlocks,
     here: &[u8],
     text: &'a [u8],
 ) -> Result<(Piece<'a>, &'a [u8]), TextFault>
     ensures fits { IfOk result (λ x. FitsPiece (piece_of x.0)) }
     ensures read { Reads (λ x. (piece_of x.0, lexed x.1.now)) result
-        (reading.middle_at (blocks_of blocks.now) (lexed text.now)) }
+        (reading.middle_at blocks.now (lexed text.now)) }
 {
-    match innermost(blocks) {
+    match blocks.innermost() {
         Some(block) => {
             if block.may_else {
                 let rest = again(block.id, text)?;
@@ -116,15 +116,15 @@ fn middle<'a>(
 }
 
 fn closes<'a>(
-    blocks: &[Block],
+    blocks: &OpenBlocks,
     here: &[u8],
     text: &'a [u8],
 ) -> Result<(Piece<'a>, &'a [u8]), TextFault>
     ensures fits { IfOk result (λ x. FitsPiece (piece_of x.0)) }
     ensures read { Reads (λ x. (piece_of x.0, lexed x.1.now)) result
-        (reading.closes_at (blocks_of blocks.now) (lexed text.now)) }
+        (reading.closes_at blocks.now (lexed text.now)) }
 {
-    match innermost(blocks) {
+    match blocks.innermost() {
         Some(block) => {
             let rest = again(block.id, text)?;
             Ok((Piece::Closes, rest))
@@ -136,14 +136,14 @@ fn closes<'a>(
 /// What follows the word of an instruction with one operand.
 fn operand<'a>(
     scope: &Scope,
-    blocks: &[Block],
+    blocks: &OpenBlocks,
     kind: Immediates,
     text: &'a [u8],
 ) -> Result<(Piece<'a>, &'a [u8]), TextFault>
     requires { HasOperand kind }
     ensures fits { IfOk result (λ x. FitsPiece (piece_of x.0)) }
     ensures read { Reads (λ x. (piece_of x.0, lexed x.1.now)) result
-        (reading.kind_at (call_use_at (names_of scope.now.names.now)) (scope_of scope.now) (blocks_of blocks.now) kind (lexed text.now)) }
+        (reading.kind_at (call_use_at (names_of scope.now.names.now)) (scope_of scope.now) blocks.now kind (lexed text.now)) }
 {
     let (simple, rest) = match kind {
         Immediates::Br => {
@@ -215,14 +215,14 @@ pub fn read_piece<'a>(
     alloc: Global,
     profile: Profile,
     scope: &Scope,
-    blocks: &[Block],
+    blocks: &OpenBlocks,
     word: &[u8],
     here: &[u8],
     text: &'a [u8],
 ) -> Result<(Piece<'a>, &'a [u8]), TextFault>
     ensures fits { IfOk result (λ x. FitsPiece (piece_of x.0)) }
     ensures read { Reads (λ x. (piece_of x.0, lexed x.1.now)) result
-        (reading.piece_at (call_use_at (names_of scope.now.names.now)) profile (scope_of scope.now) (blocks_of blocks.now) word.now
+        (reading.piece_at (call_use_at (names_of scope.now.names.now)) profile (scope_of scope.now) blocks.now word.now
         (lexed text.now)) }
 {
     match op_named(profile, word) {

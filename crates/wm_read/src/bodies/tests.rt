@@ -107,6 +107,40 @@ fn blocks(rt: HostRuntime) -> Result<(), Fail> {
             Op::End,
         ],
     )?;
+    // a label is the nearest block's, and again an outer one's after its end
+    expect_ops(
+        &rt,
+        alloc,
+        "block $a block $b block $a br $a br $b end br $a br $b end br $a end)",
+        &[
+            Op::Block(None),
+            Op::Block(None),
+            Op::Block(None),
+            Op::Simple(Simple::Br(0)),
+            Op::Simple(Simple::Br(1)),
+            Op::End,
+            Op::Simple(Simple::Br(1)),
+            Op::Simple(Simple::Br(0)),
+            Op::End,
+            Op::Simple(Simple::Br(0)),
+            Op::End,
+        ],
+    )?;
+    expect_ops(
+        &rt,
+        alloc,
+        "block $i if $i br $i else br $i end br $i end)",
+        &[
+            Op::Block(None),
+            Op::If(None),
+            Op::Simple(Simple::Br(0)),
+            Op::Else,
+            Op::Simple(Simple::Br(0)),
+            Op::End,
+            Op::Simple(Simple::Br(0)),
+            Op::End,
+        ],
+    )?;
     // an empty second branch is the same as none
     expect_ops(
         &rt,
@@ -244,6 +278,7 @@ fn refusals(rt: HostRuntime) -> Result<(), Fail> {
         ("block (result i32 i32) end)", TextWhy::Expected, 18),
         // indices and labels
         ("br $a)", TextWhy::UnknownId, 3),
+        ("block $a end br $a)", TextWhy::UnknownId, 16),
         ("call $x)", TextWhy::UnknownId, 5),
         ("call nop)", TextWhy::Expected, 5),
         ("call -1)", TextWhy::BadInteger, 5),
@@ -321,6 +356,28 @@ fn nested_blocks(rt: HostRuntime) -> Result<(), Fail> {
     assert_eq!(rt;
         op_count(alloc, Profile::One, &scope, text.as_slice()),
         Some(2 * depth + 1)
+    );
+    Ok(())
+}
+
+#[test]
+fn nested_labels(rt: HostRuntime) -> Result<(), Fail> {
+    let alloc = rt.alloc();
+    let depth = 50_000;
+    let mut text = Vec::new(alloc);
+    text.extend_from_slice(b"block $outer ")?;
+    for _ in 0..depth {
+        text.extend_from_slice(b"block $a br $outer ")?;
+    }
+    for _ in 0..depth {
+        text.extend_from_slice(b"br $a end ")?;
+    }
+    text.extend_from_slice(b"br $outer end)")?;
+    let names = names(alloc)?;
+    let scope = scope(alloc, &names)?;
+    assert_eq!(rt;
+        op_count(alloc, Profile::One, &scope, text.as_slice()),
+        Some(4 * depth + 3)
     );
     Ok(())
 }
