@@ -63,7 +63,10 @@ impl<'a> OpenBlocks<'a> {
         ensures { result ≡ place_of (labels self.now) name.now }
     {
         match self.places.get(name).copied() {
-            Some(place) => Some(self.blocks.len() - 1 - place),
+            Some(place) => {
+                let depth = self.blocks.len() - 1 - place;
+                Some(depth)
+            }
             None => None,
         }
     }

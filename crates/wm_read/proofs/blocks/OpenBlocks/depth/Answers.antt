@@ -6,15 +6,15 @@ use Rattle.wm_read.specs.inner.Pieces.{labels}
 use Rattle.wm_read.proofs.OpenBlocks.{depth_none, depth_some, place_below}
 use Rattle.wm_read.proofs.blocks.OpenBlocks.depth.Goals as goal
 
-pub overflow_sub-result : goal.overflow_sub-result
-overflow_sub-result c =
+pub overflow_sub-depth : goal.overflow_sub-depth
+overflow_sub-depth c =
     let size : c.len.result ≡ length c.self.inside.blocks.items = search rules in
     let found : place_from (reverse c.self.inside.blocks.items) c.args.name.now ≡ Some c.in-Some.place = sym (c.self.invariant.0 c.args.name.now) ∙ sym c.get.ensures.value ∙ sym c.copied.ensures ∙ c.in-Some.is in
     let lt : c.in-Some.place < length c.self.inside.blocks.items = place_below c.self.inside.blocks.items c.args.name.now c.in-Some.place found in
     omega (arith, size, lt)
 
-pub overflow_sub-result-in-Some : goal.overflow_sub-result-in-Some
-overflow_sub-result-in-Some c =
+pub overflow_sub-depth-in-Some : goal.overflow_sub-depth-in-Some
+overflow_sub-depth-in-Some c =
     let size : c.len.result ≡ length c.self.inside.blocks.items = search rules in
     let found : place_from (reverse c.self.inside.blocks.items) c.args.name.now ≡ Some c.in-Some.place = sym (c.self.invariant.0 c.args.name.now) ∙ sym c.get.ensures.value ∙ sym c.copied.ensures ∙ c.in-Some.is in
     let lt : c.in-Some.place < length c.self.inside.blocks.items = place_below c.self.inside.blocks.items c.args.name.now c.in-Some.place found in
