@@ -41,11 +41,16 @@ fn modules(rt: HostRuntime) -> Result<(), Fail> {
             assert_eq!(rt; module.functions.len(), 1);
             assert_eq!(rt; module.functions[0].type_index, 1);
             assert_eq!(rt; module.start, Some(1));
+            assert_eq!(rt; module.exports.len(), 1);
             assert_eq!(rt; module.exports[0].index, 1);
+            assert_eq!(rt; module.segments.len(), 1);
             assert_eq!(rt; &module.segments[0].bytes[..], b"\x00\xc3\xa9\"".as_slice());
+            assert_eq!(rt; module.elements.len(), 1);
             assert_eq!(rt; &module.elements[0].functions[..], [1, 0].as_slice());
+            assert_eq!(rt; module.memories.len(), 1);
             assert_eq!(rt; module.memories[0].max, Some(2));
             assert_eq!(rt; module.globals.len(), 1);
+            assert_eq!(rt; module.tables.len(), 1);
             assert_eq!(rt; module.tables[0].min, 2);
         }
         Err(refusal) => assert!(rt; false, "{refusal:?}"),
