@@ -2,17 +2,21 @@
 """Compares `wmod check` with node and wasm-validate, where these are there: `compare.py [SHAPE..]`.
 
 For each shape it makes a module of 7 MB, and prints MB/s of processor time (medians of five runs, all programs in
-turn), instructions a byte where valgrind is there, and the peak memory of wmod. With `--growth` it makes modules of
-2 MB and 8 MB and prints how many times the time a byte grows. With `--canon` or `--show` it measures that action on the
-two: MB/s, that growth, the peak memory, and how many bytes of memory a byte of the module takes. With `--build` it
-measures that action on the texts that `wmod show` prints of modules of 0.5 MB and 2 MB, beside wat2wasm where it is there;
-what is built has to be what `wmod canon` writes.
+turn), instructions a byte where valgrind is there, and the peak memory of wmod. With `--growth` it makes modules of 2
+MB and 8 MB and prints how many times the time a byte grows, by the least of fifteen runs of each, the start of the
+program left out. With `--canon` or `--show` it measures that action on the two: MB/s, that growth, the peak memory, and
+how many bytes of memory a byte of the module takes. With `--build` it measures that action on the texts that `wmod
+show` prints of modules of 0.5 MB and 2 MB, beside wat2wasm where it is there; what is built has to be what `wmod canon`
+writes. With `--assemble` it measures nothing: wat2wasm makes binaries of such texts, of modules of 0.1 MB and 2 MB, and
+a line for each says whether its bytes are those of `wmod canon`. The status is 1 where some binary has other bytes, or
+none was made.
 """
 import json
 import os
 import pathlib
 import resource
 import shutil
+import signal
 import statistics
 import subprocess
 import sys
@@ -119,16 +123,28 @@ def row(shape, folder, others):
     return cells
 
 
+def quickest(commands):
+    """The least seconds of each command in fifteen runs, all in turn, and its peak memory."""
+    times = [[] for _ in commands]
+    peaks = [0 for _ in commands]
+    for _ in range(3 * RUNS):
+        for i, command in enumerate(commands):
+            seconds, memory, _ = spent(command)
+            times[i].append(seconds)
+            peaks[i] = max(peaks[i], memory)
+    return [min(t) for t in times], peaks
+
+
 def growth(shape, folder, action):
-    """How many times the time a byte grows from 2 MB to 8 MB; of the second its size, seconds and peak memory."""
-    ratios = []
-    for megabytes in (2, 8):
-        path = os.path.join(folder, f"{shape}.{megabytes}.wasm")
+    """How many times the time a byte grows from 2 MB to 8 MB, the start of the program left out; of the second its size,
+    seconds and peak memory. Other programs only ever make a run longer, so the least time tells."""
+    paths = [os.path.join(folder, f"{shape}.{megabytes}.wasm") for megabytes in (0, 2, 8)]
+    for path, megabytes in zip(paths, (0, 2, 8)):
         with open(path, "wb") as file:
-            file.write(make_module.make(shape, megabytes))
-        (seconds,), (peak,) = medians([[str(PROGRAM), action, path]])
-        ratios.append(seconds / os.path.getsize(path))
-    return ratios[1] / ratios[0], os.path.getsize(path), seconds, peak
+            file.write(make_module.make(shape, megabytes) if megabytes else make_module.HEADER)
+    (start, first, second), (_, _, peak) = quickest([[str(PROGRAM), action, path] for path in paths])
+    small, large = (os.path.getsize(path) for path in paths[1:])
+    return (second - start) / large / ((first - start) / small), large, second, peak
 
 
 def writing_row(shape, folder, action):
@@ -176,6 +192,58 @@ def building_row(shape, folder):
     return cells
 
 
+def assembled(text, binary, wide=False):
+    """Why wat2wasm, without flags, makes no binary of a text; none where it does. Its stack is of the usual size, or wide."""
+
+    def widen():
+        most = resource.getrlimit(resource.RLIMIT_STACK)[1]
+        resource.setrlimit(resource.RLIMIT_STACK, (most, most))
+
+    words = ["wat2wasm", text, f"--output={binary}"]
+    done = subprocess.run(words, capture_output=True, text=True, check=False, preexec_fn=widen if wide else None)
+    if done.returncode < 0:
+        return f"ended by {signal.Signals(-done.returncode).name}"
+    return None if done.returncode == 0 else (done.stderr.splitlines() or ["for no reason that it told"])[0]
+
+
+def difference(own, other):
+    """How bytes of wat2wasm differ from those of `wmod canon`; none where they are the same."""
+    if own == other:
+        return None
+    same = next((i for i, (a, b) in enumerate(zip(own, other)) if a != b), min(len(own), len(other)))
+    return f"differs from byte {same} on, with {len(other)} bytes for {len(own)}"
+
+
+def assembling(shape, folder, megabytes):
+    """What wat2wasm makes of the text of a module, in words, and whether that is the canonical binary."""
+    module, text, binary = (os.path.join(folder, f"{shape}.{kind}") for kind in ("wasm", "wat", "out"))
+    with open(module, "wb") as file:
+        file.write(make_module.make(shape, megabytes))
+    with open(text, "wb") as file:
+        file.write(output("show", module))
+    sizes = f"{os.path.getsize(module) / 1e6:.1f} MB, {os.path.getsize(text) / 1e6:.1f} MB of text"
+    usual = assembled(text, binary)
+    refusal = usual and assembled(text, binary, wide=True)
+    if refusal:
+        return f"{shape}, {sizes}: refused, {refusal}", False
+    stack = f", with a larger stack; with the usual one {usual}" if usual else ""
+    with open(binary, "rb") as file:
+        differs = difference(output("canon", module), file.read())
+    return f"{shape}, {sizes}: {differs or 'equal'}{stack}", differs is None
+
+
+def assemble(shapes, folder):
+    """The status: 0 where all binaries are equal."""
+    answers = []
+    for shape in shapes:
+        for megabytes in (0.1, 2):
+            line, equal = assembling(shape, folder, megabytes)
+            print(line, flush=True)
+            answers.append(equal)
+    print(f"{sum(answers)} of {len(answers)} equal")
+    return 0 if all(answers) else 1
+
+
 def print_table(heads, rows):
     print("| " + " | ".join(heads) + " |")
     print("|" + "---|" * len(heads))
@@ -187,7 +255,10 @@ def main():
     words = [w for w in sys.argv[1:] if not w.startswith("--")]
     shapes = words or [f.__name__ for f in make_module.SHAPES]
     subprocess.run([str(HERE.parent / "wmod"), "--help"], stdout=subprocess.DEVNULL, check=True)
+    texts = [shape for shape in shapes if shape != "custom_sections"]  # they are no part of a text
     with tempfile.TemporaryDirectory() as folder:
+        if "--assemble" in sys.argv:
+            sys.exit(assemble(texts, folder))
         if "--growth" in sys.argv:
             for shape in shapes:
                 print(f"{shape.replace('_', ' ')}: {growth(shape, folder, 'check')[0]:.2f}", flush=True)
@@ -201,8 +272,7 @@ def main():
             heads = ["Shape", "MB of text", "MB/s of text", "MB/s of binary", "time a byte, 2 MB to 0.5 MB of binary"]
             heads += ["peak MiB", "bytes of memory a byte of text"]
             heads += ["wat2wasm MB/s of text", "wat2wasm peak MiB"] if shutil.which("wat2wasm") else []
-            # custom sections are no part of a text
-            print_table(heads, (building_row(shape, folder) for shape in shapes if shape != "custom_sections"))
+            print_table(heads, (building_row(shape, folder) for shape in texts))
             return
         others = [["wasm-validate"]] if shutil.which("wasm-validate") else []
         heads = ["Shape", "MB", "wmod MB/s"]

@@ -21,7 +21,9 @@ use Rattle.wm_write.specs.Canon.{Fits, canon}
 use Rattle.wm_write.specs.Layout.{layout}
 use Rattle.wm_write.proofs.Shortest.{spelled_fits}
 use Rattle.wm_cli.specs.declared.words.Action.{Action}
-use Rattle.wm_rules.specs.Reading.{LoadedInput, RefusedInput}
+use Rattle.wm_rules.specs.Reading.{Answers, LoadedInput, RefusedInput}
+use Rattle.wm_rules.specs.declared.reading.FromFault.{FromFault}
+use Rattle.wm_rules.specs.declared.reading.FromFault.TheVariants as fault
 use Rattle.wm_cli.specs.Outcome.{IsOutput, IsRefusalLine, IsReport, IsRightFor, OutOf}
 use Rattle.wm_cli.specs.Building.{ModuleOut, TextOut}
 use Rattle.wm_cli.specs.Refused.{refusal_line}
@@ -34,7 +36,7 @@ abbrev pub IsJudged : Action → Type 0
 IsJudged Build = ⊥
 IsJudged _ = Unit {0}
 
-pub line_of_action : (action : Action) → IsJudged action → (place : ℕ) (why : Why) → why ≢ Memory → IsRefusalLine action (refusal_line place why)
+line_of_action : (action : Action) → IsJudged action → (place : ℕ) (why : Why) → why ≢ Memory → IsRefusalLine action (refusal_line place why)
 line_of_action Check j place why n = (place, why, n, refl)
 line_of_action Stats j place why n = (place, why, n, refl)
 line_of_action Canon j place why n = (place, why, n, refl)
@@ -60,7 +62,7 @@ early_out action j p limit input left r why n = inr (
       refused_out action j p limit (n.used ++ more) r why (n.never more) (omega (arith, size, n.at)) (n.same more),
 )
 
-pub out_of_refusal : (action : Action) → IsJudged action → (p : Profile) (limit : ℕ) (all left : Option (List ℕ)) (r : Refusal) → r.why ≢ Memory
+out_of_refusal : (action : Action) → IsJudged action → (p : Profile) (limit : ℕ) (all left : Option (List ℕ)) (r : Refusal) → r.why ≢ Memory
     → IfSome all (λ input. RefusedInput p limit input left r) → IfSome all (λ input. IsRightFor action p limit input left (refusal_line r.at r.why) status.Refused)
 out_of_refusal action judged p limit None left r why j = tt
 out_of_refusal action judged p limit (Some input) left r why j =
@@ -68,6 +70,16 @@ out_of_refusal action judged p limit (Some input) left r why j =
       | inl n ↦ early_out action judged p limit input left r why n
       | inr e ↦ inl (e.0, refused_out action judged p limit input r why e.1 (omega (arith, j.place)) (j.same why))
     ]
+
+-- where an input is refused, the line of its refusal is an output and right for what was read
+pub out_of_fault : {A : Type 0} (IsRight : List ℕ → Option (List ℕ) → A → Type 0) (action : Action) → IsJudged action → (p : Profile) (limit : ℕ) (all left : Option (List ℕ)) (f : FromFault)
+    → Answers IsRight p limit all left (Err f) → (r : Refusal) → f ≡ fault.Refused r → r.why ≢ Memory
+    → IsOutput action (refusal_line r.at r.why) status.Refused
+    × IfSome all (λ input. IsRightFor action p limit input left (refusal_line r.at r.why) status.Refused)
+out_of_fault IsRight action judged p limit all left f answers r is why = (
+  inr (line_of_action action judged r.at r.why why, refl),
+  out_of_refusal action judged p limit all left r why (subst (λ z. Answers IsRight p limit all left (Err z)) is answers),
+)
 
 -- an action that writes this of a module that it loaded
 pub record WritesOf (action : Action) (form : Module → List ℕ) : Type 0 where

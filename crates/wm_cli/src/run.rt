@@ -1,6 +1,6 @@
 //! What each action does.
 
-ghost use Rattle.std.specs.Prelude.{◌≡◌, ◌≢◌, ◌≤◌, ◌^◌, ◌↔◌, ◌||◌, ℕ, List, IfSome, false, true};
+ghost use Rattle.std.specs.Prelude.{◌≡◌, ◌≢◌, ◌≤◌, ◌^◌, ◌↔◌, ◌||◌, ◌⊎◌, ℕ, List, IfSome, false, true};
 ghost use Rattle.wm_syntax.specs.Values.{value_of};
 ghost use Rattle.wm_rules.specs.inner.Loaders.{module_in};
 ghost use Rattle.wm_write.specs.Canon.{canon};
@@ -48,23 +48,19 @@ pub fn run<R: Source, W: Dest>(
     match action {
         Action::Check => match validate_from(alloc, r, profile, limit) {
             Ok(_) => answer(w, b"valid\n", Status::Done),
-            Err(FromFault::Refused(refusal)) => refuse(alloc, refusal, w),
-            Err(FromFault::Io) => Status::Io,
+            Err(fault) => answer_fault(alloc, fault, w),
         },
         Action::Stats => match validate_from(alloc, r, profile, limit) {
             Ok(summary) => report(alloc, summary, w),
-            Err(FromFault::Refused(refusal)) => refuse(alloc, refusal, w),
-            Err(FromFault::Io) => Status::Io,
+            Err(fault) => answer_fault(alloc, fault, w),
         },
         Action::Canon => match load_from(alloc, r, profile, limit) {
             Ok(checked) => write_canonical(&checked, w),
-            Err(FromFault::Refused(refusal)) => refuse(alloc, refusal, w),
-            Err(FromFault::Io) => Status::Io,
+            Err(fault) => answer_fault(alloc, fault, w),
         },
         Action::Show => match load_from(alloc, r, profile, limit) {
             Ok(checked) => write_text(&checked, w),
-            Err(FromFault::Refused(refusal)) => refuse(alloc, refusal, w),
-            Err(FromFault::Io) => Status::Io,
+            Err(fault) => answer_fault(alloc, fault, w),
         },
         Action::Build => build(alloc, profile, limit, r, w),
     }
@@ -135,6 +131,22 @@ fn write_text<W: Dest>(checked: &Checked, w: &mut W) -> Status
     match print(checked, w) {
         Ok(()) => answer(w, b"", Status::Done),
         Err(PrintFault::Io) => Status::Io,
+    }
+}
+
+/// Writes the refusal of an input, unless memory was refused. Where the reader failed nothing is written.
+fn answer_fault<W: Dest>(alloc: Global, fault: FromFault, w: &mut W) -> Status
+    requires { W.has_failed w.old ≡ false }
+    ensures answered { fault ≢ FromFault.Io → result ≢ Status.Memory → (refusal : Refusal) × (fault ≡ FromFault.Refused refusal)
+        × (refusal.why ≢ Why.Memory)
+        × IsAnswered (refusal_line refusal.at refusal.why) Status.Refused (W.contents w.old) (W.contents w.new) (W.has_failed w.new) result }
+    ensures reader { fault ≡ FromFault.Io → (result ≡ Status.Io) × (w.new ≡ w.old) }
+    ensures memory { result ≡ Status.Memory → w.new ≡ w.old }
+    ensures io { (result ≡ Status.Io) ↔ ((fault ≡ FromFault.Io) ⊎ (W.has_failed w.new ≡ true)) }
+{
+    match fault {
+        FromFault::Refused(refusal) => refuse(alloc, refusal, w),
+        FromFault::Io => Status::Io,
     }
 }
 

@@ -2,6 +2,7 @@
 
 mod built;
 mod canonical;
+mod fronts;
 mod modules;
 mod profiles;
 mod refusals;
@@ -44,19 +45,84 @@ impl Read for Pieces<'_> {
     }
 }
 
-/// What an action writes for an input in pieces of at most `most` bytes, and how it ends.
-fn output_of(
-    alloc: Global,
+/// An action under a profile, on an input of at most so many bytes.
+#[derive(Clone, Copy)]
+struct Run<'a> {
     action: Action,
-    input: &[u8],
-    most: usize,
+    profile: Profile,
     limit: u64,
-) -> (Status, Vec<u8>) {
-    let mut source = Input::new(Pieces { rest: input, most });
-    let mut dest = Output::new(Vec::new(alloc));
-    let limit = limit.min(LIMIT);
-    let status = run(alloc, action, Profile::One, limit, &mut source, &mut dest);
-    (status, dest.into_inner())
+    input: &'a [u8],
+}
+
+impl Run<'_> {
+    /// What is written where the input comes from this reader, and how it ends.
+    fn output<R: Read + Drop>(self, alloc: Global, from: R) -> (Status, Vec<u8>) {
+        let line = Line {
+            action: self.action,
+            profile: self.profile,
+            limit: self.limit.min(LIMIT),
+            file: None,
+        };
+        let mut source = Input::new(from);
+        let mut dest = Output::new(Vec::new(alloc));
+        let status = run_line(alloc, &line, &mut source, &mut dest);
+        (status, dest.into_inner())
+    }
+
+    /// The answer is this one in pieces of any of these sizes. So it is for a short input that is cut in two,
+    /// wherever that is.
+    fn expect_cut(self, rt: &impl Abort, alloc: Global, ends: Status, wanted: &[u8]) {
+        let input = self.input;
+        for most in [4096, 1, 7] {
+            let (status, written) = self.output(alloc, Pieces { rest: input, most });
+            assert_eq!(rt;
+                written.as_slice(),
+                wanted,
+                "in pieces of {most}: {input:?}"
+            );
+            assert_eq!(rt; status, ends);
+        }
+        let places = if input.len() < 200 { input.len() } else { 0 };
+        for place in 0..places {
+            let (front, back) = input.split_at(place);
+            let (status, written) = self.output(alloc, front.chain(back));
+            assert_eq!(rt; written.as_slice(), wanted, "cut at {place}: {input:?}");
+            assert_eq!(rt; status, ends);
+        }
+    }
+
+    /// The same, and what is valid is given back by `show` and `build`.
+    fn expect(self, rt: &impl Abort, alloc: Global, ends: Status, wanted: &[u8]) {
+        self.expect_cut(rt, alloc, ends, wanted);
+        if ends == Status::Done {
+            let module = match self.action {
+                Action::Build => wanted,
+                _ => self.input,
+            };
+            expect_given_back(rt, alloc, self.profile, module);
+        }
+    }
+}
+
+/// What an action writes for a whole input, and that it is done.
+fn done(rt: &impl Abort, alloc: Global, action: Action, profile: Profile, input: &[u8]) -> Vec<u8> {
+    let run = Run {
+        action,
+        profile,
+        limit: LIMIT,
+        input,
+    };
+    let (status, written) = run.output(alloc, input);
+    assert_eq!(rt; status, Status::Done, "{action:?} of {input:?}");
+    written
+}
+
+/// A valid module, shown and then built, gives its canonical binary.
+fn expect_given_back(rt: &impl Abort, alloc: Global, profile: Profile, module: &[u8]) {
+    let canonical = done(rt, alloc, Action::Canon, profile, module);
+    let text = done(rt, alloc, Action::Show, profile, module);
+    let built = done(rt, alloc, Action::Build, profile, text.as_slice());
+    assert_eq!(rt; built.as_slice(), canonical.as_slice(), "of {module:?}");
 }
 
 fn expect_of(
@@ -72,15 +138,13 @@ fn expect_of(
     } else {
         Status::Done
     };
-    for most in [4096, 1, 7] {
-        let (status, written) = output_of(alloc, action, input, most, limit);
-        assert_eq!(rt;
-            written.as_slice(),
-            wanted.as_bytes(),
-            "in pieces of {most}: {input:?}"
-        );
-        assert_eq!(rt; status, ends);
-    }
+    let run = Run {
+        action,
+        profile: Profile::One,
+        limit,
+        input,
+    };
+    run.expect(rt, alloc, ends, wanted.as_bytes())
 }
 
 /// Of `check`.

@@ -1,6 +1,6 @@
 -- A sink that does nothing at an item takes any item of such items.
 use Rattle.std.proofs.Common.{arith, ◌≡◌, ◌≢◌, ◌⊎◌, inl, inr, ℕ, List, [], ◌∷◌, ◌++◌, Result, Ok, Err, IfErr, IsOk, MatchResult, map, refl, ◌∙◌, ap, ◌+◌, ◌<◌, length, take, slice_index}
-use Rattle.std.proofs.lemmas.List.{take_more}
+use Rattle.std.proofs.lemmas.List.{map-append, take_more}
 use Rattle.wm_syntax.specs.declared.why.Why.{Why}
 use Rattle.wm_syntax.specs.declared.why.Why.TheVariants as why
 use Rattle.wm_decode.specs.Items.{Item, data_byte}
@@ -44,21 +44,22 @@ pub all_taken-append : {H : Type 0} (after : H → Item → Result H Why) (xs ys
 all_taken-append after [] ys h = refl
 all_taken-append after (x ∷ xs) ys h = taken_then after (after h x) xs ys (λ g. all_taken-append after xs ys g)
 
-each_data : (a b : List ℕ) → map data_byte (a ++ b) ≡ map data_byte a ++ map data_byte b
-each_data [] b = refl
-each_data (c ∷ a) b = ap (λ y. data_byte c ∷ y) (each_data a b)
+-- the same of the items that numbers in two lists are
+module _ {H : Type 0} (after : H → Item → Result H Why) (item : ℕ → Item) where
+  pub numbers_taken : (h : H) (a b : List ℕ) → all_taken after h (map item (a ++ b)) ≡ and_then (all_taken after h (map item a)) (λ g. all_taken after g (map item b))
+  numbers_taken h a b = ap (all_taken after h) (map-append item a b) ∙ all_taken-append after (map item a) (map item b) h
+
+  -- one more
+  pub number_taken : (h f g : H) (bytes : List ℕ) (i : ℕ) → i < length bytes → all_taken after h (map item (take i bytes)) ≡ Ok f
+      → after f (item (slice_index bytes i)) ≡ Ok g → all_taken after h (map item (take (i + 1) bytes)) ≡ Ok g
+  number_taken h f g bytes i less before given =
+      ap (λ (y : List ℕ). all_taken after h (map item y)) (take_more bytes i 0 less)
+      ∙ (numbers_taken h (take i bytes) (slice_index bytes i ∷ [])
+      ∙ (ap (λ r. and_then r (λ k. all_taken after k (item (slice_index bytes i) ∷ []))) before
+      ∙ ap (λ r. and_then r (λ k. Ok k)) given))
 
 pub slices_taken : {H : Type 0} (after : H → Item → Result H Why) (h : H) (a b : List ℕ) → all_taken after h (map data_byte (a ++ b)) ≡ and_then (all_taken after h (map data_byte a)) (λ g. all_taken after g (map data_byte b))
-slices_taken after h a b = ap (all_taken after h) (each_data a b) ∙ all_taken-append after (map data_byte a) (map data_byte b) h
-
--- one byte more
-pub data_more : {H : Type 0} (after : H → Item → Result H Why) (h f g : H) (bytes : List ℕ) (i : ℕ) → i < length bytes → all_taken after h (map data_byte (take i bytes)) ≡ Ok f
-    → after f (data_byte (slice_index bytes i)) ≡ Ok g → all_taken after h (map data_byte (take (i + 1) bytes)) ≡ Ok g
-data_more after h f g bytes i less before given =
-    ap (λ (y : List ℕ). all_taken after h (map data_byte y)) (take_more bytes i 0 less)
-    ∙ (slices_taken after h (take i bytes) (slice_index bytes i ∷ [])
-    ∙ (ap (λ r. and_then r (λ k. all_taken after k (data_byte (slice_index bytes i) ∷ []))) before
-    ∙ ap (λ r. and_then r (λ k. Ok k)) given))
+slices_taken after h a b = numbers_taken after data_byte h a b
 
 -- where no byte of data is refused
 pub is_memory : (w : Why) → (w ≡ why.Memory) ⊎ (w ≡ why.Memory → ⊥)

@@ -6,9 +6,7 @@ use Rattle.wm_syntax.specs.declared.profile.Profile.{Profile}
 use Rattle.wm_syntax.specs.declared.why.Why.{Why}
 use Rattle.wm_syntax.specs.declared.why.Why.TheVariants as why
 use Rattle.wm_syntax.specs.declared.instructions.Op.TheVariants as op
-use Rattle.wm_syntax.specs.exact.Reading.{fresh, unsigned_push}
-use Rattle.wm_syntax.specs.declared.numbers.Step.{Step}
-use Rattle.wm_syntax.specs.declared.numbers.Step.TheVariants as step
+use Rattle.wm_syntax.specs.exact.Reading.{fresh}
 use Rattle.wm_syntax.specs.inner.Numbers.{Partial}
 use Rattle.wm_decode.specs.declared.machine.Machine.{Machine}
 use Rattle.wm_decode.specs.declared.machine.Machine.TheVariants as machine
@@ -20,9 +18,7 @@ use Rattle.wm_decode.specs.declared.member.SectionKind.{SectionKind}
 use Rattle.wm_decode.specs.declared.member.SectionKind.TheVariants as section_kind
 use Rattle.wm_decode.specs.declared.member.InMember.{InMember}
 use Rattle.wm_decode.specs.declared.member.InMember.TheVariants as at
-use Rattle.wm_decode.specs.declared.member.InEntry.{InEntry}
 use Rattle.wm_decode.specs.declared.member.InEntry.TheVariants as entry
-use Rattle.wm_decode.specs.declared.expressions.InExpression.{InExpression}
 use Rattle.wm_decode.specs.declared.expressions.InExpression.TheVariants as expression
 use Rattle.wm_decode.specs.declared.ops.InOp.{InOp}
 use Rattle.wm_decode.specs.declared.ops.InOp.TheVariants as in_op
@@ -32,8 +28,7 @@ use Rattle.wm_decode.specs.Items.{Item}
 use Rattle.wm_decode.specs.Sinks.{and_then}
 use Rattle.wm_decode.specs.exact.Steps.{step_of, machine_in_member}
 use Rattle.wm_decode.specs.exact.MemberSteps.{member_in_entry, entry_after_op, op_event}
-use Rattle.wm_decode.specs.exact.OpSteps.{on_answer}
-use Rattle.wm_decode.specs.exact.ExpressionSteps.{after_reading, expression_failed}
+use Rattle.wm_decode.specs.exact.ExpressionSteps.{after_reading}
 use Rattle.wm_decode.specs.exact.ShortSteps.{StepsTo, PartMayRunOut, part_event, part_taken}
 use Rattle.wm_decode.specs.exact.Live.{Live, MayRunOutAtByte, MayRunOutAtEvent, live_from, event_effect, decoder_after, ByteRefused}
 use Rattle.wm_decode.proofs.OpLists.{is_alone}
@@ -58,40 +53,6 @@ last_steps (suc l) more depth c q r eq ec ed em less er = λ p f n.
     ∙ (last_end p f n l
     ∙ (ap (λ y. (machine.Section section_kind.Code f n y (at.EntrySize fresh), event.Complete (plain.BodyOp op.End))) one
     ∙ ap (λ y. (machine.Section section_kind.Code f n (suc l - 1) (at.EntrySize y), event.Complete (plain.BodyOp op.End))) (sym er))))))
-
--- the last byte of a label, where another comes
-done_label : (depth l n : ℕ) (x : Step ℕ × Partial) → x.0 ≡ step.Done n
-    → on_answer x (λ s. (expression.Label depth (suc l) s, None)) (λ k. (expression.Label depth l fresh, Some (op.Label k))) (expression_failed why.BadNumber)
-    ≡ (expression.Label depth l fresh, Some (op.Label n))
-done_label depth l n (step.Done k, s) e = let same : k ≡ n = cc in ap (λ y. (expression.Label depth l fresh, Some (op.Label y))) same
-done_label depth l n (step.More, s) e = cc
-done_label depth l n (step.Bad, s) e = cc
-
-one_label : (p : Profile) (of : SectionKind) (f m left rest depth l n c : ℕ) (r : Partial) → (unsigned_push 32 r c).0 ≡ step.Done n
-    → step_of p (machine.Section of f (suc m) left (at.Entry (suc rest) (entry.Body (expression.Label depth (suc l) r)))) c
-    ≡ (machine.Section of f m left (at.Entry rest (entry.Body (expression.Label depth l fresh))), event.Complete (plain.BodyOp (op.Label n)))
-one_label p of f m left rest depth l n c r e =
-    ap (λ y. (machine_in_member of f (suc m) left (member_in_entry (suc rest) (entry_after_op y.0)), op_event plain.BodyOp y.1)) (done_label depth l n (unsigned_push 32 r c) e)
-
--- the same for what the code knows
-pub label_steps : (p : Profile) (m : Machine) (of : SectionKind) (f more left rest depth labels n c : ℕ) (q : InMember) (x : InEntry) (y : InExpression) (r s : Partial)
-    → m ≡ machine.Section of f more left q → q ≡ at.Entry rest x → x ≡ entry.Body y → y ≡ expression.Label depth labels r → 0 < more → 0 < rest → 0 < labels
-    → (unsigned_push 32 r c).0 ≡ step.Done n → s ≡ fresh
-    → step_of p m c
-    ≡ (machine.Section of f (more - 1) left (at.Entry (rest - 1) (entry.Body (expression.Label depth (labels - 1) s))), event.Complete (plain.BodyOp (op.Label n)))
-label_steps p m of f zero left rest depth labels n c q x y r s em eq ex ey a b d e es = absurd (omega arith)
-label_steps p m of f (suc more) left zero depth labels n c q x y r s em eq ex ey a b d e es = absurd (omega arith)
-label_steps p m of f (suc more) left (suc rest) depth zero n c q x y r s em eq ex ey a b d e es = absurd (omega arith)
-label_steps p m of f (suc more) left (suc rest) depth (suc l) n c q x y r s em eq ex ey a b d e es =
-    let u : more ≡ suc more - 1 = omega arith in
-    let v : rest ≡ suc rest - 1 = omega arith in
-    let w : l ≡ suc l - 1 = omega arith in
-    ap (λ z. step_of p z c) (em ∙ ap (machine.Section of f (suc more) left) (eq ∙ ap (at.Entry (suc rest)) (ex ∙ ap entry.Body ey)))
-    ∙ (one_label p of f more left rest depth l n c r e
-    ∙ (ap (λ z. (machine.Section of f z left (at.Entry rest (entry.Body (expression.Label depth l fresh))), event.Complete (plain.BodyOp (op.Label n)))) u
-    ∙ (ap (λ z. (machine.Section of f (suc more - 1) left (at.Entry z (entry.Body (expression.Label depth l fresh))), event.Complete (plain.BodyOp (op.Label n)))) v
-    ∙ (ap (λ z. (machine.Section of f (suc more - 1) left (at.Entry (suc rest - 1) (entry.Body (expression.Label depth z fresh))), event.Complete (plain.BodyOp (op.Label n)))) w
-    ∙ ap (λ z. (machine.Section of f (suc more - 1) left (at.Entry (suc rest - 1) (entry.Body (expression.Label depth (suc l - 1) z))), event.Complete (plain.BodyOp (op.Label n)))) (sym es)))))
 
 -- one byte, after which the section goes on
 module _ {H : Type 0} (after : H → Item → Result H Why) (p : Profile) (limit : ℕ) where

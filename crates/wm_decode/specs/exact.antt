@@ -1,5 +1,6 @@
 -- Exact answers of functions, refusals included. They follow the code for the layers above, and need not be believed.
 pub mod ExpressionSteps
+pub mod Indices
 pub mod Live
 pub mod MemberSteps
 pub mod Members

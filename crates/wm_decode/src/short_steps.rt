@@ -1,16 +1,14 @@
-//! One byte of function types or indices, or of a code entry's head, labels or last `end`: what the byte step makes of
-//! it, by a shorter way.
+//! One byte of function types, or of a code entry's head or last `end`: what the byte step makes of it, by a shorter way.
 //!
 //! What ends a section or is refused for its bytes is left to the byte step.
 
 ghost use Rattle.std.specs.Prelude.{◌≡◌, ◌-◌, ◌<◌, IfSome};
-ghost use Rattle.wm_syntax.specs.exact.Reading.{unsigned_push};
 ghost use Rattle.wm_decode.specs.exact.ShortSteps.{StepsTo, standing};
 
 use crate::entry_step::runs_or_body;
 use crate::expressions::InExpression;
 use crate::machine::{Machine, Plain};
-use crate::member::{InEntry, InMember, IndexOf, SectionKind};
+use crate::member::{InEntry, InMember, SectionKind};
 use crate::ops::InOp;
 use crate::type_step::after_param;
 use crate::values::{InRun, value_type};
@@ -65,30 +63,6 @@ impl Place {
             at,
         })
     }
-}
-
-/// In the index of a function's type
-#[inline(always)]
-pub(crate) fn function_byte(left: u32, of: IndexOf, mut number: Num32, byte: u8) -> Option<Stepped>
-    ensures { IfSome result (λ s. StepsTo SectionKind.Function left (InMember.Index of number) byte s) }
-{
-    let IndexOf::Function = of else {
-        return None;
-    };
-    let Step::Done(index) = number.push(byte) else {
-        return None;
-    };
-    if left == 0 {
-        return None;
-    }
-    Some(Stepped {
-        left: left - 1,
-        at: InMember::Index {
-            of: IndexOf::Function,
-            number: Num32::new(),
-        },
-        part: Some(Plain::Function(index)),
-    })
 }
 
 /// In the size of a code entry
@@ -240,30 +214,6 @@ pub(crate) fn short_run(
     };
     let ended = local_type_byte(left, more - 1, runs, count, second)?;
     Some((begun, ended))
-}
-
-/// The label of a br_table that ends with this byte, where bytes of the section and of the entry come after it, and
-/// another label.
-#[inline(always)]
-pub(crate) fn next_label(
-    more: u32,
-    rest: u32,
-    labels: u32,
-    mut number: Num32,
-    byte: u8,
-) -> Option<u32>
-    ensures more { IfSome result (λ n. 0 < more) }
-    ensures rest { IfSome result (λ n. 0 < rest) }
-    ensures labels { IfSome result (λ n. 0 < labels) }
-    ensures number { IfSome result (λ n. (unsigned_push 32 number byte).0 ≡ Step.Done n) }
-{
-    if more == 0 || rest == 0 || labels == 0 {
-        return None;
-    }
-    match number.push(byte) {
-        Step::Done(label) => Some(label),
-        _ => None,
-    }
 }
 
 // The last byte of an entry, where another comes after it

@@ -441,6 +441,7 @@ fn cut_in_two_at_every_place(rt: HostRuntime) -> Result<(), Fail> {
         after_header(alloc, &ADDING)?,
         after_header(alloc, &DATA)?,
         after_header(alloc, &ENTRIES)?,
+        after_header(alloc, &INDICES)?,
     ] {
         let whole = seen_in(alloc, &bytes, 1000)?;
         for cut in 0..=bytes.len() {
@@ -451,6 +452,54 @@ fn cut_in_two_at_every_place(rt: HostRuntime) -> Result<(), Fail> {
             let seen = decoder.finish()?.seen;
             assert_eq!(rt; seen.as_slice(), whole.as_slice(), "cut at {cut}");
         }
+    }
+    Ok(())
+}
+
+// Types of functions, functions of an element segment and labels of a br_table; in each list an index of two bytes.
+const INDICES: [u8; 46] = [
+    0x03, 0x06, 0x04, 0x00, 0x01, 0x81, 0x00, 0x02, // types
+    0x09, 0x0D, 0x01, 0x00, 0x41, 0x00, 0x0B, 0x06, 0x04, 0x03, 0x02, 0x81, 0x00, 0x01, 0x00, 0x0A,
+    0x15, 0x04, 0x0A, 0x00, 0x0E, 0x04, 0x00, 0x01, 0x82, 0x00, 0x03, 0x00, 0x0B, // labels
+    0x02, 0x00, 0x0B, 0x02, 0x00, 0x0B, 0x02, 0x00, 0x0B,
+];
+
+const IN_INDICES: [Seen; 27] = [
+    Seen::Func(0),
+    Seen::Func(1),
+    Seen::Func(1),
+    Seen::Func(2),
+    Seen::Elem(0),
+    Seen::ConstOp(Op::Simple(Simple::I32Const(0))),
+    Seen::ConstOp(Op::End),
+    Seen::ElemFunc(4),
+    Seen::ElemFunc(3),
+    Seen::ElemFunc(2),
+    Seen::ElemFunc(1),
+    Seen::ElemFunc(1),
+    Seen::ElemFunc(0),
+    Seen::Body,
+    Seen::Op(Op::BrTable(4)),
+    Seen::Op(Op::Label(0)),
+    Seen::Op(Op::Label(1)),
+    Seen::Op(Op::Label(2)),
+    Seen::Op(Op::Label(3)),
+    Seen::Op(Op::Label(0)),
+    Seen::Op(Op::End),
+    Seen::Body,
+    Seen::Op(Op::End),
+    Seen::Body,
+    Seen::Op(Op::End),
+    Seen::Body,
+    Seen::Op(Op::End),
+];
+
+#[test]
+fn indices_of_one_byte_and_of_two(rt: HostRuntime) -> Result<(), Fail> {
+    let bytes = after_header(rt.alloc(), &INDICES)?;
+    for size in SIZES {
+        let seen = seen_in(rt.alloc(), &bytes, size)?;
+        assert_eq!(rt; seen.as_slice(), &IN_INDICES[..], "in pieces of {size}");
     }
     Ok(())
 }

@@ -18,7 +18,7 @@ use Rattle.wm_read.specs.declared.field_words.FieldKind.{FieldKind}
 use Rattle.wm_read.specs.declared.field_words.FieldKind.TheVariants as kind
 use Rattle.wm_read.specs.exact.Reading.{atom_at, id_at, index_of, labels_at, then_at}
 use Rattle.wm_read.specs.exact.TypeUses.{begins_open}
-use Rattle.wm_read.specs.exact.Heads.{signature_at}
+use Rattle.wm_read.specs.exact.Signatures.{signature_at}
 use Rattle.wm_read.specs.exact.FieldTypes.{limits_at, table_type_at, global_type_at}
 use Rattle.wm_read.specs.exact.Fields.{field_word, field_named, name_at, bytes_at, const_at, offset_at, desc_at, item_at, function_at, inside_at, field_at, fields_at}
 use Rattle.wm_read.proofs.FieldParts.{headed_sound, headed_complete, with_found, name_sound, name_complete, bytes_sound, bytes_complete, const_sound, const_complete, offset_sound, offset_complete, desc_sound, desc_complete, item_sound, item_complete, indices_sound, indices_complete, number_not_id, table_not_id, type_not_id, use_not_id, close_number}

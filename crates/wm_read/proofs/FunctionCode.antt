@@ -1,6 +1,6 @@
 -- Functions as the code reads them.
-use Rattle.std.proofs.Common.{◌≡◌, ℕ, ◌<◌, ◌≤◌, ◌+◌, Bool, true, false, cond, List, [], ◌∷◌, ◌++◌, length, replicate, Option, Some, None, refl, sym, ap, subst, ◌∙◌, arith, append_assoc, length-append}
-use Rattle.std.specs.Prelude.{MatchOption, nat_lt, ◌&&◌, ◌^◌}
+use Rattle.std.proofs.Common.{◌≡◌, ℕ, ◌<◌, ◌≤◌, ◌+◌, Bool, true, false, cond, List, [], ◌∷◌, ◌++◌, length, replicate, Option, Some, None, refl, sym, ap, subst, ◌∙◌, arith, append_assoc, inl, inr, length-append}
+use Rattle.std.specs.Prelude.{MatchOption, nat_lt, ◌&&◌, ◌^◌, ◌⊎◌}
 use Rattle.std.proofs.lemmas.Bool.{and_from, and_left, cond-false, cond-true, le-ltb, lt-ltb}
 use Rattle.std.proofs.lemmas.List.{append-nil, map-append}
 use Rattle.wm_syntax.specs.declared.types.ValType.{ValType}
@@ -203,5 +203,13 @@ repeated_fails p names x ps ls rs v w k j e h b r c =
     fails_carried v w (function_at p names k) c
     (subst (λ (z : TextWhy). Fails z (function_at p names k)) (sym r)
     (function_again p names x ps ls k j e (ap (λ (z : List Named). all_new [] (ids_of (ps ++ z))) (sym b) ∙ h)))
+
+pub many_fails : (p : Profile) (names : Names) (x : ℕ) (ps ls rs : List Named) (v w : TextWhy) (k j : List Token) → head_at names k ≡ Some (((x, ps), ls), j) → rs ≡ ls
+    → (v ≡ why.Memory) ⊎ ((v ≡ why.TooManyLocals) × (2 ^ 32 ≤ length (types_of rs))) → (IsRefusal w → IsRefusal v) → Fails w (function_at p names k)
+many_fails p names x ps ls rs v w k j e b (inl m) c = fails_carried v w (function_at p names k) c (subst (λ (z : TextWhy). Fails z (function_at p names k)) (sym m) tt)
+many_fails p names x ps ls rs v w k j e b (inr m) c =
+    fails_carried v w (function_at p names k) c
+    (subst (λ (z : TextWhy). Fails z (function_at p names k)) (sym m.0)
+    (function_many p names x ps ls k j e (subst (λ (z : List Named). 2 ^ 32 ≤ length (types_of z)) b m.1)))
 
 pub ruleset function_laws = (fails_carried, head_none, function_form, function_again, function_many, function_no_body, function_found)

@@ -18,7 +18,7 @@ use Rattle.wm_read.specs.Written.{Word, Paren, Number, WritesType, Named, Writes
 use Rattle.wm_read.specs.Fields.{Field, type_field, import_field, function_field, table_field, memory_field, global_field, export_field, start_field, element_field, segment_field, WritesName, WritesSignature, WritesMax, WritesLimits, WritesTableType, WritesGlobalType, WritesConst, WritesDesc, WritesExport, WritesOffset, WritesStrings, WritesField}
 use Rattle.wm_read.specs.exact.Fields.{is_new, name_at, space_of}
 use Rattle.wm_read.specs.exact.FirstReading.{Noted, with_item, with_type, free_id_at, skip, type_head_at, desc_head_at, import_head_at, item_head_at, head_by, head_at, heads_within, heads_at}
-use Rattle.wm_read.specs.exact.Heads.{signature_at}
+use Rattle.wm_read.specs.exact.Signatures.{signature_at}
 use Rattle.wm_read.specs.exact.Reading.{Reader, ◌>>=◌, close_at, id_at}
 use Rattle.wm_read.specs.exact.TypeUses.{begins_open}
 use Rattle.wm_read.proofs.Atoms.{magnitude_more}

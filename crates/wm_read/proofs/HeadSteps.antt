@@ -12,7 +12,7 @@ use Rattle.wm_read.specs.declared.field_words.FieldKind.{FieldKind}
 use Rattle.wm_read.specs.declared.field_words.FieldKind.TheVariants as field
 use Rattle.wm_read.specs.exact.Fields.{field_named, is_new, item_named, name_at, space_of}
 use Rattle.wm_read.specs.exact.FirstReading.{Noted, with_item, with_type, free_id_at, skip, type_head_at, desc_head_at, import_head_at, item_head_at, start_head_at, other_head_at, head_by, head_at, heads_within, heads_at, names_in}
-use Rattle.wm_read.specs.exact.Heads.{signature_at}
+use Rattle.wm_read.specs.exact.Signatures.{signature_at}
 use Rattle.wm_read.specs.exact.Reading.{Reader, ◌>>=◌, open_at, close_at, atom_at, id_at}
 use Rattle.wm_read.specs.exact.TypeUses.{begins_open}
 use Rattle.wm_read.proofs.Basics.{chosen, same_some}

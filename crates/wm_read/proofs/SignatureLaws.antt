@@ -7,7 +7,7 @@ use Rattle.wm_read.specs.Tokens.{Token, open_paren, close_paren, string, atom}
 use Rattle.wm_read.specs.Written.{Named, Paren, WritesGroups, WritesResults}
 use Rattle.wm_read.specs.Fields.{WritesSignature}
 use Rattle.wm_read.specs.exact.Reading.{Reader, then_at, paren_at}
-use Rattle.wm_read.specs.exact.Heads.{signature_of, signature_at}
+use Rattle.wm_read.specs.exact.Signatures.{signature_of, signature_at}
 use Rattle.wm_read.specs.exact.NamedUses.{results_at}
 use Rattle.wm_read.specs.exact.TypeUses.{begins_group, named_at}
 use Rattle.wm_read.proofs.Readers.{Sound, Complete, Any, Both, BeginsClose, made_sound, made_is, paren_sound, paren_complete, then_sound, then_complete}

@@ -2,9 +2,9 @@
 pub mod FieldTypes
 pub mod Fields
 pub mod FirstReading
-pub mod Heads
 pub mod NamedUses
 pub mod Reading
 pub mod Scan
+pub mod Signatures
 pub mod TextModules
 pub mod TypeUses

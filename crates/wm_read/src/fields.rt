@@ -86,7 +86,7 @@ fn export<'a>(
 }
 
 /// The functions of an element segment.
-#[tactic(auto, using(crate::proofs::Tables::table_laws, crate::proofs::FieldCode::atom_shrinks))]
+#[tactic(auto, using(crate::proofs::Tables::labels_laws, crate::proofs::FieldCode::atom_shrinks))]
 fn indices<'a>(
     alloc: Global,
     space: &Space,

@@ -14,11 +14,11 @@ use crate::bodies::read_body;
 use crate::faults::{TextFault, TextWhy};
 use crate::identifiers::{Names, Scope, Space, is_new};
 use crate::lexeme::{Lexeme, next_token, skip_space};
-use crate::literals::is_id;
+use crate::literals::{is, is_id};
 use crate::named;
 use crate::named::Named;
 use crate::named_uses::{NamedUse, Params, named_use};
-use crate::operands::refuse;
+use crate::operands::{named_type, refuse};
 use crate::type_uses::{no_form, type_index};
 use std::alloc::{AllocError, Global};
 use wm_syntax::locals::Locals;
@@ -121,16 +121,24 @@ fn read_head<'n, 'a>(
     ensures { Reads (λ x. (((x.0.index, params_of x.0.params), named_list x.1.items), lexed x.2.now)) result
         (head_at (names_of names.now) (lexed text.now)) }
 {
-    let (used, rest) = named_use(alloc, names, text)?;
+    let (used, rest) = named_use(alloc, names, true, text)?;
     let (locals, rest) = named::groups(alloc, b"local", rest)?;
     Ok((used, locals, rest))
 }
 
-/// The fault of the first identifier that comes again, among the tokens that more than so many bytes are left at.
-fn repeated(alloc: Global, text: &[u8], left: usize) -> Result<Option<TextFault>, AllocError>
-    ensures { IfOk result (λ o. IfSome o (λ e. e.why ≡ RepeatedId)) }
+/// The first fault among the tokens of parameters and locals that more than so many bytes are left at: an identifier that comes
+/// again, or a local after the `most` that there may be.
+fn earlier(
+    alloc: Global,
+    text: &[u8],
+    left: usize,
+    most: usize,
+) -> Result<Option<TextFault>, AllocError>
+    ensures { IfOk result (λ o. IfSome o (λ e. (e.why ≡ RepeatedId) ⊎ (e.why ≡ TooManyLocals))) }
 {
     let mut seen = Space::new(alloc);
+    let mut in_locals = false;
+    let mut room = most;
     let mut rest = text;
     loop {
         match next_token(rest) {
@@ -143,6 +151,13 @@ fn repeated(alloc: Global, text: &[u8], left: usize) -> Result<Option<TextFault>
                         return Ok(Some(refuse(TextWhy::RepeatedId, rest)));
                     }
                     seen.push(Some(atom))?;
+                } else if is(atom, b"local") {
+                    in_locals = true;
+                } else if in_locals && named_type(atom).is_some() {
+                    if room == 0 {
+                        return Ok(Some(refuse(TextWhy::TooManyLocals, rest)));
+                    }
+                    room -= 1;
                 }
                 rest = more;
             }
@@ -152,8 +167,8 @@ fn repeated(alloc: Global, text: &[u8], left: usize) -> Result<Option<TextFault>
     }
 }
 
-/// An identifier that comes again is a fault before this one, where it stands before it. The text begins with the type
-/// use.
+/// An identifier that comes again is a fault before this one, and so is a local too many, where it stands before it. The text
+/// begins with the type use.
 fn first_fault(alloc: Global, names: &Names, fault: TextFault, text: &[u8]) -> TextFault
     ensures { IsRefusal result.why → IsRefusal fault.why }
 {
@@ -163,7 +178,7 @@ fn first_fault(alloc: Global, names: &Names, fault: TextFault, text: &[u8]) -> T
     let Ok((_, rest)) = type_index(&names.types, text) else {
         return fault;
     };
-    match repeated(alloc, rest, fault.left) {
+    match earlier(alloc, rest, fault.left, 0xFFFF_FFFF) {
         Ok(Some(other)) => other,
         Ok(None) => fault,
         Err(_) => TextFault {
@@ -201,18 +216,17 @@ pub fn function<'a>(
             return Err(first_fault(alloc, names, fault, text));
         }
     };
-    let types = local_types(alloc, &locals, rest)?;
-    match read_body(alloc, profile, &scope, rest) {
-        Ok((body, rest)) => {
-            let function = Function {
-                type_index: used.index,
-                locals: types,
-                body,
-            };
-            Ok((function, rest))
-        }
-        Err(fault) => Err(fault),
-    }
+    let types = match local_types(alloc, &locals, rest) {
+        Ok(types) => types,
+        Err(fault) => return Err(first_fault(alloc, names, fault, text)),
+    };
+    let (body, rest) = read_body(alloc, profile, &scope, rest)?;
+    let function = Function {
+        type_index: used.index,
+        locals: types,
+        body,
+    };
+    Ok((function, rest))
 }
 
 #[cfg(test)]

@@ -27,7 +27,7 @@ fn desc_type<'a>(
 {
     match kind {
         ExportKind::Func => {
-            let (used, rest) = named_use(alloc, names, text)?;
+            let (used, rest) = named_use(alloc, names, false, text)?;
             Ok((ImportDesc::Func(used.index), rest))
         }
         ExportKind::Table => {

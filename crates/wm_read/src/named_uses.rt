@@ -7,13 +7,15 @@ ghost use Rattle.wm_read.specs.exact.NamedUses as uses;
 ghost use Rattle.wm_read.specs.exact.Scan.{lexed};
 ghost use Rattle.wm_read.specs.inner.Blocks.{names_of};
 ghost use Rattle.wm_read.specs.inner.Named.{named_list, params_of};
-ghost use Rattle.wm_read.specs.inner.Views.{Reads};
+ghost use Rattle.wm_read.specs.inner.Views.{IsRefusal, Reads};
 
 use crate::faults::{TextFault, TextWhy};
 use crate::identifiers::Names;
 use crate::named;
 use crate::named::Named;
-use crate::type_uses::{fits, groups, nothing, refuse_index, type_at, type_index};
+use crate::type_uses::{
+    begins_group, fits, groups, no_form, nothing, refuse_index, type_at, type_index,
+};
 use std::alloc::{AllocError, Global};
 use wm_syntax::types::{FuncType, ValType};
 
@@ -65,12 +67,27 @@ fn used<'n, 'a>(
     }
 }
 
-/// `( type idx )`, parameters and results, as many as stand first. Parameters and results that are not those of the type
-/// are a fault at the index.
+/// The fault of a use whose parameters or results are not its type's, from the text of the use and the text after it: a wrong
+/// form that stands there, or the index. Locals are no wrong form where they may stand.
+fn misfit(locals: bool, text: &[u8], rest: &[u8]) -> TextFault
+    ensures { IsRefusal result.why }
+{
+    if locals && begins_group(b"local", rest) {
+        return refuse_index(TextWhy::TypeUse, text);
+    }
+    match no_form(rest) {
+        Ok(()) => refuse_index(TextWhy::TypeUse, text),
+        Err(fault) => fault,
+    }
+}
+
+/// `( type idx )`, parameters and results, as many as stand first; `locals` tells whether locals may follow. Parameters and
+/// results that are not those of the type are a fault at the index, unless a wrong form follows.
 #[tactic(auto, using(crate::proofs::NamedUses::named_laws))]
 pub fn named_use<'n, 'a>(
     alloc: Global,
     names: &'n Names,
+    locals: bool,
     text: &'a [u8],
 ) -> Result<(NamedUse<'n, 'a>, &'a [u8]), TextFault>
     ensures { Reads (λ x. ((x.0.index, params_of x.0.params), lexed x.1.now)) result
@@ -83,10 +100,31 @@ pub fn named_use<'n, 'a>(
             let (results, rest) = groups(alloc, b"result", rest)?;
             match used(alloc, ty, params, &results)? {
                 Some(params) => Ok((NamedUse { index, params }, rest)),
-                None => Err(refuse_index(TextWhy::TypeUse, text)),
+                None => Err(misfit(locals, text, rest)),
             }
         }
         None => Err(refuse_index(TextWhy::TypeUse, text)),
+    }
+}
+
+/// The fault of a call_indirect's type use, which was refused so. Whole forms that are not those of the type are a fault at the
+/// index; else the first identifier of a parameter is one, unless a wrong token stands before it.
+pub(crate) fn call_fault(alloc: Global, names: &Names, fault: TextFault, text: &[u8]) -> TextFault
+    ensures { IsRefusal result.why → IsRefusal fault.why }
+{
+    if fault.why == TextWhy::Memory {
+        return fault;
+    }
+    let with_ids = match named_use(alloc, names, false, text) {
+        Ok((_used, rest)) => no_form(rest),
+        Err(other) => Err(other),
+    };
+    match with_ids {
+        Err(other) if other.why == TextWhy::Memory || other.left >= fault.left => other,
+        _ => TextFault {
+            why: TextWhy::TypeUse,
+            left: fault.left,
+        },
     }
 }
 

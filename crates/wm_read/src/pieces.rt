@@ -1,6 +1,6 @@
 //! Pieces of a body: an instruction, or what opens, divides or closes a block.
 
-ghost use Rattle.std.specs.Prelude.{◌≡◌, Some, IfOk, length};
+ghost use Rattle.std.specs.Prelude.{◌≡◌, ◌≤◌, Some, IfOk, length};
 ghost use Rattle.wm_read.specs.exact.Scan.{lexed};
 ghost use Rattle.wm_read.specs.inner.Blocks.{names_of, scope_of};
 ghost use Rattle.wm_read.specs.exact.TypeUses.{call_use_at};
@@ -16,6 +16,7 @@ use crate::faults::{TextFault, TextWhy};
 use crate::identifiers::{Names, Scope};
 use crate::lexeme::{Lexeme, next_token};
 use crate::literals::{is_float, is_word};
+use crate::named_uses::call_fault;
 use crate::operands::{
     access, again, begins_index, block_type, id, index, integer_32, integer_64, label, refuse,
 };
@@ -63,6 +64,31 @@ fn store(op: StoreOp, text: &[u8]) -> Result<(Simple, &[u8]), TextFault>
     Ok((Simple::Store(op, at), rest))
 }
 
+/// Labels, as many as stand first. One after the `most` that there may be is a fault.
+#[tactic(auto, using(crate::proofs::Tables::few_laws))]
+fn labels<'a>(
+    alloc: Global,
+    blocks: &OpenBlocks,
+    most: usize,
+    text: &'a [u8],
+) -> Result<(Vec<u32>, &'a [u8]), TextFault>
+    ensures few { IfOk result (λ x. length x.0.items ≤ most) }
+    ensures read { Reads (λ x. (x.0.items, lexed x.1.now)) result
+        (reading.few_labels_at (flat.labels blocks.now) most (lexed text.now)) }
+{
+    let mut labels = Vec::new(alloc);
+    let mut rest = text;
+    while begins_index(rest) {
+        if labels.len() >= most {
+            return Err(refuse(TextWhy::Expected, rest));
+        }
+        let (l, more) = label(blocks, rest)?;
+        labels.push(l)?;
+        rest = more;
+    }
+    Ok((labels, rest))
+}
+
 /// Labels, of which the last is the default.
 #[tactic(auto, using(crate::proofs::Tables::table_laws))]
 fn table<'a>(
@@ -74,21 +100,9 @@ fn table<'a>(
     ensures read { Reads (λ x. (piece_of x.0, lexed x.1.now)) result
         (reading.table_at (flat.labels blocks.now) (lexed text.now)) }
 {
-    let mut labels = Vec::new(alloc);
-    let mut rest = text;
-    while begins_index(rest) {
-        let (l, more) = label(blocks, rest)?;
-        labels.push(l)?;
-        rest = more;
-    }
+    let (mut labels, rest) = labels(alloc, blocks, 0x1_0000_0000, text)?;
     match labels.pop() {
-        Some(default) => {
-            if labels.len() < 0x1_0000_0000 {
-                Ok((Piece::Table(labels, default), rest))
-            } else {
-                Err(refuse(TextWhy::Expected, rest))
-            }
-        }
+        Some(default) => Ok((Piece::Table(labels, default), rest)),
         None => Err(refuse(TextWhy::Expected, rest)),
     }
 }
@@ -205,8 +219,10 @@ fn indirect<'a>(
     ensures read { Reads (λ x. (piece_of x.0, lexed x.1.now)) result
         (reading.simple_at Simple.CallIndirect (call_use_at (names_of names.now)) (lexed text.now)) }
 {
-    let (x, rest) = type_use(alloc, names, text)?;
-    Ok((Piece::Plain(Simple::CallIndirect(x)), rest))
+    match type_use(alloc, names, text) {
+        Ok((x, rest)) => Ok((Piece::Plain(Simple::CallIndirect(x)), rest)),
+        Err(fault) => Err(call_fault(alloc, names, fault, text)),
+    }
 }
 
 /// The piece that begins with this word, which stands first in `here`, before `text`.
@@ -246,3 +262,6 @@ pub fn read_piece<'a>(
         }
     }
 }
+
+#[cfg(test)]
+mod tests;

@@ -1,7 +1,7 @@
 //! The type of a type field (section 6.4.3).
 
 ghost use Rattle.std.specs.Prelude.{◌≡◌};
-ghost use Rattle.wm_read.specs.exact.Heads.{signature_at};
+ghost use Rattle.wm_read.specs.exact.Signatures.{signature_at};
 ghost use Rattle.wm_read.specs.exact.Scan.{lexed};
 ghost use Rattle.wm_read.specs.inner.Views.{Reads};
 
@@ -14,7 +14,7 @@ use std::alloc::Global;
 use wm_syntax::types::FuncType;
 
 /// `( func param* result* )`. Identifiers of parameters are allowed, and mean nothing.
-#[tactic(auto, unfolding(crate::specs::exact::Heads::signature_at, crate::specs::exact::NamedUses::results_at))]
+#[tactic(auto, unfolding(crate::specs::exact::Signatures::signature_at, crate::specs::exact::NamedUses::results_at))]
 pub fn signature(alloc: Global, text: &[u8]) -> Result<(FuncType, &[u8]), TextFault>
     ensures { Reads (λ x. (x.0, lexed x.1.now)) result (signature_at (lexed text.now)) }
 {

@@ -11,20 +11,18 @@ ghost use Rattle.wm_read.specs.inner.Views.{IsRefusal, Reads};
 use crate::faults::{TextFault, TextWhy};
 use crate::identifiers::{Names, Space};
 use crate::lexeme::{Lexeme, next_token};
-use crate::literals::{is, is_float, is_id};
+use crate::literals::{is, is_float};
 use crate::operands::{close, index, named_type, open, refuse, word};
 use std::alloc::Global;
 use wm_syntax::equality::same_list;
 use wm_syntax::types::{FuncType, ValType};
 
-/// What is wrong with an atom, the first token of a text, where a type without an identifier is expected.
+/// What is wrong with an atom, the first token of a text, where a type is expected.
 fn no_type(atom: &[u8], text: &[u8]) -> TextFault
     ensures { IsRefusal result.why }
 {
     if is_float(atom) {
         refuse(TextWhy::Float, text)
-    } else if is_id(atom) {
-        refuse(TextWhy::TypeUse, text)
     } else {
         refuse(TextWhy::Expected, text)
     }

@@ -1,7 +1,8 @@
 //! Numbers as LEB128 (section 5.2.2), read byte by byte.
 
 ghost use Rattle.wm_syntax.specs.Leb128.{FitsBits, Signed, Unsigned};
-ghost use Rattle.std.specs.Prelude.{ℕ, List, [], ◌∷◌, ◌++◌, pos, ◌-ℤ◌, ◌≡◌, ◌+◌, ◌-◌, ◌*◌, ◌^◌, ◌<◌, ◌≤◌, nat_lt, nat_le};
+ghost use Rattle.std.specs.Prelude.{ℕ, List, [], ◌∷◌, ◌++◌, pos, ◌-ℤ◌, ◌≡◌, ◌+◌, ◌-◌, ◌*◌, ◌^◌, ◌<◌, ◌≤◌, ◌↔◌, true, nat_lt, nat_le, length};
+ghost use Rattle.std.specs.List.{prefix_len};
 ghost use Rattle.wm_syntax.specs.Reading.{Answers, IfDone};
 ghost use Rattle.wm_syntax.specs.exact.Reading.{fresh, go_on, last_signed, signed_push, unsigned_push};
 ghost use Rattle.wm_syntax.specs.inner.Numbers.{SignedAfter, UnsignedAfter};
@@ -75,6 +76,12 @@ impl Leb128 {
         ensures fresh { result ≡ fresh }
     {
         Leb128 { low: 0, count: 0 }
+    }
+
+    fn is_new(self) -> bool
+        ensures { (result ≡ true) ↔ (self ≡ fresh) }
+    {
+        self.count == 0
     }
 
     /// A byte that is not the last one.
@@ -242,6 +249,13 @@ impl Num32 {
         Num32 { bytes }
     }
 
+    /// Whether it was given no byte yet.
+    pub fn is_new(&self) -> bool
+        ensures { (result ≡ true) ↔ (self.now ≡ fresh) }
+    {
+        self.bytes.is_new()
+    }
+
     /// Takes the next byte. After `Done` and `Bad` the answer is always `Bad`.
     pub fn push(&mut self, byte: u8) -> Step<u32>
         ensures answers { (before : List ℕ) → UnsignedAfter 32 self.old before
@@ -252,6 +266,14 @@ impl Num32 {
     {
         narrow(self.bytes.push_unsigned(32, byte))
     }
+}
+
+/// How many bytes at the front are below 2^7: each of them is a whole u32 (section 5.2.2).
+pub fn short_front(bytes: &[u8]) -> usize
+    ensures value { result ≡ prefix_len (λ c. nat_lt c (2 ^ 7)) bytes.now }
+    ensures within { result ≤ length bytes.now }
+{
+    bytes.iter().take_while(|b| **b < 0x80).count()
 }
 
 /// Reads one u64 (section 5.2.2), byte by byte, keeping none of the bytes.

@@ -1,27 +1,33 @@
 //! Texts by `build`, in pieces of any size.
 
 use super::modules::bytes_of;
-use super::{HEADER, LIMIT, expect_of, output_of};
+use super::{HEADER, LIMIT, Run, expect_of};
 use crate::status::Status;
 use crate::words::Action;
 use std::alloc::Global;
 use std::process::Abort;
 use std::test::Fail;
+use wm_syntax::profile::Profile;
 
 /// The type section with [] to [], and the function section with one function.
 const NOTHING: &str = "01 04 01 60 00 00";
 
 const ONE: &str = "03 02 01 00";
 
+fn build_of(text: &[u8], limit: u64) -> Run<'_> {
+    Run {
+        action: Action::Build,
+        profile: Profile::One,
+        limit,
+        input: text,
+    }
+}
+
 /// Texts, and the sections of their canonical binaries in hexadecimal digits, after the header.
 fn expect_built(rt: &impl Abort, alloc: Global, rows: &[(&str, &[&str])]) -> Result<(), Fail> {
     for (text, sections) in rows {
         let wanted = bytes_of(alloc, &HEADER, sections)?;
-        for most in [4096, 1, 7] {
-            let (status, written) = output_of(alloc, Action::Build, text.as_bytes(), most, LIMIT);
-            assert_eq!(rt; written.as_slice(), wanted.as_slice(), "of {text}");
-            assert_eq!(rt; status, Status::Done);
-        }
+        build_of(text.as_bytes(), LIMIT).expect(rt, alloc, Status::Done, wanted.as_slice());
     }
     Ok(())
 }
@@ -202,44 +208,5 @@ fn texts_past_the_limit(rt: HostRuntime) {
         7,
         "refused at 8: TooLong\n",
     );
-    for most in [4096, 1, 7] {
-        let (status, written) = output_of(rt.alloc(), Action::Build, text, most, 8);
-        assert_eq!(rt; written.as_slice(), HEADER.as_slice());
-        assert_eq!(rt; status, Status::Done);
-    }
-}
-
-/// What `show` prints is built again, and gives the canonical binary.
-#[test]
-fn printed_texts_give_the_module_back(rt: HostRuntime) -> Result<(), Fail> {
-    let rows: [&[&str]; 3] = [
-        &[],
-        &[
-            "01 07 01 60 02 7F 7F 01 7F",
-            ONE,
-            "0A 09 01 07 00 20 00 20 01 6A 0B",
-        ],
-        &[
-            "01 04 01 60 00 00",
-            "02 07 01 01 61 01 62 00 00",
-            ONE,
-            "04 04 01 70 00 01",
-            "05 03 01 00 01",
-            "06 06 01 7F 01 41 2A 0B",
-            "07 05 01 01 63 00 01",
-            "08 01 01",
-            "09 07 01 00 41 00 0B 01 01",
-            "0A 0B 01 09 01 02 7F 02 40 0C 00 0B 0B",
-            "0B 08 01 00 41 00 0B 02 00 FF",
-        ],
-    ];
-    for sections in rows {
-        let input = bytes_of(rt.alloc(), &HEADER, sections)?;
-        let (status, text) = output_of(rt.alloc(), Action::Show, input.as_slice(), 4096, LIMIT);
-        assert_eq!(rt; status, Status::Done, "of {sections:?}");
-        let (status, built) = output_of(rt.alloc(), Action::Build, text.as_slice(), 4096, LIMIT);
-        assert_eq!(rt; status, Status::Done, "of {sections:?}");
-        assert_eq!(rt; built.as_slice(), input.as_slice());
-    }
-    Ok(())
+    build_of(text, 8).expect(&rt, rt.alloc(), Status::Done, &HEADER);
 }

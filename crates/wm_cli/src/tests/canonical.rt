@@ -1,12 +1,13 @@
 //! Canonical binaries by `canon`, in pieces of any size.
 
 use super::modules::bytes_of;
-use super::{HEADER, LIMIT, output_of};
+use super::{HEADER, LIMIT, Run, expect_of};
 use crate::status::Status;
 use crate::words::Action;
 use std::alloc::Global;
 use std::process::Abort;
 use std::test::Fail;
+use wm_syntax::profile::Profile;
 
 /// The type section with [] to [], and the function section with one function.
 const NOTHING: &str = "01 04 01 60 00 00";
@@ -20,15 +21,16 @@ fn expect_canonical(rt: &impl Abort, alloc: Global, rows: &[Row<'_>]) -> Result<
     for (sections, wanted) in rows {
         let input = bytes_of(alloc, &HEADER, sections)?;
         let wanted = bytes_of(alloc, &HEADER, wanted)?;
-        for most in [4096, 1, 7] {
-            let (status, written) = output_of(alloc, Action::Canon, input.as_slice(), most, LIMIT);
-            assert_eq!(rt; status, Status::Done);
-            assert_eq!(rt; written.as_slice(), wanted.as_slice(), "of {sections:?}");
-        }
         // the canonical binary is its own
-        let (status, again) = output_of(alloc, Action::Canon, wanted.as_slice(), 4096, LIMIT);
-        assert_eq!(rt; status, Status::Done);
-        assert_eq!(rt; again.as_slice(), wanted.as_slice());
+        for input in [input.as_slice(), wanted.as_slice()] {
+            let run = Run {
+                action: Action::Canon,
+                profile: Profile::One,
+                limit: LIMIT,
+                input,
+            };
+            run.expect(rt, alloc, Status::Done, wanted.as_slice());
+        }
     }
     Ok(())
 }
@@ -87,8 +89,12 @@ fn numbers_are_the_shortest(rt: HostRuntime) -> Result<(), Fail> {
 
 #[test]
 fn bodies(rt: HostRuntime) -> Result<(), Fail> {
-    let rows: [Row<'_>; 4] = [
+    let rows: [Row<'_>; 5] = [
         // runs of one type are joined, and runs of none left out
+        (
+            &[NOTHING, ONE, "0A 0A 01 08 03 01 7F 00 7E 02 7F 0B"],
+            &[NOTHING, ONE, "0A 06 01 04 01 03 7F 0B"],
+        ),
         (
             &[
                 "01 05 01 60 00 01 7F",
@@ -139,7 +145,22 @@ fn every_section(rt: HostRuntime) -> Result<(), Fail> {
         "00 02 01 78",
     ];
     let canonical = &sections[..10];
-    expect_canonical(&rt, rt.alloc(), &[(&sections, canonical)])
+    // other kinds of them
+    let others: [&str; 11] = [
+        NOTHING,
+        "02 07 01 01 61 01 62 00 00",
+        ONE,
+        "04 04 01 70 00 01",
+        "05 03 01 00 01",
+        "06 06 01 7F 01 41 2A 0B",
+        "07 05 01 01 63 00 01",
+        "08 01 01",
+        "09 07 01 00 41 00 0B 01 01",
+        "0A 0B 01 09 01 02 7F 02 40 0C 00 0B 0B",
+        "0B 08 01 00 41 00 0B 02 00 FF",
+    ];
+    let rows: [Row<'_>; 2] = [(&sections, canonical), (&others, &others)];
+    expect_canonical(&rt, rt.alloc(), &rows)
 }
 
 #[test]
@@ -154,9 +175,7 @@ fn what_is_refused_is_told_as_by_check(rt: HostRuntime) -> Result<(), Fail> {
         (&["01 05 01 60 00 02 7F"], "refused at 14: Arity\n"),
     ] {
         let input = bytes_of(alloc, &HEADER, sections)?;
-        let (status, written) = output_of(alloc, Action::Canon, input.as_slice(), 3, LIMIT);
-        assert_eq!(rt; status, Status::Refused);
-        assert_eq!(rt; written.as_slice(), wanted.as_bytes());
+        expect_of(&rt, alloc, Action::Canon, input.as_slice(), LIMIT, wanted);
     }
     Ok(())
 }

@@ -1,10 +1,12 @@
 //! Whole modules by `check` and `stats`, in pieces of any size.
 
-use super::{HEADER, LIMIT, expect_of};
+use super::{HEADER, LIMIT, Run, expect_of};
+use crate::status::Status;
 use crate::words::Action;
 use std::alloc::Global;
 use std::process::Abort;
 use std::test::Fail;
+use wm_syntax::profile::Profile;
 
 /// The type section with [] to [], with [] to [i32], and the function section with one function.
 const NOTHING: &str = "01 04 01 60 00 00";
@@ -118,8 +120,12 @@ fn sizes_and_orders_of_sections(rt: HostRuntime) -> Result<(), Fail> {
 
 #[test]
 fn types(rt: HostRuntime) -> Result<(), Fail> {
-    let rows: [Row<'_>; 4] = [
+    let rows: [Row<'_>; 6] = [
         (&["01 04 01 60 00"], "refused at 13: Truncated\n"),
+        // more types than the section has bytes for
+        (&["01 06 FF FF FF FF 0F 60"], "refused at 16: SectionEnd\n"),
+        // the third of four functions has a type that there is not
+        (&[NOTHING, "03 05 04 00 00 01 00"], "refused at 20: Index\n"),
         (&["01 05 01 60 00 02 7F"], "refused at 14: Arity\n"),
         (&["01 05 01 60 01 7D 00"], "refused at 14: Float\n"),
         (&["01 05 01 60 01 70 00"], "refused at 14: BadByte\n"),
@@ -197,7 +203,7 @@ fn segments(rt: HostRuntime) -> Result<(), Fail> {
 
 #[test]
 fn code_entries(rt: HostRuntime) -> Result<(), Fail> {
-    let rows: [Row<'_>; 10] = [
+    let rows: [Row<'_>; 9] = [
         (&[NOTHING, ONE, "0A 04 01 02 00 0B"], "valid\n"),
         (
             &[NOTHING, ONE, "0A 07 02 02 00 0B 02 00 0B"],
@@ -216,15 +222,7 @@ fn code_entries(rt: HostRuntime) -> Result<(), Fail> {
             &[NOTHING, ONE, "0A 04 01 7F 00 01"],
             "refused at 24: SectionEnd\n",
         ),
-        // 2^32 - 1 locals, and one more
-        (
-            &[
-                NOTHING,
-                ONE,
-                "0A 11 01 0F 01 FF FF FF FF 0F 7F 20 FE FF FF FF 0F 1A 0B",
-            ],
-            "valid\n",
-        ),
+        // one local more than 2^32 - 1
         (
             &[
                 NOTHING,
@@ -323,7 +321,7 @@ fn bodies(rt: HostRuntime) -> Result<(), Fail> {
 
 #[test]
 fn figures(rt: HostRuntime) -> Result<(), Fail> {
-    let rows: [Row<'_>; 8] = [
+    let rows: [Row<'_>; 7] = [
         (
             &[],
             "functions 0\nmoves 0\noperands 0\ncontrols 0\nprobes 0\n",
@@ -350,15 +348,6 @@ fn figures(rt: HostRuntime) -> Result<(), Fail> {
             &[NUMBER, ONE, "0A 08 01 06 00 00 0D 00 50 0B"],
             "refused at 28: Type\n",
         ),
-        // the last of 2^32 - 1 locals
-        (
-            &[
-                NOTHING,
-                ONE,
-                "0A 11 01 0F 01 FF FF FF FF 0F 7F 20 FE FF FF FF 0F 1A 0B",
-            ],
-            "functions 1\nmoves 4\noperands 1\ncontrols 1\nprobes 1\n",
-        ),
         // if and else
         (
             &[
@@ -379,4 +368,31 @@ fn figures(rt: HostRuntime) -> Result<(), Fail> {
         ),
     ];
     expect_rows(&rt, rt.alloc(), Action::Stats, &rows)
+}
+
+/// The text of this module has a word for each of the 2^32 - 1 locals, so it is not shown.
+#[test]
+fn as_many_locals_as_may_be(rt: HostRuntime) -> Result<(), Fail> {
+    let sections = [
+        NOTHING,
+        ONE,
+        "0A 11 01 0F 01 FF FF FF FF 0F 7F 20 FE FF FF FF 0F 1A 0B",
+    ];
+    let input = bytes_of(rt.alloc(), &HEADER, &sections)?;
+    for (action, wanted) in [
+        (Action::Check, "valid\n"),
+        (
+            Action::Stats,
+            "functions 1\nmoves 4\noperands 1\ncontrols 1\nprobes 1\n",
+        ),
+    ] {
+        let run = Run {
+            action,
+            profile: Profile::One,
+            limit: LIMIT,
+            input: input.as_slice(),
+        };
+        run.expect_cut(&rt, rt.alloc(), Status::Done, wanted.as_bytes());
+    }
+    Ok(())
 }

@@ -1,31 +1,11 @@
-//! Both profiles, through a line.
+//! Both profiles.
 
 use super::modules::bytes_of;
-use super::{HEADER, LIMIT, Pieces};
-use crate::run::run_line;
-use crate::words::{Action, Line};
-use std::alloc::Global;
+use super::{HEADER, LIMIT, Run};
+use crate::status::Status;
+use crate::words::Action;
 use std::test::Fail;
-use wm_syntax::io::input::Input;
-use wm_syntax::io::output::Output;
 use wm_syntax::profile::Profile;
-
-/// What `wmod ACTION --profile N` writes for this input.
-fn output_of(alloc: Global, action: Action, profile: Profile, input: &[u8]) -> Vec<u8> {
-    let line = Line {
-        action,
-        profile,
-        limit: LIMIT,
-        file: None,
-    };
-    let mut source = Input::new(Pieces {
-        rest: input,
-        most: 5,
-    });
-    let mut dest = Output::new(Vec::new(alloc));
-    let _ = run_line(alloc, &line, &mut source, &mut dest);
-    dest.into_inner()
-}
 
 #[test]
 fn sign_extensions(rt: HostRuntime) -> Result<(), Fail> {
@@ -59,8 +39,18 @@ fn sign_extensions(rt: HostRuntime) -> Result<(), Fail> {
             "0B",
         ];
         let input = bytes_of(alloc, &HEADER, &sections)?;
-        let written = output_of(alloc, action, profile, input.as_slice());
-        assert_eq!(rt; written.as_slice(), wanted.as_bytes(), "{byte}");
+        let ends = if wanted.contains("refused") {
+            Status::Refused
+        } else {
+            Status::Done
+        };
+        let run = Run {
+            action,
+            profile,
+            limit: LIMIT,
+            input: input.as_slice(),
+        };
+        run.expect(&rt, alloc, ends, wanted.as_bytes());
     }
     Ok(())
 }

@@ -1,7 +1,8 @@
 //! The rows of docs/REFUSALS.md: each word that is printed, and an input that gives it.
 
 use super::modules::bytes_of;
-use super::{HEADER, LIMIT, expect};
+use super::{HEADER, LIMIT, expect, expect_of};
+use crate::words::Action;
 use std::alloc::Global;
 use std::process::Abort;
 use std::test::Fail;
@@ -25,6 +26,18 @@ fn expect_refusals(
     Ok(())
 }
 
+/// The word, a text, and the place.
+type TextRow<'a> = (&'a str, &'a [u8], u64);
+
+/// Each word of these is what `build` writes for its text.
+fn expect_text_refusals(rt: &impl Abort, alloc: Global, rows: &[TextRow<'_>]) -> Result<(), Fail> {
+    for (word, text, place) in rows {
+        let line = format!(in alloc; "text refused at {place}: {word}\n")?;
+        expect_of(rt, alloc, Action::Build, text, LIMIT, line.as_str());
+    }
+    Ok(())
+}
+
 #[test]
 fn of_the_header(rt: HostRuntime) -> Result<(), Fail> {
     let rows: [Row<'_>; 2] = [("Magic", "01", 1), ("Version", "00 61 73 6D 02", 5)];
@@ -34,7 +47,15 @@ fn of_the_header(rt: HostRuntime) -> Result<(), Fail> {
 #[test]
 fn past_the_limit(rt: HostRuntime) -> Result<(), Fail> {
     let rows: [Row<'_>; 1] = [("TooLong", "00", 9)];
-    expect_refusals(&rt, rt.alloc(), &HEADER, 8, &rows)
+    expect_refusals(&rt, rt.alloc(), &HEADER, 8, &rows)?;
+    // within the bytes of a custom section
+    let mut input = bytes_of(rt.alloc(), &HEADER, &["00 7F 01 61"])?;
+    for _ in 0..125 {
+        input.push(0x00)?;
+    }
+    let line = "refused at 21: TooLong\n";
+    expect(&rt, rt.alloc(), input.as_slice(), 20, line);
+    Ok(())
 }
 
 #[test]
@@ -95,4 +116,44 @@ fn of_function_bodies(rt: HostRuntime) -> Result<(), Fail> {
         ),
     ];
     expect_refusals(&rt, rt.alloc(), &HEADER, LIMIT, &rows)
+}
+
+#[test]
+fn of_tokens_and_fields(rt: HostRuntime) -> Result<(), Fail> {
+    let rows: [TextRow<'_>; 10] = [
+        ("NotUtf8", b"\x80", 0),
+        ("BadToken", b",", 0),
+        ("OpenComment", b"(;", 2),
+        ("OpenString", b"\"", 1),
+        ("BadEscape", b"\"\\x", 0),
+        ("Expected", b"", 0),
+        ("UnknownWord", b"(module(a", 8),
+        ("ImportPlace", b"(module(func)(import", 14),
+        ("SecondStart", b"(module(start)(start", 15),
+        ("RepeatedId", b"(module(func $a)(func $a", 22),
+    ];
+    expect_text_refusals(&rt, rt.alloc(), &rows)
+}
+
+#[test]
+fn of_what_fields_hold(rt: HostRuntime) -> Result<(), Fail> {
+    let rows: [TextRow<'_>; 8] = [
+        ("BadInteger", b"(module(data -1))", 13),
+        ("BadName", b"(module(import\"\\ff\"", 14),
+        ("UnknownId", b"(module(data $a))", 13),
+        ("TypeUse", b"(module(func(type 0)))", 18),
+        ("NotConst", b"(module(global i32 if))", 19),
+        ("Float", b"(module(global f32))", 15),
+        (
+            "BadAlign",
+            b"(module(type(func))(func(type 0)i32.load align=0))",
+            41,
+        ),
+        (
+            "LabelEnd",
+            b"(module(type(func))(func(type 0)if end $a))",
+            39,
+        ),
+    ];
+    expect_text_refusals(&rt, rt.alloc(), &rows)
 }

@@ -1,8 +1,7 @@
 //! Texts of modules by `show`, in pieces of any size.
 
 use super::modules::bytes_of;
-use super::{HEADER, LIMIT, expect_of, output_of};
-use crate::status::Status;
+use super::{HEADER, LIMIT, expect_of};
 use crate::words::Action;
 use std::alloc::Global;
 use std::process::Abort;
@@ -16,7 +15,7 @@ const ONE: &str = "03 02 01 00";
 /// A memory of one page at least.
 const MEMORY: &str = "05 03 01 00 01";
 
-/// Sections in hexadecimal digits, after the header, and the text.
+/// Sections in hexadecimal digits, after the header, and the text or the refusal.
 fn expect_text(
     rt: &impl Abort,
     alloc: Global,
@@ -127,10 +126,10 @@ fn bytes_of_a_string(rt: HostRuntime) -> Result<(), Fail> {
 
 #[test]
 fn what_is_refused_is_told_as_by_check(rt: HostRuntime) -> Result<(), Fail> {
-    let alloc = rt.alloc();
-    let input = bytes_of(alloc, &HEADER, &[NOTHING, ONE, "0A 05 01 03 00 05 0B"])?;
-    let (status, written) = output_of(alloc, Action::Show, input.as_slice(), 3, LIMIT);
-    assert_eq!(rt; status, Status::Refused);
-    assert_eq!(rt; written.as_slice(), "refused at 24: ElsePlace\n".as_bytes());
-    Ok(())
+    expect_text(
+        &rt,
+        rt.alloc(),
+        &[NOTHING, ONE, "0A 05 01 03 00 05 0B"],
+        "refused at 24: ElsePlace\n",
+    )
 }

@@ -22,7 +22,7 @@ use Rattle.wm_read.specs.declared.field_words.FieldKind.{FieldKind}
 use Rattle.wm_read.specs.declared.field_words.FieldKind.TheVariants as field
 use Rattle.wm_read.specs.exact.Reading.{Reader, ◌>>=◌, made, same_bytes, open_at, close_at, atom_at, then_at, paren_at, many_at, id_at, index_of, place_of, integer_of, labels_at}
 use Rattle.wm_read.specs.exact.FieldTypes.{limits_at, table_type_at, global_type_at}
-use Rattle.wm_read.specs.exact.Heads.{signature_at}
+use Rattle.wm_read.specs.exact.Signatures.{signature_at}
 use Rattle.wm_read.specs.exact.NamedUses.{named_use_at}
 use Rattle.wm_read.specs.exact.TypeUses.{begins_open, instructions_at, named_at}
 

@@ -175,6 +175,10 @@ abbrev pub labels_at : Ids → Reader (List ℕ)
 labels_at ids (atom a ∷ k) = if is_word a then Some ([], atom a ∷ k) else (index_of ids a >>= λ x. labels_at ids k >>= λ xs. Some (x ∷ xs.0, xs.1))
 labels_at ids k = Some ([], k)
 
+-- no more labels than so many
+abbrev pub few_labels_at : Ids → ℕ → Reader (List ℕ)
+few_labels_at ids most k = labels_at ids k >>= λ x. if nat_lt most (length x.0) then None else Some x
+
 abbrev pub table_of : List ℕ → Option Piece
 table_of ls = split_last ls >>= λ r. if nat_lt (length r.0) 0x1_0000_0000 then Some (jump r.0 r.1) else None
 

@@ -304,6 +304,61 @@ fn refusals(rt: HostRuntime) -> Result<(), Fail> {
         (
             "call_indirect (type 1) (param $a i32))",
             TextWhy::TypeUse,
+            20,
+        ),
+        (
+            "call_indirect (type 1) (param $a i32 i64))",
+            TextWhy::TypeUse,
+            30,
+        ),
+        (
+            "call_indirect (type 1) (param $a i32) (param $b i64) (result i64))",
+            TextWhy::TypeUse,
+            30,
+        ),
+        (
+            "call_indirect (type 1) (param i32) (param $b i64) (result i64))",
+            TextWhy::TypeUse,
+            42,
+        ),
+        (
+            "call_indirect (type 1) (param $a i33))",
+            TextWhy::TypeUse,
+            30,
+        ),
+        (
+            "call_indirect (type 1) (param $a i32) (nop))",
+            TextWhy::TypeUse,
+            30,
+        ),
+        (
+            "call_indirect (type 1) (param i33) (param $a i32))",
+            TextWhy::Expected,
+            30,
+        ),
+        (
+            "call_indirect (type 1) (param i32 $a))",
+            TextWhy::Expected,
+            34,
+        ),
+        (
+            "call_indirect (type 1) (param i64) (local))",
+            TextWhy::Expected,
+            36,
+        ),
+        (
+            "call_indirect (type 2) (param $a i32))",
+            TextWhy::TypeUse,
+            20,
+        ),
+        (
+            "call_indirect (type 1) (result $a i64))",
+            TextWhy::Expected,
+            31,
+        ),
+        (
+            "call_indirect (type 1) (param $b i32) (result $a i64))",
+            TextWhy::TypeUse,
             30,
         ),
         ("call_indirect (type 1) (param f32))", TextWhy::Float, 30),

@@ -99,6 +99,22 @@ fn refusals(rt: HostRuntime) -> Result<(), Fail> {
             35,
         ),
         ("(type 1) (local i32) (param))", TextWhy::Expected, 7),
+        ("(type 1) (result i32) (param i32))", TextWhy::Expected, 11),
+        (
+            "(type 1) (param $a i32) (result $a i32))",
+            TextWhy::Expected,
+            8,
+        ),
+        (
+            "(type 1) (param i32) (local i32) (param))",
+            TextWhy::TypeUse,
+            35,
+        ),
+        (
+            "(type 1) (param $a i32) (param $a i32) (result i32) (param))",
+            TextWhy::RepeatedId,
+            29,
+        ),
         ("(type 1) (local f32))", TextWhy::Float, 5),
         ("(type 1) nop (local i32))", TextWhy::Expected, 12),
         ("(type 1) local.get $a)", TextWhy::UnknownId, 3),
@@ -109,6 +125,49 @@ fn refusals(rt: HostRuntime) -> Result<(), Fail> {
             Ok(_) => assert!(rt; false, "{text}"),
             Err(fault) => assert_eq!(rt; fault, TextFault { why, left }, "{text}"),
         }
+    }
+    Ok(())
+}
+
+/// Two locals may stand here, and so a third one is a fault at its type.
+#[test]
+fn too_many_locals(rt: HostRuntime) -> Result<(), Fail> {
+    let too_many = TextWhy::TooManyLocals;
+    for (text, left, wanted) in [
+        (
+            "(param i32 i32 i32) (local i32) (local $a i64)) nop",
+            5,
+            None,
+        ),
+        (
+            "(local i32 i32) (local $a i64) (local)",
+            0,
+            Some((too_many, 12)),
+        ),
+        ("(local i32 i32) (local $a i64) (local)", 12, None),
+        (
+            "(local i32 i32) (local $a i64) (local)",
+            11,
+            Some((too_many, 12)),
+        ),
+        ("(local i32 i64 i32 i32)", 0, Some((too_many, 8))),
+        (
+            "(local $a i32) (local $a i32) (local i32)",
+            0,
+            Some((TextWhy::RepeatedId, 19)),
+        ),
+        (
+            "(local $a i32) (local i32 i32) (local $a i32)",
+            0,
+            Some((too_many, 19)),
+        ),
+    ] {
+        let fault = earlier(rt.alloc(), text.as_bytes(), left, 2)?;
+        assert_eq!(rt;
+            fault,
+            wanted.map(|(why, left)| TextFault { why, left }),
+            "{text}"
+        );
     }
     Ok(())
 }

@@ -59,6 +59,8 @@ fn imports(rt: HostRuntime) -> Result<(), Fail> {
         ("(func (type 0) (local))", TextWhy::Expected, 7),
         ("(func (type 0) nop)", TextWhy::Expected, 4),
         ("(func (type 1))", TextWhy::TypeUse, 3),
+        ("(func (type 0) (param i64))", TextWhy::TypeUse, 15),
+        ("(func (type 0) (result i64) (param))", TextWhy::Expected, 7),
         ("(func $x $y (type 0))", TextWhy::Expected, 12),
         ("(table 1)", TextWhy::Expected, 1),
         ("(memory 1 2 3)", TextWhy::Expected, 2),

@@ -39,7 +39,7 @@ fn expect_use(
     left: &str,
 ) -> Result<(), Fail> {
     let names = names(alloc)?;
-    match named_use(alloc, &names, text.as_bytes()) {
+    match named_use(alloc, &names, true, text.as_bytes()) {
         Ok((read, rest)) => {
             assert_eq!(rt; rest, left.as_bytes());
             assert_eq!(rt; read.index, index);
@@ -96,11 +96,34 @@ fn refusals(rt: HostRuntime) -> Result<(), Fail> {
         ("(type 1) (param $a i32) (result i64)", TextWhy::TypeUse, 30),
         ("(type 1) (param i32 i64)", TextWhy::TypeUse, 18),
         ("(type 1) (result i64)", TextWhy::TypeUse, 15),
+        ("(type 0) (param i32) nop", TextWhy::TypeUse, 18),
+        ("(type 0) (param i32) (local i32)", TextWhy::TypeUse, 26),
+        ("(type 0) (result i32) (param)", TextWhy::Expected, 6),
+        ("(type 0) (param i32) (nop)", TextWhy::Expected, 4),
+        ("(type 0) (param i32) (", TextWhy::Expected, 0),
         ("(type 1) (param $a)", TextWhy::Expected, 1),
         ("(type 1) (result f32)", TextWhy::Float, 4),
+        ("(type 1) (result $a i64)", TextWhy::Expected, 7),
         ("(param i32)", TextWhy::Expected, 10),
     ] {
-        match named_use(alloc, &names, text.as_bytes()) {
+        match named_use(alloc, &names, true, text.as_bytes()) {
+            Ok(_read) => assert!(rt; false, "{text} is read"),
+            Err(fault) => assert_eq!(rt; fault, TextFault { why, left }, "{text}"),
+        }
+    }
+    Ok(())
+}
+
+#[test]
+fn without_locals(rt: HostRuntime) -> Result<(), Fail> {
+    let alloc = rt.alloc();
+    let names = names(alloc)?;
+    for (text, why, left) in [
+        ("(type 0) (param i32))", TextWhy::TypeUse, 15),
+        ("(type 0) (result i32) (param))", TextWhy::Expected, 7),
+        ("(type 0) (param i32) (local i32))", TextWhy::Expected, 11),
+    ] {
+        match named_use(alloc, &names, false, text.as_bytes()) {
             Ok(_read) => assert!(rt; false, "{text} is read"),
             Err(fault) => assert_eq!(rt; fault, TextFault { why, left }, "{text}"),
         }

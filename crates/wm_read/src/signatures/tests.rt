@@ -38,7 +38,7 @@ fn refusals(rt: HostRuntime) {
         ("(function)", TextWhy::Expected, 9),
         ("(func (param f32))", TextWhy::Float, 5),
         ("(func (param $a i32 i32))", TextWhy::Expected, 5),
-        ("(func (result $a i32))", TextWhy::TypeUse, 8),
+        ("(func (result $a i32))", TextWhy::Expected, 8),
         ("(func (result i32) (param i32))", TextWhy::Expected, 11),
         ("(func (local i32))", TextWhy::Expected, 11),
         ("(func i32)", TextWhy::Expected, 4),

@@ -127,3 +127,11 @@ fn any_width(rt: HostRuntime) {
     assert_eq!(rt; reader.push_signed(33, 0x80), Step::More);
     assert_eq!(rt; reader.push_signed(33, 0x7F), Step::Done(-128));
 }
+
+#[test]
+fn short_numbers_at_the_front(rt: HostRuntime) {
+    assert_eq!(rt; short_front(&[0x05, 0x7F, 0x80, 0x01]), 2);
+    assert_eq!(rt; short_front(&[0x80, 0x01]), 0);
+    assert_eq!(rt; short_front(&[0x00, 0x01, 0x02]), 3);
+    assert_eq!(rt; short_front(&[]), 0);
+}

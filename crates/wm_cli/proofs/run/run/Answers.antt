@@ -1,6 +1,6 @@
 -- What was found is what is told.
-use Rattle.std.proofs.Common.{Err, IfSome, inr, refl, subst, sym}
-use Rattle.wm_rules.specs.Reading.{Judges, LoadsFrom}
+use Rattle.std.proofs.Common.{Err, IfSome, ap, subst, sym}
+use Rattle.wm_rules.specs.Reading.{LoadedInput, ValidInput}
 use Rattle.wm_rules.specs.inner.Loaders.{module_in}
 use Rattle.wm_syntax.specs.Values.{value_of}
 use Rattle.wm_write.specs.Canon.{canon}
@@ -8,53 +8,44 @@ use Rattle.wm_write.specs.Layout.{layout}
 use Rattle.wm_cli.specs.Outcome.{IsOutput, IsRightFor}
 use Rattle.wm_cli.specs.Refused.{refusal_line}
 use Rattle.wm_cli.specs.declared.status.Status.TheVariants as status
-use Rattle.wm_cli.proofs.RunLemmas.{IsJudged, line_of_action, out_of_loaded, out_of_refusal, writes_canon, writes_layout}
+use Rattle.wm_cli.proofs.RunLemmas.{IsJudged, out_of_fault, out_of_loaded, writes_canon, writes_layout}
 use Rattle.wm_cli.proofs.run.run.Goals as goal
 
-pub returns-in-Err-Refused-clause-answered : goal.returns-in-Err-Refused-clause-answered
-returns-in-Err-Refused-clause-answered g c = λ o m.
-    let all = g.R.Source.remaining c.args.r.now in
-    let left = g.R.Source.remaining c.validate_from.new.r in
-    let r = c.in-Err-Refused.refusal in
-    let judged = subst IsJudged (sym c.in-Check.is) tt in
-    let refused = c.refuse.ensures.answered m in (
-      refusal_line r.at r.why,
-      status.Refused,
-      inr (line_of_action c.args.action judged r.at r.why refused.0, refl),
-      out_of_refusal c.args.action judged c.args.profile c.args.limit all left r refused.0
-          (subst (λ f. Judges c.args.profile c.args.limit all left (Err f)) c.in-Err-Refused.field-0-is c.in-Err-Refused.ensures.judged),
-      refused.1,
-    )
+pub returns-in-Err-clause-answered : goal.returns-in-Err-clause-answered
+returns-in-Err-clause-answered g c = λ o m.
+    let told = c.answer_fault.ensures.answered (λ e. let failed = c.in-Err.ensures.failed.0 (ap Err e) in cc) m in
+    let r = told.0 in
+    let out =
+    out_of_fault (ValidInput c.args.profile c.args.limit) c.args.action (subst IsJudged (sym c.in-Check.is) tt) c.args.profile c.args.limit
+    (g.R.Source.remaining c.args.r.now) (g.R.Source.remaining c.validate_from.new.r) c.in-Err.fault c.in-Err.ensures.judged r told.1 told.2
+    in (refusal_line r.at r.why, status.Refused, out.0, out.1, told.3)
 
-pub returns-in-Err-Refused-validate_from-clause-answered : goal.returns-in-Err-Refused-validate_from-clause-answered
-returns-in-Err-Refused-validate_from-clause-answered g c = λ o m.
-    let all = g.R.Source.remaining c.args.r.now in
-    let left = g.R.Source.remaining c.validate_from-in-Stats.new.r in
-    let r = c.in-Err-Refused-validate_from.refusal in
-    let judged = subst IsJudged (sym c.in-Stats.is) tt in
-    let refused = c.refuse-in-Err-Refused-validate_from.ensures.answered m in (
-      refusal_line r.at r.why,
-      status.Refused,
-      inr (line_of_action c.args.action judged r.at r.why refused.0, refl),
-      out_of_refusal c.args.action judged c.args.profile c.args.limit all left r refused.0
-          (subst (λ f. Judges c.args.profile c.args.limit all left (Err f)) c.in-Err-Refused-validate_from.field-0-is c.in-Err-Refused-validate_from.ensures.judged),
-      refused.1,
-    )
+pub returns-in-Err-validate_from-clause-answered : goal.returns-in-Err-validate_from-clause-answered
+returns-in-Err-validate_from-clause-answered g c = λ o m.
+    let told = c.answer_fault-in-Err-validate_from.ensures.answered (λ e. let failed = c.in-Err-validate_from.ensures.failed.0 (ap Err e) in cc) m in
+    let r = told.0 in
+    let out =
+    out_of_fault (ValidInput c.args.profile c.args.limit) c.args.action (subst IsJudged (sym c.in-Stats.is) tt) c.args.profile c.args.limit
+    (g.R.Source.remaining c.args.r.now) (g.R.Source.remaining c.validate_from-in-Stats.new.r) c.in-Err-validate_from.fault c.in-Err-validate_from.ensures.judged r told.1 told.2
+    in (refusal_line r.at r.why, status.Refused, out.0, out.1, told.3)
 
-pub returns-in-Err-Refused-load_from-clause-answered : goal.returns-in-Err-Refused-load_from-clause-answered
-returns-in-Err-Refused-load_from-clause-answered g c = λ o m.
-    let all = g.R.Source.remaining c.args.r.now in
-    let left = g.R.Source.remaining c.load_from.new.r in
-    let r = c.in-Err-Refused-load_from.refusal in
-    let judged = subst IsJudged (sym c.in-Canon.is) tt in
-    let refused = c.refuse-in-Err-Refused-load_from.ensures.answered m in (
-      refusal_line r.at r.why,
-      status.Refused,
-      inr (line_of_action c.args.action judged r.at r.why refused.0, refl),
-      out_of_refusal c.args.action judged c.args.profile c.args.limit all left r refused.0
-          (subst (λ f. LoadsFrom c.args.profile c.args.limit all left (Err f)) c.in-Err-Refused-load_from.field-0-is c.in-Err-Refused-load_from.ensures.loaded),
-      refused.1,
-    )
+pub returns-in-Err-load_from-clause-answered : goal.returns-in-Err-load_from-clause-answered
+returns-in-Err-load_from-clause-answered g c = λ o m.
+    let told = c.answer_fault-in-Err-load_from.ensures.answered (λ e. let failed = c.in-Err-load_from.ensures.failed.0 (ap Err e) in cc) m in
+    let r = told.0 in
+    let out =
+    out_of_fault (LoadedInput c.args.profile c.args.limit) c.args.action (subst IsJudged (sym c.in-Canon.is) tt) c.args.profile c.args.limit
+    (g.R.Source.remaining c.args.r.now) (g.R.Source.remaining c.load_from.new.r) c.in-Err-load_from.fault c.in-Err-load_from.ensures.loaded r told.1 told.2
+    in (refusal_line r.at r.why, status.Refused, out.0, out.1, told.3)
+
+pub returns-in-Err-load_from-2-clause-answered : goal.returns-in-Err-load_from-2-clause-answered
+returns-in-Err-load_from-2-clause-answered g c = λ o m.
+    let told = c.answer_fault-in-Err-load_from-2.ensures.answered (λ e. let failed = c.in-Err-load_from-2.ensures.failed.0 (ap Err e) in cc) m in
+    let r = told.0 in
+    let out =
+    out_of_fault (LoadedInput c.args.profile c.args.limit) c.args.action (subst IsJudged (sym c.in-Show.is) tt) c.args.profile c.args.limit
+    (g.R.Source.remaining c.args.r.now) (g.R.Source.remaining c.load_from-in-Show.new.r) c.in-Err-load_from-2.fault c.in-Err-load_from-2.ensures.loaded r told.1 told.2
+    in (refusal_line r.at r.why, status.Refused, out.0, out.1, told.3)
 
 pub returns-in-Ok-load_from-clause-answered : goal.returns-in-Ok-load_from-clause-answered
 returns-in-Ok-load_from-clause-answered g c = λ o m.
@@ -63,21 +54,6 @@ returns-in-Ok-load_from-clause-answered g c = λ o m.
     out_of_loaded c.args.action canon (writes_canon c.args.action c.in-Canon.is) c.args.profile c.args.limit (g.R.Source.remaining c.args.r.now)
     (g.R.Source.remaining c.load_from.new.r) checked c.in-Ok-load_from.ensures.loaded
     in (canon (value_of (module_in checked)), status.Done, out.0, out.1, c.write_canonical.ensures)
-
-pub returns-in-Err-Refused-load_from-2-clause-answered : goal.returns-in-Err-Refused-load_from-2-clause-answered
-returns-in-Err-Refused-load_from-2-clause-answered g c = λ o m.
-    let all = g.R.Source.remaining c.args.r.now in
-    let left = g.R.Source.remaining c.load_from-in-Show.new.r in
-    let r = c.in-Err-Refused-load_from-2.refusal in
-    let judged = subst IsJudged (sym c.in-Show.is) tt in
-    let refused = c.refuse-in-Err-Refused-load_from-2.ensures.answered m in (
-      refusal_line r.at r.why,
-      status.Refused,
-      inr (line_of_action c.args.action judged r.at r.why refused.0, refl),
-      out_of_refusal c.args.action judged c.args.profile c.args.limit all left r refused.0
-          (subst (λ f. LoadsFrom c.args.profile c.args.limit all left (Err f)) c.in-Err-Refused-load_from-2.field-0-is c.in-Err-Refused-load_from-2.ensures.loaded),
-      refused.1,
-    )
 
 pub returns-in-Ok-load_from-2-clause-answered : goal.returns-in-Ok-load_from-2-clause-answered
 returns-in-Ok-load_from-2-clause-answered g c = λ o m.

@@ -9,7 +9,7 @@ use Rattle.wm_read.specs.exact.NamedUses.{named_use_at, used_of}
 use Rattle.wm_read.specs.inner.Blocks.{names_of}
 use Rattle.wm_read.specs.inner.Named.{named_list, params_of}
 use Rattle.wm_read.specs.inner.Views.{Fails}
-use Rattle.wm_read.proofs.Groups.{fails_use}
+use Rattle.wm_read.proofs.Groups.{fails_refused, fails_use}
 use Rattle.wm_read.proofs.NamedUses.{named_ends, named_untyped, named_params_fail, named_results_fail}
 use Rattle.wm_read.proofs.named_uses.named_use.Goals as goal
 
@@ -23,7 +23,7 @@ returns-in-Some-2 c =
 
 pub returns-in-Some : goal.returns-in-Some
 returns-in-Some c =
-    fails_use _ (named_use_at (names_of c.args.names.now) (lexed c.args.text.now)) c.refuse_index.ensures
+    fails_refused _ (named_use_at (names_of c.args.names.now) (lexed c.args.text.now)) c.misfit.ensures
     (named_ends (names_of c.args.names.now) c.in_ok-index.index c.in-Some.ty.now (named_list c.in_ok-params-in-Some.params.items) c.in_ok-results-in-Some.results.items
     (option_map params_of c.in_ok-params-in-Some-2.field-0) (lexed c.args.text.now) (lexed c.in_ok-index.rest.now) (lexed c.in_ok-params-in-Some.rest.now) (lexed c.in_ok-results-in-Some.rest.now)
     c.in_ok-index.ensures c.in-Some.ensures c.in_ok-params-in-Some.ensures c.in_ok-results-in-Some.ensures
@@ -32,7 +32,7 @@ returns-in-Some c =
 
 pub returns : goal.returns
 returns c =
-    fails_use _ (named_use_at (names_of c.args.names.now) (lexed c.args.text.now)) c.refuse_index-in-None.ensures
+    fails_use _ (named_use_at (names_of c.args.names.now) (lexed c.args.text.now)) c.refuse_index.ensures
     (named_untyped (names_of c.args.names.now) c.in_ok-index.index (lexed c.args.text.now) (lexed c.in_ok-index.rest.now) c.in_ok-index.ensures c.in-None.ensures)
 
 pub returns-in_err-params-in-Some : goal.returns-in_err-params-in-Some

@@ -1,4 +1,4 @@
--- How the heads of fields are read: the exact answers of the code's readers.
+-- How the type of a type field is read: the exact answer of the code's reader.
 use Rattle.std.specs.Prelude.{List, codes}
 use Rattle.wm_syntax.specs.declared.types.ValType.{ValType}
 use Rattle.wm_syntax.specs.Types.{Signature}

@@ -1,5 +1,5 @@
 use Rattle.std.proofs.Common.{length}
-use Rattle.wm_read.proofs.functions.repeated.Given as goal
+use Rattle.wm_read.proofs.functions.earlier.Given as goal
 
 abbrev pub decreases-loop-atom : goal.decreases-loop-atom
 decreases-loop-atom l = length l.rest

@@ -1,0 +1,75 @@
+-- Indices of one byte each that follow one another, as the byte step reads them: the exact form, for the proofs above it.
+use Rattle.std.specs.Prelude.{◌≡◌, ◌≢◌, ℕ, ◌+◌, ◌-◌, ◌<◌, min, List, length, map, take, slice_index, Result, Ok, Err, Option, Some, None}
+use Rattle.wm_syntax.specs.declared.why.Why.{Why}
+use Rattle.wm_syntax.specs.declared.why.Why.TheVariants as why
+use Rattle.wm_syntax.specs.declared.instructions.Op.TheVariants as op
+use Rattle.wm_syntax.specs.exact.Reading.{fresh}
+use Rattle.wm_decode.specs.declared.machine.Machine.{Machine}
+use Rattle.wm_decode.specs.declared.machine.Machine.TheVariants as machine
+use Rattle.wm_decode.specs.declared.machine.Plain.{Plain}
+use Rattle.wm_decode.specs.declared.machine.Plain.TheVariants as plain
+use Rattle.wm_decode.specs.declared.member.SectionKind.{SectionKind}
+use Rattle.wm_decode.specs.declared.member.SectionKind.TheVariants as section_kind
+use Rattle.wm_decode.specs.declared.member.InMember.{InMember}
+use Rattle.wm_decode.specs.declared.member.InMember.TheVariants as at
+use Rattle.wm_decode.specs.declared.member.IndexOf.TheVariants as index_of
+use Rattle.wm_decode.specs.declared.member.InEntry.TheVariants as entry
+use Rattle.wm_decode.specs.declared.expressions.InExpression.TheVariants as expression
+use Rattle.wm_decode.specs.declared.indices.IndexList.{IndexList}
+use Rattle.wm_decode.specs.declared.indices.IndexList.TheVariants as list
+use Rattle.wm_decode.specs.declared.indices.InIndices.{InIndices}
+use Rattle.wm_decode.specs.Items.{Item}
+use Rattle.wm_decode.specs.Sinks.{all_taken}
+use Rattle.wm_decode.specs.exact.Runs.{plain_item}
+
+-- where in a member of a section the indices of a list stand
+abbrev pub at_index : IndexList → InMember
+at_index list.Types = at.Index index_of.Function fresh
+at_index (list.Functions rest) = at.Index (index_of.ElementFunction rest) fresh
+at_index (list.Labels rest depth labels) = at.Entry rest (entry.Body (expression.Label depth labels fresh))
+
+-- each type index is a member of the function section
+abbrev pub LiesIn : SectionKind → IndexList → Type 0
+LiesIn of list.Types = of ≡ section_kind.Function
+LiesIn of x = Unit {0}
+
+-- the machine before an index
+abbrev pub before_index : InIndices → Machine
+before_index i = machine.Section i.of i.functions i.more i.left (at_index i.list)
+
+-- how many come after which yet another comes, and a byte of all that they lie in
+abbrev pub most_in : ℕ → ℕ → IndexList → ℕ
+most_in more left list.Types = min more left
+most_in more left (list.Functions rest) = min more rest
+most_in more left (list.Labels rest depth labels) = min (min more rest) labels
+
+abbrev pub most_indices : InIndices → ℕ
+most_indices i = most_in i.more i.left i.list
+
+-- what is left after so many
+abbrev pub members_after : ℕ → IndexList → ℕ → ℕ
+members_after left list.Types n = left - n
+members_after left x n = left
+
+abbrev pub list_after : IndexList → ℕ → IndexList
+list_after list.Types n = list.Types
+list_after (list.Functions rest) n = list.Functions (rest - n)
+list_after (list.Labels rest depth labels) n = list.Labels (rest - n) depth (labels - n)
+
+abbrev pub indices_after : InIndices → ℕ → InIndices
+indices_after i n = record i { more = i.more - n; left = members_after i.left i.list n; list = list_after i.list n }
+
+abbrev pub index_part : IndexList → ℕ → Plain
+index_part list.Types x = plain.Function x
+index_part (list.Functions rest) x = plain.ElementFunction x
+index_part (list.Labels rest depth labels) x = plain.BodyOp (op.Label x)
+
+abbrev pub index_item_in : IndexList → ℕ → Item
+index_item_in l x = plain_item (index_part l x)
+
+-- a sink took an item for each of these bytes, or those before one that it refused
+abbrev pub GaveEach : {H : Type 0} → (H → Item → Result H Why) → (ℕ → Item) → List ℕ → H → ℕ → Option Why → H → Type 0
+GaveEach after item bytes h used None g = (used ≡ length bytes) × (all_taken after h (map item bytes) ≡ Ok g)
+GaveEach {H} after item bytes h used (Some w) g =
+    (k : ℕ) × (f : H) × (used ≡ k + 1) × (k < length bytes) × (all_taken after h (map item (take k bytes)) ≡ Ok f)
+    × (w ≢ why.Memory → after f (item (slice_index bytes k)) ≡ Err w)
