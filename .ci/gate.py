@@ -1,0 +1,275 @@
+#!/usr/bin/env python3
+"""The gate: `rt ci`, with each library proved once.
+
+`rt ci` proves a library three times: plain, with its tests, and again before its first must-fail edit. Here the three
+share one folder of this run's own, which begins empty. So each module is proved once, and what is refused by `rt ci` is
+refused here. Edits are first tried some at a time, each in another function. At the end stands what each crate cost.
+
+    .ci/gate.py                  the gate
+    .ci/gate.py --keep FOLDER    the same over what an earlier run kept in FOLDER: for one's own work, and no verdict
+"""
+import collections
+import importlib.machinery
+import importlib.util
+import os
+import re
+import subprocess
+import sys
+import tempfile
+import time
+
+sys.dont_write_bytecode = True
+RT = os.path.join(os.path.dirname(subprocess.run(["rt", "doc"], capture_output=True, text=True, check=True).stdout.strip()), "bin/rt")
+
+
+def load():
+    loader = importlib.machinery.SourceFileLoader("rt_of_the_kit", RT)
+    made = importlib.util.module_from_spec(importlib.util.spec_from_loader("rt_of_the_kit", loader))
+    loader.exec_module(made)
+    return made
+
+
+rt = load()
+rtlib = rt.rtlib
+ROOM = tempfile.TemporaryDirectory(prefix="gate-")
+KEPT = os.path.abspath(sys.argv[2]) if sys.argv[1:2] == ["--keep"] and len(sys.argv) == 3 else ROOM.name
+TIMES = f"{ROOM.name}/times"
+BEGAN = time.time()
+
+# Runs a command and notes what it cost. What no other crate waits for gives way to proofs.
+TIMED = """
+import os, resource, signal, subprocess, sys
+words = sys.argv[2:]
+crate = words[words.index("--crate-name") + 1] if "--crate-name" in words else "programs"
+is_edit = os.path.basename(os.getcwd()).startswith("rt-edit-")
+part = "edits" if is_edit else "tests" if "--test" in words else "proof"
+if part != "proof":
+    os.nice(5)
+status = subprocess.call(words)
+used = resource.getrusage(resource.RUSAGE_CHILDREN)
+with open(sys.argv[1], "a") as it:
+    it.write(f"{crate} {part} {used.ru_utime + used.ru_stime} {used.ru_maxrss}\\n")
+if status < 0:
+    signal.signal(-status, signal.SIG_DFL) if status != -signal.SIGKILL else None
+    os.kill(os.getpid(), -status)
+sys.exit(status)
+"""
+
+# a function that was not proved only because one that it calls was not
+WAITS = re.compile(r"(no proof|not proved)[:;] it (calls|passes|waits|points)")
+FUNCTION = re.compile(r"^([ \t]*)(?:pub(?:\([a-z]+\))? )?(const )?fn (\w+)")
+
+
+def kept_of(crate):
+    folder = f"{KEPT}/{crate.name}"
+    os.makedirs(folder, exist_ok=True)
+    return folder
+
+
+def guarded():
+    return [*guarded_by_the_kit(), sys.executable, "-ISc", TIMED, TIMES]
+
+
+class Crate(rt.Crate):
+    def words(self, flags, tests=False, keeps=True, as_source=False):
+        words = super().words(flags, tests, keeps, as_source)
+        # (a program's check is written whole, which needs a check from nothing)
+        is_shared = not keeps and (tests or not self.is_program)
+        return words + ["--incremental", kept_of(self)] * is_shared
+
+    def build_rlib(self, flags, anew):
+        # (rattle writes no rlib of statements alone over kept work)
+        self.cuts_libraries = False
+        return super().build_rlib(flags, anew)
+
+
+class PlainCrate(rt.Crate):
+    """Names no folder of kept work by itself."""
+
+
+class Verdict:
+    """The verdict's words, and that the check took what this run itself proved."""
+
+    def __init__(self, words):
+        self.words = words
+
+    def search(self, text):
+        return self.words.search(re.sub(r" incremental=trusted(?=[^\n]*\n\Z)", "", text))
+
+
+def body_at(text, place):
+    """The name of the function whose body, and not whose contract, holds this place of a file in rt fmt's layout, if there is one."""
+    name = indent = None
+    at, is_open, has_clauses, before = 0, False, False, ""
+    for line in text.split("\n"):
+        begins = FUNCTION.match(line)
+        if begins and not is_open:
+            # what a const fn gives may be read by others, and the functions of a cycle have one proof
+            is_plain = not begins[2] and "#[cycle" not in before
+            name, indent, has_clauses = begins[3] if is_plain else None, begins[1], False
+        elif name and is_open and line == f"{indent}}}":
+            name, is_open = None, False
+        has_clauses = has_clauses or line.lstrip().startswith(("ensures", "requires", "ghost "))
+        if at <= place < at + len(line) + 1:
+            return name if is_open else None
+        if name and not is_open:
+            is_open = line == f"{indent}{{" or (not has_clauses and line.endswith("{"))
+        before = before + line if line.lstrip().startswith("#[") else ""
+        at += len(line) + 1
+    return None
+
+
+def pairs_of(edit):
+    """The file, the old and the new text of each pair of an edit."""
+    path, old, pairs = "", "", []
+    with open(edit, encoding="utf-8") as it:
+        lines = it.read().split("\n")
+    for line in lines:
+        if line.startswith("file: "):
+            path = line[6:].strip()
+        elif line.startswith("old: "):
+            old = line[5:]
+        elif line.startswith("new:"):
+            pairs.append((path, old, line[4:].removeprefix(" ")))
+    return pairs
+
+
+def with_pairs(crate, pairs, texts):
+    """These texts of the crate's files with the pairs applied, and the file and the function that each lies in; None where
+    one does not fit."""
+    texts, places = dict(texts), set()
+    for path, old, new in pairs:
+        if not path.startswith("src/"):
+            return None
+        if path not in texts:
+            with open(f"{crate.folder}/{path}", encoding="utf-8") as it:
+                texts[path] = it.read()
+        if not old or texts[path].count(old) != 1:
+            return None
+        places.add((path, body_at(texts[path], texts[path].find(old))))
+        texts[path] = texts[path].replace(old, new)
+    return texts, places
+
+
+def place_of(crate, pairs):
+    """The file and the name of the one function of src/ in whose body an edit lies, if there is one."""
+    fits = with_pairs(crate, pairs, {})
+    places = fits[1] if fits else set()
+    place = next(iter(places)) if len(places) == 1 else None
+    return place if place and place[1] else None
+
+
+def refused_alone(said, crate, place):
+    """The line that says that this function was not proved for a reason of its own, if there is one."""
+    path, name = place
+    module = re.sub(r"(^|::)(lib|main|mod)$", "", path[len("src/") : -len(".rt")].replace("/", "::"))
+    front = "::".join(it for it in (crate.name, module) if it)
+    lines = re.findall(rf"(?m)^(fn {front}::(?:\w+::)*{name}: (?:no proof|not proved).*)$", said)
+    return next((it for it in lines if not WAITS.search(it)), None)
+
+
+def grouped(crate, left):
+    """As many of these edits as fit beside one another, each with its function, and the texts with all of them."""
+    group, texts, places = [], {}, set()
+    for edit, pairs, place in left:
+        fits = with_pairs(crate, pairs, texts) if place not in places else None
+        if fits:
+            texts = fits[0]
+            places.add(place)
+            group.append((edit, place))
+    return group, texts
+
+
+def in_groups(crate, edits, flags):
+    """Tries edits together, each in another function. A function's proof reads no body but its own, so one that fails for a
+    reason of its own is refused for its own edit. Returns what is said of each that was refused so."""
+    left = [(it, pairs_of(it)) for it in edits]
+    left = [(edit, pairs, place_of(crate, pairs)) for edit, pairs in left]
+    left, said = [it for it in left if it[2]], {}
+    while len(left) > 1:
+        group, texts = grouped(crate, left)
+        ran = check_a_copy(crate, texts, flags, kept_of(crate))
+        is_read = ran.returncode == 1 and ran.stdout.rstrip("\n").split("\n")[-1].startswith("logic=not-proved")
+        if not is_read or any(rt.unread(it, texts) for it in ran.stdout.split("\n")):
+            break
+        found = {edit: refused_alone(ran.stdout, crate, place) for edit, place in group}
+        found = {edit: line for edit, line in found.items() if line}
+        said.update(found)
+        if not found:
+            break
+        left = [it for it in left if it[0] not in said]
+    return said
+
+
+def must_fail_all(crate, edits, flags):
+    said, tried = in_groups(crate, edits, flags), []
+    for edit in edits:
+        label = f"must-fail {crate.name}/{os.path.basename(edit)}"
+        if edit in said:
+            tried.append((True, f"{label}: refused, as it must be: {said[edit][:160]}"))
+        else:
+            tried.append(rt.must_fail(crate, edit, flags, kept_of(crate)))
+    is_sound = not check_a_copy(crate, {}, flags, kept_of(crate)).returncode
+    return [it if is_sound and it[0] else from_nothing(crate, edit, flags) for edit, it in zip(edits, tried)]
+
+
+def from_nothing(crate, edit, flags):
+    with tempfile.TemporaryDirectory(prefix="gate-again-") as room:
+        return rt.must_fail(crate, edit, flags, room)
+
+
+def check_a_copy(crate, texts, flags, kept):
+    """As rt's own, with one folder of kept work and not two."""
+    plain = rt.copy.copy(crate)
+    plain.__class__ = PlainCrate
+    return checked_by_the_kit(plain, texts, flags, kept)
+
+
+def in_lanes(tasks):
+    """A proof, for which all above it waits, takes all processors. The tests of a library come after its proof, over whose
+    work they are checked."""
+    for name, part in list(tasks):
+        waits, lines, memory, call = tasks[name, part]
+        if part == "proof":
+            call = lambda given, _, it=call: it(given, rt.processors())
+        if part == "tests" and not os.path.isfile(f"crates/{name}/src/main.rt"):
+            waits = [*waits, (name, "proof")]
+        tasks[name, part] = waits, lines, memory, call
+    given = lanes_of_the_kit(tasks)
+    print_costs()
+    return given
+
+
+def print_costs():
+    """Processor minutes by crate, and the most memory that one process held."""
+    costs, most = collections.defaultdict(float), collections.defaultdict(int)
+    if not os.path.isfile(TIMES):
+        return
+    with open(TIMES, encoding="utf-8") as it:
+        for crate, part, seconds, kib in (line.split() for line in it):
+            costs[crate, part] += float(seconds) / 60
+            most[crate] = max(most[crate], int(kib))
+    print("processor minutes      proof   tests   edits    GiB")
+    for crate in dict.fromkeys(it for it, _ in costs):
+        minutes = "".join(f"{costs[crate, part]:8.1f}" for part in ("proof", "tests", "edits"))
+        print(f"{crate:20}{minutes}{most[crate] / 2**20:7.1f}")
+    print(f"{sum(costs.values()):.0f} processor minutes in {(time.time() - BEGAN) / 60:.0f} minutes", flush=True)
+
+
+def main():
+    if KEPT == ROOM.name and len(sys.argv) > 1:
+        sys.exit(__doc__)
+    status = rt.main(["ci"])
+    if KEPT != ROOM.name:
+        print(f"this is no verdict: it rests on what stood in {KEPT}")
+    return status
+
+
+guarded_by_the_kit, checked_by_the_kit, lanes_of_the_kit = rtlib.guarded, rt.checked, rt.in_lanes
+rt.Crate, rt.checked, rt.must_fail_all, rt.in_lanes = Crate, check_a_copy, must_fail_all, in_lanes
+rtlib.guarded = guarded
+rtlib.VERDICT = Verdict(rtlib.VERDICT)
+
+if __name__ == "__main__":
+    with ROOM:
+        sys.exit(main())
