@@ -13,8 +13,8 @@ GATE = pathlib.Path(__file__).resolve().parent / "gate.py"
 
 LIBRARY = """#![tactic(auto)]
 
-ghost use Rattle.std.specs.Prelude.{◌≡◌, ◌+◌, ◌*◌, ◌/◌, ◌<◌};
-ghost use Rattle.low.specs.Words.{thrice_of};
+ghost use Rattle.std.specs.Prelude.{◌≡◌, ◌*◌, ◌<◌};
+ghost use Rattle.low.specs.Words.{half_of};
 
 /// Two times a number.
 pub fn twice(x: u32) -> u32
@@ -27,14 +27,14 @@ pub fn twice(x: u32) -> u32
 /// Three times a number.
 pub fn thrice(x: u32) -> u32
     requires { x < 1000 }
-    ensures { result ≡ thrice_of x }
+    ensures { result ≡ 3 * x }
 {
     twice(x) + x
 }
 
 /// Half of a number.
 pub fn half(x: u32) -> u32
-    ensures { result ≡ x / 2 }
+    ensures { result ≡ half_of x }
 {
     x / 2
 }
@@ -50,11 +50,11 @@ mod tests {
 }
 """
 
-WORDS = """-- Three times a number.
-use Rattle.std.specs.Prelude.{ℕ, ◌+◌, ◌*◌}
+WORDS = """-- Half of a number.
+use Rattle.std.specs.Prelude.{ℕ, ◌/◌}
 
-unfoldable pub thrice_of : ℕ → ℕ
-thrice_of x = 2 * x + x
+unfoldable pub half_of : ℕ → ℕ
+half_of x = x / 2
 """
 
 PROGRAM = """#![tactic(auto)]
@@ -74,12 +74,12 @@ REPOSITORY = {
     "crates/low/src/lib.rt": LIBRARY,
     "crates/low/specs/Lib.antt": "pub mod Words\n",
     "crates/low/specs/Words.antt": WORDS,
-    "crates/low/proofs/thrice/Answers.antt": """use Rattle.std.proofs.Common.{refl}
-use Rattle.low.specs.Words.{thrice_of}
-use Rattle.low.proofs.thrice.Goals as goal
+    "crates/low/proofs/half/Answers.antt": """use Rattle.std.proofs.Common.{refl}
+use Rattle.low.specs.Words.{half_of}
+use Rattle.low.proofs.half.Goals as goal
 
 pub returns : goal.returns
-unfolding thrice_of
+unfolding half_of
 returns c = refl
 """,
     "crates/low/must-fail/twice_is_once.edit": "file: src/lib.rt\nold:     x + x\nnew:     x\n",
@@ -92,7 +92,7 @@ returns c = refl
 # What is wrong: the file, the text that is replaced, the text in its place, and what the gate says of it.
 TRIALS = {
     "a wrong body": ("crates/low/src/lib.rt", "    x + x", "    x", "rt: low NOT PROVED"),
-    "a hole in a proof": ("crates/low/proofs/thrice/Answers.antt", "returns c = refl", "returns c = ?", "rt: low NOT PROVED"),
+    "a hole in a proof": ("crates/low/proofs/half/Answers.antt", "returns c = refl", "returns c = ?", "rt: low NOT PROVED"),
     "a wrong test": ("crates/low/src/lib.rt", "thrice(7), 21", "thrice(7), 22", "low: its tests FAILED"),
     "a file that is not laid out": ("crates/low/src/lib.rt", "    x + x", "    x  + x", "run rt fmt in the crate's folder"),
     "another output": ("crates/top/stdout", "21", "22", "what the program wrote"),

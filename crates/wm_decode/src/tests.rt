@@ -1,88 +1,56 @@
-//! Tests of the decoder over sinks that record, count or refuse.
+//! Tests of the decoder over sinks that write down, count or refuse.
 
 ghost use Rattle.std.specs.Prelude.{◌≡◌, ◌<◌, Err, IfErr, Ok, refl};
 ghost use Rattle.wm_decode.specs.Items.{data_byte};
 ghost use Rattle.wm_syntax.specs.declared.why.Why.TheVariants.{Arity, Memory};
 
+use crate::fixtures::{HEADER, bytes_of};
 use crate::machine::Machine;
 use crate::{Decoder, Item, Refusal, Sink, laws};
 use std::alloc::{AllocError, Global};
 use std::process::Abort;
 use std::test::Fail;
-use wm_syntax::instructions::{BinaryOp, Numeric, Op, Simple};
-use wm_syntax::modules::ExportKind;
 use wm_syntax::profile::Profile;
-use wm_syntax::types::{GlobalType, Limits, ValType};
 use wm_syntax::why::Why;
 
-// An item, with the bytes of a name, and with each byte of data for itself.
-#[derive(Clone, Copy, Debug, PartialEq, Eq)]
-enum Seen {
-    NewType,
-    Param(ValType),
-    Results(u32),
-    Result(ValType),
-    ImportModule(usize),
-    ImportName(usize),
-    ImportFunc(u32),
-    ImportTable(Limits),
-    ImportMemory(Limits),
-    ImportGlobal(GlobalType),
-    Func(u32),
-    Table(Limits),
-    Memory(Limits),
-    Global(GlobalType),
-    ConstOp(Op),
-    ExportName(usize),
-    Export(ExportKind, u32),
-    Start(u32),
-    Elem(u32),
-    ElemFunc(u32),
-    Body,
-    Locals(u32, ValType),
-    Op(Op),
-    Segment(u32),
-    Data(u8),
-}
-
-// Writes down the items; of a name its length, and its bytes beside.
+// Writes down each item as Debug has it, and each byte of data for itself.
 #[derive(Drop)]
 struct Recorder {
-    seen: Vec<Seen>,
-    names: Vec<u8>,
+    alloc: Global,
+    seen: Vec<String>,
 }
 
 fn nothing_seen(alloc: Global) -> Recorder {
     Recorder {
+        alloc,
         seen: Vec::new(alloc),
-        names: Vec::new(alloc),
     }
 }
 
+fn text_of(alloc: Global, item: &Item) -> Result<String, AllocError> {
+    let mut text = String::new(alloc);
+    write!(text, "{item:?}")?;
+    Ok(text)
+}
+
 impl Recorder {
-    fn write(&mut self, item: Seen) -> Result<(), Why>
+    fn write(&mut self, item: Item) -> Result<(), Why>
         ensures { IfErr result (λ w. w ≡ Memory) }
     {
-        if self.seen.push(item).is_err() {
+        let Ok(text) = text_of(self.alloc, &item) else {
+            return Err(Why::Memory);
+        };
+        if self.seen.push(text).is_err() {
             return Err(Why::Memory);
         }
         Ok(())
     }
 
-    fn write_name(&mut self, item: Seen, name: &[u8]) -> Result<(), Why>
-        ensures { IfErr result (λ w. w ≡ Memory) }
-    {
-        if self.names.extend_from_slice(name).is_err() {
-            return Err(Why::Memory);
-        }
-        self.write(item)
-    }
-
     fn write_data(&mut self, bytes: &[u8]) -> Result<(), Why>
         ensures { IfErr result (λ w. w ≡ Memory) }
     {
-        for byte in bytes {
-            match self.write(Seen::Data(*byte)) {
+        for byte in bytes.chunks(1) {
+            match self.write(Item::DataBytes(byte)) {
                 Ok(()) => {}
                 Err(why) => return Err(why),
             }
@@ -90,52 +58,12 @@ impl Recorder {
         Ok(())
     }
 
-    fn write_import(&mut self, item: Item) -> Result<(), Why>
-        ensures { IfErr result (λ w. w ≡ Memory) }
-    {
-        match item {
-            Item::ImportModule(name) => self.write_name(Seen::ImportModule(name.len()), name),
-            Item::ImportName(name) => self.write_name(Seen::ImportName(name.len()), name),
-            Item::ImportFunc(index) => self.write(Seen::ImportFunc(index)),
-            Item::ImportTable(limits) => self.write(Seen::ImportTable(limits)),
-            Item::ImportMemory(limits) => self.write(Seen::ImportMemory(limits)),
-            Item::ImportGlobal(ty) => self.write(Seen::ImportGlobal(ty)),
-            _ => Ok(()),
-        }
-    }
-
-    fn write_code(&mut self, item: Item) -> Result<(), Why>
-        ensures { IfErr result (λ w. w ≡ Memory) }
-    {
-        match item {
-            Item::Elem(index) => self.write(Seen::Elem(index)),
-            Item::ElemFunc(index) => self.write(Seen::ElemFunc(index)),
-            Item::Body => self.write(Seen::Body),
-            Item::Locals(count, ty) => self.write(Seen::Locals(count, ty)),
-            Item::Op(op) => self.write(Seen::Op(op)),
-            Item::Segment(index) => self.write(Seen::Segment(index)),
-            Item::DataBytes(bytes) => self.write_data(bytes),
-            _ => self.write_import(item),
-        }
-    }
-
     fn write_item(&mut self, item: Item) -> Result<(), Why>
         ensures { IfErr result (λ w. w ≡ Memory) }
     {
         match item {
-            Item::NewType => self.write(Seen::NewType),
-            Item::Param(ty) => self.write(Seen::Param(ty)),
-            Item::Results(n) => self.write(Seen::Results(n)),
-            Item::Result(ty) => self.write(Seen::Result(ty)),
-            Item::Func(index) => self.write(Seen::Func(index)),
-            Item::Table(limits) => self.write(Seen::Table(limits)),
-            Item::Memory(limits) => self.write(Seen::Memory(limits)),
-            Item::Global(ty) => self.write(Seen::Global(ty)),
-            Item::ConstOp(op) => self.write(Seen::ConstOp(op)),
-            Item::ExportName(name) => self.write_name(Seen::ExportName(name.len()), name),
-            Item::Export(kind, index) => self.write(Seen::Export(kind, index)),
-            Item::Start(index) => self.write(Seen::Start(index)),
-            _ => self.write_code(item),
+            Item::DataBytes(bytes) => self.write_data(bytes),
+            _ => self.write(item),
         }
     }
 }
@@ -215,300 +143,206 @@ impl Sink for Full {
     ghost takes_data = { λ h c. refl };
 }
 
-const HEADER: [u8; 8] = [0x00, 0x61, 0x73, 0x6D, 0x01, 0x00, 0x00, 0x00];
+// How an input is cut: byte by byte and seven by seven.
+const SIZES: [usize; 2] = [1, 7];
 
-// A header, and these bytes after it.
-fn after_header(alloc: Global, sections: &[u8]) -> Result<Vec<u8>, AllocError> {
-    let mut bytes = HEADER.to_vec(alloc)?;
-    bytes.extend_from_slice(sections)?;
-    Ok(bytes)
+// The items that were written down, and how the input ended.
+fn told_by(alloc: Global, decoder: Decoder<Recorder>) -> Result<String, AllocError> {
+    let mut told = String::new(alloc);
+    for item in decoder.sink.seen.iter() {
+        write!(told, "{item}, ")?;
+    }
+    match decoder.finish() {
+        Ok(_recorder) => write!(told, "taken")?,
+        Err(refusal) => write!(told, "{} {}", refusal.at, refusal.why.name())?,
+    }
+    Ok(told)
 }
 
-// How an input is cut: whole, byte by byte and seven by seven.
-const SIZES: [usize; 3] = [1000, 1, 7];
-
-// What is written down of an input, in pieces of so many bytes and an empty one after each
-fn seen_in(alloc: Global, bytes: &[u8], size: usize) -> Result<Vec<Seen>, Refusal>
+// The same of an input of which so many bytes come first, and the rest in pieces of so many, an empty one after each.
+fn told(alloc: Global, bytes: &[u8], first: usize, size: usize) -> Result<String, AllocError>
     requires { 0 < size }
 {
     let mut decoder = Decoder::new(alloc, nothing_seen(alloc), Profile::One, 1000);
-    for piece in bytes.chunks(size) {
-        decoder.feed(piece)?;
-        decoder.feed(&[])?;
+    let (front, back) = bytes.split_at(first.min(bytes.len()));
+    let _ = decoder.feed(front);
+    for piece in back.chunks(size) {
+        let _ = decoder.feed(piece);
+        let _ = decoder.feed(&[]);
     }
-    Ok(decoder.finish()?.seen)
+    told_by(alloc, decoder)
 }
 
-// The items of an input, each with the count of bytes at which it came.
-fn placed_in(alloc: Global, bytes: &[u8]) -> Result<Vec<(u64, Seen)>, Fail> {
+// The items of an input, each behind the count of bytes at which it came.
+fn places(alloc: Global, bytes: &[u8]) -> Result<String, AllocError> {
     let mut decoder = Decoder::new(alloc, nothing_seen(alloc), Profile::One, 1000);
-    let mut placed = Vec::new(alloc);
-    let mut known = 0;
+    let mut placed = String::new(alloc);
     for piece in bytes.chunks(1) {
-        decoder.feed(piece)?;
+        let known = decoder.sink.seen.len();
+        let _ = decoder.feed(piece);
         for item in decoder.sink.seen.iter().skip(known) {
-            placed.push((decoder.at, *item))?;
+            write!(placed, "{} {item}, ", decoder.at)?;
         }
-        known = decoder.sink.seen.len();
     }
     Ok(placed)
 }
 
-#[test]
-fn items_of_a_type_section(rt: HostRuntime) -> Result<(), Fail> {
-    let sections = [0x01, 0x07, 0x01, 0x60, 0x02, 0x7F, 0x7E, 0x01, 0x7F];
-    let want = [
-        Seen::NewType,
-        Seen::Param(ValType::I32),
-        Seen::Param(ValType::I64),
-        Seen::Results(1),
-        Seen::Result(ValType::I32),
-    ];
-    let bytes = after_header(rt.alloc(), &sections)?;
+// Where the input is refused, and by which word.
+fn refusal(alloc: Global, bytes: &[u8]) -> Result<String, AllocError> {
+    let mut decoder = Decoder::new(alloc, NONE, Profile::One, 1000);
+    let _ = decoder.feed(bytes);
+    let mut told = String::new(alloc);
+    if let Err(refusal) = decoder.finish() {
+        write!(told, "{} {}", refusal.at, refusal.why.name())?;
+    }
+    Ok(told)
+}
+
+// The answer of a row: of `items` and `places` what was written down, of `refusal` its place and its word.
+fn answer(alloc: Global, call: &str, bytes: &[u8]) -> Result<String, AllocError> {
+    match call {
+        "items" => told(alloc, bytes, 0, 1000),
+        "places" => places(alloc, bytes),
+        "refusal" => refusal(alloc, bytes),
+        _ => Ok(String::new(alloc)),
+    }
+}
+
+// However the input is cut, the same is told.
+fn expect_any_cut(rt: &impl Abort, alloc: Global, row: &str, bytes: &[u8]) -> Result<(), Fail> {
+    let whole = told(alloc, bytes, 0, 1000)?;
     for size in SIZES {
-        let seen = seen_in(rt.alloc(), &bytes, size)?;
-        assert_eq!(rt; seen.as_slice(), &want[..], "in pieces of {size}");
+        let cut = told(alloc, bytes, 0, size)?;
+        assert!(rt;
+            cut.as_str() == whole.as_str(),
+            "in pieces of {size}: {row}: {cut}"
+        );
+    }
+    for first in 0..bytes.len() {
+        let cut = told(alloc, bytes, first, 1000)?;
+        assert!(rt;
+            cut.as_str() == whole.as_str(),
+            "cut at {first}: {row}: {cut}"
+        );
     }
     Ok(())
 }
 
-// One function of type [i32 i32] to [i32], which adds
-const ADDING: [u8; 24] = [
-    0x01, 0x07, 0x01, 0x60, 0x02, 0x7F, 0x7F, 0x01, 0x7F, 0x03, 0x02, 0x01, 0x00, 0x0A, 0x09, 0x01,
-    0x07, 0x00, 0x20, 0x00, 0x20, 0x01, 0x6A, 0x0B,
-];
-
-// A memory, and four bytes for it
-const DATA: [u8; 17] = [
-    0x05, 0x03, 0x01, 0x00, 0x01, 0x0B, 0x0A, 0x01, 0x00, 0x41, 0x00, 0x0B, 0x04, 0x00, 0xC3, 0xA9,
-    0x22,
-];
-
-#[test]
-fn places_of_items(rt: HostRuntime) -> Result<(), Fail> {
-    let limits = Limits { min: 1, max: None };
-    let adding = [
-        (12, Seen::NewType),
-        (14, Seen::Param(ValType::I32)),
-        (15, Seen::Param(ValType::I32)),
-        (16, Seen::Results(1)),
-        (17, Seen::Result(ValType::I32)),
-        (21, Seen::Func(0)),
-        (25, Seen::Body),
-        (28, Seen::Op(Op::Simple(Simple::LocalGet(0)))),
-        (30, Seen::Op(Op::Simple(Simple::LocalGet(1)))),
-        (
-            31,
-            Seen::Op(Op::Simple(Simple::Numeric(Numeric::Binary(ValType::I32, BinaryOp::Add)))),
-        ),
-        (32, Seen::Op(Op::End)),
-    ];
-    let data = [
-        (13, Seen::Memory(limits)),
-        (17, Seen::Segment(0)),
-        (19, Seen::ConstOp(Op::Simple(Simple::I32Const(0)))),
-        (20, Seen::ConstOp(Op::End)),
-        (22, Seen::Data(0x00)),
-        (23, Seen::Data(0xC3)),
-        (24, Seen::Data(0xA9)),
-        (25, Seen::Data(0x22)),
-    ];
-    let cases: [(&[u8], &[(u64, Seen)]); 2] = [(&ADDING, &adding), (&DATA, &data)];
-    for (sections, want) in cases {
-        let bytes = after_header(rt.alloc(), sections)?;
-        assert_eq!(rt; placed_in(rt.alloc(), &bytes)?.as_slice(), want);
-    }
-    Ok(())
+// A row is `what is special: CALL BYTES = ANSWER`.
+fn play_row(rt: &impl Abort, alloc: Global, row: &str) -> Result<(), Fail> {
+    let (left, wanted) = row.split_once(" = ").unwrap_or((row, "no answer"));
+    let (_, call) = left.split_once(": ").unwrap_or(("", ""));
+    let (call, words) = call.split_once(' ').unwrap_or((call, ""));
+    let bytes = bytes_of(alloc, words)?;
+    let found = answer(alloc, call, bytes.as_slice())?;
+    assert!(rt; found.as_str() == wanted, "{row}: {found}");
+    expect_any_cut(rt, alloc, row, bytes.as_slice())
 }
 
-// Three functions, of which the second has two runs of locals and a br_table of two labels. The size of the first
-// entry, the count of the second run and the last label are spelled in two bytes.
-const ENTRIES: [u8; 40] = [
-    0x01, 0x04, 0x01, 0x60, 0x00, 0x00, 0x03, 0x04, 0x03, 0x00, 0x00, 0x00, 0x0A, 0x1A, 0x03, 0x82,
-    0x00, 0x00, 0x0B, 0x11, 0x02, 0x01, 0x7F, 0x81, 0x00, 0x7E, 0x02, 0x40, 0x41, 0x00, 0x0E, 0x01,
-    0x00, 0x80, 0x00, 0x0B, 0x0B, 0x02, 0x00, 0x0B,
-];
-
-const PLACES_IN_ENTRIES: [(u64, Seen); 17] = [
-    (12, Seen::NewType),
-    (14, Seen::Results(0)),
-    (18, Seen::Func(0)),
-    (19, Seen::Func(0)),
-    (20, Seen::Func(0)),
-    (25, Seen::Body),
-    (27, Seen::Op(Op::End)),
-    (28, Seen::Body),
-    (31, Seen::Locals(1, ValType::I32)),
-    (34, Seen::Locals(1, ValType::I64)),
-    (36, Seen::Op(Op::Block(None))),
-    (38, Seen::Op(Op::Simple(Simple::I32Const(0)))),
-    (40, Seen::Op(Op::BrTable(1))),
-    (41, Seen::Op(Op::Label(0))),
-    (43, Seen::Op(Op::Label(0))),
-    (44, Seen::Op(Op::End)),
-    (45, Seen::Op(Op::End)),
-];
-
-const LAST_ENTRY: [(u64, Seen); 2] = [(46, Seen::Body), (48, Seen::Op(Op::End))];
-
-#[test]
-fn places_in_code_entries(rt: HostRuntime) -> Result<(), Fail> {
-    let bytes = after_header(rt.alloc(), &ENTRIES)?;
-    let placed = placed_in(rt.alloc(), &bytes)?;
-    let (first, last) = placed.as_slice().split_at(placed.len().min(17));
-    assert_eq!(rt; first, &PLACES_IN_ENTRIES[..]);
-    assert_eq!(rt; last, &LAST_ENTRY[..]);
+// Plays rows, as many as are wanted.
+fn play(rt: &impl Abort, alloc: Global, rows: &str, wanted: usize) -> Result<(), Fail> {
+    let mut played = 0_usize;
+    for row in rows.lines() {
+        play_row(rt, alloc, row)?;
+        played = played.saturating_add(1);
+    }
+    assert_eq!(rt; played, wanted);
     Ok(())
 }
 
 // Every section that holds items, none of them twice
-const ALL: [&[u8]; 11] = [
-    &[0x01, 0x04, 0x01, 0x60, 0x00, 0x00],
-    &[0x02, 0x07, 0x01, 0x01, 0x61, 0x01, 0x62, 0x00, 0x00],
-    &[0x03, 0x02, 0x01, 0x00],
-    &[0x04, 0x05, 0x01, 0x70, 0x01, 0x01, 0x02],
-    &[0x05, 0x03, 0x01, 0x00, 0x01],
-    &[0x06, 0x06, 0x01, 0x7E, 0x01, 0x42, 0x7F, 0x0B],
-    &[0x07, 0x05, 0x01, 0x01, 0x63, 0x03, 0x00],
-    &[0x08, 0x01, 0x00],
-    &[0x09, 0x07, 0x01, 0x00, 0x41, 0x00, 0x0B, 0x01, 0x00],
-    &[
-        0x0A, 0x0B, 0x01, 0x09, 0x02, 0x01, 0x7F, 0x02, 0x7E, 0x02, 0x40, 0x0B, 0x0B,
-    ],
-    &[0x0B, 0x07, 0x01, 0x00, 0x23, 0x00, 0x0B, 0x01, 0x61],
-];
+const ALL: &str =
+    "H 01 04 01 60 00 00 02 07 01 01 61 01 62 00 00 03 02 01 00 04 05 01 70 01 01 02 05 03 01 00 01 06 06 01 7E 01 42 7F 0B 07 05 01 01 63 03 00 08 01 00 09 07 01 00 41 00 0B 01 00 0A 0B 01 09 02 01 7F 02 7E 02 40 0B 0B 0B 07 01 00 23 00 0B 01 61";
 
-const IN_ALL: [Seen; 28] = [
-    Seen::NewType,
-    Seen::Results(0),
-    Seen::ImportModule(1),
-    Seen::ImportName(1),
-    Seen::ImportFunc(0),
-    Seen::Func(0),
-    Seen::Table(Limits {
-        min: 1,
-        max: Some(2),
-    }),
-    Seen::Memory(Limits { min: 1, max: None }),
-    Seen::Global(GlobalType {
-        ty: ValType::I64,
-        var: true,
-    }),
-    Seen::ConstOp(Op::Simple(Simple::I64Const(-1))),
-    Seen::ConstOp(Op::End),
-    Seen::ExportName(1),
-    Seen::Export(ExportKind::Global, 0),
-    Seen::Start(0),
-    Seen::Elem(0),
-    Seen::ConstOp(Op::Simple(Simple::I32Const(0))),
-    Seen::ConstOp(Op::End),
-    Seen::ElemFunc(0),
-    Seen::Body,
-    Seen::Locals(1, ValType::I32),
-    Seen::Locals(2, ValType::I64),
-    Seen::Op(Op::Block(None)),
-    Seen::Op(Op::End),
-    Seen::Op(Op::End),
-    Seen::Segment(0),
-    Seen::ConstOp(Op::Simple(Simple::GlobalGet(0))),
-    Seen::ConstOp(Op::End),
-    Seen::Data(0x61),
-];
+const ITEMS: &str =
+    "a function type: items H 01 07 01 60 02 7F 7E 01 7F = NewType, Param(I32), Param(I64), Results(1), Result(I32), taken
+one function of type [i32 i32] to [i32], which adds: places H 01 07 01 60 02 7F 7F 01 7F 03 02 01 00 0A 09 01 07 00 20 00 20 01 6A 0B = 12 NewType, 14 Param(I32), 15 Param(I32), 16 Results(1), 17 Result(I32), 21 Func(0), 25 Body, 28 Op(Simple(LocalGet(0))), 30 Op(Simple(LocalGet(1))), 31 Op(Simple(Numeric(Binary(I32, Add)))), 32 Op(End), 
+a memory, and four bytes for it: places H 05 03 01 00 01 0B 0A 01 00 41 00 0B 04 00 C3 A9 22 = 13 Memory(Limits { min: 1, max: None }), 17 Segment(0), 19 ConstOp(Simple(I32Const(0))), 20 ConstOp(End), 22 DataBytes([0]), 23 DataBytes([195]), 24 DataBytes([169]), 25 DataBytes([34]), 
+three functions, some numbers in two bytes: places H 01 04 01 60 00 00 03 04 03 00 00 00 0A 1A 03 82 00 00 0B 11 02 01 7F 81 00 7E 02 40 41 00 0E 01 00 80 00 0B 0B 02 00 0B = 12 NewType, 14 Results(0), 18 Func(0), 19 Func(0), 20 Func(0), 25 Body, 27 Op(End), 28 Body, 31 Locals(1, I32), 34 Locals(1, I64), 36 Op(Block(None)), 38 Op(Simple(I32Const(0))), 40 Op(BrTable(1)), 41 Op(Label(0)), 43 Op(Label(0)), 44 Op(End), 45 Op(End), 46 Body, 48 Op(End), 
+every section that holds items: items H 01 04 01 60 00 00 02 07 01 01 61 01 62 00 00 03 02 01 00 04 05 01 70 01 01 02 05 03 01 00 01 06 06 01 7E 01 42 7F 0B 07 05 01 01 63 03 00 08 01 00 09 07 01 00 41 00 0B 01 00 0A 0B 01 09 02 01 7F 02 7E 02 40 0B 0B 0B 07 01 00 23 00 0B 01 61 = NewType, Results(0), ImportModule([97]), ImportName([98]), ImportFunc(0), Func(0), Table(Limits { min: 1, max: Some(2) }), Memory(Limits { min: 1, max: None }), Global(GlobalType { ty: I64, var: true }), ConstOp(Simple(I64Const(-1))), ConstOp(End), ExportName([99]), Export(Global, 0), Start(0), Elem(0), ConstOp(Simple(I32Const(0))), ConstOp(End), ElemFunc(0), Body, Locals(1, I32), Locals(2, I64), Op(Block(None)), Op(End), Op(End), Segment(0), ConstOp(Simple(GlobalGet(0))), ConstOp(End), DataBytes([97]), taken
+indices of one byte and of two: items H 03 06 04 00 01 81 00 02 09 0D 01 00 41 00 0B 06 04 03 02 81 00 01 00 0A 15 04 0A 00 0E 04 00 01 82 00 03 00 0B 02 00 0B 02 00 0B 02 00 0B = Func(0), Func(1), Func(1), Func(2), Elem(0), ConstOp(Simple(I32Const(0))), ConstOp(End), ElemFunc(4), ElemFunc(3), ElemFunc(2), ElemFunc(1), ElemFunc(1), ElemFunc(0), Body, Op(BrTable(4)), Op(Label(0)), Op(Label(1)), Op(Label(2)), Op(Label(3)), Op(Label(0)), Op(End), Body, Op(End), Body, Op(End), Body, Op(End), taken
+names of an import: items H 02 09 01 02 C3 A9 02 62 63 00 00 = ImportModule([195, 169]), ImportName([98, 99]), ImportFunc(0), taken
+no section: items H = taken
+no types: items H 01 01 00 = taken
+a size in five bytes: items H 01 84 80 80 80 00 01 60 00 00 = NewType, Results(0), taken
+a custom section of no data: items H 00 05 04 6E 61 6D 65 = taken
+a custom section, and then no types: items H 00 06 03 61 C3 A9 00 01 01 01 00 = taken
+custom sections of no name around no types: items H 00 01 00 01 01 00 00 01 00 = taken
+no functions and no code: items H 03 01 00 0A 01 00 = taken
+no functions and no data: items H 03 01 00 0B 01 00 = taken
+a constant in five bytes: items H 06 0A 01 7F 00 41 80 80 80 80 78 0B = Global(GlobalType { ty: I32, var: false }), ConstOp(Simple(I32Const(-2147483648))), ConstOp(End), taken
+";
 
-fn all_sections(alloc: Global) -> Result<Vec<u8>, AllocError> {
-    let mut bytes = HEADER.to_vec(alloc)?;
-    for section in ALL {
-        bytes.extend_from_slice(section)?;
-    }
-    Ok(bytes)
+const REFUSALS: &str = "nothing: refusal  = 0 Truncated
+half a header: refusal 00 61 73 6D = 4 Truncated
+another magic: refusal 00 61 73 6C 01 = 4 Magic
+another version: refusal 00 61 73 6D 02 = 5 Version
+an id that no section has: refusal H 0C = 9 SectionId
+a section that ends at its id: refusal H 02 = 9 Truncated
+types twice: refusal H 01 01 00 01 = 12 SectionOrder
+types after functions: refusal H 03 01 00 01 = 12 SectionOrder
+a size of 0: refusal H 01 00 = 10 SectionEnd
+a custom section of size 0: refusal H 00 00 = 10 SectionEnd
+a name that passes its section: refusal H 00 02 02 61 = 12 SectionEnd
+a byte after the types: refusal H 01 02 00 00 = 11 SectionEnd
+a type that passes its section: refusal H 01 02 01 60 = 12 SectionEnd
+a count that passes its section: refusal H 01 06 FF FF FF FF 0F 60 = 16 SectionEnd
+a size in six bytes: refusal H 01 84 80 80 80 80 00 = 14 BadNumber
+a name of one bad byte: refusal H 00 02 01 FF = 12 BadUtf8
+a name with a surrogate: refusal H 00 04 03 ED A0 80 = 14 BadUtf8
+a type with another form: refusal H 01 02 01 61 = 12 BadByte
+a parameter of type f64: refusal H 01 05 01 60 01 7D 00 = 14 Float
+a type that the input cuts: refusal H 01 04 01 60 00 = 13 Truncated
+a name that the input cuts: refusal H 00 05 04 6E = 12 Truncated
+a kind of import: refusal H 02 04 01 00 00 04 = 14 BadByte
+a kind of export: refusal H 07 05 01 01 61 04 00 = 14 BadByte
+an element type: refusal H 04 04 01 6F 00 01 = 12 BadByte
+a flag of limits: refusal H 05 03 01 02 01 = 12 BadByte
+a flag of a global: refusal H 06 06 01 7F 02 41 00 0B = 13 BadByte
+a global of type f32: refusal H 06 06 01 7C 00 41 00 0B = 12 Float
+a module name of a bad byte: refusal H 02 05 01 01 FF 00 00 = 13 BadUtf8
+the fifth byte of an i32: refusal H 06 0A 01 7F 00 41 80 80 80 80 08 0B = 19 BadNumber
+the tenth byte of an i64: refusal H 06 0F 01 7E 00 42 80 80 80 80 80 80 80 80 80 01 0B = 24 BadNumber
+data that pass their section: refusal H 0B 07 01 00 41 00 0B 02 61 = 17 SectionEnd
+a byte after the data: refusal H 0B 07 01 00 41 00 0B 00 61 = 16 SectionEnd
+";
+
+// Of one function of type [] to [].
+const CODE_REFUSALS: &str = "no code: refusal H 01 04 01 60 00 00 03 02 01 00 = 18 CodeCount
+data before the code: refusal H 01 04 01 60 00 00 03 02 01 00 0B = 19 CodeCount
+no code after a custom section: refusal H 01 04 01 60 00 00 03 02 01 00 00 01 00 0B = 22 CodeCount
+two entries for one function: refusal H 01 04 01 60 00 00 03 02 01 00 0A 07 02 02 00 0B 02 00 0B = 21 CodeCount
+no entry for one function: refusal H 01 04 01 60 00 00 03 02 01 00 0A 01 00 = 21 CodeCount
+an entry of size 0: refusal H 01 04 01 60 00 00 03 02 01 00 0A 02 01 00 = 22 BodyEnd
+a byte after the last end: refusal H 01 04 01 60 00 00 03 02 01 00 0A 05 01 03 00 0B 0B = 24 BodyEnd
+a size that passes its section: refusal H 01 04 01 60 00 00 03 02 01 00 0A 04 01 7F 00 0B = 24 BodyEnd
+an entry that its section cuts: refusal H 01 04 01 60 00 00 03 02 01 00 0A 04 01 7F 00 01 = 24 SectionEnd
+an entry without an end: refusal H 01 04 01 60 00 00 03 02 01 00 0A 04 01 02 00 01 = 24 BodyEnd
+an instruction on floats: refusal H 01 04 01 60 00 00 03 02 01 00 0A 09 01 07 00 43 00 00 00 00 0B = 24 Float
+no instruction: refusal H 01 04 01 60 00 00 03 02 01 00 0A 09 01 07 00 C0 00 00 00 00 0B = 24 BadOpcode
+a padded index of a table: refusal H 01 04 01 60 00 00 03 02 01 00 0A 09 01 07 00 11 00 80 80 00 0B = 26 BadByte
+";
+
+#[test]
+fn items_and_their_places(rt: HostRuntime) -> Result<(), Fail> {
+    play(&rt, rt.alloc(), ITEMS, 16)
 }
 
 #[test]
-fn items_of_all_sections(rt: HostRuntime) -> Result<(), Fail> {
-    let bytes = all_sections(rt.alloc())?;
-    for size in SIZES {
-        let seen = seen_in(rt.alloc(), &bytes, size)?;
-        assert_eq!(rt; seen.as_slice(), &IN_ALL[..], "in pieces of {size}");
-    }
-    Ok(())
+fn what_is_refused(rt: HostRuntime) -> Result<(), Fail> {
+    play(&rt, rt.alloc(), REFUSALS, 32)
 }
 
 #[test]
-fn cut_in_two_at_every_place(rt: HostRuntime) -> Result<(), Fail> {
-    let alloc = rt.alloc();
-    for bytes in [
-        all_sections(alloc)?,
-        after_header(alloc, &ADDING)?,
-        after_header(alloc, &DATA)?,
-        after_header(alloc, &ENTRIES)?,
-        after_header(alloc, &INDICES)?,
-    ] {
-        let whole = seen_in(alloc, &bytes, 1000)?;
-        for cut in 0..=bytes.len() {
-            let recorder = nothing_seen(alloc);
-            let mut decoder = Decoder::new(alloc, recorder, Profile::One, 1000);
-            decoder.feed(&bytes[..cut])?;
-            decoder.feed(&bytes[cut..])?;
-            let seen = decoder.finish()?.seen;
-            assert_eq!(rt; seen.as_slice(), whole.as_slice(), "cut at {cut}");
-        }
-    }
-    Ok(())
-}
-
-// Types of functions, functions of an element segment and labels of a br_table; in each list an index of two bytes.
-const INDICES: [u8; 46] = [
-    0x03, 0x06, 0x04, 0x00, 0x01, 0x81, 0x00, 0x02, // types
-    0x09, 0x0D, 0x01, 0x00, 0x41, 0x00, 0x0B, 0x06, 0x04, 0x03, 0x02, 0x81, 0x00, 0x01, 0x00, 0x0A,
-    0x15, 0x04, 0x0A, 0x00, 0x0E, 0x04, 0x00, 0x01, 0x82, 0x00, 0x03, 0x00, 0x0B, // labels
-    0x02, 0x00, 0x0B, 0x02, 0x00, 0x0B, 0x02, 0x00, 0x0B,
-];
-
-const IN_INDICES: [Seen; 27] = [
-    Seen::Func(0),
-    Seen::Func(1),
-    Seen::Func(1),
-    Seen::Func(2),
-    Seen::Elem(0),
-    Seen::ConstOp(Op::Simple(Simple::I32Const(0))),
-    Seen::ConstOp(Op::End),
-    Seen::ElemFunc(4),
-    Seen::ElemFunc(3),
-    Seen::ElemFunc(2),
-    Seen::ElemFunc(1),
-    Seen::ElemFunc(1),
-    Seen::ElemFunc(0),
-    Seen::Body,
-    Seen::Op(Op::BrTable(4)),
-    Seen::Op(Op::Label(0)),
-    Seen::Op(Op::Label(1)),
-    Seen::Op(Op::Label(2)),
-    Seen::Op(Op::Label(3)),
-    Seen::Op(Op::Label(0)),
-    Seen::Op(Op::End),
-    Seen::Body,
-    Seen::Op(Op::End),
-    Seen::Body,
-    Seen::Op(Op::End),
-    Seen::Body,
-    Seen::Op(Op::End),
-];
-
-#[test]
-fn indices_of_one_byte_and_of_two(rt: HostRuntime) -> Result<(), Fail> {
-    let bytes = after_header(rt.alloc(), &INDICES)?;
-    for size in SIZES {
-        let seen = seen_in(rt.alloc(), &bytes, size)?;
-        assert_eq!(rt; seen.as_slice(), &IN_INDICES[..], "in pieces of {size}");
-    }
-    Ok(())
+fn code_that_is_refused(rt: HostRuntime) -> Result<(), Fail> {
+    play(&rt, rt.alloc(), CODE_REFUSALS, 13)
 }
 
 #[test]
 fn a_sink_that_counts(rt: HostRuntime) -> Result<(), Fail> {
     let mut decoder = Decoder::new(rt.alloc(), NONE, Profile::One, 1000);
-    for piece in all_sections(rt.alloc())?.chunks(7) {
-        assert_eq!(rt; decoder.feed(piece), Ok(()));
+    for piece in bytes_of(rt.alloc(), ALL)?.chunks(7) {
+        let _ = decoder.feed(piece);
     }
     let counter = decoder.finish()?;
     assert_eq!(rt; counter.items, 27);
@@ -517,15 +351,12 @@ fn a_sink_that_counts(rt: HostRuntime) -> Result<(), Fail> {
 }
 
 // Two segments, of seven bytes and of none.
-const SEGMENTS: [u8; 20] = [
-    0x0B, 0x12, 0x02, 0x00, 0x41, 0x00, 0x0B, 0x07, 1, 2, 3, 4, 5, 6, 7, 0x00, 0x41, 0x00, 0x0B,
-    0x00,
-];
+const SEGMENTS: &str = "H 0B 12 02 00 41 00 0B 07 01 02 03 04 05 06 07 00 41 00 0B 00";
 
 // Of each piece a segment's bytes come in one slice.
 #[test]
 fn data_come_in_slices(rt: HostRuntime) -> Result<(), Fail> {
-    let bytes = after_header(rt.alloc(), &SEGMENTS)?;
+    let bytes = bytes_of(rt.alloc(), SEGMENTS)?;
     for cut in 0..=bytes.len() {
         let mut decoder = Decoder::new(rt.alloc(), NONE, Profile::One, 1000);
         for piece in [&bytes[..cut], &bytes[cut..]] {
@@ -547,8 +378,7 @@ fn data_come_in_slices(rt: HostRuntime) -> Result<(), Fail> {
 // A name that lies whole in a piece is lent from it, and takes no memory.
 #[test]
 fn a_whole_name_is_not_copied(rt: HostRuntime) -> Result<(), Fail> {
-    let sections = [0x00, 0x04, 0x03, 0x61, 0x62, 0x63];
-    let bytes = after_header(rt.alloc(), &sections)?;
+    let bytes = bytes_of(rt.alloc(), "H 00 04 03 61 62 63")?;
     for cut in 8..=bytes.len() {
         let mut decoder = Decoder::new(rt.alloc(), NONE, Profile::One, 1000);
         assert_eq!(rt; decoder.feed(&bytes[..cut]), Ok(()));
@@ -559,428 +389,49 @@ fn a_whole_name_is_not_copied(rt: HostRuntime) -> Result<(), Fail> {
     Ok(())
 }
 
-#[test]
-fn names_that_are_cut(rt: HostRuntime) -> Result<(), Fail> {
-    let sections = [
-        0x02, 0x09, 0x01, 0x02, 0xC3, 0xA9, 0x02, 0x62, 0x63, 0x00, 0x00,
-    ];
-    let bytes = after_header(rt.alloc(), &sections)?;
-    for size in SIZES {
-        let mut decoder = Decoder::new(rt.alloc(), nothing_seen(rt.alloc()), Profile::One, 1000);
-        for piece in bytes.chunks(size) {
-            assert_eq!(rt; decoder.feed(piece), Ok(()));
-        }
-        let names = decoder.finish()?.names;
-        assert_eq!(rt; names.as_slice(), [0xC3, 0xA9, 0x62, 0x63].as_slice());
-    }
-    Ok(())
-}
-
-#[test]
-fn a_name_that_goes_on(rt: HostRuntime) -> Result<(), Fail> {
-    let mut decoder = Decoder::new(rt.alloc(), nothing_seen(rt.alloc()), Profile::One, 1000);
-    assert_eq!(rt; decoder.feed(&HEADER), Ok(()));
-    assert_eq!(rt; decoder.feed(&[0x00, 0x04, 0x03, 0x61, 0x62]), Ok(()));
-    assert_eq!(rt; decoder.name_len(), 2);
-    assert_eq!(rt; decoder.feed(&[0x63, 0x01, 0x04, 0x01, 0x60]), Ok(()));
-    assert_eq!(rt; decoder.name_len(), 0);
-    assert_eq!(rt; decoder.sink().seen.len(), 1);
-    Ok(())
-}
-
-#[test]
-fn inputs_that_are_taken(rt: HostRuntime) -> Result<(), Fail> {
-    let cases: [(&str, &[u8], usize); 9] = [
-        ("no section", &[], 0),
-        ("no types", &[0x01, 0x01, 0x00], 0),
-        (
-            "a size in five bytes",
-            &[0x01, 0x84, 0x80, 0x80, 0x80, 0x00, 0x01, 0x60, 0x00, 0x00],
-            2,
-        ),
-        (
-            "a custom section of no data",
-            &[0x00, 0x05, 0x04, 0x6E, 0x61, 0x6D, 0x65],
-            0,
-        ),
-        (
-            "a custom section, and then no types",
-            &[
-                0x00, 0x06, 0x03, 0x61, 0xC3, 0xA9, 0x00, 0x01, 0x01, 0x01, 0x00,
-            ],
-            0,
-        ),
-        (
-            "custom sections of no name around no types",
-            &[0x00, 0x01, 0x00, 0x01, 0x01, 0x00, 0x00, 0x01, 0x00],
-            0,
-        ),
-        (
-            "no functions and no code",
-            &[0x03, 0x01, 0x00, 0x0A, 0x01, 0x00],
-            0,
-        ),
-        (
-            "no functions and no data",
-            &[0x03, 0x01, 0x00, 0x0B, 0x01, 0x00],
-            0,
-        ),
-        (
-            "a constant in five bytes",
-            &[
-                0x06, 0x0A, 0x01, 0x7F, 0x00, 0x41, 0x80, 0x80, 0x80, 0x80, 0x78, 0x0B,
-            ],
-            3,
-        ),
-    ];
-    for (case, sections, items) in cases {
-        let bytes = after_header(rt.alloc(), sections)?;
-        for size in SIZES {
-            let seen = seen_in(rt.alloc(), &bytes, size)?;
-            assert_eq!(rt; seen.len(), items, "{case} in pieces of {size}");
-        }
-    }
-    Ok(())
-}
-
-// Sees that a header, the sections before and then each of these are refused so, however they are cut.
-fn expect_refusals(
+// After this piece so many bytes of a name are held, and so many items were given.
+fn expect_held(
     rt: &impl Abort,
-    alloc: Global,
-    front: &[u8],
-    cases: &[(&str, &[u8], u64, Why)],
-) -> Result<(), Fail> {
-    for (case, sections, at, why) in cases {
-        let mut bytes = after_header(alloc, front)?;
-        bytes.extend_from_slice(sections)?;
-        let refusal = Refusal { at: *at, why: *why };
-        for size in SIZES {
-            let answer = seen_in(alloc, &bytes, size).err();
-            assert_eq!(rt; answer, Some(refusal), "{case} in pieces of {size}");
-        }
+    decoder: &mut Decoder<Recorder>,
+    piece: &[u8],
+    name: u64,
+    items: usize,
+) {
+    assert!(rt; decoder.feed(piece).is_ok());
+    assert!(rt; decoder.name_len() == name && decoder.sink().seen.len() == items);
+}
+
+#[test]
+fn a_name_that_goes_on(rt: HostRuntime) {
+    let mut decoder = Decoder::new(rt.alloc(), nothing_seen(rt.alloc()), Profile::One, 1000);
+    expect_held(&rt, &mut decoder, &HEADER, 0, 0);
+    expect_held(&rt, &mut decoder, b"\x00\x04\x03ab", 2, 0);
+    expect_held(&rt, &mut decoder, b"c\x01\x04\x01\x60", 0, 1);
+}
+
+// A header of which seven bytes are within the limit, of which so many come first and the rest in pieces of so many.
+fn past_the_limit(alloc: Global, first: usize, size: usize) -> Option<Refusal>
+    requires { 0 < size }
+{
+    let mut decoder = Decoder::new(alloc, NONE, Profile::One, 7);
+    let (front, back) = HEADER.split_at(first.min(HEADER.len()));
+    let _ = decoder.feed(front);
+    let _ = decoder.feed(&[]);
+    for piece in back.chunks(size) {
+        let _ = decoder.feed(piece);
     }
-    Ok(())
+    decoder.feed(&[]).err()
 }
 
 #[test]
-fn sections_that_are_refused(rt: HostRuntime) -> Result<(), Fail> {
-    let cases: [(&str, &[u8], u64, Why); 17] = [
-        ("an id that no section has", &[0x0C], 9, Why::SectionId),
-        ("a section that ends at its id", &[0x02], 9, Why::Truncated),
-        (
-            "types twice",
-            &[0x01, 0x01, 0x00, 0x01],
-            12,
-            Why::SectionOrder,
-        ),
-        (
-            "types after functions",
-            &[0x03, 0x01, 0x00, 0x01],
-            12,
-            Why::SectionOrder,
-        ),
-        ("a size of 0", &[0x01, 0x00], 10, Why::SectionEnd),
-        (
-            "a custom section of size 0",
-            &[0x00, 0x00],
-            10,
-            Why::SectionEnd,
-        ),
-        (
-            "a name that passes its section",
-            &[0x00, 0x02, 0x02, 0x61],
-            12,
-            Why::SectionEnd,
-        ),
-        (
-            "a byte after the types",
-            &[0x01, 0x02, 0x00, 0x00],
-            11,
-            Why::SectionEnd,
-        ),
-        (
-            "a type that passes its section",
-            &[0x01, 0x02, 0x01, 0x60],
-            12,
-            Why::SectionEnd,
-        ),
-        (
-            "a count that passes its section",
-            &[0x01, 0x06, 0xFF, 0xFF, 0xFF, 0xFF, 0x0F, 0x60],
-            16,
-            Why::SectionEnd,
-        ),
-        (
-            "a size in six bytes",
-            &[0x01, 0x84, 0x80, 0x80, 0x80, 0x80, 0x00],
-            14,
-            Why::BadNumber,
-        ),
-        (
-            "a name of one bad byte",
-            &[0x00, 0x02, 0x01, 0xFF],
-            12,
-            Why::BadUtf8,
-        ),
-        (
-            "a name with a surrogate",
-            &[0x00, 0x04, 0x03, 0xED, 0xA0, 0x80],
-            14,
-            Why::BadUtf8,
-        ),
-        (
-            "a type with another form",
-            &[0x01, 0x02, 0x01, 0x61],
-            12,
-            Why::BadByte,
-        ),
-        (
-            "a parameter of type f64",
-            &[0x01, 0x05, 0x01, 0x60, 0x01, 0x7D, 0x00],
-            14,
-            Why::Float,
-        ),
-        (
-            "a type that the input cuts",
-            &[0x01, 0x04, 0x01, 0x60, 0x00],
-            13,
-            Why::Truncated,
-        ),
-        (
-            "a name that the input cuts",
-            &[0x00, 0x05, 0x04, 0x6E],
-            12,
-            Why::Truncated,
-        ),
-    ];
-    expect_refusals(&rt, rt.alloc(), &[], &cases)
-}
-
-#[test]
-fn members_that_are_refused(rt: HostRuntime) -> Result<(), Fail> {
-    let cases: [(&str, &[u8], u64, Why); 11] = [
-        (
-            "a kind of import",
-            &[0x02, 0x04, 0x01, 0x00, 0x00, 0x04],
-            14,
-            Why::BadByte,
-        ),
-        (
-            "a kind of export",
-            &[0x07, 0x05, 0x01, 0x01, 0x61, 0x04, 0x00],
-            14,
-            Why::BadByte,
-        ),
-        (
-            "an element type",
-            &[0x04, 0x04, 0x01, 0x6F, 0x00, 0x01],
-            12,
-            Why::BadByte,
-        ),
-        (
-            "a flag of limits",
-            &[0x05, 0x03, 0x01, 0x02, 0x01],
-            12,
-            Why::BadByte,
-        ),
-        (
-            "a flag of a global",
-            &[0x06, 0x06, 0x01, 0x7F, 0x02, 0x41, 0x00, 0x0B],
-            13,
-            Why::BadByte,
-        ),
-        (
-            "a global of type f32",
-            &[0x06, 0x06, 0x01, 0x7C, 0x00, 0x41, 0x00, 0x0B],
-            12,
-            Why::Float,
-        ),
-        (
-            "a module name of a bad byte",
-            &[0x02, 0x05, 0x01, 0x01, 0xFF, 0x00, 0x00],
-            13,
-            Why::BadUtf8,
-        ),
-        (
-            "the fifth byte of an i32",
-            &[
-                0x06, 0x0A, 0x01, 0x7F, 0x00, 0x41, 0x80, 0x80, 0x80, 0x80, 0x08, 0x0B,
-            ],
-            19,
-            Why::BadNumber,
-        ),
-        (
-            "the tenth byte of an i64",
-            &[
-                0x06, 0x0F, 0x01, 0x7E, 0x00, 0x42, 0x80, 0x80, 0x80, 0x80, 0x80, 0x80, 0x80, 0x80,
-                0x80, 0x01, 0x0B,
-            ],
-            24,
-            Why::BadNumber,
-        ),
-        (
-            "data that pass their section",
-            &[0x0B, 0x07, 0x01, 0x00, 0x41, 0x00, 0x0B, 0x02, 0x61],
-            17,
-            Why::SectionEnd,
-        ),
-        (
-            "a byte after the data",
-            &[0x0B, 0x07, 0x01, 0x00, 0x41, 0x00, 0x0B, 0x00, 0x61],
-            16,
-            Why::SectionEnd,
-        ),
-    ];
-    expect_refusals(&rt, rt.alloc(), &[], &cases)
-}
-
-#[test]
-fn code_that_is_refused(rt: HostRuntime) -> Result<(), Fail> {
-    // one function of type [] to []
-    let front = [0x01, 0x04, 0x01, 0x60, 0x00, 0x00, 0x03, 0x02, 0x01, 0x00];
-    let cases: [(&str, &[u8], u64, Why); 13] = [
-        ("no code", &[], 18, Why::CodeCount),
-        ("data before the code", &[0x0B], 19, Why::CodeCount),
-        (
-            "no code after a custom section",
-            &[0x00, 0x01, 0x00, 0x0B],
-            22,
-            Why::CodeCount,
-        ),
-        (
-            "two entries for one function",
-            &[0x0A, 0x07, 0x02, 0x02, 0x00, 0x0B, 0x02, 0x00, 0x0B],
-            21,
-            Why::CodeCount,
-        ),
-        (
-            "no entry for one function",
-            &[0x0A, 0x01, 0x00],
-            21,
-            Why::CodeCount,
-        ),
-        (
-            "an entry of size 0",
-            &[0x0A, 0x02, 0x01, 0x00],
-            22,
-            Why::BodyEnd,
-        ),
-        (
-            "a byte after the last end",
-            &[0x0A, 0x05, 0x01, 0x03, 0x00, 0x0B, 0x0B],
-            24,
-            Why::BodyEnd,
-        ),
-        (
-            "a size that passes its section",
-            &[0x0A, 0x04, 0x01, 0x7F, 0x00, 0x0B],
-            24,
-            Why::BodyEnd,
-        ),
-        (
-            "an entry that its section cuts",
-            &[0x0A, 0x04, 0x01, 0x7F, 0x00, 0x01],
-            24,
-            Why::SectionEnd,
-        ),
-        (
-            "an entry without an end",
-            &[0x0A, 0x04, 0x01, 0x02, 0x00, 0x01],
-            24,
-            Why::BodyEnd,
-        ),
-        (
-            "an instruction on floats",
-            &[
-                0x0A, 0x09, 0x01, 0x07, 0x00, 0x43, 0x00, 0x00, 0x00, 0x00, 0x0B,
-            ],
-            24,
-            Why::Float,
-        ),
-        (
-            "no instruction",
-            &[
-                0x0A, 0x09, 0x01, 0x07, 0x00, 0xC0, 0x00, 0x00, 0x00, 0x00, 0x0B,
-            ],
-            24,
-            Why::BadOpcode,
-        ),
-        (
-            "a padded index of a table",
-            &[
-                0x0A, 0x09, 0x01, 0x07, 0x00, 0x11, 0x00, 0x80, 0x80, 0x00, 0x0B,
-            ],
-            26,
-            Why::BadByte,
-        ),
-    ];
-    expect_refusals(&rt, rt.alloc(), &front, &cases)
-}
-
-#[test]
-fn headers_that_are_refused(rt: HostRuntime) -> Result<(), Fail> {
-    let cases: [(&str, &[u8], u64, Why); 4] = [
-        ("nothing", &[], 0, Why::Truncated),
-        (
-            "half a header",
-            &[0x00, 0x61, 0x73, 0x6D],
-            4,
-            Why::Truncated,
-        ),
-        (
-            "another magic",
-            &[0x00, 0x61, 0x73, 0x6C, 0x01],
-            4,
-            Why::Magic,
-        ),
-        (
-            "another version",
-            &[0x00, 0x61, 0x73, 0x6D, 0x02],
-            5,
-            Why::Version,
-        ),
-    ];
-    for (case, bytes, at, why) in cases {
-        for size in SIZES {
-            let answer = seen_in(rt.alloc(), bytes, size).err();
-            assert_eq!(rt;
-                answer,
-                Some(Refusal { at, why }),
-                "{case} in pieces of {size}"
-            );
-        }
-    }
-    Ok(())
-}
-
-#[test]
-fn a_limit(rt: HostRuntime) -> Result<(), Fail> {
-    let refusal = Refusal {
+fn a_limit(rt: HostRuntime) {
+    let refusal = Some(Refusal {
         at: 8,
         why: Why::TooLong,
-    };
-    let cuts: [&[&[u8]]; 3] = [
-        &[&HEADER],
-        &[&HEADER[..7], &[], &HEADER[7..]],
-        &[
-            &HEADER[..1],
-            &HEADER[1..2],
-            &HEADER[2..3],
-            &HEADER[3..4],
-            &HEADER[4..5],
-            &HEADER[5..6],
-            &HEADER[6..7],
-            &HEADER[7..],
-        ],
-    ];
-    for pieces in cuts {
-        let mut decoder = Decoder::new(rt.alloc(), nothing_seen(rt.alloc()), Profile::One, 7);
-        for piece in pieces {
-            let _ = decoder.feed(piece);
-        }
-        assert_eq!(rt; decoder.feed(&[]), Err(refusal));
-    }
-    Ok(())
+    });
+    assert!(rt; past_the_limit(rt.alloc(), 8, 1) == refusal);
+    assert!(rt; past_the_limit(rt.alloc(), 7, 1) == refusal);
+    assert!(rt; past_the_limit(rt.alloc(), 0, 1) == refusal);
 }
 
 // A custom section of 127 bytes, of which 9 are within the limit.
@@ -990,7 +441,7 @@ fn a_limit_within_custom_bytes(rt: HostRuntime) -> Result<(), Fail> {
         at: 21,
         why: Why::TooLong,
     };
-    let mut bytes = after_header(rt.alloc(), &[0x00, 0x7F, 0x01, 0x61])?;
+    let mut bytes = bytes_of(rt.alloc(), "H 00 7F 01 61")?;
     bytes.extend_from_slice(&[0; 125])?;
     for size in SIZES {
         let mut decoder = Decoder::new(rt.alloc(), NONE, Profile::One, 20);
@@ -1007,21 +458,23 @@ fn a_limit_within_custom_bytes(rt: HostRuntime) -> Result<(), Fail> {
     Ok(())
 }
 
+// What a sink answers that refuses all items, at the feed and at the end.
+fn refused_by_full(alloc: Global, bytes: &[u8]) -> (Option<Refusal>, Option<Refusal>) {
+    let mut decoder = Decoder::new(alloc, Full {}, Profile::One, 1000);
+    let answer = decoder.feed(bytes).err();
+    (answer, decoder.finish().err())
+}
+
 #[test]
 fn a_sink_that_refuses(rt: HostRuntime) -> Result<(), Fail> {
-    let sections: [&[u8]; 2] = [
-        &[0x01, 0x04, 0x01, 0x60, 0x00, 0x00],
-        &[0x03, 0x04, 0x03, 0x00, 0x00, 0x00],
-    ];
     let refusal = Refusal {
         at: 12,
         why: Why::Arity,
     };
-    for section in sections {
-        let mut decoder = Decoder::new(rt.alloc(), Full {}, Profile::One, 1000);
-        assert_eq!(rt; decoder.feed(&HEADER), Ok(()));
-        assert_eq!(rt; decoder.feed(section), Err(refusal));
-        assert_eq!(rt; decoder.finish().err(), Some(refusal));
+    for row in "H 01 04 01 60 00 00\nH 03 04 03 00 00 00".lines() {
+        let bytes = bytes_of(rt.alloc(), row)?;
+        let found = refused_by_full(rt.alloc(), bytes.as_slice());
+        assert!(rt; found == (Some(refusal), Some(refusal)), "{row}");
     }
     Ok(())
 }
@@ -1053,8 +506,8 @@ fn laws_are_called(rt: HostRuntime) -> Result<(), Fail> {
     laws::input_is_bytes();
     laws::one_spelling_one_module();
     laws::slices_join::<Recorder>();
-    let seen = seen_in(rt.alloc(), &HEADER, 1)?;
-    assert!(rt; seen.is_empty());
+    let told = told(rt.alloc(), &HEADER, 0, 1)?;
+    assert_eq!(rt; told.as_str(), "taken");
     Ok(())
 }
 

@@ -4,6 +4,8 @@ use crate::{Builder, Checker, laws};
 use std::alloc::Global;
 use std::io::{self, Read};
 use wm_decode::{Item, Sink};
+use std::process::Abort;
+use std::test::Fail;
 use wm_syntax::instructions::{Op, Simple};
 use wm_syntax::modules::ExportKind;
 use wm_syntax::types::{GlobalType, Limits, ValType};
@@ -37,351 +39,292 @@ pub(crate) fn is<T>(_field: &T) {}
 /// What can be copied is no list.
 pub(crate) fn is_copy<T: Copy>(_field: &T) {}
 
-const I32: ValType = ValType::I32;
-
-const I64: ValType = ValType::I64;
-
-const CONST: GlobalType = GlobalType {
-    ty: ValType::I32,
-    var: false,
-};
-
-const VAR: GlobalType = GlobalType {
-    ty: ValType::I32,
-    var: true,
-};
-
-const ONE: Op = Op::Simple(Simple::I32Const(1));
-
-const LONG: Op = Op::Simple(Simple::I64Const(1));
-
-const NOP: Op = Op::Simple(Simple::Nop);
-
-fn global_get(index: u32) -> Op {
-    Op::Simple(Simple::GlobalGet(index))
-}
-
-fn sized(min: u32, max: u32) -> Limits {
-    Limits {
-        min,
-        max: Some(max),
+fn type_of(word: &str) -> Option<ValType> {
+    match word {
+        "i32" => Some(ValType::I32),
+        "i64" => Some(ValType::I64),
+        _ => None,
     }
 }
 
-fn from(min: u32) -> Limits {
-    Limits { min, max: None }
+fn kind_of(word: &str) -> Option<ExportKind> {
+    match word {
+        "func" => Some(ExportKind::Func),
+        "table" => Some(ExportKind::Table),
+        "memory" => Some(ExportKind::Memory),
+        "global" => Some(ExportKind::Global),
+        _ => None,
+    }
 }
 
-// How the first refused item is answered, with its place.
-fn judge(alloc: Global, items: &[Item]) -> Result<(), (usize, Why)> {
+/// Limits: the least number, and the greatest where there is one.
+fn limits_of(words: &str) -> Option<Limits> {
+    let (min, max) = words.split_once(' ').unwrap_or((words, ""));
+    Some(Limits {
+        min: min.parse::<u32>().ok()?,
+        max: max.parse::<u32>().ok(),
+    })
+}
+
+/// The type of a global: `i32` where it is constant, `var i32` where it is not.
+fn global_of(words: &str) -> Option<GlobalType> {
+    let (var, word) = words.split_once(' ').unwrap_or(("", words));
+    Some(GlobalType {
+        ty: type_of(word)?,
+        var: var == "var",
+    })
+}
+
+fn op_of(words: &str) -> Option<Op> {
+    let (word, number) = words.split_once(' ').unwrap_or((words, "0"));
+    let index = number.parse::<u32>().ok()?;
+    Some(match word {
+        "i32.const" => Op::Simple(Simple::I32Const(1)),
+        "i64.const" => Op::Simple(Simple::I64Const(1)),
+        "nop" => Op::Simple(Simple::Nop),
+        "drop" => Op::Simple(Simple::Drop),
+        "else" => Op::Else,
+        "end" => Op::End,
+        "global.get" => Op::Simple(Simple::GlobalGet(index)),
+        "global.set" => Op::Simple(Simple::GlobalSet(index)),
+        "local.get" => Op::Simple(Simple::LocalGet(index)),
+        "call" => Op::Simple(Simple::Call(index)),
+        _ => return None,
+    })
+}
+
+/// An item that has a number.
+fn numbered(word: &str, number: &str) -> Option<Item<'static>> {
+    let n = number.parse::<u32>().ok()?;
+    match word {
+        "results" => Some(Item::Results(n)),
+        "import_func" => Some(Item::ImportFunc(n)),
+        "func" => Some(Item::Func(n)),
+        "start" => Some(Item::Start(n)),
+        "elem" => Some(Item::Elem(n)),
+        "elem_func" => Some(Item::ElemFunc(n)),
+        "segment" => Some(Item::Segment(n)),
+        _ => None,
+    }
+}
+
+/// An item that has a type, limits or an op.
+fn typed(word: &str, rest: &str) -> Option<Item<'static>> {
+    match word {
+        "param" => type_of(rest).map(Item::Param),
+        "result" => type_of(rest).map(Item::Result),
+        "import_table" => limits_of(rest).map(Item::ImportTable),
+        "table" => limits_of(rest).map(Item::Table),
+        "import_memory" => limits_of(rest).map(Item::ImportMemory),
+        "memory" => limits_of(rest).map(Item::Memory),
+        "import_global" => global_of(rest).map(Item::ImportGlobal),
+        "global" => global_of(rest).map(Item::Global),
+        "const" => op_of(rest).map(Item::ConstOp),
+        "op" => op_of(rest).map(Item::Op),
+        _ => None,
+    }
+}
+
+/// An item that has bytes, or two words.
+fn named<'a>(word: &str, rest: &'a str) -> Option<Item<'a>> {
+    match word {
+        "type" => Some(Item::NewType),
+        "body" => Some(Item::Body),
+        "import_module" => Some(Item::ImportModule(rest.as_bytes())),
+        "import_name" => Some(Item::ImportName(rest.as_bytes())),
+        "export_name" => Some(Item::ExportName(rest.as_bytes())),
+        "data" => Some(Item::DataBytes(rest.as_bytes())),
+        "export" => {
+            let (kind, index) = rest.split_once(' ')?;
+            Some(Item::Export(kind_of(kind)?, index.parse::<u32>().ok()?))
+        }
+        "locals" => {
+            let (count, ty) = rest.split_once(' ')?;
+            Some(Item::Locals(count.parse::<u32>().ok()?, type_of(ty)?))
+        }
+        _ => None,
+    }
+}
+
+/// The item that these words are, where they are one.
+fn item_of(words: &str) -> Option<Item<'_>> {
+    let (word, rest) = words.split_once(' ').unwrap_or((words, ""));
+    if let Some(item) = numbered(word, rest) {
+        return Some(item);
+    }
+    if let Some(item) = typed(word, rest) {
+        return Some(item);
+    }
+    named(word, rest)
+}
+
+/// Has the checker take an item; the word of the refusal, if it is refused.
+fn take(checker: &mut Checker, words: &str) -> Option<&'static str> {
+    let Some(item) = item_of(words) else {
+        return Some("no such item");
+    };
+    match checker.take(item) {
+        Ok(()) => None,
+        Err(why) => Some(why.name()),
+    }
+}
+
+/// The word of the refusal of the last item; what comes after a refused item stands behind the word.
+fn judged(alloc: Global, items: &str) -> Result<String, Fail> {
     let mut checker = Checker::new(alloc);
-    for (i, item) in items.iter().enumerate() {
-        if let Err(why) = checker.take(*item) {
-            return Err((i, why));
+    let mut answer = String::new(alloc);
+    for words in items.split(", ") {
+        if !answer.as_str().is_empty() {
+            write!(answer, ", {words}")?;
+        } else if let Some(word) = take(&mut checker, words) {
+            write!(answer, "{word}")?;
         }
     }
+    if answer.as_str().is_empty() {
+        write!(answer, "taken")?;
+    }
+    Ok(answer)
+}
+
+/// Plays rows `ITEM, ITEM .. = ANSWER`, as many as are wanted.
+fn play(rt: &impl Abort, alloc: Global, rows: &str, wanted: usize) -> Result<(), Fail> {
+    let mut played = 0_usize;
+    for row in rows.lines() {
+        let (items, answer) = row.split_once(" = ").unwrap_or((row, "no answer"));
+        let found = judged(alloc, items)?;
+        assert!(rt; found.as_str() == answer, "{row}: {found}");
+        played = played.saturating_add(1);
+    }
+    assert!(rt; played == wanted, "{played} rows");
     Ok(())
 }
 
-// The last of the items is refused for this reason, and none before it.
-fn refused_last(alloc: Global, items: &[Item], why: Why) -> bool {
-    match judge(alloc, items) {
-        Ok(()) => false,
-        Err((i, name)) => i.checked_add(1) == Some(items.len()) && name == why,
-    }
+// A module with every part; an offset names an own constant global.
+const EVERY_PART: &str = "type, param i64, results 1, result i32, type, results 0, import_module m, import_name f, import_func 0, import_module m, import_name g, import_global i32, func 1, func 0, table 1 4294967295, memory 65536 65536, global var i32, const global.get 0, const end, global i32, const i32.const, const end, export_name a, export func 2, export_name , export table 0, export_name ab, export memory 0, export_name b, export global 2, start 1, elem 0, const global.get 2, const end, elem_func 2, elem_func 0, body, op end, body, locals 2 i32, op local.get 2, op global.set 1, op local.get 0, op call 0, op end, segment 0, const i32.const, const end, data abc = taken
+";
+
+// Types and imports.
+const TYPES: &str = "type, results 2 = Arity
+type, results 0, import_func 1 = Index
+func 0 = Index
+import_table 0, table 0 = Second
+memory 0, memory 9 = Second
+import_memory 0, memory 65537 = Second
+memory 65537 = Limits
+import_memory 0 65537 = Limits
+memory 2 1 = Limits
+table 2 1 = Limits
+";
+
+// Constant expressions.
+const CONSTANTS: &str = "global i32, const end = Arity
+global i32, const i64.const = Type
+global i32, const nop = NotConst
+global i32, const else = NotConst
+global i32, const i32.const, const i64.const = Arity
+global i32, const i32.const, const nop = NotConst
+global i32, const i32.const, const end, global i32, const global.get 0 = Index
+import_global var i32, global i32, const global.get 0 = NotConst
+import_global i32, global var i64, const global.get 0 = Type
+memory 0, segment 0, const i64.const = Type
+const i32.const = Index
+";
+
+// Exports, start functions and segments.
+const USES: &str = "export_name a, export_name b, export_name a = DuplicateExport
+export_name a, export func 0 = Index
+export_name a, export table 0 = Index
+export_name a, export memory 0 = Index
+export_name a, export global 0 = Index
+memory 0, export_name a, export memory 1 = Index
+type, results 0, func 0, start 1 = Index
+type, param i32, results 0, func 0, start 0 = StartType
+type, results 1, result i32, func 0, start 0 = StartType
+elem 0 = Index
+table 0, elem 1 = Index
+elem_func 0 = Index
+segment 0 = Index
+";
+
+// Bodies. The last but three is of an own function, whose type is not that of the imported one.
+const BODIES: &str = "type, results 0, func 0, body, op i32.const, op end = Arity
+type, results 0, func 0, body, op global.get 0 = Index
+type, results 0, func 0, body, locals 4294967295 i32, locals 1 i64 = TooManyLocals
+type, param i32, results 0, type, results 0, import_func 0, func 1, body, op local.get 0 = Index
+body = Index
+op end = Index
+locals 1 i32 = Index
+";
+
+#[test]
+fn takes_a_module_with_every_part(rt: HostRuntime) -> Result<(), Fail> {
+    play(&rt, rt.alloc(), EVERY_PART, 1)
 }
 
 #[test]
-fn takes_a_module_with_every_part(rt: HostRuntime) {
-    let items = [
-        Item::NewType,
-        Item::Param(I64),
-        Item::Results(1),
-        Item::Result(I32),
-        Item::NewType,
-        Item::Results(0),
-        Item::ImportModule(b"m"),
-        Item::ImportName(b"f"),
-        Item::ImportFunc(0),
-        Item::ImportModule(b"m"),
-        Item::ImportName(b"g"),
-        Item::ImportGlobal(CONST),
-        Item::Func(1),
-        Item::Func(0),
-        Item::Table(sized(1, 4294967295)),
-        Item::Memory(sized(65536, 65536)),
-        Item::Global(VAR),
-        Item::ConstOp(global_get(0)),
-        Item::ConstOp(Op::End),
-        Item::Global(CONST),
-        Item::ConstOp(ONE),
-        Item::ConstOp(Op::End),
-        Item::ExportName(b"a"),
-        Item::Export(ExportKind::Func, 2),
-        Item::ExportName(b""),
-        Item::Export(ExportKind::Table, 0),
-        Item::ExportName(b"ab"),
-        Item::Export(ExportKind::Memory, 0),
-        Item::ExportName(b"b"),
-        Item::Export(ExportKind::Global, 2),
-        Item::Start(1),
-        // an offset may name an own constant global
-        Item::Elem(0),
-        Item::ConstOp(global_get(2)),
-        Item::ConstOp(Op::End),
-        Item::ElemFunc(2),
-        Item::ElemFunc(0),
-        Item::Body,
-        Item::Op(Op::End),
-        Item::Body,
-        Item::Locals(2, I32),
-        Item::Op(Op::Simple(Simple::LocalGet(2))),
-        Item::Op(Op::Simple(Simple::GlobalSet(1))),
-        Item::Op(Op::Simple(Simple::LocalGet(0))),
-        Item::Op(Op::Simple(Simple::Call(0))),
-        Item::Op(Op::End),
-        Item::Segment(0),
-        Item::ConstOp(ONE),
-        Item::ConstOp(Op::End),
-        Item::DataBytes(b"abc"),
-    ];
-    assert_eq!(rt; judge(rt.alloc(), &items), Ok(()));
+fn refuses_types_and_imports(rt: HostRuntime) -> Result<(), Fail> {
+    play(&rt, rt.alloc(), TYPES, 10)
 }
 
 #[test]
-fn refuses_types_and_imports(rt: HostRuntime) {
-    let alloc = rt.alloc();
-    assert!(rt; refused_last(alloc, &[Item::NewType, Item::Results(2)], Why::Arity));
-    assert!(rt;
-        refused_last(
-            alloc,
-            &[Item::NewType, Item::Results(0), Item::ImportFunc(1)],
-            Why::Index
-        )
-    );
-    assert!(rt; refused_last(alloc, &[Item::Func(0)], Why::Index));
-    assert!(rt;
-        refused_last(
-            alloc,
-            &[Item::ImportTable(from(0)), Item::Table(from(0))],
-            Why::Second
-        )
-    );
-    assert!(rt;
-        refused_last(
-            alloc,
-            &[Item::Memory(from(0)), Item::Memory(from(9))],
-            Why::Second
-        )
-    );
-    assert!(rt;
-        refused_last(
-            alloc,
-            &[Item::ImportMemory(from(0)), Item::Memory(from(65537))],
-            Why::Second
-        )
-    );
-    assert!(rt; refused_last(alloc, &[Item::Memory(from(65537))], Why::Limits));
-    assert!(rt; refused_last(alloc, &[Item::ImportMemory(sized(0, 65537))], Why::Limits));
-    assert!(rt; refused_last(alloc, &[Item::Memory(sized(2, 1))], Why::Limits));
-    assert!(rt; refused_last(alloc, &[Item::Table(sized(2, 1))], Why::Limits));
+fn refuses_constant_expressions(rt: HostRuntime) -> Result<(), Fail> {
+    play(&rt, rt.alloc(), CONSTANTS, 11)
 }
 
 #[test]
-fn refuses_constant_expressions(rt: HostRuntime) {
-    let alloc = rt.alloc();
-    let global = Item::Global(CONST);
-    let imported = Item::ImportGlobal(CONST);
-    assert!(rt; refused_last(alloc, &[global, Item::ConstOp(Op::End)], Why::Arity));
-    assert!(rt; refused_last(alloc, &[global, Item::ConstOp(LONG)], Why::Mismatch));
-    assert!(rt; refused_last(alloc, &[global, Item::ConstOp(NOP)], Why::NotConst));
-    assert!(rt; refused_last(alloc, &[global, Item::ConstOp(Op::Else)], Why::NotConst));
-    assert!(rt;
-        refused_last(
-            alloc,
-            &[global, Item::ConstOp(ONE), Item::ConstOp(LONG)],
-            Why::Arity
-        )
-    );
-    assert!(rt;
-        refused_last(
-            alloc,
-            &[global, Item::ConstOp(ONE), Item::ConstOp(NOP)],
-            Why::NotConst
-        )
-    );
-    let own = [
-        global,
-        Item::ConstOp(ONE),
-        Item::ConstOp(Op::End),
-        global,
-        Item::ConstOp(global_get(0)),
-    ];
-    assert!(rt; refused_last(alloc, &own, Why::Index));
-    let read = Item::ConstOp(global_get(0));
-    assert!(rt;
-        refused_last(
-            alloc,
-            &[Item::ImportGlobal(VAR), global, read],
-            Why::NotConst
-        )
-    );
-    let long = GlobalType { ty: I64, var: true };
-    assert!(rt; refused_last(alloc, &[imported, Item::Global(long), read], Why::Mismatch));
-    assert!(rt;
-        refused_last(
-            alloc,
-            &[Item::Memory(from(0)), Item::Segment(0), Item::ConstOp(LONG)],
-            Why::Mismatch
-        )
-    );
-    assert!(rt; refused_last(alloc, &[Item::ConstOp(ONE)], Why::Index));
+fn refuses_uses(rt: HostRuntime) -> Result<(), Fail> {
+    play(&rt, rt.alloc(), USES, 13)
 }
 
 #[test]
-fn refuses_uses(rt: HostRuntime) {
-    let alloc = rt.alloc();
-    let ty = Item::NewType;
-    let param = Item::Param(I32);
-    let none = Item::Results(0);
-    let name = Item::ExportName(b"a");
-    assert!(rt;
-        refused_last(
-            alloc,
-            &[name, Item::ExportName(b"b"), name],
-            Why::DuplicateExport
-        )
-    );
-    for kind in [
-        ExportKind::Func,
-        ExportKind::Table,
-        ExportKind::Memory,
-        ExportKind::Global,
-    ] {
-        assert!(rt; refused_last(alloc, &[name, Item::Export(kind, 0)], Why::Index));
-    }
-    assert!(rt;
-        refused_last(
-            alloc,
-            &[
-                Item::Memory(from(0)),
-                name,
-                Item::Export(ExportKind::Memory, 1)
-            ],
-            Why::Index
-        )
-    );
-    assert!(rt;
-        refused_last(
-            alloc,
-            &[ty, none, Item::Func(0), Item::Start(1)],
-            Why::Index
-        )
-    );
-    assert!(rt;
-        refused_last(
-            alloc,
-            &[ty, param, none, Item::Func(0), Item::Start(0)],
-            Why::StartType
-        )
-    );
-    let gives = [
-        ty,
-        Item::Results(1),
-        Item::Result(I32),
-        Item::Func(0),
-        Item::Start(0),
-    ];
-    assert!(rt; refused_last(alloc, &gives, Why::StartType));
-    assert!(rt; refused_last(alloc, &[Item::Elem(0)], Why::Index));
-    assert!(rt; refused_last(alloc, &[Item::Table(from(0)), Item::Elem(1)], Why::Index));
-    assert!(rt; refused_last(alloc, &[Item::ElemFunc(0)], Why::Index));
-    assert!(rt; refused_last(alloc, &[Item::Segment(0)], Why::Index));
+fn refuses_bodies(rt: HostRuntime) -> Result<(), Fail> {
+    play(&rt, rt.alloc(), BODIES, 7)
+}
+
+// What a checker keeps after each item.
+const KEPT: &str = "type = 1
+param i32 = 2
+param i32 = 3
+results 1 = 3
+result i32 = 4
+import_global var i32 = 5
+func 0 = 6
+memory 1 = 6
+global i32 = 7
+const i32.const = 7
+const end = 7
+export_name ab = 10
+export func 0 = 10
+body = 11
+locals 1000 i64 = 12
+op local.get 0 = 13
+op local.get 0 = 14
+op drop = 13
+op end = 10
+segment 0 = 10
+const i32.const = 10
+const end = 10
+data many bytes = 10
+";
+
+/// The checker takes this item, and keeps as much as the row says.
+fn play_kept(rt: &impl Abort, checker: &mut Checker, row: &str) -> Result<(), Fail> {
+    let (words, wanted) = row.split_once(" = ").unwrap_or((row, "no answer"));
+    assert!(rt; take(checker, words).is_none(), "{row}");
+    assert!(rt; checker.kept() == wanted.parse::<u64>()?, "{row}");
+    Ok(())
 }
 
 #[test]
-fn refuses_bodies(rt: HostRuntime) {
-    let alloc = rt.alloc();
-    let ty = Item::NewType;
-    let none = Item::Results(0);
-    let function = Item::Func(0);
-    let body = Item::Body;
-    assert!(rt;
-        refused_last(
-            alloc,
-            &[ty, none, function, body, Item::Op(ONE), Item::Op(Op::End)],
-            Why::Arity
-        )
-    );
-    assert!(rt;
-        refused_last(
-            alloc,
-            &[ty, none, function, body, Item::Op(global_get(0))],
-            Why::Index
-        )
-    );
-    let many = Item::Locals(4294967295, I32);
-    assert!(rt;
-        refused_last(
-            alloc,
-            &[ty, none, function, body, many, Item::Locals(1, I64)],
-            Why::TooManyLocals
-        )
-    );
-    // the body of an own function, whose type is not that of the imported one
-    let second = [
-        ty,
-        Item::Param(I32),
-        none,
-        ty,
-        none,
-        Item::ImportFunc(0),
-        Item::Func(1),
-        body,
-        Item::Op(Op::Simple(Simple::LocalGet(0))),
-    ];
-    assert!(rt; refused_last(alloc, &second, Why::Index));
-    assert!(rt; refused_last(alloc, &[body], Why::Index));
-    assert!(rt; refused_last(alloc, &[Item::Op(Op::End)], Why::Index));
-    assert!(rt; refused_last(alloc, &[Item::Locals(1, I32)], Why::Index));
-}
-
-#[test]
-fn counts_what_it_keeps(rt: HostRuntime) {
+fn counts_what_it_keeps(rt: HostRuntime) -> Result<(), Fail> {
     let mut checker = Checker::new(rt.alloc());
-    let get = Item::Op(Op::Simple(Simple::LocalGet(0)));
-    let steps = [
-        (Item::NewType, 1),
-        (Item::Param(I32), 2),
-        (Item::Param(I32), 3),
-        (Item::Results(1), 3),
-        (Item::Result(I32), 4),
-        (Item::ImportGlobal(VAR), 5),
-        (Item::Func(0), 6),
-        (Item::Memory(from(1)), 6),
-        (Item::Global(CONST), 7),
-        (Item::ConstOp(ONE), 7),
-        (Item::ConstOp(Op::End), 7),
-        (Item::ExportName(b"ab"), 10),
-        (Item::Export(ExportKind::Func, 0), 10),
-        (Item::Body, 11),
-        (Item::Locals(1000, I64), 12),
-        (get, 13),
-        (get, 14),
-        (Item::Op(Op::Simple(Simple::Drop)), 13),
-        (Item::Op(Op::End), 10),
-        (Item::Segment(0), 10),
-        (Item::ConstOp(ONE), 10),
-        (Item::ConstOp(Op::End), 10),
-        (Item::DataBytes(b"many bytes"), 10),
-    ];
-    assert_eq!(rt; checker.kept(), 0);
-    for (item, kept) in steps {
-        assert_eq!(rt; checker.take(item), Ok(()));
-        assert_eq!(rt; checker.kept(), kept);
+    assert!(rt; checker.kept() == 0);
+    for row in KEPT.lines() {
+        play_kept(&rt, &mut checker, row)?;
     }
-    assert_eq!(rt; checker.summary().operands, 2);
-    assert_eq!(rt; checker.summary().controls, 1);
+    let summary = checker.summary();
+    assert!(rt; summary.operands == 2 && summary.controls == 1);
+    Ok(())
 }
 
 #[test]

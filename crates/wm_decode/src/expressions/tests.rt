@@ -1,9 +1,9 @@
 //! Tests of expressions, byte by byte.
 
 use super::*;
+use crate::fixtures::bytes_of;
 use std::alloc::{AllocError, Global};
-use wm_syntax::instructions::{LoadOp, MemArg, Simple};
-use wm_syntax::types::ValType;
+use std::process::Abort;
 
 // The ops that some bytes complete, and where the reader then stands
 fn read(alloc: Global, bytes: &[u8]) -> Result<(Vec<Op>, InExpression), AllocError> {
@@ -19,84 +19,54 @@ fn read(alloc: Global, bytes: &[u8]) -> Result<(Vec<Op>, InExpression), AllocErr
     Ok((ops, at))
 }
 
-#[test]
-fn whole_expressions(rt: HostRuntime) -> Result<(), AllocError> {
-    let at = MemArg {
-        align: 2,
-        offset: 128,
-    };
-    let cases: [(&[u8], &[Op]); 4] = [
-        // blocks in one another
-        (
-            &[0x02, 0x40, 0x03, 0x7F, 0x0C, 0x01, 0x0B, 0x0B, 0x0B],
-            &[
-                Op::Block(None),
-                Op::Loop(Some(ValType::I32)),
-                Op::Simple(Simple::Br(1)),
-                Op::End,
-                Op::End,
-                Op::End,
-            ],
-        ),
-        // a br_table's two labels and the default
-        (
-            &[0x0E, 0x02, 0x00, 0x81, 0x00, 0x0B, 0x0B],
-            &[
-                Op::BrTable(2),
-                Op::Label(0),
-                Op::Label(1),
-                Op::Label(11),
-                Op::End,
-            ],
-        ),
-        // two immediates
-        (
-            &[0x28, 0x02, 0x80, 0x01, 0x11, 0x03, 0x00, 0x3F, 0x00, 0x0B],
-            &[
-                Op::Simple(Simple::Load(LoadOp::I32Load, at)),
-                Op::Simple(Simple::CallIndirect(3)),
-                Op::Simple(Simple::MemorySize),
-                Op::End,
-            ],
-        ),
-        // a constant of ten bytes
-        (
-            &[
-                0x42, 0x80, 0x80, 0x80, 0x80, 0x80, 0x80, 0x80, 0x80, 0x80, 0x7F, 0x0B,
-            ],
-            &[Op::Simple(Simple::I64Const(i64::MIN)), Op::End],
-        ),
-    ];
-    for (bytes, want) in cases {
-        let (ops, at) = read(rt.alloc(), bytes)?;
-        assert_eq!(rt; ops.as_slice(), want);
-        assert!(rt; matches!(at, InExpression::Over));
+// The ops of a whole expression, or why its bytes are refused.
+fn told(alloc: Global, bytes: &[u8]) -> Result<String, AllocError> {
+    let (ops, at) = read(alloc, bytes)?;
+    let mut told = String::new(alloc);
+    match at {
+        InExpression::Over => write!(told, "{:?}", ops.as_slice())?,
+        InExpression::Failed(why) => write!(told, "{}", why.name())?,
+        _ => write!(told, "unfinished")?,
+    }
+    Ok(told)
+}
+
+// In turn: blocks in one another; a br_table's two labels and the default; two immediates; a constant of ten bytes.
+const WHOLE: &str =
+    "02 40 03 7F 0C 01 0B 0B 0B = [Block(None), Loop(Some(I32)), Simple(Br(1)), End, End, End]
+0E 02 00 81 00 0B 0B = [BrTable(2), Label(0), Label(1), Label(11), End]
+28 02 80 01 11 03 00 3F 00 0B = [Simple(Load(I32Load, MemArg { align: 2, offset: 128 })), Simple(CallIndirect(3)), Simple(MemorySize), End]
+42 80 80 80 80 80 80 80 80 80 7F 0B = [Simple(I64Const(-9223372036854775808)), End]
+";
+
+// C0 is a sign extension, of the second profile alone.
+const REFUSED: &str = "43 = Float
+02 7D = Float
+02 70 = BadByte
+06 = BadOpcode
+C0 = BadOpcode
+3F 01 = BadByte
+11 00 01 = BadByte
+41 80 80 80 80 10 = BadNumber
+0E 80 80 80 80 10 = BadNumber
+0B 0B = SectionEnd
+";
+
+// Plays rows `BYTES = ANSWER`.
+fn play(rt: &impl Abort, alloc: Global, rows: &str) -> Result<(), AllocError> {
+    for row in rows.lines() {
+        let (words, wanted) = row.split_once(" = ").unwrap_or((row, "no answer"));
+        let bytes = bytes_of(alloc, words)?;
+        let found = told(alloc, bytes.as_slice())?;
+        assert!(rt; found.as_str() == wanted, "{row}: {found}");
     }
     Ok(())
 }
 
 #[test]
-fn refused_bytes(rt: HostRuntime) -> Result<(), AllocError> {
-    let cases: [(&[u8], Why); 10] = [
-        (&[0x43], Why::Float),
-        (&[0x02, 0x7D], Why::Float),
-        (&[0x02, 0x70], Why::BadByte),
-        (&[0x06], Why::BadOpcode),
-        // sign extension is of the second profile alone
-        (&[0xC0], Why::BadOpcode),
-        (&[0x3F, 0x01], Why::BadByte),
-        (&[0x11, 0x00, 0x01], Why::BadByte),
-        (&[0x41, 0x80, 0x80, 0x80, 0x80, 0x10], Why::BadNumber),
-        (&[0x0E, 0x80, 0x80, 0x80, 0x80, 0x10], Why::BadNumber),
-        (&[0x0B, 0x0B], Why::SectionEnd),
-    ];
-    for (bytes, want) in cases {
-        match read(rt.alloc(), bytes)?.1 {
-            InExpression::Failed(why) => assert_eq!(rt; why, want),
-            _ => assert!(rt; false, "{want:?} is expected"),
-        }
-    }
-    Ok(())
+fn whole_and_refused(rt: HostRuntime) -> Result<(), AllocError> {
+    play(&rt, rt.alloc(), WHOLE)?;
+    play(&rt, rt.alloc(), REFUSED)
 }
 
 #[test]
