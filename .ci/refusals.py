@@ -1,47 +1,50 @@
 #!/usr/bin/env python3
-"""The rows of both tables of docs/REFUSALS.md are those that the tests of wm_cli run, and each printed word has one."""
-import ast
+"""The rows of both tables of docs/REFUSALS.md are those that the program wm_rows runs, and each printed word has one."""
 import pathlib
 import re
 import sys
 
 TOP = pathlib.Path(__file__).resolve().parent.parent
 PAGE = TOP / "docs/REFUSALS.md"
-TESTS = TOP / "crates/wm_cli/src/tests/refusals.rt"
+ROWS = TOP / "crates/wm_rows/stdout"
 WORDS = TOP / "crates/wm_syntax/src/why.rt"
 TEXT_WORDS = TOP / "crates/wm_read/src/faults.rt"
+
+# the groups of rows that each table has
+INPUTS = "# The smallest inputs of the refusals"
+TEXTS = "# The smallest texts of the refusals"
 
 # a text needs gigabytes for the first, and the second is never printed
 WITHOUT_TEXT = ["TooManyLocals", "Memory"]
 
 
 def rows_of_page():
-    """The word, the bytes and the place of each row."""
-    row = re.compile(r"^\| `(\w+)` \|.*?`((?:[0-9A-F]{2} ?)+)`: refused at (\d+) \|", re.M)
-    return row.findall(PAGE.read_text(encoding="utf8"))
-
-
-def rows_of_tests():
-    row = re.compile(r'\(\s*"(\w+)",\s*"((?:[0-9A-F]{2} ?)+)",\s*(\d+),?\s*\)')
-    return row.findall(TESTS.read_text(encoding="utf8"))
+    """Each row of the first table: its word, and what wm_rows is to write."""
+    row = re.compile(r"^\| `(\w+)` \|.*\| (with no header |with `--limit (\d+)` |)`((?:[0-9A-F]{2} ?)+)`: (refused at \d+) \|", re.M)
+    for word, kind, limit, digits, place in row.findall(PAGE.read_text(encoding="utf8")):
+        header = "" if kind == "with no header " else "H "
+        yield word, f"check {'limit ' + limit + ' ' if limit else ''}{header}{digits} = {place}: {word}"
 
 
 def text_of(cell):
     if cell == "the empty text":
-        return b""
+        return ""
     byte = re.fullmatch(r"the byte `([0-9A-F]{2})`", cell)
-    return bytes.fromhex(byte[1]) if byte else cell.strip("`").encode("utf8")
+    return f" bytes {byte[1]}" if byte else " " + cell.strip("`")
 
 
 def text_rows_of_page():
-    """The word, the text and the place of each row of a text."""
+    """The same of the table of texts."""
     row = re.compile(r"^\| `(\w+)` \|.*\| (the empty text|the byte `[0-9A-F]{2}`|`[^`|]+`): at (\d+) \|", re.M)
-    return [(word, text_of(cell), place) for word, cell, place in row.findall(PAGE.read_text(encoding="utf8"))]
+    for word, cell, place in row.findall(PAGE.read_text(encoding="utf8")):
+        yield word, f"build{text_of(cell)} = text refused at {place}: {word}"
 
 
-def text_rows_of_tests():
-    row = re.compile(r'\(\s*"(\w+)",\s*(b"(?:[^"\\]|\\.)*"),\s*(\d+),?\s*\)')
-    return [(word, ast.literal_eval(text), place) for word, text, place in row.findall(TESTS.read_text(encoding="utf8"))]
+def rows_of_group(heading):
+    """The rows of wm_rows between a heading and the next empty line."""
+    lines = ROWS.read_text(encoding="utf8").split("\n")
+    first = lines.index(heading) + 1
+    return lines[first : lines.index("", first)]
 
 
 def words_without_text():
@@ -52,20 +55,21 @@ def printed_words(file, kind):
     return set(re.findall(kind + r'::\w+ => "(\w+)",', file.read_text(encoding="utf8")))
 
 
-def faults_of(page, tests, words):
-    faults = [f"only in {PAGE.name}: {row}" for row in page if row not in tests]
-    faults += [f"only in {TESTS.name}: {row}" for row in tests if row not in page]
-    for word in sorted(words | {row[0] for row in page}):
-        count = [row[0] for row in page].count(word)
-        if count != (word in words):
-            faults.append(f"{count} rows in {PAGE.name} for the word {word}")
+def faults_of(page, group, words):
+    rows = [row for _, row in page]
+    faults = [f"only in {PAGE.name}: {row}" for row in rows if row not in group]
+    faults += [f"only in {ROWS.relative_to(TOP)}: {row}" for row in group if row not in rows]
+    named = [word for word, _ in page]
+    for word in sorted(words | set(named)):
+        if named.count(word) != (word in words):
+            faults.append(f"{named.count(word)} rows in {PAGE.name} for the word {word}")
     return faults
 
 
 def main():
-    faults = faults_of(rows_of_page(), rows_of_tests(), printed_words(WORDS, "Why") - {"Memory"})
+    faults = faults_of(list(rows_of_page()), rows_of_group(INPUTS), printed_words(WORDS, "Why") - {"Memory"})
     text_words = printed_words(TEXT_WORDS, "TextWhy") - set(WITHOUT_TEXT)
-    faults += faults_of(text_rows_of_page(), text_rows_of_tests(), text_words)
+    faults += faults_of(list(text_rows_of_page()), rows_of_group(TEXTS), text_words)
     if words_without_text() != WITHOUT_TEXT:
         faults.append(f"rows in {PAGE.name} without a smallest text: {words_without_text()}")
     for fault in faults:

@@ -1,18 +1,14 @@
 //! Tests of what the program writes.
 
-mod built;
-mod canonical;
-mod fronts;
-mod modules;
-mod profiles;
-mod refusals;
-mod shown;
+pub(crate) mod rows;
 
 use crate::run::{run, run_line};
 use crate::status::{Status, exit_code};
 use crate::witness::Witness;
 use crate::words::{Action, Line, LineFault};
+use rows::{is_given_back, obey, play};
 use std::alloc::Global;
+use std::fmt::Display;
 use std::io;
 use std::io::{ErrorKind, Read, Write};
 use std::process::Abort;
@@ -45,135 +41,42 @@ impl Read for Pieces<'_> {
     }
 }
 
-/// An action under a profile, on an input of at most so many bytes.
-#[derive(Clone, Copy)]
-struct Run<'a> {
-    action: Action,
-    profile: Profile,
-    limit: u64,
-    input: &'a [u8],
-}
-
-impl Run<'_> {
-    /// What is written where the input comes from this reader, and how it ends.
-    fn output<R: Read + Drop>(self, alloc: Global, from: R) -> (Status, Vec<u8>) {
-        let line = Line {
-            action: self.action,
-            profile: self.profile,
-            limit: self.limit.min(LIMIT),
-            file: None,
-        };
-        let mut source = Input::new(from);
-        let mut dest = Output::new(Vec::new(alloc));
-        let status = run_line(alloc, &line, &mut source, &mut dest);
-        (status, dest.into_inner())
-    }
-
-    /// The answer is this one in pieces of any of these sizes. So it is for a short input that is cut in two,
-    /// wherever that is.
-    fn expect_cut(self, rt: &impl Abort, alloc: Global, ends: Status, wanted: &[u8]) {
-        let input = self.input;
-        for most in [4096, 1, 7] {
-            let (status, written) = self.output(alloc, Pieces { rest: input, most });
-            assert_eq!(rt;
-                written.as_slice(),
-                wanted,
-                "in pieces of {most}: {input:?}"
-            );
-            assert_eq!(rt; status, ends);
-        }
-        let places = if input.len() < 200 { input.len() } else { 0 };
-        for place in 0..places {
-            let (front, back) = input.split_at(place);
-            let (status, written) = self.output(alloc, front.chain(back));
-            assert_eq!(rt; written.as_slice(), wanted, "cut at {place}: {input:?}");
-            assert_eq!(rt; status, ends);
-        }
-    }
-
-    /// The same, and what is valid is given back by `show` and `build`.
-    fn expect(self, rt: &impl Abort, alloc: Global, ends: Status, wanted: &[u8]) {
-        self.expect_cut(rt, alloc, ends, wanted);
-        if ends == Status::Done {
-            let module = match self.action {
-                Action::Build => wanted,
-                _ => self.input,
-            };
-            expect_given_back(rt, alloc, self.profile, module);
-        }
-    }
-}
-
-/// What an action writes for a whole input, and that it is done.
-fn done(rt: &impl Abort, alloc: Global, action: Action, profile: Profile, input: &[u8]) -> Vec<u8> {
-    let run = Run {
-        action,
-        profile,
-        limit: LIMIT,
-        input,
-    };
-    let (status, written) = run.output(alloc, input);
-    assert_eq!(rt; status, Status::Done, "{action:?} of {input:?}");
-    written
-}
-
-/// A valid module, shown and then built, gives its canonical binary.
-fn expect_given_back(rt: &impl Abort, alloc: Global, profile: Profile, module: &[u8]) {
-    let canonical = done(rt, alloc, Action::Canon, profile, module);
-    let text = done(rt, alloc, Action::Show, profile, module);
-    let built = done(rt, alloc, Action::Build, profile, text.as_slice());
-    assert_eq!(rt; built.as_slice(), canonical.as_slice(), "of {module:?}");
-}
-
-fn expect_of(
-    rt: &impl Abort,
-    alloc: Global,
-    action: Action,
-    input: &[u8],
-    limit: u64,
-    wanted: &str,
-) {
-    let ends = if wanted.contains("refused") {
-        Status::Refused
-    } else {
-        Status::Done
-    };
-    let run = Run {
-        action,
-        profile: Profile::One,
-        limit,
-        input,
-    };
-    run.expect(rt, alloc, ends, wanted.as_bytes())
-}
-
-/// Of `check`.
-fn expect(rt: &impl Abort, alloc: Global, input: &[u8], limit: u64, wanted: &str) {
-    expect_of(rt, alloc, Action::Check, input, limit, wanted)
-}
+/// Some rows for each action. In two of them a function has as many locals as may be; its text has a word for each, so
+/// it is not shown.
+const COMMANDS: &str = r#"wmod check < H = 0 valid\n
+wmod check < = 1 refused at 0: Truncated\n
+wmod check --limit 7 < H = 1 refused at 8: TooLong\n
+wmod check --limit 8 < H = 0 valid\n
+wmod check < H 01 01 00 01 = 1 refused at 12: SectionOrder\n
+wmod check < H 01 07 01 60 02 7F 7F 01 7F 03 02 01 00 0A 09 01 07 00 20 00 20 01 6A 0B = 0 valid\n
+wmod check < H 01 05 01 60 00 01 7F 03 02 01 00 0A 08 01 06 00 41 FF 01 C0 0B = 1 refused at 28: BadOpcode\n
+wmod check --profile 2 < H 01 05 01 60 00 01 7F 03 02 01 00 0A 08 01 06 00 41 FF 01 C0 0B = 0 valid\n
+wmod check --profile 2 < H 01 05 01 60 00 01 7F 03 02 01 00 0A 08 01 06 00 41 FF 01 C4 0B = 1 refused at 28: Type\n
+wmod check < H 01 04 01 60 00 00 03 02 01 00 0A 11 01 0F 01 FF FF FF FF 0F 7F 20 FE FF FF FF 0F 1A 0B = 0 valid\n
+wmod stats < H = 0 functions 0\nmoves 0\noperands 0\ncontrols 0\nprobes 0\n
+wmod stats < H 01 07 01 60 02 7F 7F 01 7F 03 02 01 00 0A 09 01 07 00 20 00 20 01 6A 0B = 0 functions 1\nmoves 8\noperands 2\ncontrols 1\nprobes 0\n
+wmod stats < H 01 05 01 60 00 01 7F 03 02 01 00 0A 08 01 06 00 00 0D 00 50 0B = 1 refused at 28: Type\n
+wmod stats --profile 2 < H 01 05 01 60 00 01 7F 03 02 01 00 0A 08 01 06 00 41 FF 01 C0 0B = 0 functions 1\nmoves 6\noperands 1\ncontrols 1\nprobes 0\n
+wmod stats < H 01 04 01 60 00 00 03 02 01 00 0A 11 01 0F 01 FF FF FF FF 0F 7F 20 FE FF FF FF 0F 1A 0B = 0 functions 1\nmoves 4\noperands 1\ncontrols 1\nprobes 1\n
+wmod canon < H 00 05 04 6E 61 6D 65 = 0 \x00asm\x01\x00\x00\x00
+wmod canon < H 06 08 01 7F 00 41 FF FF 7F 0B = 0 \x00asm\x01\x00\x00\x00\x06\x06\x01\x7f\x00A\x7f\x0b
+wmod canon < H 01 01 00 01 = 1 refused at 12: SectionOrder\n
+wmod canon < H 01 04 01 60 00 00 03 02 01 00 0A 05 01 03 00 05 0B = 1 refused at 24: ElsePlace\n
+wmod show < H = 0 (module)\n
+wmod show < H 01 07 01 60 02 7F 7F 01 7F 03 02 01 00 0A 09 01 07 00 20 00 20 01 6A 0B = 0 (module\n  (type $t0 (func (param i32 i32) (result i32)))\n  (func $f0 (type $t0)\n    local.get 0\n    local.get 1\n    i32.add\n  )\n)\n
+wmod show < H 05 03 01 00 01 0B 0A 01 00 41 00 0B 04 00 C3 A9 22 = 0 (module\n  (memory $mem0 1)\n  (data $mem0 (offset i32.const 0) \"\\00\\c3\\a9\\22\")\n)\n
+wmod show < H 01 04 01 60 00 00 03 02 01 00 0A 05 01 03 00 05 0B = 1 refused at 24: ElsePlace\n
+wmod build < (module) = 0 \x00asm\x01\x00\x00\x00
+wmod build < (module (memory $mem0 1) (data $mem0 (offset i32.const 0) "\00\u{e9}\"")) = 0 \x00asm\x01\x00\x00\x00\x05\x03\x01\x00\x01\x0b\n\x01\x00A\x00\x0b\x04\x00\xc3\xa9\"
+wmod build < (module (func (type $a))) = 1 text refused at 20: UnknownId\n
+wmod build < = 1 text refused at 0: Expected\n
+wmod build < (module (type (func)) (func (type 0) drop)) = 1 module refused at 24: Arity\n
+wmod build --limit 7 < (module) = 1 refused at 8: TooLong\n
+wmod build --limit 8 < (module) = 0 \x00asm\x01\x00\x00\x00"#;
 
 #[test]
-fn headers(rt: HostRuntime) -> Result<(), Fail> {
-    expect(&rt, rt.alloc(), &HEADER, LIMIT, "valid\n");
-    expect(&rt, rt.alloc(), &[], LIMIT, "refused at 0: Truncated\n");
-    expect(
-        &rt,
-        rt.alloc(),
-        &HEADER[..5],
-        LIMIT,
-        "refused at 5: Truncated\n",
-    );
-    expect(&rt, rt.alloc(), &[0x01], LIMIT, "refused at 1: Magic\n");
-    expect(
-        &rt,
-        rt.alloc(),
-        &[0x00, 0x61, 0x73, 0x6D, 0x02],
-        LIMIT,
-        "refused at 5: Version\n",
-    );
-    expect(&rt, rt.alloc(), &HEADER, 7, "refused at 8: TooLong\n");
-    expect(&rt, rt.alloc(), &HEADER, 8, "valid\n");
-    Ok(())
+fn commands(rt: HostRuntime) -> Result<(), Fail> {
+    play(&rt, rt.alloc(), COMMANDS)
 }
 
 /// An imported function with 100,000 parameters, and one that calls it 50,000 times after `unreachable`.
@@ -195,16 +98,15 @@ fn wide_calls(alloc: Global) -> Result<Vec<u8>, Fail> {
     Ok(bytes)
 }
 
+/// They are shown, built and canonical too.
 #[test]
 fn figures_of_wide_calls(rt: HostRuntime) -> Result<(), Fail> {
-    expect_of(
-        &rt,
-        rt.alloc(),
-        Action::Stats,
-        wide_calls(rt.alloc())?.as_slice(),
-        LIMIT,
-        "functions 1\nmoves 50002\noperands 0\ncontrols 1\nprobes 0\n",
-    );
+    let alloc = rt.alloc();
+    let module = wide_calls(alloc)?;
+    let figures = obey(alloc, "wmod stats", &module)?;
+    let wanted = r"0 functions 1\nmoves 50002\noperands 0\ncontrols 1\nprobes 0\n";
+    assert!(rt; figures.as_str() == wanted, "{figures}");
+    assert!(rt; is_given_back(alloc, &module)?);
     Ok(())
 }
 
@@ -257,6 +159,16 @@ fn a_reader_that_fails(rt: HostRuntime) {
     assert_eq!(rt; dest.into_inner().len(), 0);
 }
 
+/// How an action ends where the writer takes so many bytes, and what it took.
+fn taken_before_a_fault(alloc: Global, action: Action, most: usize) -> (Status, Vec<u8>) {
+    let taken = Vec::new(alloc);
+    let mut dest = Output::new(Narrow { taken, most });
+    let rest = HEADER.as_slice();
+    let mut source = Input::new(Pieces { rest, most: 4096 });
+    let status = run(alloc, action, Profile::One, LIMIT, &mut source, &mut dest);
+    (status, dest.into_inner().taken)
+}
+
 #[test]
 fn a_writer_that_fails(rt: HostRuntime) {
     for (action, most, wanted) in [
@@ -266,29 +178,20 @@ fn a_writer_that_fails(rt: HostRuntime) {
         (Action::Check, 9, "valid\n"),
         (Action::Show, 3, "(mo"),
     ] {
-        let taken = Vec::new(rt.alloc());
-        let mut dest = Output::new(Narrow { taken, most });
-        let rest = HEADER.as_slice();
-        let mut source = Input::new(Pieces { rest, most: 4096 });
-        let status = run(
-            rt.alloc(),
-            action,
-            Profile::One,
-            LIMIT,
-            &mut source,
-            &mut dest,
+        let (status, taken) = taken_before_a_fault(rt.alloc(), action, most);
+        assert!(rt;
+            status == Status::Io && taken.as_slice() == wanted.as_bytes(),
+            "{most}: {taken:?}"
         );
-        assert_eq!(rt; status, Status::Io);
-        assert_eq!(rt; dest.into_inner().taken.as_slice(), wanted.as_bytes());
     }
 }
 
 #[test]
 fn exit_statuses(rt: HostRuntime) {
-    assert_eq!(rt; exit_code(&Ok(Status::Refused)), 1);
-    assert_eq!(rt; exit_code(&Err(LineFault::Words)), 2);
+    assert!(rt; exit_code(&Ok(Status::Refused)) == 1);
+    assert!(rt; exit_code(&Err(LineFault::Words)) == 2);
     let codes = [Status::Done, Status::Refused, Status::Io, Status::Memory].map(Status::code);
-    assert_eq!(rt; codes, [0, 1, 3, 4]);
+    assert!(rt; codes == [0, 1, 3, 4]);
 }
 
 /// `wmod check`, with no file.
@@ -324,25 +227,27 @@ fn errors_of_writers_are_kept(rt: HostRuntime) {
     assert_eq!(rt; error.map(|e| e.kind()), Some(ErrorKind::BrokenPipe));
 }
 
+fn expect_text(
+    rt: &impl Abort,
+    alloc: Global,
+    what: &(impl Display + Drop),
+    wanted: &str,
+) -> Result<(), Fail> {
+    let text = what.to_string(alloc)?;
+    assert!(rt; text.as_str() == wanted, "{text}");
+    Ok(())
+}
+
 #[test]
 fn texts_of_refusals(rt: HostRuntime) -> Result<(), Fail> {
-    let alloc = rt.alloc();
     let wanted =
         "refused at 12: SectionOrder (a section appears twice, or after one that must follow it)";
     let refusal = Refusal {
         at: 12,
         why: Why::SectionOrder,
     };
-    assert_eq!(rt; format!(in alloc; "{refusal}")?.as_str(), wanted);
-    let fault = FromFault::Refused(refusal);
-    assert_eq!(rt; format!(in alloc; "{fault}")?.as_str(), wanted);
-    assert_eq!(rt;
-        format!(in alloc; "{}", FromFault::Io)?.as_str(),
-        "the reader failed"
-    );
-    assert_eq!(rt;
-        format!(in alloc; "{}", Status::Io)?.as_str(),
-        "input or output failed"
-    );
-    Ok(())
+    expect_text(&rt, rt.alloc(), &refusal, wanted)?;
+    expect_text(&rt, rt.alloc(), &FromFault::Refused(refusal), wanted)?;
+    expect_text(&rt, rt.alloc(), &FromFault::Io, "the reader failed")?;
+    expect_text(&rt, rt.alloc(), &Status::Io, "input or output failed")
 }

@@ -110,19 +110,19 @@ fn numbered(word: &str, number: &str) -> Option<Item<'static>> {
 
 /// An item that has a type, limits or an op.
 fn typed(word: &str, rest: &str) -> Option<Item<'static>> {
-    match word {
-        "param" => type_of(rest).map(Item::Param),
-        "result" => type_of(rest).map(Item::Result),
-        "import_table" => limits_of(rest).map(Item::ImportTable),
-        "table" => limits_of(rest).map(Item::Table),
-        "import_memory" => limits_of(rest).map(Item::ImportMemory),
-        "memory" => limits_of(rest).map(Item::Memory),
-        "import_global" => global_of(rest).map(Item::ImportGlobal),
-        "global" => global_of(rest).map(Item::Global),
-        "const" => op_of(rest).map(Item::ConstOp),
-        "op" => op_of(rest).map(Item::Op),
-        _ => None,
-    }
+    Some(match word {
+        "param" => Item::Param(type_of(rest)?),
+        "result" => Item::Result(type_of(rest)?),
+        "import_table" => Item::ImportTable(limits_of(rest)?),
+        "table" => Item::Table(limits_of(rest)?),
+        "import_memory" => Item::ImportMemory(limits_of(rest)?),
+        "memory" => Item::Memory(limits_of(rest)?),
+        "import_global" => Item::ImportGlobal(global_of(rest)?),
+        "global" => Item::Global(global_of(rest)?),
+        "const" => Item::ConstOp(op_of(rest)?),
+        "op" => Item::Op(op_of(rest)?),
+        _ => return None,
+    })
 }
 
 /// An item that has bytes, or two words.

@@ -1,0 +1,163 @@
+//! Rows of calls with their answers, a line each.
+//!
+//! ```text
+//! read WORDS = ACTION PROFILE LIMIT FILE PATH, or the kind of the fault and its exit status
+//! wrong WORDS = what is said of the first wrong word
+//! wmod WORDS < INPUT = the exit status, and what is written
+//! ```
+//!
+//! The word `""` is the empty one. INPUT is a text for `build`. Else it is bytes in hexadecimal digits, with H for the
+//! header of a module.
+
+use super::{HEADER, Pieces};
+use crate::line::{line, wrong_word};
+use crate::run::run_line;
+use crate::status::{Status, exit_code};
+use crate::words::{Line, LineFault};
+use std::alloc::Global;
+use std::process::Abort;
+use std::test::Fail;
+use wm_syntax::io::input::Input;
+use wm_syntax::io::output::Output;
+
+/// The words of a command.
+fn words_of(alloc: Global, command: &str) -> Result<Vec<&str>, Fail> {
+    Ok(
+        command
+            .split(' ')
+            .map(|word| word.trim_matches('"'))
+            .collect(alloc)?,
+    )
+}
+
+/// The bytes of words in hexadecimal digits.
+fn bytes_of(alloc: Global, words: &str) -> Result<Vec<u8>, Fail> {
+    let mut bytes = Vec::new(alloc);
+    for word in words.split_whitespace() {
+        match word {
+            "H" => bytes.extend_from_slice(&HEADER)?,
+            _ => bytes.push(u8::from_str_radix(word, 16)?)?,
+        }
+    }
+    Ok(bytes)
+}
+
+fn tell_line(alloc: Global, line: &Line) -> Result<String, Fail> {
+    let Line {
+        action,
+        profile,
+        limit,
+        file,
+    } = line;
+    Ok(format!(in alloc; "{action:?} {profile:?} {limit} {file:?} {:?}", line.path())?)
+}
+
+fn tell_fault(alloc: Global, fault: &LineFault) -> Result<String, Fail> {
+    let kind = match fault {
+        LineFault::Parser(_) => "parser",
+        LineFault::Words => "words",
+        LineFault::Memory => "memory",
+    };
+    Ok(format!(in alloc; "{kind} {}", fault.code())?)
+}
+
+/// What the words of a command are read as.
+fn read(alloc: Global, command: &str) -> Result<String, Fail> {
+    match line(alloc, words_of(alloc, command)?.as_slice()) {
+        Ok(line) => tell_line(alloc, &line),
+        Err(fault) => tell_fault(alloc, &fault),
+    }
+}
+
+/// What is said of the first wrong word of a command.
+fn wrong(alloc: Global, command: &str) -> Result<String, Fail> {
+    match wrong_word(alloc, words_of(alloc, command)?.as_slice()) {
+        Some(word) => Ok(format!(in alloc; "{word}")?),
+        None => Ok(format!(in alloc; "none")?),
+    }
+}
+
+/// How a line ends for an input in pieces of at most so many bytes, and what it writes.
+fn follow(alloc: Global, line: &Line, input: &[u8], most: usize) -> (Status, Vec<u8>) {
+    let mut source = Input::new(Pieces { rest: input, most });
+    let mut dest = Output::new(Vec::new(alloc));
+    let status = run_line(alloc, line, &mut source, &mut dest);
+    (status, dest.into_inner())
+}
+
+/// The same as text.
+fn tell(alloc: Global, line: &Line, input: &[u8], most: usize) -> Result<String, Fail> {
+    let (status, written) = follow(alloc, line, input, most);
+    Ok(format!(in alloc; "{} {}", exit_code(&Ok(status)), written.escape_ascii())?)
+}
+
+/// What a line writes for an input, which is the same in pieces of any size.
+fn obey_line(alloc: Global, line: &Line, input: &[u8]) -> Result<String, Fail> {
+    let told = tell(alloc, line, input, 4096)?;
+    let sizes = if input.len() < 200 { input.len() } else { 7 };
+    for most in 1..=sizes {
+        if tell(alloc, line, input, most)?.as_str() != told.as_str() {
+            return Ok(format!(in alloc; "differs in pieces of {most}")?);
+        }
+    }
+    Ok(told)
+}
+
+/// What a command writes for an input.
+pub fn obey(alloc: Global, command: &str, input: &[u8]) -> Result<String, Fail> {
+    match line(alloc, words_of(alloc, command)?.as_slice()) {
+        Ok(line) => obey_line(alloc, &line, input),
+        Err(fault) => tell_fault(alloc, &fault),
+    }
+}
+
+/// What a command that is done writes for an input.
+fn written(alloc: Global, command: &str, input: &[u8]) -> Result<Vec<u8>, Fail> {
+    let line = line(alloc, words_of(alloc, command)?.as_slice())?;
+    match follow(alloc, &line, input, 4096) {
+        (Status::Done, written) => Ok(written),
+        _ => Err(Fail::new("not done")),
+    }
+}
+
+/// Whether a module, shown and then built, gives its canonical binary.
+pub fn is_given_back(alloc: Global, module: &[u8]) -> Result<bool, Fail> {
+    let text = written(alloc, "wmod show", module)?;
+    let built = written(alloc, "wmod build", &text)?;
+    Ok(built.as_slice() == written(alloc, "wmod canon", module)?.as_slice())
+}
+
+/// What a command writes for the input behind its `<`.
+fn obey_row(alloc: Global, call: &str) -> Result<String, Fail> {
+    let Some((command, input)) = call.split_once(" <") else {
+        return Ok(format!(in alloc; "no input")?);
+    };
+    let input = input.trim_start();
+    if command.contains("build") {
+        return obey(alloc, command, input.as_bytes());
+    }
+    obey(alloc, command, &bytes_of(alloc, input)?)
+}
+
+/// The answer to a call.
+fn answer(alloc: Global, call: &str) -> Result<String, Fail> {
+    match call.split_once(' ') {
+        Some(("read", command)) => read(alloc, command),
+        Some(("wrong", command)) => wrong(alloc, command),
+        Some(("wmod", _)) => obey_row(alloc, call),
+        _ => Ok(format!(in alloc; "no such call")?),
+    }
+}
+
+/// Each line of a script has the answer to its call.
+pub fn play(rt: &impl Abort, alloc: Global, script: &str) -> Result<(), Fail> {
+    assert!(rt; !script.is_empty());
+    for row in script.lines() {
+        let Some((call, wanted)) = row.split_once(" = ") else {
+            panic!(rt; "no answer: {row}");
+        };
+        let found = answer(alloc, call)?;
+        assert!(rt; found.as_str() == wanted, "{row}: {found}");
+    }
+    Ok(())
+}

@@ -1,0 +1,190 @@
+//! Answers to rows.
+
+use crate::row::{Action, Row};
+use crate::text::{Built, build, canonical, spell, text_of};
+use std::alloc::Global;
+use std::io;
+use wm_rules::{Checked, FromFault, Loader, Summary, load_from, validate, validate_from};
+use wm_syntax::io::input::Input;
+
+/// A shorter binary is cut at each place.
+const SHORT: usize = 200;
+
+fn figures(alloc: Global, summary: Summary) -> io::Result<String> {
+    let Summary {
+        functions,
+        moves,
+        operands,
+        controls,
+        probes,
+    } = summary;
+    Ok(format!(in alloc;
+        "functions {functions}, moves {moves}, operands {operands}, controls {controls}, probes {probes}"
+    )?)
+}
+
+/// Whether the text of a module gives its canonical binary back.
+fn is_given_back(alloc: Global, row: &Row, checked: &Checked) -> io::Result<bool> {
+    let text = text_of(alloc, checked)?;
+    match build(alloc, row.profile, &text)? {
+        Built::Binary(built) => Ok(built.as_slice() == canonical(alloc, checked)?.as_slice()),
+        Built::Refused(_) => Ok(false),
+    }
+}
+
+/// The lines of a text, with an empty one behind them.
+fn show(alloc: Global, checked: &Checked) -> io::Result<String> {
+    let text = text_of(alloc, checked)?;
+    match str::from_utf8(&text) {
+        Ok(lines) => Ok(format!(in alloc; "text:\n{lines}")?),
+        Err(_) => Ok(format!(in alloc; "a text that is not UTF-8")?),
+    }
+}
+
+/// The answer to a row whose binary is valid.
+fn accept(alloc: Global, row: &Row, summary: Summary, checked: &Checked) -> io::Result<String> {
+    match row.action {
+        Action::Check | Action::Change(_) => Ok(format!(in alloc; "valid")?),
+        Action::Stats => figures(alloc, summary),
+        Action::Canon | Action::Build => spell(alloc, &canonical(alloc, checked)?),
+        Action::Show => show(alloc, checked),
+    }
+}
+
+/// The answer to a row whose binary the loader has refused.
+fn refuse(alloc: Global, fault: FromFault) -> io::Result<String> {
+    match fault {
+        FromFault::Refused(refusal) => Ok(format!(in alloc;
+            "refused at {}: {}",
+            refusal.at,
+            refusal.why.name()
+        )?),
+        FromFault::Io => Ok(format!(in alloc; "not read")?),
+    }
+}
+
+/// The answer to a row, where the validator and the loader agree.
+fn answer_both(
+    alloc: Global,
+    row: &Row,
+    judged: Result<Summary, FromFault>,
+    loaded: &Result<Checked, FromFault>,
+) -> io::Result<String> {
+    match (judged, loaded) {
+        (Ok(summary), Ok(checked)) => accept(alloc, row, summary, checked),
+        (Err(first), Err(second)) if first == *second => refuse(alloc, first),
+        _ => Ok(format!(in alloc; "the validator and the loader differ")?),
+    }
+}
+
+/// The answer to a row whose binary comes at once.
+fn answer_whole(alloc: Global, row: &Row, binary: &[u8]) -> io::Result<String> {
+    let limit = u64::from(row.limit);
+    let judged = validate_from(alloc, &mut Input::new(binary), row.profile, limit);
+    let loaded = load_from(alloc, &mut Input::new(binary), row.profile, limit);
+    if let Ok(checked) = &loaded {
+        if !is_given_back(alloc, row, checked)? {
+            return Ok(format!(in alloc; "not given back by its text")?);
+        }
+    }
+    answer_both(alloc, row, judged, &loaded)
+}
+
+/// What the loader makes of pieces.
+fn load(alloc: Global, row: &Row, pieces: &[&[u8]]) -> Result<Checked, FromFault> {
+    let mut loader = Loader::new(alloc, row.profile, u64::from(row.limit));
+    for piece in pieces {
+        // a refusal stays, and the end answers it
+        let _ = loader.feed(piece);
+    }
+    loader.finish().map_err(FromFault::Refused)
+}
+
+/// The answer to a row whose binary comes in these pieces.
+fn answer_pieces(alloc: Global, row: &Row, pieces: &[&[u8]]) -> io::Result<String> {
+    let judged = validate(alloc, row.profile, u64::from(row.limit), pieces);
+    let loaded = load(alloc, row, pieces);
+    answer_both(alloc, row, judged.map_err(FromFault::Refused), &loaded)
+}
+
+/// The answer to a row whose binary comes in pieces of so many bytes.
+fn answer_chunks(alloc: Global, row: &Row, binary: &[u8], size: usize) -> io::Result<String> {
+    let pieces = binary.chunks(size.max(1)).collect::<Vec<&[u8]>>(alloc)?;
+    answer_pieces(alloc, row, &pieces)
+}
+
+/// Whether the answer is the same in two pieces, wherever a short binary is cut.
+fn is_same_in_two(alloc: Global, row: &Row, binary: &[u8], answer: &str) -> io::Result<bool> {
+    let places = if binary.len() < SHORT {
+        binary.len()
+    } else {
+        0
+    };
+    for place in 0..places {
+        let (front, back) = binary.split_at(place);
+        if answer_pieces(alloc, row, &[front, back])?.as_str() != answer {
+            return Ok(false);
+        }
+    }
+    Ok(true)
+}
+
+/// The answer to a row with this binary, which is the same however the binary is cut.
+fn answer_binary(alloc: Global, row: &Row, binary: &[u8]) -> io::Result<String> {
+    let answer = answer_whole(alloc, row, binary)?;
+    if answer_chunks(alloc, row, binary, 1)?.as_str() != answer.as_str() {
+        return Ok(format!(in alloc; "differs in pieces of one byte")?);
+    }
+    if answer_chunks(alloc, row, binary, 7)?.as_str() != answer.as_str() {
+        return Ok(format!(in alloc; "differs in pieces of seven bytes")?);
+    }
+    if !is_same_in_two(alloc, row, binary, answer.as_str())? {
+        return Ok(format!(in alloc; "differs in two pieces")?);
+    }
+    Ok(answer)
+}
+
+/// The answer to a row with a text: what it gives, which is its own canonical binary.
+fn answer_text(alloc: Global, row: &Row) -> io::Result<String> {
+    let binary = match build(alloc, row.profile, &row.input)? {
+        Built::Binary(binary) => binary,
+        Built::Refused(line) => return Ok(line),
+    };
+    let answer = answer_binary(alloc, row, &binary)?;
+    if answer.as_str() == spell(alloc, &binary)?.as_str() {
+        Ok(answer)
+    } else {
+        Ok(format!(in alloc; "no canonical binary")?)
+    }
+}
+
+/// The answer where the byte at a place is so much more, past 255 from 0 on.
+fn answer_changed(alloc: Global, row: &Row, place: usize, more: u8) -> io::Result<String> {
+    let mut binary = row.input.clone()?;
+    match binary.get_mut(place) {
+        Some(byte) => *byte = byte.wrapping_add(more),
+        None => return Ok(format!(in alloc; "no such place")?),
+    }
+    answer_binary(alloc, row, &binary)
+}
+
+/// The answer to all inputs with another byte at a place.
+fn answer_change(alloc: Global, row: &Row, place: usize) -> io::Result<String> {
+    let answer = answer_changed(alloc, row, place, 1)?;
+    for more in 2..=255 {
+        let other = answer_changed(alloc, row, place, more)?;
+        if other.as_str() != answer.as_str() {
+            return Ok(format!(in alloc; "differs when {more} is added")?);
+        }
+    }
+    Ok(answer)
+}
+
+/// The answer to a row.
+pub fn answer(alloc: Global, row: &Row) -> io::Result<String> {
+    match row.action {
+        Action::Build => answer_text(alloc, row),
+        Action::Change(place) => answer_change(alloc, row, place),
+        _ => answer_binary(alloc, row, &row.input),
+    }
+}

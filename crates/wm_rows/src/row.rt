@@ -1,0 +1,140 @@
+//! Rows of inputs.
+//!
+//! ```text
+//! ACTION [profile 2] [limit N] BYTES
+//! change PLACE BYTES
+//! build TEXT
+//! build bytes BYTES
+//! ```
+//!
+//! ACTION is `check`, `stats`, `canon` or `show`. BYTES are words: `H` is the header of a module, and another one is a
+//! byte in two hexadecimal digits. `change` stands for the 255 inputs with another byte at that place.
+
+use std::alloc::Global;
+use std::io;
+use std::io::ErrorKind;
+use wm_syntax::profile::Profile;
+
+pub const HEADER: [u8; 8] = *b"\0asm\x01\0\0\0";
+
+/// What is asked of an input.
+#[derive(Clone, Copy, PartialEq, Eq, Debug)]
+pub enum Action {
+    /// Whether it is valid.
+    Check,
+    /// The figures of its bodies.
+    Stats,
+    /// Its canonical binary.
+    Canon,
+    /// Its text.
+    Show,
+    /// The canonical binary of what the input, a text, writes.
+    Build,
+    /// Whether the inputs with another byte at this place are valid.
+    Change(usize),
+}
+
+/// A row, read.
+#[derive(Debug, Drop)]
+pub struct Row {
+    pub action: Action,
+    pub profile: Profile,
+    /// The most bytes that a binary may have.
+    pub limit: u32,
+    pub input: Vec<u8>,
+}
+
+/// A line that is no row. It ends the program.
+fn no_row() -> io::Error {
+    io::Error::from(ErrorKind::InvalidData)
+}
+
+/// The first word, and what stands behind it.
+fn first_word(text: &str) -> (&str, &str) {
+    text.split_once(' ').unwrap_or((text, ""))
+}
+
+/// A number, and what stands behind it.
+fn number(text: &str) -> io::Result<(u32, &str)> {
+    let (word, rest) = first_word(text);
+    match word.parse::<u32>() {
+        Ok(number) => Ok((number, rest)),
+        Err(_) => Err(no_row()),
+    }
+}
+
+/// The action, and what stands behind it.
+fn action_of(line: &str) -> io::Result<(Action, &str)> {
+    let (word, rest) = first_word(line);
+    match word {
+        "check" => Ok((Action::Check, rest)),
+        "stats" => Ok((Action::Stats, rest)),
+        "canon" => Ok((Action::Canon, rest)),
+        "show" => Ok((Action::Show, rest)),
+        "build" => Ok((Action::Build, rest)),
+        "change" => {
+            let (place, rest) = number(rest)?;
+            Ok((Action::Change(place as usize), rest))
+        }
+        _ => Err(no_row()),
+    }
+}
+
+/// The profile, the first where none is named, and what stands behind it.
+fn profile(text: &str) -> (Profile, &str) {
+    match text.strip_prefix("profile 2 ") {
+        Some(rest) => (Profile::Two, rest),
+        None => (Profile::One, text),
+    }
+}
+
+/// The limit, that of `wmod` where none is named, and what stands behind it.
+fn limit(text: &str) -> io::Result<(u32, &str)> {
+    match text.strip_prefix("limit ") {
+        Some(rest) => number(rest),
+        None => Ok((u32::MAX, text)),
+    }
+}
+
+/// A byte in two hexadecimal digits.
+fn byte(word: &str) -> io::Result<u8> {
+    match u8::from_str_radix(word, 16) {
+        Ok(byte) if word.len() == 2 => Ok(byte),
+        _ => Err(no_row()),
+    }
+}
+
+/// The bytes that words stand for.
+fn bytes(alloc: Global, words: &str) -> io::Result<Vec<u8>> {
+    let mut bytes = Vec::new(alloc);
+    for word in words.split_whitespace() {
+        match word {
+            "H" => bytes.extend_from_slice(&HEADER)?,
+            _ => bytes.push(byte(word)?)?,
+        }
+    }
+    Ok(bytes)
+}
+
+/// The input that stands behind an action and its options.
+fn input(alloc: Global, action: Action, rest: &str) -> io::Result<Vec<u8>> {
+    match (action, rest.strip_prefix("bytes ")) {
+        (Action::Build, None) => Ok(rest.as_bytes().to_vec(alloc)?),
+        (Action::Build, Some(rest)) => bytes(alloc, rest),
+        _ => bytes(alloc, rest),
+    }
+}
+
+/// What a line asks.
+pub fn read_row(alloc: Global, line: &str) -> io::Result<Row> {
+    let (action, rest) = action_of(line)?;
+    let (profile, rest) = profile(rest);
+    let (limit, rest) = limit(rest)?;
+    let input = input(alloc, action, rest)?;
+    Ok(Row {
+        action,
+        profile,
+        limit,
+        input,
+    })
+}
