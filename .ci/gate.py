@@ -71,6 +71,7 @@ def check_all_libraries():
     below = {it.name for crate in crates for it in crate.below()}
     for crate in crates:
         if crate.name not in below:
+            rt.say(f"checking {crate.name} and all libraries below it")
             plain = PlainCrate(crate.folder, root, {})
             words = [*guarded(), *whole.command(rtlib, plain, rt.processors(), WHOLE)]
             subprocess.run(words, cwd=crate.folder, stdin=subprocess.DEVNULL, stdout=subprocess.DEVNULL, stderr=subprocess.DEVNULL)

@@ -3,9 +3,9 @@
 use crate::{Builder, Checker, laws};
 use std::alloc::Global;
 use std::io::{self, Read};
-use wm_decode::{Item, Sink};
 use std::process::Abort;
 use std::test::Fail;
+use wm_decode::{Item, Sink};
 use wm_syntax::instructions::{Op, Simple};
 use wm_syntax::modules::ExportKind;
 use wm_syntax::types::{GlobalType, Limits, ValType};
@@ -200,7 +200,8 @@ fn play(rt: &impl Abort, alloc: Global, rows: &str, wanted: usize) -> Result<(),
 }
 
 // A module with every part; an offset names an own constant global.
-const EVERY_PART: &str = "type, param i64, results 1, result i32, type, results 0, import_module m, import_name f, import_func 0, import_module m, import_name g, import_global i32, func 1, func 0, table 1 4294967295, memory 65536 65536, global var i32, const global.get 0, const end, global i32, const i32.const, const end, export_name a, export func 2, export_name , export table 0, export_name ab, export memory 0, export_name b, export global 2, start 1, elem 0, const global.get 2, const end, elem_func 2, elem_func 0, body, op end, body, locals 2 i32, op local.get 2, op global.set 1, op local.get 0, op call 0, op end, segment 0, const i32.const, const end, data abc = taken
+const EVERY_PART: &str =
+    "type, param i64, results 1, result i32, type, results 0, import_module m, import_name f, import_func 0, import_module m, import_name g, import_global i32, func 1, func 0, table 1 4294967295, memory 65536 65536, global var i32, const global.get 0, const end, global i32, const i32.const, const end, export_name a, export func 2, export_name , export table 0, export_name ab, export memory 0, export_name b, export global 2, start 1, elem 0, const global.get 2, const end, elem_func 2, elem_func 0, body, op end, body, locals 2 i32, op local.get 2, op global.set 1, op local.get 0, op call 0, op end, segment 0, const i32.const, const end, data abc = taken
 ";
 
 // Types and imports.
