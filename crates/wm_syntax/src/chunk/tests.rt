@@ -42,7 +42,7 @@ fn spelled_s64(rt: &impl Abort, alloc: Global, number: &str) -> String {
 }
 
 #[test]
-fn shortest_unsigned_numbers(rt: HostRuntime) {
+fn shortest_numbers(rt: HostRuntime) {
     play(
         &rt,
         rt.alloc(),
@@ -51,17 +51,8 @@ fn shortest_unsigned_numbers(rt: HostRuntime) {
 put_u32 127 = 7F
 put_u32 128 = 80 01
 put_u32 624485 = E5 8E 26
-put_u32 4294967295 = FF FF FF FF 0F",
-    );
-}
-
-#[test]
-fn shortest_signed_numbers(rt: HostRuntime) {
-    play(
-        &rt,
-        rt.alloc(),
-        &mut Spelling,
-        "put_s32 0, put_s64 0 = 00
+put_u32 4294967295 = FF FF FF FF 0F
+put_s32 0, put_s64 0 = 00
 put_s32 63, put_s64 63 = 3F
 put_s32 64, put_s64 64 = C0 00
 put_s32 -1, put_s64 -1 = 7F

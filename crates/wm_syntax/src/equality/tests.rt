@@ -57,6 +57,7 @@ fn body_of(rt: &impl Abort, alloc: Global, ops: &str) -> Body {
     builder.finish().expect(rt, "a body")
 }
 
+// An empty else makes no difference.
 #[test]
 fn what_is_the_same_and_what_is_not(rt: HostRuntime) {
     play(
@@ -67,16 +68,7 @@ fn what_is_the_same_and_what_is_not(rt: HostRuntime) {
 2*I32 1*I32: Nop | 3*I64: Nop = (false, true)
 2*I32 1*I32: Nop | 3*I32: Nop Nop = (false, true)
 2*I32 1*I32: Nop | 3*I32: Br:7 = (false, true)
-2*I32 1*I32: Nop | empty = (false, true)",
-    );
-}
-
-#[test]
-fn an_empty_else_makes_no_difference(rt: HostRuntime) {
-    play(
-        &rt,
-        rt.alloc(),
-        &mut Equality,
-        ": If Else End | : If End = (true, false)",
+2*I32 1*I32: Nop | empty = (false, true)
+: If Else End | : If End = (true, false)",
     );
 }

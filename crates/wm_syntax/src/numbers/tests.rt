@@ -102,7 +102,13 @@ u32 07 07 = Bad
 u32 FF FF FF FF 10 00 = Bad
 u64 FF FF FF FF FF FF FF FF FF = More
 u64 FF FF FF FF FF FF FF FF FF 01 = Done(18446744073709551615)
-u64 80 80 80 80 80 80 80 80 80 02 = Bad",
+u64 80 80 80 80 80 80 80 80 80 02 = Bad
+unsigned7 7F = Done(127)
+unsigned7 80 = Bad
+short_front 05 7F 80 01 = 2
+short_front 80 01 = 0
+short_front 00 01 02 = 3
+short_front = 0",
     );
 }
 
@@ -132,32 +138,8 @@ s32 7F 7F = Bad
 s64 80 80 80 80 80 80 80 80 80 7F = Done(-9223372036854775808)
 s64 FF FF FF FF FF FF FF FF FF 00 = Done(9223372036854775807)
 s64 FF FF FF FF FF FF FF FF FF 01 = Bad
-s64 80 80 80 80 80 80 80 80 80 7E = Bad",
-    );
-}
-
-#[test]
-fn any_width(rt: HostRuntime) {
-    play(
-        &rt,
-        rt.alloc(),
-        &mut Numbers,
-        "unsigned7 7F = Done(127)
-unsigned7 80 = Bad
+s64 80 80 80 80 80 80 80 80 80 7E = Bad
 signed33 80 = More
 signed33 80 7F = Done(-128)",
-    );
-}
-
-#[test]
-fn short_numbers_at_the_front(rt: HostRuntime) {
-    play(
-        &rt,
-        rt.alloc(),
-        &mut Numbers,
-        "short_front 05 7F 80 01 = 2
-short_front 80 01 = 0
-short_front 00 01 02 = 3
-short_front = 0",
     );
 }

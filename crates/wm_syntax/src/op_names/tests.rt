@@ -30,9 +30,9 @@ fn naming(rt: &impl Abort, alloc: Global, profile: &str, word: &str) -> String {
     shown(rt, alloc, op_named(profile, word.as_bytes()))
 }
 
-// A floating-point load has no name here.
+// A floating-point load has no name here. Sign extension is of the second profile alone.
 #[test]
-fn names_of_bytes(rt: HostRuntime) {
+fn names_of_bytes_and_what_words_name(rt: HostRuntime) {
     play(
         &rt,
         rt.alloc(),
@@ -41,18 +41,8 @@ fn names_of_bytes(rt: HostRuntime) {
 name_of 0B = "end"
 name_of 6A = "i32.add"
 name_of 2A = ""
-name_of FF = """#,
-    );
-}
-
-// Sign extension is of the second profile alone.
-#[test]
-fn what_words_name(rt: HostRuntime) {
-    play(
-        &rt,
-        rt.alloc(),
-        &mut Names,
-        "One block = With(Block)
+name_of FF = ""
+One block = With(Block)
 One unreachable = Plain(Simple(Unreachable))
 One i64.load32_u = With(Load(I64Load32U))
 One end = Plain(End)
@@ -60,7 +50,7 @@ One = None
 One i32.ad = None
 One f32.add = None
 One i64.extend32_s = None
-Two i64.extend32_s = Plain(Simple(Numeric(SignExtend(I64From32))))",
+Two i64.extend32_s = Plain(Simple(Numeric(SignExtend(I64From32))))"#,
     );
 }
 

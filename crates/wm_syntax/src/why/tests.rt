@@ -73,7 +73,7 @@ fn why_of(rt: &impl Abort, alloc: Global, word: &str) -> Why {
 }
 
 #[test]
-fn printed_names(rt: HostRuntime) {
+fn printed_names_and_sentences(rt: HostRuntime) {
     play(
         &rt,
         rt.alloc(),
@@ -104,19 +104,10 @@ name Immutable = "Immutable"
 name Align = "Align"
 name ElsePlace = "ElsePlace"
 name TooLong = "TooLong"
-name Memory = "Memory""#,
-    );
-}
-
-#[test]
-fn sentences(rt: HostRuntime) {
-    play(
-        &rt,
-        rt.alloc(),
-        &mut Printed,
-        "sentence Magic = a module begins with the bytes 00 61 73 6D
+name Memory = "Memory"
+sentence Magic = a module begins with the bytes 00 61 73 6D
 sentence Memory = memory ran out
-full_stop SectionOrder, full_stop Mismatch, full_stop ElsePlace = false",
+full_stop SectionOrder, full_stop Mismatch, full_stop ElsePlace = false"#,
     );
 }
 
