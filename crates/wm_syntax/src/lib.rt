@@ -19,5 +19,7 @@ pub mod op_names;
 pub mod opcodes;
 pub mod profile;
 pub mod ranges;
+#[cfg(test)]
+mod scripts;
 pub mod types;
 pub mod why;

@@ -158,7 +158,8 @@ fn ends_with(runs: &[Run], ty: ValType) -> bool
 #[cfg(test)]
 mod tests {
     use super::*;
-    use std::test::Fail;
+    use crate::scripts::{Scripted, number_of, play, shown, type_of, unknown, word_of};
+    use std::process::Abort;
 
     /// A further field has to be named here, and a further list to be counted.
     #[test]
@@ -168,32 +169,77 @@ mod tests {
         assert!(rt; runs.is_empty());
     }
 
-    #[test]
-    fn runs_of_one_type_are_joined(rt: HostRuntime) -> Result<(), Fail> {
-        let mut locals = Locals::new(rt.alloc());
-        locals.add(2, ValType::I32)?;
-        locals.add(0, ValType::I64)?;
-        locals.add(3, ValType::I32)?;
-        locals.add(1, ValType::I64)?;
-        assert_eq!(rt; locals.len(), 6);
-        assert_eq!(rt; locals.runs(), 2);
-        assert_eq!(rt; locals.run(0), Some((5, ValType::I32)));
-        assert_eq!(rt; locals.run(1), Some((1, ValType::I64)));
-        assert_eq!(rt; locals.run(2), None);
-        locals.clear();
-        assert_eq!(rt; locals.run(0), None);
-        Ok(())
+    impl Scripted for Locals {
+        fn answer<A: Abort>(&mut self, rt: &A, alloc: Global, call: &str) -> String {
+            let (word, with) = word_of(call);
+            match word {
+                "add" => added(rt, alloc, self, with),
+                "len" => shown(rt, alloc, self.len()),
+                "runs" => shown(rt, alloc, self.runs()),
+                "run" => shown(rt, alloc, self.run(number_of(rt, with) as usize)),
+                "clear" => {
+                    self.clear();
+                    shown(rt, alloc, ())
+                }
+                _ => unknown(rt, call),
+            }
+        }
+    }
+
+    // `2 I32`
+    fn added(rt: &impl Abort, alloc: Global, locals: &mut Locals, with: &str) -> String {
+        let (count, ty) = word_of(with);
+        let count = number_of(rt, count);
+        shown(rt, alloc, locals.add(count, type_of(rt, ty)))
+    }
+
+    fn played(rt: &impl Abort, alloc: Global, script: &str) {
+        let mut locals = Locals::new(alloc);
+        play(rt, alloc, &mut locals, script);
     }
 
     #[test]
-    fn refuses_locals_from_2_to_the_32_on(rt: HostRuntime) -> Result<(), Fail> {
-        let mut locals = Locals::new(rt.alloc());
-        locals.add(4294967295, ValType::I32)?;
-        assert_eq!(rt; locals.add(1, ValType::I64), Err(Why::TooManyLocals));
-        locals.add(0, ValType::I64)?;
-        assert_eq!(rt; locals.run(0), Some((4294967295, ValType::I32)));
-        assert_eq!(rt; locals.runs(), 1);
-        Ok(())
+    fn runs_of_one_type_are_joined(rt: HostRuntime) {
+        played(
+            &rt,
+            rt.alloc(),
+            "add 2 I32, add 0 I64, add 3 I32, add 1 I64 = Ok(())
+len = 6
+runs = 2
+run 0 = Some((5, I32))
+run 1 = Some((1, I64))
+run 2 = None
+clear = ()
+run 0 = None",
+        );
+    }
+
+    #[test]
+    fn refuses_locals_from_2_to_the_32_on(rt: HostRuntime) {
+        played(
+            &rt,
+            rt.alloc(),
+            "add 4294967295 I32 = Ok(())
+add 1 I64 = Err(TooManyLocals)
+add 0 I64 = Ok(())
+run 0 = Some((4294967295, I32))
+runs = 1",
+        );
+    }
+
+    // A local more, of another type than the last. A refusal changes nothing.
+    fn add_more(rt: &impl Abort, locals: &mut Locals) {
+        let runs = locals.runs();
+        assert!(rt; runs < 1000);
+        let ty = if runs % 2 == 0 {
+            ValType::I32
+        } else {
+            ValType::I64
+        };
+        if let Err(why) = locals.add(1, ty) {
+            assert!(rt; why == Why::Memory);
+            assert!(rt; locals.runs() == runs && locals.run(runs) == None);
+        }
     }
 
     // Where no growth is refused each add succeeds. Run with one that is, by
@@ -202,21 +248,10 @@ mod tests {
     fn a_refused_growth_changes_nothing(rt: HostRuntime) {
         let mut locals = Locals::new(rt.alloc());
         for _ in 0..40 {
-            let runs = locals.runs();
-            assert!(rt; runs < 1000);
-            let ty = if runs % 2 == 0 {
-                ValType::I32
-            } else {
-                ValType::I64
-            };
-            if let Err(why) = locals.add(1, ty) {
-                assert_eq!(rt; why, Why::Memory);
-                assert_eq!(rt; locals.runs(), runs);
-                assert_eq!(rt; locals.run(runs), None);
-            }
+            add_more(&rt, &mut locals);
         }
         let runs = locals.runs();
         assert!(rt; 39 <= runs && runs <= 40);
-        assert_eq!(rt; locals.run(38), Some((1, ValType::I32)));
+        assert!(rt; locals.run(38) == Some((1, ValType::I32)));
     }
 }

@@ -3,13 +3,14 @@
 ghost use Rattle.std.specs.Prelude.{◌≡◌, ◌<◌, ◌^◌, IfOk, length, option_to_list};
 
 use crate::bodies::check_body;
-use crate::body_checker::{BodyChecker, Progress};
 use crate::context::Context;
+use crate::scripts::{
+    Scripted, given_of, number_of, ops_of, parts_of, play, shown, type_of, types_of,
+};
 use crate::stats::BodyStats;
 use std::alloc::{AllocError, Global};
 use std::process::Abort;
-use std::test::Fail;
-use wm_syntax::instructions::{BinaryOp, LoadOp, MemArg, Numeric, Op, Simple};
+use wm_syntax::instructions::Op;
 use wm_syntax::types::{FuncType, GlobalType, ValType};
 use wm_syntax::why::Why;
 
@@ -19,48 +20,8 @@ pub(crate) fn is<T>(_field: &T) {}
 /// What can be copied is no list.
 pub(crate) fn is_copy<T: Copy>(_field: &T) {}
 
-const I32: ValType = ValType::I32;
-
-const I64: ValType = ValType::I64;
-
-const UNREACHABLE: Op = Op::Simple(Simple::Unreachable);
-
-const ADD: Op = Op::Simple(Simple::Numeric(Numeric::Binary(ValType::I32, BinaryOp::Add)));
-
-const SELECT: Op = Op::Simple(Simple::Select);
-
-const LOAD_AT_8: Op = Op::Simple(Simple::Load(
-    LoadOp::I32Load,
-    MemArg {
-        align: 3,
-        offset: 0,
-    },
-));
-
-const DROP: Op = Op::Simple(Simple::Drop);
-
-fn int(n: i32) -> Op {
-    Op::Simple(Simple::I32Const(n))
-}
-
-fn long(n: i64) -> Op {
-    Op::Simple(Simple::I64Const(n))
-}
-
-fn get(index: u32) -> Op {
-    Op::Simple(Simple::LocalGet(index))
-}
-
-fn stats(moves: u64, operands: u64, controls: u64, probes: u64) -> Result<BodyStats, Why> {
-    Ok(BodyStats {
-        moves,
-        operands,
-        controls,
-        probes,
-    })
-}
-
-fn function(
+/// A function type.
+pub(crate) fn function(
     alloc: Global,
     params: &[ValType],
     given: Option<ValType>,
@@ -88,157 +49,123 @@ fn check(
 {
     let (Ok(own), Ok(three)) = (
         function(alloc, params, given),
-        function(alloc, &[I32, I32, I32], None),
+        function(alloc, &[ValType::I32, ValType::I32, ValType::I32], None),
     ) else {
         return Err(Why::Memory);
     };
     let types = [own, three];
     let globals = [GlobalType {
-        ty: I32,
+        ty: ValType::I32,
         var: false,
     }];
     let context = Context::new(&types, &[1], &globals, false, true);
     check_body(alloc, &context, 0, runs, ops)
 }
 
+/// The check of a function: `i32 -> i32 | 2*i64: local.get 0, end` has a parameter, a result and two
+/// declared locals.
+#[derive(Drop)]
+struct Checks;
+
+impl Scripted for Checks {
+    fn answer<A: Abort>(&mut self, rt: &A, alloc: Global, call: &str) -> String {
+        let (head, ops) = parts_of(rt, call, ": ");
+        let ops = ops_of(rt, alloc, ops);
+        shown(rt, alloc, check_under(rt, alloc, head, &ops))
+    }
+}
+
+fn check_under(rt: &impl Abort, alloc: Global, head: &str, ops: &[Op]) -> Result<BodyStats, Why> {
+    assert!(rt; ops.len() < 100);
+    let (params, rest) = parts_of(rt, head, "->");
+    let (given, runs) = parts_of(rt, rest, "|");
+    let params = types_of(rt, alloc, params);
+    let runs = runs_of(rt, alloc, runs);
+    check(alloc, &params, given_of(rt, given.trim()), &runs, ops)
+}
+
+// `2*i32 1*i64`
+fn runs_of(rt: &impl Abort, alloc: Global, text: &str) -> Vec<(u32, ValType)> {
+    let mut runs = Vec::new(alloc);
+    for run in text.split_whitespace() {
+        runs.push(run_of(rt, run)).expect(rt, "memory");
+    }
+    runs
+}
+
+fn run_of(rt: &impl Abort, text: &str) -> (u32, ValType) {
+    let (count, ty) = parts_of(rt, text, "*");
+    (number_of(rt, count), type_of(rt, ty))
+}
+
+// Unknown operands, at the floor and above it, and then parameters, locals and ifs.
 #[test]
 fn types_whole_bodies(rt: HostRuntime) {
-    let alloc = rt.alloc();
-    let one = Some(I32);
-    let end = Op::End;
-    let br_if = Op::Simple(Simple::BrIf(0));
-    let eqz = Op::Simple(Simple::Numeric(Numeric::Test(I64)));
-
-    // Unknown operands, at the floor and above it.
-    assert_eq!(rt;
-        check(alloc, &[], one, &[], &[UNREACHABLE, SELECT, eqz, end]),
-        stats(7, 1, 1, 0)
+    play(
+        &rt,
+        rt.alloc(),
+        &mut Checks,
+        "-> i32 |: unreachable, select, i64.eqz, end = Ok(BodyStats { moves: 7, operands: 1, controls: 1, probes: 0 })
+-> i32 |: unreachable, select, end = Ok(BodyStats { moves: 5, operands: 1, controls: 1, probes: 0 })
+-> i32 |: unreachable, br_if 0, end = Ok(BodyStats { moves: 5, operands: 1, controls: 1, probes: 0 })
+-> |: unreachable, i32.const 1, call 0, drop, drop, end = Ok(BodyStats { moves: 7, operands: 1, controls: 1, probes: 0 })
+i32 i32 -> i32 |: local.get 0, local.get 1, i32.add, end = Ok(BodyStats { moves: 8, operands: 2, controls: 1, probes: 0 })
+-> | 4294967295*i32: local.get 4294967294, drop, end = Ok(BodyStats { moves: 4, operands: 1, controls: 1, probes: 1 })
+-> i32 |: i32.const 1, if i32, i32.const 2, else, i32.const 3, end, end = Ok(BodyStats { moves: 14, operands: 1, controls: 2, probes: 0 })
+-> |: i32.const 0, if, else, end, end = Ok(BodyStats { moves: 8, operands: 1, controls: 2, probes: 0 })",
     );
-    assert_eq!(rt;
-        check(alloc, &[], one, &[], &[UNREACHABLE, SELECT, end]),
-        stats(5, 1, 1, 0)
-    );
-    assert_eq!(rt;
-        check(alloc, &[], one, &[], &[UNREACHABLE, br_if, end]),
-        stats(5, 1, 1, 0)
-    );
-    let call = [
-        UNREACHABLE,
-        int(1),
-        Op::Simple(Simple::Call(0)),
-        DROP,
-        DROP,
-        end,
-    ];
-    assert_eq!(rt; check(alloc, &[], None, &[], &call), stats(7, 1, 1, 0));
-
-    // Parameters, locals and ifs.
-    assert_eq!(rt;
-        check(alloc, &[I32, I32], one, &[], &[get(0), get(1), ADD, end]),
-        stats(8, 2, 1, 0)
-    );
-    let locals = [(4294967295, I32)];
-    assert_eq!(rt;
-        check(alloc, &[], None, &locals, &[get(4294967294), DROP, end]),
-        stats(4, 1, 1, 1)
-    );
-    let choice = [int(1), Op::If(one), int(2), Op::Else, int(3), end, end];
-    assert_eq!(rt; check(alloc, &[], one, &[], &choice), stats(14, 1, 2, 0));
-    let empty = [int(0), Op::If(None), Op::Else, end, end];
-    assert_eq!(rt; check(alloc, &[], None, &[], &empty), stats(8, 1, 2, 0));
 }
 
+/// Checks these ops without the last, and then with it, in a function that gives an i32.
+#[derive(Drop)]
+struct LastOps;
+
+impl Scripted for LastOps {
+    fn answer<A: Abort>(&mut self, rt: &A, alloc: Global, call: &str) -> String {
+        let ops = ops_of(rt, alloc, call);
+        before_and_after(rt, alloc, &ops)
+    }
+}
+
+fn before_and_after(rt: &impl Abort, alloc: Global, ops: &[Op]) -> String {
+    assert!(rt; 0 < ops.len());
+    let before = check_under(rt, alloc, "-> i32 |", &ops[..ops.len() - 1]);
+    let after = check_under(rt, alloc, "-> i32 |", ops);
+    shown(rt, alloc, (before, after))
+}
+
+// Labels of different types, of no and one result and of one each, stand in the fifth row and the sixth.
+// What is named comes before the operands: indices, then what may not be set or aligned so.
 #[test]
 fn refuses_at_the_op_that_has_no_typing(rt: HostRuntime) {
-    let alloc = rt.alloc();
-    let one = Some(I32);
-    let cases: [(&[Op], Why); 14] = [
-        (&[UNREACHABLE, long(0), ADD], Why::Mismatch),
-        (
-            &[UNREACHABLE, int(0), long(0), int(1), SELECT],
-            Why::Mismatch,
-        ),
-        (&[Op::Block(None), Op::Else], Why::ElsePlace),
-        (&[int(0), int(0), Op::End], Why::Arity),
-        // Labels of different types, of no and one result and of one each.
-        (
-            &[
-                UNREACHABLE,
-                Op::Block(None),
-                UNREACHABLE,
-                Op::BrTable(1),
-                Op::Label(0),
-                Op::Label(1),
-            ],
-            Why::Mismatch,
-        ),
-        (
-            &[
-                Op::Block(one),
-                Op::Block(Some(I64)),
-                UNREACHABLE,
-                Op::BrTable(1),
-                Op::Label(0),
-                Op::Label(1),
-            ],
-            Why::Mismatch,
-        ),
-        (&[int(0), Op::If(one), int(0), Op::End], Why::Mismatch),
-        // What is named comes before the operands: indices, then what may not be set or aligned so.
-        (&[get(0)], Why::Index),
-        (&[Op::Simple(Simple::Br(1))], Why::Index),
-        (&[Op::Simple(Simple::CallIndirect(0))], Why::Index),
-        (&[Op::Simple(Simple::GlobalSet(0))], Why::Immutable),
-        (&[LOAD_AT_8], Why::Align),
-        (&[int(0), Op::If(one), Op::End], Why::Mismatch),
-        (&[long(0), Op::End], Why::Mismatch),
-    ];
-    for (ops, why) in cases {
-        assert!(rt; 0 < ops.len() && ops.len() < 10);
-        assert_eq!(rt;
-            check(alloc, &[], one, &[], &ops[..ops.len() - 1]),
-            Err(Why::BodyEnd),
-            "before {why:?}"
-        );
-        assert_eq!(rt; check(alloc, &[], one, &[], ops), Err(why));
-    }
-    let locals = [(4294967295, I32), (1, I64)];
-    assert_eq!(rt;
-        check(alloc, &[], None, &locals, &[Op::End]),
-        Err(Why::TooManyLocals)
-    );
-    assert_eq!(rt;
-        check(alloc, &[], None, &[], &[Op::End, Op::End]),
-        Err(Why::BodyEnd)
+    play(
+        &rt,
+        rt.alloc(),
+        &mut LastOps,
+        "unreachable, i64.const 0, i32.add = (Err(BodyEnd), Err(Mismatch))
+unreachable, i32.const 0, i64.const 0, i32.const 1, select = (Err(BodyEnd), Err(Mismatch))
+block, else = (Err(BodyEnd), Err(ElsePlace))
+i32.const 0, i32.const 0, end = (Err(BodyEnd), Err(Arity))
+unreachable, block, unreachable, br_table 1, label 0, label 1 = (Err(BodyEnd), Err(Mismatch))
+block i32, block i64, unreachable, br_table 1, label 0, label 1 = (Err(BodyEnd), Err(Mismatch))
+i32.const 0, if i32, i32.const 0, end = (Err(BodyEnd), Err(Mismatch))
+local.get 0 = (Err(BodyEnd), Err(Index))
+br 1 = (Err(BodyEnd), Err(Index))
+call_indirect 0 = (Err(BodyEnd), Err(Index))
+global.set 0 = (Err(BodyEnd), Err(Immutable))
+i32.load 3 0 = (Err(BodyEnd), Err(Align))
+i32.const 0, if i32, end = (Err(BodyEnd), Err(Mismatch))
+i64.const 0, end = (Err(BodyEnd), Err(Mismatch))",
     );
 }
 
 #[test]
-fn keeps_a_refusal_until_the_next_body(rt: HostRuntime) -> Result<(), Fail> {
-    let alloc = rt.alloc();
-    let types = [function(alloc, &[], None)?];
-    let context = Context::new(&types, &[], &[], false, false);
-    let mut checker = BodyChecker::new(alloc);
-    checker.begin(&context, 0);
-    assert_eq!(rt; checker.step(&context, Op::Else), Err(Why::ElsePlace));
-    assert_eq!(rt; checker.locals(1, I32), Err(Why::ElsePlace));
-    checker.begin(&context, 0);
-    assert_eq!(rt; checker.locals(1, I32), Ok(()));
-    assert_eq!(rt; checker.kept(), 2);
-    Ok(())
-}
-
-#[test]
-fn keeps_nothing_after_the_end(rt: HostRuntime) -> Result<(), Fail> {
-    let alloc = rt.alloc();
-    let types = [function(alloc, &[], None)?];
-    let context = Context::new(&types, &[], &[], false, false);
-    let mut checker = BodyChecker::new(alloc);
-    assert_eq!(rt; checker.kept(), 0);
-    checker.begin(&context, 0);
-    assert_eq!(rt; checker.kept(), 1);
-    assert_eq!(rt; checker.step(&context, Op::End), Ok(Progress::Ended));
-    assert_eq!(rt; checker.kept(), 0);
-    assert_eq!(rt; Ok(checker.stats()), stats(2, 0, 1, 0));
-    Ok(())
+fn refuses_whole_bodies(rt: HostRuntime) {
+    play(
+        &rt,
+        rt.alloc(),
+        &mut Checks,
+        "-> | 4294967295*i32 1*i64: end = Err(TooManyLocals)
+-> |: end, end = Err(BodyEnd)",
+    );
 }

@@ -1,43 +1,65 @@
 //! Tests of the shortest spellings of numbers.
 
 use super::*;
+use crate::scripts::{Scripted, digits_of, number_of, play, unknown, word_of};
+use std::alloc::Global;
+use std::process::Abort;
 
-#[test]
-fn shortest_unsigned_numbers(rt: HostRuntime) {
-    for (value, bytes) in [
-        (0, [0x00].as_slice()),
-        (127, &[0x7F]),
-        (128, &[0x80, 0x01]),
-        (624485, &[0xE5, 0x8E, 0x26]),
-        (4294967295, &[0xFF, 0xFF, 0xFF, 0xFF, 0x0F]),
-    ] {
-        let mut into = [0xAA; 5];
-        let len = put_u32(value, &mut into);
-        assert_eq!(rt; &into[..len], bytes);
+/// Spells this number: the bytes that were put.
+#[derive(Drop)]
+struct Spelling;
+
+impl Scripted for Spelling {
+    fn answer<A: Abort>(&mut self, rt: &A, alloc: Global, call: &str) -> String {
+        let (word, with) = word_of(call);
+        match word {
+            "put_u32" => spelled_u32(rt, alloc, number_of(rt, with)),
+            "put_s32" => spelled_s32(rt, alloc, with),
+            "put_s64" => spelled_s64(rt, alloc, with),
+            _ => unknown(rt, call),
+        }
     }
 }
 
+fn spelled_u32(rt: &impl Abort, alloc: Global, number: u32) -> String {
+    let mut into = [0xAA; 5];
+    let len = put_u32(number, &mut into);
+    digits_of(rt, alloc, &into[..len])
+}
+
+fn spelled_s32(rt: &impl Abort, alloc: Global, number: &str) -> String {
+    let number = number.parse::<i32>().expect(rt, "a number");
+    let mut into = [0xAA; 5];
+    let len = put_s32(number, &mut into);
+    digits_of(rt, alloc, &into[..len])
+}
+
+fn spelled_s64(rt: &impl Abort, alloc: Global, number: &str) -> String {
+    let number = number.parse::<i64>().expect(rt, "a number");
+    let mut into = [0xAA; 10];
+    let len = put_s64(number, &mut into);
+    digits_of(rt, alloc, &into[..len])
+}
+
 #[test]
-fn shortest_signed_numbers(rt: HostRuntime) {
-    for (value, bytes) in [
-        (0, [0x00].as_slice()),
-        (63, &[0x3F]),
-        (64, &[0xC0, 0x00]),
-        (-1, &[0x7F]),
-        (-64, &[0x40]),
-        (-65, &[0xBF, 0x7F]),
-        (-2147483648, &[0x80, 0x80, 0x80, 0x80, 0x78]),
-        (2147483647, &[0xFF, 0xFF, 0xFF, 0xFF, 0x07]),
-    ] {
-        let mut into = [0xAA; 5];
-        let len = put_s32(value, &mut into);
-        assert_eq!(rt; &into[..len], bytes);
-        let mut wide = [0xAA; 10];
-        let len = put_s64(i64::from(value), &mut wide);
-        assert_eq!(rt; &wide[..len], bytes);
-    }
-    let mut wide = [0xAA; 10];
-    let len = put_s64(i64::MIN, &mut wide);
-    let least = [0x80, 0x80, 0x80, 0x80, 0x80, 0x80, 0x80, 0x80, 0x80, 0x7F];
-    assert_eq!(rt; &wide[..len], least.as_slice());
+fn shortest_numbers(rt: HostRuntime) {
+    play(
+        &rt,
+        rt.alloc(),
+        &mut Spelling,
+        "put_u32 0 = 00
+put_u32 127 = 7F
+put_u32 128 = 80 01
+put_u32 624485 = E5 8E 26
+put_u32 4294967295 = FF FF FF FF 0F
+put_s32 0, put_s64 0 = 00
+put_s32 63, put_s64 63 = 3F
+put_s32 64, put_s64 64 = C0 00
+put_s32 -1, put_s64 -1 = 7F
+put_s32 -64, put_s64 -64 = 40
+put_s32 -65, put_s64 -65 = BF 7F
+put_s32 -2147483648, put_s64 -2147483648 = 80 80 80 80 78
+put_s32 2147483647, put_s64 2147483647 = FF FF FF FF 07
+put_s64 -9223372036854775808 = 80 80 80 80 80 80 80 80 80 7F",
+    );
 }

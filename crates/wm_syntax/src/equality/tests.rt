@@ -2,59 +2,73 @@
 
 use super::*;
 use crate::body_builder::BodyBuilder;
-use crate::instructions::Simple;
-use crate::why::Why;
+use crate::scripts::{Scripted, number_of, op_of_word, parts_of, play, shown, type_of};
 use std::alloc::Global;
-use std::test::Fail;
+use std::process::Abort;
 
-/// A module of one function with these locals and ops.
-fn module_of(alloc: Global, locals: &[(u32, ValType)], ops: &[Op]) -> Result<Module, Why> {
-    let mut held = Locals::new(alloc);
-    for (count, ty) in locals {
-        held.add(*count, *ty)?;
+/// Whether two modules are equal, and whether they are not.
+#[derive(Drop)]
+struct Equality;
+
+impl Scripted for Equality {
+    fn answer<A: Abort>(&mut self, rt: &A, alloc: Global, call: &str) -> String {
+        let (one, other) = parts_of(rt, call, " | ");
+        let one = module_of(rt, alloc, one);
+        let other = module_of(rt, alloc, other);
+        shown(rt, alloc, (one == other, one != other))
     }
-    let mut builder = BodyBuilder::new(alloc);
-    for op in ops {
-        if builder.push(*op).is_err() {
-            return Err(Why::Memory);
-        }
-    }
-    let Ok(body) = builder.finish() else {
-        return Err(Why::Memory);
-    };
+}
+
+/// `empty`, or a module of one function with these locals and ops: `2*I32 1*I64: Nop`.
+fn module_of(rt: &impl Abort, alloc: Global, text: &str) -> Module {
     let mut module = Module::new(alloc);
-    module.functions.push(Function {
+    if text != "empty" {
+        let function = function_of(rt, alloc, text);
+        module.functions.push(function).expect(rt, "memory");
+    }
+    module
+}
+
+fn function_of(rt: &impl Abort, alloc: Global, text: &str) -> Function {
+    let (runs, ops) = parts_of(rt, text, ": ");
+    Function {
         type_index: 0,
-        locals: held,
-        body,
-    })?;
-    Ok(module)
+        locals: locals_of(rt, alloc, runs),
+        body: body_of(rt, alloc, ops),
+    }
 }
 
+fn locals_of(rt: &impl Abort, alloc: Global, runs: &str) -> Locals {
+    let mut locals = Locals::new(alloc);
+    for run in runs.split_whitespace() {
+        let (count, ty) = parts_of(rt, run, "*");
+        let answer = locals.add(number_of(rt, count), type_of(rt, ty));
+        assert!(rt; answer == Ok(()));
+    }
+    locals
+}
+
+fn body_of(rt: &impl Abort, alloc: Global, ops: &str) -> Body {
+    let mut builder = BodyBuilder::new(alloc);
+    for op in ops.split_whitespace() {
+        let answer = builder.push(op_of_word(rt, op));
+        assert!(rt; answer == Ok(()));
+    }
+    builder.finish().expect(rt, "a body")
+}
+
+// An empty else makes no difference.
 #[test]
-fn what_is_the_same_and_what_is_not(rt: HostRuntime) -> Result<(), Fail> {
-    let nop = Op::Simple(Simple::Nop);
-    let one = module_of(rt.alloc(), &[(2, ValType::I32), (1, ValType::I32)], &[nop])?;
-    let joined = module_of(rt.alloc(), &[(3, ValType::I32)], &[nop])?;
-    let other_locals = module_of(rt.alloc(), &[(3, ValType::I64)], &[nop])?;
-    let longer = module_of(rt.alloc(), &[(3, ValType::I32)], &[nop, nop])?;
-    let other_op = module_of(
+fn what_is_the_same_and_what_is_not(rt: HostRuntime) {
+    play(
+        &rt,
         rt.alloc(),
-        &[(3, ValType::I32)],
-        &[Op::Simple(Simple::Br(7))],
-    )?;
-    assert!(rt; one == joined);
-    assert!(rt; one != other_locals);
-    assert!(rt; one != longer);
-    assert!(rt; one != other_op);
-    assert!(rt; one != Module::new(rt.alloc()));
-    Ok(())
-}
-
-#[test]
-fn an_empty_else_makes_no_difference(rt: HostRuntime) -> Result<(), Fail> {
-    let with = module_of(rt.alloc(), &[], &[Op::If(None), Op::Else, Op::End])?;
-    let without = module_of(rt.alloc(), &[], &[Op::If(None), Op::End])?;
-    assert!(rt; with == without);
-    Ok(())
+        &mut Equality,
+        "2*I32 1*I32: Nop | 3*I32: Nop = (true, false)
+2*I32 1*I32: Nop | 3*I64: Nop = (false, true)
+2*I32 1*I32: Nop | 3*I32: Nop Nop = (false, true)
+2*I32 1*I32: Nop | 3*I32: Br:7 = (false, true)
+2*I32 1*I32: Nop | empty = (false, true)
+: If Else End | : If End = (true, false)",
+    );
 }

@@ -5,25 +5,85 @@ ghost use Rattle.std.specs.Prelude.{◌≡◌, IfOk};
 use super::input::Input;
 use super::output::Output;
 use super::*;
+use crate::scripts::{Scripted, play, shown, unknown, word_of};
+use std::alloc::Global;
+use std::fmt::Debug;
 use std::io::{ErrorKind, Read, Write};
-use std::test::Fail;
+use std::process::Abort;
+
+// What a call answers that reads up to three bytes.
+fn given(rt: &impl Abort, alloc: Global, source: &mut impl Source) -> String {
+    let mut buf = [0u8; 3];
+    match source.get(&mut buf) {
+        Ok(count) => {
+            assert!(rt; count <= buf.len());
+            shown(rt, alloc, &buf[..count])
+        }
+        Err(_) => shown(rt, alloc, Fault),
+    }
+}
+
+/// An error stands so in a script.
+#[derive(Debug, Drop)]
+struct Fault;
+
+impl<R: Read> Scripted for Input<R> {
+    fn answer<A: Abort>(&mut self, rt: &A, alloc: Global, call: &str) -> String {
+        match call {
+            "get" => given(rt, alloc, self),
+            "failed" => shown(rt, alloc, self.failed()),
+            _ => unknown(rt, call),
+        }
+    }
+}
+
+// What is answered, where it is no fault.
+fn told<T: Debug + Drop>(rt: &impl Abort, alloc: Global, answer: io::Result<T>) -> String {
+    match answer {
+        Ok(value) => shown(rt, alloc, value),
+        Err(_) => shown(rt, alloc, Fault),
+    }
+}
+
+impl<W: Write> Scripted for Output<W> {
+    fn answer<A: Abort>(&mut self, rt: &A, alloc: Global, call: &str) -> String {
+        let (word, with) = word_of(call);
+        match word {
+            "put" => told(rt, alloc, self.put(with.as_bytes())),
+            "flush" => told(rt, alloc, self.flush()),
+            "failed" => shown(rt, alloc, self.failed()),
+            _ => unknown(rt, call),
+        }
+    }
+}
 
 #[test]
-fn bytes_go_through(rt: HostRuntime) -> Result<(), Fail> {
+fn bytes_come_from_a_source(rt: HostRuntime) {
     let mut source = Input::new(&b"wasm"[..]);
-    let mut buf = [0u8; 3];
-    assert_eq!(rt; source.get(&mut buf)?, 3);
-    assert_eq!(rt; buf, *b"was");
-    assert_eq!(rt; source.get(&mut buf)?, 1);
-    assert_eq!(rt; source.get(&mut buf)?, 0);
-    assert!(rt; !source.failed());
-    assert_eq!(rt; source.into_inner().len(), 0);
+    play(
+        &rt,
+        rt.alloc(),
+        &mut source,
+        "get = [119, 97, 115]
+get = [109]
+get = []
+failed = false",
+    );
+    assert!(rt; source.into_inner().is_empty());
+}
+
+#[test]
+fn bytes_go_to_a_destination(rt: HostRuntime) {
     let mut dest = Output::new(Vec::new(rt.alloc()));
-    assert_eq!(rt; dest.put(b"asm")?, 3);
-    dest.flush()?;
-    assert!(rt; !dest.failed());
-    assert_eq!(rt; dest.into_inner().as_slice(), b"asm".as_slice());
-    Ok(())
+    play(
+        &rt,
+        rt.alloc(),
+        &mut dest,
+        "put asm = 3
+flush = ()
+failed = false",
+    );
+    assert!(rt; dest.into_inner().as_slice() == b"asm".as_slice());
 }
 
 /// Answers `Interrupted` to the first call, and then takes or gives nothing.
@@ -62,22 +122,40 @@ impl Write for Unwilling {
 }
 
 #[test]
-fn faults_stay(rt: HostRuntime) -> Result<(), Fail> {
-    let mut source = Input::new(Unwilling { calls: 0 });
-    let mut buf = [0u8; 3];
-    assert!(rt; source.get(&mut buf).is_err());
-    assert!(rt; source.failed());
-    assert_eq!(rt; source.get(&mut buf)?, 0);
-    assert!(rt; source.failed());
-    let mut dest = Output::new(Unwilling { calls: 0 });
-    assert!(rt; dest.flush().is_err());
-    assert!(rt; dest.failed());
-    let mut dest = Output::new(Unwilling { calls: 1 });
-    assert_eq!(rt; dest.put(b"")?, 0);
-    assert!(rt; !dest.failed());
-    assert!(rt; dest.put(b"x").is_err());
-    assert!(rt; dest.failed());
-    Ok(())
+fn faults_of_a_source_stay(rt: HostRuntime) {
+    play(
+        &rt,
+        rt.alloc(),
+        &mut Input::new(Unwilling { calls: 0 }),
+        "get = Fault
+failed = true
+get = []
+failed = true",
+    );
+}
+
+#[test]
+fn a_flush_that_fails(rt: HostRuntime) {
+    play(
+        &rt,
+        rt.alloc(),
+        &mut Output::new(Unwilling { calls: 0 }),
+        "flush = Fault
+failed = true",
+    );
+}
+
+#[test]
+fn a_write_that_takes_nothing(rt: HostRuntime) {
+    play(
+        &rt,
+        rt.alloc(),
+        &mut Output::new(Unwilling { calls: 1 }),
+        "put = 0
+failed = false
+put x = Fault
+failed = true",
+    );
 }
 
 /// Takes one byte a call.
@@ -101,18 +179,17 @@ impl Write for Slow {
 }
 
 #[test]
-fn all_is_put(rt: HostRuntime) -> Result<(), Fail> {
+fn all_is_put(rt: HostRuntime) {
     let mut dest = Output::new(Slow {
         taken: Vec::new(rt.alloc()),
     });
-    assert_eq!(rt; put_all(&mut dest, b"wasm"), Ok(()));
-    assert_eq!(rt; dest.into_inner().taken.as_slice(), b"wasm".as_slice());
-    Ok(())
+    assert!(rt; put_all(&mut dest, b"wasm") == Ok(()));
+    assert!(rt; dest.into_inner().taken.as_slice() == b"wasm".as_slice());
 }
 
 #[test]
 fn what_was_put_before_a_fault(rt: HostRuntime) {
     let mut dest = Output::new(Unwilling { calls: 1 });
-    assert_eq!(rt; put_all(&mut dest, b"wasm"), Err(0));
+    assert!(rt; put_all(&mut dest, b"wasm") == Err(0));
     assert!(rt; dest.failed());
 }

@@ -1,6 +1,8 @@
 //! Tests of the readers of numbers.
 
 use super::*;
+use crate::scripts::{Scripted, bytes_of, play, shown, unknown, word_of};
+use std::alloc::Global;
 use std::process::Abort;
 
 fn read_u32(bytes: &[u8]) -> Step<u32> {
@@ -39,99 +41,105 @@ fn read_s64(bytes: &[u8]) -> Step<i64> {
     answer
 }
 
-fn expect_s32(rt: &impl Abort, fifth: u8, wanted: Step<i32>) {
-    assert_eq!(rt;
-        read_s32(&[0x80, 0x80, 0x80, 0x80, fifth]),
-        wanted,
-        "a fifth byte {fifth}"
-    );
+fn read_unsigned7(bytes: &[u8]) -> Step<u64> {
+    let mut reader = Leb128::new();
+    let mut answer = Step::More;
+    for byte in bytes {
+        answer = reader.push_unsigned(7, *byte);
+    }
+    answer
+}
+
+fn read_signed33(bytes: &[u8]) -> Step<i64> {
+    let mut reader = Leb128::new();
+    let mut answer = Step::More;
+    for byte in bytes {
+        answer = reader.push_signed(33, *byte);
+    }
+    answer
+}
+
+/// Reads these bytes by a reader of the named kind: the answer to the last of them.
+#[derive(Drop)]
+struct Numbers;
+
+impl Scripted for Numbers {
+    fn answer<A: Abort>(&mut self, rt: &A, alloc: Global, call: &str) -> String {
+        let (word, with) = word_of(call);
+        read(rt, alloc, word, &bytes_of(rt, alloc, with))
+    }
+}
+
+fn read(rt: &impl Abort, alloc: Global, word: &str, bytes: &[u8]) -> String {
+    match word {
+        "u32" => shown(rt, alloc, read_u32(bytes)),
+        "u64" => shown(rt, alloc, read_u64(bytes)),
+        "s32" => shown(rt, alloc, read_s32(bytes)),
+        "s64" => shown(rt, alloc, read_s64(bytes)),
+        "unsigned7" => shown(rt, alloc, read_unsigned7(bytes)),
+        "signed33" => shown(rt, alloc, read_signed33(bytes)),
+        "short_front" => shown(rt, alloc, short_front(bytes)),
+        _ => unknown(rt, word),
+    }
 }
 
 #[test]
 fn unsigned_numbers(rt: HostRuntime) {
-    assert_eq!(rt; read_u32(&[0x00]), Step::Done(0));
-    assert_eq!(rt; read_u32(&[0x7F]), Step::Done(127));
-    assert_eq!(rt; read_u32(&[0xE5, 0x8E, 0x26]), Step::Done(624485));
-    assert_eq!(rt; read_u32(&[0xE5, 0x8E]), Step::More);
-    // long forms
-    assert_eq!(rt; read_u32(&[0x87, 0x80, 0x80, 0x80, 0x00]), Step::Done(7));
-    assert_eq!(rt; read_u32(&[0x80, 0x00]), Step::Done(0));
-    // the fifth byte
-    assert_eq!(rt;
-        read_u32(&[0xFF, 0xFF, 0xFF, 0xFF, 0x0F]),
-        Step::Done(4294967295)
-    );
-    assert_eq!(rt; read_u32(&[0xFF, 0xFF, 0xFF, 0xFF, 0x10]), Step::Bad);
-    assert_eq!(rt; read_u32(&[0x87, 0x80, 0x80, 0x80, 0x80]), Step::Bad);
-    // nothing comes after the end
-    assert_eq!(rt; read_u32(&[0x07, 0x07]), Step::Bad);
-    assert_eq!(rt; read_u32(&[0xFF, 0xFF, 0xFF, 0xFF, 0x10, 0x00]), Step::Bad);
-    let nine = [0xFF, 0xFF, 0xFF, 0xFF, 0xFF, 0xFF, 0xFF, 0xFF, 0xFF];
-    assert_eq!(rt; read_u64(&nine), Step::More);
-    assert_eq!(rt;
-        read_u64(&[0xFF, 0xFF, 0xFF, 0xFF, 0xFF, 0xFF, 0xFF, 0xFF, 0xFF, 0x01]),
-        Step::Done(u64::MAX)
-    );
-    assert_eq!(rt;
-        read_u64(&[0x80, 0x80, 0x80, 0x80, 0x80, 0x80, 0x80, 0x80, 0x80, 0x02]),
-        Step::Bad
+    play(
+        &rt,
+        rt.alloc(),
+        &mut Numbers,
+        "u32 00 = Done(0)
+u32 7F = Done(127)
+u32 E5 8E 26 = Done(624485)
+u32 E5 8E = More
+u32 87 80 80 80 00 = Done(7)
+u32 80 00 = Done(0)
+u32 FF FF FF FF 0F = Done(4294967295)
+u32 FF FF FF FF 10 = Bad
+u32 87 80 80 80 80 = Bad
+u32 07 07 = Bad
+u32 FF FF FF FF 10 00 = Bad
+u64 FF FF FF FF FF FF FF FF FF = More
+u64 FF FF FF FF FF FF FF FF FF 01 = Done(18446744073709551615)
+u64 80 80 80 80 80 80 80 80 80 02 = Bad
+unsigned7 7F = Done(127)
+unsigned7 80 = Bad
+short_front 05 7F 80 01 = 2
+short_front 80 01 = 0
+short_front 00 01 02 = 3
+short_front = 0",
     );
 }
 
+// A fifth byte of 32 bits is 00 to 07 or 78 to 7F, a tenth of 64 bits is 00 or 7F.
 #[test]
 fn signed_numbers(rt: HostRuntime) {
-    assert_eq!(rt; read_s32(&[0x3F]), Step::Done(63));
-    assert_eq!(rt; read_s32(&[0x40]), Step::Done(-64));
-    assert_eq!(rt; read_s32(&[0x7F]), Step::Done(-1));
-    assert_eq!(rt; read_s32(&[0xC0, 0xBB, 0x78]), Step::Done(-123456));
-    // long forms
-    assert_eq!(rt; read_s32(&[0xFF, 0xFF, 0xFF, 0xFF, 0x7F]), Step::Done(-1));
-    assert_eq!(rt; read_s32(&[0x82, 0x00]), Step::Done(2));
-    // the fifth byte: 00 to 07 and 78 to 7F
-    expect_s32(&rt, 0x00, Step::Done(0));
-    expect_s32(&rt, 0x07, Step::Done(1879048192));
-    expect_s32(&rt, 0x08, Step::Bad);
-    expect_s32(&rt, 0x3F, Step::Bad);
-    expect_s32(&rt, 0x40, Step::Bad);
-    expect_s32(&rt, 0x77, Step::Bad);
-    expect_s32(&rt, 0x78, Step::Done(-2147483648));
-    expect_s32(&rt, 0x7F, Step::Done(-268435456));
-    expect_s32(&rt, 0x80, Step::Bad);
-    assert_eq!(rt; read_s32(&[0x7F, 0x7F]), Step::Bad);
-    // the tenth byte of 64 bits: 00 or 7F
-    assert_eq!(rt;
-        read_s64(&[0x80, 0x80, 0x80, 0x80, 0x80, 0x80, 0x80, 0x80, 0x80, 0x7F]),
-        Step::Done(i64::MIN)
+    play(
+        &rt,
+        rt.alloc(),
+        &mut Numbers,
+        "s32 3F = Done(63)
+s32 40 = Done(-64)
+s32 7F = Done(-1)
+s32 C0 BB 78 = Done(-123456)
+s32 FF FF FF FF 7F = Done(-1)
+s32 82 00 = Done(2)
+s32 80 80 80 80 00 = Done(0)
+s32 80 80 80 80 07 = Done(1879048192)
+s32 80 80 80 80 08 = Bad
+s32 80 80 80 80 3F = Bad
+s32 80 80 80 80 40 = Bad
+s32 80 80 80 80 77 = Bad
+s32 80 80 80 80 78 = Done(-2147483648)
+s32 80 80 80 80 7F = Done(-268435456)
+s32 80 80 80 80 80 = Bad
+s32 7F 7F = Bad
+s64 80 80 80 80 80 80 80 80 80 7F = Done(-9223372036854775808)
+s64 FF FF FF FF FF FF FF FF FF 00 = Done(9223372036854775807)
+s64 FF FF FF FF FF FF FF FF FF 01 = Bad
+s64 80 80 80 80 80 80 80 80 80 7E = Bad
+signed33 80 = More
+signed33 80 7F = Done(-128)",
     );
-    assert_eq!(rt;
-        read_s64(&[0xFF, 0xFF, 0xFF, 0xFF, 0xFF, 0xFF, 0xFF, 0xFF, 0xFF, 0x00]),
-        Step::Done(i64::MAX)
-    );
-    assert_eq!(rt;
-        read_s64(&[0xFF, 0xFF, 0xFF, 0xFF, 0xFF, 0xFF, 0xFF, 0xFF, 0xFF, 0x01]),
-        Step::Bad
-    );
-    assert_eq!(rt;
-        read_s64(&[0x80, 0x80, 0x80, 0x80, 0x80, 0x80, 0x80, 0x80, 0x80, 0x7E]),
-        Step::Bad
-    );
-}
-
-#[test]
-fn any_width(rt: HostRuntime) {
-    let mut reader = Leb128::new();
-    assert_eq!(rt; reader.push_unsigned(7, 0x7F), Step::Done(127));
-    let mut reader = Leb128::new();
-    assert_eq!(rt; reader.push_unsigned(7, 0x80), Step::Bad);
-    let mut reader = Leb128::new();
-    assert_eq!(rt; reader.push_signed(33, 0x80), Step::More);
-    assert_eq!(rt; reader.push_signed(33, 0x7F), Step::Done(-128));
-}
-
-#[test]
-fn short_numbers_at_the_front(rt: HostRuntime) {
-    assert_eq!(rt; short_front(&[0x05, 0x7F, 0x80, 0x01]), 2);
-    assert_eq!(rt; short_front(&[0x80, 0x01]), 0);
-    assert_eq!(rt; short_front(&[0x00, 0x01, 0x02]), 3);
-    assert_eq!(rt; short_front(&[]), 0);
 }

@@ -1,61 +1,114 @@
 //! Tests of the words of refusals.
 
 use super::*;
+use crate::scripts::{Scripted, play, shown, unknown, word_of};
 use std::alloc::Global;
-use std::test::Fail;
+use std::process::Abort;
 
-fn text_of(alloc: Global, why: Why) -> Result<String, Fail> {
-    Ok(format!(in alloc; "{why}")?)
-}
+const ALL: [Why; 27] = [
+    Why::Magic,
+    Why::Version,
+    Why::SectionId,
+    Why::SectionOrder,
+    Why::SectionEnd,
+    Why::BadNumber,
+    Why::BadUtf8,
+    Why::BadByte,
+    Why::Float,
+    Why::BadOpcode,
+    Why::Truncated,
+    Why::CodeCount,
+    Why::BodyEnd,
+    Why::TooManyLocals,
+    Why::Index,
+    Why::Mismatch,
+    Why::Arity,
+    Why::Limits,
+    Why::Second,
+    Why::DuplicateExport,
+    Why::StartType,
+    Why::NotConst,
+    Why::Immutable,
+    Why::Align,
+    Why::ElsePlace,
+    Why::TooLong,
+    Why::Memory,
+];
 
-#[test]
-fn printed_names(rt: HostRuntime) {
-    let names = [
-        (Why::Magic, "Magic"),
-        (Why::Version, "Version"),
-        (Why::SectionId, "SectionId"),
-        (Why::SectionOrder, "SectionOrder"),
-        (Why::SectionEnd, "SectionEnd"),
-        (Why::BadNumber, "BadNumber"),
-        (Why::BadUtf8, "BadUtf8"),
-        (Why::BadByte, "BadByte"),
-        (Why::Float, "Float"),
-        (Why::BadOpcode, "BadOpcode"),
-        (Why::Truncated, "Truncated"),
-        (Why::CodeCount, "CodeCount"),
-        (Why::BodyEnd, "BodyEnd"),
-        (Why::TooManyLocals, "TooManyLocals"),
-        (Why::Index, "Index"),
-        (Why::Mismatch, "Type"),
-        (Why::Arity, "Arity"),
-        (Why::Limits, "Limits"),
-        (Why::Second, "Second"),
-        (Why::DuplicateExport, "DuplicateExport"),
-        (Why::StartType, "StartType"),
-        (Why::NotConst, "NotConst"),
-        (Why::Immutable, "Immutable"),
-        (Why::Align, "Align"),
-        (Why::ElsePlace, "ElsePlace"),
-        (Why::TooLong, "TooLong"),
-        (Why::Memory, "Memory"),
-    ];
-    for (why, name) in names {
-        assert_eq!(rt; why.name(), name);
+/// What is printed for a refusal.
+#[derive(Drop)]
+struct Printed;
+
+impl Scripted for Printed {
+    fn answer<A: Abort>(&mut self, rt: &A, alloc: Global, call: &str) -> String {
+        let (word, with) = word_of(call);
+        let why = why_of(rt, alloc, with);
+        match word {
+            "name" => shown(rt, alloc, why.name()),
+            "sentence" => sentence_of(rt, alloc, why),
+            "full_stop" => full_stop_of(rt, alloc, why),
+            _ => unknown(rt, call),
+        }
     }
 }
 
+fn sentence_of(rt: &impl Abort, alloc: Global, why: Why) -> String {
+    format!(in alloc; "{why}").expect(rt, "memory")
+}
+
+fn full_stop_of(rt: &impl Abort, alloc: Global, why: Why) -> String {
+    let sentence = sentence_of(rt, alloc, why);
+    shown(rt, alloc, sentence.as_str().ends_with('.'))
+}
+
+// The refusal that Debug writes so.
+fn why_of(rt: &impl Abort, alloc: Global, word: &str) -> Why {
+    for why in ALL {
+        let name = shown(rt, alloc, why);
+        if name.as_str() == word {
+            return why;
+        }
+    }
+    unknown(rt, word)
+}
+
 #[test]
-fn sentences(rt: HostRuntime) -> Result<(), Fail> {
-    let alloc = rt.alloc();
-    assert_eq!(rt;
-        text_of(alloc, Why::Magic)?.as_str(),
-        "a module begins with the bytes 00 61 73 6D"
+fn printed_names_and_sentences(rt: HostRuntime) {
+    play(
+        &rt,
+        rt.alloc(),
+        &mut Printed,
+        r#"name Magic = "Magic"
+name Version = "Version"
+name SectionId = "SectionId"
+name SectionOrder = "SectionOrder"
+name SectionEnd = "SectionEnd"
+name BadNumber = "BadNumber"
+name BadUtf8 = "BadUtf8"
+name BadByte = "BadByte"
+name Float = "Float"
+name BadOpcode = "BadOpcode"
+name Truncated = "Truncated"
+name CodeCount = "CodeCount"
+name BodyEnd = "BodyEnd"
+name TooManyLocals = "TooManyLocals"
+name Index = "Index"
+name Mismatch = "Type"
+name Arity = "Arity"
+name Limits = "Limits"
+name Second = "Second"
+name DuplicateExport = "DuplicateExport"
+name StartType = "StartType"
+name NotConst = "NotConst"
+name Immutable = "Immutable"
+name Align = "Align"
+name ElsePlace = "ElsePlace"
+name TooLong = "TooLong"
+name Memory = "Memory"
+sentence Magic = a module begins with the bytes 00 61 73 6D
+sentence Memory = memory ran out
+full_stop SectionOrder, full_stop Mismatch, full_stop ElsePlace = false"#,
     );
-    assert_eq!(rt; text_of(alloc, Why::Memory)?.as_str(), "memory ran out");
-    for why in [Why::SectionOrder, Why::Mismatch, Why::ElsePlace] {
-        assert!(rt; !text_of(alloc, why)?.as_str().ends_with('.'), "{why:?}");
-    }
-    Ok(())
 }
 
 fn grown(list: &mut Vec<u8>) -> Result<(), Why> {
@@ -66,6 +119,6 @@ fn grown(list: &mut Vec<u8>) -> Result<(), Why> {
 #[test]
 fn memory_by_a_question_mark(rt: HostRuntime) {
     let mut list = Vec::new(rt.alloc());
-    assert_eq!(rt; grown(&mut list), Ok(()));
-    assert_eq!(rt; Why::from(std::alloc::AllocError), Why::Memory);
+    assert!(rt; grown(&mut list) == Ok(()));
+    assert!(rt; Why::from(std::alloc::AllocError) == Why::Memory);
 }
