@@ -98,15 +98,21 @@ fn wide_calls(alloc: Global) -> Result<Vec<u8>, Fail> {
     Ok(bytes)
 }
 
-/// They are shown, built and canonical too.
-#[test]
-fn figures_of_wide_calls(rt: HostRuntime) -> Result<(), Fail> {
-    let alloc = rt.alloc();
-    let module = wide_calls(alloc)?;
-    let figures = obey(alloc, "wmod stats", &module)?;
+fn expect_figures(rt: &impl Abort, alloc: Global, module: &[u8]) -> Result<(), Fail> {
+    let figures = obey(alloc, "wmod stats", module)?;
     let wanted = r"0 functions 1\nmoves 50002\noperands 0\ncontrols 1\nprobes 0\n";
     assert!(rt; figures.as_str() == wanted, "{figures}");
-    assert!(rt; is_given_back(alloc, &module)?);
+    Ok(())
+}
+
+#[test]
+fn figures_of_wide_calls(rt: HostRuntime) -> Result<(), Fail> {
+    expect_figures(&rt, rt.alloc(), &wide_calls(rt.alloc())?)
+}
+
+#[test]
+fn texts_of_wide_calls(rt: HostRuntime) -> Result<(), Fail> {
+    assert!(rt; is_given_back(rt.alloc(), &wide_calls(rt.alloc())?)?);
     Ok(())
 }
 
@@ -159,31 +165,16 @@ fn a_reader_that_fails(rt: HostRuntime) {
     assert_eq!(rt; dest.into_inner().len(), 0);
 }
 
-/// How an action ends where the writer takes so many bytes, and what it took.
-fn taken_before_a_fault(alloc: Global, action: Action, most: usize) -> (Status, Vec<u8>) {
-    let taken = Vec::new(alloc);
-    let mut dest = Output::new(Narrow { taken, most });
-    let rest = HEADER.as_slice();
-    let mut source = Input::new(Pieces { rest, most: 4096 });
-    let status = run(alloc, action, Profile::One, LIMIT, &mut source, &mut dest);
-    (status, dest.into_inner().taken)
-}
+/// What a writer gets that takes so many bytes, where the input is a header.
+const CUT_SHORT: &str = r#"cut 0 wmod check = 3 ""
+cut 3 wmod check = 3 "val"
+cut 6 wmod check = 3 "valid\n"
+cut 9 wmod check = 3 "valid\n"
+cut 3 wmod show = 3 "(mo""#;
 
 #[test]
-fn a_writer_that_fails(rt: HostRuntime) {
-    for (action, most, wanted) in [
-        (Action::Check, 0, ""),
-        (Action::Check, 3, "val"),
-        (Action::Check, 6, "valid\n"),
-        (Action::Check, 9, "valid\n"),
-        (Action::Show, 3, "(mo"),
-    ] {
-        let (status, taken) = taken_before_a_fault(rt.alloc(), action, most);
-        assert!(rt;
-            status == Status::Io && taken.as_slice() == wanted.as_bytes(),
-            "{most}: {taken:?}"
-        );
-    }
+fn a_writer_that_fails(rt: HostRuntime) -> Result<(), Fail> {
+    play(&rt, rt.alloc(), CUT_SHORT)
 }
 
 #[test]

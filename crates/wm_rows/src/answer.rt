@@ -1,7 +1,7 @@
 //! Answers to rows.
 
 use crate::row::{Action, Row};
-use crate::text::{Built, build, canonical, spell, text_of};
+use crate::text::{Built, build, canonical, say, spell, text_of};
 use std::alloc::Global;
 use std::io;
 use wm_rules::{Checked, FromFault, Loader, Summary, load_from, validate, validate_from};
@@ -37,14 +37,14 @@ fn show(alloc: Global, checked: &Checked) -> io::Result<String> {
     let text = text_of(alloc, checked)?;
     match str::from_utf8(&text) {
         Ok(lines) => Ok(format!(in alloc; "text:\n{lines}")?),
-        Err(_) => Ok(format!(in alloc; "a text that is not UTF-8")?),
+        Err(_) => say(alloc, "a text that is not UTF-8"),
     }
 }
 
 /// The answer to a row whose binary is valid.
 fn accept(alloc: Global, row: &Row, summary: Summary, checked: &Checked) -> io::Result<String> {
     match row.action {
-        Action::Check | Action::Change(_) => Ok(format!(in alloc; "valid")?),
+        Action::Check | Action::Change(_) => say(alloc, "valid"),
         Action::Stats => figures(alloc, summary),
         Action::Canon | Action::Build => spell(alloc, &canonical(alloc, checked)?),
         Action::Show => show(alloc, checked),
@@ -59,7 +59,7 @@ fn refuse(alloc: Global, fault: FromFault) -> io::Result<String> {
             refusal.at,
             refusal.why.name()
         )?),
-        FromFault::Io => Ok(format!(in alloc; "not read")?),
+        FromFault::Io => say(alloc, "not read"),
     }
 }
 
@@ -73,7 +73,7 @@ fn answer_both(
     match (judged, loaded) {
         (Ok(summary), Ok(checked)) => accept(alloc, row, summary, checked),
         (Err(first), Err(second)) if first == *second => refuse(alloc, first),
-        _ => Ok(format!(in alloc; "the validator and the loader differ")?),
+        _ => say(alloc, "the validator and the loader differ"),
     }
 }
 
@@ -84,7 +84,7 @@ fn answer_whole(alloc: Global, row: &Row, binary: &[u8]) -> io::Result<String> {
     let loaded = load_from(alloc, &mut Input::new(binary), row.profile, limit);
     if let Ok(checked) = &loaded {
         if !is_given_back(alloc, row, checked)? {
-            return Ok(format!(in alloc; "not given back by its text")?);
+            return say(alloc, "not given back by its text");
         }
     }
     answer_both(alloc, row, judged, &loaded)
@@ -97,14 +97,19 @@ fn load(alloc: Global, row: &Row, pieces: &[&[u8]]) -> Result<Checked, FromFault
         // a refusal stays, and the end answers it
         let _ = loader.feed(piece);
     }
-    loader.finish().map_err(FromFault::Refused)
+    match loader.finish() {
+        Ok(checked) => Ok(checked),
+        Err(refusal) => Err(FromFault::Refused(refusal)),
+    }
 }
 
 /// The answer to a row whose binary comes in these pieces.
 fn answer_pieces(alloc: Global, row: &Row, pieces: &[&[u8]]) -> io::Result<String> {
-    let judged = validate(alloc, row.profile, u64::from(row.limit), pieces);
-    let loaded = load(alloc, row, pieces);
-    answer_both(alloc, row, judged.map_err(FromFault::Refused), &loaded)
+    let judged = match validate(alloc, row.profile, u64::from(row.limit), pieces) {
+        Ok(summary) => Ok(summary),
+        Err(refusal) => Err(FromFault::Refused(refusal)),
+    };
+    answer_both(alloc, row, judged, &load(alloc, row, pieces))
 }
 
 /// The answer to a row whose binary comes in pieces of so many bytes.
@@ -133,13 +138,13 @@ fn is_same_in_two(alloc: Global, row: &Row, binary: &[u8], answer: &str) -> io::
 fn answer_binary(alloc: Global, row: &Row, binary: &[u8]) -> io::Result<String> {
     let answer = answer_whole(alloc, row, binary)?;
     if answer_chunks(alloc, row, binary, 1)?.as_str() != answer.as_str() {
-        return Ok(format!(in alloc; "differs in pieces of one byte")?);
+        return say(alloc, "differs in pieces of one byte");
     }
     if answer_chunks(alloc, row, binary, 7)?.as_str() != answer.as_str() {
-        return Ok(format!(in alloc; "differs in pieces of seven bytes")?);
+        return say(alloc, "differs in pieces of seven bytes");
     }
     if !is_same_in_two(alloc, row, binary, answer.as_str())? {
-        return Ok(format!(in alloc; "differs in two pieces")?);
+        return say(alloc, "differs in two pieces");
     }
     Ok(answer)
 }
@@ -154,7 +159,7 @@ fn answer_text(alloc: Global, row: &Row) -> io::Result<String> {
     if answer.as_str() == spell(alloc, &binary)?.as_str() {
         Ok(answer)
     } else {
-        Ok(format!(in alloc; "no canonical binary")?)
+        say(alloc, "no canonical binary")
     }
 }
 
@@ -163,7 +168,7 @@ fn answer_changed(alloc: Global, row: &Row, place: usize, more: u8) -> io::Resul
     let mut binary = row.input.clone()?;
     match binary.get_mut(place) {
         Some(byte) => *byte = byte.wrapping_add(more),
-        None => return Ok(format!(in alloc; "no such place")?),
+        None => return say(alloc, "no such place"),
     }
     answer_binary(alloc, row, &binary)
 }

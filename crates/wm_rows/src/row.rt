@@ -18,7 +18,7 @@ use wm_syntax::profile::Profile;
 pub const HEADER: [u8; 8] = *b"\0asm\x01\0\0\0";
 
 /// What is asked of an input.
-#[derive(Clone, Copy, PartialEq, Eq, Debug)]
+#[derive(Clone, Copy)]
 pub enum Action {
     /// Whether it is valid.
     Check,
@@ -35,7 +35,7 @@ pub enum Action {
 }
 
 /// A row, read.
-#[derive(Debug, Drop)]
+#[derive(Drop)]
 pub struct Row {
     pub action: Action,
     pub profile: Profile,

@@ -14,12 +14,17 @@ use wm_write::encode::encode;
 use wm_write::print::print;
 
 /// What a text gives.
-#[derive(Debug, Drop)]
+#[derive(Drop)]
 pub enum Built {
     /// The canonical binary of its module.
     Binary(Vec<u8>),
     /// Why there is none.
     Refused(String),
+}
+
+/// These words.
+pub fn say(alloc: Global, words: &str) -> io::Result<String> {
+    Ok(String::from_str(alloc, words)?)
 }
 
 /// The canonical binary of a module.
@@ -68,7 +73,7 @@ pub fn build(alloc: Global, profile: Profile, text: &[u8]) -> io::Result<Built> 
 /// The bytes of a module as a row has them.
 pub fn spell(alloc: Global, module: &[u8]) -> io::Result<String> {
     let Some(rest) = module.strip_prefix(&HEADER) else {
-        return Ok(format!(in alloc; "no header")?);
+        return say(alloc, "no header");
     };
     let mut words = String::from_str(alloc, "H")?;
     for byte in rest {

@@ -4,12 +4,13 @@
 //! read WORDS = ACTION PROFILE LIMIT FILE PATH, or the kind of the fault and its exit status
 //! wrong WORDS = what is said of the first wrong word
 //! wmod WORDS < INPUT = the exit status, and what is written
+//! cut N WORDS = the exit status, and what is written to a writer that takes N bytes, where the input is a header
 //! ```
 //!
 //! The word `""` is the empty one. INPUT is a text for `build`. Else it is bytes in hexadecimal digits, with H for the
 //! header of a module.
 
-use super::{HEADER, Pieces};
+use super::{HEADER, Narrow, Pieces};
 use crate::line::{line, wrong_word};
 use crate::run::run_line;
 use crate::status::{Status, exit_code};
@@ -139,12 +140,37 @@ fn obey_row(alloc: Global, call: &str) -> Result<String, Fail> {
     obey(alloc, command, &bytes_of(alloc, input)?)
 }
 
+/// How a line ends for a header where the writer takes so many bytes, and what it takes.
+fn follow_cut(alloc: Global, line: &Line, most: usize) -> (Status, Vec<u8>) {
+    let taken = Vec::new(alloc);
+    let mut source = Input::new(HEADER.as_slice());
+    let mut dest = Output::new(Narrow { taken, most });
+    let status = run_line(alloc, line, &mut source, &mut dest);
+    (status, dest.into_inner().taken)
+}
+
+/// What a command writes for a header where the writer takes so many bytes.
+fn cut(alloc: Global, most: usize, command: &str) -> Result<String, Fail> {
+    let line = line(alloc, words_of(alloc, command)?.as_slice())?;
+    let (status, taken) = follow_cut(alloc, &line, most);
+    Ok(format!(in alloc; "{} \"{}\"", exit_code(&Ok(status)), taken.escape_ascii())?)
+}
+
+/// The same, with the number of bytes before the command.
+fn cut_row(alloc: Global, row: &str) -> Result<String, Fail> {
+    match row.split_once(' ') {
+        Some((most, command)) => cut(alloc, most.parse::<usize>()?, command),
+        None => Ok(format!(in alloc; "no command")?),
+    }
+}
+
 /// The answer to a call.
 fn answer(alloc: Global, call: &str) -> Result<String, Fail> {
     match call.split_once(' ') {
         Some(("read", command)) => read(alloc, command),
         Some(("wrong", command)) => wrong(alloc, command),
         Some(("wmod", _)) => obey_row(alloc, call),
+        Some(("cut", row)) => cut_row(alloc, row),
         _ => Ok(format!(in alloc; "no such call")?),
     }
 }
