@@ -1,26 +1,15 @@
 //! Tests of checking a module value.
 
-use super::*;
+use crate::rows::play;
 use std::test::Fail;
+use wm_syntax::profile::Profile;
+
+/// Modules of texts: whether the checked one is the same, or why it is refused.
+const MODULES: &str = "check (module) => the same: true
+check (module (start 0)) => Refused(Refusal { at: 11, why: Index })
+";
 
 #[test]
-fn an_empty_module(rt: HostRuntime) -> Result<(), Fail> {
-    let module = Module::new(rt.alloc());
-    let checked = check(rt.alloc(), Profile::One, &module)?;
-    assert!(rt; *checked.module() == module);
-    Ok(())
-}
-
-#[test]
-fn a_refused_module(rt: HostRuntime) -> Result<(), Fail> {
-    let mut module = Module::new(rt.alloc());
-    module.start = Some(0);
-    let refused = Refusal {
-        at: 11,
-        why: Why::Index,
-    };
-    assert!(rt;
-        check(rt.alloc(), Profile::One, &module).err() == Some(CheckFault::Refused(refused))
-    );
-    Ok(())
+fn modules(rt: HostRuntime) -> Result<(), Fail> {
+    play(&rt, rt.alloc(), Profile::One, ")", MODULES)
 }

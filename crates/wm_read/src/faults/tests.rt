@@ -4,37 +4,49 @@ use super::*;
 use std::alloc::Global;
 use std::test::Fail;
 
-fn text_of(alloc: Global, fault: TextRefusal) -> Result<String, Fail> {
-    Ok(format!(in alloc; "{fault}")?)
+const ALL: [TextWhy; 20] = [
+    TextWhy::NotUtf8,
+    TextWhy::BadToken,
+    TextWhy::OpenComment,
+    TextWhy::OpenString,
+    TextWhy::BadEscape,
+    TextWhy::Expected,
+    TextWhy::UnknownWord,
+    TextWhy::BadInteger,
+    TextWhy::BadName,
+    TextWhy::UnknownId,
+    TextWhy::RepeatedId,
+    TextWhy::TypeUse,
+    TextWhy::ImportPlace,
+    TextWhy::SecondStart,
+    TextWhy::NotConst,
+    TextWhy::BadAlign,
+    TextWhy::LabelEnd,
+    TextWhy::TooManyLocals,
+    TextWhy::Float,
+    TextWhy::Memory,
+];
+
+/// The printed names, a space after each.
+fn names_of_all(alloc: Global) -> Result<String, Fail> {
+    let mut names = String::new(alloc);
+    for why in ALL {
+        write!(names, "{} ", why.name())?;
+    }
+    Ok(names)
 }
 
 #[test]
-fn printed_names(rt: HostRuntime) {
-    let names = [
-        (TextWhy::NotUtf8, "NotUtf8"),
-        (TextWhy::BadToken, "BadToken"),
-        (TextWhy::OpenComment, "OpenComment"),
-        (TextWhy::OpenString, "OpenString"),
-        (TextWhy::BadEscape, "BadEscape"),
-        (TextWhy::Expected, "Expected"),
-        (TextWhy::UnknownWord, "UnknownWord"),
-        (TextWhy::BadInteger, "BadInteger"),
-        (TextWhy::BadName, "BadName"),
-        (TextWhy::UnknownId, "UnknownId"),
-        (TextWhy::RepeatedId, "RepeatedId"),
-        (TextWhy::TypeUse, "TypeUse"),
-        (TextWhy::ImportPlace, "ImportPlace"),
-        (TextWhy::SecondStart, "SecondStart"),
-        (TextWhy::NotConst, "NotConst"),
-        (TextWhy::BadAlign, "BadAlign"),
-        (TextWhy::LabelEnd, "LabelEnd"),
-        (TextWhy::TooManyLocals, "TooManyLocals"),
-        (TextWhy::Float, "Float"),
-        (TextWhy::Memory, "Memory"),
-    ];
-    for (why, name) in names {
-        assert_eq!(rt; why.name(), name);
-    }
+fn printed_names(rt: HostRuntime) -> Result<(), Fail> {
+    let names = names_of_all(rt.alloc())?;
+    assert!(rt;
+        names.as_str()
+            == "NotUtf8 BadToken OpenComment OpenString BadEscape Expected UnknownWord \
+                BadInteger BadName UnknownId RepeatedId TypeUse ImportPlace SecondStart \
+                NotConst BadAlign LabelEnd TooManyLocals Float Memory ",
+        "{names}"
+    );
+    Ok(())
 }
 
 #[test]
@@ -43,10 +55,10 @@ fn sentences(rt: HostRuntime) -> Result<(), Fail> {
         at: 7,
         why: TextWhy::BadToken,
     };
-    let text = text_of(rt.alloc(), fault)?;
-    assert_eq!(rt;
-        text.as_str(),
-        "text refused at 7: BadToken (no token can be read here)"
+    let text = format!(in rt.alloc(); "{fault}")?;
+    assert!(rt;
+        text.as_str() == "text refused at 7: BadToken (no token can be read here)",
+        "{text}"
     );
     Ok(())
 }

@@ -1,37 +1,19 @@
 //! Tests of names and of the bytes of strings.
 
-use super::*;
+use crate::rows::play;
 use std::test::Fail;
+use wm_syntax::profile::Profile;
+
+/// Names, and the bytes of strings that stand together.
+const STRINGS: &str = r#"name  "a\c3\a9" "b" => "aé"| "b"
+name  "\ff") => BadName, 6 left
+name  a => Expected, 1 left
+name => Expected, 0 left
+bytes "ab" """\ff\00c" ) => [97, 98, 255, 0, 99]| )
+bytes ) => []|)
+"#;
 
 #[test]
-fn names(rt: HostRuntime) {
-    let alloc = rt.alloc();
-    match name(alloc, b" \"a\\c3\\a9\" \"b\"") {
-        Ok((name, rest)) => {
-            assert_eq!(rt; name.as_str(), "a\u{e9}");
-            assert_eq!(rt; rest, b" \"b\"".as_slice());
-        }
-        Err(fault) => assert!(rt; false, "{:?}", fault.why),
-    }
-    for (text, why, left) in [
-        (" \"\\ff\")", TextWhy::BadName, 6),
-        (" a", TextWhy::Expected, 1),
-        ("", TextWhy::Expected, 0),
-    ] {
-        match name(alloc, text.as_bytes()) {
-            Ok(_) => assert!(rt; false, "{text}"),
-            Err(fault) => assert_eq!(rt; fault, TextFault { why, left }, "{text}"),
-        }
-    }
-}
-
-#[test]
-fn joined(rt: HostRuntime) -> Result<(), Fail> {
-    let (all, rest) = bytes(rt.alloc(), b"\"ab\" \"\"\"\\ff\\00c\" )")?;
-    assert_eq!(rt; all.as_slice(), b"ab\xff\x00c".as_slice());
-    assert_eq!(rt; rest, b" )".as_slice());
-    let (none, rest) = bytes(rt.alloc(), b")")?;
-    assert!(rt; none.is_empty());
-    assert_eq!(rt; rest, b")".as_slice());
-    Ok(())
+fn strings(rt: HostRuntime) -> Result<(), Fail> {
+    play(&rt, rt.alloc(), Profile::One, ")", STRINGS)
 }
