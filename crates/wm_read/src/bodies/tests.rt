@@ -1,17 +1,9 @@
-//! Tests of bodies: what they hold, and each refusal with its place.
+//! Rows of bodies: what they hold, and each refusal with its place.
 
-use super::*;
-use crate::heads::read_heads;
-use crate::rows::play;
-use crate::rows::readers::body_of;
-use std::test::Fail;
-
-/// Function 1 is `$f`. In each body local 1 is `$x`.
-const HEADS: &str =
-    "(type $s (func)) (type (func (param i32 i64) (result i64))) (func) (func $f) (global $g))";
-
-/// Bodies, and the text after them.
-const BODIES: &str = r#";; blocks
+/// Function 1 is `$f`. In each body local 1 is `$x`. Behind the ops stands the text after the body.
+pub(crate) const BODIES: &str =
+    r#"given (type $s (func)) (type (func (param i32 i64) (result i64))) (func) (func $f) (global $g))
+;; blocks
 body ) => []|)
 body  block $a block $a br $a end end ) => [Block(None), Block(None), Simple(Br(0)), End, End]| )
 body loop $a (result i64) block $b br_if $a br_table $b 1 $a end $b end) => [Loop(Some(I64)), Block(None), Simple(BrIf(1)), BrTable(2), Label(0), Label(1), Label(1), End, End]|)
@@ -33,8 +25,16 @@ body call_indirect (type 1) (param i32 i64) (param) (result) (result i64)) => [S
 body call_indirect (type $s) nop) => [Simple(CallIndirect(0)), Simple(Nop)]|)
 "#;
 
+/// How many ops a body has. `3*a|b` stands for `aaab`.
+pub(crate) const NESTED: &str = r#"given )
+ops 100000*block |br 99999 |100000*end |) => 200001
+ops block $outer |50000*block $a br $outer |50000*br $a end |br $outer end) => 200003
+"#;
+
 /// What is refused.
-const REFUSALS: &str = r#";; what stands where no instruction can
+pub(crate) const REFUSALS: &str =
+    r#"given (type $s (func)) (type (func (param i32 i64) (result i64))) (func) (func $f) (global $g))
+;; what stands where no instruction can
 body nop (nop)) => Expected at 4
 body nop "a") => Expected at 4
 body nop 7) => UnknownWord at 4
@@ -101,68 +101,8 @@ body call_indirect (type 1) (nop)) => Expected at 24
 body call_indirect (type 1) (result i64) (param)) => Expected at 37
 "#;
 
-#[test]
-fn bodies(rt: HostRuntime) -> Result<(), Fail> {
-    play(&rt, rt.alloc(), Profile::One, HEADS, BODIES)
-}
-
-#[test]
-fn refusals(rt: HostRuntime) -> Result<(), Fail> {
-    play(&rt, rt.alloc(), Profile::One, HEADS, REFUSALS)
-}
-
-#[test]
-fn second_profile(rt: HostRuntime) -> Result<(), Fail> {
-    play(
-        &rt,
-        rt.alloc(),
-        Profile::Two,
-        HEADS,
-        "body i64.extend32_s) => [Simple(Numeric(SignExtend(I64From32)))]|)",
-    )
-}
-
-/// How many ops a body has, where nothing is defined; none where it is refused.
-fn op_count(alloc: Global, text: &[u8]) -> Option<usize> {
-    match read_heads(alloc, b"") {
-        Ok((names, _)) => match body_of(alloc, Profile::One, &names, text) {
-            Ok((body, _rest)) => Some(body.ops().len()),
-            Err(_fault) => None,
-        },
-        Err(_fault) => None,
-    }
-}
-
-#[test]
-fn nested_blocks(rt: HostRuntime) -> Result<(), Fail> {
-    let alloc = rt.alloc();
-    let depth = 100_000;
-    let mut text = Vec::new(alloc);
-    for _ in 0..depth {
-        text.extend_from_slice(b"block ")?;
-    }
-    text.extend_from_slice(b"br 99999 ")?;
-    for _ in 0..depth {
-        text.extend_from_slice(b"end ")?;
-    }
-    text.extend_from_slice(b")")?;
-    assert_eq!(rt; op_count(alloc, text.as_slice()), Some(2 * depth + 1));
-    Ok(())
-}
-
-#[test]
-fn nested_labels(rt: HostRuntime) -> Result<(), Fail> {
-    let alloc = rt.alloc();
-    let depth = 50_000;
-    let mut text = Vec::new(alloc);
-    text.extend_from_slice(b"block $outer ")?;
-    for _ in 0..depth {
-        text.extend_from_slice(b"block $a br $outer ")?;
-    }
-    for _ in 0..depth {
-        text.extend_from_slice(b"br $a end ")?;
-    }
-    text.extend_from_slice(b"br $outer end)")?;
-    assert_eq!(rt; op_count(alloc, text.as_slice()), Some(4 * depth + 3));
-    Ok(())
-}
+/// What the second profile has.
+pub(crate) const SECOND: &str =
+    r#"given (type $s (func)) (type (func (param i32 i64) (result i64))) (func) (func $f) (global $g))
+body i64.extend32_s) => [Simple(Numeric(SignExtend(I64From32)))]|)
+"#;

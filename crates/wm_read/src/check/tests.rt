@@ -1,15 +1,7 @@
-//! Tests of checking a module value.
+//! Rows of modules that are checked: their canonical binary, or why they are refused.
 
-use crate::rows::play;
-use std::test::Fail;
-use wm_syntax::profile::Profile;
-
-/// Modules of texts: whether the checked one is the same, or why it is refused.
-const MODULES: &str = "check (module) => the same: true
+/// The modules of texts.
+pub(crate) const MODULES: &str = r#"given )
+check (module) => 0061736d01000000|
 check (module (start 0)) => Refused(Refusal { at: 11, why: Index })
-";
-
-#[test]
-fn modules(rt: HostRuntime) -> Result<(), Fail> {
-    play(&rt, rt.alloc(), Profile::One, ")", MODULES)
-}
+"#;

@@ -1,13 +1,8 @@
-//! Tests of constants, and of what stands in their place.
-
-use crate::rows::play;
-use std::test::Fail;
-use wm_syntax::profile::Profile;
-
-const HEADS: &str = "(global) (global $g))";
+//! Rows of constants, and of what stands in their place.
 
 /// Constants, what stands in their place, and a word of the second profile.
-const CONSTANTS: &str = r#"constant i32.const -1) => I32(-1)|)
+pub(crate) const CONSTANTS: &str = r#"given (global) (global $g))
+constant i32.const -1) => I32(-1)|)
 constant i32.const 0xffff_ffff) => I32(-1)|)
 constant i64.const +7) => I64(7)|)
 constant global.get $g) => Global(1)|)
@@ -35,18 +30,7 @@ offset i32.const 0 => Expected, 11 left
 offset (offset i32.extend8_s) => UnknownWord, 14 left
 "#;
 
-#[test]
-fn constants(rt: HostRuntime) -> Result<(), Fail> {
-    play(&rt, rt.alloc(), Profile::One, HEADS, CONSTANTS)
-}
-
-#[test]
-fn second_profile(rt: HostRuntime) -> Result<(), Fail> {
-    play(
-        &rt,
-        rt.alloc(),
-        Profile::Two,
-        HEADS,
-        "offset (offset i32.extend8_s) => NotConst, 14 left",
-    )
-}
+/// What the second profile knows, and refuses.
+pub(crate) const SECOND: &str = r#"given (global) (global $g))
+offset (offset i32.extend8_s) => NotConst, 14 left
+"#;

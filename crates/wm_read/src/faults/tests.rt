@@ -1,8 +1,14 @@
-//! Tests of the words of refusals.
+//! Rows of the words of refusals.
 
 use super::*;
 use std::alloc::Global;
 use std::test::Fail;
+
+/// All printed names, and a printed refusal.
+pub(crate) const WORDS: &str = r#"given )
+names => ok NotUtf8 BadToken OpenComment OpenString BadEscape Expected UnknownWord BadInteger BadName UnknownId RepeatedId TypeUse ImportPlace SecondStart NotConst BadAlign LabelEnd TooManyLocals Float Memory
+sentence => text refused at 7: BadToken (no token can be read here)
+"#;
 
 const ALL: [TextWhy; 20] = [
     TextWhy::NotUtf8,
@@ -27,38 +33,20 @@ const ALL: [TextWhy; 20] = [
     TextWhy::Memory,
 ];
 
-/// The printed names, a space after each.
-fn names_of_all(alloc: Global) -> Result<String, Fail> {
-    let mut names = String::new(alloc);
+/// The printed names.
+pub(crate) fn of_all(alloc: Global) -> Result<String, Fail> {
+    let mut names = String::from_str(alloc, "ok")?;
     for why in ALL {
-        write!(names, "{} ", why.name())?;
+        write!(names, " {}", why.name())?;
     }
     Ok(names)
 }
 
-#[test]
-fn printed_names(rt: HostRuntime) -> Result<(), Fail> {
-    let names = names_of_all(rt.alloc())?;
-    assert!(rt;
-        names.as_str()
-            == "NotUtf8 BadToken OpenComment OpenString BadEscape Expected UnknownWord \
-                BadInteger BadName UnknownId RepeatedId TypeUse ImportPlace SecondStart \
-                NotConst BadAlign LabelEnd TooManyLocals Float Memory ",
-        "{names}"
-    );
-    Ok(())
-}
-
-#[test]
-fn sentences(rt: HostRuntime) -> Result<(), Fail> {
+/// A printed refusal.
+pub(crate) fn of_one(alloc: Global) -> Result<String, Fail> {
     let fault = TextRefusal {
         at: 7,
         why: TextWhy::BadToken,
     };
-    let text = format!(in rt.alloc(); "{fault}")?;
-    assert!(rt;
-        text.as_str() == "text refused at 7: BadToken (no token can be read here)",
-        "{text}"
-    );
-    Ok(())
+    Ok(format!(in alloc; "{fault}")?)
 }

@@ -1,15 +1,9 @@
-//! Tests of whole lists of fields: each kind, and each wrong by one token.
+//! Rows of whole lists of fields: each kind, and each wrong by one token.
 
-use crate::rows::play;
-use std::test::Fail;
-use wm_syntax::profile::Profile;
-
-/// Of each space item 0 has the identifier of the space's letter.
-const HEADS: &str =
-    "(type $t (func (param i32) (result i32))) (func $f) (table $b) (memory $m) (global $g))";
-
-/// Lists of fields. A module is told by its canonical binary.
-const LISTS: &str = r#";; each kind; of two start functions the first counts
+/// Of each space item 0 has the identifier of the space's letter. A module is told by its canonical binary.
+pub(crate) const LISTS: &str =
+    r#"given (type $t (func (param i32) (result i32))) (func $f) (table $b) (memory $m) (global $g))
+;; each kind; of two start functions the first counts
 fields (type $t (func (param $x i32) (result i32)))␊ (import "a" "b" (func $f (type $t)))␊ (func $h (type $t) (param $x i32) (result i32) (local i64) local.get $x)␊ (table $b 1 2 funcref) (memory $m 3) (global $g (mut i64) i64.const 4)␊ (export "c" (memory $m)) (start $f) (start 5)␊ (elem $b (offset i32.const 6) $f 7) (data $m (offset global.get $g) "d" "ef")) 8 => 0061736d0100000001060160017f017f020701016101620000030201000405017001010205030100030606017e0142040b070501016302000801000908010041060b0200070a08010601017e20000b0b09010023000b03646566|) 8
 fields  ) => 0061736d01000000| )
 ;; each wrong by one token
@@ -47,8 +41,3 @@ fields (data 0 "a") => Expected, 4 left
 fields (data 0 (offset i32.const 0) 1) => Expected, 2 left
 fields (data 0 (offset i32.const 0) "a" => Expected, 0 left
 "#;
-
-#[test]
-fn lists(rt: HostRuntime) -> Result<(), Fail> {
-    play(&rt, rt.alloc(), Profile::One, HEADS, LISTS)
-}

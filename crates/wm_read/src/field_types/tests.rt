@@ -1,11 +1,8 @@
-//! Tests of the types of tables, memories and globals.
+//! Rows of the types of tables, memories and globals.
 
-use crate::rows::play;
-use std::test::Fail;
-use wm_syntax::profile::Profile;
-
-/// Types of tables, memories and globals.
-const TYPES: &str = r#"limits  1 0x10) => Limits { min: 1, max: Some(16) }|)
+/// Types, and what is refused.
+pub(crate) const TYPES: &str = r#"given )
+limits  1 0x10) => Limits { min: 1, max: Some(16) }|)
 table_type 0 funcref ) => Limits { min: 0, max: None }| )
 global_type (mut i64) i64.const 0 => GlobalType { ty: I64, var: true }| i64.const 0
 global_type i32) => GlobalType { ty: I32, var: false }|)
@@ -23,8 +20,3 @@ global_type (mut i32 i32) => Expected, 4 left
 global_type i33 => Expected, 3 left
 global_type => Expected, 0 left
 "#;
-
-#[test]
-fn types(rt: HostRuntime) -> Result<(), Fail> {
-    play(&rt, rt.alloc(), Profile::One, ")", TYPES)
-}

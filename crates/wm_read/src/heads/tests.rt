@@ -1,29 +1,9 @@
-//! Tests of the first reading.
+//! Rows of the first reading.
 
-use crate::rows::play;
-use std::test::Fail;
-use wm_syntax::profile::Profile;
-
-const FIELDS: &str = r#"(type $t (func (param i32)))
-(import "m" "\u{e9}" (func $f (type $t) (param $t i32)))
-(import "m" "t" (table $tab 1 funcref))
-(import "m" "m" (memory 1))
-(import "m" "g" (global $g (mut i64)))
-(type (func (result i64)))
-(export "f" (func $nowhere))
-(func (type $nowhere) (local $f i32) block $b nop end (this (is) skipped))
-(start $later)
-(memory $mem 1)
-(global $h i32 i32.const 0)
-(elem $tab (offset i32.const 0) $f)
-(data $mem (offset i32.const 0) "(")
-(func $later (type $t))
-(table funcref)
-) rest"#;
-
-/// The types, the text after the fields, and the places of identifiers in their spaces.
-const SPACES: &str =
-    r#"types => [FuncType { params: [I32], results: [] }, FuncType { params: [], results: [I64] }]|␊) rest
+/// The types with the text after the fields, and the places of identifiers in their spaces.
+pub(crate) const SPACES: &str =
+    r#"given (type $t (func (param i32))) (import "m" "\u{e9}" (func $f (type $t) (param $t i32))) (import "m" "t" (table $tab 1 funcref)) (import "m" "m" (memory 1)) (import "m" "g" (global $g (mut i64))) (type (func (result i64))) (export "f" (func $nowhere)) (func (type $nowhere) (local $f i32) block $b nop end (this (is) skipped)) (start $later) (memory $mem 1) (global $h i32 i32.const 0) (elem $tab (offset i32.const 0) $f) (data $mem (offset i32.const 0) "(") (func $later (type $t)) (table funcref) ) rest
+types => [FuncType { params: [I32], results: [] }, FuncType { params: [], results: [I64] }]| ) rest
 type $t => Some(0)
 type $f => None
 func $f => Some(0)
@@ -37,7 +17,8 @@ global $nowhere => None
 "#;
 
 /// What is refused.
-const REFUSALS: &str = r#"heads (type $a (func)) (type $a (func => RepeatedId, 8 left
+pub(crate) const REFUSALS: &str = r#"given )
+heads (type $a (func)) (type $a (func => RepeatedId, 8 left
 heads (func $a) (memory $a) (func $a => RepeatedId, 2 left
 heads (import "" "" (global $a i32)) (global $a => RepeatedId, 2 left
 heads (func) (import => ImportPlace, 6 left
@@ -55,13 +36,3 @@ heads () => Expected, 1 left
 heads (func (nop) => Expected, 0 left
 heads (memory => Expected, 0 left
 "#;
-
-#[test]
-fn spaces(rt: HostRuntime) -> Result<(), Fail> {
-    play(&rt, rt.alloc(), Profile::One, FIELDS, SPACES)
-}
-
-#[test]
-fn refusals(rt: HostRuntime) -> Result<(), Fail> {
-    play(&rt, rt.alloc(), Profile::One, ")", REFUSALS)
-}

@@ -1,18 +1,12 @@
-//! Tests of what is imported and exported.
+//! Rows of what is imported and exported.
 
-use crate::rows::play;
-use std::test::Fail;
-use wm_syntax::profile::Profile;
-
-/// Function 1 is `$f`.
-const HEADS: &str = "(type $t (func)) (func) (func $f) (global $g))";
-
-/// What imports bring in, and what exports give out.
-const ITEMS: &str = r#"desc (func $x (type $t)) 1 => ("$x", Func(0))| 1
-desc (func (type 0)(param)) 1 => ("_", Func(0))| 1
-desc (table 1 2 funcref) 1 => ("_", Table(Limits { min: 1, max: Some(2) }))| 1
-desc (memory $m 1 2) 1 => ("$m", Memory(Limits { min: 1, max: Some(2) }))| 1
-desc (global (mut i64)) 1 => ("_", Global(GlobalType { ty: I64, var: true }))| 1
+/// Function 1 is `$f`. The bytes of `$x` are [36, 120], those of `$m` [36, 109].
+pub(crate) const ITEMS: &str = r#"given (type $t (func)) (func) (func $f) (global $g))
+desc (func $x (type $t)) 1 => (Some([36, 120]), Func(0))| 1
+desc (func (type 0)(param)) 1 => (None, Func(0))| 1
+desc (table 1 2 funcref) 1 => (None, Table(Limits { min: 1, max: Some(2) }))| 1
+desc (memory $m 1 2) 1 => (Some([36, 109]), Memory(Limits { min: 1, max: Some(2) }))| 1
+desc (global (mut i64)) 1 => (None, Global(GlobalType { ty: I64, var: true }))| 1
 desc (start 0) => Expected, 8 left
 desc (func (type 0) (local)) => Expected, 7 left
 desc (func (type 0) nop) => Expected, 4 left
@@ -35,8 +29,3 @@ item (func -1) => BadInteger, 3 left
 item (func 0 1) => Expected, 2 left
 item (type 0) => Expected, 7 left
 "#;
-
-#[test]
-fn items(rt: HostRuntime) -> Result<(), Fail> {
-    play(&rt, rt.alloc(), Profile::One, HEADS, ITEMS)
-}

@@ -1,13 +1,11 @@
-//! Tests of tokens: what texts they stand in, and each fault with its place.
+//! Rows of tokens: what texts they stand in, and each fault with its place.
 
 use super::*;
-use crate::rows::play;
 use std::process::Abort;
-use std::test::Fail;
-use wm_syntax::profile::Profile;
 
 /// Texts and their tokens. Of a string the numbers of its bytes stand here.
-const TOKENS: &str = r#"tokens => ok
+pub(crate) const TOKENS: &str = r#"given )
+tokens => ok
 tokens ;; => ok
 tokens ;; to the end => ok
 tokens ;; to the line's end (;␊ => ok
@@ -52,7 +50,8 @@ tokens " ~" => ok [32, 126]
 "#;
 
 /// Texts with a fault, the first of which is told.
-const FAULTS: &str = r#"tokens , => BadToken at 0
+pub(crate) const FAULTS: &str = r#"given )
+tokens , => BadToken at 0
 tokens a [b] => BadToken at 2
 tokens aé => BadToken at 1
 ;; a semicolon alone
@@ -119,8 +118,16 @@ tokens "\u{110000 => OpenString at 10
 tokens "\u{1_ => OpenString at 6
 "#;
 
-/// The same, with control characters.
-const CONTROLS: &str = "tokens  \t\r␊ => ok
+/// Nested comments. `3*a|b` stands for `aaab`.
+pub(crate) const NESTED: &str = r#"given )
+many 100000*(;(;(;(;(;(;(;(;(;(; => OpenComment at 2000000
+many 100000*(;(;(;(;(;(;(;(;(;(;|99999*;);););););););););)|;););););););););) => OpenComment at 3999998
+many 100000*(;(;(;(;(;(;(;(;(;(;|100000*;);););););););););)|a => ok a
+"#;
+
+/// The same as the first two, with control characters.
+pub(crate) const CONTROLS: &str = "given )
+tokens  \t\r␊ => ok
 ;; a carriage return does not end a line comment
 tokens a;;b\rc => ok a
 tokens \"é\u{10ffff}\" => ok [195, 169, 244, 143, 191, 191]
@@ -131,21 +138,6 @@ tokens \"\u{1f}\" => BadToken at 0
 tokens \"\u{7f} => BadToken at 0
 tokens \"\t\\x\" => BadToken at 0
 ";
-
-#[test]
-fn tokens(rt: HostRuntime) -> Result<(), Fail> {
-    play(&rt, rt.alloc(), Profile::One, ")", TOKENS)
-}
-
-#[test]
-fn faults(rt: HostRuntime) -> Result<(), Fail> {
-    play(&rt, rt.alloc(), Profile::One, ")", FAULTS)
-}
-
-#[test]
-fn controls(rt: HostRuntime) -> Result<(), Fail> {
-    play(&rt, rt.alloc(), Profile::One, ")", CONTROLS)
-}
 
 /// The text is refused so.
 fn expect_fault(rt: &impl Abort, text: &[u8], why: TextWhy, at: usize) {
@@ -161,23 +153,4 @@ fn not_utf8(rt: HostRuntime) {
     expect_fault(&rt, b"(;\xc3", why, 2);
     expect_fault(&rt, b"\"\\x\xed\xa0\x80", why, 3);
     expect_fault(&rt, b",\xc3\xa9\xf4\x90\x80\x80", why, 3);
-}
-
-#[test]
-fn nested_comments(rt: HostRuntime) -> Result<(), Fail> {
-    let alloc = rt.alloc();
-    let depth = 1_000_000;
-    let mut text = Vec::new(alloc);
-    for _ in 0..depth {
-        text.extend_from_slice(b"(;")?;
-    }
-    expect_fault(&rt, text.as_slice(), TextWhy::OpenComment, 2 * depth);
-    for _ in 1..depth {
-        text.extend_from_slice(b";)")?;
-    }
-    expect_fault(&rt, text.as_slice(), TextWhy::OpenComment, 4 * depth - 2);
-    text.extend_from_slice(b";)a")?;
-    assert_eq!(rt; check_tokens(text.as_slice()), Ok(()));
-    assert!(rt; matches!(next_token(text.as_slice()), Some((Lexeme::Atom(b"a"), []))));
-    Ok(())
 }

@@ -1,17 +1,12 @@
-//! Tests of type uses with identifiers.
+//! Rows of type uses with identifiers.
 
-use crate::rows::play;
-use std::test::Fail;
-use wm_syntax::profile::Profile;
-
-const HEADS: &str = "(type $e (func)) (type (func (param i32 i64) (result i64))))";
-
-/// The type, its parameters, each with its identifier or `_`, and the text after the use.
-const USES: &str = r#"use (type $e) => 0:|
-use (type 0) (param) ) => 0:| )
-use (type 1) => 1: _ I32 _ I64|
-use (type 1)(param)(result) nop => 1: _ I32 _ I64| nop
-use (type 1) (param $a i32)(param i64) (result i64) (local i32) => 1: $a I32 _ I64| (local i32)
+/// The bytes of `$a` are [36, 97].
+pub(crate) const USES: &str = r#"given (type $e (func)) (type (func (param i32 i64) (result i64))))
+use (type $e) => NamedUse { index: 0, params: OfType([]) }|
+use (type 0) (param) ) => NamedUse { index: 0, params: OfType([]) }| )
+use (type 1) => NamedUse { index: 1, params: OfType([I32, I64]) }|
+use (type 1)(param)(result) nop => NamedUse { index: 1, params: OfType([I32, I64]) }| nop
+use (type 1) (param $a i32)(param i64) (result i64) (local i32) => NamedUse { index: 1, params: Written([Named { id: Some([36, 97]), ty: I32 }, Named { id: None, ty: I64 }]) }| (local i32)
 use (type 2) => TypeUse, 2 left
 use (type $f) => UnknownId, 3 left
 use (type 0) (param i32) => TypeUse, 14 left
@@ -32,8 +27,3 @@ use_alone (type 0) (param i32)) => TypeUse, 15 left
 use_alone (type 0) (result i32) (param)) => Expected, 7 left
 use_alone (type 0) (param i32) (local i32)) => Expected, 11 left
 "#;
-
-#[test]
-fn uses(rt: HostRuntime) -> Result<(), Fail> {
-    play(&rt, rt.alloc(), Profile::One, HEADS, USES)
-}

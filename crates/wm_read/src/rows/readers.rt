@@ -1,25 +1,25 @@
 //! The readers that rows ask.
 
-use super::Asked;
-use super::shown::{
-    shown, shown_fault, shown_id, shown_module, shown_named, shown_refusal, shown_tokens,
-    shown_unnamed,
-};
+use super::shown::{repeated, shown, shown_fault, shown_module, shown_refusal, shown_tokens};
 use crate::bodies::read_body;
 use crate::check::check;
 use crate::constants::{constant, offset};
 use crate::faults::TextFault;
+use crate::faults::tests::{of_all, of_one};
 use crate::field_lists::read_fields;
 use crate::field_strings::{bytes, name};
 use crate::field_types::{global_type, limits, table_type};
 use crate::functions::function;
+use crate::functions::tests::of_earlier;
 use crate::heads::read_heads;
+use crate::identifiers::tests::of_place;
 use crate::identifiers::{Names, Scope, Space};
 use crate::items::{desc, item};
 use crate::lexeme::check_tokens;
-use crate::named;
-use crate::named_uses::{Params, named_use};
+use crate::named::groups;
+use crate::named_uses::named_use;
 use crate::operands::close;
+use crate::pieces::tests::three_labels;
 use crate::signatures::signature;
 use crate::text::read_text;
 use std::alloc::Global;
@@ -29,18 +29,44 @@ use wm_syntax::modules::Module;
 use wm_syntax::profile::Profile;
 use wm_syntax::types::ValType;
 
-/// The readers of a profile, and the heads whose definitions they know: fields, and the parenthesis after them.
-#[derive(Drop)]
-pub(crate) struct Readers {
-    pub(crate) profile: Profile,
-    pub(crate) heads: &'static str,
+/// What a reader of this name makes of a text, after the definitions of these heads.
+pub(super) fn answer(
+    alloc: Global,
+    profile: Profile,
+    heads: &'static str,
+    reader: &str,
+    text: &str,
+) -> Result<String, Fail> {
+    match reader {
+        "names" => of_all(alloc),
+        "sentence" => of_one(alloc),
+        "many" => of_many(alloc, text),
+        "earlier" => of_earlier(alloc, text),
+        "place" => of_place(alloc, Space::new(alloc), text),
+        "behind" => of_behind(alloc, text),
+        _ => of_given(alloc, profile, heads, reader, text.as_bytes()),
+    }
 }
 
-impl Asked for Readers {
-    fn answer(&self, alloc: Global, reader: &str, text: &str) -> Result<String, Fail> {
-        let (names, rest) = read_heads(alloc, self.heads.as_bytes())?;
-        of_tokens(alloc, self.profile, &names, rest, reader, text.as_bytes())
-    }
+fn of_many(alloc: Global, text: &str) -> Result<String, Fail> {
+    let text = repeated(alloc, text)?;
+    of_text_tokens(alloc, text.as_bytes())
+}
+
+fn of_behind(alloc: Global, text: &str) -> Result<String, Fail> {
+    let types = [ValType::I32, ValType::I64];
+    of_place(alloc, Space::of_unnamed(alloc, &types), text)
+}
+
+fn of_given(
+    alloc: Global,
+    profile: Profile,
+    heads: &'static str,
+    reader: &str,
+    text: &[u8],
+) -> Result<String, Fail> {
+    let (names, rest) = read_heads(alloc, heads.as_bytes())?;
+    of_tokens(alloc, profile, &names, rest, reader, text)
 }
 
 /// The readers of tokens, types and functions.
@@ -56,10 +82,12 @@ fn of_tokens<'a>(
     match reader {
         "tokens" => of_text_tokens(alloc, text),
         "signature" => shown(alloc, signature(alloc, text)),
-        "params" => of_params(alloc, text),
-        "use" => of_use(alloc, names, true, text),
-        "use_alone" => of_use(alloc, names, false, text),
+        "params" => shown(alloc, groups(alloc, b"param", text)),
+        "use" => shown(alloc, named_use(alloc, names, true, text)),
+        "use_alone" => shown(alloc, named_use(alloc, names, false, text)),
         "body" => of_body(alloc, profile, names, text),
+        "ops" => of_ops(alloc, profile, names, text),
+        "labels" => shown(alloc, three_labels(alloc, text)),
         "constant" => shown(alloc, constant(profile, names, text)),
         "offset" => shown(alloc, offset(profile, names, text)),
         "function" => shown(alloc, function(alloc, profile, names, text)),
@@ -85,14 +113,14 @@ fn of_fields<'a>(
         "desc" => of_desc(alloc, names, text),
         "item" => of_item(alloc, names, text),
         "fields" => of_list(alloc, profile, names, text),
-        "text" => of_text(alloc, profile, text),
-        "check" => of_check(alloc, profile, text),
+        "text" => of_text(alloc, profile, false, text),
+        "check" => of_text(alloc, profile, true, text),
         "heads" => shown(alloc, read_heads(alloc, text)),
         _ => of_names(alloc, names, rest, reader, text),
     }
 }
 
-/// What the heads define: the place of an identifier in a space, or the types; and the text after the heads.
+/// What the heads define: the place of an identifier in a space; or the types, and the text after the heads.
 fn of_names(
     alloc: Global,
     names: &Names,
@@ -119,32 +147,11 @@ fn of_text_tokens(alloc: Global, text: &[u8]) -> Result<String, Fail> {
     }
 }
 
-fn of_params(alloc: Global, text: &[u8]) -> Result<String, Fail> {
-    match named::groups(alloc, b"param", text) {
-        Ok((params, rest)) => shown_named(alloc, params.len(), &params, rest),
-        Err(fault) => shown_fault(alloc, fault),
-    }
-}
-
-fn of_use(alloc: Global, names: &Names, locals: bool, text: &[u8]) -> Result<String, Fail> {
-    match named_use(alloc, names, locals, text) {
-        Ok((read, rest)) => of_use_params(alloc, read.index, &read.params, rest),
-        Err(fault) => shown_fault(alloc, fault),
-    }
-}
-
-fn of_use_params(alloc: Global, index: u32, params: &Params, rest: &[u8]) -> Result<String, Fail> {
-    match params {
-        Params::OfType(types) => shown_unnamed(alloc, index as usize, types, rest),
-        Params::Written(params) => shown_named(alloc, index as usize, params, rest),
-    }
-}
-
 /// A body in which local 1 is `$x`.
-pub(crate) fn body_of<'a>(
+fn body_of<'a>(
     alloc: Global,
     profile: Profile,
-    names: &Names<'a>,
+    names: &Names,
     text: &'a [u8],
 ) -> Result<(Body, &'a [u8]), TextFault> {
     let mut locals = Space::of_unnamed(alloc, &[ValType::I32]);
@@ -154,21 +161,25 @@ pub(crate) fn body_of<'a>(
 }
 
 /// The ops of a body, or its refusal.
-fn of_body<'a>(
-    alloc: Global,
-    profile: Profile,
-    names: &Names<'a>,
-    text: &'a [u8],
-) -> Result<String, Fail> {
+fn of_body(alloc: Global, profile: Profile, names: &Names, text: &[u8]) -> Result<String, Fail> {
     match body_of(alloc, profile, names, text) {
         Ok((body, rest)) => shown(alloc, Ok((body.ops(), rest))),
         Err(fault) => shown_refusal(alloc, fault.refusal(text)),
     }
 }
 
+/// How many ops a body has, or its fault.
+fn of_ops(alloc: Global, profile: Profile, names: &Names, text: &[u8]) -> Result<String, Fail> {
+    let text = repeated(alloc, str::from_utf8(text)?)?;
+    match body_of(alloc, profile, names, text.as_bytes()) {
+        Ok((body, _rest)) => Ok(format!(in alloc; "{}", body.ops().len())?),
+        Err(fault) => shown_fault(alloc, fault),
+    }
+}
+
 fn of_desc(alloc: Global, names: &Names, text: &[u8]) -> Result<String, Fail> {
     match desc(alloc, names, text) {
-        Ok((id, desc, rest)) => shown(alloc, Ok(((shown_id(id)?, desc), rest))),
+        Ok((id, desc, rest)) => shown(alloc, Ok(((id, desc), rest))),
         Err(fault) => shown_fault(alloc, fault),
     }
 }
@@ -192,24 +203,18 @@ fn of_list<'a>(
     }
 }
 
-fn of_text(alloc: Global, profile: Profile, text: &[u8]) -> Result<String, Fail> {
+fn of_text(alloc: Global, profile: Profile, checks: bool, text: &[u8]) -> Result<String, Fail> {
     match read_text(alloc, profile, text) {
+        Ok(module) if checks => of_module(alloc, profile, &module),
         Ok(module) => shown_module(alloc, &module, b""),
         Err(refusal) => shown_refusal(alloc, refusal),
     }
 }
 
-/// What checking says of the module of a text.
-fn of_check(alloc: Global, profile: Profile, text: &[u8]) -> Result<String, Fail> {
-    match read_text(alloc, profile, text) {
-        Ok(module) => of_module(alloc, profile, &module),
-        Err(refusal) => shown_refusal(alloc, refusal),
-    }
-}
-
+/// What checking a module gives.
 fn of_module(alloc: Global, profile: Profile, module: &Module) -> Result<String, Fail> {
     match check(alloc, profile, module) {
-        Ok(checked) => Ok(format!(in alloc; "the same: {}", *checked.module() == *module)?),
+        Ok(checked) => shown_module(alloc, checked.module(), b""),
         Err(fault) => Ok(format!(in alloc; "{fault:?}")?),
     }
 }

@@ -2,13 +2,11 @@
 
 use crate::faults::{TextFault, TextRefusal};
 use crate::lexeme::{Lexeme, next_token, string_bytes};
-use crate::named::Named;
 use std::alloc::Global;
 use std::fmt::Debug;
 use std::test::Fail;
 use wm_syntax::io::output::Output;
 use wm_syntax::modules::Module;
-use wm_syntax::types::ValType;
 use wm_write::encode::encode;
 
 /// A value and the text after it, or a fault.
@@ -28,44 +26,6 @@ pub(crate) fn shown_fault(alloc: Global, fault: TextFault) -> Result<String, Fai
 
 pub(crate) fn shown_refusal(alloc: Global, refusal: TextRefusal) -> Result<String, Fail> {
     Ok(format!(in alloc; "{:?} at {}", refusal.why, refusal.at)?)
-}
-
-/// An identifier, or `_` for none.
-pub(crate) fn shown_id(id: Option<&[u8]>) -> Result<&str, Fail> {
-    match id {
-        Some(id) => Ok(str::from_utf8(id)?),
-        None => Ok("_"),
-    }
-}
-
-/// A number, items with identifiers, and the text after them.
-pub(crate) fn shown_named(
-    alloc: Global,
-    number: usize,
-    items: &[Named],
-    rest: &[u8],
-) -> Result<String, Fail> {
-    let mut text = format!(in alloc; "{number}:")?;
-    for item in items {
-        write!(text, " {} {:?}", shown_id(item.id)?, item.ty)?;
-    }
-    write!(text, "|{}", str::from_utf8(rest)?)?;
-    Ok(text)
-}
-
-/// The same of items with no identifiers.
-pub(crate) fn shown_unnamed(
-    alloc: Global,
-    number: usize,
-    types: &[ValType],
-    rest: &[u8],
-) -> Result<String, Fail> {
-    let mut text = format!(in alloc; "{number}:")?;
-    for ty in types {
-        write!(text, " _ {ty:?}")?;
-    }
-    write!(text, "|{}", str::from_utf8(rest)?)?;
-    Ok(text)
 }
 
 /// The canonical binary of a module, in hexadecimal digits, and the text after the module.
@@ -89,10 +49,11 @@ pub(crate) fn shown_tokens(alloc: Global, text: &[u8]) -> Result<String, Fail> {
     let mut found = String::from_str(alloc, "ok")?;
     let mut rest = text;
     for _ in 0..text.len() {
-        if let Some((token, more)) = next_token(rest) {
-            push_token(alloc, &mut found, token)?;
-            rest = more;
-        }
+        let Some((token, more)) = next_token(rest) else {
+            break;
+        };
+        push_token(alloc, &mut found, token)?;
+        rest = more;
     }
     Ok(found)
 }
@@ -105,4 +66,15 @@ fn push_token(alloc: Global, found: &mut String, token: Lexeme) -> Result<(), Fa
         Lexeme::Atom(atom) => write!(found, " {}", str::from_utf8(atom)?)?,
     }
     Ok(())
+}
+
+/// A text in which `3*a|b` stands for `aaab`.
+pub(crate) fn repeated(alloc: Global, text: &str) -> Result<String, Fail> {
+    let mut all = String::new(alloc);
+    for part in text.split('|') {
+        let (times, part) = part.split_once('*').unwrap_or(("1", part));
+        let parts = part.repeat(alloc, times.parse::<usize>()?)?;
+        all.push_str(parts.as_str())?;
+    }
+    Ok(all)
 }

@@ -1,12 +1,8 @@
-//! Tests of types.
-
-use crate::rows::play;
-use std::test::Fail;
-use wm_syntax::profile::Profile;
+//! Rows of types.
 
 /// Types of functions, and the text after them.
-const SIGNATURES: &str =
-    r#"signature (func (param $a i64) (param) (param i32 i32)(param $a i32)(result)(result i64 i32)) ) => FuncType { params: [I64, I32, I32, I32], results: [I64, I32] }| )
+pub(crate) const SIGNATURES: &str = r#"given )
+signature (func (param $a i64) (param) (param i32 i32)(param $a i32)(result)(result i64 i32)) ) => FuncType { params: [I64, I32, I32, I32], results: [I64, I32] }| )
 signature (func) => FuncType { params: [], results: [] }|
 signature func) => Expected, 5 left
 signature (function) => Expected, 9 left
@@ -17,8 +13,3 @@ signature (func (result i32) (param i32)) => Expected, 11 left
 signature (func (local i32)) => Expected, 11 left
 signature (func i32) => Expected, 4 left
 "#;
-
-#[test]
-fn signatures(rt: HostRuntime) -> Result<(), Fail> {
-    play(&rt, rt.alloc(), Profile::One, ")", SIGNATURES)
-}

@@ -1,18 +1,18 @@
-//! Tests of whole texts.
+//! Rows of whole texts.
 
 use super::*;
-use crate::rows::play;
 use std::process::Abort;
-use std::test::Fail;
 
 /// Modules, told by their canonical binaries.
-const MODULES: &str = r#";; names are used before they are defined
+pub(crate) const MODULES: &str = r#"given )
+;; names are used before they are defined
 text ␊;; names are used before they are defined␊ (module $m␊ (type $t (func (param $x i32) (result i32)))␊ (start $main)␊ (import "a" "\u{e9}" (func $f (type $t) (param i32) (result i32)))␊ (export "main" (func $main))␊ (data $mem (offset i32.const 8) "\00\u{e9}" "\"")␊ (memory $mem 1 2)␊ (elem $tab (offset global.get $g) $main 0)␊ (table $tab 2 funcref)␊ (global $g (mut i32) i32.const -1)␊ (type $e (func))␊ (func $main (type $e) (local $a i32)␊ i32.const 7 call $f local.set $a)) => 0061736d0100000001090260017f017f600000020801016102c3a90000030201010404017000020504010101020606017f01417f0b070801046d61696e00010801010908010023000b0201000a0c010a01017f4107100021000b0b0a010041080b0400c3a922|
 text (module) => 0061736d01000000|
 "#;
 
 /// What is refused in every profile.
-const REFUSALS: &str = r#"text => Expected at 0
+pub(crate) const REFUSALS: &str = r#"given )
+text => Expected at 0
 text module => Expected at 0
 text (modules) => Expected at 1
 text (module => Expected at 7
@@ -29,21 +29,6 @@ text (module (func (wrong)) (start 0) (start 0)) => SecondStart at 34
 text (module (func (wrong)) (export "\zz" => BadEscape at 31
 text (module (start $f)) => UnknownId at 15
 "#;
-
-#[test]
-fn modules(rt: HostRuntime) -> Result<(), Fail> {
-    play(&rt, rt.alloc(), Profile::One, ")", MODULES)
-}
-
-#[test]
-fn refusals(rt: HostRuntime) -> Result<(), Fail> {
-    play(&rt, rt.alloc(), Profile::One, ")", REFUSALS)
-}
-
-#[test]
-fn refusals_of_the_second_profile(rt: HostRuntime) -> Result<(), Fail> {
-    play(&rt, rt.alloc(), Profile::Two, ")", REFUSALS)
-}
 
 fn expect_no_utf8(rt: &impl Abort, alloc: Global, profile: Profile) {
     let refusal = read_text(alloc, profile, b"(module \"\xff").err();
