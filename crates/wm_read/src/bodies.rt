@@ -163,4 +163,4 @@ pub fn read_body<'a>(
 }
 
 #[cfg(test)]
-mod tests;
+pub(crate) mod tests;

@@ -25,7 +25,7 @@ use wm_syntax::why::Why;
 use wm_write::encode::{WriteFault, encode};
 
 #[cfg(test)]
-mod tests;
+pub(crate) mod tests;
 
 // No module has a longer canonical binary.
 const MOST: u64 = 1 << 62;

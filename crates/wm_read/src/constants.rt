@@ -93,4 +93,4 @@ pub fn offset<'a>(
 }
 
 #[cfg(test)]
-mod tests;
+pub(crate) mod tests;

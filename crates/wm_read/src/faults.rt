@@ -178,4 +178,4 @@ impl<T: Drop> From<AllocFailed<T>> for TextFault {
 }
 
 #[cfg(test)]
-mod tests;
+pub(crate) mod tests;

@@ -64,4 +64,4 @@ pub fn read_fields<'a>(
 }
 
 #[cfg(test)]
-mod tests;
+pub(crate) mod tests;

@@ -48,4 +48,4 @@ pub fn bytes(alloc: Global, text: &[u8]) -> Result<(Vec<u8>, &[u8]), TextFault>
 }
 
 #[cfg(test)]
-mod tests;
+pub(crate) mod tests;

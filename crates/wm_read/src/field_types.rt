@@ -94,4 +94,4 @@ pub fn global_type(text: &[u8]) -> Result<(GlobalType, &[u8]), TextFault>
 }
 
 #[cfg(test)]
-mod tests;
+pub(crate) mod tests;

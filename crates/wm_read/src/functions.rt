@@ -230,4 +230,4 @@ pub fn function<'a>(
 }
 
 #[cfg(test)]
-mod tests;
+pub(crate) mod tests;

@@ -222,4 +222,4 @@ pub fn read_heads<'a>(alloc: Global, text: &'a [u8]) -> Result<(Names<'a>, &'a [
 }
 
 #[cfg(test)]
-mod tests;
+pub(crate) mod tests;

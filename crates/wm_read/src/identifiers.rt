@@ -139,4 +139,4 @@ pub fn is_new(space: &Space, id: Option<&[u8]>) -> bool
 }
 
 #[cfg(test)]
-mod tests;
+pub(crate) mod tests;

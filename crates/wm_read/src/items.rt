@@ -88,4 +88,4 @@ pub fn item<'a>(names: &Names, text: &'a [u8]) -> Result<(ExportKind, u32, &'a [
 }
 
 #[cfg(test)]
-mod tests;
+pub(crate) mod tests;

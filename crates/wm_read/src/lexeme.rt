@@ -261,4 +261,4 @@ fn push_scalar(bytes: &mut Vec<u8>, n: u32) -> Result<(), AllocError>
 }
 
 #[cfg(test)]
-mod tests;
+pub(crate) mod tests;

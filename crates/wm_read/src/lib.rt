@@ -22,6 +22,8 @@ pub mod named;
 pub mod named_uses;
 pub mod operands;
 pub mod pieces;
+#[cfg(test)]
+mod rows;
 mod scan;
 pub mod signatures;
 pub mod text;

@@ -100,4 +100,4 @@ pub fn groups<'a>(
 }
 
 #[cfg(test)]
-mod tests;
+pub(crate) mod tests;

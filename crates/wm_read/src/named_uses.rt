@@ -129,4 +129,4 @@ pub(crate) fn call_fault(alloc: Global, names: &Names, fault: TextFault, text: &
 }
 
 #[cfg(test)]
-mod tests;
+pub(crate) mod tests;

@@ -264,4 +264,4 @@ pub fn read_piece<'a>(
 }
 
 #[cfg(test)]
-mod tests;
+pub(crate) mod tests;

@@ -28,4 +28,4 @@ pub fn signature(alloc: Global, text: &[u8]) -> Result<(FuncType, &[u8]), TextFa
 }
 
 #[cfg(test)]
-mod tests;
+pub(crate) mod tests;

@@ -79,4 +79,4 @@ pub fn read_text(alloc: Global, profile: Profile, text: &[u8]) -> Result<Module,
 }
 
 #[cfg(test)]
-mod tests;
+pub(crate) mod tests;

@@ -1,26 +1,7 @@
-//! Tests of checking a module value.
+//! Rows of modules that are checked: their canonical binary, or why they are refused.
 
-use super::*;
-use std::test::Fail;
-
-#[test]
-fn an_empty_module(rt: HostRuntime) -> Result<(), Fail> {
-    let module = Module::new(rt.alloc());
-    let checked = check(rt.alloc(), Profile::One, &module)?;
-    assert!(rt; *checked.module() == module);
-    Ok(())
-}
-
-#[test]
-fn a_refused_module(rt: HostRuntime) -> Result<(), Fail> {
-    let mut module = Module::new(rt.alloc());
-    module.start = Some(0);
-    let refused = Refusal {
-        at: 11,
-        why: Why::Index,
-    };
-    assert!(rt;
-        check(rt.alloc(), Profile::One, &module).err() == Some(CheckFault::Refused(refused))
-    );
-    Ok(())
-}
+/// The modules of texts.
+pub(crate) const MODULES: &str = r#"given )
+check (module) => 0061736d01000000|
+check (module (start 0)) => Refused(Refusal { at: 11, why: Index })
+"#;

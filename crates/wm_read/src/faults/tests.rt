@@ -1,52 +1,52 @@
-//! Tests of the words of refusals.
+//! Rows of the words of refusals.
 
 use super::*;
 use std::alloc::Global;
 use std::test::Fail;
 
-fn text_of(alloc: Global, fault: TextRefusal) -> Result<String, Fail> {
-    Ok(format!(in alloc; "{fault}")?)
-}
+/// All printed names, and a printed refusal.
+pub(crate) const WORDS: &str = r#"given )
+names => ok NotUtf8 BadToken OpenComment OpenString BadEscape Expected UnknownWord BadInteger BadName UnknownId RepeatedId TypeUse ImportPlace SecondStart NotConst BadAlign LabelEnd TooManyLocals Float Memory
+sentence => text refused at 7: BadToken (no token can be read here)
+"#;
 
-#[test]
-fn printed_names(rt: HostRuntime) {
-    let names = [
-        (TextWhy::NotUtf8, "NotUtf8"),
-        (TextWhy::BadToken, "BadToken"),
-        (TextWhy::OpenComment, "OpenComment"),
-        (TextWhy::OpenString, "OpenString"),
-        (TextWhy::BadEscape, "BadEscape"),
-        (TextWhy::Expected, "Expected"),
-        (TextWhy::UnknownWord, "UnknownWord"),
-        (TextWhy::BadInteger, "BadInteger"),
-        (TextWhy::BadName, "BadName"),
-        (TextWhy::UnknownId, "UnknownId"),
-        (TextWhy::RepeatedId, "RepeatedId"),
-        (TextWhy::TypeUse, "TypeUse"),
-        (TextWhy::ImportPlace, "ImportPlace"),
-        (TextWhy::SecondStart, "SecondStart"),
-        (TextWhy::NotConst, "NotConst"),
-        (TextWhy::BadAlign, "BadAlign"),
-        (TextWhy::LabelEnd, "LabelEnd"),
-        (TextWhy::TooManyLocals, "TooManyLocals"),
-        (TextWhy::Float, "Float"),
-        (TextWhy::Memory, "Memory"),
-    ];
-    for (why, name) in names {
-        assert_eq!(rt; why.name(), name);
+const ALL: [TextWhy; 20] = [
+    TextWhy::NotUtf8,
+    TextWhy::BadToken,
+    TextWhy::OpenComment,
+    TextWhy::OpenString,
+    TextWhy::BadEscape,
+    TextWhy::Expected,
+    TextWhy::UnknownWord,
+    TextWhy::BadInteger,
+    TextWhy::BadName,
+    TextWhy::UnknownId,
+    TextWhy::RepeatedId,
+    TextWhy::TypeUse,
+    TextWhy::ImportPlace,
+    TextWhy::SecondStart,
+    TextWhy::NotConst,
+    TextWhy::BadAlign,
+    TextWhy::LabelEnd,
+    TextWhy::TooManyLocals,
+    TextWhy::Float,
+    TextWhy::Memory,
+];
+
+/// The printed names.
+pub(crate) fn of_all(alloc: Global) -> Result<String, Fail> {
+    let mut names = String::from_str(alloc, "ok")?;
+    for why in ALL {
+        write!(names, " {}", why.name())?;
     }
+    Ok(names)
 }
 
-#[test]
-fn sentences(rt: HostRuntime) -> Result<(), Fail> {
+/// A printed refusal.
+pub(crate) fn of_one(alloc: Global) -> Result<String, Fail> {
     let fault = TextRefusal {
         at: 7,
         why: TextWhy::BadToken,
     };
-    let text = text_of(rt.alloc(), fault)?;
-    assert_eq!(rt;
-        text.as_str(),
-        "text refused at 7: BadToken (no token can be read here)"
-    );
-    Ok(())
+    Ok(format!(in alloc; "{fault}")?)
 }

@@ -1,30 +1,28 @@
-//! Tests of index spaces.
+//! Rows of index spaces.
 
 use super::*;
 use std::test::Fail;
 
-#[test]
-fn the_first_place(rt: HostRuntime) -> Result<(), Fail> {
-    let mut space = Space::new(rt.alloc());
-    let ids: [Option<&[u8]>; 5] = [Some(b"$b"), None, Some(b"$a"), Some(b"$b"), Some(b"$")];
-    for id in ids {
-        space.push(id)?;
-    }
-    assert_eq!(rt; space.place(b"$b"), Some(0));
-    assert_eq!(rt; space.place(b"$a"), Some(2));
-    assert_eq!(rt; space.place(b"$"), Some(4));
-    assert_eq!(rt; space.place(b"$ab"), None);
-    assert_eq!(rt; space.place(b""), None);
-    Ok(())
-}
+/// The first place of an identifier among those before the `?`, alone or behind two unnamed items.
+pub(crate) const PLACES: &str = r#"given )
+place $b _ $a $b $ ?$b => Some(0)
+place $b _ $a $b $ ?$a => Some(2)
+place $b _ $a $b $ ?$ => Some(4)
+place $b _ $a $b $ ?$ab => None
+place $b _ $a $b $ ? => None
+behind ?$a => None
+behind _ $a ?$a => Some(3)
+"#;
 
-#[test]
-fn places_behind_unnamed_items(rt: HostRuntime) -> Result<(), Fail> {
-    let mut space = Space::of_unnamed(rt.alloc(), &[ValType::I32, ValType::I64]);
-    assert_eq!(rt; space.place(b"$a"), None);
-    for id in [None, Some(b"$a".as_slice())] {
-        space.push(id)?;
+/// The place of an identifier behind a `?`, after what stands before it is added to a space: identifiers, and `_` for none.
+pub(crate) fn of_place<'a>(
+    alloc: Global,
+    mut space: Space<'a>,
+    text: &'a str,
+) -> Result<String, Fail> {
+    let (ids, wanted) = text.split_once('?').unwrap_or(("", text));
+    for id in ids.split_whitespace() {
+        space.push(if id == "_" { None } else { Some(id.as_bytes()) })?;
     }
-    assert_eq!(rt; space.place(b"$a"), Some(3));
-    Ok(())
+    Ok(format!(in alloc; "{:?}", space.place(wanted.as_bytes()))?)
 }

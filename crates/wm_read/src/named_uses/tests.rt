@@ -1,132 +1,29 @@
-//! Tests of type uses with identifiers.
+//! Rows of type uses with identifiers.
 
-use super::*;
-use crate::identifiers::Space;
-use std::process::Abort;
-use std::test::Fail;
-
-/// Type 0 is `$e`, of no parameters and results; type 1 takes an i32 and an i64 and gives an i64.
-fn names(alloc: Global) -> Result<Names<'static>, Fail> {
-    let mut signatures = Vec::new(alloc);
-    signatures.push(FuncType {
-        params: Vec::new(alloc),
-        results: Vec::new(alloc),
-    })?;
-    signatures.push(FuncType {
-        params: vec![in alloc; ValType::I32, ValType::I64]?,
-        results: vec![in alloc; ValType::I64]?,
-    })?;
-    let mut types = Space::new(alloc);
-    types.push(Some(b"$e"))?;
-    types.push(None)?;
-    Ok(Names {
-        signatures,
-        types,
-        functions: Space::new(alloc),
-        tables: Space::new(alloc),
-        memories: Space::new(alloc),
-        globals: Space::new(alloc),
-    })
-}
-
-/// The text is a use of this type, whose parameters have these identifiers, and this follows.
-fn expect_use(
-    rt: &impl Abort,
-    alloc: Global,
-    text: &str,
-    index: u32,
-    ids: &[&str],
-    left: &str,
-) -> Result<(), Fail> {
-    let names = names(alloc)?;
-    match named_use(alloc, &names, true, text.as_bytes()) {
-        Ok((read, rest)) => {
-            assert_eq!(rt; rest, left.as_bytes());
-            assert_eq!(rt; read.index, index);
-            match read.params {
-                Params::OfType(types) => {
-                    assert_eq!(rt; types.len(), ids.len());
-                    assert!(rt; ids.iter().all(|id| id.is_empty()));
-                }
-                Params::Written(params) => {
-                    assert_eq!(rt; params.len(), ids.len());
-                    for (param, id) in params.iter().zip(ids) {
-                        assert_eq!(rt; param.id.unwrap_or(b""), id.as_bytes());
-                    }
-                }
-            }
-        }
-        Err(fault) => assert!(rt; false, "{text} {:?}", fault.why),
-    }
-    Ok(())
-}
-
-#[test]
-fn uses(rt: HostRuntime) -> Result<(), Fail> {
-    let alloc = rt.alloc();
-    expect_use(&rt, alloc, "(type $e)", 0, &[""; 0], "")?;
-    expect_use(&rt, alloc, "(type 0) (param) )", 0, &[""; 0], " )")?;
-    expect_use(&rt, alloc, "(type 1)", 1, &["", ""], "")?;
-    expect_use(
-        &rt,
-        alloc,
-        "(type 1)(param)(result) nop",
-        1,
-        &["", ""],
-        " nop",
-    )?;
-    expect_use(
-        &rt,
-        alloc,
-        "(type 1) (param $a i32)(param i64) (result i64) (local i32)",
-        1,
-        &["$a", ""],
-        " (local i32)",
-    )
-}
-
-#[test]
-fn refusals(rt: HostRuntime) -> Result<(), Fail> {
-    let alloc = rt.alloc();
-    let names = names(alloc)?;
-    for (text, why, left) in [
-        ("(type 2)", TextWhy::TypeUse, 2),
-        ("(type $f)", TextWhy::UnknownId, 3),
-        ("(type 0) (param i32)", TextWhy::TypeUse, 14),
-        ("(type 1) (param $a i32) (result i64)", TextWhy::TypeUse, 30),
-        ("(type 1) (param i32 i64)", TextWhy::TypeUse, 18),
-        ("(type 1) (result i64)", TextWhy::TypeUse, 15),
-        ("(type 0) (param i32) nop", TextWhy::TypeUse, 18),
-        ("(type 0) (param i32) (local i32)", TextWhy::TypeUse, 26),
-        ("(type 0) (result i32) (param)", TextWhy::Expected, 6),
-        ("(type 0) (param i32) (nop)", TextWhy::Expected, 4),
-        ("(type 0) (param i32) (", TextWhy::Expected, 0),
-        ("(type 1) (param $a)", TextWhy::Expected, 1),
-        ("(type 1) (result f32)", TextWhy::Float, 4),
-        ("(type 1) (result $a i64)", TextWhy::Expected, 7),
-        ("(param i32)", TextWhy::Expected, 10),
-    ] {
-        match named_use(alloc, &names, true, text.as_bytes()) {
-            Ok(_read) => assert!(rt; false, "{text} is read"),
-            Err(fault) => assert_eq!(rt; fault, TextFault { why, left }, "{text}"),
-        }
-    }
-    Ok(())
-}
-
-#[test]
-fn without_locals(rt: HostRuntime) -> Result<(), Fail> {
-    let alloc = rt.alloc();
-    let names = names(alloc)?;
-    for (text, why, left) in [
-        ("(type 0) (param i32))", TextWhy::TypeUse, 15),
-        ("(type 0) (result i32) (param))", TextWhy::Expected, 7),
-        ("(type 0) (param i32) (local i32))", TextWhy::Expected, 11),
-    ] {
-        match named_use(alloc, &names, false, text.as_bytes()) {
-            Ok(_read) => assert!(rt; false, "{text} is read"),
-            Err(fault) => assert_eq!(rt; fault, TextFault { why, left }, "{text}"),
-        }
-    }
-    Ok(())
-}
+/// The bytes of `$a` are [36, 97].
+pub(crate) const USES: &str = r#"given (type $e (func)) (type (func (param i32 i64) (result i64))))
+use (type $e) => NamedUse { index: 0, params: OfType([]) }|
+use (type 0) (param) ) => NamedUse { index: 0, params: OfType([]) }| )
+use (type 1) => NamedUse { index: 1, params: OfType([I32, I64]) }|
+use (type 1)(param)(result) nop => NamedUse { index: 1, params: OfType([I32, I64]) }| nop
+use (type 1) (param $a i32)(param i64) (result i64) (local i32) => NamedUse { index: 1, params: Written([Named { id: Some([36, 97]), ty: I32 }, Named { id: None, ty: I64 }]) }| (local i32)
+use (type 2) => TypeUse, 2 left
+use (type $f) => UnknownId, 3 left
+use (type 0) (param i32) => TypeUse, 14 left
+use (type 1) (param $a i32) (result i64) => TypeUse, 30 left
+use (type 1) (param i32 i64) => TypeUse, 18 left
+use (type 1) (result i64) => TypeUse, 15 left
+use (type 0) (param i32) nop => TypeUse, 18 left
+use (type 0) (param i32) (local i32) => TypeUse, 26 left
+use (type 0) (result i32) (param) => Expected, 6 left
+use (type 0) (param i32) (nop) => Expected, 4 left
+use (type 0) (param i32) ( => Expected, 0 left
+use (type 1) (param $a) => Expected, 1 left
+use (type 1) (result f32) => Float, 4 left
+use (type 1) (result $a i64) => Expected, 7 left
+use (param i32) => Expected, 10 left
+;; where no locals may follow
+use_alone (type 0) (param i32)) => TypeUse, 15 left
+use_alone (type 0) (result i32) (param)) => Expected, 7 left
+use_alone (type 0) (param i32) (local i32)) => Expected, 11 left
+"#;

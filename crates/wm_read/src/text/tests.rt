@@ -1,109 +1,43 @@
-//! Tests of whole texts.
+//! Rows of whole texts.
 
 use super::*;
 use std::process::Abort;
-use std::test::Fail;
-use wm_syntax::profile::Profile;
 
-/// The text is refused so, in every profile.
-fn expect_refusal(rt: &impl Abort, alloc: Global, text: &[u8], why: TextWhy, at: usize) {
-    for profile in [Profile::One, Profile::Two] {
-        match read_text(alloc, profile, text) {
-            Ok(_module) => assert!(rt; false, "{text:?} is read"),
-            Err(refusal) => assert_eq!(rt; refusal, TextRefusal { at, why }, "{text:?}"),
-        }
-    }
-}
-
-#[test]
-fn modules(rt: HostRuntime) -> Result<(), Fail> {
-    let alloc = rt.alloc();
-    let text = b"
+/// Modules, told by their canonical binaries.
+pub(crate) const MODULES: &str = r#"given )
 ;; names are used before they are defined
-(module $m
-  (type $t (func (param $x i32) (result i32)))
-  (start $main)
-  (import \"a\" \"\\u{e9}\" (func $f (type $t) (param i32) (result i32)))
-  (export \"main\" (func $main))
-  (data $mem (offset i32.const 8) \"\\00\\u{e9}\" \"\\\"\")
-  (memory $mem 1 2)
-  (elem $tab (offset global.get $g) $main 0)
-  (table $tab 2 funcref)
-  (global $g (mut i32) i32.const -1)
-  (type $e (func))
-  (func $main (type $e) (local $a i32)
-    i32.const 7 call $f local.set $a))";
-    match read_text(alloc, Profile::One, text) {
-        Ok(module) => {
-            assert_eq!(rt; module.types.len(), 2);
-            assert_eq!(rt; module.imports.len(), 1);
-            assert_eq!(rt; module.imports[0].item_name.as_str(), "é");
-            assert_eq!(rt; module.functions.len(), 1);
-            assert_eq!(rt; module.functions[0].type_index, 1);
-            assert_eq!(rt; module.start, Some(1));
-            assert_eq!(rt; module.exports.len(), 1);
-            assert_eq!(rt; module.exports[0].index, 1);
-            assert_eq!(rt; module.segments.len(), 1);
-            assert_eq!(rt; &module.segments[0].bytes[..], b"\x00\xc3\xa9\"".as_slice());
-            assert_eq!(rt; module.elements.len(), 1);
-            assert_eq!(rt; &module.elements[0].functions[..], [1, 0].as_slice());
-            assert_eq!(rt; module.memories.len(), 1);
-            assert_eq!(rt; module.memories[0].max, Some(2));
-            assert_eq!(rt; module.globals.len(), 1);
-            assert_eq!(rt; module.tables.len(), 1);
-            assert_eq!(rt; module.tables[0].min, 2);
-        }
-        Err(refusal) => assert!(rt; false, "{refusal:?}"),
-    }
-    match read_text(alloc, Profile::One, b"(module)") {
-        Ok(module) => assert!(rt; module.types.is_empty() && module.start.is_none()),
-        Err(refusal) => assert!(rt; false, "{refusal:?}"),
-    }
-    Ok(())
+text ␊;; names are used before they are defined␊ (module $m␊ (type $t (func (param $x i32) (result i32)))␊ (start $main)␊ (import "a" "\u{e9}" (func $f (type $t) (param i32) (result i32)))␊ (export "main" (func $main))␊ (data $mem (offset i32.const 8) "\00\u{e9}" "\"")␊ (memory $mem 1 2)␊ (elem $tab (offset global.get $g) $main 0)␊ (table $tab 2 funcref)␊ (global $g (mut i32) i32.const -1)␊ (type $e (func))␊ (func $main (type $e) (local $a i32)␊ i32.const 7 call $f local.set $a)) => 0061736d0100000001090260017f017f600000020801016102c3a90000030201010404017000020504010101020606017f01417f0b070801046d61696e00010801010908010023000b0201000a0c010a01017f4107100021000b0b0a010041080b0400c3a922|
+text (module) => 0061736d01000000|
+"#;
+
+/// What is refused in every profile.
+pub(crate) const REFUSALS: &str = r#"given )
+text => Expected at 0
+text module => Expected at 0
+text (modules) => Expected at 1
+text (module => Expected at 7
+text (module $a $b) => Expected at 11
+text (module (type (func))) x => Expected at 23
+text (module)) => Expected at 8
+text (module (type (func (param f32)))) => Float at 27
+text (module (type (func)) (func (type 0) (nop))) => Expected at 38
+text (module (type $t (func)) (func (type $t) block $a end $b)) => LabelEnd at 54
+text (module (func $a) (func $a)) => RepeatedId at 24
+text (module (memory 1) (import "" "" (func))) => ImportPlace at 20
+text (module (start 0) (start 0)) => SecondStart at 19
+text (module (func (wrong)) (start 0) (start 0)) => SecondStart at 34
+text (module (func (wrong)) (export "\zz" => BadEscape at 31
+text (module (start $f)) => UnknownId at 15
+"#;
+
+fn expect_no_utf8(rt: &impl Abort, alloc: Global, profile: Profile) {
+    let refusal = read_text(alloc, profile, b"(module \"\xff").err();
+    let why = TextWhy::NotUtf8;
+    assert!(rt; refusal == Some(TextRefusal { at: 9, why }));
 }
 
 #[test]
-fn refusals(rt: HostRuntime) {
-    let alloc = rt.alloc();
-    for (text, why, at) in [
-        ("", TextWhy::Expected, 0),
-        ("module", TextWhy::Expected, 0),
-        ("(modules)", TextWhy::Expected, 1),
-        ("(module", TextWhy::Expected, 7),
-        ("(module $a $b)", TextWhy::Expected, 11),
-        ("(module (type (func))) x", TextWhy::Expected, 23),
-        ("(module))", TextWhy::Expected, 8),
-        ("(module (type (func (param f32))))", TextWhy::Float, 27),
-        (
-            "(module (type (func)) (func (type 0) (nop)))",
-            TextWhy::Expected,
-            38,
-        ),
-        (
-            "(module (type $t (func)) (func (type $t) block $a end $b))",
-            TextWhy::LabelEnd,
-            54,
-        ),
-        ("(module (func $a) (func $a))", TextWhy::RepeatedId, 24),
-        (
-            "(module (memory 1) (import \"\" \"\" (func)))",
-            TextWhy::ImportPlace,
-            20,
-        ),
-        ("(module (start 0) (start 0))", TextWhy::SecondStart, 19),
-        (
-            "(module (func (wrong)) (start 0) (start 0))",
-            TextWhy::SecondStart,
-            34,
-        ),
-        (
-            "(module (func (wrong)) (export \"\\zz\"",
-            TextWhy::BadEscape,
-            31,
-        ),
-        ("(module (start $f))", TextWhy::UnknownId, 15),
-    ] {
-        expect_refusal(&rt, alloc, text.as_bytes(), why, at);
-    }
-    expect_refusal(&rt, alloc, b"(module \"\xff", TextWhy::NotUtf8, 9);
+fn not_utf8(rt: HostRuntime) {
+    expect_no_utf8(&rt, rt.alloc(), Profile::One);
+    expect_no_utf8(&rt, rt.alloc(), Profile::Two);
 }

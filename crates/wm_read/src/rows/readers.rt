@@ -1,0 +1,220 @@
+//! The readers that rows ask.
+
+use super::shown::{repeated, shown, shown_fault, shown_module, shown_refusal, shown_tokens};
+use crate::bodies::read_body;
+use crate::check::check;
+use crate::constants::{constant, offset};
+use crate::faults::TextFault;
+use crate::faults::tests::{of_all, of_one};
+use crate::field_lists::read_fields;
+use crate::field_strings::{bytes, name};
+use crate::field_types::{global_type, limits, table_type};
+use crate::functions::function;
+use crate::functions::tests::of_earlier;
+use crate::heads::read_heads;
+use crate::identifiers::tests::of_place;
+use crate::identifiers::{Names, Scope, Space};
+use crate::items::{desc, item};
+use crate::lexeme::check_tokens;
+use crate::named::groups;
+use crate::named_uses::named_use;
+use crate::operands::close;
+use crate::pieces::tests::three_labels;
+use crate::signatures::signature;
+use crate::text::read_text;
+use std::alloc::Global;
+use std::test::Fail;
+use wm_syntax::body::Body;
+use wm_syntax::modules::Module;
+use wm_syntax::profile::Profile;
+use wm_syntax::types::ValType;
+
+/// What a reader of this name makes of a text, after the definitions of these heads.
+pub(super) fn answer(
+    alloc: Global,
+    profile: Profile,
+    heads: &'static str,
+    reader: &str,
+    text: &str,
+) -> Result<String, Fail> {
+    match reader {
+        "names" => of_all(alloc),
+        "sentence" => of_one(alloc),
+        "many" => of_many(alloc, text),
+        "earlier" => of_earlier(alloc, text),
+        "place" => of_place(alloc, Space::new(alloc), text),
+        "behind" => of_behind(alloc, text),
+        _ => of_given(alloc, profile, heads, reader, text.as_bytes()),
+    }
+}
+
+fn of_many(alloc: Global, text: &str) -> Result<String, Fail> {
+    let text = repeated(alloc, text)?;
+    of_text_tokens(alloc, text.as_bytes())
+}
+
+fn of_behind(alloc: Global, text: &str) -> Result<String, Fail> {
+    let types = [ValType::I32, ValType::I64];
+    of_place(alloc, Space::of_unnamed(alloc, &types), text)
+}
+
+fn of_given(
+    alloc: Global,
+    profile: Profile,
+    heads: &'static str,
+    reader: &str,
+    text: &[u8],
+) -> Result<String, Fail> {
+    let (names, rest) = read_heads(alloc, heads.as_bytes())?;
+    of_tokens(alloc, profile, &names, rest, reader, text)
+}
+
+/// The readers of tokens, types and functions.
+fn of_tokens<'a>(
+    alloc: Global,
+    profile: Profile,
+    names: &Names<'a>,
+    rest: &'a [u8],
+    reader: &str,
+    text: &'a [u8],
+) -> Result<String, Fail> {
+    close(rest)?;
+    match reader {
+        "tokens" => of_text_tokens(alloc, text),
+        "signature" => shown(alloc, signature(alloc, text)),
+        "params" => shown(alloc, groups(alloc, b"param", text)),
+        "use" => shown(alloc, named_use(alloc, names, true, text)),
+        "use_alone" => shown(alloc, named_use(alloc, names, false, text)),
+        "body" => of_body(alloc, profile, names, text),
+        "ops" => of_ops(alloc, profile, names, text),
+        "labels" => shown(alloc, three_labels(alloc, text)),
+        "constant" => shown(alloc, constant(profile, names, text)),
+        "offset" => shown(alloc, offset(profile, names, text)),
+        "function" => shown(alloc, function(alloc, profile, names, text)),
+        _ => of_fields(alloc, profile, names, rest, reader, text),
+    }
+}
+
+/// The readers of fields and of what stands in them, and of whole texts.
+fn of_fields<'a>(
+    alloc: Global,
+    profile: Profile,
+    names: &Names<'a>,
+    rest: &'a [u8],
+    reader: &str,
+    text: &'a [u8],
+) -> Result<String, Fail> {
+    match reader {
+        "name" => shown(alloc, name(alloc, text)),
+        "bytes" => shown(alloc, bytes(alloc, text)),
+        "limits" => shown(alloc, limits(text)),
+        "table_type" => shown(alloc, table_type(text)),
+        "global_type" => shown(alloc, global_type(text)),
+        "desc" => of_desc(alloc, names, text),
+        "item" => of_item(alloc, names, text),
+        "fields" => of_list(alloc, profile, names, text),
+        "text" => of_text(alloc, profile, false, text),
+        "check" => of_text(alloc, profile, true, text),
+        "heads" => shown(alloc, read_heads(alloc, text)),
+        _ => of_names(alloc, names, rest, reader, text),
+    }
+}
+
+/// What the heads define: the place of an identifier in a space; or the types, and the text after the heads.
+fn of_names(
+    alloc: Global,
+    names: &Names,
+    rest: &[u8],
+    reader: &str,
+    id: &[u8],
+) -> Result<String, Fail> {
+    let space = match reader {
+        "type" => &names.types,
+        "func" => &names.functions,
+        "table" => &names.tables,
+        "memory" => &names.memories,
+        "global" => &names.globals,
+        "types" => return shown(alloc, Ok((&names.signatures, rest))),
+        _ => return Ok(String::from_str(alloc, "no such reader")?),
+    };
+    Ok(format!(in alloc; "{:?}", space.place(id))?)
+}
+
+fn of_text_tokens(alloc: Global, text: &[u8]) -> Result<String, Fail> {
+    match check_tokens(text) {
+        Ok(()) => shown_tokens(alloc, text),
+        Err(refusal) => shown_refusal(alloc, refusal),
+    }
+}
+
+/// A body in which local 1 is `$x`.
+fn body_of<'a>(
+    alloc: Global,
+    profile: Profile,
+    names: &Names,
+    text: &'a [u8],
+) -> Result<(Body, &'a [u8]), TextFault> {
+    let mut locals = Space::of_unnamed(alloc, &[ValType::I32]);
+    locals.push(Some(b"$x"))?;
+    let scope = Scope { names, locals };
+    read_body(alloc, profile, &scope, text)
+}
+
+/// The ops of a body, or its refusal.
+fn of_body(alloc: Global, profile: Profile, names: &Names, text: &[u8]) -> Result<String, Fail> {
+    match body_of(alloc, profile, names, text) {
+        Ok((body, rest)) => shown(alloc, Ok((body.ops(), rest))),
+        Err(fault) => shown_refusal(alloc, fault.refusal(text)),
+    }
+}
+
+/// How many ops a body has, or its fault.
+fn of_ops(alloc: Global, profile: Profile, names: &Names, text: &[u8]) -> Result<String, Fail> {
+    let text = repeated(alloc, str::from_utf8(text)?)?;
+    match body_of(alloc, profile, names, text.as_bytes()) {
+        Ok((body, _rest)) => Ok(format!(in alloc; "{}", body.ops().len())?),
+        Err(fault) => shown_fault(alloc, fault),
+    }
+}
+
+fn of_desc(alloc: Global, names: &Names, text: &[u8]) -> Result<String, Fail> {
+    match desc(alloc, names, text) {
+        Ok((id, desc, rest)) => shown(alloc, Ok(((id, desc), rest))),
+        Err(fault) => shown_fault(alloc, fault),
+    }
+}
+
+fn of_item(alloc: Global, names: &Names, text: &[u8]) -> Result<String, Fail> {
+    match item(names, text) {
+        Ok((kind, index, rest)) => shown(alloc, Ok(((kind, index), rest))),
+        Err(fault) => shown_fault(alloc, fault),
+    }
+}
+
+fn of_list<'a>(
+    alloc: Global,
+    profile: Profile,
+    names: &Names<'a>,
+    text: &'a [u8],
+) -> Result<String, Fail> {
+    match read_fields(alloc, profile, names, text) {
+        Ok((module, rest)) => shown_module(alloc, &module, rest),
+        Err(fault) => shown_fault(alloc, fault),
+    }
+}
+
+fn of_text(alloc: Global, profile: Profile, checks: bool, text: &[u8]) -> Result<String, Fail> {
+    match read_text(alloc, profile, text) {
+        Ok(module) if checks => of_module(alloc, profile, &module),
+        Ok(module) => shown_module(alloc, &module, b""),
+        Err(refusal) => shown_refusal(alloc, refusal),
+    }
+}
+
+/// What checking a module gives.
+fn of_module(alloc: Global, profile: Profile, module: &Module) -> Result<String, Fail> {
+    match check(alloc, profile, module) {
+        Ok(checked) => shown_module(alloc, checked.module(), b""),
+        Err(fault) => Ok(format!(in alloc; "{fault:?}")?),
+    }
+}
