@@ -161,8 +161,8 @@ fn a_reader_that_fails(rt: HostRuntime) {
         &mut source,
         &mut dest,
     );
-    assert_eq!(rt; status, Status::Io);
-    assert_eq!(rt; dest.into_inner().len(), 0);
+    assert!(rt; status == Status::Io);
+    assert!(rt; dest.into_inner().is_empty());
 }
 
 /// What a writer gets that takes so many bytes, where the input is a header.
@@ -195,14 +195,20 @@ fn plain_line() -> Line {
     }
 }
 
+fn expect_kind(rt: &impl Abort, error: Option<io::Error>, wanted: ErrorKind) {
+    match error {
+        Some(error) => assert!(rt; error.kind() == wanted, "{error}"),
+        None => assert!(rt; false, "no error"),
+    }
+}
+
 #[test]
 fn errors_of_readers_are_kept(rt: HostRuntime) {
     let mut source = Input::new(Witness::new(Broken));
     let mut dest = Output::new(Vec::new(rt.alloc()));
     let status = run_line(rt.alloc(), &plain_line(), &mut source, &mut dest);
-    assert_eq!(rt; status, Status::Io);
-    let error = source.into_inner().error();
-    assert_eq!(rt; error.map(|e| e.kind()), Some(ErrorKind::Interrupted));
+    assert!(rt; status == Status::Io);
+    expect_kind(&rt, source.into_inner().error(), ErrorKind::Interrupted);
 }
 
 #[test]
@@ -212,10 +218,9 @@ fn errors_of_writers_are_kept(rt: HostRuntime) {
     let taken = Vec::new(rt.alloc());
     let mut dest = Output::new(Witness::new(Narrow { taken, most: 3 }));
     let status = run_line(rt.alloc(), &plain_line(), &mut source, &mut dest);
-    assert_eq!(rt; status, Status::Io);
+    assert!(rt; status == Status::Io);
     assert!(rt; source.into_inner().error().is_none());
-    let error = dest.into_inner().error();
-    assert_eq!(rt; error.map(|e| e.kind()), Some(ErrorKind::BrokenPipe));
+    expect_kind(&rt, dest.into_inner().error(), ErrorKind::BrokenPipe);
 }
 
 fn expect_text(
