@@ -1,15 +1,16 @@
 #!/usr/bin/env python3
 """The gate: `rt ci`, with each library proved once.
 
-`rt ci` proves a library three times: plain, with its tests, and again before its first must-fail edit. Here a first
-check proves all libraries at once, and the three go over what it kept, in a folder of this run's own that begins empty.
-So each module is proved once, and what is refused by `rt ci` is refused here. Edits are first tried some at a time, each
-in another function. At the end stands what each crate cost.
+`rt ci` proves a library three times: plain, with its tests, and again before its first must-fail edit. Here the three
+share one folder of this run's own, which begins empty. So each module is proved once, and what is refused by `rt ci` is
+refused here. Edits are first tried some at a time, each in another function. At the end stands what each crate cost.
 
     .ci/gate.py                  the gate
     .ci/gate.py --keep FOLDER    the same over what an earlier run kept in FOLDER: for one's own work, and no verdict
 """
 import collections
+import importlib.machinery
+import importlib.util
 import os
 import re
 import subprocess
@@ -18,15 +19,21 @@ import tempfile
 import time
 
 sys.dont_write_bytecode = True
-import whole
+RT = os.path.join(os.path.dirname(subprocess.run(["rt", "doc"], capture_output=True, text=True, check=True).stdout.strip()), "bin/rt")
 
-rt = whole.load("rt_of_the_kit", "rt")
+
+def load():
+    loader = importlib.machinery.SourceFileLoader("rt_of_the_kit", RT)
+    made = importlib.util.module_from_spec(importlib.util.spec_from_loader("rt_of_the_kit", loader))
+    loader.exec_module(made)
+    return made
+
+
+rt = load()
 rtlib = rt.rtlib
 ROOM = tempfile.TemporaryDirectory(prefix="gate-")
 KEPT = os.path.abspath(sys.argv[2]) if sys.argv[1:2] == ["--keep"] and len(sys.argv) == 3 else ROOM.name
 TIMES = f"{ROOM.name}/times"
-WHOLE = f"{KEPT}/whole"
-HANDED_ON = set()
 BEGAN = time.time()
 
 # Runs a command and notes what it cost. What no other crate waits for gives way to proofs.
@@ -34,7 +41,6 @@ TIMED = """
 import os, resource, signal, subprocess, sys
 words = sys.argv[2:]
 crate = words[words.index("--crate-name") + 1] if "--crate-name" in words else "programs"
-crate = "all libraries" if "--lib" in words else crate
 is_edit = os.path.basename(os.getcwd()).startswith("rt-edit-")
 part = "edits" if is_edit else "tests" if "--test" in words else "proof"
 if part != "proof":
@@ -55,26 +61,9 @@ FUNCTION = re.compile(r"^([ \t]*)(?:pub(?:\([a-z]+\))? )?(const )?fn (\w+)")
 
 
 def kept_of(crate):
-    """The folder that the crate's checks share, with what the check of all libraries kept of it."""
     folder = f"{KEPT}/{crate.name}"
-    if crate.name not in HANDED_ON:
-        HANDED_ON.add(crate.name)
-        os.makedirs(folder, exist_ok=True)
-        whole.hand_on(WHOLE, crate.name, folder)
+    os.makedirs(folder, exist_ok=True)
     return folder
-
-
-def check_all_libraries():
-    """Fills the folder of kept work. What it doesn't prove is told by the crates' own checks."""
-    root = os.getcwd()
-    crates = [rt.Crate(it.folder, root, {}) for it in rtlib.crates_below(root) if not it.is_program]
-    below = {it.name for crate in crates for it in crate.below()}
-    for crate in crates:
-        if crate.name not in below:
-            rt.say(f"checking {crate.name} and all libraries below it")
-            plain = PlainCrate(crate.folder, root, {})
-            words = [*guarded(), *whole.command(rtlib, plain, rt.processors(), WHOLE)]
-            subprocess.run(words, cwd=crate.folder, stdin=subprocess.DEVNULL, stdout=subprocess.DEVNULL, stderr=subprocess.DEVNULL)
 
 
 def guarded():
@@ -237,8 +226,8 @@ def check_a_copy(crate, texts, flags, kept):
 
 
 def in_lanes(tasks):
-    """First all libraries, on all processors. The tests of a library come after its proof, over whose work they are checked."""
-    check_all_libraries()
+    """A proof, for which all above it waits, takes all processors. The tests of a library come after its proof, over whose
+    work they are checked."""
     for name, part in list(tasks):
         waits, lines, memory, call = tasks[name, part]
         if part == "proof":
