@@ -1,6 +1,7 @@
 //! Tests of what the program writes.
 
 pub(crate) mod rows;
+mod uses;
 
 use crate::run::{run, run_line};
 use crate::status::{Status, exit_code};

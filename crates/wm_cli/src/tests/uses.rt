@@ -1,0 +1,45 @@
+//! The samples of README.md and docs/LIBRARY.md, as callers write them. `.ci/readme.py` holds the pages against these files.
+
+mod admit;
+mod assemble;
+mod rewrite;
+
+use super::Pieces;
+use admit::admit;
+use assemble::assemble;
+use rewrite::rewrite;
+use std::alloc::Global;
+
+/// `examples/add.wasm`.
+const ADD: [u8; 41] = [
+    0x00, 0x61, 0x73, 0x6D, 0x01, 0x00, 0x00, 0x00, 0x01, 0x07, 0x01, 0x60, 0x02, 0x7F, 0x7F, 0x01,
+    0x7F, 0x03, 0x02, 0x01, 0x00, 0x07, 0x07, 0x01, 0x03, 0x61, 0x64, 0x64, 0x00, 0x00, 0x0A, 0x09,
+    0x01, 0x07, 0x00, 0x20, 0x00, 0x20, 0x01, 0x6A, 0x0B,
+];
+
+/// Whether the module is admitted in two pieces, and not where the second is missing.
+fn admits(alloc: Global) -> bool {
+    let (front, rest) = ADD.split_at(20);
+    admit(alloc, &[front, rest]).is_ok() && admit(alloc, &[front]).is_err()
+}
+
+/// Whether the module's one function is written again.
+fn rewrites(alloc: Global) -> bool {
+    let from = Pieces {
+        rest: &ADD,
+        most: 7,
+    };
+    matches!(rewrite(alloc, from, Vec::new(alloc)), Ok(Some(1)))
+}
+
+/// Whether a valid text is taken, and one that is not valid is none.
+fn assembles(alloc: Global) -> bool {
+    assemble(alloc, b"(module)").is_some() && assemble(alloc, b"(module (start 0))").is_none()
+}
+
+#[test]
+fn samples_of_the_pages(rt: HostRuntime) {
+    assert!(rt; admits(rt.alloc()), "admit");
+    assert!(rt; rewrites(rt.alloc()), "rewrite");
+    assert!(rt; assembles(rt.alloc()), "assemble");
+}
