@@ -22,7 +22,7 @@ use wm_syntax::profile::Profile;
 
 mod state;
 #[cfg(test)]
-mod tests;
+pub(crate) mod tests;
 
 pub use state::{Checked, Loader};
 
