@@ -214,7 +214,8 @@ impl Builder {
     pub fn into_module(self) -> Module
         ensures { value_of result ≡ (built self).value }
     {
-        self.module_value
+        let Builder { module_value, .. } = self;
+        module_value
     }
 
     fn begin_type(&mut self) -> Result<(), Why>
