@@ -41,7 +41,8 @@ impl Checked {
         ensures value { result ≡ module_in self }
         ensures loaded { ∥ IsLoaded (value_of result) ∥₁ }
     {
-        self.module_value
+        let Checked { module_value } = self;
+        module_value
     }
 }
 
