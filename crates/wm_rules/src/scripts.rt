@@ -1,6 +1,7 @@
 //! Scripts for tests: a line is a row, with its calls and, behind ` = `, what each of them answers.
 //!
-//! A call is a word and what it is made with: items with a comma between them, or the pieces of an input. There is a `; ` between two calls.
+//! A call is a word and what it is made with: items with a comma between them, or the pieces of an input.
+//! There is a `; ` between two calls.
 
 pub(crate) mod bytes;
 pub(crate) mod items;

@@ -136,8 +136,8 @@ exports: [Export { name: \"é\", kind: Func, index: 1 }], start: Some(2), \
 elements: [Element { table: 0, offset: I32(1), functions: [2, 1] }], \
 segments: [Segment { memory: 0, offset: I32(-1), bytes: [0, 195, 169, 34] }] }";
 
-const REFUSED: &str =
-    "feed ADD:0-26 / 05 / 0B = Ok(()), Err(Refusal { at: 27, why: ElsePlace }), Err(Refusal { at: 27, why: ElsePlace }), Some(Refusal { at: 27, why: ElsePlace })
+const REFUSED: &str = "feed ADD:0-26 / 05 / 0B = \
+Ok(()), Err(Refusal { at: 27, why: ElsePlace }), Err(Refusal { at: 27, why: ElsePlace }), Some(Refusal { at: 27, why: ElsePlace })
 load by 7 EVERY:0-104 = Refusal { at: 104, why: Truncated }
 load_from EVERY:8-105 = Refused(Refusal { at: 1, why: Magic })";
 
@@ -148,8 +148,8 @@ memories: [], globals: [], exports: [], start: Some(7), elements: [], segments: 
 both type, param i32, start 0 = Index Module { types: [FuncType { params: [I32], results: [] }], imports: [], functions: [], \
 tables: [], memories: [], globals: [], exports: [], start: None, elements: [], segments: [] }";
 
-const LARGE: &str =
-    "count by 1 LARGE; count by 4096 LARGE; count LARGE = 1 types 301 imports 1100 functions 513 exports 1 elements 1 segments 300 of a module 300 of an import 300 of an export 5000 ops 4000 indices 6000 bytes";
+const LARGE: &str = "count by 1 LARGE; count by 4096 LARGE; count LARGE = \
+1 types 301 imports 1100 functions 513 exports 1 elements 1 segments 300 of a module 300 of an import 300 of an export 5000 ops 4000 indices 6000 bytes";
 
 #[test]
 fn modules(rt: HostRuntime) {

@@ -19,13 +19,15 @@ const LIMIT: u64 = 1000;
 
 // Within a limit: whole, and cut short.
 const WHOLE: &str =
-    "validate 1000 apart 1 ADD; validate 1000 apart 7 ADD; validate 1000 apart 32 ADD; validate 32 ADD = Ok(Summary { functions: 1, moves: 8, operands: 2, controls: 1, probes: 0 })
+    "validate 1000 apart 1 ADD; validate 1000 apart 7 ADD; validate 1000 apart 32 ADD; validate 32 ADD \
+= Ok(Summary { functions: 1, moves: 8, operands: 2, controls: 1, probes: 0 })
 validate 1000 apart 1 ADD:0-31; validate 1000 apart 7 ADD:0-31; validate 1000 apart 32 ADD:0-31 = Err(Refusal { at: 31, why: Truncated })
 validate 31 ADD = Err(Refusal { at: 32, why: TooLong })";
 
 // A refused index has its place, whatever else lies in the piece.
 const BAD_TYPE: &str =
-    "validate 1000 apart 1 BAD_TYPE; validate 1000 apart 7 BAD_TYPE; validate 1000 apart 21 BAD_TYPE; cut BAD_TYPE = Err(Refusal { at: 20, why: Index })";
+    "validate 1000 apart 1 BAD_TYPE; validate 1000 apart 7 BAD_TYPE; validate 1000 apart 21 BAD_TYPE; cut BAD_TYPE \
+= Err(Refusal { at: 20, why: Index })";
 
 // What is kept after the second get of a local, after the last byte, and after a refusal.
 const KEPT: &str = "read ADD:0-25 /  / ADD:25-30 = 8
