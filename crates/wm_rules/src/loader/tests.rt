@@ -149,7 +149,8 @@ both type, param i32, start 0 = Index Module { types: [FuncType { params: [I32],
 tables: [], memories: [], globals: [], exports: [], start: None, elements: [], segments: [] }";
 
 const LARGE: &str = "count by 1 LARGE; count by 4096 LARGE; count LARGE = \
-1 types 301 imports 1100 functions 513 exports 1 elements 1 segments 300 of a module 300 of an import 300 of an export 5000 ops 4000 indices 6000 bytes";
+1 types 301 imports 1100 functions 513 exports 1 elements 1 segments 300 of a module 300 of an import 300 of an export \
+5000 ops 4000 indices 6000 bytes";
 
 #[test]
 fn modules(rt: HostRuntime) {
