@@ -214,7 +214,8 @@ impl Builder {
     pub fn into_module(self) -> Module
         ensures { value_of result ≡ (built self).value }
     {
-        self.module_value
+        let Builder { module_value, .. } = self;
+        module_value
     }
 
     fn begin_type(&mut self) -> Result<(), Why>
@@ -382,5 +383,75 @@ impl Builder {
             body,
         };
         push(&mut self.module_value.functions, function)
+    }
+}
+
+#[cfg(test)]
+mod tests {
+    use super::*;
+    use crate::tests::{is, is_copy};
+    use wm_syntax::types::Limits;
+
+    /// After a refusal as before. A further field has to be named here.
+    #[test]
+    fn every_field(rt: HostRuntime) {
+        let mut builder = Builder::new(rt.alloc());
+        assert!(rt; builder.take(Item::ExportName(&[0xFF])).is_err());
+        let Builder {
+            alloc,
+            module_value,
+            indices,
+            module_name,
+            item_name,
+            exported,
+            constant,
+            code,
+        } = &builder;
+        is::<Global>(alloc);
+        is::<Module>(module_value);
+        is::<Vec<u32>>(indices);
+        is::<String>(module_name);
+        is::<String>(item_name);
+        is::<String>(exported);
+        is_copy(constant);
+        is::<Option<Code>>(code);
+    }
+
+    #[test]
+    fn every_field_of_a_module(rt: HostRuntime) {
+        let module_value = Module::new(rt.alloc());
+        let Module {
+            types,
+            imports,
+            functions,
+            tables,
+            memories,
+            globals,
+            exports,
+            start,
+            elements,
+            segments,
+        } = &module_value;
+        is::<Vec<FuncType>>(types);
+        is::<Vec<Import>>(imports);
+        is::<Vec<Function>>(functions);
+        is::<Vec<Limits>>(tables);
+        is::<Vec<Limits>>(memories);
+        is::<Vec<GlobalDef>>(globals);
+        is::<Vec<Export>>(exports);
+        is_copy(start);
+        is::<Vec<Element>>(elements);
+        is::<Vec<Segment>>(segments);
+    }
+
+    #[test]
+    fn every_field_of_a_code_entry(rt: HostRuntime) {
+        let code = Code {
+            locals: Locals::new(rt.alloc()),
+            body: BodyBuilder::new(rt.alloc()),
+        };
+        let Code { locals, body } = &code;
+        is::<Locals>(locals);
+        is::<BodyBuilder>(body);
     }
 }

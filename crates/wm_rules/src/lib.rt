@@ -11,6 +11,8 @@ mod limits;
 mod loader;
 mod pieces;
 mod reading;
+#[cfg(test)]
+mod scripts;
 mod spaces;
 #[cfg(test)]
 mod tests;

@@ -22,7 +22,7 @@ use wm_syntax::profile::Profile;
 
 mod state;
 #[cfg(test)]
-mod tests;
+pub(crate) mod tests;
 
 pub use state::{Checked, Loader};
 
@@ -41,7 +41,8 @@ impl Checked {
         ensures value { result ≡ module_in self }
         ensures loaded { ∥ IsLoaded (value_of result) ∥₁ }
     {
-        self.module_value
+        let Checked { module_value } = self;
+        module_value
     }
 }
 

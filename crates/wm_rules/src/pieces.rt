@@ -15,7 +15,7 @@ use wm_decode::Refusal;
 use wm_syntax::profile::Profile;
 
 #[cfg(test)]
-mod tests;
+pub(crate) mod tests;
 
 /// Judges the pieces joined. Memory aside, they are valid exactly where they spell, within the limit, a module
 /// of the profile that is valid (section 3.4.10), however they are cut. What a validator keeps meanwhile is said by

@@ -17,7 +17,7 @@ use wm_decode::{Decoder, Refusal};
 use wm_syntax::profile::Profile;
 
 #[cfg(test)]
-mod tests;
+pub(crate) mod tests;
 
 /// Judges a module that comes in pieces. After a refusal it holds that alone.
 #[derive(Debug, Drop)]

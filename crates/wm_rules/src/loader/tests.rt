@@ -1,203 +1,182 @@
 //! Tests of what is loaded.
 
-ghost use Rattle.std.specs.Prelude.{◌<◌};
-
 use super::*;
-use crate::tests::{ADD, Bytes};
-use crate::{FromFault, load_from};
-use std::test::Fail;
-use wm_decode::{Item, Sink};
-use wm_syntax::instructions::{BinaryOp, Numeric, Op, Simple};
+use crate::load_from;
+use crate::scripts::bytes::{bytes_of, pieces_of};
+use crate::scripts::items::given;
+use crate::scripts::{play, shown};
+use crate::tests::{Bytes, is, is_copy};
+use std::fmt::Write;
+use std::process::Abort;
 use wm_syntax::io::input::Input;
-use wm_syntax::modules::{ExportKind, ImportDesc};
-use wm_syntax::types::{Const, ValType};
-use wm_syntax::why::Why;
 
-/// A module with an entry in each section.
-const EVERY: [u8; 105] = [
-    // the header
-    0x00, 0x61, 0x73, 0x6D, 0x01, 0x00, 0x00, 0x00, //
-    // the types () and (i32)
-    0x01, 0x08, 0x02, 0x60, 0x00, 0x00, 0x60, 0x01, 0x7F, 0x00, //
-    // the import m.f, of type 0
-    0x02, 0x07, 0x01, 0x01, 0x6D, 0x01, 0x66, 0x00, 0x00, //
-    // two functions of types 1 and 0
-    0x03, 0x03, 0x02, 0x01, 0x00, //
-    // a table from 3 on, and a memory from 1 on
-    0x04, 0x04, 0x01, 0x70, 0x00, 0x03, 0x05, 0x03, 0x01, 0x00, 0x01, //
-    // a variable i64 of 5
-    0x06, 0x06, 0x01, 0x7E, 0x01, 0x42, 0x05, 0x0B, //
-    // function 1 as é; the start function is 2
-    0x07, 0x06, 0x01, 0x02, 0xC3, 0xA9, 0x00, 0x01, 0x08, 0x01, 0x02, //
-    // functions 2 and 1 from place 1 on
-    0x09, 0x08, 0x01, 0x00, 0x41, 0x01, 0x0B, 0x02, 0x02, 0x01, //
-    // two locals and an if whose first branch is empty; a block
-    0x0A, 0x13, 0x02, 0x0B, 0x01, 0x02, 0x7E, 0x20, 0x00, 0x04, 0x40, 0x05, 0x01, 0x0B, 0x0B, 0x05,
-    0x00, 0x02, 0x40, 0x0B, 0x0B, //
-    // four bytes from -1 on
-    0x0B, 0x0A, 0x01, 0x00, 0x41, 0x7F, 0x0B, 0x04, 0x00, 0xC3, 0xA9, 0x22,
-];
+const LIMIT: u64 = 100_000;
 
-/// What the bytes spell, in pieces of so many bytes.
-fn load(alloc: Global, bytes: &[u8], size: usize) -> Result<Module, Refusal>
-    requires { 0 < size }
-{
-    let mut loader = Loader::new(alloc, Profile::One, 1000);
-    for piece in bytes.chunks(size) {
-        loader.feed(piece)?;
+/// What the pieces spell.
+fn loaded(rt: &impl Abort, alloc: Global, pieces: &str) -> Result<Module, Refusal> {
+    let mut loader = Loader::new(alloc, Profile::One, LIMIT);
+    for piece in pieces_of(rt, alloc, pieces).as_slice() {
+        // a refusal stays, and the end answers it
+        let _ = loader.feed(piece);
     }
-    let checked = loader.finish()?;
-    Ok(checked.into_module())
-}
-
-#[test]
-fn a_function_in_two_pieces(rt: HostRuntime) -> Result<(), Fail> {
-    let mut loader = Loader::new(rt.alloc(), Profile::One, 1000);
-    loader.feed(&ADD[..28])?;
-    loader.feed(&ADD[28..])?;
-    let checked = loader.finish()?;
-    let add = [
-        Op::Simple(Simple::LocalGet(0)),
-        Op::Simple(Simple::LocalGet(1)),
-        Op::Simple(Simple::Numeric(Numeric::Binary(ValType::I32, BinaryOp::Add))),
-    ];
-    let ops = match checked.module().functions.as_slice() {
-        [function] => function.body.ops(),
-        _ => &[],
-    };
-    assert_eq!(rt; ops, add.as_slice());
-    Ok(())
-}
-
-#[test]
-fn a_misplaced_else_stays_refused(rt: HostRuntime) -> Result<(), Fail> {
-    let refusal = Refusal {
-        at: 27,
-        why: Why::ElsePlace,
-    };
-    let mut loader = Loader::new(rt.alloc(), Profile::One, 1000);
-    loader.feed(&ADD[..26])?;
-    assert_eq!(rt; loader.feed(&[0x05]), Err(refusal));
-    assert_eq!(rt; loader.feed(&[0x0B]), Err(refusal));
-    assert_eq!(rt; loader.finish().err(), Some(refusal));
-    Ok(())
-}
-
-/// That each part of `EVERY` landed.
-fn is_every(module: &Module) -> bool {
-    let [_, with_param] = module.types.as_slice() else {
-        return false;
-    };
-    let [import] = module.imports.as_slice() else {
-        return false;
-    };
-    let [first, second] = module.functions.as_slice() else {
-        return false;
-    };
-    let [global] = module.globals.as_slice() else {
-        return false;
-    };
-    let [export] = module.exports.as_slice() else {
-        return false;
-    };
-    let [element] = module.elements.as_slice() else {
-        return false;
-    };
-    let [segment] = module.segments.as_slice() else {
-        return false;
-    };
-    with_param.params.as_slice() == [ValType::I32].as_slice()
-        && import.module_name.as_str() == "m"
-        && import.item_name.as_str() == "f"
-        && import.desc == ImportDesc::Func(0)
-        && first.type_index == 1
-        && first.locals.run(0) == Some((2, ValType::I64))
-        && first.body.ops()
-            == [
-                Op::Simple(Simple::LocalGet(0)),
-                Op::If(None),
-                Op::Else,
-                Op::Simple(Simple::Nop),
-                Op::End,
-            ]
-            .as_slice()
-        && second.type_index == 0
-        && second.locals.len() == 0
-        && second.body.ops() == [Op::Block(None), Op::End].as_slice()
-        && module.tables.len() == 1
-        && module.memories.len() == 1
-        && global.init == Const::I64(5)
-        && export.name.as_str() == "é"
-        && export.kind == ExportKind::Func
-        && export.index == 1
-        && module.start == Some(2)
-        && element.offset == Const::I32(1)
-        && element.functions.as_slice() == [2, 1].as_slice()
-        && segment.offset == Const::I32(-1)
-        && segment.bytes.as_slice() == [0x00, 0xC3, 0xA9, 0x22].as_slice()
-}
-
-#[test]
-fn pieces_of_any_size_give_the_same_module(rt: HostRuntime) -> Result<(), Fail> {
-    for size in [1, 7, 1000] {
-        let module = load(rt.alloc(), &EVERY, size)?;
-        assert!(rt; is_every(&module));
+    match loader.finish() {
+        Ok(checked) => Ok(checked.into_module()),
+        Err(refusal) => Err(refusal),
     }
-    Ok(())
 }
 
-#[test]
-fn what_is_cut_short_is_refused_at_the_end(rt: HostRuntime) {
-    let refusal = Refusal {
-        at: 104,
-        why: Why::Truncated,
-    };
-    assert_eq!(rt; load(rt.alloc(), &EVERY[..104], 7).err(), Some(refusal));
-}
-
-#[test]
-fn from_a_source(rt: HostRuntime) -> Result<(), Fail> {
-    let mut source = Input::new(Bytes { rest: &EVERY });
-    let checked = load_from(rt.alloc(), &mut source, Profile::One, 1000)?;
-    assert!(rt; is_every(checked.module()));
-    let mut source = Input::new(Bytes { rest: &EVERY[8..] });
-    let magic = FromFault::Refused(Refusal {
-        at: 1,
-        why: Why::Magic,
-    });
-    assert_eq!(rt;
-        load_from(rt.alloc(), &mut source, Profile::One, 1000).err(),
-        Some(magic)
-    );
-    Ok(())
-}
-
-/// Gives a sink these items.
-fn give<S: Sink>(sink: &mut S, items: &[Item]) -> Result<(), Why> {
-    for item in items {
-        sink.take(*item)?;
+/// The module of pieces, or their refusal.
+pub(crate) fn load(rt: &impl Abort, alloc: Global, pieces: &str) -> String {
+    match loaded(rt, alloc, pieces) {
+        Ok(module) => shown(rt, alloc, module),
+        Err(refusal) => shown(rt, alloc, refusal),
     }
-    Ok(())
 }
 
-#[test]
-fn a_builder_alone_takes_what_is_not_valid(rt: HostRuntime) -> Result<(), Fail> {
-    let mut builder = Builder::new(rt.alloc());
-    give(&mut builder, &[Item::Start(7), Item::Func(9)])?;
-    assert_eq!(rt; builder.take(Item::ExportName(&[0xFF])), Err(Why::BadUtf8));
-    let module = builder.into_module();
-    assert_eq!(rt; module.start, Some(7));
-    Ok(())
+/// The same of what a source gives.
+pub(crate) fn load_source(rt: &impl Abort, alloc: Global, bytes: &str) -> String {
+    let bytes = bytes_of(rt, alloc, bytes);
+    let mut source = Input::new(Bytes { rest: &bytes });
+    match load_from(alloc, &mut source, Profile::One, LIMIT) {
+        Ok(checked) => format!(in alloc; "{:?}", checked.module()).expect(rt, "memory"),
+        Err(fault) => shown(rt, alloc, fault),
+    }
 }
 
-#[test]
-fn of_both_the_first_is_asked_first(rt: HostRuntime) -> Result<(), Fail> {
-    let mut both = Both::new(Checker::new(rt.alloc()), Builder::new(rt.alloc()));
-    give(&mut both, &[Item::NewType, Item::Param(ValType::I32)])?;
-    assert_eq!(rt; both.take(Item::Start(0)), Err(Why::Index));
+/// The answer to each piece, and to the end.
+pub(crate) fn feed(rt: &impl Abort, alloc: Global, pieces: &str) -> String {
+    let mut loader = Loader::new(alloc, Profile::One, LIMIT);
+    let mut answer = String::new(alloc);
+    for piece in pieces_of(rt, alloc, pieces).as_slice() {
+        let fed = loader.feed(piece);
+        write!(answer, "{fed:?}, ").expect(rt, "memory");
+    }
+    let end = loader.finish().err();
+    write!(answer, "{end:?}").expect(rt, "memory");
+    answer
+}
+
+/// How many of each part the module of pieces has, and how large the last of them is.
+pub(crate) fn count(rt: &impl Abort, alloc: Global, pieces: &str) -> String {
+    match loaded(rt, alloc, pieces) {
+        Ok(module) => counts_of(rt, alloc, &module),
+        Err(refusal) => shown(rt, alloc, refusal),
+    }
+}
+
+fn counts_of(rt: &impl Abort, alloc: Global, m: &Module) -> String {
+    let mut counts = String::new(alloc);
+    put_count(rt, &mut counts, m.types.len(), "types");
+    put_count(rt, &mut counts, m.imports.len(), "imports");
+    put_count(rt, &mut counts, m.functions.len(), "functions");
+    put_count(rt, &mut counts, m.exports.len(), "exports");
+    put_count(rt, &mut counts, m.elements.len(), "elements");
+    put_count(rt, &mut counts, m.segments.len(), "segments");
+    put_sizes(rt, &mut counts, m);
+    counts.pop();
+    counts
+}
+
+fn put_sizes(rt: &impl Abort, counts: &mut String, m: &Module) {
+    if let Some(last) = m.imports.last() {
+        put_count(rt, counts, last.module_name.len(), "of a module");
+        put_count(rt, counts, last.item_name.len(), "of an import");
+    }
+    if let Some(last) = m.exports.last() {
+        put_count(rt, counts, last.name.len(), "of an export");
+    }
+    if let Some(last) = m.functions.last() {
+        put_count(rt, counts, last.body.ops().len(), "ops");
+    }
+    if let Some(last) = m.elements.last() {
+        put_count(rt, counts, last.functions.len(), "indices");
+    }
+    if let Some(last) = m.segments.last() {
+        put_count(rt, counts, last.bytes.len(), "bytes");
+    }
+}
+
+fn put_count(rt: &impl Abort, counts: &mut String, count: usize, word: &str) {
+    write!(counts, "{count} {word} ").expect(rt, "memory");
+}
+
+/// What a builder alone says of items, and its module then.
+pub(crate) fn build(rt: &impl Abort, alloc: Global, items: &'static str) -> String {
+    let mut builder = Builder::new(alloc);
+    let mut answer = given(rt, alloc, &mut builder, items);
+    write!(answer, " {:?}", builder.into_module()).expect(rt, "memory");
+    answer
+}
+
+/// The same of a builder behind a checker.
+pub(crate) fn both(rt: &impl Abort, alloc: Global, items: &'static str) -> String {
+    let mut both = Both::new(Checker::new(alloc), Builder::new(alloc));
+    let mut answer = given(rt, alloc, &mut both, items);
     let Both { first: _, second } = both;
-    let module = second.into_module();
-    assert_eq!(rt; module.types.len(), 1);
-    assert_eq!(rt; module.start, None);
-    Ok(())
+    write!(answer, " {:?}", second.into_module()).expect(rt, "memory");
+    answer
+}
+
+// A function in two pieces; and a module with an entry in each section, in pieces of any size.
+const MODULES: &str = "\
+load ADD:0-28 / ADD:28-32 = Module { \
+types: [FuncType { params: [I32, I32], results: [I32] }], imports: [], \
+functions: [Function { type_index: 0, locals: Locals { runs: [] }, \
+body: Body { ops: [Simple(LocalGet(0)), Simple(LocalGet(1)), Simple(Numeric(Binary(I32, Add)))] } }], \
+tables: [], memories: [], globals: [], exports: [], start: None, elements: [], segments: [] }
+load by 1 EVERY; load by 7 EVERY; load EVERY; load_from EVERY = Module { \
+types: [FuncType { params: [], results: [] }, FuncType { params: [I32], results: [] }], \
+imports: [Import { module_name: \"m\", item_name: \"f\", desc: Func(0) }], \
+functions: [Function { type_index: 1, locals: Locals { runs: [Run { end: 2, ty: I64 }] }, \
+body: Body { ops: [Simple(LocalGet(0)), If(None), Else, Simple(Nop), End] } }, \
+Function { type_index: 0, locals: Locals { runs: [] }, body: Body { ops: [Block(None), End] } }], \
+tables: [Limits { min: 3, max: None }], memories: [Limits { min: 1, max: None }], \
+globals: [GlobalDef { ty: GlobalType { ty: I64, var: true }, init: I64(5) }], \
+exports: [Export { name: \"é\", kind: Func, index: 1 }], start: Some(2), \
+elements: [Element { table: 0, offset: I32(1), functions: [2, 1] }], \
+segments: [Segment { memory: 0, offset: I32(-1), bytes: [0, 195, 169, 34] }] }";
+
+const REFUSED: &str = "feed ADD:0-26 / 05 / 0B = \
+Ok(()), Err(Refusal { at: 27, why: ElsePlace }), Err(Refusal { at: 27, why: ElsePlace }), Some(Refusal { at: 27, why: ElsePlace })
+load by 7 EVERY:0-104 = Refusal { at: 104, why: Truncated }
+load_from EVERY:8-105 = Refused(Refusal { at: 1, why: Magic })";
+
+// A builder alone takes what is not valid. Of both the first is asked first.
+const ITEMS: &str = "\
+build start 7, func 9, export_not_utf8 = BadUtf8 Module { types: [], imports: [], functions: [], tables: [], \
+memories: [], globals: [], exports: [], start: Some(7), elements: [], segments: [] }
+both type, param i32, start 0 = Index Module { types: [FuncType { params: [I32], results: [] }], imports: [], functions: [], \
+tables: [], memories: [], globals: [], exports: [], start: None, elements: [], segments: [] }";
+
+const LARGE: &str = "count by 1 LARGE; count by 4096 LARGE; count LARGE = \
+1 types 301 imports 1100 functions 513 exports 1 elements 1 segments 300 of a module 300 of an import 300 of an export \
+5000 ops 4000 indices 6000 bytes";
+
+#[test]
+fn modules(rt: HostRuntime) {
+    for script in [MODULES, REFUSED, ITEMS, LARGE] {
+        play(&rt, rt.alloc(), script);
+    }
+}
+
+/// After a refusal nothing but that is held. A further field has to be named here.
+#[test]
+fn every_field_of_a_loader(rt: HostRuntime) {
+    let mut loader = Loader::new(rt.alloc(), Profile::One, LIMIT);
+    assert!(rt; loader.feed(&[0x01]).is_err());
+    let Loader { state } = &loader;
+    is::<Result<Decoder<Both<Checker, Builder>>, Refusal>>(state);
+    match state {
+        Ok(_) => panic!(rt; "a decoder is held"),
+        Err(refusal) => is_copy(refusal),
+    }
+}
+
+/// A further field has to be named here.
+#[test]
+fn every_field_of_both(rt: HostRuntime) {
+    let both = Both::new(Checker::new(rt.alloc()), Builder::new(rt.alloc()));
+    let Both { first, second } = &both;
+    is::<Checker>(first);
+    is::<Builder>(second);
 }

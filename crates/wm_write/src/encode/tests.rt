@@ -1,205 +1,127 @@
+//! Modules and their canonical binaries. A module stands as bytes that spell it, as Debug writes it, and as its canonical binary.
+
 use super::*;
 use crate::narrow::Narrow;
 use std::alloc::Global;
 use std::process::Abort;
-use std::test::Fail;
-use wm_syntax::body::Body;
-use wm_syntax::body_builder::BodyBuilder;
-use wm_syntax::instructions::{BinaryOp, Numeric, Op, Simple};
+use wm_decode::Decoder;
+use wm_rules::Builder;
 use wm_syntax::io::output::Output;
-use wm_syntax::locals::Locals;
-use wm_syntax::modules::{
-    Element, Export, ExportKind, Function, GlobalDef, Import, ImportDesc, Segment,
-};
-use wm_syntax::types::{Const, FuncType, GlobalType, Limits, ValType};
+use wm_syntax::profile::Profile;
 
-fn body_of(alloc: Global, ops: &[Op]) -> Result<Body, Fail> {
-    let mut builder = BodyBuilder::new(alloc);
-    for op in ops {
-        builder.push(*op)?;
-    }
-    Ok(builder.finish()?)
-}
+type Row = (&'static [u8], &'static str, &'static [u8]);
 
-/// A module with one function.
-fn with_function(
-    alloc: Global,
-    params: &[ValType],
-    results: &[ValType],
-    locals: Locals,
-    ops: &[Op],
-) -> Result<Module, Fail> {
-    let mut module = Module::new(alloc);
-    module.types.push(FuncType {
-        params: params.to_vec(alloc)?,
-        results: results.to_vec(alloc)?,
-    })?;
-    module.functions.push(Function {
-        type_index: 0,
-        locals,
-        body: body_of(alloc, ops)?,
-    })?;
-    Ok(module)
-}
+const EMPTY: Row = (
+    b"\0asm\x01\0\0\0",
+    "Module { types: [], imports: [], functions: [], tables: [], memories: [], globals: [], exports: [], \
+start: None, elements: [], segments: [] }",
+    b"\0asm\x01\0\0\0",
+);
 
 /// A function that adds its two parameters, in 32 bytes.
-fn adding(alloc: Global) -> Result<Module, Fail> {
-    let ops = [
-        Op::Simple(Simple::LocalGet(0)),
-        Op::Simple(Simple::LocalGet(1)),
-        Op::Simple(Simple::Numeric(Numeric::Binary(ValType::I32, BinaryOp::Add))),
-    ];
-    let params = [ValType::I32, ValType::I32];
-    with_function(alloc, &params, &[ValType::I32], Locals::new(alloc), &ops)
-}
-
 const ADDING: &[u8] = b"\0asm\x01\0\0\0\x01\x07\x01\x60\x02\x7F\x7F\x01\x7F\x03\x02\x01\x00\
     \x0A\x09\x01\x07\x00\x20\x00\x20\x01\x6A\x0B";
+
+const ADDS: Row = (
+    ADDING,
+    "Module { types: [FuncType { params: [I32, I32], results: [I32] }], imports: [], \
+functions: [Function { type_index: 0, locals: Locals { runs: [] }, \
+body: Body { ops: [Simple(LocalGet(0)), Simple(LocalGet(1)), Simple(Numeric(Binary(I32, Add)))] } }], \
+tables: [], memories: [], globals: [], exports: [], start: None, elements: [], segments: [] }",
+    ADDING,
+);
+
+// An i32, no i64 and two i32 are one run.
+const LOCALS: Row = (
+    b"\0asm\x01\0\0\0\x01\x04\x01\x60\x00\x00\x03\x02\x01\x00\x0A\x0A\x01\x08\x03\x01\x7F\x00\x7E\x02\x7F\x0B",
+    "Module { types: [FuncType { params: [], results: [] }], imports: [], \
+functions: [Function { type_index: 0, locals: Locals { runs: [Run { end: 3, ty: I32 }] }, body: Body { ops: [] } }], \
+tables: [], memories: [], globals: [], exports: [], start: None, elements: [], segments: [] }",
+    b"\0asm\x01\0\0\0\x01\x04\x01\x60\x00\x00\x03\x02\x01\x00\x0A\x06\x01\x04\x01\x03\x7F\x0B",
+);
+
+// An if with a result and an else; its numbers have two bytes each.
+const BRANCHES: Row = (
+    b"\0asm\x01\0\0\0\x01\x05\x01\x60\x00\x01\x7F\x03\x02\x01\x00\
+    \x0A\x11\x01\x0F\x00\x41\x81\x00\x04\x7F\x41\x82\x00\x05\x41\x83\x00\x0B\x0B",
+    "Module { types: [FuncType { params: [], results: [I32] }], imports: [], \
+functions: [Function { type_index: 0, locals: Locals { runs: [] }, body: Body { ops: [Simple(I32Const(1)), If(Some(I32)), \
+Simple(I32Const(2)), Else, Simple(I32Const(3)), End] } }], \
+tables: [], memories: [], globals: [], exports: [], start: None, elements: [], segments: [] }",
+    b"\0asm\x01\0\0\0\x01\x05\x01\x60\x00\x01\x7F\x03\x02\x01\x00\
+    \x0A\x0E\x01\x0C\x00\x41\x01\x04\x7F\x41\x02\x05\x41\x03\x0B\x0B",
+);
+
+const SECTIONS_BYTES: &[u8] = b"\0asm\x01\0\0\0\x01\x06\x01\x60\x01\x7F\x01\x7E\
+    \x02\x0D\x02\x01m\x01f\x00\x00\x01m\x00\x03\x7E\x01\
+    \x03\x02\x01\x00\x04\x04\x01\x70\x00\x01\x05\x04\x01\x01\x01\x02\
+    \x06\x06\x01\x7F\x00\x41\x7F\x0B\x07\x05\x01\x01e\x02\x00\x08\x01\x01\
+    \x09\x09\x01\x00\x41\x00\x0B\x02\x00\xC8\x01\x0A\x05\x01\x03\x00\x01\x0B\
+    \x0B\x08\x01\x00\x23\x00\x0B\x02\x00\xFF";
+
+// Each kind of section, of a module that is not valid.
+const SECTIONS: Row = (
+    SECTIONS_BYTES,
+    "Module { types: [FuncType { params: [I32], results: [I64] }], \
+imports: [Import { module_name: \"m\", item_name: \"f\", desc: Func(0) }, \
+Import { module_name: \"m\", item_name: \"\", desc: Global(GlobalType { ty: I64, var: true }) }], \
+functions: [Function { type_index: 0, locals: Locals { runs: [] }, body: Body { ops: [Simple(Nop)] } }], \
+tables: [Limits { min: 1, max: None }], memories: [Limits { min: 1, max: Some(2) }], \
+globals: [GlobalDef { ty: GlobalType { ty: I32, var: false }, init: I32(-1) }], \
+exports: [Export { name: \"e\", kind: Memory, index: 0 }], start: Some(1), \
+elements: [Element { table: 0, offset: I32(0), functions: [0, 200] }], \
+segments: [Segment { memory: 0, offset: Global(0), bytes: [0, 255] }] }",
+    SECTIONS_BYTES,
+);
+
+/// The module that bytes spell, valid or not.
+fn module_of(rt: &impl Abort, alloc: Global, input: &[u8]) -> Module {
+    let mut decoder = Decoder::new(alloc, Builder::new(alloc), Profile::One, 1000);
+    decoder.feed(input).expect(rt, "what begins a module");
+    let builder = decoder.finish().expect(rt, "a whole module");
+    builder.into_module()
+}
+
+fn expect(rt: &impl Abort, alloc: Global, row: Row) {
+    let (input, shown, wanted) = row;
+    let module = module_of(rt, alloc, input);
+    let text = format!(in alloc; "{module:?}").expect(rt, "memory");
+    assert!(rt; text.as_str() == shown, "{text}");
+    expect_bytes(rt, alloc, &module, wanted);
+}
 
 fn expect_bytes(rt: &impl Abort, alloc: Global, module: &Module, wanted: &[u8]) {
     let mut dest = Output::new(Vec::new(alloc));
     let length = encode(module, &mut dest);
-    assert_eq!(rt; dest.into_inner().as_slice(), wanted);
-    assert_eq!(rt; length, Ok(wanted.len() as u64));
+    assert!(rt; dest.into_inner().as_slice() == wanted);
+    assert!(rt; length == Ok(wanted.len() as u64), "{length:?}");
 }
 
 #[test]
-fn an_empty_module_is_the_header(rt: HostRuntime) {
-    expect_bytes(
-        &rt,
-        rt.alloc(),
-        &Module::new(rt.alloc()),
-        b"\0asm\x01\0\0\0",
-    );
-}
-
-#[test]
-fn a_function_that_adds(rt: HostRuntime) -> Result<(), Fail> {
-    expect_bytes(&rt, rt.alloc(), &adding(rt.alloc())?, ADDING);
-    Ok(())
-}
-
-#[test]
-fn locals_of_one_type_are_one_run(rt: HostRuntime) -> Result<(), Fail> {
-    let mut locals = Locals::new(rt.alloc());
-    locals.add(1, ValType::I32)?;
-    locals.add(0, ValType::I64)?;
-    locals.add(2, ValType::I32)?;
-    let module = with_function(rt.alloc(), &[], &[], locals, &[])?;
-    expect_bytes(
-        &rt,
-        rt.alloc(),
-        &module,
-        b"\0asm\x01\0\0\0\x01\x04\x01\x60\x00\x00\x03\x02\x01\x00\x0A\x06\x01\x04\x01\x03\x7F\x0B",
-    );
-    Ok(())
-}
-
-#[test]
-fn an_if_with_a_result_and_an_else(rt: HostRuntime) -> Result<(), Fail> {
-    let ops = [
-        Op::Simple(Simple::I32Const(1)),
-        Op::If(Some(ValType::I32)),
-        Op::Simple(Simple::I32Const(2)),
-        Op::Else,
-        Op::Simple(Simple::I32Const(3)),
-        Op::End,
-    ];
-    let locals = Locals::new(rt.alloc());
-    let module = with_function(rt.alloc(), &[], &[ValType::I32], locals, &ops)?;
-    expect_bytes(
-        &rt,
-        rt.alloc(),
-        &module,
-        b"\0asm\x01\0\0\0\x01\x05\x01\x60\x00\x01\x7F\x03\x02\x01\x00\
-        \x0A\x0E\x01\x0C\x00\x41\x01\x04\x7F\x41\x02\x05\x41\x03\x0B\x0B",
-    );
-    Ok(())
-}
-
-/// A module with each kind of section, valid or not.
-fn with_all_sections(alloc: Global) -> Result<Module, Fail> {
-    let ops = [Op::Simple(Simple::Nop)];
-    let mut module = with_function(
-        alloc,
-        &[ValType::I32],
-        &[ValType::I64],
-        Locals::new(alloc),
-        &ops,
-    )?;
-    module.imports.push(Import {
-        module_name: String::from_str(alloc, "m")?,
-        item_name: String::from_str(alloc, "f")?,
-        desc: ImportDesc::Func(0),
-    })?;
-    module.imports.push(Import {
-        module_name: String::from_str(alloc, "m")?,
-        item_name: String::from_str(alloc, "")?,
-        desc: ImportDesc::Global(GlobalType {
-            ty: ValType::I64,
-            var: true,
-        }),
-    })?;
-    module.tables.push(Limits { min: 1, max: None })?;
-    module.memories.push(Limits {
-        min: 1,
-        max: Some(2),
-    })?;
-    module.globals.push(GlobalDef {
-        ty: GlobalType {
-            ty: ValType::I32,
-            var: false,
-        },
-        init: Const::I32(-1),
-    })?;
-    module.exports.push(Export {
-        name: String::from_str(alloc, "e")?,
-        kind: ExportKind::Memory,
-        index: 0,
-    })?;
-    module.start = Some(1);
-    module.elements.push(Element {
-        table: 0,
-        offset: Const::I32(0),
-        functions: [0, 200].to_vec(alloc)?,
-    })?;
-    module.segments.push(Segment {
-        memory: 0,
-        offset: Const::Global(0),
-        bytes: [0, 255].to_vec(alloc)?,
-    })?;
-    Ok(module)
-}
-
-#[test]
-fn each_kind_of_section(rt: HostRuntime) -> Result<(), Fail> {
-    expect_bytes(
-        &rt,
-        rt.alloc(),
-        &with_all_sections(rt.alloc())?,
-        b"\0asm\x01\0\0\0\x01\x06\x01\x60\x01\x7F\x01\x7E\
-        \x02\x0D\x02\x01m\x01f\x00\x00\x01m\x00\x03\x7E\x01\
-        \x03\x02\x01\x00\x04\x04\x01\x70\x00\x01\x05\x04\x01\x01\x01\x02\
-        \x06\x06\x01\x7F\x00\x41\x7F\x0B\x07\x05\x01\x01e\x02\x00\x08\x01\x01\
-        \x09\x09\x01\x00\x41\x00\x0B\x02\x00\xC8\x01\x0A\x05\x01\x03\x00\x01\x0B\
-        \x0B\x08\x01\x00\x23\x00\x0B\x02\x00\xFF",
-    );
-    Ok(())
-}
-
-#[test]
-fn a_writer_that_fails_was_given_what_is_counted(rt: HostRuntime) -> Result<(), Fail> {
-    let module = adding(rt.alloc())?;
-    for room in 0..ADDING.len() {
-        let mut dest = Output::new(Narrow::new(rt.alloc(), room));
-        let answer = encode(&module, &mut dest);
-        assert_eq!(rt;
-            answer,
-            Err(WriteFault::Io {
-                written: room as u64
-            })
-        );
-        assert_eq!(rt; dest.into_inner().taken(), &ADDING[..room]);
+fn modules(rt: HostRuntime) {
+    for row in [EMPTY, ADDS, LOCALS, BRANCHES, SECTIONS] {
+        expect(&rt, rt.alloc(), row);
     }
-    Ok(())
+}
+
+fn expect_fault(rt: &impl Abort, alloc: Global, module: &Module, room: usize) {
+    let mut dest = Output::new(Narrow::new(alloc, room));
+    let answer = encode(module, &mut dest);
+    let written = room as u64;
+    assert!(rt;
+        answer == Err(WriteFault::Io { written }),
+        "{room}: {answer:?}"
+    );
+    assert!(rt;
+        Some(dest.into_inner().taken()) == ADDING.get(..room),
+        "{room}"
+    );
+}
+
+#[test]
+fn a_writer_that_fails_was_given_what_is_counted(rt: HostRuntime) {
+    let module = module_of(&rt, rt.alloc(), ADDING);
+    for room in 0..ADDING.len() {
+        expect_fault(&rt, rt.alloc(), &module, room);
+    }
 }

@@ -1,30 +1,12 @@
+//! Modules and their texts.
+
 use super::*;
 use crate::narrow::Narrow;
 use std::alloc::Global;
 use std::process::Abort;
-use std::test::Fail;
 use wm_rules::Loader;
 use wm_syntax::io::output::Output;
 use wm_syntax::profile::Profile;
-
-fn loaded(alloc: Global, input: &[u8]) -> Result<Checked, Fail> {
-    let mut loader = Loader::new(alloc, Profile::One, 4294967295);
-    loader.feed(input)?;
-    Ok(loader.finish()?)
-}
-
-fn expect(rt: &impl Abort, alloc: Global, input: &[u8], wanted: &str) -> Result<(), Fail> {
-    let mut dest = Output::new(Vec::new(alloc));
-    let answer = print(&loaded(alloc, input)?, &mut dest);
-    assert_eq!(rt; dest.into_inner().as_slice(), wanted.as_bytes());
-    assert_eq!(rt; answer, Ok(()));
-    Ok(())
-}
-
-#[test]
-fn a_module_without_fields(rt: HostRuntime) -> Result<(), Fail> {
-    expect(&rt, rt.alloc(), b"\0asm\x01\0\0\0", "(module)\n")
-}
 
 const FIELDS: &[u8] = b"\0asm\x01\0\0\0\x01\x08\x02\x60\x00\x00\x60\x01\x7F\x00\
     \x02\x1D\x04\x01a\x01b\x00\x00\x01a\x01c\x01\x70\x00\x01\x01a\x01d\x03\x7F\x00\x01a\x01e\x03\x7E\x01\
@@ -60,21 +42,13 @@ const FIELDS_TEXT: &str = "(module
 )
 ";
 
-#[test]
-fn each_kind_of_field(rt: HostRuntime) -> Result<(), Fail> {
-    expect(&rt, rt.alloc(), FIELDS, FIELDS_TEXT)
-}
+const BODIES: &[u8] =
+    b"\0asm\x01\0\0\0\x01\x06\x01\x60\x01\x7F\x01\x7F\x02\x08\x01\x01m\x01n\x02\x00\x01\
+    \x03\x02\x01\x00\x04\x05\x01\x70\x01\x01\x02\
+    \x0A\x2A\x01\x28\x02\x02\x7F\x01\x7E\x02\x7F\x20\x00\x28\x02\x08\x0B\x28\x00\x00\x22\x01\x20\x01\
+    \x11\x00\x00\x10\x00\x03\x40\x0B\x42\x7B\x21\x03\x41\x7F\x20\x03\x37\x02\x10\x0B";
 
-#[test]
-fn bodies(rt: HostRuntime) -> Result<(), Fail> {
-    expect(
-        &rt,
-        rt.alloc(),
-        b"\0asm\x01\0\0\0\x01\x06\x01\x60\x01\x7F\x01\x7F\x02\x08\x01\x01m\x01n\x02\x00\x01\
-        \x03\x02\x01\x00\x04\x05\x01\x70\x01\x01\x02\
-        \x0A\x2A\x01\x28\x02\x02\x7F\x01\x7E\x02\x7F\x20\x00\x28\x02\x08\x0B\x28\x00\x00\x22\x01\x20\x01\
-        \x11\x00\x00\x10\x00\x03\x40\x0B\x42\x7B\x21\x03\x41\x7F\x20\x03\x37\x02\x10\x0B",
-        "(module
+const BODIES_TEXT: &str = "(module
   (type $t0 (func (param i32) (result i32)))
   (import \"m\" \"n\" (memory $mem0 1))
   (func $f0 (type $t0)
@@ -98,17 +72,52 @@ fn bodies(rt: HostRuntime) -> Result<(), Fail> {
   )
   (table $tab0 1 2 funcref)
 )
-",
-    )
+";
+
+const ROWS: [(&[u8], &str); 3] = [
+    (b"\0asm\x01\0\0\0", "(module)\n"),
+    (FIELDS, FIELDS_TEXT),
+    (BODIES, BODIES_TEXT),
+];
+
+fn loaded(rt: &impl Abort, alloc: Global, input: &[u8]) -> Checked {
+    let mut loader = Loader::new(alloc, Profile::One, 4294967295);
+    loader.feed(input).expect(rt, "what begins a module");
+    loader.finish().expect(rt, "a valid module")
+}
+
+fn expect(rt: &impl Abort, alloc: Global, input: &[u8], wanted: &str) {
+    let checked = loaded(rt, alloc, input);
+    let mut dest = Output::new(Vec::new(alloc));
+    let answer = print(&checked, &mut dest);
+    assert!(rt;
+        dest.into_inner().as_slice() == wanted.as_bytes(),
+        "{wanted}"
+    );
+    assert!(rt; answer.is_ok(), "{wanted}");
 }
 
 #[test]
-fn a_writer_that_fails_was_given_a_beginning(rt: HostRuntime) -> Result<(), Fail> {
-    let checked = loaded(rt.alloc(), FIELDS)?;
-    for room in 0..FIELDS_TEXT.len() {
-        let mut dest = Output::new(Narrow::new(rt.alloc(), room));
-        assert_eq!(rt; print(&checked, &mut dest), Err(PrintFault::Io));
-        assert_eq!(rt; dest.into_inner().taken(), &FIELDS_TEXT.as_bytes()[..room]);
+fn texts(rt: HostRuntime) {
+    for (input, wanted) in ROWS {
+        expect(&rt, rt.alloc(), input, wanted);
     }
-    Ok(())
+}
+
+fn expect_fault(rt: &impl Abort, alloc: Global, checked: &Checked, room: usize) {
+    let mut dest = Output::new(Narrow::new(alloc, room));
+    let answer = print(checked, &mut dest);
+    assert!(rt; answer == Err(PrintFault::Io), "{room}");
+    assert!(rt;
+        Some(dest.into_inner().taken()) == FIELDS_TEXT.as_bytes().get(..room),
+        "{room}"
+    );
+}
+
+#[test]
+fn a_writer_that_fails_was_given_a_beginning(rt: HostRuntime) {
+    let checked = loaded(&rt, rt.alloc(), FIELDS);
+    for room in 0..FIELDS_TEXT.len() {
+        expect_fault(&rt, rt.alloc(), &checked, room);
+    }
 }
