@@ -10,6 +10,15 @@ text ␊;; names are used before they are defined␊ (module $m␊ (type $t (fun
 text (module) => 0061736d01000000|
 "#;
 
+/// Texts of more than a million bytes, which are checked too, and how many bytes their canonical binaries have.
+/// `3*a|b` stands for `aaab`.
+pub(crate) const LARGE: &str = r#"given )
+large (module (type (func (param |300000*i32 |)))) => 300018 bytes
+large (module (type $type_of_no_parameters (func)) |20000*(func (type $type_of_no_parameters) (local i32) nop)|) => 140028 bytes
+large (module |20000*(memory (;its least is above its greatest;) 0x1 0x0000)|) => Refused(Refusal { at: 18, why: Limits })
+large (module |20000*(type (func (param $of_no_meaning i32) (result i64)))|(start $f)) => UnknownId at 1060015
+"#;
+
 /// What is refused in every profile.
 pub(crate) const REFUSALS: &str = r#"given )
 text => Expected at 0
