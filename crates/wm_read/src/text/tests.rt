@@ -13,10 +13,9 @@ text (module) => 0061736d01000000|
 /// Texts of more than a million bytes, which are checked too, and how many bytes their canonical binaries have.
 /// `3*a|b` stands for `aaab`.
 pub(crate) const LARGE: &str = r#"given )
-large (module (type (func (param |300000*i32 |)))) => 300018 bytes
-large (module (type $type_of_no_parameters (func)) |20000*(func (type $type_of_no_parameters) (local i32) nop)|) => 140028 bytes
-large (module |20000*(memory (;its least is above its greatest;) 0x1 0x0000)|) => Refused(Refusal { at: 18, why: Limits })
-large (module |20000*(type (func (param $of_no_meaning i32) (result i64)))|(start $f)) => UnknownId at 1060015
+large (module (type (func (param |100000*i32(;12345;)|)))) => 100018 bytes
+large (module (type $of_functions_that_take_nothing_and_give_nothing_back_as_many_of_them_as_there_are_in_this_text (func)) |10000*(func (type $of_functions_that_take_nothing_and_give_nothing_back_as_many_of_them_as_there_are_in_this_text) nop)|) => 50025 bytes
+large (module |10000*(memory (;its least is above its greatest, which is read, and refused where the module is checked;) 1 0)|) => Refused(Refusal { at: 17, why: Limits })
 "#;
 
 /// What is refused in every profile.
