@@ -1,6 +1,6 @@
 -- A module is read exactly where the tokens write it.
-use Rattle.std.proofs.Common.{◌≡◌, List, [], ◌∷◌, ◌++◌, Option, Some, None, refl, sym, ap, subst, ◌∙◌, ◌↔◌, append_assoc}
-use Rattle.std.specs.Prelude.{codes}
+use Rattle.std.proofs.Common.{◌≡◌, ◌≤◌, List, [], ◌∷◌, ◌++◌, Option, Some, None, length, refl, sym, ap, subst, ◌∙◌, ◌↔◌, append_assoc}
+use Rattle.std.specs.Prelude.{AllPairs, codes, filter_map}
 use Rattle.std.proofs.lemmas.List.{append-nil}
 use Rattle.wm_syntax.specs.Spelling.{Each, ◌▸◌}
 use Rattle.wm_syntax.specs.declared.profile.Profile.{Profile}
@@ -9,7 +9,7 @@ use Rattle.wm_syntax.specs.Profiles.{IsOf}
 use Rattle.wm_read.specs.Tokens.{Token, open_paren, close_paren, atom}
 use Rattle.wm_read.specs.Identifiers.{Id, WritesId}
 use Rattle.wm_read.specs.Written.{Names}
-use Rattle.wm_read.specs.Fields.{Field, HasDistinct, WritesField, Writes, module_of, names_of}
+use Rattle.wm_read.specs.Fields.{Field, HasDistinct, IsDefinition, IsImport, WritesField, Writes, module_of, names_of, start_of}
 use Rattle.wm_read.specs.exact.Fields.{fields_at}
 use Rattle.wm_read.specs.exact.FirstReading.{Noted, nothing, heads_at, names_in, names_at}
 use Rattle.wm_read.specs.exact.Reading.{◌>>=◌, made, open_at, close_at, atom_at, word_of, id_at}
@@ -166,3 +166,28 @@ one_module p k m n v w = same_some m n (sym (more p k m v) ∙ more p k n w)
 
 pub law_modules : (p : Profile) (k : List Token) (m : Module) → (module_at p k ≡ Some m) ↔ Writes p k m
 law_modules p k m = (found p k m, more p k m)
+
+-- ---- the law of heads
+
+pub heads_are_written : (written names : Names) (fs : List Field) (front more rest : List Token) → Each (WritesField written) fs front → names_at (front ++ close_paren ∷ more) ≡ Some (names, rest)
+    → (names ≡ names_of fs) × (rest ≡ close_paren ∷ more) × AllPairs (λ f g. IsDefinition f → IsImport g → ⊥) fs × (length (filter_map start_of fs) ≤ 1) × HasDistinct (names_of fs)
+heads_are_written written names fs front more rest h e = by (note_all nothing fs) refl
+  where
+    shown : (o : Option Noted) → note_all nothing fs ≡ o → names_at (front ++ close_paren ∷ more) ≡ names_in (o >>= λ t. Some (t, close_paren ∷ more))
+    shown o n = noted_is written fs front more h ∙ ap (λ (z : Option Noted). names_in (z >>= λ t. Some (t, close_paren ∷ more))) n
+
+    by : (o : Option Noted) → note_all nothing fs ≡ o
+        → (names ≡ names_of fs) × (rest ≡ close_paren ∷ more) × AllPairs (λ f g. IsDefinition f → IsImport g → ⊥) fs × (length (filter_map start_of fs) ≤ 1) × HasDistinct (names_of fs)
+    by None n = absurd (let f : ◌≡◌ {A = Option (Names × List Token)} None (Some (names, rest)) = sym (shown None n) ∙ e in cc)
+    by (Some t) n =
+        let is : ◌≡◌ {A = Names × List Token} (t.names, close_paren ∷ more) (names, rest) = same_some (t.names, close_paren ∷ more) (names, rest) (sym (shown (Some t) n) ∙ e) in
+        let rules = rules_kept fs t n in
+        (sym (ap (λ (z : Names × List Token). z.0) is) ∙ rules.0, sym (ap (λ (z : Names × List Token). z.1) is), rules.1.imports_first, rules.1.one_start, rules.1.distinct)
+
+pub heads_are_read : (written : Names) (fs : List Field) (front more : List Token) → Each (WritesField written) fs front
+    → AllPairs (λ f g. IsDefinition f → IsImport g → ⊥) fs → length (filter_map start_of fs) ≤ 1 → HasDistinct (names_of fs)
+    → names_at (front ++ close_paren ∷ more) ≡ Some (names_of fs, close_paren ∷ more)
+heads_are_read written fs front more h order once distinct =
+    let t = rules_noted fs (record { imports_first = order; one_start = once; distinct = distinct }) in
+    noted_is written fs front more h ∙ ap (λ (o : Option Noted). names_in (o >>= λ t. Some (t, close_paren ∷ more))) t.1
+    ∙ ap (λ (z : Names). Some (z, close_paren ∷ more)) t.2

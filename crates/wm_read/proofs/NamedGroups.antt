@@ -17,7 +17,7 @@ use Rattle.wm_read.specs.inner.Views.{Reads}
 use Rattle.wm_read.specs.inner.Named.{named_of, named_list}
 use Rattle.wm_read.proofs.Basics.{chosen, same_some}
 use Rattle.wm_read.proofs.Readers.{Sound, Complete, Any, Begins, BeginsClose, bind_ok, bind_is, is_same, made_sound, made_is, paren_sound, paren_complete, many_sound, many_complete}
-use Rattle.wm_read.proofs.Groups.{NoAtom, many_is}
+use Rattle.wm_read.proofs.Groups.{NoAtom, fails_refused, many_is}
 use Rattle.wm_read.proofs.Immediates.{NotId, type_sound, type_complete}
 use Rattle.wm_read.proofs.Indices.{id_is, is_identifier}
 use Rattle.wm_read.proofs.TypeUseLaws.{types_sound, types_complete}
@@ -237,7 +237,7 @@ unnamed_over front (atom a ∷ k) h = absurd h
 pub named_push : (ns : List Code) (n : Code) → named_list (ns ++ n ∷ []) ≡ named_list ns ++ named_of n ∷ []
 named_push ns n = map-append named_of ns (n ∷ [])
 
-pub ruleset unnamed_laws = (unnamed_more, unnamed_fail, unnamed_over, named_push)
+pub ruleset unnamed_laws = (unnamed_more, unnamed_fail, unnamed_over, named_push, fails_refused)
 
 -- ---- what may be in a group
 

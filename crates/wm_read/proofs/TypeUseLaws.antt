@@ -291,6 +291,13 @@ call_sound names k x rest e =
       | inr p ↦ use_sound names k x rest (g.1 ∙ p.1)
     ]
 
+not_open : (k : List Token) → begins_open k ≡ false → NotOpen k
+not_open [] e = tt
+not_open (open_paren ∷ k) e = absurd cc
+not_open (close_paren ∷ k) e = tt
+not_open (string b ∷ k) e = tt
+not_open (atom a ∷ k) e = tt
+
 call_complete : (names : Names) → AreDistinct names.types → Complete (call_use_at names) (UnnamedTypeUse names) NotOpen
 unfolding call_use_at
 call_complete names d x front rest h f =
@@ -299,3 +306,6 @@ call_complete names d x front rest h f =
 
 pub reads_use : (names : Names) → AreDistinct names.types → ReadsUse (call_use_at names) names
 reads_use names d = record { sound = call_sound names; complete = call_complete names d }
+
+pub calls_are_read : (names : Names) → AreDistinct names.types → (x : ℕ) (front rest : List Token) → UnnamedTypeUse names x front → begins_open rest ≡ false → call_use_at names (front ++ rest) ≡ Some (x, rest)
+calls_are_read names d x front rest h e = call_complete names d x front rest h (not_open rest e)

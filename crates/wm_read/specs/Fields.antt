@@ -54,6 +54,8 @@ pub data Field : Type 0 where
   element_field : Element → Field
   segment_field : Segment → Field
 
+-- What an import brings in. The identifiers of a function's parameters mean nothing, so two of them may be the same,
+-- which section 6.6.3 does not allow.
 abbrev pub WritesDesc : Names → Id → ImportDesc → Form Token
 WritesDesc names id (Func x) = λ k. (ps : List Named) × Paren (codes "func") (WritesId id ▸ TypeUse names x ps) k
 WritesDesc names id (Table l) = Paren (codes "table") (WritesId id ▸ WritesTableType l)

@@ -24,7 +24,8 @@ WritesId (Some name) = λ k. IsIdentifier name × (k ≡ atom name ∷ [])
 abbrev pub IsIndex : Ids → ℕ → List ℕ → Type 0
 IsIndex ids x a = (x < 2 ^ 32) × (IsUnsigned 32 x a ⊎ (IsIdentifier a × (slice_get ids x ≡ Some (Some a))))
 
--- of labels, innermost first, an identifier means the nearest that has it
+-- Of labels, innermost first, an identifier means the nearest that has it. So blocks within one another may share one,
+-- which section 6.5.1 does not allow.
 abbrev pub IsLabel : Ids → ℕ → List ℕ → Type 0
 IsLabel labels l a =
     (l < 2 ^ 32)

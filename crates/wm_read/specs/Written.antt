@@ -123,7 +123,8 @@ abbrev pub WritesBlockType : Option ValType → Form Token
 WritesBlockType None = Nothing
 WritesBlockType (Some t) = Paren (codes "result") (WritesType t)
 
--- the word else or end, and the block's identifier once more, or not
+-- The word else or end, and the block's identifier once more, or not. So it may follow the end of an if without else,
+-- where section 6.5.2 has none.
 abbrev pub Closes : List ℕ → Id → Form Token
 Closes word None = Word word
 Closes word (Some name) = Word word ∣ Exactly (atom word ∷ atom name ∷ [])

@@ -24,6 +24,7 @@ use wm_syntax::body::Body;
 use wm_syntax::body_builder::{BodyBuilder, BodyFault};
 use wm_syntax::instructions::Op;
 use wm_syntax::profile::Profile;
+use wm_syntax::types::ValType;
 
 /// A body that is being read: its ops so far, and the blocks that are open.
 #[derive(Debug, Drop)]
@@ -75,6 +76,24 @@ fn push_table(builder: &mut BodyBuilder, labels: &[u32], default: u32) -> Result
     push(builder, Op::Label(default))
 }
 
+/// The op that opens a block of this type.
+fn opening_op(opening: Opening, ty: Option<ValType>) -> Op
+    ensures { result ≡ flat.opening_op opening ty }
+{
+    match opening {
+        Opening::Block => Op::Block(ty),
+        Opening::Loop => Op::Loop(ty),
+        Opening::If => Op::If(ty),
+    }
+}
+
+/// Whether an `else` may follow.
+fn is_if(opening: Opening) -> bool
+    ensures { result ≡ flat.is_if opening }
+{
+    matches!(opening, Opening::If)
+}
+
 /// Adds a piece that may stand next. An error leaves a body of which nothing is known.
 fn add<'a>(body: &mut OpenBody<'a>, piece: Piece<'a>) -> Result<(), TextFault>
     requires fits { FitsPiece (piece_of piece) }
@@ -86,17 +105,9 @@ fn add<'a>(body: &mut OpenBody<'a>, piece: Piece<'a>) -> Result<(), TextFault>
     match piece {
         Piece::Plain(simple) => push(&mut body.builder, Op::Simple(simple))?,
         Piece::Table(labels, default) => push_table(&mut body.builder, &labels, default)?,
-        Piece::Opens(Opening::Block, id, ty) => {
-            push(&mut body.builder, Op::Block(ty))?;
-            body.blocks.open(id, false)?;
-        }
-        Piece::Opens(Opening::Loop, id, ty) => {
-            push(&mut body.builder, Op::Loop(ty))?;
-            body.blocks.open(id, false)?;
-        }
-        Piece::Opens(Opening::If, id, ty) => {
-            push(&mut body.builder, Op::If(ty))?;
-            body.blocks.open(id, true)?;
+        Piece::Opens(opening, id, ty) => {
+            push(&mut body.builder, opening_op(opening, ty))?;
+            body.blocks.open(id, is_if(opening))?;
         }
         Piece::Middle => {
             push(&mut body.builder, Op::Else)?;

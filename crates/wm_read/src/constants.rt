@@ -10,8 +10,7 @@ ghost use Rattle.wm_read.specs.inner.Views.{IsRefusal, Reads};
 use crate::faults::{TextFault, TextWhy};
 use crate::identifiers::Names;
 use crate::lexeme::{Lexeme, next_token};
-use crate::literals::{is_float, is_word};
-use crate::operands::{index, integer_32, integer_64, open, refuse, word};
+use crate::operands::{index, integer_32, integer_64, no_instruction, open, refuse, word};
 use wm_syntax::instructions::Op;
 use wm_syntax::op_class::{Immediates, OpClass};
 use wm_syntax::op_names::op_named;
@@ -26,15 +25,7 @@ fn no_constant(profile: Profile, atom: &[u8], text: &[u8]) -> TextFault
         OpClass::Plain(Op::Else) | OpClass::Plain(Op::End) => refuse(TextWhy::UnknownWord, text),
         OpClass::Plain(_) | OpClass::With(_) => refuse(TextWhy::NotConst, text),
         OpClass::Float => refuse(TextWhy::Float, text),
-        OpClass::None => {
-            if is_float(atom) {
-                refuse(TextWhy::Float, text)
-            } else if is_word(atom) {
-                refuse(TextWhy::UnknownWord, text)
-            } else {
-                refuse(TextWhy::Expected, text)
-            }
-        }
+        OpClass::None => no_instruction(atom, text),
     }
 }
 

@@ -190,6 +190,16 @@ fn inside<'a>(
     }
 }
 
+/// The parenthesis after a field of this kind.
+fn field_end(profile: Profile, kind: FieldKind, text: &[u8]) -> Result<&[u8], TextFault>
+    ensures { Reads (λ r. (tt, lexed r.now)) result (reading.close_at (lexed text.now)) }
+{
+    match kind {
+        FieldKind::Global => constant_end(profile, text),
+        _ => close(text),
+    }
+}
+
 /// A field.
 #[tactic(auto, unfolding(crate::specs::exact::Fields::field_at))]
 pub fn read_field<'a>(
@@ -204,9 +214,6 @@ pub fn read_field<'a>(
     let rest = open(text)?;
     let (kind, rest) = field_kind(rest)?;
     let (field, rest) = inside(alloc, profile, names, kind, rest)?;
-    let rest = match kind {
-        FieldKind::Global => constant_end(profile, rest)?,
-        _ => close(rest)?,
-    };
+    let rest = field_end(profile, kind, rest)?;
     Ok((field, rest))
 }

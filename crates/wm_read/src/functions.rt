@@ -175,7 +175,7 @@ fn first_fault(alloc: Global, names: &Names, fault: TextFault, text: &[u8]) -> T
     if fault.why == TextWhy::Memory {
         return fault;
     }
-    let Ok((_, rest)) = type_index(&names.types, text) else {
+    let Ok((_, rest)) = type_index(names, text) else {
         return fault;
     };
     match earlier(alloc, rest, fault.left, 0xFFFF_FFFF) {

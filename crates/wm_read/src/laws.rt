@@ -1,14 +1,15 @@
 //! Laws of the definitions, as the contracts of functions that do nothing.
 
-ghost use Rattle.std.specs.Prelude.{◌≡◌, ◌↔◌, ◌∷◌, ◌++◌, [], ℕ, List, Some, codes, false};
-ghost use Rattle.wm_read.specs.Fields.{Field, HasDistinct, Writes, WritesField, module_of};
+ghost use Rattle.std.specs.Prelude.{◌≡◌, ◌↔◌, ◌≤◌, ◌∷◌, ◌++◌, [], AllPairs, ℕ, List, Some, codes, false, filter_map, length};
+ghost use Rattle.wm_read.specs.Fields.{Field, HasDistinct, IsDefinition, IsImport, Writes, WritesField, module_of, names_of, start_of};
 ghost use Rattle.wm_read.specs.Identifiers.{AreDistinct};
 ghost use Rattle.wm_read.specs.Tokens.{Token, Tokens, close_paren};
-ghost use Rattle.wm_read.specs.Written.{Named, Names, Scope, TypeUse, WritesGroups, WritesInstructions};
+ghost use Rattle.wm_read.specs.Written.{Named, Names, Scope, TypeUse, UnnamedTypeUse, WritesGroups, WritesInstructions};
 ghost use Rattle.wm_read.specs.exact.Fields.{fields_at};
+ghost use Rattle.wm_read.specs.exact.FirstReading.{names_at};
 ghost use Rattle.wm_read.specs.exact.NamedUses.{named_use_at};
 ghost use Rattle.wm_read.specs.exact.TextModules.{module_at};
-ghost use Rattle.wm_read.specs.exact.TypeUses.{begins_group, instructions_at, named_at};
+ghost use Rattle.wm_read.specs.exact.TypeUses.{begins_group, begins_open, call_use_at, instructions_at, named_at};
 ghost use Rattle.wm_rules.specs.Loading.{Loads};
 ghost use Rattle.wm_syntax.specs.Instructions.{Instructions};
 ghost use Rattle.wm_syntax.specs.Modules.{Module};
@@ -51,7 +52,7 @@ pub fn groups_are_read_as_written()
 {}
 
 /// What is read of a type use is what the tokens write; and, where identifiers of types are distinct, what tokens write
-/// is read where no further form of a type use follows.
+/// is read where no further form of a type use follows. So is that of a call_indirect, where no form at all follows.
 pub fn type_uses_are_read_as_written()
     ensures read { (names : Names) (k : List Token) (u : ℕ × List Named) (rest : List Token) → named_use_at names k ≡ Some (u, rest)
         → (front : List Token) × (k ≡ front ++ rest) × TypeUse names u.0 u.1 front }
@@ -59,6 +60,23 @@ pub fn type_uses_are_read_as_written()
         → TypeUse names u.0 u.1 front
         → (begins_group (codes "param") rest ≡ false) × (begins_group (codes "result") rest ≡ false)
         → named_use_at names (front ++ rest) ≡ Some (u, rest) }
+    ensures call_read { (names : Names) (k : List Token) (x : ℕ) (rest : List Token) → call_use_at names k ≡ Some (x, rest)
+        → (front : List Token) × (k ≡ front ++ rest) × UnnamedTypeUse names x front }
+    ensures call_written { (names : Names) → AreDistinct names.types → (x : ℕ) (front rest : List Token)
+        → UnnamedTypeUse names x front → begins_open rest ≡ false → call_use_at names (front ++ rest) ≡ Some (x, rest) }
+{}
+
+/// The first reading of the fields that tokens write finds what they define. It does so exactly where imports stand before
+/// definitions, at most one field is a start, and identifiers are distinct in their spaces.
+pub fn heads_are_read_as_written()
+    ensures read { (written names : Names) (fields : List Field) (front more rest : List Token)
+        → Each (WritesField written) fields front → names_at (front ++ close_paren ∷ more) ≡ Some (names, rest)
+        → (names ≡ names_of fields) × (rest ≡ close_paren ∷ more) × AllPairs (λ f g. IsDefinition f → IsImport g → ⊥) fields
+        × (length (filter_map start_of fields) ≤ 1) × HasDistinct (names_of fields) }
+    ensures written { (written : Names) (fields : List Field) (front more : List Token)
+        → Each (WritesField written) fields front → AllPairs (λ f g. IsDefinition f → IsImport g → ⊥) fields
+        → length (filter_map start_of fields) ≤ 1 → HasDistinct (names_of fields)
+        → names_at (front ++ close_paren ∷ more) ≡ Some (names_of fields, close_paren ∷ more) }
 {}
 
 /// Where identifiers are distinct in their spaces: what is read of fields is what the tokens write, with instructions of

@@ -1,30 +1,30 @@
 //! The text format (chapter 6), read.
 #![tactic(auto)]
 
-pub mod blocks;
-pub mod bodies;
+mod blocks;
+mod bodies;
 pub mod check;
-pub mod constants;
+mod constants;
 pub mod faults;
-pub mod field_lists;
-pub mod field_strings;
-pub mod field_types;
-pub mod field_words;
-pub mod fields;
-pub mod functions;
-pub mod heads;
-pub mod identifiers;
-pub mod items;
+mod field_lists;
+mod field_strings;
+mod field_types;
+mod field_words;
+mod fields;
+mod functions;
+mod heads;
+mod identifiers;
+mod items;
 pub mod laws;
-pub mod lexeme;
-pub mod literals;
-pub mod named;
-pub mod named_uses;
-pub mod operands;
-pub mod pieces;
+mod lexeme;
+mod literals;
+mod named;
+mod named_uses;
+mod operands;
+mod pieces;
 #[cfg(test)]
 mod rows;
 mod scan;
-pub mod signatures;
+mod signatures;
 pub mod text;
-pub mod type_uses;
+mod type_uses;

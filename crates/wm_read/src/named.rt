@@ -7,10 +7,10 @@ ghost use Rattle.wm_read.specs.exact.TypeUses as uses;
 ghost use Rattle.wm_read.specs.inner.Named.{named_list};
 ghost use Rattle.wm_read.specs.inner.Views.{Reads};
 
-use crate::faults::{TextFault, TextWhy};
+use crate::faults::TextFault;
 use crate::lexeme::{Lexeme, next_token};
-use crate::literals::{is_float, is_id};
-use crate::operands::{close, named_type, open, refuse, val_type, word};
+use crate::literals::is_id;
+use crate::operands::{close, named_type, no_type, open, val_type, word};
 use crate::type_uses::begins_group;
 use std::alloc::Global;
 use wm_syntax::types::ValType;
@@ -36,13 +36,7 @@ fn unnamed<'a>(named: &mut Vec<Named<'a>>, text: &'a [u8]) -> Result<&'a [u8], T
                     named.push(Named { id: None, ty })?;
                     rest = more;
                 }
-                None => {
-                    if is_float(atom) {
-                        return Err(refuse(TextWhy::Float, rest));
-                    } else {
-                        return Err(refuse(TextWhy::Expected, rest));
-                    }
-                }
+                None => return Err(no_type(atom, rest)),
             },
             _ => return Ok(rest),
         }

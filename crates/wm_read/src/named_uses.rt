@@ -93,7 +93,7 @@ pub fn named_use<'n, 'a>(
     ensures { Reads (λ x. ((x.0.index, params_of x.0.params), lexed x.1.now)) result
         (uses.named_use_at (names_of names.now) (lexed text.now)) }
 {
-    let (index, rest) = type_index(&names.types, text)?;
+    let (index, rest) = type_index(names, text)?;
     match type_at(names, index) {
         Some(ty) => {
             let (params, rest) = named::groups(alloc, b"param", rest)?;

@@ -244,6 +244,30 @@ pub fn named_type(atom: &[u8]) -> Option<ValType>
     }
 }
 
+/// What is wrong with an atom, the first token of a text, that is no value type.
+pub fn no_type(atom: &[u8], text: &[u8]) -> TextFault
+    ensures { IsRefusal result.why }
+{
+    if is_float(atom) {
+        refuse(TextWhy::Float, text)
+    } else {
+        refuse(TextWhy::Expected, text)
+    }
+}
+
+/// What is wrong with an atom, the first token of a text, that names no instruction.
+pub fn no_instruction(atom: &[u8], text: &[u8]) -> TextFault
+    ensures { IsRefusal result.why }
+{
+    if is_float(atom) {
+        refuse(TextWhy::Float, text)
+    } else if is_word(atom) {
+        refuse(TextWhy::UnknownWord, text)
+    } else {
+        refuse(TextWhy::Expected, text)
+    }
+}
+
 /// A value type.
 pub fn val_type(text: &[u8]) -> Result<(ValType, &[u8]), TextFault>
     ensures { Reads (λ x. (x.0, lexed x.1.now)) result (reading.atom_at reading.type_of (lexed text.now)) }
@@ -251,13 +275,7 @@ pub fn val_type(text: &[u8]) -> Result<(ValType, &[u8]), TextFault>
     match next_token(text) {
         Some((Lexeme::Atom(atom), rest)) => match named_type(atom) {
             Some(ty) => Ok((ty, rest)),
-            None => {
-                if is_float(atom) {
-                    Err(refuse(TextWhy::Float, text))
-                } else {
-                    Err(refuse(TextWhy::Expected, text))
-                }
-            }
+            None => Err(no_type(atom, text)),
         },
         _ => Err(refuse(TextWhy::Expected, text)),
     }

@@ -15,10 +15,10 @@ use crate::blocks::{OpenBlocks, Opening};
 use crate::faults::{TextFault, TextWhy};
 use crate::identifiers::{Names, Scope};
 use crate::lexeme::{Lexeme, next_token};
-use crate::literals::{is_float, is_word};
 use crate::named_uses::call_fault;
 use crate::operands::{
-    access, again, begins_index, block_type, id, index, integer_32, integer_64, label, refuse,
+    access, again, begins_index, block_type, id, index, integer_32, integer_64, label,
+    no_instruction, refuse,
 };
 use crate::type_uses::type_use;
 use std::alloc::Global;
@@ -253,13 +253,7 @@ pub fn read_piece<'a>(
         OpClass::With(Immediates::CallIndirect) => indirect(alloc, scope.names, text),
         OpClass::With(kind) => operand(scope, blocks, kind, text),
         OpClass::Float => Err(refuse(TextWhy::Float, here)),
-        OpClass::None => {
-            if is_float(word) {
-                Err(refuse(TextWhy::Float, here))
-            } else {
-                Err(refuse(TextWhy::UnknownWord, here))
-            }
-        }
+        OpClass::None => Err(no_instruction(word, here)),
     }
 }
 

@@ -39,6 +39,8 @@ const FIRST: [&str; 21] = [
 
 const TEXTS: [&str; 2] = [text::tests::MODULES, text::tests::REFUSALS];
 
+const LARGE: [&str; 1] = [text::tests::LARGE];
+
 const BLOCKS: [&str; 1] = [bodies::tests::NESTED];
 
 const COMMENTS: [&str; 1] = [lexeme::tests::NESTED];
@@ -57,6 +59,11 @@ fn first_profile(rt: HostRuntime) -> Result<(), Fail> {
 #[test]
 fn texts(rt: HostRuntime) -> Result<(), Fail> {
     play_all(&rt, rt.alloc(), Profile::One, &TEXTS)
+}
+
+#[test]
+fn large_texts(rt: HostRuntime) -> Result<(), Fail> {
+    play_all(&rt, rt.alloc(), Profile::One, &LARGE)
 }
 
 #[test]

@@ -51,6 +51,20 @@ fn all_names<'a>(alloc: Global, text: &'a [u8]) -> Result<Names<'a>, TextFault>
     Ok(names)
 }
 
+/// The module of the fields that stand first, which a closing parenthesis follows.
+fn module_within<'a>(
+    alloc: Global,
+    profile: Profile,
+    names: &Names<'a>,
+    text: &'a [u8],
+) -> Result<Module, TextFault>
+    ensures { Reads value_of result (modules.module_within profile (names_of names.now) (lexed text.now)) }
+{
+    let (module, rest) = read_fields(alloc, profile, names, text)?;
+    close(rest)?;
+    Ok(module)
+}
+
 /// The module that the tokens of a whole text write: first what its fields define is read, and then the fields.
 #[tactic(auto, unfolding(crate::specs::exact::TextModules::module_at))]
 fn read_module(alloc: Global, profile: Profile, text: &[u8]) -> Result<Module, TextFault>
@@ -58,9 +72,7 @@ fn read_module(alloc: Global, profile: Profile, text: &[u8]) -> Result<Module, T
 {
     let inner = frame(text)?;
     let names = all_names(alloc, inner)?;
-    let (module, rest) = read_fields(alloc, profile, &names, inner)?;
-    close(rest)?;
-    Ok(module)
+    module_within(alloc, profile, &names, inner)
 }
 
 /// The module that a text writes (chapter 6), of the profile. A text that is no UTF-8 is refused first, then the first

@@ -9,24 +9,13 @@ ghost use Rattle.wm_read.specs.inner.Blocks.{names_of};
 ghost use Rattle.wm_read.specs.inner.Views.{IsRefusal, Reads};
 
 use crate::faults::{TextFault, TextWhy};
-use crate::identifiers::{Names, Space};
+use crate::identifiers::Names;
 use crate::lexeme::{Lexeme, next_token};
-use crate::literals::{is, is_float};
-use crate::operands::{close, index, named_type, open, refuse, word};
+use crate::literals::is;
+use crate::operands::{close, index, named_type, no_type, open, refuse, word};
 use std::alloc::Global;
 use wm_syntax::equality::same_list;
 use wm_syntax::types::{FuncType, ValType};
-
-/// What is wrong with an atom, the first token of a text, where a type is expected.
-fn no_type(atom: &[u8], text: &[u8]) -> TextFault
-    ensures { IsRefusal result.why }
-{
-    if is_float(atom) {
-        refuse(TextWhy::Float, text)
-    } else {
-        refuse(TextWhy::Expected, text)
-    }
-}
 
 /// Adds value types up to what is no atom.
 #[tactic(auto, using(crate::proofs::Groups::types_laws))]
@@ -128,16 +117,28 @@ pub(crate) fn no_form(text: &[u8]) -> Result<(), TextFault>
     }
 }
 
+/// What is wrong behind `( type idx`, which is not closed there: the index, if no type has it, or what stands there.
+fn unclosed(names: &Names, x: u32, at_index: &[u8], rest: &[u8]) -> TextFault
+    ensures { IsRefusal result.why }
+{
+    match type_at(names, x) {
+        Some(_) => refuse(TextWhy::Expected, rest),
+        None => refuse(TextWhy::TypeUse, at_index),
+    }
+}
+
 /// `( type idx )`
-pub(crate) fn type_index<'a>(space: &Space, text: &'a [u8]) -> Result<(u32, &'a [u8]), TextFault>
+pub(crate) fn type_index<'a>(names: &Names, text: &'a [u8]) -> Result<(u32, &'a [u8]), TextFault>
     ensures { Reads (λ x. (x.0, lexed x.1.now)) result
-        (reading.paren_at (codes "type") (reading.atom_at (reading.index_of space.now)) (lexed text.now)) }
+        (reading.paren_at (codes "type") (reading.atom_at (reading.index_of (names_of names.now).types)) (lexed text.now)) }
 {
     let rest = open(text)?;
-    let rest = word(b"type", rest)?;
-    let (x, rest) = index(space, rest)?;
-    let rest = close(rest)?;
-    Ok((x, rest))
+    let at_index = word(b"type", rest)?;
+    let (x, rest) = index(&names.types, at_index)?;
+    match next_token(rest) {
+        Some((Lexeme::Close, rest)) => Ok((x, rest)),
+        _ => Err(unclosed(names, x, at_index, rest)),
+    }
 }
 
 /// The type with this index.
@@ -157,7 +158,7 @@ pub fn type_use<'a>(
 ) -> Result<(u32, &'a [u8]), TextFault>
     ensures { Reads (λ x. (x.0, lexed x.1.now)) result (uses.call_use_at (names_of names.now) (lexed text.now)) }
 {
-    let (x, rest) = type_index(&names.types, text)?;
+    let (x, rest) = type_index(names, text)?;
     match type_at(names, x) {
         Some(ty) => {
             let (params, rest) = groups(alloc, b"param", rest)?;

@@ -37,8 +37,11 @@ pub(crate) const REFUSALS: &str =
 ;; what stands where no instruction can
 body nop (nop)) => Expected at 4
 body nop "a") => Expected at 4
-body nop 7) => UnknownWord at 4
-body nop $a) => UnknownWord at 4
+body nop 7) => Expected at 4
+body nop $a) => Expected at 4
+body i32.const 0 1) => Expected at 12
+body block nop $a end) => Expected at 10
+body else 7) => UnknownWord at 0
 body nope) => UnknownWord at 0
 body get_local 0) => UnknownWord at 0
 body i32.extend8_s) => UnknownWord at 0
@@ -82,6 +85,8 @@ body i32.load align=1 offset=0) => UnknownWord at 17
 body call_indirect nop) => Expected at 14
 body call_indirect (type 2)) => TypeUse at 20
 body call_indirect (type $t)) => UnknownId at 20
+body call_indirect (type 2 nop)) => TypeUse at 20
+body call_indirect (type 1 nop)) => Expected at 22
 body call_indirect (type 1) (param i32)) => TypeUse at 20
 body call_indirect (type 0) (result i64)) => TypeUse at 20
 body call_indirect (type 1) (param $a i32)) => TypeUse at 20
@@ -97,6 +102,8 @@ body call_indirect (type 2) (param $a i32)) => TypeUse at 20
 body call_indirect (type 1) (result $a i64)) => Expected at 31
 body call_indirect (type 1) (param $b i32) (result $a i64)) => TypeUse at 30
 body call_indirect (type 1) (param f32)) => Float at 30
+body call_indirect (type 1) (param i32 f64)) => Float at 34
+body call_indirect (type 1) (result i64 f32)) => Float at 35
 body call_indirect (type 1) (nop)) => Expected at 24
 body call_indirect (type 1) (result i64) (param)) => Expected at 37
 "#;

@@ -11,6 +11,7 @@ desc (start 0) => Expected, 8 left
 desc (func (type 0) (local)) => Expected, 7 left
 desc (func (type 0) nop) => Expected, 4 left
 desc (func (type 1)) => TypeUse, 3 left
+desc (func (type 1 x)) => TypeUse, 5 left
 desc (func (type 0) (param i64)) => TypeUse, 15 left
 desc (func (type 0) (result i64) (param)) => Expected, 7 left
 desc (func $x $y (type 0)) => Expected, 12 left

@@ -8,6 +8,9 @@ params (param $a) => Expected, 1 left
 params (param $a i32 i32) => Expected, 4 left
 params (param i32 $a i32) => Expected, 7 left
 params (param f32) => Float, 4 left
+params (param i64 f64) => Float, 4 left
+params (param i64 i32.f64) => Expected, 8 left
+params (param i32 7) => Expected, 2 left
 params (param (param)) => Expected, 8 left
 params (param i32 => Expected, 0 left
 "#;

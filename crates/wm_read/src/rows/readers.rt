@@ -1,6 +1,8 @@
 //! The readers that rows ask.
 
-use super::shown::{repeated, shown, shown_fault, shown_module, shown_refusal, shown_tokens};
+use super::shown::{
+    repeated, shown, shown_fault, shown_length, shown_module, shown_refusal, shown_tokens,
+};
 use crate::bodies::read_body;
 use crate::check::check;
 use crate::constants::{constant, offset};
@@ -41,6 +43,7 @@ pub(super) fn answer(
         "names" => of_all(alloc),
         "sentence" => of_one(alloc),
         "many" => of_many(alloc, text),
+        "large" => of_large(alloc, profile, text),
         "earlier" => of_earlier(alloc, text),
         "place" => of_place(alloc, Space::new(alloc), text),
         "behind" => of_behind(alloc, text),
@@ -51,6 +54,18 @@ pub(super) fn answer(
 fn of_many(alloc: Global, text: &str) -> Result<String, Fail> {
     let text = repeated(alloc, text)?;
     of_text_tokens(alloc, text.as_bytes())
+}
+
+/// How many bytes the canonical binary of a text's module has, which is checked.
+fn of_large(alloc: Global, profile: Profile, text: &str) -> Result<String, Fail> {
+    let text = repeated(alloc, text)?;
+    match read_text(alloc, profile, text.as_bytes()) {
+        Ok(module) => match check(alloc, profile, &module) {
+            Ok(checked) => shown_length(alloc, checked.module()),
+            Err(fault) => Ok(format!(in alloc; "{fault:?}")?),
+        },
+        Err(refusal) => shown_refusal(alloc, refusal),
+    }
 }
 
 fn of_behind(alloc: Global, text: &str) -> Result<String, Fail> {

@@ -35,6 +35,13 @@ pub(crate) fn shown_module(alloc: Global, module: &Module, rest: &[u8]) -> Resul
     shown_bytes(alloc, &dest.into_inner(), rest)
 }
 
+/// How long the canonical binary of a module is.
+pub(crate) fn shown_length(alloc: Global, module: &Module) -> Result<String, Fail> {
+    let mut dest = Output::new(Vec::new(alloc));
+    let length = encode(module, &mut dest)?;
+    Ok(format!(in alloc; "{length} bytes")?)
+}
+
 fn shown_bytes(alloc: Global, bytes: &[u8], rest: &[u8]) -> Result<String, Fail> {
     let mut text = String::new(alloc);
     for byte in bytes {
