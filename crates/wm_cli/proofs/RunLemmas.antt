@@ -3,7 +3,7 @@ use Rattle.std.proofs.KnownBytes.{Appends-trans}
 use Rattle.std.proofs.Math.Seq.{take-length}
 use Rattle.std.proofs.Math.Logic.{∥∥₁_elim}
 use Rattle.std.specs.Io.KnownBytes.{Appends, Consumes, IsAtEnd}
-use Rattle.std.proofs.Common.{◌≢◌, ◌↔◌, ◌||◌, ℕ, zero, suc, Bool, true, false, subst, sym, append-nil, take, List, [], ◌++◌, Option, Some, None, Err, IfSome, inl, inr, refl, ◌≤◌, ◌<◌, ◌≡◌, ◌+◌, ◌∙◌, ap, length, length-append, arith}
+use Rattle.std.proofs.Common.{◌≢◌, ℕ, zero, suc, Bool, true, false, subst, sym, append-nil, take, List, [], ◌++◌, Option, Some, None, Err, IfSome, inl, inr, refl, ◌≤◌, ◌<◌, ◌≡◌, ◌+◌, ◌∙◌, ap, length, length-append, arith}
 use Rattle.wm_syntax.specs.declared.profile.Profile.{Profile}
 use Rattle.wm_syntax.specs.declared.why.Why.{Why}
 use Rattle.wm_syntax.specs.declared.why.Why.TheVariants.{Memory, TooLong}
@@ -125,19 +125,6 @@ flushed text wanted old mid new false on result p q = (subst (Appends old new) (
 flushed text wanted old mid new true on result p q =
     let all : Appends old new text = subst (Appends old new) (append-nil text) (Appends-trans old mid new text [] p (subst (Appends mid new) (take-nil q.0.0) q.0.2)) in
     ((length text, omega arith, subst (Appends old new) (sym (take-length text)) all), q.1)
-
--- a run that ends neither by a fault nor for want of memory ends by a status that is right for what its reader held
-pub right_end : (action : Action) (p : Profile) (limit : ℕ) (all left old new : Option (List ℕ)) (reader writer on : Bool) (result : Status)
-    → (reader ≡ false → result ≢ status.Memory → (text : List ℕ) × (wanted : Status) × IsOutput action text wanted
-    × IfSome all (λ input. IsRightFor action p limit input left text wanted) × IsAnswered text wanted old new writer on result)
-    → ((result ≡ status.Io) ↔ ((reader || writer) ≡ true)) → result ≢ status.Io → result ≢ status.Memory
-    → IfSome all (λ input. (left : Option (List ℕ)) × (text : List ℕ) × IsRightFor action p limit input left text result)
-right_end action p limit all left old new true writer on result told io no m = absurd (no (io.1 refl))
-right_end action p limit all left old new false true on result told io no m = absurd (no (io.1 refl))
-right_end action p limit None left old new false false on result told io no m = tt
-right_end action p limit (Some input) left old new false false on result told io no m =
-    let out = told refl m in
-    (left, out.0, subst (λ s. IsRightFor action p limit input left out.0 s) (sym out.4.2) out.3)
 
 -- a beginning of a text went out
 pub unwritten : (text : List ℕ) (wanted : Status) (old new : Option (List ℕ)) (failed on : Bool) → failed ≡ true
