@@ -80,7 +80,7 @@ impl Input for Desk<'_> {
     type Reader = &'static [u8];
 
     fn read_line<A: Allocator + Clone>(&self, _buf: &mut String<A>) -> io::Result<usize> {
-        unsupported()
+        Err(io::Error::from(ErrorKind::Unsupported))
     }
 
     fn lines<A: Allocator>(&self, alloc: A) -> Lines<&'static [u8], A> {
@@ -124,7 +124,7 @@ impl Eprint for Desk<'_> {
 
 impl Write for Leaf<'_> {
     fn write(&mut self, _buf: &[u8]) -> io::Result<usize> {
-        unsupported()
+        Err(io::Error::from(ErrorKind::Unsupported))
     }
 
     fn flush(&mut self) -> io::Result<()> {
