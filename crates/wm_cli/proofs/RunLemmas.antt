@@ -119,18 +119,18 @@ take-nil : (n : ℕ) → ◌≡◌ {A = List ℕ} (take n []) []
 take-nil zero = refl
 take-nil (suc n) = refl
 
-pub flushed : (text : List ℕ) (wanted : Status) (old mid new : Option (List ℕ)) (failed : Bool) (result : Status) → Appends old mid text
-    → IsAnswered [] wanted mid new failed result → IsAnswered text wanted old new failed result
-flushed text wanted old mid new false result p q = (subst (Appends old new) (append-nil text) (Appends-trans old mid new text [] p q.0), q.1)
-flushed text wanted old mid new true result p q =
+pub flushed : (text : List ℕ) (wanted : Status) (old mid new : Option (List ℕ)) (failed on : Bool) (result : Status) → Appends old mid text
+    → IsAnswered [] wanted mid new failed on result → IsAnswered text wanted old new failed on result
+flushed text wanted old mid new false on result p q = (subst (Appends old new) (append-nil text) (Appends-trans old mid new text [] p q.0), q.1, q.2)
+flushed text wanted old mid new true on result p q =
     let all : Appends old new text = subst (Appends old new) (append-nil text) (Appends-trans old mid new text [] p (subst (Appends mid new) (take-nil q.0.0) q.0.2)) in
     ((length text, omega arith, subst (Appends old new) (sym (take-length text)) all), q.1)
 
 -- a beginning of a text went out
-pub unwritten : (text : List ℕ) (wanted : Status) (old new : Option (List ℕ)) (failed : Bool) → failed ≡ true
-    → (n : ℕ) × (n ≤ length text) × Appends old new (take n text) → IsAnswered text wanted old new failed status.Io
-unwritten text wanted old new true e out = (out, refl)
-unwritten text wanted old new false e out = absurd cc
+pub unwritten : (text : List ℕ) (wanted : Status) (old new : Option (List ℕ)) (failed on : Bool) → failed ≡ true
+    → (n : ℕ) × (n ≤ length text) × Appends old new (take n text) → IsAnswered text wanted old new failed on status.Io
+unwritten text wanted old new true on e out = (out, refl)
+unwritten text wanted old new false on e out = absurd cc
 
 -- what was read is longer than the limit
 pub longer : (limit : ℕ) (all left : Option (List ℕ)) (read : List ℕ) → Consumes all left read → limit < length read

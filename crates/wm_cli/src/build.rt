@@ -84,7 +84,7 @@ pub fn build<R: Source, W: Dest>(
     ensures answered { R.has_failed r.new ≡ false → result ≢ Status.Memory → (text : List ℕ) × (status : Status)
         × IsOutput action.Build text status
         × IfSome (R.remaining r.old) (λ input. IsRightFor action.Build profile limit input (R.remaining r.new) text status)
-        × IsAnswered text status (W.contents w.old) (W.contents w.new) (W.has_failed w.new) result }
+        × IsAnswered text status (W.contents w.old) (W.contents w.new) (W.has_failed w.new) (W.is_flushed w.new) result }
     ensures reader { R.has_failed r.new ≡ true → (result ≡ Status.Io) × (w.new ≡ w.old) }
     ensures memory { result ≡ Status.Memory → w.new ≡ w.old }
     ensures io { (result ≡ Status.Io) ↔ ((R.has_failed r.new || W.has_failed w.new) ≡ true) }
@@ -112,7 +112,7 @@ fn convert<W: Dest>(alloc: Global, profile: Profile, text: &[u8], w: &mut W) -> 
     requires { W.has_failed w.old ≡ false }
     ensures answered { result ≢ Status.Memory → (written : List ℕ) × (status : Status)
         × TextOut profile text.now written status
-        × IsAnswered written status (W.contents w.old) (W.contents w.new) (W.has_failed w.new) result }
+        × IsAnswered written status (W.contents w.old) (W.contents w.new) (W.has_failed w.new) (W.is_flushed w.new) result }
     ensures memory { result ≡ Status.Memory → w.new ≡ w.old }
     ensures io { (result ≡ Status.Io) ↔ (W.has_failed w.new ≡ true) }
 {
@@ -128,7 +128,7 @@ fn convert_module<W: Dest>(alloc: Global, profile: Profile, m: &Module, w: &mut 
     requires instructions { IsOf profile (value_of m.now) }
     ensures answered { result ≢ Status.Memory → (written : List ℕ) × (status : Status)
         × ModuleOut profile (value_of m.now) written status
-        × IsAnswered written status (W.contents w.old) (W.contents w.new) (W.has_failed w.new) result }
+        × IsAnswered written status (W.contents w.old) (W.contents w.new) (W.has_failed w.new) (W.is_flushed w.new) result }
     ensures memory { result ≡ Status.Memory → w.new ≡ w.old }
     ensures io { (result ≡ Status.Io) ↔ (W.has_failed w.new ≡ true) }
 {
@@ -144,7 +144,8 @@ fn convert_module<W: Dest>(alloc: Global, profile: Profile, m: &Module, w: &mut 
 fn refuse_text<W: Dest>(alloc: Global, refusal: TextRefusal, w: &mut W) -> Status
     requires { W.has_failed w.old ≡ false }
     ensures answered { result ≢ Status.Memory → (refusal.why ≢ text.Memory)
-        × IsAnswered (text_line refusal.at refusal.why) Status.Refused (W.contents w.old) (W.contents w.new) (W.has_failed w.new) result }
+        × IsAnswered (text_line refusal.at refusal.why) Status.Refused
+        (W.contents w.old) (W.contents w.new) (W.has_failed w.new) (W.is_flushed w.new) result }
     ensures memory { result ≡ Status.Memory → w.new ≡ w.old }
     ensures io { (result ≡ Status.Io) ↔ (W.has_failed w.new ≡ true) }
 {
@@ -162,7 +163,8 @@ fn refuse_text<W: Dest>(alloc: Global, refusal: TextRefusal, w: &mut W) -> Statu
 fn refuse_module<W: Dest>(alloc: Global, refusal: Refusal, w: &mut W) -> Status
     requires { W.has_failed w.old ≡ false }
     ensures answered { result ≢ Status.Memory
-        → IsAnswered (module_line refusal.at refusal.why) Status.Refused (W.contents w.old) (W.contents w.new) (W.has_failed w.new) result }
+        → IsAnswered (module_line refusal.at refusal.why) Status.Refused
+        (W.contents w.old) (W.contents w.new) (W.has_failed w.new) (W.is_flushed w.new) result }
     ensures memory { result ≡ Status.Memory → w.new ≡ w.old }
     ensures io { (result ≡ Status.Io) ↔ (W.has_failed w.new ≡ true) }
 {

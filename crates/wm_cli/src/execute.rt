@@ -1,5 +1,9 @@
 //! Doing what a line says, with the file that it names.
 
+ghost use Rattle.std.specs.Prelude.{◌≡◌, ◌≢◌, ℕ, List, Option, IfSome};
+ghost use Rattle.wm_cli.specs.declared.status.Status.{Status};
+ghost use Rattle.wm_cli.specs.Outcome.{IsRightFor};
+
 use crate::complaint::{complain, complain_of};
 use crate::run::run_line;
 use crate::status::Status;
@@ -12,7 +16,7 @@ use wm_syntax::io::input::Input as InputOf;
 use wm_syntax::io::output::Output as OutputOf;
 
 /// Opens what the line names and does what it says. No clause: what a file holds no contract can say. What is done
-/// with its bytes `run_line` says.
+/// with its bytes `follow` and `run_line` say.
 pub fn execute<R: Files + Input + Print + Eprint + AllocGlobal>(rt: &R, line: &Line) -> Status {
     match line.path() {
         None => follow(rt, line, "standard input", rt.reader()),
@@ -33,7 +37,13 @@ fn follow<R: Print + Eprint + AllocGlobal, I: Read + Drop>(
     line: &Line,
     name: &str,
     reader: I,
-) -> Status {
+) -> Status
+    // The status is right for what the reader gives, by the action, the profile and the limit of this line. What standard output
+    // got no contract can say.
+    ensures { result ≢ Status.Io → result ≢ Status.Memory → IfSome (I.remaining reader)
+        (λ input. (left : Option (List ℕ)) × (text : List ℕ)
+        × IsRightFor line.now.action line.now.profile line.now.limit input left text result) }
+{
     // a module is written instruction by instruction, and reaches the system in pieces of some kilobytes
     let Ok(writer) = BufWriter::new(rt.alloc(), io::writer(rt)) else {
         complain(rt, &Status::Memory);

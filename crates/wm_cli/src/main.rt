@@ -48,8 +48,13 @@ fn obey<R: Env + Files + Input + Print + Eprint + AllocGlobal>(
     }
 }
 
+/// Does what the words say, and tells the system how that ended.
+fn end<R: Env + Files + Input + Print + Eprint + AllocGlobal>(rt: &R) -> ExitCode {
+    ExitCode::from(exit_code(&obey(rt)))
+}
+
 fn main(rt: HostRuntime) -> ExitCode {
-    ExitCode::from(exit_code(&obey(&rt)))
+    end(&rt)
 }
 
 #[cfg(test)]

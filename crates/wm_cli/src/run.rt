@@ -40,7 +40,7 @@ pub fn run<R: Source, W: Dest>(
     ensures answered { R.has_failed r.new ≡ false → result ≢ Status.Memory → (text : List ℕ) × (status : Status)
         × IsOutput action text status
         × IfSome (R.remaining r.old) (λ input. IsRightFor action profile limit input (R.remaining r.new) text status)
-        × IsAnswered text status (W.contents w.old) (W.contents w.new) (W.has_failed w.new) result }
+        × IsAnswered text status (W.contents w.old) (W.contents w.new) (W.has_failed w.new) (W.is_flushed w.new) result }
     ensures reader { R.has_failed r.new ≡ true → (result ≡ Status.Io) × (w.new ≡ w.old) }
     ensures memory { result ≡ Status.Memory → w.new ≡ w.old }
     ensures io { (result ≡ Status.Io) ↔ ((R.has_failed r.new || W.has_failed w.new) ≡ true) }
@@ -75,7 +75,7 @@ pub fn run_line<R: Source, W: Dest>(alloc: Global, line: &Line, r: &mut R, w: &m
         × IsOutput line.now.action text status
         × IfSome (R.remaining r.old)
         (λ input. IsRightFor line.now.action line.now.profile line.now.limit input (R.remaining r.new) text status)
-        × IsAnswered text status (W.contents w.old) (W.contents w.new) (W.has_failed w.new) result }
+        × IsAnswered text status (W.contents w.old) (W.contents w.new) (W.has_failed w.new) (W.is_flushed w.new) result }
     ensures reader { R.has_failed r.new ≡ true → (result ≡ Status.Io) × (w.new ≡ w.old) }
     ensures memory { result ≡ Status.Memory → w.new ≡ w.old }
     ensures io { (result ≡ Status.Io) ↔ ((R.has_failed r.new || W.has_failed w.new) ≡ true) }
@@ -87,7 +87,8 @@ pub fn run_line<R: Source, W: Dest>(alloc: Global, line: &Line, r: &mut R, w: &m
 fn report<W: Dest>(alloc: Global, summary: Summary, w: &mut W) -> Status
     requires { W.has_failed w.old ≡ false }
     ensures answered { result ≢ Status.Memory
-        → IsAnswered (stats_text summary) Status.Done (W.contents w.old) (W.contents w.new) (W.has_failed w.new) result }
+        → IsAnswered (stats_text summary) Status.Done
+        (W.contents w.old) (W.contents w.new) (W.has_failed w.new) (W.is_flushed w.new) result }
     ensures memory { result ≡ Status.Memory → w.new ≡ w.old }
     ensures io { (result ≡ Status.Io) ↔ (W.has_failed w.new ≡ true) }
 {
@@ -112,7 +113,7 @@ fn report<W: Dest>(alloc: Global, summary: Summary, w: &mut W) -> Status
 pub(crate) fn write_canonical<W: Dest>(checked: &Checked, w: &mut W) -> Status
     requires { W.has_failed w.old ≡ false }
     ensures { IsAnswered (canon (value_of (module_in checked.now))) Status.Done (W.contents w.old) (W.contents w.new)
-        (W.has_failed w.new) result }
+        (W.has_failed w.new) (W.is_flushed w.new) result }
 {
     match encode(checked.module(), w) {
         Ok(_) => answer(w, b"", Status::Done),
@@ -126,7 +127,7 @@ pub(crate) fn write_canonical<W: Dest>(checked: &Checked, w: &mut W) -> Status
 fn write_text<W: Dest>(checked: &Checked, w: &mut W) -> Status
     requires { W.has_failed w.old ≡ false }
     ensures { IsAnswered (layout (value_of (module_in checked.now))) Status.Done (W.contents w.old) (W.contents w.new)
-        (W.has_failed w.new) result }
+        (W.has_failed w.new) (W.is_flushed w.new) result }
 {
     match print(checked, w) {
         Ok(()) => answer(w, b"", Status::Done),
@@ -139,7 +140,8 @@ fn answer_fault<W: Dest>(alloc: Global, fault: FromFault, w: &mut W) -> Status
     requires { W.has_failed w.old ≡ false }
     ensures answered { fault ≢ FromFault.Io → result ≢ Status.Memory → (refusal : Refusal) × (fault ≡ FromFault.Refused refusal)
         × (refusal.why ≢ Why.Memory)
-        × IsAnswered (refusal_line refusal.at refusal.why) Status.Refused (W.contents w.old) (W.contents w.new) (W.has_failed w.new) result }
+        × IsAnswered (refusal_line refusal.at refusal.why) Status.Refused
+        (W.contents w.old) (W.contents w.new) (W.has_failed w.new) (W.is_flushed w.new) result }
     ensures reader { fault ≡ FromFault.Io → (result ≡ Status.Io) × (w.new ≡ w.old) }
     ensures memory { result ≡ Status.Memory → w.new ≡ w.old }
     ensures io { (result ≡ Status.Io) ↔ ((fault ≡ FromFault.Io) ⊎ (W.has_failed w.new ≡ true)) }
@@ -154,7 +156,8 @@ fn answer_fault<W: Dest>(alloc: Global, fault: FromFault, w: &mut W) -> Status
 pub(crate) fn refuse<W: Dest>(alloc: Global, refusal: Refusal, w: &mut W) -> Status
     requires { W.has_failed w.old ≡ false }
     ensures answered { result ≢ Status.Memory → (refusal.why ≢ Why.Memory)
-        × IsAnswered (refusal_line refusal.at refusal.why) Status.Refused (W.contents w.old) (W.contents w.new) (W.has_failed w.new) result }
+        × IsAnswered (refusal_line refusal.at refusal.why) Status.Refused
+        (W.contents w.old) (W.contents w.new) (W.has_failed w.new) (W.is_flushed w.new) result }
     ensures memory { result ≡ Status.Memory → w.new ≡ w.old }
     ensures io { (result ≡ Status.Io) ↔ (W.has_failed w.new ≡ true) }
 {

@@ -1,5 +1,6 @@
 //! Tests of what the program writes.
 
+pub(crate) mod desk;
 pub(crate) mod rows;
 mod uses;
 
@@ -25,20 +26,63 @@ const HEADER: [u8; 8] = [0x00, 0x61, 0x73, 0x6D, 0x01, 0x00, 0x00, 0x00];
 
 const LIMIT: u64 = 4294967295;
 
-/// Gives its bytes in pieces of at most so many.
+/// Gives its bytes in pieces of at most so many, and remembers for how many it was asked.
 #[derive(Drop)]
-struct Pieces<'a> {
+struct Leaf<'a> {
     rest: &'a [u8],
     most: usize,
+    asked: usize,
 }
 
-impl Read for Pieces<'_> {
+impl<'a> Leaf<'a> {
+    fn new(rest: &'a [u8], most: usize) -> Self {
+        Leaf {
+            rest,
+            most,
+            asked: 0,
+        }
+    }
+}
+
+impl Read for Leaf<'_> {
     fn read(&mut self, buf: &mut [u8]) -> io::Result<usize> {
+        self.asked = self.asked.max(buf.len());
         let n = self.most.min(self.rest.len()).min(buf.len());
         let (front, rest) = self.rest.split_at(n);
         buf[..n].copy_from_slice(front);
         self.rest = rest;
         Ok(n)
+    }
+}
+
+/// Takes everything, and remembers its flushes, and how much it had at the last of them.
+#[derive(Drop)]
+struct Sheet {
+    taken: Vec<u8>,
+    flushes: usize,
+    flushed: usize,
+}
+
+impl Sheet {
+    fn new(alloc: Global) -> Self {
+        Sheet {
+            taken: Vec::new(alloc),
+            flushes: 0,
+            flushed: 0,
+        }
+    }
+}
+
+impl Write for Sheet {
+    fn write(&mut self, buf: &[u8]) -> io::Result<usize> {
+        self.taken.extend_from_slice(buf)?;
+        Ok(buf.len())
+    }
+
+    fn flush(&mut self) -> io::Result<()> {
+        self.flushes = self.flushes.saturating_add(1);
+        self.flushed = self.taken.len();
+        Ok(())
     }
 }
 
@@ -67,11 +111,14 @@ wmod show < H = 0 (module)\n
 wmod show < H 01 07 01 60 02 7F 7F 01 7F 03 02 01 00 0A 09 01 07 00 20 00 20 01 6A 0B = 0 (module\n  (type $t0 (func (param i32 i32) (result i32)))\n  (func $f0 (type $t0)\n    local.get 0\n    local.get 1\n    i32.add\n  )\n)\n
 wmod show < H 05 03 01 00 01 0B 0A 01 00 41 00 0B 04 00 C3 A9 22 = 0 (module\n  (memory $mem0 1)\n  (data $mem0 (offset i32.const 0) \"\\00\\c3\\a9\\22\")\n)\n
 wmod show < H 01 04 01 60 00 00 03 02 01 00 0A 05 01 03 00 05 0B = 1 refused at 24: ElsePlace\n
+wmod show --profile 2 < H 01 05 01 60 00 01 7F 03 02 01 00 0A 08 01 06 00 41 FF 01 C0 0B = 0 (module\n  (type $t0 (func (result i32)))\n  (func $f0 (type $t0)\n    i32.const 255\n    i32.extend8_s\n  )\n)\n
 wmod build < (module) = 0 \x00asm\x01\x00\x00\x00
 wmod build < (module (memory $mem0 1) (data $mem0 (offset i32.const 0) "\00\u{e9}\"")) = 0 \x00asm\x01\x00\x00\x00\x05\x03\x01\x00\x01\x0b\n\x01\x00A\x00\x0b\x04\x00\xc3\xa9\"
 wmod build < (module (func (type $a))) = 1 text refused at 20: UnknownId\n
 wmod build < = 1 text refused at 0: Expected\n
 wmod build < (module (type (func)) (func (type 0) drop)) = 1 module refused at 24: Arity\n
+wmod build --profile 2 < (module (type (func (result i32))) (func (type 0) i32.const 255 i32.extend8_s)) = 0 \x00asm\x01\x00\x00\x00\x01\x05\x01`\x00\x01\x7f\x03\x02\x01\x00\n\x08\x01\x06\x00A\xff\x01\xc0\x0b
+wmod build < (module (type (func (result i32))) (func (type 0) i32.const 255 i32.extend8_s)) = 1 text refused at 64: UnknownWord\n
 wmod build --limit 7 < (module) = 1 refused at 8: TooLong\n
 wmod build --limit 8 < (module) = 0 \x00asm\x01\x00\x00\x00"#;
 
@@ -166,16 +213,45 @@ fn a_reader_that_fails(rt: HostRuntime) {
     assert!(rt; dest.into_inner().is_empty());
 }
 
-/// What a writer gets that takes so many bytes, where the input is a header.
+/// What a writer gets that takes so many bytes, where the input is a header, or a text of it. With 99 only its flush fails.
 const CUT_SHORT: &str = r#"cut 0 wmod check = 3 ""
 cut 3 wmod check = 3 "val"
 cut 6 wmod check = 3 "valid\n"
-cut 9 wmod check = 3 "valid\n"
-cut 3 wmod show = 3 "(mo""#;
+cut 3 wmod show = 3 "(mo"
+cut 99 wmod check = 3 "valid\n"
+cut 99 wmod check --limit 7 = 3 "refused at 8: TooLong\n"
+cut 99 wmod stats = 3 "functions 0\nmoves 0\noperands 0\ncontrols 0\nprobes 0\n"
+cut 99 wmod canon = 3 "\x00asm\x01\x00\x00\x00"
+cut 99 wmod show = 3 "(module)\n"
+cut 99 wmod build = 3 "\x00asm\x01\x00\x00\x00""#;
 
 #[test]
 fn a_writer_that_fails(rt: HostRuntime) -> Result<(), Fail> {
     play(&rt, rt.alloc(), CUT_SHORT)
+}
+
+/// The whole program, where `(module)` stands on standard input and a module of profile 2 in the file `sign.wasm`.
+const PROGRAM: &str = r#"desk wmod check = 1 "refused at 1: Magic\n" ""
+desk wmod build = 0 "\x00asm\x01\x00\x00\x00" ""
+desk wmod build - = 0 "\x00asm\x01\x00\x00\x00" ""
+desk wmod build --limit 7 = 1 "refused at 8: TooLong\n" ""
+desk wmod check sign.wasm = 1 "refused at 28: BadOpcode\n" ""
+desk wmod check --profile 2 sign.wasm = 0 "valid\n" ""
+desk wmod check --profile 2 --limit 28 sign.wasm = 1 "refused at 29: TooLong\n" ""
+desk wmod stats --profile 2 sign.wasm = 0 "functions 1\nmoves 6\noperands 1\ncontrols 1\nprobes 0\n" ""
+desk wmod canon --profile 2 sign.wasm = 0 "\x00asm\x01\x00\x00\x00\x01\x05\x01`\x00\x01\x7f\x03\x02\x01\x00\n\x08\x01\x06\x00A\xff\x01\xc0\x0b" ""
+desk wmod show --profile 2 sign.wasm = 0 "(module\n  (type $t0 (func (result i32)))\n  (func $f0 (type $t0)\n    i32.const 255\n    i32.extend8_s\n  )\n)\n" ""
+desk wmod build sign.wasm = 1 "text refused at 25: NotUtf8\n" ""
+desk wmod check sign = 3 "" "wmod: input or output failed\nwmod: sign: entity not found\n"
+desk wmod run = 2 "" "wmod: bad words\nwmod: \'run\' is no action: check, stats, canon, show, build\n"
+shut wmod check = 3 "" "wmod: input or output failed\nwmod: standard output: broken pipe\n"
+shut wmod canon --profile 2 sign.wasm = 3 "" "wmod: input or output failed\nwmod: standard output: broken pipe\n"
+shut wmod show --profile 2 sign.wasm = 3 "" "wmod: input or output failed\nwmod: standard output: broken pipe\n"
+shut wmod build = 3 "" "wmod: input or output failed\nwmod: standard output: broken pipe\n""#;
+
+#[test]
+fn the_whole_program(rt: HostRuntime) -> Result<(), Fail> {
+    play(&rt, rt.alloc(), PROGRAM)
 }
 
 #[test]
@@ -212,16 +288,22 @@ fn errors_of_readers_are_kept(rt: HostRuntime) {
     expect_kind(&rt, source.into_inner().error(), ErrorKind::Interrupted);
 }
 
-#[test]
-fn errors_of_writers_are_kept(rt: HostRuntime) {
-    let rest = HEADER.as_slice();
-    let mut source = Input::new(Witness::new(Pieces { rest, most: 4096 }));
-    let taken = Vec::new(rt.alloc());
-    let mut dest = Output::new(Witness::new(Narrow { taken, most: 3 }));
-    let status = run_line(rt.alloc(), &plain_line(), &mut source, &mut dest);
+/// The error of a writer that takes so many bytes is kept.
+fn expect_kept(rt: &impl Abort, alloc: Global, most: usize) {
+    let mut source = Input::new(Witness::new(HEADER.as_slice()));
+    let taken = Vec::new(alloc);
+    let mut dest = Output::new(Witness::new(Narrow { taken, most }));
+    let status = run_line(alloc, &plain_line(), &mut source, &mut dest);
     assert!(rt; status == Status::Io);
     assert!(rt; source.into_inner().error().is_none());
-    expect_kind(&rt, dest.into_inner().error(), ErrorKind::BrokenPipe);
+    expect_kind(rt, dest.into_inner().error(), ErrorKind::BrokenPipe);
+}
+
+#[test]
+fn errors_of_writers_are_kept(rt: HostRuntime) {
+    expect_kept(&rt, rt.alloc(), 3);
+    // only its flush fails
+    expect_kept(&rt, rt.alloc(), 99);
 }
 
 fn expect_text(

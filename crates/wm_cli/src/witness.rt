@@ -1,5 +1,7 @@
 //! Readers and writers whose errors are kept, to be told of later.
 
+ghost use Rattle.std.specs.Prelude.{◌≡◌};
+
 use std::io;
 use std::io::{Read, Write};
 
@@ -11,13 +13,14 @@ pub struct Witness<T> {
 }
 
 impl<T> Witness<T> {
-    /// A reader or a writer that has answered no error. No clause: which error is kept is for a
-    /// complaint alone, and tests show it.
-    pub fn new(inner: T) -> Self {
+    /// A reader or a writer that has answered no error. Which error is kept is for a complaint alone, and tests show it.
+    pub fn new(inner: T) -> Self
+        ensures { result.inner ≡ inner }
+    {
         Witness { inner, error: None }
     }
 
-    /// The last error. No clause, as for `new`.
+    /// The last error. No clause: tests show it.
     pub fn error(&self) -> Option<io::Error> {
         self.error
     }

@@ -44,3 +44,16 @@ impl Body {
         &self.ops
     }
 }
+
+#[cfg(test)]
+mod tests {
+    use super::*;
+    use crate::body_builder::BodyBuilder;
+
+    /// A further field has to be named here.
+    #[test]
+    fn a_body_has_these_fields(rt: HostRuntime) {
+        let Body { ops } = BodyBuilder::new(rt.alloc()).finish().expect(&rt, "a body");
+        assert!(rt; ops.capacity() == 0);
+    }
+}

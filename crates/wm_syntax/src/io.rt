@@ -1,6 +1,6 @@
 //! Readers and writers that remember whether they have failed.
 
-ghost use Rattle.std.specs.Prelude.{◌≡◌, ℕ, ◌<◌, ◌||◌, Bool, false, List, Option, length, take, is_err, IfOk, OnOk, IfErr, ◌≤◌};
+ghost use Rattle.std.specs.Prelude.{◌≡◌, ℕ, ◌<◌, ◌||◌, Bool, false, true, List, Option, length, take, is_err, IfOk, OnOk, IfErr, ◌≤◌};
 ghost use Rattle.std.specs.Io.{ReadsAtMost, WritesAtMost};
 ghost use Rattle.std.specs.Io.KnownBytes.{Appends, Keeps, ReadConsumes, WriteAppends};
 
@@ -36,6 +36,8 @@ pub trait Dest {
     ghost contents: { Self → Option (List ℕ) };
     // Whether some call has answered an error.
     ghost has_failed: { Self → Bool };
+    // Whether all that was written has been handed on; so it always is by a type that holds nothing back.
+    ghost is_flushed: { Self → Bool } = { λ _. true };
 
     /// Writes the first bytes of `buf` and answers how many: at least one where there is one. An error took none;
     /// `Interrupted` is one.
@@ -48,6 +50,7 @@ pub trait Dest {
     /// Hands on what is held back.
     fn flush(&mut self) -> io::Result<()>
         ensures bytes { Keeps (contents self.old) (contents self.new) }
+        ensures flushed { OnOk result (is_flushed self.new ≡ true) }
         ensures failed { has_failed self.new ≡ (has_failed self.old || is_err result) };
 
     /// Whether some call has answered an error.

@@ -164,9 +164,8 @@ mod tests {
     /// A further field has to be named here, and a further list to be counted.
     #[test]
     fn every_field_is_a_list_that_is_counted(rt: HostRuntime) {
-        let locals = Locals::new(rt.alloc());
-        let Locals { runs } = &locals;
-        assert!(rt; runs.is_empty());
+        let Locals { runs } = Locals::new(rt.alloc());
+        assert!(rt; runs.capacity() == 0);
     }
 
     impl Scripted for Locals {
@@ -247,11 +246,11 @@ runs = 1",
     #[test]
     fn a_refused_growth_changes_nothing(rt: HostRuntime) {
         let mut locals = Locals::new(rt.alloc());
-        for _ in 0..40 {
+        for _ in 0..400 {
             add_more(&rt, &mut locals);
         }
         let runs = locals.runs();
-        assert!(rt; 39 <= runs && runs <= 40);
-        assert!(rt; locals.run(38) == Some((1, ValType::I32)));
+        assert!(rt; 399 <= runs && runs <= 400);
+        assert!(rt; locals.run(398) == Some((1, ValType::I32)));
     }
 }

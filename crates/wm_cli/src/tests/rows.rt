@@ -4,22 +4,27 @@
 //! read WORDS = ACTION PROFILE LIMIT FILE PATH, or the kind of the fault and its exit status
 //! wrong WORDS = what is said of the first wrong word
 //! wmod WORDS < INPUT = the exit status, and what is written
-//! cut N WORDS = the exit status, and what is written to a writer that takes N bytes, where the input is a header
+//! cut N WORDS = the exit status, and what is written to a writer that takes N bytes, where the input is a header,
+//! or `(module)` for `build`
+//! desk WORDS = the exit status of the whole program, what it writes and what it complains of
+//! shut WORDS = the same, where standard output takes nothing
 //! ```
 //!
 //! The word `""` is the empty one. INPUT is a text for `build`. Else it is bytes in hexadecimal digits, with H for the
-//! header of a module.
+//! header of a module. What is done with an input under profile 1 is done under profile 2 too.
 
-use super::{HEADER, Narrow, Pieces};
+use super::desk::{TYPED, sit};
+use super::{HEADER, Leaf, Narrow, Sheet};
 use crate::line::{line, wrong_word};
 use crate::run::run_line;
 use crate::status::{Status, exit_code};
-use crate::words::{Line, LineFault};
+use crate::words::{Action, Line, LineFault};
 use std::alloc::Global;
 use std::process::Abort;
 use std::test::Fail;
 use wm_syntax::io::input::Input;
 use wm_syntax::io::output::Output;
+use wm_syntax::profile::Profile;
 
 /// The words of a command.
 fn words_of(alloc: Global, command: &str) -> Result<Vec<&str>, Fail> {
@@ -78,18 +83,29 @@ fn wrong(alloc: Global, command: &str) -> Result<String, Fail> {
     }
 }
 
-/// How a line ends for an input in pieces of at most so many bytes, and what it writes.
-fn follow(alloc: Global, line: &Line, input: &[u8], most: usize) -> (Status, Vec<u8>) {
-    let mut source = Input::new(Pieces { rest: input, most });
-    let mut dest = Output::new(Vec::new(alloc));
+/// How a line ends for an input in pieces of at most so many bytes, and what became of reader and writer.
+fn follow<'a>(
+    alloc: Global,
+    line: &Line,
+    input: &'a [u8],
+    most: usize,
+) -> (Status, Leaf<'a>, Sheet) {
+    let mut source = Input::new(Leaf::new(input, most));
+    let mut dest = Output::new(Sheet::new(alloc));
     let status = run_line(alloc, line, &mut source, &mut dest);
-    (status, dest.into_inner())
+    (status, source.into_inner(), dest.into_inner())
 }
 
-/// The same as text.
+/// The exit status and what was written, where no more was asked for at once than a piece, and all was flushed once.
 fn tell(alloc: Global, line: &Line, input: &[u8], most: usize) -> Result<String, Fail> {
-    let (status, written) = follow(alloc, line, input, most);
-    Ok(format!(in alloc; "{} {}", exit_code(&Ok(status)), written.escape_ascii())?)
+    let (status, leaf, sheet) = follow(alloc, line, input, most);
+    if leaf.asked > 4096 {
+        return Ok(format!(in alloc; "asked for {} bytes", leaf.asked)?);
+    }
+    if sheet.flushes != 1 || sheet.flushed != sheet.taken.len() {
+        return Ok(format!(in alloc; "flushed {} times, {} bytes", sheet.flushes, sheet.flushed)?);
+    }
+    Ok(format!(in alloc; "{} {}", exit_code(&Ok(status)), sheet.taken.escape_ascii())?)
 }
 
 /// What a line writes for an input, which is the same in pieces of any size.
@@ -104,19 +120,38 @@ fn obey_line(alloc: Global, line: &Line, input: &[u8]) -> Result<String, Fail> {
     Ok(told)
 }
 
+/// Whether what is done by this line is done under profile 2 too.
+fn is_same_under_two(alloc: Global, line: &Line, input: &[u8], told: &str) -> Result<bool, Fail> {
+    if !told.starts_with("0 ") {
+        return Ok(true);
+    }
+    let second = Line {
+        action: line.action,
+        profile: Profile::Two,
+        limit: line.limit,
+        file: None,
+    };
+    Ok(tell(alloc, &second, input, 4096)?.as_str() == told)
+}
+
 /// What a command writes for an input.
 pub fn obey(alloc: Global, command: &str, input: &[u8]) -> Result<String, Fail> {
-    match line(alloc, words_of(alloc, command)?.as_slice()) {
-        Ok(line) => obey_line(alloc, &line, input),
-        Err(fault) => tell_fault(alloc, &fault),
+    let line = match line(alloc, words_of(alloc, command)?.as_slice()) {
+        Ok(line) => line,
+        Err(fault) => return tell_fault(alloc, &fault),
+    };
+    let told = obey_line(alloc, &line, input)?;
+    if !is_same_under_two(alloc, &line, input, &told)? {
+        return Ok(format!(in alloc; "differs under profile 2")?);
     }
+    Ok(told)
 }
 
 /// What a command that is done writes for an input.
 fn written(alloc: Global, command: &str, input: &[u8]) -> Result<Vec<u8>, Fail> {
     let line = line(alloc, words_of(alloc, command)?.as_slice())?;
     match follow(alloc, &line, input, 4096) {
-        (Status::Done, written) => Ok(written),
+        (Status::Done, _, sheet) => Ok(sheet.taken),
         _ => Err(Fail::new("not done")),
     }
 }
@@ -140,16 +175,19 @@ fn obey_row(alloc: Global, call: &str) -> Result<String, Fail> {
     obey(alloc, command, &bytes_of(alloc, input)?)
 }
 
-/// How a line ends for a header where the writer takes so many bytes, and what it takes.
+/// How a line ends for a header, or a text of it, where the writer takes so many bytes, and what it takes.
 fn follow_cut(alloc: Global, line: &Line, most: usize) -> (Status, Vec<u8>) {
     let taken = Vec::new(alloc);
-    let mut source = Input::new(HEADER.as_slice());
+    let mut source = Input::new(match line.action {
+        Action::Build => TYPED,
+        _ => HEADER.as_slice(),
+    });
     let mut dest = Output::new(Narrow { taken, most });
     let status = run_line(alloc, line, &mut source, &mut dest);
     (status, dest.into_inner().taken)
 }
 
-/// What a command writes for a header where the writer takes so many bytes.
+/// What a command writes for that input where the writer takes so many bytes.
 fn cut(alloc: Global, most: usize, command: &str) -> Result<String, Fail> {
     let line = line(alloc, words_of(alloc, command)?.as_slice())?;
     let (status, taken) = follow_cut(alloc, &line, most);
@@ -171,6 +209,8 @@ fn answer(alloc: Global, call: &str) -> Result<String, Fail> {
         Some(("wrong", command)) => wrong(alloc, command),
         Some(("wmod", _)) => obey_row(alloc, call),
         Some(("cut", row)) => cut_row(alloc, row),
+        Some(("desk", command)) => sit(alloc, words_of(alloc, command)?.as_slice(), false),
+        Some(("shut", command)) => sit(alloc, words_of(alloc, command)?.as_slice(), true),
         _ => Ok(format!(in alloc; "no such call")?),
     }
 }

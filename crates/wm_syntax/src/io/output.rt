@@ -1,6 +1,8 @@
 //! A writer of std as a destination.
 
-ghost use Rattle.std.specs.Prelude.{◌≡◌, false};
+ghost use Rattle.std.specs.Prelude.{◌≡◌, ◌<◌, ◌||◌, false, is_err, length, IfOk};
+ghost use Rattle.std.specs.Io.{WritesAtMost};
+ghost use Rattle.std.specs.Io.KnownBytes.{WriteAppends};
 
 use super::Dest;
 use std::io;
@@ -11,6 +13,8 @@ use std::io::{ErrorKind, Write};
 pub struct Output<W> {
     inner: W,
     failed: bool,
+    // whether the last call was a flush that succeeded
+    flushed: bool,
 }
 
 impl<W: Write> Output<W> {
@@ -23,13 +27,18 @@ impl<W: Write> Output<W> {
         Output {
             inner,
             failed: false,
+            flushed: false,
         }
     }
 
     pub fn into_inner(self) -> W
         ensures { result ≡ output_inner self }
     {
-        let Output { inner, failed: _ } = self;
+        let Output {
+            inner,
+            failed: _,
+            flushed: _,
+        } = self;
         inner
     }
 }
@@ -39,18 +48,29 @@ impl<W: Write> Dest for Output<W> {
 
     ghost has_failed = { λ s. s.failed };
 
-    fn put(&mut self, buf: &[u8]) -> io::Result<usize> {
+    ghost is_flushed = { λ s. s.flushed };
+
+    // As any destination, and what is put is not handed on before a flush.
+    fn put(&mut self, buf: &[u8]) -> io::Result<usize>
+        ensures bound { WritesAtMost result buf.now }
+        ensures some { IfOk result (λ n. 0 < length buf.now → 0 < n) }
+        ensures bytes { WriteAppends (W.contents self.old.inner) (W.contents self.new.inner) result buf.now }
+        ensures failed { self.new.failed ≡ (self.old.failed || is_err result) }
+        ensures held { self.new.flushed ≡ false }
+    {
         let answer = match self.inner.write(buf) {
             Ok(0) if !buf.is_empty() => Err(io::Error::from(ErrorKind::WriteZero)),
             answer => answer,
         };
         self.failed = self.failed || answer.is_err();
+        self.flushed = false;
         answer
     }
 
     fn flush(&mut self) -> io::Result<()> {
         let answer = self.inner.flush();
         self.failed = self.failed || answer.is_err();
+        self.flushed = answer.is_ok();
         answer
     }
 

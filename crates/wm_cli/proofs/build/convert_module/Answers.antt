@@ -14,7 +14,7 @@ returns-in-Ok-clause-answered g c = λ n.
       canon m,
       status.Done,
       inl (given.2, fits m (λ n. let e = c.in-Ok.ensures.too_large.1 n in cc), refl, refl),
-      subst (λ z. IsAnswered (canon z) status.Done (g.W.Dest.contents c.args.w.now) (g.W.Dest.contents c.write_canonical.new.w) (g.W.Dest.has_failed c.write_canonical.new.w) c.write_canonical.result)
+      subst (λ z. IsAnswered (canon z) status.Done (g.W.Dest.contents c.args.w.now) (g.W.Dest.contents c.write_canonical.new.w) (g.W.Dest.has_failed c.write_canonical.new.w) (g.W.Dest.is_flushed c.write_canonical.new.w) c.write_canonical.result)
           given.0 c.write_canonical.ensures,
     )
 
