@@ -4,7 +4,7 @@ mod admit;
 mod assemble;
 mod rewrite;
 
-use super::Pieces;
+use super::Leaf;
 use admit::admit;
 use assemble::assemble;
 use rewrite::rewrite;
@@ -25,11 +25,7 @@ fn admits(alloc: Global) -> bool {
 
 /// Whether the module's one function is written again.
 fn rewrites(alloc: Global) -> bool {
-    let from = Pieces {
-        rest: &ADD,
-        most: 7,
-    };
-    matches!(rewrite(alloc, from, Vec::new(alloc)), Ok(Some(1)))
+    matches!(rewrite(alloc, Leaf::new(&ADD, 7), Vec::new(alloc)), Ok(Some(1)))
 }
 
 /// Whether a valid text is taken, and one that is not valid is none.
