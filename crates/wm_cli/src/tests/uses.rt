@@ -25,7 +25,10 @@ fn admits(alloc: Global) -> bool {
 
 /// Whether the module's one function is written again.
 fn rewrites(alloc: Global) -> bool {
-    matches!(rewrite(alloc, Leaf::new(&ADD, 7), Vec::new(alloc)), Ok(Some(1)))
+    matches!(
+        rewrite(alloc, Leaf::new(&ADD, 7), Vec::new(alloc)),
+        Ok(Some(1))
+    )
 }
 
 /// Whether a valid text is taken, and one that is not valid is none.
