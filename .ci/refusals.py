@@ -20,10 +20,11 @@ WITHOUT_TEXT = ["TooManyLocals", "Memory"]
 
 def rows_of_page():
     """Each row of the first table: its word, and what wm_rows is to write."""
-    row = re.compile(r"^\| `(\w+)` \|.*\| (with no header |with `--limit (\d+)` |)`((?:[0-9A-F]{2} ?)+)`: (refused at \d+) \|", re.M)
-    for word, kind, limit, digits, place in row.findall(PAGE.read_text(encoding="utf8")):
+    row = re.compile(r"^\| `(\w+)` \|.*\| (with no header |with `--(?:limit|max-functions|max-locals|max-open) \d+` |)`((?:[0-9A-F]{2} ?)+)`: (refused at \d+) \|", re.M)
+    for word, kind, digits, place in row.findall(PAGE.read_text(encoding="utf8")):
         header = "" if kind == "with no header " else "H "
-        yield word, f"check {'limit ' + limit + ' ' if limit else ''}{header}{digits} = {place}: {word}"
+        option = re.sub(r"with `--(.*)` ", r"\1 ", kind) if header else ""
+        yield word, f"check {option}{header}{digits} = {place}: {word}"
 
 
 def text_of(cell):

@@ -4,6 +4,7 @@ use crate::row::{Action, Row};
 use crate::text::{Built, build, canonical, say, spell, text_of};
 use std::alloc::Global;
 use std::io;
+use wm_read::spellings::Spellings;
 use wm_rules::{Checked, FromFault, Loader, Summary, load_from, validate, validate_from};
 use wm_syntax::io::input::Input;
 
@@ -26,7 +27,7 @@ fn figures(alloc: Global, summary: Summary) -> io::Result<String> {
 /// Whether the text of a module gives its canonical binary back.
 fn is_given_back(alloc: Global, row: &Row, checked: &Checked) -> io::Result<bool> {
     let text = text_of(alloc, checked)?;
-    match build(alloc, row.profile, &text)? {
+    match build(alloc, row, Spellings::Standard, &text)? {
         Built::Binary(built) => Ok(built.as_slice() == canonical(alloc, checked)?.as_slice()),
         Built::Refused(_) => Ok(false),
     }
@@ -80,8 +81,8 @@ fn answer_both(
 /// The answer to a row whose binary comes at once.
 fn answer_whole(alloc: Global, row: &Row, binary: &[u8]) -> io::Result<String> {
     let limit = u64::from(row.limit);
-    let judged = validate_from(alloc, &mut Input::new(binary), row.profile, limit);
-    let loaded = load_from(alloc, &mut Input::new(binary), row.profile, limit);
+    let judged = validate_from(alloc, &mut Input::new(binary), row.profile, limit, row.policy);
+    let loaded = load_from(alloc, &mut Input::new(binary), row.profile, limit, row.policy);
     if let Ok(checked) = &loaded {
         if !is_given_back(alloc, row, checked)? {
             return say(alloc, "not given back by its text");
@@ -92,7 +93,7 @@ fn answer_whole(alloc: Global, row: &Row, binary: &[u8]) -> io::Result<String> {
 
 /// What the loader makes of pieces.
 fn load(alloc: Global, row: &Row, pieces: &[&[u8]]) -> Result<Checked, FromFault> {
-    let mut loader = Loader::new(alloc, row.profile, u64::from(row.limit));
+    let mut loader = Loader::new(alloc, row.profile, u64::from(row.limit), row.policy);
     for piece in pieces {
         // a refusal stays, and the end answers it
         let _ = loader.feed(piece);
@@ -105,7 +106,7 @@ fn load(alloc: Global, row: &Row, pieces: &[&[u8]]) -> Result<Checked, FromFault
 
 /// The answer to a row whose binary comes in these pieces.
 fn answer_pieces(alloc: Global, row: &Row, pieces: &[&[u8]]) -> io::Result<String> {
-    let judged = match validate(alloc, row.profile, u64::from(row.limit), pieces) {
+    let judged = match validate(alloc, row.profile, u64::from(row.limit), row.policy, pieces) {
         Ok(summary) => Ok(summary),
         Err(refusal) => Err(FromFault::Refused(refusal)),
     };
@@ -151,7 +152,7 @@ fn answer_binary(alloc: Global, row: &Row, binary: &[u8]) -> io::Result<String> 
 
 /// The answer to a row with a text: what it gives, which is its own canonical binary.
 fn answer_text(alloc: Global, row: &Row) -> io::Result<String> {
-    let binary = match build(alloc, row.profile, &row.input)? {
+    let binary = match build(alloc, row, row.spellings, &row.input)? {
         Built::Binary(binary) => binary,
         Built::Refused(line) => return Ok(line),
     };

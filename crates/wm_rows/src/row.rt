@@ -1,18 +1,22 @@
 //! Rows of inputs.
 //!
 //! ```text
-//! ACTION [profile 2] [limit N] BYTES
-//! change PLACE BYTES
-//! build TEXT
-//! build bytes BYTES
+//! ACTION [OPTIONS] BYTES
+//! change PLACE [OPTIONS] BYTES
+//! build [OPTIONS] TEXT
+//! build [OPTIONS] bytes BYTES
 //! ```
 //!
-//! ACTION is `check`, `stats`, `canon` or `show`. BYTES are words: `H` is the header of a module, and another one is a
-//! byte in two hexadecimal digits. `change` stands for the 255 inputs with another byte at that place.
+//! ACTION is `check`, `stats`, `canon` or `show`. OPTIONS are those of `wmod` without their dashes, in this order:
+//! `profile 2`, `limit N`, `max-functions N`, `max-locals N`, `max-open N` and `old-words`. BYTES are words: `H` is the
+//! header of a module, and another one is a byte in two hexadecimal digits. `change` stands for the 255 inputs with
+//! another byte at that place.
 
 use std::alloc::Global;
 use std::io;
 use std::io::ErrorKind;
+use wm_read::spellings::Spellings;
+use wm_rules::Policy;
 use wm_syntax::profile::Profile;
 
 pub const HEADER: [u8; 8] = *b"\0asm\x01\0\0\0";
@@ -41,6 +45,9 @@ pub struct Row {
     pub profile: Profile,
     /// The most bytes that a binary may have.
     pub limit: u32,
+    pub policy: Policy,
+    /// The words that a text may have.
+    pub spellings: Spellings,
     pub input: Vec<u8>,
 }
 
@@ -96,6 +103,38 @@ fn limit(text: &str) -> io::Result<(u32, &str)> {
     }
 }
 
+/// A limit of the policy, none where it is not named, and what stands behind it.
+fn most<'a>(option: &str, text: &'a str) -> io::Result<(Option<u32>, &'a str)> {
+    let (word, rest) = first_word(text);
+    if word == option {
+        let (most, rest) = number(rest)?;
+        Ok((Some(most), rest))
+    } else {
+        Ok((None, text))
+    }
+}
+
+/// The policy, and what stands behind it.
+fn policy(text: &str) -> io::Result<(Policy, &str)> {
+    let (functions, rest) = most("max-functions", text)?;
+    let (locals, rest) = most("max-locals", rest)?;
+    let (depth, rest) = most("max-open", rest)?;
+    let policy = Policy {
+        functions,
+        locals,
+        depth,
+    };
+    Ok((policy, rest))
+}
+
+/// The words of a text, those of the standard where older ones are not named, and what stands behind that.
+fn spellings(text: &str) -> (Spellings, &str) {
+    match text.strip_prefix("old-words ") {
+        Some(rest) => (Spellings::Older, rest),
+        None => (Spellings::Standard, text),
+    }
+}
+
 /// A byte in two hexadecimal digits.
 fn byte(word: &str) -> io::Result<u8> {
     match u8::from_str_radix(word, 16) {
@@ -130,11 +169,15 @@ pub fn read_row(alloc: Global, line: &str) -> io::Result<Row> {
     let (action, rest) = action_of(line)?;
     let (profile, rest) = profile(rest);
     let (limit, rest) = limit(rest)?;
+    let (policy, rest) = policy(rest)?;
+    let (spellings, rest) = spellings(rest);
     let input = input(alloc, action, rest)?;
     Ok(Row {
         action,
         profile,
         limit,
+        policy,
+        spellings,
         input,
     })
 }

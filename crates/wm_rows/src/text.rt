@@ -1,15 +1,15 @@
 //! Modules in bytes and in text, and back.
 
-use crate::row::HEADER;
+use crate::row::{HEADER, Row};
 use std::alloc::Global;
 use std::fmt::Write;
 use std::io;
 use wm_read::check::{CheckFault, check};
+use wm_read::spellings::Spellings;
 use wm_read::text::read_text;
 use wm_rules::Checked;
 use wm_syntax::io::output::Output;
 use wm_syntax::modules::Module;
-use wm_syntax::profile::Profile;
 use wm_write::encode::encode;
 use wm_write::print::print;
 
@@ -46,8 +46,8 @@ pub fn text_of(alloc: Global, checked: &Checked) -> io::Result<Vec<u8>> {
 }
 
 /// What a module gives that a text has written.
-fn build_module(alloc: Global, profile: Profile, module: &Module) -> io::Result<Built> {
-    match check(alloc, profile, module) {
+fn build_module(alloc: Global, row: &Row, module: &Module) -> io::Result<Built> {
+    match check(alloc, row.profile, row.policy, module) {
         Ok(checked) => Ok(Built::Binary(canonical(alloc, &checked)?)),
         Err(CheckFault::Refused(refusal)) => Ok(Built::Refused(format!(in alloc;
             "module refused at {}: {}",
@@ -58,10 +58,10 @@ fn build_module(alloc: Global, profile: Profile, module: &Module) -> io::Result<
     }
 }
 
-/// What a text gives.
-pub fn build(alloc: Global, profile: Profile, text: &[u8]) -> io::Result<Built> {
-    match read_text(alloc, profile, text) {
-        Ok(module) => build_module(alloc, profile, &module),
+/// What a text gives, which has words so spelled.
+pub fn build(alloc: Global, row: &Row, spellings: Spellings, text: &[u8]) -> io::Result<Built> {
+    match read_text(alloc, row.profile, spellings, text) {
+        Ok(module) => build_module(alloc, row, &module),
         Err(refusal) => Ok(Built::Refused(format!(in alloc;
             "text refused at {}: {}",
             refusal.at,
