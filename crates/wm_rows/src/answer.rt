@@ -1,11 +1,13 @@
 //! Answers to rows.
 
+use crate::changes::answer_changes;
+use crate::pieces;
 use crate::row::{Action, Row};
 use crate::text::{Built, build, canonical, say, spell, text_of};
 use std::alloc::Global;
 use std::io;
 use wm_read::spellings::Spellings;
-use wm_rules::{Checked, FromFault, Loader, Summary, load_from, validate, validate_from};
+use wm_rules::{Checked, FromFault, Summary, load_from, validate_from};
 use wm_syntax::io::input::Input;
 
 /// A shorter binary is cut at each place.
@@ -25,7 +27,7 @@ fn figures(alloc: Global, summary: Summary) -> io::Result<String> {
 }
 
 /// Whether the text of a module gives its canonical binary back.
-fn is_given_back(alloc: Global, row: &Row, checked: &Checked) -> io::Result<bool> {
+pub fn is_given_back(alloc: Global, row: &Row, checked: &Checked) -> io::Result<bool> {
     let text = text_of(alloc, checked)?;
     match build(alloc, row, Spellings::Standard, &text)? {
         Built::Binary(built) => Ok(built.as_slice() == canonical(alloc, checked)?.as_slice()),
@@ -45,7 +47,7 @@ fn show(alloc: Global, checked: &Checked) -> io::Result<String> {
 /// The answer to a row whose binary is valid.
 fn accept(alloc: Global, row: &Row, summary: Summary, checked: &Checked) -> io::Result<String> {
     match row.action {
-        Action::Check | Action::Change(_) => say(alloc, "valid"),
+        Action::Check | Action::Change(_) | Action::Changes => say(alloc, "valid"),
         Action::Stats => figures(alloc, summary),
         Action::Canon | Action::Build => spell(alloc, &canonical(alloc, checked)?),
         Action::Show => show(alloc, checked),
@@ -91,26 +93,20 @@ fn answer_whole(alloc: Global, row: &Row, binary: &[u8]) -> io::Result<String> {
     answer_both(alloc, row, judged, &loaded)
 }
 
-/// What the loader makes of pieces.
-fn load(alloc: Global, row: &Row, pieces: &[&[u8]]) -> Result<Checked, FromFault> {
-    let mut loader = Loader::new(alloc, row.profile, u64::from(row.limit), row.policy);
-    for piece in pieces {
-        // a refusal stays, and the end answers it
-        let _ = loader.feed(piece);
-    }
-    match loader.finish() {
-        Ok(checked) => Ok(checked),
-        Err(refusal) => Err(FromFault::Refused(refusal)),
-    }
-}
-
 /// The answer to a row whose binary comes in these pieces.
 fn answer_pieces(alloc: Global, row: &Row, pieces: &[&[u8]]) -> io::Result<String> {
-    let judged = match validate(alloc, row.profile, u64::from(row.limit), row.policy, pieces) {
-        Ok(summary) => Ok(summary),
-        Err(refusal) => Err(FromFault::Refused(refusal)),
+    let (Ok(judged), Ok(loaded)) = (
+        pieces::validate(alloc, row, pieces),
+        pieces::load(alloc, row, pieces),
+    ) else {
+        return say(alloc, "a refusal does not stay");
     };
-    answer_both(alloc, row, judged, &load(alloc, row, pieces))
+    answer_both(
+        alloc,
+        row,
+        judged.map_err(FromFault::Refused),
+        &loaded.map_err(FromFault::Refused),
+    )
 }
 
 /// The answer to a row whose binary comes in pieces of so many bytes.
@@ -191,6 +187,7 @@ pub fn answer(alloc: Global, row: &Row) -> io::Result<String> {
     match row.action {
         Action::Build => answer_text(alloc, row),
         Action::Change(place) => answer_change(alloc, row, place),
+        Action::Changes => answer_changes(alloc, row),
         _ => answer_binary(alloc, row, &row.input),
     }
 }

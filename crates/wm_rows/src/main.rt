@@ -6,6 +6,8 @@
 #![tactic(auto)]
 
 mod answer;
+mod changes;
+mod pieces;
 mod row;
 mod text;
 

@@ -3,6 +3,7 @@
 //! ```text
 //! ACTION [OPTIONS] BYTES
 //! change PLACE [OPTIONS] BYTES
+//! changes [OPTIONS] BYTES
 //! build [OPTIONS] TEXT
 //! build [OPTIONS] bytes BYTES
 //! ```
@@ -10,7 +11,7 @@
 //! ACTION is `check`, `stats`, `canon` or `show`. OPTIONS are those of `wmod` without their dashes, in this order:
 //! `profile 2`, `limit N`, `max-functions N`, `max-locals N`, `max-open N` and `old-words`. BYTES are words: `H` is the
 //! header of a module, and another one is a byte in two hexadecimal digits. `change` stands for the 255 inputs with
-//! another byte at that place.
+//! another byte at that place, and `changes` for those with another byte at any place.
 
 use std::alloc::Global;
 use std::io;
@@ -36,6 +37,8 @@ pub enum Action {
     Build,
     /// Whether the inputs with another byte at this place are valid.
     Change(usize),
+    /// How many of the inputs with one other byte are valid.
+    Changes,
 }
 
 /// A row, read.
@@ -79,6 +82,7 @@ fn action_of(line: &str) -> io::Result<(Action, &str)> {
         "canon" => Ok((Action::Canon, rest)),
         "show" => Ok((Action::Show, rest)),
         "build" => Ok((Action::Build, rest)),
+        "changes" => Ok((Action::Changes, rest)),
         "change" => {
             let (place, rest) = number(rest)?;
             Ok((Action::Change(place as usize), rest))

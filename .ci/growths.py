@@ -1,0 +1,122 @@
+"""Refuses each growth of a built program in turn: the first, the second, .. until a run meets none, once alone and once with all
+after it. Each such run ends with status 4, its one line and nothing written, or with the answer of ample memory.
+
+    .ci/growths.py PROGRAM       wmod, as it was built
+"""
+import collections
+import os
+import re
+import shutil
+import subprocess
+import sys
+import tempfile
+
+HERE = os.path.dirname(os.path.abspath(__file__))
+OUT_OF_MEMORY = (4, b"", b"wmod: out of memory\n")
+
+HEAD = "00 61 73 6D 01 00 00 00"
+NONE = f"{HEAD} 01 04 01 60 00 00 03 02 01 00"
+TO_I32 = f"{HEAD} 01 05 01 60 00 01 7F 03 02 01 00"
+ADD = "01 60 02 7F 7F 01 7F 03 02 01 00 0A 09 01 07 00 20 00 20 01 6A 0B"
+# N*{..} repeats
+MODULES = {
+    "an addition": f"{HEAD} 01 07 {ADD}",
+    "a long number": f"{HEAD} 01 87 80 80 80 00 {ADD}",
+    "an if": f"{NONE} 0A 0A 01 08 00 41 00 04 40 05 0B 0B",
+    "an if without its else": f"{TO_I32} 0A 0B 01 09 00 41 00 04 7F 41 00 0B 0B",
+    "an if with a result": f"{TO_I32} 0A 0E 01 0C 00 41 01 04 7F 41 02 05 41 03 0B 0B",
+    "data": f"{HEAD} 05 03 01 00 01 0B 0A 01 00 41 00 0B 04 00 C3 A9 22",
+    "40 blocks": f"{NONE} 0A 7C 01 7A 00 40*{{02 40}} 41*{{0B}}",
+    "65 operands": f"{NONE} 0A C8 01 01 C5 01 00 65*{{41 00}} 65*{{1A}} 0B",
+    "100,000 parameters": f"{HEAD} 01 A9 8D 06 02 60 A0 8D 06 100000*{{7F}} 00 60 00 00 02 05 01 00 00 00 00 03 02 01 01 "
+    "0A A7 8D 06 01 A3 8D 06 00 00 50000*{10 00} 0B",
+}
+TEXT = r'(module (memory $mem0 1) (data $mem0 (offset i32.const 0) "\00\u{e9}\""))'
+OLDER = "(module (type (func)) (memory 1) (func (type 0) (local i32) current_memory set_local 0))"
+
+
+def bytes_of(words):
+    spread = re.sub(r"(\d+)\*\{([^}]*)\}", lambda it: f"{it[2]} " * int(it[1]), words)
+    return bytes.fromhex(spread)
+
+
+def runs_of(program):
+    """What is run: the words, and standard input."""
+    for words in MODULES.values():
+        module = bytes_of(words)
+        for action in ("check", "stats", "canon", "show"):
+            yield [action], module
+        text = subprocess.run([program, "show"], input=module, stdout=subprocess.PIPE, check=False)
+        if text.returncode == 0:
+            yield ["build"], text.stdout
+    yield ["build"], TEXT.encode()
+    yield ["build", "--old-words"], OLDER.encode()
+    yield ["build"], b"(module (start $f))"
+    module = bytes_of(MODULES["an if"])
+    yield ["show", "--max-functions", "9", "--max-locals", "9", "--max-open", "0"], module
+    yield ["check", "--profile", "2", "--limit", "20"], module
+    for words in (["--help"], ["--version"], ["chek"], ["check", "--limit", "x"], ["check", "--lmit", "1"], [], ["check", "/none"]):
+        yield words, b""
+
+
+class Refuser:
+    """The library that refuses growths, and what it has told."""
+
+    def __init__(self, room):
+        self.library, self.told = f"{room}/refuse_growths.so", f"{room}/told"
+        compiler = next((it for it in ("cc", "gcc", "clang") if shutil.which(it)), None)
+        if compiler is None:
+            sys.exit("growths: no C compiler, so no growth is refused")
+        words = [compiler, "-O1", "-shared", "-fPIC", f"{HERE}/refuse_growths.c", "-o", self.library]
+        subprocess.run(words, check=True)
+
+    def run(self, program, words, given, at=None, is_on=False):
+        """How it ended and what it wrote; how many growths it asked for, and how many were refused."""
+        env = {"LD_PRELOAD": self.library, "TELL": self.told}
+        if at:
+            env["REFUSE"] = str(at)
+        if is_on:
+            env["REFUSE_ON"] = "1"
+        ran = subprocess.run([program, *words], input=given, capture_output=True, env=env, timeout=120, check=False)
+        with open(self.told, encoding="ascii") as it:
+            count, refused = map(int, it.read().split())
+        os.remove(self.told)
+        return (ran.returncode, ran.stdout, ran.stderr), count, refused
+
+
+def kind_of(ended, ample):
+    if ended == OUT_OF_MEMORY:
+        return "status 4"
+    if ended == ample:
+        return "as with ample memory"
+    # a second line of standard error says more of the fault, and wants memory for it
+    lines = ample[2].split(b"\n")
+    if ended == (*ample[:2], lines[0] + b"\n"):
+        return "as with ample memory, but for a second line of standard error"
+    return "wrong"
+
+
+def sweep(program):
+    """Whether all is well; prints how many runs there were of each kind."""
+    kinds, wrong, asked = collections.Counter(), [], 0
+    with tempfile.TemporaryDirectory(prefix="growths-") as room:
+        refuser = Refuser(room)
+        for words, given in runs_of(program):
+            ample, count, _ = refuser.run(program, words, given)
+            asked += count
+            for is_on in (False, True):
+                for at in range(1, count + 1):
+                    ended, _, refused = refuser.run(program, words, given, at, is_on)
+                    kind = kind_of(ended, ample) if refused else "wrong"
+                    kinds[kind] += 1
+                    if kind == "wrong":
+                        wrong.append(f"growths: wmod {' '.join(words)}: growth {at} refused: {ended!r:.300}")
+    print("\n".join(wrong[:20]), end="\n" if wrong else "")
+    print(f"growths: {asked} asked for; {sum(kinds.values())} runs, " + ", ".join(f"{n} {kind}" for kind, n in kinds.items()), flush=True)
+    return not wrong and asked > 0
+
+
+if __name__ == "__main__":
+    if len(sys.argv) != 2:
+        sys.exit(__doc__)
+    sys.exit(0 if sweep(sys.argv[1]) else 1)
