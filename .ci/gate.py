@@ -3,7 +3,8 @@
 
 `rt ci` proves a library three times: plain, with its tests, and again before its first must-fail edit. Here the three
 share one folder of this run's own, which begins empty. So each module is proved once, and what is refused by `rt ci` is
-refused here. Edits are first tried some at a time, each in another function. At the end stands what each crate cost.
+refused here. Edits are first tried some at a time, each in another function. The built wmod is run with each of its growths
+refused in turn (growths.py), and on a million blocks (deep.py). It also says what each crate cost.
 
     .ci/gate.py                  the gate
     .ci/gate.py --keep FOLDER    the same over what an earlier run kept in FOLDER: for one's own work, and no verdict
@@ -19,6 +20,9 @@ import tempfile
 import time
 
 sys.dont_write_bytecode = True
+import deep
+import growths
+
 RT = os.path.join(os.path.dirname(subprocess.run(["rt", "doc"], capture_output=True, text=True, check=True).stdout.strip()), "bin/rt")
 
 
@@ -240,6 +244,14 @@ def in_lanes(tasks):
     return given
 
 
+def run(crate, tests, ending=""):
+    is_well = run_by_the_kit(crate, tests, ending)
+    if crate.name == "wm_cli" and not tests:
+        program = f"{crate.folder}/out/{crate.name}{ending}"
+        is_well = all([is_well, growths.sweep(program), deep.is_well(program)])
+    return is_well
+
+
 def print_costs():
     """Processor minutes by crate, and the most memory that one process held."""
     costs, most = collections.defaultdict(float), collections.defaultdict(int)
@@ -265,8 +277,8 @@ def main():
     return status
 
 
-guarded_by_the_kit, checked_by_the_kit, lanes_of_the_kit = rtlib.guarded, rt.checked, rt.in_lanes
-rt.Crate, rt.checked, rt.must_fail_all, rt.in_lanes = Crate, check_a_copy, must_fail_all, in_lanes
+guarded_by_the_kit, checked_by_the_kit, lanes_of_the_kit, run_by_the_kit = rtlib.guarded, rt.checked, rt.in_lanes, rt.run
+rt.Crate, rt.checked, rt.must_fail_all, rt.in_lanes, rt.run = Crate, check_a_copy, must_fail_all, in_lanes, run
 rtlib.guarded = guarded
 rtlib.VERDICT = Verdict(rtlib.VERDICT)
 

@@ -71,17 +71,21 @@ class Refuser:
         subprocess.run(words, check=True)
 
     def run(self, program, words, given, at=None, is_on=False):
-        """How it ended and what it wrote; how many growths it asked for, and how many were refused."""
+        """How it ended and what it wrote; how many growths it asked for, and how many were refused. A program that a signal
+        ends tells neither."""
         env = {"LD_PRELOAD": self.library, "TELL": self.told}
         if at:
             env["REFUSE"] = str(at)
         if is_on:
             env["REFUSE_ON"] = "1"
         ran = subprocess.run([program, *words], input=given, capture_output=True, env=env, timeout=120, check=False)
+        ended = ran.returncode, ran.stdout, ran.stderr
+        if not os.path.exists(self.told):
+            return ended, 0, 1
         with open(self.told, encoding="ascii") as it:
             count, refused = map(int, it.read().split())
         os.remove(self.told)
-        return (ran.returncode, ran.stdout, ran.stderr), count, refused
+        return ended, count, refused
 
 
 def kind_of(ended, ample):
