@@ -1,7 +1,6 @@
 #!/usr/bin/env python3
 """That growths.py and deep.py can fail: each is given a stand-in for wmod, as it should be and then with one thing wrong."""
 import os
-import shutil
 import subprocess
 import sys
 import tempfile
@@ -50,8 +49,7 @@ def built(room, refused, deeper):
     source, program = f"{room}/stand_in.c", f"{room}/stand_in"
     with open(source, "w", encoding="ascii") as it:
         it.write(STAND_IN.replace("REFUSED", refused).replace("DEEPER", deeper))
-    compiler = next(it for it in ("cc", "gcc", "clang") if shutil.which(it))
-    subprocess.run([compiler, "-O0", "-w", source, "-o", program], check=True)
+    subprocess.run([growths.compiler(), "-O0", "-w", source, "-o", program], check=True)
     return program
 
 
