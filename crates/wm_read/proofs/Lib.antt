@@ -38,6 +38,7 @@ pub mod Balanced
 pub mod Rules
 pub mod HeadLaws
 pub mod ModuleLaws
+pub mod OlderWords
 pub mod TextLaws
 pub mod Spaces
 pub mod PrintedNumbers

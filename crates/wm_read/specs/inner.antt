@@ -11,3 +11,4 @@ pub mod Pieces
 pub mod Places
 pub mod Views
 pub mod Printed
+pub mod Renewed

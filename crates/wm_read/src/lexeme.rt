@@ -32,7 +32,7 @@ pub enum Lexeme<'a> {
 
 /// What stands first in a text, and what follows it.
 #[derive(Clone, Copy)]
-enum Found<'a> {
+pub enum Found<'a> {
     /// The text is empty.
     Nothing,
     /// White space or a comment.
@@ -43,7 +43,7 @@ enum Found<'a> {
 
 /// What stands first.
 #[tactic(auto, unfolding(crate::specs::exact::Scan::ahead))]
-fn ahead(text: &[u8]) -> Found
+pub fn ahead(text: &[u8]) -> Found
     ensures found { ahead_of result ≡ scan.ahead text.now }
     ensures why { FaultOfTokens result }
 {

@@ -22,9 +22,11 @@ mod named;
 mod named_uses;
 mod operands;
 mod pieces;
+mod renewed;
 #[cfg(test)]
 mod rows;
 mod scan;
 mod signatures;
+pub mod spellings;
 pub mod text;
 mod type_uses;

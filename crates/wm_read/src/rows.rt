@@ -37,7 +37,11 @@ const FIRST: [&str; 21] = [
     signatures::tests::SIGNATURES,
 ];
 
-const TEXTS: [&str; 2] = [text::tests::MODULES, text::tests::REFUSALS];
+const TEXTS: [&str; 3] = [
+    text::tests::MODULES,
+    text::tests::REFUSALS,
+    text::tests::OLDER,
+];
 
 const LARGE: [&str; 1] = [text::tests::LARGE];
 

@@ -1,7 +1,8 @@
 //! Whole texts (section 6.6.13).
 
-ghost use Rattle.std.specs.Prelude.{◌≡◌, ◌≢◌, ◌≤◌, IfErr, IfOk, List, length};
+ghost use Rattle.std.specs.Prelude.{◌≡◌, ◌≢◌, ◌≤◌, IfErr, IfOk, List, length, map};
 ghost use Rattle.wm_read.specs.Fields.{Writes};
+ghost use Rattle.wm_read.specs.Spellings.{replaced};
 ghost use Rattle.wm_read.specs.Tokens.{Token, Tokens};
 ghost use Rattle.wm_read.specs.declared.faults.TextWhy.TheVariants.{Memory};
 ghost use Rattle.wm_read.specs.exact.Scan.{lexed};
@@ -17,6 +18,8 @@ use crate::heads::read_heads;
 use crate::identifiers::Names;
 use crate::lexeme::{check_tokens, next_token};
 use crate::operands::{close, id, open, refuse, word};
+use crate::renewed::renewed;
+use crate::spellings::Spellings;
 use std::alloc::Global;
 use wm_syntax::modules::Module;
 use wm_syntax::profile::Profile;
@@ -75,16 +78,41 @@ fn read_module(alloc: Global, profile: Profile, text: &[u8]) -> Result<Module, T
     module_within(alloc, profile, &names, inner)
 }
 
-/// The module that a text writes (chapter 6), of the profile. A text that is no UTF-8 is refused first, then the first
-/// fault of its tokens, then the first of what its fields define, and then the first of its fields.
+/// The same in these spellings. Where older words may stand, a copy is read in which they are overwritten.
+#[tactic(auto, using(crate::proofs::TextLaws::spelled_laws))]
+fn read_spelled(
+    alloc: Global,
+    profile: Profile,
+    spellings: Spellings,
+    text: &[u8],
+) -> Result<Module, TextFault>
+    ensures { Reads value_of result (modules.module_at profile (map (replaced spellings) (lexed text.now))) }
+{
+    match spellings {
+        Spellings::Standard => read_module(alloc, profile, text),
+        Spellings::Older => {
+            let copy = renewed(alloc, text)?;
+            read_module(alloc, profile, &copy)
+        }
+    }
+}
+
+/// The module that a text writes (chapter 6), of the profile, once each older word is replaced where these are read. A text
+/// that is no UTF-8 is refused first, then the first fault of its tokens, then the first of what its fields define, and
+/// then the first of its fields.
 #[tactic(auto, using(crate::proofs::TextLaws::text_laws))]
-pub fn read_text(alloc: Global, profile: Profile, text: &[u8]) -> Result<Module, TextRefusal>
-    ensures written { IfOk result (λ m. (k : List Token) × Tokens text.now k × Writes profile k (value_of m)) }
-    ensures refused { IfErr result (λ e. e.why ≢ Memory → (k : List Token) (m : values.Module) → Tokens text.now k → Writes profile k m → ⊥) }
+pub fn read_text(
+    alloc: Global,
+    profile: Profile,
+    spellings: Spellings,
+    text: &[u8],
+) -> Result<Module, TextRefusal>
+    ensures written { IfOk result (λ m. (k : List Token) × Tokens text.now k × Writes profile (map (replaced spellings) k) (value_of m)) }
+    ensures refused { IfErr result (λ e. e.why ≢ Memory → (k : List Token) (m : values.Module) → Tokens text.now k → Writes profile (map (replaced spellings) k) m → ⊥) }
     ensures at { IfErr result (λ e. e.at ≤ length text.now) }
 {
     check_tokens(text)?;
-    match read_module(alloc, profile, text) {
+    match read_spelled(alloc, profile, spellings, text) {
         Ok(module) => Ok(module),
         Err(fault) => Err(fault.refusal(text)),
     }

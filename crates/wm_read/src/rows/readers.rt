@@ -23,6 +23,7 @@ use crate::named_uses::named_use;
 use crate::operands::close;
 use crate::pieces::tests::three_labels;
 use crate::signatures::signature;
+use crate::spellings::Spellings;
 use crate::text::read_text;
 use std::alloc::Global;
 use std::test::Fail;
@@ -59,7 +60,7 @@ fn of_many(alloc: Global, text: &str) -> Result<String, Fail> {
 /// How many bytes the canonical binary of a text's module has, which is checked.
 fn of_large(alloc: Global, profile: Profile, text: &str) -> Result<String, Fail> {
     let text = repeated(alloc, text)?;
-    match read_text(alloc, profile, text.as_bytes()) {
+    match read_text(alloc, profile, Spellings::Standard, text.as_bytes()) {
         Ok(module) => match check(alloc, profile, &module) {
             Ok(checked) => shown_length(alloc, checked.module()),
             Err(fault) => Ok(format!(in alloc; "{fault:?}")?),
@@ -128,8 +129,9 @@ fn of_fields<'a>(
         "desc" => of_desc(alloc, names, text),
         "item" => of_item(alloc, names, text),
         "fields" => of_list(alloc, profile, names, text),
-        "text" => of_text(alloc, profile, false, text),
-        "check" => of_text(alloc, profile, true, text),
+        "text" => of_text(alloc, profile, Spellings::Standard, text),
+        "older" => of_text(alloc, profile, Spellings::Older, text),
+        "check" => of_checked(alloc, profile, text),
         "heads" => shown(alloc, read_heads(alloc, text)),
         _ => of_names(alloc, names, rest, reader, text),
     }
@@ -218,10 +220,21 @@ fn of_list<'a>(
     }
 }
 
-fn of_text(alloc: Global, profile: Profile, checks: bool, text: &[u8]) -> Result<String, Fail> {
-    match read_text(alloc, profile, text) {
-        Ok(module) if checks => of_module(alloc, profile, &module),
+fn of_text(
+    alloc: Global,
+    profile: Profile,
+    spellings: Spellings,
+    text: &[u8],
+) -> Result<String, Fail> {
+    match read_text(alloc, profile, spellings, text) {
         Ok(module) => shown_module(alloc, &module, b""),
+        Err(refusal) => shown_refusal(alloc, refusal),
+    }
+}
+
+fn of_checked(alloc: Global, profile: Profile, text: &[u8]) -> Result<String, Fail> {
+    match read_text(alloc, profile, Spellings::Standard, text) {
+        Ok(module) => of_module(alloc, profile, &module),
         Err(refusal) => shown_refusal(alloc, refusal),
     }
 }

@@ -38,8 +38,52 @@ text (module (func (wrong)) (export "\zz" => BadEscape at 31
 text (module (start $f)) => UnknownId at 15
 "#;
 
+/// Older words, in pairs: each is refused where it is not read, and read where it is.
+pub(crate) const OLDER: &str = r#"given )
+text (module (type (func (param i32) (result i32))) (func (type 0) get_local 0)) => UnknownWord at 62
+older (module (type (func (param i32) (result i32))) (func (type 0) get_local 0)) => 0061736d0100000001060160017f017f030201000a0601040020000b|
+text (module (type (func (param i32))) (func (type 0) i32.const 1 set_local 0)) => UnknownWord at 61
+older (module (type (func (param i32))) (func (type 0) i32.const 1 set_local 0)) => 0061736d0100000001050160017f00030201000a08010600410121000b|
+text (module (type (func (param i32))) (func (type 0) i32.const 1 tee_local 0 drop)) => UnknownWord at 61
+older (module (type (func (param i32))) (func (type 0) i32.const 1 tee_local 0 drop)) => 0061736d0100000001050160017f00030201000a09010700410122001a0b|
+text (module (import "" "" (global i32)) (global i32 get_global 0)) => UnknownWord at 48
+older (module (import "" "" (global i32)) (global i32 get_global 0)) => 0061736d010000000206010000037f000606017f0023000b|
+text (module (type (func)) (global (mut i32) i32.const 0) (func (type 0) i32.const 1 set_global 0)) => UnknownWord at 80
+older (module (type (func)) (global (mut i32) i32.const 0) (func (type 0) i32.const 1 set_global 0)) => 0061736d01000000010401600000030201000606017f0141000b0a08010600410124000b|
+text (module (type (func)) (memory 0) (func (type 0) current_memory drop)) => UnknownWord at 48
+older (module (type (func)) (memory 0) (func (type 0) current_memory drop)) => 0061736d010000000104016000000302010005030100000a070105003f001a0b|
+text (module (type (func)) (memory 0) (func (type 0) i32.const 1 grow_memory drop)) => UnknownWord at 60
+older (module (type (func)) (memory 0) (func (type 0) i32.const 1 grow_memory drop)) => 0061736d010000000104016000000302010005030100000a09010700410140001a0b|
+text (module (type (func)) (func (type 0) i64.const 1 i32.wrap/i64 drop)) => UnknownWord at 49
+older (module (type (func)) (func (type 0) i64.const 1 i32.wrap/i64 drop)) => 0061736d01000000010401600000030201000a080106004201a71a0b|
+text (module (type (func)) (func (type 0) i32.const 1 i64.extend_s/i32 drop)) => UnknownWord at 49
+older (module (type (func)) (func (type 0) i32.const 1 i64.extend_s/i32 drop)) => 0061736d01000000010401600000030201000a080106004101ac1a0b|
+text (module (type (func)) (func (type 0) i32.const 1 i64.extend_u/i32 drop)) => UnknownWord at 49
+older (module (type (func)) (func (type 0) i32.const 1 i64.extend_u/i32 drop)) => 0061736d01000000010401600000030201000a080106004101ad1a0b|
+text (module (table 1 anyfunc)) => Expected at 17
+older (module (table 1 anyfunc)) => 0061736d01000000040401700001|
+;; standard words stay, and older ones with a comment, a parenthesis or a string beside them are read
+older (module (type (func (param i32))) (func (type 0) get_local(;get_local;)0 drop local.get 0;;get_local␊drop)) => 0061736d0100000001050160017f00030201000a0a01080020001a20001a0b|
+older (module (table 1 anyfunc)(memory 0)(type (func))(func (type 0) current_memory(;;)drop current_memory;;␊drop)) => 0061736d010000000104016000000302010004040170000105030100000a0a0108003f001a3f001a0b|
+;; in strings and identifiers nothing is replaced
+older (module (memory 0) (export "get_local" (memory 0))) => 0061736d010000000503010000070d01096765745f6c6f63616c0200|
+older (module (memory 1) (data 0 (offset i32.const 0) "current_memory" "anyfunc")) => 0061736d0100000005030100010b1b010041000b1563757272656e745f6d656d6f7279616e7966756e63|
+older (module (type (func)) (func $get_local (type 0)) (func $local.get (type 0)) (start $get_local)) => 0061736d0100000001040160000003030200000801000a070202000b02000b|
+;; places are those of the text as it is
+older (module (type (func)) (func (type 0) current_memory current_memory wrong)) => UnknownWord at 67
+older (module (type (func)) (func (type 0) current_memory => Expected at 51
+older (module (type (func)) (func (type 0) br current_memory)) => Expected at 40
+older (module (table 1 anyfunc anyfunc)) => Expected at 25
+older (module current_memory "\u{110000}") => BadEscape at 23
+;; words that are like older ones
+older (module (type (func)) (func (type 0) get_locals)) => UnknownWord at 37
+older (module (type (func)) (func (type 0) get_loca)) => UnknownWord at 37
+older (module (type (func)) (func (type 0) i64.extend_s/i64)) => UnknownWord at 37
+older (module (type (func)) (func (type 0) i32.trunc_s/f32)) => UnknownWord at 37
+"#;
+
 fn expect_no_utf8(rt: &impl Abort, alloc: Global, profile: Profile) {
-    let refusal = read_text(alloc, profile, b"(module \"\xff").err();
+    let refusal = read_text(alloc, profile, Spellings::Standard, b"(module \"\xff").err();
     let why = TextWhy::NotUtf8;
     assert!(rt; refusal == Some(TextRefusal { at: 9, why }));
 }

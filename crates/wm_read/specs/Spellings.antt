@@ -1,0 +1,30 @@
+-- Older spellings of words, from before the standard, and the words that they are read as.
+use Rattle.std.specs.Prelude.{ℕ, List, [], ◌∷◌, codes}
+use Rattle.std.specs.Map.{lookup}
+use Rattle.std.specs.Option.{unwrap_or}
+use Rattle.std.specs.Str.{bytes_eq}
+use Rattle.wm_read.specs.Tokens.{Token, atom}
+use Rattle.wm_read.specs.declared.spellings.Spellings.{Spellings}
+use Rattle.wm_read.specs.declared.spellings.Spellings.TheVariants.{Standard, Older}
+
+-- each older word, and the standard word that it is read as
+abbrev pub older_words : List (List ℕ × List ℕ)
+older_words =
+    (codes "get_local", codes "local.get")
+    ∷ (codes "set_local", codes "local.set")
+    ∷ (codes "tee_local", codes "local.tee")
+    ∷ (codes "get_global", codes "global.get")
+    ∷ (codes "set_global", codes "global.set")
+    ∷ (codes "current_memory", codes "memory.size")
+    ∷ (codes "grow_memory", codes "memory.grow")
+    ∷ (codes "i32.wrap/i64", codes "i32.wrap_i64")
+    ∷ (codes "i64.extend_s/i32", codes "i64.extend_i32_s")
+    ∷ (codes "i64.extend_u/i32", codes "i64.extend_i32_u")
+    ∷ (codes "anyfunc", codes "funcref")
+    ∷ []
+
+-- the token that one is read as: another only where it is an older word, and these are read
+abbrev pub replaced : Spellings → Token → Token
+replaced Older (atom a) = atom (unwrap_or (lookup (bytes_eq a) older_words) a)
+replaced Older t = t
+replaced Standard t = t

@@ -1,0 +1,28 @@
+-- A text in which older words are overwritten by their standard words.
+use Rattle.std.specs.Prelude.{◌≡◌, ℕ, ◌-◌, List, ◌++◌, length, map, replicate}
+use Rattle.std.specs.Map.{lookup}
+use Rattle.std.specs.Option.{unwrap_or}
+use Rattle.std.specs.Str.{bytes_eq}
+use Rattle.wm_read.specs.Spellings.{older_words, replaced}
+use Rattle.wm_read.specs.Tokens.{Token, atom, Ends}
+use Rattle.wm_read.specs.exact.Scan.{lexed}
+use Rattle.wm_read.specs.declared.spellings.Spellings.TheVariants.{Older}
+
+-- a standard word and spaces, as long as the older one
+abbrev pub filled : List ℕ → List ℕ → List ℕ
+filled older word = word ++ replicate (length older - length word) 32
+
+abbrev pub filled_words : List (List ℕ × List ℕ)
+filled_words = map (λ e. (e.0, filled e.0 e.1)) older_words
+
+-- what is written for a token, of which this is the text
+abbrev pub part_for : Token → List ℕ → List ℕ
+part_for (atom a) part = unwrap_or (lookup (bytes_eq a) filled_words) part
+part_for _ part = part
+
+-- As long as the text, and with its tokens, each older word replaced; and a token that may stand before the text may stand
+-- before this.
+pub record Renewed (text out : List ℕ) : Type 0 where
+  pub tokens : lexed out ≡ map (replaced Older) (lexed text)
+  pub size : length out ≡ length text
+  pub ends : (t : Token) → Ends t text → Ends t out
