@@ -21,6 +21,8 @@ use Rattle.wm_write.specs.Canon.{Fits, canon}
 use Rattle.wm_write.specs.Layout.{layout}
 use Rattle.wm_write.proofs.Shortest.{spelled_fits}
 use Rattle.wm_cli.specs.declared.words.Action.{Action}
+use Rattle.wm_rules.specs.declared.policy.Policy.{Policy}
+use Rattle.wm_read.specs.declared.spellings.Spellings.{Spellings}
 use Rattle.wm_rules.specs.Reading.{Answers, LoadedInput, RefusedInput}
 use Rattle.wm_rules.specs.declared.reading.FromFault.{FromFault}
 use Rattle.wm_rules.specs.declared.reading.FromFault.TheVariants as fault
@@ -43,72 +45,72 @@ line_of_action Canon j place why n = (place, why, n, refl)
 line_of_action Show j place why n = (place, why, n, refl)
 line_of_action Build j place why n = absurd j
 
-refused_out : (action : Action) → IsJudged action → (p : Profile) (limit : ℕ) (input : List ℕ) (r : Refusal) → r.why ≢ Memory → (Accepted p limit input → ⊥) → r.at ≤ length input
-    → verdict p limit input ≡ Err r → OutOf action p limit input (refusal_line r.at r.why) status.Refused
-refused_out Check j p limit input r why none place same = inr (none, (r, why, place, same, refl), refl)
-refused_out Stats j p limit input r why none place same = inr (none, (r, why, place, same, refl), refl)
-refused_out Canon j p limit input r why none place same = inr (none, (r, why, place, same, refl), refl)
-refused_out Show j p limit input r why none place same = inr (none, (r, why, place, same, refl), refl)
-refused_out Build j p limit input r why none place same = absurd j
+refused_out : (action : Action) → IsJudged action → (p : Profile) (limit : ℕ) (q : Policy) (s : Spellings) (input : List ℕ) (r : Refusal) → r.why ≢ Memory → (Accepted p limit q input → ⊥) → r.at ≤ length input
+    → verdict p limit q input ≡ Err r → OutOf action p limit q s input (refusal_line r.at r.why) status.Refused
+refused_out Check j p limit q s input r why none place same = inr (none, (r, why, place, same, refl), refl)
+refused_out Stats j p limit q s input r why none place same = inr (none, (r, why, place, same, refl), refl)
+refused_out Canon j p limit q s input r why none place same = inr (none, (r, why, place, same, refl), refl)
+refused_out Show j p limit q s input r why none place same = inr (none, (r, why, place, same, refl), refl)
+refused_out Build j p limit q s input r why none place same = absurd j
 
-early_out : (action : Action) → IsJudged action → (p : Profile) (limit : ℕ) (input : List ℕ) (left : Option (List ℕ)) (r : Refusal) → r.why ≢ Memory → NeverAccepted p limit input r
-    → IsRightFor action p limit input left (refusal_line r.at r.why) status.Refused
-early_out action j p limit input left r why n = inr (
+early_out : (action : Action) → IsJudged action → (p : Profile) (limit : ℕ) (q : Policy) (s : Spellings) (input : List ℕ) (left : Option (List ℕ)) (r : Refusal) → r.why ≢ Memory → NeverAccepted p limit q input r
+    → IsRightFor action p limit q s input left (refusal_line r.at r.why) status.Refused
+early_out action j p limit q s input left r why n = inr (
   n.used,
   n.rest,
   n.whole,
   λ more.
       let size : length (n.used ++ more) ≡ length n.used + length more = length-append n.used more in
-      refused_out action j p limit (n.used ++ more) r why (n.never more) (omega (arith, size, n.at)) (n.same more),
+      refused_out action j p limit q s (n.used ++ more) r why (n.never more) (omega (arith, size, n.at)) (n.same more),
 )
 
-out_of_refusal : (action : Action) → IsJudged action → (p : Profile) (limit : ℕ) (all left : Option (List ℕ)) (r : Refusal) → r.why ≢ Memory
-    → IfSome all (λ input. RefusedInput p limit input left r) → IfSome all (λ input. IsRightFor action p limit input left (refusal_line r.at r.why) status.Refused)
-out_of_refusal action judged p limit None left r why j = tt
-out_of_refusal action judged p limit (Some input) left r why j =
+out_of_refusal : (action : Action) → IsJudged action → (p : Profile) (limit : ℕ) (q : Policy) (s : Spellings) (all left : Option (List ℕ)) (r : Refusal) → r.why ≢ Memory
+    → IfSome all (λ input. RefusedInput p limit q input left r) → IfSome all (λ input. IsRightFor action p limit q s input left (refusal_line r.at r.why) status.Refused)
+out_of_refusal action judged p limit q s None left r why j = tt
+out_of_refusal action judged p limit q s (Some input) left r why j =
     elim (j.not_accepted why) [
-      | inl n ↦ early_out action judged p limit input left r why n
-      | inr e ↦ inl (e.0, refused_out action judged p limit input r why e.1 (omega (arith, j.place)) (j.same why))
+      | inl n ↦ early_out action judged p limit q s input left r why n
+      | inr e ↦ inl (e.0, refused_out action judged p limit q s input r why e.1 (omega (arith, j.place)) (j.same why))
     ]
 
 -- where an input is refused, the line of its refusal is an output and right for what was read
-pub out_of_fault : {A : Type 0} (IsRight : List ℕ → Option (List ℕ) → A → Type 0) (action : Action) → IsJudged action → (p : Profile) (limit : ℕ) (all left : Option (List ℕ)) (f : FromFault)
-    → Answers IsRight p limit all left (Err f) → (r : Refusal) → f ≡ fault.Refused r → r.why ≢ Memory
+pub out_of_fault : {A : Type 0} (IsRight : List ℕ → Option (List ℕ) → A → Type 0) (action : Action) → IsJudged action → (p : Profile) (limit : ℕ) (q : Policy) (s : Spellings) (all left : Option (List ℕ)) (f : FromFault)
+    → Answers IsRight p limit q all left (Err f) → (r : Refusal) → f ≡ fault.Refused r → r.why ≢ Memory
     → IsOutput action (refusal_line r.at r.why) status.Refused
-    × IfSome all (λ input. IsRightFor action p limit input left (refusal_line r.at r.why) status.Refused)
-out_of_fault IsRight action judged p limit all left f answers r is why = (
+    × IfSome all (λ input. IsRightFor action p limit q s input left (refusal_line r.at r.why) status.Refused)
+out_of_fault IsRight action judged p limit q s all left f answers r is why = (
   inr (line_of_action action judged r.at r.why why, refl),
-  out_of_refusal action judged p limit all left r why (subst (λ z. Answers IsRight p limit all left (Err z)) is answers),
+  out_of_refusal action judged p limit q s all left r why (subst (λ z. Answers IsRight p limit q all left (Err z)) is answers),
 )
 
 -- an action that writes this of a module that it loaded
 pub record WritesOf (action : Action) (form : Module → List ℕ) : Type 0 where
-  pub out : (p : Profile) (limit : ℕ) (input : List ℕ) (m : Module) → Accepted p limit input → Loads p limit input m → OutOf action p limit input (form m) status.Done
+  pub out : (p : Profile) (limit : ℕ) (q : Policy) (s : Spellings) (input : List ℕ) (m : Module) → Accepted p limit q input → Loads p limit q input m → OutOf action p limit q s input (form m) status.Done
   pub report : (m : Module) → IsReport action (form m)
 
 pub writes_canon : (action : Action) → action ≡ Canon → WritesOf action canon
 writes_canon action is =
-    subst (λ a. WritesOf a canon) (sym is) (record { out = λ p limit input m a l. inl (a, (m, l, refl), refl); report = λ m. (m, refl) })
+    subst (λ a. WritesOf a canon) (sym is) (record { out = λ p limit q s input m a l. inl (a, (m, l, refl), refl); report = λ m. (m, refl) })
 
 pub writes_layout : (action : Action) → action ≡ Show → WritesOf action layout
 writes_layout action is =
-    subst (λ a. WritesOf a layout) (sym is) (record { out = λ p limit input m a l. inl (a, (m, l, refl), refl); report = λ m. (m, refl) })
+    subst (λ a. WritesOf a layout) (sym is) (record { out = λ p limit q s input m a l. inl (a, (m, l, refl), refl); report = λ m. (m, refl) })
 
 -- a module that was loaded, and what is written of it
-loaded_out : (action : Action) (form : Module → List ℕ) → WritesOf action form → (p : Profile) (limit : ℕ) (all left : Option (List ℕ)) (c : Checked)
-    → IfSome all (λ input. LoadedInput p limit input left c)
-    → IfSome all (λ input. IsRightFor action p limit input left (form (value_of (module_in c))) status.Done)
-loaded_out action form w p limit None left c j = tt
-loaded_out action form w p limit (Some input) left c j =
+loaded_out : (action : Action) (form : Module → List ℕ) → WritesOf action form → (p : Profile) (limit : ℕ) (q : Policy) (s : Spellings) (all left : Option (List ℕ)) (c : Checked)
+    → IfSome all (λ input. LoadedInput p limit q input left c)
+    → IfSome all (λ input. IsRightFor action p limit q s input left (form (value_of (module_in c))) status.Done)
+loaded_out action form w p limit q s None left c j = tt
+loaded_out action form w p limit q s (Some input) left c j =
     let m = value_of (module_in c) in
-    let accepted : Accepted p limit input = record { module_value = m; spelled = j.loads.spelled; of_profile = j.loads.of_profile; valid = j.loads.valid } in
-    inl (j.at_end, w.out p limit input m accepted j.loads)
+    let accepted : Accepted p limit q input = record { module_value = m; spelled = j.loads.spelled; of_profile = j.loads.of_profile; valid = j.loads.valid; within = j.loads.within } in
+    inl (j.at_end, w.out p limit q s input m accepted j.loads)
 
-pub out_of_loaded : (action : Action) (form : Module → List ℕ) → WritesOf action form → (p : Profile) (limit : ℕ) (all left : Option (List ℕ)) (c : Checked)
-    → IfSome all (λ input. LoadedInput p limit input left c)
+pub out_of_loaded : (action : Action) (form : Module → List ℕ) → WritesOf action form → (p : Profile) (limit : ℕ) (q : Policy) (s : Spellings) (all left : Option (List ℕ)) (c : Checked)
+    → IfSome all (λ input. LoadedInput p limit q input left c)
     → IsOutput action (form (value_of (module_in c))) status.Done
-    × IfSome all (λ input. IsRightFor action p limit input left (form (value_of (module_in c))) status.Done)
-out_of_loaded action form w p limit all left c j = (inl (w.report (value_of (module_in c)), refl), loaded_out action form w p limit all left c j)
+    × IfSome all (λ input. IsRightFor action p limit q s input left (form (value_of (module_in c))) status.Done)
+out_of_loaded action form w p limit q s all left c j = (inl (w.report (value_of (module_in c)), refl), loaded_out action form w p limit q s all left c j)
 
 -- what was loaded is not too large
 pub loaded_fits : (m : Module) → ∥ IsLoaded m ∥₁ → (¬ Fits m) → ⊥
@@ -150,24 +152,24 @@ read_whole limit (Some input) (Some rest) read c le e =
 
 -- ---- of a text
 
-module_output : (p : Profile) (m : Module) (written : List ℕ) (status : Status) → ModuleOut p m written status → IsOutput Build written status
-module_output p m written status (inl (v, f, e, s)) = inl ((m, e), s)
-module_output p m written status (inr (inl (n, f, (r, why, place, same, e), s))) = inr (inr (inr (inl (r.at, r.why, why, e))), s)
-module_output p m written status (inr (inr (n, e, s))) = inr (inr (inr (inr e)), s)
+module_output : (p : Profile) (q : Policy) (m : Module) (written : List ℕ) (status : Status) → ModuleOut p q m written status → IsOutput Build written status
+module_output p q m written status (inl (v, w, f, e, s)) = inl ((m, e), s)
+module_output p q m written status (inr (inl (n, f, (r, why, place, same, e), s))) = inr (inr (inr (inl (r.at, r.why, why, e))), s)
+module_output p q m written status (inr (inr (n, e, s))) = inr (inr (inr (inr e)), s)
 
-pub text_output : (p : Profile) (text written : List ℕ) (status : Status) → TextOut p text written status → IsOutput Build written status
-text_output p text written status (inl (m, t, out)) = module_output p m written status out
-text_output p text written status (inr (n, (place, why, w, le, e), s)) = inr (inr (inl (place, why, w, e)), s)
+pub text_output : (p : Profile) (q : Policy) (s : Spellings) (text written : List ℕ) (status : Status) → TextOut p q s text written status → IsOutput Build written status
+text_output p q s text written status (inl (m, t, out)) = module_output p q m written status out
+text_output p q s text written status (inr (n, (place, why, w, le, e), is)) = inr (inr (inl (place, why, w, e)), is)
 
 -- what was answered of a text that was read whole, and of one that is longer than the limit
-pub right_text : (p : Profile) (limit : ℕ) (all left : Option (List ℕ)) (read written : List ℕ) (status : Status)
-    → IfSome all (λ input. IsAtEnd left × (read ≡ input) × (length input ≤ limit)) → TextOut p read written status
-    → IfSome all (λ input. IsRightFor Build p limit input left written status)
-right_text p limit None left read written status h out = tt
-right_text p limit (Some input) left read written status h out = inl (h.0, inl (h.2, subst (λ z. TextOut p z written status) h.1 out))
+pub right_text : (p : Profile) (limit : ℕ) (q : Policy) (s : Spellings) (all left : Option (List ℕ)) (read written : List ℕ) (status : Status)
+    → IfSome all (λ input. IsAtEnd left × (read ≡ input) × (length input ≤ limit)) → TextOut p q s read written status
+    → IfSome all (λ input. IsRightFor Build p limit q s input left written status)
+right_text p limit q s None left read written status h out = tt
+right_text p limit q s (Some input) left read written status h out = inl (h.0, inl (h.2, subst (λ z. TextOut p q s z written status) h.1 out))
 
-pub right_long : (p : Profile) (limit : ℕ) (all left : Option (List ℕ))
+pub right_long : (p : Profile) (limit : ℕ) (q : Policy) (s : Spellings) (all left : Option (List ℕ))
     → IfSome all (λ input. (read rest : List ℕ) × (input ≡ read ++ rest) × (limit < length read))
-    → IfSome all (λ input. IsRightFor Build p limit input left (refusal_line (limit + 1) TooLong) status.Refused)
-right_long p limit None left h = tt
-right_long p limit (Some input) left (read, rest, e, lt) = inr (read, rest, e, λ more. inr (omega (arith, lt, length-append read more), refl, refl))
+    → IfSome all (λ input. IsRightFor Build p limit q s input left (refusal_line (limit + 1) TooLong) status.Refused)
+right_long p limit q s None left h = tt
+right_long p limit q s (Some input) left (read, rest, e, lt) = inr (read, rest, e, λ more. inr (omega (arith, lt, length-append read more), refl, refl))

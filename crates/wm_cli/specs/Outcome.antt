@@ -9,6 +9,8 @@ use Rattle.wm_cli.specs.declared.words.Action.{Action}
 use Rattle.wm_cli.specs.declared.words.Action.TheVariants.{Check, Stats, Canon, Show, Build}
 use Rattle.std.specs.Io.KnownBytes.{IsAtEnd}
 use Rattle.wm_rules.specs.declared.checker.Summary.{Summary}
+use Rattle.wm_rules.specs.declared.policy.Policy.{Policy}
+use Rattle.wm_read.specs.declared.spellings.Spellings.{Spellings}
 use Rattle.wm_rules.specs.Bounds.{SummaryOf}
 use Rattle.wm_rules.specs.Loading.{Loads}
 use Rattle.wm_syntax.specs.Modules.{Module}
@@ -39,30 +41,30 @@ stats_text s =
 
 -- The bytes of a module are judged: where they are accepted, a report; else one refusal, other than for memory, at a place
 -- within them, which they alone determine.
-abbrev pub Judged : (List ℕ → Type 0) → Profile → ℕ → List ℕ → List ℕ → Status → Type 0
-Judged Report p limit input written status =
-    (Accepted p limit input × Report written × (status ≡ Done))
-    ⊎ ((Accepted p limit input → ⊥)
-    × ((r : Refusal) × (r.why ≢ Memory) × (r.at ≤ length input) × (verdict p limit input ≡ Err r) × (written ≡ refusal_line r.at r.why))
+abbrev pub Judged : (List ℕ → Type 0) → Profile → ℕ → Policy → List ℕ → List ℕ → Status → Type 0
+Judged Report p limit q input written status =
+    (Accepted p limit q input × Report written × (status ≡ Done))
+    ⊎ ((Accepted p limit q input → ⊥)
+    × ((r : Refusal) × (r.why ≢ Memory) × (r.at ≤ length input) × (verdict p limit q input ≡ Err r) × (written ≡ refusal_line r.at r.why))
     × (status ≡ Refused))
 
 -- What an action writes of an input: `valid`; the figures of its summary, which the bytes alone determine; the canonical
 -- binary of the module that it spells (section 5.5.15); or the printed text of that module (chapter 6). What `build`
--- writes of a text is the canonical binary of the module that it writes.
-abbrev pub OutOf : Action → Profile → ℕ → List ℕ → List ℕ → Status → Type 0
-OutOf Check p limit input = Judged (λ written. written ≡ valid_line) p limit input
-OutOf Stats p limit input =
-    Judged (λ written. (s : Summary) × SummaryOf p limit input s × (verdict p limit input ≡ Ok s) × (written ≡ stats_text s)) p limit input
-OutOf Canon p limit input = Judged (λ written. (m : Module) × Loads p limit input m × (written ≡ canon m)) p limit input
-OutOf Show p limit input = Judged (λ written. (m : Module) × Loads p limit input m × (written ≡ layout m)) p limit input
-OutOf Build p limit input = BuildOut p limit input
+-- writes of a text is the canonical binary of the module that it writes; the spellings are those of a text.
+abbrev pub OutOf : Action → Profile → ℕ → Policy → Spellings → List ℕ → List ℕ → Status → Type 0
+OutOf Check p limit q s input = Judged (λ written. written ≡ valid_line) p limit q input
+OutOf Stats p limit q s input =
+    Judged (λ written. (f : Summary) × SummaryOf p limit q input f × (verdict p limit q input ≡ Ok f) × (written ≡ stats_text f)) p limit q input
+OutOf Canon p limit q s input = Judged (λ written. (m : Module) × Loads p limit q input m × (written ≡ canon m)) p limit q input
+OutOf Show p limit q s input = Judged (λ written. (m : Module) × Loads p limit q input m × (written ≡ layout m)) p limit q input
+OutOf Build p limit q s input = BuildOut p limit q s input
 
 -- What was written and answered is right for the input, where all of it was read; else it is right for every input that
 -- begins with what was read.
-abbrev pub IsRightFor : Action → Profile → ℕ → List ℕ → Option (List ℕ) → List ℕ → Status → Type 0
-IsRightFor action p limit input left written status =
-    (IsAtEnd left × OutOf action p limit input written status)
-    ⊎ ((read rest : List ℕ) × (input ≡ read ++ rest) × ((more : List ℕ) → OutOf action p limit (read ++ more) written status))
+abbrev pub IsRightFor : Action → Profile → ℕ → Policy → Spellings → List ℕ → Option (List ℕ) → List ℕ → Status → Type 0
+IsRightFor action p limit q s input left written status =
+    (IsAtEnd left × OutOf action p limit q s input written status)
+    ⊎ ((read rest : List ℕ) × (input ≡ read ++ rest) × ((more : List ℕ) → OutOf action p limit q s (read ++ more) written status))
 
 -- a text that an action may report
 abbrev pub IsReport : Action → List ℕ → Type 0

@@ -21,7 +21,9 @@ use std::alloc::Global;
 use wm_decode::Refusal;
 use wm_read::check::{CheckFault, check};
 use wm_read::faults::{TextRefusal, TextWhy};
+use wm_read::spellings::Spellings;
 use wm_read::text::read_text;
+use wm_rules::Policy;
 use wm_syntax::io::{Dest, Source};
 use wm_syntax::modules::Module;
 use wm_syntax::profile::Profile;
@@ -75,6 +77,8 @@ pub fn build<R: Source, W: Dest>(
     alloc: Global,
     profile: Profile,
     limit: u64,
+    policy: Policy,
+    spellings: Spellings,
     r: &mut R,
     w: &mut W,
 ) -> Status
@@ -83,14 +87,15 @@ pub fn build<R: Source, W: Dest>(
     requires limit { limit ≤ 2 ^ 62 }
     ensures answered { R.has_failed r.new ≡ false → result ≢ Status.Memory → (text : List ℕ) × (status : Status)
         × IsOutput action.Build text status
-        × IfSome (R.remaining r.old) (λ input. IsRightFor action.Build profile limit input (R.remaining r.new) text status)
+        × IfSome (R.remaining r.old)
+        (λ input. IsRightFor action.Build profile limit policy spellings input (R.remaining r.new) text status)
         × IsAnswered text status (W.contents w.old) (W.contents w.new) (W.has_failed w.new) (W.is_flushed w.new) result }
     ensures reader { R.has_failed r.new ≡ true → (result ≡ Status.Io) × (w.new ≡ w.old) }
     ensures memory { result ≡ Status.Memory → w.new ≡ w.old }
     ensures io { (result ≡ Status.Io) ↔ ((R.has_failed r.new || W.has_failed w.new) ≡ true) }
 {
     match read_all(alloc, r, limit) {
-        Ok(text) => convert(alloc, profile, &text, w),
+        Ok(text) => convert(alloc, profile, policy, spellings, &text, w),
         Err(InputFault::TooLong) => {
             let at = limit + 1;
             refuse(
@@ -108,31 +113,44 @@ pub fn build<R: Source, W: Dest>(
 }
 
 /// Writes what becomes of a text.
-fn convert<W: Dest>(alloc: Global, profile: Profile, text: &[u8], w: &mut W) -> Status
+fn convert<W: Dest>(
+    alloc: Global,
+    profile: Profile,
+    policy: Policy,
+    spellings: Spellings,
+    text: &[u8],
+    w: &mut W,
+) -> Status
     requires { W.has_failed w.old ≡ false }
     ensures answered { result ≢ Status.Memory → (written : List ℕ) × (status : Status)
-        × TextOut profile text.now written status
+        × TextOut profile policy spellings text.now written status
         × IsAnswered written status (W.contents w.old) (W.contents w.new) (W.has_failed w.new) (W.is_flushed w.new) result }
     ensures memory { result ≡ Status.Memory → w.new ≡ w.old }
     ensures io { (result ≡ Status.Io) ↔ (W.has_failed w.new ≡ true) }
 {
-    match read_text(alloc, profile, text) {
-        Ok(m) => convert_module(alloc, profile, &m, w),
+    match read_text(alloc, profile, spellings, text) {
+        Ok(m) => convert_module(alloc, profile, policy, &m, w),
         Err(refusal) => refuse_text(alloc, refusal, w),
     }
 }
 
 /// Writes what becomes of a module of the profile.
-fn convert_module<W: Dest>(alloc: Global, profile: Profile, m: &Module, w: &mut W) -> Status
+fn convert_module<W: Dest>(
+    alloc: Global,
+    profile: Profile,
+    policy: Policy,
+    m: &Module,
+    w: &mut W,
+) -> Status
     requires open { W.has_failed w.old ≡ false }
     requires instructions { IsOf profile (value_of m.now) }
     ensures answered { result ≢ Status.Memory → (written : List ℕ) × (status : Status)
-        × ModuleOut profile (value_of m.now) written status
+        × ModuleOut profile policy (value_of m.now) written status
         × IsAnswered written status (W.contents w.old) (W.contents w.new) (W.has_failed w.new) (W.is_flushed w.new) result }
     ensures memory { result ≡ Status.Memory → w.new ≡ w.old }
     ensures io { (result ≡ Status.Io) ↔ (W.has_failed w.new ≡ true) }
 {
-    match check(alloc, profile, m) {
+    match check(alloc, profile, policy, m) {
         Ok(checked) => write_canonical(&checked, w),
         Err(CheckFault::Refused(refusal)) => refuse_module(alloc, refusal, w),
         Err(CheckFault::TooLarge) => answer(w, b"module refused: TooLarge\n", Status::Refused),

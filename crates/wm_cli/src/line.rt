@@ -1,10 +1,12 @@
 //! The words of the command line.
 
-ghost use Rattle.std.specs.Prelude.{ℕ, ◌≡◌, ◌≢◌, ◌≤◌, ◌^◌, ◌⊎◌, [], false, codes, map, option_map, IfOk, IfErr, IfSome, SomeIff, MatchOption};
+ghost use Rattle.std.specs.Prelude.{ℕ, ◌≡◌, ◌≢◌, ◌<◌, ◌≤◌, ◌^◌, ◌⊎◌, [], Option, false, codes, map, option_map, IfOk, IfErr, IfSome, SomeIff, MatchOption};
 ghost use Rattle.std.specs.Str.Parse.{IsNumeral, digits_value};
 ghost use Rattle.clap.specs.Words.{app_of, fault_of, first_value, found_of, rule_of};
 ghost use Rattle.wm_cli.specs.declared.words.LineFault.TheVariants.{Memory, Words};
-ghost use Rattle.wm_cli.specs.Lines.{IsFaultOf, IsLimit, IsProfile, IsWrong, Says, SaysNone, action_name, action_rule, file_rule, limit_rule, profile_name, profile_rule, versioned, wmod, word_of};
+ghost use Rattle.wm_cli.specs.Lines.{IsFaultOf, IsLimit, IsMost, IsPolicy, IsProfile, IsSpellings, IsWrong, Says, SaysNone, action_name, action_rule, file_rule, flag_rule, option_rule, profile_name, versioned, wmod, word_of};
+ghost use Rattle.wm_read.specs.declared.spellings.Spellings.{Spellings};
+ghost use Rattle.wm_rules.specs.declared.policy.Policy.{Policy};
 ghost use Rattle.wm_syntax.specs.declared.profile.Profile.{Profile};
 
 use crate::words::{Action, Line, LineFault};
@@ -12,6 +14,8 @@ use clap::{Arg, ArgAction, ArgMatches, Command};
 use std::alloc::{AllocError, Global};
 use std::convert::AsStr;
 use std::fmt;
+use wm_read::spellings::Spellings;
+use wm_rules::Policy;
 use wm_syntax::profile::Profile;
 
 const DEFAULT_LIMIT: u64 = 4294967295;
@@ -30,6 +34,17 @@ fn limit_of(text: &str) -> Option<u64>
         Ok(limit) if limit <= MOST_LIMIT => Some(limit),
         _ => None,
     }
+}
+
+/// A limit of a policy in decimal digits, below 2^32.
+fn most_of(text: &str) -> Option<u32>
+    ensures { SomeIff result (IsNumeral 10 text.now × (digits_value 10 text.now < 2 ^ 32)) (digits_value 10 text.now) }
+{
+    // `parse` takes a sign
+    if text.starts_with('+') {
+        return None;
+    }
+    text.parse::<u32>().ok()
 }
 
 /// The action of this name.
@@ -70,13 +85,32 @@ const ANSWERS: &str =
     `build` writes `text refused at N: NAME`: N bytes stand before the token that decided it;\n\
     or `module refused at N: NAME` of an invalid module: N is a place of its canonical binary.\n\
     docs/REFUSALS.md explains each NAME.\n\n\
+    A megabyte may declare 2^32 locals, gigabytes of text. With --max-functions F and --max-locals L\n\
+    `show` of a stranger's module is safe: it then writes at most some 4 F L bytes for locals.\n\n\
     Exit status: 0 done, 1 refused, 2 wrong arguments, 3 cannot read or write, 4 out of memory.\n\n\
     Examples:\n  \
     wmod check module.wasm\n  \
     wmod stats --limit 1000000 < module.wasm\n  \
     wmod canon module.wasm > canonical.wasm\n  \
     wmod show module.wasm > module.wat\n  \
-    wmod build module.wat > module.wasm";
+    wmod show --max-functions 1000 --max-locals 1000 stranger.wasm > stranger.wat\n  \
+    wmod build module.wat > module.wasm\n  \
+    wmod build --old-words older.wat > module.wasm";
+
+// what help says of each option
+const PROFILE: &str = "1, or 2 for sign-extension instructions too [default: 1]";
+
+const LIMIT: &str = "The most bytes that the input may have [default: 4294967295]";
+
+const MAX_FUNCTIONS: &str =
+    "The most functions that the module may have, imported ones too [default: no limit]";
+
+const MAX_LOCALS: &str = "The most locals that a function may declare [default: no limit]";
+
+const MAX_OPEN: &str =
+    "The most blocks, loops and ifs that may be open at once [default: no limit]";
+
+const OLD_WORDS: &str = "Of `build`: read the words of older tools too, such as get_local";
 
 fn action_arg<'a>(alloc: Global) -> Arg<'a>
     ensures rule { rule_of result ≡ action_rule }
@@ -88,26 +122,26 @@ fn action_arg<'a>(alloc: Global) -> Arg<'a>
         .help("check, stats, canon, show or build")
 }
 
-fn profile_arg<'a>(alloc: Global) -> Arg<'a>
-    ensures rule { rule_of result ≡ profile_rule }
+/// An option with one value, a number.
+fn option_arg<'a>(alloc: Global, name: &'a str, help: &'a str) -> Arg<'a>
+    ensures rule { rule_of result ≡ option_rule name.entry.now }
     ensures local { result.global ≡ false }
 {
-    Arg::new(alloc, "profile")
-        .long("profile")
+    Arg::new(alloc, name)
+        .long(name)
         .value_name("N")
         .action(ArgAction::Set)
-        .help("1, or 2 for sign-extension instructions too [default: 1]")
+        .help(help)
 }
 
-fn limit_arg<'a>(alloc: Global) -> Arg<'a>
-    ensures rule { rule_of result ≡ limit_rule }
+fn flag_arg<'a>(alloc: Global, name: &'a str, help: &'a str) -> Arg<'a>
+    ensures rule { rule_of result ≡ flag_rule name.entry.now }
     ensures local { result.global ≡ false }
 {
-    Arg::new(alloc, "limit")
-        .long("limit")
-        .value_name("N")
-        .action(ArgAction::Set)
-        .help("The most bytes that the input may have [default: 4294967295]")
+    Arg::new(alloc, name)
+        .long(name)
+        .action(ArgAction::SetTrue)
+        .help(help)
 }
 
 fn file_arg<'a>(alloc: Global) -> Arg<'a>
@@ -135,8 +169,12 @@ fn command<'a>(alloc: Global) -> Result<Command<'a>, AllocError>
 {
     bare_command(alloc)
         .arg(action_arg(alloc))?
-        .arg(profile_arg(alloc))?
-        .arg(limit_arg(alloc))?
+        .arg(option_arg(alloc, "profile", PROFILE))?
+        .arg(option_arg(alloc, "limit", LIMIT))?
+        .arg(option_arg(alloc, "max-functions", MAX_FUNCTIONS))?
+        .arg(option_arg(alloc, "max-locals", MAX_LOCALS))?
+        .arg(option_arg(alloc, "max-open", MAX_OPEN))?
+        .arg(flag_arg(alloc, "old-words", OLD_WORDS))?
         .arg(file_arg(alloc))
 }
 
@@ -162,6 +200,41 @@ fn limit_by(word: Option<&str>) -> Option<u64>
     }
 }
 
+/// The limit of a policy that this word says; without one, none.
+fn most_by(word: Option<&str>) -> Option<Option<u32>>
+    ensures { let said = option_map (λ s. s.now) word.entry in MatchOption result ((most : Option ℕ) → IsMost said most
+        → ⊥) (IsMost said) }
+{
+    match word {
+        None => Some(None),
+        Some(text) => most_of(text).map(Some),
+    }
+}
+
+/// The policy of the options.
+fn policy_in(matches: &ArgMatches<'_>) -> Option<Policy>
+    ensures { let word = first_value (found_of matches.now) in MatchOption result ((q : Policy) → IsPolicy word q
+        → ⊥) (IsPolicy word) }
+{
+    Some(Policy {
+        functions: most_by(matches.get_str("max-functions"))?,
+        locals: most_by(matches.get_str("max-locals"))?,
+        depth: most_by(matches.get_str("max-open"))?,
+    })
+}
+
+/// The spellings by this word of the flag, which only `build` takes.
+fn spellings_by(flag: Option<&str>, action: Action) -> Option<Spellings>
+    ensures { let said = option_map (λ s. s.now) flag.entry in MatchOption result ((s : Spellings) → IsSpellings said action s
+        → ⊥) (IsSpellings said action) }
+{
+    match (flag, action) {
+        (Some("true"), Action::Build) => Some(Spellings::Older),
+        (Some("true"), _) => None,
+        _ => Some(Spellings::Standard),
+    }
+}
+
 /// What the words of the arguments say.
 fn read(alloc: Global, matches: &ArgMatches<'_>) -> Result<Line, LineFault>
     ensures ok { IfOk result (Says (first_value (found_of matches.now))) }
@@ -176,6 +249,12 @@ fn read(alloc: Global, matches: &ArgMatches<'_>) -> Result<Line, LineFault>
     let Some(limit) = limit_by(matches.get_str("limit")) else {
         return Err(LineFault::Words);
     };
+    let Some(policy) = policy_in(matches) else {
+        return Err(LineFault::Words);
+    };
+    let Some(spellings) = spellings_by(matches.get_str("old-words"), action) else {
+        return Err(LineFault::Words);
+    };
     let file = match matches.get_str("FILE") {
         None => None,
         Some(name) => Some(String::from_str(alloc, name)?),
@@ -184,6 +263,8 @@ fn read(alloc: Global, matches: &ArgMatches<'_>) -> Result<Line, LineFault>
         action,
         profile,
         limit,
+        policy,
+        spellings,
         file,
     })
 }
@@ -207,6 +288,20 @@ pub enum WrongWord<'a> {
     Action(&'a str),
     Profile(&'a str),
     Limit(&'a str),
+    MaxFunctions(&'a str),
+    MaxLocals(&'a str),
+    MaxOpen(&'a str),
+    /// The action beside which older words are asked for.
+    OldWords(&'a str),
+}
+
+/// Says that this is no number for the option.
+fn no_number<W: fmt::Write>(f: &mut fmt::Formatter<W>, word: &str, option: &str) -> fmt::Result {
+    write!(
+        f,
+        "'{word}' is no number for {option}: decimal digits, at most {}",
+        u32::MAX
+    )
 }
 
 impl fmt::Display for WrongWord<'_> {
@@ -223,11 +318,51 @@ impl fmt::Display for WrongWord<'_> {
                     "'{word}' is no limit: decimal digits, at most {MOST_LIMIT}"
                 )
             }
+            WrongWord::MaxFunctions(word) => no_number(f, word, "--max-functions"),
+            WrongWord::MaxLocals(word) => no_number(f, word, "--max-locals"),
+            WrongWord::MaxOpen(word) => no_number(f, word, "--max-open"),
+            WrongWord::OldWords(word) => write!(
+                f,
+                "'{word}' takes no --old-words: only build does"
+            ),
         }
     }
 }
 
-/// The first word that is wrong, in the order ACTION, `--profile`, `--limit`.
+/// The first wrong word of a policy, in the order of its options.
+fn wrong_in_policy<'a>(matches: &ArgMatches<'a>) -> Option<WrongWord<'a>>
+    ensures { IfSome result (IsWrong (first_value (found_of matches.now))) }
+{
+    if let Some(word) = matches.get_str("max-functions") {
+        if most_of(word).is_none() {
+            return Some(WrongWord::MaxFunctions(word));
+        }
+    }
+    if let Some(word) = matches.get_str("max-locals") {
+        if most_of(word).is_none() {
+            return Some(WrongWord::MaxLocals(word));
+        }
+    }
+    if let Some(word) = matches.get_str("max-open") {
+        if most_of(word).is_none() {
+            return Some(WrongWord::MaxOpen(word));
+        }
+    }
+    None
+}
+
+/// The action beside which `--old-words` stands, where that is not `build`.
+fn wrong_by_flag<'a>(matches: &ArgMatches<'a>) -> Option<WrongWord<'a>>
+    ensures { IfSome result (IsWrong (first_value (found_of matches.now))) }
+{
+    match (matches.get_str("old-words"), matches.get_str("ACTION")) {
+        (Some("true"), Some(action)) if action != "build" => Some(WrongWord::OldWords(action)),
+        _ => None,
+    }
+}
+
+/// The first word that is wrong, in the order ACTION, `--profile`, `--limit`, `--max-functions`, `--max-locals`,
+/// `--max-open`, `--old-words`.
 fn wrong_in<'a>(matches: &ArgMatches<'a>) -> Option<WrongWord<'a>>
     ensures { IfSome result (IsWrong (first_value (found_of matches.now))) }
 {
@@ -246,7 +381,10 @@ fn wrong_in<'a>(matches: &ArgMatches<'a>) -> Option<WrongWord<'a>>
             return Some(WrongWord::Limit(word));
         }
     }
-    None
+    match wrong_in_policy(matches) {
+        Some(word) => Some(word),
+        None => wrong_by_flag(matches),
+    }
 }
 
 /// The first of these words that is wrong, where the parser takes them all. None also where memory

@@ -16,7 +16,8 @@ use crate::status::Status;
 use crate::words::{Action, Line};
 use std::alloc::Global;
 use wm_decode::Refusal;
-use wm_rules::{Checked, FromFault, Summary, load_from, validate_from};
+use wm_read::spellings::Spellings;
+use wm_rules::{Checked, FromFault, Policy, Summary, load_from, validate_from};
 use wm_syntax::io::{Dest, Source};
 use wm_syntax::profile::Profile;
 use wm_syntax::why::Why;
@@ -30,6 +31,8 @@ pub fn run<R: Source, W: Dest>(
     action: Action,
     profile: Profile,
     limit: u64,
+    policy: Policy,
+    spellings: Spellings,
     r: &mut R,
     w: &mut W,
 ) -> Status
@@ -39,30 +42,30 @@ pub fn run<R: Source, W: Dest>(
     // What is to be written for the input is written whole, or, where the writer failed, a beginning of it.
     ensures answered { R.has_failed r.new ≡ false → result ≢ Status.Memory → (text : List ℕ) × (status : Status)
         × IsOutput action text status
-        × IfSome (R.remaining r.old) (λ input. IsRightFor action profile limit input (R.remaining r.new) text status)
+        × IfSome (R.remaining r.old) (λ input. IsRightFor action profile limit policy spellings input (R.remaining r.new) text status)
         × IsAnswered text status (W.contents w.old) (W.contents w.new) (W.has_failed w.new) (W.is_flushed w.new) result }
     ensures reader { R.has_failed r.new ≡ true → (result ≡ Status.Io) × (w.new ≡ w.old) }
     ensures memory { result ≡ Status.Memory → w.new ≡ w.old }
     ensures io { (result ≡ Status.Io) ↔ ((R.has_failed r.new || W.has_failed w.new) ≡ true) }
 {
     match action {
-        Action::Check => match validate_from(alloc, r, profile, limit) {
+        Action::Check => match validate_from(alloc, r, profile, limit, policy) {
             Ok(_) => answer(w, b"valid\n", Status::Done),
             Err(fault) => answer_fault(alloc, fault, w),
         },
-        Action::Stats => match validate_from(alloc, r, profile, limit) {
+        Action::Stats => match validate_from(alloc, r, profile, limit, policy) {
             Ok(summary) => report(alloc, summary, w),
             Err(fault) => answer_fault(alloc, fault, w),
         },
-        Action::Canon => match load_from(alloc, r, profile, limit) {
+        Action::Canon => match load_from(alloc, r, profile, limit, policy) {
             Ok(checked) => write_canonical(&checked, w),
             Err(fault) => answer_fault(alloc, fault, w),
         },
-        Action::Show => match load_from(alloc, r, profile, limit) {
+        Action::Show => match load_from(alloc, r, profile, limit, policy) {
             Ok(checked) => write_text(&checked, w),
             Err(fault) => answer_fault(alloc, fault, w),
         },
-        Action::Build => build(alloc, profile, limit, r, w),
+        Action::Build => build(alloc, profile, limit, policy, spellings, r, w),
     }
 }
 
@@ -74,13 +77,23 @@ pub fn run_line<R: Source, W: Dest>(alloc: Global, line: &Line, r: &mut R, w: &m
     ensures answered { R.has_failed r.new ≡ false → result ≢ Status.Memory → (text : List ℕ) × (status : Status)
         × IsOutput line.now.action text status
         × IfSome (R.remaining r.old)
-        (λ input. IsRightFor line.now.action line.now.profile line.now.limit input (R.remaining r.new) text status)
+        (λ input. IsRightFor line.now.action line.now.profile line.now.limit line.now.policy line.now.spellings input
+        (R.remaining r.new) text status)
         × IsAnswered text status (W.contents w.old) (W.contents w.new) (W.has_failed w.new) (W.is_flushed w.new) result }
     ensures reader { R.has_failed r.new ≡ true → (result ≡ Status.Io) × (w.new ≡ w.old) }
     ensures memory { result ≡ Status.Memory → w.new ≡ w.old }
     ensures io { (result ≡ Status.Io) ↔ ((R.has_failed r.new || W.has_failed w.new) ≡ true) }
 {
-    run(alloc, line.action, line.profile, line.limit, r, w)
+    run(
+        alloc,
+        line.action,
+        line.profile,
+        line.limit,
+        line.policy,
+        line.spellings,
+        r,
+        w,
+    )
 }
 
 /// Writes the five figures, unless memory was refused.

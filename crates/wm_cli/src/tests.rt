@@ -16,7 +16,8 @@ use std::io::{ErrorKind, Read, Write};
 use std::process::Abort;
 use std::test::Fail;
 use wm_decode::Refusal;
-use wm_rules::FromFault;
+use wm_read::spellings::Spellings;
+use wm_rules::{FromFault, Policy};
 use wm_syntax::io::input::Input;
 use wm_syntax::io::output::Output;
 use wm_syntax::profile::Profile;
@@ -122,9 +123,34 @@ wmod build < (module (type (func (result i32))) (func (type 0) i32.const 255 i32
 wmod build --limit 7 < (module) = 1 refused at 8: TooLong\n
 wmod build --limit 8 < (module) = 0 \x00asm\x01\x00\x00\x00"#;
 
+/// Rows for each action within a policy and past it, and of texts with older words.
+const POLICIES: &str =
+    r#"wmod --max-functions 0 check < H 01 07 01 60 02 7F 7F 01 7F 03 02 01 00 0A 09 01 07 00 20 00 20 01 6A 0B = 1 refused at 21: ManyFunctions\n
+wmod --max-functions 1 check < H 01 07 01 60 02 7F 7F 01 7F 03 02 01 00 0A 09 01 07 00 20 00 20 01 6A 0B = 0 valid\n
+wmod --max-locals 4294967294 check < H 01 04 01 60 00 00 03 02 01 00 0A 11 01 0F 01 FF FF FF FF 0F 7F 20 FE FF FF FF 0F 1A 0B = 1 refused at 29: ManyLocals\n
+wmod --max-locals 4294967295 check < H 01 04 01 60 00 00 03 02 01 00 0A 11 01 0F 01 FF FF FF FF 0F 7F 20 FE FF FF FF 0F 1A 0B = 0 valid\n
+wmod --max-open 0 check < H 01 04 01 60 00 00 03 02 01 00 0A 0A 01 08 00 41 00 04 40 05 0B 0B = 1 refused at 27: Deep\n
+wmod --max-open 1 check < H 01 04 01 60 00 00 03 02 01 00 0A 0A 01 08 00 41 00 04 40 05 0B 0B = 0 valid\n
+wmod --max-functions 0 stats < H 01 04 01 60 00 00 03 02 01 00 0A 04 01 02 00 0B = 1 refused at 18: ManyFunctions\n
+wmod --max-functions 1 --max-locals 0 --max-open 0 stats < H 01 04 01 60 00 00 03 02 01 00 0A 04 01 02 00 0B = 0 functions 1\nmoves 1\noperands 0\ncontrols 1\nprobes 0\n
+wmod --max-locals 0 canon < H 01 04 01 60 00 00 03 02 01 00 0A 06 01 04 01 01 7F 0B = 1 refused at 25: ManyLocals\n
+wmod --max-locals 1 canon < H 01 04 01 60 00 00 03 02 01 00 0A 06 01 04 01 01 7F 0B = 0 \x00asm\x01\x00\x00\x00\x01\x04\x01`\x00\x00\x03\x02\x01\x00\n\x06\x01\x04\x01\x01\x7f\x0b
+wmod --max-open 0 show < H 01 04 01 60 00 00 03 02 01 00 0A 07 01 05 00 02 40 0B 0B = 1 refused at 25: Deep\n
+wmod --max-open 1 show < H 01 04 01 60 00 00 03 02 01 00 0A 07 01 05 00 02 40 0B 0B = 0 (module\n  (type $t0 (func))\n  (func $f0 (type $t0)\n    block\n    end\n  )\n)\n
+wmod --max-functions 0 build < (module (type (func)) (func (type 0))) = 1 module refused at 18: ManyFunctions\n
+wmod --max-functions 0 build < (module (func (type $a))) = 1 text refused at 20: UnknownId\n
+wmod --max-functions 1 build < (module (type (func)) (func (type 0))) = 0 \x00asm\x01\x00\x00\x00\x01\x04\x01`\x00\x00\x03\x02\x01\x00\n\x04\x01\x02\x00\x0b
+wmod build < (module (type (func (param i32) (result i32))) (func (type 0) get_local 0)) = 1 text refused at 62: UnknownWord\n
+wmod --old-words build < (module (type (func (param i32) (result i32))) (func (type 0) get_local 0)) = 0 \x00asm\x01\x00\x00\x00\x01\x06\x01`\x01\x7f\x01\x7f\x03\x02\x01\x00\n\x06\x01\x04\x00 \x00\x0b
+wmod build < (module (table 1 anyfunc)) = 1 text refused at 17: Expected\n
+wmod --old-words build < (module (table 1 anyfunc)) = 0 \x00asm\x01\x00\x00\x00\x04\x04\x01p\x00\x01
+wmod --old-words build < (module (table 1 funcref)) = 0 \x00asm\x01\x00\x00\x00\x04\x04\x01p\x00\x01
+wmod --old-words check < H = words 2"#;
+
 #[test]
 fn commands(rt: HostRuntime) -> Result<(), Fail> {
-    play(&rt, rt.alloc(), COMMANDS)
+    play(&rt, rt.alloc(), COMMANDS)?;
+    play(&rt, rt.alloc(), POLICIES)
 }
 
 /// An imported function with 100,000 parameters, and one that calls it 50,000 times after `unreachable`.
@@ -206,6 +232,8 @@ fn a_reader_that_fails(rt: HostRuntime) {
         Action::Check,
         Profile::One,
         LIMIT,
+        Policy::no_limits(),
+        Spellings::Standard,
         &mut source,
         &mut dest,
     );
@@ -230,7 +258,8 @@ fn a_writer_that_fails(rt: HostRuntime) -> Result<(), Fail> {
     play(&rt, rt.alloc(), CUT_SHORT)
 }
 
-/// The whole program, where `(module)` stands on standard input and a module of profile 2 in the file `sign.wasm`.
+/// The whole program, where `(module)` stands on standard input, a module of profile 2 in the file `sign.wasm`, and a text
+/// with an older word in `old.wat`.
 const PROGRAM: &str = r#"desk wmod check = 1 "refused at 1: Magic\n" ""
 desk wmod build = 0 "\x00asm\x01\x00\x00\x00" ""
 desk wmod build - = 0 "\x00asm\x01\x00\x00\x00" ""
@@ -242,8 +271,13 @@ desk wmod stats --profile 2 sign.wasm = 0 "functions 1\nmoves 6\noperands 1\ncon
 desk wmod canon --profile 2 sign.wasm = 0 "\x00asm\x01\x00\x00\x00\x01\x05\x01`\x00\x01\x7f\x03\x02\x01\x00\n\x08\x01\x06\x00A\xff\x01\xc0\x0b" ""
 desk wmod show --profile 2 sign.wasm = 0 "(module\n  (type $t0 (func (result i32)))\n  (func $f0 (type $t0)\n    i32.const 255\n    i32.extend8_s\n  )\n)\n" ""
 desk wmod build sign.wasm = 1 "text refused at 25: NotUtf8\n" ""
+desk wmod check --profile 2 --max-functions 0 sign.wasm = 1 "refused at 19: ManyFunctions\n" ""
+desk wmod check --profile 2 --max-functions 1 --max-locals 0 --max-open 0 sign.wasm = 0 "valid\n" ""
+desk wmod build old.wat = 1 "text refused at 17: Expected\n" ""
+desk wmod build --old-words old.wat = 0 "\x00asm\x01\x00\x00\x00\x04\x04\x01p\x00\x01" ""
 desk wmod check sign = 3 "" "wmod: input or output failed\nwmod: sign: entity not found\n"
 desk wmod run = 2 "" "wmod: bad words\nwmod: \'run\' is no action: check, stats, canon, show, build\n"
+desk wmod check --old-words = 2 "" "wmod: bad words\nwmod: \'check\' takes no --old-words: only build does\n"
 shut wmod check = 3 "" "wmod: input or output failed\nwmod: standard output: broken pipe\n"
 shut wmod canon --profile 2 sign.wasm = 3 "" "wmod: input or output failed\nwmod: standard output: broken pipe\n"
 shut wmod show --profile 2 sign.wasm = 3 "" "wmod: input or output failed\nwmod: standard output: broken pipe\n"
@@ -268,6 +302,8 @@ fn plain_line() -> Line {
         action: Action::Check,
         profile: Profile::One,
         limit: LIMIT,
+        policy: Policy::no_limits(),
+        spellings: Spellings::Standard,
         file: None,
     }
 }

@@ -6,6 +6,8 @@ use clap::error::ErrorKind;
 use std::alloc::AllocError;
 use std::error::Error;
 use std::fmt;
+use wm_read::spellings::Spellings;
+use wm_rules::Policy;
 use wm_syntax::profile::Profile;
 
 /// What to do with the input.
@@ -31,6 +33,10 @@ pub struct Line {
     pub profile: Profile,
     /// The most bytes that the input may have, at most 2^62.
     pub limit: u64,
+    /// How much the module may have.
+    pub policy: Policy,
+    /// The words that a text may have; older ones for `build` alone.
+    pub spellings: Spellings,
     /// The file to read; standard input where there is none, or where it is `-`.
     pub file: Option<String>,
     ghost in_range: { limit ≤ 2 ^ 62 },
@@ -58,7 +64,7 @@ impl Line {
 pub enum LineFault {
     /// The parser's own fault, which has its text; a request for help is one.
     Parser(clap::Error),
-    /// No such action or profile, or a limit that is no number in its range.
+    /// No such action or profile, a number that is none or out of its range, or older words for an action that reads no text.
     Words,
     /// Memory was refused.
     Memory,

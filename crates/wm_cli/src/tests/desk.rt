@@ -16,11 +16,12 @@ use std::test::Fail;
 /// What standard input gives.
 pub const TYPED: &[u8] = b"(module)";
 
-/// The name of the one file, and what it holds: a module of profile 2.
-const NAME: &str = "sign.wasm";
-
-const HELD: &[u8] = b"\x00asm\x01\x00\x00\x00\x01\x05\x01\x60\x00\x01\x7F\x03\x02\x01\x00\
+/// What the file `sign.wasm` holds: a module of profile 2.
+const SIGN: &[u8] = b"\x00asm\x01\x00\x00\x00\x01\x05\x01\x60\x00\x01\x7F\x03\x02\x01\x00\
     \x0A\x08\x01\x06\x00\x41\xFF\x01\xC0\x0B";
+
+/// What the file `old.wat` holds: a text with an older word.
+const OLD: &[u8] = b"(module (table 1 anyfunc))";
 
 /// The words, and what is written.
 #[derive(Drop)]
@@ -163,7 +164,8 @@ impl Files for Desk<'_> {
 
     fn open_file(&self, _how: &OpenOptions, path: &str) -> io::Result<Leaf<'static>> {
         match path {
-            NAME => Ok(Leaf::new(HELD, 4096)),
+            "sign.wasm" => Ok(Leaf::new(SIGN, 4096)),
+            "old.wat" => Ok(Leaf::new(OLD, 4096)),
             _ => Err(io::Error::from(ErrorKind::NotFound)),
         }
     }

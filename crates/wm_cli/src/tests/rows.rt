@@ -1,7 +1,7 @@
 //! Rows of calls with their answers, a line each.
 //!
 //! ```text
-//! read WORDS = ACTION PROFILE LIMIT FILE PATH, or the kind of the fault and its exit status
+//! read WORDS = ACTION PROFILE LIMIT FUNCTIONS LOCALS DEPTH SPELLINGS FILE PATH, or the kind of the fault and its exit status
 //! wrong WORDS = what is said of the first wrong word
 //! wmod WORDS < INPUT = the exit status, and what is written
 //! cut N WORDS = the exit status, and what is written to a writer that takes N bytes, where the input is a header,
@@ -22,6 +22,7 @@ use crate::words::{Action, Line, LineFault};
 use std::alloc::Global;
 use std::process::Abort;
 use std::test::Fail;
+use wm_rules::Policy;
 use wm_syntax::io::input::Input;
 use wm_syntax::io::output::Output;
 use wm_syntax::profile::Profile;
@@ -53,9 +54,19 @@ fn tell_line(alloc: Global, line: &Line) -> Result<String, Fail> {
         action,
         profile,
         limit,
+        policy,
+        spellings,
         file,
     } = line;
-    Ok(format!(in alloc; "{action:?} {profile:?} {limit} {file:?} {:?}", line.path())?)
+    let Policy {
+        functions,
+        locals,
+        depth,
+    } = policy;
+    Ok(format!(in alloc;
+        "{action:?} {profile:?} {limit} {functions:?} {locals:?} {depth:?} {spellings:?} {file:?} {:?}",
+        line.path()
+    )?)
 }
 
 fn tell_fault(alloc: Global, fault: &LineFault) -> Result<String, Fail> {
@@ -129,6 +140,8 @@ fn is_same_under_two(alloc: Global, line: &Line, input: &[u8], told: &str) -> Re
         action: line.action,
         profile: Profile::Two,
         limit: line.limit,
+        policy: line.policy,
+        spellings: line.spellings,
         file: None,
     };
     Ok(tell(alloc, &second, input, 4096)?.as_str() == told)

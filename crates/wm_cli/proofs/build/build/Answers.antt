@@ -9,8 +9,8 @@ use Rattle.wm_cli.proofs.build.build.Goals as goal
 pub returns-in-Ok-clause-answered : goal.returns-in-Ok-clause-answered
 returns-in-Ok-clause-answered g c = λ o n.
     let out = c.convert.ensures.answered n in
-    let is = subst (λ z. TextOut c.args.profile z out.0 out.1) c.deref.ensures.value out.2 in
-    (out.0, out.1, text_output c.args.profile _ out.0 out.1 is, right_text c.args.profile c.args.limit _ _ _ out.0 out.1 c.in-Ok.ensures.whole is, out.3)
+    let is = subst (λ z. TextOut c.args.profile c.args.policy c.args.spellings z out.0 out.1) c.deref.ensures.value out.2 in
+    (out.0, out.1, text_output c.args.profile c.args.policy c.args.spellings _ out.0 out.1 is, right_text c.args.profile c.args.limit c.args.policy c.args.spellings _ _ _ out.0 out.1 c.in-Ok.ensures.whole is, out.3)
 
 pub returns-in-Err-TooLong-clause-answered : goal.returns-in-Err-TooLong-clause-answered
 returns-in-Err-TooLong-clause-answered g c = λ o n.
@@ -18,6 +18,6 @@ returns-in-Err-TooLong-clause-answered g c = λ o n.
       refusal_line (c.args.limit + 1) TooLong,
       status.Refused,
       inr (inl (c.args.limit + 1, TooLong, out.0, refl), refl),
-      right_long c.args.profile c.args.limit _ _ (c.in-Err-TooLong.ensures.long (ap Err c.in-Err-TooLong.field-0-is)),
+      right_long c.args.profile c.args.limit c.args.policy c.args.spellings _ _ (c.in-Err-TooLong.ensures.long (ap Err c.in-Err-TooLong.field-0-is)),
       out.1,
     )

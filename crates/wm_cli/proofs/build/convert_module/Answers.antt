@@ -13,7 +13,7 @@ returns-in-Ok-clause-answered g c = λ n.
     let given = c.in-Ok.ensures.given in (
       canon m,
       status.Done,
-      inl (given.2, fits m (λ n. let e = c.in-Ok.ensures.too_large.1 n in cc), refl, refl),
+      inl (given.2, given.3, fits m (λ n. let e = c.in-Ok.ensures.too_large.1 n in cc), refl, refl),
       subst (λ z. IsAnswered (canon z) status.Done (g.W.Dest.contents c.args.w.now) (g.W.Dest.contents c.write_canonical.new.w) (g.W.Dest.has_failed c.write_canonical.new.w) (g.W.Dest.is_flushed c.write_canonical.new.w) c.write_canonical.result)
           given.0 c.write_canonical.ensures,
     )
@@ -27,7 +27,7 @@ returns-in-Err-Refused-clause-answered g c = λ n.
       module_line r.at r.why,
       status.Refused,
       inr (inl (
-        (λ v. c.in-Err-Refused.ensures.refused r is c.requires.instructions v),
+        (λ v w. c.in-Err-Refused.ensures.refused r is c.requires.instructions v w),
         fits m (λ no. let e = sym is ∙ c.in-Err-Refused.ensures.too_large.1 no in cc),
         (r, place.0, place.1, c.in-Err-Refused.ensures.same r is, refl),
         refl,

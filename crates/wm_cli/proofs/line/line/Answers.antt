@@ -1,8 +1,8 @@
 use Rattle.std.proofs.Common.{◌≡◌, ◌∙◌, ◌⊎◌, inl, inr, sym, subst, map, codes, [], List, Option}
 use Rattle.std.proofs.lemmas.Result.{IfErr-weaker, IfOk-weaker}
 use Rattle.clap.specs.Words.{Text, app_of, fault_of, first_value, found_of}
-use Rattle.wm_cli.proofs.LineLemmas.{taken}
-use Rattle.wm_cli.specs.Lines.{IsFaultOf, IsLimit, IsProfile, Says, SaysNone, wmod, word_of}
+use Rattle.wm_cli.proofs.LineLemmas.{refused, taken}
+use Rattle.wm_cli.specs.Lines.{IsFaultOf, IsLimit, IsMost, IsProfile, IsSpellings, Says, SaysNone, wmod, word_of}
 use Rattle.wm_cli.specs.declared.words.Line.{Line}
 use Rattle.wm_cli.specs.declared.words.LineFault.{LineFault}
 use Rattle.wm_cli.specs.declared.words.LineFault.TheVariants.{Memory, Words}
@@ -14,6 +14,12 @@ says_along word other same l says = record {
   action = sym (same (codes "ACTION")) ∙ says.action;
   profile = subst (λ o. IsProfile o l.profile) (same (codes "profile")) says.profile;
   limit = subst (λ o. IsLimit o l.limit) (same (codes "limit")) says.limit;
+  policy = record {
+    functions = subst (λ o. IsMost o l.policy.functions) (same (codes "max-functions")) says.policy.functions;
+    locals = subst (λ o. IsMost o l.policy.locals) (same (codes "max-locals")) says.policy.locals;
+    depth = subst (λ o. IsMost o l.policy.depth) (same (codes "max-open")) says.policy.depth;
+  };
+  spellings = subst (λ o. IsSpellings o l.action l.spellings) (same (codes "old-words")) says.spellings;
   file = sym (same (codes "FILE")) ∙ says.file;
 }
 
@@ -36,3 +42,8 @@ returns-in-Ok-clause-fault g c =
     let word = first_value (found_of c.in-Ok.matches) in
     let parse = taken (app_of c.in_ok-command.field-0) c.in-Ok.matches words c.in_ok-command.ensures c.in-Ok.ensures.matches c.in-Ok.ensures.kinds in
     IfErr-weaker c.read.result _ _ (fault_along word words parse) c.read.ensures.fault
+
+pub returns-in-Err-clause-fault : goal.returns-in-Err-clause-fault
+returns-in-Err-clause-fault g c =
+    let words = map g.S.AsStr.text c.args.words.now in
+    refused (app_of c.in_ok-command.field-0) words c.in-Err.error c.in_ok-command.ensures c.in-Err.ensures.kinds

@@ -16,7 +16,7 @@ returns-in-Err-clause-answered g c = λ o m.
     let told = c.answer_fault.ensures.answered (λ e. let failed = c.in-Err.ensures.failed.0 (ap Err e) in cc) m in
     let r = told.0 in
     let out =
-    out_of_fault (ValidInput c.args.profile c.args.limit) c.args.action (subst IsJudged (sym c.in-Check.is) tt) c.args.profile c.args.limit
+    out_of_fault (ValidInput c.args.profile c.args.limit c.args.policy) c.args.action (subst IsJudged (sym c.in-Check.is) tt) c.args.profile c.args.limit c.args.policy c.args.spellings
     (g.R.Source.remaining c.args.r.now) (g.R.Source.remaining c.validate_from.new.r) c.in-Err.fault c.in-Err.ensures.judged r told.1 told.2
     in (refusal_line r.at r.why, status.Refused, out.0, out.1, told.3)
 
@@ -25,7 +25,7 @@ returns-in-Err-validate_from-clause-answered g c = λ o m.
     let told = c.answer_fault-in-Err-validate_from.ensures.answered (λ e. let failed = c.in-Err-validate_from.ensures.failed.0 (ap Err e) in cc) m in
     let r = told.0 in
     let out =
-    out_of_fault (ValidInput c.args.profile c.args.limit) c.args.action (subst IsJudged (sym c.in-Stats.is) tt) c.args.profile c.args.limit
+    out_of_fault (ValidInput c.args.profile c.args.limit c.args.policy) c.args.action (subst IsJudged (sym c.in-Stats.is) tt) c.args.profile c.args.limit c.args.policy c.args.spellings
     (g.R.Source.remaining c.args.r.now) (g.R.Source.remaining c.validate_from-in-Stats.new.r) c.in-Err-validate_from.fault c.in-Err-validate_from.ensures.judged r told.1 told.2
     in (refusal_line r.at r.why, status.Refused, out.0, out.1, told.3)
 
@@ -34,7 +34,7 @@ returns-in-Err-load_from-clause-answered g c = λ o m.
     let told = c.answer_fault-in-Err-load_from.ensures.answered (λ e. let failed = c.in-Err-load_from.ensures.failed.0 (ap Err e) in cc) m in
     let r = told.0 in
     let out =
-    out_of_fault (LoadedInput c.args.profile c.args.limit) c.args.action (subst IsJudged (sym c.in-Canon.is) tt) c.args.profile c.args.limit
+    out_of_fault (LoadedInput c.args.profile c.args.limit c.args.policy) c.args.action (subst IsJudged (sym c.in-Canon.is) tt) c.args.profile c.args.limit c.args.policy c.args.spellings
     (g.R.Source.remaining c.args.r.now) (g.R.Source.remaining c.load_from.new.r) c.in-Err-load_from.fault c.in-Err-load_from.ensures.loaded r told.1 told.2
     in (refusal_line r.at r.why, status.Refused, out.0, out.1, told.3)
 
@@ -43,7 +43,7 @@ returns-in-Err-load_from-2-clause-answered g c = λ o m.
     let told = c.answer_fault-in-Err-load_from-2.ensures.answered (λ e. let failed = c.in-Err-load_from-2.ensures.failed.0 (ap Err e) in cc) m in
     let r = told.0 in
     let out =
-    out_of_fault (LoadedInput c.args.profile c.args.limit) c.args.action (subst IsJudged (sym c.in-Show.is) tt) c.args.profile c.args.limit
+    out_of_fault (LoadedInput c.args.profile c.args.limit c.args.policy) c.args.action (subst IsJudged (sym c.in-Show.is) tt) c.args.profile c.args.limit c.args.policy c.args.spellings
     (g.R.Source.remaining c.args.r.now) (g.R.Source.remaining c.load_from-in-Show.new.r) c.in-Err-load_from-2.fault c.in-Err-load_from-2.ensures.loaded r told.1 told.2
     in (refusal_line r.at r.why, status.Refused, out.0, out.1, told.3)
 
@@ -51,7 +51,7 @@ pub returns-in-Ok-load_from-clause-answered : goal.returns-in-Ok-load_from-claus
 returns-in-Ok-load_from-clause-answered g c = λ o m.
     let checked = c.in-Ok-load_from.checked in
     let out =
-    out_of_loaded c.args.action canon (writes_canon c.args.action c.in-Canon.is) c.args.profile c.args.limit (g.R.Source.remaining c.args.r.now)
+    out_of_loaded c.args.action canon (writes_canon c.args.action c.in-Canon.is) c.args.profile c.args.limit c.args.policy c.args.spellings (g.R.Source.remaining c.args.r.now)
     (g.R.Source.remaining c.load_from.new.r) checked c.in-Ok-load_from.ensures.loaded
     in (canon (value_of (module_in checked)), status.Done, out.0, out.1, c.write_canonical.ensures)
 
@@ -59,7 +59,7 @@ pub returns-in-Ok-load_from-2-clause-answered : goal.returns-in-Ok-load_from-2-c
 returns-in-Ok-load_from-2-clause-answered g c = λ o m.
     let checked = c.in-Ok-load_from-2.checked in
     let out =
-    out_of_loaded c.args.action layout (writes_layout c.args.action c.in-Show.is) c.args.profile c.args.limit (g.R.Source.remaining c.args.r.now)
+    out_of_loaded c.args.action layout (writes_layout c.args.action c.in-Show.is) c.args.profile c.args.limit c.args.policy c.args.spellings (g.R.Source.remaining c.args.r.now)
     (g.R.Source.remaining c.load_from-in-Show.new.r) checked c.in-Ok-load_from-2.ensures.loaded
     in (layout (value_of (module_in checked)), status.Done, out.0, out.1, c.write_text.ensures)
 
@@ -70,6 +70,6 @@ returns-in-Build-clause-answered g c = λ o n.
       out.0,
       out.1,
       subst (λ a. IsOutput a out.0 out.1) is out.2,
-      subst (λ a. IfSome (g.R.Source.remaining c.args.r.now) (λ input. IsRightFor a c.args.profile c.args.limit input (g.R.Source.remaining c.build.new.r) out.0 out.1)) is out.3,
+      subst (λ a. IfSome (g.R.Source.remaining c.args.r.now) (λ input. IsRightFor a c.args.profile c.args.limit c.args.policy c.args.spellings input (g.R.Source.remaining c.build.new.r) out.0 out.1)) is out.3,
       out.4,
     )
