@@ -1,5 +1,5 @@
 -- A text whose older words are overwritten has the same tokens, each older word replaced.
-use Rattle.std.proofs.Common.{◌≡◌, ℕ, zero, suc, ◌-◌, ◌<◌, ◌≤◌, ◌⊎◌, Bool, true, false, List, [], ◌∷◌, ◌++◌, length, take, replicate, map, Option, Some, None, refl, sym, ap, subst, ◌∙◌, inl, inr, arith, append_assoc, length-append}
+use Rattle.std.proofs.Common.{◌≡◌, ℕ, zero, suc, ◌-◌, ◌≤◌, ◌⊎◌, Bool, true, false, List, [], ◌∷◌, ◌++◌, length, take, replicate, map, Option, Some, None, refl, sym, ap, subst, ◌∙◌, inl, inr, arith, append_assoc, length-append}
 use Rattle.std.proofs.Math.Seq.{take-append_seam}
 use Rattle.std.proofs.lemmas.Bool.{cond-true, cond-false, and_parts, leb-true, ne_eqb, or_left, or_right}
 use Rattle.std.proofs.lemmas.List.{append-nil, length-replicate, nil_from_length}
@@ -14,7 +14,7 @@ use Rattle.wm_read.specs.Tokens.{Token, open_paren, close_paren, string, atom, i
 use Rattle.wm_read.specs.declared.spellings.Spellings.TheVariants.{Standard, Older}
 use Rattle.wm_read.specs.exact.Reading.{is_word}
 use Rattle.wm_read.specs.exact.Scan.{ahead, no_more, blank, first, fault, lexed}
-use Rattle.wm_read.specs.inner.Renewed.{Renewed, filled, filled_words, part_for}
+use Rattle.wm_read.specs.inner.Renewed.{Renewed, filled, part_for}
 use Rattle.wm_read.proofs.Ahead.{IsAhead, IsBlank, ahead_blank, ahead_is_so, ahead_last, ahead_token}
 use Rattle.wm_read.proofs.Whole.{ahead_ends, ahead_nil, ahead_skips, ahead_stops, ahead_takes, blank_shorter, first_shorter}
 

@@ -97,9 +97,11 @@ fn read_spelled(
     }
 }
 
-/// The module that a text writes (chapter 6), of the profile, once each older word is replaced where these are read. A text
-/// that is no UTF-8 is refused first, then the first fault of its tokens, then the first of what its fields define, and
-/// then the first of its fields.
+/// The module that a text writes (chapter 6), of the profile, in these spellings. Under `Older` that is the module
+/// of its tokens with each older word replaced. Places are those of the text as it is.
+///
+/// A text that is no UTF-8 is refused first, then the first fault of its tokens, then the first of what its fields
+/// define, and then the first of its fields.
 #[tactic(auto, using(crate::proofs::TextLaws::text_laws))]
 pub fn read_text(
     alloc: Global,
