@@ -6,7 +6,8 @@
 pub(crate) mod bytes;
 pub(crate) mod items;
 
-use crate::{loader, pieces, tests, validator};
+use crate::policy::Policy;
+use crate::{loader, pieces, policy, tests, validator};
 use std::alloc::Global;
 use std::fmt::Debug;
 use std::process::Abort;
@@ -34,13 +35,14 @@ fn play_call(rt: &impl Abort, alloc: Global, call: &'static str, wanted: &str) {
 
 fn answer(rt: &impl Abort, alloc: Global, word: &str, with: &'static str) -> String {
     match word {
-        "judge" => tests::judge(rt, alloc, with),
+        "judge" => tests::judge(rt, alloc, Policy::no_limits(), with),
+        "within" => policy::tests::within(rt, alloc, with),
         "function_0" => tests::function_0(rt, alloc, with),
         "build" => loader::tests::build(rt, alloc, with),
         "both" => loader::tests::both(rt, alloc, with),
         "kept" => validator::tests::kept(rt, alloc, with),
         "most" => validator::tests::most(rt, alloc, with),
-        "validate" => pieces::tests::validated(rt, alloc, with),
+        "validate" => pieces::tests::validated(rt, alloc, Policy::no_limits(), with),
         _ => answer_of_bytes(rt, alloc, word, with),
     }
 }
@@ -49,10 +51,10 @@ fn answer_of_bytes(rt: &impl Abort, alloc: Global, word: &str, with: &str) -> St
     match word {
         "read" => pieces::tests::read(rt, alloc, with),
         "cut" => pieces::tests::cut(rt, alloc, with),
-        "from" => pieces::tests::from(rt, alloc, with),
+        "from" => pieces::tests::from(rt, alloc, Policy::no_limits(), with),
         "feed" => loader::tests::feed(rt, alloc, with),
-        "load" => loader::tests::load(rt, alloc, with),
-        "load_from" => loader::tests::load_source(rt, alloc, with),
+        "load" => loader::tests::load(rt, alloc, Policy::no_limits(), with),
+        "load_from" => loader::tests::load_source(rt, alloc, Policy::no_limits(), with),
         "count" => loader::tests::count(rt, alloc, with),
         _ => unknown(rt, word),
     }

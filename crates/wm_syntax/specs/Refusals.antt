@@ -1,7 +1,7 @@
 -- The printed words of the refusals.
 use Rattle.std.specs.Prelude.{ℕ, List, codes}
 use Rattle.wm_syntax.specs.declared.why.Why.{Why}
-use Rattle.wm_syntax.specs.declared.why.Why.TheVariants.{Magic, Version, SectionId, SectionOrder, SectionEnd, BadNumber, BadUtf8, BadByte, Float, BadOpcode, Truncated, CodeCount, BodyEnd, TooManyLocals, Index, Mismatch, Arity, Limits, Second, DuplicateExport, StartType, NotConst, Immutable, Align, ElsePlace, TooLong, Memory}
+use Rattle.wm_syntax.specs.declared.why.Why.TheVariants.{Magic, Version, SectionId, SectionOrder, SectionEnd, BadNumber, BadUtf8, BadByte, Float, BadOpcode, Truncated, CodeCount, BodyEnd, TooManyLocals, Index, Mismatch, Arity, Limits, Second, DuplicateExport, StartType, NotConst, Immutable, Align, ElsePlace, TooLong, Memory, ManyFunctions, ManyLocals, Deep}
 
 abbrev pub name_of : Why → List ℕ
 name_of Magic = codes "Magic"
@@ -31,3 +31,6 @@ name_of Align = codes "Align"
 name_of ElsePlace = codes "ElsePlace"
 name_of TooLong = codes "TooLong"
 name_of Memory = codes "Memory"
+name_of ManyFunctions = codes "ManyFunctions"
+name_of ManyLocals = codes "ManyLocals"
+name_of Deep = codes "Deep"

@@ -66,6 +66,12 @@ pub enum Why {
     TooLong,
     /// Memory was refused.
     Memory,
+    /// More functions than the policy allows.
+    ManyFunctions,
+    /// A function declares more locals than the policy allows.
+    ManyLocals,
+    /// More blocks, loops and ifs are open than the policy allows.
+    Deep,
 }
 
 impl Why {
@@ -101,6 +107,9 @@ impl Why {
             Why::ElsePlace => "ElsePlace",
             Why::TooLong => "TooLong",
             Why::Memory => "Memory",
+            Why::ManyFunctions => "ManyFunctions",
+            Why::ManyLocals => "ManyLocals",
+            Why::Deep => "Deep",
         }
     }
 }
@@ -136,6 +145,9 @@ impl Why {
             Why::ElsePlace => "an else stands outside the first branch of an if",
             Why::TooLong => "the input is longer than the limit",
             Why::Memory => "memory ran out",
+            Why::ManyFunctions => "there are more functions than the policy allows",
+            Why::ManyLocals => "a function declares more locals than the policy allows",
+            Why::Deep => "more blocks are open at once than the policy allows",
         }
     }
 }

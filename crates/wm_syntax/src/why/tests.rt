@@ -5,7 +5,7 @@ use crate::scripts::{Scripted, play, shown, unknown, word_of};
 use std::alloc::Global;
 use std::process::Abort;
 
-const ALL: [Why; 27] = [
+const ALL: [Why; 30] = [
     Why::Magic,
     Why::Version,
     Why::SectionId,
@@ -33,6 +33,9 @@ const ALL: [Why; 27] = [
     Why::ElsePlace,
     Why::TooLong,
     Why::Memory,
+    Why::ManyFunctions,
+    Why::ManyLocals,
+    Why::Deep,
 ];
 
 /// What is printed for a refusal.
@@ -105,9 +108,12 @@ name Align = "Align"
 name ElsePlace = "ElsePlace"
 name TooLong = "TooLong"
 name Memory = "Memory"
+name ManyFunctions = "ManyFunctions"
+name ManyLocals = "ManyLocals"
+name Deep = "Deep"
 sentence Magic = a module begins with the bytes 00 61 73 6D
 sentence Memory = memory ran out
-full_stop SectionOrder, full_stop Mismatch, full_stop ElsePlace = false"#,
+full_stop SectionOrder, full_stop Mismatch, full_stop ElsePlace, full_stop Deep = false"#,
     );
 }
 
