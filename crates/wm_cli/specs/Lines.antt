@@ -136,8 +136,8 @@ IsWrong word (wrong.OldWords w) = Stands (word (codes "old-words")) × (word (co
 abbrev pub word_of : List Text → Text → Option Text
 word_of words id = first_of id (matches_of wmod words)
 
--- Why the words give no line: the parser has a fault of this kind for them; it has none, and an argument's word is wrong;
--- or memory was refused, also in the parser.
+-- Why the words give no line: the parser has a fault of this kind for them; it has none, and an argument's word is wrong,
+-- or the flag stands with another action than `build`; or memory was refused, also in the parser.
 abbrev pub IsFaultOf : List Text → LineFault → Type 0
 IsFaultOf words (fault.Parser e) = HasKind (fault_of wmod words) e
 IsFaultOf words fault.Words = (fault_of wmod words ≡ []) × SaysNone (word_of words)
