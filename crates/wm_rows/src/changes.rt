@@ -16,6 +16,7 @@ const LOCALS: u32 = 65_536;
 type Both = Result<(Summary, Checked), Refusal>;
 
 /// How many binaries there were, and how many of them are valid.
+#[derive(Drop)]
 struct Counts {
     changes: u32,
     valid: u32,
@@ -90,7 +91,8 @@ pub fn answer_changes(alloc: Global, row: &Row) -> io::Result<String> {
         changes: 0,
         valid: 0,
     };
-    for at in row.input.iter().enumerate() {
+    for (place, known) in row.input.iter().enumerate() {
+        let at = (place, *known);
         if let Some(wrong) = count_at(alloc, row, &mut binary, at, &mut counts)? {
             return Ok(wrong);
         }

@@ -6,6 +6,7 @@ use wm_decode::Refusal;
 use wm_rules::{Checked, Loader, Summary, Validator};
 
 /// A later call did not answer the first refusal again.
+#[derive(Drop)]
 pub struct Forgotten;
 
 /// The refusal so far, after a further answer.
