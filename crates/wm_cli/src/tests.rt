@@ -132,7 +132,7 @@ wmod --max-locals 4294967295 check < H 01 04 01 60 00 00 03 02 01 00 0A 11 01 0F
 wmod --max-open 0 check < H 01 04 01 60 00 00 03 02 01 00 0A 0A 01 08 00 41 00 04 40 05 0B 0B = 1 refused at 27: Deep\n
 wmod --max-open 1 check < H 01 04 01 60 00 00 03 02 01 00 0A 0A 01 08 00 41 00 04 40 05 0B 0B = 0 valid\n
 wmod --max-functions 0 stats < H 01 04 01 60 00 00 03 02 01 00 0A 04 01 02 00 0B = 1 refused at 18: ManyFunctions\n
-wmod --max-functions 1 --max-locals 0 --max-open 0 stats < H 01 04 01 60 00 00 03 02 01 00 0A 04 01 02 00 0B = 0 functions 1\nmoves 1\noperands 0\ncontrols 1\nprobes 0\n
+wmod --max-functions 1 --max-locals 0 --max-open 0 stats < H 01 04 01 60 00 00 03 02 01 00 0A 04 01 02 00 0B = 0 functions 1\nmoves 2\noperands 0\ncontrols 1\nprobes 0\n
 wmod --max-locals 0 canon < H 01 04 01 60 00 00 03 02 01 00 0A 06 01 04 01 01 7F 0B = 1 refused at 25: ManyLocals\n
 wmod --max-locals 1 canon < H 01 04 01 60 00 00 03 02 01 00 0A 06 01 04 01 01 7F 0B = 0 \x00asm\x01\x00\x00\x00\x01\x04\x01`\x00\x00\x03\x02\x01\x00\n\x06\x01\x04\x01\x01\x7f\x0b
 wmod --max-open 0 show < H 01 04 01 60 00 00 03 02 01 00 0A 07 01 05 00 02 40 0B 0B = 1 refused at 25: Deep\n
