@@ -31,6 +31,8 @@ impl<A: Sink, B: Sink> Sink for Both<A, B> {
 
     ghost may_run_out = { either_runs_out A.after A.may_run_out B.may_run_out };
 
+    // so that at each call it is known which item comes
+    #[inline(always)]
     fn take(&mut self, item: Item) -> Result<(), Why> {
         match self.first.take(item) {
             Ok(()) => self.second.take(item),
