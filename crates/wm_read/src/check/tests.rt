@@ -14,4 +14,9 @@ check (module (type (func)) (import "" "" (global i32)) (func (type 0) global.se
 check (module (type (func)) (func (type 0) i32.load align=8) (memory 0)) => Refused(Refusal { at: 31, why: Align })
 check (module (global i32 i64.const 0)) => Refused(Refusal { at: 15, why: Mismatch })
 check (module (type (func)) (func (type 0) drop)) => Refused(Refusal { at: 24, why: Arity })
+;; within a policy: one function, two locals, one open block
+within (module (type (func)) (func (type 0) (local i32 i32) block end)) => 0061736d01000000010401600000030201000a09010701027f02400b0b|
+within (module (type (func)) (func (type 0)) (func (type 0))) => Refused(Refusal { at: 19, why: ManyFunctions })
+within (module (type (func)) (func (type 0) (local i32 i32 i32))) => Refused(Refusal { at: 25, why: ManyLocals })
+within (module (type (func)) (func (type 0) block block end end)) => Refused(Refusal { at: 27, why: Deep })
 "#;

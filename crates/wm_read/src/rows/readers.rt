@@ -27,10 +27,18 @@ use crate::spellings::Spellings;
 use crate::text::read_text;
 use std::alloc::Global;
 use std::test::Fail;
+use wm_rules::Policy;
 use wm_syntax::body::Body;
 use wm_syntax::modules::Module;
 use wm_syntax::profile::Profile;
 use wm_syntax::types::ValType;
+
+/// What `within` allows.
+const SMALL: Policy = Policy {
+    functions: Some(1),
+    locals: Some(2),
+    depth: Some(1),
+};
 
 /// What a reader of this name makes of a text, after the definitions of these heads.
 pub(super) fn answer(
@@ -61,7 +69,7 @@ fn of_many(alloc: Global, text: &str) -> Result<String, Fail> {
 fn of_large(alloc: Global, profile: Profile, text: &str) -> Result<String, Fail> {
     let text = repeated(alloc, text)?;
     match read_text(alloc, profile, Spellings::Standard, text.as_bytes()) {
-        Ok(module) => match check(alloc, profile, &module) {
+        Ok(module) => match check(alloc, profile, Policy::no_limits(), &module) {
             Ok(checked) => shown_length(alloc, checked.module()),
             Err(fault) => Ok(format!(in alloc; "{fault:?}")?),
         },
@@ -131,7 +139,8 @@ fn of_fields<'a>(
         "fields" => of_list(alloc, profile, names, text),
         "text" => of_text(alloc, profile, Spellings::Standard, text),
         "older" => of_text(alloc, profile, Spellings::Older, text),
-        "check" => of_checked(alloc, profile, text),
+        "check" => of_checked(alloc, profile, Policy::no_limits(), text),
+        "within" => of_checked(alloc, profile, SMALL, text),
         "heads" => shown(alloc, read_heads(alloc, text)),
         _ => of_names(alloc, names, rest, reader, text),
     }
@@ -232,16 +241,26 @@ fn of_text(
     }
 }
 
-fn of_checked(alloc: Global, profile: Profile, text: &[u8]) -> Result<String, Fail> {
+fn of_checked(
+    alloc: Global,
+    profile: Profile,
+    policy: Policy,
+    text: &[u8],
+) -> Result<String, Fail> {
     match read_text(alloc, profile, Spellings::Standard, text) {
-        Ok(module) => of_module(alloc, profile, &module),
+        Ok(module) => of_module(alloc, profile, policy, &module),
         Err(refusal) => shown_refusal(alloc, refusal),
     }
 }
 
 /// What checking a module gives.
-fn of_module(alloc: Global, profile: Profile, module: &Module) -> Result<String, Fail> {
-    match check(alloc, profile, module) {
+fn of_module(
+    alloc: Global,
+    profile: Profile,
+    policy: Policy,
+    module: &Module,
+) -> Result<String, Fail> {
+    match check(alloc, profile, policy, module) {
         Ok(checked) => shown_module(alloc, checked.module(), b""),
         Err(fault) => Ok(format!(in alloc; "{fault:?}")?),
     }
