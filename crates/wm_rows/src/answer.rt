@@ -83,8 +83,20 @@ fn answer_both(
 /// The answer to a row whose binary comes at once.
 fn answer_whole(alloc: Global, row: &Row, binary: &[u8]) -> io::Result<String> {
     let limit = u64::from(row.limit);
-    let judged = validate_from(alloc, &mut Input::new(binary), row.profile, limit, row.policy);
-    let loaded = load_from(alloc, &mut Input::new(binary), row.profile, limit, row.policy);
+    let judged = validate_from(
+        alloc,
+        &mut Input::new(binary),
+        row.profile,
+        limit,
+        row.policy,
+    );
+    let loaded = load_from(
+        alloc,
+        &mut Input::new(binary),
+        row.profile,
+        limit,
+        row.policy,
+    );
     if let Ok(checked) = &loaded {
         if !is_given_back(alloc, row, checked)? {
             return say(alloc, "not given back by its text");

@@ -24,9 +24,12 @@ struct Counts {
 
 /// What a validator and a loader answer to pieces; none where they differ.
 fn answer_of_both(alloc: Global, row: &Row, pieces: &[&[u8]]) -> Option<Both> {
-    match (validate(alloc, row, pieces), load(alloc, row, pieces)) {
-        (Ok(Ok(summary)), Ok(Ok(checked))) => Some(Ok((summary, checked))),
-        (Ok(Err(first)), Ok(Err(second))) if first == second => Some(Err(first)),
+    let (Ok(judged), Ok(loaded)) = (validate(alloc, row, pieces), load(alloc, row, pieces)) else {
+        return None;
+    };
+    match (judged, loaded) {
+        (Ok(summary), Ok(checked)) => Some(Ok((summary, checked))),
+        (Err(first), Err(second)) => (first == second).then_some(Err(first)),
         _ => None,
     }
 }
@@ -48,7 +51,10 @@ fn is_same(alloc: Global, row: &Row, first: &Checked, second: &Checked) -> io::R
 /// Whether a binary is valid; none where the answers to it whole and in pieces of one byte differ.
 fn is_valid(alloc: Global, row: &Row, binary: &[u8]) -> io::Result<Option<bool>> {
     let bytes = binary.chunks(1).collect::<Vec<&[u8]>>(alloc)?;
-    match (answer_of_both(alloc, row, &[binary]), answer_of_both(alloc, row, &bytes)) {
+    match (
+        answer_of_both(alloc, row, &[binary]),
+        answer_of_both(alloc, row, &bytes),
+    ) {
         (Some(Ok((whole, first))), Some(Ok((apart, second)))) => {
             let is_same = whole == apart && is_same(alloc, row, &first, &second)?;
             Ok(is_same.then_some(true))

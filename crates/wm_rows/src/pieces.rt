@@ -27,10 +27,15 @@ fn end<T: Drop>(
     first: Option<Refusal>,
     last: Result<T, Refusal>,
 ) -> Result<Result<T, Refusal>, Forgotten> {
-    match (first, last) {
-        (None, last) => Ok(last),
-        (Some(first), Err(refusal)) if refusal == first => Ok(Err(refusal)),
-        _ => Err(Forgotten),
+    let Some(first) = first else {
+        return Ok(last);
+    };
+    match last {
+        Err(refusal) => {
+            refusal_after(Some(first), Err(refusal))?;
+            Ok(Err(refusal))
+        }
+        Ok(_) => Err(Forgotten),
     }
 }
 
