@@ -2,11 +2,11 @@
 
     .ci/deep.py PROGRAM       wmod, as it was built
 """
-import resource
 import subprocess
 import sys
 
-STACK = 128 * 1024
+# in KiB
+STACK = 128
 DEPTH = 1_000_000
 # a function of type [] to [] whose body opens so many blocks and closes them
 DEEP = bytes.fromhex("0061736D01000000 010401600000 03020100 0AC78DB701 01 C28DB701 00") + b"\x02\x40" * DEPTH + b"\x0b" * (DEPTH + 1)
@@ -17,15 +17,8 @@ OPEN_ANSWER = f"text refused at {len(OPEN)}: OpenComment\n".encode()
 
 def run(program, action, given):
     """The exit status and what was written."""
-    limit = (STACK, STACK)
-    ran = subprocess.run(
-        [program, action],
-        input=given,
-        stdout=subprocess.PIPE,
-        preexec_fn=lambda: resource.setrlimit(resource.RLIMIT_STACK, limit),
-        timeout=300,
-        check=False,
-    )
+    words = ["sh", "-c", f'ulimit -s {STACK}; exec "$@"', "", program, action]
+    ran = subprocess.run(words, input=given, stdout=subprocess.PIPE, timeout=300, check=False)
     return ran.returncode, ran.stdout
 
 
@@ -41,7 +34,7 @@ def is_well(program):
         "open comments": run(program, "build", OPEN) == (1, OPEN_ANSWER),
     }
     wrong = [name for name, well in answers.items() if not well]
-    print(f"deep: {DEPTH} blocks on a stack of {STACK} bytes: " + (f"wrong: {', '.join(wrong)}" if wrong else "well"), flush=True)
+    print(f"deep: {DEPTH} blocks on a stack of {STACK} KiB: " + (f"wrong: {', '.join(wrong)}" if wrong else "well"), flush=True)
     return not wrong
 
 
