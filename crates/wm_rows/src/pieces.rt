@@ -39,7 +39,7 @@ fn end<T: Drop>(
     }
 }
 
-/// What a validator answers to pieces.
+/// What a validator answers to pieces. No clause: the file `stdout` has what is right.
 pub fn validate(
     alloc: Global,
     row: &Row,
@@ -53,7 +53,7 @@ pub fn validate(
     end(first, validator.finish())
 }
 
-/// What a loader answers to pieces.
+/// What a loader answers to pieces. No clause: the file `stdout` has what is right.
 pub fn load(
     alloc: Global,
     row: &Row,
