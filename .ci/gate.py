@@ -168,8 +168,18 @@ def refused_alone(said, crate, place):
     path, name = place
     module = re.sub(r"(^|::)(lib|main|mod)$", "", path[len("src/") : -len(".rt")].replace("/", "::"))
     front = "::".join(it for it in (crate.name, module) if it)
-    lines = re.findall(rf"(?m)^(fn {front}::(?:\w+::)*{name}: (?:no proof|not proved).*)$", said)
+    named = [rf"{front}::(?:\w+::)*{name}", *method_of(crate, path, name)]
+    lines = re.findall(rf"(?m)^(fn (?:{'|'.join(named)}): (?:no proof|not proved).*)$", said)
     return next((it for it in lines if not WAITS.search(it)), None)
+
+
+def method_of(crate, path, name):
+    """The prover's name of a method whose type another module declares: that module's, and not its file's."""
+    with open(f"{crate.folder}/{path}", encoding="utf-8") as it:
+        before, is_method, _ = it.read().partition(f"fn {name}(")
+    of = re.findall(r"(?m)^(?:impl(?:<.*?>)? (\w+)(?:<.*>)? |})", before) if is_method else []
+    use = of and of[-1] and re.search(rf"(?m)^use crate::((?:\w+::)+){of[-1]};$", before)
+    return [f"{crate.name}::{use[1]}{of[-1]}::{name}"] if use else []
 
 
 def grouped(crate, left):
@@ -206,15 +216,28 @@ def in_groups(crate, edits, flags):
 
 
 def must_fail_all(crate, edits, flags):
+    """What each edit came to, and what to say of it."""
     said, tried = in_groups(crate, edits, flags), []
     for edit in edits:
         label = f"must-fail {crate.name}/{os.path.basename(edit)}"
         if edit in said:
-            tried.append((True, f"{label}: refused, as it must be: {said[edit][:160]}"))
+            tried.append((rt.REFUSED, f"{label}: refused, as it must be: {said[edit][:160]}"))
         else:
             tried.append(rt.must_fail(crate, edit, flags, kept_of(crate)))
     is_sound = not check_a_copy(crate, {}, flags, kept_of(crate)).returncode
-    return [it if is_sound and it[0] else from_nothing(crate, edit, flags) for edit, it in zip(edits, tried)]
+    return [it if is_sound and it[0] in rt.SETTLED else from_nothing(crate, edit, flags) for edit, it in zip(edits, tried)]
+
+
+def add_edits(tasks, crate, edits, first, waits, is_well, kept):
+    """One task for all edits of a crate, after its proof and its tests, over whose work they are tried. Returns what gives their results, and those of
+    earlier runs: there are none."""
+    key = crate.name, "edits"
+
+    def call(given, _):
+        return must_fail_all(crate, edits, ["--jobs", "1"]) if edits and is_well(given, len(edits)) else []
+
+    tasks[key] = [*waits, *first], crate.count(rb"\n") * len(edits), rt.need(crate), call
+    return (lambda given: given[key]), dict
 
 
 def from_nothing(crate, edit, flags):
@@ -232,8 +255,7 @@ def check_a_copy(crate, texts, flags, kept):
 def in_lanes(tasks):
     """A proof, for which all above it waits, takes all processors. The tests of a library come after its proof, over whose
     work they are checked."""
-    for name, part in list(tasks):
-        waits, lines, memory, call = tasks[name, part]
+    for (name, part), (waits, lines, memory, call) in list(tasks.items()):
         if part == "proof":
             call = lambda given, _, it=call: it(given, rt.processors())
         if part == "tests" and not os.path.isfile(f"crates/{name}/src/main.rt"):
@@ -278,7 +300,9 @@ def main():
 
 
 guarded_by_the_kit, checked_by_the_kit, lanes_of_the_kit, run_by_the_kit = rtlib.guarded, rt.checked, rt.in_lanes, rt.run
-rt.Crate, rt.checked, rt.must_fail_all, rt.in_lanes, rt.run = Crate, check_a_copy, must_fail_all, in_lanes, run
+rt.Crate, rt.checked, rt.add_edits, rt.in_lanes, rt.run = Crate, check_a_copy, add_edits, in_lanes, run
+# what `rt ci` passed on this machine is no part of this run, nor this run's of a later one's
+rt.STORE = f"{ROOM.name}/store"
 rtlib.guarded = guarded
 rtlib.VERDICT = Verdict(rtlib.VERDICT)
 
