@@ -1,7 +1,7 @@
 #!/usr/bin/env python3
-"""The gate: `rt ci`, with each library proved once.
+"""The gate: `rt ci`, with each crate proved once.
 
-`rt ci` proves a library three times: plain, with its tests, and again before its first must-fail edit. Here the three
+`rt ci` proves a crate three times: plain, with its tests, and again before its first must-fail edit. Here the three
 share one folder of this run's own, which begins empty. So each module is proved once, and what is refused by `rt ci` is
 refused here. Edits are first tried some at a time, each in another function. The built wmod is run with each of its growths
 refused in turn (growths.py), and on a million blocks (deep.py). It also says what each crate cost.
@@ -77,9 +77,15 @@ def guarded():
 class Crate(rt.Crate):
     def words(self, flags, tests=False, keeps=True, as_source=False):
         words = super().words(flags, tests, keeps, as_source)
-        # (a program's check is written whole, which needs a check from nothing)
-        is_shared = not keeps and (tests or not self.is_program)
-        return words + ["--incremental", kept_of(self)] * is_shared
+        return words if keeps else words + ["--incremental", kept_of(self)]
+
+    def ci(self, flags, tests):
+        if tests or not self.is_program:
+            return super().ci(flags, tests)
+        # (what a check wrote whole, as rt's own, begins with nothing. So each compiler checks again, over what is kept)
+        words, to = self.words(flags, keeps=False), f"out/{self.name}"
+        whole = [*words, "--toolchain", f"{rt.KIT}/toolchain"]
+        return self.prove(["check", *words]) or self.compile_by("llvm", whole, to) or self.compile_by("rattle", whole, to)
 
     def build_rlib(self, flags, anew):
         # (rattle writes no rlib of statements alone over kept work)
@@ -253,12 +259,12 @@ def check_a_copy(crate, texts, flags, kept):
 
 
 def in_lanes(tasks):
-    """A proof, for which all above it waits, takes all processors. The tests of a library come after its proof, over whose
+    """A proof, for which all above it waits, takes all processors. The tests of a crate come after its proof, over whose
     work they are checked."""
     for (name, part), (waits, lines, memory, call) in list(tasks.items()):
         if part == "proof":
             call = lambda given, _, it=call: it(given, rt.processors())
-        if part == "tests" and not os.path.isfile(f"crates/{name}/src/main.rt"):
+        if part == "tests":
             waits = [*waits, (name, "proof")]
         tasks[name, part] = waits, lines, memory, call
     given = lanes_of_the_kit(tasks)
