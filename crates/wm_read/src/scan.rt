@@ -55,6 +55,7 @@ pub enum Step {
 }
 
 /// What begins with this byte.
+#[inline(always)]
 #[tactic(auto, unfolding(crate::specs::exact::Scan::class_of))]
 pub fn class_of(byte: u8) -> Class
     ensures { result ≡ scan.class_of byte }
@@ -85,6 +86,29 @@ pub fn is_id_char(byte: u8) -> bool
         b'<' | b'=' | b'>' | b'?' | b'@' | b'\\' | b'^' | b'_' | b'`' | b'|' | b'~' => true,
         _ => false,
     }
+}
+
+/// Whether this byte is white space by itself (section 6.2.3).
+#[inline(always)]
+fn is_space(byte: u8) -> bool
+    ensures { result ≡ tokens.is_space byte }
+{
+    matches!(byte, b' ' | b'\t' | b'\n' | b'\r')
+}
+
+/// A text from its first byte on that is not white space by itself.
+#[inline(always)]
+pub fn after_spaces(text: &[u8]) -> &[u8]
+    ensures { result.now ≡ scan.after_spaces text.now }
+{
+    let mut rest = text;
+    while let [c, more @ ..] = rest {
+        if !is_space(*c) {
+            return rest;
+        }
+        rest = more;
+    }
+    rest
 }
 
 /// What stands behind a line comment (section 6.2.4), from the text after its `;;`.
@@ -289,6 +313,7 @@ fn bad_in(mode: Mode) -> TextWhy
 }
 
 /// How many characters of atoms stand first.
+#[inline(always)]
 pub fn atom_len(text: &[u8]) -> usize
     ensures within { result ≤ length text.now }
     ensures atom { scan.atom_in text.now ≡ (take result text.now, drop result text.now) }
