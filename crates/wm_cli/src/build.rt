@@ -15,11 +15,11 @@ ghost use Rattle.wm_syntax.specs.Profiles.{IsOf};
 ghost use Rattle.wm_syntax.specs.Values.{value_of};
 
 use crate::answer::answer;
-use crate::run::{refuse, write_canonical};
+use crate::run::refuse;
 use crate::status::Status;
 use std::alloc::Global;
 use wm_decode::Refusal;
-use wm_read::check::{CheckFault, check};
+use wm_read::check::{CheckFault, checked_bytes};
 use wm_read::faults::{TextRefusal, TextWhy};
 use wm_read::spellings::Spellings;
 use wm_read::text::read_text;
@@ -150,8 +150,8 @@ fn convert_module<W: Dest>(
     ensures memory { result ≡ Status.Memory → w.new ≡ w.old }
     ensures io { (result ≡ Status.Io) ↔ (W.has_failed w.new ≡ true) }
 {
-    match check(alloc, profile, policy, m) {
-        Ok(checked) => write_canonical(&checked, w),
+    match checked_bytes(alloc, profile, policy, m) {
+        Ok(bytes) => answer(w, &bytes, Status::Done),
         Err(CheckFault::Refused(refusal)) => refuse_module(alloc, refusal, w),
         Err(CheckFault::TooLarge) => answer(w, b"module refused: TooLarge\n", Status::Refused),
         Err(CheckFault::Memory) => Status::Memory,

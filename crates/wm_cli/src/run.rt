@@ -123,7 +123,7 @@ fn report<W: Dest>(alloc: Global, summary: Summary, w: &mut W) -> Status
 }
 
 /// Writes the canonical binary of a module, and flushes.
-pub(crate) fn write_canonical<W: Dest>(checked: &Checked, w: &mut W) -> Status
+fn write_canonical<W: Dest>(checked: &Checked, w: &mut W) -> Status
     requires { W.has_failed w.old ≡ false }
     ensures { IsAnswered (canon (value_of (module_in checked.now))) Status.Done (W.contents w.old) (W.contents w.new)
         (W.has_failed w.new) (W.is_flushed w.new) result }

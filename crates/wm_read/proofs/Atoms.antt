@@ -1,11 +1,11 @@
 -- Atoms, as long as they can be, and the numbers that they write.
-use Rattle.std.proofs.Common.{◌≡◌, ℕ, zero, suc, ◌<◌, ◌≤◌, ◌+◌, ◌*◌, ◌⊎◌, Bool, true, false, cond, List, [], ◌∷◌, ◌++◌, length, Option, Some, None, refl, sym, ap, ◌∙◌, inl, inr, arith, ltb, take, drop, get_or, min}
+use Rattle.std.proofs.Common.{◌≡◌, ℕ, zero, suc, ◌<◌, ◌≤◌, ◌+◌, ◌-◌, ◌*◌, ◌⊎◌, Bool, true, false, cond, List, [], ◌∷◌, ◌++◌, length, Option, Some, None, refl, sym, ap, ◌∙◌, inl, inr, arith, ltb, take, drop, get_or, min}
 use Rattle.std.specs.Option.{option_map}
 use Rattle.std.proofs.Math.Nat.{mul-le-mul_right, mul-le-mul_left}
-use Rattle.std.specs.Prelude.{◌==◌, ◌&&◌, fold, not}
+use Rattle.std.specs.Prelude.{◌==◌, ◌&&◌, fold, nat_le, not}
 use Rattle.std.specs.List.{list_all}
-use Rattle.std.proofs.lemmas.Bool.{cond-true, cond-false, cond_both, eqb-true, eq-eqb, ne_eqb, and_parts, and_from, lt-ltb, ltb-true, and_left, cases_lt}
-use Rattle.wm_read.specs.Tokens.{is_id_char, digit_value, Digits, Magnitude, IsNumber, IsIdentifier, IsWord, is_lower}
+use Rattle.std.proofs.lemmas.Bool.{cond-true, cond-false, cond_both, eqb-true, eq-eqb, ne_eqb, and_parts, and_from, lt-ltb, ltb-true, le-leb, and_left, cases_lt}
+use Rattle.wm_read.specs.Tokens.{is_digit, is_id_char, digit_value, Digits, Magnitude, IsNumber, IsIdentifier, IsWord, is_lower}
 use Rattle.wm_read.specs.exact.Scan.{atom_in, digits_in, with_digit, magnitude_of, is_number, is_atom, is_nil, is_some, number_in, number_next}
 use Rattle.wm_read.proofs.Basics.{chosen, same_some, same_head, both_are}
 
@@ -104,17 +104,18 @@ digits_left base n false (c ∷ b) m e = elim (chosen ((c == 95) && false) _ _ (
 
 -- ---- numbers
 
+-- what decimal digits make, though no 0x leads
+decimal_magnitude : (n : ℕ) (b : List ℕ) → digits_in 10 0 false b ≡ Some n → magnitude_of b ≡ Some n
+decimal_magnitude n [] e = absurd cc
+decimal_magnitude n (c ∷ []) e = e
+decimal_magnitude n (c ∷ d ∷ b) e = cond_both ((c == 48) && (d == 120)) _ _ (λ x. x ≡ Some n)
+    (λ t. let are = both_are c d 48 120 t in
+    let f : digits_in 10 0 false (48 ∷ 120 ∷ b) ≡ Some n = ap (λ (x : ℕ). digits_in 10 0 false (48 ∷ x ∷ b)) (sym are.1) ∙ ap (λ (x : ℕ). digits_in 10 0 false (x ∷ d ∷ b)) (sym are.0) ∙ e in
+    absurd (let g : ◌≡◌ {A = Option ℕ} None (Some n) = f in cc))
+    (λ _. e)
+
 pub magnitude_more : (n : ℕ) (b : List ℕ) → Magnitude n b → magnitude_of b ≡ Some n
-magnitude_more n b (inl (ds, h, k)) = by b (digits_more 10 0 false ds b h ∙ ap Some (sym k))
-  where
-    by : (b : List ℕ) → digits_in 10 0 false b ≡ Some n → magnitude_of b ≡ Some n
-    by [] e = absurd cc
-    by (c ∷ []) e = e
-    by (c ∷ d ∷ b) e = cond_both ((c == 48) && (d == 120)) _ _ (λ x. x ≡ Some n)
-        (λ t. let are = both_are c d 48 120 t in
-        let f : digits_in 10 0 false (48 ∷ 120 ∷ b) ≡ Some n = ap (λ (x : ℕ). digits_in 10 0 false (48 ∷ x ∷ b)) (sym are.1) ∙ ap (λ (x : ℕ). digits_in 10 0 false (x ∷ d ∷ b)) (sym are.0) ∙ e in
-        absurd (let g : ◌≡◌ {A = Option ℕ} None (Some n) = f in cc))
-        (λ _. e)
+magnitude_more n b (inl (ds, h, k)) = decimal_magnitude n b (digits_more 10 0 false ds b h ∙ ap Some (sym k))
 magnitude_more n b (inr (ds, (x, y, e, p, h), k)) =
     ap magnitude_of (e ∙ ap (λ (z : List ℕ). z ++ y) p) ∙ digits_more 16 0 false ds y h ∙ ap Some (sym k)
 
@@ -313,3 +314,20 @@ number_halt base n c false b e = elim (chosen ((c == 95) && false) _ _ None (sym
 ]
 
 pub ruleset number_laws = (number_go, number_halt)
+
+-- ---- decimal digits alone
+
+decimal_value : (c : ℕ) → 48 ≤ c → c ≤ 57 → digit_value c ≡ Some (c - 48)
+decimal_value c low high = cond-true (is_digit c) _ _ (and_from (nat_le 48 c) (nat_le c 57) (le-leb 48 c low) (le-leb c 57 high))
+
+pub decimal_go : (c n : ℕ) (after : Bool) (b : List ℕ) → 48 ≤ c → c ≤ 57 → digits_in 10 n after (c ∷ b) ≡ digits_in 10 (n * 10 + (c - 48)) true b
+decimal_go c n after b low high = digit_step 10 n c (c - 48) after b (decimal_value c low high) (omega (arith, low, high))
+
+pub decimal_end : (n : ℕ) (after : Bool) (b text : List ℕ) → digits_in 10 n after b ≡ digits_in 10 0 false text → b ≡ [] → after ≡ true → magnitude_of text ≡ Some n
+decimal_end n after b text e none t = decimal_magnitude n text (sym e ∙ ap (digits_in 10 n after) none ∙ ap (λ (x : Bool). digits_in 10 n x []) t)
+
+pub ruleset decimal_laws = (decimal_go, decimal_end)
+
+-- a number below 2 ^ 64 stands for itself
+pub short_number : (n : ℕ) (b : List ℕ) → magnitude_of b ≡ Some n → n < 0x1_0000_0000 → Some n ≡ option_map (λ k. min k 0x1_0000_0000_0000_0000) (magnitude_of b)
+short_number n b e lt = let same : n ≡ min n 0x1_0000_0000_0000_0000 = omega (arith, lt) in ap Some same ∙ sym (ap (option_map (λ k. min k 0x1_0000_0000_0000_0000)) e)

@@ -2,7 +2,7 @@
 use Rattle.std.proofs.Common.{◌≡◌, ℕ, ◌≤◌, ◌-◌, ◌≢◌, true, List, [], ◌∷◌, ◌++◌, length, take, drop, Option, Some, None, refl, sym, ap, subst, ◌∙◌, inl, inr, arith, append_assoc, length-append}
 use Rattle.std.proofs.lemmas.List.{append-nil, take-append-le, take_all, drop_at}
 use Rattle.wm_read.specs.Tokens.{Token, open_paren, close_paren, string, atom, Ends, AreTokens, BeginsNothing}
-use Rattle.wm_read.specs.exact.Scan.{ahead, blank, first, fault, tokens_of, is_some}
+use Rattle.wm_read.specs.exact.Scan.{after_spaces, ahead, blank, first, fault, tokens_of, is_some}
 use Rattle.std.specs.Prelude.{Result, Ok, Err, IfErr}
 use Rattle.wm_read.specs.Faults.{IsOfTheEnd, IsOfAToken}
 use Rattle.wm_read.specs.declared.faults.TextRefusal.{TextRefusal}
@@ -10,7 +10,7 @@ use Rattle.wm_read.specs.declared.faults.TextWhy.{TextWhy}
 use Rattle.wm_read.specs.declared.faults.TextWhy.TheVariants.{OpenComment, OpenString}
 use Rattle.wm_read.specs.inner.Places.{HasTokens, Before, IsPlace}
 use Rattle.wm_read.proofs.Ahead.{IsAhead, ahead_is_so, ahead_blank, ahead_last, ahead_token}
-use Rattle.wm_read.proofs.Whole.{tokens_go, tokens_nil, tokens_found, some_adding}
+use Rattle.wm_read.proofs.Whole.{tokens_go, tokens_nil, tokens_found, some_adding, spaces_along}
 
 pub before_all : (text : List ℕ) → Before text text
 unfolding Before
@@ -40,6 +40,9 @@ before_skip text b r e h = by (subst (IsAhead b) (sym e) (ahead_is_so b))
         (λ front back cut _. ap is_some
         (ap (λ (z : List ℕ). tokens_of (c ∷ part ++ z)) (nil_front front back (sym none ∙ cut)) ∙ ap tokens_of (append-nil (c ∷ part))
         ∙ tokens_go (c ∷ part) (blank []) (ahead_last (c ∷ part) line) ∙ tokens_nil)) h
+
+pub before_spaces : (text b : List ℕ) → Before text b → Before text (after_spaces b)
+before_spaces text b h = spaces_along (Before text) (before_skip text) b h
 
 ends_front : (t : Token) (front back : List ℕ) → Ends t (front ++ back) → Ends t front
 ends_front open_paren [] back h = tt
@@ -74,7 +77,7 @@ fault_place text rest (part, is, all) e =
     let n : length part ≡ length text - length rest = (let l : length text ≡ length (part ++ rest) = ap length is in omega (arith, l, length-append part rest)) in
     ap ahead (ap (drop (length text - length rest)) is ∙ drop_at part rest (length text - length rest) n) ∙ sym e
 
-pub ruleset place_laws = (before_all, before_skip, before_take)
+pub ruleset place_laws = (before_all, before_skip, before_take, before_spaces)
 
 -- every other fault lies before the end
 pub not_of_the_end : (why : TextWhy) → why ≢ OpenComment → why ≢ OpenString → ¬ (IsOfTheEnd why)

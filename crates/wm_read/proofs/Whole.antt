@@ -1,9 +1,9 @@
 -- The tokens of a whole text.
-use Rattle.std.proofs.Common.{◌≡◌, ℕ, zero, suc, ◌<◌, true, false, List, [], ◌∷◌, ◌++◌, length, Option, Some, None, refl, sym, ap, subst, ◌∙◌, inl, inr, arith, append_assoc, length-append, IsUtf8}
+use Rattle.std.proofs.Common.{◌≡◌, ℕ, zero, suc, ◌<◌, ◌≤◌, Bool, cond, true, false, List, [], ◌∷◌, ◌++◌, length, Option, Some, None, refl, sym, ap, subst, ◌∙◌, inl, inr, arith, append_assoc, length-append, IsUtf8}
 use Rattle.std.proofs.lemmas.List.{append-nil}
 use Rattle.wm_syntax.specs.Spelling.{Each}
-use Rattle.wm_read.specs.Tokens.{Token, Blank, LineComment, Space, AreTokens, Tokens}
-use Rattle.wm_read.specs.exact.Scan.{ahead, Ahead, no_more, blank, first, fault, adding, going, tokens_within, tokens_of, lexing, lexed_within, lexed, is_some, has_tokens}
+use Rattle.wm_read.specs.Tokens.{Token, is_space, Blank, LineComment, Space, AreTokens, Tokens}
+use Rattle.wm_read.specs.exact.Scan.{after_spaces, ahead, Ahead, no_more, blank, first, fault, adding, going, tokens_within, tokens_of, lexing, lexed_within, lexed, is_some, has_tokens}
 use Rattle.std.specs.Prelude.{Result, Ok, Err, OnErr, MatchResult}
 use Rattle.wm_read.proofs.Basics.{same_some}
 use Rattle.wm_read.proofs.Ahead.{IsAhead, ahead_is_so, ahead_blank, ahead_last, ahead_token}
@@ -180,7 +180,26 @@ blank_shorter b r e = subst (Shorter b) (sym e) (ahead_shorter b)
 pub first_shorter : (b r : List ℕ) (t : Token) → first t r ≡ ahead b → length r < length b
 first_shorter b r t e = subst (Shorter b) (sym e) (ahead_shorter b)
 
-pub ruleset ahead_laws = (ahead_ends, ahead_skips, ahead_takes, ahead_stops, blank_shorter, first_shorter)
+-- white space by itself is the blank that stands first
+space_skips : (c : ℕ) (b : List ℕ) → is_space c ≡ true → blank b ≡ ahead (c ∷ b)
+space_skips c b e = sym (ahead_blank (c ∷ []) b (inl (c, refl, e)))
+
+-- what each blank that is skipped leaves as it is, white space that is skipped at once does too
+pub spaces_along : (P : List ℕ → Type 0) → ((b r : List ℕ) → blank r ≡ ahead b → P b → P r) → (b : List ℕ) → P b → P (after_spaces b)
+spaces_along P skip [] h = h
+spaces_along P skip (c ∷ b) h = by (is_space c) refl (spaces_along P skip b)
+  where
+    by : (t : Bool) → is_space c ≡ t → (P b → P (after_spaces b)) → P (cond t (after_spaces b) (c ∷ b))
+    by true e more = more (skip (c ∷ b) b (space_skips c b e) h)
+    by false e more = h
+
+pub spaces_lexed : (b : List ℕ) → lexed (after_spaces b) ≡ lexed b
+spaces_lexed b = spaces_along (λ r. lexed r ≡ lexed b) (λ x r e h. sym (ahead_skips x r e) ∙ h) b refl
+
+pub spaces_within : (b : List ℕ) → length (after_spaces b) ≤ length b
+spaces_within b = spaces_along (λ r. length r ≤ length b) (λ x r e h. let lt : length r < length x = blank_shorter x r e in omega arith) b (omega arith)
+
+pub ruleset ahead_laws = (ahead_ends, ahead_skips, ahead_takes, ahead_stops, blank_shorter, first_shorter, spaces_lexed, spaces_within)
 
 pub some_adding : (t : Token) (o : Option (List Token)) → is_some (adding t o) ≡ is_some o
 some_adding t None = refl
@@ -195,10 +214,13 @@ stand_skip b r e = ap is_some (tokens_skip b r e)
 pub stand_take : (b r : List ℕ) (t : Token) → first t r ≡ ahead b → has_tokens b ≡ has_tokens r
 stand_take b r t e = ap is_some (tokens_take b r t e) ∙ some_adding t (tokens_of r)
 
+pub stand_spaces : (b : List ℕ) → has_tokens (after_spaces b) ≡ has_tokens b
+stand_spaces b = spaces_along (λ r. has_tokens r ≡ has_tokens b) (λ x r e h. sym (stand_skip x r e) ∙ h) b refl
+
 pub stand_stop : (b : List ℕ) → fault ≡ ahead b → has_tokens b ≡ false
 stand_stop b e = ap is_some (tokens_stop b e)
 
-pub ruleset stand_laws = (stand_end, stand_skip, stand_take, stand_stop, blank_shorter, first_shorter)
+pub ruleset stand_laws = (stand_end, stand_skip, stand_take, stand_stop, stand_spaces, blank_shorter, first_shorter, spaces_within)
 
 pub stand_has : (b : List ℕ) → IsUtf8 b → has_tokens b ≡ true → Tokens b (lexed b)
 stand_has b u h = by (tokens_of b) refl h

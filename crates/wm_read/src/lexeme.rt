@@ -12,8 +12,8 @@ ghost use Rattle.wm_read.specs.inner.Places.{Before, IsPlace};
 
 use crate::faults::{TextRefusal, TextWhy};
 use crate::scan::{
-    Class, Mode, Step, after_comment, after_line, after_string, atom_len, class_of, is_atom,
-    string_step,
+    Class, Mode, Step, after_comment, after_line, after_spaces, after_string, atom_len, class_of,
+    is_atom, string_step,
 };
 use std::alloc::{AllocError, Global};
 
@@ -42,6 +42,7 @@ pub enum Found<'a> {
 }
 
 /// What stands first.
+#[inline(always)]
 #[tactic(auto, unfolding(crate::specs::exact::Scan::ahead))]
 pub fn ahead(text: &[u8]) -> Found
     ensures found { ahead_of result ≡ scan.ahead text.now }
@@ -134,11 +135,11 @@ pub fn next_token(text: &[u8]) -> Option<(Lexeme, &[u8])>
         (λ x. scan.lexed text.now ≡ token_of x.0 ∷ scan.lexed x.1.now) }
     ensures shorter { IfSome result (λ x. length x.1.now < length text.now) }
 {
-    let mut rest = text;
+    let mut rest = after_spaces(text);
     loop {
         match ahead(rest) {
             Found::Nothing | Found::Fault(_) => return None,
-            Found::Blank(more) => rest = more,
+            Found::Blank(more) => rest = after_spaces(more),
             Found::First(token, more) => return Some((token, more)),
         }
     }
@@ -150,10 +151,10 @@ pub fn skip_space(text: &[u8]) -> &[u8]
     ensures same { scan.lexed result.now ≡ scan.lexed text.now }
     ensures within { length result.now ≤ length text.now }
 {
-    let mut rest = text;
+    let mut rest = after_spaces(text);
     loop {
         match ahead(rest) {
-            Found::Blank(more) => rest = more,
+            Found::Blank(more) => rest = after_spaces(more),
             _ => return rest,
         }
     }
@@ -193,13 +194,13 @@ fn check_whole(text: &[u8]) -> Result<(), TextRefusal>
     ensures why { IfErr result (λ e. IsOfTokens e.why) }
     ensures at { IfErr result (λ e. IsPlace text.now e) }
 {
-    let mut rest = text;
+    let mut rest = after_spaces(text);
     loop {
         match ahead(rest) {
             Found::Nothing => return Ok(()),
             Found::Fault(why) => return Err(fault(text, rest, why)),
-            Found::Blank(more) => rest = more,
-            Found::First(_, more) => rest = more,
+            Found::Blank(more) => rest = after_spaces(more),
+            Found::First(_, more) => rest = after_spaces(more),
         }
     }
 }

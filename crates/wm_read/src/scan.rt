@@ -55,6 +55,7 @@ pub enum Step {
 }
 
 /// What begins with this byte.
+#[inline(always)]
 #[tactic(auto, unfolding(crate::specs::exact::Scan::class_of))]
 pub fn class_of(byte: u8) -> Class
     ensures { result ≡ scan.class_of byte }
@@ -75,16 +76,46 @@ pub fn class_of(byte: u8) -> Class
     }
 }
 
+// Each character of atoms stands at its own place, and a comma, which is none, at every other.
+static ID_CHARS: [u8; 256] = *b"\
+    ,,,,,,,,,,,,,,,,,,,,,,,,,,,,,,,,\
+    ,!,#$%&',,*+,-./0123456789:,<=>?\
+    @ABCDEFGHIJKLMNOPQRSTUVWXYZ,\\,^_\
+    `abcdefghijklmnopqrstuvwxyz,|,~,\
+    ,,,,,,,,,,,,,,,,,,,,,,,,,,,,,,,,\
+    ,,,,,,,,,,,,,,,,,,,,,,,,,,,,,,,,\
+    ,,,,,,,,,,,,,,,,,,,,,,,,,,,,,,,,\
+    ,,,,,,,,,,,,,,,,,,,,,,,,,,,,,,,,";
+
 /// Whether this byte is a character of atoms (section 6.3.5, idchar).
+#[inline(always)]
 pub fn is_id_char(byte: u8) -> bool
     ensures { result ≡ tokens.is_id_char byte }
 {
-    match byte {
-        b'0'..=b'9' | b'a'..=b'z' | b'A'..=b'Z' => true,
-        b'!' | b'#' | b'$' | b'%' | b'&' | b'\'' | b'*' | b'+' | b'-' | b'.' | b'/' | b':' => true,
-        b'<' | b'=' | b'>' | b'?' | b'@' | b'\\' | b'^' | b'_' | b'`' | b'|' | b'~' => true,
-        _ => false,
+    ID_CHARS[byte as usize] != b','
+}
+
+/// Whether this byte is white space by itself (section 6.2.3).
+#[inline(always)]
+fn is_space(byte: u8) -> bool
+    ensures { result ≡ tokens.is_space byte }
+{
+    matches!(byte, b' ' | b'\t' | b'\n' | b'\r')
+}
+
+/// A text from its first byte on that is not white space by itself.
+#[inline(always)]
+pub fn after_spaces(text: &[u8]) -> &[u8]
+    ensures { result.now ≡ scan.after_spaces text.now }
+{
+    let mut rest = text;
+    while let [c, more @ ..] = rest {
+        if !is_space(*c) {
+            return rest;
+        }
+        rest = more;
     }
+    rest
 }
 
 /// What stands behind a line comment (section 6.2.4), from the text after its `;;`.
@@ -289,6 +320,7 @@ fn bad_in(mode: Mode) -> TextWhy
 }
 
 /// How many characters of atoms stand first.
+#[inline(always)]
 pub fn atom_len(text: &[u8]) -> usize
     ensures within { result ≤ length text.now }
     ensures atom { scan.atom_in text.now ≡ (take result text.now, drop result text.now) }
@@ -318,6 +350,36 @@ pub fn is_atom(atom: &[u8]) -> bool
 
 /// The value of a number with no sign (section 6.3.1), or 2^64 if it is greater.
 pub fn magnitude(text: &[u8]) -> Option<u128>
+    ensures { result ≡ option_map (λ n. min n 0x1_0000_0000_0000_0000) (scan.magnitude_of text.now) }
+{
+    match short_decimal(text) {
+        Some(n) => Some(u128::from(n)),
+        None => any_magnitude(text),
+    }
+}
+
+/// The value of a number below 10^9 that is decimal digits alone, which most numbers are.
+#[inline(always)]
+#[tactic(auto, using(crate::proofs::Atoms::decimal_laws))]
+fn short_decimal(text: &[u8]) -> Option<u32>
+    ensures { IfSome result (λ n. scan.magnitude_of text.now ≡ Some n) }
+{
+    let mut rest = text;
+    let mut n = 0u32;
+    let mut after = false;
+    while let [c, more @ ..] = rest {
+        if *c < b'0' || *c > b'9' || n >= 100_000_000 {
+            return None;
+        }
+        n = n * 10 + u32::from(*c - b'0');
+        after = true;
+        rest = more;
+    }
+    if after { Some(n) } else { None }
+}
+
+/// The value of a number in any form, or 2^64 if it is greater.
+fn any_magnitude(text: &[u8]) -> Option<u128>
     ensures { result ≡ option_map (λ n. min n 0x1_0000_0000_0000_0000) (scan.magnitude_of text.now) }
 {
     match text {

@@ -14,6 +14,11 @@ class_of c =
     if is_space c then Space else if c == 59 then Semicolon else if c == 40 then Opening else if c == 41 then Closing
     else if c == 34 then Quote else if is_id_char c then Atom else Other
 
+-- behind the white space that stands first, but for comments
+abbrev pub after_spaces : List ℕ → List ℕ
+after_spaces [] = []
+after_spaces (c ∷ b) = if is_space c then after_spaces b else c ∷ b
+
 -- behind a line comment's end
 abbrev pub after_line : List ℕ → List ℕ
 after_line [] = []

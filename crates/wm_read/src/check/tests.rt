@@ -19,4 +19,8 @@ within (module (type (func)) (func (type 0) (local i32 i32) block end)) => 00617
 within (module (type (func)) (func (type 0)) (func (type 0))) => Refused(Refusal { at: 19, why: ManyFunctions })
 within (module (type (func)) (func (type 0) (local i32 i32 i32))) => Refused(Refusal { at: 25, why: ManyLocals })
 within (module (type (func)) (func (type 0) block block end end)) => Refused(Refusal { at: 27, why: Deep })
+;; the bytes alone, within the same policy
+canonical (module (type (func)) (func (type 0) (local i32 i32) block end)) => 0061736d01000000010401600000030201000a09010701027f02400b0b|
+canonical (module (start 0)) => Refused(Refusal { at: 11, why: Index })
+canonical (module (type (func)) (func (type 0)) (func (type 0))) => Refused(Refusal { at: 19, why: ManyFunctions })
 "#;

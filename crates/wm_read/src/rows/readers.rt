@@ -1,10 +1,11 @@
 //! The readers that rows ask.
 
 use super::shown::{
-    repeated, shown, shown_fault, shown_length, shown_module, shown_refusal, shown_tokens,
+    repeated, shown, shown_bytes, shown_fault, shown_length, shown_module, shown_refusal,
+    shown_tokens,
 };
 use crate::bodies::read_body;
-use crate::check::check;
+use crate::check::{check, checked_bytes};
 use crate::constants::{constant, offset};
 use crate::faults::TextFault;
 use crate::faults::tests::{of_all, of_one};
@@ -141,6 +142,7 @@ fn of_fields<'a>(
         "older" => of_text(alloc, profile, Spellings::Older, text),
         "check" => of_checked(alloc, profile, Policy::no_limits(), text),
         "within" => of_checked(alloc, profile, SMALL, text),
+        "canonical" => of_canonical(alloc, profile, text),
         "heads" => shown(alloc, read_heads(alloc, text)),
         _ => of_names(alloc, names, rest, reader, text),
     }
@@ -263,5 +265,16 @@ fn of_module(
     match check(alloc, profile, policy, module) {
         Ok(checked) => shown_module(alloc, checked.module(), b""),
         Err(fault) => Ok(format!(in alloc; "{fault:?}")?),
+    }
+}
+
+/// The canonical binary of the module that a text writes, where that is within a small policy.
+fn of_canonical(alloc: Global, profile: Profile, text: &[u8]) -> Result<String, Fail> {
+    match read_text(alloc, profile, Spellings::Standard, text) {
+        Ok(module) => match checked_bytes(alloc, profile, SMALL, &module) {
+            Ok(bytes) => shown_bytes(alloc, &bytes, b""),
+            Err(fault) => Ok(format!(in alloc; "{fault:?}")?),
+        },
+        Err(refusal) => shown_refusal(alloc, refusal),
     }
 }

@@ -42,7 +42,8 @@ pub(crate) fn shown_length(alloc: Global, module: &Module) -> Result<String, Fai
     Ok(format!(in alloc; "{length} bytes")?)
 }
 
-fn shown_bytes(alloc: Global, bytes: &[u8], rest: &[u8]) -> Result<String, Fail> {
+/// Bytes in hexadecimal digits, and the text after what they stand for.
+pub(crate) fn shown_bytes(alloc: Global, bytes: &[u8], rest: &[u8]) -> Result<String, Fail> {
     let mut text = String::new(alloc);
     for byte in bytes {
         write!(text, "{byte:02x}")?;

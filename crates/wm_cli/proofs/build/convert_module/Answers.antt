@@ -1,4 +1,4 @@
-use Rattle.std.proofs.Common.{◌∙◌, Err, ap, inl, inr, refl, subst, sym}
+use Rattle.std.proofs.Common.{◌∙◌, Err, List, ap, inl, inr, refl, subst, sym, ℕ}
 use Rattle.wm_syntax.specs.Values.{value_of}
 use Rattle.wm_write.specs.Canon.{canon}
 use Rattle.wm_read.proofs.Checks.{fits}
@@ -14,8 +14,8 @@ returns-in-Ok-clause-answered g c = λ n.
       canon m,
       status.Done,
       inl (given.2, given.3, fits m (λ n. let e = c.in-Ok.ensures.too_large.1 n in cc), refl, refl),
-      subst (λ z. IsAnswered (canon z) status.Done (g.W.Dest.contents c.args.w.now) (g.W.Dest.contents c.write_canonical.new.w) (g.W.Dest.has_failed c.write_canonical.new.w) (g.W.Dest.is_flushed c.write_canonical.new.w) c.write_canonical.result)
-          given.0 c.write_canonical.ensures,
+      subst (λ (z : List ℕ). IsAnswered z status.Done (g.W.Dest.contents c.args.w.now) (g.W.Dest.contents c.answer.new.w) (g.W.Dest.has_failed c.answer.new.w) (g.W.Dest.is_flushed c.answer.new.w) c.answer.result)
+          (c.deref.ensures.value ∙ given.0) c.answer.ensures,
     )
 
 pub returns-in-Err-Refused-clause-answered : goal.returns-in-Err-Refused-clause-answered
