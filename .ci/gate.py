@@ -277,7 +277,15 @@ def run(crate, tests, ending=""):
     if crate.name == "wm_cli" and not tests:
         program = f"{crate.folder}/out/{crate.name}{ending}"
         is_well = all([is_well, growths.sweep(program), deep.is_well(program)])
+    if crate.name == "wm_rows" and is_well:
+        print_tally(crate)
     return is_well
+
+
+def print_tally(crate):
+    """What wm_rows has run, as it says itself at the end of what it prints, which is its file stdout."""
+    with open(f"{crate.folder}/stdout", encoding="utf-8") as it:
+        print("rows:" + it.read().rstrip("\n").split("\n")[-1].lstrip("#"), flush=True)
 
 
 def print_costs():

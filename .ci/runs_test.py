@@ -1,6 +1,8 @@
 #!/usr/bin/env python3
-"""That growths.py and deep.py can fail: each is given a stand-in for wmod, as it should be and then with one thing wrong."""
+"""That the runs can fail: growths.py and deep.py are given a stand-in for wmod, and wm_rows stands on libraries, as they
+should be and then with one thing wrong. It takes some minutes."""
 import os
+import shutil
 import subprocess
 import sys
 import tempfile
@@ -42,6 +44,23 @@ TRIALS = {
     "the growth is used though it was refused": ("", "", False),
     "something is written": ("write(1, \"no\\n\", 3); return out_of_memory();", "", False),
     "another status": ("out_of_memory(); return 3;", "", False),
+    "the refusal ends it by a signal": ("abort();", "", False),
+}
+
+NOT_TOLD = "a fault of the reader or the writer is not told"
+# an edit that the prover refuses, and what wm_rows answers to two rows where it is made
+ROWS = ["check H 01 01 00 01", "show H"]
+SEEDS = {
+    None: ["refused at 12: SectionOrder", "text:\n(module)\n"],
+    # a refusal is forgotten
+    "wm_rules/must-fail/loader_forgets_a_refusal.edit": ["differs in small pieces", "text:\n(module)\n"],
+    # a cut loses bytes
+    "wm_rules/must-fail/validator_forgets_a_piece.edit": [NOT_TOLD] * 2,
+    # a source is read on after a refusal
+    "wm_rules/must-fail/read_after_a_refusal.edit": [NOT_TOLD, "text:\n(module)\n"],
+    # a writer's fault is swallowed, or told with a wrong count
+    "wm_write/must-fail/failed_print_ends_well.edit": ["refused at 12: SectionOrder", NOT_TOLD],
+    "wm_write/must-fail/fault_counts_nothing.edit": ["refused at 12: SectionOrder", NOT_TOLD],
 }
 
 
@@ -51,6 +70,29 @@ def built(room, refused, deeper):
         it.write(STAND_IN.replace("REFUSED", refused).replace("DEEPER", deeper))
     subprocess.run([growths.compiler(), "-O0", "-w", source, "-o", program], check=True)
     return program
+
+
+def answers_with(room, edit):
+    """What wm_rows prints of the rows where this edit is made, without its last line. It runs unproved."""
+    copy = f"{room}/copy"
+    shutil.copytree("..", copy, ignore=shutil.ignore_patterns("out", ".git"))
+    if edit:
+        make(f"{copy}/crates", edit)
+    given = "".join(f"{row}\n" for row in ROWS)
+    ran = subprocess.run(["rt", "try"], cwd=f"{copy}/crates/wm_rows", input=given, stdout=subprocess.PIPE, text=True, check=False)
+    shutil.rmtree(copy)
+    return ran.stdout.rpartition("# ")[0]
+
+
+def make(crates, edit):
+    """Makes an edit of one pair in this copy of the crates."""
+    crate = edit.split("/")[0]
+    with open(f"{crates}/{edit}", encoding="utf-8") as it:
+        path, old, new = (line.partition(": ")[2] for line in it.read().splitlines())
+    with open(f"{crates}/{crate}/{path}", encoding="utf-8") as it:
+        text = it.read()
+    with open(f"{crates}/{crate}/{path}", "w", encoding="utf-8") as it:
+        it.write(text.replace(old, new))
 
 
 def main():
@@ -63,6 +105,9 @@ def main():
         for name, deeper, wanted in (("nothing wrong", "", (0, b"valid\n")), ("it recurses", "nested(1000000);", (-11, b""))):
             if deep.run(built(room, RIGHT, deeper), "check", deep.DEEP) != wanted:
                 faults.append(f"deep.py and a stand-in: {name}")
+        for edit, wanted in SEEDS.items():
+            if answers_with(room, edit) != "".join(f"{row} = {answer}\n" for row, answer in zip(ROWS, wanted)):
+                faults.append(f"wm_rows, where {edit or 'nothing'} is edited")
     for fault in faults:
         print(f"runs_test: {fault}", file=sys.stderr)
     return 1 if faults else 0

@@ -1,18 +1,21 @@
 //! Tests of what the program writes.
 
 pub(crate) mod desk;
+pub(crate) mod ends;
+pub(crate) mod faults;
 pub(crate) mod rows;
 mod uses;
 
-use crate::run::{run, run_line};
+use crate::run::run_line;
 use crate::status::{Status, exit_code};
 use crate::witness::Witness;
 use crate::words::{Action, Line, LineFault};
+use ends::{BROKEN, INTERRUPTED, Mode, Reader, Writer};
 use rows::{is_given_back, obey, play};
 use std::alloc::Global;
 use std::fmt::Display;
 use std::io;
-use std::io::{ErrorKind, Read, Write};
+use std::io::ErrorKind;
 use std::process::Abort;
 use std::test::Fail;
 use wm_decode::Refusal;
@@ -26,66 +29,6 @@ use wm_syntax::why::Why;
 const HEADER: [u8; 8] = [0x00, 0x61, 0x73, 0x6D, 0x01, 0x00, 0x00, 0x00];
 
 const LIMIT: u64 = 4294967295;
-
-/// Gives its bytes in pieces of at most so many, and remembers for how many it was asked.
-#[derive(Drop)]
-struct Leaf<'a> {
-    rest: &'a [u8],
-    most: usize,
-    asked: usize,
-}
-
-impl<'a> Leaf<'a> {
-    fn new(rest: &'a [u8], most: usize) -> Self {
-        Leaf {
-            rest,
-            most,
-            asked: 0,
-        }
-    }
-}
-
-impl Read for Leaf<'_> {
-    fn read(&mut self, buf: &mut [u8]) -> io::Result<usize> {
-        self.asked = self.asked.max(buf.len());
-        let n = self.most.min(self.rest.len()).min(buf.len());
-        let (front, rest) = self.rest.split_at(n);
-        buf[..n].copy_from_slice(front);
-        self.rest = rest;
-        Ok(n)
-    }
-}
-
-/// Takes everything, and remembers its flushes, and how much it had at the last of them.
-#[derive(Drop)]
-struct Sheet {
-    taken: Vec<u8>,
-    flushes: usize,
-    flushed: usize,
-}
-
-impl Sheet {
-    fn new(alloc: Global) -> Self {
-        Sheet {
-            taken: Vec::new(alloc),
-            flushes: 0,
-            flushed: 0,
-        }
-    }
-}
-
-impl Write for Sheet {
-    fn write(&mut self, buf: &[u8]) -> io::Result<usize> {
-        self.taken.extend_from_slice(buf)?;
-        Ok(buf.len())
-    }
-
-    fn flush(&mut self) -> io::Result<()> {
-        self.flushes = self.flushes.saturating_add(1);
-        self.flushed = self.taken.len();
-        Ok(())
-    }
-}
 
 /// Some rows for each action. In two of them a function has as many locals as may be; its text has a word for each, so
 /// it is not shown.
@@ -190,72 +133,31 @@ fn texts_of_wide_calls(rt: HostRuntime) -> Result<(), Fail> {
     Ok(())
 }
 
-/// Fails at once.
-#[derive(Drop)]
-struct Broken;
-
-impl Read for Broken {
-    fn read(&mut self, _buf: &mut [u8]) -> io::Result<usize> {
-        Err(io::Error::from(ErrorKind::Interrupted))
-    }
-}
-
-/// Takes so many bytes in all, one a call, and then fails; its flush fails too.
-#[derive(Drop)]
-struct Narrow {
-    taken: Vec<u8>,
-    most: usize,
-}
-
-impl Write for Narrow {
-    fn write(&mut self, buf: &[u8]) -> io::Result<usize> {
-        match buf.first() {
-            Some(first) if self.taken.len() < self.most => {
-                self.taken.push(*first)?;
-                Ok(1)
-            }
-            _ => Err(io::Error::from(ErrorKind::BrokenPipe)),
-        }
-    }
-
-    fn flush(&mut self) -> io::Result<()> {
-        Err(io::Error::from(ErrorKind::BrokenPipe))
-    }
-}
+/// Readers and writers that fail: after so many bytes, and at each of their calls in turn.
+const FAULTS: &str = r#"in 0 wmod check < H = 3 ""
+in 8 wmod show < H = 3 ""
+out 0 wmod check < = 3 ""
+out 3 wmod check < H = 3 "val"
+out 6 wmod check < H = 3 "valid\n"
+out 3 wmod show < H = 3 "(mo"
+faults wmod check < = 4 of the reader, 81 of the writer
+faults wmod check < H = 22 of the reader, 27 of the writer
+faults wmod check < H 01 01 00 01 01 = 26 of the reader, 93 of the writer
+faults wmod check --limit 7 < H = 18 of the reader, 75 of the writer
+faults wmod stats < H 01 07 01 60 02 7F 7F 01 7F 03 02 01 00 0A 09 01 07 00 20 00 20 01 6A 0B = 70 of the reader, 162 of the writer
+faults wmod stats < H 01 05 01 60 00 01 7F 03 02 01 00 0A 08 01 06 00 00 0D 00 50 0B = 58 of the reader, 69 of the writer
+faults wmod canon < H 01 04 01 60 00 00 03 02 01 00 0A 0A 01 08 03 01 7F 00 7E 02 7F 0B = 66 of the reader, 129 of the writer
+faults wmod canon < H 01 04 01 60 00 = 32 of the reader, 84 of the writer
+faults wmod show < H 05 03 01 00 01 0B 0A 01 00 41 00 0B 04 00 C3 A9 22 = 56 of the reader, 312 of the writer
+faults wmod show < H 05 05 01 00 81 80 04 00 = 32 of the reader, 75 of the writer
+faults wmod build < (module (memory $mem0 1) (data $mem0 (offset i32.const 0) "\00\u{e9}\"")) = 152 of the reader, 114 of the writer
+faults wmod build < (module (func (type $a))) = 56 of the reader, 99 of the writer
+faults wmod build < (module (type (func)) (func (type 0) drop)) = 92 of the reader, 93 of the writer
+faults wmod build --limit 7 < (module ) = 18 of the reader, 75 of the writer"#;
 
 #[test]
-fn a_reader_that_fails(rt: HostRuntime) {
-    let mut dest = Output::new(Vec::new(rt.alloc()));
-    let mut source = Input::new(Broken);
-    let status = run(
-        rt.alloc(),
-        Action::Check,
-        Profile::One,
-        LIMIT,
-        Policy::no_limits(),
-        Spellings::Standard,
-        &mut source,
-        &mut dest,
-    );
-    assert!(rt; status == Status::Io);
-    assert!(rt; dest.into_inner().is_empty());
-}
-
-/// What a writer gets that takes so many bytes, where the input is a header, or a text of it. With 99 only its flush fails.
-const CUT_SHORT: &str = r#"cut 0 wmod check = 3 ""
-cut 3 wmod check = 3 "val"
-cut 6 wmod check = 3 "valid\n"
-cut 3 wmod show = 3 "(mo"
-cut 99 wmod check = 3 "valid\n"
-cut 99 wmod check --limit 7 = 3 "refused at 8: TooLong\n"
-cut 99 wmod stats = 3 "functions 0\nmoves 0\noperands 0\ncontrols 0\nprobes 0\n"
-cut 99 wmod canon = 3 "\x00asm\x01\x00\x00\x00"
-cut 99 wmod show = 3 "(module)\n"
-cut 99 wmod build = 3 "\x00asm\x01\x00\x00\x00""#;
-
-#[test]
-fn a_writer_that_fails(rt: HostRuntime) -> Result<(), Fail> {
-    play(&rt, rt.alloc(), CUT_SHORT)
+fn readers_and_writers_that_fail(rt: HostRuntime) -> Result<(), Fail> {
+    play(&rt, rt.alloc(), FAULTS)
 }
 
 /// The whole program, where `(module)` stands on standard input, a module of profile 2 in the file `sign.wasm`, and a text
@@ -317,18 +219,27 @@ fn expect_kind(rt: &impl Abort, error: Option<io::Error>, wanted: ErrorKind) {
 
 #[test]
 fn errors_of_readers_are_kept(rt: HostRuntime) {
-    let mut source = Input::new(Witness::new(Broken));
+    let failing = Mode {
+        most: 1,
+        fault: INTERRUPTED,
+        at: 1,
+    };
+    let mut source = Input::new(Witness::new(Reader::new(HEADER.as_slice(), failing)));
     let mut dest = Output::new(Vec::new(rt.alloc()));
     let status = run_line(rt.alloc(), &plain_line(), &mut source, &mut dest);
     assert!(rt; status == Status::Io);
     expect_kind(&rt, source.into_inner().error(), ErrorKind::Interrupted);
 }
 
-/// The error of a writer that takes so many bytes is kept.
-fn expect_kept(rt: &impl Abort, alloc: Global, most: usize) {
+/// The error of a writer is kept that fails at this call.
+fn expect_kept(rt: &impl Abort, alloc: Global, at: u32) {
+    let failing = Mode {
+        most: 1,
+        fault: BROKEN,
+        at,
+    };
     let mut source = Input::new(Witness::new(HEADER.as_slice()));
-    let taken = Vec::new(alloc);
-    let mut dest = Output::new(Witness::new(Narrow { taken, most }));
+    let mut dest = Output::new(Witness::new(Writer::new(alloc, failing)));
     let status = run_line(alloc, &plain_line(), &mut source, &mut dest);
     assert!(rt; status == Status::Io);
     assert!(rt; source.into_inner().error().is_none());
@@ -337,9 +248,9 @@ fn expect_kept(rt: &impl Abort, alloc: Global, most: usize) {
 
 #[test]
 fn errors_of_writers_are_kept(rt: HostRuntime) {
-    expect_kept(&rt, rt.alloc(), 3);
-    // only its flush fails
-    expect_kept(&rt, rt.alloc(), 99);
+    expect_kept(&rt, rt.alloc(), 4);
+    // its flush fails, after `valid` and a line feed
+    expect_kept(&rt, rt.alloc(), 7);
 }
 
 fn expect_text(

@@ -1,19 +1,19 @@
 //! Answers to rows.
 
 use crate::changes::answer_changes;
+use crate::faults::are_faults_told;
 use crate::pieces;
 use crate::row::{Action, Row};
-use crate::text::{Built, build, canonical, say, spell, text_of};
+use crate::tally::{Tally, count};
+use crate::text::{Built, build, canonical, is_short_in_text, say, spell, text_of};
 use std::alloc::Global;
 use std::io;
 use wm_read::spellings::Spellings;
 use wm_rules::{Checked, FromFault, Summary, load_from, validate_from};
 use wm_syntax::io::input::Input;
 
-/// A shorter binary is cut at each place.
-const SHORT: usize = 200;
-
-fn figures(alloc: Global, summary: Summary) -> io::Result<String> {
+/// The figures of a module's bodies.
+pub fn figures(alloc: Global, summary: Summary) -> io::Result<String> {
     let Summary {
         functions,
         moves,
@@ -98,7 +98,7 @@ fn answer_whole(alloc: Global, row: &Row, binary: &[u8]) -> io::Result<String> {
         row.policy,
     );
     if let Ok(checked) = &loaded {
-        if !is_given_back(alloc, row, checked)? {
+        if is_short_in_text(checked) && !is_given_back(alloc, row, checked)? {
             return say(alloc, "not given back by its text");
         }
     }
@@ -127,44 +127,62 @@ fn answer_chunks(alloc: Global, row: &Row, binary: &[u8], size: usize) -> io::Re
     answer_pieces(alloc, row, &pieces)
 }
 
-/// Whether the answer is the same in two pieces, wherever a short binary is cut.
-fn is_same_in_two(alloc: Global, row: &Row, binary: &[u8], answer: &str) -> io::Result<bool> {
-    let places = if binary.len() < SHORT {
-        binary.len()
-    } else {
-        0
-    };
-    for place in 0..places {
+/// Whether the answer is the same in two pieces wherever the binary is cut, and with an empty piece between them.
+fn is_same_in_two(
+    alloc: Global,
+    row: &Row,
+    binary: &[u8],
+    answer: &str,
+    tally: &mut Tally,
+) -> io::Result<bool> {
+    for place in 0..binary.len() {
         let (front, back) = binary.split_at(place);
-        if answer_pieces(alloc, row, &[front, back])?.as_str() != answer {
+        if answer_pieces(alloc, row, &[front, back])?.as_str() != answer
+            || answer_pieces(alloc, row, &[front, b"", back])?.as_str() != answer
+        {
             return Ok(false);
         }
+        count(&mut tally.cuts);
     }
     Ok(true)
 }
 
+/// Whether the answer is the same in pieces of one byte, with empty pieces between them too, and of seven bytes.
+fn is_same_in_chunks(alloc: Global, row: &Row, binary: &[u8], answer: &str) -> io::Result<bool> {
+    Ok(
+        answer_chunks(alloc, row, binary, 1)?.as_str() == answer
+            && answer_chunks(alloc, row, binary, 7)?.as_str() == answer
+            && answer_pieces(alloc, row, &pieces::spread(alloc, binary)?)?.as_str() == answer,
+    )
+}
+
 /// The answer to a row with this binary, which is the same however the binary is cut.
-fn answer_binary(alloc: Global, row: &Row, binary: &[u8]) -> io::Result<String> {
+fn answer_binary(alloc: Global, row: &Row, binary: &[u8], tally: &mut Tally) -> io::Result<String> {
     let answer = answer_whole(alloc, row, binary)?;
-    if answer_chunks(alloc, row, binary, 1)?.as_str() != answer.as_str() {
-        return say(alloc, "differs in pieces of one byte");
+    if !is_same_in_chunks(alloc, row, binary, answer.as_str())? {
+        return say(alloc, "differs in small pieces");
     }
-    if answer_chunks(alloc, row, binary, 7)?.as_str() != answer.as_str() {
-        return say(alloc, "differs in pieces of seven bytes");
-    }
-    if !is_same_in_two(alloc, row, binary, answer.as_str())? {
+    if !is_same_in_two(alloc, row, binary, answer.as_str(), tally)? {
         return say(alloc, "differs in two pieces");
     }
     Ok(answer)
 }
 
+/// The answer to a row with a binary, whose reader and writer may fail.
+fn answer_input(alloc: Global, row: &Row, tally: &mut Tally) -> io::Result<String> {
+    if !are_faults_told(alloc, row, tally)? {
+        return say(alloc, "a fault of the reader or the writer is not told");
+    }
+    answer_binary(alloc, row, &row.input, tally)
+}
+
 /// The answer to a row with a text: what it gives, which is its own canonical binary.
-fn answer_text(alloc: Global, row: &Row) -> io::Result<String> {
+fn answer_text(alloc: Global, row: &Row, tally: &mut Tally) -> io::Result<String> {
     let binary = match build(alloc, row, row.spellings, &row.input)? {
         Built::Binary(binary) => binary,
         Built::Refused(line) => return Ok(line),
     };
-    let answer = answer_binary(alloc, row, &binary)?;
+    let answer = answer_binary(alloc, row, &binary, tally)?;
     if answer.as_str() == spell(alloc, &binary)?.as_str() {
         Ok(answer)
     } else {
@@ -173,20 +191,26 @@ fn answer_text(alloc: Global, row: &Row) -> io::Result<String> {
 }
 
 /// The answer where the byte at a place is so much more, past 255 from 0 on.
-fn answer_changed(alloc: Global, row: &Row, place: usize, more: u8) -> io::Result<String> {
+fn answer_changed(
+    alloc: Global,
+    row: &Row,
+    place: usize,
+    more: u8,
+    tally: &mut Tally,
+) -> io::Result<String> {
     let mut binary = row.input.clone()?;
     match binary.get_mut(place) {
         Some(byte) => *byte = byte.wrapping_add(more),
         None => return say(alloc, "no such place"),
     }
-    answer_binary(alloc, row, &binary)
+    answer_binary(alloc, row, &binary, tally)
 }
 
 /// The answer to all inputs with another byte at a place.
-fn answer_change(alloc: Global, row: &Row, place: usize) -> io::Result<String> {
-    let answer = answer_changed(alloc, row, place, 1)?;
+fn answer_change(alloc: Global, row: &Row, place: usize, tally: &mut Tally) -> io::Result<String> {
+    let answer = answer_changed(alloc, row, place, 1, tally)?;
     for more in 2..=255 {
-        let other = answer_changed(alloc, row, place, more)?;
+        let other = answer_changed(alloc, row, place, more, tally)?;
         if other.as_str() != answer.as_str() {
             return Ok(format!(in alloc; "differs when {more} is added")?);
         }
@@ -195,11 +219,12 @@ fn answer_change(alloc: Global, row: &Row, place: usize) -> io::Result<String> {
 }
 
 /// The answer to a row.
-pub fn answer(alloc: Global, row: &Row) -> io::Result<String> {
+pub fn answer(alloc: Global, row: &Row, tally: &mut Tally) -> io::Result<String> {
+    count(&mut tally.rows);
     match row.action {
-        Action::Build => answer_text(alloc, row),
-        Action::Change(place) => answer_change(alloc, row, place),
-        Action::Changes => answer_changes(alloc, row),
-        _ => answer_binary(alloc, row, &row.input),
+        Action::Build => answer_text(alloc, row, tally),
+        Action::Change(place) => answer_change(alloc, row, place, tally),
+        Action::Changes => answer_changes(alloc, row, tally),
+        _ => answer_input(alloc, row, tally),
     }
 }

@@ -1,26 +1,17 @@
 //! All binaries that differ from a row's in one byte.
 
 use crate::answer::is_given_back;
-use crate::pieces::{load, validate};
+use crate::pieces::{load, spread, validate};
 use crate::row::Row;
-use crate::text::canonical;
+use crate::tally::{Tally, count};
+use crate::text::is_short_in_text;
 use std::alloc::Global;
 use std::io;
 use wm_decode::Refusal;
 use wm_rules::{Checked, Summary};
 
-/// A function with more locals has a text that is not tried.
-const LOCALS: u32 = 65_536;
-
 /// What a validator and a loader both answer.
 type Both = Result<(Summary, Checked), Refusal>;
-
-/// How many binaries there were, and how many of them are valid.
-#[derive(Drop)]
-struct Counts {
-    changes: u32,
-    valid: u32,
-}
 
 /// What a validator and a loader answer to pieces; none where they differ.
 fn answer_of_both(alloc: Global, row: &Row, pieces: &[&[u8]]) -> Option<Both> {
@@ -34,54 +25,61 @@ fn answer_of_both(alloc: Global, row: &Row, pieces: &[&[u8]]) -> Option<Both> {
     }
 }
 
-/// Whether the text of a module is short enough to be tried.
-fn is_short_in_text(checked: &Checked) -> bool {
-    let mut functions = checked.module().functions.iter();
-    functions.all(|function| function.locals.len() <= LOCALS)
-}
-
-/// Whether two modules are the same, and the text of the first gives it back.
-fn is_same(alloc: Global, row: &Row, first: &Checked, second: &Checked) -> io::Result<bool> {
-    if canonical(alloc, first)?.as_slice() != canonical(alloc, second)?.as_slice() {
-        return Ok(false);
-    }
-    Ok(!is_short_in_text(first) || is_given_back(alloc, row, first)?)
-}
-
-/// Whether a binary is valid; none where the answers to it whole and in pieces of one byte differ.
-fn is_valid(alloc: Global, row: &Row, binary: &[u8]) -> io::Result<Option<bool>> {
-    let bytes = binary.chunks(1).collect::<Vec<&[u8]>>(alloc)?;
-    match (
-        answer_of_both(alloc, row, &[binary]),
-        answer_of_both(alloc, row, &bytes),
-    ) {
-        (Some(Ok((whole, first))), Some(Ok((apart, second)))) => {
-            let is_same = whole == apart && is_same(alloc, row, &first, &second)?;
-            Ok(is_same.then_some(true))
+/// Whether pieces get this answer.
+fn is_answered(alloc: Global, row: &Row, pieces: &[&[u8]], wanted: &Both) -> bool {
+    match (answer_of_both(alloc, row, pieces), wanted) {
+        (Some(Ok((summary, checked))), Ok((figures, module))) => {
+            summary == *figures && checked.module() == module.module()
         }
-        (Some(Err(first)), Some(Err(second))) => Ok((first == second).then_some(false)),
-        _ => Ok(None),
+        (Some(Err(refusal)), Err(wanted)) => refusal == *wanted,
+        _ => false,
     }
 }
 
-/// Counts the 255 binaries with another byte than this one at a place. What is wrong with one of them, if there is one.
-fn count_at(
+/// Whether a binary is valid, unless the answers to it whole, byte by byte and in two pieces differ. Empty pieces lie
+/// between the others, and `place` is where the two are cut.
+fn is_valid(alloc: Global, row: &Row, binary: &[u8], place: usize) -> io::Result<Option<bool>> {
+    let Some(whole) = answer_of_both(alloc, row, &[binary]) else {
+        return Ok(None);
+    };
+    let (front, back) = binary.split_at(place.min(binary.len()));
+    if !is_answered(alloc, row, &spread(alloc, binary)?, &whole)
+        || !is_answered(alloc, row, &[front, b"", back], &whole)
+    {
+        return Ok(None);
+    }
+    match &whole {
+        Ok((_, checked)) => {
+            let is_well = !is_short_in_text(checked) || is_given_back(alloc, row, checked)?;
+            Ok(is_well.then_some(true))
+        }
+        Err(_) => Ok(Some(false)),
+    }
+}
+
+/// Counts the 255 binaries with another byte than this one at a place. Whether all is well with them.
+fn are_well(
     alloc: Global,
     row: &Row,
     binary: &mut Vec<u8>,
     (place, known): (usize, u8),
-    counts: &mut Counts,
-) -> io::Result<Option<String>> {
+    tally: &mut Tally,
+) -> io::Result<bool> {
     for more in 1..=255 {
         put(binary, place, known.wrapping_add(more));
-        let Some(valid) = is_valid(alloc, row, binary)? else {
-            return Ok(Some(format!(in alloc; "differs when {more} is added at {place}")?));
+        // so each place is cut with some change at each place of a shorter binary
+        let cut = usize::from(more) % binary.len().max(1);
+        let Some(is_valid) = is_valid(alloc, row, binary, cut)? else {
+            return Ok(false);
         };
-        counts.changes = counts.changes.saturating_add(1);
-        counts.valid = counts.valid.saturating_add(u32::from(valid));
+        count(&mut tally.changes);
+        count(&mut tally.cuts);
+        if is_valid {
+            count(&mut tally.valid);
+        }
     }
     put(binary, place, known);
-    Ok(None)
+    Ok(true)
 }
 
 fn put(binary: &mut Vec<u8>, place: usize, byte: u8) {
@@ -91,17 +89,15 @@ fn put(binary: &mut Vec<u8>, place: usize, byte: u8) {
 }
 
 /// How many binaries differ from a row's in one byte, and how many of them are valid.
-pub fn answer_changes(alloc: Global, row: &Row) -> io::Result<String> {
+pub fn answer_changes(alloc: Global, row: &Row, tally: &mut Tally) -> io::Result<String> {
     let mut binary = row.input.clone()?;
-    let mut counts = Counts {
-        changes: 0,
-        valid: 0,
-    };
+    let before = *tally;
     for (place, known) in row.input.iter().enumerate() {
-        let at = (place, *known);
-        if let Some(wrong) = count_at(alloc, row, &mut binary, at, &mut counts)? {
-            return Ok(wrong);
+        if !are_well(alloc, row, &mut binary, (place, *known), tally)? {
+            return Ok(format!(in alloc; "differs when the byte at {place} is changed")?);
         }
     }
-    Ok(format!(in alloc; "changes {}, valid {}", counts.changes, counts.valid)?)
+    let changes = tally.changes.saturating_sub(before.changes);
+    let valid = tally.valid.saturating_sub(before.valid);
+    Ok(format!(in alloc; "changes {changes}, valid {valid}")?)
 }

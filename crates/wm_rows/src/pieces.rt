@@ -1,9 +1,19 @@
 //! A binary in pieces, given to a validator and to a loader.
 
 use crate::row::Row;
-use std::alloc::Global;
+use std::alloc::{AllocError, Global};
 use wm_decode::Refusal;
 use wm_rules::{Checked, Loader, Summary, Validator};
+
+/// A binary in pieces of one byte, with an empty piece behind each.
+pub fn spread(alloc: Global, binary: &[u8]) -> Result<Vec<&[u8]>, AllocError> {
+    let mut pieces = Vec::new(alloc);
+    for piece in binary.chunks(1) {
+        pieces.push(piece)?;
+        pieces.push(b"")?;
+    }
+    Ok(pieces)
+}
 
 /// A later call did not answer the first refusal again.
 #[derive(Drop)]

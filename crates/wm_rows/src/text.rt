@@ -13,6 +13,9 @@ use wm_syntax::modules::Module;
 use wm_write::encode::encode;
 use wm_write::print::print;
 
+/// A function with more locals has a text that is not tried.
+const LOCALS: u32 = 65_536;
+
 /// What a text gives.
 #[derive(Drop)]
 pub enum Built {
@@ -43,6 +46,12 @@ pub fn text_of(alloc: Global, checked: &Checked) -> io::Result<Vec<u8>> {
         Ok(()) => Ok(dest.into_inner()),
         Err(_) => Err(io::Error::from(io::ErrorKind::Other)),
     }
+}
+
+/// Whether the text of a module is short enough to be tried: it has a word for each local.
+pub fn is_short_in_text(checked: &Checked) -> bool {
+    let mut functions = checked.module().functions.iter();
+    functions.all(|function| function.locals.len() <= LOCALS)
 }
 
 /// What a module gives that a text has written.

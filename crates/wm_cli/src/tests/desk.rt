@@ -1,6 +1,6 @@
 //! A runtime of the tests' own, at which the whole program runs.
 
-use super::Leaf;
+use super::ends::{Mode, Reader};
 use crate::end;
 use std::alloc::{Allocator, Global};
 use std::cell::RefCell;
@@ -123,7 +123,7 @@ impl Eprint for Desk<'_> {
     }
 }
 
-impl Write for Leaf<'_> {
+impl Write for Reader<'_> {
     fn write(&mut self, _buf: &[u8]) -> io::Result<usize> {
         Err(io::Error::from(ErrorKind::Unsupported))
     }
@@ -133,13 +133,13 @@ impl Write for Leaf<'_> {
     }
 }
 
-impl Seek for Leaf<'_> {
+impl Seek for Reader<'_> {
     fn seek(&mut self, _to: SeekFrom) -> io::Result<u64> {
         unsupported()
     }
 }
 
-impl OpenFile for Leaf<'_> {
+impl OpenFile for Reader<'_> {
     fn metadata(&self) -> io::Result<Metadata> {
         unsupported()
     }
@@ -158,19 +158,19 @@ impl OpenFile for Leaf<'_> {
 }
 
 impl Files for Desk<'_> {
-    type File = Leaf<'static>;
+    type File = Reader<'static>;
 
-    type Dir = Leaf<'static>;
+    type Dir = Reader<'static>;
 
-    fn open_file(&self, _how: &OpenOptions, path: &str) -> io::Result<Leaf<'static>> {
+    fn open_file(&self, _how: &OpenOptions, path: &str) -> io::Result<Reader<'static>> {
         match path {
-            "sign.wasm" => Ok(Leaf::new(SIGN, 4096)),
-            "old.wat" => Ok(Leaf::new(OLD, 4096)),
+            "sign.wasm" => Ok(Reader::new(SIGN, Mode::by(4096))),
+            "old.wat" => Ok(Reader::new(OLD, Mode::by(4096))),
             _ => Err(io::Error::from(ErrorKind::NotFound)),
         }
     }
 
-    fn open_dir(&self, _path: &str) -> io::Result<Leaf<'static>> {
+    fn open_dir(&self, _path: &str) -> io::Result<Reader<'static>> {
         unsupported()
     }
 

@@ -4,8 +4,9 @@
 //! read WORDS = ACTION PROFILE LIMIT FUNCTIONS LOCALS DEPTH SPELLINGS FILE PATH, or the kind of the fault and its exit status
 //! wrong WORDS = what is said of the first wrong word
 //! wmod WORDS < INPUT = the exit status, and what is written
-//! cut N WORDS = the exit status, and what is written to a writer that takes N bytes, where the input is a header,
-//! or `(module)` for `build`
+//! in N WORDS < INPUT = the same where the reader gives N bytes, one a call, and then fails
+//! out N WORDS < INPUT = the same where the writer takes N bytes, one a call, and then fails, at the flush if that is next
+//! faults WORDS < INPUT = in how many runs the reader or the writer failed: at each of its calls in turn
 //! desk WORDS = the exit status of the whole program, what it writes and what it complains of
 //! shut WORDS = the same, where standard output takes nothing
 //! ```
@@ -13,18 +14,17 @@
 //! The word `""` is the empty one. INPUT is a text for `build`. Else it is bytes in hexadecimal digits, with H for the
 //! header of a module. What is done with an input under profile 1 is done under profile 2 too.
 
-use super::desk::{TYPED, sit};
-use super::{HEADER, Leaf, Narrow, Sheet};
+use super::HEADER;
+use super::desk::sit;
+use super::ends::{BROKEN, Mode};
+use super::faults::{End, faults, follow, follow_failing};
 use crate::line::{line, wrong_word};
-use crate::run::run_line;
 use crate::status::{Status, exit_code};
 use crate::words::{Action, Line, LineFault};
 use std::alloc::Global;
 use std::process::Abort;
 use std::test::Fail;
 use wm_rules::Policy;
-use wm_syntax::io::input::Input;
-use wm_syntax::io::output::Output;
 use wm_syntax::profile::Profile;
 
 /// The words of a command.
@@ -94,29 +94,20 @@ fn wrong(alloc: Global, command: &str) -> Result<String, Fail> {
     }
 }
 
-/// How a line ends for an input in pieces of at most so many bytes, and what became of reader and writer.
-fn follow<'a>(
-    alloc: Global,
-    line: &Line,
-    input: &'a [u8],
-    most: usize,
-) -> (Status, Leaf<'a>, Sheet) {
-    let mut source = Input::new(Leaf::new(input, most));
-    let mut dest = Output::new(Sheet::new(alloc));
-    let status = run_line(alloc, line, &mut source, &mut dest);
-    (status, source.into_inner(), dest.into_inner())
-}
-
 /// The exit status and what was written, where no more was asked for at once than a piece, and all was flushed once.
 fn tell(alloc: Global, line: &Line, input: &[u8], most: usize) -> Result<String, Fail> {
-    let (status, leaf, sheet) = follow(alloc, line, input, most);
-    if leaf.asked > 4096 {
-        return Ok(format!(in alloc; "asked for {} bytes", leaf.asked)?);
+    let (status, reader, writer) = follow(alloc, line, input, Mode::by(most), Mode::by(usize::MAX));
+    if reader.asked > 4096 {
+        return Ok(format!(in alloc; "asked for {} bytes", reader.asked)?);
     }
-    if sheet.flushes != 1 || sheet.flushed != sheet.taken.len() {
-        return Ok(format!(in alloc; "flushed {} times, {} bytes", sheet.flushes, sheet.flushed)?);
+    if !writer.is_left_in_time() {
+        return Ok(format!(in alloc; "not flushed once, at the end")?);
     }
-    Ok(format!(in alloc; "{} {}", exit_code(&Ok(status)), sheet.taken.escape_ascii())?)
+    Ok(format!(in alloc;
+        "{} {}",
+        exit_code(&Ok(status)),
+        writer.taken.escape_ascii()
+    )?)
 }
 
 /// What a line writes for an input, which is the same in pieces of any size.
@@ -163,8 +154,9 @@ pub fn obey(alloc: Global, command: &str, input: &[u8]) -> Result<String, Fail> 
 /// What a command that is done writes for an input.
 fn written(alloc: Global, command: &str, input: &[u8]) -> Result<Vec<u8>, Fail> {
     let line = line(alloc, words_of(alloc, command)?.as_slice())?;
-    match follow(alloc, &line, input, 4096) {
-        (Status::Done, _, sheet) => Ok(sheet.taken),
+    let whole = Mode::by(usize::MAX);
+    match follow(alloc, &line, input, whole, whole) {
+        (Status::Done, _, writer) => Ok(writer.taken),
         _ => Err(Fail::new("not done")),
     }
 }
@@ -176,43 +168,49 @@ pub fn is_given_back(alloc: Global, module: &[u8]) -> Result<bool, Fail> {
     Ok(built.as_slice() == written(alloc, "wmod canon", module)?.as_slice())
 }
 
-/// What a command writes for the input behind its `<`.
-fn obey_row(alloc: Global, call: &str) -> Result<String, Fail> {
+/// The command before a `<`, and the input behind it.
+fn parts_of(alloc: Global, call: &str) -> Result<(&str, Vec<u8>), Fail> {
     let Some((command, input)) = call.split_once(" <") else {
-        return Ok(format!(in alloc; "no input")?);
+        return Err(Fail::new("no input"));
     };
     let input = input.trim_start();
     if command.contains("build") {
-        return obey(alloc, command, input.as_bytes());
+        return Ok((command, input.as_bytes().to_vec(alloc)?));
     }
-    obey(alloc, command, &bytes_of(alloc, input)?)
+    Ok((command, bytes_of(alloc, input)?))
 }
 
-/// How a line ends for a header, or a text of it, where the writer takes so many bytes, and what it takes.
-fn follow_cut(alloc: Global, line: &Line, most: usize) -> (Status, Vec<u8>) {
-    let taken = Vec::new(alloc);
-    let mut source = Input::new(match line.action {
-        Action::Build => TYPED,
-        _ => HEADER.as_slice(),
-    });
-    let mut dest = Output::new(Narrow { taken, most });
-    let status = run_line(alloc, line, &mut source, &mut dest);
-    (status, dest.into_inner().taken)
+/// What a command writes for the input behind its `<`.
+fn obey_row(alloc: Global, call: &str) -> Result<String, Fail> {
+    let (command, input) = parts_of(alloc, call)?;
+    obey(alloc, command, &input)
 }
 
-/// What a command writes for that input where the writer takes so many bytes.
-fn cut(alloc: Global, most: usize, command: &str) -> Result<String, Fail> {
+/// What a command writes where the reader, or the writer, passes so many bytes, one a call, and then fails.
+fn cut_row(alloc: Global, end: End, row: &str) -> Result<String, Fail> {
+    let Some((passed, call)) = row.split_once(' ') else {
+        return Err(Fail::new("no command"));
+    };
+    let failing = Mode {
+        most: 1,
+        fault: BROKEN,
+        at: passed.parse::<u32>()?.saturating_add(1),
+    };
+    let (command, input) = parts_of(alloc, call)?;
     let line = line(alloc, words_of(alloc, command)?.as_slice())?;
-    let (status, taken) = follow_cut(alloc, &line, most);
-    Ok(format!(in alloc; "{} \"{}\"", exit_code(&Ok(status)), taken.escape_ascii())?)
+    let (status, _, writer) = follow_failing(alloc, &line, &input, end, failing);
+    Ok(format!(in alloc;
+        "{} \"{}\"",
+        exit_code(&Ok(status)),
+        writer.taken.escape_ascii()
+    )?)
 }
 
-/// The same, with the number of bytes before the command.
-fn cut_row(alloc: Global, row: &str) -> Result<String, Fail> {
-    match row.split_once(' ') {
-        Some((most, command)) => cut(alloc, most.parse::<usize>()?, command),
-        None => Ok(format!(in alloc; "no command")?),
-    }
+/// In how many runs of a command the reader or the writer failed.
+fn faults_row(alloc: Global, call: &str) -> Result<String, Fail> {
+    let (command, input) = parts_of(alloc, call)?;
+    let line = line(alloc, words_of(alloc, command)?.as_slice())?;
+    faults(alloc, &line, &input)
 }
 
 /// The answer to a call.
@@ -221,7 +219,9 @@ fn answer(alloc: Global, call: &str) -> Result<String, Fail> {
         Some(("read", command)) => read(alloc, command),
         Some(("wrong", command)) => wrong(alloc, command),
         Some(("wmod", _)) => obey_row(alloc, call),
-        Some(("cut", row)) => cut_row(alloc, row),
+        Some(("in", row)) => cut_row(alloc, End::Reader, row),
+        Some(("out", row)) => cut_row(alloc, End::Writer, row),
+        Some(("faults", call)) => faults_row(alloc, call),
         Some(("desk", command)) => sit(alloc, words_of(alloc, command)?.as_slice(), false),
         Some(("shut", command)) => sit(alloc, words_of(alloc, command)?.as_slice(), true),
         _ => Ok(format!(in alloc; "no such call")?),

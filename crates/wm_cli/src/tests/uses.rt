@@ -4,7 +4,7 @@ mod admit;
 mod assemble;
 mod rewrite;
 
-use super::Leaf;
+use super::ends::{Mode, Reader};
 use admit::admit;
 use assemble::assemble;
 use rewrite::rewrite;
@@ -26,7 +26,7 @@ fn admits(alloc: Global) -> bool {
 /// Whether the module's one function is written again.
 fn rewrites(alloc: Global) -> bool {
     matches!(
-        rewrite(alloc, Leaf::new(&ADD, 7), Vec::new(alloc)),
+        rewrite(alloc, Reader::new(&ADD, Mode::by(7)), Vec::new(alloc)),
         Ok(Some(1))
     )
 }

@@ -1,0 +1,35 @@
+//! How much was run.
+
+/// Counts over all rows.
+#[derive(Clone, Copy)]
+pub struct Tally {
+    pub rows: u32,
+    /// Runs of a binary in two pieces.
+    pub cuts: u32,
+    /// Binaries that differ from a row's in one byte.
+    pub changes: u32,
+    /// How many of these are valid.
+    pub valid: u32,
+    /// Runs in which a reader failed.
+    pub readers: u32,
+    /// Runs in which a writer failed.
+    pub writers: u32,
+}
+
+impl Tally {
+    pub fn new() -> Self {
+        Tally {
+            rows: 0,
+            cuts: 0,
+            changes: 0,
+            valid: 0,
+            readers: 0,
+            writers: 0,
+        }
+    }
+}
+
+/// One more.
+pub fn count(number: &mut u32) {
+    *number = number.saturating_add(1);
+}
