@@ -42,6 +42,7 @@ TRIALS = {
     "the growth is used though it was refused": ("", "", False),
     "something is written": ("write(1, \"no\\n\", 3); return out_of_memory();", "", False),
     "another status": ("out_of_memory(); return 3;", "", False),
+    "the refusal ends it by a signal": ("abort();", "", False),
 }
 
 
