@@ -49,7 +49,7 @@ TRIALS = {
 
 NOT_TOLD = "a fault of the reader or the writer is not told"
 # an edit that the prover refuses, and what wm_rows answers to two rows where it is made
-ROWS = ["check H 01 01 00 01", "show H"]
+ROWS = ["check H 01 01 00 01 01", "show H"]
 SEEDS = {
     None: ["refused at 12: SectionOrder", "text:\n(module)\n"],
     # a refusal is forgotten

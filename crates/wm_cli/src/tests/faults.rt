@@ -96,29 +96,31 @@ fn is_right((status, reader, writer): &Run, plain: &Run) -> bool {
     }
 }
 
-/// In how many runs an end failed, at its first call, its second, ..; none where a run ended otherwise than it must.
-fn count_faults(
+/// Whether each run ends as it must where an end fails at its first call, its second, .. Counts the runs with a fault.
+fn is_fault_told(
     alloc: Global,
     line: &Line,
     input: &[u8],
     plain: &Run,
     end: End,
     (most, fault): (usize, Fault),
-) -> Option<u32> {
+    count: &mut u32,
+) -> bool {
     for at in 1..u32::MAX {
         let run = follow_failing(alloc, line, input, end, Mode { most, fault, at });
         if !is_right(&run, plain) {
-            return None;
+            return false;
         }
         if !run.1.has_failed() && !run.2.has_failed() {
-            return Some(at - 1);
+            return true;
         }
+        *count = count.saturating_add(1);
     }
-    None
+    false
 }
 
-/// The same for each of these ways in which an end may fail.
-fn count_all(
+/// In how many runs an end failed in one of these ways; none where a run ended otherwise than it must.
+fn count_faults(
     alloc: Global,
     line: &Line,
     input: &[u8],
@@ -127,17 +129,19 @@ fn count_all(
 ) -> Option<u32> {
     let whole = Mode::by(usize::MAX);
     let plain = follow(alloc, line, input, whole, whole);
-    let mut count: u32 = 0;
+    let mut count = 0;
     for way in ways {
-        count = count.saturating_add(count_faults(alloc, line, input, &plain, end, *way)?);
+        if !is_fault_told(alloc, line, input, &plain, end, *way, &mut count) {
+            return None;
+        }
     }
     Some(count)
 }
 
 /// In how many runs of a line the reader failed, and in how many the writer, where each of them ended as it must.
 pub fn faults(alloc: Global, line: &Line, input: &[u8]) -> Result<String, Fail> {
-    let readers = count_all(alloc, line, input, End::Reader, &READERS);
-    let writers = count_all(alloc, line, input, End::Writer, &WRITERS);
+    let readers = count_faults(alloc, line, input, End::Reader, &READERS);
+    let writers = count_faults(alloc, line, input, End::Writer, &WRITERS);
     match (readers, writers) {
         (Some(readers), Some(writers)) => {
             Ok(format!(in alloc; "{readers} of the reader, {writers} of the writer")?)
