@@ -150,7 +150,7 @@ faults wmod canon < H 01 04 01 60 00 00 03 02 01 00 0A 0A 01 08 03 01 7F 00 7E 0
 faults wmod canon < H 01 04 01 60 00 = 32 of the reader, 84 of the writer
 faults wmod show < H 05 03 01 00 01 0B 0A 01 00 41 00 0B 04 00 C3 A9 22 = 56 of the reader, 312 of the writer
 faults wmod show < H 05 05 01 00 81 80 04 00 = 32 of the reader, 75 of the writer
-faults wmod build < (module (memory $mem0 1) (data $mem0 (offset i32.const 0) "\00\u{e9}\"")) = 152 of the reader, 114 of the writer
+faults wmod build < (module (memory $mem0 1) (data $mem0 (offset i32.const 0) "\00\u{e9}\"")) = 152 of the reader, 84 of the writer
 faults wmod build < (module (func (type $a))) = 56 of the reader, 99 of the writer
 faults wmod build < (module (type (func)) (func (type 0) drop)) = 92 of the reader, 93 of the writer
 faults wmod build --limit 7 < (module ) = 18 of the reader, 75 of the writer"#;
