@@ -20,7 +20,7 @@ impl<T> Witness<T> {
         Witness { inner, error: None }
     }
 
-    /// The last error. No clause: tests show it.
+    /// The last error. No clause: which error a reader or a writer answers no contract of std says. Tests show it.
     pub fn error(&self) -> Option<io::Error> {
         self.error
     }

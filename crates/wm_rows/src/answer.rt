@@ -12,7 +12,7 @@ use wm_read::spellings::Spellings;
 use wm_rules::{Checked, FromFault, Summary, load_from, validate_from};
 use wm_syntax::io::input::Input;
 
-/// The figures of a module's bodies.
+/// The figures of a module's bodies. No clause: `stdout` has what is right.
 pub fn figures(alloc: Global, summary: Summary) -> io::Result<String> {
     let Summary {
         functions,
@@ -26,7 +26,7 @@ pub fn figures(alloc: Global, summary: Summary) -> io::Result<String> {
     )?)
 }
 
-/// Whether the text of a module gives its canonical binary back.
+/// Whether the text of a module gives its canonical binary back. No clause: `stdout` has what is right.
 pub fn is_given_back(alloc: Global, row: &Row, checked: &Checked) -> io::Result<bool> {
     let text = text_of(alloc, checked)?;
     match build(alloc, row, Spellings::Standard, &text)? {
@@ -218,7 +218,7 @@ fn answer_change(alloc: Global, row: &Row, place: usize, tally: &mut Tally) -> i
     Ok(answer)
 }
 
-/// The answer to a row.
+/// The answer to a row. No clause: `stdout` has what is right.
 pub fn answer(alloc: Global, row: &Row, tally: &mut Tally) -> io::Result<String> {
     count(&mut tally.rows);
     match row.action {
