@@ -169,14 +169,18 @@ def place_of(crate, pairs):
     return place if place and place[1] else None
 
 
-def refused_alone(said, crate, place):
-    """The line that says that this function was not proved for a reason of its own, if there is one."""
-    path, name = place
+def refused_alone(said, names):
+    """The line that says that a function of one of these names was not proved for a reason of its own, if there is one."""
+    lines = re.findall(rf"(?m)^(fn (?:{'|'.join(map(re.escape, names))}): (?:no proof|not proved).*)$", said)
+    return next((it for it in lines if not WAITS.search(it)), None)
+
+
+def names_in(crate, path, name, proved):
+    """Of the names of all proved functions those that a function of this file may have."""
     module = re.sub(r"(^|::)(lib|main|mod)$", "", path[len("src/") : -len(".rt")].replace("/", "::"))
     front = "::".join(it for it in (crate.name, module) if it)
     named = [rf"{front}::(?:\w+::)*{name}", *method_of(crate, path, name)]
-    lines = re.findall(rf"(?m)^(fn (?:{'|'.join(named)}): (?:no proof|not proved).*)$", said)
-    return next((it for it in lines if not WAITS.search(it)), None)
+    return [it for it in proved if re.fullmatch("|".join(named), it)]
 
 
 def method_of(crate, path, name):
@@ -188,31 +192,66 @@ def method_of(crate, path, name):
     return [f"{crate.name}::{use[1]}{of[-1]}::{name}"] if use else []
 
 
-def grouped(crate, left):
-    """As many of these edits as fit beside one another, each with its function, and the texts with all of them."""
-    group, texts, places = [], {}, set()
-    for edit, pairs, place in left:
-        fits = with_pairs(crate, pairs, texts) if place not in places else None
+def called_in(crate):
+    """By the name of each function of the crate the names of those that it may call, and that these may call, and so on. A name
+    that several functions have is left out: an edit that waits for another is tried again."""
+    calls, seen = {}, collections.Counter()
+    for folder, _, files in os.walk(f"{crate.folder}/src"):
+        for file in files:
+            with open(f"{folder}/{file}", encoding="utf-8") as it:
+                parts = re.split(r"(?m)^(?=[^/\n]*\bfn \w)", it.read())[1:]
+            for name, text in (re.match(r"(?s).*?\bfn (\w+)(.*)", it).groups() for it in parts):
+                calls[name] = set(re.findall(r"\b\w+(?=\()", text))
+                seen[name] += 1
+    calls = {name: {it for it in found if seen[it] == 1} for name, found in calls.items() if seen[name] == 1}
+    for name, found in calls.items():
+        fresh = set(found)
+        while fresh:
+            fresh = {it for one in fresh for it in calls[one]} - found
+            found |= fresh
+    return collections.defaultdict(set, calls)
+
+
+def grouped(crate, left, calls):
+    """As many of these edits as fit beside one another, each with its function's names, and the texts with all of them. A
+    function is not tried beside one that it calls, since it would wait for that."""
+    group, texts, taken = [], {}, set()
+    for edit, pairs, place, names in left:
+        name = place[1]
+        is_apart = place not in taken and not any(it in calls[name] or name in calls[it] for _, it in taken)
+        fits = with_pairs(crate, pairs, texts) if is_apart else None
         if fits:
             texts = fits[0]
-            places.add(place)
-            group.append((edit, place))
+            taken.add(place)
+            group.append((edit, names))
     return group, texts
 
 
-def in_groups(crate, edits, flags):
-    """Tries edits together, each in another function. A function's proof reads no body but its own, so one that fails for a
-    reason of its own is refused for its own edit. Returns what is said of each that was refused so."""
-    left = [(it, pairs_of(it)) for it in edits]
-    left = [(edit, pairs, place_of(crate, pairs)) for edit, pairs in left]
-    left, said = [it for it in left if it[2]], {}
-    while len(left) > 1:
-        group, texts = grouped(crate, left)
-        ran = check_a_copy(crate, texts, flags, kept_of(crate))
-        is_read = ran.returncode == 1 and ran.stdout.rstrip("\n").split("\n")[-1].startswith("logic=not-proved")
+def only(names):
+    """The flags by which a check asks for the functions of these names alone."""
+    return [word for it in sorted(names) for word in ("--only", it.partition("::")[2])]
+
+
+def placed(crate, edits, proved):
+    """Of these edits those that lie in one function each: the edit, its pairs, the function's place, and the names that it may have."""
+    found = [(edit, pairs, place_of(crate, pairs)) for edit in edits for pairs in [pairs_of(edit)]]
+    found = [(*it, names_in(crate, *it[2], proved)) for it in found if it[2]]
+    return [it for it in found if it[3]]
+
+
+def in_groups(crate, left, flags):
+    """Tries placed edits together, each in another function, and checks these functions alone. A function's proof reads no body
+    but its own, so one that fails for a reason of its own is refused for its own edit. Returns what is said of each that was refused so."""
+    said, calls = {}, called_in(crate)
+    left = sorted(left, key=lambda it: len(calls[it[2][1]]))
+    while left:
+        group, texts = grouped(crate, left, calls)
+        words = only({it for _, names in group for it in names})
+        ran = check_a_copy(crate, texts, [*flags, *words], kept_of(crate))
+        is_read = ran.returncode == 1 and ran.stdout.rstrip("\n").split("\n")[-1].startswith("only=")
         if not is_read or any(rt.unread(it, texts) for it in ran.stdout.split("\n")):
             break
-        found = {edit: refused_alone(ran.stdout, crate, place) for edit, place in group}
+        found = {edit: refused_alone(ran.stdout, names) for edit, names in group}
         found = {edit: line for edit, line in found.items() if line}
         said.update(found)
         if not found:
@@ -222,25 +261,29 @@ def in_groups(crate, edits, flags):
 
 
 def must_fail_all(crate, edits, flags):
-    """What each edit came to, and what to say of it."""
-    said, tried = in_groups(crate, edits, flags), []
+    """What each edit came to, and what to say of it. Where the crate as it stands is not proved over the kept work, before or
+    after, each is tried from nothing."""
+    ran = check_a_copy(crate, {}, flags, kept_of(crate))
+    left = placed(crate, edits, re.findall(r"(?m)^fn (\S+): proved", ran.stdout))
+    said, tried = {} if ran.returncode else in_groups(crate, left, flags), []
     for edit in edits:
         label = f"must-fail {crate.name}/{os.path.basename(edit)}"
         if edit in said:
             tried.append((rt.REFUSED, f"{label}: refused, as it must be: {said[edit][:160]}"))
         else:
             tried.append(rt.must_fail(crate, edit, flags, kept_of(crate)))
-    is_sound = not check_a_copy(crate, {}, flags, kept_of(crate)).returncode
+    words = only({it for *_, names in left for it in names})
+    is_sound = not ran.returncode and not check_a_copy(crate, {}, [*flags, *words], kept_of(crate)).returncode
     return [it if is_sound and it[0] in rt.SETTLED else from_nothing(crate, edit, flags) for edit, it in zip(edits, tried)]
 
 
 def add_edits(tasks, crate, edits, first, waits, is_well, kept):
     """One task for all edits of a crate, after its proof and its tests, over whose work they are tried. Returns what gives their results, and those of
     earlier runs: there are none."""
-    key = crate.name, "edits"
+    key, jobs = (crate.name, "edits"), max(1, rt.processors() // 2)
 
     def call(given, _):
-        return must_fail_all(crate, edits, ["--jobs", "1"]) if edits and is_well(given, len(edits)) else []
+        return must_fail_all(crate, edits, ["--jobs", str(jobs)]) if edits and is_well(given, len(edits)) else []
 
     tasks[key] = [*waits, *first], crate.count(rb"\n") * len(edits), rt.need(crate), call
     return (lambda given: given[key]), dict
