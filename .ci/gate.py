@@ -326,9 +326,13 @@ def run(crate, tests, ending=""):
 
 
 def print_tally(crate):
-    """What wm_rows has run, as it says itself at the end of what it prints, which is its file stdout."""
+    """What wm_rows has run, as it says itself at the end of what it prints, which is its file stdout; and how many readers and
+    writers have failed in the tests of wm_cli, which hold this line."""
     with open(f"{crate.folder}/stdout", encoding="utf-8") as it:
-        print("rows:" + it.read().rstrip("\n").split("\n")[-1].lstrip("#"), flush=True)
+        rows = it.read().rstrip("\n").split("\n")[-1].lstrip("# ")
+    with open(f"{crate.folder}/../wm_cli/src/tests.rt", encoding="utf-8") as it:
+        failed = re.search(r'const FAILED: &str = "(.*)";', it.read())[1]
+    print(f"rows: {rows}, {failed}", flush=True)
 
 
 def print_costs():

@@ -1,7 +1,8 @@
 """Refuses each growth of a built program in turn: the first, the second, .. until a run meets none, once alone and once with all
-after it. Each such run ends with status 4, its one line and nothing written, or with the answer of ample memory.
+after it. Each such run of wmod ends with status 4, its one line and nothing written, or with the answer of ample memory. One of
+wm_rows ends with all answers of ample memory, or with status 1, its one line and some of these answers, each of them whole.
 
-    .ci/growths.py PROGRAM       wmod, as it was built
+    .ci/growths.py PROGRAM       wmod or wm_rows, as it was built
 """
 import collections
 import os
@@ -13,6 +14,7 @@ import tempfile
 
 HERE = os.path.dirname(os.path.abspath(__file__))
 OUT_OF_MEMORY = (4, b"", b"wmod: out of memory\n")
+ROWS_OUT_OF_MEMORY = 1, b"Error: Kind(OutOfMemory)\n"
 
 HEAD = "00 61 73 6D 01 00 00 00"
 NONE = f"{HEAD} 01 04 01 60 00 00 03 02 01 00"
@@ -33,6 +35,13 @@ MODULES = {
 }
 TEXT = r'(module (memory $mem0 1) (data $mem0 (offset i32.const 0) "\00\u{e9}\""))'
 OLDER = "(module (type (func)) (memory 1) (func (type 0) (local i32) current_memory set_local 0))"
+
+# for wm_rows: a module whose text, checked value and canonical binary are made, and a text. Each is also cut at every place
+ROWS = f"""canon {MODULES['a long number'].replace(HEAD, 'H')}
+show {MODULES['an if with a result'].replace(HEAD, 'H')}
+stats {MODULES['data'].replace(HEAD, 'H')}
+build {TEXT}
+"""
 
 
 def bytes_of(words):
@@ -101,30 +110,54 @@ def kind_of(ended, ample):
     return "wrong"
 
 
-def sweep(program):
+def kind_of_rows(ended, ample):
+    if ended == ample:
+        return "as with ample memory"
+    status, written, complaint = ended
+    if (status, complaint) == ROWS_OUT_OF_MEMORY and written in beginnings(ample[1]):
+        return "status 1"
+    return "wrong"
+
+
+def beginnings(written):
+    """The first lines of what wm_rows writes, up to the last one."""
+    lines = written.splitlines(keepends=True)
+    return [b"".join(lines[:count]) for count in range(len(lines) + 1)]
+
+
+def swept(name, program, runs, kind_of_run):
     """Whether all is well; prints how many runs there were of each kind."""
     if compiler() is None:
-        print("growths: there is no C compiler here, so no growth was refused", flush=True)
+        print(f"growths: there is no C compiler here, so no growth of {name} was refused", flush=True)
         return True
     kinds, wrong, asked = collections.Counter(), [], 0
     with tempfile.TemporaryDirectory(prefix="growths-") as room:
         refuser = Refuser(room)
-        for words, given in runs_of(program):
+        for words, given in runs:
             ample, count, _ = refuser.run(program, words, given)
             asked += count
             for is_on in (False, True):
                 for at in range(1, count + 1):
                     ended, _, refused = refuser.run(program, words, given, at, is_on)
-                    kind = kind_of(ended, ample) if refused else "wrong"
+                    kind = kind_of_run(ended, ample) if refused else "wrong"
                     kinds[kind] += 1
                     if kind == "wrong":
-                        wrong.append(f"growths: wmod {' '.join(words)}: growth {at} refused: {ended!r:.300}")
+                        wrong.append(f"growths: {' '.join([name, *words])}: growth {at} refused: {ended!r:.300}")
     print("\n".join(wrong[:20]), end="\n" if wrong else "")
-    print(f"growths: {asked} asked for; {sum(kinds.values())} runs, " + ", ".join(f"{n} {kind}" for kind, n in kinds.items()), flush=True)
+    print(f"growths of {name}: {asked} asked for; {sum(kinds.values())} runs, " + ", ".join(f"{n} {kind}" for kind, n in kinds.items()), flush=True)
     return not wrong and asked > 0
+
+
+def sweep(program):
+    return swept("wmod", program, runs_of(program), kind_of)
+
+
+def sweep_rows(program):
+    return swept("wm_rows", program, [([], ROWS.encode())], kind_of_rows)
 
 
 if __name__ == "__main__":
     if len(sys.argv) != 2:
         sys.exit(__doc__)
-    sys.exit(0 if sweep(sys.argv[1]) else 1)
+    is_of_rows = os.path.basename(sys.argv[1]).startswith("wm_rows")
+    sys.exit(0 if (sweep_rows if is_of_rows else sweep)(sys.argv[1]) else 1)

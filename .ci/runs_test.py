@@ -1,6 +1,6 @@
 #!/usr/bin/env python3
-"""That the runs can fail: growths.py and deep.py are given a stand-in for wmod, and wm_rows stands on libraries, as they
-should be and then with one thing wrong. It takes some minutes."""
+"""That the runs can fail: growths.py and deep.py are given a stand-in for wmod and for wm_rows, and wm_rows and the tests of wm_cli
+stand on libraries, as they should be and then with one thing wrong. It takes a quarter of an hour."""
 import os
 import shutil
 import subprocess
@@ -47,7 +47,17 @@ TRIALS = {
     "the refusal ends it by a signal": ("abort();", "", False),
 }
 
-NOT_TOLD = "a fault of the reader or the writer is not told"
+RIGHT_IN_ROWS = 'write(2, "Error: Kind(OutOfMemory)\\n", 25); return 1;'
+# the same for wm_rows
+TRIALS_OF_ROWS = {
+    "nothing wrong": (RIGHT_IN_ROWS, True),
+    "the refusal is told as another answer": (f'write(1, "no\\n", 3); {RIGHT_IN_ROWS}', False),
+    "a part of an answer": (f'write(1, "val", 3); {RIGHT_IN_ROWS}', False),
+    "it ends well with no answer": ("return 0;", False),
+    "it ends by another fault": ('write(2, "Error: other\\n", 13); return 1;', False),
+    "the refusal ends it by a signal": ("abort();", False),
+}
+
 # an edit that the prover refuses, and what wm_rows answers to two rows where it is made
 ROWS = ["check H 01 01 00 01 01", "show H"]
 SEEDS = {
@@ -55,12 +65,18 @@ SEEDS = {
     # a refusal is forgotten
     "wm_rules/must-fail/loader_forgets_a_refusal.edit": ["differs in small pieces", "text:\n(module)\n"],
     # a cut loses bytes
-    "wm_rules/must-fail/validator_forgets_a_piece.edit": [NOT_TOLD] * 2,
+    "wm_rules/must-fail/validator_forgets_a_piece.edit": ["the validator and the loader differ"] * 2,
+}
+
+# an edit that the prover refuses, and how this test of wm_cli ends where it is made
+TEST = "test tests::readers_and_writers_that_fail ... "
+ENDS = {
+    None: "ok",
     # a source is read on after a refusal
-    "wm_rules/must-fail/read_after_a_refusal.edit": [NOT_TOLD, "text:\n(module)\n"],
+    "wm_rules/must-fail/read_after_a_refusal.edit": "FAILED",
     # a writer's fault is swallowed, or told with a wrong count
-    "wm_write/must-fail/failed_print_ends_well.edit": ["refused at 12: SectionOrder", NOT_TOLD],
-    "wm_write/must-fail/fault_counts_nothing.edit": ["refused at 12: SectionOrder", NOT_TOLD],
+    "wm_write/must-fail/failed_print_ends_well.edit": "FAILED",
+    "wm_write/must-fail/fault_counts_nothing.edit": "FAILED",
 }
 
 
@@ -72,16 +88,24 @@ def built(room, refused, deeper):
     return program
 
 
-def answers_with(room, edit):
-    """What wm_rows prints of the rows where this edit is made, without its last line. It runs unproved."""
+def tried_with(room, edit, crate, *words, given=""):
+    """What `rt try` prints of a crate where this edit is made. It runs unproved."""
     copy = f"{room}/copy"
     shutil.copytree("..", copy, ignore=shutil.ignore_patterns("out", ".git"))
     if edit:
         make(f"{copy}/crates", edit)
-    given = "".join(f"{row}\n" for row in ROWS)
-    ran = subprocess.run(["rt", "try"], cwd=f"{copy}/crates/wm_rows", input=given, stdout=subprocess.PIPE, text=True, check=False)
+    ran = subprocess.run(["rt", "try", *words], cwd=f"{copy}/crates/{crate}", input=given, stdout=subprocess.PIPE, text=True, check=False)
     shutil.rmtree(copy)
-    return ran.stdout.rpartition("# ")[0]
+    return ran.stdout
+
+
+def answers_with(room, edit):
+    """What wm_rows prints of the rows, without its last line."""
+    return tried_with(room, edit, "wm_rows", given="".join(f"{row}\n" for row in ROWS)).rpartition("# ")[0]
+
+
+def is_ended_so(room, edit, ending):
+    return f"{TEST}{ending}\n" in tried_with(room, edit, "wm_cli", "--test")
 
 
 def make(crates, edit):
@@ -101,6 +125,9 @@ def main():
         for name, (refused, deeper, wanted) in TRIALS.items():
             if growths.sweep(built(room, refused, deeper)) != wanted:
                 faults.append(f"growths.py and a stand-in: {name}")
+        for name, (refused, wanted) in TRIALS_OF_ROWS.items():
+            if growths.sweep_rows(built(room, refused, "")) != wanted:
+                faults.append(f"growths.py and a stand-in for wm_rows: {name}")
         # (no stand-in answers all that deep.py asks: what is looked at is how it ends)
         for name, deeper, wanted in (("nothing wrong", "", (0, b"valid\n")), ("it recurses", "nested(1000000);", (-11, b""))):
             if deep.run(built(room, RIGHT, deeper), "check", deep.DEEP) != wanted:
@@ -108,6 +135,9 @@ def main():
         for edit, wanted in SEEDS.items():
             if answers_with(room, edit) != "".join(f"{row} = {answer}\n" for row, answer in zip(ROWS, wanted)):
                 faults.append(f"wm_rows, where {edit or 'nothing'} is edited")
+        for edit, ending in ENDS.items():
+            if not is_ended_so(room, edit, ending):
+                faults.append(f"readers and writers that fail, where {edit or 'nothing'} is edited")
     for fault in faults:
         print(f"runs_test: {fault}", file=sys.stderr)
     return 1 if faults else 0

@@ -1,19 +1,16 @@
 //! Answers to rows.
 
 use crate::changes::answer_changes;
-use crate::faults::are_faults_told;
-use crate::pieces;
+use crate::pieces::{Verdict, is_answered, judge, spread};
 use crate::row::{Action, Row};
 use crate::tally::{Tally, count};
-use crate::text::{Built, build, canonical, is_short_in_text, say, spell, text_of};
+use crate::text::{Built, build, is_given_back, refuse, say, show, spell};
 use std::alloc::Global;
 use std::io;
-use wm_read::spellings::Spellings;
-use wm_rules::{Checked, FromFault, Summary, load_from, validate_from};
-use wm_syntax::io::input::Input;
+use wm_rules::Summary;
 
-/// The figures of a module's bodies. No clause: `stdout` has what is right.
-pub fn figures(alloc: Global, summary: Summary) -> io::Result<String> {
+/// The figures of a module's bodies.
+fn figures(alloc: Global, summary: &Summary) -> io::Result<String> {
     let Summary {
         functions,
         moves,
@@ -26,105 +23,20 @@ pub fn figures(alloc: Global, summary: Summary) -> io::Result<String> {
     )?)
 }
 
-/// Whether the text of a module gives its canonical binary back. No clause: `stdout` has what is right.
-pub fn is_given_back(alloc: Global, row: &Row, checked: &Checked) -> io::Result<bool> {
-    let text = text_of(alloc, checked)?;
-    match build(alloc, row, Spellings::Standard, &text)? {
-        Built::Binary(built) => Ok(built.as_slice() == canonical(alloc, checked)?.as_slice()),
-        Built::Refused(_) => Ok(false),
-    }
-}
-
-/// The lines of a text, with an empty one behind them.
-fn show(alloc: Global, checked: &Checked) -> io::Result<String> {
-    let text = text_of(alloc, checked)?;
-    match str::from_utf8(&text) {
-        Ok(lines) => Ok(format!(in alloc; "text:\n{lines}")?),
-        Err(_) => say(alloc, "a text that is not UTF-8"),
-    }
-}
-
 /// The answer to a row whose binary is valid.
-fn accept(alloc: Global, row: &Row, summary: Summary, checked: &Checked) -> io::Result<String> {
+fn accept(
+    alloc: Global,
+    row: &Row,
+    binary: &[u8],
+    summary: &Summary,
+    canonical: &[u8],
+) -> io::Result<String> {
     match row.action {
         Action::Check | Action::Change(_) | Action::Changes => say(alloc, "valid"),
         Action::Stats => figures(alloc, summary),
-        Action::Canon | Action::Build => spell(alloc, &canonical(alloc, checked)?),
-        Action::Show => show(alloc, checked),
+        Action::Canon | Action::Build => spell(alloc, canonical),
+        Action::Show => show(alloc, row, binary),
     }
-}
-
-/// The answer to a row whose binary the loader has refused.
-fn refuse(alloc: Global, fault: FromFault) -> io::Result<String> {
-    match fault {
-        FromFault::Refused(refusal) => Ok(format!(in alloc;
-            "refused at {}: {}",
-            refusal.at,
-            refusal.why.name()
-        )?),
-        FromFault::Io => say(alloc, "not read"),
-    }
-}
-
-/// The answer to a row, where the validator and the loader agree.
-fn answer_both(
-    alloc: Global,
-    row: &Row,
-    judged: Result<Summary, FromFault>,
-    loaded: &Result<Checked, FromFault>,
-) -> io::Result<String> {
-    match (judged, loaded) {
-        (Ok(summary), Ok(checked)) => accept(alloc, row, summary, checked),
-        (Err(first), Err(second)) if first == *second => refuse(alloc, first),
-        _ => say(alloc, "the validator and the loader differ"),
-    }
-}
-
-/// The answer to a row whose binary comes at once.
-fn answer_whole(alloc: Global, row: &Row, binary: &[u8]) -> io::Result<String> {
-    let limit = u64::from(row.limit);
-    let judged = validate_from(
-        alloc,
-        &mut Input::new(binary),
-        row.profile,
-        limit,
-        row.policy,
-    );
-    let loaded = load_from(
-        alloc,
-        &mut Input::new(binary),
-        row.profile,
-        limit,
-        row.policy,
-    );
-    if let Ok(checked) = &loaded {
-        if is_short_in_text(checked) && !is_given_back(alloc, row, checked)? {
-            return say(alloc, "not given back by its text");
-        }
-    }
-    answer_both(alloc, row, judged, &loaded)
-}
-
-/// The answer to a row whose binary comes in these pieces.
-fn answer_pieces(alloc: Global, row: &Row, pieces: &[&[u8]]) -> io::Result<String> {
-    let (Ok(judged), Ok(loaded)) = (
-        pieces::validate(alloc, row, pieces),
-        pieces::load(alloc, row, pieces),
-    ) else {
-        return say(alloc, "a refusal does not stay");
-    };
-    answer_both(
-        alloc,
-        row,
-        judged.map_err(FromFault::Refused),
-        &loaded.map_err(FromFault::Refused),
-    )
-}
-
-/// The answer to a row whose binary comes in pieces of so many bytes.
-fn answer_chunks(alloc: Global, row: &Row, binary: &[u8], size: usize) -> io::Result<String> {
-    let pieces = binary.chunks(size.max(1)).collect::<Vec<&[u8]>>(alloc)?;
-    answer_pieces(alloc, row, &pieces)
 }
 
 /// Whether the answer is the same in two pieces wherever the binary is cut, and with an empty piece between them.
@@ -132,13 +44,13 @@ fn is_same_in_two(
     alloc: Global,
     row: &Row,
     binary: &[u8],
-    answer: &str,
+    whole: &Verdict,
     tally: &mut Tally,
 ) -> io::Result<bool> {
     for place in 0..binary.len() {
         let (front, back) = binary.split_at(place);
-        if answer_pieces(alloc, row, &[front, back])?.as_str() != answer
-            || answer_pieces(alloc, row, &[front, b"", back])?.as_str() != answer
+        if !is_answered(alloc, row, &[front, back], whole)?
+            || !is_answered(alloc, row, &[front, b"", back], whole)?
         {
             return Ok(false);
         }
@@ -147,33 +59,53 @@ fn is_same_in_two(
     Ok(true)
 }
 
+/// Whether the answer is the same in pieces of so many bytes.
+fn is_same_by(
+    alloc: Global,
+    row: &Row,
+    binary: &[u8],
+    whole: &Verdict,
+    size: usize,
+) -> io::Result<bool> {
+    let pieces = binary.chunks(size.max(1)).collect::<Vec<&[u8]>>(alloc)?;
+    is_answered(alloc, row, &pieces, whole)
+}
+
 /// Whether the answer is the same in pieces of one byte, with empty pieces between them too, and of seven bytes.
-fn is_same_in_chunks(alloc: Global, row: &Row, binary: &[u8], answer: &str) -> io::Result<bool> {
+fn is_same_in_chunks(alloc: Global, row: &Row, binary: &[u8], whole: &Verdict) -> io::Result<bool> {
     Ok(
-        answer_chunks(alloc, row, binary, 1)?.as_str() == answer
-            && answer_chunks(alloc, row, binary, 7)?.as_str() == answer
-            && answer_pieces(alloc, row, &pieces::spread(alloc, binary)?)?.as_str() == answer,
+        is_same_by(alloc, row, binary, whole, 1)?
+            && is_same_by(alloc, row, binary, whole, 7)?
+            && is_answered(alloc, row, &spread(alloc, binary)?, whole)?,
     )
+}
+
+/// The answer to a row with a binary that is so judged.
+fn answer_judged(alloc: Global, row: &Row, binary: &[u8], whole: &Verdict) -> io::Result<String> {
+    match whole {
+        Verdict::Valid(summary, canonical) => {
+            if is_given_back(alloc, row, binary, canonical)? {
+                accept(alloc, row, binary, summary, canonical)
+            } else {
+                say(alloc, "not given back")
+            }
+        }
+        Verdict::Refused(refusal) => refuse(alloc, "", refusal.at, refusal.why.name()),
+    }
 }
 
 /// The answer to a row with this binary, which is the same however the binary is cut.
 fn answer_binary(alloc: Global, row: &Row, binary: &[u8], tally: &mut Tally) -> io::Result<String> {
-    let answer = answer_whole(alloc, row, binary)?;
-    if !is_same_in_chunks(alloc, row, binary, answer.as_str())? {
+    let Some(whole) = judge(alloc, row, &[binary])? else {
+        return say(alloc, "the validator and the loader differ");
+    };
+    if !is_same_in_chunks(alloc, row, binary, &whole)? {
         return say(alloc, "differs in small pieces");
     }
-    if !is_same_in_two(alloc, row, binary, answer.as_str(), tally)? {
+    if !is_same_in_two(alloc, row, binary, &whole, tally)? {
         return say(alloc, "differs in two pieces");
     }
-    Ok(answer)
-}
-
-/// The answer to a row with a binary, whose reader and writer may fail.
-fn answer_input(alloc: Global, row: &Row, tally: &mut Tally) -> io::Result<String> {
-    if !are_faults_told(alloc, row, tally)? {
-        return say(alloc, "a fault of the reader or the writer is not told");
-    }
-    answer_binary(alloc, row, &row.input, tally)
+    answer_judged(alloc, row, binary, &whole)
 }
 
 /// The answer to a row with a text: what it gives, which is its own canonical binary.
@@ -206,16 +138,29 @@ fn answer_changed(
     answer_binary(alloc, row, &binary, tally)
 }
 
+/// What is added to the byte at a place where the answer is another than this one.
+fn other_answer(
+    alloc: Global,
+    row: &Row,
+    place: usize,
+    answer: &str,
+    tally: &mut Tally,
+) -> io::Result<Option<u8>> {
+    for more in 2..=255 {
+        if answer_changed(alloc, row, place, more, tally)?.as_str() != answer {
+            return Ok(Some(more));
+        }
+    }
+    Ok(None)
+}
+
 /// The answer to all inputs with another byte at a place.
 fn answer_change(alloc: Global, row: &Row, place: usize, tally: &mut Tally) -> io::Result<String> {
     let answer = answer_changed(alloc, row, place, 1, tally)?;
-    for more in 2..=255 {
-        let other = answer_changed(alloc, row, place, more, tally)?;
-        if other.as_str() != answer.as_str() {
-            return Ok(format!(in alloc; "differs when {more} is added")?);
-        }
+    match other_answer(alloc, row, place, &answer, tally)? {
+        Some(more) => Ok(format!(in alloc; "differs when {more} is added")?),
+        None => Ok(answer),
     }
-    Ok(answer)
 }
 
 /// The answer to a row. No clause: `stdout` has what is right.
@@ -225,6 +170,6 @@ pub fn answer(alloc: Global, row: &Row, tally: &mut Tally) -> io::Result<String>
         Action::Build => answer_text(alloc, row, tally),
         Action::Change(place) => answer_change(alloc, row, place, tally),
         Action::Changes => answer_changes(alloc, row, tally),
-        _ => answer_input(alloc, row, tally),
+        _ => answer_binary(alloc, row, &row.input, tally),
     }
 }

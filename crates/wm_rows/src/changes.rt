@@ -1,59 +1,42 @@
 //! All binaries that differ from a row's in one byte.
 
-use crate::answer::is_given_back;
-use crate::pieces::{load, spread, validate};
+use crate::pieces::{Verdict, is_answered, judge, spread};
 use crate::row::Row;
 use crate::tally::{Tally, count};
-use crate::text::is_short_in_text;
+use crate::text::is_given_back;
 use std::alloc::Global;
 use std::io;
-use wm_decode::Refusal;
-use wm_rules::{Checked, Summary};
 
-/// What a validator and a loader both answer.
-type Both = Result<(Summary, Checked), Refusal>;
-
-/// What a validator and a loader answer to pieces; none where they differ.
-fn answer_of_both(alloc: Global, row: &Row, pieces: &[&[u8]]) -> Option<Both> {
-    let (Ok(judged), Ok(loaded)) = (validate(alloc, row, pieces), load(alloc, row, pieces)) else {
-        return None;
-    };
-    match (judged, loaded) {
-        (Ok(summary), Ok(checked)) => Some(Ok((summary, checked))),
-        (Err(first), Err(second)) => (first == second).then_some(Err(first)),
-        _ => None,
-    }
-}
-
-/// Whether pieces get this answer.
-fn is_answered(alloc: Global, row: &Row, pieces: &[&[u8]], wanted: &Both) -> bool {
-    match (answer_of_both(alloc, row, pieces), wanted) {
-        (Some(Ok((summary, checked))), Ok((figures, module))) => {
-            summary == *figures && checked.module() == module.module()
-        }
-        (Some(Err(refusal)), Err(wanted)) => refusal == *wanted,
-        _ => false,
-    }
-}
-
-/// Whether a binary is valid, unless the answers to it whole, byte by byte and in two pieces differ. Empty pieces lie
-/// between the others, and `place` is where the two are cut.
-fn is_valid(alloc: Global, row: &Row, binary: &[u8], place: usize) -> io::Result<Option<bool>> {
-    let Some(whole) = answer_of_both(alloc, row, &[binary]) else {
-        return Ok(None);
-    };
+/// Whether the answers to a binary byte by byte and in two pieces are that to it whole. Empty pieces lie between the others, and
+/// `place` is where the two are cut.
+fn is_same_in_pieces(
+    alloc: Global,
+    row: &Row,
+    binary: &[u8],
+    whole: &Verdict,
+    place: usize,
+) -> io::Result<bool> {
     let (front, back) = binary.split_at(place.min(binary.len()));
-    if !is_answered(alloc, row, &spread(alloc, binary)?, &whole)
-        || !is_answered(alloc, row, &[front, b"", back], &whole)
-    {
+    Ok(
+        is_answered(alloc, row, &spread(alloc, binary)?, whole)?
+            && is_answered(alloc, row, &[front, b"", back], whole)?,
+    )
+}
+
+/// Whether a binary is valid, unless its answers differ or it is valid and not given back.
+fn is_valid(alloc: Global, row: &Row, binary: &[u8], place: usize) -> io::Result<Option<bool>> {
+    let Some(whole) = judge(alloc, row, &[binary])? else {
+        return Ok(None);
+    };
+    if !is_same_in_pieces(alloc, row, binary, &whole, place)? {
         return Ok(None);
     }
-    match &whole {
-        Ok((_, checked)) => {
-            let is_well = !is_short_in_text(checked) || is_given_back(alloc, row, checked)?;
+    match whole {
+        Verdict::Valid(_, canonical) => {
+            let is_well = is_given_back(alloc, row, binary, &canonical)?;
             Ok(is_well.then_some(true))
         }
-        Err(_) => Ok(Some(false)),
+        Verdict::Refused(_) => Ok(Some(false)),
     }
 }
 
@@ -88,14 +71,22 @@ fn put(binary: &mut Vec<u8>, place: usize, byte: u8) {
     }
 }
 
-/// How many binaries differ from a row's in one byte, and how many of them are valid.
-pub fn answer_changes(alloc: Global, row: &Row, tally: &mut Tally) -> io::Result<String> {
+/// The first place with a change at which not all is well.
+fn first_fault(alloc: Global, row: &Row, tally: &mut Tally) -> io::Result<Option<usize>> {
     let mut binary = row.input.clone()?;
-    let before = *tally;
     for (place, known) in row.input.iter().enumerate() {
         if !are_well(alloc, row, &mut binary, (place, *known), tally)? {
-            return Ok(format!(in alloc; "differs when the byte at {place} is changed")?);
+            return Ok(Some(place));
         }
+    }
+    Ok(None)
+}
+
+/// How many binaries differ from a row's in one byte, and how many of them are valid.
+pub fn answer_changes(alloc: Global, row: &Row, tally: &mut Tally) -> io::Result<String> {
+    let before = *tally;
+    if let Some(place) = first_fault(alloc, row, tally)? {
+        return Ok(format!(in alloc; "differs when the byte at {place} is changed")?);
     }
     let changes = tally.changes.saturating_sub(before.changes);
     let valid = tally.valid.saturating_sub(before.valid);

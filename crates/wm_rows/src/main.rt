@@ -8,8 +8,6 @@
 
 mod answer;
 mod changes;
-mod ends;
-mod faults;
 mod pieces;
 mod row;
 mod tally;
@@ -38,13 +36,8 @@ fn print_tally<R: Print>(rt: &R, tally: &Tally) -> io::Result<()> {
         cuts,
         changes,
         valid,
-        readers,
-        writers,
     } = tally;
-    println!(rt;
-        "# {rows} rows, {cuts} cuts in two, {changes} changes of a byte ({valid} valid), \
-        {readers} readers and {writers} writers that failed"
-    )
+    println!(rt; "# {rows} rows, {cuts} cuts in two, {changes} changes of a byte ({valid} valid)")
 }
 
 fn main(rt: HostRuntime) -> io::Result<()> {

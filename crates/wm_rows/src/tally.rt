@@ -10,10 +10,6 @@ pub struct Tally {
     pub changes: u32,
     /// How many of these are valid.
     pub valid: u32,
-    /// Runs in which a reader failed.
-    pub readers: u32,
-    /// Runs in which a writer failed.
-    pub writers: u32,
 }
 
 impl Tally {
@@ -23,8 +19,6 @@ impl Tally {
             cuts: 0,
             changes: 0,
             valid: 0,
-            readers: 0,
-            writers: 0,
         }
     }
 }

@@ -56,7 +56,7 @@ impl Mode {
 pub struct Reader<'a> {
     rest: &'a [u8],
     mode: Mode,
-    calls: u32,
+    pub calls: u32,
     given: usize,
     /// How many bytes the last call gave.
     last: usize,
@@ -122,7 +122,7 @@ impl Read for Reader<'_> {
 pub struct Writer {
     pub taken: Vec<u8>,
     mode: Mode,
-    calls: u32,
+    pub calls: u32,
     flushes: u32,
     /// How much it had at the last flush.
     flushed: usize,
@@ -143,17 +143,14 @@ impl Writer {
         self.mode.has_come(self.calls)
     }
 
-    pub fn is_untouched(&self) -> bool {
-        self.calls == 0
+    /// Whether its fault was its last call.
+    pub fn is_left_in_time(&self) -> bool {
+        self.calls == self.mode.at
     }
 
-    /// Whether its fault was its last call; or where it has none, whether its one flush was.
-    pub fn is_left_in_time(&self) -> bool {
-        if self.has_failed() {
-            self.calls == self.mode.at
-        } else {
-            self.flushes == 1 && self.flushed == self.taken.len()
-        }
+    /// Whether it was flushed so often, once at its end or never.
+    pub fn is_flushed(&self, flushes: u32) -> bool {
+        self.flushes == flushes && (flushes == 0 || self.flushed == self.taken.len())
     }
 
     /// The most bytes of a further call.

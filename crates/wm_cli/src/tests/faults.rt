@@ -1,13 +1,74 @@
-//! Runs in which the reader or the writer fails: at its first call, its second, .. until a run meets no fault.
+//! Calls whose reader or writer fails: at its first call, its second, .. to the last one that it gets where it does not fail.
 
 use super::ends::{BROKEN, Fault, INTERRUPTED, Mode, Reader, Writer};
-use crate::run::run_line;
+use crate::run::run;
 use crate::status::Status;
-use crate::words::Line;
+use crate::words::{Action, Line};
 use std::alloc::Global;
-use std::test::Fail;
+use wm_decode::Refusal;
+use wm_rules::{Checked, FromFault, load_from, validate_from};
 use wm_syntax::io::input::Input;
 use wm_syntax::io::output::Output;
+use wm_write::encode::{WriteFault, encode};
+use wm_write::print::print;
+
+/// What is called.
+#[derive(Clone, Copy)]
+pub enum Call {
+    /// `run`.
+    Run(Action),
+    /// `validate_from`.
+    Validate,
+    /// `load_from`, and then `encode`.
+    Encode,
+    /// `load_from`, and then `print`.
+    Print,
+}
+
+/// What takes a binary.
+const OF_BINARIES: [Call; 7] = [
+    Call::Run(Action::Check),
+    Call::Run(Action::Stats),
+    Call::Run(Action::Canon),
+    Call::Run(Action::Show),
+    Call::Validate,
+    Call::Encode,
+    Call::Print,
+];
+
+/// What takes a text.
+const OF_TEXTS: [Call; 1] = [Call::Run(Action::Build)];
+
+impl Call {
+    /// How often the writer is flushed, if it does not fail.
+    fn flushes(self) -> u32 {
+        match self {
+            Call::Run(_) => 1,
+            Call::Validate | Call::Encode | Call::Print => 0,
+        }
+    }
+}
+
+/// A call with its input. A line says by which profile, limit, policy and words.
+#[derive(Clone, Copy)]
+pub struct Task<'a> {
+    pub alloc: Global,
+    pub call: Call,
+    pub line: &'a Line,
+    pub input: &'a [u8],
+}
+
+impl<'a> Task<'a> {
+    /// What a line says, done with this input.
+    pub fn of_line(alloc: Global, line: &'a Line, input: &'a [u8]) -> Self {
+        Task {
+            alloc,
+            call: Call::Run(line.action),
+            line,
+            input,
+        }
+    }
+}
 
 /// Which end fails.
 #[derive(Clone, Copy)]
@@ -16,15 +77,18 @@ pub enum End {
     Writer,
 }
 
-/// The most bytes of a call, and what the call does that fails. A reader that gives nothing has ended.
-const READERS: [(usize, Fault); 4] = [
+/// The most bytes of a call, and what the call does that fails.
+type Way = (usize, Fault);
+
+/// A reader that gives nothing has ended.
+const READERS: [Way; 4] = [
     (usize::MAX, BROKEN),
     (usize::MAX, INTERRUPTED),
     (1, BROKEN),
     (1, INTERRUPTED),
 ];
 
-const WRITERS: [(usize, Fault); 6] = [
+const WRITERS: [Way; 6] = [
     (usize::MAX, BROKEN),
     (usize::MAX, INTERRUPTED),
     (usize::MAX, Fault::Nothing),
@@ -33,119 +97,271 @@ const WRITERS: [(usize, Fault); 6] = [
     (1, Fault::Nothing),
 ];
 
-/// How a line ended, and what became of the reader and the writer.
-pub type Run<'a> = (Status, Reader<'a>, Writer);
-
-/// Does what a line says, with an input that is read and an output that is written in these ways.
-pub fn follow<'a>(
-    alloc: Global,
-    line: &Line,
-    input: &'a [u8],
-    reading: Mode,
-    writing: Mode,
-) -> Run<'a> {
-    let mut source = Input::new(Reader::new(input, reading));
-    let mut dest = Output::new(Writer::new(alloc, writing));
-    let status = run_line(alloc, line, &mut source, &mut dest);
-    (status, source.into_inner(), dest.into_inner())
+/// What a call answers.
+#[derive(Clone, Copy)]
+pub struct Answer {
+    pub status: Status,
+    /// The refusal, which `run` writes and the library answers.
+    refusal: Option<Refusal>,
+    /// How many bytes `encode` says that it wrote.
+    written: Option<u64>,
 }
 
-/// The same where this end fails so.
-pub fn follow_failing<'a>(
-    alloc: Global,
-    line: &Line,
-    input: &'a [u8],
-    end: End,
-    failing: Mode,
-) -> Run<'a> {
-    let whole = Mode::by(usize::MAX);
-    match end {
-        End::Reader => follow(alloc, line, input, failing, whole),
-        End::Writer => follow(alloc, line, input, whole, failing),
+impl Answer {
+    fn new(status: Status) -> Self {
+        Answer {
+            status,
+            refusal: None,
+            written: None,
+        }
+    }
+
+    /// Of a validator or a loader.
+    fn of_fault(fault: FromFault) -> Self {
+        match fault {
+            FromFault::Refused(refusal) => Answer {
+                status: Status::Refused,
+                refusal: Some(refusal),
+                written: None,
+            },
+            FromFault::Io => Answer::new(Status::Io),
+        }
+    }
+
+    /// Of the encoder.
+    fn of_length(status: Status, length: u64) -> Self {
+        Answer {
+            status,
+            refusal: None,
+            written: Some(length),
+        }
+    }
+
+    /// Whether as much was written as is said.
+    fn is_length_of(&self, writer: &Writer) -> bool {
+        match self.written {
+            Some(written) => written == writer.taken.len() as u64,
+            None => true,
+        }
     }
 }
 
-/// The byte of the input that settled its refusal, where that was written.
-fn settled(written: &[u8]) -> Option<usize> {
-    let line = str::from_utf8(written).ok()?;
+/// What a call answered, and what became of the reader and the writer.
+pub type Run<'a> = (Answer, Reader<'a>, Writer);
+
+/// Calls `run`.
+fn follow_run<'a>(task: &Task<'a>, action: Action, reading: Mode, writing: Mode) -> Run<'a> {
+    let line = task.line;
+    let mut source = Input::new(Reader::new(task.input, reading));
+    let mut dest = Output::new(Writer::new(task.alloc, writing));
+    let status = run(
+        task.alloc,
+        action,
+        line.profile,
+        line.limit,
+        line.policy,
+        line.spellings,
+        &mut source,
+        &mut dest,
+    );
+    (Answer::new(status), source.into_inner(), dest.into_inner())
+}
+
+/// Calls `validate_from`.
+fn validate<'a>(task: &Task<'a>, reading: Mode) -> (Answer, Reader<'a>) {
+    let line = task.line;
+    let mut source = Input::new(Reader::new(task.input, reading));
+    let judged = validate_from(
+        task.alloc,
+        &mut source,
+        line.profile,
+        line.limit,
+        line.policy,
+    );
+    let answer = match judged {
+        Ok(_) => Answer::new(Status::Done),
+        Err(fault) => Answer::of_fault(fault),
+    };
+    (answer, source.into_inner())
+}
+
+/// Calls `load_from`.
+fn load<'a>(task: &Task<'a>, reading: Mode) -> (Result<Checked, FromFault>, Reader<'a>) {
+    let line = task.line;
+    let mut source = Input::new(Reader::new(task.input, reading));
+    let loaded = load_from(
+        task.alloc,
+        &mut source,
+        line.profile,
+        line.limit,
+        line.policy,
+    );
+    (loaded, source.into_inner())
+}
+
+/// Calls `encode`.
+fn write_binary(alloc: Global, checked: &Checked, writing: Mode) -> (Answer, Writer) {
+    let mut dest = Output::new(Writer::new(alloc, writing));
+    let answer = match encode(checked.module(), &mut dest) {
+        Ok(length) => Answer::of_length(Status::Done, length),
+        Err(WriteFault::Io { written }) => Answer::of_length(Status::Io, written),
+        Err(WriteFault::TooLarge) => Answer::new(Status::Refused),
+    };
+    (answer, dest.into_inner())
+}
+
+/// Calls `print`.
+fn write_text(alloc: Global, checked: &Checked, writing: Mode) -> (Answer, Writer) {
+    let mut dest = Output::new(Writer::new(alloc, writing));
+    let status = match print(checked, &mut dest) {
+        Ok(()) => Status::Done,
+        Err(_) => Status::Io,
+    };
+    (Answer::new(status), dest.into_inner())
+}
+
+/// Calls `load_from`, and then what writes the module.
+fn follow_load<'a>(task: &Task<'a>, reading: Mode, writing: Mode) -> Run<'a> {
+    let (loaded, reader) = load(task, reading);
+    let (answer, writer) = match (loaded, task.call) {
+        (Ok(checked), Call::Encode) => write_binary(task.alloc, &checked, writing),
+        (Ok(checked), _) => write_text(task.alloc, &checked, writing),
+        (Err(fault), _) => (Answer::of_fault(fault), Writer::new(task.alloc, writing)),
+    };
+    (answer, reader, writer)
+}
+
+/// Calls what is to be called, with an input that is read and an output that is written in these ways.
+pub fn follow<'a>(task: &Task<'a>, reading: Mode, writing: Mode) -> Run<'a> {
+    match task.call {
+        Call::Run(action) => follow_run(task, action, reading, writing),
+        Call::Validate => {
+            let (answer, reader) = validate(task, reading);
+            (answer, reader, Writer::new(task.alloc, writing))
+        }
+        Call::Encode | Call::Print => follow_load(task, reading, writing),
+    }
+}
+
+/// The same where this end passes so much a call and may fail.
+pub fn follow_failing<'a>(task: &Task<'a>, end: End, failing: Mode) -> Run<'a> {
+    let whole = Mode::by(usize::MAX);
+    match end {
+        End::Reader => follow(task, failing, whole),
+        End::Writer => follow(task, whole, failing),
+    }
+}
+
+/// The byte of the input that settled its refusal, where it was refused.
+fn settled((answer, _, writer): &Run) -> Option<usize> {
+    if let Some(refusal) = answer.refusal {
+        return Some(refusal.at as usize);
+    }
+    let line = str::from_utf8(&writer.taken).ok()?;
     let (place, _) = line.strip_prefix("refused at ")?.split_once(':')?;
     place.parse::<usize>().ok()
 }
 
-/// Whether a run ended as it must, where `plain` is the one that meets no fault: as that, or by `Io` where an end has failed, with nothing
-/// written or a beginning. Nothing is read after a refusal, and no end is called again after its fault.
-fn is_right((status, reader, writer): &Run, plain: &Run) -> bool {
-    let (plain_status, _, plain_writer) = plain;
-    let wanted = plain_writer.taken.as_slice();
-    match (reader.has_failed(), writer.has_failed()) {
-        (true, _) => {
-            *status == Status::Io && reader.is_left_in_time(None) && writer.is_untouched()
-        }
-        (false, true) => {
-            *status == Status::Io
-                && reader.is_left_in_time(settled(wanted))
-                && writer.is_left_in_time()
-                && wanted.starts_with(&writer.taken)
-        }
-        (false, false) => {
-            status == plain_status
-                && reader.is_left_in_time(settled(wanted))
-                && writer.is_left_in_time()
-                && writer.taken.as_slice() == wanted
-        }
-    }
+/// Whether a run ended as it must whose reader has failed: by `Io`, with nothing written.
+fn is_reader_told((answer, reader, writer): &Run) -> bool {
+    answer.status == Status::Io && reader.is_left_in_time(None) && writer.calls == 0
 }
 
-/// Whether each run ends as it must where an end fails at its first call, its second, .. Counts the runs with a fault.
-fn is_fault_told(
-    alloc: Global,
-    line: &Line,
-    input: &[u8],
-    plain: &Run,
-    end: End,
-    (most, fault): (usize, Fault),
-    count: &mut u32,
-) -> bool {
-    for at in 1..u32::MAX {
-        let run = follow_failing(alloc, line, input, end, Mode { most, fault, at });
-        if !is_right(&run, plain) {
+/// Whether a run ended as it must whose writer has failed: by `Io`, with a beginning written. `plain` is the run that meets no fault.
+fn is_writer_told((answer, reader, writer): &Run, plain: &Run) -> bool {
+    answer.status == Status::Io
+        && answer.is_length_of(writer)
+        && reader.is_left_in_time(settled(plain))
+        && writer.is_left_in_time()
+        && plain.2.taken.starts_with(&writer.taken)
+}
+
+/// Whether a run that met no fault ended as `plain`. The writer was flushed so often.
+fn is_same((answer, reader, writer): &Run, plain: &Run, flushes: u32) -> bool {
+    answer.status == plain.0.status
+        && answer.refusal == plain.0.refusal
+        && answer.is_length_of(writer)
+        && reader.is_left_in_time(settled(plain))
+        && writer.is_flushed(flushes)
+        && writer.taken.as_slice() == plain.2.taken.as_slice()
+}
+
+/// Whether each run ends as it must where an end fails at its first call, its second, .. Nothing is read after a refusal, and
+/// no end is called again after its fault.
+fn are_told(task: &Task, plain: &Run, end: End, (most, fault): Way, calls: u32) -> bool {
+    for at in 1..=calls {
+        let run = follow_failing(task, end, Mode { most, fault, at });
+        let is_told = match (run.1.has_failed(), run.2.has_failed()) {
+            (true, _) => is_reader_told(&run),
+            (false, true) => is_writer_told(&run, plain),
+            (false, false) => false,
+        };
+        if !is_told {
             return false;
         }
-        if !run.1.has_failed() && !run.2.has_failed() {
-            return true;
-        }
-        *count = count.saturating_add(1);
     }
-    false
+    true
 }
 
-/// In how many runs an end failed in one of these ways; none where a run ended otherwise than it must.
-fn count_faults(
-    alloc: Global,
-    line: &Line,
-    input: &[u8],
-    end: End,
-    ways: &[(usize, Fault)],
-) -> Option<u32> {
-    let whole = Mode::by(usize::MAX);
-    let plain = follow(alloc, line, input, whole, whole);
-    let mut count = 0;
+/// In how many runs an end fails in this way: as often as it is called where it does not fail. None where a run ends
+/// otherwise than it must.
+fn count_way(task: &Task, plain: &Run, end: End, way: Way) -> Option<u32> {
+    let unfailing = follow_failing(task, end, Mode::by(way.0));
+    let calls = match end {
+        End::Reader => unfailing.1.calls,
+        End::Writer => unfailing.2.calls,
+    };
+    let is_well = is_same(&unfailing, plain, task.call.flushes())
+        && are_told(task, plain, end, way, calls);
+    is_well.then_some(calls)
+}
+
+/// The same in all of these ways.
+fn count_ways(task: &Task, plain: &Run, end: End, ways: &[Way]) -> Option<u32> {
+    let mut count = 0u32;
     for way in ways {
-        if !is_fault_told(alloc, line, input, &plain, end, *way, &mut count) {
-            return None;
-        }
+        count = count.saturating_add(count_way(task, plain, end, *way)?);
     }
     Some(count)
 }
 
-/// In how many runs of a line the reader failed, and in how many the writer, where each of them ended as it must.
-pub fn faults(alloc: Global, line: &Line, input: &[u8]) -> Result<String, Fail> {
-    let readers = count_faults(alloc, line, input, End::Reader, &READERS);
-    let writers = count_faults(alloc, line, input, End::Writer, &WRITERS);
-    match (readers, writers) {
-        (Some(readers), Some(writers)) => {
-            Ok(format!(in alloc; "{readers} of the reader, {writers} of the writer")?)
+/// How many readers and writers have failed.
+#[derive(Clone, Copy)]
+pub struct Faults {
+    pub readers: u32,
+    pub writers: u32,
+}
+
+/// Whether a call ends as it must where its reader or its writer fails at any of its calls.
+fn is_call_right(task: &Task, faults: &mut Faults) -> bool {
+    let whole = Mode::by(usize::MAX);
+    let plain = follow(task, whole, whole);
+    let readers = count_ways(task, &plain, End::Reader, &READERS);
+    let writers = count_ways(task, &plain, End::Writer, &WRITERS);
+    let (Some(readers), Some(writers)) = (readers, writers) else {
+        return false;
+    };
+    faults.readers = faults.readers.saturating_add(readers);
+    faults.writers = faults.writers.saturating_add(writers);
+    true
+}
+
+/// Whether each call so ends that takes such an input, a text where the line's action is `build`.
+pub fn are_faults_told(alloc: Global, line: &Line, input: &[u8], faults: &mut Faults) -> bool {
+    let calls: &[Call] = match line.action {
+        Action::Build => &OF_TEXTS,
+        _ => &OF_BINARIES,
+    };
+    for call in calls {
+        let task = Task {
+            alloc,
+            call: *call,
+            line,
+            input,
+        };
+        if !is_call_right(&task, faults) {
+            return false;
         }
-        _ => Ok(format!(in alloc; "a run with a fault ended otherwise than it must")?),
     }
+    true
 }

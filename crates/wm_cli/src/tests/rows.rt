@@ -6,18 +6,20 @@
 //! wmod WORDS < INPUT = the exit status, and what is written
 //! in N WORDS < INPUT = the same where the reader gives N bytes, one a call, and then fails
 //! out N WORDS < INPUT = the same where the writer takes N bytes, one a call, and then fails, at the flush if that is next
-//! faults WORDS < INPUT = in how many runs the reader or the writer failed: at each of its calls in turn
 //! desk WORDS = the exit status of the whole program, what it writes and what it complains of
 //! shut WORDS = the same, where standard output takes nothing
 //! ```
 //!
 //! The word `""` is the empty one. INPUT is a text for `build`. Else it is bytes in hexadecimal digits, with H for the
 //! header of a module. What is done with an input under profile 1 is done under profile 2 too.
+//!
+//! Rows of inputs whose reader or writer fails have no answer: `wmod WORDS < INPUT`. There `build` stands for itself, and `check`
+//! for all that takes a binary. A text may be written as `bytes` and its bytes.
 
 use super::HEADER;
 use super::desk::sit;
 use super::ends::{BROKEN, Mode};
-use super::faults::{End, faults, follow, follow_failing};
+use super::faults::{End, Faults, Task, are_faults_told, follow, follow_failing};
 use crate::line::{line, wrong_word};
 use crate::status::{Status, exit_code};
 use crate::words::{Action, Line, LineFault};
@@ -96,16 +98,17 @@ fn wrong(alloc: Global, command: &str) -> Result<String, Fail> {
 
 /// The exit status and what was written, where no more was asked for at once than a piece, and all was flushed once.
 fn tell(alloc: Global, line: &Line, input: &[u8], most: usize) -> Result<String, Fail> {
-    let (status, reader, writer) = follow(alloc, line, input, Mode::by(most), Mode::by(usize::MAX));
+    let task = Task::of_line(alloc, line, input);
+    let (answer, reader, writer) = follow(&task, Mode::by(most), Mode::by(usize::MAX));
     if reader.asked > 4096 {
         return Ok(format!(in alloc; "asked for {} bytes", reader.asked)?);
     }
-    if !writer.is_left_in_time() {
+    if !writer.is_flushed(1) {
         return Ok(format!(in alloc; "not flushed once, at the end")?);
     }
     Ok(format!(in alloc;
         "{} {}",
-        exit_code(&Ok(status)),
+        exit_code(&Ok(answer.status)),
         writer.taken.escape_ascii()
     )?)
 }
@@ -155,9 +158,11 @@ pub fn obey(alloc: Global, command: &str, input: &[u8]) -> Result<String, Fail> 
 fn written(alloc: Global, command: &str, input: &[u8]) -> Result<Vec<u8>, Fail> {
     let line = line(alloc, words_of(alloc, command)?.as_slice())?;
     let whole = Mode::by(usize::MAX);
-    match follow(alloc, &line, input, whole, whole) {
-        (Status::Done, _, writer) => Ok(writer.taken),
-        _ => Err(Fail::new("not done")),
+    let (answer, _, writer) = follow(&Task::of_line(alloc, &line, input), whole, whole);
+    if answer.status == Status::Done {
+        Ok(writer.taken)
+    } else {
+        Err(Fail::new("not done"))
     }
 }
 
@@ -174,10 +179,12 @@ fn parts_of(alloc: Global, call: &str) -> Result<(&str, Vec<u8>), Fail> {
         return Err(Fail::new("no input"));
     };
     let input = input.trim_start();
-    if command.contains("build") {
-        return Ok((command, input.as_bytes().to_vec(alloc)?));
-    }
-    Ok((command, bytes_of(alloc, input)?))
+    let bytes = match (input.strip_prefix("bytes "), command.contains("build")) {
+        (Some(words), true) => bytes_of(alloc, words)?,
+        (None, true) => input.as_bytes().to_vec(alloc)?,
+        _ => bytes_of(alloc, input)?,
+    };
+    Ok((command, bytes))
 }
 
 /// What a command writes for the input behind its `<`.
@@ -198,19 +205,12 @@ fn cut_row(alloc: Global, end: End, row: &str) -> Result<String, Fail> {
     };
     let (command, input) = parts_of(alloc, call)?;
     let line = line(alloc, words_of(alloc, command)?.as_slice())?;
-    let (status, _, writer) = follow_failing(alloc, &line, &input, end, failing);
+    let (answer, _, writer) = follow_failing(&Task::of_line(alloc, &line, &input), end, failing);
     Ok(format!(in alloc;
         "{} \"{}\"",
-        exit_code(&Ok(status)),
+        exit_code(&Ok(answer.status)),
         writer.taken.escape_ascii()
     )?)
-}
-
-/// In how many runs of a command the reader or the writer failed.
-fn faults_row(alloc: Global, call: &str) -> Result<String, Fail> {
-    let (command, input) = parts_of(alloc, call)?;
-    let line = line(alloc, words_of(alloc, command)?.as_slice())?;
-    faults(alloc, &line, &input)
 }
 
 /// The answer to a call.
@@ -221,7 +221,6 @@ fn answer(alloc: Global, call: &str) -> Result<String, Fail> {
         Some(("wmod", _)) => obey_row(alloc, call),
         Some(("in", row)) => cut_row(alloc, End::Reader, row),
         Some(("out", row)) => cut_row(alloc, End::Writer, row),
-        Some(("faults", call)) => faults_row(alloc, call),
         Some(("desk", command)) => sit(alloc, words_of(alloc, command)?.as_slice(), false),
         Some(("shut", command)) => sit(alloc, words_of(alloc, command)?.as_slice(), true),
         _ => Ok(format!(in alloc; "no such call")?),
@@ -239,4 +238,25 @@ pub fn play(rt: &impl Abort, alloc: Global, script: &str) -> Result<(), Fail> {
         assert!(rt; found.as_str() == wanted, "{row}: {found}");
     }
     Ok(())
+}
+
+/// Whether each call that takes a row's input ends as it must where its reader or its writer fails.
+fn is_row_told(alloc: Global, row: &str, faults: &mut Faults) -> Result<bool, Fail> {
+    let (command, input) = parts_of(alloc, row)?;
+    let line = line(alloc, words_of(alloc, command)?.as_slice())?;
+    Ok(are_faults_told(alloc, &line, &input, faults))
+}
+
+/// The reader and the writer fail at the inputs of these rows. Tells how many did.
+pub fn fail_ends(rt: &impl Abort, alloc: Global, rows: &str) -> Result<String, Fail> {
+    let mut faults = Faults {
+        readers: 0,
+        writers: 0,
+    };
+    for row in rows.lines() {
+        let is_told = is_row_told(alloc, row, &mut faults)?;
+        assert!(rt; is_told, "{row}");
+    }
+    let Faults { readers, writers } = faults;
+    Ok(format!(in alloc; "{readers} readers and {writers} writers that failed")?)
 }
