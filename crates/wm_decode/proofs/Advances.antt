@@ -8,10 +8,8 @@ use Rattle.wm_syntax.specs.declared.why.Why.{Why}
 use Rattle.wm_syntax.specs.declared.why.Why.TheVariants as why
 use Rattle.wm_decode.specs.declared.machine.Machine.{Machine}
 use Rattle.wm_decode.specs.declared.machine.Machine.TheVariants as machine
-use Rattle.wm_decode.specs.declared.machine.InCustom.{InCustom}
 use Rattle.wm_decode.specs.declared.machine.InCustom.TheVariants as custom
 use Rattle.wm_decode.specs.declared.member.SectionKind.{SectionKind}
-use Rattle.wm_decode.specs.declared.member.InMember.{InMember}
 use Rattle.wm_decode.specs.declared.member.InMember.TheVariants as at
 use Rattle.wm_decode.specs.declared.in_body.InBody.{InBody}
 use Rattle.wm_decode.specs.declared.indices.InIndices.{InIndices}
@@ -30,41 +28,14 @@ use Rattle.wm_decode.specs.exact.WholeOps.{RanTo, before_op}
 use Rattle.wm_decode.proofs.Header.{stays}
 use Rattle.wm_decode.proofs.IndexBytes.{InFront, indices_moved, indices_refused}
 use Rattle.wm_decode.proofs.ShortSteps.{part_err, part_ok, part_room, short_moved, short_refused}
-use Rattle.wm_decode.proofs.Stretches.{data_decoded, data_ended, goes_on, skipped_by, stops}
-use Rattle.wm_decode.proofs.WholeOps.{moved_by, none_ran, refused_by}
+use Rattle.wm_decode.proofs.Stretches.{data_decoded, data_ended, goes_on, skips, stops}
+use Rattle.wm_decode.proofs.WholeOps.{ran_decoded, ran_refused}
 
 not_both : (r : Option Why) (w : Why) → r ≡ None → r ≡ Some w → ⊥
 not_both r w a b = let s : None ≡ Some w = sym a ∙ b in cc
 
 same_why : (r : Option Why) (v w : Why) → r ≡ Some v → r ≡ Some w → v ≡ w
 same_why r v w a b = let s : Some v ≡ Some w = sym a ∙ b in cc
-
--- within a section
-abbrev InSection : Machine → Type 0
-InSection (machine.Section of f more left q) = Unit {0}
-InSection (machine.Custom last f more q) = Unit {0}
-InSection m = ⊥
-
-past_header : (m : Machine) (k : ℕ) → InSection m → IsAt m k → 8 ≤ k
-past_header (machine.Section of f more left q) k i at = at
-past_header (machine.Custom last f more q) k i at = at
-past_header m k i at = absurd i
-
-at_far : (m : Machine) (k : ℕ) → InSection m → 8 ≤ k → IsAt m k
-at_far (machine.Section of f more left q) k i far = far
-at_far (machine.Custom last f more q) k i far = far
-at_far m k i far = absurd i
-
-not_refused : (m : Machine) → InSection m → IsRefused m → ⊥
-not_refused (machine.Section of f more left q) i r = r
-not_refused (machine.Custom last f more q) i r = r
-not_refused m i r = absurd i
-
-goes_far : (m n : Machine) (k used : ℕ) → InSection m → InSection n → 0 < used → IsAt m k → (8 < k + used) × IsAt n (k + used)
-goes_far m n k used i j some at =
-    let far : 8 ≤ k = past_header m k i at in
-    let farther : 8 ≤ k + used = omega arith in
-    (omega arith, at_far n (k + used) j farther)
 
 module _ {H : Type 0} (after : H → Item → Result H Why) (may : H → Item → Type 0) where
   -- nothing was taken
@@ -118,28 +89,31 @@ module _ {H : Type 0} (after : H → Item → Result H Why) (may : H → Item �
         room = λ p k name short is. absurd (omega arith);
       }
 
+  -- the same for what the code knows of the machines
+  pub advances_by : (bytes : List ℕ) (m n x y : Machine) (h g : H) (s : Shortcut) → m ≡ x → n ≡ y → Advances after may bytes x h s y g → Advances after may bytes m h s n g
+  advances_by bytes m n x y h g s em en a = subst (λ z. Advances after may bytes z h s n g) (sym em) (subst (λ z. Advances after may bytes x h s z g) (sym en) a)
+
   -- one byte that goes by a shorter way
-  module _ (bytes : List ℕ) (m n : Machine) (h g : H) (q : Place) (x : Stepped) (s : Shortcut) (em : m ≡ standing q) (more : 0 < q.more) (some : 0 < length bytes)
-      (to : StepsTo q.of q.left q.at (slice_index bytes 0) x) (en : n ≡ after_stepped q.of q.functions (q.more - 1) x) (used : s.used ≡ 1) where
-    steps : (p : Profile) → step_of p m (slice_index bytes 0) ≡ (after_stepped q.of q.functions (q.more - 1) x, part_event x.part)
+  module _ (bytes : List ℕ) (h g : H) (q : Place) (x : Stepped) (s : Shortcut) (more : 0 < q.more) (some : 0 < length bytes) (to : StepsTo q.of q.left q.at (slice_index bytes 0) x) (used : s.used ≡ 1) where
+    abbrev next : Machine
+    next = after_stepped q.of q.functions (q.more - 1) x
+
+    steps : (p : Profile) → step_of p (standing q) (slice_index bytes 0) ≡ (next, part_event x.part)
     steps p =
         let one : q.more ≡ suc (q.more - 1) = omega arith in
-        ap (λ y. step_of p y (slice_index bytes 0)) (em ∙ ap (λ i. machine.Section q.of q.functions i q.left q.at) one) ∙ to p q.functions (q.more - 1)
+        ap (λ i. step_of p (machine.Section q.of q.functions i q.left q.at) (slice_index bytes 0)) one ∙ to p q.functions (q.more - 1)
 
-    far : (k : ℕ) → IsAt m k → (8 < k + s.used) × IsAt n (k + s.used)
-    far k at = goes_far m n k s.used (subst InSection (sym em) tt) (subst InSection (sym en) tt) (omega arith) at
-
-    pub advances_step : {U : Type 0} (r : Result U Why) → s.refused ≡ refusal_in r → Taken (part_taken after x.part h) r g → IfErr r (λ w. w ≡ why.Memory → PartMayRunOut may x.part h) → Advances after may bytes m h s n g
+    pub advances_step : {U : Type 0} (r : Result U Why) → s.refused ≡ refusal_in r → Taken (part_taken after x.part h) r g → IfErr r (λ w. w ≡ why.Memory → PartMayRunOut may x.part h)
+        → Advances after may bytes (standing q) h s next g
     advances_step (Ok u) is given quiet = record {
       within = omega arith;
       still = λ e. absurd (omega arith);
       moved = λ p limit k name go none fits.
-          let less : k < limit = omega arith in
-          short_moved after p limit bytes m n q.of q.functions (q.more - 1) x.left x.at (part_event x.part) name h g k some less en (steps p) (part_ok after x.part name (slice_index bytes 0) h g given)
-          ∙ ap (λ i. decoder_after after p limit (live_so n [] g (k + i)) (drop i bytes)) (sym used);
+          short_moved after p limit bytes (standing q) q.of q.functions (q.more - 1) x.left x.at (part_event x.part) name h g k some (omega arith) (steps p) (part_ok after x.part name (slice_index bytes 0) h g given)
+          ∙ ap (λ i. decoder_after after p limit (live_so next [] g (k + i)) (drop i bytes)) (sym used);
       stopped = λ p limit k name w no ne fits. absurd (not_both s.refused w is no);
-      live = λ none l. not_refused n (subst InSection (sym en) tt);
-      past_header = λ k go so. let f = far k so in (f.0, λ none. f.1);
+      live = λ none l r. r;
+      past_header = λ k go far. (omega arith, λ none. omega arith);
       room = λ p k name short no. absurd (not_both s.refused why.Memory is no);
     }
     advances_step (Err v) is given quiet = record {
@@ -147,46 +121,44 @@ module _ {H : Type 0} (after : H → Item → Result H Why) (may : H → Item �
       still = λ e. absurd (omega arith);
       moved = λ p limit k name go none fits. absurd (not_both s.refused v none is);
       stopped = λ p limit k name w no ne fits.
-          let less : k < limit = omega arith in
           let same : v ≡ w = same_why s.refused v w is no in
-          let refused : part_taken after x.part h ≡ Err w = given (λ e. ne (sym same ∙ e)) ∙ ap Err same in
-          short_refused after p limit bytes m (after_stepped q.of q.functions (q.more - 1) x) (part_event x.part) name h k w some less (steps p) (part_err after x.part name (slice_index bytes 0) h w refused)
+          short_refused after p limit bytes (standing q) next (part_event x.part) name h k w some (omega arith) (steps p)
+          (part_err after x.part name (slice_index bytes 0) h w (given (λ e. ne (sym same ∙ e)) ∙ ap Err same))
           ∙ ap (λ i. Err (record { at = k + i; why = w })) (sym used);
-      live = λ none l. absurd (not_both s.refused v none is);
-      past_header = λ k go so. let f = far k so in (f.0, λ none. f.1);
-      room = λ p k name short no.
-          part_room may p m (after_stepped q.of q.functions (q.more - 1) x) x.part name h k (slice_index bytes 0) (steps p) (quiet (same_why s.refused v why.Memory is no));
+      live = λ none l r. r;
+      past_header = λ k go far. (omega arith, λ none. omega arith);
+      room = λ p k name short no. part_room may p (standing q) next x.part name h k (slice_index bytes 0) (steps p) (quiet (same_why s.refused v why.Memory is no));
     }
 
   -- whole ops
-  pub advances_ops : (bytes : List ℕ) (b : InBody) (m n : Machine) (h g : H) (s : Shortcut) (d room : ℕ) → m ≡ before_op b → room ≡ min b.more b.rest
-      → RanTo after h bytes room b.depth s.used d s.refused g → s.used ≤ length bytes → 0 < s.used → (length bytes ≤ 1 → s.used ≡ 0)
-      → n ≡ before_op (record b { more = b.more - s.used; rest = b.rest - s.used; depth = d }) → Advances after may bytes m h s n g
-  advances_ops bytes b m n h g s d room em er ran within some one en = record {
-    within = within;
-    still = λ e. absurd (omega arith);
-    moved = λ p limit k name go none fits.
-        moved_by after p limit bytes b m n name h g k s.used d room s.refused em er ran none fits some en;
-    stopped = λ p limit k name w is ne fits. refused_by after p limit bytes b m name h g k s.used d room s.refused w em er ran is fits ne;
-    live = λ none l. not_refused n (subst InSection (sym en) tt);
-    past_header = λ k go so. let f = goes_far m n k s.used (subst InSection (sym em) tt) (subst InSection (sym en) tt) some so in (f.0, λ none. f.1);
-    room = λ p k name short is. absurd (let none : s.used ≡ 0 = one short in omega arith);
-  }
+  pub advances_ops : (bytes : List ℕ) (b : InBody) (h g : H) (s : Shortcut) (d : ℕ) → RanTo after h bytes (min b.more b.rest) b.depth s.used d s.refused g
+      → s.used ≤ length bytes → 0 < s.used → (length bytes ≤ 1 → s.used ≡ 0)
+      → Advances after may bytes (before_op b) h s (before_op (record b { more = b.more - s.used; rest = b.rest - s.used; depth = d })) g
+  advances_ops bytes b h g s d ran within some one =
+      let so : (r : Option Why) → s.refused ≡ r → RanTo after h bytes (min b.more b.rest) b.depth s.used d r g = λ r e. subst (λ y. RanTo after h bytes (min b.more b.rest) b.depth s.used d y g) e ran in
+      record {
+        within = within;
+        still = λ e. absurd (omega arith);
+        moved = λ p limit k name go none fits. ran_decoded after p limit bytes b name h g k s.used d (so None none) fits some;
+        stopped = λ p limit k name w is ne fits. ran_refused after p limit bytes b name h g k s.used d w (so (Some w) is) fits ne;
+        live = λ none l r. r;
+        past_header = λ k go far. (omega arith, λ none. omega arith);
+        room = λ p k name short is. absurd (let none : s.used ≡ 0 = one short in omega arith);
+      }
 
   -- indices, of which there are two or more
-  pub advances_indices : (bytes : List ℕ) (i : InIndices) (m n : Machine) (h g : H) (s : Shortcut) (count : ℕ) → InFront bytes i count → 2 ≤ count → m ≡ before_index i
-      → GaveEach after (index_item_in i.list) (take count bytes) h s.used s.refused g → s.used ≤ count → n ≡ before_index (indices_after i s.used) → Advances after may bytes m h s n g
-  advances_indices bytes i m n h g s count front two em gave few en =
+  pub advances_indices : (bytes : List ℕ) (i : InIndices) (h g : H) (s : Shortcut) (count : ℕ) → InFront bytes i count → 2 ≤ count
+      → GaveEach after (index_item_in i.list) (take count bytes) h s.used s.refused g → s.used ≤ count → Advances after may bytes (before_index i) h s (before_index (indices_after i s.used)) g
+  advances_indices bytes i h g s count front two gave few =
       let inside : count ≤ length bytes = front.inside in
       let some : 0 < s.used = used_some s.used s.refused gave in
       record {
         within = omega arith;
         still = λ e. absurd (omega arith);
-        moved = λ p limit k name go none fits.
-            indices_moved after p limit bytes i m n count s.used name h g k s.refused front (omega arith) em gave none en fits;
-        stopped = λ p limit k name w is ne fits. indices_refused after p limit bytes i m count s.used name h g k s.refused w front em gave is fits ne;
-        live = λ none l. not_refused n (subst InSection (sym en) tt);
-        past_header = λ k go so. let f = goes_far m n k s.used (subst InSection (sym em) tt) (subst InSection (sym en) tt) some so in (f.0, λ none. f.1);
+        moved = λ p limit k name go none fits. indices_moved after p limit bytes i count s.used name h g k s.refused front (omega arith) gave none fits;
+        stopped = λ p limit k name w is ne fits. indices_refused after p limit bytes i count s.used name h g k s.refused w front gave is fits ne;
+        live = λ none l r. r;
+        past_header = λ k go far. (omega arith, λ none. omega arith);
         room = λ p k name short is. absurd (omega arith);
       }
     where
@@ -195,96 +167,92 @@ module _ {H : Type 0} (after : H → Item → Result H Why) (may : H → Item �
       used_some used (Some w) t = let last : used ≡ t.0 + 1 = t.2 in omega arith
 
   -- the bytes of a custom section
-  pub advances_pass : (bytes : List ℕ) (m n : Machine) (h : H) (s : Shortcut) (q : InCustom) (last f more : ℕ) → m ≡ machine.Custom last f more q → q ≡ custom.Skip
-      → s.used ≤ length bytes → s.used ≤ more → s.refused ≡ None → n ≡ machine.Custom last f (more - s.used) q → Advances after may bytes m h s n h
-  advances_pass bytes m n h s q last f more em eq within less none en = record {
+  pub advances_pass : (bytes : List ℕ) (h : H) (s : Shortcut) (last f more : ℕ) → s.used ≤ length bytes → s.used ≤ more → s.refused ≡ None
+      → Advances after may bytes (machine.Custom last f more custom.Skip) h s (machine.Custom last f (more - s.used) custom.Skip) h
+  advances_pass bytes h s last f more within less none = record {
     within = within;
-    still = λ e. let same : more - s.used ≡ more = omega arith in (none, en ∙ (ap (λ i. machine.Custom last f i q) same ∙ sym em), refl);
-    moved = λ p limit k name go is fits. skipped_by after p limit bytes m n q last f more s.used name h k em eq en within less go fits;
+    still = λ e. (none, ap (λ i. machine.Custom last f i custom.Skip) (omega arith), refl);
+    moved = λ p limit k name go is fits. skips after p limit bytes last f more s.used name h k within less go fits;
     stopped = λ p limit k name w is ne fits. absurd (not_both s.refused w none is);
-    live = λ is l. not_refused n (subst InSection (sym en) tt);
-    past_header = λ k go so. let f = goes_far m n k s.used (subst InSection (sym em) tt) (subst InSection (sym en) tt) go so in (f.0, λ is. f.1);
+    live = λ is l r. r;
+    past_header = λ k go far. (omega arith, λ is. omega arith);
     room = λ p k name short is. absurd (not_both s.refused why.Memory none is);
   }
 
   -- the bytes of a data segment
-  module _ (bytes : List ℕ) (m n : Machine) (h g : H) (s : Shortcut) (q : InMember) (of : SectionKind) (f left more rest : ℕ)
-      (em : m ≡ machine.Section of f more left q) (eq : q ≡ at.Data rest) where
-    stands : m ≡ machine.Section of f more left (at.Data rest)
-    stands = em ∙ ap (machine.Section of f more left) eq
+  module _ (bytes : List ℕ) (h g : H) (s : Shortcut) (of : SectionKind) (f left more rest : ℕ) where
+    abbrev pub stands : Machine
+    stands = machine.Section of f more left (at.Data rest)
 
     -- for one of which memory ran out
-    pub advances_memory : 0 < s.used → s.used ≤ length bytes → s.refused ≡ Some why.Memory → (length bytes ≡ 1 → may h (data_byte (slice_index bytes 0))) → Advances after may bytes m h s n g
-    advances_memory some within out quiet = record {
+    advances_memory : (n : Machine) → 0 < s.used → s.used ≤ length bytes → s.refused ≡ Some why.Memory → (length bytes ≡ 1 → may h (data_byte (slice_index bytes 0))) → Advances after may bytes stands h s n g
+    advances_memory n some within out quiet = record {
       within = within;
       still = λ e. absurd (omega arith);
       moved = λ p limit k name go none fits. absurd (not_both s.refused why.Memory none out);
       stopped = λ p limit k name w is ne fits. absurd (ne (same_why s.refused w why.Memory is out));
       live = λ none l. absurd (not_both s.refused why.Memory none out);
-      past_header = λ k go so.
-          let far : 8 ≤ k = past_header m k (subst InSection (sym em) tt) so in
-          (omega arith, λ none. absurd (not_both s.refused why.Memory none out));
-      room = λ p k name short is.
-          inl (subst (λ y. MayRunOutAtEvent may (step_of p y (slice_index bytes 0)).1 name (slice_index bytes 0) h) (sym stands) (quiet (omega arith)));
+      past_header = λ k go far. (omega arith, λ none. absurd (not_both s.refused why.Memory none out));
+      room = λ p k name short is. inl (quiet (omega arith));
     }
 
     -- not the last of them
-    pub advances_data : {U : Type 0} (r : Result U Why) → 0 < s.used → s.used ≡ length bytes → s.used ≤ more → s.used ≤ rest → n ≡ machine.Section of f (more - s.used) left (at.Data (rest - s.used)) → s.refused ≡ refusal_in r
+    pub advances_data : {U : Type 0} (r : Result U Why) → 0 < s.used → s.used ≡ length bytes → s.used ≤ more → s.used ≤ rest → s.refused ≡ refusal_in r
         → MatchResult r (λ u. all_taken after h (map data_byte bytes) ≡ Ok g) (λ w. w ≡ why.Memory) → (length bytes ≡ 1 → IfErr r (λ w. w ≡ why.Memory → may h (data_byte (slice_index bytes 0))))
-        → Advances after may bytes m h s n g
-    advances_data (Ok u) some all less fewer en is given quiet =
-        let whole : all_taken after h (map data_byte (take s.used bytes)) ≡ Ok g =
-        ap (λ (y : List ℕ). all_taken after h (map data_byte y)) (ap (λ i. take i bytes) all ∙ take-length bytes) ∙ given in
+        → Advances after may bytes stands h s (machine.Section of f (more - s.used) left (at.Data (rest - s.used))) g
+    advances_data (Ok u) some all less fewer is given quiet =
+        let whole : all_taken after h (map data_byte (take s.used bytes)) ≡ Ok g = ap (λ (y : List ℕ). all_taken after h (map data_byte y)) (ap (λ i. take i bytes) all ∙ take-length bytes) ∙ given in
         record {
           within = omega arith;
           still = λ e. absurd (omega arith);
-          moved = λ p limit k name go none fits.
-              data_decoded after p limit bytes m n q of f left more rest s.used name h g k em eq en (omega arith) less fewer some fits whole;
+          moved = λ p limit k name go none fits. data_decoded after p limit bytes of f left more rest s.used name h g k (omega arith) less fewer some fits whole;
           stopped = λ p limit k name w no ne fits. absurd (not_both s.refused w is no);
-          live = λ none l. not_refused n (subst InSection (sym en) tt);
-          past_header = λ k go so. let f = goes_far m n k s.used (subst InSection (sym em) tt) (subst InSection (sym en) tt) go so in (f.0, λ none. f.1);
+          live = λ none l r. r;
+          past_header = λ k go far. (omega arith, λ none. omega arith);
           room = λ p k name short no. absurd (not_both s.refused why.Memory is no);
         }
-    advances_data (Err v) some all less fewer en is given quiet =
-        advances_memory some (omega arith) (is ∙ ap Some given) (λ one. quiet one given)
+    advances_data (Err v) some all less fewer is given quiet = advances_memory _ some (omega arith) (is ∙ ap Some given) (λ one. quiet one given)
 
-    -- the last of them, which the machine takes or refuses
-    pub advances_data_end : (used : ℕ) → s.used ≡ used + 1 → used < length bytes → used ≤ more → used ≤ rest → n ≡ machine_in_member of f (more - used) left (data_or_over (rest - used))
-        → s.refused ≡ refusal_in_machine n → all_taken after h (map data_byte (take (used + 1) bytes)) ≡ Ok g → Advances after may bytes m h s n g
-    advances_data_end used eu inside less fewer en is given = record {
+    -- the last of them, where memory ran out
+    pub advances_data_out : (n : Machine) (used : ℕ) (w : Why) → s.used ≡ used + 1 → used < length bytes → s.refused ≡ Some w → w ≡ why.Memory
+        → (length (take (used + 1) bytes) ≡ 1 → may h (data_byte (slice_index (take (used + 1) bytes) 0))) → Advances after may bytes stands h s n g
+    advances_data_out n used w eu inside is out quiet =
+        advances_memory n (omega arith) (omega arith) (is ∙ ap Some out) (λ one.
+        let front : length (take (used + 1) bytes) ≡ 1 = omega (arith, length-take (used + 1) bytes) in
+        let first : slice_index (take (used + 1) bytes) 0 ≡ slice_index bytes 0 = get_or-take (used + 1) bytes 0 0 (omega arith) in
+        subst (λ c. may h (data_byte c)) first (quiet front))
+
+    -- and where the machine takes it or refuses
+    abbrev pub ended : ℕ → Machine
+    ended used = machine_in_member of f (more - used) left (data_or_over (rest - used))
+
+    pub advances_data_end : (used : ℕ) → s.used ≡ used + 1 → used < length bytes → used ≤ more → used ≤ rest
+        → s.refused ≡ refusal_in_machine (ended used) → all_taken after h (map data_byte (take (used + 1) bytes)) ≡ Ok g
+        → Advances after may bytes stands h s (ended used) g
+    advances_data_end used eu inside less fewer is given = record {
       within = omega arith;
       still = λ e. absurd (omega arith);
       moved = λ p limit k name go none fits.
-          ended p limit k name fits
-          ∙ (ap (λ y. and_then y (λ x. decoder_after after p limit x (drop (used + 1) bytes))) (goes_on n [] g (k + s.used) (sym is ∙ none))
-          ∙ ap (λ i. decoder_after after p limit (live_so n [] g (k + s.used)) (drop i bytes)) (sym eu));
+          decoded p limit k name fits
+          ∙ (ap (λ y. and_then y (λ x. decoder_after after p limit x (drop (used + 1) bytes))) (goes_on (ended used) [] g (k + s.used) (sym is ∙ none))
+          ∙ ap (λ i. decoder_after after p limit (live_so (ended used) [] g (k + s.used)) (drop i bytes)) (sym eu));
       stopped = λ p limit k name w no ne fits.
-          ended p limit k name fits
-          ∙ ap (λ y. and_then y (λ x. decoder_after after p limit x (drop (used + 1) bytes))) (stops n [] g (k + s.used) w (sym is ∙ no));
-      live = λ none l. still_live n (sym is ∙ none);
-      past_header = λ k go so.
-          let far : 8 ≤ k = past_header m k (subst InSection (sym em) tt) so in
+          decoded p limit k name fits ∙ ap (λ y. and_then y (λ x. decoder_after after p limit x (drop (used + 1) bytes))) (stops (ended used) [] g (k + s.used) w (sym is ∙ no));
+      live = λ none l. still_live (ended used) (sym is ∙ none);
+      past_header = λ k go far.
           let farther : 8 ≤ k + used = omega arith in
-          let place : k + used + 1 ≡ k + s.used = omega arith in (
-            omega arith,
-            λ none. subst (λ y. IsAt y (k + s.used)) (sym en) (subst (IsAt (machine_in_member of f (more - used) left (data_or_over (rest - used)))) place
-                (stays profile.One (machine.Section of f (more - used) left (at.Data (rest - used))) 0 (k + used) farther)),
-          );
+          let place : k + used + 1 ≡ k + s.used = omega arith in
+          (omega arith, λ none. subst (IsAt (ended used)) place (stays profile.One (machine.Section of f (more - used) left (at.Data (rest - used))) 0 (k + used) farther));
       room = λ p k name short out.
-          let none : used ≡ 0 = omega arith in
-          let all : more - used ≡ more = omega arith in
-          let each : rest - used ≡ rest = omega arith in
-          inr (ap (λ y. (step_of p y (slice_index bytes 0)).0) stands
-          ∙ (ap (λ i. machine_in_member of f i left (data_or_over rest)) (sym all)
-          ∙ (ap (λ i. machine_in_member of f (more - used) left (data_or_over i)) (sym each)
-          ∙ (sym en ∙ is_refused n why.Memory (sym is ∙ out)))));
+          let all : more ≡ more - used = omega arith in
+          let each : rest ≡ rest - used = omega arith in
+          inr (ap (λ i. machine_in_member of f i left (data_or_over rest)) all
+          ∙ (ap (λ i. machine_in_member of f (more - used) left (data_or_over i)) each ∙ is_refused (ended used) why.Memory (sym is ∙ out)));
     }
       where
-        ended : (p : Profile) (limit k : ℕ) (name : List ℕ) → k + length bytes ≤ limit
-            → decoder_after after p limit (live_so m name h k) bytes ≡ and_then (live_or_refused n [] g (k + s.used)) (λ x. decoder_after after p limit x (drop (used + 1) bytes))
-        ended p limit k name fits =
-            let place : k + s.used ≡ k + (used + 1) = omega arith in
-            data_ended after p limit bytes m n q of f left more rest used name h g k (k + s.used) em eq en place inside less fewer fits given
+        decoded : (p : Profile) (limit k : ℕ) (name : List ℕ) → k + length bytes ≤ limit
+            → decoder_after after p limit (live_so stands name h k) bytes ≡ and_then (live_or_refused (ended used) [] g (k + s.used)) (λ x. decoder_after after p limit x (drop (used + 1) bytes))
+        decoded p limit k name fits = data_ended after p limit bytes of f left more rest used name h g k (k + s.used) (omega arith) inside less fewer fits given
 
         still_live : (n : Machine) → refusal_in_machine n ≡ None → IsRefused n → ⊥
         still_live (machine.Refused w) e r = cc
@@ -293,15 +261,6 @@ module _ {H : Type 0} (after : H → Item → Result H Why) (may : H → Item �
         is_refused : (n : Machine) (w : Why) → refusal_in_machine n ≡ Some w → n ≡ machine.Refused w
         is_refused (machine.Refused v) w e = let same : v ≡ w = cc in ap machine.Refused same
         is_refused n w e = cc
-
-    -- the same, where memory ran out
-    pub advances_data_out : (used : ℕ) (w : Why) → s.used ≡ used + 1 → used < length bytes → s.refused ≡ Some w → w ≡ why.Memory
-        → (length (take (used + 1) bytes) ≡ 1 → may h (data_byte (slice_index (take (used + 1) bytes) 0))) → Advances after may bytes m h s n g
-    advances_data_out used w eu inside is out quiet =
-        advances_memory (omega arith) (omega arith) (is ∙ ap Some out) (λ one.
-        let front : length (take (used + 1) bytes) ≡ 1 = omega (arith, length-take (used + 1) bytes) in
-        let first : slice_index (take (used + 1) bytes) 0 ≡ slice_index bytes 0 = get_or-take (used + 1) bytes 0 0 (omega arith) in
-        subst (λ c. may h (data_byte c)) first (quiet front))
 
 -- a shortcut in a piece, from a place on
 module _ {H : Type 0} (after : H → Item → Result H Why) (may : H → Item → Type 0) (piece : List ℕ) (i : ℕ) (m n : Machine) (h g : H) (s : Shortcut)

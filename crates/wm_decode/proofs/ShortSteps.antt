@@ -65,14 +65,13 @@ module _ {H : Type 0} (after : H → Item → Result H Why) (p : Profile) (limit
       ∙ (ap (λ y. and_then (cond y (live_from (step_of p m (slice_index bytes 0)).0 (k + 1) (event_effect after (step_of p m (slice_index bytes 0)).1 name (slice_index bytes 0) h)) (Err (record { at = limit + 1; why = why.TooLong }))) (λ l. decoder_after after p limit l (drop 1 bytes))) (lt-ltb k limit less)
       ∙ ap (λ y. and_then (live_from y.0 (k + 1) (event_effect after y.1 name (slice_index bytes 0) h)) (λ l. decoder_after after p limit l (drop 1 bytes))) step)
 
-  pub short_moved : (bytes : List ℕ) (m n : Machine) (of : SectionKind) (f more left : ℕ) (q : InMember) (e : Event) (name : List ℕ) (h g : H) (k : ℕ)
-      → 0 < length bytes → k < limit → n ≡ machine.Section of f more left q → step_of p m (slice_index bytes 0) ≡ (machine.Section of f more left q, e)
+  pub short_moved : (bytes : List ℕ) (m : Machine) (of : SectionKind) (f more left : ℕ) (q : InMember) (e : Event) (name : List ℕ) (h g : H) (k : ℕ)
+      → 0 < length bytes → k < limit → step_of p m (slice_index bytes 0) ≡ (machine.Section of f more left q, e)
       → event_effect after e name (slice_index bytes 0) h ≡ Ok ([], g)
-      → decoder_after after p limit (live_so m name h k) bytes ≡ decoder_after after p limit (live_so n [] g (k + 1)) (drop 1 bytes)
-  short_moved bytes m n of f more left q e name h g k some less en step given =
+      → decoder_after after p limit (live_so m name h k) bytes ≡ decoder_after after p limit (live_so (machine.Section of f more left q) [] g (k + 1)) (drop 1 bytes)
+  short_moved bytes m of f more left q e name h g k some less step given =
       first_step bytes m (machine.Section of f more left q) e name h k some less step
-      ∙ (ap (λ y. and_then (live_from (machine.Section of f more left q) (k + 1) y) (λ l. decoder_after after p limit l (drop 1 bytes))) given
-      ∙ ap (λ y. decoder_after after p limit (live_so y [] g (k + 1)) (drop 1 bytes)) (sym en))
+      ∙ ap (λ y. and_then (live_from (machine.Section of f more left q) (k + 1) y) (λ l. decoder_after after p limit l (drop 1 bytes))) given
 
   pub short_refused : (bytes : List ℕ) (m n : Machine) (e : Event) (name : List ℕ) (h : H) (k : ℕ) (w : Why)
       → 0 < length bytes → k < limit → step_of p m (slice_index bytes 0) ≡ (n, e)

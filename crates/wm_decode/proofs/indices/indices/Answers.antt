@@ -1,6 +1,6 @@
 use Rattle.std.proofs.Common.{List, ℕ, arith, length-take}
 use Rattle.wm_decode.proofs.IndexBytes.{InFront, in_front}
-use Rattle.wm_decode.proofs.Advances.{advances_indices}
+use Rattle.wm_decode.proofs.Advances.{advances_by, advances_indices}
 use Rattle.wm_decode.proofs.indices.indices.Goals as goal
 
 pub returns : goal.returns
@@ -12,5 +12,5 @@ returns g c =
     let count : ℕ = c.short_front-count.result in
     let given = c.give_indices-given.result in
     let front : InFront bytes i count = in_front bytes i count most c.in-Some.ensures.of c.short_front-count.ensures.value c.short_front-count.ensures.within (omega (arith, c.most.ensures)) in
-    advances_indices g.S.Sink.after g.S.Sink.may_run_out bytes i c.args.machine.now c.after.result (held c.args.sink.now) (held c.give_indices-given.new.sink) given count
-    front (omega arith) c.in-Some.ensures.machine c.give_indices-given.ensures.given (omega (arith, length-take count bytes)) c.after.ensures
+    advances_by g.S.Sink.after g.S.Sink.may_run_out _ _ _ _ _ _ _ _ c.in-Some.ensures.machine c.after.ensures
+    (advances_indices g.S.Sink.after g.S.Sink.may_run_out bytes i (held c.args.sink.now) (held c.give_indices-given.new.sink) given count front (omega arith) c.give_indices-given.ensures.given (omega (arith, length-take count bytes)))

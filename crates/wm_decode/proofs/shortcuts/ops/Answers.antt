@@ -1,5 +1,6 @@
-use Rattle.std.proofs.Common.{◌≡◌, min, arith, rules, refl, sym}
-use Rattle.wm_decode.proofs.Advances.{advances_idle, advances_ops}
+use Rattle.std.proofs.Common.{◌≡◌, min, arith, rules, subst, sym}
+use Rattle.wm_decode.specs.exact.WholeOps.{RanTo}
+use Rattle.wm_decode.proofs.Advances.{advances_by, advances_idle, advances_ops}
 use Rattle.wm_decode.proofs.WholeOps.{none_ran}
 use Rattle.wm_decode.proofs.shortcuts.ops.Goals as goal
 
@@ -15,5 +16,7 @@ returns g c =
     let held = g.S.Sink.held in
     let ran = c.take_ops-ran.result in
     let least : c.min-room.result ≡ min c.in-Some.body.more c.in-Some.body.rest = search rules in
-    advances_ops g.S.Sink.after g.S.Sink.may_run_out c.args.bytes.now c.in-Some.body c.args.machine.now c.after.result (held c.args.sink.now) (held c.take_ops-ran.new.sink) _ ran.depth c.min-room.result
-    c.in-Some.ensures least c.take_ops-ran.ensures.ran c.take_ops-ran.ensures.inside (omega arith) c.take_ops-ran.ensures.one c.after.ensures
+    advances_by g.S.Sink.after g.S.Sink.may_run_out _ _ _ _ _ _ _ _ c.in-Some.ensures c.after.ensures
+    (advances_ops g.S.Sink.after g.S.Sink.may_run_out c.args.bytes.now c.in-Some.body (held c.args.sink.now) (held c.take_ops-ran.new.sink) _ ran.depth
+    (subst (λ n. RanTo g.S.Sink.after (held c.args.sink.now) c.args.bytes.now n c.in-Some.body.depth ran.used ran.depth ran.refused (held c.take_ops-ran.new.sink)) least c.take_ops-ran.ensures.ran)
+    c.take_ops-ran.ensures.inside (omega arith) c.take_ops-ran.ensures.one)
