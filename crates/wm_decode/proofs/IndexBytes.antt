@@ -166,18 +166,14 @@ pub record InFront (bytes : List ℕ) (i : InIndices) (count : ℕ) : Type 0 whe
   pub inside : count ≤ length bytes
 
 -- the same by what the code knows
-pub in_front : (piece cut : List ℕ) (i : InIndices) (start count most : ℕ) → LiesIn i.of i.list → cut ≡ take most (drop start piece) → count ≡ prefix_len is_short cut → count ≤ length cut → most ≤ most_indices i
-    → InFront (drop start piece) i count
-in_front piece cut i start count most lies is front size fewer =
-    let bytes : List ℕ = drop start piece in
-    let short : count ≡ prefix_len is_short (take most bytes) = front ∙ ap (prefix_len is_short) is in
-    let within : count ≤ length (take most bytes) = subst (λ (y : List ℕ). count ≤ length y) is size in
-    record {
-      lies = lies;
-      most = omega (arith, within, length-take most bytes);
-      short = omega (arith, short, front_of most bytes);
-      inside = omega (arith, within, length-take most bytes);
-    }
+pub in_front : (bytes : List ℕ) (i : InIndices) (count most : ℕ) → LiesIn i.of i.list → count ≡ prefix_len is_short (take most bytes) → count ≤ length (take most bytes) → most ≤ most_indices i
+    → InFront bytes i count
+in_front bytes i count most lies front size fewer = record {
+  lies = lies;
+  most = omega (arith, length-take most bytes);
+  short = omega (arith, front_of most bytes);
+  inside = omega (arith, length-take most bytes);
+}
 
 -- the indices that a sink took, and one that it refused
 module _ {H : Type 0} (after : H → Item → Result H Why) (p : Profile) (limit : ℕ) where
@@ -258,28 +254,23 @@ module _ {H : Type 0} (after : H → Item → Result H Why) (p : Profile) (limit
       one_step (before_index i) (before_index (ahead [] next)) (event.Complete (index_part next.list c)) name h k c less step
       ∙ ap (λ y. live_from (before_index (ahead [] next)) (k + 1) (and_then y (λ g. Ok ([], g)))) (ap (after h) (item_after i.list 1 c) ∙ refused)
 
-  pub indices_moved : (bytes : List ℕ) (i : InIndices) (m n : Machine) (count used : ℕ) (name left_name : List ℕ) (h g : H) (k l : ℕ) (r : Option Why)
-      → InFront bytes i count → 0 < count → m ≡ before_index i → GaveEach after (index_item_in i.list) (take count bytes) h used r g → r ≡ None
-      → n ≡ before_index (indices_after i used) → left_name ≡ [] → l ≡ k + used → k + length bytes ≤ limit
-      → decoder_after after p limit (record { machine = m; name = name; held = h; at = k }) bytes
-      ≡ decoder_after after p limit (record { machine = n; name = left_name; held = g; at = l }) (drop used bytes)
-  indices_moved bytes i m n count used name left_name h g k l r front some em given none en el ek room =
+  pub indices_moved : (bytes : List ℕ) (i : InIndices) (count used : ℕ) (name : List ℕ) (h g : H) (k : ℕ) (r : Option Why)
+      → InFront bytes i count → 0 < count → GaveEach after (index_item_in i.list) (take count bytes) h used r g → r ≡ None → k + length bytes ≤ limit
+      → decoder_after after p limit (standing_at i name h k) bytes ≡ decoder_after after p limit (standing_at (indices_after i used) [] g (k + used)) (drop used bytes)
+  indices_moved bytes i count used name h g k r front some given none room =
       let inside : count ≤ length bytes = front.inside in
       let gave : GaveEach after (index_item_in i.list) (take count bytes) h used None g = subst (λ y. GaveEach after (index_item_in i.list) (take count bytes) h used y g) none given in
       let all : used ≡ count = omega (arith, gave.0, length-take count bytes) in
       let s = front_steps bytes i count name h g k front.lies front.most front.short inside gave.1 room in
-      ap (λ z. decoder_after after p limit (record { machine = z; name = name; held = h; at = k }) bytes) em
-      ∙ (s.2
+      s.2
       ∙ (ap (λ z. decoder_after after p limit (standing_at (indices_after i z) s.0 g (k + z)) (drop z bytes)) (sym all)
-      ∙ (ap (λ (z : List ℕ). decoder_after after p limit (standing_at (indices_after i used) z g (k + used)) (drop used bytes)) (s.1 some ∙ sym el)
-      ∙ (ap (λ z. decoder_after after p limit (record { machine = z; name = left_name; held = g; at = k + used }) (drop used bytes)) (sym en)
-      ∙ ap (λ z. decoder_after after p limit (record { machine = n; name = left_name; held = g; at = z }) (drop used bytes)) (sym ek)))))
+      ∙ ap (λ (z : List ℕ). decoder_after after p limit (standing_at (indices_after i used) z g (k + used)) (drop used bytes)) (s.1 some))
 
-  pub indices_refused : (bytes : List ℕ) (i : InIndices) (m : Machine) (count used : ℕ) (name : List ℕ) (h g : H) (k l : ℕ) (r : Option Why) (w : Why)
-      → InFront bytes i count → m ≡ before_index i → GaveEach after (index_item_in i.list) (take count bytes) h used r g → r ≡ Some w
-      → l ≡ k + used → k + length bytes ≤ limit → w ≢ why.Memory
-      → decoder_after after p limit (record { machine = m; name = name; held = h; at = k }) bytes ≡ Err (record { at = l; why = w })
-  indices_refused bytes i m count used name h g k l r w front em given is ek room ne =
+  pub indices_refused : (bytes : List ℕ) (i : InIndices) (count used : ℕ) (name : List ℕ) (h g : H) (k : ℕ) (r : Option Why) (w : Why)
+      → InFront bytes i count → GaveEach after (index_item_in i.list) (take count bytes) h used r g → r ≡ Some w
+      → k + length bytes ≤ limit → w ≢ why.Memory
+      → decoder_after after p limit (standing_at i name h k) bytes ≡ Err (record { at = k + used; why = w })
+  indices_refused bytes i count used name h g k r w front given is room ne =
       let lies : LiesIn i.of i.list = front.lies in
       let most : count ≤ most_indices i = front.most in
       let short : count ≤ prefix_len is_short bytes = front.short in
@@ -292,11 +283,10 @@ module _ {H : Type 0} (after : H → Item → Result H Why) (p : Profile) (limit
       let refused : after gave.1 (index_item_in i.list (slice_index bytes j)) ≡ Err w =
       subst (λ y. after gave.1 (index_item_in i.list y) ≡ Err w) (get_or-take count bytes j 0 less) (gave.5 ne) in
       let s = front_steps bytes i j name h gave.1 k lies (omega arith) (omega arith) (omega arith) before room in
-      let last : k + j + 1 ≡ l = omega (arith, gave.2, ek) in
-      ap (λ z. decoder_after after p limit (record { machine = z; name = name; held = h; at = k }) bytes) em
-      ∙ (s.2
+      let last : k + j + 1 ≡ k + used = omega (arith, gave.2) in
+      s.2
       ∙ (ap (λ (z : List ℕ). decoder_after after p limit (standing_at (indices_after i j) s.0 gave.1 (k + j)) z) (drop_more bytes j 0 (omega arith))
       ∙ ap (λ y. and_then y (λ x. decoder_after after p limit x (drop (j + 1) bytes)))
       (refused_step (indices_after i j) (slice_index bytes j) s.0 gave.1 (k + j) w (omega arith) (lies_after i.of i.list j lies) (most_after i.more i.left i.list j (omega arith)) (short_at bytes j (omega arith))
       (ap (after gave.1) (item_after i.list j (slice_index bytes j)) ∙ refused)
-      ∙ ap (λ z. Err (record { at = z; why = w })) last)))
+      ∙ ap (λ z. Err (record { at = z; why = w })) last))

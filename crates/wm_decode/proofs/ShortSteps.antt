@@ -22,7 +22,6 @@ use Rattle.wm_decode.specs.declared.member.InEntry.TheVariants as entry
 use Rattle.wm_decode.specs.declared.expressions.InExpression.TheVariants as expression
 use Rattle.wm_decode.specs.declared.ops.InOp.{InOp}
 use Rattle.wm_decode.specs.declared.ops.InOp.TheVariants as in_op
-use Rattle.wm_decode.specs.declared.refusal.Refusal.{Refusal}
 use Rattle.wm_decode.specs.declared.short_steps.Stepped.{Stepped}
 use Rattle.wm_decode.specs.Items.{Item}
 use Rattle.wm_decode.specs.Sinks.{and_then}
@@ -30,7 +29,8 @@ use Rattle.wm_decode.specs.exact.Steps.{step_of, machine_in_member}
 use Rattle.wm_decode.specs.exact.MemberSteps.{member_in_entry, entry_after_op, op_event}
 use Rattle.wm_decode.specs.exact.ExpressionSteps.{after_reading}
 use Rattle.wm_decode.specs.exact.ShortSteps.{StepsTo, PartMayRunOut, part_event, part_taken}
-use Rattle.wm_decode.specs.exact.Live.{Live, MayRunOutAtByte, MayRunOutAtEvent, live_from, event_effect, decoder_after, ByteRefused}
+use Rattle.wm_decode.specs.exact.Live.{MayRunOutAtByte, MayRunOutAtEvent, live_from, event_effect, decoder_after}
+use Rattle.wm_decode.specs.exact.Shortcuts.{live_so}
 use Rattle.wm_decode.proofs.OpLists.{is_alone}
 
 -- the end of a body, where another entry comes after this one
@@ -54,42 +54,32 @@ last_steps (suc l) more depth c q r eq ec ed em less er = λ p f n.
     ∙ (ap (λ y. (machine.Section section_kind.Code f n y (at.EntrySize fresh), event.Complete (plain.BodyOp op.End))) one
     ∙ ap (λ y. (machine.Section section_kind.Code f n (suc l - 1) (at.EntrySize y), event.Complete (plain.BodyOp op.End))) (sym er))))))
 
--- one byte, after which the section goes on
+-- the first of some bytes, after which the section goes on
 module _ {H : Type 0} (after : H → Item → Result H Why) (p : Profile) (limit : ℕ) where
-  abbrev stands : Machine → List ℕ → H → ℕ → Live H
-  stands m name h k = record { machine = m; name = name; held = h; at = k }
+  first_step : (bytes : List ℕ) (m n : Machine) (e : Event) (name : List ℕ) (h : H) (k : ℕ) → 0 < length bytes → k < limit
+      → step_of p m (slice_index bytes 0) ≡ (n, e)
+      → decoder_after after p limit (live_so m name h k) bytes
+      ≡ and_then (live_from n (k + 1) (event_effect after e name (slice_index bytes 0) h)) (λ l. decoder_after after p limit l (drop 1 bytes))
+  first_step bytes m n e name h k some less step =
+      ap (λ (z : List ℕ). decoder_after after p limit (live_so m name h k) z) (drop_more bytes 0 0 some)
+      ∙ (ap (λ y. and_then (cond y (live_from (step_of p m (slice_index bytes 0)).0 (k + 1) (event_effect after (step_of p m (slice_index bytes 0)).1 name (slice_index bytes 0) h)) (Err (record { at = limit + 1; why = why.TooLong }))) (λ l. decoder_after after p limit l (drop 1 bytes))) (lt-ltb k limit less)
+      ∙ ap (λ y. and_then (live_from y.0 (k + 1) (event_effect after y.1 name (slice_index bytes 0) h)) (λ l. decoder_after after p limit l (drop 1 bytes))) step)
 
-  by_event : Machine → ℕ → Event → List ℕ → ℕ → H → Result (Live H) Refusal
-  by_event m k e name c h = live_from m (k + 1) (event_effect after e name c h)
+  pub short_moved : (bytes : List ℕ) (m : Machine) (of : SectionKind) (f more left : ℕ) (q : InMember) (e : Event) (name : List ℕ) (h g : H) (k : ℕ)
+      → 0 < length bytes → k < limit → step_of p m (slice_index bytes 0) ≡ (machine.Section of f more left q, e)
+      → event_effect after e name (slice_index bytes 0) h ≡ Ok ([], g)
+      → decoder_after after p limit (live_so m name h k) bytes ≡ decoder_after after p limit (live_so (machine.Section of f more left q) [] g (k + 1)) (drop 1 bytes)
+  short_moved bytes m of f more left q e name h g k some less step given =
+      first_step bytes m (machine.Section of f more left q) e name h k some less step
+      ∙ ap (λ y. and_then (live_from (machine.Section of f more left q) (k + 1) y) (λ l. decoder_after after p limit l (drop 1 bytes))) given
 
-  one_step : (bytes : List ℕ) (i : ℕ) (m n : Machine) (e : Event) (name : List ℕ) (h : H) (k : ℕ) → i < length bytes → k < limit
-      → step_of p m (slice_index bytes i) ≡ (n, e)
-      → decoder_after after p limit (stands m name h k) (drop i bytes)
-      ≡ and_then (live_from n (k + 1) (event_effect after e name (slice_index bytes i) h)) (λ l. decoder_after after p limit l (drop (i + 1) bytes))
-  one_step bytes i m n e name h k inside less step =
-      ap (λ (z : List ℕ). decoder_after after p limit (stands m name h k) z) (drop_more bytes i 0 inside)
-      ∙ (ap (λ y. and_then (cond y (live_from (step_of p m (slice_index bytes i)).0 (k + 1) (event_effect after (step_of p m (slice_index bytes i)).1 name (slice_index bytes i) h)) (Err (record { at = limit + 1; why = why.TooLong }))) (λ l. decoder_after after p limit l (drop (i + 1) bytes))) (lt-ltb k limit less)
-      ∙ ap (λ y. and_then (live_from y.0 (k + 1) (event_effect after y.1 name (slice_index bytes i) h)) (λ l. decoder_after after p limit l (drop (i + 1) bytes))) step)
-
-  pub short_moved : (bytes : List ℕ) (i : ℕ) (m n : Machine) (of : SectionKind) (f more left : ℕ) (q : InMember) (e : Event) (name left_name : List ℕ) (h g : H) (k l : ℕ)
-      → i < length bytes → k < limit → n ≡ machine.Section of f more left q → step_of p m (slice_index bytes i) ≡ (machine.Section of f more left q, e)
-      → event_effect after e name (slice_index bytes i) h ≡ Ok ([], g) → left_name ≡ [] → l ≡ k + 1
-      → decoder_after after p limit (stands m name h k) (drop i bytes) ≡ decoder_after after p limit (stands n left_name g l) (drop (i + 1) bytes)
-  short_moved bytes i m n of f more left q e name left_name h g k l inside less en step given el ek =
-      one_step bytes i m (machine.Section of f more left q) e name h k inside less step
-      ∙ (ap (λ y. and_then (live_from (machine.Section of f more left q) (k + 1) y) (λ l. decoder_after after p limit l (drop (i + 1) bytes))) given
-      ∙ (ap (λ y. decoder_after after p limit (stands y [] g (k + 1)) (drop (i + 1) bytes)) (sym en)
-      ∙ (ap (λ (y : List ℕ). decoder_after after p limit (stands n y g (k + 1)) (drop (i + 1) bytes)) (sym el)
-      ∙ ap (λ y. decoder_after after p limit (stands n left_name g y) (drop (i + 1) bytes)) (sym ek))))
-
-  pub short_refused : (bytes : List ℕ) (i : ℕ) (m n : Machine) (e : Event) (name : List ℕ) (h : H) (k l : ℕ) (w : Why)
-      → i < length bytes → k < limit → step_of p m (slice_index bytes i) ≡ (n, e)
-      → event_effect after e name (slice_index bytes i) h ≡ Err w → l ≡ k + 1
-      → decoder_after after p limit (stands m name h k) (drop i bytes) ≡ Err (record { at = l; why = w })
-  short_refused bytes i m n e name h k l w inside less step refused ek =
-      one_step bytes i m n e name h k inside less step
-      ∙ (ap (λ y. and_then (live_from n (k + 1) y) (λ l. decoder_after after p limit l (drop (i + 1) bytes))) refused
-      ∙ ap (λ y. Err (record { at = y; why = w })) (sym ek))
+  pub short_refused : (bytes : List ℕ) (m n : Machine) (e : Event) (name : List ℕ) (h : H) (k : ℕ) (w : Why)
+      → 0 < length bytes → k < limit → step_of p m (slice_index bytes 0) ≡ (n, e)
+      → event_effect after e name (slice_index bytes 0) h ≡ Err w
+      → decoder_after after p limit (live_so m name h k) bytes ≡ Err (record { at = k + 1; why = w })
+  short_refused bytes m n e name h k w some less step refused =
+      first_step bytes m n e name h k some less step
+      ∙ ap (λ y. and_then (live_from n (k + 1) y) (λ l. decoder_after after p limit l (drop 1 bytes))) refused
 
 -- what was completed, as an event
 pub part_ok : {H : Type 0} (after : H → Item → Result H Why) (part : Option Plain) (name : List ℕ) (c : ℕ) (h g : H) → part_taken after part h ≡ Ok g → event_effect after (part_event part) name c h ≡ Ok ([], g)
@@ -101,19 +91,12 @@ part_err after (Some x) name c h w refused = ap (λ y. and_then y (λ g. Ok ([],
 part_err after None name c h w refused = cc
 
 pub part_room : {H : Type 0} (may : H → Item → Type 0) (p : Profile) (m n : Machine) (part : Option Plain) (name : List ℕ) (h : H) (k c : ℕ)
-    → step_of p m c ≡ (n, part_event part) → PartMayRunOut may part h → MayRunOutAtByte may p (record { machine = m; name = name; held = h; at = k }) c
+    → step_of p m c ≡ (n, part_event part) → PartMayRunOut may part h → MayRunOutAtByte may p (live_so m name h k) c
 part_room may p m n part name h k c step room = inl (subst (λ y. MayRunOutAtEvent may y.1 name c h) (sym step) (at_event part room))
   where
     at_event : (part : Option Plain) → PartMayRunOut may part h → MayRunOutAtEvent may (part_event part) name c h
     at_event (Some x) r = r
     at_event None r = absurd r
-
--- a step after another
-pub moved_later : {H : Type 0} (x y z : Result (Live H) Refusal) → x ≡ y → y ≡ z → x ≡ z
-moved_later x y z a b = a ∙ b
-
-pub refused_later : {H : Type 0} (x y : Result (Live H) Refusal) (r : Refusal) (s : Result (Live H) Refusal) → x ≡ y → ByteRefused y r s → ByteRefused x r s
-refused_later x y r s a b = record { as_expected = λ ne. a ∙ b.as_expected ne; standing = b.standing }
 
 -- the same place, by what is known of it
 pub steps_so : (of kind : SectionKind) (left : ℕ) (q r : InMember) (c : ℕ) (s : Stepped) → of ≡ kind → q ≡ r → StepsTo kind left r c s → StepsTo of left q c s

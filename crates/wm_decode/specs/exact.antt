@@ -8,6 +8,7 @@ pub mod OpSteps
 pub mod Readings
 pub mod Runs
 pub mod ShortSteps
+pub mod Shortcuts
 pub mod Steps
 pub mod TwoSinks
 pub mod ValueSteps

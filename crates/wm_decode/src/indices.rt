@@ -2,16 +2,17 @@
 //!
 //! The last of a list, one that is longer, and what is refused for its bytes are left to the byte step.
 
-ghost use Rattle.std.specs.Prelude.{◌≡◌, ◌≤◌, ◌<◌, ◌^◌, IfSome, length};
+ghost use Rattle.std.specs.Prelude.{◌≡◌, ◌≤◌, IfSome, length};
+ghost use Rattle.wm_decode.specs.exact.Shortcuts.{Advances};
 ghost use Rattle.wm_decode.specs.exact.Indices.{GaveEach, LiesIn, at_index, before_index, index_item_in, indices_after, most_indices};
 
 use crate::expressions::InExpression;
 use crate::machine::Machine;
 use crate::member::{InEntry, InMember, IndexOf, SectionKind};
 use crate::names::give_index;
+use crate::shortcuts::{Shortcut, at_most};
 use crate::sink::Sink;
-use wm_syntax::numbers::Num32;
-use wm_syntax::why::Why;
+use wm_syntax::numbers::{Num32, short_front};
 
 /// Of what the next index is.
 #[derive(Clone, Copy)]
@@ -34,14 +35,6 @@ pub(crate) struct InIndices {
     pub(crate) more: u32,
     pub(crate) left: u32,
     pub(crate) list: IndexList,
-}
-
-/// What came of indices that were given to a sink.
-#[derive(Clone, Copy)]
-pub(crate) struct Given {
-    /// How many, with the one that the sink refused.
-    pub(crate) used: u32,
-    pub(crate) refused: Option<Why>,
 }
 
 // Before a label of a br_table
@@ -201,23 +194,41 @@ impl InIndices {
     }
 }
 
-/// Gives a sink the index that each of these bytes is, up to one that it refuses.
-pub(crate) fn give_indices<S: Sink>(sink: &mut S, list: IndexList, bytes: &[u8]) -> Given
-    requires { length bytes.now < 2 ^ 32 }
+// Gives a sink the index that each of these bytes is, up to one that it refuses
+fn give_indices<S: Sink>(sink: &mut S, list: IndexList, bytes: &[u8]) -> Shortcut
     ensures within { result.used ≤ length bytes.now }
     ensures given { GaveEach S.after (index_item_in list) bytes.now (S.held sink.old) result.used result.refused
         (S.held sink.new) }
 {
     for (i, byte) in bytes.iter().enumerate() {
         if let Err(why) = give_index(sink, list, u32::from(*byte)) {
-            return Given {
-                used: i as u32 + 1,
+            return Shortcut {
+                used: i + 1,
                 refused: Some(why),
             };
         }
     }
-    Given {
-        used: bytes.len() as u32,
+    Shortcut {
+        used: bytes.len(),
         refused: None,
     }
+}
+
+/// Takes the indices of one byte each at the front of these bytes, but the last of their list, where there are two or
+/// more.
+#[tactic(auto, using(crate::proofs::Advances::advances_none))]
+pub(crate) fn indices<S: Sink>(sink: &mut S, machine: &mut Machine, bytes: &[u8]) -> Shortcut
+    ensures { Advances S.after S.may_run_out bytes.now machine.old (S.held sink.old) result machine.new (S.held sink.new) }
+{
+    let Some(before) = InIndices::of(*machine) else {
+        return Shortcut::none();
+    };
+    let most = at_most(before.most(), bytes.len());
+    let count = short_front(&bytes[..most as usize]);
+    if count < 2 {
+        return Shortcut::none();
+    }
+    let given = give_indices(sink, before.list, &bytes[..count]);
+    *machine = before.after(given.used as u32);
+    given
 }

@@ -3,6 +3,7 @@
 ghost use Rattle.std.specs.Prelude.{◌≡◌, ◌∷◌, []};
 ghost use Rattle.wm_decode.specs.Sinks.{items_for};
 ghost use Rattle.wm_decode.specs.exact.Runs.{plain_item};
+ghost use Rattle.wm_decode.specs.exact.Live.{refusal_in_machine};
 
 use crate::item::Item;
 use crate::member::{InMember, SectionKind};
@@ -145,6 +146,16 @@ pub(crate) enum Machine {
         at: InMember,
     },
     Refused(Why),
+}
+
+/// Why it refused, if it did.
+pub(crate) fn refusal_of(machine: Machine) -> Option<Why>
+    ensures { result ≡ refusal_in_machine machine }
+{
+    match machine {
+        Machine::Refused(why) => Some(why),
+        _ => None,
+    }
 }
 
 /// What a byte completes.

@@ -221,7 +221,8 @@ fn constant(profile: Profile, of: ConstantOf, at: InExpression, byte: u8) -> (In
     (after_constant(of, next), event)
 }
 
-fn data_or_over(left: u32) -> InMember
+/// In a data segment, with so many bytes of it left, or after it.
+pub(crate) fn data_or_over(left: u32) -> InMember
     ensures { result ≡ data_or_over left }
 {
     if left == 0 {

@@ -74,8 +74,14 @@ fn custom_framed(last: u8, functions: u32, left: u32, part: InCustom) -> Machine
     }
 }
 
-// The machine at a place in a member, with so many bytes of the section left and so many members after this
-fn framed(of: SectionKind, functions: u32, bytes: u32, left: u32, at: InMember) -> Machine
+/// The machine at a place in a member, with so many bytes of the section left and so many members after this.
+pub(crate) fn framed(
+    of: SectionKind,
+    functions: u32,
+    bytes: u32,
+    left: u32,
+    at: InMember,
+) -> Machine
     ensures { result ≡ machine_in_member of functions bytes left at }
 {
     let (left, at) = match at {

@@ -3,10 +3,10 @@ use Rattle.wm_decode.specs.declared.member.SectionKind.TheVariants.{Code}
 use Rattle.wm_decode.specs.declared.member.InMember.TheVariants.{EntrySize}
 use Rattle.wm_decode.specs.exact.ShortSteps.{StepsTo}
 use Rattle.wm_decode.proofs.ShortSteps.{steps_so}
-use Rattle.wm_decode.proofs.state.Decoder.entry_size.Goals as goal
+use Rattle.wm_decode.proofs.short_bytes.entry_size.Goals as goal
 
 pub stepped_twice-requires-clause-first : goal.stepped_twice-requires-clause-first
 stepped_twice-requires-clause-first g c =
     let q = c.args.place in
-    steps_so q.of Code q.left q.at (EntrySize c.args.number) (slice_index c.args.piece.now c.args.i) c.in-Some.first c.requires.of c.requires.stands
-    (subst (λ y. IfSome y (λ p. StepsTo Code q.left (EntrySize c.args.number) (slice_index c.args.piece.now c.args.i) p.0)) c.in-Some.is c.long_size.ensures.first)
+    steps_so q.of Code q.left q.at (EntrySize c.args.number) (slice_index c.args.bytes.now 0) c.in-Some.first c.requires.of c.requires.stands
+    (subst (λ y. IfSome y (λ p. StepsTo Code q.left (EntrySize c.args.number) (slice_index c.args.bytes.now 0) p.0)) c.in-Some.is c.long_size.ensures.first)

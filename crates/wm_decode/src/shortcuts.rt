@@ -1,0 +1,229 @@
+//! Shortcuts: bytes that are taken at once, as the byte step takes them one by one.
+//!
+//! Each finds for itself whether it can be taken. It moves the machine and gives the sink what the bytes complete; the
+//! decoder does the rest.
+
+ghost use Rattle.std.specs.Prelude.{◌≡◌, ◌<◌, None, length, min};
+ghost use Rattle.wm_decode.specs.exact.Shortcuts.{Advances, refusal_in};
+
+use crate::expressions::InExpression;
+use crate::in_body::InBody;
+use crate::indices::indices;
+use crate::machine::{InCustom, Machine, refusal_of};
+use crate::member::{InEntry, InMember, SectionKind};
+use crate::member_step::data_or_over;
+use crate::names::give_bytes;
+use crate::short_bytes::short;
+use crate::sink::Sink;
+use crate::step::framed;
+use crate::whole_ops::take_ops;
+use wm_syntax::why::Why;
+
+/// What a shortcut did.
+#[derive(Clone, Copy)]
+pub(crate) struct Shortcut {
+    /// How many bytes it took, with one that was refused: none where it cannot be taken.
+    pub(crate) used: usize,
+    /// Why the last of them was refused, if it was.
+    pub(crate) refused: Option<Why>,
+}
+
+impl Shortcut {
+    /// Where it cannot be taken.
+    #[inline(always)]
+    pub(crate) fn none() -> Shortcut
+        ensures used { result.used ≡ 0 }
+        ensures refused { result.refused ≡ None }
+    {
+        Shortcut {
+            used: 0,
+            refused: None,
+        }
+    }
+
+    /// Of so many bytes, the last of which the sink took or refused.
+    #[inline(always)]
+    pub(crate) fn given(used: usize, given: Result<(), Why>) -> Shortcut
+        ensures used { result.used ≡ used }
+        ensures refused { result.refused ≡ refusal_in given }
+    {
+        match given {
+            Ok(()) => Shortcut {
+                used,
+                refused: None,
+            },
+            Err(why) => Shortcut {
+                used,
+                refused: Some(why),
+            },
+        }
+    }
+}
+
+/// The less of a count and a length.
+pub(crate) fn at_most(count: u32, len: usize) -> u32
+    ensures { result ≡ min count len }
+{
+    (count as usize).min(len) as u32
+}
+
+/// Which shortcut there may be from a state. Nothing but time rests on this.
+#[derive(Clone, Copy)]
+enum Way {
+    Ops,
+    Indices,
+    Short,
+    Data,
+    Pass,
+    One,
+}
+
+fn way_of(machine: Machine) -> Way {
+    let (of, at) = match machine {
+        Machine::Section { of, at, .. } => (of, at),
+        Machine::Custom { .. } => return Way::Pass,
+        _ => return Way::One,
+    };
+    match of {
+        SectionKind::Type => Way::Short,
+        SectionKind::Function | SectionKind::Element => Way::Indices,
+        SectionKind::Code => way_in_code(at),
+        SectionKind::Segment => Way::Data,
+        _ => Way::One,
+    }
+}
+
+fn way_in_code(at: InMember) -> Way {
+    let InMember::Entry { at, .. } = at else {
+        return Way::Short;
+    };
+    let InEntry::Body(at) = at else {
+        return Way::Short;
+    };
+    match at {
+        InExpression::Op { .. } => Way::Ops,
+        InExpression::Label { .. } => Way::Indices,
+        _ => Way::One,
+    }
+}
+
+// Takes the ops of a code entry that lie whole in these bytes
+#[tactic(auto, using(crate::proofs::Advances::advances_none))]
+fn ops<S: Sink>(sink: &mut S, machine: &mut Machine, bytes: &[u8]) -> Shortcut
+    ensures { Advances S.after S.may_run_out bytes.now machine.old (S.held sink.old) result machine.new (S.held sink.new) }
+{
+    let Some(body) = InBody::of(*machine) else {
+        return Shortcut::none();
+    };
+    let room = body.more.min(body.rest);
+    if room == 0 {
+        return Shortcut::none();
+    }
+    let ran = take_ops(sink, bytes, body.depth, room);
+    if ran.used == 0 {
+        return Shortcut::none();
+    }
+    *machine = body.after(ran.used, ran.depth);
+    Shortcut {
+        used: ran.used as usize,
+        refused: ran.refused,
+    }
+}
+
+// Takes the bytes of a data segment. The sink is given them at once.
+#[tactic(auto, using(crate::proofs::Advances::advances_none))]
+fn data<S: Sink>(sink: &mut S, machine: &mut Machine, bytes: &[u8]) -> Shortcut
+    requires { 0 < length bytes.now }
+    ensures { Advances S.after S.may_run_out bytes.now machine.old (S.held sink.old) result machine.new (S.held sink.new) }
+{
+    let Machine::Section {
+        of,
+        functions,
+        more,
+        left,
+        at,
+    } = *machine
+    else {
+        return Shortcut::none();
+    };
+    let InMember::Data { more: rest } = at else {
+        return Shortcut::none();
+    };
+    let count = at_most(more.min(rest), bytes.len());
+    let end = count as usize;
+    let (more, rest) = (more - count, rest - count);
+    if end == bytes.len() {
+        *machine = Machine::Section {
+            of,
+            functions,
+            more,
+            left,
+            at: InMember::Data { more: rest },
+        };
+        return Shortcut::given(end, give_bytes(sink, bytes));
+    }
+    // the next byte is the last of the segment or of the section
+    *machine = framed(of, functions, more, left, data_or_over(rest));
+    if let Err(why) = give_bytes(sink, &bytes[..=end]) {
+        return Shortcut {
+            used: end + 1,
+            refused: Some(why),
+        };
+    }
+    Shortcut {
+        used: end + 1,
+        refused: refusal_of(*machine),
+    }
+}
+
+// Skips the bytes of a custom section, but its last. The sink is given nothing.
+#[tactic(auto, using(crate::proofs::Advances::advances_none))]
+fn pass<S: Sink>(sink: &S, machine: &mut Machine, bytes: &[u8]) -> Shortcut
+    ensures { Advances S.after S.may_run_out bytes.now machine.old (S.held sink.now) result machine.new (S.held sink.now) }
+{
+    let Machine::Custom {
+        last,
+        functions,
+        more,
+        part,
+    } = *machine
+    else {
+        return Shortcut::none();
+    };
+    let InCustom::Skip = part else {
+        return Shortcut::none();
+    };
+    let used = at_most(more, bytes.len());
+    *machine = Machine::Custom {
+        last,
+        functions,
+        more: more - used,
+        part,
+    };
+    Shortcut {
+        used: used as usize,
+        refused: None,
+    }
+}
+
+/// Takes the shortcut that there is from the machine's place, where no name goes on.
+#[tactic(auto, using(crate::proofs::Advances::advances_none))]
+pub(crate) fn take_way<S: Sink>(sink: &mut S, machine: &mut Machine, bytes: &[u8]) -> Shortcut
+    requires { 0 < length bytes.now }
+    ensures { Advances S.after S.may_run_out bytes.now machine.old (S.held sink.old) result machine.new (S.held sink.new) }
+{
+    match way_of(*machine) {
+        Way::Ops => {
+            let taken = ops(sink, machine, bytes);
+            if taken.used > 0 {
+                return taken;
+            }
+        }
+        Way::Indices => return indices(sink, machine, bytes),
+        Way::Short => {}
+        Way::Data => return data(sink, machine, bytes),
+        Way::Pass => return pass(sink, machine, bytes),
+        Way::One => return Shortcut::none(),
+    }
+    short(sink, machine, bytes)
+}
