@@ -317,10 +317,11 @@ def in_lanes(tasks):
 
 def run(crate, tests, ending=""):
     is_well = run_by_the_kit(crate, tests, ending)
+    program = f"{crate.folder}/out/{crate.name}{ending}"
     if crate.name == "wm_cli" and not tests:
-        program = f"{crate.folder}/out/{crate.name}{ending}"
         is_well = all([is_well, growths.sweep(program), deep.is_well(program)])
     if crate.name == "wm_rows" and is_well:
+        is_well = growths.sweep_rows(program)
         print_tally(crate)
     return is_well
 
