@@ -1,5 +1,6 @@
 -- What shortcuts do is what the byte step does, one after another too.
 use Rattle.std.proofs.Common.{◌≡◌, ◌≢◌, ℕ, suc, ◌+◌, ◌-◌, ◌<◌, ◌≤◌, List, [], Option, Some, None, Result, Ok, Err, MatchResult, IfErr, inl, inr, length, length-drop, length-take, map, min, drop, take, get_or, get_or-drop, get_or-take, slice_index, slice_range, refl, sym, ◌∙◌, ap, subst, arith}
+use Rattle.std.specs.Result.{result_err}
 use Rattle.std.proofs.Math.Seq.{take-length}
 use Rattle.std.proofs.lemmas.List.{drop-drop, take_rest}
 use Rattle.wm_syntax.specs.declared.profile.Profile.{Profile}
@@ -23,7 +24,7 @@ use Rattle.wm_decode.specs.exact.MemberSteps.{data_or_over}
 use Rattle.wm_decode.specs.exact.Live.{IsAt, IsRefused, MayRunOutAtByte, MayRunOutAtEvent, decoder_after, live_or_refused, refusal_in_machine}
 use Rattle.wm_decode.specs.exact.Indices.{GaveEach, before_index, index_item_in, indices_after}
 use Rattle.wm_decode.specs.exact.ShortSteps.{PartMayRunOut, StepsTo, after_stepped, part_event, part_taken, standing}
-use Rattle.wm_decode.specs.exact.Shortcuts.{Advances, live_so, refusal_in}
+use Rattle.wm_decode.specs.exact.Shortcuts.{Advances, live_so}
 use Rattle.wm_decode.specs.exact.WholeOps.{RanTo, before_op}
 use Rattle.wm_decode.proofs.Header.{stays}
 use Rattle.wm_decode.proofs.IndexBytes.{InFront, indices_moved, indices_refused}
@@ -103,7 +104,7 @@ module _ {H : Type 0} (after : H → Item → Result H Why) (may : H → Item �
         let one : q.more ≡ suc (q.more - 1) = omega arith in
         ap (λ i. step_of p (machine.Section q.of q.functions i q.left q.at) (slice_index bytes 0)) one ∙ to p q.functions (q.more - 1)
 
-    pub advances_step : {U : Type 0} (r : Result U Why) → s.refused ≡ refusal_in r → Taken (part_taken after x.part h) r g → IfErr r (λ w. w ≡ why.Memory → PartMayRunOut may x.part h)
+    pub advances_step : {U : Type 0} (r : Result U Why) → s.refused ≡ result_err r → Taken (part_taken after x.part h) r g → IfErr r (λ w. w ≡ why.Memory → PartMayRunOut may x.part h)
         → Advances after may bytes (standing q) h s next g
     advances_step (Ok u) is given quiet = record {
       within = omega arith;
@@ -197,7 +198,7 @@ module _ {H : Type 0} (after : H → Item → Result H Why) (may : H → Item �
     }
 
     -- not the last of them
-    pub advances_data : {U : Type 0} (r : Result U Why) → 0 < s.used → s.used ≡ length bytes → s.used ≤ more → s.used ≤ rest → s.refused ≡ refusal_in r
+    pub advances_data : {U : Type 0} (r : Result U Why) → 0 < s.used → s.used ≡ length bytes → s.used ≤ more → s.used ≤ rest → s.refused ≡ result_err r
         → MatchResult r (λ u. all_taken after h (map data_byte bytes) ≡ Ok g) (λ w. w ≡ why.Memory) → (length bytes ≡ 1 → IfErr r (λ w. w ≡ why.Memory → may h (data_byte (slice_index bytes 0))))
         → Advances after may bytes stands h s (machine.Section of f (more - s.used) left (at.Data (rest - s.used))) g
     advances_data (Ok u) some all less fewer is given quiet =

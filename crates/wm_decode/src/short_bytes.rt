@@ -44,7 +44,8 @@ fn stepped<S: Sink>(
         left: next.left,
         at: next.at,
     };
-    Shortcut::given(1, give_part(sink, next.part))
+    let refused = give_part(sink, next.part).err();
+    Shortcut { used: 1, refused }
 }
 
 // The same of two bytes

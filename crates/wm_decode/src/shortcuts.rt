@@ -4,7 +4,7 @@
 //! decoder does the rest.
 
 ghost use Rattle.std.specs.Prelude.{◌≡◌, ◌<◌, None, length, min};
-ghost use Rattle.wm_decode.specs.exact.Shortcuts.{Advances, refusal_in};
+ghost use Rattle.wm_decode.specs.exact.Shortcuts.{Advances};
 
 use crate::expressions::InExpression;
 use crate::in_body::InBody;
@@ -38,24 +38,6 @@ impl Shortcut {
         Shortcut {
             used: 0,
             refused: None,
-        }
-    }
-
-    /// Of so many bytes, the last of which the sink took or refused.
-    #[inline(always)]
-    pub(crate) fn given(used: usize, given: Result<(), Why>) -> Shortcut
-        ensures used { result.used ≡ used }
-        ensures refused { result.refused ≡ refusal_in given }
-    {
-        match given {
-            Ok(()) => Shortcut {
-                used,
-                refused: None,
-            },
-            Err(why) => Shortcut {
-                used,
-                refused: Some(why),
-            },
         }
     }
 }
@@ -160,7 +142,8 @@ fn data<S: Sink>(sink: &mut S, machine: &mut Machine, bytes: &[u8]) -> Shortcut
             left,
             at: InMember::Data { more: rest },
         };
-        return Shortcut::given(end, give_bytes(sink, bytes));
+        let refused = give_bytes(sink, bytes).err();
+        return Shortcut { used: end, refused };
     }
     // the next byte is the last of the segment or of the section
     *machine = framed(of, functions, more, left, data_or_over(rest));

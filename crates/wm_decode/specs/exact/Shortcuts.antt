@@ -1,5 +1,5 @@
 -- Bytes that a shortcut takes at once, as the byte step takes them one by one: the exact form, for the proofs above it.
-use Rattle.std.specs.Prelude.{◌≡◌, ◌≢◌, ℕ, ◌+◌, ◌<◌, ◌≤◌, List, [], length, drop, slice_index, Option, Some, None, Result, Ok, Err}
+use Rattle.std.specs.Prelude.{◌≡◌, ◌≢◌, ℕ, ◌+◌, ◌<◌, ◌≤◌, List, [], length, drop, slice_index, Some, None, Result, Err}
 use Rattle.wm_syntax.specs.declared.profile.Profile.{Profile}
 use Rattle.wm_syntax.specs.declared.why.Why.{Why}
 use Rattle.wm_syntax.specs.declared.why.Why.TheVariants as why
@@ -7,11 +7,6 @@ use Rattle.wm_decode.specs.declared.machine.Machine.{Machine}
 use Rattle.wm_decode.specs.declared.shortcuts.Shortcut.{Shortcut}
 use Rattle.wm_decode.specs.Items.{Item}
 use Rattle.wm_decode.specs.exact.Live.{IsAt, IsRefused, Live, MayRunOutAtByte, decoder_after}
-
--- why a call was refused, if it was
-abbrev pub refusal_in : {U : Type 0} → Result U Why → Option Why
-refusal_in (Ok u) = None
-refusal_in (Err w) = Some w
 
 -- a decoder of this machine and this sink, with this name at hand, after so many bytes of the input
 abbrev pub live_so : {H : Type 0} → Machine → List ℕ → H → ℕ → Live H

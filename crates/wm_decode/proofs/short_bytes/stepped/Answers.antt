@@ -10,5 +10,5 @@ returns-clause-advances g c =
     let byte = slice_index c.args.bytes.now 0 in
     let known : StepsTo q.of q.left q.at byte next = subst (λ y. IfSome y (λ s. StepsTo q.of q.left q.at byte s)) c.in-Some.is c.requires.found in
     advances_by g.S.Sink.after g.S.Sink.may_run_out _ _ _ _ _ _ _ _ c.requires.machine refl
-    (advances_step g.S.Sink.after g.S.Sink.may_run_out c.args.bytes.now (g.S.Sink.held c.args.sink.now) (g.S.Sink.held c.give_part.new.sink) q next c.given.result
-    c.requires.more c.requires.some known c.given.ensures.used c.give_part.result c.given.ensures.refused c.give_part.ensures.given c.give_part.ensures.room)
+    (advances_step g.S.Sink.after g.S.Sink.may_run_out c.args.bytes.now (g.S.Sink.held c.args.sink.now) (g.S.Sink.held c.give_part.new.sink) q next _
+    c.requires.more c.requires.some known refl c.give_part.result c.err-refused.ensures.value c.give_part.ensures.given c.give_part.ensures.room)

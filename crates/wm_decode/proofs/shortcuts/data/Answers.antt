@@ -10,10 +10,9 @@ pub returns-then-end-bytes : goal.returns-then-end-bytes
 returns-then-end-bytes g c =
     let q = c.in-Section in
     let held = g.S.Sink.held in
-    let used : c.given.result.used ≡ c.at_most-count.result = c.given.ensures.used in
-    advances_by g.S.Sink.after g.S.Sink.may_run_out _ _ _ _ _ _ _ _ (q.is ∙ ap (machine.Section q.of q.functions q.more q.left) c.in-Data.is) (ap (λ i. machine.Section q.of q.functions (q.more - i) q.left (at.Data (c.in-Data.rest - i))) (sym used))
-    (advances_data g.S.Sink.after g.S.Sink.may_run_out c.args.bytes.now (held c.args.sink.now) (held c.give_bytes.new.sink) c.given.result q.of q.functions q.left q.more c.in-Data.rest
-    c.give_bytes.result (omega arith) (omega arith) (omega arith) (omega arith) c.given.ensures.refused c.give_bytes.ensures.given c.give_bytes.ensures.room)
+    advances_by g.S.Sink.after g.S.Sink.may_run_out _ _ _ _ _ _ _ _ (q.is ∙ ap (machine.Section q.of q.functions q.more q.left) c.in-Data.is) refl
+    (advances_data g.S.Sink.after g.S.Sink.may_run_out c.args.bytes.now (held c.args.sink.now) (held c.give_bytes.new.sink) _ q.of q.functions q.left q.more c.in-Data.rest
+    c.give_bytes.result (omega arith) (omega arith) (omega arith) (omega arith) c.err-refused.ensures.value c.give_bytes.ensures.given c.give_bytes.ensures.room)
 
 pub returns-in-Err : goal.returns-in-Err
 returns-in-Err g c =
