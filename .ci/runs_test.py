@@ -68,15 +68,15 @@ SEEDS = {
     "wm_rules/must-fail/validator_forgets_a_piece.edit": ["the validator and the loader differ"] * 2,
 }
 
-# an edit that the prover refuses, and how this test of wm_cli ends where it is made
-TEST = "test tests::readers_and_writers_that_fail ... "
+# an edit that the prover refuses, and whether this test of wm_cli then names a row (`rt try` may be too slow for all of them)
+NAMED = "test tests::readers_and_writers_that_fail ... FAILED\n    wmod "
 ENDS = {
-    None: "ok",
+    None: False,
     # a source is read on after a refusal
-    "wm_rules/must-fail/read_after_a_refusal.edit": "FAILED",
+    "wm_rules/must-fail/read_after_a_refusal.edit": True,
     # a writer's fault is swallowed, or told with a wrong count
-    "wm_write/must-fail/failed_print_ends_well.edit": "FAILED",
-    "wm_write/must-fail/fault_counts_nothing.edit": "FAILED",
+    "wm_write/must-fail/failed_print_ends_well.edit": True,
+    "wm_write/must-fail/fault_counts_nothing.edit": True,
 }
 
 
@@ -102,10 +102,6 @@ def tried_with(room, edit, crate, *words, given=""):
 def answers_with(room, edit):
     """What wm_rows prints of the rows, without its last line."""
     return tried_with(room, edit, "wm_rows", given="".join(f"{row}\n" for row in ROWS)).rpartition("# ")[0]
-
-
-def is_ended_so(room, edit, ending):
-    return f"{TEST}{ending}\n" in tried_with(room, edit, "wm_cli", "--test")
 
 
 def make(crates, edit):
@@ -135,8 +131,8 @@ def main():
         for edit, wanted in SEEDS.items():
             if answers_with(room, edit) != "".join(f"{row} = {answer}\n" for row, answer in zip(ROWS, wanted)):
                 faults.append(f"wm_rows, where {edit or 'nothing'} is edited")
-        for edit, ending in ENDS.items():
-            if not is_ended_so(room, edit, ending):
+        for edit, wanted in ENDS.items():
+            if (NAMED in tried_with(room, edit, "wm_cli", "--test")) != wanted:
                 faults.append(f"readers and writers that fail, where {edit or 'nothing'} is edited")
     for fault in faults:
         print(f"runs_test: {fault}", file=sys.stderr)
