@@ -194,7 +194,9 @@ impl InIndices {
     }
 }
 
-// Gives a sink the index that each of these bytes is, up to one that it refuses
+// Gives a sink the index that each of these bytes is, up to one that it refuses. Out of line, where the loop keeps its
+// values in registers.
+#[inline(never)]
 fn give_indices<S: Sink>(sink: &mut S, list: IndexList, bytes: &[u8]) -> Shortcut
     ensures within { result.used ≤ length bytes.now }
     ensures given { GaveEach S.after (index_item_in list) bytes.now (S.held sink.old) result.used result.refused
