@@ -20,27 +20,31 @@ use Rattle.wm_cli.specs.declared.status.Status.{Status}
 use Rattle.wm_cli.specs.declared.status.Status.TheVariants.{Done, Refused}
 use Rattle.wm_cli.specs.Refused.{module_line, refusal_line, text_line, too_large_line}
 
--- the text is UTF-8, and its tokens, with each older word replaced where those are read, write this module (sections 6.2.2
--- and 6.6.13)
+-- the text is UTF-8, and its tokens, with each older word replaced where those are read, write this module
+-- (sections 6.2.2 and 6.6.13)
 abbrev pub IsTextOf : Profile → Spellings → Module → List ℕ → Type 0
 IsTextOf p s m text = (k : List Token) × Tokens text k × Writes p (map (replaced s) k) m
 
--- Of a module that a text writes: its canonical binary, where it is valid and within the policy; where it is not, the
--- refusal of that binary. A module of which a section would be too large has none, and is refused for that.
+-- Of a module that a text writes: its canonical binary, where it is valid and within the policy;
+-- where it is not, the refusal of that binary. A module of which a section would be too large has
+-- none, and is refused for that.
 abbrev pub ModuleOut : Profile → Policy → Module → List ℕ → Status → Type 0
 ModuleOut p q m written status =
     (Valid m × Within q m × Fits m × (written ≡ canon m) × (status ≡ Done))
     ⊎ ((Valid m → Within q m → ⊥) × Fits m
-    × ((r : Refusal) × (r.why ≢ Memory) × (r.at ≤ length (canon m)) × (verdict p (2 ^ 62) q (canon m) ≡ Err r) × (written ≡ module_line r.at r.why))
+    × ((r : Refusal) × (r.why ≢ Memory) × (r.at ≤ length (canon m)) × (verdict p (2 ^ 62) q (canon m) ≡ Err r)
+    × (written ≡ module_line r.at r.why))
     × (status ≡ Refused))
     ⊎ ((Fits m → ⊥) × (written ≡ too_large_line) × (status ≡ Refused))
 
--- Of a text: what becomes of the module that it writes, or a refusal at a place within it where it writes none.
+-- Of a text: what becomes of the module that it writes, or a refusal at a place within
+-- it where it writes none.
 abbrev pub TextOut : Profile → Policy → Spellings → List ℕ → List ℕ → Status → Type 0
 TextOut p q s text written status =
     ((m : Module) × IsTextOf p s m text × ModuleOut p q m written status)
     ⊎ (((m : Module) → IsTextOf p s m text → ⊥)
-    × ((place : ℕ) × (why : TextWhy) × (why ≢ fault.Memory) × (place ≤ length text) × (written ≡ text_line place why))
+    × ((place : ℕ) × (why : TextWhy) × (why ≢ fault.Memory) × (place ≤ length text)
+    × (written ≡ text_line place why))
     × (status ≡ Refused))
 
 -- of an input, which is a text where it is no longer than the limit

@@ -1,9 +1,11 @@
 -- The command line `wmod ACTION [OPTIONS] [FILE]`, as `clap` defines a simple command.
-use Rattle.std.specs.Prelude.{◌≡◌, ◌≢◌, ◌<◌, ◌≤◌, ◌^◌, ℕ, true, List, [], ◌∷◌, Option, Some, None, ⊤, codes, if◌then◌else◌, option_map}
+use Rattle.std.specs.Prelude.{◌≡◌, ◌≢◌, ◌<◌, ◌≤◌, ◌^◌, ℕ, true, List, [], ◌∷◌, Option, Some, None, ⊤, codes}
+use Rattle.std.specs.Prelude.{if◌then◌else◌, option_map}
 use Rattle.std.specs.Str.{bytes_eq}
 use Rattle.std.specs.Str.Parse.{IsNumeral, digits_value}
 use Rattle.std.specs.String.{string_bytes}
-use Rattle.clap.specs.Words.{App, Rule, Text, HasKind, fault_of, first_of, matches_of, new_app, new_rule, with_rule}
+use Rattle.clap.specs.Words.{App, Rule, Text, HasKind, fault_of, first_of, matches_of, new_app, new_rule}
+use Rattle.clap.specs.Words.{with_rule}
 use Rattle.clap.specs.Simple.{on_top}
 use Rattle.clap.specs.declared.builder.action.ArgAction.TheVariants.{Set, SetTrue}
 use Rattle.wm_syntax.specs.declared.profile.Profile.{Profile}
@@ -84,7 +86,8 @@ IsLimit (Some text) n = IsNumeral 10 text × (digits_value 10 text ≡ n) × (n 
 -- the number that decimal digits write, below 2^32; no limit where none is given
 abbrev pub IsMost : Option Text → Option ℕ → Type 0
 IsMost None most = most ≡ None
-IsMost (Some text) most = IsNumeral 10 text × (most ≡ Some (digits_value 10 text)) × (digits_value 10 text < 2 ^ 32)
+IsMost (Some text) most = IsNumeral 10 text × (most ≡ Some (digits_value 10 text))
+    × (digits_value 10 text < 2 ^ 32)
 
 -- the policy that the options give, each a limit of its own
 pub record IsPolicy (word : Text → Option Text) (q : Policy) : Type 0 where
@@ -101,9 +104,9 @@ abbrev pub IsSpellings : Option Text → Action → Spellings → Type 0
 IsSpellings flag action Standard = Stands flag → ⊥
 IsSpellings flag action Older = Stands flag × (action ≡ Build)
 
--- The words of the arguments say this line: ACTION names its action and `--profile` its profile, `--limit` is its limit,
--- `--max-functions`, `--max-locals` and `--max-open` give its policy, `--old-words` its spellings, and FILE the bytes of
--- its file's name, where there is one.
+-- The words of the arguments say this line: ACTION names its action and `--profile` its profile, `--limit` is
+-- its limit, `--max-functions`, `--max-locals` and `--max-open` give its policy, `--old-words` its spellings,
+-- and FILE the bytes of its file's name, where there is one.
 pub record Says (word : Text → Option Text) (l : Line) : Type 0 where
   pub action : word (codes "ACTION") ≡ Some (action_name l.action)
   pub profile : IsProfile (word (codes "profile")) l.profile
@@ -124,20 +127,26 @@ SaysNone word = (l : Line) → Says word l → ⊥
 -- An argument has this word, and no line has what it says; or the flag stands, and the action is this word.
 abbrev pub IsWrong : (Text → Option Text) → WrongWord → Type 0
 IsWrong word (wrong.Action w) = (word (codes "ACTION") ≡ Some w.now) × ((a : Action) → w.now ≢ action_name a)
-IsWrong word (wrong.Profile w) = (word (codes "profile") ≡ Some w.now) × ((p : Profile) → w.now ≢ profile_name p)
+IsWrong word (wrong.Profile w) = (word (codes "profile") ≡ Some w.now)
+    × ((p : Profile) → w.now ≢ profile_name p)
 IsWrong word (wrong.Limit w) = (word (codes "limit") ≡ Some w.now) × ((n : ℕ) → IsLimit (Some w.now) n → ⊥)
-IsWrong word (wrong.MaxFunctions w) = (word (codes "max-functions") ≡ Some w.now) × ((n : Option ℕ) → IsMost (Some w.now) n → ⊥)
-IsWrong word (wrong.MaxLocals w) = (word (codes "max-locals") ≡ Some w.now) × ((n : Option ℕ) → IsMost (Some w.now) n → ⊥)
-IsWrong word (wrong.MaxOpen w) = (word (codes "max-open") ≡ Some w.now) × ((n : Option ℕ) → IsMost (Some w.now) n → ⊥)
-IsWrong word (wrong.OldWords w) = Stands (word (codes "old-words")) × (word (codes "ACTION") ≡ Some w.now) × (w.now ≢ action_name Build)
+IsWrong word (wrong.MaxFunctions w) = (word (codes "max-functions") ≡ Some w.now)
+    × ((n : Option ℕ) → IsMost (Some w.now) n → ⊥)
+IsWrong word (wrong.MaxLocals w) = (word (codes "max-locals") ≡ Some w.now)
+    × ((n : Option ℕ) → IsMost (Some w.now) n → ⊥)
+IsWrong word (wrong.MaxOpen w) = (word (codes "max-open") ≡ Some w.now)
+    × ((n : Option ℕ) → IsMost (Some w.now) n → ⊥)
+IsWrong word (wrong.OldWords w) = Stands (word (codes "old-words")) × (word (codes "ACTION") ≡ Some w.now)
+    × (w.now ≢ action_name Build)
 
--- the word that `clap`'s reading of the command gives each argument, where it takes these words; the first of them is the
--- program's name
+-- the word that `clap`'s reading of the command gives each argument, where it takes these words; the first of
+-- them is the program's name
 abbrev pub word_of : List Text → Text → Option Text
 word_of words id = first_of id (matches_of wmod words)
 
--- Why the words give no line: the parser has a fault of this kind for them; it has none, and an argument's word is wrong,
--- or the flag stands with another action than `build`; or memory was refused, also in the parser.
+-- Why the words give no line: the parser has a fault of this kind for them; it has none, and an
+-- argument's word is wrong, or the flag stands with another action than `build`; or memory was
+-- refused, also in the parser.
 abbrev pub IsFaultOf : List Text → LineFault → Type 0
 IsFaultOf words (fault.Parser e) = HasKind (fault_of wmod words) e
 IsFaultOf words fault.Words = (fault_of wmod words ≡ []) × SaysNone (word_of words)

@@ -1,6 +1,7 @@
 //! What `build` does: it reads a text, and writes the canonical binary of the module that the text writes.
 
-ghost use Rattle.std.specs.Prelude.{◌≡◌, ◌≢◌, ◌<◌, ◌≤◌, ◌+◌, ◌^◌, ◌↔◌, ◌||◌, ◌++◌, ℕ, List, Err, IfOk, IfSome, false, length, true};
+ghost use Rattle.std.specs.Prelude.{◌≡◌, ◌≢◌, ◌<◌, ◌≤◌, ◌+◌, ◌^◌, ◌↔◌, ◌||◌, ◌++◌, ℕ, List, Err, IfOk};
+ghost use Rattle.std.specs.Prelude.{IfSome, false, length, true};
 ghost use Rattle.std.specs.Io.KnownBytes.{IsAtEnd};
 ghost use Rattle.wm_cli.specs.Answers.{IsAnswered};
 ghost use Rattle.wm_cli.specs.Building.{ModuleOut, TextOut};
@@ -46,7 +47,8 @@ enum InputFault {
 fn read_all<R: Source>(alloc: Global, r: &mut R, limit: u64) -> Result<Vec<u8>, InputFault>
     requires open { R.has_failed r.old ≡ false }
     requires limit { limit ≤ 2 ^ 62 }
-    ensures whole { IfOk result (λ all. IfSome (R.remaining r.old) (λ input. IsAtEnd (R.remaining r.new) × (all.items ≡ input)
+    ensures whole { IfOk result (λ all. IfSome (R.remaining r.old) (λ input. IsAtEnd (R.remaining r.new)
+        × (all.items ≡ input)
         × (length input ≤ limit))) }
     ensures long { result ≡ Err fault.TooLong → IfSome (R.remaining r.old)
         (λ input. (read rest : List ℕ) × (input ≡ read ++ rest) × (limit < length read)) }
@@ -72,7 +74,8 @@ fn read_all<R: Source>(alloc: Global, r: &mut R, limit: u64) -> Result<Vec<u8>, 
     Err(InputFault::TooLong)
 }
 
-/// Reads a text of at most `limit` bytes, and writes the canonical binary of its module, or why there is none.
+/// Reads a text of at most `limit` bytes, and writes the canonical binary of its module,
+/// or why there is none.
 pub fn build<R: Source, W: Dest>(
     alloc: Global,
     profile: Profile,
@@ -85,11 +88,14 @@ pub fn build<R: Source, W: Dest>(
     requires source { R.has_failed r.old ≡ false }
     requires dest { W.has_failed w.old ≡ false }
     requires limit { limit ≤ 2 ^ 62 }
-    ensures answered { R.has_failed r.new ≡ false → result ≢ Status.Memory → (text : List ℕ) × (status : Status)
+    ensures answered { R.has_failed r.new ≡ false → result ≢ Status.Memory → (text : List ℕ)
+        × (status : Status)
         × IsOutput action.Build text status
         × IfSome (R.remaining r.old)
-        (λ input. IsRightFor action.Build profile limit policy spellings input (R.remaining r.new) text status)
-        × IsAnswered text status (W.contents w.old) (W.contents w.new) (W.has_failed w.new) (W.is_flushed w.new) result }
+        (λ input. IsRightFor action.Build profile limit policy spellings input (R.remaining r.new) text
+        status)
+        × IsAnswered text status (W.contents w.old) (W.contents w.new) (W.has_failed w.new)
+        (W.is_flushed w.new) result }
     ensures reader { R.has_failed r.new ≡ true → (result ≡ Status.Io) × (w.new ≡ w.old) }
     ensures memory { result ≡ Status.Memory → w.new ≡ w.old }
     ensures io { (result ≡ Status.Io) ↔ ((R.has_failed r.new || W.has_failed w.new) ≡ true) }
@@ -124,7 +130,8 @@ fn convert<W: Dest>(
     requires { W.has_failed w.old ≡ false }
     ensures answered { result ≢ Status.Memory → (written : List ℕ) × (status : Status)
         × TextOut profile policy spellings text.now written status
-        × IsAnswered written status (W.contents w.old) (W.contents w.new) (W.has_failed w.new) (W.is_flushed w.new) result }
+        × IsAnswered written status (W.contents w.old) (W.contents w.new) (W.has_failed w.new)
+        (W.is_flushed w.new) result }
     ensures memory { result ≡ Status.Memory → w.new ≡ w.old }
     ensures io { (result ≡ Status.Io) ↔ (W.has_failed w.new ≡ true) }
 {
@@ -146,7 +153,8 @@ fn convert_module<W: Dest>(
     requires instructions { IsOf profile (value_of m.now) }
     ensures answered { result ≢ Status.Memory → (written : List ℕ) × (status : Status)
         × ModuleOut profile policy (value_of m.now) written status
-        × IsAnswered written status (W.contents w.old) (W.contents w.new) (W.has_failed w.new) (W.is_flushed w.new) result }
+        × IsAnswered written status (W.contents w.old) (W.contents w.new) (W.has_failed w.new)
+        (W.is_flushed w.new) result }
     ensures memory { result ≡ Status.Memory → w.new ≡ w.old }
     ensures io { (result ≡ Status.Io) ↔ (W.has_failed w.new ≡ true) }
 {

@@ -15,8 +15,8 @@ use std::{fs, io};
 use wm_syntax::io::input::Input as InputOf;
 use wm_syntax::io::output::Output as OutputOf;
 
-/// Opens what the line names and does what it says. No clause: what a file holds no contract can say. What is done
-/// with its bytes `follow` and `run_line` say.
+/// Opens what the line names and does what it says. No clause: what a file holds no contract can say. What is
+/// done with its bytes `follow` and `run_line` say.
 pub fn execute<R: Files + Input + Print + Eprint + AllocGlobal>(rt: &R, line: &Line) -> Status {
     match line.path() {
         None => follow(rt, line, "standard input", rt.reader()),
@@ -38,11 +38,12 @@ fn follow<R: Print + Eprint + AllocGlobal, I: Read + Drop>(
     name: &str,
     reader: I,
 ) -> Status
-    // The status is right for what the reader gives, by the action, the profile, the limit, the policy and the spellings of this
-    // line. What standard output got no contract can say.
+    // The status is right for what the reader gives, by the action, the profile, the limit, the policy and
+    // the spellings of this line. What standard output got no contract can say.
     ensures { result ≢ Status.Io → result ≢ Status.Memory → IfSome (I.remaining reader)
         (λ input. (left : Option (List ℕ)) × (text : List ℕ)
-        × IsRightFor line.now.action line.now.profile line.now.limit line.now.policy line.now.spellings input left text result) }
+        × IsRightFor line.now.action line.now.profile line.now.limit line.now.policy line.now.spellings input
+        left text result) }
 {
     // a module is written instruction by instruction, and reaches the system in pieces of some kilobytes
     let Ok(writer) = BufWriter::new(rt.alloc(), io::writer(rt)) else {

@@ -1,10 +1,13 @@
 //! The words of the command line.
 
-ghost use Rattle.std.specs.Prelude.{ℕ, ◌≡◌, ◌≢◌, ◌<◌, ◌≤◌, ◌^◌, ◌⊎◌, [], Option, false, codes, map, option_map, IfOk, IfErr, IfSome, SomeIff, MatchOption};
+ghost use Rattle.std.specs.Prelude.{ℕ, ◌≡◌, ◌≢◌, ◌<◌, ◌≤◌, ◌^◌, ◌⊎◌, [], Option, false, codes, map};
+ghost use Rattle.std.specs.Prelude.{option_map, IfOk, IfErr, IfSome, SomeIff, MatchOption};
 ghost use Rattle.std.specs.Str.Parse.{IsNumeral, digits_value};
 ghost use Rattle.clap.specs.Words.{app_of, fault_of, first_value, found_of, rule_of};
 ghost use Rattle.wm_cli.specs.declared.words.LineFault.TheVariants.{Memory, Words};
-ghost use Rattle.wm_cli.specs.Lines.{IsFaultOf, IsLimit, IsMost, IsPolicy, IsProfile, IsSpellings, IsWrong, Says, SaysNone, action_name, action_rule, file_rule, flag_rule, option_rule, profile_name, versioned, wmod, word_of};
+ghost use Rattle.wm_cli.specs.Lines.{IsFaultOf, IsLimit, IsMost, IsPolicy, IsProfile, IsSpellings, IsWrong};
+ghost use Rattle.wm_cli.specs.Lines.{Says, SaysNone, action_name, action_rule, file_rule, flag_rule};
+ghost use Rattle.wm_cli.specs.Lines.{option_rule, profile_name, versioned, wmod, word_of};
 ghost use Rattle.wm_read.specs.declared.spellings.Spellings.{Spellings};
 ghost use Rattle.wm_rules.specs.declared.policy.Policy.{Policy};
 ghost use Rattle.wm_syntax.specs.declared.profile.Profile.{Profile};
@@ -24,7 +27,8 @@ const MOST_LIMIT: u64 = 4611686018427387904;
 
 /// A limit in decimal digits, at most 2^62.
 fn limit_of(text: &str) -> Option<u64>
-    ensures { SomeIff result (IsNumeral 10 text.now × (digits_value 10 text.now ≤ 2 ^ 62)) (digits_value 10 text.now) }
+    ensures { SomeIff result (IsNumeral 10 text.now × (digits_value 10 text.now ≤ 2 ^ 62))
+        (digits_value 10 text.now) }
 {
     // `parse` takes a sign
     if text.starts_with('+') {
@@ -38,7 +42,8 @@ fn limit_of(text: &str) -> Option<u64>
 
 /// A limit of a policy in decimal digits, below 2^32.
 fn most_of(text: &str) -> Option<u32>
-    ensures { SomeIff result (IsNumeral 10 text.now × (digits_value 10 text.now < 2 ^ 32)) (digits_value 10 text.now) }
+    ensures { SomeIff result (IsNumeral 10 text.now × (digits_value 10 text.now < 2 ^ 32))
+        (digits_value 10 text.now) }
 {
     // `parse` takes a sign
     if text.starts_with('+') {
@@ -63,7 +68,8 @@ fn action_of(text: &str) -> Option<Action>
 
 /// The profile of this name.
 fn profile_of(text: &str) -> Option<Profile>
-    ensures { MatchOption result ((p : Profile) → text.now ≢ profile_name p) (λ p. text.now ≡ profile_name p) }
+    ensures { MatchOption result ((p : Profile) → text.now ≢ profile_name p)
+        (λ p. text.now ≡ profile_name p) }
 {
     match text {
         "1" => Some(Profile::One),
@@ -180,7 +186,8 @@ fn command<'a>(alloc: Global) -> Result<Command<'a>, AllocError>
 
 /// The profile that this word names; without one, the first.
 fn profile_by(word: Option<&str>) -> Option<Profile>
-    ensures { let said = option_map (λ s. s.now) word.entry in MatchOption result ((p : Profile) → IsProfile said p
+    ensures { let said = option_map (λ s. s.now) word.entry in
+        MatchOption result ((p : Profile) → IsProfile said p
         → ⊥) (IsProfile said) }
 {
     match word {
@@ -202,7 +209,8 @@ fn limit_by(word: Option<&str>) -> Option<u64>
 
 /// The limit of a policy that this word says; without one, none.
 fn most_by(word: Option<&str>) -> Option<Option<u32>>
-    ensures { let said = option_map (λ s. s.now) word.entry in MatchOption result ((most : Option ℕ) → IsMost said most
+    ensures { let said = option_map (λ s. s.now) word.entry in
+        MatchOption result ((most : Option ℕ) → IsMost said most
         → ⊥) (IsMost said) }
 {
     match word {
@@ -213,7 +221,8 @@ fn most_by(word: Option<&str>) -> Option<Option<u32>>
 
 /// The policy of the options.
 fn policy_in(matches: &ArgMatches<'_>) -> Option<Policy>
-    ensures { let word = first_value (found_of matches.now) in MatchOption result ((q : Policy) → IsPolicy word q
+    ensures { let word = first_value (found_of matches.now) in
+        MatchOption result ((q : Policy) → IsPolicy word q
         → ⊥) (IsPolicy word) }
 {
     Some(Policy {
@@ -225,7 +234,8 @@ fn policy_in(matches: &ArgMatches<'_>) -> Option<Policy>
 
 /// The spellings by this word of the flag, which only `build` takes.
 fn spellings_by(flag: Option<&str>, action: Action) -> Option<Spellings>
-    ensures { let said = option_map (λ s. s.now) flag.entry in MatchOption result ((s : Spellings) → IsSpellings said action s
+    ensures { let said = option_map (λ s. s.now) flag.entry in
+        MatchOption result ((s : Spellings) → IsSpellings said action s
         → ⊥) (IsSpellings said action) }
 {
     match (flag, action) {
@@ -238,7 +248,8 @@ fn spellings_by(flag: Option<&str>, action: Action) -> Option<Spellings>
 /// What the words of the arguments say.
 fn read(alloc: Global, matches: &ArgMatches<'_>) -> Result<Line, LineFault>
     ensures ok { IfOk result (Says (first_value (found_of matches.now))) }
-    ensures fault { IfErr result (λ e. ((e ≡ Words) × SaysNone (first_value (found_of matches.now))) ⊎ (e ≡ Memory)) }
+    ensures fault { IfErr result (λ e. ((e ≡ Words) × SaysNone (first_value (found_of matches.now)))
+        ⊎ (e ≡ Memory)) }
 {
     let Some(action) = matches.get_str("ACTION").and_then(action_of) else {
         return Err(LineFault::Words);
@@ -272,8 +283,10 @@ fn read(alloc: Global, matches: &ArgMatches<'_>) -> Result<Line, LineFault>
 /// Reads the words, of which the first is the program's name.
 pub fn line<S: AsStr>(alloc: Global, words: &[S]) -> Result<Line, LineFault>
     // The parser takes the words, and they say this line.
-    ensures ok { IfOk result (λ l. (fault_of wmod (map S.text words.now) ≡ []) × Says (word_of (map S.text words.now)) l) }
-    // The parser has a fault of this kind for them, or takes them and they say no line; or memory was refused.
+    ensures ok { IfOk result (λ l. (fault_of wmod (map S.text words.now) ≡ [])
+        × Says (word_of (map S.text words.now)) l) }
+    // The parser has a fault of this kind for them, or takes them and they say no line;
+    // or memory was refused.
     ensures fault { IfErr result (IsFaultOf (map S.text words.now)) }
 {
     match command(alloc)?.try_get_matches_from(words) {
@@ -361,8 +374,8 @@ fn wrong_by_flag<'a>(matches: &ArgMatches<'a>) -> Option<WrongWord<'a>>
     }
 }
 
-/// The first word that is wrong, in the order ACTION, `--profile`, `--limit`, `--max-functions`, `--max-locals`,
-/// `--max-open`, `--old-words`.
+/// The first word that is wrong, in the order ACTION, `--profile`, `--limit`, `--max-functions`,
+/// `--max-locals`, `--max-open`, `--old-words`.
 fn wrong_in<'a>(matches: &ArgMatches<'a>) -> Option<WrongWord<'a>>
     ensures { IfSome result (IsWrong (first_value (found_of matches.now))) }
 {

@@ -40,10 +40,13 @@ pub fn run<R: Source, W: Dest>(
     requires dest { W.has_failed w.old ≡ false }
     requires limit { limit ≤ 2 ^ 62 }
     // What is to be written for the input is written whole, or, where the writer failed, a beginning of it.
-    ensures answered { R.has_failed r.new ≡ false → result ≢ Status.Memory → (text : List ℕ) × (status : Status)
+    ensures answered { R.has_failed r.new ≡ false → result ≢ Status.Memory → (text : List ℕ)
+        × (status : Status)
         × IsOutput action text status
-        × IfSome (R.remaining r.old) (λ input. IsRightFor action profile limit policy spellings input (R.remaining r.new) text status)
-        × IsAnswered text status (W.contents w.old) (W.contents w.new) (W.has_failed w.new) (W.is_flushed w.new) result }
+        × IfSome (R.remaining r.old) (λ input. IsRightFor action profile limit policy spellings input
+        (R.remaining r.new) text status)
+        × IsAnswered text status (W.contents w.old) (W.contents w.new) (W.has_failed w.new)
+        (W.is_flushed w.new) result }
     ensures reader { R.has_failed r.new ≡ true → (result ≡ Status.Io) × (w.new ≡ w.old) }
     ensures memory { result ≡ Status.Memory → w.new ≡ w.old }
     ensures io { (result ≡ Status.Io) ↔ ((R.has_failed r.new || W.has_failed w.new) ≡ true) }
@@ -74,12 +77,15 @@ pub fn run_line<R: Source, W: Dest>(alloc: Global, line: &Line, r: &mut R, w: &m
     requires source { R.has_failed r.old ≡ false }
     requires dest { W.has_failed w.old ≡ false }
     // What is to be written for the input is written whole, or, where the writer failed, a beginning of it.
-    ensures answered { R.has_failed r.new ≡ false → result ≢ Status.Memory → (text : List ℕ) × (status : Status)
+    ensures answered { R.has_failed r.new ≡ false → result ≢ Status.Memory → (text : List ℕ)
+        × (status : Status)
         × IsOutput line.now.action text status
         × IfSome (R.remaining r.old)
-        (λ input. IsRightFor line.now.action line.now.profile line.now.limit line.now.policy line.now.spellings input
+        (λ input. IsRightFor line.now.action line.now.profile line.now.limit line.now.policy
+        line.now.spellings input
         (R.remaining r.new) text status)
-        × IsAnswered text status (W.contents w.old) (W.contents w.new) (W.has_failed w.new) (W.is_flushed w.new) result }
+        × IsAnswered text status (W.contents w.old) (W.contents w.new) (W.has_failed w.new)
+        (W.is_flushed w.new) result }
     ensures reader { R.has_failed r.new ≡ true → (result ≡ Status.Io) × (w.new ≡ w.old) }
     ensures memory { result ≡ Status.Memory → w.new ≡ w.old }
     ensures io { (result ≡ Status.Io) ↔ ((R.has_failed r.new || W.has_failed w.new) ≡ true) }
@@ -125,7 +131,8 @@ fn report<W: Dest>(alloc: Global, summary: Summary, w: &mut W) -> Status
 /// Writes the canonical binary of a module, and flushes.
 fn write_canonical<W: Dest>(checked: &Checked, w: &mut W) -> Status
     requires { W.has_failed w.old ≡ false }
-    ensures { IsAnswered (canon (value_of (module_in checked.now))) Status.Done (W.contents w.old) (W.contents w.new)
+    ensures { IsAnswered (canon (value_of (module_in checked.now))) Status.Done (W.contents w.old)
+        (W.contents w.new)
         (W.has_failed w.new) (W.is_flushed w.new) result }
 {
     match encode(checked.module(), w) {
@@ -139,7 +146,8 @@ fn write_canonical<W: Dest>(checked: &Checked, w: &mut W) -> Status
 /// Writes the text of a module, and flushes.
 fn write_text<W: Dest>(checked: &Checked, w: &mut W) -> Status
     requires { W.has_failed w.old ≡ false }
-    ensures { IsAnswered (layout (value_of (module_in checked.now))) Status.Done (W.contents w.old) (W.contents w.new)
+    ensures { IsAnswered (layout (value_of (module_in checked.now))) Status.Done (W.contents w.old)
+        (W.contents w.new)
         (W.has_failed w.new) (W.is_flushed w.new) result }
 {
     match print(checked, w) {
@@ -151,7 +159,8 @@ fn write_text<W: Dest>(checked: &Checked, w: &mut W) -> Status
 /// Writes the refusal of an input, unless memory was refused. Where the reader failed nothing is written.
 fn answer_fault<W: Dest>(alloc: Global, fault: FromFault, w: &mut W) -> Status
     requires { W.has_failed w.old ≡ false }
-    ensures answered { fault ≢ FromFault.Io → result ≢ Status.Memory → (refusal : Refusal) × (fault ≡ FromFault.Refused refusal)
+    ensures answered { fault ≢ FromFault.Io → result ≢ Status.Memory → (refusal : Refusal)
+        × (fault ≡ FromFault.Refused refusal)
         × (refusal.why ≢ Why.Memory)
         × IsAnswered (refusal_line refusal.at refusal.why) Status.Refused
         (W.contents w.old) (W.contents w.new) (W.has_failed w.new) (W.is_flushed w.new) result }

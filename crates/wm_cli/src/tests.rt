@@ -32,8 +32,8 @@ const HEADER: [u8; 8] = [0x00, 0x61, 0x73, 0x6D, 0x01, 0x00, 0x00, 0x00];
 
 const LIMIT: u64 = 4294967295;
 
-/// Some rows for each action. In two of them a function has as many locals as may be; its text has a word for each, so
-/// it is not shown.
+/// Some rows for each action. In two of them a function has as many locals as may be; its text has a word for
+/// each, so it is not shown.
 const COMMANDS: &str = r#"wmod check < H = 0 valid\n
 wmod check < = 1 refused at 0: Truncated\n
 wmod check --limit 7 < H = 1 refused at 8: TooLong\n
@@ -143,7 +143,8 @@ out 3 wmod check < H = 3 "val"
 out 6 wmod check < H = 3 "valid\n"
 out 3 wmod show < H = 3 "(mo""#;
 
-/// In how many runs of `INPUTS` an end fails: as often as it is called in runs without a fault. The gate prints it.
+/// In how many runs of `INPUTS` an end fails: as often as it is called in runs without a
+/// fault. The gate prints it.
 const FAILED: &str = "39126 readers and 62922 writers that failed";
 
 #[test]
@@ -154,8 +155,8 @@ fn readers_and_writers_that_fail(rt: HostRuntime) -> Result<(), Fail> {
     Ok(())
 }
 
-/// The whole program, where `(module)` stands on standard input, a module of profile 2 in the file `sign.wasm`, and a text
-/// with an older word in `old.wat`.
+/// The whole program, where `(module)` stands on standard input, a module of profile 2 in the file
+/// `sign.wasm`, and a text with an older word in `old.wat`.
 const PROGRAM: &str = r#"desk wmod check = 1 "refused at 1: Magic\n" ""
 desk wmod build = 0 "\x00asm\x01\x00\x00\x00" ""
 desk wmod build - = 0 "\x00asm\x01\x00\x00\x00" ""

@@ -13,14 +13,16 @@ pub struct Witness<T> {
 }
 
 impl<T> Witness<T> {
-    /// A reader or a writer that has answered no error. Which error is kept is for a complaint alone, and tests show it.
+    /// A reader or a writer that has answered no error. Which error is kept is for a complaint alone, and
+    /// tests show it.
     pub fn new(inner: T) -> Self
         ensures { result.inner ≡ inner }
     {
         Witness { inner, error: None }
     }
 
-    /// The last error. No clause: which error a reader or a writer answers no contract of std says. Tests show it.
+    /// The last error. No clause: which error a reader or a writer answers no contract of
+    /// std says. Tests show it.
     pub fn error(&self) -> Option<io::Error> {
         self.error
     }

@@ -64,7 +64,8 @@ impl Line {
 pub enum LineFault {
     /// The parser's own fault, which has its text; a request for help is one.
     Parser(clap::Error),
-    /// No such action or profile, a number that is none or out of its range, or older words for an action that reads no text.
+    /// No such action or profile, a number that is none or out of its range, or older words for an action
+    /// that reads no text.
     Words,
     /// Memory was refused.
     Memory,

@@ -24,8 +24,10 @@ pub record Takes {H : Type 0} (after : H → Item → Result H Why) (s : Setting
   pub within : length bytes ≤ s.limit
   pub taken : all_taken after s.first (items_at items) ≡ Ok last
 
--- the input was refused at a place within it, and no module that the sink takes begins with the bytes up to there
-pub record Refused {H : Type 0} (after : H → Item → Result H Why) (s : Setting H) (bytes : List ℕ) (r : Refusal)
+-- the input was refused at a place within it, and no module that the sink takes begins
+-- with the bytes up to there
+pub record Refused {H : Type 0} (after : H → Item → Result H Why) (s : Setting H) (bytes : List ℕ)
+    (r : Refusal)
     : Type 0 where
   pub used : List ℕ
   pub rest : List ℕ
@@ -33,7 +35,8 @@ pub record Refused {H : Type 0} (after : H → Item → Result H Why) (s : Setti
   pub at : r.at ≡ length used
   pub never : (more : List ℕ) (last : H) → Takes after s (used ++ more) last → ⊥
 
--- bytes that stand for a type of floating-point numbers (section 5.3.1), or begin an instruction on them (section 5.4)
+-- bytes that stand for a type of floating-point numbers (section 5.3.1), or begin an instruction on them
+-- (section 5.4)
 abbrev pub IsFloatByte : ℕ → Type 0
 IsFloatByte c = (c ≡ 0x7D) ⊎ (c ≡ 0x7C) ⊎ IsTrue (is_float c)
 
@@ -49,7 +52,8 @@ pub record EndsInFloat (bytes : List ℕ) (r : Refusal) : Type 0 where
 -- a sink that never gives the name Float, whatever items it has taken since it held this
 abbrev pub NeverFloat : {H : Type 0} → (H → Item → Result H Why) → H → Type 0
 NeverFloat {H} after first =
-    (parts : List Item) (h : H) (x : Item) → all_taken after first parts ≡ Ok h → after h x ≡ Err why.Float → ⊥
+    (parts : List Item) (h : H) (x : Item) → all_taken after first parts ≡ Ok h → after h x ≡ Err why.Float
+    → ⊥
 
 -- what the sink of a decoder holds
 abbrev pub held_in : {S H : Type 0} → (S → H) → Decoder S → H

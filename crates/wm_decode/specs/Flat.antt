@@ -1,5 +1,7 @@
--- The flat value of a module (section 5.5): what its items tell in order, an expression as its ops and locals as runs.
-use Rattle.std.specs.Prelude.{◌≡◌, ℕ, ◌<◌, ◌^◌, List, [], ◌∷◌, ◌++◌, Option, Some, None, length, map, flat_map}
+-- The flat value of a module (section 5.5): what its items tell in order, an expression as its
+-- ops and locals as runs.
+use Rattle.std.specs.Prelude.{◌≡◌, ℕ, ◌<◌, ◌^◌, List, [], ◌∷◌, ◌++◌, Option, Some, None, length, map}
+use Rattle.std.specs.Prelude.{flat_map}
 use Rattle.std.specs.List.{AllByRecursion, AllZip}
 use Rattle.wm_syntax.specs.declared.types.ValType.{ValType}
 use Rattle.wm_syntax.specs.declared.types.Limits.{Limits}
@@ -9,14 +11,18 @@ use Rattle.wm_syntax.specs.declared.instructions.Op.{Op}
 use Rattle.wm_syntax.specs.declared.instructions.Op.TheVariants as op
 use Rattle.wm_syntax.specs.declared.profile.Profile.{Profile}
 use Rattle.wm_syntax.specs.Spelling.{Form, Exactly, Each, ◌▸◌}
-use Rattle.wm_syntax.specs.Types.{Signature, SpellsU32, SpellsList, SpellsBytes, SpellsSignature, SpellsLimits, SpellsTableType, SpellsGlobalType}
+use Rattle.wm_syntax.specs.Types.{Signature, SpellsU32, SpellsList, SpellsBytes, SpellsSignature}
+use Rattle.wm_syntax.specs.Types.{SpellsLimits, SpellsTableType, SpellsGlobalType}
 use Rattle.wm_syntax.specs.Instructions.{HasOps, SpellsOp}
 use Rattle.wm_syntax.specs.Modules.{Import, Function, GlobalDef, Export, Element, Segment, Module, constant}
 use Rattle.wm_syntax.specs.Profiles.{IsOpOf}
-use Rattle.wm_decode.specs.Sections.{Sized, ListSection, StartSection, Customs, SpellsImport, SpellsExport, SpellsRun, header}
+use Rattle.wm_decode.specs.Sections.{Sized, ListSection, StartSection, Customs, SpellsImport, SpellsExport}
+use Rattle.wm_decode.specs.Sections.{SpellsRun, header}
 use Rattle.wm_syntax.specs.Modules.{locals_of}
 use Rattle.wm_decode.specs.Grammar.{IsExpression}
-use Rattle.wm_decode.specs.Items.{Item, new_type, param, result_count, one_result, import_module, import_name, import_desc, function, table, memory, global, const_op, export_name, export, start, element, element_function, body, locals, body_op, segment, data_byte}
+use Rattle.wm_decode.specs.Items.{Item, new_type, param, result_count, one_result, import_module, import_name}
+use Rattle.wm_decode.specs.Items.{import_desc, function, table, memory, global, const_op, export_name, export}
+use Rattle.wm_decode.specs.Items.{start, element, element_function, body, locals, body_op, segment, data_byte}
 
 -- a global: its type, and the ops of its initialiser (section 5.5.9)
 pub record FlatGlobal : Type 0 where
@@ -40,8 +46,8 @@ pub record FlatSegment : Type 0 where
   pub offset : List Op
   pub bytes : List ℕ
 
--- A module, section by section (section 5.5.15). Of a function its type's index stands in one section and its code in
--- another.
+-- A module, section by section (section 5.5.15). Of a function its type's index stands in one section and its
+-- code in another.
 pub record FlatModule : Type 0 where
   pub types : List Signature
   pub imports : List Import
@@ -145,13 +151,15 @@ SpellsFlat p v b = (length v.codes ≡ length v.functions) × (Exactly header �
 abbrev pub constant_ops : Const → List Op
 constant_ops c = op.Simple (constant c) ∷ op.End ∷ []
 
--- What a member of a flat value says of a member of the module (sections 2.5.3, 2.5.6 to 2.5.8): a function's type index,
+-- What a member of a flat value says of a member of the module (sections 2.5.3, 2.5.6 to 2.5.8): a
+-- function's type index,
 abbrev pub IsIndexOf : Function → ℕ → Type 0
 IsIndexOf f x = x ≡ f.type_index
 
 -- its locals, run by run, and its body's ops, which are those of its instructions and the end;
 abbrev pub IsCodeOf : Function → FlatCode → Type 0
-IsCodeOf f c = (locals_of c.runs ≡ f.locals) × (length f.locals < 2 ^ 32) × (HasOps f.body ▸ Exactly (op.End ∷ [])) c.ops
+IsCodeOf f c = (locals_of c.runs ≡ f.locals) × (length f.locals < 2 ^ 32)
+    × (HasOps f.body ▸ Exactly (op.End ∷ [])) c.ops
 
 -- a global, an element segment and a data segment, with the ops of a constant.
 abbrev pub IsGlobalOf : GlobalDef → FlatGlobal → Type 0
@@ -163,8 +171,8 @@ IsElementOf e v = (v.table ≡ e.table) × (v.offset ≡ constant_ops e.offset) 
 abbrev pub IsSegmentOf : Segment → FlatSegment → Type 0
 IsSegmentOf s v = (v.memory ≡ s.memory) × (v.offset ≡ constant_ops s.offset) × (v.bytes ≡ s.bytes)
 
--- The flat value is one of the module, member by member. A module has several: an else before an empty list may be
--- there or not, and locals are cut into runs in many ways.
+-- The flat value is one of the module, member by member. A module has several: an else before an empty list
+-- may be there or not, and locals are cut into runs in many ways.
 pub record IsFlatOf (m : Module) (v : FlatModule) : Type 0 where
   pub types : v.types ≡ m.types
   pub imports : v.imports ≡ m.imports

@@ -31,12 +31,24 @@ unfinished_name k = name_after 0 k
 -- how many bytes lie outside code entries, those of names too
 abbrev pub outside_bytes : Marks → ℕ
 outside_bytes [] = zero
-outside_bytes (m ∷ k) = elim m.zone [ outside ↦ suc (outside_bytes k) | name ↦ suc (outside_bytes k) | entry ↦ outside_bytes k | closing ↦ outside_bytes k ]
+outside_bytes (m ∷ k) =
+    elim m.zone [
+      | outside ↦ suc (outside_bytes k)
+      | name ↦ suc (outside_bytes k)
+      | entry ↦ outside_bytes k
+      | closing ↦ outside_bytes k
+    ]
 
 -- how many bytes lie in code entries
 abbrev pub inside_bytes : Marks → ℕ
 inside_bytes [] = zero
-inside_bytes (m ∷ k) = elim m.zone [ outside ↦ inside_bytes k | name ↦ inside_bytes k | entry ↦ suc (inside_bytes k) | closing ↦ suc (inside_bytes k) ]
+inside_bytes (m ∷ k) =
+    elim m.zone [
+      | outside ↦ inside_bytes k
+      | name ↦ inside_bytes k
+      | entry ↦ suc (inside_bytes k)
+      | closing ↦ suc (inside_bytes k)
+    ]
 
 abbrev pub entry_more : Zone → ℕ → ℕ
 entry_more entry n = suc n
@@ -50,8 +62,8 @@ entry_after n (m ∷ k) = entry_after (entry_more m.zone n) k
 abbrev pub entry_bytes : Marks → ℕ
 entry_bytes k = entry_after 0 k
 
--- The bytes so far end inside the expression of a code entry: one is at hand, and whatever comes, sizes, names and the
--- number of code entries aside, no run of locals is the next item.
+-- The bytes so far end inside the expression of a code entry: one is at hand, and whatever comes, sizes,
+-- names and the number of code entries aside, no run of locals is the next item.
 pub record InExpression (p : Profile) (b : List ℕ) : Type 0 where
   pub marks : Marks
   pub front : IsFront p b marks
@@ -64,20 +76,23 @@ pub record InExpression (p : Profile) (b : List ℕ) : Type 0 where
 abbrev pub name_in : {S : Type 0} → Decoder S → List ℕ
 name_in d = d.name.items
 
--- What the bytes so far tell, which may still be refused: where each lies, which items are complete in them, and what a
--- sink holds that took these.
-pub record Tells {H : Type 0} (after : H → Item → Result H Why) (p : Profile) (first : H) (bytes : List ℕ) (h : H)
+-- What the bytes so far tell, which may still be refused: where each lies, which items are complete in them,
+-- and what a sink holds that took these.
+pub record Tells {H : Type 0} (after : H → Item → Result H Why) (p : Profile) (first : H) (bytes : List ℕ)
+    (h : H)
     : Type 0 where
   pub marks : Marks
   pub front : IsFront p bytes marks
   -- the bytes alone tell these marks
   pub alone : (other : Marks) → IsFront p bytes other → other ≡ marks
   -- and those of each whole input that begins so
-  pub begins : (more : List ℕ) (items : Marks) → Items p (bytes ++ more) items → marks ≡ take (length bytes) items
+  pub begins : (more : List ℕ) (items : Marks) → Items p (bytes ++ more) items
+      → marks ≡ take (length bytes) items
   pub taken : all_taken after first (items_at marks) ≡ Ok h
 
 -- What a decoder that has refused nothing holds of the bytes so far.
-pub record SoFar {S H : Type 0} (held : S → H) (after : H → Item → Result H Why) (d : Decoder S) (s : Setting H)
+pub record SoFar {S H : Type 0} (held : S → H) (after : H → Item → Result H Why) (d : Decoder S)
+    (s : Setting H)
     (bytes : List ℕ) : Type 0 where
   pub tells : Tells after s.profile s.first bytes (held_in held d)
   pub name : length (name_in d) ≡ unfinished_name tells.marks

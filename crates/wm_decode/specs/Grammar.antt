@@ -1,10 +1,10 @@
--- The flat grammar of a whole input (section 5.5): its items one after another, each beside the byte at which it is
--- complete.
+-- The flat grammar of a whole input (section 5.5): its items one after another, each beside the byte at which
+-- it is complete.
 --
--- Where all is demanded, sizes, names and the number of code entries are as the format has them. Where it is not,
--- they are left open: that is for fronts of an input that may still be refused for a size, a name or a count that
--- isn't complete.
--- `Section`, `Custom` and `Customs` here are the flat twins of those in Sections, which speak of a module value.
+-- Where all is demanded, sizes, names and the number of code entries are as the format has them. Where it is
+-- not, they are left open: that is for fronts of an input that may still be refused for a size, a name or a
+-- count that isn't complete. `Section`, `Custom` and `Customs` here are the flat twins of those in Sections,
+-- which speak of a module value.
 use Rattle.std.specs.Prelude.{ℕ, zero, suc, ◌+◌, ◌≤◌, ◌≡◌, ◌<◌, ◌^◌, List, [], ◌∷◌, ◌++◌, ◌⊎◌, Some, None}
 use Rattle.std.specs.List.{AllByRecursion}
 use Rattle.wm_syntax.specs.declared.instructions.Op.{Op}
@@ -17,8 +17,11 @@ use Rattle.wm_syntax.specs.Types.{SpellsU32, SpellsValType, SpellsLimits, Spells
 use Rattle.wm_syntax.specs.Instructions.{SpellsOp, openings, endings}
 use Rattle.wm_syntax.specs.Profiles.{IsOpOf}
 use Rattle.wm_decode.specs.Sections.{SpellsDesc, SpellsRun, kind_byte, header}
-use Rattle.wm_decode.specs.Items.{Item, new_type, param, result_count, one_result, import_module, import_name, import_desc, function, table, memory, global, const_op, export_name, export, start, element, element_function, body, locals, body_op, segment, data_byte}
-use Rattle.wm_decode.specs.MarkedForms.{MarkedForm, Empty, Byte, Literal, Then, Times, Leaf, Number, Vector, Index, Name, Sized, Filled, Entry, nothing_at, marks_ending}
+use Rattle.wm_decode.specs.Items.{Item, new_type, param, result_count, one_result, import_module, import_name}
+use Rattle.wm_decode.specs.Items.{import_desc, function, table, memory, global, const_op, export_name, export}
+use Rattle.wm_decode.specs.Items.{start, element, element_function, body, locals, body_op, segment, data_byte}
+use Rattle.wm_decode.specs.MarkedForms.{MarkedForm, Empty, Byte, Literal, Then, Times, Leaf, Number, Vector}
+use Rattle.wm_decode.specs.MarkedForms.{Index, Name, Sized, Filled, Entry, nothing_at, marks_ending}
 
 -- these are as the format has them, or are left open
 abbrev pub strict : Type 0
@@ -53,8 +56,8 @@ HasLabels zero (op.Label l ∷ ops) = ⊥
 HasLabels zero (op.BrTable n ∷ ops) = HasLabels (suc n) ops
 HasLabels zero (_ ∷ ops) = HasLabels zero ops
 
--- The ops of an expression (section 5.4.6) up to the end that endings it, else anywhere: as many ends as openings
--- and one more, and in no shorter front so many.
+-- The ops of an expression (section 5.4.6) up to the end that endings it, else anywhere: as many ends as
+-- openings and one more, and in no shorter front so many.
 pub record IsExpression (ops : List Op) : Type 0 where
   pub labels : HasLabels 0 ops
   pub closed : endings ops ≡ openings ops + 1
@@ -66,7 +69,8 @@ EachOp part [] = Empty
 EachOp part (o ∷ ops) = Then (λ b k. SpellsOp o b × (k ≡ marks_ending (Some (part o)) b)) (EachOp part ops)
 
 abbrev pub Expression : Profile → (Op → Item) → MarkedForm
-Expression p part b k = (ops : List Op) × IsExpression ops × AllByRecursion (IsOpOf p) ops × EachOp part ops b k
+Expression p part b k = (ops : List Op) × IsExpression ops × AllByRecursion (IsOpOf p) ops
+    × EachOp part ops b k
 
 -- globals (section 5.5.9)
 abbrev pub Global : Profile → MarkedForm
@@ -88,7 +92,8 @@ abbrev pub Run : MarkedForm
 Run = Leaf SpellsRun (λ r. locals r.0 r.1)
 
 abbrev pub Code : Type 0 → Profile → MarkedForm
-Code demanded p = Number (λ n. Some body) (λ n. Sized demanded n (Entry (Then (Vector Run) (Expression p body_op))))
+Code demanded p =
+    Number (λ n. Some body) (λ n. Sized demanded n (Entry (Then (Vector Run) (Expression p body_op))))
 
 -- data segments (section 5.5.14): each byte is an item
 abbrev pub DataByte : MarkedForm
@@ -112,17 +117,21 @@ Contents demanded p f (suc (suc (suc (suc (suc (suc zero)))))) = Vector (Global 
 Contents demanded p f (suc (suc (suc (suc (suc (suc (suc zero))))))) = Vector (Export demanded)
 Contents demanded p f (suc (suc (suc (suc (suc (suc (suc (suc zero)))))))) = Index start
 Contents demanded p f (suc (suc (suc (suc (suc (suc (suc (suc (suc zero))))))))) = Vector (Element p)
-Contents demanded p f (suc (suc (suc (suc (suc (suc (suc (suc (suc (suc zero)))))))))) = Paired demanded f (Code demanded p)
-Contents demanded p f (suc (suc (suc (suc (suc (suc (suc (suc (suc (suc (suc zero))))))))))) = Vector (Segment p)
+Contents demanded p f (suc (suc (suc (suc (suc (suc (suc (suc (suc (suc zero)))))))))) =
+    Paired demanded f (Code demanded p)
+Contents demanded p f (suc (suc (suc (suc (suc (suc (suc (suc (suc (suc (suc zero))))))))))) =
+    Vector (Segment p)
 Contents demanded p f _ = λ b k. ⊥
 
 -- a section (section 5.5.2): its id, its size, and contents of so many bytes
 abbrev pub Section : Type 0 → Profile → (f id : ℕ) → MarkedForm
-Section demanded p f id = Then (Byte id None) (Number nothing_at (λ n. Sized demanded n (Contents demanded p f id)))
+Section demanded p f id =
+    Then (Byte id None) (Number nothing_at (λ n. Sized demanded n (Contents demanded p f id)))
 
 -- a custom section (section 5.5.3): a name, and then any bytes; it gives no item
 abbrev pub Custom : Type 0 → MarkedForm
-Custom demanded = Then (Byte 0 None) (Number nothing_at (λ n. Filled demanded n (Name demanded (λ text. None))))
+Custom demanded =
+    Then (Byte 0 None) (Number nothing_at (λ n. Filled demanded n (Name demanded (λ text. None))))
 
 abbrev pub Customs : Type 0 → MarkedForm
 Customs demanded b k = (n : ℕ) × Times n (Custom demanded) b k

@@ -32,8 +32,8 @@ pub data Item : Type 0 where
   segment : ℕ → Item
   data_byte : ℕ → Item
 
--- Where a byte lies: anywhere else; in a name that goes on after it; in a code entry that goes on after it; as the last
--- byte of a code entry.
+-- Where a byte lies: anywhere else; in a name that goes on after it; in a code entry that goes on after it;
+-- as the last byte of a code entry.
 pub data Zone : Type 0 where
   outside : Zone
   name : Zone

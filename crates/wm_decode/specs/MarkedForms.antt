@@ -1,5 +1,7 @@
--- Of what the grammar is made. A shape says which bytes spell something, and what is outside_mark beside each byte.
-use Rattle.std.specs.Prelude.{ℕ, zero, suc, ◌-◌, ◌≡◌, ◌≤◌, List, [], ◌∷◌, ◌++◌, Option, Some, None, length, IsUtf8}
+-- Of what the grammar is made. A shape says which bytes spell something, and what is
+-- outside_mark beside each byte.
+use Rattle.std.specs.Prelude.{ℕ, zero, suc, ◌-◌, ◌≡◌, ◌≤◌, List, [], ◌∷◌, ◌++◌, Option, Some, None, length}
+use Rattle.std.specs.Prelude.{IsUtf8}
 use Rattle.wm_syntax.specs.Spelling.{Form, AreBytes}
 use Rattle.wm_syntax.specs.Types.{SpellsU32}
 use Rattle.wm_decode.specs.Items.{Item, outside, name, entry, closing, Zone, Mark, Marks}
@@ -70,7 +72,8 @@ abbrev pub Leaf : {X : Type 0} → (X → Form ℕ) → (X → Item) → MarkedF
 Leaf {X} Spells part b k = (x : X) × Spells x b × (k ≡ marks_ending (Some (part x)) b)
 
 -- a number n, spelled so, at whose last byte an item may be complete, and then what n asks for
-pub record Counted (Spells : ℕ → List ℕ → Type 0) (x : ℕ → Option Item) (F : ℕ → MarkedForm) (b : List ℕ) (k : Marks)
+pub record Counted (Spells : ℕ → List ℕ → Type 0) (x : ℕ → Option Item) (F : ℕ → MarkedForm) (b : List ℕ)
+    (k : Marks)
     : Type 0 where
   pub n : ℕ
   pub front : List ℕ
@@ -96,7 +99,8 @@ abbrev pub Index : (ℕ → Item) → MarkedForm
 Index part = Number (λ n. Some (part n)) (λ n. Empty)
 
 -- A name (section 5.2.4): how long it is, spelled so, and its bytes. Where all is demanded they are UTF-8.
-pub record Text (demanded : Type 0) (Spells : ℕ → List ℕ → Type 0) (x : List ℕ → Option Item) (b : List ℕ) (k : Marks)
+pub record Text (demanded : Type 0) (Spells : ℕ → List ℕ → Type 0) (x : List ℕ → Option Item) (b : List ℕ)
+    (k : Marks)
     : Type 0 where
   pub front : List ℕ
   pub text : List ℕ
@@ -112,8 +116,8 @@ Name demanded = Text demanded SpellsU32
 abbrev pub Sized : Type 0 → ℕ → MarkedForm → MarkedForm
 Sized demanded n P b k = (demanded → length b ≡ n) × P b k
 
--- Something and then any bytes, so many in all: nothing else says where these bytes end. Where not all is demanded,
--- what comes first may take more than there are.
+-- Something and then any bytes, so many in all: nothing else says where these bytes end. Where not all is
+-- demanded, what comes first may take more than there are.
 pub record Filled (demanded : Type 0) (n : ℕ) (P : MarkedForm) (b : List ℕ) (k : Marks) : Type 0 where
   pub front : List ℕ
   pub back : List ℕ

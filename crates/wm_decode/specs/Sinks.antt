@@ -5,7 +5,9 @@ use Rattle.wm_syntax.specs.declared.why.Why.TheVariants as why
 use Rattle.wm_syntax.specs.declared.modules.ImportDesc.TheVariants as desc
 use Rattle.wm_decode.specs.declared.item.Item.{Item as Given}
 use Rattle.wm_decode.specs.declared.item.Item.TheVariants as items
-use Rattle.wm_decode.specs.Items.{Item, new_type, param, result_count, one_result, import_module, import_name, import_desc, function, table, memory, global, const_op, export_name, export, start, element, element_function, body, locals, body_op, segment, data_byte}
+use Rattle.wm_decode.specs.Items.{Item, new_type, param, result_count, one_result, import_module, import_name}
+use Rattle.wm_decode.specs.Items.{import_desc, function, table, memory, global, const_op, export_name, export}
+use Rattle.wm_decode.specs.Items.{start, element, element_function, body, locals, body_op, segment, data_byte}
 
 -- what a lent item stands for, without where its bytes lie: of a slice of data each byte is an item
 abbrev pub items_for : Given → List Item
@@ -59,8 +61,8 @@ abbrev pub TakenOrNot : {H U : Type 0} → Result H Why → Result U Why → H �
 TakenOrNot {H} expected (Ok u) now = expected ≡ Ok now
 TakenOrNot {H} expected (Err w) now = w ≢ why.Memory → (h : H) → expected ≡ Ok h → ⊥
 
--- A sink that held h took a lent item that stands for these: it holds what they leave one by one, and refuses what they
--- don't leave; a single item it refuses by its own name.
+-- A sink that held h took a lent item that stands for these: it holds what they leave one by one, and refuses
+-- what they don't leave; a single item it refuses by its own name.
 abbrev pub Took : {H U : Type 0} → (H → Item → Result H Why) → H → List Item → Result U Why → H → Type 0
 Took after h (x ∷ []) result now = Taken (after h x) result now
 Took after h xs result now = TakenOrNot (all_taken after h xs) result now

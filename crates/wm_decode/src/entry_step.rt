@@ -1,7 +1,9 @@
 //! What one byte does within a code entry (section 5.5.13).
 
 ghost use Rattle.std.specs.Prelude.{◌≡◌};
-ghost use Rattle.wm_decode.specs.exact.MemberSteps.{no_entry, runs_or_body, runs_count_step, run_step, entry_after_op, body_step, entry_step, member_in_entry, member_of_entry, entry_size_step};
+ghost use Rattle.wm_decode.specs.exact.MemberSteps.{no_entry, runs_or_body, runs_count_step, run_step};
+ghost use Rattle.wm_decode.specs.exact.MemberSteps.{entry_after_op, body_step, entry_step, member_in_entry};
+ghost use Rattle.wm_decode.specs.exact.MemberSteps.{member_of_entry, entry_size_step};
 
 use crate::expressions::{InExpression, expression_byte};
 use crate::machine::{Event, Plain};

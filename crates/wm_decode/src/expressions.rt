@@ -1,7 +1,9 @@
 //! One expression (section 5.4.6), byte by byte: ops up to the end that closes it.
 
 ghost use Rattle.std.specs.Prelude.{◌≡◌};
-ghost use Rattle.wm_decode.specs.exact.ExpressionSteps.{after_label, after_op, ends, expression_step, expression_failed, label_step, op_step, at_next_op, start};
+ghost use Rattle.wm_decode.specs.exact.ExpressionSteps.{after_label, after_op, ends, expression_step};
+ghost use Rattle.wm_decode.specs.exact.ExpressionSteps.{expression_failed, label_step, op_step, at_next_op};
+ghost use Rattle.wm_decode.specs.exact.ExpressionSteps.{start};
 
 use crate::ops::InOp;
 use crate::reading::Reading;

@@ -12,7 +12,8 @@ fn digit(c: u8) -> u8 {
     }
 }
 
-/// Bytes in hexadecimal digits; H is a header. No clause: it is of tests alone, and their rows show what it gives.
+/// Bytes in hexadecimal digits; H is a header. No clause: it is of tests alone, and their
+/// rows show what it gives.
 pub fn bytes_of(alloc: Global, words: &str) -> Result<Vec<u8>, AllocError> {
     let mut bytes = Vec::new(alloc);
     for word in words.split_whitespace() {

@@ -1,10 +1,12 @@
-//! Indices of one byte each that follow one another (section 5.5.1): what the byte step makes of them, at once.
+//! Indices of one byte each that follow one another (section 5.5.1): what the byte step
+//! makes of them, at once.
 //!
 //! The last of a list, one that is longer, and what is refused for its bytes are left to the byte step.
 
 ghost use Rattle.std.specs.Prelude.{◌≡◌, ◌≤◌, IfSome, length};
 ghost use Rattle.wm_decode.specs.exact.Shortcuts.{Advances};
-ghost use Rattle.wm_decode.specs.exact.Indices.{GaveEach, LiesIn, at_index, before_index, index_item_in, indices_after, most_indices};
+ghost use Rattle.wm_decode.specs.exact.Indices.{GaveEach, LiesIn, at_index, before_index, index_item_in};
+ghost use Rattle.wm_decode.specs.exact.Indices.{indices_after, most_indices};
 
 use crate::expressions::InExpression;
 use crate::machine::Machine;
@@ -21,13 +23,13 @@ pub(crate) enum IndexList {
     Types,
     /// The functions of an element segment (section 5.5.12), with so many after the next.
     Functions { rest: u32 },
-    /// The labels of a br_table (section 5.4.1), with so many after the next. So many bytes of the entry come after that,
-    /// and so many blocks are open.
+    /// The labels of a br_table (section 5.4.1), with so many after the next. So many bytes of the entry come
+    /// after that, and so many blocks are open.
     Labels { rest: u32, depth: u32, labels: u32 },
 }
 
-/// What is known before an index: of the section, how many functions await their code, how many bytes come after the next
-/// and how many members after this one; and of what the index is.
+/// What is known before an index: of the section, how many functions await their code, how many bytes come
+/// after the next and how many members after this one; and of what the index is.
 #[derive(Clone, Copy)]
 pub(crate) struct InIndices {
     pub(crate) of: SectionKind,
@@ -194,12 +196,13 @@ impl InIndices {
     }
 }
 
-// Gives a sink the index that each of these bytes is, up to one that it refuses. Out of line, where the loop keeps its
-// values in registers.
+// Gives a sink the index that each of these bytes is, up to one that it refuses. Out of line, where the loop
+// keeps its values in registers.
 #[inline(never)]
 fn give_indices<S: Sink>(sink: &mut S, list: IndexList, bytes: &[u8]) -> Shortcut
     ensures within { result.used ≤ length bytes.now }
-    ensures given { GaveEach S.after (index_item_in list) bytes.now (S.held sink.old) result.used result.refused
+    ensures given { GaveEach S.after (index_item_in list) bytes.now
+        (S.held sink.old) result.used result.refused
         (S.held sink.new) }
 {
     for (i, byte) in bytes.iter().enumerate() {
@@ -216,11 +219,12 @@ fn give_indices<S: Sink>(sink: &mut S, list: IndexList, bytes: &[u8]) -> Shortcu
     }
 }
 
-/// Takes the indices of one byte each at the front of these bytes, but the last of their list, where there are two or
-/// more.
+/// Takes the indices of one byte each at the front of these bytes, but the last of their list, where there
+/// are two or more.
 #[tactic(auto, using(crate::proofs::Advances::advances_none))]
 pub(crate) fn indices<S: Sink>(sink: &mut S, machine: &mut Machine, bytes: &[u8]) -> Shortcut
-    ensures { Advances S.after S.may_run_out bytes.now machine.old (S.held sink.old) result machine.new (S.held sink.new) }
+    ensures { Advances S.after S.may_run_out bytes.now machine.old (S.held sink.old) result machine.new
+        (S.held sink.new) }
 {
     let Some(before) = InIndices::of(*machine) else {
         return Shortcut::none();

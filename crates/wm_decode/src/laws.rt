@@ -37,8 +37,8 @@ pub fn slices_join<S: Sink>()
         ≡ and_then (all_taken S.after h (map data_byte a)) (λ g. all_taken S.after g (map data_byte b)) }
 {}
 
-/// A whole input has the items of a flat value with its bytes, and what has the bytes of a flat value is a whole input
-/// with its items.
+/// A whole input has the items of a flat value with its bytes, and what has the bytes of a flat value is a
+/// whole input with its items.
 pub fn items_are_flat()
     ensures read { (p : Profile) (b : List ℕ) (k : Marks) → Items p b k
         → (v : FlatModule) × SpellsFlat p v b × (items_at k ≡ flat_items v) }
@@ -50,11 +50,13 @@ pub fn items_are_flat()
 pub fn module_is_flat()
     ensures flat { (p : Profile) (m : ModuleValue) (b : List ℕ) → SpellsModule m b → IsOf p m
         → (v : FlatModule) × IsFlatOf m v × SpellsFlat p v b }
-    ensures nested { (p : Profile) (m : ModuleValue) (v : FlatModule) (b : List ℕ) → IsFlatOf m v → SpellsFlat p v b
+    ensures nested { (p : Profile) (m : ModuleValue) (v : FlatModule) (b : List ℕ) → IsFlatOf m v
+        → SpellsFlat p v b
         → SpellsModule m b × IsOf p m }
 {}
 
-/// What spells a module is a whole input with the items of a flat value of the module, and such an input spells it.
+/// What spells a module is a whole input with the items of a flat value of the module, and
+/// such an input spells it.
 pub fn items_are_module()
     ensures items { (p : Profile) (m : ModuleValue) (b : List ℕ) → SpellsModule m b → IsOf p m
         → (k : Marks) × (v : FlatModule) × Items p b k × IsFlatOf m v × (items_at k ≡ flat_items v) }
@@ -65,7 +67,8 @@ pub fn items_are_module()
 /// The items determine the flat value and the module.
 pub fn items_determine_module()
     ensures flat { (v w : FlatModule) → flat_items v ≡ flat_items w → v ≡ w }
-    ensures nested { (m n : ModuleValue) (v w : FlatModule) → IsFlatOf m v → IsFlatOf n w → flat_items v ≡ flat_items w
+    ensures nested { (m n : ModuleValue) (v w : FlatModule) → IsFlatOf m v → IsFlatOf n w
+        → flat_items v ≡ flat_items w
         → m ≡ n }
 {}
 

@@ -2,7 +2,11 @@
 
 ghost use Rattle.std.specs.Prelude.{◌≡◌};
 ghost use Rattle.wm_decode.specs.exact.Members.{member_at_start};
-ghost use Rattle.wm_decode.specs.exact.MemberSteps.{member_failed, after_name, name_length_step, name_step, value_step, functions_or_over, index_item, after_index, index_step, global_type_step, constant_over, after_constant, constant_step, length_step, data_or_over, member_step};
+ghost use Rattle.wm_decode.specs.exact.MemberSteps.{member_failed, after_name, name_length_step, name_step};
+ghost use Rattle.wm_decode.specs.exact.MemberSteps.{value_step, functions_or_over, index_item, after_index};
+ghost use Rattle.wm_decode.specs.exact.MemberSteps.{index_step, global_type_step, constant_over};
+ghost use Rattle.wm_decode.specs.exact.MemberSteps.{after_constant, constant_step, length_step, data_or_over};
+ghost use Rattle.wm_decode.specs.exact.MemberSteps.{member_step};
 
 use crate::entry_step::{entry, entry_size};
 use crate::expressions::{InExpression, expression_byte};

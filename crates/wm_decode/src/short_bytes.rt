@@ -30,9 +30,11 @@ fn stepped<S: Sink>(
     requires machine { machine.old ≡ standing place }
     requires more { 0 < place.more }
     requires found { IfSome found (λ s. StepsTo place.of place.left place.at (slice_index bytes.now 0) s) }
-    ensures advances { Advances S.after S.may_run_out bytes.now machine.old (S.held sink.old) result machine.new (S.held sink.new) }
+    ensures advances { Advances S.after S.may_run_out bytes.now machine.old
+        (S.held sink.old) result machine.new (S.held sink.new) }
     // Where it was found, this is where the next byte stands.
-    ensures next { IfSome found (λ s. (result.used ≡ 1) × (machine.new ≡ after_stepped place.of place.functions (place.more - 1) s)) }
+    ensures next { IfSome found (λ s. (result.used ≡ 1)
+        × (machine.new ≡ after_stepped place.of place.functions (place.more - 1) s)) }
 {
     let Some(next) = found else {
         return Shortcut::none();
@@ -63,7 +65,8 @@ fn stepped_twice<S: Sink>(
     requires more { 1 < place.more }
     requires first { StepsTo place.of place.left place.at (slice_index bytes.now 0) first }
     requires second { StepsTo place.of first.left first.at (slice_index bytes.now 1) second }
-    ensures { Advances S.after S.may_run_out bytes.now machine.old (S.held sink.old) result machine.new (S.held sink.new) }
+    ensures { Advances S.after S.may_run_out bytes.now machine.old (S.held sink.old) result machine.new
+        (S.held sink.new) }
 {
     let after = Place {
         of: place.of,
@@ -97,7 +100,8 @@ fn entry_size<S: Sink>(
     requires more { 0 < place.more }
     requires of { place.of ≡ SectionKind.Code }
     requires stands { place.at ≡ InMember.EntrySize number }
-    ensures { Advances S.after S.may_run_out bytes.now machine.old (S.held sink.old) result machine.new (S.held sink.new) }
+    ensures { Advances S.after S.may_run_out bytes.now machine.old (S.held sink.old) result machine.new
+        (S.held sink.new) }
 {
     let left = place.left;
     let byte = bytes[0];
@@ -109,7 +113,8 @@ fn entry_size<S: Sink>(
     stepped(sink, machine, bytes, place, size_byte(left, number, byte))
 }
 
-// In the count of a run of locals, where so many bytes of the entry come after the next, and so many runs after this one
+// In the count of a run of locals, where so many bytes of the entry come after the next, and so many runs
+// after this one
 #[inline(always)]
 fn run<S: Sink>(
     sink: &mut S,
@@ -125,7 +130,8 @@ fn run<S: Sink>(
     requires more { 0 < place.more }
     requires of { place.of ≡ SectionKind.Code }
     requires stands { place.at ≡ InMember.Entry more (InEntry.Run runs (InRun.Count number)) }
-    ensures { Advances S.after S.may_run_out bytes.now machine.old (S.held sink.old) result machine.new (S.held sink.new) }
+    ensures { Advances S.after S.may_run_out bytes.now machine.old (S.held sink.old) result machine.new
+        (S.held sink.new) }
 {
     let left = place.left;
     let byte = bytes[0];
@@ -146,7 +152,8 @@ fn short_type<S: Sink>(sink: &mut S, machine: &mut Machine, bytes: &[u8], place:
     requires machine { machine.old ≡ standing place }
     requires more { 0 < place.more }
     requires of { place.of ≡ SectionKind.Type }
-    ensures { Advances S.after S.may_run_out bytes.now machine.old (S.held sink.old) result machine.new (S.held sink.new) }
+    ensures { Advances S.after S.may_run_out bytes.now machine.old (S.held sink.old) result machine.new
+        (S.held sink.new) }
 {
     let byte = bytes[0];
     let left = place.left;
@@ -179,7 +186,8 @@ fn short_code<S: Sink>(sink: &mut S, machine: &mut Machine, bytes: &[u8], place:
     requires machine { machine.old ≡ standing place }
     requires more { 0 < place.more }
     requires of { place.of ≡ SectionKind.Code }
-    ensures { Advances S.after S.may_run_out bytes.now machine.old (S.held sink.old) result machine.new (S.held sink.new) }
+    ensures { Advances S.after S.may_run_out bytes.now machine.old (S.held sink.old) result machine.new
+        (S.held sink.new) }
 {
     let byte = bytes[0];
     let left = place.left;
@@ -214,7 +222,8 @@ fn short_code<S: Sink>(sink: &mut S, machine: &mut Machine, bytes: &[u8], place:
 #[tactic(auto, using(crate::proofs::Advances::advances_none))]
 pub(crate) fn short<S: Sink>(sink: &mut S, machine: &mut Machine, bytes: &[u8]) -> Shortcut
     requires { 0 < length bytes.now }
-    ensures { Advances S.after S.may_run_out bytes.now machine.old (S.held sink.old) result machine.new (S.held sink.new) }
+    ensures { Advances S.after S.may_run_out bytes.now machine.old (S.held sink.old) result machine.new
+        (S.held sink.new) }
 {
     let Some(place) = Place::of(*machine) else {
         return Shortcut::none();

@@ -1,4 +1,5 @@
-//! One byte of function types, or of a code entry's head or last `end`: what the byte step makes of it, by a shorter way.
+//! One byte of function types, or of a code entry's head or last `end`: what the byte step makes of it, by a
+//! shorter way.
 //!
 //! What ends a section or is refused for its bytes is left to the byte step.
 
@@ -15,8 +16,8 @@ use crate::values::{InRun, value_type};
 use wm_syntax::instructions::Op;
 use wm_syntax::numbers::{Num32, Step};
 
-/// Where in a section the next byte stands, how many members come after this one, and the item that the last byte
-/// completed.
+/// Where in a section the next byte stands, how many members come after this one, and the item that the last
+/// byte completed.
 #[derive(Clone, Copy)]
 pub(crate) struct Stepped {
     pub(crate) left: u32,
@@ -24,8 +25,8 @@ pub(crate) struct Stepped {
     pub(crate) part: Option<Plain>,
 }
 
-/// Where a byte stands in a section that goes on after it: of what it is a list, how many functions await their code, how
-/// many bytes come after the next one and how many members after this one.
+/// Where a byte stands in a section that goes on after it: of what it is a list, how many functions await
+/// their code, how many bytes come after the next one and how many members after this one.
 #[derive(Clone, Copy)]
 pub(crate) struct Place {
     pub(crate) of: SectionKind,
@@ -91,7 +92,8 @@ pub(crate) fn size_byte(left: u32, mut number: Num32, byte: u8) -> Option<Steppe
 /// In the count of an entry's runs of locals
 #[inline(always)]
 pub(crate) fn run_count_byte(left: u32, more: u32, mut number: Num32, byte: u8) -> Option<Stepped>
-    ensures { IfSome result (λ s. StepsTo SectionKind.Code left (InMember.Entry more (InEntry.RunCount number)) byte s) }
+    ensures { IfSome result (λ s. StepsTo SectionKind.Code left
+        (InMember.Entry more (InEntry.RunCount number)) byte s) }
 {
     let Step::Done(runs) = number.push(byte) else {
         return None;
@@ -116,7 +118,8 @@ pub(crate) fn local_count_byte(
     mut number: Num32,
     byte: u8,
 ) -> Option<Stepped>
-    ensures { IfSome result (λ s. StepsTo SectionKind.Code left (InMember.Entry more (InEntry.Run runs (InRun.Count number))) byte s) }
+    ensures { IfSome result (λ s. StepsTo SectionKind.Code left
+        (InMember.Entry more (InEntry.Run runs (InRun.Count number))) byte s) }
 {
     if more == 0 {
         return None;
@@ -145,7 +148,8 @@ pub(crate) fn local_type_byte(
     count: u32,
     byte: u8,
 ) -> Option<Stepped>
-    ensures { IfSome result (λ s. StepsTo SectionKind.Code left (InMember.Entry more (InEntry.Run runs (InRun.Type count))) byte s) }
+    ensures { IfSome result (λ s. StepsTo SectionKind.Code left
+        (InMember.Entry more (InEntry.Run runs (InRun.Type count))) byte s) }
 {
     if more == 0 {
         return None;
@@ -194,7 +198,8 @@ pub(crate) fn short_run(
     first: u8,
     second: u8,
 ) -> Option<(Stepped, Stepped)>
-    ensures first { IfSome result (λ p. StepsTo SectionKind.Code left (InMember.Entry more (InEntry.Run runs (InRun.Count number))) first p.0) }
+    ensures first { IfSome result (λ p. StepsTo SectionKind.Code left
+        (InMember.Entry more (InEntry.Run runs (InRun.Count number))) first p.0) }
     ensures second { IfSome result (λ p. StepsTo SectionKind.Code p.0.left p.0.at second p.1) }
 {
     if more == 0 {
@@ -219,7 +224,8 @@ pub(crate) fn short_run(
 // The last byte of an entry, where another comes after it
 #[inline(always)]
 fn last_byte(left: u32, more: u32, depth: u32, at: InOp, byte: u8) -> Option<Stepped>
-    ensures { IfSome result (λ s. StepsTo SectionKind.Code left (InMember.Entry more (InEntry.Body (InExpression.Op depth at))) byte s) }
+    ensures { IfSome result (λ s. StepsTo SectionKind.Code left
+        (InMember.Entry more (InEntry.Body (InExpression.Op depth at))) byte s) }
 {
     let InOp::First = at else {
         return None;
@@ -237,7 +243,8 @@ fn last_byte(left: u32, more: u32, depth: u32, at: InOp, byte: u8) -> Option<Ste
 /// In a body
 #[inline(always)]
 pub(crate) fn body_byte(left: u32, more: u32, at: InExpression, byte: u8) -> Option<Stepped>
-    ensures { IfSome result (λ s. StepsTo SectionKind.Code left (InMember.Entry more (InEntry.Body at)) byte s) }
+    ensures { IfSome result (λ s. StepsTo SectionKind.Code left (InMember.Entry more (InEntry.Body at)) byte
+        s) }
 {
     match at {
         InExpression::Op { depth, at } => last_byte(left, more, depth, at, byte),

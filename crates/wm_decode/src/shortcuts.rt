@@ -1,7 +1,7 @@
 //! Shortcuts: bytes that are taken at once, as the byte step takes them one by one.
 //!
-//! Each finds for itself whether it can be taken. It moves the machine and gives the sink what the bytes complete; the
-//! decoder does the rest.
+//! Each finds for itself whether it can be taken. It moves the machine and gives the sink what the bytes
+//! complete; the decoder does the rest.
 
 ghost use Rattle.std.specs.Prelude.{◌≡◌, ◌<◌, None, length, min};
 ghost use Rattle.wm_decode.specs.exact.Shortcuts.{Advances};
@@ -92,7 +92,8 @@ fn way_in_code(at: InMember) -> Way {
 // Takes the ops of a code entry that lie whole in these bytes
 #[tactic(auto, using(crate::proofs::Advances::advances_none))]
 fn ops<S: Sink>(sink: &mut S, machine: &mut Machine, bytes: &[u8]) -> Shortcut
-    ensures { Advances S.after S.may_run_out bytes.now machine.old (S.held sink.old) result machine.new (S.held sink.new) }
+    ensures { Advances S.after S.may_run_out bytes.now machine.old (S.held sink.old) result machine.new
+        (S.held sink.new) }
 {
     let Some(body) = InBody::of(*machine) else {
         return Shortcut::none();
@@ -116,7 +117,8 @@ fn ops<S: Sink>(sink: &mut S, machine: &mut Machine, bytes: &[u8]) -> Shortcut
 #[tactic(auto, using(crate::proofs::Advances::advances_none))]
 fn data<S: Sink>(sink: &mut S, machine: &mut Machine, bytes: &[u8]) -> Shortcut
     requires { 0 < length bytes.now }
-    ensures { Advances S.after S.may_run_out bytes.now machine.old (S.held sink.old) result machine.new (S.held sink.new) }
+    ensures { Advances S.after S.may_run_out bytes.now machine.old (S.held sink.old) result machine.new
+        (S.held sink.new) }
 {
     let Machine::Section {
         of,
@@ -162,7 +164,8 @@ fn data<S: Sink>(sink: &mut S, machine: &mut Machine, bytes: &[u8]) -> Shortcut
 // Skips the bytes of a custom section, but its last. The sink is given nothing.
 #[tactic(auto, using(crate::proofs::Advances::advances_none))]
 fn pass<S: Sink>(sink: &S, machine: &mut Machine, bytes: &[u8]) -> Shortcut
-    ensures { Advances S.after S.may_run_out bytes.now machine.old (S.held sink.now) result machine.new (S.held sink.now) }
+    ensures { Advances S.after S.may_run_out bytes.now machine.old (S.held sink.now) result machine.new
+        (S.held sink.now) }
 {
     let Machine::Custom {
         last,
@@ -193,7 +196,8 @@ fn pass<S: Sink>(sink: &S, machine: &mut Machine, bytes: &[u8]) -> Shortcut
 #[tactic(auto, using(crate::proofs::Advances::advances_none))]
 pub(crate) fn take_way<S: Sink>(sink: &mut S, machine: &mut Machine, bytes: &[u8]) -> Shortcut
     requires { 0 < length bytes.now }
-    ensures { Advances S.after S.may_run_out bytes.now machine.old (S.held sink.old) result machine.new (S.held sink.new) }
+    ensures { Advances S.after S.may_run_out bytes.now machine.old (S.held sink.old) result machine.new
+        (S.held sink.new) }
 {
     match way_of(*machine) {
         Way::Ops => {

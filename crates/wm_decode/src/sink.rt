@@ -26,6 +26,7 @@ pub trait Sink: Drop {
         ensures took { Took after (held self.old) (items_for item.entry) result (held self.new) }
         ensures room { RunsOut may_run_out (held self.old) (items_for item.entry) result };
 
-    // No sink refuses data bytes, but for want of memory: a refusal that the bytes decide never lies within a slice of them.
+    // No sink refuses data bytes, but for want of memory: a refusal that the bytes decide never lies within a
+    // slice of them.
     ghost takes_data: { (h : Held) (c : ℕ) → IsOk (after h (data_byte c)) };
 }

@@ -1,7 +1,11 @@
 //! What one byte does between sections and to the frame of one.
 
 ghost use Rattle.std.specs.Prelude.{◌≡◌};
-ghost use Rattle.wm_decode.specs.exact.Steps.{custom_length_step, custom_name_step, custom_step, machine_in_custom, machine_in_member, machine_refused, section_start, machine_after_count, machine_after_paired_count, count_step, after_size, size_step, custom_size, custom_size_step, header_step, step_of};
+ghost use Rattle.wm_decode.specs.exact.Steps.{custom_length_step, custom_name_step, custom_step};
+ghost use Rattle.wm_decode.specs.exact.Steps.{machine_in_custom, machine_in_member, machine_refused};
+ghost use Rattle.wm_decode.specs.exact.Steps.{section_start, machine_after_count, machine_after_paired_count};
+ghost use Rattle.wm_decode.specs.exact.Steps.{count_step, after_size, size_step, custom_size};
+ghost use Rattle.wm_decode.specs.exact.Steps.{custom_size_step, header_step, step_of};
 
 use crate::machine::{Event, InCustom, Machine, NameKind};
 use crate::member::{InMember, SectionKind};

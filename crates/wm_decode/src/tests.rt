@@ -159,7 +159,8 @@ fn told_by(alloc: Global, decoder: Decoder<Recorder>) -> Result<String, AllocErr
     Ok(told)
 }
 
-// The same of an input of which so many bytes come first, and the rest in pieces of so many, an empty one after each.
+// The same of an input of which so many bytes come first, and the rest in pieces of so many,
+// an empty one after each.
 fn told(alloc: Global, bytes: &[u8], first: usize, size: usize) -> Result<String, AllocError>
     requires { 0 < size }
 {
@@ -409,7 +410,8 @@ fn a_name_that_goes_on(rt: HostRuntime) {
     expect_held(&rt, &mut decoder, b"c\x01\x04\x01\x60", 0, 1);
 }
 
-// A header of which seven bytes are within the limit, of which so many come first and the rest in pieces of so many.
+// A header of which seven bytes are within the limit, of which so many come first and the
+// rest in pieces of so many.
 fn past_the_limit(alloc: Global, first: usize, size: usize) -> Option<Refusal>
     requires { 0 < size }
 {

@@ -1,7 +1,8 @@
 //! What one byte does within a function type (section 5.3.3).
 
 ghost use Rattle.std.specs.Prelude.{◌≡◌};
-ghost use Rattle.wm_decode.specs.exact.MemberSteps.{type_form_step, after_param, param_count_step, param_step, after_result, result_count_step, result_step};
+ghost use Rattle.wm_decode.specs.exact.MemberSteps.{type_form_step, after_param, param_count_step};
+ghost use Rattle.wm_decode.specs.exact.MemberSteps.{param_step, after_result, result_count_step, result_step};
 
 use crate::machine::{Event, Plain};
 use crate::member::InMember;

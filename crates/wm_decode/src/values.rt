@@ -2,7 +2,11 @@
 //! brings in and an export gives out, and a run of locals.
 
 ghost use Rattle.std.specs.Prelude.{◌≡◌};
-ghost use Rattle.wm_decode.specs.exact.ValueSteps.{limits_push, min_step, max_step, table_type_push, global_type_push, desc_push, func_step, target_push, target_step, run_push, run_count_step, value_push, in_table, in_memory, in_global, of_import, of_table, of_memory, of_export, value_type_of};
+ghost use Rattle.wm_decode.specs.exact.ValueSteps.{limits_push, min_step, max_step, table_type_push};
+ghost use Rattle.wm_decode.specs.exact.ValueSteps.{global_type_push, desc_push, func_step, target_push};
+ghost use Rattle.wm_decode.specs.exact.ValueSteps.{target_step, run_push, run_count_step, value_push};
+ghost use Rattle.wm_decode.specs.exact.ValueSteps.{in_table, in_memory, in_global, of_import, of_table};
+ghost use Rattle.wm_decode.specs.exact.ValueSteps.{of_memory, of_export, value_type_of};
 
 use crate::machine::Plain;
 use crate::reading::Reading::{self, Bad, Done, More};

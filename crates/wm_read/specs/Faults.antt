@@ -1,7 +1,11 @@
 -- Why a text is refused: the printed words, and which of them the tokens of a text can give.
 use Rattle.std.specs.Prelude.{◌≡◌, ◌⊎◌, ℕ, List, codes}
 use Rattle.wm_read.specs.declared.faults.TextWhy.{TextWhy}
-use Rattle.wm_read.specs.declared.faults.TextWhy.TheVariants.{NotUtf8, BadToken, OpenComment, OpenString, BadEscape, Expected, UnknownWord, BadInteger, BadName, UnknownId, RepeatedId, TypeUse, ImportPlace, SecondStart, NotConst, BadAlign, LabelEnd, TooManyLocals, Float, Memory}
+use Rattle.wm_read.specs.declared.faults.TextWhy.TheVariants.{NotUtf8, BadToken, OpenComment, OpenString}
+use Rattle.wm_read.specs.declared.faults.TextWhy.TheVariants.{BadEscape, Expected, UnknownWord, BadInteger}
+use Rattle.wm_read.specs.declared.faults.TextWhy.TheVariants.{BadName, UnknownId, RepeatedId, TypeUse}
+use Rattle.wm_read.specs.declared.faults.TextWhy.TheVariants.{ImportPlace, SecondStart, NotConst, BadAlign}
+use Rattle.wm_read.specs.declared.faults.TextWhy.TheVariants.{LabelEnd, TooManyLocals, Float, Memory}
 
 abbrev pub name_of : TextWhy → List ℕ
 name_of NotUtf8 = codes "NotUtf8"

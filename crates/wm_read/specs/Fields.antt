@@ -1,5 +1,7 @@
 -- The text of a module (section 6.6): which tokens write it.
-use Rattle.std.specs.Prelude.{◌≡◌, ℕ, ◌<◌, ◌≤◌, ◌^◌, List, [], ◌∷◌, ◌++◌, Bool, true, false, Option, Some, None, IsUtf8, AllPairs, codes, length, map, filter_map, flat_map, slice_get, if◌then◌else◌}
+use Rattle.std.specs.Prelude.{◌≡◌, ℕ, ◌<◌, ◌≤◌, ◌^◌, List, [], ◌∷◌, ◌++◌, Bool, true, false, Option, Some}
+use Rattle.std.specs.Prelude.{None, IsUtf8, AllPairs, codes, length, map, filter_map, flat_map, slice_get}
+use Rattle.std.specs.Prelude.{if◌then◌else◌}
 use Rattle.wm_syntax.specs.Spelling.{Form, Each, ◌▸◌}
 use Rattle.wm_syntax.specs.declared.types.ValType.{ValType}
 use Rattle.wm_syntax.specs.declared.types.Limits.{Limits}
@@ -14,7 +16,9 @@ use Rattle.wm_syntax.specs.Profiles.{IsOf}
 use Rattle.wm_syntax.specs.Modules.{Import, Function, GlobalDef, Export, Element, Segment, Module, constant}
 use Rattle.wm_read.specs.Tokens.{Token, string}
 use Rattle.wm_read.specs.Identifiers.{Id, AreDistinct, WritesId, Resolves}
-use Rattle.wm_read.specs.Written.{Word, Paren, Nothing, Number, WritesType, Named, WritesGroups, WritesResults, types_of, ids_of, Names, TypeUse, WritesSimple, WritesInstructions}
+use Rattle.wm_read.specs.Written.{Word, Paren, Nothing, Number, WritesType, Named, WritesGroups}
+use Rattle.wm_read.specs.Written.{WritesResults, types_of, ids_of, Names, TypeUse, WritesSimple}
+use Rattle.wm_read.specs.Written.{WritesInstructions}
 
 abbrev pub WritesName : List ℕ → Form Token
 WritesName name k = IsUtf8 name × (k ≡ string name ∷ [])
@@ -54,10 +58,11 @@ pub data Field : Type 0 where
   element_field : Element → Field
   segment_field : Segment → Field
 
--- What an import brings in. The identifiers of a function's parameters mean nothing, so two of them may be the same,
--- which section 6.6.3 does not allow.
+-- What an import brings in. The identifiers of a function's parameters mean nothing, so two of them may be
+-- the same, which section 6.6.3 does not allow.
 abbrev pub WritesDesc : Names → Id → ImportDesc → Form Token
-WritesDesc names id (Func x) = λ k. (ps : List Named) × Paren (codes "func") (WritesId id ▸ TypeUse names x ps) k
+WritesDesc names id (Func x) = λ k. (ps : List Named)
+    × Paren (codes "func") (WritesId id ▸ TypeUse names x ps) k
 WritesDesc names id (Table l) = Paren (codes "table") (WritesId id ▸ WritesTableType l)
 WritesDesc names id (Memory l) = Paren (codes "memory") (WritesId id ▸ WritesLimits l)
 WritesDesc names id (Global g) = Paren (codes "global") (WritesId id ▸ WritesGlobalType g.var g.ty)
@@ -73,12 +78,14 @@ abbrev pub WritesFunction : Names → Id → Function → Form Token
 WritesFunction names id f k =
     (params locals : List Named) × (types_of locals ≡ f.locals) × (length f.locals < 2 ^ 32)
     × AreDistinct (ids_of (params ++ locals))
-    × Paren (codes "func") (WritesId id ▸ TypeUse names f.type_index params ▸ WritesGroups (codes "local") locals
+    × Paren (codes "func") (WritesId id ▸ TypeUse names f.type_index params
+    ▸ WritesGroups (codes "local") locals
     ▸ WritesInstructions (record { names = names; locals = ids_of (params ++ locals) }) [] f.body) k
 
 -- the strings of a data field are joined
 abbrev pub WritesStrings : List ℕ → Form Token
-WritesStrings bytes k = (items : List (List ℕ)) × (bytes ≡ flat_map (λ part. part) items) × (k ≡ map string items)
+WritesStrings bytes k = (items : List (List ℕ)) × (bytes ≡ flat_map (λ part. part) items)
+    × (k ≡ map string items)
 
 abbrev pub WritesOffset : Names → Const → Form Token
 WritesOffset names c = Paren (codes "offset") (WritesConst names c)
@@ -92,13 +99,16 @@ WritesField names (table_field id l) = Paren (codes "table") (WritesId id ▸ Wr
 WritesField names (memory_field id l) = Paren (codes "memory") (WritesId id ▸ WritesLimits l)
 WritesField names (global_field id g) =
     Paren (codes "global") (WritesId id ▸ WritesGlobalType g.ty.var g.ty.ty ▸ WritesConst names g.init)
-WritesField names (export_field e) = Paren (codes "export") (WritesName e.name ▸ WritesExport names e.kind e.index)
+WritesField names (export_field e) =
+    Paren (codes "export") (WritesName e.name ▸ WritesExport names e.kind e.index)
 WritesField names (start_field x) = Paren (codes "start") (Resolves names.functions x)
 WritesField names (element_field e) =
     Paren (codes "elem")
-    (Resolves names.tables e.table ▸ WritesOffset names e.offset ▸ Each (Resolves names.functions) e.functions)
+    (Resolves names.tables e.table ▸ WritesOffset names e.offset
+    ▸ Each (Resolves names.functions) e.functions)
 WritesField names (segment_field s) =
-    Paren (codes "data") (Resolves names.memories s.memory ▸ WritesOffset names s.offset ▸ WritesStrings s.bytes)
+    Paren (codes "data") (Resolves names.memories s.memory ▸ WritesOffset names s.offset
+    ▸ WritesStrings s.bytes)
 
 -- what a list of fields has of each kind
 abbrev pub type_of : Field → Option (Id × Signature)
@@ -207,7 +217,8 @@ pub record Writes (p : Profile) (k : List Token) (m : Module) : Type 0 where
   pub text : Paren (codes "module") (WritesId id ▸ Each (WritesField (names_of fields)) fields) k
   pub value : module_of fields ≡ m
   pub instructions : IsOf p m
-  -- imports stand before what is defined, at most one field is a start, and identifiers are distinct in their spaces
+  -- imports stand before what is defined, at most one field is a start, and identifiers are
+  -- distinct in their spaces
   pub imports_first : AllPairs (λ f g. IsDefinition f → IsImport g → ⊥) fields
   pub one_start : length (filter_map start_of fields) ≤ 1
   pub distinct : HasDistinct (names_of fields)

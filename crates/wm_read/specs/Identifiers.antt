@@ -13,7 +13,8 @@ Ids = List Id
 
 -- no two items have one identifier
 abbrev pub AreDistinct : Ids → Type 0
-AreDistinct ids = (name : List ℕ) (x y : ℕ) → slice_get ids x ≡ Some (Some name) → slice_get ids y ≡ Some (Some name) → x ≡ y
+AreDistinct ids = (name : List ℕ) (x y : ℕ) → slice_get ids x ≡ Some (Some name)
+    → slice_get ids y ≡ Some (Some name) → x ≡ y
 
 -- an identifier where there is one
 abbrev pub WritesId : Id → Form Token
@@ -24,13 +25,14 @@ WritesId (Some name) = λ k. IsIdentifier name × (k ≡ atom name ∷ [])
 abbrev pub IsIndex : Ids → ℕ → List ℕ → Type 0
 IsIndex ids x a = (x < 2 ^ 32) × (IsUnsigned 32 x a ⊎ (IsIdentifier a × (slice_get ids x ≡ Some (Some a))))
 
--- Of labels, innermost first, an identifier means the nearest that has it. So blocks within one another may share one,
--- which section 6.5.1 does not allow.
+-- Of labels, innermost first, an identifier means the nearest that has it. So blocks within one another may
+-- share one, which section 6.5.1 does not allow.
 abbrev pub IsLabel : Ids → ℕ → List ℕ → Type 0
 IsLabel labels l a =
     (l < 2 ^ 32)
     × (IsUnsigned 32 l a
-    ⊎ (IsIdentifier a × (slice_get labels l ≡ Some (Some a)) × ((j : ℕ) → j < l → slice_get labels j ≢ Some (Some a))))
+    ⊎ (IsIdentifier a × (slice_get labels l ≡ Some (Some a))
+    × ((j : ℕ) → j < l → slice_get labels j ≢ Some (Some a))))
 
 -- one atom, of which this holds
 abbrev pub One : {X : Type 0} → (X → List ℕ → Type 0) → X → Form Token

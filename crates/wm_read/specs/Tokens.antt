@@ -1,9 +1,14 @@
--- The tokens of a text (sections 6.2 and 6.3). A text is the list of its bytes; a byte of an ASCII character is that character.
-use Rattle.std.specs.Prelude.{◌≡◌, ◌≢◌, ℕ, ◌+◌, ◌-◌, ◌*◌, ◌^◌, ◌<◌, ◌≤◌, ◌⊎◌, ◌==◌, ◌&&◌, ◌||◌, not, List, [], ◌∷◌, ◌++◌, Bool, false, Option, Some, None, IsTrue, IsFalse, IsUtf8, ℤ, pos, neg_ℤ, ◌-ℤ◌, if◌then◌else◌, flat_map, codes, length, fold, nat_le, nat_lt, encode_utf8}
+-- The tokens of a text (sections 6.2 and 6.3). A text is the list of its bytes; a byte of an ASCII character
+-- is that character.
+use Rattle.std.specs.Prelude.{◌≡◌, ◌≢◌, ℕ, ◌+◌, ◌-◌, ◌*◌, ◌^◌, ◌<◌, ◌≤◌, ◌⊎◌, ◌==◌, ◌&&◌, ◌||◌, not, List, []}
+use Rattle.std.specs.Prelude.{◌∷◌, ◌++◌, Bool, false, Option, Some, None, IsTrue, IsFalse, IsUtf8, ℤ, pos}
+use Rattle.std.specs.Prelude.{neg_ℤ, ◌-ℤ◌, if◌then◌else◌, flat_map, codes, length, fold, nat_le, nat_lt}
+use Rattle.std.specs.Prelude.{encode_utf8}
 use Rattle.std.specs.List.{list_any, list_all, AllByRecursion}
 use Rattle.wm_syntax.specs.Spelling.{Form, Byte, Exactly, Each, ◌▸◌, ◌∣◌}
 
--- A token (section 6.2.2): a parenthesis; a string, by the bytes that it means; or an atom, by its characters.
+-- A token (section 6.2.2): a parenthesis; a string, by the bytes that it means; or an
+-- atom, by its characters.
 pub data Token : Type 0 where
   open_paren : Token
   close_paren : Token
@@ -23,12 +28,13 @@ abbrev pub opens_or_ends : ℕ → List ℕ → Bool
 opens_or_ends c [] = false
 opens_or_ends c (d ∷ b) = ((c == 59) && (d == 41)) || ((c == 40) && (d == 59))
 
--- What follows the (; of a block comment (section 6.2.4): its ;), or a byte where neither ;) nor (; stands and then
--- the rest, or a block comment within it and then the rest.
+-- What follows the (; of a block comment (section 6.2.4): its ;), or a byte where neither ;) nor (; stands
+-- and then the rest, or a block comment within it and then the rest.
 pub data CommentRest : List ℕ → Type 0 where
   ends : {b : List ℕ} → b ≡ codes ";)" → CommentRest b
   plain : {c : ℕ} {b : List ℕ} → opens_or_ends c b ≡ false → CommentRest b → CommentRest (c ∷ b)
-  nested : {b inner rest : List ℕ} → b ≡ codes "(;" ++ inner ++ rest → CommentRest inner → CommentRest rest → CommentRest b
+  nested : {b inner rest : List ℕ} → b ≡ codes "(;" ++ inner ++ rest → CommentRest inner → CommentRest rest
+      → CommentRest b
 
 abbrev pub BlockComment : Form ℕ
 BlockComment = Exactly (codes "(;") ▸ CommentRest
@@ -56,11 +62,13 @@ abbrev pub is_upper : ℕ → Bool
 is_upper c = nat_le 65 c && nat_le c 90
 
 abbrev pub is_id_char : ℕ → Bool
-is_id_char c = is_digit c || is_lower c || is_upper c || list_any (λ d. c == d) (codes "!#$%&'*+-./:<=>?@\\^_`|~")
+is_id_char c = is_digit c || is_lower c || is_upper c
+    || list_any (λ d. c == d) (codes "!#$%&'*+-./:<=>?@\\^_`|~")
 
 -- the value of a digit (section 6.3.1)
 abbrev pub digit_value : ℕ → Option ℕ
-digit_value c = if is_digit c then Some (c - 48) else if nat_le 97 c && nat_le c 102 then Some (c - 87) else if nat_le 65 c && nat_le c 70 then Some (c - 55) else None
+digit_value c = if is_digit c then Some (c - 48) else if nat_le 97 c && nat_le c 102 then Some (c - 87)
+    else if nat_le 65 c && nat_le c 70 then Some (c - 55) else None
 
 -- a digit of this value in a base
 abbrev pub IsDigit : ℕ → ℕ → Form ℕ
@@ -86,8 +94,8 @@ Magnitude n b =
 abbrev pub IsUnsigned : ℕ → ℕ → Form ℕ
 IsUnsigned bits n b = (n < 2 ^ bits) × Magnitude n b
 
--- A constant of so many bits (section 6.3.1, iN): with no sign a number, of which the upper half means itself less
--- 2 ^ bits; with a sign one in the signed range.
+-- A constant of so many bits (section 6.3.1, iN): with no sign a number, of which the upper half means itself
+-- less 2 ^ bits; with a sign one in the signed range.
 abbrev pub IsInteger : ℕ → ℤ → Form ℕ
 IsInteger bits z b =
     (n : ℕ) × (((n < 2 ^ (bits - 1)) × (z ≡ pos n) × Magnitude n b)
@@ -125,19 +133,22 @@ short_escapes = (116, 0x09) ∷ (110, 0x0A) ∷ (114, 0x0D) ∷ (34, 0x22) ∷ (
 abbrev pub is_scalar : ℕ → Bool
 is_scalar c = nat_lt c 0xD800 || (nat_le 0xE000 c && nat_lt c 0x11_0000)
 
--- One element of a string (section 6.3.3) and the bytes that it gives: a byte for itself; an escape of one letter;
--- \ and two hexadecimal digits, which give a byte; \u{ and hexadecimal digits and }, which give the UTF-8 of a scalar value.
+-- One element of a string (section 6.3.3) and the bytes that it gives: a byte for itself; an escape of one
+-- letter; \ and two hexadecimal digits, which give a byte; \u{ and hexadecimal digits and }, which give the
+-- UTF-8 of a scalar value.
 abbrev pub Element : List ℕ → Form ℕ
 Element given b =
     ((c : ℕ) × (given ≡ c ∷ []) × IsTrue (is_plain c) × (b ≡ c ∷ []))
-    ⊎ ((letter c : ℕ) × (given ≡ c ∷ []) × IsTrue (list_any (λ e. (e.0 == letter) && (e.1 == c)) short_escapes) × (b ≡ 92 ∷ letter ∷ []))
+    ⊎ ((letter c : ℕ) × (given ≡ c ∷ []) × IsTrue (list_any (λ e. (e.0 == letter)
+    && (e.1 == c)) short_escapes) × (b ≡ 92 ∷ letter ∷ []))
     ⊎ ((h l : ℕ) × (given ≡ (h * 16 + l) ∷ []) × (Byte 92 ▸ IsDigit 16 h ▸ IsDigit 16 l) b)
     ⊎ ((ds : List ℕ) × (given ≡ encode_utf8 (value 16 ds)) × IsTrue (is_scalar (value 16 ds))
     × (Exactly (codes "\\u{") ▸ Digits 16 ds ▸ Byte 125) b)
 
 -- a string (section 6.3.3): its elements between quotation marks
 abbrev pub String : List ℕ → Form ℕ
-String bytes b = (parts : List (List ℕ)) × (bytes ≡ flat_map (λ part. part) parts) × (Byte 34 ▸ Each Element parts ▸ Byte 34) b
+String bytes b = (parts : List (List ℕ)) × (bytes ≡ flat_map (λ part. part) parts)
+    × (Byte 34 ▸ Each Element parts ▸ Byte 34) b
 
 -- the text of a token
 abbrev pub TokenText : Token → Form ℕ
@@ -146,7 +157,8 @@ TokenText close_paren = Byte 41
 TokenText (string bytes) = String bytes
 TokenText (atom a) = λ b. (b ≡ a) × IsAtom a
 
--- What may follow a token: an atom is as long as it can be (section 6.2.2), and (; opens a comment (section 6.2.4).
+-- What may follow a token: an atom is as long as it can be (section 6.2.2), and (; opens a
+-- comment (section 6.2.4).
 abbrev pub Ends : Token → List ℕ → Type 0
 Ends (atom a) (c ∷ rest) = IsFalse (is_id_char c)
 Ends open_paren (c ∷ rest) = IsFalse (c == 59)
@@ -155,12 +167,16 @@ Ends _ _ = Unit {0}
 -- white space and these tokens by turns, white space first and last
 abbrev pub AreTokens : List Token → Form ℕ
 AreTokens [] = LastSpace
-AreTokens (t ∷ k) = Space ▸ (λ b. (text rest : List ℕ) × (b ≡ text ++ rest) × TokenText t text × Ends t rest × AreTokens k rest)
+AreTokens (t ∷ k) =
+    Space ▸ (λ b. (text rest : List ℕ) × (b ≡ text ++ rest) × TokenText t text × Ends t rest
+    × AreTokens k rest)
 
--- The text is UTF-8 and these are its tokens (section 6.2.2). What is not ASCII stands in comments and strings alone.
+-- The text is UTF-8 and these are its tokens (section 6.2.2). What is not ASCII stands in comments and
+-- strings alone.
 abbrev pub Tokens : List ℕ → List Token → Type 0
 Tokens text k = IsUtf8 text × AreTokens k text
 
 -- neither white space nor a token begins here
 abbrev pub BeginsNothing : List ℕ → Type 0
-BeginsNothing b = (part rest : List ℕ) → b ≡ part ++ rest → (Blank part → ⊥) × ((t : Token) → TokenText t part → Ends t rest → ⊥)
+BeginsNothing b = (part rest : List ℕ) → b ≡ part ++ rest → (Blank part → ⊥)
+    × ((t : Token) → TokenText t part → Ends t rest → ⊥)

@@ -1,14 +1,18 @@
 -- The text of instructions (section 6.5): which tokens write an instruction, and a list of them.
-use Rattle.std.specs.Prelude.{◌≡◌, ℕ, ◌<◌, ◌^◌, ◌⊎◌, List, [], ◌∷◌, ◌++◌, Option, Some, None, codes, length, map, flat_map, slice_get, ℤ}
+use Rattle.std.specs.Prelude.{◌≡◌, ℕ, ◌<◌, ◌^◌, ◌⊎◌, List, [], ◌∷◌, ◌++◌, Option, Some, None, codes, length}
+use Rattle.std.specs.Prelude.{map, flat_map, slice_get, ℤ}
 use Rattle.wm_syntax.specs.Spelling.{Form, Exactly, Each, ◌▸◌, ◌∣◌}
 use Rattle.wm_syntax.specs.declared.types.ValType.{ValType}
 use Rattle.wm_syntax.specs.declared.types.ValType.TheVariants.{I32, I64}
 use Rattle.wm_syntax.specs.declared.instructions.MemArg.{MemArg}
 use Rattle.wm_syntax.specs.declared.instructions.Simple.{Simple}
-use Rattle.wm_syntax.specs.declared.instructions.Simple.TheVariants.{Br, BrIf, Call, CallIndirect, LocalGet, LocalSet, LocalTee, GlobalGet, GlobalSet, I32Const, I64Const, Load, Store}
+use Rattle.wm_syntax.specs.declared.instructions.Simple.TheVariants.{Br, BrIf, Call, CallIndirect, LocalGet}
+use Rattle.wm_syntax.specs.declared.instructions.Simple.TheVariants.{LocalSet, LocalTee, GlobalGet, GlobalSet}
+use Rattle.wm_syntax.specs.declared.instructions.Simple.TheVariants.{I32Const, I64Const, Load, Store}
 use Rattle.wm_syntax.specs.Types.{Signature}
 use Rattle.wm_syntax.specs.Opcodes.{opcode, load, store}
-use Rattle.wm_syntax.specs.Instructions.{Instruction, Instructions, none, snoc, simple, table, block, loop, choice}
+use Rattle.wm_syntax.specs.Instructions.{Instruction, Instructions, none, snoc, simple, table, block, loop}
+use Rattle.wm_syntax.specs.Instructions.{choice}
 use Rattle.wm_read.specs.Tokens.{Token, open_paren, close_paren, atom, IsUnsigned, IsInteger}
 use Rattle.wm_read.specs.Identifiers.{Id, Ids, One, WritesId, Resolves, ResolvesLabel}
 
@@ -51,10 +55,12 @@ WritesGroup word group k =
 
 -- any number of such groups
 abbrev pub WritesGroups : List ℕ → List Named → Form Token
-WritesGroups word all k = (groups : List (List Named)) × (all ≡ flat_map (λ g. g) groups) × Each (WritesGroup word) groups k
+WritesGroups word all k = (groups : List (List Named)) × (all ≡ flat_map (λ g. g) groups)
+    × Each (WritesGroup word) groups k
 
 abbrev pub WritesResults : List ValType → Form Token
-WritesResults results k = (groups : List (List ValType)) × (results ≡ flat_map (λ g. g) groups) × Each (WritesUnnamed (codes "result")) groups k
+WritesResults results k = (groups : List (List ValType)) × (results ≡ flat_map (λ g. g) groups)
+    × Each (WritesUnnamed (codes "result")) groups k
 
 abbrev pub types_of : List Named → List ValType
 types_of ps = map (λ p. p.1) ps
@@ -88,10 +94,12 @@ pub record Scope : Type 0 where
 -- offset=N and align=N, each left out where it is 0 or the width
 abbrev pub WritesKey : List ℕ → ℕ → ℕ → Form Token
 WritesKey key usual n =
-    (λ k. (n ≡ usual) × (k ≡ [])) ∣ One (λ n a. (digits : List ℕ) × (a ≡ key ++ digits) × IsUnsigned 32 n digits) n
+    (λ k. (n ≡ usual) × (k ≡ [])) ∣ One (λ n a. (digits : List ℕ) × (a ≡ key ++ digits)
+    × IsUnsigned 32 n digits) n
 
 abbrev pub WritesAccess : ℕ → MemArg → Form Token
-WritesAccess width at = WritesKey (codes "offset=") 0 at.offset ▸ WritesKey (codes "align=") width (2 ^ at.align)
+WritesAccess width at = WritesKey (codes "offset=") 0 at.offset
+    ▸ WritesKey (codes "align=") width (2 ^ at.align)
 
 abbrev pub WritesInteger : ℕ → ℤ → Form Token
 WritesInteger bits = One (IsInteger bits)
@@ -123,8 +131,8 @@ abbrev pub WritesBlockType : Option ValType → Form Token
 WritesBlockType None = Nothing
 WritesBlockType (Some t) = Paren (codes "result") (WritesType t)
 
--- The word else or end, and the block's identifier once more, or not. So it may follow the end of an if without else,
--- where section 6.5.2 has none.
+-- The word else or end, and the block's identifier once more, or not. So it may follow the end of an if
+-- without else, where section 6.5.2 has none.
 abbrev pub Closes : List ℕ → Id → Form Token
 Closes word None = Word word
 Closes word (Some name) = Word word ∣ Exactly (atom word ∷ atom name ∷ [])
@@ -140,16 +148,19 @@ Opens word id t = Word word ▸ WritesId id ▸ WritesBlockType t
 -- a br_table: labels, fewer than 2 ^ 32, and then the default
 abbrev pub WritesTable : Ids → List ℕ → ℕ → Form Token
 WritesTable labels ls default =
-    λ k. (length ls < 2 ^ 32) × (Word (codes "br_table") ▸ Each (ResolvesLabel labels) ls ▸ ResolvesLabel labels default) k
+    λ k. (length ls < 2 ^ 32) × (Word (codes "br_table") ▸ Each (ResolvesLabel labels) ls
+    ▸ ResolvesLabel labels default) k
 
 abbrev mutual
   pub WritesInstruction : Scope → Ids → Instruction → Form Token
   WritesInstruction s labels (simple i) = WritesSimple s labels i
   WritesInstruction s labels (table ls default) = WritesTable labels ls default
   WritesInstruction s labels (block t body) =
-      λ k. (id : Id) × (Opens (codes "block") id t ▸ WritesInstructions s (id ∷ labels) body ▸ Closes (codes "end") id) k
+      λ k. (id : Id) × (Opens (codes "block") id t ▸ WritesInstructions s (id ∷ labels) body
+      ▸ Closes (codes "end") id) k
   WritesInstruction s labels (loop t body) =
-      λ k. (id : Id) × (Opens (codes "loop") id t ▸ WritesInstructions s (id ∷ labels) body ▸ Closes (codes "end") id) k
+      λ k. (id : Id) × (Opens (codes "loop") id t ▸ WritesInstructions s (id ∷ labels) body
+      ▸ Closes (codes "end") id) k
   WritesInstruction s labels (choice t first second) =
       λ k. (id : Id) × (Opens (codes "if") id t ▸ WritesInstructions s (id ∷ labels) first
       ▸ WritesElse id second (WritesInstructions s (id ∷ labels) second) ▸ Closes (codes "end") id) k

@@ -1,4 +1,5 @@
--- What values hold inside. Contracts name these words and say what follows from them: their bodies need not be believed.
+-- What values hold inside. Contracts name these words and say what follows from them: their
+-- bodies need not be believed.
 pub mod Blocks
 pub mod Bodies
 pub mod CodePieces

@@ -124,13 +124,15 @@ impl<'a> OpenBlocks<'a> {
     }
 }
 
-/// Notes a place of an identifier, or that it has none. Memory is needed only for an identifier that has no place.
+/// Notes a place of an identifier, or that it has none. Memory is needed only for an
+/// identifier that has no place.
 fn put<'a>(
     places: &mut BTreeMap<&'a [u8], usize>,
     id: Option<&'a [u8]>,
     place: Option<usize>,
 ) -> Result<(), AllocError>
-    ensures put { OnOk result ((name : List ℕ) → place_in places.new name ≡ changed (id_of id.entry) place (place_in places.old) name) }
+    ensures put { OnOk result ((name : List ℕ)
+        → place_in places.new name ≡ changed (id_of id.entry) place (place_in places.old) name) }
     ensures missing { OnErr result (IsMissing (place_in places.old) (id_of id.entry)) }
     ensures unchanged { OnErr result ((name : List ℕ) → place_in places.new name ≡ place_in places.old name) }
 {

@@ -69,7 +69,8 @@ fn push_table(builder: &mut BodyBuilder, labels: &[u32], default: u32) -> Result
     requires few { length labels.now < 2 ^ 32 }
     requires stands { CanTake builder.old (flat.piece_ops (flat.jump labels.now default)) }
     ensures memory { IfErr result (λ e. e.why ≡ Memory) }
-    ensures taken { OnOk result (place_after builder.old (flat.piece_ops (flat.jump labels.now default)) ≡ Some builder.new) }
+    ensures taken { OnOk result (place_after builder.old (flat.piece_ops (flat.jump labels.now default))
+        ≡ Some builder.new) }
 {
     push(builder, Op::BrTable(labels.len() as u32))?;
     push_labels(builder, labels)?;
@@ -99,7 +100,8 @@ fn add<'a>(body: &mut OpenBody<'a>, piece: Piece<'a>) -> Result<(), TextFault>
     requires fits { FitsPiece (piece_of piece) }
     requires stands { CanTake body.old.builder (flat.piece_ops (piece_of piece)) }
     ensures memory { IfErr result (λ e. e.why ≡ Memory) }
-    ensures ops { OnOk result (place_after body.old.builder (flat.piece_ops (piece_of piece.entry)) ≡ Some body.new.builder) }
+    ensures ops { OnOk result (place_after body.old.builder (flat.piece_ops (piece_of piece.entry))
+        ≡ Some body.new.builder) }
     ensures blocks { OnOk result (body.new.blocks ≡ flat.after body.old.blocks (piece_of piece.entry)) }
 {
     match piece {
@@ -142,7 +144,8 @@ pub fn read_body<'a>(
     scope: &Scope,
     text: &'a [u8],
 ) -> Result<(Body, &'a [u8]), TextFault>
-    ensures { Reads (λ x. (x.0, lexed x.1.now)) result (instructions_at profile (scope_of scope.now) (lexed text.now)) }
+    ensures { Reads (λ x. (x.0, lexed x.1.now)) result
+        (instructions_at profile (scope_of scope.now) (lexed text.now)) }
 {
     let mut body = OpenBody {
         builder: BodyBuilder::new(alloc),

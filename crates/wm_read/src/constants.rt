@@ -35,7 +35,8 @@ pub fn constant<'a>(
     names: &Names,
     text: &'a [u8],
 ) -> Result<(Const, &'a [u8]), TextFault>
-    ensures { Reads (λ x. (x.0, lexed x.1.now)) result (fields.const_at profile (names_of names.now) (lexed text.now)) }
+    ensures { Reads (λ x. (x.0, lexed x.1.now)) result
+        (fields.const_at profile (names_of names.now) (lexed text.now)) }
 {
     match next_token(text) {
         Some((Lexeme::Atom(atom), rest)) => match op_named(profile, atom) {
@@ -74,7 +75,8 @@ pub fn offset<'a>(
     names: &Names,
     text: &'a [u8],
 ) -> Result<(Const, &'a [u8]), TextFault>
-    ensures { Reads (λ x. (x.0, lexed x.1.now)) result (fields.offset_at profile (names_of names.now) (lexed text.now)) }
+    ensures { Reads (λ x. (x.0, lexed x.1.now)) result
+        (fields.offset_at profile (names_of names.now) (lexed text.now)) }
 {
     let rest = open(text)?;
     let rest = word(b"offset", rest)?;

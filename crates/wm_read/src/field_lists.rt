@@ -41,8 +41,8 @@ fn add(whole: &mut Module, field: Field) -> Result<(), AllocError>
     Ok(())
 }
 
-/// The module of all fields that stand first, and the text after them. Where identifiers are distinct in their spaces,
-/// `fields_are_read_as_written` says which tokens these are.
+/// The module of all fields that stand first, and the text after them. Where identifiers are distinct in
+/// their spaces, `fields_are_read_as_written` says which tokens these are.
 #[tactic(auto, using(crate::proofs::ModuleFields::fields_laws))]
 pub fn read_fields<'a>(
     alloc: Global,

@@ -15,7 +15,8 @@ use wm_syntax::types::{GlobalType, Limits, ValType};
 /// A number below 2^32.
 #[tactic(auto, using(crate::proofs::FieldTypes::id_no_number))]
 fn minimum(text: &[u8]) -> Result<(u32, &[u8]), TextFault>
-    ensures { Reads (λ x. (x.0, lexed x.1.now)) result (reading.atom_at reading.unsigned_of (lexed text.now)) }
+    ensures { Reads (λ x. (x.0, lexed x.1.now)) result
+        (reading.atom_at reading.unsigned_of (lexed text.now)) }
 {
     match next_token(text) {
         Some((Lexeme::Atom(atom), rest)) => {

@@ -44,7 +44,8 @@ fn import<'a>(
     names: &Names,
     text: &'a [u8],
 ) -> Result<(Field<'a>, &'a [u8]), TextFault>
-    ensures { Reads (λ x. (field_of x.0, lexed x.1.now)) result (fields.import_at (names_of names.now) (lexed text.now)) }
+    ensures { Reads (λ x. (field_of x.0, lexed x.1.now)) result
+        (fields.import_at (names_of names.now) (lexed text.now)) }
 {
     let (module_name, rest) = name(alloc, text)?;
     let (item_name, rest) = name(alloc, rest)?;
@@ -78,7 +79,8 @@ fn export<'a>(
     names: &Names,
     text: &'a [u8],
 ) -> Result<(Field<'a>, &'a [u8]), TextFault>
-    ensures { Reads (λ x. (field_of x.0, lexed x.1.now)) result (fields.export_at (names_of names.now) (lexed text.now)) }
+    ensures { Reads (λ x. (field_of x.0, lexed x.1.now)) result
+        (fields.export_at (names_of names.now) (lexed text.now)) }
 {
     let (name, rest) = name(alloc, text)?;
     let (kind, index, rest) = item(names, rest)?;

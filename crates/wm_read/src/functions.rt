@@ -1,6 +1,7 @@
 //! Functions (section 6.6.5).
 
-ghost use Rattle.std.specs.Prelude.{◌≡◌, ◌++◌, ◌<◌, ◌≤◌, ◌⊎◌, ◌^◌, [], IfErr, IfOk, IfSome, MatchOption, false, length, true};
+ghost use Rattle.std.specs.Prelude.{◌≡◌, ◌++◌, ◌<◌, ◌≤◌, ◌⊎◌, ◌^◌, [], IfErr, IfOk, IfSome, MatchOption};
+ghost use Rattle.std.specs.Prelude.{false, length, true};
 ghost use Rattle.wm_read.specs.Written as written;
 ghost use Rattle.wm_read.specs.declared.faults.TextWhy.TheVariants.{Memory, RepeatedId, TooManyLocals};
 ghost use Rattle.wm_read.specs.exact.Fields as fields;
@@ -30,7 +31,8 @@ use wm_syntax::why::Why;
 #[tactic(auto, using(crate::proofs::FunctionCode::ids_laws))]
 fn add_ids<'a>(space: &mut Space<'a>, items: &[Named<'a>]) -> Result<bool, AllocError>
     ensures new { IfOk result (λ b. b ≡ fields.all_new space.old (written.ids_of (named_list items.now))) }
-    ensures added { IfOk result (λ b. b ≡ true → space.new ≡ space.old ++ written.ids_of (named_list items.now)) }
+    ensures added { IfOk result (λ b. b ≡ true
+        → space.new ≡ space.old ++ written.ids_of (named_list items.now)) }
 {
     let mut rest = items;
     while let [item, more @ ..] = rest {
@@ -91,7 +93,8 @@ fn locals_space<'a>(
 /// The types of locals, which stand before this text.
 #[tactic(auto, using(crate::proofs::FunctionCode::types_laws))]
 fn local_types(alloc: Global, locals: &[Named], text: &[u8]) -> Result<Locals, TextFault>
-    ensures types { IfOk result (λ ts. (ts ≡ written.types_of (named_list locals.now)) × (length ts < 2 ^ 32)) }
+    ensures types { IfOk result (λ ts. (ts ≡ written.types_of (named_list locals.now))
+        × (length ts < 2 ^ 32)) }
     ensures many { IfErr result (λ e. (e.why ≡ Memory)
         ⊎ ((e.why ≡ TooManyLocals) × (2 ^ 32 ≤ length (written.types_of (named_list locals.now))))) }
 {
@@ -126,8 +129,8 @@ fn read_head<'n, 'a>(
     Ok((used, locals, rest))
 }
 
-/// The first fault among the tokens of parameters and locals that more than so many bytes are left at: an identifier that comes
-/// again, or a local after the `most` that there may be.
+/// The first fault among the tokens of parameters and locals that more than so many bytes are left at: an
+/// identifier that comes again, or a local after the `most` that there may be.
 fn earlier(
     alloc: Global,
     text: &[u8],
@@ -167,8 +170,8 @@ fn earlier(
     }
 }
 
-/// An identifier that comes again is a fault before this one, and so is a local too many, where it stands before it. The text
-/// begins with the type use.
+/// An identifier that comes again is a fault before this one, and so is a local too many, where it stands
+/// before it. The text begins with the type use.
 fn first_fault(alloc: Global, names: &Names, fault: TextFault, text: &[u8]) -> TextFault
     ensures { IsRefusal result.why → IsRefusal fault.why }
 {

@@ -1,4 +1,5 @@
-//! A first reading of a module (section 6.6): what its fields define. Of each field it reads the head, and skips the rest.
+//! A first reading of a module (section 6.6): what its fields define. Of each field it reads the head, and
+//! skips the rest.
 
 ghost use Rattle.std.specs.Prelude.{◌≡◌, ◌≤◌, OnOk};
 ghost use Rattle.wm_read.specs.exact.Fields as fields;
@@ -100,7 +101,8 @@ fn type_head<'a>(
     noted: &mut Noted<'a>,
     text: &'a [u8],
 ) -> Result<&'a [u8], TextFault>
-    ensures { Reads (λ r. (noted_of noted.new, lexed r.now)) result (first.type_head_at (noted_of noted.old) (lexed text.now)) }
+    ensures { Reads (λ r. (noted_of noted.new, lexed r.now)) result
+        (first.type_head_at (noted_of noted.old) (lexed text.now)) }
 {
     let (id, rest) = free_id(&noted.names.types, text)?;
     let (ty, rest) = signature(alloc, rest)?;
@@ -112,7 +114,8 @@ fn type_head<'a>(
 
 /// What an import brings in, up to its identifier.
 fn desc_head<'a>(noted: &mut Noted<'a>, text: &'a [u8]) -> Result<&'a [u8], TextFault>
-    ensures { Reads (λ r. (noted_of noted.new, lexed r.now)) result (first.desc_head_at (noted_of noted.old) (lexed text.now)) }
+    ensures { Reads (λ r. (noted_of noted.new, lexed r.now)) result
+        (first.desc_head_at (noted_of noted.old) (lexed text.now)) }
 {
     let rest = open(text)?;
     let (kind, rest) = item_kind(rest)?;
@@ -127,7 +130,8 @@ fn import_head<'a>(
     noted: &mut Noted<'a>,
     text: &'a [u8],
 ) -> Result<&'a [u8], TextFault>
-    ensures { Reads (λ r. (noted_of noted.new, lexed r.now)) result (first.import_head_at (noted_of noted.old) (lexed text.now)) }
+    ensures { Reads (λ r. (noted_of noted.new, lexed r.now)) result
+        (first.import_head_at (noted_of noted.old) (lexed text.now)) }
 {
     let (_module, rest) = name(alloc, text)?;
     let (_item, rest) = name(alloc, rest)?;
@@ -141,7 +145,8 @@ fn item_head<'a>(
     kind: ExportKind,
     text: &'a [u8],
 ) -> Result<&'a [u8], TextFault>
-    ensures { Reads (λ r. (noted_of noted.new, lexed r.now)) result (first.item_head_at kind (noted_of noted.old) (lexed text.now)) }
+    ensures { Reads (λ r. (noted_of noted.new, lexed r.now)) result
+        (first.item_head_at kind (noted_of noted.old) (lexed text.now)) }
 {
     let (id, rest) = free_id(space(&noted.names, kind), text)?;
     let rest = skip(1, rest)?;
@@ -159,7 +164,8 @@ fn head_of<'a>(
     word: &'a [u8],
     text: &'a [u8],
 ) -> Result<&'a [u8], TextFault>
-    ensures { Reads (λ r. (noted_of noted.new, lexed r.now)) result (first.head_by kind (noted_of noted.old) (lexed text.now)) }
+    ensures { Reads (λ r. (noted_of noted.new, lexed r.now)) result
+        (first.head_by kind (noted_of noted.old) (lexed text.now)) }
 {
     match kind {
         FieldKind::Type => type_head(alloc, noted, text),
@@ -189,15 +195,17 @@ fn head_of<'a>(
 /// One field.
 #[tactic(auto, unfolding(crate::specs::exact::FirstReading::head_at))]
 fn head<'a>(alloc: Global, noted: &mut Noted<'a>, text: &'a [u8]) -> Result<&'a [u8], TextFault>
-    ensures { Reads (λ r. (noted_of noted.new, lexed r.now)) result (first.head_at (noted_of noted.old) (lexed text.now)) }
+    ensures { Reads (λ r. (noted_of noted.new, lexed r.now)) result
+        (first.head_at (noted_of noted.old) (lexed text.now)) }
 {
     let word = open(text)?;
     let (kind, rest) = field_kind(word)?;
     head_of(alloc, noted, kind, word, rest)
 }
 
-/// What the fields define that stand first, and the text after them. An identifier is refused where it is defined a second
-/// time, an import at its word after a definition other than a type, and a second start at its word.
+/// What the fields define that stand first, and the text after them. An identifier is refused where
+/// it is defined a second time, an import at its word after a definition other than a type, and a
+/// second start at its word.
 #[tactic(auto, using(crate::proofs::HeadSteps::heads_laws))]
 pub fn read_heads<'a>(alloc: Global, text: &'a [u8]) -> Result<(Names<'a>, &'a [u8]), TextFault>
     ensures { Reads (λ x. (names_of x.0, lexed x.1.now)) result (first.names_at (lexed text.now)) }

@@ -89,7 +89,8 @@ fn define<'a>(
     id: Option<&'a [u8]>,
     at: usize,
 ) -> Result<(), AllocError>
-    ensures noted { OnOk result ((name : List ℕ) → place_in places.new name ≡ defined (place_in places.old name) (id_of id.entry) at name) }
+    ensures noted { OnOk result ((name : List ℕ)
+        → place_in places.new name ≡ defined (place_in places.old name) (id_of id.entry) at name) }
     ensures unchanged { OnErr result ((name : List ℕ) → place_in places.new name ≡ place_in places.old name) }
 {
     if let Some(name) = id {

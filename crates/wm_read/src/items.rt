@@ -23,7 +23,8 @@ fn desc_type<'a>(
     kind: ExportKind,
     text: &'a [u8],
 ) -> Result<(ImportDesc, &'a [u8]), TextFault>
-    ensures { Reads (λ x. (x.0, lexed x.1.now)) result (fields.desc_kind (names_of names.now) kind (lexed text.now)) }
+    ensures { Reads (λ x. (x.0, lexed x.1.now)) result
+        (fields.desc_kind (names_of names.now) kind (lexed text.now)) }
 {
     match kind {
         ExportKind::Func => {
@@ -51,7 +52,8 @@ pub fn desc<'a>(
     names: &Names,
     text: &'a [u8],
 ) -> Result<(Option<&'a [u8]>, ImportDesc, &'a [u8]), TextFault>
-    ensures { Reads (λ x. ((id_of x.0, x.1), lexed x.2.now)) result (fields.desc_at (names_of names.now) (lexed text.now)) }
+    ensures { Reads (λ x. ((id_of x.0, x.1), lexed x.2.now)) result
+        (fields.desc_at (names_of names.now) (lexed text.now)) }
 {
     let rest = open(text)?;
     let (kind, rest) = item_kind(rest)?;
@@ -78,7 +80,8 @@ fn space_of<'n, 'a>(names: &'n Names<'a>, kind: ExportKind) -> &'n Space<'a>
 
 /// An export's item: its kind and its index.
 pub fn item<'a>(names: &Names, text: &'a [u8]) -> Result<(ExportKind, u32, &'a [u8]), TextFault>
-    ensures { Reads (λ x. ((x.0, x.1), lexed x.2.now)) result (fields.item_at (names_of names.now) (lexed text.now)) }
+    ensures { Reads (λ x. ((x.0, x.1), lexed x.2.now)) result
+        (fields.item_at (names_of names.now) (lexed text.now)) }
 {
     let rest = open(text)?;
     let (kind, rest) = item_kind(rest)?;

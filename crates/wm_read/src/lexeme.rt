@@ -1,6 +1,8 @@
 //! The tokens of a text (sections 6.2 and 6.3), one at a time.
 
-ghost use Rattle.std.specs.Prelude.{◌≡◌, ◌<◌, ◌≤◌, length, MatchOption, MatchResult, true, false, OnOk, OnErr, IfSome, IfErr, IsUtf8, ◌↔◌, ◌⊎◌, take, drop, List, [], ◌∷◌, ◌++◌, IsTrue, IfOk, encode_utf8};
+ghost use Rattle.std.specs.Prelude.{◌≡◌, ◌<◌, ◌≤◌, length, MatchOption, MatchResult, true, false, OnOk};
+ghost use Rattle.std.specs.Prelude.{OnErr, IfSome, IfErr, IsUtf8, ◌↔◌, ◌⊎◌, take, drop, List, [], ◌∷◌, ◌++◌};
+ghost use Rattle.std.specs.Prelude.{IsTrue, IfOk, encode_utf8};
 ghost use Rattle.std.specs.Str.{IsValidUpTo};
 ghost use Rattle.wm_read.specs.exact.Scan as scan;
 ghost use Rattle.wm_read.specs.Faults.{IsOfAToken, IsOfTheEnd, IsOfTokens};
@@ -160,10 +162,12 @@ pub fn skip_space(text: &[u8]) -> &[u8]
     }
 }
 
-/// Whether a text is UTF-8 and has tokens (section 6.3); then these are what `next_token` finds, one after the other.
+/// Whether a text is UTF-8 and has tokens (section 6.3); then these are what `next_token`
+/// finds, one after the other.
 ///
-/// A text that is no UTF-8 is refused at the first byte that is none. Otherwise the first fault is told: at the first
-/// byte of the atom or string that has it, or at the text's length where a comment or a string does not end.
+/// A text that is no UTF-8 is refused at the first byte that is none. Otherwise the first fault is
+/// told: at the first byte of the atom or string that has it, or at the text's length where a comment
+/// or a string does not end.
 #[tactic(auto, using(crate::proofs::Whole::stand_has))]
 pub fn check_tokens(text: &[u8]) -> Result<(), TextRefusal>
     ensures ok { OnOk result (tokens.Tokens text.now (scan.lexed text.now)) }

@@ -1,6 +1,7 @@
 //! What atoms mean: numbers (section 6.3.1), identifiers and words.
 
-ghost use Rattle.std.specs.Prelude.{◌≡◌, ◌≤◌, ◌<◌, ◌+◌, ◌^◌, ℕ, Some, None, nat_lt, if◌then◌else◌, MatchOption, IfSome, pos, neg_ℤ, ◌≤ℤ◌, ◌<ℤ◌};
+ghost use Rattle.std.specs.Prelude.{◌≡◌, ◌≤◌, ◌<◌, ◌+◌, ◌^◌, ℕ, Some, None, nat_lt, if◌then◌else◌};
+ghost use Rattle.std.specs.Prelude.{MatchOption, IfSome, pos, neg_ℤ, ◌≤ℤ◌, ◌<ℤ◌};
 ghost use Rattle.wm_read.specs.exact.Reading as reading;
 
 use crate::scan::magnitude;
@@ -33,8 +34,9 @@ pub fn is_word(atom: &[u8]) -> bool
     }
 }
 
-/// Whether an atom begins and goes on as the name of a floating-point type or instruction does. No instruction of whole
-/// numbers has such a name. It has no clause, since it decides only which name a refusal gets.
+/// Whether an atom begins and goes on as the name of a floating-point type or instruction does.
+/// No instruction of whole numbers has such a name. It has no clause, since it decides only
+/// which name a refusal gets.
 pub(crate) fn is_float(atom: &[u8]) -> bool {
     if is(atom, b"f32") || is(atom, b"f64") {
         return true;
@@ -180,7 +182,8 @@ pub fn small(n: usize) -> Option<u32>
 
 /// What follows a key.
 pub fn after_key<'a>(key: &[u8], atom: &'a [u8]) -> Option<&'a [u8]>
-    ensures { MatchOption result (reading.after_key key.now atom.now ≡ None) (λ r. reading.after_key key.now atom.now ≡ Some r.now) }
+    ensures { MatchOption result (reading.after_key key.now atom.now ≡ None)
+        (λ r. reading.after_key key.now atom.now ≡ Some r.now) }
 {
     atom.strip_prefix(key)
 }

@@ -26,7 +26,8 @@ pub struct Named<'a> {
 #[tactic(auto, using(crate::proofs::NamedGroups::unnamed_laws))]
 fn unnamed<'a>(named: &mut Vec<Named<'a>>, text: &'a [u8]) -> Result<&'a [u8], TextFault>
     ensures { Reads (λ r. (named_list named.new.items, lexed r.now)) result
-        (uses.adding_named (named_list named.old.items) (reading.made uses.unnamed (uses.types_at (lexed text.now)))) }
+        (uses.adding_named (named_list named.old.items)
+        (reading.made uses.unnamed (uses.types_at (lexed text.now)))) }
 {
     let mut rest = text;
     loop {
@@ -67,7 +68,8 @@ fn inside<'a>(named: &mut Vec<Named<'a>>, text: &'a [u8]) -> Result<&'a [u8], Te
 #[tactic(auto, using(crate::proofs::NamedGroups::group_none))]
 fn group<'a>(named: &mut Vec<Named<'a>>, name: &[u8], text: &'a [u8]) -> Result<&'a [u8], TextFault>
     ensures { Reads (λ r. (named_list named.new.items, lexed r.now)) result
-        (uses.adding_named (named_list named.old.items) (reading.paren_at name.now uses.inside_at (lexed text.now))) }
+        (uses.adding_named (named_list named.old.items)
+        (reading.paren_at name.now uses.inside_at (lexed text.now))) }
 {
     let rest = open(text)?;
     let rest = word(name, rest)?;
@@ -75,15 +77,16 @@ fn group<'a>(named: &mut Vec<Named<'a>>, name: &[u8], text: &'a [u8]) -> Result<
     close(rest)
 }
 
-/// What all groups with this word hold that stand first: `( word id valtype )` or `( word valtype* )`, where the word is
-/// `param` or `local`.
+/// What all groups with this word hold that stand first: `( word id valtype )` or `( word valtype* )`, where
+/// the word is `param` or `local`.
 #[tactic(auto, using(crate::proofs::NamedGroups::named_laws))]
 pub fn groups<'a>(
     alloc: Global,
     name: &[u8],
     text: &'a [u8],
 ) -> Result<(Vec<Named<'a>>, &'a [u8]), TextFault>
-    ensures { Reads (λ x. (named_list x.0.items, lexed x.1.now)) result (uses.named_at name.now (lexed text.now)) }
+    ensures { Reads (λ x. (named_list x.0.items, lexed x.1.now)) result
+        (uses.named_at name.now (lexed text.now)) }
 {
     let mut named = Vec::new(alloc);
     let mut rest = text;

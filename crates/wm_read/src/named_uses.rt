@@ -26,7 +26,8 @@ pub enum Params<'n, 'a> {
     Written(Vec<Named<'a>>),
 }
 
-/// A type use: the index of the type, and as many parameters as the type has, with the identifiers that are written.
+/// A type use: the index of the type, and as many parameters as the type has, with the
+/// identifiers that are written.
 #[derive(Debug, Drop)]
 pub struct NamedUse<'n, 'a> {
     pub index: u32,
@@ -45,8 +46,8 @@ pub(crate) fn types_of(alloc: Global, params: &[Named]) -> Result<Vec<ValType>, 
     Ok(types)
 }
 
-/// The parameters of a use: those of the type where nothing is written, or those written where all is as in the type.
-/// Those of the type are not copied, so that they take no time.
+/// The parameters of a use: those of the type where nothing is written, or those written where all is as in
+/// the type. Those of the type are not copied, so that they take no time.
 #[tactic(auto, using(crate::proofs::NamedUses::used_laws))]
 fn used<'n, 'a>(
     alloc: Global,
@@ -67,8 +68,8 @@ fn used<'n, 'a>(
     }
 }
 
-/// The fault of a use whose parameters or results are not its type's, from the text of the use and the text after it: a wrong
-/// form that stands there, or the index. Locals are no wrong form where they may stand.
+/// The fault of a use whose parameters or results are not its type's, from the text of the use and the text
+/// after it: a wrong form that stands there, or the index. Locals are no wrong form where they may stand.
 fn misfit(locals: bool, text: &[u8], rest: &[u8]) -> TextFault
     ensures { IsRefusal result.why }
 {
@@ -81,8 +82,9 @@ fn misfit(locals: bool, text: &[u8], rest: &[u8]) -> TextFault
     }
 }
 
-/// `( type idx )`, parameters and results, as many as stand first; `locals` tells whether locals may follow. Parameters and
-/// results that are not those of the type are a fault at the index, unless a wrong form follows.
+/// `( type idx )`, parameters and results, as many as stand first; `locals` tells whether locals
+/// may follow. Parameters and results that are not those of the type are a fault at the index,
+/// unless a wrong form follows.
 #[tactic(auto, using(crate::proofs::NamedUses::named_laws))]
 pub fn named_use<'n, 'a>(
     alloc: Global,
@@ -107,8 +109,9 @@ pub fn named_use<'n, 'a>(
     }
 }
 
-/// The fault of a call_indirect's type use, which was refused so. Whole forms that are not those of the type are a fault at the
-/// index; else the first identifier of a parameter is one, unless a wrong token stands before it.
+/// The fault of a call_indirect's type use, which was refused so. Whole forms that are not those of
+/// the type are a fault at the index; else the first identifier of a parameter is one, unless a wrong
+/// token stands before it.
 pub(crate) fn call_fault(alloc: Global, names: &Names, fault: TextFault, text: &[u8]) -> TextFault
     ensures { IsRefusal result.why → IsRefusal fault.why }
 {

@@ -1,6 +1,7 @@
 //! What follows the word of an instruction: operands, from the first token of a text on.
 
-ghost use Rattle.std.specs.Prelude.{◌≡◌, ◌≤◌, ◌<◌, Some, None, codes, Option, nat_lt, if◌then◌else◌, IfOk, length};
+ghost use Rattle.std.specs.Prelude.{◌≡◌, ◌≤◌, ◌<◌, Some, None, codes, Option, nat_lt, if◌then◌else◌, IfOk};
+ghost use Rattle.std.specs.Prelude.{length};
 ghost use Rattle.wm_read.specs.exact.Reading as reading;
 ghost use Rattle.wm_read.specs.exact.Scan.{lexed};
 ghost use Rattle.wm_read.specs.exact.TypeUses as uses;
@@ -60,7 +61,8 @@ fn known(place: Option<usize>, text: &[u8]) -> Result<u32, TextFault>
 
 /// A number or an identifier of these items.
 pub fn index<'a>(space: &Space, text: &'a [u8]) -> Result<(u32, &'a [u8]), TextFault>
-    ensures { Reads (λ x. (x.0, lexed x.1.now)) result (reading.atom_at (reading.index_of space.now) (lexed text.now)) }
+    ensures { Reads (λ x. (x.0, lexed x.1.now)) result
+        (reading.atom_at (reading.index_of space.now) (lexed text.now)) }
 {
     match next_token(text) {
         Some((Lexeme::Atom(atom), rest)) => {
@@ -78,7 +80,8 @@ pub fn index<'a>(space: &Space, text: &'a [u8]) -> Result<(u32, &'a [u8]), TextF
 
 /// A constant of 32 bits.
 pub fn integer_32(text: &[u8]) -> Result<(i32, &[u8]), TextFault>
-    ensures { Reads (λ x. (x.0, lexed x.1.now)) result (reading.atom_at (reading.integer_of 32) (lexed text.now)) }
+    ensures { Reads (λ x. (x.0, lexed x.1.now)) result
+        (reading.atom_at (reading.integer_of 32) (lexed text.now)) }
 {
     match next_token(text) {
         Some((Lexeme::Atom(atom), rest)) => match constant32(atom) {
@@ -91,7 +94,8 @@ pub fn integer_32(text: &[u8]) -> Result<(i32, &[u8]), TextFault>
 
 /// A constant of 64 bits.
 pub fn integer_64(text: &[u8]) -> Result<(i64, &[u8]), TextFault>
-    ensures { Reads (λ x. (x.0, lexed x.1.now)) result (reading.atom_at (reading.integer_of 64) (lexed text.now)) }
+    ensures { Reads (λ x. (x.0, lexed x.1.now)) result
+        (reading.atom_at (reading.integer_of 64) (lexed text.now)) }
 {
     match next_token(text) {
         Some((Lexeme::Atom(atom), rest)) => match constant64(atom) {
@@ -217,7 +221,8 @@ pub fn close_forms(text: &[u8]) -> Result<&[u8], TextFault>
 
 /// This word.
 pub fn word<'a>(word: &[u8], text: &'a [u8]) -> Result<&'a [u8], TextFault>
-    ensures { Reads (λ r. (tt, lexed r.now)) result (reading.atom_at (reading.word_of word.now) (lexed text.now)) }
+    ensures { Reads (λ r. (tt, lexed r.now)) result
+        (reading.atom_at (reading.word_of word.now) (lexed text.now)) }
 {
     match next_token(text) {
         Some((Lexeme::Atom(atom), rest)) => {

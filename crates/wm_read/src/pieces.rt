@@ -41,7 +41,8 @@ pub enum Piece<'a> {
 
 fn opens(opening: Opening, text: &[u8]) -> Result<(Piece, &[u8]), TextFault>
     ensures fits { IfOk result (λ x. FitsPiece (piece_of x.0)) }
-    ensures read { Reads (λ x. (piece_of x.0, lexed x.1.now)) result (reading.opens_at opening (lexed text.now)) }
+    ensures read { Reads (λ x. (piece_of x.0, lexed x.1.now)) result
+        (reading.opens_at opening (lexed text.now)) }
 {
     let (id, rest) = id(text);
     let (ty, rest) = block_type(rest)?;
@@ -157,7 +158,8 @@ fn operand<'a>(
     requires { HasOperand kind }
     ensures fits { IfOk result (λ x. FitsPiece (piece_of x.0)) }
     ensures read { Reads (λ x. (piece_of x.0, lexed x.1.now)) result
-        (reading.kind_at (call_use_at (names_of scope.now.names.now)) (scope_of scope.now) blocks.now kind (lexed text.now)) }
+        (reading.kind_at (call_use_at (names_of scope.now.names.now)) (scope_of scope.now) blocks.now kind
+        (lexed text.now)) }
 {
     let (simple, rest) = match kind {
         Immediates::Br => {
@@ -238,7 +240,8 @@ pub fn read_piece<'a>(
 ) -> Result<(Piece<'a>, &'a [u8]), TextFault>
     ensures fits { IfOk result (λ x. FitsPiece (piece_of x.0)) }
     ensures read { Reads (λ x. (piece_of x.0, lexed x.1.now)) result
-        (reading.piece_at (call_use_at (names_of scope.now.names.now)) profile (scope_of scope.now) blocks.now word.now
+        (reading.piece_at (call_use_at (names_of scope.now.names.now)) profile (scope_of scope.now) blocks.now
+        word.now
         (lexed text.now)) }
 {
     match op_named(profile, word) {

@@ -1,7 +1,8 @@
 //! Older words of a text, overwritten by their standard words.
 
 ghost use Rattle.std.specs.Map.{lookup};
-ghost use Rattle.std.specs.Prelude.{◌≡◌, ◌-◌, ◌<◌, ◌≤◌, ◌++◌, ℕ, List, IfOk, IfErr, IfSome, MatchOption, length, take};
+ghost use Rattle.std.specs.Prelude.{◌≡◌, ◌-◌, ◌<◌, ◌≤◌, ◌++◌, ℕ, List, IfOk, IfErr, IfSome, MatchOption};
+ghost use Rattle.std.specs.Prelude.{length, take};
 ghost use Rattle.std.specs.Option.{option_copied};
 ghost use Rattle.std.specs.Str.{bytes_eq};
 ghost use Rattle.wm_read.specs.inner.Lexemes.{token_of};
@@ -84,7 +85,8 @@ fn next_part(text: &[u8]) -> Option<(&[u8], &[u8])>
     }
 }
 
-/// A copy of a text in which each older word is overwritten by its standard word, so that all else keeps its place.
+/// A copy of a text in which each older word is overwritten by its standard word, so that all
+/// else keeps its place.
 pub fn renewed(alloc: Global, text: &[u8]) -> Result<Vec<u8>, AllocError>
     ensures { IfOk result (λ v. Renewed text.now v.items) }
 {

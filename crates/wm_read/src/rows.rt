@@ -97,8 +97,8 @@ fn play_all(
     Ok(())
 }
 
-/// Plays at least one row. The first line gives what the readers know: fields, and the parenthesis after them. A line that
-/// begins with `;; ` is a comment.
+/// Plays at least one row. The first line gives what the readers know: fields, and the parenthesis after
+/// them. A line that begins with `;; ` is a comment.
 fn play(
     rt: &impl Abort,
     alloc: Global,

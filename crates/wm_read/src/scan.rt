@@ -1,6 +1,7 @@
 //! How the bytes of a text are told apart.
 
-ghost use Rattle.std.specs.Prelude.{◌≡◌, ◌≤◌, ◌+◌, zero, length, take, drop, false, Some, None, MatchOption, IfSome, IfErr, MatchResult, ◌*◌, min};
+ghost use Rattle.std.specs.Prelude.{◌≡◌, ◌≤◌, ◌+◌, zero, length, take, drop, false, Some, None, MatchOption};
+ghost use Rattle.std.specs.Prelude.{IfSome, IfErr, MatchResult, ◌*◌, min};
 ghost use Rattle.std.specs.Option.{option_map};
 ghost use Rattle.wm_read.specs.exact.Scan as scan;
 ghost use Rattle.wm_read.specs.declared.scan.Mode.TheVariants.{Plain, Escape, Digits};
@@ -167,7 +168,8 @@ fn comment_part(text: &[u8]) -> Part
     }
 }
 
-/// What stands behind a block comment (section 6.2.4), from the text after its `(;`; none where it does not end.
+/// What stands behind a block comment (section 6.2.4), from the text after its `(;`; none
+/// where it does not end.
 #[tactic(auto, using(crate::proofs::Parts::part_laws))]
 pub fn after_comment(text: &[u8]) -> Option<&[u8]>
     ensures { MatchOption result (scan.after_comment zero text.now ≡ None)
@@ -420,7 +422,8 @@ pub fn digits(base: u8, text: &[u8]) -> Option<u128>
     if after { Some(n) } else { None }
 }
 
-/// The value of digits with one more byte, and whether a digit stands last; none where this byte can't follow.
+/// The value of digits with one more byte, and whether a digit stands last; none where
+/// this byte can't follow.
 #[tactic(auto, unfolding(crate::specs::exact::Scan::number_next))]
 fn number_next(base: u8, n: u128, after: bool, byte: u8) -> Option<(u128, bool)>
     requires high { base ≤ 16 }

@@ -68,7 +68,8 @@ fn module_within<'a>(
     Ok(module)
 }
 
-/// The module that the tokens of a whole text write: first what its fields define is read, and then the fields.
+/// The module that the tokens of a whole text write: first what its fields define is
+/// read, and then the fields.
 #[tactic(auto, unfolding(crate::specs::exact::TextModules::module_at))]
 fn read_module(alloc: Global, profile: Profile, text: &[u8]) -> Result<Module, TextFault>
     ensures { Reads value_of result (modules.module_at profile (lexed text.now)) }
@@ -97,11 +98,11 @@ fn read_spelled(
     }
 }
 
-/// The module that a text writes (chapter 6), of the profile, in these spellings. Under `Older` that is the module
-/// of its tokens with each older word replaced. Places are those of the text as it is.
+/// The module that a text writes (chapter 6), of the profile, in these spellings. Under `Older` that is the
+/// module of its tokens with each older word replaced. Places are those of the text as it is.
 ///
-/// A text that is no UTF-8 is refused first, then the first fault of its tokens, then the first of what its fields
-/// define, and then the first of its fields.
+/// A text that is no UTF-8 is refused first, then the first fault of its tokens, then the first of what its
+/// fields define, and then the first of its fields.
 #[tactic(auto, using(crate::proofs::TextLaws::text_laws))]
 pub fn read_text(
     alloc: Global,
@@ -109,8 +110,10 @@ pub fn read_text(
     spellings: Spellings,
     text: &[u8],
 ) -> Result<Module, TextRefusal>
-    ensures written { IfOk result (λ m. (k : List Token) × Tokens text.now k × Writes profile (map (replaced spellings) k) (value_of m)) }
-    ensures refused { IfErr result (λ e. e.why ≢ Memory → (k : List Token) (m : values.Module) → Tokens text.now k → Writes profile (map (replaced spellings) k) m → ⊥) }
+    ensures written { IfOk result (λ m. (k : List Token) × Tokens text.now k
+        × Writes profile (map (replaced spellings) k) (value_of m)) }
+    ensures refused { IfErr result (λ e. e.why ≢ Memory → (k : List Token) (m : values.Module)
+        → Tokens text.now k → Writes profile (map (replaced spellings) k) m → ⊥) }
     ensures at { IfErr result (λ e. e.at ≤ length text.now) }
 {
     check_tokens(text)?;

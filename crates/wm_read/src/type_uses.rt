@@ -117,7 +117,8 @@ pub(crate) fn no_form(text: &[u8]) -> Result<(), TextFault>
     }
 }
 
-/// What is wrong behind `( type idx`, which is not closed there: the index, if no type has it, or what stands there.
+/// What is wrong behind `( type idx`, which is not closed there: the index, if no type has it,
+/// or what stands there.
 fn unclosed(names: &Names, x: u32, at_index: &[u8], rest: &[u8]) -> TextFault
     ensures { IsRefusal result.why }
 {
@@ -156,7 +157,8 @@ pub fn type_use<'a>(
     names: &Names,
     text: &'a [u8],
 ) -> Result<(u32, &'a [u8]), TextFault>
-    ensures { Reads (λ x. (x.0, lexed x.1.now)) result (uses.call_use_at (names_of names.now) (lexed text.now)) }
+    ensures { Reads (λ x. (x.0, lexed x.1.now)) result
+        (uses.call_use_at (names_of names.now) (lexed text.now)) }
 {
     let (x, rest) = type_index(names, text)?;
     match type_at(names, x) {

@@ -39,7 +39,8 @@ fn accept(
     }
 }
 
-/// Whether the answer is the same in two pieces wherever the binary is cut, and with an empty piece between them.
+/// Whether the answer is the same in two pieces wherever the binary is cut, and with an
+/// empty piece between them.
 fn is_same_in_two(
     alloc: Global,
     row: &Row,
@@ -71,7 +72,8 @@ fn is_same_by(
     is_answered(alloc, row, &pieces, whole)
 }
 
-/// Whether the answer is the same in pieces of one byte, with empty pieces between them too, and of seven bytes.
+/// Whether the answer is the same in pieces of one byte, with empty pieces between them
+/// too, and of seven bytes.
 fn is_same_in_chunks(alloc: Global, row: &Row, binary: &[u8], whole: &Verdict) -> io::Result<bool> {
     Ok(
         is_same_by(alloc, row, binary, whole, 1)?

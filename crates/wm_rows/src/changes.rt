@@ -7,8 +7,8 @@ use crate::text::is_given_back;
 use std::alloc::Global;
 use std::io;
 
-/// Whether the answers to a binary byte by byte and in two pieces are that to it whole. Empty pieces lie between the others, and
-/// `place` is where the two are cut.
+/// Whether the answers to a binary byte by byte and in two pieces are that to it whole. Empty pieces lie
+/// between the others, and `place` is where the two are cut.
 fn is_same_in_pieces(
     alloc: Global,
     row: &Row,

@@ -1,9 +1,9 @@
-//! Answers rows of inputs. Each line of standard input is written with its answer behind ` = `; `src/row.rt` says what
-//! a line may be. A heading, which begins with `#`, and an empty line are written as they are. The last line says how much
-//! was run.
+//! Answers rows of inputs. Each line of standard input is written with its answer behind ` = `; `src/row.rt`
+//! says what a line may be. A heading, which begins with `#`, and an empty line are written as they are. The
+//! last line says how much was run.
 //!
-//! This is no part of `wmod`: `stdout` has the right answers to `stdin`, and what is printed is compared with it. So no
-//! function has a clause.
+//! This is no part of `wmod`: `stdout` has the right answers to `stdin`, and what is printed is compared with
+//! it. So no function has a clause.
 #![tactic(auto)]
 
 mod answer;

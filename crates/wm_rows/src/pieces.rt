@@ -123,8 +123,8 @@ fn both(judged: Result<Summary, Fault>, loaded: Result<Vec<u8>, Fault>) -> Optio
     }
 }
 
-/// What a validator and a loader both answer to pieces; none where they differ, or where a refusal does not stay. No clause: the
-/// file `stdout` has what is right.
+/// What a validator and a loader both answer to pieces; none where they differ, or where a refusal does not
+/// stay. No clause: the file `stdout` has what is right.
 pub fn judge(alloc: Global, row: &Row, pieces: &[&[u8]]) -> io::Result<Option<Verdict>> {
     let judged = validate(alloc, row, pieces);
     let loaded = rewrite(alloc, row, pieces)?;

@@ -136,8 +136,8 @@ fn module_of(alloc: Global, row: &Row, binary: &[u8]) -> io::Result<Option<Check
     }
 }
 
-/// Whether a binary's module has this canonical binary once it is checked as a value, and once its text is read. No clause:
-/// the file `stdout` has what is right.
+/// Whether a binary's module has this canonical binary once it is checked as a value, and once its text is
+/// read. No clause: the file `stdout` has what is right.
 pub fn is_given_back(
     alloc: Global,
     row: &Row,

@@ -17,8 +17,8 @@ pub record IndexSpaces : Type 0 where
   pub has_table : Bool
   pub has_memory : Bool
 
--- The index spaces; the export names, in the order of their bytes; the constant expression at hand; the body at hand, or
--- the last one; the greatest counts of the bodies that have ended.
+-- The index spaces; the export names, in the order of their bytes; the constant expression at hand; the body
+-- at hand, or the last one; the greatest counts of the bodies that have ended.
 pub record Held : Type 0 where
   pub spaces : IndexSpaces
   pub names : List (List ℕ)

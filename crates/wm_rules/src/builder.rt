@@ -4,7 +4,9 @@ ghost use Rattle.std.specs.Prelude.{◌≡◌, ◌∷◌, [], ◌++◌, Ok, refl
 ghost use Rattle.std.specs.String.{string_bytes};
 ghost use Rattle.wm_decode.specs.Sinks.{Taken};
 ghost use Rattle.wm_decode.specs.Items.{body, export, import_desc, new_type, start};
-ghost use Rattle.wm_rules.specs.exact.Built.{Built, after, body_ended, change_last, constant_ended, constant_taken, expecting, locals_taken, name_from, nothing, op_taken, valued};
+ghost use Rattle.wm_rules.specs.exact.Built.{Built, after, body_ended, change_last, constant_ended};
+ghost use Rattle.wm_rules.specs.exact.Built.{constant_taken, expecting, locals_taken, name_from, nothing};
+ghost use Rattle.wm_rules.specs.exact.Built.{op_taken, valued};
 ghost use Rattle.wm_rules.specs.inner.Builders.{built};
 ghost use Rattle.wm_syntax.specs.Values.{value_of};
 
@@ -20,7 +22,8 @@ use wm_syntax::modules::{
 use wm_syntax::types::{Const, FuncType, GlobalType, ValType};
 use wm_syntax::why::Why;
 
-/// What a constant expression is for: the initialiser of a global, or where a segment begins in a table or a memory.
+/// What a constant expression is for: the initialiser of a global, or where a segment begins
+/// in a table or a memory.
 #[derive(Clone, Copy, PartialEq, Eq, Debug)]
 pub enum Purpose {
     Global(GlobalType),
@@ -42,8 +45,9 @@ pub struct Code {
     body: BodyBuilder,
 }
 
-/// Builds a module of its items, valid or not. It refuses a name that is not UTF-8, a constant expression of another form,
-/// a misplaced op of a body, and 2^32 locals; items in an order that no decoder sends may be refused under any name.
+/// Builds a module of its items, valid or not. It refuses a name that is not UTF-8, a constant expression of
+/// another form, a misplaced op of a body, and 2^32 locals; items in an order that no decoder sends may be
+/// refused under any name.
 #[derive(Debug, Drop)]
 pub struct Builder {
     alloc: Global,
@@ -75,7 +79,8 @@ fn push_param(last: &mut FuncType, ty: ValType) -> Result<(), Why>
 
 // The last type has one more parameter.
 fn add_param(types: &mut Vec<FuncType>, ty: ValType) -> Result<(), Why>
-    ensures { Taken (Ok (change_last (λ s. record s { params = s.params ++ ty ∷ [] }) types.old.items)) result types.new.items }
+    ensures { Taken (Ok (change_last (λ s. record s { params = s.params ++ ty ∷ [] }) types.old.items)) result
+        types.new.items }
 {
     let Some(last) = types.last_mut() else {
         return Ok(());
@@ -90,7 +95,8 @@ fn push_result(last: &mut FuncType, ty: ValType) -> Result<(), Why>
 }
 
 fn add_result(types: &mut Vec<FuncType>, ty: ValType) -> Result<(), Why>
-    ensures { Taken (Ok (change_last (λ s. record s { results = s.results ++ ty ∷ [] }) types.old.items)) result types.new.items }
+    ensures { Taken (Ok (change_last (λ s. record s { results = s.results ++ ty ∷ [] }) types.old.items))
+        result types.new.items }
 {
     let Some(last) = types.last_mut() else {
         return Ok(());
@@ -106,7 +112,8 @@ fn push_function(last: &mut Element, index: u32) -> Result<(), Why>
 
 // The last element segment has one more function.
 fn add_element(elements: &mut Vec<Element>, index: u32) -> Result<(), Why>
-    ensures { Taken (Ok (change_last (λ e. record e { functions = e.functions ++ index ∷ [] }) elements.old.items)) result elements.new.items }
+    ensures { Taken (Ok (change_last (λ e. record e { functions = e.functions ++ index ∷ [] })
+        elements.old.items)) result elements.new.items }
 {
     let Some(last) = elements.last_mut() else {
         return Ok(());
@@ -125,7 +132,8 @@ fn extend_bytes(last: &mut Segment, bytes: &[u8]) -> Result<(), Why>
 
 // The last data segment has more bytes.
 fn add_bytes(segments: &mut Vec<Segment>, bytes: &[u8]) -> Result<(), Why>
-    ensures { Taken (Ok (change_last (λ s. record s { bytes = s.bytes ++ bytes.now }) segments.old.items)) result segments.new.items }
+    ensures { Taken (Ok (change_last (λ s. record s { bytes = s.bytes ++ bytes.now }) segments.old.items))
+        result segments.new.items }
 {
     let Some(last) = segments.last_mut() else {
         return Ok(());

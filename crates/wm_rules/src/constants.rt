@@ -1,7 +1,8 @@
 //! Constant expressions (section 3.3.7).
 
 ghost use Rattle.std.specs.Prelude.{◌≡◌, None, if◌then◌else◌};
-ghost use Rattle.wm_rules.specs.exact.Constants.{constant_after, constant_expecting, first_only, of_global, of_type, visible};
+ghost use Rattle.wm_rules.specs.exact.Constants.{constant_after, constant_expecting, first_only, of_global};
+ghost use Rattle.wm_rules.specs.exact.Constants.{of_type, visible};
 
 use wm_syntax::instructions::{Op, Simple};
 use wm_syntax::types::{GlobalType, ValType};

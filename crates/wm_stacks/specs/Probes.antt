@@ -1,4 +1,5 @@
--- How many runs of locals a search reads. A stranger can count them: the search halves what lies between two places.
+-- How many runs of locals a search reads. A stranger can count them: the search halves what
+-- lies between two places.
 use Rattle.std.specs.Prelude.{ℕ, zero, suc, ◌+◌, ◌-◌, ◌/◌, List, length, nat_lt, slice_index, if◌then◌else◌}
 use Rattle.wm_syntax.specs.declared.types.ValType.{ValType}
 use Rattle.wm_syntax.specs.Runs.{run_ends}

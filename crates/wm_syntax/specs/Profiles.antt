@@ -8,7 +8,8 @@ use Rattle.wm_syntax.specs.declared.instructions.Op.{Op}
 use Rattle.wm_syntax.specs.declared.instructions.Op.TheVariants as op
 use Rattle.wm_syntax.specs.declared.profile.Profile.{Profile}
 use Rattle.wm_syntax.specs.declared.profile.Profile.TheVariants.{One}
-use Rattle.wm_syntax.specs.Instructions.{Instruction, Instructions, none, snoc, simple, table, block, loop, choice}
+use Rattle.wm_syntax.specs.Instructions.{Instruction, Instructions, none, snoc, simple, table, block, loop}
+use Rattle.wm_syntax.specs.Instructions.{choice}
 use Rattle.wm_syntax.specs.Modules.{Module}
 
 -- an instruction of the profile

@@ -1,7 +1,12 @@
 -- The printed words of the refusals.
 use Rattle.std.specs.Prelude.{ℕ, List, codes}
 use Rattle.wm_syntax.specs.declared.why.Why.{Why}
-use Rattle.wm_syntax.specs.declared.why.Why.TheVariants.{Magic, Version, SectionId, SectionOrder, SectionEnd, BadNumber, BadUtf8, BadByte, Float, BadOpcode, Truncated, CodeCount, BodyEnd, TooManyLocals, Index, Mismatch, Arity, Limits, Second, DuplicateExport, StartType, NotConst, Immutable, Align, ElsePlace, TooLong, Memory, ManyFunctions, ManyLocals, Deep}
+use Rattle.wm_syntax.specs.declared.why.Why.TheVariants.{Magic, Version, SectionId, SectionOrder, SectionEnd}
+use Rattle.wm_syntax.specs.declared.why.Why.TheVariants.{BadNumber, BadUtf8, BadByte, Float, BadOpcode}
+use Rattle.wm_syntax.specs.declared.why.Why.TheVariants.{Truncated, CodeCount, BodyEnd, TooManyLocals, Index}
+use Rattle.wm_syntax.specs.declared.why.Why.TheVariants.{Mismatch, Arity, Limits, Second, DuplicateExport}
+use Rattle.wm_syntax.specs.declared.why.Why.TheVariants.{StartType, NotConst, Immutable, Align, ElsePlace}
+use Rattle.wm_syntax.specs.declared.why.Why.TheVariants.{TooLong, Memory, ManyFunctions, ManyLocals, Deep}
 
 abbrev pub name_of : Why → List ℕ
 name_of Magic = codes "Magic"

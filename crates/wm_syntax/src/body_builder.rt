@@ -1,9 +1,11 @@
 //! Bodies, built op by op.
 
-ghost use Rattle.std.specs.Prelude.{◌≡◌, ◌≢◌, ◌+◌, ◌++◌, ◌∷◌, [], None, Some, Ok, Err, IfErr, IfOk, MatchResult, OnErr, OnOk, false, true};
+ghost use Rattle.std.specs.Prelude.{◌≡◌, ◌≢◌, ◌+◌, ◌++◌, ◌∷◌, [], None, Some, Ok, Err, IfErr, IfOk};
+ghost use Rattle.std.specs.Prelude.{MatchResult, OnErr, OnOk, false, true};
 ghost use Rattle.wm_syntax.specs.inner.Building.{Place, at, placed, start};
 ghost use Rattle.wm_syntax.specs.Instructions.{Instructions};
-ghost use Rattle.wm_syntax.specs.inner.Builders.{fits, fits_list, is_else, is_first, last_of, last_set, next_left, next_open, next_ops};
+ghost use Rattle.wm_syntax.specs.inner.Builders.{fits, fits_list, is_else, is_first, last_of, last_set};
+ghost use Rattle.wm_syntax.specs.inner.Builders.{next_left, next_open, next_ops};
 
 use crate::body::Body;
 use crate::instructions::Op;
@@ -109,8 +111,10 @@ fn push_open(
     op: Op,
     opened: Opened,
 ) -> Result<(), BodyFault>
-    ensures ok { OnOk result ((ops.new.items ≡ ops.old.items ++ op ∷ []) × (begun.new.items ≡ begun.old.items ++ opened ∷ [])) }
-    ensures err { IfErr result (λ fault. (fault ≡ BodyFault.Memory) × (ops.new.items ≡ ops.old.items) × (begun.new.items ≡ begun.old.items)) }
+    ensures ok { OnOk result ((ops.new.items ≡ ops.old.items ++ op ∷ [])
+        × (begun.new.items ≡ begun.old.items ++ opened ∷ [])) }
+    ensures err { IfErr result (λ fault. (fault ≡ BodyFault.Memory) × (ops.new.items ≡ ops.old.items)
+        × (begun.new.items ≡ begun.old.items)) }
 {
     if begun.push(opened).is_err() {
         return Err(BodyFault::Memory);
@@ -131,8 +135,10 @@ fn push_op(
     left: &mut u64,
     op: Op,
 ) -> Result<(), BodyFault>
-    ensures ok { OnOk result ((ops.new.items ≡ next_ops op ops.old.items) × (begun.new.items ≡ next_open op begun.old.items) × (left.new ≡ next_left op left.old)) }
-    ensures err { OnErr result ((ops.new.items ≡ ops.old.items) × (begun.new.items ≡ begun.old.items) × (left.new ≡ left.old)) }
+    ensures ok { OnOk result ((ops.new.items ≡ next_ops op ops.old.items)
+        × (begun.new.items ≡ next_open op begun.old.items) × (left.new ≡ next_left op left.old)) }
+    ensures err { OnErr result ((ops.new.items ≡ ops.old.items) × (begun.new.items ≡ begun.old.items)
+        × (left.new ≡ left.old)) }
     ensures fits { fits begun.old.items left.old op ≡ true → result ≢ Err BodyFault.Unbalanced }
     ensures unbalanced { fits begun.old.items left.old op ≡ false → result ≡ Err BodyFault.Unbalanced }
 {
@@ -217,7 +223,8 @@ impl BodyBuilder {
     /// The body, where all that was opened has ended.
     pub fn finish(self) -> Result<Body, BodyFault>
         ensures ok { IfOk result (λ body. self ≡ at [] body) }
-        ensures err { IfErr result (λ fault. (fault ≡ BodyFault.Unbalanced) × ((s : Instructions) → self ≡ at [] s → ⊥)) }
+        ensures err { IfErr result (λ fault. (fault ≡ BodyFault.Unbalanced)
+            × ((s : Instructions) → self ≡ at [] s → ⊥)) }
     {
         if self.left != 0 || !self.begun.is_empty() {
             return Err(BodyFault::Unbalanced);

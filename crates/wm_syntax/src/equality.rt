@@ -1,5 +1,5 @@
-//! `==` on modules and on what they are made of (section 2.5): whether two are one value. What memory they hold, and in how
-//! many runs their locals were given, makes no difference.
+//! `==` on modules and on what they are made of (section 2.5): whether two are one value. What memory they
+//! hold, and in how many runs their locals were given, makes no difference.
 
 ghost use Rattle.std.specs.Prelude.{◌≡◌, ◌↔◌, true};
 ghost use Rattle.wm_syntax.specs.Values.{value_of};

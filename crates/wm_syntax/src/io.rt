@@ -1,6 +1,7 @@
 //! Readers and writers that remember whether they have failed.
 
-ghost use Rattle.std.specs.Prelude.{◌≡◌, ℕ, ◌<◌, ◌||◌, Bool, false, true, List, Option, length, take, is_err, IfOk, OnOk, IfErr, ◌≤◌};
+ghost use Rattle.std.specs.Prelude.{◌≡◌, ℕ, ◌<◌, ◌||◌, Bool, false, true, List, Option, length, take, is_err};
+ghost use Rattle.std.specs.Prelude.{IfOk, OnOk, IfErr, ◌≤◌};
 ghost use Rattle.std.specs.Io.{ReadsAtMost, WritesAtMost};
 ghost use Rattle.std.specs.Io.KnownBytes.{Appends, Keeps, ReadConsumes, WriteAppends};
 
@@ -39,8 +40,8 @@ pub trait Dest {
     // Whether all that was written has been handed on; so it always is by a type that holds nothing back.
     ghost is_flushed: { Self → Bool } = { λ _. true };
 
-    /// Writes the first bytes of `buf` and answers how many: at least one where there is one. An error took none;
-    /// `Interrupted` is one.
+    /// Writes the first bytes of `buf` and answers how many: at least one where there is one. An error took
+    /// none; `Interrupted` is one.
     fn put(&mut self, buf: &[u8]) -> io::Result<usize>
         ensures bound { WritesAtMost result buf.now }
         ensures some { IfOk result (λ n. 0 < length buf.now → 0 < n) }

@@ -1,6 +1,7 @@
 //! The types of a function's locals, as runs of one type.
 
-ghost use Rattle.std.specs.Prelude.{◌≡◌, ◌+◌, ◌-◌, ◌^◌, ◌<◌, ◌≤◌, ◌⊎◌, ◌↔◌, IsTrue, [], ◌++◌, None, Some, Ok, IfErr, OnErr, OnOk, MatchResult, length, replicate, slice_get};
+ghost use Rattle.std.specs.Prelude.{◌≡◌, ◌+◌, ◌-◌, ◌^◌, ◌<◌, ◌≤◌, ◌⊎◌, ◌↔◌, IsTrue, [], ◌++◌, None, Some, Ok};
+ghost use Rattle.std.specs.Prelude.{IfErr, OnErr, OnOk, MatchResult, length, replicate, slice_get};
 ghost use Rattle.wm_syntax.specs.Runs.{run_count, runs_of};
 ghost use Rattle.wm_syntax.specs.exact.Runs.{add_run};
 ghost use Rattle.wm_syntax.specs.inner.Runs.{AreRuns, last_end, last_type, start_at, types_in};
@@ -94,7 +95,8 @@ impl Locals {
         ensures err { OnErr result (self.new ≡ self.old) }
         ensures too_many { (result ≡ Err Why.TooManyLocals) ↔ (2 ^ 32 ≤ length self.old + count) }
         ensures refusals { IfErr result (λ why. (why ≡ Why.TooManyLocals) ⊎ (why ≡ Why.Memory)) }
-        ensures new_run { result ≡ Err Why.Memory → run_count self.old < run_count (self.old ++ replicate count ty) }
+        ensures new_run { result ≡ Err Why.Memory
+            → run_count self.old < run_count (self.old ++ replicate count ty) }
         ensures exact { MatchResult result (λ _. add_run count ty self.old ≡ Ok self.new)
             (λ why. (why ≡ Why.Memory) ⊎ (add_run count ty self.old ≡ Err why)) }
     {

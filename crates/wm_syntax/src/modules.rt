@@ -42,7 +42,11 @@ impl Model for Import {
 
     ghost Value = { ImportValue };
 
-    ghost view = { λ i. record { module_name = string_bytes i.module_name; item_name = string_bytes i.item_name; desc = i.desc } };
+    ghost view = { λ i. record {
+      module_name = string_bytes i.module_name;
+      item_name = string_bytes i.item_name;
+      desc = i.desc;
+    } };
 }
 
 /// A function (section 2.5.3): the index of its type, its declared locals, and its body.

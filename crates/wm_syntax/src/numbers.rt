@@ -1,7 +1,8 @@
 //! Numbers as LEB128 (section 5.2.2), read byte by byte.
 
 ghost use Rattle.wm_syntax.specs.Leb128.{FitsBits, Signed, Unsigned};
-ghost use Rattle.std.specs.Prelude.{ℕ, List, [], ◌∷◌, ◌++◌, pos, ◌-ℤ◌, ◌≡◌, ◌+◌, ◌-◌, ◌*◌, ◌^◌, ◌<◌, ◌≤◌, ◌↔◌, true, nat_lt, nat_le, length};
+ghost use Rattle.std.specs.Prelude.{ℕ, List, [], ◌∷◌, ◌++◌, pos, ◌-ℤ◌, ◌≡◌, ◌+◌, ◌-◌, ◌*◌, ◌^◌, ◌<◌, ◌≤◌};
+ghost use Rattle.std.specs.Prelude.{◌↔◌, true, nat_lt, nat_le, length};
 ghost use Rattle.std.specs.List.{prefix_len};
 ghost use Rattle.wm_syntax.specs.Reading.{Answers, IfDone};
 ghost use Rattle.wm_syntax.specs.exact.Reading.{fresh, go_on, last_signed, signed_push, unsigned_push};
@@ -345,7 +346,8 @@ impl Int32 {
     pub fn push(&mut self, byte: u8) -> Step<i32>
         ensures answers { (before : List ℕ) → SignedAfter 32 self.old before
             → Answers (Signed 32) result (before ++ byte ∷ []) }
-        ensures after { (before : List ℕ) → SignedAfter 32 self.old before → SignedAfter 32 self.new (before ++ byte ∷ []) }
+        ensures after { (before : List ℕ) → SignedAfter 32 self.old before
+            → SignedAfter 32 self.new (before ++ byte ∷ []) }
         ensures pushed { (result, self.new) ≡ signed_push 32 self.old byte }
     {
         narrow_signed(self.bytes.push_signed(32, byte))
@@ -383,7 +385,8 @@ impl Int64 {
     pub fn push(&mut self, byte: u8) -> Step<i64>
         ensures answers { (before : List ℕ) → SignedAfter 64 self.old before
             → Answers (Signed 64) result (before ++ byte ∷ []) }
-        ensures after { (before : List ℕ) → SignedAfter 64 self.old before → SignedAfter 64 self.new (before ++ byte ∷ []) }
+        ensures after { (before : List ℕ) → SignedAfter 64 self.old before
+            → SignedAfter 64 self.new (before ++ byte ∷ []) }
         ensures pushed { (result, self.new) ≡ signed_push 64 self.old byte }
     {
         self.bytes.push_signed(64, byte)

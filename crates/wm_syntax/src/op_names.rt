@@ -314,7 +314,8 @@ pub fn op_named(profile: Profile, word: &[u8]) -> OpClass
     // Each instruction of the profile that has this name is of this class, and the class is that
     // of such an instruction.
     ensures found { (op : Op) → op_name op ≡ Some word.now → IsOpOf profile op → result ≡ class_of op }
-    ensures only { IsClassOfOp result → (op : Op) × (op_name op ≡ Some word.now) × IsOpOf profile op × (class_of op ≡ result) }
+    ensures only { IsClassOfOp result → (op : Op) × (op_name op ≡ Some word.now) × IsOpOf profile op
+        × (class_of op ≡ result) }
     ensures exact { result ≡ class_named profile word.now }
 {
     let mut low = 0;

@@ -24,7 +24,8 @@ pub fn op_of(profile: Profile, byte: u8) -> OpClass
     // Each instruction of the profile that begins with the byte is of this class, and the class is that
     // of such an instruction.
     ensures found { (op : Op) → first_byte op ≡ Some byte → IsOpOf profile op → result ≡ class_of op }
-    ensures only { IsClassOfOp result → (op : Op) × (first_byte op ≡ Some byte) × IsOpOf profile op × (class_of op ≡ result) }
+    ensures only { IsClassOfOp result → (op : Op) × (first_byte op ≡ Some byte) × IsOpOf profile op
+        × (class_of op ≡ result) }
     ensures float { (result ≡ OpClass.Float) ↔ IsTrue (is_float byte) }
     ensures exact { result ≡ class_under profile byte }
 {

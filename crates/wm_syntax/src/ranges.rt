@@ -1,5 +1,5 @@
-//! What each value of a module's types is: numbers of 32 bits, constants in their ranges, bytes, names (sections 2.2, 2.5).
-//! The types hold it, and to read each value once is what shows it of a whole module.
+//! What each value of a module's types is: numbers of 32 bits, constants in their ranges, bytes, names
+//! (sections 2.2, 2.5). The types hold it, and to read each value once is what shows it of a whole module.
 
 ghost use Rattle.std.specs.List.{AllByRecursion};
 ghost use Rattle.std.specs.Prelude.{◌<◌, IsUtf8};

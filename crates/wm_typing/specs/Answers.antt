@@ -1,4 +1,5 @@
--- How an answer of the code goes with the function that it follows: the same refusal, unless memory was refused.
+-- How an answer of the code goes with the function that it follows: the same refusal,
+-- unless memory was refused.
 use Rattle.std.specs.Prelude.{ℕ, ◌+◌, ◌≡◌, ◌≤◌, ◌⊎◌, Result, Ok, Err, length}
 use Rattle.wm_syntax.specs.declared.why.Why.{Why}
 use Rattle.wm_syntax.specs.declared.why.Why.TheVariants.{Memory}

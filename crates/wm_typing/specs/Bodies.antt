@@ -12,8 +12,8 @@ pub record BodyState : Type 0 where
   pub stacks : Stack
   pub table : Option BrTable
 
--- the index of the function's type and its result, its declared locals, the stacks, the counts since the body began,
--- and the refusal that ended it
+-- the index of the function's type and its result, its declared locals, the stacks, the counts since the body
+-- began, and the refusal that ended it
 pub record Body : Type 0 where
   pub type_index : ℕ
   pub result : Option ValType
@@ -26,8 +26,8 @@ pub record Body : Type 0 where
 abbrev pub body_entries : Body → ℕ
 body_entries b = run_count b.declared + height_sum b.state.stacks
 
--- The counts after a call that left these stacks, and whose find read so many runs: the moves are those of the stacks,
--- the others the greatest so far.
+-- The counts after a call that left these stacks, and whose find read so many runs: the moves are those of
+-- the stacks, the others the greatest so far.
 abbrev pub stats_after : Stack → ℕ → BodyStats → BodyStats
 stats_after s probes b = record {
   moves = s.moves;

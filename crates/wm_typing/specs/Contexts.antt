@@ -43,8 +43,8 @@ params_of c x = params_in (slice_get c.types x)
 abbrev pub result_of : Context → ℕ → Option ValType
 result_of c x = result_in (slice_get c.types x)
 
--- The context in which the body of a function is typed (section 3.4.1): its locals are the parameters of its type and
--- then the declared ones, its result is its one label too.
+-- The context in which the body of a function is typed (section 3.4.1): its locals are the parameters of its
+-- type and then the declared ones, its result is its one label too.
 abbrev pub in_function : Context → ℕ → Option ValType → List ValType → Context
 in_function c x result declared =
     record c { locals = params_of c x ++ declared; labels = result ∷ []; result = result }

@@ -1,6 +1,7 @@
 -- How deep instructions are nested in one another.
 use Rattle.std.specs.Prelude.{ℕ, ◌+◌, max}
-use Rattle.wm_syntax.specs.Instructions.{Instruction, Instructions, none, snoc, simple, table, block, loop, choice}
+use Rattle.wm_syntax.specs.Instructions.{Instruction, Instructions, none, snoc, simple, table, block, loop}
+use Rattle.wm_syntax.specs.Instructions.{choice}
 
 -- the deepest nesting of block, loop and if: 0 where there is none
 abbrev mutual

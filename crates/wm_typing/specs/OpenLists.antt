@@ -1,5 +1,6 @@
 -- Bodies that are not complete: the lists of instructions that are open, the innermost first.
-use Rattle.std.specs.Prelude.{ℕ, ◌+◌, ◌≡◌, List, [], ◌∷◌, ◌++◌, Option, Some, None, map, max, length, slice_get, option_to_list}
+use Rattle.std.specs.Prelude.{ℕ, ◌+◌, ◌≡◌, List, [], ◌∷◌, ◌++◌, Option, Some, None, map, max, length}
+use Rattle.std.specs.Prelude.{slice_get, option_to_list}
 use Rattle.std.specs.List.{AllByRecursion}
 use Rattle.wm_syntax.specs.declared.types.ValType.{ValType}
 use Rattle.wm_syntax.specs.declared.types.ValType.TheVariants.{I32}
@@ -61,7 +62,8 @@ abbrev pub WorkCan : Context → Head → List ValType → Work → Type 0
 WorkCan c h taken (work first before) =
     FirstHolds c h first × ((types : List ValType) × Typed c before [] (types ++ taken))
 
--- each open list has a typing, from which the instruction that opened the list inside it could take what it takes
+-- each open list has a typing, from which the instruction that opened the list inside it
+-- could take what it takes
 abbrev pub OpenCan : Context → List ValType → List Head → List Work → Type 0
 OpenCan c taken [] [] = Unit {0}
 OpenCan c taken (h ∷ hs) [] = ⊥
@@ -110,16 +112,19 @@ IsOpen r (h ∷ hs) [] ops = ⊥
 IsOpen r (h ∷ []) (w ∷ []) ops = IsBodyWork r h w ops
 IsOpen r (h ∷ []) (w ∷ v ∷ ws) ops = ⊥
 IsOpen r (h ∷ g ∷ hs) (w ∷ ws) ops =
-    (outer : List Op) × (inner : List Op) × IsOpen r (g ∷ hs) ws outer × IsWork h w inner × (ops ≡ outer ++ inner)
+    (outer : List Op) × (inner : List Op) × IsOpen r (g ∷ hs) ws outer × IsWork h w inner
+    × (ops ≡ outer ++ inner)
 
 -- the ops so far of a body with this result
 abbrev pub IsSoFar : Option ValType → Place → List Op → Type 0
 IsSoFar r (open_at hs ws) ops = IsOpen r hs ws ops
 IsSoFar r (within n seen hs ws) ops =
-    (before : List Op) × IsOpen r hs ws before × (ops ≡ before ++ op.BrTable (length seen + n) ∷ map op.Label seen)
+    (before : List Op) × IsOpen r hs ws before
+    × (ops ≡ before ++ op.BrTable (length seen + n) ∷ map op.Label seen)
 IsSoFar r (complete t s) ops = (t ≡ r) × ((inner : List Op) × HasOps s inner × (ops ≡ inner ++ op.End ∷ []))
 
--- how many lists are open, and how deep the instructions so far are nested: 1 for those that stand in the body itself
+-- how many lists are open, and how deep the instructions so far are nested: 1 for those that
+-- stand in the body itself
 abbrev pub levels : Place → ℕ
 levels (open_at hs ws) = length hs
 levels (within n seen hs ws) = length hs

@@ -13,7 +13,8 @@ use Rattle.wm_syntax.specs.declared.instructions.Op.TheVariants as op
 
 -- the runs that are read to find this local: none for a parameter
 abbrev pub local_probes : List ValType → List ValType → ℕ → ℕ
-local_probes params declared x = if nat_lt x (length params) then 0 else probes_for declared (x - length params)
+local_probes params declared x = if nat_lt x (length params) then 0
+    else probes_for declared (x - length params)
 
 abbrev pub simple_probes : List ValType → List ValType → Simple → ℕ
 simple_probes params declared (LocalGet x) = local_probes params declared x

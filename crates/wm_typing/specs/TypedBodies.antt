@@ -1,5 +1,6 @@
 -- What a body's check holds after the ops so far, and what its answers say of them.
-use Rattle.std.specs.Prelude.{ℕ, ◌-◌, ◌≡◌, ◌↔◌, List, [], ◌∷◌, ◌++◌, Option, Some, None, map, length, take, drop, reverse, option_to_list}
+use Rattle.std.specs.Prelude.{ℕ, ◌-◌, ◌≡◌, ◌↔◌, List, [], ◌∷◌, ◌++◌, Option, Some, None, map, length, take}
+use Rattle.std.specs.Prelude.{drop, reverse, option_to_list}
 use Rattle.wm_syntax.specs.declared.types.ValType.{ValType}
 use Rattle.wm_syntax.specs.declared.instructions.Op.{Op}
 use Rattle.wm_syntax.specs.declared.instructions.Op.TheVariants as op
@@ -9,7 +10,8 @@ use Rattle.wm_stacks.specs.declared.entries.Frame.{Frame}
 use Rattle.wm_stacks.specs.Stack.{Stack, Denotes}
 use Rattle.wm_typing.specs.declared.labels.BrTable.{BrTable}
 use Rattle.wm_typing.specs.Typing.{Context, Typed}
-use Rattle.wm_typing.specs.OpenLists.{Head, Work, work, Place, within, head_of, at, taken_by, CanType, IsOpen, IsSoFar}
+use Rattle.wm_typing.specs.OpenLists.{Head, Work, work, Place, within, head_of, at, taken_by, CanType, IsOpen}
+use Rattle.wm_typing.specs.OpenLists.{IsSoFar}
 
 -- the ops of a list of instructions, and the end of the body
 abbrev pub HasBodyOps : Instructions → List Op → Type 0
@@ -26,8 +28,9 @@ pub record IsTypedBody (c : Context) (ops : List Op) : Type 0 where
 abbrev pub HaveTyping : Context → List Op → Type 0
 HaveTyping c ops = (p : Place) × IsSoFar c.result p ops × CanType c p
 
--- Each open list of instructions, the innermost first, has from [] exactly the types that its frame denotes: the
--- operands above its floor, once those that the instruction which opened the list inside it took are gone.
+-- Each open list of instructions, the innermost first, has from [] exactly the types that its frame
+-- denotes: the operands above its floor, once those that the instruction which opened the list
+-- inside it took are gone.
 abbrev pub DenoteEach : Context → List ValType → List Frame → List Entry → List Work → Type 0
 DenoteEach c taken [] entries [] = Unit {0}
 DenoteEach c taken (f ∷ fs) entries (work first s ∷ ws) =
@@ -37,10 +40,11 @@ DenoteEach c taken (f ∷ fs) entries (work first s ∷ ws) =
     × DenoteEach c (taken_by (head_of f)) fs (drop (length entries - f.floor) entries) ws
 DenoteEach c taken _ entries _ = ⊥
 
--- The same of the ops so far. Where a table of labels is held they end within the labels of a br_table, and nothing
--- more is said.
+-- The same of the ops so far. Where a table of labels is held they end within the labels of a br_table, and
+-- nothing more is said.
 abbrev pub FramesDenote : Context → List Op → Option BrTable → Stack → Type 0
 FramesDenote c ops (Some t) s =
-    (n : ℕ) × (seen : List ℕ) × (hs : List Head) × (ws : List Work) × IsSoFar c.result (within n seen hs ws) ops
+    (n : ℕ) × (seen : List ℕ) × (hs : List Head) × (ws : List Work)
+    × IsSoFar c.result (within n seen hs ws) ops
 FramesDenote c ops None s =
     (ws : List Work) × IsOpen c.result (map head_of s.frames) ws ops × DenoteEach c [] s.frames s.operands ws

@@ -1,3 +1,4 @@
--- What values hold inside. Contracts name these words and say what follows from them: their bodies need not be believed.
+-- What values hold inside. Contracts name these words and say what follows from them: their
+-- bodies need not be believed.
 pub mod Checking
 pub mod Frames

@@ -1,6 +1,7 @@
 //! Whole bodies.
 
-ghost use Rattle.std.specs.Prelude.{◌≡◌, ◌+◌, ◌*◌, ◌<◌, ◌≤◌, ◌^◌, ◌⊎◌, ℕ, List, [], ◌++◌, IfErr, IfOk, MatchResult, OnOk, None, length};
+ghost use Rattle.std.specs.Prelude.{◌≡◌, ◌+◌, ◌*◌, ◌<◌, ◌≤◌, ◌^◌, ◌⊎◌, ℕ, List, [], ◌++◌, IfErr, IfOk};
+ghost use Rattle.std.specs.Prelude.{MatchResult, OnOk, None, length};
 ghost use Rattle.wm_stacks.specs.Stack.{height_sum};
 ghost use Rattle.wm_syntax.specs.declared.types.ValType.{ValType as AType};
 ghost use Rattle.wm_typing.specs.TypedBodies.{HasBodyOps, IsTypedBody};
@@ -74,7 +75,8 @@ fn step_all(checker: &mut BodyChecker, context: &Context<'_>, ops: &[Op]) -> Res
         (λ _. IsTypedBody (body_context context.now checker.old.type_index checker.old.declared) ops.now)
         (λ why. (why ≡ Why.Memory)
         ⊎ (IsTypedBody (body_context context.now checker.old.type_index checker.old.declared) ops.now → ⊥)) }
-    ensures after { OnOk result (BodyAfter context.now checker.old.type_index checker.old.declared ops.now checker.new) }
+    ensures after { OnOk result (BodyAfter context.now checker.old.type_index checker.old.declared ops.now
+        checker.new) }
 {
     for (i, op) in ops.iter().enumerate() {
         let progress = checker.step(context, *op)?;

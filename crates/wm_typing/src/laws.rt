@@ -1,6 +1,7 @@
 //! Laws of the definitions.
 
-ghost use Rattle.std.specs.Prelude.{◌≡◌, ◌+◌, ◌≤◌, ◌↔◌, ℕ, suc, List, [], ◌∷◌, ◌++◌, Ok, Err, Option, length, replicate};
+ghost use Rattle.std.specs.Prelude.{◌≡◌, ◌+◌, ◌≤◌, ◌↔◌, ℕ, suc, List, [], ◌∷◌, ◌++◌, Ok, Err, Option, length};
+ghost use Rattle.std.specs.Prelude.{replicate};
 ghost use Rattle.std.specs.List.{AllByRecursion};
 ghost use Rattle.wm_syntax.specs.Instructions.{Instructions};
 ghost use Rattle.wm_syntax.specs.declared.instructions.Op.{Op};
@@ -27,18 +28,23 @@ pub fn ops_in_turn()
         → body_after_ops c (Ok (body_with_locals c x locals)) ops ≡ Ok b → BodyAfter c x locals ops b }
     ensures refused { (c : Context) (x : ℕ) (locals : List ValType) (ops : List Op) (why : Why)
         → AllByRecursion (λ f. length f.results ≤ 1) c.types
-        → body_after_ops c (Ok (body_with_locals c x locals)) ops ≡ Err why → HaveTyping (body_context c x locals) ops → ⊥ }
+        → body_after_ops c (Ok (body_with_locals c x locals)) ops ≡ Err why
+        → HaveTyping (body_context c x locals) ops → ⊥ }
 {}
 
 /// What `After` says of the ops and of what is held.
 pub fn after_ops()
-    ensures typed { (c : Context) (x : ℕ) (locals : List ValType) (ops : List Op) (b : Body) → BodyAfter c x locals ops b
+    ensures typed { (c : Context) (x : ℕ) (locals : List ValType) (ops : List Op) (b : Body)
+        → BodyAfter c x locals ops b
         → HaveTyping (body_context c x locals) ops }
-    ensures ended { (c : Context) (x : ℕ) (locals : List ValType) (ops : List Op) (b : Body) → BodyAfter c x locals ops b
+    ensures ended { (c : Context) (x : ℕ) (locals : List ValType) (ops : List Op) (b : Body)
+        → BodyAfter c x locals ops b
         → (b.state.stacks.frames ≡ []) ↔ IsTypedBody (body_context c x locals) ops }
-    ensures nested { (c : Context) (x : ℕ) (locals : List ValType) (ops : List Op) (b : Body) → BodyAfter c x locals ops b
+    ensures nested { (c : Context) (x : ℕ) (locals : List ValType) (ops : List Op) (b : Body)
+        → BodyAfter c x locals ops b
         → length b.state.stacks.frames + endings ops ≡ openings ops + 1 }
-    ensures controls { (c : Context) (x : ℕ) (locals : List ValType) (ops : List Op) (b : Body) → BodyAfter c x locals ops b
+    ensures controls { (c : Context) (x : ℕ) (locals : List ValType) (ops : List Op) (b : Body)
+        → BodyAfter c x locals ops b
         → (body : Instructions) → HasBodyOps body ops → b.stats.controls ≡ nesting body + 1 }
 {}
 
@@ -53,9 +59,11 @@ pub fn fronts_of_typed_bodies()
 /// innermost list, and a label before the default exactly where it and those before it exist and have one
 /// type.
 pub fn labels_of_a_table()
-    ensures count { (c : Context) (hs : List Head) (ws : List Work) (ops : List Op) (n : ℕ) → IsOpen c.result hs ws ops
+    ensures count { (c : Context) (hs : List Head) (ws : List Work) (ops : List Op) (n : ℕ)
+        → IsOpen c.result hs ws ops
         → HaveTyping c (ops ++ op.BrTable n ∷ []) ↔ OpenCan c (I32 ∷ []) hs ws }
-    ensures label { (c : Context) (n : ℕ) (seen : List ℕ) (hs : List Head) (ws : List Work) (ops : List Op) (l : ℕ)
+    ensures label { (c : Context) (n : ℕ) (seen : List ℕ) (hs : List Head) (ws : List Work) (ops : List Op)
+        (l : ℕ)
         → IsSoFar c.result (within (suc n) seen hs ws) ops
         → HaveTyping c (ops ++ op.Label l ∷ []) ↔ (SeenCan hs (seen ++ l ∷ []) × OpenCan c (I32 ∷ []) hs ws) }
 {}

@@ -1,17 +1,23 @@
--- The canonical binary of a module: shortest numbers, empty sections omitted, no custom section, locals in maximal runs of
--- one type, no else before an empty second branch (section 5.5).
-use Rattle.std.specs.Prelude.{ℕ, ◌≡◌, ◌<◌, ◌≤◌, ◌^◌, List, [], ◌∷◌, ◌++◌, Option, Some, None, Bool, true, false, ℤ, length, flat_map}
-use Rattle.wm_decode.specs.Sections.{header, kind_byte, SpellsImport, SpellsGlobal, SpellsExport, SpellsElement, SpellsCode, SpellsSegment}
+-- The canonical binary of a module: shortest numbers, empty sections omitted, no custom section, locals in
+-- maximal runs of one type, no else before an empty second branch (section 5.5).
+use Rattle.std.specs.Prelude.{ℕ, ◌≡◌, ◌<◌, ◌≤◌, ◌^◌, List, [], ◌∷◌, ◌++◌, Option, Some, None, Bool, true}
+use Rattle.std.specs.Prelude.{false, ℤ, length, flat_map}
+use Rattle.wm_decode.specs.Sections.{header, kind_byte, SpellsImport, SpellsGlobal, SpellsExport}
+use Rattle.wm_decode.specs.Sections.{SpellsElement, SpellsCode, SpellsSegment}
 use Rattle.wm_syntax.specs.Instructions.{ops_of}
 use Rattle.wm_syntax.specs.Leb128.{signed_bytes, unsigned_bytes}
 use Rattle.wm_syntax.specs.Modules.{Import, Function, GlobalDef, Export, Element, Segment, Module, constant}
 use Rattle.wm_syntax.specs.Opcodes.{opcode}
 use Rattle.wm_syntax.specs.Runs.{runs_of}
 use Rattle.wm_syntax.specs.Spelling.{Form}
-use Rattle.wm_syntax.specs.Types.{Signature, type_byte, SpellsU32, SpellsList, SpellsSignature, SpellsLimits, SpellsTableType}
+use Rattle.wm_syntax.specs.Types.{Signature, type_byte, SpellsU32, SpellsList, SpellsSignature, SpellsLimits}
+use Rattle.wm_syntax.specs.Types.{SpellsTableType}
 use Rattle.wm_syntax.specs.declared.instructions.Op.TheVariants as op
 use Rattle.wm_syntax.specs.declared.instructions.Op.{Op}
-use Rattle.wm_syntax.specs.declared.instructions.Simple.TheVariants.{Br, BrIf, Call, CallIndirect, LocalGet, LocalSet, LocalTee, GlobalGet, GlobalSet, MemorySize, MemoryGrow, I32Const, I64Const, Load, Store}
+use Rattle.wm_syntax.specs.declared.instructions.Simple.TheVariants.{Br, BrIf, Call, CallIndirect, LocalGet}
+use Rattle.wm_syntax.specs.declared.instructions.Simple.TheVariants.{LocalSet, LocalTee, GlobalGet, GlobalSet}
+use Rattle.wm_syntax.specs.declared.instructions.Simple.TheVariants.{MemorySize, MemoryGrow, I32Const}
+use Rattle.wm_syntax.specs.declared.instructions.Simple.TheVariants.{I64Const, Load, Store}
 use Rattle.wm_syntax.specs.declared.instructions.Simple.{Simple}
 use Rattle.wm_syntax.specs.declared.modules.ImportDesc.TheVariants.{Func, Table, Memory, Global}
 use Rattle.wm_syntax.specs.declared.modules.ImportDesc.{ImportDesc}
@@ -131,7 +137,8 @@ export_bytes e = sized e.name ++ kind_byte e.kind ∷ u32_bytes e.index
 abbrev pub element_bytes : Element → List ℕ
 element_bytes e = u32_bytes e.table ++ (constant_bytes e.offset ++ listed u32_bytes e.functions)
 
--- a code entry (section 5.5.13): maximal runs of locals of one type, and the body, behind how many bytes they have
+-- a code entry (section 5.5.13): maximal runs of locals of one type, and the body, behind
+-- how many bytes they have
 abbrev pub run_bytes : ℕ × ValType → List ℕ
 run_bytes r = u32_bytes r.0 ++ value_type_bytes r.1
 

@@ -1,6 +1,9 @@
--- The printed text of a module (chapter 6): a field a line, and in a function an instruction a line. It is a list of words,
--- each with the white space before it and what it means, so that the text and its tokens are one definition.
-use Rattle.std.specs.Prelude.{ℕ, ◌+◌, ◌/◌, ◌%◌, ◌^◌, ◌&&◌, ◌==◌, not, List, [], ◌∷◌, ◌++◌, Bool, Option, Some, None, codes, decimal, filter_map, flat_map, if◌then◌else◌, length, map, nat_le, nat_lt}
+-- The printed text of a module (chapter 6): a field a line, and in a function an instruction a line. It is a
+-- list of words, each with the white space before it and what it means, so that the text and its tokens are
+-- one definition.
+use Rattle.std.specs.Prelude.{ℕ, ◌+◌, ◌/◌, ◌%◌, ◌^◌, ◌&&◌, ◌==◌, not, List, [], ◌∷◌, ◌++◌, Bool, Option, Some}
+use Rattle.std.specs.Prelude.{None, codes, decimal, filter_map, flat_map, if◌then◌else◌, length, map, nat_le}
+use Rattle.std.specs.Prelude.{nat_lt}
 use Rattle.std.specs.Fmt.{signed_decimal}
 use Rattle.std.specs.List.{enumerate_from}
 use Rattle.wm_syntax.specs.declared.types.ValType.{ValType}
@@ -10,7 +13,9 @@ use Rattle.wm_syntax.specs.declared.types.GlobalType.{GlobalType}
 use Rattle.wm_syntax.specs.declared.types.Const.{Const}
 use Rattle.wm_syntax.specs.declared.instructions.MemArg.{MemArg}
 use Rattle.wm_syntax.specs.declared.instructions.Simple.{Simple}
-use Rattle.wm_syntax.specs.declared.instructions.Simple.TheVariants.{Br, BrIf, Call, CallIndirect, LocalGet, LocalSet, LocalTee, GlobalGet, GlobalSet, I32Const, I64Const, Load, Store}
+use Rattle.wm_syntax.specs.declared.instructions.Simple.TheVariants.{Br, BrIf, Call, CallIndirect, LocalGet}
+use Rattle.wm_syntax.specs.declared.instructions.Simple.TheVariants.{LocalSet, LocalTee, GlobalGet, GlobalSet}
+use Rattle.wm_syntax.specs.declared.instructions.Simple.TheVariants.{I32Const, I64Const, Load, Store}
 use Rattle.wm_syntax.specs.declared.instructions.Op.{Op}
 use Rattle.wm_syntax.specs.declared.instructions.Op.TheVariants as op
 use Rattle.wm_syntax.specs.declared.modules.ImportDesc.{ImportDesc}
@@ -18,21 +23,23 @@ use Rattle.wm_syntax.specs.declared.modules.ImportDesc.TheVariants.{Func, Table,
 use Rattle.wm_syntax.specs.declared.modules.ExportKind.{ExportKind}
 use Rattle.wm_syntax.specs.declared.modules.ExportKind.TheVariants as kind
 use Rattle.wm_syntax.specs.Instructions.{ops_of}
-use Rattle.wm_syntax.specs.Modules.{Import, Function, GlobalDef, Export, Element, Segment, Module, constant, function_of, table_of, memory_of, global_of}
+use Rattle.wm_syntax.specs.Modules.{Import, Function, GlobalDef, Export, Element, Segment, Module, constant}
+use Rattle.wm_syntax.specs.Modules.{function_of, table_of, memory_of, global_of}
 use Rattle.wm_syntax.specs.Opcodes.{load, opcode, store}
 use Rattle.wm_syntax.specs.OpNames.{op_name}
 use Rattle.wm_syntax.specs.Types.{Signature}
 use Rattle.wm_write.specs.declared.fields.Places.{Places}
 
--- What a word means, one token (section 6.2.2): a parenthesis, a string by its bytes, or an atom by its characters.
+-- What a word means, one token (section 6.2.2): a parenthesis, a string by its bytes, or an
+-- atom by its characters.
 pub data Meaning : Type 0 where
   opening : Meaning
   closing : Meaning
   string : List ℕ → Meaning
   atom : List ℕ → Meaning
 
--- In a string (section 6.3.3) the printable ASCII characters other than " and \ stand for themselves, and any other
--- byte is \ and two hexadecimal digits, in lower case.
+-- In a string (section 6.3.3) the printable ASCII characters other than " and \ stand for themselves, and any
+-- other byte is \ and two hexadecimal digits, in lower case.
 abbrev pub is_plain : ℕ → Bool
 is_plain b = nat_le 0x20 b && nat_le b 0x7E && not (b == 34) && not (b == 92)
 
@@ -62,7 +69,8 @@ words_text words = flat_map word_text words
 abbrev pub at : List ℕ → Meaning → Word
 at space means = record { space = space; means = means }
 
--- a space; a new line with the two spaces of a field; a new line with the four spaces of what stands in a function
+-- a space; a new line with the two spaces of a field; a new line with the four spaces of
+-- what stands in a function
 abbrev pub gap : List ℕ
 gap = 32 ∷ []
 
@@ -127,7 +135,8 @@ params_words ts = types_words gap (codes "param") ts
 abbrev pub results_words : List ValType → List Word
 results_words ts = types_words gap (codes "result") ts
 
--- limits (section 6.4.4), which are also a memory type; a table type has `funcref` behind them (section 6.4.6)
+-- limits (section 6.4.4), which are also a memory type; a table type has `funcref`
+-- behind them (section 6.4.6)
 abbrev pub max_words : Option ℕ → List Word
 max_words None = []
 max_words (Some max) = number max ∷ []
@@ -151,7 +160,8 @@ abbrev pub key_words : List ℕ → ℕ → ℕ → List Word
 key_words key usual n = if n == usual then [] else spaced (key ++ decimal n) ∷ []
 
 abbrev pub access_words : ℕ → MemArg → List Word
-access_words width at = key_words (codes "offset=") 0 at.offset ++ key_words (codes "align=") width (2 ^ at.align)
+access_words width at =
+    key_words (codes "offset=") 0 at.offset ++ key_words (codes "align=") width (2 ^ at.align)
 
 -- what stands behind the name of an instruction (sections 6.5.2 to 6.5.6); locals and labels are numbers
 abbrev pub immediate_words : Simple → List Word
@@ -188,7 +198,8 @@ abbrev pub head_words : Option (List ℕ) → List Word
 head_words None = []
 head_words (Some name) = at body_line (atom name) ∷ []
 
--- An op (section 6.5). All lines of a body are indented alike, so its words are those of its ops in their order.
+-- An op (section 6.5). All lines of a body are indented alike, so its words are those of
+-- its ops in their order.
 abbrev pub op_words : Op → List Word
 op_words o = head_words (op_name o) ++ operand_words o
 
@@ -205,7 +216,8 @@ offset_words c = form gap (codes "offset") (const_words c)
 -- a type (section 6.6.2)
 abbrev pub type_field : ℕ × Signature → List Word
 type_field e =
-    form field_line (codes "type") (type_name e.0 ∷ form gap (codes "func") (params_words e.1.params ++ results_words e.1.results))
+    form field_line (codes "type") (type_name e.0
+    ∷ form gap (codes "func") (params_words e.1.params ++ results_words e.1.results))
 
 -- how many imports of each kind there are
 abbrev pub places : List Import → Places
@@ -247,7 +259,8 @@ abbrev pub memory_field : ℕ × Limits → List Word
 memory_field e = form field_line (codes "memory") (memory_name e.0 ∷ limits_words e.1)
 
 abbrev pub global_field : ℕ × GlobalDef → List Word
-global_field e = form field_line (codes "global") (global_name e.0 ∷ global_type_words e.1.ty ++ const_words e.1.init)
+global_field e =
+    form field_line (codes "global") (global_name e.0 ∷ global_type_words e.1.ty ++ const_words e.1.init)
 
 -- an export (section 6.6.9)
 abbrev pub item_words : ExportKind → ℕ → List Word
@@ -267,7 +280,8 @@ start_field (Some x) = form field_line (codes "start") (function_name x ∷ [])
 -- an element segment (section 6.6.11) and a data segment (section 6.6.12)
 abbrev pub element_field : Element → List Word
 element_field e =
-    form field_line (codes "elem") (table_name e.table ∷ offset_words e.offset ++ map function_name e.functions)
+    form field_line (codes "elem") (table_name e.table ∷ offset_words e.offset
+    ++ map function_name e.functions)
 
 abbrev pub segment_field : Segment → List Word
 segment_field s =

@@ -5,7 +5,9 @@ ghost use Rattle.std.specs.List.{list_all};
 ghost use Rattle.wm_syntax.specs.OpNames.{op_name};
 ghost use Rattle.wm_syntax.specs.Runs.{runs_of};
 ghost use Rattle.wm_syntax.specs.Modules.{locals_of};
-ghost use Rattle.wm_write.specs.Layout.{access_words, body_line, body_words, const_words, head_words, immediate_words, op_words, operand_words, result_words, type_word, types_words, words_text};
+ghost use Rattle.wm_write.specs.Layout.{access_words, body_line, body_words, const_words, head_words};
+ghost use Rattle.wm_write.specs.Layout.{immediate_words, op_words, operand_words, result_words, type_word};
+ghost use Rattle.wm_write.specs.Layout.{types_words, words_text};
 ghost use Rattle.wm_write.specs.exact.Writing.{Sent};
 ghost use Rattle.wm_write.specs.exact.Aligns.{is_printable, is_simple_printable};
 
@@ -146,7 +148,8 @@ pub(crate) fn put_body<W: Dest>(w: &mut W, written: &mut u64, ops: &[Op])
 /// Writes the line of the locals, unless there are none.
 pub(crate) fn put_locals<W: Dest>(w: &mut W, written: &mut u64, locals: &Locals)
     ensures { Sent (words_text (types_words body_line (codes "local") locals.now))
-        (W.has_failed w.old, W.contents w.old, written.old) (W.has_failed w.new, W.contents w.new, written.new) }
+        (W.has_failed w.old, W.contents w.old, written.old)
+        (W.has_failed w.new, W.contents w.new, written.new) }
 {
     if locals.runs() == 0 {
         return;
@@ -159,7 +162,8 @@ pub(crate) fn put_locals<W: Dest>(w: &mut W, written: &mut u64, locals: &Locals)
 // Writes the type of each local, however many there are, by their runs of one type.
 fn put_local_types<W: Dest>(w: &mut W, written: &mut u64, locals: &Locals)
     ensures { Sent (words_text (map type_word (locals_of (runs_of locals.now))))
-        (W.has_failed w.old, W.contents w.old, written.old) (W.has_failed w.new, W.contents w.new, written.new) }
+        (W.has_failed w.old, W.contents w.old, written.old)
+        (W.has_failed w.new, W.contents w.new, written.new) }
 {
     for index in 0..locals.runs() {
         let (count, ty) = locals.run(index).unwrap();

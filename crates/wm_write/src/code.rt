@@ -34,7 +34,8 @@ impl Part for CodeContents {
 
 // Writes each maximal run of locals of one type.
 fn put_runs<W: Dest>(w: &mut W, written: &mut u64, locals: &Locals)
-    ensures { Sent (flat_map run_bytes (runs_of locals.now)) (W.has_failed w.old, W.contents w.old, written.old)
+    ensures { Sent (flat_map run_bytes (runs_of locals.now))
+        (W.has_failed w.old, W.contents w.old, written.old)
         (W.has_failed w.new, W.contents w.new, written.new) }
 {
     for index in 0..locals.runs() {

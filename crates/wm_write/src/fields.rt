@@ -2,7 +2,8 @@
 
 ghost use Rattle.std.specs.Prelude.{◌≡◌, ℕ, Bool, IsTrue, List, [], flat_map};
 ghost use Rattle.std.specs.List.{enumerate_from, list_all};
-ghost use Rattle.wm_write.specs.Layout.{Word, desc_words, import_field, import_fields, item_words, offset_words, places, start_field, words_text};
+ghost use Rattle.wm_write.specs.Layout.{Word, desc_words, import_field, import_fields, item_words};
+ghost use Rattle.wm_write.specs.Layout.{offset_words, places, start_field, words_text};
 ghost use Rattle.wm_write.specs.exact.Printing.{item_front};
 ghost use Rattle.wm_write.specs.exact.Writing.{Sent};
 
@@ -30,7 +31,8 @@ pub(crate) trait Field {
     /// Writes the field of a value at a place, unless the writer has failed or fails.
     fn put<W: Dest>(w: &mut W, written: &mut u64, place: u128, value: &Self::Value)
         requires { IsTrue (is_printable value.now) }
-        ensures { Sent (words_text (words (place, value.now))) (W.has_failed w.old, W.contents w.old, written.old)
+        ensures { Sent (words_text (words (place, value.now)))
+            (W.has_failed w.old, W.contents w.old, written.old)
             (W.has_failed w.new, W.contents w.new, written.new) };
 }
 
@@ -43,7 +45,8 @@ pub(crate) fn put_fields<F: Field, W: Dest>(
 )
     requires { IsTrue (list_all F.is_printable values.now) }
     ensures { Sent (words_text (flat_map F.words (enumerate_from first values.now)))
-        (W.has_failed w.old, W.contents w.old, written.old) (W.has_failed w.new, W.contents w.new, written.new) }
+        (W.has_failed w.old, W.contents w.old, written.old)
+        (W.has_failed w.new, W.contents w.new, written.new) }
 {
     // two lengths may add up to more than a u64 holds
     let mut place = u128::from(first);
@@ -198,7 +201,8 @@ impl Places {
 
 /// Writes the imports, and answers how many there are of each kind.
 pub(crate) fn put_imports<W: Dest>(w: &mut W, written: &mut u64, imports: &[Import]) -> Places
-    ensures sent { Sent (words_text (import_fields [] imports.now)) (W.has_failed w.old, W.contents w.old, written.old)
+    ensures sent { Sent (words_text (import_fields [] imports.now))
+        (W.has_failed w.old, W.contents w.old, written.old)
         (W.has_failed w.new, W.contents w.new, written.new) }
     ensures places { result ≡ places imports.now }
 {
@@ -212,7 +216,8 @@ pub(crate) fn put_imports<W: Dest>(w: &mut W, written: &mut u64, imports: &[Impo
 
 // Writes an import, before which there are so many of each kind.
 fn put_import<W: Dest>(w: &mut W, written: &mut u64, before: Places, import: &Import)
-    ensures { Sent (words_text (import_field before import.now)) (W.has_failed w.old, W.contents w.old, written.old)
+    ensures { Sent (words_text (import_field before import.now))
+        (W.has_failed w.old, W.contents w.old, written.old)
         (W.has_failed w.new, W.contents w.new, written.new) }
 {
     put_bytes(w, written, b"\n  (import");

@@ -1,6 +1,7 @@
 //! Modules in text (chapter 6).
 
-ghost use Rattle.std.specs.Prelude.{◌≡◌, ◌≤◌, ◌++◌, ℕ, IsTrue, OnErr, OnOk, codes, false, is_err, length, take};
+ghost use Rattle.std.specs.Prelude.{◌≡◌, ◌≤◌, ◌++◌, ℕ, IsTrue, OnErr, OnOk, codes, false, is_err, length};
+ghost use Rattle.std.specs.Prelude.{take};
 ghost use Rattle.std.specs.Io.KnownBytes.{Appends};
 ghost use Rattle.std.specs.List.{list_all};
 ghost use Rattle.wm_syntax.specs.Values.{value_of};
@@ -31,13 +32,16 @@ pub enum PrintFault {
     Io,
 }
 
-/// Writes the text of a module. No memory is taken. Each word is one `put` or two, so a slow writer wants a buffer.
+/// Writes the text of a module. No memory is taken. Each word is one `put` or two, so a slow
+/// writer wants a buffer.
 pub fn print<W: Dest>(checked: &Checked, w: &mut W) -> Result<(), PrintFault>
     requires open { W.has_failed w.old ≡ false }
-    ensures written { OnOk result (Appends (W.contents w.old) (W.contents w.new) (layout (value_of (module_in checked.now)))) }
+    ensures written { OnOk result (Appends (W.contents w.old) (W.contents w.new)
+        (layout (value_of (module_in checked.now)))) }
     // A beginning of it went out.
     ensures beginning { OnErr result ((n : ℕ) × (n ≤ length (layout (value_of (module_in checked.now))))
-        × Appends (W.contents w.old) (W.contents w.new) (take n (layout (value_of (module_in checked.now))))) }
+        × Appends (W.contents w.old) (W.contents w.new)
+        (take n (layout (value_of (module_in checked.now))))) }
     ensures failed { W.has_failed w.new ≡ is_err result }
 {
     let mut written = 0;
@@ -63,7 +67,8 @@ fn put_module<W: Dest>(w: &mut W, written: &mut u64, m: &Module)
 // Writes the fields of a module.
 fn put_all_fields<W: Dest>(w: &mut W, written: &mut u64, m: &Module)
     requires { IsTrue (list_all is_function_printable (value_of m.now).functions) }
-    ensures { Sent (words_text (field_words (value_of m.now))) (W.has_failed w.old, W.contents w.old, written.old)
+    ensures { Sent (words_text (field_words (value_of m.now)))
+        (W.has_failed w.old, W.contents w.old, written.old)
         (W.has_failed w.new, W.contents w.new, written.new) }
 {
     put_fields::<TypeField, W>(w, written, 0, &m.types);

@@ -15,7 +15,8 @@ pub(crate) trait Part {
     // its bytes
     ghost bytes: { Self.Value → List ℕ };
 
-    /// Writes the bytes of a value, unless the writer has failed or fails, and adds what went out to `written`.
+    /// Writes the bytes of a value, unless the writer has failed or fails, and adds what
+    /// went out to `written`.
     fn put<W: Dest>(w: &mut W, written: &mut u64, value: &Self::Value)
         ensures { Sent (bytes value.now) (W.has_failed w.old, W.contents w.old, written.old)
             (W.has_failed w.new, W.contents w.new, written.new) };

@@ -38,7 +38,8 @@ pub(crate) fn put_code_section<W: Dest>(
 )
     requires size { size ≡ length (listed code_bytes functions.now) }
     requires few { size < 2 ^ 32 }
-    ensures { Sent (list_section 10 code_bytes functions.now) (W.has_failed w.old, W.contents w.old, written.old)
+    ensures { Sent (list_section 10 code_bytes functions.now)
+        (W.has_failed w.old, W.contents w.old, written.old)
         (W.has_failed w.new, W.contents w.new, written.new) }
 {
     if functions.is_empty() {

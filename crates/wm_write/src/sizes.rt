@@ -52,7 +52,8 @@ impl Sizes {
 
     // Whether each of them can be spelled (section 5.5.2).
     fn fit(&self) -> bool
-        ensures { IsTrue result ↔ ((self.now.types < 2 ^ 32) × (self.now.imports < 2 ^ 32) × (self.now.functions < 2 ^ 32)
+        ensures { IsTrue result ↔ ((self.now.types < 2 ^ 32) × (self.now.imports < 2 ^ 32)
+            × (self.now.functions < 2 ^ 32)
             × (self.now.tables < 2 ^ 32) × (self.now.memories < 2 ^ 32) × (self.now.globals < 2 ^ 32)
             × (self.now.exports < 2 ^ 32) × (self.now.elements < 2 ^ 32) × (self.now.codes < 2 ^ 32)
             × (self.now.segments < 2 ^ 32)) }

@@ -1,7 +1,9 @@
 //! Words of a printed text, each with the white space before it (chapter 6).
 
 ghost use Rattle.std.specs.Prelude.{◌≡◌, ◌<◌, ◌++◌, ◌∷◌, ℕ, List, map, replicate};
-ghost use Rattle.wm_write.specs.Layout.{global_type_words, hex_digit, is_plain, key_words, limits_words, max_words, quoted, table_words, type_text, type_use, type_word, types_words, word_text, words_text};
+ghost use Rattle.wm_write.specs.Layout.{global_type_words, hex_digit, is_plain, key_words, limits_words};
+ghost use Rattle.wm_write.specs.Layout.{max_words, quoted, table_words, type_text, type_use, type_word};
+ghost use Rattle.wm_write.specs.Layout.{types_words, word_text, words_text};
 ghost use Rattle.wm_write.specs.exact.Writing.{Sent};
 
 use crate::put::{Part, put_bytes, put_each};
@@ -21,7 +23,8 @@ pub(crate) fn put_counted<I: Integer, W: Dest>(w: &mut W, written: &mut u64, fro
 
 /// Writes a part of a memory argument, unless it has its usual value.
 pub(crate) fn put_key<W: Dest>(w: &mut W, written: &mut u64, key: &[u8], usual: u32, n: u32)
-    ensures { Sent (words_text (key_words key.now usual n)) (W.has_failed w.old, W.contents w.old, written.old)
+    ensures { Sent (words_text (key_words key.now usual n))
+        (W.has_failed w.old, W.contents w.old, written.old)
         (W.has_failed w.new, W.contents w.new, written.new) }
 {
     if n == usual {
@@ -57,8 +60,10 @@ fn type_bytes(ty: ValType) -> &'static [u8]
 
 /// Writes a form of value types, unless there are none. The head is what stands before the first.
 pub(crate) fn put_types<W: Dest>(w: &mut W, written: &mut u64, head: &[u8], types: &[ValType])
-    ensures { (before word : List ℕ) → head.now ≡ before ++ 40 ∷ word → Sent (words_text (types_words before word types.now))
-        (W.has_failed w.old, W.contents w.old, written.old) (W.has_failed w.new, W.contents w.new, written.new) }
+    ensures { (before word : List ℕ) → head.now ≡ before ++ 40 ∷ word
+        → Sent (words_text (types_words before word types.now))
+        (W.has_failed w.old, W.contents w.old, written.old)
+        (W.has_failed w.new, W.contents w.new, written.new) }
 {
     if types.is_empty() {
         return;
@@ -70,7 +75,8 @@ pub(crate) fn put_types<W: Dest>(w: &mut W, written: &mut u64, head: &[u8], type
 
 /// Writes a value type as often as it is said.
 pub(crate) fn put_run<W: Dest>(w: &mut W, written: &mut u64, count: u32, ty: ValType)
-    ensures { Sent (words_text (map type_word (replicate count ty))) (W.has_failed w.old, W.contents w.old, written.old)
+    ensures { Sent (words_text (map type_word (replicate count ty)))
+        (W.has_failed w.old, W.contents w.old, written.old)
         (W.has_failed w.new, W.contents w.new, written.new) }
 {
     for _ in 0..count {

@@ -86,7 +86,8 @@ impl<'a> Reader<'a> {
         self.mode.has_come(self.calls)
     }
 
-    /// Whether it was asked as far as the byte that settled the answer, or else as far as its end or its fault; and no further.
+    /// Whether it was asked as far as the byte that settled the answer, or else as far as its end or its
+    /// fault; and no further.
     pub fn is_left_in_time(&self, settled: Option<usize>) -> bool {
         match settled {
             _ if self.is_asked_again => false,

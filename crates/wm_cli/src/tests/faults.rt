@@ -1,4 +1,5 @@
-//! Calls whose reader or writer fails: at its first call, its second, .. to the last one that it gets where it does not fail.
+//! Calls whose reader or writer fails: at its first call, its second, .. to the last one that it gets where
+//! it does not fail.
 
 use super::ends::{BROKEN, Fault, INTERRUPTED, Mode, Reader, Writer};
 use crate::run::run;
@@ -267,7 +268,8 @@ fn is_reader_told((answer, reader, writer): &Run) -> bool {
     answer.status == Status::Io && reader.is_left_in_time(None) && writer.calls == 0
 }
 
-/// Whether a run ended as it must whose writer has failed: by `Io`, with a beginning written. `plain` is the run that meets no fault.
+/// Whether a run ended as it must whose writer has failed: by `Io`, with a beginning written. `plain` is the
+/// run that meets no fault.
 fn is_writer_told((answer, reader, writer): &Run, plain: &Run) -> bool {
     answer.status == Status::Io
         && answer.is_length_of(writer)
@@ -286,8 +288,8 @@ fn is_same((answer, reader, writer): &Run, plain: &Run, flushes: u32) -> bool {
         && writer.taken.as_slice() == plain.2.taken.as_slice()
 }
 
-/// Whether each run ends as it must where an end fails at its first call, its second, .. Nothing is read after a refusal, and
-/// no end is called again after its fault.
+/// Whether each run ends as it must where an end fails at its first call, its second, .. Nothing is read
+/// after a refusal, and no end is called again after its fault.
 fn are_told(task: &Task, plain: &Run, end: End, (most, fault): Way, calls: u32) -> bool {
     for at in 1..=calls {
         let run = follow_failing(task, end, Mode { most, fault, at });
@@ -303,8 +305,8 @@ fn are_told(task: &Task, plain: &Run, end: End, (most, fault): Way, calls: u32) 
     true
 }
 
-/// In how many runs an end fails in this way: as often as it is called where it does not fail. None where a run ends
-/// otherwise than it must.
+/// In how many runs an end fails in this way: as often as it is called where it does not fail. None where a
+/// run ends otherwise than it must.
 fn count_way(task: &Task, plain: &Run, end: End, way: Way) -> Option<u32> {
     let unfailing = follow_failing(task, end, Mode::by(way.0));
     let calls = match end {

@@ -10,11 +10,11 @@
 //! shut WORDS = the same, where standard output takes nothing
 //! ```
 //!
-//! The word `""` is the empty one. INPUT is a text for `build`. Else it is bytes in hexadecimal digits, with H for the
-//! header of a module. What is done with an input under profile 1 is done under profile 2 too.
+//! The word `""` is the empty one. INPUT is a text for `build`. Else it is bytes in hexadecimal digits, with
+//! H for the header of a module. What is done with an input under profile 1 is done under profile 2 too.
 //!
-//! Rows of inputs whose reader or writer fails have no answer: `wmod WORDS < INPUT`. There `build` stands for itself, and `check`
-//! for all that takes a binary. A text may be written as `bytes` and its bytes.
+//! Rows of inputs whose reader or writer fails have no answer: `wmod WORDS < INPUT`. There `build` stands for
+//! itself, and `check` for all that takes a binary. A text may be written as `bytes` and its bytes.
 
 use super::HEADER;
 use super::desk::sit;
@@ -96,7 +96,8 @@ fn wrong(alloc: Global, command: &str) -> Result<String, Fail> {
     }
 }
 
-/// The exit status and what was written, where no more was asked for at once than a piece, and all was flushed once.
+/// The exit status and what was written, where no more was asked for at once than a piece, and all was
+/// flushed once.
 fn tell(alloc: Global, line: &Line, input: &[u8], most: usize) -> Result<String, Fail> {
     let task = Task::of_line(alloc, line, input);
     let (answer, reader, writer) = follow(&task, Mode::by(most), Mode::by(usize::MAX));

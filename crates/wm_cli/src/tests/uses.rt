@@ -1,4 +1,5 @@
-//! The samples of README.md and docs/LIBRARY.md, as callers write them. `.ci/readme.py` holds the pages against these files.
+//! The samples of README.md and docs/LIBRARY.md, as callers write them. `.ci/readme.py` holds the pages
+//! against these files.
 
 mod admit;
 mod assemble;

@@ -1,5 +1,7 @@
--- Indices of one byte each that follow one another, as the byte step reads them: the exact form, for the proofs above it.
-use Rattle.std.specs.Prelude.{◌≡◌, ◌≢◌, ℕ, ◌+◌, ◌-◌, ◌<◌, min, List, length, map, take, slice_index, Result, Ok, Err, Option, Some, None}
+-- Indices of one byte each that follow one another, as the byte step reads them: the exact form, for the
+-- proofs above it.
+use Rattle.std.specs.Prelude.{◌≡◌, ◌≢◌, ℕ, ◌+◌, ◌-◌, ◌<◌, min, List, length, map, take, slice_index, Result}
+use Rattle.std.specs.Prelude.{Ok, Err, Option, Some, None}
 use Rattle.wm_syntax.specs.declared.why.Why.{Why}
 use Rattle.wm_syntax.specs.declared.why.Why.TheVariants as why
 use Rattle.wm_syntax.specs.declared.instructions.Op.TheVariants as op
@@ -57,7 +59,11 @@ list_after (list.Functions rest) n = list.Functions (rest - n)
 list_after (list.Labels rest depth labels) n = list.Labels (rest - n) depth (labels - n)
 
 abbrev pub indices_after : InIndices → ℕ → InIndices
-indices_after i n = record i { more = i.more - n; left = members_after i.left i.list n; list = list_after i.list n }
+indices_after i n = record i {
+  more = i.more - n;
+  left = members_after i.left i.list n;
+  list = list_after i.list n;
+}
 
 abbrev pub index_part : IndexList → ℕ → Plain
 index_part list.Types x = plain.Function x
@@ -68,8 +74,10 @@ abbrev pub index_item_in : IndexList → ℕ → Item
 index_item_in l x = plain_item (index_part l x)
 
 -- a sink took an item for each of these bytes, or those before one that it refused
-abbrev pub GaveEach : {H : Type 0} → (H → Item → Result H Why) → (ℕ → Item) → List ℕ → H → ℕ → Option Why → H → Type 0
+abbrev pub GaveEach : {H : Type 0} → (H → Item → Result H Why) → (ℕ → Item) → List ℕ → H → ℕ → Option Why → H
+    → Type 0
 GaveEach after item bytes h used None g = (used ≡ length bytes) × (all_taken after h (map item bytes) ≡ Ok g)
 GaveEach {H} after item bytes h used (Some w) g =
-    (k : ℕ) × (f : H) × (used ≡ k + 1) × (k < length bytes) × (all_taken after h (map item (take k bytes)) ≡ Ok f)
+    (k : ℕ) × (f : H) × (used ≡ k + 1) × (k < length bytes)
+    × (all_taken after h (map item (take k bytes)) ≡ Ok f)
     × (w ≢ why.Memory → after f (item (slice_index bytes k)) ≡ Err w)

@@ -43,7 +43,8 @@ abbrev pub member_failed : Why → InMember × Event
 member_failed w = (at.Failed w, event.Nothing)
 
 -- what follows an answer of a number's reader
-abbrev pub on_number : {M : Type 0} → Step ℕ × Partial → (Partial → M) → (ℕ → M × Event) → (Why → M) → M × Event
+abbrev pub on_number : {M : Type 0} → Step ℕ × Partial → (Partial → M) → (ℕ → M × Event) → (Why → M) → M
+    × Event
 on_number (step.More, r) more done bad = (more r, event.Nothing)
 on_number (step.Done n, r) more done bad = done n
 on_number (step.Bad, r) more done bad = (bad why.BadNumber, event.Nothing)
@@ -65,17 +66,20 @@ with_item_given m part = (m, event.Complete part)
 
 -- function types
 abbrev pub type_form_step : ℕ → InMember × Event
-type_form_step c = if c == 0x60 then with_item_given (at.ParamCount fresh) plain.NewType else member_failed why.BadByte
+type_form_step c = if c == 0x60 then with_item_given (at.ParamCount fresh) plain.NewType
+    else member_failed why.BadByte
 
 abbrev pub after_param : ℕ → InMember
 after_param zero = at.ResultCount fresh
 after_param (suc n) = at.Param n
 
 abbrev pub param_count_step : Partial → ℕ → InMember × Event
-param_count_step r c = on_number (unsigned_push 32 r c) at.ParamCount (λ n. (after_param n, event.Nothing)) at.Failed
+param_count_step r c =
+    on_number (unsigned_push 32 r c) at.ParamCount (λ n. (after_param n, event.Nothing)) at.Failed
 
 abbrev pub param_step : ℕ → ℕ → InMember × Event
-param_step more c = on_type (value_type_of c) (λ t. with_item_given (after_param more) (plain.Param t)) at.Failed
+param_step more c =
+    on_type (value_type_of c) (λ t. with_item_given (after_param more) (plain.Param t)) at.Failed
 
 abbrev pub after_result : ℕ → InMember
 after_result zero = at.Over
@@ -83,10 +87,12 @@ after_result (suc n) = at.ResultType n
 
 abbrev pub result_count_step : Partial → ℕ → InMember × Event
 result_count_step r c =
-    on_number (unsigned_push 32 r c) at.ResultCount (λ n. with_item_given (after_result n) (plain.ResultCount n)) at.Failed
+    on_number (unsigned_push 32 r c) at.ResultCount
+    (λ n. with_item_given (after_result n) (plain.ResultCount n)) at.Failed
 
 abbrev pub result_step : ℕ → ℕ → InMember × Event
-result_step more c = on_type (value_type_of c) (λ t. with_item_given (after_result more) (plain.OneResult t)) at.Failed
+result_step more c =
+    on_type (value_type_of c) (λ t. with_item_given (after_result more) (plain.OneResult t)) at.Failed
 
 -- names
 abbrev pub after_name : NameKind → InMember
@@ -100,7 +106,8 @@ after_length of zero = (after_name of, event.EmptyName of)
 after_length of (suc n) = (at.Name of n, event.Nothing)
 
 abbrev pub name_length_step : NameKind → Partial → ℕ → InMember × Event
-name_length_step of r c = on_number (unsigned_push 32 r c) (λ s. at.NameLength of s) (after_length of) at.Failed
+name_length_step of r c =
+    on_number (unsigned_push 32 r c) (λ s. at.NameLength of s) (after_length of) at.Failed
 
 abbrev pub name_step : NameKind → ℕ → InMember × Event
 name_step of zero = (after_name of, event.EndsName of)
@@ -130,11 +137,13 @@ after_index index.Segment = at.Constant constant.Segment begin_expression
 
 abbrev pub index_step : IndexOf → Partial → ℕ → InMember × Event
 index_step of r c =
-    on_number (unsigned_push 32 r c) (λ s. at.Index of s) (λ n. with_item_given (after_index of) (index_item of n)) at.Failed
+    on_number (unsigned_push 32 r c) (λ s. at.Index of s)
+    (λ n. with_item_given (after_index of) (index_item of n)) at.Failed
 
 abbrev pub global_type_step : InGlobalType → ℕ → InMember × Event
 global_type_step g c =
-    on_value (global_type_push g c) at.GlobalType (λ t. with_item_given (at.Constant constant.Global begin_expression) (plain.Global t)) at.Failed
+    on_value (global_type_push g c) at.GlobalType
+    (λ t. with_item_given (at.Constant constant.Global begin_expression) (plain.Global t)) at.Failed
 
 -- constant expressions and what follows them
 abbrev pub constant_over : ConstantOf → InMember
@@ -153,7 +162,8 @@ op_event f (Some o) = event.Complete (f o)
 op_event f None = event.Nothing
 
 abbrev pub constant_step : Profile → ConstantOf → InExpression → ℕ → InMember × Event
-constant_step p of e c = (after_constant of (expression_step p e c).0, op_event plain.ConstOp (expression_step p e c).1)
+constant_step p of e c =
+    (after_constant of (expression_step p e c).0, op_event plain.ConstOp (expression_step p e c).1)
 
 abbrev pub data_or_over : ℕ → InMember
 data_or_over zero = at.Over
@@ -176,11 +186,13 @@ runs_or_body zero = entry.Body begin_expression
 runs_or_body (suc n) = entry.Run n (run.Count fresh)
 
 abbrev pub runs_count_step : Partial → ℕ → InEntry × Event
-runs_count_step r c = on_number (unsigned_push 32 r c) entry.RunCount (λ n. (runs_or_body n, event.Nothing)) entry.Failed
+runs_count_step r c =
+    on_number (unsigned_push 32 r c) entry.RunCount (λ n. (runs_or_body n, event.Nothing)) entry.Failed
 
 abbrev pub run_step : ℕ → InRun → ℕ → InEntry × Event
 run_step more r c =
-    on_value (run_push r c) (λ s. entry.Run more s) (λ x. with_item_given (runs_or_body more) (plain.Locals x.0 x.1)) entry.Failed
+    on_value (run_push r c) (λ s. entry.Run more s)
+    (λ x. with_item_given (runs_or_body more) (plain.Locals x.0 x.1)) entry.Failed
 
 abbrev pub entry_after_op : InExpression → InEntry
 entry_after_op expression.Over = entry.Over
@@ -210,7 +222,8 @@ member_of_entry p more q c = (member_in_entry more (entry_step p q c).0, (entry_
 
 abbrev pub entry_size_step : Partial → ℕ → InMember × Event
 entry_size_step r c =
-    on_number (unsigned_push 32 r c) at.EntrySize (λ n. with_item_given (member_in_entry n (entry.RunCount fresh)) plain.Body) at.Failed
+    on_number (unsigned_push 32 r c) at.EntrySize
+    (λ n. with_item_given (member_in_entry n (entry.RunCount fresh)) plain.Body) at.Failed
 
 abbrev pub member_step : Profile → InMember → ℕ → InMember × Event
 member_step p at.TypeForm c = type_form_step c

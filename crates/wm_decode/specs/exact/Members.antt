@@ -1,5 +1,5 @@
--- What a section holds, by its id (section 5.5.2), and where each member begins: the exact form, for the proofs
--- above it.
+-- What a section holds, by its id (section 5.5.2), and where each member begins: the exact form, for the
+-- proofs above it.
 use Rattle.std.specs.Prelude.{ℕ, zero, suc, Option, Some, None}
 use Rattle.wm_syntax.specs.exact.Reading.{fresh}
 use Rattle.wm_decode.specs.declared.machine.NameKind.TheVariants as name
@@ -37,7 +37,8 @@ section_kind_of (suc (suc (suc (suc (suc (suc (suc zero))))))) = Some section_ki
 section_kind_of (suc (suc (suc (suc (suc (suc (suc (suc zero)))))))) = Some section_kind.Start
 section_kind_of (suc (suc (suc (suc (suc (suc (suc (suc (suc zero))))))))) = Some section_kind.Element
 section_kind_of (suc (suc (suc (suc (suc (suc (suc (suc (suc (suc zero)))))))))) = Some section_kind.Code
-section_kind_of (suc (suc (suc (suc (suc (suc (suc (suc (suc (suc (suc zero))))))))))) = Some section_kind.Segment
+section_kind_of (suc (suc (suc (suc (suc (suc (suc (suc (suc (suc (suc zero))))))))))) =
+    Some section_kind.Segment
 section_kind_of _ = None
 
 abbrev pub member_at_start : SectionKind → InMember

@@ -119,7 +119,8 @@ op_index_step i r c =
 
 abbrev pub call_type_step : Partial → ℕ → Reading InOp Op
 call_type_step r c =
-    on_answer (unsigned_push 32 r c) (λ s. More (at.CallType s)) (λ n. More (at.CallTable n)) (Bad why.BadNumber)
+    on_answer (unsigned_push 32 r c) (λ s. More (at.CallType s)) (λ n. More (at.CallTable n))
+    (Bad why.BadNumber)
 
 -- the byte 00 that ends an op
 abbrev pub closing_step : Op → ℕ → Reading InOp Op
@@ -135,7 +136,8 @@ const_64_step r c =
 
 abbrev pub align_step : LoadOrStore → Partial → ℕ → Reading InOp Op
 align_step a r c =
-    on_answer (unsigned_push 32 r c) (λ s. More (at.Align a s)) (λ n. More (at.Offset a n fresh)) (Bad why.BadNumber)
+    on_answer (unsigned_push 32 r c) (λ s. More (at.Align a s)) (λ n. More (at.Offset a n fresh))
+    (Bad why.BadNumber)
 
 abbrev pub offset_step : LoadOrStore → ℕ → Partial → ℕ → Reading InOp Op
 offset_step a align r c =

@@ -1,5 +1,5 @@
--- The machine over a list of bytes: the exact form, for the proofs above it. Its state is the machine and the bytes so
--- far of a name that is being read.
+-- The machine over a list of bytes: the exact form, for the proofs above it. Its state is the machine and the
+-- bytes so far of a name that is being read.
 use Rattle.std.specs.Prelude.{ℕ, zero, suc, List, [], ◌∷◌, ◌++◌, Option, Some, None, if◌then◌else◌}
 use Rattle.std.specs.Str.{is_utf8}
 use Rattle.wm_syntax.specs.declared.why.Why.{Why}
@@ -15,7 +15,10 @@ use Rattle.wm_decode.specs.declared.machine.Event.TheVariants as event
 use Rattle.wm_syntax.specs.declared.profile.Profile.{Profile}
 use Rattle.wm_decode.specs.declared.member.InMember.{InMember}
 use Rattle.wm_decode.specs.declared.member.InMember.TheVariants as at
-use Rattle.wm_decode.specs.Items.{Item, new_type, param, result_count, one_result, import_module, import_name, import_desc, function, table, memory, global, const_op, export_name, export, start, element, element_function, body, locals, body_op, segment, data_byte, Zone, outside, name as in_name, entry, closing, Mark, Marks}
+use Rattle.wm_decode.specs.Items.{Item, new_type, param, result_count, one_result, import_module, import_name}
+use Rattle.wm_decode.specs.Items.{import_desc, function, table, memory, global, const_op, export_name, export}
+use Rattle.wm_decode.specs.Items.{start, element, element_function, body, locals, body_op, segment, data_byte}
+use Rattle.wm_decode.specs.Items.{Zone, outside, name as in_name, entry, closing, Mark, Marks}
 use Rattle.wm_decode.specs.MarkedForms.{outside_mark}
 use Rattle.wm_decode.specs.exact.Steps.{step_of}
 
@@ -53,17 +56,29 @@ pub record ByteRead (M : Type 0) : Type 0 where
   pub mark : Mark
 
 abbrev pub byte_read : {M : Type 0} → (Why → M) → Zone → List ℕ → ℕ → M × Event → ByteRead M
-byte_read refuse zone so_far c (m, event.Nothing) = record { at = m; name = []; mark = record { zone = zone; item = None } }
+byte_read refuse zone so_far c (m, event.Nothing) = record {
+  at = m;
+  name = [];
+  mark = record { zone = zone; item = None };
+}
 byte_read refuse zone so_far c (m, event.Complete p) =
     record { at = m; name = []; mark = record { zone = zone; item = Some (plain_item p) } }
-byte_read refuse zone so_far c (m, event.DataByte) = record { at = m; name = []; mark = outside_mark (Some (data_byte c)) }
+byte_read refuse zone so_far c (m, event.DataByte) = record {
+  at = m;
+  name = [];
+  mark = outside_mark (Some (data_byte c));
+}
 byte_read refuse zone so_far c (m, event.InName) =
     record { at = m; name = so_far ++ c ∷ []; mark = record { zone = in_name; item = None } }
 byte_read refuse zone so_far c (m, event.EndsName kind) =
     if is_utf8 (so_far ++ c ∷ [])
     then record { at = m; name = []; mark = outside_mark (name_item kind (so_far ++ c ∷ [])) }
     else record { at = refuse why.BadUtf8; name = []; mark = outside_mark None }
-byte_read refuse zone so_far c (m, event.EmptyName kind) = record { at = m; name = []; mark = outside_mark (name_item kind []) }
+byte_read refuse zone so_far c (m, event.EmptyName kind) = record {
+  at = m;
+  name = [];
+  mark = outside_mark (name_item kind []);
+}
 
 -- where the next byte lies
 abbrev pub zone_in : InMember → Zone

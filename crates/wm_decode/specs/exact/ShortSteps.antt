@@ -1,5 +1,5 @@
--- What the byte step makes of a byte of function indices and of code entries, where the section goes on: the exact form,
--- for the proofs above it.
+-- What the byte step makes of a byte of function indices and of code entries, where the section goes on: the
+-- exact form, for the proofs above it.
 use Rattle.std.specs.Prelude.{◌≡◌, ℕ, suc, Option, Some, None, Result, Ok}
 use Rattle.wm_syntax.specs.declared.why.Why.{Why}
 use Rattle.wm_syntax.specs.declared.profile.Profile.{Profile}
@@ -30,7 +30,8 @@ after_stepped of functions more s = machine.Section of functions more s.left s.a
 -- under each profile this is what the byte does, where bytes of the section come after it
 abbrev pub StepsTo : SectionKind → ℕ → InMember → ℕ → Stepped → Type 0
 StepsTo of left at c s = (p : Profile) (functions more : ℕ)
-    → step_of p (machine.Section of functions (suc more) left at) c ≡ (after_stepped of functions more s, part_event s.part)
+    → step_of p (machine.Section of functions (suc more) left at) c
+    ≡ (after_stepped of functions more s, part_event s.part)
 
 -- what a sink holds after what a byte completed, if it completed an item
 abbrev pub part_taken : {H : Type 0} → (H → Item → Result H Why) → Option Plain → H → Result H Why

@@ -1,6 +1,7 @@
--- What each byte does between sections and to the frame of one: the exact form of the byte step, for the proofs above
--- it.
-use Rattle.std.specs.Prelude.{ℕ, zero, suc, ◌+◌, ◌==◌, nat_lt, nat_le, if◌then◌else◌, slice_index, Option, Some, None}
+-- What each byte does between sections and to the frame of one: the exact form of the byte step, for the
+-- proofs above it.
+use Rattle.std.specs.Prelude.{ℕ, zero, suc, ◌+◌, ◌==◌, nat_lt, nat_le, if◌then◌else◌, slice_index, Option}
+use Rattle.std.specs.Prelude.{Some, None}
 use Rattle.wm_syntax.specs.declared.numbers.Step.{Step}
 use Rattle.wm_syntax.specs.declared.numbers.Step.TheVariants.{More, Done, Bad}
 use Rattle.wm_syntax.specs.inner.Numbers.{Partial}
@@ -51,7 +52,8 @@ machine_in_custom last functions zero custom.Skip = machine.Between last functio
 machine_in_custom last functions zero q = machine.Refused why.SectionEnd
 machine_in_custom last functions (suc n) q = machine.Custom last functions n q
 
--- the machine at a place in a member, with so many bytes of the section left and so many members after this one
+-- the machine at a place in a member, with so many bytes of the section left and so many
+-- members after this one
 abbrev pub machine_in_member : SectionKind → ℕ → ℕ → ℕ → InMember → Machine
 machine_in_member of functions bytes left (at.Failed w) = machine.Refused w
 machine_in_member of functions zero zero at.Over = machine.Between (id_of of) functions
@@ -71,7 +73,8 @@ machine_after_count of functions bytes (suc n) = machine_in_member of functions 
 
 -- the same, where functions member_at_start to await their code, or get it
 abbrev pub machine_after_paired_count : SectionKind → ℕ → ℕ → ℕ → Machine
-machine_after_paired_count section_kind.Function functions bytes n = machine_after_count section_kind.Function n bytes n
+machine_after_paired_count section_kind.Function functions bytes n =
+    machine_after_count section_kind.Function n bytes n
 machine_after_paired_count section_kind.Code functions bytes n =
     if n == functions then machine_after_count section_kind.Code 0 bytes n else machine.Refused why.CodeCount
 machine_after_paired_count of functions bytes n = machine_after_count of functions bytes n
@@ -95,7 +98,8 @@ begun_section of functions = (machine.Size of functions fresh, event.Nothing)
 
 abbrev pub machine_if_rising : ℕ → ℕ → ℕ → Option SectionKind → Machine × Event
 machine_if_rising last functions id None = machine_refused why.SectionId
-machine_if_rising last functions id (Some of) = if nat_le id last then machine_refused why.SectionOrder else begun_section of functions
+machine_if_rising last functions id (Some of) = if nat_le id last then machine_refused why.SectionOrder
+    else begun_section of functions
 
 abbrev pub section_start : ℕ → ℕ → ℕ → Machine × Event
 section_start last functions zero = (machine.CustomSize last functions fresh, event.Nothing)
@@ -103,7 +107,8 @@ section_start last functions (suc m) = machine_if_rising last functions (suc m) 
 
 -- the contents of a section of so many bytes
 abbrev pub machine_in_contents : SectionKind → ℕ → ℕ → Machine
-machine_in_contents section_kind.Start functions more = machine.Section section_kind.Start functions more 0 (member_at_start section_kind.Start)
+machine_in_contents section_kind.Start functions more =
+    machine.Section section_kind.Start functions more 0 (member_at_start section_kind.Start)
 machine_in_contents of functions more = machine.Count of functions more fresh
 
 abbrev pub after_size : SectionKind → ℕ → ℕ → Machine
@@ -127,7 +132,8 @@ abbrev pub header_step : ℕ → ℕ → Machine × Event
 header_step n c =
     if nat_lt n 8
     then (if c == slice_index header n
-    then (if nat_lt n 7 then (machine.Header (n + 1), event.Nothing) else (machine.Between 0 0, event.Nothing))
+    then (if nat_lt n 7 then (machine.Header (n + 1), event.Nothing)
+    else (machine.Between 0 0, event.Nothing))
     else (if nat_lt n 4 then machine_refused why.Magic else machine_refused why.Version))
     else machine_refused why.Version
 

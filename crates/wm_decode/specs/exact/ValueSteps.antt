@@ -1,5 +1,6 @@
 -- What each byte does to a reader of a value: the exact form, for the proofs above it.
-use Rattle.std.specs.Prelude.{ℕ, zero, suc, Bool, true, false, ◌==◌, if◌then◌else◌, Some, None, Result, Ok, Err}
+use Rattle.std.specs.Prelude.{ℕ, zero, suc, Bool, true, false, ◌==◌, if◌then◌else◌, Some, None, Result, Ok}
+use Rattle.std.specs.Prelude.{Err}
 use Rattle.wm_syntax.specs.declared.numbers.Step.{Step}
 use Rattle.wm_syntax.specs.declared.numbers.Step.TheVariants as step
 use Rattle.wm_syntax.specs.inner.Numbers.{Partial}
@@ -54,7 +55,11 @@ abbrev pub min_step : Bool → Partial → ℕ → Reading InLimits Limits
 min_step bounded r c = read_number (unsigned_push 32 r c) (λ s. limits.Min bounded s) (after_min bounded)
 
 abbrev pub max_step : ℕ → Partial → ℕ → Reading InLimits Limits
-max_step min r c = read_number (unsigned_push 32 r c) (λ s. limits.Max min s) (λ n. Done (record { min = min; max = Some n }))
+max_step min r c =
+    read_number (unsigned_push 32 r c) (λ s. limits.Max min s) (λ n. Done (record {
+      min = min;
+      max = Some n;
+    }))
 
 abbrev pub flag_step : ℕ → Reading InLimits Limits
 flag_step c =

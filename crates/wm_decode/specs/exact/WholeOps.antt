@@ -1,6 +1,7 @@
--- Numbers and ops that lie whole in a list of bytes, as the byte step reads them: the exact form, for the proofs above
--- it.
-use Rattle.std.specs.Prelude.{◌≡◌, ◌≢◌, ◌≤◌, ◌<◌, ℕ, ◌^◌, nat_lt, if◌then◌else◌, ℤ, pos, ◌-ℤ◌, List, [], ◌∷◌, length, slice_range, Result, Ok, Err, Option, Some, None as Nothing, slice_get}
+-- Numbers and ops that lie whole in a list of bytes, as the byte step reads them: the exact form, for the
+-- proofs above it.
+use Rattle.std.specs.Prelude.{◌≡◌, ◌≢◌, ◌≤◌, ◌<◌, ℕ, ◌^◌, nat_lt, if◌then◌else◌, ℤ, pos, ◌-ℤ◌, List, [], ◌∷◌}
+use Rattle.std.specs.Prelude.{length, slice_range, Result, Ok, Err, Option, Some, None as Nothing, slice_get}
 use Rattle.wm_syntax.specs.declared.why.Why.{Why}
 use Rattle.wm_syntax.specs.declared.why.Why.TheVariants as why
 use Rattle.wm_syntax.specs.declared.numbers.Step.{Step}
@@ -54,7 +55,8 @@ IsOp p q [] o = ⊥
 IsOp p q (c ∷ b) o = OpGoes (op_push p q c) (λ r. IsOp p r b o) b o
 
 -- a number that lies whole in a list, from a place on up to another
-pub record LiesAt {T : Type 0} (push : Partial → ℕ → Step T × Partial) (bytes : List ℕ) (start next : ℕ) (v : T) : Type 0 where
+pub record LiesAt {T : Type 0} (push : Partial → ℕ → Step T × Partial) (bytes : List ℕ) (start next : ℕ)
+    (v : T) : Type 0 where
   pub some : start < next
   pub within : next ≤ length bytes
   pub spelled : IsNumber push fresh (slice_range bytes start next) v
@@ -71,7 +73,8 @@ class_read Nothing = Bad why.BadOpcode
 abbrev pub first_read : ℕ → Reading InOp Op
 first_read c = class_read (slice_get classes c)
 
--- an op that lies whole in a list, from a place on up to another, and how many blocks are open before and after it
+-- an op that lies whole in a list, from a place on up to another, and how many blocks are
+-- open before and after it
 pub record WholeOp (bytes : List ℕ) (start next depth inside : ℕ) (o : Op) : Type 0 where
   pub some : start < next
   pub within : next ≤ length bytes
@@ -85,8 +88,10 @@ NoSign o = Unit {0}
 
 -- the sink was given what was read, if that lies in so many bytes
 abbrev pub GaveAs : {H : Type 0} → (H → Item → Result H Why) → H → ℕ → Option Read → Took → H → Type 0
-GaveAs after h room (Some r) (took.Next n d) g = (r.next ≡ n) × (r.depth ≡ d) × (n ≤ room) × (after h (body_op r.op) ≡ Ok g)
-GaveAs after h room (Some r) (took.Refused w n) g = (r.next ≡ n) × (n ≤ room) × (w ≢ why.Memory → after h (body_op r.op) ≡ Err w)
+GaveAs after h room (Some r) (took.Next n d) g = (r.next ≡ n) × (r.depth ≡ d) × (n ≤ room)
+    × (after h (body_op r.op) ≡ Ok g)
+GaveAs after h room (Some r) (took.Refused w n) g = (r.next ≡ n) × (n ≤ room)
+    × (w ≢ why.Memory → after h (body_op r.op) ≡ Err w)
 GaveAs after h room Nothing (took.Next n d) g = ⊥
 GaveAs after h room Nothing (took.Refused w n) g = ⊥
 GaveAs after h room x took.Left g = h ≡ g
@@ -97,20 +102,25 @@ TookAs after h bytes start depth room (took.Next n d) g =
     (o : Op) × WholeOp bytes start n depth d o × (n ≤ room) × (after h (body_op o) ≡ Ok g)
 TookAs after h bytes start depth room took.Left g = h ≡ g
 TookAs after h bytes start depth room (took.Refused w n) g =
-    (o : Op) × (d : ℕ) × WholeOp bytes start n depth d o × (n ≤ room) × (w ≢ why.Memory → after h (body_op o) ≡ Err w)
+    (o : Op) × (d : ℕ) × WholeOp bytes start n depth d o × (n ≤ room)
+    × (w ≢ why.Memory → after h (body_op o) ≡ Err w)
 
 -- from one place in a list to another lie whole ops, and the sink took them
-pub data OpsTaken {H : Type 0} (after : H → Item → Result H Why) (bytes : List ℕ) (room start depth : ℕ) (h : H) : ℕ → ℕ → H → Type 0 where
+pub data OpsTaken {H : Type 0} (after : H → Item → Result H Why) (bytes : List ℕ) (room start depth : ℕ)
+    (h : H) : ℕ → ℕ → H → Type 0 where
   no_ops : OpsTaken after bytes room start depth h start depth h
-  one_more : {n d : ℕ} {g : H} → OpsTaken after bytes room start depth h n d g → (o : Op) (m e : ℕ) (f : H) → WholeOp bytes n m d e o → m ≤ room
+  one_more : {n d : ℕ} {g : H} → OpsTaken after bytes room start depth h n d g → (o : Op) (m e : ℕ) (f : H)
+      → WholeOp bytes n m d e o → m ≤ room
       → after g (body_op o) ≡ Ok f → OpsTaken after bytes room start depth h m e f
 
--- what came of the ops from a place on: the sink took some, and where it refused another the bytes used are those up
--- to its end
-abbrev pub RanTo : {H : Type 0} → (H → Item → Result H Why) → H → List ℕ → ℕ → ℕ → ℕ → ℕ → Option Why → H → Type 0
+-- what came of the ops from a place on: the sink took some, and where it refused another the bytes used are
+-- those up to its end
+abbrev pub RanTo : {H : Type 0} → (H → Item → Result H Why) → H → List ℕ → ℕ → ℕ → ℕ → ℕ → Option Why → H
+    → Type 0
 RanTo after h bytes room start used depth Nothing g = OpsTaken after bytes room 0 start h used depth g
 RanTo {H} after h bytes room start used depth (Some w) g =
-    (n d e : ℕ) × (f : H) × (o : Op) × OpsTaken after bytes room 0 start h n d f × WholeOp bytes n used d e o × (used ≤ room)
+    (n d e : ℕ) × (f : H) × (o : Op) × OpsTaken after bytes room 0 start h n d f × WholeOp bytes n used d e o
+    × (used ≤ room)
     × (w ≢ why.Memory → after f (body_op o) ≡ Err w)
 
 -- the machine in an op of a code entry

@@ -19,12 +19,14 @@ pub record RanOut {A : Type 0} (now : Result A Refusal) (bytes : List ℕ) : Typ
   pub place : refusal.at ≤ length bytes
 
 -- the decoder, which was made so, has read just these bytes, or memory ran out
-pub record HasDecoded {S H : Type 0} (held : S → H) (after : H → Item → Result H Why) (d : Decoder S) (s : Setting H)
+pub record HasDecoded {S H : Type 0} (held : S → H) (after : H → Item → Result H Why) (d : Decoder S)
+    (s : Setting H)
     (bytes : List ℕ) : Type 0 where
   pub profile : d.profile ≡ s.profile
   pub limit : d.max_bytes ≡ s.limit
   pub are_bytes : AreBytes bytes
-  pub stands : (state_of held d ≡ decoder_after after s.profile s.limit (live_at_start s.first) bytes) ⊎ RanOut (state_of held d) bytes
+  pub stands : (state_of held d ≡ decoder_after after s.profile s.limit (live_at_start s.first) bytes)
+      ⊎ RanOut (state_of held d) bytes
 
 -- however the decoder was made and whatever it has read, by the record above
 abbrev pub Having : {S H : Type 0} → (S → H) → (H → Item → Result H Why) → Decoder S
@@ -33,7 +35,8 @@ Having {S} {H} held after d P = (s : Setting H) (bytes : List ℕ) → HasDecode
 
 -- what a decoder answers to a whole input, however it is cut, unless memory runs out
 abbrev pub answer_of : {H : Type 0} → (H → Item → Result H Why) → Setting H → List ℕ → Result H Refusal
-answer_of after s bytes = and_then (decoder_after after s.profile s.limit (live_at_start s.first) bytes) answer_at_end
+answer_of after s bytes =
+    and_then (decoder_after after s.profile s.limit (live_at_start s.first) bytes) answer_at_end
 
 -- the refusal that a decoder has answered
 abbrev pub refusal_of_decoder : {S H : Type 0} → (S → H) → Decoder S → Option Refusal

@@ -31,7 +31,8 @@ fn told(alloc: Global, bytes: &[u8]) -> Result<String, AllocError> {
     Ok(told)
 }
 
-// In turn: blocks in one another; a br_table's two labels and the default; two immediates; a constant of ten bytes.
+// In turn: blocks in one another; a br_table's two labels and the default; two immediates; a
+// constant of ten bytes.
 const WHOLE: &str =
     "02 40 03 7F 0C 01 0B 0B 0B = [Block(None), Loop(Some(I32)), Simple(Br(1)), End, End, End]
 0E 02 00 81 00 0B 0B = [BrTable(2), Label(0), Label(1), Label(11), End]

@@ -4,11 +4,13 @@ use Rattle.wm_syntax.specs.declared.types.GlobalType.{GlobalType}
 use Rattle.wm_syntax.specs.declared.types.Limits.{Limits}
 use Rattle.wm_syntax.specs.declared.types.ValType.{ValType}
 use Rattle.wm_read.specs.Tokens.{open_paren, atom}
-use Rattle.wm_read.specs.exact.Reading.{Reader, ◌>>=◌, made, atom_at, is_id, is_word, paren_at, then_at, type_of, unsigned_of, word_of}
+use Rattle.wm_read.specs.exact.Reading.{Reader, ◌>>=◌, made, atom_at, is_id, is_word, paren_at, then_at}
+use Rattle.wm_read.specs.exact.Reading.{type_of, unsigned_of, word_of}
 
 -- a number, or none
 abbrev pub max_at : Reader (Option ℕ)
-max_at (atom a ∷ k) = if is_word a || is_id a then Some (None, atom a ∷ k) else (unsigned_of a >>= λ n. Some (Some n, k))
+max_at (atom a ∷ k) = if is_word a || is_id a then Some (None, atom a ∷ k)
+    else (unsigned_of a >>= λ n. Some (Some n, k))
 max_at k = Some (None, k)
 
 abbrev pub limits_of : ℕ × Option ℕ → Limits

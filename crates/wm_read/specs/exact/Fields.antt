@@ -1,5 +1,6 @@
 -- How the fields of a module are read, given what its heads define: the exact answers of the code's readers.
-use Rattle.std.specs.Prelude.{ℕ, suc, ◌&&◌, List, [], ◌∷◌, ◌++◌, Bool, true, Option, Some, None, if◌then◌else◌, codes, flat_map, is_none, length, nat_lt}
+use Rattle.std.specs.Prelude.{ℕ, suc, ◌&&◌, List, [], ◌∷◌, ◌++◌, Bool, true, Option, Some, None}
+use Rattle.std.specs.Prelude.{if◌then◌else◌, codes, flat_map, is_none, length, nat_lt}
 use Rattle.std.specs.Str.{is_utf8}
 use Rattle.wm_syntax.specs.declared.types.Const.{Const}
 use Rattle.wm_syntax.specs.declared.types.Const.TheVariants as const
@@ -17,10 +18,12 @@ use Rattle.wm_syntax.specs.Modules.{Function}
 use Rattle.wm_read.specs.Tokens.{string, atom}
 use Rattle.wm_read.specs.Identifiers.{Id, Ids}
 use Rattle.wm_read.specs.Written.{Named, Names, types_of, ids_of}
-use Rattle.wm_read.specs.Fields.{Field, type_field, import_field, function_field, table_field, memory_field, global_field, export_field, start_field, element_field, segment_field}
+use Rattle.wm_read.specs.Fields.{Field, type_field, import_field, function_field, table_field, memory_field}
+use Rattle.wm_read.specs.Fields.{global_field, export_field, start_field, element_field, segment_field}
 use Rattle.wm_read.specs.declared.field_words.FieldKind.{FieldKind}
 use Rattle.wm_read.specs.declared.field_words.FieldKind.TheVariants as field
-use Rattle.wm_read.specs.exact.Reading.{Reader, ◌>>=◌, made, same_bytes, open_at, close_at, atom_at, then_at, paren_at, many_at, id_at, index_of, place_of, integer_of, labels_at}
+use Rattle.wm_read.specs.exact.Reading.{Reader, ◌>>=◌, made, same_bytes, open_at, close_at, atom_at, then_at}
+use Rattle.wm_read.specs.exact.Reading.{paren_at, many_at, id_at, index_of, place_of, integer_of, labels_at}
 use Rattle.wm_read.specs.exact.FieldTypes.{limits_at, table_type_at, global_type_at}
 use Rattle.wm_read.specs.exact.Signatures.{signature_at}
 use Rattle.wm_read.specs.exact.NamedUses.{named_use_at}
@@ -53,14 +56,16 @@ with_word word (x ∷ xs) a = if same_bytes a (word x) then Some x else with_wor
 
 abbrev pub field_named : List ℕ → Option FieldKind
 field_named a =
-    with_word field_word (field.Type ∷ field.Import ∷ field.Func ∷ field.Table ∷ field.Memory ∷ field.Global ∷ field.Export ∷ field.Start ∷ field.Elem ∷ field.Data ∷ []) a
+    with_word field_word (field.Type ∷ field.Import ∷ field.Func ∷ field.Table ∷ field.Memory ∷ field.Global
+    ∷ field.Export ∷ field.Start ∷ field.Elem ∷ field.Data ∷ []) a
 
 abbrev pub item_named : List ℕ → Option ExportKind
 item_named a = with_word item_word (kind.Func ∷ kind.Table ∷ kind.Memory ∷ kind.Global ∷ []) a
 
 -- ( word .. ), where the word says how the rest is read
 abbrev pub headed_at : {K X : Type 0} → (List ℕ → Option K) → (K → Reader X) → Reader X
-headed_at named r k = open_at k >>= λ o. atom_at named o.1 >>= λ w. r w.0 w.1 >>= λ x. close_at x.1 >>= λ c. Some (x.0, c.1)
+headed_at named r k =
+    open_at k >>= λ o. atom_at named o.1 >>= λ w. r w.0 w.1 >>= λ x. close_at x.1 >>= λ c. Some (x.0, c.1)
 
 -- ---- names and strings
 
@@ -113,7 +118,8 @@ space_of names kind.Memory = names.memories
 space_of names kind.Global = names.globals
 
 abbrev pub item_at : Names → Reader (ExportKind × ℕ)
-item_at names = headed_at item_named (λ kind t. made (λ x. (kind, x)) (atom_at (index_of (space_of names kind)) t))
+item_at names =
+    headed_at item_named (λ kind t. made (λ x. (kind, x)) (atom_at (index_of (space_of names kind)) t))
 
 -- ---- functions
 
@@ -134,26 +140,42 @@ function_of x params locals p names t =
 
 -- fewer than 2 ^ 32 locals, and identifiers that are distinct
 abbrev pub is_function : List Named → List Named → Bool
-is_function params locals = nat_lt (length (types_of locals)) 0x1_0000_0000 && all_new [] (ids_of (params ++ locals))
+is_function params locals =
+    nat_lt (length (types_of locals)) 0x1_0000_0000 && all_new [] (ids_of (params ++ locals))
 
 abbrev pub function_by : Profile → Names → ℕ → List Named → List Named → Reader Function
-function_by p names x params locals t = if is_function params locals then function_of x params locals p names t else None
+function_by p names x params locals t =
+    if is_function params locals then function_of x params locals p names t else None
 
 unfoldable pub function_at : Profile → Names → Reader Function
-function_at p names t = then_at (named_use_at names) (named_at (codes "local")) t >>= λ h. function_by p names h.0.0.0 h.0.0.1 h.0.1 h.1
+function_at p names t =
+    then_at (named_use_at names) (named_at (codes "local")) t
+    >>= λ h. function_by p names h.0.0.0 h.0.0.1 h.0.1 h.1
 
 -- ---- fields
 
 abbrev pub import_at : Names → Reader Field
 import_at names t =
-    made (λ x. import_field x.1.1.0 (record { module_name = x.0; item_name = x.1.0; desc = x.1.1.1 })) (then_at name_at (then_at name_at (desc_at names)) t)
+    made (λ x. import_field x.1.1.0 (record {
+      module_name = x.0;
+      item_name = x.1.0;
+      desc = x.1.1.1;
+    })) (then_at name_at (then_at name_at (desc_at names)) t)
 
 abbrev pub global_at : Profile → Names → Reader Field
 global_at p names t =
-    made (λ x. global_field x.0 (record { ty = x.1.0; init = x.1.1 })) (then_at id_at (then_at global_type_at (const_at p names)) t)
+    made (λ x. global_field x.0 (record {
+      ty = x.1.0;
+      init = x.1.1;
+    })) (then_at id_at (then_at global_type_at (const_at p names)) t)
 
 abbrev pub export_at : Names → Reader Field
-export_at names t = made (λ x. export_field (record { name = x.0; kind = x.1.0; index = x.1.1 })) (then_at name_at (item_at names) t)
+export_at names t =
+    made (λ x. export_field (record {
+      name = x.0;
+      kind = x.1.0;
+      index = x.1.1;
+    })) (then_at name_at (item_at names) t)
 
 abbrev pub element_at : Profile → Names → Reader Field
 element_at p names t =

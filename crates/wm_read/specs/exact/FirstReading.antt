@@ -1,6 +1,7 @@
--- What a first reading of a module finds: the types, and the identifiers of the index spaces. Of each field it reads the
--- head, and skips the rest. The exact answers of the code's readers.
-use Rattle.std.specs.Prelude.{ℕ, zero, suc, List, [], ◌∷◌, ◌++◌, Bool, true, false, Option, Some, None, if◌then◌else◌, length}
+-- What a first reading of a module finds: the types, and the identifiers of the index spaces. Of each field
+-- it reads the head, and skips the rest. The exact answers of the code's readers.
+use Rattle.std.specs.Prelude.{ℕ, zero, suc, List, [], ◌∷◌, ◌++◌, Bool, true, false, Option, Some, None}
+use Rattle.std.specs.Prelude.{if◌then◌else◌, length}
 use Rattle.wm_syntax.specs.declared.modules.ExportKind.{ExportKind}
 use Rattle.wm_syntax.specs.declared.modules.ExportKind.TheVariants as kind
 use Rattle.wm_syntax.specs.Types.{Signature}
@@ -36,7 +37,10 @@ with_item names kind.Memory id = record names { memories = names.memories ++ id 
 with_item names kind.Global id = record names { globals = names.globals ++ id ∷ [] }
 
 abbrev pub with_type : Names → Id → Signature → Names
-with_type names id f = record names { types = names.types ++ id ∷ []; signatures = names.signatures ++ f ∷ [] }
+with_type names id f = record names {
+  types = names.types ++ id ∷ [];
+  signatures = names.signatures ++ f ∷ [];
+}
 
 -- ---- parts of heads
 
@@ -57,7 +61,12 @@ skip (suc n) (string b ∷ k) = skip (suc n) k
 
 abbrev pub type_head_at : Noted → Reader Noted
 type_head_at s k =
-    free_id_at s.names.types k >>= λ i. signature_at i.1 >>= λ f. close_at f.1 >>= λ c. Some (record s { names = with_type s.names i.0 f.0 }, c.1)
+    free_id_at s.names.types k >>= λ i. signature_at i.1 >>= λ f. close_at f.1 >>= λ c. Some (
+      record s {
+        names = with_type s.names i.0 f.0;
+      },
+      c.1,
+    )
 
 -- the head of what an import brings in
 abbrev pub desc_head_at : Noted → Reader Noted
@@ -66,11 +75,18 @@ desc_head_at s k =
     >>= λ i. Some (record s { names = with_item s.names w.0 i.0 }, i.1)
 
 abbrev pub import_head_at : Noted → Reader Noted
-import_head_at s k = name_at k >>= λ m. name_at m.1 >>= λ n. desc_head_at s n.1 >>= λ d. skip 2 d.1 >>= λ r. Some (d.0, r)
+import_head_at s k =
+    name_at k >>= λ m. name_at m.1 >>= λ n. desc_head_at s n.1 >>= λ d. skip 2 d.1 >>= λ r. Some (d.0, r)
 
 abbrev pub item_head_at : ExportKind → Noted → Reader Noted
 item_head_at kind s k =
-    free_id_at (space_of s.names kind) k >>= λ i. skip 1 i.1 >>= λ r. Some (record s { names = with_item s.names kind i.0; defined = true }, r)
+    free_id_at (space_of s.names kind) k >>= λ i. skip 1 i.1 >>= λ r. Some (
+      record s {
+        names = with_item s.names kind i.0;
+        defined = true;
+      },
+      r,
+    )
 
 abbrev pub start_head_at : Noted → Reader Noted
 start_head_at s k = skip 1 k >>= λ r. Some (record s { started = true }, r)
@@ -98,7 +114,8 @@ head_at s k = open_at k >>= λ o. atom_at field_named o.1 >>= λ w. head_by w.0 
 -- as many as begin with a parenthesis
 abbrev pub heads_within : ℕ → Noted → Reader Noted
 heads_within zero s k = None
-heads_within (suc n) s k = if begins_open k then (head_at s k >>= λ x. heads_within n x.0 x.1) else Some (s, k)
+heads_within (suc n) s k = if begins_open k then (head_at s k >>= λ x. heads_within n x.0 x.1)
+    else Some (s, k)
 
 unfoldable pub heads_at : Noted → Reader Noted
 heads_at s k = heads_within (suc (length k)) s k

@@ -1,5 +1,5 @@
--- How the type uses of functions and imports are read, whose parameters may have identifiers: the exact answers of the
--- code's readers.
+-- How the type uses of functions and imports are read, whose parameters may have identifiers: the exact
+-- answers of the code's readers.
 use Rattle.std.specs.Prelude.{ℕ, ◌&&◌, List, Bool, Option, Some, None, if◌then◌else◌, codes, slice_get}
 use Rattle.wm_syntax.specs.declared.types.ValType.{ValType}
 use Rattle.wm_syntax.specs.Types.{Signature}
@@ -13,7 +13,8 @@ none_written ps rs = no_types (types_of ps) && no_types rs
 
 -- the parameters of a use, where those written are none or those of the type
 abbrev pub used_of : Signature → List Named → List ValType → Option (List Named)
-used_of f ps rs = if fits f (types_of ps) rs then Some (if none_written ps rs then unnamed f.params else ps) else None
+used_of f ps rs = if fits f (types_of ps) rs then Some (if none_written ps rs then unnamed f.params else ps)
+    else None
 
 abbrev pub used_at : Names → ℕ → List Named → List ValType → Option (ℕ × List Named)
 used_at names x ps rs = slice_get names.signatures x >>= λ f. used_of f ps rs >>= λ qs. Some (x, qs)
@@ -22,7 +23,9 @@ unfoldable pub results_at : Reader (List ValType)
 results_at k = made joined (groups_at (codes "result") k)
 
 abbrev pub use_parts : Names → Reader (ℕ × (List Named × List ValType))
-use_parts names = then_at (paren_at (codes "type") (atom_at (index_of names.types))) (then_at (named_at (codes "param")) results_at)
+use_parts names =
+    then_at (paren_at (codes "type") (atom_at (index_of names.types)))
+    (then_at (named_at (codes "param")) results_at)
 
 unfoldable pub named_use_at : Names → Reader (ℕ × List Named)
 named_use_at names k = use_parts names k >>= λ r. used_at names r.0.0 r.0.1.0 r.0.1.1 >>= λ y. Some (y, r.1)

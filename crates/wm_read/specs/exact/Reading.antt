@@ -1,5 +1,7 @@
 -- How tokens are read: a value and the tokens after it. The exact answers of the code's readers.
-use Rattle.std.specs.Prelude.{ℕ, zero, suc, ◌-◌, ◌^◌, ◌==◌, ◌&&◌, not, List, [], ◌∷◌, ◌++◌, Bool, true, false, Option, Some, None, if◌then◌else◌, length, codes, nat_lt, nat_le, ℤ, pos, neg_ℤ, ◌-ℤ◌}
+use Rattle.std.specs.Prelude.{ℕ, zero, suc, ◌-◌, ◌^◌, ◌==◌, ◌&&◌, not, List, [], ◌∷◌, ◌++◌, Bool, true, false}
+use Rattle.std.specs.Prelude.{Option, Some, None, if◌then◌else◌, length, codes, nat_lt, nat_le, ℤ, pos, neg_ℤ}
+use Rattle.std.specs.Prelude.{◌-ℤ◌}
 use Rattle.wm_syntax.specs.declared.types.ValType.{ValType}
 use Rattle.wm_syntax.specs.declared.types.ValType.TheVariants.{I32, I64}
 use Rattle.wm_syntax.specs.declared.instructions.MemArg.{MemArg}
@@ -20,7 +22,8 @@ use Rattle.wm_read.specs.declared.blocks.Opening.{Opening}
 use Rattle.wm_read.specs.declared.blocks.Opening.TheVariants.{Block, Loop, If}
 use Rattle.wm_read.specs.Identifiers.{Id, Ids}
 use Rattle.wm_read.specs.Written.{Scope, type_text}
-use Rattle.wm_read.specs.inner.Pieces.{Opened, labels, Piece, plain, jump, opens, middle, closes, after, piece_ops}
+use Rattle.wm_read.specs.inner.Pieces.{Opened, labels, Piece, plain, jump, opens, middle, closes, after}
+use Rattle.wm_read.specs.inner.Pieces.{piece_ops}
 
 abbrev pub Reader : Type 0 → Type 0
 Reader X = List Token → Option (X × List Token)
@@ -57,7 +60,8 @@ unsigned_of a = magnitude_of a >>= λ n. if nat_lt n 0x1_0000_0000 then Some n e
 
 -- A constant, where half of the numbers below whole stand for themselves: no sign, plus or minus.
 abbrev pub plain_of : ℕ → ℕ → List ℕ → Option ℤ
-plain_of half whole a = magnitude_of a >>= λ n. if nat_lt n half then Some (pos n) else if nat_lt n whole then Some (pos n -ℤ pos whole) else None
+plain_of half whole a = magnitude_of a >>= λ n. if nat_lt n half then Some (pos n)
+    else if nat_lt n whole then Some (pos n -ℤ pos whole) else None
 
 abbrev pub plus_of : ℕ → List ℕ → Option ℤ
 plus_of half a = magnitude_of a >>= λ n. if nat_lt n half then Some (pos n) else None
@@ -67,13 +71,15 @@ minus_of half a = magnitude_of a >>= λ n. if nat_le n half then Some (neg_ℤ (
 
 abbrev pub integer_by : ℕ → ℕ → List ℕ → Option ℤ
 integer_by half whole [] = None
-integer_by half whole (c ∷ a) = if c == 43 then plus_of half a else if c == 45 then minus_of half a else plain_of half whole (c ∷ a)
+integer_by half whole (c ∷ a) = if c == 43 then plus_of half a else if c == 45 then minus_of half a
+    else plain_of half whole (c ∷ a)
 
 unfoldable pub integer_of : ℕ → List ℕ → Option ℤ
 integer_of bits a = integer_by (2 ^ (bits - 1)) (2 ^ bits) a
 
 abbrev pub type_of : List ℕ → Option ValType
-type_of a = if same_bytes a (type_text I32) then Some I32 else if same_bytes a (type_text I64) then Some I64 else None
+type_of a = if same_bytes a (type_text I32) then Some I32 else if same_bytes a (type_text I64) then Some I64
+    else None
 
 abbrev pub is_id : List ℕ → Bool
 is_id [] = false
@@ -88,12 +94,15 @@ abbrev pub then_at : {X Y : Type 0} → Reader X → Reader Y → Reader (X × Y
 then_at r s k = r k >>= λ x. s x.1 >>= λ y. Some ((x.0, y.0), y.1)
 
 abbrev pub paren_at : {X : Type 0} → List ℕ → Reader X → Reader X
-paren_at word r k = open_at k >>= λ o. atom_at (word_of word) o.1 >>= λ w. r w.1 >>= λ x. close_at x.1 >>= λ c. Some (x.0, c.1)
+paren_at word r k =
+    open_at k >>= λ o. atom_at (word_of word) o.1 >>= λ w. r w.1 >>= λ x. close_at x.1
+    >>= λ c. Some (x.0, c.1)
 
 -- as many as begin as they must
 abbrev pub many_at : {X : Type 0} → ℕ → (List Token → Bool) → Reader X → Reader (List X)
 many_at zero goes r k = None
-many_at (suc n) goes r k = if goes k then (r k >>= λ x. many_at n goes r x.1 >>= λ xs. Some (x.0 ∷ xs.0, xs.1)) else Some ([], k)
+many_at (suc n) goes r k =
+    if goes k then (r k >>= λ x. many_at n goes r x.1 >>= λ xs. Some (x.0 ∷ xs.0, xs.1)) else Some ([], k)
 
 abbrev pub made : {X Y : Type 0} → (X → Y) → Option (X × List Token) → Option (Y × List Token)
 made f o = o >>= λ x. Some (f x.0, x.1)
@@ -158,7 +167,8 @@ is_same_id None a = false
 is_same_id (Some name) a = same_bytes a name
 
 abbrev pub again_at : Id → Reader (Unit {0})
-again_at id (atom a ∷ k) = if is_id a then (if is_same_id id a then Some (tt, k) else None) else Some (tt, atom a ∷ k)
+again_at id (atom a ∷ k) = if is_id a then (if is_same_id id a then Some (tt, k) else None)
+    else Some (tt, atom a ∷ k)
 again_at id k = Some (tt, k)
 
 -- labels, of which the last is the default
@@ -172,7 +182,8 @@ split_last (x ∷ []) = Some ([], x)
 split_last (x ∷ y ∷ ys) = split_last (y ∷ ys) >>= λ r. Some (x ∷ r.0, r.1)
 
 abbrev pub labels_at : Ids → Reader (List ℕ)
-labels_at ids (atom a ∷ k) = if is_word a then Some ([], atom a ∷ k) else (index_of ids a >>= λ x. labels_at ids k >>= λ xs. Some (x ∷ xs.0, xs.1))
+labels_at ids (atom a ∷ k) = if is_word a then Some ([], atom a ∷ k)
+    else (index_of ids a >>= λ x. labels_at ids k >>= λ xs. Some (x ∷ xs.0, xs.1))
 labels_at ids k = Some ([], k)
 
 -- no more labels than so many
@@ -240,7 +251,8 @@ module _ (use_at : Reader ℕ) where
   abbrev pub ops_within : Profile → Scope → ℕ → Opened → Reader (List Op)
   ops_within p sc zero bs k = None
   ops_within p sc (suc n) bs (atom w ∷ k) =
-      piece_at p sc bs w k >>= λ x. ops_within p sc n (after bs x.0) x.1 >>= λ y. Some (piece_ops x.0 ++ y.0, y.1)
+      piece_at p sc bs w k >>= λ x. ops_within p sc n (after bs x.0) x.1
+      >>= λ y. Some (piece_ops x.0 ++ y.0, y.1)
   ops_within p sc (suc n) [] (close_paren ∷ k) = Some ([], close_paren ∷ k)
   ops_within p sc (suc n) _ _ = None
 

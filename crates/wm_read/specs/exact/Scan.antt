@@ -1,9 +1,12 @@
 -- The tokens of a text, read from its first byte to its last.
-use Rattle.std.specs.Prelude.{ℕ, suc, zero, ◌+◌, ◌*◌, ◌==◌, ◌&&◌, not, List, [], ◌∷◌, ◌++◌, Bool, true, false, Option, Some, None, if◌then◌else◌, length, nat_lt, encode_utf8, ◌≡◌, min}
+use Rattle.std.specs.Prelude.{ℕ, suc, zero, ◌+◌, ◌*◌, ◌==◌, ◌&&◌, not, List, [], ◌∷◌, ◌++◌, Bool, true, false}
+use Rattle.std.specs.Prelude.{Option, Some, None, if◌then◌else◌, length, nat_lt, encode_utf8, ◌≡◌, min}
 use Rattle.std.specs.Option.{option_map}
-use Rattle.wm_read.specs.Tokens.{Token, open_paren, close_paren, string, atom, is_space, is_id_char, is_lower, is_plain, is_scalar, digit_value}
+use Rattle.wm_read.specs.Tokens.{Token, open_paren, close_paren, string, atom, is_space, is_id_char, is_lower}
+use Rattle.wm_read.specs.Tokens.{is_plain, is_scalar, digit_value}
 use Rattle.wm_read.specs.declared.scan.Class.{Class}
-use Rattle.wm_read.specs.declared.scan.Class.TheVariants.{Space, Semicolon, Opening, Closing, Quote, Atom, Other}
+use Rattle.wm_read.specs.declared.scan.Class.TheVariants.{Space, Semicolon, Opening, Closing, Quote, Atom}
+use Rattle.wm_read.specs.declared.scan.Class.TheVariants.{Other}
 use Rattle.wm_read.specs.declared.scan.Mode.{Mode}
 use Rattle.wm_read.specs.declared.scan.Mode.TheVariants.{Plain, Escape, Low, Brace, Digits}
 use Rattle.wm_read.specs.declared.scan.Step.{Step}
@@ -11,7 +14,8 @@ use Rattle.wm_read.specs.declared.scan.Step.TheVariants.{On, Byte, Scalar, End, 
 
 unfoldable pub class_of : ℕ → Class
 class_of c =
-    if is_space c then Space else if c == 59 then Semicolon else if c == 40 then Opening else if c == 41 then Closing
+    if is_space c then Space else if c == 59 then Semicolon else if c == 40 then Opening
+    else if c == 41 then Closing
     else if c == 34 then Quote else if is_id_char c then Atom else Other
 
 -- behind the white space that stands first, but for comments
@@ -28,8 +32,10 @@ after_line (c ∷ b) = if c == 10 then b else after_line b
 abbrev pub after_comment : ℕ → List ℕ → Option (List ℕ)
 after_comment n [] = None
 after_comment n (c ∷ []) = None
-after_comment zero (c ∷ d ∷ b) = if (c == 59) && (d == 41) then Some b else if (c == 40) && (d == 59) then after_comment 1 b else after_comment zero (d ∷ b)
-after_comment (suc n) (c ∷ d ∷ b) = if (c == 59) && (d == 41) then after_comment n b else if (c == 40) && (d == 59) then after_comment (suc (suc n)) b else after_comment (suc n) (d ∷ b)
+after_comment zero (c ∷ d ∷ b) = if (c == 59) && (d == 41) then Some b
+    else if (c == 40) && (d == 59) then after_comment 1 b else after_comment zero (d ∷ b)
+after_comment (suc n) (c ∷ d ∷ b) = if (c == 59) && (d == 41) then after_comment n b
+    else if (c == 40) && (d == 59) then after_comment (suc (suc n)) b else after_comment (suc n) (d ∷ b)
 
 -- what stands first in a comment
 pub data CommentPart : Type 0 where
@@ -41,12 +47,14 @@ pub data CommentPart : Type 0 where
 unfoldable pub comment_part : List ℕ → CommentPart
 comment_part [] = over
 comment_part (c ∷ []) = on []
-comment_part (c ∷ d ∷ b) = if (c == 59) && (d == 41) then close b else if (c == 40) && (d == 59) then opening b else on (d ∷ b)
+comment_part (c ∷ d ∷ b) = if (c == 59) && (d == 41) then close b
+    else if (c == 40) && (d == 59) then opening b else on (d ∷ b)
 
 -- strings
 abbrev pub short_escape : ℕ → Option ℕ
 short_escape c =
-    if c == 116 then Some 0x09 else if c == 110 then Some 0x0A else if c == 114 then Some 0x0D else if c == 34 then Some 0x22
+    if c == 116 then Some 0x09 else if c == 110 then Some 0x0A else if c == 114 then Some 0x0D
+    else if c == 34 then Some 0x22
     else if c == 39 then Some 0x27 else if c == 92 then Some 0x5C else None
 
 -- numbers past the last scalar value are alike
@@ -54,14 +62,16 @@ abbrev pub capped : ℕ → ℕ
 capped n = if nat_lt n 0x11_0000 then n else 0x11_0000
 
 abbrev pub with_digit : {X : Type 0} → ℕ → ℕ → X → (ℕ → X) → X
-with_digit base c none some = elim (digit_value c) [ None ↦ none | Some d ↦ if nat_lt d base then some d else none ]
+with_digit base c none some =
+    elim (digit_value c) [ None ↦ none | Some d ↦ if nat_lt d base then some d else none ]
 
 abbrev pub first_escape : Option ℕ → ℕ → Step
 first_escape (Some byte) c = Byte byte
 first_escape None c = if c == 117 then On Brace else with_digit 16 c Bad (λ d. On (Low d))
 
 unfoldable pub string_step : Mode → ℕ → Step
-string_step Plain c = if c == 34 then End else if c == 92 then On Escape else if is_plain c then Byte c else Bad
+string_step Plain c = if c == 34 then End else if c == 92 then On Escape else if is_plain c then Byte c
+    else Bad
 string_step Escape c = first_escape (short_escape c) c
 string_step (Low h) c = with_digit 16 c Bad (λ d. Byte (h * 16 + d))
 string_step Brace c = if c == 123 then On (Digits 0 false) else Bad
@@ -93,7 +103,8 @@ atom_in (c ∷ b) = if is_id_char c then (c ∷ (atom_in b).0, (atom_in b).1) el
 abbrev pub digits_in : ℕ → ℕ → Bool → List ℕ → Option ℕ
 digits_in base n true [] = Some n
 digits_in base n false [] = None
-digits_in base n after (c ∷ b) = if (c == 95) && after then digits_in base n false b else with_digit base c None (λ d. digits_in base (n * base + d) true b)
+digits_in base n after (c ∷ b) = if (c == 95) && after then digits_in base n false b
+    else with_digit base c None (λ d. digits_in base (n * base + d) true b)
 
 -- the same, no further than 2 ^ 64
 abbrev pub number_in : ℕ → ℕ → Bool → List ℕ → Option ℕ
@@ -101,13 +112,15 @@ number_in base n after b = option_map (λ k. min k 0x1_0000_0000_0000_0000) (dig
 
 -- the number and whether a digit stands last, after one more character
 unfoldable pub number_next : ℕ → ℕ → Bool → ℕ → Option (ℕ × Bool)
-number_next base n after c = if (c == 95) && after then Some (n, false) else with_digit base c None (λ d. Some (min (n * base + d) 0x1_0000_0000_0000_0000, true))
+number_next base n after c = if (c == 95) && after then Some (n, false)
+    else with_digit base c None (λ d. Some (min (n * base + d) 0x1_0000_0000_0000_0000, true))
 
 -- behind a leading 0x hexadecimal
 abbrev pub magnitude_of : List ℕ → Option ℕ
 magnitude_of [] = None
 magnitude_of (c ∷ []) = digits_in 10 0 false (c ∷ [])
-magnitude_of (c ∷ d ∷ b) = if (c == 48) && (d == 120) then digits_in 16 0 false b else digits_in 10 0 false (c ∷ d ∷ b)
+magnitude_of (c ∷ d ∷ b) = if (c == 48) && (d == 120) then digits_in 16 0 false b
+    else digits_in 10 0 false (c ∷ d ∷ b)
 
 abbrev pub is_some : {A : Type 0} → Option A → Bool
 is_some None = false
@@ -115,7 +128,8 @@ is_some (Some x) = true
 
 abbrev pub is_number : List ℕ → Bool
 is_number [] = false
-is_number (c ∷ b) = if (c == 43) then is_some (magnitude_of b) else if c == 45 then is_some (magnitude_of b) else is_some (magnitude_of (c ∷ b))
+is_number (c ∷ b) = if (c == 43) then is_some (magnitude_of b) else if c == 45 then is_some (magnitude_of b)
+    else is_some (magnitude_of (c ∷ b))
 
 abbrev pub is_nil : List ℕ → Bool
 is_nil [] = true
@@ -154,7 +168,8 @@ ahead_by Semicolon c b = ahead_semicolon b
 ahead_by Opening c b = ahead_opening b
 ahead_by Closing c b = first close_paren b
 ahead_by Quote c b = string_or_fault (string_in Plain b)
-ahead_by Atom c b = if is_atom (c ∷ (atom_in b).0) then first (atom (c ∷ (atom_in b).0)) (atom_in b).1 else fault
+ahead_by Atom c b = if is_atom (c ∷ (atom_in b).0) then first (atom (c ∷ (atom_in b).0)) (atom_in b).1
+    else fault
 ahead_by Other c b = fault
 
 unfoldable pub ahead : List ℕ → Ahead

@@ -1,5 +1,5 @@
--- How the text of a module is read: what its fields define, to the end of the text, and then its fields with these names.
--- The exact answer of the code.
+-- How the text of a module is read: what its fields define, to the end of the text, and then its fields with
+-- these names. The exact answer of the code.
 use Rattle.std.specs.Prelude.{List, [], Option, Some, None, codes}
 use Rattle.wm_syntax.specs.declared.profile.Profile.{Profile}
 use Rattle.wm_syntax.specs.Modules.{Module}

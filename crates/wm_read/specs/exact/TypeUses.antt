@@ -1,5 +1,6 @@
 -- How type uses and bodies are read: the exact answers of the code's readers.
-use Rattle.std.specs.Prelude.{ℕ, suc, ◌&&◌, ◌||◌, List, [], ◌∷◌, ◌++◌, Bool, true, false, Option, Some, None, if◌then◌else◌, length, codes, flat_map, map, slice_get}
+use Rattle.std.specs.Prelude.{ℕ, suc, ◌&&◌, ◌||◌, List, [], ◌∷◌, ◌++◌, Bool, true, false, Option, Some, None}
+use Rattle.std.specs.Prelude.{if◌then◌else◌, length, codes, flat_map, map, slice_get}
 use Rattle.wm_syntax.specs.declared.types.ValType.{ValType}
 use Rattle.wm_syntax.specs.declared.types.ValType.TheVariants.{I32, I64}
 use Rattle.wm_syntax.specs.Types.{Signature}
@@ -8,7 +9,8 @@ use Rattle.wm_syntax.specs.inner.Building.{tree_of}
 use Rattle.wm_syntax.specs.Instructions.{Instructions}
 use Rattle.wm_syntax.specs.declared.profile.Profile.{Profile}
 use Rattle.wm_read.specs.Written.{Named, Names, Scope}
-use Rattle.wm_read.specs.exact.Reading.{Reader, ◌>>=◌, made, same_bytes, is_id, atom_at, type_of, index_of, then_at, paren_at, many_at, ops_at}
+use Rattle.wm_read.specs.exact.Reading.{Reader, ◌>>=◌, made, same_bytes, is_id, atom_at, type_of, index_of}
+use Rattle.wm_read.specs.exact.Reading.{then_at, paren_at, many_at, ops_at}
 
 -- value types up to what is no atom
 abbrev pub types_at : Reader (List ValType)
@@ -51,11 +53,13 @@ unfoldable pub fits : Signature → List ValType → List ValType → Bool
 fits f ps rs = (no_types ps && no_types rs) || (same_types ps f.params && same_types rs f.results)
 
 abbrev pub checked : Names → ℕ → List (List ValType) → List (List ValType) → Option ℕ
-checked names x ps rs = slice_get names.signatures x >>= λ f. if fits f (joined ps) (joined rs) then Some x else None
+checked names x ps rs = slice_get names.signatures x >>= λ f. if fits f (joined ps) (joined rs) then Some x
+    else None
 
 unfoldable pub use_at : Names → Reader ℕ
 use_at names k =
-    then_at (paren_at (codes "type") (atom_at (index_of names.types))) (then_at (groups_at (codes "param")) (groups_at (codes "result"))) k
+    then_at (paren_at (codes "type") (atom_at (index_of names.types)))
+    (then_at (groups_at (codes "param")) (groups_at (codes "result"))) k
     >>= λ r. checked names r.0.0 r.0.1.0 r.0.1.1 >>= λ x. Some (x, r.1)
 
 abbrev pub begins_open : List Token → Bool
@@ -76,7 +80,8 @@ unnamed ts = map (λ t. (None, t)) ts
 
 -- what a group holds: an identifier and its type, or types
 unfoldable pub inside_at : Reader (List Named)
-inside_at (atom a ∷ k) = if is_id a then (atom_at type_of k >>= λ t. Some ((Some a, t.0) ∷ [], t.1)) else made unnamed (types_at (atom a ∷ k))
+inside_at (atom a ∷ k) = if is_id a then (atom_at type_of k >>= λ t. Some ((Some a, t.0) ∷ [], t.1))
+    else made unnamed (types_at (atom a ∷ k))
 inside_at k = made unnamed (types_at k)
 
 unfoldable pub named_groups_at : List ℕ → Reader (List (List Named))

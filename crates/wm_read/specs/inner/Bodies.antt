@@ -1,7 +1,8 @@
 -- A body that is being read: what its builder may take, and which blocks are open in it.
 use Rattle.std.specs.Prelude.{◌≡◌, List, Bool, true, false, Some, map}
 use Rattle.wm_syntax.specs.declared.instructions.Op.{Op}
-use Rattle.wm_syntax.specs.inner.Building.{Open, in_block, in_loop, in_first, in_second, Place, at, labels, place_after}
+use Rattle.wm_syntax.specs.inner.Building.{Open, in_block, in_loop, in_first, in_second, Place, at, labels}
+use Rattle.wm_syntax.specs.inner.Building.{place_after}
 use Rattle.wm_read.specs.inner.Pieces.{Opened}
 
 -- these ops may stand next

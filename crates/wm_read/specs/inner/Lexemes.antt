@@ -2,7 +2,8 @@
 use Rattle.std.specs.Prelude.{◌<◌, ◌≤◌, ℕ, List, IsTrue}
 use Rattle.wm_read.specs.Faults.{IsOfTokens}
 use Rattle.wm_read.specs.Tokens.{Token, open_paren, close_paren, string, atom, is_scalar}
-use Rattle.wm_read.specs.exact.Scan.{CommentPart, close, opening, on, over, Ahead, no_more, blank, first, fault, given_in}
+use Rattle.wm_read.specs.exact.Scan.{CommentPart, close, opening, on, over, Ahead, no_more, blank, first}
+use Rattle.wm_read.specs.exact.Scan.{fault, given_in}
 use Rattle.wm_read.specs.declared.scan.Part.{Part}
 use Rattle.wm_read.specs.declared.scan.Part.TheVariants as p
 use Rattle.wm_read.specs.declared.scan.Mode.{Mode}

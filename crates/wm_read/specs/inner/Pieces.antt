@@ -1,4 +1,5 @@
--- The flat text of a body, for the proofs: its pieces in the order of the tokens, with the blocks that are open.
+-- The flat text of a body, for the proofs: its pieces in the order of the tokens, with
+-- the blocks that are open.
 use Rattle.std.specs.Prelude.{◌≡◌, ℕ, List, [], ◌∷◌, ◌++◌, Bool, true, false, Option, codes, length, map}
 use Rattle.wm_syntax.specs.Spelling.{Form, ◌▸◌}
 use Rattle.wm_syntax.specs.declared.types.ValType.{ValType}

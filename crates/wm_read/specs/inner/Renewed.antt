@@ -20,8 +20,8 @@ abbrev pub part_for : Token → List ℕ → List ℕ
 part_for (atom a) part = unwrap_or (lookup (bytes_eq a) filled_words) part
 part_for _ part = part
 
--- It is as long as the text, and has its tokens, each older word replaced. A token that may stand before the text may
--- stand before it.
+-- It is as long as the text, and has its tokens, each older word replaced. A token that may stand before the
+-- text may stand before it.
 pub record Renewed (text out : List ℕ) : Type 0 where
   pub tokens : lexed out ≡ map (replaced Older) (lexed text)
   pub size : length out ≡ length text

@@ -36,7 +36,8 @@ function (type 1) block) => Expected, 1 left
 function (type 1) => Expected, 0 left
 "#;
 
-/// Faults before so many bytes are left. Two locals may stand here, and so a third one is a fault at its type.
+/// Faults before so many bytes are left. Two locals may stand here, and so a third one
+/// is a fault at its type.
 pub(crate) const LOCALS: &str = r#"given )
 earlier 5 (param i32 i32 i32) (local i32) (local $a i64)) nop => None
 earlier 0 (local i32 i32) (local $a i64) (local) => TooManyLocals, 12 left

@@ -14,7 +14,8 @@ behind ?$a => None
 behind _ $a ?$a => Some(3)
 "#;
 
-/// The place of an identifier behind a `?`, after what stands before it is added to a space: identifiers, and `_` for none.
+/// The place of an identifier behind a `?`, after what stands before it is added to a space: identifiers, and
+/// `_` for none.
 pub(crate) fn of_place<'a>(
     alloc: Global,
     mut space: Space<'a>,

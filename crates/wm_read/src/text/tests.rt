@@ -10,8 +10,8 @@ text ␊;; names are used before they are defined␊ (module $m␊ (type $t (fun
 text (module) => 0061736d01000000|
 "#;
 
-/// Texts of more than a million bytes, which are checked too, and how many bytes their canonical binaries have.
-/// `3*a|b` stands for `aaab`.
+/// Texts of more than a million bytes, which are checked too, and how many bytes their canonical binaries
+/// have. `3*a|b` stands for `aaab`.
 pub(crate) const LARGE: &str = r#"given )
 large (module (type (func (param |100000*i32(;12345;)|)))) => 100018 bytes
 large (module (type $of_functions_that_take_nothing_and_give_nothing_back_as_many_of_them_as_there_are_in_this_text (func)) |10000*(func (type $of_functions_that_take_nothing_and_give_nothing_back_as_many_of_them_as_there_are_in_this_text) nop)|) => 50025 bytes

@@ -1,6 +1,7 @@
--- What a builder holds, and what each item makes of it, refusals included: an exact mirror of the code. What it comes to is
--- said by the law that the items of a module build that module.
-use Rattle.std.specs.Prelude.{ℕ, List, [], ◌∷◌, ◌++◌, Option, Some, None, Result, Ok, Err, length, slice_get, unwrap_or, if◌then◌else◌}
+-- What a builder holds, and what each item makes of it, refusals included: an exact mirror of the code. What
+-- it comes to is said by the law that the items of a module build that module.
+use Rattle.std.specs.Prelude.{ℕ, List, [], ◌∷◌, ◌++◌, Option, Some, None, Result, Ok, Err, length, slice_get}
+use Rattle.std.specs.Prelude.{unwrap_or, if◌then◌else◌}
 use Rattle.std.specs.Str.{is_utf8}
 use Rattle.wm_syntax.specs.declared.types.ValType.{ValType}
 use Rattle.wm_syntax.specs.declared.types.Const.{Const}
@@ -22,11 +23,13 @@ use Rattle.wm_rules.specs.declared.builder.Purpose.TheVariants as purpose
 use Rattle.wm_rules.specs.declared.builder.Pending.{Pending}
 use Rattle.wm_rules.specs.declared.builder.Code.{Code}
 use Rattle.wm_syntax.specs.exact.Runs.{add_run}
-use Rattle.wm_decode.specs.Items.{Item, new_type, param, result_count, one_result, import_module, import_name, import_desc, function, table, memory, global, const_op, export_name, export, start, element, element_function, body, locals, body_op, segment, data_byte}
+use Rattle.wm_decode.specs.Items.{Item, new_type, param, result_count, one_result, import_module, import_name}
+use Rattle.wm_decode.specs.Items.{import_desc, function, table, memory, global, const_op, export_name, export}
+use Rattle.wm_decode.specs.Items.{start, element, element_function, body, locals, body_op, segment, data_byte}
 use Rattle.wm_decode.specs.Sinks.{and_then}
 
--- the module so far; the types' indices of all its functions; and what is at hand: the names of an import or an export, a
--- constant expression, a code entry
+-- the module so far; the types' indices of all its functions; and what is at hand: the names of an import or
+-- an export, a constant expression, a code entry
 pub record Built : Type 0 where
   pub value : Module
   pub indices : List ℕ
@@ -38,7 +41,15 @@ pub record Built : Type 0 where
 
 -- nothing is at hand
 abbrev pub holding : Module → List ℕ → Built
-holding m xs = record { value = m; indices = xs; module_name = []; item_name = []; exported = []; constant = None; code = None }
+holding m xs = record {
+  value = m;
+  indices = xs;
+  module_name = [];
+  item_name = [];
+  exported = [];
+  constant = None;
+  code = None;
+}
 
 abbrev pub nothing : Built
 nothing = holding modules.empty_module []
@@ -64,13 +75,24 @@ name_from text = if is_utf8 text then Ok text else Err why.BadUtf8
 
 abbrev pub imported : Built → ImportDesc → Built
 imported h d = record h {
-  value = record h.value { imports = h.value.imports ++ record { module_name = h.module_name; item_name = h.item_name; desc = d } ∷ [] };
+  value = record h.value {
+    imports = h.value.imports ++ record {
+      module_name = h.module_name;
+      item_name = h.item_name;
+      desc = d;
+    } ∷ [];
+  };
   module_name = [];
   item_name = [];
 }
 
 abbrev pub exports_one : Built → ExportKind → ℕ → Built
-exports_one h k x = record h { value = record h.value { exports = h.value.exports ++ record { name = h.exported; kind = k; index = x } ∷ [] }; exported = [] }
+exports_one h k x = record h {
+  value = record h.value {
+    exports = h.value.exports ++ record { name = h.exported; kind = k; index = x } ∷ [];
+  };
+  exported = [];
+}
 
 -- constant expressions
 abbrev pub expecting : Purpose → Built → Built
@@ -82,8 +104,12 @@ valued c h k (Some d) = Err why.Arity
 
 abbrev pub member_added : Purpose → Const → Module → Module
 member_added (purpose.Global g) c m = record m { globals = m.globals ++ record { ty = g; init = c } ∷ [] }
-member_added (purpose.Element x) c m = record m { elements = m.elements ++ record { table = x; offset = c; functions = [] } ∷ [] }
-member_added (purpose.Segment x) c m = record m { segments = m.segments ++ record { memory = x; offset = c; bytes = [] } ∷ [] }
+member_added (purpose.Element x) c m = record m {
+  elements = m.elements ++ record { table = x; offset = c; functions = [] } ∷ [];
+}
+member_added (purpose.Segment x) c m = record m {
+  segments = m.segments ++ record { memory = x; offset = c; bytes = [] } ∷ [];
+}
 
 abbrev pub constant_ended : Built → Pending → Option Const → Result Built Why
 constant_ended h k None = Err why.Arity
@@ -107,12 +133,22 @@ next_type h = unwrap_or (slice_get h.indices (length h.value.functions)) 0
 
 abbrev pub locals_taken : ℕ → ValType → Built → Option Code → Result Built Why
 locals_taken n t h None = Err why.Index
-locals_taken n t h (Some c) = and_then (add_run n t c.locals) (λ ts. Ok (record h { code = Some (record c { locals = ts }) }))
+locals_taken n t h (Some c) =
+    and_then (add_run n t c.locals) (λ ts. Ok (record h { code = Some (record c { locals = ts }) }))
 
 -- an end that closes no list inside the body ends it
 abbrev pub code_ended : Built → Code → Place → Result Built Why
 code_ended h c (at [] s) =
-    Ok (record h { value = record h.value { functions = h.value.functions ++ record { type_index = next_type h; locals = c.locals; body = s } ∷ [] }; code = None })
+    Ok (record h {
+      value = record h.value {
+        functions = h.value.functions ++ record {
+          type_index = next_type h;
+          locals = c.locals;
+          body = s;
+        } ∷ [];
+      };
+      code = None;
+    })
 code_ended h c (at (o ∷ outer) s) = Err why.ElsePlace
 code_ended h c (labels outer s seen n) = Err why.ElsePlace
 
@@ -136,9 +172,11 @@ op_taken o h (Some c) = if_it_stands o h c (placed c.body o)
 -- one item
 abbrev pub after : Built → Item → Result Built Why
 after h new_type = Ok (with_types h (h.value.types ++ record { params = []; results = [] } ∷ []))
-after h (param t) = Ok (with_types h (change_last (λ s. record s { params = s.params ++ t ∷ [] }) h.value.types))
+after h (param t) =
+    Ok (with_types h (change_last (λ s. record s { params = s.params ++ t ∷ [] }) h.value.types))
 after h (result_count n) = Ok h
-after h (one_result t) = Ok (with_types h (change_last (λ s. record s { results = s.results ++ t ∷ [] }) h.value.types))
+after h (one_result t) =
+    Ok (with_types h (change_last (λ s. record s { results = s.results ++ t ∷ [] }) h.value.types))
 after h (import_module text) = and_then (name_from text) (λ name. Ok (record h { module_name = name }))
 after h (import_name text) = and_then (name_from text) (λ name. Ok (record h { item_name = name }))
 after h (import_desc d) = Ok (imported h d)
@@ -151,9 +189,11 @@ after h (export_name text) = and_then (name_from text) (λ name. Ok (record h { 
 after h (export k x) = Ok (exports_one h k x)
 after h (start x) = Ok (record h { value = record h.value { start = Some x } })
 after h (element x) = Ok (expecting (purpose.Element x) h)
-after h (element_function y) = Ok (with_elements h (change_last (λ e. record e { functions = e.functions ++ y ∷ [] }) h.value.elements))
+after h (element_function y) =
+    Ok (with_elements h (change_last (λ e. record e { functions = e.functions ++ y ∷ [] }) h.value.elements))
 after h body = Ok (record h { code = Some (record { locals = []; body = building.start }) })
 after h (locals n t) = locals_taken n t h h.code
 after h (body_op o) = op_taken o h h.code
 after h (segment x) = Ok (expecting (purpose.Segment x) h)
-after h (data_byte c) = Ok (with_segments h (change_last (λ s. record s { bytes = s.bytes ++ c ∷ [] }) h.value.segments))
+after h (data_byte c) =
+    Ok (with_segments h (change_last (λ s. record s { bytes = s.bytes ++ c ∷ [] }) h.value.segments))

@@ -1,6 +1,7 @@
--- What a checker holds, and what each item makes of it, refusals included: an exact mirror of the code, for the layers
--- above. Which modules are valid is said in Validation, and how much of this is kept in Kept.
-use Rattle.std.specs.Prelude.{◌≡◌, ℕ, ◌<◌, ◌+◌, max, Bool, true, false, List, [], Option, Some, None, Result, Ok, Err, length, nat_le, if◌then◌else◌}
+-- What a checker holds, and what each item makes of it, refusals included: an exact mirror of the code, for
+-- the layers above. Which modules are valid is said in Validation, and how much of this is kept in Kept.
+use Rattle.std.specs.Prelude.{◌≡◌, ℕ, ◌<◌, ◌+◌, max, Bool, true, false, List, [], Option, Some, None, Result}
+use Rattle.std.specs.Prelude.{Ok, Err, length, nat_le, if◌then◌else◌}
 use Rattle.std.specs.BTreeSet.{insert_key}
 use Rattle.std.specs.List.{list_any}
 use Rattle.std.specs.Cmp.Lexicographic.{slice_cmp}
@@ -20,11 +21,15 @@ use Rattle.wm_typing.specs.declared.stats.BodyStats.{BodyStats}
 use Rattle.wm_typing.specs.Bodies.{Body, no_stats, no_body}
 use Rattle.wm_typing.specs.Typing.{function_type}
 use Rattle.wm_typing.specs.exact.Bodies.{body_at_start, declared_more, progress_at, body_after_op}
-use Rattle.wm_decode.specs.Items.{Item, new_type, param, result_count, one_result, import_module, import_name, import_desc, function, table, memory, global, const_op, export_name, export, start, element, element_function, body, locals, body_op, segment, data_byte}
+use Rattle.wm_decode.specs.Items.{Item, new_type, param, result_count, one_result, import_module, import_name}
+use Rattle.wm_decode.specs.Items.{import_desc, function, table, memory, global, const_op, export_name, export}
+use Rattle.wm_decode.specs.Items.{start, element, element_function, body, locals, body_op, segment, data_byte}
 use Rattle.wm_decode.specs.Sinks.{and_then}
 use Rattle.wm_rules.specs.declared.checker.Summary.{Summary}
 use Rattle.wm_rules.specs.declared.constants.Constant.{Constant}
-use Rattle.wm_rules.specs.exact.Spaces.{no_items, context_of, type_begun, param_added, result_added, function_added, global_added, table_added, memory_added, import_added, index_check, plain, next_type}
+use Rattle.wm_rules.specs.exact.Spaces.{no_items, context_of, type_begun, param_added, result_added}
+use Rattle.wm_rules.specs.exact.Spaces.{function_added, global_added, table_added, memory_added, import_added}
+use Rattle.wm_rules.specs.exact.Spaces.{index_check, plain, next_type}
 use Rattle.wm_rules.specs.Holding.{IndexSpaces, Held}
 use Rattle.wm_rules.specs.exact.Constants.{constant_after, constant_expecting}
 
@@ -33,7 +38,14 @@ abbrev pub BodyIsOpen : Bool → Body → Type 0
 BodyIsOpen in_body b = in_body ≡ true → b.refused ≡ None → 0 < length b.state.stacks.frames
 
 abbrev pub empty_checker : Held
-empty_checker = record { spaces = no_items; names = []; constant = None; body = no_body; in_body = false; most = no_stats }
+empty_checker = record {
+  spaces = no_items;
+  names = [];
+  constant = None;
+  body = no_body;
+  in_body = false;
+  most = no_stats;
+}
 
 -- the figures of the bodies that have ended
 abbrev pub summary_in : Held → Summary
@@ -67,7 +79,8 @@ global_begun g h = in_spaces (constant_begun g.ty h.spaces.imported_globals h) (
 
 -- a segment of this table or memory: its offset names any global
 abbrev pub offset_begun : ExportKind → ℕ → Held → Result Held Why
-offset_begun k x h = and_then (index_check k x h.spaces) (λ u. Ok (constant_begun I32 (length h.spaces.globals) h))
+offset_begun k x h =
+    and_then (index_check k x h.spaces) (λ u. Ok (constant_begun I32 (length h.spaces.globals) h))
 
 abbrev pub with_constant : Held → Result (Option Constant) Why → Result Held Why
 with_constant h (Ok k) = Ok (record h { constant = k })
@@ -94,7 +107,11 @@ in_names h (Err w) = Err w
 abbrev pub body_begun : Held → Option ℕ → Result Held Why
 body_begun h None = Err why.Index
 body_begun h (Some x) =
-    Ok (record h { spaces = record h.spaces { bodies = h.spaces.bodies + 1 }; body = body_at_start (context_of h.spaces) x; in_body = true })
+    Ok (record h {
+      spaces = record h.spaces { bodies = h.spaces.bodies + 1 };
+      body = body_at_start (context_of h.spaces) x;
+      in_body = true;
+    })
 
 abbrev pub with_body : Held → Result Body Why → Result Held Why
 with_body h (Ok b) = Ok (record h { body = b })
@@ -120,7 +137,8 @@ checker_after_op h (Ok b) = Ok (with_progress h b (progress_at b.state.stacks.fr
 checker_after_op h (Err w) = Err w
 
 abbrev pub op_taken : Op → Held → Result Held Why
-op_taken o h = if h.in_body then checker_after_op h (body_after_op (context_of h.spaces) o h.body) else Err why.Index
+op_taken o h = if h.in_body then checker_after_op h (body_after_op (context_of h.spaces) o h.body)
+    else Err why.Index
 
 -- one item
 abbrev pub after : Held → Item → Result Held Why

@@ -1,6 +1,7 @@
--- What the check of a constant expression (section 3.3.7) does at each op, refusals included. These follow the code, for
--- the layers above.
-use Rattle.std.specs.Prelude.{ℕ, true, false, List, Option, Some, None, Result, Ok, Err, slice_get, nat_lt, if◌then◌else◌}
+-- What the check of a constant expression (section 3.3.7) does at each op, refusals included. These follow
+-- the code, for the layers above.
+use Rattle.std.specs.Prelude.{ℕ, true, false, List, Option, Some, None, Result, Ok, Err, slice_get, nat_lt}
+use Rattle.std.specs.Prelude.{if◌then◌else◌}
 use Rattle.wm_syntax.specs.declared.types.ValType.{ValType}
 use Rattle.wm_syntax.specs.declared.types.ValType.TheVariants.{I32, I64}
 use Rattle.wm_syntax.specs.declared.types.GlobalType.{GlobalType}

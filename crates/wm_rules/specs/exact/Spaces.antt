@@ -1,6 +1,8 @@
--- The index spaces that a checker keeps, and what each item makes of them, refusals included. These follow the code, for
--- the layers above, whose answers are functions of what they were given. Which modules are valid is said in Validation.
-use Rattle.std.specs.Prelude.{ℕ, ◌+◌, ◌≤◌, ◌^◌, ◌&&◌, Bool, true, false, List, [], ◌∷◌, ◌++◌, Option, Some, None, Result, Ok, Err, length, slice_get, nat_lt, nat_le, nat_eq, if◌then◌else◌}
+-- The index spaces that a checker keeps, and what each item makes of them, refusals included. These follow
+-- the code, for the layers above, whose answers are functions of what they were given. Which modules are
+-- valid is said in Validation.
+use Rattle.std.specs.Prelude.{ℕ, ◌+◌, ◌≤◌, ◌^◌, ◌&&◌, Bool, true, false, List, [], ◌∷◌, ◌++◌, Option, Some}
+use Rattle.std.specs.Prelude.{None, Result, Ok, Err, length, slice_get, nat_lt, nat_le, nat_eq, if◌then◌else◌}
 use Rattle.wm_syntax.specs.declared.types.ValType.{ValType}
 use Rattle.wm_syntax.specs.declared.types.Limits.{Limits}
 use Rattle.wm_syntax.specs.declared.types.GlobalType.{GlobalType}
@@ -17,10 +19,20 @@ use Rattle.wm_decode.specs.Sinks.{and_then}
 use Rattle.wm_rules.specs.Holding.{IndexSpaces}
 
 abbrev pub no_items : IndexSpaces
-no_items = record { types = []; functions = []; globals = []; imported_functions = 0; imported_globals = 0; bodies = 0; has_table = false; has_memory = false }
+no_items = record {
+  types = [];
+  functions = [];
+  globals = [];
+  imported_functions = 0;
+  imported_globals = 0;
+  bodies = 0;
+  has_table = false;
+  has_memory = false;
+}
 
 -- what is true of the spaces of any module that is read, however far
-pub record AreSpaces (types : List Signature) (functions : List ℕ) (globals : List GlobalType) (imported_functions imported_globals bodies : ℕ) : Type 0 where
+pub record AreSpaces (types : List Signature) (functions : List ℕ) (globals : List GlobalType)
+    (imported_functions imported_globals bodies : ℕ) : Type 0 where
   pub typed : AreTypes types functions
   pub bodies_fit : imported_functions + bodies ≤ length functions
   pub globals_fit : imported_globals ≤ length globals
@@ -61,13 +73,17 @@ function_added x s =
     if nat_lt x (length s.types) then Ok (record s { functions = s.functions ++ x ∷ [] }) else Err why.Index
 
 abbrev pub function_imported : ℕ → IndexSpaces → Result IndexSpaces Why
-function_imported x s = and_then (function_added x s) (λ z. Ok (record z { imported_functions = z.imported_functions + 1 }))
+function_imported x s =
+    and_then (function_added x s) (λ z. Ok (record z { imported_functions = z.imported_functions + 1 }))
 
 abbrev pub global_added : GlobalType → IndexSpaces → Result IndexSpaces Why
 global_added g s = Ok (record s { globals = s.globals ++ g ∷ [] })
 
 abbrev pub global_imported : GlobalType → IndexSpaces → Result IndexSpaces Why
-global_imported g s = Ok (record s { globals = s.globals ++ g ∷ []; imported_globals = s.imported_globals + 1 })
+global_imported g s = Ok (record s {
+  globals = s.globals ++ g ∷ [];
+  imported_globals = s.imported_globals + 1;
+})
 
 -- limits in a range, and the least at most the greatest
 abbrev pub max_is_within : ℕ → ℕ → Option ℕ → Bool

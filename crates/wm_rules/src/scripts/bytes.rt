@@ -1,7 +1,8 @@
 //! The bytes of inputs, and their pieces.
 //!
-//! Bytes stand as hexadecimal digits. `H` is the header and `ADD` a whole module, `ADD:0-20` the first 20 bytes of it.
-//! `020B*3` stands for six bytes; in such a word `nn` is the number of the turn, from 0 on. `MANY` is an input.
+//! Bytes stand as hexadecimal digits. `H` is the header and `ADD` a whole module, `ADD:0-20` the first 20
+//! bytes of it. `020B*3` stands for six bytes; in such a word `nn` is the number of the turn, from 0 on.
+//! `MANY` is an input.
 
 ghost use Rattle.std.specs.Prelude.{◌<◌};
 
@@ -19,9 +20,10 @@ const ADD: &str = "0061736D01000000\
     0A090107\
     00200020016A0B";
 
-// An entry in each section. The types () and (i32); the import m.f, of type 0; two functions of types 1 and 0; a table from 3 on,
-// and a memory from 1 on; a variable i64 of 5; function 1 as é; the start function 2; functions 2 and 1 from place 1 on; two locals
-// and an if whose first branch is empty, and a block; four bytes from -1 on.
+// An entry in each section. The types () and (i32); the import m.f, of type 0; two functions of types 1 and
+// 0; a table from 3 on, and a memory from 1 on; a variable i64 of 5; function 1 as é; the start function 2;
+// functions 2 and 1 from place 1 on; two locals and an if whose first branch is empty, and a block; four
+// bytes from -1 on.
 const EVERY: &str = "0061736D01000000\
     01080260000060017F00\
     020701016D01660000\
@@ -46,16 +48,16 @@ const WIDE: &str = "H 01A98D0602 60A08D06 7F*100000 00 600000 02050100000000 030
 const MANY: &str = "H 00AE02AC02 63*300 010401600000 03CE08CC08 00*1100 07B10201AC02 65*300 0000 \
     0AE619CC08 02000B*1100";
 
-// 301 imported functions and 1,100 others, one of them of 5,000 ops; 513 exports; names of 300 bytes; an element segment of
-// 4,000 functions, and a data segment of 6,000 bytes.
+// 301 imported functions and 1,100 others, one of them of 5,000 ops; 513 exports; names of 300 bytes; an
+// element segment of 4,000 functions, and a data segment of 6,000 bytes.
 const LARGE: &str = "H 010401600000 02E812AD02 016D01660000*300 AC02 6D*300 AC02 66*300 0000 \
     03CE08CC08 00*1100 040401700000 0503010000 \
     07B2168104 0261nn0000*128 0262nn0000*128 0263nn0000*128 0264nn0000*128 AC02 65*300 0000 \
     09A71F 010041000BA01F 00*4000 0AEF40CC08 02000B*1099 8A2700 01*5000 0B \
     0BF72E 010041000BF02E 5A*6000";
 
-/// The pieces of an input: their bytes with a ` / ` between them. `by 7` and bytes are pieces of 7 bytes; with `apart 7` an empty
-/// piece follows each of them.
+/// The pieces of an input: their bytes with a ` / ` between them. `by 7` and bytes are pieces of 7 bytes;
+/// with `apart 7` an empty piece follows each of them.
 pub(crate) fn pieces_of(rt: &impl Abort, alloc: Global, text: &str) -> Vec<Vec<u8>> {
     let (word, rest) = word_of(text);
     match word {

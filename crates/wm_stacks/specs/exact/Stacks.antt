@@ -1,7 +1,8 @@
 -- What each call does, as a function of the two lists and the count, refusals included. These follow
 -- the code step by step, for the layers above, whose answers are functions of what they were given.
 -- No promise rests on them alone: the words of a call's other clauses are in Stack.
-use Rattle.std.specs.Prelude.{ℕ, Bool, true, false, List, [], ◌∷◌, Option, Some, None, Result, Ok, Err, length, nat_le, nat_lt, if◌then◌else◌}
+use Rattle.std.specs.Prelude.{ℕ, Bool, true, false, List, [], ◌∷◌, Option, Some, None, Result, Ok, Err}
+use Rattle.std.specs.Prelude.{length, nat_le, nat_lt, if◌then◌else◌}
 use Rattle.wm_syntax.specs.declared.types.ValType.{ValType}
 use Rattle.wm_syntax.specs.declared.why.Why.{Why}
 use Rattle.wm_syntax.specs.declared.why.Why.TheVariants.{Mismatch, Arity}
@@ -30,7 +31,10 @@ abbrev pub push : Entry → Stack → Stack
 push e s = record s { operands = e ∷ s.operands; moves = count_after_move s.moves }
 
 abbrev pub open_frame : FrameKind → Option ValType → Stack → Stack
-open_frame k t s = record s { frames = fresh_frame k t (length s.operands) ∷ s.frames; moves = count_after_move s.moves }
+open_frame k t s = record s {
+  frames = fresh_frame k t (length s.operands) ∷ s.frames;
+  moves = count_after_move s.moves;
+}
 
 abbrev pub look : Stack → Stack
 look s = record s { moves = count_after_move s.moves }
@@ -53,7 +57,8 @@ take_above t f [] s = at_floor Floor f.unreachable s
 take_above t f (e ∷ es) s =
     if nat_le f.floor (length es) then takes (fits e t) es s else at_floor Floor f.unreachable s
 
-abbrev pub in_frame : {A : Type 0} → List Frame → (Frame → Result A Why × Stack) → Stack → Result A Why × Stack
+abbrev pub in_frame : {A : Type 0} → List Frame → (Frame → Result A Why × Stack) → Stack → Result A Why
+    × Stack
 in_frame [] g s = (Err Arity, s)
 in_frame (f ∷ fs) g s = g f
 
@@ -83,7 +88,8 @@ take_all (t ∷ ts) s = goes_on (take_one t s) (take_all ts)
 -- the operands under the floor, and the moves to come down to it
 abbrev pub down_to : ℕ → List Entry → ℕ → List Entry × ℕ
 down_to floor [] m = ([], m)
-down_to floor (e ∷ es) m = if nat_le floor (length es) then down_to floor es (count_after_move m) else (e ∷ es, m)
+down_to floor (e ∷ es) m = if nat_le floor (length es) then down_to floor es (count_after_move m)
+    else (e ∷ es, m)
 
 -- the stacks with the innermost frame mark_unreachable as unreachable
 abbrev pub mark_unreachable : Stack → Stack

@@ -1,15 +1,25 @@
--- The rows of the code's table of first bytes, for the proof of `op_of`, and its exact answer, for the layer that
--- builds on it: no promise rests on this list, since the other clauses of `op_of` speak of the table of instructions
--- alone.
+-- The rows of the code's table of first bytes, for the proof of `op_of`, and its exact answer, for the layer
+-- that builds on it: no promise rests on this list, since the other clauses of `op_of` speak of the table of
+-- instructions alone.
 use Rattle.std.specs.Prelude.{ℕ, List, [], ◌∷◌, Option, Some, None as Nothing, slice_get}
 use Rattle.wm_syntax.specs.declared.types.ValType.TheVariants.{I32, I64}
-use Rattle.wm_syntax.specs.declared.instructions.Comparison.TheVariants.{Eq, Ne, LtS, LtU, GtS, GtU, LeS, LeU, GeS, GeU}
+use Rattle.wm_syntax.specs.declared.instructions.Comparison.TheVariants.{Eq, Ne, LtS, LtU, GtS, GtU, LeS, LeU}
+use Rattle.wm_syntax.specs.declared.instructions.Comparison.TheVariants.{GeS, GeU}
 use Rattle.wm_syntax.specs.declared.instructions.UnaryOp.TheVariants.{Clz, Ctz, Popcnt}
-use Rattle.wm_syntax.specs.declared.instructions.BinaryOp.TheVariants.{Add, Sub, Mul, DivS, DivU, RemS, RemU, And, Or, Xor, Shl, ShrS, ShrU, Rotl, Rotr}
-use Rattle.wm_syntax.specs.declared.instructions.Numeric.TheVariants.{Test, Compare, Unary, Binary, Wrap, ExtendS, ExtendU, SignExtend}
-use Rattle.wm_syntax.specs.declared.instructions.SignExtension.TheVariants.{I32From8, I32From16, I64From8, I64From16, I64From32}
-use Rattle.wm_syntax.specs.declared.instructions.LoadOp.TheVariants.{I32Load, I64Load, I32Load8S, I32Load8U, I32Load16S, I32Load16U, I64Load8S, I64Load8U, I64Load16S, I64Load16U, I64Load32S, I64Load32U}
-use Rattle.wm_syntax.specs.declared.instructions.StoreOp.TheVariants.{I32Store, I64Store, I32Store8, I32Store16, I64Store8, I64Store16, I64Store32}
+use Rattle.wm_syntax.specs.declared.instructions.BinaryOp.TheVariants.{Add, Sub, Mul, DivS, DivU, RemS, RemU}
+use Rattle.wm_syntax.specs.declared.instructions.BinaryOp.TheVariants.{And, Or, Xor, Shl, ShrS, ShrU, Rotl}
+use Rattle.wm_syntax.specs.declared.instructions.BinaryOp.TheVariants.{Rotr}
+use Rattle.wm_syntax.specs.declared.instructions.Numeric.TheVariants.{Test, Compare, Unary, Binary, Wrap}
+use Rattle.wm_syntax.specs.declared.instructions.Numeric.TheVariants.{ExtendS, ExtendU, SignExtend}
+use Rattle.wm_syntax.specs.declared.instructions.SignExtension.TheVariants.{I32From8, I32From16, I64From8}
+use Rattle.wm_syntax.specs.declared.instructions.SignExtension.TheVariants.{I64From16, I64From32}
+use Rattle.wm_syntax.specs.declared.instructions.LoadOp.TheVariants.{I32Load, I64Load, I32Load8S, I32Load8U}
+use Rattle.wm_syntax.specs.declared.instructions.LoadOp.TheVariants.{I32Load16S, I32Load16U, I64Load8S}
+use Rattle.wm_syntax.specs.declared.instructions.LoadOp.TheVariants.{I64Load8U, I64Load16S, I64Load16U}
+use Rattle.wm_syntax.specs.declared.instructions.LoadOp.TheVariants.{I64Load32S, I64Load32U}
+use Rattle.wm_syntax.specs.declared.instructions.StoreOp.TheVariants.{I32Store, I64Store, I32Store8}
+use Rattle.wm_syntax.specs.declared.instructions.StoreOp.TheVariants.{I32Store16, I64Store8, I64Store16}
+use Rattle.wm_syntax.specs.declared.instructions.StoreOp.TheVariants.{I64Store32}
 use Rattle.wm_syntax.specs.declared.instructions.Simple.TheVariants as s
 use Rattle.wm_syntax.specs.declared.instructions.Op.TheVariants as op
 use Rattle.wm_syntax.specs.declared.op_class.Immediates.TheVariants as k

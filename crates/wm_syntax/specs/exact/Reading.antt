@@ -1,5 +1,6 @@
 -- The exact answer of the readers of numbers.
-use Rattle.std.specs.Prelude.{ℕ, Bool, ◌+◌, ◌-◌, ◌*◌, ◌^◌, ℤ, pos, ◌+ℤ◌, ◌-ℤ◌, ◌*ℤ◌, nat_lt, nat_le, if◌then◌else◌}
+use Rattle.std.specs.Prelude.{ℕ, Bool, ◌+◌, ◌-◌, ◌*◌, ◌^◌, ℤ, pos, ◌+ℤ◌, ◌-ℤ◌, ◌*ℤ◌, nat_lt, nat_le}
+use Rattle.std.specs.Prelude.{if◌then◌else◌}
 use Rattle.wm_syntax.specs.inner.Numbers.{Partial}
 use Rattle.wm_syntax.specs.declared.numbers.Step.{Step}
 use Rattle.wm_syntax.specs.declared.numbers.Step.TheVariants.{More, Done, Bad}
@@ -39,6 +40,7 @@ signed_push bits r byte =
     then (if nat_lt byte (2 ^ 6)
     then end_at (nat_lt byte (2 ^ ((bits - 7 * r.count) - 1))) (last_signed r (pos byte))
     else (if nat_lt byte (2 ^ 7)
-    then end_at (nat_le (2 ^ 7) (byte + 2 ^ ((bits - 7 * r.count) - 1))) (last_signed r (pos byte -ℤ pos (2 ^ 7)))
+    then end_at (nat_le (2 ^ 7) (byte + 2 ^ ((bits - 7 * r.count) - 1)))
+    (last_signed r (pos byte -ℤ pos (2 ^ 7)))
     else go_on bits r byte))
     else (Bad, over)

@@ -1,10 +1,12 @@
 -- What each call on the runs of locals does, as a function of the list of types, refusals included. These
 -- follow the code step by step, for the layers above, whose answers are functions of what they were given.
 -- No promise rests on them alone.
-use Rattle.std.specs.Prelude.{ℕ, ◌+◌, ◌^◌, List, ◌++◌, Result, Ok, Err, length, replicate, nat_lt, if◌then◌else◌}
+use Rattle.std.specs.Prelude.{ℕ, ◌+◌, ◌^◌, List, ◌++◌, Result, Ok, Err, length, replicate, nat_lt}
+use Rattle.std.specs.Prelude.{if◌then◌else◌}
 use Rattle.wm_syntax.specs.declared.types.ValType.{ValType}
 use Rattle.wm_syntax.specs.declared.why.Why.{Why}
 use Rattle.wm_syntax.specs.declared.why.Why.TheVariants.{TooManyLocals}
 
 abbrev pub add_run : ℕ → ValType → List ValType → Result (List ValType) Why
-add_run count t ts = if nat_lt (length ts + count) (2 ^ 32) then Ok (ts ++ replicate count t) else Err TooManyLocals
+add_run count t ts = if nat_lt (length ts + count) (2 ^ 32) then Ok (ts ++ replicate count t)
+    else Err TooManyLocals

@@ -1,10 +1,12 @@
 -- What a builder of bodies keeps beside the ops, and what an op makes of it: an exact mirror of the code.
-use Rattle.std.specs.Prelude.{ℕ, zero, suc, ◌+◌, ◌-◌, ◌≡◌, Bool, true, false, List, [], ◌∷◌, ◌++◌, Option, Some, length, take, slice_get, slice_set, if◌then◌else◌}
+use Rattle.std.specs.Prelude.{ℕ, zero, suc, ◌+◌, ◌-◌, ◌≡◌, Bool, true, false, List, [], ◌∷◌, ◌++◌, Option}
+use Rattle.std.specs.Prelude.{Some, length, take, slice_get, slice_set, if◌then◌else◌}
 use Rattle.wm_syntax.specs.declared.instructions.Op.{Op}
 use Rattle.wm_syntax.specs.declared.instructions.Op.TheVariants as op
 use Rattle.wm_syntax.specs.declared.body_builder.Opened.{Opened}
 use Rattle.wm_syntax.specs.declared.body_builder.Opened.TheVariants as opened
-use Rattle.wm_syntax.specs.inner.Building.{Open, in_block, in_loop, in_first, in_second, Place, at, labels, ops_at}
+use Rattle.wm_syntax.specs.inner.Building.{Open, in_block, in_loop, in_first, in_second, Place, at, labels}
+use Rattle.wm_syntax.specs.inner.Building.{ops_at}
 
 -- how the lists that are open were opened, the outermost first
 abbrev pub kind_of : Open → Opened

@@ -1,5 +1,5 @@
--- Which values are the same, as a test: by their codes, which tell any two values apart. What is proved here stands in
--- specs since a comparison has its laws beside it.
+-- Which values are the same, as a test: by their codes, which tell any two values apart. What is proved here
+-- stands in specs since a comparison has its laws beside it.
 use Rattle.std.specs.Prelude.{◌≡◌, ℕ, ◌==◌, ◌&&◌, Bool, true, false, List, Option}
 use Rattle.std.specs.Bool.{Decides}
 use Rattle.std.specs.Cmp.{IsPartialEquivalence, partial_equiv_from_equiv, decided}
@@ -62,8 +62,10 @@ same_by c a b = same_code (c.code a) (c.code b)
 
 pub same_decides : {A : Type 0} (c : Coded A) (a b : A) → Decides (same_by c a b) (a ≡ b)
 unfolding same_by
-same_decides c a b =
-    ((λ e. c.inj a b (code_is (c.code a) (c.code b) e)), (λ e. subst (λ z. same_code (c.code a) (c.code z) ≡ true) e (is_code (c.code a))))
+same_decides c a b = (
+  (λ e. c.inj a b (code_is (c.code a) (c.code b) e)),
+  (λ e. subst (λ z. same_code (c.code a) (c.code z) ≡ true) e (is_code (c.code a))),
+)
 
 pub same_laws : {A : Type 0} (c : Coded A) → IsPartialEquivalence (same_by c)
 same_laws c = partial_equiv_from_equiv (decided (same_by c) (same_decides c))
@@ -80,41 +82,67 @@ entry_code = function_code
 
 pub signature_code : Coded Signature
 signature_code =
-    code_by (List ValType × List ValType) (coded× locals_code locals_code) (λ f. (f.params, f.results)) (λ p. record { params = p.0; results = p.1 }) (λ _. refl)
+    code_by (List ValType × List ValType) (coded× locals_code locals_code) (λ f. (f.params, f.results))
+    (λ p. record { params = p.0; results = p.1 }) (λ _. refl)
 
 pub import_code : Coded Import
 import_code =
-    code_by (List ℕ × (List ℕ × ImportDesc)) (coded× (coded_list coded_ℕ) (coded× (coded_list coded_ℕ) desc.the_row.coded)) (λ i. (i.module_name, (i.item_name, i.desc)))
+    code_by (List ℕ × (List ℕ × ImportDesc))
+    (coded× (coded_list coded_ℕ) (coded× (coded_list coded_ℕ) desc.the_row.coded))
+    (λ i. (i.module_name, (i.item_name, i.desc)))
     (λ p. record { module_name = p.0; item_name = p.1.0; desc = p.1.1 }) (λ _. refl)
 
 pub global_code : Coded GlobalDef
 global_code =
-    code_by (GlobalType × Const) (coded× global.the_row.coded constant.the_row.coded) (λ g. (g.ty, g.init)) (λ p. record { ty = p.0; init = p.1 }) (λ _. refl)
+    code_by (GlobalType × Const) (coded× global.the_row.coded constant.the_row.coded) (λ g. (g.ty, g.init))
+    (λ p. record { ty = p.0; init = p.1 }) (λ _. refl)
 
 pub export_code : Coded Export
 export_code =
-    code_by (List ℕ × (ExportKind × ℕ)) (coded× (coded_list coded_ℕ) (coded× kind.the_row.coded coded_ℕ)) (λ e. (e.name, (e.kind, e.index)))
+    code_by (List ℕ × (ExportKind × ℕ)) (coded× (coded_list coded_ℕ) (coded× kind.the_row.coded coded_ℕ))
+    (λ e. (e.name, (e.kind, e.index)))
     (λ p. record { name = p.0; kind = p.1.0; index = p.1.1 }) (λ _. refl)
 
 pub element_code : Coded Element
 element_code =
-    code_by (ℕ × (Const × List ℕ)) (coded× coded_ℕ (coded× constant.the_row.coded (coded_list coded_ℕ))) (λ e. (e.table, (e.offset, e.functions)))
+    code_by (ℕ × (Const × List ℕ)) (coded× coded_ℕ (coded× constant.the_row.coded (coded_list coded_ℕ)))
+    (λ e. (e.table, (e.offset, e.functions)))
     (λ p. record { table = p.0; offset = p.1.0; functions = p.1.1 }) (λ _. refl)
 
 pub segment_code : Coded Segment
 segment_code =
-    code_by (ℕ × (Const × List ℕ)) (coded× coded_ℕ (coded× constant.the_row.coded (coded_list coded_ℕ))) (λ s. (s.memory, (s.offset, s.bytes)))
+    code_by (ℕ × (Const × List ℕ)) (coded× coded_ℕ (coded× constant.the_row.coded (coded_list coded_ℕ)))
+    (λ s. (s.memory, (s.offset, s.bytes)))
     (λ p. record { memory = p.0; offset = p.1.0; bytes = p.1.1 }) (λ _. refl)
 
-module_parts : Module → List Signature × (List Import × (List Function × (List Limits × (List Limits × (List GlobalDef × (List Export × (Option ℕ × (List Element × List Segment))))))))
-module_parts m = (m.types, (m.imports, (m.functions, (m.tables, (m.memories, (m.globals, (m.exports, (m.start, (m.elements, m.segments)))))))))
+module_parts : Module → List Signature × (List Import
+    × (List Function × (List Limits × (List Limits
+    × (List GlobalDef × (List Export × (Option ℕ × (List Element × List Segment))))))))
+module_parts m = (
+  m.types,
+  (
+    m.imports,
+    (
+      m.functions,
+      (
+        m.tables,
+        (m.memories, (m.globals, (m.exports, (m.start, (m.elements, m.segments))))),
+      ),
+    ),
+  ),
+)
 
 pub module_code : Coded Module
 unfolding module_parts
 module_code =
-    code_by (List Signature × (List Import × (List Function × (List Limits × (List Limits × (List GlobalDef × (List Export × (Option ℕ × (List Element × List Segment)))))))))
-    (coded× (coded_list signature_code) (coded× (coded_list import_code) (coded× (coded_list entry_code) (coded× (coded_list limits.the_row.coded) (coded× (coded_list limits.the_row.coded)
-    (coded× (coded_list global_code) (coded× (coded_list export_code) (coded× (coded_option coded_ℕ) (coded× (coded_list element_code) (coded_list segment_code))))))))))
+    code_by (List Signature × (List Import × (List Function
+    × (List Limits × (List Limits × (List GlobalDef
+    × (List Export × (Option ℕ × (List Element × List Segment)))))))))
+    (coded× (coded_list signature_code) (coded× (coded_list import_code)
+    (coded× (coded_list entry_code) (coded× (coded_list limits.the_row.coded)
+    (coded× (coded_list limits.the_row.coded)
+    (coded× (coded_list global_code) (coded× (coded_list export_code)
+    (coded× (coded_option coded_ℕ) (coded× (coded_list element_code) (coded_list segment_code))))))))))
     module_parts
     (λ p. record {
       types = p.0;
@@ -131,4 +159,7 @@ module_code =
     (λ _. refl)
 
 pub value_laws : IsPartialEquivalence (λ a b. same_by module_code (value_of a) (value_of b))
-value_laws = record { symm = λ a b. (same_laws module_code).symm (value_of a) (value_of b); trans = λ a b c. (same_laws module_code).trans (value_of a) (value_of b) (value_of c) }
+value_laws = record {
+  symm = λ a b. (same_laws module_code).symm (value_of a) (value_of b);
+  trans = λ a b c. (same_laws module_code).trans (value_of a) (value_of b) (value_of c);
+}

@@ -1,5 +1,7 @@
--- How an answer of the code goes with the function that it follows: the same refusal, unless memory was refused.
-use Rattle.std.specs.Prelude.{ℕ, ◌+◌, ◌^◌, ◌≡◌, ◌≤◌, ◌⊎◌, true, false, nat_le, Option, Some, None, Result, Ok, Err}
+-- How an answer of the code goes with the function that it follows: the same refusal,
+-- unless memory was refused.
+use Rattle.std.specs.Prelude.{ℕ, ◌+◌, ◌^◌, ◌≡◌, ◌≤◌, ◌⊎◌, true, false, nat_le, Option, Some, None, Result, Ok}
+use Rattle.std.specs.Prelude.{Err}
 use Rattle.wm_syntax.specs.declared.why.Why.{Why}
 use Rattle.wm_syntax.specs.declared.why.Why.TheVariants.{Align, Index, Memory}
 use Rattle.wm_syntax.specs.declared.types.ValType.{ValType}
@@ -32,4 +34,5 @@ Adds w h s z = (stack_weight z ≤ stack_weight s + w) × (height_sum z ≤ heig
 abbrev pub MayAccess : {A : Type 0} → Context → ℕ → ℕ → Result A Why → Type 0
 MayAccess c align width (Ok a) = (c.has_memory ≡ true) × (nat_le (2 ^ align) width ≡ true)
 MayAccess c align width (Err w) =
-    ((c.has_memory ≡ false) × (w ≡ Index)) ⊎ ((c.has_memory ≡ true) × (nat_le (2 ^ align) width ≡ false) × (w ≡ Align))
+    ((c.has_memory ≡ false) × (w ≡ Index)) ⊎ ((c.has_memory ≡ true) × (nat_le (2 ^ align) width ≡ false)
+    × (w ≡ Align))

@@ -1,6 +1,7 @@
--- What each call does to a body that is being typed, refusals included. These follow the code step by step, for the
--- layers above, whose answers are functions of what they were given. No promise rests on them alone but how many
--- runs an op reads (`probes_in`), which is that of its `find`: the words of a call's other clauses are in After.
+-- What each call does to a body that is being typed, refusals included. These follow the code step by step,
+-- for the layers above, whose answers are functions of what they were given. No promise rests on them alone
+-- but how many runs an op reads (`probes_in`), which is that of its `find`: the words of a call's other
+-- clauses are in After.
 use Rattle.std.specs.Prelude.{ℕ, List, [], ◌∷◌, Option, Some, None, Result, Ok, Err}
 use Rattle.wm_syntax.specs.declared.types.ValType.{ValType}
 use Rattle.wm_syntax.specs.declared.why.Why.{Why}
@@ -40,7 +41,11 @@ while_open (f ∷ fs) declared = declared
 -- with these stacks, so many runs having been read
 abbrev pub with_state : Body → ℕ → BodyState → Body
 with_state b probes s =
-    record b { declared = while_open s.stacks.frames b.declared; state = s; stats = stats_after s.stacks probes b.stats }
+    record b {
+      declared = while_open s.stacks.frames b.declared;
+      state = s;
+      stats = stats_after s.stacks probes b.stats;
+    }
 
 abbrev pub body_from : Body → ℕ → Result BodyState Why → Result Body Why
 body_from b probes (Ok s) = Ok (with_state b probes s)
@@ -52,7 +57,8 @@ unless_refused (Some why) r = Err why
 
 -- one op more
 abbrev pub body_after_op : Context → Op → Body → Result Body Why
-body_after_op c x b = unless_refused b.refused (body_from b (probes_in c b x) (step (context_in c b) b.state x))
+body_after_op c x b =
+    unless_refused b.refused (body_from b (probes_in c b x) (step (context_in c b) b.state x))
 
 -- a body has ended where no frame is open
 abbrev pub progress_at : List Frame → Progress
@@ -69,4 +75,8 @@ declared_more count t b = unless_refused b.refused (declared_to b (add_run count
 
 -- what a refusal leaves: it is remembered, the counts go on, and the locals and the function's type stay
 abbrev pub refused_with : Why → ℕ → BodyState → Body → Body
-refused_with why probes s b = record b { state = s; stats = stats_after s.stacks probes b.stats; refused = Some why }
+refused_with why probes s b = record b {
+  state = s;
+  stats = stats_after s.stacks probes b.stats;
+  refused = Some why;
+}

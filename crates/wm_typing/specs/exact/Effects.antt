@@ -1,12 +1,17 @@
--- An exact mirror for the layers above: what a simple instruction does to operands, as a function of the context,
--- with the name of the refusal where it can do nothing. No promise rests on it alone: see `Typing`.
-use Rattle.std.specs.Prelude.{ℕ, ◌^◌, Bool, true, false, List, [], ◌∷◌, ◌++◌, Option, Some, None, slice_get, option_to_list, nat_le}
+-- An exact mirror for the layers above: what a simple instruction does to operands, as a function of the
+-- context, with the name of the refusal where it can do nothing. No promise rests on it alone: see `Typing`.
+use Rattle.std.specs.Prelude.{ℕ, ◌^◌, Bool, true, false, List, [], ◌∷◌, ◌++◌, Option, Some, None, slice_get}
+use Rattle.std.specs.Prelude.{option_to_list, nat_le}
 use Rattle.wm_syntax.specs.declared.types.ValType.{ValType}
 use Rattle.wm_syntax.specs.declared.types.ValType.TheVariants.{I32, I64}
 use Rattle.wm_syntax.specs.declared.why.Why.{Why}
 use Rattle.wm_syntax.specs.declared.why.Why.TheVariants as why
 use Rattle.wm_syntax.specs.declared.instructions.Simple.{Simple}
-use Rattle.wm_syntax.specs.declared.instructions.Simple.TheVariants.{Unreachable, Nop, Return, Drop, Select, Br, BrIf, Call, CallIndirect, LocalGet, LocalSet, LocalTee, GlobalGet, GlobalSet, MemorySize, MemoryGrow, I32Const, I64Const, Load, Store, Numeric}
+use Rattle.wm_syntax.specs.declared.instructions.Simple.TheVariants.{Unreachable, Nop, Return, Drop, Select}
+use Rattle.wm_syntax.specs.declared.instructions.Simple.TheVariants.{Br, BrIf, Call, CallIndirect, LocalGet}
+use Rattle.wm_syntax.specs.declared.instructions.Simple.TheVariants.{LocalSet, LocalTee, GlobalGet, GlobalSet}
+use Rattle.wm_syntax.specs.declared.instructions.Simple.TheVariants.{MemorySize, MemoryGrow, I32Const}
+use Rattle.wm_syntax.specs.declared.instructions.Simple.TheVariants.{I64Const, Load, Store, Numeric}
 use Rattle.wm_syntax.specs.Opcodes.{numeric, load, store}
 use Rattle.wm_typing.specs.Typing.{Context, function_type}
 
@@ -30,7 +35,8 @@ where_true w true s = s
 where_true w false s = ill w
 
 abbrev pub access_effect : Context → ℕ → ℕ → Effect → Effect
-access_effect c align width s = where_true why.Index c.has_memory (where_true why.Align (nat_le (2 ^ align) width) s)
+access_effect c align width s =
+    where_true why.Index c.has_memory (where_true why.Align (nat_le (2 ^ align) width) s)
 
 abbrev pub call_effect : Context → ℕ → Effect
 call_effect c x = with_item (function_type c x) (λ f. fixed f.params f.results)
@@ -43,13 +49,15 @@ abbrev pub global_get_effect : Context → ℕ → Effect
 global_get_effect c x = with_item (slice_get c.globals x) (λ g. fixed [] (g.ty ∷ []))
 
 abbrev pub global_set_effect : Context → ℕ → Effect
-global_set_effect c x = with_item (slice_get c.globals x) (λ g. where_true why.Immutable g.var (fixed (g.ty ∷ []) []))
+global_set_effect c x =
+    with_item (slice_get c.globals x) (λ g. where_true why.Immutable g.var (fixed (g.ty ∷ []) []))
 
 abbrev pub effect_of : Context → Simple → Effect
 effect_of c Unreachable = is_polymorphic []
 effect_of c Nop = fixed [] []
 effect_of c (Br l) = with_item (slice_get c.labels l) (λ t. is_polymorphic (option_to_list t))
-effect_of c (BrIf l) = with_item (slice_get c.labels l) (λ t. fixed (option_to_list t ++ I32 ∷ []) (option_to_list t))
+effect_of c (BrIf l) =
+    with_item (slice_get c.labels l) (λ t. fixed (option_to_list t ++ I32 ∷ []) (option_to_list t))
 effect_of c Return = is_polymorphic (option_to_list c.result)
 effect_of c (Call x) = call_effect c x
 effect_of c (CallIndirect x) = indirect_effect c x

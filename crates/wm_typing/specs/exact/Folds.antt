@@ -21,4 +21,5 @@ while_inside (f ∷ fs) r = r
 abbrev pub body_after_ops : Context → Result Body Why → List Op → Result Body Why
 body_after_ops c (Err why) ops = Err why
 body_after_ops c (Ok b) [] = Ok b
-body_after_ops c (Ok b) (x ∷ ops) = body_after_ops c (while_inside b.state.stacks.frames (body_after_op c x b)) ops
+body_after_ops c (Ok b) (x ∷ ops) =
+    body_after_ops c (while_inside b.state.stacks.frames (body_after_op c x b)) ops

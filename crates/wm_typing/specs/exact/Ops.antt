@@ -1,7 +1,8 @@
--- What each op does to the stacks, and to a br_table whose labels are being read, refusals included. These follow the
--- code step by step, for the layers above, whose answers are functions of what they were given. No promise rests on
--- them alone: the words of a call's other clauses are in After.
-use Rattle.std.specs.Prelude.{◌-◌, Bool, true, false, List, [], ◌∷◌, Option, Some, None, Result, Ok, Err, reverse, map, slice_get, option_to_list, nat_eq, if◌then◌else◌}
+-- What each op does to the stacks, and to a br_table whose labels are being read, refusals included. These
+-- follow the code step by step, for the layers above, whose answers are functions of what they were given. No
+-- promise rests on them alone: the words of a call's other clauses are in After.
+use Rattle.std.specs.Prelude.{◌-◌, Bool, true, false, List, [], ◌∷◌, Option, Some, None, Result, Ok, Err}
+use Rattle.std.specs.Prelude.{reverse, map, slice_get, option_to_list, nat_eq, if◌then◌else◌}
 use Rattle.wm_syntax.specs.declared.types.ValType.{ValType}
 use Rattle.wm_syntax.specs.declared.types.ValType.TheVariants.{I32, I64}
 use Rattle.wm_syntax.specs.declared.instructions.Op.{Op}
@@ -22,7 +23,8 @@ use Rattle.wm_stacks.specs.exact.Stacks.{open_frame, push, take_all, take_any, c
 use Rattle.wm_typing.specs.declared.labels.BrTable.{BrTable}
 use Rattle.wm_typing.specs.Typing.{Context}
 use Rattle.wm_typing.specs.Entries.{entry_of_type, join}
-use Rattle.wm_typing.specs.exact.Effects.{Effect, fixed, indirect, is_polymorphic, drops, selects, ill, effect_of}
+use Rattle.wm_typing.specs.exact.Effects.{Effect, fixed, indirect, is_polymorphic, drops, selects, ill}
+use Rattle.wm_typing.specs.exact.Effects.{effect_of}
 use Rattle.wm_typing.specs.Bodies.{BodyState}
 
 abbrev pub push_all : List ValType → Stack → Stack
@@ -30,7 +32,8 @@ push_all [] s = s
 push_all (t ∷ ts) s = push_all ts (push (entry_of_type t) s)
 
 -- goes on from a call on the stacks that was not refused
-abbrev pub after_call : {A : Type 0} → Result A Why × Stack → (A → Stack → Result Stack Why) → Result Stack Why
+abbrev pub after_call : {A : Type 0} → Result A Why × Stack → (A → Stack → Result Stack Why)
+    → Result Stack Why
 after_call (Ok a, s) k = k a s
 after_call (Err w, s) k = Err w
 
@@ -52,7 +55,8 @@ push_joined (Some e) s = Ok (push e s)
 
 abbrev pub select_from : Reach → Stack → Result Stack Why
 select_from Floor s = Ok (push Unknown s)
-select_from Whole s = after_call (take_any s) (λ a z. after_call (take_any z) (λ b y. push_joined (join a b) y))
+select_from Whole s =
+    after_call (take_any s) (λ a z. after_call (take_any z) (λ b y. push_joined (join a b) y))
 
 abbrev pub drive_select : Stack → Result Stack Why
 drive_select s = after_call (take_all (I32 ∷ []) s) select_from

@@ -26,8 +26,8 @@ pub record Steady (b : Body) : Type 0 where
   pub most_operands : 2 * b.stats.operands ≤ b.stats.moves + length b.state.stacks.operands
   pub most_controls : 2 * b.stats.controls ≤ b.stats.moves + length b.state.stacks.frames
 
--- What is held after `begin` in a context and with a type, the declared locals and the ops since then, where nothing
--- was refused. The clauses of the calls say what follows from it: nothing in it has to be believed.
+-- What is held after `begin` in a context and with a type, the declared locals and the ops since then, where
+-- nothing was refused. The clauses of the calls say what follows from it: nothing in it has to be believed.
 pub record BodyAfter (c : Context) (x : ℕ) (locals : List ValType) (ops : List Op) (b : Body) : Type 0 where
   pub unrefused : b.refused ≡ None
   pub type_index : b.type_index ≡ x

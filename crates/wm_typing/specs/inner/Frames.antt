@@ -1,6 +1,8 @@
--- What `After` is made of: open lists of instructions beside the operands of their frames, the top first. Nothing of
--- it has to be believed: the clauses of `step` say what follows, in the words of `Typing` and `OpenLists`.
-use Rattle.std.specs.Prelude.{ℕ, ◌≡◌, Bool, true, false, IsTrue, List, [], ◌∷◌, ◌++◌, Option, Some, None, map, reverse, length, option_to_list, ◌↔◌}
+-- What `After` is made of: open lists of instructions beside the operands of their frames, the top
+-- first. Nothing of it has to be believed: the clauses of `step` say what follows, in the words of
+-- `Typing` and `OpenLists`.
+use Rattle.std.specs.Prelude.{ℕ, ◌≡◌, Bool, true, false, IsTrue, List, [], ◌∷◌, ◌++◌, Option, Some, None, map}
+use Rattle.std.specs.Prelude.{reverse, length, option_to_list, ◌↔◌}
 use Rattle.wm_syntax.specs.declared.types.ValType.{ValType}
 use Rattle.wm_syntax.specs.declared.types.ValType.TheVariants.{I32}
 use Rattle.wm_syntax.specs.Instructions.{Instructions}
@@ -10,7 +12,8 @@ use Rattle.wm_stacks.specs.declared.entries.Frame.{Frame}
 use Rattle.wm_stacks.specs.Stack.{Stack, fits}
 use Rattle.wm_typing.specs.declared.labels.BrTable.{BrTable}
 use Rattle.wm_typing.specs.Typing.{Context, Typed}
-use Rattle.wm_typing.specs.OpenLists.{Head, head, head_of, Work, work, Place, open_at, within, complete, label_type, at, taken_by, FirstHolds, AllHave}
+use Rattle.wm_typing.specs.OpenLists.{Head, head, head_of, Work, work, Place, open_at, within, complete}
+use Rattle.wm_typing.specs.OpenLists.{label_type, at, taken_by, FirstHolds, AllHave}
 
 -- the operands of a frame, and whether it is unreachable
 pub record Pile : Type 0 where
@@ -40,11 +43,13 @@ Reach c s ts = Typed c s [] (reverse ts)
 -- what stands for each list of types that the instructions lead to, below those that were taken from it
 abbrev pub Meets : Context → Head → List ValType → Work → Pile → Type 0
 Meets c h taken (work first s) f =
-    FirstHolds c h first × ((ts : List ValType) → Reach c s (reverse taken ++ ts) ↔ Stands f.dead f.entries ts)
+    FirstHolds c h first × ((ts : List ValType) → Reach c s (reverse taken ++ ts)
+    ↔ Stands f.dead f.entries ts)
 
 abbrev pub AllMeet : Context → List ValType → List Head → List Work → List Pile → Type 0
 AllMeet c taken [] [] [] = Unit {0}
-AllMeet c taken (h ∷ hs) (w ∷ ws) (f ∷ fs) = Meets (at c (h ∷ hs)) h taken w f × AllMeet c (taken_by h) hs ws fs
+AllMeet c taken (h ∷ hs) (w ∷ ws) (f ∷ fs) = Meets (at c (h ∷ hs)) h taken w f
+    × AllMeet c (taken_by h) hs ws fs
 AllMeet c taken _ _ _ = ⊥
 
 -- the labels that were seen, and the type that they have

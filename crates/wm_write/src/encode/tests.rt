@@ -1,4 +1,5 @@
-//! Modules and their canonical binaries. A module stands as bytes that spell it, as Debug writes it, and as its canonical binary.
+//! Modules and their canonical binaries. A module stands as bytes that spell it, as Debug writes it, and as
+//! its canonical binary.
 
 use super::*;
 use crate::narrow::Narrow;
