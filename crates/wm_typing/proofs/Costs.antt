@@ -15,7 +15,7 @@ use Rattle.wm_stacks.specs.declared.entries.FrameKind.TheVariants.{Func, Block, 
 use Rattle.wm_stacks.specs.declared.entries.Frame.{Frame}
 use Rattle.wm_stacks.specs.declared.entries.Reach.{Reach}
 use Rattle.wm_stacks.specs.declared.entries.Reach.TheVariants.{Whole, Floor}
-use Rattle.wm_stacks.specs.Stack.{Stack, fits, height_sum}
+use Rattle.wm_stacks.specs.Stack.{Stack, fits}
 use Rattle.wm_stacks.specs.exact.Stacks.{push, open_frame, count_after_move, pop_to, at_floor as stack_at_floor, takes, take_above, in_frame, take_one, take_all, goes_on, any_above, take_any, cut, cut_at, down_to, close, close_at}
 use Rattle.wm_typing.specs.declared.labels.BrTable.{BrTable}
 use Rattle.wm_typing.specs.Typing.{Context, function_type}
@@ -31,7 +31,6 @@ use Rattle.wm_syntax.specs.declared.instructions.Numeric.TheVariants as num
 use Rattle.wm_syntax.specs.declared.instructions.SignExtension.TheVariants as ext
 use Rattle.wm_syntax.specs.Types.{Signature}
 use Rattle.wm_syntax.specs.Opcodes.{numeric, load, store}
-use Rattle.wm_typing.specs.Answers.{stack_weight}
 use Rattle.wm_typing.specs.exact.Answers.{Adds}
 
 abbrev pub OneAdds : Result Reach Why × Stack → Stack → Type 0
@@ -371,25 +370,6 @@ op_adds c one op.Else (Some t) s = tt
 op_adds c one op.End (Some t) s = tt
 op_adds c one (op.BrTable n) (Some t) s = tt
 
--- what the calls on the stacks add, whatever they answer
-pub take_weight : (ts : List ValType) (s : Stack) → stack_weight (take_all ts s).1 ≤ stack_weight s + 1
-take_weight ts s = (take_adds ts s).0
-
-pub take_height : (ts : List ValType) (s : Stack) → height_sum (take_all ts s).1 ≤ height_sum s + 0
-take_height ts s = (take_adds ts s).1
-
-pub any_weight : (s : Stack) → stack_weight (take_any s).1 ≤ stack_weight s + 1
-any_weight s = (any_adds s).0
-
-pub any_height : (s : Stack) → height_sum (take_any s).1 ≤ height_sum s + 0
-any_height s = (any_adds s).1
-
-pub cut_weight : (s : Stack) → stack_weight (cut s) ≤ stack_weight s + 0
-cut_weight s = (cut_adds s).0
-
-pub cut_height : (s : Stack) → height_sum (cut s) ≤ height_sum s + 0
-cut_height s = (cut_adds s).1
-
 close_either_adds : (gs fs : List Frame) (ops : List Entry) (m : ℕ) → gs ≡ fs
     → Adds 0 0 (record { operands = ops; frames = fs; moves = m }) (close_at gs (record { operands = ops; frames = fs; moves = m })).1
 close_either_adds [] fs ops m e = adds_same (record { operands = ops; frames = fs; moves = m }) 0
@@ -399,8 +379,6 @@ close_either_adds (g ∷ gs) fs ops m e = go (nat_lt g.floor (length ops))
     go true = adds_same (record { operands = ops; frames = fs; moves = m }) 0
     go false = let l : suc (length gs) ≡ length fs = ap length e in (omega (arith, l), omega (arith, l))
 
-pub close_weight : (s : Stack) → stack_weight (close s).1 ≤ stack_weight s + 0
-close_weight s = (close_either_adds s.frames s.frames s.operands s.moves refl).0
-
-pub close_height : (s : Stack) → height_sum (close s).1 ≤ height_sum s + 0
-close_height s = (close_either_adds s.frames s.frames s.operands s.moves refl).1
+-- closing adds nothing, whatever it answers
+pub close_either : (s : Stack) → Adds 0 0 s (close s).1
+close_either s = close_either_adds s.frames s.frames s.operands s.moves refl

@@ -1,7 +1,8 @@
 -- How an answer of the code goes with the function that it follows: the same refusal,
 -- unless memory was refused.
-use Rattle.std.specs.Prelude.{ℕ, ◌+◌, ◌^◌, ◌≡◌, ◌≤◌, ◌⊎◌, true, false, nat_le, Option, Some, None, Result, Ok}
-use Rattle.std.specs.Prelude.{Err}
+use Rattle.std.specs.Prelude.{ℕ, ◌+◌, ◌^◌, ◌≡◌, ◌<◌, ◌≤◌, ◌⊎◌, true, false, nat_le, length, Option, Some}
+use Rattle.std.specs.Prelude.{None}
+use Rattle.std.specs.Prelude.{Result, Ok, Err}
 use Rattle.wm_syntax.specs.declared.why.Why.{Why}
 use Rattle.wm_syntax.specs.declared.why.Why.TheVariants.{Align, Index, Memory}
 use Rattle.wm_syntax.specs.declared.types.ValType.{ValType}
@@ -9,7 +10,7 @@ use Rattle.wm_stacks.specs.declared.entries.Frame.{Frame}
 use Rattle.wm_stacks.specs.Stack.{Stack, height_sum}
 use Rattle.wm_typing.specs.exact.Ops.{drive_close}
 use Rattle.wm_typing.specs.Typing.{Context}
-use Rattle.wm_typing.specs.Answers.{stack_weight}
+use Rattle.wm_typing.specs.Answers.{Room, stack_weight}
 
 -- this is done, or refused for this reason, or memory is refused
 abbrev pub Does : {A S : Type 0} → (A → S) → Result S Why → Result A Why → Type 0
@@ -29,6 +30,19 @@ Closes t s (Err why) z = (k : Frame → Stack → Result Stack Why) → drive_cl
 -- at most this much more stack_weight and height
 abbrev pub Adds : ℕ → ℕ → Stack → Stack → Type 0
 Adds w h s z = (stack_weight z ≤ stack_weight s + w) × (height_sum z ≤ height_sum s + h)
+
+-- a frame is open, and the heights are far from the greatest number
+abbrev pub CanAct : Stack → Type 0
+CanAct s = (0 < length s.frames) × (height_sum s < 2 ^ 63)
+
+-- What came of an act on the stacks: it is done, or refused for this reason, or memory is; that only where a
+-- stack has no room in itself; and the stacks have at most so much more weight and height.
+abbrev pub ActsAs : {A S : Type 0} → (A → S) → Result S Why → ℕ → ℕ → Stack → Stack → Result A Why → Type 0
+ActsAs made r w h s z result = Does made r result × Room s result × Adds w h s z
+
+-- the same, where the stacks are what is made
+abbrev pub Acts : {A : Type 0} → Result Stack Why → ℕ → ℕ → Stack → Stack → Result A Why → Type 0
+Acts r w h s z result = ActsAs (λ _. z) r w h s z result
 
 -- memory 0 exists and the alignment is at most the width; else the first of these that fails is named
 abbrev pub MayAccess : {A : Type 0} → Context → ℕ → ℕ → Result A Why → Type 0

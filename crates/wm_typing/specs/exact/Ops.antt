@@ -74,6 +74,10 @@ abbrev pub HasFixedType : Simple → Type 0
 HasFixedType (simple.LocalGet x) = Unit {0}
 HasFixedType (simple.LocalSet x) = Unit {0}
 HasFixedType (simple.LocalTee x) = Unit {0}
+HasFixedType (simple.GlobalGet x) = Unit {0}
+HasFixedType (simple.GlobalSet x) = Unit {0}
+HasFixedType simple.MemorySize = Unit {0}
+HasFixedType simple.MemoryGrow = Unit {0}
 HasFixedType (simple.I32Const n) = Unit {0}
 HasFixedType (simple.I64Const n) = Unit {0}
 HasFixedType (simple.Load o at) = Unit {0}

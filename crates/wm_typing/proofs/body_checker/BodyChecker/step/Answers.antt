@@ -7,7 +7,7 @@ pub returns-clause-within : goal.returns-clause-within
 returns-clause-within c x locals ops a =
     within_after c.args.context.now (length ops) c.args.self.now c.args.op c.advance.new.self a.within
     (stats_said c.args.context.now c.args.self.now c.args.op c.advance.new.self c.advance.result a.unrefused c.advance.ensures.exact)
-    c.advance.ensures.weight c.advance.ensures.height
+    c.advance.ensures.adds.0 c.advance.ensures.adds.1
 
 pub returns-clause-after : goal.returns-clause-after
 returns-clause-after c x locals ops a =
