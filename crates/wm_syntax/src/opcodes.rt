@@ -1,8 +1,9 @@
-//! Which instruction a byte begins (section 5.4).
+//! Which instruction a byte begins, and which byte an instruction (section 5.4).
 
 ghost use Rattle.std.specs.Prelude.{◌≡◌, ◌↔◌, IsTrue, slice_get};
 ghost use Rattle.wm_syntax.specs.declared.instructions.Op.{Op};
 ghost use Rattle.wm_syntax.specs.exact.ByteTable.{classes, class_in, class_under};
+ghost use Rattle.wm_syntax.specs.Opcodes.{binary, comparison, load, numeric, opcode, store, unary};
 ghost use Rattle.wm_syntax.specs.OpClasses.{IsClassOfOp, class_of, first_byte, is_float};
 ghost use Rattle.wm_syntax.specs.Profiles.{IsOpOf};
 
@@ -11,7 +12,7 @@ use crate::instructions::Numeric::{
 };
 use crate::instructions::Simple::Numeric;
 use crate::instructions::{
-    BinaryOp, Comparison, LoadOp, Op, SignExtension, Simple, StoreOp, UnaryOp,
+    BinaryOp, Comparison, LoadOp, Numeric as NumericOp, Op, SignExtension, Simple, StoreOp, UnaryOp,
 };
 use crate::op_class::OpClass::{Plain, With};
 use crate::op_class::{Immediates, OpClass};
@@ -307,3 +308,137 @@ fn class_at(byte: u8) -> OpClass
 
 #[cfg(test)]
 mod tests;
+
+/// The byte that an instruction begins with (section 5.4).
+pub fn first_byte(simple: Simple) -> u8
+    ensures { result ≡ (opcode simple).0 }
+{
+    match simple {
+        Simple::Unreachable => 0x00,
+        Simple::Nop => 0x01,
+        Simple::Br(_) => 0x0C,
+        Simple::BrIf(_) => 0x0D,
+        Simple::Return => 0x0F,
+        Simple::Call(_) => 0x10,
+        Simple::CallIndirect(_) => 0x11,
+        Simple::Drop => 0x1A,
+        Simple::Select => 0x1B,
+        Simple::LocalGet(_) => 0x20,
+        Simple::LocalSet(_) => 0x21,
+        Simple::LocalTee(_) => 0x22,
+        Simple::GlobalGet(_) => 0x23,
+        Simple::GlobalSet(_) => 0x24,
+        Simple::MemorySize => 0x3F,
+        Simple::MemoryGrow => 0x40,
+        Simple::I32Const(_) => 0x41,
+        Simple::I64Const(_) => 0x42,
+        Simple::Load(op, _) => load_byte(op),
+        Simple::Store(op, _) => store_byte(op),
+        Numeric(op) => numeric_byte(op),
+    }
+}
+
+fn comparison_place(op: Comparison) -> u8
+    ensures { result ≡ (comparison op).0 }
+{
+    match op {
+        Comparison::Eq => 0,
+        Comparison::Ne => 1,
+        Comparison::LtS => 2,
+        Comparison::LtU => 3,
+        Comparison::GtS => 4,
+        Comparison::GtU => 5,
+        Comparison::LeS => 6,
+        Comparison::LeU => 7,
+        Comparison::GeS => 8,
+        Comparison::GeU => 9,
+    }
+}
+
+fn unary_place(op: UnaryOp) -> u8
+    ensures { result ≡ (unary op).0 }
+{
+    match op {
+        UnaryOp::Clz => 0,
+        UnaryOp::Ctz => 1,
+        UnaryOp::Popcnt => 2,
+    }
+}
+
+fn binary_place(op: BinaryOp) -> u8
+    ensures { result ≡ (binary op).0 }
+{
+    match op {
+        BinaryOp::Add => 0,
+        BinaryOp::Sub => 1,
+        BinaryOp::Mul => 2,
+        BinaryOp::DivS => 3,
+        BinaryOp::DivU => 4,
+        BinaryOp::RemS => 5,
+        BinaryOp::RemU => 6,
+        BinaryOp::And => 7,
+        BinaryOp::Or => 8,
+        BinaryOp::Xor => 9,
+        BinaryOp::Shl => 10,
+        BinaryOp::ShrS => 11,
+        BinaryOp::ShrU => 12,
+        BinaryOp::Rotl => 13,
+        BinaryOp::Rotr => 14,
+    }
+}
+
+fn load_byte(op: LoadOp) -> u8
+    ensures { result ≡ (load op).byte }
+{
+    match op {
+        LoadOp::I32Load => 0x28,
+        LoadOp::I64Load => 0x29,
+        LoadOp::I32Load8S => 0x2C,
+        LoadOp::I32Load8U => 0x2D,
+        LoadOp::I32Load16S => 0x2E,
+        LoadOp::I32Load16U => 0x2F,
+        LoadOp::I64Load8S => 0x30,
+        LoadOp::I64Load8U => 0x31,
+        LoadOp::I64Load16S => 0x32,
+        LoadOp::I64Load16U => 0x33,
+        LoadOp::I64Load32S => 0x34,
+        LoadOp::I64Load32U => 0x35,
+    }
+}
+
+fn store_byte(op: StoreOp) -> u8
+    ensures { result ≡ (store op).byte }
+{
+    match op {
+        StoreOp::I32Store => 0x36,
+        StoreOp::I64Store => 0x37,
+        StoreOp::I32Store8 => 0x3A,
+        StoreOp::I32Store16 => 0x3B,
+        StoreOp::I64Store8 => 0x3C,
+        StoreOp::I64Store16 => 0x3D,
+        StoreOp::I64Store32 => 0x3E,
+    }
+}
+
+fn numeric_byte(op: NumericOp) -> u8
+    ensures { result ≡ (numeric op).byte }
+{
+    match op {
+        Test(I32) => 0x45,
+        Test(I64) => 0x50,
+        Compare(I32, op) => 0x46 + comparison_place(op),
+        Compare(I64, op) => 0x51 + comparison_place(op),
+        Unary(I32, op) => 0x67 + unary_place(op),
+        Unary(I64, op) => 0x79 + unary_place(op),
+        Binary(I32, op) => 0x6A + binary_place(op),
+        Binary(I64, op) => 0x7C + binary_place(op),
+        Wrap => 0xA7,
+        ExtendS => 0xAC,
+        ExtendU => 0xAD,
+        SignExtend(SignExtension::I32From8) => 0xC0,
+        SignExtend(SignExtension::I32From16) => 0xC1,
+        SignExtend(SignExtension::I64From8) => 0xC2,
+        SignExtend(SignExtension::I64From16) => 0xC3,
+        SignExtend(SignExtension::I64From32) => 0xC4,
+    }
+}

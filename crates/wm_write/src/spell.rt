@@ -7,119 +7,13 @@ ghost use Rattle.wm_decode.specs.Sections.{kind_byte};
 ghost use Rattle.wm_syntax.specs.Leb128.{signed_bytes};
 ghost use Rattle.wm_syntax.specs.Modules.{constant};
 ghost use Rattle.wm_syntax.specs.Types.{type_byte};
-ghost use Rattle.wm_syntax.specs.Opcodes.{binary, comparison, load, numeric, opcode, store, unary};
+ghost use Rattle.wm_syntax.specs.Opcodes.{opcode};
 
 use wm_syntax::chunk::Chunk;
-use wm_syntax::instructions::{
-    BinaryOp, Comparison, LoadOp, MemArg, Numeric, Op, SignExtension, Simple, StoreOp, UnaryOp,
-};
+use wm_syntax::instructions::{MemArg, Op, Simple};
 use wm_syntax::modules::{ExportKind, ImportDesc};
+use wm_syntax::opcodes::first_byte;
 use wm_syntax::types::{Const, GlobalType, Limits, ValType};
-
-fn comparison_place(op: Comparison) -> u8
-    ensures { result ≡ (comparison op).0 }
-{
-    match op {
-        Comparison::Eq => 0,
-        Comparison::Ne => 1,
-        Comparison::LtS => 2,
-        Comparison::LtU => 3,
-        Comparison::GtS => 4,
-        Comparison::GtU => 5,
-        Comparison::LeS => 6,
-        Comparison::LeU => 7,
-        Comparison::GeS => 8,
-        Comparison::GeU => 9,
-    }
-}
-
-fn unary_place(op: UnaryOp) -> u8
-    ensures { result ≡ (unary op).0 }
-{
-    match op {
-        UnaryOp::Clz => 0,
-        UnaryOp::Ctz => 1,
-        UnaryOp::Popcnt => 2,
-    }
-}
-
-fn binary_place(op: BinaryOp) -> u8
-    ensures { result ≡ (binary op).0 }
-{
-    match op {
-        BinaryOp::Add => 0,
-        BinaryOp::Sub => 1,
-        BinaryOp::Mul => 2,
-        BinaryOp::DivS => 3,
-        BinaryOp::DivU => 4,
-        BinaryOp::RemS => 5,
-        BinaryOp::RemU => 6,
-        BinaryOp::And => 7,
-        BinaryOp::Or => 8,
-        BinaryOp::Xor => 9,
-        BinaryOp::Shl => 10,
-        BinaryOp::ShrS => 11,
-        BinaryOp::ShrU => 12,
-        BinaryOp::Rotl => 13,
-        BinaryOp::Rotr => 14,
-    }
-}
-
-fn load_byte(op: LoadOp) -> u8
-    ensures { result ≡ (load op).byte }
-{
-    match op {
-        LoadOp::I32Load => 0x28,
-        LoadOp::I64Load => 0x29,
-        LoadOp::I32Load8S => 0x2C,
-        LoadOp::I32Load8U => 0x2D,
-        LoadOp::I32Load16S => 0x2E,
-        LoadOp::I32Load16U => 0x2F,
-        LoadOp::I64Load8S => 0x30,
-        LoadOp::I64Load8U => 0x31,
-        LoadOp::I64Load16S => 0x32,
-        LoadOp::I64Load16U => 0x33,
-        LoadOp::I64Load32S => 0x34,
-        LoadOp::I64Load32U => 0x35,
-    }
-}
-
-fn store_byte(op: StoreOp) -> u8
-    ensures { result ≡ (store op).byte }
-{
-    match op {
-        StoreOp::I32Store => 0x36,
-        StoreOp::I64Store => 0x37,
-        StoreOp::I32Store8 => 0x3A,
-        StoreOp::I32Store16 => 0x3B,
-        StoreOp::I64Store8 => 0x3C,
-        StoreOp::I64Store16 => 0x3D,
-        StoreOp::I64Store32 => 0x3E,
-    }
-}
-
-fn numeric_byte(op: Numeric) -> u8
-    ensures { result ≡ (numeric op).byte }
-{
-    match op {
-        Numeric::Test(ValType::I32) => 0x45,
-        Numeric::Test(ValType::I64) => 0x50,
-        Numeric::Compare(ValType::I32, op) => 0x46 + comparison_place(op),
-        Numeric::Compare(ValType::I64, op) => 0x51 + comparison_place(op),
-        Numeric::Unary(ValType::I32, op) => 0x67 + unary_place(op),
-        Numeric::Unary(ValType::I64, op) => 0x79 + unary_place(op),
-        Numeric::Binary(ValType::I32, op) => 0x6A + binary_place(op),
-        Numeric::Binary(ValType::I64, op) => 0x7C + binary_place(op),
-        Numeric::Wrap => 0xA7,
-        Numeric::ExtendS => 0xAC,
-        Numeric::ExtendU => 0xAD,
-        Numeric::SignExtend(SignExtension::I32From8) => 0xC0,
-        Numeric::SignExtend(SignExtension::I32From16) => 0xC1,
-        Numeric::SignExtend(SignExtension::I64From8) => 0xC2,
-        Numeric::SignExtend(SignExtension::I64From16) => 0xC3,
-        Numeric::SignExtend(SignExtension::I64From32) => 0xC4,
-    }
-}
 
 /// The byte of a value type (section 5.3.1).
 pub(crate) fn value_byte(ty: ValType) -> u8
@@ -203,28 +97,22 @@ fn constant(byte: u8, value: i64, most: usize) -> Chunk
 fn spell_simple(simple: Simple) -> Chunk
     ensures { result ≡ (opcode simple).0 ∷ immediates simple }
 {
+    let byte = first_byte(simple);
     match simple {
-        Simple::Unreachable => one(0x00),
-        Simple::Nop => one(0x01),
-        Simple::Br(label) => with_number(0x0C, label),
-        Simple::BrIf(label) => with_number(0x0D, label),
-        Simple::Return => one(0x0F),
-        Simple::Call(index) => with_number(0x10, index),
+        Simple::Br(index)
+        | Simple::BrIf(index)
+        | Simple::Call(index)
+        | Simple::LocalGet(index)
+        | Simple::LocalSet(index)
+        | Simple::LocalTee(index)
+        | Simple::GlobalGet(index)
+        | Simple::GlobalSet(index) => with_number(byte, index),
         Simple::CallIndirect(index) => indirect(index),
-        Simple::Drop => one(0x1A),
-        Simple::Select => one(0x1B),
-        Simple::LocalGet(index) => with_number(0x20, index),
-        Simple::LocalSet(index) => with_number(0x21, index),
-        Simple::LocalTee(index) => with_number(0x22, index),
-        Simple::GlobalGet(index) => with_number(0x23, index),
-        Simple::GlobalSet(index) => with_number(0x24, index),
-        Simple::MemorySize => two(0x3F, 0x00),
-        Simple::MemoryGrow => two(0x40, 0x00),
-        Simple::I32Const(value) => constant(0x41, i64::from(value), 5),
-        Simple::I64Const(value) => constant(0x42, value, 10),
-        Simple::Load(op, at) => access(load_byte(op), at),
-        Simple::Store(op, at) => access(store_byte(op), at),
-        Simple::Numeric(op) => one(numeric_byte(op)),
+        Simple::MemorySize | Simple::MemoryGrow => two(byte, 0x00),
+        Simple::I32Const(value) => constant(byte, i64::from(value), 5),
+        Simple::I64Const(value) => constant(byte, value, 10),
+        Simple::Load(_, at) | Simple::Store(_, at) => access(byte, at),
+        _ => one(byte),
     }
 }
 
