@@ -82,7 +82,8 @@ fn first_fault(alloc: Global, row: &Row, tally: &mut Tally) -> io::Result<Option
     Ok(None)
 }
 
-/// How many binaries differ from a row's in one byte, and how many of them are valid.
+/// How many binaries differ from a row's in one byte, and how many of them are valid. No clause: `stdout` has
+/// what is right.
 pub fn answer_changes(alloc: Global, row: &Row, tally: &mut Tally) -> io::Result<String> {
     let before = *tally;
     if let Some(place) = first_fault(alloc, row, tally)? {

@@ -16,7 +16,8 @@ pub enum Verdict {
     Refused(Refusal),
 }
 
-/// A binary in pieces of one byte, with an empty piece behind each.
+/// A binary in pieces of one byte, with an empty piece behind each. No clause: it is of these rows alone, and
+/// other pieces would give other answers than those of `stdout` only where a cut is judged wrongly.
 pub fn spread(alloc: Global, binary: &[u8]) -> Result<Vec<&[u8]>, AllocError> {
     let mut pieces = Vec::new(alloc);
     for piece in binary.chunks(1) {
