@@ -10,12 +10,12 @@ use Rattle.wm_syntax.specs.declared.why.Why.TheVariants as why
 use Rattle.wm_decode.specs.declared.machine.Machine.{Machine}
 use Rattle.wm_decode.specs.declared.machine.Machine.TheVariants as machine
 use Rattle.wm_decode.specs.declared.machine.InCustom.TheVariants as custom
-use Rattle.wm_decode.specs.declared.member.SectionKind.{SectionKind}
-use Rattle.wm_decode.specs.declared.member.InMember.TheVariants as at
-use Rattle.wm_decode.specs.declared.in_body.InBody.{InBody}
-use Rattle.wm_decode.specs.declared.indices.InIndices.{InIndices}
-use Rattle.wm_decode.specs.declared.short_steps.Stepped.{Stepped}
-use Rattle.wm_decode.specs.declared.short_steps.Place.{Place}
+use Rattle.wm_decode.specs.declared.machine.member.SectionKind.{SectionKind}
+use Rattle.wm_decode.specs.declared.machine.member.InMember.TheVariants as at
+use Rattle.wm_decode.specs.declared.shortcuts.in_body.InBody.{InBody}
+use Rattle.wm_decode.specs.declared.shortcuts.indices.InIndices.{InIndices}
+use Rattle.wm_decode.specs.declared.shortcuts.short_steps.Stepped.{Stepped}
+use Rattle.wm_decode.specs.declared.shortcuts.short_steps.Place.{Place}
 use Rattle.wm_decode.specs.declared.shortcuts.Shortcut.{Shortcut}
 use Rattle.wm_decode.specs.Items.{Item, data_byte}
 use Rattle.wm_decode.specs.Sinks.{Taken, all_taken, and_then}

@@ -14,10 +14,10 @@ use Rattle.wm_decode.specs.declared.machine.Machine.{Machine}
 use Rattle.wm_decode.specs.declared.machine.Machine.TheVariants as machine
 use Rattle.wm_decode.specs.declared.machine.Event.{Event}
 use Rattle.wm_decode.specs.declared.machine.Event.TheVariants as event
-use Rattle.wm_decode.specs.declared.member.SectionKind.{SectionKind}
-use Rattle.wm_decode.specs.declared.member.SectionKind.TheVariants as section_kind
-use Rattle.wm_decode.specs.declared.member.InMember.{InMember}
-use Rattle.wm_decode.specs.declared.member.InMember.TheVariants as at
+use Rattle.wm_decode.specs.declared.machine.member.SectionKind.{SectionKind}
+use Rattle.wm_decode.specs.declared.machine.member.SectionKind.TheVariants as section_kind
+use Rattle.wm_decode.specs.declared.machine.member.InMember.{InMember}
+use Rattle.wm_decode.specs.declared.machine.member.InMember.TheVariants as at
 use Rattle.wm_decode.specs.exact.Members.{section_kind_of, member_at_start}
 use Rattle.wm_decode.specs.exact.MemberSteps.{on_number, member_step}
 use Rattle.wm_decode.specs.exact.Steps.{custom_step, machine_in_custom, machine_in_member, machine_after_count, machine_after_paired_count, count_more, after_count, begun_section, machine_if_rising, section_start, machine_in_contents, after_size, custom_size, step_of}

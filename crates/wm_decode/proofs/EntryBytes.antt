@@ -12,13 +12,13 @@ use Rattle.wm_decode.specs.declared.machine.Plain.{Plain}
 use Rattle.wm_decode.specs.declared.machine.Plain.TheVariants as plain
 use Rattle.wm_decode.specs.declared.machine.Event.{Event}
 use Rattle.wm_decode.specs.declared.machine.Event.TheVariants as event
-use Rattle.wm_decode.specs.declared.reading.Reading.{Reading}
-use Rattle.wm_decode.specs.declared.reading.Reading.TheVariants.{More, Done, Bad}
-use Rattle.wm_decode.specs.declared.values.InRun.TheVariants as run
-use Rattle.wm_decode.specs.declared.member.InEntry.{InEntry}
-use Rattle.wm_decode.specs.declared.member.InEntry.TheVariants as entry
-use Rattle.wm_decode.specs.declared.expressions.InExpression.{InExpression}
-use Rattle.wm_decode.specs.declared.expressions.InExpression.TheVariants as expression
+use Rattle.wm_decode.specs.declared.step.reading.Reading.{Reading}
+use Rattle.wm_decode.specs.declared.step.reading.Reading.TheVariants.{More, Done, Bad}
+use Rattle.wm_decode.specs.declared.step.values.InRun.TheVariants as run
+use Rattle.wm_decode.specs.declared.machine.member.InEntry.{InEntry}
+use Rattle.wm_decode.specs.declared.machine.member.InEntry.TheVariants as entry
+use Rattle.wm_decode.specs.declared.step.expressions.InExpression.{InExpression}
+use Rattle.wm_decode.specs.declared.step.expressions.InExpression.TheVariants as expression
 use Rattle.wm_decode.specs.Items.{Item, locals, body_op, outside, entry as in_entry, closing, Mark, Marks}
 use Rattle.wm_decode.specs.MarkedForms.{MarkedForm, Empty, Then, Times, Leaf, Vector, Counted, Sized, Entry, nothing_at, in_zone, entry_marks, outside_mark}
 use Rattle.wm_decode.specs.Grammar.{Run, Expression}

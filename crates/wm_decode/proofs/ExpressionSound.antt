@@ -14,11 +14,11 @@ use Rattle.wm_syntax.specs.inner.Numbers.{Partial}
 use Rattle.wm_syntax.specs.exact.Reading.{fresh, unsigned_push}
 use Rattle.wm_syntax.specs.Profiles.{IsOpOf}
 use Rattle.wm_syntax.specs.Instructions.{SpellsOp}
-use Rattle.wm_decode.specs.declared.reading.Reading.{Reading}
-use Rattle.wm_decode.specs.declared.reading.Reading.TheVariants.{More, Done, Bad}
-use Rattle.wm_decode.specs.declared.ops.InOp.{InOp}
-use Rattle.wm_decode.specs.declared.expressions.InExpression.{InExpression}
-use Rattle.wm_decode.specs.declared.expressions.InExpression.TheVariants as expression
+use Rattle.wm_decode.specs.declared.step.reading.Reading.{Reading}
+use Rattle.wm_decode.specs.declared.step.reading.Reading.TheVariants.{More, Done, Bad}
+use Rattle.wm_decode.specs.declared.step.ops.InOp.{InOp}
+use Rattle.wm_decode.specs.declared.step.expressions.InExpression.{InExpression}
+use Rattle.wm_decode.specs.declared.step.expressions.InExpression.TheVariants as expression
 use Rattle.wm_decode.specs.Items.{Item, Marks}
 use Rattle.wm_decode.specs.MarkedForms.{MarkedForm, marks_ending}
 use Rattle.wm_decode.specs.Grammar.{EachOp}

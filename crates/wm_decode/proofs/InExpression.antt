@@ -8,13 +8,13 @@ use Rattle.wm_syntax.specs.declared.instructions.Op.{Op}
 use Rattle.wm_syntax.specs.declared.types.ValType.{ValType}
 use Rattle.wm_syntax.specs.declared.types.ValType.TheVariants.{I32}
 use Rattle.wm_syntax.specs.declared.why.Why.TheVariants as why
-use Rattle.wm_decode.specs.declared.member.SectionKind.{SectionKind}
-use Rattle.wm_decode.specs.declared.member.InMember.{InMember}
-use Rattle.wm_decode.specs.declared.member.InMember.TheVariants as at
-use Rattle.wm_decode.specs.declared.member.InEntry.{InEntry}
-use Rattle.wm_decode.specs.declared.member.InEntry.TheVariants as entry
-use Rattle.wm_decode.specs.declared.expressions.InExpression.{InExpression as Place}
-use Rattle.wm_decode.specs.declared.expressions.InExpression.TheVariants as expression
+use Rattle.wm_decode.specs.declared.machine.member.SectionKind.{SectionKind}
+use Rattle.wm_decode.specs.declared.machine.member.InMember.{InMember}
+use Rattle.wm_decode.specs.declared.machine.member.InMember.TheVariants as at
+use Rattle.wm_decode.specs.declared.machine.member.InEntry.{InEntry}
+use Rattle.wm_decode.specs.declared.machine.member.InEntry.TheVariants as entry
+use Rattle.wm_decode.specs.declared.step.expressions.InExpression.{InExpression as Place}
+use Rattle.wm_decode.specs.declared.step.expressions.InExpression.TheVariants as expression
 use Rattle.wm_decode.specs.declared.machine.Event.{Event}
 use Rattle.wm_decode.specs.declared.machine.Event.TheVariants as event
 use Rattle.wm_decode.specs.declared.machine.Machine.{Machine}
@@ -31,8 +31,8 @@ use Rattle.std.specs.Str.{is_utf8}
 use Rattle.std.proofs.Math.Pow.{pow_mono}
 use Rattle.std.proofs.lemmas.Bool.{cond_both}
 use Rattle.std.proofs.lemmas.Nat.{pow_pos}
-use Rattle.wm_decode.specs.declared.values.InRun.{InRun}
-use Rattle.wm_decode.specs.declared.values.InRun.TheVariants as run_at
+use Rattle.wm_decode.specs.declared.step.values.InRun.{InRun}
+use Rattle.wm_decode.specs.declared.step.values.InRun.TheVariants as run_at
 use Rattle.wm_decode.specs.exact.Members.{id_of}
 use Rattle.wm_decode.specs.Grammar.{Module, Run, Expression, loose}
 use Rattle.wm_decode.specs.MarkedForms.{MarkedForm, Then, Times, Leaf, Sized, marks_ending, entry_marks, outside_mark}

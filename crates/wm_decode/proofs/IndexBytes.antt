@@ -12,16 +12,16 @@ use Rattle.wm_decode.specs.declared.machine.Machine.TheVariants as machine
 use Rattle.wm_decode.specs.declared.machine.Event.{Event}
 use Rattle.wm_decode.specs.declared.machine.Event.TheVariants as event
 use Rattle.wm_decode.specs.declared.machine.Plain.TheVariants as plain
-use Rattle.wm_decode.specs.declared.member.SectionKind.{SectionKind}
-use Rattle.wm_decode.specs.declared.member.SectionKind.TheVariants as section_kind
-use Rattle.wm_decode.specs.declared.member.InMember.TheVariants as at
-use Rattle.wm_decode.specs.declared.member.IndexOf.TheVariants as index_of
-use Rattle.wm_decode.specs.declared.member.InEntry.TheVariants as entry
+use Rattle.wm_decode.specs.declared.machine.member.SectionKind.{SectionKind}
+use Rattle.wm_decode.specs.declared.machine.member.SectionKind.TheVariants as section_kind
+use Rattle.wm_decode.specs.declared.machine.member.InMember.TheVariants as at
+use Rattle.wm_decode.specs.declared.machine.member.IndexOf.TheVariants as index_of
+use Rattle.wm_decode.specs.declared.machine.member.InEntry.TheVariants as entry
 use Rattle.wm_syntax.specs.declared.instructions.Op.TheVariants as op
-use Rattle.wm_decode.specs.declared.expressions.InExpression.TheVariants as expression
-use Rattle.wm_decode.specs.declared.indices.IndexList.{IndexList}
-use Rattle.wm_decode.specs.declared.indices.IndexList.TheVariants as list
-use Rattle.wm_decode.specs.declared.indices.InIndices.{InIndices}
+use Rattle.wm_decode.specs.declared.step.expressions.InExpression.TheVariants as expression
+use Rattle.wm_decode.specs.declared.shortcuts.indices.IndexList.{IndexList}
+use Rattle.wm_decode.specs.declared.shortcuts.indices.IndexList.TheVariants as list
+use Rattle.wm_decode.specs.declared.shortcuts.indices.InIndices.{InIndices}
 use Rattle.wm_decode.specs.declared.refusal.Refusal.{Refusal}
 use Rattle.wm_decode.specs.Items.{Item}
 use Rattle.wm_decode.specs.Sinks.{and_then, all_taken}

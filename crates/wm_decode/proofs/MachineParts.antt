@@ -14,8 +14,8 @@ use Rattle.wm_syntax.specs.declared.types.ValType.{ValType}
 use Rattle.wm_decode.specs.declared.machine.NameKind.{NameKind}
 use Rattle.wm_decode.specs.declared.machine.Event.{Event}
 use Rattle.wm_decode.specs.declared.machine.Event.TheVariants as event
-use Rattle.wm_decode.specs.declared.reading.Reading.{Reading}
-use Rattle.wm_decode.specs.declared.reading.Reading.TheVariants.{More, Done, Bad}
+use Rattle.wm_decode.specs.declared.step.reading.Reading.{Reading}
+use Rattle.wm_decode.specs.declared.step.reading.Reading.TheVariants.{More, Done, Bad}
 use Rattle.wm_decode.specs.Items.{Item, outside}
 use Rattle.wm_decode.specs.MarkedForms.{MarkedForm, Empty, Byte, Then, Leaf, Counted, marks_ending, outside_mark}
 use Rattle.wm_decode.specs.Grammar.{ValueType}

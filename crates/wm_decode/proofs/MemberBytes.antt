@@ -9,25 +9,25 @@ use Rattle.wm_decode.specs.declared.machine.NameKind.TheVariants as name
 use Rattle.wm_decode.specs.declared.machine.Plain.TheVariants as plain
 use Rattle.wm_decode.specs.declared.machine.Event.{Event}
 use Rattle.wm_decode.specs.declared.machine.Event.TheVariants as event
-use Rattle.wm_decode.specs.declared.values.InLimits.TheVariants as limits
-use Rattle.wm_decode.specs.declared.values.InTableType.TheVariants as table
-use Rattle.wm_decode.specs.declared.values.InImportDesc.TheVariants as import_desc_at
-use Rattle.wm_decode.specs.declared.values.InExportDesc.TheVariants as target
-use Rattle.wm_decode.specs.declared.values.InValue.TheVariants as value
-use Rattle.wm_decode.specs.declared.member.SectionKind.{SectionKind}
-use Rattle.wm_decode.specs.declared.member.SectionKind.TheVariants as section_kind
-use Rattle.wm_decode.specs.declared.member.IndexOf.{IndexOf}
-use Rattle.wm_decode.specs.declared.member.IndexOf.TheVariants as index
-use Rattle.wm_decode.specs.declared.member.ConstantOf.{ConstantOf}
-use Rattle.wm_decode.specs.declared.member.ConstantOf.TheVariants as constant
-use Rattle.wm_decode.specs.declared.member.LengthOf.{LengthOf}
-use Rattle.wm_decode.specs.declared.member.LengthOf.TheVariants as length_of
-use Rattle.wm_decode.specs.declared.member.InEntry.{InEntry}
-use Rattle.wm_decode.specs.declared.member.InEntry.TheVariants as entry
-use Rattle.wm_decode.specs.declared.member.InMember.{InMember}
-use Rattle.wm_decode.specs.declared.member.InMember.TheVariants as at
-use Rattle.wm_decode.specs.declared.expressions.InExpression.{InExpression}
-use Rattle.wm_decode.specs.declared.expressions.InExpression.TheVariants as expression
+use Rattle.wm_decode.specs.declared.step.values.InLimits.TheVariants as limits
+use Rattle.wm_decode.specs.declared.step.values.InTableType.TheVariants as table
+use Rattle.wm_decode.specs.declared.step.values.InImportDesc.TheVariants as import_desc_at
+use Rattle.wm_decode.specs.declared.step.values.InExportDesc.TheVariants as target
+use Rattle.wm_decode.specs.declared.step.values.InValue.TheVariants as value
+use Rattle.wm_decode.specs.declared.machine.member.SectionKind.{SectionKind}
+use Rattle.wm_decode.specs.declared.machine.member.SectionKind.TheVariants as section_kind
+use Rattle.wm_decode.specs.declared.machine.member.IndexOf.{IndexOf}
+use Rattle.wm_decode.specs.declared.machine.member.IndexOf.TheVariants as index
+use Rattle.wm_decode.specs.declared.machine.member.ConstantOf.{ConstantOf}
+use Rattle.wm_decode.specs.declared.machine.member.ConstantOf.TheVariants as constant
+use Rattle.wm_decode.specs.declared.machine.member.LengthOf.{LengthOf}
+use Rattle.wm_decode.specs.declared.machine.member.LengthOf.TheVariants as length_of
+use Rattle.wm_decode.specs.declared.machine.member.InEntry.{InEntry}
+use Rattle.wm_decode.specs.declared.machine.member.InEntry.TheVariants as entry
+use Rattle.wm_decode.specs.declared.machine.member.InMember.{InMember}
+use Rattle.wm_decode.specs.declared.machine.member.InMember.TheVariants as at
+use Rattle.wm_decode.specs.declared.step.expressions.InExpression.{InExpression}
+use Rattle.wm_decode.specs.declared.step.expressions.InExpression.TheVariants as expression
 use Rattle.wm_decode.specs.Items.{Item, new_type, param, result_count, one_result, import_desc, function, table as table_part, memory as memory_part, global as global_part, const_op, start as start_part, element_function, body, body_op, data_byte, Zone, outside, entry as in_entry, closing, Mark}
 use Rattle.wm_decode.specs.MarkedForms.{MarkedForm, Empty, Byte, Then, Times, Leaf, Number, Vector, Index, Counted, Name, Sized, Entry, nothing_at, marks_ending, in_zone, outside_mark}
 use Rattle.wm_decode.specs.Sections.{SpellsDesc}

@@ -14,8 +14,8 @@ use Rattle.wm_decode.specs.declared.machine.InCustom.TheVariants as custom
 use Rattle.wm_decode.specs.declared.machine.Machine.{Machine}
 use Rattle.wm_decode.specs.declared.machine.Machine.TheVariants as machine
 use Rattle.wm_decode.specs.declared.refusal.Refusal.{Refusal}
-use Rattle.wm_decode.specs.declared.state.Decoder.{Decoder}
-use Rattle.wm_decode.specs.declared.member.InMember.TheVariants as at
+use Rattle.wm_decode.specs.declared.decoder.state.Decoder.{Decoder}
+use Rattle.wm_decode.specs.declared.machine.member.InMember.TheVariants as at
 use Rattle.wm_decode.specs.exact.MemberSteps.{on_number}
 use Rattle.wm_decode.specs.inner.Decoders.{refusal_of_decoder}
 use Rattle.wm_decode.specs.exact.Live.{IsRefused, MayRunOutAtByte, MayTake, live_with, live_or_refused}

@@ -11,10 +11,10 @@ use Rattle.wm_syntax.specs.declared.instructions.Simple.{Simple}
 use Rattle.wm_syntax.specs.declared.instructions.Simple.TheVariants as s
 use Rattle.wm_syntax.specs.declared.instructions.Op.{Op}
 use Rattle.wm_syntax.specs.declared.instructions.Op.TheVariants as op
-use Rattle.wm_syntax.specs.declared.op_class.Immediates.{Immediates}
-use Rattle.wm_syntax.specs.declared.op_class.Immediates.TheVariants as k
-use Rattle.wm_syntax.specs.declared.op_class.OpClass.{OpClass}
-use Rattle.wm_syntax.specs.declared.op_class.OpClass.TheVariants.{Plain, With, Float, None}
+use Rattle.wm_syntax.specs.declared.instructions.op_class.Immediates.{Immediates}
+use Rattle.wm_syntax.specs.declared.instructions.op_class.Immediates.TheVariants as k
+use Rattle.wm_syntax.specs.declared.instructions.op_class.OpClass.{OpClass}
+use Rattle.wm_syntax.specs.declared.instructions.op_class.OpClass.TheVariants.{Plain, With, Float, None}
 use Rattle.wm_syntax.specs.declared.numbers.Step.{Step}
 use Rattle.wm_syntax.specs.declared.numbers.Step.TheVariants as step
 use Rattle.wm_syntax.specs.inner.Numbers.{Partial, SignedRest}
@@ -30,18 +30,18 @@ use Rattle.wm_syntax.specs.Instructions.{SpellsOp, SpellsImmediates}
 use Rattle.wm_syntax.proofs.Readers.{Goes as NumberGoes, unsigned_law, signed_law, signed_fresh}
 use Rattle.wm_syntax.proofs.SpelledRanges.{begins_with}
 use Rattle.wm_syntax.proofs.FirstBytes.{found_under, begins_under}
-use Rattle.wm_decode.specs.declared.reading.Reading.{Reading}
-use Rattle.wm_decode.specs.declared.reading.Reading.TheVariants.{More, Done, Bad}
-use Rattle.wm_decode.specs.declared.ops.Opening.{Opening}
-use Rattle.wm_decode.specs.declared.ops.Opening.TheVariants as opening
-use Rattle.wm_decode.specs.declared.ops.Indexed.{Indexed}
-use Rattle.wm_decode.specs.declared.ops.Indexed.TheVariants as indexed
-use Rattle.wm_decode.specs.declared.ops.Sizing.{Sizing}
-use Rattle.wm_decode.specs.declared.ops.Sizing.TheVariants as sizing
-use Rattle.wm_decode.specs.declared.ops.LoadOrStore.{LoadOrStore}
-use Rattle.wm_decode.specs.declared.ops.LoadOrStore.TheVariants as accesses
-use Rattle.wm_decode.specs.declared.ops.InOp.{InOp}
-use Rattle.wm_decode.specs.declared.ops.InOp.TheVariants as at
+use Rattle.wm_decode.specs.declared.step.reading.Reading.{Reading}
+use Rattle.wm_decode.specs.declared.step.reading.Reading.TheVariants.{More, Done, Bad}
+use Rattle.wm_decode.specs.declared.step.ops.Opening.{Opening}
+use Rattle.wm_decode.specs.declared.step.ops.Opening.TheVariants as opening
+use Rattle.wm_decode.specs.declared.step.ops.Indexed.{Indexed}
+use Rattle.wm_decode.specs.declared.step.ops.Indexed.TheVariants as indexed
+use Rattle.wm_decode.specs.declared.step.ops.Sizing.{Sizing}
+use Rattle.wm_decode.specs.declared.step.ops.Sizing.TheVariants as sizing
+use Rattle.wm_decode.specs.declared.step.ops.LoadOrStore.{LoadOrStore}
+use Rattle.wm_decode.specs.declared.step.ops.LoadOrStore.TheVariants as accesses
+use Rattle.wm_decode.specs.declared.step.ops.InOp.{InOp}
+use Rattle.wm_decode.specs.declared.step.ops.InOp.TheVariants as at
 use Rattle.wm_decode.specs.exact.OpSteps.{block_op, index_op, call_op, memory_op, const_32_op, const_64_op, access_op, on_answer, immediates, first_step, block_step, closing_step, op_push}
 use Rattle.wm_decode.specs.exact.Readings.{Goes}
 use Rattle.wm_decode.proofs.FirstBytes.{head_same, tail_same, not_nil}

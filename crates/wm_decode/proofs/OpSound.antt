@@ -7,10 +7,10 @@ use Rattle.wm_syntax.specs.declared.why.Why.{Why}
 use Rattle.wm_syntax.specs.declared.why.Why.TheVariants as why
 use Rattle.wm_syntax.specs.declared.instructions.Op.{Op}
 use Rattle.wm_syntax.specs.declared.instructions.Op.TheVariants as op
-use Rattle.wm_syntax.specs.declared.op_class.OpClass.{OpClass}
-use Rattle.wm_syntax.specs.declared.op_class.OpClass.TheVariants.{Plain, With, Float, None}
-use Rattle.wm_syntax.specs.declared.op_class.Immediates.{Immediates}
-use Rattle.wm_syntax.specs.declared.op_class.Immediates.TheVariants as k
+use Rattle.wm_syntax.specs.declared.instructions.op_class.OpClass.{OpClass}
+use Rattle.wm_syntax.specs.declared.instructions.op_class.OpClass.TheVariants.{Plain, With, Float, None}
+use Rattle.wm_syntax.specs.declared.instructions.op_class.Immediates.{Immediates}
+use Rattle.wm_syntax.specs.declared.instructions.op_class.Immediates.TheVariants as k
 use Rattle.wm_syntax.specs.declared.numbers.Step.{Step}
 use Rattle.wm_syntax.specs.declared.numbers.Step.TheVariants as step
 use Rattle.wm_syntax.specs.inner.Numbers.{Partial, SignedRest}
@@ -18,11 +18,11 @@ use Rattle.wm_syntax.specs.exact.Reading.{fresh, last_signed, unsigned_push, sig
 use Rattle.wm_syntax.specs.exact.ByteTable.{class_under}
 use Rattle.wm_syntax.proofs.Room.{room_more}
 use Rattle.wm_syntax.proofs.FirstBytes.{float_under}
-use Rattle.wm_decode.specs.declared.reading.Reading.{Reading}
-use Rattle.wm_decode.specs.declared.reading.Reading.TheVariants.{More, Done, Bad}
-use Rattle.wm_decode.specs.declared.ops.Opening.{Opening}
-use Rattle.wm_decode.specs.declared.ops.InOp.{InOp}
-use Rattle.wm_decode.specs.declared.ops.InOp.TheVariants as at
+use Rattle.wm_decode.specs.declared.step.reading.Reading.{Reading}
+use Rattle.wm_decode.specs.declared.step.reading.Reading.TheVariants.{More, Done, Bad}
+use Rattle.wm_decode.specs.declared.step.ops.Opening.{Opening}
+use Rattle.wm_decode.specs.declared.step.ops.InOp.{InOp}
+use Rattle.wm_decode.specs.declared.step.ops.InOp.TheVariants as at
 use Rattle.wm_decode.specs.exact.OpSteps.{block_op, index_op, call_op, memory_op, const_32_op, const_64_op, on_answer, immediates, first_step, block_step, closing_step, op_push}
 use Rattle.wm_decode.proofs.Numbers.{Left}
 use Rattle.wm_decode.proofs.OpRest.{at_offset, op_rest}

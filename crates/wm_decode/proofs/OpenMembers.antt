@@ -13,32 +13,32 @@ use Rattle.wm_syntax.specs.declared.modules.ExportKind.TheVariants as kind
 use Rattle.wm_decode.specs.declared.machine.NameKind.{NameKind}
 use Rattle.wm_decode.specs.declared.machine.NameKind.TheVariants as name
 use Rattle.wm_decode.specs.declared.machine.Plain.TheVariants as plain
-use Rattle.wm_decode.specs.declared.values.InLimits.{InLimits}
-use Rattle.wm_decode.specs.declared.values.InLimits.TheVariants as limits
-use Rattle.wm_decode.specs.declared.values.InTableType.{InTableType}
-use Rattle.wm_decode.specs.declared.values.InTableType.TheVariants as table
-use Rattle.wm_decode.specs.declared.values.InGlobalType.{InGlobalType}
-use Rattle.wm_decode.specs.declared.values.InGlobalType.TheVariants as global
-use Rattle.wm_decode.specs.declared.values.InImportDesc.{InImportDesc}
-use Rattle.wm_decode.specs.declared.values.InImportDesc.TheVariants as import
-use Rattle.wm_decode.specs.declared.values.InExportDesc.{InExportDesc}
-use Rattle.wm_decode.specs.declared.values.InExportDesc.TheVariants as target
-use Rattle.wm_decode.specs.declared.values.InRun.{InRun}
-use Rattle.wm_decode.specs.declared.values.InRun.TheVariants as run
-use Rattle.wm_decode.specs.declared.values.InValue.{InValue}
-use Rattle.wm_decode.specs.declared.values.InValue.TheVariants as value
-use Rattle.wm_decode.specs.declared.member.SectionKind.{SectionKind}
-use Rattle.wm_decode.specs.declared.member.IndexOf.{IndexOf}
-use Rattle.wm_decode.specs.declared.member.IndexOf.TheVariants as index
-use Rattle.wm_decode.specs.declared.member.ConstantOf.{ConstantOf}
-use Rattle.wm_decode.specs.declared.member.ConstantOf.TheVariants as constant
-use Rattle.wm_decode.specs.declared.member.LengthOf.{LengthOf}
-use Rattle.wm_decode.specs.declared.member.LengthOf.TheVariants as length_of
-use Rattle.wm_decode.specs.declared.member.InEntry.{InEntry}
-use Rattle.wm_decode.specs.declared.member.InEntry.TheVariants as entry
-use Rattle.wm_decode.specs.declared.member.InMember.{InMember}
-use Rattle.wm_decode.specs.declared.member.InMember.TheVariants as at
-use Rattle.wm_decode.specs.declared.expressions.InExpression.{InExpression}
+use Rattle.wm_decode.specs.declared.step.values.InLimits.{InLimits}
+use Rattle.wm_decode.specs.declared.step.values.InLimits.TheVariants as limits
+use Rattle.wm_decode.specs.declared.step.values.InTableType.{InTableType}
+use Rattle.wm_decode.specs.declared.step.values.InTableType.TheVariants as table
+use Rattle.wm_decode.specs.declared.step.values.InGlobalType.{InGlobalType}
+use Rattle.wm_decode.specs.declared.step.values.InGlobalType.TheVariants as global
+use Rattle.wm_decode.specs.declared.step.values.InImportDesc.{InImportDesc}
+use Rattle.wm_decode.specs.declared.step.values.InImportDesc.TheVariants as import
+use Rattle.wm_decode.specs.declared.step.values.InExportDesc.{InExportDesc}
+use Rattle.wm_decode.specs.declared.step.values.InExportDesc.TheVariants as target
+use Rattle.wm_decode.specs.declared.step.values.InRun.{InRun}
+use Rattle.wm_decode.specs.declared.step.values.InRun.TheVariants as run
+use Rattle.wm_decode.specs.declared.step.values.InValue.{InValue}
+use Rattle.wm_decode.specs.declared.step.values.InValue.TheVariants as value
+use Rattle.wm_decode.specs.declared.machine.member.SectionKind.{SectionKind}
+use Rattle.wm_decode.specs.declared.machine.member.IndexOf.{IndexOf}
+use Rattle.wm_decode.specs.declared.machine.member.IndexOf.TheVariants as index
+use Rattle.wm_decode.specs.declared.machine.member.ConstantOf.{ConstantOf}
+use Rattle.wm_decode.specs.declared.machine.member.ConstantOf.TheVariants as constant
+use Rattle.wm_decode.specs.declared.machine.member.LengthOf.{LengthOf}
+use Rattle.wm_decode.specs.declared.machine.member.LengthOf.TheVariants as length_of
+use Rattle.wm_decode.specs.declared.machine.member.InEntry.{InEntry}
+use Rattle.wm_decode.specs.declared.machine.member.InEntry.TheVariants as entry
+use Rattle.wm_decode.specs.declared.machine.member.InMember.{InMember}
+use Rattle.wm_decode.specs.declared.machine.member.InMember.TheVariants as at
+use Rattle.wm_decode.specs.declared.step.expressions.InExpression.{InExpression}
 use Rattle.wm_decode.specs.Items.{Item, new_type, param, result_count, one_result, import_desc, global as global_part, const_op, element_function, export, locals, body, body_op, data_byte, Marks}
 use Rattle.wm_decode.specs.MarkedForms.{MarkedForm, Empty, Byte as OneByte, Then, Times, Leaf, Number, Vector, Index, Counted, Name, Sized, Filled, Entry, nothing_at, marks_ending, name_byte_marks, name_marks, entry_marks, outside_mark}
 use Rattle.wm_decode.specs.Sections.{SpellsDesc}

@@ -14,15 +14,15 @@ use Rattle.wm_decode.specs.declared.machine.Event.{Event}
 use Rattle.wm_decode.specs.declared.machine.Event.TheVariants as event
 use Rattle.wm_decode.specs.declared.machine.Plain.{Plain}
 use Rattle.wm_decode.specs.declared.machine.Plain.TheVariants as plain
-use Rattle.wm_decode.specs.declared.member.SectionKind.{SectionKind}
-use Rattle.wm_decode.specs.declared.member.SectionKind.TheVariants as section_kind
-use Rattle.wm_decode.specs.declared.member.InMember.{InMember}
-use Rattle.wm_decode.specs.declared.member.InMember.TheVariants as at
-use Rattle.wm_decode.specs.declared.member.InEntry.TheVariants as entry
-use Rattle.wm_decode.specs.declared.expressions.InExpression.TheVariants as expression
-use Rattle.wm_decode.specs.declared.ops.InOp.{InOp}
-use Rattle.wm_decode.specs.declared.ops.InOp.TheVariants as in_op
-use Rattle.wm_decode.specs.declared.short_steps.Stepped.{Stepped}
+use Rattle.wm_decode.specs.declared.machine.member.SectionKind.{SectionKind}
+use Rattle.wm_decode.specs.declared.machine.member.SectionKind.TheVariants as section_kind
+use Rattle.wm_decode.specs.declared.machine.member.InMember.{InMember}
+use Rattle.wm_decode.specs.declared.machine.member.InMember.TheVariants as at
+use Rattle.wm_decode.specs.declared.machine.member.InEntry.TheVariants as entry
+use Rattle.wm_decode.specs.declared.step.expressions.InExpression.TheVariants as expression
+use Rattle.wm_decode.specs.declared.step.ops.InOp.{InOp}
+use Rattle.wm_decode.specs.declared.step.ops.InOp.TheVariants as in_op
+use Rattle.wm_decode.specs.declared.shortcuts.short_steps.Stepped.{Stepped}
 use Rattle.wm_decode.specs.Items.{Item}
 use Rattle.wm_decode.specs.Sinks.{and_then}
 use Rattle.wm_decode.specs.exact.Steps.{step_of, machine_in_member}

@@ -20,22 +20,22 @@ use Rattle.wm_decode.specs.Sections.{SpellsDesc, SpellsRun, kind_byte}
 use Rattle.wm_decode.specs.exact.Readings.{Goes}
 use Rattle.wm_decode.specs.declared.machine.Plain.{Plain}
 use Rattle.wm_decode.specs.declared.machine.Plain.TheVariants as plain
-use Rattle.wm_decode.specs.declared.reading.Reading.{Reading}
-use Rattle.wm_decode.specs.declared.reading.Reading.TheVariants.{More, Done, Bad}
-use Rattle.wm_decode.specs.declared.values.InLimits.{InLimits}
-use Rattle.wm_decode.specs.declared.values.InLimits.TheVariants as limits
-use Rattle.wm_decode.specs.declared.values.InTableType.{InTableType}
-use Rattle.wm_decode.specs.declared.values.InTableType.TheVariants as table
-use Rattle.wm_decode.specs.declared.values.InGlobalType.{InGlobalType}
-use Rattle.wm_decode.specs.declared.values.InGlobalType.TheVariants as global
-use Rattle.wm_decode.specs.declared.values.InImportDesc.{InImportDesc}
-use Rattle.wm_decode.specs.declared.values.InImportDesc.TheVariants as import
-use Rattle.wm_decode.specs.declared.values.InExportDesc.{InExportDesc}
-use Rattle.wm_decode.specs.declared.values.InExportDesc.TheVariants as target
-use Rattle.wm_decode.specs.declared.values.InRun.{InRun}
-use Rattle.wm_decode.specs.declared.values.InRun.TheVariants as run
-use Rattle.wm_decode.specs.declared.values.InValue.{InValue}
-use Rattle.wm_decode.specs.declared.values.InValue.TheVariants as value
+use Rattle.wm_decode.specs.declared.step.reading.Reading.{Reading}
+use Rattle.wm_decode.specs.declared.step.reading.Reading.TheVariants.{More, Done, Bad}
+use Rattle.wm_decode.specs.declared.step.values.InLimits.{InLimits}
+use Rattle.wm_decode.specs.declared.step.values.InLimits.TheVariants as limits
+use Rattle.wm_decode.specs.declared.step.values.InTableType.{InTableType}
+use Rattle.wm_decode.specs.declared.step.values.InTableType.TheVariants as table
+use Rattle.wm_decode.specs.declared.step.values.InGlobalType.{InGlobalType}
+use Rattle.wm_decode.specs.declared.step.values.InGlobalType.TheVariants as global
+use Rattle.wm_decode.specs.declared.step.values.InImportDesc.{InImportDesc}
+use Rattle.wm_decode.specs.declared.step.values.InImportDesc.TheVariants as import
+use Rattle.wm_decode.specs.declared.step.values.InExportDesc.{InExportDesc}
+use Rattle.wm_decode.specs.declared.step.values.InExportDesc.TheVariants as target
+use Rattle.wm_decode.specs.declared.step.values.InRun.{InRun}
+use Rattle.wm_decode.specs.declared.step.values.InRun.TheVariants as run
+use Rattle.wm_decode.specs.declared.step.values.InValue.{InValue}
+use Rattle.wm_decode.specs.declared.step.values.InValue.TheVariants as value
 use Rattle.wm_decode.specs.exact.ValueSteps.{read_number, map_reading, after_min, flag_step, limits_push, table_type_push, value_type_of, read_type, var_step, global_type_push, desc_kind_step, desc_push, target_kind_step, target_push, run_push, value_push}
 use Rattle.wm_decode.proofs.FirstBytes.{head_same, tail_same, not_nil}
 use Rattle.wm_decode.proofs.Numbers.{Left, NumberNext, number_next, left_nil, fresh_number}

@@ -5,7 +5,7 @@ use Rattle.wm_syntax.specs.declared.why.Why.{Why}
 use Rattle.wm_syntax.specs.declared.why.Why.TheVariants as why
 use Rattle.wm_syntax.specs.OpClasses.{is_float}
 use Rattle.wm_decode.specs.declared.refusal.Refusal.{Refusal}
-use Rattle.wm_decode.specs.declared.state.Decoder.{Decoder}
+use Rattle.wm_decode.specs.declared.decoder.state.Decoder.{Decoder}
 use Rattle.wm_decode.specs.Items.{Item, Marks, items_at}
 use Rattle.wm_decode.specs.Grammar.{Items}
 use Rattle.wm_decode.specs.Sinks.{all_taken}

@@ -3,7 +3,7 @@ use Rattle.std.specs.Prelude.{ℕ, zero, suc, ◌≡◌, ◌<◌, List, [], ◌�
 use Rattle.wm_syntax.specs.declared.profile.Profile.{Profile}
 use Rattle.wm_syntax.specs.declared.why.Why.{Why}
 use Rattle.wm_syntax.specs.declared.types.ValType.{ValType}
-use Rattle.wm_decode.specs.declared.state.Decoder.{Decoder}
+use Rattle.wm_decode.specs.declared.decoder.state.Decoder.{Decoder}
 use Rattle.wm_decode.specs.Items.{Item, locals, Zone, outside, name, entry, closing, Marks, items_at}
 use Rattle.wm_decode.specs.Grammar.{Module, Items, loose}
 use Rattle.wm_decode.specs.Sinks.{all_taken}

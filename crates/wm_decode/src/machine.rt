@@ -6,12 +6,14 @@ ghost use Rattle.wm_decode.specs.exact.Runs.{plain_item};
 ghost use Rattle.wm_decode.specs.exact.Live.{refusal_in_machine};
 
 use crate::item::Item;
-use crate::member::{InMember, SectionKind};
+use crate::machine::member::{InMember, SectionKind};
 use wm_syntax::instructions::Op;
 use wm_syntax::modules::{ExportKind, ImportDesc};
 use wm_syntax::numbers::Num32;
 use wm_syntax::types::{GlobalType, Limits, ValType};
 use wm_syntax::why::Why;
+
+pub(crate) mod member;
 
 /// Which name is read.
 #[derive(Clone, Copy)]

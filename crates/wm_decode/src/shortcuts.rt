@@ -6,18 +6,25 @@
 ghost use Rattle.std.specs.Prelude.{◌≡◌, ◌<◌, None, length, min};
 ghost use Rattle.wm_decode.specs.exact.Shortcuts.{Advances};
 
-use crate::expressions::InExpression;
-use crate::in_body::InBody;
-use crate::indices::indices;
+use crate::decoder::names::give_bytes;
+use crate::machine::member::{InEntry, InMember, SectionKind};
 use crate::machine::{InCustom, Machine, refusal_of};
-use crate::member::{InEntry, InMember, SectionKind};
-use crate::member_step::data_or_over;
-use crate::names::give_bytes;
-use crate::short_bytes::short;
+use crate::shortcuts::in_body::InBody;
+use crate::shortcuts::indices::indices;
+use crate::shortcuts::short_bytes::short;
+use crate::shortcuts::whole_ops::take_ops;
 use crate::sink::Sink;
+use crate::step::expressions::InExpression;
 use crate::step::framed;
-use crate::whole_ops::take_ops;
+use crate::step::members::data_or_over;
 use wm_syntax::why::Why;
+
+pub(crate) mod in_body;
+pub(crate) mod indices;
+pub(crate) mod short_bytes;
+pub(crate) mod short_steps;
+pub(crate) mod whole_numbers;
+pub(crate) mod whole_ops;
 
 /// What a shortcut did.
 #[derive(Clone, Copy)]

@@ -7,12 +7,20 @@ ghost use Rattle.wm_decode.specs.exact.Steps.{section_start, machine_after_count
 ghost use Rattle.wm_decode.specs.exact.Steps.{count_step, after_size, size_step, custom_size};
 ghost use Rattle.wm_decode.specs.exact.Steps.{custom_size_step, header_step, step_of};
 
+use crate::machine::member::{InMember, SectionKind};
 use crate::machine::{Event, InCustom, Machine, NameKind};
-use crate::member::{InMember, SectionKind};
-use crate::member_step::{begin, member_byte};
+use crate::step::members::{begin, member_byte};
 use wm_syntax::numbers::{Num32, Step};
 use wm_syntax::profile::Profile;
 use wm_syntax::why::Why;
+
+pub(crate) mod entries;
+pub(crate) mod expressions;
+pub(crate) mod members;
+pub(crate) mod ops;
+pub(crate) mod reading;
+pub(crate) mod types;
+pub(crate) mod values;
 
 fn no_custom(why: Why) -> (InCustom, Event)
     ensures { result ≡ (InCustom.Failed why, Event.Nothing) }

@@ -5,9 +5,9 @@ use Rattle.std.specs.List.{list_all}
 use Rattle.std.proofs.lemmas.Bool.{cond-true, cond-false, cond_both, eqb-true, ne_eqb, and_parts, or_cases, false_from_ne_true}
 use Rattle.std.proofs.lemmas.List.{append-nil}
 use Rattle.wm_read.specs.Tokens.{Token, open_paren, close_paren, string, atom, is_space, is_id_char, Blank, LineComment, TokenText, Ends, String}
-use Rattle.wm_read.specs.declared.scan.Class.{Class}
-use Rattle.wm_read.specs.declared.scan.Class.TheVariants as k
-use Rattle.wm_read.specs.declared.scan.Mode.TheVariants as m
+use Rattle.wm_read.specs.declared.tokens.scan.Class.{Class}
+use Rattle.wm_read.specs.declared.tokens.scan.Class.TheVariants as k
+use Rattle.wm_read.specs.declared.tokens.scan.Mode.TheVariants as m
 use Rattle.wm_read.specs.exact.Scan.{class_of, ahead, ahead_by, ahead_semicolon, ahead_opening, Ahead, no_more, blank, first, fault, after_line, after_comment, blank_or_fault, string_or_fault, string_in, atom_in, is_atom, starts_atom}
 use Rattle.wm_read.proofs.Comments.{comment_more, comment_front, line_more, line_last, line_front, LineFront}
 use Rattle.wm_read.proofs.Atoms.{atom_more, atom_front, EndsAtom, IsKind, kind_found, kind_more}

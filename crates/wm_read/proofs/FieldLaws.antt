@@ -14,8 +14,8 @@ use Rattle.wm_read.specs.Tokens.{Token, open_paren, close_paren, string, atom}
 use Rattle.wm_read.specs.Identifiers.{Id, WritesId, Resolves}
 use Rattle.wm_read.specs.Written.{Names, Paren}
 use Rattle.wm_read.specs.Fields.{Field, type_field, import_field, function_field, table_field, memory_field, global_field, export_field, start_field, element_field, segment_field, HasDistinct, WritesConst, WritesDesc, WritesExport, WritesField, WritesGlobalType, WritesLimits, WritesName, WritesOffset, WritesSignature, WritesStrings, WritesTableType, module_of}
-use Rattle.wm_read.specs.declared.field_words.FieldKind.{FieldKind}
-use Rattle.wm_read.specs.declared.field_words.FieldKind.TheVariants as kind
+use Rattle.wm_read.specs.declared.fields.words.FieldKind.{FieldKind}
+use Rattle.wm_read.specs.declared.fields.words.FieldKind.TheVariants as kind
 use Rattle.wm_read.specs.exact.Reading.{atom_at, id_at, index_of, labels_at, then_at}
 use Rattle.wm_read.specs.exact.TypeUses.{begins_open}
 use Rattle.wm_read.specs.exact.Signatures.{signature_at}

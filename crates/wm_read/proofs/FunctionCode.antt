@@ -12,7 +12,7 @@ use Rattle.wm_read.specs.Identifiers.{Ids}
 use Rattle.wm_read.specs.Written.{Named, Names, Scope, ids_of, types_of}
 use Rattle.wm_read.specs.declared.faults.TextWhy.{TextWhy}
 use Rattle.wm_read.specs.declared.faults.TextWhy.TheVariants as why
-use Rattle.wm_read.specs.declared.named.Named.{Named as Code}
+use Rattle.wm_read.specs.declared.code.named.Named.{Named as Code}
 use Rattle.wm_read.specs.exact.Reading.{◌>>=◌, ops_at}
 use Rattle.wm_read.specs.exact.TypeUses.{begins_open, instructions_at, unnamed}
 use Rattle.wm_read.specs.exact.Fields.{all_new, function_at, function_by, function_of, is_function, is_new}

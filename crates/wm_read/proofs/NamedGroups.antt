@@ -10,7 +10,7 @@ use Rattle.wm_read.specs.Identifiers.{WritesId}
 use Rattle.wm_read.specs.Written.{Named, Paren, WritesGroup, WritesGroups, WritesType, type_text}
 use Rattle.wm_read.specs.exact.Reading.{◌>>=◌, made, is_id, atom_at, type_of, paren_at, many_at}
 use Rattle.wm_read.specs.exact.TypeUses.{types_at, begins_group, unnamed, inside_at, named_groups_at, named_at, joined_named, adding_named}
-use Rattle.wm_read.specs.declared.named.Named.{Named as Code}
+use Rattle.wm_read.specs.declared.code.named.Named.{Named as Code}
 use Rattle.std.specs.Prelude.{Result}
 use Rattle.wm_read.specs.declared.faults.TextFault.{TextFault}
 use Rattle.wm_read.specs.inner.Views.{Reads}

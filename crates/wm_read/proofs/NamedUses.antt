@@ -13,7 +13,7 @@ use Rattle.wm_read.specs.exact.Reading.{◌>>=◌, made, atom_at, index_of, then
 use Rattle.wm_read.specs.exact.TypeUses.{begins_group, fits, groups_at, joined, named_at, no_types, unnamed}
 use Rattle.wm_read.specs.exact.NamedUses.{none_written, used_of, used_at, results_at, use_parts, named_use_at}
 use Rattle.wm_read.specs.declared.faults.TextWhy.{TextWhy}
-use Rattle.wm_read.specs.declared.named.Named.{Named as Code}
+use Rattle.wm_read.specs.declared.code.named.Named.{Named as Code}
 use Rattle.wm_read.specs.inner.Named.{named_of, named_list}
 use Rattle.wm_read.specs.inner.Views.{Fails}
 use Rattle.wm_read.proofs.Basics.{chosen, same_some}

@@ -14,8 +14,8 @@ use Rattle.wm_syntax.specs.declared.profile.Profile.TheVariants.{One as First, T
 use Rattle.wm_syntax.specs.Profiles.{HasInstructions, IsOpOf}
 use Rattle.wm_syntax.proofs.ProfileLaws.{by_ops}
 use Rattle.wm_read.specs.Tokens.{Token}
-use Rattle.wm_read.specs.declared.blocks.Opening.{Opening}
-use Rattle.wm_read.specs.declared.blocks.Opening.TheVariants.{Block, Loop, If}
+use Rattle.wm_read.specs.declared.code.blocks.Opening.{Opening}
+use Rattle.wm_read.specs.declared.code.blocks.Opening.TheVariants.{Block, Loop, If}
 use Rattle.wm_read.specs.Identifiers.{Id}
 use Rattle.wm_read.specs.Written.{Scope, WritesInstruction, WritesInstructions, WritesElse, Opens, Closes}
 use Rattle.wm_read.specs.inner.Pieces.{Open, Opened, labels, Piece, plain, jump, opens, middle, closes, after, piece_ops, pieces_ops, opening_word, opening_op, is_if, IsPieceOf, WritesPiece, WritesPieces, WritesOps}

@@ -15,10 +15,10 @@ use Rattle.wm_syntax.specs.declared.instructions.Op.{Op}
 use Rattle.wm_syntax.specs.declared.instructions.Op.TheVariants as op
 use Rattle.wm_syntax.specs.declared.instructions.Simple.{Simple}
 use Rattle.wm_syntax.specs.declared.instructions.Simple.TheVariants as s
-use Rattle.wm_syntax.specs.declared.op_class.Immediates.{Immediates}
-use Rattle.wm_syntax.specs.declared.op_class.Immediates.TheVariants as k
-use Rattle.wm_syntax.specs.declared.op_class.OpClass.{OpClass}
-use Rattle.wm_syntax.specs.declared.op_class.OpClass.TheVariants as class
+use Rattle.wm_syntax.specs.declared.instructions.op_class.Immediates.{Immediates}
+use Rattle.wm_syntax.specs.declared.instructions.op_class.Immediates.TheVariants as k
+use Rattle.wm_syntax.specs.declared.instructions.op_class.OpClass.{OpClass}
+use Rattle.wm_syntax.specs.declared.instructions.op_class.OpClass.TheVariants as class
 use Rattle.wm_syntax.specs.declared.profile.Profile.{Profile}
 use Rattle.wm_syntax.specs.declared.profile.Profile.TheVariants.{One as First, Two as Second}
 use Rattle.wm_syntax.specs.Opcodes.{opcode, load, store}
@@ -26,8 +26,8 @@ use Rattle.wm_syntax.specs.OpClasses.{class_of, IsClassOfOp}
 use Rattle.wm_syntax.specs.Profiles.{HasSimple, IsOpOf}
 use Rattle.wm_read.specs.Tokens.{Token, open_paren, close_paren, string, atom, is_lower}
 use Rattle.wm_read.proofs.Basics.{chosen, same_some}
-use Rattle.wm_read.specs.declared.blocks.Opening.{Opening}
-use Rattle.wm_read.specs.declared.blocks.Opening.TheVariants.{Block, Loop, If}
+use Rattle.wm_read.specs.declared.code.blocks.Opening.{Opening}
+use Rattle.wm_read.specs.declared.code.blocks.Opening.TheVariants.{Block, Loop, If}
 use Rattle.wm_read.specs.Identifiers.{Id, Ids, AreDistinct, WritesId, Resolves, ResolvesLabel}
 use Rattle.wm_syntax.specs.OpNames.{op_name}
 use Rattle.wm_syntax.specs.exact.NameTable.{class_named, immediates_name}

@@ -6,10 +6,10 @@ use Rattle.std.proofs.lemmas.Bool.{cond-true, cond-false, cond_both, eqb-true, n
 use Rattle.std.proofs.lemmas.List.{take_at}
 use Rattle.wm_syntax.specs.Spelling.{Exactly, Each, ◌▸◌}
 use Rattle.wm_read.specs.Tokens.{digit_value, Digits, value, is_plain, is_scalar, short_escapes, Element, String, string}
-use Rattle.wm_read.specs.declared.scan.Mode.{Mode}
-use Rattle.wm_read.specs.declared.scan.Mode.TheVariants as m
-use Rattle.wm_read.specs.declared.scan.Step.{Step}
-use Rattle.wm_read.specs.declared.scan.Step.TheVariants.{On, Byte, Scalar, End, Bad}
+use Rattle.wm_read.specs.declared.tokens.scan.Mode.{Mode}
+use Rattle.wm_read.specs.declared.tokens.scan.Mode.TheVariants as m
+use Rattle.wm_read.specs.declared.tokens.scan.Step.{Step}
+use Rattle.wm_read.specs.declared.tokens.scan.Step.TheVariants.{On, Byte, Scalar, End, Bad}
 use Rattle.wm_read.specs.exact.Scan.{with_digit, short_escape, first_escape, capped, string_step, string_next, string_in, giving, given_next, given_in, rest_of, first, string_or_fault}
 use Rattle.wm_read.proofs.Basics.{same_some, both_are}
 use Rattle.wm_read.proofs.Atoms.{digit_goes, not_underscore, DigitsLeft, digit_before, any_after}

@@ -8,20 +8,28 @@ ghost use Rattle.wm_read.specs.inner.Blocks.{names_of};
 ghost use Rattle.wm_read.specs.inner.Fields.{field_of};
 ghost use Rattle.wm_read.specs.inner.Views.{Reads};
 
-use crate::constants::{constant, constant_end, offset};
+use crate::code::functions::function;
+use crate::code::operands::{begins_index, close, id, index, open};
 use crate::faults::TextFault;
-use crate::field_strings::{bytes, name};
-use crate::field_types::{global_type, limits, table_type};
-use crate::field_words::{FieldKind, field_kind};
-use crate::functions::function;
-use crate::identifiers::{Names, Space};
-use crate::items::{desc, item};
-use crate::operands::{begins_index, close, id, index, open};
-use crate::signatures::signature;
+use crate::fields::constants::{constant, constant_end, offset};
+use crate::fields::items::{desc, item};
+use crate::fields::signatures::signature;
+use crate::fields::strings::{bytes, name};
+use crate::fields::types::{global_type, limits, table_type};
+use crate::fields::words::{FieldKind, field_kind};
+use crate::names::identifiers::{Names, Space};
 use std::alloc::Global;
 use wm_syntax::modules::{Element, Export, Function, GlobalDef, Import, Segment};
 use wm_syntax::profile::Profile;
 use wm_syntax::types::{FuncType, Limits};
+
+pub(crate) mod constants;
+pub(crate) mod items;
+pub(crate) mod lists;
+pub(crate) mod signatures;
+pub(crate) mod strings;
+pub(crate) mod types;
+pub(crate) mod words;
 
 /// A field, with the identifier that it defines.
 #[derive(Debug, Drop)]

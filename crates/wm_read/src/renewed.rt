@@ -8,7 +8,7 @@ ghost use Rattle.std.specs.Str.{bytes_eq};
 ghost use Rattle.wm_read.specs.inner.Lexemes.{token_of};
 ghost use Rattle.wm_read.specs.inner.Renewed.{Renewed, filled_words, part_for};
 
-use crate::lexeme::{Found, Lexeme, ahead};
+use crate::tokens::lexeme::{Found, Lexeme, ahead};
 use std::alloc::{AllocError, Global};
 
 /// Whether an atom is this word.

@@ -3,10 +3,11 @@
 mod readers;
 pub(crate) mod shown;
 
-use crate::{
-    bodies, check, constants, faults, field_lists, field_strings, field_types, functions, heads,
-    identifiers, items, lexeme, named, named_uses, pieces, signatures, text,
-};
+use crate::code::{bodies, functions, named, named_uses, pieces};
+use crate::fields::{constants, items, lists, signatures, strings, types};
+use crate::names::{heads, identifiers};
+use crate::tokens::lexeme;
+use crate::{check, faults, text};
 use readers::answer;
 use std::alloc::Global;
 use std::process::Abort;
@@ -19,9 +20,9 @@ const FIRST: [&str; 21] = [
     check::tests::MODULES,
     constants::tests::CONSTANTS,
     faults::tests::WORDS,
-    field_lists::tests::LISTS,
-    field_strings::tests::STRINGS,
-    field_types::tests::TYPES,
+    lists::tests::LISTS,
+    strings::tests::STRINGS,
+    types::tests::TYPES,
     functions::tests::FUNCTIONS,
     functions::tests::LOCALS,
     heads::tests::SPACES,

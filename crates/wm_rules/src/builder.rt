@@ -13,9 +13,9 @@ ghost use Rattle.wm_syntax.specs.Values.{value_of};
 use std::alloc::Global;
 use std::mem;
 use wm_decode::{Item, Sink};
-use wm_syntax::body_builder::{BodyBuilder, BodyFault};
 use wm_syntax::instructions::{Op, Simple};
-use wm_syntax::locals::Locals;
+use wm_syntax::modules::body_builder::{BodyBuilder, BodyFault};
+use wm_syntax::modules::locals::Locals;
 use wm_syntax::modules::{
     Element, Export, ExportKind, Function, GlobalDef, Import, ImportDesc, Module, Segment,
 };

@@ -1,15 +1,15 @@
 -- What a builder of bodies keeps goes with where its ops stand.
 use Rattle.std.proofs.Common.{◌≡◌, ℕ, zero, suc, ◌+◌, ◌-◌, Bool, true, false, List, [], ◌∷◌, ◌++◌, length, map, take, Option, Some, None, refl, sym, ap, ◌∙◌, append_assoc, append-nil, length-append, arith, slice_get, is_some, Result, Ok, Err, ◌≢◌}
 use Rattle.std.specs.Prelude.{slice_set, OnOk, OnErr}
-use Rattle.wm_syntax.specs.declared.body_builder.BodyFault.{BodyFault}
-use Rattle.wm_syntax.specs.declared.body_builder.BodyFault.TheVariants as fault
+use Rattle.wm_syntax.specs.declared.modules.body_builder.BodyFault.{BodyFault}
+use Rattle.wm_syntax.specs.declared.modules.body_builder.BodyFault.TheVariants as fault
 use Rattle.std.proofs.Math.Seq.{set-append_seam}
 use Rattle.wm_syntax.specs.declared.types.ValType.{ValType}
 use Rattle.wm_syntax.specs.declared.instructions.Op.{Op}
 use Rattle.wm_syntax.specs.declared.instructions.Op.TheVariants as op
 use Rattle.wm_syntax.specs.Instructions.{Instruction, Instructions, none, snoc, simple, table, block, loop, choice, instruction_ops, ops_of, else_ops}
-use Rattle.wm_syntax.specs.declared.body_builder.Opened.{Opened}
-use Rattle.wm_syntax.specs.declared.body_builder.Opened.TheVariants as opened
+use Rattle.wm_syntax.specs.declared.modules.body_builder.Opened.{Opened}
+use Rattle.wm_syntax.specs.declared.modules.body_builder.Opened.TheVariants as opened
 use Rattle.wm_syntax.specs.inner.Building.{Open, in_block, in_loop, in_first, in_second, Place, at, labels, closed, divided, placed, outer_ops, ops_at, place_in}
 use Rattle.wm_syntax.specs.inner.Codes.{place_again}
 use Rattle.wm_syntax.specs.inner.Builders.{Keeps, kinds, open_at, labels_at, last_of, is_first, is_else, is_open, fits, last_set, next_ops, next_open, next_left}

@@ -13,8 +13,8 @@ use Rattle.wm_syntax.specs.declared.instructions.Numeric.TheVariants.{Test, Comp
 use Rattle.wm_syntax.specs.declared.instructions.SignExtension.TheVariants.{I32From8}
 use Rattle.wm_syntax.specs.declared.instructions.LoadOp.TheVariants.{I32Load}
 use Rattle.wm_syntax.specs.declared.instructions.StoreOp.TheVariants.{I32Store}
-use Rattle.wm_syntax.specs.declared.op_class.OpClass.{OpClass}
-use Rattle.wm_syntax.specs.declared.op_class.OpClass.TheVariants.{Plain, With, Float, None}
+use Rattle.wm_syntax.specs.declared.instructions.op_class.OpClass.{OpClass}
+use Rattle.wm_syntax.specs.declared.instructions.op_class.OpClass.TheVariants.{Plain, With, Float, None}
 use Rattle.wm_syntax.specs.declared.profile.Profile.{Profile}
 use Rattle.wm_syntax.specs.declared.profile.Profile.TheVariants.{One, Two}
 use Rattle.wm_syntax.specs.Opcodes.{opcode}

@@ -8,7 +8,7 @@ use Rattle.wm_syntax.specs.OpClasses.{class_of}
 use Rattle.wm_syntax.specs.exact.ByteTable.{classes}
 use Rattle.wm_syntax.proofs.OpTable.{found_simple}
 use Rattle.wm_syntax.specs.Instructions.{SpellsSimple, SpellsImmediates}
-use Rattle.wm_syntax.specs.declared.op_class.OpClass.{OpClass}
+use Rattle.wm_syntax.specs.declared.instructions.op_class.OpClass.{OpClass}
 use Rattle.wm_syntax.specs.declared.instructions.MemArg.{MemArg}
 use Rattle.wm_syntax.specs.declared.instructions.Simple.{Simple}
 use Rattle.wm_syntax.specs.declared.instructions.Simple.TheVariants as s

@@ -6,9 +6,9 @@ use Rattle.wm_syntax.specs.declared.instructions.Simple.TheVariants as s
 use Rattle.wm_syntax.specs.declared.instructions.Op.TheVariants as op
 use Rattle.wm_syntax.specs.declared.instructions.Op.{Op}
 use Rattle.wm_syntax.specs.Opcodes.{op_code}
-use Rattle.wm_syntax.specs.declared.op_class.Immediates.TheVariants as k
-use Rattle.wm_syntax.specs.declared.op_class.OpClass.{OpClass}
-use Rattle.wm_syntax.specs.declared.op_class.OpClass.TheVariants.{Plain, With, Float, None}
+use Rattle.wm_syntax.specs.declared.instructions.op_class.Immediates.TheVariants as k
+use Rattle.wm_syntax.specs.declared.instructions.op_class.OpClass.{OpClass}
+use Rattle.wm_syntax.specs.declared.instructions.op_class.OpClass.TheVariants.{Plain, With, Float, None}
 
 -- what an op is by its first byte: the op itself, or a kind that has immediates
 abbrev pub class_of : Op → OpClass

@@ -2,6 +2,11 @@
 
 use crate::types::ValType;
 
+pub mod accesses;
+pub mod op_class;
+pub mod op_names;
+pub mod opcodes;
+
 #[derive(Clone, Copy, PartialEq, Eq, Debug)]
 pub enum Comparison {
     Eq,

@@ -4,11 +4,17 @@ ghost use Rattle.std.specs.Prelude.{◌≡◌};
 ghost use Rattle.wm_syntax.specs.Modules.{empty_module};
 ghost use Rattle.wm_syntax.specs.Values.{value_of};
 
-use crate::body::Body;
-use crate::locals::Locals;
+use crate::modules::body::Body;
+use crate::modules::locals::Locals;
 use crate::types::{Const, FuncType, GlobalType, Limits};
 use std::alloc::Global;
 use std::marker::Model;
+
+pub mod body;
+pub mod body_builder;
+pub mod equality;
+pub mod locals;
+pub mod ranges;
 
 /// What an import brings in (section 2.5.11). Of a function it is the index of its type.
 #[derive(Clone, Copy, PartialEq, Eq, Debug)]

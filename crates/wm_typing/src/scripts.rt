@@ -4,9 +4,9 @@
 use std::alloc::Global;
 use std::fmt::Debug;
 use std::process::Abort;
+use wm_syntax::instructions::op_class::{Immediates, OpClass};
+use wm_syntax::instructions::op_names::op_named;
 use wm_syntax::instructions::{LoadOp, MemArg, Op, Simple};
-use wm_syntax::op_class::{Immediates, OpClass};
-use wm_syntax::op_names::op_named;
 use wm_syntax::profile::Profile;
 use wm_syntax::types::ValType;
 

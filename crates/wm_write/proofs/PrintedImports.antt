@@ -6,7 +6,7 @@ use Rattle.std.proofs.lemmas.List.Elements.{filter_map-append}
 use Rattle.wm_syntax.specs.declared.modules.ImportDesc.{ImportDesc}
 use Rattle.wm_syntax.specs.declared.modules.ImportDesc.TheVariants.{Func, Table, Memory, Global}
 use Rattle.wm_syntax.specs.Modules.{Import, function_of, global_of, memory_of, table_of}
-use Rattle.wm_write.specs.declared.fields.Places.{Places}
+use Rattle.wm_write.specs.declared.print.fields.Places.{Places}
 use Rattle.wm_write.specs.Layout.{Word, import_field, import_fields, places, words_text}
 use Rattle.wm_write.specs.exact.Printing.{IsCountable, one_more}
 use Rattle.wm_write.specs.exact.Writing.{Sent, State}

@@ -28,7 +28,7 @@ use Rattle.wm_syntax.specs.Modules.{function_of, table_of, memory_of, global_of}
 use Rattle.wm_syntax.specs.Opcodes.{load, opcode, store}
 use Rattle.wm_syntax.specs.OpNames.{op_name}
 use Rattle.wm_syntax.specs.Types.{Signature}
-use Rattle.wm_write.specs.declared.fields.Places.{Places}
+use Rattle.wm_write.specs.declared.print.fields.Places.{Places}
 
 -- What a word means, one token (section 6.2.2): a parenthesis, a string by its bytes, or an
 -- atom by its characters.

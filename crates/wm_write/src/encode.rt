@@ -7,17 +7,22 @@ ghost use Rattle.wm_write.specs.Canon.{Fits, canon};
 ghost use Rattle.wm_write.specs.exact.Measures.{Measures};
 ghost use Rattle.wm_write.specs.exact.Writing.{Sent};
 
-use crate::parts::{
+use crate::encode::parts::{
     ElementEntry, ExportEntry, FunctionEntry, GlobalEntry, ImportEntry, MemoryEntry, SegmentEntry,
     TableEntry, TypeEntry,
 };
+use crate::encode::sections::{put_code_section, put_section, put_start_section};
+use crate::encode::sizes::Sizes;
 use crate::put::put_bytes;
-use crate::sections::{put_code_section, put_section, put_start_section};
-use crate::sizes::Sizes;
 use thiserror::Error;
 use wm_syntax::io::Dest;
 use wm_syntax::modules::Module;
 
+pub(crate) mod code;
+pub(crate) mod parts;
+pub(crate) mod sections;
+pub(crate) mod sizes;
+pub(crate) mod spell;
 #[cfg(test)]
 mod tests;
 

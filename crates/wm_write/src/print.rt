@@ -11,7 +11,7 @@ ghost use Rattle.wm_write.specs.exact.Aligns.{is_function_printable};
 ghost use Rattle.wm_write.specs.exact.Printing.{is_empty_module};
 ghost use Rattle.wm_write.specs.exact.Writing.{Sent};
 
-use crate::fields::{
+use crate::print::fields::{
     ElementField, ExportField, FunctionField, GlobalField, MemoryField, SegmentField, TableField,
     TypeField, put_fields, put_imports, put_start,
 };
@@ -21,8 +21,11 @@ use wm_rules::Checked;
 use wm_syntax::io::Dest;
 use wm_syntax::modules::Module;
 
+pub(crate) mod body_lines;
+pub(crate) mod fields;
 #[cfg(test)]
 mod tests;
+pub(crate) mod words;
 
 /// Why a module was not printed whole.
 #[derive(Clone, Copy, PartialEq, Eq, Debug, Error)]

@@ -4,7 +4,7 @@ ghost use Rattle.std.specs.Prelude.{◌≡◌, List, flat_map, length, ℕ};
 ghost use Rattle.wm_write.specs.Canon.{listed, sized, u32_bytes};
 ghost use Rattle.wm_write.specs.exact.Writing.{Sent, capped};
 
-use crate::spell::number;
+use crate::encode::spell::number;
 use std::io;
 use wm_syntax::io::{Dest, put_all};
 

@@ -10,7 +10,7 @@ use Rattle.wm_decode.specs.declared.machine.Machine.TheVariants as machine
 use Rattle.wm_decode.specs.declared.machine.Event.{Event}
 use Rattle.wm_decode.specs.declared.machine.Event.TheVariants as event
 use Rattle.wm_decode.specs.declared.refusal.Refusal.{Refusal}
-use Rattle.wm_decode.specs.declared.state.Decoder.{Decoder}
+use Rattle.wm_decode.specs.declared.decoder.state.Decoder.{Decoder}
 use Rattle.wm_syntax.specs.declared.profile.Profile.{Profile}
 use Rattle.wm_decode.specs.Items.{Item, data_byte}
 use Rattle.wm_decode.specs.Sinks.{and_then}

@@ -15,27 +15,27 @@ use Rattle.wm_decode.specs.declared.machine.Plain.{Plain}
 use Rattle.wm_decode.specs.declared.machine.Plain.TheVariants as plain
 use Rattle.wm_decode.specs.declared.machine.Event.{Event}
 use Rattle.wm_decode.specs.declared.machine.Event.TheVariants as event
-use Rattle.wm_decode.specs.declared.reading.Reading.{Reading}
-use Rattle.wm_decode.specs.declared.reading.Reading.TheVariants.{More, Done, Bad}
-use Rattle.wm_decode.specs.declared.values.InGlobalType.{InGlobalType}
-use Rattle.wm_decode.specs.declared.values.InImportDesc.TheVariants as import
-use Rattle.wm_decode.specs.declared.values.InExportDesc.TheVariants as target
-use Rattle.wm_decode.specs.declared.values.InRun.{InRun}
-use Rattle.wm_decode.specs.declared.values.InRun.TheVariants as run
-use Rattle.wm_decode.specs.declared.values.InValue.{InValue}
-use Rattle.wm_decode.specs.declared.values.InValue.TheVariants as value
-use Rattle.wm_decode.specs.declared.member.IndexOf.{IndexOf}
-use Rattle.wm_decode.specs.declared.member.IndexOf.TheVariants as index
-use Rattle.wm_decode.specs.declared.member.ConstantOf.{ConstantOf}
-use Rattle.wm_decode.specs.declared.member.ConstantOf.TheVariants as constant
-use Rattle.wm_decode.specs.declared.member.LengthOf.{LengthOf}
-use Rattle.wm_decode.specs.declared.member.LengthOf.TheVariants as length_of
-use Rattle.wm_decode.specs.declared.member.InEntry.{InEntry}
-use Rattle.wm_decode.specs.declared.member.InEntry.TheVariants as entry
-use Rattle.wm_decode.specs.declared.member.InMember.{InMember}
-use Rattle.wm_decode.specs.declared.member.InMember.TheVariants as at
-use Rattle.wm_decode.specs.declared.expressions.InExpression.{InExpression}
-use Rattle.wm_decode.specs.declared.expressions.InExpression.TheVariants as expression
+use Rattle.wm_decode.specs.declared.step.reading.Reading.{Reading}
+use Rattle.wm_decode.specs.declared.step.reading.Reading.TheVariants.{More, Done, Bad}
+use Rattle.wm_decode.specs.declared.step.values.InGlobalType.{InGlobalType}
+use Rattle.wm_decode.specs.declared.step.values.InImportDesc.TheVariants as import
+use Rattle.wm_decode.specs.declared.step.values.InExportDesc.TheVariants as target
+use Rattle.wm_decode.specs.declared.step.values.InRun.{InRun}
+use Rattle.wm_decode.specs.declared.step.values.InRun.TheVariants as run
+use Rattle.wm_decode.specs.declared.step.values.InValue.{InValue}
+use Rattle.wm_decode.specs.declared.step.values.InValue.TheVariants as value
+use Rattle.wm_decode.specs.declared.machine.member.IndexOf.{IndexOf}
+use Rattle.wm_decode.specs.declared.machine.member.IndexOf.TheVariants as index
+use Rattle.wm_decode.specs.declared.machine.member.ConstantOf.{ConstantOf}
+use Rattle.wm_decode.specs.declared.machine.member.ConstantOf.TheVariants as constant
+use Rattle.wm_decode.specs.declared.machine.member.LengthOf.{LengthOf}
+use Rattle.wm_decode.specs.declared.machine.member.LengthOf.TheVariants as length_of
+use Rattle.wm_decode.specs.declared.machine.member.InEntry.{InEntry}
+use Rattle.wm_decode.specs.declared.machine.member.InEntry.TheVariants as entry
+use Rattle.wm_decode.specs.declared.machine.member.InMember.{InMember}
+use Rattle.wm_decode.specs.declared.machine.member.InMember.TheVariants as at
+use Rattle.wm_decode.specs.declared.step.expressions.InExpression.{InExpression}
+use Rattle.wm_decode.specs.declared.step.expressions.InExpression.TheVariants as expression
 use Rattle.wm_decode.specs.exact.ValueSteps.{value_type_of, global_type_push, run_push, value_push}
 use Rattle.wm_decode.specs.exact.ExpressionSteps.{start as begin_expression, expression_step}
 

@@ -3,15 +3,15 @@
 use Rattle.std.specs.Prelude.{ℕ, zero, suc, Option, Some, None}
 use Rattle.wm_syntax.specs.exact.Reading.{fresh}
 use Rattle.wm_decode.specs.declared.machine.NameKind.TheVariants as name
-use Rattle.wm_decode.specs.declared.values.InLimits.TheVariants as limits
-use Rattle.wm_decode.specs.declared.values.InTableType.TheVariants as table
-use Rattle.wm_decode.specs.declared.values.InGlobalType.TheVariants as global
-use Rattle.wm_decode.specs.declared.values.InValue.TheVariants as value
-use Rattle.wm_decode.specs.declared.member.SectionKind.{SectionKind}
-use Rattle.wm_decode.specs.declared.member.SectionKind.TheVariants as section_kind
-use Rattle.wm_decode.specs.declared.member.IndexOf.TheVariants as index
-use Rattle.wm_decode.specs.declared.member.InMember.{InMember}
-use Rattle.wm_decode.specs.declared.member.InMember.TheVariants as at
+use Rattle.wm_decode.specs.declared.step.values.InLimits.TheVariants as limits
+use Rattle.wm_decode.specs.declared.step.values.InTableType.TheVariants as table
+use Rattle.wm_decode.specs.declared.step.values.InGlobalType.TheVariants as global
+use Rattle.wm_decode.specs.declared.step.values.InValue.TheVariants as value
+use Rattle.wm_decode.specs.declared.machine.member.SectionKind.{SectionKind}
+use Rattle.wm_decode.specs.declared.machine.member.SectionKind.TheVariants as section_kind
+use Rattle.wm_decode.specs.declared.machine.member.IndexOf.TheVariants as index
+use Rattle.wm_decode.specs.declared.machine.member.InMember.{InMember}
+use Rattle.wm_decode.specs.declared.machine.member.InMember.TheVariants as at
 
 abbrev pub id_of : SectionKind → ℕ
 id_of section_kind.Type = 1

@@ -13,22 +13,22 @@ use Rattle.wm_syntax.specs.declared.instructions.MemArg.{MemArg}
 use Rattle.wm_syntax.specs.declared.instructions.Simple.TheVariants as s
 use Rattle.wm_syntax.specs.declared.instructions.Op.{Op}
 use Rattle.wm_syntax.specs.declared.instructions.Op.TheVariants as op
-use Rattle.wm_syntax.specs.declared.op_class.Immediates.{Immediates}
-use Rattle.wm_syntax.specs.declared.op_class.Immediates.TheVariants as k
-use Rattle.wm_syntax.specs.declared.op_class.OpClass.{OpClass}
-use Rattle.wm_syntax.specs.declared.op_class.OpClass.TheVariants.{Plain, With, Float, None}
-use Rattle.wm_decode.specs.declared.reading.Reading.{Reading}
-use Rattle.wm_decode.specs.declared.reading.Reading.TheVariants.{More, Done, Bad}
-use Rattle.wm_decode.specs.declared.ops.Opening.{Opening}
-use Rattle.wm_decode.specs.declared.ops.Opening.TheVariants as opening
-use Rattle.wm_decode.specs.declared.ops.Indexed.{Indexed}
-use Rattle.wm_decode.specs.declared.ops.Indexed.TheVariants as indexed
-use Rattle.wm_decode.specs.declared.ops.Sizing.{Sizing}
-use Rattle.wm_decode.specs.declared.ops.Sizing.TheVariants as sizing
-use Rattle.wm_decode.specs.declared.ops.LoadOrStore.{LoadOrStore}
-use Rattle.wm_decode.specs.declared.ops.LoadOrStore.TheVariants as accesses
-use Rattle.wm_decode.specs.declared.ops.InOp.{InOp}
-use Rattle.wm_decode.specs.declared.ops.InOp.TheVariants as at
+use Rattle.wm_syntax.specs.declared.instructions.op_class.Immediates.{Immediates}
+use Rattle.wm_syntax.specs.declared.instructions.op_class.Immediates.TheVariants as k
+use Rattle.wm_syntax.specs.declared.instructions.op_class.OpClass.{OpClass}
+use Rattle.wm_syntax.specs.declared.instructions.op_class.OpClass.TheVariants.{Plain, With, Float, None}
+use Rattle.wm_decode.specs.declared.step.reading.Reading.{Reading}
+use Rattle.wm_decode.specs.declared.step.reading.Reading.TheVariants.{More, Done, Bad}
+use Rattle.wm_decode.specs.declared.step.ops.Opening.{Opening}
+use Rattle.wm_decode.specs.declared.step.ops.Opening.TheVariants as opening
+use Rattle.wm_decode.specs.declared.step.ops.Indexed.{Indexed}
+use Rattle.wm_decode.specs.declared.step.ops.Indexed.TheVariants as indexed
+use Rattle.wm_decode.specs.declared.step.ops.Sizing.{Sizing}
+use Rattle.wm_decode.specs.declared.step.ops.Sizing.TheVariants as sizing
+use Rattle.wm_decode.specs.declared.step.ops.LoadOrStore.{LoadOrStore}
+use Rattle.wm_decode.specs.declared.step.ops.LoadOrStore.TheVariants as accesses
+use Rattle.wm_decode.specs.declared.step.ops.InOp.{InOp}
+use Rattle.wm_decode.specs.declared.step.ops.InOp.TheVariants as at
 
 -- ops by their immediates
 abbrev pub block_op : Opening → Option ValType → Op

@@ -1,8 +1,8 @@
 -- What a reader of a value says of a byte, beside the bytes that spell the value.
 use Rattle.std.specs.Prelude.{◌≡◌, ℕ, []}
 use Rattle.wm_syntax.specs.Spelling.{Form}
-use Rattle.wm_decode.specs.declared.reading.Reading.{Reading}
-use Rattle.wm_decode.specs.declared.reading.Reading.TheVariants.{More, Done, Bad}
+use Rattle.wm_decode.specs.declared.step.reading.Reading.{Reading}
+use Rattle.wm_decode.specs.declared.step.reading.Reading.TheVariants.{More, Done, Bad}
 
 -- with these further bytes the value is spelled
 abbrev pub Goes : {R X : Type 0} → (R → X → Form ℕ) → Reading R X → X → Form ℕ

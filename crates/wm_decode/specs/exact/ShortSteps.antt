@@ -8,10 +8,10 @@ use Rattle.wm_decode.specs.declared.machine.Event.{Event}
 use Rattle.wm_decode.specs.declared.machine.Event.TheVariants as event
 use Rattle.wm_decode.specs.declared.machine.Machine.{Machine}
 use Rattle.wm_decode.specs.declared.machine.Machine.TheVariants as machine
-use Rattle.wm_decode.specs.declared.member.SectionKind.{SectionKind}
-use Rattle.wm_decode.specs.declared.member.InMember.{InMember}
-use Rattle.wm_decode.specs.declared.short_steps.Stepped.{Stepped}
-use Rattle.wm_decode.specs.declared.short_steps.Place.{Place}
+use Rattle.wm_decode.specs.declared.machine.member.SectionKind.{SectionKind}
+use Rattle.wm_decode.specs.declared.machine.member.InMember.{InMember}
+use Rattle.wm_decode.specs.declared.shortcuts.short_steps.Stepped.{Stepped}
+use Rattle.wm_decode.specs.declared.shortcuts.short_steps.Place.{Place}
 use Rattle.wm_decode.specs.Items.{Item}
 use Rattle.wm_decode.specs.exact.Runs.{plain_item}
 use Rattle.wm_decode.specs.exact.Steps.{step_of}

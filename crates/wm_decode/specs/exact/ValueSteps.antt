@@ -17,22 +17,22 @@ use Rattle.wm_syntax.specs.declared.modules.ExportKind.{ExportKind}
 use Rattle.wm_syntax.specs.declared.modules.ExportKind.TheVariants as kind
 use Rattle.wm_decode.specs.declared.machine.Plain.{Plain}
 use Rattle.wm_decode.specs.declared.machine.Plain.TheVariants as plain
-use Rattle.wm_decode.specs.declared.reading.Reading.{Reading}
-use Rattle.wm_decode.specs.declared.reading.Reading.TheVariants.{More, Done, Bad}
-use Rattle.wm_decode.specs.declared.values.InLimits.{InLimits}
-use Rattle.wm_decode.specs.declared.values.InLimits.TheVariants as limits
-use Rattle.wm_decode.specs.declared.values.InTableType.{InTableType}
-use Rattle.wm_decode.specs.declared.values.InTableType.TheVariants as table
-use Rattle.wm_decode.specs.declared.values.InGlobalType.{InGlobalType}
-use Rattle.wm_decode.specs.declared.values.InGlobalType.TheVariants as global
-use Rattle.wm_decode.specs.declared.values.InImportDesc.{InImportDesc}
-use Rattle.wm_decode.specs.declared.values.InImportDesc.TheVariants as import
-use Rattle.wm_decode.specs.declared.values.InExportDesc.{InExportDesc}
-use Rattle.wm_decode.specs.declared.values.InExportDesc.TheVariants as target
-use Rattle.wm_decode.specs.declared.values.InRun.{InRun}
-use Rattle.wm_decode.specs.declared.values.InRun.TheVariants as run
-use Rattle.wm_decode.specs.declared.values.InValue.{InValue}
-use Rattle.wm_decode.specs.declared.values.InValue.TheVariants as value
+use Rattle.wm_decode.specs.declared.step.reading.Reading.{Reading}
+use Rattle.wm_decode.specs.declared.step.reading.Reading.TheVariants.{More, Done, Bad}
+use Rattle.wm_decode.specs.declared.step.values.InLimits.{InLimits}
+use Rattle.wm_decode.specs.declared.step.values.InLimits.TheVariants as limits
+use Rattle.wm_decode.specs.declared.step.values.InTableType.{InTableType}
+use Rattle.wm_decode.specs.declared.step.values.InTableType.TheVariants as table
+use Rattle.wm_decode.specs.declared.step.values.InGlobalType.{InGlobalType}
+use Rattle.wm_decode.specs.declared.step.values.InGlobalType.TheVariants as global
+use Rattle.wm_decode.specs.declared.step.values.InImportDesc.{InImportDesc}
+use Rattle.wm_decode.specs.declared.step.values.InImportDesc.TheVariants as import
+use Rattle.wm_decode.specs.declared.step.values.InExportDesc.{InExportDesc}
+use Rattle.wm_decode.specs.declared.step.values.InExportDesc.TheVariants as target
+use Rattle.wm_decode.specs.declared.step.values.InRun.{InRun}
+use Rattle.wm_decode.specs.declared.step.values.InRun.TheVariants as run
+use Rattle.wm_decode.specs.declared.step.values.InValue.{InValue}
+use Rattle.wm_decode.specs.declared.step.values.InValue.TheVariants as value
 
 -- what follows an answer of a number's reader
 abbrev pub read_number : {R X : Type 0} → Step ℕ × Partial → (Partial → R) → (ℕ → Reading R X) → Reading R X

@@ -15,21 +15,21 @@ use Rattle.wm_syntax.specs.declared.instructions.Op.{Op}
 use Rattle.wm_syntax.specs.declared.instructions.Op.TheVariants as op
 use Rattle.wm_decode.specs.declared.machine.Machine.{Machine}
 use Rattle.wm_decode.specs.declared.machine.Machine.TheVariants as machine
-use Rattle.wm_decode.specs.declared.member.SectionKind.{SectionKind}
-use Rattle.wm_decode.specs.declared.member.InMember.TheVariants as at
-use Rattle.wm_decode.specs.declared.member.InEntry.TheVariants as entry
-use Rattle.wm_decode.specs.declared.expressions.InExpression.TheVariants as expression
-use Rattle.wm_decode.specs.declared.in_body.InBody.{InBody}
-use Rattle.wm_decode.specs.declared.whole_ops.Read.{Read}
-use Rattle.wm_decode.specs.declared.whole_ops.Took.{Took}
-use Rattle.wm_decode.specs.declared.whole_ops.Took.TheVariants as took
-use Rattle.wm_decode.specs.declared.reading.Reading.{Reading}
-use Rattle.wm_decode.specs.declared.reading.Reading.TheVariants.{More, Done, Bad}
-use Rattle.wm_decode.specs.declared.ops.InOp.{InOp}
-use Rattle.wm_decode.specs.declared.ops.InOp.TheVariants.{First}
+use Rattle.wm_decode.specs.declared.machine.member.SectionKind.{SectionKind}
+use Rattle.wm_decode.specs.declared.machine.member.InMember.TheVariants as at
+use Rattle.wm_decode.specs.declared.machine.member.InEntry.TheVariants as entry
+use Rattle.wm_decode.specs.declared.step.expressions.InExpression.TheVariants as expression
+use Rattle.wm_decode.specs.declared.shortcuts.in_body.InBody.{InBody}
+use Rattle.wm_decode.specs.declared.shortcuts.whole_ops.Read.{Read}
+use Rattle.wm_decode.specs.declared.shortcuts.whole_ops.Took.{Took}
+use Rattle.wm_decode.specs.declared.shortcuts.whole_ops.Took.TheVariants as took
+use Rattle.wm_decode.specs.declared.step.reading.Reading.{Reading}
+use Rattle.wm_decode.specs.declared.step.reading.Reading.TheVariants.{More, Done, Bad}
+use Rattle.wm_decode.specs.declared.step.ops.InOp.{InOp}
+use Rattle.wm_decode.specs.declared.step.ops.InOp.TheVariants.{First}
 use Rattle.wm_decode.specs.Items.{Item, body_op}
 use Rattle.wm_syntax.specs.exact.ByteTable.{classes}
-use Rattle.wm_syntax.specs.declared.op_class.OpClass.{OpClass}
+use Rattle.wm_syntax.specs.declared.instructions.op_class.OpClass.{OpClass}
 use Rattle.wm_decode.specs.exact.OpSteps.{op_push, first_step}
 use Rattle.wm_decode.specs.exact.ExpressionSteps.{at_next_op, after_op}
 

@@ -8,10 +8,10 @@ use Rattle.wm_syntax.specs.declared.modules.ImportDesc.{ImportDesc}
 use Rattle.wm_syntax.specs.declared.modules.ImportDesc.TheVariants as desc
 use Rattle.wm_syntax.specs.declared.modules.ExportKind.{ExportKind}
 use Rattle.wm_syntax.specs.declared.modules.ExportKind.TheVariants as kind
-use Rattle.wm_syntax.specs.declared.op_class.Immediates.{Immediates}
-use Rattle.wm_syntax.specs.declared.op_class.Immediates.TheVariants as k
-use Rattle.wm_syntax.specs.declared.op_class.OpClass.{OpClass}
-use Rattle.wm_syntax.specs.declared.op_class.OpClass.TheVariants as class
+use Rattle.wm_syntax.specs.declared.instructions.op_class.Immediates.{Immediates}
+use Rattle.wm_syntax.specs.declared.instructions.op_class.Immediates.TheVariants as k
+use Rattle.wm_syntax.specs.declared.instructions.op_class.OpClass.{OpClass}
+use Rattle.wm_syntax.specs.declared.instructions.op_class.OpClass.TheVariants as class
 use Rattle.wm_syntax.specs.declared.profile.Profile.{Profile}
 use Rattle.wm_syntax.specs.exact.NameTable.{class_named}
 use Rattle.wm_syntax.specs.Modules.{Function}
@@ -20,8 +20,8 @@ use Rattle.wm_read.specs.Identifiers.{Id, Ids}
 use Rattle.wm_read.specs.Written.{Named, Names, types_of, ids_of}
 use Rattle.wm_read.specs.Fields.{Field, type_field, import_field, function_field, table_field, memory_field}
 use Rattle.wm_read.specs.Fields.{global_field, export_field, start_field, element_field, segment_field}
-use Rattle.wm_read.specs.declared.field_words.FieldKind.{FieldKind}
-use Rattle.wm_read.specs.declared.field_words.FieldKind.TheVariants as field
+use Rattle.wm_read.specs.declared.fields.words.FieldKind.{FieldKind}
+use Rattle.wm_read.specs.declared.fields.words.FieldKind.TheVariants as field
 use Rattle.wm_read.specs.exact.Reading.{Reader, ◌>>=◌, made, same_bytes, open_at, close_at, atom_at, then_at}
 use Rattle.wm_read.specs.exact.Reading.{paren_at, many_at, id_at, index_of, place_of, integer_of, labels_at}
 use Rattle.wm_read.specs.exact.FieldTypes.{limits_at, table_type_at, global_type_at}

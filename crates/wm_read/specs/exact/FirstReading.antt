@@ -8,8 +8,8 @@ use Rattle.wm_syntax.specs.Types.{Signature}
 use Rattle.wm_read.specs.Tokens.{Token, open_paren, close_paren, string, atom}
 use Rattle.wm_read.specs.Identifiers.{Id, Ids}
 use Rattle.wm_read.specs.Written.{Names}
-use Rattle.wm_read.specs.declared.field_words.FieldKind.{FieldKind}
-use Rattle.wm_read.specs.declared.field_words.FieldKind.TheVariants as field
+use Rattle.wm_read.specs.declared.fields.words.FieldKind.{FieldKind}
+use Rattle.wm_read.specs.declared.fields.words.FieldKind.TheVariants as field
 use Rattle.wm_read.specs.exact.Fields.{field_named, is_new, item_named, name_at, space_of}
 use Rattle.wm_read.specs.exact.Signatures.{signature_at}
 use Rattle.wm_read.specs.exact.Reading.{Reader, ◌>>=◌, made, open_at, close_at, atom_at, id_at}

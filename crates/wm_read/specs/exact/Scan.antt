@@ -4,13 +4,14 @@ use Rattle.std.specs.Prelude.{Option, Some, None, if◌then◌else◌, length, n
 use Rattle.std.specs.Option.{option_map}
 use Rattle.wm_read.specs.Tokens.{Token, open_paren, close_paren, string, atom, is_space, is_id_char, is_lower}
 use Rattle.wm_read.specs.Tokens.{is_plain, is_scalar, digit_value}
-use Rattle.wm_read.specs.declared.scan.Class.{Class}
-use Rattle.wm_read.specs.declared.scan.Class.TheVariants.{Space, Semicolon, Opening, Closing, Quote, Atom}
-use Rattle.wm_read.specs.declared.scan.Class.TheVariants.{Other}
-use Rattle.wm_read.specs.declared.scan.Mode.{Mode}
-use Rattle.wm_read.specs.declared.scan.Mode.TheVariants.{Plain, Escape, Low, Brace, Digits}
-use Rattle.wm_read.specs.declared.scan.Step.{Step}
-use Rattle.wm_read.specs.declared.scan.Step.TheVariants.{On, Byte, Scalar, End, Bad}
+use Rattle.wm_read.specs.declared.tokens.scan.Class.{Class}
+use Rattle.wm_read.specs.declared.tokens.scan.Class.TheVariants.{Space, Semicolon, Opening, Closing}
+use Rattle.wm_read.specs.declared.tokens.scan.Class.TheVariants.{Quote, Atom}
+use Rattle.wm_read.specs.declared.tokens.scan.Class.TheVariants.{Other}
+use Rattle.wm_read.specs.declared.tokens.scan.Mode.{Mode}
+use Rattle.wm_read.specs.declared.tokens.scan.Mode.TheVariants.{Plain, Escape, Low, Brace, Digits}
+use Rattle.wm_read.specs.declared.tokens.scan.Step.{Step}
+use Rattle.wm_read.specs.declared.tokens.scan.Step.TheVariants.{On, Byte, Scalar, End, Bad}
 
 unfoldable pub class_of : ℕ → Class
 class_of c =

@@ -4,9 +4,9 @@ use Rattle.std.specs.Borrow.{Bor}
 use Rattle.std.specs.BTreeMap.{BTreeMap}
 use Rattle.std.specs.Map.{update}
 use Rattle.std.specs.Str.{bytes_eq}
-use Rattle.wm_read.specs.declared.blocks.Block.{Block}
-use Rattle.wm_read.specs.declared.identifiers.Names as names
-use Rattle.wm_read.specs.declared.identifiers.Scope as scope
+use Rattle.wm_read.specs.declared.code.blocks.Block.{Block}
+use Rattle.wm_read.specs.declared.names.identifiers.Names as names
+use Rattle.wm_read.specs.declared.names.identifiers.Scope as scope
 use Rattle.wm_read.specs.Identifiers.{Id}
 use Rattle.wm_read.specs.inner.Ids.{id_of, place_in}
 use Rattle.wm_read.specs.inner.Pieces.{Open, Opened}

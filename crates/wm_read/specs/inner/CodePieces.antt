@@ -1,9 +1,9 @@
 -- Pieces of the code, without where they lie in memory.
 use Rattle.std.specs.Prelude.{◌<◌, ◌^◌, length}
-use Rattle.wm_read.specs.declared.pieces.Piece.{Piece as Code}
-use Rattle.wm_read.specs.declared.pieces.Piece.TheVariants as p
-use Rattle.wm_syntax.specs.declared.op_class.Immediates.{Immediates}
-use Rattle.wm_syntax.specs.declared.op_class.Immediates.TheVariants as k
+use Rattle.wm_read.specs.declared.code.pieces.Piece.{Piece as Code}
+use Rattle.wm_read.specs.declared.code.pieces.Piece.TheVariants as p
+use Rattle.wm_syntax.specs.declared.instructions.op_class.Immediates.{Immediates}
+use Rattle.wm_syntax.specs.declared.instructions.op_class.Immediates.TheVariants as k
 use Rattle.wm_read.specs.inner.Ids.{id_of}
 use Rattle.wm_read.specs.inner.Pieces.{Piece, plain, jump, opens, middle, closes}
 

@@ -1,5 +1,5 @@
 -- What heads have said to the code, without where it lies in memory.
-use Rattle.wm_read.specs.declared.heads.Noted as heads
+use Rattle.wm_read.specs.declared.names.heads.Noted as heads
 use Rattle.wm_read.specs.exact.FirstReading.{Noted}
 use Rattle.wm_read.specs.inner.Blocks.{names_of}
 

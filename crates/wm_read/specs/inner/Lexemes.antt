@@ -4,16 +4,16 @@ use Rattle.wm_read.specs.Faults.{IsOfTokens}
 use Rattle.wm_read.specs.Tokens.{Token, open_paren, close_paren, string, atom, is_scalar}
 use Rattle.wm_read.specs.exact.Scan.{CommentPart, close, opening, on, over, Ahead, no_more, blank, first}
 use Rattle.wm_read.specs.exact.Scan.{fault, given_in}
-use Rattle.wm_read.specs.declared.scan.Part.{Part}
-use Rattle.wm_read.specs.declared.scan.Part.TheVariants as p
-use Rattle.wm_read.specs.declared.scan.Mode.{Mode}
-use Rattle.wm_read.specs.declared.scan.Mode.TheVariants.{Plain, Low, Digits}
-use Rattle.wm_read.specs.declared.scan.Step.{Step}
-use Rattle.wm_read.specs.declared.scan.Step.TheVariants as s
-use Rattle.wm_read.specs.declared.lexeme.Lexeme.{Lexeme}
-use Rattle.wm_read.specs.declared.lexeme.Lexeme.TheVariants.{Open, Close, String, Atom}
-use Rattle.wm_read.specs.declared.lexeme.Found.{Found}
-use Rattle.wm_read.specs.declared.lexeme.Found.TheVariants.{Nothing, Blank, First, Fault}
+use Rattle.wm_read.specs.declared.tokens.scan.Part.{Part}
+use Rattle.wm_read.specs.declared.tokens.scan.Part.TheVariants as p
+use Rattle.wm_read.specs.declared.tokens.scan.Mode.{Mode}
+use Rattle.wm_read.specs.declared.tokens.scan.Mode.TheVariants.{Plain, Low, Digits}
+use Rattle.wm_read.specs.declared.tokens.scan.Step.{Step}
+use Rattle.wm_read.specs.declared.tokens.scan.Step.TheVariants as s
+use Rattle.wm_read.specs.declared.tokens.lexeme.Lexeme.{Lexeme}
+use Rattle.wm_read.specs.declared.tokens.lexeme.Lexeme.TheVariants.{Open, Close, String, Atom}
+use Rattle.wm_read.specs.declared.tokens.lexeme.Found.{Found}
+use Rattle.wm_read.specs.declared.tokens.lexeme.Found.TheVariants.{Nothing, Blank, First, Fault}
 
 abbrev pub part_of : Part → CommentPart
 part_of (p.Close b) = close b.now

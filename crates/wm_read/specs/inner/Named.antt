@@ -1,8 +1,8 @@
 -- Parameters and locals of the code, without where they lie in memory.
 use Rattle.std.specs.Prelude.{List, map}
-use Rattle.wm_read.specs.declared.named.Named.{Named as Code}
-use Rattle.wm_read.specs.declared.named_uses.Params.{Params}
-use Rattle.wm_read.specs.declared.named_uses.Params.TheVariants.{OfType, Written}
+use Rattle.wm_read.specs.declared.code.named.Named.{Named as Code}
+use Rattle.wm_read.specs.declared.code.named_uses.Params.{Params}
+use Rattle.wm_read.specs.declared.code.named_uses.Params.TheVariants.{OfType, Written}
 use Rattle.wm_read.specs.Written.{Named}
 use Rattle.wm_read.specs.exact.TypeUses.{unnamed}
 use Rattle.wm_read.specs.inner.Ids.{id_of}

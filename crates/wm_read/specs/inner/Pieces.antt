@@ -9,8 +9,8 @@ use Rattle.wm_syntax.specs.declared.instructions.Op.TheVariants as op
 use Rattle.wm_syntax.specs.declared.profile.Profile.{Profile}
 use Rattle.wm_syntax.specs.Profiles.{HasSimple}
 use Rattle.wm_read.specs.Tokens.{Token}
-use Rattle.wm_read.specs.declared.blocks.Opening.{Opening}
-use Rattle.wm_read.specs.declared.blocks.Opening.TheVariants.{Block, Loop, If}
+use Rattle.wm_read.specs.declared.code.blocks.Opening.{Opening}
+use Rattle.wm_read.specs.declared.code.blocks.Opening.TheVariants.{Block, Loop, If}
 use Rattle.wm_read.specs.Identifiers.{Id, Ids}
 use Rattle.wm_read.specs.Written.{Scope, WritesSimple, WritesTable, Opens, Closes}
 

@@ -1,7 +1,7 @@
 //! Answers of readers, as text.
 
 use crate::faults::{TextFault, TextRefusal};
-use crate::lexeme::{Lexeme, next_token, string_bytes};
+use crate::tokens::lexeme::{Lexeme, next_token, string_bytes};
 use std::alloc::Global;
 use std::fmt::Debug;
 use std::test::Fail;

@@ -4,10 +4,10 @@
 use Rattle.std.specs.Prelude.{ℕ, Bool, false, List, [], ◌∷◌, Option, Some, None as Nothing, codes, map}
 use Rattle.std.specs.Prelude.{if◌then◌else◌}
 use Rattle.std.specs.Str.{bytes_eq}
-use Rattle.wm_syntax.specs.declared.op_class.Immediates.{Immediates}
-use Rattle.wm_syntax.specs.declared.op_class.Immediates.TheVariants as k
-use Rattle.wm_syntax.specs.declared.op_class.OpClass.{OpClass}
-use Rattle.wm_syntax.specs.declared.op_class.OpClass.TheVariants.{Plain, With, Float, None}
+use Rattle.wm_syntax.specs.declared.instructions.op_class.Immediates.{Immediates}
+use Rattle.wm_syntax.specs.declared.instructions.op_class.Immediates.TheVariants as k
+use Rattle.wm_syntax.specs.declared.instructions.op_class.OpClass.{OpClass}
+use Rattle.wm_syntax.specs.declared.instructions.op_class.OpClass.TheVariants.{Plain, With, Float, None}
 use Rattle.wm_syntax.specs.declared.profile.Profile.{Profile}
 use Rattle.wm_syntax.specs.Opcodes.{load, store}
 use Rattle.wm_syntax.specs.OpNames.{op_name}

@@ -3,8 +3,8 @@ use Rattle.std.specs.Prelude.{ℕ, zero, suc, ◌+◌, ◌-◌, ◌≡◌, Bool,
 use Rattle.std.specs.Prelude.{Some, length, take, slice_get, slice_set, if◌then◌else◌}
 use Rattle.wm_syntax.specs.declared.instructions.Op.{Op}
 use Rattle.wm_syntax.specs.declared.instructions.Op.TheVariants as op
-use Rattle.wm_syntax.specs.declared.body_builder.Opened.{Opened}
-use Rattle.wm_syntax.specs.declared.body_builder.Opened.TheVariants as opened
+use Rattle.wm_syntax.specs.declared.modules.body_builder.Opened.{Opened}
+use Rattle.wm_syntax.specs.declared.modules.body_builder.Opened.TheVariants as opened
 use Rattle.wm_syntax.specs.inner.Building.{Open, in_block, in_loop, in_first, in_second, Place, at, labels}
 use Rattle.wm_syntax.specs.inner.Building.{ops_at}
 

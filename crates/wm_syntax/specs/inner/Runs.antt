@@ -1,7 +1,7 @@
 -- What a list of runs holds, each run being given by where it ends.
 use Rattle.std.specs.Prelude.{ℕ, zero, suc, ◌-◌, ◌^◌, ◌<◌, ◌≡◌, List, [], ◌∷◌, ◌++◌, Option, Some, replicate}
 use Rattle.wm_syntax.specs.declared.types.ValType.{ValType}
-use Rattle.wm_syntax.specs.declared.locals.Run.{Run}
+use Rattle.wm_syntax.specs.declared.modules.locals.Run.{Run}
 
 -- the types that a list of runs holds, each run being given by its end, after `start` types
 abbrev pub types_in : ℕ → List Run → List ValType

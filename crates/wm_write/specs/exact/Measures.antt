@@ -1,7 +1,7 @@
 -- How many bytes the contents of sections have.
 use Rattle.std.specs.Prelude.{◌≡◌, length}
 use Rattle.wm_syntax.specs.Modules.{Module}
-use Rattle.wm_write.specs.declared.sizes.Sizes.{Sizes}
+use Rattle.wm_write.specs.declared.encode.sizes.Sizes.{Sizes}
 use Rattle.wm_write.specs.Canon.{code_bytes, element_bytes, export_bytes, global_bytes, import_bytes}
 use Rattle.wm_write.specs.Canon.{limits_bytes, listed, segment_bytes, signature_bytes, table_bytes, u32_bytes}
 

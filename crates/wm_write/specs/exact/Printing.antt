@@ -5,7 +5,7 @@ use Rattle.wm_syntax.specs.declared.modules.ExportKind.TheVariants as kind
 use Rattle.wm_syntax.specs.declared.modules.ImportDesc.{ImportDesc}
 use Rattle.wm_syntax.specs.declared.modules.ImportDesc.TheVariants.{Func, Table, Memory, Global}
 use Rattle.wm_syntax.specs.Modules.{Module}
-use Rattle.wm_write.specs.declared.fields.Places.{Places}
+use Rattle.wm_write.specs.declared.print.fields.Places.{Places}
 
 -- one more of its kind
 abbrev pub one_more : ImportDesc → Places → Places

@@ -1,5 +1,5 @@
 use Rattle.std.proofs.Common.{◌≡◌, ℕ, zero, suc, ◌-◌, ◌∙◌, ap, refl, arith}
-use Rattle.wm_decode.specs.declared.member.SectionKind.{SectionKind}
+use Rattle.wm_decode.specs.declared.machine.member.SectionKind.{SectionKind}
 use Rattle.wm_decode.specs.exact.Members.{member_at_start}
 use Rattle.wm_decode.specs.exact.Steps.{machine_in_member, machine_after_count}
 use Rattle.wm_decode.proofs.step.listed.Goals as goal

@@ -1,0 +1,12 @@
+use Rattle.std.proofs.Common.{subst, IfSome, slice_index}
+use Rattle.wm_decode.specs.declared.machine.member.SectionKind.TheVariants.{Code}
+use Rattle.wm_decode.specs.declared.machine.member.InMember.TheVariants.{EntrySize}
+use Rattle.wm_decode.specs.exact.ShortSteps.{StepsTo}
+use Rattle.wm_decode.proofs.ShortSteps.{steps_so}
+use Rattle.wm_decode.proofs.shortcuts.short_bytes.entry_size.Goals as goal
+
+pub stepped_twice-requires-clause-first : goal.stepped_twice-requires-clause-first
+stepped_twice-requires-clause-first g c =
+    let q = c.args.place in
+    steps_so q.of Code q.left q.at (EntrySize c.args.number) (slice_index c.args.bytes.now 0) c.in-Some.first c.requires.of c.requires.stands
+    (subst (λ y. IfSome y (λ p. StepsTo Code q.left (EntrySize c.args.number) (slice_index c.args.bytes.now 0) p.0)) c.in-Some.is c.long_size.ensures.first)

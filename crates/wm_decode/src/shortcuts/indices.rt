@@ -1,0 +1,240 @@
+//! Indices of one byte each that follow one another (section 5.5.1): what the byte step
+//! makes of them, at once.
+//!
+//! The last of a list, one that is longer, and what is refused for its bytes are left to the byte step.
+
+ghost use Rattle.std.specs.Prelude.{◌≡◌, ◌≤◌, IfSome, length};
+ghost use Rattle.wm_decode.specs.exact.Shortcuts.{Advances};
+ghost use Rattle.wm_decode.specs.exact.Indices.{GaveEach, LiesIn, at_index, before_index, index_item_in};
+ghost use Rattle.wm_decode.specs.exact.Indices.{indices_after, most_indices};
+
+use crate::decoder::names::give_index;
+use crate::machine::Machine;
+use crate::machine::member::{InEntry, InMember, IndexOf, SectionKind};
+use crate::shortcuts::{Shortcut, at_most};
+use crate::sink::Sink;
+use crate::step::expressions::InExpression;
+use wm_syntax::numbers::{Num32, short_front};
+
+/// Of what the next index is.
+#[derive(Clone, Copy)]
+pub(crate) enum IndexList {
+    /// The types of functions (section 5.5.6): each is a member of its section.
+    Types,
+    /// The functions of an element segment (section 5.5.12), with so many after the next.
+    Functions { rest: u32 },
+    /// The labels of a br_table (section 5.4.1), with so many after the next. So many bytes of the entry come
+    /// after that, and so many blocks are open.
+    Labels { rest: u32, depth: u32, labels: u32 },
+}
+
+/// What is known before an index: of the section, how many functions await their code, how many bytes come
+/// after the next and how many members after this one; and of what the index is.
+#[derive(Clone, Copy)]
+pub(crate) struct InIndices {
+    pub(crate) of: SectionKind,
+    pub(crate) functions: u32,
+    pub(crate) more: u32,
+    pub(crate) left: u32,
+    pub(crate) list: IndexList,
+}
+
+// Before a label of a br_table
+fn labels(rest: u32, at: InEntry) -> Option<IndexList>
+    ensures at { IfSome result (λ l. InMember.Entry rest at ≡ at_index l) }
+    ensures of { IfSome result (λ l. (of : SectionKind) → LiesIn of l) }
+{
+    let InEntry::Body(at) = at else {
+        return None;
+    };
+    let InExpression::Label {
+        depth,
+        left: labels,
+        number,
+    } = at
+    else {
+        return None;
+    };
+    if !number.is_new() {
+        return None;
+    }
+    Some(IndexList::Labels {
+        rest,
+        depth,
+        labels,
+    })
+}
+
+impl IndexList {
+    // That of a place in a section
+    fn of(of: SectionKind, at: InMember) -> Option<IndexList>
+        ensures at { IfSome result (λ l. at ≡ at_index l) }
+        ensures of { IfSome result (λ l. LiesIn of l) }
+    {
+        let (list, number) = match at {
+            InMember::Index { of: list, number } => (list, number),
+            InMember::Entry { more, at } => return labels(more, at),
+            _ => return None,
+        };
+        if !number.is_new() {
+            return None;
+        }
+        match list {
+            IndexOf::Function => match of {
+                SectionKind::Function => Some(IndexList::Types),
+                _ => None,
+            },
+            IndexOf::ElementFunction { more: rest } => Some(IndexList::Functions { rest }),
+            _ => None,
+        }
+    }
+
+    // Where the next index of it stands
+    fn at(self) -> InMember
+        ensures { result ≡ at_index self }
+    {
+        let number = Num32::new();
+        match self {
+            IndexList::Types => InMember::Index {
+                of: IndexOf::Function,
+                number,
+            },
+            IndexList::Functions { rest } => InMember::Index {
+                of: IndexOf::ElementFunction { more: rest },
+                number,
+            },
+            IndexList::Labels {
+                rest,
+                depth,
+                labels,
+            } => {
+                let left = labels;
+                let at = InExpression::Label {
+                    depth,
+                    left,
+                    number,
+                };
+                InMember::Entry {
+                    more: rest,
+                    at: InEntry::Body(at),
+                }
+            }
+        }
+    }
+}
+
+impl InIndices {
+    /// That of a machine, where it stands so.
+    pub(crate) fn of(machine: Machine) -> Option<InIndices>
+        ensures machine { IfSome result (λ i. machine ≡ before_index i) }
+        ensures of { IfSome result (λ i. LiesIn i.of i.list) }
+    {
+        let Machine::Section {
+            of,
+            functions,
+            more,
+            left,
+            at,
+        } = machine
+        else {
+            return None;
+        };
+        let list = IndexList::of(of, at)?;
+        Some(InIndices {
+            of,
+            functions,
+            more,
+            left,
+            list,
+        })
+    }
+
+    /// How many come after which yet another comes, and a byte of all that they lie in.
+    pub(crate) fn most(self) -> u32
+        ensures { result ≡ most_indices self }
+    {
+        match self.list {
+            IndexList::Types => self.more.min(self.left),
+            IndexList::Functions { rest } => self.more.min(rest),
+            IndexList::Labels { rest, labels, .. } => self.more.min(rest).min(labels),
+        }
+    }
+
+    /// The machine after so many of them.
+    pub(crate) fn after(self, used: u32) -> Machine
+        requires { used ≤ most_indices self }
+        ensures { result ≡ before_index (indices_after self used) }
+    {
+        let (left, list) = match self.list {
+            IndexList::Types => (self.left - used, IndexList::Types),
+            IndexList::Functions { rest } => {
+                let rest = rest - used;
+                (self.left, IndexList::Functions { rest })
+            }
+            IndexList::Labels {
+                rest,
+                depth,
+                labels,
+            } => {
+                let rest = rest - used;
+                let labels = labels - used;
+                let list = IndexList::Labels {
+                    rest,
+                    depth,
+                    labels,
+                };
+                (self.left, list)
+            }
+        };
+        Machine::Section {
+            of: self.of,
+            functions: self.functions,
+            more: self.more - used,
+            left,
+            at: list.at(),
+        }
+    }
+}
+
+// Gives a sink the index that each of these bytes is, up to one that it refuses. Out of line, where the loop
+// keeps its values in registers.
+#[inline(never)]
+fn give_indices<S: Sink>(sink: &mut S, list: IndexList, bytes: &[u8]) -> Shortcut
+    ensures within { result.used ≤ length bytes.now }
+    ensures given { GaveEach S.after (index_item_in list) bytes.now
+        (S.held sink.old) result.used result.refused
+        (S.held sink.new) }
+{
+    for (i, byte) in bytes.iter().enumerate() {
+        if let Err(why) = give_index(sink, list, u32::from(*byte)) {
+            return Shortcut {
+                used: i + 1,
+                refused: Some(why),
+            };
+        }
+    }
+    Shortcut {
+        used: bytes.len(),
+        refused: None,
+    }
+}
+
+/// Takes the indices of one byte each at the front of these bytes, but the last of their list, where there
+/// are two or more.
+#[tactic(auto, using(crate::proofs::Advances::advances_none))]
+pub(crate) fn indices<S: Sink>(sink: &mut S, machine: &mut Machine, bytes: &[u8]) -> Shortcut
+    ensures { Advances S.after S.may_run_out bytes.now machine.old (S.held sink.old) result machine.new
+        (S.held sink.new) }
+{
+    let Some(before) = InIndices::of(*machine) else {
+        return Shortcut::none();
+    };
+    let most = at_most(before.most(), bytes.len());
+    let count = short_front(&bytes[..most as usize]);
+    if count < 2 {
+        return Shortcut::none();
+    }
+    let given = give_indices(sink, before.list, &bytes[..count]);
+    *machine = before.after(given.used as u32);
+    given
+}

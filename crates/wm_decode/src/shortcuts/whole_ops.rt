@@ -1,0 +1,490 @@
+//! The ops of a code entry, read whole from a piece: what the byte step makes of their bytes, at once.
+//!
+//! What is rare, and all that is refused for its bytes, is left to the byte step.
+
+ghost use Rattle.std.specs.Prelude.{◌≡◌, ◌+◌, ◌<◌, ◌≤◌, ◌^◌, ℕ, IfSome, Some, length, slice_index};
+ghost use Rattle.wm_syntax.specs.exact.Reading.{fresh};
+ghost use Rattle.wm_decode.specs.declared.step.reading.Reading.TheVariants.{More, Done};
+ghost use Rattle.wm_decode.specs.declared.step.ops.InOp.TheVariants.{BlockType, Const32, Const64};
+ghost use Rattle.wm_decode.specs.exact.OpSteps.{fresh_access, fresh_index, index_op};
+ghost use Rattle.wm_decode.specs.exact.ExpressionSteps.{after_op, at_next_op};
+ghost use Rattle.wm_decode.specs.exact.WholeOps.{GaveAs, NoSign, RanTo, TookAs, WholeOp, first_read};
+
+use crate::item::Item;
+use crate::shortcuts::whole_numbers::{s32_at, s64_at, u32_at};
+use crate::sink::Sink;
+use crate::step::ops::{Indexed, LoadOrStore, Opening};
+use wm_syntax::instructions::{
+    BinaryOp, Comparison, LoadOp, MemArg, Numeric, Op, Simple, StoreOp, UnaryOp,
+};
+use wm_syntax::types::ValType;
+use wm_syntax::types::ValType::{I32, I64};
+use wm_syntax::why::Why;
+
+/// An op that was read whole, the place after it, and how many blocks are open there.
+#[derive(Clone, Copy)]
+struct Read {
+    op: Op,
+    next: usize,
+    depth: u32,
+}
+
+/// What came of the op at a place.
+#[derive(Clone, Copy)]
+enum Took {
+    /// The sink took it: the place of the next op, and how many blocks are open there.
+    Next(usize, u32),
+    /// It is left to the byte step.
+    Left,
+    /// Why the sink refused it, and the place after its last byte.
+    Refused(Why, usize),
+}
+
+/// What came of the ops from a place on.
+#[derive(Clone, Copy)]
+pub(crate) struct Ran {
+    /// The bytes of the ops that the sink took, and of the one that it refused.
+    pub(crate) used: u32,
+    /// How many blocks are open after them.
+    pub(crate) depth: u32,
+    pub(crate) refused: Option<Why>,
+}
+
+// Readers of the ops after whose first byte comes nothing, an index, a type, a number or two.
+
+#[inline(always)]
+#[tactic(auto, using(crate::proofs::OpLists::whole_alone))]
+fn alone(bytes: &[u8], at: usize, depth: u32, op: Op) -> Option<Read>
+    requires within { at < length bytes.now }
+    requires first { first_read (slice_index bytes.now at) ≡ Done op }
+    requires each { NoSign op }
+    requires opens { after_op depth op ≡ at_next_op depth }
+    ensures { IfSome result (λ r. WholeOp bytes.now at r.next depth r.depth r.op) }
+{
+    prove!(at < bytes.len());
+    let next = at + 1;
+    Some(Read { op, next, depth })
+}
+
+#[inline(always)]
+#[tactic(auto, using(crate::proofs::OpLists::whole_alone))]
+fn end(bytes: &[u8], at: usize, depth: u32) -> Option<Read>
+    requires within { at < length bytes.now }
+    requires first { first_read (slice_index bytes.now at) ≡ Done Op.End }
+    ensures { IfSome result (λ r. WholeOp bytes.now at r.next depth r.depth r.op) }
+{
+    prove!(at < bytes.len());
+    if depth == 0 {
+        return None;
+    }
+    Some(Read {
+        op: Op::End,
+        next: at + 1,
+        depth: depth - 1,
+    })
+}
+
+#[inline(always)]
+fn numeric(bytes: &[u8], at: usize, depth: u32, op: Numeric) -> Option<Read>
+    requires within { at < length bytes.now }
+    requires first { first_read (slice_index bytes.now at) ≡ Done (Op.Simple (Simple.Numeric op)) }
+    requires each { NoSign (Op.Simple (Simple.Numeric op)) }
+    ensures { IfSome result (λ r. WholeOp bytes.now at r.next depth r.depth r.op) }
+{
+    alone(bytes, at, depth, Op::Simple(Simple::Numeric(op)))
+}
+
+#[inline(always)]
+#[tactic(auto, using(crate::proofs::OpLists::whole_index))]
+fn with_index(bytes: &[u8], at: usize, depth: u32, op: Indexed) -> Option<Read>
+    requires within { at + 1 < length bytes.now }
+    requires first { first_read (slice_index bytes.now at) ≡ More (fresh_index op) }
+    requires opens { (n : ℕ) → after_op depth (index_op op n) ≡ at_next_op depth }
+    ensures { IfSome result (λ r. WholeOp bytes.now at r.next depth r.depth r.op) }
+{
+    let index = u32_at(bytes, at + 1)?;
+    Some(Read {
+        op: op.op(index.value),
+        next: index.next,
+        depth,
+    })
+}
+
+#[inline(always)]
+#[tactic(auto, using(crate::proofs::OpLists::whole_access))]
+fn with_arg(bytes: &[u8], at: usize, depth: u32, op: LoadOrStore) -> Option<Read>
+    requires within { at + 1 < length bytes.now }
+    requires first { first_read (slice_index bytes.now at) ≡ More (fresh_access op) }
+    ensures { IfSome result (λ r. WholeOp bytes.now at r.next depth r.depth r.op) }
+{
+    let align = u32_at(bytes, at + 1)?;
+    if align.next >= bytes.len() {
+        return None;
+    }
+    let offset = u32_at(bytes, align.next)?;
+    let arg = MemArg {
+        align: align.value,
+        offset: offset.value,
+    };
+    Some(Read {
+        op: op.op(arg),
+        next: offset.next,
+        depth,
+    })
+}
+
+#[inline(always)]
+#[tactic(auto, using(crate::proofs::OpLists::whole_const_32))]
+fn const_32(bytes: &[u8], at: usize, depth: u32) -> Option<Read>
+    requires within { at + 1 < length bytes.now }
+    requires first { first_read (slice_index bytes.now at) ≡ More (Const32 fresh) }
+    ensures { IfSome result (λ r. WholeOp bytes.now at r.next depth r.depth r.op) }
+{
+    let number = s32_at(bytes, at + 1)?;
+    Some(Read {
+        op: Op::Simple(Simple::I32Const(number.value)),
+        next: number.next,
+        depth,
+    })
+}
+
+#[inline(always)]
+#[tactic(auto, using(crate::proofs::OpLists::whole_const_64))]
+fn const_64(bytes: &[u8], at: usize, depth: u32) -> Option<Read>
+    requires within { at + 1 < length bytes.now }
+    requires first { first_read (slice_index bytes.now at) ≡ More (Const64 fresh) }
+    ensures { IfSome result (λ r. WholeOp bytes.now at r.next depth r.depth r.op) }
+{
+    let number = s64_at(bytes, at + 1)?;
+    Some(Read {
+        op: Op::Simple(Simple::I64Const(number.value)),
+        next: number.next,
+        depth,
+    })
+}
+
+#[inline(always)]
+#[tactic(auto, using(crate::proofs::OpLists::whole_block))]
+fn with_type(bytes: &[u8], at: usize, depth: u32, op: Opening) -> Option<Read>
+    requires within { at + 1 < length bytes.now }
+    requires first { first_read (slice_index bytes.now at) ≡ More (BlockType op) }
+    ensures { IfSome result (λ r. WholeOp bytes.now at r.next depth r.depth r.op) }
+{
+    if depth == u32::MAX {
+        return None;
+    }
+    let ty = match bytes[at + 1] {
+        0x40 => None,
+        0x7F => Some(I32),
+        0x7E => Some(I64),
+        _ => return None,
+    };
+    Some(Read {
+        op: op.op(ty),
+        next: at + 2,
+        depth: depth + 1,
+    })
+}
+
+// The ops of a group, by their bytes.
+
+#[inline(always)]
+fn compares_32(byte: u8) -> Comparison
+    requires from { 0x46 ≤ byte }
+    requires to { byte ≤ 0x4F }
+    ensures { first_read byte ≡ Done (Op.Simple (Simple.Numeric (Numeric.Compare ValType.I32 result))) }
+{
+    match byte {
+        0x46 => Comparison::Eq,
+        0x47 => Comparison::Ne,
+        0x48 => Comparison::LtS,
+        0x49 => Comparison::LtU,
+        0x4A => Comparison::GtS,
+        0x4B => Comparison::GtU,
+        0x4C => Comparison::LeS,
+        0x4D => Comparison::LeU,
+        0x4E => Comparison::GeS,
+        0x4F => Comparison::GeU,
+        _ => unreachable!(),
+    }
+}
+
+#[inline(always)]
+fn compares_64(byte: u8) -> Comparison
+    requires from { 0x51 ≤ byte }
+    requires to { byte ≤ 0x5A }
+    ensures { first_read byte ≡ Done (Op.Simple (Simple.Numeric (Numeric.Compare ValType.I64 result))) }
+{
+    match byte {
+        0x51 => Comparison::Eq,
+        0x52 => Comparison::Ne,
+        0x53 => Comparison::LtS,
+        0x54 => Comparison::LtU,
+        0x55 => Comparison::GtS,
+        0x56 => Comparison::GtU,
+        0x57 => Comparison::LeS,
+        0x58 => Comparison::LeU,
+        0x59 => Comparison::GeS,
+        0x5A => Comparison::GeU,
+        _ => unreachable!(),
+    }
+}
+
+#[inline(always)]
+fn unary_32(byte: u8) -> UnaryOp
+    requires from { 0x67 ≤ byte }
+    requires to { byte ≤ 0x69 }
+    ensures { first_read byte ≡ Done (Op.Simple (Simple.Numeric (Numeric.Unary ValType.I32 result))) }
+{
+    match byte {
+        0x67 => UnaryOp::Clz,
+        0x68 => UnaryOp::Ctz,
+        0x69 => UnaryOp::Popcnt,
+        _ => unreachable!(),
+    }
+}
+
+#[inline(always)]
+fn unary_64(byte: u8) -> UnaryOp
+    requires from { 0x79 ≤ byte }
+    requires to { byte ≤ 0x7B }
+    ensures { first_read byte ≡ Done (Op.Simple (Simple.Numeric (Numeric.Unary ValType.I64 result))) }
+{
+    match byte {
+        0x79 => UnaryOp::Clz,
+        0x7A => UnaryOp::Ctz,
+        0x7B => UnaryOp::Popcnt,
+        _ => unreachable!(),
+    }
+}
+
+#[inline(always)]
+fn binary_32(byte: u8) -> BinaryOp
+    requires from { 0x6A ≤ byte }
+    requires to { byte ≤ 0x78 }
+    ensures { first_read byte ≡ Done (Op.Simple (Simple.Numeric (Numeric.Binary ValType.I32 result))) }
+{
+    match byte {
+        0x6A => BinaryOp::Add,
+        0x6B => BinaryOp::Sub,
+        0x6C => BinaryOp::Mul,
+        0x6D => BinaryOp::DivS,
+        0x6E => BinaryOp::DivU,
+        0x6F => BinaryOp::RemS,
+        0x70 => BinaryOp::RemU,
+        0x71 => BinaryOp::And,
+        0x72 => BinaryOp::Or,
+        0x73 => BinaryOp::Xor,
+        0x74 => BinaryOp::Shl,
+        0x75 => BinaryOp::ShrS,
+        0x76 => BinaryOp::ShrU,
+        0x77 => BinaryOp::Rotl,
+        0x78 => BinaryOp::Rotr,
+        _ => unreachable!(),
+    }
+}
+
+#[inline(always)]
+fn binary_64(byte: u8) -> BinaryOp
+    requires from { 0x7C ≤ byte }
+    requires to { byte ≤ 0x8A }
+    ensures { first_read byte ≡ Done (Op.Simple (Simple.Numeric (Numeric.Binary ValType.I64 result))) }
+{
+    match byte {
+        0x7C => BinaryOp::Add,
+        0x7D => BinaryOp::Sub,
+        0x7E => BinaryOp::Mul,
+        0x7F => BinaryOp::DivS,
+        0x80 => BinaryOp::DivU,
+        0x81 => BinaryOp::RemS,
+        0x82 => BinaryOp::RemU,
+        0x83 => BinaryOp::And,
+        0x84 => BinaryOp::Or,
+        0x85 => BinaryOp::Xor,
+        0x86 => BinaryOp::Shl,
+        0x87 => BinaryOp::ShrS,
+        0x88 => BinaryOp::ShrU,
+        0x89 => BinaryOp::Rotl,
+        0x8A => BinaryOp::Rotr,
+        _ => unreachable!(),
+    }
+}
+
+// The ops that are not among the most common ones.
+fn other_op(bytes: &[u8], at: usize, depth: u32) -> Option<Read>
+    requires { at + 1 < length bytes.now }
+    ensures { IfSome result (λ r. WholeOp bytes.now at r.next depth r.depth r.op) }
+{
+    let byte = bytes[at];
+    match byte {
+        0x00 => alone(bytes, at, depth, Op::Simple(Simple::Unreachable)),
+        0x1B => alone(bytes, at, depth, Op::Simple(Simple::Select)),
+        0x29 => with_arg(bytes, at, depth, LoadOrStore::Load(LoadOp::I64Load)),
+        0x2C => with_arg(bytes, at, depth, LoadOrStore::Load(LoadOp::I32Load8S)),
+        0x2D => with_arg(bytes, at, depth, LoadOrStore::Load(LoadOp::I32Load8U)),
+        0x2E => with_arg(bytes, at, depth, LoadOrStore::Load(LoadOp::I32Load16S)),
+        0x2F => with_arg(bytes, at, depth, LoadOrStore::Load(LoadOp::I32Load16U)),
+        0x30 => with_arg(bytes, at, depth, LoadOrStore::Load(LoadOp::I64Load8S)),
+        0x31 => with_arg(bytes, at, depth, LoadOrStore::Load(LoadOp::I64Load8U)),
+        0x32 => with_arg(bytes, at, depth, LoadOrStore::Load(LoadOp::I64Load16S)),
+        0x33 => with_arg(bytes, at, depth, LoadOrStore::Load(LoadOp::I64Load16U)),
+        0x34 => with_arg(bytes, at, depth, LoadOrStore::Load(LoadOp::I64Load32S)),
+        0x35 => with_arg(bytes, at, depth, LoadOrStore::Load(LoadOp::I64Load32U)),
+        0x37 => with_arg(bytes, at, depth, LoadOrStore::Store(StoreOp::I64Store)),
+        0x3A => with_arg(bytes, at, depth, LoadOrStore::Store(StoreOp::I32Store8)),
+        0x3B => with_arg(bytes, at, depth, LoadOrStore::Store(StoreOp::I32Store16)),
+        0x3C => with_arg(bytes, at, depth, LoadOrStore::Store(StoreOp::I64Store8)),
+        0x3D => with_arg(bytes, at, depth, LoadOrStore::Store(StoreOp::I64Store16)),
+        0x3E => with_arg(bytes, at, depth, LoadOrStore::Store(StoreOp::I64Store32)),
+        0x50 => numeric(bytes, at, depth, Numeric::Test(I64)),
+        0x51..=0x5A => numeric(bytes, at, depth, Numeric::Compare(I64, compares_64(byte))),
+        0x67..=0x69 => numeric(bytes, at, depth, Numeric::Unary(I32, unary_32(byte))),
+        0x79..=0x7B => numeric(bytes, at, depth, Numeric::Unary(I64, unary_64(byte))),
+        0xA7 => numeric(bytes, at, depth, Numeric::Wrap),
+        0xAC => numeric(bytes, at, depth, Numeric::ExtendS),
+        0xAD => numeric(bytes, at, depth, Numeric::ExtendU),
+        _ => None,
+    }
+}
+
+// Gives an op that lies in what is left of the entry.
+#[inline(always)]
+fn give<S: Sink>(sink: &mut S, room: usize, read: Option<Read>) -> Took
+    ensures { GaveAs S.after (S.held sink.old) room read result (S.held sink.new) }
+{
+    let Some(read) = read else {
+        return Took::Left;
+    };
+    if read.next > room {
+        return Took::Left;
+    }
+    match sink.take(Item::Op(read.op)) {
+        Ok(()) => Took::Next(read.next, read.depth),
+        Err(why) => Took::Refused(why, read.next),
+    }
+}
+
+// The same for an op that is not among the most common ones.
+#[inline(never)]
+#[tactic(auto, using(crate::proofs::OpLists::gave_took))]
+fn take_other<S: Sink>(sink: &mut S, bytes: &[u8], at: usize, depth: u32, room: usize) -> Took
+    requires { at + 1 < length bytes.now }
+    ensures { TookAs S.after (S.held sink.old) bytes.now at depth room result (S.held sink.new) }
+{
+    give(sink, room, other_op(bytes, at, depth))
+}
+
+// Takes the op at a place, if it is among the most common ones. Each of them has its own code.
+#[inline(always)]
+#[tactic(auto, using(crate::proofs::OpLists::gave_took))]
+fn take_common<S: Sink>(sink: &mut S, bytes: &[u8], at: usize, depth: u32, room: usize) -> Took
+    requires { at + 1 < length bytes.now }
+    ensures { TookAs S.after (S.held sink.old) bytes.now at depth room result (S.held sink.new) }
+{
+    let byte = bytes[at];
+    match byte {
+        0x01 => give(sink, room, alone(bytes, at, depth, Op::Simple(Simple::Nop))),
+        0x02 => give(sink, room, with_type(bytes, at, depth, Opening::Block)),
+        0x03 => give(sink, room, with_type(bytes, at, depth, Opening::Loop)),
+        0x04 => give(sink, room, with_type(bytes, at, depth, Opening::If)),
+        0x05 => give(sink, room, alone(bytes, at, depth, Op::Else)),
+        0x0B => give(sink, room, end(bytes, at, depth)),
+        0x0C => give(sink, room, with_index(bytes, at, depth, Indexed::Br)),
+        0x0D => give(sink, room, with_index(bytes, at, depth, Indexed::BrIf)),
+        0x0F => give(
+            sink,
+            room,
+            alone(bytes, at, depth, Op::Simple(Simple::Return)),
+        ),
+        0x10 => give(sink, room, with_index(bytes, at, depth, Indexed::Call)),
+        0x1A => give(
+            sink,
+            room,
+            alone(bytes, at, depth, Op::Simple(Simple::Drop)),
+        ),
+        0x20 => give(sink, room, with_index(bytes, at, depth, Indexed::LocalGet)),
+        0x21 => give(sink, room, with_index(bytes, at, depth, Indexed::LocalSet)),
+        0x22 => give(sink, room, with_index(bytes, at, depth, Indexed::LocalTee)),
+        0x23 => give(sink, room, with_index(bytes, at, depth, Indexed::GlobalGet)),
+        0x24 => give(sink, room, with_index(bytes, at, depth, Indexed::GlobalSet)),
+        0x28 => give(
+            sink,
+            room,
+            with_arg(bytes, at, depth, LoadOrStore::Load(LoadOp::I32Load)),
+        ),
+        0x36 => give(
+            sink,
+            room,
+            with_arg(bytes, at, depth, LoadOrStore::Store(StoreOp::I32Store)),
+        ),
+        0x41 => give(sink, room, const_32(bytes, at, depth)),
+        0x42 => give(sink, room, const_64(bytes, at, depth)),
+        0x45 => give(sink, room, numeric(bytes, at, depth, Numeric::Test(I32))),
+        0x46..=0x4F => {
+            let op = Numeric::Compare(I32, compares_32(byte));
+            give(sink, room, numeric(bytes, at, depth, op))
+        }
+        0x6A..=0x78 => {
+            let op = Numeric::Binary(I32, binary_32(byte));
+            give(sink, room, numeric(bytes, at, depth, op))
+        }
+        0x7C..=0x8A => {
+            let op = Numeric::Binary(I64, binary_64(byte));
+            give(sink, room, numeric(bytes, at, depth, op))
+        }
+        _ => Took::Left,
+    }
+}
+
+// After an op that the sink refused
+#[inline(always)]
+fn refused(used: usize, depth: u32, why: Why) -> Ran
+    requires { used < 2 ^ 32 }
+    ensures { result ≡ record { used = used; depth = depth; refused = Some why } }
+{
+    Ran {
+        used: used as u32,
+        depth,
+        refused: Some(why),
+    }
+}
+
+/// Takes ops while they lie whole in these bytes and in the next `most` of the entry.
+#[inline(never)]
+pub(crate) fn take_ops<S: Sink>(sink: &mut S, bytes: &[u8], start: u32, most: u32) -> Ran
+    ensures within { result.used ≤ most }
+    ensures inside { result.used ≤ length bytes.now }
+    ensures one { length bytes.now ≤ 1 → result.used ≡ 0 }
+    ensures ran { RanTo S.after (S.held sink.old) bytes.now most start result.used result.depth result.refused
+        (S.held sink.new) }
+{
+    let room = most as usize;
+    let mut used = 0;
+    let mut depth = start;
+    let end = room.min(bytes.len().saturating_sub(1));
+    while used < end {
+        match take_common(sink, bytes, used, depth, room) {
+            Took::Next(next, inside) => {
+                used = next;
+                depth = inside;
+                continue;
+            }
+            Took::Left => {}
+            Took::Refused(why, next) => return refused(next, depth, why),
+        }
+        // called here, so that no answer of the common ops lies in memory
+        match take_other(sink, bytes, used, depth, room) {
+            Took::Next(next, inside) => {
+                used = next;
+                depth = inside;
+            }
+            Took::Left => break,
+            Took::Refused(why, place) => return refused(place, depth, why),
+        }
+    }
+    Ran {
+        used: used as u32,
+        depth,
+        refused: None,
+    }
+}

@@ -1,0 +1,12 @@
+use Rattle.std.proofs.Common.{◌≡◌, length}
+use Rattle.wm_read.specs.exact.Scan.{lexed}
+use Rattle.wm_read.specs.exact.TypeUses.{named_at, named_groups_at}
+use Rattle.wm_read.specs.inner.Named.{named_list}
+use Rattle.wm_read.proofs.NamedGroups.{after_named}
+use Rattle.wm_read.proofs.code.named.groups.Given as goal
+
+abbrev pub invariant-loop-named : goal.invariant-loop-named
+invariant-loop-named l = after_named (named_list l.named.items) (named_groups_at l.name (lexed l.rest)) ≡ named_at l.name (lexed l.text)
+
+abbrev pub decreases-loop-named : goal.decreases-loop-named
+decreases-loop-named l = length (lexed l.rest)

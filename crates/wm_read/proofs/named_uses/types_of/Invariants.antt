@@ -1,7 +1,0 @@
-use Rattle.std.proofs.Common.{◌≡◌, take}
-use Rattle.wm_read.specs.Written.{types_of}
-use Rattle.wm_read.specs.inner.Named.{named_list}
-use Rattle.wm_read.proofs.named_uses.types_of.Given as goal
-
-abbrev pub invariant-loop-param : goal.invariant-loop-param
-invariant-loop-param l = l.types.items ≡ types_of (named_list (take l.param-index l.params))

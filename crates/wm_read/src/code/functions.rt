@@ -1,0 +1,236 @@
+//! Functions (section 6.6.5).
+
+ghost use Rattle.std.specs.Prelude.{◌≡◌, ◌++◌, ◌<◌, ◌≤◌, ◌⊎◌, ◌^◌, [], IfErr, IfOk, IfSome, MatchOption};
+ghost use Rattle.std.specs.Prelude.{false, length, true};
+ghost use Rattle.wm_read.specs.Written as written;
+ghost use Rattle.wm_read.specs.declared.faults.TextWhy.TheVariants.{Memory, RepeatedId, TooManyLocals};
+ghost use Rattle.wm_read.specs.exact.Fields as fields;
+ghost use Rattle.wm_read.specs.exact.Scan.{lexed};
+ghost use Rattle.wm_read.specs.inner.Blocks.{names_of};
+ghost use Rattle.wm_read.specs.inner.Fields.{head_at};
+ghost use Rattle.wm_read.specs.inner.Named.{named_list, params_of};
+ghost use Rattle.wm_read.specs.inner.Views.{IsRefusal, Reads};
+
+use crate::code::bodies::read_body;
+use crate::code::named;
+use crate::code::named::Named;
+use crate::code::named_uses::{NamedUse, Params, named_use};
+use crate::code::operands::{named_type, refuse};
+use crate::code::type_uses::{no_form, type_index};
+use crate::faults::{TextFault, TextWhy};
+use crate::names::identifiers::{Names, Scope, Space, is_new};
+use crate::tokens::lexeme::{Lexeme, next_token, skip_space};
+use crate::tokens::literals::{is, is_id};
+use std::alloc::{AllocError, Global};
+use wm_syntax::modules::Function;
+use wm_syntax::modules::locals::Locals;
+use wm_syntax::profile::Profile;
+use wm_syntax::why::Why;
+
+/// Adds the identifiers of parameters or locals, up to one that is there. It tells whether it added all.
+#[tactic(auto, using(crate::proofs::FunctionCode::ids_laws))]
+fn add_ids<'a>(space: &mut Space<'a>, items: &[Named<'a>]) -> Result<bool, AllocError>
+    ensures new { IfOk result (λ b. b ≡ fields.all_new space.old (written.ids_of (named_list items.now))) }
+    ensures added { IfOk result (λ b. b ≡ true
+        → space.new ≡ space.old ++ written.ids_of (named_list items.now)) }
+{
+    let mut rest = items;
+    while let [item, more @ ..] = rest {
+        if !is_new(space, item.id) {
+            return Ok(false);
+        }
+        space.push(item.id)?;
+        rest = more;
+    }
+    Ok(true)
+}
+
+/// The space of a function's parameters, if their identifiers are distinct. Those of the type take no time.
+#[tactic(auto, using(crate::proofs::FunctionCode::params_laws))]
+fn params_space<'a>(alloc: Global, params: &Params<'_, 'a>) -> Result<Option<Space<'a>>, AllocError>
+    ensures { IfOk result (λ o. MatchOption o
+        (fields.all_new [] (written.ids_of (params_of params.now)) ≡ false)
+        (λ s. (s ≡ written.ids_of (params_of params.now))
+        × (fields.all_new [] (written.ids_of (params_of params.now)) ≡ true))) }
+{
+    match params {
+        Params::OfType(types) => Ok(Some(Space::of_unnamed(alloc, types))),
+        Params::Written(params) => {
+            let mut space = Space::new(alloc);
+            if add_ids(&mut space, params)? {
+                Ok(Some(space))
+            } else {
+                Ok(None)
+            }
+        }
+    }
+}
+
+/// The space of a function's parameters and locals, if their identifiers are distinct.
+#[tactic(auto, using(crate::proofs::FunctionCode::space_laws))]
+fn locals_space<'a>(
+    alloc: Global,
+    params: &Params<'_, 'a>,
+    locals: &[Named<'a>],
+) -> Result<Option<Space<'a>>, AllocError>
+    ensures { IfOk result (λ o. MatchOption o
+        (fields.all_new [] (written.ids_of (params_of params.now ++ named_list locals.now)) ≡ false)
+        (λ s. (s ≡ written.ids_of (params_of params.now ++ named_list locals.now))
+        × (fields.all_new [] (written.ids_of (params_of params.now ++ named_list locals.now)) ≡ true))) }
+{
+    match params_space(alloc, params)? {
+        Some(mut space) => {
+            if add_ids(&mut space, locals)? {
+                Ok(Some(space))
+            } else {
+                Ok(None)
+            }
+        }
+        None => Ok(None),
+    }
+}
+
+/// The types of locals, which stand before this text.
+#[tactic(auto, using(crate::proofs::FunctionCode::types_laws))]
+fn local_types(alloc: Global, locals: &[Named], text: &[u8]) -> Result<Locals, TextFault>
+    ensures types { IfOk result (λ ts. (ts ≡ written.types_of (named_list locals.now))
+        × (length ts < 2 ^ 32)) }
+    ensures many { IfErr result (λ e. (e.why ≡ Memory)
+        ⊎ ((e.why ≡ TooManyLocals) × (2 ^ 32 ≤ length (written.types_of (named_list locals.now))))) }
+{
+    let mut types = Locals::new(alloc);
+    let mut rest = locals;
+    while let [local, more @ ..] = rest {
+        match types.add(1, local.ty) {
+            Ok(()) => rest = more,
+            Err(Why::TooManyLocals) => return Err(refuse(TextWhy::TooManyLocals, text)),
+            Err(_) => {
+                return Err(TextFault {
+                    why: TextWhy::Memory,
+                    left: 0,
+                });
+            }
+        }
+    }
+    Ok(types)
+}
+
+/// A type use, and the locals after it.
+fn read_head<'n, 'a>(
+    alloc: Global,
+    names: &'n Names,
+    text: &'a [u8],
+) -> Result<(NamedUse<'n, 'a>, Vec<Named<'a>>, &'a [u8]), TextFault>
+    ensures { Reads (λ x. (((x.0.index, params_of x.0.params), named_list x.1.items), lexed x.2.now)) result
+        (head_at (names_of names.now) (lexed text.now)) }
+{
+    let (used, rest) = named_use(alloc, names, true, text)?;
+    let (locals, rest) = named::groups(alloc, b"local", rest)?;
+    Ok((used, locals, rest))
+}
+
+/// The first fault among the tokens of parameters and locals that more than so many bytes are left at: an
+/// identifier that comes again, or a local after the `most` that there may be.
+fn earlier(
+    alloc: Global,
+    text: &[u8],
+    left: usize,
+    most: usize,
+) -> Result<Option<TextFault>, AllocError>
+    ensures { IfOk result (λ o. IfSome o (λ e. (e.why ≡ RepeatedId) ⊎ (e.why ≡ TooManyLocals))) }
+{
+    let mut seen = Space::new(alloc);
+    let mut in_locals = false;
+    let mut room = most;
+    let mut rest = text;
+    loop {
+        match next_token(rest) {
+            Some((Lexeme::Atom(atom), more)) => {
+                if skip_space(rest).len() <= left {
+                    return Ok(None);
+                }
+                if is_id(atom) {
+                    if seen.place(atom).is_some() {
+                        return Ok(Some(refuse(TextWhy::RepeatedId, rest)));
+                    }
+                    seen.push(Some(atom))?;
+                } else if is(atom, b"local") {
+                    in_locals = true;
+                } else if in_locals && named_type(atom).is_some() {
+                    if room == 0 {
+                        return Ok(Some(refuse(TextWhy::TooManyLocals, rest)));
+                    }
+                    room -= 1;
+                }
+                rest = more;
+            }
+            Some((_, more)) => rest = more,
+            None => return Ok(None),
+        }
+    }
+}
+
+/// An identifier that comes again is a fault before this one, and so is a local too many, where it stands
+/// before it. The text begins with the type use.
+fn first_fault(alloc: Global, names: &Names, fault: TextFault, text: &[u8]) -> TextFault
+    ensures { IsRefusal result.why → IsRefusal fault.why }
+{
+    if fault.why == TextWhy::Memory {
+        return fault;
+    }
+    let Ok((_, rest)) = type_index(names, text) else {
+        return fault;
+    };
+    match earlier(alloc, rest, fault.left, 0xFFFF_FFFF) {
+        Ok(Some(other)) => other,
+        Ok(None) => fault,
+        Err(_) => TextFault {
+            why: TextWhy::Memory,
+            left: 0,
+        },
+    }
+}
+
+/// What stands after a function's identifier: its type use, its locals and its body.
+#[tactic(auto, using(crate::proofs::FunctionCode::function_laws))]
+pub fn function<'a>(
+    alloc: Global,
+    profile: Profile,
+    names: &Names<'a>,
+    text: &'a [u8],
+) -> Result<(Function, &'a [u8]), TextFault>
+    ensures { Reads (λ x. (x.0, lexed x.1.now)) result
+        (fields.function_at profile (names_of names.now) (lexed text.now)) }
+{
+    let (used, locals, rest) = match read_head(alloc, names, text) {
+        Ok(head) => head,
+        Err(fault) => return Err(first_fault(alloc, names, fault, text)),
+    };
+    if let Err(fault) = no_form(rest) {
+        return Err(first_fault(alloc, names, fault, text));
+    }
+    let scope = match locals_space(alloc, &used.params, &locals)? {
+        Some(space) => Scope {
+            names,
+            locals: space,
+        },
+        None => {
+            let fault = refuse(TextWhy::RepeatedId, rest);
+            return Err(first_fault(alloc, names, fault, text));
+        }
+    };
+    let types = match local_types(alloc, &locals, rest) {
+        Ok(types) => types,
+        Err(fault) => return Err(first_fault(alloc, names, fault, text)),
+    };
+    let (body, rest) = read_body(alloc, profile, &scope, rest)?;
+    let function = Function {
+        type_index: used.index,
+        locals: types,
+        body,
+    };
+    Ok((function, rest))
+}
+
+#[cfg(test)]
+pub(crate) mod tests;

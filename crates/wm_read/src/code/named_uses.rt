@@ -1,0 +1,135 @@
+//! Type uses of functions and imports (section 6.6.3), whose parameters may have identifiers.
+
+ghost use Rattle.std.specs.Prelude.{◌≡◌, IfOk};
+ghost use Rattle.std.specs.Option.{option_map};
+ghost use Rattle.wm_read.specs.Written as written;
+ghost use Rattle.wm_read.specs.exact.NamedUses as uses;
+ghost use Rattle.wm_read.specs.exact.Scan.{lexed};
+ghost use Rattle.wm_read.specs.inner.Blocks.{names_of};
+ghost use Rattle.wm_read.specs.inner.Named.{named_list, params_of};
+ghost use Rattle.wm_read.specs.inner.Views.{IsRefusal, Reads};
+
+use crate::code::named;
+use crate::code::named::Named;
+use crate::code::type_uses::{
+    begins_group, fits, groups, no_form, nothing, refuse_index, type_at, type_index,
+};
+use crate::faults::{TextFault, TextWhy};
+use crate::names::identifiers::Names;
+use std::alloc::{AllocError, Global};
+use wm_syntax::types::{FuncType, ValType};
+
+/// The parameters of a type use: those of its type, with no identifiers, or those that are written.
+#[derive(Debug, Drop)]
+pub enum Params<'n, 'a> {
+    OfType(&'n [ValType]),
+    Written(Vec<Named<'a>>),
+}
+
+/// A type use: the index of the type, and as many parameters as the type has, with the
+/// identifiers that are written.
+#[derive(Debug, Drop)]
+pub struct NamedUse<'n, 'a> {
+    pub index: u32,
+    pub params: Params<'n, 'a>,
+}
+
+/// The types of parameters.
+#[tactic(auto, using(crate::proofs::NamedUses::types_laws))]
+pub(crate) fn types_of(alloc: Global, params: &[Named]) -> Result<Vec<ValType>, AllocError>
+    ensures { IfOk result (λ ts. ts.items ≡ written.types_of (named_list params.now)) }
+{
+    let mut types = Vec::new(alloc);
+    for param in params {
+        types.push(param.ty)?;
+    }
+    Ok(types)
+}
+
+/// The parameters of a use: those of the type where nothing is written, or those written where all is as in
+/// the type. Those of the type are not copied, so that they take no time.
+#[tactic(auto, using(crate::proofs::NamedUses::used_laws))]
+fn used<'n, 'a>(
+    alloc: Global,
+    ty: &'n FuncType,
+    params: Vec<Named<'a>>,
+    results: &[ValType],
+) -> Result<Option<Params<'n, 'a>>, AllocError>
+    ensures { IfOk result (λ o. option_map params_of o
+        ≡ uses.used_of ty.now (named_list params.entry.items) results.now) }
+{
+    let written = types_of(alloc, &params)?;
+    if !fits(ty, &written, results) {
+        Ok(None)
+    } else if nothing(&written) && nothing(results) {
+        Ok(Some(Params::OfType(&ty.params)))
+    } else {
+        Ok(Some(Params::Written(params)))
+    }
+}
+
+/// The fault of a use whose parameters or results are not its type's, from the text of the use and the text
+/// after it: a wrong form that stands there, or the index. Locals are no wrong form where they may stand.
+fn misfit(locals: bool, text: &[u8], rest: &[u8]) -> TextFault
+    ensures { IsRefusal result.why }
+{
+    if locals && begins_group(b"local", rest) {
+        return refuse_index(TextWhy::TypeUse, text);
+    }
+    match no_form(rest) {
+        Ok(()) => refuse_index(TextWhy::TypeUse, text),
+        Err(fault) => fault,
+    }
+}
+
+/// `( type idx )`, parameters and results, as many as stand first; `locals` tells whether locals
+/// may follow. Parameters and results that are not those of the type are a fault at the index,
+/// unless a wrong form follows.
+#[tactic(auto, using(crate::proofs::NamedUses::named_laws))]
+pub fn named_use<'n, 'a>(
+    alloc: Global,
+    names: &'n Names,
+    locals: bool,
+    text: &'a [u8],
+) -> Result<(NamedUse<'n, 'a>, &'a [u8]), TextFault>
+    ensures { Reads (λ x. ((x.0.index, params_of x.0.params), lexed x.1.now)) result
+        (uses.named_use_at (names_of names.now) (lexed text.now)) }
+{
+    let (index, rest) = type_index(names, text)?;
+    match type_at(names, index) {
+        Some(ty) => {
+            let (params, rest) = named::groups(alloc, b"param", rest)?;
+            let (results, rest) = groups(alloc, b"result", rest)?;
+            match used(alloc, ty, params, &results)? {
+                Some(params) => Ok((NamedUse { index, params }, rest)),
+                None => Err(misfit(locals, text, rest)),
+            }
+        }
+        None => Err(refuse_index(TextWhy::TypeUse, text)),
+    }
+}
+
+/// The fault of a call_indirect's type use, which was refused so. Whole forms that are not those of
+/// the type are a fault at the index; else the first identifier of a parameter is one, unless a wrong
+/// token stands before it.
+pub(crate) fn call_fault(alloc: Global, names: &Names, fault: TextFault, text: &[u8]) -> TextFault
+    ensures { IsRefusal result.why → IsRefusal fault.why }
+{
+    if fault.why == TextWhy::Memory {
+        return fault;
+    }
+    let with_ids = match named_use(alloc, names, false, text) {
+        Ok((_used, rest)) => no_form(rest),
+        Err(other) => Err(other),
+    };
+    match with_ids {
+        Err(other) if other.why == TextWhy::Memory || other.left >= fault.left => other,
+        _ => TextFault {
+            why: TextWhy::TypeUse,
+            left: fault.left,
+        },
+    }
+}
+
+#[cfg(test)]
+pub(crate) mod tests;

@@ -1,0 +1,340 @@
+//! What follows the word of an instruction: operands, from the first token of a text on.
+
+ghost use Rattle.std.specs.Prelude.{◌≡◌, ◌≤◌, ◌<◌, Some, None, codes, Option, nat_lt, if◌then◌else◌, IfOk};
+ghost use Rattle.std.specs.Prelude.{length};
+ghost use Rattle.wm_read.specs.exact.Reading as reading;
+ghost use Rattle.wm_read.specs.exact.Scan.{lexed};
+ghost use Rattle.wm_read.specs.exact.TypeUses as uses;
+ghost use Rattle.wm_read.specs.inner.Ids.{id_of};
+ghost use Rattle.wm_read.specs.inner.Pieces.{labels};
+ghost use Rattle.wm_read.specs.inner.Views.{IsRefusal, Reads};
+
+use crate::code::blocks::OpenBlocks;
+use crate::faults::{TextFault, TextWhy};
+use crate::names::identifiers::{Space, is_same_id};
+use crate::tokens::lexeme::{Lexeme, next_token, skip_space};
+use crate::tokens::literals::{
+    after_key, constant32, constant64, exponent, is, is_float, is_id, is_word, small, unsigned,
+};
+use wm_syntax::instructions::MemArg;
+use wm_syntax::types::ValType;
+
+/// A refusal at the first token of a text.
+pub fn refuse(why: TextWhy, text: &[u8]) -> TextFault
+    ensures why { result.why ≡ why }
+    ensures left { result.left ≤ length text.now }
+{
+    TextFault {
+        why,
+        left: skip_space(text).len(),
+    }
+}
+
+/// An index or a depth from its number, the first token of a text.
+pub fn number(atom: &[u8], text: &[u8]) -> Result<u32, TextFault>
+    ensures { Reads (λ n. n) result (reading.unsigned_of atom.now) }
+{
+    match unsigned(atom) {
+        Some(n) => Ok(n),
+        None => {
+            if is_word(atom) {
+                Err(refuse(TextWhy::Expected, text))
+            } else {
+                Err(refuse(TextWhy::BadInteger, text))
+            }
+        }
+    }
+}
+
+/// An index or a depth from the place of its identifier, the first token of a text.
+fn known(place: Option<usize>, text: &[u8]) -> Result<u32, TextFault>
+    ensures { Reads (λ n. n) result (reading.small_place place) }
+{
+    match place {
+        Some(x) => match small(x) {
+            Some(x) => Ok(x),
+            None => Err(refuse(TextWhy::UnknownId, text)),
+        },
+        None => Err(refuse(TextWhy::UnknownId, text)),
+    }
+}
+
+/// A number or an identifier of these items.
+pub fn index<'a>(space: &Space, text: &'a [u8]) -> Result<(u32, &'a [u8]), TextFault>
+    ensures { Reads (λ x. (x.0, lexed x.1.now)) result
+        (reading.atom_at (reading.index_of space.now) (lexed text.now)) }
+{
+    match next_token(text) {
+        Some((Lexeme::Atom(atom), rest)) => {
+            if is_id(atom) {
+                let x = known(space.place(atom), text)?;
+                Ok((x, rest))
+            } else {
+                let x = number(atom, text)?;
+                Ok((x, rest))
+            }
+        }
+        _ => Err(refuse(TextWhy::Expected, text)),
+    }
+}
+
+/// A constant of 32 bits.
+pub fn integer_32(text: &[u8]) -> Result<(i32, &[u8]), TextFault>
+    ensures { Reads (λ x. (x.0, lexed x.1.now)) result
+        (reading.atom_at (reading.integer_of 32) (lexed text.now)) }
+{
+    match next_token(text) {
+        Some((Lexeme::Atom(atom), rest)) => match constant32(atom) {
+            Some(n) => Ok((n, rest)),
+            None => Err(no_integer(atom, text)),
+        },
+        _ => Err(refuse(TextWhy::Expected, text)),
+    }
+}
+
+/// A constant of 64 bits.
+pub fn integer_64(text: &[u8]) -> Result<(i64, &[u8]), TextFault>
+    ensures { Reads (λ x. (x.0, lexed x.1.now)) result
+        (reading.atom_at (reading.integer_of 64) (lexed text.now)) }
+{
+    match next_token(text) {
+        Some((Lexeme::Atom(atom), rest)) => match constant64(atom) {
+            Some(n) => Ok((n, rest)),
+            None => Err(no_integer(atom, text)),
+        },
+        _ => Err(refuse(TextWhy::Expected, text)),
+    }
+}
+
+/// What is wrong with an atom, the first token of a text, where a constant is expected.
+fn no_integer(atom: &[u8], text: &[u8]) -> TextFault
+    ensures { IsRefusal result.why }
+{
+    if is_word(atom) || is_id(atom) {
+        refuse(TextWhy::Expected, text)
+    } else {
+        refuse(TextWhy::BadInteger, text)
+    }
+}
+
+/// Whether a number or an identifier stands first.
+pub fn begins_index(text: &[u8]) -> bool
+    ensures { result ≡ reading.begins_index (lexed text.now) }
+{
+    match next_token(text) {
+        Some((Lexeme::Atom(atom), _)) => !is_word(atom),
+        _ => false,
+    }
+}
+
+/// A number or the identifier of an open block.
+pub fn label<'a>(blocks: &OpenBlocks, text: &'a [u8]) -> Result<(u32, &'a [u8]), TextFault>
+    ensures shorter { IfOk result (λ x. length x.1.now < length text.now) }
+    ensures read { Reads (λ x. (x.0, lexed x.1.now)) result
+        (reading.atom_at (reading.index_of (labels blocks.now)) (lexed text.now)) }
+{
+    match next_token(text) {
+        Some((Lexeme::Atom(atom), rest)) => {
+            if is_id(atom) {
+                let l = known(blocks.depth(atom), text)?;
+                Ok((l, rest))
+            } else {
+                let l = number(atom, text)?;
+                Ok((l, rest))
+            }
+        }
+        _ => Err(refuse(TextWhy::Expected, text)),
+    }
+}
+
+/// An identifier, or none.
+pub fn id(text: &[u8]) -> (Option<&[u8]>, &[u8])
+    ensures { Some (id_of result.0, lexed result.1.now) ≡ reading.id_at (lexed text.now) }
+{
+    match next_token(text) {
+        Some((Lexeme::Atom(atom), rest)) => {
+            if is_id(atom) {
+                (Some(atom), rest)
+            } else {
+                (None, text)
+            }
+        }
+        _ => (None, text),
+    }
+}
+
+/// A block's identifier once more, or nothing.
+pub fn again<'a>(id: Option<&[u8]>, text: &'a [u8]) -> Result<&'a [u8], TextFault>
+    ensures { Reads (λ r. (tt, lexed r.now)) result (reading.again_at (id_of id.entry) (lexed text.now)) }
+{
+    match next_token(text) {
+        Some((Lexeme::Atom(atom), rest)) => {
+            if !is_id(atom) {
+                Ok(text)
+            } else if is_same_id(id, atom) {
+                Ok(rest)
+            } else {
+                Err(refuse(TextWhy::LabelEnd, text))
+            }
+        }
+        _ => Ok(text),
+    }
+}
+
+/// An opening parenthesis.
+pub fn open(text: &[u8]) -> Result<&[u8], TextFault>
+    ensures { Reads (λ r. (tt, lexed r.now)) result (reading.open_at (lexed text.now)) }
+{
+    match next_token(text) {
+        Some((Lexeme::Open, rest)) => Ok(rest),
+        _ => Err(refuse(TextWhy::Expected, text)),
+    }
+}
+
+/// Whether a parenthesis is opened.
+pub fn begins_open(text: &[u8]) -> bool
+    ensures { result ≡ uses.begins_open (lexed text.now) }
+{
+    matches!(next_token(text), Some((Lexeme::Open, _)))
+}
+
+/// A closing parenthesis.
+pub fn close(text: &[u8]) -> Result<&[u8], TextFault>
+    ensures { Reads (λ r. (tt, lexed r.now)) result (reading.close_at (lexed text.now)) }
+{
+    match next_token(text) {
+        Some((Lexeme::Close, rest)) => Ok(rest),
+        _ => Err(refuse(TextWhy::Expected, text)),
+    }
+}
+
+/// A closing parenthesis where forms may stand: one that does is wrong by the word after its parenthesis.
+pub fn close_forms(text: &[u8]) -> Result<&[u8], TextFault>
+    ensures { Reads (λ r. (tt, lexed r.now)) result (reading.close_at (lexed text.now)) }
+{
+    match next_token(text) {
+        Some((Lexeme::Close, rest)) => Ok(rest),
+        Some((Lexeme::Open, inner)) => Err(refuse(TextWhy::Expected, inner)),
+        _ => Err(refuse(TextWhy::Expected, text)),
+    }
+}
+
+/// This word.
+pub fn word<'a>(word: &[u8], text: &'a [u8]) -> Result<&'a [u8], TextFault>
+    ensures { Reads (λ r. (tt, lexed r.now)) result
+        (reading.atom_at (reading.word_of word.now) (lexed text.now)) }
+{
+    match next_token(text) {
+        Some((Lexeme::Atom(atom), rest)) => {
+            if is(atom, word) {
+                Ok(rest)
+            } else {
+                Err(refuse(TextWhy::Expected, text))
+            }
+        }
+        _ => Err(refuse(TextWhy::Expected, text)),
+    }
+}
+
+/// The value type that an atom names.
+pub fn named_type(atom: &[u8]) -> Option<ValType>
+    ensures { result ≡ reading.type_of atom.now }
+{
+    if is(atom, b"i32") {
+        Some(ValType::I32)
+    } else if is(atom, b"i64") {
+        Some(ValType::I64)
+    } else {
+        None
+    }
+}
+
+/// What is wrong with an atom, the first token of a text, that is no value type.
+pub fn no_type(atom: &[u8], text: &[u8]) -> TextFault
+    ensures { IsRefusal result.why }
+{
+    if is_float(atom) {
+        refuse(TextWhy::Float, text)
+    } else {
+        refuse(TextWhy::Expected, text)
+    }
+}
+
+/// What is wrong with an atom, the first token of a text, that names no instruction.
+pub fn no_instruction(atom: &[u8], text: &[u8]) -> TextFault
+    ensures { IsRefusal result.why }
+{
+    if is_float(atom) {
+        refuse(TextWhy::Float, text)
+    } else if is_word(atom) {
+        refuse(TextWhy::UnknownWord, text)
+    } else {
+        refuse(TextWhy::Expected, text)
+    }
+}
+
+/// A value type.
+pub fn val_type(text: &[u8]) -> Result<(ValType, &[u8]), TextFault>
+    ensures { Reads (λ x. (x.0, lexed x.1.now)) result (reading.atom_at reading.type_of (lexed text.now)) }
+{
+    match next_token(text) {
+        Some((Lexeme::Atom(atom), rest)) => match named_type(atom) {
+            Some(ty) => Ok((ty, rest)),
+            None => Err(no_type(atom, text)),
+        },
+        _ => Err(refuse(TextWhy::Expected, text)),
+    }
+}
+
+/// `( result valtype )`
+fn result_type(text: &[u8]) -> Result<(ValType, &[u8]), TextFault>
+    ensures { Reads (λ x. (x.0, lexed x.1.now)) result
+        (reading.paren_at (codes "result") (reading.atom_at reading.type_of) (lexed text.now)) }
+{
+    let rest = open(text)?;
+    let rest = word(b"result", rest)?;
+    let (ty, rest) = val_type(rest)?;
+    let rest = close(rest)?;
+    Ok((ty, rest))
+}
+
+/// A block's type.
+pub fn block_type(text: &[u8]) -> Result<(Option<ValType>, &[u8]), TextFault>
+    ensures { Reads (λ x. (x.0, lexed x.1.now)) result (reading.block_type_at (lexed text.now)) }
+{
+    match next_token(text) {
+        Some((Lexeme::Open, _)) => {
+            let (ty, rest) = result_type(text)?;
+            Ok((Some(ty), rest))
+        }
+        _ => Ok((None, text)),
+    }
+}
+
+/// A number behind a key, or the usual one.
+pub fn key<'a>(key: &[u8], usual: u32, text: &'a [u8]) -> Result<(u32, &'a [u8]), TextFault>
+    ensures { Reads (λ x. (x.0, lexed x.1.now)) result (reading.key_at key.now usual (lexed text.now)) }
+{
+    match next_token(text) {
+        Some((Lexeme::Atom(atom), rest)) => match after_key(key, atom) {
+            Some(digits) => match unsigned(digits) {
+                Some(n) => Ok((n, rest)),
+                None => Err(refuse(TextWhy::BadInteger, text)),
+            },
+            None => Ok((usual, text)),
+        },
+        _ => Ok((usual, text)),
+    }
+}
+
+/// The arguments of a load or a store of so many bytes.
+pub fn access(width: u32, text: &[u8]) -> Result<(MemArg, &[u8]), TextFault>
+    ensures { Reads (λ x. (x.0, lexed x.1.now)) result (reading.access_at width (lexed text.now)) }
+{
+    let (offset, rest) = key(b"offset=", 0, text)?;
+    let (bytes, after) = key(b"align=", width, rest)?;
+    match exponent(bytes) {
+        Some(align) => Ok((MemArg { align, offset }, after)),
+        None => Err(refuse(TextWhy::BadAlign, rest)),
+    }
+}

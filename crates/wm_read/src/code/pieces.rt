@@ -1,0 +1,264 @@
+//! Pieces of a body: an instruction, or what opens, divides or closes a block.
+
+ghost use Rattle.std.specs.Prelude.{◌≡◌, ◌≤◌, Some, IfOk, length};
+ghost use Rattle.wm_read.specs.exact.Scan.{lexed};
+ghost use Rattle.wm_read.specs.inner.Blocks.{names_of, scope_of};
+ghost use Rattle.wm_read.specs.exact.TypeUses.{call_use_at};
+ghost use Rattle.wm_read.specs.inner.CodePieces.{FitsPiece, piece_of, HasOperand};
+ghost use Rattle.wm_read.specs.inner.Pieces as flat;
+ghost use Rattle.wm_read.specs.exact.Reading as reading;
+ghost use Rattle.wm_read.specs.inner.Views.{Reads};
+ghost use Rattle.wm_syntax.specs.Opcodes as table;
+ghost use Rattle.wm_syntax.specs.declared.instructions.Simple.TheVariants as Simple;
+
+use crate::code::blocks::{OpenBlocks, Opening};
+use crate::code::named_uses::call_fault;
+use crate::code::operands::{
+    access, again, begins_index, block_type, id, index, integer_32, integer_64, label,
+    no_instruction, refuse,
+};
+use crate::code::type_uses::type_use;
+use crate::faults::{TextFault, TextWhy};
+use crate::names::identifiers::{Names, Scope};
+use crate::tokens::lexeme::{Lexeme, next_token};
+use std::alloc::Global;
+use wm_syntax::instructions::accesses::{loaded, stored};
+use wm_syntax::instructions::op_class::{Immediates, OpClass};
+use wm_syntax::instructions::op_names::op_named;
+use wm_syntax::instructions::{LoadOp, Op, Simple, StoreOp};
+use wm_syntax::profile::Profile;
+use wm_syntax::types::ValType;
+
+/// A piece of a body.
+#[derive(Debug, Drop)]
+pub enum Piece<'a> {
+    Plain(Simple),
+    Table(Vec<u32>, u32),
+    Opens(Opening, Option<&'a [u8]>, Option<ValType>),
+    Middle,
+    Closes,
+}
+
+fn opens(opening: Opening, text: &[u8]) -> Result<(Piece, &[u8]), TextFault>
+    ensures fits { IfOk result (λ x. FitsPiece (piece_of x.0)) }
+    ensures read { Reads (λ x. (piece_of x.0, lexed x.1.now)) result
+        (reading.opens_at opening (lexed text.now)) }
+{
+    let (id, rest) = id(text);
+    let (ty, rest) = block_type(rest)?;
+    Ok((Piece::Opens(opening, id, ty), rest))
+}
+
+fn load(op: LoadOp, text: &[u8]) -> Result<(Simple, &[u8]), TextFault>
+    ensures { Reads (λ x. (flat.plain x.0, lexed x.1.now)) result
+        (reading.simple_at (Simple.Load op) (reading.access_at (table.load op).width) (lexed text.now)) }
+{
+    let (at, rest) = access(loaded(op).width, text)?;
+    Ok((Simple::Load(op, at), rest))
+}
+
+fn store(op: StoreOp, text: &[u8]) -> Result<(Simple, &[u8]), TextFault>
+    ensures { Reads (λ x. (flat.plain x.0, lexed x.1.now)) result
+        (reading.simple_at (Simple.Store op) (reading.access_at (table.store op).width) (lexed text.now)) }
+{
+    let (at, rest) = access(stored(op).width, text)?;
+    Ok((Simple::Store(op, at), rest))
+}
+
+/// Labels, as many as stand first. One after the `most` that there may be is a fault.
+#[tactic(auto, using(crate::proofs::Tables::few_laws))]
+fn labels<'a>(
+    alloc: Global,
+    blocks: &OpenBlocks,
+    most: usize,
+    text: &'a [u8],
+) -> Result<(Vec<u32>, &'a [u8]), TextFault>
+    ensures few { IfOk result (λ x. length x.0.items ≤ most) }
+    ensures read { Reads (λ x. (x.0.items, lexed x.1.now)) result
+        (reading.few_labels_at (flat.labels blocks.now) most (lexed text.now)) }
+{
+    let mut labels = Vec::new(alloc);
+    let mut rest = text;
+    while begins_index(rest) {
+        if labels.len() >= most {
+            return Err(refuse(TextWhy::Expected, rest));
+        }
+        let (l, more) = label(blocks, rest)?;
+        labels.push(l)?;
+        rest = more;
+    }
+    Ok((labels, rest))
+}
+
+/// Labels, of which the last is the default.
+#[tactic(auto, using(crate::proofs::Tables::table_laws))]
+fn table<'a>(
+    alloc: Global,
+    blocks: &OpenBlocks,
+    text: &'a [u8],
+) -> Result<(Piece<'a>, &'a [u8]), TextFault>
+    ensures fits { IfOk result (λ x. FitsPiece (piece_of x.0)) }
+    ensures read { Reads (λ x. (piece_of x.0, lexed x.1.now)) result
+        (reading.table_at (flat.labels blocks.now) (lexed text.now)) }
+{
+    let (mut labels, rest) = labels(alloc, blocks, 0x1_0000_0000, text)?;
+    match labels.pop() {
+        Some(default) => Ok((Piece::Table(labels, default), rest)),
+        None => Err(refuse(TextWhy::Expected, rest)),
+    }
+}
+
+fn middle<'a>(
+    blocks: &OpenBlocks,
+    here: &[u8],
+    text: &'a [u8],
+) -> Result<(Piece<'a>, &'a [u8]), TextFault>
+    ensures fits { IfOk result (λ x. FitsPiece (piece_of x.0)) }
+    ensures read { Reads (λ x. (piece_of x.0, lexed x.1.now)) result
+        (reading.middle_at blocks.now (lexed text.now)) }
+{
+    match blocks.innermost() {
+        Some(block) => {
+            if block.may_else {
+                let rest = again(block.id, text)?;
+                Ok((Piece::Middle, rest))
+            } else {
+                Err(refuse(TextWhy::UnknownWord, here))
+            }
+        }
+        None => Err(refuse(TextWhy::UnknownWord, here)),
+    }
+}
+
+fn closes<'a>(
+    blocks: &OpenBlocks,
+    here: &[u8],
+    text: &'a [u8],
+) -> Result<(Piece<'a>, &'a [u8]), TextFault>
+    ensures fits { IfOk result (λ x. FitsPiece (piece_of x.0)) }
+    ensures read { Reads (λ x. (piece_of x.0, lexed x.1.now)) result
+        (reading.closes_at blocks.now (lexed text.now)) }
+{
+    match blocks.innermost() {
+        Some(block) => {
+            let rest = again(block.id, text)?;
+            Ok((Piece::Closes, rest))
+        }
+        None => Err(refuse(TextWhy::UnknownWord, here)),
+    }
+}
+
+/// What follows the word of an instruction with one operand.
+fn operand<'a>(
+    scope: &Scope,
+    blocks: &OpenBlocks,
+    kind: Immediates,
+    text: &'a [u8],
+) -> Result<(Piece<'a>, &'a [u8]), TextFault>
+    requires { HasOperand kind }
+    ensures fits { IfOk result (λ x. FitsPiece (piece_of x.0)) }
+    ensures read { Reads (λ x. (piece_of x.0, lexed x.1.now)) result
+        (reading.kind_at (call_use_at (names_of scope.now.names.now)) (scope_of scope.now) blocks.now kind
+        (lexed text.now)) }
+{
+    let (simple, rest) = match kind {
+        Immediates::Br => {
+            let (l, rest) = label(blocks, text)?;
+            (Simple::Br(l), rest)
+        }
+        Immediates::BrIf => {
+            let (l, rest) = label(blocks, text)?;
+            (Simple::BrIf(l), rest)
+        }
+        Immediates::Call => {
+            let (x, rest) = index(&scope.names.functions, text)?;
+            (Simple::Call(x), rest)
+        }
+        Immediates::LocalGet => {
+            let (x, rest) = index(&scope.locals, text)?;
+            (Simple::LocalGet(x), rest)
+        }
+        Immediates::LocalSet => {
+            let (x, rest) = index(&scope.locals, text)?;
+            (Simple::LocalSet(x), rest)
+        }
+        Immediates::LocalTee => {
+            let (x, rest) = index(&scope.locals, text)?;
+            (Simple::LocalTee(x), rest)
+        }
+        Immediates::GlobalGet => {
+            let (x, rest) = index(&scope.names.globals, text)?;
+            (Simple::GlobalGet(x), rest)
+        }
+        Immediates::GlobalSet => {
+            let (x, rest) = index(&scope.names.globals, text)?;
+            (Simple::GlobalSet(x), rest)
+        }
+        Immediates::MemorySize => (Simple::MemorySize, text),
+        Immediates::MemoryGrow => (Simple::MemoryGrow, text),
+        Immediates::I32Const => {
+            let (n, rest) = integer_32(text)?;
+            (Simple::I32Const(n), rest)
+        }
+        Immediates::I64Const => {
+            let (n, rest) = integer_64(text)?;
+            (Simple::I64Const(n), rest)
+        }
+        Immediates::Load(op) => load(op, text)?,
+        Immediates::Store(op) => store(op, text)?,
+        _ => return Err(refuse(TextWhy::UnknownWord, text)),
+    };
+    Ok((Piece::Plain(simple), rest))
+}
+
+/// What follows the word of a call_indirect.
+fn indirect<'a>(
+    alloc: Global,
+    names: &Names,
+    text: &'a [u8],
+) -> Result<(Piece<'a>, &'a [u8]), TextFault>
+    ensures fits { IfOk result (λ x. FitsPiece (piece_of x.0)) }
+    ensures read { Reads (λ x. (piece_of x.0, lexed x.1.now)) result
+        (reading.simple_at Simple.CallIndirect (call_use_at (names_of names.now)) (lexed text.now)) }
+{
+    match type_use(alloc, names, text) {
+        Ok((x, rest)) => Ok((Piece::Plain(Simple::CallIndirect(x)), rest)),
+        Err(fault) => Err(call_fault(alloc, names, fault, text)),
+    }
+}
+
+/// The piece that begins with this word, which stands first in `here`, before `text`.
+#[tactic(auto, unfolding(crate::specs::exact::Reading::piece_at))]
+pub fn read_piece<'a>(
+    alloc: Global,
+    profile: Profile,
+    scope: &Scope,
+    blocks: &OpenBlocks,
+    word: &[u8],
+    here: &[u8],
+    text: &'a [u8],
+) -> Result<(Piece<'a>, &'a [u8]), TextFault>
+    ensures fits { IfOk result (λ x. FitsPiece (piece_of x.0)) }
+    ensures read { Reads (λ x. (piece_of x.0, lexed x.1.now)) result
+        (reading.piece_at (call_use_at (names_of scope.now.names.now)) profile (scope_of scope.now) blocks.now
+        word.now
+        (lexed text.now)) }
+{
+    match op_named(profile, word) {
+        OpClass::Plain(Op::Simple(simple)) => Ok((Piece::Plain(simple), text)),
+        OpClass::Plain(Op::Else) => middle(blocks, here, text),
+        OpClass::Plain(Op::End) => closes(blocks, here, text),
+        OpClass::Plain(_) => Err(refuse(TextWhy::UnknownWord, here)),
+        OpClass::With(Immediates::Block) => opens(Opening::Block, text),
+        OpClass::With(Immediates::Loop) => opens(Opening::Loop, text),
+        OpClass::With(Immediates::If) => opens(Opening::If, text),
+        OpClass::With(Immediates::BrTable) => table(alloc, blocks, text),
+        OpClass::With(Immediates::CallIndirect) => indirect(alloc, scope.names, text),
+        OpClass::With(kind) => operand(scope, blocks, kind, text),
+        OpClass::Float => Err(refuse(TextWhy::Float, here)),
+        OpClass::None => Err(no_instruction(word, here)),
+    }
+}
+
+#[cfg(test)]
+pub(crate) mod tests;

@@ -1,0 +1,89 @@
+//! Constant expressions (section 3.3.7): one instruction, a number or the value of a global.
+
+ghost use Rattle.std.specs.Prelude.{◌≡◌};
+ghost use Rattle.wm_read.specs.exact.Fields as fields;
+ghost use Rattle.wm_read.specs.exact.Reading as reading;
+ghost use Rattle.wm_read.specs.exact.Scan.{lexed};
+ghost use Rattle.wm_read.specs.inner.Blocks.{names_of};
+ghost use Rattle.wm_read.specs.inner.Views.{IsRefusal, Reads};
+
+use crate::code::operands::{index, integer_32, integer_64, no_instruction, open, refuse, word};
+use crate::faults::{TextFault, TextWhy};
+use crate::names::identifiers::Names;
+use crate::tokens::lexeme::{Lexeme, next_token};
+use wm_syntax::instructions::Op;
+use wm_syntax::instructions::op_class::{Immediates, OpClass};
+use wm_syntax::instructions::op_names::op_named;
+use wm_syntax::profile::Profile;
+use wm_syntax::types::Const;
+
+/// What is wrong with an atom, the first token of a text, that begins no constant.
+fn no_constant(profile: Profile, atom: &[u8], text: &[u8]) -> TextFault
+    ensures { IsRefusal result.why }
+{
+    match op_named(profile, atom) {
+        OpClass::Plain(Op::Else) | OpClass::Plain(Op::End) => refuse(TextWhy::UnknownWord, text),
+        OpClass::Plain(_) | OpClass::With(_) => refuse(TextWhy::NotConst, text),
+        OpClass::Float => refuse(TextWhy::Float, text),
+        OpClass::None => no_instruction(atom, text),
+    }
+}
+
+/// The instruction of a constant expression.
+pub fn constant<'a>(
+    profile: Profile,
+    names: &Names,
+    text: &'a [u8],
+) -> Result<(Const, &'a [u8]), TextFault>
+    ensures { Reads (λ x. (x.0, lexed x.1.now)) result
+        (fields.const_at profile (names_of names.now) (lexed text.now)) }
+{
+    match next_token(text) {
+        Some((Lexeme::Atom(atom), rest)) => match op_named(profile, atom) {
+            OpClass::With(Immediates::I32Const) => {
+                let (n, rest) = integer_32(rest)?;
+                Ok((Const::I32(n), rest))
+            }
+            OpClass::With(Immediates::I64Const) => {
+                let (n, rest) = integer_64(rest)?;
+                Ok((Const::I64(n), rest))
+            }
+            OpClass::With(Immediates::GlobalGet) => {
+                let (x, rest) = index(&names.globals, rest)?;
+                Ok((Const::Global(x), rest))
+            }
+            _ => Err(no_constant(profile, atom, text)),
+        },
+        _ => Err(refuse(TextWhy::Expected, text)),
+    }
+}
+
+/// The parenthesis after a constant. An instruction in its place is one too many.
+pub fn constant_end(profile: Profile, text: &[u8]) -> Result<&[u8], TextFault>
+    ensures { Reads (λ r. (tt, lexed r.now)) result (reading.close_at (lexed text.now)) }
+{
+    match next_token(text) {
+        Some((Lexeme::Close, rest)) => Ok(rest),
+        Some((Lexeme::Atom(atom), _)) => Err(no_constant(profile, atom, text)),
+        _ => Err(refuse(TextWhy::Expected, text)),
+    }
+}
+
+/// `( offset const )`
+pub fn offset<'a>(
+    profile: Profile,
+    names: &Names,
+    text: &'a [u8],
+) -> Result<(Const, &'a [u8]), TextFault>
+    ensures { Reads (λ x. (x.0, lexed x.1.now)) result
+        (fields.offset_at profile (names_of names.now) (lexed text.now)) }
+{
+    let rest = open(text)?;
+    let rest = word(b"offset", rest)?;
+    let (offset, rest) = constant(profile, names, rest)?;
+    let rest = constant_end(profile, rest)?;
+    Ok((offset, rest))
+}
+
+#[cfg(test)]
+pub(crate) mod tests;

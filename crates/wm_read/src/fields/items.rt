@@ -1,0 +1,94 @@
+//! What an import brings in (section 6.6.4), and what an export gives out (section 6.6.9).
+
+ghost use Rattle.std.specs.Prelude.{◌≡◌};
+ghost use Rattle.wm_read.specs.exact.Fields as fields;
+ghost use Rattle.wm_read.specs.exact.Scan.{lexed};
+ghost use Rattle.wm_read.specs.inner.Blocks.{names_of};
+ghost use Rattle.wm_read.specs.inner.Ids.{id_of};
+ghost use Rattle.wm_read.specs.inner.Views.{Reads};
+
+use crate::code::named_uses::named_use;
+use crate::code::operands::{close, close_forms, id, index, open};
+use crate::faults::TextFault;
+use crate::fields::types::{global_type, limits, table_type};
+use crate::fields::words::item_kind;
+use crate::names::identifiers::{Names, Space};
+use std::alloc::Global;
+use wm_syntax::modules::{ExportKind, ImportDesc};
+
+/// What stands after the identifier of an import's item.
+fn desc_type<'a>(
+    alloc: Global,
+    names: &Names,
+    kind: ExportKind,
+    text: &'a [u8],
+) -> Result<(ImportDesc, &'a [u8]), TextFault>
+    ensures { Reads (λ x. (x.0, lexed x.1.now)) result
+        (fields.desc_kind (names_of names.now) kind (lexed text.now)) }
+{
+    match kind {
+        ExportKind::Func => {
+            let (used, rest) = named_use(alloc, names, false, text)?;
+            Ok((ImportDesc::Func(used.index), rest))
+        }
+        ExportKind::Table => {
+            let (limits, rest) = table_type(text)?;
+            Ok((ImportDesc::Table(limits), rest))
+        }
+        ExportKind::Memory => {
+            let (limits, rest) = limits(text)?;
+            Ok((ImportDesc::Memory(limits), rest))
+        }
+        ExportKind::Global => {
+            let (ty, rest) = global_type(text)?;
+            Ok((ImportDesc::Global(ty), rest))
+        }
+    }
+}
+
+/// An import's item: its identifier, if it has one, and what it is.
+pub fn desc<'a>(
+    alloc: Global,
+    names: &Names,
+    text: &'a [u8],
+) -> Result<(Option<&'a [u8]>, ImportDesc, &'a [u8]), TextFault>
+    ensures { Reads (λ x. ((id_of x.0, x.1), lexed x.2.now)) result
+        (fields.desc_at (names_of names.now) (lexed text.now)) }
+{
+    let rest = open(text)?;
+    let (kind, rest) = item_kind(rest)?;
+    let (id, rest) = id(rest);
+    let (desc, rest) = desc_type(alloc, names, kind, rest)?;
+    let rest = match kind {
+        ExportKind::Func => close_forms(rest)?,
+        _ => close(rest)?,
+    };
+    Ok((id, desc, rest))
+}
+
+/// The index space of these items.
+fn space_of<'n, 'a>(names: &'n Names<'a>, kind: ExportKind) -> &'n Space<'a>
+    ensures { result.now ≡ fields.space_of (names_of names.now) kind }
+{
+    match kind {
+        ExportKind::Func => &names.functions,
+        ExportKind::Table => &names.tables,
+        ExportKind::Memory => &names.memories,
+        ExportKind::Global => &names.globals,
+    }
+}
+
+/// An export's item: its kind and its index.
+pub fn item<'a>(names: &Names, text: &'a [u8]) -> Result<(ExportKind, u32, &'a [u8]), TextFault>
+    ensures { Reads (λ x. ((x.0, x.1), lexed x.2.now)) result
+        (fields.item_at (names_of names.now) (lexed text.now)) }
+{
+    let rest = open(text)?;
+    let (kind, rest) = item_kind(rest)?;
+    let (x, rest) = index(space_of(names, kind), rest)?;
+    let rest = close(rest)?;
+    Ok((kind, x, rest))
+}
+
+#[cfg(test)]
+pub(crate) mod tests;

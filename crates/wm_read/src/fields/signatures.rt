@@ -1,0 +1,31 @@
+//! The type of a type field (section 6.4.3).
+
+ghost use Rattle.std.specs.Prelude.{◌≡◌};
+ghost use Rattle.wm_read.specs.exact.Signatures.{signature_at};
+ghost use Rattle.wm_read.specs.exact.Scan.{lexed};
+ghost use Rattle.wm_read.specs.inner.Views.{Reads};
+
+use crate::code::named;
+use crate::code::named_uses::types_of;
+use crate::code::operands::{close_forms, open, word};
+use crate::code::type_uses::groups;
+use crate::faults::TextFault;
+use std::alloc::Global;
+use wm_syntax::types::FuncType;
+
+/// `( func param* result* )`. Identifiers of parameters are allowed, and mean nothing.
+#[tactic(auto, unfolding(crate::specs::exact::Signatures::signature_at, crate::specs::exact::NamedUses::results_at))]
+pub fn signature(alloc: Global, text: &[u8]) -> Result<(FuncType, &[u8]), TextFault>
+    ensures { Reads (λ x. (x.0, lexed x.1.now)) result (signature_at (lexed text.now)) }
+{
+    let rest = open(text)?;
+    let rest = word(b"func", rest)?;
+    let (params, rest) = named::groups(alloc, b"param", rest)?;
+    let (results, rest) = groups(alloc, b"result", rest)?;
+    let rest = close_forms(rest)?;
+    let params = types_of(alloc, &params)?;
+    Ok((FuncType { params, results }, rest))
+}
+
+#[cfg(test)]
+pub(crate) mod tests;

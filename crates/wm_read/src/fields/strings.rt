@@ -1,0 +1,51 @@
+//! Strings of fields: names (section 6.3.4), and the bytes of data segments.
+
+ghost use Rattle.std.specs.Prelude.{◌≡◌};
+ghost use Rattle.std.specs.String as string;
+ghost use Rattle.wm_read.specs.exact.Fields as fields;
+ghost use Rattle.wm_read.specs.exact.Scan.{lexed};
+ghost use Rattle.wm_read.specs.inner.Views.{Reads};
+
+use crate::code::operands::refuse;
+use crate::faults::{TextFault, TextWhy};
+use crate::tokens::lexeme::{Lexeme, next_token, string_bytes};
+use std::alloc::Global;
+
+/// A string that is UTF-8.
+#[tactic(auto, using(crate::proofs::FieldCode::name_laws))]
+pub fn name(alloc: Global, text: &[u8]) -> Result<(String, &[u8]), TextFault>
+    ensures { Reads (λ x. (string.string_bytes x.0, lexed x.1.now)) result (fields.name_at (lexed text.now)) }
+{
+    match next_token(text) {
+        Some((Lexeme::String(inside), rest)) => {
+            let bytes = string_bytes(alloc, inside)?;
+            match str::from_utf8(&bytes) {
+                Ok(name) => Ok((String::from_str(alloc, name)?, rest)),
+                Err(_) => Err(refuse(TextWhy::BadName, text)),
+            }
+        }
+        _ => Err(refuse(TextWhy::Expected, text)),
+    }
+}
+
+/// The bytes of all strings that stand first, joined.
+#[tactic(auto, using(crate::proofs::FieldCode::bytes_laws))]
+pub fn bytes(alloc: Global, text: &[u8]) -> Result<(Vec<u8>, &[u8]), TextFault>
+    ensures { Reads (λ x. (x.0.items, lexed x.1.now)) result (fields.bytes_at (lexed text.now)) }
+{
+    let mut bytes = Vec::new(alloc);
+    let mut rest = text;
+    loop {
+        match next_token(rest) {
+            Some((Lexeme::String(inside), more)) => {
+                let part = string_bytes(alloc, inside)?;
+                bytes.extend_from_slice(&part)?;
+                rest = more;
+            }
+            _ => return Ok((bytes, rest)),
+        }
+    }
+}
+
+#[cfg(test)]
+pub(crate) mod tests;

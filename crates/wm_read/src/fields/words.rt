@@ -1,0 +1,111 @@
+//! The words that begin a field (section 6.6) and an item of an import or an export.
+
+ghost use Rattle.std.specs.Prelude.{◌≡◌};
+ghost use Rattle.wm_read.specs.exact.Fields.{field_named, item_named};
+ghost use Rattle.wm_read.specs.exact.Reading as reading;
+ghost use Rattle.wm_read.specs.exact.Scan.{lexed};
+ghost use Rattle.wm_read.specs.inner.Views.{IsRefusal, Reads};
+
+use crate::code::operands::refuse;
+use crate::faults::{TextFault, TextWhy};
+use crate::tokens::lexeme::{Lexeme, next_token};
+use crate::tokens::literals::{is, is_word};
+use wm_syntax::modules::ExportKind;
+
+/// What a field is.
+#[derive(Clone, Copy, PartialEq, Eq, Debug)]
+pub enum FieldKind {
+    Type,
+    Import,
+    Func,
+    Table,
+    Memory,
+    Global,
+    Export,
+    Start,
+    Elem,
+    Data,
+}
+
+/// The fields that a word begins.
+fn field_with(atom: &[u8]) -> Option<FieldKind>
+    ensures { result ≡ field_named atom.now }
+{
+    if is(atom, b"type") {
+        Some(FieldKind::Type)
+    } else if is(atom, b"import") {
+        Some(FieldKind::Import)
+    } else if is(atom, b"func") {
+        Some(FieldKind::Func)
+    } else if is(atom, b"table") {
+        Some(FieldKind::Table)
+    } else if is(atom, b"memory") {
+        Some(FieldKind::Memory)
+    } else if is(atom, b"global") {
+        Some(FieldKind::Global)
+    } else if is(atom, b"export") {
+        Some(FieldKind::Export)
+    } else if is(atom, b"start") {
+        Some(FieldKind::Start)
+    } else if is(atom, b"elem") {
+        Some(FieldKind::Elem)
+    } else if is(atom, b"data") {
+        Some(FieldKind::Data)
+    } else {
+        None
+    }
+}
+
+/// The items that a word begins.
+fn item_with(atom: &[u8]) -> Option<ExportKind>
+    ensures { result ≡ item_named atom.now }
+{
+    if is(atom, b"func") {
+        Some(ExportKind::Func)
+    } else if is(atom, b"table") {
+        Some(ExportKind::Table)
+    } else if is(atom, b"memory") {
+        Some(ExportKind::Memory)
+    } else if is(atom, b"global") {
+        Some(ExportKind::Global)
+    } else {
+        None
+    }
+}
+
+/// What is wrong with an atom, the first token of a text, where a form's word is expected.
+fn no_form(atom: &[u8], text: &[u8]) -> TextFault
+    ensures { IsRefusal result.why }
+{
+    if is_word(atom) {
+        refuse(TextWhy::UnknownWord, text)
+    } else {
+        refuse(TextWhy::Expected, text)
+    }
+}
+
+/// A field's word.
+pub fn field_kind(text: &[u8]) -> Result<(FieldKind, &[u8]), TextFault>
+    ensures { Reads (λ x. (x.0, lexed x.1.now)) result (reading.atom_at field_named (lexed text.now)) }
+{
+    match next_token(text) {
+        Some((Lexeme::Atom(atom), rest)) => match field_with(atom) {
+            Some(kind) => Ok((kind, rest)),
+            None => Err(no_form(atom, text)),
+        },
+        _ => Err(refuse(TextWhy::Expected, text)),
+    }
+}
+
+/// An item's word.
+pub fn item_kind(text: &[u8]) -> Result<(ExportKind, &[u8]), TextFault>
+    ensures { Reads (λ x. (x.0, lexed x.1.now)) result (reading.atom_at item_named (lexed text.now)) }
+{
+    match next_token(text) {
+        Some((Lexeme::Atom(atom), rest)) => match item_with(atom) {
+            Some(kind) => Ok((kind, rest)),
+            None => Err(refuse(TextWhy::Expected, text)),
+        },
+        _ => Err(refuse(TextWhy::Expected, text)),
+    }
+}

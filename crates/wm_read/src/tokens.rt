@@ -1,0 +1,5 @@
+//! Tokens (section 6.3): comments and blanks skipped, words and literals told apart.
+
+pub(crate) mod lexeme;
+pub(crate) mod literals;
+pub(crate) mod scan;

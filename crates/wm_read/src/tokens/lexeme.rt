@@ -1,0 +1,269 @@
+//! The tokens of a text (sections 6.2 and 6.3), one at a time.
+
+ghost use Rattle.std.specs.Prelude.{◌≡◌, ◌<◌, ◌≤◌, length, MatchOption, MatchResult, true, false, OnOk};
+ghost use Rattle.std.specs.Prelude.{OnErr, IfSome, IfErr, IsUtf8, ◌↔◌, ◌⊎◌, take, drop, List, [], ◌∷◌, ◌++◌};
+ghost use Rattle.std.specs.Prelude.{IsTrue, IfOk, encode_utf8};
+ghost use Rattle.std.specs.Str.{IsValidUpTo};
+ghost use Rattle.wm_read.specs.exact.Scan as scan;
+ghost use Rattle.wm_read.specs.Faults.{IsOfAToken, IsOfTheEnd, IsOfTokens};
+ghost use Rattle.wm_read.specs.Tokens as tokens;
+ghost use Rattle.wm_read.specs.declared.faults.TextWhy.TheVariants.{NotUtf8};
+ghost use Rattle.wm_read.specs.declared.tokens.scan.Mode.TheVariants as mode;
+ghost use Rattle.wm_read.specs.inner.Lexemes.{token_of, bytes_of, ahead_of, FaultOfTokens};
+ghost use Rattle.wm_read.specs.inner.Places.{Before, IsPlace};
+
+use crate::faults::{TextRefusal, TextWhy};
+use crate::tokens::scan::{
+    Class, Mode, Step, after_comment, after_line, after_spaces, after_string, atom_len, class_of,
+    is_atom, string_step,
+};
+use std::alloc::{AllocError, Global};
+
+/// A token (section 6.3), as it lies in the text.
+#[derive(Clone, Copy, Debug)]
+pub enum Lexeme<'a> {
+    /// `(`
+    Open,
+    /// `)`
+    Close,
+    /// A string: what stands between its quotation marks. `string_bytes` gives the bytes that it means.
+    String(&'a [u8]),
+    /// An identifier, a number or a word.
+    Atom(&'a [u8]),
+}
+
+/// What stands first in a text, and what follows it.
+#[derive(Clone, Copy)]
+pub enum Found<'a> {
+    /// The text is empty.
+    Nothing,
+    /// White space or a comment.
+    Blank(&'a [u8]),
+    First(Lexeme<'a>, &'a [u8]),
+    Fault(TextWhy),
+}
+
+/// What stands first.
+#[inline(always)]
+#[tactic(auto, unfolding(crate::specs::exact::Scan::ahead))]
+pub fn ahead(text: &[u8]) -> Found
+    ensures found { ahead_of result ≡ scan.ahead text.now }
+    ensures why { FaultOfTokens result }
+{
+    match text {
+        [] => Found::Nothing,
+        [c, more @ ..] => match class_of(*c) {
+            Class::Space => Found::Blank(more),
+            Class::Semicolon => semicolon(more),
+            Class::Opening => opening(more),
+            Class::Closing => Found::First(Lexeme::Close, more),
+            Class::Quote => quote(more),
+            Class::Atom => atom(text),
+            Class::Other => Found::Fault(TextWhy::BadToken),
+        },
+    }
+}
+
+/// What stands first where a semicolon does, from the text after it.
+fn semicolon(text: &[u8]) -> Found
+    ensures found { ahead_of result ≡ scan.ahead_semicolon text.now }
+    ensures why { FaultOfTokens result }
+{
+    match text {
+        [d, line @ ..] => {
+            if *d == b';' {
+                Found::Blank(after_line(line))
+            } else {
+                Found::Fault(TextWhy::BadToken)
+            }
+        }
+        [] => Found::Fault(TextWhy::BadToken),
+    }
+}
+
+/// What stands first where an opening parenthesis does, from the text after it.
+fn opening(text: &[u8]) -> Found
+    ensures found { ahead_of result ≡ scan.ahead_opening text.now }
+    ensures why { FaultOfTokens result }
+{
+    match text {
+        [d, inner @ ..] => {
+            if *d == b';' {
+                match after_comment(inner) {
+                    Some(rest) => Found::Blank(rest),
+                    None => Found::Fault(TextWhy::OpenComment),
+                }
+            } else {
+                Found::First(Lexeme::Open, text)
+            }
+        }
+        [] => Found::First(Lexeme::Open, text),
+    }
+}
+
+/// What stands first where a quotation mark does, from the text after it.
+#[tactic(auto, using(crate::proofs::Strings::string_laws))]
+fn quote(text: &[u8]) -> Found
+    ensures found { ahead_of result ≡ scan.string_or_fault (scan.string_in mode.Plain text.now) }
+    ensures why { FaultOfTokens result }
+{
+    match after_string(text) {
+        Ok(rest) => {
+            let (inside, _) = text.split_at(text.len() - rest.len() - 1);
+            Found::First(Lexeme::String(inside), rest)
+        }
+        Err(why) => Found::Fault(why),
+    }
+}
+
+/// What stands first where a character of atoms does.
+fn atom(text: &[u8]) -> Found
+    requires { scan.starts_atom text.now }
+    ensures found { ahead_of result ≡ scan.ahead text.now }
+    ensures why { FaultOfTokens result }
+{
+    let (atom, rest) = text.split_at(atom_len(text));
+    if is_atom(atom) {
+        Found::First(Lexeme::Atom(atom), rest)
+    } else {
+        Found::Fault(TextWhy::BadToken)
+    }
+}
+
+/// The first token, and the text after it; none at the end, or where `check_tokens` finds a fault.
+#[tactic(auto, using(crate::proofs::Whole::ahead_laws))]
+pub fn next_token(text: &[u8]) -> Option<(Lexeme, &[u8])>
+    ensures token { MatchOption result (scan.lexed text.now ≡ [])
+        (λ x. scan.lexed text.now ≡ token_of x.0 ∷ scan.lexed x.1.now) }
+    ensures shorter { IfSome result (λ x. length x.1.now < length text.now) }
+{
+    let mut rest = after_spaces(text);
+    loop {
+        match ahead(rest) {
+            Found::Nothing | Found::Fault(_) => return None,
+            Found::Blank(more) => rest = after_spaces(more),
+            Found::First(token, more) => return Some((token, more)),
+        }
+    }
+}
+
+/// A text from its first token on.
+#[tactic(auto, using(crate::proofs::Whole::ahead_laws))]
+pub fn skip_space(text: &[u8]) -> &[u8]
+    ensures same { scan.lexed result.now ≡ scan.lexed text.now }
+    ensures within { length result.now ≤ length text.now }
+{
+    let mut rest = after_spaces(text);
+    loop {
+        match ahead(rest) {
+            Found::Blank(more) => rest = after_spaces(more),
+            _ => return rest,
+        }
+    }
+}
+
+/// Whether a text is UTF-8 and has tokens (section 6.3); then these are what `next_token`
+/// finds, one after the other.
+///
+/// A text that is no UTF-8 is refused at the first byte that is none. Otherwise the first fault is
+/// told: at the first byte of the atom or string that has it, or at the text's length where a comment
+/// or a string does not end.
+#[tactic(auto, using(crate::proofs::Whole::stand_has))]
+pub fn check_tokens(text: &[u8]) -> Result<(), TextRefusal>
+    ensures ok { OnOk result (tokens.Tokens text.now (scan.lexed text.now)) }
+    ensures err { OnErr result ((k : List tokens.Token) → tokens.Tokens text.now k → ⊥) }
+    ensures why { IfErr result (λ e. (e.why ≡ NotUtf8) ⊎ IsOfTokens e.why) }
+    ensures utf8 { IfErr result (λ e. (e.why ≡ NotUtf8) ↔ (¬ (IsUtf8 text.now))) }
+    ensures at { IfErr result (λ e. e.at ≤ length text.now) }
+    ensures utf8_at { IfErr result (λ e. e.why ≡ NotUtf8 → IsValidUpTo text.now e.at) }
+    ensures end_at { IfErr result (λ e. IsOfTheEnd e.why → e.at ≡ length text.now) }
+    ensures token_at { IfErr result (λ e. IsOfAToken e.why
+        → ((k : List tokens.Token) × tokens.AreTokens k (take e.at text.now))
+        × tokens.BeginsNothing (drop e.at text.now)) }
+{
+    match std::str::from_utf8(text) {
+        Ok(_) => check_whole(text),
+        Err(error) => Err(TextRefusal {
+            at: error.valid_up_to(),
+            why: TextWhy::NotUtf8,
+        }),
+    }
+}
+
+/// Whether a whole text is made of tokens.
+#[tactic(auto, using(crate::proofs::Whole::stand_laws, crate::proofs::Places::place_laws))]
+fn check_whole(text: &[u8]) -> Result<(), TextRefusal>
+    ensures tokens { MatchResult result (λ _. scan.has_tokens text.now ≡ true)
+        (λ _. scan.has_tokens text.now ≡ false) }
+    ensures why { IfErr result (λ e. IsOfTokens e.why) }
+    ensures at { IfErr result (λ e. IsPlace text.now e) }
+{
+    let mut rest = after_spaces(text);
+    loop {
+        match ahead(rest) {
+            Found::Nothing => return Ok(()),
+            Found::Fault(why) => return Err(fault(text, rest, why)),
+            Found::Blank(more) => rest = after_spaces(more),
+            Found::First(_, more) => rest = after_spaces(more),
+        }
+    }
+}
+
+/// The fault of what stands first in the rest of a text.
+#[tactic(auto, using(crate::proofs::Places::fault_laws))]
+fn fault(text: &[u8], rest: &[u8], why: TextWhy) -> TextRefusal
+    requires before { Before text.now rest.now }
+    requires none { scan.fault ≡ scan.ahead rest.now }
+    ensures why { result.why ≡ why }
+    ensures at { IsPlace text.now result }
+{
+    let at = match why {
+        TextWhy::OpenComment | TextWhy::OpenString => text.len(),
+        _ => text.len() - rest.len(),
+    };
+    TextRefusal { at, why }
+}
+
+/// The bytes of a string (section 6.3.3), from what stands between its quotation marks.
+#[tactic(auto, using(crate::proofs::Strings::given_laws))]
+pub fn string_bytes(alloc: Global, text: &[u8]) -> Result<Vec<u8>, AllocError>
+    ensures { IfOk result (λ v. v.items ≡ bytes_of text.now) }
+{
+    let mut bytes = Vec::new(alloc);
+    let mut rest = text;
+    let mut mode = Mode::Plain;
+    while let [c, more @ ..] = rest {
+        rest = more;
+        match string_step(mode, *c) {
+            Step::On(next) => mode = next,
+            Step::Byte(byte) => {
+                bytes.push(byte)?;
+                mode = Mode::Plain;
+            }
+            Step::Scalar(n) => {
+                push_scalar(&mut bytes, n)?;
+                mode = Mode::Plain;
+            }
+            Step::End | Step::Bad => return Ok(bytes),
+        }
+    }
+    Ok(bytes)
+}
+
+/// Adds the UTF-8 of a scalar value.
+fn push_scalar(bytes: &mut Vec<u8>, n: u32) -> Result<(), AllocError>
+    requires { IsTrue (tokens.is_scalar n) }
+    ensures { OnOk result (bytes.new.items ≡ bytes.old.items ++ encode_utf8 n) }
+{
+    match char::from_u32(n) {
+        Some(c) => {
+            let mut buffer = [0; 4];
+            let text = c.encode_utf8(&mut buffer);
+            bytes.extend_from_slice(text.as_bytes())
+        }
+        None => Ok(()),
+    }
+}
+
+#[cfg(test)]
+pub(crate) mod tests;

@@ -1,9 +1,0 @@
--- What is left of both is the same exactly where both are.
-use Rattle.std.proofs.Common.{◌≡◌, ◌↔◌, length}
-use Rattle.wm_syntax.proofs.equality.same_list.Given as goal
-
-abbrev pub invariant-loop-x : goal.invariant-loop-x
-invariant-loop-x g l = (l.left ≡ l.right) ↔ (l.a ≡ l.b)
-
-abbrev pub decreases-loop-x : goal.decreases-loop-x
-decreases-loop-x g l = length l.left

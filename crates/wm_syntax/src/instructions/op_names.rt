@@ -1,0 +1,333 @@
+//! The names of instructions in the text format (section 6.5).
+
+ghost use Rattle.std.specs.Prelude.{◌≡◌, [], Option, Some, get_or, slice_index_or};
+ghost use Rattle.wm_syntax.specs.OpClasses.{IsClassOfOp, class_of, first_byte};
+ghost use Rattle.wm_syntax.specs.OpNames.{op_name};
+ghost use Rattle.wm_syntax.specs.Profiles.{IsOpOf};
+ghost use Rattle.wm_syntax.specs.declared.instructions.Op.{Op};
+ghost use Rattle.wm_syntax.specs.exact.NameTable.{by_name, class_named, names};
+
+use crate::instructions::op_class::OpClass;
+use crate::instructions::opcodes::op_of;
+use crate::profile::Profile;
+use std::cmp::Ordering;
+
+#[cfg(test)]
+mod tests;
+
+// The bytes that begin an instruction, an else or an end, in the order of their names.
+const BY_NAME: [u8; 109] = [
+    0x02, 0x0C, 0x0D, 0x0E, 0x10, 0x11, 0x1A, 0x05, 0x0B, 0x23, 0x24, 0x6A, 0x71, 0x67, 0x41, 0x68,
+    0x6D, 0x6E, 0x46, 0x45, 0xC1, 0xC0, 0x4E, 0x4F, 0x4A, 0x4B, 0x4C, 0x4D, 0x28, 0x2E, 0x2F, 0x2C,
+    0x2D, 0x48, 0x49, 0x6C, 0x47, 0x72, 0x69, 0x6F, 0x70, 0x77, 0x78, 0x74, 0x75, 0x76, 0x36, 0x3B,
+    0x3A, 0x6B, 0xA7, 0x73, 0x7C, 0x83, 0x79, 0x42, 0x7A, 0x7F, 0x80, 0x51, 0x50, 0xC3, 0xC4, 0xC2,
+    0xAC, 0xAD, 0x59, 0x5A, 0x55, 0x56, 0x57, 0x58, 0x29, 0x32, 0x33, 0x34, 0x35, 0x30, 0x31, 0x53,
+    0x54, 0x7E, 0x52, 0x84, 0x7B, 0x81, 0x82, 0x89, 0x8A, 0x86, 0x87, 0x88, 0x37, 0x3D, 0x3E, 0x3C,
+    0x7D, 0x85, 0x04, 0x20, 0x21, 0x22, 0x03, 0x40, 0x3F, 0x01, 0x0F, 0x1B, 0x00,
+];
+
+/// The name of what this byte begins; empty where it begins nothing.
+pub fn name_of(byte: u8) -> &'static [u8]
+    ensures named { (op : Op) → first_byte op ≡ Some byte → op_name op ≡ Some result.now }
+    ensures exact { result.now ≡ slice_index_or names byte [] }
+{
+    name_at(byte)
+}
+
+// A row for each byte.
+fn name_at(byte: u8) -> &'static [u8]
+    ensures { result.now ≡ slice_index_or names byte [] }
+{
+    match byte {
+        0x00 => b"unreachable",
+        0x01 => b"nop",
+        0x02 => b"block",
+        0x03 => b"loop",
+        0x04 => b"if",
+        0x05 => b"else",
+        0x06 => b"",
+        0x07 => b"",
+        0x08 => b"",
+        0x09 => b"",
+        0x0A => b"",
+        0x0B => b"end",
+        0x0C => b"br",
+        0x0D => b"br_if",
+        0x0E => b"br_table",
+        0x0F => b"return",
+        0x10 => b"call",
+        0x11 => b"call_indirect",
+        0x12 => b"",
+        0x13 => b"",
+        0x14 => b"",
+        0x15 => b"",
+        0x16 => b"",
+        0x17 => b"",
+        0x18 => b"",
+        0x19 => b"",
+        0x1A => b"drop",
+        0x1B => b"select",
+        0x1C => b"",
+        0x1D => b"",
+        0x1E => b"",
+        0x1F => b"",
+        0x20 => b"local.get",
+        0x21 => b"local.set",
+        0x22 => b"local.tee",
+        0x23 => b"global.get",
+        0x24 => b"global.set",
+        0x25 => b"",
+        0x26 => b"",
+        0x27 => b"",
+        0x28 => b"i32.load",
+        0x29 => b"i64.load",
+        0x2A => b"",
+        0x2B => b"",
+        0x2C => b"i32.load8_s",
+        0x2D => b"i32.load8_u",
+        0x2E => b"i32.load16_s",
+        0x2F => b"i32.load16_u",
+        0x30 => b"i64.load8_s",
+        0x31 => b"i64.load8_u",
+        0x32 => b"i64.load16_s",
+        0x33 => b"i64.load16_u",
+        0x34 => b"i64.load32_s",
+        0x35 => b"i64.load32_u",
+        0x36 => b"i32.store",
+        0x37 => b"i64.store",
+        0x38 => b"",
+        0x39 => b"",
+        0x3A => b"i32.store8",
+        0x3B => b"i32.store16",
+        0x3C => b"i64.store8",
+        0x3D => b"i64.store16",
+        0x3E => b"i64.store32",
+        0x3F => b"memory.size",
+        0x40 => b"memory.grow",
+        0x41 => b"i32.const",
+        0x42 => b"i64.const",
+        0x43 => b"",
+        0x44 => b"",
+        0x45 => b"i32.eqz",
+        0x46 => b"i32.eq",
+        0x47 => b"i32.ne",
+        0x48 => b"i32.lt_s",
+        0x49 => b"i32.lt_u",
+        0x4A => b"i32.gt_s",
+        0x4B => b"i32.gt_u",
+        0x4C => b"i32.le_s",
+        0x4D => b"i32.le_u",
+        0x4E => b"i32.ge_s",
+        0x4F => b"i32.ge_u",
+        0x50 => b"i64.eqz",
+        0x51 => b"i64.eq",
+        0x52 => b"i64.ne",
+        0x53 => b"i64.lt_s",
+        0x54 => b"i64.lt_u",
+        0x55 => b"i64.gt_s",
+        0x56 => b"i64.gt_u",
+        0x57 => b"i64.le_s",
+        0x58 => b"i64.le_u",
+        0x59 => b"i64.ge_s",
+        0x5A => b"i64.ge_u",
+        0x5B => b"",
+        0x5C => b"",
+        0x5D => b"",
+        0x5E => b"",
+        0x5F => b"",
+        0x60 => b"",
+        0x61 => b"",
+        0x62 => b"",
+        0x63 => b"",
+        0x64 => b"",
+        0x65 => b"",
+        0x66 => b"",
+        0x67 => b"i32.clz",
+        0x68 => b"i32.ctz",
+        0x69 => b"i32.popcnt",
+        0x6A => b"i32.add",
+        0x6B => b"i32.sub",
+        0x6C => b"i32.mul",
+        0x6D => b"i32.div_s",
+        0x6E => b"i32.div_u",
+        0x6F => b"i32.rem_s",
+        0x70 => b"i32.rem_u",
+        0x71 => b"i32.and",
+        0x72 => b"i32.or",
+        0x73 => b"i32.xor",
+        0x74 => b"i32.shl",
+        0x75 => b"i32.shr_s",
+        0x76 => b"i32.shr_u",
+        0x77 => b"i32.rotl",
+        0x78 => b"i32.rotr",
+        0x79 => b"i64.clz",
+        0x7A => b"i64.ctz",
+        0x7B => b"i64.popcnt",
+        0x7C => b"i64.add",
+        0x7D => b"i64.sub",
+        0x7E => b"i64.mul",
+        0x7F => b"i64.div_s",
+        0x80 => b"i64.div_u",
+        0x81 => b"i64.rem_s",
+        0x82 => b"i64.rem_u",
+        0x83 => b"i64.and",
+        0x84 => b"i64.or",
+        0x85 => b"i64.xor",
+        0x86 => b"i64.shl",
+        0x87 => b"i64.shr_s",
+        0x88 => b"i64.shr_u",
+        0x89 => b"i64.rotl",
+        0x8A => b"i64.rotr",
+        0x8B => b"",
+        0x8C => b"",
+        0x8D => b"",
+        0x8E => b"",
+        0x8F => b"",
+        0x90 => b"",
+        0x91 => b"",
+        0x92 => b"",
+        0x93 => b"",
+        0x94 => b"",
+        0x95 => b"",
+        0x96 => b"",
+        0x97 => b"",
+        0x98 => b"",
+        0x99 => b"",
+        0x9A => b"",
+        0x9B => b"",
+        0x9C => b"",
+        0x9D => b"",
+        0x9E => b"",
+        0x9F => b"",
+        0xA0 => b"",
+        0xA1 => b"",
+        0xA2 => b"",
+        0xA3 => b"",
+        0xA4 => b"",
+        0xA5 => b"",
+        0xA6 => b"",
+        0xA7 => b"i32.wrap_i64",
+        0xA8 => b"",
+        0xA9 => b"",
+        0xAA => b"",
+        0xAB => b"",
+        0xAC => b"i64.extend_i32_s",
+        0xAD => b"i64.extend_i32_u",
+        0xAE => b"",
+        0xAF => b"",
+        0xB0 => b"",
+        0xB1 => b"",
+        0xB2 => b"",
+        0xB3 => b"",
+        0xB4 => b"",
+        0xB5 => b"",
+        0xB6 => b"",
+        0xB7 => b"",
+        0xB8 => b"",
+        0xB9 => b"",
+        0xBA => b"",
+        0xBB => b"",
+        0xBC => b"",
+        0xBD => b"",
+        0xBE => b"",
+        0xBF => b"",
+        0xC0 => b"i32.extend8_s",
+        0xC1 => b"i32.extend16_s",
+        0xC2 => b"i64.extend8_s",
+        0xC3 => b"i64.extend16_s",
+        0xC4 => b"i64.extend32_s",
+        0xC5 => b"",
+        0xC6 => b"",
+        0xC7 => b"",
+        0xC8 => b"",
+        0xC9 => b"",
+        0xCA => b"",
+        0xCB => b"",
+        0xCC => b"",
+        0xCD => b"",
+        0xCE => b"",
+        0xCF => b"",
+        0xD0 => b"",
+        0xD1 => b"",
+        0xD2 => b"",
+        0xD3 => b"",
+        0xD4 => b"",
+        0xD5 => b"",
+        0xD6 => b"",
+        0xD7 => b"",
+        0xD8 => b"",
+        0xD9 => b"",
+        0xDA => b"",
+        0xDB => b"",
+        0xDC => b"",
+        0xDD => b"",
+        0xDE => b"",
+        0xDF => b"",
+        0xE0 => b"",
+        0xE1 => b"",
+        0xE2 => b"",
+        0xE3 => b"",
+        0xE4 => b"",
+        0xE5 => b"",
+        0xE6 => b"",
+        0xE7 => b"",
+        0xE8 => b"",
+        0xE9 => b"",
+        0xEA => b"",
+        0xEB => b"",
+        0xEC => b"",
+        0xED => b"",
+        0xEE => b"",
+        0xEF => b"",
+        0xF0 => b"",
+        0xF1 => b"",
+        0xF2 => b"",
+        0xF3 => b"",
+        0xF4 => b"",
+        0xF5 => b"",
+        0xF6 => b"",
+        0xF7 => b"",
+        0xF8 => b"",
+        0xF9 => b"",
+        0xFA => b"",
+        0xFB => b"",
+        0xFC => b"",
+        0xFD => b"",
+        0xFE => b"",
+        _ => b"",
+    }
+}
+
+// The byte whose name has this rank; 0 past the last.
+fn byte_at(rank: usize) -> u8
+    ensures { result ≡ get_or by_name rank 0 }
+{
+    match BY_NAME.get(rank) {
+        Some(byte) => *byte,
+        None => 0,
+    }
+}
+
+/// What this word names under the profile: an instruction, an else or an end; `None` where it names nothing.
+#[tactic(auto, using(crate::proofs::NameSearch::search_laws))]
+pub fn op_named(profile: Profile, word: &[u8]) -> OpClass
+    // Each instruction of the profile that has this name is of this class, and the class is that
+    // of such an instruction.
+    ensures found { (op : Op) → op_name op ≡ Some word.now → IsOpOf profile op → result ≡ class_of op }
+    ensures only { IsClassOfOp result → (op : Op) × (op_name op ≡ Some word.now) × IsOpOf profile op
+        × (class_of op ≡ result) }
+    ensures exact { result ≡ class_named profile word.now }
+{
+    let mut low = 0;
+    let mut high = BY_NAME.len();
+    while low < high {
+        let middle = low + (high - low) / 2;
+        let byte = byte_at(middle);
+        match name_of(byte).cmp(word) {
+            Ordering::Less => low = middle + 1,
+            Ordering::Greater => high = middle,
+            Ordering::Equal => return op_of(profile, byte),
+        }
+    }
+    OpClass::None
+}

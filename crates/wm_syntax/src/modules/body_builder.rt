@@ -1,0 +1,236 @@
+//! Bodies, built op by op.
+
+ghost use Rattle.std.specs.Prelude.{◌≡◌, ◌≢◌, ◌+◌, ◌++◌, ◌∷◌, [], None, Some, Ok, Err, IfErr, IfOk};
+ghost use Rattle.std.specs.Prelude.{MatchResult, OnErr, OnOk, false, true};
+ghost use Rattle.wm_syntax.specs.inner.Building.{Place, at, placed, start};
+ghost use Rattle.wm_syntax.specs.Instructions.{Instructions};
+ghost use Rattle.wm_syntax.specs.inner.Builders.{fits, fits_list, is_else, is_first, last_of, last_set};
+ghost use Rattle.wm_syntax.specs.inner.Builders.{next_left, next_open, next_ops};
+
+use crate::instructions::Op;
+use crate::modules::body::Body;
+use std::alloc::Global;
+use std::error::Error;
+use std::fmt;
+use std::marker::Model;
+
+#[cfg(test)]
+mod tests;
+
+// How a list of instructions was opened.
+#[derive(Clone, Copy, PartialEq, Eq, Debug)]
+enum Opened {
+    // by a block or a loop
+    List,
+    // by an if: its first branch
+    First,
+    // by an else: its second branch
+    Second,
+}
+
+/// Why an op, or the end of a body, is not taken.
+#[derive(Clone, Copy, PartialEq, Eq, Debug)]
+pub enum BodyFault {
+    /// No body has ops that begin so, or, at the end, these ops.
+    Unbalanced,
+    /// A growth was refused.
+    Memory,
+}
+
+impl fmt::Display for BodyFault {
+    fn fmt<W: fmt::Write>(&self, f: &mut fmt::Formatter<W>) -> fmt::Result {
+        f.write_str(match self {
+            BodyFault::Unbalanced => "these ops open and close no list of instructions",
+            BodyFault::Memory => "memory ran out",
+        })
+    }
+}
+
+impl Error for BodyFault {}
+
+// Whether an op may stand in a list of instructions.
+fn fits_list(begun: &[Opened], op: Op) -> bool
+    ensures { result ≡ fits_list begun.now op }
+{
+    match op {
+        Op::Else => begun.last() == Some(&Opened::First),
+        Op::End => !begun.is_empty(),
+        Op::Label(_) => false,
+        _ => true,
+    }
+}
+
+// Whether an op may stand where so many labels are still to come.
+fn fits(begun: &[Opened], left: u64, op: Op) -> bool
+    ensures { result ≡ fits begun.now left op }
+{
+    if left == 0 {
+        fits_list(begun, op)
+    } else {
+        matches!(op, Op::Label(_))
+    }
+}
+
+fn ends_in_else(ops: &[Op]) -> bool
+    ensures { result ≡ is_else (last_of ops.now) }
+{
+    match ops.last() {
+        Some(op) => *op == Op::Else,
+        None => false,
+    }
+}
+
+fn push(ops: &mut Vec<Op>, op: Op) -> Result<(), BodyFault>
+    ensures ok { OnOk result (ops.new.items ≡ ops.old.items ++ op ∷ []) }
+    ensures err { IfErr result (λ fault. (fault ≡ BodyFault.Memory) × (ops.new.items ≡ ops.old.items)) }
+{
+    match ops.push(op) {
+        Ok(()) => Ok(()),
+        Err(_) => Err(BodyFault::Memory),
+    }
+}
+
+// An end takes the place of an else right before it.
+fn push_end(ops: &mut Vec<Op>) -> Result<(), BodyFault>
+    ensures ok { OnOk result (ops.new.items ≡ next_ops Op.End ops.old.items) }
+    ensures err { IfErr result (λ fault. (fault ≡ BodyFault.Memory) × (ops.new.items ≡ ops.old.items)) }
+{
+    if ends_in_else(ops) {
+        let last = ops.len() - 1;
+        ops[last] = Op::End;
+        Ok(())
+    } else {
+        push(ops, Op::End)
+    }
+}
+
+// An op that opens a list.
+fn push_open(
+    ops: &mut Vec<Op>,
+    begun: &mut Vec<Opened>,
+    op: Op,
+    opened: Opened,
+) -> Result<(), BodyFault>
+    ensures ok { OnOk result ((ops.new.items ≡ ops.old.items ++ op ∷ [])
+        × (begun.new.items ≡ begun.old.items ++ opened ∷ [])) }
+    ensures err { IfErr result (λ fault. (fault ≡ BodyFault.Memory) × (ops.new.items ≡ ops.old.items)
+        × (begun.new.items ≡ begun.old.items)) }
+{
+    if begun.push(opened).is_err() {
+        return Err(BodyFault::Memory);
+    }
+    match push(ops, op) {
+        Ok(()) => Ok(()),
+        Err(fault) => {
+            begun.pop();
+            Err(fault)
+        }
+    }
+}
+
+// Takes an op where it may stand.
+fn push_op(
+    ops: &mut Vec<Op>,
+    begun: &mut Vec<Opened>,
+    left: &mut u64,
+    op: Op,
+) -> Result<(), BodyFault>
+    ensures ok { OnOk result ((ops.new.items ≡ next_ops op ops.old.items)
+        × (begun.new.items ≡ next_open op begun.old.items) × (left.new ≡ next_left op left.old)) }
+    ensures err { OnErr result ((ops.new.items ≡ ops.old.items) × (begun.new.items ≡ begun.old.items)
+        × (left.new ≡ left.old)) }
+    ensures fits { fits begun.old.items left.old op ≡ true → result ≢ Err BodyFault.Unbalanced }
+    ensures unbalanced { fits begun.old.items left.old op ≡ false → result ≡ Err BodyFault.Unbalanced }
+{
+    if !fits(begun, *left, op) {
+        return Err(BodyFault::Unbalanced);
+    }
+    match op {
+        Op::Simple(_) => push(ops, op),
+        Op::Block(_) | Op::Loop(_) => push_open(ops, begun, op, Opened::List),
+        Op::If(_) => push_open(ops, begun, op, Opened::First),
+        Op::Else => {
+            push(ops, op)?;
+            let last = begun.len() - 1;
+            begun[last] = Opened::Second;
+            Ok(())
+        }
+        Op::End => {
+            push_end(ops)?;
+            begun.pop();
+            Ok(())
+        }
+        Op::BrTable(count) => {
+            push(ops, op)?;
+            *left = u64::from(count) + 1;
+            Ok(())
+        }
+        Op::Label(_) => {
+            push(ops, op)?;
+            *left -= 1;
+            Ok(())
+        }
+    }
+}
+
+/// Builds a body op by op. Contracts see where the ops so far stand; the laws `ops_lead_to_their_body` and
+/// `ops_lead_on` say which ops lead where.
+#[derive(Debug, Drop)]
+pub struct BodyBuilder {
+    ops: Vec<Op>,
+    // how the lists that are open were opened
+    begun: Vec<Opened>,
+    // how many labels of a br_table are still to come
+    left: u64,
+}
+
+impl Model for BodyBuilder {
+    ghost use Rattle.wm_syntax.specs.inner.Building.{Place, place_in};
+    ghost use Rattle.wm_syntax.specs.inner.Codes.{place_code};
+    ghost use Rattle.wm_syntax.specs.inner.Builders.{Keeps};
+
+    ghost Value = { Place };
+
+    ghost coded = { place_code };
+
+    ghost view = { λ b. place_in b.ops.items };
+
+    ghost invariant = { λ b. Keeps b.ops.items b.begun.items b.left (place_in b.ops.items) };
+}
+
+impl BodyBuilder {
+    /// No ops yet.
+    pub fn new(alloc: Global) -> Self
+        ensures { result ≡ start }
+    {
+        BodyBuilder {
+            ops: Vec::new(alloc),
+            begun: Vec::new(alloc),
+            left: 0,
+        }
+    }
+
+    /// Takes one op more. A refusal changes nothing.
+    pub fn push(&mut self, op: Op) -> Result<(), BodyFault>
+        ensures ok { OnOk result (placed self.old op ≡ Some self.new) }
+        ensures err { OnErr result (self.new ≡ self.old) }
+        ensures stands { (p : Place) → placed self.old op ≡ Some p → result ≢ Err BodyFault.Unbalanced }
+        ensures unbalanced { placed self.old op ≡ None → result ≡ Err BodyFault.Unbalanced }
+    {
+        push_op(&mut self.ops, &mut self.begun, &mut self.left, op)
+    }
+
+    /// The body, where all that was opened has ended.
+    pub fn finish(self) -> Result<Body, BodyFault>
+        ensures ok { IfOk result (λ body. self ≡ at [] body) }
+        ensures err { IfErr result (λ fault. (fault ≡ BodyFault.Unbalanced)
+            × ((s : Instructions) → self ≡ at [] s → ⊥)) }
+    {
+        if self.left != 0 || !self.begun.is_empty() {
+            return Err(BodyFault::Unbalanced);
+        }
+        let mut ops = self.ops;
+        ops.shrink_to_fit();
+        Ok(Body::from_ops(ops))
+    }
+}

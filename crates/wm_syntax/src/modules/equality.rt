@@ -1,0 +1,442 @@
+//! `==` on modules and on what they are made of (section 2.5): whether two are one value. What memory they
+//! hold, and in how many runs their locals were given, makes no difference.
+
+ghost use Rattle.std.specs.Prelude.{◌≡◌, ◌↔◌, true};
+ghost use Rattle.wm_syntax.specs.Values.{value_of};
+ghost use Rattle.wm_syntax.specs.declared.modules.Module.{Module};
+
+use crate::instructions::{Numeric, Op, Simple};
+use crate::modules::body::Body;
+use crate::modules::locals::{Locals, Run};
+use crate::modules::{
+    Element, Export, ExportKind, Function, GlobalDef, Import, ImportDesc, Module, Segment,
+};
+use crate::types::{Const, FuncType, GlobalType, Limits, ValType};
+
+#[cfg(test)]
+mod tests;
+
+/// What is the same where its value is.
+pub trait Same {
+    /// Whether the two are the same value.
+    fn same(&self, other: &Self) -> bool
+        ensures { (result ≡ true) ↔ (self.now ≡ other.now) };
+}
+
+/// Whether two lists have the same values in the same order.
+pub fn same_list<T: Same>(a: &[T], b: &[T]) -> bool
+    ensures { (result ≡ true) ↔ (a.now ≡ b.now) }
+{
+    let mut left = a;
+    let mut right = b;
+    while let Some((x, more)) = left.split_first() {
+        let Some((y, others)) = right.split_first() else {
+            return false;
+        };
+        if !x.same(y) {
+            return false;
+        }
+        left = more;
+        right = others;
+    }
+    right.is_empty()
+}
+
+impl Same for u8 {
+    fn same(&self, other: &u8) -> bool {
+        *self == *other
+    }
+}
+
+impl Same for u32 {
+    fn same(&self, other: &u32) -> bool {
+        *self == *other
+    }
+}
+
+impl Same for ValType {
+    fn same(&self, other: &ValType) -> bool {
+        *self == *other
+    }
+}
+
+impl Same for Limits {
+    fn same(&self, other: &Limits) -> bool {
+        *self == *other
+    }
+}
+
+impl Same for GlobalType {
+    fn same(&self, other: &GlobalType) -> bool {
+        *self == *other
+    }
+}
+
+impl Same for Const {
+    fn same(&self, other: &Const) -> bool {
+        *self == *other
+    }
+}
+
+impl Same for ExportKind {
+    fn same(&self, other: &ExportKind) -> bool {
+        *self == *other
+    }
+}
+
+impl Same for ImportDesc {
+    fn same(&self, other: &ImportDesc) -> bool {
+        *self == *other
+    }
+}
+
+impl Same for Run {
+    fn same(&self, other: &Run) -> bool {
+        *self == *other
+    }
+}
+
+// Instructions, kind by kind: no test of all of them at once is proved.
+impl Same for Op {
+    fn same(&self, other: &Op) -> bool {
+        same_op(*self, *other)
+    }
+}
+
+fn same_op(a: Op, b: Op) -> bool
+    ensures { (result ≡ true) ↔ (a ≡ b) }
+{
+    match a {
+        Op::Simple(x) => match b {
+            Op::Simple(y) => same_simple(x, y),
+            _ => false,
+        },
+        Op::Block(x) => match b {
+            Op::Block(y) => x == y,
+            _ => false,
+        },
+        Op::Loop(x) => match b {
+            Op::Loop(y) => x == y,
+            _ => false,
+        },
+        Op::If(x) => match b {
+            Op::If(y) => x == y,
+            _ => false,
+        },
+        Op::Else => matches!(b, Op::Else),
+        Op::End => matches!(b, Op::End),
+        Op::BrTable(x) => match b {
+            Op::BrTable(y) => x == y,
+            _ => false,
+        },
+        Op::Label(x) => match b {
+            Op::Label(y) => x == y,
+            _ => false,
+        },
+    }
+}
+
+fn same_simple(a: Simple, b: Simple) -> bool
+    ensures { (result ≡ true) ↔ (a ≡ b) }
+{
+    match a {
+        Simple::Unreachable => matches!(b, Simple::Unreachable),
+        Simple::Nop => matches!(b, Simple::Nop),
+        Simple::Return => matches!(b, Simple::Return),
+        Simple::Drop => matches!(b, Simple::Drop),
+        Simple::Select => matches!(b, Simple::Select),
+        Simple::Br(x) => match b {
+            Simple::Br(y) => x == y,
+            _ => false,
+        },
+        Simple::BrIf(x) => match b {
+            Simple::BrIf(y) => x == y,
+            _ => false,
+        },
+        Simple::Call(x) => match b {
+            Simple::Call(y) => x == y,
+            _ => false,
+        },
+        Simple::CallIndirect(x) => match b {
+            Simple::CallIndirect(y) => x == y,
+            _ => false,
+        },
+        Simple::LocalGet(x) => match b {
+            Simple::LocalGet(y) => x == y,
+            _ => false,
+        },
+        Simple::LocalSet(x) => match b {
+            Simple::LocalSet(y) => x == y,
+            _ => false,
+        },
+        Simple::LocalTee(x) => match b {
+            Simple::LocalTee(y) => x == y,
+            _ => false,
+        },
+        Simple::GlobalGet(x) => match b {
+            Simple::GlobalGet(y) => x == y,
+            _ => false,
+        },
+        Simple::GlobalSet(x) => match b {
+            Simple::GlobalSet(y) => x == y,
+            _ => false,
+        },
+        Simple::MemorySize => matches!(b, Simple::MemorySize),
+        Simple::MemoryGrow => matches!(b, Simple::MemoryGrow),
+        Simple::I32Const(x) => match b {
+            Simple::I32Const(y) => x == y,
+            _ => false,
+        },
+        Simple::I64Const(x) => match b {
+            Simple::I64Const(y) => x == y,
+            _ => false,
+        },
+        Simple::Load(x, m) => match b {
+            Simple::Load(y, n) => x == y && m == n,
+            _ => false,
+        },
+        Simple::Store(x, m) => match b {
+            Simple::Store(y, n) => x == y && m == n,
+            _ => false,
+        },
+        Simple::Numeric(x) => match b {
+            Simple::Numeric(y) => same_numeric(x, y),
+            _ => false,
+        },
+    }
+}
+
+fn same_numeric(a: Numeric, b: Numeric) -> bool
+    ensures { (result ≡ true) ↔ (a ≡ b) }
+{
+    match a {
+        Numeric::Test(x) => match b {
+            Numeric::Test(y) => x == y,
+            _ => false,
+        },
+        Numeric::Compare(x, m) => match b {
+            Numeric::Compare(y, n) => x == y && m == n,
+            _ => false,
+        },
+        Numeric::Unary(x, m) => match b {
+            Numeric::Unary(y, n) => x == y && m == n,
+            _ => false,
+        },
+        Numeric::Binary(x, m) => match b {
+            Numeric::Binary(y, n) => x == y && m == n,
+            _ => false,
+        },
+        Numeric::Wrap => matches!(b, Numeric::Wrap),
+        Numeric::ExtendS => matches!(b, Numeric::ExtendS),
+        Numeric::ExtendU => matches!(b, Numeric::ExtendU),
+        Numeric::SignExtend(x) => match b {
+            Numeric::SignExtend(y) => x == y,
+            _ => false,
+        },
+    }
+}
+
+impl Same for Body {
+    fn same(&self, other: &Body) -> bool {
+        same_list(self.ops(), other.ops())
+    }
+}
+
+impl Same for Locals {
+    fn same(&self, other: &Locals) -> bool {
+        same_list(self.as_runs(), other.as_runs())
+    }
+}
+
+impl Same for FuncType {
+    fn same(&self, other: &FuncType) -> bool {
+        same_list(&self.params, &other.params) && same_list(&self.results, &other.results)
+    }
+}
+
+impl Same for Import {
+    fn same(&self, other: &Import) -> bool {
+        self.module_name == other.module_name
+            && self.item_name == other.item_name
+            && self.desc.same(&other.desc)
+    }
+}
+
+impl Same for Function {
+    fn same(&self, other: &Function) -> bool {
+        self.type_index == other.type_index
+            && self.locals.same(&other.locals)
+            && self.body.same(&other.body)
+    }
+}
+
+impl Same for GlobalDef {
+    fn same(&self, other: &GlobalDef) -> bool {
+        self.ty.same(&other.ty) && self.init.same(&other.init)
+    }
+}
+
+impl Same for Export {
+    fn same(&self, other: &Export) -> bool {
+        self.name == other.name && self.kind.same(&other.kind) && self.index == other.index
+    }
+}
+
+impl Same for Element {
+    fn same(&self, other: &Element) -> bool {
+        self.table == other.table
+            && self.offset.same(&other.offset)
+            && same_list(&self.functions, &other.functions)
+    }
+}
+
+impl Same for Segment {
+    fn same(&self, other: &Segment) -> bool {
+        self.memory == other.memory
+            && self.offset.same(&other.offset)
+            && same_list(&self.bytes, &other.bytes)
+    }
+}
+
+impl PartialEq for Body {
+    ghost use Rattle.wm_syntax.specs.inner.Equality.{body_code, same_by, same_laws};
+
+    ghost eq = { same_by body_code };
+
+    ghost laws = { same_laws body_code };
+
+    fn eq(&self, other: &Body) -> bool {
+        self.same(other)
+    }
+}
+
+impl PartialEq for Locals {
+    ghost use Rattle.wm_syntax.specs.inner.Equality.{locals_code, same_by, same_laws};
+
+    ghost eq = { same_by locals_code };
+
+    ghost laws = { same_laws locals_code };
+
+    fn eq(&self, other: &Locals) -> bool {
+        self.same(other)
+    }
+}
+
+impl PartialEq for FuncType {
+    ghost use Rattle.wm_syntax.specs.inner.Equality.{signature_code, same_by, same_laws};
+
+    ghost eq = { same_by signature_code };
+
+    ghost laws = { same_laws signature_code };
+
+    fn eq(&self, other: &FuncType) -> bool {
+        self.same(other)
+    }
+}
+
+impl PartialEq for Import {
+    ghost use Rattle.wm_syntax.specs.inner.Equality.{import_code, same_by, same_laws};
+
+    ghost eq = { same_by import_code };
+
+    ghost laws = { same_laws import_code };
+
+    fn eq(&self, other: &Import) -> bool {
+        self.same(other)
+    }
+}
+
+impl PartialEq for Function {
+    ghost use Rattle.wm_syntax.specs.inner.Equality.{entry_code, same_by, same_laws};
+
+    ghost eq = { same_by entry_code };
+
+    ghost laws = { same_laws entry_code };
+
+    fn eq(&self, other: &Function) -> bool {
+        self.same(other)
+    }
+}
+
+impl PartialEq for GlobalDef {
+    ghost use Rattle.wm_syntax.specs.inner.Equality.{global_code, same_by, same_laws};
+
+    ghost eq = { same_by global_code };
+
+    ghost laws = { same_laws global_code };
+
+    fn eq(&self, other: &GlobalDef) -> bool {
+        self.same(other)
+    }
+}
+
+impl PartialEq for Export {
+    ghost use Rattle.wm_syntax.specs.inner.Equality.{export_code, same_by, same_laws};
+
+    ghost eq = { same_by export_code };
+
+    ghost laws = { same_laws export_code };
+
+    fn eq(&self, other: &Export) -> bool {
+        self.same(other)
+    }
+}
+
+impl PartialEq for Element {
+    ghost use Rattle.wm_syntax.specs.inner.Equality.{element_code, same_by, same_laws};
+
+    ghost eq = { same_by element_code };
+
+    ghost laws = { same_laws element_code };
+
+    fn eq(&self, other: &Element) -> bool {
+        self.same(other)
+    }
+}
+
+impl PartialEq for Segment {
+    ghost use Rattle.wm_syntax.specs.inner.Equality.{segment_code, same_by, same_laws};
+
+    ghost eq = { same_by segment_code };
+
+    ghost laws = { same_laws segment_code };
+
+    fn eq(&self, other: &Segment) -> bool {
+        self.same(other)
+    }
+}
+
+impl Module {
+    // Whether the two modules are one value (section 2.5): what memory they hold makes no difference.
+    fn same(&self, other: &Module) -> bool
+        ensures { (result ≡ true) ↔ (value_of self.now ≡ value_of other.now) }
+    {
+        same_list(&self.types, &other.types)
+            && same_list(&self.imports, &other.imports)
+            && same_list(&self.functions, &other.functions)
+            && same_list(&self.tables, &other.tables)
+            && same_list(&self.memories, &other.memories)
+            && same_list(&self.globals, &other.globals)
+            && same_list(&self.exports, &other.exports)
+            && self.start == other.start
+            && same_list(&self.elements, &other.elements)
+            && same_list(&self.segments, &other.segments)
+    }
+}
+
+impl PartialEq for Module {
+    ghost use Rattle.wm_syntax.specs.inner.Equality.{module_code, same_by, value_laws};
+
+    ghost eq = { λ a b. same_by module_code (value_of a) (value_of b) };
+
+    ghost laws = { value_laws };
+
+    fn eq(&self, other: &Module) -> bool {
+        self.same(other)
+    }
+}
+
+/// `==` holds of two modules exactly where they are one value (section 2.5).
+pub fn equal_modules_are_one_value()
+    ensures { (m n : Module) → (⟦<Module as PartialEq>⟧.eq m n ≡ true) ↔ (value_of m ≡ value_of n) }
+{}

@@ -1,0 +1,73 @@
+//! Sections (section 5.5.2).
+
+ghost use Rattle.std.specs.Prelude.{◌≡◌, ◌<◌, ◌^◌, ◌∷◌, length};
+ghost use Rattle.wm_write.specs.Canon.{code_bytes, list_section, listed, start_section, u32_bytes};
+ghost use Rattle.wm_write.specs.exact.Writing.{Sent};
+
+use crate::encode::code::put_codes;
+use crate::encode::spell::{number, one};
+use crate::put::{Part, put_bytes, put_list};
+use wm_syntax::io::Dest;
+use wm_syntax::modules::Function;
+
+/// Writes the section of a list, unless that is empty.
+pub(crate) fn put_section<P: Part, W: Dest>(
+    w: &mut W,
+    written: &mut u64,
+    id: u8,
+    size: u64,
+    values: &[P::Value],
+)
+    requires { size ≡ length (listed P.bytes values.now) }
+    ensures { Sent (list_section id P.bytes values.now) (W.has_failed w.old, W.contents w.old, written.old)
+        (W.has_failed w.new, W.contents w.new, written.new) }
+{
+    if values.is_empty() {
+        return;
+    }
+    put_head(w, written, id, size);
+    put_list::<P, W>(w, written, values);
+}
+
+/// Writes the code section (section 5.5.13), unless there are no functions.
+pub(crate) fn put_code_section<W: Dest>(
+    w: &mut W,
+    written: &mut u64,
+    size: u64,
+    functions: &[Function],
+)
+    requires size { size ≡ length (listed code_bytes functions.now) }
+    requires few { size < 2 ^ 32 }
+    ensures { Sent (list_section 10 code_bytes functions.now)
+        (W.has_failed w.old, W.contents w.old, written.old)
+        (W.has_failed w.new, W.contents w.new, written.new) }
+{
+    if functions.is_empty() {
+        return;
+    }
+    put_head(w, written, 10, size);
+    put_codes(w, written, functions);
+}
+
+/// Writes the start section (section 5.5.11), unless there is no start function.
+pub(crate) fn put_start_section<W: Dest>(w: &mut W, written: &mut u64, start: Option<u32>)
+    ensures { Sent (start_section start) (W.has_failed w.old, W.contents w.old, written.old)
+        (W.has_failed w.new, W.contents w.new, written.new) }
+{
+    let Some(index) = start else {
+        return;
+    };
+    let index = number(u64::from(index));
+    put_head(w, written, 8, index.as_slice().len() as u64);
+    put_bytes(w, written, index.as_slice());
+}
+
+// Writes what stands before the contents of a section.
+fn put_head<W: Dest>(w: &mut W, written: &mut u64, id: u8, size: u64)
+    ensures { Sent (id ∷ u32_bytes size) (W.has_failed w.old, W.contents w.old, written.old)
+        (W.has_failed w.new, W.contents w.new, written.new) }
+{
+    let mut chunk = one(id);
+    chunk.push_unsigned(size, 5);
+    put_bytes(w, written, chunk.as_slice());
+}
