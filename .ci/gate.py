@@ -4,7 +4,8 @@
 `rt ci` proves a crate three times: plain, with its tests, and again before its first must-fail edit. Here the three
 share one folder of this run's own, which begins empty. So each module is proved once, and what is refused by `rt ci` is
 refused here. Edits are first tried some at a time, each in another function. The built wmod is run with each of its growths
-refused in turn (growths.py), and on a million blocks (deep.py). It also says what each crate cost.
+refused in turn (growths.py), and on a million blocks (deep.py). At last the calls for C are made beside it (c_calls.py). It also
+says what each crate cost.
 
     .ci/gate.py                  the gate
     .ci/gate.py --keep FOLDER    the same over what an earlier run kept in FOLDER: for one's own work, and no verdict
@@ -20,6 +21,7 @@ import tempfile
 import time
 
 sys.dont_write_bytecode = True
+import c_calls
 import deep
 import growths
 
@@ -61,7 +63,7 @@ sys.exit(status)
 
 # a function that was not proved only because one that it calls was not
 WAITS = re.compile(r"(no proof|not proved)[:;] it (calls|passes|waits|points)")
-FUNCTION = re.compile(r"^([ \t]*)(?:pub(?:\([a-z]+\))? )?(const )?fn (\w+)")
+FUNCTION = re.compile(r"^([ \t]*)(?:pub(?:\([a-z]+\))? )?(const )?(?:extern \"C\" )?fn (\w+)")
 
 
 def kept_of(crate):
@@ -80,6 +82,9 @@ class Crate(rt.Crate):
         return words if keeps else words + ["--incremental", kept_of(self)]
 
     def ci(self, flags, tests):
+        if self.is_static and not tests:
+            whole = [*self.words(flags, keeps=False), "--toolchain", f"{rt.KIT}/toolchain", "--backend", "llvm"]
+            return self.prove(["build", *whole, "-o", f"out/lib{self.name}.a"])
         if tests or not self.is_program:
             return super().ci(flags, tests)
         # (what a check wrote whole, as rt's own, begins with nothing. So each compiler checks again, over what is kept)
@@ -356,6 +361,8 @@ def main():
     if KEPT == ROOM.name and len(sys.argv) > 1:
         sys.exit(__doc__)
     status = rt.main(["ci"])
+    if not status and not c_calls.is_well("crates/wm_c/out/libwm_c.a", "crates/wm_cli/out/wm_cli"):
+        status = 1
     if KEPT != ROOM.name:
         print(f"this is no verdict: it rests on what stood in {KEPT}")
     return status

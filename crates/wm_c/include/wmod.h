@@ -1,0 +1,166 @@
+/* wmod: is this a valid WebAssembly 1.0 module (whole numbers only)?
+ *
+ * Link with -lwmod. The library takes memory from the program's malloc, realloc and free and uses nothing else of
+ * it but memcpy, memmove and memset: no file, no clock, no environment, no printing, no lock, no thread, no global
+ * data. It never ends the program and never unwinds. C89 and C++ read this file alike.
+ *
+ * Rules of every call
+ *   Pointers      No pointer is NULL, but one of bytes with length 0 may be. What an answer points to belongs to the
+ *                 caller, who may leave it uninitialised, and lies apart from the bytes.
+ *   Threads       There is no shared state. Calls run side by side if they share no answer and no handle.
+ *   Signals       A call allocates: make none in a signal handler, nor in the child of a fork of a threaded program.
+ *   Memory        Nothing is kept after a call that takes no handle. Where memory is refused the status is
+ *                 WMOD_MEMORY, and everything that was taken is given back.
+ *   Stack         A call needs less than 64 KiB of stack, however deeply the module is nested.
+ */
+#ifndef WMOD_H
+#define WMOD_H
+
+#include <stddef.h>
+#include <stdint.h>
+
+#ifdef __cplusplus
+extern "C" {
+#endif
+
+/* The interface that this file describes. wmod_version() is that of the library. The first is raised by a change
+ * that breaks callers, the second by an addition. */
+#define WMOD_VERSION_MAJOR 1
+#define WMOD_VERSION_MINOR 0
+#define WMOD_VERSION (WMOD_VERSION_MAJOR * 65536u + WMOD_VERSION_MINOR)
+
+/* How a call ended: the statuses of the command `wmod` mean the same. */
+#define WMOD_VALID 0u    /* valid; of a feed: go on */
+#define WMOD_REFUSED 1u  /* the input is not valid, or too long */
+#define WMOD_MISUSE 2u   /* an argument is out of range, or the handle has ended or is empty; nothing was read */
+#define WMOD_MEMORY 4u   /* memory was refused: nothing is known of the input */
+
+/* Which instructions a module may use. */
+#define WMOD_PROFILE_1 1u /* those of WebAssembly 1.0 on whole numbers */
+#define WMOD_PROFILE_2 2u /* the same and the five sign-extension instructions */
+
+/* Limits, in bytes: what is longer is refused as WMOD_WHY_TOO_LONG. */
+#define WMOD_LIMIT_DEFAULT ((uint64_t)0xFFFFFFFFu)
+#define WMOD_LIMIT_MOST ((uint64_t)1 << 62)
+
+/* Why an input is refused; docs/REFUSALS.md has each with the smallest input that gives it. */
+enum {
+  WMOD_WHY_MAGIC = 1, /* Magic */
+  WMOD_WHY_VERSION = 2, /* Version */
+  WMOD_WHY_SECTION_ID = 3, /* SectionId */
+  WMOD_WHY_SECTION_ORDER = 4, /* SectionOrder */
+  WMOD_WHY_SECTION_END = 5, /* SectionEnd */
+  WMOD_WHY_BAD_NUMBER = 6, /* BadNumber */
+  WMOD_WHY_BAD_UTF8 = 7, /* BadUtf8 */
+  WMOD_WHY_BAD_BYTE = 8, /* BadByte */
+  WMOD_WHY_FLOAT = 9, /* Float */
+  WMOD_WHY_BAD_OPCODE = 10, /* BadOpcode */
+  WMOD_WHY_TRUNCATED = 11, /* Truncated */
+  WMOD_WHY_CODE_COUNT = 12, /* CodeCount */
+  WMOD_WHY_BODY_END = 13, /* BodyEnd */
+  WMOD_WHY_TOO_MANY_LOCALS = 14, /* TooManyLocals */
+  WMOD_WHY_INDEX = 15, /* Index */
+  WMOD_WHY_TYPE = 16, /* Type */
+  WMOD_WHY_ARITY = 17, /* Arity */
+  WMOD_WHY_LIMITS = 18, /* Limits */
+  WMOD_WHY_SECOND = 19, /* Second */
+  WMOD_WHY_DUPLICATE_EXPORT = 20, /* DuplicateExport */
+  WMOD_WHY_START_TYPE = 21, /* StartType */
+  WMOD_WHY_NOT_CONST = 22, /* NotConst */
+  WMOD_WHY_IMMUTABLE = 23, /* Immutable */
+  WMOD_WHY_ALIGN = 24, /* Align */
+  WMOD_WHY_ELSE_PLACE = 25, /* ElsePlace */
+  WMOD_WHY_TOO_LONG = 26, /* TooLong */
+  WMOD_WHY_OUT_OF_MEMORY = 27, /* Memory */
+  WMOD_WHY_MANY_FUNCTIONS = 28, /* ManyFunctions: more than the options allow */
+  WMOD_WHY_MANY_LOCALS = 29, /* ManyLocals */
+  WMOD_WHY_DEEP = 30 /* Deep */
+};
+
+/* The answer to an input. Where the status is WMOD_VALID, `why` and `at` are 0. Else the figures are 0. */
+typedef struct wmod_answer {
+  uint32_t status;    /* WMOD_VALID .. WMOD_MEMORY */
+  uint32_t why;       /* WMOD_WHY_MAGIC .. WMOD_WHY_DEEP, or 0 */
+  uint64_t at;        /* how many bytes were read up to and including the one that settled it */
+  uint64_t functions; /* functions with a body */
+  uint64_t moves;     /* of each further figure the greatest over all bodies: pushes and pops of the two stacks .. */
+  uint64_t operands;  /* .. the height of the operand stack .. */
+  uint64_t controls;  /* .. the height of the control stack .. */
+  uint64_t probes;    /* .. and the probes of one search for a local */
+} wmod_answer;
+
+/* Judges an input that lies in memory as a whole. The result is the answer's status. The profile is 1 or 2, the
+ * limit at most WMOD_LIMIT_MOST: else WMOD_MISUSE.
+ *
+ * Proved: WMOD_VALID is answered for valid modules of the profile alone, within the limit, WMOD_REFUSED for no such,
+ * WMOD_MEMORY for want of memory alone; and the bytes alone say which refusal, which place and which figures it is. */
+uint32_t wmod_validate(const uint8_t *bytes, size_t length, uint32_t profile, uint64_t limit, wmod_answer *answer);
+
+/* What a host asks for. Begin with the defaults, so that a later field has its default too:
+ *
+ *   wmod_options options = WMOD_OPTIONS;
+ *   options.profile = WMOD_PROFILE_2;
+ *   options.functions = 10000;
+ */
+typedef struct wmod_options {
+  uint64_t size;      /* sizeof(wmod_options); another size is WMOD_MISUSE */
+  uint64_t profile;   /* WMOD_PROFILE_1 or WMOD_PROFILE_2 */
+  uint64_t max_bytes; /* at most WMOD_LIMIT_MOST */
+  uint64_t functions; /* at most so many functions, imported ones counted */
+  uint64_t locals;    /* at most so many declared locals a function; parameters are not counted */
+  uint64_t depth;     /* at most so many open blocks, loops and ifs in a function */
+} wmod_options;
+
+/* Of the last three: no limit. So is any number of 2^32 and more. */
+#define WMOD_NO_LIMIT ((uint64_t)-1)
+#define WMOD_OPTIONS \
+  { sizeof(wmod_options), WMOD_PROFILE_1, WMOD_LIMIT_DEFAULT, WMOD_NO_LIMIT, WMOD_NO_LIMIT, WMOD_NO_LIMIT }
+
+/* The same as the options ask. Proved of it: the same, where a valid module is also one within the options' limits. */
+uint32_t wmod_validate_with(const uint8_t *bytes, size_t length, const wmod_options *options, wmod_answer *answer);
+
+/* Writes the name of a refusal, as `BadOpcode`, and a 0 after it, as much of it as there is room for; the last byte
+ * written is 0 where capacity is not. The result is the length of the name, or 0 where the number is none of the above. */
+size_t wmod_why_name(uint32_t why, char *name, size_t capacity);
+
+/* WMOD_VERSION of the library. */
+uint32_t wmod_version(void);
+
+/* An input that comes in pieces. A handle is a variable of the caller's that begins as WMOD_VALIDATOR_EMPTY (all
+ * bytes 0). It must not be copied once it is begun: hand its address on. One thread at a time uses a handle, the
+ * thread that began it.
+ *
+ *   wmod_validator v = WMOD_VALIDATOR_EMPTY;
+ *   wmod_answer answer;
+ *   wmod_begin(&v, WMOD_PROFILE_1, WMOD_LIMIT_DEFAULT);
+ *   while ((n = read(fd, piece, sizeof piece)) > 0 && wmod_feed(&v, piece, n) == WMOD_VALID) {}
+ *   wmod_finish(&v, &answer);
+ *   wmod_end(&v);
+ */
+typedef struct wmod_validator {
+  void *state;
+} wmod_validator;
+#define WMOD_VALIDATOR_EMPTY {0}
+
+/* Begins an input; a handle that is in use is begun anew. WMOD_VALID; WMOD_MISUSE, and nothing changed; or WMOD_MEMORY,
+ * and the handle is empty. */
+uint32_t wmod_begin(wmod_validator *v, uint32_t profile, uint64_t limit);
+
+/* The same as the options ask. */
+uint32_t wmod_begin_with(wmod_validator *v, const wmod_options *options);
+
+/* Takes the next piece, of any length, 0 too. WMOD_VALID: go on. WMOD_REFUSED and WMOD_MEMORY stay: every later feed
+ * answers the same and reads nothing. WMOD_MISUSE: the handle is empty or the input was finished; nothing changed. */
+uint32_t wmod_feed(wmod_validator *v, const uint8_t *piece, size_t length);
+
+/* The end of the input. The answer is the one that wmod_validate gives of the pieces joined. A second call gives it
+ * again. WMOD_MISUSE where the handle is empty. */
+uint32_t wmod_finish(wmod_validator *v, wmod_answer *answer);
+
+/* Gives back what the handle holds, at any moment, and leaves it empty. Of an empty handle it does nothing. */
+void wmod_end(wmod_validator *v);
+
+#ifdef __cplusplus
+}
+#endif
+#endif

@@ -1,0 +1,44 @@
+use Rattle.std.proofs.Common.{[], ◌∷◌, refl, lit<, List, None}
+use Rattle.std.proofs.raw_atomic.Walks.{proved}
+use base.Fml.{ftrue}
+use mir.Val.{Val, vstruct, of_list}
+use contract.Running.{tables}
+use types.Kit.{‵, raw, ◌$◌, ◌∵◌, !, qed, done, drop, fjoin, fpack, feq_i, suffices}
+use types.Run.{enter, lit, no_more, and_then, returns}
+use types.Part.{agg}
+use types.ByLocal.{alloc_all, pass_all, free_all, look_at, sets}
+use denote.RattleType.{Valss}
+use denote.Builtin.{RawPtr}
+use denote.RawPtr.{Ptr, null_ptr, ptr_val}
+use denote.Steps.{nothing}
+use denote.Triple.Entry.{on_entry}
+use denote.Triple.Walked.{Stays, walk_of, says, ends_at}
+use denote.Struct.Struct.{within}
+use denote.Struct.Owning.{shape}
+use Rattle.wm_c.specs.contracts.handle.Handle as handle
+use Rattle.wm_c.specs.contracts.handle.Handle.empty as f
+use Rattle.wm_c.proofs.handle.Handle.empty.Statement.{statement}
+use Rattle.wm_c.proofs.handle.Handle.empty.Code as code
+
+abbrev stayed : Stays f.ended.signature.params f.ended.kept
+stayed = tt
+
+abbrev word : Val
+word = vstruct (of_list (ptr_val null_ptr ∷ []))
+
+pub empty_spec : {M : Type 1} → statement M
+empty_spec 𝓤 𝓛 𝓜 𝓡 wired =
+    let c = f.clauses 𝓛 𝓜.mem 𝓡.returns in let W = walk_of 𝓛 f.ended stayed c in let 𝓣 = tables 𝓤 𝓛.H 𝓜 𝓡 𝓡.env in
+    proved 𝓛 f.ended stayed c 𝓜 𝓡 tt
+    f.Key.name code.function (code.unfolded 𝓤 𝓛.H 𝓜 𝓡 wired)
+    (λ κs. tt) (λ κs. tt) (λ κs qs bounds a _ are.
+    let y : W.Ghost = ((κs, qs, bounds, tt, tt), tt) in
+    qed 𝓛 (raw (on_entry 𝓛 f.signature κs qs a y.0.4) ∷ ‵ ftrue ∷ []) ∵ drop ! $ drop ! $
+    enter ! _ _ _ _ _ $ alloc_all ! (λ l. pass_all ! refl tt $
+    sets ! (agg ! (and_then ! (lit ! tt) (no_more !))) refl (tt, (record { fits = lit< tt }, tt)) $
+    returns ! (look_at ! 0 refl) $ free_all ! refl $
+    suffices ! _ (ends_at 𝓛 f.ended stayed c y word (record { at = null_ptr; held = None }) tt tt) $
+    says ! refl $ feq_i ! Ptr null_ptr null_ptr refl $ nothing ! $ feq_i ! (List Val) (ptr_val null_ptr ∷ []) (ptr_val null_ptr ∷ []) refl $ fjoin ! $
+    feq_i ! (List Val) (word ∷ []) (word ∷ []) refl $ fjoin ! $
+    fpack ! (Valss (RawPtr ∷ [])) (within (shape handle.the_type) (null_ptr, tt) (word ∷ [])) (ptr_val null_ptr ∷ [], tt) $ fjoin ! $
+    nothing ! $ nothing ! $ done !))

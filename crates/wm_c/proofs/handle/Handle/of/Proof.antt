@@ -1,0 +1,59 @@
+-- `of` keeps the pointer.
+use Rattle.std.proofs.Common.{◌≡◌, List, [], ◌∷◌, ◌++◌, refl, sym, subst}
+use mir.Val.{Val, vptr}
+use base.Logic.{SProp, ent, emp, id⊢}
+use base.Fml.{ftrue}
+use prog.Wp.{WpFn}
+use types.Kit.{‵, raw, ◌⊛◌, ◌$◌, ◌∵◌, !, qed, by, move, keep, split, fsplit, fjoin, suffices, use0}
+use types.Run.{stop, fld, of_opd, no_more, and_then, returns, enter}
+use types.ByLocal.{alloc_all, pass_all, free_all, look_at, get, get_in, sets}
+use types.Part.{agg, sub, whole}
+use contract.Monad.{fact, fact_i}
+use contract.Running.{tables}
+use denote.RattleType.{RattleType, owns}
+use denote.Signature.{types_at, plain}
+use denote.Builtin.{RawPtr}
+use denote.RawPtr.{block_ptr, ptr_val}
+use denote.Steps.{nothing}
+use denote.Triple.Walked.{Stays, stay_dropped, walk_of, Goes-dropped}
+use Rattle.core.specs.declared.option.Option.TheVariants.{Some}
+use mir.Val.{vstruct, of_list}
+use Rattle.std.specs.contracts.alloc.Global as heap
+use Rattle.std.proofs.alloc.Global.TheLaws as heap_laws
+use Rattle.std.specs.contracts.impls.GlobalAllocator.TheImpl.{ghosts}
+use Rattle.std.proofs.raw_atomic.Walks.{proved_at, leaves}
+use denote.Exit.{yes}
+use Rattle.wm_c.specs.contracts.session.Session as session
+use Rattle.wm_c.specs.contracts.handle.Handle as handle
+use Rattle.wm_c.proofs.Loosely.{both, Loose, loose_good, loose_out}
+use types.Kit.{fpack, feq_i}
+use denote.RattleType.{Valss}
+use denote.Struct.Struct.{within}
+use denote.Struct.Owning.{shape}
+use Rattle.wm_c.specs.contracts.handle.Handle.of.{ended, clauses}
+use Rattle.wm_c.specs.contracts.handle.Handle.of.Key.{name as #self}
+use Rattle.wm_c.proofs.handle.Handle.of.Statement.{statement}
+use Rattle.wm_c.proofs.handle.Handle.of.Code as code
+
+pub of_spec : {M : Type 1} → statement M
+of_spec 𝓤 𝓛 𝓜 𝓡 wired =
+    let H = 𝓛.H in let 𝓣 = tables 𝓤 H 𝓜 𝓡 𝓡.env in let R : RattleType = session.the_row in let En = ended in let c = clauses 𝓛 𝓜.mem 𝓡.returns in
+    let fn = code.function in let Z : RattleType = heap.the_row in let LZ = heap_laws.the_row_laws in
+    let Lr : RattleType = Loose R Z LZ ghosts in let hs : Stays En.signature.params En.kept = (stay_dropped (plain (λ _. Lr)) yes, tt) in
+    proved_at 𝓛 En hs c 𝓜 𝓡 (Goes-dropped 𝓛 0 (plain (λ _. Lr)) yes (λ κs x f. refl), tt) #self fn (code.unfolded 𝓤 H 𝓜 𝓡 wired) (λ z are.
+    let κs = z.0.0 in let Post : Val → SProp 𝓤 = (walk_of 𝓛 En hs c).post z in let Run : List Val → SProp 𝓤 = λ ws. WpFn 𝓤 H 𝓣.C 𝓣.Λ fn ws Post in
+    let d = z.0.3.0 in
+    qed 𝓛 ((‵ ftrue ⊛ ‵ (owns (types_at En.signature.params κs) z.0.3 z.0.4)) ∷ raw ((c κs z.0.3).requires z.1) ∷ []) ∵ split ! $ move ! (1 ∷ []) $ fsplit ! $
+    loose_out R Z LZ ghosts ! d z.0.4.0 (λ b o h e ws fits.
+    -- [the heap; Global's; ..]
+    let p = block_ptr b o in let v : Val = both (vptr b o) h in let word : Val = vstruct (of_list (ptr_val p ∷ [])) in
+    suffices ! (Run (v ∷ [])) (subst (λ (us : List Val). ent 𝓤 (Run (v ∷ [])) (Run us)) (sym (λ i. ws i ++ [])) (id⊢ 𝓤 (Run (v ∷ [])))) $
+    enter ! 𝓣.C 𝓣.Λ fn (v ∷ []) Post $ alloc_all ! (λ l. pass_all ! refl (loose_good R Z LZ ghosts b o h fits, tt) $
+    sets ! (of_opd ! (get_in ! (fld ! refl (stop !)) (sub ! 0 refl (whole !)))) refl (tt, tt) $
+    sets ! (of_opd ! (get ! refl)) refl (tt, tt) $
+    sets ! (agg ! (and_then ! (get ! refl) (no_more !))) refl (tt, (tt, tt)) $
+    nothing ! $ feq_i ! (List Val) (ptr_val p ∷ []) (ptr_val p ∷ []) refl $ fjoin ! $ feq_i ! (List Val) (word ∷ []) (word ∷ []) refl $ fjoin ! $
+    fpack ! (Valss (RawPtr ∷ [])) (within (shape handle.the_type) (p, tt) (word ∷ [])) (ptr_val p ∷ [], tt) $ fjoin ! $
+    use0 𝓛 (raw (fact 𝓤 (Some d.value ≡ Some d.value))) (fact_i 𝓤 (Some d.value ≡ Some d.value) (emp 𝓤) refl) $
+    nothing ! $ nothing ! $ fjoin ! $ nothing ! $
+    returns ! (look_at ! 0 refl) $ free_all ! refl $ keep ! (0 ∷ 1 ∷ 3 ∷ 2 ∷ []) $ by ! (leaves 𝓛 En hs c z word (record { at = p; held = Some d.value }) (tt, tt) (tt, tt)))))

@@ -1,0 +1,81 @@
+-- The numbers that stand for words at the border to C.
+use Rattle.std.specs.Prelude.{ℕ}
+use Rattle.wm_syntax.specs.declared.why.Why.{Why}
+use Rattle.wm_syntax.specs.declared.why.Why.TheVariants.{Magic, Version, SectionId, SectionOrder, SectionEnd}
+use Rattle.wm_syntax.specs.declared.why.Why.TheVariants.{BadNumber, BadUtf8, BadByte, Float, BadOpcode}
+use Rattle.wm_syntax.specs.declared.why.Why.TheVariants.{Truncated, CodeCount, BodyEnd, TooManyLocals, Index}
+use Rattle.wm_syntax.specs.declared.why.Why.TheVariants.{Mismatch, Arity, Limits, Second, DuplicateExport}
+use Rattle.wm_syntax.specs.declared.why.Why.TheVariants.{StartType, NotConst, Immutable, Align, ElsePlace}
+use Rattle.wm_syntax.specs.declared.why.Why.TheVariants.{TooLong, Memory, ManyFunctions, ManyLocals, Deep}
+use Rattle.wm_syntax.specs.declared.profile.Profile.{Profile}
+use Rattle.wm_syntax.specs.declared.profile.Profile.TheVariants as profile
+
+-- of a refusal; 0 stands for none
+abbrev pub why_code : Why → ℕ
+why_code Magic = 1
+why_code Version = 2
+why_code SectionId = 3
+why_code SectionOrder = 4
+why_code SectionEnd = 5
+why_code BadNumber = 6
+why_code BadUtf8 = 7
+why_code BadByte = 8
+why_code Float = 9
+why_code BadOpcode = 10
+why_code Truncated = 11
+why_code CodeCount = 12
+why_code BodyEnd = 13
+why_code TooManyLocals = 14
+why_code Index = 15
+why_code Mismatch = 16
+why_code Arity = 17
+why_code Limits = 18
+why_code Second = 19
+why_code DuplicateExport = 20
+why_code StartType = 21
+why_code NotConst = 22
+why_code Immutable = 23
+why_code Align = 24
+why_code ElsePlace = 25
+why_code TooLong = 26
+why_code Memory = 27
+why_code ManyFunctions = 28
+why_code ManyLocals = 29
+why_code Deep = 30
+
+-- of how a call ended that is refused so: 1 for the input, 4 where memory was refused
+abbrev pub status_code : Why → ℕ
+status_code Magic = 1
+status_code Version = 1
+status_code SectionId = 1
+status_code SectionOrder = 1
+status_code SectionEnd = 1
+status_code BadNumber = 1
+status_code BadUtf8 = 1
+status_code BadByte = 1
+status_code Float = 1
+status_code BadOpcode = 1
+status_code Truncated = 1
+status_code CodeCount = 1
+status_code BodyEnd = 1
+status_code TooManyLocals = 1
+status_code Index = 1
+status_code Mismatch = 1
+status_code Arity = 1
+status_code Limits = 1
+status_code Second = 1
+status_code DuplicateExport = 1
+status_code StartType = 1
+status_code NotConst = 1
+status_code Immutable = 1
+status_code Align = 1
+status_code ElsePlace = 1
+status_code TooLong = 1
+status_code Memory = 4
+status_code ManyFunctions = 1
+status_code ManyLocals = 1
+status_code Deep = 1
+
+abbrev pub profile_code : Profile → ℕ
+profile_code profile.One = 1
+profile_code profile.Two = 2

@@ -1,0 +1,37 @@
+-- What a handle of C's owns.
+use Rattle.std.specs.Prelude.{ℕ, List, Option, Some, None}
+use Rattle.wm_syntax.specs.declared.profile.Profile.{Profile}
+use Rattle.wm_rules.specs.declared.policy.Policy.{Policy}
+use Rattle.wm_c.specs.declared.answer.Answer.{Answer}
+use Rattle.wm_c.specs.declared.session.Session.{Session}
+use Rattle.wm_c.specs.Sessions.{HasEnded, HasTaken, IsOver, StateRanOut}
+use base.Fml.{Fml, feq}
+use denote.RawPtr.{Ptr, null_ptr}
+use denote.RattleType.{RattleType}
+use mir.Syntax.{Ty}
+use Rattle.std.specs.Box.Ownership.{box_owns}
+
+-- null, or what the box there owns
+abbrev pub handle_owns : (Ty → Ptr → Fml) → (R : RattleType) → Ptr → Option R.Denot → Fml
+handle_owns holds R p None = feq Ptr p null_ptr
+handle_owns holds R p (Some s) = box_owns holds R p s
+
+-- a session there has taken just these bytes
+abbrev pub Holds : Option Session → Profile → ℕ → Policy → List ℕ → Type 0
+Holds None p limit q bytes = ⊥
+Holds (Some s) p limit q bytes = HasTaken s p limit q bytes
+
+-- a session there has this answer
+abbrev pub HoldsAnswer : Option Session → Answer → Type 0
+HoldsAnswer None a = ⊥
+HoldsAnswer (Some s) a = HasEnded s a
+
+-- nothing can be taken: there is no session, or it has its answer
+abbrev pub TakesNothing : Option Session → Type 0
+TakesNothing None = Unit {0}
+TakesNothing (Some s) = IsOver s.state
+
+-- a session there was refused memory
+abbrev pub RanOut : Option Session → Type 0
+RanOut None = ⊥
+RanOut (Some s) = StateRanOut s.state

@@ -1,0 +1,6 @@
+pub mod Answers
+pub mod Codes
+pub mod Handles
+pub mod Names
+pub mod Options
+pub mod Sessions

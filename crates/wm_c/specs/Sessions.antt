@@ -1,0 +1,33 @@
+-- What a session has taken.
+use Rattle.std.specs.Prelude.{◌≡◌, ℕ, List, IfSome}
+use Rattle.wm_syntax.specs.declared.profile.Profile.{Profile}
+use Rattle.wm_syntax.specs.declared.why.Why.TheVariants.{Memory}
+use Rattle.wm_rules.specs.declared.policy.Policy.{Policy}
+use Rattle.wm_rules.specs.inner.Validators.{HasRead, refusal_in}
+use Rattle.wm_c.specs.declared.answer.Answer.{Answer}
+use Rattle.wm_c.specs.declared.session.Session.{Session}
+use Rattle.wm_c.specs.declared.session.State.{State}
+use Rattle.wm_c.specs.declared.session.State.TheVariants.{Reading, Ended}
+use Rattle.wm_c.specs.Answers.{Answers}
+
+-- Its validator has read just these bytes, or its answer is one to just these.
+abbrev pub StateTaken : State → Profile → ℕ → Policy → List ℕ → Type 0
+StateTaken (Reading v) p limit q bytes = HasRead v p limit q bytes
+StateTaken (Ended a) p limit q bytes = Answers p limit q bytes a
+
+abbrev pub HasTaken : Session → Profile → ℕ → Policy → List ℕ → Type 0
+HasTaken s p limit q bytes = StateTaken s.state p limit q bytes
+
+-- it has this answer
+abbrev pub HasEnded : Session → Answer → Type 0
+HasEnded s a = s.state ≡ Ended a
+
+-- some answer
+abbrev pub IsOver : State → Type 0
+IsOver (Reading v) = ⊥
+IsOver (Ended a) = Unit {0}
+
+-- it was refused memory
+abbrev pub StateRanOut : State → Type 0
+StateRanOut (Reading v) = IfSome (refusal_in v) (λ r. r.why ≡ Memory)
+StateRanOut (Ended a) = ⊥

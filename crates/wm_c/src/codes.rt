@@ -1,0 +1,107 @@
+//! The numbers that stand for words at the border to C.
+
+ghost use Rattle.std.specs.Prelude.{◌≡◌, ◌≢◌, MatchOption};
+ghost use Rattle.wm_syntax.specs.declared.why.Why.{Why as AWhy};
+ghost use Rattle.wm_syntax.specs.declared.profile.Profile.{Profile as AProfile};
+ghost use Rattle.wm_c.specs.Codes.{profile_code, status_code, why_code};
+
+use wm_syntax::profile::Profile;
+use wm_syntax::why::Why;
+
+/// The number of a refusal, from 1 on.
+pub(crate) fn why_number(why: Why) -> u32
+    ensures { result ≡ why_code why }
+{
+    match why {
+        Why::Magic => 1,
+        Why::Version => 2,
+        Why::SectionId => 3,
+        Why::SectionOrder => 4,
+        Why::SectionEnd => 5,
+        Why::BadNumber => 6,
+        Why::BadUtf8 => 7,
+        Why::BadByte => 8,
+        Why::Float => 9,
+        Why::BadOpcode => 10,
+        Why::Truncated => 11,
+        Why::CodeCount => 12,
+        Why::BodyEnd => 13,
+        Why::TooManyLocals => 14,
+        Why::Index => 15,
+        Why::Mismatch => 16,
+        Why::Arity => 17,
+        Why::Limits => 18,
+        Why::Second => 19,
+        Why::DuplicateExport => 20,
+        Why::StartType => 21,
+        Why::NotConst => 22,
+        Why::Immutable => 23,
+        Why::Align => 24,
+        Why::ElsePlace => 25,
+        Why::TooLong => 26,
+        Why::Memory => 27,
+        Why::ManyFunctions => 28,
+        Why::ManyLocals => 29,
+        Why::Deep => 30,
+    }
+}
+
+/// How a call ended that answers this refusal.
+pub(crate) fn refused_status(why: Why) -> u32
+    ensures { result ≡ status_code why }
+{
+    match why {
+        Why::Memory => 4,
+        _ => 1,
+    }
+}
+
+/// The refusal of this number.
+pub(crate) fn why_of(number: u32) -> Option<Why>
+    ensures { MatchOption result ((why : AWhy) → number ≢ why_code why) (λ why. number ≡ why_code why) }
+{
+    match number {
+        1 => Some(Why::Magic),
+        2 => Some(Why::Version),
+        3 => Some(Why::SectionId),
+        4 => Some(Why::SectionOrder),
+        5 => Some(Why::SectionEnd),
+        6 => Some(Why::BadNumber),
+        7 => Some(Why::BadUtf8),
+        8 => Some(Why::BadByte),
+        9 => Some(Why::Float),
+        10 => Some(Why::BadOpcode),
+        11 => Some(Why::Truncated),
+        12 => Some(Why::CodeCount),
+        13 => Some(Why::BodyEnd),
+        14 => Some(Why::TooManyLocals),
+        15 => Some(Why::Index),
+        16 => Some(Why::Mismatch),
+        17 => Some(Why::Arity),
+        18 => Some(Why::Limits),
+        19 => Some(Why::Second),
+        20 => Some(Why::DuplicateExport),
+        21 => Some(Why::StartType),
+        22 => Some(Why::NotConst),
+        23 => Some(Why::Immutable),
+        24 => Some(Why::Align),
+        25 => Some(Why::ElsePlace),
+        26 => Some(Why::TooLong),
+        27 => Some(Why::Memory),
+        28 => Some(Why::ManyFunctions),
+        29 => Some(Why::ManyLocals),
+        30 => Some(Why::Deep),
+        _ => None,
+    }
+}
+
+/// The profile of this number.
+pub(crate) fn profile_of(number: u64) -> Option<Profile>
+    ensures { MatchOption result ((p : AProfile) → number ≢ profile_code p) (λ p. number ≡ profile_code p) }
+{
+    match number {
+        1 => Some(Profile::One),
+        2 => Some(Profile::Two),
+        _ => None,
+    }
+}

@@ -1,0 +1,14 @@
+//! The interface for C: `include/wmod.h` documents each call.
+#![tactic(auto)]
+
+pub mod answer;
+mod codes;
+pub mod handle;
+mod loose;
+pub mod names;
+pub mod options;
+pub mod pieces;
+pub mod session;
+#[cfg(test)]
+mod tests;
+pub mod whole;

@@ -1,0 +1,86 @@
+//! What a host asks for.
+
+ghost use Rattle.std.specs.Prelude.{◌≡◌, MatchOption};
+ghost use Rattle.wm_syntax.specs.declared.profile.Profile.{Profile as AProfile};
+ghost use Rattle.wm_c.specs.Options.{Asks, limit_of, plain_options, policy_of};
+
+use crate::codes::profile_of;
+use wm_rules::Policy;
+use wm_syntax::profile::Profile;
+
+/// `wmod_options` of the header, which says what each field means.
+#[repr(C)]
+#[derive(Clone, Copy, PartialEq, Eq, Debug)]
+pub struct Options {
+    pub size: u64,
+    pub profile: u64,
+    pub max_bytes: u64,
+    pub functions: u64,
+    pub locals: u64,
+    pub depth: u64,
+}
+
+/// The size of the options in bytes.
+const SIZE: u64 = 48;
+
+/// The greatest limit that a validator takes, in bytes.
+const MOST: u64 = 1 << 62;
+
+/// A limit of a policy that is none.
+const NO_LIMIT: u64 = 1 << 32;
+
+/// Options that are in range.
+#[derive(Clone, Copy)]
+pub(crate) struct Asked {
+    pub(crate) profile: Profile,
+    pub(crate) max_bytes: u64,
+    pub(crate) policy: Policy,
+}
+
+impl Options {
+    /// A profile and a limit, and no policy.
+    pub(crate) fn plain(profile: u32, max_bytes: u64) -> Options
+        ensures { result ≡ plain_options profile max_bytes }
+    {
+        Options {
+            size: SIZE,
+            profile: profile as u64,
+            max_bytes,
+            functions: NO_LIMIT,
+            locals: NO_LIMIT,
+            depth: NO_LIMIT,
+        }
+    }
+
+    /// What they ask for, if they are in range.
+    pub(crate) fn asked(&self) -> Option<Asked>
+        ensures { MatchOption result ((p : AProfile) → Asks self.now p → ⊥) (λ a. Asks self.now a.profile
+            × (a.max_bytes ≡ self.now.max_bytes) × (a.policy ≡ policy_of self.now)) }
+    {
+        if self.size != SIZE || self.max_bytes > MOST {
+            return None;
+        }
+        let profile = profile_of(self.profile)?;
+        Some(Asked {
+            profile,
+            max_bytes: self.max_bytes,
+            policy: self.policy(),
+        })
+    }
+
+    fn policy(&self) -> Policy
+        ensures { result ≡ policy_of self.now }
+    {
+        Policy {
+            functions: limit(self.functions),
+            locals: limit(self.locals),
+            depth: limit(self.depth),
+        }
+    }
+}
+
+fn limit(n: u64) -> Option<u32>
+    ensures { result ≡ limit_of n }
+{
+    if n < NO_LIMIT { Some(n as u32) } else { None }
+}

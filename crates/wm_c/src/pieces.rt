@@ -1,0 +1,146 @@
+//! An input that comes in pieces.
+
+ghost use Rattle.std.specs.Prelude.{◌≡◌, ◌≢◌, ◌++◌, ◌↔◌, ◌⊎◌, ℕ, List, [], None};
+ghost use Rattle.wm_c.specs.Answers.{Answers, misuse};
+ghost use Rattle.wm_c.specs.Handles.{Holds, HoldsAnswer, RanOut, TakesNothing};
+ghost use Rattle.wm_c.specs.Options.{Asking, Asks, plain_options};
+ghost use Rattle.wm_c.specs.declared.answer.Answer.{Answer as AnAnswer};
+ghost use Rattle.wm_rules.specs.Validation.{Accepted};
+ghost use Rattle.wm_rules.specs.declared.policy.Policy.{Policy as APolicy};
+ghost use Rattle.wm_syntax.specs.declared.profile.Profile.{Profile as AProfile};
+
+use crate::answer::Answer;
+use crate::handle::Handle;
+use crate::loose::Loose;
+use crate::options::Options;
+use crate::session::Session;
+use std::alloc::Global;
+use std::mem;
+
+/// Begins an input, to be judged under no policy.
+#[unsafe(no_mangle)]
+pub extern "C" fn wmod_begin(alloc: Global, v: &mut Handle, profile: u32, max_bytes: u64) -> u32
+    ensures begun { result ≡ 0 → Asking (plain_options profile max_bytes) (λ p limit q.
+        Holds v.new.held p limit q []) }
+    ensures misused { result ≡ 2 → (v.new.held ≡ v.old.held)
+        × ((p : AProfile) → Asks (plain_options profile max_bytes) p → ⊥) }
+    ensures memory { result ≡ 4 → v.new.held ≡ None }
+    ensures status { (result ≡ 0) ⊎ (result ≡ 2) ⊎ (result ≡ 4) }
+{
+    begin(alloc, v, &Options::plain(profile, max_bytes))
+}
+
+/// Begins an input, to be judged as the options ask.
+#[unsafe(no_mangle)]
+pub extern "C" fn wmod_begin_with(alloc: Global, v: &mut Handle, options: &Options) -> u32
+    ensures begun { result ≡ 0 → Asking options.now (λ p limit q. Holds v.new.held p limit q []) }
+    ensures misused { result ≡ 2 → (v.new.held ≡ v.old.held) × ((p : AProfile) → Asks options.now p → ⊥) }
+    ensures memory { result ≡ 4 → v.new.held ≡ None }
+    ensures status { (result ≡ 0) ⊎ (result ≡ 2) ⊎ (result ≡ 4) }
+{
+    begin(alloc, v, options)
+}
+
+fn begin(alloc: Global, v: &mut Handle, options: &Options) -> u32
+    ensures begun { result ≡ 0 → Asking options.now (λ p limit q. Holds v.new.held p limit q []) }
+    ensures misused { result ≡ 2 → (v.new.held ≡ v.old.held) × ((p : AProfile) → Asks options.now p → ⊥) }
+    ensures memory { result ≡ 4 → v.new.held ≡ None }
+    ensures status { (result ≡ 0) ⊎ (result ≡ 2) ⊎ (result ≡ 4) }
+{
+    let Some(asked) = options.asked() else {
+        return 2;
+    };
+    let session = Session::new(alloc, asked);
+    wmod_end(alloc, v);
+    match Box::new(alloc, session) {
+        Ok(b) => {
+            put(alloc, v, Handle::of(Loose::of(b)));
+            0
+        }
+        Err(_) => 4,
+    }
+}
+
+/// Takes the next piece.
+#[unsafe(no_mangle)]
+pub extern "C" fn wmod_feed(alloc: Global, v: &mut Handle, piece: &[u8]) -> u32
+    ensures taken { result ≢ 2 → (p : AProfile) (limit : ℕ) (q : APolicy) (before : List ℕ)
+        → Holds v.old.held p limit q before → Holds v.new.held p limit q (before ++ piece.now) }
+    // No input that begins so is accepted.
+    ensures refused { result ≡ 1 → (p : AProfile) (limit : ℕ) (q : APolicy) (before : List ℕ)
+        → Holds v.old.held p limit q before
+        → (more : List ℕ) → Accepted p limit q ((before ++ piece.now) ++ more) → ⊥ }
+    // Misuse is answered where the handle is empty or its input has ended, and changes nothing.
+    ensures over { (result ≡ 2) ↔ TakesNothing v.old.held }
+    ensures misused { result ≡ 2 → v.new.held ≡ v.old.held }
+    ensures memory { result ≡ 4 → RanOut v.new.held }
+{
+    match emptied(v).take(alloc) {
+        None => 2,
+        Some(loose) => {
+            let mut session = loose.into_box();
+            let status = session.feed(piece);
+            put(alloc, v, Handle::of(Loose::of(session)));
+            status
+        }
+    }
+}
+
+/// The end of the input.
+#[unsafe(no_mangle)]
+pub extern "C" fn wmod_finish(alloc: Global, v: &mut Handle, answer: &mut Answer) -> u32
+    ensures answers { (p : AProfile) (limit : ℕ) (q : APolicy) (input : List ℕ)
+        → Holds v.old.held p limit q input → Answers p limit q input answer.new }
+    // A second call gives the same and changes nothing.
+    ensures again { (a : AnAnswer) → HoldsAnswer v.old.held a
+        → (answer.new ≡ a) × (v.new.held ≡ v.old.held) }
+    ensures ended { v.old.held ≢ None → HoldsAnswer v.new.held answer.new }
+    ensures none { v.old.held ≡ None → (answer.new ≡ misuse) × (v.new.held ≡ None) }
+    ensures status { result ≡ answer.new.status }
+{
+    *answer = answered(alloc, v);
+    answer.status
+}
+
+/// Gives back what the handle holds.
+#[unsafe(no_mangle)]
+pub extern "C" fn wmod_end(alloc: Global, v: &mut Handle)
+    ensures { v.new.held ≡ None }
+{
+    if let Some(loose) = emptied(v).take(alloc) {
+        drop(loose.into_box());
+    }
+}
+
+fn answered(alloc: Global, v: &mut Handle) -> Answer
+    ensures answers { (p : AProfile) (limit : ℕ) (q : APolicy) (input : List ℕ)
+        → Holds v.old.held p limit q input → Answers p limit q input result }
+    ensures again { (a : AnAnswer) → HoldsAnswer v.old.held a → (result ≡ a) × (v.new.held ≡ v.old.held) }
+    ensures ended { v.old.held ≢ None → HoldsAnswer v.new.held result }
+    ensures none { v.old.held ≡ None → (result ≡ misuse) × (v.new.held ≡ None) }
+{
+    match emptied(v).take(alloc) {
+        None => Answer::misused(),
+        Some(loose) => {
+            let mut session = loose.into_box();
+            let found = session.finish();
+            put(alloc, v, Handle::of(Loose::of(session)));
+            found
+        }
+    }
+}
+
+fn emptied(v: &mut Handle) -> Handle
+    ensures was { result.held ≡ v.old.held }
+    ensures now { v.new.held ≡ None }
+{
+    mem::replace(v, Handle::empty())
+}
+
+fn put(alloc: Global, v: &mut Handle, full: Handle)
+    ensures { v.new.held ≡ full.held }
+{
+    if let Some(loose) = mem::replace(v, full).take(alloc) {
+        drop(loose.into_box());
+    }
+}

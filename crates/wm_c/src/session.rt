@@ -1,0 +1,115 @@
+//! A module that C hands over in pieces.
+
+ghost use Rattle.std.specs.Prelude.{◌≡◌, ◌≢◌, ◌≤◌, ◌^◌, ◌++◌, ◌↔◌, ℕ, List, [], IfSome};
+ghost use Rattle.wm_c.specs.Answers.{Answers, IsRight};
+ghost use Rattle.wm_c.specs.Sessions.{HasTaken, HasEnded, IsOver, StateRanOut, StateTaken};
+ghost use Rattle.wm_c.specs.declared.session.State.TheVariants.{Ended};
+ghost use Rattle.wm_rules.specs.Validation.{Accepted};
+ghost use Rattle.wm_rules.specs.declared.policy.Policy.{Policy as APolicy};
+ghost use Rattle.wm_rules.specs.inner.Validators.{HasRead, HavingRead, refusal_in};
+ghost use Rattle.wm_syntax.specs.declared.profile.Profile.{Profile as AProfile};
+ghost use Rattle.wm_syntax.specs.declared.why.Why.TheVariants.{Memory};
+
+use crate::answer::Answer;
+use crate::codes::refused_status;
+use crate::options::Asked;
+use std::alloc::Global;
+use std::mem;
+use wm_decode::Refusal;
+use wm_rules::{Summary, Validator};
+
+/// Judges a module that comes in pieces, and keeps its answer.
+#[derive(Drop)]
+pub struct Session {
+    pub state: State,
+}
+
+/// A session reads, or has its answer.
+#[derive(Drop)]
+pub enum State {
+    Reading(Validator),
+    Ended(Answer),
+}
+
+impl Session {
+    /// Has taken nothing, and takes no memory.
+    pub(crate) fn new(alloc: Global, asked: Asked) -> Session
+        requires { asked.max_bytes ≤ 2 ^ 62 }
+        ensures { HasTaken result asked.profile asked.max_bytes asked.policy [] }
+    {
+        let Asked {
+            profile,
+            max_bytes,
+            policy,
+        } = asked;
+        Session {
+            state: State::Reading(Validator::new(alloc, profile, max_bytes, policy)),
+        }
+    }
+
+    /// Takes the next piece, and answers 0 to go on, a refusal's status, or 2 where it had ended.
+    pub fn feed(&mut self, piece: &[u8]) -> u32
+        ensures taken { result ≢ 2 → (p : AProfile) (limit : ℕ) (q : APolicy) (before : List ℕ)
+            → HasTaken self.old p limit q before → HasTaken self.new p limit q (before ++ piece.now) }
+        // No input that begins so is accepted.
+        ensures refused { result ≡ 1 → (p : AProfile) (limit : ℕ) (q : APolicy) (before : List ℕ)
+            → HasTaken self.old p limit q before
+            → (more : List ℕ) → Accepted p limit q ((before ++ piece.now) ++ more) → ⊥ }
+        ensures over { (result ≡ 2) ↔ IsOver self.old.state }
+        ensures misused { result ≡ 2 → self.new ≡ self.old }
+        ensures memory { result ≡ 4 → StateRanOut self.new.state }
+    {
+        match &mut self.state {
+            State::Reading(validator) => fed(validator, piece),
+            State::Ended(_) => 2,
+        }
+    }
+
+    /// The answer to what it has taken. Another call gives it again.
+    pub fn finish(&mut self) -> Answer
+        ensures answers { (p : AProfile) (limit : ℕ) (q : APolicy) (input : List ℕ)
+            → HasTaken self.old p limit q input → Answers p limit q input result }
+        ensures ended { HasEnded self.new result }
+        ensures again { (a : _) → HasEnded self.old a → (result ≡ a) × (self.new ≡ self.old) }
+    {
+        let answer = answer_of(mem::replace(&mut self.state, State::Ended(Answer::misused())));
+        self.state = State::Ended(answer);
+        answer
+    }
+}
+
+// Its status after one more piece.
+fn fed(validator: &mut Validator, piece: &[u8]) -> u32
+    ensures read { HavingRead validator.old (λ p limit q before.
+        HasRead validator.new p limit q (before ++ piece.now)) }
+    ensures refused { result ≡ 1 → HavingRead validator.old (λ p limit q before. (more : List ℕ)
+        → Accepted p limit q ((before ++ piece.now) ++ more) → ⊥) }
+    ensures status { result ≢ 2 }
+    ensures memory { result ≡ 4 → IfSome (refusal_in validator.new) (λ r. r.why ≡ Memory) }
+{
+    match validator.feed(piece) {
+        Ok(()) => 0,
+        Err(refusal) => refused_status(refusal.why),
+    }
+}
+
+fn answer_of(state: State) -> Answer
+    ensures answers { (p : AProfile) (limit : ℕ) (q : APolicy) (input : List ℕ)
+        → StateTaken state p limit q input → Answers p limit q input result }
+    ensures again { (a : _) → state ≡ Ended a → result ≡ a }
+{
+    match state {
+        State::Reading(validator) => Answer::of(found(validator)),
+        State::Ended(answer) => answer,
+    }
+}
+
+/// Its answer at the end.
+pub(crate) fn found(validator: Validator) -> Result<Summary, Refusal>
+    ensures { HavingRead validator (λ p limit q input. IsRight p limit q input result) }
+{
+    match validator.finish() {
+        Ok(summary) => Ok(summary),
+        Err(refusal) => Err(refusal),
+    }
+}
