@@ -10,6 +10,11 @@ use denote.RawPtr.{Ptr, null_ptr}
 use denote.RattleType.{RattleType}
 use mir.Syntax.{Ty}
 use Rattle.std.specs.Box.Ownership.{box_owns}
+use Rattle.std.specs.contracts.impls.GlobalAllocator.TheImpl.{ghosts}
+
+-- what the heap asks of a block that it is to free
+abbrev pub freed_by_heap : Ty → Ptr → Fml
+freed_by_heap = ghosts.dealloc_token (record { memory = record { seal = tt } })
 
 -- null, or what the box there owns
 abbrev pub handle_owns : (Ty → Ptr → Fml) → (R : RattleType) → Ptr → Option R.Denot → Fml

@@ -16,11 +16,10 @@ pub struct Handle {
 }
 
 impl Model for Handle {
-    ghost use Rattle.libc.specs.Heap.{chunk};
-    ghost use Rattle.wm_c.specs.Handles.{handle_owns};
+    ghost use Rattle.wm_c.specs.Handles.{freed_by_heap, handle_owns};
     ghost use Rattle.wm_c.specs.contracts.session.Session.{the_row};
 
-    ghost also_owns = { λ h. handle_owns chunk the_row h.at h.held };
+    ghost also_owns = { λ h. handle_owns freed_by_heap the_row h.at h.held };
 }
 
 impl Handle {
