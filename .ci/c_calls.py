@@ -14,7 +14,7 @@ import growths
 
 HERE = os.path.dirname(os.path.abspath(__file__))
 CRATE = os.path.join(HERE, "../crates/wm_c")
-SAMPLE = f"{CRATE}/c/check.c"
+SAMPLE = f"{CRATE}/samples/check.c"
 # the kit's allocation functions, which call malloc, realloc and free
 HEAP = os.path.join(os.path.dirname(subprocess.run(["rt", "doc"], capture_output=True, text=True, check=True).stdout.strip()), "c/liblibc_c.a")
 STRICT = ["-pedantic", "-Wall", "-Wextra", "-Werror", f"-I{CRATE}/include"]

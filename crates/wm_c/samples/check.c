@@ -1,6 +1,6 @@
 /* Judges standard input as it comes, in pieces of as many bytes as the first word says, and prints the line of `wmod check`:
  *
- *   cc check.c -I crates/wm_c/include crates/wm_c/out/libwm_c.a
+ *   cc check.c -I crates/wm_c/include crates/wm_c/out/libwm_c.a $KIT/c/liblibc_c.a
  */
 #include "wmod.h"
 #include <stdio.h>
