@@ -361,7 +361,8 @@ def main():
     if KEPT == ROOM.name and len(sys.argv) > 1:
         sys.exit(__doc__)
     status = rt.main(["ci"])
-    if not status and not c_calls.is_well("crates/wm_c/out/libwm_c.a", "crates/wm_cli/out/wm_cli"):
+    is_here = os.path.isdir("crates/wm_c")
+    if not status and is_here and not c_calls.is_well("crates/wm_c/out/libwm_c.a", "crates/wm_cli/out/wm_cli"):
         status = 1
     if KEPT != ROOM.name:
         print(f"this is no verdict: it rests on what stood in {KEPT}")
