@@ -1,5 +1,7 @@
-"""The calls for C beside the program: a made module gets the same line from both, however it is cut. Header and sample are
-compiled as C89 and as C++98 first. Where the machine has no C compiler, this is said and nothing is tried.
+"""The calls for C beside the program: a made module gets the same line from both, however it is cut, and the same canonical
+binary, text and module of that text. Each growth of the samples is refused in turn: they end with status 4, or as with ample
+memory, and give back what they took. Header and samples are compiled as C89 and as C++98 first. Where the machine has no C
+compiler, this is said and nothing is tried.
 
     .ci/c_calls.py ARCHIVE PROGRAM       libwm_c.a and wmod, as they were built
 """
@@ -14,7 +16,7 @@ import growths
 
 HERE = os.path.dirname(os.path.abspath(__file__))
 CRATE = os.path.join(HERE, "../crates/wm_c")
-SAMPLE = f"{CRATE}/samples/check.c"
+SAMPLES = ["check", "convert"]
 # the kit's allocation functions, which call malloc, realloc and free
 HEAP = os.path.join(os.path.dirname(subprocess.run(["rt", "doc"], capture_output=True, text=True, check=True).stdout.strip()), "c/liblibc_c.a")
 STRICT = ["-pedantic", "-Wall", "-Wextra", "-Werror", f"-I{CRATE}/include"]
@@ -37,31 +39,58 @@ def line(words, given):
 
 
 def compiled(archive, room):
-    """The sample's program, or what a compiler said."""
-    for words in LANGUAGES:
-        ran = subprocess.run([*words, "-c", SAMPLE, "-o", f"{room}/sample.o"], capture_output=True, text=True, check=False)
-        if ran.returncode:
-            return None, f"{words[0]}: {ran.stderr[:600]}"
-    words = ["cc", "-O2", SAMPLE, f"-I{CRATE}/include", archive, HEAP, "-o", f"{room}/sample"]
-    ran = subprocess.run(words, capture_output=True, text=True, check=False)
-    return (None, ran.stderr[:600]) if ran.returncode else (f"{room}/sample", "")
+    """What a compiler said; nothing where all is well. The programs stand in the room then."""
+    for name in SAMPLES:
+        sample = f"{CRATE}/samples/{name}.c"
+        strict = [[*words, "-c", sample, "-o", f"{room}/{name}.o"] for words in LANGUAGES]
+        linked = ["cc", "-O2", sample, f"-I{CRATE}/include", archive, HEAP, "-o", f"{room}/{name}"]
+        for words in [*strict, linked]:
+            ran = subprocess.run(words, capture_output=True, text=True, check=False)
+            if ran.returncode:
+                return f"not compiled by {words[0]}: {ran.stderr[:600]}"
+    return ""
+
+
+def differences(room, program, number):
+    """Where C and wmod differ on the module of this number: its text is built too, with a byte of it changed now and then."""
+    module, length = made(number)
+    pairs = [([f"{room}/check", str(length)], "check", module)]
+    pairs += [([f"{room}/convert", action], action, module) for action in ("canon", "show")]
+    status, text = line([program, "show", "-"], module)
+    if not status:
+        text = bytearray(text)
+        if number % 2:
+            text[number % len(text)] = 33 + number % 90
+        pairs.append(([f"{room}/convert", "build"], "build", bytes(text)))
+    for words, action, given in pairs:
+        found, wanted = line(words, given), line([program, action, "-"], given)
+        if found != wanted:
+            yield f"module {number}: {action} by C: {found!r:.200}, and wmod answers {wanted!r:.200}"
+
+
+def kind_of(ended, ample):
+    return "status 4" if ended == (4, b"", b"") else "as with ample memory" if ended == ample else "wrong"
+
+
+def sweep(room):
+    """Refuses each growth of the samples, which give back all that they took."""
+    modules = [growths.bytes_of(it) for it in growths.MODULES.values()]
+    runs = [(["7"], it) for it in modules[:-1]]
+    is_well = growths.swept("the sample check.c", f"{room}/check", runs, kind_of, gives_back=True)
+    runs = [([action], it) for action in ("canon", "show") for it in modules] + [(["build"], growths.TEXT.encode()), (["build"], b"(module (start 0))")]
+    return growths.swept("the sample convert.c", f"{room}/convert", runs, kind_of, gives_back=True) and is_well
 
 
 def is_well(archive, program):
     """Whether all is well; says so."""
     if not shutil.which("cc") or not shutil.which("c++"):
-        print("C: no compiler here, so header and sample were not tried", flush=True)
+        print("C: no compiler here, so header and samples were not tried", flush=True)
         return True
     with tempfile.TemporaryDirectory(prefix="c-calls-") as room:
-        sample, fault = compiled(archive, room)
-        wrong = [f"not compiled: {fault}"] if not sample else []
-        for number in range(MODULES if sample else 0):
-            module, length = made(number)
-            found, wanted = line([sample, str(length)], module), line([program, "check", "-"], module)
-            if found != wanted:
-                wrong.append(f"module {number} in pieces of {length}: {found}, and wmod answers {wanted}")
-    print(f"C: {MODULES} modules in pieces, as C and as wmod: " + (f"wrong: {'; '.join(wrong[:3])}" if wrong else "well"), flush=True)
-    return not wrong
+        fault = compiled(archive, room)
+        wrong = [fault] if fault else [it for number in range(MODULES) for it in differences(room, program, number)]
+        print(f"C: {MODULES} modules as C and as wmod: " + (f"wrong: {'; '.join(wrong[:3])}" if wrong else "well"), flush=True)
+        return not wrong and sweep(room)
 
 
 if __name__ == "__main__":

@@ -76,13 +76,13 @@ class Refuser:
     """The library that refuses growths, and what it has told."""
 
     def __init__(self, room):
-        self.library, self.told = f"{room}/refuse_growths.so", f"{room}/told"
+        self.library, self.told, self.left = f"{room}/refuse_growths.so", f"{room}/told", 0
         words = [compiler(), "-O1", "-shared", "-fPIC", f"{HERE}/refuse_growths.c", "-o", self.library]
         subprocess.run(words, check=True)
 
     def run(self, program, words, given, at=None, is_on=False):
-        """How it ended and what it wrote; how many growths it asked for, and how many were refused. A program that a signal
-        ends tells neither."""
+        """How it ended and what it wrote; how many growths it asked for, and how many were refused. `left` is then how many blocks
+        it did not give back. A program that a signal ends tells nothing."""
         env = {"LD_PRELOAD": self.library, "TELL": self.told}
         if at:
             env["REFUSE"] = str(at)
@@ -93,7 +93,7 @@ class Refuser:
         if not os.path.exists(self.told):
             return ended, 0, 1
         with open(self.told, encoding="ascii") as it:
-            count, refused = map(int, it.read().split())
+            count, refused, self.left = map(int, it.read().split())
         os.remove(self.told)
         return ended, count, refused
 
@@ -125,8 +125,8 @@ def beginnings(written):
     return [b"".join(lines[:count]) for count in range(len(lines) + 1)]
 
 
-def swept(name, program, runs, kind_of_run):
-    """Whether all is well; prints how many runs there were of each kind."""
+def swept(name, program, runs, kind_of_run, gives_back=False):
+    """Whether all is well; prints how many runs there were of each kind. Some programs give back all that they took."""
     if compiler() is None:
         print(f"growths: there is no C compiler here, so no growth of {name} was refused", flush=True)
         return True
@@ -139,7 +139,8 @@ def swept(name, program, runs, kind_of_run):
             for is_on in (False, True):
                 for at in range(1, count + 1):
                     ended, _, refused = refuser.run(program, words, given, at, is_on)
-                    kind = kind_of_run(ended, ample) if refused else "wrong"
+                    is_well = refused and not (gives_back and refuser.left)
+                    kind = kind_of_run(ended, ample) if is_well else "wrong"
                     kinds[kind] += 1
                     if kind == "wrong":
                         wrong.append(f"growths: {' '.join([name, *words])}: growth {at} refused: {ended!r:.300}")

@@ -1,4 +1,4 @@
-/* wmod: is this a valid WebAssembly 1.0 module (whole numbers only)?
+/* wmod: is this a valid WebAssembly 1.0 module (whole numbers only)? And its canonical binary, and its text.
  *
  * Link with -lwmod. The library takes memory from the program's malloc, realloc and free and uses nothing else of
  * it but memcpy, memmove and memset: no file, no clock, no environment, no printing, no lock, no thread, no global
@@ -34,6 +34,7 @@ extern "C" {
 #define WMOD_REFUSED 1u  /* the input is not valid, or too long */
 #define WMOD_MISUSE 2u   /* an argument is out of range, or the handle has ended or is empty; nothing was read */
 #define WMOD_MEMORY 4u   /* memory was refused: nothing is known of the input */
+#define WMOD_NO_ROOM 5u  /* of a conversion alone: the output is longer than the buffer; nothing was written */
 
 /* Which instructions a module may use. */
 #define WMOD_PROFILE_1 1u /* those of WebAssembly 1.0 on whole numbers */
@@ -74,7 +75,30 @@ enum {
   WMOD_WHY_OUT_OF_MEMORY = 27, /* Memory */
   WMOD_WHY_MANY_FUNCTIONS = 28, /* ManyFunctions: more than the options allow */
   WMOD_WHY_MANY_LOCALS = 29, /* ManyLocals */
-  WMOD_WHY_DEEP = 30 /* Deep */
+  WMOD_WHY_DEEP = 30, /* Deep */
+  /* of wmod_build: the contents of a section of the module's binary have 2^32 bytes or more */
+  WMOD_WHY_TOO_LARGE = 100, /* TooLarge */
+  /* of wmod_build: the text writes no module */
+  WMOD_TEXT_NOT_UTF8 = 101, /* NotUtf8 */
+  WMOD_TEXT_BAD_TOKEN = 102, /* BadToken */
+  WMOD_TEXT_OPEN_COMMENT = 103, /* OpenComment */
+  WMOD_TEXT_OPEN_STRING = 104, /* OpenString */
+  WMOD_TEXT_BAD_ESCAPE = 105, /* BadEscape */
+  WMOD_TEXT_EXPECTED = 106, /* Expected */
+  WMOD_TEXT_UNKNOWN_WORD = 107, /* UnknownWord */
+  WMOD_TEXT_BAD_INTEGER = 108, /* BadInteger */
+  WMOD_TEXT_BAD_NAME = 109, /* BadName */
+  WMOD_TEXT_UNKNOWN_ID = 110, /* UnknownId */
+  WMOD_TEXT_REPEATED_ID = 111, /* RepeatedId */
+  WMOD_TEXT_TYPE_USE = 112, /* TypeUse */
+  WMOD_TEXT_IMPORT_PLACE = 113, /* ImportPlace */
+  WMOD_TEXT_SECOND_START = 114, /* SecondStart */
+  WMOD_TEXT_NOT_CONST = 115, /* NotConst */
+  WMOD_TEXT_BAD_ALIGN = 116, /* BadAlign */
+  WMOD_TEXT_LABEL_END = 117, /* LabelEnd */
+  WMOD_TEXT_TOO_MANY_LOCALS = 118, /* TooManyLocals */
+  WMOD_TEXT_FLOAT = 119, /* Float */
+  WMOD_TEXT_OUT_OF_MEMORY = 120 /* Memory */
 };
 
 /* The answer to an input. Where the status is WMOD_VALID, `why` and `at` are 0. Else the figures are 0. */
@@ -109,15 +133,46 @@ typedef struct wmod_options {
   uint64_t functions; /* at most so many functions, imported ones counted */
   uint64_t locals;    /* at most so many declared locals a function; parameters are not counted */
   uint64_t depth;     /* at most so many open blocks, loops and ifs in a function */
+  uint64_t old_words; /* of wmod_build: 1 where words of older tools are read too, such as get_local; else 0 */
 } wmod_options;
 
-/* Of the last three: no limit. So is any number of 2^32 and more. */
+/* Of functions, locals and depth: no limit. So is any number of 2^32 and more. */
 #define WMOD_NO_LIMIT ((uint64_t)-1)
 #define WMOD_OPTIONS \
-  { sizeof(wmod_options), WMOD_PROFILE_1, WMOD_LIMIT_DEFAULT, WMOD_NO_LIMIT, WMOD_NO_LIMIT, WMOD_NO_LIMIT }
+  { sizeof(wmod_options), WMOD_PROFILE_1, WMOD_LIMIT_DEFAULT, WMOD_NO_LIMIT, \
+    WMOD_NO_LIMIT, WMOD_NO_LIMIT, 0 }
 
 /* The same as the options ask. Proved of it: the same, where a valid module is also one within the options' limits. */
 uint32_t wmod_validate_with(const uint8_t *bytes, size_t length, const wmod_options *options, wmod_answer *answer);
+
+/* How a conversion ended. Unless the status is WMOD_REFUSED or WMOD_MEMORY, `why` and `at` are 0. */
+typedef struct wmod_output {
+  uint32_t status; /* WMOD_VALID: written; WMOD_REFUSED, WMOD_MISUSE, WMOD_MEMORY or WMOD_NO_ROOM */
+  uint32_t why;    /* WMOD_WHY_.., of a text that writes no module WMOD_TEXT_.. */
+  uint64_t at;     /* as in wmod_answer; of wmod_build see there */
+  uint64_t length; /* WMOD_VALID: so many bytes were written. WMOD_NO_ROOM: so many would have been. Else 0 */
+} wmod_output;
+
+/* Conversions: each writes to the front of a buffer, which does not overlap the input, and leaves the rest of it
+ * alone. The result is the output's status; with any but WMOD_VALID nothing is written. A buffer of length 0 may be
+ * NULL, and tells the length. What is written is made in memory first, so such a call costs as much as a whole one.
+ *
+ * wmod_canon: the canonical binary of a valid module. No buffer need be longer than the input.
+ * wmod_show: the text of a valid module. A megabyte may declare 2^32 locals, gigabytes of text: of a stranger's
+ *   module bound them by the options.
+ * wmod_build: the canonical binary of the valid module that a text writes. `at` is a place of the text where `why` is
+ *   a WMOD_TEXT_.. (so many bytes stand before the token that decided it) or WMOD_WHY_TOO_LONG, and else a place of
+ *   the module's canonical binary; of WMOD_WHY_TOO_LARGE it is 0.
+ *
+ * Proved: what is written is the canonical binary or the text of the module that the input spells or writes, which is
+ * valid, of the profile and within the limits; a refusal is the one that wmod_validate gives, of wmod_build of that
+ * module's binary, or the text writes no module of the profile. */
+uint32_t wmod_canon(const uint8_t *bytes, size_t length, const wmod_options *options, uint8_t *out, size_t room,
+                    wmod_output *output);
+uint32_t wmod_show(const uint8_t *bytes, size_t length, const wmod_options *options, uint8_t *out, size_t room,
+                   wmod_output *output);
+uint32_t wmod_build(const uint8_t *text, size_t length, const wmod_options *options, uint8_t *out, size_t room,
+                    wmod_output *output);
 
 /* Writes the name of a refusal, as `BadOpcode`, and a 0 after it, as much of it as there is room for; the last byte
  * written is 0 where capacity is not. The result is the length of the name, or 0 where the number is none of the above. */

@@ -1,5 +1,5 @@
 -- What the number of an answer's status says.
-use Rattle.std.proofs.Common.{◌≡◌, ◌≢◌, ◌≤◌, ℕ, List, Result, Ok, Err, sym, ap, subst, arith, ◌∙◌}
+use Rattle.std.proofs.Common.{◌≡◌, ◌≢◌, ◌⊎◌, ℕ, List, Result, Ok, Err, inl, inr, refl, sym, ap, subst, arith, ◌∙◌}
 use Rattle.wm_syntax.specs.declared.why.Why.{Why}
 use Rattle.wm_syntax.specs.declared.why.Why.TheVariants.{Memory}
 use Rattle.wm_syntax.specs.declared.why.Why.TheVariants as why
@@ -10,48 +10,98 @@ use Rattle.wm_rules.specs.declared.policy.Policy.{Policy}
 use Rattle.wm_rules.specs.Validation.{Accepted}
 use Rattle.wm_c.specs.declared.answer.Answer.{Answer}
 use Rattle.wm_c.specs.Answers.{IsRight, in_numbers}
-use Rattle.wm_c.specs.Codes.{status_code}
+use Rattle.wm_read.specs.declared.check.CheckFault.TheVariants as check
+use Rattle.wm_read.specs.declared.faults.TextWhy.{TextWhy}
+use Rattle.wm_read.specs.declared.faults.TextWhy.TheVariants as text
+use Rattle.wm_c.specs.declared.output.Unbuilt.{Unbuilt}
+use Rattle.wm_c.specs.declared.output.Unbuilt.TheVariants.{TooLong, Text, Check}
+use Rattle.wm_c.specs.Conversions.{unbuilt}
+use Rattle.wm_c.specs.Codes.{status_code, text_status_code}
+use Rattle.wm_read.specs.declared.spellings.Spellings.{Spellings}
 use Rattle.wm_c.specs.declared.options.Options.{Options}
-use Rattle.wm_c.specs.Options.{Asking, Asks, policy_of}
+use Rattle.wm_c.specs.Options.{Asking, Asks, policy_of, spellings_of}
 
 pub not_memory : (w : Why) → status_code w ≡ 1 → w ≢ Memory
 not_memory w e h =
     let clash : 4 ≡ 1 = subst (λ (v : Why). status_code v ≡ 1) h e in absurd (omega (arith, clash))
 
-pub some_status : (w : Why) → 1 ≤ status_code w
-some_status why.Magic = omega arith
-some_status why.Version = omega arith
-some_status why.SectionId = omega arith
-some_status why.SectionOrder = omega arith
-some_status why.SectionEnd = omega arith
-some_status why.BadNumber = omega arith
-some_status why.BadUtf8 = omega arith
-some_status why.BadByte = omega arith
-some_status why.Float = omega arith
-some_status why.BadOpcode = omega arith
-some_status why.Truncated = omega arith
-some_status why.CodeCount = omega arith
-some_status why.BodyEnd = omega arith
-some_status why.TooManyLocals = omega arith
-some_status why.Index = omega arith
-some_status why.Mismatch = omega arith
-some_status why.Arity = omega arith
-some_status why.Limits = omega arith
-some_status why.Second = omega arith
-some_status why.DuplicateExport = omega arith
-some_status why.StartType = omega arith
-some_status why.NotConst = omega arith
-some_status why.Immutable = omega arith
-some_status why.Align = omega arith
-some_status why.ElsePlace = omega arith
-some_status why.TooLong = omega arith
-some_status why.Memory = omega arith
-some_status why.ManyFunctions = omega arith
-some_status why.ManyLocals = omega arith
-some_status why.Deep = omega arith
+-- a refusal's status is 1, but for memory
+cases : (w : Why) → (status_code w ≡ 1) ⊎ (w ≡ Memory)
+cases why.Magic = inl refl
+cases why.Version = inl refl
+cases why.SectionId = inl refl
+cases why.SectionOrder = inl refl
+cases why.SectionEnd = inl refl
+cases why.BadNumber = inl refl
+cases why.BadUtf8 = inl refl
+cases why.BadByte = inl refl
+cases why.Float = inl refl
+cases why.BadOpcode = inl refl
+cases why.Truncated = inl refl
+cases why.CodeCount = inl refl
+cases why.BodyEnd = inl refl
+cases why.TooManyLocals = inl refl
+cases why.Index = inl refl
+cases why.Mismatch = inl refl
+cases why.Arity = inl refl
+cases why.Limits = inl refl
+cases why.Second = inl refl
+cases why.DuplicateExport = inl refl
+cases why.StartType = inl refl
+cases why.NotConst = inl refl
+cases why.Immutable = inl refl
+cases why.Align = inl refl
+cases why.ElsePlace = inl refl
+cases why.TooLong = inl refl
+cases why.Memory = inr refl
+cases why.ManyFunctions = inl refl
+cases why.ManyLocals = inl refl
+cases why.Deep = inl refl
+
+pub one_or_four : (w : Why) (n : ℕ) → status_code w ≡ n → (n ≡ 1) ⊎ (n ≡ 4)
+one_or_four w n e = elim (cases w) [
+  | inl one ↦ inl (sym e ∙ one)
+  | inr m ↦ inr (sym e ∙ ap status_code m)
+]
+
+text_cases : (w : TextWhy) → (text_status_code w ≡ 1) ⊎ (text_status_code w ≡ 4)
+text_cases text.NotUtf8 = inl refl
+text_cases text.BadToken = inl refl
+text_cases text.OpenComment = inl refl
+text_cases text.OpenString = inl refl
+text_cases text.BadEscape = inl refl
+text_cases text.Expected = inl refl
+text_cases text.UnknownWord = inl refl
+text_cases text.BadInteger = inl refl
+text_cases text.BadName = inl refl
+text_cases text.UnknownId = inl refl
+text_cases text.RepeatedId = inl refl
+text_cases text.TypeUse = inl refl
+text_cases text.ImportPlace = inl refl
+text_cases text.SecondStart = inl refl
+text_cases text.NotConst = inl refl
+text_cases text.BadAlign = inl refl
+text_cases text.LabelEnd = inl refl
+text_cases text.TooManyLocals = inl refl
+text_cases text.Float = inl refl
+text_cases text.Memory = inr refl
+
+-- so are those of a text
+pub unbuilt_status : (u : Unbuilt) (n : ℕ) → (unbuilt u).status ≡ n → (n ≡ 1) ⊎ (n ≡ 4)
+unbuilt_status (TooLong at) n e = inl (sym e)
+unbuilt_status (Text r) n e = elim (text_cases r.why) [
+  | inl one ↦ inl (sym e ∙ one)
+  | inr four ↦ inr (sym e ∙ four)
+]
+unbuilt_status (Check (check.Refused r)) n e = one_or_four r.why n e
+unbuilt_status (Check check.TooLarge) n e = inl (sym e)
+unbuilt_status (Check check.Memory) n e = inr (sym e)
 
 pub not_none : (w : Why) → status_code w ≡ 0 → ⊥
-not_none w e = let some : 1 ≤ status_code w = some_status w in absurd (omega (arith, e, some))
+not_none w e = elim (one_or_four w 0 e) [
+  | inl one ↦ absurd (omega (arith, one))
+  | inr four ↦ absurd (omega (arith, four))
+]
 
 -- a refusal is answered for no accepted input
 pub refused_right : (p : Profile) (limit : ℕ) (q : Policy) (input : List ℕ) (r : Result Summary Refusal) (a : Answer)
@@ -69,7 +119,7 @@ valid_right p limit q input (Err r) a e right is_none =
     absurd (not_none r.why (sym (ap (λ (x : Answer). x.status) e) ∙ is_none))
 
 -- what holds of what was asked for holds as the options ask
-pub as_asked : (o : Options) (p : Profile) (limit : ℕ) (q : Policy)
-    → Asks o p × (limit ≡ o.max_bytes) × (q ≡ policy_of o) → (P : Profile → ℕ → Policy → Type 0) → P p limit q → Asking o P
-as_asked o p limit q asks P x =
+pub as_asked : (o : Options) (p : Profile) (limit : ℕ) (q : Policy) (s : Spellings)
+    → Asks o p × (limit ≡ o.max_bytes) × (q ≡ policy_of o) × (s ≡ spellings_of o) → (P : Profile → ℕ → Policy → Type 0) → P p limit q → Asking o P
+as_asked o p limit q s asks P x =
     (p, asks.0, subst (λ (r : Policy). P p o.max_bytes r) asks.2 (subst (λ (n : ℕ). P p n q) asks.1 x))

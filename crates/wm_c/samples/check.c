@@ -26,7 +26,7 @@ int main(int count, char **words) {
   wmod_end(&v);
   if (answer.status == WMOD_VALID) {
     puts("valid");
-  } else {
+  } else if (answer.status == WMOD_REFUSED) {
     wmod_why_name(answer.why, name, sizeof name);
     printf("refused at %lu: %s\n", (unsigned long)answer.at, name);
   }

@@ -8,6 +8,8 @@ use Rattle.wm_syntax.specs.declared.why.Why.TheVariants.{Mismatch, Arity, Limits
 use Rattle.wm_syntax.specs.declared.why.Why.TheVariants.{StartType, NotConst, Immutable, Align, ElsePlace}
 use Rattle.wm_syntax.specs.declared.why.Why.TheVariants.{TooLong, Memory, ManyFunctions, ManyLocals, Deep}
 use Rattle.wm_syntax.specs.declared.profile.Profile.{Profile}
+use Rattle.wm_read.specs.declared.faults.TextWhy.{TextWhy}
+use Rattle.wm_read.specs.declared.faults.TextWhy.TheVariants as text
 use Rattle.wm_syntax.specs.declared.profile.Profile.TheVariants as profile
 
 -- of a refusal; 0 stands for none
@@ -75,6 +77,51 @@ status_code Memory = 4
 status_code ManyFunctions = 1
 status_code ManyLocals = 1
 status_code Deep = 1
+
+-- of a text's refusal; 100 stands for a module of which a section is too large
+abbrev pub text_code : TextWhy → ℕ
+text_code text.NotUtf8 = 101
+text_code text.BadToken = 102
+text_code text.OpenComment = 103
+text_code text.OpenString = 104
+text_code text.BadEscape = 105
+text_code text.Expected = 106
+text_code text.UnknownWord = 107
+text_code text.BadInteger = 108
+text_code text.BadName = 109
+text_code text.UnknownId = 110
+text_code text.RepeatedId = 111
+text_code text.TypeUse = 112
+text_code text.ImportPlace = 113
+text_code text.SecondStart = 114
+text_code text.NotConst = 115
+text_code text.BadAlign = 116
+text_code text.LabelEnd = 117
+text_code text.TooManyLocals = 118
+text_code text.Float = 119
+text_code text.Memory = 120
+
+abbrev pub text_status_code : TextWhy → ℕ
+text_status_code text.NotUtf8 = 1
+text_status_code text.BadToken = 1
+text_status_code text.OpenComment = 1
+text_status_code text.OpenString = 1
+text_status_code text.BadEscape = 1
+text_status_code text.Expected = 1
+text_status_code text.UnknownWord = 1
+text_status_code text.BadInteger = 1
+text_status_code text.BadName = 1
+text_status_code text.UnknownId = 1
+text_status_code text.RepeatedId = 1
+text_status_code text.TypeUse = 1
+text_status_code text.ImportPlace = 1
+text_status_code text.SecondStart = 1
+text_status_code text.NotConst = 1
+text_status_code text.BadAlign = 1
+text_status_code text.LabelEnd = 1
+text_status_code text.TooManyLocals = 1
+text_status_code text.Float = 1
+text_status_code text.Memory = 4
 
 abbrev pub profile_code : Profile → ℕ
 profile_code profile.One = 1

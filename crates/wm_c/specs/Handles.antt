@@ -1,10 +1,11 @@
 -- What a handle of C's owns.
 use Rattle.std.specs.Prelude.{ℕ, List, Option, Some, None}
 use Rattle.wm_syntax.specs.declared.profile.Profile.{Profile}
+use Rattle.wm_decode.specs.declared.refusal.Refusal.{Refusal}
 use Rattle.wm_rules.specs.declared.policy.Policy.{Policy}
 use Rattle.wm_c.specs.declared.answer.Answer.{Answer}
 use Rattle.wm_c.specs.declared.session.Session.{Session}
-use Rattle.wm_c.specs.Sessions.{HasEnded, HasTaken, IsOver, StateRanOut}
+use Rattle.wm_c.specs.Sessions.{HasEnded, HasTaken, IsOver, StateRanOut, StateRefused}
 use base.Fml.{Fml, feq}
 use denote.RawPtr.{Ptr, null_ptr}
 use denote.RattleType.{RattleType}
@@ -40,3 +41,8 @@ TakesNothing (Some s) = IsOver s.state
 abbrev pub RanOut : Option Session → Type 0
 RanOut None = ⊥
 RanOut (Some s) = StateRanOut s.state
+
+-- a session there reads no more, since its input was refused so
+abbrev pub HoldsRefusal : Option Session → Refusal → Type 0
+HoldsRefusal None r = ⊥
+HoldsRefusal (Some s) r = StateRefused s.state r

@@ -1,5 +1,6 @@
 pub mod Answers
 pub mod Codes
+pub mod Conversions
 pub mod Handles
 pub mod Names
 pub mod Options

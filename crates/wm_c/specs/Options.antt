@@ -1,7 +1,9 @@
 -- What a host asks for.
-use Rattle.std.specs.Prelude.{◌≡◌, ◌≤◌, ◌^◌, ℕ, Option, Some, None, if◌then◌else◌, nat_lt}
+use Rattle.std.specs.Prelude.{◌≡◌, ◌≤◌, ◌^◌, ℕ, Option, Some, None, if◌then◌else◌, nat_eq, nat_lt}
 use Rattle.wm_syntax.specs.declared.profile.Profile.{Profile}
 use Rattle.wm_rules.specs.declared.policy.Policy.{Policy}
+use Rattle.wm_read.specs.declared.spellings.Spellings.{Spellings}
+use Rattle.wm_read.specs.declared.spellings.Spellings.TheVariants.{Standard, Older}
 use Rattle.wm_c.specs.declared.options.Options.{Options}
 use Rattle.wm_c.specs.Codes.{profile_code}
 
@@ -16,11 +18,19 @@ policy_of o = record {
   depth = limit_of o.depth;
 }
 
+-- the words that a text may have: those of older tools too by 1
+abbrev pub spellings_by : ℕ → Spellings
+spellings_by n = if nat_eq n 1 then Older else Standard
+
+abbrev pub spellings_of : Options → Spellings
+spellings_of o = spellings_by o.old_words
+
 -- the options are in range, and name this profile
 pub record Asks (o : Options) (p : Profile) : Type 0 where
-  pub size : o.size ≡ 48
+  pub size : o.size ≡ 56
   pub profile : o.profile ≡ profile_code p
   pub max_bytes : o.max_bytes ≤ 2 ^ 62
+  pub old_words : o.old_words ≤ 1
 
 -- the options are in range, and this holds of the profile, the limit and the policy that they ask for
 abbrev pub Asking : Options → (Profile → ℕ → Policy → Type 0) → Type 0
@@ -29,10 +39,11 @@ Asking o P = (p : Profile) × Asks o p × P p o.max_bytes (policy_of o)
 -- options of a profile's number and a limit, with no policy
 abbrev pub plain_options : ℕ → ℕ → Options
 plain_options profile limit = record {
-  size = 48;
+  size = 56;
   profile = profile;
   max_bytes = limit;
   functions = 2 ^ 32;
   locals = 2 ^ 32;
   depth = 2 ^ 32;
+  old_words = 0;
 }

@@ -1,7 +1,8 @@
 -- What a session has taken.
-use Rattle.std.specs.Prelude.{◌≡◌, ℕ, List, IfSome}
+use Rattle.std.specs.Prelude.{◌≡◌, ℕ, List, IfSome, Some}
 use Rattle.wm_syntax.specs.declared.profile.Profile.{Profile}
 use Rattle.wm_syntax.specs.declared.why.Why.TheVariants.{Memory}
+use Rattle.wm_decode.specs.declared.refusal.Refusal.{Refusal}
 use Rattle.wm_rules.specs.declared.policy.Policy.{Policy}
 use Rattle.wm_rules.specs.inner.Validators.{HasRead, refusal_in}
 use Rattle.wm_c.specs.declared.answer.Answer.{Answer}
@@ -31,3 +32,8 @@ IsOver (Ended a) = Unit {0}
 abbrev pub StateRanOut : State → Type 0
 StateRanOut (Reading v) = IfSome (refusal_in v) (λ r. r.why ≡ Memory)
 StateRanOut (Ended a) = ⊥
+
+-- it reads no more, since its validator refused so
+abbrev pub StateRefused : State → Refusal → Type 0
+StateRefused (Reading v) r = refusal_in v ≡ Some r
+StateRefused (Ended a) r = ⊥

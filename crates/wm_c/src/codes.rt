@@ -3,8 +3,10 @@
 ghost use Rattle.std.specs.Prelude.{◌≡◌, ◌≢◌, MatchOption};
 ghost use Rattle.wm_syntax.specs.declared.why.Why.{Why as AWhy};
 ghost use Rattle.wm_syntax.specs.declared.profile.Profile.{Profile as AProfile};
-ghost use Rattle.wm_c.specs.Codes.{profile_code, status_code, why_code};
+ghost use Rattle.wm_c.specs.Codes.{profile_code, status_code, text_code, text_status_code, why_code};
+ghost use Rattle.wm_read.specs.declared.faults.TextWhy.{TextWhy as ATextWhy};
 
+use wm_read::faults::TextWhy;
 use wm_syntax::profile::Profile;
 use wm_syntax::why::Why;
 
@@ -91,6 +93,73 @@ pub(crate) fn why_of(number: u32) -> Option<Why>
         28 => Some(Why::ManyFunctions),
         29 => Some(Why::ManyLocals),
         30 => Some(Why::Deep),
+        _ => None,
+    }
+}
+
+/// The number of a text's refusal, from 101 on.
+pub(crate) fn text_number(why: TextWhy) -> u32
+    ensures { result ≡ text_code why }
+{
+    match why {
+        TextWhy::NotUtf8 => 101,
+        TextWhy::BadToken => 102,
+        TextWhy::OpenComment => 103,
+        TextWhy::OpenString => 104,
+        TextWhy::BadEscape => 105,
+        TextWhy::Expected => 106,
+        TextWhy::UnknownWord => 107,
+        TextWhy::BadInteger => 108,
+        TextWhy::BadName => 109,
+        TextWhy::UnknownId => 110,
+        TextWhy::RepeatedId => 111,
+        TextWhy::TypeUse => 112,
+        TextWhy::ImportPlace => 113,
+        TextWhy::SecondStart => 114,
+        TextWhy::NotConst => 115,
+        TextWhy::BadAlign => 116,
+        TextWhy::LabelEnd => 117,
+        TextWhy::TooManyLocals => 118,
+        TextWhy::Float => 119,
+        TextWhy::Memory => 120,
+    }
+}
+
+/// How a call ended that answers this refusal of a text.
+pub(crate) fn text_status(why: TextWhy) -> u32
+    ensures { result ≡ text_status_code why }
+{
+    match why {
+        TextWhy::Memory => 4,
+        _ => 1,
+    }
+}
+
+/// The refusal of a text of this number.
+pub(crate) fn text_of(number: u32) -> Option<TextWhy>
+    ensures { MatchOption result ((why : ATextWhy) → number ≢ text_code why) (λ why. number ≡ text_code why) }
+{
+    match number {
+        101 => Some(TextWhy::NotUtf8),
+        102 => Some(TextWhy::BadToken),
+        103 => Some(TextWhy::OpenComment),
+        104 => Some(TextWhy::OpenString),
+        105 => Some(TextWhy::BadEscape),
+        106 => Some(TextWhy::Expected),
+        107 => Some(TextWhy::UnknownWord),
+        108 => Some(TextWhy::BadInteger),
+        109 => Some(TextWhy::BadName),
+        110 => Some(TextWhy::UnknownId),
+        111 => Some(TextWhy::RepeatedId),
+        112 => Some(TextWhy::TypeUse),
+        113 => Some(TextWhy::ImportPlace),
+        114 => Some(TextWhy::SecondStart),
+        115 => Some(TextWhy::NotConst),
+        116 => Some(TextWhy::BadAlign),
+        117 => Some(TextWhy::LabelEnd),
+        118 => Some(TextWhy::TooManyLocals),
+        119 => Some(TextWhy::Float),
+        120 => Some(TextWhy::Memory),
         _ => None,
     }
 }

@@ -3,10 +3,12 @@
 
 pub mod answer;
 mod codes;
+pub mod convert;
 pub mod handle;
 mod loose;
 pub mod names;
 pub mod options;
+pub mod output;
 pub mod pieces;
 pub mod session;
 #[cfg(test)]

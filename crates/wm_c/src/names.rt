@@ -1,26 +1,35 @@
 //! The names of refusals, and the version.
 
-ghost use Rattle.std.specs.Prelude.{◌≡◌, ◌≢◌, [], length};
-ghost use Rattle.wm_c.specs.Codes.{why_code};
-ghost use Rattle.wm_c.specs.Names.{IsWritten};
-ghost use Rattle.wm_syntax.specs.Refusals.{name_of};
-ghost use Rattle.wm_syntax.specs.declared.why.Why.{Why as AWhy};
+ghost use Rattle.std.specs.Prelude.{◌≡◌, ℕ, List, [], length};
+ghost use Rattle.wm_c.specs.Names.{HasName, IsWritten};
 
-use crate::codes::why_of;
+use crate::codes::{text_of, why_of};
+use crate::output::TOO_LARGE;
 
 /// Writes the name of a refusal and a 0, as far as there is room, and answers the name's length.
 #[unsafe(no_mangle)]
 pub extern "C" fn wmod_why_name(why: u32, name: &mut [u8]) -> usize
-    ensures named { (w : AWhy) → why ≡ why_code w
-        → (result ≡ length (name_of w)) × IsWritten (name_of w) name.old name.new }
-    ensures none { ((w : AWhy) → why ≢ why_code w) → (result ≡ 0) × IsWritten [] name.old name.new }
+    ensures named { (word : List ℕ) → HasName why word → (result ≡ length word)
+        × IsWritten word name.old name.new }
+    ensures none { ((word : List ℕ) → HasName why word → ⊥) → (result ≡ 0)
+        × IsWritten [] name.old name.new }
 {
-    let word: &[u8] = match why_of(why) {
-        Some(why) => why.name().as_bytes(),
-        None => &[],
-    };
+    let word = word_of(why);
     write(word, name);
     word.len()
+}
+
+fn word_of(why: u32) -> &'static [u8]
+    ensures named { (word : List ℕ) → HasName why word → result.now ≡ word }
+    ensures none { ((word : List ℕ) → HasName why word → ⊥) → result.now ≡ [] }
+{
+    if let Some(why) = why_of(why) {
+        return why.name().as_bytes();
+    }
+    if let Some(why) = text_of(why) {
+        return why.name().as_bytes();
+    }
+    if why == TOO_LARGE { b"TooLarge" } else { b"" }
 }
 
 fn write(word: &[u8], to: &mut [u8])

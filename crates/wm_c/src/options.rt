@@ -1,10 +1,11 @@
 //! What a host asks for.
 
-ghost use Rattle.std.specs.Prelude.{◌≡◌, MatchOption};
+ghost use Rattle.std.specs.Prelude.{◌≡◌, ◌<◌, ◌≤◌, MatchOption};
 ghost use Rattle.wm_syntax.specs.declared.profile.Profile.{Profile as AProfile};
-ghost use Rattle.wm_c.specs.Options.{Asks, limit_of, plain_options, policy_of};
+ghost use Rattle.wm_c.specs.Options.{Asks, limit_of, plain_options, policy_of, spellings_by, spellings_of};
 
 use crate::codes::profile_of;
+use wm_read::spellings::Spellings;
 use wm_rules::Policy;
 use wm_syntax::profile::Profile;
 
@@ -18,10 +19,11 @@ pub struct Options {
     pub functions: u64,
     pub locals: u64,
     pub depth: u64,
+    pub old_words: u64,
 }
 
 /// The size of the options in bytes.
-const SIZE: u64 = 48;
+const SIZE: u64 = 56;
 
 /// The greatest limit that a validator takes, in bytes.
 const MOST: u64 = 1 << 62;
@@ -35,6 +37,7 @@ pub(crate) struct Asked {
     pub(crate) profile: Profile,
     pub(crate) max_bytes: u64,
     pub(crate) policy: Policy,
+    pub(crate) spellings: Spellings,
 }
 
 impl Options {
@@ -49,22 +52,26 @@ impl Options {
             functions: NO_LIMIT,
             locals: NO_LIMIT,
             depth: NO_LIMIT,
+            old_words: 0,
         }
     }
 
     /// What they ask for, if they are in range.
     pub(crate) fn asked(&self) -> Option<Asked>
         ensures { MatchOption result ((p : AProfile) → Asks self.now p → ⊥) (λ a. Asks self.now a.profile
-            × (a.max_bytes ≡ self.now.max_bytes) × (a.policy ≡ policy_of self.now)) }
+            × (a.max_bytes ≡ self.now.max_bytes) × (a.policy ≡ policy_of self.now)
+            × (a.spellings ≡ spellings_of self.now)) }
     {
         if self.size != SIZE || self.max_bytes > MOST {
             return None;
         }
         let profile = profile_of(self.profile)?;
+        let spellings = spellings_of(self.old_words)?;
         Some(Asked {
             profile,
             max_bytes: self.max_bytes,
             policy: self.policy(),
+            spellings,
         })
     }
 
@@ -76,6 +83,17 @@ impl Options {
             locals: limit(self.locals),
             depth: limit(self.depth),
         }
+    }
+}
+
+// The spellings of a text that the field of old words asks for.
+fn spellings_of(old_words: u64) -> Option<Spellings>
+    ensures { MatchOption result (1 < old_words) (λ s. (old_words ≤ 1) × (s ≡ spellings_by old_words)) }
+{
+    match old_words {
+        0 => Some(Spellings::Standard),
+        1 => Some(Spellings::Older),
+        _ => None,
     }
 }
 

@@ -1,10 +1,12 @@
 //! An input that comes in pieces.
 
-ghost use Rattle.std.specs.Prelude.{◌≡◌, ◌≢◌, ◌++◌, ◌↔◌, ◌⊎◌, ℕ, List, [], None};
-ghost use Rattle.wm_c.specs.Answers.{Answers, misuse};
-ghost use Rattle.wm_c.specs.Handles.{Holds, HoldsAnswer, RanOut, TakesNothing};
+ghost use Rattle.std.specs.Prelude.{◌≡◌, ◌≢◌, ◌++◌, ◌↔◌, ◌⊎◌, ℕ, List, [], Err, None};
+ghost use Rattle.wm_c.specs.Answers.{Answers, in_numbers, misuse};
+ghost use Rattle.wm_c.specs.Codes.{status_code};
+ghost use Rattle.wm_c.specs.Handles.{Holds, HoldsAnswer, HoldsRefusal, RanOut, TakesNothing};
 ghost use Rattle.wm_c.specs.Options.{Asking, Asks, plain_options};
 ghost use Rattle.wm_c.specs.declared.answer.Answer.{Answer as AnAnswer};
+ghost use Rattle.wm_decode.specs.declared.refusal.Refusal.{Refusal as ARefusal};
 ghost use Rattle.wm_rules.specs.Validation.{Accepted};
 ghost use Rattle.wm_rules.specs.declared.policy.Policy.{Policy as APolicy};
 ghost use Rattle.wm_syntax.specs.declared.profile.Profile.{Profile as AProfile};
@@ -74,6 +76,11 @@ pub extern "C" fn wmod_feed(alloc: Global, v: &mut Handle, piece: &[u8]) -> u32
     ensures over { (result ≡ 2) ↔ TakesNothing v.old.held }
     ensures misused { result ≡ 2 → v.new.held ≡ v.old.held }
     ensures memory { result ≡ 4 → RanOut v.new.held }
+    // The first refusal stays.
+    ensures first { result ≢ 0 → result ≢ 2 → (r : ARefusal) × (result ≡ status_code r.why)
+        × HoldsRefusal v.new.held r }
+    ensures stays { (r : ARefusal) → HoldsRefusal v.old.held r → (result ≡ status_code r.why)
+        × HoldsRefusal v.new.held r }
 {
     match emptied(v).take(alloc) {
         None => 2,
@@ -91,6 +98,8 @@ pub extern "C" fn wmod_feed(alloc: Global, v: &mut Handle, piece: &[u8]) -> u32
 pub extern "C" fn wmod_finish(alloc: Global, v: &mut Handle, answer: &mut Answer) -> u32
     ensures answers { (p : AProfile) (limit : ℕ) (q : APolicy) (input : List ℕ)
         → Holds v.old.held p limit q input → Answers p limit q input answer.new }
+    // What was refused is answered.
+    ensures told { (r : ARefusal) → HoldsRefusal v.old.held r → answer.new ≡ in_numbers (Err r) }
     // A second call gives the same and changes nothing.
     ensures again { (a : AnAnswer) → HoldsAnswer v.old.held a
         → (answer.new ≡ a) × (v.new.held ≡ v.old.held) }
@@ -115,6 +124,7 @@ pub extern "C" fn wmod_end(alloc: Global, v: &mut Handle)
 fn answered(alloc: Global, v: &mut Handle) -> Answer
     ensures answers { (p : AProfile) (limit : ℕ) (q : APolicy) (input : List ℕ)
         → Holds v.old.held p limit q input → Answers p limit q input result }
+    ensures told { (r : ARefusal) → HoldsRefusal v.old.held r → result ≡ in_numbers (Err r) }
     ensures again { (a : AnAnswer) → HoldsAnswer v.old.held a → (result ≡ a) × (v.new.held ≡ v.old.held) }
     ensures ended { v.old.held ≢ None → HoldsAnswer v.new.held result }
     ensures none { v.old.held ≡ None → (result ≡ misuse) × (v.new.held ≡ None) }

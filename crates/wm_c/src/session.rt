@@ -1,9 +1,11 @@
 //! A module that C hands over in pieces.
 
-ghost use Rattle.std.specs.Prelude.{◌≡◌, ◌≢◌, ◌≤◌, ◌^◌, ◌++◌, ◌↔◌, ℕ, List, [], IfSome};
-ghost use Rattle.wm_c.specs.Answers.{Answers, IsRight};
-ghost use Rattle.wm_c.specs.Sessions.{HasTaken, HasEnded, IsOver, StateRanOut, StateTaken};
+ghost use Rattle.std.specs.Prelude.{◌≡◌, ◌≢◌, ◌≤◌, ◌^◌, ◌++◌, ◌↔◌, ℕ, List, [], Err, IfSome, Some};
+ghost use Rattle.wm_c.specs.Answers.{Answers, IsRight, in_numbers};
+ghost use Rattle.wm_c.specs.Codes.{status_code};
+ghost use Rattle.wm_c.specs.Sessions.{HasTaken, HasEnded, IsOver, StateRanOut, StateRefused, StateTaken};
 ghost use Rattle.wm_c.specs.declared.session.State.TheVariants.{Ended};
+ghost use Rattle.wm_decode.specs.declared.refusal.Refusal.{Refusal as ARefusal};
 ghost use Rattle.wm_rules.specs.Validation.{Accepted};
 ghost use Rattle.wm_rules.specs.declared.policy.Policy.{Policy as APolicy};
 ghost use Rattle.wm_rules.specs.inner.Validators.{HasRead, HavingRead, refusal_in};
@@ -41,6 +43,7 @@ impl Session {
             profile,
             max_bytes,
             policy,
+            spellings: _,
         } = asked;
         Session {
             state: State::Reading(Validator::new(alloc, profile, max_bytes, policy)),
@@ -58,6 +61,11 @@ impl Session {
         ensures over { (result ≡ 2) ↔ IsOver self.old.state }
         ensures misused { result ≡ 2 → self.new ≡ self.old }
         ensures memory { result ≡ 4 → StateRanOut self.new.state }
+        // The first refusal stays.
+        ensures first { result ≢ 0 → result ≢ 2 → (r : ARefusal) × (result ≡ status_code r.why)
+            × StateRefused self.new.state r }
+        ensures stays { (r : ARefusal) → StateRefused self.old.state r → (result ≡ status_code r.why)
+            × StateRefused self.new.state r }
     {
         match &mut self.state {
             State::Reading(validator) => fed(validator, piece),
@@ -69,6 +77,8 @@ impl Session {
     pub fn finish(&mut self) -> Answer
         ensures answers { (p : AProfile) (limit : ℕ) (q : APolicy) (input : List ℕ)
             → HasTaken self.old p limit q input → Answers p limit q input result }
+        // What was refused is answered.
+        ensures told { (r : ARefusal) → StateRefused self.old.state r → result ≡ in_numbers (Err r) }
         ensures ended { HasEnded self.new result }
         ensures again { (a : _) → HasEnded self.old a → (result ≡ a) × (self.new ≡ self.old) }
     {
@@ -86,6 +96,10 @@ fn fed(validator: &mut Validator, piece: &[u8]) -> u32
         → Accepted p limit q ((before ++ piece.now) ++ more) → ⊥) }
     ensures status { result ≢ 2 }
     ensures memory { result ≡ 4 → IfSome (refusal_in validator.new) (λ r. r.why ≡ Memory) }
+    ensures first { result ≢ 0 → (r : ARefusal) × (result ≡ status_code r.why)
+        × (refusal_in validator.new ≡ Some r) }
+    ensures stays { (r : ARefusal) → refusal_in validator.old ≡ Some r → (result ≡ status_code r.why)
+        × (refusal_in validator.new ≡ Some r) }
 {
     match validator.feed(piece) {
         Ok(()) => 0,
@@ -96,6 +110,7 @@ fn fed(validator: &mut Validator, piece: &[u8]) -> u32
 fn answer_of(state: State) -> Answer
     ensures answers { (p : AProfile) (limit : ℕ) (q : APolicy) (input : List ℕ)
         → StateTaken state p limit q input → Answers p limit q input result }
+    ensures told { (r : ARefusal) → StateRefused state r → result ≡ in_numbers (Err r) }
     ensures again { (a : _) → state ≡ Ended a → result ≡ a }
 {
     match state {
@@ -106,7 +121,8 @@ fn answer_of(state: State) -> Answer
 
 /// Its answer at the end.
 pub(crate) fn found(validator: Validator) -> Result<Summary, Refusal>
-    ensures { HavingRead validator (λ p limit q input. IsRight p limit q input result) }
+    ensures right { HavingRead validator (λ p limit q input. IsRight p limit q input result) }
+    ensures told { (r : ARefusal) → refusal_in validator ≡ Some r → result ≡ Err r }
 {
     match validator.finish() {
         Ok(summary) => Ok(summary),

@@ -90,6 +90,7 @@ fn read(alloc: Global, bytes: &[u8], asked: Asked) -> Validator
         profile,
         max_bytes,
         policy,
+        spellings: _,
     } = asked;
     let mut validator = Validator::new(alloc, profile, max_bytes, policy);
     // a refusal stays, and the end answers it

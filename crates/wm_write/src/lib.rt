@@ -2,6 +2,7 @@
 #![tactic(auto)]
 
 pub mod encode;
+pub mod in_memory;
 pub mod laws;
 #[cfg(test)]
 mod narrow;

@@ -8,15 +8,15 @@ use Rattle.wm_c.proofs.whole.judged.Goals as goal
 pub returns-in-Some-clause-valid : goal.returns-in-Some-clause-valid
 returns-in-Some-clause-valid c is_none =
     let a = c.in-Some.asked in let bytes = c.args.bytes.now in
-    as_asked c.args.options.now a.profile a.max_bytes a.policy c.in-Some.ensures
+    as_asked c.args.options.now a.profile a.max_bytes a.policy a.spellings c.in-Some.ensures
     (λ (p : Profile) (limit : ℕ) (q : Policy). Accepted p limit q bytes)
     (valid_right a.profile a.max_bytes a.policy bytes c.found.result c.of.result c.of.ensures
-    (c.found.ensures a.profile a.max_bytes a.policy bytes c.read.ensures) is_none)
+    (c.found.ensures.right a.profile a.max_bytes a.policy bytes c.read.ensures) is_none)
 
 pub returns-in-Some-clause-refused : goal.returns-in-Some-clause-refused
 returns-in-Some-clause-refused c is_one =
     let a = c.in-Some.asked in let bytes = c.args.bytes.now in
-    as_asked c.args.options.now a.profile a.max_bytes a.policy c.in-Some.ensures
+    as_asked c.args.options.now a.profile a.max_bytes a.policy a.spellings c.in-Some.ensures
     (λ (p : Profile) (limit : ℕ) (q : Policy). Accepted p limit q bytes → ⊥)
     (refused_right a.profile a.max_bytes a.policy bytes c.found.result c.of.result c.of.ensures
-    (c.found.ensures a.profile a.max_bytes a.policy bytes c.read.ensures) is_one)
+    (c.found.ensures.right a.profile a.max_bytes a.policy bytes c.read.ensures) is_one)

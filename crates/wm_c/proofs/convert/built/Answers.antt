@@ -1,0 +1,4 @@
+use Rattle.wm_c.proofs.convert.built.Goals as goal
+
+pub returns-clause-unbuilt : goal.returns-clause-unbuilt
+returns-clause-unbuilt c = (λ n m t. c.in-Err.ensures.refused n t.0 m t.1 t.2, c.in-Err.ensures.at)

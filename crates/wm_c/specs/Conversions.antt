@@ -1,0 +1,115 @@
+-- What a conversion gives C.
+use Rattle.std.specs.Prelude.{◌≡◌, ◌≢◌, ◌<◌, ◌≤◌, ◌^◌, ◌+◌, ◌++◌, ◌⊎◌, ℕ, List, Err, drop, length, map}
+use Rattle.wm_syntax.specs.declared.profile.Profile.{Profile}
+use Rattle.wm_syntax.specs.declared.why.Why.TheVariants as why
+use Rattle.wm_syntax.specs.Modules.{Module}
+use Rattle.wm_decode.specs.declared.refusal.Refusal.{Refusal}
+use Rattle.wm_rules.specs.declared.policy.Policy.{Policy}
+use Rattle.wm_rules.specs.inner.Validators.{verdict}
+use Rattle.wm_rules.specs.Loading.{Loads}
+use Rattle.wm_rules.specs.Policies.{Within}
+use Rattle.wm_rules.specs.Validation.{Valid}
+use Rattle.wm_write.specs.Canon.{Fits, canon}
+use Rattle.wm_read.specs.declared.check.CheckFault.{CheckFault}
+use Rattle.wm_read.specs.declared.check.CheckFault.TheVariants as check
+use Rattle.wm_read.specs.declared.faults.TextWhy.TheVariants as text
+use Rattle.wm_read.specs.declared.spellings.Spellings.{Spellings}
+use Rattle.wm_read.specs.Spellings.{replaced}
+use Rattle.wm_read.specs.Tokens.{Token, Tokens}
+use Rattle.wm_read.specs.Fields.{Writes}
+use Rattle.wm_c.specs.declared.output.Output.{Output}
+use Rattle.wm_c.specs.declared.output.Unbuilt.{Unbuilt}
+use Rattle.wm_c.specs.declared.output.Unbuilt.TheVariants.{TooLong, Text, Check}
+use Rattle.wm_c.specs.declared.options.Options.{Options}
+use Rattle.wm_c.specs.Answers.{IsRight}
+use Rattle.wm_c.specs.Codes.{status_code, text_code, text_status_code, why_code}
+use Rattle.wm_c.specs.Options.{Asking, Asks, spellings_of}
+
+-- so many bytes were written
+abbrev pub wrote : ℕ → Output
+wrote n = record { status = 0; why = 0; at = 0; length = n }
+
+-- so many bytes would have been written
+abbrev pub no_room : ℕ → Output
+no_room n = record { status = 5; why = 0; at = 0; length = n }
+
+-- an option was out of range
+abbrev pub misuse : Output
+misuse = record { status = 2; why = 0; at = 0; length = 0 }
+
+-- a module was refused
+abbrev pub refuses : Refusal → Output
+refuses r = record { status = status_code r.why; why = why_code r.why; at = r.at; length = 0 }
+
+-- a module that a text writes was not encoded
+abbrev pub unchecked : CheckFault → Output
+unchecked (check.Refused r) = refuses r
+unchecked check.TooLarge = record { status = 1; why = 100; at = 0; length = 0 }
+unchecked check.Memory = record { status = 4; why = why_code why.Memory; at = 0; length = 0 }
+
+-- a text has no binary
+abbrev pub unbuilt : Unbuilt → Output
+unbuilt (TooLong at) = record { status = 1; why = why_code why.TooLong; at = at; length = 0 }
+unbuilt (Text r) = record { status = text_status_code r.why; why = text_code r.why; at = r.at; length = 0 }
+unbuilt (Check f) = unchecked f
+
+-- these bytes stand at the front of the buffer, and behind them what stood there
+abbrev pub Fills : List ℕ → List ℕ → List ℕ → Type 0
+Fills text before after =
+    (length text ≤ length before) × (after ≡ text ++ drop (length text) before)
+
+-- What a conversion comes to in a buffer, as the options ask. `Of` says which module it is, `form` what is
+-- written of it, and `Refuses` which refusal is told.
+pub record Converted (Of : Profile → ℕ → Policy → Module → Type 0) (form : Module → List ℕ)
+    (Refuses : Profile → ℕ → Policy → Output → Type 0) (o : Options) (before after : List ℕ) (out : Output)
+    : Type 0 where
+  pub written : out.status ≡ 0 → Asking o (λ p limit q. (m : Module) × Of p limit q m
+      × Fills (form m) before after × (out ≡ wrote (length (form m))))
+  -- it is longer than the buffer
+  pub room : out.status ≡ 5 → Asking o (λ p limit q. (m : Module) × Of p limit q m
+      × (length before < length (form m)) × (out ≡ no_room (length (form m))))
+  pub refused : out.status ≡ 1 → Asking o (λ p limit q. Refuses p limit q out)
+  pub misused : out.status ≡ 2 → (out ≡ misuse) × ((p : Profile) → Asks o p → ⊥)
+  pub untouched : out.status ≢ 0 → after ≡ before
+
+-- the refusal of a module's bytes is the validator's
+abbrev pub IsRefused : List ℕ → Profile → ℕ → Policy → Output → Type 0
+IsRefused input p limit q out =
+    (r : Refusal) × (r.why ≢ why.Memory) × IsRight p limit q input (Err r) × (out ≡ refuses r)
+
+-- of a module that the bytes spell
+abbrev pub ConvertedFrom : (Module → List ℕ) → Options → List ℕ → List ℕ → List ℕ → Output → Type 0
+ConvertedFrom form o input =
+    Converted (λ p limit q m. Loads p limit q input m) form (IsRefused input) o
+
+-- the text is UTF-8, and its tokens, with each older word replaced where those are read, write this module
+-- (sections 6.2.2 and 6.6.13)
+abbrev pub IsTextOf : Profile → Spellings → Module → List ℕ → Type 0
+IsTextOf p s m input = (k : List Token) × Tokens input k × Writes p (map (replaced s) k) m
+
+-- the module of a text, which is within the limit, valid and within the policy
+pub record Builds (s : Spellings) (input : List ℕ) (p : Profile) (limit : ℕ) (q : Policy) (m : Module)
+    : Type 0 where
+  pub short : length input ≤ limit
+  pub writes : IsTextOf p s m input
+  pub valid : Valid m
+  pub within : Within q m
+
+-- why a module has no canonical binary, or is none to be given: its refusal is that binary's
+abbrev pub IsUnchecked : Profile → Policy → Module → CheckFault → Type 0
+IsUnchecked p q m (check.Refused r) = (Valid m → Within q m → ⊥) × (r.why ≢ why.Memory)
+    × (verdict p (2 ^ 62) q (canon m) ≡ Err r) × (r.at ≤ length (canon m))
+IsUnchecked p q m check.TooLarge = Fits m → ⊥
+IsUnchecked p q m check.Memory = Unit {0}
+
+-- why a text has no binary; memory aside
+abbrev pub IsUnbuilt : Spellings → List ℕ → Profile → ℕ → Policy → Unbuilt → Type 0
+IsUnbuilt s input p limit q (TooLong at) = (limit < length input) × (at ≡ limit + 1)
+IsUnbuilt s input p limit q (Text r) =
+    (r.why ≢ text.Memory → (m : Module) → IsTextOf p s m input → ⊥) × (r.at ≤ length input)
+IsUnbuilt s input p limit q (Check f) = (m : Module) × IsTextOf p s m input × IsUnchecked p q m f
+
+-- of a text
+abbrev pub ConvertedText : Options → List ℕ → List ℕ → List ℕ → Output → Type 0
+ConvertedText o input = Converted (Builds (spellings_of o) input) canon
+    (λ p limit q out. (u : Unbuilt) × IsUnbuilt (spellings_of o) input p limit q u × (out ≡ unbuilt u)) o

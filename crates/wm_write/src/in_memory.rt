@@ -1,0 +1,100 @@
+//! A module's canonical binary and its text, in memory.
+
+ghost use Rattle.std.specs.Prelude.{◌≡◌, ◌≢◌, ◌↔◌, [], Err, IfOk, false};
+ghost use Rattle.wm_rules.specs.inner.Loaders.{module_in};
+ghost use Rattle.wm_syntax.specs.Values.{value_of};
+ghost use Rattle.wm_write.specs.Canon.{Fits, canon};
+ghost use Rattle.wm_write.specs.Layout.{layout};
+ghost use Rattle.wm_write.specs.declared.in_memory.MakeFault.TheVariants as fault;
+
+use crate::encode::{WriteFault, encode};
+use crate::print::print;
+use std::alloc::Global;
+use std::io;
+use std::io::ErrorKind;
+use thiserror::Error;
+use wm_rules::Checked;
+use wm_syntax::io::Dest;
+use wm_syntax::modules::Module;
+
+/// Why a module has no bytes in memory.
+#[derive(Clone, Copy, PartialEq, Eq, Debug, Error)]
+pub enum MakeFault {
+    /// The contents of a section have 2^32 bytes or more.
+    #[error("a section would have 2^32 bytes or more")]
+    TooLarge,
+    /// Memory was refused.
+    #[error("out of memory")]
+    Memory,
+}
+
+// The bytes that were written so far.
+#[derive(Drop)]
+struct Bytes {
+    bytes: Vec<u8>,
+    failed: bool,
+}
+
+impl Bytes {
+    fn new(alloc: Global) -> Bytes
+        ensures nothing { result.bytes.items ≡ [] }
+        ensures open { result.failed ≡ false }
+    {
+        Bytes {
+            bytes: Vec::new(alloc),
+            failed: false,
+        }
+    }
+}
+
+impl Dest for Bytes {
+    ghost use Rattle.std.specs.Prelude.{Some};
+
+    ghost contents = { λ b. Some b.bytes.items };
+
+    ghost has_failed = { λ b. b.failed };
+
+    fn put(&mut self, buf: &[u8]) -> io::Result<usize> {
+        match self.bytes.extend_from_slice(buf) {
+            Ok(()) => Ok(buf.len()),
+            Err(_) => {
+                self.failed = true;
+                Err(io::Error::from(ErrorKind::OutOfMemory))
+            }
+        }
+    }
+
+    fn flush(&mut self) -> io::Result<()> {
+        Ok(())
+    }
+
+    fn failed(&self) -> bool {
+        self.failed
+    }
+}
+
+/// The canonical binary of a module.
+pub fn encoded(alloc: Global, m: &Module) -> Result<Vec<u8>, MakeFault>
+    ensures written { IfOk result (λ b. b.items ≡ canon (value_of m.now)) }
+    ensures too_large { (result ≡ Err fault.TooLarge) ↔ (¬ Fits (value_of m.now)) }
+{
+    let mut written = Bytes::new(alloc);
+    match encode(m, &mut written) {
+        Ok(_) => Ok(written.bytes),
+        Err(WriteFault::TooLarge) => Err(MakeFault::TooLarge),
+        Err(WriteFault::Io { written: _ }) => Err(MakeFault::Memory),
+    }
+}
+
+/// The text of a module. A megabyte may declare 2^32 locals, gigabytes of text: of a stranger's module a
+/// policy bounds them.
+pub fn printed(alloc: Global, checked: &Checked) -> Result<Vec<u8>, MakeFault>
+    ensures written { IfOk result (λ b. b.items ≡ layout (value_of (module_in checked.now))) }
+    ensures sized { result ≢ Err fault.TooLarge }
+{
+    let mut written = Bytes::new(alloc);
+    match print(checked, &mut written) {
+        Ok(()) => Ok(written.bytes),
+        Err(_) => Err(MakeFault::Memory),
+    }
+}
