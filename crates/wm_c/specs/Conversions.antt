@@ -1,5 +1,5 @@
 -- What a conversion gives C.
-use Rattle.std.specs.Prelude.{◌≡◌, ◌≢◌, ◌<◌, ◌≤◌, ◌^◌, ◌+◌, ◌++◌, ◌⊎◌, ℕ, List, Err, drop, length, map}
+use Rattle.std.specs.Prelude.{◌≡◌, ◌≢◌, ◌<◌, ◌≤◌, ◌^◌, ◌+◌, ◌++◌, ℕ, List, Err, drop, length}
 use Rattle.wm_syntax.specs.declared.profile.Profile.{Profile}
 use Rattle.wm_syntax.specs.declared.why.Why.TheVariants as why
 use Rattle.wm_syntax.specs.Modules.{Module}
@@ -14,9 +14,7 @@ use Rattle.wm_read.specs.declared.check.CheckFault.{CheckFault}
 use Rattle.wm_read.specs.declared.check.CheckFault.TheVariants as check
 use Rattle.wm_read.specs.declared.faults.TextWhy.TheVariants as text
 use Rattle.wm_read.specs.declared.spellings.Spellings.{Spellings}
-use Rattle.wm_read.specs.Spellings.{replaced}
-use Rattle.wm_read.specs.Tokens.{Token, Tokens}
-use Rattle.wm_read.specs.Fields.{Writes}
+use Rattle.wm_read.specs.Spellings.{IsTextOf}
 use Rattle.wm_c.specs.declared.output.Output.{Output}
 use Rattle.wm_c.specs.declared.output.Unbuilt.{Unbuilt}
 use Rattle.wm_c.specs.declared.output.Unbuilt.TheVariants.{TooLong, Text, Check}
@@ -81,11 +79,6 @@ IsRefused input p limit q out =
 abbrev pub ConvertedFrom : (Module → List ℕ) → Options → List ℕ → List ℕ → List ℕ → Output → Type 0
 ConvertedFrom form o input =
     Converted (λ p limit q m. Loads p limit q input m) form (IsRefused input) o
-
--- the text is UTF-8, and its tokens, with each older word replaced where those are read, write this module
--- (sections 6.2.2 and 6.6.13)
-abbrev pub IsTextOf : Profile → Spellings → Module → List ℕ → Type 0
-IsTextOf p s m input = (k : List Token) × Tokens input k × Writes p (map (replaced s) k) m
 
 -- the module of a text, which is within the limit, valid and within the policy
 pub record Builds (s : Spellings) (input : List ℕ) (p : Profile) (limit : ℕ) (q : Policy) (m : Module)

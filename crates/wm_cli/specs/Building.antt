@@ -1,5 +1,5 @@
 -- What `build` may write for a text, and how it may end.
-use Rattle.std.specs.Prelude.{◌≡◌, ◌≢◌, ◌≤◌, ◌<◌, ◌^◌, ◌+◌, ◌⊎◌, ℕ, List, Err, length, map}
+use Rattle.std.specs.Prelude.{◌≡◌, ◌≢◌, ◌≤◌, ◌<◌, ◌^◌, ◌+◌, ◌⊎◌, ℕ, List, Err, length}
 use Rattle.wm_syntax.specs.declared.profile.Profile.{Profile}
 use Rattle.wm_syntax.specs.declared.why.Why.{Why}
 use Rattle.wm_syntax.specs.declared.why.Why.TheVariants.{Memory, TooLong}
@@ -13,17 +13,10 @@ use Rattle.wm_write.specs.Canon.{Fits, canon}
 use Rattle.wm_read.specs.declared.faults.TextWhy.{TextWhy}
 use Rattle.wm_read.specs.declared.faults.TextWhy.TheVariants as fault
 use Rattle.wm_read.specs.declared.spellings.Spellings.{Spellings}
-use Rattle.wm_read.specs.Spellings.{replaced}
-use Rattle.wm_read.specs.Tokens.{Token, Tokens}
-use Rattle.wm_read.specs.Fields.{Writes}
+use Rattle.wm_read.specs.Spellings.{IsTextOf}
 use Rattle.wm_cli.specs.declared.status.Status.{Status}
 use Rattle.wm_cli.specs.declared.status.Status.TheVariants.{Done, Refused}
 use Rattle.wm_cli.specs.Refused.{module_line, refusal_line, text_line, too_large_line}
-
--- the text is UTF-8, and its tokens, with each older word replaced where those are read, write this module
--- (sections 6.2.2 and 6.6.13)
-abbrev pub IsTextOf : Profile → Spellings → Module → List ℕ → Type 0
-IsTextOf p s m text = (k : List Token) × Tokens text k × Writes p (map (replaced s) k) m
 
 -- Of a module that a text writes: its canonical binary, where it is valid and within the policy;
 -- where it is not, the refusal of that binary. A module of which a section would be too large has

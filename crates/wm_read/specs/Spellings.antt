@@ -1,9 +1,12 @@
--- Older spellings of words, from before the standard, and the words that they are read as.
-use Rattle.std.specs.Prelude.{ℕ, List, [], ◌∷◌, codes}
+-- Older spellings of words, from before the standard, the words that they are read as, and what a text writes.
+use Rattle.std.specs.Prelude.{ℕ, List, [], ◌∷◌, codes, map}
 use Rattle.std.specs.Map.{lookup}
 use Rattle.std.specs.Option.{unwrap_or}
 use Rattle.std.specs.Str.{bytes_eq}
-use Rattle.wm_read.specs.Tokens.{Token, atom}
+use Rattle.wm_syntax.specs.declared.profile.Profile.{Profile}
+use Rattle.wm_syntax.specs.Modules.{Module}
+use Rattle.wm_read.specs.Fields.{Writes}
+use Rattle.wm_read.specs.Tokens.{Token, Tokens, atom}
 use Rattle.wm_read.specs.declared.spellings.Spellings.{Spellings}
 use Rattle.wm_read.specs.declared.spellings.Spellings.TheVariants.{Standard, Older}
 
@@ -28,3 +31,8 @@ abbrev pub replaced : Spellings → Token → Token
 replaced Older (atom a) = atom (unwrap_or (lookup (bytes_eq a) older_words) a)
 replaced Older t = t
 replaced Standard t = t
+
+-- the text is UTF-8, and its tokens, with each older word replaced where those are read, write this module
+-- (sections 6.2.2 and 6.6.13)
+abbrev pub IsTextOf : Profile → Spellings → Module → List ℕ → Type 0
+IsTextOf p s m text = (k : List Token) × Tokens text k × Writes p (map (replaced s) k) m
