@@ -1,7 +1,7 @@
 """The calls for C beside the program: a made module gets the same line from both, however it is cut, and the same canonical
 binary, text and module of that text. Each growth of the samples is refused in turn: they end with status 4, or as with ample
-memory, and give back what they took. Header and samples are compiled as C89 and as C++98 first. Where the machine has no C
-compiler, this is said and nothing is tried.
+memory, and give back what they took. On a stack of 64 KiB they take a million nested blocks. Header and samples are compiled
+as C89 and as C++98 first. Where the machine has no C compiler, this is said and nothing is tried.
 
     .ci/c_calls.py ARCHIVE PROGRAM       libwm_c.a and wmod, as they were built
 """
@@ -12,6 +12,7 @@ import subprocess
 import sys
 import tempfile
 
+import deep
 import growths
 
 HERE = os.path.dirname(os.path.abspath(__file__))
@@ -22,6 +23,8 @@ HEAP = os.path.join(os.path.dirname(subprocess.run(["rt", "doc"], capture_output
 STRICT = ["-pedantic", "-Wall", "-Wextra", "-Werror", f"-I{CRATE}/include"]
 LANGUAGES = [["cc", "-std=c89", *STRICT], ["c++", "-x", "c++", "-std=c++98", "-Wno-long-long", *STRICT]]
 MODULES = 1000
+# in KiB: what the header says
+STACK = 64
 
 
 def made(number):
@@ -77,8 +80,23 @@ def sweep(room):
     modules = [growths.bytes_of(it) for it in growths.MODULES.values()]
     runs = [(["7"], it) for it in modules[:-1]]
     is_well = growths.swept("the sample check.c", f"{room}/check", runs, kind_of, gives_back=True)
-    runs = [([action], it) for action in ("canon", "show") for it in modules] + [(["build"], growths.TEXT.encode()), (["build"], b"(module (start 0))")]
+    texts = [growths.TEXT.encode(), b"(module (start 0))"]
+    runs = [([action], it) for action in ("canon", "show") for it in modules] + [(["build"], it) for it in texts]
     return growths.swept("the sample convert.c", f"{room}/convert", runs, kind_of, gives_back=True) and is_well
+
+
+def is_flat(room):
+    """Whether the samples take a million nested blocks, and as many in a text, on the header's stack."""
+    convert, text = f"{room}/convert", deep.run(f"{room}/convert", "show", deep.DEEP, STACK)
+    answers = {
+        "check": deep.run(f"{room}/check", "4096", deep.DEEP, STACK) == (0, b"valid\n"),
+        "canon": deep.run(convert, "canon", deep.DEEP, STACK) == (0, deep.DEEP),
+        "show, then build": text[0] == 0 and deep.run(convert, "build", text[1], STACK) == (0, deep.DEEP),
+        "open comments": deep.run(convert, "build", deep.OPEN, STACK) == (1, deep.OPEN_ANSWER),
+    }
+    wrong = [name for name, well in answers.items() if not well]
+    print(f"C: {deep.DEPTH} blocks on a stack of {STACK} KiB: " + (f"wrong: {', '.join(wrong)}" if wrong else "well"), flush=True)
+    return not wrong
 
 
 def is_well(archive, program):
@@ -90,7 +108,7 @@ def is_well(archive, program):
         fault = compiled(archive, room)
         wrong = [fault] if fault else [it for number in range(MODULES) for it in differences(room, program, number)]
         print(f"C: {MODULES} modules as C and as wmod: " + (f"wrong: {'; '.join(wrong[:3])}" if wrong else "well"), flush=True)
-        return not wrong and sweep(room)
+        return not wrong and all([sweep(room), is_flat(room)])
 
 
 if __name__ == "__main__":

@@ -15,9 +15,9 @@ OPEN = b"(module (;" + b"(;" * DEPTH
 OPEN_ANSWER = f"text refused at {len(OPEN)}: OpenComment\n".encode()
 
 
-def run(program, action, given):
+def run(program, action, given, stack=STACK):
     """The exit status and what was written."""
-    words = ["sh", "-c", f'ulimit -s {STACK}; exec "$@"', "", program, action]
+    words = ["sh", "-c", f'ulimit -s {stack}; exec "$@"', "", program, action]
     ran = subprocess.run(words, input=given, stdout=subprocess.PIPE, timeout=300, check=False)
     return ran.returncode, ran.stdout
 
