@@ -34,6 +34,7 @@ extern "C" {
 #define WMOD_REFUSED 1u  /* the input is not valid, or too long */
 #define WMOD_MISUSE 2u   /* an argument is out of range, or the handle has ended or is empty; nothing was read */
 #define WMOD_MEMORY 4u   /* memory was refused: nothing is known of the input */
+#define WMOD_NO_ROOM 5u  /* the output is longer than the room for it; nothing was written */
 
 /* Which instructions a module may use. */
 #define WMOD_PROFILE_1 1u /* those of WebAssembly 1.0 on whole numbers */
@@ -109,12 +110,13 @@ typedef struct wmod_options {
   uint64_t functions; /* at most so many functions, imported ones counted */
   uint64_t locals;    /* at most so many declared locals a function; parameters are not counted */
   uint64_t depth;     /* at most so many open blocks, loops and ifs in a function */
+  uint64_t old_words; /* of wmod_build: 1 where the words of older tools are read too, such as get_local; else 0 */
 } wmod_options;
 
-/* Of the last three: no limit. So is any number of 2^32 and more. */
+/* Of functions, locals and depth: no limit. So is any number of 2^32 and more. */
 #define WMOD_NO_LIMIT ((uint64_t)-1)
 #define WMOD_OPTIONS \
-  { sizeof(wmod_options), WMOD_PROFILE_1, WMOD_LIMIT_DEFAULT, WMOD_NO_LIMIT, WMOD_NO_LIMIT, WMOD_NO_LIMIT }
+  { sizeof(wmod_options), WMOD_PROFILE_1, WMOD_LIMIT_DEFAULT, WMOD_NO_LIMIT, WMOD_NO_LIMIT, WMOD_NO_LIMIT, 0 }
 
 /* The same as the options ask. Proved of it: the same, where a valid module is also one within the options' limits. */
 uint32_t wmod_validate_with(const uint8_t *bytes, size_t length, const wmod_options *options, wmod_answer *answer);
@@ -159,6 +161,23 @@ uint32_t wmod_finish(wmod_validator *v, wmod_answer *answer);
 
 /* Gives back what the handle holds, at any moment, and leaves it empty. Of an empty handle it does nothing. */
 void wmod_end(wmod_validator *v);
+
+/* How a call that writes ended. */
+typedef struct wmod_output {
+  uint32_t status;  /* WMOD_VALID: written; WMOD_REFUSED, WMOD_MISUSE, WMOD_MEMORY, WMOD_NO_ROOM */
+  uint32_t why;     /* as in wmod_answer; of a text that writes no module WMOD_TEXT_NOT_UTF8 (101) .. ; 0 where not refused */
+  uint64_t at;      /* the place of the refusal; of wmod_build: of a text the bytes before the token that decided it, else a place of the module's canonical binary */
+  uint64_t length;  /* WMOD_VALID: so many bytes were written; WMOD_NO_ROOM: so many would be */
+} wmod_output;
+
+/* The canonical binary of a module. It never needs more room than the input's length. */
+uint32_t wmod_canon(const uint8_t *bytes, size_t length, const wmod_options *options, uint8_t *out, size_t room, wmod_output *output);
+
+/* A module as text. */
+uint32_t wmod_show(const uint8_t *bytes, size_t length, const wmod_options *options, uint8_t *out, size_t room, wmod_output *output);
+
+/* The canonical binary of the module that a text writes. */
+uint32_t wmod_build(const uint8_t *text, size_t length, const wmod_options *options, uint8_t *out, size_t room, wmod_output *output);
 
 #ifdef __cplusplus
 }
