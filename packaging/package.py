@@ -1,10 +1,10 @@
-"""What `./wmod install`, `uninstall` and `dist` do, with what was built:
+"""What `./wmod` does with what was built, when it is called so:
 
-    packaging/package.py ARCHIVE PROGRAM install PREFIX     puts all of it below PREFIX
-    packaging/package.py ARCHIVE PROGRAM uninstall PREFIX   removes what install put there, and the folders that it made
-    packaging/package.py ARCHIVE PROGRAM dist [FOLDER]      makes wmod-VERSION-x86_64-linux.tar.gz and its checksum there
+    ./wmod install PREFIX     puts all of it below PREFIX, a folder's whole path without blanks, as /usr/local
+    ./wmod uninstall PREFIX   removes what install put there, and the folders that it made where they are empty
+    ./wmod dist [FOLDER]      makes wmod-VERSION-x86_64-linux.tar.gz there, and its checksum
 
-PREFIX is a folder's whole path, as /usr/local. Both stand below DESTDIR where that is set.
+The first two work below DESTDIR where that is set. Before their words stand here two more: libwm_c.a and the program.
 """
 import hashlib
 import os
@@ -21,9 +21,14 @@ RECORD = "share/doc/wmod/installed.txt"
 ANYWHERE = "${pcfiledir}/../.."
 
 
+def misused():
+    print(__doc__, file=sys.stderr)
+    sys.exit(2)
+
+
 def target(prefix):
     if not os.path.isabs(prefix) or any(it.isspace() for it in prefix):
-        sys.exit(f"wmod: '{prefix}' is no PREFIX: a folder's whole path without blanks, as /usr/local")
+        misused()
     return pathlib.Path(os.environ.get("DESTDIR", "") + os.path.normpath(prefix))
 
 
@@ -119,8 +124,7 @@ def main():
     archive, program, action, *words = sys.argv[1:]
     call, least, most = ACTIONS[action]
     if not least <= len(words) <= most:
-        print(__doc__, file=sys.stderr)
-        sys.exit(2)
+        misused()
     os.umask(0o022)
     call(archive, program, *words)
 

@@ -12,7 +12,10 @@ fn by_pkg_config() -> Vec<PathBuf> {
         return Vec::new();
     };
     let said = String::from_utf8_lossy(&ran.stdout);
-    said.split_whitespace().filter_map(|it| it.strip_prefix("-L")).map(PathBuf::from).collect()
+    said.split_whitespace()
+        .filter_map(|it| it.strip_prefix("-L"))
+        .map(PathBuf::from)
+        .collect()
 }
 
 fn main() {
@@ -26,5 +29,8 @@ fn main() {
         println!("cargo:rustc-link-search=native={}", folder.display());
     }
     let is_static = folders.iter().any(|it| it.join("libwmod.a").exists());
-    println!("cargo:rustc-link-lib={}wmod", if is_static { "static=" } else { "" });
+    println!(
+        "cargo:rustc-link-lib={}wmod",
+        if is_static { "static=" } else { "" }
+    );
 }

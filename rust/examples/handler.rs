@@ -53,7 +53,11 @@ impl fmt::Display for Rejection {
 
 /// What this service takes.
 fn policy() -> Options {
-    Options::new().max_bytes(1_000_000).functions(10_000).locals(1_000).depth(500)
+    Options::new()
+        .max_bytes(1_000_000)
+        .functions(10_000)
+        .locals(1_000)
+        .depth(500)
 }
 
 /// Judges each piece before it is kept. So the first refusal ends the upload, and no more than the limit is ever held.
@@ -78,7 +82,11 @@ fn admit(mut body: impl Read, policy: &Options) -> Result<Module, Rejection> {
 
 fn main() {
     match admit(io::stdin().lock(), &policy()) {
-        Ok(module) => println!("200 {} bytes, {} functions", module.bytes.len(), module.functions),
+        Ok(module) => println!(
+            "200 {} bytes, {} functions",
+            module.bytes.len(),
+            module.functions
+        ),
         Err(rejection) => println!("{} {rejection}", rejection.status()),
     }
 }

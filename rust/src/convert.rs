@@ -12,7 +12,16 @@ pub(crate) fn converted(
         out.try_reserve_exact(room).map_err(|_| Error::memory())?;
         let mut output = sys::Output::default();
         // SAFETY: a pointer and the length of one slice, and room of so many bytes that `out` owns.
-        unsafe { call(input.as_ptr(), input.len(), options, out.as_mut_ptr(), room, &mut output) };
+        unsafe {
+            call(
+                input.as_ptr(),
+                input.len(),
+                options,
+                out.as_mut_ptr(),
+                room,
+                &mut output,
+            )
+        };
         let length = usize::try_from(output.length).map_err(|_| Error::memory())?;
         match output.status {
             sys::VALID if length <= room => {

@@ -114,7 +114,12 @@ impl Options {
     /// As [`show`](crate::show).
     pub fn show(&self, bytes: &[u8]) -> Result<String, Error> {
         // most modules have no longer text; for others the call is made twice
-        let text = converted(sys::wmod_show, &self.0, bytes, bytes.len().saturating_mul(8))?;
+        let text = converted(
+            sys::wmod_show,
+            &self.0,
+            bytes,
+            bytes.len().saturating_mul(8),
+        )?;
         String::from_utf8(text).map_err(|_| Error::plain(ErrorKind::Library, b"Library"))
     }
 

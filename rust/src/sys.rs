@@ -116,7 +116,9 @@ mod tests {
             laid!("wmod_options", Options, size profile max_bytes functions locals depth old_words),
             laid!("wmod_output", Output, status why at length),
             laid!("wmod_validator", Validator, state),
-            format!("WMOD_VALID {VALID}\nWMOD_REFUSED {REFUSED}\nWMOD_MISUSE 2\nWMOD_MEMORY {MEMORY}\n"),
+            format!(
+                "WMOD_VALID {VALID}\nWMOD_REFUSED {REFUSED}\nWMOD_MISUSE 2\nWMOD_MEMORY {MEMORY}\n"
+            ),
             format!("WMOD_NO_ROOM {NO_ROOM}\nWMOD_PROFILE_1 1\nWMOD_PROFILE_2 2\n"),
             format!("WMOD_LIMIT_DEFAULT {LIMIT_DEFAULT}\nWMOD_LIMIT_MOST {LIMIT_MOST}\n"),
             format!("WMOD_NO_LIMIT {NO_LIMIT}\n"),

@@ -79,8 +79,13 @@ impl Validator {
     }
 
     pub(crate) fn begun(options: &sys::Options) -> Result<Validator, Error> {
-        let handle = sys::Validator { state: ptr::null_mut() };
-        let mut it = Validator { handle, _thread: PhantomData };
+        let handle = sys::Validator {
+            state: ptr::null_mut(),
+        };
+        let mut it = Validator {
+            handle,
+            _thread: PhantomData,
+        };
         // SAFETY: an empty handle. It may move, since the library is handed its address anew by each call.
         match unsafe { sys::wmod_begin_with(&mut it.handle, options) } {
             sys::VALID => Ok(it),

@@ -24,21 +24,40 @@ fn a_text_is_read_back() {
 #[test]
 fn a_text_longer_than_the_first_room() {
     // 9,000 locals in a few bytes
-    let bytes = b"\0asm\x01\0\0\0\x01\x04\x01\x60\0\0\x03\x02\x01\0\x0a\x07\x01\x05\x01\xa8\x46\x7f\x0b";
+    let bytes =
+        b"\0asm\x01\0\0\0\x01\x04\x01\x60\0\0\x03\x02\x01\0\x0a\x07\x01\x05\x01\xa8\x46\x7f\x0b";
     let text = show(bytes).unwrap();
     assert!(text.len() > 36_000);
     assert_eq!(build(text).unwrap(), bytes);
-    assert_eq!(Options::new().locals(8_999).show(bytes).unwrap_err().why(), "ManyLocals");
+    assert_eq!(
+        Options::new().locals(8_999).show(bytes).unwrap_err().why(),
+        "ManyLocals"
+    );
 }
 
 #[test]
 fn refusals_have_their_kind() {
     let said = |error: wmod::Error| (error.kind(), error.why().to_owned(), error.place());
-    assert_eq!(said(canon(b"\0asn").unwrap_err()), (ErrorKind::Module, "Magic".into(), Some(4)));
-    assert_eq!(said(show(b"").unwrap_err()), (ErrorKind::Module, "Truncated".into(), Some(0)));
-    assert_eq!(said(build("(module (start $f))").unwrap_err()), (ErrorKind::Text, "UnknownId".into(), Some(15)));
-    assert_eq!(said(build("(module (start 0))").unwrap_err()), (ErrorKind::Module, "Index".into(), Some(11)));
-    assert_eq!(said(build(b"\xff").unwrap_err()), (ErrorKind::Text, "NotUtf8".into(), Some(0)));
+    assert_eq!(
+        said(canon(b"\0asn").unwrap_err()),
+        (ErrorKind::Module, "Magic".into(), Some(4))
+    );
+    assert_eq!(
+        said(show(b"").unwrap_err()),
+        (ErrorKind::Module, "Truncated".into(), Some(0))
+    );
+    assert_eq!(
+        said(build("(module (start $f))").unwrap_err()),
+        (ErrorKind::Text, "UnknownId".into(), Some(15))
+    );
+    assert_eq!(
+        said(build("(module (start 0))").unwrap_err()),
+        (ErrorKind::Module, "Index".into(), Some(11))
+    );
+    assert_eq!(
+        said(build(b"\xff").unwrap_err()),
+        (ErrorKind::Text, "NotUtf8".into(), Some(0))
+    );
 }
 
 #[test]

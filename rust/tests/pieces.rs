@@ -29,19 +29,36 @@ fn whole_and_cut_anywhere_are_the_same() {
 fn every_front_is_refused() {
     for n in (0..ADD.len()).filter(|n| ![8, 17].contains(n)) {
         let error = validate(&ADD[..n]).unwrap_err();
-        assert_eq!((error.kind(), error.place()), (ErrorKind::Module, Some(n as u64)));
+        assert_eq!(
+            (error.kind(), error.place()),
+            (ErrorKind::Module, Some(n as u64))
+        );
     }
 }
 
 #[test]
 fn options_say_what_is_taken() {
     let one = Options::new();
-    let said = |options: Options, bytes| options.validate(bytes).map_err(|it| it.to_string()).map(|it| it.functions);
+    let said = |options: Options, bytes| {
+        options
+            .validate(bytes)
+            .map_err(|it| it.to_string())
+            .map(|it| it.functions)
+    };
     assert_eq!(said(one, EXTENDS), Err("refused at 30: BadOpcode".into()));
     assert_eq!(said(one.profile(Profile::Two), EXTENDS), Ok(1));
-    assert_eq!(said(one.max_bytes(7), ADD), Err("refused at 8: TooLong".into()));
-    assert_eq!(said(one.max_bytes(u64::MAX).locals(0).depth(0).functions(1), ADD), Ok(1));
-    assert_eq!(one.functions(0).validate(ADD).unwrap_err().why(), "ManyFunctions");
+    assert_eq!(
+        said(one.max_bytes(7), ADD),
+        Err("refused at 8: TooLong".into())
+    );
+    assert_eq!(
+        said(one.max_bytes(u64::MAX).locals(0).depth(0).functions(1), ADD),
+        Ok(1)
+    );
+    assert_eq!(
+        one.functions(0).validate(ADD).unwrap_err().why(),
+        "ManyFunctions"
+    );
 }
 
 #[test]
@@ -51,7 +68,10 @@ fn a_refusal_stays() {
     let first = validator.feed(&ADD[20..]).unwrap_err();
     assert_eq!(first.to_string(), "refused at 21: TooLong");
     assert_eq!(validator.feed(b""), Err(first));
-    assert_eq!(validator.write(ADD).unwrap_err().kind(), io::ErrorKind::InvalidData);
+    assert_eq!(
+        validator.write(ADD).unwrap_err().kind(),
+        io::ErrorKind::InvalidData
+    );
     assert_eq!(validator.finish(), Err(first));
 }
 
@@ -66,7 +86,9 @@ fn one_that_is_let_go_gives_back_what_it_holds() {
 fn threads_have_a_validator_each() {
     std::thread::scope(|scope| {
         for _ in 0..4 {
-            scope.spawn(|| (0..200).for_each(|n| assert_eq!(cut(ADD, n % ADD.len()), validate(ADD))));
+            scope.spawn(|| {
+                (0..200).for_each(|n| assert_eq!(cut(ADD, n % ADD.len()), validate(ADD)))
+            });
         }
     });
 }
