@@ -70,7 +70,7 @@ pub fn canon(bytes: &[u8]) -> Result<Vec<u8>, Error> {
 /// stranger's module by [`Options`] with [`locals`](Options::locals) and [`functions`](Options::functions).
 ///
 /// ```
-/// assert_eq!(wmod::show(b"\0asm\x01\0\0\0").unwrap().trim_end(), "(module\n)");
+/// assert_eq!(wmod::show(b"\0asm\x01\0\0\0").unwrap(), "(module)\n");
 /// ```
 pub fn show(bytes: &[u8]) -> Result<String, Error> {
     Options::new().show(bytes)

@@ -126,7 +126,7 @@ impl Options {
     /// As [`build`](crate::build).
     ///
     /// ```
-    /// let text = "(module (func (param i32) get_local 0 drop))";
+    /// let text = "(module (type (func (param i32))) (func (type 0) get_local 0 drop))";
     /// assert!(wmod::Options::new().old_words(true).build(text).is_ok());
     /// assert_eq!(wmod::build(text).unwrap_err().why(), "UnknownWord");
     /// ```

@@ -62,7 +62,7 @@ fn refusals_have_their_kind() {
 
 #[test]
 fn older_words_are_read_where_they_are_asked_for() {
-    let text = "(module (func (param i32) (result i32) get_local 0))";
+    let text = "(module (type (func (param i32))) (func (type 0) get_local 0 drop))";
     let bytes = Options::new().old_words(true).build(text).unwrap();
     assert!(show(&bytes).unwrap().contains("local.get 0"));
     assert_eq!(build(text).unwrap_err().why(), "UnknownWord");

@@ -45,7 +45,7 @@ fn options_say_what_is_taken() {
             .map_err(|it| it.to_string())
             .map(|it| it.functions)
     };
-    assert_eq!(said(one, EXTENDS), Err("refused at 30: BadOpcode".into()));
+    assert_eq!(said(one, EXTENDS), Err("refused at 28: BadOpcode".into()));
     assert_eq!(said(one.profile(Profile::Two), EXTENDS), Ok(1));
     assert_eq!(
         said(one.max_bytes(7), ADD),
