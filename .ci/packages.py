@@ -165,6 +165,7 @@ def check_folder(it):
     status, said = run(TOP / "examples/check_all.sh", folder, wanted=None, env=env)
     same("the lines for a folder", sorted(said.splitlines(True)), sorted(wanted))
     same("the status for a folder", status, 123 if wanted else 0)
+    run(TOP / "examples/check_all.sh", folder / "missing", wanted=2, env=env)
 
 
 def check_layout(it):

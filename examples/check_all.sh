@@ -3,6 +3,7 @@
 # not taken, and its status is 0 where all are.
 #
 #   examples/check_all.sh FOLDER
+[ -d "$1" ] || { echo "no folder: $1" >&2; exit 2; }
 find "$1" -name '*.wasm' -print0 | xargs -0 -r -n 64 -P "$(nproc)" sh -c '
   status=0
   for file do
