@@ -126,7 +126,7 @@ def main():
     if not least <= len(words) <= most:
         misused()
     os.umask(0o022)
-    call(archive, program, *words)
+    call(os.path.abspath(archive), os.path.abspath(program), *words)
 
 
 if __name__ == "__main__":
