@@ -4,8 +4,8 @@
 `rt ci` proves a crate three times: plain, with its tests, and again before its first must-fail edit. Here the three
 share one folder of this run's own, which begins empty. So each module is proved once, and what is refused by `rt ci` is
 refused here. Edits are first tried some at a time, each in another function. The built wmod is run with each of its growths
-refused in turn (growths.py), and on a million blocks (deep.py). At last the calls for C are made beside it (c_calls.py). It also
-says what each crate cost.
+refused in turn (growths.py), and on a million blocks (deep.py). At last the calls for C are made beside it (c_calls.py),
+and what is installed is tried (packages.py). It also says what each crate cost.
 
     .ci/gate.py                  the gate
     .ci/gate.py --keep FOLDER    the same over what an earlier run kept in FOLDER: for one's own work, and no verdict
@@ -24,6 +24,7 @@ sys.dont_write_bytecode = True
 import c_calls
 import deep
 import growths
+import packages
 
 RT = os.path.join(os.path.dirname(subprocess.run(["rt", "doc"], capture_output=True, text=True, check=True).stdout.strip()), "bin/rt")
 
@@ -361,8 +362,8 @@ def main():
     if KEPT == ROOM.name and len(sys.argv) > 1:
         sys.exit(__doc__)
     status = rt.main(["ci"])
-    is_here = os.path.isdir("crates/wm_c")
-    if not status and is_here and not c_calls.is_well("crates/wm_c/out/libwm_c.a", "crates/wm_cli/out/wm_cli"):
+    built = "crates/wm_c/out/libwm_c.a", "crates/wm_cli/out/wm_cli"
+    if not status and os.path.isdir("crates/wm_c") and not all([c_calls.is_well(*built), packages.is_well(*built)]):
         status = 1
     if KEPT != ROOM.name:
         print(f"this is no verdict: it rests on what stood in {KEPT}")

@@ -1,0 +1,287 @@
+"""What is installed, in use: what the libraries show, the samples in each language, the manual page, the completions, the crate for
+cargo, and that nothing is left after `uninstall`. Where a tool is missing here, the line says so and its part is not tried.
+
+    .ci/packages.py ARCHIVE PROGRAM       libwm_c.a and wmod, as they were built
+"""
+import os
+import pathlib
+import re
+import shutil
+import subprocess
+import sys
+import tempfile
+
+import c_calls
+
+TOP = pathlib.Path(__file__).resolve().parent.parent
+SAMPLES = TOP / "crates/wm_c/samples"
+PREFIX = "/opt/x"
+STRICT = ["-pedantic", "-Wall", "-Wextra", "-Werror", "-pthread"]
+LANGUAGES = {"C89": ["cc", "-std=c89"], "C++98": ["c++", "-x", "c++", "-std=c++98", "-Wno-long-long"]}
+# the policy that a sample has of itself, as options of the program
+POLICIES = {"upload": "--limit 1000000 --max-functions 10000 --max-locals 1000 --max-open 500", "threads": "", "check": ""}
+MODULES = 40
+# what bash offers for the last of these words, and what it must not
+COMPLETED = {
+    ("",): "check stats canon show build",
+    ("c",): "check canon",
+    ("check", "--l"): "--limit",
+    ("build", "--o"): "--old-words",
+    ("check", "--o"): "",
+    ("check", "--profile", ""): "1 2",
+    ("check", "--profile", "=", ""): "1 2",
+    ("check", "--limit", ""): "",
+    ("check", ""): "",
+}
+
+
+class Fault(Exception):
+    """What was not as it must be."""
+
+
+def run(*words, given=b"", wanted=0, seconds=120, **how):
+    """What a command prints. A status other than the wanted one is a fault; where none is wanted, both are returned."""
+    words = [str(it) for it in words]
+    ran = subprocess.run(words, input=given, stdout=subprocess.PIPE, stderr=subprocess.PIPE, timeout=seconds, check=False, **how)
+    said = ran.stdout.decode(errors="replace")
+    if wanted is None:
+        return ran.returncode, said
+    if ran.returncode != wanted:
+        raise Fault(f"{' '.join(words)[:300]}: {ran.returncode}: {(said + ran.stderr.decode(errors='replace'))[-900:]}")
+    return said
+
+
+def same(what, found, wanted):
+    if found != wanted:
+        raise Fault(f"{what}: {found!r}, wanted {wanted!r}"[:900])
+
+
+class Package:
+    """What stands below a folder that only this run has."""
+
+    def __init__(self, room, archive, program):
+        self.room = pathlib.Path(room)
+        self.to = self.room / f"dest{PREFIX}"
+        self.words = [sys.executable, "-B", TOP / "packaging/package.py", archive, program]
+        self.program = program
+        self.said = []
+
+    def call(self, *words):
+        return run(*self.words, *words, env={**os.environ, "DESTDIR": str(self.room / "dest")})
+
+    def has(self, tool):
+        """Whether the machine has a tool; where not, this is said at the end."""
+        if not shutil.which(tool):
+            self.said.append(f"no {tool}")
+        return shutil.which(tool)
+
+    def flags(self, *words):
+        """What pkg-config answers; below DESTDIR it is asked as a packager asks it."""
+        folder = self.to / "lib/pkgconfig"
+        env = {**os.environ, "PKG_CONFIG_PATH": "", "PKG_CONFIG_LIBDIR": str(folder), "PKG_CONFIG_SYSROOT_DIR": str(self.room / "dest")}
+        return run("pkg-config", *words, "wmod", env=env).split()
+
+
+def declared():
+    """The names of the header's calls."""
+    text = (TOP / "crates/wm_c/include/wmod.h").read_text(encoding="utf-8")
+    return sorted(re.findall(r"^\w+ (wmod_\w+)\(", text, re.M))
+
+
+def check_names(it):
+    """The libraries show the header's calls and no other name."""
+    for words in (["nm", "-g", "--defined-only", it.to / "lib/libwmod.a"], ["nm", "-D", "--defined-only", it.to / "lib/libwmod.so"]):
+        names = re.findall(r"^[0-9a-f]+ \w (\S+)$", run(*words), re.M)
+        same(f"what {words[-1].name} shows", sorted(names), declared())
+
+
+def check_version(it):
+    version = run(it.to / "bin/wmod", "--version").split()[1]
+    same("the version of wmod.pc", it.flags("--modversion"), [version])
+    same("the prefix of wmod.pc", run("grep", "^prefix=", it.to / "lib/pkgconfig/wmod.pc"), f"prefix={PREFIX}\n")
+
+
+def compiled(it):
+    """Each sample by its name, its language and its library."""
+    flags, libs, made = it.flags("--cflags"), it.flags("--libs"), {}
+    for language, words in LANGUAGES.items():
+        for name in POLICIES:
+            whole = [*words, *STRICT, *flags, SAMPLES / f"{name}.c", "-x", "none"]
+            for way, linked in {"shared": libs, "static": [it.to / "lib/libwmod.a"]}.items():
+                made[name, language, way] = it.room / f"{name}-{language}-{way}"
+                run(*whole, *linked, "-o", made[name, language, way])
+    return made
+
+
+def check_samples(it, made):
+    """A sample's line is that of the program with the sample's policy."""
+    env = {**os.environ, "LD_LIBRARY_PATH": str(it.to / "lib")}
+    for number in range(MODULES):
+        module, _ = c_calls.made(number)
+        for name, policy in POLICIES.items():
+            wanted = run(it.program, "check", *policy.split(), "-", given=module, wanted=None)
+            for key, sample in made.items():
+                if key[0] == name:
+                    same(f"{key} of module {number}", run(sample, given=module, wanted=None, env=env), wanted)
+    for key, sample in made.items():
+        if key[0] == "upload":
+            check_stops(sample, env)
+
+
+def check_stops(sample, env):
+    """An upload is refused though it never ends, and one that is too long."""
+    with subprocess.Popen([sample], stdin=subprocess.PIPE, stdout=subprocess.PIPE, env=env) as process:
+        process.stdin.write(b"\0asn and so on")
+        process.stdin.flush()
+        try:
+            process.wait(20)
+        except subprocess.TimeoutExpired as fault:
+            process.kill()
+            raise Fault(f"{sample.name} waits for the end of what is refused") from fault
+        same("an upload that does not end", process.stdout.read(), b"refused at 4: Magic\n")
+    same("an upload that is too long", run(sample, 9, given=b"\0asm\1\0\0\0\0\0", wanted=1, env=env), "refused at 10: TooLong\n")
+
+
+def check_memory(it, made):
+    """No sample reads what is not its own, and none keeps memory."""
+    words = ["valgrind", "-q", "--leak-check=full", "--show-leak-kinds=all", "--errors-for-leak-kinds=all", "--error-exitcode=99"]
+    for name in POLICIES if it.has("valgrind") else ():
+        sample = made[name, "C89", "static"]
+        for number in range(3):
+            module, _ = c_calls.made(number)
+            same(f"{name} below valgrind", run(*words, sample, given=module, wanted=None), run(sample, given=module, wanted=None))
+
+
+def check_folder(it):
+    """The lines for a folder of modules are those of the program, whatever the files are called."""
+    folder, wanted = it.room / "what 'strangers' sent", []
+    folder.mkdir()
+    for number in range(MODULES):
+        file = folder / f"no {number}.wasm"
+        file.write_bytes(c_calls.made(number)[0])
+        status, said = run(it.program, "check", file, wanted=None)
+        wanted += [f"{file}: {said}"] if status else []
+    env = {**os.environ, "PATH": f"{it.to / 'bin'}:{os.environ['PATH']}"}
+    status, said = run(TOP / "examples/check_all.sh", folder, wanted=None, env=env)
+    same("the lines for a folder", sorted(said.splitlines(True)), sorted(wanted))
+    same("the status for a folder", status, 123 if wanted else 0)
+    run(TOP / "examples/check_all.sh", folder / "missing", wanted=2, env=env)
+
+
+def check_layout(it):
+    """The header's sizes, places and numbers are those that the crate for cargo believes."""
+    lines = (TOP / "rust/layout.txt").read_text(encoding="utf-8")
+    prints = "".join(f'  printf("{name} %lu\\n", (unsigned long)({name}));\n' for name in re.findall(r"(?m)^(.*) \d+$", lines))
+    file = it.room / "layout.c"
+    file.write_text(f"#include <stdio.h>\n#include <wmod.h>\nint main(void) {{\n{prints}  return 0;\n}}\n", encoding="utf-8")
+    run("cc", file, *it.flags("--cflags"), "-o", it.room / "layout")
+    same("the layout of wmod.h", run(it.room / "layout"), lines)
+
+
+def check_man(it):
+    if it.has("man"):
+        page = it.to / "share/man/man1/wmod.1"
+        env = {**os.environ, "LC_ALL": "C.UTF-8", "MANWIDTH": "80", "MANROFFOPT": "-c"}
+        said = run("sh", "-c", 'man --warnings -l "$1" 2>&1', "sh", page, env=env)
+        for word in [*re.findall(r"--[a-z-]+", run(it.program, "--help").split("Options:")[1].split("\n\n")[0]), "EXIT STATUS"]:
+            same(f"{word} in the manual page", word in said, True)
+        same("warnings of man", re.findall(r"warning.*", said), [])
+
+
+def check_completions(it):
+    file = it.to / "share/bash-completion/completions/wmod"
+    run("bash", "-n", file)
+    for words, wanted in COMPLETED.items():
+        script = f'compopt() {{ :; }}; . "{file}"; COMP_WORDS=(wmod "$@"); COMP_CWORD=$#; _wmod; echo "${{COMPREPLY[*]}}"'
+        same(f"bash completes {words}", run("bash", "-c", script, "bash", *words), f"{wanted}\n")
+    if it.has("zsh"):
+        run("zsh", "-n", it.to / "share/zsh/site-functions/_wmod")
+    if it.has("fish"):
+        ask = f"source {it.to}/share/fish/vendor_completions.d/wmod.fish; complete -C 'wmod c'"
+        same("fish completes", [line.split()[0] for line in run("fish", "-N", "-c", ask).splitlines()], ["canon", "check"])
+
+
+def check_crate(it):
+    """The tests of the crate, and the lines of its example beside the program's."""
+    if not it.has("cargo"):
+        return
+    crate = it.room / "rust"
+    shutil.copytree(TOP / "rust", crate, ignore=shutil.ignore_patterns("target", "Cargo.lock"))
+    folders = {"WMOD_LIB_DIR": it.to / "lib", "CARGO_HOME": it.room / "cargo", "CARGO_TARGET_DIR": it.room / "target"}
+    env = {**os.environ, **{name: str(folder) for name, folder in folders.items()}}
+    run("cargo", "test", "--offline", seconds=900, cwd=crate, env=env)
+    run("cargo", "build", "--offline", "--example", "handler", seconds=900, cwd=crate, env=env)
+    for number in range(MODULES):
+        module, _ = c_calls.made(number)
+        status, said = run(it.program, "check", *POLICIES["upload"].split(), "-", given=module, wanted=None)
+        found = run(it.room / "target/debug/examples/handler", given=module)
+        wanted = f"422 {said}" if status else f"200 {len(module)} bytes, "
+        same(f"the handler's answer to module {number}", found[: len(wanted)], wanted)
+
+
+def check_dist(it):
+    """Two folders have the same bytes, and what is unpacked anywhere is found by pkg-config."""
+    files = [it.call("dist", it.room / name).strip() for name in ("one", "two")]
+    run("cmp", *files)
+    run("sha256sum", "-c", f"{os.path.basename(files[0])}.sha256", cwd=it.room / "one")
+    run("tar", "-xzf", files[0], "-C", it.room)
+    folder = it.room / os.path.basename(files[0]).removesuffix(".tar.gz")
+    words = run("pkg-config", "--libs", "--cflags", "wmod", env={**os.environ, "PKG_CONFIG_PATH": str(folder / "lib/pkgconfig")}).split()
+    run("cc", SAMPLES / "check.c", *words, "-o", it.room / "unpacked")
+
+
+def check_removed(it):
+    """A second install changes nothing. After uninstall nothing is left but what another put there."""
+    def listed():
+        return sorted(f"{os.path.relpath(p, it.room)} {p.lstat().st_mode:o}" for p in (it.room / "dest").rglob("*"))
+
+    before = listed()
+    it.call("install", PREFIX)
+    same("a second install", listed(), before)
+    other = it.to / "share/man/man1/other.1"
+    other.write_text("", encoding="utf-8")
+    it.call("uninstall", PREFIX)
+    same("what uninstall leaves", [p for p in (it.room / "dest").rglob("*") if not p.is_dir()], [other])
+    shutil.rmtree(it.room / "dest")
+    it.call("install", PREFIX)
+    it.call("uninstall", PREFIX)
+    same("what uninstall leaves at last", os.path.exists(it.room / "dest"), False)
+
+
+def check_all(it):
+    missing = [tool for tool in ("cc", "c++", "pkg-config", "objcopy") if not it.has(tool)]
+    if missing:
+        return
+    it.call("install", PREFIX)
+    check_names(it)
+    check_version(it)
+    made = compiled(it)
+    check_samples(it, made)
+    check_memory(it, made)
+    check_folder(it)
+    check_layout(it)
+    check_man(it)
+    check_completions(it)
+    check_crate(it)
+    check_dist(it)
+    check_removed(it)
+
+
+def is_well(archive, program):
+    """Whether all is well; says so."""
+    with tempfile.TemporaryDirectory(prefix="packages-") as room:
+        it = Package(room, os.path.abspath(archive), os.path.abspath(program))
+        try:
+            check_all(it)
+            fault = ""
+        except (Fault, subprocess.TimeoutExpired) as wrong:
+            fault = f"wrong: {wrong}"
+    left = f" ({', '.join(it.said)} here, so that part was not tried)" if it.said else ""
+    print(f"packages: what is installed, in use: {fault or 'well'}{left}", flush=True)
+    return not fault
+
+
+if __name__ == "__main__":
+    if len(sys.argv) != 3:
+        sys.exit(__doc__)
+    sys.exit(0 if is_well(*sys.argv[1:]) else 1)

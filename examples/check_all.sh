@@ -1,0 +1,12 @@
+#!/bin/sh
+# A build step: checks every .wasm below a folder, as many at once as there are processors. It prints a line for each module that is
+# not taken, and its status is 0 where all are.
+#
+#   examples/check_all.sh FOLDER
+[ -d "$1" ] || { echo "no folder: $1" >&2; exit 2; }
+find "$1" -name '*.wasm' -print0 | xargs -0 -r -n 64 -P "$(nproc)" sh -c '
+  status=0
+  for file do
+    said=$(wmod check --limit 100000000 "$file" 2>&1) || { echo "$file: $said"; status=1; }
+  done
+  exit $status' sh

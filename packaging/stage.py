@@ -1,0 +1,105 @@
+"""Makes the stage: a folder with all that an installed wmod has, below bin/, lib/, include/ and share/.
+
+    packaging/stage.py FOLDER PREFIX ARCHIVE PROGRAM       ARCHIVE is libwm_c.a and PROGRAM wmod, as they were built
+
+PREFIX is what wmod.pc names. It may be ${pcfiledir}/../.., for a folder that is put anywhere.
+"""
+import pathlib
+import re
+import shutil
+import subprocess
+import sys
+import tempfile
+
+import texts
+
+TOP = pathlib.Path(__file__).resolve().parent.parent
+HEADER = TOP / "crates/wm_c/include/wmod.h"
+# what the shared library shows
+EXPORTS = "{ global: wmod_*; local: *; };\n"
+COMPLETIONS = {
+    "share/bash-completion/completions/wmod": texts.bash,
+    "share/zsh/site-functions/_wmod": texts.zsh,
+    "share/fish/vendor_completions.d/wmod.fish": texts.fish,
+}
+
+
+def run(*words, **how):
+    """Runs a command and returns what it prints. Where it fails, so does this script."""
+    if not shutil.which(words[0]):
+        sys.exit(f"wmod: the command '{words[0]}' is missing here")
+    ran = subprocess.run([str(it) for it in words], stdout=subprocess.PIPE, text=True, check=False, **how)
+    if ran.returncode:
+        sys.exit(f"wmod: {words[0]} failed")
+    return ran.stdout
+
+
+def version_of(program):
+    return run(program, "--version").split()[1]
+
+
+def interface():
+    """The two numbers of the header's version."""
+    return [re.search(rf"#define WMOD_VERSION_{it} (\d+)", HEADER.read_text(encoding="utf-8"))[1] for it in ("MAJOR", "MINOR")]
+
+
+def one_object(archive, room):
+    """The library and the kit's allocation functions as one object that shows wmod_* alone: so no name of it meets one of the host's."""
+    heap = pathlib.Path(run("rt", "doc").strip()).parent / "c/liblibc_c.a"
+    for it in (archive, heap):
+        (room / it.stem).mkdir()
+        run("ar", "x", it, cwd=room / it.stem)
+    whole = room / "wmod.o"
+    run("ld", "-r", "-o", whole, *sorted(room.glob("*/*.o")))
+    run("objcopy", "--wildcard", "--keep-global-symbol=wmod_*", whole)
+    return whole
+
+
+def libraries(folder, archive):
+    """libwmod.a, and libwmod.so with its two links."""
+    major, minor = interface()
+    shared = folder / f"libwmod.so.{major}.{minor}"
+    with tempfile.TemporaryDirectory(prefix="wmod-") as name:
+        room = pathlib.Path(name)
+        whole = one_object(archive, room)
+        run("ar", "rcsD", folder / "libwmod.a", whole)
+        (room / "exports").write_text(EXPORTS, encoding="utf-8")
+        name = f"libwmod.so.{major}"
+        run("cc", "-shared", "-o", shared, whole, f"-Wl,-soname,{name},--version-script={room}/exports,-z,defs,-z,now")
+    (folder / name).symlink_to(shared.name)
+    (folder / "libwmod.so").symlink_to(name)
+
+
+def written(program, prefix):
+    """The texts that are made, each by its place."""
+    here, version = TOP / "packaging", version_of(program)
+    said = texts.read_help(run(program, "--help"))
+    man, described = [(here / it).read_text(encoding="utf-8") for it in ("wmod.1.in", "wmod.pc.in")]
+    made = {it: make(said) for it, make in COMPLETIONS.items()}
+    made["share/man/man1/wmod.1"] = texts.man(man, said, version)
+    made["lib/pkgconfig/wmod.pc"] = texts.filled(described, {"PREFIX": prefix, "VERSION": version})
+    return made
+
+
+def make(folder, prefix, archive, program):
+    folder, archive, program = [pathlib.Path(it).resolve() for it in (folder, archive, program)]
+    for it in ("bin", "lib", "include", "share/doc/wmod"):
+        (folder / it).mkdir(parents=True)
+    libraries(folder / "lib", archive)
+    for it, text in written(program, prefix).items():
+        (folder / it).parent.mkdir(parents=True, exist_ok=True)
+        (folder / it).write_text(text, encoding="utf-8")
+    shutil.copyfile(program, folder / "bin/wmod")
+    shutil.copyfile(HEADER, folder / "include/wmod.h")
+    for page in [TOP / "README.md", *(TOP / "docs").glob("*.md")]:
+        shutil.copyfile(page, folder / "share/doc/wmod" / page.name)
+    # whatever the umask of whoever made it
+    for it in [folder, *folder.rglob("*")]:
+        if not it.is_symlink():
+            it.chmod(0o755 if it.is_dir() or it.parent.name == "bin" or ".so." in it.name else 0o644)
+
+
+if __name__ == "__main__":
+    if len(sys.argv) != 5:
+        sys.exit(__doc__)
+    make(*sys.argv[1:])

@@ -1,0 +1,173 @@
+"""What is said of the options: the manual page and the completions of bash, zsh and fish, all made from `wmod --help`. A line of the
+help that is not understood is a fault, so that no option is lost when the help changes.
+"""
+import collections
+import re
+
+# The parts of `wmod --help` that list something.
+ACTION = re.compile(r" {2}(?P<name>\w+) {2,}(?P<says>.+)")
+OPTION = re.compile(r" {2,6}(?:-(?P<short>\w), )?--(?P<name>[\w-]+)(?: <(?P<value>\w+)>)? {2,}(?P<says>.+)")
+# A help text that begins with its two values, as `1, or 2 for ..`, and one of an option that a single action takes.
+VALUES = re.compile(r"(\d+), or (\d+)\b")
+ONLY = re.compile(r"Of `(\w+)`: ")
+
+Action = collections.namedtuple("Action", "name says")
+Option = collections.namedtuple("Option", "short name value says values only")
+Help = collections.namedtuple("Help", "about actions options")
+
+
+def read_help(text):
+    """The list of actions and options."""
+    about, actions, _ = text.split("\n\n", 2)
+    options = re.search(r"(?ms)^Options:\n(.*?)\n\n", text)[1]
+    actions = [Action(**each(ACTION, line)) for line in actions.split("\n")]
+    return Help(about, actions, [option(**each(OPTION, line)) for line in options.split("\n")])
+
+
+def each(form, line):
+    found = form.fullmatch(line)
+    if not found:
+        raise SystemExit(f"texts.py: this line of `wmod --help` is not understood: {line}")
+    return found.groupdict()
+
+
+def option(short, name, value, says):
+    values, only = VALUES.match(says), ONLY.match(says)
+    return Option(short, name, value, says, values.groups() if values else (), only[1] if only else None)
+
+
+def filled(template, texts):
+    """The template with each @NAME@ replaced; one without a text is a fault."""
+    return re.sub(r"@([A-Z]+)@", lambda it: texts[it[1]], template)
+
+
+def troff(text):
+    """The text as man shows it letter by letter, with `words` in bold."""
+    text = text.replace("\\", r"\e").replace("-", r"\-").replace("'", r"\(aq")
+    return re.sub(r"`([^`]*)`", r"\\fB\1\\fR", text)
+
+
+def man(template, said, version):
+    actions = [f".TP\n.B {it.name}\n{troff(it.says)}" for it in said.actions]
+    options = []
+    for it in said.options:
+        short = rf"\fB\-{it.short}\fR, " if it.short else ""
+        value = rf" \fI{it.value}\fR" if it.value else ""
+        options.append(f".TP\n{short}\\fB\\-\\-{troff(it.name)}\\fR{value}\n{troff(it.says)}")
+    texts = {"VERSION": version, "ABOUT": troff(said.about), "ACTIONS": "\n".join(actions), "OPTIONS": "\n".join(options)}
+    return filled(template, texts)
+
+
+BASH = """\
+# bash completion for wmod; made from `wmod --help`
+_wmod() {
+  local word=${COMP_WORDS[COMP_CWORD]} before=${COMP_WORDS[COMP_CWORD-1]} action='' it
+  local options="@OPTIONS@"
+  # bash cuts --limit=7 into three words
+  if [ "$word" = = ]; then
+    word=''
+  elif [ "$before" = = ]; then
+    before=${COMP_WORDS[COMP_CWORD-2]}
+  fi
+  for it in "${COMP_WORDS[@]:1:COMP_CWORD-1}"; do
+    case $it in
+      @ACTIONS@) action=${action:-$it} ;;
+    esac
+  done
+  case $action in
+@ONLY@
+  esac
+  COMPREPLY=()
+  case $before in
+@VALUES@
+  esac
+  case $word in
+    -*) mapfile -t COMPREPLY < <(compgen -W "$options" -- "$word") ;;
+    *)
+      # where nothing is offered, bash completes the name of a file
+      if [ -z "$action" ]; then mapfile -t COMPREPLY < <(compgen -W "@WORDS@" -- "$word"); fi ;;
+  esac
+}
+complete -o bashdefault -o default -F _wmod wmod
+"""
+
+
+def bash(said):
+    actions = [it.name for it in said.actions]
+    values = [f'    --{it.name}) mapfile -t COMPREPLY < <(compgen -W "{" ".join(it.values)}" -- "$word") && return ;;'
+              for it in said.options if it.values]
+    # a number is no name of a file
+    numbers = " | ".join(f"--{it.name}" for it in said.options if it.value and not it.values)
+    return filled(BASH, {
+        "ACTIONS": " | ".join(actions),
+        "WORDS": " ".join(actions),
+        "OPTIONS": " ".join(f"--{it.name}" for it in said.options if not it.only),
+        "ONLY": "\n".join(f'    {it.only}) options+=" --{it.name}" ;;' for it in said.options if it.only),
+        "VALUES": "\n".join([*values, f"    {numbers}) compopt +o default +o bashdefault && return ;;"]),
+    })
+
+
+ZSH = """\
+#compdef wmod
+# made from `wmod --help`
+_wmod_actions() {
+  local -a actions
+  actions=(
+@ACTIONS@
+  )
+  _describe action actions
+}
+local -a options
+options=(
+@OPTIONS@
+)
+@ONLY@
+_arguments $options '1:action:_wmod_actions' '2:file:_files'
+"""
+
+
+def zsh(said):
+    only = [f"if (( $words[(I){it.only}] )); then options+=({zsh_option(it)}); fi" for it in said.options if it.only]
+    return filled(ZSH, {
+        "ACTIONS": "\n".join("    " + quoted(f"{it.name}:{plain(it.says)}") for it in said.actions),
+        "OPTIONS": "\n".join("  " + zsh_option(it) for it in said.options if not it.only),
+        "ONLY": "\n".join(only),
+    })
+
+
+def zsh_option(it):
+    says = "[" + re.sub(r"([\[\]\\:])", r"\\\1", plain(it.says)) + "]"
+    values = f"({' '.join(it.values)})" if it.values else " "
+    takes = f"={says}:{it.value}:{values}" if it.value else says
+    return f"'(- *)'{{-{it.short},--{it.name}}}{quoted(takes)}" if it.short else quoted(f"--{it.name}{takes}")
+
+
+def plain(text):
+    """The text without the marks of its `words`, which zsh may run."""
+    return text.replace("`", "")
+
+
+def quoted(text):
+    """The text in single quotes, as bash and zsh read it."""
+    return "'" + text.replace("'", "'\\''") + "'"
+
+
+def fish(said):
+    names = " ".join(it.name for it in said.actions)
+    lines = ["# made from `wmod --help`"]
+    lines += [fish_line("-f", f"-n 'not __fish_seen_subcommand_from {names}'", f"-a {it.name}", says=it.says) for it in said.actions]
+    return "\n".join([*lines, *map(fish_option, said.options)]) + "\n"
+
+
+def fish_option(it):
+    words = [f"-s {it.short}"] if it.short else []
+    words += [f"-l {it.name}"]
+    words += ["-x"] if it.value else []
+    words += [f"-a '{' '.join(it.values)}'"] if it.values else []
+    words += [f"-n '__fish_seen_subcommand_from {it.only}'"] if it.only else []
+    return fish_line(*words, says=it.says)
+
+
+def fish_line(*words, says):
+    text = says.replace("\\", "\\\\").replace("'", "\\'")
+    return f"complete -c wmod {' '.join(words)} -d '{text}'"

@@ -1,0 +1,105 @@
+use crate::sys;
+use std::fmt;
+use std::io;
+
+/// The first number of the refusals of a text.
+const FIRST_OF_TEXT: u32 = 101;
+
+/// What kind of answer an [`Error`] is.
+#[derive(Clone, Copy, PartialEq, Eq, Debug)]
+#[non_exhaustive]
+pub enum ErrorKind {
+    /// The module is not valid, or past a limit of the options.
+    Module,
+    /// The text writes no module.
+    Text,
+    /// Memory was refused: nothing is known of the input.
+    Memory,
+    /// The linked library does not know what this crate asks for: it is of another version.
+    Library,
+}
+
+/// Why there is no answer of the other kind: a refusal with its name and its place, or that memory was refused.
+#[derive(Clone, Copy, PartialEq, Eq)]
+pub struct Error {
+    kind: ErrorKind,
+    at: u64,
+    /// ended by a 0, as the library writes it
+    name: [u8; 32],
+}
+
+impl Error {
+    /// From an answer that is not `VALID`.
+    pub(crate) fn of(status: u32, why: u32, at: u64) -> Error {
+        let kind = match status {
+            sys::REFUSED if why >= FIRST_OF_TEXT => ErrorKind::Text,
+            sys::REFUSED => ErrorKind::Module,
+            sys::MEMORY => return Error::memory(),
+            _ => return Error::plain(ErrorKind::Library, b"Library"),
+        };
+        let mut name = [0; 32];
+        // SAFETY: a pointer and the length of one array. The library writes a 0 as its last byte.
+        unsafe { sys::wmod_why_name(why, name.as_mut_ptr().cast(), name.len()) };
+        Error { kind, at, name }
+    }
+
+    pub(crate) fn memory() -> Error {
+        Error::plain(ErrorKind::Memory, b"Memory")
+    }
+
+    pub(crate) fn plain(kind: ErrorKind, word: &[u8]) -> Error {
+        let mut name = [0; 32];
+        name[..word.len()].copy_from_slice(word);
+        Error { kind, at: 0, name }
+    }
+
+    /// What kind of answer it is.
+    pub fn kind(&self) -> ErrorKind {
+        self.kind
+    }
+
+    /// The name of the refusal, as `BadOpcode`: the page `REFUSALS.md` of wmod explains each. It is `Memory` where memory was
+    /// refused.
+    pub fn why(&self) -> &str {
+        let word = self.name.split(|it| *it == 0).next().unwrap_or_default();
+        std::str::from_utf8(word).unwrap_or_default()
+    }
+
+    /// The place of a refusal: how many bytes were read up to and including the one that settled it. Of a text it is how many
+    /// bytes stand before the token that did. Where [`build`](crate::build) refuses the module that a text writes, it is a place
+    /// of that module's canonical binary.
+    pub fn place(&self) -> Option<u64> {
+        matches!(self.kind, ErrorKind::Module | ErrorKind::Text).then_some(self.at)
+    }
+}
+
+impl fmt::Display for Error {
+    fn fmt(&self, f: &mut fmt::Formatter<'_>) -> fmt::Result {
+        match self.kind {
+            ErrorKind::Module => write!(f, "refused at {}: {}", self.at, self.why()),
+            ErrorKind::Text => write!(f, "text refused at {}: {}", self.at, self.why()),
+            ErrorKind::Memory => f.write_str("out of memory"),
+            ErrorKind::Library => f.write_str("the linked libwmod is not of this crate's version"),
+        }
+    }
+}
+
+impl fmt::Debug for Error {
+    fn fmt(&self, f: &mut fmt::Formatter<'_>) -> fmt::Result {
+        write!(f, "Error({self})")
+    }
+}
+
+impl std::error::Error for Error {}
+
+/// So that it goes through readers and writers: the [`io::Error`] holds it.
+impl From<Error> for io::Error {
+    fn from(error: Error) -> io::Error {
+        let kind = match error.kind {
+            ErrorKind::Module | ErrorKind::Text => io::ErrorKind::InvalidData,
+            ErrorKind::Memory => io::ErrorKind::OutOfMemory,
+            ErrorKind::Library => io::ErrorKind::Unsupported,
+        };
+        io::Error::new(kind, error)
+    }
+}

@@ -1,0 +1,137 @@
+use crate::convert::converted;
+use crate::validator::judged;
+use crate::{sys, Error, ErrorKind, Summary, Validator};
+
+/// Which instructions a module may use.
+#[derive(Clone, Copy, PartialEq, Eq, Debug, Default)]
+pub enum Profile {
+    /// Those of WebAssembly 1.0 on whole numbers.
+    #[default]
+    One,
+    /// The same and the five sign-extension instructions.
+    Two,
+}
+
+/// What is asked for, beside the bytes: a profile and limits. Each call of this crate is here too.
+///
+/// ```
+/// use wmod::{Options, Profile};
+///
+/// let options = Options::new().profile(Profile::Two).max_bytes(1_000_000).functions(10_000);
+/// assert!(options.validate(b"\0asm\x01\0\0\0").is_ok());
+///
+/// let error = options.max_bytes(4).validate(b"\0asm\x01\0\0\0").unwrap_err();
+/// assert_eq!(error.to_string(), "refused at 5: TooLong");
+/// ```
+#[derive(Clone, Copy, PartialEq, Eq, Debug)]
+pub struct Options(pub(crate) sys::Options);
+
+impl Default for Options {
+    fn default() -> Options {
+        Options::new()
+    }
+}
+
+impl Options {
+    /// The first profile, at most 2^32 - 1 bytes, and no other limit.
+    pub fn new() -> Options {
+        Options(sys::Options {
+            size: std::mem::size_of::<sys::Options>() as u64,
+            profile: 1,
+            max_bytes: sys::LIMIT_DEFAULT,
+            functions: sys::NO_LIMIT,
+            locals: sys::NO_LIMIT,
+            depth: sys::NO_LIMIT,
+            old_words: 0,
+        })
+    }
+
+    /// The instructions that a module may use.
+    #[must_use]
+    pub fn profile(mut self, profile: Profile) -> Options {
+        self.0.profile = match profile {
+            Profile::One => 1,
+            Profile::Two => 2,
+        };
+        self
+    }
+
+    /// The most bytes that the input may have, the text of [`build`](Options::build) too. More than 2^62 is taken as 2^62. A longer
+    /// input is refused as `TooLong`.
+    #[must_use]
+    pub fn max_bytes(mut self, most: u64) -> Options {
+        self.0.max_bytes = most.min(sys::LIMIT_MOST);
+        self
+    }
+
+    /// The most functions that a module may have, imported ones counted. One with more is refused as `ManyFunctions`.
+    #[must_use]
+    pub fn functions(mut self, most: u32) -> Options {
+        self.0.functions = u64::from(most);
+        self
+    }
+
+    /// The most locals that a function may declare; parameters are not counted. One with more is refused as `ManyLocals`.
+    #[must_use]
+    pub fn locals(mut self, most: u32) -> Options {
+        self.0.locals = u64::from(most);
+        self
+    }
+
+    /// The most blocks, loops and ifs that may be open at once in a function. More are refused as `Deep`.
+    #[must_use]
+    pub fn depth(mut self, most: u32) -> Options {
+        self.0.depth = u64::from(most);
+        self
+    }
+
+    /// Whether [`build`](Options::build) reads the words of older tools too, such as `get_local`.
+    #[must_use]
+    pub fn old_words(mut self, are_read: bool) -> Options {
+        self.0.old_words = u64::from(are_read);
+        self
+    }
+
+    /// As [`validate`](crate::validate).
+    pub fn validate(&self, bytes: &[u8]) -> Result<Summary, Error> {
+        judged(|answer| {
+            // SAFETY: a pointer and the length of one slice, and options and an answer apart from it.
+            unsafe { sys::wmod_validate_with(bytes.as_ptr(), bytes.len(), &self.0, answer) };
+        })
+    }
+
+    /// A [`Validator`] that has read nothing.
+    pub fn validator(&self) -> Result<Validator, Error> {
+        Validator::begun(&self.0)
+    }
+
+    /// As [`canon`](crate::canon).
+    pub fn canon(&self, bytes: &[u8]) -> Result<Vec<u8>, Error> {
+        // so much is always enough
+        converted(sys::wmod_canon, &self.0, bytes, bytes.len())
+    }
+
+    /// As [`show`](crate::show).
+    pub fn show(&self, bytes: &[u8]) -> Result<String, Error> {
+        // most modules have no longer text; for others the call is made twice
+        let text = converted(
+            sys::wmod_show,
+            &self.0,
+            bytes,
+            bytes.len().saturating_mul(8),
+        )?;
+        String::from_utf8(text).map_err(|_| Error::plain(ErrorKind::Library, b"Library"))
+    }
+
+    /// As [`build`](crate::build).
+    ///
+    /// ```
+    /// let text = "(module (type (func (param i32))) (func (type 0) get_local 0 drop))";
+    /// assert!(wmod::Options::new().old_words(true).build(text).is_ok());
+    /// assert_eq!(wmod::build(text).unwrap_err().why(), "UnknownWord");
+    /// ```
+    pub fn build(&self, text: impl AsRef<[u8]>) -> Result<Vec<u8>, Error> {
+        let text = text.as_ref();
+        converted(sys::wmod_build, &self.0, text, text.len())
+    }
+}

@@ -1,0 +1,129 @@
+//! The declarations of `wmod.h`. A test below holds their layout against `layout.txt`; the project's own gate holds that
+//! file against the header.
+
+use std::ffi::{c_char, c_void};
+
+pub(crate) const VALID: u32 = 0;
+pub(crate) const REFUSED: u32 = 1;
+pub(crate) const MEMORY: u32 = 4;
+pub(crate) const NO_ROOM: u32 = 5;
+pub(crate) const LIMIT_DEFAULT: u64 = 0xFFFF_FFFF;
+pub(crate) const LIMIT_MOST: u64 = 1 << 62;
+pub(crate) const NO_LIMIT: u64 = u64::MAX;
+
+#[repr(C)]
+#[derive(Default)]
+pub(crate) struct Answer {
+    pub(crate) status: u32,
+    pub(crate) why: u32,
+    pub(crate) at: u64,
+    pub(crate) functions: u64,
+    pub(crate) moves: u64,
+    pub(crate) operands: u64,
+    pub(crate) controls: u64,
+    pub(crate) probes: u64,
+}
+
+#[repr(C)]
+#[derive(Clone, Copy, PartialEq, Eq, Debug)]
+pub(crate) struct Options {
+    pub(crate) size: u64,
+    pub(crate) profile: u64,
+    pub(crate) max_bytes: u64,
+    pub(crate) functions: u64,
+    pub(crate) locals: u64,
+    pub(crate) depth: u64,
+    pub(crate) old_words: u64,
+}
+
+#[repr(C)]
+#[derive(Default)]
+pub(crate) struct Output {
+    pub(crate) status: u32,
+    pub(crate) why: u32,
+    pub(crate) at: u64,
+    pub(crate) length: u64,
+}
+
+#[repr(C)]
+pub(crate) struct Validator {
+    pub(crate) state: *mut c_void,
+}
+
+/// One of the three calls that write: from these bytes, by these options, into this room.
+pub(crate) type Convert =
+    unsafe extern "C" fn(*const u8, usize, *const Options, *mut u8, usize, *mut Output) -> u32;
+
+extern "C" {
+    pub(crate) fn wmod_validate_with(
+        bytes: *const u8,
+        length: usize,
+        options: *const Options,
+        answer: *mut Answer,
+    ) -> u32;
+    pub(crate) fn wmod_why_name(why: u32, name: *mut c_char, capacity: usize) -> usize;
+    pub(crate) fn wmod_version() -> u32;
+    pub(crate) fn wmod_begin_with(v: *mut Validator, options: *const Options) -> u32;
+    pub(crate) fn wmod_feed(v: *mut Validator, piece: *const u8, length: usize) -> u32;
+    pub(crate) fn wmod_finish(v: *mut Validator, answer: *mut Answer) -> u32;
+    pub(crate) fn wmod_end(v: *mut Validator);
+    pub(crate) fn wmod_canon(
+        bytes: *const u8,
+        length: usize,
+        options: *const Options,
+        out: *mut u8,
+        room: usize,
+        output: *mut Output,
+    ) -> u32;
+    pub(crate) fn wmod_show(
+        bytes: *const u8,
+        length: usize,
+        options: *const Options,
+        out: *mut u8,
+        room: usize,
+        output: *mut Output,
+    ) -> u32;
+    pub(crate) fn wmod_build(
+        text: *const u8,
+        length: usize,
+        options: *const Options,
+        out: *mut u8,
+        room: usize,
+        output: *mut Output,
+    ) -> u32;
+}
+
+#[cfg(test)]
+mod tests {
+    use super::*;
+    use std::mem::{offset_of, size_of};
+
+    /// A type's size and the places of its fields, as `layout.txt` writes them.
+    macro_rules! laid {
+        ($name:literal, $type:ident, $($field:ident)*) => {
+            [
+                format!("sizeof({}) {}\n", $name, size_of::<$type>()),
+                $(format!("offsetof({}, {}) {}\n", $name, stringify!($field), offset_of!($type, $field)),)*
+            ]
+            .concat()
+        };
+    }
+
+    #[test]
+    fn layout() {
+        let found = [
+            laid!("wmod_answer", Answer, status why at functions moves operands controls probes),
+            laid!("wmod_options", Options, size profile max_bytes functions locals depth old_words),
+            laid!("wmod_output", Output, status why at length),
+            laid!("wmod_validator", Validator, state),
+            format!(
+                "WMOD_VALID {VALID}\nWMOD_REFUSED {REFUSED}\nWMOD_MISUSE 2\nWMOD_MEMORY {MEMORY}\n"
+            ),
+            format!("WMOD_NO_ROOM {NO_ROOM}\nWMOD_PROFILE_1 1\nWMOD_PROFILE_2 2\n"),
+            format!("WMOD_LIMIT_DEFAULT {LIMIT_DEFAULT}\nWMOD_LIMIT_MOST {LIMIT_MOST}\n"),
+            format!("WMOD_NO_LIMIT {NO_LIMIT}\n"),
+        ]
+        .concat();
+        assert_eq!(found, include_str!("../layout.txt"));
+    }
+}

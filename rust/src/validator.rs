@@ -1,0 +1,141 @@
+use crate::{sys, Error, Options};
+use std::fmt;
+use std::io;
+use std::marker::PhantomData;
+use std::ptr;
+
+/// Figures of a valid module.
+#[derive(Clone, Copy, PartialEq, Eq, Debug)]
+#[non_exhaustive]
+pub struct Summary {
+    /// How many functions have a body.
+    pub functions: u64,
+    /// The most pushes and pops of the two stacks in one body.
+    pub moves: u64,
+    /// The greatest height of the operand stack.
+    pub operands: u64,
+    /// The greatest height of the control stack.
+    pub controls: u64,
+    /// The most probes of one search for a local.
+    pub probes: u64,
+}
+
+/// What a call answers that fills an answer.
+pub(crate) fn judged(call: impl FnOnce(&mut sys::Answer)) -> Result<Summary, Error> {
+    let mut answer = sys::Answer::default();
+    call(&mut answer);
+    if answer.status != sys::VALID {
+        return Err(Error::of(answer.status, answer.why, answer.at));
+    }
+    Ok(Summary {
+        functions: answer.functions,
+        moves: answer.moves,
+        operands: answer.operands,
+        controls: answer.controls,
+        probes: answer.probes,
+    })
+}
+
+/// Judges a module that comes in pieces of any size. The answer is that of [`validate`](crate::validate) to the pieces joined.
+///
+/// ```
+/// let mut validator = wmod::Validator::new()?;
+/// validator.feed(b"\0as")?;
+/// validator.feed(b"m\x01\0\0\0")?;
+/// assert_eq!(validator.finish()?.functions, 0);
+/// # Ok::<(), wmod::Error>(())
+/// ```
+///
+/// It is a writer too, so that [`io::copy`] feeds it. A refusal ends the copy at once, and the error holds it:
+///
+/// ```
+/// use std::io;
+///
+/// let mut upload: &[u8] = b"\0asn, and much more";
+/// let mut validator = wmod::Validator::new()?;
+/// let error = io::copy(&mut upload, &mut validator).unwrap_err();
+/// let refusal = error.get_ref().and_then(|it| it.downcast_ref::<wmod::Error>());
+/// assert_eq!(refusal.map(|it| it.why()), Some("Magic"));
+/// assert_eq!(validator.finish().unwrap_err().to_string(), "refused at 4: Magic");
+/// # Ok::<(), wmod::Error>(())
+/// ```
+///
+/// It stays on its thread:
+///
+/// ```compile_fail
+/// fn sent<T: Send>() {}
+/// sent::<wmod::Validator>();
+/// ```
+pub struct Validator {
+    handle: sys::Validator,
+    // neither Send nor Sync
+    _thread: PhantomData<*mut ()>,
+}
+
+impl Validator {
+    /// One that has read nothing, with the default [`Options`]. [`Options::validator`] makes others.
+    pub fn new() -> Result<Validator, Error> {
+        Options::new().validator()
+    }
+
+    pub(crate) fn begun(options: &sys::Options) -> Result<Validator, Error> {
+        let handle = sys::Validator {
+            state: ptr::null_mut(),
+        };
+        let mut it = Validator {
+            handle,
+            _thread: PhantomData,
+        };
+        // SAFETY: an empty handle. It may move, since the library is handed its address anew by each call.
+        match unsafe { sys::wmod_begin_with(&mut it.handle, options) } {
+            sys::VALID => Ok(it),
+            status => Err(Error::of(status, 0, 0)),
+        }
+    }
+
+    /// Takes the next piece. An error stays: no later piece is read, and [`finish`](Validator::finish) gives it again.
+    pub fn feed(&mut self, piece: &[u8]) -> Result<(), Error> {
+        // SAFETY: the handle that was begun, and a pointer and the length of one slice.
+        match unsafe { sys::wmod_feed(&mut self.handle, piece.as_ptr(), piece.len()) } {
+            sys::VALID => Ok(()),
+            // only the end of the input says which refusal it was, as often as it is asked
+            _ => self.ended().map(drop),
+        }
+    }
+
+    /// The end of the input.
+    pub fn finish(mut self) -> Result<Summary, Error> {
+        self.ended()
+    }
+
+    fn ended(&mut self) -> Result<Summary, Error> {
+        judged(|answer| {
+            // SAFETY: the handle that was begun.
+            unsafe { sys::wmod_finish(&mut self.handle, answer) };
+        })
+    }
+}
+
+impl Drop for Validator {
+    fn drop(&mut self) {
+        // SAFETY: the handle that was begun; it is empty afterwards.
+        unsafe { sys::wmod_end(&mut self.handle) }
+    }
+}
+
+impl fmt::Debug for Validator {
+    fn fmt(&self, f: &mut fmt::Formatter<'_>) -> fmt::Result {
+        f.debug_struct("Validator").finish_non_exhaustive()
+    }
+}
+
+impl io::Write for Validator {
+    fn write(&mut self, piece: &[u8]) -> io::Result<usize> {
+        self.feed(piece)?;
+        Ok(piece.len())
+    }
+
+    fn flush(&mut self) -> io::Result<()> {
+        Ok(())
+    }
+}
