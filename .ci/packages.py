@@ -23,7 +23,7 @@ POLICIES = {"upload": "--limit 1000000 --max-functions 10000 --max-locals 1000 -
 MODULES = 40
 # what bash offers for the last of these words, and what it must not
 COMPLETED = {
-    ("",): "check stats canon show build",
+    ("",): "check stats canon show build explain",
     ("c",): "check canon",
     ("check", "--l"): "--limit",
     ("build", "--o"): "--old-words",

@@ -1,5 +1,6 @@
 #!/usr/bin/env python3
-"""The rows of both tables of docs/REFUSALS.md are those that the program wm_rows runs, and each printed word has one."""
+"""The rows of both tables of docs/REFUSALS.md are those that the program wm_rows runs, and each printed word has one. They are also the
+lines of the table that `wmod explain` prints."""
 import pathlib
 import re
 import sys
@@ -9,6 +10,7 @@ PAGE = TOP / "docs/REFUSALS.md"
 ROWS = TOP / "crates/wm_rows/stdout"
 WORDS = TOP / "crates/wm_syntax/src/why.rt"
 TEXT_WORDS = TOP / "crates/wm_read/src/faults.rt"
+TABLE = TOP / "crates/wm_cli/src/refusals.rt"
 
 # the groups of rows that each table has
 INPUTS = "# The smallest inputs of the refusals"
@@ -56,6 +58,20 @@ def printed_words(file, kind):
     return set(re.findall(kind + r'::\w+ => "(\w+)",', file.read_text(encoding="utf8")))
 
 
+def lines_of_table():
+    """The lines of both constants, as the compiler reads them."""
+    text = re.sub(r"\\\n\s*", "", TABLE.read_text(encoding="utf8"))
+    for lines in re.findall(r'(?m)^pub const \w+: &str = "(.*)";$', text):
+        yield from re.sub(r"\\(.)", lambda it: "\n" if it[1] == "n" else it[1], lines).split("\n")
+
+
+def explained():
+    """What is a row of the page and no line of the table, or the other way about, in their order."""
+    rows = [f"{name} | {rest}" for name, rest in re.findall(r"(?m)^\| `(\w+)` \| ((?:[^|]+ \| ){3}[^|]+) \|$", PAGE.read_text(encoding="utf8"))]
+    lines = list(lines_of_table())
+    return [] if rows == lines else [f"not in both {PAGE.name} and {TABLE.name}, or in another order: {it}" for it in {*rows} ^ {*lines} or rows]
+
+
 def faults_of(page, group, words):
     rows = [row for _, row in page]
     faults = [f"only in {PAGE.name}: {row}" for row in rows if row not in group]
@@ -73,6 +89,7 @@ def main():
     faults += faults_of(list(text_rows_of_page()), rows_of_group(TEXTS), text_words)
     if words_without_text() != WITHOUT_TEXT:
         faults.append(f"rows in {PAGE.name} without a smallest text: {words_without_text()}")
+    faults += explained()
     for fault in faults:
         print(f"refusals: {fault}", file=sys.stderr)
     return 1 if faults else 0

@@ -24,7 +24,7 @@ pub fn complain_of<R: Eprint, D: Display>(rt: &R, what: &D, file: &str, cause: i
 
 /// Says why these words are no line. What the parser has to say, help too, it says itself; where
 /// standard output does not take that, the program ends as for any output that fails.
-pub fn explain<R: Print + Eprint + AllocGlobal>(
+pub fn explain_fault<R: Print + Eprint + AllocGlobal>(
     rt: &R,
     words: &[String],
     fault: LineFault,

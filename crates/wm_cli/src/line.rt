@@ -80,17 +80,18 @@ fn profile_of(text: &str) -> Option<Profile>
 
 const ABOUT: &str =
     "Checks and converts WebAssembly 1.0 modules (integer instructions only), reading them once.\n\n  \
-    check   write `valid`, or why not and where\n  \
-    stats   write figures of a valid module's function bodies\n  \
-    canon   write a valid module as its canonical binary: shortest numbers, no custom sections\n  \
-    show    write a valid module as text: a field a line, and in a function an instruction a line\n  \
-    build   read a module as text, and write it as its canonical binary";
+    check    write `valid`, or why not and where\n  \
+    stats    write figures of a valid module's function bodies\n  \
+    canon    write a valid module as its canonical binary: shortest numbers, no custom sections\n  \
+    show     write a valid module as text: a field a line, and in a function an instruction a line\n  \
+    build    read a module as text, and write it as its canonical binary\n  \
+    explain  write what the NAME of a refusal means, as `wmod explain NAME`";
 
 const ANSWERS: &str =
     "Writes `refused at N: NAME` of any other input: N bytes were read when it was decided.\n\
     `build` writes `text refused at N: NAME`: N bytes stand before the token that decided it;\n\
     or `module refused at N: NAME` of an invalid module: N is a place of its canonical binary.\n\
-    docs/REFUSALS.md explains each NAME.\n\n\
+    `wmod explain NAME` says more of a NAME.\n\n\
     A megabyte may declare 2^32 locals, gigabytes of text. With --max-functions F and --max-locals L\n\
     `show` of a stranger's module is safe: it then writes at most some 4 F L bytes for locals.\n\n\
     Exit status: 0 done, 1 refused, 2 wrong arguments, 3 cannot read or write, 4 out of memory.\n\n\
@@ -101,7 +102,8 @@ const ANSWERS: &str =
     wmod show module.wasm > module.wat\n  \
     wmod show --max-functions 1000 --max-locals 1000 stranger.wasm > stranger.wat\n  \
     wmod build module.wat > module.wasm\n  \
-    wmod build --old-words older.wat > module.wasm";
+    wmod build --old-words older.wat > module.wasm\n  \
+    wmod explain Index";
 
 // what help says of each option
 const PROFILE: &str = "1, or 2 for sign-extension instructions too [default: 1]";
@@ -125,7 +127,7 @@ fn action_arg<'a>(alloc: Global) -> Arg<'a>
     Arg::new(alloc, "ACTION")
         .required(true)
         .action(ArgAction::Set)
-        .help("check, stats, canon, show or build")
+        .help("check, stats, canon, show, build or explain")
 }
 
 /// An option with one value, a number.
@@ -322,7 +324,7 @@ impl fmt::Display for WrongWord<'_> {
         match self {
             WrongWord::Action(word) => write!(
                 f,
-                "'{word}' is no action: check, stats, canon, show, build"
+                "'{word}' is no action: check, stats, canon, show, build, or explain alone"
             ),
             WrongWord::Profile(word) => write!(f, "'{word}' is no profile: 1, 2"),
             WrongWord::Limit(word) => {

@@ -5,14 +5,17 @@ mod answer;
 mod build;
 mod complaint;
 mod execute;
+mod explain;
 mod line;
+mod refusals;
 mod run;
 mod status;
 mod witness;
 mod words;
 
-use complaint::{complain, complain_of, explain};
+use complaint::{complain, complain_of, explain_fault};
 use execute::execute;
+use explain::{explain, is_asked};
 use line::line;
 use status::{Status, exit_code};
 use std::process::ExitCode;
@@ -42,9 +45,12 @@ fn obey<R: Env + Files + Input + Print + Eprint + AllocGlobal>(
     rt: &R,
 ) -> Result<Status, LineFault> {
     let words = read_words(rt)?;
+    if is_asked(words.as_slice()) {
+        return explain(rt, words.as_slice());
+    }
     match line(rt.alloc(), words.as_slice()) {
         Ok(line) => Ok(execute(rt, &line)),
-        Err(fault) => explain(rt, words.as_slice(), fault),
+        Err(fault) => explain_fault(rt, words.as_slice(), fault),
     }
 }
 

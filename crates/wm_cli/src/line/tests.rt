@@ -59,12 +59,12 @@ read wmod run --limit = parser 2
 read wmod --help = parser 0
 read wmod --version = parser 0
 read wmod --most = parser 2
-wrong wmod run --limit x = 'run' is no action: check, stats, canon, show, build
-wrong wmod CHECK = 'CHECK' is no action: check, stats, canon, show, build
+wrong wmod run --limit x = 'run' is no action: check, stats, canon, show, build, or explain alone
+wrong wmod CHECK = 'CHECK' is no action: check, stats, canon, show, build, or explain alone
 wrong wmod check --limit 0x10 = '0x10' is no limit: decimal digits, at most 4611686018427387904
 wrong wmod check --profile 3 = '3' is no profile: 1, 2
 wrong wmod check --profile "" = '' is no profile: 1, 2
-wrong wmod run --profile 3 --limit x --max-functions x --max-locals x --max-open x --old-words = 'run' is no action: check, stats, canon, show, build
+wrong wmod run --profile 3 --limit x --max-functions x --max-locals x --max-open x --old-words = 'run' is no action: check, stats, canon, show, build, or explain alone
 wrong wmod check --profile 3 --limit x --max-functions x --max-locals x --max-open x --old-words = '3' is no profile: 1, 2
 wrong wmod check --limit x --max-functions x --max-locals x --max-open x --old-words = 'x' is no limit: decimal digits, at most 4611686018427387904
 wrong wmod check --max-functions x --max-locals x --max-open x --old-words = 'x' is no number for --max-functions: decimal digits, at most 4294967295
@@ -78,14 +78,15 @@ wrong wmod --most = none"#;
 
 const HELP: &str =
     "Checks and converts WebAssembly 1.0 modules (integer instructions only), reading them once.\n\n  \
-    check   write `valid`, or why not and where\n  \
-    stats   write figures of a valid module's function bodies\n  \
-    canon   write a valid module as its canonical binary: shortest numbers, no custom sections\n  \
-    show    write a valid module as text: a field a line, and in a function an instruction a line\n  \
-    build   read a module as text, and write it as its canonical binary\n\n\
+    check    write `valid`, or why not and where\n  \
+    stats    write figures of a valid module's function bodies\n  \
+    canon    write a valid module as its canonical binary: shortest numbers, no custom sections\n  \
+    show     write a valid module as text: a field a line, and in a function an instruction a line\n  \
+    build    read a module as text, and write it as its canonical binary\n  \
+    explain  write what the NAME of a refusal means, as `wmod explain NAME`\n\n\
     Usage: wmod [OPTIONS] <ACTION> [FILE]\n\n\
     Arguments:\n  \
-    <ACTION>  check, stats, canon, show or build\n  \
+    <ACTION>  check, stats, canon, show, build or explain\n  \
     [FILE]    The file to read; standard input where there is none, or where it is -\n\n\
     Options:\n      \
     --profile <N>        1, or 2 for sign-extension instructions too [default: 1]\n      \
@@ -99,7 +100,7 @@ const HELP: &str =
     Writes `refused at N: NAME` of any other input: N bytes were read when it was decided.\n\
     `build` writes `text refused at N: NAME`: N bytes stand before the token that decided it;\n\
     or `module refused at N: NAME` of an invalid module: N is a place of its canonical binary.\n\
-    docs/REFUSALS.md explains each NAME.\n\n\
+    `wmod explain NAME` says more of a NAME.\n\n\
     A megabyte may declare 2^32 locals, gigabytes of text. With --max-functions F and --max-locals L\n\
     `show` of a stranger's module is safe: it then writes at most some 4 F L bytes for locals.\n\n\
     Exit status: 0 done, 1 refused, 2 wrong arguments, 3 cannot read or write, 4 out of memory.\n\n\
@@ -110,7 +111,8 @@ const HELP: &str =
     wmod show module.wasm > module.wat\n  \
     wmod show --max-functions 1000 --max-locals 1000 stranger.wasm > stranger.wat\n  \
     wmod build module.wat > module.wasm\n  \
-    wmod build --old-words older.wat > module.wasm\n";
+    wmod build --old-words older.wat > module.wasm\n  \
+    wmod explain Index\n";
 
 const MISSING: &str = "error: the following required arguments were not provided:\n  <ACTION>\n\n\
     Usage: wmod <ACTION> [FILE]\n\n\
