@@ -38,6 +38,7 @@ int main(int count, char **words) {
 """
 
 RIGHT = "return out_of_memory();"
+GIVES_BACK = 'free(part); write(1, "valid\\n", 6); return 0;'
 # what is done where the growth was refused, what is done with each input, and whether growths.py finds fault with it
 TRIALS = {
     "nothing wrong": (RIGHT, "", True),
@@ -125,6 +126,9 @@ def main():
         for name, (refused, wanted) in TRIALS_OF_ROWS.items():
             if growths.sweep_rows(built(room, refused, "")) != wanted:
                 faults.append(f"growths.py and a stand-in for wm_rows: {name}")
+        for name, deeper, wanted in (("a block is kept", "", False), ("all is given back", GIVES_BACK, True)):
+            if growths.swept("a stand-in", built(room, RIGHT, deeper), [(["check"], b"")], growths.kind_of, gives_back=True) != wanted:
+                faults.append(f"growths.py and a stand-in of which all is to be given back: {name}")
         # (no stand-in answers all that deep.py asks: what is looked at is how it ends)
         for name, deeper, wanted in (("nothing wrong", "", (0, b"valid\n")), ("it recurses", "nested(1000000);", (-11, b""))):
             if deep.run(built(room, RIGHT, deeper), "check", deep.DEEP) != wanted:
