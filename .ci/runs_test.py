@@ -38,7 +38,9 @@ int main(int count, char **words) {
 """
 
 RIGHT = "return out_of_memory();"
-GIVES_BACK = 'free(part); write(1, "valid\\n", 6); return 0;'
+# where its second growth is refused it gives back the first or keeps it
+KEEPS = "char *more = malloc(1); if (!more) return out_of_memory();"
+GIVES_BACK = KEEPS.replace("return", "return free(part),") + ' free(more); free(part); write(1, "valid\\n", 6); return 0;'
 # what is done where the growth was refused, what is done with each input, and whether growths.py finds fault with it
 TRIALS = {
     "nothing wrong": (RIGHT, "", True),
@@ -126,7 +128,7 @@ def main():
         for name, (refused, wanted) in TRIALS_OF_ROWS.items():
             if growths.sweep_rows(built(room, refused, "")) != wanted:
                 faults.append(f"growths.py and a stand-in for wm_rows: {name}")
-        for name, deeper, wanted in (("a block is kept", "", False), ("all is given back", GIVES_BACK, True)):
+        for name, deeper, wanted in (("a block is kept", KEEPS, False), ("all is given back", GIVES_BACK, True)):
             if growths.swept("a stand-in", built(room, RIGHT, deeper), [(["check"], b"")], growths.kind_of, gives_back=True) != wanted:
                 faults.append(f"growths.py and a stand-in of which all is to be given back: {name}")
         # (no stand-in answers all that deep.py asks: what is looked at is how it ends)
