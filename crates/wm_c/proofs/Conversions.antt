@@ -1,8 +1,7 @@
 -- What was made stands in the buffer, or is longer, or was refused.
-use Rattle.std.proofs.Common.{◌≡◌, ◌≢◌, ◌<◌, ◌≤◌, ℕ, List, Bool, true, false, Err, nat_lt, length, inl, inr, refl, sym, ap, subst, arith, ◌∙◌, ◌⊎◌}
+use Rattle.std.proofs.Common.{◌≡◌, ◌<◌, ◌≤◌, ℕ, List, Bool, true, false, Err, nat_lt, length, inl, inr, refl, sym, ap, subst, arith, ◌⊎◌}
 use Rattle.std.proofs.lemmas.Bool.{ltb-true, ltb-false}
 use Rattle.wm_syntax.specs.declared.profile.Profile.{Profile}
-use Rattle.wm_syntax.specs.declared.why.Why.{Why}
 use Rattle.wm_syntax.specs.Modules.{Module}
 use Rattle.wm_decode.specs.declared.refusal.Refusal.{Refusal}
 use Rattle.wm_rules.specs.declared.policy.Policy.{Policy}
@@ -10,7 +9,6 @@ use Rattle.wm_rules.specs.Loading.{Loads}
 use Rattle.wm_write.specs.Canon.{canon}
 use Rattle.wm_write.proofs.Shortest.{canon_shortest}
 use Rattle.wm_c.specs.Answers.{IsRight}
-use Rattle.wm_c.specs.Codes.{status_code}
 use Rattle.wm_c.specs.declared.options.Options.{Options}
 use Rattle.wm_c.specs.declared.output.Output.{Output}
 use Rattle.wm_c.specs.Conversions.{Builds, Converted, ConvertedFrom, ConvertedText, Fills, IsRefused, IsUnbuilt, misuse, no_room, refuses, unbuilt, wrote}
