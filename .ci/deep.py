@@ -18,7 +18,8 @@ OPEN_ANSWER = f"text refused at {len(OPEN)}: OpenComment\n".encode()
 def run(program, action, given, stack=STACK):
     """The exit status and what was written."""
     words = ["sh", "-c", f'ulimit -s {stack}; exec "$@"', "", program, action]
-    ran = subprocess.run(words, input=given, stdout=subprocess.PIPE, timeout=300, check=False)
+    # (the environment stands on the stack too)
+    ran = subprocess.run(words, input=given, stdout=subprocess.PIPE, env={}, timeout=300, check=False)
     return ran.returncode, ran.stdout
 
 

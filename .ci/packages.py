@@ -69,11 +69,12 @@ class Package:
     def call(self, *words):
         return run(*self.words, *words, env={**os.environ, "DESTDIR": str(self.room / "dest")})
 
-    def has(self, tool):
-        """Whether the machine has a tool; where not, this is said at the end."""
-        if not shutil.which(tool):
+    def has(self, tool, *trial):
+        """Whether the machine has a tool, which takes these words; where not, this is said at the end."""
+        is_there = shutil.which(tool) and (not trial or run(tool, *trial, wanted=None)[0] == 0)
+        if not is_there:
             self.said.append(f"no {tool}")
-        return shutil.which(tool)
+        return is_there
 
     def flags(self, *words):
         """What pkg-config answers; below DESTDIR it is asked as a packager asks it."""
@@ -145,7 +146,7 @@ def check_stops(sample, env):
 def check_memory(it, made):
     """No sample reads what is not its own, and none keeps memory."""
     words = ["valgrind", "-q", "--leak-check=full", "--show-leak-kinds=all", "--errors-for-leak-kinds=all", "--error-exitcode=99"]
-    for name in POLICIES if it.has("valgrind") else ():
+    for name in POLICIES if it.has("valgrind", "-q", "true") else ():
         sample = made[name, "C89", "static"]
         for number in range(3):
             module, _ = c_calls.made(number)
@@ -203,7 +204,7 @@ def check_completions(it):
 
 def check_crate(it):
     """The tests of the crate, and the lines of its example beside the program's."""
-    if not it.has("cargo"):
+    if not it.has("cargo", "--version"):
         return
     crate = it.room / "rust"
     shutil.copytree(TOP / "rust", crate, ignore=shutil.ignore_patterns("target", "Cargo.lock"))
