@@ -11,10 +11,10 @@ use Rattle.wm_write.proofs.Shortest.{canon_shortest}
 use Rattle.wm_c.specs.Answers.{IsRight}
 use Rattle.wm_c.specs.declared.options.Options.{Options}
 use Rattle.wm_c.specs.declared.output.Output.{Output}
-use Rattle.wm_c.specs.Conversions.{Builds, Converted, ConvertedFrom, ConvertedText, Fills, IsRefused, IsUnbuilt, misuse, no_room, refuses, unbuilt, wrote}
+use Rattle.wm_c.specs.Conversions.{Builds, Converted, ConvertedFrom, ConvertedText, Fills, IsMemory, IsRefused, IsUnbuilt, misuse, no_room, refuses, unbuilt, wrote}
 use Rattle.wm_c.specs.declared.output.Unbuilt.{Unbuilt}
 use Rattle.wm_c.specs.Options.{Asking, Asks, spellings_of}
-use Rattle.wm_c.proofs.Statuses.{not_memory, one_or_four, unbuilt_status}
+use Rattle.wm_c.proofs.Statuses.{not_memory, one_or_four, refused_memory, unbuilt_memory, unbuilt_status}
 
 -- The relations of a conversion are named alike in all that follows.
 abbrev pub Relation : Type 1
@@ -30,20 +30,24 @@ Makes Of form o text = Asking o (λ p limit q. (m : Module) × Of p limit q m ×
 fits : (Of : Relation) (form : Module → List ℕ) (R : Refusing) (o : Options) (text before after : List ℕ) → Makes Of form o text → Fills text before after
     → Converted Of form R o before after (wrote (length text))
 fits Of form R o text before after (p, a, (m, l, is)) f = record {
+  status = inl refl;
   written = λ e. (p, a, (m, l, subst (λ t. Fills t before after) is f, ap (λ t. wrote (length t)) is));
   room = λ e. absurd (omega (arith, e));
   refused = λ e. absurd (omega (arith, e));
   misused = λ e. absurd (omega (arith, e));
+  memory = λ e. absurd (omega (arith, e));
   untouched = λ n. absurd (n refl);
 }
 
 longer : (Of : Relation) (form : Module → List ℕ) (R : Refusing) (o : Options) (text before : List ℕ) → Makes Of form o text → length before < length text
     → Converted Of form R o before before (no_room (length text))
 longer Of form R o text before (p, a, (m, l, is)) lt = record {
+  status = inr (inr (inr (inr refl)));
   written = λ e. absurd (omega (arith, e));
   room = λ e. (p, a, (m, l, subst (λ t. length before < length t) is lt, ap (λ t. no_room (length t)) is));
   refused = λ e. absurd (omega (arith, e));
   misused = λ e. absurd (omega (arith, e));
+  memory = λ e. absurd (omega (arith, e));
   untouched = λ n. refl;
 }
 
@@ -75,8 +79,12 @@ converted Of form R o items text before new after result out makes lent whole ro
 
 -- nothing was made, and the output is a refusal's, or memory's
 pub refusing : (Of : Relation) (form : Module → List ℕ) (R : Refusing) (o : Options) (before after : List ℕ) (out : Output) → ((n : ℕ) → out.status ≡ n → (n ≡ 1) ⊎ (n ≡ 4))
-    → (out.status ≡ 1 → Asking o (λ p limit q. R p limit q out)) → after ≡ before → Converted Of form R o before after out
-refusing Of form R o before after out statuses refused same = record {
+    → (out.status ≡ 4 → IsMemory out.why) → (out.status ≡ 1 → Asking o (λ p limit q. R p limit q out)) → after ≡ before → Converted Of form R o before after out
+refusing Of form R o before after out statuses memory refused same = record {
+  status = elim (statuses out.status refl) [
+    | inl one ↦ inr (inl one)
+    | inr four ↦ inr (inr (inr (inl four)))
+  ];
   written = λ e. absurd (elim (statuses 0 e) [
     | inl h ↦ omega (arith, h)
     | inr h ↦ omega (arith, h)
@@ -90,6 +98,7 @@ refusing Of form R o before after out statuses refused same = record {
     | inl h ↦ omega (arith, h)
     | inr h ↦ omega (arith, h)
   ]);
+  memory = memory;
   untouched = λ n. same;
 }
 
@@ -97,10 +106,12 @@ pub misusing : (Of : Relation) (form : Module → List ℕ) (R : Refusing) (o : 
     → ((p : Profile) → Asks o p → ⊥) → after ≡ before → Converted Of form R o before after out
 misusing Of form R o before after out is never same =
     subst (λ (x : Output). Converted Of form R o before after x) (sym is) (record {
+      status = inr (inr (inl refl));
       written = λ e. absurd (omega (arith, e));
       room = λ e. absurd (omega (arith, e));
       refused = λ e. absurd (omega (arith, e));
       misused = λ e. (refl, never);
+      memory = λ e. absurd (omega (arith, e));
       untouched = λ n. same;
     })
 
@@ -109,7 +120,7 @@ pub refused_from : (form : Module → List ℕ) (o : Options) (input before afte
     → Asking o (λ p limit q. IsRight p limit q input (Err r)) → out ≡ refuses r → after ≡ before → ConvertedFrom form o input before after out
 refused_from form o input before after r out (p, a, right) is same =
     subst (λ (x : Output). ConvertedFrom form o input before after x) (sym is)
-    (refusing (λ p limit q m. Loads p limit q input m) form (IsRefused input) o before after (refuses r) (one_or_four r.why)
+    (refusing (λ p limit q m. Loads p limit q input m) form (IsRefused input) o before after (refuses r) (one_or_four r.why) (refused_memory r.why)
     (λ e. (p, a, (r, not_memory r.why e, right, refl))) same)
 
 -- a refusal of a text
@@ -118,7 +129,7 @@ pub unbuilt_from : (o : Options) (input before after : List ℕ) (u : Unbuilt) (
 unbuilt_from o input before after u out (p, a, why) is same =
     subst (λ (x : Output). ConvertedText o input before after x) (sym is)
     (refusing (Builds (spellings_of o) input) canon (λ p limit q out. (u : Unbuilt) × IsUnbuilt (spellings_of o) input p limit q u × (out ≡ unbuilt u)) o before after (unbuilt u)
-    (unbuilt_status u) (λ e. (p, a, (u, why, refl))) same)
+    (unbuilt_status u) (unbuilt_memory u) (λ e. (p, a, (u, why, refl))) same)
 
 -- the canonical binary of a module is no longer than the bytes that spell it
 pub enough : (o : Options) (input before after : List ℕ) (out : Output) → ConvertedFrom canon o input before after out

@@ -15,8 +15,8 @@ use Rattle.wm_read.specs.declared.faults.TextWhy.{TextWhy}
 use Rattle.wm_read.specs.declared.faults.TextWhy.TheVariants as text
 use Rattle.wm_c.specs.declared.output.Unbuilt.{Unbuilt}
 use Rattle.wm_c.specs.declared.output.Unbuilt.TheVariants.{TooLong, Text, Check}
-use Rattle.wm_c.specs.Conversions.{unbuilt}
-use Rattle.wm_c.specs.Codes.{status_code, text_status_code}
+use Rattle.wm_c.specs.Conversions.{IsMemory, unbuilt}
+use Rattle.wm_c.specs.Codes.{status_code, text_code, text_status_code, why_code}
 use Rattle.wm_read.specs.declared.spellings.Spellings.{Spellings}
 use Rattle.wm_c.specs.declared.options.Options.{Options}
 use Rattle.wm_c.specs.Options.{Asking, Asks, policy_of, spellings_of}
@@ -64,7 +64,7 @@ one_or_four w n e = elim (cases w) [
   | inr m ↦ inr (sym e ∙ ap status_code m)
 ]
 
-text_cases : (w : TextWhy) → (text_status_code w ≡ 1) ⊎ (text_status_code w ≡ 4)
+text_cases : (w : TextWhy) → (text_status_code w ≡ 1) ⊎ (w ≡ text.Memory)
 text_cases text.NotUtf8 = inl refl
 text_cases text.BadToken = inl refl
 text_cases text.OpenComment = inl refl
@@ -91,11 +91,31 @@ pub unbuilt_status : (u : Unbuilt) (n : ℕ) → (unbuilt u).status ≡ n → (n
 unbuilt_status (TooLong at) n e = inl (sym e)
 unbuilt_status (Text r) n e = elim (text_cases r.why) [
   | inl one ↦ inl (sym e ∙ one)
-  | inr four ↦ inr (sym e ∙ four)
+  | inr m ↦ inr (sym e ∙ ap text_status_code m)
 ]
 unbuilt_status (Check (check.Refused r)) n e = one_or_four r.why n e
 unbuilt_status (Check check.TooLarge) n e = inl (sym e)
 unbuilt_status (Check check.Memory) n e = inr (sym e)
+
+not_four : ◌≡◌ {A = ℕ} 1 4 → ⊥
+not_four e = omega (arith, e)
+
+-- status 4 is of memory alone
+pub refused_memory : (w : Why) → status_code w ≡ 4 → IsMemory (why_code w)
+refused_memory w e = elim (cases w) [
+  | inl one ↦ absurd (not_four (sym one ∙ e))
+  | inr m ↦ inl (ap why_code m)
+]
+
+pub unbuilt_memory : (u : Unbuilt) → (unbuilt u).status ≡ 4 → IsMemory (unbuilt u).why
+unbuilt_memory (TooLong at) e = absurd (not_four e)
+unbuilt_memory (Text r) e = elim (text_cases r.why) [
+  | inl one ↦ absurd (not_four (sym one ∙ e))
+  | inr m ↦ inr (ap text_code m)
+]
+unbuilt_memory (Check (check.Refused r)) e = refused_memory r.why e
+unbuilt_memory (Check check.TooLarge) e = absurd (not_four e)
+unbuilt_memory (Check check.Memory) e = inl refl
 
 pub not_none : (w : Why) → status_code w ≡ 0 → ⊥
 not_none w e = elim (one_or_four w 0 e) [

@@ -1,5 +1,5 @@
 -- What a conversion gives C.
-use Rattle.std.specs.Prelude.{◌≡◌, ◌≢◌, ◌<◌, ◌≤◌, ◌^◌, ◌+◌, ◌++◌, ℕ, List, Err, drop, length}
+use Rattle.std.specs.Prelude.{◌≡◌, ◌≢◌, ◌<◌, ◌≤◌, ◌^◌, ◌+◌, ◌++◌, ◌⊎◌, ℕ, List, Err, drop, length}
 use Rattle.wm_syntax.specs.declared.profile.Profile.{Profile}
 use Rattle.wm_syntax.specs.declared.why.Why.TheVariants as why
 use Rattle.wm_syntax.specs.Modules.{Module}
@@ -56,11 +56,20 @@ abbrev pub Fills : List ℕ → List ℕ → List ℕ → Type 0
 Fills text before after =
     (length text ≤ length before) × (after ≡ text ++ drop (length text) before)
 
+-- one of the statuses of a conversion
+abbrev pub IsStatus : ℕ → Type 0
+IsStatus n = (n ≡ 0) ⊎ (n ≡ 1) ⊎ (n ≡ 2) ⊎ (n ≡ 4) ⊎ (n ≡ 5)
+
+-- the number of memory that was refused, for a module or for a text
+abbrev pub IsMemory : ℕ → Type 0
+IsMemory n = (n ≡ why_code why.Memory) ⊎ (n ≡ text_code text.Memory)
+
 -- What a conversion comes to in a buffer, as the options ask. `Of` says which module it is, `form` what is
 -- written of it, and `Refuses` which refusal is told.
 pub record Converted (Of : Profile → ℕ → Policy → Module → Type 0) (form : Module → List ℕ)
     (Refuses : Profile → ℕ → Policy → Output → Type 0) (o : Options) (before after : List ℕ) (out : Output)
     : Type 0 where
+  pub status : IsStatus out.status
   pub written : out.status ≡ 0 → Asking o (λ p limit q. (m : Module) × Of p limit q m
       × Fills (form m) before after × (out ≡ wrote (length (form m))))
   -- it is longer than the buffer
@@ -68,6 +77,7 @@ pub record Converted (Of : Profile → ℕ → Policy → Module → Type 0) (fo
       × (length before < length (form m)) × (out ≡ no_room (length (form m))))
   pub refused : out.status ≡ 1 → Asking o (λ p limit q. Refuses p limit q out)
   pub misused : out.status ≡ 2 → (out ≡ misuse) × ((p : Profile) → Asks o p → ⊥)
+  pub memory : out.status ≡ 4 → IsMemory out.why
   pub untouched : out.status ≢ 0 → after ≡ before
 
 -- the refusal of a module's bytes is the validator's

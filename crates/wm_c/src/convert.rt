@@ -23,7 +23,7 @@ use wm_rules::{Checked, Loader, Policy};
 use wm_syntax::modules::Module;
 use wm_syntax::profile::Profile;
 use wm_syntax::why::Why;
-use wm_write::in_memory::{encoded, printed};
+use wm_write::in_memory::{MakeFault, encoded, printed};
 
 /// Writes the canonical binary of a valid module. The result is the output's status.
 #[unsafe(no_mangle)]
@@ -93,11 +93,13 @@ pub extern "C" fn wmod_build(
     output.status
 }
 
-// Memory was refused; the place says nothing.
-fn out_of_memory() -> Refusal
+// A loaded module is not too large: so memory was refused. The place says nothing.
+fn out_of_memory(fault: MakeFault) -> Refusal
+    requires { fault ≢ MakeFault.TooLarge }
     ensures why { result.why ≡ Why.Memory }
     ensures at { result.at ≡ 0 }
 {
+    let (MakeFault::TooLarge | MakeFault::Memory) = fault;
     Refusal {
         at: 0,
         why: Why::Memory,
@@ -112,8 +114,10 @@ fn canonical(alloc: Global, bytes: &[u8], asked: Asked) -> Result<Vec<u8>, Refus
         IsRight asked.profile asked.max_bytes asked.policy bytes.now (Err r)) }
 {
     let checked = load(alloc, bytes, asked)?;
-    // what was loaded is not too large
-    encoded(alloc, checked.module()).map_err(|_| out_of_memory())
+    match encoded(alloc, checked.module()) {
+        Ok(binary) => Ok(binary),
+        Err(fault) => Err(out_of_memory(fault)),
+    }
 }
 
 fn shown(alloc: Global, bytes: &[u8], asked: Asked) -> Result<Vec<u8>, Refusal>
@@ -124,7 +128,10 @@ fn shown(alloc: Global, bytes: &[u8], asked: Asked) -> Result<Vec<u8>, Refusal>
         IsRight asked.profile asked.max_bytes asked.policy bytes.now (Err r)) }
 {
     let checked = load(alloc, bytes, asked)?;
-    printed(alloc, &checked).map_err(|_| out_of_memory())
+    match printed(alloc, &checked) {
+        Ok(text) => Ok(text),
+        Err(fault) => Err(out_of_memory(fault)),
+    }
 }
 
 fn load(alloc: Global, bytes: &[u8], asked: Asked) -> Result<Checked, Refusal>

@@ -1,9 +1,10 @@
 //! Tests of the calls as a host makes them: a line is a call, with what it answers behind ` = `.
 //!
-//! `begin PROFILE LIMIT` and `validate PROFILE LIMIT INPUT`; with all seven options `options` and `with`, where
-//! `-` is no limit. An answer has its eight fields. Inputs stand as hexadecimal digits; `H` is the header, and
-//! `.` nothing. `canon`, `show` and `build` take the size of the buffer first, then the options; they answer the
-//! output's four fields, and what stands in the buffer, as hexadecimal digits or as a text without its line feeds.
+//! `begin PROFILE LIMIT` and `validate PROFILE LIMIT INPUT`; with all seven options `options` and `with`,
+//! where `-` is no limit. An answer has its eight fields. Inputs stand as hexadecimal digits; `H` is the
+//! header, and `.` nothing. `canon`, `show` and `build` take the size of the buffer first, then the options.
+//! They answer the output's four fields, and what stands in the buffer: as hexadecimal digits, or as a text
+//! with `|` for a line feed.
 
 use crate::answer::Answer;
 use crate::convert::{wmod_build, wmod_canon, wmod_show};
@@ -92,7 +93,8 @@ name 119 6 = 5 Float0
 name 120 7 = 6 Memory0
 name 121 2 = 0 0?";
 
-// The canonical binary of a header and a custom section is the header, and a buffer of the input's length holds it.
+// The canonical binary of a header and a custom section is the header. A buffer of the input's length
+// holds it.
 const CANON: &str = "canon 12 56 1 1000 - - - 0 H00020161 = 0: 0 0 0 8 0061736d01000000????????
 canon 8 56 1 1000 - - - 0 H00020161 = 0: 0 0 0 8 0061736d01000000
 canon 7 56 1 1000 - - - 0 H = 5: 5 0 0 8 ??????????????

@@ -1,5 +1,6 @@
 -- The command line `wmod ACTION [OPTIONS] [FILE]`, as `clap` defines a simple command.
-use Rattle.std.specs.Prelude.{◌≡◌, ◌≢◌, ◌<◌, ◌≤◌, ◌^◌, ℕ, true, List, [], ◌∷◌, Option, Some, None, ⊤, codes}
+use Rattle.std.specs.Prelude.{◌≡◌, ◌≢◌, ◌<◌, ◌≤◌, ◌^◌, ℕ, true, false, List, [], ◌∷◌}
+use Rattle.std.specs.Prelude.{Bool, Option, Some, None, ⊤, codes}
 use Rattle.std.specs.Prelude.{if◌then◌else◌, option_map}
 use Rattle.std.specs.Str.{bytes_eq}
 use Rattle.std.specs.Str.Parse.{IsNumeral, digits_value}
@@ -143,6 +144,11 @@ IsWrong word (wrong.OldWords w) = Stands (word (codes "old-words")) × (word (co
 -- them is the program's name
 abbrev pub word_of : List Text → Text → Option Text
 word_of words id = first_of id (matches_of wmod words)
+
+-- The word behind the program's name is `explain`. Such words are no line: they ask what a NAME means.
+abbrev pub asks_to_explain : List Text → Bool
+asks_to_explain (_ ∷ word ∷ _) = bytes_eq word (codes "explain")
+asks_to_explain _ = false
 
 -- Why the words give no line: the parser has a fault of this kind for them; it has none, and an
 -- argument's word is wrong, or the flag stands with another action than `build`; or memory was

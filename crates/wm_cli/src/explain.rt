@@ -1,5 +1,11 @@
 //! `wmod explain NAME`: what the NAME of a refusal means.
 
+ghost use Rattle.std.specs.Prelude.{◌≡◌, ◌≢◌, ◌⊎◌, Err, IfErr, IfOk, length, map};
+ghost use Rattle.std.specs.String.{string_bytes};
+ghost use Rattle.wm_cli.specs.Lines.{asks_to_explain};
+ghost use Rattle.wm_cli.specs.declared.status.Status.{Status};
+ghost use Rattle.wm_cli.specs.declared.words.LineFault.TheVariants.{Memory, Words};
+
 use crate::answer::answer;
 use crate::complaint::{complain, complain_of};
 use crate::refusals::{OF_MODULES, OF_TEXTS};
@@ -73,18 +79,25 @@ impl fmt::Display for Wrong<'_> {
 }
 
 /// Whether these words, of which the first is the program's name, ask for an explanation.
-pub fn is_asked(words: &[String]) -> bool {
+pub fn is_asked(words: &[String]) -> bool
+    ensures { result ≡ asks_to_explain (map string_bytes words.now) }
+{
     match words.get(1) {
         Some(word) => word.as_str() == "explain",
         None => false,
     }
 }
 
-/// Says on standard output what a NAME means. No clause: what a NAME is to be explained by no definition says.
+/// Says on standard output what a NAME means. Standard error says where there is not one NAME, or where no
+/// refusal has it. What is said has no clause: rows of the tests show it.
 pub fn explain<R: Print + Eprint + AllocGlobal>(
     rt: &R,
     words: &[String],
-) -> Result<Status, LineFault> {
+) -> Result<Status, LineFault>
+    ensures count { length words.now ≢ 3 → result ≡ Err Words }
+    ensures ok { IfOk result (λ status. (status ≡ Status.Done) ⊎ (status ≡ Status.Io)) }
+    ensures fault { IfErr result (λ e. (e ≡ Words) ⊎ (e ≡ Memory)) }
+{
     let [_, _, name] = words else {
         return complain_of_words(rt, &Wrong::Count);
     };
@@ -100,18 +113,24 @@ pub fn explain<R: Print + Eprint + AllocGlobal>(
     }
 }
 
-fn complain_of_words<R: Eprint>(rt: &R, what: &Wrong<'_>) -> Result<Status, LineFault> {
+fn complain_of_words<R: Eprint>(rt: &R, what: &Wrong<'_>) -> Result<Status, LineFault>
+    ensures { result ≡ Err Words }
+{
     complain(rt, &LineFault::Words);
     complain(rt, what);
     Err(LineFault::Words)
 }
 
-fn out_of_memory<R: Eprint>(rt: &R) -> Result<Status, LineFault> {
+fn out_of_memory<R: Eprint>(rt: &R) -> Result<Status, LineFault>
+    ensures { result ≡ Err Memory }
+{
     complain(rt, &LineFault::Memory);
     Err(LineFault::Memory)
 }
 
-fn say<R: Print + Eprint>(rt: &R, text: &str) -> Status {
+fn say<R: Print + Eprint>(rt: &R, text: &str) -> Status
+    ensures { (result ≡ Status.Done) ⊎ (result ≡ Status.Io) }
+{
     let mut dest = OutputOf::new(Witness::new(io::writer(rt)));
     let status = answer(&mut dest, text.as_bytes(), Status::Done);
     if let Status::Io = status {
