@@ -9,7 +9,7 @@ use Rattle.wm_syntax.specs.OpClasses.{class_of, first_byte}
 use Rattle.wm_syntax.specs.exact.ByteTable.{classes}
 use Rattle.wm_syntax.specs.Instructions.{Instruction, Instructions, none, snoc, simple, table, block, loop, choice, SpellsInstruction, SpellsInstructions, SpellsExpression, SpellsElse}
 use Rattle.wm_syntax.specs.declared.types.ValType.{ValType}
-use Rattle.wm_syntax.specs.declared.types.ValType.TheVariants.{I32, I64}
+use Rattle.wm_syntax.proofs.SameTypes.{block_byte, block_tells}
 use Rattle.wm_syntax.specs.declared.instructions.Simple.{Simple}
 use Rattle.wm_syntax.specs.declared.instructions.Simple.TheVariants as s
 use Rattle.wm_syntax.specs.declared.instructions.Op.{Op}
@@ -183,19 +183,19 @@ ends s t h a b u v (x, y, e, p, q) (x', y', e', p', q') f =
 same_byte : (c : ℕ) (a b u v : List ℕ) → Byte c a → Byte c b → a ++ u ≡ b ++ v → (a ≡ b) × Unit {0}
 same_byte c a b u v p q e = (p ∙ sym q, tt)
 
-bytes_differ : (c d : ℕ) (a b u v : List ℕ) → Byte c a → Byte d b → a ++ u ≡ b ++ v → c ≡ d
-bytes_differ c d a b u v p q e = heads_same (ap (λ (z : List ℕ). z ++ u) (sym p) ∙ e ∙ ap (λ (z : List ℕ). z ++ v) q)
+first_bytes : (c d : ℕ) (a b u v : List ℕ) → Byte c a → Byte d b → a ++ u ≡ b ++ v → c ≡ d
+first_bytes c d a b u v p q e = heads_same (ap (λ (z : List ℕ). z ++ u) (sym p) ∙ e ∙ ap (λ (z : List ℕ). z ++ v) q)
+
+block_bytes : (t : Option ValType) (a : List ℕ) → SpellsBlockType t a → a ≡ block_byte t ∷ []
+block_bytes Nothing a p = p
+block_bytes (Some t) a p = p
 
 same_block_type : (t t' : Option ValType) (a b u v : List ℕ) → SpellsBlockType t a → SpellsBlockType t' b → a ++ u ≡ b ++ v → (a ≡ b) × (t ≡ t')
-same_block_type Nothing Nothing a b u v p q e = (p ∙ sym q, refl)
-same_block_type Nothing (Some I32) a b u v p q e = let g : ◌≡◌ {A = ℕ} 0x40 0x7F = bytes_differ 0x40 0x7F a b u v p q e in absurd (omega arith)
-same_block_type Nothing (Some I64) a b u v p q e = let g : ◌≡◌ {A = ℕ} 0x40 0x7E = bytes_differ 0x40 0x7E a b u v p q e in absurd (omega arith)
-same_block_type (Some I32) Nothing a b u v p q e = let g : ◌≡◌ {A = ℕ} 0x7F 0x40 = bytes_differ 0x7F 0x40 a b u v p q e in absurd (omega arith)
-same_block_type (Some I64) Nothing a b u v p q e = let g : ◌≡◌ {A = ℕ} 0x7E 0x40 = bytes_differ 0x7E 0x40 a b u v p q e in absurd (omega arith)
-same_block_type (Some I32) (Some I32) a b u v p q e = (p ∙ sym q, refl)
-same_block_type (Some I64) (Some I64) a b u v p q e = (p ∙ sym q, refl)
-same_block_type (Some I32) (Some I64) a b u v p q e = let g : ◌≡◌ {A = ℕ} 0x7F 0x7E = bytes_differ 0x7F 0x7E a b u v p q e in absurd (omega arith)
-same_block_type (Some I64) (Some I32) a b u v p q e = let g : ◌≡◌ {A = ℕ} 0x7E 0x7F = bytes_differ 0x7E 0x7F a b u v p q e in absurd (omega arith)
+same_block_type t t' a b u v p q e =
+    let x = block_bytes t a p in
+    let y = block_bytes t' b q in
+    let same : block_byte t ≡ block_byte t' = first_bytes (block_byte t) (block_byte t') a b u v x y e in
+    (x ∙ ap (λ (n : ℕ). n ∷ []) same ∙ sym y, block_tells t t' same)
 
 -- a byte, a block type, and a form that is one already
 typed_same : (c : ℕ) (t t' : Option ValType) (P P' : Form ℕ) (E : Type 0) → ((a b u v : List ℕ) → P a → P' b → a ++ u ≡ b ++ v → (a ≡ b) × E)
@@ -241,12 +241,12 @@ tail_same s t h a b u v p q e = go (tail_forms s a p) (tail_forms t b q)
     five : (x y : List ℕ) → (x' y' : List ℕ) → a ≡ x ++ y → Byte 0x05 x → Byte 0x0B b → ⊥
     five x y x' y' f g k =
         let w : x ++ (y ++ u) ≡ b ++ v = sym (append_assoc x y u) ∙ ap (λ (z : List ℕ). z ++ u) (sym f) ∙ e in
-        let d : ◌≡◌ {A = ℕ} 0x05 0x0B = bytes_differ 0x05 0x0B x b (y ++ u) v g k w in absurd (omega arith)
+        let d : ◌≡◌ {A = ℕ} 0x05 0x0B = first_bytes 0x05 0x0B x b (y ++ u) v g k w in absurd (omega arith)
 
     eleven : (x y : List ℕ) → b ≡ x ++ y → Byte 0x05 x → Byte 0x0B a → ⊥
     eleven x y f g k =
         let w : a ++ u ≡ x ++ (y ++ v) = e ∙ ap (λ (z : List ℕ). z ++ v) f ∙ append_assoc x y v in
-        let d : ◌≡◌ {A = ℕ} 0x0B 0x05 = bytes_differ 0x0B 0x05 a x u (y ++ v) k g w in absurd (omega arith)
+        let d : ◌≡◌ {A = ℕ} 0x0B 0x05 = first_bytes 0x0B 0x05 a x u (y ++ v) k g w in absurd (omega arith)
 
     go : (Byte 0x05 ▸ SpellsExpression s) a ⊎ (Byte 0x0B a × (s ≡ none)) → (Byte 0x05 ▸ SpellsExpression t) b ⊎ (Byte 0x0B b × (t ≡ none)) → (a ≡ b) × (s ≡ t)
     go (inl f) (inl g) =

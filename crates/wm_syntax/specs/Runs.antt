@@ -1,13 +1,11 @@
 -- The types of locals as maximal runs of one type (section 5.5.13).
-use Rattle.std.specs.Prelude.{ℕ, ◌+◌, Bool, true, false, List, [], ◌∷◌, length, if◌then◌else◌}
+use Rattle.std.specs.Prelude.{ℕ, ◌+◌, ◌==◌, Bool, List, [], ◌∷◌, length, if◌then◌else◌}
 use Rattle.wm_syntax.specs.declared.types.ValType.{ValType}
-use Rattle.wm_syntax.specs.declared.types.ValType.TheVariants.{I32, I64}
+use Rattle.wm_syntax.specs.Types.{type_byte}
 
+-- whether two types are the same: each has a byte of its own (section 5.3.1)
 abbrev pub same : ValType → ValType → Bool
-same I32 I32 = true
-same I32 I64 = false
-same I64 I32 = false
-same I64 I64 = true
+same t u = type_byte t == type_byte u
 
 -- Where each maximal run of one type ends, as the number of types up to there: n types were passed,
 -- the last of them t, and the rest comes next.
@@ -26,10 +24,7 @@ run_count ts = length (run_ends ts)
 -- one type before maximal runs
 abbrev pub type_before : ValType → List (ℕ × ValType) → List (ℕ × ValType)
 type_before t [] = (1, t) ∷ []
-type_before I32 ((n, I32) ∷ runs) = (n + 1, I32) ∷ runs
-type_before I32 ((n, I64) ∷ runs) = (1, I32) ∷ (n, I64) ∷ runs
-type_before I64 ((n, I32) ∷ runs) = (1, I64) ∷ (n, I32) ∷ runs
-type_before I64 ((n, I64) ∷ runs) = (n + 1, I64) ∷ runs
+type_before t ((n, u) ∷ runs) = if same t u then (n + 1, t) ∷ runs else (1, t) ∷ (n, u) ∷ runs
 
 -- types as maximal runs, each by how many types it has, and which
 abbrev pub runs_of : List ValType → List (ℕ × ValType)
