@@ -27,7 +27,8 @@ use Rattle.wm_decode.proofs.Numbers.{Left}
 use Rattle.wm_decode.proofs.Counts.{CountedNext, counted_next}
 use Rattle.wm_decode.proofs.Leaves.{IsReader, LeafNext, leaf_next, leaf_has}
 use Rattle.wm_decode.proofs.NamesAndSizes.{NameLeft, TextLeft, TextNext, text_done, text_next, text_has, named_byte, left_more, left_last, left_bad, left_has}
-use Rattle.wm_decode.proofs.ValueBytes.{TypeAnswer, type_answer, same_type}
+use Rattle.wm_decode.proofs.ValueBytes.{TypeAnswer, type_answer}
+use Rattle.wm_syntax.proofs.SameTypes.{byte_tells}
 
 module _ (demanded : Type 0) where
   -- value types
@@ -38,7 +39,7 @@ module _ (demanded : Type 0) where
   value_next g t = record {
     to = λ s b k h.
         let e : b ≡ [] = tail_same (type_byte t) (type_byte h.0) b [] h.1 in
-        let u : h.0 ≡ t = same_type h.0 t (sym (head_same (type_byte t) (type_byte h.0) b [] h.1)) in
+        let u : h.0 ≡ t = byte_tells h.0 t (sym (head_same (type_byte t) (type_byte h.0) b [] h.1)) in
         ([], h.2 ∙ (ap (λ y. marks_ending (Some (g h.0)) (type_byte t ∷ y)) e ∙ ap (λ y. outside_mark (Some (g y)) ∷ []) u), (e, refl));
     from = λ b k q. (t, ap (λ y. type_byte t ∷ y) q.2.0, q.1 ∙ (ap (λ y. outside_mark (Some (g t)) ∷ y) q.2.1 ∙ sym (ap (λ y. marks_ending (Some (g t)) (type_byte t ∷ y)) q.2.0)));
   }

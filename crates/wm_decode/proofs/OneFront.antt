@@ -11,6 +11,8 @@ use Rattle.wm_syntax.specs.declared.instructions.op_class.OpClass.{OpClass}
 use Rattle.wm_syntax.specs.declared.instructions.op_class.OpClass.TheVariants.{Plain, With}
 use Rattle.wm_syntax.specs.declared.profile.Profile.{Profile}
 use Rattle.wm_syntax.specs.declared.types.ValType.{ValType}
+use Rattle.wm_syntax.specs.Types.{block_byte}
+use Rattle.wm_syntax.proofs.SameTypes.{block_tells}
 use Rattle.wm_syntax.specs.declared.types.ValType.TheVariants.{I32, I64}
 use Rattle.wm_syntax.specs.OpClasses.{class_of, first_byte}
 use Rattle.wm_syntax.specs.Opcodes.{opcode}
@@ -273,12 +275,7 @@ same_rank o q d f a b u v h k e =
     ap rank (some_same (sym there ∙ there'))
 
 block_type_same : (t u : Option ValType) → Same (SpellsBlockType t) (SpellsBlockType u) (t ≡ u)
-block_type_same None None = same_as (λ e. refl) (byte_same 0x40 0x40)
-block_type_same None (Some I32) = same_as (λ e. absurd (omega (arith, e))) (byte_same 0x40 0x7F)
-block_type_same None (Some I64) = same_as (λ e. absurd (omega (arith, e))) (byte_same 0x40 0x7E)
-block_type_same (Some I32) None = same_as (λ e. absurd (omega (arith, e))) (byte_same 0x7F 0x40)
-block_type_same (Some I64) None = same_as (λ e. absurd (omega (arith, e))) (byte_same 0x7E 0x40)
-block_type_same (Some t) (Some u) = same_as (λ e. ap Some e) (once_type t u)
+block_type_same t u = same_as (block_tells t u) (byte_same (block_byte t) (block_byte u))
 
 one_op : (o q : Op) → IsDue zero o → IsDue zero q → Same (SpellsOp o) (SpellsOp q) (o ≡ q)
 one_op (op.Label l) q d f a b u v h k e = absurd d

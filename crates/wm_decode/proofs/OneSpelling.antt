@@ -2,6 +2,7 @@
 use Rattle.std.proofs.Common.{ℕ, suc, ◌≡◌, ◌≤◌, ◌<◌, List, [], ◌∷◌, ◌++◌, ◌⊎◌, Option, Some, None, true, false, length, map, refl, sym, ◌∙◌, ap, subst, append_assoc, arith, inl, inr}
 use Rattle.std.proofs.lemmas.List.{append_cancel_left, length-map}
 use Rattle.wm_syntax.specs.declared.types.ValType.{ValType}
+use Rattle.wm_syntax.proofs.SameTypes.{byte_tells}
 use Rattle.wm_syntax.specs.declared.types.ValType.TheVariants.{I32, I64}
 use Rattle.wm_syntax.specs.declared.modules.ImportDesc.TheVariants as desc
 use Rattle.wm_syntax.specs.declared.modules.ExportKind.{ExportKind}
@@ -103,14 +104,8 @@ once_sized : {X : Type 0} {V : X → Form ℕ} → Once V → Once (λ x. Sized 
 once_sized o x y = same_as (λ d. at_once o x y d.0 d.1 d.2) sized_same
 
 -- types
-type_same : (t u : ValType) → type_byte t ≡ type_byte u → t ≡ u
-type_same I32 I32 e = refl
-type_same I32 I64 e = absurd (omega (arith, e))
-type_same I64 I32 e = absurd (omega (arith, e))
-type_same I64 I64 e = refl
-
 pub once_type : Once SpellsValType
-once_type t u = same_as (type_same t u) (byte_same (type_byte t) (type_byte u))
+once_type t u = same_as (byte_tells t u) (byte_same (type_byte t) (type_byte u))
 
 pub tagged : {P Q : Form ℕ} {D E : Type 0} (c : ℕ) → (D → E) → Same P Q D → Same (Byte c ▸ P) (Byte c ▸ Q) E
 tagged c f s = same_as (λ d. f d.1) (then_same (byte_same c c) (λ e. s))

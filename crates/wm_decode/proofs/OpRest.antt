@@ -5,6 +5,7 @@ use Rattle.std.proofs.lemmas.Bool.{cond_both, eqb-true, eqb-false}
 use Rattle.wm_syntax.specs.declared.profile.Profile.{Profile}
 use Rattle.wm_syntax.specs.declared.why.Why.TheVariants as why
 use Rattle.wm_syntax.specs.declared.types.ValType.{ValType}
+use Rattle.wm_syntax.proofs.SameTypes.{block_tells}
 use Rattle.wm_syntax.specs.declared.types.ValType.TheVariants.{I32, I64}
 use Rattle.wm_syntax.specs.declared.instructions.MemArg.{MemArg}
 use Rattle.wm_syntax.specs.declared.instructions.Simple.{Simple}
@@ -21,7 +22,7 @@ use Rattle.wm_syntax.specs.inner.Numbers.{Partial, SignedRest}
 use Rattle.wm_syntax.specs.exact.Reading.{fresh, unsigned_push, signed_push}
 use Rattle.wm_syntax.specs.Leb128.{Signed}
 use Rattle.wm_syntax.specs.Spelling.{Form, Byte}
-use Rattle.wm_syntax.specs.Types.{SpellsU32, SpellsBlockType, type_byte}
+use Rattle.wm_syntax.specs.Types.{SpellsU32, SpellsBlockType, block_byte, type_byte}
 use Rattle.wm_syntax.specs.Opcodes.{load, store}
 use Rattle.wm_syntax.specs.exact.ByteTable.{class_under}
 use Rattle.wm_syntax.specs.OpClasses.{IsClassOfOp, class_of, first_byte}
@@ -145,30 +146,8 @@ module _ (p : Profile) where
       (λ z. (λ h. eqb-false c 0x00 z (head_same c 0x00 b [] h.1), λ e. absurd e))
 
   -- block types
-  abbrev block_byte : Option ValType → ℕ
-  block_byte Nothing = 0x40
-  block_byte (Some t) = type_byte t
-
   block_spelled : (t : Option ValType) (c : ℕ) (b : List ℕ) → SpellsBlockType t (c ∷ b) → (c ≡ block_byte t) × (b ≡ [])
-  block_spelled Nothing c b h = (head_same c 0x40 b [] h, tail_same c 0x40 b [] h)
-  block_spelled (Some I32) c b h = (head_same c 0x7F b [] h, tail_same c 0x7F b [] h)
-  block_spelled (Some I64) c b h = (head_same c 0x7E b [] h, tail_same c 0x7E b [] h)
-
-  block_spells : (t : Option ValType) (b : List ℕ) → b ≡ [] → SpellsBlockType t (block_byte t ∷ b)
-  block_spells Nothing b e = ap (λ y. 0x40 ∷ y) e
-  block_spells (Some I32) b e = ap (λ y. 0x7F ∷ y) e
-  block_spells (Some I64) b e = ap (λ y. 0x7E ∷ y) e
-
-  same_block : (t u : Option ValType) → block_byte t ≡ block_byte u → t ≡ u
-  same_block Nothing Nothing e = refl
-  same_block Nothing (Some I32) e = absurd (omega (arith, e))
-  same_block Nothing (Some I64) e = absurd (omega (arith, e))
-  same_block (Some I32) Nothing e = absurd (omega (arith, e))
-  same_block (Some I32) (Some I32) e = refl
-  same_block (Some I32) (Some I64) e = absurd (omega (arith, e))
-  same_block (Some I64) Nothing e = absurd (omega (arith, e))
-  same_block (Some I64) (Some I32) e = absurd (omega (arith, e))
-  same_block (Some I64) (Some I64) e = refl
+  block_spelled t c b h = (head_same c (block_byte t) b [] h, tail_same c (block_byte t) b [] h)
 
   no_block : (t : Option ValType) (c : ℕ) → (c ≡ 0x40 → ⊥) → (c ≡ 0x7F → ⊥) → (c ≡ 0x7E → ⊥) → c ≡ block_byte t → ⊥
   no_block Nothing c x y z e = x e
@@ -178,8 +157,8 @@ module _ (p : Profile) where
   module _ (i : Opening) (c : ℕ) (o : Op) (b : List ℕ) where
     block_done : (t : Option ValType) → c ≡ block_byte t → Makes (block_op i) SpellsBlockType o (c ∷ b) ↔ ((o ≡ block_op i t) × (b ≡ []))
     block_done t e = (
-      (λ h. let w = block_spelled h.0 c b h.2 in (h.1 ∙ ap (block_op i) (same_block h.0 t (sym w.0 ∙ e)), w.1)),
-      (λ g. (t, g.0, subst (λ y. SpellsBlockType t (y ∷ b)) (sym e) (block_spells t b g.1))),
+      (λ h. let w = block_spelled h.0 c b h.2 in (h.1 ∙ ap (block_op i) (block_tells h.0 t (sym w.0 ∙ e)), w.1)),
+      (λ g. (t, g.0, subst (λ y. SpellsBlockType t (y ∷ b)) (sym e) (ap (λ y. block_byte t ∷ y) g.1))),
     )
 
     block_law : Makes (block_op i) SpellsBlockType o (c ∷ b) ↔ Goes (op_rest p) (block_step i c) o b

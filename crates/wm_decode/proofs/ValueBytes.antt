@@ -9,6 +9,7 @@ use Rattle.wm_syntax.specs.Spelling.{Form, Byte, ◌▸◌}
 use Rattle.wm_syntax.specs.Types.{SpellsU32, SpellsValType, SpellsBounds, SpellsLimits, SpellsTableType, SpellsVar, SpellsGlobalType, type_byte}
 use Rattle.wm_syntax.specs.declared.why.Why.{Why}
 use Rattle.wm_syntax.specs.declared.types.ValType.{ValType}
+use Rattle.wm_syntax.proofs.SameTypes.{byte_tells}
 use Rattle.wm_syntax.specs.declared.types.ValType.TheVariants.{I32, I64}
 use Rattle.wm_syntax.specs.declared.types.Limits.{Limits}
 use Rattle.wm_syntax.specs.declared.types.GlobalType.{GlobalType}
@@ -246,12 +247,6 @@ table_some table.ElementType l h = byte_some 0x70 (SpellsLimits l) h
 table_some (table.Limits at) l h = limits_some at h.0 h.2
 
 -- value types
-pub same_type : (t u : ValType) → type_byte t ≡ type_byte u → t ≡ u
-same_type I32 I32 e = refl
-same_type I32 I64 e = absurd (omega (arith, e))
-same_type I64 I32 e = absurd (omega (arith, e))
-same_type I64 I64 e = refl
-
 abbrev pub TypeAnswer : ℕ → Result ValType Why → Type 0
 TypeAnswer c (Ok t) = c ≡ type_byte t
 TypeAnswer c (Err w) = (t : ValType) → c ≡ type_byte t → ⊥
@@ -274,7 +269,7 @@ global_rest (global.Var t) g b = (g.ty ≡ t) × SpellsVar g.var b
 
 type_reads : (c : ℕ) (q : Result ValType Why) → TypeAnswer c q → (g : GlobalType) (b : List ℕ) → SpellsGlobalType g (c ∷ b) ↔ Goes global_rest (read_type q (λ t. More (global.Var t))) g b
 type_reads c (Ok t) e g b = (
-  λ h. let f = first_byte (type_byte g.ty) c (SpellsVar g.var) b h in (same_type g.ty t (sym f.0 ∙ e), f.1),
+  λ h. let f = first_byte (type_byte g.ty) c (SpellsVar g.var) b h in (byte_tells g.ty t (sym f.0 ∙ e), f.1),
   λ h. subst (λ y. SpellsGlobalType g (y ∷ b)) (ap type_byte h.0 ∙ sym e) (with_byte (type_byte g.ty) (SpellsVar g.var) b h.1),
 )
 type_reads c (Err w) n g b = (
@@ -401,7 +396,7 @@ run_rest (run.Type n) x b = RunType x n b
 
 run_type : (n c : ℕ) (q : Result ValType Why) → TypeAnswer c q → (x : ℕ × ValType) (b : List ℕ) → RunType x n (c ∷ b) ↔ Goes run_rest (read_type q (λ t. Done (n, t))) x b
 run_type n c (Ok t) e x b = (
-  λ h. let f = this_byte (type_byte x.1) c b h.1 in let s : x.1 ≡ t = same_type x.1 t (sym f.0 ∙ e) in (ap (λ y. (y, x.1)) h.0 ∙ ap (λ y. (n, y)) s, f.1),
+  λ h. let f = this_byte (type_byte x.1) c b h.1 in let s : x.1 ≡ t = byte_tells x.1 t (sym f.0 ∙ e) in (ap (λ y. (y, x.1)) h.0 ∙ ap (λ y. (n, y)) s, f.1),
   λ h. let s : x.1 ≡ t = ap (λ (y : ℕ × ValType). y.1) h.0 in (ap (λ (y : ℕ × ValType). y.0) h.0, ap (λ y. c ∷ y) h.1 ∙ ap (λ y. y ∷ []) (e ∙ ap type_byte (sym s))),
 )
 run_type n c (Err w) none x b = (

@@ -4,6 +4,8 @@ use Rattle.std.specs.Prelude.{codes, map, flat_map, ◌&&◌, ◌||◌, slice_ge
 use Rattle.std.proofs.lemmas.Bool.{cond-true, cond-false, and_parts, and_from, or_cases}
 use Rattle.wm_syntax.specs.Spelling.{Form, Each}
 use Rattle.wm_syntax.specs.declared.types.ValType.{ValType}
+use Rattle.wm_syntax.specs.Runs.{same}
+use Rattle.wm_syntax.proofs.SameTypes.{means, reflexive}
 use Rattle.wm_syntax.specs.declared.types.ValType.TheVariants.{I32, I64}
 use Rattle.wm_syntax.specs.Types.{Signature}
 use Rattle.wm_read.specs.Tokens.{Token, open_paren, close_paren, string, atom}
@@ -11,7 +13,7 @@ use Rattle.wm_read.proofs.Basics.{chosen, same_some}
 use Rattle.wm_read.specs.Identifiers.{Id, AreDistinct, Resolves}
 use Rattle.wm_read.specs.Written.{type_text, Paren, Names, Named, WritesType, WritesUnnamed, WritesGroup, UnnamedTypeUse, types_of}
 use Rattle.wm_read.specs.exact.Reading.{Reader, ◌>>=◌, atom_at, type_of, index_of, then_at, paren_at}
-use Rattle.wm_read.specs.exact.TypeUses.{types_at, begins_group, groups_at, same_type, same_types, no_types, joined, fits, checked, use_at, begins_open, call_use_at}
+use Rattle.wm_read.specs.exact.TypeUses.{types_at, begins_group, groups_at, same_types, no_types, joined, fits, checked, use_at, begins_open, call_use_at}
 use Rattle.wm_read.proofs.Readers.{Sound, Complete, Any, Both, Begins, BeginsClose, bind_ok, bind_is, is_same, then_sound, then_complete, paren_sound, paren_complete, many_sound, many_complete}
 use Rattle.wm_read.proofs.Indices.{index_sound, index_complete}
 use Rattle.wm_read.proofs.Immediates.{NotOpen, type_found, type_more}
@@ -87,25 +89,15 @@ results_follow (g ∷ rs) front rest (x, y, e, (a, b, d, is, w), more) f =
 
 -- ---- the same types
 
-same_type_is : (t u : ValType) → same_type t u ≡ true → t ≡ u
-same_type_is I32 I32 h = refl
-same_type_is I64 I64 h = refl
-same_type_is I32 I64 h = cc
-same_type_is I64 I32 h = cc
-
-type_same : (t : ValType) → same_type t t ≡ true
-type_same I32 = refl
-type_same I64 = refl
-
 pub same_types_are : (ts us : List ValType) → same_types ts us ≡ true → ts ≡ us
 same_types_are [] [] h = refl
-same_types_are (t ∷ ts) (u ∷ us) h = let p = and_parts (same_type t u) (same_types ts us) h in ap (λ (z : ValType). z ∷ ts) (same_type_is t u p.0) ∙ ap (λ (z : List ValType). u ∷ z) (same_types_are ts us p.1)
+same_types_are (t ∷ ts) (u ∷ us) h = let p = and_parts (same t u) (same_types ts us) h in ap (λ (z : ValType). z ∷ ts) (means t u p.0) ∙ ap (λ (z : List ValType). u ∷ z) (same_types_are ts us p.1)
 same_types_are [] (u ∷ us) h = absurd (let f : false ≡ true = h in cc)
 same_types_are (t ∷ ts) [] h = absurd (let f : false ≡ true = h in cc)
 
 pub types_same : (ts : List ValType) → same_types ts ts ≡ true
 types_same [] = refl
-types_same (t ∷ ts) = and_from (same_type t t) (same_types ts ts) (type_same t) (types_same ts)
+types_same (t ∷ ts) = and_from (same t t) (same_types ts ts) (reflexive t) (types_same ts)
 
 pub none_are : (ts : List ValType) → no_types ts ≡ true → ts ≡ []
 none_are [] h = refl

@@ -16,6 +16,7 @@ use Rattle.wm_syntax.specs.declared.why.Why.{Why}
 use Rattle.wm_syntax.specs.declared.why.Why.TheVariants as why
 use Rattle.wm_syntax.specs.Modules.{constant}
 use Rattle.wm_syntax.specs.Runs.{same}
+use Rattle.wm_syntax.proofs.SameTypes.{means, reflexive}
 use Rattle.wm_decode.specs.Grammar.{IsExpression}
 use Rattle.wm_syntax.specs.Instructions.{openings, endings}
 use Rattle.wm_decode.specs.Items.{Item, const_op, element_function, data_byte}
@@ -29,16 +30,6 @@ use Rattle.wm_rules.specs.Holding.{Held}
 use Rattle.wm_decode.specs.Flat.{FlatGlobal, FlatElement, FlatSegment, constant_ops, global_items, element_items, segment_items}
 use Rattle.wm_rules.proofs.GoodValues.{IsTypedConst}
 use Rattle.wm_rules.proofs.MemberFolds.{cond_ok, Member}
-
-same_self : (t : ValType) → same t t ≡ true
-same_self I32 = refl
-same_self I64 = refl
-
-same_is : (t u : ValType) → same t u ≡ true → t ≡ u
-same_is I32 I32 e = refl
-same_is I32 I64 e = absurd (cc)
-same_is I64 I32 e = absurd (cc)
-same_is I64 I64 e = refl
 
 -- the globals that may be named are the first ones
 pub visible_take : (n : ℕ) (globals : List GlobalType) (x : ℕ) → visible n globals x ≡ slice_get (take n globals) x
@@ -67,7 +58,7 @@ abbrev seen_of : ValType → ℕ → Constant
 seen_of t n = record { expects = t; sees = n; seen = true }
 
 type_takes : (t u : ValType) (n : ℕ) → t ≡ u → of_type t (constant_expecting u n) ≡ Ok (Some (seen_of u n))
-type_takes t u n e = ap (λ b. cond b (Ok (Some (seen_of u n))) (Err why.Mismatch)) (ap (λ z. same z u) e ∙ same_self u)
+type_takes t u n e = ap (λ b. cond b (Ok (Some (seen_of u n))) (Err why.Mismatch)) (ap (λ z. same z u) e ∙ reflexive u)
 
 -- the instruction of a constant that has the type
 first_takes : (c : Const) (globals : List GlobalType) (t : ValType) (n : ℕ) → TypedConst (take n globals) c t
@@ -83,7 +74,7 @@ const_takes c h t n rest e =
     ap (λ r. and_then (with_constant (with_const h (Some (constant_expecting t n))) r) (λ g. all_taken after g (const_op op.End ∷ rest))) (first_takes c h.spaces.globals t n e)
 
 type_back : (t u : ValType) (n : ℕ) (k : Option Constant) → of_type t (constant_expecting u n) ≡ Ok k → (t ≡ u) × (k ≡ Some (seen_of u n))
-type_back t u n k e = let c = cond_ok (same t u) (Some (seen_of u n)) k why.Mismatch e in (same_is t u c.0, sym c.1)
+type_back t u n k e = let c = cond_ok (same t u) (Some (seen_of u n)) k why.Mismatch e in (means t u c.0, sym c.1)
 
 global_back : (o : Option GlobalType) (t : ValType) (n : ℕ) (k : Option Constant) → of_global o (constant_expecting t n) ≡ Ok k → (o ≡ Some (record { ty = t; var = false })) × (k ≡ Some (seen_of t n))
 global_back None t n k e = absurd (cc)

@@ -3,13 +3,13 @@ use Rattle.std.proofs.Common.{◌≡◌, ℕ, Bool, true, false, List, [], ◌�
 use Rattle.std.specs.Prelude.{None as Nothing}
 use Rattle.std.proofs.lemmas.List.{append_cancel_left}
 use Rattle.wm_syntax.specs.Spelling.{Form, Byte, Each, ◌▸◌}
-use Rattle.wm_syntax.specs.Types.{SpellsU32, SpellsList, SpellsBlockType}
+use Rattle.wm_syntax.specs.Types.{SpellsU32, SpellsList, SpellsBlockType, block_byte}
 use Rattle.wm_syntax.specs.Opcodes.{opcode}
 use Rattle.wm_syntax.specs.OpClasses.{class_of, first_byte}
 use Rattle.wm_syntax.specs.exact.ByteTable.{classes}
 use Rattle.wm_syntax.specs.Instructions.{Instruction, Instructions, none, snoc, simple, table, block, loop, choice, SpellsInstruction, SpellsInstructions, SpellsExpression, SpellsElse}
 use Rattle.wm_syntax.specs.declared.types.ValType.{ValType}
-use Rattle.wm_syntax.proofs.SameTypes.{block_byte, block_tells}
+use Rattle.wm_syntax.proofs.SameTypes.{block_tells}
 use Rattle.wm_syntax.specs.declared.instructions.Simple.{Simple}
 use Rattle.wm_syntax.specs.declared.instructions.Simple.TheVariants as s
 use Rattle.wm_syntax.specs.declared.instructions.Op.{Op}
@@ -186,16 +186,10 @@ same_byte c a b u v p q e = (p ∙ sym q, tt)
 first_bytes : (c d : ℕ) (a b u v : List ℕ) → Byte c a → Byte d b → a ++ u ≡ b ++ v → c ≡ d
 first_bytes c d a b u v p q e = heads_same (ap (λ (z : List ℕ). z ++ u) (sym p) ∙ e ∙ ap (λ (z : List ℕ). z ++ v) q)
 
-block_bytes : (t : Option ValType) (a : List ℕ) → SpellsBlockType t a → a ≡ block_byte t ∷ []
-block_bytes Nothing a p = p
-block_bytes (Some t) a p = p
-
 same_block_type : (t t' : Option ValType) (a b u v : List ℕ) → SpellsBlockType t a → SpellsBlockType t' b → a ++ u ≡ b ++ v → (a ≡ b) × (t ≡ t')
 same_block_type t t' a b u v p q e =
-    let x = block_bytes t a p in
-    let y = block_bytes t' b q in
-    let same : block_byte t ≡ block_byte t' = first_bytes (block_byte t) (block_byte t') a b u v x y e in
-    (x ∙ ap (λ (n : ℕ). n ∷ []) same ∙ sym y, block_tells t t' same)
+    let same : block_byte t ≡ block_byte t' = first_bytes (block_byte t) (block_byte t') a b u v p q e in
+    (p ∙ ap (λ (n : ℕ). n ∷ []) same ∙ sym q, block_tells t t' same)
 
 -- a byte, a block type, and a form that is one already
 typed_same : (c : ℕ) (t t' : Option ValType) (P P' : Form ℕ) (E : Type 0) → ((a b u v : List ℕ) → P a → P' b → a ++ u ≡ b ++ v → (a ≡ b) × E)

@@ -1,10 +1,10 @@
--- Value types are told apart by their bytes, and block types too.
+-- Value types are told apart by their bytes, and so are block types.
 use Rattle.std.proofs.Common.{ℕ, ◌≡◌, Bool, true, false, Option, None, Some, refl, sym, ap, ◌∙◌, arith}
 use Rattle.std.specs.Prelude.{◌==◌, if◌then◌else◌}
 use Rattle.std.proofs.lemmas.Bool.Decides.{nat_tests}
 use Rattle.wm_syntax.specs.declared.types.ValType.{ValType}
 use Rattle.wm_syntax.specs.declared.types.ValType.TheVariants.{I32, I64}
-use Rattle.wm_syntax.specs.Types.{type_byte}
+use Rattle.wm_syntax.specs.Types.{block_byte, type_byte}
 use Rattle.wm_syntax.specs.Runs.{same}
 
 -- the type of a byte, and I32 of every other
@@ -35,11 +35,7 @@ differ t u n = of (same t u) refl
     of true e = absurd (n (means t u e))
     of false e = refl
 
--- a block type is told by its byte (section 5.3.2)
-abbrev pub block_byte : Option ValType → ℕ
-block_byte None = 0x40
-block_byte (Some t) = type_byte t
-
+-- block types too (section 5.3.2)
 no_type : (t : ValType) → 0x40 ≡ type_byte t → ⊥
 no_type I32 e = absurd (omega (arith, e))
 no_type I64 e = absurd (omega (arith, e))

@@ -6,6 +6,7 @@ use Rattle.wm_syntax.specs.declared.types.ValType.TheVariants.{I32, I64}
 use Rattle.wm_stacks.specs.declared.entries.Entry.{Entry}
 use Rattle.wm_stacks.specs.declared.entries.Entry.TheVariants.{I32 as Int32, I64 as Int64, Unknown}
 use Rattle.wm_stacks.specs.Stack.{fits}
+use Rattle.wm_syntax.proofs.SameTypes.{means}
 use Rattle.wm_typing.specs.Entries.{entry_of_type, join}
 use Rattle.wm_typing.specs.exact.Effects.{Effect, fixed, indirect, is_polymorphic, drops, selects, ill}
 use Rattle.wm_typing.specs.inner.Frames.{Pile, Stands}
@@ -51,10 +52,8 @@ known_agrees I32 = refl
 known_agrees I64 = refl
 
 known_only : (x t : ValType) → Agrees (entry_of_type x) t → t ≡ x
-known_only I32 I32 h = refl
-known_only I32 I64 h = cc
-known_only I64 I32 h = cc
-known_only I64 I64 h = refl
+known_only I32 t h = sym (means I32 t h)
+known_only I64 t h = sym (means I64 t h)
 
 pub known_law : (un : Bool) (es : List Entry) (xs ts : List ValType)
     → ((below : List ValType) × Stands un es below × (ts ≡ xs ++ below)) ↔ Stands un (map entry_of_type xs ++ es) ts
@@ -113,16 +112,18 @@ abbrev AgreesJoined : Option Entry → ValType → Type 0
 AgreesJoined None t = ⊥
 AgreesJoined (Some e) t = Agrees e t
 
+join_known : (x : ValType) (b : Entry) (t : ValType) (k : Bool) → fits b x ≡ k
+    → (Agrees (entry_of_type x) t × Agrees b t) ↔ AgreesJoined (cond k (Some (entry_of_type x)) None) t
+join_known x b t true e = (λ h. h.0, λ h. (h, subst (Agrees b) (sym (known_only x t h)) e))
+join_known x b t false e = (
+  λ h. (let f : fits b x ≡ true = subst (Agrees b) (known_only x t h.0) h.1 in let g : true ≡ false = sym f ∙ e in cc),
+  λ h. absurd h,
+)
+
 join_law : (a b : Entry) (t : ValType) → (Agrees a t × Agrees b t) ↔ AgreesJoined (join a b) t
 join_law Unknown b t = (λ h. h.1, λ h. (refl, h))
-join_law Int32 Unknown t = (λ h. h.0, λ h. (h, refl))
-join_law Int32 Int32 t = (λ h. h.0, λ h. (h, h))
-join_law Int32 Int64 I32 = (λ h. let e = h.1 in cc, λ h. absurd h)
-join_law Int32 Int64 I64 = (λ h. let e = h.0 in cc, λ h. absurd h)
-join_law Int64 Unknown t = (λ h. h.0, λ h. (h, refl))
-join_law Int64 Int32 I32 = (λ h. let e = h.0 in cc, λ h. absurd h)
-join_law Int64 Int32 I64 = (λ h. let e = h.1 in cc, λ h. absurd h)
-join_law Int64 Int64 t = (λ h. h.0, λ h. (h, h))
+join_law Int32 b t = join_known I32 b t (fits b I32) refl
+join_law Int64 b t = join_known I64 b t (fits b I64) refl
 
 joined_law : (un : Bool) (es : List Entry) (j : Option Entry) (ts : List ValType)
     → ((t : ValType) × (below : List ValType) × AgreesJoined j t × Stands un es below × (ts ≡ t ∷ below)) ↔ StandsAfter (joined un es j) ts

@@ -2,7 +2,7 @@
 use Rattle.std.proofs.Common.{ℕ, zero, suc, ◌≡◌, Bool, true, false, cond, List, [], ◌∷◌, ◌++◌, Option, Some, None, reverse, map, slice_get, option_to_list, sym, refl, ap, ◌∙◌, subst, append-nil, append_assoc, ◌↔◌}
 use Rattle.std.proofs.lemmas.List.{reverse-append, reverse-reverse}
 use Rattle.wm_syntax.specs.declared.types.ValType.{ValType}
-use Rattle.wm_syntax.specs.declared.types.ValType.TheVariants.{I32, I64}
+use Rattle.wm_syntax.specs.declared.types.ValType.TheVariants.{I32}
 use Rattle.wm_syntax.specs.declared.instructions.Simple.{Simple}
 use Rattle.wm_syntax.specs.declared.instructions.Op.{Op}
 use Rattle.wm_syntax.specs.declared.instructions.Op.TheVariants as op
@@ -12,7 +12,8 @@ use Rattle.wm_stacks.specs.declared.entries.FrameKind.TheVariants.{Func, Block, 
 use Rattle.wm_typing.specs.Typing.{Context, TypedInstruction, Typed}
 use Rattle.wm_typing.specs.OpenLists.{Head, head, Work, work, Place, open_at, within, complete, label_type, at, taken_by, FirstHolds, WorkCan, OpenCan, AllHave, CanType}
 use Rattle.wm_typing.specs.exact.Effects.{is_polymorphic, effect_of}
-use Rattle.wm_typing.specs.exact.Ops.{may_end, same_type, same_label, goes_with}
+use Rattle.wm_typing.specs.exact.Ops.{may_end, same_label, goes_with}
+use Rattle.wm_syntax.proofs.SameTypes.{means, reflexive}
 use Rattle.wm_typing.specs.inner.Frames.{Pile, Frames, running, in_table, ended, Stands, Reach, Meets, AllMeet, HasSeen, Holds}
 use Rattle.wm_typing.proofs.Effects.{shape, typed}
 use Rattle.wm_typing.proofs.FrameOperands.{Take, whole, floor, refused, take_types, apply}
@@ -327,25 +328,15 @@ table_law c s seen l t f ts all m = (
   ),
 )
 
-same_type_true : (t u : ValType) → same_type t u ≡ true → t ≡ u
-same_type_true I32 I32 h = refl
-same_type_true I32 I64 h = cc
-same_type_true I64 I32 h = cc
-same_type_true I64 I64 h = refl
-
 same_label_true : (t u : Option ValType) → same_label t u ≡ true → t ≡ u
 same_label_true None None h = refl
 same_label_true None (Some u) h = cc
 same_label_true (Some t) None h = cc
-same_label_true (Some t) (Some u) h = ap Some (same_type_true t u h)
-
-same_type_refl : (t : ValType) → same_type t t ≡ true
-same_type_refl I32 = refl
-same_type_refl I64 = refl
+same_label_true (Some t) (Some u) h = ap Some (means t u h)
 
 same_label_refl : (t : Option ValType) → same_label t t ≡ true
 same_label_refl None = refl
-same_label_refl (Some t) = same_type_refl t
+same_label_refl (Some t) = reflexive t
 
 -- the labels so far, with one more that goes with them
 seen_more : (hs : List Head) (seen : List ℕ) (l : ℕ) (known : Option (Option ValType)) (t : Option ValType)

@@ -17,7 +17,7 @@ use Rattle.wm_syntax.specs.declared.instructions.Simple.{Simple}
 use Rattle.wm_syntax.specs.declared.instructions.Simple.TheVariants.{Unreachable, Nop, Return, Drop, Select, Br, BrIf, Call, CallIndirect, LocalGet, LocalSet, LocalTee, GlobalGet, GlobalSet, MemorySize, MemoryGrow, I32Const, I64Const, Load, Store, Numeric}
 use Rattle.wm_syntax.specs.declared.instructions.Op.{Op}
 use Rattle.wm_syntax.specs.declared.instructions.Op.TheVariants as op
-use Rattle.wm_syntax.specs.Types.{Signature, type_byte, SpellsU32, SpellsList, SpellsName, SpellsValType, SpellsSignature, SpellsBounds, SpellsLimits, SpellsTableType, SpellsVar, SpellsGlobalType, SpellsBlockType}
+use Rattle.wm_syntax.specs.Types.{Signature, block_byte, type_byte, SpellsU32, SpellsList, SpellsName, SpellsValType, SpellsSignature, SpellsBounds, SpellsLimits, SpellsTableType, SpellsVar, SpellsGlobalType, SpellsBlockType}
 use Rattle.wm_syntax.specs.Instructions.{Instruction, Instructions, none, snoc, simple, table, block, loop, choice, SpellsSimple, SpellsOp, SpellsInstructions, instruction_ops, ops_of, else_ops}
 use Rattle.wm_syntax.specs.Modules.{IsU32, IsSimple, IsInstruction, AreInstructions, AreLimits, IsDesc, IsConst, IsModule, Module, Import, Function, GlobalDef, Export, Element, Segment, constant}
 use Rattle.wm_syntax.proofs.Spellings.{unsigned_spells, signed_spells}
@@ -26,8 +26,9 @@ use Rattle.wm_syntax.proofs.Flat.{spelled_by_ops}
 use Rattle.wm_decode.specs.Sections.{ListSection, StartSection, Customs, SpellsConst, SpellsDesc, SpellsImport, SpellsGlobal, SpellsExport, SpellsElement, SpellsRun, SpellsLocals, SpellsCode, SpellsSegment, SpellsModule, kind_byte}
 use Rattle.wm_syntax.specs.Modules.{locals_of}
 use Rattle.wm_decode.proofs.NameBytes.{utf8_bytes}
-use Rattle.wm_syntax.specs.Runs.{type_before, runs_of}
-use Rattle.wm_write.specs.Canon.{u32_bytes, block_byte, op_bytes, ops_bytes}
+use Rattle.wm_syntax.specs.Runs.{same, type_before, runs_of}
+use Rattle.wm_syntax.proofs.SameTypes.{means}
+use Rattle.wm_write.specs.Canon.{u32_bytes, op_bytes, ops_bytes}
 use Rattle.wm_write.specs.Canon.{listed, sized, value_type_bytes, signature_bytes, bounds_bytes, limits_bytes, table_bytes, var_byte, global_type_bytes, desc_bytes, import_bytes, constant_bytes, global_bytes, export_bytes, element_bytes, run_bytes, code_contents, code_bytes, segment_bytes, list_section, start_section, canon, Fits}
 
 -- numbers
@@ -68,8 +69,7 @@ simple_spells Select h = alone _
 simple_spells (Numeric o) h = alone _
 
 block_spells : (byte : ℕ) (t : Option ValType) → (Byte byte ▸ SpellsBlockType t) (byte ∷ block_byte t ∷ [])
-block_spells byte None = (byte ∷ [], 0x40 ∷ [], refl, refl, refl)
-block_spells byte (Some t) = (byte ∷ [], value_type_bytes t, refl, refl, refl)
+block_spells byte t = (byte ∷ [], block_byte t ∷ [], refl, refl, refl)
 
 -- an op whose numbers are in the ranges of their types
 abbrev IsOp : Op → Type 0
@@ -226,10 +226,11 @@ element_spells e h few =
 -- locals
 added : (t : ValType) (runs : List (ℕ × ValType)) → locals_of (type_before t runs) ≡ t ∷ locals_of runs
 added t [] = refl
-added I32 ((n, I32) ∷ runs) = let e : n + 1 ≡ suc n = omega arith in ap (λ k. replicate k I32 ++ locals_of runs) e
-added I32 ((n, I64) ∷ runs) = refl
-added I64 ((n, I32) ∷ runs) = refl
-added I64 ((n, I64) ∷ runs) = let e : n + 1 ≡ suc n = omega arith in ap (λ k. replicate k I64 ++ locals_of runs) e
+added t ((n, u) ∷ runs) = by (same t u) refl
+  where
+    by : (b : Bool) → same t u ≡ b → locals_of (cond b ((n + 1, t) ∷ runs) ((1, t) ∷ (n, u) ∷ runs)) ≡ t ∷ (replicate n u ++ locals_of runs)
+    by true e = let s : n + 1 ≡ suc n = omega arith in ap (λ k. replicate k t ++ locals_of runs) s ∙ ap (λ z. t ∷ (replicate n z ++ locals_of runs)) (means t u e)
+    by false e = refl
 
 pub expanded : (ts : List ValType) → locals_of (runs_of ts) ≡ ts
 expanded [] = refl

@@ -1,10 +1,12 @@
 -- No runs of the same locals are shorter than the maximal ones.
-use Rattle.std.proofs.Common.{ℕ, zero, suc, ◌+◌, ◌-◌, ◌/◌, ◌≡◌, ◌<◌, ◌≤◌, List, [], ◌∷◌, ◌++◌, length, refl, ◌∙◌, ap, arith, length-append, inl, inr, replicate, flat_map, ◌⊎◌}
+use Rattle.std.proofs.Common.{ℕ, zero, suc, ◌+◌, ◌-◌, ◌/◌, ◌≡◌, ◌<◌, ◌≤◌, List, [], ◌∷◌, ◌++◌, length, Bool, true, false, cond, refl, sym, ◌∙◌, ap, arith, length-append, inl, inr, replicate, flat_map, ◌⊎◌}
 use Rattle.std.proofs.lemmas.Bool.{cases_lt}
 use Rattle.wm_syntax.specs.Leb128.{unsigned_bytes}
 use Rattle.wm_syntax.specs.declared.types.ValType.{ValType}
 use Rattle.wm_syntax.specs.declared.types.ValType.TheVariants.{I32, I64}
-use Rattle.wm_syntax.specs.Runs.{type_before, runs_of}
+use Rattle.wm_syntax.specs.Runs.{same, type_before, runs_of}
+use Rattle.wm_syntax.proofs.RunLists.{before_same}
+use Rattle.wm_syntax.proofs.SameTypes.{means}
 use Rattle.wm_write.specs.Canon.{u32_bytes}
 use Rattle.wm_syntax.proofs.NumberLoops.{last_byte, more_bytes}
 use Rattle.wm_syntax.specs.Modules.{locals_of}
@@ -76,14 +78,14 @@ Joined n t rest runs =
 
 one_joined : (t : ValType) (rest : List (ℕ × ValType)) → Joined 1 t rest (type_before t rest)
 one_joined t [] = inl refl
-one_joined I32 ((k, I32) ∷ more) = inr (k, more, refl, refl)
-one_joined I32 ((k, I64) ∷ more) = inl refl
-one_joined I64 ((k, I32) ∷ more) = inl refl
-one_joined I64 ((k, I64) ∷ more) = inr (k, more, refl, refl)
+one_joined t ((k, u) ∷ more) = by (same t u) refl
+  where
+    by : (b : Bool) → same t u ≡ b → Joined 1 t ((k, u) ∷ more) (cond b ((k + 1, t) ∷ more) ((1, t) ∷ (k, u) ∷ more))
+    by true e = inr (k, more, ap (λ z. (k, z) ∷ more) (sym (means t u e)), refl)
+    by false e = inl refl
 
 grown : (t : ValType) (n : ℕ) (more : List (ℕ × ValType)) → type_before t ((n, t) ∷ more) ≡ (n + 1, t) ∷ more
-grown I32 n more = refl
-grown I64 n more = refl
+grown t n more = before_same t n more
 
 next_joined : (n : ℕ) (t : ValType) (rest runs : List (ℕ × ValType)) → Joined n t rest runs → Joined (suc n) t rest (type_before t runs)
 next_joined n t rest runs (inl e) = let s : n + 1 ≡ suc n = omega arith in inl (ap (type_before t) e ∙ grown t n rest ∙ ap (λ j. (j, t) ∷ rest) s)

@@ -13,12 +13,12 @@ use Rattle.wm_syntax.specs.declared.instructions.Simple.{Simple}
 use Rattle.wm_syntax.specs.declared.instructions.Simple.TheVariants.{Unreachable, Nop, Return, Drop, Select, Br, BrIf, Call, CallIndirect, LocalGet, LocalSet, LocalTee, GlobalGet, GlobalSet, MemorySize, MemoryGrow, I32Const, I64Const, Load, Store, Numeric}
 use Rattle.wm_syntax.specs.declared.instructions.Op.TheVariants as op
 use Rattle.wm_syntax.specs.Runs.{runs_of}
-use Rattle.wm_syntax.specs.Types.{Signature, SpellsU32, SpellsList, SpellsBytes, SpellsName, SpellsValType, SpellsSignature, SpellsBounds, SpellsLimits, SpellsTableType, SpellsVar, SpellsGlobalType, SpellsBlockType}
+use Rattle.wm_syntax.specs.Types.{block_byte, Signature, SpellsU32, SpellsList, SpellsBytes, SpellsName, SpellsValType, SpellsSignature, SpellsBounds, SpellsLimits, SpellsTableType, SpellsVar, SpellsGlobalType, SpellsBlockType}
 use Rattle.wm_syntax.specs.Instructions.{Instruction, Instructions, none, snoc, simple, table, block, loop, choice, SpellsSimple, SpellsElse, SpellsInstruction, SpellsInstructions, SpellsExpression, instruction_ops, ops_of, else_ops}
 use Rattle.wm_syntax.specs.Modules.{Module, Import, Function, GlobalDef, Export, Element, Segment, constant, constant_body}
 use Rattle.wm_syntax.proofs.Spellings.{shortest_is_least, signed_is_least, unsigned_range}
 use Rattle.wm_decode.specs.Sections.{Customs, ListSection, StartSection, header, SpellsConst, SpellsDesc, SpellsImport, SpellsGlobal, SpellsExport, SpellsElement, SpellsRun, SpellsLocals, SpellsCode, SpellsSegment, SpellsModule, kind_byte}
-use Rattle.wm_write.specs.Canon.{u32_bytes, block_byte, op_bytes, ops_bytes, listed, sized, value_type_bytes, signature_bytes, bounds_bytes, limits_bytes, table_bytes, global_type_bytes, desc_bytes, import_bytes, constant_bytes, global_bytes, export_bytes, element_bytes, run_bytes, code_contents, code_bytes, segment_bytes, list_section, start_section, canon, Fits, NoLonger, HasShortestSections}
+use Rattle.wm_write.specs.Canon.{u32_bytes, op_bytes, ops_bytes, listed, sized, value_type_bytes, signature_bytes, bounds_bytes, limits_bytes, table_bytes, global_type_bytes, desc_bytes, import_bytes, constant_bytes, global_bytes, export_bytes, element_bytes, run_bytes, code_contents, code_bytes, segment_bytes, list_section, start_section, canon, Fits, NoLonger, HasShortestSections}
 use Rattle.wm_syntax.proofs.NumberLoops.{short}
 use Rattle.wm_write.proofs.LeastRuns.{least_locals, number_rises}
 
@@ -120,8 +120,7 @@ instruction Select = byte_alone _
 instruction (Numeric o) = byte_alone _
 
 block_type : (t : Option ValType) → NoLonger (block_byte t ∷ []) (SpellsBlockType t)
-block_type None = exactly (0x40 ∷ [])
-block_type (Some t) = exactly (value_type_bytes t)
+block_type t = exactly (block_byte t ∷ [])
 
 equal : (a c : List ℕ) (P : Form ℕ) → a ≡ c → NoLonger c P → NoLonger a P
 equal a c P e f b h = omega (arith, ap length e, f b h)

@@ -10,8 +10,8 @@ use Rattle.wm_syntax.specs.Modules.{Import, Function, GlobalDef, Export, Element
 use Rattle.wm_syntax.specs.Opcodes.{opcode}
 use Rattle.wm_syntax.specs.Runs.{runs_of}
 use Rattle.wm_syntax.specs.Spelling.{Form}
-use Rattle.wm_syntax.specs.Types.{Signature, type_byte, SpellsU32, SpellsList, SpellsSignature, SpellsLimits}
-use Rattle.wm_syntax.specs.Types.{SpellsTableType}
+use Rattle.wm_syntax.specs.Types.{Signature, block_byte, type_byte, SpellsU32, SpellsList, SpellsSignature}
+use Rattle.wm_syntax.specs.Types.{SpellsLimits, SpellsTableType}
 use Rattle.wm_syntax.specs.declared.instructions.Op.TheVariants as op
 use Rattle.wm_syntax.specs.declared.instructions.Op.{Op}
 use Rattle.wm_syntax.specs.declared.instructions.Simple.TheVariants.{Br, BrIf, Call, CallIndirect, LocalGet}
@@ -35,11 +35,6 @@ s32_bytes z = signed_bytes 5 z
 
 abbrev pub s64_bytes : ℤ → List ℕ
 s64_bytes z = signed_bytes 10 z
-
--- a block type (section 5.3.2)
-abbrev pub block_byte : Option ValType → ℕ
-block_byte None = 0x40
-block_byte (Some t) = type_byte t
 
 -- what follows the byte of an instruction (sections 5.4.1 to 5.4.5)
 abbrev pub immediates : Simple → List ℕ

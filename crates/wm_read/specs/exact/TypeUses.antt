@@ -2,7 +2,7 @@
 use Rattle.std.specs.Prelude.{ℕ, suc, ◌&&◌, ◌||◌, List, [], ◌∷◌, ◌++◌, Bool, true, false, Option, Some, None}
 use Rattle.std.specs.Prelude.{if◌then◌else◌, length, codes, flat_map, map, slice_get}
 use Rattle.wm_syntax.specs.declared.types.ValType.{ValType}
-use Rattle.wm_syntax.specs.declared.types.ValType.TheVariants.{I32, I64}
+use Rattle.wm_syntax.specs.Runs.{same}
 use Rattle.wm_syntax.specs.Types.{Signature}
 use Rattle.wm_read.specs.Tokens.{Token, open_paren, atom}
 use Rattle.wm_syntax.specs.inner.Building.{tree_of}
@@ -29,15 +29,9 @@ begins_group word _ = false
 unfoldable pub groups_at : List ℕ → Reader (List (List ValType))
 groups_at word k = many_at (suc (length k)) (begins_group word) (paren_at word types_at) k
 
-abbrev pub same_type : ValType → ValType → Bool
-same_type I32 I32 = true
-same_type I64 I64 = true
-same_type I32 I64 = false
-same_type I64 I32 = false
-
 abbrev pub same_types : List ValType → List ValType → Bool
 same_types [] [] = true
-same_types (t ∷ ts) (u ∷ us) = same_type t u && same_types ts us
+same_types (t ∷ ts) (u ∷ us) = same t u && same_types ts us
 same_types [] (u ∷ us) = false
 same_types (t ∷ ts) [] = false
 

@@ -4,7 +4,8 @@
 use Rattle.std.specs.Prelude.{◌-◌, Bool, true, false, List, [], ◌∷◌, Option, Some, None, Result, Ok, Err}
 use Rattle.std.specs.Prelude.{reverse, map, slice_get, option_to_list, nat_eq, if◌then◌else◌}
 use Rattle.wm_syntax.specs.declared.types.ValType.{ValType}
-use Rattle.wm_syntax.specs.declared.types.ValType.TheVariants.{I32, I64}
+use Rattle.wm_syntax.specs.declared.types.ValType.TheVariants.{I32}
+use Rattle.wm_syntax.specs.Runs.{same}
 use Rattle.wm_syntax.specs.declared.instructions.Op.{Op}
 use Rattle.wm_syntax.specs.declared.instructions.Op.TheVariants as op
 use Rattle.wm_syntax.specs.declared.instructions.Simple.{Simple}
@@ -131,17 +132,11 @@ abbrev pub with_table : Option BrTable → Result Stack Why → Result BodyState
 with_table t (Err w) = Err w
 with_table t (Ok s) = Ok (record { stacks = s; table = t })
 
-abbrev pub same_type : ValType → ValType → Bool
-same_type I32 I32 = true
-same_type I32 I64 = false
-same_type I64 I32 = false
-same_type I64 I64 = true
-
 abbrev pub same_label : Option ValType → Option ValType → Bool
 same_label None None = true
 same_label None (Some u) = false
 same_label (Some t) None = false
-same_label (Some t) (Some u) = same_type t u
+same_label (Some t) (Some u) = same t u
 
 abbrev pub goes_with : Option (Option ValType) → Option ValType → Bool
 goes_with None t = true

@@ -1,12 +1,12 @@
 //! Instructions in bytes, by the shortest numbers (section 5.4).
 
 ghost use Rattle.std.specs.Prelude.{◌≡◌, ◌++◌, ◌∷◌, [], length, ◌≤◌, ◌+◌};
-ghost use Rattle.wm_write.specs.Canon.{block_byte, desc_bytes, global_type_bytes, limits_bytes, immediates};
+ghost use Rattle.wm_write.specs.Canon.{desc_bytes, global_type_bytes, limits_bytes, immediates};
 ghost use Rattle.wm_write.specs.Canon.{op_bytes, u32_bytes};
 ghost use Rattle.wm_decode.specs.Sections.{kind_byte};
 ghost use Rattle.wm_syntax.specs.Leb128.{signed_bytes};
 ghost use Rattle.wm_syntax.specs.Modules.{constant};
-ghost use Rattle.wm_syntax.specs.Types.{type_byte};
+ghost use Rattle.wm_syntax.specs.Types.{block_byte, type_byte};
 ghost use Rattle.wm_syntax.specs.Opcodes.{opcode};
 
 use wm_syntax::chunk::Chunk;
