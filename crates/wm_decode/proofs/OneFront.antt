@@ -13,7 +13,6 @@ use Rattle.wm_syntax.specs.declared.profile.Profile.{Profile}
 use Rattle.wm_syntax.specs.declared.types.ValType.{ValType}
 use Rattle.wm_syntax.specs.Types.{block_byte}
 use Rattle.wm_syntax.proofs.SameTypes.{block_tells}
-use Rattle.wm_syntax.specs.declared.types.ValType.TheVariants.{I32, I64}
 use Rattle.wm_syntax.specs.OpClasses.{class_of, first_byte}
 use Rattle.wm_syntax.specs.Opcodes.{opcode}
 use Rattle.wm_syntax.specs.Spelling.{Form, Byte as OneByte, ◌▸◌}

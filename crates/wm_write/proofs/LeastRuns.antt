@@ -3,7 +3,6 @@ use Rattle.std.proofs.Common.{ℕ, zero, suc, ◌+◌, ◌-◌, ◌/◌, ◌≡�
 use Rattle.std.proofs.lemmas.Bool.{cases_lt}
 use Rattle.wm_syntax.specs.Leb128.{unsigned_bytes}
 use Rattle.wm_syntax.specs.declared.types.ValType.{ValType}
-use Rattle.wm_syntax.specs.declared.types.ValType.TheVariants.{I32, I64}
 use Rattle.wm_syntax.specs.Runs.{same, type_before, runs_of}
 use Rattle.wm_syntax.proofs.RunLists.{before_same}
 use Rattle.wm_syntax.proofs.SameTypes.{means}
