@@ -266,30 +266,33 @@ def in_groups(crate, left, flags):
     return said
 
 
-def must_fail_all(crate, edits, flags):
+def must_fail_all(crate, edits, _):
     """What each edit came to, and what to say of it. Where the crate as it stands is not proved over the kept work, before or
     after, each is tried from nothing."""
+    if not edits:
+        return []
+    flags = ["--jobs", str(max(1, rt.processors() // 2))]
     ran = check_a_copy(crate, {}, flags, kept_of(crate))
     left = placed(crate, edits, re.findall(r"(?m)^fn (\S+): proved", ran.stdout))
     said, tried = {} if ran.returncode else in_groups(crate, left, flags), []
     for edit in edits:
         label = f"must-fail {crate.name}/{os.path.basename(edit)}"
         if edit in said:
-            tried.append((rt.REFUSED, f"{label}: refused, as it must be: {said[edit][:160]}"))
+            tried.append((REFUSED, f"{label}: refused, as it must be: {said[edit][:160]}"))
         else:
             tried.append(rt.must_fail(crate, edit, flags, kept_of(crate)))
     words = only({it for *_, names in left for it in names})
     is_sound = not ran.returncode and not check_a_copy(crate, {}, [*flags, *words], kept_of(crate)).returncode
-    return [it if is_sound and it[0] in rt.SETTLED else from_nothing(crate, edit, flags) for edit, it in zip(edits, tried)]
+    return [it if is_sound and it[0] in SETTLED else from_nothing(crate, edit, flags) for edit, it in zip(edits, tried)]
 
 
 def add_edits(tasks, crate, edits, first, waits, is_well, kept):
     """One task for all edits of a crate, after its proof and its tests, over whose work they are tried. Returns what gives their results, and those of
     earlier runs: there are none."""
-    key, jobs = (crate.name, "edits"), max(1, rt.processors() // 2)
+    key = crate.name, "edits"
 
     def call(given, _):
-        return must_fail_all(crate, edits, ["--jobs", str(jobs)]) if edits and is_well(given, len(edits)) else []
+        return must_fail_all(crate, edits, []) if edits and is_well(given, len(edits)) else []
 
     tasks[key] = [*waits, *first], crate.count(rb"\n") * len(edits), rt.need(crate), call
     return (lambda given: given[key]), dict
@@ -371,7 +374,10 @@ def main():
 
 
 guarded_by_the_kit, checked_by_the_kit, lanes_of_the_kit, run_by_the_kit = rtlib.guarded, rt.checked, rt.in_lanes, rt.run
-rt.Crate, rt.checked, rt.add_edits, rt.in_lanes, rt.run = Crate, check_a_copy, add_edits, in_lanes, run
+rt.Crate, rt.checked, rt.in_lanes, rt.run = Crate, check_a_copy, in_lanes, run
+# of an edit kit 13b says whether it was refused, and 13f what it came to
+REFUSED, SETTLED = getattr(rt, "REFUSED", True), getattr(rt, "SETTLED", (True,))
+rt.must_fail_all, rt.add_edits = must_fail_all, add_edits
 # what `rt ci` passed on this machine is no part of this run, nor this run's of a later one's
 rt.STORE = f"{ROOM.name}/store"
 rtlib.guarded = guarded
