@@ -21,7 +21,7 @@ use Rattle.wm_decode.specs.Items.{Item, data_byte}
 use Rattle.wm_decode.specs.Sinks.{Taken, all_taken, and_then}
 use Rattle.wm_decode.specs.exact.Steps.{step_of, machine_in_member}
 use Rattle.wm_decode.specs.exact.MemberSteps.{data_or_over}
-use Rattle.wm_decode.specs.exact.Live.{IsAt, IsRefused, MayRunOutAtByte, MayRunOutAtEvent, decoder_after, live_or_refused, refusal_in_machine}
+use Rattle.wm_decode.specs.exact.Live.{IsAt, IsRefused, MayRunOutAtByte, decoder_after, live_or_refused, refusal_in_machine}
 use Rattle.wm_decode.specs.exact.Indices.{GaveEach, before_index, index_item_in, indices_after}
 use Rattle.wm_decode.specs.exact.ShortSteps.{PartMayRunOut, StepsTo, after_stepped, part_event, part_taken, standing}
 use Rattle.wm_decode.specs.exact.Shortcuts.{Advances, live_so}

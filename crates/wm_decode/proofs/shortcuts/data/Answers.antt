@@ -1,6 +1,5 @@
-use Rattle.std.proofs.Common.{◌≡◌, ◌-◌, ap, arith, refl, sym, ◌∙◌}
+use Rattle.std.proofs.Common.{◌-◌, ap, arith, refl, ◌∙◌}
 use Rattle.wm_decode.specs.declared.machine.Machine.TheVariants as machine
-use Rattle.wm_decode.specs.declared.machine.member.InMember.TheVariants as at
 use Rattle.wm_decode.specs.exact.Live.{refusal_in_machine}
 use Rattle.wm_decode.specs.exact.Steps.{machine_in_member}
 use Rattle.wm_decode.proofs.Advances.{advances_by, advances_data, advances_data_end, advances_data_out}

@@ -1,4 +1,4 @@
-use Rattle.std.proofs.Common.{◌≡◌, ◌++◌, Err, Some, List, ℕ, [], ap, arith, sym, ◌∙◌}
+use Rattle.std.proofs.Common.{◌++◌, Err, Some, List, ℕ, [], ap, arith, sym, ◌∙◌}
 use Rattle.wm_decode.proofs.Advances.{taken_moved, taken_stopped, taken_room}
 use Rattle.wm_decode.proofs.decoder.state.Decoder.take_shortcut.Goals as goal
 
