@@ -336,8 +336,9 @@ module _ {H : Type 0} (after : H → Item → Result H Why) (s : Setting H) (nam
       let said = marks s.profile (state_of after s.profile s.limit Starts) b in
       (items_at said, sym (given_taken after said s.first) ∙ q.held)
 
-  pub on_byte : (b : List ℕ) (r : Refusal) → AreBytes b → Decoded b ≡ Err r → Meaning s.limit b r
-  on_byte b r bytes e =
+  -- whatever comes after these bytes
+  pub on_byte : (b more : List ℕ) (r : Refusal) → AreBytes b → Decoded b ≡ Err r → Meaning s.limit (b ++ more) r
+  on_byte b more r bytes e =
       let low : Starts.at ≤ s.limit = omega arith in
       let u = used_of after s.profile s.limit b Starts r low e in
       let used : List ℕ = u.used ++ u.byte ∷ [] in
@@ -346,18 +347,18 @@ module _ {H : Type 0} (after : H → Item → Result H Why) (s : Setting H) (nam
       let place : r.at ≡ length used = omega (arith, u.at) in
       record {
         used = used;
-        rest = u.rest;
-        whole = u.bytes;
+        rest = u.rest ++ more;
+        whole = ap (λ y. y ++ more) u.bytes ∙ append_assoc used u.rest more;
         at = place;
         means = go u used place (q.live (λ i. i)) (framed u.used u.before so_far u.taken) (held_so u.used u.before u.taken) (cause after s.profile s.limit u.before u.byte r u.refused);
       }
     where
       go : (u : Used after s.profile s.limit Starts b r) (used : List ℕ) → r.at ≡ length (u.used ++ u.byte ∷ []) → (IsRefused u.before.machine → ⊥) → Framed u.before.machine u.used
-          → ((parts : List Item) × (all_taken after s.first parts ≡ Ok u.before.held)) → Cause after s.profile s.limit u.before u.byte r → Means s.limit (u.used ++ u.byte ∷ []) u.rest r.why
-      go u used place live f parts (too_long at w) = subst (λ y. Means s.limit (u.used ++ u.byte ∷ []) u.rest y) (sym w) (sym place ∙ at)
-      go u used place live f parts (by_text w) = subst (λ y. Means s.limit (u.used ++ u.byte ∷ []) u.rest y) (sym w) tt
-      go u used place live f parts (by_step m) = by_machine s.limit (u.used ++ u.byte ∷ []) u.rest r.why (step_says s.profile u.before.machine u.byte u.used live f r.why m)
-      go u used place live f parts (by_item x e) = by_rule s.limit (u.used ++ u.byte ∷ []) u.rest r.why (names parts.0 u.before.held x r.why parts.1 e)
+          → ((parts : List Item) × (all_taken after s.first parts ≡ Ok u.before.held)) → Cause after s.profile s.limit u.before u.byte r → Means s.limit (u.used ++ u.byte ∷ []) (u.rest ++ more) r.why
+      go u used place live f parts (too_long at w) = subst (λ y. Means s.limit (u.used ++ u.byte ∷ []) (u.rest ++ more) y) (sym w) (sym place ∙ at)
+      go u used place live f parts (by_text w) = subst (λ y. Means s.limit (u.used ++ u.byte ∷ []) (u.rest ++ more) y) (sym w) tt
+      go u used place live f parts (by_step m) = by_machine s.limit (u.used ++ u.byte ∷ []) (u.rest ++ more) r.why (step_says s.profile u.before.machine u.byte u.used live f r.why m)
+      go u used place live f parts (by_item x e) = by_rule s.limit (u.used ++ u.byte ∷ []) (u.rest ++ more) r.why (names parts.0 u.before.held x r.why parts.1 e)
 
   at_end : (m : Machine) (h : H) (at : ℕ) (b : List ℕ) (r : Refusal) → (IsRefused m → ⊥) → Fits m → Framed m b → answer_at_end_of m h at ≡ Err r → Means s.limit b [] r.why
   at_end m h at b r live fit f e = go m live fit f e
@@ -395,7 +396,7 @@ module _ {H : Type 0} (after : H → Item → Result H Why) (s : Setting H) (nam
   whole_input input r bytes e = go (Decoded input) refl e
     where
       go : (x : Result (Live H) Refusal) → Decoded input ≡ x → and_then x answer_at_end ≡ Err r → Meaning s.limit input r
-      go (Err t) is e = let same : t ≡ r = cc (e) in on_byte input r bytes (is ∙ ap Err same)
+      go (Err t) is e = let same : t ≡ r = cc (e) in subst (λ y. Meaning s.limit y r) (append-nil input) (on_byte input [] r bytes (is ∙ ap Err same))
       go (Ok l) is e =
           let q = reached after s.profile s.limit input Starts l is in
           record {
