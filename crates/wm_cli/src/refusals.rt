@@ -31,10 +31,10 @@ pub const OF_MODULES: &str = "\
         and 10 for 64.\n\
     BadUtf8 | A name is not UTF-8; its last byte decides. | 5.2.4 | `00 02 01 80`: refused at 12 | \
         Write names in UTF-8.\n\
-    BadByte | Another byte must stand here: the form of a function type, a value type, a kind, a \
-        flag, or a `00` at the end of an instruction. | 5.3, 5.4, 5.5 | `01 02 01 00`: refused at 12 | \
-        Often a feature past 1.0, as reference types, shared memories or several memories. Switch it \
-        off.\n\
+    BadByte | Another byte must stand here: the form of a function type, a value type, a block \
+        type, the element type `70`, a kind, a flag, or a `00` at the end of an instruction. | 5.3, \
+        5.4, 5.5 | `01 02 01 00`: refused at 12 | Often a feature past 1.0, as reference types, shared \
+        memories or several memories. Switch it off.\n\
     Float | A floating-point type or instruction. | 5.3.1, 5.4 | `06 02 01 7D`: refused at 12 | The \
         module is not wrong, but wmod reads integer instructions only. Keep `f32` and `f64` out.\n\
     BadOpcode | No instruction of the profile begins with this byte. | 5.4 | `06 04 01 7F 00 06`: \
@@ -48,8 +48,9 @@ pub const OF_MODULES: &str = "\
         14 | Correct the two numbers.\n\
     Second | A second table or a second memory, imported ones counted. | 3.4.10 | `05 05 02 00 00 \
         00 00`: refused at 15 | Keep one of each.\n\
-    DuplicateExport | Two exports have the same name; its last byte decides. | 3.4.10 | `05 03 01 \
-        00 00 07 07 02 00 02 00 00`: refused at 20 | Rename one of them.\n\
+    DuplicateExport | Two exports have the same name. The last byte of the second one decides; \
+        where it is empty, the last byte of its length. | 3.4.10 | `05 03 01 00 00 07 07 02 00 02 00 \
+        00`: refused at 20 | Rename one of them.\n\
     StartType | The start function has a parameter or a result. | 3.4.7 | `01 05 01 60 00 01 7F 03 \
         02 01 00 08 01 00`: refused at 22 | Start at a function of type [] to [].\n\
     NotConst | An instruction that a constant expression cannot hold, or a `global.get` of a global \
@@ -62,12 +63,13 @@ pub const OF_MODULES: &str = "\
         01 60 00 00 03 02 01 00 05 03 01 00 00 0A 06 01 04 00 28 03 00`: refused at 31 | An alignment \
         is written as a power of two: at most 0, 1, 2 or 3 for 1, 2, 4 or 8 bytes.\n\
     Type | An operand, a label or a constant has another type than is wanted, or an `if` with a \
-        result has no `else`. | 3.3 | `06 06 01 7F 00 42 00`: refused at 15 | Correct the instruction, \
-        or the type that is declared.\n\
+        result has no `else`. Operands are looked at from the top down: a wrong one above a missing one \
+        is `Type`. | 3.3 | `06 06 01 7F 00 42 00`: refused at 15 | Correct the instruction, or the type \
+        that is declared.\n\
     Arity | There are too few or too many values: an operand is missing, operands are left at an \
-        end, a constant expression is not one instruction, or a function type has two results. | 3.2.2, \
-        3.3 | `06 04 01 7F 00 0B`: refused at 14 | Drop what is left, or push what is missing. For two \
-        results switch multi-value off.\n\
+        `else` or an `end`, a constant expression is not one instruction, or a function type has two or \
+        more results, whose count decides. | 3.2.2, 3.3 | `06 04 01 7F 00 0B`: refused at 14 | Drop \
+        what is left, or push what is missing. For two results switch multi-value off.\n\
     ElsePlace | An `else` outside the first branch of an `if`. | 5.4.1 | `01 04 01 60 00 00 03 02 \
         01 00 0A 04 01 02 00 05`: refused at 24 | Give each `if` one `else` at most.\n\
     BodyEnd | A function body does not fill its size exactly. | 5.5.13 | `01 04 01 60 00 00 03 02 \

@@ -28,12 +28,18 @@ IsLive (machine.Header n) = ⊥
 IsLive (machine.Refused w) = ⊥
 IsLive m = Unit {0}
 
+abbrev pub IsInSection : Machine → Type 0
+IsInSection (machine.Header n) = ⊥
+IsInSection (machine.Between last functions) = ⊥
+IsInSection (machine.Refused w) = ⊥
+IsInSection m = Unit {0}
+
 abbrev pub IsHeader : Machine → Type 0
 IsHeader (machine.Header n) = Unit {0}
 IsHeader m = ⊥
 
 module _ (P : Machine → Type 0) (live : (m : Machine) → IsLive m → P m) (end : P (machine.Refused why.SectionEnd)) (number : P (machine.Refused why.BadNumber))
-    (id : P (machine.Refused why.SectionId)) (order : P (machine.Refused why.SectionOrder)) (count : P (machine.Refused why.CodeCount)) where
+    (count : P (machine.Refused why.CodeCount)) where
   by_number : (q : Step ℕ × Partial) (more : Partial → Machine) (done : ℕ → Machine × Event) → ((s : Partial) → P (more s)) → ((n : ℕ) → P (done n).0) → P (on_number q more done machine.Refused).0
   by_number (More, s) more done a b = a s
   by_number (Done n, s) more done a b = b n
@@ -113,14 +119,6 @@ module _ (P : Machine → Type 0) (live : (m : Machine) → IsLive m → P m) (e
   begun_out section_kind.Element functions = live (machine.Size section_kind.Element functions fresh) tt
   begun_out section_kind.Code functions = live (machine.Size section_kind.Code functions fresh) tt
 
-  rising_out : (last functions i : ℕ) (of : Option SectionKind) → P (machine_if_rising last functions i of).0
-  rising_out last functions i None = id
-  rising_out last functions i (Some of) = cond_both (nat_le i last) _ _ (λ (q : Machine × Event). P q.0) (λ _. order) (λ _. begun_out of functions)
-
-  start_out : (last functions c : ℕ) → P (section_start last functions c).0
-  start_out last functions zero = live (machine.CustomSize last functions fresh) tt
-  start_out last functions (suc m) = rising_out last functions (suc m) (section_kind_of (suc m))
-
   sized_out : (of : SectionKind) (functions more : ℕ) → P (machine_in_contents of functions more)
   sized_out section_kind.Start functions more = live (machine.Section section_kind.Start functions more 0 (member_at_start section_kind.Start)) tt
   sized_out section_kind.Type functions more = live (machine.Count section_kind.Type functions more fresh) tt
@@ -141,13 +139,35 @@ module _ (P : Machine → Type 0) (live : (m : Machine) → IsLive m → P m) (e
   not_length : (r : Partial) (w : Why) → custom.Length r ≡ custom.Failed w → P (machine.Refused w)
   not_length r w e = cc
 
+  -- in a section: no id comes there
+  pub step_in : (p : Profile) (m : Machine) (c : ℕ) → IsInSection m
+      → ((q : InCustom) (w : Why) → (custom_step q c).0 ≡ custom.Failed w → P (machine.Refused w)) → ((q : InMember) (w : Why) → (member_step p q c).0 ≡ at.Failed w → P (machine.Refused w)) → P (step_of p m c).0
+  step_in p (machine.CustomSize last functions r) c i a b = by_number (unsigned_push 32 r c) (λ s. machine.CustomSize last functions s) (λ n. (custom_size last functions n, event.Nothing)) (λ s. live (machine.CustomSize last functions s) tt) (λ n. custom_out last functions n (custom.Length fresh) (not_length fresh))
+  step_in p (machine.Custom last functions more q) c i a b = custom_out last functions more (custom_step q c).0 (a q)
+  step_in p (machine.Size of functions r) c i a b = by_number (unsigned_push 32 r c) (λ s. machine.Size of functions s) (λ n. (after_size of functions n, event.Nothing)) (λ s. live (machine.Size of functions s) tt) (λ n. size_out of functions n)
+  step_in p (machine.Count of functions more r) c i a b = count_out of functions more (unsigned_push 32 r c)
+  step_in p (machine.Section of functions more left q) c i a b = framed_out of functions more left (member_step p q c).0 (b q)
+  step_in p (machine.Header n) c i a b = absurd i
+  step_in p (machine.Between last functions) c i a b = absurd i
+  step_in p (machine.Refused w) c i a b = absurd i
+
+module _ (P : Machine → Type 0) (live : (m : Machine) → IsLive m → P m) (end : P (machine.Refused why.SectionEnd)) (number : P (machine.Refused why.BadNumber))
+    (id : P (machine.Refused why.SectionId)) (order : P (machine.Refused why.SectionOrder)) (count : P (machine.Refused why.CodeCount)) where
+  rising_out : (last functions i : ℕ) (of : Option SectionKind) → P (machine_if_rising last functions i of).0
+  rising_out last functions i None = id
+  rising_out last functions i (Some of) = cond_both (nat_le i last) _ _ (λ (q : Machine × Event). P q.0) (λ _. order) (λ _. begun_out P live end number count of functions)
+
+  start_out : (last functions c : ℕ) → P (section_start last functions c).0
+  start_out last functions zero = live (machine.CustomSize last functions fresh) tt
+  start_out last functions (suc m) = rising_out last functions (suc m) (section_kind_of (suc m))
+
   pub step_out : (p : Profile) (m : Machine) (c : ℕ) → (IsHeader m → ⊥) → ((w : Why) → m ≡ machine.Refused w → P (machine.Refused w))
       → ((q : InCustom) (w : Why) → (custom_step q c).0 ≡ custom.Failed w → P (machine.Refused w)) → ((q : InMember) (w : Why) → (member_step p q c).0 ≡ at.Failed w → P (machine.Refused w)) → P (step_of p m c).0
   step_out p (machine.Header n) c past same a b = absurd (past tt)
   step_out p (machine.Between last functions) c past same a b = start_out last functions c
-  step_out p (machine.CustomSize last functions r) c past same a b = by_number (unsigned_push 32 r c) (λ s. machine.CustomSize last functions s) (λ n. (custom_size last functions n, event.Nothing)) (λ s. live (machine.CustomSize last functions s) tt) (λ n. custom_out last functions n (custom.Length fresh) (not_length fresh))
-  step_out p (machine.Custom last functions more q) c past same a b = custom_out last functions more (custom_step q c).0 (a q)
-  step_out p (machine.Size of functions r) c past same a b = by_number (unsigned_push 32 r c) (λ s. machine.Size of functions s) (λ n. (after_size of functions n, event.Nothing)) (λ s. live (machine.Size of functions s) tt) (λ n. size_out of functions n)
-  step_out p (machine.Count of functions more r) c past same a b = count_out of functions more (unsigned_push 32 r c)
-  step_out p (machine.Section of functions more left q) c past same a b = framed_out of functions more left (member_step p q c).0 (b q)
+  step_out p (machine.CustomSize last functions r) c past same a b = step_in P live end number count p (machine.CustomSize last functions r) c tt a b
+  step_out p (machine.Custom last functions more q) c past same a b = step_in P live end number count p (machine.Custom last functions more q) c tt a b
+  step_out p (machine.Size of functions r) c past same a b = step_in P live end number count p (machine.Size of functions r) c tt a b
+  step_out p (machine.Count of functions more r) c past same a b = step_in P live end number count p (machine.Count of functions more r) c tt a b
+  step_out p (machine.Section of functions more left q) c past same a b = step_in P live end number count p (machine.Section of functions more left q) c tt a b
   step_out p (machine.Refused w) c past same a b = same w refl

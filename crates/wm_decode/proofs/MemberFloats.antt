@@ -292,3 +292,26 @@ component_float = component_fault why.Float IsFloatByte (λ w i e. subst IsOther
 
 pub component_memory : (c : ℕ) (p : Profile) (q : InMember) → (member_step p q c).0 ≡ at.Failed why.Memory → ⊥
 component_memory = component_fault why.Memory (λ c. ⊥) (λ w i e. subst IsOther e i) (λ c e h. cc)
+
+abbrev pub IsMemberName : Why → Type 0
+IsMemberName why.Float = Unit {0}
+IsMemberName w = IsOther w
+
+never : (refusal : Why) → (IsMemberName refusal → ⊥) → why.Float ≡ refusal → ⊥
+never refusal differs e = differs (subst IsMemberName e tt)
+
+others : (refusal : Why) → (IsMemberName refusal → ⊥) → (w : Why) → IsOther w → w ≡ refusal → ⊥
+others refusal differs w i e = differs (subst IsMemberName e (named w i))
+  where
+    named : (w : Why) → IsOther w → IsMemberName w
+    named why.Float i = tt
+    named why.BadNumber i = i
+    named why.BadByte i = i
+    named why.BadOpcode i = i
+    named why.BodyEnd i = i
+    named why.SectionEnd i = i
+    named w i = i
+
+-- a member fails by one of these names alone
+pub member_name : (refusal : Why) → (IsMemberName refusal → ⊥) → (c : ℕ) (p : Profile) (q : InMember) → (member_step p q c).0 ≡ at.Failed refusal → ⊥
+member_name refusal differs c = component_fault refusal (λ c. ⊥) (others refusal differs) (λ c e h. never refusal differs e) c

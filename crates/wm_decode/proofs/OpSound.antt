@@ -146,11 +146,14 @@ some_op p (at.Const64 r) h = (const_64_op (last_signed r (pos 0)), 0 ∷ [], (la
 some_op p (at.Align a r) h = (at_offset a r.low 0, 0 ∷ 0 ∷ [], (r.low, 0 ∷ [], 0 ∷ [], refl, last_byte r h.0, (0, refl, fresh_last)))
 some_op p (at.Offset a n r) h = (at_offset a n r.low, 0 ∷ [], (r.low, refl, last_byte r h.0))
 
--- A name that the machine gives, whatever the byte: neither Float nor Memory.
+-- The names by which an op or a member fails, whatever the byte. Float is none: it has bytes of its own.
 abbrev pub IsOther : Why → Type 0
-IsOther why.Float = ⊥
-IsOther why.Memory = ⊥
-IsOther w = Unit {0}
+IsOther why.BadNumber = Unit {0}
+IsOther why.BadByte = Unit {0}
+IsOther why.BadOpcode = Unit {0}
+IsOther why.BodyEnd = Unit {0}
+IsOther why.SectionEnd = Unit {0}
+IsOther w = ⊥
 
 same_bad : (v w : Why) → ◌≡◌ {A = Reading InOp Op} (Bad v) (Bad w) → v ≡ w
 same_bad v w e = cc

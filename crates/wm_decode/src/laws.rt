@@ -1,6 +1,6 @@
 //! Laws of the definitions, as the contracts of functions that do nothing.
 
-ghost use Rattle.std.specs.Prelude.{◌≡◌, ◌+◌, ◌≤◌, ◌++◌, ℕ, List, length, map};
+ghost use Rattle.std.specs.Prelude.{◌≡◌, ◌+◌, ◌≤◌, ◌++◌, Err, ℕ, List, length, map};
 ghost use Rattle.wm_syntax.specs.declared.profile.Profile.{Profile};
 ghost use Rattle.wm_syntax.specs.declared.profile.Profile.TheVariants.{Two};
 ghost use Rattle.wm_syntax.specs.Spelling.{AreBytes};
@@ -11,6 +11,10 @@ ghost use Rattle.wm_decode.specs.Items.{Marks, data_byte, items_at};
 ghost use Rattle.wm_decode.specs.Sections.{SpellsModule};
 ghost use Rattle.wm_decode.specs.Sinks.{all_taken, and_then};
 ghost use Rattle.wm_decode.specs.Grammar.{Items};
+ghost use Rattle.wm_decode.specs.Decoding.{Setting};
+ghost use Rattle.wm_decode.specs.Meanings.{GivesRuleNames, Meaning};
+ghost use Rattle.wm_decode.specs.declared.refusal.Refusal.{Refusal};
+ghost use Rattle.wm_decode.specs.inner.Decoders.{answer_of};
 ghost use Rattle.wm_decode.specs.Fronts.{IsFront, entry_bytes, inside_bytes, outside_bytes};
 
 use crate::sink::Sink;
@@ -86,4 +90,12 @@ pub fn input_is_bytes()
 /// No bytes spell two modules (section 5.5.15).
 pub fn one_spelling_one_module()
     ensures { (m n : ModuleValue) (b : List ℕ) → SpellsModule m b → SpellsModule n b → m ≡ n }
+{}
+
+/// What the name of a refusal says of the bytes up to its place, over each sink that gives the names of rules
+/// alone. So the names of the format are the decoder's own.
+pub fn format_names_mean<S: Sink>()
+    ensures { (s : Setting S.Held) (input : List ℕ) (r : Refusal) → AreBytes input
+        → GivesRuleNames S.after s.first
+        → answer_of S.after s input ≡ Err r → Meaning s.limit input r }
 {}

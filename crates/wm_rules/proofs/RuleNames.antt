@@ -1,4 +1,4 @@
--- The checker never gives the name Float: the steps of a body, then each item.
+-- The checker gives only the names of rules: the steps of a body, then each item.
 use Rattle.std.proofs.Common.{◌≡◌, ◌+◌, ◌-◌, ◌^◌, ℕ, List, [], ◌∷◌, ◌++◌, Bool, true, false, cond, Option, Some, None, Result, Ok, Err, reverse, replicate, length, slice_get, option_to_list, subst, sym, ◌∙◌, ap, refl}
 use Rattle.std.specs.Prelude.{nat_le, nat_lt, nat_eq}
 use Rattle.wm_syntax.specs.declared.types.ValType.{ValType}
@@ -38,6 +38,7 @@ use Rattle.wm_typing.specs.Probes.{probes_in}
 use Rattle.wm_typing.specs.declared.body_checker.Progress.{Progress}
 use Rattle.wm_typing.specs.declared.body_checker.Progress.TheVariants.{Inside, Ended}
 use Rattle.wm_decode.specs.Items.{Item, new_type, param, result_count, one_result, import_module, import_name, import_desc, function, table, memory, global, const_op, export_name, export, start, element, element_function, body, locals, body_op, segment, data_byte}
+use Rattle.wm_decode.specs.Meanings.{IsRuleName}
 use Rattle.wm_decode.specs.Sinks.{all_taken, and_then}
 use Rattle.wm_rules.specs.declared.constants.Constant.{Constant}
 use Rattle.wm_rules.specs.exact.Constants.{constant_after, first_only, of_global, of_type, visible}
@@ -47,14 +48,10 @@ use Rattle.wm_rules.specs.exact.Checking.{after, body_begun, constant_begun, emp
 use Rattle.wm_rules.proofs.OutsideBodies.{IsOutside, part_calm}
 use Rattle.wm_rules.proofs.MemberFolds.{ok_then}
 
-abbrev IsOther : Why → Type 0
-IsOther why.Float = ⊥
-IsOther _ = Unit {0}
-
--- an answer that is not this name
+-- a refusal, if any, by one of these names
 abbrev Other : {A : Type 0} → Result A Why → Type 0
 Other (Ok x) = Unit {0}
-Other (Err w) = IsOther w
+Other (Err w) = IsRuleName w
 
 both : {A : Type 0} (b : Bool) (x y : Result A Why) → Other x → Other y → Other (cond b x y)
 both true x y p q = p
@@ -133,14 +130,14 @@ select_other Whole s =
     (λ a y. on_other (take_any y) (λ b x. push_joined (join a b) x) (any_other y) (λ b x. joined_other (join a b) x))
 
 abbrev OtherShape : Effect → Type 0
-OtherShape (ill w) = IsOther w
+OtherShape (ill w) = IsRuleName w
 OtherShape _ = Unit {0}
 
 item_shape : {X : Type 0} (o : Option X) (f : X → Effect) → ((x : X) → OtherShape (f x)) → OtherShape (with_item o f)
 item_shape None f h = tt
 item_shape (Some x) f h = h x
 
-true_shape : (w : Why) → IsOther w → (b : Bool) (s : Effect) → OtherShape s → OtherShape (where_true w b s)
+true_shape : (w : Why) → IsRuleName w → (b : Bool) (s : Effect) → OtherShape s → OtherShape (where_true w b s)
 true_shape w i true s h = h
 true_shape w i false s h = i
 
@@ -457,5 +454,5 @@ all_kept (x ∷ items) h g e n =
     all_kept items s.0 g s.2 (part_kept h s.0 x s.1 n)
 
 -- whatever items it has taken
-pub never_float : (items : List Item) (h : Held) (x : Item) → all_taken after empty_checker items ≡ Ok h → after h x ≡ Err why.Float → ⊥
-never_float items h x t e = subst Other e (part_other h x (all_kept items empty_checker h t refl))
+pub rule_names : (items : List Item) (h : Held) (x : Item) (w : Why) → all_taken after empty_checker items ≡ Ok h → after h x ≡ Err w → IsRuleName w
+rule_names items h x w t e = subst Other e (part_other h x (all_kept items empty_checker h t refl))

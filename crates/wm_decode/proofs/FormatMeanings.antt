@@ -1,0 +1,408 @@
+-- What the names of the format say of the bytes up to the place of a refusal.
+use Rattle.std.proofs.Common.{◌≡◌, ◌≢◌, ℕ, zero, suc, ◌+◌, ◌<◌, ◌≤◌, ◌⊎◌, inl, inr, List, [], ◌∷◌, ◌++◌, Option, Some, None, Result, Ok, Err, length, take, refl, sym, ◌∙◌, ap, subst, arith, append_assoc, append-nil, length-append, nat_eq, nat_lt, nat_le}
+use Rattle.std.proofs.lemmas.Bool.{cond_both, ltb-true, ltb-false, leb-true, eqb-false}
+use Rattle.std.specs.Prelude.{slice_index}
+use Rattle.std.specs.Str.{is_utf8}
+use Rattle.wm_syntax.specs.declared.profile.Profile.{Profile}
+use Rattle.wm_syntax.specs.declared.why.Why.{Why}
+use Rattle.wm_syntax.specs.declared.why.Why.TheVariants as why
+use Rattle.wm_syntax.specs.declared.numbers.Step.{Step}
+use Rattle.wm_syntax.specs.declared.numbers.Step.TheVariants.{More, Done, Bad}
+use Rattle.wm_syntax.specs.inner.Numbers.{Partial}
+use Rattle.wm_syntax.specs.exact.Reading.{unsigned_push}
+use Rattle.wm_syntax.specs.Spelling.{AreBytes}
+use Rattle.wm_syntax.specs.Types.{SpellsU32}
+use Rattle.wm_decode.specs.declared.refusal.Refusal.{Refusal}
+use Rattle.wm_decode.specs.declared.machine.NameKind.{NameKind}
+use Rattle.wm_decode.specs.declared.machine.InCustom.{InCustom}
+use Rattle.wm_decode.specs.declared.machine.InCustom.TheVariants as custom
+use Rattle.wm_decode.specs.declared.machine.Machine.{Machine}
+use Rattle.wm_decode.specs.declared.machine.Machine.TheVariants as machine
+use Rattle.wm_decode.specs.declared.machine.Event.{Event}
+use Rattle.wm_decode.specs.declared.machine.Event.TheVariants as event
+use Rattle.wm_decode.specs.declared.machine.member.SectionKind.{SectionKind}
+use Rattle.wm_decode.specs.declared.machine.member.SectionKind.TheVariants as section_kind
+use Rattle.wm_decode.specs.declared.machine.member.InMember.{InMember}
+use Rattle.wm_decode.specs.declared.machine.member.InMember.TheVariants as at
+use Rattle.wm_decode.specs.Decoding.{Setting}
+use Rattle.wm_decode.specs.Items.{Item, data_byte, items_at}
+use Rattle.wm_decode.specs.Sections.{header}
+use Rattle.wm_decode.specs.Sinks.{and_then, all_taken}
+use Rattle.wm_decode.specs.exact.Members.{id_of, section_kind_of}
+use Rattle.wm_decode.specs.exact.MemberSteps.{on_number, member_step}
+use Rattle.wm_decode.specs.exact.Runs.{name_item, plain_item, marks, MachineState, state_at_start}
+use Rattle.wm_decode.specs.exact.Steps.{begun_section, machine_if_rising, section_start, header_step, custom_step, custom_after_length, step_of}
+use Rattle.wm_decode.specs.exact.Live.{effect_of_maybe, name_taken, event_effect, Live, live_or_refused, live_from, live_byte, decoder_after, live_at_start, answer_at_end_of, answer_at_end, IsRefused}
+use Rattle.wm_decode.specs.inner.Decoders.{answer_of}
+use Rattle.wm_decode.specs.Meanings.{RawSection, WrongInHeader, WrongId, IsUnknown, IsLate, HasFrom, EndsInSection, Means, Meaning, IsRuleName, GivesRuleNames}
+use Rattle.wm_decode.proofs.ByteLists.{front_bytes}
+use Rattle.wm_decode.proofs.OpSound.{HasRoom, last_byte}
+use Rattle.wm_decode.proofs.OpenMembers.{zeros, zeros_length}
+use Rattle.wm_decode.proofs.MemberFloats.{IsMemberName, member_name}
+use Rattle.wm_decode.proofs.AfterTheHeader.{IsInSection, IsLive, step_in}
+use Rattle.wm_decode.proofs.MachineStates.{Fits, run_fits, IsNamed, component_named}
+use Rattle.wm_decode.proofs.MachineAndSink.{given_taken, used_of, Used, reached, state_of, begin_fits}
+use Rattle.wm_decode.proofs.FramedBytes.{Past, AtSize, InContents, Framed, run_framed}
+
+-- what the machine says where it refuses a byte, which is the last of these
+abbrev MachineSays : List ℕ → Why → Type 0
+MachineSays used why.Magic = WrongInHeader 0 4 used
+MachineSays used why.Version = WrongInHeader 4 8 used
+MachineSays used why.SectionId = WrongId IsUnknown used
+MachineSays used why.SectionOrder = WrongId IsLate used
+MachineSays used why.CodeCount = Unit {0}
+MachineSays used why.BadUtf8 = Unit {0}
+MachineSays used w = IsMemberName w
+
+header_length : (n : ℕ) → n < 8 → length (take n header) ≡ n
+header_length zero l = refl
+header_length (suc zero) l = refl
+header_length (suc (suc zero)) l = refl
+header_length (suc (suc (suc zero))) l = refl
+header_length (suc (suc (suc (suc zero)))) l = refl
+header_length (suc (suc (suc (suc (suc zero))))) l = refl
+header_length (suc (suc (suc (suc (suc (suc zero)))))) l = refl
+header_length (suc (suc (suc (suc (suc (suc (suc zero))))))) l = refl
+header_length (suc (suc (suc (suc (suc (suc (suc (suc n)))))))) l = absurd (omega (arith, l))
+
+last_id : (of : SectionKind) → id_of of ≤ 11
+last_id section_kind.Type = omega arith
+last_id section_kind.Import = omega arith
+last_id section_kind.Function = omega arith
+last_id section_kind.Table = omega arith
+last_id section_kind.Memory = omega arith
+last_id section_kind.Global = omega arith
+last_id section_kind.Export = omega arith
+last_id section_kind.Start = omega arith
+last_id section_kind.Element = omega arith
+last_id section_kind.Code = omega arith
+last_id section_kind.Segment = omega arith
+
+module _ (used : List ℕ) where
+  abbrev Says : Machine → Type 0
+  Says m = (w : Why) → m ≡ machine.Refused w → MachineSays used w
+
+  by_name : (v : Why) → MachineSays used v → Says (machine.Refused v)
+  by_name v h w e = let same : v ≡ w = cc in subst (MachineSays used) same h
+
+  lives : (m : Machine) → IsLive m → Says m
+  lives (machine.Refused v) i w e = absurd i
+  lives (machine.Header n) i w e = absurd i
+  lives (machine.Between last functions) i w e = absurd (cc)
+  lives (machine.CustomSize last functions r) i w e = absurd (cc)
+  lives (machine.Custom last functions more q) i w e = absurd (cc)
+  lives (machine.Size of functions r) i w e = absurd (cc)
+  lives (machine.Count of functions more r) i w e = absurd (cc)
+  lives (machine.Section of functions more left q) i w e = absurd (cc)
+
+  -- the names of a member
+  of_member : (w : Why) → IsMemberName w → MachineSays used w
+  of_member why.Float i = tt
+  of_member why.BadNumber i = tt
+  of_member why.BadByte i = tt
+  of_member why.BadOpcode i = tt
+  of_member why.BodyEnd i = tt
+  of_member why.SectionEnd i = tt
+  of_member why.Magic i = absurd i
+  of_member why.Version i = absurd i
+  of_member why.SectionId i = absurd i
+  of_member why.SectionOrder i = absurd i
+  of_member why.CodeCount i = tt
+  of_member why.BadUtf8 i = tt
+  of_member w i = i
+
+  is_name : (w : Why) → (IsMemberName w) ⊎ (IsMemberName w → ⊥)
+  is_name why.Float = inl tt
+  is_name why.BadNumber = inl tt
+  is_name why.BadByte = inl tt
+  is_name why.BadOpcode = inl tt
+  is_name why.BodyEnd = inl tt
+  is_name why.SectionEnd = inl tt
+  is_name w = inr (λ i. i)
+
+  member_says : (p : Profile) (c : ℕ) (q : InMember) (w : Why) → (member_step p q c).0 ≡ at.Failed w → MachineSays used w
+  member_says p c q w e = elim (is_name w) [ inl i ↦ of_member w i | inr differs ↦ absurd (member_name w differs c p q e) ]
+
+  custom_says : (c : ℕ) (q : InCustom) (w : Why) → (custom_step q c).0 ≡ custom.Failed w → MachineSays used w
+  custom_says c (custom.Length r) w e = go (unsigned_push 32 r c) e
+    where
+      go : (q : Step ℕ × Partial) → (on_number q custom.Length custom_after_length custom.Failed).0 ≡ custom.Failed w → MachineSays used w
+      go (More, s) e = absurd (cc)
+      go (Done zero, s) e = absurd (cc)
+      go (Done (suc n), s) e = absurd (cc)
+      go (Bad, s) e = let same : why.BadNumber ≡ w = cc in subst (MachineSays used) same tt
+  custom_says c (custom.Name zero) w e = absurd (cc)
+  custom_says c (custom.Name (suc n)) w e = absurd (cc)
+  custom_says c custom.Skip w e = absurd (cc)
+  custom_says c (custom.Failed v) w e = let same : why.SectionEnd ≡ w = cc in subst (MachineSays used) same tt
+
+  -- at an id
+  begun_says : (of : SectionKind) (functions : ℕ) → Says (begun_section of functions).0
+  begun_says section_kind.Segment zero w e = absurd (cc)
+  begun_says section_kind.Segment (suc n) w e = by_name why.CodeCount tt w e
+  begun_says section_kind.Type functions w e = absurd (cc)
+  begun_says section_kind.Import functions w e = absurd (cc)
+  begun_says section_kind.Function functions w e = absurd (cc)
+  begun_says section_kind.Table functions w e = absurd (cc)
+  begun_says section_kind.Memory functions w e = absurd (cc)
+  begun_says section_kind.Global functions w e = absurd (cc)
+  begun_says section_kind.Export functions w e = absurd (cc)
+  begun_says section_kind.Start functions w e = absurd (cc)
+  begun_says section_kind.Element functions w e = absurd (cc)
+  begun_says section_kind.Code functions w e = absurd (cc)
+
+late_from : (id last : ℕ) (xs : List RawSection) → 0 < id → id ≤ last → ((last ≡ 0) ⊎ HasFrom last xs) → HasFrom id xs
+late_from id last xs some l (inl e) = absurd (omega (arith, some, l, e))
+late_from id last xs some l (inr h) = record { before = h.before; one = h.one; after = h.after; whole = h.whole; from = let f = h.from in omega (arith, l, f) }
+
+rising_says : (last functions id : ℕ) (q : Option SectionKind) (b : List ℕ) → 0 < id → IsNamed id q → Past last b → Says (b ++ id ∷ []) (machine_if_rising last functions id q).0
+rising_says last functions id None b some named h =
+    by_name (b ++ id ∷ []) why.SectionId (record { sections = h.sections; front = b; id = id; whole = refl; before = h.spelled; wrong = named })
+rising_says last functions id (Some of) b some named h =
+    cond_both (nat_le id last) _ _ (λ (q : Machine × Event). Says (b ++ id ∷ []) q.0)
+    (λ a. by_name (b ++ id ∷ []) why.SectionOrder (record {
+      sections = h.sections;
+      front = b;
+      id = id;
+      whole = refl;
+      before = h.spelled;
+      wrong = (some, (let l = last_id of in omega (arith, l, named)), late_from id last h.sections some (leb-true id last a) h.seen);
+    }))
+    (λ _. begun_says (b ++ id ∷ []) of functions)
+
+start_says : (last functions c : ℕ) (b : List ℕ) → Past last b → Says (b ++ c ∷ []) (section_start last functions c).0
+start_says last functions zero b h = λ w e. absurd (cc)
+start_says last functions (suc m) b h = rising_says last functions (suc m) (section_kind_of (suc m)) b (omega arith) (component_named m) h
+
+-- in the header
+header_says : (n c : ℕ) (b : List ℕ) → n < 8 → b ≡ take n header → Says (b ++ c ∷ []) (header_step n c).0
+header_says n c b low e =
+    let used : List ℕ = b ++ c ∷ [] in
+    let P : Machine × Event → Type 0 = λ q. Says used q.0 in
+    let long : length b ≡ n = ap length e ∙ header_length n low in
+    let right : b ≡ take (length b) header = e ∙ ap (λ i. take i header) (sym long) in
+    cond_both (nat_lt n 8) _ _ P
+    (λ _. cond_both (nat_eq c (slice_index header n)) _ _ P
+    (λ _. cond_both (nat_lt n 7) _ _ P (λ _ w i. absurd (cc)) (λ _ w i. absurd (cc)))
+    (λ ne.
+    let wrong : c ≢ slice_index header (length b) = λ s. eqb-false c (slice_index header n) ne (s ∙ ap (slice_index header) long) in
+    cond_both (nat_lt n 4) _ _ P
+    (λ a. by_name used why.Magic (record { front = b; byte = c; whole = refl; right = right; at_least = omega arith; before = let l = ltb-true n 4 a in omega (arith, l, long); wrong = wrong }))
+    (λ a. by_name used why.Version (record { front = b; byte = c; whole = refl; right = right; at_least = let l = ltb-false n 4 a in omega (arith, l, long); before = omega (arith, low, long); wrong = wrong }))))
+    (λ a. absurd (let l = ltb-false n 8 a in omega (arith, low, l)))
+
+section_says : (p : Profile) (m : Machine) (c : ℕ) (used : List ℕ) → IsInSection m → Says used (step_of p m c).0
+section_says p m c used i =
+    step_in (Says used) (lives used) (by_name used why.SectionEnd tt) (by_name used why.BadNumber tt) (by_name used why.CodeCount tt) p m c i
+    (λ q w e. by_name used w (custom_says used c q w e)) (λ q w e. by_name used w (member_says used p c q w e))
+
+step_says : (p : Profile) (m : Machine) (c : ℕ) (b : List ℕ) → (IsRefused m → ⊥) → Framed m b → Says (b ++ c ∷ []) (step_of p m c).0
+step_says p (machine.Header n) c b live f = header_says n c b f.0 f.1
+step_says p (machine.Between last functions) c b live f = start_says last functions c b f
+step_says p (machine.Refused w) c b live f = absurd (live tt)
+step_says p (machine.CustomSize last functions r) c b live f = section_says p (machine.CustomSize last functions r) c (b ++ c ∷ []) tt
+step_says p (machine.Custom last functions more q) c b live f = section_says p (machine.Custom last functions more q) c (b ++ c ∷ []) tt
+step_says p (machine.Size of functions r) c b live f = section_says p (machine.Size of functions r) c (b ++ c ∷ []) tt
+step_says p (machine.Count of functions more r) c b live f = section_says p (machine.Count of functions more r) c (b ++ c ∷ []) tt
+step_says p (machine.Section of functions more left q) c b live f = section_says p (machine.Section of functions more left q) c (b ++ c ∷ []) tt
+
+-- the names that a sink gives are none of these
+by_rule : (limit : ℕ) (used rest : List ℕ) (w : Why) → IsRuleName w → Means limit used rest w
+by_rule limit used rest why.Magic i = absurd i
+by_rule limit used rest why.Version i = absurd i
+by_rule limit used rest why.SectionId i = absurd i
+by_rule limit used rest why.SectionOrder i = absurd i
+by_rule limit used rest why.Truncated i = absurd i
+by_rule limit used rest why.TooLong i = absurd i
+by_rule limit used rest w i = tt
+
+by_machine : (limit : ℕ) (used rest : List ℕ) (w : Why) → MachineSays used w → Means limit used rest w
+by_machine limit used rest why.Magic h = h
+by_machine limit used rest why.Version h = h
+by_machine limit used rest why.SectionId h = h
+by_machine limit used rest why.SectionOrder h = h
+by_machine limit used rest why.Truncated h = absurd h
+by_machine limit used rest why.TooLong h = absurd h
+by_machine limit used rest w h = tt
+
+zeros_some : (n : ℕ) → zeros (suc n) ≡ [] → ⊥
+zeros_some n e = let l : length (zeros (suc n)) ≡ 0 = ap length e in omega (arith, l, zeros_length (suc n))
+
+cut_size : (last id : ℕ) (r : Partial) (b : List ℕ) → HasRoom 32 r → AtSize last id r b → EndsInSection b
+cut_size last id r b room h =
+    let past = h.past in
+    let more : List ℕ = 0 ∷ zeros r.low in
+    let number : SpellsU32 r.low (h.begun ++ 0 ∷ []) = (h.number.same r.low 0 []).1 (last_byte r room.0) in
+    record {
+      sections = past.sections;
+      front = h.front;
+      begun = id ∷ h.begun;
+      missing = more;
+      last = record { id = id; contents = zeros r.low };
+      whole = h.whole;
+      before = past.spelled;
+      some = λ e. cc;
+      more = λ e. cc;
+      section = (id ∷ [], h.begun ++ more, refl, refl, (h.begun ++ 0 ∷ [], zeros r.low, sym (append_assoc h.begun (0 ∷ []) (zeros r.low)), subst (λ n. SpellsU32 n (h.begun ++ 0 ∷ [])) (sym (zeros_length r.low)) number, refl));
+    }
+
+cut_contents : (last id more : ℕ) (b : List ℕ) → InContents last id (suc more) b → EndsInSection b
+cut_contents last id more b h =
+    let past = h.past in
+    let rest : List ℕ = zeros (suc more) in
+    let same : h.n ≡ length (h.contents ++ rest) = let r = h.room in omega (arith, r, length-append h.contents rest, zeros_length (suc more)) in
+    record {
+      sections = past.sections;
+      front = h.front;
+      begun = id ∷ (h.size ++ h.contents);
+      missing = rest;
+      last = record { id = id; contents = h.contents ++ rest };
+      whole = h.whole;
+      before = past.spelled;
+      some = λ e. cc;
+      more = zeros_some more;
+      section = (id ∷ [], (h.size ++ h.contents) ++ rest, refl, refl, (h.size, h.contents ++ rest, append_assoc h.size h.contents rest, subst (λ n. SpellsU32 n h.size) same h.number, refl));
+    }
+
+module _ {H : Type 0} (after : H → Item → Result H Why) (p : Profile) (limit : ℕ) where
+  -- why a byte was refused
+  data Cause (l : Live H) (c : ℕ) (r : Refusal) : Type 0 where
+    too_long : r.at ≡ limit + 1 → r.why ≡ why.TooLong → Cause l c r
+    by_step : (step_of p l.machine c).0 ≡ machine.Refused r.why → Cause l c r
+    by_text : r.why ≡ why.BadUtf8 → Cause l c r
+    by_item : (x : Item) → after l.held x ≡ Err r.why → Cause l c r
+
+  abbrev Effects : H → Why → Type 0
+  Effects h w = (w ≡ why.BadUtf8) ⊎ ((x : Item) × (after h x ≡ Err w))
+
+  then_err : {B : Type 0} (r : Result H Why) (f : H → B) (w : Why) → and_then r (λ g. Ok (f g)) ≡ Err w → r ≡ Err w
+  then_err (Ok x) f w e = absurd (cc)
+  then_err (Err v) f w e = let same : v ≡ w = cc in ap Err same
+
+  maybe_err : (x : Option Item) (h : H) (w : Why) → effect_of_maybe after x h ≡ Err w → Effects h w
+  maybe_err None h w e = absurd (cc)
+  maybe_err (Some x) h w e = inr (x, e)
+
+  name_err : (kind : NameKind) (text : List ℕ) (h : H) (w : Why) → name_taken after kind text h ≡ Err w → Effects h w
+  name_err kind text h w = cond_both (is_utf8 text) _ _ (λ (r : Result H Why). r ≡ Err w → Effects h w)
+      (λ _ e. maybe_err (name_item kind text) h w e)
+      (λ _ e. inl (let same : why.BadUtf8 ≡ w = cc in sym same))
+
+  effect_err : (e : Event) (name : List ℕ) (c : ℕ) (h : H) (w : Why) → event_effect after e name c h ≡ Err w → Effects h w
+  effect_err event.Nothing name c h w i = absurd (cc)
+  effect_err (event.Complete q) name c h w i = inr (plain_item q, then_err (after h (plain_item q)) (λ g. ([], g)) w i)
+  effect_err event.DataByte name c h w i = inr (data_byte c, then_err (after h (data_byte c)) (λ g. ([], g)) w i)
+  effect_err event.InName name c h w i = absurd (cc)
+  effect_err (event.EndsName kind) name c h w i = name_err kind (name ++ c ∷ []) h w (then_err (name_taken after kind (name ++ c ∷ []) h) (λ g. ([], g)) w i)
+  effect_err (event.EmptyName kind) name c h w i = maybe_err (name_item kind []) h w (then_err (effect_of_maybe after (name_item kind []) h) (λ g. ([], g)) w i)
+
+  stands_err : (m : Machine) (name : List ℕ) (h : H) (at : ℕ) (r : Refusal) → live_or_refused m name h at ≡ Err r → m ≡ machine.Refused r.why
+  stands_err (machine.Refused w) name h at r e = let s : record { at = at; why = w } ≡ r = cc in ap (λ (y : Refusal). machine.Refused y.why) s
+  stands_err m name h at r e = absurd (cc)
+
+  from_err : (m : Machine) (at : ℕ) (q : Result (List ℕ × H) Why) (r : Refusal) → live_from m at q ≡ Err r → (m ≡ machine.Refused r.why) ⊎ (q ≡ Err r.why)
+  from_err m at (Ok x) r e = inl (stands_err m x.0 x.1 at r e)
+  from_err m at (Err w) r e = let s : record { at = at; why = w } ≡ r = cc in inr (ap (λ (y : Refusal). Err y.why) s)
+
+  cause : (l : Live H) (c : ℕ) (r : Refusal) → live_byte after p limit l c ≡ Err r → Cause l c r
+  cause l c r = cond_both (nat_lt l.at limit) _ _ (λ (q : Result (Live H) Refusal). q ≡ Err r → Cause l c r)
+      (λ _ e. elim (from_err (step_of p l.machine c).0 (l.at + 1) (event_effect after (step_of p l.machine c).1 l.name c l.held) r e) [
+        | inl m ↦ by_step m
+        | inr g ↦ elim (effect_err (step_of p l.machine c).1 l.name c l.held r.why g) [ inl b ↦ by_text b | inr x ↦ by_item x.0 x.1 ]
+      ])
+      (λ _ e. let s : record { at = limit + 1; why = why.TooLong } ≡ r = cc in too_long (sym (ap (λ (y : Refusal). y.at) s)) (sym (ap (λ (y : Refusal). y.why) s)))
+
+module _ {H : Type 0} (after : H → Item → Result H Why) (s : Setting H) (names : GivesRuleNames after s.first) where
+  abbrev Starts : Live H
+  Starts = live_at_start s.first
+
+  abbrev Decoded : List ℕ → Result (Live H) Refusal
+  Decoded b = decoder_after after s.profile s.limit Starts b
+
+  framed : (b : List ℕ) (l : Live H) → AreBytes b → Decoded b ≡ Ok l → Framed l.machine b
+  framed b l bytes e =
+      let q = reached after s.profile s.limit b Starts l e in
+      let f = run_framed s.profile state_at_start [] b bytes (omega arith, refl) in
+      subst (λ (m : MachineState). Framed m.machine b) (sym q.state) f
+
+  fits : (b : List ℕ) (l : Live H) → AreBytes b → Decoded b ≡ Ok l → Fits l.machine
+  fits b l bytes e =
+      let q = reached after s.profile s.limit b Starts l e in
+      subst (λ (m : MachineState). Fits m.machine) (sym q.state) (run_fits s.profile state_at_start b bytes begin_fits)
+
+  held_so : (b : List ℕ) (l : Live H) → Decoded b ≡ Ok l → (parts : List Item) × (all_taken after s.first parts ≡ Ok l.held)
+  held_so b l e =
+      let q = reached after s.profile s.limit b Starts l e in
+      let said = marks s.profile (state_of after s.profile s.limit Starts) b in
+      (items_at said, sym (given_taken after said s.first) ∙ q.held)
+
+  -- whatever comes after these bytes
+  pub on_byte : (b more : List ℕ) (r : Refusal) → AreBytes b → Decoded b ≡ Err r → Meaning s.limit (b ++ more) r
+  on_byte b more r bytes e =
+      let low : Starts.at ≤ s.limit = omega arith in
+      let u = used_of after s.profile s.limit b Starts r low e in
+      let used : List ℕ = u.used ++ u.byte ∷ [] in
+      let so_far : AreBytes u.used = front_bytes u.used (u.byte ∷ []) (front_bytes used u.rest (subst AreBytes u.bytes bytes)) in
+      let q = reached after s.profile s.limit u.used Starts u.before u.taken in
+      let place : r.at ≡ length used = omega (arith, u.at) in
+      record {
+        used = used;
+        rest = u.rest ++ more;
+        whole = ap (λ y. y ++ more) u.bytes ∙ append_assoc used u.rest more;
+        at = place;
+        means = go u used place (q.live (λ i. i)) (framed u.used u.before so_far u.taken) (held_so u.used u.before u.taken) (cause after s.profile s.limit u.before u.byte r u.refused);
+      }
+    where
+      go : (u : Used after s.profile s.limit Starts b r) (used : List ℕ) → r.at ≡ length (u.used ++ u.byte ∷ []) → (IsRefused u.before.machine → ⊥) → Framed u.before.machine u.used
+          → ((parts : List Item) × (all_taken after s.first parts ≡ Ok u.before.held)) → Cause after s.profile s.limit u.before u.byte r → Means s.limit (u.used ++ u.byte ∷ []) (u.rest ++ more) r.why
+      go u used place live f parts (too_long at w) = subst (λ y. Means s.limit (u.used ++ u.byte ∷ []) (u.rest ++ more) y) (sym w) (sym place ∙ at)
+      go u used place live f parts (by_text w) = subst (λ y. Means s.limit (u.used ++ u.byte ∷ []) (u.rest ++ more) y) (sym w) tt
+      go u used place live f parts (by_step m) = by_machine s.limit (u.used ++ u.byte ∷ []) (u.rest ++ more) r.why (step_says s.profile u.before.machine u.byte u.used live f r.why m)
+      go u used place live f parts (by_item x e) = by_rule s.limit (u.used ++ u.byte ∷ []) (u.rest ++ more) r.why (names parts.0 u.before.held x r.why parts.1 e)
+
+  at_end : (m : Machine) (h : H) (at : ℕ) (b : List ℕ) (r : Refusal) → (IsRefused m → ⊥) → Fits m → Framed m b → answer_at_end_of m h at ≡ Err r → Means s.limit b [] r.why
+  at_end m h at b r live fit f e = go m live fit f e
+    where
+      named : (w : Why) → record { at = at; why = w } ≡ r → Means s.limit b [] w → Means s.limit b [] r.why
+      named w is x = subst (λ y. Means s.limit b [] y) (ap (λ (y : Refusal). y.why) is) x
+
+      go : (m : Machine) → (IsRefused m → ⊥) → Fits m → Framed m b → answer_at_end_of m h at ≡ Err r → Means s.limit b [] r.why
+      go (machine.Refused w) live fit f e = absurd (live tt)
+      go (machine.Between last zero) live fit f e = absurd (cc)
+      go (machine.Between last (suc n)) live fit f e = named why.CodeCount (cc (e)) tt
+      go (machine.Header n) live fit f e =
+          let long : length b ≡ n = ap length f.1 ∙ header_length n f.0 in
+          named why.Truncated (cc (e)) (refl, inl ((let l = f.0 in omega (arith, l, long)), f.1 ∙ ap (λ i. take i header) (sym long)))
+      go (machine.CustomSize last functions r) live fit f e = named why.Truncated (cc (e)) (refl, inr (cut_size last 0 r b fit.0 f))
+      go (machine.Custom last functions more q) live fit f e = named why.Truncated (cc (e)) (refl, inr (cut_contents last 0 more b f))
+      go (machine.Size of functions r) live fit f e = named why.Truncated (cc (e)) (refl, inr (cut_size f.0 (id_of of) r b fit.0 f.1))
+      go (machine.Count of functions more r) live fit f e = named why.Truncated (cc (e)) (refl, inr (cut_contents f.0 (id_of of) more b f.1))
+      go (machine.Section of functions more left q) live fit f e = named why.Truncated (cc (e)) (refl, inr (cut_contents f.0 (id_of of) more b f.1))
+
+  ended_at : (m : Machine) (h : H) (at : ℕ) (r : Refusal) → answer_at_end_of m h at ≡ Err r → r.at ≡ at
+  ended_at m h at r e = go m e
+    where
+      its : (w : Why) → record { at = at; why = w } ≡ r → r.at ≡ at
+      its w is = sym (ap (λ (y : Refusal). y.at) is)
+
+      go : (m : Machine) → answer_at_end_of m h at ≡ Err r → r.at ≡ at
+      go (machine.Between last zero) e = absurd (cc)
+      go (machine.Between last (suc n)) e = its why.CodeCount (cc (e))
+      go (machine.Refused w) e = its w (cc (e))
+      go m e = its why.Truncated (cc (e))
+
+  -- the answer to a whole input
+  pub whole_input : (input : List ℕ) (r : Refusal) → AreBytes input → answer_of after s input ≡ Err r → Meaning s.limit input r
+  whole_input input r bytes e = go (Decoded input) refl e
+    where
+      go : (x : Result (Live H) Refusal) → Decoded input ≡ x → and_then x answer_at_end ≡ Err r → Meaning s.limit input r
+      go (Err t) is e = let same : t ≡ r = cc (e) in subst (λ y. Meaning s.limit y r) (append-nil input) (on_byte input [] r bytes (is ∙ ap Err same))
+      go (Ok l) is e =
+          let q = reached after s.profile s.limit input Starts l is in
+          record {
+            used = input;
+            rest = [];
+            whole = sym (append-nil input);
+            at = (let a = ended_at l.machine l.held l.at r e in omega (arith, a, q.at));
+            means = at_end l.machine l.held l.at input r (q.live (λ i. i)) (fits input l bytes is) (framed input l bytes is) e;
+          }
