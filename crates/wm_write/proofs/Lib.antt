@@ -1,4 +1,5 @@
 pub mod Writes
+pub mod Lengths
 pub mod PrintedWords
 pub mod PrintedImports
 pub mod PrintedModules
