@@ -1,5 +1,5 @@
 -- Words that are written one after another.
-use Rattle.std.proofs.Common.{◌≡◌, ◌≢◌, ℕ, zero, suc, ◌+◌, ◌-◌, ◌<◌, Bool, true, false, List, [], ◌∷◌, ◌++◌, length, take, map, flat_map, replicate, refl, sym, ap, subst, ◌∙◌, append_assoc, append-nil, arith, get_or, Option, Some, if◌then◌else◌}
+use Rattle.std.proofs.Common.{◌≡◌, ◌≢◌, ℕ, zero, suc, ◌+◌, ◌-◌, ◌<◌, Bool, true, false, List, [], ◌∷◌, ◌++◌, length, take, map, flat_map, replicate, refl, sym, ap, subst, ◌∙◌, append_assoc, append-nil, arith, get_or, Option, Some, None, if◌then◌else◌}
 use Rattle.std.specs.Prelude.{codes, decimal}
 use Rattle.std.specs.List.{enumerate_from}
 use Rattle.std.specs.Bool.{◌==◌}
@@ -8,13 +8,16 @@ use Rattle.std.proofs.lemmas.Grind.{flat_map-append}
 use Rattle.std.proofs.lemmas.List.{map-append, nil_from_length, take_more}
 use Rattle.std.proofs.lemmas.Option.{get_or_from_slice_get, slice_get_within}
 use Rattle.std.specs.Prelude.{slice_get}
+use Rattle.std.specs.Option.{option_map}
+use Rattle.wm_syntax.specs.declared.instructions.Op.{Op}
 use Rattle.wm_syntax.specs.declared.instructions.Op.TheVariants as op
 use Rattle.wm_syntax.specs.declared.instructions.Simple.{Simple}
 use Rattle.wm_syntax.specs.declared.types.Const.{Const}
 use Rattle.wm_syntax.specs.declared.modules.ExportKind.{ExportKind}
 use Rattle.wm_syntax.specs.declared.modules.ExportKind.TheVariants as kind
 use Rattle.wm_syntax.specs.Modules.{constant, locals_of}
-use Rattle.wm_syntax.specs.Opcodes.{opcode}
+use Rattle.wm_syntax.specs.OpClasses.{first_byte}
+use Rattle.wm_syntax.specs.Opcodes.{op_code, opcode}
 use Rattle.wm_syntax.specs.OpNames.{op_name}
 use Rattle.wm_syntax.specs.Runs.{runs_of}
 use Rattle.wm_write.proofs.CanonSpells.{expanded}
@@ -196,6 +199,13 @@ sent_run runs i r s t u is h k =
     (sent_words (map type_word (locals_of (take i runs))) (map type_word (replicate r.0 r.1)) s t u h k)
 
 -- the name of an op on a line of its own
+pub no_head : (o : Op) (s : State) → first_byte o ≡ None → Sent (words_text (head_words (op_name o))) s s
+no_head o s h = go (op_code o) h
+  where
+    go : (row : Option (ℕ × List ℕ)) → option_map (λ r. r.0) row ≡ None → Sent (words_text (head_words (option_map (λ r. r.1) row))) s s
+    go None e = sent_none s
+    go (Some r) e = absurd (cc e)
+
 pub sent_head : (found : Option (List ℕ)) (name : List ℕ) (s t u : State) → found ≡ Some name → Sent (10 ∷ codes "    ") s t → Sent name t u
     → Sent (words_text (head_words found)) s u
 sent_head found name s t u e h k =

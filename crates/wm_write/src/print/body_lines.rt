@@ -1,7 +1,8 @@
 //! Instructions in text, one a line (section 6.5).
 
-ghost use Rattle.std.specs.Prelude.{◌≡◌, ◌^◌, ◌≤◌, IsSome, IsTrue, Some, codes, map};
+ghost use Rattle.std.specs.Prelude.{◌≡◌, ◌^◌, ◌≤◌, IsTrue, codes, map};
 ghost use Rattle.std.specs.List.{list_all};
+ghost use Rattle.wm_syntax.specs.OpClasses.{first_byte};
 ghost use Rattle.wm_syntax.specs.OpNames.{op_name};
 ghost use Rattle.wm_syntax.specs.Runs.{runs_of};
 ghost use Rattle.wm_syntax.specs.Modules.{locals_of};
@@ -11,11 +12,12 @@ ghost use Rattle.wm_write.specs.Layout.{types_words, words_text};
 ghost use Rattle.wm_write.specs.exact.Writing.{Sent};
 ghost use Rattle.wm_write.specs.exact.Aligns.{is_printable, is_simple_printable};
 
-use crate::encode::spell::{instruction_of, spell};
+use crate::encode::spell::instruction_of;
 use crate::print::words::{put_counted, put_key, put_run, put_type_use, put_types};
 use crate::put::put_bytes;
 use wm_syntax::instructions::accesses::{loaded, stored};
 use wm_syntax::instructions::op_names::name_of;
+use wm_syntax::instructions::opcodes::first_byte;
 use wm_syntax::instructions::{MemArg, Op, Simple};
 use wm_syntax::io::Dest;
 use wm_syntax::modules::locals::Locals;
@@ -44,13 +46,20 @@ fn put_access<W: Dest>(w: &mut W, written: &mut u64, width: u32, at: MemArg)
     put_key(w, written, b"align=", width, power(at.align));
 }
 
-// The name of an op that is no label.
-fn name(op: Op) -> &'static [u8]
-    requires { IsSome (op_name op) }
-    ensures { op_name op ≡ Some result.now }
+// The byte that begins an op; a label has none of its own.
+fn op_byte(op: Op) -> Option<u8>
+    ensures { result ≡ first_byte op }
 {
-    // it is that of the op's first byte
-    name_of(spell(op).as_slice()[0])
+    match op {
+        Op::Simple(simple) => Some(first_byte(simple)),
+        Op::Block(_) => Some(0x02),
+        Op::Loop(_) => Some(0x03),
+        Op::If(_) => Some(0x04),
+        Op::Else => Some(0x05),
+        Op::End => Some(0x0B),
+        Op::BrTable(_) => Some(0x0E),
+        Op::Label(_) => None,
+    }
 }
 
 // Writes the name of an op on a line of its own, unless it is a label.
@@ -58,12 +67,9 @@ fn put_name<W: Dest>(w: &mut W, written: &mut u64, op: Op)
     ensures { Sent (words_text (head_words (op_name op))) (W.has_failed w.old, W.contents w.old, written.old)
         (W.has_failed w.new, W.contents w.new, written.new) }
 {
-    match op {
-        Op::Label(_) => {}
-        _ => {
-            put_bytes(w, written, b"\n    ");
-            put_bytes(w, written, name(op));
-        }
+    if let Some(byte) = op_byte(op) {
+        put_bytes(w, written, b"\n    ");
+        put_bytes(w, written, name_of(byte));
     }
 }
 
@@ -178,6 +184,6 @@ pub(crate) fn put_const<W: Dest>(w: &mut W, written: &mut u64, value: Const)
 {
     let instruction = instruction_of(value);
     put_bytes(w, written, b" ");
-    put_bytes(w, written, name(Op::Simple(instruction)));
+    put_bytes(w, written, name_of(first_byte(instruction)));
     put_immediates(w, written, instruction);
 }
