@@ -77,17 +77,6 @@ sent_named before head prefix n rest after s t u v h k l =
     ∙ ap (λ (z : List ℕ). z ++ (after ++ 41 ∷ [])) (named_text before head prefix n rest)) in
     sent_same _ _ s v (sym e) (sent_then (front ++ words_text rest) (after ++ 41 ∷ []) s u v (sent_then front (words_text rest) s t u h k) l)
 
--- a part that is left out where it has its usual value
-pub key_none : (key : List ℕ) (usual n : ℕ) (s : State) → n ≡ usual → Sent (words_text (key_words key usual n)) s s
-key_none key usual n s e =
-    subst (λ (b : Bool). Sent (words_text (if b then [] else spaced (key ++ decimal n) ∷ [])) s s) (sym (eq-eqb n usual e)) (sent_none s)
-
-pub key_some : (key : List ℕ) (usual n : ℕ) (s t u : State) → n ≢ usual → Sent (32 ∷ []) s t → Sent (key ++ decimal n) t u
-    → Sent (words_text (key_words key usual n)) s u
-key_some key usual n s t u e h k =
-    subst (λ (b : Bool). Sent (words_text (if b then [] else spaced (key ++ decimal n) ∷ [])) s u) (sym (ne_eqb n usual e))
-    (sent_word (spaced (key ++ decimal n)) s u (sent_then (32 ∷ []) (key ++ decimal n) s t u h k))
-
 module _ {X : Type 0} where
   -- a word for each, and words for each
   words_map : (f : X → Word) (xs : List X) → flat_map (λ x. word_text (f x)) xs ≡ words_text (map f xs)
@@ -197,29 +186,6 @@ sent_run runs i r s t u is h k =
     ∙ ap (λ (z : List ValType). locals_of (take i runs) ++ z) (append-nil (replicate r.0 r.1)))) in
     sent_same _ _ s u (sym (ap (λ (z : List ValType). words_text (map type_word z)) e ∙ ap words_text (map-append type_word (locals_of (take i runs)) (replicate r.0 r.1))))
     (sent_words (map type_word (locals_of (take i runs))) (map type_word (replicate r.0 r.1)) s t u h k)
-
--- the name of an op on a line of its own
-pub no_head : (o : Op) (s : State) → first_byte o ≡ None → Sent (words_text (head_words (op_name o))) s s
-no_head o s h = go (op_code o) h
-  where
-    go : (row : Option (ℕ × List ℕ)) → option_map (λ r. r.0) row ≡ None → Sent (words_text (head_words (option_map (λ r. r.1) row))) s s
-    go None e = sent_none s
-    go (Some r) e = absurd (cc e)
-
-pub sent_head : (found : Option (List ℕ)) (name : List ℕ) (s t u : State) → found ≡ Some name → Sent (10 ∷ codes "    ") s t → Sent name t u
-    → Sent (words_text (head_words found)) s u
-sent_head found name s t u e h k =
-    subst (λ z. Sent (words_text (head_words z)) s u) (sym e)
-    (sent_word (at body_line (atom name)) s u (sent_then (10 ∷ codes "    ") name s t u h k))
-
--- a constant expression
-pub sent_const : (c : Const) (i : Simple) (name : List ℕ) (s t u v : State) → i ≡ constant c → op_name (op.Simple i) ≡ Some name → Sent (32 ∷ []) s t
-    → Sent name t u → Sent (words_text (immediate_words i)) u v → Sent (words_text (const_words c)) s v
-sent_const c i name s t u v is named h k l =
-    let same : name ≡ (opcode i).1 = cc named in
-    subst (λ (z : Simple). Sent (words_text (spaced (opcode z).1 ∷ immediate_words z)) s v) is
-    (subst (λ (z : List ℕ). Sent (words_text (spaced z ∷ immediate_words i)) s v) same
-    (sent_then (32 ∷ name) (words_text (immediate_words i)) s u v (sent_then (32 ∷ []) name s t u h k) l))
 
 -- the line of the locals, by their runs
 no_runs : (ts : List ValType) → length (runs_of ts) ≡ 0 → ts ≡ []
