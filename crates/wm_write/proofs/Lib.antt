@@ -1,5 +1,7 @@
 pub mod Writes
+pub mod Lengths
 pub mod PrintedWords
+pub mod Lines
 pub mod PrintedImports
 pub mod PrintedModules
 pub mod SectionLemmas

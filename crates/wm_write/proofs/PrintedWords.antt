@@ -1,5 +1,5 @@
 -- Words that are written one after another.
-use Rattle.std.proofs.Common.{◌≡◌, ◌≢◌, ℕ, zero, suc, ◌+◌, ◌-◌, ◌<◌, Bool, true, false, List, [], ◌∷◌, ◌++◌, length, take, map, flat_map, replicate, refl, sym, ap, subst, ◌∙◌, append_assoc, append-nil, arith, get_or, Option, Some, if◌then◌else◌}
+use Rattle.std.proofs.Common.{◌≡◌, ◌≢◌, ℕ, zero, suc, ◌+◌, ◌-◌, ◌<◌, Bool, true, false, List, [], ◌∷◌, ◌++◌, length, take, map, flat_map, replicate, refl, sym, ap, subst, ◌∙◌, append_assoc, append-nil, arith, get_or, Option, Some, None, if◌then◌else◌}
 use Rattle.std.specs.Prelude.{codes, decimal}
 use Rattle.std.specs.List.{enumerate_from}
 use Rattle.std.specs.Bool.{◌==◌}
@@ -8,13 +8,16 @@ use Rattle.std.proofs.lemmas.Grind.{flat_map-append}
 use Rattle.std.proofs.lemmas.List.{map-append, nil_from_length, take_more}
 use Rattle.std.proofs.lemmas.Option.{get_or_from_slice_get, slice_get_within}
 use Rattle.std.specs.Prelude.{slice_get}
+use Rattle.std.specs.Option.{option_map}
+use Rattle.wm_syntax.specs.declared.instructions.Op.{Op}
 use Rattle.wm_syntax.specs.declared.instructions.Op.TheVariants as op
 use Rattle.wm_syntax.specs.declared.instructions.Simple.{Simple}
 use Rattle.wm_syntax.specs.declared.types.Const.{Const}
 use Rattle.wm_syntax.specs.declared.modules.ExportKind.{ExportKind}
 use Rattle.wm_syntax.specs.declared.modules.ExportKind.TheVariants as kind
 use Rattle.wm_syntax.specs.Modules.{constant, locals_of}
-use Rattle.wm_syntax.specs.Opcodes.{opcode}
+use Rattle.wm_syntax.specs.OpClasses.{first_byte}
+use Rattle.wm_syntax.specs.Opcodes.{op_code, opcode}
 use Rattle.wm_syntax.specs.OpNames.{op_name}
 use Rattle.wm_syntax.specs.Runs.{runs_of}
 use Rattle.wm_write.proofs.CanonSpells.{expanded}
@@ -73,17 +76,6 @@ sent_named before head prefix n rest after s t u v h k l =
     ∙ (sym (append_assoc (before ++ 40 ∷ head) (words_text (name prefix n ∷ rest)) (after ++ 41 ∷ []))
     ∙ ap (λ (z : List ℕ). z ++ (after ++ 41 ∷ [])) (named_text before head prefix n rest)) in
     sent_same _ _ s v (sym e) (sent_then (front ++ words_text rest) (after ++ 41 ∷ []) s u v (sent_then front (words_text rest) s t u h k) l)
-
--- a part that is left out where it has its usual value
-pub key_none : (key : List ℕ) (usual n : ℕ) (s : State) → n ≡ usual → Sent (words_text (key_words key usual n)) s s
-key_none key usual n s e =
-    subst (λ (b : Bool). Sent (words_text (if b then [] else spaced (key ++ decimal n) ∷ [])) s s) (sym (eq-eqb n usual e)) (sent_none s)
-
-pub key_some : (key : List ℕ) (usual n : ℕ) (s t u : State) → n ≢ usual → Sent (32 ∷ []) s t → Sent (key ++ decimal n) t u
-    → Sent (words_text (key_words key usual n)) s u
-key_some key usual n s t u e h k =
-    subst (λ (b : Bool). Sent (words_text (if b then [] else spaced (key ++ decimal n) ∷ [])) s u) (sym (ne_eqb n usual e))
-    (sent_word (spaced (key ++ decimal n)) s u (sent_then (32 ∷ []) (key ++ decimal n) s t u h k))
 
 module _ {X : Type 0} where
   -- a word for each, and words for each
@@ -194,22 +186,6 @@ sent_run runs i r s t u is h k =
     ∙ ap (λ (z : List ValType). locals_of (take i runs) ++ z) (append-nil (replicate r.0 r.1)))) in
     sent_same _ _ s u (sym (ap (λ (z : List ValType). words_text (map type_word z)) e ∙ ap words_text (map-append type_word (locals_of (take i runs)) (replicate r.0 r.1))))
     (sent_words (map type_word (locals_of (take i runs))) (map type_word (replicate r.0 r.1)) s t u h k)
-
--- the name of an op on a line of its own
-pub sent_head : (found : Option (List ℕ)) (name : List ℕ) (s t u : State) → found ≡ Some name → Sent (10 ∷ codes "    ") s t → Sent name t u
-    → Sent (words_text (head_words found)) s u
-sent_head found name s t u e h k =
-    subst (λ z. Sent (words_text (head_words z)) s u) (sym e)
-    (sent_word (at body_line (atom name)) s u (sent_then (10 ∷ codes "    ") name s t u h k))
-
--- a constant expression
-pub sent_const : (c : Const) (i : Simple) (name : List ℕ) (s t u v : State) → i ≡ constant c → op_name (op.Simple i) ≡ Some name → Sent (32 ∷ []) s t
-    → Sent name t u → Sent (words_text (immediate_words i)) u v → Sent (words_text (const_words c)) s v
-sent_const c i name s t u v is named h k l =
-    let same : name ≡ (opcode i).1 = cc named in
-    subst (λ (z : Simple). Sent (words_text (spaced (opcode z).1 ∷ immediate_words z)) s v) is
-    (subst (λ (z : List ℕ). Sent (words_text (spaced z ∷ immediate_words i)) s v) same
-    (sent_then (32 ∷ name) (words_text (immediate_words i)) s u v (sent_then (32 ∷ []) name s t u h k) l))
 
 -- the line of the locals, by their runs
 no_runs : (ts : List ValType) → length (runs_of ts) ≡ 0 → ts ≡ []

@@ -43,11 +43,6 @@ sent_some bytes n false true c d w v h k few out counted = (n, few, out, λ belo
 sent_some bytes n false false c d w v h k few out counted = let e : ⊥ = cc k in absurd e
 sent_some bytes n true g c d w v h k few out counted = let e : ⊥ = cc h in absurd e
 
--- to a writer that never fails, all goes out
-pub counted : (bytes : List ℕ) (c d : Option (List ℕ)) (v : ℕ) → Sent bytes (false, c, 0) (false, d, v) → v ≡ capped (length bytes)
-unfolding Sent
-counted bytes c d v h = let e = h.1 (omega arith) in omega (arith, e)
-
 -- what a writer that had not failed was given, and how much of that was counted
 pub sent_whole : (bytes : List ℕ) (f g : Bool) (c d : Option (List ℕ)) (v : ℕ)
     → f ≡ false → g ≡ false → length bytes < 2 ^ 64 → Sent bytes (f, c, 0) (g, d, v) → (v ≡ length bytes) × Appends c d bytes
@@ -116,6 +111,14 @@ module _ {X : Type 0} (f : X → List ℕ) where
       → slice_get xs i ≡ Some x → bytes ≡ f x → Sent (flat_map f (take i xs)) s t → Sent bytes t u → Sent (flat_map f (take (i + 1) xs)) s u
   sent_read xs i x bytes s t u is spelled h k =
       sent_more [] xs i x s t u (slice_get_within xs i x is) (sym (get_or_from_slice_get xs i x x is)) h (subst (λ z. Sent z t u) spelled k)
+
+  -- the bytes of one member more
+  pub len_read : (front : ℕ) (xs : List X) (i : ℕ) (x : X) (n sum now : ℕ)
+      → slice_get xs i ≡ Some x → n ≡ length (f x) → sum ≡ capped (front + length (flat_map f (take i xs))) → now ≡ capped (sum + n) → now ≡ capped (front + length (flat_map f (take (i + 1) xs)))
+  len_read front xs i x n sum now is counts before add =
+      let e : flat_map f (take (i + 1) xs) ≡ flat_map f (take i xs) ++ f x =
+      each_more xs i x (slice_get_within xs i x is) ∙ ap (λ y. flat_map f (take i xs) ++ f y) (get_or_from_slice_get xs i x x is) in
+      omega (arith, ap length e, length-append (flat_map f (take i xs)) (f x), counts, before, add)
 
   -- a member is no longer than all of them
   pub member_less : (xs : List X) (i : ℕ) (x : X) → i < length xs → x ≡ get_or xs i x → length (f x) ≤ length (flat_map f xs)

@@ -19,6 +19,7 @@ use wm_syntax::io::Dest;
 use wm_syntax::modules::Module;
 
 pub(crate) mod code;
+pub(crate) mod lengths;
 pub(crate) mod parts;
 pub(crate) mod sections;
 pub(crate) mod sizes;

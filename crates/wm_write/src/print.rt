@@ -23,6 +23,7 @@ use wm_syntax::modules::Module;
 
 pub(crate) mod body_lines;
 pub(crate) mod fields;
+pub(crate) mod line;
 #[cfg(test)]
 mod tests;
 pub(crate) mod words;
@@ -35,8 +36,8 @@ pub enum PrintFault {
     Io,
 }
 
-/// Writes the text of a module. No memory is taken. Each word is one `put` or two, so a slow
-/// writer wants a buffer.
+/// Writes the text of a module. No memory is taken. Each instruction is one `put`, and each other word one
+/// or two, so a slow writer wants a buffer.
 pub fn print<W: Dest>(checked: &Checked, w: &mut W) -> Result<(), PrintFault>
     requires open { W.has_failed w.old ≡ false }
     ensures written { OnOk result (Appends (W.contents w.old) (W.contents w.new)

@@ -4,8 +4,8 @@ ghost use Rattle.std.specs.Prelude.{◌≡◌, List, flat_map, length, ℕ};
 ghost use Rattle.wm_write.specs.Canon.{listed, sized, u32_bytes};
 ghost use Rattle.wm_write.specs.exact.Writing.{Sent, capped};
 
+use crate::encode::lengths::number_len;
 use crate::encode::spell::number;
-use std::io;
 use wm_syntax::io::{Dest, put_all};
 
 /// A part of a module, in one of its forms.
@@ -20,6 +20,13 @@ pub(crate) trait Part {
     fn put<W: Dest>(w: &mut W, written: &mut u64, value: &Self::Value)
         ensures { Sent (bytes value.now) (W.has_failed w.old, W.contents w.old, written.old)
             (W.has_failed w.new, W.contents w.new, written.new) };
+}
+
+/// A part of a binary, whose bytes are counted without being spelled.
+pub(crate) trait Counted: Part {
+    /// How many bytes a value has; 2^64 - 1 where there are more.
+    fn len(value: &Self::Value) -> u64
+        ensures { result ≡ capped (length (Self.bytes value.now)) };
 }
 
 /// Writes some bytes.
@@ -75,46 +82,28 @@ pub(crate) fn put_sized<W: Dest>(w: &mut W, written: &mut u64, bytes: &[u8])
     put_bytes(w, written, bytes);
 }
 
-#[tactic(auto, using(crate::proofs::Writes::counted))]
-/// How many bytes a value has; 2^64 - 1 where there are more.
-pub(crate) fn len<P: Part>(value: &P::Value) -> u64
-    ensures { result ≡ capped (length (P.bytes value.now)) }
+/// How many bytes some values have together; 2^64 - 1 where there are more.
+pub(crate) fn each_len<P: Counted>(values: &[P::Value]) -> u64
+    ensures { result ≡ capped (length (flat_map P.bytes values.now)) }
 {
-    let mut written = 0;
-    P::put(&mut Nowhere, &mut written, value);
-    written
+    let mut sum = 0u64;
+    for value in values {
+        sum = sum.saturating_add(P::len(value));
+    }
+    sum
 }
 
-#[tactic(auto, using(crate::proofs::Writes::counted))]
 /// How many bytes a list has; 2^64 - 1 where there are more.
-pub(crate) fn list_len<P: Part>(values: &[P::Value]) -> u64
+pub(crate) fn list_len<P: Counted>(values: &[P::Value]) -> u64
     ensures { result ≡ capped (length (listed P.bytes values.now)) }
 {
-    let mut written = 0;
-    put_list::<P, Nowhere>(&mut Nowhere, &mut written, values);
-    written
+    each_len::<P>(values).saturating_add(number_len(values.len() as u64))
 }
 
-/// A writer that takes everything and keeps nothing.
-#[derive(Drop)]
-struct Nowhere;
-
-impl Dest for Nowhere {
-    ghost use Rattle.std.specs.Prelude.{None, false};
-
-    ghost contents = { λ _. None };
-
-    ghost has_failed = { λ _. false };
-
-    fn put(&mut self, buf: &[u8]) -> io::Result<usize> {
-        Ok(buf.len())
-    }
-
-    fn flush(&mut self) -> io::Result<()> {
-        Ok(())
-    }
-
-    fn failed(&self) -> bool {
-        false
-    }
+/// How many bytes some bytes have behind their number; 2^64 - 1 where there are more.
+pub(crate) fn sized_len(bytes: &[u8]) -> u64
+    ensures { result ≡ capped (length (sized bytes.now)) }
+{
+    let len = bytes.len() as u64;
+    len.saturating_add(number_len(len))
 }

@@ -5,9 +5,10 @@ ghost use Rattle.wm_syntax.specs.Runs.{runs_of};
 ghost use Rattle.wm_write.specs.Canon.{code_bytes, code_contents, listed, run_bytes};
 ghost use Rattle.wm_write.specs.exact.Writing.{Sent, capped};
 
+use crate::encode::lengths::number_len;
 use crate::encode::parts::Instruction;
-use crate::encode::spell::{number, spell_run};
-use crate::put::{Part, len, put_bytes, put_each, put_number};
+use crate::encode::spell::spell_run;
+use crate::put::{Counted, Part, each_len, put_bytes, put_each, put_number};
 use wm_syntax::instructions::Op;
 use wm_syntax::io::Dest;
 use wm_syntax::modules::Function;
@@ -32,6 +33,14 @@ impl Part for CodeContents {
     }
 }
 
+impl Counted for CodeContents {
+    fn len(function: &Function) -> u64 {
+        runs_len(&function.locals)
+            .saturating_add(each_len::<Instruction>(function.body.ops()))
+            .saturating_add(1)
+    }
+}
+
 // Writes each maximal run of locals of one type.
 fn put_runs<W: Dest>(w: &mut W, written: &mut u64, locals: &Locals)
     ensures { Sent (flat_map run_bytes (runs_of locals.now))
@@ -44,11 +53,23 @@ fn put_runs<W: Dest>(w: &mut W, written: &mut u64, locals: &Locals)
     }
 }
 
+// How many bytes the locals have, by their maximal runs of one type; 2^64 - 1 where there are more.
+fn runs_len(locals: &Locals) -> u64
+    ensures { result ≡ capped (length (listed run_bytes (runs_of locals.now))) }
+{
+    let mut sum = number_len(locals.runs() as u64);
+    for index in 0..locals.runs() {
+        let (count, _) = locals.run(index).unwrap();
+        sum = sum.saturating_add(number_len(u64::from(count)) + 1);
+    }
+    sum
+}
+
 /// How many bytes the contents of the code section have; 2^64 - 1 where there are more.
 pub(crate) fn codes_len(functions: &[Function]) -> u64
     ensures { result ≡ capped (length (listed code_bytes functions.now)) }
 {
-    let mut sum = number(functions.len() as u64).as_slice().len() as u64;
+    let mut sum = number_len(functions.len() as u64);
     for function in functions {
         sum = sum.saturating_add(code_len(function));
     }
@@ -59,8 +80,8 @@ pub(crate) fn codes_len(functions: &[Function]) -> u64
 fn code_len(function: &Function) -> u64
     ensures { result ≡ capped (length (code_bytes function.now)) }
 {
-    let size = len::<CodeContents>(function);
-    size.saturating_add(number(size).as_slice().len() as u64)
+    let size = CodeContents::len(function);
+    size.saturating_add(number_len(size))
 }
 
 /// Writes the contents of the code section.
@@ -81,6 +102,6 @@ fn put_code<W: Dest>(w: &mut W, written: &mut u64, function: &Function)
     ensures { Sent (code_bytes function.now) (W.has_failed w.old, W.contents w.old, written.old)
         (W.has_failed w.new, W.contents w.new, written.new) }
 {
-    put_number(w, written, len::<CodeContents>(function));
+    put_number(w, written, CodeContents::len(function));
     CodeContents::put(w, written, function);
 }

@@ -1,9 +1,10 @@
 //! The parts of a module in bytes (section 5.5).
 
+use crate::encode::lengths::{constant_len, desc_len, limits_len, number_len, op_len};
 use crate::encode::spell::{
     instruction_of, one, push_global_type, push_limits, spell, spell_desc, spell_item, value_byte,
 };
-use crate::put::{Part, put_bytes, put_list, put_number, put_sized};
+use crate::put::{Counted, Part, list_len, put_bytes, put_list, put_number, put_sized, sized_len};
 use wm_syntax::chunk::Chunk;
 use wm_syntax::instructions::Op;
 use wm_syntax::io::Dest;
@@ -25,6 +26,12 @@ impl Part for ValueType {
     }
 }
 
+impl Counted for ValueType {
+    fn len(_ty: &ValType) -> u64 {
+        1
+    }
+}
+
 /// An index (section 5.5.1).
 struct Index;
 
@@ -37,6 +44,12 @@ impl Part for Index {
 
     fn put<W: Dest>(w: &mut W, written: &mut u64, index: &u32) {
         put_number(w, written, u64::from(*index));
+    }
+}
+
+impl Counted for Index {
+    fn len(index: &u32) -> u64 {
+        number_len(u64::from(*index))
     }
 }
 
@@ -55,6 +68,12 @@ impl Part for Instruction {
     }
 }
 
+impl Counted for Instruction {
+    fn len(op: &Op) -> u64 {
+        op_len(*op)
+    }
+}
+
 /// A constant expression (section 5.4.6).
 struct ConstantExpression;
 
@@ -69,6 +88,12 @@ impl Part for ConstantExpression {
     fn put<W: Dest>(w: &mut W, written: &mut u64, value: &Const) {
         Instruction::put(w, written, &Op::Simple(instruction_of(*value)));
         Instruction::put(w, written, &Op::End);
+    }
+}
+
+impl Counted for ConstantExpression {
+    fn len(value: &Const) -> u64 {
+        constant_len(*value)
     }
 }
 
@@ -90,6 +115,14 @@ impl Part for TypeEntry {
     }
 }
 
+impl Counted for TypeEntry {
+    fn len(ty: &FuncType) -> u64 {
+        list_len::<ValueType>(&ty.params)
+            .saturating_add(list_len::<ValueType>(&ty.results))
+            .saturating_add(1)
+    }
+}
+
 /// An import (section 5.5.5).
 pub(crate) struct ImportEntry;
 
@@ -108,6 +141,14 @@ impl Part for ImportEntry {
     }
 }
 
+impl Counted for ImportEntry {
+    fn len(import: &Import) -> u64 {
+        sized_len(import.module_name.as_bytes())
+            .saturating_add(sized_len(import.item_name.as_bytes()))
+            .saturating_add(desc_len(import.desc))
+    }
+}
+
 /// A function in the function section (section 5.5.6).
 pub(crate) struct FunctionEntry;
 
@@ -120,6 +161,12 @@ impl Part for FunctionEntry {
 
     fn put<W: Dest>(w: &mut W, written: &mut u64, function: &Function) {
         put_number(w, written, u64::from(function.type_index));
+    }
+}
+
+impl Counted for FunctionEntry {
+    fn len(function: &Function) -> u64 {
+        number_len(u64::from(function.type_index))
     }
 }
 
@@ -140,6 +187,12 @@ impl Part for TableEntry {
     }
 }
 
+impl Counted for TableEntry {
+    fn len(limits: &Limits) -> u64 {
+        limits_len(*limits) + 1
+    }
+}
+
 /// A memory (section 5.5.8).
 pub(crate) struct MemoryEntry;
 
@@ -154,6 +207,12 @@ impl Part for MemoryEntry {
         let mut chunk = Chunk::new();
         push_limits(&mut chunk, *limits);
         put_bytes(w, written, chunk.as_slice());
+    }
+}
+
+impl Counted for MemoryEntry {
+    fn len(limits: &Limits) -> u64 {
+        limits_len(*limits)
     }
 }
 
@@ -176,6 +235,12 @@ impl Part for GlobalEntry {
     }
 }
 
+impl Counted for GlobalEntry {
+    fn len(global: &GlobalDef) -> u64 {
+        ConstantExpression::len(&global.init).saturating_add(2)
+    }
+}
+
 /// An export (section 5.5.10).
 pub(crate) struct ExportEntry;
 
@@ -190,6 +255,12 @@ impl Part for ExportEntry {
     fn put<W: Dest>(w: &mut W, written: &mut u64, export: &Export) {
         put_sized(w, written, export.name.as_bytes());
         put_bytes(w, written, spell_item(export.kind, export.index).as_slice());
+    }
+}
+
+impl Counted for ExportEntry {
+    fn len(export: &Export) -> u64 {
+        sized_len(export.name.as_bytes()).saturating_add(number_len(u64::from(export.index)) + 1)
     }
 }
 
@@ -211,6 +282,14 @@ impl Part for ElementEntry {
     }
 }
 
+impl Counted for ElementEntry {
+    fn len(element: &Element) -> u64 {
+        list_len::<Index>(&element.functions)
+            .saturating_add(ConstantExpression::len(&element.offset))
+            .saturating_add(number_len(u64::from(element.table)))
+    }
+}
+
 /// A data segment (section 5.5.14).
 pub(crate) struct SegmentEntry;
 
@@ -226,5 +305,13 @@ impl Part for SegmentEntry {
         put_number(w, written, u64::from(segment.memory));
         ConstantExpression::put(w, written, &segment.offset);
         put_sized(w, written, &segment.bytes);
+    }
+}
+
+impl Counted for SegmentEntry {
+    fn len(segment: &Segment) -> u64 {
+        sized_len(&segment.bytes)
+            .saturating_add(ConstantExpression::len(&segment.offset))
+            .saturating_add(number_len(u64::from(segment.memory)))
     }
 }

@@ -1,21 +1,25 @@
 //! Instructions in text, one a line (section 6.5).
 
-ghost use Rattle.std.specs.Prelude.{◌≡◌, ◌^◌, ◌≤◌, IsSome, IsTrue, Some, codes, map};
+ghost use Rattle.std.specs.Prelude.{◌≡◌, ◌+◌, ◌^◌, ◌≤◌, ◌++◌, IsTrue, Some, codes, length, map};
 ghost use Rattle.std.specs.List.{list_all};
+ghost use Rattle.wm_syntax.specs.declared.instructions.Op.{Op};
+ghost use Rattle.wm_syntax.specs.OpClasses.{first_byte};
 ghost use Rattle.wm_syntax.specs.OpNames.{op_name};
 ghost use Rattle.wm_syntax.specs.Runs.{runs_of};
 ghost use Rattle.wm_syntax.specs.Modules.{locals_of};
-ghost use Rattle.wm_write.specs.Layout.{access_words, body_line, body_words, const_words, head_words};
+ghost use Rattle.wm_write.specs.Layout.{access_words, body_line, body_words, const_words, head_words, key_words};
 ghost use Rattle.wm_write.specs.Layout.{immediate_words, op_words, operand_words, result_words, type_word};
 ghost use Rattle.wm_write.specs.Layout.{types_words, words_text};
 ghost use Rattle.wm_write.specs.exact.Writing.{Sent};
 ghost use Rattle.wm_write.specs.exact.Aligns.{is_printable, is_simple_printable};
 
-use crate::encode::spell::{instruction_of, spell};
-use crate::print::words::{put_counted, put_key, put_run, put_type_use, put_types};
+use crate::encode::spell::instruction_of;
+use crate::print::line::Line;
+use crate::print::words::{push_type_use, put_run, type_bytes};
 use crate::put::put_bytes;
 use wm_syntax::instructions::accesses::{loaded, stored};
 use wm_syntax::instructions::op_names::name_of;
+use wm_syntax::instructions::opcodes::first_byte;
 use wm_syntax::instructions::{MemArg, Op, Simple};
 use wm_syntax::io::Dest;
 use wm_syntax::modules::locals::Locals;
@@ -34,60 +38,84 @@ fn power(align: u32) -> u32
     }
 }
 
-// Writes the memory argument of an access of this width.
-fn put_access<W: Dest>(w: &mut W, written: &mut u64, width: u32, at: MemArg)
-    requires { at.align ≤ 3 }
-    ensures { Sent (words_text (access_words width at)) (W.has_failed w.old, W.contents w.old, written.old)
-        (W.has_failed w.new, W.contents w.new, written.new) }
+// Adds a part of a memory argument, unless it has its usual value.
+fn push_key(line: &mut Line, key: &[u8], usual: u32, n: u32)
+    requires { length line.old + (length key.now + 11) ≤ 64 }
+    ensures text { line.new ≡ line.old ++ words_text (key_words key.now usual n) }
+    ensures short { length line.new ≤ length line.old + (length key.now + 11) }
 {
-    put_key(w, written, b"offset=", 0, at.offset);
-    put_key(w, written, b"align=", width, power(at.align));
+    if n == usual {
+        return;
+    }
+    line.push(b" ");
+    line.push_counted(key, n);
 }
 
-// The name of an op that is no label.
-fn name(op: Op) -> &'static [u8]
-    requires { IsSome (op_name op) }
-    ensures { op_name op ≡ Some result.now }
+// Adds the memory argument of an access of this width.
+fn push_access(line: &mut Line, width: u32, at: MemArg)
+    requires usual { at.align ≤ 3 }
+    requires room { length line.old + 36 ≤ 64 }
+    ensures { line.new ≡ line.old ++ words_text (access_words width at) }
 {
-    // it is that of the op's first byte
-    name_of(spell(op).as_slice()[0])
+    push_key(line, b"offset=", 0, at.offset);
+    push_key(line, b"align=", width, power(at.align));
 }
 
-// Writes the name of an op on a line of its own, unless it is a label.
-fn put_name<W: Dest>(w: &mut W, written: &mut u64, op: Op)
-    ensures { Sent (words_text (head_words (op_name op))) (W.has_failed w.old, W.contents w.old, written.old)
-        (W.has_failed w.new, W.contents w.new, written.new) }
+// The byte that begins an op; a label has none of its own.
+fn op_byte(op: Op) -> Option<u8>
+    ensures { result ≡ first_byte op }
 {
     match op {
-        Op::Label(_) => {}
-        _ => {
-            put_bytes(w, written, b"\n    ");
-            put_bytes(w, written, name(op));
-        }
+        Op::Simple(simple) => Some(first_byte(simple)),
+        Op::Block(_) => Some(0x02),
+        Op::Loop(_) => Some(0x03),
+        Op::If(_) => Some(0x04),
+        Op::Else => Some(0x05),
+        Op::End => Some(0x0B),
+        Op::BrTable(_) => Some(0x0E),
+        Op::Label(_) => None,
     }
 }
 
-// Writes what stands behind the name of an instruction.
-fn put_immediates<W: Dest>(w: &mut W, written: &mut u64, simple: Simple)
-    requires { IsTrue (is_simple_printable simple) }
-    ensures { Sent (words_text (immediate_words simple)) (W.has_failed w.old, W.contents w.old, written.old)
-        (W.has_failed w.new, W.contents w.new, written.new) }
+// The name of what this byte begins.
+fn name(byte: u8) -> &'static [u8]
+    ensures named { (op : Op) → first_byte op ≡ Some byte → op_name op ≡ Some result.now }
+    ensures short { length result.now ≤ 16 }
+{
+    name_of(byte)
+}
+
+// Adds the name of an op on a line of its own, unless it is a label.
+fn push_name(line: &mut Line, op: Op)
+    requires { length line.old + 21 ≤ 64 }
+    ensures text { line.new ≡ line.old ++ words_text (head_words (op_name op)) }
+    ensures short { length line.new ≤ length line.old + 21 }
+{
+    if let Some(byte) = op_byte(op) {
+        line.push(b"\n    ");
+        line.push(name(byte));
+    }
+}
+
+// Adds what stands behind the name of an instruction.
+fn push_immediates(line: &mut Line, simple: Simple)
+    requires usual { IsTrue (is_simple_printable simple) }
+    requires room { length line.old + 36 ≤ 64 }
+    ensures { line.new ≡ line.old ++ words_text (immediate_words simple) }
 {
     match simple {
         Simple::Br(index)
         | Simple::BrIf(index)
         | Simple::LocalGet(index)
         | Simple::LocalSet(index)
-        | Simple::LocalTee(index) => put_counted(w, written, b" ", index),
-        Simple::Call(index) => put_counted(w, written, b" $f", index),
-        Simple::CallIndirect(index) => put_type_use(w, written, index),
-        Simple::GlobalGet(index) | Simple::GlobalSet(index) => {
-            put_counted(w, written, b" $g", index)
-        }
-        Simple::I32Const(value) => put_counted(w, written, b" ", value),
-        Simple::I64Const(value) => put_counted(w, written, b" ", value),
-        Simple::Load(op, at) => put_access(w, written, loaded(op).width, at),
-        Simple::Store(op, at) => put_access(w, written, stored(op).width, at),
+        | Simple::LocalTee(index) => line.push_counted(b" ", index),
+        Simple::Call(index) => line.push_counted(b" $f", index),
+        Simple::CallIndirect(index) => push_type_use(line, index),
+        Simple::GlobalGet(index) | Simple::GlobalSet(index) => line.push_counted(b" $g", index),
+        Simple::I32Const(value) => line.push_counted(b" ", value),
+        Simple::I64Const(value) => line.push_counted(b" ", value),
+        Simple::Load(op, at) => push_access(line, loaded(op).width, at),
+        Simple::Store(op, at) => push_access(line, stored(op).width, at),
         Simple::Unreachable
         | Simple::Nop
         | Simple::Return
@@ -99,39 +127,45 @@ fn put_immediates<W: Dest>(w: &mut W, written: &mut u64, simple: Simple)
     }
 }
 
-// Writes the type of a block.
-fn put_block_type<W: Dest>(w: &mut W, written: &mut u64, ty: Option<ValType>)
-    ensures { Sent (words_text (result_words ty)) (W.has_failed w.old, W.contents w.old, written.old)
-        (W.has_failed w.new, W.contents w.new, written.new) }
+// Adds the type of a block.
+fn push_block_type(line: &mut Line, ty: Option<ValType>)
+    requires { length line.old + 36 ≤ 64 }
+    ensures { line.new ≡ line.old ++ words_text (result_words ty) }
 {
     match ty {
         None => {}
-        Some(ty) => put_types(w, written, b" (result", &[ty]),
+        Some(ty) => {
+            line.push(b" (result");
+            line.push(type_bytes(ty));
+            line.push(b")");
+        }
     }
 }
 
-// Writes what stands behind the name of an op.
-fn put_operands<W: Dest>(w: &mut W, written: &mut u64, op: Op)
-    requires { IsTrue (is_printable op) }
-    ensures { Sent (words_text (operand_words op)) (W.has_failed w.old, W.contents w.old, written.old)
-        (W.has_failed w.new, W.contents w.new, written.new) }
+// Adds what stands behind the name of an op.
+fn push_operands(line: &mut Line, op: Op)
+    requires usual { IsTrue (is_printable op) }
+    requires room { length line.old + 36 ≤ 64 }
+    ensures { line.new ≡ line.old ++ words_text (operand_words op) }
 {
     match op {
-        Op::Simple(simple) => put_immediates(w, written, simple),
-        Op::Block(ty) | Op::Loop(ty) | Op::If(ty) => put_block_type(w, written, ty),
-        Op::Label(label) => put_counted(w, written, b" ", label),
+        Op::Simple(simple) => push_immediates(line, simple),
+        Op::Block(ty) | Op::Loop(ty) | Op::If(ty) => push_block_type(line, ty),
+        Op::Label(label) => line.push_counted(b" ", label),
         Op::Else | Op::End | Op::BrTable(_) => {}
     }
 }
 
-// Writes an op: an instruction on a line of its own, or a label.
+// Writes an op in one piece: an instruction on a line of its own, or a label.
 fn put_op<W: Dest>(w: &mut W, written: &mut u64, op: Op)
     requires { IsTrue (is_printable op) }
     ensures { Sent (words_text (op_words op)) (W.has_failed w.old, W.contents w.old, written.old)
         (W.has_failed w.new, W.contents w.new, written.new) }
 {
-    put_name(w, written, op);
-    put_operands(w, written, op);
+    let mut line = Line::new();
+    push_name(&mut line, op);
+    push_operands(&mut line, op);
+    put_bytes(w, written, line.as_slice());
 }
 
 /// Writes the lines of a body.
@@ -177,7 +211,9 @@ pub(crate) fn put_const<W: Dest>(w: &mut W, written: &mut u64, value: Const)
         (W.has_failed w.new, W.contents w.new, written.new) }
 {
     let instruction = instruction_of(value);
-    put_bytes(w, written, b" ");
-    put_bytes(w, written, name(Op::Simple(instruction)));
-    put_immediates(w, written, instruction);
+    let mut line = Line::new();
+    line.push(b" ");
+    line.push(name(first_byte(instruction)));
+    push_immediates(&mut line, instruction);
+    put_bytes(w, written, line.as_slice());
 }

@@ -1,11 +1,12 @@
 //! Words of a printed text, each with the white space before it (chapter 6).
 
-ghost use Rattle.std.specs.Prelude.{◌≡◌, ◌<◌, ◌++◌, ◌∷◌, ℕ, List, map, replicate};
-ghost use Rattle.wm_write.specs.Layout.{global_type_words, hex_digit, is_plain, key_words, limits_words};
+ghost use Rattle.std.specs.Prelude.{◌≡◌, ◌+◌, ◌<◌, ◌≤◌, ◌++◌, ◌∷◌, ℕ, List, length, map, replicate};
+ghost use Rattle.wm_write.specs.Layout.{global_type_words, hex_digit, is_plain, limits_words};
 ghost use Rattle.wm_write.specs.Layout.{max_words, quoted, table_words, type_text, type_use, type_word};
 ghost use Rattle.wm_write.specs.Layout.{types_words, word_text, words_text};
 ghost use Rattle.wm_write.specs.exact.Writing.{Sent};
 
+use crate::print::line::Line;
 use crate::put::{Part, put_bytes, put_each};
 use itoa::{Buffer, Integer};
 use wm_syntax::io::Dest;
@@ -19,19 +20,6 @@ pub(crate) fn put_counted<I: Integer, W: Dest>(w: &mut W, written: &mut u64, fro
     let mut buffer = Buffer::new();
     put_bytes(w, written, front);
     put_bytes(w, written, buffer.format(n).as_bytes());
-}
-
-/// Writes a part of a memory argument, unless it has its usual value.
-pub(crate) fn put_key<W: Dest>(w: &mut W, written: &mut u64, key: &[u8], usual: u32, n: u32)
-    ensures { Sent (words_text (key_words key.now usual n))
-        (W.has_failed w.old, W.contents w.old, written.old)
-        (W.has_failed w.new, W.contents w.new, written.new) }
-{
-    if n == usual {
-        return;
-    }
-    put_bytes(w, written, b" ");
-    put_counted(w, written, key, n);
 }
 
 /// A value type.
@@ -49,7 +37,8 @@ impl Part for TypeWord {
     }
 }
 
-fn type_bytes(ty: ValType) -> &'static [u8]
+/// A value type behind a space.
+pub(crate) fn type_bytes(ty: ValType) -> &'static [u8]
     ensures { result.now ≡ 32 ∷ type_text ty }
 {
     match ty {
@@ -136,8 +125,18 @@ pub(crate) fn put_type_use<W: Dest>(w: &mut W, written: &mut u64, index: u32)
     ensures { Sent (words_text (type_use index)) (W.has_failed w.old, W.contents w.old, written.old)
         (W.has_failed w.new, W.contents w.new, written.new) }
 {
-    put_counted(w, written, b" (type $t", index);
-    put_bytes(w, written, b")");
+    let mut line = Line::new();
+    push_type_use(&mut line, index);
+    put_bytes(w, written, line.as_slice());
+}
+
+/// Adds the use of a type to a line.
+pub(crate) fn push_type_use(line: &mut Line, index: u32)
+    requires { length line.old + 20 ≤ 64 }
+    ensures { line.new ≡ line.old ++ words_text (type_use index) }
+{
+    line.push_counted(b" (type $t", index);
+    line.push(b")");
 }
 
 fn hex_digit(n: u8) -> u8
