@@ -508,6 +508,7 @@ fn laws_are_called(rt: HostRuntime) -> Result<(), Fail> {
     laws::input_is_bytes();
     laws::one_spelling_one_module();
     laws::slices_join::<Recorder>();
+    laws::format_names_mean::<Recorder>();
     let told = told(rt.alloc(), &HEADER, 0, 1)?;
     assert_eq!(rt; told.as_str(), "taken");
     Ok(())
