@@ -22,8 +22,8 @@ pub(crate) fn number_len(value: u64) -> u64
     }
 }
 
+/// How many bytes a signed number has, spelled in at most so many (section 5.2.2).
 #[tactic(auto, using(crate::proofs::Lengths::negative_len))]
-/// How many bytes a signed number has, spelled in at most so many.
 pub(crate) fn signed_len(value: i64, most: u64) -> u64
     requires { most ≤ 10 }
     ensures value { result ≡ length (signed_bytes most value) }
@@ -37,6 +37,7 @@ pub(crate) fn signed_len(value: i64, most: u64) -> u64
     }
 }
 
+// The same of a number that is not below 0: its last byte has six bits for it, and each other byte seven.
 fn positive_len(value: u64, most: u64) -> u64
     requires { most ≤ 10 }
     ensures value { result ≡ length (signed_bytes most (pos value)) }
@@ -52,6 +53,7 @@ fn positive_len(value: u64, most: u64) -> u64
     most
 }
 
+// How many bytes the memory argument of an access has.
 fn access_len(at: MemArg) -> u64
     ensures value { result ≡ length (u32_bytes at.align) + length (u32_bytes at.offset) }
     ensures short { result ≤ 10 }
