@@ -1,7 +1,7 @@
 -- How many bytes a number has, byte by byte.
-use Rattle.std.proofs.Common.{◌≡◌, ℕ, zero, suc, ◌+◌, ◌-◌, ◌%◌, ◌/◌, ◌<◌, ◌≤◌, [], ◌∷◌, length, refl, sym, ap, ◌∙◌, arith, pos, negsuc, Bool, true, false, cond, nat_lt}
+use Rattle.std.proofs.Common.{◌≡◌, ℕ, zero, suc, ◌+◌, ◌-◌, ◌%◌, ◌/◌, ◌<◌, ◌≤◌, [], ◌∷◌, length, refl, ap, ◌∙◌, arith, pos, negsuc, Bool, true, false, cond, nat_lt}
 use Rattle.wm_syntax.specs.Leb128.{unsigned_bytes, signed_bytes}
-use Rattle.wm_syntax.proofs.NumberLoops.{last_byte, more_bytes, last_positive, more_positive, no_signed, no_unsigned}
+use Rattle.wm_syntax.proofs.NumberLoops.{last_byte, more_bytes, last_positive, more_positive, no_signed}
 
 -- of a number: the last byte, a byte before others, the last of five
 last_len : (k n : ℕ) → 0 < k → n < 128 → length (unsigned_bytes k n) ≡ 1

@@ -1,29 +1,20 @@
 -- Words that are written one after another.
-use Rattle.std.proofs.Common.{◌≡◌, ◌≢◌, ℕ, zero, suc, ◌+◌, ◌-◌, ◌<◌, Bool, true, false, List, [], ◌∷◌, ◌++◌, length, take, map, flat_map, replicate, refl, sym, ap, subst, ◌∙◌, append_assoc, append-nil, arith, get_or, Option, Some, None, if◌then◌else◌}
+use Rattle.std.proofs.Common.{◌≡◌, ◌≢◌, ℕ, zero, suc, ◌+◌, ◌-◌, ◌<◌, Bool, true, false, List, [], ◌∷◌, ◌++◌, length, take, map, flat_map, replicate, refl, sym, ap, subst, ◌∙◌, append_assoc, append-nil, arith, get_or, Option, Some, if◌then◌else◌}
 use Rattle.std.specs.Prelude.{codes, decimal}
 use Rattle.std.specs.List.{enumerate_from}
 use Rattle.std.specs.Bool.{◌==◌}
-use Rattle.std.proofs.lemmas.Bool.{eq-eqb, ne_eqb}
 use Rattle.std.proofs.lemmas.Grind.{flat_map-append}
 use Rattle.std.proofs.lemmas.List.{map-append, nil_from_length, take_more}
 use Rattle.std.proofs.lemmas.Option.{get_or_from_slice_get, slice_get_within}
 use Rattle.std.specs.Prelude.{slice_get}
-use Rattle.std.specs.Option.{option_map}
-use Rattle.wm_syntax.specs.declared.instructions.Op.{Op}
-use Rattle.wm_syntax.specs.declared.instructions.Op.TheVariants as op
-use Rattle.wm_syntax.specs.declared.instructions.Simple.{Simple}
-use Rattle.wm_syntax.specs.declared.types.Const.{Const}
 use Rattle.wm_syntax.specs.declared.modules.ExportKind.{ExportKind}
 use Rattle.wm_syntax.specs.declared.modules.ExportKind.TheVariants as kind
-use Rattle.wm_syntax.specs.Modules.{constant, locals_of}
-use Rattle.wm_syntax.specs.OpClasses.{first_byte}
-use Rattle.wm_syntax.specs.Opcodes.{op_code, opcode}
-use Rattle.wm_syntax.specs.OpNames.{op_name}
+use Rattle.wm_syntax.specs.Modules.{locals_of}
 use Rattle.wm_syntax.specs.Runs.{runs_of}
 use Rattle.wm_write.proofs.CanonSpells.{expanded}
 use Rattle.wm_syntax.specs.declared.types.GlobalType.{GlobalType}
 use Rattle.wm_syntax.specs.declared.types.ValType.{ValType}
-use Rattle.wm_write.specs.Layout.{Word, at, atom, body_line, closing, const_words, field_line, form, gap, global_type_words, head_words, immediate_words, item_words, key_words, name, parens, spaced, start_field, type_word, types_words, word_text, words_text}
+use Rattle.wm_write.specs.Layout.{Word, at, closing, field_line, form, gap, global_type_words, item_words, name, parens, start_field, type_word, types_words, word_text, words_text}
 use Rattle.wm_write.specs.exact.Printing.{item_front}
 use Rattle.wm_write.specs.exact.Writing.{Sent, State}
 use Rattle.wm_write.proofs.Writes.{sent_none, sent_nothing, sent_then}

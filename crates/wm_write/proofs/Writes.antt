@@ -5,7 +5,7 @@ use Rattle.std.specs.Io.KnownBytes.{Appends}
 use Rattle.std.specs.Prelude.{slice_get}
 use Rattle.std.proofs.lemmas.Option.{get_or_from_slice_get, slice_get_within}
 use Rattle.wm_write.specs.Canon.{sized, u32_bytes}
-use Rattle.wm_write.specs.exact.Writing.{Counts, Sent, State, capped}
+use Rattle.wm_write.specs.exact.Writing.{Counts, Sent, SentBut, State, capped}
 
 appends_then : (a b c : Option (List ℕ)) (x y : List ℕ) → Appends a b x → Appends b c y → Appends a c (x ++ y)
 appends_then None b c x y p q = p
@@ -88,6 +88,25 @@ sent_then front back (false, c0, w0) (true, c1, w1) (true, c2, w2) (n, few, some
 pub sent_byte : (byte : ℕ) (back : List ℕ) (s t u : State) → Sent (byte ∷ []) s t → Sent back t u → Sent (byte ∷ back) s u
 sent_byte byte back s t u h k = sent_then (byte ∷ []) back s t u h k
 
+-- bytes of which the last are held back
+pub held_first : (held : List ℕ) (s : State) → held ≡ [] → SentBut held [] s s
+held_first held s h = ([], h, sent_none s)
+
+pub held_all : (held : List ℕ) (s : State) → SentBut held held s s
+held_all held s = ([], refl, sent_none s)
+
+pub held_out : (held bytes : List ℕ) (s t u : State) → SentBut held bytes s t → Sent held t u → Sent bytes s u
+held_out held bytes s t u (gone, is, h) k = subst (λ (z : List ℕ). Sent z s u) is (sent_then gone held s t u h k)
+
+held_then : (held kept now bytes more : List ℕ) (s t u : State)
+    → SentBut held bytes s t → SentBut kept held t u → now ≡ kept ++ more → SentBut now (bytes ++ more) s u
+held_then held kept now bytes more s t u (gone, is, h) (next, same, k) add = (
+  gone ++ next,
+  ap (λ (z : List ℕ). (gone ++ next) ++ z) add ∙ (sym (append_assoc (gone ++ next) kept more)
+      ∙ ap (λ (z : List ℕ). z ++ more) (append_assoc gone next kept ∙ (ap (λ (z : List ℕ). gone ++ z) same ∙ is))),
+  sent_then gone next s t u h k,
+)
+
 -- how many bytes there are, and then those
 pub sent_sized : (n : ℕ) (bytes : List ℕ) (s t u : State)
     → n ≡ capped (length bytes) → length bytes < 2 ^ 32 → Sent (u32_bytes n) s t → Sent bytes t u → Sent (sized bytes) s u
@@ -106,6 +125,12 @@ module _ {X : Type 0} (f : X → List ℕ) where
       let e : front ++ flat_map f (take (i + 1) xs) ≡ (front ++ flat_map f (take i xs)) ++ f x =
       ap (λ l. front ++ l) (each_more xs i x few ∙ ap (λ y. flat_map f (take i xs) ++ f y) (sym is)) ∙ sym (append_assoc front (flat_map f (take i xs)) (f x)) in
       subst (λ z. Sent z s u) (sym e) (sent_then (front ++ flat_map f (take i xs)) (f x) s t u h k)
+
+  -- one member more, where the last bytes are held back
+  pub held_more : (xs : List X) (i : ℕ) (d : X) (held kept now : List ℕ) (s t u : State)
+      → i < length xs → SentBut held (flat_map f (take i xs)) s t → SentBut kept held t u → now ≡ kept ++ f (get_or xs i d) → SentBut now (flat_map f (take (i + 1) xs)) s u
+  held_more xs i d held kept now s t u few h k add =
+      subst (λ (z : List ℕ). SentBut now z s u) (sym (each_more xs i d few)) (held_then held kept now (flat_map f (take i xs)) (f (get_or xs i d)) s t u h k add)
 
   pub sent_read : (xs : List X) (i : ℕ) (x : X) (bytes : List ℕ) (s t u : State)
       → slice_get xs i ≡ Some x → bytes ≡ f x → Sent (flat_map f (take i xs)) s t → Sent bytes t u → Sent (flat_map f (take (i + 1) xs)) s u

@@ -38,8 +38,8 @@ pub enum WriteFault {
     Io { written: u64 },
 }
 
-/// Writes the canonical binary of a module, and answers its length. No memory is taken. Each number, name and
-/// instruction is one `put`, so a slow writer wants a buffer.
+/// Writes the canonical binary of a module, and answers its length. No memory is taken. Each number and name
+/// is one `put`, and instructions go out some at a time, so a slow writer wants a buffer.
 pub fn encode<W: Dest>(m: &Module, w: &mut W) -> Result<u64, WriteFault>
     requires open { W.has_failed w.old ≡ false }
     ensures written { IfOk result (λ n. (n ≡ length (canon (value_of m.now)))

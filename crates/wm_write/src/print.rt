@@ -23,7 +23,6 @@ use wm_syntax::modules::Module;
 
 pub(crate) mod body_lines;
 pub(crate) mod fields;
-pub(crate) mod line;
 #[cfg(test)]
 mod tests;
 pub(crate) mod words;

@@ -82,8 +82,8 @@ pub(crate) fn put_sized<W: Dest>(w: &mut W, written: &mut u64, bytes: &[u8])
     put_bytes(w, written, bytes);
 }
 
-/// How many bytes some values have together; 2^64 - 1 where there are more.
-pub(crate) fn each_len<P: Counted>(values: &[P::Value]) -> u64
+// How many bytes some values have together; 2^64 - 1 where there are more.
+fn each_len<P: Counted>(values: &[P::Value]) -> u64
     ensures { result ≡ capped (length (flat_map P.bytes values.now)) }
 {
     let mut sum = 0u64;

@@ -1,18 +1,21 @@
 //! Code entries (section 5.5.13). Each stands behind its size, so it is counted before it is written.
 
-ghost use Rattle.std.specs.Prelude.{◌≡◌, ◌<◌, ◌^◌, flat_map, length};
+ghost use Rattle.std.specs.Prelude.{◌≡◌, ◌+◌, ◌<◌, ◌≤◌, ◌^◌, flat_map, length};
 ghost use Rattle.wm_syntax.specs.Runs.{runs_of};
-ghost use Rattle.wm_write.specs.Canon.{code_bytes, code_contents, listed, run_bytes};
-ghost use Rattle.wm_write.specs.exact.Writing.{Sent, capped};
+ghost use Rattle.wm_write.specs.Canon.{code_bytes, code_contents, listed, ops_bytes, run_bytes};
+ghost use Rattle.wm_write.specs.exact.Writing.{Sent, SentBut, capped};
 
-use crate::encode::lengths::number_len;
-use crate::encode::parts::Instruction;
-use crate::encode::spell::spell_run;
-use crate::put::{Counted, Part, each_len, put_bytes, put_each, put_number};
+use crate::batch::{Batch, ROOM};
+use crate::encode::lengths::{number_len, op_len};
+use crate::encode::spell::{push_op, spell_run};
+use crate::put::{Counted, Part, put_bytes, put_number};
 use wm_syntax::instructions::Op;
 use wm_syntax::io::Dest;
 use wm_syntax::modules::Function;
 use wm_syntax::modules::locals::Locals;
+
+// The most bytes that an op has: an access, whose two numbers have five each.
+const LONGEST_OP: usize = 11;
 
 /// What stands behind the size of a code entry: the locals and the body.
 struct CodeContents;
@@ -28,15 +31,15 @@ impl Part for CodeContents {
     fn put<W: Dest>(w: &mut W, written: &mut u64, function: &Function) {
         put_number(w, written, function.locals.runs() as u64);
         put_runs(w, written, &function.locals);
-        put_each::<Instruction, W>(w, written, function.body.ops());
-        Instruction::put(w, written, &Op::End);
+        put_ops(w, written, function.body.ops());
+        put_bytes(w, written, &[0x0B]);
     }
 }
 
 impl Counted for CodeContents {
     fn len(function: &Function) -> u64 {
         runs_len(&function.locals)
-            .saturating_add(each_len::<Instruction>(function.body.ops()))
+            .saturating_add(ops_len(function.body.ops()))
             .saturating_add(1)
     }
 }
@@ -51,6 +54,42 @@ fn put_runs<W: Dest>(w: &mut W, written: &mut u64, locals: &Locals)
         let (count, ty) = locals.run(index).unwrap();
         put_bytes(w, written, spell_run(count, ty).as_slice());
     }
+}
+
+// Writes ops, as many at a time as a batch has room for.
+fn put_ops<W: Dest>(w: &mut W, written: &mut u64, ops: &[Op])
+    ensures { Sent (ops_bytes ops.now) (W.has_failed w.old, W.contents w.old, written.old)
+        (W.has_failed w.new, W.contents w.new, written.new) }
+{
+    let mut batch = Batch::new();
+    for op in ops {
+        put_full(w, written, &mut batch);
+        push_op(&mut batch, *op);
+    }
+    put_bytes(w, written, batch.as_slice());
+}
+
+// Writes a batch that may have no room for one more op, and empties it.
+fn put_full<W: Dest>(w: &mut W, written: &mut u64, batch: &mut Batch)
+    ensures room { length batch.new + 11 ≤ 64 }
+    ensures sent { SentBut batch.new batch.old (W.has_failed w.old, W.contents w.old, written.old)
+        (W.has_failed w.new, W.contents w.new, written.new) }
+{
+    if batch.len() > ROOM - LONGEST_OP {
+        put_bytes(w, written, batch.as_slice());
+        batch.clear();
+    }
+}
+
+// How many bytes ops have; 2^64 - 1 where there are more.
+fn ops_len(ops: &[Op]) -> u64
+    ensures { result ≡ capped (length (ops_bytes ops.now)) }
+{
+    let mut sum = 0u64;
+    for op in ops {
+        sum = sum.saturating_add(op_len(*op));
+    }
+    sum
 }
 
 // How many bytes the locals have, by their maximal runs of one type; 2^64 - 1 where there are more.

@@ -2,7 +2,8 @@
 
 ghost use Rattle.std.specs.Prelude.{◌≡◌, ◌+◌, ◌≤◌, length, pos};
 ghost use Rattle.wm_syntax.specs.Leb128.{signed_bytes};
-ghost use Rattle.wm_write.specs.Canon.{constant_bytes, desc_bytes, immediates, limits_bytes, op_bytes, u32_bytes};
+ghost use Rattle.wm_write.specs.Canon.{constant_bytes, desc_bytes, immediates, limits_bytes};
+ghost use Rattle.wm_write.specs.Canon.{op_bytes, u32_bytes};
 
 use wm_syntax::instructions::{MemArg, Op, Simple};
 use wm_syntax::modules::ImportDesc;
@@ -37,7 +38,7 @@ pub(crate) fn signed_len(value: i64, most: u64) -> u64
     }
 }
 
-// The same of a number that is not below 0: its last byte has six bits for it, and each other byte seven.
+// How many bytes a number that is not negative has, spelled as a signed one in at most so many.
 fn positive_len(value: u64, most: u64) -> u64
     requires { most ≤ 10 }
     ensures value { result ≡ length (signed_bytes most (pos value)) }
@@ -61,7 +62,7 @@ fn access_len(at: MemArg) -> u64
     number_len(u64::from(at.align)) + number_len(u64::from(at.offset))
 }
 
-// How many bytes stand behind the first of an instruction.
+// How many bytes stand behind the first byte of an instruction.
 fn immediates_len(simple: Simple) -> u64
     ensures value { result ≡ length (immediates simple) }
     ensures short { result ≤ 10 }

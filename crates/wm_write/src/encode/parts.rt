@@ -1,8 +1,9 @@
 //! The parts of a module in bytes (section 5.5).
 
-use crate::encode::lengths::{constant_len, desc_len, limits_len, number_len, op_len};
+use crate::batch::Batch;
+use crate::encode::lengths::{constant_len, desc_len, limits_len, number_len};
 use crate::encode::spell::{
-    instruction_of, one, push_global_type, push_limits, spell, spell_desc, spell_item, value_byte,
+    instruction_of, one, push_global_type, push_limits, push_op, spell_desc, spell_item, value_byte,
 };
 use crate::put::{Counted, Part, list_len, put_bytes, put_list, put_number, put_sized, sized_len};
 use wm_syntax::chunk::Chunk;
@@ -53,27 +54,6 @@ impl Counted for Index {
     }
 }
 
-/// An instruction, or what divides or ends instructions (section 5.4).
-pub(crate) struct Instruction;
-
-impl Part for Instruction {
-    ghost use Rattle.wm_write.specs.Canon.{op_bytes};
-
-    type Value = Op;
-
-    ghost bytes = { op_bytes };
-
-    fn put<W: Dest>(w: &mut W, written: &mut u64, op: &Op) {
-        put_bytes(w, written, spell(*op).as_slice());
-    }
-}
-
-impl Counted for Instruction {
-    fn len(op: &Op) -> u64 {
-        op_len(*op)
-    }
-}
-
 /// A constant expression (section 5.4.6).
 struct ConstantExpression;
 
@@ -86,8 +66,10 @@ impl Part for ConstantExpression {
     ghost bytes = { constant_bytes };
 
     fn put<W: Dest>(w: &mut W, written: &mut u64, value: &Const) {
-        Instruction::put(w, written, &Op::Simple(instruction_of(*value)));
-        Instruction::put(w, written, &Op::End);
+        let mut batch = Batch::new();
+        push_op(&mut batch, Op::Simple(instruction_of(*value)));
+        push_op(&mut batch, Op::End);
+        put_bytes(w, written, batch.as_slice());
     }
 }
 

@@ -7,11 +7,11 @@ ghost use Rattle.wm_decode.specs.Sections.{kind_byte};
 ghost use Rattle.wm_syntax.specs.Leb128.{signed_bytes};
 ghost use Rattle.wm_syntax.specs.Modules.{constant};
 ghost use Rattle.wm_syntax.specs.Types.{block_byte, type_byte};
-ghost use Rattle.wm_syntax.specs.Opcodes.{opcode};
 
+use crate::batch::Batch;
 use wm_syntax::chunk::Chunk;
 use wm_syntax::instructions::opcodes::first_byte;
-use wm_syntax::instructions::{MemArg, Op, Simple};
+use wm_syntax::instructions::{Op, Simple};
 use wm_syntax::modules::{ExportKind, ImportDesc};
 use wm_syntax::types::{Const, GlobalType, Limits, ValType};
 
@@ -69,35 +69,37 @@ fn with_number(byte: u8, value: u32) -> Chunk
     chunk
 }
 
-fn access(byte: u8, at: MemArg) -> Chunk
-    ensures { result ≡ byte ∷ (u32_bytes at.align ++ u32_bytes at.offset) }
+// Adds a number.
+fn push_number(batch: &mut Batch, value: u32)
+    requires { length batch.old + 5 ≤ 64 }
+    ensures text { batch.new ≡ batch.old ++ u32_bytes value }
+    ensures short { length batch.new ≤ length batch.old + 5 }
 {
-    let mut chunk = with_number(byte, at.align);
-    chunk.push_unsigned(u64::from(at.offset), 5);
-    chunk
+    if value < 0x80 {
+        batch.push_byte(value as u8);
+    } else {
+        batch.push(number(u64::from(value)).as_slice());
+    }
 }
 
-fn indirect(index: u32) -> Chunk
-    ensures { result ≡ 0x11 ∷ (u32_bytes index ++ 0x00 ∷ []) }
+// Adds a signed number, spelled in at most so many bytes.
+fn push_signed(batch: &mut Batch, value: i64, most: usize)
+    requires most { most ≤ 10 }
+    requires room { length batch.old + most ≤ 64 }
+    ensures text { batch.new ≡ batch.old ++ signed_bytes most value }
+    ensures short { length batch.new ≤ length batch.old + most }
 {
-    let mut chunk = with_number(0x11, index);
-    chunk.push(0x00);
-    chunk
-}
-
-fn constant(byte: u8, value: i64, most: usize) -> Chunk
-    requires { most ≤ 10 }
-    ensures { result ≡ byte ∷ signed_bytes most value }
-{
-    let mut chunk = one(byte);
+    let mut chunk = Chunk::new();
     chunk.push_signed(value, most);
-    chunk
+    batch.push(chunk.as_slice());
 }
 
-fn spell_simple(simple: Simple) -> Chunk
-    ensures { result ≡ (opcode simple).0 ∷ immediates simple }
+// Adds what stands behind the first byte of an instruction, at most ten bytes.
+fn push_immediates(batch: &mut Batch, simple: Simple)
+    requires { length batch.old + 10 ≤ 64 }
+    ensures text { batch.new ≡ batch.old ++ immediates simple }
+    ensures short { length batch.new ≤ length batch.old + 10 }
 {
-    let byte = first_byte(simple);
     match simple {
         Simple::Br(index)
         | Simple::BrIf(index)
@@ -106,13 +108,19 @@ fn spell_simple(simple: Simple) -> Chunk
         | Simple::LocalSet(index)
         | Simple::LocalTee(index)
         | Simple::GlobalGet(index)
-        | Simple::GlobalSet(index) => with_number(byte, index),
-        Simple::CallIndirect(index) => indirect(index),
-        Simple::MemorySize | Simple::MemoryGrow => two(byte, 0x00),
-        Simple::I32Const(value) => constant(byte, i64::from(value), 5),
-        Simple::I64Const(value) => constant(byte, value, 10),
-        Simple::Load(_, at) | Simple::Store(_, at) => access(byte, at),
-        _ => one(byte),
+        | Simple::GlobalSet(index) => push_number(batch, index),
+        Simple::CallIndirect(index) => {
+            push_number(batch, index);
+            batch.push_byte(0x00);
+        }
+        Simple::MemorySize | Simple::MemoryGrow => batch.push_byte(0x00),
+        Simple::I32Const(value) => push_signed(batch, i64::from(value), 5),
+        Simple::I64Const(value) => push_signed(batch, value, 10),
+        Simple::Load(_, at) | Simple::Store(_, at) => {
+            push_number(batch, at.align);
+            push_number(batch, at.offset);
+        }
+        _ => {}
     }
 }
 
@@ -127,19 +135,37 @@ pub(crate) fn instruction_of(value: Const) -> Simple
     }
 }
 
-/// The bytes of one op.
-pub(crate) fn spell(op: Op) -> Chunk
-    ensures { result ≡ op_bytes op }
+// Adds a block's first byte and its type (section 5.3.2).
+fn push_block(batch: &mut Batch, byte: u8, ty: Option<ValType>)
+    requires { length batch.old + 2 ≤ 64 }
+    ensures text { batch.new ≡ batch.old ++ byte ∷ block_byte ty ∷ [] }
+    ensures short { length batch.new ≤ length batch.old + 2 }
+{
+    batch.push_byte(byte);
+    batch.push_byte(block_byte(ty));
+}
+
+/// Adds an op, at most eleven bytes.
+pub(crate) fn push_op(batch: &mut Batch, op: Op)
+    requires { length batch.old + 11 ≤ 64 }
+    ensures text { batch.new ≡ batch.old ++ op_bytes op }
+    ensures short { length batch.new ≤ length batch.old + 11 }
 {
     match op {
-        Op::Simple(simple) => spell_simple(simple),
-        Op::Block(ty) => two(0x02, block_byte(ty)),
-        Op::Loop(ty) => two(0x03, block_byte(ty)),
-        Op::If(ty) => two(0x04, block_byte(ty)),
-        Op::Else => one(0x05),
-        Op::End => one(0x0B),
-        Op::BrTable(count) => with_number(0x0E, count),
-        Op::Label(label) => number(u64::from(label)),
+        Op::Simple(simple) => {
+            batch.push_byte(first_byte(simple));
+            push_immediates(batch, simple);
+        }
+        Op::Block(ty) => push_block(batch, 0x02, ty),
+        Op::Loop(ty) => push_block(batch, 0x03, ty),
+        Op::If(ty) => push_block(batch, 0x04, ty),
+        Op::Else => batch.push_byte(0x05),
+        Op::End => batch.push_byte(0x0B),
+        Op::BrTable(count) => {
+            batch.push_byte(0x0E);
+            push_number(batch, count);
+        }
+        Op::Label(label) => push_number(batch, label),
     }
 }
 

@@ -7,14 +7,14 @@ ghost use Rattle.wm_syntax.specs.OpClasses.{first_byte};
 ghost use Rattle.wm_syntax.specs.OpNames.{op_name};
 ghost use Rattle.wm_syntax.specs.Runs.{runs_of};
 ghost use Rattle.wm_syntax.specs.Modules.{locals_of};
-ghost use Rattle.wm_write.specs.Layout.{access_words, body_line, body_words, const_words, head_words, key_words};
-ghost use Rattle.wm_write.specs.Layout.{immediate_words, op_words, operand_words, result_words, type_word};
-ghost use Rattle.wm_write.specs.Layout.{types_words, words_text};
+ghost use Rattle.wm_write.specs.Layout.{access_words, body_line, body_words, const_words, head_words};
+ghost use Rattle.wm_write.specs.Layout.{immediate_words, key_words, op_words, operand_words, result_words};
+ghost use Rattle.wm_write.specs.Layout.{type_word, types_words, words_text};
 ghost use Rattle.wm_write.specs.exact.Writing.{Sent};
 ghost use Rattle.wm_write.specs.exact.Aligns.{is_printable, is_simple_printable};
 
+use crate::batch::Batch;
 use crate::encode::spell::instruction_of;
-use crate::print::line::Line;
 use crate::print::words::{push_type_use, put_run, type_bytes};
 use crate::put::put_bytes;
 use wm_syntax::instructions::accesses::{loaded, stored};
@@ -39,7 +39,7 @@ fn power(align: u32) -> u32
 }
 
 // Adds a part of a memory argument, unless it has its usual value.
-fn push_key(line: &mut Line, key: &[u8], usual: u32, n: u32)
+fn push_key(line: &mut Batch, key: &[u8], usual: u32, n: u32)
     requires { length line.old + (length key.now + 11) ≤ 64 }
     ensures text { line.new ≡ line.old ++ words_text (key_words key.now usual n) }
     ensures short { length line.new ≤ length line.old + (length key.now + 11) }
@@ -52,7 +52,7 @@ fn push_key(line: &mut Line, key: &[u8], usual: u32, n: u32)
 }
 
 // Adds the memory argument of an access of this width.
-fn push_access(line: &mut Line, width: u32, at: MemArg)
+fn push_access(line: &mut Batch, width: u32, at: MemArg)
     requires usual { at.align ≤ 3 }
     requires room { length line.old + 36 ≤ 64 }
     ensures { line.new ≡ line.old ++ words_text (access_words width at) }
@@ -85,8 +85,8 @@ fn name(byte: u8) -> &'static [u8]
     name_of(byte)
 }
 
-// Adds the name of an op on a line of its own, unless it is a label.
-fn push_name(line: &mut Line, op: Op)
+// Adds the name of an op on a line of its own, at most 21 bytes, unless it is a label.
+fn push_name(line: &mut Batch, op: Op)
     requires { length line.old + 21 ≤ 64 }
     ensures text { line.new ≡ line.old ++ words_text (head_words (op_name op)) }
     ensures short { length line.new ≤ length line.old + 21 }
@@ -98,7 +98,7 @@ fn push_name(line: &mut Line, op: Op)
 }
 
 // Adds what stands behind the name of an instruction.
-fn push_immediates(line: &mut Line, simple: Simple)
+fn push_immediates(line: &mut Batch, simple: Simple)
     requires usual { IsTrue (is_simple_printable simple) }
     requires room { length line.old + 36 ≤ 64 }
     ensures { line.new ≡ line.old ++ words_text (immediate_words simple) }
@@ -128,7 +128,7 @@ fn push_immediates(line: &mut Line, simple: Simple)
 }
 
 // Adds the type of a block.
-fn push_block_type(line: &mut Line, ty: Option<ValType>)
+fn push_block_type(line: &mut Batch, ty: Option<ValType>)
     requires { length line.old + 36 ≤ 64 }
     ensures { line.new ≡ line.old ++ words_text (result_words ty) }
 {
@@ -142,8 +142,8 @@ fn push_block_type(line: &mut Line, ty: Option<ValType>)
     }
 }
 
-// Adds what stands behind the name of an op.
-fn push_operands(line: &mut Line, op: Op)
+// Adds what stands behind the name of an op, at most 36 bytes.
+fn push_operands(line: &mut Batch, op: Op)
     requires usual { IsTrue (is_printable op) }
     requires room { length line.old + 36 ≤ 64 }
     ensures { line.new ≡ line.old ++ words_text (operand_words op) }
@@ -156,13 +156,13 @@ fn push_operands(line: &mut Line, op: Op)
     }
 }
 
-// Writes an op in one piece: an instruction on a line of its own, or a label.
+// Writes an op by one `put`: an instruction on a line of its own, or a label.
 fn put_op<W: Dest>(w: &mut W, written: &mut u64, op: Op)
     requires { IsTrue (is_printable op) }
     ensures { Sent (words_text (op_words op)) (W.has_failed w.old, W.contents w.old, written.old)
         (W.has_failed w.new, W.contents w.new, written.new) }
 {
-    let mut line = Line::new();
+    let mut line = Batch::new();
     push_name(&mut line, op);
     push_operands(&mut line, op);
     put_bytes(w, written, line.as_slice());
@@ -211,7 +211,7 @@ pub(crate) fn put_const<W: Dest>(w: &mut W, written: &mut u64, value: Const)
         (W.has_failed w.new, W.contents w.new, written.new) }
 {
     let instruction = instruction_of(value);
-    let mut line = Line::new();
+    let mut line = Batch::new();
     line.push(b" ");
     line.push(name(first_byte(instruction)));
     push_immediates(&mut line, instruction);

@@ -6,7 +6,7 @@ ghost use Rattle.wm_write.specs.Layout.{max_words, quoted, table_words, type_tex
 ghost use Rattle.wm_write.specs.Layout.{types_words, word_text, words_text};
 ghost use Rattle.wm_write.specs.exact.Writing.{Sent};
 
-use crate::print::line::Line;
+use crate::batch::Batch;
 use crate::put::{Part, put_bytes, put_each};
 use itoa::{Buffer, Integer};
 use wm_syntax::io::Dest;
@@ -125,13 +125,13 @@ pub(crate) fn put_type_use<W: Dest>(w: &mut W, written: &mut u64, index: u32)
     ensures { Sent (words_text (type_use index)) (W.has_failed w.old, W.contents w.old, written.old)
         (W.has_failed w.new, W.contents w.new, written.new) }
 {
-    let mut line = Line::new();
+    let mut line = Batch::new();
     push_type_use(&mut line, index);
     put_bytes(w, written, line.as_slice());
 }
 
 /// Adds the use of a type to a line.
-pub(crate) fn push_type_use(line: &mut Line, index: u32)
+pub(crate) fn push_type_use(line: &mut Batch, index: u32)
     requires { length line.old + 20 ≤ 64 }
     ensures { line.new ≡ line.old ++ words_text (type_use index) }
 {

@@ -1,34 +1,35 @@
-//! A line of a printed body, put together before it goes out.
+//! Some bytes of output that are put together, and go out by one `put`.
 
-ghost use Rattle.std.specs.Prelude.{◌≡◌, ◌+◌, ◌≤◌, [], ◌++◌, length};
+ghost use Rattle.std.specs.Prelude.{◌≡◌, ◌+◌, ◌<◌, ◌≤◌, [], ◌∷◌, ◌++◌, length};
 
 use itoa::{Buffer, Integer};
 use std::marker::Model;
 
-const ROOM: usize = 64;
+/// The most bytes of a batch.
+pub(crate) const ROOM: usize = 64;
 
 /// At most 64 bytes. Contracts see them as a list.
 #[derive(Drop)]
-pub(crate) struct Line {
+pub(crate) struct Batch {
     bytes: [u8; ROOM],
     len: usize,
 }
 
-impl Model for Line {
+impl Model for Batch {
     ghost use Rattle.std.specs.Prelude.{ℕ, List, take, ◌≤◌};
 
     ghost Value = { List ℕ };
 
-    ghost view = { λ l. take l.len l.bytes };
+    ghost view = { λ b. take b.len b.bytes };
 
-    ghost invariant = { λ l. l.len ≤ 64 };
+    ghost invariant = { λ b. b.len ≤ 64 };
 }
 
-impl Line {
+impl Batch {
     pub(crate) fn new() -> Self
         ensures { result ≡ [] }
     {
-        Line {
+        Batch {
             bytes: [0; ROOM],
             len: 0,
         }
@@ -38,6 +39,18 @@ impl Line {
         ensures { result.now ≡ self.now }
     {
         &self.bytes[..self.len]
+    }
+
+    pub(crate) fn len(&self) -> usize
+        ensures { result ≡ length self.now }
+    {
+        self.len
+    }
+
+    pub(crate) fn clear(&mut self)
+        ensures { self.new ≡ [] }
+    {
+        self.len = 0;
     }
 
     /// Adds some bytes.
@@ -50,7 +63,16 @@ impl Line {
         self.len = end;
     }
 
-    /// Adds a number behind some bytes.
+    /// Adds a byte.
+    pub(crate) fn push_byte(&mut self, byte: u8)
+        requires { length self.old < 64 }
+        ensures { self.new ≡ self.old ++ byte ∷ [] }
+    {
+        self.bytes[self.len] = byte;
+        self.len += 1;
+    }
+
+    /// Adds a number in digits behind some bytes.
     pub(crate) fn push_counted<I: Integer>(&mut self, front: &[u8], n: I)
         requires { length self.old + (length front.now + I.MAX_STR_LEN) ≤ 64 }
         ensures text { self.new ≡ self.old ++ (front.now ++ I.text n) }

@@ -1,0 +1,10 @@
+use Rattle.std.proofs.Common.{take}
+use Rattle.wm_write.specs.Canon.{ops_bytes}
+use Rattle.wm_write.specs.exact.Writing.{SentBut}
+use Rattle.wm_write.proofs.encode.code.put_ops.Given as goal
+
+-- the ops so far went out, but for what is still put together
+abbrev pub invariant-loop-op : goal.invariant-loop-op
+invariant-loop-op g l =
+    SentBut l.batch (ops_bytes (take l.op-index l.ops)) (g.W.Dest.has_failed l.fn.w, g.W.Dest.contents l.fn.w, l.fn.written)
+    (g.W.Dest.has_failed l.w, g.W.Dest.contents l.w, l.written)
