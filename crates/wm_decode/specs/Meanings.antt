@@ -91,7 +91,7 @@ Means limit used rest why.Truncated = EndsInside used rest
 Means limit used rest why.TooLong = length used ≡ limit + 1
 Means limit used rest w = Unit {0}
 
--- The refusal of an input has its place within it, and its name says so of the bytes up to there.
+-- A refusal of an input: its place lies within it, and what its name says holds of the bytes up to there.
 pub record Meaning (limit : ℕ) (input : List ℕ) (r : Refusal) : Type 0 where
   pub used : List ℕ
   pub rest : List ℕ
