@@ -19,3 +19,4 @@ pub mod HeightsAndMoves
 pub mod Folds
 pub mod Tables
 pub mod OpenFrames
+pub mod KnownTypes
