@@ -20,3 +20,4 @@ pub mod Folds
 pub mod Tables
 pub mod OpenFrames
 pub mod KnownTypes
+pub mod Raises
