@@ -19,3 +19,5 @@ pub mod HeightsAndMoves
 pub mod Folds
 pub mod Tables
 pub mod OpenFrames
+pub mod KnownTypes
+pub mod Raises

@@ -5,4 +5,5 @@ pub mod Bodies
 pub mod Effects
 pub mod Folds
 pub mod Ops
+pub mod Raises
 pub mod Takes

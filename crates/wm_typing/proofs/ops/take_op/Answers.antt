@@ -9,7 +9,7 @@ use Rattle.wm_typing.proofs.ops.take_op.Goals as goal
 pub returns-in-Simple-clause-stays : goal.returns-in-Simple-clause-stays
 returns-in-Simple-clause-stays c =
     let f = c.args.function.now in
-    simple_stays (effect_of (within_frames (in_function c.args.context.now f.type_index f.result f.declared) c.args.stacks.now.frames) c.in-Simple.op) c.args.stacks.now c.simple.new.stacks c.simple.result (c.args.op ≢ End)
+    simple_stays (effect_of (within_frames (in_function c.args.context.now f.type_index f.result c.args.declared.now.types) c.args.stacks.now.frames) c.in-Simple.op) c.args.stacks.now c.simple.new.stacks c.simple.result (c.args.op ≢ End)
     c.requires.can_act.0 c.simple.ensures.acts.0
 
 pub returns-in-Some-clause-stays : goal.returns-in-Some-clause-stays
