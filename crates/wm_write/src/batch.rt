@@ -72,14 +72,24 @@ impl Batch {
         self.len += 1;
     }
 
-    /// Adds a number in digits behind some bytes.
+    // Adds a number in digits.
+    fn push_digits<I: Integer>(&mut self, n: I)
+        requires { length self.old + I.MAX_STR_LEN ≤ 64 }
+        ensures text { self.new ≡ self.old ++ I.text n }
+        ensures short { length self.new ≤ length self.old + I.MAX_STR_LEN }
+    {
+        let mut buffer = Buffer::new();
+        self.push(buffer.format(n).as_bytes());
+    }
+
+    /// Adds a number in digits behind some bytes. It is inline, since their length is known at each call.
+    #[inline(always)]
     pub(crate) fn push_counted<I: Integer>(&mut self, front: &[u8], n: I)
         requires { length self.old + (length front.now + I.MAX_STR_LEN) ≤ 64 }
         ensures text { self.new ≡ self.old ++ (front.now ++ I.text n) }
         ensures short { length self.new ≤ length self.old + (length front.now + I.MAX_STR_LEN) }
     {
-        let mut buffer = Buffer::new();
         self.push(front);
-        self.push(buffer.format(n).as_bytes());
+        self.push_digits(n);
     }
 }
