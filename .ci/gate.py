@@ -11,10 +11,13 @@ and what is installed is tried (packages.py). It also says what each crate cost.
     .ci/gate.py --keep FOLDER    the same over what an earlier run kept in FOLDER: for one's own work, and no verdict
 """
 import collections
+import concurrent.futures
 import importlib.machinery
 import importlib.util
 import os
+import queue
 import re
+import shutil
 import subprocess
 import sys
 import tempfile
@@ -219,17 +222,18 @@ def called_in(crate):
 
 
 def grouped(crate, left, calls):
-    """As many of these edits as fit beside one another, each with its function's names, and the texts with all of them. A
-    function is not tried beside one that it calls, since it would wait for that."""
+    """As many of these edits as fit beside one another, and the texts with all of them. A function is not tried beside one
+    that it calls, since it would wait for that."""
     group, texts, taken = [], {}, set()
-    for edit, pairs, place, names in left:
+    for one in left:
+        _, pairs, place, _ = one
         name = place[1]
         is_apart = place not in taken and not any(it in calls[name] or name in calls[it] for _, it in taken)
         fits = with_pairs(crate, pairs, texts) if is_apart else None
         if fits:
             texts = fits[0]
             taken.add(place)
-            group.append((edit, names))
+            group.append(one)
     return group, texts
 
 
@@ -245,25 +249,59 @@ def placed(crate, edits, proved):
     return [it for it in found if it[3]]
 
 
-def in_groups(crate, left, flags):
-    """Tries placed edits together, each in another function, and checks these functions alone. A function's proof reads no body
-    but its own, so one that fails for a reason of its own is refused for its own edit. Returns what is said of each that was refused so."""
+def tried_together(crate, group, texts, flags, kept):
+    """Checks the functions of these edits alone, with all of them applied. A function's proof reads no body but its own, so one that fails for a reason
+    of its own is refused for its own edit. Returns what is said of each that was refused so."""
+    words = only({it for *_, names in group for it in names})
+    ran = check_a_copy(crate, texts, [*flags, *words], kept)
+    is_read = ran.returncode == 1 and ran.stdout.rstrip("\n").split("\n")[-1].startswith("only=")
+    if not is_read or any(rt.unread(it, texts) for it in ran.stdout.split("\n")):
+        return {}
+    found = {edit: refused_alone(ran.stdout, names) for edit, *_, names in group}
+    return {edit: line for edit, line in found.items() if line}
+
+
+def in_groups(crate, left, flags, folders):
+    """Tries placed edits together, each in another function. Returns what is said of each that was refused so. An edit that was not, in a group where
+    another was, is tried again; one in a group where none was is left."""
     said, calls = {}, called_in(crate)
     left = sorted(left, key=lambda it: len(calls[it[2][1]]))
     while left:
-        group, texts = grouped(crate, left, calls)
-        words = only({it for _, names in group for it in names})
-        ran = check_a_copy(crate, texts, [*flags, *words], kept_of(crate))
-        is_read = ran.returncode == 1 and ran.stdout.rstrip("\n").split("\n")[-1].startswith("only=")
-        if not is_read or any(rt.unread(it, texts) for it in ran.stdout.split("\n")):
-            break
-        found = {edit: refused_alone(ran.stdout, names) for edit, names in group}
-        found = {edit: line for edit, line in found.items() if line}
-        said.update(found)
-        if not found:
-            break
-        left = [it for it in left if it[0] not in said]
+        groups = []
+        while left:
+            groups.append(grouped(crate, left, calls))
+            left = [it for it in left if it not in groups[-1][0]]
+        found = side_by_side(lambda it, kept: tried_together(crate, *it, flags, kept), groups, folders)
+        for (group, _), one in zip(groups, found):
+            said.update(one)
+            left += [it for it in group if one and it[0] not in one]
     return said
+
+
+def side_by_side(call, things, folders):
+    """What the call gives of each thing, as many at a time as there are folders, each of which serves one call at a time."""
+    free = queue.SimpleQueue()
+    for it in folders:
+        free.put(it)
+
+    def over_a_folder(thing):
+        folder = free.get()
+        try:
+            return call(thing, folder)
+        finally:
+            free.put(folder)
+
+    with concurrent.futures.ThreadPoolExecutor(len(folders)) as pool:
+        return list(pool.map(over_a_folder, things))
+
+
+def folders_for(crate):
+    """The folders of kept work over which the crate's edits are tried. One on which no other stands comes last, when processors are idle: it has two."""
+    first, second = kept_of(crate), f"{ROOM.name}/{crate.name}.second"
+    if any(crate.name == below.name for it in rtlib.crates_below(os.getcwd()) for below in it.below()):
+        return [first]
+    shutil.copytree(first, second)
+    return [first, second]
 
 
 def must_fail_all(crate, edits, _):
@@ -273,17 +311,21 @@ def must_fail_all(crate, edits, _):
         return []
     flags = ["--jobs", str(max(1, rt.processors() // 2))]
     ran = check_a_copy(crate, {}, flags, kept_of(crate))
+    folders = folders_for(crate)
     left = placed(crate, edits, re.findall(r"(?m)^fn (\S+): proved", ran.stdout))
-    said, tried = {} if ran.returncode else in_groups(crate, left, flags), []
-    for edit in edits:
+    said = {} if ran.returncode else in_groups(crate, left, flags, folders)
+
+    def tried(edit, kept):
         label = f"must-fail {crate.name}/{os.path.basename(edit)}"
         if edit in said:
-            tried.append((REFUSED, f"{label}: refused, as it must be: {said[edit][:160]}"))
-        else:
-            tried.append(rt.must_fail(crate, edit, flags, kept_of(crate)))
+            return REFUSED, f"{label}: refused, as it must be: {said[edit][:160]}"
+        return rt.must_fail(crate, edit, flags, kept)
+
+    results = side_by_side(tried, edits, folders)
     words = only({it for *_, names in left for it in names})
-    is_sound = not ran.returncode and not check_a_copy(crate, {}, [*flags, *words], kept_of(crate)).returncode
-    return [it if is_sound and it[0] in SETTLED else from_nothing(crate, edit, flags) for edit, it in zip(edits, tried)]
+    is_proved = lambda kept: not check_a_copy(crate, {}, [*flags, *words], kept).returncode
+    is_sound = not ran.returncode and all([is_proved(it) for it in folders])
+    return [it if is_sound and it[0] in SETTLED else from_nothing(crate, edit, flags) for edit, it in zip(edits, results)]
 
 
 def add_edits(tasks, crate, edits, first, waits, is_well, kept):
