@@ -15,7 +15,7 @@ ghost use Rattle.wm_read.specs.inner.Places.{Before, IsPlace};
 use crate::faults::{TextRefusal, TextWhy};
 use crate::tokens::scan::{
     Class, Mode, Step, after_comment, after_line, after_spaces, after_string, atom_len, class_of,
-    is_atom, string_step,
+    given_first, is_atom, string_step,
 };
 use std::alloc::{AllocError, Global};
 
@@ -230,7 +230,7 @@ pub fn string_bytes(alloc: Global, text: &[u8]) -> Result<Vec<u8>, AllocError>
     ensures { IfOk result (λ v. v.items ≡ bytes_of text.now) }
 {
     let mut bytes = Vec::new(alloc);
-    let mut rest = text;
+    let mut rest = push_given(&mut bytes, text)?;
     let mut mode = Mode::Plain;
     while let [c, more @ ..] = rest {
         rest = more;
@@ -238,16 +238,32 @@ pub fn string_bytes(alloc: Global, text: &[u8]) -> Result<Vec<u8>, AllocError>
             Step::On(next) => mode = next,
             Step::Byte(byte) => {
                 bytes.push(byte)?;
+                rest = push_given(&mut bytes, more)?;
                 mode = Mode::Plain;
             }
             Step::Scalar(n) => {
                 push_scalar(&mut bytes, n)?;
+                rest = push_given(&mut bytes, more)?;
                 mode = Mode::Plain;
             }
             Step::End | Step::Bad => return Ok(bytes),
         }
     }
     Ok(bytes)
+}
+
+/// Adds the bytes that stand first in a string, as far as `given_first` finds them, and says what follows.
+fn push_given<'a>(bytes: &mut Vec<u8>, text: &'a [u8]) -> Result<&'a [u8], AllocError>
+    ensures given { IfOk result (λ r. bytes.new.items ++ scan.given_in mode.Plain r.now
+        ≡ bytes.old.items ++ scan.given_in mode.Plain text.now) }
+    ensures within { IfOk result (λ r. length r.now ≤ length text.now) }
+{
+    let mut rest = text;
+    while let Some((byte, more)) = given_first(rest) {
+        bytes.push(byte)?;
+        rest = more;
+    }
+    Ok(rest)
 }
 
 /// Adds the UTF-8 of a scalar value.

@@ -1,7 +1,7 @@
 //! How the bytes of a text are told apart.
 
 ghost use Rattle.std.specs.Prelude.{◌≡◌, ◌≤◌, ◌+◌, zero, length, take, drop, false, Some, None, MatchOption};
-ghost use Rattle.std.specs.Prelude.{IfSome, IfErr, MatchResult, ◌*◌, min};
+ghost use Rattle.std.specs.Prelude.{IfSome, IfErr, MatchResult, ◌*◌, ◌<◌, ◌∷◌, min};
 ghost use Rattle.std.specs.Option.{option_map};
 ghost use Rattle.wm_read.specs.exact.Scan as scan;
 ghost use Rattle.wm_read.specs.declared.tokens.scan.Mode.TheVariants.{Plain, Escape, Digits};
@@ -196,19 +196,32 @@ pub fn after_comment(text: &[u8]) -> Option<&[u8]>
     }
 }
 
+// The value of each hexadecimal digit stands at its own place, and 16, which none has, at every other.
+static DIGITS: [u8; 256] = [
+    16, 16, 16, 16, 16, 16, 16, 16, 16, 16, 16, 16, 16, 16, 16, 16, 16, 16, 16, 16, 16, 16, 16, 16,
+    16, 16, 16, 16, 16, 16, 16, 16, 16, 16, 16, 16, 16, 16, 16, 16, 16, 16, 16, 16, 16, 16, 16, 16,
+    0, 1, 2, 3, 4, 5, 6, 7, 8, 9, 16, 16, 16, 16, 16, 16, 16, 10, 11, 12, 13, 14, 15, 16, 16, 16,
+    16, 16, 16, 16, 16, 16, 16, 16, 16, 16, 16, 16, 16, 16, 16, 16, 16, 16, 16, 16, 16, 16, 16, 10,
+    11, 12, 13, 14, 15, 16, 16, 16, 16, 16, 16, 16, 16, 16, 16, 16, 16, 16, 16, 16, 16, 16, 16, 16,
+    16, 16, 16, 16, 16, 16, 16, 16, 16, 16, 16, 16, 16, 16, 16, 16, 16, 16, 16, 16, 16, 16, 16, 16,
+    16, 16, 16, 16, 16, 16, 16, 16, 16, 16, 16, 16, 16, 16, 16, 16, 16, 16, 16, 16, 16, 16, 16, 16,
+    16, 16, 16, 16, 16, 16, 16, 16, 16, 16, 16, 16, 16, 16, 16, 16, 16, 16, 16, 16, 16, 16, 16, 16,
+    16, 16, 16, 16, 16, 16, 16, 16, 16, 16, 16, 16, 16, 16, 16, 16, 16, 16, 16, 16, 16, 16, 16, 16,
+    16, 16, 16, 16, 16, 16, 16, 16, 16, 16, 16, 16, 16, 16, 16, 16, 16, 16, 16, 16, 16, 16, 16, 16,
+    16, 16, 16, 16, 16, 16, 16, 16, 16, 16, 16, 16, 16, 16,
+];
+
 /// The value of a hexadecimal digit (section 6.3.1).
+#[inline(always)]
 pub fn digit_value(byte: u8) -> Option<u8>
     ensures { result ≡ tokens.digit_value byte }
 {
-    match byte {
-        b'0'..=b'9' => Some(byte - b'0'),
-        b'a'..=b'f' => Some(byte - b'a' + 10),
-        b'A'..=b'F' => Some(byte - b'A' + 10),
-        _ => None,
-    }
+    let value = DIGITS[byte as usize];
+    if value < 16 { Some(value) } else { None }
 }
 
 /// What the next byte of a string does (section 6.3.3).
+#[inline(always)]
 #[tactic(auto, unfolding(crate::specs::exact::Scan::string_step))]
 pub fn string_step(mode: Mode, byte: u8) -> Step
     requires { IsMode mode }
@@ -290,21 +303,98 @@ fn is_scalar(n: u32) -> bool
     n < 0xD800 || (0xE000 <= n && n < 0x11_0000)
 }
 
+/// The byte that stands first in a string, and what follows it; none where something else stands there, or an
+/// escape of more than three characters.
+#[inline(always)]
+#[tactic(auto, using(crate::proofs::Strings::rest_laws, crate::proofs::Strings::given_laws))]
+pub fn given_first(text: &[u8]) -> Option<(u8, &[u8])>
+    ensures rest { IfSome result (λ x. scan.rest_of (scan.string_in Plain text.now)
+        ≡ scan.rest_of (scan.string_in Plain x.1.now)) }
+    ensures given { IfSome result (λ x. scan.given_in Plain text.now ≡ x.0 ∷ scan.given_in Plain x.1.now) }
+    ensures shorter { IfSome result (λ x. length x.1.now < length text.now) }
+{
+    let [c, more @ ..] = text else {
+        return None;
+    };
+    match string_step(Mode::Plain, *c) {
+        Step::Byte(byte) => Some((byte, more)),
+        Step::On(mode) => given_within(mode, more),
+        Step::Scalar(_) | Step::End | Step::Bad => None,
+    }
+}
+
+/// The same within an escape, behind its first character.
+#[inline(always)]
+#[tactic(auto, using(crate::proofs::Strings::rest_laws, crate::proofs::Strings::given_laws))]
+fn given_within(mode: Mode, text: &[u8]) -> Option<(u8, &[u8])>
+    requires { IsMode mode }
+    ensures rest { IfSome result (λ x. scan.rest_of (scan.string_in mode text.now)
+        ≡ scan.rest_of (scan.string_in Plain x.1.now)) }
+    ensures given { IfSome result (λ x. scan.given_in mode text.now ≡ x.0 ∷ scan.given_in Plain x.1.now) }
+    ensures shorter { IfSome result (λ x. length x.1.now < length text.now) }
+{
+    let [c, more @ ..] = text else {
+        return None;
+    };
+    match string_step(mode, *c) {
+        Step::Byte(byte) => Some((byte, more)),
+        Step::On(next) => given_last(next, more),
+        Step::Scalar(_) | Step::End | Step::Bad => None,
+    }
+}
+
+/// The same behind the second character of an escape.
+#[inline(always)]
+#[tactic(auto, using(crate::proofs::Strings::rest_laws, crate::proofs::Strings::given_laws))]
+fn given_last(mode: Mode, text: &[u8]) -> Option<(u8, &[u8])>
+    requires { IsMode mode }
+    ensures rest { IfSome result (λ x. scan.rest_of (scan.string_in mode text.now)
+        ≡ scan.rest_of (scan.string_in Plain x.1.now)) }
+    ensures given { IfSome result (λ x. scan.given_in mode text.now ≡ x.0 ∷ scan.given_in Plain x.1.now) }
+    ensures shorter { IfSome result (λ x. length x.1.now < length text.now) }
+{
+    let [c, more @ ..] = text else {
+        return None;
+    };
+    match string_step(mode, *c) {
+        Step::Byte(byte) => Some((byte, more)),
+        _ => None,
+    }
+}
+
+/// A string from where no byte stands first that `given_first` finds.
+fn after_given(text: &[u8]) -> &[u8]
+    ensures rest { scan.rest_of (scan.string_in Plain result.now) ≡ scan.rest_of (scan.string_in Plain text.now) }
+    ensures within { length result.now ≤ length text.now }
+{
+    let mut rest = text;
+    while let Some((_, more)) = given_first(rest) {
+        rest = more;
+    }
+    rest
+}
+
 /// What stands behind a string (section 6.3.3), from the text after its quotation mark.
+#[inline(never)]
 #[tactic(auto, using(crate::proofs::Strings::rest_laws))]
 pub fn after_string(text: &[u8]) -> Result<&[u8], TextWhy>
     ensures rest { MatchResult result (λ r. scan.rest_of (scan.string_in Plain text.now) ≡ Some r.now)
         (λ _. scan.rest_of (scan.string_in Plain text.now) ≡ None) }
     ensures why { IfErr result IsOfTokens }
 {
-    let mut rest = text;
+    let mut rest = after_given(text);
     let mut mode = Mode::Plain;
     while let [c, more @ ..] = rest {
-        rest = more;
         match string_step(mode, *c) {
-            Step::On(next) => mode = next,
-            Step::Byte(_) | Step::Scalar(_) => mode = Mode::Plain,
-            Step::End => return Ok(rest),
+            Step::On(next) => {
+                mode = next;
+                rest = more;
+            }
+            Step::Byte(_) | Step::Scalar(_) => {
+                mode = Mode::Plain;
+                rest = after_given(more);
+            }
+            Step::End => return Ok(more),
             Step::Bad => return Err(bad_in(mode)),
         }
     }
