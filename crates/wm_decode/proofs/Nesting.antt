@@ -7,14 +7,13 @@ use Rattle.wm_syntax.specs.declared.types.Const.TheVariants as const
 use Rattle.wm_syntax.specs.declared.instructions.Op.{Op}
 use Rattle.wm_syntax.specs.declared.instructions.Op.TheVariants as op
 use Rattle.wm_syntax.specs.declared.profile.Profile.{Profile}
-use Rattle.wm_syntax.specs.declared.profile.Profile.TheVariants.{One, Two}
 use Rattle.wm_syntax.specs.Spelling.{Form, Exactly, Each, ◌▸◌}
 use Rattle.wm_syntax.specs.Types.{SpellsU32, SpellsBytes, SpellsList, SpellsSignature, SpellsLimits, SpellsTableType, SpellsGlobalType}
 use Rattle.wm_syntax.specs.Instructions.{Instructions, SpellsExpression, SpellsOp, HasOps}
 use Rattle.wm_syntax.specs.Modules.{Function, Module, constant, constant_body}
-use Rattle.wm_syntax.specs.Profiles.{HasSimple, HasInstructions, IsOpOf, IsOf}
+use Rattle.wm_syntax.specs.Profiles.{HasInstructions, IsOpOf, IsOf}
 use Rattle.wm_syntax.proofs.Flat.{each_append, each_one, each_split, each_only, ops_of_instructions, spelled_by_ops}
-use Rattle.wm_syntax.proofs.ProfileLaws.{all_append, all_front, by_ops}
+use Rattle.wm_syntax.proofs.ProfileLaws.{all_append, all_front, by_ops, constant_has}
 use Rattle.wm_decode.specs.Sections.{ListSection, StartSection, Customs, header, SpellsImport, SpellsConst, SpellsGlobal, SpellsExport, SpellsElement, SpellsCode, SpellsSegment, SpellsModule}
 use Rattle.wm_decode.specs.Flat.{FlatModule, SpellsOps, SpellsFlatGlobal, SpellsFlatElement, SpellsFlatCode, SpellsFlatSegment, InOrder, flat_sections, SpellsFlat, constant_ops, IsIndexOf, IsCodeOf, IsGlobalOf, IsElementOf, IsSegmentOf, IsFlatOf}
 use Rattle.wm_decode.proofs.ExpressionOps.{is_expression}
@@ -130,15 +129,7 @@ module _ (p : Profile) where
   profile_from : (s : Instructions) (ops : List Op) → HasAllOps s ops → AllByRecursion (IsOpOf p) ops → HasInstructions p s
   profile_from s ops r h = (by_ops p s r.0 r.3).1 (all_front (IsOpOf p) r.0 r.1 (subst (AllByRecursion (IsOpOf p)) r.2 h))
 
-  -- a constant is of every profile, and its ops are its one and the end
-  constant_has : (q : Profile) (c : Const) → HasSimple q (constant c)
-  constant_has One (const.I32 n) = tt
-  constant_has One (const.I64 n) = tt
-  constant_has One (const.Global x) = tt
-  constant_has Two (const.I32 n) = tt
-  constant_has Two (const.I64 n) = tt
-  constant_has Two (const.Global x) = tt
-
+  -- a constant's ops are its one and the end
   constant_only : (c : Const) (ops : List Op) → HasAllOps (constant_body c) ops → ops ≡ constant_ops c
   constant_only c ops (x, y, e, (u, v, f, k, l), m) = cc
 

@@ -1,5 +1,5 @@
 -- The flat value determines the module, and an input's marks say it.
-use Rattle.std.proofs.Common.{ℕ, ◌≡◌, List, [], ◌∷◌, ◌++◌, refl, sym, ◌∙◌, ap, subst}
+use Rattle.std.proofs.Common.{ℕ, ◌≡◌, IsTrue, List, [], ◌∷◌, ◌++◌, refl, sym, ◌∙◌, ap, subst}
 use Rattle.std.specs.List.{AllByRecursion, AllZip}
 use Rattle.std.proofs.lemmas.List.{append_cancel_right}
 use Rattle.wm_syntax.specs.declared.types.Const.{Const}
@@ -7,10 +7,12 @@ use Rattle.wm_syntax.specs.declared.types.Const.TheVariants as const
 use Rattle.wm_syntax.specs.declared.instructions.Op.{Op}
 use Rattle.wm_syntax.specs.declared.instructions.Op.TheVariants as op
 use Rattle.wm_syntax.specs.declared.profile.Profile.{Profile}
+use Rattle.wm_syntax.specs.declared.profile.Feature.{Feature}
+use Rattle.wm_syntax.specs.declared.profile.Feature.TheVariants.{Base, SignExtension}
 use Rattle.wm_syntax.specs.declared.profile.Profile.TheVariants.{Two}
 use Rattle.wm_syntax.specs.Instructions.{HasOps, ops_of}
 use Rattle.wm_syntax.specs.Modules.{Function, GlobalDef, Element, Segment, Module, constant}
-use Rattle.wm_syntax.specs.Profiles.{HasInstructions, IsOpOf, IsOf}
+use Rattle.wm_syntax.specs.Profiles.{HasInstructions, IsOpOf, IsOf, feature_of, has}
 use Rattle.wm_syntax.proofs.Bodies.{has_ops, same_instructions}
 use Rattle.wm_syntax.proofs.ProfileLaws.{by_ops}
 use Rattle.wm_decode.specs.Items.{Marks, items_at}
@@ -119,8 +121,12 @@ pub module_of_parts : (m n : Module) (v w : FlatModule) → IsFlatOf m v → IsF
 module_of_parts m n v w r s e = module_of_flat m n v r (subst (IsFlatOf n) (sym (one_flat v w e)) s)
 
 -- every module is of the second profile
+two_has : (f : Feature) → IsTrue (has Two f)
+two_has Base = refl
+two_has SignExtension = refl
+
 op_of_two : (o : Op) → IsOpOf Two o
-op_of_two (op.Simple i) = tt
+op_of_two (op.Simple i) = two_has (feature_of i)
 op_of_two _ = tt
 
 ops_of_two : (ops : List Op) → AllByRecursion (IsOpOf Two) ops

@@ -2,7 +2,6 @@
 use Rattle.std.proofs.Common.{◌≡◌, ℕ, List, [], ◌∷◌, ◌++◌, Option, Some, refl, sym, ap, ◌∙◌, subst}
 use Rattle.std.specs.Prelude.{None as Nothing}
 use Rattle.wm_syntax.specs.declared.profile.Profile.{Profile}
-use Rattle.wm_syntax.specs.declared.profile.Profile.TheVariants.{One, Two}
 use Rattle.wm_syntax.specs.declared.instructions.Numeric.TheVariants.{SignExtend}
 use Rattle.wm_syntax.specs.declared.instructions.Simple.{Simple}
 use Rattle.wm_syntax.specs.declared.instructions.Simple.TheVariants as s
@@ -33,11 +32,9 @@ no_label (op.Label l) h = let e : Plain (op.Label l) ≡ With h.0 = h.1 in cc
 no_label _ h = tt
 
 pub of_each : (p : Profile) (o : Op) → HasImmediates o → IsOpOf p o
-of_each One (op.Simple (s.Numeric (SignExtend x))) h = let e : Plain (op.Simple (s.Numeric (SignExtend x))) ≡ With h.0 = h.1 in cc
-of_each One (op.Simple _) h = tt
-of_each One _ h = tt
-of_each Two (op.Simple i) h = tt
-of_each Two _ h = tt
+of_each p (op.Simple (s.Numeric (SignExtend x))) h = let e : Plain (op.Simple (s.Numeric (SignExtend x))) ≡ With h.0 = h.1 in cc
+of_each p (op.Simple _) h = refl
+of_each p _ h = tt
 
 -- the byte of a class
 abbrev pub kind_byte : Immediates → ℕ

@@ -22,10 +22,9 @@ use Rattle.wm_syntax.specs.declared.instructions.op_class.Immediates.TheVariants
 use Rattle.wm_syntax.specs.declared.instructions.op_class.OpClass.{OpClass}
 use Rattle.wm_syntax.specs.declared.instructions.op_class.OpClass.TheVariants as class
 use Rattle.wm_syntax.specs.declared.profile.Profile.{Profile}
-use Rattle.wm_syntax.specs.declared.profile.Profile.TheVariants.{One as First, Two as Second}
 use Rattle.wm_syntax.specs.exact.NameTable.{class_named}
 use Rattle.wm_syntax.specs.Modules.{constant}
-use Rattle.wm_syntax.specs.Profiles.{HasSimple}
+use Rattle.wm_syntax.proofs.ProfileLaws.{constant_has}
 use Rattle.wm_read.specs.Tokens.{Token, open_paren, close_paren, string, atom}
 use Rattle.wm_read.specs.Identifiers.{Id, Ids, AreDistinct, WritesId, Resolves, ResolvesLabel}
 use Rattle.wm_read.specs.Written.{Named, Names, Scope, Paren, TypeUse}
@@ -149,13 +148,6 @@ bytes_complete bytes front rest (parts, e, h) f = made_is joined (strings_at (fr
 
 -- ---- constants
 
--- the words of constants name them in each profile
-const_has : (p : Profile) (c : Const) → HasSimple p (constant c)
-const_has First (const.I32 n) = tt
-const_has First (const.I64 n) = tt
-const_has First (const.Global x) = tt
-const_has Second c = tt
-
 abbrev scope_with : Names → Scope
 scope_with names = record { names = names; locals = [] }
 
@@ -199,7 +191,7 @@ module _ (p : Profile) (names : Names) where
       (atom w ∷ g.0, ap (λ (z : List Token). atom w ∷ z) g.1, g.2.0)
 
   const_word : (c : Const) (t : List Token) → const_at p names (atom (opcode (constant c)).1 ∷ t) ≡ const_class names (class_of (op.Simple (constant c))) t
-  const_word c t = ap (λ (o : OpClass). const_class names o t) (piece_named p (plain (constant c)) (const_has p c))
+  const_word c t = ap (λ (o : OpClass). const_class names o t) (piece_named p (plain (constant c)) (constant_has p c))
 
   pub const_complete : HasDistinct names → Complete (const_at p names) (WritesConst names) Any
   const_complete d (const.I32 n) front rest (a, b, e, w, h) f =

@@ -10,8 +10,8 @@ use Rattle.wm_syntax.specs.declared.instructions.Simple.{Simple}
 use Rattle.wm_syntax.specs.declared.profile.Profile.{Profile}
 use Rattle.wm_syntax.specs.Instructions.{Instruction, Instructions, none, snoc, simple, table, block, loop, choice, HasOp, HasOps, HasElse}
 use Rattle.std.specs.List.{AllByRecursion}
-use Rattle.wm_syntax.specs.declared.profile.Profile.TheVariants.{One as First, Two as Second}
 use Rattle.wm_syntax.specs.Profiles.{HasInstructions, IsOpOf}
+use Rattle.wm_syntax.proofs.ProfileLaws.{all_append, labels_of}
 use Rattle.wm_syntax.proofs.ProfileLaws.{by_ops}
 use Rattle.wm_read.specs.Tokens.{Token}
 use Rattle.wm_read.specs.declared.code.blocks.Opening.{Opening}
@@ -251,34 +251,18 @@ unfolding op_grammar
 op_pieces bs [] = refl
 op_pieces bs (q ∷ ps) = (piece_ops q, pieces_ops ps, refl, refl, op_pieces (after bs q) ps)
 
-labels_of : (p : Profile) (ls : List ℕ) (l : ℕ) → AllByRecursion (IsOpOf p) (map op.Label ls ++ op.Label l ∷ [])
-labels_of First [] l = (tt, tt)
-labels_of Second [] l = (tt, tt)
-labels_of First (x ∷ ls) l = (tt, labels_of First ls l)
-labels_of Second (x ∷ ls) l = (tt, labels_of Second ls l)
-
-all_append : (p : Profile) (x y : List Op) → AllByRecursion (IsOpOf p) x → AllByRecursion (IsOpOf p) y → AllByRecursion (IsOpOf p) (x ++ y)
-all_append p [] y a b = b
-all_append p (o ∷ x) y a b = (a.0, all_append p x y a.1 b)
-
 piece_of : (p : Profile) (q : Piece) → IsPieceOf p q → AllByRecursion (IsOpOf p) (piece_ops q)
 piece_of p (plain i) h = (h, tt)
-piece_of First (jump ls l) h = (tt, labels_of First ls l)
-piece_of Second (jump ls l) h = (tt, labels_of Second ls l)
-piece_of First (opens Block id t) h = (tt, tt)
-piece_of First (opens Loop id t) h = (tt, tt)
-piece_of First (opens If id t) h = (tt, tt)
-piece_of Second (opens Block id t) h = (tt, tt)
-piece_of Second (opens Loop id t) h = (tt, tt)
-piece_of Second (opens If id t) h = (tt, tt)
-piece_of First middle h = (tt, tt)
-piece_of Second middle h = (tt, tt)
-piece_of First closes h = (tt, tt)
-piece_of Second closes h = (tt, tt)
+piece_of p (jump ls l) h = (tt, labels_of p ls l)
+piece_of p (opens Block id t) h = (tt, tt)
+piece_of p (opens Loop id t) h = (tt, tt)
+piece_of p (opens If id t) h = (tt, tt)
+piece_of p middle h = (tt, tt)
+piece_of p closes h = (tt, tt)
 
 ops_of_profile : (p : Profile) (sc : Scope) (bs : Opened) (ps : List Piece) (k : List Token) → WritesPieces p sc bs ps k → AllByRecursion (IsOpOf p) (pieces_ops ps)
 ops_of_profile p sc bs [] k h = tt
-ops_of_profile p sc bs (q ∷ ps) k (i, (x, y, e, w, more)) = all_append p (piece_ops q) (pieces_ops ps) (piece_of p q i) (ops_of_profile p sc (after bs q) ps y more)
+ops_of_profile p sc bs (q ∷ ps) k (i, (x, y, e, w, more)) = all_append (IsOpOf p) (piece_ops q) (pieces_ops ps) (piece_of p q i) (ops_of_profile p sc (after bs q) ps y more)
 
 -- ops that tokens write are those of one tree, which they write
 pub body_tree : (p : Profile) (sc : Scope) (ops : List Op) (k : List Token) → WritesOps p sc [] ops k

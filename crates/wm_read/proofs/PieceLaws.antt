@@ -20,7 +20,6 @@ use Rattle.wm_syntax.specs.declared.instructions.op_class.Immediates.TheVariants
 use Rattle.wm_syntax.specs.declared.instructions.op_class.OpClass.{OpClass}
 use Rattle.wm_syntax.specs.declared.instructions.op_class.OpClass.TheVariants as class
 use Rattle.wm_syntax.specs.declared.profile.Profile.{Profile}
-use Rattle.wm_syntax.specs.declared.profile.Profile.TheVariants.{One as First, Two as Second}
 use Rattle.wm_syntax.specs.Opcodes.{opcode, load, store}
 use Rattle.wm_syntax.specs.OpClasses.{class_of, IsClassOfOp}
 use Rattle.wm_syntax.specs.Profiles.{HasSimple, IsOpOf}
@@ -174,9 +173,8 @@ IsFree _ = Unit {0}
 
 free : (p : Profile) (i : Simple) → IsFree i → HasSimple p i
 unfolding IsFree
-free First (s.Numeric n) h = absurd h
-free First _ h = tt
-free Second i h = tt
+free p (s.Numeric n) h = absurd h
+free p _ h = refl
 
 pub piece_named : (p : Profile) (q : Piece) → IsPieceOf p q → class_named p (piece_word q) ≡ piece_class q
 piece_named p (plain i) h = found_named p (opcode i).1 (op.Simple i) refl h

@@ -11,7 +11,6 @@ use Rattle.std.proofs.lemmas.Bool.{and_parts, or_cases, ltb-true, ltb-false}
 use Rattle.wm_syntax.specs.declared.instructions.op_class.OpClass.{OpClass}
 use Rattle.wm_syntax.specs.declared.instructions.op_class.OpClass.TheVariants.{None}
 use Rattle.wm_syntax.specs.declared.profile.Profile.{Profile}
-use Rattle.wm_syntax.specs.declared.profile.Profile.TheVariants.{One, Two}
 use Rattle.wm_syntax.specs.exact.ByteTable.{classes, class_in, row_in, class_under}
 use Rattle.wm_syntax.specs.exact.NameTable.{names, by_name, class_name, first_named, class_named}
 use Rattle.std.proofs.lemmas.Bool.{eqb-true}
@@ -150,8 +149,7 @@ ranked c w h e =
     let lt : g.0 < 109 = omega (arith, g.1, ordered_long) in (g.0, lt, sym (in_order g.0 lt) ∙ g.2)
 
 none_within : (p : Profile) → class_in p None ≡ None
-none_within One = refl
-none_within Two = refl
+none_within p = refl
 
 pub search_none : (p : Profile) (w : List ℕ) (low high : ℕ) → Below w low → Above w high → high ≤ low → None ≡ class_named p w
 unfolding class_named

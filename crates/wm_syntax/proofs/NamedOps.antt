@@ -14,23 +14,17 @@ use Rattle.wm_syntax.specs.declared.instructions.SignExtension.TheVariants.{I32F
 use Rattle.wm_syntax.specs.declared.instructions.LoadOp.TheVariants.{I32Load}
 use Rattle.wm_syntax.specs.declared.instructions.StoreOp.TheVariants.{I32Store}
 use Rattle.wm_syntax.specs.declared.instructions.op_class.OpClass.{OpClass}
-use Rattle.wm_syntax.specs.declared.instructions.op_class.OpClass.TheVariants.{Plain, With, Float, None}
+use Rattle.wm_syntax.specs.declared.instructions.op_class.OpClass.TheVariants.{None}
 use Rattle.wm_syntax.specs.declared.profile.Profile.{Profile}
-use Rattle.wm_syntax.specs.declared.profile.Profile.TheVariants.{One, Two}
 use Rattle.wm_syntax.specs.Opcodes.{opcode}
 use Rattle.wm_syntax.specs.OpClasses.{class_of, first_byte, IsClassOfOp}
-use Rattle.wm_syntax.proofs.OpTable.{begins_in}
+use Rattle.wm_syntax.proofs.OpTable.{begins_in, has_class, is_kept, kept_class}
 use Rattle.wm_syntax.specs.exact.ByteTable.{classes, class_in}
 use Rattle.wm_syntax.specs.Profiles.{IsOpOf}
 use Rattle.std.specs.Str.{bytes_eq}
 use Rattle.std.proofs.lemmas.Slice.Eq.{bytes_eq-Decides}
 use Rattle.wm_syntax.specs.OpNames.{op_name}
 use Rattle.wm_syntax.specs.exact.NameTable.{names, class_name, has_name, first_named, class_named}
-
--- a class of ops of the profile
-IsClassOf : Profile → OpClass → Type 0
-IsClassOf p (Plain o) = IsOpOf p o
-IsClassOf p _ = Unit {0}
 
 -- which of two a test chose
 pub chosen : {A : Type 0} (t : Bool) (x y z : A) → cond t x y ≡ z → ((t ≡ true) × (x ≡ z)) ⊎ ((t ≡ false) × (y ≡ z))
@@ -71,27 +65,6 @@ named_simple (s.Store I32Store at) = refl
 named_simple (s.Store _ at) = refl
 named_simple _ = refl
 
-in_profile : (p : Profile) (c : OpClass) → IsClassOf p c → class_in p c ≡ c
-unfolding IsClassOf
-in_profile One (Plain (op.Simple (s.Numeric (SignExtend e)))) h = absurd h
-in_profile One (Plain (op.Simple (s.Numeric _))) h = refl
-in_profile One (Plain (op.Simple _)) h = refl
-in_profile One (Plain _) h = refl
-in_profile One (With _) h = refl
-in_profile One Float h = refl
-in_profile One None h = refl
-in_profile Two c h = refl
-
-class_of_profile : (p : Profile) (o : Op) → IsOpOf p o → IsClassOf p (class_of o)
-unfolding IsClassOf
-class_of_profile One (op.Simple (s.Numeric (SignExtend e))) h = absurd h
-class_of_profile One (op.Simple (s.Numeric _)) h = tt
-class_of_profile One (op.Simple _) h = tt
-class_of_profile One _ h = tt
-class_of_profile Two (op.Simple (s.Numeric n)) h = tt
-class_of_profile Two (op.Simple _) h = tt
-class_of_profile Two _ h = tt
-
 -- each op of the table is found by its name
 named_op : (o : Op) (w : List ℕ) → op_name o ≡ Some w → first_named classes w ≡ class_of o
 named_op (op.Simple i) w e = ap (first_named classes) (sym (same_name (opcode i).1 w e)) ∙ named_simple i
@@ -105,7 +78,7 @@ named_op (op.Label l) w e = cc
 
 pub found_named : (p : Profile) (w : List ℕ) (o : Op) → op_name o ≡ Some w → IsOpOf p o → class_named p w ≡ class_of o
 unfolding class_named
-found_named p w o e h = ap (class_in p) (named_op o w e) ∙ in_profile p (class_of o) (class_of_profile p o h)
+found_named p w o e h = ap (class_in p) (named_op o w e) ∙ kept_class p (class_of o) (has_class p o h)
 
 -- what is found has the name
 has_found : (c : OpClass) (w : List ℕ) → has_name c w ≡ true → class_name c ≡ Some w
@@ -127,35 +100,17 @@ first_has (c ∷ cs) w = elim (chosen (has_name c w) c (first_named cs w) _ refl
     later (inl e) = inl e
     later (inr (i, e, n)) = inr (suc i, e, n)
 
--- what a profile leaves of a class
-within : (p : Profile) (c : OpClass) → (class_in p c ≡ None) ⊎ (class_in p c ≡ c)
-within One (Plain (op.Simple (s.Numeric (SignExtend e)))) = inl refl
-within One (Plain (op.Simple (s.Numeric _))) = inr refl
-within One (Plain (op.Simple _)) = inr refl
-within One (Plain _) = inr refl
-within One (With _) = inr refl
-within One Float = inr refl
-within One None = inr refl
-within Two c = inr refl
-
-named_found : (c : OpClass) (w : List ℕ) → class_name c ≡ Some w → IsClassOfOp c
-named_found (Plain o) w e = tt
-named_found (With kind) w e = tt
-named_found Float w e = cc
-named_found None w e = cc
-
 -- what is named is an op of the profile that has this name
 pub only_named : (p : Profile) (w : List ℕ) → IsClassOfOp (class_named p w) → (o : Op) × (op_name o ≡ Some w) × IsOpOf p o × (class_of o ≡ class_named p w)
 unfolding class_named
-only_named p w h = elim (within p (first_named classes w)) [
-  | inl n ↦ absurd (subst IsClassOfOp n h)
-  | inr q ↦ elim (first_has classes w) [
-    | inl n ↦ absurd (subst IsClassOfOp (q ∙ n) h)
-    | inr m ↦ (
-        let b = begins_in p m.0 (first_named classes w) m.1 h in
-        (b.0, sym (one_name b.0) ∙ ap class_name (b.3 ∙ q) ∙ m.2, b.2, b.3))
-  ]
-]
+only_named p w h =
+    let q : class_in p (first_named classes w) ≡ first_named classes w = kept_class p (first_named classes w) (is_kept p (first_named classes w) h) in
+    elim (first_has classes w) [
+      | inl n ↦ absurd (subst IsClassOfOp (q ∙ n) h)
+      | inr m ↦ (
+          let b = begins_in p m.0 (first_named classes w) m.1 h in
+          (b.0, sym (one_name b.0) ∙ ap class_name (b.3 ∙ q) ∙ m.2, b.2, b.3))
+    ]
 
 -- the name of an instruction stands at its byte
 name_simple : (i : Simple) → slice_index_or names (opcode i).0 [] ≡ (opcode i).1

@@ -1,6 +1,5 @@
 -- One spelling, one instruction: of a whole tree, and of a list up to what closes it.
 use Rattle.std.proofs.Common.{◌≡◌, ℕ, Bool, true, false, List, [], ◌∷◌, ◌++◌, length, inl, inr, ◌⊎◌, refl, sym, ap, ◌∙◌, subst, append_assoc, append-nil, arith, Option, Some, slice_get}
-use Rattle.std.specs.Prelude.{None as Nothing}
 use Rattle.std.proofs.lemmas.List.{append_cancel_left}
 use Rattle.wm_syntax.specs.Spelling.{Form, Byte, Each, ◌▸◌}
 use Rattle.wm_syntax.specs.Types.{SpellsU32, SpellsList, SpellsBlockType, block_byte}

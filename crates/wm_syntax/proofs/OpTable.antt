@@ -1,6 +1,6 @@
 -- The table of bytes and the table of instructions say the same.
-use Rattle.std.proofs.Common.{◌≡◌, ◌↔◌, ℕ, zero, suc, ◌+◌, Bool, true, false, ◌&&◌, ◌==◌, not, List, [], ◌∷◌, Option, Some, slice_get, refl, sym, ap, ◌∙◌, subst, add-zero, arith}
-use Rattle.std.specs.Prelude.{None as Nothing, pos}
+use Rattle.std.proofs.Common.{◌≡◌, ◌↔◌, IsTrue, ℕ, zero, suc, ◌+◌, Bool, true, false, ◌&&◌, ◌==◌, not, List, [], ◌∷◌, Option, Some, slice_get, refl, sym, ap, ◌∙◌, subst, add-zero, arith}
+use Rattle.std.specs.Prelude.{None as Nothing, pos, if◌then◌else◌}
 use Rattle.std.specs.List.{list_all, enumerate_from}
 use Rattle.wm_syntax.specs.declared.instructions.Op.{Op}
 use Rattle.wm_syntax.specs.declared.instructions.Op.TheVariants as op
@@ -11,10 +11,9 @@ use Rattle.wm_syntax.specs.declared.instructions.op_class.OpClass.{OpClass}
 use Rattle.wm_syntax.specs.declared.instructions.op_class.OpClass.TheVariants.{Plain, With, Float, None}
 use Rattle.wm_syntax.specs.Opcodes.{opcode}
 use Rattle.wm_syntax.specs.OpClasses.{class_of, first_byte, is_float, IsClassOfOp}
-use Rattle.wm_syntax.specs.exact.ByteTable.{classes, class_in}
-use Rattle.wm_syntax.specs.Profiles.{IsOpOf}
+use Rattle.wm_syntax.specs.exact.ByteTable.{classes, class_feature, class_in}
+use Rattle.wm_syntax.specs.Profiles.{IsOpOf, feature_of, has}
 use Rattle.wm_syntax.specs.declared.profile.Profile.{Profile}
-use Rattle.wm_syntax.specs.declared.profile.Profile.TheVariants.{One, Two}
 use Rattle.wm_syntax.specs.declared.types.ValType.TheVariants.{I32, I64}
 use Rattle.wm_syntax.specs.declared.instructions.Simple.{Simple}
 use Rattle.wm_syntax.specs.declared.instructions.Comparison.TheVariants.{Eq}
@@ -192,38 +191,46 @@ class_begins byte c e i = go c i (subst (λ (m : ℕ). begins m c ≡ true) (let
     go Float i t = absurd i
     go None i t = absurd i
 
--- The same under a profile.
-kept : (p : Profile) (o : Op) → IsOpOf p o → class_in p (class_of o) ≡ class_of o
-kept One (op.Simple (s.Numeric (SignExtend x))) i = absurd i
-kept One _ i = refl
-kept Two o i = refl
+-- The same under a profile: an op and its class have one feature.
+simple_feature : (i : Simple) → class_feature (class_of (op.Simple i)) ≡ feature_of i
+simple_feature (s.Numeric (SignExtend x)) = refl
+simple_feature (s.Numeric _) = refl
+simple_feature _ = refl
 
-is_of : (p : Profile) (o : Op) → IsClassOfOp (class_in p (class_of o)) → IsOpOf p o
-is_of One (op.Simple (s.Numeric (SignExtend x))) f = absurd f
-is_of One (op.Simple _) f = tt
-is_of One _ f = tt
-is_of Two (op.Simple i) f = tt
-is_of Two _ f = tt
+pub has_class : (p : Profile) (o : Op) → IsOpOf p o → IsTrue (has p (class_feature (class_of o)))
+has_class p (op.Simple i) h = ap (has p) (simple_feature i) ∙ h
+has_class p _ h = refl
 
-found_unmasked : (p : Profile) (c : OpClass) → IsClassOfOp (class_in p c) → class_in p c ≡ c
-found_unmasked One (Plain (op.Simple (s.Numeric (SignExtend x)))) f = absurd f
-found_unmasked One _ f = refl
-found_unmasked Two c f = refl
+of_class : (p : Profile) (o : Op) → IsTrue (has p (class_feature (class_of o))) → IsOpOf p o
+of_class p (op.Simple i) h = ap (has p) (sym (simple_feature i)) ∙ h
+of_class p _ h = tt
+
+pub kept_class : (p : Profile) (c : OpClass) → IsTrue (has p (class_feature c)) → class_in p c ≡ c
+kept_class p c h = rw h refl
+
+-- what a profile leaves of a class is nothing, or all of it
+module _ (c : OpClass) where
+  left_true : (b : Bool) → IsClassOfOp (if b then c else None) → b ≡ true
+  left_true true h = refl
+  left_true false h = absurd h
+
+  left_float : (b : Bool) → (if b then c else None) ≡ Float → c ≡ Float
+  left_float true e = e
+  left_float false e = cc
+
+pub is_kept : (p : Profile) (c : OpClass) → IsClassOfOp (class_in p c) → IsTrue (has p (class_feature c))
+is_kept p c h = left_true c (has p (class_feature c)) h
 
 pub found_in : (p : Profile) (byte : ℕ) (c : OpClass) → slice_get classes byte ≡ Some c → (o : Op) → first_byte o ≡ Some byte → IsOpOf p o → class_in p c ≡ class_of o
-found_in p byte c e o f i = ap (class_in p) (found_op byte c e o f) ∙ kept p o i
+found_in p byte c e o f i = ap (class_in p) (found_op byte c e o f) ∙ kept_class p (class_of o) (has_class p o i)
 
 pub begins_in : (p : Profile) (byte : ℕ) (c : OpClass) → slice_get classes byte ≡ Some c → IsClassOfOp (class_in p c)
     → (o : Op) × (first_byte o ≡ Some byte) × IsOpOf p o × (class_of o ≡ class_in p c)
 begins_in p byte c e f =
-    let same : class_in p c ≡ c = found_unmasked p c f in
+    let h : IsTrue (has p (class_feature c)) = is_kept p c f in
+    let same : class_in p c ≡ c = kept_class p c h in
     let found : (o : Op) × (first_byte o ≡ Some byte) × (class_of o ≡ c) = class_begins byte c e (subst IsClassOfOp same f) in
-    (found.0, found.1, is_of p found.0 (subst (λ (d : OpClass). IsClassOfOp (class_in p d)) (sym found.2) f), found.2 ∙ sym same)
-
-float_kept : (p : Profile) (c : OpClass) → (class_in p c ≡ Float) ↔ (c ≡ Float)
-float_kept One (Plain (op.Simple (s.Numeric (SignExtend x)))) = (λ e. cc, λ e. cc)
-float_kept One _ = (λ e. e, λ e. e)
-float_kept Two c = (λ e. e, λ e. e)
+    (found.0, found.1, of_class p found.0 (ap (λ d. has p (class_feature d)) found.2 ∙ h), found.2 ∙ sym same)
 
 pub float_in : (p : Profile) (byte : ℕ) (c : OpClass) → slice_get classes byte ≡ Some c → (class_in p c ≡ Float) ↔ (is_float byte ≡ true)
-float_in p byte c e = (λ f. (float_class byte c e).0 ((float_kept p c).0 f), λ f. (float_kept p c).1 ((float_class byte c e).1 f))
+float_in p byte c e = (λ f. (float_class byte c e).0 (left_float c (has p (class_feature c)) f), λ f. ap (class_in p) ((float_class byte c e).1 f))

@@ -1,37 +1,51 @@
 -- Profiles, by ops and by instructions.
-use Rattle.std.proofs.Common.{ℕ, List, [], ◌∷◌, ◌++◌, ◌↔◌, map, inl, inr, subst}
+use Rattle.std.proofs.Common.{◌≡◌, false, true, ℕ, List, [], ◌∷◌, ◌++◌, ◌↔◌, map, inl, inr, refl, subst}
 use Rattle.std.specs.List.{AllByRecursion}
+use Rattle.wm_syntax.specs.declared.profile.Feature.TheVariants.{Base, SignExtension}
 use Rattle.wm_syntax.specs.declared.profile.Profile.{Profile}
-use Rattle.wm_syntax.specs.declared.profile.Profile.TheVariants.{One, Two}
+use Rattle.wm_syntax.specs.declared.profile.Profile.TheVariants.{One}
 use Rattle.wm_syntax.specs.declared.instructions.Op.{Op}
 use Rattle.wm_syntax.specs.declared.instructions.Op.TheVariants as op
 use Rattle.wm_syntax.specs.Instructions.{HasElse, HasOp, HasOps, Instruction, Instructions, none, snoc, simple, table, block, loop, choice}
-use Rattle.wm_syntax.specs.Modules.{Function, Module}
-use Rattle.wm_syntax.specs.Profiles.{HasInstruction, HasInstructions, IsOf, IsOpOf}
+use Rattle.wm_syntax.specs.declared.types.Const.{Const}
+use Rattle.wm_syntax.specs.declared.types.Const.TheVariants as const
+use Rattle.wm_syntax.specs.Modules.{Function, Module, constant}
+use Rattle.wm_syntax.specs.Profiles.{Extends, HasInstruction, HasInstructions, HasSimple, IsOf, IsOpOf, feature_of}
 
--- the second profile has every instruction
-mutual
-  has_two : (i : Instruction) → HasInstruction Two i
-  has_two (simple i) = tt
-  has_two (table labels default) = tt
-  has_two (block t body) = have_two body
-  has_two (loop t body) = have_two body
-  has_two (choice t first second) = (have_two first, have_two second)
+-- what one profile has, one that extends it has
+module _ (p q : Profile) (more : Extends q p) where
+  mutual
+    has_more : (i : Instruction) → HasInstruction p i → HasInstruction q i
+    has_more (simple i) h = more (feature_of i) h
+    has_more (table labels default) h = tt
+    has_more (block t body) h = have_more body h
+    has_more (loop t body) h = have_more body h
+    has_more (choice t first second) h = (have_more first h.0, have_more second h.1)
 
-  have_two : (s : Instructions) → HasInstructions Two s
-  have_two none = tt
-  have_two (snoc s i) = (have_two s, has_two i)
+    have_more : (s : Instructions) → HasInstructions p s → HasInstructions q s
+    have_more none h = tt
+    have_more (snoc s i) h = (have_more s h.0, has_more i h.1)
 
-all_two : (fs : List Function) → AllByRecursion (λ f. HasInstructions Two f.body) fs
-all_two [] = tt
-all_two (f ∷ fs) = (have_two f.body, all_two fs)
+  all_more : (fs : List Function) → AllByRecursion (λ f. HasInstructions p f.body) fs → AllByRecursion (λ f. HasInstructions q f.body) fs
+  all_more [] h = tt
+  all_more (f ∷ fs) h = (have_more f.body h.0, all_more fs h.1)
 
-pub is_of_two : (m : Module) → IsOf One m → IsOf Two m
-is_of_two m h = all_two m.functions
+  pub is_of_more : (m : Module) → IsOf p m → IsOf q m
+  is_of_more m h = all_more m.functions h
 
-pub op_of_two : (o : Op) → IsOpOf One o → IsOpOf Two o
-op_of_two (op.Simple i) h = tt
-op_of_two _ h = tt
+  pub op_of_more : (o : Op) → IsOpOf p o → IsOpOf q o
+  op_of_more (op.Simple i) h = more (feature_of i) h
+  op_of_more _ h = tt
+
+pub extends_one : (q : Profile) → Extends q One
+extends_one q Base h = refl
+extends_one q SignExtension h = let e : false ≡ true = h in cc
+
+-- a constant is of every profile
+pub constant_has : (p : Profile) (c : Const) → HasSimple p (constant c)
+constant_has p (const.I32 n) = refl
+constant_has p (const.I64 n) = refl
+constant_has p (const.Global x) = refl
 
 -- a fact of each member of a joined list
 module _ {X : Type 0} (P : X → Type 0) where
@@ -51,7 +65,7 @@ module _ (p : Profile) where
   abbrev AllOf : List Op → Type 0
   AllOf = AllByRecursion (IsOpOf p)
 
-  labels_of : (ls : List ℕ) (d : ℕ) → AllOf (map op.Label ls ++ op.Label d ∷ [])
+  pub labels_of : (ls : List ℕ) (d : ℕ) → AllOf (map op.Label ls ++ op.Label d ∷ [])
   labels_of [] d = (tt, tt)
   labels_of (l ∷ ls) d = (tt, labels_of ls d)
 

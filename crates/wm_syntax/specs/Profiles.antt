@@ -1,21 +1,38 @@
--- The instructions of a profile: the first has those of the standard on whole numbers, the second the five
--- sign-extension instructions as well.
+-- The instructions of a profile. Each belongs to a feature, and a profile has some of these: the first the
+-- instructions of the standard on whole numbers, the second the five sign-extension instructions as well.
+use Rattle.std.specs.Prelude.{Bool, true, false, IsTrue}
 use Rattle.std.specs.List.{AllByRecursion}
 use Rattle.wm_syntax.specs.declared.instructions.Simple.{Simple}
 use Rattle.wm_syntax.specs.declared.instructions.Simple.TheVariants.{Numeric}
 use Rattle.wm_syntax.specs.declared.instructions.Numeric.TheVariants.{SignExtend}
 use Rattle.wm_syntax.specs.declared.instructions.Op.{Op}
 use Rattle.wm_syntax.specs.declared.instructions.Op.TheVariants as op
+use Rattle.wm_syntax.specs.declared.profile.Feature.{Feature}
+use Rattle.wm_syntax.specs.declared.profile.Feature.TheVariants.{Base, SignExtension}
 use Rattle.wm_syntax.specs.declared.profile.Profile.{Profile}
-use Rattle.wm_syntax.specs.declared.profile.Profile.TheVariants.{One}
+use Rattle.wm_syntax.specs.declared.profile.Profile.TheVariants.{One, Two}
 use Rattle.wm_syntax.specs.Instructions.{Instruction, Instructions, none, snoc, simple, table, block, loop}
 use Rattle.wm_syntax.specs.Instructions.{choice}
 use Rattle.wm_syntax.specs.Modules.{Module}
 
+-- the features of each profile
+abbrev pub has : Profile → Feature → Bool
+has p Base = true
+has One SignExtension = false
+has Two SignExtension = true
+
+-- a profile that has every feature of another
+abbrev pub Extends : Profile → Profile → Type 0
+Extends q p = (f : Feature) → IsTrue (has p f) → IsTrue (has q f)
+
+-- the feature of an instruction
+abbrev pub feature_of : Simple → Feature
+feature_of (Numeric (SignExtend op)) = SignExtension
+feature_of _ = Base
+
 -- an instruction of the profile
 abbrev pub HasSimple : Profile → Simple → Type 0
-HasSimple One (Numeric (SignExtend op)) = ⊥
-HasSimple _ _ = Unit {0}
+HasSimple p i = IsTrue (has p (feature_of i))
 
 -- of the flat form: an op of the profile
 abbrev pub IsOpOf : Profile → Op → Type 0

@@ -2,6 +2,7 @@
 -- that builds on it: no promise rests on this list, since the other clauses of `op_of` speak of the table of
 -- instructions alone.
 use Rattle.std.specs.Prelude.{ℕ, List, [], ◌∷◌, Option, Some, None as Nothing, slice_get}
+use Rattle.std.specs.Prelude.{if◌then◌else◌}
 use Rattle.wm_syntax.specs.declared.types.ValType.TheVariants.{I32, I64}
 use Rattle.wm_syntax.specs.declared.instructions.Comparison.TheVariants.{Eq, Ne, LtS, LtU, GtS, GtU, LeS, LeU}
 use Rattle.wm_syntax.specs.declared.instructions.Comparison.TheVariants.{GeS, GeU}
@@ -25,8 +26,10 @@ use Rattle.wm_syntax.specs.declared.instructions.Op.TheVariants as op
 use Rattle.wm_syntax.specs.declared.instructions.op_class.Immediates.TheVariants as k
 use Rattle.wm_syntax.specs.declared.instructions.op_class.OpClass.{OpClass}
 use Rattle.wm_syntax.specs.declared.instructions.op_class.OpClass.TheVariants.{Plain, With, Float, None}
+use Rattle.wm_syntax.specs.declared.profile.Feature.{Feature}
+use Rattle.wm_syntax.specs.declared.profile.Feature.TheVariants.{Base}
 use Rattle.wm_syntax.specs.declared.profile.Profile.{Profile}
-use Rattle.wm_syntax.specs.declared.profile.Profile.TheVariants.{One}
+use Rattle.wm_syntax.specs.Profiles.{feature_of, has}
 
 -- what each byte begins, from 00 to FF
 abbrev pub classes : List OpClass
@@ -289,10 +292,14 @@ classes =
     None ∷
     []
 
+-- the feature of the ops of a class
+abbrev pub class_feature : OpClass → Feature
+class_feature (Plain (op.Simple i)) = feature_of i
+class_feature _ = Base
+
 -- what is left of a class under a profile
 abbrev pub class_in : Profile → OpClass → OpClass
-class_in One (Plain (op.Simple (s.Numeric (SignExtend o)))) = None
-class_in _ c = c
+class_in p c = if has p (class_feature c) then c else None
 
 abbrev pub row_in : Profile → Option OpClass → OpClass
 row_in p (Some c) = class_in p c

@@ -2,7 +2,7 @@
 
 ghost use Rattle.std.specs.Prelude.{◌≡◌, ◌↔◌, IsTrue, slice_get};
 ghost use Rattle.wm_syntax.specs.declared.instructions.Op.{Op};
-ghost use Rattle.wm_syntax.specs.exact.ByteTable.{classes, class_in, class_under};
+ghost use Rattle.wm_syntax.specs.exact.ByteTable.{class_feature, class_in, class_under, classes};
 ghost use Rattle.wm_syntax.specs.Opcodes.{binary, comparison, load, numeric, opcode, store, unary};
 ghost use Rattle.wm_syntax.specs.OpClasses.{IsClassOfOp, class_of, first_byte, is_float};
 ghost use Rattle.wm_syntax.specs.Profiles.{IsOpOf};
@@ -16,7 +16,7 @@ use crate::instructions::op_class::{Immediates, OpClass};
 use crate::instructions::{
     BinaryOp, Comparison, LoadOp, Numeric as NumericOp, Op, SignExtension, Simple, StoreOp, UnaryOp,
 };
-use crate::profile::Profile;
+use crate::profile::{Feature, Profile};
 use crate::types::ValType::{I32, I64};
 
 /// What this byte begins under the profile: an instruction, an else, an end, a floating-point instruction or
@@ -36,9 +36,19 @@ pub fn op_of(profile: Profile, byte: u8) -> OpClass
 fn within(profile: Profile, class: OpClass) -> OpClass
     ensures { result ≡ class_in profile class }
 {
-    match (profile, class) {
-        (Profile::One, Plain(Op::Simple(Numeric(SignExtend(_))))) => OpClass::None,
-        _ => class,
+    if !profile.has(feature_of(class)) {
+        return OpClass::None;
+    }
+    class
+}
+
+// What the ops of a class belong to.
+fn feature_of(class: OpClass) -> Feature
+    ensures { result ≡ class_feature class }
+{
+    match class {
+        Plain(Op::Simple(Numeric(SignExtend(_)))) => Feature::SignExtension,
+        _ => Feature::Base,
     }
 }
 

@@ -1,5 +1,6 @@
-use Rattle.wm_syntax.proofs.ProfileLaws.{is_of_two, op_of_two}
+use Rattle.wm_syntax.specs.declared.profile.Profile.TheVariants.{One, Two}
+use Rattle.wm_syntax.proofs.ProfileLaws.{extends_one, is_of_more, op_of_more}
 use Rattle.wm_syntax.proofs.laws.second_profile_has_the_first.Goals as goal
 
 pub returns : goal.returns
-returns c = record { ops = op_of_two; modules = is_of_two }
+returns c = record { ops = op_of_more One Two (extends_one Two); modules = is_of_more One Two (extends_one Two) }
