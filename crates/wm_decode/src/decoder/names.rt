@@ -111,7 +111,7 @@ pub(crate) fn give_part<S: Sink>(sink: &mut S, part: Option<Plain>) -> Result<()
 // one for all items lies in memory.
 
 #[inline(never)]
-fn give_body<S: Sink>(sink: &mut S) -> Result<(), Why>
+pub(crate) fn give_body<S: Sink>(sink: &mut S) -> Result<(), Why>
     ensures given { Taken (S.after (S.held sink.old) body) result (S.held sink.new) }
     ensures room { IfErr result (λ w. w ≡ Memory → S.may_run_out (S.held sink.old) body) }
 {
@@ -119,7 +119,7 @@ fn give_body<S: Sink>(sink: &mut S) -> Result<(), Why>
 }
 
 #[inline(never)]
-fn give_locals<S: Sink>(sink: &mut S, count: u32, ty: ValType) -> Result<(), Why>
+pub(crate) fn give_locals<S: Sink>(sink: &mut S, count: u32, ty: ValType) -> Result<(), Why>
     ensures given { Taken (S.after (S.held sink.old) (locals count ty)) result (S.held sink.new) }
     ensures room { IfErr result (λ w. w ≡ Memory → S.may_run_out (S.held sink.old) (locals count ty)) }
 {
