@@ -130,7 +130,7 @@ module _ {H : Type 0} (after : H → Item → Result H Why) (may : H → Item �
         let one : Shortcut = record { used = 1; refused = None } in
         advances_more after may bytes (before_entry e) (sized_at 2 (c - 2 ^ 7 + d * 2 ^ 7)) h h g between second 1 s r
         (advances_step after may bytes h h start first one (omega arith) (omega arith) (size_first e.left c high) refl ok refl refl tt)
-        (omega arith) inside (omega arith) (size_second e.left (c - 2 ^ 7) d some less) used is given quiet
+        inside (omega arith) (size_second e.left (c - 2 ^ 7) d some less) used is given quiet
         (ap (λ n. machine.Section section_kind.Code e.functions n e.left (at.Entry (c - 2 ^ 7 + d * 2 ^ 7 - 1) (entry.RunCount fresh))) place)
 
     sized : {U : Type 0} (used v : ℕ) (h g : H) (s : Shortcut) (r : Result U Why) → IsShort bytes used v → 0 < v → used ≤ e.more → used ≤ length bytes → s.used ≡ used
@@ -167,43 +167,39 @@ module _ {H : Type 0} (after : H → Item → Result H Why) (may : H → Item �
           let place : e.more - (used + 1) ≡ e.more - used - 1 = omega arith in
           let less : i.rest ≡ i.rest + 2 - 1 - 1 = omega arith in
           advances_more after may bytes (before_entry e) (in_head i) h g g between next used (record { used = used + 1; refused = None }) ok
-          begun (some size) inside (omega arith) to refl refl refl tt
+          begun inside (omega arith) to refl refl refl tt
           (ap in_head is
           ∙ (ap (λ n. machine.Section section_kind.Code e.functions n e.left (at.Entry i.rest (runs_or_body i.runs))) place
           ∙ ap (λ n. machine.Section section_kind.Code e.functions (e.more - used - 1) e.left (at.Entry n (runs_or_body i.runs))) less))
-        where
-          some : IsShort bytes used (i.rest + 2) → 0 < used
-          some (inl a) = let one : used ≡ 1 = a.0 in omega arith
-          some (inr a) = let two : used ≡ 2 = a.0 in omega arith
 
-  -- a run of locals after other bytes
-  module _ {U : Type 0} (m : Machine) (h f g : H) (i : InHead) (first used runs n : ℕ) (t : ValType) (s : Shortcut) (r : Result U Why)
-      (before : Advances after may bytes m h (record { used = used; refused = None }) (in_head (head_after i (used - first) (suc runs))) f)
-      (some : 0 < used) (inside : used + 1 < length bytes) (section : used + 2 ≤ first + i.more) (own : used + 2 ≤ first + i.rest) (past : first ≤ used)
+  -- a run of locals after others
+  module _ {U : Type 0} (m : Machine) (h f g : H) (i : InHead) (used runs n : ℕ) (t : ValType) (s : Shortcut) (r : Result U Why)
+      (before : Advances after may bytes m h (record { used = used; refused = None }) (in_head (head_after i used (suc runs))) f)
+      (inside : used + 1 < length bytes) (section : used + 2 ≤ i.more) (own : used + 2 ≤ i.rest)
       (count : n ≡ slice_index bytes used) (short : n < 2 ^ 7) (type : value_type_of (slice_index bytes (used + 1)) ≡ Ok t)
       (eu : s.used ≡ used + 2) (er : s.refused ≡ result_err r) (given : Taken (after f (locals n t)) r g) (quiet : IfErr r (λ w. w ≡ why.Memory → may f (locals n t))) where
-    pub run_taken : Advances after may bytes m h s (in_head (head_after i (used + 2 - first) runs)) g
+    pub run_taken : Advances after may bytes m h s (in_head (head_after i (used + 2) runs)) g
     run_taken =
-        let more : ℕ = i.more - (used - first) in
-        let rest : ℕ = i.rest - (used - first) in
+        let more : ℕ = i.more - used in
+        let rest : ℕ = i.rest - used in
         let place : Place = record { of = section_kind.Code; functions = i.functions; more = more; left = i.left; at = at.Entry rest (entry.Run runs (run.Count fresh)) } in
         let counted : Stepped = record { left = i.left; at = at.Entry (rest - 1) (entry.Run runs (run.Type n)); part = None } in
         let between : Place = record { of = section_kind.Code; functions = i.functions; more = more - 1; left = i.left; at = at.Entry (rest - 1) (entry.Run runs (run.Type n)) } in
         let typed : Stepped = record { left = i.left; at = at.Entry (rest - 1 - 1) (runs_or_body runs); part = Some (plain.Locals n t) } in
         let to : StepsTo section_kind.Code i.left (at.Entry rest (entry.Run runs (run.Count fresh))) (slice_index bytes used) counted = subst (λ c. StepsTo section_kind.Code i.left (at.Entry rest (entry.Run runs (run.Count fresh))) c counted) count (count_alone i.left rest runs n (omega arith) short) in
-        let a : i.more - (used + 2 - first) ≡ more - 1 - 1 = omega arith in
-        let b : i.rest - (used + 2 - first) ≡ rest - 1 - 1 = omega arith in
+        let a : i.more - (used + 2) ≡ more - 1 - 1 = omega arith in
+        let b : i.rest - (used + 2) ≡ rest - 1 - 1 = omega arith in
         let one = advances_more after may bytes m (machine.Section section_kind.Code i.functions (more - 1) i.left (at.Entry (rest - 1) (entry.Run runs (run.Type n)))) h f f place counted used (record { used = used + 1; refused = None }) ok
-        before some (omega arith) (omega arith) to refl refl refl tt refl in
-        advances_more after may bytes m (in_head (head_after i (used + 2 - first) runs)) h f g between typed (used + 1) s r one (omega arith) inside (omega arith) (type_alone i.left (rest - 1) runs n (slice_index bytes (used + 1)) t (omega arith) type)
+        before (omega arith) (omega arith) to refl refl refl tt refl in
+        advances_more after may bytes m (in_head (head_after i (used + 2) runs)) h f g between typed (used + 1) s r one inside (omega arith) (type_alone i.left (rest - 1) runs n (slice_index bytes (used + 1)) t (omega arith) type)
         (omega arith) er given quiet
-        (ap (λ x. machine.Section section_kind.Code i.functions x i.left (at.Entry (i.rest - (used + 2 - first)) (runs_or_body runs))) a
+        (ap (λ x. machine.Section section_kind.Code i.functions x i.left (at.Entry (i.rest - (used + 2)) (runs_or_body runs))) a
         ∙ ap (λ x. machine.Section section_kind.Code i.functions (more - 1 - 1) i.left (at.Entry x (runs_or_body runs))) b)
 
--- no byte after the count of runs
-pub head_start : (i : InHead) (k : ℕ) → k ≡ 0 → in_head (head_after i k i.runs) ≡ in_head i
-head_start i k e =
-    let a : i.more - k ≡ i.more = omega arith in
-    let b : i.rest - k ≡ i.rest = omega arith in
-    ap (λ x. machine.Section section_kind.Code i.functions x i.left (at.Entry (i.rest - k) (runs_or_body i.runs))) a
+-- before the first of them
+pub head_start : (i : InHead) → in_head (head_after i 0 i.runs) ≡ in_head i
+head_start i =
+    let a : i.more - 0 ≡ i.more = omega arith in
+    let b : i.rest - 0 ≡ i.rest = omega arith in
+    ap (λ x. machine.Section section_kind.Code i.functions x i.left (at.Entry (i.rest - 0) (runs_or_body i.runs))) a
     ∙ ap (λ x. machine.Section section_kind.Code i.functions i.more i.left (at.Entry x (runs_or_body i.runs))) b

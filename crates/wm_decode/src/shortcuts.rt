@@ -9,7 +9,7 @@ ghost use Rattle.wm_decode.specs.exact.Shortcuts.{Advances};
 use crate::decoder::names::give_bytes;
 use crate::machine::member::{InEntry, InMember, SectionKind};
 use crate::machine::{InCustom, Machine, refusal_of};
-use crate::shortcuts::heads::head;
+use crate::shortcuts::heads::{head, runs};
 use crate::shortcuts::in_body::InBody;
 use crate::shortcuts::indices::indices;
 use crate::shortcuts::short_bytes::short;
@@ -62,6 +62,7 @@ pub(crate) fn at_most(count: u32, len: usize) -> u32
 #[derive(Clone, Copy)]
 enum Way {
     Head,
+    Runs,
     Ops,
     Indices,
     Short,
@@ -89,8 +90,10 @@ fn way_in_code(at: InMember) -> Way {
     let InMember::Entry { at, .. } = at else {
         return Way::Head;
     };
-    let InEntry::Body(at) = at else {
-        return Way::Short;
+    let at = match at {
+        InEntry::Run { .. } => return Way::Runs,
+        InEntry::Body(at) => at,
+        _ => return Way::Short,
     };
     match at {
         InExpression::Op { .. } => Way::Ops,
@@ -212,6 +215,12 @@ pub(crate) fn take_way<S: Sink>(sink: &mut S, machine: &mut Machine, bytes: &[u8
     match way_of(*machine) {
         Way::Head => {
             let taken = head(sink, machine, bytes);
+            if taken.used > 0 {
+                return taken;
+            }
+        }
+        Way::Runs => {
+            let taken = runs(sink, machine, bytes);
             if taken.used > 0 {
                 return taken;
             }

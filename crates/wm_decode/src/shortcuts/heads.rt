@@ -10,13 +10,14 @@ ghost use Rattle.wm_decode.specs.exact.ValueSteps.{value_type_of};
 
 use crate::decoder::names::{give_body, give_locals};
 use crate::machine::Machine;
-use crate::machine::member::{InMember, SectionKind};
+use crate::machine::member::{InEntry, InMember, SectionKind};
 use crate::shortcuts::Shortcut;
 use crate::shortcuts::whole_numbers::Whole;
 use crate::sink::Sink;
 use crate::step::entries::runs_or_body;
-use crate::step::values::value_type;
+use crate::step::values::{InRun, value_type};
 use wm_syntax::types::ValType;
+use wm_syntax::why::Why;
 
 /// What is known before the size of a code entry: how many functions await their code, how many bytes of the
 /// section come after the next, and how many entries after this one.
@@ -72,6 +73,45 @@ pub(crate) struct InHead {
 }
 
 impl InHead {
+    /// That of a machine, where it stands before a run.
+    #[inline(always)]
+    fn of(machine: Machine) -> Option<InHead>
+        ensures { IfSome result (λ i. machine ≡ in_head i) }
+    {
+        let Machine::Section {
+            of,
+            functions,
+            more,
+            left,
+            at,
+        } = machine
+        else {
+            return None;
+        };
+        let SectionKind::Code = of else {
+            return None;
+        };
+        let InMember::Entry { more: rest, at } = at else {
+            return None;
+        };
+        let InEntry::Run { more: runs, at } = at else {
+            return None;
+        };
+        let InRun::Count(number) = at else {
+            return None;
+        };
+        if !number.is_new() || runs == u32::MAX {
+            return None;
+        }
+        Some(InHead {
+            functions,
+            more,
+            left,
+            rest,
+            runs: runs + 1,
+        })
+    }
+
     /// The machine after so many more bytes, with so many runs to come.
     #[inline(always)]
     fn after(self, used: u32, runs: u32) -> Machine
@@ -175,6 +215,69 @@ fn run_at(bytes: &[u8], at: usize) -> Option<(u32, ValType)>
     }
 }
 
+/// What came of runs: how many bytes they have, how many runs are still to come, and why the last was refused.
+#[derive(Clone, Copy)]
+struct GivenRuns {
+    used: usize,
+    runs: u32,
+    refused: Option<Why>,
+}
+
+// Gives the runs that lie in these bytes, as long as bytes of the entry and of the section come after them
+#[inline(always)]
+fn give_runs<S: Sink>(sink: &mut S, bytes: &[u8], start: InHead) -> GivenRuns
+    ensures section { result.used ≤ start.more }
+    ensures entry { result.used ≤ start.rest }
+    ensures advances { Advances S.after S.may_run_out bytes.now (in_head start) (S.held sink.old) (record {
+      used = result.used;
+      refused = result.refused;
+    }) (in_head (head_after start result.used result.runs)) (S.held sink.new) }
+{
+    let end = bytes.len().min(start.more.min(start.rest) as usize);
+    let mut runs = start.runs;
+    let mut used = 0;
+    while runs > 0 {
+        if used + 2 > end {
+            break;
+        }
+        let Some((count, ty)) = run_at(bytes, used) else {
+            break;
+        };
+        used += 2;
+        runs -= 1;
+        if let Err(why) = give_locals(sink, count, ty) {
+            let refused = Some(why);
+            return GivenRuns {
+                used,
+                runs,
+                refused,
+            };
+        }
+    }
+    GivenRuns {
+        used,
+        runs,
+        refused: None,
+    }
+}
+
+/// Takes runs of a code entry's locals, as far as their counts are short and they lie in these bytes.
+#[tactic(auto, using(crate::proofs::Advances::advances_none))]
+pub(crate) fn runs<S: Sink>(sink: &mut S, machine: &mut Machine, bytes: &[u8]) -> Shortcut
+    ensures { Advances S.after S.may_run_out bytes.now machine.old (S.held sink.old) result machine.new
+        (S.held sink.new) }
+{
+    let Some(start) = InHead::of(*machine) else {
+        return Shortcut::none();
+    };
+    let given = give_runs(sink, bytes, start);
+    *machine = start.after(given.used as u32, given.runs);
+    Shortcut {
+        used: given.used,
+        refused: given.refused,
+    }
+}
+
 /// Takes the head of a code entry, as far as its numbers are short and lie in these bytes.
 #[tactic(auto, using(crate::proofs::Advances::advances_none))]
 pub(crate) fn head<S: Sink>(sink: &mut S, machine: &mut Machine, bytes: &[u8]) -> Shortcut
@@ -194,30 +297,10 @@ pub(crate) fn head<S: Sink>(sink: &mut S, machine: &mut Machine, bytes: &[u8]) -
         };
     }
     let first = begun.sized + 1;
-    let end = bytes
-        .len()
-        .min(first + begun.at.more.min(begun.at.rest) as usize);
-    let mut runs = begun.at.runs;
-    let mut used = first;
-    while runs > 0 {
-        if used + 2 > end {
-            break;
-        }
-        let Some((count, ty)) = run_at(bytes, used) else {
-            break;
-        };
-        used += 2;
-        runs -= 1;
-        if let Err(why) = give_locals(sink, count, ty) {
-            return Shortcut {
-                used,
-                refused: Some(why),
-            };
-        }
-    }
-    *machine = begun.at.after((used - first) as u32, runs);
+    let given = give_runs(sink, &bytes[first..], begun.at);
+    *machine = begun.at.after(given.used as u32, given.runs);
     Shortcut {
-        used,
-        refused: None,
+        used: first + given.used,
+        refused: given.refused,
     }
 }
