@@ -21,9 +21,15 @@ use Rattle.wm_decode.specs.declared.step.values.InRun.TheVariants as run
 use Rattle.wm_decode.specs.declared.shortcuts.Shortcut.{Shortcut}
 use Rattle.wm_decode.specs.declared.shortcuts.heads.BeforeEntry.{BeforeEntry}
 use Rattle.wm_decode.specs.declared.shortcuts.heads.InHead.{InHead}
+use Rattle.wm_decode.specs.declared.shortcuts.in_body.InBody.{InBody}
+use Rattle.wm_syntax.specs.declared.instructions.Op.TheVariants as op
+use Rattle.wm_decode.specs.declared.step.expressions.InExpression.TheVariants as expression
+use Rattle.wm_decode.specs.declared.step.ops.InOp.TheVariants as in_op
+use Rattle.wm_decode.specs.exact.WholeOps.{before_op}
+use Rattle.wm_decode.proofs.ShortSteps.{last_steps, steps_so}
 use Rattle.wm_decode.specs.declared.shortcuts.short_steps.Place.{Place}
 use Rattle.wm_decode.specs.declared.shortcuts.short_steps.Stepped.{Stepped}
-use Rattle.wm_decode.specs.Items.{Item, body, locals}
+use Rattle.wm_decode.specs.Items.{Item, body, body_op, locals}
 use Rattle.wm_decode.specs.Sinks.{Taken}
 use Rattle.wm_decode.specs.exact.Steps.{machine_in_member}
 use Rattle.wm_decode.specs.exact.MemberSteps.{member_in_entry, on_number, on_value, runs_or_body, with_item_given}
@@ -32,7 +38,7 @@ use Rattle.wm_decode.specs.exact.ShortSteps.{StepsTo}
 use Rattle.wm_decode.specs.exact.Heads.{IsShort, before_entry, head_after, in_head}
 use Rattle.wm_decode.specs.exact.Shortcuts.{Advances}
 use Rattle.wm_decode.specs.declared.step.reading.Reading.TheVariants.{More, Done}
-use Rattle.wm_decode.proofs.Advances.{advances_more, advances_out, advances_step, advances_then}
+use Rattle.wm_decode.proofs.Advances.{advances_by, advances_more, advances_out, advances_step, advances_then}
 use Rattle.wm_decode.proofs.WholeNumbers.{u32_goes_on, u32_one, u32_second}
 
 pub short_one : (bytes : List ℕ) → slice_index bytes 0 < 2 ^ 7 → IsShort bytes 1 (slice_index bytes 0)
@@ -203,3 +209,18 @@ head_start i =
     let b : i.rest - 0 ≡ i.rest = omega arith in
     ap (λ x. machine.Section section_kind.Code i.functions x i.left (at.Entry (i.rest - 0) (runs_or_body i.runs))) a
     ∙ ap (λ x. machine.Section section_kind.Code i.functions i.more i.left (at.Entry x (runs_or_body i.runs))) b
+
+-- the last `end` of an entry, where another comes after it
+module _ {H U : Type 0} (after : H → Item → Result H Why) (may : H → Item → Type 0) (bytes : List ℕ) (b : InBody) (h g : H) (s : Shortcut) (r : Result U Why) where
+  abbrev pub next_entry : BeforeEntry
+  next_entry = record { functions = b.functions; more = b.more - 1; left = b.left - 1 }
+
+  pub last_taken : b.of ≡ section_kind.Code → slice_index bytes 0 ≡ 0x0B → b.depth ≡ 0 → b.rest ≡ 0 → 0 < b.left → 0 < b.more → 0 < length bytes
+      → s.used ≡ 1 → s.refused ≡ result_err r → Taken (after h (body_op op.End)) r g → IfErr r (λ w. w ≡ why.Memory → may h (body_op op.End)) → Advances after may bytes (before_op b) h s (before_entry next_entry) g
+  last_taken of byte depth rest left more some used is given quiet =
+      let here : Place = record { of = b.of; functions = b.functions; more = b.more; left = b.left; at = at.Entry b.rest (entry.Body (expression.Op b.depth in_op.First)) } in
+      let ended : Stepped = record { left = b.left - 1; at = at.EntrySize fresh; part = Some (plain.BodyOp op.End) } in
+      let to : StepsTo b.of b.left here.at (slice_index bytes 0) ended = steps_so b.of section_kind.Code b.left here.at here.at (slice_index bytes 0) ended of refl (last_steps b.left b.rest b.depth (slice_index bytes 0) in_op.First fresh refl byte depth rest left refl) in
+      advances_by after may bytes (before_op b) (before_entry next_entry) (before_op b) (machine.Section b.of b.functions (b.more - 1) (b.left - 1) (at.EntrySize fresh)) h g s refl
+      (ap (λ k. machine.Section k b.functions (b.more - 1) (b.left - 1) (at.EntrySize fresh)) (sym of))
+      (advances_step after may bytes h g here ended s more some to used r is given quiet)

@@ -9,7 +9,8 @@ ghost use Rattle.wm_decode.specs.exact.Shortcuts.{Advances};
 use crate::decoder::names::give_bytes;
 use crate::machine::member::{InEntry, InMember, SectionKind};
 use crate::machine::{InCustom, Machine, refusal_of};
-use crate::shortcuts::heads::{head, runs};
+use crate::shortcuts::entries::{body, entry};
+use crate::shortcuts::heads::runs;
 use crate::shortcuts::in_body::InBody;
 use crate::shortcuts::indices::indices;
 use crate::shortcuts::short_bytes::short;
@@ -20,6 +21,7 @@ use crate::step::framed;
 use crate::step::members::data_or_over;
 use wm_syntax::why::Why;
 
+pub(crate) mod entries;
 pub(crate) mod heads;
 pub(crate) mod in_body;
 pub(crate) mod indices;
@@ -61,7 +63,7 @@ pub(crate) fn at_most(count: u32, len: usize) -> u32
 /// Which shortcut there may be from a state. Nothing but time rests on this.
 #[derive(Clone, Copy)]
 enum Way {
-    Head,
+    Entry,
     Runs,
     Ops,
     Indices,
@@ -88,7 +90,7 @@ fn way_of(machine: Machine) -> Way {
 
 fn way_in_code(at: InMember) -> Way {
     let InMember::Entry { at, .. } = at else {
-        return Way::Head;
+        return Way::Entry;
     };
     let at = match at {
         InEntry::Run { .. } => return Way::Runs,
@@ -213,8 +215,8 @@ pub(crate) fn take_way<S: Sink>(sink: &mut S, machine: &mut Machine, bytes: &[u8
         (S.held sink.new) }
 {
     match way_of(*machine) {
-        Way::Head => {
-            let taken = head(sink, machine, bytes);
+        Way::Entry => {
+            let taken = entry(sink, machine, bytes);
             if taken.used > 0 {
                 return taken;
             }
@@ -226,7 +228,7 @@ pub(crate) fn take_way<S: Sink>(sink: &mut S, machine: &mut Machine, bytes: &[u8
             }
         }
         Way::Ops => {
-            let taken = ops(sink, machine, bytes);
+            let taken = body(sink, machine, bytes);
             if taken.used > 0 {
                 return taken;
             }

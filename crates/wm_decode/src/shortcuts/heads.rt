@@ -16,6 +16,7 @@ use crate::shortcuts::whole_numbers::Whole;
 use crate::sink::Sink;
 use crate::step::entries::runs_or_body;
 use crate::step::values::{InRun, value_type};
+use wm_syntax::numbers::Num32;
 use wm_syntax::types::ValType;
 use wm_syntax::why::Why;
 
@@ -29,6 +30,20 @@ pub(crate) struct BeforeEntry {
 }
 
 impl BeforeEntry {
+    /// The machine that stands so.
+    #[inline(always)]
+    pub(crate) fn machine(self) -> Machine
+        ensures { result ≡ before_entry self }
+    {
+        Machine::Section {
+            of: SectionKind::Code,
+            functions: self.functions,
+            more: self.more,
+            left: self.left,
+            at: InMember::EntrySize(Num32::new()),
+        }
+    }
+
     /// That of a machine, where it stands so.
     #[inline(always)]
     fn of(machine: Machine) -> Option<BeforeEntry>
