@@ -1,5 +1,5 @@
 -- What shortcuts do is what the byte step does, one after another too.
-use Rattle.std.proofs.Common.{◌≡◌, ◌≢◌, ℕ, suc, ◌+◌, ◌-◌, ◌<◌, ◌≤◌, List, [], Option, Some, None, Result, Ok, Err, MatchResult, IfErr, inl, inr, length, length-drop, length-take, map, min, drop, take, get_or, get_or-drop, get_or-take, slice_index, slice_range, refl, sym, ◌∙◌, ap, subst, arith}
+use Rattle.std.proofs.Common.{◌≡◌, ◌≢◌, ℕ, zero, suc, ◌+◌, ◌-◌, ◌<◌, ◌≤◌, List, [], Option, Some, None, Result, Ok, Err, MatchResult, IfErr, inl, inr, length, length-drop, length-take, map, min, drop, take, get_or, get_or-drop, get_or-take, slice_index, slice_range, refl, sym, ◌∙◌, ap, subst, arith}
 use Rattle.std.specs.Result.{result_err}
 use Rattle.std.proofs.Math.Seq.{take-length}
 use Rattle.std.proofs.lemmas.List.{drop-drop, take_rest}
@@ -130,6 +130,51 @@ module _ {H : Type 0} (after : H → Item → Result H Why) (may : H → Item �
       past_header = λ k go far. (omega arith, λ none. omega arith);
       room = λ p k name short no. part_room may p (standing q) next x.part name h k (slice_index bytes 0) (steps p) (quiet (same_why s.refused v why.Memory is no));
     }
+
+  -- where the sink refused it does not matter where the machine was left
+  pub advances_out : (bytes : List ℕ) (m n o : Machine) (h g f : H) (s : Shortcut) (w : Why) → s.refused ≡ Some w → 0 < s.used → Advances after may bytes m h s n g → Advances after may bytes m h s o f
+  advances_out bytes m n o h g f s w is some a = record {
+    within = a.within;
+    still = λ e. absurd (omega arith);
+    moved = λ p limit k name go none fits. absurd (not_both s.refused w none is);
+    stopped = a.stopped;
+    live = λ none l. absurd (not_both s.refused w none is);
+    past_header = λ k go far. ((a.past_header k go far).0, λ none. absurd (not_both s.refused w none is));
+    room = a.room;
+  }
+
+  -- one after another, of which each may take nothing
+  pub advances_on : (bytes : List ℕ) (m o n : Machine) (h f g : H) (s t u : Shortcut) → Advances after may bytes m h s o f → s.refused ≡ None
+      → Advances after may (drop s.used bytes) o f t n g → u.used ≡ s.used + t.used → u.refused ≡ t.refused → Advances after may bytes m h u n g
+  advances_on bytes m o n h f g s t u a none b eu er = by_count s.used refl t.used refl
+    where
+      alike : (x : Shortcut) → x.used ≡ u.used → x.refused ≡ u.refused → x ≡ u
+      alike x e r = ap (λ i. record { used = i; refused = x.refused }) e ∙ ap (λ y. record { used = u.used; refused = y }) r
+
+      by_count : (i : ℕ) → s.used ≡ i → (j : ℕ) → t.used ≡ j → Advances after may bytes m h u n g
+      by_count zero e j _ =
+          let same : t ≡ u = alike t (omega arith) (sym er) in
+          let whole : Advances after may bytes o f t n g = subst (λ i. Advances after may (drop i bytes) o f t n g) e b in
+          subst (λ y. Advances after may bytes m h y n g) same (advances_after_none bytes m o n h f g s t a e whole)
+      by_count (suc i) e zero d =
+          let still = b.still d in
+          let same : s ≡ u = alike s (omega arith) (none ∙ sym (er ∙ still.0)) in
+          subst (λ y. Advances after may bytes m h y n g) same (subst (λ y. Advances after may bytes m h s y g) (sym still.1) (subst (λ y. Advances after may bytes m h s o y) (sym still.2) a))
+      by_count (suc i) e (suc j) d = advances_then bytes m o n h f g s t u a none (omega arith) b (omega arith) eu er
+
+  -- a byte after other bytes
+  pub advances_more : {U : Type 0} (bytes : List ℕ) (m n : Machine) (h f g : H) (q : Place) (x : Stepped) (i : ℕ) (u : Shortcut) (r : Result U Why)
+      → Advances after may bytes m h (record { used = i; refused = None }) (standing q) f → i < length bytes → 0 < q.more → StepsTo q.of q.left q.at (slice_index bytes i) x
+      → u.used ≡ i + 1 → u.refused ≡ result_err r → Taken (part_taken after x.part f) r g → IfErr r (λ w. w ≡ why.Memory → PartMayRunOut may x.part f)
+      → n ≡ after_stepped q.of q.functions (q.more - 1) x → Advances after may bytes m h u n g
+  advances_more bytes m n h f g q x i u r a less more to eu er given quiet en =
+      let left : length (drop i bytes) ≡ length bytes - i = length-drop i bytes in
+      let place : i + 0 ≡ i = omega arith in
+      let first : slice_index bytes i ≡ slice_index (drop i bytes) 0 = sym (rw (get_or-drop) (ap (λ j. get_or bytes j 0) place)) in
+      let here : StepsTo q.of q.left q.at (slice_index (drop i bytes) 0) x = subst (λ c. StepsTo q.of q.left q.at c x) first to in
+      let one = advances_step (drop i bytes) f g q x (record { used = 1; refused = u.refused }) more (omega arith) here refl r er given quiet in
+      advances_by bytes m n m (after_stepped q.of q.functions (q.more - 1) x) h g u refl en
+      (advances_on bytes m (standing q) (after_stepped q.of q.functions (q.more - 1) x) h f g (record { used = i; refused = None }) (record { used = 1; refused = u.refused }) u a refl one eu refl)
 
   -- whole ops
   pub advances_ops : (bytes : List ℕ) (b : InBody) (h g : H) (s : Shortcut) (d : ℕ) → RanTo after h bytes (min b.more b.rest) b.depth s.used d s.refused g

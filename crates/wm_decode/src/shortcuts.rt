@@ -9,6 +9,8 @@ ghost use Rattle.wm_decode.specs.exact.Shortcuts.{Advances};
 use crate::decoder::names::give_bytes;
 use crate::machine::member::{InEntry, InMember, SectionKind};
 use crate::machine::{InCustom, Machine, refusal_of};
+use crate::shortcuts::entries::{body, entry};
+use crate::shortcuts::heads::runs;
 use crate::shortcuts::in_body::InBody;
 use crate::shortcuts::indices::indices;
 use crate::shortcuts::short_bytes::short;
@@ -19,6 +21,8 @@ use crate::step::framed;
 use crate::step::members::data_or_over;
 use wm_syntax::why::Why;
 
+pub(crate) mod entries;
+pub(crate) mod heads;
 pub(crate) mod in_body;
 pub(crate) mod indices;
 pub(crate) mod short_bytes;
@@ -59,6 +63,8 @@ pub(crate) fn at_most(count: u32, len: usize) -> u32
 /// Which shortcut there may be from a state. Nothing but time rests on this.
 #[derive(Clone, Copy)]
 enum Way {
+    Entry,
+    Runs,
     Ops,
     Indices,
     Short,
@@ -84,10 +90,12 @@ fn way_of(machine: Machine) -> Way {
 
 fn way_in_code(at: InMember) -> Way {
     let InMember::Entry { at, .. } = at else {
-        return Way::Short;
+        return Way::Entry;
     };
-    let InEntry::Body(at) = at else {
-        return Way::Short;
+    let at = match at {
+        InEntry::Run { .. } => return Way::Runs,
+        InEntry::Body(at) => at,
+        _ => return Way::Short,
     };
     match at {
         InExpression::Op { .. } => Way::Ops,
@@ -207,8 +215,20 @@ pub(crate) fn take_way<S: Sink>(sink: &mut S, machine: &mut Machine, bytes: &[u8
         (S.held sink.new) }
 {
     match way_of(*machine) {
+        Way::Entry => {
+            let taken = entry(sink, machine, bytes);
+            if taken.used > 0 {
+                return taken;
+            }
+        }
+        Way::Runs => {
+            let taken = runs(sink, machine, bytes);
+            if taken.used > 0 {
+                return taken;
+            }
+        }
         Way::Ops => {
-            let taken = ops(sink, machine, bytes);
+            let taken = body(sink, machine, bytes);
             if taken.used > 0 {
                 return taken;
             }

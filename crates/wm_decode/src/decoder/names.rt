@@ -102,7 +102,6 @@ pub(crate) fn give_part<S: Sink>(sink: &mut S, part: Option<Plain>) -> Result<()
     match part {
         Plain::Body => give_body(sink),
         Plain::Locals(count, ty) => give_locals(sink, count, ty),
-        Plain::BodyOp(op) => give_op(sink, op),
         _ => give_plain(sink, part),
     }
 }
@@ -111,7 +110,7 @@ pub(crate) fn give_part<S: Sink>(sink: &mut S, part: Option<Plain>) -> Result<()
 // one for all items lies in memory.
 
 #[inline(never)]
-fn give_body<S: Sink>(sink: &mut S) -> Result<(), Why>
+pub(crate) fn give_body<S: Sink>(sink: &mut S) -> Result<(), Why>
     ensures given { Taken (S.after (S.held sink.old) body) result (S.held sink.new) }
     ensures room { IfErr result (λ w. w ≡ Memory → S.may_run_out (S.held sink.old) body) }
 {
@@ -119,7 +118,7 @@ fn give_body<S: Sink>(sink: &mut S) -> Result<(), Why>
 }
 
 #[inline(never)]
-fn give_locals<S: Sink>(sink: &mut S, count: u32, ty: ValType) -> Result<(), Why>
+pub(crate) fn give_locals<S: Sink>(sink: &mut S, count: u32, ty: ValType) -> Result<(), Why>
     ensures given { Taken (S.after (S.held sink.old) (locals count ty)) result (S.held sink.new) }
     ensures room { IfErr result (λ w. w ≡ Memory → S.may_run_out (S.held sink.old) (locals count ty)) }
 {
@@ -127,11 +126,11 @@ fn give_locals<S: Sink>(sink: &mut S, count: u32, ty: ValType) -> Result<(), Why
 }
 
 #[inline(never)]
-fn give_op<S: Sink>(sink: &mut S, op: Op) -> Result<(), Why>
-    ensures given { Taken (S.after (S.held sink.old) (body_op op)) result (S.held sink.new) }
-    ensures room { IfErr result (λ w. w ≡ Memory → S.may_run_out (S.held sink.old) (body_op op)) }
+pub(crate) fn give_end<S: Sink>(sink: &mut S) -> Result<(), Why>
+    ensures given { Taken (S.after (S.held sink.old) (body_op Op.End)) result (S.held sink.new) }
+    ensures room { IfErr result (λ w. w ≡ Memory → S.may_run_out (S.held sink.old) (body_op Op.End)) }
 {
-    sink.take(Item::Op(op))
+    sink.take(Item::Op(Op::End))
 }
 
 // Gives an index of a list

@@ -1,5 +1,4 @@
-//! One byte of function types, or of a code entry's head or last `end`: what the byte step makes of it, by a
-//! shorter way.
+//! One byte of function types, or of a code entry's head: what the byte step makes of it, by a shorter way.
 //!
 //! What ends a section or is refused for its bytes is left to the byte step.
 
@@ -163,93 +162,6 @@ pub(crate) fn local_type_byte(
         at: InMember::Entry { more: more - 1, at },
         part: Some(Plain::Locals(count, ty)),
     })
-}
-
-/// The size of a code entry that ends with the second of these bytes
-#[inline(always)]
-pub(crate) fn long_size(
-    left: u32,
-    mut number: Num32,
-    first: u8,
-    second: u8,
-) -> Option<(Stepped, Stepped)>
-    ensures first { IfSome result (λ p. StepsTo SectionKind.Code left (InMember.EntrySize number) first p.0) }
-    ensures second { IfSome result (λ p. StepsTo SectionKind.Code p.0.left p.0.at second p.1) }
-{
-    let Step::More = number.push(first) else {
-        return None;
-    };
-    let begun = Stepped {
-        left,
-        at: InMember::EntrySize(number),
-        part: None,
-    };
-    let ended = size_byte(left, number, second)?;
-    Some((begun, ended))
-}
-
-/// The count and the type of a run of locals
-#[inline(always)]
-pub(crate) fn short_run(
-    left: u32,
-    more: u32,
-    runs: u32,
-    mut number: Num32,
-    first: u8,
-    second: u8,
-) -> Option<(Stepped, Stepped)>
-    ensures first { IfSome result (λ p. StepsTo SectionKind.Code left
-        (InMember.Entry more (InEntry.Run runs (InRun.Count number))) first p.0) }
-    ensures second { IfSome result (λ p. StepsTo SectionKind.Code p.0.left p.0.at second p.1) }
-{
-    if more == 0 {
-        return None;
-    }
-    let Step::Done(count) = number.push(first) else {
-        return None;
-    };
-    let at = InEntry::Run {
-        more: runs,
-        at: InRun::Type { count },
-    };
-    let begun = Stepped {
-        left,
-        at: InMember::Entry { more: more - 1, at },
-        part: None,
-    };
-    let ended = local_type_byte(left, more - 1, runs, count, second)?;
-    Some((begun, ended))
-}
-
-// The last byte of an entry, where another comes after it
-#[inline(always)]
-fn last_byte(left: u32, more: u32, depth: u32, at: InOp, byte: u8) -> Option<Stepped>
-    ensures { IfSome result (λ s. StepsTo SectionKind.Code left
-        (InMember.Entry more (InEntry.Body (InExpression.Op depth at))) byte s) }
-{
-    let InOp::First = at else {
-        return None;
-    };
-    if byte != 0x0B || depth != 0 || more != 0 || left == 0 {
-        return None;
-    }
-    Some(Stepped {
-        left: left - 1,
-        at: InMember::EntrySize(Num32::new()),
-        part: Some(Plain::BodyOp(Op::End)),
-    })
-}
-
-/// In a body
-#[inline(always)]
-pub(crate) fn body_byte(left: u32, more: u32, at: InExpression, byte: u8) -> Option<Stepped>
-    ensures { IfSome result (λ s. StepsTo SectionKind.Code left (InMember.Entry more (InEntry.Body at)) byte
-        s) }
-{
-    match at {
-        InExpression::Op { depth, at } => last_byte(left, more, depth, at, byte),
-        _ => None,
-    }
 }
 
 /// At the form of a function type

@@ -3,8 +3,8 @@ use Rattle.wm_decode.specs.exact.ShortSteps.{StepsTo}
 use Rattle.wm_decode.proofs.Advances.{advances_by, advances_step}
 use Rattle.wm_decode.proofs.shortcuts.short_bytes.stepped.Goals as goal
 
-pub returns-clause-advances : goal.returns-clause-advances
-returns-clause-advances g c =
+pub returns : goal.returns
+returns g c =
     let q = c.args.place in
     let next = c.in-Some.next in
     let byte = slice_index c.args.bytes.now 0 in

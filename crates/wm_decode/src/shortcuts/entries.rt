@@ -1,0 +1,73 @@
+//! Shortcuts for a code entry (section 5.5.13): its ops and its last `end`, and the head before them.
+
+ghost use Rattle.std.specs.Prelude.{◌<◌, length};
+ghost use Rattle.wm_decode.specs.exact.Shortcuts.{Advances};
+
+use crate::decoder::names::give_end;
+use crate::machine::Machine;
+use crate::machine::member::SectionKind;
+use crate::shortcuts::heads::{BeforeEntry, head};
+use crate::shortcuts::in_body::InBody;
+use crate::shortcuts::{Shortcut, ops};
+use crate::sink::Sink;
+
+// Takes the last `end` of an entry, where another entry comes after it
+#[inline(always)]
+#[tactic(auto, using(crate::proofs::Advances::advances_none))]
+fn last_end<S: Sink>(sink: &mut S, machine: &mut Machine, bytes: &[u8]) -> Shortcut
+    requires { 0 < length bytes.now }
+    ensures { Advances S.after S.may_run_out bytes.now machine.old (S.held sink.old) result machine.new
+        (S.held sink.new) }
+{
+    let Some(body) = InBody::of(*machine) else {
+        return Shortcut::none();
+    };
+    let SectionKind::Code = body.of else {
+        return Shortcut::none();
+    };
+    if bytes[0] != 0x0B || body.depth != 0 || body.rest != 0 || body.left == 0 || body.more == 0 {
+        return Shortcut::none();
+    }
+    let next = BeforeEntry {
+        functions: body.functions,
+        more: body.more - 1,
+        left: body.left - 1,
+    };
+    *machine = next.machine();
+    let refused = give_end(sink).err();
+    Shortcut { used: 1, refused }
+}
+
+/// Takes the ops of an entry that lie whole in these bytes, and its last `end`.
+pub(crate) fn body<S: Sink>(sink: &mut S, machine: &mut Machine, bytes: &[u8]) -> Shortcut
+    requires { 0 < length bytes.now }
+    ensures { Advances S.after S.may_run_out bytes.now machine.old (S.held sink.old) result machine.new
+        (S.held sink.new) }
+{
+    let ran = ops(sink, machine, bytes);
+    if ran.refused.is_some() || ran.used == bytes.len() {
+        return ran;
+    }
+    let last = last_end(sink, machine, &bytes[ran.used..]);
+    Shortcut {
+        used: ran.used + last.used,
+        refused: last.refused,
+    }
+}
+
+/// Takes an entry from its head on.
+pub(crate) fn entry<S: Sink>(sink: &mut S, machine: &mut Machine, bytes: &[u8]) -> Shortcut
+    requires { 0 < length bytes.now }
+    ensures { Advances S.after S.may_run_out bytes.now machine.old (S.held sink.old) result machine.new
+        (S.held sink.new) }
+{
+    let begun = head(sink, machine, bytes);
+    if begun.refused.is_some() || begun.used == bytes.len() {
+        return begun;
+    }
+    let rest = body(sink, machine, &bytes[begun.used..]);
+    Shortcut {
+        used: begun.used + rest.used,
+        refused: rest.refused,
+    }
+}
