@@ -1,5 +1,5 @@
 -- A name of a sink is given where a byte completes an item that the sink refuses by it.
-use Rattle.std.proofs.Common.{◌≡◌, ℕ, zero, suc, ◌<◌, ◌≤◌, ◌^◌, ◌⊎◌, inl, inr, List, [], ◌∷◌, ◌++◌, Option, Some, None, Result, Ok, Err, refl, sym, ◌∙◌, ap, subst, arith}
+use Rattle.std.proofs.Common.{◌≡◌, ℕ, zero, suc, ◌<◌, ◌≤◌, ◌^◌, ◌⊎◌, inl, inr, List, [], ◌∷◌, ◌++◌, Option, Some, None, Result, Ok, Err, refl, sym, ◌∙◌, ap, subst, arith, append_assoc, append-nil}
 use Rattle.std.proofs.lemmas.Bool.{cond_both}
 use Rattle.std.specs.Str.{is_utf8}
 use Rattle.wm_syntax.specs.declared.why.Why.{Why}
@@ -107,16 +107,17 @@ module _ {H : Type 0} (after : H → Item → Result H Why) (s : Setting H) wher
               | inr t ↦ subst IsRuleName (sym t) i
             ]
 
-  on_byte : (b : List ℕ) (r : Refusal) → AreBytes b → IsRuleName r.why → Decoded b ≡ Err r → Meant Refuses b r
-  on_byte b r bytes i e =
+  -- whatever comes after these bytes
+  pub on_byte : (b more : List ℕ) (r : Refusal) → AreBytes b → IsRuleName r.why → Decoded b ≡ Err r → Meant Refuses (b ++ more) r
+  on_byte b more r bytes i e =
       let low : Starts.at ≤ s.limit = omega arith in
       let u = used_of after s.profile s.limit b Starts r low e in
       let used : List ℕ = u.used ++ u.byte ∷ [] in
       let so_far : AreBytes used = front_bytes used u.rest (subst AreBytes u.bytes bytes) in
       record {
         used = used;
-        rest = u.rest;
-        whole = u.bytes;
+        rest = u.rest ++ more;
+        whole = ap (λ y. y ++ more) u.bytes ∙ append_assoc used u.rest more;
         at = omega (arith, u.at);
         means = byte_refused u.used u.before (front_bytes u.used (u.byte ∷ []) so_far) u.taken u.byte r (last_is_byte u.used u.byte so_far) i u.refused;
       }
@@ -139,5 +140,5 @@ module _ {H : Type 0} (after : H → Item → Result H Why) (s : Setting H) wher
   whole_input input r bytes i e = go (Decoded input) refl e
     where
       go : (x : Result (Live H) Refusal) → Decoded input ≡ x → and_then x answer_at_end ≡ Err r → Meant Refuses input r
-      go (Err t) is e = let same : t ≡ r = cc (e) in on_byte input r bytes i (is ∙ ap Err same)
+      go (Err t) is e = let same : t ≡ r = cc (e) in subst (λ y. Meant Refuses y r) (append-nil input) (on_byte input [] r bytes i (is ∙ ap Err same))
       go (Ok l) is e = absurd (end_names l.machine l.held l.at r ((reached after s.profile s.limit input Starts l is).live (λ i. i)) i e)

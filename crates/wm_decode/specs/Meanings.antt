@@ -116,7 +116,8 @@ pub record AtItem (p : Profile) (IsWrong : List Item → Item → Type 0) (used 
 
 -- a sink that held this takes the items, and then refuses the one by the name
 abbrev pub RefusesBy : {H : Type 0} → (H → Item → Result H Why) → H → Why → List Item → Item → Type 0
-RefusesBy {H} after first w items item = (h : H) × (all_taken after first items ≡ Ok h) × (after h item ≡ Err w)
+RefusesBy {H} after first w items item =
+    (h : H) × (all_taken after first items ≡ Ok h) × (after h item ≡ Err w)
 
 -- the names that a sink may give: of a rule of a module (chapter 3; of a code entry 5.5.13), or of a policy
 abbrev pub IsRuleName : Why → Type 0

@@ -1,11 +1,9 @@
--- The checker gives only the names of rules: the steps of a body, then each item.
+-- Which names the checker gives: to the steps of a body, and to each item but a few.
 use Rattle.std.proofs.Common.{◌≡◌, ◌+◌, ◌-◌, ◌^◌, ℕ, List, [], ◌∷◌, ◌++◌, Bool, true, false, cond, Option, Some, None, Result, Ok, Err, reverse, replicate, length, slice_get, option_to_list, subst, sym, ◌∙◌, ap, refl}
 use Rattle.std.specs.Prelude.{nat_le, nat_lt, nat_eq}
 use Rattle.wm_syntax.specs.declared.types.ValType.{ValType}
 use Rattle.wm_syntax.specs.declared.types.ValType.TheVariants.{I32, I64}
 use Rattle.wm_syntax.specs.declared.types.GlobalType.{GlobalType}
-use Rattle.wm_syntax.specs.declared.modules.ImportDesc.{ImportDesc}
-use Rattle.wm_syntax.specs.declared.modules.ImportDesc.TheVariants as desc
 use Rattle.wm_syntax.specs.declared.modules.ExportKind.{ExportKind}
 use Rattle.wm_syntax.specs.declared.modules.ExportKind.TheVariants as kind
 use Rattle.wm_syntax.specs.declared.why.Why.{Why}
@@ -38,20 +36,40 @@ use Rattle.wm_typing.specs.Probes.{probes_in}
 use Rattle.wm_typing.specs.declared.body_checker.Progress.{Progress}
 use Rattle.wm_typing.specs.declared.body_checker.Progress.TheVariants.{Inside, Ended}
 use Rattle.wm_decode.specs.Items.{Item, new_type, param, result_count, one_result, import_module, import_name, import_desc, function, table, memory, global, const_op, export_name, export, start, element, element_function, body, locals, body_op, segment, data_byte}
-use Rattle.wm_decode.specs.Meanings.{IsRuleName}
 use Rattle.wm_decode.specs.Sinks.{all_taken, and_then}
 use Rattle.wm_rules.specs.declared.constants.Constant.{Constant}
 use Rattle.wm_rules.specs.exact.Constants.{constant_after, first_only, of_global, of_type, visible}
-use Rattle.wm_rules.specs.exact.Spaces.{on_last, one_param_more, one_result_more, with_types, function_added, table_added, memory_added, import_added, is_within, items_in, index_check, is_plain, plain, context_of, next_type}
+use Rattle.wm_rules.specs.exact.Spaces.{on_last, one_param_more, one_result_more, with_types, function_added, items_in, index_check, context_of, next_type}
 use Rattle.wm_rules.specs.Holding.{IndexSpaces, Held}
-use Rattle.wm_rules.specs.exact.Checking.{after, body_begun, constant_begun, empty_checker, in_constant, in_names, in_spaces, is_taken, names_with, offset_begun, one_at_most, put_name, checker_after_op, where_ok, with_body, with_constant, with_progress}
+use Rattle.wm_rules.specs.exact.Checking.{after, body_begun, constant_begun, empty_checker, in_constant, in_spaces, offset_begun, one_at_most, checker_after_op, where_ok, with_body, with_constant, with_progress}
 use Rattle.wm_rules.proofs.OutsideBodies.{IsOutside, part_calm}
 use Rattle.wm_rules.proofs.MemberFolds.{ok_then}
+
+-- Tables, memories, imports, names and the start function have names of their own.
+abbrev pub IsCommon : Item → Type 0
+IsCommon (import_desc d) = ⊥
+IsCommon (table l) = ⊥
+IsCommon (memory l) = ⊥
+IsCommon (export_name n) = ⊥
+IsCommon (start x) = ⊥
+IsCommon x = Unit {0}
+
+-- the names that the others are refused by
+abbrev pub IsCommonName : Why → Type 0
+IsCommonName why.TooManyLocals = Unit {0}
+IsCommonName why.Index = Unit {0}
+IsCommonName why.Mismatch = Unit {0}
+IsCommonName why.Arity = Unit {0}
+IsCommonName why.NotConst = Unit {0}
+IsCommonName why.Immutable = Unit {0}
+IsCommonName why.Align = Unit {0}
+IsCommonName why.ElsePlace = Unit {0}
+IsCommonName w = ⊥
 
 -- a refusal, if any, by one of these names
 abbrev Other : {A : Type 0} → Result A Why → Type 0
 Other (Ok x) = Unit {0}
-Other (Err w) = IsRuleName w
+Other (Err w) = IsCommonName w
 
 both : {A : Type 0} (b : Bool) (x y : Result A Why) → Other x → Other y → Other (cond b x y)
 both true x y p q = p
@@ -130,14 +148,14 @@ select_other Whole s =
     (λ a y. on_other (take_any y) (λ b x. push_joined (join a b) x) (any_other y) (λ b x. joined_other (join a b) x))
 
 abbrev OtherShape : Effect → Type 0
-OtherShape (ill w) = IsRuleName w
+OtherShape (ill w) = IsCommonName w
 OtherShape _ = Unit {0}
 
 item_shape : {X : Type 0} (o : Option X) (f : X → Effect) → ((x : X) → OtherShape (f x)) → OtherShape (with_item o f)
 item_shape None f h = tt
 item_shape (Some x) f h = h x
 
-true_shape : (w : Why) → IsRuleName w → (b : Bool) (s : Effect) → OtherShape s → OtherShape (where_true w b s)
+true_shape : (w : Why) → IsCommonName w → (b : Bool) (s : Effect) → OtherShape s → OtherShape (where_true w b s)
 true_shape w i true s h = h
 true_shape w i false s h = i
 
@@ -289,29 +307,10 @@ result_other t f = both (nat_eq (length f.results) 0) (Ok (record f { results = 
 function_other : (x : ℕ) (s : IndexSpaces) → Other (function_added x s)
 function_other x s = both (nat_lt x (length s.types)) (Ok (record s { functions = s.functions ++ x ∷ [] })) (Err why.Index) tt tt
 
-sized_other : (b c : Bool) (s : IndexSpaces) → Other (cond b (Err why.Second) (cond c (Ok s) (Err why.Limits)))
-sized_other true c s = tt
-sized_other false true s = tt
-sized_other false false s = tt
-
-import_other : (d : ImportDesc) (s : IndexSpaces) → Other (import_added d s)
-import_other (desc.Func x) s = other_then (function_added x s) (λ z. Ok (record z { imported_functions = z.imported_functions + 1 })) (function_other x s) (λ z. tt)
-import_other (desc.Table l) s = sized_other s.has_table (is_within (2 ^ 32) l) (record s { has_table = true })
-import_other (desc.Memory l) s = sized_other s.has_memory (is_within (2 ^ 16) l) (record s { has_memory = true })
-import_other (desc.Global g) s = tt
-
 named_other : (k : ExportKind) (x : ℕ) (s : IndexSpaces) → Other (index_check k x s)
 named_other k x s = both (nat_lt x (items_in k s)) (Ok tt) (Err why.Index) tt tt
 
-plain_other : (f : Option Signature) → Other (plain f)
-plain_other None = tt
-plain_other (Some f) = both (is_plain f) (Ok tt) (Err why.StartType) tt tt
-
--- names and constants
-names_other : (h : Held) (r : Result (List (List ℕ)) Why) → Other r → Other (in_names h r)
-names_other h (Ok names) p = tt
-names_other h (Err w) p = p
-
+-- constants
 of_type_other : (t : ValType) (k : Constant) → Other (of_type t k)
 of_type_other t k = both (runs.same t k.expects) (Ok (Some (record k { seen = true }))) (Err why.Mismatch) tt tt
 
@@ -349,31 +348,31 @@ offset_other : (k : ExportKind) (x : ℕ) (h : Held) → Other (offset_begun k x
 offset_other k x h = other_then (index_check k x h.spaces) (λ u. Ok (constant_begun I32 (length h.spaces.globals) h)) (named_other k x h.spaces) (λ u. tt)
 
 -- one item
-part_other : (h : Held) (x : Item) → IsUnrefused h → Other (after h x)
-part_other h new_type e = tt
-part_other h (param t) e = spaces_other h _ (types_other h.spaces _ (last_other (one_param_more t) (λ f. tt) h.spaces.types))
-part_other h (result_count n) e = ok_other h (one_at_most n) (both (nat_le n 1) (Ok tt) (Err why.Arity) tt tt)
-part_other h (one_result t) e = spaces_other h _ (types_other h.spaces _ (last_other (one_result_more t) (result_other t) h.spaces.types))
-part_other h (import_module name) e = tt
-part_other h (import_name name) e = tt
-part_other h (import_desc d) e = spaces_other h (import_added d h.spaces) (import_other d h.spaces)
-part_other h (function x) e = spaces_other h (function_added x h.spaces) (function_other x h.spaces)
-part_other h (table l) e = spaces_other h (table_added l h.spaces) (sized_other h.spaces.has_table (is_within (2 ^ 32) l) _)
-part_other h (memory l) e = spaces_other h (memory_added l h.spaces) (sized_other h.spaces.has_memory (is_within (2 ^ 16) l) _)
-part_other h (global g) e = tt
-part_other h (const_op o) e = in_constant_other o h h.constant
-part_other h (export_name name) e = names_other h (names_with name h.names) (both (is_taken name h.names) (Err why.DuplicateExport) (Ok (put_name name h.names)) tt tt)
-part_other h (export k x) e = ok_other h (index_check k x h.spaces) (named_other k x h.spaces)
-part_other h (start x) e = ok_other h _ (plain_other (function_type (context_of h.spaces) x))
-part_other h (element x) e = offset_other kind.Table x h
-part_other h (element_function x) e = ok_other h (index_check kind.Func x h.spaces) (named_other kind.Func x h.spaces)
-part_other h body e = begun_other h (next_type h.spaces)
-part_other h (locals n t) e = both h.in_body (with_body h (declared_more n t h.body)) (Err why.Index) (body_held h (declared_more n t h.body) (declared_other n t h.body e)) tt
-part_other h (body_op o) e =
+part_other : (h : Held) (x : Item) → IsCommon x → IsUnrefused h → Other (after h x)
+part_other h new_type i e = tt
+part_other h (param t) i e = spaces_other h _ (types_other h.spaces _ (last_other (one_param_more t) (λ f. tt) h.spaces.types))
+part_other h (result_count n) i e = ok_other h (one_at_most n) (both (nat_le n 1) (Ok tt) (Err why.Arity) tt tt)
+part_other h (one_result t) i e = spaces_other h _ (types_other h.spaces _ (last_other (one_result_more t) (result_other t) h.spaces.types))
+part_other h (import_module name) i e = tt
+part_other h (import_name name) i e = tt
+part_other h (import_desc d) i e = absurd i
+part_other h (function x) i e = spaces_other h (function_added x h.spaces) (function_other x h.spaces)
+part_other h (table l) i e = absurd i
+part_other h (memory l) i e = absurd i
+part_other h (global g) i e = tt
+part_other h (const_op o) i e = in_constant_other o h h.constant
+part_other h (export_name name) i e = absurd i
+part_other h (export k x) i e = ok_other h (index_check k x h.spaces) (named_other k x h.spaces)
+part_other h (start x) i e = absurd i
+part_other h (element x) i e = offset_other kind.Table x h
+part_other h (element_function x) i e = ok_other h (index_check kind.Func x h.spaces) (named_other kind.Func x h.spaces)
+part_other h body i e = begun_other h (next_type h.spaces)
+part_other h (locals n t) i e = both h.in_body (with_body h (declared_more n t h.body)) (Err why.Index) (body_held h (declared_more n t h.body) (declared_other n t h.body e)) tt
+part_other h (body_op o) i e =
     both h.in_body (checker_after_op h (body_after_op (context_of h.spaces) o h.body)) (Err why.Index)
     (to_held h (body_after_op (context_of h.spaces) o h.body) (stepped_other (context_of h.spaces) o h.body e)) tt
-part_other h (segment x) e = offset_other kind.Memory x h
-part_other h (data_byte c) e = tt
+part_other h (segment x) i e = offset_other kind.Memory x h
+part_other h (data_byte c) i e = tt
 
 -- an item that is taken leaves a body that was not refused
 unless_kept : {A : Type 0} (w : Option Why) (r : Result A Why) (y : A) → w ≡ None → unless_refused w r ≡ Ok y → r ≡ Ok y
@@ -454,5 +453,5 @@ all_kept (x ∷ items) h g e n =
     all_kept items s.0 g s.2 (part_kept h s.0 x s.1 n)
 
 -- whatever items it has taken
-pub rule_names : (items : List Item) (h : Held) (x : Item) (w : Why) → all_taken after empty_checker items ≡ Ok h → after h x ≡ Err w → IsRuleName w
-rule_names items h x w t e = subst Other e (part_other h x (all_kept items empty_checker h t refl))
+pub common_names : (items : List Item) (h : Held) (x : Item) (w : Why) → IsCommon x → all_taken after empty_checker items ≡ Ok h → after h x ≡ Err w → IsCommonName w
+common_names items h x w i t e = subst Other e (part_other h x i (all_kept items empty_checker h t refl))
