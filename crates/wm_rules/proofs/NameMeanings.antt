@@ -39,6 +39,9 @@ module _ (p : Profile) (limit : ℕ) (q : Policy) where
   said why.Second = inl (tt, λ used rest a. ruled why.Second used (λ i. i) a)
   said why.DuplicateExport = inl (tt, λ used rest a. ruled why.DuplicateExport used (λ i. i) a)
   said why.StartType = inl (tt, λ used rest a. ruled why.StartType used (λ i. i) a)
+  said why.NotConst = inl (tt, λ used rest a. ruled why.NotConst used (λ i. i) a)
+  said why.Immutable = inl (tt, λ used rest a. ruled why.Immutable used (λ i. i) a)
+  said why.Align = inl (tt, λ used rest a. ruled why.Align used (λ i. i) a)
   said w = inr (λ used rest m. m)
 
   pub meaning : (input : List ℕ) (r : Refusal) → MeaningOfFormat limit input r → (IsRuleName r.why → Meant (λ used rest w. Refuses w used) input r) → Meaning p limit input r

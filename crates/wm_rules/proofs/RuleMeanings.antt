@@ -1,5 +1,5 @@
 -- What the names of rules say of the items so far and the item that is refused.
-use Rattle.std.proofs.Common.{◌≡◌, ℕ, ◌^◌, ◌≤◌, ◌⊎◌, inl, inr, cond, Bool, true, false, List, [], length, Option, Some, None, Result, Ok, Err, refl, sym, ◌∙◌, ap, subst, nat_lt, nat_le}
+use Rattle.std.proofs.Common.{◌≡◌, ℕ, ◌^◌, ◌≤◌, ◌⊎◌, inl, inr, cond, Bool, true, false, List, [], length, Option, Some, None, Result, Ok, Err, refl, sym, ◌∙◌, ap, subst, nat_lt}
 use Rattle.std.proofs.lemmas.Bool.{cond_both, ltb-false}
 use Rattle.wm_syntax.specs.declared.why.Why.{Why}
 use Rattle.wm_syntax.specs.declared.why.Why.TheVariants as why
@@ -15,11 +15,14 @@ use Rattle.wm_decode.specs.Meanings.{IsRuleName}
 use Rattle.wm_decode.specs.Sinks.{all_taken, and_then}
 use Rattle.wm_rules.specs.Holding.{IndexSpaces, Held}
 use Rattle.wm_rules.specs.exact.Spaces.{items_in, one_if, index_check, is_plain, is_within, plain, context_of, function_added, import_added, table_added, memory_added}
-use Rattle.wm_rules.specs.exact.Checking.{after, empty_checker, in_names, in_spaces, is_taken, one_at_most, put_name, where_ok}
+use Rattle.wm_rules.specs.exact.Checking.{after, empty_checker, in_names, in_spaces, is_taken, put_name, where_ok}
 use Rattle.wm_rules.specs.Validation.{WithinRange}
-use Rattle.wm_rules.specs.Meanings.{HasNoItem, IsNoStart, IsOutOfRange, IsRepeated, IsSecond, context_so_far, how_many, one_where, so_far}
+use Rattle.wm_rules.specs.Meanings.{AtConstant, AtOp, CannotBeConstant, IsAlignedPast, SetsConstant, HasNoItem, IsNoStart, IsOutOfRange, IsRepeated, IsSecond, context_so_far, how_many, one_where, so_far}
 use Rattle.wm_rules.proofs.ItemMembers.{within_from}
-use Rattle.wm_rules.proofs.RuleNames.{IsCommon, IsCommonName, common_names}
+use Rattle.wm_syntax.specs.declared.types.ValType.{ValType}
+use Rattle.wm_syntax.specs.declared.instructions.Op.{Op}
+use Rattle.wm_rules.proofs.OpNames.{Only, OpSays}
+use Rattle.wm_rules.proofs.RuleNames.{ConstantSays, IsLocalsName, IsTypeName, constant_names, count_name, entry_name, locals_names, op_names, param_names, result_names}
 use Rattle.wm_rules.proofs.ToldItems.{spaces_are_told, taken_is_told}
 
 -- the item is refused by this name, and what is said of it holds
@@ -29,7 +32,14 @@ Wrong why.Limits items x = IsOutOfRange items x
 Wrong why.Second items x = IsSecond items x
 Wrong why.DuplicateExport items x = IsRepeated items x
 Wrong why.StartType items x = IsNoStart items x
-Wrong w items x = IsCommonName w
+Wrong why.NotConst items x = AtConstant CannotBeConstant items x
+Wrong why.Immutable items x = AtOp SetsConstant items x
+Wrong why.Align items x = AtOp (λ globals o. IsAlignedPast o) items x
+Wrong why.TooManyLocals items x = Unit {0}
+Wrong why.Mismatch items x = Unit {0}
+Wrong why.Arity items x = Unit {0}
+Wrong why.ElsePlace items x = Unit {0}
+Wrong w items x = ⊥
 
 pub wrong_name : (w : Why) (items : List Item) (x : Item) → Wrong w items x → IsRuleName w
 wrong_name why.TooManyLocals items x h = tt
@@ -49,14 +59,36 @@ wrong_name why.ManyLocals items x h = absurd h
 wrong_name why.Deep items x h = absurd h
 wrong_name w items x h = h
 
--- one of the other names: of Index it has to be known
-by_common : (w : Why) (items : List Item) (x : Item) → IsCommonName w → (w ≡ why.Index → HasNoItem items x) → Wrong w items x
-by_common why.Index items x i k = k refl
-by_common why.Limits items x i k = absurd i
-by_common why.Second items x i k = absurd i
-by_common why.DuplicateExport items x i k = absurd i
-by_common why.StartType items x i k = absurd i
-by_common w items x i k = i
+-- where the item is no more than refused by such a name
+by_type : (w : Why) (items : List Item) (x : Item) → IsTypeName w → HasNoItem items x → Wrong w items x
+by_type why.Index items x i k = k
+by_type why.Arity items x i k = tt
+by_type w items x i k = absurd i
+
+by_locals : (w : Why) (items : List Item) (n : ℕ) (t : ValType) → IsLocalsName w → Wrong w items (locals n t)
+by_locals why.Index items n t i = tt
+by_locals why.TooManyLocals items n t i = tt
+by_locals w items n t i = absurd i
+
+by_constant : (w : Why) (items : List Item) (o : Op) → ConstantSays (so_far items).globals o w → Wrong w items (const_op o)
+by_constant why.NotConst items o i = i
+by_constant why.Index items o i = tt
+by_constant why.Mismatch items o i = tt
+by_constant why.Arity items o i = tt
+by_constant w items o i = absurd i
+
+by_op : (w : Why) (items : List Item) (o : Op) → OpSays (so_far items).globals o w → Wrong w items (body_op o)
+by_op why.Immutable items o i = i
+by_op why.Align items o i = i
+by_op why.Index items o i = tt
+by_op why.Mismatch items o i = tt
+by_op why.Arity items o i = tt
+by_op why.ElsePlace items o i = tt
+by_op w items o i = absurd i
+
+-- a refusal by a name of which this is so
+only : {A : Type 0} (P : Why → Type 0) (r : Result A Why) (w : Why) → Only P r → r ≡ Err w → P w
+only P r w h e = subst (Only P) e h
 
 spaces_err : (h : Held) (r : Result IndexSpaces Why) (w : Why) → in_spaces h r ≡ Err w → r ≡ Err w
 spaces_err h (Ok s) w e = absurd (cc)
@@ -142,18 +174,11 @@ module _ (items : List Item) (h : Held) (t : all_taken after empty_checker items
           subst (λ v. Wrong v items (start x)) same
           (f, is, λ n. let no_more : is_plain (record { params = []; results = [] }) ≡ false = subst (λ (ps : List _). is_plain (record { params = ps; results = [] }) ≡ false) n.0 (subst (λ (rs : List _). is_plain (record { params = f.params; results = rs }) ≡ false) n.1 d) in absurd (cc))
 
-  -- a function type has one result at most: no index is wrong there
-  count_index : (n : ℕ) (w : Why) → one_at_most n ≡ Err w → w ≡ why.Index → ⊥
-  count_index n w = cond_both (nat_le n 1) _ _ (λ (r : Result (Unit {0}) Why). r ≡ Err w → w ≡ why.Index → ⊥) (λ _ e i. cc) (λ _ e i. cc)
-
-  common : (x : Item) (w : Why) → IsCommon x → after h x ≡ Err w → (w ≡ why.Index → HasNoItem items x) → Wrong w items x
-  common x w i e k = by_common w items x (common_names items h x w i t e) k
-
   pub item_refused : (x : Item) (w : Why) → after h x ≡ Err w → Wrong w items x
   item_refused new_type w e = absurd (cc)
-  item_refused (param v) w e = common (param v) w tt e (λ i. tt)
-  item_refused (result_count n) w e = common (result_count n) w tt e (λ i. absurd (count_index n w (ok_err h (one_at_most n) w e) i))
-  item_refused (one_result v) w e = common (one_result v) w tt e (λ i. tt)
+  item_refused (param v) w e = by_type w items (param v) (only IsTypeName (after h (param v)) w (param_names h v) e) tt
+  item_refused (result_count n) w e = subst (λ v. Wrong v items (result_count n)) (sym (only (λ v. v ≡ why.Arity) (after h (result_count n)) w (count_name h n) e)) tt
+  item_refused (one_result v) w e = by_type w items (one_result v) (only IsTypeName (after h (one_result v)) w (result_names h v) e) tt
   item_refused (import_module name) w e = absurd (cc)
   item_refused (import_name name) w e = absurd (cc)
   item_refused (import_desc d) w e = import_refused d w (spaces_err h (import_added d h.spaces) w e)
@@ -161,7 +186,8 @@ module _ (items : List Item) (h : Held) (t : all_taken after empty_checker items
   item_refused (table l) w e = is_sized w (table l) h.spaces.has_table (is_within (2 ^ 32) l) _ (spaces_err h (table_added l h.spaces) w e) has_table_told (out_of_range (2 ^ 32) l)
   item_refused (memory l) w e = is_sized w (memory l) h.spaces.has_memory (is_within (2 ^ 16) l) _ (spaces_err h (memory_added l h.spaces) w e) has_memory_told (out_of_range (2 ^ 16) l)
   item_refused (global g) w e = absurd (cc)
-  item_refused (const_op o) w e = common (const_op o) w tt e (λ i. tt)
+  item_refused (const_op o) w e =
+      by_constant w items o (subst (λ (y : IndexSpaces). ConstantSays y.globals o w) told (only (ConstantSays h.spaces.globals o) (after h (const_op o)) w (constant_names h o) e))
   item_refused (export_name n) w e = name_refused n w (is_taken n h.names) refl e
   item_refused (export k x) w e = is_index (export k x) w (no_item k x w (ok_err h (index_check k x h.spaces) w e))
   item_refused (start x) w e =
@@ -169,8 +195,9 @@ module _ (items : List Item) (h : Held) (t : all_taken after empty_checker items
       start_refused x w (function_type (context_of h.spaces) x) (sym same) (ok_err h (plain (function_type (context_of h.spaces) x)) w e)
   item_refused (element x) w e = is_index (element x) w (no_item kind.Table x w (then_err (index_check kind.Table x h.spaces) _ w e))
   item_refused (element_function x) w e = is_index (element_function x) w (no_item kind.Func x w (ok_err h (index_check kind.Func x h.spaces) w e))
-  item_refused body w e = common body w tt e (λ i. tt)
-  item_refused (locals n v) w e = common (locals n v) w tt e (λ i. tt)
-  item_refused (body_op o) w e = common (body_op o) w tt e (λ i. tt)
+  item_refused body w e = subst (λ v. Wrong v items body) (sym (only (λ v. v ≡ why.Index) (after h body) w (entry_name h) e)) tt
+  item_refused (locals n v) w e = by_locals w items n v (only IsLocalsName (after h (locals n v)) w (locals_names items h n v t) e)
+  item_refused (body_op o) w e =
+      by_op w items o (subst (λ (y : IndexSpaces). OpSays y.globals o w) told (only (OpSays h.spaces.globals o) (after h (body_op o)) w (op_names items h o t) e))
   item_refused (segment x) w e = is_index (segment x) w (no_item kind.Memory x w (then_err (index_check kind.Memory x h.spaces) _ w e))
   item_refused (data_byte c) w e = absurd (cc)

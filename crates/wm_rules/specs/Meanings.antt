@@ -1,6 +1,12 @@
 -- What the name of a refusal says of the bytes up to its place, where a rule was broken: of the items that
 -- are complete in them. The names of the format say what they say of any sink.
-use Rattle.std.specs.Prelude.{◌≡◌, ℕ, ◌+◌, ◌≤◌, Bool, true, false, List, [], ◌∷◌, ◌++◌, None, Some, length}
+use Rattle.std.specs.Prelude.{◌≡◌, ℕ, ◌+◌, ◌^◌, ◌<◌, ◌≤◌, Bool, true, false, List, [], ◌∷◌, ◌++◌, None}
+use Rattle.std.specs.Prelude.{Some, length, slice_get}
+use Rattle.wm_syntax.specs.declared.types.GlobalType.{GlobalType}
+use Rattle.wm_syntax.specs.declared.instructions.Simple.TheVariants as simple
+use Rattle.wm_syntax.specs.declared.instructions.Op.{Op}
+use Rattle.wm_syntax.specs.declared.instructions.Op.TheVariants as op
+use Rattle.wm_syntax.specs.Opcodes.{load, store}
 use Rattle.wm_syntax.specs.declared.profile.Profile.{Profile}
 use Rattle.wm_syntax.specs.declared.why.Why.{Why}
 use Rattle.wm_syntax.specs.declared.why.Why.TheVariants as why
@@ -126,15 +132,47 @@ NamesNothing s _ = ⊥
 abbrev pub HasNoItem : List Item → Item → Type 0
 HasNoItem items x = NamesNothing (so_far items) x
 
--- What the name says. It is said of the names of the format, and of five of rules. Nothing is said of
--- further names of rules, which an op, a constant, a function type or a code entry is refused by, nor of
--- those of a policy.
+-- Immutable: a global.set of a constant global (section 3.3.3)
+abbrev pub SetsConstant : List GlobalType → Op → Type 0
+SetsConstant globals (op.Simple (simple.GlobalSet x)) =
+    (g : GlobalType) × (slice_get globals x ≡ Some g) × (g.var ≡ false)
+SetsConstant globals _ = ⊥
+
+-- Align: an alignment above the width of the access (section 3.3.4)
+abbrev pub IsAlignedPast : Op → Type 0
+IsAlignedPast (op.Simple (simple.Load o a)) = (load o).width < 2 ^ a.align
+IsAlignedPast (op.Simple (simple.Store o a)) = (store o).width < 2 ^ a.align
+IsAlignedPast _ = ⊥
+
+-- NotConst: what no constant expression has, or a global.get of a global that varies (section 3.3.7)
+abbrev pub CannotBeConstant : List GlobalType → Op → Type 0
+CannotBeConstant globals (op.Simple (simple.I32Const n)) = ⊥
+CannotBeConstant globals (op.Simple (simple.I64Const n)) = ⊥
+CannotBeConstant globals (op.Simple (simple.GlobalGet x)) =
+    (g : GlobalType) × (slice_get globals x ≡ Some g) × (g.var ≡ true)
+CannotBeConstant globals op.End = ⊥
+CannotBeConstant globals _ = Unit {0}
+
+-- of an instruction of a body, and of one of a constant expression, with the globals so far
+abbrev pub AtOp : (List GlobalType → Op → Type 0) → List Item → Item → Type 0
+AtOp IsWrong items (body_op o) = IsWrong (so_far items).globals o
+AtOp IsWrong items _ = ⊥
+
+abbrev pub AtConstant : (List GlobalType → Op → Type 0) → List Item → Item → Type 0
+AtConstant IsWrong items (const_op o) = IsWrong (so_far items).globals o
+AtConstant IsWrong items _ = ⊥
+
+-- What the name says. It is said of the names of the format, and of eight of rules. Nothing is said of
+-- TooManyLocals, Mismatch, Arity and ElsePlace, nor of the names of a policy.
 abbrev pub Means : Profile → ℕ → List ℕ → List ℕ → Why → Type 0
 Means p limit used rest why.Index = AtItem p HasNoItem used
 Means p limit used rest why.Limits = AtItem p IsOutOfRange used
 Means p limit used rest why.Second = AtItem p IsSecond used
 Means p limit used rest why.DuplicateExport = AtItem p IsRepeated used
 Means p limit used rest why.StartType = AtItem p IsNoStart used
+Means p limit used rest why.NotConst = AtItem p (AtConstant CannotBeConstant) used
+Means p limit used rest why.Immutable = AtItem p (AtOp SetsConstant) used
+Means p limit used rest why.Align = AtItem p (AtOp (λ globals o. IsAlignedPast o)) used
 Means p limit used rest w = MeansOfFormat limit used rest w
 
 -- A refusal of an input says this of the bytes up to its place, which lies within it.
