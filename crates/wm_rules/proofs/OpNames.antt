@@ -31,7 +31,9 @@ use Rattle.wm_typing.specs.exact.Bodies.{context_in, body_after_op, body_from as
 use Rattle.wm_typing.specs.Probes.{probes_in}
 use Rattle.wm_decode.specs.Sinks.{and_then}
 use Rattle.std.proofs.lemmas.Bool.{leb-false}
-use Rattle.wm_rules.specs.Meanings.{IsAlignedPast, SetsConstant}
+use Rattle.std.proofs.Common.{map}
+use Rattle.wm_typing.specs.OpenLists.{Head, head, head_of}
+use Rattle.wm_rules.specs.Meanings.{IsAlignedPast, IsNoFirstBranch, SetsConstant}
 
 -- a refusal, if any, by a name of which this is so
 abbrev pub Only : {A : Type 0} → (Why → Type 0) → Result A Why → Type 0
@@ -137,129 +139,140 @@ known_other u t s =
     both (nat_eq t.left 0) (with_table None (drive_diverges (option_to_list u) s)) (Ok (record { stacks = s; table = Some (record { left = t.left - 1; seen = Some u }) }))
     (table_other None (drive_diverges (option_to_list u) s) (diverges_other (option_to_list u) s)) tt
 
--- what the name of a refused op says of it
-abbrev pub OpSays : List GlobalType → Op → Why → Type 0
-OpSays globals o why.Immutable = SetsConstant globals o
-OpSays globals o why.Align = IsAlignedPast o
-OpSays globals o why.Index = Unit {0}
-OpSays globals o why.Mismatch = Unit {0}
-OpSays globals o why.Arity = Unit {0}
-OpSays globals o why.ElsePlace = Unit {0}
-OpSays globals o w = ⊥
+-- where an else stands outside of a first branch
+abbrev pub OutsideElse : Option BrTable → List Frame → Type 0
+OutsideElse None fs = IsNoFirstBranch (map head_of fs)
+OutsideElse (Some t) fs = ⊥
 
-of_operands : (globals : List GlobalType) (o : Op) (w : Why) → IsOperandName w → OpSays globals o w
-of_operands globals o why.Mismatch i = tt
-of_operands globals o why.Arity i = tt
-of_operands globals o why.Index i = absurd i
-of_operands globals o why.Immutable i = absurd i
-of_operands globals o why.Align i = absurd i
-of_operands globals o why.ElsePlace i = absurd i
-of_operands globals o w i = i
+module _ (E : Type 0) where
+  -- what it says of an else
+  abbrev pub ElseIs : Op → Type 0
+  ElseIs op.Else = E
+  ElseIs o = ⊥
 
-abbrev Said : {A : Type 0} → List GlobalType → Op → Result A Why → Type 0
-Said globals o r = Only (OpSays globals o) r
+  -- what the name of a refused op says of it
+  abbrev pub OpSays : List GlobalType → Op → Why → Type 0
+  OpSays globals o why.Immutable = SetsConstant globals o
+  OpSays globals o why.Align = IsAlignedPast o
+  OpSays globals o why.Index = Unit {0}
+  OpSays globals o why.Mismatch = Unit {0}
+  OpSays globals o why.Arity = Unit {0}
+  OpSays globals o why.ElsePlace = ElseIs o
+  OpSays globals o w = ⊥
 
-said : {A : Type 0} (globals : List GlobalType) (o : Op) (r : Result A Why) → Other r → Said globals o r
-said globals o (Ok x) h = tt
-said globals o (Err w) h = of_operands globals o w h
+  of_operands : (globals : List GlobalType) (o : Op) (w : Why) → IsOperandName w → OpSays globals o w
+  of_operands globals o why.Mismatch i = tt
+  of_operands globals o why.Arity i = tt
+  of_operands globals o why.Index i = absurd i
+  of_operands globals o why.Immutable i = absurd i
+  of_operands globals o why.Align i = absurd i
+  of_operands globals o why.ElsePlace i = absurd i
+  of_operands globals o w i = i
 
--- what a simple instruction does, if anything
-abbrev ShapeSays : Context → Simple → Effect → Type 0
-ShapeSays c p (ill w) = OpSays c.globals (op.Simple p) w
-ShapeSays c p _ = Unit {0}
+  abbrev Said : {A : Type 0} → List GlobalType → Op → Result A Why → Type 0
+  Said globals o r = Only (OpSays globals o) r
 
-module _ (c : Context) (p : Simple) where
-  item_says : {X : Type 0} (o : Option X) (f : X → Effect) → ((x : X) → o ≡ Some x → ShapeSays c p (f x)) → ShapeSays c p (with_item o f)
-  item_says None f h = tt
-  item_says (Some x) f h = h x refl
+  said : {A : Type 0} (globals : List GlobalType) (o : Op) (r : Result A Why) → Other r → Said globals o r
+  said globals o (Ok x) h = tt
+  said globals o (Err w) h = of_operands globals o w h
 
-  true_says : (w : Why) (b : Bool) (s : Effect) → (b ≡ false → OpSays c.globals (op.Simple p) w) → ShapeSays c p s → ShapeSays c p (where_true w b s)
-  true_says w true s n h = h
-  true_says w false s n h = n refl
+  -- what a simple instruction does, if anything
+  abbrev ShapeSays : Context → Simple → Effect → Type 0
+  ShapeSays c p (ill w) = OpSays c.globals (op.Simple p) w
+  ShapeSays c p _ = Unit {0}
 
-shape_says : (c : Context) (p : Simple) → ShapeSays c p (effect_of c p)
-shape_says c simple.Unreachable = tt
-shape_says c simple.Nop = tt
-shape_says c (simple.Br l) = item_says c (simple.Br l) (slice_get c.labels l) (λ t. is_polymorphic (option_to_list t)) (λ t e. tt)
-shape_says c (simple.BrIf l) = item_says c (simple.BrIf l) (slice_get c.labels l) (λ t. fixed (option_to_list t ++ I32 ∷ []) (option_to_list t)) (λ t e. tt)
-shape_says c simple.Return = tt
-shape_says c (simple.Call x) = item_says c (simple.Call x) (function_type c x) (λ (f : Signature). fixed f.params f.results) (λ f e. tt)
-shape_says c (simple.CallIndirect x) =
-    true_says c (simple.CallIndirect x) why.Index c.has_table (with_item (slice_get c.types x) (λ (f : Signature). indirect f.params f.results)) (λ e. tt)
-    (item_says c (simple.CallIndirect x) (slice_get c.types x) (λ (f : Signature). indirect f.params f.results) (λ f e. tt))
-shape_says c simple.Drop = tt
-shape_says c simple.Select = tt
-shape_says c (simple.LocalGet x) = item_says c (simple.LocalGet x) (slice_get c.locals x) (λ t. fixed [] (t ∷ [])) (λ t e. tt)
-shape_says c (simple.LocalSet x) = item_says c (simple.LocalSet x) (slice_get c.locals x) (λ t. fixed (t ∷ []) []) (λ t e. tt)
-shape_says c (simple.LocalTee x) = item_says c (simple.LocalTee x) (slice_get c.locals x) (λ t. fixed (t ∷ []) (t ∷ [])) (λ t e. tt)
-shape_says c (simple.GlobalGet x) = item_says c (simple.GlobalGet x) (slice_get c.globals x) (λ (g : GlobalType). fixed [] (g.ty ∷ [])) (λ g e. tt)
-shape_says c (simple.GlobalSet x) =
-    item_says c (simple.GlobalSet x) (slice_get c.globals x) (λ (g : GlobalType). where_true why.Immutable g.var (fixed (g.ty ∷ []) []))
-    (λ g e. true_says c (simple.GlobalSet x) why.Immutable g.var (fixed (g.ty ∷ []) []) (λ v. (g, e, v)) tt)
-shape_says c simple.MemorySize = true_says c simple.MemorySize why.Index c.has_memory (fixed [] (I32 ∷ [])) (λ e. tt) tt
-shape_says c simple.MemoryGrow = true_says c simple.MemoryGrow why.Index c.has_memory (fixed (I32 ∷ []) (I32 ∷ [])) (λ e. tt) tt
-shape_says c (simple.I32Const n) = tt
-shape_says c (simple.I64Const n) = tt
-shape_says c (simple.Load o at) =
-    true_says c (simple.Load o at) why.Index c.has_memory (where_true why.Align (nat_le (2 ^ at.align) (load o).width) (fixed (I32 ∷ []) ((load o).ty ∷ []))) (λ e. tt)
-    (true_says c (simple.Load o at) why.Align (nat_le (2 ^ at.align) (load o).width) (fixed (I32 ∷ []) ((load o).ty ∷ [])) (λ e. leb-false (2 ^ at.align) (load o).width e) tt)
-shape_says c (simple.Store o at) =
-    true_says c (simple.Store o at) why.Index c.has_memory (where_true why.Align (nat_le (2 ^ at.align) (store o).width) (fixed (I32 ∷ (store o).ty ∷ []) [])) (λ e. tt)
-    (true_says c (simple.Store o at) why.Align (nat_le (2 ^ at.align) (store o).width) (fixed (I32 ∷ (store o).ty ∷ []) []) (λ e. leb-false (2 ^ at.align) (store o).width e) tt)
-shape_says c (simple.Numeric o) = tt
+  module _ (c : Context) (p : Simple) where
+    item_says : {X : Type 0} (o : Option X) (f : X → Effect) → ((x : X) → o ≡ Some x → ShapeSays c p (f x)) → ShapeSays c p (with_item o f)
+    item_says None f h = tt
+    item_says (Some x) f h = h x refl
 
-module _ (c : Context) (p : Simple) where
-  abbrev Answers : Result Stack Why → Type 0
-  Answers r = Said c.globals (op.Simple p) r
+    true_says : (w : Why) (b : Bool) (s : Effect) → (b ≡ false → OpSays c.globals (op.Simple p) w) → ShapeSays c p s → ShapeSays c p (where_true w b s)
+    true_says w true s n h = h
+    true_says w false s n h = n refl
 
-  drive_says : (d : Effect) (s : Stack) → ShapeSays c p d → Answers (drive d s)
-  drive_says (fixed a b) s h = said c.globals (op.Simple p) (drive_fixed a b s) (fixed_other a b s)
-  drive_says (indirect a b) s h = said c.globals (op.Simple p) (drive (indirect a b) s) (on_other (take_all (I32 ∷ []) s) (λ r z. drive_fixed a b z) (take_other (I32 ∷ []) s) (λ r z. fixed_other a b z))
-  drive_says (is_polymorphic a) s h = said c.globals (op.Simple p) (drive_diverges a s) (diverges_other a s)
-  drive_says drops s h = said c.globals (op.Simple p) (drive drops s) (on_other (take_any s) (λ e z. Ok z) (any_other s) (λ e z. tt))
-  drive_says selects s h = said c.globals (op.Simple p) (drive selects s) (on_other (take_all (I32 ∷ []) s) select_from (take_other (I32 ∷ []) s) select_other)
-  drive_says (ill w) s h = h
+  shape_says : (c : Context) (p : Simple) → ShapeSays c p (effect_of c p)
+  shape_says c simple.Unreachable = tt
+  shape_says c simple.Nop = tt
+  shape_says c (simple.Br l) = item_says c (simple.Br l) (slice_get c.labels l) (λ t. is_polymorphic (option_to_list t)) (λ t e. tt)
+  shape_says c (simple.BrIf l) = item_says c (simple.BrIf l) (slice_get c.labels l) (λ t. fixed (option_to_list t ++ I32 ∷ []) (option_to_list t)) (λ t e. tt)
+  shape_says c simple.Return = tt
+  shape_says c (simple.Call x) = item_says c (simple.Call x) (function_type c x) (λ (f : Signature). fixed f.params f.results) (λ f e. tt)
+  shape_says c (simple.CallIndirect x) =
+      true_says c (simple.CallIndirect x) why.Index c.has_table (with_item (slice_get c.types x) (λ (f : Signature). indirect f.params f.results)) (λ e. tt)
+      (item_says c (simple.CallIndirect x) (slice_get c.types x) (λ (f : Signature). indirect f.params f.results) (λ f e. tt))
+  shape_says c simple.Drop = tt
+  shape_says c simple.Select = tt
+  shape_says c (simple.LocalGet x) = item_says c (simple.LocalGet x) (slice_get c.locals x) (λ t. fixed [] (t ∷ [])) (λ t e. tt)
+  shape_says c (simple.LocalSet x) = item_says c (simple.LocalSet x) (slice_get c.locals x) (λ t. fixed (t ∷ []) []) (λ t e. tt)
+  shape_says c (simple.LocalTee x) = item_says c (simple.LocalTee x) (slice_get c.locals x) (λ t. fixed (t ∷ []) (t ∷ [])) (λ t e. tt)
+  shape_says c (simple.GlobalGet x) = item_says c (simple.GlobalGet x) (slice_get c.globals x) (λ (g : GlobalType). fixed [] (g.ty ∷ [])) (λ g e. tt)
+  shape_says c (simple.GlobalSet x) =
+      item_says c (simple.GlobalSet x) (slice_get c.globals x) (λ (g : GlobalType). where_true why.Immutable g.var (fixed (g.ty ∷ []) []))
+      (λ g e. true_says c (simple.GlobalSet x) why.Immutable g.var (fixed (g.ty ∷ []) []) (λ v. (g, e, v)) tt)
+  shape_says c simple.MemorySize = true_says c simple.MemorySize why.Index c.has_memory (fixed [] (I32 ∷ [])) (λ e. tt) tt
+  shape_says c simple.MemoryGrow = true_says c simple.MemoryGrow why.Index c.has_memory (fixed (I32 ∷ []) (I32 ∷ [])) (λ e. tt) tt
+  shape_says c (simple.I32Const n) = tt
+  shape_says c (simple.I64Const n) = tt
+  shape_says c (simple.Load o at) =
+      true_says c (simple.Load o at) why.Index c.has_memory (where_true why.Align (nat_le (2 ^ at.align) (load o).width) (fixed (I32 ∷ []) ((load o).ty ∷ []))) (λ e. tt)
+      (true_says c (simple.Load o at) why.Align (nat_le (2 ^ at.align) (load o).width) (fixed (I32 ∷ []) ((load o).ty ∷ [])) (λ e. leb-false (2 ^ at.align) (load o).width e) tt)
+  shape_says c (simple.Store o at) =
+      true_says c (simple.Store o at) why.Index c.has_memory (where_true why.Align (nat_le (2 ^ at.align) (store o).width) (fixed (I32 ∷ (store o).ty ∷ []) [])) (λ e. tt)
+      (true_says c (simple.Store o at) why.Align (nat_le (2 ^ at.align) (store o).width) (fixed (I32 ∷ (store o).ty ∷ []) []) (λ e. leb-false (2 ^ at.align) (store o).width e) tt)
+  shape_says c (simple.Numeric o) = tt
 
--- any op
-module _ (globals : List GlobalType) where
-  table_says : (o : Op) (t : Option BrTable) (r : Result Stack Why) → Said globals o r → Said globals o (with_table t r)
-  table_says o t (Ok s) h = tt
-  table_says o t (Err w) h = h
+  module _ (c : Context) (p : Simple) where
+    abbrev Answers : Result Stack Why → Type 0
+    Answers r = Said c.globals (op.Simple p) r
 
-  else_says : (k : FrameKind) (t : Option ValType) (s : Stack) → Said globals op.Else (else_of k t s)
-  else_says If t s = said globals op.Else (else_of If t s) (close_other t s (λ f z. Ok (open_frame Else t z)) (λ f z. tt))
-  else_says Func t s = tt
-  else_says Block t s = tt
-  else_says Loop t s = tt
-  else_says Else t s = tt
+    drive_says : (d : Effect) (s : Stack) → ShapeSays c p d → Answers (drive d s)
+    drive_says (fixed a b) s h = said c.globals (op.Simple p) (drive_fixed a b s) (fixed_other a b s)
+    drive_says (indirect a b) s h = said c.globals (op.Simple p) (drive (indirect a b) s) (on_other (take_all (I32 ∷ []) s) (λ r z. drive_fixed a b z) (take_other (I32 ∷ []) s) (λ r z. fixed_other a b z))
+    drive_says (is_polymorphic a) s h = said c.globals (op.Simple p) (drive_diverges a s) (diverges_other a s)
+    drive_says drops s h = said c.globals (op.Simple p) (drive drops s) (on_other (take_any s) (λ e z. Ok z) (any_other s) (λ e z. tt))
+    drive_says selects s h = said c.globals (op.Simple p) (drive selects s) (on_other (take_all (I32 ∷ []) s) select_from (take_other (I32 ∷ []) s) select_other)
+    drive_says (ill w) s h = h
 
-  else_at : (fs : List Frame) (s : Stack) → Said globals op.Else (drive_else fs s)
-  else_at [] s = tt
-  else_at (f ∷ fs) s = else_says f.kind f.result s
+  -- any op
+  module _ (globals : List GlobalType) where
+    table_says : (o : Op) (t : Option BrTable) (r : Result Stack Why) → Said globals o r → Said globals o (with_table t r)
+    table_says o t (Ok s) h = tt
+    table_says o t (Err w) h = h
 
-  end_other : (fs : List Frame) (s : Stack) → Other (drive_end fs s)
-  end_other [] s = tt
-  end_other (f ∷ fs) s =
-      both (may_end f.kind f.result) (drive_close f.result s (λ g z. Ok (give_to z.frames f.result z))) (Err why.Mismatch)
-      (close_other f.result s (λ g z. Ok (give_to z.frames f.result z)) (λ g z. tt)) tt
+    else_says : (k : FrameKind) (t : Option ValType) (hs : List Head) (s : Stack) → (IsNoFirstBranch (head k t ∷ hs) → E) → Said globals op.Else (else_of k t s)
+    else_says If t hs s n = said globals op.Else (else_of If t s) (close_other t s (λ f z. Ok (open_frame Else t z)) (λ f z. tt))
+    else_says Func t hs s n = n tt
+    else_says Block t hs s n = n tt
+    else_says Loop t hs s n = n tt
+    else_says Else t hs s n = n tt
 
-  label_says : (l : ℕ) (o : Option (Option ValType)) (t : BrTable) (s : Stack) → Said globals (op.Label l) (drive_label o t s)
-  label_says l None t s = tt
-  label_says l (Some u) t s = said globals (op.Label l) (drive_label (Some u) t s) (both (goes_with t.seen u) (drive_known u t s) (Err why.Mismatch) (known_other u t s) tt)
+    else_at : (fs : List Frame) (s : Stack) → (IsNoFirstBranch (map head_of fs) → E) → Said globals op.Else (drive_else fs s)
+    else_at [] s n = n tt
+    else_at (f ∷ fs) s n = else_says f.kind f.result (map head_of fs) s n
 
-op_says : (c : Context) (o : Op) (t : Option BrTable) (s : Stack) → Said c.globals o (drive_op c o t s)
-op_says c (op.Label l) (Some t) s = label_says c.globals l (slice_get (labels_of s.frames) l) t s
+    end_other : (fs : List Frame) (s : Stack) → Other (drive_end fs s)
+    end_other [] s = tt
+    end_other (f ∷ fs) s =
+        both (may_end f.kind f.result) (drive_close f.result s (λ g z. Ok (give_to z.frames f.result z))) (Err why.Mismatch)
+        (close_other f.result s (λ g z. Ok (give_to z.frames f.result z)) (λ g z. tt)) tt
+
+    label_says : (l : ℕ) (o : Option (Option ValType)) (t : BrTable) (s : Stack) → Said globals (op.Label l) (drive_label o t s)
+    label_says l None t s = tt
+    label_says l (Some u) t s = said globals (op.Label l) (drive_label (Some u) t s) (both (goes_with t.seen u) (drive_known u t s) (Err why.Mismatch) (known_other u t s) tt)
+
+op_says : (c : Context) (o : Op) (t : Option BrTable) (s : Stack) → Said (OutsideElse t s.frames) c.globals o (drive_op c o t s)
+op_says c (op.Label l) (Some t) s = label_says (OutsideElse (Some t) s.frames) c.globals l (slice_get (labels_of s.frames) l) t s
 op_says c (op.Simple p) None s =
     let k = within_frames c s.frames in
-    table_says c.globals (op.Simple p) None (drive (effect_of k p) s) (drive_says k p (effect_of k p) s (shape_says k p))
+    table_says (OutsideElse None s.frames) c.globals (op.Simple p) None (drive (effect_of k p) s) (drive_says (OutsideElse None s.frames) k p (effect_of k p) s (shape_says (OutsideElse None s.frames) k p))
 op_says c (op.Block t) None s = tt
 op_says c (op.Loop t) None s = tt
-op_says c (op.If t) None s = table_says c.globals (op.If t) None (drive_if t s) (said c.globals (op.If t) (drive_if t s) (on_other (take_all (I32 ∷ []) s) (λ r z. Ok (open_frame If t z)) (take_other (I32 ∷ []) s) (λ r z. tt)))
-op_says c op.Else None s = table_says c.globals op.Else None (drive_else s.frames s) (else_at c.globals s.frames s)
-op_says c op.End None s = table_says c.globals op.End None (drive_end s.frames s) (said c.globals op.End (drive_end s.frames s) (end_other c.globals s.frames s))
+op_says c (op.If t) None s = table_says (OutsideElse None s.frames) c.globals (op.If t) None (drive_if t s) (said (OutsideElse None s.frames) c.globals (op.If t) (drive_if t s) (on_other (take_all (I32 ∷ []) s) (λ r z. Ok (open_frame If t z)) (take_other (I32 ∷ []) s) (λ r z. tt)))
+op_says c op.Else None s = table_says (OutsideElse None s.frames) c.globals op.Else None (drive_else s.frames s) (else_at (OutsideElse None s.frames) c.globals s.frames s (λ i. i))
+op_says c op.End None s = table_says (OutsideElse None s.frames) c.globals op.End None (drive_end s.frames s) (said (OutsideElse None s.frames) c.globals op.End (drive_end s.frames s) (end_other (OutsideElse None s.frames) c.globals s.frames s))
 op_says c (op.BrTable n) None s =
-    table_says c.globals (op.BrTable n) (Some (record { left = n; seen = None })) (drive_count s)
-    (said c.globals (op.BrTable n) (drive_count s) (on_other (take_all (I32 ∷ []) s) (λ r z. Ok z) (take_other (I32 ∷ []) s) (λ r z. tt)))
+    table_says (OutsideElse None s.frames) c.globals (op.BrTable n) (Some (record { left = n; seen = None })) (drive_count s)
+    (said (OutsideElse None s.frames) c.globals (op.BrTable n) (drive_count s) (on_other (take_all (I32 ∷ []) s) (λ r z. Ok z) (take_other (I32 ∷ []) s) (λ r z. tt)))
 op_says c (op.Label l) None s = tt
 op_says c (op.Simple p) (Some t) s = tt
 op_says c (op.Block u) (Some t) s = tt
@@ -270,12 +283,13 @@ op_says c op.End (Some t) s = tt
 op_says c (op.BrTable n) (Some t) s = tt
 
 -- a body that was not refused
-stepped_says : (globals : List GlobalType) (o : Op) (b : Body) (n : ℕ) (r : Result BodyState Why) → Said globals o r → Said globals o (body_stepped_to b n r)
-stepped_says globals o b n (Ok s) h = tt
-stepped_says globals o b n (Err w) h = h
+stepped_says : (E : Type 0) (globals : List GlobalType) (o : Op) (b : Body) (n : ℕ) (r : Result BodyState Why) → Said E globals o r → Said E globals o (body_stepped_to b n r)
+stepped_says E globals o b n (Ok s) h = tt
+stepped_says E globals o b n (Err w) h = h
 
-pub body_says : (c : Context) (o : Op) (b : Body) → b.refused ≡ None → Said c.globals o (body_after_op c o b)
+pub body_says : (c : Context) (o : Op) (b : Body) → b.refused ≡ None → Said (OutsideElse b.state.table b.state.stacks.frames) c.globals o (body_after_op c o b)
 body_says c o b e =
+    let E : Type 0 = OutsideElse b.state.table b.state.stacks.frames in
     let r : Result Body Why = body_stepped_to b (probes_in c b o) (step (context_in c b) b.state o) in
-    subst (λ w. Said c.globals o (unless_refused w r)) (sym e)
-    (stepped_says c.globals o b (probes_in c b o) (step (context_in c b) b.state o) (op_says (context_in c b) o b.state.table b.state.stacks))
+    subst (λ w. Said E c.globals o (unless_refused w r)) (sym e)
+    (stepped_says E c.globals o b (probes_in c b o) (step (context_in c b) b.state o) (op_says (context_in c b) o b.state.table b.state.stacks))

@@ -10,6 +10,7 @@ use Rattle.wm_syntax.specs.declared.modules.ExportKind.{ExportKind}
 use Rattle.wm_syntax.specs.declared.modules.ExportKind.TheVariants as kind
 use Rattle.wm_syntax.specs.Types.{Signature}
 use Rattle.wm_typing.specs.Typing.{function_type}
+use Rattle.wm_typing.specs.Contexts.{body_context}
 use Rattle.wm_decode.specs.Items.{Item, new_type, param, result_count, one_result, import_module, import_name, import_desc, function, table, memory, global, const_op, export_name, export, start, element, element_function, body, locals, body_op, segment, data_byte}
 use Rattle.wm_decode.specs.Meanings.{IsRuleName}
 use Rattle.wm_decode.specs.Sinks.{all_taken, and_then}
@@ -17,13 +18,35 @@ use Rattle.wm_rules.specs.Holding.{IndexSpaces, Held}
 use Rattle.wm_rules.specs.exact.Spaces.{items_in, one_if, index_check, is_plain, is_within, plain, context_of, function_added, import_added, table_added, memory_added}
 use Rattle.wm_rules.specs.exact.Checking.{after, empty_checker, in_names, in_spaces, is_taken, put_name, where_ok}
 use Rattle.wm_rules.specs.Validation.{WithinRange}
-use Rattle.wm_rules.specs.Meanings.{AtConstant, AtOp, CannotBeConstant, IsAlignedPast, SetsConstant, HasNoItem, IsNoStart, IsOutOfRange, IsRepeated, IsSecond, context_so_far, how_many, one_where, so_far}
+use Rattle.wm_rules.specs.Meanings.{InEntry, IsNoFirstBranch, heads_of, AtConstant, AtOp, CannotBeConstant, IsAlignedPast, SetsConstant, HasNoItem, IsNoStart, IsOutOfRange, IsRepeated, IsSecond, context_so_far, how_many, one_where, so_far}
 use Rattle.wm_rules.proofs.ItemMembers.{within_from}
 use Rattle.wm_syntax.specs.declared.types.ValType.{ValType}
 use Rattle.wm_syntax.specs.declared.instructions.Op.{Op}
-use Rattle.wm_rules.proofs.OpNames.{Only, OpSays}
-use Rattle.wm_rules.proofs.RuleNames.{ConstantSays, IsLocalsName, IsTypeName, constant_names, count_name, entry_name, locals_names, op_names, param_names, result_names}
+use Rattle.std.proofs.Common.{◌+◌, ◌∷◌, map, arith}
+use Rattle.wm_syntax.specs.declared.instructions.Op.TheVariants as op
+use Rattle.wm_syntax.specs.Modules.{locals_of}
+use Rattle.wm_stacks.specs.declared.entries.Frame.{Frame}
+use Rattle.wm_stacks.specs.Stack.{Stack}
+use Rattle.wm_typing.specs.declared.labels.BrTable.{BrTable}
+use Rattle.wm_typing.specs.Typing.{Context}
+use Rattle.wm_typing.specs.OpenLists.{Place, open_at, within, complete, IsSoFar, head_of}
+use Rattle.wm_typing.specs.inner.Checking.{BodyAfter}
+use Rattle.wm_typing.specs.inner.Frames.{Frames, running, in_table, ended, Holds, Tracks, TracksWith}
+use Rattle.wm_decode.specs.Flat.{code_items}
+use Rattle.wm_rules.proofs.CodeEntries.{at_hand}
+use Rattle.wm_rules.proofs.MemberFolds.{ok_then, taken-append}
+use Rattle.wm_rules.proofs.OpNames.{Only, OutsideElse}
+use Rattle.wm_rules.proofs.RuleNames.{ConstantSays, IsTypeName, LocalsSay, OpOf, constant_names, count_name, entry_name, locals_names, op_names, param_names, result_names}
 use Rattle.wm_rules.proofs.ToldItems.{spaces_are_told, taken_is_told}
+
+-- what is said of runs and of an else, where a code entry is at hand
+abbrev pub AreTooManyThere : List Item → Item → Type 0
+AreTooManyThere items (locals n t) = (e : InEntry items) → e.code.ops ≡ [] → 2 ^ 32 ≤ length (locals_of e.code.runs) + n
+AreTooManyThere items x = ⊥
+
+abbrev pub IsOutsideThere : List Item → Item → Type 0
+IsOutsideThere items (body_op op.Else) = (e : InEntry items) → (r : Option ValType) × (place : Place) × IsSoFar r place e.code.ops × IsNoFirstBranch (heads_of place)
+IsOutsideThere items x = ⊥
 
 -- the item is refused by this name, and what is said of it holds
 abbrev pub Wrong : Why → List Item → Item → Type 0
@@ -35,10 +58,10 @@ Wrong why.StartType items x = IsNoStart items x
 Wrong why.NotConst items x = AtConstant CannotBeConstant items x
 Wrong why.Immutable items x = AtOp SetsConstant items x
 Wrong why.Align items x = AtOp (λ globals o. IsAlignedPast o) items x
-Wrong why.TooManyLocals items x = Unit {0}
+Wrong why.TooManyLocals items x = AreTooManyThere items x
 Wrong why.Mismatch items x = Unit {0}
 Wrong why.Arity items x = Unit {0}
-Wrong why.ElsePlace items x = Unit {0}
+Wrong why.ElsePlace items x = IsOutsideThere items x
 Wrong w items x = ⊥
 
 pub wrong_name : (w : Why) (items : List Item) (x : Item) → Wrong w items x → IsRuleName w
@@ -65,26 +88,12 @@ by_type why.Index items x i k = k
 by_type why.Arity items x i k = tt
 by_type w items x i k = absurd i
 
-by_locals : (w : Why) (items : List Item) (n : ℕ) (t : ValType) → IsLocalsName w → Wrong w items (locals n t)
-by_locals why.Index items n t i = tt
-by_locals why.TooManyLocals items n t i = tt
-by_locals w items n t i = absurd i
-
 by_constant : (w : Why) (items : List Item) (o : Op) → ConstantSays (so_far items).globals o w → Wrong w items (const_op o)
 by_constant why.NotConst items o i = i
 by_constant why.Index items o i = tt
 by_constant why.Mismatch items o i = tt
 by_constant why.Arity items o i = tt
 by_constant w items o i = absurd i
-
-by_op : (w : Why) (items : List Item) (o : Op) → OpSays (so_far items).globals o w → Wrong w items (body_op o)
-by_op why.Immutable items o i = i
-by_op why.Align items o i = i
-by_op why.Index items o i = tt
-by_op why.Mismatch items o i = tt
-by_op why.Arity items o i = tt
-by_op why.ElsePlace items o i = tt
-by_op w items o i = absurd i
 
 -- a refusal by a name of which this is so
 only : {A : Type 0} (P : Why → Type 0) (r : Result A Why) (w : Why) → Only P r → r ≡ Err w → P w
@@ -174,6 +183,60 @@ module _ (items : List Item) (h : Held) (t : all_taken after empty_checker items
           subst (λ v. Wrong v items (start x)) same
           (f, is, λ n. let no_more : is_plain (record { params = []; results = [] }) ≡ false = subst (λ (ps : List _). is_plain (record { params = ps; results = [] }) ≡ false) n.0 (subst (λ (rs : List _). is_plain (record { params = f.params; results = rs }) ≡ false) n.1 d) in absurd (cc))
 
+  -- what is held of the code entry at hand
+  entry_at_hand : (e : InEntry items) → (k : Context) × (x : ℕ) × BodyAfter k x (locals_of e.code.runs) e.code.ops h.body
+  entry_at_hand e =
+      let s = ok_then (all_taken after empty_checker e.before) (λ g. all_taken after g (code_items e.code)) h (sym (taken-append after e.before (code_items e.code) empty_checker) ∙ (ap (λ y. all_taken after empty_checker y) (sym e.whole) ∙ t)) in
+      let r = at_hand e.before s.0 h e.code s.1 s.2 in
+      (context_of s.0.spaces, r.0, r.2)
+
+  many_there : (n : ℕ) (v : ValType) → 2 ^ 32 ≤ length h.body.declared + n → AreTooManyThere items (locals n v)
+  many_there n v l e none =
+      let a = (entry_at_hand e).2 in
+      go a h.body.state.stacks.frames refl
+    where
+      go : {k : Context} {x : ℕ} → BodyAfter k x (locals_of e.code.runs) e.code.ops h.body → (fs : List Frame) → h.body.state.stacks.frames ≡ fs → 2 ^ 32 ≤ length (locals_of e.code.runs) + n
+      go a [] i = let z = ap length (a.emptied i) in omega (arith, l, z)
+      go a (f ∷ fs) i =
+          let some : length h.body.state.stacks.frames ≡ length (f ∷ fs) = ap length i in
+          let z = ap length (a.declared (omega (arith, some))) in
+          omega (arith, l, z)
+
+  place_of : (c : Context) (place : Place) (frames : Frames) (s : Stack) → Holds c place frames → Tracks s frames → IsNoFirstBranch (map head_of s.frames) → IsNoFirstBranch (heads_of place)
+  place_of c (open_at hs ws) (running gs fs) s holds tracks n = subst IsNoFirstBranch (sym (holds.0 ∙ tracks.2)) n
+  place_of c (open_at hs ws) (in_table m u gs fs) s holds tracks n = absurd tracks
+  place_of c (open_at hs ws) ended s holds tracks n = absurd holds
+  place_of c (within m seen hs ws) (running gs fs) s holds tracks n = absurd holds
+  place_of c (within m seen hs ws) (in_table k u gs fs) s holds tracks n = absurd tracks
+  place_of c (within m seen hs ws) ended s holds tracks n = absurd holds
+  place_of c (complete r b) frames s holds tracks n = tt
+
+  else_there : OutsideElse h.body.state.table h.body.state.stacks.frames → IsOutsideThere items (body_op op.Else)
+  else_there o e =
+      let a = entry_at_hand e in
+      let c : Context = body_context a.0 a.1 (locals_of e.code.runs) in
+      let keeps = a.2.keeps in
+      (c.result, keeps.place, keeps.so_far, go c keeps.place keeps.frames h.body.state.table o keeps.holds keeps.goes)
+    where
+      go : (c : Context) (place : Place) (frames : Frames) (u : Option BrTable) → OutsideElse u h.body.state.stacks.frames → Holds c place frames → TracksWith u h.body.state.stacks frames → IsNoFirstBranch (heads_of place)
+      go c place frames None n holds tracks = place_of c place frames h.body.state.stacks holds tracks n
+      go c place frames (Some u) n holds tracks = absurd n
+
+  by_locals : (w : Why) (n : ℕ) (v : ValType) → LocalsSay h.body n w → Wrong w items (locals n v)
+  by_locals why.Index n v i = tt
+  by_locals why.TooManyLocals n v i = many_there n v i
+  by_locals w n v i = absurd i
+
+  by_op : (w : Why) (o : Op) → OpOf h o w → Wrong w items (body_op o)
+  by_op why.Immutable o i = subst (λ (y : IndexSpaces). SetsConstant y.globals o) told i
+  by_op why.Align o i = i
+  by_op why.Index o i = tt
+  by_op why.Mismatch o i = tt
+  by_op why.Arity o i = tt
+  by_op why.ElsePlace op.Else i = else_there i
+  by_op why.ElsePlace o i = absurd i
+  by_op w o i = absurd i
+
   pub item_refused : (x : Item) (w : Why) → after h x ≡ Err w → Wrong w items x
   item_refused new_type w e = absurd (cc)
   item_refused (param v) w e = by_type w items (param v) (only IsTypeName (after h (param v)) w (param_names h v) e) tt
@@ -196,8 +259,7 @@ module _ (items : List Item) (h : Held) (t : all_taken after empty_checker items
   item_refused (element x) w e = is_index (element x) w (no_item kind.Table x w (then_err (index_check kind.Table x h.spaces) _ w e))
   item_refused (element_function x) w e = is_index (element_function x) w (no_item kind.Func x w (ok_err h (index_check kind.Func x h.spaces) w e))
   item_refused body w e = subst (λ v. Wrong v items body) (sym (only (λ v. v ≡ why.Index) (after h body) w (entry_name h) e)) tt
-  item_refused (locals n v) w e = by_locals w items n v (only IsLocalsName (after h (locals n v)) w (locals_names items h n v t) e)
-  item_refused (body_op o) w e =
-      by_op w items o (subst (λ (y : IndexSpaces). OpSays y.globals o w) told (only (OpSays h.spaces.globals o) (after h (body_op o)) w (op_names items h o t) e))
+  item_refused (locals n v) w e = by_locals w n v (only (LocalsSay h.body n) (after h (locals n v)) w (locals_names items h n v t) e)
+  item_refused (body_op o) w e = by_op w o (only (OpOf h o) (after h (body_op o)) w (op_names items h o t) e)
   item_refused (segment x) w e = is_index (segment x) w (no_item kind.Memory x w (then_err (index_check kind.Memory x h.spaces) _ w e))
   item_refused (data_byte c) w e = absurd (cc)

@@ -29,7 +29,9 @@ use Rattle.wm_rules.specs.exact.Checking.{after, body_begun, empty_checker, in_c
 use Rattle.wm_rules.proofs.OutsideBodies.{IsOutside, part_calm}
 use Rattle.wm_rules.proofs.MemberFolds.{ok_then}
 use Rattle.wm_rules.specs.Meanings.{CannotBeConstant}
-use Rattle.wm_rules.proofs.OpNames.{Only, OpSays, body_says}
+use Rattle.wm_rules.proofs.OpNames.{Only, OpSays, OutsideElse, body_says}
+use Rattle.std.proofs.lemmas.Bool.{ltb-false}
+use Rattle.std.proofs.Common.{◌≤◌}
 
 module _ (P : Why → Type 0) where
   both : {A : Type 0} (b : Bool) (x y : Result A Why) → Only P x → Only P y → Only P (cond b x y)
@@ -145,24 +147,28 @@ begun_only h (Some x) = tt
 pub entry_name : (h : Held) → Only (λ w. w ≡ why.Index) (after h body)
 entry_name h = begun_only h (next_type h.spaces)
 
-abbrev pub IsLocalsName : Why → Type 0
-IsLocalsName why.Index = Unit {0}
-IsLocalsName why.TooManyLocals = Unit {0}
-IsLocalsName w = ⊥
+abbrev pub LocalsSay : Body → ℕ → Why → Type 0
+LocalsSay b n why.Index = Unit {0}
+LocalsSay b n why.TooManyLocals = 2 ^ 32 ≤ length b.declared + n
+LocalsSay b n w = ⊥
 
-declared_only : (n : ℕ) (t : ValType) (b : Body) → b.refused ≡ None → Only IsLocalsName (declared_more n t b)
-declared_only n t b e = subst (λ w. Only IsLocalsName (unless_refused w (declared_to b (add_run n t b.declared)))) (sym e) (go (nat_lt (length b.declared + n) (2 ^ 32)))
+declared_only : (n : ℕ) (t : ValType) (b : Body) → b.refused ≡ None → Only (LocalsSay b n) (declared_more n t b)
+declared_only n t b e = subst (λ w. Only (LocalsSay b n) (unless_refused w (declared_to b (add_run n t b.declared)))) (sym e) (go (nat_lt (length b.declared + n) (2 ^ 32)) refl)
   where
-    go : (c : Bool) → Only IsLocalsName (declared_to b (cond c (Ok (b.declared ++ replicate n t)) (Err why.TooManyLocals)))
-    go true = tt
-    go false = tt
+    go : (c : Bool) → nat_lt (length b.declared + n) (2 ^ 32) ≡ c → Only (LocalsSay b n) (declared_to b (cond c (Ok (b.declared ++ replicate n t)) (Err why.TooManyLocals)))
+    go true i = tt
+    go false i = ltb-false (length b.declared + n) (2 ^ 32) i
 
-locals_only : (h : Held) (n : ℕ) (t : ValType) → IsUnrefused h → Only IsLocalsName (after h (locals n t))
-locals_only h n t e = both IsLocalsName h.in_body (with_body h (declared_more n t h.body)) (Err why.Index) (body_only IsLocalsName h (declared_more n t h.body) (declared_only n t h.body e)) tt
+locals_only : (h : Held) (n : ℕ) (t : ValType) → IsUnrefused h → Only (LocalsSay h.body n) (after h (locals n t))
+locals_only h n t e =
+    both (LocalsSay h.body n) h.in_body (with_body h (declared_more n t h.body)) (Err why.Index) (body_only (LocalsSay h.body n) h (declared_more n t h.body) (declared_only n t h.body e)) tt
 
-op_only : (h : Held) (o : Op) → IsUnrefused h → Only (OpSays h.spaces.globals o) (after h (body_op o))
+abbrev pub OpOf : Held → Op → Why → Type 0
+OpOf h o w = OpSays (OutsideElse h.body.state.table h.body.state.stacks.frames) h.spaces.globals o w
+
+op_only : (h : Held) (o : Op) → IsUnrefused h → Only (OpOf h o) (after h (body_op o))
 op_only h o e =
-    let P : Why → Type 0 = OpSays h.spaces.globals o in
+    let P : Why → Type 0 = OpOf h o in
     both P h.in_body (checker_after_op h (body_after_op (context_of h.spaces) o h.body)) (Err why.Index)
     (held_only P h (body_after_op (context_of h.spaces) o h.body) (body_says (context_of h.spaces) o h.body e)) tt
 
@@ -245,8 +251,8 @@ all_kept (x ∷ items) h g e n =
     all_kept items s.0 g s.2 (part_kept h s.0 x s.1 n)
 
 -- whatever items it has taken
-pub locals_names : (items : List Item) (h : Held) (n : ℕ) (t : ValType) → all_taken after empty_checker items ≡ Ok h → Only IsLocalsName (after h (locals n t))
+pub locals_names : (items : List Item) (h : Held) (n : ℕ) (t : ValType) → all_taken after empty_checker items ≡ Ok h → Only (LocalsSay h.body n) (after h (locals n t))
 locals_names items h n t e = locals_only h n t (all_kept items empty_checker h e refl)
 
-pub op_names : (items : List Item) (h : Held) (o : Op) → all_taken after empty_checker items ≡ Ok h → Only (OpSays h.spaces.globals o) (after h (body_op o))
+pub op_names : (items : List Item) (h : Held) (o : Op) → all_taken after empty_checker items ≡ Ok h → Only (OpOf h o) (after h (body_op o))
 op_names items h o e = op_only h o (all_kept items empty_checker h e refl)

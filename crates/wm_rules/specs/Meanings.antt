@@ -1,7 +1,7 @@
 -- What the name of a refusal says of the bytes up to its place, where a rule was broken: of the items that
 -- are complete in them. The names of the format say what they say of any sink.
 use Rattle.std.specs.Prelude.{◌≡◌, ℕ, ◌+◌, ◌^◌, ◌<◌, ◌≤◌, Bool, true, false, List, [], ◌∷◌, ◌++◌, None}
-use Rattle.std.specs.Prelude.{Some, length, slice_get}
+use Rattle.std.specs.Prelude.{Option, Some, length, slice_get}
 use Rattle.wm_syntax.specs.declared.types.GlobalType.{GlobalType}
 use Rattle.wm_syntax.specs.declared.instructions.Simple.TheVariants as simple
 use Rattle.wm_syntax.specs.declared.instructions.Op.{Op}
@@ -13,7 +13,12 @@ use Rattle.wm_syntax.specs.declared.why.Why.TheVariants as why
 use Rattle.wm_syntax.specs.declared.modules.ImportDesc.TheVariants as desc
 use Rattle.wm_syntax.specs.declared.modules.ExportKind.{ExportKind}
 use Rattle.wm_syntax.specs.declared.modules.ExportKind.TheVariants as kind
+use Rattle.wm_syntax.specs.Modules.{locals_of}
 use Rattle.wm_syntax.specs.Types.{Signature}
+use Rattle.wm_syntax.specs.declared.types.ValType.{ValType}
+use Rattle.wm_stacks.specs.declared.entries.FrameKind.TheVariants.{If}
+use Rattle.wm_typing.specs.OpenLists.{Head, head, Place, open_at, within, complete, IsSoFar}
+use Rattle.wm_decode.specs.Flat.{FlatCode, code_items}
 use Rattle.wm_typing.specs.Contexts.{context}
 use Rattle.wm_typing.specs.Typing.{Context, function_type}
 use Rattle.wm_decode.specs.declared.refusal.Refusal.{Refusal}
@@ -162,8 +167,37 @@ abbrev pub AtConstant : (List GlobalType → Op → Type 0) → List Item → It
 AtConstant IsWrong items (const_op o) = IsWrong (so_far items).globals o
 AtConstant IsWrong items _ = ⊥
 
--- What the name says. It is said of the names of the format, and of eight of rules. Nothing is said of
--- TooManyLocals, Mismatch, Arity and ElsePlace, nor of the names of a policy.
+-- The code entry at hand: its runs of locals and its ops so far.
+pub record InEntry (items : List Item) : Type 0 where
+  pub before : List Item
+  pub code : FlatCode
+  pub whole : items ≡ before ++ code_items code
+
+-- TooManyLocals: with the runs before it they are 2^32 or more (section 5.5.13)
+abbrev pub AreTooMany : List Item → Item → Type 0
+AreTooMany items (locals n t) =
+    (e : InEntry items) × (e.code.ops ≡ []) × (2 ^ 32 ≤ length (locals_of e.code.runs) + n)
+AreTooMany items _ = ⊥
+
+-- the lists of instructions that are open, the innermost first
+abbrev pub heads_of : Place → List Head
+heads_of (open_at hs ws) = hs
+heads_of (within n seen hs ws) = hs
+heads_of (complete r s) = []
+
+abbrev pub IsNoFirstBranch : List Head → Type 0
+IsNoFirstBranch (head If t ∷ hs) = ⊥
+IsNoFirstBranch _ = Unit {0}
+
+-- ElsePlace: an else where the innermost open list is not the first branch of an if (section 5.4.1)
+abbrev pub IsElseOutside : List Item → Item → Type 0
+IsElseOutside items (body_op op.Else) =
+    (e : InEntry items) × (r : Option ValType) × (place : Place) × IsSoFar r place e.code.ops
+    × IsNoFirstBranch (heads_of place)
+IsElseOutside items _ = ⊥
+
+-- What the name says. It is said of the names of the format, and of ten of rules. Nothing is said of
+-- Mismatch and Arity, nor of the names of a policy.
 abbrev pub Means : Profile → ℕ → List ℕ → List ℕ → Why → Type 0
 Means p limit used rest why.Index = AtItem p HasNoItem used
 Means p limit used rest why.Limits = AtItem p IsOutOfRange used
@@ -173,6 +207,8 @@ Means p limit used rest why.StartType = AtItem p IsNoStart used
 Means p limit used rest why.NotConst = AtItem p (AtConstant CannotBeConstant) used
 Means p limit used rest why.Immutable = AtItem p (AtOp SetsConstant) used
 Means p limit used rest why.Align = AtItem p (AtOp (λ globals o. IsAlignedPast o)) used
+Means p limit used rest why.TooManyLocals = AtItem p AreTooMany used
+Means p limit used rest why.ElsePlace = AtItem p IsElseOutside used
 Means p limit used rest w = MeansOfFormat limit used rest w
 
 -- A refusal of an input says this of the bytes up to its place, which lies within it.
