@@ -45,7 +45,7 @@ use Rattle.wm_decode.proofs.MachineAndSink.{given_taken, used_of, Used, reached,
 use Rattle.wm_decode.proofs.FramedBytes.{Past, AtSize, InContents, Framed, run_framed}
 
 -- what the machine says where it refuses a byte, which is the last of these
-abbrev MachineSays : List ℕ → Why → Type 0
+abbrev pub MachineSays : List ℕ → Why → Type 0
 MachineSays used why.Magic = WrongInHeader 0 4 used
 MachineSays used why.Version = WrongInHeader 4 8 used
 MachineSays used why.SectionId = WrongId IsUnknown used
@@ -196,7 +196,7 @@ section_says p m c used i =
     step_in (Says used) (lives used) (by_name used why.SectionEnd tt) (by_name used why.BadNumber tt) (by_name used why.CodeCount tt) p m c i
     (λ q w e. by_name used w (custom_says used c q w e)) (λ q w e. by_name used w (member_says used p c q w e))
 
-step_says : (p : Profile) (m : Machine) (c : ℕ) (b : List ℕ) → (IsRefused m → ⊥) → Framed m b → Says (b ++ c ∷ []) (step_of p m c).0
+pub step_says : (p : Profile) (m : Machine) (c : ℕ) (b : List ℕ) → (IsRefused m → ⊥) → Framed m b → Says (b ++ c ∷ []) (step_of p m c).0
 step_says p (machine.Header n) c b live f = header_says n c b f.0 f.1
 step_says p (machine.Between last functions) c b live f = start_says last functions c b f
 step_says p (machine.Refused w) c b live f = absurd (live tt)

@@ -380,7 +380,7 @@ module _ (demanded : Type 0) (p : Profile) where
   back_empty : (P : MarkedForm) → Same demanded (Then P Empty) P
   back_empty P = let e = then_empty (Unit {0}) P in record { to = λ s b k h. e.from b k h; from = λ b k h. e.to tt b k h }
 
-  can_open : (more : ℕ) (q : InEntry) → StandsEntry (suc more) q → CanOpenIn q
+  pub can_open : (more : ℕ) (q : InEntry) → StandsEntry (suc more) q → CanOpenIn q
   can_open more (entry.Body e) h = sound_opens more e h.1
   can_open more (entry.RunCount r) h = tt
   can_open more (entry.Run left r) h = tt

@@ -199,14 +199,14 @@ module _ (p : Profile) where
   pub some_runs : (n : ℕ) → Comes (Then (Times n Run) (Expression p body_op))
   some_runs n = some_then (Times n Run) (Expression p body_op) (some_times n Run a_run) (some_whole body_op)
 
-  some_of_entry : (left : ℕ) (q : InEntry) → StandsEntry left q → Comes (EntryRest loose p q)
+  pub some_of_entry : (left : ℕ) (q : InEntry) → StandsEntry left q → Comes (EntryRest loose p q)
   some_of_entry left (entry.RunCount r) h = some_counted nothing_at (λ n. Then (Times n Run) (Expression p body_op)) r h some_runs
   some_of_entry left (entry.Run more r) h = some_then (Leaf (run_rest r) run_part) (Then (Times more Run) (Expression p body_op)) (some_leaf (run_rest r) run_part (some_run r h)) (some_runs more)
   some_of_entry left (entry.Body e) h = some_ops body_op left e h.1
   some_of_entry left entry.Over h = absurd h
   some_of_entry left (entry.Failed w) h = absurd h
 
-  some_size : (n : ℕ) → Comes (InSize loose p n)
+  pub some_size : (n : ℕ) → Comes (InSize loose p n)
   some_size n =
       let all : MarkedForm = Then (Vector Run) (Expression p body_op) in
       some_sized n (Entry all) (some_entry all (some_then (Vector Run) (Expression p body_op) (some_vector Run a_run) (some_whole body_op)))

@@ -1,14 +1,16 @@
 -- What the name of a refusal says of the bytes up to its place. The last of them decided, or the input ends
 -- there.
-use Rattle.std.specs.Prelude.{◌≡◌, ◌≢◌, ℕ, ◌+◌, ◌<◌, ◌≤◌, ◌⊎◌, List, [], ◌∷◌, ◌++◌, length, take, slice_index}
+use Rattle.std.specs.Prelude.{◌≡◌, ◌≢◌, ℕ, ◌+◌, ◌<◌, ◌≤◌, ◌⊎◌, List, [], ◌∷◌, ◌++◌, length, take, slice_index, Some}
 use Rattle.std.specs.Prelude.{Result, Ok, Err}
 use Rattle.wm_syntax.specs.declared.why.Why.{Why}
 use Rattle.wm_syntax.specs.declared.why.Why.TheVariants as why
 use Rattle.wm_syntax.specs.Spelling.{Form, Exactly, Each, ◌▸◌}
+use Rattle.wm_syntax.specs.declared.profile.Profile.{Profile}
 use Rattle.wm_decode.specs.declared.refusal.Refusal.{Refusal}
-use Rattle.wm_decode.specs.Items.{Item}
+use Rattle.wm_decode.specs.Items.{Item, Mark, Marks, items_at}
 use Rattle.wm_decode.specs.Sections.{Section, header}
 use Rattle.wm_decode.specs.Sinks.{all_taken}
+use Rattle.wm_decode.specs.Fronts.{IsFront}
 
 -- A section as bytes (section 5.5.2): an id, and contents of which only the size is looked at.
 pub record RawSection : Type 0 where
@@ -92,12 +94,30 @@ Means limit used rest why.TooLong = length used ≡ limit + 1
 Means limit used rest w = Unit {0}
 
 -- A refusal of an input: its place lies within it, and what its name says holds of the bytes up to there.
-pub record Meaning (limit : ℕ) (input : List ℕ) (r : Refusal) : Type 0 where
+pub record Meant (Means : List ℕ → List ℕ → Why → Type 0) (input : List ℕ) (r : Refusal) : Type 0 where
   pub used : List ℕ
   pub rest : List ℕ
   pub whole : input ≡ used ++ rest
   pub at : r.at ≡ length used
-  pub means : Means limit used rest r.why
+  pub means : Means used rest r.why
+
+abbrev pub Meaning : ℕ → List ℕ → Refusal → Type 0
+Meaning limit input r = Meant (Means limit) input r
+
+-- The last byte completes an item, and of the items before it and of it this is true. The bytes are those of
+-- some module, sizes, names and the number of code entries aside.
+pub record AtItem (p : Profile) (IsWrong : List Item → Item → Type 0) (used : List ℕ) : Type 0 where
+  pub told : Marks
+  pub last : Mark
+  pub front : IsFront p used (told ++ last ∷ [])
+  pub item : Item
+  pub completes : last.item ≡ Some item
+  pub wrong : IsWrong (items_at told) item
+
+-- a sink that held this takes the items, and then refuses the one by the name
+abbrev pub RefusesBy : {H : Type 0} → (H → Item → Result H Why) → H → Why → List Item → Item → Type 0
+RefusesBy {H} after first w items item =
+    (h : H) × (all_taken after first items ≡ Ok h) × (after h item ≡ Err w)
 
 -- the names that a sink may give: of a rule of a module (chapter 3; of a code entry 5.5.13), or of a policy
 abbrev pub IsRuleName : Why → Type 0

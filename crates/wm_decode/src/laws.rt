@@ -12,7 +12,8 @@ ghost use Rattle.wm_decode.specs.Sections.{SpellsModule};
 ghost use Rattle.wm_decode.specs.Sinks.{all_taken, and_then};
 ghost use Rattle.wm_decode.specs.Grammar.{Items};
 ghost use Rattle.wm_decode.specs.Decoding.{Setting};
-ghost use Rattle.wm_decode.specs.Meanings.{GivesRuleNames, Meaning};
+ghost use Rattle.wm_decode.specs.Meanings.{AtItem, GivesRuleNames, IsRuleName, Meaning, Meant};
+ghost use Rattle.wm_decode.specs.Meanings.{RefusesBy};
 ghost use Rattle.wm_decode.specs.declared.refusal.Refusal.{Refusal};
 ghost use Rattle.wm_decode.specs.inner.Decoders.{answer_of};
 ghost use Rattle.wm_decode.specs.Fronts.{IsFront, entry_bytes, inside_bytes, outside_bytes};
@@ -98,4 +99,12 @@ pub fn format_names_mean<S: Sink>()
     ensures { (s : Setting S.Held) (input : List ℕ) (r : Refusal) → AreBytes input
         → GivesRuleNames S.after s.first
         → answer_of S.after s input ≡ Err r → Meaning s.limit input r }
+{}
+
+/// By its own names a sink refuses an item that the last byte up to the place completes, after it took the
+/// items before.
+pub fn rule_names_are_of_items<S: Sink>()
+    ensures { (s : Setting S.Held) (input : List ℕ) (r : Refusal) → AreBytes input → IsRuleName r.why
+        → answer_of S.after s input ≡ Err r
+        → Meant (λ used rest w. AtItem s.profile (RefusesBy S.after s.first w) used) input r }
 {}

@@ -138,10 +138,10 @@ module _ (top : ℕ) where
           subst (λ n. AtHand n g) (sym n) (q.along r l s (right few) m.0 g m.1 m.2)
 
   -- marks outside code entries
-  abbrev IsQuiet : Mark → Type 0
+  abbrev pub IsQuiet : Mark → Type 0
   IsQuiet m = (entry_more m.zone 0 ≡ 0) × ((x : Item) → m.item ≡ Some x → IsOutside x)
 
-  abbrev Quiet : Marks → Type 0
+  abbrev pub Quiet : Marks → Type 0
   Quiet k = AllByRecursion IsQuiet k
 
   quiet_zone : (z : Zone) (n : ℕ) → entry_more z 0 ≡ 0 → entry_more z n ≡ 0
@@ -177,7 +177,7 @@ module _ (top : ℕ) where
     done = quiet_bytes k q;
   }
 
-  plain_outside : (x : Option Item) → IsPlain x → (y : Item) → x ≡ Some y → IsOutside y
+  pub plain_outside : (x : Option Item) → IsPlain x → (y : Item) → x ≡ Some y → IsOutside y
   plain_outside x i y e = go y (subst IsPlain e i)
     where
       go : (y : Item) → IsPlain (Some y) → IsOutside y
@@ -186,7 +186,7 @@ module _ (top : ℕ) where
       go (body_op o) i = i
       go _ i = tt
 
-  named_outside : (text : List ℕ) (x : Option Item) → IsNamed text x → (y : Item) → x ≡ Some y → IsOutside y
+  pub named_outside : (text : List ℕ) (x : Option Item) → IsNamed text x → (y : Item) → x ≡ Some y → IsOutside y
   named_outside text x i y e = go y (subst (IsNamed text) e i)
     where
       go : (y : Item) → IsNamed text (Some y) → IsOutside y
@@ -198,7 +198,7 @@ module _ (top : ℕ) where
   none_outside : (y : Item) → None ≡ Some y → IsOutside y
   none_outside y e = absurd (cc)
 
-  quiet_ending : (x : Option Item) (b : List ℕ) → ((y : Item) → x ≡ Some y → IsOutside y) → Quiet (marks_ending x b)
+  pub quiet_ending : (x : Option Item) (b : List ℕ) → ((y : Item) → x ≡ Some y → IsOutside y) → Quiet (marks_ending x b)
   quiet_ending x [] o = tt
   quiet_ending x (c ∷ []) o = ((refl, o), tt)
   quiet_ending x (c ∷ d ∷ b) o = ((refl, none_outside), quiet_ending x (d ∷ b) o)
@@ -207,7 +207,7 @@ module _ (top : ℕ) where
   quiet_naming x c [] o = ((refl, o), tt)
   quiet_naming x c (d ∷ b) o = ((refl, none_outside), quiet_naming x d b o)
 
-  quiet_name : (x : Option Item) (front text : List ℕ) → ((y : Item) → x ≡ Some y → IsOutside y) → Quiet (name_marks x front text)
+  pub quiet_name : (x : Option Item) (front text : List ℕ) → ((y : Item) → x ≡ Some y → IsOutside y) → Quiet (name_marks x front text)
   quiet_name x front [] o = quiet_ending x front o
   quiet_name x front (c ∷ text) o = all_append IsQuiet (marks_ending None front) (name_byte_marks x (c ∷ text)) (quiet_ending None front none_outside) (quiet_naming x c text o)
 

@@ -25,7 +25,7 @@ or_same true c = refl
 or_same false c = refl
 
 -- a name is taken after another was put where it is that one, or was taken before
-taken_put : (x y : List ℕ) (ys : List (List ℕ)) → is_taken x (put_name y ys) ≡ (bytes_eq x y || is_taken x ys)
+pub taken_put : (x y : List ℕ) (ys : List (List ℕ)) → is_taken x (put_name y ys) ≡ (bytes_eq x y || is_taken x ys)
 taken_put x y [] = refl
 taken_put x y (z ∷ zs) = go (taken_put x y zs) (slice_cmp nat_cmp y z) refl
   where

@@ -1,0 +1,216 @@
+-- What the name of a refusal says of the bytes up to its place, where a rule was broken: of the items that
+-- are complete in them. The names of the format say what they say of any sink.
+use Rattle.std.specs.Prelude.{◌≡◌, ℕ, ◌+◌, ◌^◌, ◌<◌, ◌≤◌, Bool, true, false, List, [], ◌∷◌, ◌++◌, None}
+use Rattle.std.specs.Prelude.{Option, Some, length, slice_get}
+use Rattle.wm_syntax.specs.declared.types.GlobalType.{GlobalType}
+use Rattle.wm_syntax.specs.declared.instructions.Simple.TheVariants as simple
+use Rattle.wm_syntax.specs.declared.instructions.Op.{Op}
+use Rattle.wm_syntax.specs.declared.instructions.Op.TheVariants as op
+use Rattle.wm_syntax.specs.Opcodes.{load, store}
+use Rattle.wm_syntax.specs.declared.profile.Profile.{Profile}
+use Rattle.wm_syntax.specs.declared.why.Why.{Why}
+use Rattle.wm_syntax.specs.declared.why.Why.TheVariants as why
+use Rattle.wm_syntax.specs.declared.modules.ImportDesc.TheVariants as desc
+use Rattle.wm_syntax.specs.declared.modules.ExportKind.{ExportKind}
+use Rattle.wm_syntax.specs.declared.modules.ExportKind.TheVariants as kind
+use Rattle.wm_syntax.specs.Modules.{locals_of}
+use Rattle.wm_syntax.specs.Types.{Signature}
+use Rattle.wm_syntax.specs.declared.types.ValType.{ValType}
+use Rattle.wm_stacks.specs.declared.entries.FrameKind.TheVariants.{If}
+use Rattle.wm_typing.specs.OpenLists.{Head, head, Place, open_at, within, complete, IsSoFar}
+use Rattle.wm_decode.specs.Flat.{FlatCode, code_items}
+use Rattle.wm_typing.specs.Contexts.{context}
+use Rattle.wm_typing.specs.Typing.{Context, function_type}
+use Rattle.wm_decode.specs.declared.refusal.Refusal.{Refusal}
+use Rattle.wm_decode.specs.Items.{Item, new_type, param, one_result, import_desc, function, table, memory}
+use Rattle.wm_decode.specs.Items.{global, const_op, export_name, export, start, element, element_function}
+use Rattle.wm_decode.specs.Items.{body, locals, body_op, segment}
+use Rattle.wm_decode.specs.Meanings.{AtItem, Meant, Means as MeansOfFormat}
+use Rattle.wm_rules.specs.Holding.{IndexSpaces}
+use Rattle.wm_rules.specs.Validation.{ValidMemory, ValidTable}
+
+-- The index spaces of the module so far (section 2.5.1), as its items tell them: what each of them adds.
+abbrev pub no_spaces : IndexSpaces
+no_spaces = record {
+  types = [];
+  functions = [];
+  globals = [];
+  imported_functions = 0;
+  imported_globals = 0;
+  bodies = 0;
+  has_table = false;
+  has_memory = false;
+}
+
+abbrev pub with_last_type : (Signature → Signature) → List Signature → List Signature
+with_last_type f [] = []
+with_last_type f (t ∷ []) = f t ∷ []
+with_last_type f (t ∷ u ∷ ts) = t ∷ with_last_type f (u ∷ ts)
+
+abbrev pub with_item : IndexSpaces → Item → IndexSpaces
+with_item s new_type = record s { types = s.types ++ record { params = []; results = [] } ∷ [] }
+with_item s (param t) =
+    record s { types = with_last_type (λ f. record f { params = f.params ++ t ∷ [] }) s.types }
+with_item s (one_result t) =
+    record s { types = with_last_type (λ f. record f { results = f.results ++ t ∷ [] }) s.types }
+with_item s (import_desc (desc.Func x)) =
+    record s { functions = s.functions ++ x ∷ []; imported_functions = s.imported_functions + 1 }
+with_item s (import_desc (desc.Table l)) = record s { has_table = true }
+with_item s (import_desc (desc.Memory l)) = record s { has_memory = true }
+with_item s (import_desc (desc.Global g)) =
+    record s { globals = s.globals ++ g ∷ []; imported_globals = s.imported_globals + 1 }
+with_item s (function x) = record s { functions = s.functions ++ x ∷ [] }
+with_item s (table l) = record s { has_table = true }
+with_item s (memory l) = record s { has_memory = true }
+with_item s (global g) = record s { globals = s.globals ++ g ∷ [] }
+with_item s body = record s { bodies = s.bodies + 1 }
+with_item s _ = s
+
+abbrev pub with_items : IndexSpaces → List Item → IndexSpaces
+with_items s [] = s
+with_items s (x ∷ xs) = with_items (with_item s x) xs
+
+abbrev pub so_far : List Item → IndexSpaces
+so_far items = with_items no_spaces items
+
+-- the context (section 3.4.10) of the module so far
+abbrev pub context_so_far : IndexSpaces → Context
+context_so_far s = context s.types s.functions s.globals s.has_table s.has_memory
+
+abbrev pub one_where : Bool → ℕ
+one_where true = 1
+one_where false = 0
+
+-- how many there are of a kind
+abbrev pub how_many : ExportKind → IndexSpaces → ℕ
+how_many kind.Func s = length s.functions
+how_many kind.Table s = one_where s.has_table
+how_many kind.Memory s = one_where s.has_memory
+how_many kind.Global s = length s.globals
+
+-- Limits: a table or a memory, imported or own, whose limits are not valid (sections 3.2.3, 3.2.4)
+abbrev pub IsOutOfRange : List Item → Item → Type 0
+IsOutOfRange items (table l) = ValidTable l → ⊥
+IsOutOfRange items (memory l) = ValidMemory l → ⊥
+IsOutOfRange items (import_desc (desc.Table l)) = ValidTable l → ⊥
+IsOutOfRange items (import_desc (desc.Memory l)) = ValidMemory l → ⊥
+IsOutOfRange items _ = ⊥
+
+-- Second: a table or a memory where there is one (section 3.4.10)
+abbrev pub IsSecond : List Item → Item → Type 0
+IsSecond items (table l) = (so_far items).has_table ≡ true
+IsSecond items (memory l) = (so_far items).has_memory ≡ true
+IsSecond items (import_desc (desc.Table l)) = (so_far items).has_table ≡ true
+IsSecond items (import_desc (desc.Memory l)) = (so_far items).has_memory ≡ true
+IsSecond items _ = ⊥
+
+-- DuplicateExport: the name of an export before (section 3.4.10)
+abbrev pub IsRepeated : List Item → Item → Type 0
+IsRepeated items (export_name n) = (before after : List Item) × (items ≡ before ++ export_name n ∷ after)
+IsRepeated items _ = ⊥
+
+-- StartType: the start function has parameters or a result (section 3.4.7)
+abbrev pub IsNoStart : List Item → Item → Type 0
+IsNoStart items (start x) =
+    (f : Signature) × (function_type (context_so_far (so_far items)) x ≡ Some f)
+    × ((f.params ≡ []) × (f.results ≡ []) → ⊥)
+IsNoStart items _ = ⊥
+
+-- Index: no such type (sections 3.4.1, 3.4.9), function, table, memory or global (sections 3.4.5 to 3.4.8).
+-- Nothing is said of what stands in a function type, of constants and of code entries.
+abbrev pub NamesNothing : IndexSpaces → Item → Type 0
+NamesNothing s (function x) = length s.types ≤ x
+NamesNothing s (import_desc (desc.Func x)) = length s.types ≤ x
+NamesNothing s (export k x) = how_many k s ≤ x
+NamesNothing s (start x) = function_type (context_so_far s) x ≡ None
+NamesNothing s (element x) = how_many kind.Table s ≤ x
+NamesNothing s (element_function x) = how_many kind.Func s ≤ x
+NamesNothing s (segment x) = how_many kind.Memory s ≤ x
+NamesNothing s (param t) = Unit {0}
+NamesNothing s (one_result t) = Unit {0}
+NamesNothing s (const_op o) = Unit {0}
+NamesNothing s body = Unit {0}
+NamesNothing s (locals n t) = Unit {0}
+NamesNothing s (body_op o) = Unit {0}
+NamesNothing s _ = ⊥
+
+abbrev pub HasNoItem : List Item → Item → Type 0
+HasNoItem items x = NamesNothing (so_far items) x
+
+-- Immutable: a global.set of a constant global (section 3.3.3)
+abbrev pub SetsConstant : List GlobalType → Op → Type 0
+SetsConstant globals (op.Simple (simple.GlobalSet x)) =
+    (g : GlobalType) × (slice_get globals x ≡ Some g) × (g.var ≡ false)
+SetsConstant globals _ = ⊥
+
+-- Align: an alignment above the width of the access (section 3.3.4)
+abbrev pub IsAlignedPast : Op → Type 0
+IsAlignedPast (op.Simple (simple.Load o a)) = (load o).width < 2 ^ a.align
+IsAlignedPast (op.Simple (simple.Store o a)) = (store o).width < 2 ^ a.align
+IsAlignedPast _ = ⊥
+
+-- NotConst: what no constant expression has, or a global.get of a global that varies (section 3.3.7)
+abbrev pub CannotBeConstant : List GlobalType → Op → Type 0
+CannotBeConstant globals (op.Simple (simple.I32Const n)) = ⊥
+CannotBeConstant globals (op.Simple (simple.I64Const n)) = ⊥
+CannotBeConstant globals (op.Simple (simple.GlobalGet x)) =
+    (g : GlobalType) × (slice_get globals x ≡ Some g) × (g.var ≡ true)
+CannotBeConstant globals op.End = ⊥
+CannotBeConstant globals _ = Unit {0}
+
+-- of an instruction of a body, and of one of a constant expression, with the globals so far
+abbrev pub AtOp : (List GlobalType → Op → Type 0) → List Item → Item → Type 0
+AtOp IsWrong items (body_op o) = IsWrong (so_far items).globals o
+AtOp IsWrong items _ = ⊥
+
+abbrev pub AtConstant : (List GlobalType → Op → Type 0) → List Item → Item → Type 0
+AtConstant IsWrong items (const_op o) = IsWrong (so_far items).globals o
+AtConstant IsWrong items _ = ⊥
+
+-- The code entry at hand: its runs of locals and its ops so far.
+pub record InEntry (items : List Item) : Type 0 where
+  pub before : List Item
+  pub code : FlatCode
+  pub whole : items ≡ before ++ code_items code
+
+-- TooManyLocals: with the runs before it they are 2^32 or more (section 5.5.13)
+abbrev pub AreTooMany : List Item → Item → Type 0
+AreTooMany items (locals n t) =
+    (e : InEntry items) × (e.code.ops ≡ []) × (2 ^ 32 ≤ length (locals_of e.code.runs) + n)
+AreTooMany items _ = ⊥
+
+-- the lists of instructions that are open, the innermost first
+abbrev pub heads_of : Place → List Head
+heads_of (open_at hs ws) = hs
+heads_of (within n seen hs ws) = hs
+heads_of (complete r s) = []
+
+abbrev pub IsNoFirstBranch : List Head → Type 0
+IsNoFirstBranch (head If t ∷ hs) = ⊥
+IsNoFirstBranch _ = Unit {0}
+
+-- ElsePlace: an else where the innermost open list is not the first branch of an if (section 5.4.1)
+abbrev pub IsElseOutside : List Item → Item → Type 0
+IsElseOutside items (body_op op.Else) =
+    (e : InEntry items) × (r : Option ValType) × (place : Place) × IsSoFar r place e.code.ops
+    × IsNoFirstBranch (heads_of place)
+IsElseOutside items _ = ⊥
+
+-- What the name says. It is said of the names of the format, and of ten of rules. Nothing is said of
+-- Mismatch and Arity, nor of the names of a policy.
+abbrev pub Means : Profile → ℕ → List ℕ → List ℕ → Why → Type 0
+Means p limit used rest why.Index = AtItem p HasNoItem used
+Means p limit used rest why.Limits = AtItem p IsOutOfRange used
+Means p limit used rest why.Second = AtItem p IsSecond used
+Means p limit used rest why.DuplicateExport = AtItem p IsRepeated used
+Means p limit used rest why.StartType = AtItem p IsNoStart used
+Means p limit used rest why.NotConst = AtItem p (AtConstant CannotBeConstant) used
+Means p limit used rest why.Immutable = AtItem p (AtOp SetsConstant) used
+Means p limit used rest why.Align = AtItem p (AtOp (λ globals o. IsAlignedPast o)) used
+Means p limit used rest why.TooManyLocals = AtItem p AreTooMany used
+Means p limit used rest why.ElsePlace = AtItem p IsElseOutside used
+Means p limit used rest w = MeansOfFormat limit used rest w
+
+-- A refusal of an input says this of the bytes up to its place, which lies within it.
+abbrev pub Meaning : Profile → ℕ → List ℕ → Refusal → Type 0
+Meaning p limit input r = Meant (Means p limit) input r
