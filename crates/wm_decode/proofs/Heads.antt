@@ -1,5 +1,5 @@
 -- The head of a code entry, taken at once, is what the byte step makes of it.
-use Rattle.std.proofs.Common.{◌≡◌, ℕ, zero, suc, ◌+◌, ◌-◌, ◌*◌, ◌^◌, ◌<◌, ◌≤◌, List, Option, Some, None, Result, Ok, Err, IfErr, inl, inr, length, length-drop, drop, get_or, get_or-drop, slice_index, refl, sym, ◌∙◌, ap, subst, arith}
+use Rattle.std.proofs.Common.{◌≡◌, ℕ, zero, suc, ◌+◌, ◌-◌, ◌*◌, ◌^◌, ◌<◌, ◌≤◌, List, Some, None, Result, Ok, IfErr, inl, inr, length, slice_index, refl, sym, ◌∙◌, ap, subst, arith}
 use Rattle.std.specs.Result.{result_err}
 use Rattle.wm_syntax.specs.declared.why.Why.{Why}
 use Rattle.wm_syntax.specs.declared.why.Why.TheVariants as why
@@ -38,7 +38,7 @@ use Rattle.wm_decode.specs.exact.ShortSteps.{StepsTo}
 use Rattle.wm_decode.specs.exact.Heads.{IsShort, before_entry, head_after, in_head}
 use Rattle.wm_decode.specs.exact.Shortcuts.{Advances}
 use Rattle.wm_decode.specs.declared.step.reading.Reading.TheVariants.{More, Done}
-use Rattle.wm_decode.proofs.Advances.{advances_by, advances_more, advances_out, advances_step, advances_then}
+use Rattle.wm_decode.proofs.Advances.{advances_by, advances_more, advances_out, advances_step}
 use Rattle.wm_decode.proofs.WholeNumbers.{u32_goes_on, u32_one, u32_second}
 
 pub short_one : (bytes : List ℕ) → slice_index bytes 0 < 2 ^ 7 → IsShort bytes 1 (slice_index bytes 0)

@@ -12,6 +12,7 @@ pub mod Runs
 pub mod ShortSteps
 pub mod Shortcuts
 pub mod Steps
+pub mod TypeStarts
 pub mod TwoSinks
 pub mod ValueSteps
 pub mod WholeOps

@@ -9,7 +9,8 @@ ghost use Rattle.wm_decode.specs.exact.Shortcuts.{Advances};
 use crate::decoder::names::give_bytes;
 use crate::machine::member::{InEntry, InMember, SectionKind};
 use crate::machine::{InCustom, Machine, refusal_of};
-use crate::shortcuts::entries::{body, entry};
+use crate::shortcuts::entries::{body, entries};
+use crate::shortcuts::function_types::function_type;
 use crate::shortcuts::heads::runs;
 use crate::shortcuts::in_body::InBody;
 use crate::shortcuts::indices::indices;
@@ -22,6 +23,7 @@ use crate::step::members::data_or_over;
 use wm_syntax::why::Why;
 
 pub(crate) mod entries;
+pub(crate) mod function_types;
 pub(crate) mod heads;
 pub(crate) mod in_body;
 pub(crate) mod indices;
@@ -63,6 +65,7 @@ pub(crate) fn at_most(count: u32, len: usize) -> u32
 /// Which shortcut there may be from a state. Nothing but time rests on this.
 #[derive(Clone, Copy)]
 enum Way {
+    Type,
     Entry,
     Runs,
     Ops,
@@ -80,7 +83,7 @@ fn way_of(machine: Machine) -> Way {
         _ => return Way::One,
     };
     match of {
-        SectionKind::Type => Way::Short,
+        SectionKind::Type => Way::Type,
         SectionKind::Function | SectionKind::Element => Way::Indices,
         SectionKind::Code => way_in_code(at),
         SectionKind::Segment => Way::Data,
@@ -215,8 +218,14 @@ pub(crate) fn take_way<S: Sink>(sink: &mut S, machine: &mut Machine, bytes: &[u8
         (S.held sink.new) }
 {
     match way_of(*machine) {
+        Way::Type => {
+            let taken = function_type(sink, machine, bytes);
+            if taken.used > 0 {
+                return taken;
+            }
+        }
         Way::Entry => {
-            let taken = entry(sink, machine, bytes);
+            let taken = entries(sink, machine, bytes);
             if taken.used > 0 {
                 return taken;
             }

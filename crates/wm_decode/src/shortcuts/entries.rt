@@ -55,8 +55,9 @@ pub(crate) fn body<S: Sink>(sink: &mut S, machine: &mut Machine, bytes: &[u8]) -
     }
 }
 
-/// Takes an entry from its head on.
-pub(crate) fn entry<S: Sink>(sink: &mut S, machine: &mut Machine, bytes: &[u8]) -> Shortcut
+// Takes an entry from its head on
+#[inline(always)]
+fn entry<S: Sink>(sink: &mut S, machine: &mut Machine, bytes: &[u8]) -> Shortcut
     requires { 0 < length bytes.now }
     ensures { Advances S.after S.may_run_out bytes.now machine.old (S.held sink.old) result machine.new
         (S.held sink.new) }
@@ -69,5 +70,25 @@ pub(crate) fn entry<S: Sink>(sink: &mut S, machine: &mut Machine, bytes: &[u8]) 
     Shortcut {
         used: begun.used + rest.used,
         refused: rest.refused,
+    }
+}
+
+/// Takes the entries that lie in these bytes, as far as they have nothing rare.
+pub(crate) fn entries<S: Sink>(sink: &mut S, machine: &mut Machine, bytes: &[u8]) -> Shortcut
+    ensures { Advances S.after S.may_run_out bytes.now machine.old (S.held sink.old) result machine.new
+        (S.held sink.new) }
+{
+    let mut used = 0;
+    while used < bytes.len() {
+        let taken = entry(sink, machine, &bytes[used..]);
+        used += taken.used;
+        if taken.used == 0 || taken.refused.is_some() {
+            let refused = taken.refused;
+            return Shortcut { used, refused };
+        }
+    }
+    Shortcut {
+        used,
+        refused: None,
     }
 }

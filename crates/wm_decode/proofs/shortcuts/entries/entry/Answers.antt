@@ -1,4 +1,4 @@
-use Rattle.std.proofs.Common.{List, ℕ, arith, refl, rules, subst}
+use Rattle.std.proofs.Common.{List, ℕ, refl, rules, subst}
 use Rattle.std.proofs.lemmas.List.{take_rest}
 use Rattle.wm_decode.specs.exact.Shortcuts.{Advances}
 use Rattle.wm_decode.proofs.Advances.{advances_on}

@@ -1,4 +1,4 @@
-use Rattle.std.proofs.Common.{◌≡◌, List, ℕ, ◌+◌, None, ap, arith, refl, subst, sym}
+use Rattle.std.proofs.Common.{List, ℕ, ◌+◌, None, ap, refl, subst, sym}
 use Rattle.std.specs.Result.{result_err}
 use Rattle.std.proofs.lemmas.List.{take_rest}
 use Rattle.wm_decode.specs.exact.Heads.{head_after, in_head}

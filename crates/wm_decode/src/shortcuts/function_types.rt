@@ -1,0 +1,306 @@
+//! A shortcut for function types (section 5.5.4) that lie in the piece.
+//!
+//! Long counts, what ends the section, and what is refused for its bytes are left to the byte step.
+
+ghost use Rattle.std.specs.Prelude.{◌≡◌, ◌-◌, ◌<◌, ◌≤◌, ◌^◌, IfSome, Ok, length, slice_index};
+ghost use Rattle.wm_decode.specs.exact.Shortcuts.{Advances};
+ghost use Rattle.wm_decode.specs.exact.TypeStarts.{before_results, before_type, in_params, next_type};
+ghost use Rattle.wm_decode.specs.exact.TypeStarts.{params_after};
+ghost use Rattle.wm_decode.specs.exact.ValueSteps.{value_type_of};
+
+use crate::decoder::names::give_plain;
+use crate::machine::member::{InMember, SectionKind};
+use crate::machine::{Machine, Plain};
+use crate::shortcuts::Shortcut;
+use crate::sink::Sink;
+use crate::step::types::after_param;
+use crate::step::values::value_type;
+use wm_syntax::types::ValType;
+use wm_syntax::why::Why;
+
+/// What is known before a function type, or before the count of its results: how many functions await their code,
+/// how many bytes of the section come after the next, and how many types after this one.
+#[derive(Clone, Copy)]
+pub(crate) struct InTypes {
+    pub(crate) functions: u32,
+    pub(crate) more: u32,
+    pub(crate) left: u32,
+}
+
+impl InTypes {
+    // That of a machine before a type
+    #[inline(always)]
+    fn at_type(machine: Machine) -> Option<InTypes>
+        ensures { IfSome result (λ t. machine ≡ before_type t) }
+    {
+        let Machine::Section {
+            of,
+            functions,
+            more,
+            left,
+            at,
+        } = machine
+        else {
+            return None;
+        };
+        let SectionKind::Type = of else {
+            return None;
+        };
+        let InMember::TypeForm = at else {
+            return None;
+        };
+        Some(InTypes {
+            functions,
+            more,
+            left,
+        })
+    }
+
+    // That of a machine before the count of the results
+    #[inline(always)]
+    fn at_results(machine: Machine) -> Option<InTypes>
+        ensures { IfSome result (λ t. machine ≡ before_results t) }
+    {
+        let Machine::Section {
+            of,
+            functions,
+            more,
+            left,
+            at,
+        } = machine
+        else {
+            return None;
+        };
+        let SectionKind::Type = of else {
+            return None;
+        };
+        let InMember::ResultCount(number) = at else {
+            return None;
+        };
+        if !number.is_new() {
+            return None;
+        }
+        Some(InTypes {
+            functions,
+            more,
+            left,
+        })
+    }
+
+    // The machine before the next type, after so many more bytes
+    #[inline(always)]
+    fn next(self, used: u32) -> Machine
+        requires section { used ≤ self.more }
+        requires types { 0 < self.left }
+        ensures { result ≡ before_type (next_type self used) }
+    {
+        Machine::Section {
+            of: SectionKind::Type,
+            functions: self.functions,
+            more: self.more - used,
+            left: self.left - 1,
+            at: InMember::TypeForm,
+        }
+    }
+}
+
+/// What is known before a parameter, or before the count of the results: of the section as before the type, and how
+/// many parameters are still to come.
+#[derive(Clone, Copy)]
+pub(crate) struct InParams {
+    pub(crate) functions: u32,
+    pub(crate) more: u32,
+    pub(crate) left: u32,
+    pub(crate) params: u32,
+}
+
+impl InParams {
+    // The machine after so many more bytes, with so many parameters to come
+    #[inline(always)]
+    fn after(self, used: u32, params: u32) -> Machine
+        requires { used ≤ self.more }
+        ensures { result ≡ in_params (params_after self used params) }
+    {
+        Machine::Section {
+            of: SectionKind::Type,
+            functions: self.functions,
+            more: self.more - used,
+            left: self.left,
+            at: after_param(params),
+        }
+    }
+}
+
+/// What came of parameters: how many bytes they have, how many are still to come, and why the last was refused.
+#[derive(Clone, Copy)]
+struct GivenParams {
+    used: usize,
+    params: u32,
+    refused: Option<Why>,
+}
+
+// The form of a type and the count of its parameters
+#[inline(always)]
+fn begin_type(bytes: &[u8], start: InTypes) -> Option<InParams>
+    ensures within { IfSome result (λ i. 1 < length bytes.now) }
+    ensures section { IfSome result (λ i. 1 < start.more) }
+    ensures form { IfSome result (λ i. slice_index bytes.now 0 ≡ 0x60) }
+    ensures count { IfSome result (λ i. (slice_index bytes.now 1 ≡ i.params) × (i.params < 2 ^ 7)) }
+    ensures at { IfSome result (λ i. i ≡ record {
+      functions = start.functions;
+      more = start.more - 2;
+      left = start.left;
+      params = i.params;
+    }) }
+{
+    if bytes.len() < 2 || start.more < 2 {
+        return None;
+    }
+    let count = bytes[1];
+    if bytes[0] != 0x60 || count >= 0x80 {
+        return None;
+    }
+    Some(InParams {
+        functions: start.functions,
+        more: start.more - 2,
+        left: start.left,
+        params: u32::from(count),
+    })
+}
+
+// Gives the parameters that lie in these bytes, as long as bytes of the section come after them
+#[inline(always)]
+fn give_params<S: Sink>(sink: &mut S, bytes: &[u8], start: InParams) -> GivenParams
+    ensures section { result.used ≤ start.more }
+    ensures advances { Advances S.after S.may_run_out bytes.now (in_params start) (S.held sink.old) (record {
+      used = result.used;
+      refused = result.refused;
+    }) (in_params (params_after start result.used result.params)) (S.held sink.new) }
+{
+    let end = bytes.len().min(start.more as usize);
+    let mut params = start.params;
+    let mut used = 0;
+    while params > 0 {
+        if used >= end {
+            break;
+        }
+        let Ok(ty) = value_type(bytes[used]) else {
+            break;
+        };
+        used += 1;
+        params -= 1;
+        if let Err(why) = give_plain(sink, Plain::Param(ty)) {
+            let refused = Some(why);
+            return GivenParams {
+                used,
+                params,
+                refused,
+            };
+        }
+    }
+    GivenParams {
+        used,
+        params,
+        refused: None,
+    }
+}
+
+// Takes a type up to the count of its results
+#[inline(always)]
+#[tactic(auto, using(crate::proofs::Advances::advances_none))]
+fn params<S: Sink>(sink: &mut S, machine: &mut Machine, bytes: &[u8]) -> Shortcut
+    ensures { Advances S.after S.may_run_out bytes.now machine.old (S.held sink.old) result machine.new
+        (S.held sink.new) }
+{
+    let Some(start) = InTypes::at_type(*machine) else {
+        return Shortcut::none();
+    };
+    let Some(begun) = begin_type(bytes, start) else {
+        return Shortcut::none();
+    };
+    if let Err(why) = give_plain(sink, Plain::NewType) {
+        return Shortcut {
+            used: 1,
+            refused: Some(why),
+        };
+    }
+    let given = give_params(sink, &bytes[2..], begun);
+    *machine = begun.after(given.used as u32, given.params);
+    Shortcut {
+        used: 2 + given.used,
+        refused: given.refused,
+    }
+}
+
+// Takes the count of one result, and the result
+#[inline(always)]
+fn one_result<S: Sink>(
+    sink: &mut S,
+    machine: &mut Machine,
+    bytes: &[u8],
+    start: InTypes,
+    ty: ValType,
+) -> Shortcut
+    requires machine { machine.old ≡ before_results start }
+    requires within { 1 < length bytes.now }
+    requires section { 1 < start.more }
+    requires types { 0 < start.left }
+    requires count { slice_index bytes.now 0 ≡ 1 }
+    requires typed { value_type_of (slice_index bytes.now 1) ≡ Ok ty }
+    ensures { Advances S.after S.may_run_out bytes.now machine.old (S.held sink.old) result machine.new
+        (S.held sink.new) }
+{
+    if let Err(why) = give_plain(sink, Plain::ResultCount(1)) {
+        return Shortcut {
+            used: 1,
+            refused: Some(why),
+        };
+    }
+    *machine = start.next(2);
+    let refused = give_plain(sink, Plain::OneResult(ty)).err();
+    Shortcut { used: 2, refused }
+}
+
+// Takes the results of a type, at most one, where another type comes after it
+#[inline(always)]
+#[tactic(auto, using(crate::proofs::Advances::advances_none))]
+fn results<S: Sink>(sink: &mut S, machine: &mut Machine, bytes: &[u8]) -> Shortcut
+    ensures { Advances S.after S.may_run_out bytes.now machine.old (S.held sink.old) result machine.new
+        (S.held sink.new) }
+{
+    let Some(start) = InTypes::at_results(*machine) else {
+        return Shortcut::none();
+    };
+    if bytes.len() < 2 || start.more < 2 || start.left == 0 {
+        return Shortcut::none();
+    }
+    let count = bytes[0];
+    if count == 0 {
+        *machine = start.next(1);
+        let refused = give_plain(sink, Plain::ResultCount(0)).err();
+        return Shortcut { used: 1, refused };
+    }
+    let Ok(ty) = value_type(bytes[1]) else {
+        return Shortcut::none();
+    };
+    if count != 1 {
+        return Shortcut::none();
+    }
+    one_result(sink, machine, bytes, start, ty)
+}
+
+/// Takes a function type, as far as its counts are short and it lies in these bytes.
+pub(crate) fn function_type<S: Sink>(sink: &mut S, machine: &mut Machine, bytes: &[u8]) -> Shortcut
+    ensures { Advances S.after S.may_run_out bytes.now machine.old (S.held sink.old) result machine.new
+        (S.held sink.new) }
+{
+    let front = params(sink, machine, bytes);
+    if front.refused.is_some() {
+        return front;
+    }
+    let back = results(sink, machine, &bytes[front.used..]);
+    Shortcut {
+        used: front.used + back.used,
+        refused: back.refused,
+    }
+}
