@@ -3,7 +3,6 @@ use Rattle.std.proofs.Common.{ℕ, ◌≡◌, List, [], ◌∷◌, ◌++◌, len
 use Rattle.std.specs.List.{AllByRecursion, AllZip}
 use Rattle.std.proofs.lemmas.Slice.Zip.{AllZip-long}
 use Rattle.wm_syntax.specs.declared.types.Const.{Const}
-use Rattle.wm_syntax.specs.declared.types.Const.TheVariants as const
 use Rattle.wm_syntax.specs.declared.instructions.Op.{Op}
 use Rattle.wm_syntax.specs.declared.instructions.Op.TheVariants as op
 use Rattle.wm_syntax.specs.declared.profile.Profile.{Profile}

@@ -11,8 +11,7 @@ use Rattle.wm_syntax.specs.declared.profile.Profile.{Profile}
 use Rattle.wm_syntax.specs.Instructions.{Instruction, Instructions, none, snoc, simple, table, block, loop, choice, HasOp, HasOps, HasElse}
 use Rattle.std.specs.List.{AllByRecursion}
 use Rattle.wm_syntax.specs.Profiles.{HasInstructions, IsOpOf}
-use Rattle.wm_syntax.proofs.ProfileLaws.{all_append, labels_of}
-use Rattle.wm_syntax.proofs.ProfileLaws.{by_ops}
+use Rattle.wm_syntax.proofs.ProfileLaws.{all_append, by_ops, labels_of}
 use Rattle.wm_read.specs.Tokens.{Token}
 use Rattle.wm_read.specs.declared.code.blocks.Opening.{Opening}
 use Rattle.wm_read.specs.declared.code.blocks.Opening.TheVariants.{Block, Loop, If}

@@ -6,7 +6,6 @@ use Rattle.wm_syntax.specs.Spelling.{Form, Each}
 use Rattle.wm_syntax.specs.declared.types.ValType.{ValType}
 use Rattle.wm_syntax.specs.Runs.{same}
 use Rattle.wm_syntax.proofs.SameTypes.{means, reflexive}
-use Rattle.wm_syntax.specs.declared.types.ValType.TheVariants.{I32, I64}
 use Rattle.wm_syntax.specs.Types.{Signature}
 use Rattle.wm_read.specs.Tokens.{Token, open_paren, close_paren, string, atom}
 use Rattle.wm_read.proofs.Basics.{chosen, same_some}
