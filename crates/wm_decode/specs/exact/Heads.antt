@@ -15,7 +15,8 @@ before_entry e = machine.Section section_kind.Code e.functions e.more e.left (at
 
 -- the machine before a run of locals, or before the first op where none is to come
 abbrev pub in_head : InHead → Machine
-in_head i = machine.Section section_kind.Code i.functions i.more i.left (at.Entry i.rest (runs_or_body i.runs))
+in_head i =
+    machine.Section section_kind.Code i.functions i.more i.left (at.Entry i.rest (runs_or_body i.runs))
 
 -- what is known there after so many more bytes, with so many runs to come
 abbrev pub head_after : InHead → ℕ → ℕ → InHead

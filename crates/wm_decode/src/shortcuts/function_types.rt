@@ -18,8 +18,8 @@ use crate::step::values::value_type;
 use wm_syntax::types::ValType;
 use wm_syntax::why::Why;
 
-/// What is known before a function type, or before the count of its results: how many functions await their code,
-/// how many bytes of the section come after the next, and how many types after this one.
+/// What is known before a function type, or before the count of its results: how many functions await their
+/// code, how many bytes of the section come after the next, and how many types after this one.
 #[derive(Clone, Copy)]
 pub(crate) struct InTypes {
     pub(crate) functions: u32,
@@ -104,8 +104,8 @@ impl InTypes {
     }
 }
 
-/// What is known before a parameter, or before the count of the results: of the section as before the type, and how
-/// many parameters are still to come.
+/// What is known before a parameter, or before the count of the results: of the section as before the type,
+/// and how many parameters are still to come.
 #[derive(Clone, Copy)]
 pub(crate) struct InParams {
     pub(crate) functions: u32,
@@ -131,7 +131,7 @@ impl InParams {
     }
 }
 
-/// What came of parameters: how many bytes they have, how many are still to come, and why the last was refused.
+/// What came of parameters: how many bytes they have, how many are to come, and why the last was refused.
 #[derive(Clone, Copy)]
 struct GivenParams {
     used: usize,

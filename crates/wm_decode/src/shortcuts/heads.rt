@@ -1,5 +1,5 @@
-//! A shortcut for the head of a code entry (section 5.5.13): its size, the count of its runs of locals, and the
-//! runs that lie in the piece.
+//! A shortcut for the head of a code entry (section 5.5.13): its size, the count of its runs of locals, and
+//! the runs that lie in the piece.
 //!
 //! Long numbers, and what is refused for its bytes, are left to the byte step.
 
@@ -76,8 +76,8 @@ impl BeforeEntry {
     }
 }
 
-/// What is known before a run of locals, or before the first op: of the section as before its size, of the entry
-/// how many bytes come after the next, and how many runs are still to come.
+/// What is known before a run of locals, or before the first op: of the section as before its size, of the
+/// entry how many bytes come after the next, and how many runs are still to come.
 #[derive(Clone, Copy)]
 pub(crate) struct InHead {
     pub(crate) functions: u32,
@@ -147,7 +147,8 @@ impl InHead {
     }
 }
 
-/// The size of an entry and the count of its runs: how many bytes the size has, and what is known after the count.
+/// The size of an entry and the count of its runs: how many bytes the size has, and what is known after the
+/// count.
 #[derive(Clone, Copy)]
 struct Begun {
     sized: usize,
@@ -230,7 +231,7 @@ fn run_at(bytes: &[u8], at: usize) -> Option<(u32, ValType)>
     }
 }
 
-/// What came of runs: how many bytes they have, how many runs are still to come, and why the last was refused.
+/// What came of runs: how many bytes they have, how many are still to come, and why the last was refused.
 #[derive(Clone, Copy)]
 struct GivenRuns {
     used: usize,
