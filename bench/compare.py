@@ -3,13 +3,14 @@
 
 For each shape it makes a module of 7 MB, and prints MB/s of processor time (medians of five runs, all programs in
 turn), instructions a byte where valgrind is there, and the peak memory of wmod. With `--growth` it makes modules of 2
-MB and 8 MB and prints how many times the time a byte grows, by the least of fifteen runs of each, the start of the
-program left out. With `--canon` or `--show` it measures that action on the two: MB/s, that growth, the peak memory, and
+MB, 4 MB and 8 MB and prints the time a byte on each and how many times it grows, by the least of fifteen runs of each,
+the start of the program left out. With `--ratios` it prints how many times as fast each of the five actions is as node
+or the program of wabt that does the same, on modules of 2 MB, all in turn. With `--canon` or `--show` it measures that action on the two: MB/s, that growth, the peak memory, and
 how many bytes of memory a byte of the module takes. With `--build` it measures that action on the texts that `wmod
 show` prints of modules of 0.5 MB and 2 MB, beside wat2wasm where it is there; what is built has to be what `wmod canon`
 writes. With `--assemble` it measures nothing: wat2wasm makes binaries of such texts, of modules of 0.1 MB and 2 MB, and
 a line for each says whether its bytes are those of `wmod canon`. The status is 1 where some binary has other bytes, or
-none was made.
+none was made. `--program=PATH` measures a program that stands built, and not the one of this tree.
 """
 import json
 import os
@@ -25,7 +26,8 @@ import tempfile
 import make_module
 
 HERE = pathlib.Path(__file__).resolve().parent
-PROGRAM = HERE.parent / "crates/wm_cli/out/wm_cli"
+GIVEN = [word.removeprefix("--program=") for word in sys.argv if word.startswith("--program=")]
+PROGRAM = pathlib.Path(GIVEN[0]) if GIVEN else HERE.parent / "crates/wm_cli/out/wm_cli"
 RUNS = 5
 NODE = """
 const bytes = require('fs').readFileSync(process.argv[1]);
@@ -95,6 +97,34 @@ def speed(size, seconds):
     return f"{size / seconds / 1e6:.0f}" if size < seconds * 1e10 else "> 10000"
 
 
+def node_seconds(path):
+    """The seconds that V8 takes for a module; none where there is no node, or it refuses the module."""
+    if not shutil.which("node"):
+        return None
+    words = ["node", "--single-threaded", "-e", NODE, path]
+    answer = subprocess.run(words, capture_output=True, text=True, check=False)
+    told = json.loads(answer.stdout) if answer.returncode == 0 else {"valid": False}
+    return told["seconds"] if told["valid"] else None
+
+
+def ratios_row(shape, folder):
+    """How many times as fast each action is as another program; `refused` where that refuses the module or is not there."""
+    path, text, shown_by_wabt = (os.path.join(folder, f"{shape}.{kind}") for kind in ("wasm", "wat", "wabt.wat"))
+    with open(path, "wb") as file:
+        file.write(make_module.make(shape, 2))
+    with open(text, "wb") as file:
+        file.write(output("show", path))
+    own = [[str(PROGRAM), action, path] for action in ("check", "stats", "canon", "show")]
+    own.append([str(PROGRAM), "build", text])
+    others = [["wasm-validate", path], ["wasm-opcodecnt", path], ["wasm2wat", path, f"--output={shown_by_wabt}"]]
+    others += [["wat2wasm", shown_by_wabt, "--output=/dev/null"], ["wat2wasm", text, "--output=/dev/null"]]
+    (check, stats, canon, show, build, validate, count, to_text, again, to_binary), _ = medians(own + others)
+    pairs = [(check, node_seconds(path)), (check, validate), (stats, count), (canon, to_text + again), (show, to_text)]
+    pairs.append((build, to_binary))
+    cells = [f"{other / mine:.2f}" if other and other == other else "refused" for mine, other in pairs]
+    return [shape.replace("_", " "), *cells]
+
+
 def row(shape, folder, others):
     path = os.path.join(folder, f"{shape}.wasm")
     header = os.path.join(folder, "header.wasm")
@@ -107,11 +137,8 @@ def row(shape, folder, others):
     (own, *rest), (peak, *_) = medians(commands)
     cells = [shape.replace("_", " "), f"{size / 1e6:.1f}", speed(size, own)]
     if shutil.which("node"):
-        answer = subprocess.run(
-            ["node", "--single-threaded", "-e", NODE, path], capture_output=True, text=True, check=False
-        )
-        told = json.loads(answer.stdout) if answer.returncode == 0 else {"valid": False}
-        cells.append(speed(size, told["seconds"]) if told["valid"] else "refused")
+        seconds = node_seconds(path)
+        cells.append(speed(size, seconds) if seconds else "refused")
     cells += [speed(size, seconds) if seconds == seconds else "refused" for seconds in rest]
     if shutil.which("valgrind"):
         small = os.path.join(folder, f"{shape}.small.wasm")
@@ -135,26 +162,33 @@ def quickest(commands):
     return [min(t) for t in times], peaks
 
 
-def growth(shape, folder, action):
-    """How many times the time a byte grows from 2 MB to 8 MB, the start of the program left out; of the second its size,
-    seconds and peak memory. Other programs only ever make a run longer, so the least time tells."""
-    paths = [os.path.join(folder, f"{shape}.{megabytes}.wasm") for megabytes in (0, 2, 8)]
-    for path, megabytes in zip(paths, (0, 2, 8)):
+def growth(shape, folder, action, sizes=(2, 8)):
+    """The seconds a byte on modules of so many MB, the start of the program left out; of the last its size, seconds and
+    peak memory. Other programs only ever make a run longer, so the least time tells."""
+    paths = [os.path.join(folder, f"{shape}.{megabytes}.wasm") for megabytes in (0, *sizes)]
+    for path, megabytes in zip(paths, (0, *sizes)):
         with open(path, "wb") as file:
             file.write(make_module.make(shape, megabytes) if megabytes else make_module.HEADER)
-    (start, first, second), (_, _, peak) = quickest([[str(PROGRAM), action, path] for path in paths])
-    small, large = (os.path.getsize(path) for path in paths[1:])
-    return (second - start) / large / ((first - start) / small), large, second, peak
+    (start, *seconds), (*_, peak) = quickest([[str(PROGRAM), action, path] for path in paths])
+    lengths = [os.path.getsize(path) for path in paths[1:]]
+    per_byte = [(used - start) / length for used, length in zip(seconds, lengths)]
+    return per_byte, lengths[-1], seconds[-1], peak
+
+
+def growing_row(shape, folder):
+    per_byte, *_ = growth(shape, folder, "check", (2, 4, 8))
+    cells = [f"{seconds * 1e9:.2f}" for seconds in per_byte]
+    return [shape.replace("_", " "), *cells, f"{per_byte[-1] / per_byte[0]:.2f}"]
 
 
 def writing_row(shape, folder, action):
-    grown, size, seconds, peak = growth(shape, folder, action)
+    (small, large), size, seconds, peak = growth(shape, folder, action)
     header = os.path.join(folder, "header.wasm")
     with open(header, "wb") as file:
         file.write(make_module.HEADER)
     _, (least,) = medians([[str(PROGRAM), action, header]])
     taken = (peak - least) * 1024 / size
-    return [shape.replace("_", " "), speed(size, seconds), f"{grown:.2f}", f"{peak / 1024:.0f}", f"{taken:.1f}"]
+    return [shape.replace("_", " "), speed(size, seconds), f"{large / small:.2f}", f"{peak / 1024:.0f}", f"{taken:.1f}"]
 
 
 def output(action, path):
@@ -254,14 +288,20 @@ def print_table(heads, rows):
 def main():
     words = [w for w in sys.argv[1:] if not w.startswith("--")]
     shapes = words or [f.__name__ for f in make_module.SHAPES]
-    subprocess.run([str(HERE.parent / "wmod"), "--help"], stdout=subprocess.DEVNULL, check=True)
+    if not GIVEN:
+        subprocess.run([str(HERE.parent / "wmod"), "--help"], stdout=subprocess.DEVNULL, check=True)
     texts = [shape for shape in shapes if shape != "custom_sections"]  # they are no part of a text
     with tempfile.TemporaryDirectory() as folder:
         if "--assemble" in sys.argv:
             sys.exit(assemble(texts, folder))
         if "--growth" in sys.argv:
-            for shape in shapes:
-                print(f"{shape.replace('_', ' ')}: {growth(shape, folder, 'check')[0]:.2f}", flush=True)
+            heads = ["Shape", "2 MB, ns a byte", "4 MB", "8 MB", "8 MB to 2 MB"]
+            print_table(heads, (growing_row(shape, folder) for shape in shapes))
+            return
+        if "--ratios" in sys.argv:
+            heads = ["Shape", "check to node", "check to wasm-validate", "stats to wasm-opcodecnt"]
+            heads += ["canon to wasm2wat and wat2wasm", "show to wasm2wat", "build to wat2wasm"]
+            print_table(heads, (ratios_row(shape, folder) for shape in shapes))
             return
         for action in ("canon", "show"):
             if f"--{action}" in sys.argv:
