@@ -104,8 +104,8 @@ pub record Meant (Means : List ℕ → List ℕ → Why → Type 0) (input : Lis
 abbrev pub Meaning : ℕ → List ℕ → Refusal → Type 0
 Meaning limit input r = Meant (Means limit) input r
 
--- The last byte completes an item, and of the items before it and of it this is true. The bytes are those of
--- some module, sizes, names and the number of code entries aside.
+-- The last byte completes an item, and of the items before it and of it this is true. Some more bytes would
+-- make all of them a module, sizes, names and the number of code entries aside.
 pub record AtItem (p : Profile) (IsWrong : List Item → Item → Type 0) (used : List ℕ) : Type 0 where
   pub told : Marks
   pub last : Mark
