@@ -3,7 +3,7 @@
 
 `rt ci` proves a crate three times: plain, with its tests, and again before its first must-fail edit. Here the three
 share one folder of this run's own, which begins empty. So each module is proved once, and what is refused by `rt ci` is
-refused here. Edits are first tried some at a time, each in another function. The built wmod is run with each of its growths
+refused here. Edits are first tried all at once, each in a copy of its function. The built wmod is run with each of its growths
 refused in turn (growths.py), and on a million blocks (deep.py). At last the calls for C are made beside it (c_calls.py),
 and what is installed is tried (packages.py). It also says what each crate cost.
 
@@ -11,11 +11,9 @@ and what is installed is tried (packages.py). It also says what each crate cost.
     .ci/gate.py --keep FOLDER    the same over what an earlier run kept in FOLDER: for one's own work, and no verdict
 """
 import collections
-import concurrent.futures
 import importlib.machinery
 import importlib.util
 import os
-import queue
 import re
 import shutil
 import subprocess
@@ -65,6 +63,8 @@ if status < 0:
 sys.exit(status)
 """
 
+# what an error says of a name that is gone, and not of what is claimed
+NAMES = re.compile(r"has no field|is not in scope|has no `|was not admitted")
 # a function that was not proved only because one that it calls was not
 WAITS = re.compile(r"(no proof|not proved)[:;] it (calls|passes|waits|points)")
 FUNCTION = re.compile(r"^([ \t]*)(?:pub(?:\([a-z]+\))? )?(const )?(?:extern \"C\" )?fn (\w+)")
@@ -116,25 +116,31 @@ class Verdict:
         return self.words.search(re.sub(r" incremental=trusted(?=[^\n]*\n\Z)", "", text))
 
 
-def body_at(text, place):
-    """The name of the function whose body, and not whose contract, holds this place of a file in rt fmt's layout, if there is one."""
-    name = indent = None
-    at, is_open, has_clauses, before = 0, False, False, ""
+# A function in rt fmt's layout: where it begins with its comments and attributes, where its body does, and where it ends.
+Function = collections.namedtuple("Function", "name indent begin body end")
+
+
+def function_at(text, place):
+    """The function in whose body, and not in whose contract, this place of a file lies, if there is one."""
+    at = begin = 0
+    found = None
     for line in text.split("\n"):
         begins = FUNCTION.match(line)
-        if begins and not is_open:
+        if begins and not (found and found.body):
             # what a const fn gives may be read by others, and the functions of a cycle have one proof
-            is_plain = not begins[2] and "#[cycle" not in before
-            name, indent, has_clauses = begins[3] if is_plain else None, begins[1], False
-        elif name and is_open and line == f"{indent}}}":
-            name, is_open = None, False
-        has_clauses = has_clauses or line.lstrip().startswith(("ensures", "requires", "ghost "))
-        if at <= place < at + len(line) + 1:
-            return name if is_open else None
-        if name and not is_open:
-            is_open = line == f"{indent}{{" or (not has_clauses and line.endswith("{"))
-        before = before + line if line.lstrip().startswith("#[") else ""
+            is_plain = not begins[2] and "#[cycle" not in text[begin:at]
+            found, has_clauses = Function(begins[3], begins[1], begin, None, None) if is_plain else None, False
+        if found and not found.body:
+            has_clauses = has_clauses or line.lstrip().startswith(("ensures", "requires", "ghost "))
+            if line == f"{found.indent}{{" or (not has_clauses and line.endswith("{")):
+                found = found._replace(body=at + len(line) + 1)
+        elif found and line == f"{found.indent}}}":
+            if found.body <= place < at:
+                return found._replace(end=at + len(line) + 1)
+            found = None
         at += len(line) + 1
+        if not line.lstrip().startswith(("//", "#[")):
+            begin = at
     return None
 
 
@@ -153,178 +159,163 @@ def pairs_of(edit):
     return pairs
 
 
-def with_pairs(crate, pairs, texts):
-    """These texts of the crate's files with the pairs applied, and the file and the function that each lies in; None where
-    one does not fit."""
-    texts, places = dict(texts), set()
-    for path, old, new in pairs:
-        if not path.startswith("src/"):
-            return None
-        if path not in texts:
-            with open(f"{crate.folder}/{path}", encoding="utf-8") as it:
-                texts[path] = it.read()
-        if not old or texts[path].count(old) != 1:
-            return None
-        places.add((path, body_at(texts[path], texts[path].find(old))))
-        texts[path] = texts[path].replace(old, new)
-    return texts, places
-
-
 def place_of(crate, pairs):
-    """The file and the name of the one function of src/ in whose body an edit lies, if there is one."""
-    fits = with_pairs(crate, pairs, {})
-    places = fits[1] if fits else set()
-    place = next(iter(places)) if len(places) == 1 else None
-    return place if place and place[1] else None
+    """The file and the one function of src/ in whose body all pairs of an edit lie, if there is one."""
+    path = pairs[0][0] if pairs else ""
+    if not path.startswith("src/") or any(it[0] != path for it in pairs):
+        return None
+    with open(f"{crate.folder}/{path}", encoding="utf-8") as it:
+        text = it.read()
+    if any(not old or text.count(old) != 1 for _, old, _ in pairs):
+        return None
+    found = {function_at(text, text.find(old)) for _, old, _ in pairs}
+    one = found.pop()
+    return None if found or not one else (path, text, one)
 
 
-def refused_alone(said, names):
-    """The line that says that a function of one of these names was not proved for a reason of its own, if there is one."""
-    lines = re.findall(rf"(?m)^(fn (?:{'|'.join(map(re.escape, names))}): (?:no proof|not proved).*)$", said)
-    return next((it for it in lines if not WAITS.search(it)), None)
-
-
-def names_in(crate, path, name, proved):
-    """Of the names of all proved functions those that a function of this file may have."""
+def names_in(crate, place, proved):
+    """Of the names of all proved functions those that the function of this place may have."""
+    path, text, one = place
     module = re.sub(r"(^|::)(lib|main|mod)$", "", path[len("src/") : -len(".rt")].replace("/", "::"))
     front = "::".join(it for it in (crate.name, module) if it)
-    named = [rf"{front}::(?:\w+::)*{name}", *method_of(crate, path, name)]
+    named = [rf"{front}::(?:\w+::)*{one.name}", *method_of(crate, text[: one.begin], one.name)]
     return [it for it in proved if re.fullmatch("|".join(named), it)]
 
 
-def method_of(crate, path, name):
-    """The prover's name of a method whose type another module declares: that module's, and not its file's."""
-    with open(f"{crate.folder}/{path}", encoding="utf-8") as it:
-        before, is_method, _ = it.read().partition(f"fn {name}(")
-    of = re.findall(r"(?m)^(?:impl(?:<.*?>)? (\w+)(?:<.*>)? |})", before) if is_method else []
+def method_of(crate, before, name):
+    """The prover's name of a method whose type another module declares: that module's, and not its file's. What stands before it in its file tells the type."""
+    of = re.findall(r"(?m)^(?:impl(?:<.*?>)? (\w+)(?:<.*>)? |})", before)
     use = of and of[-1] and re.search(rf"(?m)^use crate::((?:\w+::)+){of[-1]};$", before)
     return [f"{crate.name}::{use[1]}{of[-1]}::{name}"] if use else []
 
 
-def called_in(crate):
-    """By the name of each function of the crate the names of those that it may call, and that these may call, and so on. A name
-    that several functions have is left out: an edit that waits for another is tried again."""
-    calls, seen = {}, collections.Counter()
-    for folder, _, files in os.walk(f"{crate.folder}/src"):
-        for file in files:
-            with open(f"{folder}/{file}", encoding="utf-8") as it:
-                parts = re.split(r"(?m)^(?=[^/\n]*\bfn \w)", it.read())[1:]
-            for name, text in (re.match(r"(?s).*?\bfn (\w+)(.*)", it).groups() for it in parts):
-                calls[name] = set(re.findall(r"\b\w+(?=\()", text))
-                seen[name] += 1
-    calls = {name: {it for it in found if seen[it] == 1} for name, found in calls.items() if seen[name] == 1}
-    for name, found in calls.items():
-        fresh = set(found)
-        while fresh:
-            fresh = {it for one in fresh for it in calls[one]} - found
-            found |= fresh
-    return collections.defaultdict(set, calls)
-
-
-def grouped(crate, left, calls):
-    """As many of these edits as fit beside one another, and the texts with all of them. A function is not tried beside one
-    that it calls, since it would wait for that."""
-    group, texts, taken = [], {}, set()
-    for one in left:
-        _, pairs, place, _ = one
-        name = place[1]
-        is_apart = place not in taken and not any(it in calls[name] or name in calls[it] for _, it in taken)
-        fits = with_pairs(crate, pairs, texts) if is_apart else None
-        if fits:
-            texts = fits[0]
-            taken.add(place)
-            group.append(one)
-    return group, texts
-
-
 def only(names):
     """The flags by which a check asks for the functions of these names alone."""
-    return [word for it in sorted(names) for word in ("--only", it.partition("::")[2])]
+    return [word for it in sorted(set(names)) for word in ("--only", it.partition("::")[2])]
 
 
-def placed(crate, edits, proved):
-    """Of these edits those that lie in one function each: the edit, its pairs, the function's place, and the names that it may have."""
-    found = [(edit, pairs, place_of(crate, pairs)) for edit in edits for pairs in [pairs_of(edit)]]
-    found = [(*it, names_in(crate, *it[2], proved)) for it in found if it[2]]
-    return [it for it in found if it[3]]
+class Copy:
+    """A function's copy, which stands beside it under a name of its own, with what an edit makes of its body or as it is."""
+
+    def __init__(self, crate, place, name, pairs, number):
+        self.path, text, one = place
+        self.at, own = one.end, text[one.begin : one.end]
+        for _, old, new in pairs:
+            own = own.replace(old, new)
+        fresh = f"{one.name}_copy{number}"
+        self.text = "\n" + re.sub(rf"\bfn {one.name}\b", f"fn {fresh}", own, count=1)
+        parts = name.split("::")
+        self.name = "::".join([*parts[:-1], fresh])
+        # its proof is that of the function, which names it by what rattle makes of it
+        self.folder, was = (f"proofs/{'/'.join([*parts[1:-1], it])}" for it in (fresh, one.name))
+        self.proofs = {}
+        for folder, _, files in os.walk(f"{crate.folder}/{was}"):
+            for file in files:
+                with open(f"{folder}/{file}", encoding="utf-8") as it:
+                    proof = it.read()
+                inside = os.path.relpath(f"{folder}/{file}", f"{crate.folder}/{was}")
+                self.proofs[f"{self.folder}/{inside}"] = re.sub(rf"\b{re.escape(path_of(parts))}(?=\.)", path_of([*parts[:-1], fresh]), proof)
+
+    def refused(self, said):
+        """The line by which it is refused for a reason of its own, if there is one: a goal that is open, or an answer that does not fit."""
+        line = re.search(rf"(?m)^fn {re.escape(self.name)}: (?:no proof|not proved).*$", said)
+        if not line or WAITS.search(line[0]):
+            return None
+        told = re.findall(rf"(?m)^(?:so far: )?\./{re.escape(self.folder)}/\S+: error: (.*)$", said)
+        is_open = f"expected answers in ./{self.folder}/" in line[0] and "`search` did not prove" in line[0]
+        return line[0] if is_open or any(not NAMES.search(it) for it in told) else None
 
 
-def tried_together(crate, group, texts, flags, kept):
-    """Checks the functions of these edits alone, with all of them applied. A function's proof reads no body but its own, so one that fails for a reason
-    of its own is refused for its own edit. Returns what is said of each that was refused so."""
-    words = only({it for *_, names in group for it in names})
-    ran = check_a_copy(crate, texts, [*flags, *words], kept)
-    is_read = ran.returncode == 1 and ran.stdout.rstrip("\n").split("\n")[-1].startswith("only=")
-    if not is_read or any(rt.unread(it, texts) for it in ran.stdout.split("\n")):
+def path_of(parts):
+    """The module of a function's proof, by the parts of its name."""
+    return ".".join(["Rattle", parts[0], "proofs", *parts[1:]])
+
+
+def has_own_copy(crate, place, name):
+    """Whether a function's copy can stand beside it: it is none of a trait, does not call itself, and no proof by hand or other file names it."""
+    _, text, one = place
+    heads = [it for it in text[: one.begin].split("\n") if it.startswith(("impl", "trait"))] if one.indent else []
+    calls = rf"\b[sS]elf(?:\.|::){one.name}\b" if one.indent else rf"(?<![.\w:]){one.name}\("
+    parts = name.split("::")
+    return (
+        not (heads and (" for " in heads[-1] or heads[-1].startswith("trait")))
+        and not re.search(calls, text[one.body : one.end])
+        and not os.path.exists(f"{crate.folder}/proofs/{'/'.join(parts[1:])}/Proof.antt")
+    )
+
+
+def copied(crate, edits, proved):
+    """Of these edits those that are tried in a copy of their function, each with its name and its copy; and by the names of those functions that have a
+    proof of their own a copy of each as it is."""
+    found, plain = {}, {}
+    for edit in edits:
+        pairs = pairs_of(edit)
+        place = place_of(crate, pairs)
+        names = names_in(crate, place, proved) if place else []
+        if len(names) == 1 and has_own_copy(crate, place, names[0]):
+            found[edit] = names[0], Copy(crate, place, names[0], pairs, len(found))
+            plain[names[0]] = Copy(crate, place, names[0], [], f"{len(found)}_plain")
+    return found, {name: it for name, it in plain.items() if it.proofs}
+
+
+def with_copies(crate, copies, room):
+    """The crate in this folder, with the copies."""
+    for part in rtlib.PARTS:
+        if os.path.isdir(f"{crate.folder}/{part}"):
+            shutil.copytree(f"{crate.folder}/{part}", f"{room}/{part}")
+    for it in sorted(copies, key=lambda it: it.at, reverse=True):
+        with open(f"{room}/{it.path}", encoding="utf-8") as file:
+            text = file.read()
+        with open(f"{room}/{it.path}", "w", encoding="utf-8") as file:
+            file.write(text[: it.at] + it.text + text[it.at :])
+        for path, proof in it.proofs.items():
+            os.makedirs(os.path.dirname(f"{room}/{path}"), exist_ok=True)
+            with open(f"{room}/{path}", "w", encoding="utf-8") as file:
+                file.write(proof)
+    made = rt.copy.copy(crate)
+    made.__class__, made.folder = PlainCrate, room
+    return made
+
+
+def tried_in_copies(crate, found, plain, flags, kept):
+    """Tries edits in copies of their functions, all in one check of these copies alone. A function's proof reads no body but its own, so each is refused for
+    its own edit; what has a proof of its own counts only where that proves the copy as it is. Returns what is said of each that was refused so."""
+    as_they_are = {name: plain[name] for name, _ in found.values() if name in plain}
+    copies = [*(it for _, it in found.values()), *as_they_are.values()]
+    if not copies:
         return {}
-    found = {edit: refused_alone(ran.stdout, names) for edit, *_, names in group}
-    return {edit: line for edit, line in found.items() if line}
-
-
-def in_groups(crate, left, flags, folders):
-    """Tries placed edits together, each in another function. Returns what is said of each that was refused so. An edit that was not, in a group where
-    another was, is tried again; one in a group where none was is left."""
-    said, calls = {}, called_in(crate)
-    left = sorted(left, key=lambda it: len(calls[it[2][1]]))
-    while left:
-        groups = []
-        while left:
-            groups.append(grouped(crate, left, calls))
-            left = [it for it in left if it not in groups[-1][0]]
-        found = side_by_side(lambda it, kept: tried_together(crate, *it, flags, kept), groups, folders)
-        for (group, _), one in zip(groups, found):
-            said.update(one)
-            left += [it for it in group if one and it[0] not in one]
-    return said
-
-
-def side_by_side(call, things, folders):
-    """What the call gives of each thing, as many at a time as there are folders, each of which serves one call at a time."""
-    free = queue.SimpleQueue()
-    for it in folders:
-        free.put(it)
-
-    def over_a_folder(thing):
-        folder = free.get()
-        try:
-            return call(thing, folder)
-        finally:
-            free.put(folder)
-
-    with concurrent.futures.ThreadPoolExecutor(len(folders)) as pool:
-        return list(pool.map(over_a_folder, things))
-
-
-def folders_for(crate):
-    """The folders of kept work over which the crate's edits are tried. One on which no other stands comes last, when processors are idle: it has two."""
-    first, second = kept_of(crate), f"{ROOM.name}/{crate.name}.second"
-    if any(crate.name == below.name for it in rtlib.crates_below(os.getcwd()) for below in it.below()):
-        return [first]
-    shutil.copytree(first, second)
-    return [first, second]
+    with tempfile.TemporaryDirectory(prefix="gate-copies-") as room:
+        ran = checked_by_the_kit(with_copies(crate, copies, room), {}, [*flags, *only(it.name for it in copies)], kept)
+    if ran.returncode and not (ran.returncode == 1 and ran.stdout.rstrip("\n").split("\n")[-1].startswith("only=")):
+        # one that cannot be read hides the others
+        half, all_of = len(found) // 2, list(found.items())
+        parts = (dict(all_of[:half]), dict(all_of[half:])) if half else ()
+        return {edit: line for part in parts for edit, line in tried_in_copies(crate, part, plain, flags, kept).items()}
+    is_right = {name: re.search(rf"(?m)^fn {re.escape(it.name)}: proved$", ran.stdout) for name, it in as_they_are.items()}
+    lines = {edit: it.refused(ran.stdout) for edit, (name, it) in found.items() if is_right.get(name, True)}
+    return {edit: line for edit, line in lines.items() if line}
 
 
 def must_fail_all(crate, edits, _):
-    """What each edit came to, and what to say of it. Where the crate as it stands is not proved over the kept work, before or
-    after, each is tried from nothing."""
+    """What each edit came to, and what to say of it: first in copies, then each that was not refused so in its place. Where the crate as it stands is not
+    proved over the kept work, before or after, each is tried from nothing."""
     if not edits:
         return []
-    flags = ["--jobs", str(max(1, rt.processors() // 2))]
-    ran = check_a_copy(crate, {}, flags, kept_of(crate))
-    folders = folders_for(crate)
-    left = placed(crate, edits, re.findall(r"(?m)^fn (\S+): proved", ran.stdout))
-    said = {} if ran.returncode else in_groups(crate, left, flags, folders)
+    is_last = not any(crate.name == below.name for it in rtlib.crates_below(os.getcwd()) for below in it.below())
+    flags, kept = ["--jobs", str(rt.processors() if is_last else max(1, rt.processors() // 2))], kept_of(crate)
+    ran = check_a_copy(crate, {}, flags, kept)
+    found, plain = copied(crate, edits, re.findall(r"(?m)^fn (\S+): proved", ran.stdout))
+    said = {} if ran.returncode else tried_in_copies(crate, found, plain, flags, kept)
 
-    def tried(edit, kept):
+    def tried(edit):
         label = f"must-fail {crate.name}/{os.path.basename(edit)}"
         if edit in said:
             return REFUSED, f"{label}: refused, as it must be: {said[edit][:160]}"
         return rt.must_fail(crate, edit, flags, kept)
 
-    results = side_by_side(tried, edits, folders)
-    words = only({it for *_, names in left for it in names})
-    is_proved = lambda kept: not check_a_copy(crate, {}, [*flags, *words], kept).returncode
-    is_sound = not ran.returncode and all([is_proved(it) for it in folders])
+    results = [tried(it) for it in edits]
+    words = only(name for name, _ in found.values())
+    is_sound = not ran.returncode and not check_a_copy(crate, {}, [*flags, *words], kept).returncode
     return [it if is_sound and it[0] in SETTLED else from_nothing(crate, edit, flags) for edit, it in zip(edits, results)]
 
 
