@@ -1,24 +1,28 @@
 //! A shortcut for exports (section 5.5.10) that follow one another.
 //!
-//! Empty names and long ones, long indices, the last of a section, and what is refused for its bytes are left
-//! to the byte step.
+//! Empty names and long ones, the last of a section, and what is refused for its bytes are left to the byte
+//! step.
 
-ghost use Rattle.std.specs.Prelude.{◌≡◌, ◌+◌, ◌<◌, ◌≤◌, ◌^◌, IfSome, length, slice_index};
+ghost use Rattle.std.specs.Prelude.{◌≡◌, ◌+◌, ◌≤◌, IfSome, length, slice_index};
+ghost use Rattle.wm_syntax.specs.exact.Reading.{unsigned_push};
 ghost use Rattle.wm_decode.specs.exact.Shortcuts.{Advances};
 ghost use Rattle.wm_decode.specs.exact.WholeNames.{IsKindByte, NameLies, before_export};
+ghost use Rattle.wm_decode.specs.exact.WholeOps.{LiesAt};
 
 use crate::decoder::names::{give, give_name};
 use crate::machine::member::{InMember, SectionKind};
 use crate::machine::{Machine, NameKind, Plain};
 use crate::shortcuts::Shortcut;
 use crate::shortcuts::whole_names::{InNames, name_end};
+use crate::shortcuts::whole_numbers::u32_at;
 use crate::sink::Sink;
 use wm_syntax::modules::ExportKind;
 
-/// Where the name of an export ends, and what it gives out.
+/// Where the name of an export ends, where it ends, and what it gives out.
 #[derive(Clone, Copy)]
 struct Export {
     stop: usize,
+    next: usize,
     kind: ExportKind,
     index: u32,
 }
@@ -71,28 +75,29 @@ fn kind_of(byte: u8) -> Option<ExportKind>
     }
 }
 
-// The export at a place, where it lies in the first so many bytes and has nothing long
+// The export at a place, where it lies in the first so many bytes and its name is short
 #[inline(always)]
 fn export_at(bytes: &[u8], from: usize, end: usize) -> Option<Export>
     requires { end ≤ length bytes.now }
     ensures name { IfSome result (λ e. NameLies bytes.now from e.stop) }
-    ensures within { IfSome result (λ e. e.stop + 2 ≤ end) }
     ensures kind { IfSome result (λ e. IsKindByte (slice_index bytes.now e.stop) e.kind) }
-    ensures index { IfSome result (λ e. (e.index ≡ slice_index bytes.now (e.stop + 1)) × (e.index < 2 ^ 7)) }
+    ensures index { IfSome result (λ e. LiesAt (unsigned_push 32) bytes.now (e.stop + 1) e.next e.index) }
+    ensures within { IfSome result (λ e. e.next ≤ end) }
 {
     let stop = name_end(bytes, from, end)?;
     if end - stop < 2 {
         return None;
     }
     let kind = kind_of(bytes[stop])?;
-    let index = bytes[stop + 1];
-    if index >= 0x80 {
+    let index = u32_at(bytes, stop + 1)?;
+    if index.next > end {
         return None;
     }
     Some(Export {
         stop,
+        next: index.next,
         kind,
-        index: u32::from(index),
+        index: index.value,
     })
 }
 
@@ -117,7 +122,7 @@ pub(crate) fn exports<S: Sink>(sink: &mut S, machine: &mut Machine, bytes: &[u8]
         if let Err(why) = give_name(sink, NameKind::Export, name) {
             return Shortcut::out(found.stop, why);
         }
-        used = found.stop + 2;
+        used = found.next;
         left -= 1;
         if let Err(why) = give(sink, Plain::Export(found.kind, found.index)) {
             return Shortcut::out(used, why);

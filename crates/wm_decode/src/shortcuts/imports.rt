@@ -1,25 +1,29 @@
 //! A shortcut for imports (section 5.5.5) that follow one another.
 //!
-//! Empty names and long ones, imports of anything but a function, long indices, the last of a section, and
-//! what is refused for its bytes are left to the byte step.
+//! Empty names and long ones, imports of anything but a function, the last of a section, and what is refused
+//! for its bytes are left to the byte step.
 
-ghost use Rattle.std.specs.Prelude.{◌≡◌, ◌+◌, ◌<◌, ◌≤◌, ◌^◌, IfSome, length, slice_index};
+ghost use Rattle.std.specs.Prelude.{◌≡◌, ◌+◌, ◌≤◌, IfSome, length, slice_index};
+ghost use Rattle.wm_syntax.specs.exact.Reading.{unsigned_push};
 ghost use Rattle.wm_decode.specs.exact.Shortcuts.{Advances};
 ghost use Rattle.wm_decode.specs.exact.WholeNames.{NameLies, before_import};
+ghost use Rattle.wm_decode.specs.exact.WholeOps.{LiesAt};
 
 use crate::decoder::names::{give, give_name};
 use crate::machine::member::{InMember, SectionKind};
 use crate::machine::{Machine, NameKind, Plain};
 use crate::shortcuts::Shortcut;
 use crate::shortcuts::whole_names::{InNames, name_end};
+use crate::shortcuts::whole_numbers::u32_at;
 use crate::sink::Sink;
 use wm_syntax::modules::ImportDesc;
 
-/// Where the two names of an import end, and the index of its function's type.
+/// Where the two names of an import end, where it ends, and the index of its function's type.
 #[derive(Clone, Copy)]
 struct Import {
     middle: usize,
     stop: usize,
+    next: usize,
     index: u32,
 }
 
@@ -57,29 +61,30 @@ fn at_import(machine: Machine) -> Option<InNames>
     })
 }
 
-// The import of a function at a place, where it lies in the first so many bytes and has nothing long
+// The import of a function at a place, where it lies in the first so many bytes and its names are short
 #[inline(always)]
 fn import_at(bytes: &[u8], from: usize, end: usize) -> Option<Import>
     requires { end ≤ length bytes.now }
     ensures module { IfSome result (λ i. NameLies bytes.now from i.middle) }
     ensures name { IfSome result (λ i. NameLies bytes.now i.middle i.stop) }
-    ensures within { IfSome result (λ i. i.stop + 2 ≤ end) }
     ensures kind { IfSome result (λ i. slice_index bytes.now i.stop ≡ 0) }
-    ensures index { IfSome result (λ i. (i.index ≡ slice_index bytes.now (i.stop + 1)) × (i.index < 2 ^ 7)) }
+    ensures index { IfSome result (λ i. LiesAt (unsigned_push 32) bytes.now (i.stop + 1) i.next i.index) }
+    ensures within { IfSome result (λ i. i.next ≤ end) }
 {
     let middle = name_end(bytes, from, end)?;
     let stop = name_end(bytes, middle, end)?;
-    if end - stop < 2 {
+    if end - stop < 2 || bytes[stop] != 0x00 {
         return None;
     }
-    let index = bytes[stop + 1];
-    if bytes[stop] != 0x00 || index >= 0x80 {
+    let index = u32_at(bytes, stop + 1)?;
+    if index.next > end {
         return None;
     }
     Some(Import {
         middle,
         stop,
-        index: u32::from(index),
+        next: index.next,
+        index: index.value,
     })
 }
 
@@ -108,7 +113,7 @@ pub(crate) fn imports<S: Sink>(sink: &mut S, machine: &mut Machine, bytes: &[u8]
         if let Err(why) = give_name(sink, NameKind::ImportName, name) {
             return Shortcut::out(found.stop, why);
         }
-        used = found.stop + 2;
+        used = found.next;
         left -= 1;
         if let Err(why) = give(sink, Plain::Import(ImportDesc::Func(found.index))) {
             return Shortcut::out(used, why);

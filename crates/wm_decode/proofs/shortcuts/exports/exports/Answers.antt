@@ -1,4 +1,4 @@
-use Rattle.std.proofs.Common.{◌+◌, ◌≤◌, None, ap, arith, refl, sym, ◌∙◌}
+use Rattle.std.proofs.Common.{◌+◌, ◌<◌, ◌≤◌, None, ap, arith, refl, sym, ◌∙◌}
 use Rattle.std.specs.Result.{result_err}
 use Rattle.wm_decode.specs.exact.WholeNames.{before_export}
 use Rattle.wm_decode.proofs.Advances.{advances_by, advances_none, advances_out}
@@ -18,7 +18,8 @@ returns-in-Err g c =
     let held = g.S.Sink.held in
     let l = c.loop-left in
     let x = c.in-Some-export_at in
-    let within : x.found.stop + 2 ≤ c.min-end.result = x.ensures.within in
+    let within : x.found.next ≤ c.min-end.result = x.ensures.within in
+    let order : x.found.stop + 1 < x.found.next = x.ensures.index.some in
     let out = c.out in
     advances_by g.S.Sink.after g.S.Sink.may_run_out _ _ _ _ _ _ _ _ c.in-Some.ensures refl
     (advances_out g.S.Sink.after g.S.Sink.may_run_out c.args.bytes.now (before_export c.in-Some.start) _ c.args.machine.now (held c.args.sink.now) (held c.give_name.new.sink) (held c.give_name.new.sink) out.result c.in-Err.why out.ensures.refused (omega (arith, x.ensures.name.some))
@@ -30,12 +31,13 @@ returns-in-Err-give g c =
     let held = g.S.Sink.held in
     let l = c.loop-left in
     let x = c.in-Some-export_at in
-    let within : x.found.stop + 2 ≤ c.min-end.result = x.ensures.within in
+    let within : x.found.next ≤ c.min-end.result = x.ensures.within in
+    let order : x.found.stop + 1 < x.found.next = x.ensures.index.some in
     let out = c.out-in-Err-give in
     advances_by g.S.Sink.after g.S.Sink.may_run_out _ _ _ _ _ _ _ _ c.in-Some.ensures refl
     (advances_out g.S.Sink.after g.S.Sink.may_run_out c.args.bytes.now (before_export c.in-Some.start) _ c.args.machine.now (held c.args.sink.now) (held c.give.new.sink) (held c.give.new.sink) out.result c.in-Err-give.why out.ensures.refused (omega arith)
     (export_taken g.S.Sink.after g.S.Sink.may_run_out c.args.bytes.now (before_export c.in-Some.start) (held c.args.sink.now) (held l.sink) c.in-Some.start l.used l.left x.found.stop l.invariant.advanced x.ensures.name (omega arith) (omega arith)
-    (held c.give_name.new.sink) (held c.give.new.sink) x.found.kind x.found.index out.result c.give.result c.in_default-give_name.ensures.given x.ensures.kind x.ensures.index.0 x.ensures.index.1 (omega arith) (omega arith) (omega arith)
+    (held c.give_name.new.sink) (held c.give.new.sink) x.found.kind x.found.index x.found.next out.result c.give.result c.in_default-give_name.ensures.given x.ensures.kind x.ensures.index (omega arith) (omega arith)
     out.ensures.used (out.ensures.refused ∙ sym (ap result_err c.in-Err-give.is)) c.give.ensures.given c.give.ensures.room))
 
 pub loop-left-preserved : goal.loop-left-preserved
@@ -43,11 +45,12 @@ loop-left-preserved g c =
     let held = g.S.Sink.held in
     let l = c.loop-left in
     let x = c.in-Some-export_at in
-    let within : x.found.stop + 2 ≤ c.min-end.result = x.ensures.within in
+    let within : x.found.next ≤ c.min-end.result = x.ensures.within in
+    let order : x.found.stop + 1 < x.found.next = x.ensures.index.some in
     record {
       within = omega arith;
       section = omega arith;
       advanced = export_taken g.S.Sink.after g.S.Sink.may_run_out c.args.bytes.now (before_export c.in-Some.start) (held c.args.sink.now) (held l.sink) c.in-Some.start l.used l.left x.found.stop l.invariant.advanced x.ensures.name (omega arith) (omega arith)
-          (held c.give_name.new.sink) (held c.give.new.sink) x.found.kind x.found.index (record { used = x.found.stop + 2; refused = None }) ok c.in_default-give_name.ensures.given x.ensures.kind x.ensures.index.0 x.ensures.index.1 (omega arith) (omega arith) (omega arith)
+          (held c.give_name.new.sink) (held c.give.new.sink) x.found.kind x.found.index x.found.next (record { used = x.found.next; refused = None }) ok c.in_default-give_name.ensures.given x.ensures.kind x.ensures.index (omega arith) (omega arith)
           refl refl c.in_default-give.ensures.given tt;
     }

@@ -18,7 +18,8 @@ returns-in-Err g c =
     let held = g.S.Sink.held in
     let l = c.loop-left in
     let x = c.in-Some-import_at in
-    let within : x.found.stop + 2 ≤ c.min-end.result = x.ensures.within in
+    let within : x.found.next ≤ c.min-end.result = x.ensures.within in
+    let order : x.found.stop + 1 < x.found.next = x.ensures.index.some in
     let first : l.used + 1 < x.found.middle = x.ensures.module.some in
     let second : x.found.middle + 1 < x.found.stop = x.ensures.name.some in
     let out = c.out in
@@ -32,7 +33,8 @@ returns-in-Err-give_name g c =
     let held = g.S.Sink.held in
     let l = c.loop-left in
     let x = c.in-Some-import_at in
-    let within : x.found.stop + 2 ≤ c.min-end.result = x.ensures.within in
+    let within : x.found.next ≤ c.min-end.result = x.ensures.within in
+    let order : x.found.stop + 1 < x.found.next = x.ensures.index.some in
     let first : l.used + 1 < x.found.middle = x.ensures.module.some in
     let second : x.found.middle + 1 < x.found.stop = x.ensures.name.some in
     let out = c.out-in-Err-give_name in
@@ -47,7 +49,8 @@ returns-in-Err-give g c =
     let held = g.S.Sink.held in
     let l = c.loop-left in
     let x = c.in-Some-import_at in
-    let within : x.found.stop + 2 ≤ c.min-end.result = x.ensures.within in
+    let within : x.found.next ≤ c.min-end.result = x.ensures.within in
+    let order : x.found.stop + 1 < x.found.next = x.ensures.index.some in
     let first : l.used + 1 < x.found.middle = x.ensures.module.some in
     let second : x.found.middle + 1 < x.found.stop = x.ensures.name.some in
     let out = c.out-in-Err-give in
@@ -55,7 +58,7 @@ returns-in-Err-give g c =
     (advances_out g.S.Sink.after g.S.Sink.may_run_out c.args.bytes.now (before_import c.in-Some.start) _ c.args.machine.now (held c.args.sink.now) (held c.give.new.sink) (held c.give.new.sink) out.result c.in-Err-give.why out.ensures.refused (omega arith)
     (import_taken g.S.Sink.after g.S.Sink.may_run_out c.args.bytes.now (before_import c.in-Some.start) (held c.args.sink.now) (held l.sink) c.in-Some.start l.used l.left x.found.middle l.invariant.advanced x.ensures.module (omega arith) (omega arith)
     (held c.give_name.new.sink) x.found.stop c.in_default-give_name.ensures.given x.ensures.name (omega arith) (omega arith)
-    (held c.give_name-in-loop-left.new.sink) (held c.give.new.sink) x.found.index out.result c.give.result c.in_default-give_name-2.ensures.given x.ensures.kind x.ensures.index.0 x.ensures.index.1 (omega arith) (omega arith) (omega arith)
+    (held c.give_name-in-loop-left.new.sink) (held c.give.new.sink) x.found.index x.found.next out.result c.give.result c.in_default-give_name-2.ensures.given x.ensures.kind x.ensures.index (omega arith) (omega arith)
     out.ensures.used (out.ensures.refused ∙ sym (ap result_err c.in-Err-give.is)) c.give.ensures.given c.give.ensures.room))
 
 pub loop-left-preserved : goal.loop-left-preserved
@@ -63,7 +66,8 @@ loop-left-preserved g c =
     let held = g.S.Sink.held in
     let l = c.loop-left in
     let x = c.in-Some-import_at in
-    let within : x.found.stop + 2 ≤ c.min-end.result = x.ensures.within in
+    let within : x.found.next ≤ c.min-end.result = x.ensures.within in
+    let order : x.found.stop + 1 < x.found.next = x.ensures.index.some in
     let first : l.used + 1 < x.found.middle = x.ensures.module.some in
     let second : x.found.middle + 1 < x.found.stop = x.ensures.name.some in
     record {
@@ -71,6 +75,6 @@ loop-left-preserved g c =
       section = omega arith;
       advanced = import_taken g.S.Sink.after g.S.Sink.may_run_out c.args.bytes.now (before_import c.in-Some.start) (held c.args.sink.now) (held l.sink) c.in-Some.start l.used l.left x.found.middle l.invariant.advanced x.ensures.module (omega arith) (omega arith)
           (held c.give_name.new.sink) x.found.stop c.in_default-give_name.ensures.given x.ensures.name (omega arith) (omega arith)
-          (held c.give_name-in-loop-left.new.sink) (held c.give.new.sink) x.found.index (record { used = x.found.stop + 2; refused = None }) ok c.in_default-give_name-2.ensures.given x.ensures.kind x.ensures.index.0 x.ensures.index.1 (omega arith) (omega arith) (omega arith)
+          (held c.give_name-in-loop-left.new.sink) (held c.give.new.sink) x.found.index x.found.next (record { used = x.found.next; refused = None }) ok c.in_default-give_name-2.ensures.given x.ensures.kind x.ensures.index (omega arith) (omega arith)
           refl refl c.in_default-give.ensures.given tt;
     }
