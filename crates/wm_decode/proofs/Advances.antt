@@ -32,10 +32,10 @@ use Rattle.wm_decode.proofs.ShortSteps.{part_err, part_ok, part_room, short_move
 use Rattle.wm_decode.proofs.Stretches.{data_decoded, data_ended, goes_on, skips, stops}
 use Rattle.wm_decode.proofs.WholeOps.{ran_decoded, ran_refused}
 
-not_both : (r : Option Why) (w : Why) → r ≡ None → r ≡ Some w → ⊥
+pub not_both : (r : Option Why) (w : Why) → r ≡ None → r ≡ Some w → ⊥
 not_both r w a b = let s : None ≡ Some w = sym a ∙ b in cc
 
-same_why : (r : Option Why) (v w : Why) → r ≡ Some v → r ≡ Some w → v ≡ w
+pub same_why : (r : Option Why) (v w : Why) → r ≡ Some v → r ≡ Some w → v ≡ w
 same_why r v w a b = let s : Some v ≡ Some w = sym a ∙ b in cc
 
 module _ {H : Type 0} (after : H → Item → Result H Why) (may : H → Item → Type 0) where

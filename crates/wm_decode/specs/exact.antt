@@ -15,4 +15,5 @@ pub mod Steps
 pub mod TypeStarts
 pub mod TwoSinks
 pub mod ValueSteps
+pub mod WholeNames
 pub mod WholeOps

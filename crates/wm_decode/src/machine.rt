@@ -47,6 +47,7 @@ pub(crate) enum Plain {
     Segment(u32),
 }
 
+#[inline(always)]
 fn import(desc: ImportDesc) -> Item<'static>
     ensures { items_for result ≡ plain_item (Plain.Import desc) ∷ [] }
 {
@@ -60,6 +61,7 @@ fn import(desc: ImportDesc) -> Item<'static>
 
 impl Plain {
     /// The item that it is.
+    #[inline(always)]
     pub(crate) fn item(self) -> Item<'static>
         ensures { items_for result ≡ plain_item self ∷ [] }
     {

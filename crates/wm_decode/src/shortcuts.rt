@@ -3,15 +3,17 @@
 //! Each finds for itself whether it can be taken. It moves the machine and gives the sink what the bytes
 //! complete; the decoder does the rest.
 
-ghost use Rattle.std.specs.Prelude.{◌≡◌, ◌<◌, None, length, min};
+ghost use Rattle.std.specs.Prelude.{◌≡◌, ◌<◌, None, Some, length, min};
 ghost use Rattle.wm_decode.specs.exact.Shortcuts.{Advances};
 
 use crate::decoder::names::give_bytes;
 use crate::machine::member::{InEntry, InMember, SectionKind};
 use crate::machine::{InCustom, Machine, refusal_of};
 use crate::shortcuts::entries::{body, entries};
-use crate::shortcuts::function_types::function_type;
+use crate::shortcuts::exports::exports;
+use crate::shortcuts::function_types::function_types;
 use crate::shortcuts::heads::runs;
+use crate::shortcuts::imports::imports;
 use crate::shortcuts::in_body::InBody;
 use crate::shortcuts::indices::indices;
 use crate::shortcuts::short_bytes::short;
@@ -23,12 +25,15 @@ use crate::step::members::data_or_over;
 use wm_syntax::why::Why;
 
 pub(crate) mod entries;
+pub(crate) mod exports;
 pub(crate) mod function_types;
 pub(crate) mod heads;
+pub(crate) mod imports;
 pub(crate) mod in_body;
 pub(crate) mod indices;
 pub(crate) mod short_bytes;
 pub(crate) mod short_steps;
+pub(crate) mod whole_names;
 pub(crate) mod whole_numbers;
 pub(crate) mod whole_ops;
 
@@ -53,6 +58,18 @@ impl Shortcut {
             refused: None,
         }
     }
+
+    /// Where the last of so many bytes was refused.
+    #[inline(always)]
+    pub(crate) fn out(used: usize, why: Why) -> Shortcut
+        ensures used { result.used ≡ used }
+        ensures refused { result.refused ≡ Some why }
+    {
+        Shortcut {
+            used,
+            refused: Some(why),
+        }
+    }
 }
 
 /// The less of a count and a length.
@@ -66,6 +83,8 @@ pub(crate) fn at_most(count: u32, len: usize) -> u32
 #[derive(Clone, Copy)]
 enum Way {
     Type,
+    Import,
+    Export,
     Entry,
     Runs,
     Ops,
@@ -84,6 +103,8 @@ fn way_of(machine: Machine) -> Way {
     };
     match of {
         SectionKind::Type => Way::Type,
+        SectionKind::Import => Way::Import,
+        SectionKind::Export => Way::Export,
         SectionKind::Function | SectionKind::Element => Way::Indices,
         SectionKind::Code => way_in_code(at),
         SectionKind::Segment => Way::Data,
@@ -219,7 +240,7 @@ pub(crate) fn take_way<S: Sink>(sink: &mut S, machine: &mut Machine, bytes: &[u8
 {
     match way_of(*machine) {
         Way::Type => {
-            let taken = function_type(sink, machine, bytes);
+            let taken = function_types(sink, machine, bytes);
             if taken.used > 0 {
                 return taken;
             }
@@ -242,6 +263,8 @@ pub(crate) fn take_way<S: Sink>(sink: &mut S, machine: &mut Machine, bytes: &[u8
                 return taken;
             }
         }
+        Way::Import => return imports(sink, machine, bytes),
+        Way::Export => return exports(sink, machine, bytes),
         Way::Indices => return indices(sink, machine, bytes),
         Way::Short => {}
         Way::Data => return data(sink, machine, bytes),

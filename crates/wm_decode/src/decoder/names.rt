@@ -28,7 +28,7 @@ fn is_text(bytes: &[u8]) -> bool
 }
 
 // Gives a name, if it is UTF-8
-fn give_name<S: Sink>(sink: &mut S, kind: NameKind, name: &[u8]) -> Result<(), Why>
+pub(crate) fn give_name<S: Sink>(sink: &mut S, kind: NameKind, name: &[u8]) -> Result<(), Why>
     ensures given { Taken (name_taken S.after kind name.now (S.held sink.old)) result (S.held sink.new) }
     ensures room { IfErr result (λ w. w ≡ Memory
         → MayRunOutAt S.may_run_out (name_item kind name.now) (S.held sink.old)) }
@@ -84,6 +84,15 @@ pub(crate) fn give_empty<S: Sink>(sink: &mut S, kind: NameKind) -> Result<(), Wh
 
 // Gives an item that holds no bytes
 pub(crate) fn give_plain<S: Sink>(sink: &mut S, part: Plain) -> Result<(), Why>
+    ensures given { Taken (S.after (S.held sink.old) (plain_item part)) result (S.held sink.new) }
+    ensures room { IfErr result (λ w. w ≡ Memory → S.may_run_out (S.held sink.old) (plain_item part)) }
+{
+    sink.take(part.item())
+}
+
+// The same in place, for those of which it is known which they are
+#[inline(always)]
+pub(crate) fn give<S: Sink>(sink: &mut S, part: Plain) -> Result<(), Why>
     ensures given { Taken (S.after (S.held sink.old) (plain_item part)) result (S.held sink.new) }
     ensures room { IfErr result (λ w. w ≡ Memory → S.may_run_out (S.held sink.old) (plain_item part)) }
 {

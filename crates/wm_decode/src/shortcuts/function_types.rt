@@ -8,7 +8,7 @@ ghost use Rattle.wm_decode.specs.exact.TypeStarts.{before_results, before_type, 
 ghost use Rattle.wm_decode.specs.exact.TypeStarts.{params_after};
 ghost use Rattle.wm_decode.specs.exact.ValueSteps.{value_type_of};
 
-use crate::decoder::names::give_plain;
+use crate::decoder::names::give;
 use crate::machine::member::{InMember, SectionKind};
 use crate::machine::{Machine, Plain};
 use crate::shortcuts::Shortcut;
@@ -189,7 +189,7 @@ fn give_params<S: Sink>(sink: &mut S, bytes: &[u8], start: InParams) -> GivenPar
         };
         used += 1;
         params -= 1;
-        if let Err(why) = give_plain(sink, Plain::Param(ty)) {
+        if let Err(why) = give(sink, Plain::Param(ty)) {
             let refused = Some(why);
             return GivenParams {
                 used,
@@ -218,7 +218,7 @@ fn params<S: Sink>(sink: &mut S, machine: &mut Machine, bytes: &[u8]) -> Shortcu
     let Some(begun) = begin_type(bytes, start) else {
         return Shortcut::none();
     };
-    if let Err(why) = give_plain(sink, Plain::NewType) {
+    if let Err(why) = give(sink, Plain::NewType) {
         return Shortcut {
             used: 1,
             refused: Some(why),
@@ -250,14 +250,14 @@ fn one_result<S: Sink>(
     ensures { Advances S.after S.may_run_out bytes.now machine.old (S.held sink.old) result machine.new
         (S.held sink.new) }
 {
-    if let Err(why) = give_plain(sink, Plain::ResultCount(1)) {
+    if let Err(why) = give(sink, Plain::ResultCount(1)) {
         return Shortcut {
             used: 1,
             refused: Some(why),
         };
     }
     *machine = start.next(2);
-    let refused = give_plain(sink, Plain::OneResult(ty)).err();
+    let refused = give(sink, Plain::OneResult(ty)).err();
     Shortcut { used: 2, refused }
 }
 
@@ -277,7 +277,7 @@ fn results<S: Sink>(sink: &mut S, machine: &mut Machine, bytes: &[u8]) -> Shortc
     let count = bytes[0];
     if count == 0 {
         *machine = start.next(1);
-        let refused = give_plain(sink, Plain::ResultCount(0)).err();
+        let refused = give(sink, Plain::ResultCount(0)).err();
         return Shortcut { used: 1, refused };
     }
     let Ok(ty) = value_type(bytes[1]) else {
@@ -289,8 +289,9 @@ fn results<S: Sink>(sink: &mut S, machine: &mut Machine, bytes: &[u8]) -> Shortc
     one_result(sink, machine, bytes, start, ty)
 }
 
-/// Takes a function type, as far as its counts are short and it lies in these bytes.
-pub(crate) fn function_type<S: Sink>(sink: &mut S, machine: &mut Machine, bytes: &[u8]) -> Shortcut
+// Takes a function type, as far as its counts are short and it lies in these bytes.
+#[inline(always)]
+fn function_type<S: Sink>(sink: &mut S, machine: &mut Machine, bytes: &[u8]) -> Shortcut
     ensures { Advances S.after S.may_run_out bytes.now machine.old (S.held sink.old) result machine.new
         (S.held sink.new) }
 {
@@ -302,5 +303,25 @@ pub(crate) fn function_type<S: Sink>(sink: &mut S, machine: &mut Machine, bytes:
     Shortcut {
         used: front.used + back.used,
         refused: back.refused,
+    }
+}
+
+/// Takes the function types that lie in these bytes, one after another.
+pub(crate) fn function_types<S: Sink>(sink: &mut S, machine: &mut Machine, bytes: &[u8]) -> Shortcut
+    ensures { Advances S.after S.may_run_out bytes.now machine.old (S.held sink.old) result machine.new
+        (S.held sink.new) }
+{
+    let mut used = 0;
+    while used < bytes.len() {
+        let taken = function_type(sink, machine, &bytes[used..]);
+        used += taken.used;
+        if taken.used == 0 || taken.refused.is_some() {
+            let refused = taken.refused;
+            return Shortcut { used, refused };
+        }
+    }
+    Shortcut {
+        used,
+        refused: None,
     }
 }
