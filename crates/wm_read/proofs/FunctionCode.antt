@@ -1,18 +1,19 @@
 -- Functions as the code reads them.
-use Rattle.std.proofs.Common.{◌≡◌, ℕ, ◌<◌, ◌≤◌, ◌+◌, Bool, true, false, cond, List, [], ◌∷◌, ◌++◌, length, replicate, Option, Some, None, refl, sym, ap, subst, ◌∙◌, arith, append_assoc, inl, inr, length-append}
+use Rattle.std.proofs.Common.{◌≡◌, ℕ, zero, suc, ◌<◌, ◌≤◌, ◌+◌, Bool, true, false, cond, List, [], ◌∷◌, ◌++◌, length, replicate, take, drop, get_or, Option, Some, None, refl, sym, ap, subst, ◌∙◌, arith, append_assoc, inl, inr, length-append}
 use Rattle.std.specs.Prelude.{MatchOption, nat_lt, ◌&&◌, ◌^◌, ◌⊎◌}
 use Rattle.std.proofs.lemmas.Bool.{and_from, and_left, cond-false, cond-true, le-ltb, lt-ltb}
-use Rattle.std.proofs.lemmas.List.{append-nil, map-append}
+use Rattle.std.proofs.lemmas.List.{append-nil, length-replicate, map-append, take-append-drop, take_all, take_more}
 use Rattle.wm_syntax.specs.declared.types.ValType.{ValType}
 use Rattle.wm_syntax.specs.declared.profile.Profile.{Profile}
 use Rattle.wm_syntax.specs.Instructions.{Instructions}
 use Rattle.wm_syntax.specs.Modules.{Function}
 use Rattle.wm_read.specs.Tokens.{Token, open_paren, close_paren, string, atom}
-use Rattle.wm_read.specs.Identifiers.{Ids}
+use Rattle.wm_read.specs.Identifiers.{Id, Ids}
 use Rattle.wm_read.specs.Written.{Named, Names, Scope, ids_of, types_of}
 use Rattle.wm_read.specs.declared.faults.TextWhy.{TextWhy}
 use Rattle.wm_read.specs.declared.faults.TextWhy.TheVariants as why
-use Rattle.wm_read.specs.declared.code.named.Named.{Named as Code}
+use Rattle.wm_read.specs.declared.code.named.NamedRun.{NamedRun}
+use Rattle.wm_read.specs.declared.code.named.NamedRun.TheVariants.{Unnamed}
 use Rattle.wm_read.specs.exact.Reading.{◌>>=◌, ops_at}
 use Rattle.wm_read.specs.exact.TypeUses.{begins_open, instructions_at, unnamed}
 use Rattle.wm_read.specs.exact.Fields.{all_new, function_at, function_by, function_of, is_function, is_new}
@@ -21,31 +22,10 @@ use Rattle.wm_read.specs.inner.Named.{named_of, named_list}
 use Rattle.wm_read.specs.inner.Views.{Fails, IsRefusal}
 use Rattle.wm_read.proofs.Basics.{same_some}
 use Rattle.wm_read.proofs.Groups.{fails_on}
+use Rattle.wm_read.proofs.NamedGroups.{named_append, named_push}
 use Rattle.wm_read.proofs.Readers.{bind_is}
 
 -- ---- identifiers
-
-abbrev pub code_ids : List Code → Ids
-code_ids ns = ids_of (named_list ns)
-
-pub ids_more : (seen new : Ids) (n : Code) (j more : List Code) → j ≡ n ∷ more → is_new seen (named_of n).0 ≡ true → new ≡ seen ++ (named_of n).0 ∷ [] → all_new new (code_ids more) ≡ all_new seen (code_ids j)
-ids_more seen new n j more e h g =
-    ap (λ (z : Ids). all_new z (code_ids more)) g ∙ sym (ap (λ (z : List Code). all_new seen (code_ids z)) e ∙ ap (λ (t : Bool). t && all_new (seen ++ (named_of n).0 ∷ []) (code_ids more)) h)
-
-pub ids_again : (seen : Ids) (n : Code) (j more : List Code) → j ≡ n ∷ more → is_new seen (named_of n).0 ≡ false → all_new seen (code_ids j) ≡ false
-ids_again seen n j more e h = ap (λ (z : List Code). all_new seen (code_ids z)) e ∙ and_left (is_new seen (named_of n).0) (all_new (seen ++ (named_of n).0 ∷ []) (code_ids more)) h
-
-pub ids_over : (seen : Ids) (j : List Code) → j ≡ [] → all_new seen (code_ids j) ≡ true
-ids_over seen j e = ap (λ (z : List Code). all_new seen (code_ids z)) e
-
-pub ids_joined : (seen new : Ids) (n : Code) (j more : List Code) → j ≡ n ∷ more → new ≡ seen ++ (named_of n).0 ∷ [] → new ++ code_ids more ≡ seen ++ code_ids j
-ids_joined seen new n j more e g =
-    ap (λ (z : Ids). z ++ code_ids more) g ∙ append_assoc seen ((named_of n).0 ∷ []) (code_ids more) ∙ sym (ap (λ (z : List Code). seen ++ code_ids z) e)
-
-pub ids_end : (seen : Ids) (j : List Code) → j ≡ [] → seen ++ code_ids j ≡ seen
-ids_end seen j e = ap (λ (z : List Code). seen ++ code_ids z) e ∙ append-nil seen
-
-pub ruleset ids_laws = (ids_more, ids_again, ids_over, ids_joined, ids_end)
 
 new_append : (seen xs ys : Ids) → all_new seen (xs ++ ys) ≡ (all_new seen xs && all_new (seen ++ xs) ys)
 new_append seen [] ys = ap (λ (z : Ids). all_new z ys) (sym (append-nil seen))
@@ -59,6 +39,72 @@ new_append seen (id ∷ xs) ys =
 
 ids_append : (ps ls : List Named) → ids_of (ps ++ ls) ≡ ids_of ps ++ ids_of ls
 ids_append ps ls = map-append (λ (p : Named). p.0) ps ls
+
+-- those of a run
+abbrev pub run_ids : NamedRun → Ids
+run_ids run = ids_of (named_of run)
+
+pub one_new : (seen : Ids) (id : Id) (b : Bool) → b ≡ is_new seen id → b ≡ all_new seen (id ∷ [])
+one_new seen id b e = e ∙ by (is_new seen id)
+  where
+    by : (t : Bool) → t ≡ (t && true)
+    by true = refl
+    by false = refl
+
+pub none_new : (seen : Ids) (n : ℕ) (t : ValType) → all_new seen (run_ids (Unnamed n t)) ≡ true
+none_new seen zero t = refl
+none_new seen (suc n) t = none_new (seen ++ None ∷ []) n t
+
+pub none_ids : (n : ℕ) (t : ValType) → replicate n None ≡ run_ids (Unnamed n t)
+none_ids zero t = refl
+none_ids (suc n) t = ap (λ (z : Ids). None ∷ z) (none_ids n t)
+
+pub ruleset run_laws = (one_new, none_new, none_ids)
+
+-- those of runs
+abbrev pub code_ids : List NamedRun → Ids
+code_ids runs = ids_of (named_list runs)
+
+code_ids_append : (xs ys : List NamedRun) → code_ids (xs ++ ys) ≡ code_ids xs ++ code_ids ys
+code_ids_append xs ys = ap ids_of (named_append xs ys) ∙ ids_append (named_list xs) (named_list ys)
+
+ids_of_one : (runs : List NamedRun) (i : ℕ) (d : NamedRun) → i < length runs → code_ids (take (i + 1) runs) ≡ code_ids (take i runs) ++ run_ids (get_or runs i d)
+ids_of_one runs i d lt =
+    ap code_ids (take_more runs i d lt) ∙ ap ids_of (named_push (take i runs) (get_or runs i d)) ∙ ids_append (named_list (take i runs)) (named_of (get_or runs i d))
+
+ids_with : (seen now : Ids) (runs : List NamedRun) (i : ℕ) (d : NamedRun) (b : Bool) → i < length runs → all_new seen (code_ids (take i runs)) ≡ true → now ≡ seen ++ code_ids (take i runs)
+    → b ≡ all_new now (run_ids (get_or runs i d)) → all_new seen (code_ids (take (i + 1) runs)) ≡ b
+ids_with seen now runs i d b lt e f g =
+    ap (all_new seen) (ids_of_one runs i d lt) ∙ new_append seen (code_ids (take i runs)) (run_ids (get_or runs i d))
+    ∙ ap (λ (t : Bool). t && all_new (seen ++ code_ids (take i runs)) (run_ids (get_or runs i d))) e
+    ∙ ap (λ (z : Ids). all_new z (run_ids (get_or runs i d))) (sym f) ∙ sym g
+
+pub ids_more : (seen now : Ids) (runs : List NamedRun) (i : ℕ) (d : NamedRun) (b : Bool) → i < length runs → all_new seen (code_ids (take i runs)) ≡ true → now ≡ seen ++ code_ids (take i runs)
+    → b ≡ all_new now (run_ids (get_or runs i d)) → b ≡ true → all_new seen (code_ids (take (i + 1) runs)) ≡ true
+ids_more seen now runs i d b lt e f g t = ids_with seen now runs i d b lt e f g ∙ t
+
+pub ids_joined : (seen now new : Ids) (runs : List NamedRun) (i : ℕ) (d : NamedRun) → i < length runs → now ≡ seen ++ code_ids (take i runs) → new ≡ now ++ run_ids (get_or runs i d)
+    → new ≡ seen ++ code_ids (take (i + 1) runs)
+ids_joined seen now new runs i d lt f g =
+    g ∙ ap (λ (z : Ids). z ++ run_ids (get_or runs i d)) f ∙ append_assoc seen (code_ids (take i runs)) (run_ids (get_or runs i d)) ∙ ap (λ (z : Ids). seen ++ z) (sym (ids_of_one runs i d lt))
+
+pub ids_again : (seen now : Ids) (runs : List NamedRun) (i : ℕ) (d : NamedRun) (b : Bool) → i < length runs → all_new seen (code_ids (take i runs)) ≡ true → now ≡ seen ++ code_ids (take i runs)
+    → b ≡ all_new now (run_ids (get_or runs i d)) → b ≡ false → false ≡ all_new seen (code_ids runs)
+ids_again seen now runs i d b lt e f g t =
+    sym (ap (λ (z : List NamedRun). all_new seen (code_ids z)) (sym (take-append-drop (i + 1) runs)) ∙ ap (all_new seen) (code_ids_append (take (i + 1) runs) (drop (i + 1) runs))
+    ∙ new_append seen (code_ids (take (i + 1) runs)) (code_ids (drop (i + 1) runs))
+    ∙ and_left (all_new seen (code_ids (take (i + 1) runs))) (all_new (seen ++ code_ids (take (i + 1) runs)) (code_ids (drop (i + 1) runs))) (ids_with seen now runs i d b lt e f g ∙ t))
+
+pub ids_over : (seen : Ids) (runs : List NamedRun) (i : ℕ) → length runs ≤ i → all_new seen (code_ids (take i runs)) ≡ true → true ≡ all_new seen (code_ids runs)
+ids_over seen runs i le e = sym (ap (λ (z : List NamedRun). all_new seen (code_ids z)) (sym (take_all i runs le)) ∙ e)
+
+pub ids_end : (seen now : Ids) (runs : List NamedRun) (i : ℕ) → length runs ≤ i → now ≡ seen ++ code_ids (take i runs) → now ≡ seen ++ code_ids runs
+ids_end seen now runs i le e = e ∙ ap (λ (z : List NamedRun). seen ++ code_ids z) (take_all i runs le)
+
+pub ids_begin : (seen : Ids) (runs : List NamedRun) → seen ≡ seen ++ code_ids (take 0 runs)
+ids_begin seen runs = sym (append-nil seen)
+
+pub ruleset ids_laws = (ids_more, ids_joined, ids_again, ids_over, ids_end, ids_begin)
 
 both_new : (ps ls : List Named) → all_new [] (ids_of (ps ++ ls)) ≡ (all_new [] (ids_of ps) && all_new (ids_of ps) (ids_of ls))
 both_new ps ls = ap (all_new []) (ids_append ps ls) ∙ new_append [] (ids_of ps) (ids_of ls)
@@ -91,17 +137,25 @@ pub ruleset params_laws = (unnamed_ids, unnamed_new)
 
 -- ---- types of locals
 
-pub types_more : (ts new : List ValType) (n : Code) (j more : List Code) → j ≡ n ∷ more → new ≡ ts ++ n.ty ∷ [] → new ++ types_of (named_list more) ≡ ts ++ types_of (named_list j)
-types_more ts new n j more e g =
-    ap (λ (z : List ValType). z ++ types_of (named_list more)) g ∙ append_assoc ts (n.ty ∷ []) (types_of (named_list more)) ∙ sym (ap (λ (z : List Code). ts ++ types_of (named_list z)) e)
+run_types : (run : NamedRun) (j more : List NamedRun) (n : ℕ) (t : ValType) → j ≡ run ∷ more → types_of (named_of run) ≡ replicate n t
+    → types_of (named_list j) ≡ replicate n t ++ types_of (named_list more)
+run_types run j more n t e f =
+    ap (λ (z : List NamedRun). types_of (named_list z)) e ∙ map-append (λ (p : Named). p.1) (named_of run) (named_list more) ∙ ap (λ (z : List ValType). z ++ types_of (named_list more)) f
 
-pub types_end : (ts : List ValType) (j : List Code) → j ≡ [] → ts ++ types_of (named_list j) ≡ ts
-types_end ts j e = ap (λ (z : List Code). ts ++ types_of (named_list z)) e ∙ append-nil ts
+pub types_more : (ts new : List ValType) (run : NamedRun) (j more : List NamedRun) (n : ℕ) (t : ValType) → j ≡ run ∷ more → types_of (named_of run) ≡ replicate n t
+    → new ≡ ts ++ replicate n t → new ++ types_of (named_list more) ≡ ts ++ types_of (named_list j)
+types_more ts new run j more n t e f g =
+    ap (λ (z : List ValType). z ++ types_of (named_list more)) g ∙ append_assoc ts (replicate n t) (types_of (named_list more))
+    ∙ ap (λ (z : List ValType). ts ++ z) (sym (run_types run j more n t e f))
 
-pub types_many : (ts : List ValType) (n : Code) (j more : List Code) (m : ℕ) → j ≡ n ∷ more → m ≤ length ts + 1 → m ≤ length (ts ++ types_of (named_list j))
-types_many ts n j more m e le =
-    let size : length (ts ++ types_of (named_list j)) ≡ length (ts ++ n.ty ∷ types_of (named_list more)) = ap (λ (z : List Code). length (ts ++ types_of (named_list z))) e in
-    omega (arith, size, length-append ts (n.ty ∷ types_of (named_list more)), le)
+pub types_end : (ts : List ValType) (j : List NamedRun) → j ≡ [] → ts ++ types_of (named_list j) ≡ ts
+types_end ts j e = ap (λ (z : List NamedRun). ts ++ types_of (named_list z)) e ∙ append-nil ts
+
+pub types_many : (ts : List ValType) (run : NamedRun) (j more : List NamedRun) (n : ℕ) (t : ValType) (m : ℕ) → j ≡ run ∷ more → types_of (named_of run) ≡ replicate n t
+    → m ≤ length ts + n → m ≤ length (ts ++ types_of (named_list j))
+types_many ts run j more n t m e f le =
+    let size : length (ts ++ types_of (named_list j)) ≡ length (ts ++ (replicate n t ++ types_of (named_list more))) = ap (λ (z : List ValType). length (ts ++ z)) (run_types run j more n t e f) in
+    omega (arith, size, length-append ts (replicate n t ++ types_of (named_list more)), length-append (replicate n t) (types_of (named_list more)), length-replicate n t, le)
 
 pub ruleset types_laws = (types_more, types_end, types_many)
 

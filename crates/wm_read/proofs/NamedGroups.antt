@@ -1,16 +1,17 @@
 -- Groups of parameters and of locals, with their identifiers.
-use Rattle.std.proofs.Common.{◌≡◌, ℕ, suc, ◌<◌, ◌⊎◌, true, false, List, [], ◌∷◌, ◌++◌, length, Option, Some, None, refl, sym, ap, subst, ◌∙◌, inl, inr, arith, append_assoc, length-append}
-use Rattle.std.proofs.lemmas.List.{append-nil, map-append}
+use Rattle.std.proofs.Common.{◌≡◌, ℕ, zero, suc, ◌+◌, ◌<◌, ◌⊎◌, true, false, List, [], ◌∷◌, ◌++◌, length, replicate, Option, Some, None, refl, sym, ap, subst, ◌∙◌, inl, inr, arith, append_assoc, length-append}
+use Rattle.std.proofs.lemmas.List.{append-nil, replicate_more}
 use Rattle.std.proofs.lemmas.Bool.{cond-true, cond-false}
 use Rattle.wm_syntax.specs.Spelling.{Form, Each, ◌▸◌}
 use Rattle.wm_syntax.specs.declared.types.ValType.{ValType}
 use Rattle.wm_syntax.specs.declared.types.ValType.TheVariants.{I32, I64}
 use Rattle.wm_read.specs.Tokens.{Token, open_paren, close_paren, string, atom}
 use Rattle.wm_read.specs.Identifiers.{WritesId}
-use Rattle.wm_read.specs.Written.{Named, Paren, WritesGroup, WritesGroups, WritesType, type_text}
+use Rattle.wm_read.specs.Written.{Named, Paren, WritesGroup, WritesGroups, WritesType, type_text, types_of}
 use Rattle.wm_read.specs.exact.Reading.{◌>>=◌, made, is_id, atom_at, type_of, paren_at, many_at}
 use Rattle.wm_read.specs.exact.TypeUses.{types_at, begins_group, unnamed, inside_at, named_groups_at, named_at, joined_named, adding_named}
-use Rattle.wm_read.specs.declared.code.named.Named.{Named as Code}
+use Rattle.wm_read.specs.declared.code.named.NamedRun.{NamedRun}
+use Rattle.wm_read.specs.declared.code.named.NamedRun.TheVariants.{One, Unnamed}
 use Rattle.std.specs.Prelude.{Result}
 use Rattle.wm_read.specs.declared.faults.TextFault.{TextFault}
 use Rattle.wm_read.specs.inner.Views.{Reads}
@@ -234,10 +235,39 @@ unnamed_over front (close_paren ∷ k) h = ap (λ (z : List Named). Some (z, clo
 unnamed_over front (string b ∷ k) h = ap (λ (z : List Named). Some (z, string b ∷ k)) (append-nil front)
 unnamed_over front (atom a ∷ k) h = absurd h
 
-pub named_push : (ns : List Code) (n : Code) → named_list (ns ++ n ∷ []) ≡ named_list ns ++ named_of n ∷ []
-named_push ns n = map-append named_of ns (n ∷ [])
+pub ruleset unnamed_laws = (unnamed_more, unnamed_fail, unnamed_over, fails_refused)
 
-pub ruleset unnamed_laws = (unnamed_more, unnamed_fail, unnamed_over, named_push, fails_refused)
+-- ---- runs
+
+pub named_append : (xs ys : List NamedRun) → named_list (xs ++ ys) ≡ named_list xs ++ named_list ys
+named_append [] ys = refl
+named_append (x ∷ xs) ys = ap (λ (z : List Named). named_of x ++ z) (named_append xs ys) ∙ sym (append_assoc (named_of x) (named_list xs) (named_list ys))
+
+pub named_push : (runs : List NamedRun) (run : NamedRun) → named_list (runs ++ run ∷ []) ≡ named_list runs ++ named_of run
+named_push runs run = named_append runs (run ∷ []) ∙ ap (λ (z : List Named). named_list runs ++ z) (append-nil (named_of run))
+
+pub run_longer : (n m : ℕ) (t : ValType) → m ≡ n + 1 → named_of (Unnamed m t) ≡ named_of (Unnamed n t) ++ (None, t) ∷ []
+run_longer n m t e = ap (λ (k : ℕ). replicate {A = Named} k (None, t)) e ∙ sym (replicate_more n (None, t))
+
+pub types_of_run : (n : ℕ) (t : ValType) → types_of (named_of (Unnamed n t)) ≡ replicate n t
+types_of_run zero t = refl
+types_of_run (suc n) t = ap (λ (z : List ValType). t ∷ z) (types_of_run n t)
+
+-- the last run, lengthened by an item
+pub last_longer : (runs front now : List NamedRun) (last run : NamedRun) (t : ValType) → runs ≡ front ++ last ∷ [] → now ≡ front ++ run ∷ []
+    → named_of run ≡ named_of last ++ (None, t) ∷ [] → named_list now ≡ named_list runs ++ (None, t) ∷ []
+last_longer runs front now last run t a b e =
+    ap named_list b ∙ named_push front run ∙ ap (λ (z : List Named). named_list front ++ z) e ∙ sym (append_assoc (named_list front) (named_of last) ((None, t) ∷ []))
+    ∙ ap (λ (z : List Named). z ++ (None, t) ∷ []) (sym (ap named_list a ∙ named_push front last))
+
+-- a run more
+pub one_run_more : (runs now : List NamedRun) (t : ValType) → now ≡ runs ++ Unnamed 1 t ∷ [] → named_list now ≡ named_list runs ++ (None, t) ∷ []
+one_run_more runs now t e = ap named_list e ∙ named_push runs (Unnamed 1 t)
+
+pub first_run : (runs front now : List NamedRun) (t : ValType) → runs ≡ front ++ [] → now ≡ front ++ Unnamed 1 t ∷ [] → named_list now ≡ named_list runs ++ (None, t) ∷ []
+first_run runs front now t a b = one_run_more runs now t (b ∙ ap (λ (z : List NamedRun). z ++ Unnamed 1 t ∷ []) (sym (a ∙ append-nil front)))
+
+pub ruleset push_laws = (last_longer, one_run_more, first_run)
 
 -- ---- what may be in a group
 

@@ -1,8 +1,8 @@
 -- Type uses whose parameters may have identifiers.
-use Rattle.std.proofs.Common.{◌≡◌, ℕ, ◌<◌, ◌≤◌, ◌+◌, ◌⊎◌, Bool, true, false, cond, ◌&&◌, List, [], ◌∷◌, ◌++◌, length, Option, Some, None, refl, sym, ap, subst, ◌∙◌, inl, inr, take, get_or}
+use Rattle.std.proofs.Common.{◌≡◌, ℕ, ◌<◌, ◌≤◌, ◌+◌, ◌⊎◌, Bool, true, false, cond, ◌&&◌, List, [], ◌∷◌, ◌++◌, length, replicate, Option, Some, None, refl, sym, ap, subst, ◌∙◌, inl, inr, take, get_or, append_assoc}
 use Rattle.std.specs.Prelude.{codes, map, slice_get}
 use Rattle.std.proofs.lemmas.Bool.{cond-true, cond-false, and_parts}
-use Rattle.std.proofs.lemmas.List.{map-append, take_more, take_all}
+use Rattle.std.proofs.lemmas.List.{append-nil, map-append, replicate_more, take_more, take_all}
 use Rattle.wm_syntax.specs.Spelling.{Form, Each}
 use Rattle.wm_syntax.specs.Types.{Signature}
 use Rattle.wm_syntax.specs.declared.types.ValType.{ValType}
@@ -13,13 +13,13 @@ use Rattle.wm_read.specs.exact.Reading.{◌>>=◌, made, atom_at, index_of, then
 use Rattle.wm_read.specs.exact.TypeUses.{begins_group, fits, groups_at, joined, named_at, no_types, unnamed}
 use Rattle.wm_read.specs.exact.NamedUses.{none_written, used_of, used_at, results_at, use_parts, named_use_at}
 use Rattle.wm_read.specs.declared.faults.TextWhy.{TextWhy}
-use Rattle.wm_read.specs.declared.code.named.Named.{Named as Code}
+use Rattle.wm_read.specs.declared.code.named.NamedRun.{NamedRun}
 use Rattle.wm_read.specs.inner.Named.{named_of, named_list}
 use Rattle.wm_read.specs.inner.Views.{Fails}
 use Rattle.wm_read.proofs.Basics.{chosen, same_some}
 use Rattle.wm_read.proofs.Groups.{fails_on}
 use Rattle.wm_read.proofs.Indices.{index_sound, index_complete}
-use Rattle.wm_read.proofs.NamedGroups.{groups_are_read, groups_are_written}
+use Rattle.wm_read.proofs.NamedGroups.{groups_are_read, groups_are_written, named_push}
 use Rattle.wm_read.proofs.Readers.{Sound, Complete, Any, Both, bind_ok, bind_is, made_is, made_sound, paren_complete, paren_sound, then_complete, then_sound}
 use Rattle.wm_read.proofs.TypeUseLaws.{Fitting, fits_found, fits_more, groups_complete, groups_sound, none_are}
 
@@ -193,14 +193,24 @@ named_ends names x f ps rs o i j k l t e g h u =
 
 -- ---- types and parameters, one by one
 
-pub types_step : (ps : List Code) (i : ℕ) (d : Code) (ts : List ValType) → i < length ps → ts ≡ types_of (named_list (take i ps)) → ts ++ (get_or ps i d).ty ∷ [] ≡ types_of (named_list (take (i + 1) ps))
-types_step ps i d ts lt e =
-    ap (λ (z : List ValType). z ++ (get_or ps i d).ty ∷ []) e
-    ∙ sym (ap (λ (z : List Code). types_of (named_list z)) (take_more ps i d lt) ∙ ap types_of (map-append named_of (take i ps) (get_or ps i d ∷ []))
-    ∙ map-append (λ (p : Named). p.1) (named_list (take i ps)) (named_of (get_or ps i d) ∷ []))
+pub times_step : (ts us : List ValType) (n m : ℕ) (t : ValType) → us ≡ ts ++ replicate n t → m ≡ n + 1 → us ++ t ∷ [] ≡ ts ++ replicate m t
+times_step ts us n m t e f =
+    ap (λ (z : List ValType). z ++ t ∷ []) e ∙ append_assoc ts (replicate n t) (t ∷ []) ∙ ap (λ (z : List ValType). ts ++ z) (replicate_more n t ∙ ap (λ (k : ℕ). replicate k t) (sym f))
 
-pub types_all : (ps : List Code) (i : ℕ) (ts : List ValType) → length ps ≤ i → ts ≡ types_of (named_list (take i ps)) → ts ≡ types_of (named_list ps)
-types_all ps i ts le e = e ∙ ap (λ (z : List Code). types_of (named_list z)) (take_all i ps le)
+pub times_none : (ts : List ValType) (t : ValType) → ts ≡ ts ++ replicate 0 t
+times_none ts t = sym (append-nil ts)
+
+pub ruleset times_laws = (times_step, times_none)
+
+pub types_step : (runs : List NamedRun) (i n : ℕ) (d : NamedRun) (t : ValType) (ts us : List ValType) → i < length runs → ts ≡ types_of (named_list (take i runs))
+    → types_of (named_of (get_or runs i d)) ≡ replicate n t → us ≡ ts ++ replicate n t → us ≡ types_of (named_list (take (i + 1) runs))
+types_step runs i n d t ts us lt e f g =
+    g ∙ ap (λ (z : List ValType). ts ++ z) (sym f) ∙ ap (λ (z : List ValType). z ++ types_of (named_of (get_or runs i d))) e
+    ∙ sym (ap (λ (z : List NamedRun). types_of (named_list z)) (take_more runs i d lt) ∙ ap types_of (named_push (take i runs) (get_or runs i d))
+    ∙ map-append (λ (p : Named). p.1) (named_list (take i runs)) (named_of (get_or runs i d)))
+
+pub types_all : (runs : List NamedRun) (i : ℕ) (ts : List ValType) → length runs ≤ i → ts ≡ types_of (named_list (take i runs)) → ts ≡ types_of (named_list runs)
+types_all runs i ts le e = e ∙ ap (λ (z : List NamedRun). types_of (named_list z)) (take_all i runs le)
 
 pub ruleset types_laws = (types_step, types_all)
 

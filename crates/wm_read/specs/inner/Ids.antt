@@ -1,9 +1,10 @@
 -- Identifiers of the code, without where they lie in memory.
-use Rattle.std.specs.Prelude.{◌≡◌, ℕ, List, ◌++◌, Option, Some, None, if◌then◌else◌, map, replicate}
+use Rattle.std.specs.Prelude.{◌≡◌, ℕ, List, [], ◌∷◌, ◌++◌, Option, Some, None, if◌then◌else◌, replicate}
 use Rattle.std.specs.Borrow.{Bor}
 use Rattle.std.specs.BTreeMap.{BTreeMap, get_by}
 use Rattle.std.specs.Cmp.Lexicographic.{slice_cmp}
 use Rattle.std.specs.Ordering.{nat_cmp}
+use Rattle.wm_read.specs.declared.names.identifiers.Identified.{Identified}
 use Rattle.wm_read.specs.Identifiers.{Id, Ids}
 use Rattle.wm_read.specs.exact.Reading.{is_same_id, place_of}
 
@@ -11,12 +12,14 @@ abbrev pub id_of : Option (Bor (List ℕ)) → Id
 id_of None = None
 id_of (Some r) = Some r.now
 
-abbrev pub ids_of : List (Option (Bor (List ℕ))) → Ids
-ids_of ids = map id_of ids
+-- items with identifiers, each behind so many with none
+abbrev pub spread : List Identified → Ids
+spread [] = []
+spread (x ∷ xs) = replicate x.before None ++ Some x.id.now ∷ spread xs
 
--- so many items with no identifiers, and those after them
-abbrev pub behind : ℕ → List (Option (Bor (List ℕ))) → Ids
-behind unnamed ids = replicate unnamed None ++ ids_of ids
+-- those, and so many with no identifiers after them
+abbrev pub spaced : List Identified → ℕ → Ids
+spaced xs unnamed = spread xs ++ replicate unnamed None
 
 -- what a map has for an identifier
 abbrev pub place_in : BTreeMap (Bor (List ℕ)) ℕ → List ℕ → Option ℕ

@@ -8,12 +8,12 @@ ghost use Rattle.wm_read.specs.exact.Fields as fields;
 ghost use Rattle.wm_read.specs.exact.Scan.{lexed};
 ghost use Rattle.wm_read.specs.inner.Blocks.{names_of};
 ghost use Rattle.wm_read.specs.inner.Fields.{head_at};
-ghost use Rattle.wm_read.specs.inner.Named.{named_list, params_of};
+ghost use Rattle.wm_read.specs.inner.Named.{named_list, named_of, params_of};
 ghost use Rattle.wm_read.specs.inner.Views.{IsRefusal, Reads};
 
 use crate::code::bodies::read_body;
 use crate::code::named;
-use crate::code::named::Named;
+use crate::code::named::NamedRun;
 use crate::code::named_uses::{NamedUse, Params, named_use};
 use crate::code::operands::{named_type, refuse};
 use crate::code::type_uses::{no_form, type_index};
@@ -27,20 +27,37 @@ use wm_syntax::modules::locals::Locals;
 use wm_syntax::profile::Profile;
 use wm_syntax::why::Why;
 
+/// Adds the identifier of a run, or as many items with none. It tells whether it added them: it does not
+/// add an identifier that is there.
+#[tactic(auto, using(crate::proofs::FunctionCode::run_laws))]
+fn add_run<'a>(space: &mut Space<'a>, run: NamedRun<'a>) -> Result<bool, AllocError>
+    ensures new { IfOk result (λ b. b ≡ fields.all_new space.old (written.ids_of (named_of run.entry))) }
+    ensures added { IfOk result (λ b. b ≡ true
+        → space.new ≡ space.old ++ written.ids_of (named_of run.entry)) }
+{
+    match run {
+        NamedRun::One(id, _) => {
+            if !is_new(space, Some(id)) {
+                return Ok(false);
+            }
+            space.push(Some(id))?;
+        }
+        NamedRun::Unnamed(count, _) => space.push_unnamed(count)?,
+    }
+    Ok(true)
+}
+
 /// Adds the identifiers of parameters or locals, up to one that is there. It tells whether it added all.
 #[tactic(auto, using(crate::proofs::FunctionCode::ids_laws))]
-fn add_ids<'a>(space: &mut Space<'a>, items: &[Named<'a>]) -> Result<bool, AllocError>
+fn add_ids<'a>(space: &mut Space<'a>, items: &[NamedRun<'a>]) -> Result<bool, AllocError>
     ensures new { IfOk result (λ b. b ≡ fields.all_new space.old (written.ids_of (named_list items.now))) }
     ensures added { IfOk result (λ b. b ≡ true
         → space.new ≡ space.old ++ written.ids_of (named_list items.now)) }
 {
-    let mut rest = items;
-    while let [item, more @ ..] = rest {
-        if !is_new(space, item.id) {
+    for run in items {
+        if !add_run(space, *run)? {
             return Ok(false);
         }
-        space.push(item.id)?;
-        rest = more;
     }
     Ok(true)
 }
@@ -71,7 +88,7 @@ fn params_space<'a>(alloc: Global, params: &Params<'_, 'a>) -> Result<Option<Spa
 fn locals_space<'a>(
     alloc: Global,
     params: &Params<'_, 'a>,
-    locals: &[Named<'a>],
+    locals: &[NamedRun<'a>],
 ) -> Result<Option<Space<'a>>, AllocError>
     ensures { IfOk result (λ o. MatchOption o
         (fields.all_new [] (written.ids_of (params_of params.now ++ named_list locals.now)) ≡ false)
@@ -92,7 +109,7 @@ fn locals_space<'a>(
 
 /// The types of locals, which stand before this text.
 #[tactic(auto, using(crate::proofs::FunctionCode::types_laws))]
-fn local_types(alloc: Global, locals: &[Named], text: &[u8]) -> Result<Locals, TextFault>
+fn local_types(alloc: Global, locals: &[NamedRun], text: &[u8]) -> Result<Locals, TextFault>
     ensures types { IfOk result (λ ts. (ts ≡ written.types_of (named_list locals.now))
         × (length ts < 2 ^ 32)) }
     ensures many { IfErr result (λ e. (e.why ≡ Memory)
@@ -100,8 +117,9 @@ fn local_types(alloc: Global, locals: &[Named], text: &[u8]) -> Result<Locals, T
 {
     let mut types = Locals::new(alloc);
     let mut rest = locals;
-    while let [local, more @ ..] = rest {
-        match types.add(1, local.ty) {
+    while let [run, more @ ..] = rest {
+        let (count, ty) = run.count_and_type();
+        match types.add(count, ty) {
             Ok(()) => rest = more,
             Err(Why::TooManyLocals) => return Err(refuse(TextWhy::TooManyLocals, text)),
             Err(_) => {
@@ -120,7 +138,7 @@ fn read_head<'n, 'a>(
     alloc: Global,
     names: &'n Names,
     text: &'a [u8],
-) -> Result<(NamedUse<'n, 'a>, Vec<Named<'a>>, &'a [u8]), TextFault>
+) -> Result<(NamedUse<'n, 'a>, Vec<NamedRun<'a>>, &'a [u8]), TextFault>
     ensures { Reads (λ x. (((x.0.index, params_of x.0.params), named_list x.1.items), lexed x.2.now)) result
         (head_at (names_of names.now) (lexed text.now)) }
 {

@@ -1,10 +1,11 @@
 //! Parameters and locals, with their identifiers (sections 6.4.3 and 6.6.5).
 
-ghost use Rattle.std.specs.Prelude.{◌≡◌};
+ghost use Rattle.std.specs.Prelude.{◌≡◌, ◌++◌, ◌∷◌, [], IfSome, None, OnOk, replicate};
+ghost use Rattle.wm_read.specs.Written.{types_of};
 ghost use Rattle.wm_read.specs.exact.Reading as reading;
 ghost use Rattle.wm_read.specs.exact.Scan.{lexed};
 ghost use Rattle.wm_read.specs.exact.TypeUses as uses;
-ghost use Rattle.wm_read.specs.inner.Named.{named_list};
+ghost use Rattle.wm_read.specs.inner.Named.{named_list, named_of};
 ghost use Rattle.wm_read.specs.inner.Views.{Reads};
 
 use crate::code::operands::{close, named_type, no_type, open, val_type, word};
@@ -12,19 +13,61 @@ use crate::code::type_uses::begins_group;
 use crate::faults::TextFault;
 use crate::tokens::lexeme::{Lexeme, next_token};
 use crate::tokens::literals::is_id;
-use std::alloc::Global;
+use std::alloc::{AllocError, Global};
 use wm_syntax::types::ValType;
 
-/// A parameter or a local: its identifier, if it has one, and its type.
+/// A run of parameters or of locals: one with an identifier, or some of one type with none.
 #[derive(Clone, Copy, Debug)]
-pub struct Named<'a> {
-    pub id: Option<&'a [u8]>,
-    pub ty: ValType,
+pub enum NamedRun<'a> {
+    One(&'a [u8], ValType),
+    Unnamed(u32, ValType),
+}
+
+impl<'a> NamedRun<'a> {
+    /// How many items it is, and their type.
+    #[tactic(auto, using(crate::proofs::NamedGroups::types_of_run))]
+    pub fn count_and_type(self) -> (u32, ValType)
+        ensures { types_of (named_of self.entry) ≡ replicate result.0 result.1 }
+    {
+        match self {
+            NamedRun::One(_, ty) => (1, ty),
+            NamedRun::Unnamed(count, ty) => (count, ty),
+        }
+    }
+
+    // It with one item of this type more, where it has none but those without an identifier
+    fn longer(self, ty: ValType) -> Option<NamedRun<'a>>
+        ensures { IfSome result (λ run. named_of run ≡ named_of self.entry ++ (None, ty) ∷ []) }
+    {
+        let NamedRun::Unnamed(count, of) = self else {
+            return None;
+        };
+        if of != ty {
+            return None;
+        }
+        Some(NamedRun::Unnamed(count.checked_add(1)?, of))
+    }
+}
+
+/// Adds an item with no identifier: it lengthens the last run, where that has its type.
+#[tactic(auto, using(crate::proofs::NamedGroups::push_laws))]
+fn push_unnamed(runs: &mut Vec<NamedRun>, ty: ValType) -> Result<(), AllocError>
+    ensures { OnOk result (named_list runs.new.items ≡ named_list runs.old.items ++ (None, ty) ∷ []) }
+{
+    if let Some(last) = runs.pop() {
+        if let Some(run) = last.longer(ty) {
+            runs.push(run)?;
+            return Ok(());
+        }
+        runs.push(last)?;
+    }
+    runs.push(NamedRun::Unnamed(1, ty))?;
+    Ok(())
 }
 
 /// Adds items with no identifiers, up to what is no atom.
 #[tactic(auto, using(crate::proofs::NamedGroups::unnamed_laws))]
-fn unnamed<'a>(named: &mut Vec<Named<'a>>, text: &'a [u8]) -> Result<&'a [u8], TextFault>
+fn unnamed<'a>(named: &mut Vec<NamedRun<'a>>, text: &'a [u8]) -> Result<&'a [u8], TextFault>
     ensures { Reads (λ r. (named_list named.new.items, lexed r.now)) result
         (uses.adding_named (named_list named.old.items)
         (reading.made uses.unnamed (uses.types_at (lexed text.now)))) }
@@ -34,7 +77,7 @@ fn unnamed<'a>(named: &mut Vec<Named<'a>>, text: &'a [u8]) -> Result<&'a [u8], T
         match next_token(rest) {
             Some((Lexeme::Atom(atom), more)) => match named_type(atom) {
                 Some(ty) => {
-                    named.push(Named { id: None, ty })?;
+                    push_unnamed(named, ty)?;
                     rest = more;
                 }
                 None => return Err(no_type(atom, rest)),
@@ -46,7 +89,7 @@ fn unnamed<'a>(named: &mut Vec<Named<'a>>, text: &'a [u8]) -> Result<&'a [u8], T
 
 /// Adds what stands between a group's word and its closing parenthesis: an identifier and its type, or types.
 #[tactic(auto, using(crate::proofs::NamedGroups::inside_laws))]
-fn inside<'a>(named: &mut Vec<Named<'a>>, text: &'a [u8]) -> Result<&'a [u8], TextFault>
+fn inside<'a>(named: &mut Vec<NamedRun<'a>>, text: &'a [u8]) -> Result<&'a [u8], TextFault>
     ensures { Reads (λ r. (named_list named.new.items, lexed r.now)) result
         (uses.adding_named (named_list named.old.items) (uses.inside_at (lexed text.now))) }
 {
@@ -54,7 +97,7 @@ fn inside<'a>(named: &mut Vec<Named<'a>>, text: &'a [u8]) -> Result<&'a [u8], Te
         Some((Lexeme::Atom(atom), rest)) => {
             if is_id(atom) {
                 let (ty, rest) = val_type(rest)?;
-                named.push(Named { id: Some(atom), ty })?;
+                named.push(NamedRun::One(atom, ty))?;
                 Ok(rest)
             } else {
                 unnamed(named, text)
@@ -66,7 +109,11 @@ fn inside<'a>(named: &mut Vec<Named<'a>>, text: &'a [u8]) -> Result<&'a [u8], Te
 
 /// Adds what one group holds.
 #[tactic(auto, using(crate::proofs::NamedGroups::group_none))]
-fn group<'a>(named: &mut Vec<Named<'a>>, name: &[u8], text: &'a [u8]) -> Result<&'a [u8], TextFault>
+fn group<'a>(
+    named: &mut Vec<NamedRun<'a>>,
+    name: &[u8],
+    text: &'a [u8],
+) -> Result<&'a [u8], TextFault>
     ensures { Reads (λ r. (named_list named.new.items, lexed r.now)) result
         (uses.adding_named (named_list named.old.items)
         (reading.paren_at name.now uses.inside_at (lexed text.now))) }
@@ -84,7 +131,7 @@ pub fn groups<'a>(
     alloc: Global,
     name: &[u8],
     text: &'a [u8],
-) -> Result<(Vec<Named<'a>>, &'a [u8]), TextFault>
+) -> Result<(Vec<NamedRun<'a>>, &'a [u8]), TextFault>
     ensures { Reads (λ x. (named_list x.0.items, lexed x.1.now)) result
         (uses.named_at name.now (lexed text.now)) }
 {

@@ -1,6 +1,6 @@
 //! Type uses of functions and imports (section 6.6.3), whose parameters may have identifiers.
 
-ghost use Rattle.std.specs.Prelude.{◌≡◌, IfOk};
+ghost use Rattle.std.specs.Prelude.{◌≡◌, ◌++◌, IfOk, OnOk, replicate};
 ghost use Rattle.std.specs.Option.{option_map};
 ghost use Rattle.wm_read.specs.Written as written;
 ghost use Rattle.wm_read.specs.exact.NamedUses as uses;
@@ -10,7 +10,7 @@ ghost use Rattle.wm_read.specs.inner.Named.{named_list, params_of};
 ghost use Rattle.wm_read.specs.inner.Views.{IsRefusal, Reads};
 
 use crate::code::named;
-use crate::code::named::Named;
+use crate::code::named::NamedRun;
 use crate::code::type_uses::{
     begins_group, fits, groups, no_form, nothing, refuse_index, type_at, type_index,
 };
@@ -23,7 +23,7 @@ use wm_syntax::types::{FuncType, ValType};
 #[derive(Debug, Drop)]
 pub enum Params<'n, 'a> {
     OfType(&'n [ValType]),
-    Written(Vec<Named<'a>>),
+    Written(Vec<NamedRun<'a>>),
 }
 
 /// A type use: the index of the type, and as many parameters as the type has, with the
@@ -34,14 +34,26 @@ pub struct NamedUse<'n, 'a> {
     pub params: Params<'n, 'a>,
 }
 
+/// Adds so many times this type.
+#[tactic(auto, using(crate::proofs::NamedUses::times_laws))]
+fn push_times(types: &mut Vec<ValType>, count: u32, ty: ValType) -> Result<(), AllocError>
+    ensures { OnOk result (types.new.items ≡ types.old.items ++ replicate count ty) }
+{
+    for _ in 0..count {
+        types.push(ty)?;
+    }
+    Ok(())
+}
+
 /// The types of parameters.
 #[tactic(auto, using(crate::proofs::NamedUses::types_laws))]
-pub(crate) fn types_of(alloc: Global, params: &[Named]) -> Result<Vec<ValType>, AllocError>
+pub(crate) fn types_of(alloc: Global, params: &[NamedRun]) -> Result<Vec<ValType>, AllocError>
     ensures { IfOk result (λ ts. ts.items ≡ written.types_of (named_list params.now)) }
 {
     let mut types = Vec::new(alloc);
-    for param in params {
-        types.push(param.ty)?;
+    for run in params {
+        let (count, ty) = run.count_and_type();
+        push_times(&mut types, count, ty)?;
     }
     Ok(types)
 }
@@ -52,7 +64,7 @@ pub(crate) fn types_of(alloc: Global, params: &[Named]) -> Result<Vec<ValType>, 
 fn used<'n, 'a>(
     alloc: Global,
     ty: &'n FuncType,
-    params: Vec<Named<'a>>,
+    params: Vec<NamedRun<'a>>,
     results: &[ValType],
 ) -> Result<Option<Params<'n, 'a>>, AllocError>
     ensures { IfOk result (λ o. option_map params_of o

@@ -11,27 +11,37 @@ use std::collections::BTreeMap;
 use std::marker::Model;
 use wm_syntax::types::{FuncType, ValType};
 
-/// The identifiers of an index space, in the order of its items.
+/// An item with an identifier, behind so many with none.
+#[derive(Clone, Copy, Debug)]
+pub struct Identified<'a> {
+    before: usize,
+    id: &'a [u8],
+}
+
+/// The identifiers of an index space, in the order of its items. Items with none take no memory.
 #[derive(Debug, Drop)]
 pub struct Space<'a> {
-    /// How many items with no identifiers come first.
+    /// How many items there are.
+    count: usize,
+    /// Those with an identifier.
+    identified: Vec<Identified<'a>>,
+    /// How many with none come after them.
     unnamed: usize,
-    /// The identifiers of those after them.
-    ids: Vec<Option<&'a [u8]>>,
     /// The first place of each identifier.
     places: BTreeMap<&'a [u8], usize>,
 }
 
 impl<'a> Model for Space<'a> {
     ghost use Rattle.wm_read.specs.Identifiers.{Ids};
-    ghost use Rattle.std.specs.Prelude.{◌<◌, ◌^◌};
-    ghost use Rattle.wm_read.specs.inner.Ids.{HasPlaces, behind};
+    ghost use Rattle.std.specs.Prelude.{◌≡◌, length};
+    ghost use Rattle.wm_read.specs.inner.Ids.{HasPlaces, spaced};
 
     ghost Value = { Ids };
 
-    ghost view = { λ s. behind s.unnamed s.ids.items };
+    ghost view = { λ s. spaced s.identified.items s.unnamed };
 
-    ghost invariant = { λ s. HasPlaces s.places (behind s.unnamed s.ids.items) × (s.unnamed < 2 ^ 63) };
+    ghost invariant = { λ s. HasPlaces s.places (spaced s.identified.items s.unnamed)
+        × (s.count ≡ length (spaced s.identified.items s.unnamed)) };
 }
 
 impl<'a> Space<'a> {
@@ -40,8 +50,9 @@ impl<'a> Space<'a> {
         ensures { result ≡ [] }
     {
         Space {
+            count: 0,
+            identified: Vec::new(alloc),
             unnamed: 0,
-            ids: Vec::new(alloc),
             places: BTreeMap::new(alloc),
         }
     }
@@ -52,26 +63,61 @@ impl<'a> Space<'a> {
         ensures { result ≡ replicate (length types.now) None }
     {
         Space {
+            count: types.len(),
+            identified: Vec::new(alloc),
             unnamed: types.len(),
-            ids: Vec::new(alloc),
             places: BTreeMap::new(alloc),
         }
     }
 
+    /// So many items more, with no identifiers, in constant time. An error adds nothing.
+    #[tactic(auto, using(crate::proofs::Spaces::unnamed_laws))]
+    pub fn push_unnamed(&mut self, count: u32) -> Result<(), AllocError>
+        ensures added { OnOk result (self.new ≡ self.old ++ replicate count None) }
+        ensures unchanged { OnErr result (self.new ≡ self.old) }
+    {
+        let more = count as usize;
+        let Some(total) = self.count.checked_add(more) else {
+            return Err(AllocError);
+        };
+        self.count = total;
+        self.unnamed += more;
+        Ok(())
+    }
+
+    /// One item more, with this identifier. An error adds nothing.
+    #[tactic(auto, using(crate::proofs::Spaces::identified_laws))]
+    fn push_id(&mut self, id: &'a [u8]) -> Result<(), AllocError>
+        ensures added { OnOk result (self.new ≡ self.old ++ Some id.now ∷ []) }
+        ensures unchanged { OnErr result (self.new ≡ self.old) }
+    {
+        let at = self.count;
+        let before = self.unnamed;
+        let Some(total) = at.checked_add(1) else {
+            return Err(AllocError);
+        };
+        self.identified.push(Identified { before, id })?;
+        match define(&mut self.places, id, at) {
+            Ok(()) => {
+                self.unnamed = 0;
+                self.count = total;
+                Ok(())
+            }
+            Err(fault) => {
+                let _taken = self.identified.pop();
+                Err(fault)
+            }
+        }
+    }
+
     /// One item more, with its identifier or with none. An error adds nothing.
-    #[tactic(auto, using(crate::proofs::Spaces::behind_pushed))]
     pub fn push(&mut self, id: Option<&'a [u8]>) -> Result<(), AllocError>
         ensures added { OnOk result (self.new ≡ self.old ++ id_of id.entry ∷ []) }
         ensures unchanged { OnErr result (self.new ≡ self.old) }
     {
-        let at = self.unnamed + self.ids.len();
-        self.ids.push(id)?;
-        match define(&mut self.places, id, at) {
-            Ok(()) => Ok(()),
-            Err(fault) => {
-                let _taken = self.ids.pop();
-                Err(fault)
-            }
+        match id {
+            Some(id) => self.push_id(id),
+            None => self.push_unnamed(1),
         }
     }
 
@@ -86,17 +132,15 @@ impl<'a> Space<'a> {
 /// Notes the place of an identifier that has none. An error notes nothing.
 fn define<'a>(
     places: &mut BTreeMap<&'a [u8], usize>,
-    id: Option<&'a [u8]>,
+    id: &'a [u8],
     at: usize,
 ) -> Result<(), AllocError>
     ensures noted { OnOk result ((name : List ℕ)
-        → place_in places.new name ≡ defined (place_in places.old name) (id_of id.entry) at name) }
+        → place_in places.new name ≡ defined (place_in places.old name) (Some id.now) at name) }
     ensures unchanged { OnErr result ((name : List ℕ) → place_in places.new name ≡ place_in places.old name) }
 {
-    if let Some(name) = id {
-        if places.get(name).is_none() {
-            places.insert(name, at)?;
-        }
+    if places.get(id).is_none() {
+        places.insert(id, at)?;
     }
     Ok(())
 }
