@@ -4,31 +4,40 @@ ghost use Rattle.std.specs.Prelude.{◌≡◌, [], OnErr};
 ghost use Rattle.wm_decode.specs.Sinks.{Taken};
 ghost use Rattle.wm_rules.specs.exact.Checking.{names_with};
 ghost use Rattle.wm_rules.specs.Kept.{capped_count, name_entries};
-ghost use Rattle.wm_rules.specs.exact.Names.{bytes_of};
+ghost use Rattle.wm_rules.specs.exact.Names.{AreHashed, bytes_of, hash_of as hash_of_bytes};
 
 use std::alloc::Global;
 use std::collections::BTreeSet;
 use std::marker::Model;
 use wm_syntax::why::Why;
 
-// A set in the order of the bytes: a stranger chooses the names, and could make those of a hash set collide.
+// A name and its hash, in the order of the hashes. So two numbers mostly tell two names apart.
+#[derive(Debug, Drop, PartialEq, Eq, PartialOrd, Ord)]
+struct HashedName {
+    hash: u64,
+    name: Vec<u8>,
+}
+
+// A tree and no hash table: a stranger chooses the names. Where they all have one hash, their bytes are
+// compared, and still as few names as the tree is deep.
 #[derive(Debug, Drop)]
 pub(crate) struct ExportNames {
     alloc: Global,
-    names: BTreeSet<Vec<u8>>,
+    names: BTreeSet<HashedName>,
     kept: u64,
 }
 
 impl Model for ExportNames {
     ghost use Rattle.std.specs.Prelude.{◌≡◌, ℕ, List};
     ghost use Rattle.wm_rules.specs.Kept.{capped_count, name_entries};
-    ghost use Rattle.wm_rules.specs.exact.Names.{bytes_of};
+    ghost use Rattle.wm_rules.specs.exact.Names.{AreHashed, bytes_of};
 
     ghost Value = { List (List ℕ) };
 
     ghost view = { λ n. bytes_of n.names };
 
-    ghost invariant = { λ n. n.kept ≡ capped_count (name_entries (bytes_of n.names)) };
+    ghost invariant = { λ n. (n.kept ≡ capped_count (name_entries (bytes_of n.names)))
+        × AreHashed n.names.keys };
 }
 
 impl ExportNames {
@@ -62,18 +71,35 @@ impl ExportNames {
     }
 }
 
-fn put(alloc: Global, names: &mut BTreeSet<Vec<u8>>, name: &[u8]) -> Result<(), Why>
+fn put(alloc: Global, names: &mut BTreeSet<HashedName>, name: &[u8]) -> Result<(), Why>
+    requires { AreHashed names.old.keys }
     ensures taken { Taken (names_with name.now (bytes_of names.old)) result (bytes_of names.new) }
     ensures err { OnErr result (bytes_of names.new ≡ bytes_of names.old) }
+    ensures hashed { AreHashed names.new.keys }
 {
     let Ok(owned) = Vec::from_slice(alloc, name) else {
         return Err(Why::Memory);
     };
-    match names.insert(owned) {
+    let hashed = HashedName {
+        hash: hash_of(name),
+        name: owned,
+    };
+    match names.insert(hashed) {
         Ok(true) => Ok(()),
         Ok(false) => Err(Why::DuplicateExport),
         Err(_) => Err(Why::Memory),
     }
+}
+
+// FNV-1a in 64 bits. Any function of the bytes would serve.
+fn hash_of(name: &[u8]) -> u64
+    ensures { result ≡ hash_of_bytes name.now }
+{
+    let mut hash: u64 = 0xCBF2_9CE4_8422_2325;
+    for byte in name {
+        hash = (hash ^ u64::from(*byte)).wrapping_mul(0x100_0000_01B3);
+    }
+    hash
 }
 
 #[cfg(test)]
@@ -87,7 +113,7 @@ mod tests {
         let exports = ExportNames::new(rt.alloc());
         let ExportNames { alloc, names, kept } = &exports;
         is::<Global>(alloc);
-        is::<BTreeSet<Vec<u8>>>(names);
+        is::<BTreeSet<HashedName>>(names);
         is_copy(kept);
     }
 }

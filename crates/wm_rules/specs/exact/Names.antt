@@ -1,7 +1,23 @@
--- The names that a set has, as lists of their bytes.
-use Rattle.std.specs.Prelude.{ℕ, List, Vec, map}
+-- The names that a set has, each beside its hash, as lists of their bytes in order.
+use Rattle.std.specs.Prelude.{ℕ, ◌≡◌, ◌*◌, ◌%◌, ◌^◌, List, [], ◌∷◌, map}
+use Rattle.std.specs.List.{fold}
+use lib.Bits.{bit_xor}
 use Rattle.std.specs.BTreeSet.{BTreeSet}
-use Rattle.std.specs.declared.alloc.Global.{Global}
+use Rattle.wm_rules.specs.declared.export_names.HashedName.{HashedName}
+use Rattle.wm_rules.specs.exact.Checking.{put_name}
 
-abbrev pub bytes_of : BTreeSet (Vec ℕ Global) → List (List ℕ)
-bytes_of names = map (λ name. name.items) names.keys
+unfoldable pub hash_of : List ℕ → ℕ
+hash_of name = fold (λ h b. (bit_xor h b * 1099511628211) % 2 ^ 64) 14695981039346656037 name
+
+-- each hash is that of its name
+abbrev pub AreHashed : List HashedName → Type 0
+AreHashed [] = Unit {0}
+AreHashed (k ∷ ks) = (k.hash ≡ hash_of k.name.items) × AreHashed ks
+
+-- the names in their order
+abbrev pub in_order : List (List ℕ) → List (List ℕ)
+in_order [] = []
+in_order (name ∷ names) = put_name name (in_order names)
+
+abbrev pub bytes_of : BTreeSet HashedName → List (List ℕ)
+bytes_of names = in_order (map (λ k. k.name.items) names.keys)
