@@ -232,7 +232,7 @@ def path_of(parts):
 
 
 def has_own_copy(crate, place, name):
-    """Whether a function's copy can stand beside it: it is none of a trait, does not call itself, and no proof by hand or other file names it."""
+    """Whether a function's copy can stand beside it: it is none of a trait, does not call itself, and has no proof by hand."""
     _, text, one = place
     heads = [it for it in text[: one.begin].split("\n") if it.startswith(("impl", "trait"))] if one.indent else []
     calls = rf"\b[sS]elf(?:\.|::){one.name}\b" if one.indent else rf"(?<![.\w:]){one.name}\("
