@@ -3,7 +3,7 @@
 
 `rt ci` proves a crate three times: plain, with its tests, and again before its first must-fail edit. Here the three
 share one folder of this run's own, which begins empty. So each module is proved once, and what is refused by `rt ci` is
-refused here. Edits are first tried all at once, each in a copy of its function. The built wmod is run with each of its growths
+refused here. Where a file of edits turns some meanings, each is tried by itself. They are first tried all at once, each in a copy of its function. The built wmod is run with each of its growths
 refused in turn (growths.py), and on a million blocks (deep.py). At last the calls for C are made beside it (c_calls.py),
 and what is installed is tried (packages.py). It also says what each crate cost.
 
@@ -11,6 +11,7 @@ and what is installed is tried (packages.py). It also says what each crate cost.
     .ci/gate.py --keep FOLDER    the same over what an earlier run kept in FOLDER: for one's own work, and no verdict
 """
 import collections
+import glob
 import importlib.machinery
 import importlib.util
 import os
@@ -25,6 +26,7 @@ sys.dont_write_bytecode = True
 import c_calls
 import deep
 import growths
+import meanings
 import packages
 
 RT = os.path.join(os.path.dirname(subprocess.run(["rt", "doc"], capture_output=True, text=True, check=True).stdout.strip()), "bin/rt")
@@ -43,6 +45,8 @@ ROOM = tempfile.TemporaryDirectory(prefix="gate-")
 KEPT = os.path.abspath(sys.argv[2]) if sys.argv[1:2] == ["--keep"] and len(sys.argv) == 3 else ROOM.name
 TIMES = f"{ROOM.name}/times"
 BEGAN = time.time()
+# the edits that were tried
+TRIED = []
 
 # Runs a command and notes what it cost. What no other crate waits for gives way to proofs.
 TIMED = """
@@ -144,21 +148,6 @@ def function_at(text, place):
     return None
 
 
-def pairs_of(edit):
-    """The file, the old and the new text of each pair of an edit."""
-    path, old, pairs = "", "", []
-    with open(edit, encoding="utf-8") as it:
-        lines = it.read().split("\n")
-    for line in lines:
-        if line.startswith("file: "):
-            path = line[6:].strip()
-        elif line.startswith("old: "):
-            old = line[5:]
-        elif line.startswith("new:"):
-            pairs.append((path, old, line[4:].removeprefix(" ")))
-    return pairs
-
-
 def place_of(crate, pairs):
     """The file and the one function of src/ in whose body all pairs of an edit lie, if there is one."""
     path = pairs[0][0] if pairs else ""
@@ -173,20 +162,17 @@ def place_of(crate, pairs):
     return None if found or not one else (path, text, one)
 
 
-def names_in(crate, place, proved):
-    """Of the names of all proved functions those that the function of this place may have."""
+def name_of(crate, place, proved):
+    """The prover's name of the function of this place, if it is one of these: it has that of its module, and a method that of the module which declares its type."""
     path, text, one = place
     module = re.sub(r"(^|::)(lib|main|mod)$", "", path[len("src/") : -len(".rt")].replace("/", "::"))
-    front = "::".join(it for it in (crate.name, module) if it)
-    named = [rf"{front}::(?:\w+::)*{one.name}", *method_of(crate, text[: one.begin], one.name)]
-    return [it for it in proved if re.fullmatch("|".join(named), it)]
-
-
-def method_of(crate, before, name):
-    """The prover's name of a method whose type another module declares: that module's, and not its file's. What stands before it in its file tells the type."""
-    of = re.findall(r"(?m)^(?:impl(?:<.*?>)? (\w+)(?:<.*>)? |})", before)
-    use = of and of[-1] and re.search(rf"(?m)^use crate::((?:\w+::)+){of[-1]};$", before)
-    return [f"{crate.name}::{use[1]}{of[-1]}::{name}"] if use else []
+    name = "::".join(it for it in (crate.name, module, one.name) if it)
+    if one.indent:
+        # (the last line before it that begins or ends a block at the left edge)
+        of = re.findall(r"(?m)^(?:impl(?:<.*?>)? (\w+)(?:<.*>)? |})", text[: one.begin])
+        name = rf"{crate.name}::(?:\w+::)*{of[-1] if of else ''}::{one.name}"
+    found = [it for it in proved if re.fullmatch(name, it)]
+    return found[0] if len(found) == 1 else None
 
 
 def only(names):
@@ -235,7 +221,7 @@ def has_own_copy(crate, place, name):
     """Whether a function's copy can stand beside it: it is none of a trait, does not call itself, and has no proof by hand."""
     _, text, one = place
     heads = [it for it in text[: one.begin].split("\n") if it.startswith(("impl", "trait"))] if one.indent else []
-    calls = rf"\b[sS]elf(?:\.|::){one.name}\b" if one.indent else rf"(?<![.\w:]){one.name}\("
+    calls = rf"\bself\.{one.name}\(|\bSelf::{one.name}\b" if one.indent else rf"(?<![.\w:]){one.name}\("
     parts = name.split("::")
     return (
         not (heads and (" for " in heads[-1] or heads[-1].startswith("trait")))
@@ -249,12 +235,13 @@ def copied(crate, edits, proved):
     proof of their own a copy of each as it is."""
     found, plain = {}, {}
     for edit in edits:
-        pairs = pairs_of(edit)
+        with open(edit, encoding="utf-8") as it:
+            pairs = meanings.pairs_of(it.read())
         place = place_of(crate, pairs)
-        names = names_in(crate, place, proved) if place else []
-        if len(names) == 1 and has_own_copy(crate, place, names[0]):
-            found[edit] = names[0], Copy(crate, place, names[0], pairs, len(found))
-            plain[names[0]] = Copy(crate, place, names[0], [], f"{len(found)}_plain")
+        name = place and name_of(crate, place, proved)
+        if name and has_own_copy(crate, place, name):
+            found[edit] = name, Copy(crate, place, name, pairs, len(found))
+            plain[name] = Copy(crate, place, name, [], f"{len(found)}_plain")
     return found, {name: it for name, it in plain.items() if it.proofs}
 
 
@@ -297,7 +284,29 @@ def tried_in_copies(crate, found, plain, flags, kept):
 
 
 def must_fail_all(crate, edits, _):
-    """What each edit came to, and what to say of it: first in copies, then each that was not refused so in its place. Where the crate as it stands is not
+    """What each edit's file came to, and what to say of it. Each meaning that it turns is tried by itself, and each has to be refused."""
+    with tempfile.TemporaryDirectory(prefix="gate-meanings-") as room:
+        parts = {edit: [written(f"{room}/{at}", name, text) for name, text in meanings.of(edit).items()] for at, edit in enumerate(edits)}
+        tries = dict(tried_alone(crate, [it for part in parts.values() for it in part]))
+    TRIED.extend(tries)
+    return [together([tries[it] for it in part]) for part in parts.values()]
+
+
+def written(folder, name, text):
+    os.makedirs(folder, exist_ok=True)
+    with open(f"{folder}/{name}.edit", "w", encoding="utf-8") as it:
+        it.write(text)
+    return it.name
+
+
+def together(tries):
+    """The worst of what the meanings of one file came to, and what is said of each."""
+    worst = max(tries, key=lambda it: (it[0] != REFUSED) + (it[0] not in SETTLED))
+    return worst[0], "\n".join(it[1] for it in tries)
+
+
+def tried_alone(crate, edits):
+    """Each edit with what it came to: first in copies, then each that was not refused so in its place. Where the crate as it stands is not
     proved over the kept work, before or after, each is tried from nothing."""
     if not edits:
         return []
@@ -316,7 +325,7 @@ def must_fail_all(crate, edits, _):
     results = [tried(it) for it in edits]
     words = only(name for name, _ in found.values())
     is_sound = not ran.returncode and not check_a_copy(crate, {}, [*flags, *words], kept).returncode
-    return [it if is_sound and it[0] in SETTLED else from_nothing(crate, edit, flags) for edit, it in zip(edits, results)]
+    return [(edit, it if is_sound and it[0] in SETTLED else from_nothing(crate, edit, flags)) for edit, it in zip(edits, results)]
 
 
 def add_edits(tasks, crate, edits, first, waits, is_well, kept):
@@ -391,12 +400,15 @@ def print_costs():
     for crate in dict.fromkeys(it for it, _ in costs):
         minutes = "".join(f"{costs[crate, part]:8.1f}" for part in ("proof", "tests", "edits"))
         print(f"{crate:20}{minutes}{most[crate] / 2**20:7.1f}")
+    print(f"{len(TRIED)} meanings were turned, each by itself")
     print(f"{sum(costs.values()):.0f} processor minutes in {(time.time() - BEGAN) / 60:.0f} minutes", flush=True)
 
 
 def main():
     if KEPT == ROOM.name and len(sys.argv) > 1:
         sys.exit(__doc__)
+    for it in glob.glob("crates/*/must-fail/*.edit"):
+        meanings.of(it)
     status = rt.main(["ci"])
     built = "crates/wm_c/out/libwm_c.a", "crates/wm_cli/out/wm_cli"
     if not status and os.path.isdir("crates/wm_c") and not all([c_calls.is_well(*built), packages.is_well(*built)]):

@@ -11,6 +11,7 @@ import tempfile
 sys.dont_write_bytecode = True
 import deep
 import growths
+import meanings
 
 # answers `valid` to all, with one growth; a text is told `module`
 STAND_IN = """
@@ -67,9 +68,9 @@ ROWS = ["check H 01 01 00 01 01", "show H"]
 SEEDS = {
     None: ["refused at 12: SectionOrder", "text:\n(module)\n"],
     # a refusal is forgotten
-    "wm_rules/must-fail/loader_forgets_a_refusal.edit": ["differs in small pieces", "text:\n(module)\n"],
+    "wm_rules/loader_forgets_a_refusal": ["differs in small pieces", "text:\n(module)\n"],
     # a cut loses bytes
-    "wm_rules/must-fail/validator_forgets_a_piece.edit": ["the validator and the loader differ"] * 2,
+    "wm_rules/validator_forgets_a_piece": ["the validator and the loader differ"] * 2,
 }
 
 # an edit that the prover refuses, and whether this test of wm_cli then names a row (`rt try` may be too slow for all of them)
@@ -77,10 +78,10 @@ NAMED = re.compile(r"test tests::readers_and_writers_that_fail \.\.\. FAILED\n  
 ENDS = {
     None: False,
     # a source is read on after a refusal
-    "wm_rules/must-fail/read_after_a_refusal.edit": True,
+    "wm_rules/read_after_a_refusal": True,
     # a writer's fault is swallowed, or told with a wrong count
-    "wm_write/must-fail/failed_print_ends_well.edit": True,
-    "wm_write/must-fail/fault_counts_nothing.edit": True,
+    "wm_write/failed_print_ends_well": True,
+    "wm_write/fault_counts_nothing": True,
 }
 
 
@@ -110,9 +111,8 @@ def answers_with(room, edit):
 
 def make(crates, edit):
     """Makes an edit of one pair in this copy of the crates."""
-    crate = edit.split("/")[0]
-    with open(f"{crates}/{edit}", encoding="utf-8") as it:
-        path, old, new = (line.partition(": ")[2] for line in it.read().splitlines())
+    crate, name = edit.split("/")
+    [(path, old, new)] = meanings.pairs_of(meanings.named(f"{crates}/{crate}", name))
     with open(f"{crates}/{crate}/{path}", encoding="utf-8") as it:
         text = it.read()
     with open(f"{crates}/{crate}/{path}", "w", encoding="utf-8") as it:
