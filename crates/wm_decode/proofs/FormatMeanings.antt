@@ -1,5 +1,5 @@
 -- What the names of the format say of the bytes up to the place of a refusal.
-use Rattle.std.proofs.Common.{◌≡◌, ◌≢◌, ℕ, zero, suc, ◌+◌, ◌<◌, ◌≤◌, ◌⊎◌, inl, inr, List, [], ◌∷◌, ◌++◌, Option, Some, None, Result, Ok, Err, length, take, refl, sym, ◌∙◌, ap, subst, arith, append_assoc, append-nil, length-append, nat_eq, nat_lt, nat_le}
+use Rattle.std.proofs.Common.{◌≡◌, ◌≢◌, ℕ, zero, suc, ◌+◌, ◌<◌, ◌≤◌, ◌^◌, ◌⊎◌, inl, inr, List, [], ◌∷◌, ◌++◌, Option, Some, None, Result, Ok, Err, length, take, refl, sym, ◌∙◌, ap, subst, arith, append_assoc, append-nil, length-append, nat_eq, nat_lt, nat_le}
 use Rattle.std.proofs.lemmas.Bool.{cond_both, ltb-true, ltb-false, leb-true, eqb-false}
 use Rattle.std.specs.Prelude.{slice_index}
 use Rattle.std.specs.Str.{is_utf8}
@@ -30,12 +30,14 @@ use Rattle.wm_decode.specs.Sections.{header}
 use Rattle.wm_decode.specs.Sinks.{and_then, all_taken}
 use Rattle.wm_decode.specs.exact.Members.{id_of, section_kind_of}
 use Rattle.wm_decode.specs.exact.MemberSteps.{on_number, member_step}
-use Rattle.wm_decode.specs.exact.Runs.{name_item, plain_item, marks, MachineState, state_at_start}
+use Rattle.wm_decode.specs.exact.Runs.{name_item, plain_item, marks, MachineState, state_after, state_at_start}
 use Rattle.wm_decode.specs.exact.Steps.{begun_section, machine_if_rising, section_start, header_step, custom_step, custom_after_length, step_of}
 use Rattle.wm_decode.specs.exact.Live.{effect_of_maybe, name_taken, event_effect, Live, live_or_refused, live_from, live_byte, decoder_after, live_at_start, answer_at_end_of, answer_at_end, IsRefused}
 use Rattle.wm_decode.specs.inner.Decoders.{answer_of}
-use Rattle.wm_decode.specs.Meanings.{RawSection, WrongInHeader, WrongId, IsUnknown, IsLate, HasFrom, EndsInSection, Means, Meaning, IsRuleName, GivesRuleNames}
+use Rattle.wm_decode.specs.Meanings.{RawSection, WrongInHeader, WrongId, IsUnknown, IsLate, HasFrom, EndsInSection, Wanted, WrongByte, IsNoInstruction, IsFloat, IsOtherByte, Means, Meaning, IsRuleName, GivesRuleNames}
 use Rattle.wm_decode.proofs.ByteLists.{front_bytes}
+use Rattle.wm_decode.proofs.WrongBytes.{Found, Says as SaysOfByte}
+use Rattle.wm_decode.proofs.WrongMembers.{InInput, byte_says}
 use Rattle.wm_decode.proofs.OpSound.{HasRoom, last_byte}
 use Rattle.wm_decode.proofs.OpenMembers.{zeros, zeros_length}
 use Rattle.wm_decode.proofs.MemberFloats.{IsMemberName, member_name}
@@ -43,6 +45,10 @@ use Rattle.wm_decode.proofs.AfterTheHeader.{IsInSection, IsLive, step_in}
 use Rattle.wm_decode.proofs.MachineStates.{Fits, run_fits, IsNamed, component_named}
 use Rattle.wm_decode.proofs.MachineAndSink.{given_taken, used_of, Used, reached, state_of, begin_fits}
 use Rattle.wm_decode.proofs.FramedBytes.{Past, AtSize, InContents, Framed, run_framed}
+
+pub last_is_byte : (b : List ℕ) (c : ℕ) → AreBytes (b ++ c ∷ []) → c < 2 ^ 8
+last_is_byte [] c h = h.0
+last_is_byte (d ∷ b) c h = last_is_byte b c h.1
 
 -- what the machine says where it refuses a byte, which is the last of these
 abbrev pub MachineSays : List ℕ → Why → Type 0
@@ -194,7 +200,7 @@ header_says n c b low e =
 section_says : (p : Profile) (m : Machine) (c : ℕ) (used : List ℕ) → IsInSection m → Says used (step_of p m c).0
 section_says p m c used i =
     step_in (Says used) (lives used) (by_name used why.SectionEnd tt) (by_name used why.BadNumber tt) (by_name used why.CodeCount tt) p m c i
-    (λ q w e. by_name used w (custom_says used c q w e)) (λ q w e. by_name used w (member_says used p c q w e))
+    (λ q w e. by_name used w (custom_says used c q w e)) (λ of functions more left q w s e. by_name used w (member_says used p c q w e))
 
 pub step_says : (p : Profile) (m : Machine) (c : ℕ) (b : List ℕ) → (IsRefused m → ⊥) → Framed m b → Says (b ++ c ∷ []) (step_of p m c).0
 step_says p (machine.Header n) c b live f = header_says n c b f.0 f.1
@@ -207,23 +213,33 @@ step_says p (machine.Count of functions more r) c b live f = section_says p (mac
 step_says p (machine.Section of functions more left q) c b live f = section_says p (machine.Section of functions more left q) c (b ++ c ∷ []) tt
 
 -- the names that a sink gives are none of these
-by_rule : (limit : ℕ) (used rest : List ℕ) (w : Why) → IsRuleName w → Means limit used rest w
-by_rule limit used rest why.Magic i = absurd i
-by_rule limit used rest why.Version i = absurd i
-by_rule limit used rest why.SectionId i = absurd i
-by_rule limit used rest why.SectionOrder i = absurd i
-by_rule limit used rest why.Truncated i = absurd i
-by_rule limit used rest why.TooLong i = absurd i
-by_rule limit used rest w i = tt
+by_rule : (p : Profile) (limit : ℕ) (used rest : List ℕ) (w : Why) → IsRuleName w → Means p limit used rest w
+by_rule p limit used rest why.Magic i = absurd i
+by_rule p limit used rest why.Version i = absurd i
+by_rule p limit used rest why.SectionId i = absurd i
+by_rule p limit used rest why.SectionOrder i = absurd i
+by_rule p limit used rest why.Truncated i = absurd i
+by_rule p limit used rest why.TooLong i = absurd i
+by_rule p limit used rest why.BadOpcode i = absurd i
+by_rule p limit used rest why.Float i = absurd i
+by_rule p limit used rest why.BadByte i = absurd i
+by_rule p limit used rest w i = tt
 
-by_machine : (limit : ℕ) (used rest : List ℕ) (w : Why) → MachineSays used w → Means limit used rest w
-by_machine limit used rest why.Magic h = h
-by_machine limit used rest why.Version h = h
-by_machine limit used rest why.SectionId h = h
-by_machine limit used rest why.SectionOrder h = h
-by_machine limit used rest why.Truncated h = absurd h
-by_machine limit used rest why.TooLong h = absurd h
-by_machine limit used rest w h = tt
+-- what is found of the last byte
+found : (p : Profile) (b : List ℕ) (a : AreBytes b) (c : ℕ) (IsWrong : Wanted → ℕ → Type 0) → Found (InInput p b a c) IsWrong c → WrongByte p IsWrong (b ++ c ∷ [])
+found p b a c IsWrong s = record { before = b; byte = c; whole = refl; wanted = s.0; place = s.1.0; none = s.1.1; wrong = s.2 }
+
+by_machine : (p : Profile) (limit : ℕ) (b rest : List ℕ) (a : AreBytes b) (c : ℕ) (w : Why) → MachineSays (b ++ c ∷ []) w → SaysOfByte (InInput p b a c) c w → Means p limit (b ++ c ∷ []) rest w
+by_machine p limit b rest a c why.Magic h s = h
+by_machine p limit b rest a c why.Version h s = h
+by_machine p limit b rest a c why.SectionId h s = h
+by_machine p limit b rest a c why.SectionOrder h s = h
+by_machine p limit b rest a c why.Truncated h s = absurd h
+by_machine p limit b rest a c why.TooLong h s = absurd h
+by_machine p limit b rest a c why.BadOpcode h s = found p b a c IsNoInstruction s
+by_machine p limit b rest a c why.Float h s = found p b a c IsFloat s
+by_machine p limit b rest a c why.BadByte h s = found p b a c IsOtherByte s
+by_machine p limit b rest a c w h s = tt
 
 zeros_some : (n : ℕ) → zeros (suc n) ≡ [] → ⊥
 zeros_some n e = let l : length (zeros (suc n)) ≡ 0 = ap length e in omega (arith, l, zeros_length (suc n))
@@ -337,12 +353,13 @@ module _ {H : Type 0} (after : H → Item → Result H Why) (s : Setting H) (nam
       (items_at said, sym (given_taken after said s.first) ∙ q.held)
 
   -- whatever comes after these bytes
-  pub on_byte : (b more : List ℕ) (r : Refusal) → AreBytes b → Decoded b ≡ Err r → Meaning s.limit (b ++ more) r
+  pub on_byte : (b more : List ℕ) (r : Refusal) → AreBytes b → Decoded b ≡ Err r → Meaning s.profile s.limit (b ++ more) r
   on_byte b more r bytes e =
       let low : Starts.at ≤ s.limit = omega arith in
       let u = used_of after s.profile s.limit b Starts r low e in
       let used : List ℕ = u.used ++ u.byte ∷ [] in
-      let so_far : AreBytes u.used = front_bytes u.used (u.byte ∷ []) (front_bytes used u.rest (subst AreBytes u.bytes bytes)) in
+      let all : AreBytes used = front_bytes used u.rest (subst AreBytes u.bytes bytes) in
+      let so_far : AreBytes u.used = front_bytes u.used (u.byte ∷ []) all in
       let q = reached after s.profile s.limit u.used Starts u.before u.taken in
       let place : r.at ≡ length used = omega (arith, u.at) in
       record {
@@ -350,23 +367,26 @@ module _ {H : Type 0} (after : H → Item → Result H Why) (s : Setting H) (nam
         rest = u.rest ++ more;
         whole = ap (λ y. y ++ more) u.bytes ∙ append_assoc used u.rest more;
         at = place;
-        means = go u used place (q.live (λ i. i)) (framed u.used u.before so_far u.taken) (held_so u.used u.before u.taken) (cause after s.profile s.limit u.before u.byte r u.refused);
+        means = go u so_far (last_is_byte u.used u.byte all) place (ap (λ (m : MachineState). m.machine) q.state) (q.live (λ i. i)) (framed u.used u.before so_far u.taken) (held_so u.used u.before u.taken) (cause after s.profile s.limit u.before u.byte r u.refused);
       }
     where
-      go : (u : Used after s.profile s.limit Starts b r) (used : List ℕ) → r.at ≡ length (u.used ++ u.byte ∷ []) → (IsRefused u.before.machine → ⊥) → Framed u.before.machine u.used
-          → ((parts : List Item) × (all_taken after s.first parts ≡ Ok u.before.held)) → Cause after s.profile s.limit u.before u.byte r → Means s.limit (u.used ++ u.byte ∷ []) (u.rest ++ more) r.why
-      go u used place live f parts (too_long at w) = subst (λ y. Means s.limit (u.used ++ u.byte ∷ []) (u.rest ++ more) y) (sym w) (sym place ∙ at)
-      go u used place live f parts (by_text w) = subst (λ y. Means s.limit (u.used ++ u.byte ∷ []) (u.rest ++ more) y) (sym w) tt
-      go u used place live f parts (by_step m) = by_machine s.limit (u.used ++ u.byte ∷ []) (u.rest ++ more) r.why (step_says s.profile u.before.machine u.byte u.used live f r.why m)
-      go u used place live f parts (by_item x e) = by_rule s.limit (u.used ++ u.byte ∷ []) (u.rest ++ more) r.why (names parts.0 u.before.held x r.why parts.1 e)
+      go : (u : Used after s.profile s.limit Starts b r) → AreBytes u.used → u.byte < 2 ^ 8 → r.at ≡ length (u.used ++ u.byte ∷ []) → u.before.machine ≡ (state_after s.profile state_at_start u.used).machine
+          → (IsRefused u.before.machine → ⊥) → Framed u.before.machine u.used → ((parts : List Item) × (all_taken after s.first parts ≡ Ok u.before.held)) → Cause after s.profile s.limit u.before u.byte r
+          → Means s.profile s.limit (u.used ++ u.byte ∷ []) (u.rest ++ more) r.why
+      go u bytes byte place same live f parts (too_long at w) = subst (λ y. Means s.profile s.limit (u.used ++ u.byte ∷ []) (u.rest ++ more) y) (sym w) (sym place ∙ at)
+      go u bytes byte place same live f parts (by_text w) = subst (λ y. Means s.profile s.limit (u.used ++ u.byte ∷ []) (u.rest ++ more) y) (sym w) tt
+      go u bytes byte place same live f parts (by_step m) =
+          by_machine s.profile s.limit u.used (u.rest ++ more) bytes u.byte r.why (step_says s.profile u.before.machine u.byte u.used live f r.why m)
+          (byte_says s.profile u.used bytes u.byte byte u.before.machine same live r.why m)
+      go u bytes byte place same live f parts (by_item x e) = by_rule s.profile s.limit (u.used ++ u.byte ∷ []) (u.rest ++ more) r.why (names parts.0 u.before.held x r.why parts.1 e)
 
-  at_end : (m : Machine) (h : H) (at : ℕ) (b : List ℕ) (r : Refusal) → (IsRefused m → ⊥) → Fits m → Framed m b → answer_at_end_of m h at ≡ Err r → Means s.limit b [] r.why
+  at_end : (m : Machine) (h : H) (at : ℕ) (b : List ℕ) (r : Refusal) → (IsRefused m → ⊥) → Fits m → Framed m b → answer_at_end_of m h at ≡ Err r → Means s.profile s.limit b [] r.why
   at_end m h at b r live fit f e = go m live fit f e
     where
-      named : (w : Why) → record { at = at; why = w } ≡ r → Means s.limit b [] w → Means s.limit b [] r.why
-      named w is x = subst (λ y. Means s.limit b [] y) (ap (λ (y : Refusal). y.why) is) x
+      named : (w : Why) → record { at = at; why = w } ≡ r → Means s.profile s.limit b [] w → Means s.profile s.limit b [] r.why
+      named w is x = subst (λ y. Means s.profile s.limit b [] y) (ap (λ (y : Refusal). y.why) is) x
 
-      go : (m : Machine) → (IsRefused m → ⊥) → Fits m → Framed m b → answer_at_end_of m h at ≡ Err r → Means s.limit b [] r.why
+      go : (m : Machine) → (IsRefused m → ⊥) → Fits m → Framed m b → answer_at_end_of m h at ≡ Err r → Means s.profile s.limit b [] r.why
       go (machine.Refused w) live fit f e = absurd (live tt)
       go (machine.Between last zero) live fit f e = absurd (cc)
       go (machine.Between last (suc n)) live fit f e = named why.CodeCount (cc (e)) tt
@@ -392,11 +412,11 @@ module _ {H : Type 0} (after : H → Item → Result H Why) (s : Setting H) (nam
       go m e = its why.Truncated (cc (e))
 
   -- the answer to a whole input
-  pub whole_input : (input : List ℕ) (r : Refusal) → AreBytes input → answer_of after s input ≡ Err r → Meaning s.limit input r
+  pub whole_input : (input : List ℕ) (r : Refusal) → AreBytes input → answer_of after s input ≡ Err r → Meaning s.profile s.limit input r
   whole_input input r bytes e = go (Decoded input) refl e
     where
-      go : (x : Result (Live H) Refusal) → Decoded input ≡ x → and_then x answer_at_end ≡ Err r → Meaning s.limit input r
-      go (Err t) is e = let same : t ≡ r = cc (e) in subst (λ y. Meaning s.limit y r) (append-nil input) (on_byte input [] r bytes (is ∙ ap Err same))
+      go : (x : Result (Live H) Refusal) → Decoded input ≡ x → and_then x answer_at_end ≡ Err r → Meaning s.profile s.limit input r
+      go (Err t) is e = let same : t ≡ r = cc (e) in subst (λ y. Meaning s.profile s.limit y r) (append-nil input) (on_byte input [] r bytes (is ∙ ap Err same))
       go (Ok l) is e =
           let q = reached after s.profile s.limit input Starts l is in
           record {
