@@ -1,5 +1,5 @@
 -- What the names of the format say of the bytes up to the place of a refusal.
-use Rattle.std.proofs.Common.{◌≡◌, ◌≢◌, ℕ, zero, suc, ◌+◌, ◌<◌, ◌≤◌, ◌^◌, ◌⊎◌, inl, inr, List, [], ◌∷◌, ◌++◌, Option, Some, None, Result, Ok, Err, length, take, refl, sym, ◌∙◌, ap, subst, arith, append_assoc, append-nil, length-append, nat_eq, nat_lt, nat_le}
+use Rattle.std.proofs.Common.{◌≡◌, ◌≢◌, ℕ, zero, suc, ◌+◌, ◌<◌, ◌≤◌, ◌^◌, ◌⊎◌, inl, inr, List, [], ◌∷◌, ◌++◌, Option, Some, None, Result, Ok, Err, false, length, take, refl, sym, ◌∙◌, ap, subst, arith, append_assoc, append-nil, length-append, nat_eq, nat_lt, nat_le}
 use Rattle.std.proofs.lemmas.Bool.{cond_both, ltb-true, ltb-false, leb-true, eqb-false}
 use Rattle.std.specs.Prelude.{slice_index}
 use Rattle.std.specs.Str.{is_utf8}
@@ -38,6 +38,7 @@ use Rattle.wm_decode.specs.Meanings.{RawSection, WrongInHeader, WrongId, IsUnkno
 use Rattle.wm_decode.proofs.ByteLists.{front_bytes}
 use Rattle.wm_decode.proofs.WrongBytes.{Found, Says as SaysOfByte}
 use Rattle.wm_decode.proofs.WrongMembers.{InInput, byte_says}
+use Rattle.wm_decode.proofs.BadNames.{bad_name}
 use Rattle.wm_decode.proofs.OpSound.{HasRoom, last_byte}
 use Rattle.wm_decode.proofs.OpenMembers.{zeros, zeros_length}
 use Rattle.wm_decode.proofs.MemberFloats.{IsMemberName, member_name}
@@ -57,7 +58,6 @@ MachineSays used why.Version = WrongInHeader 4 8 used
 MachineSays used why.SectionId = WrongId IsUnknown used
 MachineSays used why.SectionOrder = WrongId IsLate used
 MachineSays used why.CodeCount = Unit {0}
-MachineSays used why.BadUtf8 = Unit {0}
 MachineSays used w = IsMemberName w
 
 header_length : (n : ℕ) → n < 8 → length (take n header) ≡ n
@@ -114,7 +114,6 @@ module _ (used : List ℕ) where
   of_member why.SectionId i = absurd i
   of_member why.SectionOrder i = absurd i
   of_member why.CodeCount i = tt
-  of_member why.BadUtf8 i = tt
   of_member w i = i
 
   is_name : (w : Why) → (IsMemberName w) ⊎ (IsMemberName w → ⊥)
@@ -223,6 +222,7 @@ by_rule p limit used rest why.TooLong i = absurd i
 by_rule p limit used rest why.BadOpcode i = absurd i
 by_rule p limit used rest why.Float i = absurd i
 by_rule p limit used rest why.BadByte i = absurd i
+by_rule p limit used rest why.BadUtf8 i = absurd i
 by_rule p limit used rest w i = tt
 
 -- what is found of the last byte
@@ -239,6 +239,7 @@ by_machine p limit b rest a c why.TooLong h s = absurd h
 by_machine p limit b rest a c why.BadOpcode h s = found p b a c IsNoInstruction s
 by_machine p limit b rest a c why.Float h s = found p b a c IsFloat s
 by_machine p limit b rest a c why.BadByte h s = found p b a c IsOtherByte s
+by_machine p limit b rest a c why.BadUtf8 h s = absurd h
 by_machine p limit b rest a c w h s = tt
 
 zeros_some : (n : ℕ) → zeros (suc n) ≡ [] → ⊥
@@ -280,37 +281,45 @@ cut_contents last id more b h =
       section = (id ∷ [], (h.size ++ h.contents) ++ rest, refl, refl, (h.size, h.contents ++ rest, append_assoc h.size h.contents rest, subst (λ n. SpellsU32 n h.size) same h.number, refl));
     }
 
+-- a name ends with this event, and is not UTF-8
+abbrev BadText : Event → List ℕ → Type 0
+BadText e text = (kind : NameKind) × (e ≡ event.EndsName kind) × (is_utf8 text ≡ false)
+
 module _ {H : Type 0} (after : H → Item → Result H Why) (p : Profile) (limit : ℕ) where
   -- why a byte was refused
   data Cause (l : Live H) (c : ℕ) (r : Refusal) : Type 0 where
     too_long : r.at ≡ limit + 1 → r.why ≡ why.TooLong → Cause l c r
     by_step : (step_of p l.machine c).0 ≡ machine.Refused r.why → Cause l c r
-    by_text : r.why ≡ why.BadUtf8 → Cause l c r
+    by_text : BadText (step_of p l.machine c).1 (l.name ++ c ∷ []) → r.why ≡ why.BadUtf8 → Cause l c r
     by_item : (x : Item) → after l.held x ≡ Err r.why → Cause l c r
 
-  abbrev Effects : H → Why → Type 0
-  Effects h w = (w ≡ why.BadUtf8) ⊎ ((x : Item) × (after h x ≡ Err w))
+  abbrev Effects : Type 0 → H → Why → Type 0
+  Effects T h w = (T × (w ≡ why.BadUtf8)) ⊎ ((x : Item) × (after h x ≡ Err w))
 
   then_err : {B : Type 0} (r : Result H Why) (f : H → B) (w : Why) → and_then r (λ g. Ok (f g)) ≡ Err w → r ≡ Err w
   then_err (Ok x) f w e = absurd (cc)
   then_err (Err v) f w e = let same : v ≡ w = cc in ap Err same
 
-  maybe_err : (x : Option Item) (h : H) (w : Why) → effect_of_maybe after x h ≡ Err w → Effects h w
-  maybe_err None h w e = absurd (cc)
-  maybe_err (Some x) h w e = inr (x, e)
+  maybe_err : (T : Type 0) (x : Option Item) (h : H) (w : Why) → effect_of_maybe after x h ≡ Err w → Effects T h w
+  maybe_err T None h w e = absurd (cc)
+  maybe_err T (Some x) h w e = inr (x, e)
 
-  name_err : (kind : NameKind) (text : List ℕ) (h : H) (w : Why) → name_taken after kind text h ≡ Err w → Effects h w
-  name_err kind text h w = cond_both (is_utf8 text) _ _ (λ (r : Result H Why). r ≡ Err w → Effects h w)
-      (λ _ e. maybe_err (name_item kind text) h w e)
-      (λ _ e. inl (let same : why.BadUtf8 ≡ w = cc in sym same))
+  name_err : (kind : NameKind) (text : List ℕ) (h : H) (w : Why) → name_taken after kind text h ≡ Err w → Effects (is_utf8 text ≡ false) h w
+  name_err kind text h w = cond_both (is_utf8 text) _ _ (λ (r : Result H Why). r ≡ Err w → Effects (is_utf8 text ≡ false) h w)
+      (λ _ e. maybe_err (is_utf8 text ≡ false) (name_item kind text) h w e)
+      (λ no e. inl (no, (let same : why.BadUtf8 ≡ w = cc in sym same)))
 
-  effect_err : (e : Event) (name : List ℕ) (c : ℕ) (h : H) (w : Why) → event_effect after e name c h ≡ Err w → Effects h w
+  of_name : (kind : NameKind) (text : List ℕ) (h : H) (w : Why) → Effects (is_utf8 text ≡ false) h w → Effects (BadText (event.EndsName kind) text) h w
+  of_name kind text h w (inl x) = inl ((kind, refl, x.0), x.1)
+  of_name kind text h w (inr x) = inr x
+
+  effect_err : (e : Event) (name : List ℕ) (c : ℕ) (h : H) (w : Why) → event_effect after e name c h ≡ Err w → Effects (BadText e (name ++ c ∷ [])) h w
   effect_err event.Nothing name c h w i = absurd (cc)
   effect_err (event.Complete q) name c h w i = inr (plain_item q, then_err (after h (plain_item q)) (λ g. ([], g)) w i)
   effect_err event.DataByte name c h w i = inr (data_byte c, then_err (after h (data_byte c)) (λ g. ([], g)) w i)
   effect_err event.InName name c h w i = absurd (cc)
-  effect_err (event.EndsName kind) name c h w i = name_err kind (name ++ c ∷ []) h w (then_err (name_taken after kind (name ++ c ∷ []) h) (λ g. ([], g)) w i)
-  effect_err (event.EmptyName kind) name c h w i = maybe_err (name_item kind []) h w (then_err (effect_of_maybe after (name_item kind []) h) (λ g. ([], g)) w i)
+  effect_err (event.EndsName kind) name c h w i = of_name kind (name ++ c ∷ []) h w (name_err kind (name ++ c ∷ []) h w (then_err (name_taken after kind (name ++ c ∷ []) h) (λ g. ([], g)) w i))
+  effect_err (event.EmptyName kind) name c h w i = maybe_err (BadText (event.EmptyName kind) (name ++ c ∷ [])) (name_item kind []) h w (then_err (effect_of_maybe after (name_item kind []) h) (λ g. ([], g)) w i)
 
   stands_err : (m : Machine) (name : List ℕ) (h : H) (at : ℕ) (r : Refusal) → live_or_refused m name h at ≡ Err r → m ≡ machine.Refused r.why
   stands_err (machine.Refused w) name h at r e = let s : record { at = at; why = w } ≡ r = cc in ap (λ (y : Refusal). machine.Refused y.why) s
@@ -324,7 +333,7 @@ module _ {H : Type 0} (after : H → Item → Result H Why) (p : Profile) (limit
   cause l c r = cond_both (nat_lt l.at limit) _ _ (λ (q : Result (Live H) Refusal). q ≡ Err r → Cause l c r)
       (λ _ e. elim (from_err (step_of p l.machine c).0 (l.at + 1) (event_effect after (step_of p l.machine c).1 l.name c l.held) r e) [
         | inl m ↦ by_step m
-        | inr g ↦ elim (effect_err (step_of p l.machine c).1 l.name c l.held r.why g) [ inl b ↦ by_text b | inr x ↦ by_item x.0 x.1 ]
+        | inr g ↦ elim (effect_err (step_of p l.machine c).1 l.name c l.held r.why g) [ inl b ↦ by_text b.0 b.1 | inr x ↦ by_item x.0 x.1 ]
       ])
       (λ _ e. let s : record { at = limit + 1; why = why.TooLong } ≡ r = cc in too_long (sym (ap (λ (y : Refusal). y.at) s)) (sym (ap (λ (y : Refusal). y.why) s)))
 
@@ -367,17 +376,18 @@ module _ {H : Type 0} (after : H → Item → Result H Why) (s : Setting H) (nam
         rest = u.rest ++ more;
         whole = ap (λ y. y ++ more) u.bytes ∙ append_assoc used u.rest more;
         at = place;
-        means = go u so_far (last_is_byte u.used u.byte all) place (ap (λ (m : MachineState). m.machine) q.state) (q.live (λ i. i)) (framed u.used u.before so_far u.taken) (held_so u.used u.before u.taken) (cause after s.profile s.limit u.before u.byte r u.refused);
+        means = go u so_far (last_is_byte u.used u.byte all) place q.state (q.live (λ i. i)) (framed u.used u.before so_far u.taken) (held_so u.used u.before u.taken) (cause after s.profile s.limit u.before u.byte r u.refused);
       }
     where
-      go : (u : Used after s.profile s.limit Starts b r) → AreBytes u.used → u.byte < 2 ^ 8 → r.at ≡ length (u.used ++ u.byte ∷ []) → u.before.machine ≡ (state_after s.profile state_at_start u.used).machine
+      go : (u : Used after s.profile s.limit Starts b r) → AreBytes u.used → u.byte < 2 ^ 8 → r.at ≡ length (u.used ++ u.byte ∷ []) → state_of after s.profile s.limit u.before ≡ state_after s.profile state_at_start u.used
           → (IsRefused u.before.machine → ⊥) → Framed u.before.machine u.used → ((parts : List Item) × (all_taken after s.first parts ≡ Ok u.before.held)) → Cause after s.profile s.limit u.before u.byte r
           → Means s.profile s.limit (u.used ++ u.byte ∷ []) (u.rest ++ more) r.why
       go u bytes byte place same live f parts (too_long at w) = subst (λ y. Means s.profile s.limit (u.used ++ u.byte ∷ []) (u.rest ++ more) y) (sym w) (sym place ∙ at)
-      go u bytes byte place same live f parts (by_text w) = subst (λ y. Means s.profile s.limit (u.used ++ u.byte ∷ []) (u.rest ++ more) y) (sym w) tt
+      go u bytes byte place same live f parts (by_text t w) =
+          subst (λ y. Means s.profile s.limit (u.used ++ u.byte ∷ []) (u.rest ++ more) y) (sym w) (bad_name s.profile u.used bytes u.byte u.before.machine u.before.name t.0 (sym same) t.1 t.2)
       go u bytes byte place same live f parts (by_step m) =
           by_machine s.profile s.limit u.used (u.rest ++ more) bytes u.byte r.why (step_says s.profile u.before.machine u.byte u.used live f r.why m)
-          (byte_says s.profile u.used bytes u.byte byte u.before.machine same live r.why m)
+          (byte_says s.profile u.used bytes u.byte byte u.before.machine (ap (λ (m : MachineState). m.machine) same) live r.why m)
       go u bytes byte place same live f parts (by_item x e) = by_rule s.profile s.limit (u.used ++ u.byte ∷ []) (u.rest ++ more) r.why (names parts.0 u.before.held x r.why parts.1 e)
 
   at_end : (m : Machine) (h : H) (at : ℕ) (b : List ℕ) (r : Refusal) → (IsRefused m → ⊥) → Fits m → Framed m b → answer_at_end_of m h at ≡ Err r → Means s.profile s.limit b [] r.why

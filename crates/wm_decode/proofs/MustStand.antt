@@ -1,6 +1,6 @@
 -- Where something must stand, each such thing has a value or a part that goes on from it, and each value or part begins with
 -- one.
-use Rattle.std.proofs.Common.{◌≡◌, ℕ, inl, inr, Bool, true, false, List, [], ◌∷◌, ◌++◌, Option, Some, None, refl, sym, ◌∙◌, ap, subst, append_assoc, append-nil}
+use Rattle.std.proofs.Common.{◌≡◌, ℕ, length, ◌-◌, inl, inr, Bool, true, false, List, [], ◌∷◌, ◌++◌, Option, Some, None, refl, sym, ◌∙◌, ap, subst, append_assoc, append-nil}
 use Rattle.wm_syntax.specs.Spelling.{Form, Byte as OneByte}
 use Rattle.wm_syntax.specs.Types.{SpellsValType, SpellsLimits, SpellsBounds, SpellsVar}
 use Rattle.wm_syntax.specs.OpClasses.{first_byte}
@@ -27,7 +27,7 @@ use Rattle.wm_decode.specs.declared.step.values.InExportDesc.TheVariants as targ
 use Rattle.wm_decode.specs.declared.step.values.InRun.TheVariants as run
 use Rattle.wm_decode.specs.exact.OpSteps.{block_op}
 use Rattle.wm_decode.specs.Items.{Item, Marks}
-use Rattle.wm_decode.specs.MarkedForms.{MarkedForm, Byte, Then, Leaf, Sized, Entry, entry_marks, marks_ending, outside_mark}
+use Rattle.wm_decode.specs.MarkedForms.{MarkedForm, Byte, Then, Leaf, Sized, Filled, Entry, entry_marks, marks_ending, outside_mark}
 use Rattle.wm_decode.specs.Sections.{SpellsDesc, kind_byte}
 use Rattle.wm_decode.specs.Grammar.{loose, strict}
 use Rattle.wm_decode.specs.Meanings.{spelled, an_instruction, a_value_type, a_block_type, a_function_type, an_element_type, a_flag, a_kind, a_zero}
@@ -36,7 +36,7 @@ use Rattle.wm_decode.proofs.OpRest.{op_rest, rest_good, Closed}
 use Rattle.wm_decode.proofs.ValueBytes.{limits_rest, table_rest, global_rest, desc_rest, target_rest, run_rest}
 use Rattle.wm_decode.proofs.ExpressionRest.{ExpressionRest}
 use Rattle.wm_decode.proofs.ExpressionSound.{some_after}
-use Rattle.wm_decode.proofs.OpenMembers.{Comes, zero_u32, zero_limits}
+use Rattle.wm_decode.proofs.OpenMembers.{Comes, zero_u32, zero_limits, zeros, zeros_length, zeros_bytes}
 
 -- of values
 pub record ValuesBegin {X : Type 0} (W : Form ℕ) (V : X → Form ℕ) : Type 0 where
@@ -89,6 +89,15 @@ module _ (W : Form ℕ) where
   entry_begins L S v = record {
     can = λ b w. let h = v.can b w in (h.0, entry_marks h.1, record { inner = h.1; marks = refl; contents = h.2 });
     must = λ b k h. v.must b h.inner h.contents;
+  }
+
+  pub filled_begins : (n : ℕ) (L S : MarkedForm) → PartsBegin W L S → PartsBegin W (Filled loose n L) (Filled strict n S)
+  filled_begins n L S v = record {
+    can = λ b w.
+        let h = v.can b w in
+        let back : List ℕ = zeros (n - length (b ++ h.0)) in
+        (h.0 ++ back, h.1 ++ marks_ending None back, record { front = b ++ h.0; back = back; front_marks = h.1; bytes = sym (append_assoc b h.0 back); marks = refl; first = h.2; fits = λ d. absurd d; size = zeros_length (n - length (b ++ h.0)); are_bytes = zeros_bytes (n - length (b ++ h.0)) });
+    must = λ b k h. first_of h.front h.back b h.bytes (v.must h.front h.front_marks h.first);
   }
 
   -- an op, and what follows it in an expression

@@ -233,7 +233,7 @@ module _ (p : Profile) where
   a_desc : Comes (Leaf SpellsDesc import_desc)
   a_desc = some_leaf SpellsDesc import_desc (some_desc import.Kind tt)
 
-  after_name : (of : NameKind) → Comes (AfterName loose p of)
+  pub after_name : (of : NameKind) → Comes (AfterName loose p of)
   after_name name.ImportModule = some_then (Name loose (name_item name.ImportName)) (Leaf SpellsDesc import_desc) (some_name (name_item name.ImportName)) a_desc
   after_name name.ImportName = a_desc
   after_name name.Export = some_leaf (target_rest target.Kind) (λ t. export t.0 t.1) (some_target target.Kind tt)

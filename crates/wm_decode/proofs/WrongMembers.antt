@@ -7,7 +7,7 @@ use Rattle.wm_syntax.specs.declared.numbers.Step.{Step}
 use Rattle.wm_syntax.specs.declared.numbers.Step.TheVariants as step
 use Rattle.wm_syntax.specs.inner.Numbers.{Partial}
 use Rattle.wm_syntax.specs.exact.Reading.{fresh, unsigned_push}
-use Rattle.wm_syntax.specs.Spelling.{AreBytes}
+use Rattle.wm_syntax.specs.Spelling.{Form, AreBytes}
 use Rattle.wm_syntax.specs.Types.{SpellsValType}
 use Rattle.wm_syntax.specs.declared.why.Why.{Why}
 use Rattle.wm_syntax.specs.declared.why.Why.TheVariants as why
@@ -67,6 +67,17 @@ use Rattle.wm_decode.proofs.AfterTheHeader.{IsLive, step_at}
 use Rattle.wm_decode.proofs.ItemFronts.{StandsIn, StandsAt, StandsEntry, op_stands, label_stands, param_stands, result_stands, name_stands, functions_stand, data_stand, index_stands, over_stands, runs_stand}
 use Rattle.wm_decode.proofs.MustStand.{PartsBegin, leaf_begins, then_begins, sized_begins, entry_begins, led_begins, type_begins, form_begins}
 use Rattle.wm_decode.proofs.WrongBytes.{Says, says_map, as_named, type_says, At, run_says, value_says, global_says, op_says, none_begins, no_type_begins}
+
+-- what must stand in a member must stand in its section
+pub section_begins : (p : Profile) (W : Form ℕ) (of : SectionKind) (functions more left : ℕ) (q : InMember) (y : List ℕ) → PartsBegin W (ComponentRest loose p q y) (ComponentRest strict p q y)
+    → PartsBegin W (MachineRest loose p (machine.Section of functions more left q) y) (MachineRest strict p (machine.Section of functions more left q) y)
+section_begins p W of functions more left q y v =
+    let Q : Type 0 → MarkedForm = λ d. Times left (OneOf d p of) in
+    let t : Comes (Q loose) = some_times left (OneOf loose p of) (some_one p of) in
+    let L : MarkedForm = Within loose p of left q y in
+    let S : MarkedForm = Within strict p of left q y in
+    then_begins W (Sized loose (suc more) L) (Sized strict (suc more) S) (Later loose p (id_of of) functions) (Later strict p (id_of of) functions)
+    (sized_begins W (suc more) L S (then_begins W (ComponentRest loose p q y) (ComponentRest strict p q y) (Q loose) (Q strict) v t)) (some_later p (id_of of) functions)
 
 -- such a thing must stand here, and none begins with the byte
 abbrev pub Here : Profile → ℕ → MarkedForm → MarkedForm → Wanted → Type 0
@@ -299,15 +310,7 @@ module _ (p : Profile) (c : ℕ) (byte : c < 2 ^ 8) where
 
   section_says : (of : SectionKind) (functions more left : ℕ) (q : InMember) (y : List ℕ) (w : Why) → (member_step p q c).0 ≡ at.Failed w → Says (InMachine (machine.Section of functions more left q) y) c w
   section_says of functions more left q y w e =
-      let Q : Type 0 → MarkedForm = λ d. Times left (OneOf d p of) in
-      let t : Comes (Q loose) = some_times left (OneOf loose p of) (some_one p of) in
-      let L : MarkedForm = Within loose p of left q y in
-      let S : MarkedForm = Within strict p of left q y in
-      says_map (InMembers q y) (InMachine (machine.Section of functions more left q) y) c
-      (λ x h.
-      let inner : PartsBegin (spelled p x) L S = then_begins (spelled p x) (ComponentRest loose p q y) (ComponentRest strict p q y) (Q loose) (Q strict) h.0 t in
-      (then_begins (spelled p x) (Sized loose (suc more) L) (Sized strict (suc more) S) (Later loose p (id_of of) functions) (Later strict p (id_of of) functions) (sized_begins (spelled p x) (suc more) L S inner) (some_later p (id_of of) functions), h.1)) w
-      (member_says q y w e)
+      says_map (InMembers q y) (InMachine (machine.Section of functions more left q) y) c (λ x h. (section_begins p (spelled p x) of functions more left q y h.0, h.1)) w (member_says q y w e)
 
 -- elsewhere it is refused by other names
 custom_says : (S : Why → Type 0) → S why.BadNumber → S why.SectionEnd → (c : ℕ) (q : InCustom) (w : Why) → (custom_step q c).0 ≡ custom.Failed w → S w
@@ -363,8 +366,8 @@ module _ (p : Profile) (b : List ℕ) (bytes : AreBytes b) where
   abbrev Now : MachineState
   Now = state_after p state_at_start b
 
-  must_stand : (x : Wanted) → PartsBegin (spelled p x) (MachineRest loose p Now.machine Now.name) (MachineRest strict p Now.machine Now.name) → MustStand p x b
-  must_stand x v = record {
+  pub must_stand : (W : Form ℕ) → PartsBegin W (MachineRest loose p Now.machine Now.name) (MachineRest strict p Now.machine Now.name) → MustStand p W b
+  must_stand W v = record {
     can = λ y s.
         let h = v.can y s in
         let k : Marks = marks p state_at_start b ++ h.1 in
@@ -377,7 +380,7 @@ module _ (p : Profile) (b : List ℕ) (bytes : AreBytes b) where
 
   -- such a thing must stand after these bytes, and none begins with the byte
   abbrev pub InInput : ℕ → Wanted → Type 0
-  InInput c x = MustStand p x b × ((more : List ℕ) → spelled p x (c ∷ more) → ⊥)
+  InInput c x = MustStand p (spelled p x) b × ((more : List ℕ) → spelled p x (c ∷ more) → ⊥)
 
   pub byte_says : (c : ℕ) → c < 2 ^ 8 → (m : Machine) → m ≡ Now.machine → (IsRefused m → ⊥) → (w : Why) → (step_of p m c).0 ≡ machine.Refused w → Says (InInput c) c w
   byte_says c byte (machine.Header n) is live = header_says (Says (InInput c) c) tt tt n c
@@ -388,5 +391,5 @@ module _ (p : Profile) (b : List ℕ) (bytes : AreBytes b) where
       (λ q w e. by_name S w (custom_says S tt tt c q w e))
       (λ of functions more left q w i e. by_name S w
       (says_map (InMachine p c byte (machine.Section of functions more left q) Now.name) (InInput c) c
-      (λ x h. (must_stand x (subst (λ z. PartsBegin (spelled p x) (MachineRest loose p z Now.name) (MachineRest strict p z Now.name)) (sym i ∙ is) h.0), h.1)) w
+      (λ x h. (must_stand (spelled p x) (subst (λ z. PartsBegin (spelled p x) (MachineRest loose p z Now.name) (MachineRest strict p z Now.name)) (sym i ∙ is) h.0), h.1)) w
       (section_says p c byte of functions more left q Now.name w e)))

@@ -1,7 +1,7 @@
 -- What the name of a refusal says of the bytes up to its place. The last of them decided, or the input ends
 -- there.
 use Rattle.std.specs.Prelude.{◌≡◌, ◌≢◌, ℕ, ◌+◌, ◌<◌, ◌≤◌, ◌⊎◌, List, [], ◌∷◌, ◌++◌, length, take, slice_index, Some}
-use Rattle.std.specs.Prelude.{Result, Ok, Err, Option, IsTrue}
+use Rattle.std.specs.Prelude.{Result, Ok, Err, Option, IsTrue, IsUtf8}
 use Rattle.wm_syntax.specs.declared.why.Why.{Why}
 use Rattle.wm_syntax.specs.declared.why.Why.TheVariants as why
 use Rattle.wm_syntax.specs.declared.types.ValType.{ValType}
@@ -116,12 +116,12 @@ spelled p a_flag b = (Byte 0x00 ∣ Byte 0x01) b
 spelled p a_kind b = (k : ExportKind) × Byte (kind_byte k) b
 spelled p a_zero b = Byte 0x00 b
 
--- After these bytes such a thing must stand. Each one can, sizes, names and the number of code entries aside;
--- and in each whole input that begins with these bytes one does.
-pub record MustStand (p : Profile) (wanted : Wanted) (before : List ℕ) : Type 0 where
-  pub can : (b : List ℕ) → spelled p wanted b → (k : Marks) × IsFront p (before ++ b) k
+-- After these bytes something of this form must stand. Each such thing can, sizes, names and the number of
+-- code entries aside; and in each whole input that begins with these bytes one does.
+pub record MustStand (p : Profile) (IsThere : Form ℕ) (before : List ℕ) : Type 0 where
+  pub can : (b : List ℕ) → IsThere b → (k : Marks) × IsFront p (before ++ b) k
   pub must : (more : List ℕ) (k : Marks) → Items p (before ++ more) k
-      → (b rest : List ℕ) × (more ≡ b ++ rest) × spelled p wanted b
+      → (b rest : List ℕ) × (more ≡ b ++ rest) × IsThere b
 
 -- The last byte is wrong where it stands: such a thing must stand there, and none begins with the byte.
 pub record WrongByte (p : Profile) (IsWrong : Wanted → ℕ → Type 0) (used : List ℕ) : Type 0 where
@@ -129,7 +129,7 @@ pub record WrongByte (p : Profile) (IsWrong : Wanted → ℕ → Type 0) (used :
   pub byte : ℕ
   pub whole : used ≡ before ++ byte ∷ []
   pub wanted : Wanted
-  pub place : MustStand p wanted before
+  pub place : MustStand p (spelled p wanted) before
   pub none : (more : List ℕ) → spelled p wanted (byte ∷ more) → ⊥
   pub wrong : IsWrong wanted byte
 
@@ -156,9 +156,17 @@ IsOtherByte a_value_type c = IsFloatType c → ⊥
 IsOtherByte a_block_type c = IsFloatType c → ⊥
 IsOtherByte _ c = Unit {0}
 
--- What a name says of the bytes that were used, and of those behind them. Nine names have a line of their
--- own. Of the others nothing is said: of further names of the format (SectionEnd, BadNumber and so on), of
--- those of a checker of rules (Index, Mismatch and so on) or of a policy, and of Memory.
+-- BadUtf8: so many bytes of a name must stand there, and these are not UTF-8 (section 5.2.4).
+pub record BadName (p : Profile) (used : List ℕ) : Type 0 where
+  pub before : List ℕ
+  pub text : List ℕ
+  pub whole : used ≡ before ++ text
+  pub place : MustStand p (λ b. (length b ≡ length text) × IsUtf8 b) before
+  pub bad : IsUtf8 text → ⊥
+
+-- What a name says of the bytes that were used, and of those behind them. Ten names have a line of their own.
+-- Of the others nothing is said: of further names of the format (SectionEnd, BadNumber and so on), of those
+-- of a checker of rules (Index, Mismatch and so on) or of a policy, and of Memory.
 abbrev pub Means : Profile → ℕ → List ℕ → List ℕ → Why → Type 0
 Means p limit used rest why.Magic = WrongInHeader 0 4 used
 Means p limit used rest why.Version = WrongInHeader 4 8 used
@@ -169,6 +177,7 @@ Means p limit used rest why.TooLong = length used ≡ limit + 1
 Means p limit used rest why.BadOpcode = WrongByte p IsNoInstruction used
 Means p limit used rest why.Float = WrongByte p IsFloat used
 Means p limit used rest why.BadByte = WrongByte p IsOtherByte used
+Means p limit used rest why.BadUtf8 = BadName p used
 Means p limit used rest w = Unit {0}
 
 -- A refusal of an input: its place lies within it, and what its name says holds of the bytes up to there.
