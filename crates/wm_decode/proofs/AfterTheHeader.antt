@@ -141,12 +141,12 @@ module _ (P : Machine → Type 0) (live : (m : Machine) → IsLive m → P m) (e
 
   -- in a section: no id comes there
   pub step_in : (p : Profile) (m : Machine) (c : ℕ) → IsInSection m
-      → ((q : InCustom) (w : Why) → (custom_step q c).0 ≡ custom.Failed w → P (machine.Refused w)) → ((q : InMember) (w : Why) → (member_step p q c).0 ≡ at.Failed w → P (machine.Refused w)) → P (step_of p m c).0
+      → ((q : InCustom) (w : Why) → (custom_step q c).0 ≡ custom.Failed w → P (machine.Refused w)) → ((of : SectionKind) (functions more left : ℕ) (q : InMember) (w : Why) → m ≡ machine.Section of functions more left q → (member_step p q c).0 ≡ at.Failed w → P (machine.Refused w)) → P (step_of p m c).0
   step_in p (machine.CustomSize last functions r) c i a b = by_number (unsigned_push 32 r c) (λ s. machine.CustomSize last functions s) (λ n. (custom_size last functions n, event.Nothing)) (λ s. live (machine.CustomSize last functions s) tt) (λ n. custom_out last functions n (custom.Length fresh) (not_length fresh))
   step_in p (machine.Custom last functions more q) c i a b = custom_out last functions more (custom_step q c).0 (a q)
   step_in p (machine.Size of functions r) c i a b = by_number (unsigned_push 32 r c) (λ s. machine.Size of functions s) (λ n. (after_size of functions n, event.Nothing)) (λ s. live (machine.Size of functions s) tt) (λ n. size_out of functions n)
   step_in p (machine.Count of functions more r) c i a b = count_out of functions more (unsigned_push 32 r c)
-  step_in p (machine.Section of functions more left q) c i a b = framed_out of functions more left (member_step p q c).0 (b q)
+  step_in p (machine.Section of functions more left q) c i a b = framed_out of functions more left (member_step p q c).0 (λ w e. b of functions more left q w refl e)
   step_in p (machine.Header n) c i a b = absurd i
   step_in p (machine.Between last functions) c i a b = absurd i
   step_in p (machine.Refused w) c i a b = absurd i
@@ -161,13 +161,17 @@ module _ (P : Machine → Type 0) (live : (m : Machine) → IsLive m → P m) (e
   start_out last functions zero = live (machine.CustomSize last functions fresh) tt
   start_out last functions (suc m) = rising_out last functions (suc m) (section_kind_of (suc m))
 
+  pub step_at : (p : Profile) (m : Machine) (c : ℕ) → (IsHeader m → ⊥) → ((w : Why) → m ≡ machine.Refused w → P (machine.Refused w))
+      → ((q : InCustom) (w : Why) → (custom_step q c).0 ≡ custom.Failed w → P (machine.Refused w)) → ((of : SectionKind) (functions more left : ℕ) (q : InMember) (w : Why) → m ≡ machine.Section of functions more left q → (member_step p q c).0 ≡ at.Failed w → P (machine.Refused w)) → P (step_of p m c).0
+  step_at p (machine.Header n) c past same a b = absurd (past tt)
+  step_at p (machine.Between last functions) c past same a b = start_out last functions c
+  step_at p (machine.CustomSize last functions r) c past same a b = step_in P live end number count p (machine.CustomSize last functions r) c tt a b
+  step_at p (machine.Custom last functions more q) c past same a b = step_in P live end number count p (machine.Custom last functions more q) c tt a b
+  step_at p (machine.Size of functions r) c past same a b = step_in P live end number count p (machine.Size of functions r) c tt a b
+  step_at p (machine.Count of functions more r) c past same a b = step_in P live end number count p (machine.Count of functions more r) c tt a b
+  step_at p (machine.Section of functions more left q) c past same a b = step_in P live end number count p (machine.Section of functions more left q) c tt a b
+  step_at p (machine.Refused w) c past same a b = same w refl
+
   pub step_out : (p : Profile) (m : Machine) (c : ℕ) → (IsHeader m → ⊥) → ((w : Why) → m ≡ machine.Refused w → P (machine.Refused w))
       → ((q : InCustom) (w : Why) → (custom_step q c).0 ≡ custom.Failed w → P (machine.Refused w)) → ((q : InMember) (w : Why) → (member_step p q c).0 ≡ at.Failed w → P (machine.Refused w)) → P (step_of p m c).0
-  step_out p (machine.Header n) c past same a b = absurd (past tt)
-  step_out p (machine.Between last functions) c past same a b = start_out last functions c
-  step_out p (machine.CustomSize last functions r) c past same a b = step_in P live end number count p (machine.CustomSize last functions r) c tt a b
-  step_out p (machine.Custom last functions more q) c past same a b = step_in P live end number count p (machine.Custom last functions more q) c tt a b
-  step_out p (machine.Size of functions r) c past same a b = step_in P live end number count p (machine.Size of functions r) c tt a b
-  step_out p (machine.Count of functions more r) c past same a b = step_in P live end number count p (machine.Count of functions more r) c tt a b
-  step_out p (machine.Section of functions more left q) c past same a b = step_in P live end number count p (machine.Section of functions more left q) c tt a b
-  step_out p (machine.Refused w) c past same a b = same w refl
+  step_out p m c past same a b = step_at p m c past same a (λ of functions more left q w s. b q w)

@@ -1,5 +1,5 @@
 -- What the names of the format say of the bytes up to the place of a refusal.
-use Rattle.std.proofs.Common.{◌≡◌, ◌≢◌, ℕ, zero, suc, ◌+◌, ◌<◌, ◌≤◌, ◌⊎◌, inl, inr, List, [], ◌∷◌, ◌++◌, Option, Some, None, Result, Ok, Err, length, take, refl, sym, ◌∙◌, ap, subst, arith, append_assoc, append-nil, length-append, nat_eq, nat_lt, nat_le}
+use Rattle.std.proofs.Common.{◌≡◌, ◌≢◌, ℕ, zero, suc, ◌+◌, ◌<◌, ◌≤◌, ◌^◌, ◌⊎◌, inl, inr, List, [], ◌∷◌, ◌++◌, Option, Some, None, Result, Ok, Err, false, length, take, refl, sym, ◌∙◌, ap, subst, arith, append_assoc, append-nil, length-append, nat_eq, nat_lt, nat_le}
 use Rattle.std.proofs.lemmas.Bool.{cond_both, ltb-true, ltb-false, leb-true, eqb-false}
 use Rattle.std.specs.Prelude.{slice_index}
 use Rattle.std.specs.Str.{is_utf8}
@@ -30,12 +30,15 @@ use Rattle.wm_decode.specs.Sections.{header}
 use Rattle.wm_decode.specs.Sinks.{and_then, all_taken}
 use Rattle.wm_decode.specs.exact.Members.{id_of, section_kind_of}
 use Rattle.wm_decode.specs.exact.MemberSteps.{on_number, member_step}
-use Rattle.wm_decode.specs.exact.Runs.{name_item, plain_item, marks, MachineState, state_at_start}
+use Rattle.wm_decode.specs.exact.Runs.{name_item, plain_item, marks, MachineState, state_after, state_at_start}
 use Rattle.wm_decode.specs.exact.Steps.{begun_section, machine_if_rising, section_start, header_step, custom_step, custom_after_length, step_of}
 use Rattle.wm_decode.specs.exact.Live.{effect_of_maybe, name_taken, event_effect, Live, live_or_refused, live_from, live_byte, decoder_after, live_at_start, answer_at_end_of, answer_at_end, IsRefused}
 use Rattle.wm_decode.specs.inner.Decoders.{answer_of}
-use Rattle.wm_decode.specs.Meanings.{RawSection, WrongInHeader, WrongId, IsUnknown, IsLate, HasFrom, EndsInSection, Means, Meaning, IsRuleName, GivesRuleNames}
+use Rattle.wm_decode.specs.Meanings.{RawSection, WrongInHeader, WrongId, IsUnknown, IsLate, HasFrom, EndsInSection, Wanted, WrongByte, IsNoInstruction, IsFloat, IsOtherByte, Means, Meaning, IsRuleName, GivesRuleNames}
 use Rattle.wm_decode.proofs.ByteLists.{front_bytes}
+use Rattle.wm_decode.proofs.WrongBytes.{Found, Says as SaysOfByte}
+use Rattle.wm_decode.proofs.WrongMembers.{InInput, byte_says}
+use Rattle.wm_decode.proofs.BadNames.{bad_name}
 use Rattle.wm_decode.proofs.OpSound.{HasRoom, last_byte}
 use Rattle.wm_decode.proofs.OpenMembers.{zeros, zeros_length}
 use Rattle.wm_decode.proofs.MemberFloats.{IsMemberName, member_name}
@@ -44,6 +47,10 @@ use Rattle.wm_decode.proofs.MachineStates.{Fits, run_fits, IsNamed, component_na
 use Rattle.wm_decode.proofs.MachineAndSink.{given_taken, used_of, Used, reached, state_of, begin_fits}
 use Rattle.wm_decode.proofs.FramedBytes.{Past, AtSize, InContents, Framed, run_framed}
 
+pub last_is_byte : (b : List ℕ) (c : ℕ) → AreBytes (b ++ c ∷ []) → c < 2 ^ 8
+last_is_byte [] c h = h.0
+last_is_byte (d ∷ b) c h = last_is_byte b c h.1
+
 -- what the machine says where it refuses a byte, which is the last of these
 abbrev pub MachineSays : List ℕ → Why → Type 0
 MachineSays used why.Magic = WrongInHeader 0 4 used
@@ -51,7 +58,6 @@ MachineSays used why.Version = WrongInHeader 4 8 used
 MachineSays used why.SectionId = WrongId IsUnknown used
 MachineSays used why.SectionOrder = WrongId IsLate used
 MachineSays used why.CodeCount = Unit {0}
-MachineSays used why.BadUtf8 = Unit {0}
 MachineSays used w = IsMemberName w
 
 header_length : (n : ℕ) → n < 8 → length (take n header) ≡ n
@@ -108,7 +114,6 @@ module _ (used : List ℕ) where
   of_member why.SectionId i = absurd i
   of_member why.SectionOrder i = absurd i
   of_member why.CodeCount i = tt
-  of_member why.BadUtf8 i = tt
   of_member w i = i
 
   is_name : (w : Why) → (IsMemberName w) ⊎ (IsMemberName w → ⊥)
@@ -194,7 +199,7 @@ header_says n c b low e =
 section_says : (p : Profile) (m : Machine) (c : ℕ) (used : List ℕ) → IsInSection m → Says used (step_of p m c).0
 section_says p m c used i =
     step_in (Says used) (lives used) (by_name used why.SectionEnd tt) (by_name used why.BadNumber tt) (by_name used why.CodeCount tt) p m c i
-    (λ q w e. by_name used w (custom_says used c q w e)) (λ q w e. by_name used w (member_says used p c q w e))
+    (λ q w e. by_name used w (custom_says used c q w e)) (λ of functions more left q w s e. by_name used w (member_says used p c q w e))
 
 pub step_says : (p : Profile) (m : Machine) (c : ℕ) (b : List ℕ) → (IsRefused m → ⊥) → Framed m b → Says (b ++ c ∷ []) (step_of p m c).0
 step_says p (machine.Header n) c b live f = header_says n c b f.0 f.1
@@ -207,23 +212,35 @@ step_says p (machine.Count of functions more r) c b live f = section_says p (mac
 step_says p (machine.Section of functions more left q) c b live f = section_says p (machine.Section of functions more left q) c (b ++ c ∷ []) tt
 
 -- the names that a sink gives are none of these
-by_rule : (limit : ℕ) (used rest : List ℕ) (w : Why) → IsRuleName w → Means limit used rest w
-by_rule limit used rest why.Magic i = absurd i
-by_rule limit used rest why.Version i = absurd i
-by_rule limit used rest why.SectionId i = absurd i
-by_rule limit used rest why.SectionOrder i = absurd i
-by_rule limit used rest why.Truncated i = absurd i
-by_rule limit used rest why.TooLong i = absurd i
-by_rule limit used rest w i = tt
+by_rule : (p : Profile) (limit : ℕ) (used rest : List ℕ) (w : Why) → IsRuleName w → Means p limit used rest w
+by_rule p limit used rest why.Magic i = absurd i
+by_rule p limit used rest why.Version i = absurd i
+by_rule p limit used rest why.SectionId i = absurd i
+by_rule p limit used rest why.SectionOrder i = absurd i
+by_rule p limit used rest why.Truncated i = absurd i
+by_rule p limit used rest why.TooLong i = absurd i
+by_rule p limit used rest why.BadOpcode i = absurd i
+by_rule p limit used rest why.Float i = absurd i
+by_rule p limit used rest why.BadByte i = absurd i
+by_rule p limit used rest why.BadUtf8 i = absurd i
+by_rule p limit used rest w i = tt
 
-by_machine : (limit : ℕ) (used rest : List ℕ) (w : Why) → MachineSays used w → Means limit used rest w
-by_machine limit used rest why.Magic h = h
-by_machine limit used rest why.Version h = h
-by_machine limit used rest why.SectionId h = h
-by_machine limit used rest why.SectionOrder h = h
-by_machine limit used rest why.Truncated h = absurd h
-by_machine limit used rest why.TooLong h = absurd h
-by_machine limit used rest w h = tt
+-- what is found of the last byte
+found : (p : Profile) (b : List ℕ) (a : AreBytes b) (c : ℕ) (IsWrong : Wanted → ℕ → Type 0) → Found (InInput p b a c) IsWrong c → WrongByte p IsWrong (b ++ c ∷ [])
+found p b a c IsWrong s = record { before = b; byte = c; whole = refl; wanted = s.0; place = s.1.0; none = s.1.1; wrong = s.2 }
+
+by_machine : (p : Profile) (limit : ℕ) (b rest : List ℕ) (a : AreBytes b) (c : ℕ) (w : Why) → MachineSays (b ++ c ∷ []) w → SaysOfByte (InInput p b a c) c w → Means p limit (b ++ c ∷ []) rest w
+by_machine p limit b rest a c why.Magic h s = h
+by_machine p limit b rest a c why.Version h s = h
+by_machine p limit b rest a c why.SectionId h s = h
+by_machine p limit b rest a c why.SectionOrder h s = h
+by_machine p limit b rest a c why.Truncated h s = absurd h
+by_machine p limit b rest a c why.TooLong h s = absurd h
+by_machine p limit b rest a c why.BadOpcode h s = found p b a c IsNoInstruction s
+by_machine p limit b rest a c why.Float h s = found p b a c IsFloat s
+by_machine p limit b rest a c why.BadByte h s = found p b a c IsOtherByte s
+by_machine p limit b rest a c why.BadUtf8 h s = absurd h
+by_machine p limit b rest a c w h s = tt
 
 zeros_some : (n : ℕ) → zeros (suc n) ≡ [] → ⊥
 zeros_some n e = let l : length (zeros (suc n)) ≡ 0 = ap length e in omega (arith, l, zeros_length (suc n))
@@ -264,37 +281,45 @@ cut_contents last id more b h =
       section = (id ∷ [], (h.size ++ h.contents) ++ rest, refl, refl, (h.size, h.contents ++ rest, append_assoc h.size h.contents rest, subst (λ n. SpellsU32 n h.size) same h.number, refl));
     }
 
+-- a name ends with this event, and is not UTF-8
+abbrev BadText : Event → List ℕ → Type 0
+BadText e text = (kind : NameKind) × (e ≡ event.EndsName kind) × (is_utf8 text ≡ false)
+
 module _ {H : Type 0} (after : H → Item → Result H Why) (p : Profile) (limit : ℕ) where
   -- why a byte was refused
   data Cause (l : Live H) (c : ℕ) (r : Refusal) : Type 0 where
     too_long : r.at ≡ limit + 1 → r.why ≡ why.TooLong → Cause l c r
     by_step : (step_of p l.machine c).0 ≡ machine.Refused r.why → Cause l c r
-    by_text : r.why ≡ why.BadUtf8 → Cause l c r
+    by_text : BadText (step_of p l.machine c).1 (l.name ++ c ∷ []) → r.why ≡ why.BadUtf8 → Cause l c r
     by_item : (x : Item) → after l.held x ≡ Err r.why → Cause l c r
 
-  abbrev Effects : H → Why → Type 0
-  Effects h w = (w ≡ why.BadUtf8) ⊎ ((x : Item) × (after h x ≡ Err w))
+  abbrev Effects : Type 0 → H → Why → Type 0
+  Effects T h w = (T × (w ≡ why.BadUtf8)) ⊎ ((x : Item) × (after h x ≡ Err w))
 
   then_err : {B : Type 0} (r : Result H Why) (f : H → B) (w : Why) → and_then r (λ g. Ok (f g)) ≡ Err w → r ≡ Err w
   then_err (Ok x) f w e = absurd (cc)
   then_err (Err v) f w e = let same : v ≡ w = cc in ap Err same
 
-  maybe_err : (x : Option Item) (h : H) (w : Why) → effect_of_maybe after x h ≡ Err w → Effects h w
-  maybe_err None h w e = absurd (cc)
-  maybe_err (Some x) h w e = inr (x, e)
+  maybe_err : (T : Type 0) (x : Option Item) (h : H) (w : Why) → effect_of_maybe after x h ≡ Err w → Effects T h w
+  maybe_err T None h w e = absurd (cc)
+  maybe_err T (Some x) h w e = inr (x, e)
 
-  name_err : (kind : NameKind) (text : List ℕ) (h : H) (w : Why) → name_taken after kind text h ≡ Err w → Effects h w
-  name_err kind text h w = cond_both (is_utf8 text) _ _ (λ (r : Result H Why). r ≡ Err w → Effects h w)
-      (λ _ e. maybe_err (name_item kind text) h w e)
-      (λ _ e. inl (let same : why.BadUtf8 ≡ w = cc in sym same))
+  name_err : (kind : NameKind) (text : List ℕ) (h : H) (w : Why) → name_taken after kind text h ≡ Err w → Effects (is_utf8 text ≡ false) h w
+  name_err kind text h w = cond_both (is_utf8 text) _ _ (λ (r : Result H Why). r ≡ Err w → Effects (is_utf8 text ≡ false) h w)
+      (λ _ e. maybe_err (is_utf8 text ≡ false) (name_item kind text) h w e)
+      (λ no e. inl (no, (let same : why.BadUtf8 ≡ w = cc in sym same)))
 
-  effect_err : (e : Event) (name : List ℕ) (c : ℕ) (h : H) (w : Why) → event_effect after e name c h ≡ Err w → Effects h w
+  of_name : (kind : NameKind) (text : List ℕ) (h : H) (w : Why) → Effects (is_utf8 text ≡ false) h w → Effects (BadText (event.EndsName kind) text) h w
+  of_name kind text h w (inl x) = inl ((kind, refl, x.0), x.1)
+  of_name kind text h w (inr x) = inr x
+
+  effect_err : (e : Event) (name : List ℕ) (c : ℕ) (h : H) (w : Why) → event_effect after e name c h ≡ Err w → Effects (BadText e (name ++ c ∷ [])) h w
   effect_err event.Nothing name c h w i = absurd (cc)
   effect_err (event.Complete q) name c h w i = inr (plain_item q, then_err (after h (plain_item q)) (λ g. ([], g)) w i)
   effect_err event.DataByte name c h w i = inr (data_byte c, then_err (after h (data_byte c)) (λ g. ([], g)) w i)
   effect_err event.InName name c h w i = absurd (cc)
-  effect_err (event.EndsName kind) name c h w i = name_err kind (name ++ c ∷ []) h w (then_err (name_taken after kind (name ++ c ∷ []) h) (λ g. ([], g)) w i)
-  effect_err (event.EmptyName kind) name c h w i = maybe_err (name_item kind []) h w (then_err (effect_of_maybe after (name_item kind []) h) (λ g. ([], g)) w i)
+  effect_err (event.EndsName kind) name c h w i = of_name kind (name ++ c ∷ []) h w (name_err kind (name ++ c ∷ []) h w (then_err (name_taken after kind (name ++ c ∷ []) h) (λ g. ([], g)) w i))
+  effect_err (event.EmptyName kind) name c h w i = maybe_err (BadText (event.EmptyName kind) (name ++ c ∷ [])) (name_item kind []) h w (then_err (effect_of_maybe after (name_item kind []) h) (λ g. ([], g)) w i)
 
   stands_err : (m : Machine) (name : List ℕ) (h : H) (at : ℕ) (r : Refusal) → live_or_refused m name h at ≡ Err r → m ≡ machine.Refused r.why
   stands_err (machine.Refused w) name h at r e = let s : record { at = at; why = w } ≡ r = cc in ap (λ (y : Refusal). machine.Refused y.why) s
@@ -308,7 +333,7 @@ module _ {H : Type 0} (after : H → Item → Result H Why) (p : Profile) (limit
   cause l c r = cond_both (nat_lt l.at limit) _ _ (λ (q : Result (Live H) Refusal). q ≡ Err r → Cause l c r)
       (λ _ e. elim (from_err (step_of p l.machine c).0 (l.at + 1) (event_effect after (step_of p l.machine c).1 l.name c l.held) r e) [
         | inl m ↦ by_step m
-        | inr g ↦ elim (effect_err (step_of p l.machine c).1 l.name c l.held r.why g) [ inl b ↦ by_text b | inr x ↦ by_item x.0 x.1 ]
+        | inr g ↦ elim (effect_err (step_of p l.machine c).1 l.name c l.held r.why g) [ inl b ↦ by_text b.0 b.1 | inr x ↦ by_item x.0 x.1 ]
       ])
       (λ _ e. let s : record { at = limit + 1; why = why.TooLong } ≡ r = cc in too_long (sym (ap (λ (y : Refusal). y.at) s)) (sym (ap (λ (y : Refusal). y.why) s)))
 
@@ -337,12 +362,13 @@ module _ {H : Type 0} (after : H → Item → Result H Why) (s : Setting H) (nam
       (items_at said, sym (given_taken after said s.first) ∙ q.held)
 
   -- whatever comes after these bytes
-  pub on_byte : (b more : List ℕ) (r : Refusal) → AreBytes b → Decoded b ≡ Err r → Meaning s.limit (b ++ more) r
+  pub on_byte : (b more : List ℕ) (r : Refusal) → AreBytes b → Decoded b ≡ Err r → Meaning s.profile s.limit (b ++ more) r
   on_byte b more r bytes e =
       let low : Starts.at ≤ s.limit = omega arith in
       let u = used_of after s.profile s.limit b Starts r low e in
       let used : List ℕ = u.used ++ u.byte ∷ [] in
-      let so_far : AreBytes u.used = front_bytes u.used (u.byte ∷ []) (front_bytes used u.rest (subst AreBytes u.bytes bytes)) in
+      let all : AreBytes used = front_bytes used u.rest (subst AreBytes u.bytes bytes) in
+      let so_far : AreBytes u.used = front_bytes u.used (u.byte ∷ []) all in
       let q = reached after s.profile s.limit u.used Starts u.before u.taken in
       let place : r.at ≡ length used = omega (arith, u.at) in
       record {
@@ -350,23 +376,27 @@ module _ {H : Type 0} (after : H → Item → Result H Why) (s : Setting H) (nam
         rest = u.rest ++ more;
         whole = ap (λ y. y ++ more) u.bytes ∙ append_assoc used u.rest more;
         at = place;
-        means = go u used place (q.live (λ i. i)) (framed u.used u.before so_far u.taken) (held_so u.used u.before u.taken) (cause after s.profile s.limit u.before u.byte r u.refused);
+        means = go u so_far (last_is_byte u.used u.byte all) place q.state (q.live (λ i. i)) (framed u.used u.before so_far u.taken) (held_so u.used u.before u.taken) (cause after s.profile s.limit u.before u.byte r u.refused);
       }
     where
-      go : (u : Used after s.profile s.limit Starts b r) (used : List ℕ) → r.at ≡ length (u.used ++ u.byte ∷ []) → (IsRefused u.before.machine → ⊥) → Framed u.before.machine u.used
-          → ((parts : List Item) × (all_taken after s.first parts ≡ Ok u.before.held)) → Cause after s.profile s.limit u.before u.byte r → Means s.limit (u.used ++ u.byte ∷ []) (u.rest ++ more) r.why
-      go u used place live f parts (too_long at w) = subst (λ y. Means s.limit (u.used ++ u.byte ∷ []) (u.rest ++ more) y) (sym w) (sym place ∙ at)
-      go u used place live f parts (by_text w) = subst (λ y. Means s.limit (u.used ++ u.byte ∷ []) (u.rest ++ more) y) (sym w) tt
-      go u used place live f parts (by_step m) = by_machine s.limit (u.used ++ u.byte ∷ []) (u.rest ++ more) r.why (step_says s.profile u.before.machine u.byte u.used live f r.why m)
-      go u used place live f parts (by_item x e) = by_rule s.limit (u.used ++ u.byte ∷ []) (u.rest ++ more) r.why (names parts.0 u.before.held x r.why parts.1 e)
+      go : (u : Used after s.profile s.limit Starts b r) → AreBytes u.used → u.byte < 2 ^ 8 → r.at ≡ length (u.used ++ u.byte ∷ []) → state_of after s.profile s.limit u.before ≡ state_after s.profile state_at_start u.used
+          → (IsRefused u.before.machine → ⊥) → Framed u.before.machine u.used → ((parts : List Item) × (all_taken after s.first parts ≡ Ok u.before.held)) → Cause after s.profile s.limit u.before u.byte r
+          → Means s.profile s.limit (u.used ++ u.byte ∷ []) (u.rest ++ more) r.why
+      go u bytes byte place same live f parts (too_long at w) = subst (λ y. Means s.profile s.limit (u.used ++ u.byte ∷ []) (u.rest ++ more) y) (sym w) (sym place ∙ at)
+      go u bytes byte place same live f parts (by_text t w) =
+          subst (λ y. Means s.profile s.limit (u.used ++ u.byte ∷ []) (u.rest ++ more) y) (sym w) (bad_name s.profile u.used bytes u.byte u.before.machine u.before.name t.0 (sym same) t.1 t.2)
+      go u bytes byte place same live f parts (by_step m) =
+          by_machine s.profile s.limit u.used (u.rest ++ more) bytes u.byte r.why (step_says s.profile u.before.machine u.byte u.used live f r.why m)
+          (byte_says s.profile u.used bytes u.byte byte u.before.machine (ap (λ (m : MachineState). m.machine) same) live r.why m)
+      go u bytes byte place same live f parts (by_item x e) = by_rule s.profile s.limit (u.used ++ u.byte ∷ []) (u.rest ++ more) r.why (names parts.0 u.before.held x r.why parts.1 e)
 
-  at_end : (m : Machine) (h : H) (at : ℕ) (b : List ℕ) (r : Refusal) → (IsRefused m → ⊥) → Fits m → Framed m b → answer_at_end_of m h at ≡ Err r → Means s.limit b [] r.why
+  at_end : (m : Machine) (h : H) (at : ℕ) (b : List ℕ) (r : Refusal) → (IsRefused m → ⊥) → Fits m → Framed m b → answer_at_end_of m h at ≡ Err r → Means s.profile s.limit b [] r.why
   at_end m h at b r live fit f e = go m live fit f e
     where
-      named : (w : Why) → record { at = at; why = w } ≡ r → Means s.limit b [] w → Means s.limit b [] r.why
-      named w is x = subst (λ y. Means s.limit b [] y) (ap (λ (y : Refusal). y.why) is) x
+      named : (w : Why) → record { at = at; why = w } ≡ r → Means s.profile s.limit b [] w → Means s.profile s.limit b [] r.why
+      named w is x = subst (λ y. Means s.profile s.limit b [] y) (ap (λ (y : Refusal). y.why) is) x
 
-      go : (m : Machine) → (IsRefused m → ⊥) → Fits m → Framed m b → answer_at_end_of m h at ≡ Err r → Means s.limit b [] r.why
+      go : (m : Machine) → (IsRefused m → ⊥) → Fits m → Framed m b → answer_at_end_of m h at ≡ Err r → Means s.profile s.limit b [] r.why
       go (machine.Refused w) live fit f e = absurd (live tt)
       go (machine.Between last zero) live fit f e = absurd (cc)
       go (machine.Between last (suc n)) live fit f e = named why.CodeCount (cc (e)) tt
@@ -392,11 +422,11 @@ module _ {H : Type 0} (after : H → Item → Result H Why) (s : Setting H) (nam
       go m e = its why.Truncated (cc (e))
 
   -- the answer to a whole input
-  pub whole_input : (input : List ℕ) (r : Refusal) → AreBytes input → answer_of after s input ≡ Err r → Meaning s.limit input r
+  pub whole_input : (input : List ℕ) (r : Refusal) → AreBytes input → answer_of after s input ≡ Err r → Meaning s.profile s.limit input r
   whole_input input r bytes e = go (Decoded input) refl e
     where
-      go : (x : Result (Live H) Refusal) → Decoded input ≡ x → and_then x answer_at_end ≡ Err r → Meaning s.limit input r
-      go (Err t) is e = let same : t ≡ r = cc (e) in subst (λ y. Meaning s.limit y r) (append-nil input) (on_byte input [] r bytes (is ∙ ap Err same))
+      go : (x : Result (Live H) Refusal) → Decoded input ≡ x → and_then x answer_at_end ≡ Err r → Meaning s.profile s.limit input r
+      go (Err t) is e = let same : t ≡ r = cc (e) in subst (λ y. Meaning s.profile s.limit y r) (append-nil input) (on_byte input [] r bytes (is ∙ ap Err same))
       go (Ok l) is e =
           let q = reached after s.profile s.limit input Starts l is in
           record {

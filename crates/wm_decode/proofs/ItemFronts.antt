@@ -98,7 +98,7 @@ module _ (c : ℕ) (x : Item) where
       go (n ∷ k) is = record { mark = in_zone in_entry e.mark; completes = e.completes; bytes = e.bytes; later = entry_marks (n ∷ k); spelled = record { inner = e.mark ∷ e.later; marks = sym (ap (λ y. entry_marks (e.mark ∷ y)) is); contents = e.spelled } }
 
 -- an expression in which an op is complete has not failed
-abbrev StandsIn : InExpression → Type 0
+abbrev pub StandsIn : InExpression → Type 0
 StandsIn (expression.Failed w) = ⊥
 StandsIn e = Unit {0}
 
@@ -109,7 +109,7 @@ ends_stands : (depth : ℕ) → StandsIn (ends depth)
 ends_stands zero = tt
 ends_stands (suc n) = tt
 
-op_stands : (depth : ℕ) (o : Op) → StandsIn (after_op depth o)
+pub op_stands : (depth : ℕ) (o : Op) → StandsIn (after_op depth o)
 op_stands depth (op.Block t) = tt
 op_stands depth (op.Loop t) = tt
 op_stands depth (op.If t) = tt
@@ -117,7 +117,7 @@ op_stands depth op.End = ends_stands depth
 op_stands depth (op.BrTable n) = tt
 op_stands depth o = tt
 
-label_stands : (depth left : ℕ) → StandsIn (after_label depth left)
+pub label_stands : (depth left : ℕ) → StandsIn (after_label depth left)
 label_stands depth zero = tt
 label_stands depth (suc n) = tt
 
@@ -177,44 +177,44 @@ module _ {M : Type 0} (fail : Why → M) (Stands : M → Type 0) (zone : Zone) (
   heard_so P m (event.EmptyName k) h f = h
   heard_so P m (event.EndsName k) h f = cond_both (is_utf8 (y ++ c ∷ [])) _ _ (λ (b : ByteRead M). P b.at) (λ _. h) (λ _. f why.BadUtf8)
 
-abbrev StandsAt : InMember → Type 0
+abbrev pub StandsAt : InMember → Type 0
 StandsAt (at.Failed w) = ⊥
 StandsAt q = Unit {0}
 
-abbrev StandsEntry : InEntry → Type 0
+abbrev pub StandsEntry : InEntry → Type 0
 StandsEntry (entry.Failed w) = ⊥
 StandsEntry q = Unit {0}
 
-param_stands : (n : ℕ) → StandsAt (after_param n)
+pub param_stands : (n : ℕ) → StandsAt (after_param n)
 param_stands zero = tt
 param_stands (suc n) = tt
 
-result_stands : (n : ℕ) → StandsAt (after_result n)
+pub result_stands : (n : ℕ) → StandsAt (after_result n)
 result_stands zero = tt
 result_stands (suc n) = tt
 
-name_stands : (of : NameKind) → StandsAt (after_name of)
+pub name_stands : (of : NameKind) → StandsAt (after_name of)
 name_stands name.ImportModule = tt
 name_stands name.ImportName = tt
 name_stands name.Export = tt
 name_stands name.Custom = tt
 
-functions_stand : (n : ℕ) → StandsAt (functions_or_over n)
+pub functions_stand : (n : ℕ) → StandsAt (functions_or_over n)
 functions_stand zero = tt
 functions_stand (suc n) = tt
 
-data_stand : (n : ℕ) → StandsAt (data_or_over n)
+pub data_stand : (n : ℕ) → StandsAt (data_or_over n)
 data_stand zero = tt
 data_stand (suc n) = tt
 
-index_stands : (of : IndexOf) → StandsAt (after_index of)
+pub index_stands : (of : IndexOf) → StandsAt (after_index of)
 index_stands index.Function = tt
 index_stands index.Start = tt
 index_stands index.Element = tt
 index_stands (index.ElementFunction more) = functions_stand more
 index_stands index.Segment = tt
 
-over_stands : (of : ConstantOf) → StandsAt (constant_over of)
+pub over_stands : (of : ConstantOf) → StandsAt (constant_over of)
 over_stands constant.Global = tt
 over_stands constant.Element = tt
 over_stands constant.Segment = tt
@@ -225,7 +225,7 @@ constant_stands of (expression.Failed w) s = absurd s
 constant_stands of (expression.Op depth q) s = tt
 constant_stands of (expression.Label depth left r) s = tt
 
-runs_stand : (n : ℕ) → StandsEntry (runs_or_body n)
+pub runs_stand : (n : ℕ) → StandsEntry (runs_or_body n)
 runs_stand zero = tt
 runs_stand (suc n) = tt
 

@@ -394,7 +394,7 @@ custom_alike =
     then_alike (byte_alike 0 None) (number_alike nothing_at F F (λ n. filled_alike n (name_alike (λ text. None))))
 
 -- As long as both lists of bytes agree, so do the marks; the one may go on where the other ends.
-abbrev Agree : List ℕ → Marks → List ℕ → Marks → Type 0
+abbrev pub Agree : List ℕ → Marks → List ℕ → Marks → Type 0
 Agree [] j b k = Unit {0}
 Agree (c ∷ a) j [] k = Unit {0}
 Agree (c ∷ a) [] (d ∷ b) k = ⊥
@@ -508,7 +508,7 @@ module _ (p : Profile) where
         | inr ne ↦ other_sections x y (λ n. Sized loose n (Contents loose p f x)) (λ n. Sized loose n (Contents loose p g y)) (Tails n (suc x)) (Tails m (suc y)) ne a j b k h i
       ]
 
-  modules_agree : (a : List ℕ) (j : Marks) (b : List ℕ) (k : Marks) → Module loose p a j → Module loose p b k → Agree a j b k
+  pub modules_agree : (a : List ℕ) (j : Marks) (b : List ℕ) (k : Marks) → Module loose p a j → Module loose p b k → Agree a j b k
   modules_agree a j b k (f, h) (g, i) =
       let t = tail_of_chain f 11 1 h.back h.back_marks h.second in
       let u = tail_of_chain g 11 1 i.back i.back_marks i.second in

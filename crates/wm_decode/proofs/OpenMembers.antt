@@ -132,10 +132,10 @@ record Spelled {X : Type 0} (Spells : X → Form ℕ) : Type 0 where
 some_leaf : {X : Type 0} (Spells : X → Form ℕ) (part : X → Item) → Spelled Spells → Comes (Leaf Spells part)
 some_leaf Spells part s = record { bytes = s.bytes; marks = marks_ending (Some (part s.value)) s.bytes; spelled = (s.value, s.spelled, refl) }
 
-zero_u32 : SpellsU32 0 (0 ∷ [])
+pub zero_u32 : SpellsU32 0 (0 ∷ [])
 zero_u32 = (fresh_number 0 (0 ∷ [])).1 (last_byte fresh (omega arith))
 
-zero_limits : SpellsLimits (record { min = 0; max = None }) (0 ∷ 0 ∷ [])
+pub zero_limits : SpellsLimits (record { min = 0; max = None }) (0 ∷ 0 ∷ [])
 zero_limits = (0 ∷ [], 0 ∷ [], refl, refl, zero_u32)
 
 some_limits : (l : InLimits) → SoundLimits l → Spelled (limits_rest l)
@@ -174,10 +174,10 @@ some_value (value.Table t) h = let s = some_table t h in record { value = plain.
 some_value (value.Memory l) h = let s = some_limits l h in record { value = plain.Memory s.value; bytes = s.bytes; spelled = (s.value, refl, s.spelled) }
 some_value (value.Export t) h = let s = some_target t h in record { value = plain.Export s.value.0 s.value.1; bytes = s.bytes; spelled = (s.value, refl, s.spelled) }
 
-some_type : (g : ValType → Item) → Comes (ValueType g)
+pub some_type : (g : ValType → Item) → Comes (ValueType g)
 some_type g = record { bytes = 0x7F ∷ []; marks = outside_mark (Some (g I32)) ∷ []; spelled = (I32, refl, refl) }
 
-some_results : Comes ResultTypes
+pub some_results : Comes ResultTypes
 some_results = some_number (λ n. Some (result_count n)) (λ n. Times n (ValueType one_result)) (λ n. some_times n (ValueType one_result) (some_type one_result))
 
 some_data : Comes DataByte
@@ -190,7 +190,7 @@ module _ (p : Profile) where
   some_ops : (part : Op → Item) (left : ℕ) (e : InExpression) → SoundExpression left e → Comes (ExpressionRest p part e)
   some_ops part left e h = let s = some_expression p part left e h in record { bytes = s.0; marks = s.1; spelled = s.2 }
 
-  some_whole : (part : Op → Item) → Comes (Expression p part)
+  pub some_whole : (part : Op → Item) → Comes (Expression p part)
   some_whole part =
       let few : 0 < 2 ^ 32 = omega arith in
       let s = some_expression p part 0 start (start_sound 0 few) in
@@ -218,7 +218,7 @@ module _ (p : Profile) where
   some_listed length_of.Functions = a_function
   some_listed length_of.Bytes = some_data
 
-  after_constant : (of : ConstantOf) → Comes (AfterConstant loose p of)
+  pub after_constant : (of : ConstantOf) → Comes (AfterConstant loose p of)
   after_constant constant.Global = some_empty
   after_constant constant.Element = some_vector (Index element_function) a_function
   after_constant constant.Segment = some_vector DataByte some_data
@@ -233,7 +233,7 @@ module _ (p : Profile) where
   a_desc : Comes (Leaf SpellsDesc import_desc)
   a_desc = some_leaf SpellsDesc import_desc (some_desc import.Kind tt)
 
-  after_name : (of : NameKind) → Comes (AfterName loose p of)
+  pub after_name : (of : NameKind) → Comes (AfterName loose p of)
   after_name name.ImportModule = some_then (Name loose (name_item name.ImportName)) (Leaf SpellsDesc import_desc) (some_name (name_item name.ImportName)) a_desc
   after_name name.ImportName = a_desc
   after_name name.Export = some_leaf (target_rest target.Kind) (λ t. export t.0 t.1) (some_target target.Kind tt)

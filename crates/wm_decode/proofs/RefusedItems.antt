@@ -20,7 +20,7 @@ use Rattle.wm_decode.specs.inner.Decoders.{answer_of}
 use Rattle.wm_decode.specs.Meanings.{AtItem, IsRuleName, RefusesBy, Meant}
 use Rattle.wm_decode.proofs.ByteLists.{front_bytes}
 use Rattle.wm_decode.proofs.MachineAndSink.{given_taken, used_of, reached, state_of, live_err}
-use Rattle.wm_decode.proofs.FormatMeanings.{MachineSays, step_says}
+use Rattle.wm_decode.proofs.FormatMeanings.{MachineSays, last_is_byte, step_says}
 use Rattle.wm_decode.proofs.FramedBytes.{Framed, run_framed}
 use Rattle.wm_decode.proofs.ItemFronts.{item_front}
 
@@ -51,10 +51,6 @@ heard_err zone y c m event.InName w i = inl i
 heard_err zone y c m (event.EmptyName k) w i = inl i
 heard_err zone y c m (event.EndsName k) w i =
     (cond_both (is_utf8 (y ++ c ∷ [])) _ _ (λ (h : ByteRead Machine). h.at ≡ machine.Refused w → (m ≡ machine.Refused w) ⊎ (why.BadUtf8 ≡ w)) (λ _ e. inl e) (λ _ e. inr (cc))) i
-
-last_is_byte : (b : List ℕ) (c : ℕ) → AreBytes (b ++ c ∷ []) → c < 2 ^ 8
-last_is_byte [] c h = h.0
-last_is_byte (d ∷ b) c h = last_is_byte b c h.1
 
 module _ {H : Type 0} (after : H → Item → Result H Why) (s : Setting H) where
   abbrev Starts : Live H

@@ -1,14 +1,22 @@
 -- What the name of a refusal says of the bytes up to its place. The last of them decided, or the input ends
 -- there.
 use Rattle.std.specs.Prelude.{◌≡◌, ◌≢◌, ℕ, ◌+◌, ◌<◌, ◌≤◌, ◌⊎◌, List, [], ◌∷◌, ◌++◌, length, take, slice_index, Some}
-use Rattle.std.specs.Prelude.{Result, Ok, Err}
+use Rattle.std.specs.Prelude.{Result, Ok, Err, Option, IsTrue, IsUtf8}
 use Rattle.wm_syntax.specs.declared.why.Why.{Why}
 use Rattle.wm_syntax.specs.declared.why.Why.TheVariants as why
-use Rattle.wm_syntax.specs.Spelling.{Form, Exactly, Each, ◌▸◌}
+use Rattle.wm_syntax.specs.declared.types.ValType.{ValType}
+use Rattle.wm_syntax.specs.declared.instructions.Op.{Op}
+use Rattle.wm_syntax.specs.declared.modules.ExportKind.{ExportKind}
+use Rattle.wm_syntax.specs.Spelling.{Form, Byte, Exactly, Each, ◌▸◌, ◌∣◌}
+use Rattle.wm_syntax.specs.Types.{SpellsValType, SpellsBlockType}
+use Rattle.wm_syntax.specs.Instructions.{SpellsOp}
+use Rattle.wm_syntax.specs.OpClasses.{first_byte, is_float}
+use Rattle.wm_syntax.specs.Profiles.{IsOpOf}
 use Rattle.wm_syntax.specs.declared.profile.Profile.{Profile}
 use Rattle.wm_decode.specs.declared.refusal.Refusal.{Refusal}
 use Rattle.wm_decode.specs.Items.{Item, Mark, Marks, items_at}
-use Rattle.wm_decode.specs.Sections.{Section, header}
+use Rattle.wm_decode.specs.Sections.{Section, header, kind_byte}
+use Rattle.wm_decode.specs.Grammar.{Items}
 use Rattle.wm_decode.specs.Sinks.{all_taken}
 use Rattle.wm_decode.specs.Fronts.{IsFront}
 
@@ -81,17 +89,96 @@ pub record EndsInSection (used : List ℕ) : Type 0 where
 abbrev pub EndsInside : List ℕ → List ℕ → Type 0
 EndsInside used rest = (rest ≡ []) × (EndsInHeader used ⊎ EndsInSection used)
 
--- What a name says of the bytes that were used, and of those behind them. Six names have a line of their own.
--- Of the others nothing is said: of further names of the format (SectionEnd, BadByte and so on), of those of
--- a checker of rules (Index, Mismatch and so on) or of a policy, and of Memory.
-abbrev pub Means : ℕ → List ℕ → List ℕ → Why → Type 0
-Means limit used rest why.Magic = WrongInHeader 0 4 used
-Means limit used rest why.Version = WrongInHeader 4 8 used
-Means limit used rest why.SectionId = WrongId IsUnknown used
-Means limit used rest why.SectionOrder = WrongId IsLate used
-Means limit used rest why.Truncated = EndsInside used rest
-Means limit used rest why.TooLong = length used ≡ limit + 1
-Means limit used rest w = Unit {0}
+-- What may have to stand at a place, where one byte decides of it.
+pub data Wanted : Type 0 where
+  an_instruction : Wanted
+  a_value_type : Wanted
+  a_block_type : Wanted
+  a_function_type : Wanted
+  an_element_type : Wanted
+  a_flag : Wanted
+  a_kind : Wanted
+  a_zero : Wanted
+
+-- Its bytes. Of an instruction of the profile, an else or an end (sections 5.4, 5.4.6), of a value type
+-- (5.3.1) and of a block type (5.3.2) these are all. Else they are the byte that begins a function type
+-- (5.3.3) or a table type (5.3.6); that says whether there is a greatest size (5.3.4), or whether a global
+-- may be set (5.3.7); the kind of an import (5.5.5) or an export (5.5.10); or the 00 that ends some
+-- instructions (5.4.1, 5.4.4).
+abbrev pub spelled : Profile → Wanted → Form ℕ
+spelled p an_instruction b =
+    (o : Op) × (c : ℕ) × (first_byte o ≡ Some c) × IsOpOf p o × SpellsOp o b
+spelled p a_value_type b = (t : ValType) × SpellsValType t b
+spelled p a_block_type b = (t : Option ValType) × SpellsBlockType t b
+spelled p a_function_type b = Byte 0x60 b
+spelled p an_element_type b = Byte 0x70 b
+spelled p a_flag b = (Byte 0x00 ∣ Byte 0x01) b
+spelled p a_kind b = (k : ExportKind) × Byte (kind_byte k) b
+spelled p a_zero b = Byte 0x00 b
+
+-- After these bytes something of this form must stand. Each such thing can, sizes, names and the number of
+-- code entries aside; and in each whole input that begins with these bytes one does.
+pub record MustStand (p : Profile) (IsThere : Form ℕ) (before : List ℕ) : Type 0 where
+  pub can : (b : List ℕ) → IsThere b → (k : Marks) × IsFront p (before ++ b) k
+  pub must : (more : List ℕ) (k : Marks) → Items p (before ++ more) k
+      → (b rest : List ℕ) × (more ≡ b ++ rest) × IsThere b
+
+-- The last byte is wrong where it stands: such a thing must stand there, and none begins with the byte.
+pub record WrongByte (p : Profile) (IsWrong : Wanted → ℕ → Type 0) (used : List ℕ) : Type 0 where
+  pub before : List ℕ
+  pub byte : ℕ
+  pub whole : used ≡ before ++ byte ∷ []
+  pub wanted : Wanted
+  pub place : MustStand p (spelled p wanted) before
+  pub none : (more : List ℕ) → spelled p wanted (byte ∷ more) → ⊥
+  pub wrong : IsWrong wanted byte
+
+-- the types of floating-point numbers (section 5.3.1)
+abbrev pub IsFloatType : ℕ → Type 0
+IsFloatType c = (c ≡ 0x7D) ⊎ (c ≡ 0x7C)
+
+-- BadOpcode: no instruction of the profile begins so, nor one on floating-point numbers
+abbrev pub IsNoInstruction : Wanted → ℕ → Type 0
+IsNoInstruction an_instruction c = IsTrue (is_float c) → ⊥
+IsNoInstruction _ c = ⊥
+
+-- Float: an instruction on floating-point numbers, or a type of them, where one can stand
+abbrev pub IsFloat : Wanted → ℕ → Type 0
+IsFloat an_instruction c = IsTrue (is_float c)
+IsFloat a_value_type c = IsFloatType c
+IsFloat a_block_type c = IsFloatType c
+IsFloat _ c = ⊥
+
+-- BadByte: anything else that begins nothing of what must stand there
+abbrev pub IsOtherByte : Wanted → ℕ → Type 0
+IsOtherByte an_instruction c = ⊥
+IsOtherByte a_value_type c = IsFloatType c → ⊥
+IsOtherByte a_block_type c = IsFloatType c → ⊥
+IsOtherByte _ c = Unit {0}
+
+-- BadUtf8: so many bytes of a name must stand there, and these are not UTF-8 (section 5.2.4).
+pub record BadName (p : Profile) (used : List ℕ) : Type 0 where
+  pub before : List ℕ
+  pub text : List ℕ
+  pub whole : used ≡ before ++ text
+  pub place : MustStand p (λ b. (length b ≡ length text) × IsUtf8 b) before
+  pub bad : IsUtf8 text → ⊥
+
+-- What a name says of the bytes that were used, and of those behind them. Ten names have a line of their own.
+-- Of the others nothing is said: of further names of the format (SectionEnd, BadNumber and so on), of those
+-- of a checker of rules (Index, Mismatch and so on) or of a policy, and of Memory.
+abbrev pub Means : Profile → ℕ → List ℕ → List ℕ → Why → Type 0
+Means p limit used rest why.Magic = WrongInHeader 0 4 used
+Means p limit used rest why.Version = WrongInHeader 4 8 used
+Means p limit used rest why.SectionId = WrongId IsUnknown used
+Means p limit used rest why.SectionOrder = WrongId IsLate used
+Means p limit used rest why.Truncated = EndsInside used rest
+Means p limit used rest why.TooLong = length used ≡ limit + 1
+Means p limit used rest why.BadOpcode = WrongByte p IsNoInstruction used
+Means p limit used rest why.Float = WrongByte p IsFloat used
+Means p limit used rest why.BadByte = WrongByte p IsOtherByte used
+Means p limit used rest why.BadUtf8 = BadName p used
+Means p limit used rest w = Unit {0}
 
 -- A refusal of an input: its place lies within it, and what its name says holds of the bytes up to there.
 pub record Meant (Means : List ℕ → List ℕ → Why → Type 0) (input : List ℕ) (r : Refusal) : Type 0 where
@@ -101,8 +188,8 @@ pub record Meant (Means : List ℕ → List ℕ → Why → Type 0) (input : Lis
   pub at : r.at ≡ length used
   pub means : Means used rest r.why
 
-abbrev pub Meaning : ℕ → List ℕ → Refusal → Type 0
-Meaning limit input r = Meant (Means limit) input r
+abbrev pub Meaning : Profile → ℕ → List ℕ → Refusal → Type 0
+Meaning p limit input r = Meant (Means p limit) input r
 
 -- The last byte completes an item, and of the items before it and of it this is true. Some more bytes would
 -- make all of them a module, sizes, names and the number of code entries aside.

@@ -98,7 +98,7 @@ pub fn one_spelling_one_module()
 pub fn format_names_mean<S: Sink>()
     ensures { (s : Setting S.Held) (input : List ℕ) (r : Refusal) → AreBytes input
         → GivesRuleNames S.after s.first
-        → answer_of S.after s input ≡ Err r → Meaning s.limit input r }
+        → answer_of S.after s input ≡ Err r → Meaning s.profile s.limit input r }
 {}
 
 /// By its own names a sink refuses an item that the last byte up to the place completes, after it took the

@@ -52,7 +52,7 @@ module _ (p : Profile) (limit : ℕ) (q : Policy) where
   -- a name of rules that means something, or one of which the format says all
   abbrev Said : Why → Type 0
   Said w = (IsRuleName w × ((used rest : List ℕ) → Refuses w used → Means p limit used rest w))
-      ⊎ ((used rest : List ℕ) → MeansOfFormat limit used rest w → Means p limit used rest w)
+      ⊎ ((used rest : List ℕ) → MeansOfFormat p limit used rest w → Means p limit used rest w)
 
   said : (w : Why) → Said w
   said why.Index = inl (tt, λ used rest a. ruled why.Index used (λ i. i) a)
@@ -67,7 +67,7 @@ module _ (p : Profile) (limit : ℕ) (q : Policy) where
   said why.ElsePlace = inl (tt, λ used rest a. at_entry why.ElsePlace IsElseOutside used outside (ruled why.ElsePlace used (λ i. i) a))
   said w = inr (λ used rest m. m)
 
-  pub meaning : (input : List ℕ) (r : Refusal) → MeaningOfFormat limit input r → (IsRuleName r.why → Meant (λ used rest w. Refuses w used) input r) → Meaning p limit input r
+  pub meaning : (input : List ℕ) (r : Refusal) → MeaningOfFormat p limit input r → (IsRuleName r.why → Meant (λ used rest w. Refuses w used) input r) → Meaning p limit input r
   meaning input r format item = elim (said r.why) [
     | inr f ↦ record { used = format.used; rest = format.rest; whole = format.whole; at = format.at; means = f format.used format.rest format.means }
     | inl f ↦ let m = item f.0 in record { used = m.used; rest = m.rest; whole = m.whole; at = m.at; means = f.1 m.used m.rest m.means }

@@ -196,8 +196,8 @@ IsElseOutside items (body_op op.Else) =
     × IsNoFirstBranch (heads_of place)
 IsElseOutside items _ = ⊥
 
--- What the name says. It is said of six names of the format, and of ten of rules. Nothing is said of Mismatch
--- and Arity, of the other names of the format, nor of those of a policy.
+-- What the name says. It is said of ten names of the format, and of ten of rules. Nothing is said of
+-- Mismatch and Arity, of the other names of the format, nor of those of a policy.
 abbrev pub Means : Profile → ℕ → List ℕ → List ℕ → Why → Type 0
 Means p limit used rest why.Index = AtItem p HasNoItem used
 Means p limit used rest why.Limits = AtItem p IsOutOfRange used
@@ -209,7 +209,7 @@ Means p limit used rest why.Immutable = AtItem p (AtOp SetsConstant) used
 Means p limit used rest why.Align = AtItem p (AtOp (λ globals o. IsAlignedPast o)) used
 Means p limit used rest why.TooManyLocals = AtItem p AreTooMany used
 Means p limit used rest why.ElsePlace = AtItem p IsElseOutside used
-Means p limit used rest w = MeansOfFormat limit used rest w
+Means p limit used rest w = MeansOfFormat p limit used rest w
 
 -- A refusal of an input says this of the bytes up to its place, which lies within it.
 abbrev pub Meaning : Profile → ℕ → List ℕ → Refusal → Type 0
