@@ -47,6 +47,8 @@ module _ (p : Profile) (limit : ℕ) (q : Policy) where
   said why.Immutable = inl (tt, λ used rest a. ruled why.Immutable used (λ i. i) a)
   said why.Align = inl (tt, λ used rest a. ruled why.Align used (λ i. i) a)
   said why.TooManyLocals = inl (tt, λ used rest a. ruled why.TooManyLocals used (λ i. i) a)
+  said why.Mismatch = inl (tt, λ used rest a. ruled why.Mismatch used (λ i. i) a)
+  said why.Arity = inl (tt, λ used rest a. ruled why.Arity used (λ i. i) a)
   said why.ElsePlace = inl (tt, λ used rest a. ruled why.ElsePlace used (λ i. i) a)
   said w = inr (λ used rest m. m)
 

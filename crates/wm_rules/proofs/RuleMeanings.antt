@@ -22,11 +22,16 @@ use Rattle.wm_stacks.specs.declared.entries.Frame.{Frame}
 use Rattle.wm_typing.specs.declared.labels.BrTable.{BrTable}
 use Rattle.wm_typing.specs.Typing.{Context, function_type}
 use Rattle.wm_typing.specs.Contexts.{body_context, in_function, result_of}
-use Rattle.wm_typing.specs.OpenLists.{head_of, label_type}
+use Rattle.wm_typing.specs.OpenLists.{Place, open_at, within, complete, IsSoFar, head_of, label_type}
+use Rattle.wm_typing.specs.Bodies.{Body}
+use Rattle.wm_typing.specs.inner.Frames.{Frames, running, in_table, ended, Holds, TracksWith}
+use Rattle.wm_stacks.specs.Stack.{Stack}
 use Rattle.wm_typing.specs.inner.Checking.{BodyAfter}
-use Rattle.wm_typing.specs.exact.Bodies.{context_in}
+use Rattle.wm_typing.specs.exact.Bodies.{body_after_op, context_in}
 use Rattle.wm_typing.specs.exact.Ops.{labels_of, within_frames}
-use Rattle.wm_typing.proofs.AfterCalls.{nested_said}
+use Rattle.wm_typing.proofs.AfterCalls.{nested_said, no_typing}
+use Rattle.wm_typing.proofs.BegunBodies.{begun_body}
+use Rattle.wm_typing.proofs.StacksAfterOps.{body_can, front_typed}
 use Rattle.wm_typing.proofs.OneOp.{holds_can}
 use Rattle.wm_decode.specs.Flat.{code_items}
 use Rattle.wm_decode.specs.Items.{Item, new_type, param, result_count, one_result, import_module, import_name, import_desc, function, table, memory, global, const_op, export_name, export, start, element, element_function, body, locals, body_op, segment, data_byte}
@@ -36,17 +41,17 @@ use Rattle.wm_rules.specs.declared.constants.Constant.{Constant}
 use Rattle.wm_rules.specs.Holding.{IndexSpaces, Held}
 use Rattle.wm_rules.specs.exact.Constants.{constant_expecting, visible}
 use Rattle.wm_rules.specs.exact.Spaces.{items_in, one_if, index_check, is_plain, is_within, next_type, plain, context_of, function_added, import_added, table_added, memory_added}
-use Rattle.wm_rules.specs.exact.Checking.{after, constant_begun, empty_checker, in_names, in_spaces, is_taken, put_name, where_ok}
+use Rattle.wm_rules.specs.exact.Checking.{after, checker_after_op, constant_begun, empty_checker, in_names, in_spaces, is_taken, put_name, where_ok}
 use Rattle.wm_rules.specs.Validation.{WithinRange}
-use Rattle.wm_rules.specs.Meanings.{AreTooMany, AtConstant, AtOp, CannotBeConstant, ConstantNamesNothing, HasNoItem, InBody, InEntry, IsAlignedPast, IsConstantOf, IsElseOutside, IsNoFirstBranch, IsNoStart, IsOutOfRange, IsRepeated, IsSecond, OpNamesNothing, SetsConstant, context_inside, context_of_body, context_so_far, heads_of, how_many, next_function, one_where, so_far}
+use Rattle.wm_rules.specs.Meanings.{AreTooMany, BeginsBefore, BeginsBody, EndsTyping, HasOtherType, HasWrongCount, IsMistyped, IsNotOne, LastHasResult, AtConstant, AtOp, CannotBeConstant, ConstantNamesNothing, HasNoItem, InBody, InConstant, InEntry, IsAlignedPast, IsConstantOf, IsElseOutside, IsNoFirstBranch, IsNoStart, IsOutOfRange, IsRepeated, IsSecond, OpNamesNothing, SetsConstant, context_inside, context_of_body, context_so_far, heads_of, how_many, next_function, one_where, so_far}
 use Rattle.wm_rules.proofs.CodeEntries.{at_hand, over_at_hand}
 use Rattle.wm_rules.proofs.ConstantMembers.{AfterOps, const_front, with_const}
-use Rattle.wm_rules.proofs.DueLabels.{heads_are, in_order, labels_are}
+use Rattle.wm_rules.proofs.DueLabels.{InOrder, heads_are, in_order, labels_are}
 use Rattle.wm_rules.proofs.EntryItems.{ConstantItems, GoesOn, HasType, IsOpening, Stood}
 use Rattle.wm_rules.proofs.ItemMembers.{within_from}
 use Rattle.wm_rules.proofs.MemberFolds.{ok_then, taken-append}
 use Rattle.wm_rules.proofs.OpNames.{Only, OutsideElse}
-use Rattle.wm_rules.proofs.RuleNames.{ConstantSays, IsHidden, LocalsSay, NoneThere, OfConstant, OpOf, TypeSays, constant_names, count_name, entry_name, locals_names, op_names, param_names, result_names}
+use Rattle.wm_rules.proofs.RuleNames.{ConstantSays, CountsWrong, IsHidden, LocalsSay, NoneThere, OfConstant, OpOf, TypeSays, constant_names, count_name, entry_name, locals_names, op_names, param_names, result_names}
 use Rattle.wm_rules.proofs.SpacesSoFar.{entry_context, few_globals, some_type}
 use Rattle.wm_rules.proofs.ToldItems.{spaces_are_told, taken_is_told}
 
@@ -61,8 +66,8 @@ Says why.NotConst items x = AtConstant CannotBeConstant items x
 Says why.Immutable items x = AtOp SetsConstant items x
 Says why.Align items x = AtOp (λ globals o. IsAlignedPast o) items x
 Says why.TooManyLocals items x = AreTooMany items x
-Says why.Mismatch items x = Unit {0}
-Says why.Arity items x = Unit {0}
+Says why.Mismatch items x = IsMistyped items x
+Says why.Arity items x = HasWrongCount items x
 Says why.ElsePlace items x = IsElseOutside items x
 Says w items x = ⊥
 
@@ -130,6 +135,29 @@ hidden globals n x l e = go (nat_lt x n) refl e
 hidden_names : (globals : List GlobalType) (n : ℕ) → n ≤ length globals → (o : Op) → IsHidden globals n o → ConstantNamesNothing n o
 hidden_names globals n l (op.Simple (simple.GlobalGet x)) i = hidden globals n x l i
 hidden_names globals n l o i = absurd i
+
+counted_ops : (seen : Bool) (ops : List Op) (o : Op) → (seen ≡ false → ops ≡ []) → (seen ≡ true → ops ≡ [] → ⊥) → CountsWrong seen o → IsNotOne ops o
+counted_ops seen ops op.End none some i = none i
+counted_ops seen ops o none some i = some i
+
+-- outside the labels of a br_table, the ops so far begin a body
+begins : (c : Context) → c.labels ≡ c.result ∷ [] → (ops : List Op) (p : Place) (fs : Frames) (s : Stack) → 0 < length s.frames → IsSoFar c.result p ops → Holds c p fs → TracksWith None s fs → BeginsBody c ops
+begins c e ops (open_at hs ws) (running gs fs) s l k h m = begun_body c hs ws ops e k (holds_can c (open_at hs ws) (running gs fs) h)
+begins c e ops (complete r b) ended s l k h m = let n = ap length m.0 in absurd (omega (arith, l, n))
+begins c e ops (within n seen hs ws) (in_table i known gs fs) s l k h m = absurd m
+begins c e ops (open_at hs ws) (in_table i known gs fs) s l k h m = absurd h
+begins c e ops (open_at hs ws) ended s l k h m = absurd h
+begins c e ops (within n seen hs ws) (running gs fs) s l k h m = absurd h
+begins c e ops (within n seen hs ws) ended s l k h m = absurd h
+begins c e ops (complete r b) (running gs fs) s l k h m = absurd h
+begins c e ops (complete r b) (in_table i known gs fs) s l k h m = absurd h
+
+begins_before : (c : Context) → c.labels ≡ c.result ∷ [] → (ops : List Op) (p : Place) (fs : Frames) (u : Option BrTable) (s : Stack) (o : Op) → 0 < length s.frames → IsSoFar c.result p ops → Holds c p fs
+    → TracksWith u s fs → InOrder u o → BeginsBefore c ops o
+begins_before c e ops p fs None s (op.Label l) few k h m i = tt
+begins_before c e ops p fs (Some t) s (op.Label l) few k h m i = tt
+begins_before c e ops p fs None s o few k h m i = begins c e ops p fs s few k h m
+begins_before c e ops p fs (Some t) s o few k h m i = absurd i
 
 -- what a constant is of
 constant_kind : (s : IndexSpaces) (x : Item) → IsOpening x → (t : ValType) × (n : ℕ) × IsConstantOf s x t n
@@ -212,10 +240,10 @@ module _ (items : List Item) (h : Held) (t : all_taken after empty_checker items
       let n : length (so_far items).types ≡ 0 = ap (λ (z : IndexSpaces). length z.types) (sym told) ∙ ap length e in
       omega (arith, l, n)
 
-  by_type : (x : Item) (w : Why) → (h.spaces.types ≡ [] → Stood x items → HasNoItem items x) → TypeSays h.spaces.types w → Wrong w items x
-  by_type x why.Index none i = (tt, none i)
-  by_type x why.Arity none i = (tt, λ s. tt)
-  by_type x w none i = absurd i
+  by_result : (w : Why) (v : ValType) → TypeSays h.spaces.types w → Wrong w items (one_result v)
+  by_result why.Index v i = (tt, λ s. absurd (no_types s i))
+  by_result why.Arity v i = (tt, λ s. subst (λ (z : IndexSpaces). LastHasResult z.types) told i)
+  by_result w v i = absurd i
 
   -- what is held of the constant at hand
   record ConstantAtHand (c : ConstantItems items) : Type 0 where
@@ -248,24 +276,24 @@ module _ (items : List Item) (h : Held) (t : all_taken after empty_checker items
       go why.Arity i = tt
       go w i = absurd i
 
-  constant_there : (w : Why) (o : Op) (s : Stood (const_op o) items) → (k : Constant) → k.sees ≡ (constant_at_hand s.0 (before_more s.0.ops o s.1)).globals → OfConstant (so_far items).globals k o w → Says w items (const_op o)
-  constant_there why.NotConst o s k e i = i
-  constant_there why.Index o s k e i =
-      let a = constant_at_hand s.0 (before_more s.0.ops o s.1) in (
-        record { before = s.0.before; opening = s.0.opening; ops = s.0.ops; whole = s.0.whole; wanted = a.wanted; globals = a.globals; constant_of = a.constant_of },
-        hidden_names (so_far items).globals a.globals (few_globals items s.0 a.wanted a.globals a.constant_of) o (subst (λ n. IsHidden (so_far items).globals n o) e i),
-      )
-  constant_there why.Mismatch o s k e i = tt
-  constant_there why.Arity o s k e i = tt
-  constant_there w o s k e i = absurd i
+  abbrev constant_now : (c : ConstantItems items) → ConstantAtHand c → InConstant items
+  constant_now c a = record { before = c.before; opening = c.opening; ops = c.ops; whole = c.whole; wanted = a.wanted; globals = a.globals; constant_of = a.constant_of }
+
+  constant_there : (w : Why) (o : Op) (c : ConstantItems items) (a : ConstantAtHand c) → OfConstant (so_far items).globals a.state.k o w → Says w items (const_op o)
+  constant_there why.NotConst o c a i = i
+  constant_there why.Index o c a i =
+      (constant_now c a, hidden_names (so_far items).globals a.globals (few_globals items c a.wanted a.globals a.constant_of) o (subst (λ n. IsHidden (so_far items).globals n o) a.state.sees i))
+  constant_there why.Mismatch o c a i = (constant_now c a, a.state.none i.0, subst (λ t. HasOtherType t (so_far items).globals o) a.state.expects i.1)
+  constant_there why.Arity o c a i = (constant_now c a, counted_ops a.state.k.seen c.ops o a.state.none a.state.some i)
+  constant_there w o c a i = absurd i
 
   by_constant : (w : Why) (o : Op) → ConstantSays h.spaces.globals h.constant o w → Wrong w items (const_op o)
   by_constant w o i = (
     constant_name h.constant o w i,
     λ s.
-        let a = (constant_at_hand s.0 (before_more s.0.ops o s.1)).state in
-        constant_there w o s a.k a.sees
-        (subst (λ (y : IndexSpaces). OfConstant y.globals a.k o w) told (subst (λ c. ConstantSays h.spaces.globals c o w) a.held i)),
+        let a = constant_at_hand s.0 (before_more s.0.ops o s.1) in
+        constant_there w o s.0 a
+        (subst (λ (y : IndexSpaces). OfConstant y.globals a.state.k o w) told (subst (λ c. ConstantSays h.spaces.globals c o w) a.state.held i)),
   )
 
   -- what is held of the code entry at hand
@@ -361,6 +389,32 @@ module _ (items : List Item) (h : Held) (t : all_taken after empty_checker items
       let order = in_order (context_of_body s.0 a.type_index) k.place k.frames h.body.state.table h.body.state.stacks s.0.code.ops s.1.0 o k.so_far k.holds k.goes s.1.1.labels in
       (body_now s.0, subst (λ z. OpNamesNothing z o) (context_now s.0 open_now.1) (n open_now.0 order))
 
+  -- an op that is refused has no typing, and the ops before it have one
+  op_err : (r : Result Body Why) (w : Why) → checker_after_op h r ≡ Err w → r ≡ Err w
+  op_err (Ok b) w e = absurd (cc)
+  op_err (Err v) w e = let same : v ≡ w = cc in ap Err same
+
+  shared_context : (e : InEntry items) → context_of h.spaces ≡ context_so_far (so_far e.before)
+  shared_context e = ap context_of told ∙ entry_context items e
+
+  ends_typing : (o : Op) (w : Why) → after h (body_op o) ≡ Err w → Stood (body_op o) items → EndsTyping items o
+  ends_typing o w refused s =
+      let open_now = body_open o s in
+      let a = entry_at_hand s.0 in
+      let k = a.held.keeps in
+      let ops = s.0.code.ops in
+      let c : Context = context_of_body s.0 a.type_index in
+      let order = in_order c k.place k.frames h.body.state.table h.body.state.stacks ops s.1.0 o k.so_far k.holds k.goes s.1.1.labels in
+      let one : checker_after_op h (body_after_op (context_of h.spaces) o h.body) ≡ Err w =
+      subst (λ b. cond b (checker_after_op h (body_after_op (context_of h.spaces) o h.body)) (Err why.Index) ≡ Err w) open_now.0 refused in
+      let two : body_after_op (context_so_far (so_far s.0.before)) o h.body ≡ Err w =
+      subst (λ z. body_after_op z o h.body ≡ Err w) (shared_context s.0) (op_err (body_after_op (context_of h.spaces) o h.body) w one) in
+      let none = no_typing (context_so_far (so_far s.0.before)) a.type_index (locals_of s.0.code.runs) ops h.body o w a.held open_now.1 two in (
+        body_now s.0,
+        begins_before c refl ops k.place k.frames h.body.state.table h.body.state.stacks o open_now.1 k.so_far k.holds k.goes order,
+        λ m. none (front_typed c (ops ++ o ∷ []) m.0 (body_can c ((ops ++ o ∷ []) ++ m.0) refl m.1)),
+      )
+
   outside_is : (u : Option BrTable) (fs : List Frame) → OutsideElse u fs → IsNoFirstBranch (map head_of fs)
   outside_is None fs o = o
   outside_is (Some u) fs o = absurd o
@@ -368,21 +422,25 @@ module _ (items : List Item) (h : Held) (t : all_taken after empty_checker items
   else_there : OutsideElse h.body.state.table h.body.state.stacks.frames → Stood (body_op op.Else) items → IsElseOutside items (body_op op.Else)
   else_there o s = (body_now s.0, subst IsNoFirstBranch (sym (heads_now s.0)) (outside_is h.body.state.table h.body.state.stacks.frames o))
 
-  by_op : (w : Why) (o : Op) → OpOf h o w → Wrong w items (body_op o)
-  by_op why.Immutable o i = (tt, λ s. subst (λ (y : IndexSpaces). SetsConstant y.globals o) told i)
-  by_op why.Align o i = (tt, λ s. i)
-  by_op why.Index o i = (tt, none_there o i)
-  by_op why.Mismatch o i = (tt, λ s. tt)
-  by_op why.Arity o i = (tt, λ s. tt)
-  by_op why.ElsePlace op.Else i = (tt, else_there i)
-  by_op why.ElsePlace o i = absurd i
-  by_op w o i = absurd i
+  by_op : (w : Why) (o : Op) → after h (body_op o) ≡ Err w → OpOf h o w → Wrong w items (body_op o)
+  by_op why.Immutable o e i = (tt, λ s. subst (λ (y : IndexSpaces). SetsConstant y.globals o) told i)
+  by_op why.Align o e i = (tt, λ s. i)
+  by_op why.Index o e i = (tt, none_there o i)
+  by_op why.Mismatch o e i = (tt, ends_typing o why.Mismatch e)
+  by_op why.Arity o e i = (tt, ends_typing o why.Arity e)
+  by_op why.ElsePlace op.Else e i = (tt, else_there i)
+  by_op why.ElsePlace o e i = absurd i
+  by_op w o e i = absurd i
 
   pub item_refused : (x : Item) (w : Why) → after h x ≡ Err w → Wrong w items x
   item_refused new_type w e = absurd (cc)
-  item_refused (param v) w e = by_type (param v) w (λ n s. absurd (no_types s n)) (only (TypeSays h.spaces.types) (after h (param v)) w (param_names h v) e)
-  item_refused (result_count n) w e = subst (λ v. Wrong v items (result_count n)) (sym (only (λ v. v ≡ why.Arity) (after h (result_count n)) w (count_name h n) e)) (tt, λ s. tt)
-  item_refused (one_result v) w e = by_type (one_result v) w (λ n s. absurd (no_types s n)) (only (TypeSays h.spaces.types) (after h (one_result v)) w (result_names h v) e)
+  item_refused (param v) w e =
+      let n = only (λ v. (v ≡ why.Index) × (h.spaces.types ≡ [])) (after h (param v)) w (param_names h v) e in
+      subst (λ z. Wrong z items (param v)) (sym n.0) (tt, λ s. absurd (no_types s n.1))
+  item_refused (result_count n) w e =
+      let m = only (λ v. (v ≡ why.Arity) × (1 < n)) (after h (result_count n)) w (count_name h n) e in
+      subst (λ v. Wrong v items (result_count n)) (sym m.0) (tt, λ s. m.1)
+  item_refused (one_result v) w e = by_result w v (only (TypeSays h.spaces.types) (after h (one_result v)) w (result_names h v) e)
   item_refused (import_module name) w e = absurd (cc)
   item_refused (import_name name) w e = absurd (cc)
   item_refused (import_desc d) w e = import_refused d w (spaces_err h (import_added d h.spaces) w e)
@@ -402,6 +460,6 @@ module _ (items : List Item) (h : Held) (t : all_taken after empty_checker items
       let n = only (λ v. (v ≡ why.Index) × (next_type h.spaces ≡ None)) (after h body) w (entry_name h) e in
       is_index body w (sym n.0, sym (ap next_function told) ∙ n.1)
   item_refused (locals n v) w e = by_locals w n v (only (LocalsSay h.in_body h.body n) (after h (locals n v)) w (locals_names items h n v t) e)
-  item_refused (body_op o) w e = by_op w o (only (OpOf h o) (after h (body_op o)) w (op_names items h o t) e)
+  item_refused (body_op o) w e = by_op w o e (only (OpOf h o) (after h (body_op o)) w (op_names items h o t) e)
   item_refused (segment x) w e = is_index (segment x) w (no_item kind.Memory x w (then_err (index_check kind.Memory x h.spaces) _ w e))
   item_refused (data_byte c) w e = absurd (cc)

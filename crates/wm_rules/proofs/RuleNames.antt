@@ -1,4 +1,4 @@
--- Which names types, constants and code entries are refused by, and what Index and NotConst say of them.
+-- Which names types, constants and code entries are refused by, and what Index, Type, Arity and NotConst say of them.
 use Rattle.std.proofs.Common.{◌≡◌, ◌+◌, ◌^◌, ℕ, List, [], ◌∷◌, ◌++◌, Bool, true, false, cond, Option, Some, None, Result, Ok, Err, replicate, length, slice_get, subst, sym, ◌∙◌, ap, refl}
 use Rattle.std.specs.Prelude.{nat_le, nat_lt, nat_eq}
 use Rattle.wm_syntax.specs.declared.types.ValType.{ValType}
@@ -28,10 +28,11 @@ use Rattle.wm_rules.specs.Holding.{IndexSpaces, Held}
 use Rattle.wm_rules.specs.exact.Checking.{after, body_begun, empty_checker, in_constant, in_spaces, one_at_most, checker_after_op, where_ok, with_body, with_constant, with_progress}
 use Rattle.wm_rules.proofs.OutsideBodies.{IsOutside, part_calm}
 use Rattle.wm_rules.proofs.MemberFolds.{ok_then}
-use Rattle.wm_rules.specs.Meanings.{CannotBeConstant}
+use Rattle.wm_rules.specs.Meanings.{CannotBeConstant, HasOtherType, LastHasResult}
+use Rattle.wm_syntax.proofs.SameTypes.{reflexive}
 use Rattle.wm_rules.proofs.OpNames.{NoSuch, Only, OpSays, OutsideElse, body_says}
-use Rattle.std.proofs.lemmas.Bool.{ltb-false}
-use Rattle.std.proofs.Common.{◌≤◌}
+use Rattle.std.proofs.lemmas.Bool.{leb-false, ltb-false}
+use Rattle.std.proofs.Common.{◌≤◌, ◌<◌}
 
 module _ (P : Why → Type 0) where
   both : {A : Type 0} (b : Bool) (x y : Result A Why) → Only P x → Only P y → Only P (cond b x y)
@@ -72,35 +73,66 @@ module _ (P : Why → Type 0) where
   constant_only h (Err w) p = p
 
 -- function types
+pub param_names : (h : Held) (t : ValType) → Only (λ w. (w ≡ why.Index) × (h.spaces.types ≡ [])) (after h (param t))
+param_names h t =
+    let P : Why → Type 0 = λ w. (w ≡ why.Index) × (h.spaces.types ≡ []) in
+    spaces_only P h _ (types_only P h.spaces _ (last_only P (one_param_more t) (λ f. tt) h.spaces.types (λ e. (refl, e))))
+
+pub count_name : (h : Held) (n : ℕ) → Only (λ w. (w ≡ why.Arity) × (1 < n)) (after h (result_count n))
+count_name h n = ok_only (λ w. (w ≡ why.Arity) × (1 < n)) h (one_at_most n) (go (nat_le n 1) refl)
+  where
+    go : (b : Bool) → nat_le n 1 ≡ b → Only (λ w. (w ≡ why.Arity) × (1 < n)) (cond {A = Result (Unit {0}) Why} b (Ok tt) (Err why.Arity))
+    go true e = tt
+    go false e = (refl, leb-false n 1 e)
+
 abbrev pub TypeSays : List Signature → Why → Type 0
 TypeSays types why.Index = types ≡ []
-TypeSays types why.Arity = Unit {0}
+TypeSays types why.Arity = LastHasResult types
 TypeSays types w = ⊥
 
-pub param_names : (h : Held) (t : ValType) → Only (TypeSays h.spaces.types) (after h (param t))
-param_names h t =
-    let P : Why → Type 0 = TypeSays h.spaces.types in
-    spaces_only P h _ (types_only P h.spaces _ (last_only P (one_param_more t) (λ f. tt) h.spaces.types (λ e. e)))
+more_says : (f g : Signature) (fs : List Signature) (w : Why) → TypeSays (g ∷ fs) w → TypeSays (f ∷ g ∷ fs) w
+more_says f g fs why.Index i = absurd (cc)
+more_says f g fs why.Arity i = i
+more_says f g fs w i = absurd i
 
-pub count_name : (h : Held) (n : ℕ) → Only (λ w. w ≡ why.Arity) (after h (result_count n))
-count_name h n = ok_only (λ w. w ≡ why.Arity) h (one_at_most n) (both (λ w. w ≡ why.Arity) (nat_le n 1) (Ok tt) (Err why.Arity) tt refl)
+result_last : (t : ValType) (types : List Signature) → Only (TypeSays types) (on_last (one_result_more t) types)
+result_last t [] = refl
+result_last t (f ∷ []) = go (nat_eq (length f.results) 0) refl
+  where
+    has_one : nat_eq (length f.results) 0 ≡ false → f.results ≡ [] → ⊥
+    has_one e i = let d : nat_eq (length {A = ValType} []) 0 ≡ false = subst (λ (rs : List ValType). nat_eq (length rs) 0 ≡ false) i e in cc (d)
+
+    go : (b : Bool) → nat_eq (length f.results) 0 ≡ b
+        → Only (TypeSays (f ∷ [])) (and_then {A = Signature} (cond b (Ok (record f { results = f.results ++ t ∷ [] })) (Err why.Arity)) (λ y. Ok (y ∷ [])))
+    go true e = tt
+    go false e = has_one e
+result_last t (f ∷ g ∷ fs) = go (on_last (one_result_more t) (g ∷ fs)) (result_last t (g ∷ fs))
+  where
+    go : (r : Result (List Signature) Why) → Only (TypeSays (g ∷ fs)) r → Only (TypeSays (f ∷ g ∷ fs)) (and_then r (λ zs. Ok (f ∷ zs)))
+    go (Ok zs) p = tt
+    go (Err w) p = more_says f g fs w p
 
 pub result_names : (h : Held) (t : ValType) → Only (TypeSays h.spaces.types) (after h (one_result t))
-result_names h t =
-    let P : Why → Type 0 = TypeSays h.spaces.types in
-    spaces_only P h _ (types_only P h.spaces _ (last_only P (one_result_more t)
-    (λ f. both P (nat_eq (length f.results) 0) (Ok (record f { results = f.results ++ t ∷ [] })) (Err why.Arity) tt tt) h.spaces.types (λ e. e)))
+result_names h t = spaces_only (TypeSays h.spaces.types) h _ (types_only (TypeSays h.spaces.types) h.spaces _ (result_last t h.spaces.types))
 
 -- constants: a global that may not be named
 abbrev pub IsHidden : List GlobalType → ℕ → Op → Type 0
 IsHidden globals sees (op.Simple (simple.GlobalGet x)) = visible sees globals x ≡ None
 IsHidden globals sees o = ⊥
 
+-- an end comes first, or another op not first
+abbrev pub CountsWrong : Bool → Op → Type 0
+CountsWrong seen op.End = seen ≡ false
+CountsWrong seen o = seen ≡ true
+
+differ : (t u : ValType) → runs.same t u ≡ false → u ≡ t → ⊥
+differ t u e i = let d : true ≡ false = sym (reflexive u) ∙ (ap (λ z. runs.same z u) i ∙ e) in cc (d)
+
 abbrev pub OfConstant : List GlobalType → Constant → Op → Why → Type 0
 OfConstant globals k o why.NotConst = CannotBeConstant globals o
 OfConstant globals k o why.Index = IsHidden globals k.sees o
-OfConstant globals k o why.Mismatch = Unit {0}
-OfConstant globals k o why.Arity = Unit {0}
+OfConstant globals k o why.Mismatch = (k.seen ≡ false) × HasOtherType k.expects globals o
+OfConstant globals k o why.Arity = CountsWrong k.seen o
 OfConstant globals k o w = ⊥
 
 abbrev pub ConstantSays : List GlobalType → Option Constant → Op → Why → Type 0
@@ -111,33 +143,45 @@ module _ (globals : List GlobalType) (k : Constant) where
   abbrev Said : Op → Result (Option Constant) Why → Type 0
   Said o r = Only (OfConstant globals k o) r
 
-  type_says : (o : Op) (t : ValType) → Said o (of_type t k)
-  type_says o t = both (OfConstant globals k o) (runs.same t k.expects) (Ok (Some (record k { seen = true }))) (Err why.Mismatch) tt tt
+  type_says : (o : Op) (t : ValType) → k.seen ≡ false → ((k.expects ≡ t → ⊥) → HasOtherType k.expects globals o) → Said o (of_type t k)
+  type_says o t first other = go (runs.same t k.expects) refl
+    where
+      go : (b : Bool) → runs.same t k.expects ≡ b → Said o (cond b (Ok (Some (record k { seen = true }))) (Err why.Mismatch))
+      go true e = tt
+      go false e = (first, other (differ t k.expects e))
 
-  first_says : (o : Op) (r : Result (Option Constant) Why) → Said o r → Said o (first_only k r)
-  first_says o r p = both (OfConstant globals k o) k.seen (Err why.Arity) r tt p
+  first_says : (o : Op) (r : Result (Option Constant) Why) → (k.seen ≡ true → CountsWrong k.seen o) → (k.seen ≡ false → Said o r) → Said o (first_only k r)
+  first_says o r many p = go k.seen refl
+    where
+      go : (b : Bool) → k.seen ≡ b → Said o (cond b (Err why.Arity) r)
+      go true e = many e
+      go false e = p e
 
   seen_global : (b : Bool) (o : Option GlobalType) (g : GlobalType) → cond b o None ≡ Some g → o ≡ Some g
   seen_global true o g e = e
   seen_global false o g e = absurd (cc)
 
-  varies : (x : ℕ) (g : GlobalType) (b : Bool) → g.var ≡ b → slice_get globals x ≡ Some g → Said (op.Simple (simple.GlobalGet x)) (cond b (Err why.NotConst) (of_type g.ty k))
-  varies x g true v e = (g, e, v)
-  varies x g false v e = type_says (op.Simple (simple.GlobalGet x)) g.ty
+  varies : (x : ℕ) (g : GlobalType) (b : Bool) → k.seen ≡ false → g.var ≡ b → slice_get globals x ≡ Some g → Said (op.Simple (simple.GlobalGet x)) (cond b (Err why.NotConst) (of_type g.ty k))
+  varies x g true f v e = (g, e, v)
+  varies x g false f v e = type_says (op.Simple (simple.GlobalGet x)) g.ty f (λ d. (g, e, d))
 
-  global_says : (x : ℕ) (g : Option GlobalType) → visible k.sees globals x ≡ g → Said (op.Simple (simple.GlobalGet x)) (of_global g k)
-  global_says x None e = e
-  global_says x (Some g) e = varies x g g.var refl (seen_global (nat_lt x k.sees) (slice_get globals x) g e)
+  global_says : (x : ℕ) (g : Option GlobalType) → k.seen ≡ false → visible k.sees globals x ≡ g → Said (op.Simple (simple.GlobalGet x)) (of_global g k)
+  global_says x None f e = e
+  global_says x (Some g) f e = varies x g g.var f refl (seen_global (nat_lt x k.sees) (slice_get globals x) g e)
 
   simple_says : (p : Simple) → Said (op.Simple p) (constant_after globals (op.Simple p) k)
-  simple_says (simple.I32Const n) = first_says (op.Simple (simple.I32Const n)) (of_type I32 k) (type_says (op.Simple (simple.I32Const n)) I32)
-  simple_says (simple.I64Const n) = first_says (op.Simple (simple.I64Const n)) (of_type I64 k) (type_says (op.Simple (simple.I64Const n)) I64)
-  simple_says (simple.GlobalGet x) = first_says (op.Simple (simple.GlobalGet x)) (of_global (visible k.sees globals x) k) (global_says x (visible k.sees globals x) refl)
+  simple_says (simple.I32Const n) = first_says (op.Simple (simple.I32Const n)) (of_type I32 k) (λ e. e) (λ f. type_says (op.Simple (simple.I32Const n)) I32 f (λ d. d))
+  simple_says (simple.I64Const n) = first_says (op.Simple (simple.I64Const n)) (of_type I64 k) (λ e. e) (λ f. type_says (op.Simple (simple.I64Const n)) I64 f (λ d. d))
+  simple_says (simple.GlobalGet x) = first_says (op.Simple (simple.GlobalGet x)) (of_global (visible k.sees globals x) k) (λ e. e) (λ f. global_says x (visible k.sees globals x) f refl)
   simple_says _ = tt
+
+  end_says : (b : Bool) → k.seen ≡ b → Said op.End (cond b (Ok None) (Err why.Arity))
+  end_says true e = tt
+  end_says false e = e
 
   constant_says : (o : Op) → Said o (constant_after globals o k)
   constant_says (op.Simple p) = simple_says p
-  constant_says op.End = both (OfConstant globals k op.End) k.seen (Ok None) (Err why.Arity) tt tt
+  constant_says op.End = end_says k.seen refl
   constant_says _ = tt
 
 in_constant_says : (o : Op) (h : Held) (c : Option Constant) → Only (ConstantSays h.spaces.globals c o) (in_constant o h c)

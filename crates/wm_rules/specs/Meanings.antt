@@ -1,6 +1,6 @@
 -- What the name of a refusal says of the bytes up to its place, where a rule was broken: of the items that
 -- are complete in them. The names of the format say what they say of any sink.
-use Rattle.std.specs.Prelude.{◌≡◌, ℕ, ◌+◌, ◌^◌, ◌<◌, ◌≤◌, Bool, true, false, List, [], ◌∷◌, ◌++◌, None}
+use Rattle.std.specs.Prelude.{◌≡◌, ◌≢◌, ℕ, ◌+◌, ◌^◌, ◌<◌, ◌≤◌, Bool, true, false, List, [], ◌∷◌, ◌++◌, None}
 use Rattle.std.specs.Prelude.{◌⊎◌, Option, Some, length, map, slice_get}
 use Rattle.wm_syntax.specs.declared.types.GlobalType.{GlobalType}
 use Rattle.wm_syntax.specs.declared.instructions.Simple.TheVariants as simple
@@ -16,15 +16,15 @@ use Rattle.wm_syntax.specs.declared.modules.ExportKind.TheVariants as kind
 use Rattle.wm_syntax.specs.Modules.{locals_of}
 use Rattle.wm_syntax.specs.Types.{Signature}
 use Rattle.wm_syntax.specs.declared.types.ValType.{ValType}
-use Rattle.wm_syntax.specs.declared.types.ValType.TheVariants.{I32}
+use Rattle.wm_syntax.specs.declared.types.ValType.TheVariants.{I32, I64}
 use Rattle.wm_stacks.specs.declared.entries.FrameKind.TheVariants.{If}
 use Rattle.wm_typing.specs.OpenLists.{Head, head, Place, open_at, within, complete, at}
-use Rattle.wm_typing.specs.TypedBodies.{HaveTyping}
+use Rattle.wm_typing.specs.TypedBodies.{HaveTyping, IsTypedBody}
 use Rattle.wm_decode.specs.Flat.{FlatCode, code_items}
 use Rattle.wm_typing.specs.Contexts.{context, body_context}
 use Rattle.wm_typing.specs.Typing.{Context, function_type}
 use Rattle.wm_decode.specs.declared.refusal.Refusal.{Refusal}
-use Rattle.wm_decode.specs.Items.{Item, new_type, param, one_result, import_desc, function, table, memory}
+use Rattle.wm_decode.specs.Items.{Item, new_type, param, result_count, one_result, import_desc, function, table, memory}
 use Rattle.wm_decode.specs.Items.{global, const_op, export_name, export, start, element, element_function}
 use Rattle.wm_decode.specs.Items.{body, locals, body_op, segment}
 use Rattle.wm_decode.specs.Meanings.{AtItem, Meant, Means as MeansOfFormat}
@@ -255,8 +255,56 @@ abbrev pub IsElseOutside : List Item → Item → Type 0
 IsElseOutside items (body_op op.Else) = (b : InBody items) × IsNoFirstBranch (heads_of b.typing.0)
 IsElseOutside items _ = ⊥
 
--- What the name says. It is said of six names of the format, and of ten of rules. Nothing is said of Mismatch
--- and Arity, of the other names of the format, nor of those of a policy.
+-- some typed body begins with these ops (section 3.4.1)
+abbrev pub BeginsBody : Context → List Op → Type 0
+BeginsBody c ops = (more : List Op) × IsTypedBody c (ops ++ more)
+
+-- Of a label of a br_table it is not said: there the ops so far have a typing, but the default may take operands
+-- that are not there.
+abbrev pub BeginsBefore : Context → List Op → Op → Type 0
+BeginsBefore c ops (op.Label l) = Unit {0}
+BeginsBefore c ops _ = BeginsBody c ops
+
+-- Type and Arity, in a body: the ops so far begin a typed one, and with this op they begin none.
+abbrev pub EndsTyping : List Item → Op → Type 0
+EndsTyping items o =
+    (b : InBody items) × BeginsBefore (context_of_body b.entry b.type_index) b.entry.code.ops o
+    × (BeginsBody (context_of_body b.entry b.type_index) (b.entry.code.ops ++ o ∷ []) → ⊥)
+
+-- Type: the instruction of a constant has another type than is wanted (section 3.3.7)
+abbrev pub HasOtherType : ValType → List GlobalType → Op → Type 0
+HasOtherType t globals (op.Simple (simple.I32Const n)) = t ≢ I32
+HasOtherType t globals (op.Simple (simple.I64Const n)) = t ≢ I64
+HasOtherType t globals (op.Simple (simple.GlobalGet x)) =
+    (g : GlobalType) × (slice_get globals x ≡ Some g) × (t ≢ g.ty)
+HasOtherType t globals _ = ⊥
+
+abbrev pub IsMistyped : List Item → Item → Type 0
+IsMistyped items (const_op o) =
+    (c : InConstant items) × (c.ops ≡ []) × HasOtherType c.wanted (so_far items).globals o
+IsMistyped items (body_op o) = EndsTyping items o
+IsMistyped items _ = ⊥
+
+-- Arity: a constant ends with no instruction, or has a second one (section 3.3.7);
+abbrev pub IsNotOne : List Op → Op → Type 0
+IsNotOne ops op.End = ops ≡ []
+IsNotOne ops _ = ops ≢ []
+
+-- a function type has two results or more (section 3.2.2)
+abbrev pub LastHasResult : List Signature → Type 0
+LastHasResult [] = ⊥
+LastHasResult (f ∷ []) = f.results ≢ []
+LastHasResult (f ∷ g ∷ types) = LastHasResult (g ∷ types)
+
+abbrev pub HasWrongCount : List Item → Item → Type 0
+HasWrongCount items (result_count n) = 1 < n
+HasWrongCount items (one_result t) = LastHasResult (so_far items).types
+HasWrongCount items (const_op o) = (c : InConstant items) × IsNotOne c.ops o
+HasWrongCount items (body_op o) = EndsTyping items o
+HasWrongCount items _ = ⊥
+
+-- What the name says. It is said of six names of the format, and of the twelve of rules. Nothing is said of
+-- the other names of the format, nor of those of a policy.
 abbrev pub Means : Profile → ℕ → List ℕ → List ℕ → Why → Type 0
 Means p limit used rest why.Index = AtItem p HasNoItem used
 Means p limit used rest why.Limits = AtItem p IsOutOfRange used
@@ -267,6 +315,8 @@ Means p limit used rest why.NotConst = AtItem p (AtConstant CannotBeConstant) us
 Means p limit used rest why.Immutable = AtItem p (AtOp SetsConstant) used
 Means p limit used rest why.Align = AtItem p (AtOp (λ globals o. IsAlignedPast o)) used
 Means p limit used rest why.TooManyLocals = AtItem p AreTooMany used
+Means p limit used rest why.Mismatch = AtItem p IsMistyped used
+Means p limit used rest why.Arity = AtItem p HasWrongCount used
 Means p limit used rest why.ElsePlace = AtItem p IsElseOutside used
 Means p limit used rest w = MeansOfFormat limit used rest w
 
