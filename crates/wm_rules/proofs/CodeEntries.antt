@@ -19,7 +19,8 @@ use Rattle.wm_typing.specs.exact.Folds.{body_after_ops, body_with_locals}
 use Rattle.wm_typing.proofs.FewRuns.{run_count_more}
 use Rattle.wm_typing.proofs.Folds.{taken_from}
 use Rattle.wm_typing.proofs.StacksAfterOps.{no_operands}
-use Rattle.wm_typing.proofs.AfterCalls.{after_started, twice_at}
+use Rattle.wm_syntax.specs.Instructions.{openings, endings}
+use Rattle.wm_typing.proofs.AfterCalls.{after_started, nested_said, twice_at}
 use Rattle.wm_decode.specs.Grammar.{IsExpression}
 use Rattle.wm_decode.specs.Items.{Item, body, body_op}
 use Rattle.wm_syntax.specs.Modules.{locals_of}
@@ -210,6 +211,17 @@ at_hand before h g c from e =
     let same : (settled (entry_held h) r.last).body ≡ r.last = progress_body (entry_held h) r.last (progress_at r.last.state.stacks.frames) in
     let is : r.last ≡ g.body = sym same ∙ ap (λ (z : Held). z.body) r.is in
     (r.index, r.named, subst (BodyAfter (context_of h.spaces) r.index (locals_of c.runs) c.ops) is (after_ops h g one c.runs c.ops r))
+
+-- where it is at hand no more, its ops have ended it
+pub over_at_hand : (before : List Item) (h g : Held) (c : FlatCode) → all_taken after empty_checker before ≡ Ok h → all_taken after h (code_items c) ≡ Ok g
+    → g.in_body ≡ false → endings c.ops ≡ openings c.ops + 1
+over_at_hand before h g c from e over =
+    let one = parts_one before empty_checker h from tt in
+    let r = reached h g one c.runs c.ops e in
+    let none = none_open (entry_held h) r.last r.last.state.stacks.frames (ap (λ (z : Held). z.in_body) r.is ∙ over) in
+    let l : length r.last.state.stacks.frames ≡ 0 = ap length none in
+    let n = nested_said (context_of h.spaces) r.index (locals_of c.runs) c.ops r.last (after_ops h g one c.runs c.ops r) in
+    omega (arith, l, n)
 
 -- a front of members that are an item each, and what comes after them
 split_map : {X : Type 0} (f : X → Item) (xs : List X) (a b c : List Item) → a ++ b ≡ map f xs ++ c

@@ -1,5 +1,5 @@
 -- What the checker does to the items of a global, an element segment and a data segment.
-use Rattle.std.proofs.Common.{ℕ, zero, suc, ◌+◌, ◌≡◌, ◌<◌, List, [], ◌∷◌, ◌++◌, Option, Some, None, Bool, true, false, cond, Result, Ok, Err, length, take, refl, sym, ◌∙◌, ap, subst, append-nil, arith, map, nat_lt, slice_get}
+use Rattle.std.proofs.Common.{ℕ, zero, suc, ◌+◌, ◌≡◌, ◌<◌, ◌≤◌, List, [], ◌∷◌, ◌++◌, Option, Some, None, Bool, true, false, cond, Result, Ok, Err, length, take, refl, sym, ◌∙◌, ap, subst, append-nil, arith, map, nat_lt, slice_get}
 use Rattle.std.specs.List.{AllByRecursion}
 use Rattle.std.proofs.lemmas.Bool.{lt-ltb, ltb-true}
 use Rattle.std.proofs.lemmas.Bool.Decides.{nat_tests}
@@ -150,6 +150,42 @@ const_sound (o ∷ p ∷ ops) rest t n h g i e =
     let q = second_back p h.spaces.globals t n d.0 d.1 in
     let last : ops ≡ [] = none_left ops h g rest (subst (λ k. all_taken after (with_const h k) (map const_op ops ++ rest) ≡ Ok g) q.1 d.2) in
     (b.c, cc (b.is, q.0, last), b.typed)
+
+-- what is held of a constant at hand, after some ops of it that do not end it
+pub record AfterOps (ops : List Op) (t : ValType) (n : ℕ) (g : Held) : Type 0 where
+  pub k : Constant
+  pub held : g.constant ≡ Some k
+  pub expects : k.expects ≡ t
+  pub sees : k.sees ≡ n
+  pub none : k.seen ≡ false → ops ≡ []
+  pub some : k.seen ≡ true → ops ≡ [] → ⊥
+
+two_ops : (o p : Op) (c : Const) → o ≡ op.Simple (constant c) → p ≡ op.End → endings (o ∷ p ∷ []) ≤ openings (o ∷ p ∷ []) → ⊥
+two_ops o p c s q l = go c (subst (λ z. endings (z ∷ op.End ∷ []) ≤ openings (z ∷ op.End ∷ [])) s (subst (λ z. endings (o ∷ z ∷ []) ≤ openings (o ∷ z ∷ [])) q l))
+  where
+    go : (c : Const) → endings (op.Simple (constant c) ∷ op.End ∷ []) ≤ openings (op.Simple (constant c) ∷ op.End ∷ []) → ⊥
+    go (const.I32 n) z = omega (arith, z)
+    go (const.I64 n) z = omega (arith, z)
+    go (const.Global x) z = omega (arith, z)
+
+last_held : (h g : Held) (k : Option Constant) → all_taken after (with_const h k) [] ≡ Ok g → g.constant ≡ k
+last_held h g k e = let is : with_const h k ≡ g = cc in sym (ap (λ (z : Held). z.constant) is)
+
+pub const_front : (ops : List Op) (t : ValType) (n : ℕ) (h g : Held) → endings ops ≤ openings ops
+    → all_taken after (with_const h (Some (constant_expecting t n))) (map const_op ops) ≡ Ok g → AfterOps ops t n g
+const_front [] t n h g l e = record { k = constant_expecting t n; held = last_held h g (Some (constant_expecting t n)) e; expects = refl; sees = refl; none = λ i. refl; some = λ i. absurd (cc) }
+const_front (o ∷ []) t n h g l e =
+    let a = constant_step (with_const h (Some (constant_expecting t n))) g (constant_after h.spaces.globals o (constant_expecting t n)) [] e in
+    let b = first_back o h.spaces.globals t n a.0 a.1 in
+    record { k = seen_of t n; held = last_held h g a.0 a.2 ∙ b.next; expects = refl; sees = refl; none = λ i. absurd (cc); some = λ i j. cc }
+const_front (o ∷ p ∷ ops) t n h g l e =
+    let a = constant_step (with_const h (Some (constant_expecting t n))) g (constant_after h.spaces.globals o (constant_expecting t n)) (const_op p ∷ map const_op ops) e in
+    let b = first_back o h.spaces.globals t n a.0 a.1 in
+    let d = constant_step (with_const h (Some (seen_of t n))) g (constant_after h.spaces.globals p (seen_of t n)) (map const_op ops)
+    (subst (λ k. all_taken after (with_const h k) (const_op p ∷ map const_op ops) ≡ Ok g) b.next a.2) in
+    let q = second_back p h.spaces.globals t n d.0 d.1 in
+    let last : ops ≡ [] = none_left ops h g [] (subst (λ z. all_taken after (with_const h None) z ≡ Ok g) (sym (append-nil (map const_op ops))) (subst (λ k. all_taken after (with_const h k) (map const_op ops) ≡ Ok g) q.1 d.2)) in
+    absurd (two_ops o p b.c b.is q.0 (subst (λ z. endings (o ∷ p ∷ z) ≤ openings (o ∷ p ∷ z)) last l))
 
 -- globals: an initialiser names imported ones alone
 abbrev pub put_global : Held → FlatGlobal → Held

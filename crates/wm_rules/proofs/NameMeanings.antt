@@ -4,49 +4,32 @@ use Rattle.wm_syntax.specs.declared.profile.Profile.{Profile}
 use Rattle.wm_syntax.specs.declared.why.Why.{Why}
 use Rattle.wm_syntax.specs.declared.why.Why.TheVariants as why
 use Rattle.wm_decode.specs.declared.refusal.Refusal.{Refusal}
-use Rattle.wm_decode.specs.Items.{Item, body_op, locals, items_at}
+use Rattle.wm_decode.specs.Items.{items_at}
 use Rattle.wm_decode.specs.Meanings.{AtItem, IsRuleName, Meant, Means as MeansOfFormat, Meaning as MeaningOfFormat, RefusesBy}
 use Rattle.wm_rules.specs.declared.policy.Policy.{Policy}
 use Rattle.wm_rules.specs.exact.Policing.{checker_after, checker_at_start}
-use Rattle.wm_syntax.specs.declared.instructions.Op.TheVariants as op
-use Rattle.wm_rules.specs.Meanings.{AreTooMany, IsElseOutside, Means, Meaning}
-use Rattle.wm_rules.proofs.EntryItems.{Stood, front_stood}
+use Rattle.wm_rules.specs.Meanings.{Means, Meaning}
+use Rattle.wm_rules.proofs.EntryItems.{front_stood}
 use Rattle.wm_rules.proofs.CountedItems.{IsPolicyName}
 use Rattle.wm_rules.proofs.PolicyInputs.{refused_names}
-use Rattle.wm_rules.proofs.RuleMeanings.{Wrong}
+use Rattle.wm_rules.proofs.RuleMeanings.{Says}
 
 module _ (p : Profile) (limit : ℕ) (q : Policy) where
   abbrev Refuses : Why → List ℕ → Type 0
   Refuses w used = AtItem p (RefusesBy checker_after (checker_at_start q) w) used
 
   -- of a name that no policy gives
-  ruled : (w : Why) (used : List ℕ) → (IsPolicyName w → ⊥) → Refuses w used → AtItem p (Wrong w) used
+  ruled : (w : Why) (used : List ℕ) → (IsPolicyName w → ⊥) → Refuses w used → AtItem p (Says w) used
   ruled w used other a = record {
     told = a.told;
     last = a.last;
     front = a.front;
     item = a.item;
     completes = a.completes;
-    wrong = let f = a.wrong in elim (refused_names q (items_at a.told) f.0 a.item w f.1 f.2) [ inl r ↦ r | inr i ↦ absurd (other i) ];
-  }
-
-  -- with the code entry at hand
-  too_many : (x : Item) (items : List Item) → Stood x items → Wrong why.TooManyLocals items x → AreTooMany items x
-  too_many (locals n t) items s w = (s.0, s.1, w s.0 s.1)
-  too_many x items s w = absurd w
-
-  outside : (x : Item) (items : List Item) → Stood x items → Wrong why.ElsePlace items x → IsElseOutside items x
-  outside (body_op op.Else) items s w = let o = w s in (s, o.0, o.1, o.2, o.3)
-  outside x items s w = absurd w
-
-  at_entry : (w : Why) (W : List Item → Item → Type 0) (used : List ℕ) → ((x : Item) (items : List Item) → Stood x items → Wrong w items x → W items x) → AtItem p (Wrong w) used → AtItem p W used
-  at_entry w W used f a = record {
-    told = a.told;
-    last = a.last;
-    front = a.front;
-    item = a.item;
-    completes = a.completes;
-    wrong = f a.item (items_at a.told) (front_stood p used a.told a.last a.item a.front a.completes) a.wrong;
+    wrong = let f = a.wrong in elim (refused_names q (items_at a.told) f.0 a.item w f.1 f.2) [
+      | inl r ↦ r.1 (front_stood p used a.told a.last a.item a.front a.completes)
+      | inr i ↦ absurd (other i)
+    ];
   }
 
   -- a name of rules that means something, or one of which the format says all
@@ -63,8 +46,10 @@ module _ (p : Profile) (limit : ℕ) (q : Policy) where
   said why.NotConst = inl (tt, λ used rest a. ruled why.NotConst used (λ i. i) a)
   said why.Immutable = inl (tt, λ used rest a. ruled why.Immutable used (λ i. i) a)
   said why.Align = inl (tt, λ used rest a. ruled why.Align used (λ i. i) a)
-  said why.TooManyLocals = inl (tt, λ used rest a. at_entry why.TooManyLocals AreTooMany used too_many (ruled why.TooManyLocals used (λ i. i) a))
-  said why.ElsePlace = inl (tt, λ used rest a. at_entry why.ElsePlace IsElseOutside used outside (ruled why.ElsePlace used (λ i. i) a))
+  said why.TooManyLocals = inl (tt, λ used rest a. ruled why.TooManyLocals used (λ i. i) a)
+  said why.Mismatch = inl (tt, λ used rest a. ruled why.Mismatch used (λ i. i) a)
+  said why.Arity = inl (tt, λ used rest a. ruled why.Arity used (λ i. i) a)
+  said why.ElsePlace = inl (tt, λ used rest a. ruled why.ElsePlace used (λ i. i) a)
   said w = inr (λ used rest m. m)
 
   pub meaning : (input : List ℕ) (r : Refusal) → MeaningOfFormat p limit input r → (IsRuleName r.why → Meant (λ used rest w. Refuses w used) input r) → Meaning p limit input r

@@ -1,4 +1,4 @@
--- Which names an op of a body is refused by, and what Immutable and Align say of it.
+-- Which names an op of a body is refused by, and what Index, Immutable, Align and ElsePlace say of it.
 use Rattle.std.proofs.Common.{◌≡◌, ◌-◌, ◌^◌, ℕ, List, [], ◌∷◌, ◌++◌, Bool, true, false, cond, Option, Some, None, Result, Ok, Err, reverse, length, slice_get, option_to_list, subst, sym, refl}
 use Rattle.std.specs.Prelude.{nat_le, nat_lt, nat_eq}
 use Rattle.wm_syntax.specs.declared.types.ValType.{ValType}
@@ -31,9 +31,10 @@ use Rattle.wm_typing.specs.exact.Bodies.{context_in, body_after_op, body_from as
 use Rattle.wm_typing.specs.Probes.{probes_in}
 use Rattle.wm_decode.specs.Sinks.{and_then}
 use Rattle.std.proofs.lemmas.Bool.{leb-false}
-use Rattle.std.proofs.Common.{map}
+use Rattle.std.proofs.Common.{map, inl, inr}
 use Rattle.wm_typing.specs.OpenLists.{Head, head, head_of}
-use Rattle.wm_rules.specs.Meanings.{IsAlignedPast, IsNoFirstBranch, SetsConstant}
+use Rattle.wm_rules.specs.Meanings.{IsAlignedPast, IsNoFirstBranch, OpNamesNothing, SetsConstant}
+use Rattle.wm_rules.proofs.DueLabels.{InOrder}
 
 -- a refusal, if any, by a name of which this is so
 abbrev pub Only : {A : Type 0} → (Why → Type 0) → Result A Why → Type 0
@@ -144,17 +145,17 @@ abbrev pub OutsideElse : Option BrTable → List Frame → Type 0
 OutsideElse None fs = IsNoFirstBranch (map head_of fs)
 OutsideElse (Some t) fs = ⊥
 
-module _ (E : Type 0) where
+module _ (E N : Type 0) where
   -- what it says of an else
   abbrev pub ElseIs : Op → Type 0
   ElseIs op.Else = E
   ElseIs o = ⊥
 
-  -- what the name of a refused op says of it
+  -- what the name of a refused op says of it: N where it names nothing
   abbrev pub OpSays : List GlobalType → Op → Why → Type 0
   OpSays globals o why.Immutable = SetsConstant globals o
   OpSays globals o why.Align = IsAlignedPast o
-  OpSays globals o why.Index = Unit {0}
+  OpSays globals o why.Index = N
   OpSays globals o why.Mismatch = Unit {0}
   OpSays globals o why.Arity = Unit {0}
   OpSays globals o why.ElsePlace = ElseIs o
@@ -182,44 +183,44 @@ module _ (E : Type 0) where
   ShapeSays c p _ = Unit {0}
 
   module _ (c : Context) (p : Simple) where
-    item_says : {X : Type 0} (o : Option X) (f : X → Effect) → ((x : X) → o ≡ Some x → ShapeSays c p (f x)) → ShapeSays c p (with_item o f)
-    item_says None f h = tt
-    item_says (Some x) f h = h x refl
+    item_says : {X : Type 0} (o : Option X) (f : X → Effect) → (o ≡ None → N) → ((x : X) → o ≡ Some x → ShapeSays c p (f x)) → ShapeSays c p (with_item o f)
+    item_says None f n h = n refl
+    item_says (Some x) f n h = h x refl
 
     true_says : (w : Why) (b : Bool) (s : Effect) → (b ≡ false → OpSays c.globals (op.Simple p) w) → ShapeSays c p s → ShapeSays c p (where_true w b s)
     true_says w true s n h = h
     true_says w false s n h = n refl
 
-  shape_says : (c : Context) (p : Simple) → ShapeSays c p (effect_of c p)
-  shape_says c simple.Unreachable = tt
-  shape_says c simple.Nop = tt
-  shape_says c (simple.Br l) = item_says c (simple.Br l) (slice_get c.labels l) (λ t. is_polymorphic (option_to_list t)) (λ t e. tt)
-  shape_says c (simple.BrIf l) = item_says c (simple.BrIf l) (slice_get c.labels l) (λ t. fixed (option_to_list t ++ I32 ∷ []) (option_to_list t)) (λ t e. tt)
-  shape_says c simple.Return = tt
-  shape_says c (simple.Call x) = item_says c (simple.Call x) (function_type c x) (λ (f : Signature). fixed f.params f.results) (λ f e. tt)
-  shape_says c (simple.CallIndirect x) =
-      true_says c (simple.CallIndirect x) why.Index c.has_table (with_item (slice_get c.types x) (λ (f : Signature). indirect f.params f.results)) (λ e. tt)
-      (item_says c (simple.CallIndirect x) (slice_get c.types x) (λ (f : Signature). indirect f.params f.results) (λ f e. tt))
-  shape_says c simple.Drop = tt
-  shape_says c simple.Select = tt
-  shape_says c (simple.LocalGet x) = item_says c (simple.LocalGet x) (slice_get c.locals x) (λ t. fixed [] (t ∷ [])) (λ t e. tt)
-  shape_says c (simple.LocalSet x) = item_says c (simple.LocalSet x) (slice_get c.locals x) (λ t. fixed (t ∷ []) []) (λ t e. tt)
-  shape_says c (simple.LocalTee x) = item_says c (simple.LocalTee x) (slice_get c.locals x) (λ t. fixed (t ∷ []) (t ∷ [])) (λ t e. tt)
-  shape_says c (simple.GlobalGet x) = item_says c (simple.GlobalGet x) (slice_get c.globals x) (λ (g : GlobalType). fixed [] (g.ty ∷ [])) (λ g e. tt)
-  shape_says c (simple.GlobalSet x) =
-      item_says c (simple.GlobalSet x) (slice_get c.globals x) (λ (g : GlobalType). where_true why.Immutable g.var (fixed (g.ty ∷ []) []))
+  shape_says : (c : Context) (p : Simple) → (OpNamesNothing c (op.Simple p) → N) → ShapeSays c p (effect_of c p)
+  shape_says c simple.Unreachable n = tt
+  shape_says c simple.Nop n = tt
+  shape_says c (simple.Br l) n = item_says c (simple.Br l) (slice_get c.labels l) (λ t. is_polymorphic (option_to_list t)) n (λ t e. tt)
+  shape_says c (simple.BrIf l) n = item_says c (simple.BrIf l) (slice_get c.labels l) (λ t. fixed (option_to_list t ++ I32 ∷ []) (option_to_list t)) n (λ t e. tt)
+  shape_says c simple.Return n = tt
+  shape_says c (simple.Call x) n = item_says c (simple.Call x) (function_type c x) (λ (f : Signature). fixed f.params f.results) n (λ f e. tt)
+  shape_says c (simple.CallIndirect x) n =
+      true_says c (simple.CallIndirect x) why.Index c.has_table (with_item (slice_get c.types x) (λ (f : Signature). indirect f.params f.results)) (λ e. n (inl e))
+      (item_says c (simple.CallIndirect x) (slice_get c.types x) (λ (f : Signature). indirect f.params f.results) (λ e. n (inr e)) (λ f e. tt))
+  shape_says c simple.Drop n = tt
+  shape_says c simple.Select n = tt
+  shape_says c (simple.LocalGet x) n = item_says c (simple.LocalGet x) (slice_get c.locals x) (λ t. fixed [] (t ∷ [])) n (λ t e. tt)
+  shape_says c (simple.LocalSet x) n = item_says c (simple.LocalSet x) (slice_get c.locals x) (λ t. fixed (t ∷ []) []) n (λ t e. tt)
+  shape_says c (simple.LocalTee x) n = item_says c (simple.LocalTee x) (slice_get c.locals x) (λ t. fixed (t ∷ []) (t ∷ [])) n (λ t e. tt)
+  shape_says c (simple.GlobalGet x) n = item_says c (simple.GlobalGet x) (slice_get c.globals x) (λ (g : GlobalType). fixed [] (g.ty ∷ [])) n (λ g e. tt)
+  shape_says c (simple.GlobalSet x) n =
+      item_says c (simple.GlobalSet x) (slice_get c.globals x) (λ (g : GlobalType). where_true why.Immutable g.var (fixed (g.ty ∷ []) [])) n
       (λ g e. true_says c (simple.GlobalSet x) why.Immutable g.var (fixed (g.ty ∷ []) []) (λ v. (g, e, v)) tt)
-  shape_says c simple.MemorySize = true_says c simple.MemorySize why.Index c.has_memory (fixed [] (I32 ∷ [])) (λ e. tt) tt
-  shape_says c simple.MemoryGrow = true_says c simple.MemoryGrow why.Index c.has_memory (fixed (I32 ∷ []) (I32 ∷ [])) (λ e. tt) tt
-  shape_says c (simple.I32Const n) = tt
-  shape_says c (simple.I64Const n) = tt
-  shape_says c (simple.Load o at) =
-      true_says c (simple.Load o at) why.Index c.has_memory (where_true why.Align (nat_le (2 ^ at.align) (load o).width) (fixed (I32 ∷ []) ((load o).ty ∷ []))) (λ e. tt)
+  shape_says c simple.MemorySize n = true_says c simple.MemorySize why.Index c.has_memory (fixed [] (I32 ∷ [])) n tt
+  shape_says c simple.MemoryGrow n = true_says c simple.MemoryGrow why.Index c.has_memory (fixed (I32 ∷ []) (I32 ∷ [])) n tt
+  shape_says c (simple.I32Const m) n = tt
+  shape_says c (simple.I64Const m) n = tt
+  shape_says c (simple.Load o at) n =
+      true_says c (simple.Load o at) why.Index c.has_memory (where_true why.Align (nat_le (2 ^ at.align) (load o).width) (fixed (I32 ∷ []) ((load o).ty ∷ []))) n
       (true_says c (simple.Load o at) why.Align (nat_le (2 ^ at.align) (load o).width) (fixed (I32 ∷ []) ((load o).ty ∷ [])) (λ e. leb-false (2 ^ at.align) (load o).width e) tt)
-  shape_says c (simple.Store o at) =
-      true_says c (simple.Store o at) why.Index c.has_memory (where_true why.Align (nat_le (2 ^ at.align) (store o).width) (fixed (I32 ∷ (store o).ty ∷ []) [])) (λ e. tt)
+  shape_says c (simple.Store o at) n =
+      true_says c (simple.Store o at) why.Index c.has_memory (where_true why.Align (nat_le (2 ^ at.align) (store o).width) (fixed (I32 ∷ (store o).ty ∷ []) [])) n
       (true_says c (simple.Store o at) why.Align (nat_le (2 ^ at.align) (store o).width) (fixed (I32 ∷ (store o).ty ∷ []) []) (λ e. leb-false (2 ^ at.align) (store o).width e) tt)
-  shape_says c (simple.Numeric o) = tt
+  shape_says c (simple.Numeric o) n = tt
 
   module _ (c : Context) (p : Simple) where
     abbrev Answers : Result Stack Why → Type 0
@@ -256,40 +257,50 @@ module _ (E : Type 0) where
         both (may_end f.kind f.result) (drive_close f.result s (λ g z. Ok (give_to z.frames f.result z))) (Err why.Mismatch)
         (close_other f.result s (λ g z. Ok (give_to z.frames f.result z)) (λ g z. tt)) tt
 
-    label_says : (l : ℕ) (o : Option (Option ValType)) (t : BrTable) (s : Stack) → Said globals (op.Label l) (drive_label o t s)
-    label_says l None t s = tt
-    label_says l (Some u) t s = said globals (op.Label l) (drive_label (Some u) t s) (both (goes_with t.seen u) (drive_known u t s) (Err why.Mismatch) (known_other u t s) tt)
+    label_says : (l : ℕ) (o : Option (Option ValType)) (t : BrTable) (s : Stack) → (o ≡ None → N) → Said globals (op.Label l) (drive_label o t s)
+    label_says l None t s n = n refl
+    label_says l (Some u) t s n = said globals (op.Label l) (drive_label (Some u) t s) (both (goes_with t.seen u) (drive_known u t s) (Err why.Mismatch) (known_other u t s) tt)
 
-op_says : (c : Context) (o : Op) (t : Option BrTable) (s : Stack) → Said (OutsideElse t s.frames) c.globals o (drive_op c o t s)
-op_says c (op.Label l) (Some t) s = label_says (OutsideElse (Some t) s.frames) c.globals l (slice_get (labels_of s.frames) l) t s
-op_says c (op.Simple p) None s =
-    let k = within_frames c s.frames in
-    table_says (OutsideElse None s.frames) c.globals (op.Simple p) None (drive (effect_of k p) s) (drive_says (OutsideElse None s.frames) k p (effect_of k p) s (shape_says (OutsideElse None s.frames) k p))
-op_says c (op.Block t) None s = tt
-op_says c (op.Loop t) None s = tt
-op_says c (op.If t) None s = table_says (OutsideElse None s.frames) c.globals (op.If t) None (drive_if t s) (said (OutsideElse None s.frames) c.globals (op.If t) (drive_if t s) (on_other (take_all (I32 ∷ []) s) (λ r z. Ok (open_frame If t z)) (take_other (I32 ∷ []) s) (λ r z. tt)))
-op_says c op.Else None s = table_says (OutsideElse None s.frames) c.globals op.Else None (drive_else s.frames s) (else_at (OutsideElse None s.frames) c.globals s.frames s (λ i. i))
-op_says c op.End None s = table_says (OutsideElse None s.frames) c.globals op.End None (drive_end s.frames s) (said (OutsideElse None s.frames) c.globals op.End (drive_end s.frames s) (end_other (OutsideElse None s.frames) c.globals s.frames s))
-op_says c (op.BrTable n) None s =
-    table_says (OutsideElse None s.frames) c.globals (op.BrTable n) (Some (record { left = n; seen = None })) (drive_count s)
-    (said (OutsideElse None s.frames) c.globals (op.BrTable n) (drive_count s) (on_other (take_all (I32 ∷ []) s) (λ r z. Ok z) (take_other (I32 ∷ []) s) (λ r z. tt)))
-op_says c (op.Label l) None s = tt
-op_says c (op.Simple p) (Some t) s = tt
-op_says c (op.Block u) (Some t) s = tt
-op_says c (op.Loop u) (Some t) s = tt
-op_says c (op.If u) (Some t) s = tt
-op_says c op.Else (Some t) s = tt
-op_says c op.End (Some t) s = tt
-op_says c (op.BrTable n) (Some t) s = tt
+-- it may stand there, and names nothing
+abbrev pub NoSuch : Context → Option BrTable → List Frame → Op → Type 0
+NoSuch c t fs o = InOrder t o → OpNamesNothing (within_frames c fs) o
 
--- a body that was not refused
-stepped_says : (E : Type 0) (globals : List GlobalType) (o : Op) (b : Body) (n : ℕ) (r : Result BodyState Why) → Said E globals o r → Said E globals o (body_stepped_to b n r)
-stepped_says E globals o b n (Ok s) h = tt
-stepped_says E globals o b n (Err w) h = h
+module _ (N : Type 0) where
+  op_says : (c : Context) (o : Op) (t : Option BrTable) (s : Stack) → (NoSuch c t s.frames o → N) → Said (OutsideElse t s.frames) N c.globals o (drive_op c o t s)
+  op_says c (op.Label l) (Some t) s n = label_says (OutsideElse (Some t) s.frames) N c.globals l (slice_get (labels_of s.frames) l) t s (λ e. n (λ i. e))
+  op_says c (op.Simple p) None s n =
+      let k = within_frames c s.frames in
+      table_says (OutsideElse None s.frames) N c.globals (op.Simple p) None (drive (effect_of k p) s)
+      (drive_says (OutsideElse None s.frames) N k p (effect_of k p) s (shape_says (OutsideElse None s.frames) N k p (λ e. n (λ i. e))))
+  op_says c (op.Block t) None s n = tt
+  op_says c (op.Loop t) None s n = tt
+  op_says c (op.If t) None s n =
+      table_says (OutsideElse None s.frames) N c.globals (op.If t) None (drive_if t s)
+      (said (OutsideElse None s.frames) N c.globals (op.If t) (drive_if t s) (on_other (take_all (I32 ∷ []) s) (λ r z. Ok (open_frame If t z)) (take_other (I32 ∷ []) s) (λ r z. tt)))
+  op_says c op.Else None s n = table_says (OutsideElse None s.frames) N c.globals op.Else None (drive_else s.frames s) (else_at (OutsideElse None s.frames) N c.globals s.frames s (λ i. i))
+  op_says c op.End None s n =
+      table_says (OutsideElse None s.frames) N c.globals op.End None (drive_end s.frames s)
+      (said (OutsideElse None s.frames) N c.globals op.End (drive_end s.frames s) (end_other (OutsideElse None s.frames) N c.globals s.frames s))
+  op_says c (op.BrTable m) None s n =
+      table_says (OutsideElse None s.frames) N c.globals (op.BrTable m) (Some (record { left = m; seen = None })) (drive_count s)
+      (said (OutsideElse None s.frames) N c.globals (op.BrTable m) (drive_count s) (on_other (take_all (I32 ∷ []) s) (λ r z. Ok z) (take_other (I32 ∷ []) s) (λ r z. tt)))
+  op_says c (op.Label l) None s n = n (λ i. absurd i)
+  op_says c (op.Simple p) (Some t) s n = n (λ i. absurd i)
+  op_says c (op.Block u) (Some t) s n = n (λ i. absurd i)
+  op_says c (op.Loop u) (Some t) s n = n (λ i. absurd i)
+  op_says c (op.If u) (Some t) s n = n (λ i. absurd i)
+  op_says c op.Else (Some t) s n = n (λ i. absurd i)
+  op_says c op.End (Some t) s n = n (λ i. absurd i)
+  op_says c (op.BrTable m) (Some t) s n = n (λ i. absurd i)
 
-pub body_says : (c : Context) (o : Op) (b : Body) → b.refused ≡ None → Said (OutsideElse b.state.table b.state.stacks.frames) c.globals o (body_after_op c o b)
-body_says c o b e =
-    let E : Type 0 = OutsideElse b.state.table b.state.stacks.frames in
-    let r : Result Body Why = body_stepped_to b (probes_in c b o) (step (context_in c b) b.state o) in
-    subst (λ w. Said E c.globals o (unless_refused w r)) (sym e)
-    (stepped_says E c.globals o b (probes_in c b o) (step (context_in c b) b.state o) (op_says (context_in c b) o b.state.table b.state.stacks))
+  -- a body that was not refused
+  stepped_says : (E : Type 0) (globals : List GlobalType) (o : Op) (b : Body) (probes : ℕ) (r : Result BodyState Why) → Said E N globals o r → Said E N globals o (body_stepped_to b probes r)
+  stepped_says E globals o b probes (Ok s) h = tt
+  stepped_says E globals o b probes (Err w) h = h
+
+  pub body_says : (c : Context) (o : Op) (b : Body) → b.refused ≡ None → (NoSuch (context_in c b) b.state.table b.state.stacks.frames o → N) → Said (OutsideElse b.state.table b.state.stacks.frames) N c.globals o (body_after_op c o b)
+  body_says c o b e n =
+      let E : Type 0 = OutsideElse b.state.table b.state.stacks.frames in
+      let r : Result Body Why = body_stepped_to b (probes_in c b o) (step (context_in c b) b.state o) in
+      subst (λ w. Said E N c.globals o (unless_refused w r)) (sym e)
+      (stepped_says E c.globals o b (probes_in c b o) (step (context_in c b) b.state o) (op_says (context_in c b) o b.state.table b.state.stacks n))

@@ -1,4 +1,4 @@
--- Which names types, constants and code entries are refused by, and what NotConst says of a constant.
+-- Which names types, constants and code entries are refused by, and what Index, Type, Arity and NotConst say of them.
 use Rattle.std.proofs.Common.{◌≡◌, ◌+◌, ◌^◌, ℕ, List, [], ◌∷◌, ◌++◌, Bool, true, false, cond, Option, Some, None, Result, Ok, Err, replicate, length, slice_get, subst, sym, ◌∙◌, ap, refl}
 use Rattle.std.specs.Prelude.{nat_le, nat_lt, nat_eq}
 use Rattle.wm_syntax.specs.declared.types.ValType.{ValType}
@@ -28,10 +28,11 @@ use Rattle.wm_rules.specs.Holding.{IndexSpaces, Held}
 use Rattle.wm_rules.specs.exact.Checking.{after, body_begun, empty_checker, in_constant, in_spaces, one_at_most, checker_after_op, where_ok, with_body, with_constant, with_progress}
 use Rattle.wm_rules.proofs.OutsideBodies.{IsOutside, part_calm}
 use Rattle.wm_rules.proofs.MemberFolds.{ok_then}
-use Rattle.wm_rules.specs.Meanings.{CannotBeConstant}
-use Rattle.wm_rules.proofs.OpNames.{Only, OpSays, OutsideElse, body_says}
-use Rattle.std.proofs.lemmas.Bool.{ltb-false}
-use Rattle.std.proofs.Common.{◌≤◌}
+use Rattle.wm_rules.specs.Meanings.{CannotBeConstant, HasOtherType, LastHasResult}
+use Rattle.wm_syntax.proofs.SameTypes.{reflexive}
+use Rattle.wm_rules.proofs.OpNames.{NoSuch, Only, OpSays, OutsideElse, body_says}
+use Rattle.std.proofs.lemmas.Bool.{leb-false, ltb-false}
+use Rattle.std.proofs.Common.{◌≤◌, ◌<◌}
 
 module _ (P : Why → Type 0) where
   both : {A : Type 0} (b : Bool) (x y : Result A Why) → Only P x → Only P y → Only P (cond b x y)
@@ -54,10 +55,10 @@ module _ (P : Why → Type 0) where
   types_only s (Ok ts) p = tt
   types_only s (Err w) p = p
 
-  last_only : {X : Type 0} (f : X → Result X Why) → P why.Index → ((x : X) → Only P (f x)) → (xs : List X) → Only P (on_last f xs)
-  last_only f i h [] = i
-  last_only f i h (x ∷ []) = then_only (f x) (λ y. Ok (y ∷ [])) (h x) (λ y. tt)
-  last_only f i h (x ∷ y ∷ ys) = then_only (on_last f (y ∷ ys)) (λ zs. Ok (x ∷ zs)) (last_only f i h (y ∷ ys)) (λ zs. tt)
+  last_only : {X : Type 0} (f : X → Result X Why) → ((x : X) → Only P (f x)) → (xs : List X) → (xs ≡ [] → P why.Index) → Only P (on_last f xs)
+  last_only f h [] i = i refl
+  last_only f h (x ∷ []) i = then_only (f x) (λ y. Ok (y ∷ [])) (h x) (λ y. tt)
+  last_only f h (x ∷ y ∷ ys) i = then_only (on_last f (y ∷ ys)) (λ zs. Ok (x ∷ zs)) (last_only f h (y ∷ ys) (λ e. absurd (cc))) (λ zs. tt)
 
   held_only : (h : Held) (r : Result Body Why) → Only P r → Only P (checker_after_op h r)
   held_only h (Ok b) p = tt
@@ -72,105 +73,167 @@ module _ (P : Why → Type 0) where
   constant_only h (Err w) p = p
 
 -- function types
-abbrev pub IsTypeName : Why → Type 0
-IsTypeName why.Index = Unit {0}
-IsTypeName why.Arity = Unit {0}
-IsTypeName w = ⊥
+pub param_names : (h : Held) (t : ValType) → Only (λ w. (w ≡ why.Index) × (h.spaces.types ≡ [])) (after h (param t))
+param_names h t =
+    let P : Why → Type 0 = λ w. (w ≡ why.Index) × (h.spaces.types ≡ []) in
+    spaces_only P h _ (types_only P h.spaces _ (last_only P (one_param_more t) (λ f. tt) h.spaces.types (λ e. (refl, e))))
 
-pub param_names : (h : Held) (t : ValType) → Only IsTypeName (after h (param t))
-param_names h t = spaces_only IsTypeName h _ (types_only IsTypeName h.spaces _ (last_only IsTypeName (one_param_more t) tt (λ f. tt) h.spaces.types))
+pub count_name : (h : Held) (n : ℕ) → Only (λ w. (w ≡ why.Arity) × (1 < n)) (after h (result_count n))
+count_name h n = ok_only (λ w. (w ≡ why.Arity) × (1 < n)) h (one_at_most n) (go (nat_le n 1) refl)
+  where
+    go : (b : Bool) → nat_le n 1 ≡ b → Only (λ w. (w ≡ why.Arity) × (1 < n)) (cond {A = Result (Unit {0}) Why} b (Ok tt) (Err why.Arity))
+    go true e = tt
+    go false e = (refl, leb-false n 1 e)
 
-pub count_name : (h : Held) (n : ℕ) → Only (λ w. w ≡ why.Arity) (after h (result_count n))
-count_name h n = ok_only (λ w. w ≡ why.Arity) h (one_at_most n) (both (λ w. w ≡ why.Arity) (nat_le n 1) (Ok tt) (Err why.Arity) tt refl)
+abbrev pub TypeSays : List Signature → Why → Type 0
+TypeSays types why.Index = types ≡ []
+TypeSays types why.Arity = LastHasResult types
+TypeSays types w = ⊥
 
-pub result_names : (h : Held) (t : ValType) → Only IsTypeName (after h (one_result t))
-result_names h t =
-    spaces_only IsTypeName h _ (types_only IsTypeName h.spaces _ (last_only IsTypeName (one_result_more t) tt
-    (λ f. both IsTypeName (nat_eq (length f.results) 0) (Ok (record f { results = f.results ++ t ∷ [] })) (Err why.Arity) tt tt) h.spaces.types))
+more_says : (f g : Signature) (fs : List Signature) (w : Why) → TypeSays (g ∷ fs) w → TypeSays (f ∷ g ∷ fs) w
+more_says f g fs why.Index i = absurd (cc)
+more_says f g fs why.Arity i = i
+more_says f g fs w i = absurd i
 
--- constants
-abbrev pub ConstantSays : List GlobalType → Op → Why → Type 0
-ConstantSays globals o why.NotConst = CannotBeConstant globals o
-ConstantSays globals o why.Index = Unit {0}
-ConstantSays globals o why.Mismatch = Unit {0}
-ConstantSays globals o why.Arity = Unit {0}
-ConstantSays globals o w = ⊥
+result_last : (t : ValType) (types : List Signature) → Only (TypeSays types) (on_last (one_result_more t) types)
+result_last t [] = refl
+result_last t (f ∷ []) = go (nat_eq (length f.results) 0) refl
+  where
+    has_one : nat_eq (length f.results) 0 ≡ false → f.results ≡ [] → ⊥
+    has_one e i = let d : nat_eq (length {A = ValType} []) 0 ≡ false = subst (λ (rs : List ValType). nat_eq (length rs) 0 ≡ false) i e in cc (d)
 
-module _ (globals : List GlobalType) where
+    go : (b : Bool) → nat_eq (length f.results) 0 ≡ b
+        → Only (TypeSays (f ∷ [])) (and_then {A = Signature} (cond b (Ok (record f { results = f.results ++ t ∷ [] })) (Err why.Arity)) (λ y. Ok (y ∷ [])))
+    go true e = tt
+    go false e = has_one e
+result_last t (f ∷ g ∷ fs) = go (on_last (one_result_more t) (g ∷ fs)) (result_last t (g ∷ fs))
+  where
+    go : (r : Result (List Signature) Why) → Only (TypeSays (g ∷ fs)) r → Only (TypeSays (f ∷ g ∷ fs)) (and_then r (λ zs. Ok (f ∷ zs)))
+    go (Ok zs) p = tt
+    go (Err w) p = more_says f g fs w p
+
+pub result_names : (h : Held) (t : ValType) → Only (TypeSays h.spaces.types) (after h (one_result t))
+result_names h t = spaces_only (TypeSays h.spaces.types) h _ (types_only (TypeSays h.spaces.types) h.spaces _ (result_last t h.spaces.types))
+
+-- constants: a global that may not be named
+abbrev pub IsHidden : List GlobalType → ℕ → Op → Type 0
+IsHidden globals sees (op.Simple (simple.GlobalGet x)) = visible sees globals x ≡ None
+IsHidden globals sees o = ⊥
+
+-- an end comes first, or another op not first
+abbrev pub CountsWrong : Bool → Op → Type 0
+CountsWrong seen op.End = seen ≡ false
+CountsWrong seen o = seen ≡ true
+
+differ : (t u : ValType) → runs.same t u ≡ false → u ≡ t → ⊥
+differ t u e i = let d : true ≡ false = sym (reflexive u) ∙ (ap (λ z. runs.same z u) i ∙ e) in cc (d)
+
+abbrev pub OfConstant : List GlobalType → Constant → Op → Why → Type 0
+OfConstant globals k o why.NotConst = CannotBeConstant globals o
+OfConstant globals k o why.Index = IsHidden globals k.sees o
+OfConstant globals k o why.Mismatch = (k.seen ≡ false) × HasOtherType k.expects globals o
+OfConstant globals k o why.Arity = CountsWrong k.seen o
+OfConstant globals k o w = ⊥
+
+abbrev pub ConstantSays : List GlobalType → Option Constant → Op → Why → Type 0
+ConstantSays globals None o w = w ≡ why.Index
+ConstantSays globals (Some k) o w = OfConstant globals k o w
+
+module _ (globals : List GlobalType) (k : Constant) where
   abbrev Said : Op → Result (Option Constant) Why → Type 0
-  Said o r = Only (ConstantSays globals o) r
+  Said o r = Only (OfConstant globals k o) r
 
-  type_says : (o : Op) (t : ValType) (k : Constant) → Said o (of_type t k)
-  type_says o t k = both (ConstantSays globals o) (runs.same t k.expects) (Ok (Some (record k { seen = true }))) (Err why.Mismatch) tt tt
+  type_says : (o : Op) (t : ValType) → k.seen ≡ false → ((k.expects ≡ t → ⊥) → HasOtherType k.expects globals o) → Said o (of_type t k)
+  type_says o t first other = go (runs.same t k.expects) refl
+    where
+      go : (b : Bool) → runs.same t k.expects ≡ b → Said o (cond b (Ok (Some (record k { seen = true }))) (Err why.Mismatch))
+      go true e = tt
+      go false e = (first, other (differ t k.expects e))
 
-  first_says : (o : Op) (k : Constant) (r : Result (Option Constant) Why) → Said o r → Said o (first_only k r)
-  first_says o k r p = both (ConstantSays globals o) k.seen (Err why.Arity) r tt p
+  first_says : (o : Op) (r : Result (Option Constant) Why) → (k.seen ≡ true → CountsWrong k.seen o) → (k.seen ≡ false → Said o r) → Said o (first_only k r)
+  first_says o r many p = go k.seen refl
+    where
+      go : (b : Bool) → k.seen ≡ b → Said o (cond b (Err why.Arity) r)
+      go true e = many e
+      go false e = p e
 
   seen_global : (b : Bool) (o : Option GlobalType) (g : GlobalType) → cond b o None ≡ Some g → o ≡ Some g
   seen_global true o g e = e
   seen_global false o g e = absurd (cc)
 
-  varies : (x : ℕ) (k : Constant) (g : GlobalType) (b : Bool) → g.var ≡ b → slice_get globals x ≡ Some g → Said (op.Simple (simple.GlobalGet x)) (cond b (Err why.NotConst) (of_type g.ty k))
-  varies x k g true v e = (g, e, v)
-  varies x k g false v e = type_says (op.Simple (simple.GlobalGet x)) g.ty k
+  varies : (x : ℕ) (g : GlobalType) (b : Bool) → k.seen ≡ false → g.var ≡ b → slice_get globals x ≡ Some g → Said (op.Simple (simple.GlobalGet x)) (cond b (Err why.NotConst) (of_type g.ty k))
+  varies x g true f v e = (g, e, v)
+  varies x g false f v e = type_says (op.Simple (simple.GlobalGet x)) g.ty f (λ d. (g, e, d))
 
-  global_says : (x : ℕ) (k : Constant) (g : Option GlobalType) → visible k.sees globals x ≡ g → Said (op.Simple (simple.GlobalGet x)) (of_global g k)
-  global_says x k None e = tt
-  global_says x k (Some g) e = varies x k g g.var refl (seen_global (nat_lt x k.sees) (slice_get globals x) g e)
+  global_says : (x : ℕ) (g : Option GlobalType) → k.seen ≡ false → visible k.sees globals x ≡ g → Said (op.Simple (simple.GlobalGet x)) (of_global g k)
+  global_says x None f e = e
+  global_says x (Some g) f e = varies x g g.var f refl (seen_global (nat_lt x k.sees) (slice_get globals x) g e)
 
-  simple_says : (p : Simple) (k : Constant) → Said (op.Simple p) (constant_after globals (op.Simple p) k)
-  simple_says (simple.I32Const n) k = first_says (op.Simple (simple.I32Const n)) k (of_type I32 k) (type_says (op.Simple (simple.I32Const n)) I32 k)
-  simple_says (simple.I64Const n) k = first_says (op.Simple (simple.I64Const n)) k (of_type I64 k) (type_says (op.Simple (simple.I64Const n)) I64 k)
-  simple_says (simple.GlobalGet x) k = first_says (op.Simple (simple.GlobalGet x)) k (of_global (visible k.sees globals x) k) (global_says x k (visible k.sees globals x) refl)
-  simple_says _ k = tt
+  simple_says : (p : Simple) → Said (op.Simple p) (constant_after globals (op.Simple p) k)
+  simple_says (simple.I32Const n) = first_says (op.Simple (simple.I32Const n)) (of_type I32 k) (λ e. e) (λ f. type_says (op.Simple (simple.I32Const n)) I32 f (λ d. d))
+  simple_says (simple.I64Const n) = first_says (op.Simple (simple.I64Const n)) (of_type I64 k) (λ e. e) (λ f. type_says (op.Simple (simple.I64Const n)) I64 f (λ d. d))
+  simple_says (simple.GlobalGet x) = first_says (op.Simple (simple.GlobalGet x)) (of_global (visible k.sees globals x) k) (λ e. e) (λ f. global_says x (visible k.sees globals x) f refl)
+  simple_says _ = tt
 
-  constant_says : (o : Op) (k : Constant) → Said o (constant_after globals o k)
-  constant_says (op.Simple p) k = simple_says p k
-  constant_says op.End k = both (ConstantSays globals op.End) k.seen (Ok None) (Err why.Arity) tt tt
-  constant_says _ k = tt
+  end_says : (b : Bool) → k.seen ≡ b → Said op.End (cond b (Ok None) (Err why.Arity))
+  end_says true e = tt
+  end_says false e = e
 
-in_constant_says : (o : Op) (h : Held) (c : Option Constant) → Only (ConstantSays h.spaces.globals o) (in_constant o h c)
-in_constant_says o h None = tt
-in_constant_says o h (Some k) = constant_only (ConstantSays h.spaces.globals o) h (constant_after h.spaces.globals o k) (constant_says h.spaces.globals o k)
+  constant_says : (o : Op) → Said o (constant_after globals o k)
+  constant_says (op.Simple p) = simple_says p
+  constant_says op.End = end_says k.seen refl
+  constant_says _ = tt
 
-pub constant_names : (h : Held) (o : Op) → Only (ConstantSays h.spaces.globals o) (after h (const_op o))
+in_constant_says : (o : Op) (h : Held) (c : Option Constant) → Only (ConstantSays h.spaces.globals c o) (in_constant o h c)
+in_constant_says o h None = refl
+in_constant_says o h (Some k) = constant_only (OfConstant h.spaces.globals k o) h (constant_after h.spaces.globals o k) (constant_says h.spaces.globals k o)
+
+pub constant_names : (h : Held) (o : Op) → Only (ConstantSays h.spaces.globals h.constant o) (after h (const_op o))
 constant_names h o = in_constant_says o h h.constant
 
 -- code entries, whose body was not refused
 abbrev IsUnrefused : Held → Type 0
 IsUnrefused h = h.body.refused ≡ None
 
-begun_only : (h : Held) (x : Option ℕ) → Only (λ w. w ≡ why.Index) (body_begun h x)
-begun_only h None = refl
+begun_only : (h : Held) (x : Option ℕ) → Only (λ w. (w ≡ why.Index) × (x ≡ None)) (body_begun h x)
+begun_only h None = (refl, refl)
 begun_only h (Some x) = tt
 
-pub entry_name : (h : Held) → Only (λ w. w ≡ why.Index) (after h body)
+pub entry_name : (h : Held) → Only (λ w. (w ≡ why.Index) × (next_type h.spaces ≡ None)) (after h body)
 entry_name h = begun_only h (next_type h.spaces)
 
-abbrev pub LocalsSay : Body → ℕ → Why → Type 0
-LocalsSay b n why.Index = Unit {0}
-LocalsSay b n why.TooManyLocals = 2 ^ 32 ≤ length b.declared + n
-LocalsSay b n w = ⊥
+abbrev pub LocalsSay : Bool → Body → ℕ → Why → Type 0
+LocalsSay inside b n why.Index = inside ≡ false
+LocalsSay inside b n why.TooManyLocals = 2 ^ 32 ≤ length b.declared + n
+LocalsSay inside b n w = ⊥
 
-declared_only : (n : ℕ) (t : ValType) (b : Body) → b.refused ≡ None → Only (LocalsSay b n) (declared_more n t b)
-declared_only n t b e = subst (λ w. Only (LocalsSay b n) (unless_refused w (declared_to b (add_run n t b.declared)))) (sym e) (go (nat_lt (length b.declared + n) (2 ^ 32)) refl)
+declared_only : (inside : Bool) (n : ℕ) (t : ValType) (b : Body) → b.refused ≡ None → Only (LocalsSay inside b n) (declared_more n t b)
+declared_only inside n t b e = subst (λ w. Only (LocalsSay inside b n) (unless_refused w (declared_to b (add_run n t b.declared)))) (sym e) (go (nat_lt (length b.declared + n) (2 ^ 32)) refl)
   where
-    go : (c : Bool) → nat_lt (length b.declared + n) (2 ^ 32) ≡ c → Only (LocalsSay b n) (declared_to b (cond c (Ok (b.declared ++ replicate n t)) (Err why.TooManyLocals)))
+    go : (c : Bool) → nat_lt (length b.declared + n) (2 ^ 32) ≡ c → Only (LocalsSay inside b n) (declared_to b (cond c (Ok (b.declared ++ replicate n t)) (Err why.TooManyLocals)))
     go true i = tt
     go false i = ltb-false (length b.declared + n) (2 ^ 32) i
 
-locals_only : (h : Held) (n : ℕ) (t : ValType) → IsUnrefused h → Only (LocalsSay h.body n) (after h (locals n t))
-locals_only h n t e =
-    both (LocalsSay h.body n) h.in_body (with_body h (declared_more n t h.body)) (Err why.Index) (body_only (LocalsSay h.body n) h (declared_more n t h.body) (declared_only n t h.body e)) tt
+locals_only : (h : Held) (n : ℕ) (t : ValType) → IsUnrefused h → Only (LocalsSay h.in_body h.body n) (after h (locals n t))
+locals_only h n t e = go h.in_body refl
+  where
+    go : (b : Bool) → h.in_body ≡ b → Only (LocalsSay h.in_body h.body n) (cond b (with_body h (declared_more n t h.body)) (Err why.Index))
+    go true i = body_only (LocalsSay h.in_body h.body n) h (declared_more n t h.body) (declared_only h.in_body n t h.body e)
+    go false i = i
+
+-- the body at hand has not ended, the op may stand there, and names nothing
+abbrev pub NoneThere : Held → Op → Type 0
+NoneThere h o = h.in_body ≡ true → NoSuch (context_in (context_of h.spaces) h.body) h.body.state.table h.body.state.stacks.frames o
 
 abbrev pub OpOf : Held → Op → Why → Type 0
-OpOf h o w = OpSays (OutsideElse h.body.state.table h.body.state.stacks.frames) h.spaces.globals o w
+OpOf h o w = OpSays (OutsideElse h.body.state.table h.body.state.stacks.frames) (NoneThere h o) h.spaces.globals o w
 
 op_only : (h : Held) (o : Op) → IsUnrefused h → Only (OpOf h o) (after h (body_op o))
-op_only h o e =
-    let P : Why → Type 0 = OpOf h o in
-    both P h.in_body (checker_after_op h (body_after_op (context_of h.spaces) o h.body)) (Err why.Index)
-    (held_only P h (body_after_op (context_of h.spaces) o h.body) (body_says (context_of h.spaces) o h.body e)) tt
+op_only h o e = go h.in_body refl
+  where
+    go : (b : Bool) → h.in_body ≡ b → Only (OpOf h o) (cond b (checker_after_op h (body_after_op (context_of h.spaces) o h.body)) (Err why.Index))
+    go true i = held_only (OpOf h o) h (body_after_op (context_of h.spaces) o h.body) (body_says (NoneThere h o) (context_of h.spaces) o h.body e (λ n t. n))
+    go false i = λ t. absurd (let d : true ≡ false = sym t ∙ i in cc (d))
 
 -- an item that is taken leaves a body that was not refused
 unless_kept : {A : Type 0} (w : Option Why) (r : Result A Why) (y : A) → w ≡ None → unless_refused w r ≡ Ok y → r ≡ Ok y
@@ -251,7 +314,7 @@ all_kept (x ∷ items) h g e n =
     all_kept items s.0 g s.2 (part_kept h s.0 x s.1 n)
 
 -- whatever items it has taken
-pub locals_names : (items : List Item) (h : Held) (n : ℕ) (t : ValType) → all_taken after empty_checker items ≡ Ok h → Only (LocalsSay h.body n) (after h (locals n t))
+pub locals_names : (items : List Item) (h : Held) (n : ℕ) (t : ValType) → all_taken after empty_checker items ≡ Ok h → Only (LocalsSay h.in_body h.body n) (after h (locals n t))
 locals_names items h n t e = locals_only h n t (all_kept items empty_checker h e refl)
 
 pub op_names : (items : List Item) (h : Held) (o : Op) → all_taken after empty_checker items ≡ Ok h → Only (OpOf h o) (after h (body_op o))

@@ -1,7 +1,7 @@
 -- What the name of a refusal says of the bytes up to its place, where a rule was broken: of the items that
 -- are complete in them. The names of the format say what they say of any sink.
-use Rattle.std.specs.Prelude.{◌≡◌, ℕ, ◌+◌, ◌^◌, ◌<◌, ◌≤◌, Bool, true, false, List, [], ◌∷◌, ◌++◌, None}
-use Rattle.std.specs.Prelude.{Option, Some, length, slice_get}
+use Rattle.std.specs.Prelude.{◌≡◌, ◌≢◌, ℕ, ◌+◌, ◌^◌, ◌<◌, ◌≤◌, Bool, true, false, List, [], ◌∷◌, ◌++◌, None}
+use Rattle.std.specs.Prelude.{◌⊎◌, Option, Some, length, map, slice_get}
 use Rattle.wm_syntax.specs.declared.types.GlobalType.{GlobalType}
 use Rattle.wm_syntax.specs.declared.instructions.Simple.TheVariants as simple
 use Rattle.wm_syntax.specs.declared.instructions.Op.{Op}
@@ -16,13 +16,15 @@ use Rattle.wm_syntax.specs.declared.modules.ExportKind.TheVariants as kind
 use Rattle.wm_syntax.specs.Modules.{locals_of}
 use Rattle.wm_syntax.specs.Types.{Signature}
 use Rattle.wm_syntax.specs.declared.types.ValType.{ValType}
+use Rattle.wm_syntax.specs.declared.types.ValType.TheVariants.{I32, I64}
 use Rattle.wm_stacks.specs.declared.entries.FrameKind.TheVariants.{If}
-use Rattle.wm_typing.specs.OpenLists.{Head, head, Place, open_at, within, complete, IsSoFar}
+use Rattle.wm_typing.specs.OpenLists.{Head, head, Place, open_at, within, complete, at}
+use Rattle.wm_typing.specs.TypedBodies.{HaveTyping, IsTypedBody}
 use Rattle.wm_decode.specs.Flat.{FlatCode, code_items}
-use Rattle.wm_typing.specs.Contexts.{context}
+use Rattle.wm_typing.specs.Contexts.{context, body_context}
 use Rattle.wm_typing.specs.Typing.{Context, function_type}
 use Rattle.wm_decode.specs.declared.refusal.Refusal.{Refusal}
-use Rattle.wm_decode.specs.Items.{Item, new_type, param, one_result, import_desc, function, table, memory}
+use Rattle.wm_decode.specs.Items.{Item, new_type, param, result_count, one_result, import_desc, function, table, memory}
 use Rattle.wm_decode.specs.Items.{global, const_op, export_name, export, start, element, element_function}
 use Rattle.wm_decode.specs.Items.{body, locals, body_op, segment}
 use Rattle.wm_decode.specs.Meanings.{AtItem, Meant, Means as MeansOfFormat}
@@ -116,8 +118,59 @@ IsNoStart items (start x) =
     × ((f.params ≡ []) × (f.results ≡ []) → ⊥)
 IsNoStart items _ = ⊥
 
--- Index: no such type (sections 3.4.1, 3.4.9), function, table, memory or global (sections 3.4.5 to 3.4.8).
--- Nothing is said of what stands in a function type, of constants and of code entries.
+-- The code entry at hand: its runs of locals and its ops so far.
+pub record InEntry (items : List Item) : Type 0 where
+  pub before : List Item
+  pub code : FlatCode
+  pub whole : items ≡ before ++ code_items code
+
+-- the type of the function whose code comes next: imported functions have none (section 2.5.3)
+abbrev pub next_function : IndexSpaces → Option ℕ
+next_function s = slice_get s.functions (s.imported_functions + s.bodies)
+
+-- the context of the body of an entry, whose function has this type (section 3.4.1)
+abbrev pub context_of_body : {items : List Item} → InEntry items → ℕ → Context
+context_of_body e x = body_context (context_so_far (so_far e.before)) x (locals_of e.code.runs)
+
+-- The body at hand: the type of its function, and its ops so far, which have a typing in the lists of
+-- instructions that they leave open.
+pub record InBody (items : List Item) : Type 0 where
+  pub entry : InEntry items
+  pub type_index : ℕ
+  pub is_type : next_function (so_far entry.before) ≡ Some type_index
+  pub typing : HaveTyping (context_of_body entry type_index) entry.code.ops
+
+-- the lists of instructions that are open, the innermost first
+abbrev pub heads_of : Place → List Head
+heads_of (open_at hs ws) = hs
+heads_of (within n seen hs ws) = hs
+heads_of (complete r s) = []
+
+-- the context inside of them, with their labels
+abbrev pub context_inside : {items : List Item} → InBody items → Context
+context_inside b = at (context_of_body b.entry b.type_index) (heads_of b.typing.0)
+
+-- A constant is the initialiser of a global, of its type, and names imported globals alone (section 3.4.10);
+-- or the offset of a segment, an i32, and names any global (sections 3.4.5, 3.4.6). It has this type, and
+-- names one of the first globals, so many.
+abbrev pub IsConstantOf : IndexSpaces → Item → ValType → ℕ → Type 0
+IsConstantOf s (global g) t globals = (t ≡ g.ty) × (globals ≡ s.imported_globals)
+IsConstantOf s (element x) t globals = (t ≡ I32) × (globals ≡ length s.globals)
+IsConstantOf s (segment x) t globals = (t ≡ I32) × (globals ≡ length s.globals)
+IsConstantOf s _ t globals = ⊥
+
+-- The constant at hand, and its ops so far.
+pub record InConstant (items : List Item) : Type 0 where
+  pub before : List Item
+  pub opening : Item
+  pub ops : List Op
+  pub whole : items ≡ before ++ opening ∷ map const_op ops
+  pub wanted : ValType
+  pub globals : ℕ
+  pub constant_of : IsConstantOf (so_far before) opening wanted globals
+
+-- Index: no such type (sections 3.4.1, 3.4.9), function, table, memory or global (sections 3.4.5 to 3.4.8);
+-- or a code entry for which no function is left;
 abbrev pub NamesNothing : IndexSpaces → Item → Type 0
 NamesNothing s (function x) = length s.types ≤ x
 NamesNothing s (import_desc (desc.Func x)) = length s.types ≤ x
@@ -125,16 +178,36 @@ NamesNothing s (export k x) = how_many k s ≤ x
 NamesNothing s (start x) = function_type (context_so_far s) x ≡ None
 NamesNothing s (element x) = how_many kind.Table s ≤ x
 NamesNothing s (element_function x) = how_many kind.Func s ≤ x
+NamesNothing s body = next_function s ≡ None
 NamesNothing s (segment x) = how_many kind.Memory s ≤ x
-NamesNothing s (param t) = Unit {0}
-NamesNothing s (one_result t) = Unit {0}
-NamesNothing s (const_op o) = Unit {0}
-NamesNothing s body = Unit {0}
-NamesNothing s (locals n t) = Unit {0}
-NamesNothing s (body_op o) = Unit {0}
 NamesNothing s _ = ⊥
 
+-- in a constant a global that may not be named;
+abbrev pub ConstantNamesNothing : ℕ → Op → Type 0
+ConstantNamesNothing globals (op.Simple (simple.GlobalGet x)) = globals ≤ x
+ConstantNamesNothing globals _ = ⊥
+
+-- in a body no such label, function, type, local or global, or no table or memory (sections 3.3.2 to 3.3.5).
+abbrev pub OpNamesNothing : Context → Op → Type 0
+OpNamesNothing c (op.Simple (simple.Br l)) = slice_get c.labels l ≡ None
+OpNamesNothing c (op.Simple (simple.BrIf l)) = slice_get c.labels l ≡ None
+OpNamesNothing c (op.Simple (simple.Call x)) = function_type c x ≡ None
+OpNamesNothing c (op.Simple (simple.CallIndirect x)) = (c.has_table ≡ false) ⊎ (slice_get c.types x ≡ None)
+OpNamesNothing c (op.Simple (simple.LocalGet x)) = slice_get c.locals x ≡ None
+OpNamesNothing c (op.Simple (simple.LocalSet x)) = slice_get c.locals x ≡ None
+OpNamesNothing c (op.Simple (simple.LocalTee x)) = slice_get c.locals x ≡ None
+OpNamesNothing c (op.Simple (simple.GlobalGet x)) = slice_get c.globals x ≡ None
+OpNamesNothing c (op.Simple (simple.GlobalSet x)) = slice_get c.globals x ≡ None
+OpNamesNothing c (op.Simple simple.MemorySize) = c.has_memory ≡ false
+OpNamesNothing c (op.Simple simple.MemoryGrow) = c.has_memory ≡ false
+OpNamesNothing c (op.Simple (simple.Load o a)) = c.has_memory ≡ false
+OpNamesNothing c (op.Simple (simple.Store o a)) = c.has_memory ≡ false
+OpNamesNothing c (op.Label l) = slice_get c.labels l ≡ None
+OpNamesNothing c _ = ⊥
+
 abbrev pub HasNoItem : List Item → Item → Type 0
+HasNoItem items (const_op o) = (c : InConstant items) × ConstantNamesNothing c.globals o
+HasNoItem items (body_op o) = (b : InBody items) × OpNamesNothing (context_inside b) o
 HasNoItem items x = NamesNothing (so_far items) x
 
 -- Immutable: a global.set of a constant global (section 3.3.3)
@@ -167,23 +240,11 @@ abbrev pub AtConstant : (List GlobalType → Op → Type 0) → List Item → It
 AtConstant IsWrong items (const_op o) = IsWrong (so_far items).globals o
 AtConstant IsWrong items _ = ⊥
 
--- The code entry at hand: its runs of locals and its ops so far.
-pub record InEntry (items : List Item) : Type 0 where
-  pub before : List Item
-  pub code : FlatCode
-  pub whole : items ≡ before ++ code_items code
-
 -- TooManyLocals: with the runs before it they are 2^32 or more (section 5.5.13)
 abbrev pub AreTooMany : List Item → Item → Type 0
 AreTooMany items (locals n t) =
     (e : InEntry items) × (e.code.ops ≡ []) × (2 ^ 32 ≤ length (locals_of e.code.runs) + n)
 AreTooMany items _ = ⊥
-
--- the lists of instructions that are open, the innermost first
-abbrev pub heads_of : Place → List Head
-heads_of (open_at hs ws) = hs
-heads_of (within n seen hs ws) = hs
-heads_of (complete r s) = []
 
 abbrev pub IsNoFirstBranch : List Head → Type 0
 IsNoFirstBranch (head If t ∷ hs) = ⊥
@@ -191,13 +252,59 @@ IsNoFirstBranch _ = Unit {0}
 
 -- ElsePlace: an else where the innermost open list is not the first branch of an if (section 5.4.1)
 abbrev pub IsElseOutside : List Item → Item → Type 0
-IsElseOutside items (body_op op.Else) =
-    (e : InEntry items) × (r : Option ValType) × (place : Place) × IsSoFar r place e.code.ops
-    × IsNoFirstBranch (heads_of place)
+IsElseOutside items (body_op op.Else) = (b : InBody items) × IsNoFirstBranch (heads_of b.typing.0)
 IsElseOutside items _ = ⊥
 
--- What the name says. It is said of ten names of the format, and of ten of rules. Nothing is said of
--- Mismatch and Arity, of the other names of the format, nor of those of a policy.
+-- some typed body begins with these ops (section 3.4.1)
+abbrev pub BeginsBody : Context → List Op → Type 0
+BeginsBody c ops = (more : List Op) × IsTypedBody c (ops ++ more)
+
+-- Of a label of a br_table it is not said: there the ops so far have a typing, but the default may take operands
+-- that are not there.
+abbrev pub BeginsBefore : Context → List Op → Op → Type 0
+BeginsBefore c ops (op.Label l) = Unit {0}
+BeginsBefore c ops _ = BeginsBody c ops
+
+-- Type and Arity, in a body: the ops so far begin a typed one, and with this op they begin none.
+abbrev pub EndsTyping : List Item → Op → Type 0
+EndsTyping items o =
+    (b : InBody items) × BeginsBefore (context_of_body b.entry b.type_index) b.entry.code.ops o
+    × (BeginsBody (context_of_body b.entry b.type_index) (b.entry.code.ops ++ o ∷ []) → ⊥)
+
+-- Type: the instruction of a constant has another type than is wanted (section 3.3.7)
+abbrev pub HasOtherType : ValType → List GlobalType → Op → Type 0
+HasOtherType t globals (op.Simple (simple.I32Const n)) = t ≢ I32
+HasOtherType t globals (op.Simple (simple.I64Const n)) = t ≢ I64
+HasOtherType t globals (op.Simple (simple.GlobalGet x)) =
+    (g : GlobalType) × (slice_get globals x ≡ Some g) × (t ≢ g.ty)
+HasOtherType t globals _ = ⊥
+
+abbrev pub IsMistyped : List Item → Item → Type 0
+IsMistyped items (const_op o) =
+    (c : InConstant items) × (c.ops ≡ []) × HasOtherType c.wanted (so_far items).globals o
+IsMistyped items (body_op o) = EndsTyping items o
+IsMistyped items _ = ⊥
+
+-- Arity: a constant ends with no instruction, or has a second one (section 3.3.7);
+abbrev pub IsNotOne : List Op → Op → Type 0
+IsNotOne ops op.End = ops ≡ []
+IsNotOne ops _ = ops ≢ []
+
+-- a function type has two results or more (section 3.2.2)
+abbrev pub LastHasResult : List Signature → Type 0
+LastHasResult [] = ⊥
+LastHasResult (f ∷ []) = f.results ≢ []
+LastHasResult (f ∷ g ∷ types) = LastHasResult (g ∷ types)
+
+abbrev pub HasWrongCount : List Item → Item → Type 0
+HasWrongCount items (result_count n) = 1 < n
+HasWrongCount items (one_result t) = LastHasResult (so_far items).types
+HasWrongCount items (const_op o) = (c : InConstant items) × IsNotOne c.ops o
+HasWrongCount items (body_op o) = EndsTyping items o
+HasWrongCount items _ = ⊥
+
+-- What the name says. It is said of ten names of the format, and of the twelve of rules. Nothing is said of
+-- the other names of the format, nor of those of a policy.
 abbrev pub Means : Profile → ℕ → List ℕ → List ℕ → Why → Type 0
 Means p limit used rest why.Index = AtItem p HasNoItem used
 Means p limit used rest why.Limits = AtItem p IsOutOfRange used
@@ -208,6 +315,8 @@ Means p limit used rest why.NotConst = AtItem p (AtConstant CannotBeConstant) us
 Means p limit used rest why.Immutable = AtItem p (AtOp SetsConstant) used
 Means p limit used rest why.Align = AtItem p (AtOp (λ globals o. IsAlignedPast o)) used
 Means p limit used rest why.TooManyLocals = AtItem p AreTooMany used
+Means p limit used rest why.Mismatch = AtItem p IsMistyped used
+Means p limit used rest why.Arity = AtItem p HasWrongCount used
 Means p limit used rest why.ElsePlace = AtItem p IsElseOutside used
 Means p limit used rest w = MeansOfFormat p limit used rest w
 

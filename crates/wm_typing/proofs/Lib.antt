@@ -11,6 +11,7 @@ pub mod OpsOnFrames
 pub mod Costs
 pub mod DenotedTypes
 pub mod StacksAfterOps
+pub mod BegunBodies
 pub mod AfterCalls
 pub mod FewRuns
 pub mod Ends

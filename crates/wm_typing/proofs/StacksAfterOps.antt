@@ -92,7 +92,7 @@ denoted c ops t s a l = go t a.frames a.place a.so_far a.holds a.goes
     go None (running hs fs) (complete r b) k h m = absurd h
 
 -- at the end of a body
-typed_body : (c : Context) (ops : List Op) (b : Instructions) → HasBodyOps b ops → Typed (at c (head Func c.result ∷ [])) b [] (option_to_list c.result)
+pub typed_body : (c : Context) (ops : List Op) (b : Instructions) → HasBodyOps b ops → Typed (at c (head Func c.result ∷ [])) b [] (option_to_list c.result)
     → c.labels ≡ c.result ∷ [] → IsTypedBody c ops
 typed_body c ops b h t e = record {
   body = b;

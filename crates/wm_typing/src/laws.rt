@@ -13,7 +13,7 @@ ghost use Rattle.wm_syntax.specs.Runs.{run_count};
 ghost use Rattle.wm_typing.specs.TypedBodies.{HasBodyOps, HaveTyping, IsTypedBody};
 ghost use Rattle.wm_typing.specs.inner.Checking.{BodyAfter};
 ghost use Rattle.wm_typing.specs.Bodies.{Body};
-ghost use Rattle.wm_typing.specs.Contexts.{body_context};
+ghost use Rattle.wm_typing.specs.Contexts.{body_context, result_of};
 ghost use Rattle.wm_typing.specs.exact.Folds.{body_after_ops, body_with_locals};
 ghost use Rattle.wm_syntax.specs.Instructions.{endings, openings};
 ghost use Rattle.wm_typing.specs.Nesting.{nesting};
@@ -53,6 +53,14 @@ pub fn fronts_of_typed_bodies()
     ensures { (c : Context) (x : ℕ) (locals : List ValType) (front back : List Op)
         → IsTypedBody (body_context c x locals) (front ++ back)
         → HaveTyping (body_context c x locals) front }
+{}
+
+/// Ops so far, outside the labels of a br_table, begin a typed body where they have a typing in the lists that
+/// they leave open. (Within those labels they may begin none: the default takes operands that were not asked.)
+pub fn open_ops_begin_a_body()
+    ensures { (c : Context) (x : ℕ) (locals : List ValType) (hs : List Head) (ws : List Work) (ops : List Op)
+        → IsOpen (result_of c x) hs ws ops → OpenCan (body_context c x locals) [] hs ws
+        → (more : List Op) × IsTypedBody (body_context c x locals) (ops ++ more) }
 {}
 
 /// Within a br_table (section 3.3.5): its count has a typing exactly where an i32 can be on top of the
