@@ -31,6 +31,7 @@ use Rattle.wm_cli.specs.Building.{ModuleOut, TextOut}
 use Rattle.wm_cli.specs.Refused.{refusal_line}
 use Rattle.wm_rules.specs.Validation.{Accepted}
 use Rattle.wm_rules.specs.Validating.{NeverAccepted}
+use Rattle.wm_rules.specs.Meanings.{Meaning}
 use Rattle.wm_rules.specs.inner.Validators.{verdict}
 
 -- an action on the bytes of a module
@@ -46,12 +47,12 @@ line_of_action Show j place why n = (place, why, n, refl)
 line_of_action Build j place why n = absurd j
 
 refused_out : (action : Action) → IsJudged action → (p : Profile) (limit : ℕ) (q : Policy) (s : Spellings) (input : List ℕ) (r : Refusal) → r.why ≢ Memory → (Accepted p limit q input → ⊥) → r.at ≤ length input
-    → verdict p limit q input ≡ Err r → OutOf action p limit q s input (refusal_line r.at r.why) status.Refused
-refused_out Check j p limit q s input r why none place same = inr (none, (r, why, place, same, refl), refl)
-refused_out Stats j p limit q s input r why none place same = inr (none, (r, why, place, same, refl), refl)
-refused_out Canon j p limit q s input r why none place same = inr (none, (r, why, place, same, refl), refl)
-refused_out Show j p limit q s input r why none place same = inr (none, (r, why, place, same, refl), refl)
-refused_out Build j p limit q s input r why none place same = absurd j
+    → verdict p limit q input ≡ Err r → Meaning p limit input r → OutOf action p limit q s input (refusal_line r.at r.why) status.Refused
+refused_out Check j p limit q s input r why none place same means = inr (none, (r, why, place, same, means, refl), refl)
+refused_out Stats j p limit q s input r why none place same means = inr (none, (r, why, place, same, means, refl), refl)
+refused_out Canon j p limit q s input r why none place same means = inr (none, (r, why, place, same, means, refl), refl)
+refused_out Show j p limit q s input r why none place same means = inr (none, (r, why, place, same, means, refl), refl)
+refused_out Build j p limit q s input r why none place same means = absurd j
 
 early_out : (action : Action) → IsJudged action → (p : Profile) (limit : ℕ) (q : Policy) (s : Spellings) (input : List ℕ) (left : Option (List ℕ)) (r : Refusal) → r.why ≢ Memory → NeverAccepted p limit q input r
     → IsRightFor action p limit q s input left (refusal_line r.at r.why) status.Refused
@@ -61,7 +62,7 @@ early_out action j p limit q s input left r why n = inr (
   n.whole,
   λ more.
       let size : length (n.used ++ more) ≡ length n.used + length more = length-append n.used more in
-      refused_out action j p limit q s (n.used ++ more) r why (n.never more) (omega (arith, size, n.at)) (n.same more),
+      refused_out action j p limit q s (n.used ++ more) r why (n.never more) (omega (arith, size, n.at)) (n.same more) (n.means more),
 )
 
 out_of_refusal : (action : Action) → IsJudged action → (p : Profile) (limit : ℕ) (q : Policy) (s : Spellings) (all left : Option (List ℕ)) (r : Refusal) → r.why ≢ Memory
@@ -70,7 +71,7 @@ out_of_refusal action judged p limit q s None left r why j = tt
 out_of_refusal action judged p limit q s (Some input) left r why j =
     elim (j.not_accepted why) [
       | inl n ↦ early_out action judged p limit q s input left r why n
-      | inr e ↦ inl (e.0, refused_out action judged p limit q s input r why e.1 (omega (arith, j.place)) (j.same why))
+      | inr e ↦ inl (e.0, refused_out action judged p limit q s input r why e.1 (omega (arith, j.place)) (j.same why) (j.means why))
     ]
 
 -- where an input is refused, the line of its refusal is an output and right for what was read

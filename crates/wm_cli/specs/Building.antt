@@ -7,6 +7,7 @@ use Rattle.wm_syntax.specs.Modules.{Module}
 use Rattle.wm_decode.specs.declared.refusal.Refusal.{Refusal}
 use Rattle.wm_rules.specs.declared.policy.Policy.{Policy}
 use Rattle.wm_rules.specs.Policies.{Within}
+use Rattle.wm_rules.specs.Meanings.{Meaning}
 use Rattle.wm_rules.specs.Validation.{Valid}
 use Rattle.wm_rules.specs.inner.Validators.{verdict}
 use Rattle.wm_write.specs.Canon.{Fits, canon}
@@ -19,14 +20,14 @@ use Rattle.wm_cli.specs.declared.status.Status.TheVariants.{Done, Refused}
 use Rattle.wm_cli.specs.Refused.{module_line, refusal_line, text_line, too_large_line}
 
 -- Of a module that a text writes: its canonical binary, where it is valid and within the policy;
--- where it is not, the refusal of that binary. A module of which a section would be too large has
+-- where it is not, the refusal of that binary, and what its name says of it is so. A module of which a section would be too large has
 -- none, and is refused for that.
 abbrev pub ModuleOut : Profile → Policy → Module → List ℕ → Status → Type 0
 ModuleOut p q m written status =
     (Valid m × Within q m × Fits m × (written ≡ canon m) × (status ≡ Done))
     ⊎ ((Valid m → Within q m → ⊥) × Fits m
     × ((r : Refusal) × (r.why ≢ Memory) × (r.at ≤ length (canon m)) × (verdict p (2 ^ 62) q (canon m) ≡ Err r)
-    × (written ≡ module_line r.at r.why))
+    × Meaning p (2 ^ 62) (canon m) r × (written ≡ module_line r.at r.why))
     × (status ≡ Refused))
     ⊎ ((Fits m → ⊥) × (written ≡ too_large_line) × (status ≡ Refused))
 

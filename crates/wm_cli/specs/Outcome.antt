@@ -20,6 +20,7 @@ use Rattle.wm_write.specs.Layout.{layout}
 use Rattle.wm_rules.specs.inner.Validators.{verdict}
 use Rattle.wm_rules.specs.Validation.{Accepted}
 use Rattle.wm_decode.specs.declared.refusal.Refusal.{Refusal}
+use Rattle.wm_rules.specs.Meanings.{Meaning}
 use Rattle.wm_cli.specs.Refused.{refusal_line}
 use Rattle.wm_cli.specs.Building.{BuildOut, IsBuildRefusal}
 
@@ -41,13 +42,13 @@ stats_text s =
     ++ figure_line (codes "probes") s.probes)))
 
 -- The bytes of a module are judged: where they are accepted, a report; else one refusal, other than for
--- memory, at a place within them, which they alone determine.
+-- memory, at a place within them, which they alone determine, and what its name says of them is so.
 abbrev pub Judged : (List ℕ → Type 0) → Profile → ℕ → Policy → List ℕ → List ℕ → Status → Type 0
 Judged Report p limit q input written status =
     (Accepted p limit q input × Report written × (status ≡ Done))
     ⊎ ((Accepted p limit q input → ⊥)
     × ((r : Refusal) × (r.why ≢ Memory) × (r.at ≤ length input) × (verdict p limit q input ≡ Err r)
-    × (written ≡ refusal_line r.at r.why))
+    × Meaning p limit input r × (written ≡ refusal_line r.at r.why))
     × (status ≡ Refused))
 
 -- What an action writes of an input: `valid`; the figures of its summary, which the bytes alone determine;

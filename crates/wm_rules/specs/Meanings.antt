@@ -303,7 +303,7 @@ HasWrongCount items (const_op o) = (c : InConstant items) × IsNotOne c.ops o
 HasWrongCount items (body_op o) = EndsTyping items o
 HasWrongCount items _ = ⊥
 
--- What the name says. It is said of ten names of the format, and of the twelve of rules. Nothing is said of
+-- What the name says. It is said of eleven names of the format, and of the twelve of rules. Nothing is said of
 -- the other names of the format, nor of those of a policy.
 abbrev pub Means : Profile → ℕ → List ℕ → List ℕ → Why → Type 0
 Means p limit used rest why.Index = AtItem p HasNoItem used

@@ -29,7 +29,7 @@ returns-in-Err-Refused-clause-answered g c = λ n.
       inr (inl (
         (λ v w. c.in-Err-Refused.ensures.refused r is c.requires.instructions v w),
         fits m (λ no. let e = sym is ∙ c.in-Err-Refused.ensures.too_large.1 no in cc),
-        (r, place.0, place.1, c.in-Err-Refused.ensures.same r is, refl),
+        (r, place.0, place.1, c.in-Err-Refused.ensures.same r is, c.in-Err-Refused.ensures.means r is, refl),
         refl,
       )),
       c.refuse_module.ensures.answered n,
