@@ -38,8 +38,7 @@ abbrev pub IsHeader : Machine → Type 0
 IsHeader (machine.Header n) = Unit {0}
 IsHeader m = ⊥
 
-module _ (P : Machine → Type 0) (live : (m : Machine) → IsLive m → P m) (end : P (machine.Refused why.SectionEnd)) (number : P (machine.Refused why.BadNumber))
-    (count : P (machine.Refused why.CodeCount)) where
+module _ (P : Machine → Type 0) (live : (m : Machine) → IsLive m → P m) (end : P (machine.Refused why.SectionEnd)) (number : P (machine.Refused why.BadNumber)) where
   by_number : (q : Step ℕ × Partial) (more : Partial → Machine) (done : ℕ → Machine × Event) → ((s : Partial) → P (more s)) → ((n : ℕ) → P (done n).0) → P (on_number q more done machine.Refused).0
   by_number (More, s) more done a b = a s
   by_number (Done n, s) more done a b = b n
@@ -79,45 +78,45 @@ module _ (P : Machine → Type 0) (live : (m : Machine) → IsLive m → P m) (e
   not_over : (w : Why) → at.Over ≡ at.Failed w → P (machine.Refused w)
   not_over w e = cc
 
-  listed_out : (of : SectionKind) (functions bytes n : ℕ) → P (machine_after_count of functions bytes n)
+  pub listed_out : (of : SectionKind) (functions bytes n : ℕ) → P (machine_after_count of functions bytes n)
   listed_out of functions bytes zero = framed_out of functions bytes zero at.Over not_over
   listed_out of functions bytes (suc n) = framed_out of functions bytes n (member_at_start of) (begins of)
 
-  counted_out : (of : SectionKind) (functions bytes n : ℕ) → P (machine_after_paired_count of functions bytes n)
-  counted_out section_kind.Function functions bytes n = listed_out section_kind.Function n bytes n
-  counted_out section_kind.Code functions bytes n = cond_both (nat_eq n functions) _ _ P (λ _. listed_out section_kind.Code 0 bytes n) (λ _. count)
-  counted_out section_kind.Type functions bytes n = listed_out section_kind.Type functions bytes n
-  counted_out section_kind.Import functions bytes n = listed_out section_kind.Import functions bytes n
-  counted_out section_kind.Table functions bytes n = listed_out section_kind.Table functions bytes n
-  counted_out section_kind.Memory functions bytes n = listed_out section_kind.Memory functions bytes n
-  counted_out section_kind.Global functions bytes n = listed_out section_kind.Global functions bytes n
-  counted_out section_kind.Export functions bytes n = listed_out section_kind.Export functions bytes n
-  counted_out section_kind.Start functions bytes n = listed_out section_kind.Start functions bytes n
-  counted_out section_kind.Element functions bytes n = listed_out section_kind.Element functions bytes n
-  counted_out section_kind.Segment functions bytes n = listed_out section_kind.Segment functions bytes n
+  counted_out : (count : P (machine.Refused why.CodeCount)) → (of : SectionKind) (functions bytes n : ℕ) → P (machine_after_paired_count of functions bytes n)
+  counted_out count section_kind.Function functions bytes n = listed_out section_kind.Function n bytes n
+  counted_out count section_kind.Code functions bytes n = cond_both (nat_eq n functions) _ _ P (λ _. listed_out section_kind.Code 0 bytes n) (λ _. count)
+  counted_out count section_kind.Type functions bytes n = listed_out section_kind.Type functions bytes n
+  counted_out count section_kind.Import functions bytes n = listed_out section_kind.Import functions bytes n
+  counted_out count section_kind.Table functions bytes n = listed_out section_kind.Table functions bytes n
+  counted_out count section_kind.Memory functions bytes n = listed_out section_kind.Memory functions bytes n
+  counted_out count section_kind.Global functions bytes n = listed_out section_kind.Global functions bytes n
+  counted_out count section_kind.Export functions bytes n = listed_out section_kind.Export functions bytes n
+  counted_out count section_kind.Start functions bytes n = listed_out section_kind.Start functions bytes n
+  counted_out count section_kind.Element functions bytes n = listed_out section_kind.Element functions bytes n
+  counted_out count section_kind.Segment functions bytes n = listed_out section_kind.Segment functions bytes n
 
-  more_out : (of : SectionKind) (functions more : ℕ) (r : Partial) → P (count_more of functions more r).0
+  pub more_out : (of : SectionKind) (functions more : ℕ) (r : Partial) → P (count_more of functions more r).0
   more_out of functions zero r = end
   more_out of functions (suc n) r = live (machine.Count of functions n r) tt
 
-  count_out : (of : SectionKind) (functions more : ℕ) (q : Step ℕ × Partial) → P (after_count of functions more q).0
-  count_out of functions more (More, r) = more_out of functions more r
-  count_out of functions more (Done n, r) = counted_out of functions more n
-  count_out of functions more (Bad, r) = number
+  pub count_out : (count : P (machine.Refused why.CodeCount)) → (of : SectionKind) (functions more : ℕ) (q : Step ℕ × Partial) → P (after_count of functions more q).0
+  count_out count of functions more (More, r) = more_out of functions more r
+  count_out count of functions more (Done n, r) = counted_out count of functions more n
+  count_out count of functions more (Bad, r) = number
 
-  begun_out : (of : SectionKind) (functions : ℕ) → P (begun_section of functions).0
-  begun_out section_kind.Segment zero = live (machine.Size section_kind.Segment 0 fresh) tt
-  begun_out section_kind.Segment (suc n) = count
-  begun_out section_kind.Type functions = live (machine.Size section_kind.Type functions fresh) tt
-  begun_out section_kind.Import functions = live (machine.Size section_kind.Import functions fresh) tt
-  begun_out section_kind.Function functions = live (machine.Size section_kind.Function functions fresh) tt
-  begun_out section_kind.Table functions = live (machine.Size section_kind.Table functions fresh) tt
-  begun_out section_kind.Memory functions = live (machine.Size section_kind.Memory functions fresh) tt
-  begun_out section_kind.Global functions = live (machine.Size section_kind.Global functions fresh) tt
-  begun_out section_kind.Export functions = live (machine.Size section_kind.Export functions fresh) tt
-  begun_out section_kind.Start functions = live (machine.Size section_kind.Start functions fresh) tt
-  begun_out section_kind.Element functions = live (machine.Size section_kind.Element functions fresh) tt
-  begun_out section_kind.Code functions = live (machine.Size section_kind.Code functions fresh) tt
+  pub begun_out : (count : P (machine.Refused why.CodeCount)) → (of : SectionKind) (functions : ℕ) → P (begun_section of functions).0
+  begun_out count section_kind.Segment zero = live (machine.Size section_kind.Segment 0 fresh) tt
+  begun_out count section_kind.Segment (suc n) = count
+  begun_out count section_kind.Type functions = live (machine.Size section_kind.Type functions fresh) tt
+  begun_out count section_kind.Import functions = live (machine.Size section_kind.Import functions fresh) tt
+  begun_out count section_kind.Function functions = live (machine.Size section_kind.Function functions fresh) tt
+  begun_out count section_kind.Table functions = live (machine.Size section_kind.Table functions fresh) tt
+  begun_out count section_kind.Memory functions = live (machine.Size section_kind.Memory functions fresh) tt
+  begun_out count section_kind.Global functions = live (machine.Size section_kind.Global functions fresh) tt
+  begun_out count section_kind.Export functions = live (machine.Size section_kind.Export functions fresh) tt
+  begun_out count section_kind.Start functions = live (machine.Size section_kind.Start functions fresh) tt
+  begun_out count section_kind.Element functions = live (machine.Size section_kind.Element functions fresh) tt
+  begun_out count section_kind.Code functions = live (machine.Size section_kind.Code functions fresh) tt
 
   sized_out : (of : SectionKind) (functions more : ℕ) → P (machine_in_contents of functions more)
   sized_out section_kind.Start functions more = live (machine.Section section_kind.Start functions more 0 (member_at_start section_kind.Start)) tt
@@ -141,15 +140,16 @@ module _ (P : Machine → Type 0) (live : (m : Machine) → IsLive m → P m) (e
 
   -- in a section: no id comes there
   pub step_in : (p : Profile) (m : Machine) (c : ℕ) → IsInSection m
+      → ((of : SectionKind) (functions more : ℕ) (r : Partial) → m ≡ machine.Count of functions more r → P (after_count of functions more (unsigned_push 32 r c)).0)
       → ((q : InCustom) (w : Why) → (custom_step q c).0 ≡ custom.Failed w → P (machine.Refused w)) → ((of : SectionKind) (functions more left : ℕ) (q : InMember) (w : Why) → m ≡ machine.Section of functions more left q → (member_step p q c).0 ≡ at.Failed w → P (machine.Refused w)) → P (step_of p m c).0
-  step_in p (machine.CustomSize last functions r) c i a b = by_number (unsigned_push 32 r c) (λ s. machine.CustomSize last functions s) (λ n. (custom_size last functions n, event.Nothing)) (λ s. live (machine.CustomSize last functions s) tt) (λ n. custom_out last functions n (custom.Length fresh) (not_length fresh))
-  step_in p (machine.Custom last functions more q) c i a b = custom_out last functions more (custom_step q c).0 (a q)
-  step_in p (machine.Size of functions r) c i a b = by_number (unsigned_push 32 r c) (λ s. machine.Size of functions s) (λ n. (after_size of functions n, event.Nothing)) (λ s. live (machine.Size of functions s) tt) (λ n. size_out of functions n)
-  step_in p (machine.Count of functions more r) c i a b = count_out of functions more (unsigned_push 32 r c)
-  step_in p (machine.Section of functions more left q) c i a b = framed_out of functions more left (member_step p q c).0 (λ w e. b of functions more left q w refl e)
-  step_in p (machine.Header n) c i a b = absurd i
-  step_in p (machine.Between last functions) c i a b = absurd i
-  step_in p (machine.Refused w) c i a b = absurd i
+  step_in p (machine.CustomSize last functions r) c i k a b = by_number (unsigned_push 32 r c) (λ s. machine.CustomSize last functions s) (λ n. (custom_size last functions n, event.Nothing)) (λ s. live (machine.CustomSize last functions s) tt) (λ n. custom_out last functions n (custom.Length fresh) (not_length fresh))
+  step_in p (machine.Custom last functions more q) c i k a b = custom_out last functions more (custom_step q c).0 (a q)
+  step_in p (machine.Size of functions r) c i k a b = by_number (unsigned_push 32 r c) (λ s. machine.Size of functions s) (λ n. (after_size of functions n, event.Nothing)) (λ s. live (machine.Size of functions s) tt) (λ n. size_out of functions n)
+  step_in p (machine.Count of functions more r) c i k a b = k of functions more r refl
+  step_in p (machine.Section of functions more left q) c i k a b = framed_out of functions more left (member_step p q c).0 (λ w e. b of functions more left q w refl e)
+  step_in p (machine.Header n) c i k a b = absurd i
+  step_in p (machine.Between last functions) c i k a b = absurd i
+  step_in p (machine.Refused w) c i k a b = absurd i
 
 module _ (P : Machine → Type 0) (live : (m : Machine) → IsLive m → P m) (end : P (machine.Refused why.SectionEnd)) (number : P (machine.Refused why.BadNumber))
     (id : P (machine.Refused why.SectionId)) (order : P (machine.Refused why.SectionOrder)) (count : P (machine.Refused why.CodeCount)) where
@@ -165,11 +165,11 @@ module _ (P : Machine → Type 0) (live : (m : Machine) → IsLive m → P m) (e
       → ((q : InCustom) (w : Why) → (custom_step q c).0 ≡ custom.Failed w → P (machine.Refused w)) → ((of : SectionKind) (functions more left : ℕ) (q : InMember) (w : Why) → m ≡ machine.Section of functions more left q → (member_step p q c).0 ≡ at.Failed w → P (machine.Refused w)) → P (step_of p m c).0
   step_at p (machine.Header n) c past same a b = absurd (past tt)
   step_at p (machine.Between last functions) c past same a b = start_out last functions c
-  step_at p (machine.CustomSize last functions r) c past same a b = step_in P live end number count p (machine.CustomSize last functions r) c tt a b
-  step_at p (machine.Custom last functions more q) c past same a b = step_in P live end number count p (machine.Custom last functions more q) c tt a b
-  step_at p (machine.Size of functions r) c past same a b = step_in P live end number count p (machine.Size of functions r) c tt a b
-  step_at p (machine.Count of functions more r) c past same a b = step_in P live end number count p (machine.Count of functions more r) c tt a b
-  step_at p (machine.Section of functions more left q) c past same a b = step_in P live end number count p (machine.Section of functions more left q) c tt a b
+  step_at p (machine.CustomSize last functions r) c past same a b = step_in P live end number p (machine.CustomSize last functions r) c tt (λ of functions more r s. count_out P live end number count of functions more (unsigned_push 32 r c)) a b
+  step_at p (machine.Custom last functions more q) c past same a b = step_in P live end number p (machine.Custom last functions more q) c tt (λ of functions more r s. count_out P live end number count of functions more (unsigned_push 32 r c)) a b
+  step_at p (machine.Size of functions r) c past same a b = step_in P live end number p (machine.Size of functions r) c tt (λ of functions more r s. count_out P live end number count of functions more (unsigned_push 32 r c)) a b
+  step_at p (machine.Count of functions more r) c past same a b = step_in P live end number p (machine.Count of functions more r) c tt (λ of functions more r s. count_out P live end number count of functions more (unsigned_push 32 r c)) a b
+  step_at p (machine.Section of functions more left q) c past same a b = step_in P live end number p (machine.Section of functions more left q) c tt (λ of functions more r s. count_out P live end number count of functions more (unsigned_push 32 r c)) a b
   step_at p (machine.Refused w) c past same a b = same w refl
 
   pub step_out : (p : Profile) (m : Machine) (c : ℕ) → (IsHeader m → ⊥) → ((w : Why) → m ≡ machine.Refused w → P (machine.Refused w))

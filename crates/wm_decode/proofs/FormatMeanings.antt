@@ -1,6 +1,6 @@
 -- What the names of the format say of the bytes up to the place of a refusal.
 use Rattle.std.proofs.Common.{◌≡◌, ◌≢◌, ℕ, zero, suc, ◌+◌, ◌<◌, ◌≤◌, ◌^◌, ◌⊎◌, inl, inr, List, [], ◌∷◌, ◌++◌, Option, Some, None, Result, Ok, Err, false, length, take, refl, sym, ◌∙◌, ap, subst, arith, append_assoc, append-nil, length-append, nat_eq, nat_lt, nat_le}
-use Rattle.std.proofs.lemmas.Bool.{cond_both, ltb-true, ltb-false, leb-true, eqb-false}
+use Rattle.std.proofs.lemmas.Bool.{cases_lt, cond_both, ltb-true, ltb-false, leb-true, eqb-false}
 use Rattle.std.specs.Prelude.{slice_index}
 use Rattle.std.specs.Str.{is_utf8}
 use Rattle.wm_syntax.specs.declared.profile.Profile.{Profile}
@@ -31,10 +31,10 @@ use Rattle.wm_decode.specs.Sinks.{and_then, all_taken}
 use Rattle.wm_decode.specs.exact.Members.{id_of, section_kind_of}
 use Rattle.wm_decode.specs.exact.MemberSteps.{on_number, member_step}
 use Rattle.wm_decode.specs.exact.Runs.{name_item, plain_item, marks, MachineState, state_after, state_at_start}
-use Rattle.wm_decode.specs.exact.Steps.{begun_section, machine_if_rising, section_start, header_step, custom_step, custom_after_length, step_of}
+use Rattle.wm_decode.specs.exact.Steps.{machine_after_count, machine_after_paired_count, after_count, begun_section, machine_if_rising, section_start, header_step, custom_step, custom_after_length, step_of}
 use Rattle.wm_decode.specs.exact.Live.{effect_of_maybe, name_taken, event_effect, Live, live_or_refused, live_from, live_byte, decoder_after, live_at_start, answer_at_end_of, answer_at_end, IsRefused}
 use Rattle.wm_decode.specs.inner.Decoders.{answer_of}
-use Rattle.wm_decode.specs.Meanings.{RawSection, WrongInHeader, WrongId, IsUnknown, IsLate, HasFrom, EndsInSection, Wanted, WrongByte, IsNoInstruction, IsFloat, IsOtherByte, Means, Meaning, IsRuleName, GivesRuleNames}
+use Rattle.wm_decode.specs.Meanings.{RawSection, WrongInHeader, WrongId, IsUnknown, IsLate, HasFrom, EndsInSection, Declare, OtherCount, NoCode, Wanted, WrongByte, IsNoInstruction, IsFloat, IsOtherByte, Means, Meaning, IsRuleName, GivesRuleNames}
 use Rattle.wm_decode.proofs.ByteLists.{front_bytes}
 use Rattle.wm_decode.proofs.WrongBytes.{Found, Says as SaysOfByte}
 use Rattle.wm_decode.proofs.WrongMembers.{InInput, byte_says}
@@ -42,10 +42,10 @@ use Rattle.wm_decode.proofs.BadNames.{bad_name}
 use Rattle.wm_decode.proofs.OpSound.{HasRoom, last_byte}
 use Rattle.wm_decode.proofs.OpenMembers.{zeros, zeros_length}
 use Rattle.wm_decode.proofs.MemberFloats.{IsMemberName, member_name}
-use Rattle.wm_decode.proofs.AfterTheHeader.{IsInSection, IsLive, step_in}
-use Rattle.wm_decode.proofs.MachineStates.{Fits, run_fits, IsNamed, component_named}
+use Rattle.wm_decode.proofs.AfterTheHeader.{IsInSection, IsLive, listed_out, more_out, step_in}
+use Rattle.wm_decode.proofs.MachineStates.{FitsAt, Fits, run_fits, IsNamed, component_named}
 use Rattle.wm_decode.proofs.MachineAndSink.{given_taken, used_of, Used, reached, state_of, begin_fits}
-use Rattle.wm_decode.proofs.FramedBytes.{Past, AtSize, InContents, Framed, run_framed}
+use Rattle.wm_decode.proofs.FramedBytes.{Past, AtSize, InContents, Counts, Numbers, numbers, one_byte, all_up, Framed, run_framed}
 
 pub last_is_byte : (b : List ℕ) (c : ℕ) → AreBytes (b ++ c ∷ []) → c < 2 ^ 8
 last_is_byte [] c h = h.0
@@ -57,7 +57,7 @@ MachineSays used why.Magic = WrongInHeader 0 4 used
 MachineSays used why.Version = WrongInHeader 4 8 used
 MachineSays used why.SectionId = WrongId IsUnknown used
 MachineSays used why.SectionOrder = WrongId IsLate used
-MachineSays used why.CodeCount = Unit {0}
+MachineSays used why.CodeCount = (rest : List ℕ) → OtherCount used ⊎ NoCode used rest
 MachineSays used w = IsMemberName w
 
 header_length : (n : ℕ) → n < 8 → length (take n header) ≡ n
@@ -113,7 +113,7 @@ module _ (used : List ℕ) where
   of_member why.Version i = absurd i
   of_member why.SectionId i = absurd i
   of_member why.SectionOrder i = absurd i
-  of_member why.CodeCount i = tt
+  of_member why.CodeCount i = absurd i
   of_member w i = i
 
   is_name : (w : Why) → (IsMemberName w) ⊎ (IsMemberName w → ⊥)
@@ -142,28 +142,43 @@ module _ (used : List ℕ) where
   custom_says c (custom.Failed v) w e = let same : why.SectionEnd ≡ w = cc in subst (MachineSays used) same tt
 
   -- at an id
-  begun_says : (of : SectionKind) (functions : ℕ) → Says (begun_section of functions).0
-  begun_says section_kind.Segment zero w e = absurd (cc)
-  begun_says section_kind.Segment (suc n) w e = by_name why.CodeCount tt w e
-  begun_says section_kind.Type functions w e = absurd (cc)
-  begun_says section_kind.Import functions w e = absurd (cc)
-  begun_says section_kind.Function functions w e = absurd (cc)
-  begun_says section_kind.Table functions w e = absurd (cc)
-  begun_says section_kind.Memory functions w e = absurd (cc)
-  begun_says section_kind.Global functions w e = absurd (cc)
-  begun_says section_kind.Export functions w e = absurd (cc)
-  begun_says section_kind.Start functions w e = absurd (cc)
-  begun_says section_kind.Element functions w e = absurd (cc)
-  begun_says section_kind.Code functions w e = absurd (cc)
+  begun_says : (of : SectionKind) (functions : ℕ) → (of ≡ section_kind.Segment → 0 < functions → MachineSays used why.CodeCount) → Says (begun_section of functions).0
+  begun_says section_kind.Segment zero k w e = absurd (cc)
+  begun_says section_kind.Segment (suc n) k w e = by_name why.CodeCount (k refl (omega arith)) w e
+  begun_says section_kind.Type functions k w e = absurd (cc)
+  begun_says section_kind.Import functions k w e = absurd (cc)
+  begun_says section_kind.Function functions k w e = absurd (cc)
+  begun_says section_kind.Table functions k w e = absurd (cc)
+  begun_says section_kind.Memory functions k w e = absurd (cc)
+  begun_says section_kind.Global functions k w e = absurd (cc)
+  begun_says section_kind.Export functions k w e = absurd (cc)
+  begun_says section_kind.Start functions k w e = absurd (cc)
+  begun_says section_kind.Element functions k w e = absurd (cc)
+  begun_says section_kind.Code functions k w e = absurd (cc)
 
 late_from : (id last : ℕ) (xs : List RawSection) → 0 < id → id ≤ last → ((last ≡ 0) ⊎ HasFrom last xs) → HasFrom id xs
 late_from id last xs some l (inl e) = absurd (omega (arith, some, l, e))
 late_from id last xs some l (inr h) = record { before = h.before; one = h.one; after = h.after; whole = h.whole; from = let f = h.from in omega (arith, l, f) }
 
-rising_says : (last functions id : ℕ) (q : Option SectionKind) (b : List ℕ) → 0 < id → IsNamed id q → Past last b → Says (b ++ id ∷ []) (machine_if_rising last functions id q).0
-rising_says last functions id None b some named h =
+-- no section with id 10 came while functions await their code
+no_code : (last functions : ℕ) (b : List ℕ) (h : Past last b) → Counts last functions h → FitsAt last functions → 0 < functions → (used rest : List ℕ) → ((used ≡ b) × (rest ≡ [])) ⊎ (used ≡ b ++ 11 ∷ []) → NoCode used rest
+no_code last functions b h t fit some used rest ends =
+    let early : last < 10 = elim (cases_lt last 10) [ inl l ↦ l | inr l ↦ absurd (let z = fit.1 l in omega (arith, z, some)) ] in
+    record {
+      sections = h.sections;
+      front = b;
+      functions = functions;
+      ends = ends;
+      before = h.spelled;
+      declared = subst (λ n. Declare n h.sections) (sym (t early)) h.declares;
+      some = some;
+      none = all_up (λ s. s.id ≤ last) (λ s. s.id ≢ 10) (λ s l e. omega (arith, l, e, early)) h.sections h.below;
+    }
+
+rising_says : (last functions id : ℕ) (q : Option SectionKind) (b : List ℕ) → 0 < id → IsNamed id q → (h : Past last b) → Counts last functions h → FitsAt last functions → Says (b ++ id ∷ []) (machine_if_rising last functions id q).0
+rising_says last functions id None b some named h t fit =
     by_name (b ++ id ∷ []) why.SectionId (record { sections = h.sections; front = b; id = id; whole = refl; before = h.spelled; wrong = named })
-rising_says last functions id (Some of) b some named h =
+rising_says last functions id (Some of) b some named h t fit =
     cond_both (nat_le id last) _ _ (λ (q : Machine × Event). Says (b ++ id ∷ []) q.0)
     (λ a. by_name (b ++ id ∷ []) why.SectionOrder (record {
       sections = h.sections;
@@ -173,11 +188,11 @@ rising_says last functions id (Some of) b some named h =
       before = h.spelled;
       wrong = (some, (let l = last_id of in omega (arith, l, named)), late_from id last h.sections some (leb-true id last a) h.seen);
     }))
-    (λ _. begun_says (b ++ id ∷ []) of functions)
+    (λ _. begun_says (b ++ id ∷ []) of functions (λ e n rest. inr (no_code last functions b h t fit n (b ++ id ∷ []) rest (inr (ap (λ i. b ++ i ∷ []) (named ∙ ap id_of e))))))
 
-start_says : (last functions c : ℕ) (b : List ℕ) → Past last b → Says (b ++ c ∷ []) (section_start last functions c).0
-start_says last functions zero b h = λ w e. absurd (cc)
-start_says last functions (suc m) b h = rising_says last functions (suc m) (section_kind_of (suc m)) b (omega arith) (component_named m) h
+start_says : (last functions c : ℕ) (b : List ℕ) (h : Past last b) → Counts last functions h → FitsAt last functions → Says (b ++ c ∷ []) (section_start last functions c).0
+start_says last functions zero b h t fit = λ w e. absurd (cc)
+start_says last functions (suc m) b h t fit = rising_says last functions (suc m) (section_kind_of (suc m)) b (omega arith) (component_named m) h t fit
 
 -- in the header
 header_says : (n c : ℕ) (b : List ℕ) → n < 8 → b ≡ take n header → Says (b ++ c ∷ []) (header_step n c).0
@@ -196,20 +211,73 @@ header_says n c b low e =
     (λ a. by_name used why.Version (record { front = b; byte = c; whole = refl; right = right; at_least = let l = ltb-false n 4 a in omega (arith, l, long); before = omega (arith, low, long); wrong = wrong }))))
     (λ a. absurd (let l = ltb-false n 8 a in omega (arith, low, l)))
 
-section_says : (p : Profile) (m : Machine) (c : ℕ) (used : List ℕ) → IsInSection m → Says used (step_of p m c).0
-section_says p m c used i =
-    step_in (Says used) (lives used) (by_name used why.SectionEnd tt) (by_name used why.BadNumber tt) (by_name used why.CodeCount tt) p m c i
+-- at the count of the members of a section
+module _ (last functions more : ℕ) (used : List ℕ) (h : InContents last 10 more used) (t : functions ≡ h.past.declared) where
+  other_count : (n : ℕ) → SpellsU32 n h.contents → n ≢ functions → OtherCount used
+  other_count n u d = record {
+    sections = h.past.sections;
+    front = h.front;
+    size = h.size;
+    count = h.contents;
+    bytes = h.n;
+    entries = n;
+    functions = functions;
+    whole = h.whole;
+    before = h.past.spelled;
+    spelled_bytes = h.number;
+    spelled_entries = u;
+    declared = subst (λ m. Declare m h.past.sections) (sym t) h.past.declares;
+    differ = d;
+  }
+
+module _ (used : List ℕ) where
+  abbrev Counted : SectionKind → ℕ → ℕ → ℕ → Type 0
+  Counted of functions more n = Says used (machine_after_paired_count of functions more n)
+
+  listed_says : (of : SectionKind) (functions more n : ℕ) → Says used (machine_after_count of functions more n)
+  listed_says = listed_out (Says used) (lives used) (by_name used why.SectionEnd tt) (by_name used why.BadNumber tt)
+
+  counted_says : (last : ℕ) (of : SectionKind) (functions more n : ℕ) → last < id_of of → (h : InContents last (id_of of) more used) → Counts last functions h.past → SpellsU32 n h.contents → Counted of functions more n
+  counted_says last section_kind.Function functions more n up h t u = listed_says section_kind.Function n more n
+  counted_says last section_kind.Code functions more n up h t u =
+      cond_both (nat_eq n functions) _ _ (Says used) (λ _. listed_says section_kind.Code 0 more n)
+      (λ a. by_name used why.CodeCount (λ rest. inl (other_count last functions more used h (t up) n u (eqb-false n functions a))))
+  counted_says last section_kind.Type functions more n up h t u = listed_says section_kind.Type functions more n
+  counted_says last section_kind.Import functions more n up h t u = listed_says section_kind.Import functions more n
+  counted_says last section_kind.Table functions more n up h t u = listed_says section_kind.Table functions more n
+  counted_says last section_kind.Memory functions more n up h t u = listed_says section_kind.Memory functions more n
+  counted_says last section_kind.Global functions more n up h t u = listed_says section_kind.Global functions more n
+  counted_says last section_kind.Export functions more n up h t u = listed_says section_kind.Export functions more n
+  counted_says last section_kind.Start functions more n up h t u = listed_says section_kind.Start functions more n
+  counted_says last section_kind.Element functions more n up h t u = listed_says section_kind.Element functions more n
+  counted_says last section_kind.Segment functions more n up h t u = listed_says section_kind.Segment functions more n
+
+  count_says : (last : ℕ) (of : SectionKind) (functions more : ℕ) (q : Step ℕ × Partial) → last < id_of of → (h : InContents last (id_of of) more used) → Counts last functions h.past → Numbers h.contents q → Says used (after_count of functions more q).0
+  count_says last of functions more (More, r) up h t u = more_out (Says used) (lives used) (by_name used why.SectionEnd tt) (by_name used why.BadNumber tt) of functions more r
+  count_says last of functions more (Done n, r) up h t u = counted_says last of functions more n up h t u
+  count_says last of functions more (Bad, r) up h t u = by_name used why.BadNumber tt
+
+abbrev IsCount : Machine → Type 0
+IsCount (machine.Count of functions more r) = Unit {0}
+IsCount m = ⊥
+
+section_says : (p : Profile) (m : Machine) (c : ℕ) (used : List ℕ) → IsInSection m → (IsCount m → ⊥) → Says used (step_of p m c).0
+section_says p m c used i other =
+    step_in (Says used) (lives used) (by_name used why.SectionEnd tt) (by_name used why.BadNumber tt) p m c i
+    (λ of functions more r s. absurd (other (subst IsCount (sym s) tt)))
     (λ q w e. by_name used w (custom_says used c q w e)) (λ of functions more left q w s e. by_name used w (member_says used p c q w e))
 
-pub step_says : (p : Profile) (m : Machine) (c : ℕ) (b : List ℕ) → (IsRefused m → ⊥) → Framed m b → Says (b ++ c ∷ []) (step_of p m c).0
-step_says p (machine.Header n) c b live f = header_says n c b f.0 f.1
-step_says p (machine.Between last functions) c b live f = start_says last functions c b f
-step_says p (machine.Refused w) c b live f = absurd (live tt)
-step_says p (machine.CustomSize last functions r) c b live f = section_says p (machine.CustomSize last functions r) c (b ++ c ∷ []) tt
-step_says p (machine.Custom last functions more q) c b live f = section_says p (machine.Custom last functions more q) c (b ++ c ∷ []) tt
-step_says p (machine.Size of functions r) c b live f = section_says p (machine.Size of functions r) c (b ++ c ∷ []) tt
-step_says p (machine.Count of functions more r) c b live f = section_says p (machine.Count of functions more r) c (b ++ c ∷ []) tt
-step_says p (machine.Section of functions more left q) c b live f = section_says p (machine.Section of functions more left q) c (b ++ c ∷ []) tt
+pub step_says : (p : Profile) (m : Machine) (c : ℕ) (b : List ℕ) → c < 2 ^ 8 → (IsRefused m → ⊥) → Fits m → Framed m b → Says (b ++ c ∷ []) (step_of p m c).0
+unfolding one_byte
+step_says p (machine.Header n) c b byte live fit f = header_says n c b f.0 f.1
+step_says p (machine.Between last functions) c b byte live fit f = start_says last functions c b f.0 f.1 fit
+step_says p (machine.Refused w) c b byte live fit f = absurd (live tt)
+step_says p (machine.CustomSize last functions r) c b byte live fit f = section_says p (machine.CustomSize last functions r) c (b ++ c ∷ []) tt (λ i. i)
+step_says p (machine.Custom last functions more q) c b byte live fit f = section_says p (machine.Custom last functions more q) c (b ++ c ∷ []) tt (λ i. i)
+step_says p (machine.Size of functions r) c b byte live fit f = section_says p (machine.Size of functions r) c (b ++ c ∷ []) tt (λ i. i)
+step_says p (machine.Count of functions more r) c b byte live fit f =
+    count_says (b ++ c ∷ []) f.0 of functions more (unsigned_push 32 r c) f.1 (one_byte f.0 (id_of of) more b c f.2) f.3 (numbers r f.2.contents c byte f.4)
+step_says p (machine.Section of functions more left q) c b byte live fit f = section_says p (machine.Section of functions more left q) c (b ++ c ∷ []) tt (λ i. i)
 
 -- the names that a sink gives are none of these
 by_rule : (p : Profile) (limit : ℕ) (used rest : List ℕ) (w : Why) → IsRuleName w → Means p limit used rest w
@@ -223,6 +291,7 @@ by_rule p limit used rest why.BadOpcode i = absurd i
 by_rule p limit used rest why.Float i = absurd i
 by_rule p limit used rest why.BadByte i = absurd i
 by_rule p limit used rest why.BadUtf8 i = absurd i
+by_rule p limit used rest why.CodeCount i = absurd i
 by_rule p limit used rest w i = tt
 
 -- what is found of the last byte
@@ -240,6 +309,7 @@ by_machine p limit b rest a c why.BadOpcode h s = found p b a c IsNoInstruction 
 by_machine p limit b rest a c why.Float h s = found p b a c IsFloat s
 by_machine p limit b rest a c why.BadByte h s = found p b a c IsOtherByte s
 by_machine p limit b rest a c why.BadUtf8 h s = absurd h
+by_machine p limit b rest a c why.CodeCount h s = h rest
 by_machine p limit b rest a c w h s = tt
 
 zeros_some : (n : ℕ) → zeros (suc n) ≡ [] → ⊥
@@ -376,19 +446,19 @@ module _ {H : Type 0} (after : H → Item → Result H Why) (s : Setting H) (nam
         rest = u.rest ++ more;
         whole = ap (λ y. y ++ more) u.bytes ∙ append_assoc used u.rest more;
         at = place;
-        means = go u so_far (last_is_byte u.used u.byte all) place q.state (q.live (λ i. i)) (framed u.used u.before so_far u.taken) (held_so u.used u.before u.taken) (cause after s.profile s.limit u.before u.byte r u.refused);
+        means = go u so_far (last_is_byte u.used u.byte all) place q.state (q.live (λ i. i)) (fits u.used u.before so_far u.taken) (framed u.used u.before so_far u.taken) (held_so u.used u.before u.taken) (cause after s.profile s.limit u.before u.byte r u.refused);
       }
     where
       go : (u : Used after s.profile s.limit Starts b r) → AreBytes u.used → u.byte < 2 ^ 8 → r.at ≡ length (u.used ++ u.byte ∷ []) → state_of after s.profile s.limit u.before ≡ state_after s.profile state_at_start u.used
-          → (IsRefused u.before.machine → ⊥) → Framed u.before.machine u.used → ((parts : List Item) × (all_taken after s.first parts ≡ Ok u.before.held)) → Cause after s.profile s.limit u.before u.byte r
+          → (IsRefused u.before.machine → ⊥) → Fits u.before.machine → Framed u.before.machine u.used → ((parts : List Item) × (all_taken after s.first parts ≡ Ok u.before.held)) → Cause after s.profile s.limit u.before u.byte r
           → Means s.profile s.limit (u.used ++ u.byte ∷ []) (u.rest ++ more) r.why
-      go u bytes byte place same live f parts (too_long at w) = subst (λ y. Means s.profile s.limit (u.used ++ u.byte ∷ []) (u.rest ++ more) y) (sym w) (sym place ∙ at)
-      go u bytes byte place same live f parts (by_text t w) =
+      go u bytes byte place same live fit f parts (too_long at w) = subst (λ y. Means s.profile s.limit (u.used ++ u.byte ∷ []) (u.rest ++ more) y) (sym w) (sym place ∙ at)
+      go u bytes byte place same live fit f parts (by_text t w) =
           subst (λ y. Means s.profile s.limit (u.used ++ u.byte ∷ []) (u.rest ++ more) y) (sym w) (bad_name s.profile u.used bytes u.byte u.before.machine u.before.name t.0 (sym same) t.1 t.2)
-      go u bytes byte place same live f parts (by_step m) =
-          by_machine s.profile s.limit u.used (u.rest ++ more) bytes u.byte r.why (step_says s.profile u.before.machine u.byte u.used live f r.why m)
+      go u bytes byte place same live fit f parts (by_step m) =
+          by_machine s.profile s.limit u.used (u.rest ++ more) bytes u.byte r.why (step_says s.profile u.before.machine u.byte u.used byte live fit f r.why m)
           (byte_says s.profile u.used bytes u.byte byte u.before.machine (ap (λ (m : MachineState). m.machine) same) live r.why m)
-      go u bytes byte place same live f parts (by_item x e) = by_rule s.profile s.limit (u.used ++ u.byte ∷ []) (u.rest ++ more) r.why (names parts.0 u.before.held x r.why parts.1 e)
+      go u bytes byte place same live fit f parts (by_item x e) = by_rule s.profile s.limit (u.used ++ u.byte ∷ []) (u.rest ++ more) r.why (names parts.0 u.before.held x r.why parts.1 e)
 
   at_end : (m : Machine) (h : H) (at : ℕ) (b : List ℕ) (r : Refusal) → (IsRefused m → ⊥) → Fits m → Framed m b → answer_at_end_of m h at ≡ Err r → Means s.profile s.limit b [] r.why
   at_end m h at b r live fit f e = go m live fit f e
@@ -399,15 +469,15 @@ module _ {H : Type 0} (after : H → Item → Result H Why) (s : Setting H) (nam
       go : (m : Machine) → (IsRefused m → ⊥) → Fits m → Framed m b → answer_at_end_of m h at ≡ Err r → Means s.profile s.limit b [] r.why
       go (machine.Refused w) live fit f e = absurd (live tt)
       go (machine.Between last zero) live fit f e = absurd (cc)
-      go (machine.Between last (suc n)) live fit f e = named why.CodeCount (cc (e)) tt
+      go (machine.Between last (suc n)) live fit f e = named why.CodeCount (cc (e)) (inr (no_code last (suc n) b f.0 f.1 fit (omega arith) b [] (inl (refl, refl))))
       go (machine.Header n) live fit f e =
           let long : length b ≡ n = ap length f.1 ∙ header_length n f.0 in
           named why.Truncated (cc (e)) (refl, inl ((let l = f.0 in omega (arith, l, long)), f.1 ∙ ap (λ i. take i header) (sym long)))
-      go (machine.CustomSize last functions r) live fit f e = named why.Truncated (cc (e)) (refl, inr (cut_size last 0 r b fit.0 f))
-      go (machine.Custom last functions more q) live fit f e = named why.Truncated (cc (e)) (refl, inr (cut_contents last 0 more b f))
-      go (machine.Size of functions r) live fit f e = named why.Truncated (cc (e)) (refl, inr (cut_size f.0 (id_of of) r b fit.0 f.1))
-      go (machine.Count of functions more r) live fit f e = named why.Truncated (cc (e)) (refl, inr (cut_contents f.0 (id_of of) more b f.1))
-      go (machine.Section of functions more left q) live fit f e = named why.Truncated (cc (e)) (refl, inr (cut_contents f.0 (id_of of) more b f.1))
+      go (machine.CustomSize last functions r) live fit f e = named why.Truncated (cc (e)) (refl, inr (cut_size last 0 r b fit.0 f.0))
+      go (machine.Custom last functions more q) live fit f e = named why.Truncated (cc (e)) (refl, inr (cut_contents last 0 more b f.0))
+      go (machine.Size of functions r) live fit f e = named why.Truncated (cc (e)) (refl, inr (cut_size f.0 (id_of of) r b fit.0 f.2))
+      go (machine.Count of functions more r) live fit f e = named why.Truncated (cc (e)) (refl, inr (cut_contents f.0 (id_of of) more b f.2))
+      go (machine.Section of functions more left q) live fit f e = named why.Truncated (cc (e)) (refl, inr (cut_contents f.0 (id_of of) more b f.2))
 
   ended_at : (m : Machine) (h : H) (at : ℕ) (r : Refusal) → answer_at_end_of m h at ≡ Err r → r.at ≡ at
   ended_at m h at r e = go m e

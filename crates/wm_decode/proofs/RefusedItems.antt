@@ -19,9 +19,10 @@ use Rattle.wm_decode.specs.exact.Live.{effect_of_maybe, Live, live_byte, decoder
 use Rattle.wm_decode.specs.inner.Decoders.{answer_of}
 use Rattle.wm_decode.specs.Meanings.{AtItem, IsRuleName, RefusesBy, Meant}
 use Rattle.wm_decode.proofs.ByteLists.{front_bytes}
-use Rattle.wm_decode.proofs.MachineAndSink.{given_taken, used_of, reached, state_of, live_err}
+use Rattle.wm_decode.proofs.MachineAndSink.{begin_fits, given_taken, used_of, reached, state_of, live_err}
 use Rattle.wm_decode.proofs.FormatMeanings.{MachineSays, last_is_byte, step_says}
 use Rattle.wm_decode.proofs.FramedBytes.{Framed, run_framed}
+use Rattle.wm_decode.proofs.MachineStates.{Fits, run_fits}
 use Rattle.wm_decode.proofs.ItemFronts.{item_front}
 
 -- the machine gives none of these names
@@ -90,16 +91,17 @@ module _ {H : Type 0} (after : H → Item → Result H Why) (s : Setting H) wher
       | inl t ↦ absurd (subst IsRuleName t i)
       | inr o ↦ elim o [
         | inr x ↦ at_item c r.why byte x
-        | inl m ↦ absurd (by_machine c r.why i m)
+        | inl m ↦ absurd (by_machine r.why i m)
       ]
     ]
       where
-        by_machine : (c : ℕ) (w : Why) → IsRuleName w → (read_byte s.profile (state_of after s.profile s.limit l) c).at ≡ machine.Refused w → ⊥
-        by_machine c w i m =
+        by_machine : (w : Why) → IsRuleName w → (read_byte s.profile (state_of after s.profile s.limit l) c).at ≡ machine.Refused w → ⊥
+        by_machine w i m =
             let before = reached after s.profile s.limit b Starts l taken in
+            let fit : Fits l.machine = subst (λ (z : MachineState). Fits z.machine) (sym byte_state) (run_fits s.profile state_at_start b bytes begin_fits) in
             let frame : Framed l.machine b = subst (λ (z : MachineState). Framed z.machine b) (sym byte_state) (run_framed s.profile state_at_start [] b bytes (omega arith, refl)) in
             elim (heard_err (zone_of l.machine) l.name c (step_of s.profile l.machine c).0 (step_of s.profile l.machine c).1 w m) [
-              | inl f ↦ not_machine (b ++ c ∷ []) w i (step_says s.profile l.machine c b (before.live (λ i. i)) frame w f)
+              | inl f ↦ not_machine (b ++ c ∷ []) w i (step_says s.profile l.machine c b byte (before.live (λ i. i)) fit frame w f)
               | inr t ↦ subst IsRuleName (sym t) i
             ]
 

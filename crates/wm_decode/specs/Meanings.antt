@@ -2,13 +2,14 @@
 -- there.
 use Rattle.std.specs.Prelude.{◌≡◌, ◌≢◌, ℕ, ◌+◌, ◌<◌, ◌≤◌, ◌⊎◌, List, [], ◌∷◌, ◌++◌, length, take, slice_index, Some}
 use Rattle.std.specs.Prelude.{Result, Ok, Err, Option, IsTrue, IsUtf8}
+use Rattle.std.specs.List.{AllByRecursion}
 use Rattle.wm_syntax.specs.declared.why.Why.{Why}
 use Rattle.wm_syntax.specs.declared.why.Why.TheVariants as why
 use Rattle.wm_syntax.specs.declared.types.ValType.{ValType}
 use Rattle.wm_syntax.specs.declared.instructions.Op.{Op}
 use Rattle.wm_syntax.specs.declared.modules.ExportKind.{ExportKind}
 use Rattle.wm_syntax.specs.Spelling.{Form, Byte, Exactly, Each, ◌▸◌, ◌∣◌}
-use Rattle.wm_syntax.specs.Types.{SpellsValType, SpellsBlockType}
+use Rattle.wm_syntax.specs.Types.{SpellsU32, SpellsValType, SpellsBlockType}
 use Rattle.wm_syntax.specs.Instructions.{SpellsOp}
 use Rattle.wm_syntax.specs.OpClasses.{first_byte, is_float}
 use Rattle.wm_syntax.specs.Profiles.{IsOpOf}
@@ -164,9 +165,50 @@ pub record BadName (p : Profile) (used : List ℕ) : Type 0 where
   pub place : MustStand p (λ b. (length b ≡ length text) × IsUtf8 b) before
   pub bad : IsUtf8 text → ⊥
 
--- What a name says of the bytes that were used, and of those behind them. Ten names have a line of their own.
--- Of the others nothing is said: of further names of the format (SectionEnd, BadNumber and so on), of those
--- of a checker of rules (Index, Mismatch and so on) or of a policy, and of Memory.
+-- The sections declare so many functions (sections 5.5.6, 5.5.15): the contents of one with id 3 begin with
+-- this number, or there is none and the number is 0.
+pub record HasCount (n : ℕ) (sections : List RawSection) : Type 0 where
+  pub before : List RawSection
+  pub after : List RawSection
+  pub number : List ℕ
+  pub more : List ℕ
+  pub whole : sections ≡ before ++ record { id = 3; contents = number ++ more } ∷ after
+  pub spelled : SpellsU32 n number
+
+abbrev pub Declare : ℕ → List RawSection → Type 0
+Declare n sections = HasCount n sections ⊎ ((n ≡ 0) × AllByRecursion (λ s. s.id ≢ 3) sections)
+
+-- CodeCount (section 5.5.15): after these sections comes the beginning of one with id 10, up to the number of
+-- its code entries, which is another than that of the functions.
+pub record OtherCount (used : List ℕ) : Type 0 where
+  pub sections : List RawSection
+  pub front : List ℕ
+  pub size : List ℕ
+  pub count : List ℕ
+  pub bytes : ℕ
+  pub entries : ℕ
+  pub functions : ℕ
+  pub whole : used ≡ front ++ 10 ∷ (size ++ count)
+  pub before : SpellsSections sections front
+  pub spelled_bytes : SpellsU32 bytes size
+  pub spelled_entries : SpellsU32 entries count
+  pub declared : Declare functions sections
+  pub differ : entries ≢ functions
+
+-- Or functions were declared, no section with id 10 came, and the one with id 11 begins or the input ends.
+pub record NoCode (used rest : List ℕ) : Type 0 where
+  pub sections : List RawSection
+  pub front : List ℕ
+  pub functions : ℕ
+  pub ends : ((used ≡ front) × (rest ≡ [])) ⊎ (used ≡ front ++ 11 ∷ [])
+  pub before : SpellsSections sections front
+  pub declared : Declare functions sections
+  pub some : 0 < functions
+  pub none : AllByRecursion (λ s. s.id ≢ 10) sections
+
+-- What a name says of the bytes that were used, and of those behind them. Eleven names have a line of their
+-- own. Of the others nothing is said: of three more of the format (SectionEnd, BodyEnd and BadNumber), of
+-- those of a checker of rules (Index, Mismatch and so on) or of a policy, and of Memory.
 abbrev pub Means : Profile → ℕ → List ℕ → List ℕ → Why → Type 0
 Means p limit used rest why.Magic = WrongInHeader 0 4 used
 Means p limit used rest why.Version = WrongInHeader 4 8 used
@@ -178,6 +220,7 @@ Means p limit used rest why.BadOpcode = WrongByte p IsNoInstruction used
 Means p limit used rest why.Float = WrongByte p IsFloat used
 Means p limit used rest why.BadByte = WrongByte p IsOtherByte used
 Means p limit used rest why.BadUtf8 = BadName p used
+Means p limit used rest why.CodeCount = OtherCount used ⊎ NoCode used rest
 Means p limit used rest w = Unit {0}
 
 -- A refusal of an input: its place lies within it, and what its name says holds of the bytes up to there.
