@@ -23,12 +23,13 @@ use Rattle.wm_typing.specs.declared.labels.BrTable.{BrTable}
 use Rattle.wm_typing.specs.Typing.{Context, function_type}
 use Rattle.wm_typing.specs.Contexts.{body_context, in_function, result_of}
 use Rattle.wm_typing.specs.OpenLists.{Place, open_at, within, complete, IsSoFar, head_of, label_type}
-use Rattle.wm_typing.specs.Bodies.{Body}
+use Rattle.wm_typing.specs.Bodies.{Body, BodyState}
 use Rattle.wm_typing.specs.inner.Frames.{Frames, running, in_table, ended, Holds, TracksWith}
 use Rattle.wm_stacks.specs.Stack.{Stack}
 use Rattle.wm_typing.specs.inner.Checking.{BodyAfter}
-use Rattle.wm_typing.specs.exact.Bodies.{body_after_op, context_in}
-use Rattle.wm_typing.specs.exact.Ops.{labels_of, within_frames}
+use Rattle.wm_typing.specs.exact.Bodies.{body_after_op, body_from, context_in, unless_refused}
+use Rattle.wm_typing.specs.Probes.{probes_in}
+use Rattle.wm_typing.specs.exact.Ops.{labels_of, step, within_frames}
 use Rattle.wm_typing.proofs.AfterCalls.{nested_said, no_typing}
 use Rattle.wm_typing.proofs.BegunBodies.{begun_body}
 use Rattle.wm_typing.proofs.StacksAfterOps.{body_can, front_typed}
@@ -43,13 +44,14 @@ use Rattle.wm_rules.specs.exact.Constants.{constant_expecting, visible}
 use Rattle.wm_rules.specs.exact.Spaces.{items_in, one_if, index_check, is_plain, is_within, next_type, plain, context_of, function_added, import_added, table_added, memory_added}
 use Rattle.wm_rules.specs.exact.Checking.{after, checker_after_op, constant_begun, empty_checker, in_names, in_spaces, is_taken, put_name, where_ok}
 use Rattle.wm_rules.specs.Validation.{WithinRange}
-use Rattle.wm_rules.specs.Meanings.{AreTooMany, BeginsBefore, BeginsBody, EndsTyping, HasOtherType, HasWrongCount, IsMistyped, IsNotOne, LastHasResult, AtConstant, AtOp, CannotBeConstant, ConstantNamesNothing, HasNoItem, InBody, InConstant, InEntry, IsAlignedPast, IsConstantOf, IsElseOutside, IsNoFirstBranch, IsNoStart, IsOutOfRange, IsRepeated, IsSecond, OpNamesNothing, SetsConstant, context_inside, context_of_body, context_so_far, heads_of, how_many, next_function, one_where, so_far}
+use Rattle.wm_rules.specs.Meanings.{AreTooMany, CountDiffers, Leaves, BeginsBefore, BeginsBody, EndsTyping, HasOtherType, HasWrongCount, IsMistyped, IsNotOne, LastHasResult, AtConstant, AtOp, CannotBeConstant, ConstantNamesNothing, HasNoItem, InBody, InConstant, InEntry, IsAlignedPast, IsConstantOf, IsElseOutside, IsNoFirstBranch, IsNoStart, IsOutOfRange, IsRepeated, IsSecond, OpNamesNothing, SetsConstant, context_inside, context_of_body, context_so_far, heads_of, how_many, next_function, one_where, so_far}
 use Rattle.wm_rules.proofs.CodeEntries.{at_hand, over_at_hand}
 use Rattle.wm_rules.proofs.ConstantMembers.{AfterOps, const_front, with_const}
 use Rattle.wm_rules.proofs.DueLabels.{InOrder, heads_are, in_order, labels_are}
 use Rattle.wm_rules.proofs.EntryItems.{ConstantItems, GoesOn, HasType, IsOpening, Stood}
 use Rattle.wm_rules.proofs.ItemMembers.{within_from}
 use Rattle.wm_rules.proofs.MemberFolds.{ok_then, taken-append}
+use Rattle.wm_rules.proofs.LeftTypes.{count_differs}
 use Rattle.wm_rules.proofs.OpNames.{Only, OutsideElse}
 use Rattle.wm_rules.proofs.RuleNames.{ConstantSays, CountsWrong, IsHidden, LocalsSay, NoneThere, OfConstant, OpOf, TypeSays, constant_names, count_name, entry_name, locals_names, op_names, param_names, result_names}
 use Rattle.wm_rules.proofs.SpacesSoFar.{entry_context, few_globals, some_type}
@@ -158,6 +160,13 @@ begins_before c e ops p fs None s (op.Label l) few k h m i = tt
 begins_before c e ops p fs (Some t) s (op.Label l) few k h m i = tt
 begins_before c e ops p fs None s o few k h m i = begins c e ops p fs s few k h m
 begins_before c e ops p fs (Some t) s o few k h m i = absurd i
+
+stepped_err : (b : Body) (n : ℕ) (r : Result BodyState Why) (w : Why) → b.refused ≡ None → unless_refused b.refused (body_from b n r) ≡ Err w → r ≡ Err w
+stepped_err b n r w u e = go r (subst (λ z. unless_refused z (body_from b n r) ≡ Err w) u e)
+  where
+    go : (r : Result BodyState Why) → body_from b n r ≡ Err w → r ≡ Err w
+    go (Ok s) e = absurd (cc)
+    go (Err v) e = let same : v ≡ w = cc in ap Err same
 
 -- what a constant is of
 constant_kind : (s : IndexSpaces) (x : Item) → IsOpening x → (t : ValType) × (n : ℕ) × IsConstantOf s x t n
@@ -397,7 +406,14 @@ module _ (items : List Item) (h : Held) (t : all_taken after empty_checker items
   shared_context : (e : InEntry items) → context_of h.spaces ≡ context_so_far (so_far e.before)
   shared_context e = ap context_of told ∙ entry_context items e
 
-  ends_typing : (o : Op) (w : Why) → after h (body_op o) ≡ Err w → Stood (body_op o) items → EndsTyping items o
+  -- the answer of the body
+  body_err : (o : Op) (w : Why) → after h (body_op o) ≡ Err w → (s : Stood (body_op o) items) → body_after_op (context_so_far (so_far s.0.before)) o h.body ≡ Err w
+  body_err o w refused s =
+      let one : checker_after_op h (body_after_op (context_of h.spaces) o h.body) ≡ Err w =
+      subst (λ b. cond b (checker_after_op h (body_after_op (context_of h.spaces) o h.body)) (Err why.Index) ≡ Err w) (body_open o s).0 refused in
+      subst (λ z. body_after_op z o h.body ≡ Err w) (shared_context s.0) (op_err (body_after_op (context_of h.spaces) o h.body) w one)
+
+  ends_typing : (o : Op) (w : Why) → after h (body_op o) ≡ Err w → (s : Stood (body_op o) items) → EndsTyping (body_now s.0) o
   ends_typing o w refused s =
       let open_now = body_open o s in
       let a = entry_at_hand s.0 in
@@ -405,15 +421,30 @@ module _ (items : List Item) (h : Held) (t : all_taken after empty_checker items
       let ops = s.0.code.ops in
       let c : Context = context_of_body s.0 a.type_index in
       let order = in_order c k.place k.frames h.body.state.table h.body.state.stacks ops s.1.0 o k.so_far k.holds k.goes s.1.1.labels in
-      let one : checker_after_op h (body_after_op (context_of h.spaces) o h.body) ≡ Err w =
-      subst (λ b. cond b (checker_after_op h (body_after_op (context_of h.spaces) o h.body)) (Err why.Index) ≡ Err w) open_now.0 refused in
-      let two : body_after_op (context_so_far (so_far s.0.before)) o h.body ≡ Err w =
-      subst (λ z. body_after_op z o h.body ≡ Err w) (shared_context s.0) (op_err (body_after_op (context_of h.spaces) o h.body) w one) in
-      let none = no_typing (context_so_far (so_far s.0.before)) a.type_index (locals_of s.0.code.runs) ops h.body o w a.held open_now.1 two in (
-        body_now s.0,
+      let none = no_typing (context_so_far (so_far s.0.before)) a.type_index (locals_of s.0.code.runs) ops h.body o w a.held open_now.1 (body_err o w refused s) in (
         begins_before c refl ops k.place k.frames h.body.state.table h.body.state.stacks o open_now.1 k.so_far k.holds k.goes order,
         λ m. none (front_typed c (ops ++ o ∷ []) m.0 (body_can c ((ops ++ o ∷ []) ++ m.0) refl m.1)),
       )
+
+  own_context : (e : InEntry items) → 0 < length h.body.state.stacks.frames → context_in (context_so_far (so_far e.before)) h.body ≡ context_of_body e (entry_at_hand e).type_index
+  own_context e l =
+      let a = entry_at_hand e in
+      let b = h.body in
+      let c : Context = context_so_far (so_far e.before) in
+      ap (λ z. in_function c z b.result b.declared) a.held.type_index
+      ∙ (ap (λ z. in_function c a.type_index z b.declared) a.held.result
+      ∙ ap (λ z. in_function c a.type_index (result_of c a.type_index) z) (a.held.declared l))
+
+  counts_differ : (o : Op) → after h (body_op o) ≡ Err why.Arity → (s : Stood (body_op o) items) (types : List ValType) → Leaves (context_of_body s.0 (entry_at_hand s.0).type_index) (body_now s.0).typing.0 types
+      → CountDiffers (context_of_body s.0 (entry_at_hand s.0).type_index) (body_now s.0).typing.0 o types
+  counts_differ o refused s =
+      let l = (body_open o s).1 in
+      let a = entry_at_hand s.0 in
+      let k = a.held.keeps in
+      let c : Context = context_so_far (so_far s.0.before) in
+      let step_err = stepped_err h.body (probes_in c h.body o) (step (context_in c h.body) h.body.state o) why.Arity a.held.unrefused (body_err o why.Arity refused s) in
+      count_differs (context_of_body s.0 a.type_index) o h.body.state.table h.body.state.stacks k.place k.frames l k.holds k.goes
+      (subst (λ z. step z h.body.state o ≡ Err why.Arity) (own_context s.0 l) step_err)
 
   outside_is : (u : Option BrTable) (fs : List Frame) → OutsideElse u fs → IsNoFirstBranch (map head_of fs)
   outside_is None fs o = o
@@ -426,8 +457,8 @@ module _ (items : List Item) (h : Held) (t : all_taken after empty_checker items
   by_op why.Immutable o e i = (tt, λ s. subst (λ (y : IndexSpaces). SetsConstant y.globals o) told i)
   by_op why.Align o e i = (tt, λ s. i)
   by_op why.Index o e i = (tt, none_there o i)
-  by_op why.Mismatch o e i = (tt, ends_typing o why.Mismatch e)
-  by_op why.Arity o e i = (tt, ends_typing o why.Arity e)
+  by_op why.Mismatch o e i = (tt, λ s. (body_now s.0, ends_typing o why.Mismatch e s))
+  by_op why.Arity o e i = (tt, λ s. (body_now s.0, ends_typing o why.Arity e s, counts_differ o e s))
   by_op why.ElsePlace op.Else e i = (tt, else_there i)
   by_op why.ElsePlace o e i = absurd i
   by_op w o e i = absurd i

@@ -1,7 +1,7 @@
 -- What the name of a refusal says of the bytes up to its place, where a rule was broken: of the items that
 -- are complete in them. The names of the format say what they say of any sink.
 use Rattle.std.specs.Prelude.{◌≡◌, ◌≢◌, ℕ, ◌+◌, ◌^◌, ◌<◌, ◌≤◌, Bool, true, false, List, [], ◌∷◌, ◌++◌, None}
-use Rattle.std.specs.Prelude.{◌⊎◌, Option, Some, length, map, slice_get}
+use Rattle.std.specs.Prelude.{◌⊎◌, Option, Some, length, map, option_to_list, slice_get}
 use Rattle.wm_syntax.specs.declared.types.GlobalType.{GlobalType}
 use Rattle.wm_syntax.specs.declared.instructions.Simple.TheVariants as simple
 use Rattle.wm_syntax.specs.declared.instructions.Op.{Op}
@@ -18,13 +18,14 @@ use Rattle.wm_syntax.specs.Types.{Signature}
 use Rattle.wm_syntax.specs.declared.types.ValType.{ValType}
 use Rattle.wm_syntax.specs.declared.types.ValType.TheVariants.{I32, I64}
 use Rattle.wm_stacks.specs.declared.entries.FrameKind.TheVariants.{If}
-use Rattle.wm_typing.specs.OpenLists.{Head, head, Place, open_at, within, complete, at}
+use Rattle.wm_typing.specs.OpenLists.{Head, head, work, Place, open_at, within, complete, at}
 use Rattle.wm_typing.specs.TypedBodies.{HaveTyping, IsTypedBody}
 use Rattle.wm_decode.specs.Flat.{FlatCode, code_items}
 use Rattle.wm_typing.specs.Contexts.{context, body_context}
-use Rattle.wm_typing.specs.Typing.{Context, function_type}
+use Rattle.wm_typing.specs.Typing.{Context, Typed, TypedSimple, function_type}
 use Rattle.wm_decode.specs.declared.refusal.Refusal.{Refusal}
-use Rattle.wm_decode.specs.Items.{Item, new_type, param, result_count, one_result, import_desc, function, table, memory}
+use Rattle.wm_decode.specs.Items.{Item, new_type, param, result_count, one_result, import_desc}
+use Rattle.wm_decode.specs.Items.{function, table, memory}
 use Rattle.wm_decode.specs.Items.{global, const_op, export_name, export, start, element, element_function}
 use Rattle.wm_decode.specs.Items.{body, locals, body_op, segment}
 use Rattle.wm_decode.specs.Meanings.{AtItem, Meant, Means as MeansOfFormat}
@@ -259,16 +260,16 @@ IsElseOutside items _ = ⊥
 abbrev pub BeginsBody : Context → List Op → Type 0
 BeginsBody c ops = (more : List Op) × IsTypedBody c (ops ++ more)
 
--- Of a label of a br_table it is not said: there the ops so far have a typing, but the default may take operands
--- that are not there.
+-- Of a label of a br_table it is not said: there the ops so far have a typing, but the default may take
+-- operands that are not there.
 abbrev pub BeginsBefore : Context → List Op → Op → Type 0
 BeginsBefore c ops (op.Label l) = Unit {0}
 BeginsBefore c ops _ = BeginsBody c ops
 
 -- Type and Arity, in a body: the ops so far begin a typed one, and with this op they begin none.
-abbrev pub EndsTyping : List Item → Op → Type 0
-EndsTyping items o =
-    (b : InBody items) × BeginsBefore (context_of_body b.entry b.type_index) b.entry.code.ops o
+abbrev pub EndsTyping : {items : List Item} → InBody items → Op → Type 0
+EndsTyping b o =
+    BeginsBefore (context_of_body b.entry b.type_index) b.entry.code.ops o
     × (BeginsBody (context_of_body b.entry b.type_index) (b.entry.code.ops ++ o ∷ []) → ⊥)
 
 -- Type: the instruction of a constant has another type than is wanted (section 3.3.7)
@@ -282,7 +283,7 @@ HasOtherType t globals _ = ⊥
 abbrev pub IsMistyped : List Item → Item → Type 0
 IsMistyped items (const_op o) =
     (c : InConstant items) × (c.ops ≡ []) × HasOtherType c.wanted (so_far items).globals o
-IsMistyped items (body_op o) = EndsTyping items o
+IsMistyped items (body_op o) = (b : InBody items) × EndsTyping b o
 IsMistyped items _ = ⊥
 
 -- Arity: a constant ends with no instruction, or has a second one (section 3.3.7);
@@ -296,11 +297,37 @@ LastHasResult [] = ⊥
 LastHasResult (f ∷ []) = f.results ≢ []
 LastHasResult (f ∷ g ∷ types) = LastHasResult (g ∷ types)
 
+-- The lists of operand types that the innermost open list can leave: within the labels of a br_table, below
+-- the i32 that it has taken.
+abbrev pub Leaves : Context → Place → List ValType → Type 0
+Leaves c (open_at (h ∷ hs) (work first s ∷ ws)) types = Typed (at c (h ∷ hs)) s [] types
+Leaves c (within n seen (h ∷ hs) (work first s ∷ ws)) types = Typed (at c (h ∷ hs)) s [] (types ++ I32 ∷ [])
+Leaves c _ types = ⊥
+
+-- in a body an op has a type in its context, but whatever it takes is more than such a list has; and at an
+-- else or an end the list has not as many types as the result
+abbrev pub CountDiffers : Context → Place → Op → List ValType → Type 0
+CountDiffers c q (op.Simple p) types =
+    ((takes gives : List ValType) × TypedSimple (at c (heads_of q)) p takes gives)
+    × ((takes gives : List ValType) → TypedSimple (at c (heads_of q)) p takes gives
+    → length types < length takes)
+CountDiffers c q (op.If t) types = length types < 1
+CountDiffers c q (op.BrTable n) types = length types < 1
+CountDiffers c q (op.Label l) types =
+    (t : Option ValType) × (slice_get (at c (heads_of q)).labels l ≡ Some t)
+    × (length types < length (option_to_list t))
+CountDiffers c (open_at (head k t ∷ hs) ws) op.Else types = length types ≢ length (option_to_list t)
+CountDiffers c (open_at (head k t ∷ hs) ws) op.End types = length types ≢ length (option_to_list t)
+CountDiffers c q _ types = ⊥
+
 abbrev pub HasWrongCount : List Item → Item → Type 0
 HasWrongCount items (result_count n) = 1 < n
 HasWrongCount items (one_result t) = LastHasResult (so_far items).types
 HasWrongCount items (const_op o) = (c : InConstant items) × IsNotOne c.ops o
-HasWrongCount items (body_op o) = EndsTyping items o
+HasWrongCount items (body_op o) =
+    (b : InBody items) × EndsTyping b o
+    × ((types : List ValType) → Leaves (context_of_body b.entry b.type_index) b.typing.0 types
+    → CountDiffers (context_of_body b.entry b.type_index) b.typing.0 o types)
 HasWrongCount items _ = ⊥
 
 -- What the name says. It is said of eleven names of the format, and of the twelve of rules. Nothing is said of
