@@ -2,6 +2,7 @@ pub mod Effects
 pub mod FrameOperands
 pub mod BodyOps
 pub mod Frame
+pub mod FuncTypeLists
 pub mod OpenListOps
 pub mod OneOp
 pub mod WholeBodies

@@ -3,3 +3,4 @@
 pub mod Checking
 pub mod DeclaredLocals
 pub mod Frames
+pub mod FuncTypes

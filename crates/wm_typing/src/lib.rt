@@ -6,6 +6,7 @@ pub mod bodies;
 pub mod body_checker;
 pub mod context;
 mod declared_locals;
+pub mod func_types;
 mod function;
 mod instructions;
 mod known_locals;

@@ -1,17 +1,18 @@
 //! Bodies and what they count.
 
-ghost use Rattle.std.specs.Prelude.{◌≡◌, ◌<◌, ◌^◌, IfOk, length, option_to_list};
+ghost use Rattle.std.specs.Prelude.{◌<◌, ◌^◌, length};
 
 use crate::bodies::check_body;
 use crate::context::Context;
+use crate::func_types::FuncTypes;
 use crate::scripts::{
     Scripted, given_of, number_of, ops_of, parts_of, play, shown, type_of, types_of,
 };
 use crate::stats::BodyStats;
-use std::alloc::{AllocError, Global};
+use std::alloc::Global;
 use std::process::Abort;
 use wm_syntax::instructions::Op;
-use wm_syntax::types::{FuncType, GlobalType, ValType};
+use wm_syntax::types::{GlobalType, ValType};
 use wm_syntax::why::Why;
 
 /// A field of this type, of a struct that a test takes apart.
@@ -19,22 +20,6 @@ pub(crate) fn is<T>(_field: &T) {}
 
 /// What can be copied is no list.
 pub(crate) fn is_copy<T: Copy>(_field: &T) {}
-
-/// A function type.
-pub(crate) fn function(
-    alloc: Global,
-    params: &[ValType],
-    given: Option<ValType>,
-) -> Result<FuncType, AllocError>
-    ensures { IfOk result (λ f. f.results ≡ option_to_list given) }
-{
-    let params = Vec::from_slice(alloc, params)?;
-    let results = match given {
-        Some(ty) => Vec::from_slice(alloc, &[ty])?,
-        None => Vec::new(alloc),
-    };
-    Ok(FuncType { params, results })
-}
 
 // Checks a body, in a module with a memory and a constant global, whose function 0 takes three i32 and
 // gives nothing.
@@ -47,13 +32,9 @@ fn check(
 ) -> Result<BodyStats, Why>
     requires { length ops.now < 2 ^ 62 }
 {
-    let (Ok(own), Ok(three)) = (
-        function(alloc, params, given),
-        function(alloc, &[ValType::I32, ValType::I32, ValType::I32], None),
-    ) else {
-        return Err(Why::Memory);
-    };
-    let types = [own, three];
+    let mut types = FuncTypes::new(alloc);
+    types.push(params, given)?;
+    types.push(&[ValType::I32, ValType::I32, ValType::I32], None)?;
     let globals = [GlobalType {
         ty: ValType::I32,
         var: false,

@@ -1,12 +1,8 @@
-use Rattle.std.proofs.Common.{◌-◌, ◌<◌, refl}
-use Rattle.wm_rules.specs.exact.Spaces.{one_result_more}
-use Rattle.wm_rules.proofs.LastLemmas.{put_back, taken_at_end}
+-- The last type has a result already.
+use Rattle.std.proofs.Common.{sym, ◌∙◌}
+use Rattle.wm_rules.proofs.LastTypes.{two_results}
 use Rattle.wm_rules.proofs.spaces.add_result.Goals as goal
 
-pub returns-clause-taken : goal.returns-clause-taken
-returns-clause-taken c =
-    let some : 0 < c.args.types.now.len = c.in-Some.ensures.variant.0 refl in
-    taken_at_end (one_result_more c.args.ty) c.args.types.now.items c.args.types.now.len c.in-Some.last.now c.push_result.new.last c.push_result.result c.args.types.now.ok.0 some c.in-Some.ensures.value c.push_result.ensures.taken
-
-pub returns-clause-err : goal.returns-clause-err
-returns-clause-err c = put_back c.args.types.now.items (c.args.types.now.len - 1) c.in-Some.last.now c.push_result.new.last c.push_result.result c.in-Some.ensures.value c.push_result.ensures.err
+pub returns-then-is_some-clause-taken : goal.returns-then-is_some-clause-taken
+returns-then-is_some-clause-taken c =
+    λ no. two_results c.args.ty c.args.types.now c.in-Some.last.params.now c.in-Some.last.result c.in-Some.ensures (sym c.is_some.ensures ∙ c.if-is_some.true)

@@ -3,5 +3,5 @@ use Rattle.wm_rules.specs.Kept.{capped_count, width}
 use Rattle.wm_rules.proofs.spaces.widths.Given as goal
 
 -- what the types so far make
-abbrev pub invariant-loop-ty : goal.invariant-loop-ty
-invariant-loop-ty l = l.sum ≡ capped_count (sum_by width (take l.ty-index l.types))
+abbrev pub invariant-loop-index : goal.invariant-loop-index
+invariant-loop-index l = l.sum ≡ capped_count (sum_by width (take l.index l.types))

@@ -1,0 +1,175 @@
+//! The function types of a module, in two lists.
+
+ghost use Rattle.std.specs.Prelude.{◌≡◌, ◌-◌, ◌<◌, [], ◌∷◌, ◌++◌, None, Some, MatchOption, OnErr, OnOk, length};
+ghost use Rattle.std.specs.Prelude.{option_to_list, slice_get};
+ghost use Rattle.wm_typing.specs.inner.FuncTypes.{with_last};
+
+use std::alloc::{AllocError, Global};
+use std::marker::Model;
+use wm_syntax::types::ValType;
+
+/// Function types (section 2.3.3) that have one result at most. The parameters of all stand in one list, so
+/// that a type has no block of memory of its own. Contracts see the list of types.
+#[derive(Debug, Drop)]
+pub struct FuncTypes {
+    params: Vec<ValType>,
+    entries: Vec<TypeEntry>,
+}
+
+/// A function type that is lent.
+#[derive(Clone, Copy, Debug)]
+pub struct FuncTypeRef<'a> {
+    pub params: &'a [ValType],
+    pub result: Option<ValType>,
+}
+
+// Where the parameters of a type begin, how many there are, and its result
+#[derive(Clone, Copy, Debug, PartialEq, Eq)]
+struct TypeEntry {
+    start: usize,
+    count: usize,
+    result: Option<ValType>,
+}
+
+impl Model for FuncTypes {
+    ghost use Rattle.std.specs.Prelude.{List, length};
+    ghost use Rattle.wm_syntax.specs.Types.{Signature};
+    ghost use Rattle.wm_typing.specs.inner.FuncTypes.{AreEntries, signatures_in};
+
+    ghost Value = { List Signature };
+
+    ghost view = { λ t. signatures_in t.params.items t.entries.items };
+
+    ghost invariant = { λ t. AreEntries (length t.params.items) t.entries.items };
+}
+
+impl FuncTypes {
+    /// No types.
+    pub fn new(alloc: Global) -> Self
+        ensures { result ≡ [] }
+    {
+        FuncTypes {
+            params: Vec::new(alloc),
+            entries: Vec::new(alloc),
+        }
+    }
+
+    /// How many types there are.
+    pub fn len(&self) -> usize
+        ensures { result ≡ length self.now }
+    {
+        self.entries.len()
+    }
+
+    /// The type with this index, None where there is none.
+    #[inline]
+    pub fn get(&self, index: usize) -> Option<FuncTypeRef<'_>>
+        ensures { MatchOption result (slice_get self.now index ≡ None)
+            (λ f. slice_get self.now index ≡ Some (record {
+              params = f.params.now;
+              results = option_to_list f.result;
+            })) }
+    {
+        let entry = *self.entries.get(index)?;
+        Some(FuncTypeRef {
+            params: &self.params[entry.start..entry.start + entry.count],
+            result: entry.result,
+        })
+    }
+
+    /// The last type, None where there is none.
+    pub fn last(&self) -> Option<FuncTypeRef<'_>>
+        ensures { MatchOption result (slice_get self.now (length self.now - 1) ≡ None)
+            (λ f. slice_get self.now (length self.now - 1) ≡ Some (record {
+              params = f.params.now;
+              results = option_to_list f.result;
+            })) }
+    {
+        self.get(self.len().saturating_sub(1))
+    }
+
+    /// Adds a type.
+    pub fn push(&mut self, params: &[ValType], given: Option<ValType>) -> Result<(), AllocError>
+        ensures ok { OnOk result (self.new ≡ self.old ++ record {
+          params = params.now;
+          results = option_to_list given;
+        } ∷ []) }
+        ensures err { OnErr result (self.new ≡ self.old) }
+    {
+        push_entry(&mut self.params, &mut self.entries, params, given)?;
+        Ok(())
+    }
+
+    /// The last type has one more parameter.
+    pub fn push_param(&mut self, ty: ValType) -> Result<(), AllocError>
+        requires { 0 < length self.old }
+        ensures ok { OnOk result
+            (self.new ≡ with_last (λ f. record f { params = f.params ++ ty ∷ [] }) self.old) }
+        ensures err { OnErr result (self.new ≡ self.old) }
+    {
+        self.params.push(ty)?;
+        // no test: a type has no more parameters than there are
+        let _total = self.params.len();
+        let last = self.entries.len() - 1;
+        self.entries[last].count += 1;
+        Ok(())
+    }
+
+    /// The last type has this result, and no other.
+    pub fn set_result(&mut self, ty: ValType)
+        requires { 0 < length self.old }
+        ensures { self.new ≡ with_last (λ f. record f { results = ty ∷ [] }) self.old }
+    {
+        let last = self.entries.len() - 1;
+        self.entries[last].result = Some(ty);
+    }
+}
+
+// Adds parameters, and the entry of their type.
+fn push_entry(
+    all: &mut Vec<ValType>,
+    entries: &mut Vec<TypeEntry>,
+    params: &[ValType],
+    given: Option<ValType>,
+) -> Result<(), AllocError>
+    ensures params { OnOk result (all.new.items ≡ all.old.items ++ params.now) }
+    ensures entries { OnOk result (entries.new.items ≡ entries.old.items ++ record {
+      start = length all.old.items;
+      count = length params.now;
+      result = given;
+    } ∷ []) }
+    ensures err { OnErr result ((all.new.items ≡ all.old.items) × (entries.new.items ≡ entries.old.items)) }
+{
+    let start = all.len();
+    all.extend_from_slice(params)?;
+    let entry = TypeEntry {
+        start,
+        count: params.len(),
+        result: given,
+    };
+    if entries.push(entry).is_err() {
+        all.truncate(start);
+        return Err(AllocError);
+    }
+    Ok(())
+}
+
+#[cfg(test)]
+mod tests {
+    use super::*;
+    use crate::tests::{is, is_copy};
+
+    /// A further field has to be named here, and a further list to be counted.
+    #[test]
+    fn every_field_is_a_list_that_is_counted(rt: HostRuntime) {
+        let types = FuncTypes::new(rt.alloc());
+        let FuncTypes { params, entries } = &types;
+        is::<Vec<ValType>>(params);
+        is::<Vec<TypeEntry>>(entries);
+        is_copy(&TypeEntry {
+            start: 0,
+            count: 0,
+            result: None,
+        });
+    }
+}
