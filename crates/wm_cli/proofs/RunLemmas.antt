@@ -155,7 +155,7 @@ read_whole limit (Some input) (Some rest) read c le e =
 
 module_output : (p : Profile) (q : Policy) (m : Module) (written : List ℕ) (status : Status) → ModuleOut p q m written status → IsOutput Build written status
 module_output p q m written status (inl (v, w, f, e, s)) = inl ((m, e), s)
-module_output p q m written status (inr (inl (n, f, (r, why, place, same, e), s))) = inr (inr (inr (inl (r.at, r.why, why, e))), s)
+module_output p q m written status (inr (inl (n, f, (r, why, place, same, means, e), s))) = inr (inr (inr (inl (r.at, r.why, why, e))), s)
 module_output p q m written status (inr (inr (n, e, s))) = inr (inr (inr (inr e)), s)
 
 pub text_output : (p : Profile) (q : Policy) (s : Spellings) (text written : List ℕ) (status : Status) → TextOut p q s text written status → IsOutput Build written status
