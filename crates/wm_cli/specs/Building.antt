@@ -20,8 +20,8 @@ use Rattle.wm_cli.specs.declared.status.Status.TheVariants.{Done, Refused}
 use Rattle.wm_cli.specs.Refused.{module_line, refusal_line, text_line, too_large_line}
 
 -- Of a module that a text writes: its canonical binary, where it is valid and within the policy;
--- where it is not, the refusal of that binary, and what its name says of it is so. A module of which a section would be too large has
--- none, and is refused for that.
+-- where it is not, the refusal of that binary, of which what its name says is so. A module of which a
+-- section would be too large has none, and is refused for that.
 abbrev pub ModuleOut : Profile → Policy → Module → List ℕ → Status → Type 0
 ModuleOut p q m written status =
     (Valid m × Within q m × Fits m × (written ≡ canon m) × (status ≡ Done))

@@ -1,7 +1,7 @@
 //! The function types of a module, in two lists.
 
-ghost use Rattle.std.specs.Prelude.{◌≡◌, ◌-◌, ◌<◌, [], ◌∷◌, ◌++◌, None, Some, MatchOption, OnErr, OnOk, length};
-ghost use Rattle.std.specs.Prelude.{option_to_list, slice_get};
+ghost use Rattle.std.specs.Prelude.{◌≡◌, ◌-◌, ◌<◌, [], ◌∷◌, ◌++◌, None, Some, MatchOption, OnErr, OnOk};
+ghost use Rattle.std.specs.Prelude.{length, option_to_list, slice_get};
 ghost use Rattle.wm_typing.specs.inner.FuncTypes.{with_last};
 
 use std::alloc::{AllocError, Global};

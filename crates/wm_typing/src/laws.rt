@@ -55,8 +55,9 @@ pub fn fronts_of_typed_bodies()
         → HaveTyping (body_context c x locals) front }
 {}
 
-/// Ops so far, outside the labels of a br_table, begin a typed body where they have a typing in the lists that
-/// they leave open. (Within those labels they may begin none: the default takes operands that were not asked.)
+/// Ops so far, outside the labels of a br_table, begin a typed body where they have a typing in the lists
+/// that they leave open. (Within those labels they may begin none: the default takes operands that were not
+/// asked.)
 pub fn open_ops_begin_a_body()
     ensures { (c : Context) (x : ℕ) (locals : List ValType) (hs : List Head) (ws : List Work) (ops : List Op)
         → IsOpen (result_of c x) hs ws ops → OpenCan (body_context c x locals) [] hs ws
