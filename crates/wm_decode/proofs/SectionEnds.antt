@@ -57,7 +57,7 @@ abbrev pub IsText : Event → List ℕ → Type 0
 IsText (event.EndsName kind) text = is_utf8 text ≡ true
 IsText e text = Unit {0}
 
-heard_at : {M : Type 0} (fail : Why → M) (zone : Zone) (y : List ℕ) (c : ℕ) (m : M) (e : Event) → IsText e (y ++ c ∷ []) → (byte_read fail zone y c (m, e)).at ≡ m
+pub heard_at : {M : Type 0} (fail : Why → M) (zone : Zone) (y : List ℕ) (c : ℕ) (m : M) (e : Event) → IsText e (y ++ c ∷ []) → (byte_read fail zone y c (m, e)).at ≡ m
 heard_at fail zone y c m event.Nothing i = refl
 heard_at fail zone y c m (event.Complete q) i = refl
 heard_at fail zone y c m event.DataByte i = refl
