@@ -173,7 +173,7 @@ else_empty zone y c m (event.EndsName k) n = absurd n
 end_empty : (zone : Zone) (y : List ℕ) (c : ℕ) (m : Machine) (k : NameKind) → (byte_read machine.Refused zone y c (m, event.EndsName k)).name ≡ []
 end_empty zone y c m k = cond_both (is_utf8 (y ++ c ∷ [])) _ _ (λ (h : ByteRead Machine). h.name ≡ []) (λ _. refl) (λ _. refl)
 
-state_snoc : (p : Profile) (s : MachineState) (b : List ℕ) (c : ℕ) → state_after p s (b ++ c ∷ []) ≡ after_byte p (state_after p s b) c
+pub state_snoc : (p : Profile) (s : MachineState) (b : List ℕ) (c : ℕ) → state_after p s (b ++ c ∷ []) ≡ after_byte p (state_after p s b) c
 state_snoc p s [] c = refl
 state_snoc p s (d ∷ b) c = state_snoc p (after_byte p s d) b c
 

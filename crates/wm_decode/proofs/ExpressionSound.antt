@@ -1,6 +1,6 @@
 -- Which states a reader of an expression can be in, that something may still come in each, and where it gives the name
 -- Float.
-use Rattle.std.proofs.Common.{◌≡◌, subst, ℕ, zero, suc, ◌+◌, ◌-◌, ◌<◌, ◌≤◌, ◌^◌, List, [], ◌∷◌, ◌++◌, Some, None, refl, ap, arith, nat_lt}
+use Rattle.std.proofs.Common.{◌≡◌, ◌⊎◌, inl, inr, subst, ℕ, zero, suc, ◌+◌, ◌-◌, ◌<◌, ◌≤◌, ◌^◌, List, [], ◌∷◌, ◌++◌, Some, None, refl, ap, arith, nat_lt}
 use Rattle.std.specs.List.{AllByRecursion}
 use Rattle.std.proofs.lemmas.Bool.{cond_both}
 use Rattle.wm_syntax.specs.declared.profile.Profile.{Profile}
@@ -30,7 +30,7 @@ use Rattle.wm_decode.proofs.OpRest.{op_rest, rest_good}
 use Rattle.wm_decode.specs.Decoding.{IsFloatByte}
 use Rattle.wm_decode.proofs.OpSound.{HasRoom, RoomAfter, fresh_32, unsigned_room, SoundOp, FineOp, op_fine, some_op, last_byte, IsOther, op_faults}
 use Rattle.wm_decode.proofs.Endings.{Ends}
-use Rattle.wm_decode.proofs.ExpressionRest.{OpsFrom, OpsAfter, label_part, ExpressionRest, CanOpen}
+use Rattle.wm_decode.proofs.ExpressionRest.{OpsFrom, OpsAfter, label_part, ExpressionRest, IsInside, CanOpen}
 
 -- The states in which something may still come, where so many bytes are left at most: a block is opened by a byte at
 -- least, so that the open ones can be counted.
@@ -174,11 +174,16 @@ module _ (name : Why) (Fault : ℕ → Type 0) (other : (w : Why) → IsOther w 
   label_calm depth labels (step.Done v, s) = after_label_calm depth labels
   label_calm depth labels (step.Bad, s) = failed_calm why.BadNumber tt
 
-  pub expression_fault : (p : Profile) (at : InExpression) (c : ℕ) → (expression_step p at c).0 ≡ expression.Failed name → Fault c
-  expression_fault p (expression.Op depth at) c e = reading_fault depth c (op_push p at c) (op_faults name Fault other float p at c) e
-  expression_fault p (expression.Label depth labels r) c e = absurd (label_calm depth labels (unsigned_push 32 r c) e)
-  expression_fault p expression.Over c e = absurd (failed_calm why.SectionEnd tt e)
-  expression_fault p (expression.Failed w) c e = absurd (failed_calm why.SectionEnd tt e)
+  -- after its end it is refused by SectionEnd
+  past_end : (at : InExpression) → (IsInside at → ⊥) → IsInside at ⊎ (why.SectionEnd ≡ name → ⊥) → Calm (expression.Failed why.SectionEnd)
+  past_end at over (inl i) e = over i
+  past_end at over (inr n) e = n (let same : why.SectionEnd ≡ name = cc in same)
+
+  pub expression_fault : (p : Profile) (at : InExpression) (c : ℕ) → IsInside at ⊎ (why.SectionEnd ≡ name → ⊥) → (expression_step p at c).0 ≡ expression.Failed name → Fault c
+  expression_fault p (expression.Op depth at) c i e = reading_fault depth c (op_push p at c) (op_faults name Fault other float p at c) e
+  expression_fault p (expression.Label depth labels r) c i e = absurd (label_calm depth labels (unsigned_push 32 r c) e)
+  expression_fault p expression.Over c i e = absurd (past_end expression.Over (λ h. h) i e)
+  expression_fault p (expression.Failed w) c i e = absurd (past_end (expression.Failed w) (λ h. h) i e)
 
 pub expression_float : (p : Profile) (at : InExpression) (c : ℕ) → (expression_step p at c).0 ≡ expression.Failed why.Float → IsFloatByte c
-expression_float = expression_fault why.Float IsFloatByte (λ w i e. subst IsOther e i) (λ c e h. h)
+expression_float p at c = expression_fault why.Float IsFloatByte (λ w i e. subst IsOther e i) (λ c e h. h) p at c (inr (λ e. cc))

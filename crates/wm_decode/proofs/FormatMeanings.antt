@@ -1,5 +1,5 @@
 -- What the names of the format say of the bytes up to the place of a refusal.
-use Rattle.std.proofs.Common.{◌≡◌, ◌≢◌, ℕ, zero, suc, ◌+◌, ◌<◌, ◌≤◌, ◌^◌, ◌⊎◌, inl, inr, List, [], ◌∷◌, ◌++◌, Option, Some, None, Result, Ok, Err, false, length, take, refl, sym, ◌∙◌, ap, subst, arith, append_assoc, append-nil, length-append, nat_eq, nat_lt, nat_le}
+use Rattle.std.proofs.Common.{◌≡◌, ◌≢◌, ℕ, zero, suc, ◌+◌, ◌<◌, ◌≤◌, ◌^◌, ◌⊎◌, inl, inr, List, [], ◌∷◌, ◌++◌, Option, Some, None, Result, Ok, Err, true, false, length, take, refl, sym, ◌∙◌, ap, subst, arith, append_assoc, append-nil, length-append, nat_eq, nat_lt, nat_le}
 use Rattle.std.proofs.lemmas.Bool.{cases_lt, cond_both, ltb-true, ltb-false, leb-true, eqb-false}
 use Rattle.std.specs.Prelude.{slice_index}
 use Rattle.std.specs.Str.{is_utf8}
@@ -34,11 +34,13 @@ use Rattle.wm_decode.specs.exact.Runs.{name_item, plain_item, marks, MachineStat
 use Rattle.wm_decode.specs.exact.Steps.{machine_after_count, machine_after_paired_count, after_count, begun_section, machine_if_rising, section_start, header_step, custom_step, custom_after_length, step_of}
 use Rattle.wm_decode.specs.exact.Live.{effect_of_maybe, name_taken, event_effect, Live, live_or_refused, live_from, live_byte, decoder_after, live_at_start, answer_at_end_of, answer_at_end, IsRefused}
 use Rattle.wm_decode.specs.inner.Decoders.{answer_of}
-use Rattle.wm_decode.specs.Meanings.{RawSection, WrongInHeader, WrongId, IsUnknown, IsLate, HasFrom, EndsInSection, Declare, OtherCount, NoCode, Wanted, WrongByte, IsNoInstruction, IsFloat, IsOtherByte, Means, Meaning, IsRuleName, GivesRuleNames}
+use Rattle.wm_decode.specs.Meanings.{RawSection, WrongInHeader, WrongId, IsUnknown, IsLate, HasFrom, EndsInSection, Declare, OtherCount, NoCode, OtherSize, OtherBodySize, Wanted, WrongByte, IsNoInstruction, IsFloat, IsOtherByte, Means, Meaning, IsRuleName, GivesRuleNames}
 use Rattle.wm_decode.proofs.ByteLists.{front_bytes}
 use Rattle.wm_decode.proofs.WrongBytes.{Found, Says as SaysOfByte}
 use Rattle.wm_decode.proofs.WrongMembers.{InInput, byte_says}
 use Rattle.wm_decode.proofs.BadNames.{bad_name}
+use Rattle.wm_decode.proofs.SectionEnds.{IsText, other_size}
+use Rattle.wm_decode.proofs.BodyEnds.{other_body_size}
 use Rattle.wm_decode.proofs.OpSound.{HasRoom, last_byte}
 use Rattle.wm_decode.proofs.OpenMembers.{zeros, zeros_length}
 use Rattle.wm_decode.proofs.MemberFloats.{IsMemberName, member_name}
@@ -292,25 +294,29 @@ by_rule p limit used rest why.Float i = absurd i
 by_rule p limit used rest why.BadByte i = absurd i
 by_rule p limit used rest why.BadUtf8 i = absurd i
 by_rule p limit used rest why.CodeCount i = absurd i
+by_rule p limit used rest why.SectionEnd i = absurd i
+by_rule p limit used rest why.BodyEnd i = absurd i
 by_rule p limit used rest w i = tt
 
 -- what is found of the last byte
 found : (p : Profile) (b : List ℕ) (a : AreBytes b) (c : ℕ) (IsWrong : Wanted → ℕ → Type 0) → Found (InInput p b a c) IsWrong c → WrongByte p IsWrong (b ++ c ∷ [])
 found p b a c IsWrong s = record { before = b; byte = c; whole = refl; wanted = s.0; place = s.1.0; none = s.1.1; wrong = s.2 }
 
-by_machine : (p : Profile) (limit : ℕ) (b rest : List ℕ) (a : AreBytes b) (c : ℕ) (w : Why) → MachineSays (b ++ c ∷ []) w → SaysOfByte (InInput p b a c) c w → Means p limit (b ++ c ∷ []) rest w
-by_machine p limit b rest a c why.Magic h s = h
-by_machine p limit b rest a c why.Version h s = h
-by_machine p limit b rest a c why.SectionId h s = h
-by_machine p limit b rest a c why.SectionOrder h s = h
-by_machine p limit b rest a c why.Truncated h s = absurd h
-by_machine p limit b rest a c why.TooLong h s = absurd h
-by_machine p limit b rest a c why.BadOpcode h s = found p b a c IsNoInstruction s
-by_machine p limit b rest a c why.Float h s = found p b a c IsFloat s
-by_machine p limit b rest a c why.BadByte h s = found p b a c IsOtherByte s
-by_machine p limit b rest a c why.BadUtf8 h s = absurd h
-by_machine p limit b rest a c why.CodeCount h s = h rest
-by_machine p limit b rest a c w h s = tt
+by_machine : (p : Profile) (limit : ℕ) (b rest : List ℕ) (a : AreBytes b) (c : ℕ) (w : Why) → MachineSays (b ++ c ∷ []) w → SaysOfByte (InInput p b a c) c w → (w ≡ why.SectionEnd → OtherSize p (b ++ c ∷ [])) → (w ≡ why.BodyEnd → OtherBodySize p (b ++ c ∷ [])) → Means p limit (b ++ c ∷ []) rest w
+by_machine p limit b rest a c why.Magic h s cut body = h
+by_machine p limit b rest a c why.Version h s cut body = h
+by_machine p limit b rest a c why.SectionId h s cut body = h
+by_machine p limit b rest a c why.SectionOrder h s cut body = h
+by_machine p limit b rest a c why.Truncated h s cut body = absurd h
+by_machine p limit b rest a c why.TooLong h s cut body = absurd h
+by_machine p limit b rest a c why.BadOpcode h s cut body = found p b a c IsNoInstruction s
+by_machine p limit b rest a c why.Float h s cut body = found p b a c IsFloat s
+by_machine p limit b rest a c why.BadByte h s cut body = found p b a c IsOtherByte s
+by_machine p limit b rest a c why.BadUtf8 h s cut body = absurd h
+by_machine p limit b rest a c why.CodeCount h s cut body = h rest
+by_machine p limit b rest a c why.SectionEnd h s cut body = cut refl
+by_machine p limit b rest a c why.BodyEnd h s cut body = body refl
+by_machine p limit b rest a c w h s cut body = tt
 
 zeros_some : (n : ℕ) → zeros (suc n) ≡ [] → ⊥
 zeros_some n e = let l : length (zeros (suc n)) ≡ 0 = ap length e in omega (arith, l, zeros_length (suc n))
@@ -359,7 +365,7 @@ module _ {H : Type 0} (after : H → Item → Result H Why) (p : Profile) (limit
   -- why a byte was refused
   data Cause (l : Live H) (c : ℕ) (r : Refusal) : Type 0 where
     too_long : r.at ≡ limit + 1 → r.why ≡ why.TooLong → Cause l c r
-    by_step : (step_of p l.machine c).0 ≡ machine.Refused r.why → Cause l c r
+    by_step : (step_of p l.machine c).0 ≡ machine.Refused r.why → IsText (step_of p l.machine c).1 (l.name ++ c ∷ []) → Cause l c r
     by_text : BadText (step_of p l.machine c).1 (l.name ++ c ∷ []) → r.why ≡ why.BadUtf8 → Cause l c r
     by_item : (x : Item) → after l.held x ≡ Err r.why → Cause l c r
 
@@ -391,18 +397,29 @@ module _ {H : Type 0} (after : H → Item → Result H Why) (p : Profile) (limit
   effect_err (event.EndsName kind) name c h w i = of_name kind (name ++ c ∷ []) h w (name_err kind (name ++ c ∷ []) h w (then_err (name_taken after kind (name ++ c ∷ []) h) (λ g. ([], g)) w i))
   effect_err (event.EmptyName kind) name c h w i = maybe_err (BadText (event.EmptyName kind) (name ++ c ∷ [])) (name_item kind []) h w (then_err (effect_of_maybe after (name_item kind []) h) (λ g. ([], g)) w i)
 
+  -- what took an event took no name that is not UTF-8
+  text_ok : (e : Event) (name : List ℕ) (c : ℕ) (h : H) (x : List ℕ × H) → event_effect after e name c h ≡ Ok x → IsText e (name ++ c ∷ [])
+  text_ok (event.EndsName kind) name c h x =
+      let text : List ℕ = name ++ c ∷ [] in
+      cond_both (is_utf8 text) _ _ (λ (r : Result H Why). and_then r (λ g. Ok ([], g)) ≡ Ok x → is_utf8 text ≡ true) (λ yes e. yes) (λ no e. absurd (cc))
+  text_ok event.Nothing name c h x = λ e. tt
+  text_ok (event.Complete q) name c h x = λ e. tt
+  text_ok event.DataByte name c h x = λ e. tt
+  text_ok event.InName name c h x = λ e. tt
+  text_ok (event.EmptyName kind) name c h x = λ e. tt
+
   stands_err : (m : Machine) (name : List ℕ) (h : H) (at : ℕ) (r : Refusal) → live_or_refused m name h at ≡ Err r → m ≡ machine.Refused r.why
   stands_err (machine.Refused w) name h at r e = let s : record { at = at; why = w } ≡ r = cc in ap (λ (y : Refusal). machine.Refused y.why) s
   stands_err m name h at r e = absurd (cc)
 
-  from_err : (m : Machine) (at : ℕ) (q : Result (List ℕ × H) Why) (r : Refusal) → live_from m at q ≡ Err r → (m ≡ machine.Refused r.why) ⊎ (q ≡ Err r.why)
-  from_err m at (Ok x) r e = inl (stands_err m x.0 x.1 at r e)
+  from_err : (m : Machine) (at : ℕ) (q : Result (List ℕ × H) Why) (r : Refusal) → live_from m at q ≡ Err r → ((m ≡ machine.Refused r.why) × (x : List ℕ × H) × (q ≡ Ok x)) ⊎ (q ≡ Err r.why)
+  from_err m at (Ok x) r e = inl (stands_err m x.0 x.1 at r e, x, refl)
   from_err m at (Err w) r e = let s : record { at = at; why = w } ≡ r = cc in inr (ap (λ (y : Refusal). Err y.why) s)
 
   cause : (l : Live H) (c : ℕ) (r : Refusal) → live_byte after p limit l c ≡ Err r → Cause l c r
   cause l c r = cond_both (nat_lt l.at limit) _ _ (λ (q : Result (Live H) Refusal). q ≡ Err r → Cause l c r)
       (λ _ e. elim (from_err (step_of p l.machine c).0 (l.at + 1) (event_effect after (step_of p l.machine c).1 l.name c l.held) r e) [
-        | inl m ↦ by_step m
+        | inl m ↦ by_step m.0 (text_ok (step_of p l.machine c).1 l.name c l.held m.1 m.2)
         | inr g ↦ elim (effect_err (step_of p l.machine c).1 l.name c l.held r.why g) [ inl b ↦ by_text b.0 b.1 | inr x ↦ by_item x.0 x.1 ]
       ])
       (λ _ e. let s : record { at = limit + 1; why = why.TooLong } ≡ r = cc in too_long (sym (ap (λ (y : Refusal). y.at) s)) (sym (ap (λ (y : Refusal). y.why) s)))
@@ -455,9 +472,11 @@ module _ {H : Type 0} (after : H → Item → Result H Why) (s : Setting H) (nam
       go u bytes byte place same live fit f parts (too_long at w) = subst (λ y. Means s.profile s.limit (u.used ++ u.byte ∷ []) (u.rest ++ more) y) (sym w) (sym place ∙ at)
       go u bytes byte place same live fit f parts (by_text t w) =
           subst (λ y. Means s.profile s.limit (u.used ++ u.byte ∷ []) (u.rest ++ more) y) (sym w) (bad_name s.profile u.used bytes u.byte u.before.machine u.before.name t.0 (sym same) t.1 t.2)
-      go u bytes byte place same live fit f parts (by_step m) =
+      go u bytes byte place same live fit f parts (by_step m text) =
           by_machine s.profile s.limit u.used (u.rest ++ more) bytes u.byte r.why (step_says s.profile u.before.machine u.byte u.used byte live fit f r.why m)
           (byte_says s.profile u.used bytes u.byte byte u.before.machine (ap (λ (m : MachineState). m.machine) same) live r.why m)
+          (λ w. other_size s.profile u.used bytes u.byte byte u.before.machine u.before.name same fit live f text (m ∙ ap machine.Refused w))
+          (λ w. other_body_size s.profile u.used bytes u.byte byte u.before.machine u.before.name same fit live (m ∙ ap machine.Refused w))
       go u bytes byte place same live fit f parts (by_item x e) = by_rule s.profile s.limit (u.used ++ u.byte ∷ []) (u.rest ++ more) r.why (names parts.0 u.before.held x r.why parts.1 e)
 
   at_end : (m : Machine) (h : H) (at : ℕ) (b : List ℕ) (r : Refusal) → (IsRefused m → ⊥) → Fits m → Framed m b → answer_at_end_of m h at ≡ Err r → Means s.profile s.limit b [] r.why

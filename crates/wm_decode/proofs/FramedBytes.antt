@@ -255,12 +255,12 @@ at_count last of functions more (Done n, r) b up h t u = counted last of functio
 at_count last of functions more (Bad, r) b up h t u = tt
 
 -- at its size
-abbrev Sizes : ℕ → ℕ → ℕ → List ℕ → Step ℕ × Partial → Type 0
+abbrev pub Sizes : ℕ → ℕ → ℕ → List ℕ → Step ℕ × Partial → Type 0
 Sizes last functions id b (More, r) = (h : AtSize last id r b) × Counts last functions h.past
 Sizes last functions id b (Done n, r) = (h : InContents last id n b) × Counts last functions h.past × (h.contents ≡ [])
 Sizes last functions id b (Bad, r) = Unit {0}
 
-at_size : (last functions id : ℕ) (r : Partial) (b : List ℕ) (c : ℕ) → c < 2 ^ 8 → (h : AtSize last id r b) → Counts last functions h.past → Sizes last functions id (b ++ c ∷ []) (unsigned_push 32 r c)
+pub at_size : (last functions id : ℕ) (r : Partial) (b : List ℕ) (c : ℕ) → c < 2 ^ 8 → (h : AtSize last id r b) → Counts last functions h.past → Sizes last functions id (b ++ c ∷ []) (unsigned_push 32 r c)
 at_size last functions id r b c byte h t = go (unsigned_push 32 r c) (numbers r h.begun c byte h.number)
   where
     joined : b ++ c ∷ [] ≡ h.front ++ id ∷ (h.begun ++ c ∷ [])

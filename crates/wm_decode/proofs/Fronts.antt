@@ -33,14 +33,14 @@ use Rattle.wm_decode.proofs.MachineStates.{IsNamed, component_named, FitsCustom,
 use Rattle.wm_decode.proofs.WholeMachine.{Known, KnownIn, Later, After, InSize, ListOf, Listed, Within, MachineRest, begin_from, run_from}
 use Rattle.wm_decode.proofs.MachineAndSink.{begin_fits}
 
-some_custom : (n : ℕ) (q : InCustom) (y : List ℕ) → FitsCustom q → Comes (CustomRest loose n q y)
+pub some_custom : (n : ℕ) (q : InCustom) (y : List ℕ) → FitsCustom q → Comes (CustomRest loose n q y)
 some_custom n (custom.Length r) y h = some_filled n _ (some_text unnamed r h)
 some_custom n (custom.Name more) y h = some_filled n _ (some_name_left unnamed y (suc more))
 some_custom n custom.Skip y h = record { bytes = zeros n; marks = marks_ending None (zeros n); spelled = (zeros_length n, zeros_bytes n, refl) }
 some_custom n (custom.Failed w) y h = absurd h
 
 module _ (p : Profile) where
-  some_listed : (of : SectionKind) (f n : ℕ) → Comes (ListOf loose p of f n)
+  pub some_listed : (of : SectionKind) (f n : ℕ) → Comes (ListOf loose p of f n)
   some_listed section_kind.Function f n = let t = some_times n (OneOf loose p section_kind.Function) (some_one p section_kind.Function) in record { bytes = t.bytes; marks = t.marks; spelled = ((λ d. absurd d), t.spelled) }
   some_listed section_kind.Code f n = let t = some_times n (OneOf loose p section_kind.Code) (some_one p section_kind.Code) in record { bytes = t.bytes; marks = t.marks; spelled = ((λ d. absurd d), t.spelled) }
   some_listed of f n = some_times n (OneOf loose p of) (some_one p of)
@@ -81,10 +81,10 @@ module _ (p : Profile) where
   pub some_later : (last functions : ℕ) → Comes (Later loose p last functions)
   some_later last functions = some_for (Known last functions) (λ f. Chain loose p f (11 - last) (suc last)) functions (λ l. refl) (some_chain functions (11 - last) (suc last))
 
-  some_after : (of : SectionKind) (f : ℕ) → Comes (After loose p of f)
+  pub some_after : (of : SectionKind) (f : ℕ) → Comes (After loose p of f)
   some_after of f = some_chain f (11 - id_of of) (suc (id_of of))
 
-  some_size : (of : SectionKind) (f n : ℕ) → Comes (InSize loose p of f n)
+  pub some_size : (of : SectionKind) (f n : ℕ) → Comes (InSize loose p of f n)
   some_size of f n = some_then (Sized loose n (Contents loose p f (id_of of))) (After loose p of f) (some_sized n (Contents loose p f (id_of of)) (some_contents of f)) (some_after of f)
 
   some_within : (of : SectionKind) (left more : ℕ) (q : InMember) (y : List ℕ) → CanGo more q → Comes (Within loose p of left q y)

@@ -281,7 +281,7 @@ not_memory : why.Float ≡ why.Memory → ⊥
 not_memory e = cc
 
 expression_memory : (p : Profile) (e : Place) (c : ℕ) → (expression_step p e c).0 ≡ expression.Failed why.Memory → ⊥
-expression_memory p e c = expression_fault why.Memory (λ c. ⊥) (λ w i s. subst IsOther s i) (λ c s f. absurd (not_memory s)) p e c
+expression_memory p e c = expression_fault why.Memory (λ c. ⊥) (λ w i s. subst IsOther s i) (λ c s f. absurd (not_memory s)) p e c (inr (λ s. cc))
 
 abbrev Never : InMember → Type 0
 Never q = q ≡ at.Failed why.Memory → ⊥

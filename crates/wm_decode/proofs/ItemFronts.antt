@@ -298,7 +298,7 @@ module _ (zone : Zone) (y : List ℕ) (c : ℕ) (x : Item) where
   member_fine p (at.Failed w) i = silent (at.Failed why.SectionEnd)
 
 -- something comes where it stands
-comes_at : (p : Profile) (left : ℕ) (m : InMember) (y : List ℕ) → MayGo left m → StandsAt m → Comes (ComponentRest loose p m y)
+pub comes_at : (p : Profile) (left : ℕ) (m : InMember) (y : List ℕ) → MayGo left m → StandsAt m → Comes (ComponentRest loose p m y)
 comes_at p left at.Over y g s = some_empty
 comes_at p left (at.Failed w) y g s = absurd s
 comes_at p left m y g s = some_component p left m y g

@@ -62,7 +62,7 @@ FitsCustom (custom.Failed w) = ⊥
 FitsCustom q = Unit {0}
 
 -- the same of what a byte makes of it, which may be refused
-abbrev FineCustom : InCustom → Type 0
+abbrev pub FineCustom : InCustom → Type 0
 FineCustom (custom.Failed w) = Unit {0}
 FineCustom q = FitsCustom q
 
@@ -72,7 +72,7 @@ length_fine (Done zero, r) room = tt
 length_fine (Done (suc n), r) room = tt
 length_fine (Bad, r) room = tt
 
-custom_fine : (q : InCustom) (c : ℕ) → c < 2 ^ 8 → FitsCustom q → FineCustom (custom_step q c).0
+pub custom_fine : (q : InCustom) (c : ℕ) → c < 2 ^ 8 → FitsCustom q → FineCustom (custom_step q c).0
 custom_fine (custom.Length r) c byte f = length_fine (unsigned_push 32 r c) (unsigned_room 32 r c f byte)
 custom_fine (custom.Name zero) c byte f = tt
 custom_fine (custom.Name (suc n)) c byte f = tt

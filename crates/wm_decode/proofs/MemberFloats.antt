@@ -1,5 +1,5 @@
 -- Within a member the name Float is with_item_given for a byte of floating-point numbers only, and Memory never.
-use Rattle.std.proofs.Common.{◌≡◌, ℕ, zero, suc, Bool, true, false, Some, ap, subst, inl, inr, nat_eq, Result, Ok, Err}
+use Rattle.std.proofs.Common.{◌≡◌, ◌⊎◌, ℕ, zero, suc, Bool, true, false, Some, ap, subst, inl, inr, nat_eq, Result, Ok, Err}
 use Rattle.std.proofs.lemmas.Bool.{cond_both, eqb-true}
 use Rattle.wm_syntax.specs.declared.numbers.Step.{Step}
 use Rattle.wm_syntax.specs.declared.numbers.Step.TheVariants as step
@@ -48,6 +48,26 @@ use Rattle.wm_decode.specs.exact.ExpressionSteps.{start, expression_step}
 use Rattle.wm_decode.specs.exact.MemberSteps.{on_number, on_value, on_type, with_item_given, after_param, after_result, after_name, after_length, name_step, functions_or_over, index_item, after_index, constant_over, after_constant, data_or_over, list_or_over, runs_or_body, entry_after_op, entry_step, member_in_entry, member_step}
 use Rattle.wm_decode.proofs.ExpressionSound.{expression_fault}
 use Rattle.wm_decode.proofs.OpSound.{IsOther}
+use Rattle.wm_decode.proofs.ExpressionRest.{IsInside}
+use Rattle.wm_decode.proofs.EntryBytes.{IsInEntry}
+
+-- a code entry, and a place in a member, which is not over
+abbrev pub IsOpen : InEntry → Type 0
+IsOpen (entry.Body e) = IsInside e
+IsOpen q = Unit {0}
+
+abbrev pub IsWithin : InMember → Type 0
+IsWithin (at.Constant of e) = IsInside e
+IsWithin (at.Entry more q) = IsOpen q
+IsWithin at.Over = ⊥
+IsWithin (at.Failed w) = ⊥
+IsWithin q = Unit {0}
+
+-- a place outside a code entry and its size
+abbrev pub IsOutside : InMember → Type 0
+IsOutside (at.EntrySize r) = ⊥
+IsOutside (at.Entry more q) = ⊥
+IsOutside q = Unit {0}
 
 -- Of two names, neither of which the machine gives whatever the byte: the one for such bytes only, the other never.
 module _ (refusal : Why) (Fault : ℕ → Type 0) (other : (w : Why) → IsOther w → w ≡ refusal → ⊥) (float : (c : ℕ) → why.Float ≡ refusal → IsFloatByte c → Fault c) (c : ℕ) where
@@ -194,12 +214,24 @@ module _ (refusal : Why) (Fault : ℕ → Type 0) (other : (w : Why) → IsOther
   op_float (expression.Op depth q) h i = cc
   op_float (expression.Label depth n r) h i = cc
 
-  entry_float : (p : Profile) (q : InEntry) → FailsEntry (entry_step p q c).0
-  entry_float p (entry.RunCount r) = on_number_any FailsEntry (unsigned_push 32 r c) entry.RunCount (λ n. (runs_or_body n, event.Nothing)) entry.Failed (λ s e. cc) runs_float (no_entry why.BadNumber tt)
-  entry_float p (entry.Run more r) = on_value_any FailsEntry (run_push r c) (λ s. entry.Run more s) _ entry.Failed (run_reads r) (λ s e. cc) (λ x. runs_float more) entry_by
-  entry_float p (entry.Body e) = op_float (expression_step p e c).0 (expression_fault refusal Fault other float p e c)
-  entry_float p entry.Over = no_entry why.BodyEnd tt
-  entry_float p (entry.Failed w) = no_entry why.BodyEnd tt
+  -- an expression that is over is refused by SectionEnd, and so is what is over
+  abbrev Later : Type 0 → Type 0
+  Later I = I ⊎ (why.SectionEnd ≡ refusal → ⊥)
+
+  -- in a code entry BodyEnd is given
+  abbrev Spared : Type 0 → Type 0
+  Spared I = I ⊎ (why.BodyEnd ≡ refusal → ⊥)
+
+  past_body : Spared ⊥ → FailsEntry (entry.Failed why.BodyEnd)
+  past_body (inl i) e = absurd i
+  past_body (inr n) e = absurd (n (same_entry why.BodyEnd refusal e))
+
+  entry_float : (p : Profile) (q : InEntry) → Later (IsOpen q) → Spared (IsInEntry q) → FailsEntry (entry_step p q c).0
+  entry_float p (entry.RunCount r) i j = on_number_any FailsEntry (unsigned_push 32 r c) entry.RunCount (λ n. (runs_or_body n, event.Nothing)) entry.Failed (λ s e. cc) runs_float (no_entry why.BadNumber tt)
+  entry_float p (entry.Run more r) i j = on_value_any FailsEntry (run_push r c) (λ s. entry.Run more s) _ entry.Failed (run_reads r) (λ s e. cc) (λ x. runs_float more) entry_by
+  entry_float p (entry.Body e) i j = op_float (expression_step p e c).0 (expression_fault refusal Fault other float p e c i)
+  entry_float p entry.Over i j = past_body j
+  entry_float p (entry.Failed w) i j = past_body j
 
   -- what each place becomes
   param_float : (n : ℕ) → Fails (after_param n)
@@ -254,47 +286,58 @@ module _ (refusal : Why) (Fault : ℕ → Type 0) (other : (w : Why) → IsOther
   constant_float of (expression.Op depth q) h = λ i. cc
   constant_float of (expression.Label depth n r) h = λ i. cc
 
-  framed_float : (n : ℕ) (q : InEntry) → FailsEntry q → Fails (member_in_entry n q)
-  framed_float n (entry.Failed w) h = λ e. h (let s : w ≡ refusal = cc in ap entry.Failed s)
-  framed_float zero entry.Over h = λ e. cc
-  framed_float (suc n) entry.Over h = no_place why.BodyEnd tt
-  framed_float zero (entry.RunCount r) h = no_place why.BodyEnd tt
-  framed_float zero (entry.Run more r) h = no_place why.BodyEnd tt
-  framed_float zero (entry.Body x) h = no_place why.BodyEnd tt
-  framed_float (suc n) (entry.RunCount r) h = λ e. cc
-  framed_float (suc n) (entry.Run more r) h = λ e. cc
-  framed_float (suc n) (entry.Body x) h = λ e. cc
+  no_body_end : (why.BodyEnd ≡ refusal → ⊥) → Fails (at.Failed why.BodyEnd)
+  no_body_end j e = absurd (j (same_place why.BodyEnd refusal e))
 
-  size_float : (n : ℕ) → Fails (member_in_entry n (entry.RunCount fresh))
-  size_float n = framed_float n (entry.RunCount fresh) (λ e. cc)
+  framed_float : (n : ℕ) (q : InEntry) → (why.BodyEnd ≡ refusal → ⊥) → FailsEntry q → Fails (member_in_entry n q)
+  framed_float n (entry.Failed w) j h = λ e. h (let s : w ≡ refusal = cc in ap entry.Failed s)
+  framed_float zero entry.Over j h = λ e. cc
+  framed_float (suc n) entry.Over j h = no_body_end j
+  framed_float zero (entry.RunCount r) j h = no_body_end j
+  framed_float zero (entry.Run more r) j h = no_body_end j
+  framed_float zero (entry.Body x) j h = no_body_end j
+  framed_float (suc n) (entry.RunCount r) j h = λ e. cc
+  framed_float (suc n) (entry.Run more r) j h = λ e. cc
+  framed_float (suc n) (entry.Body x) j h = λ e. cc
 
-  pub component_fault : (p : Profile) (q : InMember) → (member_step p q c).0 ≡ at.Failed refusal → Fault c
-  component_fault p at.TypeForm = cond_both (nat_eq c 0x60) _ _ (λ (x : InMember × Event). Fails x.0) (λ _ e. cc) (λ _. no_place why.BadByte tt)
-  component_fault p (at.ParamCount r) = on_number_any Fails (unsigned_push 32 r c) at.ParamCount (λ n. (after_param n, event.Nothing)) at.Failed (λ s e. cc) param_float (no_place why.BadNumber tt)
-  component_fault p (at.Param more) = on_type_any Fails (value_type_of c) (λ t. with_item_given (after_param more) (plain.Param t)) at.Failed type_float (λ t. param_float more) fails_by
-  component_fault p (at.ResultCount r) = on_number_any Fails (unsigned_push 32 r c) at.ResultCount (λ n. with_item_given (after_result n) (plain.ResultCount n)) at.Failed (λ s e. cc) result_float (no_place why.BadNumber tt)
-  component_fault p (at.ResultType more) = on_type_any Fails (value_type_of c) (λ t. with_item_given (after_result more) (plain.OneResult t)) at.Failed type_float (λ t. result_float more) fails_by
-  component_fault p (at.NameLength of r) = on_number_any Fails (unsigned_push 32 r c) (λ s. at.NameLength of s) (after_length of) at.Failed (λ s e. cc) (length_float of) (no_place why.BadNumber tt)
-  component_fault p (at.Name of more) = name_step_float of more
-  component_fault p (at.Value v) = on_value_any Fails (value_push v c) at.Value (λ q. with_item_given at.Over q) at.Failed (value_reads v) (λ s e. cc) (λ x e. cc) fails_by
-  component_fault p (at.Index of r) = on_number_any Fails (unsigned_push 32 r c) (λ s. at.Index of s) (λ n. with_item_given (after_index of) (index_item of n)) at.Failed (λ s e. cc) (λ n. index_float of) (no_place why.BadNumber tt)
-  component_fault p (at.GlobalType g) = on_value_any Fails (global_type_push g c) at.GlobalType (λ t. with_item_given (at.Constant constant.Global start) (plain.Global t)) at.Failed (global_reads g) (λ s e. cc) (λ x e. cc) fails_by
-  component_fault p (at.Constant of e) = constant_float of (expression_step p e c).0 (expression_fault refusal Fault other float p e c)
-  component_fault p (at.Length of r) = on_number_any Fails (unsigned_push 32 r c) (λ s. at.Length of s) (λ n. (list_or_over of n, event.Nothing)) at.Failed (λ s e. cc) (list_float of) (no_place why.BadNumber tt)
-  component_fault p (at.Data more) = data_float more
-  component_fault p (at.EntrySize r) = on_number_any Fails (unsigned_push 32 r c) at.EntrySize (λ n. with_item_given (member_in_entry n (entry.RunCount fresh)) plain.Body) at.Failed (λ s e. cc) size_float (no_place why.BadNumber tt)
-  component_fault p (at.Entry more q) = framed_float more (entry_step p q c).0 (entry_float p q)
-  component_fault p at.Over = no_place why.SectionEnd tt
-  component_fault p (at.Failed w) = no_place why.SectionEnd tt
+  size_float : (why.BodyEnd ≡ refusal → ⊥) → (n : ℕ) → Fails (member_in_entry n (entry.RunCount fresh))
+  size_float j n = framed_float n (entry.RunCount fresh) j (λ e. cc)
+
+  past_end : Later ⊥ → Fails (at.Failed why.SectionEnd)
+  past_end (inl i) e = absurd i
+  past_end (inr n) e = absurd (n (same_place why.SectionEnd refusal e))
+
+  pub component_fault : (p : Profile) (q : InMember) → Later (IsWithin q) → Spared (IsOutside q) → (member_step p q c).0 ≡ at.Failed refusal → Fault c
+  component_fault p at.TypeForm i j = cond_both (nat_eq c 0x60) _ _ (λ (x : InMember × Event). Fails x.0) (λ _ e. cc) (λ _. no_place why.BadByte tt)
+  component_fault p (at.ParamCount r) i j = on_number_any Fails (unsigned_push 32 r c) at.ParamCount (λ n. (after_param n, event.Nothing)) at.Failed (λ s e. cc) param_float (no_place why.BadNumber tt)
+  component_fault p (at.Param more) i j = on_type_any Fails (value_type_of c) (λ t. with_item_given (after_param more) (plain.Param t)) at.Failed type_float (λ t. param_float more) fails_by
+  component_fault p (at.ResultCount r) i j = on_number_any Fails (unsigned_push 32 r c) at.ResultCount (λ n. with_item_given (after_result n) (plain.ResultCount n)) at.Failed (λ s e. cc) result_float (no_place why.BadNumber tt)
+  component_fault p (at.ResultType more) i j = on_type_any Fails (value_type_of c) (λ t. with_item_given (after_result more) (plain.OneResult t)) at.Failed type_float (λ t. result_float more) fails_by
+  component_fault p (at.NameLength of r) i j = on_number_any Fails (unsigned_push 32 r c) (λ s. at.NameLength of s) (after_length of) at.Failed (λ s e. cc) (length_float of) (no_place why.BadNumber tt)
+  component_fault p (at.Name of more) i j = name_step_float of more
+  component_fault p (at.Value v) i j = on_value_any Fails (value_push v c) at.Value (λ q. with_item_given at.Over q) at.Failed (value_reads v) (λ s e. cc) (λ x e. cc) fails_by
+  component_fault p (at.Index of r) i j = on_number_any Fails (unsigned_push 32 r c) (λ s. at.Index of s) (λ n. with_item_given (after_index of) (index_item of n)) at.Failed (λ s e. cc) (λ n. index_float of) (no_place why.BadNumber tt)
+  component_fault p (at.GlobalType g) i j = on_value_any Fails (global_type_push g c) at.GlobalType (λ t. with_item_given (at.Constant constant.Global start) (plain.Global t)) at.Failed (global_reads g) (λ s e. cc) (λ x e. cc) fails_by
+  component_fault p (at.Constant of e) i j = constant_float of (expression_step p e c).0 (expression_fault refusal Fault other float p e c i)
+  component_fault p (at.Length of r) i j = on_number_any Fails (unsigned_push 32 r c) (λ s. at.Length of s) (λ n. (list_or_over of n, event.Nothing)) at.Failed (λ s e. cc) (list_float of) (no_place why.BadNumber tt)
+  component_fault p (at.Data more) i j = data_float more
+  component_fault p (at.EntrySize r) i (inl o) = absurd o
+  component_fault p (at.EntrySize r) i (inr j) = on_number_any Fails (unsigned_push 32 r c) at.EntrySize (λ n. with_item_given (member_in_entry n (entry.RunCount fresh)) plain.Body) at.Failed (λ s e. cc) (size_float j) (no_place why.BadNumber tt)
+  component_fault p (at.Entry more q) i (inl o) = absurd o
+  component_fault p (at.Entry more q) i (inr j) = framed_float more (entry_step p q c).0 j (entry_float p q i (inr j))
+  component_fault p at.Over i j = past_end i
+  component_fault p (at.Failed w) i j = past_end i
 
 pub component_float : (c : ℕ) (p : Profile) (q : InMember) → (member_step p q c).0 ≡ at.Failed why.Float → IsFloatByte c
-component_float = component_fault why.Float IsFloatByte (λ w i e. subst IsOther e i) (λ c e h. h)
+component_float c p q = component_fault why.Float IsFloatByte (λ w i e. subst IsOther e i) (λ c e h. h) c p q (inr (λ e. cc)) (inr (λ e. cc))
 
 pub component_memory : (c : ℕ) (p : Profile) (q : InMember) → (member_step p q c).0 ≡ at.Failed why.Memory → ⊥
-component_memory = component_fault why.Memory (λ c. ⊥) (λ w i e. subst IsOther e i) (λ c e h. cc)
+component_memory c p q = component_fault why.Memory (λ c. ⊥) (λ w i e. subst IsOther e i) (λ c e h. cc) c p q (inr (λ e. cc)) (inr (λ e. cc))
 
 abbrev pub IsMemberName : Why → Type 0
 IsMemberName why.Float = Unit {0}
+IsMemberName why.SectionEnd = Unit {0}
+IsMemberName why.BodyEnd = Unit {0}
 IsMemberName w = IsOther w
 
 never : (refusal : Why) → (IsMemberName refusal → ⊥) → why.Float ≡ refusal → ⊥
@@ -308,10 +351,21 @@ others refusal differs w i e = differs (subst IsMemberName e (named w i))
     named why.BadNumber i = i
     named why.BadByte i = i
     named why.BadOpcode i = i
-    named why.BodyEnd i = i
-    named why.SectionEnd i = i
+    named why.BodyEnd i = tt
+    named why.SectionEnd i = tt
     named w i = i
 
 -- a member fails by one of these names alone
 pub member_name : (refusal : Why) → (IsMemberName refusal → ⊥) → (c : ℕ) (p : Profile) (q : InMember) → (member_step p q c).0 ≡ at.Failed refusal → ⊥
-member_name refusal differs c = component_fault refusal (λ c. ⊥) (others refusal differs) (λ c e h. never refusal differs e) c
+member_name refusal differs c p q = component_fault refusal (λ c. ⊥) (others refusal differs) (λ c e h. never refusal differs e) c p q (inr (λ e. differs (subst IsMemberName e tt))) (inr (λ e. differs (subst IsMemberName e tt)))
+
+-- a place that is not over does not fail by SectionEnd
+pub not_past_end : (c : ℕ) (p : Profile) (q : InMember) → IsWithin q → (member_step p q c).0 ≡ at.Failed why.SectionEnd → ⊥
+not_past_end c p q i = component_fault why.SectionEnd (λ c. ⊥) (λ w i e. subst IsOther e i) (λ c e h. cc) c p q (inl i) (inr (λ e. cc))
+
+-- by BodyEnd only what is of a code entry fails
+pub not_body_end : (c : ℕ) (p : Profile) (q : InMember) → IsOutside q → (member_step p q c).0 ≡ at.Failed why.BodyEnd → ⊥
+not_body_end c p q o = component_fault why.BodyEnd (λ c. ⊥) (λ w i e. subst IsOther e i) (λ c e h. cc) c p q (inr (λ e. cc)) (inl o)
+
+pub not_past_body : (c : ℕ) (p : Profile) (q : InEntry) → IsInEntry q → (entry_step p q c).0 ≡ entry.Failed why.BodyEnd → ⊥
+not_past_body c p q o = entry_float why.BodyEnd (λ c. ⊥) (λ w i e. subst IsOther e i) (λ c e h. cc) c p q (inr (λ e. cc)) (inl o)

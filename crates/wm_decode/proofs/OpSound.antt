@@ -151,8 +151,6 @@ abbrev pub IsOther : Why → Type 0
 IsOther why.BadNumber = Unit {0}
 IsOther why.BadByte = Unit {0}
 IsOther why.BadOpcode = Unit {0}
-IsOther why.BodyEnd = Unit {0}
-IsOther why.SectionEnd = Unit {0}
 IsOther w = ⊥
 
 same_bad : (v w : Why) → ◌≡◌ {A = Reading InOp Op} (Bad v) (Bad w) → v ≡ w

@@ -357,7 +357,7 @@ cut_marks [] r k h = ([], k, refl, refl)
 cut_marks (c ∷ b) r [] h = absurd (omega (arith, h))
 cut_marks (c ∷ b) r (m ∷ k) h = let s = cut_marks b r k (omega (arith, h)) in (m ∷ s.0, s.1, ap (λ y. m ∷ y) s.2, ap suc s.3)
 
-front_of : (p : Profile) (b r : List ℕ) (k : Marks) → Module loose p (b ++ r) k → (j : Marks) × IsFront p b j
+pub front_of : (p : Profile) (b r : List ℕ) (k : Marks) → Module loose p (b ++ r) k → (j : Marks) × IsFront p b j
 front_of p b r k m =
     let s = cut_marks b r k (agree_long (b ++ r) k (modules_agree p (b ++ r) k (b ++ r) k m m)) in
     (s.0, record { rest = r; rest_marks = s.1; same = s.3; whole = subst (Module loose p (b ++ r)) s.2 m })

@@ -16,9 +16,10 @@ use Rattle.wm_syntax.specs.OpClasses.{first_byte, is_float}
 use Rattle.wm_syntax.specs.Profiles.{IsOpOf}
 use Rattle.wm_syntax.specs.declared.profile.Profile.{Profile}
 use Rattle.wm_decode.specs.declared.refusal.Refusal.{Refusal}
-use Rattle.wm_decode.specs.Items.{Item, Mark, Marks, items_at}
+use Rattle.wm_decode.specs.Items.{Item, Mark, Marks, body_op, items_at}
+use Rattle.wm_decode.specs.MarkedForms.{Then, Vector}
 use Rattle.wm_decode.specs.Sections.{Section, header, kind_byte}
-use Rattle.wm_decode.specs.Grammar.{Items}
+use Rattle.wm_decode.specs.Grammar.{Items, Module, Code, Run, Expression, strict, loose}
 use Rattle.wm_decode.specs.Sinks.{all_taken}
 use Rattle.wm_decode.specs.Fronts.{IsFront}
 
@@ -207,9 +208,53 @@ pub record NoCode (used rest : List ℕ) : Type 0 where
   pub some : 0 < functions
   pub none : AllByRecursion (λ s. s.id ≢ 10) sections
 
--- What a name says of the bytes that were used, and of those behind them. Eleven names have a line of their
--- own. Of the others nothing is said: of three more of the format (SectionEnd, BodyEnd and BadNumber), of
--- those of a checker of rules (Index, Mismatch and so on) or of a policy, and of Memory.
+-- More bytes make these a module, sizes, names and the number of code entries aside.
+abbrev pub CanGoOn : Profile → List ℕ → Type 0
+CanGoOn p used = (k : Marks) × IsFront p used k
+
+-- In the same sense these are a module, or would be one with a code section of no entries behind them.
+abbrev pub CanEnd : Profile → List ℕ → Type 0
+CanEnd p used =
+    (rest : List ℕ) × ((rest ≡ []) ⊎ (rest ≡ 0x0A ∷ 0x01 ∷ 0x00 ∷ [])) × (k : Marks)
+    × Module loose p (used ++ rest) k
+
+-- SectionEnd (section 5.5.2): after these sections one more comes up to here. Either its contents have so
+-- many bytes as its size says and go on, or they have less and are over.
+pub record OtherSize (p : Profile) (used : List ℕ) : Type 0 where
+  pub sections : List RawSection
+  pub front : List ℕ
+  pub id : ℕ
+  pub size : List ℕ
+  pub contents : List ℕ
+  pub bytes : ℕ
+  pub whole : used ≡ front ++ id ∷ (size ++ contents)
+  pub before : SpellsSections sections front
+  pub spelled : SpellsU32 bytes size
+  pub wrong : ((length contents ≡ bytes) × CanGoOn p used) ⊎ ((length contents < bytes) × CanEnd p used)
+
+-- A code entry without its size (section 5.5.13): runs of locals, and an expression. Or more bytes make one.
+abbrev pub IsEntry : Profile → List ℕ → Type 0
+IsEntry p b = (k : Marks) × Then (Vector Run) (Expression p body_op) b k
+
+abbrev pub BeginsEntry : Profile → List ℕ → Type 0
+BeginsEntry p b = (more : List ℕ) × (more ≢ []) × IsEntry p (b ++ more)
+
+-- BodyEnd (section 5.5.13): where a code entry must stand comes its size, and then what it has up to here.
+-- Either these are so many bytes and the entry goes on, or they are less and it is over.
+pub record OtherBodySize (p : Profile) (used : List ℕ) : Type 0 where
+  pub before : List ℕ
+  pub size : List ℕ
+  pub contents : List ℕ
+  pub bytes : ℕ
+  pub whole : used ≡ before ++ (size ++ contents)
+  pub place : MustStand p (λ b. (k : Marks) × Code strict p b k) before
+  pub spelled : SpellsU32 bytes size
+  pub wrong : ((length contents ≡ bytes) × BeginsEntry p contents)
+      ⊎ ((length contents < bytes) × IsEntry p contents)
+
+-- What a name says of the bytes that were used, and of those behind them. 13 names have a line of their own.
+-- Of the others nothing is said: of one more of the format (BadNumber), of those of a checker of rules
+-- (Index, Mismatch and so on) or of a policy, and of Memory.
 abbrev pub Means : Profile → ℕ → List ℕ → List ℕ → Why → Type 0
 Means p limit used rest why.Magic = WrongInHeader 0 4 used
 Means p limit used rest why.Version = WrongInHeader 4 8 used
@@ -222,6 +267,8 @@ Means p limit used rest why.Float = WrongByte p IsFloat used
 Means p limit used rest why.BadByte = WrongByte p IsOtherByte used
 Means p limit used rest why.BadUtf8 = BadName p used
 Means p limit used rest why.CodeCount = OtherCount used ⊎ NoCode used rest
+Means p limit used rest why.SectionEnd = OtherSize p used
+Means p limit used rest why.BodyEnd = OtherBodySize p used
 Means p limit used rest w = Unit {0}
 
 -- A refusal of an input: its place lies within it, and what its name says holds of the bytes up to there.
