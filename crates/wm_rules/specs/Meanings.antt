@@ -196,8 +196,8 @@ IsElseOutside items (body_op op.Else) =
     × IsNoFirstBranch (heads_of place)
 IsElseOutside items _ = ⊥
 
--- What the name says. It is said of 13 names of the format, and of ten of rules. Nothing is said of
--- Mismatch and Arity, of the other names of the format, nor of those of a policy.
+-- What the name says. It is said of the 14 names of the format, and of ten of rules. Nothing is said of
+-- Mismatch and Arity, nor of those of a policy.
 abbrev pub Means : Profile → ℕ → List ℕ → List ℕ → Why → Type 0
 Means p limit used rest why.Index = AtItem p HasNoItem used
 Means p limit used rest why.Limits = AtItem p IsOutOfRange used
