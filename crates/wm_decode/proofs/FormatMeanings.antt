@@ -34,13 +34,14 @@ use Rattle.wm_decode.specs.exact.Runs.{name_item, plain_item, marks, MachineStat
 use Rattle.wm_decode.specs.exact.Steps.{machine_after_count, machine_after_paired_count, after_count, begun_section, machine_if_rising, section_start, header_step, custom_step, custom_after_length, step_of}
 use Rattle.wm_decode.specs.exact.Live.{effect_of_maybe, name_taken, event_effect, Live, live_or_refused, live_from, live_byte, decoder_after, live_at_start, answer_at_end_of, answer_at_end, IsRefused}
 use Rattle.wm_decode.specs.inner.Decoders.{answer_of}
-use Rattle.wm_decode.specs.Meanings.{RawSection, WrongInHeader, WrongId, IsUnknown, IsLate, HasFrom, EndsInSection, Declare, OtherCount, NoCode, OtherSize, OtherBodySize, Wanted, WrongByte, IsNoInstruction, IsFloat, IsOtherByte, Means, Meaning, IsRuleName, GivesRuleNames}
+use Rattle.wm_decode.specs.Meanings.{RawSection, WrongInHeader, WrongId, IsUnknown, IsLate, HasFrom, EndsInSection, Declare, OtherCount, NoCode, OtherSize, OtherBodySize, WrongNumber, Wanted, WrongByte, IsNoInstruction, IsFloat, IsOtherByte, Means, Meaning, IsRuleName, GivesRuleNames}
 use Rattle.wm_decode.proofs.ByteLists.{front_bytes}
 use Rattle.wm_decode.proofs.WrongBytes.{Found, Says as SaysOfByte}
 use Rattle.wm_decode.proofs.WrongMembers.{InInput, byte_says}
 use Rattle.wm_decode.proofs.BadNames.{bad_name}
 use Rattle.wm_decode.proofs.SectionEnds.{IsText, other_size}
 use Rattle.wm_decode.proofs.BodyEnds.{other_body_size}
+use Rattle.wm_decode.proofs.BadNumbers.{wrong_number}
 use Rattle.wm_decode.proofs.OpSound.{HasRoom, last_byte}
 use Rattle.wm_decode.proofs.OpenMembers.{zeros, zeros_length}
 use Rattle.wm_decode.proofs.MemberFloats.{IsMemberName, member_name}
@@ -296,27 +297,29 @@ by_rule p limit used rest why.BadUtf8 i = absurd i
 by_rule p limit used rest why.CodeCount i = absurd i
 by_rule p limit used rest why.SectionEnd i = absurd i
 by_rule p limit used rest why.BodyEnd i = absurd i
+by_rule p limit used rest why.BadNumber i = absurd i
 by_rule p limit used rest w i = tt
 
 -- what is found of the last byte
 found : (p : Profile) (b : List ℕ) (a : AreBytes b) (c : ℕ) (IsWrong : Wanted → ℕ → Type 0) → Found (InInput p b a c) IsWrong c → WrongByte p IsWrong (b ++ c ∷ [])
 found p b a c IsWrong s = record { before = b; byte = c; whole = refl; wanted = s.0; place = s.1.0; none = s.1.1; wrong = s.2 }
 
-by_machine : (p : Profile) (limit : ℕ) (b rest : List ℕ) (a : AreBytes b) (c : ℕ) (w : Why) → MachineSays (b ++ c ∷ []) w → SaysOfByte (InInput p b a c) c w → (w ≡ why.SectionEnd → OtherSize p (b ++ c ∷ [])) → (w ≡ why.BodyEnd → OtherBodySize p (b ++ c ∷ [])) → Means p limit (b ++ c ∷ []) rest w
-by_machine p limit b rest a c why.Magic h s cut body = h
-by_machine p limit b rest a c why.Version h s cut body = h
-by_machine p limit b rest a c why.SectionId h s cut body = h
-by_machine p limit b rest a c why.SectionOrder h s cut body = h
-by_machine p limit b rest a c why.Truncated h s cut body = absurd h
-by_machine p limit b rest a c why.TooLong h s cut body = absurd h
-by_machine p limit b rest a c why.BadOpcode h s cut body = found p b a c IsNoInstruction s
-by_machine p limit b rest a c why.Float h s cut body = found p b a c IsFloat s
-by_machine p limit b rest a c why.BadByte h s cut body = found p b a c IsOtherByte s
-by_machine p limit b rest a c why.BadUtf8 h s cut body = absurd h
-by_machine p limit b rest a c why.CodeCount h s cut body = h rest
-by_machine p limit b rest a c why.SectionEnd h s cut body = cut refl
-by_machine p limit b rest a c why.BodyEnd h s cut body = body refl
-by_machine p limit b rest a c w h s cut body = tt
+by_machine : (p : Profile) (limit : ℕ) (b rest : List ℕ) (a : AreBytes b) (c : ℕ) (w : Why) → MachineSays (b ++ c ∷ []) w → SaysOfByte (InInput p b a c) c w → (w ≡ why.SectionEnd → OtherSize p (b ++ c ∷ [])) → (w ≡ why.BodyEnd → OtherBodySize p (b ++ c ∷ [])) → (w ≡ why.BadNumber → WrongNumber p (b ++ c ∷ [])) → Means p limit (b ++ c ∷ []) rest w
+by_machine p limit b rest a c why.Magic h s cut body number = h
+by_machine p limit b rest a c why.Version h s cut body number = h
+by_machine p limit b rest a c why.SectionId h s cut body number = h
+by_machine p limit b rest a c why.SectionOrder h s cut body number = h
+by_machine p limit b rest a c why.Truncated h s cut body number = absurd h
+by_machine p limit b rest a c why.TooLong h s cut body number = absurd h
+by_machine p limit b rest a c why.BadOpcode h s cut body number = found p b a c IsNoInstruction s
+by_machine p limit b rest a c why.Float h s cut body number = found p b a c IsFloat s
+by_machine p limit b rest a c why.BadByte h s cut body number = found p b a c IsOtherByte s
+by_machine p limit b rest a c why.BadUtf8 h s cut body number = absurd h
+by_machine p limit b rest a c why.CodeCount h s cut body number = h rest
+by_machine p limit b rest a c why.SectionEnd h s cut body number = cut refl
+by_machine p limit b rest a c why.BodyEnd h s cut body number = body refl
+by_machine p limit b rest a c why.BadNumber h s cut body number = number refl
+by_machine p limit b rest a c w h s cut body number = tt
 
 zeros_some : (n : ℕ) → zeros (suc n) ≡ [] → ⊥
 zeros_some n e = let l : length (zeros (suc n)) ≡ 0 = ap length e in omega (arith, l, zeros_length (suc n))
@@ -477,6 +480,7 @@ module _ {H : Type 0} (after : H → Item → Result H Why) (s : Setting H) (nam
           (byte_says s.profile u.used bytes u.byte byte u.before.machine (ap (λ (m : MachineState). m.machine) same) live r.why m)
           (λ w. other_size s.profile u.used bytes u.byte byte u.before.machine u.before.name same fit live f text (m ∙ ap machine.Refused w))
           (λ w. other_body_size s.profile u.used bytes u.byte byte u.before.machine u.before.name same fit live (m ∙ ap machine.Refused w))
+          (λ w. wrong_number s.profile u.used bytes u.byte byte u.before.machine (ap (λ (m : MachineState). m.machine) same) live (m ∙ ap machine.Refused w))
       go u bytes byte place same live fit f parts (by_item x e) = by_rule s.profile s.limit (u.used ++ u.byte ∷ []) (u.rest ++ more) r.why (names parts.0 u.before.held x r.why parts.1 e)
 
   at_end : (m : Machine) (h : H) (at : ℕ) (b : List ℕ) (r : Refusal) → (IsRefused m → ⊥) → Fits m → Framed m b → answer_at_end_of m h at ≡ Err r → Means s.profile s.limit b [] r.why

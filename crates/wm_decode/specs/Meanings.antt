@@ -1,8 +1,7 @@
 -- What the name of a refusal says of the bytes up to its place. The last of them decided, or the input ends
 -- there.
 use Rattle.std.specs.Prelude.{◌≡◌, ◌≢◌, ℕ, ◌+◌, ◌<◌, ◌≤◌, ◌⊎◌, List, [], ◌∷◌, ◌++◌, length, take}
-use Rattle.std.specs.Prelude.{slice_index, Some}
-use Rattle.std.specs.Prelude.{Result, Ok, Err, Option, IsTrue, IsUtf8}
+use Rattle.std.specs.Prelude.{slice_index, Some, Result, Ok, Err, Option, IsTrue, IsUtf8, ℤ}
 use Rattle.std.specs.List.{AllByRecursion}
 use Rattle.wm_syntax.specs.declared.why.Why.{Why}
 use Rattle.wm_syntax.specs.declared.why.Why.TheVariants as why
@@ -10,6 +9,7 @@ use Rattle.wm_syntax.specs.declared.types.ValType.{ValType}
 use Rattle.wm_syntax.specs.declared.instructions.Op.{Op}
 use Rattle.wm_syntax.specs.declared.modules.ExportKind.{ExportKind}
 use Rattle.wm_syntax.specs.Spelling.{Form, Byte, Exactly, Each, ◌▸◌, ◌∣◌}
+use Rattle.wm_syntax.specs.Leb128.{Unsigned, Signed}
 use Rattle.wm_syntax.specs.Types.{SpellsU32, SpellsValType, SpellsBlockType}
 use Rattle.wm_syntax.specs.Instructions.{SpellsOp}
 use Rattle.wm_syntax.specs.OpClasses.{first_byte, is_float}
@@ -252,9 +252,33 @@ pub record OtherBodySize (p : Profile) (used : List ℕ) : Type 0 where
   pub wrong : ((length contents ≡ bytes) × BeginsEntry p contents)
       ⊎ ((length contents < bytes) × IsEntry p contents)
 
--- What a name says of the bytes that were used, and of those behind them. 13 names have a line of their own.
--- Of the others nothing is said: of one more of the format (BadNumber), of those of a checker of rules
--- (Index, Mismatch and so on) or of a policy, and of Memory.
+-- the integers of the format (section 5.2.2): of 32 bits without a sign, of 32 and of 64 bits with one
+pub data Integer : Type 0 where
+  u32 : Integer
+  s32 : Integer
+  s64 : Integer
+
+abbrev pub spells : Integer → Form ℕ
+spells u32 b = (n : ℕ) × Unsigned 32 n b
+spells s32 b = (z : ℤ) × Signed 32 z b
+spells s64 b = (z : ℤ) × Signed 64 z b
+
+-- BadNumber (section 5.2.2): an integer has begun, and none goes on with the last byte. The bytes before can
+-- go on, and in each whole input that begins with them the rest of such an integer comes.
+pub record WrongNumber (p : Profile) (used : List ℕ) : Type 0 where
+  pub before : List ℕ
+  pub begun : List ℕ
+  pub byte : ℕ
+  pub number : Integer
+  pub whole : used ≡ (before ++ begun) ++ byte ∷ []
+  pub front : CanGoOn p (before ++ begun)
+  pub must : (more : List ℕ) (k : Marks) → Items p ((before ++ begun) ++ more) k
+      → (b rest : List ℕ) × (more ≡ b ++ rest) × (b ≢ []) × spells number (begun ++ b)
+  pub none : (more : List ℕ) → spells number (begun ++ byte ∷ more) → ⊥
+
+-- What a name says of the bytes that were used, and of those behind them. Each name of the format has a line
+-- of its own. Of the others nothing is said: of those of a checker of rules (Index, Mismatch and so on) or of
+-- a policy, and of Memory.
 abbrev pub Means : Profile → ℕ → List ℕ → List ℕ → Why → Type 0
 Means p limit used rest why.Magic = WrongInHeader 0 4 used
 Means p limit used rest why.Version = WrongInHeader 4 8 used
@@ -269,6 +293,7 @@ Means p limit used rest why.BadUtf8 = BadName p used
 Means p limit used rest why.CodeCount = OtherCount used ⊎ NoCode used rest
 Means p limit used rest why.SectionEnd = OtherSize p used
 Means p limit used rest why.BodyEnd = OtherBodySize p used
+Means p limit used rest why.BadNumber = WrongNumber p used
 Means p limit used rest w = Unit {0}
 
 -- A refusal of an input: its place lies within it, and what its name says holds of the bytes up to there.

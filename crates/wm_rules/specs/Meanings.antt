@@ -330,8 +330,8 @@ HasWrongCount items (body_op o) =
     → CountDiffers (context_of_body b.entry b.type_index) b.typing.0 o types)
 HasWrongCount items _ = ⊥
 
--- What the name says. It is said of 13 names of the format, and of the twelve of rules. Nothing is said
--- of the other names of the format, nor of those of a policy.
+-- What the name says. It is said of the 14 names of the format, and of the twelve of rules. Nothing is said
+-- of those of a policy.
 abbrev pub Means : Profile → ℕ → List ℕ → List ℕ → Why → Type 0
 Means p limit used rest why.Index = AtItem p HasNoItem used
 Means p limit used rest why.Limits = AtItem p IsOutOfRange used
