@@ -42,7 +42,8 @@ stats_text s =
     ++ figure_line (codes "probes") s.probes)))
 
 -- The bytes of a module are judged: where they are accepted, a report; else one refusal, other than for
--- memory, at a place within them, which they alone determine, and what its name says of them is so.
+-- memory, at a place within them, which they alone determine. What its name says of them is so; those of a
+-- policy say nothing.
 abbrev pub Judged : (List ℕ → Type 0) → Profile → ℕ → Policy → List ℕ → List ℕ → Status → Type 0
 Judged Report p limit q input written status =
     (Accepted p limit q input × Report written × (status ≡ Done))

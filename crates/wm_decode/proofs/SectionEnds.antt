@@ -27,12 +27,12 @@ use Rattle.wm_decode.specs.declared.machine.member.InMember.TheVariants as at
 use Rattle.wm_decode.specs.Items.{Zone, outside, Mark, Marks}
 use Rattle.wm_decode.specs.MarkedForms.{MarkedForm, Empty, Then, Times, Counted, Sized, Filled, Name, nothing_at, outside_mark}
 use Rattle.wm_decode.specs.Sections.{header}
-use Rattle.wm_decode.specs.Grammar.{Module, Chain, Section, loose}
+use Rattle.wm_decode.specs.Grammar.{Items, Module, Chain, Section, loose, strict}
 use Rattle.wm_decode.specs.Meanings.{CanGoOn, CanEnd, OtherSize}
 use Rattle.wm_decode.specs.exact.Members.{id_of, section_kind_of, member_at_start}
 use Rattle.wm_decode.specs.exact.MemberSteps.{on_number, member_step}
 use Rattle.wm_decode.specs.exact.Steps.{custom_after_length, machine_in_custom, custom_step, machine_in_member, machine_after_count, machine_after_paired_count, after_count, begun_section, machine_if_rising, section_start, machine_in_contents, after_size, custom_size, header_step, step_of}
-use Rattle.wm_decode.specs.exact.Runs.{byte_read, ByteRead, MachineState, zone_in, state_after, marks, state_at_start}
+use Rattle.wm_decode.specs.exact.Runs.{byte_read, ByteRead, MachineState, zone_in, zone_of, state_after, marks, state_at_start}
 use Rattle.wm_decode.specs.exact.Live.{IsRefused}
 use Rattle.wm_decode.proofs.FirstBytes.{Next}
 use Rattle.wm_decode.proofs.Numbers.{Left}
@@ -45,7 +45,7 @@ use Rattle.wm_decode.proofs.OpenMembers.{Comes, some_then, some_times, some_coun
 use Rattle.wm_decode.proofs.Customs.{unnamed, CustomRest, custom_follows}
 use Rattle.wm_decode.proofs.Chains.{left_out, over}
 use Rattle.wm_decode.proofs.MachineStates.{Fits, FitsCustom, FineCustom, custom_fine}
-use Rattle.wm_decode.proofs.WholeMachine.{After, InSize, ListOf, Listed, Later, Within, MachineRest, begin_from, run_from}
+use Rattle.wm_decode.proofs.WholeMachine.{After, InSize, ListOf, Listed, Later, Within, MachineRest, begin_from, begin_to, machine_follows, run_from, run_to}
 use Rattle.wm_decode.proofs.MachineAndSink.{begin_fits}
 use Rattle.wm_decode.proofs.Fronts.{some_custom, some_listed, some_after, some_size, some_later}
 use Rattle.wm_decode.proofs.FramedBytes.{InContents, Sizes, at_size, one_byte, Framed}
@@ -413,16 +413,31 @@ module _ (p : Profile) (b : List ℕ) (bytes : AreBytes b) (c : ℕ) where
   can_end : Ends c Now → CanEnd p (b ++ c ∷ [])
   can_end g = (g.0, g.1, marks p state_at_start b ++ g.2, whole g.0 g.2 g.3)
 
-  framed_so : (last id left : ℕ) (h : InContents last id left (b ++ c ∷ [])) → ((length h.contents ≡ h.n) × CanGoOn p (b ++ c ∷ [])) ⊎ ((length h.contents < h.n) × CanEnd p (b ++ c ∷ [])) → OtherSize p (b ++ c ∷ [])
-  framed_so last id left h wrong =
-      let past = h.past in
-      record { sections = past.sections; front = h.front; id = id; size = h.size; contents = h.contents; bytes = h.n; whole = h.whole; before = past.spelled; spelled = h.number; wrong = wrong }
+  -- no whole input begins so
+  no_input : (m : Machine) (y : List ℕ) → record { machine = m; name = y } ≡ state_after p state_at_start b → Fits m → c < 2 ^ 8 → IsText (step_of p m c).1 (y ++ c ∷ []) → (step_of p m c).0 ≡ machine.Refused why.SectionEnd
+      → (more : List ℕ) (k : Marks) → Items p ((b ++ c ∷ []) ++ more) k → ⊥
+  no_input m y same fits byte text e more k h =
+      let i : Items p (b ++ c ∷ more) k = subst (λ z. Items p z k) (append_assoc b (c ∷ []) more) h in
+      let g = run_to strict p tt state_at_start b (c ∷ more) k bytes begin_fits (begin_to strict p (b ++ c ∷ more) k i) in
+      let r : MachineRest strict p m y (c ∷ more) g.0 = subst (λ (s : MachineState). MachineRest strict p s.machine s.name (c ∷ more) g.0) (sym same) g.2 in
+      let n = byte_read machine.Refused (zone_of m) y c (step_of p m c) in
+      let at : n.at ≡ machine.Refused why.SectionEnd = heard_at machine.Refused (zone_of m) y c (step_of p m c).0 (step_of p m c).1 text ∙ e in
+      let t = (machine_follows strict p m y c byte fits).to tt more g.0 r in
+      absurd (subst (λ z. MachineRest strict p z n.name more t.0) at t.2)
 
-  by_cut : (byte : c < 2 ^ 8) → Cut p c byte Now (b ++ c ∷ []) → OtherSize p (b ++ c ∷ [])
-  by_cut byte (inl (last, id, h, g)) = framed_so last id 0 h (inl ((let r = h.room in omega (arith, r)), goes_on g))
-  by_cut byte (inr (last, id, n, h, g)) = framed_so last id (suc n) h (inr ((let r = h.room in omega (arith, r)), can_end g))
+  abbrev NoInput : Type 0
+  NoInput = (more : List ℕ) (k : Marks) → Items p ((b ++ c ∷ []) ++ more) k → ⊥
+
+  framed_so : (last id left : ℕ) (h : InContents last id left (b ++ c ∷ [])) → ((length h.contents ≡ h.n) × CanGoOn p (b ++ c ∷ [])) ⊎ ((length h.contents < h.n) × CanEnd p (b ++ c ∷ [])) → NoInput → OtherSize p (b ++ c ∷ [])
+  framed_so last id left h wrong none =
+      let past = h.past in
+      record { sections = past.sections; front = h.front; id = id; size = h.size; contents = h.contents; bytes = h.n; whole = h.whole; before = past.spelled; spelled = h.number; wrong = wrong; none = none }
+
+  by_cut : (byte : c < 2 ^ 8) → Cut p c byte Now (b ++ c ∷ []) → NoInput → OtherSize p (b ++ c ∷ [])
+  by_cut byte (inl (last, id, h, g)) none = framed_so last id 0 h (inl ((let r = h.room in omega (arith, r)), goes_on g)) none
+  by_cut byte (inr (last, id, n, h, g)) none = framed_so last id (suc n) h (inr ((let r = h.room in omega (arith, r)), can_end g)) none
 
   pub other_size : c < 2 ^ 8 → (m : Machine) (y : List ℕ) → record { machine = m; name = y } ≡ state_after p state_at_start b → Fits m → (IsRefused m → ⊥) → Framed m b → IsText (step_of p m c).1 (y ++ c ∷ []) → (step_of p m c).0 ≡ machine.Refused why.SectionEnd
       → OtherSize p (b ++ c ∷ [])
   other_size byte m y same fits live f text e =
-      by_cut byte (subst (λ (s : MachineState). Cut p c byte (MachineRest loose p s.machine s.name) (b ++ c ∷ [])) same (cut_says p c byte m b y fits live f text e))
+      by_cut byte (subst (λ (s : MachineState). Cut p c byte (MachineRest loose p s.machine s.name) (b ++ c ∷ [])) same (cut_says p c byte m b y fits live f text e)) (no_input m y same fits byte text e)

@@ -72,8 +72,8 @@ IsUnknown sections id = 11 < id
 abbrev pub IsLate : List RawSection → ℕ → Type 0
 IsLate sections id = (0 < id) × (id ≤ 11) × HasFrom id sections
 
--- Truncated: nothing follows these bytes. They end in the header, or after whole sections in a further one,
--- which more bytes would complete.
+-- Truncated (sections 5.5.2, 5.5.15): nothing follows these bytes. They end in the header, or after whole
+-- sections in a further one, which more bytes would complete.
 abbrev pub EndsInHeader : List ℕ → Type 0
 EndsInHeader used = (length used < 8) × (used ≡ take (length used) header)
 
@@ -120,7 +120,8 @@ spelled p a_kind b = (k : ExportKind) × Byte (kind_byte k) b
 spelled p a_zero b = Byte 0x00 b
 
 -- After these bytes something of this form must stand. Each such thing can, sizes, names and the number of
--- code entries aside; and in each whole input that begins with these bytes one does.
+-- code entries aside; and in each whole input that begins with these bytes one does. Where none begins so, as
+-- after a size that is too small, the second half says nothing.
 pub record MustStand (p : Profile) (IsThere : Form ℕ) (before : List ℕ) : Type 0 where
   pub can : (b : List ℕ) → IsThere b → (k : Marks) × IsFront p (before ++ b) k
   pub must : (more : List ℕ) (k : Marks) → Items p (before ++ more) k
@@ -140,19 +141,19 @@ pub record WrongByte (p : Profile) (IsWrong : Wanted → ℕ → Type 0) (used :
 abbrev pub IsFloatType : ℕ → Type 0
 IsFloatType c = (c ≡ 0x7D) ⊎ (c ≡ 0x7C)
 
--- BadOpcode: no instruction of the profile begins so, nor one on floating-point numbers
+-- BadOpcode (section 5.4): no instruction of the profile begins so, nor one on floating-point numbers
 abbrev pub IsNoInstruction : Wanted → ℕ → Type 0
 IsNoInstruction an_instruction c = IsTrue (is_float c) → ⊥
 IsNoInstruction _ c = ⊥
 
--- Float: an instruction on floating-point numbers, or a type of them, where one can stand
+-- Float (sections 5.3.1, 5.3.2, 5.4): an instruction on floating-point numbers, or a type of them
 abbrev pub IsFloat : Wanted → ℕ → Type 0
 IsFloat an_instruction c = IsTrue (is_float c)
 IsFloat a_value_type c = IsFloatType c
 IsFloat a_block_type c = IsFloatType c
 IsFloat _ c = ⊥
 
--- BadByte: anything else that begins nothing of what must stand there
+-- BadByte (sections as at spelled): the byte begins nothing of what must stand there, and is not Float
 abbrev pub IsOtherByte : Wanted → ℕ → Type 0
 IsOtherByte an_instruction c = ⊥
 IsOtherByte a_value_type c = IsFloatType c → ⊥
@@ -208,18 +209,19 @@ pub record NoCode (used rest : List ℕ) : Type 0 where
   pub some : 0 < functions
   pub none : AllByRecursion (λ s. s.id ≢ 10) sections
 
--- More bytes make these a module, sizes, names and the number of code entries aside.
+-- These bytes are a module, or begin one, sizes, names and the number of code entries aside.
 abbrev pub CanGoOn : Profile → List ℕ → Type 0
 CanGoOn p used = (k : Marks) × IsFront p used k
 
--- In the same sense these are a module, or would be one with a code section of no entries behind them.
+-- In the same sense these are a module, or become one by 0A 01 00, as by a code section of no entries.
 abbrev pub CanEnd : Profile → List ℕ → Type 0
 CanEnd p used =
     (rest : List ℕ) × ((rest ≡ []) ⊎ (rest ≡ 0x0A ∷ 0x01 ∷ 0x00 ∷ [])) × (k : Marks)
     × Module loose p (used ++ rest) k
 
--- SectionEnd (section 5.5.2): after these sections one more comes up to here. Either its contents have so
--- many bytes as its size says and go on, or they have less and are over.
+-- SectionEnd (section 5.5.2): no module begins with these bytes, and after these sections one more comes up
+-- to here. It has all bytes of its size, and these bytes are a module or begin one, sizes, names and the
+-- number of code entries aside; or it has fewer, and in that sense these are one, or become one by 0A 01 00.
 pub record OtherSize (p : Profile) (used : List ℕ) : Type 0 where
   pub sections : List RawSection
   pub front : List ℕ
@@ -231,11 +233,13 @@ pub record OtherSize (p : Profile) (used : List ℕ) : Type 0 where
   pub before : SpellsSections sections front
   pub spelled : SpellsU32 bytes size
   pub wrong : ((length contents ≡ bytes) × CanGoOn p used) ⊎ ((length contents < bytes) × CanEnd p used)
+  pub none : (more : List ℕ) (k : Marks) → Items p (used ++ more) k → ⊥
 
--- A code entry without its size (section 5.5.13): runs of locals, and an expression. Or more bytes make one.
+-- A code entry without its size (section 5.5.13): runs of locals, and an expression.
 abbrev pub IsEntry : Profile → List ℕ → Type 0
 IsEntry p b = (k : Marks) × Then (Vector Run) (Expression p body_op) b k
 
+-- at least one byte is missing of such an entry
 abbrev pub BeginsEntry : Profile → List ℕ → Type 0
 BeginsEntry p b = (more : List ℕ) × (more ≢ []) × IsEntry p (b ++ more)
 
@@ -277,8 +281,8 @@ pub record WrongNumber (p : Profile) (used : List ℕ) : Type 0 where
   pub none : (more : List ℕ) → spells number (begun ++ byte ∷ more) → ⊥
 
 -- What a name says of the bytes that were used, and of those behind them. Each name of the format has a line
--- of its own. Of the others nothing is said: of those of a checker of rules (Index, Mismatch and so on) or of
--- a policy, and of Memory.
+-- of its own. TooLong: one byte more than the limit. Of the others nothing is said: of those of a checker of
+-- rules (Index, Mismatch and so on) or of a policy, and of Memory.
 abbrev pub Means : Profile → ℕ → List ℕ → List ℕ → Why → Type 0
 Means p limit used rest why.Magic = WrongInHeader 0 4 used
 Means p limit used rest why.Version = WrongInHeader 4 8 used
@@ -307,8 +311,8 @@ pub record Meant (Means : List ℕ → List ℕ → Why → Type 0) (input : Lis
 abbrev pub Meaning : Profile → ℕ → List ℕ → Refusal → Type 0
 Meaning p limit input r = Meant (Means p limit) input r
 
--- The last byte completes an item, and of the items before it and of it this is true. Some more bytes would
--- make all of them a module, sizes, names and the number of code entries aside.
+-- The last byte completes an item, and of the items before it and of it this is true. All these bytes are a
+-- module, or begin one, sizes, names and the number of code entries aside.
 pub record AtItem (p : Profile) (IsWrong : List Item → Item → Type 0) (used : List ℕ) : Type 0 where
   pub told : Marks
   pub last : Mark

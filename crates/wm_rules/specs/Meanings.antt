@@ -183,12 +183,12 @@ NamesNothing s body = next_function s ≡ None
 NamesNothing s (segment x) = how_many kind.Memory s ≤ x
 NamesNothing s _ = ⊥
 
--- in a constant a global that may not be named;
+-- in a constant a global that may not be named (sections 3.3.7, 3.4.10);
 abbrev pub ConstantNamesNothing : ℕ → Op → Type 0
 ConstantNamesNothing globals (op.Simple (simple.GlobalGet x)) = globals ≤ x
 ConstantNamesNothing globals _ = ⊥
 
--- in a body no such label, function, type, local or global, or no table or memory (sections 3.3.2 to 3.3.5).
+-- in a body no such label, function, type, local or global, or no table or memory (sections 3.3.3 to 3.3.5).
 abbrev pub OpNamesNothing : Context → Op → Type 0
 OpNamesNothing c (op.Simple (simple.Br l)) = slice_get c.labels l ≡ None
 OpNamesNothing c (op.Simple (simple.BrIf l)) = slice_get c.labels l ≡ None
@@ -266,7 +266,8 @@ abbrev pub BeginsBefore : Context → List Op → Op → Type 0
 BeginsBefore c ops (op.Label l) = Unit {0}
 BeginsBefore c ops _ = BeginsBody c ops
 
--- Type and Arity, in a body: the ops so far begin a typed one, and with this op they begin none.
+-- Type and Arity, in a body (section 3.3): the ops so far begin a typed one, and none with this op. Of Type
+-- this is all, so its line is true of every op that a rule refuses.
 abbrev pub EndsTyping : {items : List Item} → InBody items → Op → Type 0
 EndsTyping b o =
     BeginsBefore (context_of_body b.entry b.type_index) b.entry.code.ops o
@@ -297,15 +298,15 @@ LastHasResult [] = ⊥
 LastHasResult (f ∷ []) = f.results ≢ []
 LastHasResult (f ∷ g ∷ types) = LastHasResult (g ∷ types)
 
--- The lists of operand types that the innermost open list can leave: within the labels of a br_table, below
--- the i32 that it has taken.
+-- The lists of operand types that the innermost open list can leave (section 3.3.6): within the labels of a
+-- br_table, below the i32 that it has taken.
 abbrev pub Leaves : Context → Place → List ValType → Type 0
 Leaves c (open_at (h ∷ hs) (work first s ∷ ws)) types = Typed (at c (h ∷ hs)) s [] types
 Leaves c (within n seen (h ∷ hs) (work first s ∷ ws)) types = Typed (at c (h ∷ hs)) s [] (types ++ I32 ∷ [])
 Leaves c _ types = ⊥
 
--- in a body an op has a type in its context, but whatever it takes is more than such a list has; and at an
--- else or an end the list has not as many types as the result
+-- in a body (sections 3.3.1 to 3.3.6) an op has a type in its context, but whatever it takes is more than
+-- such a list has; and at an else or an end the list has not as many types as the result
 abbrev pub CountDiffers : Context → Place → Op → List ValType → Type 0
 CountDiffers c q (op.Simple p) types =
     ((takes gives : List ValType) × TypedSimple (at c (heads_of q)) p takes gives)
@@ -331,7 +332,7 @@ HasWrongCount items (body_op o) =
 HasWrongCount items _ = ⊥
 
 -- What the name says. It is said of the 14 names of the format, and of the twelve of rules. Nothing is said
--- of those of a policy.
+-- of those of a policy and of Memory.
 abbrev pub Means : Profile → ℕ → List ℕ → List ℕ → Why → Type 0
 Means p limit used rest why.Index = AtItem p HasNoItem used
 Means p limit used rest why.Limits = AtItem p IsOutOfRange used
