@@ -67,7 +67,9 @@ def lines_of_table():
 
 def explained():
     """What is a row of the page and no line of the table, or the other way about, in their order."""
-    rows = [f"{name} | {rest}" for name, rest in re.findall(r"(?m)^\| `(\w+)` \| ((?:[^|]+ \| ){3}[^|]+) \|$", PAGE.read_text(encoding="utf8"))]
+    # (what is proved of a name has a column of its own, and is not printed)
+    row = re.compile(r"^\| `(\w+)` \| ((?:[^|]+ \| ){3}[^|]+) \|(?: (?:proved|in part proved|tested) \|)?$", re.M)
+    rows = [f"{name} | {rest}" for name, rest in row.findall(PAGE.read_text(encoding="utf8"))]
     lines = list(lines_of_table())
     return [] if rows == lines else [f"not in both {PAGE.name} and {TABLE.name}, or in another order: {it}" for it in {*rows} ^ {*lines} or rows]
 
