@@ -373,22 +373,26 @@ module _ (items : List Item) (h : Held) (t : all_taken after empty_checker items
       go l over true e = e
       go l over false e = let z = over e in absurd (omega (arith, l, z))
 
-  context_now : (e : InEntry items) → 0 < length h.body.state.stacks.frames → within_frames (context_in (context_of h.spaces) h.body) h.body.state.stacks.frames ≡ context_inside (body_now e)
-  context_now e l =
+  shared_context : (e : InEntry items) → context_of h.spaces ≡ context_so_far (so_far e.before)
+  shared_context e = ap context_of told ∙ entry_context items e
+
+  own_context : (e : InEntry items) → 0 < length h.body.state.stacks.frames → context_in (context_so_far (so_far e.before)) h.body ≡ context_of_body e (entry_at_hand e).type_index
+  own_context e l =
       let a = entry_at_hand e in
       let b = h.body in
-      let fs = h.body.state.stacks.frames in
       let c : Context = context_so_far (so_far e.before) in
-      let x = a.type_index in
-      let shared : context_of h.spaces ≡ c = ap context_of told ∙ entry_context items e in
-      let own : context_in c b ≡ body_context c x (locals_of e.code.runs) =
       ap (λ z. in_function c z b.result b.declared) a.held.type_index
-      ∙ (ap (λ z. in_function c x z b.declared) a.held.result
-      ∙ ap (λ z. in_function c x (result_of c x) z) (a.held.declared l)) in
+      ∙ (ap (λ z. in_function c a.type_index z b.declared) a.held.result
+      ∙ ap (λ z. in_function c a.type_index (result_of c a.type_index) z) (a.held.declared l))
+
+  context_now : (e : InEntry items) → 0 < length h.body.state.stacks.frames → within_frames (context_in (context_of h.spaces) h.body) h.body.state.stacks.frames ≡ context_inside (body_now e)
+  context_now e l =
+      let b = h.body in
+      let fs = h.body.state.stacks.frames in
       let labels : labels_of fs ≡ map label_type (heads_of (body_now e).typing.0) = labels_are fs ∙ ap (map label_type) (sym (heads_now e)) in
-      ap (λ z. within_frames (context_in z b) fs) shared
-      ∙ (ap (λ z. within_frames z fs) own
-      ∙ ap (λ (ls : List (Option ValType)). record (context_of_body e x) { labels = ls }) labels)
+      ap (λ z. within_frames (context_in z b) fs) (shared_context e)
+      ∙ (ap (λ z. within_frames z fs) (own_context e l)
+      ∙ ap (λ (ls : List (Option ValType)). record (context_of_body e (entry_at_hand e).type_index) { labels = ls }) labels)
 
   none_there : (o : Op) → NoneThere h o → Stood (body_op o) items → HasNoItem items (body_op o)
   none_there o n s =
@@ -402,9 +406,6 @@ module _ (items : List Item) (h : Held) (t : all_taken after empty_checker items
   op_err : (r : Result Body Why) (w : Why) → checker_after_op h r ≡ Err w → r ≡ Err w
   op_err (Ok b) w e = absurd (cc)
   op_err (Err v) w e = let same : v ≡ w = cc in ap Err same
-
-  shared_context : (e : InEntry items) → context_of h.spaces ≡ context_so_far (so_far e.before)
-  shared_context e = ap context_of told ∙ entry_context items e
 
   -- the answer of the body
   body_err : (o : Op) (w : Why) → after h (body_op o) ≡ Err w → (s : Stood (body_op o) items) → body_after_op (context_so_far (so_far s.0.before)) o h.body ≡ Err w
@@ -425,15 +426,6 @@ module _ (items : List Item) (h : Held) (t : all_taken after empty_checker items
         begins_before c refl ops k.place k.frames h.body.state.table h.body.state.stacks o open_now.1 k.so_far k.holds k.goes order,
         λ m. none (front_typed c (ops ++ o ∷ []) m.0 (body_can c ((ops ++ o ∷ []) ++ m.0) refl m.1)),
       )
-
-  own_context : (e : InEntry items) → 0 < length h.body.state.stacks.frames → context_in (context_so_far (so_far e.before)) h.body ≡ context_of_body e (entry_at_hand e).type_index
-  own_context e l =
-      let a = entry_at_hand e in
-      let b = h.body in
-      let c : Context = context_so_far (so_far e.before) in
-      ap (λ z. in_function c z b.result b.declared) a.held.type_index
-      ∙ (ap (λ z. in_function c a.type_index z b.declared) a.held.result
-      ∙ ap (λ z. in_function c a.type_index (result_of c a.type_index) z) (a.held.declared l))
 
   counts_differ : (o : Op) → after h (body_op o) ≡ Err why.Arity → (s : Stood (body_op o) items) (types : List ValType) → Leaves (context_of_body s.0 (entry_at_hand s.0).type_index) (body_now s.0).typing.0 types
       → CountDiffers (context_of_body s.0 (entry_at_hand s.0).type_index) (body_now s.0).typing.0 o types
