@@ -42,3 +42,19 @@ float_under p byte f = go (slice_get classes byte) refl f
         of true h = absurd (float_never p byte c e h f)
         of false h = (float_in p byte c e h).0 f
     go Nothing e f = cc
+
+-- where the profile has floats no byte is refused as one of theirs
+pub no_float_under : (p : Profile) (byte : ℕ) → has p Floats ≡ true → class_under p byte ≡ Float → ⊥
+unfolding class_under
+no_float_under p byte h f = go (slice_get classes byte) refl f
+  where
+    go : (row : Option OpClass) → slice_get classes byte ≡ row → row_in p row ≡ Float → ⊥
+    go (Some c) e f = float_never p byte c e h f
+    go Nothing e f = cc
+
+pub float_lacks : (p : Profile) (byte : ℕ) → class_under p byte ≡ Float → has p Floats ≡ false
+float_lacks p byte f = of (has p Floats) refl
+  where
+    of : (b : Bool) → has p Floats ≡ b → b ≡ false
+    of true h = absurd (no_float_under p byte h f)
+    of false h = refl
