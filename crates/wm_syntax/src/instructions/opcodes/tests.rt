@@ -1,19 +1,40 @@
 //! Tests of the table of first bytes.
 
 use super::*;
-use crate::scripts::{Scripted, byte_of, play, profile_of, shown, word_of};
+use crate::instructions::{FloatType, IntType};
+use crate::scripts::{Scripted, byte_of, play, profile_of, shown, type_of, unknown, word_of};
+use crate::types::ValType;
 use std::alloc::Global;
 use std::process::Abort;
 
-/// What this byte begins under this profile.
+/// What a byte begins under a profile, or the feature of a value type, or the type of what an instruction
+/// works on.
 #[derive(Drop)]
 struct Opcodes;
 
 impl Scripted for Opcodes {
     fn answer<A: Abort>(&mut self, rt: &A, alloc: Global, call: &str) -> String {
-        let (profile, byte) = word_of(call);
-        let profile = profile_of(rt, profile);
-        shown(rt, alloc, op_of(profile, byte_of(rt, byte)))
+        let (word, with) = word_of(call);
+        match word {
+            "feature" => shown(rt, alloc, type_of(rt, with).feature()),
+            "ty" => shown(rt, alloc, ty_of(rt, with)),
+            _ => begun(rt, alloc, word, with),
+        }
+    }
+}
+
+fn begun(rt: &impl Abort, alloc: Global, profile: &str, byte: &str) -> String {
+    let profile = profile_of(rt, profile);
+    shown(rt, alloc, op_of(profile, byte_of(rt, byte)))
+}
+
+fn ty_of(rt: &impl Abort, word: &str) -> ValType {
+    match word {
+        "I32" => IntType::I32.ty(),
+        "I64" => IntType::I64.ty(),
+        "F32" => FloatType::F32.ty(),
+        "F64" => FloatType::F64.ty(),
+        _ => unknown(rt, word),
     }
 }
 
@@ -32,6 +53,12 @@ One 35 = With(Load(I64Load32U))
 One 6A = Plain(Simple(Numeric(Binary(I32, Add))))
 One 2A = Float
 One 06 = None
+feature I32, feature I64 = Base
+feature F32, feature F64 = Floats
+ty I32 = I32
+ty I64 = I64
+ty F32 = F32
+ty F64 = F64
 One C4 = None
 Two C4 = Plain(Simple(Numeric(SignExtend(I64From32))))
 Two C5 = None
