@@ -227,12 +227,7 @@ sample_begins byte c e i = go c i (subst (λ (m : ℕ). begins m c ≡ true) (le
 
 -- The same under a profile: an op has a class of its feature.
 simple_feature : (i : Simple) → class_feature (class_of (op.Simple i)) ≡ feature_of i
-simple_feature (s.Numeric (SignExtend x)) = refl
-simple_feature (s.Numeric (FloatCompare t x)) = refl
-simple_feature (s.Numeric (FloatUnary t x)) = refl
-simple_feature (s.Numeric (FloatBinary t x)) = refl
-simple_feature (s.Numeric (Convert x)) = refl
-simple_feature (s.Numeric _) = refl
+simple_feature (s.Numeric x) = refl
 simple_feature (s.Load F32Load at) = refl
 simple_feature (s.Load F64Load at) = refl
 simple_feature (s.Load _ at) = refl
