@@ -97,6 +97,21 @@ i32 i32 -> i32 |: local.get 0, local.get 1, i32.add, end = Ok(BodyStats { moves:
     );
 }
 
+#[test]
+fn types_bodies_with_floats(rt: HostRuntime) {
+    play(
+        &rt,
+        rt.alloc(),
+        &mut Checks,
+        "f32 f64 -> f64 |: local.get 0, f64.promote_f32, local.get 1, f64.add, end = Ok(BodyStats { moves: 10, operands: 2, controls: 1, probes: 0 })
+-> f32 |: unreachable, select, f32.neg, end = Ok(BodyStats { moves: 7, operands: 1, controls: 1, probes: 0 })
+-> f64 |: block f64, f64.const 1, end, end = Ok(BodyStats { moves: 8, operands: 1, controls: 2, probes: 0 })
+-> | 2*f32 1*f64: local.get 2, local.get 0, drop, drop, end = Ok(BodyStats { moves: 6, operands: 2, controls: 1, probes: 2 })
+f32 f32 -> f32 |: local.get 0, local.get 1, i32.const 0, select, end = Ok(BodyStats { moves: 10, operands: 3, controls: 1, probes: 0 })
+f64 -> i32 |: local.get 0, i64.trunc_f64_u, i32.wrap_i64, end = Ok(BodyStats { moves: 8, operands: 1, controls: 1, probes: 0 })",
+    );
+}
+
 /// Checks these ops without the last, and then with it, in a function that gives an i32.
 #[derive(Drop)]
 struct LastOps;
@@ -137,6 +152,26 @@ global.set 0 = (Err(BodyEnd), Err(Immutable))
 i32.load 3 0 = (Err(BodyEnd), Err(Align))
 i32.const 0, if i32, end = (Err(BodyEnd), Err(Mismatch))
 i64.const 0, end = (Err(BodyEnd), Err(Mismatch))",
+    );
+}
+
+#[test]
+fn refuses_one_float_for_another(rt: HostRuntime) {
+    play(
+        &rt,
+        rt.alloc(),
+        &mut LastOps,
+        "f32.const 0, f64.neg = (Err(BodyEnd), Err(Mismatch))
+f64.const 0, f32.neg = (Err(BodyEnd), Err(Mismatch))
+f64.const 0, i64.eqz = (Err(BodyEnd), Err(Mismatch))
+f32.const 0, i32.eqz = (Err(BodyEnd), Err(Mismatch))
+i64.const 0, f64.neg = (Err(BodyEnd), Err(Mismatch))
+f64.const 0, f32.const 0, f64.add = (Err(BodyEnd), Err(Mismatch))
+f32.const 0, f64.const 0, i32.const 0, select = (Err(BodyEnd), Err(Mismatch))
+block f32, block f64, unreachable, br_table 1, label 0, label 1 = (Err(BodyEnd), Err(Mismatch))
+f32.const 0, end = (Err(BodyEnd), Err(Mismatch))
+f64.load 4 0 = (Err(BodyEnd), Err(Align))
+f32.load 3 0 = (Err(BodyEnd), Err(Align))",
     );
 }
 
