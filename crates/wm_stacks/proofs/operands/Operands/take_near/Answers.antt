@@ -1,4 +1,7 @@
 -- A kind that shows that its operand fits says so of the operand.
+use Rattle.std.proofs.Common.{ap, ◌∙◌}
+use Rattle.wm_stacks.specs.exact.Words.{Kinds}
+use Rattle.wm_stacks.specs.inner.Operands.{operands_of}
 use Rattle.wm_stacks.proofs.KindsAndWidths.{one_taken}
 use Rattle.wm_stacks.proofs.operands.Operands.take_near.Goals as goal
 
@@ -9,4 +12,4 @@ returns-clause-taken c =
 
 pub returns-clause-left : goal.returns-clause-left
 returns-clause-left c =
-    λ t. rw (c.take_near.ensures.left t) c.self.view_is
+    λ t. ap (λ (z : Kinds). operands_of z c.self.inside.widths) (c.take_near.ensures.left t) ∙ c.self.view_is

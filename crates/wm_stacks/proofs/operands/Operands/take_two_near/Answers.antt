@@ -1,4 +1,7 @@
 -- Kinds that show that their operands fit say so of the operands.
+use Rattle.std.proofs.Common.{ap, ◌∙◌}
+use Rattle.wm_stacks.specs.exact.Words.{Kinds}
+use Rattle.wm_stacks.specs.inner.Operands.{operands_of}
 use Rattle.wm_stacks.proofs.KindsAndWidths.{two_taken}
 use Rattle.wm_stacks.proofs.operands.Operands.take_two_near.Goals as goal
 
@@ -9,4 +12,4 @@ returns-clause-taken c =
 
 pub returns-clause-left : goal.returns-clause-left
 returns-clause-left c =
-    λ t. rw (c.take_two_near.ensures.left t) c.self.view_is
+    λ t. ap (λ (z : Kinds). operands_of z c.self.inside.widths) (c.take_two_near.ensures.left t) ∙ c.self.view_is
