@@ -1,5 +1,5 @@
 -- The bits of the widths in their words.
-use Rattle.std.proofs.Common.{ℕ, zero, suc, ◌≡◌, ◌≢◌, ◌-◌, ◌*◌, ◌/◌, ◌%◌, ◌^◌, ◌<◌, ◌≤◌, Bool, true, false, nat_eq, List, [], ◌∷◌, ◌++◌, length, set, get_or, get_or-set_same, get_or-set_other, inl, inr, sym, refl, ap, ◌∙◌, arith, w64, bit_and, bit_or}
+use Rattle.std.proofs.Common.{ℕ, zero, suc, ◌≡◌, ◌≢◌, ◌-◌, ◌*◌, ◌/◌, ◌%◌, ◌^◌, ◌<◌, ◌≤◌, Bool, true, false, nat_eq, List, ◌∷◌, length, set, get_or, get_or-set_same, get_or-set_other, inl, inr, sym, refl, ap, ◌∙◌, arith, w64, bit_and, bit_or}
 use Rattle.std.specs.Int.{bit_at}
 use Rattle.std.proofs.lemmas.Bool.{cases_eq}
 use Rattle.std.proofs.lemmas.List.{get_or_past}
@@ -46,13 +46,7 @@ pub past_words : (words : List ℕ) (at : ℕ) → length words ≤ at / 64 → 
 past_words words at l =
     ap (λ x. nat_eq (bit_at x (at % 64)) 1) (get_or_past words (at / 64) 0 l) ∙ ap (λ b. nat_eq b 1) (bit_at-zero (at % 64))
 
--- one more word with no bit set changes no word
-pub zero_more : (words : List ℕ) (i : ℕ) → get_or (words ++ 0 ∷ []) i 0 ≡ get_or words i 0
-zero_more [] zero = refl
-zero_more [] (suc i) = refl
-zero_more (w ∷ words) zero = refl
-zero_more (w ∷ words) (suc i) = zero_more words i
-
+-- later words that agree
 same_words : (first : ℕ) (xs ys : List ℕ) → ((i : ℕ) → get_or xs i 0 ≡ get_or ys i 0) → (i : ℕ) → get_or (first ∷ xs) i 0 ≡ get_or (first ∷ ys) i 0
 same_words first xs ys h zero = refl
 same_words first xs ys h (suc i) = h i

@@ -105,11 +105,10 @@ impl Widths {
     }
 }
 
-#[tactic(auto, using(std::proofs::lemmas::List::get_or_past))]
 fn word_in(words: &[u64], index: usize) -> u64
     ensures { result ≡ slice_index words.now index }
 {
-    if index < words.len() { words[index] } else { 0 }
+    words.get(index).copied().unwrap_or(0)
 }
 
 // The word with the bit of an operand written.
@@ -129,8 +128,8 @@ fn lengthen(words: &mut Vec<u64>, count: usize) -> Result<(), Why>
     ensures err { IfErr result (λ why. why ≡ Why.Memory) }
     ensures near { OnErr result (0 < count) }
 {
-    while words.len() < count {
-        words.push(0)?;
+    if count > words.len() {
+        words.resize(count, 0)?;
     }
     Ok(())
 }
