@@ -140,8 +140,8 @@ abbrev pub const_64_step : Partial → ℕ → Reading InOp Op
 const_64_step r c =
     on_answer (signed_push 64 r c) (λ s. More (at.Const64 s)) (λ z. Done (const_64_op z)) (Bad why.BadNumber)
 
--- One more byte of a float, the lowest first: those so far are its highest, and each moves them down by one. In
--- the end all stand where they belong.
+-- One more byte of a float, which has the lowest first: it takes the highest place, and moves those before it
+-- down by one. In the end all stand where they belong.
 abbrev pub pushed : ℕ → ℕ → ℕ → ℕ
 pushed top low c = low / 256 + c * top
 
