@@ -46,7 +46,7 @@ params_alone left c less p f more =
     ap (λ y. framed f more left (on_number y at.ParamCount (λ n. (after_param n, event.Nothing)) at.Failed)) (u32_one c less)
     ∙ at_params f more left c event.Nothing
 
-param_alone : (left n c : ℕ) (t : ValType) → value_type_of c ≡ Ok t → StepsTo section_kind.Type left (at.Param n) c (record { left = left; at = after_param n; part = Some (plain.Param t) })
+param_alone : (left n c : ℕ) (t : ValType) → value_type_of p c ≡ Ok t → StepsTo section_kind.Type left (at.Param n) c (record { left = left; at = after_param n; part = Some (plain.Param t) })
 param_alone left n c t is p f more =
     ap (λ y. framed f more left (on_type y (λ t. with_item_given (after_param n) (plain.Param t)) at.Failed)) is
     ∙ at_params f more left n (event.Complete (plain.Param t))
@@ -63,7 +63,7 @@ one_alone left c e p f more =
     ap (λ y. framed f more left (on_number y at.ResultCount (λ n. with_item_given (after_result n) (plain.ResultCount n)) at.Failed)) (u32_one c (omega arith))
     ∙ ap (λ n. framed f more left (with_item_given (after_result n) (plain.ResultCount n))) e
 
-result_alone : (left c : ℕ) (t : ValType) → value_type_of c ≡ Ok t → 0 < left → StepsTo section_kind.Type left (at.ResultType 0) c (record { left = left - 1; at = at.TypeForm; part = Some (plain.OneResult t) })
+result_alone : (left c : ℕ) (t : ValType) → value_type_of p c ≡ Ok t → 0 < left → StepsTo section_kind.Type left (at.ResultType 0) c (record { left = left - 1; at = at.TypeForm; part = Some (plain.OneResult t) })
 result_alone left c t is some p f more =
     let one : left ≡ suc (left - 1) = omega arith in
     ap (λ y. framed f more left (on_type y (λ t. with_item_given (after_result 0) (plain.OneResult t)) at.Failed)) is
@@ -127,7 +127,7 @@ module _ {H : Type 0} (after : H → Item → Result H Why) (may : H → Item �
     count_out r h g s w n count inside more used is er given quiet =
         advances_out after may bytes (before_results e) (machine.Section section_kind.Type e.functions (e.more - 1) e.left (at.ResultType 0)) n h g g s w is (omega arith) (one_counted r h g s count inside more used er given quiet)
 
-    pub result_taken : {U : Type 0} (r : Result U Why) (h f g : H) (s : Shortcut) (t : ValType) → slice_index bytes 0 ≡ 1 → value_type_of (slice_index bytes 1) ≡ Ok t → 1 < length bytes → 1 < e.more → 0 < e.left → after h (result_count 1) ≡ Ok f
+    pub result_taken : {U : Type 0} (r : Result U Why) (h f g : H) (s : Shortcut) (t : ValType) → slice_index bytes 0 ≡ 1 → value_type_of p (slice_index bytes 1) ≡ Ok t → 1 < length bytes → 1 < e.more → 0 < e.left → after h (result_count 1) ≡ Ok f
         → s.used ≡ 2 → s.refused ≡ result_err r → Taken (after f (one_result t)) r g → IfErr r (λ w. w ≡ why.Memory → may f (one_result t)) → Advances after may bytes (before_results e) h s (before_type (next_type e 2)) g
     result_taken r h f g s t count typed inside more left first used er given quiet =
         let here : Place = record { of = section_kind.Type; functions = e.functions; more = e.more - 1; left = e.left; at = at.ResultType 0 } in
@@ -140,7 +140,7 @@ module _ {H : Type 0} (after : H → Item → Result H Why) (may : H → Item �
   -- a parameter after others
   module _ {U : Type 0} (m : Machine) (h f g : H) (i : InParams) (used params : ℕ) (t : ValType) (s : Shortcut) (r : Result U Why)
       (before : Advances after may bytes m h (record { used = used; refused = None }) (in_params (params_after i used (suc params))) f)
-      (inside : used < length bytes) (section : used + 1 ≤ i.more) (typed : value_type_of (slice_index bytes used) ≡ Ok t)
+      (inside : used < length bytes) (section : used + 1 ≤ i.more) (typed : value_type_of p (slice_index bytes used) ≡ Ok t)
       (eu : s.used ≡ used + 1) (er : s.refused ≡ result_err r) (given : Taken (after f (param t)) r g) (quiet : IfErr r (λ w. w ≡ why.Memory → may f (param t))) where
     pub param_taken : Advances after may bytes m h s (in_params (params_after i (used + 1) params)) g
     param_taken =

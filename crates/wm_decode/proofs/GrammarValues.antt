@@ -23,15 +23,15 @@ use Rattle.wm_decode.proofs.EntryBytes.{run_part}
 use Rattle.wm_decode.proofs.ReadValues.{Reads, HasByte, parts-append, parts-nothing, parts-some, number_some, front_some, byte_some, Many, reads_as, reads_byte, reads_leaf, reads_then, reads_after, reads_number, reads_times, reads_vector, reads_sized, reads_entry, reads_list, reads_index, reads_name}
 
 -- function types
-reads_type : (part : ValType → Item) → Reads (ValueType part) SpellsValType (λ t. part t ∷ [])
+reads_type : (part : ValType → Item) → Reads (ValueType p part) SpellsValType (λ t. part t ∷ [])
 reads_type part = reads_leaf SpellsValType part (λ t b h. byte_some (type_byte t) b h)
 
-reads_results : Reads {X = List ValType} (Number (λ n. Some (result_count n)) (λ n. Times n (ValueType one_result))) (SpellsList SpellsValType) (λ ts. result_count (length ts) ∷ map one_result ts)
+reads_results : Reads {X = List ValType} (Number (λ n. Some (result_count n)) (λ n. Times n (ValueType p one_result))) (SpellsList SpellsValType) (λ ts. result_count (length ts) ∷ map one_result ts)
 reads_results = reads_as (reads_number (λ n. Some (result_count n)) (λ n. reads_times (reads_type one_result) n))
     (λ z b h. (z.1, (h.0, h.1, h.2, subst (λ m. SpellsU32 m h.0) h.4.0 h.3, h.4.1), cc (h.4.0, flat_map_single one_result z.1)))
     (λ ts b h. ((length ts, ts), (h.0, h.1, h.2, h.3, (refl, h.4)), ap (λ y. result_count (length ts) ∷ y) (flat_map_single one_result ts)))
 
-reads_signature : Reads FunctionType SpellsSignature type_items
+reads_signature : Reads (FunctionType p) SpellsSignature type_items
 reads_signature = reads_as (reads_then (reads_byte 0x60 (Some new_type)) (reads_then (reads_list param (reads_type param)) reads_results))
     (λ z b h. (record { params = z.1.0; results = z.1.1 }, h, refl))
     (λ f b h. ((tt, (f.params, f.results)), h, refl))
@@ -43,7 +43,7 @@ desc_some (desc.Table l) b h = front_some b h.0 h.1 h.2 (byte_some 0x01 h.0 h.3)
 desc_some (desc.Memory l) b h = front_some b h.0 h.1 h.2 (byte_some 0x02 h.0 h.3)
 desc_some (desc.Global g) b h = front_some b h.0 h.1 h.2 (byte_some 0x03 h.0 h.3)
 
-reads_import : Reads (Import strict) SpellsImport import_items
+reads_import : Reads (Import strict p) SpellsImport import_items
 reads_import = reads_as
     (reads_then (reads_name (λ text. Some (import_module text))) (reads_then (reads_name (λ text. Some (import_name text))) (reads_leaf SpellsDesc import_desc desc_some)))
     (λ z b h. (record { module_name = z.0; item_name = z.1.0; desc = z.1.1 }, h, refl))
@@ -118,7 +118,7 @@ reads_element p = reads_as (reads_then (reads_index element) (reads_then (reads_
     (λ e b h. ((e.table, (e.offset, e.functions)), h, refl))
 
 -- code: the size, at which the body begins, and then runs and ops in just so many bytes
-pub reads_body : (p : Profile) → Reads {X = List (ℕ × ValType) × List Op} (Then (Vector Run) (Expression p body_op)) (λ z. SpellsList SpellsRun z.0 ▸ SpellsOps p z.1) (λ z. map run_part z.0 ++ map body_op z.1)
+pub reads_body : (p : Profile) → Reads {X = List (ℕ × ValType) × List Op} (Then (Vector (Run p)) (Expression p body_op)) (λ z. SpellsList SpellsRun z.0 ▸ SpellsOps p z.1) (λ z. map run_part z.0 ++ map body_op z.1)
 reads_body p = reads_then (reads_list run_part (reads_leaf SpellsRun run_part (λ r b h. front_some b h.0 h.1 h.2 (number_some r.0 h.0 h.3)))) (reads_ops body_op p)
 
 reads_code : (p : Profile) → Reads (Code strict p) (SpellsFlatCode p) code_items

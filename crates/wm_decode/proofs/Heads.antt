@@ -95,7 +95,7 @@ count_alone left rest runs c some less p f more =
     ap (λ y. run_framed f more left rest (run_goes runs (read_number y run.Count (λ n. More (run.Type n))))) (u32_one c less)
     ∙ ap (λ n. framed f more left (member_in_entry n (entry.Run runs (run.Type c)), event.Nothing)) one
 
-type_alone : (left rest runs n c : ℕ) (t : ValType) → 0 < rest → value_type_of c ≡ Ok t
+type_alone : (left rest runs n c : ℕ) (t : ValType) → 0 < rest → value_type_of p c ≡ Ok t
     → StepsTo section_kind.Code left (at.Entry rest (entry.Run runs (run.Type n))) c (record { left = left; at = at.Entry (rest - 1) (runs_or_body runs); part = Some (plain.Locals n t) })
 type_alone left rest runs n c t some is p f more =
     let one : rest ≡ suc (rest - 1) = omega arith in
@@ -182,7 +182,7 @@ module _ {H : Type 0} (after : H → Item → Result H Why) (may : H → Item �
   module _ {U : Type 0} (m : Machine) (h f g : H) (i : InHead) (used runs n : ℕ) (t : ValType) (s : Shortcut) (r : Result U Why)
       (before : Advances after may bytes m h (record { used = used; refused = None }) (in_head (head_after i used (suc runs))) f)
       (inside : used + 1 < length bytes) (section : used + 2 ≤ i.more) (own : used + 2 ≤ i.rest)
-      (count : n ≡ slice_index bytes used) (short : n < 2 ^ 7) (type : value_type_of (slice_index bytes (used + 1)) ≡ Ok t)
+      (count : n ≡ slice_index bytes used) (short : n < 2 ^ 7) (type : value_type_of p (slice_index bytes (used + 1)) ≡ Ok t)
       (eu : s.used ≡ used + 2) (er : s.refused ≡ result_err r) (given : Taken (after f (locals n t)) r g) (quiet : IfErr r (λ w. w ≡ why.Memory → may f (locals n t))) where
     pub run_taken : Advances after may bytes m h s (in_head (head_after i (used + 2) runs)) g
     run_taken =

@@ -324,16 +324,16 @@ module _ (part : Op → Item) where
   expression_alike p a j b k h i = ops_alike 0 [] h.0 i.0 h.1.labels i.1.labels h.1 i.1 a j b k h.3 i.3
 
 -- members
-value_alike : (part : ValType → Item) → Alike (ValueType part)
+value_alike : (part : ValType → Item) → Alike (ValueType p part)
 value_alike part = leaf_alike once_type part
 
-results_alike : Alike ResultTypes
-results_alike = number_alike (λ n. Some (result_count n)) (λ n. Times n (ValueType one_result)) (λ n. Times n (ValueType one_result)) (times_alike (value_alike one_result))
+results_alike : Alike (ResultTypes p)
+results_alike = number_alike (λ n. Some (result_count n)) (λ n. Times n (ValueType p one_result)) (λ n. Times n (ValueType p one_result)) (times_alike (value_alike one_result))
 
-function_type_alike : Alike FunctionType
+function_type_alike : Alike (FunctionType p)
 function_type_alike = then_alike (byte_alike 0x60 (Some new_type)) (then_alike (vector_alike (value_alike param)) results_alike)
 
-import_alike : Alike (Import loose)
+import_alike : Alike (Import loose p)
 import_alike = then_alike (name_alike (λ text. Some (import_module text))) (then_alike (name_alike (λ text. Some (import_name text))) (leaf_alike once_desc import_desc))
 
 export_alike : Alike (Export loose)
@@ -341,7 +341,7 @@ export_alike =
     then_alike (name_alike (λ text. Some (export_name text)))
     (leaf_alike {X = ExportKind × ℕ} {V = λ t. OneByte (kind_byte t.0) ▸ SpellsU32 t.1} (once_then once_kind same_u32) (λ t. export t.0 t.1))
 
-run_alike : Alike Run
+run_alike : Alike (Run p)
 run_alike = leaf_alike (once_then same_u32 once_type) (λ r. locals r.0 r.1)
 
 data_once : Once (λ c b. (b ≡ c ∷ []) × (c < 2 ^ 8))
@@ -362,7 +362,7 @@ module _ (p : Profile) where
 
   code_alike : Alike (Code loose p)
   code_alike =
-      let S : ℕ → MarkedForm = λ n. Sized loose n (Entry (Then (Vector Run) (Expression p body_op))) in
+      let S : ℕ → MarkedForm = λ n. Sized loose n (Entry (Then (Vector (Run p)) (Expression p body_op))) in
       number_alike (λ n. Some body) S S (λ n. sized_meets Done n n (entry_alike (then_alike (vector_alike run_alike) (expression_alike body_op p))))
 
   -- however many functions there are
