@@ -235,7 +235,7 @@ module _ (refusal : Why) (Fault : ℕ → Type 0) (other : (w : Why) → IsOther
 
   entry_float : (p : Profile) (q : InEntry) → Later (IsOpen q) → Spared (IsInEntry q) → FailsEntry (entry_step p q c).0
   entry_float p (entry.RunCount r) i j = on_number_any FailsEntry (unsigned_push 32 r c) entry.RunCount (λ n. (runs_or_body n, event.Nothing)) entry.Failed (λ s e. cc) runs_float (no_entry why.BadNumber tt)
-  entry_float p (entry.Run more r) i j = on_value_any FailsEntry (run_push p r c) (λ s. entry.Run more s) _ entry.Failed (run_reads r) (λ s e. cc) (λ x. runs_float more) entry_by
+  entry_float p (entry.Run more r) i j = on_value_any FailsEntry (run_push p r c) (λ s. entry.Run more s) _ entry.Failed (run_reads p r) (λ s e. cc) (λ x. runs_float more) entry_by
   entry_float p (entry.Body e) i j = op_float (expression_step p e c).0 (expression_fault refusal Fault other float p e c i)
   entry_float p entry.Over i j = past_body j
   entry_float p (entry.Failed w) i j = past_body j
@@ -317,12 +317,12 @@ module _ (refusal : Why) (Fault : ℕ → Type 0) (other : (w : Why) → IsOther
   pub component_fault : (p : Profile) (q : InMember) → Later (IsWithin q) → Spared (IsOutside q) → (member_step p q c).0 ≡ at.Failed refusal → Fault c
   component_fault p at.TypeForm i j = cond_both (nat_eq c 0x60) _ _ (λ (x : InMember × Event). Fails x.0) (λ _ e. cc) (λ _. no_place why.BadByte tt)
   component_fault p (at.ParamCount r) i j = on_number_any Fails (unsigned_push 32 r c) at.ParamCount (λ n. (after_param n, event.Nothing)) at.Failed (λ s e. cc) param_float (no_place why.BadNumber tt)
-  component_fault p (at.Param more) i j = on_type_any Fails (value_type_of p c) (λ t. with_item_given (after_param more) (plain.Param t)) at.Failed type_float (λ t. param_float more) fails_by
+  component_fault p (at.Param more) i j = on_type_any Fails (value_type_of p c) (λ t. with_item_given (after_param more) (plain.Param t)) at.Failed (type_float p) (λ t. param_float more) fails_by
   component_fault p (at.ResultCount r) i j = on_number_any Fails (unsigned_push 32 r c) at.ResultCount (λ n. with_item_given (after_result n) (plain.ResultCount n)) at.Failed (λ s e. cc) result_float (no_place why.BadNumber tt)
-  component_fault p (at.ResultType more) i j = on_type_any Fails (value_type_of p c) (λ t. with_item_given (after_result more) (plain.OneResult t)) at.Failed type_float (λ t. result_float more) fails_by
+  component_fault p (at.ResultType more) i j = on_type_any Fails (value_type_of p c) (λ t. with_item_given (after_result more) (plain.OneResult t)) at.Failed (type_float p) (λ t. result_float more) fails_by
   component_fault p (at.NameLength of r) i j = on_number_any Fails (unsigned_push 32 r c) (λ s. at.NameLength of s) (after_length of) at.Failed (λ s e. cc) (length_float of) (no_place why.BadNumber tt)
   component_fault p (at.Name of more) i j = name_step_float of more
-  component_fault p (at.Value v) i j = on_value_any Fails (value_push p v c) at.Value (λ q. with_item_given at.Over q) at.Failed (value_reads v) (λ s e. cc) (λ x e. cc) fails_by
+  component_fault p (at.Value v) i j = on_value_any Fails (value_push p v c) at.Value (λ q. with_item_given at.Over q) at.Failed (value_reads p v) (λ s e. cc) (λ x e. cc) fails_by
   component_fault p (at.Index of r) i j = on_number_any Fails (unsigned_push 32 r c) (λ s. at.Index of s) (λ n. with_item_given (after_index of) (index_item of n)) at.Failed (λ s e. cc) (λ n. index_float of) (no_place why.BadNumber tt)
   component_fault p (at.GlobalType g) i j = on_value_any Fails (global_type_push p g c) at.GlobalType (λ t. with_item_given (at.Constant constant.Global start) (plain.Global t)) at.Failed (global_reads p g) (λ s e. cc) (λ x e. cc) fails_by
   component_fault p (at.Constant of e) i j = constant_float of (expression_step p e c).0 (expression_fault refusal Fault other float p e c i)

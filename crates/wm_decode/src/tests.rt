@@ -504,7 +504,8 @@ fn laws_are_called(rt: HostRuntime) -> Result<(), Fail> {
     laws::module_is_flat();
     laws::items_are_module();
     laws::items_determine_module();
-    laws::second_profile_has_all();
+    laws::fourth_profile_has_all();
+    laws::more_features_spell_as_much();
     laws::input_is_bytes();
     laws::one_spelling_one_module();
     laws::slices_join::<Recorder>();
