@@ -28,7 +28,7 @@ use Rattle.wm_decode.specs.declared.machine.member.InMember.{InMember}
 use Rattle.wm_decode.specs.declared.machine.member.InMember.TheVariants as at
 use Rattle.wm_decode.specs.declared.step.expressions.InExpression.{InExpression}
 use Rattle.wm_decode.specs.declared.step.expressions.InExpression.TheVariants as expression
-use Rattle.wm_decode.specs.Items.{Item, new_type, param, result_count, one_result, import_desc, function, table as table_part, memory as memory_part, global as global_part, const_op, start as start_part, element_function, body, body_op, data_byte, Zone, outside, entry as in_entry, closing, Mark}
+use Rattle.wm_decode.specs.Items.{Item, new_type, param, result_count, one_result, function, table as table_part, memory as memory_part, global as global_part, const_op, start as start_part, element_function, body, body_op, data_byte, Zone, outside, entry as in_entry, closing, Mark}
 use Rattle.wm_decode.specs.MarkedForms.{MarkedForm, Empty, Byte, Then, Times, Leaf, Number, Vector, Index, Counted, Name, Sized, Entry, nothing_at, marks_ending, in_zone, outside_mark}
 use Rattle.wm_decode.specs.Grammar.{ValueType, ResultTypes, FunctionType, Desc, Import, Global, Target, Export, Element, Run, Code, DataByte, Segment, Expression}
 use Rattle.wm_decode.specs.exact.Runs.{ByteRead, byte_read, name_item, plain_item, zone_in}

@@ -16,18 +16,19 @@ use Rattle.wm_syntax.proofs.SameTypes.{block_tells}
 use Rattle.wm_syntax.specs.OpClasses.{class_of, first_byte}
 use Rattle.wm_syntax.specs.Opcodes.{opcode}
 use Rattle.wm_syntax.specs.Spelling.{Form, Byte as OneByte, ◌▸◌}
-use Rattle.wm_syntax.specs.Types.{SpellsU32, SpellsBlockType}
+use Rattle.wm_syntax.specs.Types.{SpellsU32, SpellsBlockType, SpellsGlobalType, SpellsValType}
+use Rattle.wm_syntax.specs.Profiles.{HasDesc, HasType}
 use Rattle.wm_syntax.specs.Instructions.{SpellsOp}
 use Rattle.wm_syntax.proofs.Unambiguous.{same_u32, same_simple}
 use Rattle.wm_syntax.proofs.OneInstruction.{class_there}
-use Rattle.wm_decode.specs.Sections.{kind_byte, header}
+use Rattle.wm_decode.specs.Sections.{SpellsDesc, kind_byte, header}
 use Rattle.wm_decode.specs.Items.{Item, entry, closing, Mark, Marks, new_type, param, result_count, one_result, import_module, import_name, import_desc, function, table, memory, global, const_op, export_name, export, start, element, element_function, body, locals, body_op, segment, data_byte}
 use Rattle.wm_decode.specs.MarkedForms.{MarkedForm, Empty, Byte, Literal, Then, Times, Leaf, Number, Vector, Index, Name, Sized, Filled, Entry, nothing_at, outside_mark, marks_ending, name_byte_marks, name_marks, in_zone, entry_marks}
-use Rattle.wm_decode.specs.Grammar.{loose, ValueType, ResultTypes, FunctionType, Import, HasLabels, IsExpression, EachOp, Expression, Global, Export, Element, Run, Code, DataByte, Segment, Paired, Contents, Section, Custom, Optional, Chain, Module}
+use Rattle.wm_decode.specs.Grammar.{loose, ValueType, ResultTypes, FunctionType, Import, HasLabels, IsExpression, EachOp, Expression, Global, HasGlobalType, Export, Element, Run, Code, DataByte, Segment, Paired, Contents, Section, Custom, Optional, Chain, Module}
 use Rattle.wm_syntax.specs.Instructions.{openings, endings}
 use Rattle.wm_decode.specs.Fronts.{IsFront}
 use Rattle.wm_decode.proofs.FirstBytes.{head_same, tail_same, not_nil}
-use Rattle.wm_decode.proofs.OneSpelling.{Same, Once, byte_same, same_as, tagged, once_then, once_type, once_limits, once_table, once_global_type, once_desc, once_kind}
+use Rattle.wm_decode.proofs.OneSpelling.{Same, Once, byte_same, same_as, tagged, once_then, once_type, once_those, once_limits, once_table, once_global_type, once_desc, once_kind, once_run}
 
 abbrev Done : Type 0
 Done = Unit {0}
