@@ -10,7 +10,7 @@ use Rattle.wm_syntax.specs.declared.why.Why.TheVariants as why
 use Rattle.wm_syntax.specs.declared.profile.Profile.{Profile}
 use Rattle.wm_syntax.specs.Profiles.{has, type_feature}
 use Rattle.wm_syntax.specs.declared.types.ValType.{ValType}
-use Rattle.wm_syntax.specs.declared.types.ValType.TheVariants.{F32, F64}
+use Rattle.wm_syntax.specs.declared.types.ValType.TheVariants.{I32, I64, F32, F64}
 use Rattle.wm_decode.specs.declared.machine.NameKind.{NameKind}
 use Rattle.wm_decode.specs.declared.machine.NameKind.TheVariants as name
 use Rattle.wm_decode.specs.declared.machine.Plain.TheVariants as plain
@@ -50,6 +50,7 @@ use Rattle.wm_decode.specs.exact.ExpressionSteps.{start, expression_step}
 use Rattle.wm_decode.specs.exact.MemberSteps.{on_number, on_value, on_type, with_item_given, after_param, after_result, after_name, after_length, name_step, functions_or_over, index_item, after_index, constant_over, after_constant, data_or_over, list_or_over, runs_or_body, entry_after_op, entry_step, member_in_entry, member_step}
 use Rattle.wm_decode.proofs.ExpressionSound.{expression_fault}
 use Rattle.wm_decode.proofs.OpSound.{IsOther}
+use Rattle.wm_decode.proofs.ValueBytes.{type_given}
 use Rattle.wm_decode.proofs.ExpressionRest.{IsInside}
 use Rattle.wm_decode.proofs.EntryBytes.{IsInEntry}
 
@@ -105,13 +106,13 @@ module _ (refusal : Why) (Fault : ℕ → Type 0) (other : (w : Why) → IsOther
   -- a type of floating-point numbers, where the profile may have it
   under_float : (p : Profile) (t : ValType) → IsFloatByte c → type_under p t ≡ Err refusal → Fault c
   under_float p t i =
-      cond_both (has p (type_feature t)) _ _ (λ (q : Result ValType Why). q ≡ Err refusal → Fault c) (λ _ e. cc) (λ _ e. float c (same_err why.Float refusal e) i)
+      cond_both (has p (type_feature t)) _ _ (λ (q : Result ValType Why). q ≡ Err refusal → Fault c) (λ _ e. type_given t refusal e) (λ _ e. float c (same_err why.Float refusal e) i)
 
   type_float : (p : Profile) → value_type_of p c ≡ Err refusal → Fault c
   type_float p =
       let P : Result ValType Why → Type 0 = λ q. q ≡ Err refusal → Fault c in
-      cond_both (nat_eq c 0x7F) _ _ P (λ _ e. cc)
-      (λ _. cond_both (nat_eq c 0x7E) _ _ P (λ _ e. cc)
+      cond_both (nat_eq c 0x7F) _ _ P (λ _ e. type_given I32 refusal e)
+      (λ _. cond_both (nat_eq c 0x7E) _ _ P (λ _ e. type_given I64 refusal e)
       (λ _. cond_both (nat_eq c 0x7D) _ _ P (λ a. under_float p F32 (inl (eqb-true c 0x7D a)))
       (λ _. cond_both (nat_eq c 0x7C) _ _ P (λ a. under_float p F64 (inr (inl (eqb-true c 0x7C a)))) (λ _ e. absurd (other why.BadByte tt (same_err why.BadByte refusal e))))))
 

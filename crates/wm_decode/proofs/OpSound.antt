@@ -5,7 +5,7 @@ use Rattle.std.proofs.lemmas.Bool.{cond_both, eqb-true, ltb-true}
 use Rattle.wm_syntax.specs.declared.profile.Profile.{Profile}
 use Rattle.wm_syntax.specs.Profiles.{has, type_feature}
 use Rattle.wm_syntax.specs.declared.types.ValType.{ValType}
-use Rattle.wm_syntax.specs.declared.types.ValType.TheVariants.{F32, F64}
+use Rattle.wm_syntax.specs.declared.types.ValType.TheVariants.{I32, I64, F32, F64}
 use Rattle.wm_syntax.specs.declared.why.Why.{Why}
 use Rattle.wm_syntax.specs.declared.why.Why.TheVariants as why
 use Rattle.wm_syntax.specs.declared.instructions.Op.{Op}
@@ -31,6 +31,7 @@ use Rattle.wm_decode.specs.exact.ValueSteps.{read_type, type_under, value_type_o
 use Rattle.wm_decode.proofs.Numbers.{Left}
 use Rattle.wm_decode.proofs.FloatBytes.{float_comes}
 use Rattle.wm_decode.proofs.OpRest.{at_offset, op_rest}
+use Rattle.wm_decode.proofs.ValueBytes.{type_given}
 use Rattle.wm_decode.specs.Decoding.{IsFloatByte}
 
 -- the number so far can still be ended, and is as small as its bytes say
@@ -197,12 +198,12 @@ module _ (name : Why) (Fault : ℕ → Type 0) (other : (w : Why) → IsOther w 
   -- a type of floating-point numbers, where the profile may have it
   under_faults : (p : Profile) (t : ValType) (c : ℕ) → IsFloatByte c → type_under p t ≡ Err name → Fault c
   under_faults p t c i =
-      cond_both (has p (type_feature t)) _ _ (λ (q : Result ValType Why). q ≡ Err name → Fault c) (λ _ e. cc) (λ _ e. float c (same_err why.Float name e) i)
+      cond_both (has p (type_feature t)) _ _ (λ (q : Result ValType Why). q ≡ Err name → Fault c) (λ _ e. type_given t name e) (λ _ e. float c (same_err why.Float name e) i)
 
   type_faults : (p : Profile) (c : ℕ) → value_type_of p c ≡ Err name → Fault c
   type_faults p c =
       let P : Result ValType Why → Type 0 = λ q. q ≡ Err name → Fault c in
-      cond_both (nat_eq c 0x7F) _ _ P (λ _ e. cc) (λ _. cond_both (nat_eq c 0x7E) _ _ P (λ _ e. cc)
+      cond_both (nat_eq c 0x7F) _ _ P (λ _ e. type_given I32 name e) (λ _. cond_both (nat_eq c 0x7E) _ _ P (λ _ e. type_given I64 name e)
       (λ _. cond_both (nat_eq c 0x7D) _ _ P (λ a. under_faults p F32 c (inl (eqb-true c 0x7D a)))
       (λ _. cond_both (nat_eq c 0x7C) _ _ P (λ a. under_faults p F64 c (inr (inl (eqb-true c 0x7C a)))) (λ _ e. absurd (other why.BadByte tt (same_err why.BadByte name e))))))
 

@@ -292,6 +292,10 @@ target_some (target.Index k r) t h = number_some r (Ends (exporting k) t) h
 abbrev pub export_of : ExportKind × ℕ → Plain
 export_of t = plain.Export t.0 t.1
 
+-- what is a type is not refused
+pub type_given : {A : Type 0} (t : ValType) (w : Why) → ◌≡◌ {A = Result ValType Why} (Ok t) (Err w) → A
+type_given t w e = absurd (cc)
+
 -- what names a value type, under a profile
 module _ (p : Profile) where
   -- value types

@@ -8,7 +8,7 @@ use Rattle.wm_syntax.specs.declared.why.Why.TheVariants as why
 use Rattle.wm_syntax.specs.declared.profile.Profile.{Profile}
 use Rattle.wm_syntax.specs.Profiles.{has, type_feature, HasType}
 use Rattle.wm_syntax.specs.declared.types.ValType.{ValType}
-use Rattle.wm_syntax.specs.declared.types.ValType.TheVariants.{F32, F64}
+use Rattle.wm_syntax.specs.declared.types.ValType.TheVariants.{I32, I64, F32, F64}
 use Rattle.wm_syntax.specs.declared.types.Limits.{Limits}
 use Rattle.wm_syntax.specs.declared.modules.ImportDesc.TheVariants as desc
 use Rattle.wm_syntax.specs.declared.instructions.Op.{Op}
@@ -51,7 +51,7 @@ use Rattle.wm_decode.specs.Meanings.{Wanted, spelled, an_instruction, a_value_ty
 use Rattle.wm_decode.proofs.FirstBytes.{head_same}
 use Rattle.wm_decode.proofs.Leaves.{IsReader}
 use Rattle.wm_decode.proofs.OpRest.{op_rest, at_offset}
-use Rattle.wm_decode.proofs.ValueBytes.{limits_rest, table_rest, global_rest, desc_rest, target_rest, run_rest, value_rest, export_of, type_answer, TypeAnswer}
+use Rattle.wm_decode.proofs.ValueBytes.{limits_rest, table_rest, global_rest, desc_rest, target_rest, run_rest, value_rest, export_of, type_answer, type_given, TypeAnswer}
 use Rattle.wm_decode.proofs.MustStand.{ValuesBegin, within, op_begins, block_begins, closed_begins, limits_begin, table_begins, global_begins, var_begins, desc_begins, target_begins, run_begins}
 
 -- what is found of the byte, where F says of what that it must stand here
@@ -121,14 +121,14 @@ module _ (F : Wanted → Type 0) (c : ℕ) (w : Why) where
   -- a type of floating-point numbers, where the profile may have it
   float_says : (p : Profile) (t : ValType) (x : Wanted) → F x → IsFloat x c → type_under p t ≡ Err w → Says F c w
   float_says p t x f i =
-      cond_both (has p (type_feature t)) _ _ (λ (q : Result ValType Why). q ≡ Err w → Says F c w) (λ _ e. absurd (cc))
+      cond_both (has p (type_feature t)) _ _ (λ (q : Result ValType Why). q ≡ Err w → Says F c w) (λ _ e. type_given t w e)
       (λ _ e. as_named F c why.Float w (x, f, i) (same_err why.Float w e))
 
   named_says : (p : Profile) (x : Wanted) → F x → (IsFloatType c → IsFloat x c) → ((IsFloatType c → ⊥) → IsOtherByte x c) → value_type_of p c ≡ Err w → Says F c w
   named_says p x f float other =
       let P : Result ValType Why → Type 0 = λ q. q ≡ Err w → Says F c w in
-      cond_both (nat_eq c 0x7F) _ _ P (λ _ e. absurd (cc))
-      (λ _. cond_both (nat_eq c 0x7E) _ _ P (λ _ e. absurd (cc))
+      cond_both (nat_eq c 0x7F) _ _ P (λ _ e. type_given I32 w e)
+      (λ _. cond_both (nat_eq c 0x7E) _ _ P (λ _ e. type_given I64 w e)
       (λ _. cond_both (nat_eq c 0x7D) _ _ P (λ a. float_says p F32 x f (float (inl (eqb-true c 0x7D a))))
       (λ a. cond_both (nat_eq c 0x7C) _ _ P (λ b. float_says p F64 x f (float (inr (eqb-true c 0x7C b))))
       (λ b e. as_named F c why.BadByte w (x, f, other (not_float c a b)) (same_err why.BadByte w e)))))
