@@ -32,10 +32,15 @@ zip_same R same (x ∷ xs) (x' ∷ xs') (y ∷ ys) h k =
     cc (first, rest)
 
 pub constants_same : (c d : Const) → constant c ≡ constant d → c ≡ d
+constants_same (const.I32 n) (const.I32 m) e = cc
 constants_same (const.I32 n) _ e = cc
+constants_same (const.I64 n) (const.I64 m) e = cc
 constants_same (const.I64 n) _ e = cc
+constants_same (const.F32 n) (const.F32 m) e = cc
 constants_same (const.F32 n) _ e = cc
+constants_same (const.F64 n) (const.F64 m) e = cc
 constants_same (const.F64 n) _ e = cc
+constants_same (const.Global n) (const.Global m) e = cc
 constants_same (const.Global n) _ e = cc
 
 ops_same : (c d : Const) → constant_ops c ≡ constant_ops d → c ≡ d

@@ -35,6 +35,7 @@ no_label _ h = tt
 
 -- an op is of the feature of its class
 simple_feature : (i : Simple) → class_feature (class_of (op.Simple i)) ≡ feature_of i
+simple_feature (s.Numeric x) = refl
 simple_feature (s.Load F32Load at) = refl
 simple_feature (s.Load F64Load at) = refl
 simple_feature (s.Load _ at) = refl
