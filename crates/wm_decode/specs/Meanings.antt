@@ -146,8 +146,8 @@ abbrev pub IsNoInstruction : Wanted → ℕ → Type 0
 IsNoInstruction an_instruction c = IsTrue (is_float c) → ⊥
 IsNoInstruction _ c = ⊥
 
--- Float (sections 5.3.1, 5.3.2, 5.4): an instruction on floating-point numbers, or a type of them. The profile
--- has neither, since nothing that must stand there begins with the byte.
+-- Float (sections 5.3.1, 5.3.2, 5.4): an instruction on floating-point numbers, or a type of them. The
+-- profile has neither, since nothing that must stand there begins with the byte.
 abbrev pub IsFloat : Wanted → ℕ → Type 0
 IsFloat an_instruction c = IsTrue (is_float c)
 IsFloat a_value_type c = IsFloatType c
