@@ -90,7 +90,7 @@ fn push_hexadecimal(line: &mut Batch, n: u64, most: usize)
     line.push_byte(hex_digit((n % 16) as u8));
 }
 
-// Adds a number, by its fraction in units of 16^-13 and by its exponent, which is with the bias in it.
+// Adds a number, by its fraction, which is n / 16^13, and its exponent, which has the bias in it.
 fn push_finite(line: &mut Batch, n: u64, bias: u32, exponent: u32)
     requires few { n < 16 ^ 13 }
     requires room { length line.old + 29 ≤ 64 }
@@ -170,6 +170,7 @@ fn push_exponent(line: &mut Batch, bias: u32, exponent: u32)
     }
 }
 
+// Adds an exponent that is not negative.
 fn push_above(line: &mut Batch, exponent: u32)
     requires { length line.old + 12 ≤ 64 }
     ensures { line.new ≡ line.old ++ (codes "p+" ++ decimal exponent) }
