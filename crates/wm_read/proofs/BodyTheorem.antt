@@ -35,13 +35,13 @@ module _ (use_at : Reader ℕ) (p : Profile) (sc : Scope) (uses : ReadsUse use_a
       (t.0, t.1, ops_complete use_at p sc uses scope [] tt t.0 front rest t.2 f)
 
 -- with type uses, and identifiers that are distinct in their spaces
-pub body_read : (p : Profile) (sc : Scope) → IsScope sc → AreDistinct sc.names.types → (k rest : List Token) (ops : List Op) → ops_at (type_use_at sc.names) p sc [] k ≡ Some (ops, rest)
+pub body_read : (p : Profile) (sc : Scope) → IsScope sc → AreDistinct sc.names.types → (k rest : List Token) (ops : List Op) → ops_at (type_use_at p sc.names) p sc [] k ≡ Some (ops, rest)
     → (s : Instructions) × (front : List Token) × (k ≡ front ++ rest) × BeginsClose rest × HasOps s ops × WritesInstructions sc [] s front × HasInstructions p s
-body_read p sc scope d k rest ops e = read_is_written (type_use_at sc.names) p sc (reads_use sc.names d) scope k rest ops e
+body_read p sc scope d k rest ops e = read_is_written (type_use_at p sc.names) p sc (reads_use p sc.names d) scope k rest ops e
 
 pub body_written : (p : Profile) (sc : Scope) → IsScope sc → AreDistinct sc.names.types → (s : Instructions) (front rest : List Token) → WritesInstructions sc [] s front → HasInstructions p s → BeginsClose rest
-    → (ops : List Op) × HasOps s ops × (ops_at (type_use_at sc.names) p sc [] (front ++ rest) ≡ Some (ops, rest))
-body_written p sc scope d s front rest h g f = written_is_read (type_use_at sc.names) p sc (reads_use sc.names d) scope s front rest h g f
+    → (ops : List Op) × HasOps s ops × (ops_at (type_use_at p sc.names) p sc [] (front ++ rest) ≡ Some (ops, rest))
+body_written p sc scope d s front rest h g f = written_is_read (type_use_at p sc.names) p sc (reads_use p sc.names d) scope s front rest h g f
 
 -- ---- as the laws say it
 
@@ -61,7 +61,7 @@ tree_is s ops h = ap body_in (leads s ops h)
 pub law_read : (p : Profile) (sc : Scope) (k rest : List Token) (s : Instructions) → HasDistinct sc.names → AreDistinct sc.locals → instructions_at p sc k ≡ Some (s, rest)
     → (front more : List Token) × (k ≡ front ++ close_paren ∷ more) × (rest ≡ close_paren ∷ more) × WritesInstructions sc [] s front × HasInstructions p s
 law_read p sc k rest s d l e =
-    let g = bind_ok (ops_at (type_use_at sc.names) p sc [] k) (λ x. Some (tree_of x.0, x.1)) (s, rest) e in
+    let g = bind_ok (ops_at (type_use_at p sc.names) p sc [] k) (λ x. Some (tree_of x.0, x.1)) (s, rest) e in
     let is : ◌≡◌ {A = Instructions × List Token} (tree_of g.0.0, g.0.1) (s, rest) = same_some (tree_of g.0.0, g.0.1) (s, rest) g.2 in
     let b = body_read p sc (is_scope sc d l) d.types k g.0.1 g.0.0 g.1 in
     let c = closes g.0.1 b.3 in
@@ -72,7 +72,7 @@ pub law_written : (p : Profile) (sc : Scope) (front more : List Token) (s : Inst
     → instructions_at p sc (front ++ close_paren ∷ more) ≡ Some (s, close_paren ∷ more)
 law_written p sc front more s d l w h =
     let b = body_written p sc (is_scope sc d l) d.types s front (close_paren ∷ more) w h tt in
-    made_is tree_of (ops_at (type_use_at sc.names) p sc [] (front ++ close_paren ∷ more)) b.0 (close_paren ∷ more) b.2 ∙ ap (λ (z : Instructions). Some (z, close_paren ∷ more)) (tree_is s b.0 b.1)
+    made_is tree_of (ops_at (type_use_at p sc.names) p sc [] (front ++ close_paren ∷ more)) b.0 (close_paren ∷ more) b.2 ∙ ap (λ (z : Instructions). Some (z, close_paren ∷ more)) (tree_is s b.0 b.1)
 
 -- what tokens write is one list of instructions
 pub law_one : (p : Profile) (sc : Scope) (front : List Token) (s t : Instructions) → HasDistinct sc.names → AreDistinct sc.locals → WritesInstructions sc [] s front → HasInstructions p s

@@ -110,13 +110,13 @@ field_found a x e =
 module _ (p : Profile) (names : Names) (Fn : Function → Form Token) (fn_sound : Sound (function_at p names) Fn) where
   inside_sound : (x : FieldKind) → Sound (inside_at p names x) (OfKind Fn names x)
   inside_sound kind.Type =
-      made_sound (λ x. type_field x.0 x.1) (then_at id_at signature_at) (Both WritesId WritesSignature) (OfKind Fn names kind.Type)
-      (then_sound id_at signature_at WritesId WritesSignature id_sound signature_sound) (λ x front h. (refl, h))
+      made_sound (λ x. type_field x.0 x.1) (then_at id_at (signature_at p)) (Both WritesId WritesSignature) (OfKind Fn names kind.Type)
+      (then_sound id_at (signature_at p) WritesId WritesSignature id_sound (signature_sound p)) (λ x front h. (refl, h))
   inside_sound kind.Import =
-      made_sound (λ x. import_field x.1.1.0 (record { module_name = x.0; item_name = x.1.0; desc = x.1.1.1 })) (then_at name_at (then_at name_at (desc_at names)))
+      made_sound (λ x. import_field x.1.1.0 (record { module_name = x.0; item_name = x.1.0; desc = x.1.1.1 })) (then_at name_at (then_at name_at (desc_at p names)))
       (Both WritesName (Both WritesName (Desc names))) (OfKind Fn names kind.Import)
-      (then_sound name_at (then_at name_at (desc_at names)) WritesName (Both WritesName (Desc names)) name_sound
-      (then_sound name_at (desc_at names) WritesName (Desc names) name_sound (desc_sound names))) (λ x front h. (refl, h))
+      (then_sound name_at (then_at name_at (desc_at p names)) WritesName (Both WritesName (Desc names)) name_sound
+      (then_sound name_at (desc_at p names) WritesName (Desc names) name_sound (desc_sound p names))) (λ x front h. (refl, h))
   inside_sound kind.Func =
       made_sound (λ x. function_field x.0 x.1) (then_at id_at (function_at p names)) (Both WritesId Fn) (OfKind Fn names kind.Func)
       (then_sound id_at (function_at p names) WritesId Fn id_sound fn_sound) (λ x front h. (refl, h))
@@ -127,9 +127,9 @@ module _ (p : Profile) (names : Names) (Fn : Function → Form Token) (fn_sound 
       made_sound (λ x. memory_field x.0 x.1) (then_at id_at limits_at) (Both WritesId WritesLimits) (OfKind Fn names kind.Memory)
       (then_sound id_at limits_at WritesId WritesLimits id_sound limits_sound) (λ x front h. (refl, h))
   inside_sound kind.Global =
-      made_sound (λ x. global_field x.0 (record { ty = x.1.0; init = x.1.1 })) (then_at id_at (then_at global_type_at (const_at p names))) (Both WritesId (Both GlobalForm (WritesConst names))) (OfKind Fn names kind.Global)
-      (then_sound id_at (then_at global_type_at (const_at p names)) WritesId (Both GlobalForm (WritesConst names)) id_sound
-      (then_sound global_type_at (const_at p names) GlobalForm (WritesConst names) global_type_sound (const_sound p names))) (λ x front h. (refl, h))
+      made_sound (λ x. global_field x.0 (record { ty = x.1.0; init = x.1.1 })) (then_at id_at (then_at (global_type_at p) (const_at p names))) (Both WritesId (Both GlobalForm (WritesConst names))) (OfKind Fn names kind.Global)
+      (then_sound id_at (then_at (global_type_at p) (const_at p names)) WritesId (Both GlobalForm (WritesConst names)) id_sound
+      (then_sound (global_type_at p) (const_at p names) GlobalForm (WritesConst names) (global_type_sound p) (const_sound p names))) (λ x front h. (refl, h))
   inside_sound kind.Export =
       made_sound (λ x. export_field (record { name = x.0; kind = x.1.0; index = x.1.1 })) (then_at name_at (item_at names)) (Both WritesName (Item names)) (OfKind Fn names kind.Export)
       (then_sound name_at (item_at names) WritesName (Item names) name_sound (item_sound names)) (λ x front h. (refl, h))
@@ -162,12 +162,12 @@ module _ (p : Profile) (names : Names) (d : HasDistinct names) where
 
   inside_complete : (f : Field) (front rest : List Token) → Inside (FunctionAt p names) names f front → BeginsClose rest → inside_at p names (kind_of f) (front ++ rest) ≡ Some (f, rest)
   inside_complete (type_field id f) front rest h c =
-      made_is (λ x. type_field x.0 x.1) (then_at id_at signature_at (front ++ rest)) (id, f) rest
-      (then_complete id_at signature_at WritesId WritesSignature NotId Any id_complete signature_complete (λ y a b w g. signature_not_id y a b w) (id, f) front rest h tt)
+      made_is (λ x. type_field x.0 x.1) (then_at id_at (signature_at p) (front ++ rest)) (id, f) rest
+      (then_complete id_at (signature_at p) WritesId WritesSignature NotId Any id_complete (signature_complete p) (λ y a b w g. signature_not_id y a b w) (id, f) front rest h tt)
   inside_complete (import_field id i) front rest h c =
-      made_is (λ x. import_field x.1.1.0 (record { module_name = x.0; item_name = x.1.0; desc = x.1.1.1 })) (then_at name_at (then_at name_at (desc_at names)) (front ++ rest)) (i.module_name, (i.item_name, (id, i.desc))) rest
-      (then_complete name_at (then_at name_at (desc_at names)) WritesName (Both WritesName (Desc names)) Any Any name_complete
-      (then_complete name_at (desc_at names) WritesName (Desc names) Any Any name_complete (desc_complete names d) (λ y a b w g. tt)) (λ y a b w g. tt)
+      made_is (λ x. import_field x.1.1.0 (record { module_name = x.0; item_name = x.1.0; desc = x.1.1.1 })) (then_at name_at (then_at name_at (desc_at p names)) (front ++ rest)) (i.module_name, (i.item_name, (id, i.desc))) rest
+      (then_complete name_at (then_at name_at (desc_at p names)) WritesName (Both WritesName (Desc names)) Any Any name_complete
+      (then_complete name_at (desc_at p names) WritesName (Desc names) Any Any name_complete (desc_complete p names d) (λ y a b w g. tt)) (λ y a b w g. tt)
       (i.module_name, (i.item_name, (id, i.desc))) front rest h tt)
   inside_complete (function_field id f) front rest h c =
       made_is (λ x. function_field x.0 x.1) (then_at id_at (function_at p names) (front ++ rest)) (id, f) rest
@@ -179,9 +179,9 @@ module _ (p : Profile) (names : Names) (d : HasDistinct names) where
       made_is (λ x. memory_field x.0 x.1) (then_at id_at limits_at (front ++ rest)) (id, l) rest
       (then_complete id_at limits_at WritesId WritesLimits NotId NoNumber id_complete limits_complete (λ y a b w g. number_not_id a b y w) (id, l) front rest h (close_number rest c))
   inside_complete (global_field id g) front rest h c =
-      made_is (λ x. global_field x.0 (record { ty = x.1.0; init = x.1.1 })) (then_at id_at (then_at global_type_at (const_at p names)) (front ++ rest)) (id, (g.ty, g.init)) rest
-      (then_complete id_at (then_at global_type_at (const_at p names)) WritesId (Both GlobalForm (WritesConst names)) NotId Any id_complete
-      (then_complete global_type_at (const_at p names) GlobalForm (WritesConst names) Any Any global_type_complete (const_complete p names d) (λ y a b w i. tt)) (λ y a b w i. global_not_id y a b w)
+      made_is (λ x. global_field x.0 (record { ty = x.1.0; init = x.1.1 })) (then_at id_at (then_at (global_type_at p) (const_at p names)) (front ++ rest)) (id, (g.ty, g.init)) rest
+      (then_complete id_at (then_at (global_type_at p) (const_at p names)) WritesId (Both GlobalForm (WritesConst names)) NotId Any id_complete
+      (then_complete (global_type_at p) (const_at p names) GlobalForm (WritesConst names) Any Any (global_type_complete p) (const_complete p names d) (λ y a b w i. tt)) (λ y a b w i. global_not_id y a b w)
       (id, (g.ty, g.init)) front rest h tt)
   inside_complete (export_field e) front rest h c =
       made_is (λ x. export_field (record { name = x.0; kind = x.1.0; index = x.1.1 })) (then_at name_at (item_at names) (front ++ rest)) (e.name, (e.kind, e.index)) rest

@@ -152,15 +152,15 @@ abbrev scope_with : Names → Scope
 scope_with names = record { names = names; locals = [] }
 
 module _ (p : Profile) (names : Names) where
-  piece_is : (w : List ℕ) (c : OpClass) (t : List Token) (q : Piece) (rest : List Token) → class_named p w ≡ c → class_at (call_use_at names) (scope_with names) [] c t ≡ Some (q, rest)
-      → piece_at (call_use_at names) p (scope_with names) [] w t ≡ Some (q, rest)
+  piece_is : (w : List ℕ) (c : OpClass) (t : List Token) (q : Piece) (rest : List Token) → class_named p w ≡ c → class_at (call_use_at p names) (scope_with names) [] c t ≡ Some (q, rest)
+      → piece_at (call_use_at p names) p (scope_with names) [] w t ≡ Some (q, rest)
   unfolding piece_at
-  piece_is w c t q rest n e = ap (λ (z : OpClass). class_at (call_use_at names) (scope_with names) [] z t) n ∙ e
+  piece_is w c t q rest n e = ap (λ (z : OpClass). class_at (call_use_at p names) (scope_with names) [] z t) n ∙ e
 
   -- a constant is the instruction that a body would have there
   number_piece : {X : Type 0} (f : X → Const) (r : Reader X) (w : List ℕ) (kind : Immediates) (t : List Token) (c : Const) (rest : List Token) → class_named p w ≡ class.With kind
-      → ((k : List Token) → kind_at (call_use_at names) (scope_with names) [] kind k ≡ made (λ x. plain (constant (f x))) (r k)) → made f (r t) ≡ Some (c, rest)
-      → piece_at (call_use_at names) p (scope_with names) [] w t ≡ Some (plain (constant c), rest)
+      → ((k : List Token) → kind_at (call_use_at p names) (scope_with names) [] kind k ≡ made (λ x. plain (constant (f x))) (r k)) → made f (r t) ≡ Some (c, rest)
+      → piece_at (call_use_at p names) p (scope_with names) [] w t ≡ Some (plain (constant c), rest)
   number_piece {X} f r w kind t c rest n reads e =
       let g = bind_ok (r t) (λ x. Some (f x.0, x.1)) (c, rest) e in
       let is : ◌≡◌ {A = Const × List Token} (f g.0.0, g.0.1) (c, rest) = same_some (f g.0.0, g.0.1) (c, rest) g.2 in
@@ -168,14 +168,14 @@ module _ (p : Profile) (names : Names) where
       (reads t ∙ made_is (λ x. plain (constant (f x))) (r t) g.0.0 g.0.1 g.1 ∙ ap (λ (z : Const × List Token). Some (plain (constant z.0), z.1)) is)
 
   kind_piece : (w : List ℕ) (kind : Immediates) (t : List Token) (c : Const) (rest : List Token) → class_named p w ≡ class.With kind → const_kind names kind t ≡ Some (c, rest)
-      → piece_at (call_use_at names) p (scope_with names) [] w t ≡ Some (plain (constant c), rest)
+      → piece_at (call_use_at p names) p (scope_with names) [] w t ≡ Some (plain (constant c), rest)
   kind_piece w k.I32Const t c rest n e = number_piece const.I32 (atom_at (integer_of 32)) w k.I32Const t c rest n (λ k. refl) e
   kind_piece w k.I64Const t c rest n e = number_piece const.I64 (atom_at (integer_of 64)) w k.I64Const t c rest n (λ k. refl) e
   kind_piece w k.GlobalGet t c rest n e = number_piece const.Global (atom_at (index_of names.globals)) w k.GlobalGet t c rest n (λ k. refl) e
   kind_piece w _ t c rest n e = absurd cc
 
   class_piece : (w : List ℕ) (o : OpClass) (t : List Token) (c : Const) (rest : List Token) → class_named p w ≡ o → const_class names o t ≡ Some (c, rest)
-      → piece_at (call_use_at names) p (scope_with names) [] w t ≡ Some (plain (constant c), rest)
+      → piece_at (call_use_at p names) p (scope_with names) [] w t ≡ Some (plain (constant c), rest)
   class_piece w (class.With kind) t c rest n e = kind_piece w kind t c rest n e
   class_piece w (class.Plain o) t c rest n e = absurd cc
   class_piece w class.Float t c rest n e = absurd cc
@@ -187,7 +187,7 @@ module _ (p : Profile) (names : Names) where
   const_sound (close_paren ∷ k) c rest e = absurd cc
   const_sound (string b ∷ k) c rest e = absurd cc
   const_sound (atom w ∷ k) c rest e =
-      let g = piece_sound (call_use_at names) (scope_with names) (call_sound names) p [] w k (plain (constant c)) rest (class_piece w (class_named p w) k c rest refl e) in
+      let g = piece_sound (call_use_at p names) (scope_with names) (call_sound p names) p [] w k (plain (constant c)) rest (class_piece w (class_named p w) k c rest refl e) in
       (atom w ∷ g.0, ap (λ (z : List Token). atom w ∷ z) g.1, g.2.0)
 
   const_word : (c : Const) (t : List Token) → const_at p names (atom (opcode (constant c)).1 ∷ t) ≡ const_class names (class_of (op.Simple (constant c))) t
@@ -253,12 +253,12 @@ from_desc names id (desc.Table d) k (a, b, e, w, (f, c, e2, (g, h, e3, i, t), l)
 from_desc names id (desc.Memory d) k (a, b, e, w, (f, c, e2, (g, h, e3, i, t), l)) = (a, b, e, w, (f, c, e2, (g, h, e3, i, (refl, t)), l))
 from_desc names id (desc.Global d) k (a, b, e, w, (f, c, e2, (g, h, e3, i, t), l)) = (a, b, e, w, (f, c, e2, (g, h, e3, i, (refl, t)), l))
 
-kind_sound : (names : Names) (x : ExportKind) → Sound (desc_kind names x) (OfKind names x)
-kind_sound names kind.Func =
-    made_sound (λ (u : ℕ × List Named). desc.Func u.0) (named_use_at names) (λ y. TypeUse names y.0 y.1) (OfKind names kind.Func) (uses_are_written names) (λ u front h. (refl, (u.1, h)))
-kind_sound names kind.Table = made_sound desc.Table table_type_at WritesTableType (OfKind names kind.Table) table_type_sound (λ u front h. (refl, h))
-kind_sound names kind.Memory = made_sound desc.Memory limits_at WritesLimits (OfKind names kind.Memory) limits_sound (λ u front h. (refl, h))
-kind_sound names kind.Global = made_sound desc.Global global_type_at (λ g. WritesGlobalType g.var g.ty) (OfKind names kind.Global) global_type_sound (λ u front h. (refl, h))
+kind_sound : (pr : Profile) (names : Names) (x : ExportKind) → Sound (desc_kind pr names x) (OfKind names x)
+kind_sound pr names kind.Func =
+    made_sound (λ (u : ℕ × List Named). desc.Func u.0) (named_use_at pr names) (λ y. TypeUse names y.0 y.1) (OfKind names kind.Func) (uses_are_written pr names) (λ u front h. (refl, (u.1, h)))
+kind_sound pr names kind.Table = made_sound desc.Table table_type_at WritesTableType (OfKind names kind.Table) table_type_sound (λ u front h. (refl, h))
+kind_sound pr names kind.Memory = made_sound desc.Memory limits_at WritesLimits (OfKind names kind.Memory) limits_sound (λ u front h. (refl, h))
+kind_sound pr names kind.Global = made_sound desc.Global (global_type_at pr) (λ g. WritesGlobalType g.var g.ty) (OfKind names kind.Global) (global_type_sound pr) (λ u front h. (refl, h))
 
 close_uses : (k : List Token) → BeginsClose k → UseEnds k
 close_uses [] f = absurd f
@@ -274,12 +274,12 @@ close_number (close_paren ∷ k) f = tt
 close_number (string b ∷ k) f = absurd f
 close_number (atom a ∷ k) f = absurd f
 
-kind_complete : (names : Names) → HasDistinct names → (d : ImportDesc) (front rest : List Token) → DescType names d front → BeginsClose rest → desc_kind names (desc_space d) (front ++ rest) ≡ Some (d, rest)
-kind_complete names n (desc.Func x) front rest (ps, h) f =
-    made_is (λ (u : ℕ × List Named). desc.Func u.0) (named_use_at names (front ++ rest)) (x, ps) rest (uses_are_read names n.types (x, ps) front rest h (close_uses rest f))
-kind_complete names n (desc.Table l) front rest h f = made_is desc.Table (table_type_at (front ++ rest)) l rest (table_type_complete l front rest h tt)
-kind_complete names n (desc.Memory l) front rest h f = made_is desc.Memory (limits_at (front ++ rest)) l rest (limits_complete l front rest h (close_number rest f))
-kind_complete names n (desc.Global g) front rest h f = made_is desc.Global (global_type_at (front ++ rest)) g rest (global_type_complete g front rest h tt)
+kind_complete : (pr : Profile) (names : Names) → HasDistinct names → (d : ImportDesc) (front rest : List Token) → DescType names d front → BeginsClose rest → desc_kind pr names (desc_space d) (front ++ rest) ≡ Some (d, rest)
+kind_complete pr names n (desc.Func x) front rest (ps, h) f =
+    made_is (λ (u : ℕ × List Named). desc.Func u.0) (named_use_at pr names (front ++ rest)) (x, ps) rest (uses_are_read pr names n.types (x, ps) front rest h (close_uses rest f))
+kind_complete pr names n (desc.Table l) front rest h f = made_is desc.Table (table_type_at (front ++ rest)) l rest (table_type_complete l front rest h tt)
+kind_complete pr names n (desc.Memory l) front rest h f = made_is desc.Memory (limits_at (front ++ rest)) l rest (limits_complete l front rest h (close_number rest f))
+kind_complete pr names n (desc.Global g) front rest h f = made_is desc.Global (global_type_at pr (front ++ rest)) g rest (global_type_complete pr g front rest h tt)
 
 -- what may stand after an identifier is none
 pub number_not_id : (front rest : List Token) (l : Limits) → WritesLimits l front → NotId (front ++ rest)
@@ -307,17 +307,17 @@ desc_not_id names (desc.Global g) front rest h = type_not_id g.var g.ty front re
 abbrev WritesItem : Names → Id × ImportDesc → Form Token
 WritesItem names x = WritesDesc names x.0 x.1
 
-pub desc_sound : (names : Names) → Sound (desc_at names) (WritesItem names)
-desc_sound names k x rest e =
-    let g = headed_sound item_named item_word (λ kind. then_at id_at (desc_kind names kind)) (λ kind. Both WritesId (OfKind names kind)) item_found
-    (λ kind. then_sound id_at (desc_kind names kind) WritesId (OfKind names kind) id_sound (kind_sound names kind)) k x rest e in
+pub desc_sound : (pr : Profile) (names : Names) → Sound (desc_at pr names) (WritesItem names)
+desc_sound pr names k x rest e =
+    let g = headed_sound item_named item_word (λ kind. then_at id_at (desc_kind pr names kind)) (λ kind. Both WritesId (OfKind names kind)) item_found
+    (λ kind. then_sound id_at (desc_kind pr names kind) WritesId (OfKind names kind) id_sound (kind_sound pr names kind)) k x rest e in
     (g.0, g.1, to_desc names x.0 x.1 g.2.0 g.0 g.2.1)
 
-pub desc_complete : (names : Names) → HasDistinct names → Complete (desc_at names) (WritesItem names) Any
-desc_complete names n (id, d) front rest h f =
-    headed_complete item_named item_word (λ kind. then_at id_at (desc_kind names kind)) (Both WritesId (OfKind names (desc_space d))) (desc_space d) (item_more (desc_space d))
-    (then_complete id_at (desc_kind names (desc_space d)) WritesId (OfKind names (desc_space d)) NotId BeginsClose id_complete
-    (λ y a b w g. ap (λ (z : ExportKind). desc_kind names z (a ++ b)) (sym w.0) ∙ kind_complete names n y a b w.1 g) (λ y a b w g. desc_not_id names y a b w.1))
+pub desc_complete : (pr : Profile) (names : Names) → HasDistinct names → Complete (desc_at pr names) (WritesItem names) Any
+desc_complete pr names n (id, d) front rest h f =
+    headed_complete item_named item_word (λ kind. then_at id_at (desc_kind pr names kind)) (Both WritesId (OfKind names (desc_space d))) (desc_space d) (item_more (desc_space d))
+    (then_complete id_at (desc_kind pr names (desc_space d)) WritesId (OfKind names (desc_space d)) NotId BeginsClose id_complete
+    (λ y a b w g. ap (λ (z : ExportKind). desc_kind pr names z (a ++ b)) (sym w.0) ∙ kind_complete pr names n y a b w.1 g) (λ y a b w g. desc_not_id names y a b w.1))
     (id, d) front rest (from_desc names id d front h)
 
 -- ---- what is exported

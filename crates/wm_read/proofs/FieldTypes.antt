@@ -3,6 +3,7 @@ use Rattle.std.proofs.Common.{◌≡◌, ℕ, Bool, true, false, ◌||◌, List,
 use Rattle.std.specs.Prelude.{codes}
 use Rattle.std.proofs.lemmas.Bool.{cond-false, cond-true}
 use Rattle.wm_syntax.specs.declared.types.ValType.{ValType}
+use Rattle.wm_syntax.specs.declared.profile.Profile.{Profile}
 use Rattle.wm_read.specs.Tokens.{Token, open_paren, close_paren, string, atom, IsUnsigned}
 use Rattle.wm_read.specs.Fields.{WritesGlobalType, WritesLimits, WritesMax, WritesTableType}
 use Rattle.wm_read.specs.Written.{Number, Word, WritesType, type_text}
@@ -70,31 +71,31 @@ limits_complete l front rest h f =
 
 -- ---- global types
 
-mut_sound : Sound (paren_at (codes "mut") (atom_at type_of)) (WritesGlobalType true)
-mut_sound = paren_sound (codes "mut") (atom_at type_of) WritesType type_sound
+mut_sound : (pr : Profile) → Sound (paren_at (codes "mut") (atom_at (type_of pr))) (WritesGlobalType true)
+mut_sound pr = paren_sound (codes "mut") (atom_at (type_of pr)) WritesType (type_sound pr)
 
-const_sound : Sound (λ k. atom_at type_of k >>= λ t. Some (const_type t.0, t.1)) (λ g. WritesGlobalType g.var g.ty)
-const_sound = made_sound const_type (atom_at type_of) WritesType (λ g. WritesGlobalType g.var g.ty) type_sound (λ t front h. h)
+const_sound : (pr : Profile) → Sound (λ k. atom_at (type_of pr) k >>= λ t. Some (const_type t.0, t.1)) (λ g. WritesGlobalType g.var g.ty)
+const_sound pr = made_sound const_type (atom_at (type_of pr)) WritesType (λ g. WritesGlobalType g.var g.ty) (type_sound pr) (λ t front h. h)
 
-pub global_type_sound : Sound global_type_at (λ g. WritesGlobalType g.var g.ty)
-global_type_sound [] g rest e = const_sound [] g rest e
-global_type_sound (close_paren ∷ k) g rest e = const_sound (close_paren ∷ k) g rest e
-global_type_sound (string b ∷ k) g rest e = const_sound (string b ∷ k) g rest e
-global_type_sound (atom a ∷ k) g rest e = const_sound (atom a ∷ k) g rest e
-global_type_sound (open_paren ∷ k) g rest e =
-    made_sound var_type (paren_at (codes "mut") (atom_at type_of)) (WritesGlobalType true) (λ g. WritesGlobalType g.var g.ty) mut_sound (λ t front h. h) (open_paren ∷ k) g rest e
+pub global_type_sound : (pr : Profile) → Sound (global_type_at pr) (λ g. WritesGlobalType g.var g.ty)
+global_type_sound pr [] g rest e = const_sound pr [] g rest e
+global_type_sound pr (close_paren ∷ k) g rest e = const_sound pr (close_paren ∷ k) g rest e
+global_type_sound pr (string b ∷ k) g rest e = const_sound pr (string b ∷ k) g rest e
+global_type_sound pr (atom a ∷ k) g rest e = const_sound pr (atom a ∷ k) g rest e
+global_type_sound pr (open_paren ∷ k) g rest e =
+    made_sound var_type (paren_at (codes "mut") (atom_at (type_of pr))) (WritesGlobalType true) (λ g. WritesGlobalType g.var g.ty) (mut_sound pr) (λ t front h. h) (open_paren ∷ k) g rest e
 
-pub global_type_complete : Complete global_type_at (λ g. WritesGlobalType g.var g.ty) Any
-global_type_complete g front rest h f = by g.var g.ty h
+pub global_type_complete : (pr : Profile) → Complete (global_type_at pr) (λ g. WritesGlobalType g.var g.ty) Any
+global_type_complete pr g front rest h f = by g.var g.ty h
   where
-    by : (var : Bool) (t : ValType) → WritesGlobalType var t front → global_type_at (front ++ rest) ≡ Some (record { ty = t; var = var }, rest)
-    by false t e = ap (λ (z : List Token). global_type_at (z ++ rest)) e ∙ made_is const_type (atom_at type_of (atom (type_text t) ∷ rest)) t rest (type_complete t (atom (type_text t) ∷ []) rest refl tt)
+    by : (var : Bool) (t : ValType) → WritesGlobalType var t front → global_type_at pr (front ++ rest) ≡ Some (record { ty = t; var = var }, rest)
+    by false t e = ap (λ (z : List Token). global_type_at pr (z ++ rest)) e ∙ made_is const_type (atom_at (type_of pr) (atom (type_text t) ∷ rest)) t rest (type_complete pr t (atom (type_text t) ∷ []) rest refl tt)
     by true t (a, b, e, is, more) =
         let text : front ++ rest ≡ open_paren ∷ atom (codes "mut") ∷ (b ++ rest) = ap (λ (z : List Token). z ++ rest) (e ∙ ap (λ (z : List Token). z ++ b) is) in
-        ap global_type_at text
-        ∙ made_is var_type (paren_at (codes "mut") (atom_at type_of) (open_paren ∷ atom (codes "mut") ∷ (b ++ rest))) t rest
-        (ap (paren_at (codes "mut") (atom_at type_of)) (sym text)
-        ∙ paren_complete (codes "mut") (atom_at type_of) WritesType (λ u x r w i. type_complete u x r w tt) t front rest (a, b, e, is, more) tt)
+        ap (global_type_at pr) text
+        ∙ made_is var_type (paren_at (codes "mut") (atom_at (type_of pr)) (open_paren ∷ atom (codes "mut") ∷ (b ++ rest))) t rest
+        (ap (paren_at (codes "mut") (atom_at (type_of pr))) (sym text)
+        ∙ paren_complete (codes "mut") (atom_at (type_of pr)) WritesType (λ u x r w i. type_complete pr u x r w tt) t front rest (a, b, e, is, more) tt)
 
 -- ---- table types
 

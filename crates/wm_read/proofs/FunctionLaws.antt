@@ -39,14 +39,14 @@ FunctionAt p names f k =
 abbrev IsUse : Names → ℕ × List Named → Form Token
 IsUse names y = TypeUse names y.0 y.1
 
-abbrev head_at : Names → Reader ((ℕ × List Named) × List Named)
-head_at names = then_at (named_use_at names) (named_at (codes "local"))
+abbrev head_at : (pr : Profile) → Names → Reader ((ℕ × List Named) × List Named)
+head_at pr names = then_at (named_use_at pr names) (named_at pr (codes "local"))
 
 pub function_sound : (p : Profile) (names : Names) → HasDistinct names → Sound (function_at p names) (FunctionAt p names)
 unfolding function_at
 function_sound p names d k f rest e =
-    let a = bind_ok (head_at names k) (λ h. function_by p names h.0.0.0 h.0.0.1 h.0.1 h.1) (f, rest) e in
-    let one = then_sound (named_use_at names) (named_at (codes "local")) (IsUse names) (WritesGroups (codes "local")) (uses_are_written names) (groups_are_written (codes "local")) k a.0.0 a.0.1 a.1 in
+    let a = bind_ok (head_at p names k) (λ h. function_by p names h.0.0.0 h.0.0.1 h.0.1 h.1) (f, rest) e in
+    let one = then_sound (named_use_at p names) (named_at p (codes "local")) (IsUse names) (WritesGroups (codes "local")) (uses_are_written p names) (groups_are_written p (codes "local")) k a.0.0 a.0.1 a.1 in
     elim (chosen (is_function a.0.0.0.1 a.0.0.1) (function_of a.0.0.0.0 a.0.0.0.1 a.0.0.1 p names a.0.1) None (Some (f, rest)) a.2) [
       | inl t ↦ by a.0.0.0.0 a.0.0.0.1 a.0.0.1 a.0.1 one.0 one.1 one.2 t.0 t.1
       | inr t ↦ absurd (let n : ◌≡◌ {A = Option (Function × List Token)} None (Some (f, rest)) = t.1 in cc)
@@ -113,9 +113,9 @@ function_complete p names d f front rest (params, locals, types, few, distinct, 
     let text : front ++ rest ≡ (u ++ x) ++ (y ++ rest) =
     ap (λ (z : List Token). z ++ rest) (e ∙ ap (λ (z : List Token). u ++ z) e2 ∙ sym (append_assoc u x y)) ∙ append_assoc (u ++ x) y rest in
     ap (function_at p names) text
-    ∙ bind_is (head_at names ((u ++ x) ++ (y ++ rest))) (λ h. function_by p names h.0.0.0 h.0.0.1 h.0.1 h.1) (((f.type_index, params), locals), y ++ rest)
-    (then_complete (named_use_at names) (named_at (codes "local")) (IsUse names) (WritesGroups (codes "local")) UseEnds HeadEnds
-    (uses_are_read names d.types) (λ ls a b w g. groups_are_read (codes "local") ls a b w g.0) locals_end
+    ∙ bind_is (head_at p names ((u ++ x) ++ (y ++ rest))) (λ h. function_by p names h.0.0.0 h.0.0.1 h.0.1 h.1) (((f.type_index, params), locals), y ++ rest)
+    (then_complete (named_use_at p names) (named_at p (codes "local")) (IsUse names) (WritesGroups (codes "local")) UseEnds HeadEnds
+    (uses_are_read p names d.types) (λ ls a b w g. groups_are_read p (codes "local") ls a b w g.0) locals_end
     ((f.type_index, params), locals) (u ++ x) (y ++ rest) (u, x, refl, used, groups) (follow_ends (y ++ rest) (instructions_follow p (scope_of names params locals) f.body y rest body of after)))
     ∙ cond-true (is_function params locals) (function_of f.type_index params locals p names (y ++ rest)) None
     (and_from (nat_lt (length (types_of locals)) 0x1_0000_0000) (all_new [] (ids_of (params ++ locals)))

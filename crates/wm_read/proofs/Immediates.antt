@@ -7,6 +7,7 @@ use Rattle.std.proofs.Math.Pow.{pow_mono}
 use Rattle.wm_syntax.specs.Spelling.{Form, Each}
 use Rattle.wm_syntax.specs.declared.types.ValType.{ValType}
 use Rattle.wm_syntax.specs.declared.types.ValType.TheVariants.{I32, I64}
+use Rattle.wm_syntax.specs.declared.profile.Profile.{Profile}
 use Rattle.wm_read.specs.Tokens.{Token, open_paren, close_paren, string, atom, is_lower, is_digit, digit_value, Digits, IsInteger, IsIdentifier, Magnitude}
 use Rattle.wm_read.specs.exact.Scan.{magnitude_of}
 use Rattle.wm_read.proofs.Basics.{chosen, same_some, same_head}
@@ -253,8 +254,8 @@ abbrev pub NotOpen : List Token → Type 0
 NotOpen (open_paren ∷ k) = ⊥
 NotOpen _ = Unit {0}
 
-pub type_found : (a : List ℕ) (t : ValType) → type_of a ≡ Some t → a ≡ type_text t
-type_found a t e = elim (chosen (same_bytes a (type_text I32)) _ _ (Some t) e) [
+pub type_found : (pr : Profile) (a : List ℕ) (t : ValType) → type_of pr a ≡ Some t → a ≡ type_text t
+type_found pr a t e = elim (chosen (same_bytes a (type_text I32)) _ _ (Some t) e) [
   | inl p ↦ (same_is a (type_text I32) p.0 ∙ ap type_text (same_some I32 t p.1))
   | inr p ↦ elim (chosen (same_bytes a (type_text I64)) _ _ (Some t) p.1) [
     | inl q ↦ (same_is a (type_text I64) q.0 ∙ ap type_text (same_some I64 t q.1))
@@ -262,42 +263,42 @@ type_found a t e = elim (chosen (same_bytes a (type_text I32)) _ _ (Some t) e) [
   ]
 ]
 
-pub type_more : (a : List ℕ) (t : ValType) → a ≡ type_text t → type_of a ≡ Some t
-type_more a I32 e = ap type_of e
-type_more a I64 e = ap type_of e
+pub type_more : (pr : Profile) (a : List ℕ) (t : ValType) → a ≡ type_text t → type_of pr a ≡ Some t
+type_more pr a I32 e = ap (type_of pr) e
+type_more pr a I64 e = ap (type_of pr) e
 
 abbrev pub IsType : ValType → List ℕ → Type 0
 IsType t a = a ≡ type_text t
 
-pub type_sound : Sound (atom_at type_of) WritesType
-type_sound k t rest e = let g = atom_sound type_of IsType type_found k t rest e in (g.0, g.1, g.2.1 ∙ ap (λ (a : List ℕ). atom a ∷ []) g.2.2)
+pub type_sound : (pr : Profile) → Sound (atom_at (type_of pr)) WritesType
+type_sound pr k t rest e = let g = atom_sound (type_of pr) IsType (type_found pr) k t rest e in (g.0, g.1, g.2.1 ∙ ap (λ (a : List ℕ). atom a ∷ []) g.2.2)
 
-pub type_complete : Complete (atom_at type_of) WritesType Any
-type_complete t front rest e f = atom_complete type_of IsType type_more t front rest (type_text t, e, refl) f
+pub type_complete : (pr : Profile) → Complete (atom_at (type_of pr)) WritesType Any
+type_complete pr t front rest e f = atom_complete (type_of pr) IsType (type_more pr) t front rest (type_text t, e, refl) f
 
-pub block_type_sound : Sound block_type_at WritesBlockType
-block_type_sound [] x rest e = let p = same_some (None, []) (x, rest) e in ([], ap (λ (z : Option ValType × List Token). z.1) p, subst (λ (z : Option ValType × List Token). WritesBlockType z.0 []) p refl)
-block_type_sound (close_paren ∷ k) x rest e = let p = same_some (None, close_paren ∷ k) (x, rest) e in ([], ap (λ (z : Option ValType × List Token). z.1) p, subst (λ (z : Option ValType × List Token). WritesBlockType z.0 []) p refl)
-block_type_sound (string b ∷ k) x rest e = let p = same_some (None, string b ∷ k) (x, rest) e in ([], ap (λ (z : Option ValType × List Token). z.1) p, subst (λ (z : Option ValType × List Token). WritesBlockType z.0 []) p refl)
-block_type_sound (atom a ∷ k) x rest e = let p = same_some (None, atom a ∷ k) (x, rest) e in ([], ap (λ (z : Option ValType × List Token). z.1) p, subst (λ (z : Option ValType × List Token). WritesBlockType z.0 []) p refl)
-block_type_sound (open_paren ∷ k) x rest e =
-    made_sound Some (paren_at (codes "result") (atom_at type_of)) (λ t. Paren (codes "result") (WritesType t)) WritesBlockType
-    (paren_sound (codes "result") (atom_at type_of) WritesType type_sound) (λ t front h. h) (open_paren ∷ k) x rest e
+pub block_type_sound : (pr : Profile) → Sound (block_type_at pr) WritesBlockType
+block_type_sound pr [] x rest e = let p = same_some (None, []) (x, rest) e in ([], ap (λ (z : Option ValType × List Token). z.1) p, subst (λ (z : Option ValType × List Token). WritesBlockType z.0 []) p refl)
+block_type_sound pr (close_paren ∷ k) x rest e = let p = same_some (None, close_paren ∷ k) (x, rest) e in ([], ap (λ (z : Option ValType × List Token). z.1) p, subst (λ (z : Option ValType × List Token). WritesBlockType z.0 []) p refl)
+block_type_sound pr (string b ∷ k) x rest e = let p = same_some (None, string b ∷ k) (x, rest) e in ([], ap (λ (z : Option ValType × List Token). z.1) p, subst (λ (z : Option ValType × List Token). WritesBlockType z.0 []) p refl)
+block_type_sound pr (atom a ∷ k) x rest e = let p = same_some (None, atom a ∷ k) (x, rest) e in ([], ap (λ (z : Option ValType × List Token). z.1) p, subst (λ (z : Option ValType × List Token). WritesBlockType z.0 []) p refl)
+block_type_sound pr (open_paren ∷ k) x rest e =
+    made_sound Some (paren_at (codes "result") (atom_at (type_of pr))) (λ t. Paren (codes "result") (WritesType t)) WritesBlockType
+    (paren_sound (codes "result") (atom_at (type_of pr)) WritesType (type_sound pr)) (λ t front h. h) (open_paren ∷ k) x rest e
 
-pub block_type_complete : Complete block_type_at WritesBlockType NotOpen
-block_type_complete None front rest e f = ap (λ (z : List Token). block_type_at (z ++ rest)) e ∙ by rest f
+pub block_type_complete : (pr : Profile) → Complete (block_type_at pr) WritesBlockType NotOpen
+block_type_complete pr None front rest e f = ap (λ (z : List Token). block_type_at pr (z ++ rest)) e ∙ by rest f
   where
-    by : (rest : List Token) → NotOpen rest → block_type_at rest ≡ Some (None, rest)
+    by : (rest : List Token) → NotOpen rest → block_type_at pr rest ≡ Some (None, rest)
     by [] f = refl
     by (close_paren ∷ k) f = refl
     by (string b ∷ k) f = refl
     by (atom a ∷ k) f = refl
     by (open_paren ∷ k) f = absurd f
-block_type_complete (Some t) front rest w f =
-    begins (front ++ rest) (opens front w) ∙ made_is Some (paren_at (codes "result") (atom_at type_of) (front ++ rest)) t rest
-    (paren_complete (codes "result") (atom_at type_of) WritesType (λ u g r h i. type_complete u g r h tt) t front rest w tt)
+block_type_complete pr (Some t) front rest w f =
+    begins (front ++ rest) (opens front w) ∙ made_is Some (paren_at (codes "result") (atom_at (type_of pr)) (front ++ rest)) t rest
+    (paren_complete (codes "result") (atom_at (type_of pr)) WritesType (λ u g r h i. type_complete pr u g r h tt) t front rest w tt)
   where
-    begins : (k : List Token) → (l : List Token) × (k ≡ open_paren ∷ l) → block_type_at k ≡ made Some (paren_at (codes "result") (atom_at type_of) k)
+    begins : (k : List Token) → (l : List Token) × (k ≡ open_paren ∷ l) → block_type_at pr k ≡ made Some (paren_at (codes "result") (atom_at (type_of pr)) k)
     begins [] (l, e) = cc
     begins (open_paren ∷ k) h = refl
     begins (close_paren ∷ k) (l, e) = cc

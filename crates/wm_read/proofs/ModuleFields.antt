@@ -33,12 +33,12 @@ use Rattle.wm_read.proofs.TypeUseLaws.{call_sound}
 
 -- ---- what is read stands in front, whatever the names are
 
-ops_front : (p : Profile) (sc : Scope) (n : ℕ) (bs : Opened) (k : List Token) (ops : List Op) (rest : List Token) → ops_within (call_use_at sc.names) p sc n bs k ≡ Some (ops, rest) → (front : List Token) × (k ≡ front ++ rest)
+ops_front : (p : Profile) (sc : Scope) (n : ℕ) (bs : Opened) (k : List Token) (ops : List Op) (rest : List Token) → ops_within (call_use_at p sc.names) p sc n bs k ≡ Some (ops, rest) → (front : List Token) × (k ≡ front ++ rest)
 ops_front p sc zero bs k ops rest e = absurd cc
 ops_front p sc (suc n) bs (atom w ∷ k) ops rest e =
-    let a = bind_ok (piece_at (call_use_at sc.names) p sc bs w k) (λ x. ops_within (call_use_at sc.names) p sc n (after bs x.0) x.1 >>= λ y. Some (piece_ops x.0 ++ y.0, y.1)) (ops, rest) e in
-    let b = bind_ok (ops_within (call_use_at sc.names) p sc n (after bs a.0.0) a.0.1) (λ y. Some (piece_ops a.0.0 ++ y.0, y.1)) (ops, rest) a.2 in
-    let one = piece_sound (call_use_at sc.names) sc (call_sound sc.names) p bs w k a.0.0 a.0.1 a.1 in
+    let a = bind_ok (piece_at (call_use_at p sc.names) p sc bs w k) (λ x. ops_within (call_use_at p sc.names) p sc n (after bs x.0) x.1 >>= λ y. Some (piece_ops x.0 ++ y.0, y.1)) (ops, rest) e in
+    let b = bind_ok (ops_within (call_use_at p sc.names) p sc n (after bs a.0.0) a.0.1) (λ y. Some (piece_ops a.0.0 ++ y.0, y.1)) (ops, rest) a.2 in
+    let one = piece_sound (call_use_at p sc.names) sc (call_sound p sc.names) p bs w k a.0.0 a.0.1 a.1 in
     let two = ops_front p sc n (after bs a.0.0) a.0.1 b.0.0 b.0.1 b.1 in
     let is : ◌≡◌ {A = List Op × List Token} (piece_ops a.0.0 ++ b.0.0, b.0.1) (ops, rest) = same_some (piece_ops a.0.0 ++ b.0.0, b.0.1) (ops, rest) b.2 in
     (atom w ∷ (one.0 ++ two.0), ap (λ (z : List Token). atom w ∷ z) (one.1 ∙ ap (λ (z : List Token). one.0 ++ z) two.1 ∙ sym (append_assoc one.0 two.0 b.0.1)) ∙ ap (λ (z : List Op × List Token). (atom w ∷ (one.0 ++ two.0)) ++ z.1) is)
@@ -60,8 +60,8 @@ IsUse names y = TypeUse names y.0 y.1
 function_front : (p : Profile) (names : Names) → Sound (function_at p names) AnyFunction
 unfolding function_at ops_at
 function_front p names k f rest e =
-    let a = bind_ok (head_at names k) (λ h. function_by p names h.0.0.0 h.0.0.1 h.0.1 h.1) (f, rest) e in
-    let one = then_sound (named_use_at names) (named_at (codes "local")) (IsUse names) (WritesGroups (codes "local")) (uses_are_written names) (groups_are_written (codes "local")) k a.0.0 a.0.1 a.1 in
+    let a = bind_ok (head_at p names k) (λ h. function_by p names h.0.0.0 h.0.0.1 h.0.1 h.1) (f, rest) e in
+    let one = then_sound (named_use_at p names) (named_at p (codes "local")) (IsUse names) (WritesGroups (codes "local")) (uses_are_written p names) (groups_are_written p (codes "local")) k a.0.0 a.0.1 a.1 in
     elim (chosen (is_function a.0.0.0.1 a.0.0.1) (function_of a.0.0.0.0 a.0.0.0.1 a.0.0.1 p names a.0.1) None (Some (f, rest)) a.2) [
       | inl t ↦ by a.0.0.0.0 a.0.0.0.1 a.0.0.1 a.0.1 one.0 one.1 t.1
       | inr t ↦ absurd (let n : ◌≡◌ {A = Option (Function × List Token)} None (Some (f, rest)) = t.1 in cc)
@@ -71,7 +71,7 @@ function_front p names k f rest e =
     by x params locals j front text h =
         let sc : Scope = record { names = names; locals = ids_of (params ++ locals) } in
         let b = bind_ok (instructions_at p sc j) (λ b. Some (record { type_index = x; locals = types_of locals; body = b.0 }, b.1)) (f, rest) h in
-        let c = bind_ok (ops_at (call_use_at names) p sc [] j) (λ y. Some (tree_of y.0, y.1)) b.0 b.1 in
+        let c = bind_ok (ops_at (call_use_at p names) p sc [] j) (λ y. Some (tree_of y.0, y.1)) b.0 b.1 in
         let g = ops_front p sc (suc (length j)) [] j c.0.0 c.0.1 c.1 in
         let left : c.0.1 ≡ rest =
         ap (λ (z : Instructions × List Token). z.1) (same_some (tree_of c.0.0, c.0.1) b.0 c.2)

@@ -326,18 +326,18 @@ module _ (use_at : Reader ℕ) (sc : Scope) (use_sound : Sound use_at (UnnamedTy
       let u = same_some (plain i, k) (q, rest) is in
       ([], ap (λ (z : Piece × List Token). z.1) u, subst (λ (z : Piece × List Token). Headed w z.0 []) u (e, h, g))
 
-  opens_sound : (o : Opening) → Sound (opens_at o) (Headed (opening_word o))
-  opens_sound o = made_sound (λ x. opens o x.0 x.1) (then_at id_at block_type_at) (Both WritesId WritesBlockType) (Headed (opening_word o))
-      (then_sound id_at block_type_at WritesId WritesBlockType id_sound block_type_sound) (λ x front h. (refl, h, tt))
+  opens_sound : (o : Opening) → Sound (opens_at p o) (Headed (opening_word o))
+  opens_sound o = made_sound (λ x. opens o x.0 x.1) (then_at id_at (block_type_at p)) (Both WritesId WritesBlockType) (Headed (opening_word o))
+      (then_sound id_at (block_type_at p) WritesId WritesBlockType id_sound (block_type_sound p)) (λ x front h. (refl, h, tt))
 
   headed_to : (v w : List ℕ) (r : Reader Piece) → v ≡ w → Sound r (Headed v) → Sound r (Headed w)
   headed_to v w r e h = subst (λ (z : List ℕ). Sound r (Headed z)) e h
 
   kind_sound : (kind : Immediates) (w : List ℕ) → immediates_name kind ≡ w → Sound (kind_at use_at sc bs kind) (Headed w)
   unfolding IsFree
-  kind_sound k.Block w e = headed_to (codes "block") w (opens_at Block) e (opens_sound Block)
-  kind_sound k.Loop w e = headed_to (codes "loop") w (opens_at Loop) e (opens_sound Loop)
-  kind_sound k.If w e = headed_to (codes "if") w (opens_at If) e (opens_sound If)
+  kind_sound k.Block w e = headed_to (codes "block") w (opens_at p Block) e (opens_sound Block)
+  kind_sound k.Loop w e = headed_to (codes "loop") w (opens_at p Loop) e (opens_sound Loop)
+  kind_sound k.If w e = headed_to (codes "if") w (opens_at p If) e (opens_sound If)
   kind_sound k.Br w e = simple_sound s.Br (atom_at (index_of (labels bs))) (ResolvesLabel (labels bs)) w (label_sound (labels bs)) (λ x. e) (λ x. tt) (λ x front h. h)
   kind_sound k.BrIf w e = simple_sound s.BrIf (atom_at (index_of (labels bs))) (ResolvesLabel (labels bs)) w (label_sound (labels bs)) (λ x. e) (λ x. tt) (λ x front h. h)
   kind_sound k.BrTable w e = headed_to (codes "br_table") w (table_at (labels bs)) e (table_sound sc bs p)
@@ -432,10 +432,10 @@ module _ (use_at : Reader ℕ) (sc : Scope) (use_sound : Sound use_at (UnnamedTy
     type_not_id None front rest e f = subst (λ (z : List Token). NotId (z ++ rest)) (sym e) (follow_id rest f)
     type_not_id (Some t) front rest (a, b, e, is, more) f = subst (λ (z : List Token). NotId (z ++ rest)) (sym (e ∙ ap (λ (z : List Token). z ++ b) is)) tt
 
-    opens_complete : (o : Opening) (id : Id) (t : Option ValType) (front rest : List Token) → (WritesId id ▸ WritesBlockType t) front → Follow rest → opens_at o (front ++ rest) ≡ Some (opens o id t, rest)
+    opens_complete : (o : Opening) (id : Id) (t : Option ValType) (front rest : List Token) → (WritesId id ▸ WritesBlockType t) front → Follow rest → opens_at p o (front ++ rest) ≡ Some (opens o id t, rest)
     opens_complete o id t front rest h f =
-        made_is (λ x. opens o x.0 x.1) (then_at id_at block_type_at (front ++ rest)) (id, t) rest
-        (then_complete id_at block_type_at WritesId WritesBlockType NotId Follow id_complete (λ u g r h f. block_type_complete u g r h (follow_open r f)) type_not_id (id, t) front rest h f)
+        made_is (λ x. opens o x.0 x.1) (then_at id_at (block_type_at p) (front ++ rest)) (id, t) rest
+        (then_complete id_at (block_type_at p) WritesId WritesBlockType NotId Follow id_complete (λ u g r h f. block_type_complete p u g r h (follow_open r f)) type_not_id (id, t) front rest h f)
 
     class_complete : AreNames bs → (q : Piece) (front rest : List Token) → RestOf sc bs q front → Follow rest → class_at use_at sc bs (piece_class q) (front ++ rest) ≡ Some (q, rest)
     class_complete n (plain i) front rest h f = simple_complete i front rest h f
