@@ -8,7 +8,7 @@ use Rattle.wm_syntax.specs.Types.{Signature}
 use Rattle.wm_syntax.specs.declared.types.ValType.{ValType}
 use Rattle.wm_syntax.specs.declared.profile.Profile.{Profile}
 use Rattle.wm_read.specs.Tokens.{Token, open_paren, close_paren, string, atom}
-use Rattle.wm_read.specs.Written.{Names, WritesUnnamed}
+use Rattle.wm_read.specs.Written.{Names}
 use Rattle.wm_read.specs.declared.faults.TextWhy.{TextWhy}
 use Rattle.wm_read.specs.declared.faults.TextWhy.TheVariants as why
 use Rattle.wm_read.specs.inner.Views.{Fails, IsRefusal}
@@ -16,7 +16,7 @@ use Rattle.wm_read.specs.exact.Reading.{Reader, ◌>>=◌, made, atom_at, index_
 use Rattle.wm_read.specs.exact.TypeUses.{types_at, adding, begins_group, groups_at, joined, same_types, no_types, fits, checked, use_at, begins_open, alone_by, call_use_at}
 use Rattle.wm_read.proofs.Basics.{same_some}
 use Rattle.wm_read.proofs.Readers.{Sound, bind_is}
-use Rattle.wm_read.proofs.TypeUseLaws.{group_begins, group_sound, same_types_are, types_same}
+use Rattle.wm_read.proofs.TypeUseLaws.{OfUnnamed, group_begins, group_sound, same_types_are, types_same}
 
 -- ---- refusals
 
@@ -76,8 +76,8 @@ many_is {X} goes r P p some (suc m) (suc n) k h g = ap (λ (z : Option (List X �
         ap (λ (z : Option (List X × List Token)). z >>= λ xs. Some (x.0 ∷ xs.0, xs.1))
         (again x.1 (omega (arith, size, length-append one.0 x.1, s, h)) (omega (arith, size, length-append one.0 x.1, s, g)))
 
-group_size : (word : List ℕ) (ts : List ValType) (front : List Token) → WritesUnnamed word ts front → 0 < length front
-group_size word ts front h = (group_begins word ts front [] h).1
+group_size : (pr : Profile) (word : List ℕ) (ts : List ValType) (front : List Token) → OfUnnamed pr word ts front → 0 < length front
+group_size pr word ts front h = (group_begins pr word ts front [] h).1
 
 groups_step : (pr : Profile) (word : List ℕ) (k : List Token) → begins_group word k ≡ true
     → groups_at pr word k ≡ (paren_at word (types_at pr) k >>= λ x. groups_at pr word x.1 >>= λ xs. Some (x.0 ∷ xs.0, xs.1))
@@ -91,9 +91,9 @@ groups_step pr word k b = cond-true (begins_group word k) _ _ b ∙ by (paren_at
     by (Some x) e =
         let one = group_sound pr word k x.0 x.1 e in
         let size : length k ≡ length (one.0 ++ x.1) = ap length one.1 in
-        let s = group_size word x.0 one.0 one.2 in
+        let s = group_size pr word x.0 one.0 one.2 in
         ap (λ (z : Option (List (List ValType) × List Token)). z >>= λ xs. Some (x.0 ∷ xs.0, xs.1))
-        (many_is (begins_group word) (paren_at word (types_at pr)) (WritesUnnamed word) (group_sound pr word) (group_size word) (length k) (suc (length x.1)) x.1
+        (many_is (begins_group word) (paren_at word (types_at pr)) (OfUnnamed pr word) (group_sound pr word) (group_size pr word) (length k) (suc (length x.1)) x.1
         (omega (arith, size, length-append one.0 x.1, s)) (omega arith))
 
 -- the value types of these groups after those that there are
@@ -140,7 +140,7 @@ group_shrinks pr word front new j k e =
     let g = group_was front new (paren_at word (types_at pr) j) k e in
     let one = group_sound pr word j g.0 k g.1 in
     let size : length j ≡ length (one.0 ++ k) = ap length one.1 in
-    omega (arith, size, length-append one.0 k, group_size word g.0 one.0 one.2)
+    omega (arith, size, length-append one.0 k, group_size pr word g.0 one.0 one.2)
 
 -- ---- comparison
 

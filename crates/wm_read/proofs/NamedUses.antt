@@ -20,9 +20,9 @@ use Rattle.wm_read.specs.inner.Views.{Fails}
 use Rattle.wm_read.proofs.Basics.{chosen, same_some}
 use Rattle.wm_read.proofs.Groups.{fails_on}
 use Rattle.wm_read.proofs.Indices.{index_sound, index_complete}
-use Rattle.wm_read.proofs.NamedGroups.{groups_are_read, groups_are_written, named_push}
+use Rattle.wm_read.proofs.NamedGroups.{NamedOf, OfGroups, groups_are_read, groups_are_written, named_push}
 use Rattle.wm_read.proofs.Readers.{Sound, Complete, Any, Both, bind_ok, bind_is, made_is, made_sound, paren_complete, paren_sound, then_complete, then_sound}
-use Rattle.wm_read.proofs.TypeUseLaws.{Fitting, fits_found, fits_more, groups_complete, groups_sound, none_are}
+use Rattle.wm_read.proofs.TypeUseLaws.{AreOf, Fitting, KnowsTypes, OfUnnamed, fits_found, fits_more, fitting_has, groups_complete, groups_of_it, groups_sound, known, none_are, plain_groups}
 
 -- ---- the forms of a use
 
@@ -33,36 +33,56 @@ NotGroup word k = begins_group word k ≡ false
 abbrev pub UseEnds : List Token → Type 0
 UseEnds k = (begins_group (codes "param") k ≡ false) × (begins_group (codes "result") k ≡ false)
 
-pub results_sound : (pr : Profile) → Sound (results_at pr) WritesResults
-unfolding results_at
-results_sound pr = made_sound joined (groups_at pr (codes "result")) (Each (WritesUnnamed (codes "result"))) WritesResults (groups_sound pr (codes "result")) (λ gs front h. (gs, refl, h))
+-- results of the profile
+abbrev pub OfResults : Profile → List ValType → Form Token
+OfResults pr rs k = WritesResults rs k × AreOf pr rs
 
-pub results_complete : (pr : Profile) → Complete (results_at pr) WritesResults (NotGroup (codes "result"))
+pub results_sound : (pr : Profile) → Sound (results_at pr) (OfResults pr)
 unfolding results_at
-results_complete pr rs front rest (gs, e, h) f =
-    made_is joined (groups_at pr (codes "result") (front ++ rest)) gs rest (groups_complete pr (codes "result") gs front rest h f) ∙ ap (λ (z : List ValType). Some (z, rest)) (sym e)
+results_sound pr =
+    made_sound joined (groups_at pr (codes "result")) (Each (OfUnnamed pr (codes "result"))) (OfResults pr) (groups_sound pr (codes "result"))
+    (λ gs front h. let m = plain_groups pr (codes "result") gs front h in ((gs, refl, m.0), m.1))
 
-pub no_param : (gs : List (List ValType)) (front rest : List Token) → Each (WritesUnnamed (codes "result")) gs front → NotGroup (codes "param") rest → NotGroup (codes "param") (front ++ rest)
-no_param [] front rest h f = subst (λ (z : List Token). NotGroup (codes "param") (z ++ rest)) (sym h) f
-no_param (g ∷ gs) front rest (x, y, e, (a, b, d, is, w), more) f =
+pub results_complete : (pr : Profile) → Complete (results_at pr) (OfResults pr) (NotGroup (codes "result"))
+unfolding results_at
+results_complete pr rs front rest ((gs, e, h), of) f =
+    made_is joined (groups_at pr (codes "result") (front ++ rest)) gs rest (groups_complete pr (codes "result") gs front rest (groups_of_it pr (codes "result") gs front h (subst (AreOf pr) e of)) f)
+    ∙ ap (λ (z : List ValType). Some (z, rest)) (sym e)
+
+no_group : (gs : List (List ValType)) (front rest : List Token) → Each (WritesUnnamed (codes "result")) gs front → NotGroup (codes "param") rest → NotGroup (codes "param") (front ++ rest)
+no_group [] front rest h f = subst (λ (z : List Token). NotGroup (codes "param") (z ++ rest)) (sym h) f
+no_group (g ∷ gs) front rest (x, y, e, (a, b, d, is, w), more) f =
     subst (λ (z : List Token). NotGroup (codes "param") (z ++ rest)) (sym (e ∙ ap (λ (z : List Token). z ++ y) (d ∙ ap (λ (z : List Token). z ++ b) is))) refl
 
-abbrev Forms : Names → ℕ × (List Named × List ValType) → Form Token
-Forms names = Both (λ x. Paren (codes "type") (Resolves names.types x)) (Both (WritesGroups (codes "param")) WritesResults)
+pub no_param : (pr : Profile) (rs : List ValType) (front rest : List Token) → OfResults pr rs front → NotGroup (codes "param") rest → NotGroup (codes "param") (front ++ rest)
+no_param pr rs front rest h f = no_group h.0.0 front rest h.0.2 f
 
-forms_sound : (pr : Profile) (names : Names) → Sound (use_parts pr names) (Forms names)
+-- the forms of a use, with types of the profile
+abbrev Forms : Profile → Names → ℕ × (List Named × List ValType) → Form Token
+Forms pr names = Both (λ x. Paren (codes "type") (Resolves names.types x)) (Both (OfGroups pr (codes "param")) (OfResults pr))
+
+forms_sound : (pr : Profile) (names : Names) → Sound (use_parts pr names) (Forms pr names)
 forms_sound pr names =
-    then_sound (paren_at (codes "type") (atom_at (index_of names.types))) (then_at (named_at pr (codes "param")) (results_at pr)) (λ x. Paren (codes "type") (Resolves names.types x)) (Both (WritesGroups (codes "param")) WritesResults)
+    then_sound (paren_at (codes "type") (atom_at (index_of names.types))) (then_at (named_at pr (codes "param")) (results_at pr)) (λ x. Paren (codes "type") (Resolves names.types x)) (Both (OfGroups pr (codes "param")) (OfResults pr))
     (paren_sound (codes "type") (atom_at (index_of names.types)) (Resolves names.types) (index_sound names.types))
-    (then_sound (named_at pr (codes "param")) (results_at pr) (WritesGroups (codes "param")) WritesResults (groups_are_written pr (codes "param")) (results_sound pr))
+    (then_sound (named_at pr (codes "param")) (results_at pr) (OfGroups pr (codes "param")) (OfResults pr) (groups_are_written pr (codes "param")) (results_sound pr))
 
-forms_complete : (pr : Profile) (names : Names) → AreDistinct names.types → Complete (use_parts pr names) (Forms names) UseEnds
+forms_complete : (pr : Profile) (names : Names) → AreDistinct names.types → Complete (use_parts pr names) (Forms pr names) UseEnds
 forms_complete pr names d =
-    then_complete (paren_at (codes "type") (atom_at (index_of names.types))) (then_at (named_at pr (codes "param")) (results_at pr)) (λ x. Paren (codes "type") (Resolves names.types x)) (Both (WritesGroups (codes "param")) WritesResults) Any UseEnds
+    then_complete (paren_at (codes "type") (atom_at (index_of names.types))) (then_at (named_at pr (codes "param")) (results_at pr)) (λ x. Paren (codes "type") (Resolves names.types x)) (Both (OfGroups pr (codes "param")) (OfResults pr)) Any UseEnds
     (paren_complete (codes "type") (atom_at (index_of names.types)) (Resolves names.types) (λ x f r h i. index_complete names.types d x f r h tt))
-    (then_complete (named_at pr (codes "param")) (results_at pr) (WritesGroups (codes "param")) WritesResults (NotGroup (codes "param")) UseEnds
-    (groups_are_read pr (codes "param")) (λ rs f r h i. results_complete pr rs f r h i.1) (λ rs f r h i. no_param h.0 f r h.2 i.0))
+    (then_complete (named_at pr (codes "param")) (results_at pr) (OfGroups pr (codes "param")) (OfResults pr) (NotGroup (codes "param")) UseEnds
+    (groups_are_read pr (codes "param")) (λ rs f r h i. results_complete pr rs f r h i.1) (λ rs f r h i. no_param pr rs f r h i.0))
     (λ y f r h g. tt)
+
+abbrev PlainForms : Names → ℕ × (List Named × List ValType) → Form Token
+PlainForms names = Both (λ x. Paren (codes "type") (Resolves names.types x)) (Both (WritesGroups (codes "param")) WritesResults)
+
+forms_plain : (pr : Profile) (names : Names) (z : ℕ × (List Named × List ValType)) (k : List Token) → Forms pr names z k → PlainForms names z k
+forms_plain pr names z k (a, b, e, w, (c, d, e2, ps, rs)) = (a, b, e, w, (c, d, e2, ps.0, rs.0))
+
+forms_of : (pr : Profile) (names : Names) (z : ℕ × (List Named × List ValType)) (k : List Token) → PlainForms names z k → NamedOf pr z.1.0 → AreOf pr z.1.1 → Forms pr names z k
+forms_of pr names z k (a, b, e, w, (c, d, e2, ps, rs)) of are = (a, b, e, w, (c, d, e2, (ps, of), (rs, are)))
 
 -- ---- what is used
 
@@ -114,7 +134,7 @@ uses_are_written pr names k y rest e =
       one.1 ∙ ap (λ (z : (ℕ × List Named) × List Token). one.0 ++ z.1) is,
       subst (λ (z : (ℕ × List Named) × List Token). TypeUse names z.0.0 z.0.1 one.0) is
           (elim (chosen (fits c.0 (types_of ps) rs) (Some (cond (none_written ps rs) (unnamed c.0.params) ps)) None (Some d.0) d.1) as (λ _. TypeUse names x d.0 one.0) [
-            | inl t ↦ (c.0, ps, rs, c.1, one.2, subst (Which c.0 ps rs) (same_some (cond (none_written ps rs) (unnamed c.0.params) ps) d.0 t.1) (which c.0 ps rs t.0))
+            | inl t ↦ (c.0, ps, rs, c.1, forms_plain pr names a.0.0 one.0 one.2, subst (Which c.0 ps rs) (same_some (cond (none_written ps rs) (unnamed c.0.params) ps) d.0 t.1) (which c.0 ps rs t.0))
             | inr t ↦ absurd (let f : ◌≡◌ {A = Option (List Named)} None (Some d.0) = t.1 in cc)
           ]),
     )
@@ -122,11 +142,12 @@ uses_are_written pr names k y rest e =
 used_found : (f : Signature) (ps : List Named) (rs : List ValType) (params : List Named) → Which f ps rs params → used_of f ps rs ≡ Some params
 used_found f ps rs params w = cond-true (fits f (types_of ps) rs) (Some (cond (none_written ps rs) (unnamed f.params) ps)) None (fits_more f (types_of ps) rs (fitting f ps rs params w)) ∙ ap Some (used f ps rs params w)
 
-pub uses_are_read : (pr : Profile) (names : Names) → AreDistinct names.types → Complete (named_use_at pr names) (λ y. TypeUse names y.0 y.1) UseEnds
+pub uses_are_read : (pr : Profile) (names : Names) → AreDistinct names.types → KnowsTypes pr names → Complete (named_use_at pr names) (λ y. TypeUse names y.0 y.1) UseEnds
 unfolding named_use_at
-uses_are_read pr names distinct y front rest (f, ps, rs, look, w, h) after =
+uses_are_read pr names distinct knows y front rest (f, ps, rs, look, w, h) after =
+    let of = fitting_has pr f (types_of ps) rs (known pr names.signatures y.0 f knows look) (fitting f ps rs y.1 h) in
     bind_is (use_parts pr names (front ++ rest)) (λ r. used_at names r.0.0 r.0.1.0 r.0.1.1 >>= λ y. Some (y, r.1)) ((y.0, (ps, rs)), rest)
-    (forms_complete pr names distinct (y.0, (ps, rs)) front rest w after)
+    (forms_complete pr names distinct (y.0, (ps, rs)) front rest (forms_of pr names (y.0, (ps, rs)) front w of.0 of.1) after)
     ∙ bind_is (used_at names y.0 ps rs) (λ y. Some (y, rest)) (y.0, y.1)
     (bind_is (slice_get names.signatures y.0) (λ f. used_of f ps rs >>= λ qs. Some (y.0, qs)) f look ∙ bind_is (used_of f ps rs) (λ qs. Some (y.0, qs)) y.1 (used_found f ps rs y.1 h))
 
