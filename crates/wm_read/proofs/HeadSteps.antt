@@ -8,7 +8,7 @@ use Rattle.wm_syntax.specs.declared.profile.Profile.{Profile}
 use Rattle.wm_read.specs.Tokens.{Token, open_paren, close_paren, string, atom}
 use Rattle.wm_read.specs.Identifiers.{Id, Ids, AreDistinct, WritesId}
 use Rattle.wm_read.specs.Written.{Names}
-use Rattle.wm_read.specs.Fields.{HasDistinct, WritesName, WritesSignature}
+use Rattle.wm_read.specs.Fields.{HasDistinct, WritesName}
 use Rattle.wm_read.specs.declared.fields.words.FieldKind.{FieldKind}
 use Rattle.wm_read.specs.declared.fields.words.FieldKind.TheVariants as field
 use Rattle.wm_read.specs.exact.Fields.{field_named, is_new, item_named, name_at, space_of}
@@ -21,7 +21,7 @@ use Rattle.wm_read.proofs.DistinctIds.{new_distinct}
 use Rattle.wm_read.proofs.FieldParts.{name_sound}
 use Rattle.wm_read.proofs.Immediates.{id_sound}
 use Rattle.wm_read.proofs.Readers.{Sound, bind_ok, bind_is}
-use Rattle.wm_read.proofs.SignatureLaws.{signature_sound}
+use Rattle.wm_read.proofs.SignatureLaws.{OfSignature, signature_sound}
 
 -- ---- skipping
 
@@ -129,7 +129,7 @@ type_step pr s t j k e =
     let c = bind_ok (close_at f.0.1) _ (t, k) f.2 in
     let is : ◌≡◌ {A = Noted × List Token} (record s { names = with_type s.names i.0.0 f.0.0 }, c.0.1) (t, k) = same_some _ (t, k) c.2 in
     let free = free_found s.names.types j i.0 i.1 in
-    let b = behind (signature_at pr) WritesSignature (signature_sound pr) i.0.1 f.0.0 f.0.1 f.1 in
+    let b = behind (signature_at pr) (OfSignature pr) (signature_sound pr) i.0.1 f.0.0 f.0.1 f.1 in
     let l = closed f.0.1 c.0 c.1 in
     subst (λ (z : Noted × List Token). Step s z.0 j z.1) is (record {
       size = omega (arith, free.1, b, l);

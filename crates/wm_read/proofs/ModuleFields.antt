@@ -11,7 +11,7 @@ use Rattle.wm_syntax.specs.declared.instructions.Op.{Op}
 use Rattle.wm_syntax.specs.declared.profile.Profile.{Profile}
 use Rattle.wm_syntax.specs.inner.Building.{tree_of}
 use Rattle.wm_read.specs.Tokens.{Token, open_paren, close_paren, string, atom}
-use Rattle.wm_read.specs.Written.{Named, Names, Scope, WritesGroups, ids_of, types_of}
+use Rattle.wm_read.specs.Written.{Named, Names, Scope, ids_of, types_of}
 use Rattle.std.specs.Prelude.{codes}
 use Rattle.wm_read.specs.Fields.{Field, type_field, import_field, function_field, table_field, memory_field, global_field, export_field, start_field, element_field, segment_field, module_of}
 use Rattle.wm_read.specs.declared.fields.words.FieldKind.{FieldKind}
@@ -25,7 +25,7 @@ use Rattle.wm_read.specs.Written.{Paren, TypeUse}
 use Rattle.wm_read.proofs.Basics.{chosen, same_some}
 use Rattle.wm_read.proofs.FieldLaws.{OfKind, field_front}
 use Rattle.wm_read.proofs.Groups.{many_is}
-use Rattle.wm_read.proofs.NamedGroups.{groups_are_written}
+use Rattle.wm_read.proofs.NamedGroups.{OfGroups, groups_are_written}
 use Rattle.wm_read.proofs.NamedUses.{uses_are_written}
 use Rattle.wm_read.proofs.PieceLaws.{piece_sound}
 use Rattle.wm_read.proofs.Readers.{Sound, bind_is, bind_ok, then_sound}
@@ -61,7 +61,7 @@ function_front : (p : Profile) (names : Names) → Sound (function_at p names) A
 unfolding function_at ops_at
 function_front p names k f rest e =
     let a = bind_ok (head_at p names k) (λ h. function_by p names h.0.0.0 h.0.0.1 h.0.1 h.1) (f, rest) e in
-    let one = then_sound (named_use_at p names) (named_at p (codes "local")) (IsUse names) (WritesGroups (codes "local")) (uses_are_written p names) (groups_are_written p (codes "local")) k a.0.0 a.0.1 a.1 in
+    let one = then_sound (named_use_at p names) (named_at p (codes "local")) (IsUse names) (OfGroups p (codes "local")) (uses_are_written p names) (groups_are_written p (codes "local")) k a.0.0 a.0.1 a.1 in
     elim (chosen (is_function a.0.0.0.1 a.0.0.1) (function_of a.0.0.0.0 a.0.0.0.1 a.0.0.1 p names a.0.1) None (Some (f, rest)) a.2) [
       | inl t ↦ by a.0.0.0.0 a.0.0.0.1 a.0.0.1 a.0.1 one.0 one.1 t.1
       | inr t ↦ absurd (let n : ◌≡◌ {A = Option (Function × List Token)} None (Some (f, rest)) = t.1 in cc)
@@ -78,13 +78,13 @@ function_front p names k f rest e =
         ∙ ap (λ (z : Function × List Token). z.1) (same_some (record { type_index = x; locals = types_of locals; body = b.0.0 }, b.0.1) (f, rest) b.2) in
         (front ++ g.0, text ∙ ap (λ (z : List Token). front ++ z) (g.1 ∙ ap (λ (z : List Token). g.0 ++ z) left) ∙ sym (append_assoc front g.0 rest), tt)
 
-abbrev IsField : Names → Field → Form Token
-IsField names f k = (x : FieldKind) × Paren (field_word x) (OfKind AnyFunction names x f) k
+abbrev IsField : Profile → Names → Field → Form Token
+IsField p names f k = (x : FieldKind) × Paren (field_word x) (OfKind p AnyFunction names x f) k
 
-some_tokens : (names : Names) (f : Field) (k : List Token) → IsField names f k → 0 < length k
-some_tokens names f k (x, (a, b, e, w, m)) = subst (λ (z : List Token). 0 < length z) (sym (e ∙ ap (λ (z : List Token). z ++ b) w)) (omega arith)
+some_tokens : (p : Profile) (names : Names) (f : Field) (k : List Token) → IsField p names f k → 0 < length k
+some_tokens p names f k (x, (a, b, e, w, m)) = subst (λ (z : List Token). 0 < length z) (sym (e ∙ ap (λ (z : List Token). z ++ b) w)) (omega arith)
 
-field_any : (p : Profile) (names : Names) → Sound (field_at p names) (IsField names)
+field_any : (p : Profile) (names : Names) → Sound (field_at p names) (IsField p names)
 field_any p names = field_front p names AnyFunction (function_front p names)
 
 -- ---- the loop of the code
@@ -107,9 +107,9 @@ step p names k b = cond-true (begins_open k) _ _ b ∙ by (field_at p names k) r
     by (Some x) e =
         let one = field_any p names k x.0 x.1 e in
         let size : length k ≡ length (one.0 ++ x.1) = ap length one.1 in
-        let s = some_tokens names x.0 one.0 one.2 in
+        let s = some_tokens p names x.0 one.0 one.2 in
         ap (λ (z : Option (List Field × List Token)). z >>= λ xs. Some (x.0 ∷ xs.0, xs.1))
-        (many_is begins_open (field_at p names) (IsField names) (field_any p names) (some_tokens names) (length k) (suc (length x.1)) x.1 (omega (arith, size, length-append one.0 x.1, s)) (omega arith))
+        (many_is begins_open (field_at p names) (IsField p names) (field_any p names) (some_tokens p names) (length k) (suc (length x.1)) x.1 (omega (arith, size, length-append one.0 x.1, s)) (omega arith))
 
 gather : (m : Module) (f : Field) (o : Option (List Field × List Token)) → after_fields m (o >>= λ xs. Some (f ∷ xs.0, xs.1)) ≡ after_fields (with_field m f) o
 gather m f None = refl
@@ -132,7 +132,7 @@ pub field_shrinks : (p : Profile) (names : Names) (f : Field) (j k : List Token)
 field_shrinks p names f j k e =
     let one = field_any p names j f k e in
     let size : length j ≡ length (one.0 ++ k) = ap length one.1 in
-    omega (arith, size, length-append one.0 k, some_tokens names f one.0 one.2)
+    omega (arith, size, length-append one.0 k, some_tokens p names f one.0 one.2)
 
 -- ---- what the fields have together
 
