@@ -1,5 +1,5 @@
 -- Constants, memory arguments, block types, labels: what is read is written so, and what is written so is read.
-use Rattle.std.proofs.Common.{◌≡◌, ℕ, zero, suc, ◌<◌, ◌≤◌, ◌-◌, ◌⊎◌, Bool, true, false, List, [], ◌∷◌, ◌++◌, Option, Some, None, refl, sym, ap, subst, ◌∙◌, inl, inr, arith}
+use Rattle.std.proofs.Common.{◌≡◌, ℕ, zero, suc, ◌<◌, ◌≤◌, ◌-◌, ◌⊎◌, Bool, true, false, cond, List, [], ◌∷◌, ◌++◌, Option, Some, None, refl, sym, ap, subst, ◌∙◌, inl, inr, arith}
 use Rattle.std.specs.Prelude.{codes, ◌==◌, ◌&&◌, ◌^◌, nat_lt, nat_le, not, ℤ, pos, neg_ℤ, ◌-ℤ◌, ◌≢◌}
 use Rattle.std.proofs.lemmas.Bool.{cond-true, cond-false, eqb-true, eq-eqb, and_parts, ltb-true, lt-ltb, ltb-false, leb-true, le-leb, le-ltb, and_left, ne_eqb, eqb-false}
 use Rattle.std.proofs.lemmas.Nat.{pow_below}
@@ -290,6 +290,18 @@ type_found pr a t e =
 
 pub type_more : (pr : Profile) (a : List ℕ) (t : ValType) → IsType pr t a → type_of pr a ≡ Some t
 type_more pr a t (e, of) = bind_is (type_named a) _ t (named_more a t e) ∙ cond-true (has pr (type_feature t)) (Some t) None of
+
+-- as the code reads a word
+pub type_has : (pr : Profile) (a : List ℕ) (t : ValType) → Some t ≡ type_named a → has pr (type_feature t) ≡ true → Some t ≡ type_of pr a
+type_has pr a t e h = sym (bind_is (type_named a) _ t (sym e) ∙ cond-true (has pr (type_feature t)) (Some t) None h)
+
+pub type_lacks : (pr : Profile) (a : List ℕ) (t : ValType) → Some t ≡ type_named a → has pr (type_feature t) ≡ false → None ≡ type_of pr a
+type_lacks pr a t e h = sym (bind_is (type_named a) _ t (sym e) ∙ cond-false (has pr (type_feature t)) (Some t) None h)
+
+pub type_none : (pr : Profile) (a : List ℕ) → None ≡ type_named a → None ≡ type_of pr a
+type_none pr a e = ap (λ (o : Option ValType). o >>= λ t. cond (has pr (type_feature t)) (Some t) None) e
+
+pub ruleset type_laws = (type_has, type_lacks, type_none)
 
 -- the tokens of a value type of the profile
 abbrev pub OfType : Profile → ValType → Form Token
