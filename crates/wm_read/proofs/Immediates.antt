@@ -299,7 +299,7 @@ pub type_lacks : (pr : Profile) (a : List ℕ) (t : ValType) → Some t ≡ type
 type_lacks pr a t e h = sym (bind_is (type_named a) _ t (sym e) ∙ cond-false (has pr (type_feature t)) (Some t) None h)
 
 pub type_none : (pr : Profile) (a : List ℕ) → None ≡ type_named a → None ≡ type_of pr a
-type_none pr a e = ap (λ (o : Option ValType). o >>= λ t. cond (has pr (type_feature t)) (Some t) None) e
+type_none pr a e = ap (λ (o : Option ValType). ◌>>=◌ {B = ValType} o (λ t. cond (has pr (type_feature t)) (Some t) None)) e
 
 pub ruleset type_laws = (type_has, type_lacks, type_none)
 
