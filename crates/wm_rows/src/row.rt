@@ -94,10 +94,13 @@ fn action_of(line: &str) -> io::Result<(Action, &str)> {
 
 /// The profile, the first where none is named, and what stands behind it.
 fn profile(text: &str) -> (Profile, &str) {
-    match text.strip_prefix("profile ").map(first_word) {
-        Some(("2", rest)) => (Profile::Two, rest),
-        Some(("3", rest)) => (Profile::Three, rest),
-        Some(("4", rest)) => (Profile::Four, rest),
+    let Some(rest) = text.strip_prefix("profile ") else {
+        return (Profile::One, text);
+    };
+    match first_word(rest) {
+        ("2", rest) => (Profile::Two, rest),
+        ("3", rest) => (Profile::Three, rest),
+        ("4", rest) => (Profile::Four, rest),
         _ => (Profile::One, text),
     }
 }
