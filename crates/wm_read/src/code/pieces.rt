@@ -256,9 +256,8 @@ pub fn read_piece<'a>(
         OpClass::With(Immediates::BrTable) => table(alloc, blocks, text),
         OpClass::With(Immediates::CallIndirect) => indirect(alloc, profile, scope.names, text),
         // literals of floats are not read
-        OpClass::With(Immediates::F32Const) | OpClass::With(Immediates::F64Const) => {
-            Err(refuse(TextWhy::Float, here))
-        }
+        OpClass::With(Immediates::F32Const) => Err(refuse(TextWhy::Float, here)),
+        OpClass::With(Immediates::F64Const) => Err(refuse(TextWhy::Float, here)),
         OpClass::With(kind) => operand(profile, scope, blocks, kind, text),
         OpClass::Float => Err(refuse(TextWhy::Float, here)),
         OpClass::None => Err(no_instruction(profile, word, here)),
