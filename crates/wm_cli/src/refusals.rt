@@ -36,7 +36,8 @@ pub const OF_MODULES: &str = "\
         5.4, 5.5 | `01 02 01 00`: refused at 12 | Often a feature past 1.0, as reference types, shared \
         memories or several memories. Switch it off.\n\
     Float | A floating-point type or instruction, where the profile has none. | 5.3.1, 5.4 | \
-        `06 02 01 7D`: refused at 12 | The module is not wrong. Take `--profile 3`, or `--profile 4` for sign extension too.\n\
+        `06 02 01 7D`: refused at 12 | The module is not wrong. Take `--profile 3`, or `--profile 4` \
+        for sign extension too.\n\
     BadOpcode | No instruction of the profile begins with this byte. | 5.4 | `06 04 01 7F 00 06`: \
         refused at 14 | For sign extension (`C0` to `C4`) take `--profile 2`, with floats `4`. Switch \
         other features past 1.0 off.\n\
@@ -139,7 +140,8 @@ pub const OF_TEXTS: &str = "\
     TooManyLocals | A function declares 2^32 locals or more. The value type that makes 2^32 \
         decides. | 6.6.5 | none of less than 17 GB, so never without `--limit` | Declare fewer.\n\
     Float | A floating-point type or instruction, where the profile has none. Under each profile a \
-        constant that is a float. | 6.4.1, 6.5 | `(module(global f32))`: at 15 | The text is not wrong. Take `--profile 3` or `4`. Under these too, no float constant is \
-        read: hand in the binary.\n\
+        constant that is a float. | 6.4.1, 6.5 | `(module(global f32))`: at 15 | The text is not \
+        wrong. Take `--profile 3` or `4`. Under these too, no float constant is read: hand in the \
+        binary.\n\
     Memory | Memory was refused. The command never prints it, and ends with status 4. | none | none \
         | Hand in a smaller text, or give more memory.";
