@@ -9,7 +9,8 @@
 //! ```
 //!
 //! ACTION is `check`, `stats`, `canon` or `show`. OPTIONS are those of `wmod` without their dashes, in
-//! this order: `profile 2` (or 3, or 4), `limit N`, `max-functions N`, `max-locals N`, `max-open N` and `old-words`.
+//! this order: `profile 2` (or 3, or 4), `limit N`, `max-functions N`, `max-locals N`, `max-open N` and
+//! `old-words`.
 //! BYTES are words: `H` is the header of a module, and another one is a byte in two hexadecimal digits.
 //! `change` stands for the 255 inputs with another byte at that place, and `changes` for those with
 //! another byte at any place.

@@ -79,7 +79,8 @@ unfoldable pub integer_of : ℕ → List ℕ → Option ℤ
 integer_of bits a = integer_by (2 ^ (bits - 1)) (2 ^ bits) a
 
 abbrev pub type_named : List ℕ → Option ValType
-type_named a = if same_bytes a (type_text I32) then Some I32 else if same_bytes a (type_text I64) then Some I64
+type_named a =
+    if same_bytes a (type_text I32) then Some I32 else if same_bytes a (type_text I64) then Some I64
     else if same_bytes a (type_text F32) then Some F32 else if same_bytes a (type_text F64) then Some F64
     else None
 

@@ -271,8 +271,8 @@ pub fn type_of(profile: Profile, atom: &[u8]) -> Option<ValType>
     }
 }
 
-/// Whether an atom begins as the name of a float's type or instruction does, which the profile lacks. It has no
-/// clause, since it decides only which name a refusal gets.
+/// Whether an atom begins and goes on as the name of a floating-point type or instruction does, and the
+/// profile has none. It has no clause, since it decides only which name a refusal gets.
 fn is_left_out(profile: Profile, atom: &[u8]) -> bool {
     !profile.has(Feature::Floats) && is_float(atom)
 }
