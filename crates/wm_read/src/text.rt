@@ -45,11 +45,7 @@ fn end(text: &[u8]) -> Result<(), TextFault>
 }
 
 /// What the fields of a module define, behind which the text ends.
-fn all_names<'a>(
-    alloc: Global,
-    profile: Profile,
-    text: &'a [u8],
-) -> Result<Names<'a>, TextFault>
+fn all_names<'a>(alloc: Global, profile: Profile, text: &'a [u8]) -> Result<Names<'a>, TextFault>
     ensures { Reads (λ n. names_of n) result (modules.all_names_at profile (lexed text.now)) }
 {
     let (names, rest) = read_heads(alloc, profile, text)?;
