@@ -94,8 +94,8 @@ pub const OF_TEXTS: &str = "\
         | the byte `80`: at 0 | Save it as UTF-8.\n\
     BadToken | A character, or a longest run of characters of atoms, that is no token. So is a \
         float literal such as `1.5`. A string with a control character decides at its opening quote. | \
-        6.2.2, 6.3 | `,`: at 0 | Remove a byte order mark, escape control characters, write no floats. \
-        Give a binary module to the other actions.\n\
+        6.2.2, 6.3 | `,`: at 0 | Remove a byte order mark, escape control characters, write no \
+        float literals. Give a binary module to the other actions.\n\
     OpenComment | The text ends inside a block comment. | 6.2.4 | `(;`: at 2 | Give each `(;` its \
         own `;)`.\n\
     OpenString | The text ends inside a string, also in an escape. | 6.3.3 | `\"`: at 1 | Close the \
