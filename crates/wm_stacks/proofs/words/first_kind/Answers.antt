@@ -5,4 +5,4 @@ use Rattle.wm_stacks.proofs.Digits.{low_code}
 use Rattle.wm_stacks.proofs.words.first_kind.Goals as goal
 
 pub returns : goal.returns
-returns c = c.kind.ensures ∙ ap kind_of_code (low_code c.args.word)
+returns c = c.kind_from.ensures ∙ ap kind_of_code (low_code c.args.word)
