@@ -78,7 +78,7 @@ class Body:
     def __init__(self, numbers, around, type_, locals_):
         self.numbers, self.around, self.locals = numbers, around, type_[0] + locals_
         self.code, self.stack, self.frames = [], [], [Frame("block", type_[1], 0)]
-        for _ in range(numbers.below(24)):
+        for _ in range(numbers.below(32)):
             numbers.one_of(STEPS)(self)
         while self.frames:
             self.close()
@@ -138,7 +138,8 @@ class Body:
         self.frames.append(Frame(word, result, len(self.stack)))
 
     def numeric(self):
-        self.put(*self.numbers.one_of(NUMERICS))
+        fitting = [row for row in NUMERICS if self.there(row[1])]
+        self.put(*self.numbers.one_of(self.numbers.one_of([fitting, fitting, NUMERICS]) or NUMERICS))
 
     def memory_argument(self, most):
         return unsigned(self.numbers.below(most + 1)) + unsigned(self.numbers.below(1 << self.numbers.below(31)))
@@ -198,7 +199,7 @@ class Body:
         self.leave(*self.numbers.one_of([(b"\x00",), (b"\x0f", self.frames[0].result)]))
 
 
-STEPS = [Body.numeric] * 12 + [Body.load, Body.store, Body.local, Body.select, Body.branch] * 2
+STEPS = [Body.numeric] * 24 + [Body.load, Body.store, Body.local, Body.select, Body.branch] * 2
 STEPS += [Body.open] * 3 + [Body.close_inner] * 2 + [Body.other_branch, Body.global_set, Body.drop, Body.small]
 STEPS += [Body.call, Body.call_indirect, Body.stop]
 
