@@ -2,7 +2,8 @@
 """Compares `wmod check` with node and wasm-validate, where these are there: `compare.py [SHAPE..]`.
 
 For each shape it makes a module of 7 MB, and prints MB/s of processor time (medians of five runs, all programs in
-turn), instructions a byte where valgrind is there, and the peak memory of wmod. With `--growth` it makes modules of 2
+turn), instructions a byte where valgrind is there, and the peak memory of wmod. A shape with floats is measured with
+`--profile 3`. With `--growth` it makes modules of 2
 MB, 4 MB and 8 MB and prints the time a byte on each and how many times it grows, by the least of fifteen runs of each,
 the start of the program left out. With `--ratios` it prints how many times as fast each of the five actions is as node
 or the program of wabt that does the same, on modules of 2 MB, all in turn. With `--canon` or `--show` it measures that action on the two: MB/s, that growth, the peak memory, and
