@@ -3,11 +3,11 @@
 
 For each shape it makes a module of 7 MB, and prints MB/s of processor time (medians of five runs, all programs in
 turn), instructions a byte where valgrind is there, and the peak memory of wmod. A shape with floats is measured with
-`--profile 3`. With `--growth` it makes modules of 2
-MB, 4 MB and 8 MB and prints the time a byte on each and how many times it grows, by the least of fifteen runs of each,
-the start of the program left out. With `--ratios` it prints how many times as fast each of the five actions is as node
-or the program of wabt that does the same, on modules of 2 MB, all in turn. With `--canon` or `--show` it measures that action on the two: MB/s, that growth, the peak memory, and
-how many bytes of memory a byte of the module takes. With `--build` it measures that action on the texts that `wmod
+`--profile 3`. With `--growth` it makes modules of 2 MB, 4 MB and 8 MB and prints the time a byte on each and how many
+times it grows, by the least of fifteen runs of each, the start of the program left out. With `--ratios` it prints how
+many times as fast each of the five actions is as node or the program of wabt that does the same, on modules of 2 MB, all
+in turn. With `--canon` or `--show` it measures that action on the two: MB/s, that growth, the peak memory, and how many
+bytes of memory a byte of the module takes. With `--build` it measures that action on the texts that `wmod
 show` prints of modules of 0.5 MB and 2 MB, beside wat2wasm where it is there; what is built has to be what `wmod canon`
 writes. With `--assemble` it measures nothing: wat2wasm makes binaries of such texts, of modules of 0.1 MB and 2 MB, and
 a line for each says whether its bytes are those of `wmod canon`. The status is 1 where some binary has other bytes, or

@@ -98,9 +98,6 @@ def by_python(literal, width):
 
 
 class Chooser(Numbers):
-    def one_of(self, items):
-        return items[self.below(len(items))]
-
     def bits(self, count):
         return sum(self.below(1 << 16) << 16 * i for i in range(count // 16 + 1)) % (1 << count)
 

@@ -72,6 +72,9 @@ class Numbers:
         self.state = (self.state * 6364136223846793005 + 1442695040888963407) % 2**64
         return (self.state >> 33) % n
 
+    def one_of(self, items):
+        return items[self.below(len(items))]
+
 
 def statement(numbers, functions):
     """Some instructions that leave the stack as it was; locals 0 to 3 are i32, 4 and 5 are i64."""
@@ -95,11 +98,11 @@ def statement(numbers, functions):
 def float_statement(numbers, functions):
     """The same, most of it on floats; locals 0 and 3 to 5 are f64, 1 and 2 are i32, 6 and 7 are f32."""
     kind = numbers.below(12)
-    a, b, c = (bytes([0x20, [0, 3, 4, 5][numbers.below(4)]]) for _ in range(3))  # local.get of an f64
-    i, s = (bytes([0x20, first + numbers.below(2)]) for first in (1, 6))  # that of an i32, and of an f32
+    a, b, c = (bytes([0x20, numbers.one_of([0, 3, 4, 5])]) for _ in range(3))  # local.get of an f64
+    i, s = bytes([0x20, numbers.one_of([1, 2])]), bytes([0x20, numbers.one_of([6, 7])])  # that of an i32, and of an f32
     offset = unsigned(8 * numbers.below(512))
     if kind < 2:  # a + b * c, or with - or / for +
-        return a + b + c + b"\xa2" + bytes([b"\xa0\xa1\xa3"[numbers.below(3)], 0x21]) + a[1:]
+        return a + b + c + b"\xa2" + numbers.one_of([b"\xa0", b"\xa1", b"\xa3"]) + b"\x21" + a[1:]
     if kind == 2:  # f64.const, f64.mul, f64.add
         return a + b + b"\x44" + struct.pack("<d", numbers.below(10**6) / 1000) + b"\xa2\xa0\x21" + a[1:]
     if kind == 3:  # a row's address in an i32: i32.const, i32.shl, i32.add, local.tee, f64.load

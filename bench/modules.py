@@ -51,9 +51,6 @@ STORES = "i2 j3 f2 d3 i0 i1 j0 j1 j2".split()
 
 
 class Chooser(Numbers):
-    def one_of(self, items):
-        return items[self.below(len(items))]
-
     def letters(self, most):
         return "".join(self.one_of("ijfd") for _ in range(self.below(most + 1)))
 
