@@ -1,0 +1,36 @@
+//! The two widths of floats (section 2.2.2).
+
+ghost use Rattle.std.specs.Prelude.{◌≡◌};
+ghost use Rattle.wm_floats.specs.Nearest.{infinity, least, signif};
+
+use wm_syntax::instructions::FloatType;
+
+/// How many bits there are below the exponent's field.
+pub fn fraction_bits(width: FloatType) -> u64
+    ensures { result ≡ signif width }
+{
+    match width {
+        FloatType::F32 => 23,
+        FloatType::F64 => 52,
+    }
+}
+
+/// The bits of infinity.
+pub fn infinity_bits(width: FloatType) -> u64
+    ensures { result ≡ infinity width }
+{
+    match width {
+        FloatType::F32 => 0x7f80_0000,
+        FloatType::F64 => 0x7ff0_0000_0000_0000,
+    }
+}
+
+/// The least float above 0 is 2 to the minus this.
+pub fn lowest(width: FloatType) -> u64
+    ensures { result ≡ least width }
+{
+    match width {
+        FloatType::F32 => 149,
+        FloatType::F64 => 1074,
+    }
+}
