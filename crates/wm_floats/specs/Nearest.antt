@@ -1,5 +1,7 @@
--- Floats as bits, and the float nearest to a fraction (sections 2.2.2, 4.3.2, 4.3.3, 5.2.3). Nothing here computes with floats.
-use Rattle.std.specs.Prelude.{◌≡◌, ◌⊎◌, ℕ, zero, suc, Bool, true, false, ◌+◌, ◌-◌, ◌*◌, ◌/◌, ◌%◌, ◌^◌, ◌<◌, ◌≤◌}
+-- Floats as bits, and the float nearest to a fraction (sections 2.2.2, 4.3.2, 4.3.3, 5.2.3). Nothing here
+-- computes with floats.
+use Rattle.std.specs.Prelude.{◌≡◌, ◌⊎◌, ℕ, zero, suc, Bool, true, false, ◌+◌, ◌-◌, ◌*◌, ◌/◌, ◌%◌, ◌^◌}
+use Rattle.std.specs.Prelude.{◌<◌, ◌≤◌}
 use Rattle.wm_syntax.specs.declared.instructions.FloatType.{FloatType}
 use Rattle.wm_syntax.specs.declared.instructions.FloatType.TheVariants.{F32, F64}
 
@@ -20,8 +22,9 @@ infinity w = (2 ^ expon w - 1) * 2 ^ signif w
 abbrev pub least : FloatType → ℕ
 least w = 2 ^ (expon w - 1) + signif w - 2
 
--- What these bits stand for, without a sign, in units of the least float above 0. An exponent's field of 0 has no leading
--- digit, and counts as a field of 1. The bits of infinity stand here for the limit of section 4.3.3, which comes next.
+-- What these bits stand for, without a sign, in units of the least float above 0. An exponent's field of 0 has
+-- no leading digit, and counts as a field of 1. The bits of infinity stand here for the limit of section 4.3.3,
+-- which comes next.
 abbrev pub of_fields : FloatType → ℕ → ℕ → ℕ
 of_fields w zero digits = digits
 of_fields w (suc e) digits = (2 ^ signif w + digits) * 2 ^ e
@@ -52,11 +55,13 @@ Rounds w num den under bits =
 abbrev pub Chosen : FloatType → ℕ → ℕ → ℕ → Type 0
 Chosen w num den bits = (under : ℕ) × IsFrom w num den under × Rounds w num den under bits
 
--- These are the bits of the float nearest to num / den (section 4.3.3), and it is no infinity (section 6.3.2).
+-- These are the bits of the float nearest to num / den (section 4.3.3), and it is no infinity (section
+-- 6.3.2).
 abbrev pub IsNearest : FloatType → ℕ → ℕ → ℕ → Type 0
 IsNearest w num den bits = (bits < infinity w) × Chosen w num den bits
 
--- num / den is digits * 2 ^ up / 2 ^ down; or more digits followed, so that it lies above that, and below the next.
+-- num / den is digits * 2 ^ up / 2 ^ down; or more digits followed, so that it lies above that, and below the
+-- next.
 abbrev pub IsBinary : ℕ → ℕ → ℕ → Bool → ℕ → ℕ → Type 0
 IsBinary num den digits false up down = num * 2 ^ down ≡ digits * 2 ^ up * den
 IsBinary num den digits true up down =

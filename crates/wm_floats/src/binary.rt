@@ -1,6 +1,7 @@
 //! The float nearest to a number of binary digits (section 4.3.3).
 
-ghost use Rattle.std.specs.Prelude.{◌≡◌, ℕ, ◌+◌, ◌-◌, ◌*◌, ◌/◌, ◌%◌, ◌^◌, ◌<◌, ◌≤◌, true, min, MatchOption, if◌then◌else◌};
+ghost use Rattle.std.specs.Prelude.{◌≡◌, ℕ, ◌+◌, ◌-◌, ◌*◌, ◌/◌, ◌%◌, ◌^◌, ◌<◌, ◌≤◌, true, min};
+ghost use Rattle.std.specs.Prelude.{MatchOption, if◌then◌else◌};
 ghost use Rattle.std.specs.Ordering.{MatchOrdering};
 ghost use Rattle.core.specs.Dec2flt.Rounding.{IsNearestBits};
 ghost use Rattle.wm_floats.specs.Nearest.{IsBinary, IsNearest, infinity, least, signif};
@@ -10,7 +11,8 @@ use crate::widths::{fraction_bits, infinity_bits, lowest};
 use std::cmp::Ordering;
 use wm_syntax::instructions::FloatType;
 
-// The digits but for the lowest ones, and how the others stand to half of what the last digit that is kept counts.
+// The digits but for the lowest ones, and how the others stand to half of what the last digit that is kept
+// counts.
 fn cut(digits: u64, dropped: u64) -> (u64, Ordering)
     requires { 0 < dropped }
     ensures kept { result.0 ≡ digits / 2 ^ dropped }
@@ -94,8 +96,8 @@ fn nearest_bits(width: FloatType, digits: u64, more: bool, up: u64, down: u64) -
     scaled(width, rounded(kept, side, more), exponent)
 }
 
-/// The bits of the float nearest to digits * 2 ^ up / 2 ^ down, or to a number that goes on with more digits. None where that
-/// is no finite float.
+/// The bits of the float nearest to digits * 2 ^ up / 2 ^ down, or to a number that goes on with more digits.
+/// None where that is no finite float.
 pub fn nearest_binary(
     width: FloatType,
     digits: u64,
@@ -106,7 +108,8 @@ pub fn nearest_binary(
     requires sizes { (up ≤ 2 ^ 62) × (down ≤ 2 ^ 62) }
     requires cut { more ≡ true → 2 ^ 60 ≤ digits }
     ensures { (num den : ℕ) → 0 < den → IsBinary num den digits more up down
-        → MatchOption result ((b : ℕ) → IsNearest width num den b → ⊥) (λ b. IsNearest width num den b) }
+        → MatchOption result ((b : ℕ) → IsNearest width num den b → ⊥)
+        (λ b. IsNearest width num den b) }
 {
     let bits = nearest_bits(width, digits, more, up, down);
     if bits < infinity_bits(width) {

@@ -31,8 +31,10 @@ fn nearest_bits(width: FloatType, text: &[u8]) -> u64
 /// The bits of the float nearest to a decimal numeral. None where that is no finite float.
 pub fn nearest_decimal(width: FloatType, text: &[u8]) -> Option<u64>
     ensures { MatchOption result
-        ((b : ℕ) → IsNearest width (digits_of (scan text.now) * 10 ^ tens_up (scan text.now)) (10 ^ tens_down (scan text.now)) b → ⊥)
-        (λ b. IsNearest width (digits_of (scan text.now) * 10 ^ tens_up (scan text.now)) (10 ^ tens_down (scan text.now)) b) }
+        ((b : ℕ) → IsNearest width (digits_of (scan text.now) * 10 ^ tens_up (scan text.now))
+        (10 ^ tens_down (scan text.now)) b → ⊥)
+        (λ b. IsNearest width (digits_of (scan text.now) * 10 ^ tens_up (scan text.now))
+        (10 ^ tens_down (scan text.now)) b) }
 {
     let bits = nearest_bits(width, text);
     if bits < infinity_bits(width) {

@@ -1,7 +1,7 @@
 //! The two widths of floats (section 2.2.2).
 
-ghost use Rattle.std.specs.Prelude.{◌≡◌};
-ghost use Rattle.wm_floats.specs.Nearest.{infinity, least, signif};
+ghost use Rattle.std.specs.Prelude.{◌≡◌, ◌+◌, ◌-◌, ◌^◌};
+ghost use Rattle.wm_floats.specs.Nearest.{expon, infinity, least, signif};
 
 use wm_syntax::instructions::FloatType;
 
@@ -32,5 +32,25 @@ pub fn lowest(width: FloatType) -> u64
     match width {
         FloatType::F32 => 149,
         FloatType::F64 => 1074,
+    }
+}
+
+/// The bit of the sign.
+pub fn sign_bit(width: FloatType) -> u64
+    ensures { result ≡ 2 ^ (signif width + expon width) }
+{
+    match width {
+        FloatType::F32 => 0x8000_0000,
+        FloatType::F64 => 0x8000_0000_0000_0000,
+    }
+}
+
+/// The bits of the canonical NaN.
+pub fn canonical_nan(width: FloatType) -> u64
+    ensures { result ≡ infinity width + 2 ^ (signif width - 1) }
+{
+    match width {
+        FloatType::F32 => 0x7fc0_0000,
+        FloatType::F64 => 0x7ff8_0000_0000_0000,
     }
 }
