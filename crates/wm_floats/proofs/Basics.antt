@@ -1,6 +1,6 @@
 -- Small facts on tests, options and lists.
-use Rattle.std.proofs.Common.{◌≡◌, ℕ, ◌⊎◌, Bool, true, false, cond, List, [], ◌∷◌, ◌++◌, Option, Some, None, refl, ap, inl, inr}
-use Rattle.wm_floats.specs.exact.Atoms.{◌>>=◌, is_some}
+use Rattle.std.proofs.Common.{◌≡◌, ℕ, ◌⊎◌, Bool, true, false, cond, List, [], ◌∷◌, ◌++◌, Option, Some, None, is_some, refl, ap, inl, inr}
+use Rattle.wm_floats.specs.exact.Atoms.{◌>>=◌}
 
 pub chosen : {A : Type 0} (t : Bool) (x y z : A) → cond t x y ≡ z → ((t ≡ true) × (x ≡ z)) ⊎ ((t ≡ false) × (y ≡ z))
 chosen true x y z e = inl (refl, e)

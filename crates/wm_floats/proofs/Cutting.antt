@@ -48,14 +48,14 @@ cut_more x y [] [] h m = refl
 cut_more x y [] (c ∷ r) h m = cut_here x y c r m
 cut_more x y (c ∷ a) r h m = cut_later x y c (a ++ r) h.0 ∙ ap (λ (p : List ℕ × List ℕ). (c ∷ p.0, p.1)) (cut_more x y a r h.1 m)
 
-pub cut_joins : (x y : ℕ) (b : List ℕ) → (b ≡ (cut x y b).0 ++ (cut x y b).1) × BeginsMark x y (cut x y b).1
+abbrev pub Joins : ℕ → ℕ → List ℕ → List ℕ × List ℕ → Type 0
+Joins x y b p = (b ≡ p.0 ++ p.1) × BeginsMark x y p.1
+
+pub cut_joins : (x y : ℕ) (b : List ℕ) → Joins x y b (cut x y b)
 cut_joins x y [] = (refl, tt)
 cut_joins x y (c ∷ b) = by (is_mark x y c) refl (cut_joins x y b)
   where
-    abbrev Joins : List ℕ × List ℕ → Type 0
-    Joins p = (c ∷ b ≡ p.0 ++ p.1) × BeginsMark x y p.1
-
-    by : (t : Bool) → is_mark x y c ≡ t → (b ≡ (cut x y b).0 ++ (cut x y b).1) × BeginsMark x y (cut x y b).1 → Joins (cond t ([], c ∷ b) (c ∷ (cut x y b).0, (cut x y b).1))
+    by : (t : Bool) → is_mark x y c ≡ t → Joins x y b (cut x y b) → Joins x y (c ∷ b) (cond t ([], c ∷ b) (c ∷ (cut x y b).0, (cut x y b).1))
     by true t h = (refl, t)
     by false t h = (ap (λ (z : List ℕ). c ∷ z) h.0, h.1)
 

@@ -133,3 +133,11 @@ digits_some base (c ∷ b) h e = elim (chosen ((c == 95) && false) (are_digits b
     | inr q ↦ absurd (let f : false ≡ true = q.1 in cc)
   ]
 ]
+
+pub plain_short : (b : List ℕ) → length (plain b) ≤ length b
+plain_short [] = omega arith
+plain_short (c ∷ b) = by (c == 95) (plain_short b)
+  where
+    by : (t : Bool) → length (plain b) ≤ length b → length (cond t (plain b) (c ∷ plain b)) ≤ suc (length b)
+    by true h = omega (arith, h)
+    by false h = omega (arith, h)

@@ -1,8 +1,7 @@
 //! Atoms that are floats (section 6.3.2).
 
-ghost use Rattle.std.specs.Prelude.{◌≡◌, ◌+◌, ◌^◌, ◌<◌, None, Some, IfOk, IfSome, MatchOption};
+ghost use Rattle.std.specs.Prelude.{◌≡◌, None, Some, IfOk, MatchOption};
 ghost use Rattle.std.specs.Option.{option_map};
-ghost use Rattle.wm_floats.specs.Nearest.{expon, signif};
 ghost use Rattle.wm_floats.specs.exact.Atoms as atoms;
 
 use crate::digits::{are_digits, held};
@@ -100,10 +99,8 @@ fn number(alloc: Global, width: FloatType, text: &[u8]) -> Result<Option<u64>, A
 }
 
 /// The bits of a float with no sign.
-#[tactic(auto, using(crate::proofs::Ranges::range_laws))]
 fn magnitude(alloc: Global, width: FloatType, text: &[u8]) -> Result<Option<u64>, AllocError>
-    ensures value { IfOk result (λ o. o ≡ atoms.magnitude_of width text.now) }
-    ensures range { IfOk result (λ o. IfSome o (λ bits. bits < 2 ^ (signif width + expon width))) }
+    ensures { IfOk result (λ o. o ≡ atoms.magnitude_of width text.now) }
 {
     if is_just(b"inf", text) {
         return Ok(Some(infinity_bits(width)));
@@ -118,10 +115,10 @@ fn magnitude(alloc: Global, width: FloatType, text: &[u8]) -> Result<Option<u64>
 }
 
 /// The bits of a float behind a minus.
+#[tactic(auto, using(crate::proofs::Ranges::range_laws))]
 fn negative(alloc: Global, width: FloatType, text: &[u8]) -> Result<Option<u64>, AllocError>
-    ensures value { IfOk result (λ o. o ≡ option_map (atoms.below_zero width)
+    ensures { IfOk result (λ o. o ≡ option_map (atoms.below_zero width)
         (atoms.magnitude_of width text.now)) }
-    ensures range { IfOk result (λ o. IfSome o (λ bits. bits < 2 ^ (signif width + expon width + 1))) }
 {
     match magnitude(alloc, width, text)? {
         Some(bits) => Ok(Some(sign_bit(width) + bits)),
@@ -138,8 +135,7 @@ pub fn float_of(
     width: FloatType,
     atom: &[u8],
 ) -> Result<Option<u64>, AllocError>
-    ensures value { IfOk result (λ o. o ≡ atoms.float_of width atom.now) }
-    ensures range { IfOk result (λ o. IfSome o (λ bits. bits < 2 ^ (signif width + expon width + 1))) }
+    ensures { IfOk result (λ o. o ≡ atoms.float_of width atom.now) }
 {
     match atom {
         [] => Ok(None),

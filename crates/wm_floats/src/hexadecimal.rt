@@ -118,23 +118,25 @@ fn up_and_down(negative: bool, size: u64) -> (u64, u64)
 
 // The same where the exponent is held: that is farther than all the digits could move it back. So the number is
 // 0, or nearest to 0, or too large.
-#[tactic(auto, using(crate::proofs::Far::far_laws))]
 fn far(width: FloatType, number: Parts) -> Option<u64>
     requires digits { HasDigits 16 (parts_of number) }
     requires short { length number.whole.now + length number.part.now ≤ 2 ^ 50 }
     requires far { 2 ^ 56 ≤ atoms.size_of (parts_of number) }
     ensures { result ≡ atoms.hexadecimal_bits width (parts_of number) }
 {
-    if number.negative {
+    let negative = number.negative;
+    let digits = read_both(number.whole, number.part).digits;
+    if negative {
         return Some(0);
     }
-    if read_both(number.whole, number.part).digits == 0 {
+    if digits == 0 {
         return Some(0);
     }
     None
 }
 
 /// The bits of the float nearest to a hexadecimal number. None where that is no finite float.
+#[tactic(auto, using(crate::proofs::Far::near_laws))]
 pub fn hexadecimal_bits(width: FloatType, number: Parts) -> Option<u64>
     requires digits { HasDigits 16 (parts_of number) }
     requires short { length number.whole.now + length number.part.now ≤ 2 ^ 50 }

@@ -62,7 +62,12 @@ fn numeral_text(alloc: Global, number: Parts) -> Result<Vec<u8>, AllocError>
 }
 
 /// The bits of the float nearest to a decimal number. None where that is no finite float.
-pub fn decimal_bits(alloc: Global, width: FloatType, number: Parts) -> Result<Option<u64>, AllocError>
+#[tactic(auto, using(crate::proofs::Kit::decimal_laws))]
+pub fn decimal_bits(
+    alloc: Global,
+    width: FloatType,
+    number: Parts,
+) -> Result<Option<u64>, AllocError>
     requires { HasDigits 10 (parts_of number) }
     ensures { IfOk result (λ o. o ≡ atoms.decimal_bits width (parts_of number)) }
 {

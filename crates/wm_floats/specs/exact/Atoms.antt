@@ -1,6 +1,6 @@
 -- The text of a float, read from its first byte to its last.
 use Rattle.std.specs.Prelude.{ℕ, ◌+◌, ◌-◌, ◌*◌, ◌^◌, ◌==◌, ◌&&◌, ◌||◌, List, [], ◌∷◌, ◌++◌, Bool, true, false}
-use Rattle.std.specs.Prelude.{Option, Some, None, if◌then◌else◌, length, codes, nat_lt}
+use Rattle.std.specs.Prelude.{Option, Some, None, if◌then◌else◌, is_some, length, codes, nat_lt}
 use Rattle.std.specs.Option.{option_map}
 use Rattle.std.specs.Char.{is_digit}
 use Rattle.std.specs.Str.Parse.{digits_value}
@@ -13,10 +13,6 @@ infixl 10 ◌>>=◌
 abbrev pub ◌>>=◌ : {A B : Type 0} → Option A → (A → Option B) → Option B
 (Some x) >>= f = f x
 None >>= f = None
-
-abbrev pub is_some : {A : Type 0} → Option A → Bool
-is_some None = false
-is_some (Some x) = true
 
 -- ---- digits
 
