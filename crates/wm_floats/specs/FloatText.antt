@@ -17,7 +17,8 @@ Exponent lower upper up down b =
     ((up ≡ 0) × (down ≡ 0) × (b ≡ []))
     ⊎ ((ds : List ℕ) × (up ≡ value 10 ds) × (down ≡ 0)
     × ((Byte lower ∣ Byte upper) ▸ (Exactly [] ∣ Byte 43) ▸ Digits 10 ds) b)
-    ⊎ ((ds : List ℕ) × (up ≡ 0) × (down ≡ value 10 ds) × ((Byte lower ∣ Byte upper) ▸ Byte 45 ▸ Digits 10 ds) b)
+    ⊎ ((ds : List ℕ) × (up ≡ 0) × (down ≡ value 10 ds)
+    × ((Byte lower ∣ Byte upper) ▸ Byte 45 ▸ Digits 10 ds) b)
 
 -- a number, as a fraction num / den (float and hexfloat); with no point and no exponent it is an integer
 abbrev pub IsDecimal : ℕ → ℕ → Form ℕ

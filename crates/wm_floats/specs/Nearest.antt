@@ -22,9 +22,9 @@ infinity w = (2 ^ expon w - 1) * 2 ^ signif w
 abbrev pub least : FloatType → ℕ
 least w = 2 ^ (expon w - 1) + signif w - 2
 
--- What these bits stand for, without a sign, in units of the least float above 0. An exponent's field of 0 has
--- no leading digit, and counts as a field of 1. The bits of infinity stand here for the limit of section 4.3.3,
--- which comes next.
+-- What these bits stand for, without a sign, in units of the least float above 0. An exponent's field of 0
+-- has no leading digit, and counts as a field of 1. The bits of infinity stand here for the limit of section
+-- 4.3.3, which comes next.
 abbrev pub of_fields : FloatType → ℕ → ℕ → ℕ
 of_fields w zero digits = digits
 of_fields w (suc e) digits = (2 ^ signif w + digits) * 2 ^ e

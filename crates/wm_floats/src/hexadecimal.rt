@@ -14,7 +14,8 @@ use crate::digits::{HELD, count, digit_of, held};
 use crate::parts::Parts;
 use wm_syntax::instructions::FloatType;
 
-// The digits so far: those that 64 bits hold, whether any later one is not 0, and how many later ones there are.
+// The digits so far: those that 64 bits hold, whether any later one is not 0, and how many later ones there
+// are.
 #[derive(Clone, Copy)]
 pub struct Leading {
     digits: u64,
@@ -116,8 +117,8 @@ fn up_and_down(negative: bool, size: u64) -> (u64, u64)
     if negative { (0, size) } else { (size, 0) }
 }
 
-// The same where the exponent is held: that is farther than all the digits could move it back. So the number is
-// 0, or nearest to 0, or too large.
+// The same where the exponent is held: that is farther than all the digits could move it back. So the number
+// is 0, or nearest to 0, or too large.
 fn far(width: FloatType, number: Parts) -> Option<u64>
     requires digits { HasDigits 16 (parts_of number) }
     requires short { length number.whole.now + length number.part.now ≤ 2 ^ 50 }

@@ -7,7 +7,12 @@ use Rattle.wm_floats.specs.declared.parts.Parts.{Parts}
 use Rattle.wm_floats.specs.exact.Atoms.{Numeral, plain}
 
 abbrev pub parts_of : Parts → Numeral
-parts_of p = record { whole = p.whole.now; part = p.part.now; negative = p.negative; exponent = p.exponent.now }
+parts_of p = record {
+  whole = p.whole.now;
+  part = p.part.now;
+  negative = p.negative;
+  exponent = p.exponent.now;
+}
 
 -- the parts are digits, but for underscores, and an exponent that is left out is not below 0
 pub record HasDigits (base : ℕ) (n : Numeral) : Type 0 where

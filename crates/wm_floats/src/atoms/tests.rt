@@ -8,7 +8,7 @@ use std::test::Fail;
 const ZEROS: &str = "00000000000000000000000000000000000000000000000000\
     00000000000000000000000000000000000000000000000000";
 
-// Halfway points between two floats, with and without a digit far behind; the smallest and the largest floats.
+// Halfway points between two floats, with and without a digit far behind; the smallest floats, the largest.
 const DECIMALS: &str = "f32 0 = 0
 f32 -0 = 80000000
 f32 1 = 3F800000
