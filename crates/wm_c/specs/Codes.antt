@@ -126,3 +126,5 @@ text_status_code text.Memory = 4
 abbrev pub profile_code : Profile → ℕ
 profile_code profile.One = 1
 profile_code profile.Two = 2
+profile_code profile.Three = 3
+profile_code profile.Four = 4

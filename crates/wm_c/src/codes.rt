@@ -171,6 +171,8 @@ pub(crate) fn profile_of(number: u64) -> Option<Profile>
     match number {
         1 => Some(Profile::One),
         2 => Some(Profile::Two),
+        3 => Some(Profile::Three),
+        4 => Some(Profile::Four),
         _ => None,
     }
 }

@@ -9,7 +9,7 @@ use Rattle.std.proofs.lemmas.List.Folds.{list_all-append}
 use Rattle.wm_syntax.specs.Leb128.{FitsBits}
 use Rattle.wm_syntax.specs.Spelling.{Form, Exactly, Each, AreBytes, ◌▸◌}
 use Rattle.wm_syntax.specs.declared.types.ValType.{ValType}
-use Rattle.wm_syntax.specs.declared.types.ValType.TheVariants.{I32, I64}
+use Rattle.wm_syntax.specs.declared.types.ValType.TheVariants.{I32, I64, F32, F64}
 use Rattle.wm_write.specs.Layout.{Word, closing, atom, at, gap, spaced, number, quoted, parens, form, name, type_word, key_words}
 use Rattle.wm_read.specs.Tokens as tok
 use Rattle.wm_read.specs.Tokens.{Token, open_paren, close_paren, is_id_char, is_lower, IsAtom, IsIdentifier, IsUnsigned, IsInteger}
@@ -99,6 +99,8 @@ prints_integer bits z most fits wide =
 pub prints_type : (t : ValType) → Prints (WritesType t) (type_word t ∷ [])
 prints_type I32 = prints_word gap (codes "i32") gap_breaks (refl, inr (inr refl))
 prints_type I64 = prints_word gap (codes "i64") gap_breaks (refl, inr (inr refl))
+prints_type F32 = prints_word gap (codes "f32") gap_breaks (refl, inr (inr refl))
+prints_type F64 = prints_word gap (codes "f64") gap_breaks (refl, inr (inr refl))
 
 pub prints_string : (bytes : List ℕ) → AreBytes bytes → Prints (Exactly (tok.string bytes ∷ [])) (quoted bytes ∷ [])
 prints_string bytes h = record { stands = good_stands (quoted bytes) (string_good bytes h); writes = refl }

@@ -8,7 +8,8 @@ use Rattle.std.proofs.lemmas.Grind.{flat_map-append}
 use Rattle.std.proofs.lemmas.Str.{IsAscii-append, IsUtf8-from_ascii}
 use Rattle.std.proofs.lemmas.Str.Ascii.{IsAscii-cons, IsAscii-nil}
 use Rattle.wm_syntax.specs.Spelling.{Each, AreBytes}
-use Rattle.wm_write.specs.Layout.{Meaning, Word, opening, closing, string, atom, is_plain, hex_digit, escaped, meaning_text, word_text, words_text, at, gap, field_line, body_line, number, quoted, parens, form, last_line}
+use Rattle.wm_write.specs.FloatText.{hex_digit}
+use Rattle.wm_write.specs.Layout.{Meaning, Word, opening, closing, string, atom, is_plain, escaped, meaning_text, word_text, words_text, at, gap, field_line, body_line, number, quoted, parens, form, last_line}
 use Rattle.wm_read.specs.Tokens.{Token, open_paren, close_paren, is_space, is_digit, is_lower, is_upper, is_id_char, digit_value, Blank, Space, Element, String, TokenText, Ends, IsAtom, IsIdentifier, IsNumber, IsWord, IsDigit, AreTokens, Tokens}
 use Rattle.wm_read.specs.Tokens as tok
 use Rattle.wm_read.specs.inner.Printed.{token_of, tokens}

@@ -117,7 +117,8 @@ abbrev pub IsWord : List ℕ → Type 0
 IsWord [] = ⊥
 IsWord (c ∷ a) = IsTrue (is_lower c)
 
--- an atom is one of these; other characters in a row are no token (section 6.2.2, reserved)
+-- An atom is one of these; other characters in a row are no token (section 6.2.2, reserved). Nor are the
+-- literals of floats that are no number or word here, as 1.5.
 abbrev pub IsAtom : List ℕ → Type 0
 IsAtom a = IsTrue (list_all is_id_char a) × (IsIdentifier a ⊎ IsNumber a ⊎ IsWord a)
 

@@ -3,12 +3,13 @@ use Rattle.std.specs.Prelude.{◌≡◌, ℕ, ◌<◌, ◌^◌, ◌⊎◌, List,
 use Rattle.std.specs.Prelude.{map, flat_map, slice_get, ℤ}
 use Rattle.wm_syntax.specs.Spelling.{Form, Exactly, Each, ◌▸◌, ◌∣◌}
 use Rattle.wm_syntax.specs.declared.types.ValType.{ValType}
-use Rattle.wm_syntax.specs.declared.types.ValType.TheVariants.{I32, I64}
+use Rattle.wm_syntax.specs.declared.types.ValType.TheVariants.{I32, I64, F32, F64}
 use Rattle.wm_syntax.specs.declared.instructions.MemArg.{MemArg}
 use Rattle.wm_syntax.specs.declared.instructions.Simple.{Simple}
 use Rattle.wm_syntax.specs.declared.instructions.Simple.TheVariants.{Br, BrIf, Call, CallIndirect, LocalGet}
 use Rattle.wm_syntax.specs.declared.instructions.Simple.TheVariants.{LocalSet, LocalTee, GlobalGet, GlobalSet}
-use Rattle.wm_syntax.specs.declared.instructions.Simple.TheVariants.{I32Const, I64Const, Load, Store}
+use Rattle.wm_syntax.specs.declared.instructions.Simple.TheVariants.{I32Const, I64Const, F32Const, F64Const}
+use Rattle.wm_syntax.specs.declared.instructions.Simple.TheVariants.{Load, Store}
 use Rattle.wm_syntax.specs.Types.{Signature}
 use Rattle.wm_syntax.specs.Opcodes.{opcode, load, store}
 use Rattle.wm_syntax.specs.Instructions.{Instruction, Instructions, none, snoc, simple, table, block, loop}
@@ -26,6 +27,10 @@ Paren word P = Exactly (open_paren ∷ atom word ∷ []) ▸ P ▸ Exactly (clos
 abbrev pub Nothing : Form Token
 Nothing = Exactly []
 
+-- no tokens write it
+abbrev pub Unwritten : Form Token
+Unwritten k = ⊥
+
 abbrev pub Number : ℕ → Form Token
 Number = One (IsUnsigned 32)
 
@@ -33,6 +38,8 @@ Number = One (IsUnsigned 32)
 abbrev pub type_text : ValType → List ℕ
 type_text I32 = codes "i32"
 type_text I64 = codes "i64"
+type_text F32 = codes "f32"
+type_text F64 = codes "f64"
 
 abbrev pub WritesType : ValType → Form Token
 WritesType t = Word (type_text t)
@@ -108,6 +115,7 @@ WritesInteger bits = One (IsInteger bits)
 abbrev pub UnnamedTypeUse : Names → ℕ → Form Token
 UnnamedTypeUse names x k = (ts : List ValType) × TypeUse names x (map (λ t. (None, t)) ts) k
 
+-- Literals of floats are not read, so no text writes a constant that is one.
 abbrev pub WritesOperand : Scope → Ids → Simple → Form Token
 WritesOperand s labels (Br l) = ResolvesLabel labels l
 WritesOperand s labels (BrIf l) = ResolvesLabel labels l
@@ -120,6 +128,8 @@ WritesOperand s labels (GlobalGet x) = Resolves s.names.globals x
 WritesOperand s labels (GlobalSet x) = Resolves s.names.globals x
 WritesOperand s labels (I32Const n) = WritesInteger 32 n
 WritesOperand s labels (I64Const n) = WritesInteger 64 n
+WritesOperand s labels (F32Const n) = Unwritten
+WritesOperand s labels (F64Const n) = Unwritten
 WritesOperand s labels (Load op at) = WritesAccess (load op).width at
 WritesOperand s labels (Store op at) = WritesAccess (store op).width at
 WritesOperand s labels _ = Nothing

@@ -47,7 +47,7 @@ pub enum TextWhy {
     LabelEnd,
     /// A function declares 2^32 locals or more.
     TooManyLocals,
-    /// A floating-point type or instruction.
+    /// A floating-point type or instruction that the profile has not, or a constant that is a float.
     Float,
     /// Memory was refused.
     Memory,
@@ -103,7 +103,7 @@ impl TextWhy {
             TextWhy::BadAlign => "an alignment is not a power of two",
             TextWhy::LabelEnd => "this identifier is not the one of its block",
             TextWhy::TooManyLocals => "a function declares 2^32 locals or more",
-            TextWhy::Float => "floating-point types and instructions are not supported",
+            TextWhy::Float => "the profile has no floats, or a constant is one",
             TextWhy::Memory => "memory ran out",
         }
     }

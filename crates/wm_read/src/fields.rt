@@ -49,15 +49,16 @@ pub enum Field<'a> {
 /// Two names and an item.
 fn import<'a>(
     alloc: Global,
+    profile: Profile,
     names: &Names,
     text: &'a [u8],
 ) -> Result<(Field<'a>, &'a [u8]), TextFault>
     ensures { Reads (λ x. (field_of x.0, lexed x.1.now)) result
-        (fields.import_at (names_of names.now) (lexed text.now)) }
+        (fields.import_at profile (names_of names.now) (lexed text.now)) }
 {
     let (module_name, rest) = name(alloc, text)?;
     let (item_name, rest) = name(alloc, rest)?;
-    let (id, desc, rest) = desc(alloc, names, rest)?;
+    let (id, desc, rest) = desc(alloc, profile, names, rest)?;
     let import = Import {
         module_name,
         item_name,
@@ -76,7 +77,7 @@ fn global<'a>(
         (fields.global_at profile (names_of names.now) (lexed text.now)) }
 {
     let (id, rest) = id(text);
-    let (ty, rest) = global_type(rest)?;
+    let (ty, rest) = global_type(profile, rest)?;
     let (init, rest) = constant(profile, names, rest)?;
     Ok((Field::Global(id, GlobalDef { ty, init }), rest))
 }
@@ -170,10 +171,10 @@ fn inside<'a>(
     match kind {
         FieldKind::Type => {
             let (id, rest) = id(text);
-            let (ty, rest) = signature(alloc, rest)?;
+            let (ty, rest) = signature(alloc, profile, rest)?;
             Ok((Field::Type(id, ty), rest))
         }
-        FieldKind::Import => import(alloc, names, text),
+        FieldKind::Import => import(alloc, profile, names, text),
         FieldKind::Func => {
             let (id, rest) = id(text);
             let (function, rest) = function(alloc, profile, names, rest)?;

@@ -39,13 +39,13 @@ pub enum Piece<'a> {
     Closes,
 }
 
-fn opens(opening: Opening, text: &[u8]) -> Result<(Piece, &[u8]), TextFault>
+fn opens(profile: Profile, opening: Opening, text: &[u8]) -> Result<(Piece, &[u8]), TextFault>
     ensures fits { IfOk result (λ x. FitsPiece (piece_of x.0)) }
     ensures read { Reads (λ x. (piece_of x.0, lexed x.1.now)) result
-        (reading.opens_at opening (lexed text.now)) }
+        (reading.opens_at profile opening (lexed text.now)) }
 {
     let (id, rest) = id(text);
-    let (ty, rest) = block_type(rest)?;
+    let (ty, rest) = block_type(profile, rest)?;
     Ok((Piece::Opens(opening, id, ty), rest))
 }
 
@@ -150,6 +150,7 @@ fn closes<'a>(
 
 /// What follows the word of an instruction with one operand.
 fn operand<'a>(
+    profile: Profile,
     scope: &Scope,
     blocks: &OpenBlocks,
     kind: Immediates,
@@ -158,8 +159,8 @@ fn operand<'a>(
     requires { HasOperand kind }
     ensures fits { IfOk result (λ x. FitsPiece (piece_of x.0)) }
     ensures read { Reads (λ x. (piece_of x.0, lexed x.1.now)) result
-        (reading.kind_at (call_use_at (names_of scope.now.names.now)) (scope_of scope.now) blocks.now kind
-        (lexed text.now)) }
+        (reading.kind_at (call_use_at profile (names_of scope.now.names.now)) profile (scope_of scope.now)
+        blocks.now kind (lexed text.now)) }
 {
     let (simple, rest) = match kind {
         Immediates::Br => {
@@ -214,16 +215,17 @@ fn operand<'a>(
 /// What follows the word of a call_indirect.
 fn indirect<'a>(
     alloc: Global,
+    profile: Profile,
     names: &Names,
     text: &'a [u8],
 ) -> Result<(Piece<'a>, &'a [u8]), TextFault>
     ensures fits { IfOk result (λ x. FitsPiece (piece_of x.0)) }
     ensures read { Reads (λ x. (piece_of x.0, lexed x.1.now)) result
-        (reading.simple_at Simple.CallIndirect (call_use_at (names_of names.now)) (lexed text.now)) }
+        (reading.simple_at Simple.CallIndirect (call_use_at profile (names_of names.now)) (lexed text.now)) }
 {
-    match type_use(alloc, names, text) {
+    match type_use(alloc, profile, names, text) {
         Ok((x, rest)) => Ok((Piece::Plain(Simple::CallIndirect(x)), rest)),
-        Err(fault) => Err(call_fault(alloc, names, fault, text)),
+        Err(fault) => Err(call_fault(alloc, profile, names, fault, text)),
     }
 }
 
@@ -240,23 +242,25 @@ pub fn read_piece<'a>(
 ) -> Result<(Piece<'a>, &'a [u8]), TextFault>
     ensures fits { IfOk result (λ x. FitsPiece (piece_of x.0)) }
     ensures read { Reads (λ x. (piece_of x.0, lexed x.1.now)) result
-        (reading.piece_at (call_use_at (names_of scope.now.names.now)) profile (scope_of scope.now) blocks.now
-        word.now
-        (lexed text.now)) }
+        (reading.piece_at (call_use_at profile (names_of scope.now.names.now)) profile (scope_of scope.now)
+        blocks.now word.now (lexed text.now)) }
 {
     match op_named(profile, word) {
         OpClass::Plain(Op::Simple(simple)) => Ok((Piece::Plain(simple), text)),
         OpClass::Plain(Op::Else) => middle(blocks, here, text),
         OpClass::Plain(Op::End) => closes(blocks, here, text),
         OpClass::Plain(_) => Err(refuse(TextWhy::UnknownWord, here)),
-        OpClass::With(Immediates::Block) => opens(Opening::Block, text),
-        OpClass::With(Immediates::Loop) => opens(Opening::Loop, text),
-        OpClass::With(Immediates::If) => opens(Opening::If, text),
+        OpClass::With(Immediates::Block) => opens(profile, Opening::Block, text),
+        OpClass::With(Immediates::Loop) => opens(profile, Opening::Loop, text),
+        OpClass::With(Immediates::If) => opens(profile, Opening::If, text),
         OpClass::With(Immediates::BrTable) => table(alloc, blocks, text),
-        OpClass::With(Immediates::CallIndirect) => indirect(alloc, scope.names, text),
-        OpClass::With(kind) => operand(scope, blocks, kind, text),
+        OpClass::With(Immediates::CallIndirect) => indirect(alloc, profile, scope.names, text),
+        // literals of floats are not read
+        OpClass::With(Immediates::F32Const) => Err(refuse(TextWhy::Float, here)),
+        OpClass::With(Immediates::F64Const) => Err(refuse(TextWhy::Float, here)),
+        OpClass::With(kind) => operand(profile, scope, blocks, kind, text),
         OpClass::Float => Err(refuse(TextWhy::Float, here)),
-        OpClass::None => Err(no_instruction(word, here)),
+        OpClass::None => Err(no_instruction(profile, word, here)),
     }
 }
 

@@ -23,9 +23,13 @@ fn no_constant(profile: Profile, atom: &[u8], text: &[u8]) -> TextFault
 {
     match op_named(profile, atom) {
         OpClass::Plain(Op::Else) | OpClass::Plain(Op::End) => refuse(TextWhy::UnknownWord, text),
+        // literals of floats are not read
+        OpClass::With(Immediates::F32Const) | OpClass::With(Immediates::F64Const) => {
+            refuse(TextWhy::Float, text)
+        }
         OpClass::Plain(_) | OpClass::With(_) => refuse(TextWhy::NotConst, text),
         OpClass::Float => refuse(TextWhy::Float, text),
-        OpClass::None => no_instruction(atom, text),
+        OpClass::None => no_instruction(profile, atom, text),
     }
 }
 

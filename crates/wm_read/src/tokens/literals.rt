@@ -35,7 +35,7 @@ pub fn is_word(atom: &[u8]) -> bool
 }
 
 /// Whether an atom begins and goes on as the name of a floating-point type or instruction does.
-/// No instruction of whole numbers has such a name. It has no clause, since it decides only
+/// No instruction on whole numbers has such a name. It has no clause, since it decides only
 /// which name a refusal gets.
 pub(crate) fn is_float(atom: &[u8]) -> bool {
     if is(atom, b"f32") || is(atom, b"f64") {

@@ -6,7 +6,7 @@ use Rattle.wm_read.proofs.NamedGroups.{after_named}
 use Rattle.wm_read.proofs.code.named.groups.Given as goal
 
 abbrev pub invariant-loop-named : goal.invariant-loop-named
-invariant-loop-named l = after_named (named_list l.named.items) (named_groups_at l.name (lexed l.rest)) ≡ named_at l.name (lexed l.text)
+invariant-loop-named l = after_named (named_list l.named.items) (named_groups_at l.profile l.name (lexed l.rest)) ≡ named_at l.profile l.name (lexed l.text)
 
 abbrev pub decreases-loop-named : goal.decreases-loop-named
 decreases-loop-named l = length (lexed l.rest)

@@ -6,7 +6,7 @@ use Rattle.wm_read.proofs.Groups.{after_groups}
 use Rattle.wm_read.proofs.code.type_uses.groups.Given as goal
 
 abbrev pub invariant-loop-types : goal.invariant-loop-types
-invariant-loop-types l = after_groups l.types.items (groups_at l.name (lexed l.rest)) ≡ made joined (groups_at l.name (lexed l.text))
+invariant-loop-types l = after_groups l.types.items (groups_at l.profile l.name (lexed l.rest)) ≡ made joined (groups_at l.profile l.name (lexed l.text))
 
 abbrev pub decreases-loop-types : goal.decreases-loop-types
 decreases-loop-types l = length (lexed l.rest)
