@@ -263,3 +263,20 @@ form_found b e = elim (chosen (is_just (codes "inf") b) true _ true e) [
     by (Some r) h e =
         let g = digits_are 16 r (omega arith) e in
         inr (inr (inr (value 16 (g.0 ∷ g.1), g.0 ∷ g.1, refl, (codes "nan:0x", r, behind_found (codes "nan:0x") b r h, refl, g.2))))
+
+-- bytes that begin no float
+pub nothing_form : has_form [] ≡ false
+unfolding has_form
+nothing_form = refl
+
+pub plus_form : (b : List ℕ) → has_form (43 ∷ b) ≡ false
+unfolding has_form
+plus_form b = refl
+
+pub minus_form : (b : List ℕ) → has_form (45 ∷ b) ≡ false
+unfolding has_form
+minus_form b = refl
+
+pub dollar_form : (b : List ℕ) → has_form (36 ∷ b) ≡ false
+unfolding has_form
+dollar_form b = refl

@@ -9,6 +9,7 @@ pub mod Places
 pub mod Checks
 pub mod Readers
 pub mod Indices
+pub mod Floats
 pub mod Immediates
 pub mod PieceLaws
 pub mod BodyLaws

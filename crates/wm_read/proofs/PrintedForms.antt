@@ -94,7 +94,7 @@ prints_index ids x lt = record { stands = good_stands (number x) (number_good x 
 
 pub prints_integer : (bits : ℕ) (z : ℤ) → 2 ^ (bits - 1) < 2 ^ 64 → FitsBits bits z → FitsBits 64 z → Prints (WritesInteger bits z) (spaced (signed_decimal z) ∷ [])
 prints_integer bits z most fits wide =
-    prints_atom gap (signed_decimal z) gap_breaks (signed_chars z wide, inr (inl (signed_number z wide))) (signed_decimal z, refl, signed_text bits z most fits)
+    prints_atom gap (signed_decimal z) gap_breaks (signed_chars z wide, inr (inl (inl (signed_number z wide)))) (signed_decimal z, refl, signed_text bits z most fits)
 
 pub prints_type : (t : ValType) → Prints (WritesType t) (type_word t ∷ [])
 prints_type I32 = prints_word gap (codes "i32") gap_breaks (refl, inr (inr refl))
