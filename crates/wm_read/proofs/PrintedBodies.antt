@@ -152,8 +152,8 @@ module _ (sc : Scope) (c : Counts) (h : HasNames sc.names c) where
   prints_operand labels (s.GlobalSet x) f = prints_use (codes "$g") sc.names.globals x g_prefix f.0 (h.globals x f.1)
   prints_operand labels (s.I32Const n) f = prints_integer 32 n (lit< tt) f (wider n f)
   prints_operand labels (s.I64Const n) f = prints_integer 64 n (lit< tt) f f
-  prints_operand labels (s.F32Const n) f = absurd f
-  prints_operand labels (s.F64Const n) f = absurd f
+  prints_operand labels (s.F32Const n) f = prints_float float.F32 n f
+  prints_operand labels (s.F64Const n) f = prints_float float.F64 n f
   prints_operand labels (s.Load o at) f = prints_access (load o).width at f.0 f.1
   prints_operand labels (s.Store o at) f = prints_access (store o).width at f.0 f.1
   prints_operand labels _ f = prints_nothing
