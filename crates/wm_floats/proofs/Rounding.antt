@@ -12,7 +12,7 @@ use Rattle.wm_floats.specs.inner.Kit.{format_of}
 use Rattle.wm_floats.proofs.Basics.{same_some, none_some}
 use Rattle.wm_floats.proofs.Bridge.{finite, too_large, bits_of_rounded, one_nearest}
 use Rattle.wm_floats.proofs.HexDigits.{four, places, sixteen}
-use Rattle.wm_floats.proofs.Units.{units_le}
+use Rattle.wm_floats.proofs.Units.{units_le, units_strict}
 
 -- ---- the exact answer
 
@@ -76,6 +76,17 @@ tiny w num den h =
       0,
       record { from = omega (arith, ap (λ x. x * den) l.none); below = omega (arith, ap (λ x. x * den) next, h) },
       inl (omega (arith, ap (λ x. x * den) sum, h), refl),
+    ))
+
+-- ---- a float itself
+
+pub exact : (w : FloatType) (num den b : ℕ) → b < infinity w → 0 < den → num * 2 ^ least w ≡ units w b * den → IsNearest w num den b
+exact w num den b lt D e =
+    let up : units w b * den < units w (b + 1) * den = mul-lt-mul_of_pos_right (units_strict w b) D in
+    (lt, (
+      b,
+      record { from = omega (arith, e); below = omega (arith, e, up) },
+      inl (omega (arith, e, up), refl),
     ))
 
 -- ---- past the largest

@@ -44,6 +44,7 @@ pub mod TextLaws
 pub mod Spaces
 pub mod PrintedNumbers
 pub mod PrintedTokens
+pub mod PrintedFloats
 pub mod PrintedForms
 pub mod PrintedRanges
 pub mod PrintedBodies

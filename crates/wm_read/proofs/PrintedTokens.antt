@@ -187,7 +187,7 @@ pub number_good : (n : ℕ) → n < 2 ^ 64 → IsGood (number n)
 number_good n lt = atom_good gap (decimal n) gap_breaks (number_is_atom n lt)
 
 -- a string
-hex_value : (d : ℕ) → d < 16 → digit_value (hex_digit d) ≡ Some d
+pub hex_value : (d : ℕ) → d < 16 → digit_value (hex_digit d) ≡ Some d
 hex_value zero lt = refl
 hex_value (suc zero) lt = refl
 hex_value (suc (suc zero)) lt = refl
