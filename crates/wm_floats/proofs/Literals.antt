@@ -10,8 +10,8 @@ use Rattle.wm_floats.specs.FloatText.{Fraction, Exponent, IsDecimal, IsHexadecim
 use Rattle.wm_floats.specs.exact.Atoms.{Numeral, are_digits, are_digits_or_none, plain, is_mark, cut, tail, both_sides, around_point, signed, exponent_of, with_exponent, numeral_of, digits_of, places, size_of, up, down}
 use Rattle.wm_floats.proofs.Basics.{chosen, same_some, none_some}
 use Rattle.wm_floats.proofs.Cutting.{HasNone, BeginsMark, cut_more, cut_joins, mark_is}
-use Rattle.wm_floats.proofs.Digits.{Writes, next, digits_write, digits_are, fold_append}
-use Rattle.wm_floats.proofs.Numerals.{Sides, both_found, Read, numeral_read, numeral_is}
+use Rattle.wm_floats.proofs.WrittenDigits.{Writes, next, digits_write, digits_are, fold_append}
+use Rattle.wm_floats.proofs.NumeralParts.{Sides, both_found, Read, numeral_read, numeral_is}
 use Rattle.wm_floats.proofs.Underscores.{after_append}
 
 -- ---- no digit is a mark

@@ -12,7 +12,7 @@ use Rattle.wm_floats.specs.FloatText.{IsDecimal, IsHexadecimal, IsFraction, IsPa
 use Rattle.wm_floats.specs.Nearest.{signif, expon, infinity, IsNearest}
 use Rattle.wm_floats.specs.exact.Atoms.{◌>>=◌, Numeral, are_digits, plain, numeral_of, digits_of, places, up, down, nearest, decimal_bits, decimal_of, hexadecimal_bits, hexadecimal_of, payload_bits, nan_bits, behind, is_just, number_by, number_bits, payload_or_number, magnitude_of, below_zero, float_of, is_number_by, is_number, is_payload_or_number, has_form}
 use Rattle.wm_floats.proofs.Basics.{chosen, same_some, none_some, bind_ok, bind_is, some_is, is_some_of}
-use Rattle.wm_floats.proofs.Digits.{digits_write, digits_are}
+use Rattle.wm_floats.proofs.WrittenDigits.{digits_write, digits_are}
 use Rattle.wm_floats.proofs.HexDigits.{sixteen}
 use Rattle.wm_floats.proofs.Literals.{decimal_marks, hexadecimal_marks, Number, Taken, number_taken, Given, number_given}
 use Rattle.wm_floats.proofs.Rounding.{nearest_some, nearest_found}

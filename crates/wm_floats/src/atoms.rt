@@ -62,7 +62,7 @@ fn payload_bits(width: FloatType, payload: u64) -> Option<u64>
 }
 
 /// The bits of a hexadecimal number, from behind its 0x.
-#[tactic(auto, using(crate::proofs::Numerals::numeral_laws))]
+#[tactic(auto, using(crate::proofs::NumeralParts::numeral_laws))]
 fn hexadecimal(width: FloatType, digits: &[u8]) -> Result<Option<u64>, AllocError>
     ensures { IfOk result (λ o. o ≡ atoms.hexadecimal_of width digits.now) }
 {
@@ -78,7 +78,7 @@ fn hexadecimal(width: FloatType, digits: &[u8]) -> Result<Option<u64>, AllocErro
 }
 
 /// The bits of a decimal number.
-#[tactic(auto, using(crate::proofs::Numerals::numeral_laws))]
+#[tactic(auto, using(crate::proofs::NumeralParts::numeral_laws))]
 fn decimal(alloc: Global, width: FloatType, text: &[u8]) -> Result<Option<u64>, AllocError>
     ensures { IfOk result (λ o. o ≡ atoms.decimal_of width text.now) }
 {

@@ -13,7 +13,7 @@ use Rattle.wm_write.specs.FloatText.{hex_digit, hexadecimal, places, fraction_te
 use Rattle.wm_floats.specs.Digits.{Digits, IsDigit, value}
 use Rattle.wm_floats.specs.FloatText.{Fraction, Exponent, IsHexadecimal, IsMagnitude, IsFloat, HasForm}
 use Rattle.wm_floats.specs.Nearest.{signif, expon, infinity, least, units}
-use Rattle.wm_floats.proofs.Digits.{next, fold_append}
+use Rattle.wm_floats.proofs.WrittenDigits.{next, fold_append}
 use Rattle.wm_floats.proofs.HexDigits.{sixteen}
 use Rattle.wm_floats.proofs.Rounding.{exact}
 use Rattle.wm_floats.proofs.Units.{units_of_fields}
