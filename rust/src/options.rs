@@ -10,7 +10,7 @@ pub enum Profile {
     One,
     /// The same and the five sign-extension instructions.
     Two,
-    /// All of WebAssembly 1.0, floats too. [`build`](Options::build) reads no float constant.
+    /// All of WebAssembly 1.0, floats too.
     Three,
     /// The same and the five sign-extension instructions.
     Four,

@@ -39,7 +39,7 @@ extern "C" {
 /* Which instructions a module may use. */
 #define WMOD_PROFILE_1 1u /* those of WebAssembly 1.0 on whole numbers */
 #define WMOD_PROFILE_2 2u /* the same and the five sign-extension instructions */
-#define WMOD_PROFILE_3 3u /* all of WebAssembly 1.0, floats too; wmod_build reads no float constant */
+#define WMOD_PROFILE_3 3u /* all of WebAssembly 1.0, floats too */
 #define WMOD_PROFILE_4 4u /* the same and the five sign-extension instructions */
 
 /* Limits, in bytes: what is longer is refused as WMOD_WHY_TOO_LONG. */
@@ -100,7 +100,8 @@ enum {
   WMOD_TEXT_LABEL_END = 117, /* LabelEnd */
   WMOD_TEXT_TOO_MANY_LOCALS = 118, /* TooManyLocals */
   WMOD_TEXT_FLOAT = 119, /* Float */
-  WMOD_TEXT_OUT_OF_MEMORY = 120 /* Memory */
+  WMOD_TEXT_OUT_OF_MEMORY = 120, /* Memory */
+  WMOD_TEXT_BAD_FLOAT = 121 /* BadFloat */
 };
 
 /* The answer to an input. Where the status is WMOD_VALID, `why` and `at` are 0. Else the figures are 0. */

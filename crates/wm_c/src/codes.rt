@@ -122,6 +122,7 @@ pub(crate) fn text_number(why: TextWhy) -> u32
         TextWhy::TooManyLocals => 118,
         TextWhy::Float => 119,
         TextWhy::Memory => 120,
+        TextWhy::BadFloat => 121,
     }
 }
 
@@ -160,6 +161,7 @@ pub(crate) fn text_of(number: u32) -> Option<TextWhy>
         118 => Some(TextWhy::TooManyLocals),
         119 => Some(TextWhy::Float),
         120 => Some(TextWhy::Memory),
+        121 => Some(TextWhy::BadFloat),
         _ => None,
     }
 }

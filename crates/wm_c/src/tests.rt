@@ -100,7 +100,8 @@ name 100 9 = 8 TooLarge0
 name 101 8 = 7 NotUtf80
 name 119 6 = 5 Float0
 name 120 7 = 6 Memory0
-name 121 2 = 0 0?";
+name 121 9 = 8 BadFloat0
+name 122 2 = 0 0?";
 
 // The canonical binary of a header and a custom section is the header. A buffer of the input's length
 // holds it.

@@ -92,10 +92,9 @@ pub const OF_MODULES: &str = "\
 pub const OF_TEXTS: &str = "\
     NotUtf8 | The text is not UTF-8. The place is the length of its longest front that is. | 6.2.1 \
         | the byte `80`: at 0 | Save it as UTF-8.\n\
-    BadToken | A character, or a longest run of characters of atoms, that is no token. So is a \
-        float literal such as `1.5`. A string with a control character decides at its opening quote. | \
-        6.2.2, 6.3 | `,`: at 0 | Remove a byte order mark, escape control characters, write no \
-        float literals. Give a binary module to the other actions.\n\
+    BadToken | A character, or a longest run of characters of atoms, that is no token. A string \
+        with a control character decides at its opening quote. | 6.2.2, 6.3 | `,`: at 0 | Remove a byte \
+        order mark, escape control characters. Give a binary module to the other actions.\n\
     OpenComment | The text ends inside a block comment. | 6.2.4 | `(;`: at 2 | Give each `(;` its \
         own `;)`.\n\
     OpenString | The text ends inside a string, also in an escape. | 6.3.3 | `\"`: at 1 | Close the \
@@ -114,6 +113,9 @@ pub const OF_TEXTS: &str = "\
     BadInteger | A number where an integer must stand, but out of range, or with a sign that may \
         not be there. Also `offset=` or `align=` before no such number. | 6.3.1 | `(module(data -1))`: \
         at 13 | Write a number of the range: below 2^32 with no sign for an index or a limit.\n\
+    BadFloat | A number or a NaN where a float must stand, but none of its width: malformed, nearest \
+        to an infinity, or with a payload that is 0 or out of range. | 6.3.2 | with `--profile 3` \
+        `(module(global f32 f32.const 1e39`: at 29 | Write a number that the width holds, or `inf`.\n\
     BadName | A name of an import or an export whose bytes are not UTF-8. Its string decides. | \
         6.3.4 | `(module(import\"\\ff\"`: at 14 | Write names in UTF-8.\n\
     UnknownId | An identifier that no item of its space has, or no open block. The identifier \
@@ -139,9 +141,7 @@ pub const OF_TEXTS: &str = "\
         or write none.\n\
     TooManyLocals | A function declares 2^32 locals or more. The value type that makes 2^32 \
         decides. | 6.6.5 | none of less than 17 GB, so never without `--limit` | Declare fewer.\n\
-    Float | A floating-point type or instruction, where the profile has none. Under each profile a \
-        constant that is a float. | 6.4.1, 6.5 | `(module(global f32))`: at 15 | The text is not \
-        wrong. Take `--profile 3` or `4`. Under these too, no float constant is read: hand in the \
-        binary.\n\
+    Float | A floating-point type or instruction, where the profile has none. | 6.4.1, 6.5 | \
+        `(module(global f32))`: at 15 | The text is not wrong. Take `--profile 3` or `4`.\n\
     Memory | Memory was refused. The command never prints it, and ends with status 4. | none | none \
         | Hand in a smaller text, or give more memory.";

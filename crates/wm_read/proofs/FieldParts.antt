@@ -38,6 +38,9 @@ use Rattle.wm_read.specs.exact.Fields.{item_word, with_word, item_named, headed_
 use Rattle.wm_read.proofs.Atoms.{magnitude_more}
 use Rattle.wm_read.proofs.Basics.{chosen, same_some}
 use Rattle.wm_read.proofs.FieldTypes.{NoNumber, OfGlobalType, limits_sound, limits_complete, table_type_sound, table_type_complete, global_type_sound, global_type_complete}
+use Rattle.wm_floats.specs.exact.Atoms.{float_of}
+use Rattle.wm_syntax.specs.declared.instructions.FloatType.TheVariants as float
+use Rattle.wm_read.proofs.Floats.{float_complete}
 use Rattle.wm_read.proofs.Immediates.{NotId, NotIndex, id_sound, id_complete, integer_complete, labels_sound, labels_complete}
 use Rattle.wm_read.proofs.Indices.{distinct_nearest, index_sound, index_complete, number_not_id as number_no_id}
 use Rattle.wm_read.proofs.NamedUses.{UseEnds, uses_are_written, uses_are_read}
@@ -171,6 +174,8 @@ module _ (p : Profile) (names : Names) where
       → piece_at (call_use_at p names) p (scope_with names) [] w t ≡ Some (plain (constant c), rest)
   kind_piece w k.I32Const t c rest n e = number_piece const.I32 (atom_at (integer_of 32)) w k.I32Const t c rest n (λ k. refl) e
   kind_piece w k.I64Const t c rest n e = number_piece const.I64 (atom_at (integer_of 64)) w k.I64Const t c rest n (λ k. refl) e
+  kind_piece w k.F32Const t c rest n e = number_piece const.F32 (atom_at (float_of float.F32)) w k.F32Const t c rest n (λ k. refl) e
+  kind_piece w k.F64Const t c rest n e = number_piece const.F64 (atom_at (float_of float.F64)) w k.F64Const t c rest n (λ k. refl) e
   kind_piece w k.GlobalGet t c rest n e = number_piece const.Global (atom_at (index_of names.globals)) w k.GlobalGet t c rest n (λ k. refl) e
   kind_piece w _ t c rest n e = absurd cc
 
@@ -204,8 +209,12 @@ module _ (p : Profile) (names : Names) where
   const_complete d (const.I64 n) front rest ((a, b, e, w, h), of) f =
       ap (λ (z : List Token). const_at p names (z ++ rest)) (e ∙ ap (λ (z : List Token). z ++ b) w) ∙ const_word (const.I64 n) (b ++ rest) of
       ∙ made_is const.I64 (atom_at (integer_of 64) (b ++ rest)) n rest (integer_complete 64 n b rest h tt)
-  const_complete d (const.F32 n) front rest ((a, b, e, w, h), of) f = absurd h
-  const_complete d (const.F64 n) front rest ((a, b, e, w, h), of) f = absurd h
+  const_complete d (const.F32 n) front rest ((a, b, e, w, h), of) f =
+      ap (λ (z : List Token). const_at p names (z ++ rest)) (e ∙ ap (λ (z : List Token). z ++ b) w) ∙ const_word (const.F32 n) (b ++ rest) of
+      ∙ made_is const.F32 (atom_at (float_of float.F32) (b ++ rest)) n rest (float_complete float.F32 n b rest h tt)
+  const_complete d (const.F64 n) front rest ((a, b, e, w, h), of) f =
+      ap (λ (z : List Token). const_at p names (z ++ rest)) (e ∙ ap (λ (z : List Token). z ++ b) w) ∙ const_word (const.F64 n) (b ++ rest) of
+      ∙ made_is const.F64 (atom_at (float_of float.F64) (b ++ rest)) n rest (float_complete float.F64 n b rest h tt)
   const_complete d (const.Global x) front rest ((a, b, e, w, h), of) f =
       ap (λ (z : List Token). const_at p names (z ++ rest)) (e ∙ ap (λ (z : List Token). z ++ b) w) ∙ const_word (const.Global x) (b ++ rest) of
       ∙ made_is const.Global (atom_at (index_of names.globals) (b ++ rest)) x rest (index_complete names.globals d.globals x b rest h tt)

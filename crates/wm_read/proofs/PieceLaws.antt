@@ -34,7 +34,9 @@ use Rattle.wm_read.specs.Identifiers.{Id, Ids, AreDistinct, WritesId, Resolves, 
 use Rattle.wm_syntax.specs.OpNames.{op_name}
 use Rattle.wm_syntax.specs.exact.NameTable.{class_named, immediates_name}
 use Rattle.wm_syntax.proofs.NamedOps.{found_named, only_named}
-use Rattle.wm_read.specs.Written.{Names, Scope, UnnamedTypeUse, WritesOperand, WritesBlockType, WritesInteger, WritesAccess}
+use Rattle.wm_read.specs.Written.{Names, Scope, UnnamedTypeUse, WritesOperand, WritesBlockType, WritesInteger, WritesFloat, WritesAccess}
+use Rattle.wm_floats.specs.exact.Atoms.{float_of}
+use Rattle.wm_read.proofs.Floats.{float_sound, float_complete}
 use Rattle.wm_read.specs.inner.Pieces.{Opened, labels, Piece, plain, jump, opens, middle, closes, opening_word, IsPieceOf, WritesPiece}
 use Rattle.wm_read.specs.exact.Reading.{Reader, atom_at, index_of, integer_of, then_at, id_at, is_id, is_word, after_key, access_at, block_type_at, again_at, split_last, labels_at, table_of, table_at, middle_at, closes_at, simple_at, opens_at, kind_at, class_at, piece_at}
 use Rattle.wm_read.proofs.Readers.{Sound, Complete, Both, bind_ok, bind_is, then_sound, then_complete, made_sound, made_is}
@@ -207,8 +209,10 @@ store_all p F32Store at h a = h
 store_all p F64Store at h a = h
 store_all p _ at h a = refl
 
--- the accesses with these immediates are of the profile
+-- the accesses and the floats with these immediates are of the profile
 abbrev KindOf : Profile → Immediates → Type 0
+KindOf p k.F32Const = (n : ℕ) → HasSimple p (s.F32Const n)
+KindOf p k.F64Const = (n : ℕ) → HasSimple p (s.F64Const n)
 KindOf p (k.Load o) = (at : MemArg) → HasSimple p (s.Load o at)
 KindOf p (k.Store o) = (at : MemArg) → HasSimple p (s.Store o at)
 KindOf p _ = Unit {0}
@@ -389,8 +393,8 @@ module _ (use_at : Reader ℕ) (sc : Scope) (use_sound : Sound use_at (UnnamedTy
   kind_sound k.MemoryGrow w e of = alone_sound s.MemoryGrow w e refl (free p s.MemoryGrow tt)
   kind_sound k.I32Const w e of = simple_sound s.I32Const (atom_at (integer_of 32)) (WritesInteger 32) w (integer_sound 32) (λ x. e) (λ x. tt) (λ x front h. h)
   kind_sound k.I64Const w e of = simple_sound s.I64Const (atom_at (integer_of 64)) (WritesInteger 64) w (integer_sound 64) (λ x. e) (λ x. tt) (λ x front h. h)
-  kind_sound k.F32Const w e of = λ t q rest is. absurd (let f : ◌≡◌ {A = Option (Piece × List Token)} None (Some (q, rest)) = is in cc)
-  kind_sound k.F64Const w e of = λ t q rest is. absurd (let f : ◌≡◌ {A = Option (Piece × List Token)} None (Some (q, rest)) = is in cc)
+  kind_sound k.F32Const w e of = made_sound (λ x. plain (s.F32Const x)) (atom_at (float_of float.F32)) (WritesFloat float.F32) (Headed w) (float_sound float.F32) (λ x front h. (e, h, of x))
+  kind_sound k.F64Const w e of = made_sound (λ x. plain (s.F64Const x)) (atom_at (float_of float.F64)) (WritesFloat float.F64) (Headed w) (float_sound float.F64) (λ x front h. (e, h, of x))
   kind_sound (k.Load o) w e of = made_sound (λ x. plain (s.Load o x)) (access_at (load o).width) (WritesAccess (load o).width) (Headed w) (access_sound (load o).width) (λ x front h. (e, h, of x))
   kind_sound (k.Store o) w e of = made_sound (λ x. plain (s.Store o x)) (access_at (store o).width) (WritesAccess (store o).width) (Headed w) (access_sound (store o).width) (λ x front h. (e, h, of x))
 
@@ -412,8 +416,8 @@ module _ (use_at : Reader ℕ) (sc : Scope) (use_sound : Sound use_at (UnnamedTy
   class_sound (op.Simple s.MemoryGrow) w e h = kind_sound k.MemoryGrow w (some_word (codes "memory.grow") w e) tt
   class_sound (op.Simple (s.I32Const x)) w e h = kind_sound k.I32Const w (some_word (codes "i32.const") w e) tt
   class_sound (op.Simple (s.I64Const x)) w e h = kind_sound k.I64Const w (some_word (codes "i64.const") w e) tt
-  class_sound (op.Simple (s.F32Const x)) w e h = kind_sound k.F32Const w (some_word (codes "f32.const") w e) tt
-  class_sound (op.Simple (s.F64Const x)) w e h = kind_sound k.F64Const w (some_word (codes "f64.const") w e) tt
+  class_sound (op.Simple (s.F32Const x)) w e h = kind_sound k.F32Const w (some_word (codes "f32.const") w e) (λ n. h)
+  class_sound (op.Simple (s.F64Const x)) w e h = kind_sound k.F64Const w (some_word (codes "f64.const") w e) (λ n. h)
   class_sound (op.Simple (s.Load o at)) w e h = kind_sound (k.Load o) w (some_word (load o).name w e) (load_all p o at h)
   class_sound (op.Simple (s.Store o at)) w e h = kind_sound (k.Store o) w (some_word (store o).name w e) (store_all p o at h)
   class_sound (op.Simple (s.Numeric n)) w e h = alone_sound (s.Numeric n) w (some_word (opcode (s.Numeric n)).1 w e) refl h
@@ -458,8 +462,8 @@ module _ (use_at : Reader ℕ) (sc : Scope) (use_sound : Sound use_at (UnnamedTy
     simple_complete (s.GlobalSet x) front rest h f = made_is (λ y. plain (s.GlobalSet y)) (atom_at (index_of sc.names.globals) (front ++ rest)) x rest (index_complete sc.names.globals scope.globals x front rest h tt)
     simple_complete (s.I32Const z) front rest h f = made_is (λ y. plain (s.I32Const y)) (atom_at (integer_of 32) (front ++ rest)) z rest (integer_complete 32 z front rest h tt)
     simple_complete (s.I64Const z) front rest h f = made_is (λ y. plain (s.I64Const y)) (atom_at (integer_of 64) (front ++ rest)) z rest (integer_complete 64 z front rest h tt)
-    simple_complete (s.F32Const n) front rest h f = absurd h
-    simple_complete (s.F64Const n) front rest h f = absurd h
+    simple_complete (s.F32Const n) front rest h f = made_is (λ y. plain (s.F32Const y)) (atom_at (float_of float.F32) (front ++ rest)) n rest (float_complete float.F32 n front rest h tt)
+    simple_complete (s.F64Const n) front rest h f = made_is (λ y. plain (s.F64Const y)) (atom_at (float_of float.F64) (front ++ rest)) n rest (float_complete float.F64 n front rest h tt)
     simple_complete (s.Load o at) front rest h f = made_is (λ y. plain (s.Load o y)) (access_at (load o).width (front ++ rest)) at rest (access_complete (load o).width (load_width o) at front rest h (follow_keys rest f))
     simple_complete (s.Store o at) front rest h f = made_is (λ y. plain (s.Store o y)) (access_at (store o).width (front ++ rest)) at rest (access_complete (store o).width (store_width o) at front rest h (follow_keys rest f))
     simple_complete s.MemorySize front rest h f = alone_complete s.MemorySize front rest h

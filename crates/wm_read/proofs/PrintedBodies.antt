@@ -39,7 +39,7 @@ use Rattle.wm_read.specs.Written.{Closes, Names, Opens, Scope, TypeUse, WritesAc
 use Rattle.wm_read.specs.Written as w
 use Rattle.wm_read.specs.inner.Printed.{tokens}
 use Rattle.wm_read.proofs.PrintedTokens.{IsBreak, IsHead, body_line_breaks, gap_breaks}
-use Rattle.wm_read.proofs.PrintedForms.{IsPrefix, Prints, head_is, id_at, prints_as, prints_form, prints_index, prints_integer, prints_key, prints_label, prints_nothing, prints_then, prints_type, prints_use, prints_word}
+use Rattle.wm_read.proofs.PrintedForms.{IsPrefix, Prints, head_is, id_at, prints_as, prints_float, prints_form, prints_index, prints_integer, prints_key, prints_label, prints_nothing, prints_then, prints_type, prints_use, prints_word}
 use Rattle.wm_read.proofs.PrintedRanges.{AreFine, Counts, IsFine, IsFineInstruction}
 
 -- ---- the names of instructions are atoms
@@ -152,8 +152,8 @@ module _ (sc : Scope) (c : Counts) (h : HasNames sc.names c) where
   prints_operand labels (s.GlobalSet x) f = prints_use (codes "$g") sc.names.globals x g_prefix f.0 (h.globals x f.1)
   prints_operand labels (s.I32Const n) f = prints_integer 32 n (lit< tt) f (wider n f)
   prints_operand labels (s.I64Const n) f = prints_integer 64 n (lit< tt) f f
-  prints_operand labels (s.F32Const n) f = absurd f
-  prints_operand labels (s.F64Const n) f = absurd f
+  prints_operand labels (s.F32Const n) f = prints_float float.F32 n f
+  prints_operand labels (s.F64Const n) f = prints_float float.F64 n f
   prints_operand labels (s.Load o at) f = prints_access (load o).width at f.0 f.1
   prints_operand labels (s.Store o at) f = prints_access (store o).width at f.0 f.1
   prints_operand labels _ f = prints_nothing

@@ -181,13 +181,13 @@ pub atom_good : (before a : List ℕ) → IsBreak before → IsAtom a → IsGood
 atom_good before a b h = behind before (atom a) b (refl, h) (chars_ascii a h.0)
 
 pub number_is_atom : (n : ℕ) → n < 2 ^ 64 → IsAtom (decimal n)
-number_is_atom n lt = ((decimal_printed n lt).chars, inr (inl (n, inl (decimal_magnitude n lt))))
+number_is_atom n lt = ((decimal_printed n lt).chars, inr (inl (inl (n, inl (decimal_magnitude n lt)))))
 
 pub number_good : (n : ℕ) → n < 2 ^ 64 → IsGood (number n)
 number_good n lt = atom_good gap (decimal n) gap_breaks (number_is_atom n lt)
 
 -- a string
-hex_value : (d : ℕ) → d < 16 → digit_value (hex_digit d) ≡ Some d
+pub hex_value : (d : ℕ) → d < 16 → digit_value (hex_digit d) ≡ Some d
 hex_value zero lt = refl
 hex_value (suc zero) lt = refl
 hex_value (suc (suc zero)) lt = refl

@@ -4,6 +4,9 @@ use Rattle.std.specs.Prelude.{map, flat_map, slice_get, ℤ}
 use Rattle.wm_syntax.specs.Spelling.{Form, Exactly, Each, ◌▸◌, ◌∣◌}
 use Rattle.wm_syntax.specs.declared.types.ValType.{ValType}
 use Rattle.wm_syntax.specs.declared.types.ValType.TheVariants.{I32, I64, F32, F64}
+use Rattle.wm_floats.specs.FloatText.{IsFloat}
+use Rattle.wm_syntax.specs.declared.instructions.FloatType.{FloatType}
+use Rattle.wm_syntax.specs.declared.instructions.FloatType.TheVariants as float
 use Rattle.wm_syntax.specs.declared.instructions.MemArg.{MemArg}
 use Rattle.wm_syntax.specs.declared.instructions.Simple.{Simple}
 use Rattle.wm_syntax.specs.declared.instructions.Simple.TheVariants.{Br, BrIf, Call, CallIndirect, LocalGet}
@@ -26,10 +29,6 @@ Paren word P = Exactly (open_paren ∷ atom word ∷ []) ▸ P ▸ Exactly (clos
 
 abbrev pub Nothing : Form Token
 Nothing = Exactly []
-
--- no tokens write it
-abbrev pub Unwritten : Form Token
-Unwritten k = ⊥
 
 abbrev pub Number : ℕ → Form Token
 Number = One (IsUnsigned 32)
@@ -111,11 +110,14 @@ WritesAccess width at = WritesKey (codes "offset=") 0 at.offset
 abbrev pub WritesInteger : ℕ → ℤ → Form Token
 WritesInteger bits = One (IsInteger bits)
 
+-- the bits of a float
+abbrev pub WritesFloat : FloatType → ℕ → Form Token
+WritesFloat w = One (IsFloat w)
+
 -- a type use whose parameters have no identifiers
 abbrev pub UnnamedTypeUse : Names → ℕ → Form Token
 UnnamedTypeUse names x k = (ts : List ValType) × TypeUse names x (map (λ t. (None, t)) ts) k
 
--- Literals of floats are not read, so no text writes a constant that is one.
 abbrev pub WritesOperand : Scope → Ids → Simple → Form Token
 WritesOperand s labels (Br l) = ResolvesLabel labels l
 WritesOperand s labels (BrIf l) = ResolvesLabel labels l
@@ -128,8 +130,8 @@ WritesOperand s labels (GlobalGet x) = Resolves s.names.globals x
 WritesOperand s labels (GlobalSet x) = Resolves s.names.globals x
 WritesOperand s labels (I32Const n) = WritesInteger 32 n
 WritesOperand s labels (I64Const n) = WritesInteger 64 n
-WritesOperand s labels (F32Const n) = Unwritten
-WritesOperand s labels (F64Const n) = Unwritten
+WritesOperand s labels (F32Const n) = WritesFloat float.F32 n
+WritesOperand s labels (F64Const n) = WritesFloat float.F64 n
 WritesOperand s labels (Load op at) = WritesAccess (load op).width at
 WritesOperand s labels (Store op at) = WritesAccess (store op).width at
 WritesOperand s labels _ = Nothing

@@ -69,6 +69,7 @@ fn import<'a>(
 
 /// A global's identifier, type and initialiser.
 fn global<'a>(
+    alloc: Global,
     profile: Profile,
     names: &Names,
     text: &'a [u8],
@@ -78,7 +79,7 @@ fn global<'a>(
 {
     let (id, rest) = id(text);
     let (ty, rest) = global_type(profile, rest)?;
-    let (init, rest) = constant(profile, names, rest)?;
+    let (init, rest) = constant(alloc, profile, names, rest)?;
     Ok((Field::Global(id, GlobalDef { ty, init }), rest))
 }
 
@@ -126,7 +127,7 @@ fn element<'a>(
         (fields.element_at profile (names_of names.now) (lexed text.now)) }
 {
     let (table, rest) = index(&names.tables, text)?;
-    let (offset, rest) = offset(profile, names, rest)?;
+    let (offset, rest) = offset(alloc, profile, names, rest)?;
     let (functions, rest) = indices(alloc, &names.functions, rest)?;
     let element = Element {
         table,
@@ -147,7 +148,7 @@ fn segment<'a>(
         (fields.segment_at profile (names_of names.now) (lexed text.now)) }
 {
     let (memory, rest) = index(&names.memories, text)?;
-    let (offset, rest) = offset(profile, names, rest)?;
+    let (offset, rest) = offset(alloc, profile, names, rest)?;
     let (bytes, rest) = bytes(alloc, rest)?;
     let segment = Segment {
         memory,
@@ -190,7 +191,7 @@ fn inside<'a>(
             let (limits, rest) = limits(rest)?;
             Ok((Field::Memory(id, limits), rest))
         }
-        FieldKind::Global => global(profile, names, text),
+        FieldKind::Global => global(alloc, profile, names, text),
         FieldKind::Export => export(alloc, names, text),
         FieldKind::Start => {
             let (x, rest) = index(&names.functions, text)?;

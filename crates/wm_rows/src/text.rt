@@ -57,16 +57,6 @@ fn text_of(alloc: Global, checked: &Checked) -> io::Result<Vec<u8>> {
     }
 }
 
-fn is(part: &[u8], word: &[u8]) -> bool {
-    part == word
-}
-
-/// Whether a text has a constant that is a float, which is printed and not read.
-fn has_float_constant(text: &[u8]) -> bool {
-    text.windows(9)
-        .any(|part| is(part, b"f32.const") || is(part, b"f64.const"))
-}
-
 /// Whether the text of a module is short enough to be tried: it has a word for each local.
 fn is_short_in_text(checked: &Checked) -> bool {
     let mut functions = checked.module().functions.iter();
@@ -113,8 +103,7 @@ fn is_built(built: &Built, canonical: &[u8]) -> bool {
     }
 }
 
-/// Whether a module has this canonical binary once it is checked as a value, and once its text is read, where
-/// that has no literal of a float.
+/// Whether a module has this canonical binary once it is checked as a value, and once its text is read.
 fn is_module_given_back(
     alloc: Global,
     row: &Row,
@@ -128,9 +117,6 @@ fn is_module_given_back(
         return Ok(true);
     }
     let text = text_of(alloc, checked)?;
-    if has_float_constant(&text) {
-        return Ok(true);
-    }
     Ok(is_built(&build(alloc, row, Spellings::Standard, &text)?, canonical))
 }
 

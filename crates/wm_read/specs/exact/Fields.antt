@@ -4,6 +4,8 @@ use Rattle.std.specs.Prelude.{if◌then◌else◌, codes, flat_map, is_none, len
 use Rattle.std.specs.Str.{is_utf8}
 use Rattle.wm_syntax.specs.declared.types.Const.{Const}
 use Rattle.wm_syntax.specs.declared.types.Const.TheVariants as const
+use Rattle.wm_syntax.specs.declared.instructions.FloatType.TheVariants as float
+use Rattle.wm_floats.specs.exact.Atoms.{float_of}
 use Rattle.wm_syntax.specs.declared.modules.ImportDesc.{ImportDesc}
 use Rattle.wm_syntax.specs.declared.modules.ImportDesc.TheVariants as desc
 use Rattle.wm_syntax.specs.declared.modules.ExportKind.{ExportKind}
@@ -86,6 +88,8 @@ bytes_at k = made (λ parts. flat_map (λ part. part) parts) (strings_at k)
 abbrev pub const_kind : Names → Immediates → Reader Const
 const_kind names k.I32Const t = made const.I32 (atom_at (integer_of 32) t)
 const_kind names k.I64Const t = made const.I64 (atom_at (integer_of 64) t)
+const_kind names k.F32Const t = made const.F32 (atom_at (float_of float.F32) t)
+const_kind names k.F64Const t = made const.F64 (atom_at (float_of float.F64) t)
 const_kind names k.GlobalGet t = made const.Global (atom_at (index_of names.globals) t)
 const_kind names _ t = None
 

@@ -4,6 +4,8 @@ use Rattle.std.specs.Prelude.{Option, Some, None, if◌then◌else◌, length, c
 use Rattle.std.specs.Prelude.{◌-ℤ◌}
 use Rattle.wm_syntax.specs.declared.types.ValType.{ValType}
 use Rattle.wm_syntax.specs.declared.types.ValType.TheVariants.{I32, I64, F32, F64}
+use Rattle.wm_floats.specs.exact.Atoms.{float_of}
+use Rattle.wm_syntax.specs.declared.instructions.FloatType.TheVariants as float
 use Rattle.wm_syntax.specs.declared.instructions.MemArg.{MemArg}
 use Rattle.wm_syntax.specs.declared.instructions.Simple.{Simple}
 use Rattle.wm_syntax.specs.declared.instructions.Simple.TheVariants as s
@@ -239,8 +241,8 @@ module _ (use_at : Reader ℕ) where
   kind_at p sc bs k.MemoryGrow = λ k. Some (plain s.MemoryGrow, k)
   kind_at p sc bs k.I32Const = simple_at s.I32Const (atom_at (integer_of 32))
   kind_at p sc bs k.I64Const = simple_at s.I64Const (atom_at (integer_of 64))
-  kind_at p sc bs k.F32Const = λ k. None
-  kind_at p sc bs k.F64Const = λ k. None
+  kind_at p sc bs k.F32Const = simple_at s.F32Const (atom_at (float_of float.F32))
+  kind_at p sc bs k.F64Const = simple_at s.F64Const (atom_at (float_of float.F64))
   kind_at p sc bs (k.Load o) = simple_at (s.Load o) (access_at (load o).width)
   kind_at p sc bs (k.Store o) = simple_at (s.Store o) (access_at (store o).width)
 

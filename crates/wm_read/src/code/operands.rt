@@ -2,20 +2,24 @@
 
 ghost use Rattle.std.specs.Prelude.{◌≡◌, ◌≤◌, ◌<◌, Some, None, codes, Option, nat_lt, if◌then◌else◌, IfOk};
 ghost use Rattle.std.specs.Prelude.{length};
+ghost use Rattle.wm_floats.specs.exact.Atoms as atoms;
 ghost use Rattle.wm_read.specs.exact.Reading as reading;
 ghost use Rattle.wm_read.specs.exact.Scan.{lexed};
 ghost use Rattle.wm_read.specs.exact.TypeUses as uses;
 ghost use Rattle.wm_read.specs.inner.Ids.{id_of};
 ghost use Rattle.wm_read.specs.inner.Pieces.{labels};
 ghost use Rattle.wm_read.specs.inner.Views.{IsRefusal, Reads};
+ghost use Rattle.wm_syntax.specs.declared.instructions.FloatType.TheVariants as float;
 
 use crate::code::blocks::OpenBlocks;
 use crate::faults::{TextFault, TextWhy};
 use crate::names::identifiers::{Space, is_same_id};
 use crate::tokens::lexeme::{Lexeme, next_token, skip_space};
 use crate::tokens::literals::{
-    after_key, constant32, constant64, exponent, is, is_float, is_id, is_word, small, unsigned,
+    after_key, constant32, constant64, exponent, float32, float64, is, is_float, is_id, is_word,
+    small, unsigned,
 };
+use std::alloc::Global;
 use wm_syntax::instructions::MemArg;
 use wm_syntax::profile::{Feature, Profile};
 use wm_syntax::types::ValType;
@@ -105,6 +109,53 @@ pub fn integer_64(text: &[u8]) -> Result<(i64, &[u8]), TextFault>
         },
         _ => Err(refuse(TextWhy::Expected, text)),
     }
+}
+
+/// A constant that is an f32.
+pub fn float_32(alloc: Global, text: &[u8]) -> Result<(u32, &[u8]), TextFault>
+    ensures { Reads (λ x. (x.0, lexed x.1.now)) result
+        (reading.atom_at (atoms.float_of float.F32) (lexed text.now)) }
+{
+    match next_token(text) {
+        Some((Lexeme::Atom(atom), rest)) => match float32(alloc, atom)? {
+            Some(bits) => Ok((bits, rest)),
+            None => Err(no_float(atom, text)),
+        },
+        _ => Err(refuse(TextWhy::Expected, text)),
+    }
+}
+
+/// A constant that is an f64.
+pub fn float_64(alloc: Global, text: &[u8]) -> Result<(u64, &[u8]), TextFault>
+    ensures { Reads (λ x. (x.0, lexed x.1.now)) result
+        (reading.atom_at (atoms.float_of float.F64) (lexed text.now)) }
+{
+    match next_token(text) {
+        Some((Lexeme::Atom(atom), rest)) => match float64(alloc, atom)? {
+            Some(bits) => Ok((bits, rest)),
+            None => Err(no_float(atom, text)),
+        },
+        _ => Err(refuse(TextWhy::Expected, text)),
+    }
+}
+
+/// What is wrong with an atom, the first token of a text, where a float is expected.
+fn no_float(atom: &[u8], text: &[u8]) -> TextFault
+    ensures { IsRefusal result.why }
+{
+    if is_id(atom) {
+        refuse(TextWhy::Expected, text)
+    } else if is_word(atom) && !is_nan(atom) {
+        refuse(TextWhy::Expected, text)
+    } else {
+        refuse(TextWhy::BadFloat, text)
+    }
+}
+
+/// Whether a word begins as a NaN with a payload does. It has no clause, since it decides only which name a
+/// refusal gets.
+fn is_nan(atom: &[u8]) -> bool {
+    atom.starts_with(b"nan:")
 }
 
 /// What is wrong with an atom, the first token of a text, where a constant is expected.

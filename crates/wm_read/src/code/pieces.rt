@@ -1,6 +1,7 @@
 //! Pieces of a body: an instruction, or what opens, divides or closes a block.
 
 ghost use Rattle.std.specs.Prelude.{◌≡◌, ◌≤◌, Some, IfOk, length};
+ghost use Rattle.wm_floats.specs.exact.Atoms as atoms;
 ghost use Rattle.wm_read.specs.exact.Scan.{lexed};
 ghost use Rattle.wm_read.specs.inner.Blocks.{names_of, scope_of};
 ghost use Rattle.wm_read.specs.exact.TypeUses.{call_use_at};
@@ -9,13 +10,14 @@ ghost use Rattle.wm_read.specs.inner.Pieces as flat;
 ghost use Rattle.wm_read.specs.exact.Reading as reading;
 ghost use Rattle.wm_read.specs.inner.Views.{Reads};
 ghost use Rattle.wm_syntax.specs.Opcodes as table;
+ghost use Rattle.wm_syntax.specs.declared.instructions.FloatType.TheVariants as float;
 ghost use Rattle.wm_syntax.specs.declared.instructions.Simple.TheVariants as Simple;
 
 use crate::code::blocks::{OpenBlocks, Opening};
 use crate::code::named_uses::call_fault;
 use crate::code::operands::{
-    access, again, begins_index, block_type, id, index, integer_32, integer_64, label,
-    no_instruction, refuse,
+    access, again, begins_index, block_type, float_32, float_64, id, index, integer_32, integer_64,
+    label, no_instruction, refuse,
 };
 use crate::code::type_uses::type_use;
 use crate::faults::{TextFault, TextWhy};
@@ -212,6 +214,26 @@ fn operand<'a>(
     Ok((Piece::Plain(simple), rest))
 }
 
+/// What follows the word of an f32.const.
+fn constant_f32(alloc: Global, text: &[u8]) -> Result<(Piece, &[u8]), TextFault>
+    ensures fits { IfOk result (λ x. FitsPiece (piece_of x.0)) }
+    ensures read { Reads (λ x. (piece_of x.0, lexed x.1.now)) result
+        (reading.simple_at Simple.F32Const (reading.atom_at (atoms.float_of float.F32)) (lexed text.now)) }
+{
+    let (bits, rest) = float_32(alloc, text)?;
+    Ok((Piece::Plain(Simple::F32Const(bits)), rest))
+}
+
+/// What follows the word of an f64.const.
+fn constant_f64(alloc: Global, text: &[u8]) -> Result<(Piece, &[u8]), TextFault>
+    ensures fits { IfOk result (λ x. FitsPiece (piece_of x.0)) }
+    ensures read { Reads (λ x. (piece_of x.0, lexed x.1.now)) result
+        (reading.simple_at Simple.F64Const (reading.atom_at (atoms.float_of float.F64)) (lexed text.now)) }
+{
+    let (bits, rest) = float_64(alloc, text)?;
+    Ok((Piece::Plain(Simple::F64Const(bits)), rest))
+}
+
 /// What follows the word of a call_indirect.
 fn indirect<'a>(
     alloc: Global,
@@ -255,9 +277,8 @@ pub fn read_piece<'a>(
         OpClass::With(Immediates::If) => opens(profile, Opening::If, text),
         OpClass::With(Immediates::BrTable) => table(alloc, blocks, text),
         OpClass::With(Immediates::CallIndirect) => indirect(alloc, profile, scope.names, text),
-        // literals of floats are not read
-        OpClass::With(Immediates::F32Const) => Err(refuse(TextWhy::Float, here)),
-        OpClass::With(Immediates::F64Const) => Err(refuse(TextWhy::Float, here)),
+        OpClass::With(Immediates::F32Const) => constant_f32(alloc, text),
+        OpClass::With(Immediates::F64Const) => constant_f64(alloc, text),
         OpClass::With(kind) => operand(profile, scope, blocks, kind, text),
         OpClass::Float => Err(refuse(TextWhy::Float, here)),
         OpClass::None => Err(no_instruction(profile, word, here)),

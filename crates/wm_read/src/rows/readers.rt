@@ -113,8 +113,8 @@ fn of_tokens<'a>(
         "body" => of_body(alloc, profile, names, text),
         "ops" => of_ops(alloc, profile, names, text),
         "labels" => shown(alloc, three_labels(alloc, text)),
-        "constant" => shown(alloc, constant(profile, names, text)),
-        "offset" => shown(alloc, offset(profile, names, text)),
+        "constant" => shown(alloc, constant(alloc, profile, names, text)),
+        "offset" => shown(alloc, offset(alloc, profile, names, text)),
         "function" => shown(alloc, function(alloc, profile, names, text)),
         _ => of_fields(alloc, profile, names, rest, reader, text),
     }

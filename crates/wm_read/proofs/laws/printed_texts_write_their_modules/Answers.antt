@@ -8,9 +8,9 @@ use Rattle.wm_read.proofs.Whole.{one_list}
 use Rattle.wm_read.proofs.laws.printed_texts_write_their_modules.Goals as goal
 
 pub returns-clause-written : goal.returns-clause-written
-returns-clause-written c = λ p limit q b m loads plain. let h = printed_writes p limit q b m loads plain in (tokens (module_words m), h.0, h.1)
+returns-clause-written c = λ p limit q b m loads. let h = printed_writes p limit q b m loads in (tokens (module_words m), h.0, h.1)
 
 pub returns-clause-alone : goal.returns-clause-alone
-returns-clause-alone c = λ p limit q b m n k loads plain t w.
-    let h = printed_writes p limit q b m loads plain in
+returns-clause-alone c = λ p limit q b m n k loads t w.
+    let h = printed_writes p limit q b m loads in
     one_module p (tokens (module_words m)) n m (subst (λ z. Writes p z n) (one_list (layout m) k (tokens (module_words m)) t h.0) w) h.1
