@@ -165,7 +165,7 @@ letter_back x y c e = elim (mark_is x y c e) [ inl k ↦ inl (ap (λ (z : ℕ). 
 
 -- which digits follow a letter, behind which sign
 signed_back : (b : List ℕ) (e : Bool × List ℕ) → are_digits 10 false (signed b).1 ≡ true → signed b ≡ e
-    → (d : ℕ) (ds : List ℕ) × Digits 10 (d ∷ ds) e.1 × (((e.0 ≡ false) × ((b ≡ e.1) ⊎ (b ≡ 43 ∷ e.1))) ⊎ ((e.0 ≡ true) × (b ≡ 45 ∷ e.1)))
+    → (d : ℕ) × (ds : List ℕ) × Digits 10 (d ∷ ds) e.1 × (((e.0 ≡ false) × ((b ≡ e.1) ⊎ (b ≡ 43 ∷ e.1))) ⊎ ((e.0 ≡ true) × (b ≡ 45 ∷ e.1)))
 signed_back [] e h s = absurd (let f : false ≡ true = h in cc)
 signed_back (c ∷ b) e h s =
     let are : are_digits 10 false e.1 ≡ true = ap (λ (z : Bool × List ℕ). are_digits 10 false z.1) (sym s) ∙ h in
@@ -188,7 +188,7 @@ power_back x y (c ∷ b) e m h = elim (chosen (are_digits 10 false (signed b).1)
   | inr p ↦ absurd (none_some e p.1)
 ]
   where
-    by : ((d : ℕ) (ds : List ℕ) × Digits 10 (d ∷ ds) e.1 × (((e.0 ≡ false) × ((b ≡ e.1) ⊎ (b ≡ 43 ∷ e.1))) ⊎ ((e.0 ≡ true) × (b ≡ 45 ∷ e.1))))
+    by : ((d : ℕ) × (ds : List ℕ) × Digits 10 (d ∷ ds) e.1 × (((e.0 ≡ false) × ((b ≡ e.1) ⊎ (b ≡ 43 ∷ e.1))) ⊎ ((e.0 ≡ true) × (b ≡ 45 ∷ e.1))))
         → Exponent x y (cond e.0 0 (digits_value 10 (plain e.1))) (cond e.0 (digits_value 10 (plain e.1)) 0) (c ∷ b)
     by (d, ds, k, inl (f, inl none)) =
         let v = (digits_write 10 (d ∷ ds) e.1 (omega arith) k).value_is 0 in

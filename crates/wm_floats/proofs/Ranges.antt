@@ -2,6 +2,7 @@
 use Rattle.std.proofs.Common.{ℕ, ◌≡◌, ◌+◌, ◌-◌, ◌*◌, ◌^◌, ◌<◌, ◌≤◌, Bool, true, false, List, [], ◌∷◌, Option, Some, None, codes, nat_lt, option_map, refl, sym, ap, subst, ◌∙◌, arith, inl, inr, ltb-true}
 use Rattle.std.specs.Prelude.{◌==◌}
 use lib.Ieee.{to_bits, round}
+use Rattle.std.specs.Str.Parse.{digits_value}
 use Rattle.wm_syntax.specs.declared.instructions.FloatType.{FloatType}
 use Rattle.wm_syntax.specs.declared.instructions.FloatType.TheVariants.{F32, F64}
 use Rattle.wm_floats.specs.Nearest.{signif, expon, infinity}
@@ -41,7 +42,7 @@ payload_small w n b e = elim (chosen (nat_lt 0 n) _ None (Some b) e) [
 
 nan_small : (w : FloatType) (a : List ℕ) (b : ℕ) → nan_bits w a ≡ Some b → b < half w
 nan_small w a b e = elim (chosen (are_digits 16 false a) _ None (Some b) e) [
-  | inl p ↦ payload_small w _ b p.1
+  | inl p ↦ payload_small w (digits_value 16 (plain a)) b p.1
   | inr p ↦ absurd (none_some b p.1)
 ]
 

@@ -28,11 +28,11 @@ nearest_some w num den b D near =
 
 pub nearest_none : (w : FloatType) (num den : ℕ) → 0 < den → ((b : ℕ) → IsNearest w num den b → ⊥) → nearest w num den ≡ None
 unfolding nearest
-nearest_none w num den D no =
+nearest_none w num den D never =
     let x = to_bits (format_of w) (round (format_of w) false num den) in
     let bits = bits_of_rounded w num den x D refl in
     elim (cases_lt x (infinity w)) [
-      | inl lt ↦ absurd (no x (finite w num den x D bits lt))
+      | inl lt ↦ absurd (never x (finite w num den x D bits lt))
       | inr le ↦ cond-false (nat_lt x (infinity w)) _ _ (le-ltb x (infinity w) le)
     ]
 

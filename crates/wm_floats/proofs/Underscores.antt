@@ -124,7 +124,7 @@ none_or_digits base [] h e = tt
 none_or_digits base (c ∷ b) h e = digits_all base false (c ∷ b) h e
 
 -- and there is one
-pub digits_some : (base : ℕ) (b : List ℕ) → base ≤ 36 → are_digits base false b ≡ true → (c : ℕ) (r : List ℕ) × (plain b ≡ c ∷ r)
+pub digits_some : (base : ℕ) (b : List ℕ) → base ≤ 36 → are_digits base false b ≡ true → (c : ℕ) × (r : List ℕ) × (plain b ≡ c ∷ r)
 digits_some base [] h e = absurd (let f : false ≡ true = e in cc)
 digits_some base (c ∷ b) h e = elim (chosen ((c == 95) && false) (are_digits base false b) _ true e) [
   | inl p ↦ absurd (let f : false ≡ true = (and_parts (c == 95) false p.0).1 in cc)

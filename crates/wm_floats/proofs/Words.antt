@@ -19,11 +19,11 @@ behind_more [] r = refl
 behind_more (c ∷ word) r = cond-true (c == c) _ _ (eq-eqb c c refl) ∙ behind_more word r
 
 pub behind_none : (word b : List ℕ) → ((r : List ℕ) → b ≢ word ++ r) → behind word b ≡ None
-behind_none word b no = by (behind word b) refl
+behind_none word b never = by (behind word b) refl
   where
     by : (o : Option (List ℕ)) → behind word b ≡ o → behind word b ≡ None
     by None e = e
-    by (Some r) e = absurd (no r (behind_found word b r e))
+    by (Some r) e = absurd (never r (behind_found word b r e))
 
 -- as the code takes it off
 pub behind_cases : (word b : List ℕ) (r : Option (Bor (List ℕ))) → MatchOption r ((rest : List ℕ) → b ≢ word ++ rest) (λ x. b ≡ word ++ x.now)
@@ -41,8 +41,8 @@ just_is word b e = by (behind word b) refl e
 
 -- what is no such word
 pub just_not : (word b : List ℕ) → b ≢ word → is_just word b ≡ false
-just_not word b no = by (is_just word b) refl
+just_not word b never = by (is_just word b) refl
   where
     by : (t : Bool) → is_just word b ≡ t → is_just word b ≡ false
-    by true e = absurd (no (just_is word b e))
+    by true e = absurd (never (just_is word b e))
     by false e = e

@@ -184,10 +184,10 @@ unsigned_float w (c ∷ a) bits e =
     cond-false (c == 43) _ _ (apart 43 (plus_none w a bits)) ∙ cond-false (c == 45) _ _ (apart 45 (minus_none w a bits)) ∙ e
   where
     apart : (s : ℕ) → (magnitude_of w (s ∷ a) ≡ Some bits → ⊥) → (c == s) ≡ false
-    apart s no = by (c == s) refl
+    apart s never = by (c == s) refl
       where
         by : (t : Bool) → (c == s) ≡ t → (c == s) ≡ false
-        by true k = absurd (no (ap (λ (z : ℕ). magnitude_of w (z ∷ a)) (sym (eqb-true c s k)) ∙ e))
+        by true k = absurd (never (ap (λ (z : ℕ). magnitude_of w (z ∷ a)) (sym (eqb-true c s k)) ∙ e))
         by false k = k
 
 pub float_more : (w : FloatType) (bits : ℕ) (a : List ℕ) → IsFloat w bits a → float_of w a ≡ Some bits

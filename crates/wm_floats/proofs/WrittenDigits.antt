@@ -153,8 +153,8 @@ digits_write base (d ∷ e ∷ ds) b h (x, y, all, (c, is, v, lt), (s, w, parts,
 
 -- what is left of digits, after a digit or not
 abbrev pub DigitsLeft : ℕ → Bool → List ℕ → Type 0
-DigitsLeft base false b = (d : ℕ) (ds : List ℕ) × Digits base (d ∷ ds) b
-DigitsLeft base true b = (b ≡ []) ⊎ ((d : ℕ) (ds w : List ℕ) × ((b ≡ 95 ∷ w) ⊎ (b ≡ w)) × Digits base (d ∷ ds) w)
+DigitsLeft base false b = (d : ℕ) × (ds : List ℕ) × Digits base (d ∷ ds) b
+DigitsLeft base true b = (b ≡ []) ⊎ ((d : ℕ) × (ds w : List ℕ) × ((b ≡ 95 ∷ w) ⊎ (b ≡ w)) × Digits base (d ∷ ds) w)
 
 digit_first : (base c : ℕ) (b : List ℕ) → base ≤ 16 → is_digit c base ≡ true → DigitsLeft base true b → DigitsLeft base false (c ∷ b)
 digit_first base c b h i left = by left
@@ -194,7 +194,7 @@ digits_left base false (c ∷ b) h e = elim (chosen ((c == 95) && false) (are_di
   ]
 ]
 
-pub digits_are : (base : ℕ) (b : List ℕ) → base ≤ 16 → are_digits base false b ≡ true → (d : ℕ) (ds : List ℕ) × Digits base (d ∷ ds) b
+pub digits_are : (base : ℕ) (b : List ℕ) → base ≤ 16 → are_digits base false b ≡ true → (d : ℕ) × (ds : List ℕ) × Digits base (d ∷ ds) b
 digits_are base b h e = digits_left base false b h e
 
 pub fold_append : (f : ℕ → ℕ → ℕ) (n : ℕ) (xs ys : List ℕ) → fold f n (xs ++ ys) ≡ fold f (fold f n xs) ys

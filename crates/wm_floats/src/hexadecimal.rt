@@ -123,7 +123,7 @@ fn far(width: FloatType, number: Parts) -> Option<u64>
     requires digits { HasDigits 16 (parts_of number) }
     requires short { length number.whole.now + length number.part.now ≤ 2 ^ 50 }
     requires far { 2 ^ 56 ≤ atoms.size_of (parts_of number) }
-    ensures { result ≡ atoms.hexadecimal_bits width (parts_of number) }
+    ensures { result ≡ atoms.hexadecimal_bits width (parts_of number.entry) }
 {
     let negative = number.negative;
     let digits = read_both(number.whole, number.part).digits;
@@ -141,7 +141,7 @@ fn far(width: FloatType, number: Parts) -> Option<u64>
 pub fn hexadecimal_bits(width: FloatType, number: Parts) -> Option<u64>
     requires digits { HasDigits 16 (parts_of number) }
     requires short { length number.whole.now + length number.part.now ≤ 2 ^ 50 }
-    ensures { result ≡ atoms.hexadecimal_bits width (parts_of number) }
+    ensures { result ≡ atoms.hexadecimal_bits width (parts_of number.entry) }
 {
     let size = held(10, number.exponent);
     if size >= HELD {

@@ -51,7 +51,7 @@ fn push_exponent(text: &mut Vec<u8>, negative: bool, digits: &[u8]) -> Result<()
 #[tactic(auto, using(crate::proofs::Kit::text_laws))]
 fn numeral_text(alloc: Global, number: Parts) -> Result<Vec<u8>, AllocError>
     requires { 0 < length number.exponent.now → 0 < length (plain number.exponent.now) }
-    ensures { IfOk result (λ v. v.items ≡ kit_text (parts_of number)) }
+    ensures { IfOk result (λ v. v.items ≡ kit_text (parts_of number.entry)) }
 {
     let mut text = Vec::new(alloc);
     push_digits(&mut text, number.whole)?;
@@ -69,7 +69,7 @@ pub fn decimal_bits(
     number: Parts,
 ) -> Result<Option<u64>, AllocError>
     requires { HasDigits 10 (parts_of number) }
-    ensures { IfOk result (λ o. o ≡ atoms.decimal_bits width (parts_of number)) }
+    ensures { IfOk result (λ o. o ≡ atoms.decimal_bits width (parts_of number.entry)) }
 {
     let text = numeral_text(alloc, number)?;
     Ok(nearest_decimal(width, &text))
