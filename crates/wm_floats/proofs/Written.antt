@@ -235,7 +235,7 @@ form_more b (inl (num, den, inr (whole, part, u, d, p, q, (x, r, all, word, h)))
     ap has_form (all ∙ ap (λ (z : List ℕ). z ++ r) word) ∙ is_some_of (numeral_of 16 112 80 r) t.numeral t.is
 form_more b (inr (inl h)) = ap has_form h
 form_more b (inr (inr (inl h))) = ap has_form h
-form_more b (inr (inr (inr (n, ds, v, (x, r, all, word, h))))) =
+form_more b (inr (inr (inr (n, (ds, v, (x, r, all, word, h)))))) =
     ap has_form (all ∙ ap (λ (z : List ℕ). z ++ r) word) ∙ (digits_write 16 ds r (omega arith) h).are false
 
 pub form_found : (b : List ℕ) → has_form b ≡ true → HasForm b
@@ -262,7 +262,7 @@ form_found b e = elim (chosen (is_just (codes "inf") b) true _ true e) [
     by None h e = number (behind (codes "0x") b) refl e
     by (Some r) h e =
         let g = digits_are 16 r (omega arith) e in
-        inr (inr (inr (value 16 (g.0 ∷ g.1), g.0 ∷ g.1, refl, (codes "nan:0x", r, behind_found (codes "nan:0x") b r h, refl, g.2))))
+        inr (inr (inr (value 16 (g.0 ∷ g.1), (g.0 ∷ g.1, refl, (codes "nan:0x", r, behind_found (codes "nan:0x") b r h, refl, g.2)))))
 
 -- bytes that begin no float
 pub nothing_form : has_form [] ≡ false

@@ -9,6 +9,6 @@ loop-byte-preserved c =
     let i = c.loop-byte.byte-index in
     let e : length (plain (take (i + 1) bs)) ≡ length (plain (take i bs)) + length (plain (get_or bs i 0 ∷ [])) =
     ap length (plain_next bs i c.loop-byte-test.true) ∙ length-append (plain (take i bs)) (plain (get_or bs i 0 ∷ [])) in (
-      omega (arith, e, c.counted.ensures.count, c.loop-byte.invariant.0),
-      omega (arith, c.counted.ensures.most, c.loop-byte.invariant.1),
+      omega (arith, e, c.counted-n.ensures.count, c.loop-byte.invariant.0),
+      omega (arith, c.counted-n.ensures.most, c.loop-byte.invariant.1),
     )
