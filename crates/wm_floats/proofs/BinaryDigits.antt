@@ -1,20 +1,20 @@
 -- From a number of binary digits to the kit's nearest bits.
-use Rattle.std.proofs.Common.{ℕ, zero, suc, ◌≡◌, ◌⊎◌, ◌+◌, ◌-◌, ◌*◌, ◌/◌, ◌%◌, ◌^◌, ◌<◌, ◌≤◌, Bool, true, false, refl, sym, ap, subst, ◌∙◌, arith, inl, inr}
+use Rattle.std.proofs.Common.{ℕ, suc, ◌≡◌, ◌+◌, ◌-◌, ◌*◌, ◌/◌, ◌%◌, ◌^◌, ◌<◌, ◌≤◌, Bool, true, false, refl, sym, ap, subst, ◌∙◌, arith}
 use Rattle.std.specs.Prelude.{if◌then◌else◌}
 use Rattle.std.specs.Ordering.{MatchOrdering}
 use Rattle.std.specs.declared.cmp.Ordering.{Ordering}
 use Rattle.std.specs.declared.cmp.Ordering.TheVariants.{Less, Equal, Greater}
 use Prim.Native.Nat.{min}
-use native.Mathlib.Nat.{mul-pos, pow-suc, eq_of_mul-eq-mul_right, eq-zero-or-pos}
+use native.Mathlib.Nat.{pow-suc, eq_of_mul-eq-mul_right}
 use lib.Pow.{pow_pos}
-use lib.Ieee.{Format, prec, low, hid}
+use lib.Ieee.{Format, prec, low}
 use Rattle.core.specs.Dec2flt.Rounding.{scaled_bits, IsNearestBits, IsJustAbove, IsSignificand}
 use Rattle.core.proofs.dec2flt.RoundingLemmas.{nearest_below, nearest_tie, nearest_above}
 use Rattle.wm_syntax.specs.declared.instructions.FloatType.{FloatType}
 use Rattle.wm_floats.specs.Nearest.{signif, infinity, IsBinary}
 use Rattle.wm_floats.specs.inner.Kit.{format_of}
 use Rattle.wm_floats.proofs.Bridge.{scaled_is}
-use Rattle.wm_floats.proofs.Cuts.{HasLength, Bounds, bounds, exactly, strictly, significand, significand_with_zeros, less, greater, beyond, level, whole, unit_is, some_whole, lies_above, meets, lies_at, lies_below}
+use Rattle.wm_floats.proofs.Cuts.{bounds, exactly, strictly, less, greater, beyond, level, unit_is, some_whole, lies_above, lies_at, lies_below}
 
 -- the bits of a significand and its exponent
 of_scaled : (w : FloatType) (num den q e bits : ℕ) → bits ≡ min (e * 2 ^ signif w + q) (infinity w) → IsNearestBits (format_of w) num den (scaled_bits (format_of w) q e)

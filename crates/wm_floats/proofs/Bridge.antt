@@ -1,20 +1,20 @@
 -- From the kit's nearest bits to those of the standard.
-use Rattle.std.proofs.Common.{ℕ, zero, suc, ◌≡◌, ◌⊎◌, ◌+◌, ◌-◌, ◌*◌, ◌/◌, ◌%◌, ◌^◌, ◌<◌, ◌≤◌, Bool, true, false, not, refl, sym, ap, subst, ◌∙◌, arith, inl, inr}
-use native.Mathlib.Nat.{mul-pos, mul-le-mul_right, mul-lt-mul_of_pos_right, le_trans, lt_of_lt_of_le, lt_of_le_of_lt, le_of_eq, eq-zero-or-pos, div-add-mod', mod-lt, div-mul-le_self, le-div_iff_mul-le, mod-eq_of_lt, div-div-eq-div-mul}
+use Rattle.std.proofs.Common.{ℕ, ◌≡◌, ◌+◌, ◌-◌, ◌*◌, ◌/◌, ◌%◌, ◌^◌, ◌<◌, ◌≤◌, Bool, false, not, refl, sym, ap, subst, ◌∙◌, arith, inl, inr}
+use native.Mathlib.Nat.{mul-pos, mul-le-mul_right, le_trans, lt_of_le_of_lt, le_of_eq, div-add-mod', mod-lt, le-div_iff_mul-le, mod-eq_of_lt, div-div-eq-div-mul}
 use lib.Pow.{pow_pos, pow-add}
-use lib.Dec.{T, eqb→eq, ltb}
-use lib.Ieee.{Float, Format, binary32, binary64, prec, low, hid, ones, top, size, of_bits, to_bits, round, is_nan}
+use lib.Dec.{T, ltb}
+use lib.Ieee.{Float, Format, prec, low, hid, ones, top, size, of_bits, to_bits, round, is_nan}
 use borrow.Author.Tests.{le-ltb}
 use Prim.Native.Nat.{min}
 use lib.Ieee.Fits.{kept-lt, two}
 use lib.Ieee.Digits.{size_reaches}
 use lib.Ieee.Bits.{to_bits-of_bits, nan_bits_is, nan_bits_above}
 use Rattle.std.proofs.lemmas.Bool.{cases_lt}
-use Rattle.core.specs.Dec2flt.Rounding.{scaled_bits, IsNearestBits, IsJustAbove, IsSignificand}
+use Rattle.core.specs.Dec2flt.Rounding.{scaled_bits, IsNearestBits, IsJustAbove}
 use Rattle.core.proofs.dec2flt.RoundingLemmas.{nearest_below, nearest_tie, nearest_above}
 use Rattle.wm_syntax.specs.declared.instructions.FloatType.{FloatType}
 use Rattle.wm_syntax.specs.declared.instructions.FloatType.TheVariants.{F32, F64}
-use Rattle.wm_floats.specs.Nearest.{signif, expon, infinity, least, units, of_fields, IsFrom, doubled, both, Rounds, Chosen, IsNearest}
+use Rattle.wm_floats.specs.Nearest.{signif, infinity, least, units, IsFrom, doubled, both, Rounds, Chosen, IsNearest}
 use Rattle.wm_floats.specs.inner.Kit.{format_of}
 use Rattle.wm_floats.proofs.Units.{units_at, units_le}
 
@@ -75,10 +75,10 @@ just_above f num den D =
     let fits : m < 2 ^ prec f = subst (λ (x : ℕ). x < 2 ^ prec f) e (kept-lt (prec f) (n / den)) in
     let normal : 0 < k → hid f ≤ m =
     λ K.
-        let j : prec f - 1 + k < size (n / den) = omega (arith, two f) in
-        let l : 2 ^ (prec f - 1 + k) ≤ n / den = size_reaches (n / den) (prec f - 1 + k) j in
-        let p : 2 ^ (prec f - 1) * 2 ^ k ≤ n / den = le_trans (le_of_eq (sym (pow-add 2 (prec f - 1) k))) l in
-        subst (λ (x : ℕ). hid f ≤ x) e ((le-div_iff_mul-le (pow_pos k)).1 p) in
+    let j : prec f - 1 + k < size (n / den) = omega (arith, two f) in
+    let l : 2 ^ (prec f - 1 + k) ≤ n / den = size_reaches (n / den) (prec f - 1 + k) j in
+    let p : 2 ^ (prec f - 1) * 2 ^ k ≤ n / den = le_trans (le_of_eq (sym (pow-add 2 (prec f - 1) k))) l in
+    subst (λ (x : ℕ). hid f ≤ x) e ((le-div_iff_mul-le (pow_pos k)).1 p) in
     let parts : m * u + n % u ≡ n = div-add-mod' n u in
     let rest : n % u < u = mod-lt n U in
     (m, k, record { significand = record { fits = fits; normal = normal }; from = omega arith; below = omega arith })

@@ -1,8 +1,8 @@
 -- What stands before one of two bytes, and from there on.
-use Rattle.std.proofs.Common.{◌≡◌, ℕ, zero, suc, ◌<◌, ◌≤◌, ◌⊎◌, Bool, true, false, cond, List, [], ◌∷◌, ◌++◌, length, refl, sym, ap, ◌∙◌, inl, inr, arith, take, drop, get_or}
+use Rattle.std.proofs.Common.{◌≡◌, ℕ, zero, suc, ◌<◌, ◌≤◌, ◌⊎◌, Bool, true, false, cond, List, [], ◌∷◌, ◌++◌, length, refl, ap, ◌∙◌, inl, inr, arith, take, drop, get_or}
 use Rattle.std.proofs.lemmas.Bool.{cond-true, cond-false, or_cases, eqb-true}
-use Rattle.std.specs.Prelude.{◌==◌, ◌||◌}
-use Rattle.wm_floats.specs.exact.Atoms.{is_mark, cut, tail}
+use Rattle.std.specs.Prelude.{◌==◌}
+use Rattle.wm_floats.specs.exact.Atoms.{is_mark, cut}
 
 abbrev CutAt : ℕ → ℕ → List ℕ → ℕ → Type 0
 CutAt x y b n = ((cut x y b).0 ≡ take n b) × ((cut x y b).1 ≡ drop n b)

@@ -1,13 +1,12 @@
 -- Hexadecimal numbers by the size of their exponents.
-use Rattle.std.proofs.Common.{ℕ, ◌≡◌, ◌+◌, ◌*◌, ◌^◌, ◌<◌, ◌≤◌, ◌++◌, Bool, true, false, cond, length, Option, Some, None, MatchOption, min, refl, sym, ap, subst, ◌∙◌, arith}
+use Rattle.std.proofs.Common.{ℕ, ◌≡◌, ◌*◌, ◌^◌, ◌<◌, ◌≤◌, Bool, true, false, cond, Option, Some, None, min, sym, ap, ◌∙◌, arith}
 use native.Mathlib.Nat.{mul-pos}
 use lib.Pow.{pow_pos}
 use Rattle.std.specs.Prelude.{if◌then◌else◌}
 use Rattle.std.specs.Str.Parse.{digits_value}
 use Rattle.wm_syntax.specs.declared.instructions.FloatType.{FloatType}
-use Rattle.wm_floats.specs.Nearest.{IsNearest}
 use Rattle.wm_floats.specs.declared.hexadecimal.Leading.{Leading}
-use Rattle.wm_floats.specs.exact.Atoms.{Numeral, nearest, hexadecimal_bits, digits_of, places, size_of, up, down, plain}
+use Rattle.wm_floats.specs.exact.Atoms.{Numeral, nearest, hexadecimal_bits, digits_of, places, size_of, up, down}
 use Rattle.wm_floats.specs.inner.Leading.{Leads}
 use Rattle.wm_floats.proofs.HexDigits.{sixteen}
 use Rattle.wm_floats.proofs.Leads.{is_zero, not_zero, below_digits}

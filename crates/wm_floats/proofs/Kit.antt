@@ -1,8 +1,8 @@
 -- A decimal number as the kit reads it.
-use Rattle.std.proofs.Common.{ℕ, ◌≡◌, ◌+◌, ◌*◌, ◌^◌, ◌<◌, ◌≤◌, Bool, true, false, List, [], ◌∷◌, ◌++◌, length, Option, refl, sym, ap, subst, ◌∙◌, arith, append-nil, append_assoc}
+use Rattle.std.proofs.Common.{ℕ, ◌≡◌, ◌*◌, ◌^◌, ◌<◌, Bool, true, false, List, [], ◌∷◌, ◌++◌, length, Option, refl, sym, ap, subst, ◌∙◌, arith, append-nil, append_assoc}
 use Rattle.core.proofs.dec2flt.ExactLemmas.{ten_to_pos}
 use Rattle.std.specs.Fmt.{sign_text}
-use Rattle.fast_float.specs.Text.{Parts, scan, digits_of, tens_up, tens_down, exponent_text, text_of, IsWellFormed}
+use Rattle.fast_float.specs.Text.{Parts, scan, digits_of, tens_up, tens_down, exponent_text, IsWellFormed}
 use Rattle.fast_float.proofs.Writing.{scan-text_of}
 use Rattle.wm_syntax.specs.declared.instructions.FloatType.{FloatType}
 use Rattle.wm_floats.specs.exact.Atoms.{Numeral, plain, decimal_bits}

@@ -1,17 +1,17 @@
 -- The numbers that the standard writes are those that the code takes apart.
-use Rattle.std.proofs.Common.{◌≡◌, ℕ, zero, suc, ◌<◌, ◌≤◌, ◌+◌, ◌*◌, ◌^◌, ◌⊎◌, Bool, true, false, cond, List, [], ◌∷◌, ◌++◌, length, fold, Option, Some, None, ◌≢◌, refl, sym, ap, subst, ◌∙◌, inl, inr, arith, append_assoc, append-nil, length-append}
-use Rattle.std.specs.Prelude.{◌==◌, ◌&&◌, ◌||◌, codes}
+use Rattle.std.proofs.Common.{◌≡◌, ℕ, ◌≤◌, ◌⊎◌, Bool, true, false, cond, List, [], ◌∷◌, ◌++◌, length, fold, Some, None, ◌≢◌, refl, sym, ap, subst, ◌∙◌, inl, inr, arith, append_assoc}
+use Rattle.std.specs.Prelude.{◌==◌, ◌&&◌, ◌||◌}
 use Rattle.std.specs.Char.{is_digit}
 use Rattle.std.specs.Str.Parse.{digits_value, digits_value_after}
 use Rattle.std.proofs.lemmas.Bool.{cond-true, cond-false, eqb-true, eq-eqb, ne_eqb, and_parts, or_from}
-use Rattle.wm_syntax.specs.Spelling.{Form, Byte, Exactly, ◌▸◌, ◌∣◌}
+use Rattle.wm_syntax.specs.Spelling.{Form, Byte, ◌▸◌, ◌∣◌}
 use Rattle.wm_floats.specs.Digits.{Digits, value}
-use Rattle.wm_floats.specs.FloatText.{Fraction, Exponent, IsDecimal, IsHexadecimal}
-use Rattle.wm_floats.specs.exact.Atoms.{Numeral, are_digits, are_digits_or_none, plain, is_mark, cut, tail, both_sides, around_point, signed, exponent_of, with_exponent, numeral_of, digits_of, places, size_of, up, down}
+use Rattle.wm_floats.specs.FloatText.{Fraction, Exponent}
+use Rattle.wm_floats.specs.exact.Atoms.{Numeral, are_digits, are_digits_or_none, plain, is_mark, cut, tail, both_sides, around_point, signed, exponent_of, with_exponent, numeral_of, digits_of, places, up, down}
 use Rattle.wm_floats.proofs.Basics.{chosen, same_some, none_some}
 use Rattle.wm_floats.proofs.Cutting.{HasNone, BeginsMark, cut_more, cut_joins, mark_is}
-use Rattle.wm_floats.proofs.WrittenDigits.{Writes, next, digits_write, digits_are, fold_append}
-use Rattle.wm_floats.proofs.NumeralParts.{Sides, both_found, Read, numeral_read, numeral_is}
+use Rattle.wm_floats.proofs.WrittenDigits.{next, digits_write, digits_are, fold_append}
+use Rattle.wm_floats.proofs.NumeralParts.{both_found, numeral_read, numeral_is}
 use Rattle.wm_floats.proofs.Underscores.{after_append}
 
 -- ---- no digit is a mark
@@ -169,14 +169,18 @@ signed_back : (b : List ℕ) (e : Bool × List ℕ) → are_digits 10 false (sig
 signed_back [] e h s = absurd (let f : false ≡ true = h in cc)
 signed_back (c ∷ b) e h s =
     let are : are_digits 10 false e.1 ≡ true = ap (λ (z : Bool × List ℕ). are_digits 10 false z.1) (sym s) ∙ h in
-    let g = digits_are 10 e.1 (omega arith) are in
-    (g.0, g.1, g.2, elim (chosen (c == 43) (false, b) _ e s) [
-      | inl p ↦ inl (ap (λ (z : Bool × List ℕ). z.0) (sym p.1), inr (ap (λ (z : ℕ). z ∷ b) (eqb-true c 43 p.0) ∙ ap (λ (z : Bool × List ℕ). 43 ∷ z.1) p.1))
-      | inr p ↦ elim (chosen (c == 45) (true, b) (false, c ∷ b) e p.1) [
-        | inl q ↦ inr (ap (λ (z : Bool × List ℕ). z.0) (sym q.1), ap (λ (z : ℕ). z ∷ b) (eqb-true c 45 q.0) ∙ ap (λ (z : Bool × List ℕ). 45 ∷ z.1) q.1)
-        | inr q ↦ inl (ap (λ (z : Bool × List ℕ). z.0) (sym q.1), inl (ap (λ (z : Bool × List ℕ). z.1) q.1))
-      ]
-    ])
+    let g = digits_are 10 e.1 (omega arith) are in (
+      g.0,
+      g.1,
+      g.2,
+      elim (chosen (c == 43) (false, b) _ e s) [
+        | inl p ↦ inl (ap (λ (z : Bool × List ℕ). z.0) (sym p.1), inr (ap (λ (z : ℕ). z ∷ b) (eqb-true c 43 p.0) ∙ ap (λ (z : Bool × List ℕ). 43 ∷ z.1) p.1))
+        | inr p ↦ elim (chosen (c == 45) (true, b) (false, c ∷ b) e p.1) [
+          | inl q ↦ inr (ap (λ (z : Bool × List ℕ). z.0) (sym q.1), ap (λ (z : ℕ). z ∷ b) (eqb-true c 45 q.0) ∙ ap (λ (z : Bool × List ℕ). 45 ∷ z.1) q.1)
+          | inr q ↦ inl (ap (λ (z : Bool × List ℕ). z.0) (sym q.1), inl (ap (λ (z : Bool × List ℕ). z.1) q.1))
+        ]
+      ],
+    )
 
 pub power_back : (x y : ℕ) (b : List ℕ) (e : Bool × List ℕ) → BeginsMark x y b → exponent_of b ≡ Some e
     → Exponent x y (cond e.0 0 (digits_value 10 (plain e.1))) (cond e.0 (digits_value 10 (plain e.1)) 0) b
@@ -192,16 +196,28 @@ power_back x y (c ∷ b) e m h = elim (chosen (are_digits 10 false (signed b).1)
         → Exponent x y (cond e.0 0 (digits_value 10 (plain e.1))) (cond e.0 (digits_value 10 (plain e.1)) 0) (c ∷ b)
     by (d, ds, k, inl (f, inl none)) =
         let v = (digits_write 10 (d ∷ ds) e.1 (omega arith) k).value_is 0 in
-        inr (inl (d ∷ ds, ap (λ (t : Bool). cond t 0 (digits_value 10 (plain e.1))) f ∙ v, ap (λ (t : Bool). cond t (digits_value 10 (plain e.1)) 0) f,
-        (c ∷ [], b, refl, letter_back x y c m, ([], e.1, none, inl refl, k))))
+        inr (inl (
+          d ∷ ds,
+          ap (λ (t : Bool). cond t 0 (digits_value 10 (plain e.1))) f ∙ v,
+          ap (λ (t : Bool). cond t (digits_value 10 (plain e.1)) 0) f,
+          (c ∷ [], b, refl, letter_back x y c m, ([], e.1, none, inl refl, k)),
+        ))
     by (d, ds, k, inl (f, inr plus)) =
         let v = (digits_write 10 (d ∷ ds) e.1 (omega arith) k).value_is 0 in
-        inr (inl (d ∷ ds, ap (λ (t : Bool). cond t 0 (digits_value 10 (plain e.1))) f ∙ v, ap (λ (t : Bool). cond t (digits_value 10 (plain e.1)) 0) f,
-        (c ∷ [], b, refl, letter_back x y c m, (43 ∷ [], e.1, plus, inr refl, k))))
+        inr (inl (
+          d ∷ ds,
+          ap (λ (t : Bool). cond t 0 (digits_value 10 (plain e.1))) f ∙ v,
+          ap (λ (t : Bool). cond t (digits_value 10 (plain e.1)) 0) f,
+          (c ∷ [], b, refl, letter_back x y c m, (43 ∷ [], e.1, plus, inr refl, k)),
+        ))
     by (d, ds, k, inr (t, minus)) =
         let v = (digits_write 10 (d ∷ ds) e.1 (omega arith) k).value_is 0 in
-        inr (inr (d ∷ ds, ap (λ (t : Bool). cond t 0 (digits_value 10 (plain e.1))) t, ap (λ (t : Bool). cond t (digits_value 10 (plain e.1)) 0) t ∙ v,
-        (c ∷ [], b, refl, letter_back x y c m, (45 ∷ [], e.1, minus, refl, k))))
+        inr (inr (
+          d ∷ ds,
+          ap (λ (t : Bool). cond t 0 (digits_value 10 (plain e.1))) t,
+          ap (λ (t : Bool). cond t (digits_value 10 (plain e.1)) 0) t ∙ v,
+          (c ∷ [], b, refl, letter_back x y c m, (45 ∷ [], e.1, minus, refl, k)),
+        ))
 
 -- ---- numbers
 

@@ -1,5 +1,5 @@
 -- The parts of a number have digits.
-use Rattle.std.proofs.Common.{ℕ, suc, ◌≡◌, ◌<◌, ◌≤◌, Bool, true, false, List, [], ◌∷◌, length, Option, Some, None, refl, sym, ap, subst, ◌∙◌, arith, inl, inr}
+use Rattle.std.proofs.Common.{ℕ, ◌≡◌, ◌<◌, ◌≤◌, Bool, true, false, List, [], ◌∷◌, length, Option, Some, None, refl, sym, ap, subst, ◌∙◌, arith, inl, inr}
 use Rattle.std.specs.Str.Parse.{AllDigits}
 use Rattle.wm_floats.specs.exact.Atoms.{◌>>=◌, Numeral, are_digits, are_digits_or_none, plain, cut, tail, both_sides, around_point, signed, exponent_of, with_exponent, numeral_of, decimal_bits, decimal_of, hexadecimal_bits, hexadecimal_of}
 use Rattle.wm_floats.specs.inner.Parts.{HasDigits}

@@ -1,12 +1,11 @@
 -- The bits of a float lie in their range.
-use Rattle.std.proofs.Common.{ℕ, ◌≡◌, ◌+◌, ◌-◌, ◌*◌, ◌^◌, ◌<◌, ◌≤◌, Bool, true, false, List, [], ◌∷◌, Option, Some, None, codes, nat_lt, option_map, refl, sym, ap, subst, ◌∙◌, arith, inl, inr, ltb-true}
+use Rattle.std.proofs.Common.{ℕ, ◌≡◌, ◌+◌, ◌-◌, ◌^◌, ◌<◌, ◌≤◌, false, List, [], ◌∷◌, Option, Some, None, codes, nat_lt, option_map, refl, sym, ap, subst, ◌∙◌, arith, inl, inr, ltb-true}
 use Rattle.std.specs.Prelude.{◌==◌}
-use lib.Ieee.{to_bits, round}
 use Rattle.std.specs.Str.Parse.{digits_value}
 use Rattle.wm_syntax.specs.declared.instructions.FloatType.{FloatType}
 use Rattle.wm_syntax.specs.declared.instructions.FloatType.TheVariants.{F32, F64}
 use Rattle.wm_floats.specs.Nearest.{signif, expon, infinity}
-use Rattle.wm_floats.specs.exact.Atoms.{nearest, payload_bits, nan_bits, numeral_of, decimal_bits, decimal_of, hexadecimal_bits, hexadecimal_of, number_by, number_bits, behind, is_just, payload_or_number, magnitude_of, below_zero, float_of, are_digits, plain}
+use Rattle.wm_floats.specs.exact.Atoms.{nearest, payload_bits, nan_bits, numeral_of, number_by, number_bits, behind, is_just, payload_or_number, magnitude_of, below_zero, float_of, are_digits, plain}
 use Rattle.wm_floats.proofs.Basics.{chosen, same_some, none_some, bind_ok}
 
 -- the range of bits with no sign

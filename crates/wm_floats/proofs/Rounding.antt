@@ -1,12 +1,12 @@
 -- The exact answer of rounding, and numbers that lie far from all floats but one.
-use Rattle.std.proofs.Common.{ℕ, ◌≡◌, ◌⊎◌, ◌+◌, ◌-◌, ◌*◌, ◌/◌, ◌%◌, ◌^◌, ◌<◌, ◌≤◌, Bool, true, false, Option, Some, None, MatchOption, nat_lt, refl, sym, ap, subst, ◌∙◌, arith, inl, inr, leb-true, lt-ltb, le-ltb}
+use Rattle.std.proofs.Common.{ℕ, ◌≡◌, ◌+◌, ◌*◌, ◌^◌, ◌<◌, ◌≤◌, false, Option, Some, None, MatchOption, nat_lt, refl, sym, ap, subst, ◌∙◌, arith, inl, inr, leb-true, lt-ltb, le-ltb}
 use Rattle.std.proofs.lemmas.Bool.{cond-true, cond-false, cases_lt}
-use native.Mathlib.Nat.{mul-pos, mul-le-mul_right, mul-lt-mul_of_pos_right, le_trans, lt_of_lt_of_le}
+use native.Mathlib.Nat.{mul-pos, mul-le-mul_right, mul-lt-mul_of_pos_right, le_trans}
 use lib.Pow.{pow_pos, pow-add, pow_mono}
 use lib.Ieee.{to_bits, round}
 use Rattle.wm_syntax.specs.declared.instructions.FloatType.{FloatType}
 use Rattle.wm_syntax.specs.declared.instructions.FloatType.TheVariants.{F32, F64}
-use Rattle.wm_floats.specs.Nearest.{signif, expon, infinity, least, units, IsFrom, doubled, both, Rounds, IsNearest}
+use Rattle.wm_floats.specs.Nearest.{infinity, least, units, Rounds, IsNearest}
 use Rattle.wm_floats.specs.exact.Atoms.{nearest}
 use Rattle.wm_floats.specs.inner.Kit.{format_of}
 use Rattle.wm_floats.proofs.Basics.{same_some, none_some}
@@ -71,23 +71,27 @@ pub tiny : (w : FloatType) (num den : ℕ) → 2 * (num * 2 ^ least w) < den →
 tiny w num den h =
     let l = lowest w in
     let next : units w (0 + 1) ≡ 1 = l.one in
-    let sum : units w 0 + units w (0 + 1) ≡ 1 = omega (arith, l.none, next) in
-    (l.some, (
-      0,
-      record { from = omega (arith, ap (λ x. x * den) l.none); below = omega (arith, ap (λ x. x * den) next, h) },
-      inl (omega (arith, ap (λ x. x * den) sum, h), refl),
-    ))
+    let sum : units w 0 + units w (0 + 1) ≡ 1 = omega (arith, l.none, next) in (
+      l.some,
+      (
+        0,
+        record { from = omega (arith, ap (λ x. x * den) l.none); below = omega (arith, ap (λ x. x * den) next, h) },
+        inl (omega (arith, ap (λ x. x * den) sum, h), refl),
+      ),
+    )
 
 -- ---- a float itself
 
 pub exact : (w : FloatType) (num den b : ℕ) → b < infinity w → 0 < den → num * 2 ^ least w ≡ units w b * den → IsNearest w num den b
 exact w num den b lt D e =
-    let up : units w b * den < units w (b + 1) * den = mul-lt-mul_of_pos_right (units_strict w b) D in
-    (lt, (
-      b,
-      record { from = omega (arith, e); below = omega (arith, e, up) },
-      inl (omega (arith, e, up), refl),
-    ))
+    let up : units w b * den < units w (b + 1) * den = mul-lt-mul_of_pos_right (units_strict w b) D in (
+      lt,
+      (
+        b,
+        record { from = omega (arith, e); below = omega (arith, e, up) },
+        inl (omega (arith, e, up), refl),
+      ),
+    )
 
 -- ---- past the largest
 

@@ -1,12 +1,11 @@
 -- What bits stand for: neighbours, and order.
-use Rattle.std.proofs.Common.{ℕ, zero, suc, ◌≡◌, ◌+◌, ◌-◌, ◌*◌, ◌/◌, ◌%◌, ◌^◌, ◌<◌, ◌≤◌, refl, sym, ap, subst, ◌∙◌, arith, inl, inr}
+use Rattle.std.proofs.Common.{ℕ, zero, suc, ◌≡◌, ◌+◌, ◌-◌, ◌*◌, ◌/◌, ◌%◌, ◌^◌, ◌<◌, ◌≤◌, sym, ap, subst, ◌∙◌, arith, inl, inr}
 use native.Mathlib.Nat.{mul-le-mul_right, mul-le-mul_left, mul-lt-mul_of_pos_right, le_trans, lt_of_lt_of_le, le_of_eq, pow-suc, eq-zero-or-pos}
 use lib.Pow.{pow_pos}
 use lib.Arith.{digits_div, digits_mod}
 use Rattle.std.proofs.lemmas.Bool.{cases_lt}
 use Rattle.wm_syntax.specs.declared.instructions.FloatType.{FloatType}
-use Rattle.wm_syntax.specs.declared.instructions.FloatType.TheVariants.{F32, F64}
-use Rattle.wm_floats.specs.Nearest.{signif, expon, infinity, least, units, of_fields}
+use Rattle.wm_floats.specs.Nearest.{signif, units, of_fields}
 
 -- the fields of a number of bits
 pub units_of_fields : (w : FloatType) (e t : ℕ) → t < 2 ^ signif w → units w (e * 2 ^ signif w + t) ≡ of_fields w e t

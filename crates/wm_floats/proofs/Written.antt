@@ -1,5 +1,5 @@
 -- The bits that the code finds in an atom are those that the atom writes.
-use Rattle.std.proofs.Common.{◌≡◌, ℕ, ◌<◌, ◌≤◌, ◌+◌, ◌-◌, ◌*◌, ◌^◌, ◌⊎◌, Bool, true, false, cond, List, [], ◌∷◌, ◌++◌, length, Option, Some, None, is_some, option_map, codes, nat_lt, ◌≢◌, refl, sym, ap, subst, ◌∙◌, inl, inr, arith, ltb-true, lt-ltb}
+use Rattle.std.proofs.Common.{◌≡◌, ℕ, ◌<◌, ◌+◌, ◌-◌, ◌*◌, ◌^◌, Bool, true, false, List, [], ◌∷◌, ◌++◌, length, Option, Some, None, is_some, option_map, codes, nat_lt, refl, sym, ap, subst, ◌∙◌, inl, inr, arith, ltb-true, lt-ltb}
 use native.Mathlib.Nat.{mul-pos}
 use lib.Pow.{pow_pos}
 use Rattle.core.proofs.dec2flt.ExactLemmas.{ten_to_pos}
@@ -7,14 +7,14 @@ use Rattle.std.specs.Prelude.{◌==◌}
 use Rattle.std.specs.Str.Parse.{digits_value}
 use Rattle.std.proofs.lemmas.Bool.{cond-true, cond-false, eqb-true}
 use Rattle.wm_syntax.specs.declared.instructions.FloatType.{FloatType}
-use Rattle.wm_floats.specs.Digits.{Digits, value}
-use Rattle.wm_floats.specs.FloatText.{IsDecimal, IsHexadecimal, IsFraction, IsPayload, IsMagnitude, IsFloat, HasForm}
-use Rattle.wm_floats.specs.Nearest.{signif, expon, infinity, IsNearest}
-use Rattle.wm_floats.specs.exact.Atoms.{◌>>=◌, Numeral, are_digits, plain, numeral_of, digits_of, places, up, down, nearest, decimal_bits, decimal_of, hexadecimal_bits, hexadecimal_of, payload_bits, nan_bits, behind, is_just, number_by, number_bits, payload_or_number, magnitude_of, below_zero, float_of, is_number_by, is_number, is_payload_or_number, has_form}
+use Rattle.wm_floats.specs.Digits.{value}
+use Rattle.wm_floats.specs.FloatText.{IsDecimal, IsHexadecimal, IsMagnitude, IsFloat, HasForm}
+use Rattle.wm_floats.specs.Nearest.{signif, infinity, IsNearest}
+use Rattle.wm_floats.specs.exact.Atoms.{Numeral, are_digits, plain, numeral_of, digits_of, places, up, down, decimal_bits, decimal_of, hexadecimal_bits, hexadecimal_of, payload_bits, nan_bits, behind, is_just, number_by, payload_or_number, magnitude_of, below_zero, float_of, is_number_by, is_payload_or_number, has_form}
 use Rattle.wm_floats.proofs.Basics.{chosen, same_some, none_some, bind_ok, bind_is, some_is, is_some_of}
 use Rattle.wm_floats.proofs.WrittenDigits.{digits_write, digits_are}
 use Rattle.wm_floats.proofs.HexDigits.{sixteen}
-use Rattle.wm_floats.proofs.Literals.{decimal_marks, hexadecimal_marks, Number, Taken, number_taken, Given, number_given}
+use Rattle.wm_floats.proofs.Literals.{decimal_marks, hexadecimal_marks, number_taken, number_given}
 use Rattle.wm_floats.proofs.Rounding.{nearest_some, nearest_found}
 use Rattle.wm_floats.proofs.Words.{behind_found, behind_none, just_is, just_not}
 
@@ -56,29 +56,35 @@ pub decimal_found : (w : FloatType) (bits : ℕ) (b : List ℕ) → decimal_of w
 decimal_found w bits b e =
     let g = bind_ok (numeral_of 10 101 69 b) (λ m. decimal_bits w m) bits e in
     let n = g.0 in
-    let k = number_given 10 101 69 b n decimal_marks g.1 in
-    (digits_value 10 (digits_of n) * 10 ^ up n, 10 ^ (places n + down n),
-    (k.whole, k.part, up n, down n, ap (λ (x : ℕ). x * 10 ^ up n) k.value_is, ap (λ (x : ℕ). 10 ^ (x + down n)) k.places_are, k.written),
-    nearest_found w _ _ bits (some_ten (places n) (down n)) g.2)
+    let k = number_given 10 101 69 b n decimal_marks g.1 in (
+      digits_value 10 (digits_of n) * 10 ^ up n,
+      10 ^ (places n + down n),
+      (k.whole, k.part, up n, down n, ap (λ (x : ℕ). x * 10 ^ up n) k.value_is, ap (λ (x : ℕ). 10 ^ (x + down n)) k.places_are, k.written),
+      nearest_found w _ _ bits (some_ten (places n) (down n)) g.2,
+    )
 
 pub hexadecimal_more : (w : FloatType) (num den bits : ℕ) (b : List ℕ) → IsHexadecimal num den b → IsNearest w num den bits → (r : List ℕ) × (b ≡ 48 ∷ 120 ∷ r) × (hexadecimal_of w r ≡ Some bits)
 hexadecimal_more w num den bits b (whole, part, u, d, p, q, (x, r, all, zero_x, h)) near =
     let t = number_taken 16 112 80 whole part u d r hexadecimal_marks h in
     let n = t.numeral in
-    let e = hexadecimal_fraction whole part u d num den n t.value_is t.places_are t.up_is t.down_is p q in
-    (r, all ∙ ap (λ (z : List ℕ). z ++ r) zero_x,
-    bind_is (numeral_of 16 112 80 r) (λ m. hexadecimal_bits w m) n t.is
-    ∙ nearest_some w (digits_value 16 (digits_of n) * 2 ^ up n) (16 ^ places n * 2 ^ down n) bits (some_sixteen (places n) (down n))
-    (subst (λ (x : ℕ). IsNearest w (digits_value 16 (digits_of n) * 2 ^ up n) x bits) e.1 (subst (λ (x : ℕ). IsNearest w x den bits) e.0 near)))
+    let e = hexadecimal_fraction whole part u d num den n t.value_is t.places_are t.up_is t.down_is p q in (
+      r,
+      all ∙ ap (λ (z : List ℕ). z ++ r) zero_x,
+      bind_is (numeral_of 16 112 80 r) (λ m. hexadecimal_bits w m) n t.is
+          ∙ nearest_some w (digits_value 16 (digits_of n) * 2 ^ up n) (16 ^ places n * 2 ^ down n) bits (some_sixteen (places n) (down n))
+          (subst (λ (x : ℕ). IsNearest w (digits_value 16 (digits_of n) * 2 ^ up n) x bits) e.1 (subst (λ (x : ℕ). IsNearest w x den bits) e.0 near)),
+    )
 
 pub hexadecimal_found : (w : FloatType) (bits : ℕ) (b r : List ℕ) → b ≡ codes "0x" ++ r → hexadecimal_of w r ≡ Some bits → (num den : ℕ) × IsHexadecimal num den b × IsNearest w num den bits
 hexadecimal_found w bits b r text e =
     let g = bind_ok (numeral_of 16 112 80 r) (λ m. hexadecimal_bits w m) bits e in
     let n = g.0 in
-    let k = number_given 16 112 80 r n hexadecimal_marks g.1 in
-    (digits_value 16 (digits_of n) * 2 ^ up n, 16 ^ places n * 2 ^ down n,
-    (k.whole, k.part, up n, down n, ap (λ (x : ℕ). x * 2 ^ up n) k.value_is, ap (λ (x : ℕ). 16 ^ x * 2 ^ down n) k.places_are, (codes "0x", r, text, refl, k.written)),
-    nearest_found w _ _ bits (some_sixteen (places n) (down n)) g.2)
+    let k = number_given 16 112 80 r n hexadecimal_marks g.1 in (
+      digits_value 16 (digits_of n) * 2 ^ up n,
+      16 ^ places n * 2 ^ down n,
+      (k.whole, k.part, up n, down n, ap (λ (x : ℕ). x * 2 ^ up n) k.value_is, ap (λ (x : ℕ). 16 ^ x * 2 ^ down n) k.places_are, (codes "0x", r, text, refl, k.written)),
+      nearest_found w _ _ bits (some_sixteen (places n) (down n)) g.2,
+    )
 
 -- ---- a decimal number is no other atom
 

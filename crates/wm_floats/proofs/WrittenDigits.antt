@@ -1,11 +1,11 @@
 -- Digits as the standard writes them are the digits that the code tests, and have their value.
-use Rattle.std.proofs.Common.{◌≡◌, ℕ, zero, suc, ◌<◌, ◌≤◌, ◌+◌, ◌-◌, ◌*◌, ◌⊎◌, Bool, true, false, cond, List, [], ◌∷◌, ◌++◌, length, fold, Option, Some, None, nat_lt, nat_le, refl, sym, ap, subst, ◌∙◌, inl, inr, arith}
+use Rattle.std.proofs.Common.{◌≡◌, ℕ, ◌<◌, ◌≤◌, ◌+◌, ◌-◌, ◌*◌, ◌⊎◌, Bool, true, false, cond, List, [], ◌∷◌, ◌++◌, length, fold, Some, None, nat_lt, nat_le, refl, sym, ap, subst, ◌∙◌, inl, inr, arith}
 use Rattle.std.specs.Prelude.{◌==◌, ◌&&◌}
 use Rattle.std.specs.Char.{is_digit}
 use Rattle.std.specs.Char.{digit_value as kit_value}
-use Rattle.std.specs.Str.Parse.{digits_value, digits_value_after}
+use Rattle.std.specs.Str.Parse.{digits_value_after}
 use Rattle.std.proofs.lemmas.Bool.{cond-true, cond-false, eqb-true, and_parts, and_from, and_left, ltb-true, lt-ltb, le-ltb, le-leb, leb-true, cases_lt}
-use Rattle.wm_floats.specs.Digits.{digit_value, IsDigit, Digits, value}
+use Rattle.wm_floats.specs.Digits.{digit_value, Digits}
 use Rattle.wm_floats.specs.exact.Atoms.{are_digits, plain}
 use Rattle.wm_floats.proofs.Basics.{chosen, same_some, none_some}
 use Rattle.wm_floats.proofs.Underscores.{digit_not_under}

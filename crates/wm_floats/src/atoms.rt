@@ -130,11 +130,7 @@ fn negative(alloc: Global, width: FloatType, text: &[u8]) -> Result<Option<u64>,
 /// nearest to an infinity. Memory may run out where digits are copied without their underscores, or where a
 /// hexadecimal number has more digits than memory could hold.
 #[tactic(auto, unfolding(crate::specs::exact::Atoms::float_of))]
-pub fn float_of(
-    alloc: Global,
-    width: FloatType,
-    atom: &[u8],
-) -> Result<Option<u64>, AllocError>
+pub fn float_of(alloc: Global, width: FloatType, atom: &[u8]) -> Result<Option<u64>, AllocError>
     ensures { IfOk result (λ o. o ≡ atoms.float_of width atom.now) }
 {
     match atom {

@@ -98,13 +98,7 @@ fn nearest_bits(width: FloatType, digits: u64, more: bool, up: u64, down: u64) -
 
 /// The bits of the float nearest to digits * 2 ^ up / 2 ^ down, or to a number that goes on with more digits.
 /// None where that is no finite float.
-pub fn nearest_binary(
-    width: FloatType,
-    digits: u64,
-    more: bool,
-    up: u64,
-    down: u64,
-) -> Option<u64>
+pub fn nearest_binary(width: FloatType, digits: u64, more: bool, up: u64, down: u64) -> Option<u64>
     requires sizes { (up ≤ 2 ^ 62) × (down ≤ 2 ^ 62) }
     requires cut { more ≡ true → 2 ^ 60 ≤ digits }
     ensures { (num den : ℕ) → 0 < den → IsBinary num den digits more up down

@@ -106,7 +106,13 @@ pub fn nearest_hexadecimal(
 {
     let all = read_both(whole, part);
     let places = 4 * count(part);
-    nearest_binary(width, all.digits, all.more, up + 4 * all.left, places + down)
+    nearest_binary(
+        width,
+        all.digits,
+        all.more,
+        up + 4 * all.left,
+        places + down,
+    )
 }
 
 fn up_and_down(negative: bool, size: u64) -> (u64, u64)

@@ -1,11 +1,9 @@
-use Rattle.std.proofs.Common.{ℕ, ◌≡◌, ◌+◌, ◌-◌, ◌*◌, ◌/◌, ◌^◌, ◌<◌, ◌≤◌, Bool, true, false, ◌∙◌, refl, sym, ap, subst, arith}
-use Prim.Native.Nat.{min}
+use Rattle.std.proofs.Common.{ℕ, ◌≡◌, ◌+◌, ◌-◌, ◌*◌, ◌/◌, ◌^◌, ◌<◌, ◌≤◌, Bool, true, false, refl, subst, arith}
 use native.Mathlib.Nat.{lt_of_lt_of_le}
 use lib.Pow.{pow_mono}
-use lib.Ieee.{Format, prec, low}
 use Rattle.core.specs.Dec2flt.Rounding.{IsSignificand}
 use Rattle.wm_syntax.specs.declared.instructions.FloatType.{FloatType}
-use Rattle.wm_floats.specs.Nearest.{signif, least, infinity}
+use Rattle.wm_floats.specs.Nearest.{signif, least}
 use Rattle.wm_floats.specs.inner.Kit.{format_of}
 use Rattle.wm_floats.proofs.Bridge.{same}
 use Rattle.wm_floats.proofs.Cuts.{HasLength, significand, significand_with_zeros}

@@ -1,4 +1,4 @@
-use Rattle.std.proofs.Common.{ℕ, ◌≡◌, ◌*◌, ◌^◌, ◌<◌, Bool, false, ◌∙◌, refl, sym, ap, subst, arith}
+use Rattle.std.proofs.Common.{◌*◌, ◌^◌, false, ◌∙◌, refl, sym, ap, subst}
 use lib.Ieee.{binary32, binary64, to_bits, round}
 use Rattle.core.proofs.dec2flt.ExactLemmas.{ten_to_pos}
 use Rattle.core.specs.Dec2flt.Rounding.{IsNearestBits}

@@ -1,4 +1,4 @@
-use Rattle.std.proofs.Common.{◌≡◌, ◌++◌, ◌+◌, ◌∷◌, [], length, take, get_or, ap, ◌∙◌, arith, length-append}
+use Rattle.std.proofs.Common.{◌≡◌, ◌+◌, ◌∷◌, [], length, take, get_or, ap, ◌∙◌, arith, length-append}
 use Rattle.wm_floats.specs.exact.Atoms.{plain}
 use Rattle.wm_floats.proofs.Underscores.{plain_next}
 use Rattle.wm_floats.proofs.digits.count.Goals as goal

@@ -1,5 +1,4 @@
-use Rattle.std.proofs.Common.{◌≤◌, ◌^◌, ◌+◌, length, arith}
-use Rattle.wm_floats.specs.exact.Atoms.{places, plain}
+use Rattle.std.proofs.Common.{arith}
 use Rattle.wm_floats.specs.inner.Parts.{parts_of}
 use Rattle.wm_floats.proofs.Far.{far_negative, far_none, far_positive}
 use Rattle.wm_floats.proofs.Underscores.{plain_short}

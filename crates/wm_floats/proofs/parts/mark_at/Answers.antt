@@ -1,4 +1,4 @@
-use Rattle.std.proofs.Common.{refl, ap, inl, inr, arith, below_more, sym, ◌∙◌, ℕ, List, ◌≡◌}
+use Rattle.std.proofs.Common.{refl, inl, inr, arith, below_more, sym, ◌∙◌}
 use Rattle.wm_floats.proofs.Cutting.{cut_at}
 use Rattle.wm_floats.proofs.parts.mark_at.Goals as goal
 
