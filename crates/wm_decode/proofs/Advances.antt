@@ -59,6 +59,11 @@ module _ {H : Type 0} (after : H → Item → Result H Why) (may : H → Item �
       let same = a.still none in
       subst (λ y. Advances after may p bytes y h t n g) same.1 (subst (λ y. Advances after may p bytes o y t n g) same.2 b)
 
+  -- the same, where it is known where the first left all
+  pub advances_later : (bytes : List ℕ) (m o x n : Machine) (h f y g : H) (s t : Shortcut) → Advances after may p bytes m h s o f → s.used ≤ 0 → x ≡ o → y ≡ f → Advances after may p bytes x y t n g → Advances after may p bytes m h t n g
+  advances_later bytes m o x n h f y g s t a none em eh b =
+      advances_after_none bytes m o n h f g s t a (omega arith) (subst (λ z. Advances after may p bytes o z t n g) eh (subst (λ z. Advances after may p bytes z y t n g) em b))
+
   -- one after another
   pub advances_then : (bytes : List ℕ) (m o n : Machine) (h f g : H) (s t u : Shortcut) → Advances after may p bytes m h s o f → s.refused ≡ None → 0 < s.used
       → Advances after may p (drop s.used bytes) o f t n g → 0 < t.used → u.used ≡ s.used + t.used → u.refused ≡ t.refused → Advances after may p bytes m h u n g

@@ -1,7 +1,7 @@
 -- What may still come of a member, and that each byte goes on with it.
 use Rattle.std.proofs.Common.{◌≡◌, ℕ, zero, suc, ◌<◌, ◌^◌, List, [], ◌∷◌, ◌++◌, Option, Some, None, length, refl, sym, ◌∙◌, ap, subst, arith, append-nil}
 use Rattle.wm_syntax.specs.exact.Reading.{fresh}
-use Rattle.wm_syntax.specs.Types.{SpellsLimits, SpellsTableType, SpellsGlobalType}
+use Rattle.wm_syntax.specs.Types.{SpellsLimits, SpellsTableType}
 use Rattle.wm_syntax.specs.declared.profile.Profile.{Profile}
 use Rattle.wm_syntax.specs.declared.instructions.Op.{Op}
 use Rattle.wm_decode.specs.declared.machine.NameKind.{NameKind}
@@ -261,7 +261,7 @@ module _ (demanded : Type 0) (p : Profile) where
   begin_same section_kind.Function = index_alone index.Function (λ n. Empty) (λ n. same_refl demanded Empty)
   begin_same section_kind.Table = table_begins
   begin_same section_kind.Memory = memory_begins
-  begin_same section_kind.Global = same_refl demanded (Then (Leaf SpellsGlobalType global_part) Constant)
+  begin_same section_kind.Global = same_refl demanded (Global p)
   begin_same section_kind.Export = name_begins name.Export
   begin_same section_kind.Start = index_alone index.Start (λ n. Empty) (λ n. same_refl demanded Empty)
   begin_same section_kind.Element = index_begins index.Element

@@ -112,7 +112,7 @@ in_opcode i =
     omega arith
 
 in_float : (width n : ℕ) → InBytes (SpellsFloat width n)
-in_float zero n b h = in_none b h.1
+in_float zero n = λ b h. in_none b h.1
 in_float (suc width) n = in_then (in_byte (n % 256) (omega arith)) (in_float width (n / 256))
 
 in_immediates : (i : Simple) → InBytes (SpellsImmediates i)
