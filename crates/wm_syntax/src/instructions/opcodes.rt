@@ -24,8 +24,8 @@ use crate::instructions::{
 };
 use crate::profile::{Feature, Profile};
 
-/// What this byte begins under the profile: an instruction, an else, an end, a floating-point instruction that
-/// the profile has not, or nothing (section 5.4).
+/// What this byte begins under the profile: an instruction, an else, an end, a floating-point instruction
+/// that the profile has not, or nothing (section 5.4).
 pub fn op_of(profile: Profile, byte: u8) -> OpClass
     // Each instruction of the profile that begins with the byte is of this class, and the class is that
     // of such an instruction.
