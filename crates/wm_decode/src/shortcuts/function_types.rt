@@ -180,9 +180,9 @@ fn give_params<S: Sink>(
     ensures section { result.used ≤ start.more }
     ensures advances { Advances S.after S.may_run_out profile bytes.now (in_params start) (S.held sink.old)
         (record {
-      used = result.used;
-      refused = result.refused;
-    }) (in_params (params_after start result.used result.params)) (S.held sink.new) }
+          used = result.used;
+          refused = result.refused;
+        }) (in_params (params_after start result.used result.params)) (S.held sink.new) }
 {
     let end = bytes.len().min(start.more as usize);
     let mut params = start.params;

@@ -247,9 +247,9 @@ fn give_runs<S: Sink>(sink: &mut S, profile: Profile, bytes: &[u8], start: InHea
     ensures entry { result.used ≤ start.rest }
     ensures advances { Advances S.after S.may_run_out profile bytes.now (in_head start) (S.held sink.old)
         (record {
-      used = result.used;
-      refused = result.refused;
-    }) (in_head (head_after start result.used result.runs)) (S.held sink.new) }
+          used = result.used;
+          refused = result.refused;
+        }) (in_head (head_after start result.used result.runs)) (S.held sink.new) }
 {
     let end = bytes.len().min(start.more.min(start.rest) as usize);
     let mut runs = start.runs;
