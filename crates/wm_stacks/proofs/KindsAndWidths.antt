@@ -1,5 +1,5 @@
 -- Operands by their kinds and their widths, when one of the two lists changes.
-use Rattle.std.proofs.Common.{ℕ, zero, suc, ◌≡◌, ◌≢◌, ◌-◌, ◌%◌, ◌<◌, ◌≤◌, Bool, true, false, IsTrue, List, [], ◌∷◌, Some, Result, Ok, Err, OnOk, OnErr, IfErr, length, drop, sym, refl, ap, ◌∙◌, arith}
+use Rattle.std.proofs.Common.{ℕ, zero, suc, ◌≡◌, ◌≢◌, ◌-◌, ◌%◌, ◌<◌, ◌≤◌, Bool, true, IsTrue, List, [], ◌∷◌, Some, Result, Ok, Err, OnOk, OnErr, IfErr, length, drop, sym, refl, ap, ◌∙◌, arith}
 use Rattle.wm_syntax.specs.declared.types.ValType.{ValType}
 use Rattle.wm_syntax.specs.declared.types.ValType.TheVariants as t
 use Rattle.wm_syntax.specs.declared.why.Why.{Why}

@@ -1,5 +1,5 @@
 -- The kind of the top operand, and its width.
-use Rattle.std.proofs.Common.{◌-◌, ap, ◌∙◌, arith}
+use Rattle.std.proofs.Common.{◌-◌, ap, arith}
 use Rattle.wm_stacks.proofs.KindsAndWidths.{floor_same, height_same, top_read}
 use Rattle.wm_stacks.proofs.operands.Operands.top.Goals as goal
 

@@ -1,5 +1,5 @@
 -- One word is written, and in it one bit.
-use Rattle.std.proofs.Common.{ℕ, ◌∷◌, ◌-◌, ◌/◌, set, ap, ◌∙◌, arith}
+use Rattle.std.proofs.Common.{◌∷◌, ◌-◌, ◌/◌, set, ap, ◌∙◌, arith}
 use Rattle.std.specs.Int.{bit_at}
 use Rattle.wm_stacks.proofs.WidthWords.{bits_written, first_written, next_written}
 use Rattle.wm_stacks.proofs.widths.Widths.put.Goals as goal
