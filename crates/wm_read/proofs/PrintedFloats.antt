@@ -93,22 +93,21 @@ hex_step k n h = cond-false (n == 0) _ _ (ne_eqb n 0 h)
 pub hexadecimal_is : (k n : ℕ) → 0 < n → n < 16 ^ k → IsHex n (hexadecimal k n)
 hexadecimal_is zero n some few = absurd (omega (arith, some, few))
 hexadecimal_is (suc k) n some few =
-    subst (IsHex n) (sym (hex_step k n (λ e. omega (arith, some, e)))) (by (n / 16) refl)
+    let less : n / 16 < 16 ^ k = omega (arith, few, pow-suc 16 k) in
+    subst (IsHex n) (sym (hex_step k n (λ e. omega (arith, some, e)))) (by (n / 16) refl (λ p. hexadecimal_is k (n / 16) p less))
   where
-    by : (q : ℕ) → n / 16 ≡ q → IsHex n (hexadecimal k (n / 16) ++ hex_digit (n % 16) ∷ [])
-    by zero e =
+    by : (q : ℕ) → n / 16 ≡ q → (0 < n / 16 → IsHex (n / 16) (hexadecimal k (n / 16))) → IsHex n (hexadecimal k (n / 16) ++ hex_digit (n % 16) ∷ [])
+    by zero e front_is =
         let small : n < 16 = omega (arith, e) in
         let same : n % 16 ≡ n = omega (arith, small) in
         let front : hexadecimal k (n / 16) ≡ [] = ap (hexadecimal k) e ∙ hex_none k in
         subst (IsHex n) (sym (λ i. front i ++ hex_digit (same i) ∷ [])) (hex_one n small)
-    by (suc q) e =
-        let less : n / 16 < 16 ^ k = omega (arith, few, pow-suc 16 k) in
-        hex_more n (hexadecimal k (n / 16)) (hexadecimal_is k (n / 16) (omega (arith, e)) less)
+    by (suc q) e front_is = hex_more n (hexadecimal k (n / 16)) (front_is (omega (arith, e)))
 
 -- ---- fractions
 
 -- no digits, or some
-DigitsOrNone : List ℕ → List ℕ → Type 0
+abbrev pub DigitsOrNone : List ℕ → List ℕ → Type 0
 DigitsOrNone [] b = b ≡ []
 DigitsOrNone (d ∷ ds) b = Digits 16 (d ∷ ds) b
 
@@ -161,17 +160,21 @@ places_more k n q r b le lt less e h =
       chars = chars_cons (hex_digit q) b (hex_char q lt) h.chars;
     }
 
+no_times : (x : ℕ) → 0 * x ≡ 0
+no_times x = omega arith
+
 -- of a number of k digits, with zeros behind them
 pub places_are : (k a : ℕ) → k ≤ 13 → a < 16 ^ k → IsPlaces k (a * 16 ^ (13 - k)) (places k (a * 16 ^ (13 - k)))
 places_are zero a le few = no_places 0 (a * 16 ^ 13) (ap (λ (x : ℕ). x * 16 ^ 13) (let z : a ≡ 0 = omega (arith, few) in z))
-places_are (suc k) a le few = by a refl
+places_are (suc k) a le few = by a refl (λ r less. places_are k r (omega (arith, le)) less)
   where
     j : ℕ
     j = 12 - k
 
-    by : (x : ℕ) → a ≡ x → IsPlaces (suc k) (a * 16 ^ (13 - suc k)) (places (suc k) (a * 16 ^ (13 - suc k)))
-    by zero e = no_places (suc k) (a * 16 ^ (13 - suc k)) (ap (λ (x : ℕ). x * 16 ^ (13 - suc k)) e)
-    by (suc x) e =
+    by : (x : ℕ) → a ≡ x → ((r : ℕ) → r < 16 ^ k → IsPlaces k (r * 16 ^ (13 - k)) (places k (r * 16 ^ (13 - k))))
+        → IsPlaces (suc k) (a * 16 ^ (13 - suc k)) (places (suc k) (a * 16 ^ (13 - suc k)))
+    by zero e more = no_places (suc k) (a * 16 ^ (13 - suc k)) (ap (λ (x : ℕ). x * 16 ^ (13 - suc k)) e ∙ no_times (16 ^ (13 - suc k)))
+    by (suc x) e more =
         let K : 0 < 16 ^ k = sixteen k in
         let J : 0 < 16 ^ j = sixteen j in
         let q = a / 16 ^ k in
@@ -184,15 +187,15 @@ places_are (suc k) a le few = by a refl
         let first : q < 16 = digit_below q r (16 ^ k) (omega (arith, parts, few, pow-suc 16 k)) in
         let is : a * 16 ^ j ≡ q * 16 ^ 12 + r * 16 ^ j = ap (λ (x : ℕ). x * 16 ^ j) (sym parts) ∙ omega (arith, ap (λ (x : ℕ). q * x) all) in
         let div : a * 16 ^ j / 16 ^ 12 ≡ q = ap (λ (x : ℕ). x / 16 ^ 12) is ∙ digits_div q small in
-        let mod : a * 16 ^ j % 16 ^ 12 ≡ r * 16 ^ j = ap (λ (x : ℕ). x % 16 ^ 12) is ∙ digits_mod q small in
+        let left : a * 16 ^ j % 16 ^ 12 ≡ r * 16 ^ j = ap (λ (x : ℕ). x % 16 ^ 12) is ∙ digits_mod q small in
         let some : a * 16 ^ j ≢ 0 = λ z. omega (arith, mul-pos (let p : 0 < a = omega (arith, e) in p) J, z) in
         let next_j : 13 - k ≡ suc j = omega (arith, le) in
         let rest : r * 16 ^ (13 - k) ≡ r * 16 ^ j * 16 = ap (λ (x : ℕ). r * x) (ap (λ (x : ℕ). 16 ^ x) next_j ∙ pow-suc 16 j) ∙ omega arith in
         let h : IsPlaces k (r * 16 ^ j * 16) (places k (r * 16 ^ j * 16)) =
-        subst (λ (x : ℕ). IsPlaces k x (places k x)) rest (places_are k r (omega (arith, le)) less) in
+        subst (λ (x : ℕ). IsPlaces k x (places k x)) rest (more r less) in
         let same : 12 - k ≡ 13 - suc k = omega arith in
         let here : IsPlaces (suc k) (a * 16 ^ j) (places (suc k) (a * 16 ^ j)) =
-        subst (IsPlaces (suc k) (a * 16 ^ j)) (sym (places_step k (a * 16 ^ j) some ∙ (λ i. hex_digit (div i) ∷ places k (mod i * 16))))
+        subst (IsPlaces (suc k) (a * 16 ^ j)) (sym (places_step k (a * 16 ^ j) some ∙ (λ i. hex_digit (div i) ∷ places k (left i * 16))))
         (places_more k (a * 16 ^ j) q (r * 16 ^ j) _ (omega (arith, le)) first small is h) in
         subst (λ (y : ℕ). IsPlaces (suc k) (a * 16 ^ y) (places (suc k) (a * 16 ^ y))) same here
       where
@@ -369,9 +372,21 @@ finite_is w zero f bits top small e = cond_both (f * 2 ^ (52 - signif w) == 0) (
 finite_is w (suc e) f bits top small is =
     let word : suc e < 2 ^ 64 = omega (arith, top, (shape w).top) in
     let finite : bits < infinity w = omega (arith, is, small, mul-le-mul_right (2 ^ signif w) top) in
-    let normal : units w bits ≡ (1 * 2 ^ signif w + f) * 2 ^ (suc e - 1) = ap (units w) is ∙ units_of_fields w (suc e) f small ∙ omega arith in
+    let normal : units w bits ≡ (1 * 2 ^ signif w + f) * 2 ^ (suc e - 1) = ap (units w) is ∙ units_of_fields w (suc e) f small ∙ leading (2 ^ signif w) f e in
     let h = scaled_is w 1 (suc e) f bits (codes "1") (omega arith) (49, refl, refl, omega arith) refl (omega arith) word small finite normal in
-    record { is = h.0; chars = h.1 }
+    let n = f * 2 ^ (52 - signif w) in
+    let b = (shape w).bias in
+    let scaled : IsPrintedSize w bits (scaled_text (codes "0x1") n b (suc e)) = record { is = h.0; chars = h.1 } in
+    subst (IsPrintedSize w bits) (sym (normal_text n b e)) scaled
+  where
+    leading : (s f e : ℕ) → (s + f) * 2 ^ e ≡ (1 * s + f) * 2 ^ (suc e - 1)
+    leading s f e =
+        let one : s ≡ 1 * s = omega arith in
+        let down : e ≡ suc e - 1 = omega arith in
+        ap (λ (x : ℕ). (x + f) * 2 ^ e) one ∙ ap (λ (x : ℕ). (1 * s + f) * 2 ^ x) down
+
+    normal_text : (n b e : ℕ) → finite_text n b (suc e) ≡ scaled_text (codes "0x1") n b (suc e)
+    normal_text n b e = cond-false (suc e == 0) _ _ (ne_eqb (suc e) 0 (λ z. omega (arith, z)))
 
 -- the text of a size, by the two fields of its bits
 abbrev pub fields_text : FloatType → ℕ → ℕ → List ℕ
@@ -393,7 +408,7 @@ signed_is w bits m b true h e = record { is = inr (m, e, (45 ∷ [], b, refl, re
 signed_is w bits m b false h e = record { is = inl ([], b, refl, inl refl, subst (λ (x : ℕ). IsMagnitude w x b) (sym e) h.is); chars = h.chars }
 
 pub printed_float : (w : FloatType) (bits : ℕ) → bits < 2 * 2 ^ (signif w + expon w) → IsPrintedFloat w bits (float_text w bits)
-unfolding float_text
+unfolding float_text shape
 printed_float float.F32 bits few =
     let e = bits / 2 ^ 23 % 2 ^ 8 in
     let f = bits % 2 ^ 23 in
