@@ -14,7 +14,7 @@ use Rattle.wm_read.specs.Written.{Named, Paren, WritesGroup, WritesGroups, type_
 use Rattle.wm_read.specs.exact.Reading.{◌>>=◌, made, is_id, atom_at, type_of, paren_at, many_at}
 use Rattle.wm_read.specs.exact.TypeUses.{types_at, begins_group, unnamed, inside_at, named_groups_at, named_at, joined_named, adding_named}
 use Rattle.wm_read.specs.declared.code.named.NamedRun.{NamedRun}
-use Rattle.wm_read.specs.declared.code.named.NamedRun.TheVariants.{One, Unnamed}
+use Rattle.wm_read.specs.declared.code.named.NamedRun.TheVariants.{Unnamed}
 use Rattle.std.specs.Prelude.{Result}
 use Rattle.wm_read.specs.declared.faults.TextFault.{TextFault}
 use Rattle.wm_read.specs.inner.Views.{Reads}

@@ -1,8 +1,8 @@
 -- The tokens of a text (sections 6.2 and 6.3). A text is the list of its bytes; a byte of an ASCII character
 -- is that character.
 use Rattle.std.specs.Prelude.{◌≡◌, ◌≢◌, ℕ, ◌+◌, ◌-◌, ◌*◌, ◌^◌, ◌<◌, ◌≤◌, ◌⊎◌, ◌==◌, ◌&&◌, ◌||◌, not, List, []}
-use Rattle.std.specs.Prelude.{◌∷◌, ◌++◌, Bool, false, Option, Some, None, IsTrue, IsFalse, IsUtf8, ℤ, pos}
-use Rattle.std.specs.Prelude.{neg_ℤ, ◌-ℤ◌, if◌then◌else◌, flat_map, codes, length, fold, nat_le, nat_lt}
+use Rattle.std.specs.Prelude.{◌∷◌, ◌++◌, Bool, false, IsTrue, IsFalse, IsUtf8, ℤ, pos}
+use Rattle.std.specs.Prelude.{neg_ℤ, ◌-ℤ◌, flat_map, codes, length, nat_le, nat_lt}
 use Rattle.std.specs.Prelude.{encode_utf8}
 use Rattle.std.specs.List.{list_any, list_all, AllByRecursion}
 use Rattle.wm_syntax.specs.Spelling.{Form, Byte, Exactly, Each, ◌▸◌, ◌∣◌}
