@@ -16,7 +16,7 @@ import sys
 
 HERE = pathlib.Path(__file__).resolve().parent
 PROGRAM = HERE.parent / "crates/wm_cli/out/wm_cli"
-NAMES = HERE.parent / "crates/wm_syntax/src/op_names.rt"
+NAMES = HERE.parent / "crates/wm_syntax/src/instructions/op_names.rt"
 LATER = ["saturating-float-to-int", "simd", "multi-value", "bulk-memory", "reference-types"]
 FLAGS = [f"--disable-{feature}" for feature in LATER]
 ATOM = r"[0-9A-Za-z!#$%&'*+\-./:<=>?@\\^_`|~]+"
