@@ -21,7 +21,7 @@ use Rattle.wm_syntax.specs.Types.{Signature}
 use Rattle.wm_stacks.specs.declared.entries.Frame.{Frame}
 use Rattle.wm_typing.specs.declared.labels.BrTable.{BrTable}
 use Rattle.wm_typing.specs.Typing.{Context, function_type}
-use Rattle.wm_typing.specs.Contexts.{body_context, in_function, result_of}
+use Rattle.wm_typing.specs.Contexts.{in_function, result_of}
 use Rattle.wm_typing.specs.OpenLists.{Place, open_at, within, complete, IsSoFar, head_of, label_type}
 use Rattle.wm_typing.specs.Bodies.{Body, BodyState}
 use Rattle.wm_typing.specs.inner.Frames.{Frames, running, in_table, ended, Holds, TracksWith}
