@@ -28,8 +28,8 @@ COMPLETED = {
     ("check", "--l"): "--limit",
     ("build", "--o"): "--old-words",
     ("check", "--o"): "",
-    ("check", "--profile", ""): "1 2",
-    ("check", "--profile", "=", ""): "1 2",
+    ("check", "--profile", ""): "1 2 3 4",
+    ("check", "--profile", "=", ""): "1 2 3 4",
     ("check", "--limit", ""): "",
     ("check", ""): "",
 }

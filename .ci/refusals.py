@@ -38,9 +38,9 @@ def text_of(cell):
 
 def text_rows_of_page():
     """The same of the table of texts."""
-    row = re.compile(r"^\| `(\w+)` \|.*\| (the empty text|the byte `[0-9A-F]{2}`|`[^`|]+`): at (\d+) \|", re.M)
-    for word, cell, place in row.findall(PAGE.read_text(encoding="utf8")):
-        yield word, f"build{text_of(cell)} = text refused at {place}: {word}"
+    row = re.compile(r"^\| `(\w+)` \|.*\| (?:with `--(profile \d)` |)(the empty text|the byte `[0-9A-F]{2}`|`[^`|]+`): at (\d+) \|", re.M)
+    for word, option, cell, place in row.findall(PAGE.read_text(encoding="utf8")):
+        yield word, f"build{option and ' ' + option}{text_of(cell)} = text refused at {place}: {word}"
 
 
 def rows_of_group(heading):

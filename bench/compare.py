@@ -2,11 +2,12 @@
 """Compares `wmod check` with node and wasm-validate, where these are there: `compare.py [SHAPE..]`.
 
 For each shape it makes a module of 7 MB, and prints MB/s of processor time (medians of five runs, all programs in
-turn), instructions a byte where valgrind is there, and the peak memory of wmod. With `--growth` it makes modules of 2
-MB, 4 MB and 8 MB and prints the time a byte on each and how many times it grows, by the least of fifteen runs of each,
-the start of the program left out. With `--ratios` it prints how many times as fast each of the five actions is as node
-or the program of wabt that does the same, on modules of 2 MB, all in turn. With `--canon` or `--show` it measures that action on the two: MB/s, that growth, the peak memory, and
-how many bytes of memory a byte of the module takes. With `--build` it measures that action on the texts that `wmod
+turn), instructions a byte where valgrind is there, and the peak memory of wmod. A shape with floats is measured with
+`--profile 3`. With `--growth` it makes modules of 2 MB, 4 MB and 8 MB and prints the time a byte on each and how many
+times it grows, by the least of fifteen runs of each, the start of the program left out. With `--ratios` it prints how
+many times as fast each of the five actions is as node or the program of wabt that does the same, on modules of 2 MB, all
+in turn. With `--canon` or `--show` it measures that action on the two: MB/s, that growth, the peak memory, and how many
+bytes of memory a byte of the module takes. With `--build` it measures that action on the texts that `wmod
 show` prints of modules of 0.5 MB and 2 MB, beside wat2wasm where it is there; what is built has to be what `wmod canon`
 writes. With `--assemble` it measures nothing: wat2wasm makes binaries of such texts, of modules of 0.1 MB and 2 MB, and
 a line for each says whether its bytes are those of `wmod canon`. The status is 1 where some binary has other bytes, or
@@ -42,6 +43,12 @@ for (let i = 0; i < 8; i++) {
 times.sort((a, b) => a - b);
 console.log(JSON.stringify({ valid, seconds: times[times.length >> 1] }));
 """
+
+
+def wmod(action, shape, path):
+    """The words of a run of wmod: a shape with floats needs a profile that has them."""
+    profile = ["--profile", "3"] if shape in make_module.WITH_FLOATS else []
+    return [str(PROGRAM), action, *profile, path]
 
 
 def spent(command):
@@ -113,12 +120,12 @@ def ratios_row(shape, folder):
     with open(path, "wb") as file:
         file.write(make_module.make(shape, 2))
     with open(text, "wb") as file:
-        file.write(output("show", path))
-    own = [[str(PROGRAM), action, path] for action in ("check", "stats", "canon", "show")]
-    own.append([str(PROGRAM), "build", text])
+        file.write(output("show", shape, path))
+    ours = [wmod(action, shape, path) for action in ("check", "stats", "canon", "show")]
+    ours.append(wmod("build", shape, text))
     others = [["wasm-validate", path], ["wasm-opcodecnt", path], ["wasm2wat", path, f"--output={shown_by_wabt}"]]
     others += [["wat2wasm", shown_by_wabt, "--output=/dev/null"], ["wat2wasm", text, "--output=/dev/null"]]
-    (check, stats, canon, show, build, validate, count, to_text, again, to_binary), _ = medians(own + others)
+    (check, stats, canon, show, build, validate, count, to_text, again, to_binary), _ = medians(ours + others)
     pairs = [(check, node_seconds(path)), (check, validate), (stats, count), (canon, to_text + again), (show, to_text)]
     pairs.append((build, to_binary))
     cells = [f"{other / mine:.2f}" if other and other == other else "refused" for mine, other in pairs]
@@ -133,9 +140,9 @@ def row(shape, folder, others):
     with open(header, "wb") as file:
         file.write(make_module.HEADER)
     size = os.path.getsize(path)
-    commands = [[str(PROGRAM), "check", path]] + [[*words, path] for words in others]
-    (own, *rest), (peak, *_) = medians(commands)
-    cells = [shape.replace("_", " "), f"{size / 1e6:.1f}", speed(size, own)]
+    commands = [wmod("check", shape, path)] + [[*words, path] for words in others]
+    (mine, *rest), (peak, *_) = medians(commands)
+    cells = [shape.replace("_", " "), f"{size / 1e6:.1f}", speed(size, mine)]
     if shutil.which("node"):
         seconds = node_seconds(path)
         cells.append(speed(size, seconds) if seconds else "refused")
@@ -144,7 +151,7 @@ def row(shape, folder, others):
         small = os.path.join(folder, f"{shape}.small.wasm")
         with open(small, "wb") as file:
             file.write(make_module.make(shape, 1))
-        used = instructions([str(PROGRAM), "check", small], [str(PROGRAM), "check", header])
+        used = instructions(wmod("check", shape, small), wmod("check", shape, header))
         cells.append(f"{used / os.path.getsize(small):.1f}")
     cells.append(f"{peak / 1024:.1f}")
     return cells
@@ -169,7 +176,7 @@ def growth(shape, folder, action, sizes=(2, 8)):
     for path, megabytes in zip(paths, (0, *sizes)):
         with open(path, "wb") as file:
             file.write(make_module.make(shape, megabytes) if megabytes else make_module.HEADER)
-    (start, *seconds), (*_, peak) = quickest([[str(PROGRAM), action, path] for path in paths])
+    (start, *seconds), (*_, peak) = quickest([wmod(action, shape, path) for path in paths])
     lengths = [os.path.getsize(path) for path in paths[1:]]
     per_byte = [(used - start) / length for used, length in zip(seconds, lengths)]
     return per_byte, lengths[-1], seconds[-1], peak
@@ -186,13 +193,13 @@ def writing_row(shape, folder, action):
     header = os.path.join(folder, "header.wasm")
     with open(header, "wb") as file:
         file.write(make_module.HEADER)
-    _, (least,) = medians([[str(PROGRAM), action, header]])
+    _, (least,) = medians([wmod(action, shape, header)])
     taken = (peak - least) * 1024 / size
     return [shape.replace("_", " "), speed(size, seconds), f"{large / small:.2f}", f"{peak / 1024:.0f}", f"{taken:.1f}"]
 
 
-def output(action, path):
-    return subprocess.run([str(PROGRAM), action, path], stdout=subprocess.PIPE, check=True).stdout
+def output(action, shape, path):
+    return subprocess.run(wmod(action, shape, path), stdout=subprocess.PIPE, check=True).stdout
 
 
 def shown(shape, folder, megabytes):
@@ -201,9 +208,9 @@ def shown(shape, folder, megabytes):
     with open(module, "wb") as file:
         file.write(make_module.make(shape, megabytes))
     with open(text, "wb") as file:
-        file.write(output("show", module))
-    canonical = output("canon", module)
-    if output("build", text) != canonical:
+        file.write(output("show", shape, module))
+    canonical = output("canon", shape, module)
+    if output("build", shape, text) != canonical:
         sys.exit(f"{text} is not built into the canonical binary")
     return text, len(canonical)
 
@@ -212,14 +219,14 @@ def building_row(shape, folder):
     """Figures of the larger text; its time a byte beside that of the smaller one."""
     others = [["wat2wasm", "--output=/dev/null"]] if shutil.which("wat2wasm") else []
     empty, _ = shown("custom_sections", folder, 0)
-    _, (least,) = medians([[str(PROGRAM), "build", empty]])
+    _, (least,) = medians([wmod("build", shape, empty)])
     per_byte = []
     for megabytes in (0.5, 2):
         path, binary = shown(shape, folder, megabytes)
         size = os.path.getsize(path)
-        (own, *rest), (peak, *peaks) = medians([[str(PROGRAM), "build", path]] + [[*words, path] for words in others])
-        per_byte.append(own / size)
-    cells = [shape.replace("_", " "), f"{size / 1e6:.1f}", speed(size, own), speed(binary, own)]
+        (mine, *rest), (peak, *peaks) = medians([wmod("build", shape, path)] + [[*words, path] for words in others])
+        per_byte.append(mine / size)
+    cells = [shape.replace("_", " "), f"{size / 1e6:.1f}", speed(size, mine), speed(binary, mine)]
     cells += [f"{per_byte[1] / per_byte[0]:.2f}", f"{peak / 1024:.0f}", f"{(peak - least) * 1024 / size:.1f}"]
     for seconds, memory in zip(rest, peaks):
         cells += [speed(size, seconds), f"{memory / 1024:.0f}"] if seconds == seconds else ["refused", ""]
@@ -240,12 +247,12 @@ def assembled(text, binary, wide=False):
     return None if done.returncode == 0 else (done.stderr.splitlines() or ["for no reason that it told"])[0]
 
 
-def difference(own, other):
+def difference(mine, other):
     """How bytes of wat2wasm differ from those of `wmod canon`; none where they are the same."""
-    if own == other:
+    if mine == other:
         return None
-    same = next((i for i, (a, b) in enumerate(zip(own, other)) if a != b), min(len(own), len(other)))
-    return f"differs from byte {same} on, with {len(other)} bytes for {len(own)}"
+    same = next((i for i, (a, b) in enumerate(zip(mine, other)) if a != b), min(len(mine), len(other)))
+    return f"differs from byte {same} on, with {len(other)} bytes for {len(mine)}"
 
 
 def assembling(shape, folder, megabytes):
@@ -254,7 +261,7 @@ def assembling(shape, folder, megabytes):
     with open(module, "wb") as file:
         file.write(make_module.make(shape, megabytes))
     with open(text, "wb") as file:
-        file.write(output("show", module))
+        file.write(output("show", shape, module))
     sizes = f"{os.path.getsize(module) / 1e6:.1f} MB, {os.path.getsize(text) / 1e6:.1f} MB of text"
     usual = assembled(text, binary)
     refusal = usual and assembled(text, binary, wide=True)
@@ -262,7 +269,7 @@ def assembling(shape, folder, megabytes):
         return f"{shape}, {sizes}: refused, {refusal}", False
     stack = f", with a larger stack; with the usual one {usual}" if usual else ""
     with open(binary, "rb") as file:
-        differs = difference(output("canon", module), file.read())
+        differs = difference(output("canon", shape, module), file.read())
     return f"{shape}, {sizes}: {differs or 'equal'}{stack}", differs is None
 
 

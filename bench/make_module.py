@@ -3,9 +3,10 @@
 
 Every run writes the same bytes for the same words. Without a shape it prints their names.
 """
+import struct
 import sys
 
-I32, I64 = 0x7F, 0x7E
+I32, I64, F32, F64 = 0x7F, 0x7E, 0x7D, 0x7C
 
 
 def unsigned(n, width=0):
@@ -51,6 +52,7 @@ def entry(runs, code):
 HEADER = b"\x00asm\x01\x00\x00\x00"
 NOTHING = b"\x60\x00\x00"
 BINARY = b"\x60\x02\x7f\x7f\x01\x7f"
+FLOATING = b"\x60\x02\x7c\x7f\x01\x7c"
 MEMORY = section(5, b"\x01\x00\x01")
 
 
@@ -69,6 +71,9 @@ class Numbers:
     def below(self, n):
         self.state = (self.state * 6364136223846793005 + 1442695040888963407) % 2**64
         return (self.state >> 33) % n
+
+    def one_of(self, items):
+        return items[self.below(len(items))]
 
 
 def statement(numbers, functions):
@@ -90,14 +95,46 @@ def statement(numbers, functions):
     return b"\x20" + a + b"\x20" + b + b"\x10" + unsigned(numbers.below(functions)) + b"\x21" + a
 
 
-def statements(numbers, functions, size):
+def float_statement(numbers, functions):
+    """The same, most of it on floats; locals 0 and 3 to 5 are f64, 1 and 2 are i32, 6 and 7 are f32."""
+    kind = numbers.below(12)
+    a, b, c = (bytes([0x20, numbers.one_of([0, 3, 4, 5])]) for _ in range(3))  # local.get of an f64
+    i, s = bytes([0x20, numbers.one_of([1, 2])]), bytes([0x20, numbers.one_of([6, 7])])  # that of an i32, and of an f32
+    offset = unsigned(8 * numbers.below(512))
+    if kind < 2:  # a + b * c, or with - or / for +
+        return a + b + c + b"\xa2" + numbers.one_of([b"\xa0", b"\xa1", b"\xa3"]) + b"\x21" + a[1:]
+    if kind == 2:  # f64.const, f64.mul, f64.add
+        return a + b + b"\x44" + struct.pack("<d", numbers.below(10**6) / 1000) + b"\xa2\xa0\x21" + a[1:]
+    if kind == 3:  # a row's address in an i32: i32.const, i32.shl, i32.add, local.tee, f64.load
+        return i + i + b"\x41\x03\x74\x6a\x22" + i[1:] + b"\x2b\x03" + offset + b"\x21" + a[1:]
+    if kind == 4:  # f64.load, f64.mul, f64.store
+        return i + i + b"\x2b\x03" + offset + a + b"\xa2\x39\x03" + offset
+    if kind == 5:  # f32.load, f64.promote_f32, f64.add, f32.demote_f64, local.set of an f32
+        return i + b"\x2a\x02" + offset + b"\xbb" + a + b"\xa0\xb6\x21" + s[1:]
+    if kind == 6:  # f32.const, f32.mul, f32.store
+        return i + s + b"\x43" + struct.pack("<f", numbers.below(10**6) / 1024) + b"\x94\x38\x02" + offset
+    if kind == 7:  # block, f64.lt, br_if 0, local.set, end
+        return b"\x02\x40" + a + b + b"\x63\x0d\x00" + c + b"\x21" + a[1:] + b"\x0b"
+    if kind == 8:  # a loop that counts: i32.const, i32.add, local.tee, i32.const, i32.lt_s, br_if 0
+        bound = signed(numbers.below(10000))
+        return b"\x03\x40" + i + b"\x41\x01\x6a\x22" + i[1:] + b"\x41" + bound + b"\x48\x0d\x00\x0b"
+    if kind == 9:  # f64.convert_i32_s, f64.mul
+        return i + b"\xb7" + a + b"\xa2\x21" + b[1:]
+    if kind == 10:  # f64.abs, f64.sqrt, f64.gt, select
+        return a + b"\x99\x9f" + b + a + c + b"\x64\x1b\x21" + a[1:]
+    # f64.floor, i32.trunc_f64_s, call f
+    return a + a + b"\x9c\xaa\x10" + unsigned(numbers.below(functions)) + b"\x21" + b[1:]
+
+
+def statements(numbers, functions, size, kind=statement):
     code = bytearray()
     while len(code) < size:
-        code += statement(numbers, functions)
+        code += kind(numbers, functions)
     return bytes(code) + b"\x20\x00"
 
 
 LOCALS = [(2, I32), (2, I64)]
+FLOAT_LOCALS = [(1, I32), (3, F64), (2, F32)]
 
 
 def clang(size):
@@ -105,6 +142,14 @@ def clang(size):
     numbers = Numbers(1)
     functions = max(1, size // 262)
     return module([BINARY], [entry(LOCALS, statements(numbers, functions, 200 + numbers.below(100))) for _ in range(functions)], MEMORY)
+
+
+def floats(size):
+    """Functions as long as those of clang, most of whose locals, loads, stores, constants and arithmetic are of floats."""
+    numbers = Numbers(4)
+    functions = max(1, size // 262)
+    codes = (statements(numbers, functions, 200 + numbers.below(100), float_statement) for _ in range(functions))
+    return module([FLOATING], [entry(FLOAT_LOCALS, code) for code in codes], MEMORY)
 
 
 def one_long_function(size):
@@ -185,7 +230,9 @@ SHAPES = [
     custom_sections,
     long_numbers,
     many_runs,
+    floats,
 ]
+WITH_FLOATS = ["floats"]
 
 
 def make(shape, megabytes):

@@ -7,8 +7,8 @@ import re
 # The parts of `wmod --help` that list something.
 ACTION = re.compile(r" {2}(?P<name>\w+) {2,}(?P<says>.+)")
 OPTION = re.compile(r" {2,6}(?:-(?P<short>\w), )?--(?P<name>[\w-]+)(?: <(?P<value>\w+)>)? {2,}(?P<says>.+)")
-# A help text that begins with its two values, as `1, or 2 for ..`, and one of an option that a single action takes.
-VALUES = re.compile(r"(\d+), or (\d+)\b")
+# A help text that begins with its values, as `1, 2 or 3: ..`, and one of an option that a single action takes.
+VALUES = re.compile(r"\d+(?:, \d+)* or \d+\b")
 ONLY = re.compile(r"Of `(\w+)`: ")
 
 Action = collections.namedtuple("Action", "name says")
@@ -33,7 +33,7 @@ def each(form, line):
 
 def option(short, name, value, says):
     values, only = VALUES.match(says), ONLY.match(says)
-    return Option(short, name, value, says, values.groups() if values else (), only[1] if only else None)
+    return Option(short, name, value, says, re.findall(r"\d+", values[0]) if values else (), only[1] if only else None)
 
 
 def filled(template, texts):

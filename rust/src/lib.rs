@@ -1,7 +1,7 @@
 //! Is this a valid WebAssembly 1.0 module? And what is its canonical binary, and its text?
 //!
 //! This crate calls the library of [wmod], which is proved: it answers [`Ok`] for exactly the valid modules within the limits
-//! that you set. WebAssembly 1.0 without floating point is covered. Nothing of a module is run.
+//! that you set. WebAssembly 1.0 is covered; floats are admitted by the profiles that have them. Nothing of a module is run.
 //!
 //! ```
 //! let module = b"\0asm\x01\0\0\0";

@@ -10,6 +10,10 @@ pub enum Profile {
     One,
     /// The same and the five sign-extension instructions.
     Two,
+    /// All of WebAssembly 1.0, floats too.
+    Three,
+    /// The same and the five sign-extension instructions.
+    Four,
 }
 
 /// What is asked for, beside the bytes: a profile and limits. Each call of this crate is here too.
@@ -52,6 +56,8 @@ impl Options {
         self.0.profile = match profile {
             Profile::One => 1,
             Profile::Two => 2,
+            Profile::Three => 3,
+            Profile::Four => 4,
         };
         self
     }

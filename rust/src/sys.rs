@@ -120,6 +120,7 @@ mod tests {
                 "WMOD_VALID {VALID}\nWMOD_REFUSED {REFUSED}\nWMOD_MISUSE 2\nWMOD_MEMORY {MEMORY}\n"
             ),
             format!("WMOD_NO_ROOM {NO_ROOM}\nWMOD_PROFILE_1 1\nWMOD_PROFILE_2 2\n"),
+            format!("WMOD_PROFILE_3 3\nWMOD_PROFILE_4 4\n"),
             format!("WMOD_LIMIT_DEFAULT {LIMIT_DEFAULT}\nWMOD_LIMIT_MOST {LIMIT_MOST}\n"),
             format!("WMOD_NO_LIMIT {NO_LIMIT}\n"),
         ]

@@ -7,6 +7,7 @@ const ADD: &[u8] =
     b"\0asm\x01\0\0\0\x01\x07\x01\x60\x02\x7f\x7f\x01\x7f\x03\x02\x01\0\x0a\x09\x01\x07\0\x20\0\x20\x01\x6a\x0b";
 const EXTENDS: &[u8] =
     b"\0asm\x01\0\0\0\x01\x06\x01\x60\x01\x7f\x01\x7f\x03\x02\x01\0\x0a\x07\x01\x05\0\x20\0\xc0\x0b";
+const FLOAT: &[u8] = b"\0asm\x01\0\0\0\x06\x09\x01\x7D\0\x43\x01\0\xC0\x7F\x0B";
 
 fn cut(bytes: &[u8], at: usize) -> Result<wmod::Summary, Error> {
     let mut validator = Validator::new()?;
@@ -47,6 +48,10 @@ fn options_say_what_is_taken() {
     };
     assert_eq!(said(one, EXTENDS), Err("refused at 28: BadOpcode".into()));
     assert_eq!(said(one.profile(Profile::Two), EXTENDS), Ok(1));
+    assert_eq!(said(one.profile(Profile::Four), EXTENDS), Ok(1));
+    assert_eq!(said(one, FLOAT), Err("refused at 12: Float".into()));
+    assert_eq!(said(one.profile(Profile::Three), FLOAT), Ok(0));
+    assert_eq!(said(one.profile(Profile::Four), FLOAT), Ok(0));
     assert_eq!(
         said(one.max_bytes(7), ADD),
         Err("refused at 8: TooLong".into())

@@ -1,4 +1,4 @@
-/* wmod: is this a valid WebAssembly 1.0 module (whole numbers only)? And its canonical binary, and its text.
+/* wmod: is this a valid WebAssembly 1.0 module? And its canonical binary, and its text.
  *
  * Link with -lwmod. The library takes memory from the program's malloc, realloc and free and uses nothing else of
  * it but memcpy, memmove and memset: no file, no clock, no environment, no printing, no lock, no thread, no global
@@ -39,6 +39,8 @@ extern "C" {
 /* Which instructions a module may use. */
 #define WMOD_PROFILE_1 1u /* those of WebAssembly 1.0 on whole numbers */
 #define WMOD_PROFILE_2 2u /* the same and the five sign-extension instructions */
+#define WMOD_PROFILE_3 3u /* all of WebAssembly 1.0, floats too */
+#define WMOD_PROFILE_4 4u /* the same and the five sign-extension instructions */
 
 /* Limits, in bytes: what is longer is refused as WMOD_WHY_TOO_LONG. */
 #define WMOD_LIMIT_DEFAULT ((uint64_t)0xFFFFFFFFu)
@@ -98,7 +100,8 @@ enum {
   WMOD_TEXT_LABEL_END = 117, /* LabelEnd */
   WMOD_TEXT_TOO_MANY_LOCALS = 118, /* TooManyLocals */
   WMOD_TEXT_FLOAT = 119, /* Float */
-  WMOD_TEXT_OUT_OF_MEMORY = 120 /* Memory */
+  WMOD_TEXT_OUT_OF_MEMORY = 120, /* Memory */
+  WMOD_TEXT_BAD_FLOAT = 121 /* BadFloat */
 };
 
 /* The answer to an input. Where the status is WMOD_VALID, `why` and `at` are 0. Else the figures are 0. */
@@ -113,7 +116,7 @@ typedef struct wmod_answer {
   uint64_t probes;    /* .. and the probes of one search for a local */
 } wmod_answer;
 
-/* Judges an input that lies in memory as a whole. The result is the answer's status. The profile is 1 or 2, the
+/* Judges an input that lies in memory as a whole. The result is the answer's status. The profile is 1 to 4, the
  * limit at most WMOD_LIMIT_MOST: else WMOD_MISUSE.
  *
  * Proved: WMOD_VALID is answered for valid modules of the profile alone, within the limit, WMOD_REFUSED for no such,
@@ -128,7 +131,7 @@ uint32_t wmod_validate(const uint8_t *bytes, size_t length, uint32_t profile, ui
  */
 typedef struct wmod_options {
   uint64_t size;      /* sizeof(wmod_options); another size is WMOD_MISUSE */
-  uint64_t profile;   /* WMOD_PROFILE_1 or WMOD_PROFILE_2 */
+  uint64_t profile;   /* WMOD_PROFILE_1 to WMOD_PROFILE_4 */
   uint64_t max_bytes; /* at most WMOD_LIMIT_MOST */
   uint64_t functions; /* at most so many functions, imported ones counted */
   uint64_t locals;    /* at most so many declared locals a function; parameters are not counted */

@@ -137,4 +137,4 @@ pub enough : (o : Options) (input before after : List ℕ) (out : Output) → Co
 enough o input before after out c room five = by (c.room five)
   where
     by : Asking o (λ p limit q. (m : Module) × Loads p limit q input m × (length before < length (canon m)) × (out ≡ no_room (length (canon m)))) → ⊥
-    by (p, a, (m, l, lt, is)) = absurd (omega (arith, room, lt, canon_shortest m input l.spelled.1))
+    by (p, a, (m, l, lt, is)) = absurd (omega (arith, room, lt, canon_shortest p m input l.spelled.1))

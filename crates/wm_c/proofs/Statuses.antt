@@ -73,6 +73,7 @@ text_cases text.BadEscape = inl refl
 text_cases text.Expected = inl refl
 text_cases text.UnknownWord = inl refl
 text_cases text.BadInteger = inl refl
+text_cases text.BadFloat = inl refl
 text_cases text.BadName = inl refl
 text_cases text.UnknownId = inl refl
 text_cases text.RepeatedId = inl refl

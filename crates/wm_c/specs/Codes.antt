@@ -100,6 +100,7 @@ text_code text.LabelEnd = 117
 text_code text.TooManyLocals = 118
 text_code text.Float = 119
 text_code text.Memory = 120
+text_code text.BadFloat = 121
 
 abbrev pub text_status_code : TextWhy → ℕ
 text_status_code text.NotUtf8 = 1
@@ -110,6 +111,7 @@ text_status_code text.BadEscape = 1
 text_status_code text.Expected = 1
 text_status_code text.UnknownWord = 1
 text_status_code text.BadInteger = 1
+text_status_code text.BadFloat = 1
 text_status_code text.BadName = 1
 text_status_code text.UnknownId = 1
 text_status_code text.RepeatedId = 1
@@ -126,3 +128,5 @@ text_status_code text.Memory = 4
 abbrev pub profile_code : Profile → ℕ
 profile_code profile.One = 1
 profile_code profile.Two = 2
+profile_code profile.Three = 3
+profile_code profile.Four = 4

@@ -122,6 +122,7 @@ pub(crate) fn text_number(why: TextWhy) -> u32
         TextWhy::TooManyLocals => 118,
         TextWhy::Float => 119,
         TextWhy::Memory => 120,
+        TextWhy::BadFloat => 121,
     }
 }
 
@@ -160,6 +161,7 @@ pub(crate) fn text_of(number: u32) -> Option<TextWhy>
         118 => Some(TextWhy::TooManyLocals),
         119 => Some(TextWhy::Float),
         120 => Some(TextWhy::Memory),
+        121 => Some(TextWhy::BadFloat),
         _ => None,
     }
 }
@@ -171,6 +173,8 @@ pub(crate) fn profile_of(number: u64) -> Option<Profile>
     match number {
         1 => Some(Profile::One),
         2 => Some(Profile::Two),
+        3 => Some(Profile::Three),
+        4 => Some(Profile::Four),
         _ => None,
     }
 }

@@ -35,15 +35,24 @@ validate 1 1000 ADD = 0: 0 0 0 1 8 2 1 0
 validate 1 31 ADD = 1: 1 26 32 0 0 0 0 0
 validate 1 1000 . = 1: 1 11 0 0 0 0 0 0
 validate 0 1000 H = 2: 2 0 0 0 0 0 0 0
-validate 3 1000 H = 2: 2 0 0 0 0 0 0 0
+validate 3 1000 H = 0: 0 0 0 0 0 0 0 0
+validate 4 1000 H = 0: 0 0 0 0 0 0 0 0
+validate 5 1000 H = 2: 2 0 0 0 0 0 0 0
 validate 1 4611686018427387904 H = 0: 0 0 0 0 0 0 0 0
 validate 1 4611686018427387905 H = 2: 2 0 0 0 0 0 0 0
 validate 1 1000 H01040160000003020100 = 1: 1 12 18 0 0 0 0 0
 validate 1 1000 H010501600001 = 1: 1 11 14 0 0 0 0 0";
 
-// A function of i32.extend8_s is of the second profile, and a policy bounds functions.
+// A function of i32.extend8_s is of the second and the fourth profile, a global of f32 of the third and the
+// fourth, and a policy bounds functions.
 const OPTIONS: &str = "validate 1 1000 EXTEND = 1: 1 10 27 0 0 0 0 0
 validate 2 1000 EXTEND = 0: 0 0 0 1 6 1 1 0
+validate 3 1000 EXTEND = 1: 1 10 27 0 0 0 0 0
+validate 4 1000 EXTEND = 0: 0 0 0 1 6 1 1 0
+validate 1 1000 H0609017D00430000C07F0B = 1: 1 9 12 0 0 0 0 0
+validate 2 1000 H0609017D00430000C07F0B = 1: 1 9 12 0 0 0 0 0
+validate 3 1000 H0609017D00430000C07F0B = 0: 0 0 0 0 0 0 0 0
+validate 4 1000 H0609017D00430000C07F0B = 0: 0 0 0 0 0 0 0 0
 with 56 1 1000 - - - 0 ADD = 0: 0 0 0 1 8 2 1 0
 with 56 1 1000 1 0 0 1 ADD = 0: 0 0 0 1 8 2 1 0
 with 56 1 1000 0 - - 0 ADD = 1: 1 28 21 0 0 0 0 0
@@ -67,7 +76,7 @@ begin 2 1000 = 0
 feed 0061736D02 = 1
 feed 00 = 1
 finish = 1: 1 2 5 0 0 0 0 0
-begin 3 1000 = 2
+begin 5 1000 = 2
 finish = 1: 1 2 5 0 0 0 0 0
 options 56 1 1000 0 - - 0 = 0
 feed ADD = 1
@@ -91,7 +100,8 @@ name 100 9 = 8 TooLarge0
 name 101 8 = 7 NotUtf80
 name 119 6 = 5 Float0
 name 120 7 = 6 Memory0
-name 121 2 = 0 0?";
+name 121 9 = 8 BadFloat0
+name 122 2 = 0 0?";
 
 // The canonical binary of a header and a custom section is the header. A buffer of the input's length
 // holds it.
@@ -100,7 +110,7 @@ canon 8 56 1 1000 - - - 0 H00020161 = 0: 0 0 0 8 0061736d01000000
 canon 7 56 1 1000 - - - 0 H = 5: 5 0 0 8 ??????????????
 canon 8 56 1 1000 - - - 0 H0B = 1: 1 11 9 0 ????????????????
 canon 8 56 1 7 - - - 0 H = 1: 1 26 8 0 ????????????????
-canon 8 56 3 1000 - - - 0 H = 2: 2 0 0 0 ????????????????
+canon 8 56 5 1000 - - - 0 H = 2: 2 0 0 0 ????????????????
 canon 40 56 1 1000 0 - - 0 ADD = 1: 1 28 21 0 \
     ????????????????????????????????????????????????????????????????????????????????";
 

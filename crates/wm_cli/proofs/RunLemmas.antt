@@ -115,7 +115,7 @@ out_of_loaded action form w p limit q s all left c j = (inl (w.report (value_of 
 
 -- what was loaded is not too large
 pub loaded_fits : (m : Module) → ∥ IsLoaded m ∥₁ → (¬ Fits m) → ⊥
-loaded_fits m l n = ∥∥₁_elim l (λ x y. absurd x) (λ h. n (spelled_fits m h.bytes h.loads.spelled.1))
+loaded_fits m l n = ∥∥₁_elim l (λ x y. absurd x) (λ h. n (spelled_fits h.profile m h.bytes h.loads.spelled.1))
 
 -- all of a text went out, and then the writer was flushed
 take-nil : (n : ℕ) → ◌≡◌ {A = List ℕ} (take n []) []

@@ -10,7 +10,7 @@ use Rattle.clap.specs.Words.{with_rule}
 use Rattle.clap.specs.Simple.{on_top}
 use Rattle.clap.specs.declared.builder.action.ArgAction.TheVariants.{Set, SetTrue}
 use Rattle.wm_syntax.specs.declared.profile.Profile.{Profile}
-use Rattle.wm_syntax.specs.declared.profile.Profile.TheVariants.{One, Two}
+use Rattle.wm_syntax.specs.declared.profile.Profile.TheVariants.{One, Two, Three, Four}
 use Rattle.wm_rules.specs.declared.policy.Policy.{Policy}
 use Rattle.wm_read.specs.declared.spellings.Spellings.{Spellings}
 use Rattle.wm_read.specs.declared.spellings.Spellings.TheVariants.{Standard, Older}
@@ -73,6 +73,8 @@ action_name Build = codes "build"
 abbrev pub profile_name : Profile → Text
 profile_name One = codes "1"
 profile_name Two = codes "2"
+profile_name Three = codes "3"
+profile_name Four = codes "4"
 
 -- the profile that a word names; the first where none is given
 abbrev pub IsProfile : Option Text → Profile → Type 0

@@ -74,12 +74,14 @@ fn profile_of(text: &str) -> Option<Profile>
     match text {
         "1" => Some(Profile::One),
         "2" => Some(Profile::Two),
+        "3" => Some(Profile::Three),
+        "4" => Some(Profile::Four),
         _ => None,
     }
 }
 
 const ABOUT: &str =
-    "Checks and converts WebAssembly 1.0 modules (integer instructions only), reading them once.\n\n  \
+    "Checks and converts WebAssembly 1.0 modules, reading them once.\n\n  \
     check    write `valid`, or why not and where\n  \
     stats    write figures of a valid module's function bodies\n  \
     canon    write a valid module as its canonical binary: shortest numbers, no custom sections\n  \
@@ -106,7 +108,8 @@ const ANSWERS: &str =
     wmod explain Index";
 
 // what help says of each option
-const PROFILE: &str = "1, or 2 for sign-extension instructions too [default: 1]";
+const PROFILE: &str =
+    "1, 2, 3 or 4: floats under 3 and 4, sign extension under 2 and 4 [default: 1]";
 
 const LIMIT: &str = "The most bytes that the input may have [default: 4294967295]";
 
@@ -326,7 +329,7 @@ impl fmt::Display for WrongWord<'_> {
                 f,
                 "'{word}' is no action: check, stats, canon, show, build, or explain alone"
             ),
-            WrongWord::Profile(word) => write!(f, "'{word}' is no profile: 1, 2"),
+            WrongWord::Profile(word) => write!(f, "'{word}' is no profile: 1, 2, 3, 4"),
             WrongWord::Limit(word) => {
                 write!(
                     f,

@@ -35,11 +35,12 @@ pub const OF_MODULES: &str = "\
         type, the element type `70`, a kind, a flag, or a `00` at the end of an instruction. | 5.3, \
         5.4, 5.5 | `01 02 01 00`: refused at 12 | Often a feature past 1.0, as reference types, shared \
         memories or several memories. Switch it off.\n\
-    Float | A floating-point type or instruction. | 5.3.1, 5.4 | `06 02 01 7D`: refused at 12 | The \
-        module is not wrong, but wmod reads integer instructions only. Keep `f32` and `f64` out.\n\
+    Float | A floating-point type or instruction, where the profile has none. | 5.3.1, 5.4 | \
+        `06 02 01 7D`: refused at 12 | The module is not wrong. Take `--profile 3`, or `--profile 4` \
+        for sign extension too.\n\
     BadOpcode | No instruction of the profile begins with this byte. | 5.4 | `06 04 01 7F 00 06`: \
-        refused at 14 | For sign extension (`C0` to `C4`) take `--profile 2`. Switch other features \
-        past 1.0 off.\n\
+        refused at 14 | For sign extension (`C0` to `C4`) take `--profile 2`, with floats `4`. Switch \
+        other features past 1.0 off.\n\
     Index | An index names nothing: no such type, function, table, memory, global, local or label. \
         An initial value names imported globals only. | 3.1.1, 3.3, 3.4 | `08 01 00`: refused at 11 | \
         Declare what is named. A missing memory or table is an index 0 that names nothing.\n\
@@ -91,10 +92,9 @@ pub const OF_MODULES: &str = "\
 pub const OF_TEXTS: &str = "\
     NotUtf8 | The text is not UTF-8. The place is the length of its longest front that is. | 6.2.1 \
         | the byte `80`: at 0 | Save it as UTF-8.\n\
-    BadToken | A character, or a longest run of characters of atoms, that is no token. So is a \
-        float literal such as `1.5`. A string with a control character decides at its opening quote. | \
-        6.2.2, 6.3 | `,`: at 0 | Remove a byte order mark, escape control characters, write no floats. \
-        Give a binary module to the other actions.\n\
+    BadToken | A character, or a longest run of characters of atoms, that is no token. A string \
+        with a control character decides at its opening quote. | 6.2.2, 6.3 | `,`: at 0 | Remove a byte \
+        order mark, escape control characters. Give a binary module to the other actions.\n\
     OpenComment | The text ends inside a block comment. | 6.2.4 | `(;`: at 2 | Give each `(;` its \
         own `;)`.\n\
     OpenString | The text ends inside a string, also in an escape. | 6.3.3 | `\"`: at 1 | Close the \
@@ -109,10 +109,13 @@ pub const OF_TEXTS: &str = "\
         type use with its `(type ..)`, each export as a field.\n\
     UnknownWord | A word that names no field, or no instruction of the profile. An `else` or `end` \
         of no block is one. | 6.5, 6.6 | `(module(a`: at 8 | Look the name up in 6.5 and 6.6. For sign \
-        extension take `--profile 2`, for a word such as `get_local` `--old-words`.\n\
+        extension take `--profile 2`, with floats `4`; for a word such as `get_local` `--old-words`.\n\
     BadInteger | A number where an integer must stand, but out of range, or with a sign that may \
         not be there. Also `offset=` or `align=` before no such number. | 6.3.1 | `(module(data -1))`: \
         at 13 | Write a number of the range: below 2^32 with no sign for an index or a limit.\n\
+    BadFloat | A number or a NaN where a float must stand, but none of its width: malformed, nearest \
+        to an infinity, or with a payload that is 0 or out of range. | 6.3.2 | with `--profile 3` \
+        `(module(global f32 f32.const 1e39`: at 29 | Write a number that the width holds, or `inf`.\n\
     BadName | A name of an import or an export whose bytes are not UTF-8. Its string decides. | \
         6.3.4 | `(module(import\"\\ff\"`: at 14 | Write names in UTF-8.\n\
     UnknownId | An identifier that no item of its space has, or no open block. The identifier \
@@ -138,7 +141,7 @@ pub const OF_TEXTS: &str = "\
         or write none.\n\
     TooManyLocals | A function declares 2^32 locals or more. The value type that makes 2^32 \
         decides. | 6.6.5 | none of less than 17 GB, so never without `--limit` | Declare fewer.\n\
-    Float | A floating-point type or instruction. | 6.4.1, 6.5 | `(module(global f32))`: at 15 | \
-        The text is not wrong, but wmod reads integer instructions only.\n\
+    Float | A floating-point type or instruction, where the profile has none. | 6.4.1, 6.5 | \
+        `(module(global f32))`: at 15 | The text is not wrong. Take `--profile 3` or `4`.\n\
     Memory | Memory was refused. The command never prints it, and ends with status 4. | none | none \
         | Hand in a smaller text, or give more memory.";

@@ -44,6 +44,8 @@ wmod check < H 01 05 01 60 00 01 7F 03 02 01 00 0A 08 01 06 00 41 FF 01 C0 0B = 
 wmod check --profile 2 < H 01 05 01 60 00 01 7F 03 02 01 00 0A 08 01 06 00 41 FF 01 C0 0B = 0 valid\n
 wmod check --profile 2 < H 01 05 01 60 00 01 7F 03 02 01 00 0A 08 01 06 00 41 FF 01 C4 0B = 1 refused at 28: Type\n
 wmod check < H 01 04 01 60 00 00 03 02 01 00 0A 11 01 0F 01 FF FF FF FF 0F 7F 20 FE FF FF FF 0F 1A 0B = 0 valid\n
+wmod check --profile 3 < H 06 09 01 7D 00 43 01 00 C0 7F 0B = 0 valid\n
+wmod check < H 06 09 01 7D 00 43 01 00 C0 7F 0B = 1 refused at 12: Float\n
 wmod stats < H = 0 functions 0\nmoves 0\noperands 0\ncontrols 0\nprobes 0\n
 wmod stats < H 01 07 01 60 02 7F 7F 01 7F 03 02 01 00 0A 09 01 07 00 20 00 20 01 6A 0B = 0 functions 1\nmoves 8\noperands 2\ncontrols 1\nprobes 0\n
 wmod stats < H 01 05 01 60 00 01 7F 03 02 01 00 0A 08 01 06 00 00 0D 00 50 0B = 1 refused at 28: Type\n
@@ -53,11 +55,13 @@ wmod canon < H 00 05 04 6E 61 6D 65 = 0 \x00asm\x01\x00\x00\x00
 wmod canon < H 06 08 01 7F 00 41 FF FF 7F 0B = 0 \x00asm\x01\x00\x00\x00\x06\x06\x01\x7f\x00A\x7f\x0b
 wmod canon < H 01 01 00 01 = 1 refused at 12: SectionOrder\n
 wmod canon < H 01 04 01 60 00 00 03 02 01 00 0A 05 01 03 00 05 0B = 1 refused at 24: ElsePlace\n
+wmod canon --profile 3 < H 06 09 01 7D 00 43 01 00 C0 7F 0B = 0 \x00asm\x01\x00\x00\x00\x06\t\x01}\x00C\x01\x00\xc0\x7f\x0b
 wmod show < H = 0 (module)\n
 wmod show < H 01 07 01 60 02 7F 7F 01 7F 03 02 01 00 0A 09 01 07 00 20 00 20 01 6A 0B = 0 (module\n  (type $t0 (func (param i32 i32) (result i32)))\n  (func $f0 (type $t0)\n    local.get 0\n    local.get 1\n    i32.add\n  )\n)\n
 wmod show < H 05 03 01 00 01 0B 0A 01 00 41 00 0B 04 00 C3 A9 22 = 0 (module\n  (memory $mem0 1)\n  (data $mem0 (offset i32.const 0) \"\\00\\c3\\a9\\22\")\n)\n
 wmod show < H 01 04 01 60 00 00 03 02 01 00 0A 05 01 03 00 05 0B = 1 refused at 24: ElsePlace\n
 wmod show --profile 2 < H 01 05 01 60 00 01 7F 03 02 01 00 0A 08 01 06 00 41 FF 01 C0 0B = 0 (module\n  (type $t0 (func (result i32)))\n  (func $f0 (type $t0)\n    i32.const 255\n    i32.extend8_s\n  )\n)\n
+wmod show --profile 4 < H 06 09 01 7D 00 43 00 00 00 80 0B = 0 (module\n  (global $g0 f32 f32.const -0x0p+0)\n)\n
 wmod build < (module) = 0 \x00asm\x01\x00\x00\x00
 wmod build < (module (memory $mem0 1) (data $mem0 (offset i32.const 0) "\00\u{e9}\"")) = 0 \x00asm\x01\x00\x00\x00\x05\x03\x01\x00\x01\x0b\n\x01\x00A\x00\x0b\x04\x00\xc3\xa9\"
 wmod build < (module (func (type $a))) = 1 text refused at 20: UnknownId\n
@@ -65,6 +69,8 @@ wmod build < = 1 text refused at 0: Expected\n
 wmod build < (module (type (func)) (func (type 0) drop)) = 1 module refused at 24: Arity\n
 wmod build --profile 2 < (module (type (func (result i32))) (func (type 0) i32.const 255 i32.extend8_s)) = 0 \x00asm\x01\x00\x00\x00\x01\x05\x01`\x00\x01\x7f\x03\x02\x01\x00\n\x08\x01\x06\x00A\xff\x01\xc0\x0b
 wmod build < (module (type (func (result i32))) (func (type 0) i32.const 255 i32.extend8_s)) = 1 text refused at 64: UnknownWord\n
+wmod build --profile 3 < (module (type (func (param f32) (result f64))) (func (type 0) local.get 0 f64.promote_f32)) = 0 \x00asm\x01\x00\x00\x00\x01\x06\x01`\x01}\x01|\x03\x02\x01\x00\n\x07\x01\x05\x00 \x00\xbb\x0b
+wmod build --profile 4 < (module (global f64 f64.const 0)) = 0 \x00asm\x01\x00\x00\x00\x06\r\x01|\x00D\x00\x00\x00\x00\x00\x00\x00\x00\x0b
 wmod build --limit 7 < (module) = 1 refused at 8: TooLong\n
 wmod build --limit 8 < (module) = 0 \x00asm\x01\x00\x00\x00"#;
 
@@ -145,7 +151,7 @@ out 3 wmod show < H = 3 "(mo""#;
 
 /// In how many runs of `INPUTS` an end fails: as often as it is called in runs without a
 /// fault. The gate prints it.
-const FAILED: &str = "39126 readers and 61806 writers that failed";
+const FAILED: &str = "39870 readers and 63297 writers that failed";
 
 #[test]
 fn readers_and_writers_that_fail(rt: HostRuntime) -> Result<(), Fail> {
@@ -175,7 +181,7 @@ desk wmod build --old-words old.wat = 0 "\x00asm\x01\x00\x00\x00\x04\x04\x01p\x0
 desk wmod check sign = 3 "" "wmod: input or output failed\nwmod: sign: entity not found\n"
 desk wmod run = 2 "" "wmod: bad words\nwmod: \'run\' is no action: check, stats, canon, show, build, or explain alone\n"
 desk wmod explain StartType = 0 "StartType\n  The start function has a parameter or a result.\n  Standard: 3.4.7\n  Smallest input: `01 05 01 60 00 01 7F 03 02 01 00 08 01 00`: refused at 22\n  What to do: Start at a function of type [] to [].\n" ""
-desk wmod explain Float = 0 "Float\n  A floating-point type or instruction.\n  Standard: 5.3.1, 5.4\n  Smallest input: `06 02 01 7D`: refused at 12\n  What to do: The module is not wrong, but wmod reads integer instructions only. Keep `f32` and `f64` out.\nFloat\n  A floating-point type or instruction.\n  Standard: 6.4.1, 6.5\n  Smallest input: `(module(global f32))`: at 15\n  What to do: The text is not wrong, but wmod reads integer instructions only.\n" ""
+desk wmod explain Float = 0 "Float\n  A floating-point type or instruction, where the profile has none.\n  Standard: 5.3.1, 5.4\n  Smallest input: `06 02 01 7D`: refused at 12\n  What to do: The module is not wrong. Take `--profile 3`, or `--profile 4` for sign extension too.\nFloat\n  A floating-point type or instruction, where the profile has none.\n  Standard: 6.4.1, 6.5\n  Smallest input: `(module(global f32))`: at 15\n  What to do: The text is not wrong. Take `--profile 3` or `4`.\n" ""
 desk wmod explain BadEscape = 0 "BadEscape\n  An escape of a string that is none, or that means no scalar value. The string\'s opening quote decides.\n  Standard: 6.3.3\n  Smallest input: `\"\\x`: at 0\n  What to do: Use `\\t \\n \\r \\\" \\\' \\\\`, two hexadecimal digits, or `\\u{..}`.\n" ""
 desk wmod explain badbite = 2 "" "wmod: bad words\nwmod: \'badbite\' is no refusal\'s NAME; the nearest: BadByte\n"
 desk wmod explain Se = 2 "" "wmod: bad words\nwmod: \'Se\' is no refusal\'s NAME; the nearest: SectionId SectionOrder SectionEnd Second SecondStart\n"

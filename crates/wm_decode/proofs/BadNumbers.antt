@@ -9,7 +9,9 @@ use Rattle.wm_syntax.specs.inner.Numbers.{Partial, UnsignedRest, SignedRest, Uns
 use Rattle.wm_syntax.specs.exact.Reading.{fresh, unsigned_push, signed_push}
 use Rattle.wm_syntax.specs.exact.ByteTable.{class_under}
 use Rattle.wm_syntax.specs.declared.profile.Profile.{Profile}
+use Rattle.wm_syntax.specs.Profiles.{has, type_feature}
 use Rattle.wm_syntax.specs.declared.types.ValType.{ValType}
+use Rattle.wm_syntax.specs.declared.types.ValType.TheVariants.{I32, I64, F32, F64}
 use Rattle.wm_syntax.specs.declared.types.Limits.{Limits}
 use Rattle.wm_syntax.specs.declared.types.GlobalType.{GlobalType}
 use Rattle.wm_syntax.specs.declared.modules.ImportDesc.TheVariants as desc
@@ -44,8 +46,8 @@ use Rattle.wm_decode.specs.declared.step.expressions.InExpression.{InExpression}
 use Rattle.wm_decode.specs.declared.step.expressions.InExpression.TheVariants as expression
 use Rattle.wm_decode.specs.declared.machine.Plain.TheVariants as plain
 use Rattle.wm_decode.specs.Meanings.{Integer, u32, s32, s64, spells, CanGoOn, WrongNumber}
-use Rattle.wm_decode.specs.exact.ValueSteps.{read_number, map_reading, after_min, limits_push, table_type_push, value_type_of, read_type, global_type_push, desc_push, target_push, run_push, value_push}
-use Rattle.wm_decode.specs.exact.OpSteps.{index_op, call_op, memory_op, const_32_op, const_64_op, on_answer, immediates, first_step, block_step, closing_step, op_push}
+use Rattle.wm_decode.specs.exact.ValueSteps.{read_number, map_reading, after_min, limits_push, table_type_push, type_under, value_type_of, read_type, global_type_push, desc_push, target_push, run_push, value_push}
+use Rattle.wm_decode.specs.exact.OpSteps.{block_op, float_32_step, float_64_step, index_op, call_op, memory_op, const_32_op, const_64_op, on_answer, immediates, first_step, block_step, closing_step, op_push}
 use Rattle.wm_decode.specs.exact.ExpressionSteps.{start, ends as op_ends, after_op, after_label, after_reading, expression_failed, expression_step}
 use Rattle.wm_decode.proofs.OpRest.{at_offset}
 use Rattle.std.proofs.Common.{◌↔◌}
@@ -167,10 +169,14 @@ module _ {R X : Type 0} (num : R → Num) where
   new_float : ReadSettled (Bad why.Float)
   new_float = (tt, λ e. cc)
 
-  type_law : (c : ℕ) (f : ValType → Reading R X) → ((t : ValType) → ReadSettled (f t)) → ReadSettled (read_type (value_type_of c) f)
-  type_law c f h =
+  under_law : (p : Profile) (t : ValType) (f : ValType → Reading R X) → ((t : ValType) → ReadSettled (f t)) → ReadSettled (read_type (type_under p t) f)
+  under_law p t f h = cond_both (has p (type_feature t)) _ _ (λ (q : Result ValType Why). ReadSettled (read_type q f)) (λ _. h t) (λ _. new_float)
+
+  type_law : (p : Profile) (c : ℕ) (f : ValType → Reading R X) → ((t : ValType) → ReadSettled (f t)) → ReadSettled (read_type (value_type_of p c) f)
+  type_law p c f h =
       let P : Result ValType Why → Type 0 = λ q. ReadSettled (read_type q f) in
-      cond_both (nat_eq c 0x7F) _ _ P (λ _. h _) (λ _. cond_both (nat_eq c 0x7E) _ _ P (λ _. h _) (λ _. cond_both (nat_eq c 0x7D) _ _ P (λ _. new_float) (λ _. cond_both (nat_eq c 0x7C) _ _ P (λ _. new_float) (λ _. new_byte))))
+      cond_both (nat_eq c 0x7F) _ _ P (λ _. under_law p I32 f h) (λ _. cond_both (nat_eq c 0x7E) _ _ P (λ _. under_law p I64 f h)
+      (λ _. cond_both (nat_eq c 0x7D) _ _ P (λ _. under_law p F32 f h) (λ _. cond_both (nat_eq c 0x7C) _ _ P (λ _. under_law p F64 f h) (λ _. new_byte))))
 
 -- a reader within another
 module _ {R S X Y : Type 0} (num : R → Num) (outer : S → Num) (f : R → S) (g : X → Y) (same : (r : R) → outer (f r) ≡ num r) where
@@ -204,6 +210,8 @@ immediates_new k.Loop = tt
 immediates_new k.If = tt
 immediates_new k.MemorySize = tt
 immediates_new k.MemoryGrow = tt
+immediates_new k.F32Const = tt
+immediates_new k.F64Const = tt
 immediates_new _ = refl
 
 abbrev OpLaw : Num → ℕ → Reading InOp Op → Type 0
@@ -218,22 +226,31 @@ first_law (With kind) = new_more num_op (immediates kind) (immediates_new kind)
 first_law Float = (tt, λ e. cc)
 first_law NoClass = (tt, λ e. cc)
 
-block_law : (i : Opening) (c : ℕ) → OpNew (block_step i c)
-block_law i c =
-    cond_both (nat_eq c 0x40) _ _ OpNew (λ _. new_done num_op _) (λ _. cond_both (nat_eq c 0x7F) _ _ OpNew (λ _. new_done num_op _) (λ _. cond_both (nat_eq c 0x7E) _ _ OpNew (λ _. new_done num_op _) (λ _. cond_both (nat_eq c 0x7D) _ _ OpNew (λ _. new_float num_op) (λ _. cond_both (nat_eq c 0x7C) _ _ OpNew (λ _. new_float num_op) (λ _. new_byte num_op)))))
+block_law : (p : Profile) (i : Opening) (c : ℕ) → OpNew (block_step p i c)
+block_law p i c = cond_both (nat_eq c 0x40) _ _ OpNew (λ _. new_done num_op _) (λ _. type_law num_op p c (λ t. Done (block_op i (Some t))) (λ t. new_done num_op _))
+
+float_32_law : (left low c : ℕ) → OpNew (float_32_step left low c)
+float_32_law zero low c = new_done num_op _
+float_32_law (suc left) low c = new_more num_op _ tt
+
+float_64_law : (left low c : ℕ) → OpNew (float_64_step left low c)
+float_64_law zero low c = new_done num_op _
+float_64_law (suc left) low c = new_more num_op _ tt
 
 closing_law : (o : Op) (c : ℕ) → OpNew (closing_step o c)
 closing_law o c = cond_both (nat_eq c 0x00) _ _ OpNew (λ _. new_done num_op o) (λ _. new_byte num_op)
 
 op_law : (p : Profile) (q : InOp) (c : ℕ) → OpLaw (num_op q) c (op_push p q c)
 op_law p in_op.First c = first_law (class_under p c)
-op_law p (in_op.BlockType i) c = block_law i c
+op_law p (in_op.BlockType i) c = block_law p i c
 op_law p (in_op.Index i r) c = answer_law num_op u32 (unsigned_push 32 r c) (λ t. in_op.Index i t) (λ n. Done (index_op i n)) (λ s. refl) (λ n. new_done num_op (index_op i n))
 op_law p (in_op.CallType r) c = answer_law num_op u32 (unsigned_push 32 r c) (λ t. in_op.CallType t) (λ n. More (in_op.CallTable n)) (λ s. refl) (λ n. new_more num_op (in_op.CallTable n) tt)
 op_law p (in_op.CallTable n) c = closing_law (call_op n) c
 op_law p (in_op.Memory m) c = closing_law (memory_op m) c
 op_law p (in_op.Const32 r) c = answer_law num_op s32 (signed_push 32 r c) (λ t. in_op.Const32 t) (λ z. Done (const_32_op z)) (λ s. refl) (λ z. new_done num_op (const_32_op z))
 op_law p (in_op.Const64 r) c = answer_law num_op s64 (signed_push 64 r c) (λ t. in_op.Const64 t) (λ z. Done (const_64_op z)) (λ s. refl) (λ z. new_done num_op (const_64_op z))
+op_law p (in_op.Float32 left low) c = float_32_law left low c
+op_law p (in_op.Float64 left low) c = float_64_law left low c
 op_law p (in_op.Align a r) c = answer_law num_op u32 (unsigned_push 32 r c) (λ t. in_op.Align a t) (λ n. More (in_op.Offset a n fresh)) (λ s. refl) (λ n. new_more num_op (in_op.Offset a n fresh) refl)
 op_law p (in_op.Offset a n r) c = answer_law num_op u32 (unsigned_push 32 r c) (λ t. in_op.Offset a n t) (λ m. Done (at_offset a n m)) (λ s. refl) (λ m. new_done num_op (at_offset a n m))
 
@@ -286,28 +303,28 @@ table_law : (t : InTableType) (c : ℕ) → ReadLaw num_table (num_table t) c (t
 table_law table.ElementType c = cond_both (nat_eq c 0x70) _ _ (ReadSettled {R = InTableType} {X = Limits} num_table) (λ _. new_more num_table _ tt) (λ _. new_byte num_table)
 table_law (table.Limits l) c = within_law num_limits num_table table.Limits (λ y. y) (λ r. refl) (num_limits l) c (limits_push l c) (limits_law l c)
 
-global_law : (g : InGlobalType) (c : ℕ) → ReadSettled {R = InGlobalType} {X = GlobalType} num_global (global_type_push g c)
-global_law global.Type c = type_law num_global c (λ t. More (global.Var t)) (λ t. new_more num_global (global.Var t) tt)
-global_law (global.Var t) c = go c
+global_law : (p : Profile) (g : InGlobalType) (c : ℕ) → ReadSettled {R = InGlobalType} {X = GlobalType} num_global (global_type_push p g c)
+global_law p global.Type c = type_law num_global p c (λ t. More (global.Var t)) (λ t. new_more num_global (global.Var t) tt)
+global_law p (global.Var t) c = go c
   where
-    go : (d : ℕ) → ReadSettled {R = InGlobalType} {X = GlobalType} num_global (global_type_push (global.Var t) d)
+    go : (d : ℕ) → ReadSettled {R = InGlobalType} {X = GlobalType} num_global (global_type_push p (global.Var t) d)
     go zero = new_done num_global _
     go (suc zero) = new_done num_global _
     go (suc (suc d)) = new_byte num_global
 
-desc_law : (d : InImportDesc) (c : ℕ) → ReadLaw num_desc (num_desc d) c (desc_push d c)
-desc_law import.Kind c = go c
+desc_law : (p : Profile) (d : InImportDesc) (c : ℕ) → ReadLaw num_desc (num_desc d) c (desc_push p d c)
+desc_law p import.Kind c = go c
   where
-    go : (d : ℕ) → ReadSettled num_desc (desc_push import.Kind d)
+    go : (d : ℕ) → ReadSettled num_desc (desc_push p import.Kind d)
     go zero = new_more num_desc (import.Func fresh) refl
     go (suc zero) = new_more num_desc (import.Table table.ElementType) tt
     go (suc (suc zero)) = new_more num_desc (import.Memory limits.Flag) tt
     go (suc (suc (suc zero))) = new_more num_desc (import.Global global.Type) tt
     go (suc (suc (suc (suc d)))) = new_byte num_desc
-desc_law (import.Func r) c = number_law num_desc (unsigned_push 32 r c) import.Func (λ n. Done (desc.Func n)) (λ s. refl) (λ n. new_done num_desc (desc.Func n))
-desc_law (import.Table t) c = within_law num_table num_desc import.Table desc.Table (λ r. refl) (num_table t) c (table_type_push t c) (table_law t c)
-desc_law (import.Memory l) c = within_law num_limits num_desc import.Memory desc.Memory (λ r. refl) (num_limits l) c (limits_push l c) (limits_law l c)
-desc_law (import.Global g) c = within_law num_global num_desc import.Global desc.Global (λ r. refl) None c (global_type_push g c) (global_law g c)
+desc_law p (import.Func r) c = number_law num_desc (unsigned_push 32 r c) import.Func (λ n. Done (desc.Func n)) (λ s. refl) (λ n. new_done num_desc (desc.Func n))
+desc_law p (import.Table t) c = within_law num_table num_desc import.Table desc.Table (λ r. refl) (num_table t) c (table_type_push t c) (table_law t c)
+desc_law p (import.Memory l) c = within_law num_limits num_desc import.Memory desc.Memory (λ r. refl) (num_limits l) c (limits_push l c) (limits_law l c)
+desc_law p (import.Global g) c = within_law num_global num_desc import.Global desc.Global (λ r. refl) None c (global_type_push p g c) (global_law p g c)
 
 target_law : (t : InExportDesc) (c : ℕ) → ReadLaw num_target (num_target t) c (target_push t c)
 target_law target.Kind c = go c
@@ -320,15 +337,15 @@ target_law target.Kind c = go c
     go (suc (suc (suc (suc d)))) = new_byte num_target
 target_law (target.Index k r) c = number_law num_target (unsigned_push 32 r c) (λ s. target.Index k s) (λ n. Done (k, n)) (λ s. refl) (λ n. new_done num_target (k, n))
 
-pub run_law : (r : InRun) (c : ℕ) → ReadLaw num_run (num_run r) c (run_push r c)
-run_law (run.Count r) c = number_law num_run (unsigned_push 32 r c) run.Count (λ n. More (run.Type n)) (λ s. refl) (λ n. new_more num_run (run.Type n) tt)
-run_law (run.Type n) c = type_law num_run c (λ t. Done (n, t)) (λ t. new_done num_run (n, t))
+pub run_law : (p : Profile) (r : InRun) (c : ℕ) → ReadLaw num_run (num_run r) c (run_push p r c)
+run_law p (run.Count r) c = number_law num_run (unsigned_push 32 r c) run.Count (λ n. More (run.Type n)) (λ s. refl) (λ n. new_more num_run (run.Type n) tt)
+run_law p (run.Type n) c = type_law num_run p c (λ t. Done (n, t)) (λ t. new_done num_run (n, t))
 
-value_law : (v : InValue) (c : ℕ) → ReadLaw num_value (num_value v) c (value_push v c)
-value_law (value.Import d) c = within_law num_desc num_value value.Import plain.Import (λ r. refl) (num_desc d) c (desc_push d c) (desc_law d c)
-value_law (value.Table t) c = within_law num_table num_value value.Table plain.Table (λ r. refl) (num_table t) c (table_type_push t c) (table_law t c)
-value_law (value.Memory l) c = within_law num_limits num_value value.Memory plain.Memory (λ r. refl) (num_limits l) c (limits_push l c) (limits_law l c)
-value_law (value.Export t) c = within_law num_target num_value value.Export _ (λ r. refl) (num_target t) c (target_push t c) (target_law t c)
+value_law : (p : Profile) (v : InValue) (c : ℕ) → ReadLaw num_value (num_value v) c (value_push p v c)
+value_law p (value.Import d) c = within_law num_desc num_value value.Import plain.Import (λ r. refl) (num_desc d) c (desc_push p d c) (desc_law p d c)
+value_law p (value.Table t) c = within_law num_table num_value value.Table plain.Table (λ r. refl) (num_table t) c (table_type_push t c) (table_law t c)
+value_law p (value.Memory l) c = within_law num_limits num_value value.Memory plain.Memory (λ r. refl) (num_limits l) c (limits_push l c) (limits_law l c)
+value_law p (value.Export t) c = within_law num_target num_value value.Export _ (λ r. refl) (num_target t) c (target_push t c) (target_law t c)
 
 module _ {M : Type 0} (fail : Why → M) (num : M → Num) where
   on_number_law : (q : Step ℕ × Partial) (more : Partial → M) (done : ℕ → M × Event) → ((s : Partial) → num (more s) ≡ Some (u32, s)) → ((s : Partial) → more s ≢ fail why.BadNumber) → ((n : ℕ) → Settled fail num (done n).0) → Pushed fail num u32 q (on_number q more done fail).0
@@ -433,7 +450,7 @@ entry_apart w e = cc
 entry_law : (p : Profile) (q : InEntry) (c : ℕ) → Law entry.Failed num_entry (num_entry q) c (entry_step p q c).0
 entry_law p (entry.RunCount r) c = on_number_law entry.Failed num_entry (unsigned_push 32 r c) entry.RunCount (λ n. (runs_or_body n, event.Nothing)) (λ s. refl) (λ s e. cc) runs_new
 entry_law p (entry.Run more r) c =
-    on_value_law entry.Failed num_entry num_run (λ s. entry.Run more s) (λ x. with_item_given (runs_or_body more) (plain.Locals x.0 x.1)) (λ s. refl) (λ s e. cc) (λ w. tt) entry_apart (λ x. runs_new more) (num_run r) c (run_push r c) (run_law r c)
+    on_value_law entry.Failed num_entry num_run (λ s. entry.Run more s) (λ x. with_item_given (runs_or_body more) (plain.Locals x.0 x.1)) (λ s. refl) (λ s e. cc) (λ w. tt) entry_apart (λ x. runs_new more) (num_run r) c (run_push p r c) (run_law p r c)
 entry_law p (entry.Body e) c = lift expression.Failed num_expression entry.Failed num_entry entry_after_op (λ w. refl) body_keeps body_new (num_expression e) c (expression_step p e c).0 (expression_law p e c)
 entry_law p entry.Over c = (tt, λ e. cc)
 entry_law p (entry.Failed w) c = (tt, λ e. cc)
@@ -536,22 +553,26 @@ framed_new (suc n) (entry.Body x) h = (h.0, λ e. cc)
 at_apart : (w : Why) → at.Failed w ≡ at.Failed why.BadNumber → w ≡ why.BadNumber
 at_apart w e = cc
 
-type_new : (c : ℕ) (done : ValType → InMember × Event) → ((t : ValType) → MemberNew (done t).0) → MemberNew (on_type (value_type_of c) done at.Failed).0
-type_new c done h =
+type_new : (p : Profile) (c : ℕ) (done : ValType → InMember × Event) → ((t : ValType) → MemberNew (done t).0) → MemberNew (on_type (value_type_of p c) done at.Failed).0
+type_new p c done h =
     let P : Result ValType Why → Type 0 = λ q. MemberNew (on_type q done at.Failed).0 in
-    cond_both (nat_eq c 0x7F) _ _ P (λ _. h _) (λ _. cond_both (nat_eq c 0x7E) _ _ P (λ _. h _) (λ _. cond_both (nat_eq c 0x7D) _ _ P (λ _. (tt, λ e. cc)) (λ _. cond_both (nat_eq c 0x7C) _ _ P (λ _. (tt, λ e. cc)) (λ _. (tt, λ e. cc)))))
+    cond_both (nat_eq c 0x7F) _ _ P (λ _. under I32) (λ _. cond_both (nat_eq c 0x7E) _ _ P (λ _. under I64)
+    (λ _. cond_both (nat_eq c 0x7D) _ _ P (λ _. under F32) (λ _. cond_both (nat_eq c 0x7C) _ _ P (λ _. under F64) (λ _. (tt, λ e. cc)))))
+  where
+    under : (t : ValType) → MemberNew (on_type (type_under p t) done at.Failed).0
+    under t = cond_both (has p (type_feature t)) _ _ (λ (q : Result ValType Why). MemberNew (on_type q done at.Failed).0) (λ _. h t) (λ _. (tt, λ e. cc))
 
 member_law : (p : Profile) (q : InMember) (c : ℕ) → Law at.Failed num_member (num_member q) c (member_step p q c).0
 member_law p at.TypeForm c = cond_both (nat_eq c 0x60) _ _ (λ (x : InMember × Event). MemberNew x.0) (λ _. (refl, λ e. cc)) (λ _. (tt, λ e. cc))
 member_law p (at.ParamCount r) c = on_number_law at.Failed num_member (unsigned_push 32 r c) at.ParamCount (λ n. (after_param n, event.Nothing)) (λ s. refl) (λ s e. cc) param_new
-member_law p (at.Param more) c = type_new c (λ t. with_item_given (after_param more) (plain.Param t)) (λ t. param_new more)
+member_law p (at.Param more) c = type_new p c (λ t. with_item_given (after_param more) (plain.Param t)) (λ t. param_new more)
 member_law p (at.ResultCount r) c = on_number_law at.Failed num_member (unsigned_push 32 r c) at.ResultCount (λ n. with_item_given (after_result n) (plain.ResultCount n)) (λ s. refl) (λ s e. cc) result_new
-member_law p (at.ResultType more) c = type_new c (λ t. with_item_given (after_result more) (plain.OneResult t)) (λ t. result_new more)
+member_law p (at.ResultType more) c = type_new p c (λ t. with_item_given (after_result more) (plain.OneResult t)) (λ t. result_new more)
 member_law p (at.NameLength of r) c = on_number_law at.Failed num_member (unsigned_push 32 r c) (λ s. at.NameLength of s) (after_length of) (λ s. refl) (λ s e. cc) (length_new of)
 member_law p (at.Name of more) c = name_step_new of more
-member_law p (at.Value v) c = on_value_law at.Failed num_member num_value at.Value (λ q. with_item_given at.Over q) (λ s. refl) (λ s e. cc) (λ w. tt) at_apart (λ x. (tt, λ e. cc)) (num_value v) c (value_push v c) (value_law v c)
+member_law p (at.Value v) c = on_value_law at.Failed num_member num_value at.Value (λ q. with_item_given at.Over q) (λ s. refl) (λ s e. cc) (λ w. tt) at_apart (λ x. (tt, λ e. cc)) (num_value v) c (value_push p v c) (value_law p v c)
 member_law p (at.Index of r) c = on_number_law at.Failed num_member (unsigned_push 32 r c) (λ s. at.Index of s) (λ n. with_item_given (after_index of) (index_item of n)) (λ s. refl) (λ s e. cc) (λ n. index_new of)
-member_law p (at.GlobalType g) c = on_value_law at.Failed num_member num_global at.GlobalType (λ t. with_item_given (at.Constant constant.Global start) (plain.Global t)) (λ s. refl) (λ s e. cc) (λ w. tt) at_apart (λ x. (tt, λ e. cc)) None c (global_type_push g c) (global_law g c)
+member_law p (at.GlobalType g) c = on_value_law at.Failed num_member num_global at.GlobalType (λ t. with_item_given (at.Constant constant.Global start) (plain.Global t)) (λ s. refl) (λ s e. cc) (λ w. tt) at_apart (λ x. (tt, λ e. cc)) None c (global_type_push p g c) (global_law p g c)
 member_law p (at.Constant of e) c = lift expression.Failed num_expression at.Failed num_member (after_constant of) (λ w. refl) (constant_keeps of) (constant_new of) (num_expression e) c (expression_step p e c).0 (expression_law p e c)
 member_law p (at.Length of r) c = on_number_law at.Failed num_member (unsigned_push 32 r c) (λ s. at.Length of s) (λ n. (list_or_over of n, event.Nothing)) (λ s. refl) (λ s e. cc) (list_new of)
 member_law p (at.Data more) c = data_new more

@@ -165,14 +165,14 @@ type_out (Err w) done b = tt
 step_stays : (p : Profile) (c : ℕ) (q : InMember) → IsOutside q → IsOutside (member_step p q c).0
 step_stays p c at.TypeForm o = cond_both (nat_eq c 0x60) _ _ (λ (m : InMember × Event). IsOutside m.0) (λ _. tt) (λ _. tt)
 step_stays p c (at.ParamCount r) o = number_out (unsigned_push 32 r c) at.ParamCount (λ n. (after_param n, event.Nothing)) (λ s. tt) param_out
-step_stays p c (at.Param more) o = type_out (value_type_of c) (λ t. with_item_given (after_param more) (plain.Param t)) (λ t. param_out more)
+step_stays p c (at.Param more) o = type_out (value_type_of p c) (λ t. with_item_given (after_param more) (plain.Param t)) (λ t. param_out more)
 step_stays p c (at.ResultCount r) o = number_out (unsigned_push 32 r c) at.ResultCount (λ n. with_item_given (after_result n) (plain.ResultCount n)) (λ s. tt) result_out
-step_stays p c (at.ResultType more) o = type_out (value_type_of c) (λ t. with_item_given (after_result more) (plain.OneResult t)) (λ t. result_out more)
+step_stays p c (at.ResultType more) o = type_out (value_type_of p c) (λ t. with_item_given (after_result more) (plain.OneResult t)) (λ t. result_out more)
 step_stays p c (at.NameLength of r) o = number_out (unsigned_push 32 r c) (λ s. at.NameLength of s) (after_length of) (λ s. tt) (length_out of)
 step_stays p c (at.Name of more) o = name_step_out of more
-step_stays p c (at.Value v) o = value_out (value_push v c) at.Value (λ q. with_item_given at.Over q) (λ s. tt) (λ x. tt)
+step_stays p c (at.Value v) o = value_out (value_push p v c) at.Value (λ q. with_item_given at.Over q) (λ s. tt) (λ x. tt)
 step_stays p c (at.Index of r) o = number_out (unsigned_push 32 r c) (λ s. at.Index of s) (λ n. with_item_given (after_index of) (index_item of n)) (λ s. tt) (λ n. index_out of)
-step_stays p c (at.GlobalType g) o = value_out (global_type_push g c) at.GlobalType (λ t. with_item_given (at.Constant constant.Global start) (plain.Global t)) (λ s. tt) (λ x. tt)
+step_stays p c (at.GlobalType g) o = value_out (global_type_push p g c) at.GlobalType (λ t. with_item_given (at.Constant constant.Global start) (plain.Global t)) (λ s. tt) (λ x. tt)
 step_stays p c (at.Constant of e) o = constant_out of (expression_step p e c).0
 step_stays p c (at.Length of r) o = number_out (unsigned_push 32 r c) (λ s. at.Length of s) (λ n. (list_or_over of n, event.Nothing)) (λ s. tt) (list_out of)
 step_stays p c (at.Data more) o = data_out more
@@ -458,7 +458,7 @@ module _ (p : Profile) where
       (subst (λ m. PartsBegin (CodeEntry p) (MachineRest loose p m now.name) (MachineRest strict p m now.name)) (sym s.4) (section_begins p (CodeEntry p) s.0 s.1 s.2 s.3 (at.EntrySize fresh) now.name (code_begins now.name)))
 
   has_bytes : (b : List ℕ) → IsEntry p b → b ≢ []
-  has_bytes b h e = entry_has strict p (entry.RunCount fresh) tt tt h.0 ((entry_same strict p).to tt [] h.0 (subst (λ z. Then (Vector Run) (Expression p body_op) z h.0) e h.1))
+  has_bytes b h e = entry_has strict p (entry.RunCount fresh) tt tt h.0 ((entry_same strict p).to tt [] h.0 (subst (λ z. Then (Vector (Run p)) (Expression p body_op) z h.0) e h.1))
 
   none_yet : BeginsEntry p []
   none_yet = let s = some_size p 0 in let e = s.spelled.1 in let h : IsEntry p s.bytes = (e.inner, e.contents) in (s.bytes, has_bytes s.bytes h, h)

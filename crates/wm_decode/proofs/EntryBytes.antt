@@ -61,7 +61,7 @@ op_parts f (Some o) = tt
 
 pub entry_parts : (p : Profile) (q : InEntry) (c : ℕ) → OnlyParts (entry_step p q c).1
 entry_parts p (entry.RunCount r) c = number_parts (unsigned_push 32 r c) entry.RunCount (λ n. (runs_or_body n, event.Nothing)) entry.Failed (λ n. tt)
-entry_parts p (entry.Run more r) c = value_parts (run_push r c) (λ s. entry.Run more s) (λ x. with_item_given (runs_or_body more) (plain.Locals x.0 x.1)) entry.Failed (λ x. tt)
+entry_parts p (entry.Run more r) c = value_parts (run_push p r c) (λ s. entry.Run more s) (λ x. with_item_given (runs_or_body more) (plain.Locals x.0 x.1)) entry.Failed (λ x. tt)
 entry_parts p (entry.Body e) c = op_parts plain.BodyOp (expression_step p e c).1
 entry_parts p entry.Over c = tt
 entry_parts p (entry.Failed w) c = tt
@@ -82,8 +82,8 @@ module _ (demanded : Type 0) (p : Profile) where
   Body = Expression p body_op
 
   abbrev pub EntryRest : InEntry → MarkedForm
-  EntryRest (entry.RunCount r) = Counted (Left r) nothing_at (λ n. Then (Times n Run) Body)
-  EntryRest (entry.Run more r) = Then (Leaf (run_rest r) run_part) (Then (Times more Run) Body)
+  EntryRest (entry.RunCount r) = Counted (Left r) nothing_at (λ n. Then (Times n (Run p)) Body)
+  EntryRest (entry.Run more r) = Then (Leaf (run_rest p r) run_part) (Then (Times more (Run p)) Body)
   EntryRest (entry.Body e) = ExpressionRest p body_op e
   EntryRest entry.Over = Empty
   EntryRest (entry.Failed w) = Never
@@ -91,21 +91,21 @@ module _ (demanded : Type 0) (p : Profile) where
   abbrev named_rest : InEntry → List ℕ → MarkedForm
   named_rest q y = EntryRest q
 
-  run_same : Same demanded Run (Leaf (run_rest (run.Count fresh)) run_part)
+  run_same : Same demanded (Run p) (Leaf (run_rest p (run.Count fresh)) run_part)
   run_same = record {
-    to = λ s b k h. (h.0, (run_begins h.0 b).0 h.1, h.2);
-    from = λ b k h. (h.0, (run_begins h.0 b).1 h.1, h.2);
+    to = λ s b k h. (h.0, (run_begins p h.0 b).0 h.1, h.2);
+    from = λ b k h. (h.0, (run_begins p h.0 b).1 h.1, h.2);
   }
 
-  pub runs_same : (n : ℕ) → Same demanded (Then (Times n Run) Body) (EntryRest (runs_or_body n))
+  pub runs_same : (n : ℕ) → Same demanded (Then (Times n (Run p)) Body) (EntryRest (runs_or_body n))
   runs_same zero = same_then demanded (Then Empty Body) Body (ExpressionRest p body_op start) (empty_then demanded Body) (expression_same demanded p body_op)
   runs_same (suc n) =
-      same_then demanded (Then (Then Run (Times n Run)) Body) (Then Run (Then (Times n Run) Body)) (EntryRest (entry.Run n (run.Count fresh))) (then_assoc demanded Run (Times n Run) Body)
-      (then_same demanded Run (Then (Times n Run) Body) (Leaf (run_rest (run.Count fresh)) run_part) (Then (Times n Run) Body) run_same (same_refl demanded (Then (Times n Run) Body)))
+      same_then demanded (Then (Then (Run p) (Times n (Run p))) Body) (Then (Run p) (Then (Times n (Run p)) Body)) (EntryRest (entry.Run n (run.Count fresh))) (then_assoc demanded (Run p) (Times n (Run p)) Body)
+      (then_same demanded (Run p) (Then (Times n (Run p)) Body) (Leaf (run_rest p (run.Count fresh)) run_part) (Then (Times n (Run p)) Body) run_same (same_refl demanded (Then (Times n (Run p)) Body)))
 
   -- a whole entry from its first byte
-  pub entry_same : Same demanded (Then (Vector Run) Body) (EntryRest (entry.RunCount fresh))
-  entry_same = counted_fresh demanded nothing_at (λ n. Times n Run) Body (λ n. Then (Times n Run) Body) (λ n. same_refl demanded (Then (Times n Run) Body))
+  pub entry_same : Same demanded (Then (Vector (Run p)) Body) (EntryRest (entry.RunCount fresh))
+  entry_same = counted_fresh demanded nothing_at (λ n. Times n (Run p)) Body (λ n. Then (Times n (Run p)) Body) (λ n. same_refl demanded (Then (Times n (Run p)) Body))
 
   abbrev EntryFollows : ℕ → MarkedForm → InEntry × Event → Type 0
   EntryFollows c P q = Follows demanded entry.Failed named_rest (λ w. same_refl demanded Never) [] c P q
@@ -134,10 +134,10 @@ module _ (demanded : Type 0) (p : Profile) where
 
   pub entry_follows : (q : InEntry) (c : ℕ) → CanOpenIn q → c < 2 ^ 8 → EntryFollows c (EntryRest q) (entry_step p q c)
   entry_follows (entry.RunCount r) c room byte =
-      number_follows demanded entry.Failed named_rest (λ w. same_refl demanded Never) [] c nothing_at (λ n. Then (Times n Run) Body) entry.RunCount (λ n. (runs_or_body n, event.Nothing))
+      number_follows demanded entry.Failed named_rest (λ w. same_refl demanded Never) [] c nothing_at (λ n. Then (Times n (Run p)) Body) entry.RunCount (λ n. (runs_or_body n, event.Nothing))
       (λ s. same_refl demanded (EntryRest (entry.RunCount s))) (λ n. refl) runs_same r byte
   entry_follows (entry.Run more r) c room byte =
-      leaf_follows demanded entry.Failed named_rest (λ w. same_refl demanded Never) [] c run_rest run_push run_reader run_part (Then (Times more Run) Body) (λ s. entry.Run more s) (λ x. with_item_given (runs_or_body more) (plain.Locals x.0 x.1))
+      leaf_follows demanded entry.Failed named_rest (λ w. same_refl demanded Never) [] c (run_rest p) (run_push p) (run_reader p) run_part (Then (Times more (Run p)) Body) (λ s. entry.Run more s) (λ x. with_item_given (runs_or_body more) (plain.Locals x.0 x.1))
       (λ s. same_refl demanded (EntryRest (entry.Run more s))) (λ x. refl) (λ x. runs_same more) r byte
   entry_follows (entry.Body e) c room byte = body_follows e c room byte
   entry_follows entry.Over c room byte = next_never demanded Empty c (outside_mark None) (λ s b k h. not_nil c b h.0)
@@ -145,8 +145,8 @@ module _ (demanded : Type 0) (p : Profile) where
 
   -- an entry that is not over has bytes, and as many marks
   pub entry_has : (q : InEntry) → IsInEntry q → HasBytes demanded (EntryRest q)
-  entry_has (entry.RunCount r) i = counted_has demanded nothing_at (λ n. Then (Times n Run) Body) r
-  entry_has (entry.Run more r) i = then_has demanded (Leaf (run_rest r) run_part) (Then (Times more Run) Body) (leaf_has demanded run_rest run_push run_reader run_part r)
+  entry_has (entry.RunCount r) i = counted_has demanded nothing_at (λ n. Then (Times n (Run p)) Body) r
+  entry_has (entry.Run more r) i = then_has demanded (Leaf (run_rest p r) run_part) (Then (Times more (Run p)) Body) (leaf_has demanded (run_rest p) (run_push p) (run_reader p) run_part r)
   entry_has (entry.Body e) i = λ s k h. expression_has p body_op e i k h
   entry_has entry.Over i = absurd i
   entry_has (entry.Failed w) i = absurd i
@@ -157,7 +157,7 @@ module _ (demanded : Type 0) (p : Profile) where
 
   pub entry_marked : (q : InEntry) → IsInEntry q → (b : List ℕ) → EntryRest q b [] → ⊥
   entry_marked (entry.RunCount r) i b h = has_mark (nothing_at h.n) h.front h.back_marks (λ e. left_nil r h.n (subst (Left r h.n) e h.number)) h.marks
-  entry_marked (entry.Run more r) i b h = leaf_marked demanded run_rest run_push run_reader run_part r h.front (subst (λ y. Leaf (run_rest r) run_part h.front y) (no_marks h.front_marks h.back_marks h.marks) h.first)
+  entry_marked (entry.Run more r) i b h = leaf_marked demanded (run_rest p) (run_push p) (run_reader p) run_part r h.front (subst (λ y. Leaf (run_rest p r) run_part h.front y) (no_marks h.front_marks h.back_marks h.marks) h.first)
   entry_marked (entry.Body e) i b h = expression_marked p body_op e i b h
   entry_marked entry.Over i b h = i
   entry_marked (entry.Failed w) i b h = i

@@ -27,7 +27,7 @@ use Rattle.wm_decode.proofs.Numbers.{Left, left_nil, fresh_number}
 use Rattle.wm_decode.proofs.Counts.{CountedNext, counted_next}
 use Rattle.wm_decode.proofs.ValuesThatAsk.{Led, LedNext, led_next, led_has, led_marked, has_mark, no_front}
 use Rattle.wm_decode.proofs.OpBytes.{NoLabel}
-use Rattle.wm_decode.proofs.OpRest.{op_rest, op_reader, rest_good}
+use Rattle.wm_decode.proofs.OpRest.{op_rest, op_reader, rest_named}
 use Rattle.wm_decode.proofs.Endings.{Ends, expression_ends}
 
 -- places in an expression that is not over
@@ -195,7 +195,7 @@ module _ (demanded : Type 0) (p : Profile) (part : Op → Item) where
   done_good : (at : InOp) (c : ℕ) → c < 2 ^ 8 → (o : Op) → op_push p at c ≡ Done o → NoLabel o
   done_good at c byte o e =
       let r = op_reader p in
-      (rest_good p at o (c ∷ []) ((r.law at c byte o []).1 (subst (λ y. Goes (op_rest p) y o []) (sym e) (refl, refl)))).0
+      rest_named p at o (c ∷ []) ((r.law at c byte o []).1 (subst (λ y. Goes (op_rest p) y o []) (sym e) (refl, refl)))
 
   label_follows : (depth left : ℕ) (r : Partial) (c : ℕ) (q : Step ℕ × Partial) → CountedNext demanded (label_part p part) (λ l. OpsFrom p part depth left) r c q
       → Follows (ExpressionRest p part (expression.Label depth left r)) c (on_answer q (λ s. (expression.Label depth left s, None)) (λ l. (after_label depth left, Some (op.Label l))) (expression_failed why.BadNumber))

@@ -26,7 +26,7 @@ use Rattle.wm_decode.specs.exact.OpSteps.{on_answer, op_push}
 use Rattle.wm_decode.specs.exact.ExpressionSteps.{start, deeper, ends, after_op, after_label, after_reading, expression_failed, expression_step}
 use Rattle.wm_decode.proofs.Numbers.{fresh_number}
 use Rattle.wm_decode.proofs.OpBytes.{NoLabel}
-use Rattle.wm_decode.proofs.OpRest.{op_rest, rest_good}
+use Rattle.wm_decode.proofs.OpRest.{op_rest, rest_named}
 use Rattle.wm_decode.specs.Decoding.{IsFloatByte}
 use Rattle.wm_decode.proofs.OpSound.{HasRoom, RoomAfter, fresh_32, unsigned_room, SoundOp, FineOp, op_fine, some_op, last_byte, IsOther, op_faults}
 use Rattle.wm_decode.proofs.Endings.{Ends}
@@ -134,7 +134,7 @@ module _ (p : Profile) (part : Op → Item) where
   pub some_expression : (left : ℕ) (at : InExpression) → SoundExpression left at → (b : List ℕ) × (k : Marks) × ExpressionRest p part at b k
   some_expression left (expression.Op depth at) h =
       let s : (o : Op) × (b : List ℕ) × op_rest p at o b = some_op p at h.0 in
-      let g = some_after depth s.0 (rest_good p at s.0 s.1 s.2).0 in
+      let g = some_after depth s.0 (rest_named p at s.0 s.1 s.2) in
       (s.1 ++ g.0, marks_ending (Some (part s.0)) s.1 ++ g.1, record { value = s.0; front = s.1; back = g.0; back_marks = g.1; bytes = refl; marks = refl; spelled = s.2; rest = g.2 })
   some_expression left (expression.Label depth labels r) h =
       let room : HasRoom 32 r = h.0 in

@@ -1,6 +1,7 @@
 -- A function type, taken at once, is what the byte step makes of it.
 use Rattle.std.proofs.Common.{◌≡◌, ℕ, zero, suc, ◌+◌, ◌-◌, ◌^◌, ◌<◌, ◌≤◌, List, Some, None, Result, Ok, IfErr, length, slice_index, refl, sym, ◌∙◌, ap, subst, arith}
 use Rattle.std.specs.Result.{result_err}
+use Rattle.wm_syntax.specs.declared.profile.Profile.{Profile}
 use Rattle.wm_syntax.specs.declared.why.Why.{Why}
 use Rattle.wm_syntax.specs.declared.why.Why.TheVariants as why
 use Rattle.wm_syntax.specs.declared.types.ValType.{ValType}
@@ -38,33 +39,33 @@ at_params : (f more left n : ℕ) (e : Event) → framed f more left (after_para
 at_params f more left zero e = refl
 at_params f more left (suc n) e = refl
 
-form_alone : (left c : ℕ) → c ≡ 0x60 → StepsTo section_kind.Type left at.TypeForm c (record { left = left; at = at.ParamCount fresh; part = Some plain.NewType })
-form_alone left c e = subst (λ y. StepsTo section_kind.Type left at.TypeForm y (record { left = left; at = at.ParamCount fresh; part = Some plain.NewType })) (sym e) (λ p f more. refl)
+form_alone : (p : Profile) (left c : ℕ) → c ≡ 0x60 → StepsTo p section_kind.Type left at.TypeForm c (record { left = left; at = at.ParamCount fresh; part = Some plain.NewType })
+form_alone p left c e = subst (λ y. StepsTo p section_kind.Type left at.TypeForm y (record { left = left; at = at.ParamCount fresh; part = Some plain.NewType })) (sym e) (λ f more. refl)
 
-params_alone : (left c : ℕ) → c < 2 ^ 7 → StepsTo section_kind.Type left (at.ParamCount fresh) c (record { left = left; at = after_param c; part = None })
-params_alone left c less p f more =
+params_alone : (p : Profile) (left c : ℕ) → c < 2 ^ 7 → StepsTo p section_kind.Type left (at.ParamCount fresh) c (record { left = left; at = after_param c; part = None })
+params_alone p left c less f more =
     ap (λ y. framed f more left (on_number y at.ParamCount (λ n. (after_param n, event.Nothing)) at.Failed)) (u32_one c less)
     ∙ at_params f more left c event.Nothing
 
-param_alone : (left n c : ℕ) (t : ValType) → value_type_of c ≡ Ok t → StepsTo section_kind.Type left (at.Param n) c (record { left = left; at = after_param n; part = Some (plain.Param t) })
-param_alone left n c t is p f more =
+param_alone : (p : Profile) (left n c : ℕ) (t : ValType) → value_type_of p c ≡ Ok t → StepsTo p section_kind.Type left (at.Param n) c (record { left = left; at = after_param n; part = Some (plain.Param t) })
+param_alone p left n c t is f more =
     ap (λ y. framed f more left (on_type y (λ t. with_item_given (after_param n) (plain.Param t)) at.Failed)) is
     ∙ at_params f more left n (event.Complete (plain.Param t))
 
-none_alone : (left c : ℕ) → c ≡ 0 → 0 < left → StepsTo section_kind.Type left (at.ResultCount fresh) c (record { left = left - 1; at = at.TypeForm; part = Some (plain.ResultCount 0) })
-none_alone left c e some p f more =
+none_alone : (p : Profile) (left c : ℕ) → c ≡ 0 → 0 < left → StepsTo p section_kind.Type left (at.ResultCount fresh) c (record { left = left - 1; at = at.TypeForm; part = Some (plain.ResultCount 0) })
+none_alone p left c e some f more =
     let one : left ≡ suc (left - 1) = omega arith in
     ap (λ y. framed f more left (on_number y at.ResultCount (λ n. with_item_given (after_result n) (plain.ResultCount n)) at.Failed)) (u32_one c (omega arith))
     ∙ (ap (λ n. framed f more left (with_item_given (after_result n) (plain.ResultCount n))) e
     ∙ ap (λ n. framed f more n (with_item_given at.Over (plain.ResultCount 0))) one)
 
-one_alone : (left c : ℕ) → c ≡ 1 → StepsTo section_kind.Type left (at.ResultCount fresh) c (record { left = left; at = at.ResultType 0; part = Some (plain.ResultCount 1) })
-one_alone left c e p f more =
+one_alone : (p : Profile) (left c : ℕ) → c ≡ 1 → StepsTo p section_kind.Type left (at.ResultCount fresh) c (record { left = left; at = at.ResultType 0; part = Some (plain.ResultCount 1) })
+one_alone p left c e f more =
     ap (λ y. framed f more left (on_number y at.ResultCount (λ n. with_item_given (after_result n) (plain.ResultCount n)) at.Failed)) (u32_one c (omega arith))
     ∙ ap (λ n. framed f more left (with_item_given (after_result n) (plain.ResultCount n))) e
 
-result_alone : (left c : ℕ) (t : ValType) → value_type_of c ≡ Ok t → 0 < left → StepsTo section_kind.Type left (at.ResultType 0) c (record { left = left - 1; at = at.TypeForm; part = Some (plain.OneResult t) })
-result_alone left c t is some p f more =
+result_alone : (p : Profile) (left c : ℕ) (t : ValType) → value_type_of p c ≡ Ok t → 0 < left → StepsTo p section_kind.Type left (at.ResultType 0) c (record { left = left - 1; at = at.TypeForm; part = Some (plain.OneResult t) })
+result_alone p left c t is some f more =
     let one : left ≡ suc (left - 1) = omega arith in
     ap (λ y. framed f more left (on_type y (λ t. with_item_given (after_result 0) (plain.OneResult t)) at.Failed)) is
     ∙ ap (λ n. framed f more n (with_item_given at.Over (plain.OneResult t))) one
@@ -75,7 +76,7 @@ params_start i =
     let a : i.more - 0 ≡ i.more = omega arith in
     ap (λ x. machine.Section section_kind.Type i.functions x i.left (after_param i.params)) a
 
-module _ {H : Type 0} (after : H → Item → Result H Why) (may : H → Item → Type 0) (bytes : List ℕ) where
+module _ {H : Type 0} (after : H → Item → Result H Why) (may : H → Item → Type 0) (p : Profile) (bytes : List ℕ) where
   module _ (e : InTypes) where
     abbrev start : Place
     start = record { of = section_kind.Type; functions = e.functions; more = e.more; left = e.left; at = at.TypeForm }
@@ -88,21 +89,21 @@ module _ {H : Type 0} (after : H → Item → Result H Why) (may : H → Item �
 
     -- the sink refused the type
     pub type_out : {U : Type 0} (r : Result U Why) (h g : H) (s : Shortcut) (w : Why) (n : Machine) → slice_index bytes 0 ≡ 0x60 → 0 < length bytes → 0 < e.more → s.used ≡ 1 → s.refused ≡ Some w → s.refused ≡ result_err r
-        → Taken (after h new_type) r g → IfErr r (λ w. w ≡ why.Memory → may h new_type) → Advances after may bytes (before_type e) h s n g
+        → Taken (after h new_type) r g → IfErr r (λ w. w ≡ why.Memory → may h new_type) → Advances after may p bytes (before_type e) h s n g
     type_out r h g s w n form inside more used is er given quiet =
-        advances_out after may bytes (before_type e) (machine.Section section_kind.Type e.functions (e.more - 1) e.left (at.ParamCount fresh)) n h g g s w is (omega arith)
-        (advances_step after may bytes h g start formed s more inside (form_alone e.left (slice_index bytes 0) form) used r er given quiet)
+        advances_out after may p bytes (before_type e) (machine.Section section_kind.Type e.functions (e.more - 1) e.left (at.ParamCount fresh)) n h g g s w is (omega arith)
+        (advances_step after may p bytes h g start formed s more inside (form_alone p e.left (slice_index bytes 0) form) used r er given quiet)
 
     -- the sink took it
     pub type_begun : (i : InParams) (h g : H) → slice_index bytes 0 ≡ 0x60 → slice_index bytes 1 ≡ i.params → i.params < 2 ^ 7 → 1 < length bytes → 1 < e.more
-        → i ≡ record { functions = e.functions; more = e.more - 2; left = e.left; params = i.params } → after h new_type ≡ Ok g → Advances after may bytes (before_type e) h (record { used = 2; refused = None }) (in_params i) g
+        → i ≡ record { functions = e.functions; more = e.more - 2; left = e.left; params = i.params } → after h new_type ≡ Ok g → Advances after may p bytes (before_type e) h (record { used = 2; refused = None }) (in_params i) g
     type_begun i h g form count short inside more is given =
         let counted : Stepped = record { left = e.left; at = after_param i.params; part = None } in
-        let begun : Advances after may bytes (before_type e) h (record { used = 1; refused = None }) (machine.Section section_kind.Type e.functions (e.more - 1) e.left (at.ParamCount fresh)) g =
-        advances_step after may bytes h g start formed (record { used = 1; refused = None }) (omega arith) (omega arith) (form_alone e.left (slice_index bytes 0) form) refl ok refl given tt in
-        let to : StepsTo section_kind.Type e.left (at.ParamCount fresh) (slice_index bytes 1) counted = subst (λ c. StepsTo section_kind.Type e.left (at.ParamCount fresh) c counted) (sym count) (params_alone e.left i.params short) in
+        let begun : Advances after may p bytes (before_type e) h (record { used = 1; refused = None }) (machine.Section section_kind.Type e.functions (e.more - 1) e.left (at.ParamCount fresh)) g =
+        advances_step after may p bytes h g start formed (record { used = 1; refused = None }) (omega arith) (omega arith) (form_alone p e.left (slice_index bytes 0) form) refl ok refl given tt in
+        let to : StepsTo p section_kind.Type e.left (at.ParamCount fresh) (slice_index bytes 1) counted = subst (λ c. StepsTo p section_kind.Type e.left (at.ParamCount fresh) c counted) (sym count) (params_alone p e.left i.params short) in
         let place : e.more - 2 ≡ e.more - 1 - 1 = omega arith in
-        advances_more after may bytes (before_type e) (in_params i) h g g between counted 1 (record { used = 2; refused = None }) ok begun inside (omega arith) to refl refl refl tt
+        advances_more after may p bytes (before_type e) (in_params i) h g g between counted 1 (record { used = 2; refused = None }) ok begun inside (omega arith) to refl refl refl tt
         (ap in_params is ∙ ap (λ n. machine.Section section_kind.Type e.functions n e.left (after_param i.params)) place)
 
     -- results
@@ -110,42 +111,42 @@ module _ {H : Type 0} (after : H → Item → Result H Why) (may : H → Item �
     counting = record { of = section_kind.Type; functions = e.functions; more = e.more; left = e.left; at = at.ResultCount fresh }
 
     pub no_result : {U : Type 0} (r : Result U Why) (h g : H) (s : Shortcut) → slice_index bytes 0 ≡ 0 → 0 < length bytes → 0 < e.more → 0 < e.left → s.used ≡ 1 → s.refused ≡ result_err r
-        → Taken (after h (result_count 0)) r g → IfErr r (λ w. w ≡ why.Memory → may h (result_count 0)) → Advances after may bytes (before_results e) h s (before_type (next_type e 1)) g
+        → Taken (after h (result_count 0)) r g → IfErr r (λ w. w ≡ why.Memory → may h (result_count 0)) → Advances after may p bytes (before_results e) h s (before_type (next_type e 1)) g
     no_result r h g s count inside more left used er given quiet =
-        advances_step after may bytes h g counting (record { left = e.left - 1; at = at.TypeForm; part = Some (plain.ResultCount 0) }) s more inside (none_alone e.left (slice_index bytes 0) count left) used r er given quiet
+        advances_step after may p bytes h g counting (record { left = e.left - 1; at = at.TypeForm; part = Some (plain.ResultCount 0) }) s more inside (none_alone p e.left (slice_index bytes 0) count left) used r er given quiet
 
     abbrev counted_one : Stepped
     counted_one = record { left = e.left; at = at.ResultType 0; part = Some (plain.ResultCount 1) }
 
     one_counted : {U : Type 0} (r : Result U Why) (h g : H) (s : Shortcut) → slice_index bytes 0 ≡ 1 → 0 < length bytes → 0 < e.more → s.used ≡ 1 → s.refused ≡ result_err r
-        → Taken (after h (result_count 1)) r g → IfErr r (λ w. w ≡ why.Memory → may h (result_count 1)) → Advances after may bytes (before_results e) h s (machine.Section section_kind.Type e.functions (e.more - 1) e.left (at.ResultType 0)) g
+        → Taken (after h (result_count 1)) r g → IfErr r (λ w. w ≡ why.Memory → may h (result_count 1)) → Advances after may p bytes (before_results e) h s (machine.Section section_kind.Type e.functions (e.more - 1) e.left (at.ResultType 0)) g
     one_counted r h g s count inside more used er given quiet =
-        advances_step after may bytes h g counting counted_one s more inside (one_alone e.left (slice_index bytes 0) count) used r er given quiet
+        advances_step after may p bytes h g counting counted_one s more inside (one_alone p e.left (slice_index bytes 0) count) used r er given quiet
 
     pub count_out : {U : Type 0} (r : Result U Why) (h g : H) (s : Shortcut) (w : Why) (n : Machine) → slice_index bytes 0 ≡ 1 → 0 < length bytes → 0 < e.more → s.used ≡ 1 → s.refused ≡ Some w → s.refused ≡ result_err r
-        → Taken (after h (result_count 1)) r g → IfErr r (λ w. w ≡ why.Memory → may h (result_count 1)) → Advances after may bytes (before_results e) h s n g
+        → Taken (after h (result_count 1)) r g → IfErr r (λ w. w ≡ why.Memory → may h (result_count 1)) → Advances after may p bytes (before_results e) h s n g
     count_out r h g s w n count inside more used is er given quiet =
-        advances_out after may bytes (before_results e) (machine.Section section_kind.Type e.functions (e.more - 1) e.left (at.ResultType 0)) n h g g s w is (omega arith) (one_counted r h g s count inside more used er given quiet)
+        advances_out after may p bytes (before_results e) (machine.Section section_kind.Type e.functions (e.more - 1) e.left (at.ResultType 0)) n h g g s w is (omega arith) (one_counted r h g s count inside more used er given quiet)
 
-    pub result_taken : {U : Type 0} (r : Result U Why) (h f g : H) (s : Shortcut) (t : ValType) → slice_index bytes 0 ≡ 1 → value_type_of (slice_index bytes 1) ≡ Ok t → 1 < length bytes → 1 < e.more → 0 < e.left → after h (result_count 1) ≡ Ok f
-        → s.used ≡ 2 → s.refused ≡ result_err r → Taken (after f (one_result t)) r g → IfErr r (λ w. w ≡ why.Memory → may f (one_result t)) → Advances after may bytes (before_results e) h s (before_type (next_type e 2)) g
+    pub result_taken : {U : Type 0} (r : Result U Why) (h f g : H) (s : Shortcut) (t : ValType) → slice_index bytes 0 ≡ 1 → value_type_of p (slice_index bytes 1) ≡ Ok t → 1 < length bytes → 1 < e.more → 0 < e.left → after h (result_count 1) ≡ Ok f
+        → s.used ≡ 2 → s.refused ≡ result_err r → Taken (after f (one_result t)) r g → IfErr r (λ w. w ≡ why.Memory → may f (one_result t)) → Advances after may p bytes (before_results e) h s (before_type (next_type e 2)) g
     result_taken r h f g s t count typed inside more left first used er given quiet =
         let here : Place = record { of = section_kind.Type; functions = e.functions; more = e.more - 1; left = e.left; at = at.ResultType 0 } in
         let ended : Stepped = record { left = e.left - 1; at = at.TypeForm; part = Some (plain.OneResult t) } in
         let place : e.more - 2 ≡ e.more - 1 - 1 = omega arith in
-        advances_more after may bytes (before_results e) (before_type (next_type e 2)) h f g here ended 1 s r
-        (one_counted ok h f (record { used = 1; refused = None }) count (omega arith) (omega arith) refl refl first tt) inside (omega arith) (result_alone e.left (slice_index bytes 1) t typed left) used er given quiet
+        advances_more after may p bytes (before_results e) (before_type (next_type e 2)) h f g here ended 1 s r
+        (one_counted ok h f (record { used = 1; refused = None }) count (omega arith) (omega arith) refl refl first tt) inside (omega arith) (result_alone p e.left (slice_index bytes 1) t typed left) used er given quiet
         (ap (λ n. machine.Section section_kind.Type e.functions n (e.left - 1) at.TypeForm) place)
 
   -- a parameter after others
   module _ {U : Type 0} (m : Machine) (h f g : H) (i : InParams) (used params : ℕ) (t : ValType) (s : Shortcut) (r : Result U Why)
-      (before : Advances after may bytes m h (record { used = used; refused = None }) (in_params (params_after i used (suc params))) f)
-      (inside : used < length bytes) (section : used + 1 ≤ i.more) (typed : value_type_of (slice_index bytes used) ≡ Ok t)
+      (before : Advances after may p bytes m h (record { used = used; refused = None }) (in_params (params_after i used (suc params))) f)
+      (inside : used < length bytes) (section : used + 1 ≤ i.more) (typed : value_type_of p (slice_index bytes used) ≡ Ok t)
       (eu : s.used ≡ used + 1) (er : s.refused ≡ result_err r) (given : Taken (after f (param t)) r g) (quiet : IfErr r (λ w. w ≡ why.Memory → may f (param t))) where
-    pub param_taken : Advances after may bytes m h s (in_params (params_after i (used + 1) params)) g
+    pub param_taken : Advances after may p bytes m h s (in_params (params_after i (used + 1) params)) g
     param_taken =
         let here : Place = record { of = section_kind.Type; functions = i.functions; more = i.more - used; left = i.left; at = at.Param params } in
         let next : Stepped = record { left = i.left; at = after_param params; part = Some (plain.Param t) } in
         let place : i.more - (used + 1) ≡ i.more - used - 1 = omega arith in
-        advances_more after may bytes m (in_params (params_after i (used + 1) params)) h f g here next used s r before inside (omega arith) (param_alone i.left params (slice_index bytes used) t typed) eu er given quiet
+        advances_more after may p bytes m (in_params (params_after i (used + 1) params)) h f g here next used s r before inside (omega arith) (param_alone p i.left params (slice_index bytes used) t typed) eu er given quiet
         (ap (λ n. machine.Section section_kind.Type i.functions n i.left (after_param params)) place)

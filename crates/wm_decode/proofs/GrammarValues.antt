@@ -1,5 +1,6 @@
 -- Each rule of the flat grammar reads a value, and the whole of it a flat module.
 use Rattle.std.proofs.Common.{ℕ, ◌-◌, ◌≡◌, ◌≤◌, ◌<◌, ◌^◌, List, [], ◌∷◌, ◌++◌, Option, Some, None, length, flat_map, map, refl, sym, ◌∙◌, ap, subst, append-nil, length-append, arith, ◌⊎◌, inl, inr}
+use Rattle.std.specs.List.{AllByRecursion}
 use Rattle.std.proofs.lemmas.List.Concat.{flat_map_single}
 use Rattle.wm_syntax.specs.declared.types.ValType.{ValType}
 use Rattle.wm_syntax.specs.declared.types.Limits.{Limits}
@@ -12,29 +13,44 @@ use Rattle.wm_syntax.specs.declared.modules.ExportKind.{ExportKind}
 use Rattle.wm_syntax.specs.declared.profile.Profile.{Profile}
 use Rattle.wm_syntax.specs.Spelling.{Form, Byte as OneByte, Exactly, AreBytes, Each, ◌▸◌}
 use Rattle.wm_syntax.specs.Types.{SpellsU32, SpellsList, SpellsBytes, SpellsName, SpellsValType, SpellsSignature, SpellsLimits, SpellsBounds, SpellsTableType, SpellsGlobalType, type_byte}
+use Rattle.wm_syntax.specs.Profiles.{HasDesc, HasSignature, HasType}
 use Rattle.wm_syntax.specs.Instructions.{SpellsOp}
 use Rattle.wm_syntax.specs.Opcodes.{opcode}
-use Rattle.wm_decode.specs.Sections.{Section as SectionForm, ListSection, StartSection, Customs as CustomForms, SpellsCustom, SpellsDesc, SpellsImport, SpellsExport, SpellsRun, kind_byte, header}
+use Rattle.wm_decode.specs.Sections.{Section as SectionForm, Those, ListSection, StartSection, Customs as CustomForms, SpellsCustom, SpellsDesc, SpellsImport, SpellsExport, SpellsRun, kind_byte, header}
 use Rattle.wm_decode.specs.Items.{Item, Marks, items_at, new_type, param, result_count, one_result, import_module, import_name, import_desc, function, table, memory, global, const_op, export_name, export, start, element, element_function, body, body_op, segment, data_byte}
 use Rattle.wm_decode.specs.MarkedForms.{MarkedForm, Empty, Byte, Literal, Then, Times, Number, Vector, Index, Name, Sized, nothing_at, marks_ending}
-use Rattle.wm_decode.specs.Grammar.{strict, ValueType, FunctionType, Import, EachOp, Expression, Global, Export, Element, Run, Code, DataByte, Segment, Paired, Custom, Customs, MayMiss, Chain, Module}
-use Rattle.wm_decode.specs.Flat.{FlatModule, type_items, import_items, global_items, export_items, start_items, element_items, code_items, segment_items, flat_items, SpellsOps, SpellsFlatGlobal, SpellsFlatElement, SpellsFlatCode, SpellsFlatSegment, InOrder, flat_sections, SpellsFlat}
+use Rattle.wm_decode.specs.Grammar.{strict, ValueType, ResultTypes, FunctionType, Import, HasGlobalType, EachOp, Expression, Global, Export, Element, Run, Code, DataByte, Segment, Paired, Custom, Customs, MayMiss, Chain, Module}
+use Rattle.wm_decode.specs.Flat.{FlatModule, HasImport, type_items, import_items, global_items, export_items, start_items, element_items, code_items, segment_items, flat_items, SpellsOps, SpellsFlatGlobal, SpellsFlatElement, SpellsFlatCode, SpellsFlatSegment, InOrder, flat_sections, SpellsFlat}
 use Rattle.wm_decode.proofs.EntryBytes.{run_part}
+use Rattle.wm_decode.proofs.Those.{those_from, those_to}
 use Rattle.wm_decode.proofs.ReadValues.{Reads, HasByte, parts-append, parts-nothing, parts-some, number_some, front_some, byte_some, Many, reads_as, reads_byte, reads_leaf, reads_then, reads_after, reads_number, reads_times, reads_vector, reads_sized, reads_entry, reads_list, reads_index, reads_name}
 
 -- function types
-reads_type : (part : ValType → Item) → Reads (ValueType part) SpellsValType (λ t. part t ∷ [])
-reads_type part = reads_leaf SpellsValType part (λ t b h. byte_some (type_byte t) b h)
+reads_type : (p : Profile) (part : ValType → Item) → Reads (ValueType p part) (Those (HasType p) SpellsValType) (λ t. part t ∷ [])
+reads_type p part = reads_leaf (Those (HasType p) SpellsValType) part (λ t b h. byte_some (type_byte t) b h.1)
 
-reads_results : Reads {X = List ValType} (Number (λ n. Some (result_count n)) (λ n. Times n (ValueType one_result))) (SpellsList SpellsValType) (λ ts. result_count (length ts) ∷ map one_result ts)
-reads_results = reads_as (reads_number (λ n. Some (result_count n)) (λ n. reads_times (reads_type one_result) n))
+reads_results : (p : Profile) → Reads {X = List ValType} (ResultTypes p) (SpellsList (Those (HasType p) SpellsValType)) (λ ts. result_count (length ts) ∷ map one_result ts)
+reads_results p = reads_as (reads_number (λ n. Some (result_count n)) (λ n. reads_times (reads_type p one_result) n))
     (λ z b h. (z.1, (h.0, h.1, h.2, subst (λ m. SpellsU32 m h.0) h.4.0 h.3, h.4.1), cc (h.4.0, flat_map_single one_result z.1)))
     (λ ts b h. ((length ts, ts), (h.0, h.1, h.2, h.3, (refl, h.4)), ap (λ y. result_count (length ts) ∷ y) (flat_map_single one_result ts)))
 
-reads_signature : Reads FunctionType SpellsSignature type_items
-reads_signature = reads_as (reads_then (reads_byte 0x60 (Some new_type)) (reads_then (reads_list param (reads_type param)) reads_results))
-    (λ z b h. (record { params = z.1.0; results = z.1.1 }, h, refl))
-    (λ f b h. ((tt, (f.params, f.results)), h, refl))
+types_from : (p : Profile) (ts : List ValType) (b : List ℕ) → SpellsList (Those (HasType p) SpellsValType) ts b → AllByRecursion (HasType p) ts × SpellsList SpellsValType ts b
+types_from p ts b h = let v = those_from (HasType p) SpellsValType ts h.1 h.4 in (v.0, (h.0, h.1, h.2, h.3, v.1))
+
+types_to : (p : Profile) (ts : List ValType) (b : List ℕ) → AllByRecursion (HasType p) ts → SpellsList SpellsValType ts b → SpellsList (Those (HasType p) SpellsValType) ts b
+types_to p ts b g h = (h.0, h.1, h.2, h.3, those_to (HasType p) SpellsValType ts h.1 g h.4)
+
+reads_signature : (p : Profile) → Reads (FunctionType p) (Those (HasSignature p) SpellsSignature) type_items
+reads_signature p = reads_as (reads_then (reads_byte 0x60 (Some new_type)) (reads_then (reads_list param (reads_type p param)) (reads_results p)))
+    (λ z b h.
+    let i = h.4 in
+    let x = types_from p z.1.0 i.0 i.3 in
+    let y = types_from p z.1.1 i.1 i.4 in
+    (record { params = z.1.0; results = z.1.1 }, ((x.0, y.0), (h.0, h.1, h.2, h.3, (i.0, i.1, i.2, x.1, y.1))), refl))
+    (λ f b h.
+    let r = h.1 in
+    let i = r.4 in
+    ((tt, (f.params, f.results)), (r.0, r.1, r.2, r.3, (i.0, i.1, i.2, types_to p f.params i.0 h.0.0 i.3, types_to p f.results i.1 h.0.1 i.4)), refl))
 
 -- imports
 desc_some : (d : ImportDesc) (b : List ℕ) → SpellsDesc d b → HasByte b
@@ -43,11 +59,11 @@ desc_some (desc.Table l) b h = front_some b h.0 h.1 h.2 (byte_some 0x01 h.0 h.3)
 desc_some (desc.Memory l) b h = front_some b h.0 h.1 h.2 (byte_some 0x02 h.0 h.3)
 desc_some (desc.Global g) b h = front_some b h.0 h.1 h.2 (byte_some 0x03 h.0 h.3)
 
-reads_import : Reads (Import strict) SpellsImport import_items
-reads_import = reads_as
-    (reads_then (reads_name (λ text. Some (import_module text))) (reads_then (reads_name (λ text. Some (import_name text))) (reads_leaf SpellsDesc import_desc desc_some)))
-    (λ z b h. (record { module_name = z.0; item_name = z.1.0; desc = z.1.1 }, h, refl))
-    (λ i b h. ((i.module_name, (i.item_name, i.desc)), h, refl))
+reads_import : (p : Profile) → Reads (Import strict p) (Those (HasImport p) SpellsImport) import_items
+reads_import p = reads_as
+    (reads_then (reads_name (λ text. Some (import_module text))) (reads_then (reads_name (λ text. Some (import_name text))) (reads_leaf (Those (HasDesc p) SpellsDesc) import_desc (λ d b h. desc_some d b h.1))))
+    (λ z b h. let i = h.4 in let d = i.4 in (record { module_name = z.0; item_name = z.1.0; desc = z.1.1 }, (d.0, (h.0, h.1, h.2, h.3, (i.0, i.1, i.2, i.3, d.1))), refl))
+    (λ i b h. let r = h.1 in let j = r.4 in ((i.module_name, (i.item_name, i.desc)), (r.0, r.1, r.2, r.3, (j.0, j.1, j.2, j.3, (h.0, j.4))), refl))
 
 -- tables, memories and the types of globals
 table_some : (l : Limits) (b : List ℕ) → SpellsTableType l b → HasByte b
@@ -99,7 +115,7 @@ module _ (part : Op → Item) where
   }
 
 reads_global : (p : Profile) → Reads (Global p) (SpellsFlatGlobal p) global_items
-reads_global p = reads_as (reads_then (reads_leaf SpellsGlobalType global global_some) (reads_ops const_op p))
+reads_global p = reads_as (reads_then (reads_leaf (Those (HasGlobalType p) SpellsGlobalType) global (λ g b h. global_some g b h.1)) (reads_ops const_op p))
     (λ z b h. (record { ty = z.0; init = z.1 }, h, refl))
     (λ g b h. ((g.ty, g.init), h, refl))
 
@@ -118,8 +134,8 @@ reads_element p = reads_as (reads_then (reads_index element) (reads_then (reads_
     (λ e b h. ((e.table, (e.offset, e.functions)), h, refl))
 
 -- code: the size, at which the body begins, and then runs and ops in just so many bytes
-pub reads_body : (p : Profile) → Reads {X = List (ℕ × ValType) × List Op} (Then (Vector Run) (Expression p body_op)) (λ z. SpellsList SpellsRun z.0 ▸ SpellsOps p z.1) (λ z. map run_part z.0 ++ map body_op z.1)
-reads_body p = reads_then (reads_list run_part (reads_leaf SpellsRun run_part (λ r b h. front_some b h.0 h.1 h.2 (number_some r.0 h.0 h.3)))) (reads_ops body_op p)
+pub reads_body : (p : Profile) → Reads {X = List (ℕ × ValType) × List Op} (Then (Vector (Run p)) (Expression p body_op)) (λ z. SpellsList (SpellsRun p) z.0 ▸ SpellsOps p z.1) (λ z. map run_part z.0 ++ map body_op z.1)
+reads_body p = reads_then (reads_list run_part (reads_leaf (SpellsRun p) run_part (λ r b h. let u = h.1 in front_some b u.0 u.1 u.2 (number_some r.0 u.0 u.3)))) (reads_ops body_op p)
 
 reads_code : (p : Profile) → Reads (Code strict p) (SpellsFlatCode p) code_items
 reads_code p = reads_as (reads_sized (reads_entry (reads_body p)) (Some body))
@@ -294,8 +310,8 @@ module _ (p : Profile) where
 
   reads_chain : (f : ℕ) → Reads {X = WithFunctions f} (Chain strict p f 11 1) (λ w. InOrder (flat_sections p w.0)) (λ w. flat_items w.0)
   reads_chain f = reads_as
-      (reads_next (reads_listed (MayMiss f 1) 1 (others_may f 1 (λ e. cc) (λ e. cc)) reads_signature)
-      (reads_next (reads_listed (MayMiss f 2) 2 (others_may f 2 (λ e. cc) (λ e. cc)) reads_import)
+      (reads_next (reads_listed (MayMiss f 1) 1 (others_may f 1 (λ e. cc) (λ e. cc)) (reads_signature p))
+      (reads_next (reads_listed (MayMiss f 2) 2 (others_may f 2 (λ e. cc) (λ e. cc)) (reads_import p))
       (reads_next (reads_parts function (λ xs. xs.0) (reads_paired_section f (reads_index function) (MayMiss f 3) 3 (λ m. m (inl refl)) (λ e i. e)))
       (reads_next (reads_parts table (λ xs. xs) (reads_listed (MayMiss f 4) 4 (others_may f 4 (λ e. cc) (λ e. cc)) (reads_leaf SpellsTableType table table_some)))
       (reads_next (reads_parts memory (λ xs. xs) (reads_listed (MayMiss f 5) 5 (others_may f 5 (λ e. cc) (λ e. cc)) (reads_leaf SpellsLimits memory limits_some)))

@@ -147,20 +147,20 @@ run_then P Q h q = record {
   first = parts-append h.marks q.marks ∙ ap (λ y. y ++ items_at q.marks) h.first;
 }
 
-run_comes : (r : InRun) → SoundRun r → RunComes (Leaf (run_rest r) run_part)
-run_comes (run_at.Count r) h = record {
+run_comes : (p : Profile) (r : InRun) → SoundRun r → RunComes (Leaf (run_rest p r) run_part)
+run_comes p (run_at.Count r) h = record {
   bytes = 0 ∷ 0x7F ∷ [];
   marks = marks_ending (Some (locals r.low I32)) (0 ∷ 0x7F ∷ []);
-  spelled = ((r.low, I32), (r.low, 0 ∷ [], 0x7F ∷ [], refl, last_byte r h.0, (refl, refl)), refl);
+  spelled = ((r.low, I32), (r.low, 0 ∷ [], 0x7F ∷ [], refl, last_byte r h.0, (refl, refl, refl)), refl);
   count = r.low;
   type = I32;
   rest = [];
   first = refl;
 }
-run_comes (run_at.Type n) h = record {
+run_comes p (run_at.Type n) h = record {
   bytes = 0x7F ∷ [];
   marks = marks_ending (Some (locals n I32)) (0x7F ∷ []);
-  spelled = ((n, I32), (refl, refl), refl);
+  spelled = ((n, I32), (refl, refl, refl), refl);
   count = n;
   type = I32;
   rest = [];
@@ -185,14 +185,14 @@ IsBefore _ = ⊥
 
 module _ (p : Profile) where
   runs_come : (more : ℕ) (r : InRun) → SoundRun r → RunComes (EntryRest loose p (entry.Run more r))
-  runs_come more r h = run_then (Leaf (run_rest r) run_part) (Then (Times more Run) (Expression p body_op)) (run_comes r h) (some_runs p more)
+  runs_come more r h = run_then (Leaf (run_rest p r) run_part) (Then (Times more (Run p)) (Expression p body_op)) (run_comes p r h) (some_runs p more)
 
   -- a whole state_after, and what follows it
-  first_run : (n : ℕ) → RunComes (Then (Times (suc n) Run) (Expression p body_op))
+  first_run : (n : ℕ) → RunComes (Then (Times (suc n) (Run p)) (Expression p body_op))
   first_run n =
       let rest = some_runs p n in
-      let r = run_comes (run_at.Count fresh) fresh_32 in
-      let whole = run_then (Leaf (run_rest (run_at.Count fresh)) run_part) (Then (Times n Run) (Expression p body_op)) r rest in
+      let r = run_comes p (run_at.Count fresh) fresh_32 in
+      let whole = run_then (Leaf (run_rest p (run_at.Count fresh)) run_part) (Then (Times n (Run p)) (Expression p body_op)) r rest in
       record { bytes = whole.bytes; marks = whole.marks; spelled = (runs_same loose p (suc n)).from whole.bytes whole.marks whole.spelled; count = whole.count; type = whole.type; rest = whole.rest; first = whole.first }
 
   entry_comes : (left : ℕ) (q : InEntry) → StandsEntry left q → IsBefore q → RunComes (EntryRest loose p q)

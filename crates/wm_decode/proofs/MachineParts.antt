@@ -10,6 +10,8 @@ use Rattle.wm_syntax.specs.Spelling.{Form}
 use Rattle.wm_syntax.specs.Types.{type_byte}
 use Rattle.wm_syntax.specs.declared.why.Why.{Why}
 use Rattle.wm_syntax.specs.declared.why.Why.TheVariants as why
+use Rattle.wm_syntax.specs.declared.profile.Profile.{Profile}
+use Rattle.wm_syntax.specs.Profiles.{HasType}
 use Rattle.wm_syntax.specs.declared.types.ValType.{ValType}
 use Rattle.wm_decode.specs.declared.machine.NameKind.{NameKind}
 use Rattle.wm_decode.specs.declared.machine.Event.{Event}
@@ -32,20 +34,20 @@ use Rattle.wm_syntax.proofs.SameTypes.{byte_tells}
 
 module _ (demanded : Type 0) where
   -- value types
-  pub value_has : (g : ValType → Item) → HasBytes demanded (ValueType g)
-  value_has g s k h = not_nil (type_byte h.0) [] (sym h.1)
+  pub value_has : (p : Profile) (g : ValType → Item) → HasBytes demanded (ValueType p g)
+  value_has p g s k h = not_nil (type_byte h.0) [] (sym h.1.1)
 
-  pub value_next : (g : ValType → Item) (t : ValType) → Next demanded (ValueType g) (type_byte t) (outside_mark (Some (g t))) Empty
-  value_next g t = record {
+  pub value_next : (p : Profile) (g : ValType → Item) (t : ValType) → HasType p t → Next demanded (ValueType p g) (type_byte t) (outside_mark (Some (g t))) Empty
+  value_next p g t i = record {
     to = λ s b k h.
-        let e : b ≡ [] = tail_same (type_byte t) (type_byte h.0) b [] h.1 in
-        let u : h.0 ≡ t = byte_tells h.0 t (sym (head_same (type_byte t) (type_byte h.0) b [] h.1)) in
+        let e : b ≡ [] = tail_same (type_byte t) (type_byte h.0) b [] h.1.1 in
+        let u : h.0 ≡ t = byte_tells h.0 t (sym (head_same (type_byte t) (type_byte h.0) b [] h.1.1)) in
         ([], h.2 ∙ (ap (λ y. marks_ending (Some (g h.0)) (type_byte t ∷ y)) e ∙ ap (λ y. outside_mark (Some (g y)) ∷ []) u), (e, refl));
-    from = λ b k q. (t, ap (λ y. type_byte t ∷ y) q.2.0, q.1 ∙ (ap (λ y. outside_mark (Some (g t)) ∷ y) q.2.1 ∙ sym (ap (λ y. marks_ending (Some (g t)) (type_byte t ∷ y)) q.2.0)));
+    from = λ b k q. (t, (i, ap (λ y. type_byte t ∷ y) q.2.0), q.1 ∙ (ap (λ y. outside_mark (Some (g t)) ∷ y) q.2.1 ∙ sym (ap (λ y. marks_ending (Some (g t)) (type_byte t ∷ y)) q.2.0)));
   }
 
-  value_none : (g : ValType → Item) (c : ℕ) → ((t : ValType) → c ≡ type_byte t → ⊥) → Next demanded (ValueType g) c (outside_mark None) Never
-  value_none g c none = next_never demanded (ValueType g) c (outside_mark None) (λ s b k h. none h.0 (head_same c (type_byte h.0) b [] h.1))
+  value_none : (p : Profile) (g : ValType → Item) (c : ℕ) → ((t : ValType) → HasType p t → c ≡ type_byte t → ⊥) → Next demanded (ValueType p g) c (outside_mark None) Never
+  value_none p g c none = next_never demanded (ValueType p g) c (outside_mark None) (λ s b k h. none h.0 h.1.0 (head_same c (type_byte h.0) b [] h.1.1))
 
   module _ {M : Type 0} (fail : Why → M) (rest : M → List ℕ → MarkedForm) (stuck : (w : Why) → Same demanded Never (rest (fail w) [])) (so_far : List ℕ) (c : ℕ) where
     abbrev pub hears : M × Event → ByteRead M
@@ -85,18 +87,18 @@ module _ (demanded : Type 0) where
       leaf_follows r byte = leaf_cases r (push r c) (leaf_next demanded left push is part r c byte)
 
     -- a value type and what follows it
-    module _ (g : ValType → Item) (Q : MarkedForm) (done : ValType → M × Event)
+    module _ (p : Profile) (g : ValType → Item) (Q : MarkedForm) (done : ValType → M × Event)
         (given : (t : ValType) → (hears (done t)).mark ≡ outside_mark (Some (g t)))
         (dones : (t : ValType) → Same demanded Q (rest (hears (done t)).at (hears (done t)).name)) where
-      type_cases : (q : Result ValType Why) → TypeAnswer c q → Follows (Then (ValueType g) Q) (on_type q done fail)
+      type_cases : (q : Result ValType Why) → TypeAnswer p c q → Follows (Then (ValueType p g) Q) (on_type q done fail)
       type_cases (Ok t) e =
-          subst (λ y. Next demanded (Then (ValueType g) Q) c y (rest (hears (done t)).at (hears (done t)).name)) (sym (given t))
-          (subst (λ y. Next demanded (Then (ValueType g) Q) y (outside_mark (Some (g t))) (rest (hears (done t)).at (hears (done t)).name)) (sym e)
-          (ends_first demanded (ValueType g) Q (rest (hears (done t)).at (hears (done t)).name) (type_byte t) (outside_mark (Some (g t))) (value_next g t) (value_has g) (dones t)))
-      type_cases (Err w) none = halts (Then (ValueType g) Q) w (fails_first demanded (ValueType g) Q c (outside_mark None) (value_none g c none) (value_has g))
+          subst (λ y. Next demanded (Then (ValueType p g) Q) c y (rest (hears (done t)).at (hears (done t)).name)) (sym (given t))
+          (subst (λ y. Next demanded (Then (ValueType p g) Q) y (outside_mark (Some (g t))) (rest (hears (done t)).at (hears (done t)).name)) (sym e.0)
+          (ends_first demanded (ValueType p g) Q (rest (hears (done t)).at (hears (done t)).name) (type_byte t) (outside_mark (Some (g t))) (value_next p g t e.1) (value_has p g) (dones t)))
+      type_cases (Err w) none = halts (Then (ValueType p g) Q) w (fails_first demanded (ValueType p g) Q c (outside_mark None) (value_none p g c none) (value_has p g))
 
-      pub type_follows : Follows (Then (ValueType g) Q) (on_type (value_type_of c) done fail)
-      type_follows = type_cases (value_type_of c) (type_answer c)
+      pub type_follows : Follows (Then (ValueType p g) Q) (on_type (value_type_of p c) done fail)
+      type_follows = type_cases (value_type_of p c) (type_answer p c)
 
     -- this byte and what follows it
     pub byte_follows : (d : ℕ) (x : Option Item) (Q : MarkedForm) (q : M × Event) → (hears q).mark ≡ outside_mark x → Same demanded Q (rest (hears q).at (hears q).name)

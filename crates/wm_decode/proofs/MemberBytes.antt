@@ -1,7 +1,7 @@
 -- What may still come of a member, and that each byte goes on with it.
 use Rattle.std.proofs.Common.{◌≡◌, ℕ, zero, suc, ◌<◌, ◌^◌, List, [], ◌∷◌, ◌++◌, Option, Some, None, length, refl, sym, ◌∙◌, ap, subst, arith, append-nil}
 use Rattle.wm_syntax.specs.exact.Reading.{fresh}
-use Rattle.wm_syntax.specs.Types.{SpellsLimits, SpellsTableType, SpellsGlobalType}
+use Rattle.wm_syntax.specs.Types.{SpellsLimits, SpellsTableType}
 use Rattle.wm_syntax.specs.declared.profile.Profile.{Profile}
 use Rattle.wm_syntax.specs.declared.instructions.Op.{Op}
 use Rattle.wm_decode.specs.declared.machine.NameKind.{NameKind}
@@ -28,10 +28,9 @@ use Rattle.wm_decode.specs.declared.machine.member.InMember.{InMember}
 use Rattle.wm_decode.specs.declared.machine.member.InMember.TheVariants as at
 use Rattle.wm_decode.specs.declared.step.expressions.InExpression.{InExpression}
 use Rattle.wm_decode.specs.declared.step.expressions.InExpression.TheVariants as expression
-use Rattle.wm_decode.specs.Items.{Item, new_type, param, result_count, one_result, import_desc, function, table as table_part, memory as memory_part, global as global_part, const_op, start as start_part, element_function, body, body_op, data_byte, Zone, outside, entry as in_entry, closing, Mark}
+use Rattle.wm_decode.specs.Items.{Item, new_type, param, result_count, one_result, function, table as table_part, memory as memory_part, global as global_part, const_op, start as start_part, element_function, body, body_op, data_byte, Zone, outside, entry as in_entry, closing, Mark}
 use Rattle.wm_decode.specs.MarkedForms.{MarkedForm, Empty, Byte, Then, Times, Leaf, Number, Vector, Index, Counted, Name, Sized, Entry, nothing_at, marks_ending, in_zone, outside_mark}
-use Rattle.wm_decode.specs.Sections.{SpellsDesc}
-use Rattle.wm_decode.specs.Grammar.{ValueType, ResultTypes, FunctionType, Import, Global, Target, Export, Element, Run, Code, DataByte, Segment, Expression}
+use Rattle.wm_decode.specs.Grammar.{ValueType, ResultTypes, FunctionType, Desc, Import, Global, Target, Export, Element, Run, Code, DataByte, Segment, Expression}
 use Rattle.wm_decode.specs.exact.Runs.{ByteRead, byte_read, name_item, plain_item, zone_in}
 use Rattle.wm_decode.specs.exact.Members.{member_at_start}
 use Rattle.wm_decode.specs.exact.ValueSteps.{global_type_push, value_push}
@@ -63,8 +62,8 @@ module _ (demanded : Type 0) where
 module _ (demanded : Type 0) (p : Profile) where
   -- one member of a section
   abbrev pub OneOf : SectionKind → MarkedForm
-  OneOf section_kind.Type = FunctionType
-  OneOf section_kind.Import = Import demanded
+  OneOf section_kind.Type = FunctionType p
+  OneOf section_kind.Import = Import demanded p
   OneOf section_kind.Function = Index function
   OneOf section_kind.Table = Leaf SpellsTableType table_part
   OneOf section_kind.Memory = Leaf SpellsLimits memory_part
@@ -80,8 +79,8 @@ module _ (demanded : Type 0) (p : Profile) where
 
   -- what follows a name
   abbrev pub AfterName : NameKind → MarkedForm
-  AfterName name.ImportModule = Then (Name demanded (name_item name.ImportName)) (Leaf SpellsDesc import_desc)
-  AfterName name.ImportName = Leaf SpellsDesc import_desc
+  AfterName name.ImportModule = Then (Name demanded (name_item name.ImportName)) (Desc p)
+  AfterName name.ImportName = Desc p
   AfterName name.Export = Target
   AfterName name.Custom = Empty
 
@@ -108,23 +107,23 @@ module _ (demanded : Type 0) (p : Profile) where
   Listed length_of.Bytes = DataByte
 
   abbrev pub InSize : ℕ → MarkedForm
-  InSize n = Sized demanded n (Entry (Then (Vector Run) (Expression p body_op)))
+  InSize n = Sized demanded n (Entry (Then (Vector (Run p)) (Expression p body_op)))
 
   abbrev pub index_mark : IndexOf → ℕ → Option Item
   index_mark of n = Some (plain_item (index_item of n))
 
   -- what may still come, with the bytes so far of a name
   abbrev pub ComponentRest : InMember → List ℕ → MarkedForm
-  ComponentRest at.TypeForm y = FunctionType
-  ComponentRest (at.ParamCount r) y = Counted (Left r) nothing_at (λ n. Then (Times n (ValueType param)) ResultTypes)
-  ComponentRest (at.Param more) y = Then (Times (suc more) (ValueType param)) ResultTypes
-  ComponentRest (at.ResultCount r) y = Counted (Left r) (λ n. Some (result_count n)) (λ n. Times n (ValueType one_result))
-  ComponentRest (at.ResultType more) y = Times (suc more) (ValueType one_result)
+  ComponentRest at.TypeForm y = FunctionType p
+  ComponentRest (at.ParamCount r) y = Counted (Left r) nothing_at (λ n. Then (Times n (ValueType p param)) (ResultTypes p))
+  ComponentRest (at.Param more) y = Then (Times (suc more) (ValueType p param)) (ResultTypes p)
+  ComponentRest (at.ResultCount r) y = Counted (Left r) (λ n. Some (result_count n)) (λ n. Times n (ValueType p one_result))
+  ComponentRest (at.ResultType more) y = Times (suc more) (ValueType p one_result)
   ComponentRest (at.NameLength of r) y = Then (TextLeft demanded r (name_item of)) (AfterName of)
   ComponentRest (at.Name of more) y = Then (NameLeft demanded y (suc more) (name_item of)) (AfterName of)
-  ComponentRest (at.Value v) y = Leaf (value_rest v) plain_item
+  ComponentRest (at.Value v) y = Leaf (value_rest p v) plain_item
   ComponentRest (at.Index of r) y = Counted (Left r) (index_mark of) (λ n. AfterIndex of)
-  ComponentRest (at.GlobalType g) y = Then (Leaf (global_rest g) global_part) Constant
+  ComponentRest (at.GlobalType g) y = Then (Leaf (global_rest p g) global_part) Constant
   ComponentRest (at.Constant of e) y = Then (ExpressionRest p const_op e) (AfterConstant of)
   ComponentRest (at.Length of r) y = Counted (Left r) nothing_at (λ n. Times n (Listed of))
   ComponentRest (at.Data more) y = Times (suc more) DataByte
@@ -137,17 +136,17 @@ module _ (demanded : Type 0) (p : Profile) where
   ComponentFollows y c P q = Follows demanded at.Failed ComponentRest (λ w. same_refl demanded Never) y c P q
 
   -- function types
-  results_same : (n : ℕ) → Same demanded (Times n (ValueType one_result)) (ComponentRest (after_result n) [])
+  results_same : (n : ℕ) → Same demanded (Times n (ValueType p one_result)) (ComponentRest (after_result n) [])
   results_same zero = same_refl demanded Empty
-  results_same (suc n) = same_refl demanded (Times (suc n) (ValueType one_result))
+  results_same (suc n) = same_refl demanded (Times (suc n) (ValueType p one_result))
 
-  params_same : (n : ℕ) → Same demanded (Then (Times n (ValueType param)) ResultTypes) (ComponentRest (after_param n) [])
-  params_same zero = same_then demanded (Then Empty ResultTypes) ResultTypes (ComponentRest (at.ResultCount fresh) []) (empty_then demanded ResultTypes)
-      (number_fresh demanded (λ n. Some (result_count n)) (λ n. Times n (ValueType one_result)) (λ n. Times n (ValueType one_result)) (λ n. same_refl demanded (Times n (ValueType one_result))))
-  params_same (suc n) = same_refl demanded (Then (Times (suc n) (ValueType param)) ResultTypes)
+  params_same : (n : ℕ) → Same demanded (Then (Times n (ValueType p param)) (ResultTypes p)) (ComponentRest (after_param n) [])
+  params_same zero = same_then demanded (Then Empty (ResultTypes p)) (ResultTypes p) (ComponentRest (at.ResultCount fresh) []) (empty_then demanded (ResultTypes p))
+      (number_fresh demanded (λ n. Some (result_count n)) (λ n. Times n (ValueType p one_result)) (λ n. Times n (ValueType p one_result)) (λ n. same_refl demanded (Times n (ValueType p one_result))))
+  params_same (suc n) = same_refl demanded (Then (Times (suc n) (ValueType p param)) (ResultTypes p))
 
-  form_same : Same demanded (Then (Vector (ValueType param)) ResultTypes) (ComponentRest (at.ParamCount fresh) [])
-  form_same = counted_fresh demanded nothing_at (λ n. Times n (ValueType param)) ResultTypes (λ n. Then (Times n (ValueType param)) ResultTypes) (λ n. same_refl demanded (Then (Times n (ValueType param)) ResultTypes))
+  form_same : Same demanded (Then (Vector (ValueType p param)) (ResultTypes p)) (ComponentRest (at.ParamCount fresh) [])
+  form_same = counted_fresh demanded nothing_at (λ n. Times n (ValueType p param)) (ResultTypes p) (λ n. Then (Times n (ValueType p param)) (ResultTypes p)) (λ n. same_refl demanded (Then (Times n (ValueType p param)) (ResultTypes p)))
 
   -- lists of functions and of bytes
   functions_same : (n : ℕ) → Same demanded (Times n (Index element_function)) (ComponentRest (functions_or_over n) [])
@@ -191,7 +190,7 @@ module _ (demanded : Type 0) (p : Profile) where
   global_begins = same_then demanded Constant (Then Constant Empty) (ComponentRest (at.Constant constant.Global start) []) (then_empty demanded Constant) (constant_begins constant.Global)
 
   -- values that end a member
-  desc_begins : Same demanded (Leaf SpellsDesc import_desc) (ComponentRest (at.Value (value.Import import_desc_at.Kind)) [])
+  desc_begins : Same demanded (Desc p) (ComponentRest (at.Value (value.Import import_desc_at.Kind)) [])
   desc_begins = record {
     to = λ s b k h. (plain.Import h.0, (h.0, refl, h.1), h.2);
     from = λ b k h. (h.1.0, h.1.2, h.2 ∙ ap (λ y. marks_ending (Some (plain_item y)) b) h.1.1);
@@ -246,7 +245,7 @@ module _ (demanded : Type 0) (p : Profile) where
   size_same : (n : ℕ) → Same demanded (InSize n) (ComponentRest (member_in_entry n (entry.RunCount fresh)) [])
   size_same n =
       same_then demanded (InSize n) (Sized demanded n (Entry (EntryRest demanded p (entry.RunCount fresh)))) (ComponentRest (member_in_entry n (entry.RunCount fresh)) [])
-      (sized_same demanded (Entry (Then (Vector Run) (Expression p body_op))) (Entry (EntryRest demanded p (entry.RunCount fresh))) n (entry_shape_same (Then (Vector Run) (Expression p body_op)) (EntryRest demanded p (entry.RunCount fresh)) (entry_same demanded p)))
+      (sized_same demanded (Entry (Then (Vector (Run p)) (Expression p body_op))) (Entry (EntryRest demanded p (entry.RunCount fresh))) n (entry_shape_same (Then (Vector (Run p)) (Expression p body_op)) (EntryRest demanded p (entry.RunCount fresh)) (entry_same demanded p)))
       (entry_framed_same n (entry.RunCount fresh) tt)
 
   -- where each member begins
@@ -257,12 +256,12 @@ module _ (demanded : Type 0) (p : Profile) where
   index_alone of F s = number_fresh demanded (index_mark of) F (λ n. AfterIndex of) s
 
   pub begin_same : (of : SectionKind) → Same demanded (OneOf of) (ComponentRest (member_at_start of) [])
-  begin_same section_kind.Type = same_refl demanded FunctionType
+  begin_same section_kind.Type = same_refl demanded (FunctionType p)
   begin_same section_kind.Import = name_begins name.ImportModule
   begin_same section_kind.Function = index_alone index.Function (λ n. Empty) (λ n. same_refl demanded Empty)
   begin_same section_kind.Table = table_begins
   begin_same section_kind.Memory = memory_begins
-  begin_same section_kind.Global = same_refl demanded (Then (Leaf SpellsGlobalType global_part) Constant)
+  begin_same section_kind.Global = same_refl demanded (Global p)
   begin_same section_kind.Export = name_begins name.Export
   begin_same section_kind.Start = index_alone index.Start (λ n. Empty) (λ n. same_refl demanded Empty)
   begin_same section_kind.Element = index_begins index.Element
@@ -401,33 +400,33 @@ module _ (demanded : Type 0) (p : Profile) where
   pub component_follows : (left : ℕ) (q : InMember) (y : List ℕ) (c : ℕ) → CanGo (suc left) q → c < 2 ^ 8
       → Next demanded (ComponentRest q y) c (byte_read at.Failed (zone_in q) y c (member_step p q c)).mark (ComponentRest (byte_read at.Failed (zone_in q) y c (member_step p q c)).at (byte_read at.Failed (zone_in q) y c (member_step p q c)).name)
   component_follows left at.TypeForm y c go byte =
-      byte_follows demanded at.Failed ComponentRest (λ w. same_refl demanded Never) y c 0x60 (Some new_type) (Then (Vector (ValueType param)) ResultTypes) (with_item_given (at.ParamCount fresh) plain.NewType) refl form_same
+      byte_follows demanded at.Failed ComponentRest (λ w. same_refl demanded Never) y c 0x60 (Some new_type) (Then (Vector (ValueType p param)) (ResultTypes p)) (with_item_given (at.ParamCount fresh) plain.NewType) refl form_same
   component_follows left (at.ParamCount r) y c go byte =
-      number_follows demanded at.Failed ComponentRest (λ w. same_refl demanded Never) y c nothing_at (λ n. Then (Times n (ValueType param)) ResultTypes) at.ParamCount (λ n. (after_param n, event.Nothing))
+      number_follows demanded at.Failed ComponentRest (λ w. same_refl demanded Never) y c nothing_at (λ n. Then (Times n (ValueType p param)) (ResultTypes p)) at.ParamCount (λ n. (after_param n, event.Nothing))
       (λ s. same_refl demanded (ComponentRest (at.ParamCount s) [])) (λ n. refl) params_same r byte
   component_follows left (at.Param more) y c go byte =
-      unrolled (Then (ValueType param) (Then (Times more (ValueType param)) ResultTypes)) (ComponentRest (at.Param more) y) c (byte_read at.Failed outside y c (member_step p (at.Param more) c))
-      (then_assoc demanded (ValueType param) (Times more (ValueType param)) ResultTypes)
-      (type_follows demanded at.Failed ComponentRest (λ w. same_refl demanded Never) y c param (Then (Times more (ValueType param)) ResultTypes) (λ t. with_item_given (after_param more) (plain.Param t)) (λ t. refl) (λ t. params_same more))
+      unrolled (Then (ValueType p param) (Then (Times more (ValueType p param)) (ResultTypes p))) (ComponentRest (at.Param more) y) c (byte_read at.Failed outside y c (member_step p (at.Param more) c))
+      (then_assoc demanded (ValueType p param) (Times more (ValueType p param)) (ResultTypes p))
+      (type_follows demanded at.Failed ComponentRest (λ w. same_refl demanded Never) y c p param (Then (Times more (ValueType p param)) (ResultTypes p)) (λ t. with_item_given (after_param more) (plain.Param t)) (λ t. refl) (λ t. params_same more))
   component_follows left (at.ResultCount r) y c go byte =
-      number_follows demanded at.Failed ComponentRest (λ w. same_refl demanded Never) y c (λ n. Some (result_count n)) (λ n. Times n (ValueType one_result)) at.ResultCount (λ n. with_item_given (after_result n) (plain.ResultCount n))
+      number_follows demanded at.Failed ComponentRest (λ w. same_refl demanded Never) y c (λ n. Some (result_count n)) (λ n. Times n (ValueType p one_result)) at.ResultCount (λ n. with_item_given (after_result n) (plain.ResultCount n))
       (λ s. same_refl demanded (ComponentRest (at.ResultCount s) [])) (λ n. refl) results_same r byte
   component_follows left (at.ResultType more) y c go byte =
-      type_follows demanded at.Failed ComponentRest (λ w. same_refl demanded Never) y c one_result (Times more (ValueType one_result)) (λ t. with_item_given (after_result more) (plain.OneResult t)) (λ t. refl) (λ t. results_same more)
+      type_follows demanded at.Failed ComponentRest (λ w. same_refl demanded Never) y c p one_result (Times more (ValueType p one_result)) (λ t. with_item_given (after_result more) (plain.OneResult t)) (λ t. refl) (λ t. results_same more)
   component_follows left (at.NameLength of r) y c go byte =
       length_follows demanded at.Failed ComponentRest (λ w. same_refl demanded Never) y c of (AfterName of) (after_name of) (name_same of) (λ n. at.Name of n) (λ n z. same_refl demanded (ComponentRest (at.Name of n) z))
       (λ s. at.NameLength of s) (λ s. same_refl demanded (ComponentRest (at.NameLength of s) [])) r byte
   component_follows left (at.Name of more) y c go byte =
       name_follows demanded at.Failed ComponentRest (λ w. same_refl demanded Never) y c of (AfterName of) (after_name of) (name_same of) (λ n. at.Name of n) (λ n z. same_refl demanded (ComponentRest (at.Name of n) z)) more
   component_follows left (at.Value v) y c go byte =
-      unrolled (Then (Leaf (value_rest v) plain_item) Empty) (ComponentRest (at.Value v) y) c (byte_read at.Failed outside y c (member_step p (at.Value v) c)) (then_empty demanded (Leaf (value_rest v) plain_item))
-      (leaf_follows demanded at.Failed ComponentRest (λ w. same_refl demanded Never) y c value_rest value_push value_reader plain_item Empty at.Value (λ q. with_item_given at.Over q)
-      (λ s. back_empty (Leaf (value_rest s) plain_item)) (λ q. refl) (λ q. same_refl demanded Empty) v byte)
+      unrolled (Then (Leaf (value_rest p v) plain_item) Empty) (ComponentRest (at.Value v) y) c (byte_read at.Failed outside y c (member_step p (at.Value v) c)) (then_empty demanded (Leaf (value_rest p v) plain_item))
+      (leaf_follows demanded at.Failed ComponentRest (λ w. same_refl demanded Never) y c (value_rest p) (value_push p) (value_reader p) plain_item Empty at.Value (λ q. with_item_given at.Over q)
+      (λ s. back_empty (Leaf (value_rest p s) plain_item)) (λ q. refl) (λ q. same_refl demanded Empty) v byte)
   component_follows left (at.Index of r) y c go byte =
       number_follows demanded at.Failed ComponentRest (λ w. same_refl demanded Never) y c (index_mark of) (λ n. AfterIndex of) (λ s. at.Index of s) (λ n. with_item_given (after_index of) (index_item of n))
       (λ s. same_refl demanded (ComponentRest (at.Index of s) [])) (λ n. refl) (λ n. index_same of) r byte
   component_follows left (at.GlobalType g) y c go byte =
-      leaf_follows demanded at.Failed ComponentRest (λ w. same_refl demanded Never) y c global_rest global_type_push global_reader global_part Constant at.GlobalType (λ t. with_item_given (at.Constant constant.Global start) (plain.Global t))
+      leaf_follows demanded at.Failed ComponentRest (λ w. same_refl demanded Never) y c (global_rest p) (global_type_push p) (global_reader p) global_part Constant at.GlobalType (λ t. with_item_given (at.Constant constant.Global start) (plain.Global t))
       (λ s. same_refl demanded (ComponentRest (at.GlobalType s) [])) (λ t. refl) (λ t. global_begins) g byte
   component_follows left (at.Constant of e) y c go byte = constant_follows of e y c go.1.0 (sound_opens left e go.1.1) byte
   component_follows left (at.Length of r) y c go byte =
@@ -442,16 +441,16 @@ module _ (demanded : Type 0) (p : Profile) where
   component_follows left (at.Failed w) y c go byte = absurd go.1
 
   pub component_has : (left : ℕ) (q : InMember) (y : List ℕ) → CanGo left q → HasBytes demanded (ComponentRest q y)
-  component_has left at.TypeForm y go = then_has demanded (Byte 0x60 (Some new_type)) (Then (Vector (ValueType param)) ResultTypes) (byte_has demanded 0x60 (Some new_type))
-  component_has left (at.ParamCount r) y go = counted_has demanded nothing_at (λ n. Then (Times n (ValueType param)) ResultTypes) r
-  component_has left (at.Param more) y go = then_has demanded (Times (suc more) (ValueType param)) ResultTypes (then_has demanded (ValueType param) (Times more (ValueType param)) (value_has demanded param))
-  component_has left (at.ResultCount r) y go = counted_has demanded (λ n. Some (result_count n)) (λ n. Times n (ValueType one_result)) r
-  component_has left (at.ResultType more) y go = then_has demanded (ValueType one_result) (Times more (ValueType one_result)) (value_has demanded one_result)
+  component_has left at.TypeForm y go = then_has demanded (Byte 0x60 (Some new_type)) (Then (Vector (ValueType p param)) (ResultTypes p)) (byte_has demanded 0x60 (Some new_type))
+  component_has left (at.ParamCount r) y go = counted_has demanded nothing_at (λ n. Then (Times n (ValueType p param)) (ResultTypes p)) r
+  component_has left (at.Param more) y go = then_has demanded (Times (suc more) (ValueType p param)) (ResultTypes p) (then_has demanded (ValueType p param) (Times more (ValueType p param)) (value_has demanded p param))
+  component_has left (at.ResultCount r) y go = counted_has demanded (λ n. Some (result_count n)) (λ n. Times n (ValueType p one_result)) r
+  component_has left (at.ResultType more) y go = then_has demanded (ValueType p one_result) (Times more (ValueType p one_result)) (value_has demanded p one_result)
   component_has left (at.NameLength of r) y go = then_has demanded (TextLeft demanded r (name_item of)) (AfterName of) (text_has demanded (name_item of) r)
   component_has left (at.Name of more) y go = then_has demanded (NameLeft demanded y (suc more) (name_item of)) (AfterName of) (left_has demanded y more (name_item of))
-  component_has left (at.Value v) y go = leaf_has demanded value_rest value_push value_reader plain_item v
+  component_has left (at.Value v) y go = leaf_has demanded (value_rest p) (value_push p) (value_reader p) plain_item v
   component_has left (at.Index of r) y go = counted_has demanded (index_mark of) (λ n. AfterIndex of) r
-  component_has left (at.GlobalType g) y go = then_has demanded (Leaf (global_rest g) global_part) Constant (leaf_has demanded global_rest global_type_push global_reader global_part g)
+  component_has left (at.GlobalType g) y go = then_has demanded (Leaf (global_rest p g) global_part) Constant (leaf_has demanded (global_rest p) (global_type_push p) (global_reader p) global_part g)
   component_has left (at.Constant of e) y go = then_has demanded (ExpressionRest p const_op e) (AfterConstant of) (λ s k h. expression_has p const_op e go.1.0 k h)
   component_has left (at.Length of r) y go = counted_has demanded nothing_at (λ n. Times n (Listed of)) r
   component_has left (at.Data more) y go = then_has demanded DataByte (Times more DataByte) data_has

@@ -8,7 +8,9 @@ use Rattle.wm_syntax.specs.exact.Reading.{fresh, unsigned_push}
 use Rattle.wm_syntax.specs.declared.why.Why.{Why}
 use Rattle.wm_syntax.specs.declared.why.Why.TheVariants as why
 use Rattle.wm_syntax.specs.declared.profile.Profile.{Profile}
+use Rattle.wm_syntax.specs.Profiles.{has, type_feature}
 use Rattle.wm_syntax.specs.declared.types.ValType.{ValType}
+use Rattle.wm_syntax.specs.declared.types.ValType.TheVariants.{I32, I64, F32, F64}
 use Rattle.wm_decode.specs.declared.machine.NameKind.{NameKind}
 use Rattle.wm_decode.specs.declared.machine.NameKind.TheVariants as name
 use Rattle.wm_decode.specs.declared.machine.Plain.TheVariants as plain
@@ -43,11 +45,12 @@ use Rattle.wm_decode.specs.declared.machine.member.InMember.TheVariants as at
 use Rattle.wm_decode.specs.declared.step.expressions.InExpression.{InExpression}
 use Rattle.wm_decode.specs.declared.step.expressions.InExpression.TheVariants as expression
 use Rattle.wm_decode.specs.Decoding.{IsFloatByte}
-use Rattle.wm_decode.specs.exact.ValueSteps.{read_number, map_reading, after_min, limits_push, table_type_push, value_type_of, read_type, var_step, global_type_push, desc_kind_step, desc_push, target_kind_step, target_push, run_push, value_push}
+use Rattle.wm_decode.specs.exact.ValueSteps.{read_number, map_reading, after_min, limits_push, table_type_push, type_under, value_type_of, read_type, var_step, global_type_push, desc_kind_step, desc_push, target_kind_step, target_push, run_push, value_push}
 use Rattle.wm_decode.specs.exact.ExpressionSteps.{start, expression_step}
 use Rattle.wm_decode.specs.exact.MemberSteps.{on_number, on_value, on_type, with_item_given, after_param, after_result, after_name, after_length, name_step, functions_or_over, index_item, after_index, constant_over, after_constant, data_or_over, list_or_over, runs_or_body, entry_after_op, entry_step, member_in_entry, member_step}
 use Rattle.wm_decode.proofs.ExpressionSound.{expression_fault}
 use Rattle.wm_decode.proofs.OpSound.{IsOther}
+use Rattle.wm_decode.proofs.ValueBytes.{type_given}
 use Rattle.wm_decode.proofs.ExpressionRest.{IsInside}
 use Rattle.wm_decode.proofs.EntryBytes.{IsInEntry}
 
@@ -100,13 +103,18 @@ module _ (refusal : Why) (Fault : ℕ → Type 0) (other : (w : Why) → IsOther
   within_reads f g (Done x) h e = cc
   within_reads f g (Bad w) h e = h (let s : w ≡ refusal = cc in ap Bad s)
 
-  type_float : value_type_of c ≡ Err refusal → Fault c
-  type_float =
+  -- a type of floating-point numbers, where the profile may have it
+  under_float : (p : Profile) (t : ValType) → IsFloatByte c → type_under p t ≡ Err refusal → Fault c
+  under_float p t i =
+      cond_both (has p (type_feature t)) _ _ (λ (q : Result ValType Why). q ≡ Err refusal → Fault c) (λ _ e. type_given t refusal e) (λ _ e. float c (same_err why.Float refusal e) i)
+
+  type_float : (p : Profile) → value_type_of p c ≡ Err refusal → Fault c
+  type_float p =
       let P : Result ValType Why → Type 0 = λ q. q ≡ Err refusal → Fault c in
-      cond_both (nat_eq c 0x7F) _ _ P (λ _ e. cc)
-      (λ _. cond_both (nat_eq c 0x7E) _ _ P (λ _ e. cc)
-      (λ _. cond_both (nat_eq c 0x7D) _ _ P (λ a e. float c (same_err why.Float refusal e) (inl (eqb-true c 0x7D a)))
-      (λ _. cond_both (nat_eq c 0x7C) _ _ P (λ a e. float c (same_err why.Float refusal e) (inr (inl (eqb-true c 0x7C a)))) (λ _ e. absurd (other why.BadByte tt (same_err why.BadByte refusal e))))))
+      cond_both (nat_eq c 0x7F) _ _ P (λ _ e. type_given I32 refusal e)
+      (λ _. cond_both (nat_eq c 0x7E) _ _ P (λ _ e. type_given I64 refusal e)
+      (λ _. cond_both (nat_eq c 0x7D) _ _ P (λ a. under_float p F32 (inl (eqb-true c 0x7D a)))
+      (λ _. cond_both (nat_eq c 0x7C) _ _ P (λ a. under_float p F64 (inr (inl (eqb-true c 0x7C a)))) (λ _ e. absurd (other why.BadByte tt (same_err why.BadByte refusal e))))))
 
   type_reads : {R X : Type 0} (q : Result ValType Why) (f : ValType → Reading R X) → (q ≡ Err refusal → Fault c) → ((t : ValType) → Reads (f t)) → Reads (read_type q f)
   type_reads (Ok t) f h g = g t
@@ -130,9 +138,9 @@ module _ (refusal : Why) (Fault : ℕ → Type 0) (other : (w : Why) → IsOther
   var_reads t (suc zero) = λ e. cc
   var_reads t (suc (suc d)) = no_read why.BadByte tt
 
-  global_reads : (g : InGlobalType) → Reads (global_type_push g c)
-  global_reads global.Type = type_reads (value_type_of c) (λ t. More (global.Var t)) type_float (λ t e. cc)
-  global_reads (global.Var t) = var_reads t c
+  global_reads : (p : Profile) (g : InGlobalType) → Reads (global_type_push p g c)
+  global_reads p global.Type = type_reads (value_type_of p c) (λ t. More (global.Var t)) (type_float p) (λ t e. cc)
+  global_reads p (global.Var t) = var_reads t c
 
   kind_reads : (d : ℕ) → Reads (desc_kind_step d)
   kind_reads zero = λ e. cc
@@ -141,12 +149,12 @@ module _ (refusal : Why) (Fault : ℕ → Type 0) (other : (w : Why) → IsOther
   kind_reads (suc (suc (suc zero))) = λ e. cc
   kind_reads (suc (suc (suc (suc d)))) = no_read why.BadByte tt
 
-  desc_reads : (d : InImportDesc) → Reads (desc_push d c)
-  desc_reads import.Kind = kind_reads c
-  desc_reads (import.Func r) = number_reads (unsigned_push 32 r c) import.Func _ (λ n e. cc)
-  desc_reads (import.Table t) = within_reads import.Table _ (table_type_push t c) (table_reads t)
-  desc_reads (import.Memory l) = within_reads import.Memory _ (limits_push l c) (limits_reads l)
-  desc_reads (import.Global g) = within_reads import.Global _ (global_type_push g c) (global_reads g)
+  desc_reads : (p : Profile) (d : InImportDesc) → Reads (desc_push p d c)
+  desc_reads p import.Kind = kind_reads c
+  desc_reads p (import.Func r) = number_reads (unsigned_push 32 r c) import.Func _ (λ n e. cc)
+  desc_reads p (import.Table t) = within_reads import.Table _ (table_type_push t c) (table_reads t)
+  desc_reads p (import.Memory l) = within_reads import.Memory _ (limits_push l c) (limits_reads l)
+  desc_reads p (import.Global g) = within_reads import.Global _ (global_type_push p g c) (global_reads p g)
 
   target_kind_reads : (d : ℕ) → Reads (target_kind_step d)
   target_kind_reads zero = λ e. cc
@@ -159,15 +167,15 @@ module _ (refusal : Why) (Fault : ℕ → Type 0) (other : (w : Why) → IsOther
   target_reads target.Kind = target_kind_reads c
   target_reads (target.Index k r) = number_reads (unsigned_push 32 r c) (λ s. target.Index k s) (λ n. Done (k, n)) (λ n e. cc)
 
-  run_reads : (r : InRun) → Reads (run_push r c)
-  run_reads (run.Count r) = number_reads (unsigned_push 32 r c) run.Count (λ n. More (run.Type n)) (λ n e. cc)
-  run_reads (run.Type n) = type_reads (value_type_of c) (λ t. Done (n, t)) type_float (λ t e. cc)
+  run_reads : (p : Profile) (r : InRun) → Reads (run_push p r c)
+  run_reads p (run.Count r) = number_reads (unsigned_push 32 r c) run.Count (λ n. More (run.Type n)) (λ n e. cc)
+  run_reads p (run.Type n) = type_reads (value_type_of p c) (λ t. Done (n, t)) (type_float p) (λ t e. cc)
 
-  value_reads : (v : InValue) → Reads (value_push v c)
-  value_reads (value.Import d) = within_reads value.Import plain.Import (desc_push d c) (desc_reads d)
-  value_reads (value.Table t) = within_reads value.Table plain.Table (table_type_push t c) (table_reads t)
-  value_reads (value.Memory l) = within_reads value.Memory plain.Memory (limits_push l c) (limits_reads l)
-  value_reads (value.Export t) = within_reads value.Export _ (target_push t c) (target_reads t)
+  value_reads : (p : Profile) (v : InValue) → Reads (value_push p v c)
+  value_reads p (value.Import d) = within_reads value.Import plain.Import (desc_push p d c) (desc_reads p d)
+  value_reads p (value.Table t) = within_reads value.Table plain.Table (table_type_push t c) (table_reads t)
+  value_reads p (value.Memory l) = within_reads value.Memory plain.Memory (limits_push l c) (limits_reads l)
+  value_reads p (value.Export t) = within_reads value.Export _ (target_push t c) (target_reads t)
 
   -- a place that has not failed by this name, or at such a byte
   abbrev Fails : InMember → Type 0
@@ -228,7 +236,7 @@ module _ (refusal : Why) (Fault : ℕ → Type 0) (other : (w : Why) → IsOther
 
   entry_float : (p : Profile) (q : InEntry) → Later (IsOpen q) → Spared (IsInEntry q) → FailsEntry (entry_step p q c).0
   entry_float p (entry.RunCount r) i j = on_number_any FailsEntry (unsigned_push 32 r c) entry.RunCount (λ n. (runs_or_body n, event.Nothing)) entry.Failed (λ s e. cc) runs_float (no_entry why.BadNumber tt)
-  entry_float p (entry.Run more r) i j = on_value_any FailsEntry (run_push r c) (λ s. entry.Run more s) _ entry.Failed (run_reads r) (λ s e. cc) (λ x. runs_float more) entry_by
+  entry_float p (entry.Run more r) i j = on_value_any FailsEntry (run_push p r c) (λ s. entry.Run more s) _ entry.Failed (run_reads p r) (λ s e. cc) (λ x. runs_float more) entry_by
   entry_float p (entry.Body e) i j = op_float (expression_step p e c).0 (expression_fault refusal Fault other float p e c i)
   entry_float p entry.Over i j = past_body j
   entry_float p (entry.Failed w) i j = past_body j
@@ -310,14 +318,14 @@ module _ (refusal : Why) (Fault : ℕ → Type 0) (other : (w : Why) → IsOther
   pub component_fault : (p : Profile) (q : InMember) → Later (IsWithin q) → Spared (IsOutside q) → (member_step p q c).0 ≡ at.Failed refusal → Fault c
   component_fault p at.TypeForm i j = cond_both (nat_eq c 0x60) _ _ (λ (x : InMember × Event). Fails x.0) (λ _ e. cc) (λ _. no_place why.BadByte tt)
   component_fault p (at.ParamCount r) i j = on_number_any Fails (unsigned_push 32 r c) at.ParamCount (λ n. (after_param n, event.Nothing)) at.Failed (λ s e. cc) param_float (no_place why.BadNumber tt)
-  component_fault p (at.Param more) i j = on_type_any Fails (value_type_of c) (λ t. with_item_given (after_param more) (plain.Param t)) at.Failed type_float (λ t. param_float more) fails_by
+  component_fault p (at.Param more) i j = on_type_any Fails (value_type_of p c) (λ t. with_item_given (after_param more) (plain.Param t)) at.Failed (type_float p) (λ t. param_float more) fails_by
   component_fault p (at.ResultCount r) i j = on_number_any Fails (unsigned_push 32 r c) at.ResultCount (λ n. with_item_given (after_result n) (plain.ResultCount n)) at.Failed (λ s e. cc) result_float (no_place why.BadNumber tt)
-  component_fault p (at.ResultType more) i j = on_type_any Fails (value_type_of c) (λ t. with_item_given (after_result more) (plain.OneResult t)) at.Failed type_float (λ t. result_float more) fails_by
+  component_fault p (at.ResultType more) i j = on_type_any Fails (value_type_of p c) (λ t. with_item_given (after_result more) (plain.OneResult t)) at.Failed (type_float p) (λ t. result_float more) fails_by
   component_fault p (at.NameLength of r) i j = on_number_any Fails (unsigned_push 32 r c) (λ s. at.NameLength of s) (after_length of) at.Failed (λ s e. cc) (length_float of) (no_place why.BadNumber tt)
   component_fault p (at.Name of more) i j = name_step_float of more
-  component_fault p (at.Value v) i j = on_value_any Fails (value_push v c) at.Value (λ q. with_item_given at.Over q) at.Failed (value_reads v) (λ s e. cc) (λ x e. cc) fails_by
+  component_fault p (at.Value v) i j = on_value_any Fails (value_push p v c) at.Value (λ q. with_item_given at.Over q) at.Failed (value_reads p v) (λ s e. cc) (λ x e. cc) fails_by
   component_fault p (at.Index of r) i j = on_number_any Fails (unsigned_push 32 r c) (λ s. at.Index of s) (λ n. with_item_given (after_index of) (index_item of n)) at.Failed (λ s e. cc) (λ n. index_float of) (no_place why.BadNumber tt)
-  component_fault p (at.GlobalType g) i j = on_value_any Fails (global_type_push g c) at.GlobalType (λ t. with_item_given (at.Constant constant.Global start) (plain.Global t)) at.Failed (global_reads g) (λ s e. cc) (λ x e. cc) fails_by
+  component_fault p (at.GlobalType g) i j = on_value_any Fails (global_type_push p g c) at.GlobalType (λ t. with_item_given (at.Constant constant.Global start) (plain.Global t)) at.Failed (global_reads p g) (λ s e. cc) (λ x e. cc) fails_by
   component_fault p (at.Constant of e) i j = constant_float of (expression_step p e c).0 (expression_fault refusal Fault other float p e c i)
   component_fault p (at.Length of r) i j = on_number_any Fails (unsigned_push 32 r c) (λ s. at.Length of s) (λ n. (list_or_over of n, event.Nothing)) at.Failed (λ s e. cc) (list_float of) (no_place why.BadNumber tt)
   component_fault p (at.Data more) i j = data_float more

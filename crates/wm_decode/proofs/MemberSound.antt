@@ -132,12 +132,12 @@ kind_fine (suc (suc zero)) = tt
 kind_fine (suc (suc (suc zero))) = tt
 kind_fine (suc (suc (suc (suc c)))) = tt
 
-desc_fine : (d : InImportDesc) (c : ℕ) → c < 2 ^ 8 → SoundDesc d → Fine SoundDesc (desc_push d c)
-desc_fine import.Kind c byte h = kind_fine c
-desc_fine (import.Func r) c byte h = number_fine SoundDesc (unsigned_push 32 r c) import.Func _ (unsigned_room 32 r c h byte) (λ s g. g) (λ n. tt)
-desc_fine (import.Table t) c byte h = within_fine SoundTable SoundDesc import.Table _ (table_type_push t c) (table_fine t c byte h) (λ r g. g)
-desc_fine (import.Memory l) c byte h = within_fine SoundLimits SoundDesc import.Memory _ (limits_push l c) (limits_fine l c byte h) (λ r g. g)
-desc_fine (import.Global g) c byte h = within_fine AnyGlobal SoundDesc import.Global _ (global_type_push g c) (any_fine (global_type_push g c)) (λ r i. tt)
+desc_fine : (p : Profile) (d : InImportDesc) (c : ℕ) → c < 2 ^ 8 → SoundDesc d → Fine SoundDesc (desc_push p d c)
+desc_fine p import.Kind c byte h = kind_fine c
+desc_fine p (import.Func r) c byte h = number_fine SoundDesc (unsigned_push 32 r c) import.Func _ (unsigned_room 32 r c h byte) (λ s g. g) (λ n. tt)
+desc_fine p (import.Table t) c byte h = within_fine SoundTable SoundDesc import.Table _ (table_type_push t c) (table_fine t c byte h) (λ r g. g)
+desc_fine p (import.Memory l) c byte h = within_fine SoundLimits SoundDesc import.Memory _ (limits_push l c) (limits_fine l c byte h) (λ r g. g)
+desc_fine p (import.Global g) c byte h = within_fine AnyGlobal SoundDesc import.Global _ (global_type_push p g c) (any_fine (global_type_push p g c)) (λ r i. tt)
 
 target_kind_fine : (c : ℕ) → Fine SoundTarget (target_kind_step c)
 target_kind_fine zero = fresh_32
@@ -150,15 +150,15 @@ target_fine : (t : InExportDesc) (c : ℕ) → c < 2 ^ 8 → SoundTarget t → F
 target_fine target.Kind c byte h = target_kind_fine c
 target_fine (target.Index k r) c byte h = number_fine SoundTarget (unsigned_push 32 r c) (λ s. target.Index k s) (λ n. Done (k, n)) (unsigned_room 32 r c h byte) (λ s g. g) (λ n. tt)
 
-run_fine : (r : InRun) (c : ℕ) → c < 2 ^ 8 → SoundRun r → Fine SoundRun (run_push r c)
-run_fine (run.Count r) c byte h = number_fine SoundRun (unsigned_push 32 r c) run.Count (λ n. More (run.Type n)) (unsigned_room 32 r c h byte) (λ s g. g) (λ n. tt)
-run_fine (run.Type n) c byte h = type_fine SoundRun (value_type_of c) (λ t. Done (n, t)) (λ t. tt)
+run_fine : (p : Profile) (r : InRun) (c : ℕ) → c < 2 ^ 8 → SoundRun r → Fine SoundRun (run_push p r c)
+run_fine p (run.Count r) c byte h = number_fine SoundRun (unsigned_push 32 r c) run.Count (λ n. More (run.Type n)) (unsigned_room 32 r c h byte) (λ s g. g) (λ n. tt)
+run_fine p (run.Type n) c byte h = type_fine SoundRun (value_type_of p c) (λ t. Done (n, t)) (λ t. tt)
 
-value_fine : (v : InValue) (c : ℕ) → c < 2 ^ 8 → SoundValue v → Fine SoundValue (value_push v c)
-value_fine (value.Import d) c byte h = within_fine SoundDesc SoundValue value.Import plain.Import (desc_push d c) (desc_fine d c byte h) (λ r g. g)
-value_fine (value.Table t) c byte h = within_fine SoundTable SoundValue value.Table plain.Table (table_type_push t c) (table_fine t c byte h) (λ r g. g)
-value_fine (value.Memory l) c byte h = within_fine SoundLimits SoundValue value.Memory plain.Memory (limits_push l c) (limits_fine l c byte h) (λ r g. g)
-value_fine (value.Export t) c byte h = within_fine SoundTarget SoundValue value.Export _ (target_push t c) (target_fine t c byte h) (λ r g. g)
+value_fine : (p : Profile) (v : InValue) (c : ℕ) → c < 2 ^ 8 → SoundValue v → Fine SoundValue (value_push p v c)
+value_fine p (value.Import d) c byte h = within_fine SoundDesc SoundValue value.Import plain.Import (desc_push p d c) (desc_fine p d c byte h) (λ r g. g)
+value_fine p (value.Table t) c byte h = within_fine SoundTable SoundValue value.Table plain.Table (table_type_push t c) (table_fine t c byte h) (λ r g. g)
+value_fine p (value.Memory l) c byte h = within_fine SoundLimits SoundValue value.Memory plain.Memory (limits_push l c) (limits_fine l c byte h) (λ r g. g)
+value_fine p (value.Export t) c byte h = within_fine SoundTarget SoundValue value.Export _ (target_push t c) (target_fine t c byte h) (λ r g. g)
 
 -- places in a code entry with so many bytes left, the next one included
 abbrev pub StandsEntry : ℕ → InEntry → Type 0
@@ -232,7 +232,7 @@ module _ (left : ℕ) (few : left < 2 ^ 32) where
 
   pub entry_may : (p : Profile) (q : InEntry) (c : ℕ) → c < 2 ^ 8 → StandsEntry (suc left) q → MayEnter left (entry_step p q c).0
   entry_may p (entry.RunCount r) c byte h = number_may (MayEnter left) r c entry.RunCount (λ n. (runs_or_body n, event.Nothing)) entry.Failed h byte (λ s g. (few, g)) (λ n l. runs_may n) tt
-  entry_may p (entry.Run more r) c byte h = value_may (MayEnter left) SoundRun (run_push r c) (λ s. entry.Run more s) _ entry.Failed (run_fine r c byte h) (λ s g. (few, g)) (λ x. runs_may more) (λ w. tt)
+  entry_may p (entry.Run more r) c byte h = value_may (MayEnter left) SoundRun (run_push p r c) (λ s. entry.Run more s) _ entry.Failed (run_fine p r c byte h) (λ s g. (few, g)) (λ x. runs_may more) (λ w. tt)
   entry_may p (entry.Body e) c byte h = op_may (expression_step p e c).0 (expression_sound p left e c byte h.1)
   entry_may p entry.Over c byte h = absurd h
   entry_may p (entry.Failed w) c byte h = absurd h
@@ -318,14 +318,14 @@ module _ (left : ℕ) (few : left < 2 ^ 32) where
   step_may : (p : Profile) (q : InMember) (c : ℕ) → c < 2 ^ 8 → Stands (suc left) q → MayGo left (member_step p q c).0
   step_may p at.TypeForm c byte h = cond_both (nat_eq c 0x60) _ _ (λ (x : InMember × Event). MayGo left x.0) (λ _. (few, fresh_32)) (λ _. tt)
   step_may p (at.ParamCount r) c byte h = number_may (MayGo left) r c at.ParamCount (λ n. (after_param n, event.Nothing)) at.Failed h byte (λ s g. (few, g)) (λ n l. param_may n) tt
-  step_may p (at.Param more) c byte h = type_may (MayGo left) (value_type_of c) (λ t. with_item_given (after_param more) (plain.Param t)) at.Failed (λ t. param_may more) (λ w. tt)
+  step_may p (at.Param more) c byte h = type_may (MayGo left) (value_type_of p c) (λ t. with_item_given (after_param more) (plain.Param t)) at.Failed (λ t. param_may more) (λ w. tt)
   step_may p (at.ResultCount r) c byte h = number_may (MayGo left) r c at.ResultCount (λ n. with_item_given (after_result n) (plain.ResultCount n)) at.Failed h byte (λ s g. (few, g)) (λ n l. result_may n) tt
-  step_may p (at.ResultType more) c byte h = type_may (MayGo left) (value_type_of c) (λ t. with_item_given (after_result more) (plain.OneResult t)) at.Failed (λ t. result_may more) (λ w. tt)
+  step_may p (at.ResultType more) c byte h = type_may (MayGo left) (value_type_of p c) (λ t. with_item_given (after_result more) (plain.OneResult t)) at.Failed (λ t. result_may more) (λ w. tt)
   step_may p (at.NameLength of r) c byte h = number_may (MayGo left) r c (λ s. at.NameLength of s) (after_length of) at.Failed h byte (λ s g. (few, g)) (λ n l. length_may of n) tt
   step_may p (at.Name of more) c byte h = name_step_may of more
-  step_may p (at.Value v) c byte h = value_may (MayGo left) SoundValue (value_push v c) at.Value (λ q. with_item_given at.Over q) at.Failed (value_fine v c byte h) (λ s g. (few, g)) (λ x. tt) (λ w. tt)
+  step_may p (at.Value v) c byte h = value_may (MayGo left) SoundValue (value_push p v c) at.Value (λ q. with_item_given at.Over q) at.Failed (value_fine p v c byte h) (λ s g. (few, g)) (λ x. tt) (λ w. tt)
   step_may p (at.Index of r) c byte h = number_may (MayGo left) r c (λ s. at.Index of s) (λ n. with_item_given (after_index of) (index_item of n)) at.Failed h byte (λ s g. (few, g)) (λ n l. index_may of) tt
-  step_may p (at.GlobalType g) c byte h = value_may (MayGo left) AnyGlobal (global_type_push g c) at.GlobalType (λ t. with_item_given (at.Constant constant.Global start) (plain.Global t)) at.Failed (any_fine (global_type_push g c)) (λ s i. (few, tt)) (λ x. (few, (tt, start_sound left few))) (λ w. tt)
+  step_may p (at.GlobalType g) c byte h = value_may (MayGo left) AnyGlobal (global_type_push p g c) at.GlobalType (λ t. with_item_given (at.Constant constant.Global start) (plain.Global t)) at.Failed (any_fine (global_type_push p g c)) (λ s i. (few, tt)) (λ x. (few, (tt, start_sound left few))) (λ w. tt)
   step_may p (at.Constant of e) c byte h = constant_may of (expression_step p e c).0 (expression_sound p left e c byte h.1)
   step_may p (at.Length of r) c byte h = number_may (MayGo left) r c (λ s. at.Length of s) (λ n. (list_or_over of n, event.Nothing)) at.Failed h byte (λ s g. (few, g)) (λ n l. list_may of n) tt
   step_may p (at.Data more) c byte h = data_may more

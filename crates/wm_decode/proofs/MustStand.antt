@@ -4,6 +4,7 @@ use Rattle.std.proofs.Common.{◌≡◌, ℕ, length, ◌-◌, inl, inr, Bool, t
 use Rattle.wm_syntax.specs.Spelling.{Form, Byte as OneByte}
 use Rattle.wm_syntax.specs.Types.{SpellsValType, SpellsLimits, SpellsBounds, SpellsVar}
 use Rattle.wm_syntax.specs.OpClasses.{first_byte}
+use Rattle.wm_syntax.specs.Profiles.{HasDesc, HasType}
 use Rattle.wm_syntax.specs.declared.profile.Profile.{Profile}
 use Rattle.wm_syntax.specs.declared.types.Limits.{Limits}
 use Rattle.wm_syntax.specs.declared.types.ValType.{ValType}
@@ -28,11 +29,11 @@ use Rattle.wm_decode.specs.declared.step.values.InRun.TheVariants as run
 use Rattle.wm_decode.specs.exact.OpSteps.{block_op}
 use Rattle.wm_decode.specs.Items.{Item, Marks}
 use Rattle.wm_decode.specs.MarkedForms.{MarkedForm, Byte, Then, Leaf, Sized, Filled, Entry, entry_marks, marks_ending, outside_mark}
-use Rattle.wm_decode.specs.Sections.{SpellsDesc, kind_byte}
+use Rattle.wm_decode.specs.Sections.{Those, SpellsDesc, kind_byte}
 use Rattle.wm_decode.specs.Grammar.{loose, strict}
 use Rattle.wm_decode.specs.Meanings.{spelled, an_instruction, a_value_type, a_block_type, a_function_type, an_element_type, a_flag, a_kind, a_zero}
 use Rattle.wm_decode.proofs.OpBytes.{NoLabel, has_first}
-use Rattle.wm_decode.proofs.OpRest.{op_rest, rest_good, Closed}
+use Rattle.wm_decode.proofs.OpRest.{op_rest, rest_named, Closed}
 use Rattle.wm_decode.proofs.ValueBytes.{limits_rest, table_rest, global_rest, desc_rest, target_rest, run_rest}
 use Rattle.wm_decode.proofs.ExpressionRest.{ExpressionRest}
 use Rattle.wm_decode.proofs.ExpressionSound.{some_after}
@@ -105,7 +106,7 @@ module _ (W : Form ℕ) where
   led_begins p part depth r v = record {
     can = λ b w.
         let h = v.can b w in
-        let g = some_after p part depth h.1 (rest_good p r h.1 (b ++ h.0) h.2).0 in
+        let g = some_after p part depth h.1 (rest_named p r h.1 (b ++ h.0) h.2) in
         (h.0 ++ g.0, marks_ending (Some (part h.1)) (b ++ h.0) ++ g.1, record { value = h.1; front = b ++ h.0; back = g.0; back_marks = g.1; bytes = sym (append_assoc b h.0 g.0); marks = refl; spelled = h.2; rest = g.2 });
     must = λ b k h. first_of h.front h.back b h.bytes (v.must h.value h.front h.spelled);
   }
@@ -126,8 +127,8 @@ module _ (p : Profile) where
   closed_begins o = whole (spelled p a_zero) (Closed o) (λ b w. (o, (refl, w))) (λ x b h. h.1)
 
   -- values
-  pub type_begins : ValuesBegin (spelled p a_value_type) SpellsValType
-  type_begins = whole (spelled p a_value_type) SpellsValType (λ b w. w) (λ t b h. (t, h))
+  pub type_begins : ValuesBegin (spelled p a_value_type) (Those (HasType p) SpellsValType)
+  type_begins = whole (spelled p a_value_type) (Those (HasType p) SpellsValType) (λ b w. w) (λ t b h. (t, h))
 
   bounds_begin : (min : ℕ) (max : Option ℕ) (b : List ℕ) → SpellsBounds min max b → (y rest : List ℕ) × (b ≡ y ++ rest) × spelled p a_flag y
   bounds_begin min None b h = (h.0, h.1, h.2, inl h.3)
@@ -146,13 +147,13 @@ module _ (p : Profile) where
     must = λ l b h. (h.0, h.1, h.2, h.3);
   }
 
-  pub global_begins : ValuesBegin (spelled p a_value_type) (global_rest global.Type)
+  pub global_begins : ValuesBegin (spelled p a_value_type) (global_rest p global.Type)
   global_begins = record {
-    can = λ b w. (0 ∷ [], record { ty = w.0; var = false }, (b, 0 ∷ [], refl, w.1, refl));
-    must = λ g b h. (h.0, h.1, h.2, (g.ty, h.3));
+    can = λ b w. (0 ∷ [], record { ty = w.0; var = false }, (w.1.0, (b, 0 ∷ [], refl, w.1.1, refl)));
+    must = λ g b h. let r = h.1 in (r.0, r.1, r.2, (g.ty, (h.0, r.3)));
   }
 
-  var_can : (t : ValType) (b : List ℕ) → spelled p a_flag b → (g : GlobalType) × global_rest (global.Var t) g b
+  var_can : (t : ValType) (b : List ℕ) → spelled p a_flag b → (g : GlobalType) × global_rest p (global.Var t) g b
   var_can t b (inl e) = (record { ty = t; var = false }, (refl, e))
   var_can t b (inr e) = (record { ty = t; var = true }, (refl, e))
 
@@ -160,22 +161,22 @@ module _ (p : Profile) where
   var_must false b h = inl h
   var_must true b h = inr h
 
-  pub var_begins : (t : ValType) → ValuesBegin (spelled p a_flag) (global_rest (global.Var t))
-  var_begins t = whole (spelled p a_flag) (global_rest (global.Var t)) (var_can t) (λ g b h. var_must g.var b h.1)
+  pub var_begins : (t : ValType) → ValuesBegin (spelled p a_flag) (global_rest p (global.Var t))
+  var_begins t = whole (spelled p a_flag) (global_rest p (global.Var t)) (var_can t) (λ g b h. var_must g.var b h.1)
 
-  desc_can : (b : List ℕ) (k : ExportKind) → OneByte (kind_byte k) b → (rest : List ℕ) × (d : ImportDesc) × SpellsDesc d (b ++ rest)
-  desc_can b kind.Func w = (0 ∷ [], desc.Func 0, (b, 0 ∷ [], refl, w, zero_u32))
-  desc_can b kind.Table w = (0x70 ∷ 0 ∷ 0 ∷ [], desc.Table (record { min = 0; max = None }), (b, 0x70 ∷ 0 ∷ 0 ∷ [], refl, w, (0x70 ∷ [], 0 ∷ 0 ∷ [], refl, refl, zero_limits)))
-  desc_can b kind.Memory w = (0 ∷ 0 ∷ [], desc.Memory (record { min = 0; max = None }), (b, 0 ∷ 0 ∷ [], refl, w, zero_limits))
-  desc_can b kind.Global w = let g : GlobalType = record { ty = I32; var = false } in (0x7F ∷ 0 ∷ [], desc.Global g, (b, 0x7F ∷ 0 ∷ [], refl, w, (0x7F ∷ [], 0 ∷ [], refl, refl, refl)))
+  desc_can : (b : List ℕ) (k : ExportKind) → OneByte (kind_byte k) b → (rest : List ℕ) × (d : ImportDesc) × Those (HasDesc p) SpellsDesc d (b ++ rest)
+  desc_can b kind.Func w = (0 ∷ [], desc.Func 0, (tt, (b, 0 ∷ [], refl, w, zero_u32)))
+  desc_can b kind.Table w = (0x70 ∷ 0 ∷ 0 ∷ [], desc.Table (record { min = 0; max = None }), (tt, (b, 0x70 ∷ 0 ∷ 0 ∷ [], refl, w, (0x70 ∷ [], 0 ∷ 0 ∷ [], refl, refl, zero_limits))))
+  desc_can b kind.Memory w = (0 ∷ 0 ∷ [], desc.Memory (record { min = 0; max = None }), (tt, (b, 0 ∷ 0 ∷ [], refl, w, zero_limits)))
+  desc_can b kind.Global w = let g : GlobalType = record { ty = I32; var = false } in (0x7F ∷ 0 ∷ [], desc.Global g, (refl, (b, 0x7F ∷ 0 ∷ [], refl, w, (0x7F ∷ [], 0 ∷ [], refl, refl, refl))))
 
-  desc_must : (d : ImportDesc) (b : List ℕ) → SpellsDesc d b → (y rest : List ℕ) × (b ≡ y ++ rest) × spelled p a_kind y
-  desc_must (desc.Func x) b h = (h.0, h.1, h.2, (kind.Func, h.3))
-  desc_must (desc.Table l) b h = (h.0, h.1, h.2, (kind.Table, h.3))
-  desc_must (desc.Memory l) b h = (h.0, h.1, h.2, (kind.Memory, h.3))
-  desc_must (desc.Global g) b h = (h.0, h.1, h.2, (kind.Global, h.3))
+  desc_must : (d : ImportDesc) (b : List ℕ) → Those (HasDesc p) SpellsDesc d b → (y rest : List ℕ) × (b ≡ y ++ rest) × spelled p a_kind y
+  desc_must (desc.Func x) b h = let r = h.1 in (r.0, r.1, r.2, (kind.Func, r.3))
+  desc_must (desc.Table l) b h = let r = h.1 in (r.0, r.1, r.2, (kind.Table, r.3))
+  desc_must (desc.Memory l) b h = let r = h.1 in (r.0, r.1, r.2, (kind.Memory, r.3))
+  desc_must (desc.Global g) b h = let r = h.1 in (r.0, r.1, r.2, (kind.Global, r.3))
 
-  pub desc_begins : ValuesBegin (spelled p a_kind) (desc_rest import.Kind)
+  pub desc_begins : ValuesBegin (spelled p a_kind) (desc_rest p import.Kind)
   desc_begins = record { can = λ b w. desc_can b w.0 w.1; must = desc_must }
 
   pub target_begins : ValuesBegin (spelled p a_kind) (target_rest target.Kind)
@@ -184,8 +185,8 @@ module _ (p : Profile) where
     must = λ t b h. (h.0, h.1, h.2, (t.0, h.3));
   }
 
-  pub run_begins : (n : ℕ) → ValuesBegin (spelled p a_value_type) (run_rest (run.Type n))
-  run_begins n = whole (spelled p a_value_type) (run_rest (run.Type n)) (λ b w. ((n, w.0), (refl, w.1))) (λ x b h. (x.1, h.1))
+  pub run_begins : (n : ℕ) → ValuesBegin (spelled p a_value_type) (run_rest p (run.Type n))
+  run_begins n = whole (spelled p a_value_type) (run_rest p (run.Type n)) (λ b w. ((n, w.0), (refl, w.1.0, w.1.1))) (λ x b h. (x.1, (h.1, h.2)))
 
   -- what begins a function type
   pub form_begins : (x : Option Item) → PartsBegin (spelled p a_function_type) (Byte 0x60 x) (Byte 0x60 x)

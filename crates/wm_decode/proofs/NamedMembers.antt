@@ -1,6 +1,7 @@
 -- An import and an export, taken at once, are what the byte step makes of them.
 use Rattle.std.proofs.Common.{◌≡◌, ℕ, suc, ◌+◌, ◌-◌, ◌<◌, ◌≤◌, List, Some, None, Result, Ok, IfErr, length, slice_index, slice_range, refl, ◌∙◌, ap, arith}
 use Rattle.std.specs.Result.{result_err}
+use Rattle.wm_syntax.specs.declared.profile.Profile.{Profile}
 use Rattle.wm_syntax.specs.declared.why.Why.{Why}
 use Rattle.wm_syntax.specs.declared.why.Why.TheVariants as why
 use Rattle.wm_syntax.specs.declared.modules.ImportDesc.TheVariants as desc
@@ -43,30 +44,30 @@ abbrev framed : SectionKind → ℕ → ℕ → ℕ → InMember × Event → Ma
 framed of f more left z = (machine_in_member of f (suc more) left z.0, z.1)
 
 -- an import's kind and the index of its function's type
-function_alone : (left c : ℕ) → c ≡ 0 → StepsTo section_kind.Import left (at.Value (value.Import import.Kind)) c (record { left = left; at = at.Value (value.Import (import.Func fresh)); part = None })
-function_alone left c is p f more =
+function_alone : (p : Profile) (left c : ℕ) → c ≡ 0 → StepsTo p section_kind.Import left (at.Value (value.Import import.Kind)) c (record { left = left; at = at.Value (value.Import (import.Func fresh)); part = None })
+function_alone p left c is f more =
     ap (λ y. framed section_kind.Import f more left (on_value (of_import (desc_kind_step y)) at.Value (λ q. with_item_given at.Over q) at.Failed)) is
 
-type_reads : (left : ℕ) → 0 < left
-    → ReadsNumber section_kind.Import left (λ s. at.Value (value.Import (import.Func s))) (λ v. record { left = left - 1; at = at.NameLength name.ImportModule fresh; part = Some (plain.Import (desc.Func v)) })
-type_reads left some = record {
-  goes_on = λ r s c e p f more. ap (λ y. framed section_kind.Import f more left (on_value (of_import (read_number y import.Func (λ n. Done (desc.Func n)))) at.Value (λ q. with_item_given at.Over q) at.Failed)) e;
-  ends = λ r s c v e p f more.
+type_reads : (p : Profile) (left : ℕ) → 0 < left
+    → ReadsNumber p section_kind.Import left (λ s. at.Value (value.Import (import.Func s))) (λ v. record { left = left - 1; at = at.NameLength name.ImportModule fresh; part = Some (plain.Import (desc.Func v)) })
+type_reads p left some = record {
+  goes_on = λ r s c e f more. ap (λ y. framed section_kind.Import f more left (on_value (of_import (read_number y import.Func (λ n. Done (desc.Func n)))) at.Value (λ q. with_item_given at.Over q) at.Failed)) e;
+  ends = λ r s c v e f more.
       let one : left ≡ suc (left - 1) = omega arith in
       ap (λ y. framed section_kind.Import f more left (on_value (of_import (read_number y import.Func (λ n. Done (desc.Func n)))) at.Value (λ q. with_item_given at.Over q) at.Failed)) e
       ∙ ap (λ n. framed section_kind.Import f more n (with_item_given at.Over (plain.Import (desc.Func v)))) one;
 }
 
 -- what an export gives out
-kind_alone : (left c : ℕ) (k : ExportKind) → IsKindByte c k → StepsTo section_kind.Export left (at.Value (value.Export target.Kind)) c (record { left = left; at = at.Value (value.Export (target.Index k fresh)); part = None })
-kind_alone left c k is p f more =
+kind_alone : (p : Profile) (left c : ℕ) (k : ExportKind) → IsKindByte c k → StepsTo p section_kind.Export left (at.Value (value.Export target.Kind)) c (record { left = left; at = at.Value (value.Export (target.Index k fresh)); part = None })
+kind_alone p left c k is f more =
     ap (λ y. framed section_kind.Export f more left (on_value (of_export y) at.Value (λ q. with_item_given at.Over q) at.Failed)) is
 
-index_reads : (left : ℕ) (k : ExportKind) → 0 < left
-    → ReadsNumber section_kind.Export left (λ s. at.Value (value.Export (target.Index k s))) (λ v. record { left = left - 1; at = at.NameLength name.Export fresh; part = Some (plain.Export k v) })
-index_reads left k some = record {
-  goes_on = λ r s c e p f more. ap (λ y. framed section_kind.Export f more left (on_value (of_export (read_number y (λ s. target.Index k s) (λ n. Done (k, n)))) at.Value (λ q. with_item_given at.Over q) at.Failed)) e;
-  ends = λ r s c v e p f more.
+index_reads : (p : Profile) (left : ℕ) (k : ExportKind) → 0 < left
+    → ReadsNumber p section_kind.Export left (λ s. at.Value (value.Export (target.Index k s))) (λ v. record { left = left - 1; at = at.NameLength name.Export fresh; part = Some (plain.Export k v) })
+index_reads p left k some = record {
+  goes_on = λ r s c e f more. ap (λ y. framed section_kind.Export f more left (on_value (of_export (read_number y (λ s. target.Index k s) (λ n. Done (k, n)))) at.Value (λ q. with_item_given at.Over q) at.Failed)) e;
+  ends = λ r s c v e f more.
       let one : left ≡ suc (left - 1) = omega arith in
       ap (λ y. framed section_kind.Export f more left (on_value (of_export (read_number y (λ s. target.Index k s) (λ n. Done (k, n)))) at.Value (λ q. with_item_given at.Over q) at.Failed)) e
       ∙ ap (λ n. framed section_kind.Export f more n (with_item_given at.Over (plain.Export k v))) one;
@@ -83,61 +84,61 @@ exports_start i =
     let a : i.more - 0 ≡ i.more = omega arith in
     ap (λ x. machine.Section section_kind.Export i.functions x i.left (at.NameLength name.Export fresh)) a
 
-module _ {H : Type 0} (after : H → Item → Result H Why) (may : H → Item → Type 0) (bytes : List ℕ) (m : Machine) (h e : H) (start : InNames) (i left : ℕ) where
+module _ {H : Type 0} (after : H → Item → Result H Why) (may : H → Item → Type 0) (p : Profile) (bytes : List ℕ) (m : Machine) (h e : H) (start : InNames) (i left : ℕ) where
   -- an import after other bytes: the name of its module, its own, and what it brings in
-  module _ (middle : ℕ) (before : Advances after may bytes m h (record { used = i; refused = None }) (before_import (names_after start i left)) e)
+  module _ (middle : ℕ) (before : Advances after may p bytes m h (record { used = i; refused = None }) (before_import (names_after start i left)) e)
       (lies : NameLies bytes i middle) (inside : middle ≤ length bytes) (section : middle ≤ start.more) where
     pub module_named : {U : Type 0} (g : H) (u : Shortcut) (r : Result U Why) → u.used ≡ middle → u.refused ≡ result_err r → Taken (name_taken after name.ImportModule (slice_range bytes (i + 1) middle) e) r g
-        → Advances after may bytes m h u (behind_name section_kind.Import name.ImportModule start.functions (start.more - middle) left) g
-    module_named g u r used is given = name_more after may section_kind.Import name.ImportModule (λ f more l. refl) start.functions left bytes m h e g start.more i middle u r before lies inside section used is given
+        → Advances after may p bytes m h u (behind_name section_kind.Import name.ImportModule start.functions (start.more - middle) left) g
+    module_named g u r used is given = name_more after may p section_kind.Import name.ImportModule (λ f more l. refl) start.functions left bytes m h e g start.more i middle u r before lies inside section used is given
 
     module _ (g : H) (stop : ℕ) (named : name_taken after name.ImportModule (slice_range bytes (i + 1) middle) e ≡ Ok g)
         (next : NameLies bytes middle stop) (within : stop ≤ length bytes) (room : stop ≤ start.more) where
       pub import_named : {U : Type 0} (d : H) (u : Shortcut) (r : Result U Why) → u.used ≡ stop → u.refused ≡ result_err r → Taken (name_taken after name.ImportName (slice_range bytes (middle + 1) stop) g) r d
-          → Advances after may bytes m h u (behind_name section_kind.Import name.ImportName start.functions (start.more - stop) left) d
+          → Advances after may p bytes m h u (behind_name section_kind.Import name.ImportName start.functions (start.more - stop) left) d
       import_named d u r used is given =
-          name_more after may section_kind.Import name.ImportName (λ f more l. refl) start.functions left bytes m h g d start.more middle stop u r
+          name_more after may p section_kind.Import name.ImportName (λ f more l. refl) start.functions left bytes m h g d start.more middle stop u r
           (module_named g (record { used = middle; refused = None }) ok refl refl named) next within room used is given
 
       pub import_taken : {U : Type 0} (d c : H) (x last : ℕ) (u : Shortcut) (r : Result U Why) → name_taken after name.ImportName (slice_range bytes (middle + 1) stop) g ≡ Ok d
           → slice_index bytes stop ≡ 0 → LiesAt (unsigned_push 32) bytes (stop + 1) last x → last ≤ start.more → 0 < left
           → u.used ≡ last → u.refused ≡ result_err r → Taken (after d (import_desc (desc.Func x))) r c → IfErr r (λ w. w ≡ why.Memory → may d (import_desc (desc.Func x)))
-          → Advances after may bytes m h u (before_import (names_after start last (left - 1))) c
+          → Advances after may p bytes m h u (before_import (names_after start last (left - 1))) c
       import_taken d c x last u r given kind index far some used is taken quiet =
           let here : Place = record { of = section_kind.Import; functions = start.functions; more = start.more - stop; left = left; at = at.Value (value.Import import.Kind) } in
           let first : Stepped = record { left = left; at = at.Value (value.Import (import.Func fresh)); part = None } in
           let order : stop + 1 < last = index.some in
           let whole : last ≤ length bytes = index.within in
           let place : start.more - last ≡ start.more - stop - 1 - (last - (stop + 1)) = omega arith in
-          let begun : Advances after may bytes m h (record { used = stop + 1; refused = None }) (machine.Section section_kind.Import start.functions (start.more - stop - 1) left (at.Value (value.Import (import.Func fresh)))) d =
-          advances_more after may bytes m (machine.Section section_kind.Import start.functions (start.more - stop - 1) left (at.Value (value.Import (import.Func fresh)))) h d d here first stop (record { used = stop + 1; refused = None }) ok
-          (import_named d (record { used = stop; refused = None }) ok refl refl given) (omega arith) (omega arith) (function_alone left (slice_index bytes stop) kind) refl refl refl tt refl in
-          number_taken after may bytes m (before_import (names_after start last (left - 1))) h d c section_kind.Import start.functions left (λ s. at.Value (value.Import (import.Func s)))
-          (λ v. record { left = left - 1; at = at.NameLength name.ImportModule fresh; part = Some (plain.Import (desc.Func v)) }) (type_reads left some) last x u r whole used is taken quiet
+          let begun : Advances after may p bytes m h (record { used = stop + 1; refused = None }) (machine.Section section_kind.Import start.functions (start.more - stop - 1) left (at.Value (value.Import (import.Func fresh)))) d =
+          advances_more after may p bytes m (machine.Section section_kind.Import start.functions (start.more - stop - 1) left (at.Value (value.Import (import.Func fresh)))) h d d here first stop (record { used = stop + 1; refused = None }) ok
+          (import_named d (record { used = stop; refused = None }) ok refl refl given) (omega arith) (omega arith) (function_alone p left (slice_index bytes stop) kind) refl refl refl tt refl in
+          number_taken after may p bytes m (before_import (names_after start last (left - 1))) h d c section_kind.Import start.functions left (λ s. at.Value (value.Import (import.Func s)))
+          (λ v. record { left = left - 1; at = at.NameLength name.ImportModule fresh; part = Some (plain.Import (desc.Func v)) }) (type_reads p left some) last x u r whole used is taken quiet
           (last - (stop + 1)) (stop + 1) (start.more - stop - 1) fresh (omega arith) (omega arith) index.spelled begun
           (ap (λ n. machine.Section section_kind.Import start.functions n (left - 1) (at.NameLength name.ImportModule fresh)) place)
 
   -- an export after other bytes: its name, and what it gives out
-  module _ (stop : ℕ) (before : Advances after may bytes m h (record { used = i; refused = None }) (before_export (names_after start i left)) e)
+  module _ (stop : ℕ) (before : Advances after may p bytes m h (record { used = i; refused = None }) (before_export (names_after start i left)) e)
       (lies : NameLies bytes i stop) (inside : stop ≤ length bytes) (section : stop ≤ start.more) where
     pub export_named : {U : Type 0} (g : H) (u : Shortcut) (r : Result U Why) → u.used ≡ stop → u.refused ≡ result_err r → Taken (name_taken after name.Export (slice_range bytes (i + 1) stop) e) r g
-        → Advances after may bytes m h u (behind_name section_kind.Export name.Export start.functions (start.more - stop) left) g
-    export_named g u r used is given = name_more after may section_kind.Export name.Export (λ f more l. refl) start.functions left bytes m h e g start.more i stop u r before lies inside section used is given
+        → Advances after may p bytes m h u (behind_name section_kind.Export name.Export start.functions (start.more - stop) left) g
+    export_named g u r used is given = name_more after may p section_kind.Export name.Export (λ f more l. refl) start.functions left bytes m h e g start.more i stop u r before lies inside section used is given
 
     pub export_taken : {U : Type 0} (d c : H) (k : ExportKind) (x last : ℕ) (u : Shortcut) (r : Result U Why) → name_taken after name.Export (slice_range bytes (i + 1) stop) e ≡ Ok d
         → IsKindByte (slice_index bytes stop) k → LiesAt (unsigned_push 32) bytes (stop + 1) last x → last ≤ start.more → 0 < left
         → u.used ≡ last → u.refused ≡ result_err r → Taken (after d (export k x)) r c → IfErr r (λ w. w ≡ why.Memory → may d (export k x))
-        → Advances after may bytes m h u (before_export (names_after start last (left - 1))) c
+        → Advances after may p bytes m h u (before_export (names_after start last (left - 1))) c
     export_taken d c k x last u r given kind index far some used is taken quiet =
         let here : Place = record { of = section_kind.Export; functions = start.functions; more = start.more - stop; left = left; at = at.Value (value.Export target.Kind) } in
         let first : Stepped = record { left = left; at = at.Value (value.Export (target.Index k fresh)); part = None } in
         let order : stop + 1 < last = index.some in
         let whole : last ≤ length bytes = index.within in
         let place : start.more - last ≡ start.more - stop - 1 - (last - (stop + 1)) = omega arith in
-        let begun : Advances after may bytes m h (record { used = stop + 1; refused = None }) (machine.Section section_kind.Export start.functions (start.more - stop - 1) left (at.Value (value.Export (target.Index k fresh)))) d =
-        advances_more after may bytes m (machine.Section section_kind.Export start.functions (start.more - stop - 1) left (at.Value (value.Export (target.Index k fresh)))) h d d here first stop (record { used = stop + 1; refused = None }) ok
-        (export_named d (record { used = stop; refused = None }) ok refl refl given) (omega arith) (omega arith) (kind_alone left (slice_index bytes stop) k kind) refl refl refl tt refl in
-        number_taken after may bytes m (before_export (names_after start last (left - 1))) h d c section_kind.Export start.functions left (λ s. at.Value (value.Export (target.Index k s)))
-        (λ v. record { left = left - 1; at = at.NameLength name.Export fresh; part = Some (plain.Export k v) }) (index_reads left k some) last x u r whole used is taken quiet
+        let begun : Advances after may p bytes m h (record { used = stop + 1; refused = None }) (machine.Section section_kind.Export start.functions (start.more - stop - 1) left (at.Value (value.Export (target.Index k fresh)))) d =
+        advances_more after may p bytes m (machine.Section section_kind.Export start.functions (start.more - stop - 1) left (at.Value (value.Export (target.Index k fresh)))) h d d here first stop (record { used = stop + 1; refused = None }) ok
+        (export_named d (record { used = stop; refused = None }) ok refl refl given) (omega arith) (omega arith) (kind_alone p left (slice_index bytes stop) k kind) refl refl refl tt refl in
+        number_taken after may p bytes m (before_export (names_after start last (left - 1))) h d c section_kind.Export start.functions left (λ s. at.Value (value.Export (target.Index k s)))
+        (λ v. record { left = left - 1; at = at.NameLength name.Export fresh; part = Some (plain.Export k v) }) (index_reads p left k some) last x u r whole used is taken quiet
         (last - (stop + 1)) (stop + 1) (start.more - stop - 1) fresh (omega arith) (omega arith) index.spelled begun
         (ap (λ n. machine.Section section_kind.Export start.functions n (left - 1) (at.NameLength name.Export fresh)) place)

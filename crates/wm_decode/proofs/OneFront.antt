@@ -16,18 +16,19 @@ use Rattle.wm_syntax.proofs.SameTypes.{block_tells}
 use Rattle.wm_syntax.specs.OpClasses.{class_of, first_byte}
 use Rattle.wm_syntax.specs.Opcodes.{opcode}
 use Rattle.wm_syntax.specs.Spelling.{Form, Byte as OneByte, ◌▸◌}
-use Rattle.wm_syntax.specs.Types.{SpellsU32, SpellsBlockType}
+use Rattle.wm_syntax.specs.Types.{SpellsU32, SpellsBlockType, SpellsGlobalType, SpellsValType}
+use Rattle.wm_syntax.specs.Profiles.{HasDesc, HasType}
 use Rattle.wm_syntax.specs.Instructions.{SpellsOp}
 use Rattle.wm_syntax.proofs.Unambiguous.{same_u32, same_simple}
 use Rattle.wm_syntax.proofs.OneInstruction.{class_there}
-use Rattle.wm_decode.specs.Sections.{kind_byte, header}
+use Rattle.wm_decode.specs.Sections.{SpellsDesc, kind_byte, header}
 use Rattle.wm_decode.specs.Items.{Item, entry, closing, Mark, Marks, new_type, param, result_count, one_result, import_module, import_name, import_desc, function, table, memory, global, const_op, export_name, export, start, element, element_function, body, locals, body_op, segment, data_byte}
 use Rattle.wm_decode.specs.MarkedForms.{MarkedForm, Empty, Byte, Literal, Then, Times, Leaf, Number, Vector, Index, Name, Sized, Filled, Entry, nothing_at, outside_mark, marks_ending, name_byte_marks, name_marks, in_zone, entry_marks}
-use Rattle.wm_decode.specs.Grammar.{loose, ValueType, ResultTypes, FunctionType, Import, HasLabels, IsExpression, EachOp, Expression, Global, Export, Element, Run, Code, DataByte, Segment, Paired, Contents, Section, Custom, Optional, Chain, Module}
+use Rattle.wm_decode.specs.Grammar.{loose, ValueType, ResultTypes, FunctionType, Import, HasLabels, IsExpression, EachOp, Expression, Global, HasGlobalType, Export, Element, Run, Code, DataByte, Segment, Paired, Contents, Section, Custom, Optional, Chain, Module}
 use Rattle.wm_syntax.specs.Instructions.{openings, endings}
 use Rattle.wm_decode.specs.Fronts.{IsFront}
 use Rattle.wm_decode.proofs.FirstBytes.{head_same, tail_same, not_nil}
-use Rattle.wm_decode.proofs.OneSpelling.{Same, Once, byte_same, same_as, tagged, once_then, once_type, once_limits, once_table, once_global_type, once_desc, once_kind}
+use Rattle.wm_decode.proofs.OneSpelling.{Same, Once, byte_same, same_as, tagged, once_then, once_type, once_those, once_limits, once_table, once_global_type, once_desc, once_kind, once_run}
 
 abbrev Done : Type 0
 Done = Unit {0}
@@ -324,25 +325,25 @@ module _ (part : Op → Item) where
   expression_alike p a j b k h i = ops_alike 0 [] h.0 i.0 h.1.labels i.1.labels h.1 i.1 a j b k h.3 i.3
 
 -- members
-value_alike : (part : ValType → Item) → Alike (ValueType part)
-value_alike part = leaf_alike once_type part
+value_alike : (p : Profile) (part : ValType → Item) → Alike (ValueType p part)
+value_alike p part = leaf_alike (once_those (HasType p) SpellsValType once_type) part
 
-results_alike : Alike ResultTypes
-results_alike = number_alike (λ n. Some (result_count n)) (λ n. Times n (ValueType one_result)) (λ n. Times n (ValueType one_result)) (times_alike (value_alike one_result))
+results_alike : (p : Profile) → Alike (ResultTypes p)
+results_alike p = number_alike (λ n. Some (result_count n)) (λ n. Times n (ValueType p one_result)) (λ n. Times n (ValueType p one_result)) (times_alike (value_alike p one_result))
 
-function_type_alike : Alike FunctionType
-function_type_alike = then_alike (byte_alike 0x60 (Some new_type)) (then_alike (vector_alike (value_alike param)) results_alike)
+function_type_alike : (p : Profile) → Alike (FunctionType p)
+function_type_alike p = then_alike (byte_alike 0x60 (Some new_type)) (then_alike (vector_alike (value_alike p param)) (results_alike p))
 
-import_alike : Alike (Import loose)
-import_alike = then_alike (name_alike (λ text. Some (import_module text))) (then_alike (name_alike (λ text. Some (import_name text))) (leaf_alike once_desc import_desc))
+import_alike : (p : Profile) → Alike (Import loose p)
+import_alike p = then_alike (name_alike (λ text. Some (import_module text))) (then_alike (name_alike (λ text. Some (import_name text))) (leaf_alike (once_those (HasDesc p) SpellsDesc once_desc) import_desc))
 
 export_alike : Alike (Export loose)
 export_alike =
     then_alike (name_alike (λ text. Some (export_name text)))
     (leaf_alike {X = ExportKind × ℕ} {V = λ t. OneByte (kind_byte t.0) ▸ SpellsU32 t.1} (once_then once_kind same_u32) (λ t. export t.0 t.1))
 
-run_alike : Alike Run
-run_alike = leaf_alike (once_then same_u32 once_type) (λ r. locals r.0 r.1)
+run_alike : (p : Profile) → Alike (Run p)
+run_alike p = leaf_alike (once_run p) (λ r. locals r.0 r.1)
 
 data_once : Once (λ c b. (b ≡ c ∷ []) × (c < 2 ^ 8))
 data_once c d a b u v h k e = byte_same c d a b u v h.0 k.0 e
@@ -352,7 +353,7 @@ data_alike = leaf_alike data_once data_byte
 
 module _ (p : Profile) where
   global_alike : Alike (Global p)
-  global_alike = then_alike (leaf_alike once_global_type global) (expression_alike const_op p)
+  global_alike = then_alike (leaf_alike (once_those (HasGlobalType p) SpellsGlobalType once_global_type) global) (expression_alike const_op p)
 
   element_alike : Alike (Element p)
   element_alike = then_alike (index_alike element) (then_alike (expression_alike const_op p) (vector_alike (index_alike element_function)))
@@ -362,8 +363,8 @@ module _ (p : Profile) where
 
   code_alike : Alike (Code loose p)
   code_alike =
-      let S : ℕ → MarkedForm = λ n. Sized loose n (Entry (Then (Vector Run) (Expression p body_op))) in
-      number_alike (λ n. Some body) S S (λ n. sized_meets Done n n (entry_alike (then_alike (vector_alike run_alike) (expression_alike body_op p))))
+      let S : ℕ → MarkedForm = λ n. Sized loose n (Entry (Then (Vector (Run p)) (Expression p body_op))) in
+      number_alike (λ n. Some body) S S (λ n. sized_meets Done n n (entry_alike (then_alike (vector_alike (run_alike p)) (expression_alike body_op p))))
 
   -- however many functions there are
   paired_alike : {P : MarkedForm} (f g : ℕ) → Alike P → Meets (Paired loose f P) (Paired loose g P) Done
@@ -371,8 +372,8 @@ module _ (p : Profile) where
       number_alike nothing_at (λ n b k. (loose → n ≡ f) × Times n P b k) (λ n b k. (loose → n ≡ g) × Times n P b k) (λ n a j b k x y. times_alike h n a j b k x.1 y.1)
 
   contents_alike : (f g id : ℕ) → Meets (Contents loose p f id) (Contents loose p g id) Done
-  contents_alike f g (suc zero) = vector_alike function_type_alike
-  contents_alike f g (suc (suc zero)) = vector_alike import_alike
+  contents_alike f g (suc zero) = vector_alike (function_type_alike p)
+  contents_alike f g (suc (suc zero)) = vector_alike (import_alike p)
   contents_alike f g (suc (suc (suc zero))) = paired_alike f g (index_alike function)
   contents_alike f g (suc (suc (suc (suc zero)))) = vector_alike (leaf_alike once_table table)
   contents_alike f g (suc (suc (suc (suc (suc zero))))) = vector_alike (leaf_alike once_limits memory)

@@ -1,20 +1,15 @@
 -- The flat value determines the module, and an input's marks say it.
-use Rattle.std.proofs.Common.{ℕ, ◌≡◌, IsTrue, List, [], ◌∷◌, ◌++◌, refl, sym, ◌∙◌, ap, subst}
-use Rattle.std.specs.List.{AllByRecursion, AllZip}
+use Rattle.std.proofs.Common.{ℕ, ◌≡◌, List, [], ◌∷◌, ◌++◌, refl, sym, ◌∙◌, ap, subst}
+use Rattle.std.specs.List.{AllZip}
 use Rattle.std.proofs.lemmas.List.{append_cancel_right}
 use Rattle.wm_syntax.specs.declared.types.Const.{Const}
 use Rattle.wm_syntax.specs.declared.types.Const.TheVariants as const
-use Rattle.wm_syntax.specs.declared.instructions.Op.{Op}
 use Rattle.wm_syntax.specs.declared.instructions.Op.TheVariants as op
 use Rattle.wm_syntax.specs.declared.profile.Profile.{Profile}
-use Rattle.wm_syntax.specs.declared.profile.Feature.{Feature}
-use Rattle.wm_syntax.specs.declared.profile.Feature.TheVariants.{Base, SignExtension}
-use Rattle.wm_syntax.specs.declared.profile.Profile.TheVariants.{Two}
-use Rattle.wm_syntax.specs.Instructions.{HasOps, ops_of}
+use Rattle.wm_syntax.specs.Instructions.{HasOps}
 use Rattle.wm_syntax.specs.Modules.{Function, GlobalDef, Element, Segment, Module, constant}
-use Rattle.wm_syntax.specs.Profiles.{HasInstructions, IsOpOf, IsOf, feature_of, has}
-use Rattle.wm_syntax.proofs.Bodies.{has_ops, same_instructions}
-use Rattle.wm_syntax.proofs.ProfileLaws.{by_ops}
+use Rattle.wm_syntax.specs.Profiles.{IsOf}
+use Rattle.wm_syntax.proofs.Bodies.{same_instructions}
 use Rattle.wm_decode.specs.Items.{Marks, items_at}
 use Rattle.wm_decode.specs.Sections.{SpellsModule}
 use Rattle.wm_decode.specs.Grammar.{strict, Module as Whole}
@@ -38,14 +33,15 @@ zip_same R same (x ∷ xs) (x' ∷ xs') (y ∷ ys) h k =
 
 pub constants_same : (c d : Const) → constant c ≡ constant d → c ≡ d
 constants_same (const.I32 n) (const.I32 m) e = cc
-constants_same (const.I32 n) (const.I64 m) e = cc
-constants_same (const.I32 n) (const.Global m) e = cc
-constants_same (const.I64 n) (const.I32 m) e = cc
+constants_same (const.I32 n) _ e = cc
 constants_same (const.I64 n) (const.I64 m) e = cc
-constants_same (const.I64 n) (const.Global m) e = cc
-constants_same (const.Global n) (const.I32 m) e = cc
-constants_same (const.Global n) (const.I64 m) e = cc
+constants_same (const.I64 n) _ e = cc
+constants_same (const.F32 n) (const.F32 m) e = cc
+constants_same (const.F32 n) _ e = cc
+constants_same (const.F64 n) (const.F64 m) e = cc
+constants_same (const.F64 n) _ e = cc
 constants_same (const.Global n) (const.Global m) e = cc
+constants_same (const.Global n) _ e = cc
 
 ops_same : (c d : Const) → constant_ops c ≡ constant_ops d → c ≡ d
 ops_same c d e = constants_same c d (cc)
@@ -120,34 +116,14 @@ module_of_flat m n v r s =
 pub module_of_parts : (m n : Module) (v w : FlatModule) → IsFlatOf m v → IsFlatOf n w → flat_items v ≡ flat_items w → m ≡ n
 module_of_parts m n v w r s e = module_of_flat m n v r (subst (IsFlatOf n) (sym (one_flat v w e)) s)
 
--- every module is of the second profile
-two_has : (f : Feature) → IsTrue (has Two f)
-two_has Base = refl
-two_has SignExtension = refl
-
-op_of_two : (o : Op) → IsOpOf Two o
-op_of_two (op.Simple i) = two_has (feature_of i)
-op_of_two _ = tt
-
-ops_of_two : (ops : List Op) → AllByRecursion (IsOpOf Two) ops
-ops_of_two [] = tt
-ops_of_two (o ∷ ops) = (op_of_two o, ops_of_two ops)
-
-functions_of_two : (fs : List Function) → AllByRecursion (λ f. HasInstructions Two f.body) fs
-functions_of_two [] = tt
-functions_of_two (f ∷ fs) = ((by_ops Two f.body (ops_of f.body) (has_ops f.body)).1 (ops_of_two (ops_of f.body)), functions_of_two fs)
-
-pub module_of_two : (m : Module) → IsOf Two m
-module_of_two m = functions_of_two m.functions
-
 -- an input's marks, and the flat value of the module that it spells
-pub marks_to : (p : Profile) (m : Module) (b : List ℕ) → SpellsModule m b → IsOf p m → (k : Marks) × (v : FlatModule) × Whole strict p b k × IsFlatOf m v × (items_at k ≡ flat_items v)
+pub marks_to : (p : Profile) (m : Module) (b : List ℕ) → SpellsModule p m b → IsOf p m → (k : Marks) × (v : FlatModule) × Whole strict p b k × IsFlatOf m v × (items_at k ≡ flat_items v)
 marks_to p m b h g =
     let u = flat_to p m b h g in
     let k = items_from p u.0 b u.2 in
     (k.0, u.0, k.1, u.1, k.2)
 
-pub marks_from : (p : Profile) (m : Module) (v : FlatModule) (b : List ℕ) (k : Marks) → Whole strict p b k → IsFlatOf m v → items_at k ≡ flat_items v → SpellsModule m b × IsOf p m
+pub marks_from : (p : Profile) (m : Module) (v : FlatModule) (b : List ℕ) (k : Marks) → Whole strict p b k → IsFlatOf m v → items_at k ≡ flat_items v → SpellsModule p m b × IsOf p m
 marks_from p m v b k h r e =
     let u = items_to p b k h in
     flat_from p m v b r (subst (λ w. SpellsFlat p w b) (one_flat u.0 v (sym u.2 ∙ e)) u.1)

@@ -12,7 +12,11 @@ use Rattle.wm_syntax.specs.Instructions.{Instructions, SpellsExpression}
 use Rattle.wm_syntax.specs.Modules.{Function, Module, constant_body}
 use Rattle.wm_syntax.proofs.Unambiguous.{same_u32}
 use Rattle.wm_syntax.proofs.OneInstruction.{one_expression}
-use Rattle.wm_decode.specs.Sections.{Sized, Section, ListSection, StartSection, Custom, Customs, SpellsCustom, header, SpellsConst, SpellsDesc, SpellsImport, SpellsGlobal, SpellsExport, SpellsElement, SpellsLocals, SpellsSegment, SpellsModule, kind_byte}
+use Rattle.wm_decode.specs.Sections.{Sized, Those, Section, ListSection, StartSection, Custom, Customs, SpellsCustom, header, SpellsConst, SpellsDesc, SpellsImport, SpellsGlobal, SpellsExport, SpellsElement, SpellsRun, SpellsLocals, SpellsSegment, SpellsModule, kind_byte}
+use Rattle.wm_syntax.specs.declared.profile.Profile.{Profile}
+use Rattle.wm_syntax.specs.declared.profile.Profile.TheVariants.{Four}
+use Rattle.wm_syntax.proofs.ProfileLaws.{four_extends}
+use Rattle.wm_decode.proofs.Nesting.{spells_more}
 use Rattle.wm_syntax.specs.Modules.{locals_of}
 use Rattle.wm_decode.proofs.OneModule.{constants_same}
 
@@ -106,6 +110,10 @@ once_sized o x y = same_as (λ d. at_once o x y d.0 d.1 d.2) sized_same
 pub once_type : Once SpellsValType
 once_type t u = same_as (byte_tells t u) (byte_same (type_byte t) (type_byte u))
 
+-- of those values for which H holds
+pub once_those : {X : Type 0} (H : X → Type 0) (V : X → Form ℕ) → Once V → Once (Those H V)
+once_those H V o x y a b u v h k e = o x y a b u v h.1 k.1 e
+
 pub tagged : {P Q : Form ℕ} {D E : Type 0} (c : ℕ) → (D → E) → Same P Q D → Same (Byte c ▸ P) (Byte c ▸ Q) E
 tagged c f s = same_as (λ d. f d.1) (then_same (byte_same c c) (λ e. s))
 
@@ -185,20 +193,23 @@ once_element = once_as (λ e. (e.table, (e.offset, e.functions))) (λ z. record 
 once_segment : Once SpellsSegment
 once_segment = once_as (λ s. (s.memory, (s.offset, s.bytes))) (λ z. record { memory = z.0; offset = z.1.0; bytes = z.1.1 }) (λ s. refl) (once_then same_u32 (once_then once_const once_bytes))
 
-once_locals : Once SpellsLocals
-once_locals x y a b u v h k e =
-    let r = once_list (once_then same_u32 once_type) h.0 k.0 a b u v h.3 k.3 e in
+pub once_run : (p : Profile) → Once (SpellsRun p)
+once_run p x y a b u v h k e = once_then same_u32 once_type x y a b u v h.1 k.1 e
+
+once_locals : (p : Profile) → Once (SpellsLocals p)
+once_locals p x y a b u v h k e =
+    let r = once_list (once_run p) h.0 k.0 a b u v h.3 k.3 e in
     (r.0, sym h.1 ∙ (ap locals_of r.1 ∙ k.1))
 
 -- of a function what stands in its code entry
 abbrev body_of : Function → List ValType × Instructions
 body_of f = (f.locals, f.body)
 
-abbrev SpellsBody : List ValType × Instructions → Form ℕ
-SpellsBody z = Sized (SpellsLocals z.0 ▸ SpellsExpression z.1)
+abbrev SpellsBody : Profile → List ValType × Instructions → Form ℕ
+SpellsBody p z = Sized (SpellsLocals p z.0 ▸ SpellsExpression z.1)
 
-once_code : Once SpellsBody
-once_code = once_sized (once_then once_locals one_expression)
+once_code : (p : Profile) → Once (SpellsBody p)
+once_code p = once_sized (once_then (once_locals p) one_expression)
 
 -- Sections and what comes after them. A custom section begins with 0, and each other with its id.
 abbrev BeginsWith : ℕ → List ℕ → Type 0
@@ -407,8 +418,8 @@ after_header {Q = Q} b h k =
     (h.1, h.4, subst Q (sym rest) k.4)
 
 -- no bytes spell two modules
-pub one_spelling : (m n : Module) (b : List ℕ) → SpellsModule m b → SpellsModule n b → m ≡ n
-one_spelling m n b h k =
+one_under : (p : Profile) (m n : Module) (b : List ℕ) → SpellsModule p m b → SpellsModule p n b → m ≡ n
+one_under p m n b h k =
     let chain = sections_next 1 (omega arith) (listed 1 once_signature)
     (sections_next 2 (omega arith) (listed 2 once_import)
     (sections_next 3 (omega arith) (listed_of SpellsU32 (λ f. f.type_index) 3 same_u32)
@@ -418,7 +429,7 @@ one_spelling m n b h k =
     (sections_next 7 (omega arith) (listed 7 once_export)
     (sections_next 8 (omega arith) start_section
     (sections_next 9 (omega arith) (listed 9 once_element)
-    (sections_next 10 (omega arith) (listed_of SpellsBody body_of 10 once_code)
+    (sections_next 10 (omega arith) (listed_of (SpellsBody p) body_of 10 (once_code p))
     (sections_next 11 (omega arith) (listed 11 once_segment)
     (sections_end 12))))))))))) in
     let u = after_header b h k in
@@ -434,3 +445,6 @@ one_spelling m n b h k =
     ≡ record { types = n.types; imports = n.imports; functions = n.functions; tables = n.tables; memories = n.memories; globals = n.globals; exports = n.exports; start = n.start; elements = n.elements; segments = n.segments }
     = cc (e.0, e.1.0, functions, e3.1.0, e3.1.1.0, e6.0, e6.1.0, e6.1.1.0, e9.0, e9.1.1.0) in
     all
+
+pub one_spelling : (p q : Profile) (m n : Module) (b : List ℕ) → SpellsModule p m b → SpellsModule q n b → m ≡ n
+one_spelling p q m n b h k = one_under Four m n b (spells_more p Four (four_extends p) m b h) (spells_more q Four (four_extends q) n b k)

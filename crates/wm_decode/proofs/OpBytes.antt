@@ -1,8 +1,9 @@
 -- What an op is by its first byte, and what of it comes after that.
-use Rattle.std.proofs.Common.{◌≡◌, ℕ, List, [], ◌∷◌, ◌++◌, Option, Some, refl, sym, ap, ◌∙◌, subst}
+use Rattle.std.proofs.Common.{◌≡◌, IsTrue, ℕ, List, [], ◌∷◌, ◌++◌, Option, Some, refl, sym, ap, ◌∙◌, subst}
 use Rattle.std.specs.Prelude.{None as Nothing}
 use Rattle.wm_syntax.specs.declared.profile.Profile.{Profile}
-use Rattle.wm_syntax.specs.declared.instructions.Numeric.TheVariants.{SignExtend}
+use Rattle.wm_syntax.specs.declared.instructions.LoadOp.TheVariants.{F32Load, F64Load}
+use Rattle.wm_syntax.specs.declared.instructions.StoreOp.TheVariants.{F32Store, F64Store}
 use Rattle.wm_syntax.specs.declared.instructions.Simple.{Simple}
 use Rattle.wm_syntax.specs.declared.instructions.Simple.TheVariants as s
 use Rattle.wm_syntax.specs.declared.instructions.Op.{Op}
@@ -13,7 +14,8 @@ use Rattle.wm_syntax.specs.declared.instructions.op_class.OpClass.{OpClass}
 use Rattle.wm_syntax.specs.declared.instructions.op_class.OpClass.TheVariants.{Plain, With, Float, None}
 use Rattle.wm_syntax.specs.Opcodes.{opcode, load, store}
 use Rattle.wm_syntax.specs.OpClasses.{class_of, first_byte}
-use Rattle.wm_syntax.specs.Profiles.{IsOpOf}
+use Rattle.wm_syntax.specs.Profiles.{has, feature_of, HasBlockType, IsOpOf}
+use Rattle.wm_syntax.specs.exact.ByteTable.{class_feature}
 use Rattle.wm_syntax.specs.Spelling.{Form, Byte, ◌▸◌}
 use Rattle.wm_syntax.specs.Instructions.{SpellsOp, SpellsImmediates}
 use Rattle.wm_decode.proofs.FirstBytes.{tail_same, not_nil}
@@ -31,10 +33,31 @@ pub no_label : (o : Op) → HasImmediates o → NoLabel o
 no_label (op.Label l) h = let e : Plain (op.Label l) ≡ With h.0 = h.1 in cc
 no_label _ h = tt
 
-pub of_each : (p : Profile) (o : Op) → HasImmediates o → IsOpOf p o
-of_each p (op.Simple (s.Numeric (SignExtend x))) h = let e : Plain (op.Simple (s.Numeric (SignExtend x))) ≡ With h.0 = h.1 in cc
-of_each p (op.Simple _) h = refl
-of_each p _ h = tt
+-- an op is of the feature of its class
+simple_feature : (i : Simple) → class_feature (class_of (op.Simple i)) ≡ feature_of i
+simple_feature (s.Numeric x) = refl
+simple_feature (s.Load F32Load at) = refl
+simple_feature (s.Load F64Load at) = refl
+simple_feature (s.Load _ at) = refl
+simple_feature (s.Store F32Store at) = refl
+simple_feature (s.Store F64Store at) = refl
+simple_feature (s.Store _ at) = refl
+simple_feature _ = refl
+
+-- a block type of the profile, where the op has one
+abbrev pub HasOpType : Profile → Op → Type 0
+HasOpType p (op.Block t) = HasBlockType p t
+HasOpType p (op.Loop t) = HasBlockType p t
+HasOpType p (op.If t) = HasBlockType p t
+HasOpType p o = Unit {0}
+
+-- so it is of each profile that has its class
+pub of_class : (p : Profile) (o : Op) → IsTrue (has p (class_feature (class_of o))) → HasOpType p o → IsOpOf p o
+of_class p (op.Simple i) h t = ap (has p) (sym (simple_feature i)) ∙ h
+of_class p (op.Block t) h i = i
+of_class p (op.Loop t) h i = i
+of_class p (op.If t) h i = i
+of_class p _ h t = tt
 
 -- the byte of a class
 abbrev pub kind_byte : Immediates → ℕ
@@ -55,6 +78,8 @@ kind_byte k.MemorySize = 0x3F
 kind_byte k.MemoryGrow = 0x40
 kind_byte k.I32Const = 0x41
 kind_byte k.I64Const = 0x42
+kind_byte k.F32Const = 0x43
+kind_byte k.F64Const = 0x44
 kind_byte (k.Load o) = (load o).byte
 kind_byte (k.Store o) = (store o).byte
 

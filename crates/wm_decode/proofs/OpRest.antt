@@ -1,12 +1,12 @@
 -- What may still come of an op, and that each byte goes on with it.
-use Rattle.std.proofs.Common.{◌≡◌, ℕ, ◌<◌, ◌^◌, ◌↔◌, List, [], ◌∷◌, ◌++◌, Option, Some, ℤ, refl, sym, ap, ◌∙◌, subst, arith, nat_eq}
+use Rattle.std.proofs.Common.{◌≡◌, IsTrue, ℕ, zero, suc, ◌<◌, ◌^◌, ◌↔◌, Result, Ok, Err, List, [], ◌∷◌, ◌++◌, Option, Some, ℤ, refl, sym, ap, ◌∙◌, subst, arith, nat_eq}
 use Rattle.std.specs.Prelude.{None as Nothing}
 use Rattle.std.proofs.lemmas.Bool.{cond_both, eqb-true, eqb-false}
 use Rattle.wm_syntax.specs.declared.profile.Profile.{Profile}
+use Rattle.wm_syntax.specs.declared.why.Why.{Why}
 use Rattle.wm_syntax.specs.declared.why.Why.TheVariants as why
 use Rattle.wm_syntax.specs.declared.types.ValType.{ValType}
 use Rattle.wm_syntax.proofs.SameTypes.{block_tells}
-use Rattle.wm_syntax.specs.declared.types.ValType.TheVariants.{I32, I64}
 use Rattle.wm_syntax.specs.declared.instructions.MemArg.{MemArg}
 use Rattle.wm_syntax.specs.declared.instructions.Simple.{Simple}
 use Rattle.wm_syntax.specs.declared.instructions.Simple.TheVariants as s
@@ -24,12 +24,13 @@ use Rattle.wm_syntax.specs.Leb128.{Signed}
 use Rattle.wm_syntax.specs.Spelling.{Form, Byte}
 use Rattle.wm_syntax.specs.Types.{SpellsU32, SpellsBlockType, block_byte, type_byte}
 use Rattle.wm_syntax.specs.Opcodes.{load, store}
-use Rattle.wm_syntax.specs.exact.ByteTable.{class_under}
+use Rattle.wm_syntax.specs.exact.ByteTable.{class_feature, class_under}
 use Rattle.wm_syntax.specs.OpClasses.{IsClassOfOp, class_of, first_byte}
-use Rattle.wm_syntax.specs.Profiles.{IsOpOf}
-use Rattle.wm_syntax.specs.Instructions.{SpellsOp, SpellsImmediates}
+use Rattle.wm_syntax.specs.Profiles.{has, HasBlockType, HasType, IsOpOf}
+use Rattle.wm_syntax.specs.Instructions.{SpellsFloat, SpellsOp, SpellsImmediates}
 use Rattle.wm_syntax.proofs.Readers.{Goes as NumberGoes, unsigned_law, signed_law, signed_fresh}
 use Rattle.wm_syntax.proofs.SpelledRanges.{begins_with}
+use Rattle.wm_syntax.proofs.OpTable.{has_class}
 use Rattle.wm_syntax.proofs.FirstBytes.{found_under, begins_under}
 use Rattle.wm_decode.specs.declared.step.reading.Reading.{Reading}
 use Rattle.wm_decode.specs.declared.step.reading.Reading.TheVariants.{More, Done, Bad}
@@ -43,12 +44,16 @@ use Rattle.wm_decode.specs.declared.step.ops.LoadOrStore.{LoadOrStore}
 use Rattle.wm_decode.specs.declared.step.ops.LoadOrStore.TheVariants as accesses
 use Rattle.wm_decode.specs.declared.step.ops.InOp.{InOp}
 use Rattle.wm_decode.specs.declared.step.ops.InOp.TheVariants as at
-use Rattle.wm_decode.specs.exact.OpSteps.{block_op, index_op, call_op, memory_op, const_32_op, const_64_op, access_op, on_answer, immediates, first_step, block_step, closing_step, op_push}
+use Rattle.wm_decode.specs.exact.OpSteps.{block_op, index_op, call_op, memory_op, const_32_op, const_64_op, float_32_op, float_64_op, pushed, float_32_step, float_64_step, access_op, on_answer, immediates, first_step, block_step, closing_step, op_push}
+use Rattle.wm_decode.specs.exact.ValueSteps.{read_type, value_type_of}
 use Rattle.wm_decode.specs.exact.Readings.{Goes}
+use Rattle.wm_decode.specs.Sections.{Those}
 use Rattle.wm_decode.proofs.FirstBytes.{head_same, tail_same, not_nil}
 use Rattle.wm_decode.proofs.Numbers.{Left, left_nil, fresh_number}
 use Rattle.wm_decode.proofs.Leaves.{IsReader}
-use Rattle.wm_decode.proofs.OpBytes.{NoLabel, HasImmediates, no_label, of_each, kind_byte, with_byte, has_first, plain_same, plain_whole, after_byte, from_byte, op_some}
+use Rattle.wm_decode.proofs.ValueBytes.{TypeAnswer, type_answer}
+use Rattle.wm_decode.proofs.FloatBytes.{FloatRest, float_some, float_32_left, float_64_left, left_float_32, left_float_64}
+use Rattle.wm_decode.proofs.OpBytes.{NoLabel, HasImmediates, HasOpType, no_label, of_class, kind_byte, with_byte, has_first, plain_same, plain_whole, after_byte, from_byte, op_some}
 
 -- the op that a value makes
 abbrev pub Makes : {T : Type 0} → (T → Op) → (T → Form ℕ) → Op → Form ℕ
@@ -68,13 +73,15 @@ at_offset a align offset = access_op a (record { align = align; offset = offset 
 -- with these further bytes the op is spelled, is of the profile and is no label
 abbrev pub op_rest : Profile → InOp → Op → Form ℕ
 op_rest p at.First o b = NoLabel o × IsOpOf p o × SpellsOp o b
-op_rest p (at.BlockType i) o b = Makes (block_op i) SpellsBlockType o b
+op_rest p (at.BlockType i) o b = Makes (block_op i) (Those (HasBlockType p) SpellsBlockType) o b
 op_rest p (at.Index i r) o b = Makes (index_op i) (Left r) o b
 op_rest p (at.CallType r) o b = Leads (Left r) (λ n. Closed (call_op n)) o b
 op_rest p (at.CallTable n) o b = Closed (call_op n) o b
 op_rest p (at.Memory m) o b = Closed (memory_op m) o b
 op_rest p (at.Const32 r) o b = Makes const_32_op (SignedRest 32 r) o b
 op_rest p (at.Const64 r) o b = Makes const_64_op (SignedRest 64 r) o b
+op_rest p (at.Float32 left low) o b = Makes float_32_op (FloatRest (2 ^ 24) left low) o b
+op_rest p (at.Float64 left low) o b = Makes float_64_op (FloatRest (2 ^ 56) left low) o b
 op_rest p (at.Align a r) o b = Leads (Left r) (λ n. Makes (at_offset a n) (Left fresh)) o b
 op_rest p (at.Offset a n r) o b = Makes (at_offset a n) (Left r) o b
 
@@ -149,29 +156,51 @@ module _ (p : Profile) where
   block_spelled : (t : Option ValType) (c : ℕ) (b : List ℕ) → SpellsBlockType t (c ∷ b) → (c ≡ block_byte t) × (b ≡ [])
   block_spelled t c b h = (head_same c (block_byte t) b [] h, tail_same c (block_byte t) b [] h)
 
-  no_block : (t : Option ValType) (c : ℕ) → (c ≡ 0x40 → ⊥) → (c ≡ 0x7F → ⊥) → (c ≡ 0x7E → ⊥) → c ≡ block_byte t → ⊥
-  no_block Nothing c x y z e = x e
-  no_block (Some I32) c x y z e = y e
-  no_block (Some I64) c x y z e = z e
-
   module _ (i : Opening) (c : ℕ) (o : Op) (b : List ℕ) where
-    block_done : (t : Option ValType) → c ≡ block_byte t → Makes (block_op i) SpellsBlockType o (c ∷ b) ↔ ((o ≡ block_op i t) × (b ≡ []))
-    block_done t e = (
-      (λ h. let w = block_spelled h.0 c b h.2 in (h.1 ∙ ap (block_op i) (block_tells h.0 t (sym w.0 ∙ e)), w.1)),
-      (λ g. (t, g.0, subst (λ y. SpellsBlockType t (y ∷ b)) (sym e) (ap (λ y. block_byte t ∷ y) g.1))),
+    abbrev Blocks : Reading InOp Op → Type 0
+    Blocks a = Makes (block_op i) (Those (HasBlockType p) SpellsBlockType) o (c ∷ b) ↔ Goes (op_rest p) a o b
+
+    block_done : (t : Option ValType) → HasBlockType p t → c ≡ block_byte t → Makes (block_op i) (Those (HasBlockType p) SpellsBlockType) o (c ∷ b) ↔ ((o ≡ block_op i t) × (b ≡ []))
+    block_done t own e = (
+      (λ h. let w = block_spelled h.0 c b h.2.1 in (h.1 ∙ ap (block_op i) (block_tells h.0 t (sym w.0 ∙ e)), w.1)),
+      (λ g. (t, g.0, (own, subst (λ y. SpellsBlockType t (y ∷ b)) (sym e) (ap (λ y. block_byte t ∷ y) g.1)))),
     )
 
-    block_law : Makes (block_op i) SpellsBlockType o (c ∷ b) ↔ Goes (op_rest p) (block_step i c) o b
+    no_block : (t : Option ValType) → (c ≡ 0x40 → ⊥) → ((u : ValType) → HasType p u → c ≡ type_byte u → ⊥) → HasBlockType p t → c ≡ block_byte t → ⊥
+    no_block Nothing x none h e = x e
+    no_block (Some t) x none h e = none t h e
+
+    block_typed : (q : Result ValType Why) → TypeAnswer p c q → (c ≡ 0x40 → ⊥) → Blocks (read_type q (λ t. Done (block_op i (Some t))))
+    block_typed (Ok t) e x = block_done (Some t) e.1 e.0
+    block_typed (Err w) none x = ((λ h. no_block h.0 x none h.2.0 (block_spelled h.0 c b h.2.1).0), λ e. absurd e)
+
+    block_law : Blocks (block_step p i c)
     block_law =
-        let P : Reading InOp Op → Type 0 = λ a. Makes (block_op i) SpellsBlockType o (c ∷ b) ↔ Goes (op_rest p) a o b in
-        cond_both (nat_eq c 0x40) _ _ P
-        (λ x. block_done Nothing (eqb-true c 0x40 x))
-        (λ x. cond_both (nat_eq c 0x7F) _ _ P
-        (λ y. block_done (Some I32) (eqb-true c 0x7F y))
-        (λ y. cond_both (nat_eq c 0x7E) _ _ P
-        (λ z. block_done (Some I64) (eqb-true c 0x7E z))
-        (λ z. let n : Makes (block_op i) SpellsBlockType o (c ∷ b) → ⊥ = λ h. no_block h.0 c (eqb-false c 0x40 x) (eqb-false c 0x7F y) (eqb-false c 0x7E z) (block_spelled h.0 c b h.2).0 in
-        cond_both (nat_eq c 0x7D) _ _ P (λ _. (n, λ e. absurd e)) (λ _. cond_both (nat_eq c 0x7C) _ _ P (λ _. (n, λ e. absurd e)) (λ _. (n, λ e. absurd e))))))
+        cond_both (nat_eq c 0x40) _ _ Blocks
+        (λ x. block_done Nothing tt (eqb-true c 0x40 x))
+        (λ x. block_typed (value_type_of p c) (type_answer p c) (eqb-false c 0x40 x))
+
+  -- floats
+  module _ (top : ℕ) (f : ℕ → Op) where
+    float_done : (low c : ℕ) (o : Op) (b : List ℕ) → c < 2 ^ 8 → Makes f (FloatRest top zero low) o (c ∷ b) ↔ ((o ≡ f (pushed top low c)) × (b ≡ []))
+    float_done low c o b byte = (
+      (λ h. let r = h.2 in (h.1 ∙ ap f (r.2 ∙ ap (pushed top low) (sym (head_same c r.0 b [] r.3))), tail_same c r.0 b [] r.3)),
+      (λ g. (pushed top low c, g.0, (c, byte, refl, ap (λ y. c ∷ y) g.1))),
+    )
+
+    float_more : (left low c : ℕ) (o : Op) (b : List ℕ) → c < 2 ^ 8 → Makes f (FloatRest top (suc left) low) o (c ∷ b) ↔ Makes f (FloatRest top left (pushed top low c)) o b
+    float_more left low c o b byte = (
+      (λ h. let r = h.2 in (h.0, h.1, subst (λ y. FloatRest top left (pushed top low y) h.0 b) (sym (head_same c r.0 b r.1 r.3)) (subst (FloatRest top left (pushed top low r.0) h.0) (sym (tail_same c r.0 b r.1 r.3)) r.4))),
+      (λ g. (g.0, g.1, (c, b, byte, refl, g.2))),
+    )
+
+  float_32_law : (left low c : ℕ) → c < 2 ^ 8 → Law (Makes float_32_op (FloatRest (2 ^ 24) left low)) c (float_32_step left low c)
+  float_32_law zero low c byte o b = float_done (2 ^ 24) float_32_op low c o b byte
+  float_32_law (suc left) low c byte o b = float_more (2 ^ 24) float_32_op left low c o b byte
+
+  float_64_law : (left low c : ℕ) → c < 2 ^ 8 → Law (Makes float_64_op (FloatRest (2 ^ 56) left low)) c (float_64_step left low c)
+  float_64_law zero low c byte o b = float_done (2 ^ 56) float_64_op low c o b byte
+  float_64_law (suc left) low c byte o b = float_more (2 ^ 56) float_64_op left low c o b byte
 
   -- what follows the first byte of an op
   abbrev Starts : Op → List ℕ → Type 0
@@ -191,67 +220,72 @@ module _ (p : Profile) where
   simple_starts s.MemoryGrow b u = (refl, u)
   simple_starts (s.I32Const z) b u = (z, refl, signed_left 32 above z b u)
   simple_starts (s.I64Const z) b u = (z, refl, signed_left 64 above_64 z b u)
+  simple_starts (s.F32Const n) b u = (n, refl, float_32_left n b u)
+  simple_starts (s.F64Const n) b u = (n, refl, float_64_left n b u)
   simple_starts (s.Load o m) b (front, back, e, u, v) = (m.align, front, back, e, (fresh_number m.align front).0 u, (m.offset, refl, (fresh_number m.offset back).0 v))
   simple_starts (s.Store o m) b (front, back, e, u, v) = (m.align, front, back, e, (fresh_number m.align front).0 u, (m.offset, refl, (fresh_number m.offset back).0 v))
   simple_starts _ b u = (refl, u)
 
-  starts : (o : Op) (c : ℕ) (b : List ℕ) → NoLabel o → SpellsOp o (c ∷ b) → Starts o b
-  starts (op.Simple i) c b n h = simple_starts i b (after_byte _ c (SpellsImmediates i) b h)
-  starts (op.Block t) c b n h = (t, refl, after_byte 0x02 c (SpellsBlockType t) b h)
-  starts (op.Loop t) c b n h = (t, refl, after_byte 0x03 c (SpellsBlockType t) b h)
-  starts (op.If t) c b n h = (t, refl, after_byte 0x04 c (SpellsBlockType t) b h)
-  starts op.Else c b n h = (refl, tail_same c 0x05 b [] h)
-  starts op.End c b n h = (refl, tail_same c 0x0B b [] h)
-  starts (op.BrTable m) c b n h = let u = after_byte 0x0E c _ b h in (m, refl, (fresh_number m b).0 u)
-  starts (op.Label l) c b n h = absurd n
+  starts : (o : Op) (c : ℕ) (b : List ℕ) → NoLabel o → IsOpOf p o → SpellsOp o (c ∷ b) → Starts o b
+  starts (op.Simple i) c b n g h = simple_starts i b (after_byte _ c (SpellsImmediates i) b h)
+  starts (op.Block t) c b n g h = (t, refl, (g, after_byte 0x02 c (SpellsBlockType t) b h))
+  starts (op.Loop t) c b n g h = (t, refl, (g, after_byte 0x03 c (SpellsBlockType t) b h))
+  starts (op.If t) c b n g h = (t, refl, (g, after_byte 0x04 c (SpellsBlockType t) b h))
+  starts op.Else c b n g h = (refl, tail_same c 0x05 b [] h)
+  starts op.End c b n g h = (refl, tail_same c 0x0B b [] h)
+  starts (op.BrTable m) c b n g h = let u = after_byte 0x0E c _ b h in (m, refl, (fresh_number m b).0 u)
+  starts (op.Label l) c b n g h = absurd n
 
   first_to : (c : ℕ) (o : Op) (b : List ℕ) → op_rest p at.First o (c ∷ b) → Goes (op_rest p) (first_step (class_under p c)) o b
   first_to c o b h =
       let f : (x : ℕ) × (first_byte o ≡ Some x) = has_first o h.0 in
       let same : c ≡ f.0 = begins_with o f.0 c b f.1 h.2 in
       let class : class_under p c ≡ class_of o = found_under p c o (f.1 ∙ ap Some (sym same)) h.1 in
-      subst (λ y. Goes (op_rest p) (first_step y) o b) (sym class) (starts o c b h.0 h.2)
+      subst (λ y. Goes (op_rest p) (first_step y) o b) (sym class) (starts o c b h.0 h.1 h.2)
 
   -- back from the immediates of an op to all of it
   abbrev IsWhole : Immediates → Op → List ℕ → Type 0
-  IsWhole kind o b = (class_of o ≡ With kind) × SpellsOp o (kind_byte kind ∷ b)
+  IsWhole kind o b = (class_of o ≡ With kind) × HasOpType p o × SpellsOp o (kind_byte kind ∷ b)
 
   module _ (kind : Immediates) (o : Op) (b : List ℕ) where
     made : {T : Type 0} (f : T → Op) (rest : T → Form ℕ) → ((v : T) → rest v b → IsWhole kind (f v) b) → Makes f rest o b → IsWhole kind o b
     made f rest h m = subst (λ y. IsWhole kind y b) (sym m.1) (h m.0 m.2)
 
     access_made : (a : LoadOrStore) → ((n m : ℕ) → class_of (at_offset a n m) ≡ With kind)
+        → ((n m : ℕ) → HasOpType p (at_offset a n m))
         → ((n m : ℕ) → ((front back : List ℕ) → b ≡ front ++ back → Left fresh n front → Left fresh m back → SpellsOp (at_offset a n m) (kind_byte kind ∷ b)))
         → Leads (Left fresh) (λ n. Makes (at_offset a n) (Left fresh)) o b → IsWhole kind o b
-    access_made a class whole m =
+    access_made a class type whole m =
         let n : ℕ = m.0 in
         let i = m.5 in
-        subst (λ y. IsWhole kind y b) (sym i.1) (class n i.0, whole n i.0 m.1 m.2 m.3 m.4 i.2)
+        subst (λ y. IsWhole kind y b) (sym i.1) (class n i.0, type n i.0, whole n i.0 m.1 m.2 m.3 m.4 i.2)
 
   whole : (kind : Immediates) (o : Op) (b : List ℕ) → op_rest p (immediates kind) o b → IsWhole kind o b
-  whole k.Block o b h = made k.Block o b (block_op opening.Block) SpellsBlockType (λ t u. (refl, from_byte 0x02 (SpellsBlockType t) b u)) h
-  whole k.Loop o b h = made k.Loop o b (block_op opening.Loop) SpellsBlockType (λ t u. (refl, from_byte 0x03 (SpellsBlockType t) b u)) h
-  whole k.If o b h = made k.If o b (block_op opening.If) SpellsBlockType (λ t u. (refl, from_byte 0x04 (SpellsBlockType t) b u)) h
-  whole k.Br o b h = made k.Br o b (index_op indexed.Br) (Left fresh) (λ n u. (refl, from_byte 0x0C (SpellsU32 n) b ((fresh_number n b).1 u))) h
-  whole k.BrIf o b h = made k.BrIf o b (index_op indexed.BrIf) (Left fresh) (λ n u. (refl, from_byte 0x0D (SpellsU32 n) b ((fresh_number n b).1 u))) h
-  whole k.BrTable o b h = made k.BrTable o b (index_op indexed.BrTable) (Left fresh) (λ n u. (refl, from_byte 0x0E (SpellsU32 n) b ((fresh_number n b).1 u))) h
-  whole k.Call o b h = made k.Call o b (index_op indexed.Call) (Left fresh) (λ n u. (refl, from_byte 0x10 (SpellsU32 n) b ((fresh_number n b).1 u))) h
+  whole k.Block o b h = made k.Block o b (block_op opening.Block) (Those (HasBlockType p) SpellsBlockType) (λ t u. (refl, u.0, from_byte 0x02 (SpellsBlockType t) b u.1)) h
+  whole k.Loop o b h = made k.Loop o b (block_op opening.Loop) (Those (HasBlockType p) SpellsBlockType) (λ t u. (refl, u.0, from_byte 0x03 (SpellsBlockType t) b u.1)) h
+  whole k.If o b h = made k.If o b (block_op opening.If) (Those (HasBlockType p) SpellsBlockType) (λ t u. (refl, u.0, from_byte 0x04 (SpellsBlockType t) b u.1)) h
+  whole k.Br o b h = made k.Br o b (index_op indexed.Br) (Left fresh) (λ n u. (refl, tt, from_byte 0x0C (SpellsU32 n) b ((fresh_number n b).1 u))) h
+  whole k.BrIf o b h = made k.BrIf o b (index_op indexed.BrIf) (Left fresh) (λ n u. (refl, tt, from_byte 0x0D (SpellsU32 n) b ((fresh_number n b).1 u))) h
+  whole k.BrTable o b h = made k.BrTable o b (index_op indexed.BrTable) (Left fresh) (λ n u. (refl, tt, from_byte 0x0E (SpellsU32 n) b ((fresh_number n b).1 u))) h
+  whole k.Call o b h = made k.Call o b (index_op indexed.Call) (Left fresh) (λ n u. (refl, tt, from_byte 0x10 (SpellsU32 n) b ((fresh_number n b).1 u))) h
   whole k.CallIndirect o b h =
       let n : ℕ = h.0 in
       let c = h.5 in
-      subst (λ y. IsWhole k.CallIndirect y b) (sym c.0) (refl, from_byte 0x11 (SpellsImmediates (s.CallIndirect n)) b (h.1, h.2, h.3, (fresh_number n h.1).1 h.4, c.1))
-  whole k.LocalGet o b h = made k.LocalGet o b (index_op indexed.LocalGet) (Left fresh) (λ n u. (refl, from_byte 0x20 (SpellsU32 n) b ((fresh_number n b).1 u))) h
-  whole k.LocalSet o b h = made k.LocalSet o b (index_op indexed.LocalSet) (Left fresh) (λ n u. (refl, from_byte 0x21 (SpellsU32 n) b ((fresh_number n b).1 u))) h
-  whole k.LocalTee o b h = made k.LocalTee o b (index_op indexed.LocalTee) (Left fresh) (λ n u. (refl, from_byte 0x22 (SpellsU32 n) b ((fresh_number n b).1 u))) h
-  whole k.GlobalGet o b h = made k.GlobalGet o b (index_op indexed.GlobalGet) (Left fresh) (λ n u. (refl, from_byte 0x23 (SpellsU32 n) b ((fresh_number n b).1 u))) h
-  whole k.GlobalSet o b h = made k.GlobalSet o b (index_op indexed.GlobalSet) (Left fresh) (λ n u. (refl, from_byte 0x24 (SpellsU32 n) b ((fresh_number n b).1 u))) h
-  whole k.MemorySize o b h = subst (λ y. IsWhole k.MemorySize y b) (sym h.0) (refl, from_byte 0x3F (Byte 0x00) b h.1)
-  whole k.MemoryGrow o b h = subst (λ y. IsWhole k.MemoryGrow y b) (sym h.0) (refl, from_byte 0x40 (Byte 0x00) b h.1)
-  whole k.I32Const o b h = made k.I32Const o b const_32_op (SignedRest 32 fresh) (λ z u. (refl, from_byte 0x41 (Signed 32 z) b (left_signed 32 above z b u))) h
-  whole k.I64Const o b h = made k.I64Const o b const_64_op (SignedRest 64 fresh) (λ z u. (refl, from_byte 0x42 (Signed 64 z) b (left_signed 64 above_64 z b u))) h
-  whole (k.Load i) o b h = access_made (k.Load i) o b (accesses.Load i) (λ n m. refl)
+      subst (λ y. IsWhole k.CallIndirect y b) (sym c.0) (refl, tt, from_byte 0x11 (SpellsImmediates (s.CallIndirect n)) b (h.1, h.2, h.3, (fresh_number n h.1).1 h.4, c.1))
+  whole k.LocalGet o b h = made k.LocalGet o b (index_op indexed.LocalGet) (Left fresh) (λ n u. (refl, tt, from_byte 0x20 (SpellsU32 n) b ((fresh_number n b).1 u))) h
+  whole k.LocalSet o b h = made k.LocalSet o b (index_op indexed.LocalSet) (Left fresh) (λ n u. (refl, tt, from_byte 0x21 (SpellsU32 n) b ((fresh_number n b).1 u))) h
+  whole k.LocalTee o b h = made k.LocalTee o b (index_op indexed.LocalTee) (Left fresh) (λ n u. (refl, tt, from_byte 0x22 (SpellsU32 n) b ((fresh_number n b).1 u))) h
+  whole k.GlobalGet o b h = made k.GlobalGet o b (index_op indexed.GlobalGet) (Left fresh) (λ n u. (refl, tt, from_byte 0x23 (SpellsU32 n) b ((fresh_number n b).1 u))) h
+  whole k.GlobalSet o b h = made k.GlobalSet o b (index_op indexed.GlobalSet) (Left fresh) (λ n u. (refl, tt, from_byte 0x24 (SpellsU32 n) b ((fresh_number n b).1 u))) h
+  whole k.MemorySize o b h = subst (λ y. IsWhole k.MemorySize y b) (sym h.0) (refl, tt, from_byte 0x3F (Byte 0x00) b h.1)
+  whole k.MemoryGrow o b h = subst (λ y. IsWhole k.MemoryGrow y b) (sym h.0) (refl, tt, from_byte 0x40 (Byte 0x00) b h.1)
+  whole k.I32Const o b h = made k.I32Const o b const_32_op (SignedRest 32 fresh) (λ z u. (refl, tt, from_byte 0x41 (Signed 32 z) b (left_signed 32 above z b u))) h
+  whole k.I64Const o b h = made k.I64Const o b const_64_op (SignedRest 64 fresh) (λ z u. (refl, tt, from_byte 0x42 (Signed 64 z) b (left_signed 64 above_64 z b u))) h
+  whole k.F32Const o b h = made k.F32Const o b float_32_op (FloatRest (2 ^ 24) 3 0) (λ n u. (refl, tt, from_byte 0x43 (SpellsFloat 4 n) b (left_float_32 n b u))) h
+  whole k.F64Const o b h = made k.F64Const o b float_64_op (FloatRest (2 ^ 56) 7 0) (λ n u. (refl, tt, from_byte 0x44 (SpellsFloat 8 n) b (left_float_64 n b u))) h
+  whole (k.Load i) o b h = access_made (k.Load i) o b (accesses.Load i) (λ n m. refl) (λ n m. tt)
       (λ n m front back e u v. from_byte (load i).byte (SpellsImmediates (s.Load i (record { align = n; offset = m }))) b (front, back, e, (fresh_number n front).1 u, (fresh_number m back).1 v)) h
-  whole (k.Store i) o b h = access_made (k.Store i) o b (accesses.Store i) (λ n m. refl)
+  whole (k.Store i) o b h = access_made (k.Store i) o b (accesses.Store i) (λ n m. refl) (λ n m. tt)
       (λ n m front back e u v. from_byte (store i).byte (SpellsImmediates (s.Store i (record { align = n; offset = m }))) b (front, back, e, (fresh_number n front).1 u, (fresh_number m back).1 v)) h
 
   first_from : (c : ℕ) (class : OpClass) → class_under p c ≡ class → (o : Op) (b : List ℕ) → Goes (op_rest p) (first_step class) o b → op_rest p at.First o (c ∷ b)
@@ -266,8 +300,9 @@ module _ (p : Profile) where
       let i : (x : Op) × (first_byte x ≡ Some c) × IsOpOf p x × (class_of x ≡ class_under p c) = begins_under p c (subst IsClassOfOp (sym e) tt) in
       let byte : c ≡ kind_byte kind = with_byte i.0 kind c (i.3 ∙ e) i.1 in
       let w : IsWhole kind o b = whole kind o b g in
-      let has : HasImmediates o = (kind, w.0) in
-      (no_label o has, of_each p o has, subst (λ y. SpellsOp o (y ∷ b)) (sym byte) w.1)
+      let same : class_of i.0 ≡ class_of o = (i.3 ∙ e) ∙ sym w.0 in
+      let owns : IsTrue (has p (class_feature (class_of o))) = subst (λ y. IsTrue (has p (class_feature y))) same (has_class p i.0 i.2) in
+      (no_label o (kind, w.0), of_class p o owns w.1, subst (λ y. SpellsOp o (y ∷ b)) (sym byte) w.2)
   first_from c Float e o b g = absurd g
   first_from c None e o b g = absurd g
 
@@ -288,6 +323,8 @@ module _ (p : Profile) where
       makes_law (SignedRest 32) r c const_32_op (λ t. at.Const32 t) (λ t o b. same_left) (signed_push 32 r c) (λ z b. signed_law 32 r z c b byte) o b
   op_law (at.Const64 r) c byte o b =
       makes_law (SignedRest 64) r c const_64_op (λ t. at.Const64 t) (λ t o b. same_left) (signed_push 64 r c) (λ z b. signed_law 64 r z c b byte) o b
+  op_law (at.Float32 left low) c byte o b = float_32_law left low c byte o b
+  op_law (at.Float64 left low) c byte o b = float_64_law left low c byte o b
   op_law (at.Align a r) c byte o b =
       leads_law Left r c (λ n. Makes (at_offset a n) (Left fresh)) (λ t. at.Align a t) (λ n. at.Offset a n fresh) left_nil (λ t o b. same_left) (λ n o b. same_left) (unsigned_push 32 r c) (λ n b. unsigned_law 32 r n c b byte) o b
   op_law (at.Offset a n r) c byte o b =
@@ -304,13 +341,15 @@ module _ (p : Profile) where
 
   rest_some : (r : InOp) (o : Op) → op_rest p r o [] → ⊥
   rest_some at.First o h = op_some o h.0 h.2
-  rest_some (at.BlockType i) o h = block_some h.0 h.2
+  rest_some (at.BlockType i) o h = block_some h.0 h.2.1
   rest_some (at.Index i r) o h = left_nil r h.0 h.2
   rest_some (at.CallType r) o h = lead_some (Left r) (left_nil r) h.0 h.1 h.2 h.3 h.4
   rest_some (at.CallTable n) o h = not_nil 0x00 [] (sym h.1)
   rest_some (at.Memory m) o h = not_nil 0x00 [] (sym h.1)
   rest_some (at.Const32 r) o h = h.2.3
   rest_some (at.Const64 r) o h = h.2.3
+  rest_some (at.Float32 left low) o h = float_some (2 ^ 24) left low h.0 h.2
+  rest_some (at.Float64 left low) o h = float_some (2 ^ 56) left low h.0 h.2
   rest_some (at.Align a r) o h = lead_some (Left r) (left_nil r) h.0 h.1 h.2 h.3 h.4
   rest_some (at.Offset a n r) o h = left_nil r h.0 h.2
 
@@ -342,21 +381,20 @@ module _ (p : Profile) where
   access_has (accesses.Load i) m = (k.Load i, refl)
   access_has (accesses.Store i) m = (k.Store i, refl)
 
-  abbrev IsGood : Op → Type 0
-  IsGood o = NoLabel o × IsOpOf p o
+  named : (o f : Op) → o ≡ f → HasImmediates f → NoLabel o
+  named o f e h = subst NoLabel (sym e) (no_label f h)
 
-  good : (o f : Op) → o ≡ f → HasImmediates f → IsGood o
-  good o f e h = subst IsGood (sym e) (no_label f h, of_each p f h)
-
-  -- what is read is of the profile, and is no label
-  pub rest_good : (r : InOp) (o : Op) (b : List ℕ) → op_rest p r o b → NoLabel o × IsOpOf p o
-  rest_good at.First o b h = (h.0, h.1)
-  rest_good (at.BlockType i) o b h = good o (block_op i h.0) h.1 (block_has i h.0)
-  rest_good (at.Index i r) o b h = good o (index_op i h.0) h.1 (index_has i h.0)
-  rest_good (at.CallType r) o b h = let c = h.5 in good o (call_op h.0) c.0 (k.CallIndirect, refl)
-  rest_good (at.CallTable n) o b h = good o (call_op n) h.0 (k.CallIndirect, refl)
-  rest_good (at.Memory m) o b h = good o (memory_op m) h.0 (memory_has m)
-  rest_good (at.Const32 r) o b h = good o (const_32_op h.0) h.1 (k.I32Const, refl)
-  rest_good (at.Const64 r) o b h = good o (const_64_op h.0) h.1 (k.I64Const, refl)
-  rest_good (at.Align a r) o b h = let m = h.5 in good o (at_offset a h.0 m.0) m.1 (access_has a (record { align = h.0; offset = m.0 }))
-  rest_good (at.Offset a n r) o b h = good o (at_offset a n h.0) h.1 (access_has a (record { align = n; offset = h.0 }))
+  -- what is read is no label
+  pub rest_named : (r : InOp) (o : Op) (b : List ℕ) → op_rest p r o b → NoLabel o
+  rest_named at.First o b h = h.0
+  rest_named (at.BlockType i) o b h = named o (block_op i h.0) h.1 (block_has i h.0)
+  rest_named (at.Index i r) o b h = named o (index_op i h.0) h.1 (index_has i h.0)
+  rest_named (at.CallType r) o b h = let c = h.5 in named o (call_op h.0) c.0 (k.CallIndirect, refl)
+  rest_named (at.CallTable n) o b h = named o (call_op n) h.0 (k.CallIndirect, refl)
+  rest_named (at.Memory m) o b h = named o (memory_op m) h.0 (memory_has m)
+  rest_named (at.Const32 r) o b h = named o (const_32_op h.0) h.1 (k.I32Const, refl)
+  rest_named (at.Const64 r) o b h = named o (const_64_op h.0) h.1 (k.I64Const, refl)
+  rest_named (at.Float32 left low) o b h = named o (float_32_op h.0) h.1 (k.F32Const, refl)
+  rest_named (at.Float64 left low) o b h = named o (float_64_op h.0) h.1 (k.F64Const, refl)
+  rest_named (at.Align a r) o b h = let m = h.5 in named o (at_offset a h.0 m.0) m.1 (access_has a (record { align = h.0; offset = m.0 }))
+  rest_named (at.Offset a n r) o b h = named o (at_offset a n h.0) h.1 (access_has a (record { align = n; offset = h.0 }))

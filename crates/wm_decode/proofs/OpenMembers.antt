@@ -5,6 +5,7 @@ use Rattle.wm_syntax.specs.exact.Reading.{fresh}
 use Rattle.wm_syntax.specs.Spelling.{Form, AreBytes}
 use Rattle.wm_syntax.specs.Types.{SpellsU32, SpellsLimits}
 use Rattle.wm_syntax.specs.declared.profile.Profile.{Profile}
+use Rattle.wm_syntax.specs.Profiles.{HasDesc}
 use Rattle.wm_syntax.specs.declared.instructions.Op.{Op}
 use Rattle.wm_syntax.specs.declared.types.ValType.{ValType}
 use Rattle.wm_syntax.specs.declared.types.ValType.TheVariants.{I32}
@@ -41,8 +42,8 @@ use Rattle.wm_decode.specs.declared.machine.member.InMember.TheVariants as at
 use Rattle.wm_decode.specs.declared.step.expressions.InExpression.{InExpression}
 use Rattle.wm_decode.specs.Items.{Item, new_type, param, result_count, one_result, import_desc, global as global_part, const_op, element_function, export, locals, body, body_op, data_byte, Marks}
 use Rattle.wm_decode.specs.MarkedForms.{MarkedForm, Empty, Byte as OneByte, Then, Times, Leaf, Number, Vector, Index, Counted, Name, Sized, Filled, Entry, nothing_at, marks_ending, name_byte_marks, name_marks, entry_marks, outside_mark}
-use Rattle.wm_decode.specs.Sections.{SpellsDesc}
-use Rattle.wm_decode.specs.Grammar.{ValueType, ResultTypes, FunctionType, Run, DataByte, Expression, loose}
+use Rattle.wm_decode.specs.Sections.{Those, SpellsDesc}
+use Rattle.wm_decode.specs.Grammar.{ValueType, ResultTypes, FunctionType, Desc, Run, DataByte, Expression, loose}
 use Rattle.wm_decode.specs.exact.Runs.{name_item, plain_item}
 use Rattle.wm_decode.specs.exact.Members.{member_at_start}
 use Rattle.wm_decode.specs.exact.ExpressionSteps.{start}
@@ -149,42 +150,42 @@ some_table : (t : InTableType) → SoundTable t → Spelled (table_rest t)
 some_table table.ElementType h = record { value = record { min = 0; max = None }; bytes = 0x70 ∷ 0 ∷ 0 ∷ []; spelled = (0x70 ∷ [], 0 ∷ 0 ∷ [], refl, refl, zero_limits) }
 some_table (table.Limits l) h = let s = some_limits l h in record { value = s.value; bytes = s.bytes; spelled = (s.value, refl, s.spelled) }
 
-some_global : (g : InGlobalType) → Spelled (global_rest g)
-some_global global.Type = record { value = record { ty = I32; var = false }; bytes = 0x7F ∷ 0 ∷ []; spelled = (0x7F ∷ [], 0 ∷ [], refl, refl, refl) }
-some_global (global.Var t) = record { value = record { ty = t; var = false }; bytes = 0 ∷ []; spelled = (refl, refl) }
+some_global : (p : Profile) (g : InGlobalType) → Spelled (global_rest p g)
+some_global p global.Type = record { value = record { ty = I32; var = false }; bytes = 0x7F ∷ 0 ∷ []; spelled = (refl, (0x7F ∷ [], 0 ∷ [], refl, refl, refl)) }
+some_global p (global.Var t) = record { value = record { ty = t; var = false }; bytes = 0 ∷ []; spelled = (refl, refl) }
 
-some_desc : (d : InImportDesc) → SoundDesc d → Spelled (desc_rest d)
-some_desc import.Kind h = record { value = desc.Func 0; bytes = 0 ∷ 0 ∷ []; spelled = (0 ∷ [], 0 ∷ [], refl, refl, zero_u32) }
-some_desc (import.Func r) h = record { value = desc.Func r.low; bytes = 0 ∷ []; spelled = (r.low, 0 ∷ [], [], refl, last_byte r h.0, (refl, refl)) }
-some_desc (import.Table t) h = let s = some_table t h in record { value = desc.Table s.value; bytes = s.bytes; spelled = (s.value, refl, s.spelled) }
-some_desc (import.Memory l) h = let s = some_limits l h in record { value = desc.Memory s.value; bytes = s.bytes; spelled = (s.value, refl, s.spelled) }
-some_desc (import.Global g) h = let s = some_global g in record { value = desc.Global s.value; bytes = s.bytes; spelled = (s.value, refl, s.spelled) }
+some_desc : (p : Profile) (d : InImportDesc) → SoundDesc d → Spelled (desc_rest p d)
+some_desc p import.Kind h = record { value = desc.Func 0; bytes = 0 ∷ 0 ∷ []; spelled = (tt, (0 ∷ [], 0 ∷ [], refl, refl, zero_u32)) }
+some_desc p (import.Func r) h = record { value = desc.Func r.low; bytes = 0 ∷ []; spelled = (r.low, 0 ∷ [], [], refl, last_byte r h.0, (refl, refl)) }
+some_desc p (import.Table t) h = let s = some_table t h in record { value = desc.Table s.value; bytes = s.bytes; spelled = (s.value, refl, s.spelled) }
+some_desc p (import.Memory l) h = let s = some_limits l h in record { value = desc.Memory s.value; bytes = s.bytes; spelled = (s.value, refl, s.spelled) }
+some_desc p (import.Global g) h = let s = some_global p g in record { value = desc.Global s.value; bytes = s.bytes; spelled = (s.value, refl, s.spelled) }
 
 some_target : (t : InExportDesc) → SoundTarget t → Spelled (target_rest t)
 some_target target.Kind h = record { value = (kind.Func, 0); bytes = 0 ∷ 0 ∷ []; spelled = (0 ∷ [], 0 ∷ [], refl, refl, zero_u32) }
 some_target (target.Index k r) h = record { value = (k, r.low); bytes = 0 ∷ []; spelled = (r.low, 0 ∷ [], [], refl, last_byte r h.0, (refl, refl)) }
 
-some_run : (r : InRun) → SoundRun r → Spelled (run_rest r)
-some_run (run.Count r) h = record { value = (r.low, I32); bytes = 0 ∷ 0x7F ∷ []; spelled = (r.low, 0 ∷ [], 0x7F ∷ [], refl, last_byte r h.0, (refl, refl)) }
-some_run (run.Type n) h = record { value = (n, I32); bytes = 0x7F ∷ []; spelled = (refl, refl) }
+some_run : (p : Profile) (r : InRun) → SoundRun r → Spelled (run_rest p r)
+some_run p (run.Count r) h = record { value = (r.low, I32); bytes = 0 ∷ 0x7F ∷ []; spelled = (r.low, 0 ∷ [], 0x7F ∷ [], refl, last_byte r h.0, (refl, refl, refl)) }
+some_run p (run.Type n) h = record { value = (n, I32); bytes = 0x7F ∷ []; spelled = (refl, refl, refl) }
 
-some_value : (v : InValue) → SoundValue v → Spelled (value_rest v)
-some_value (value.Import d) h = let s = some_desc d h in record { value = plain.Import s.value; bytes = s.bytes; spelled = (s.value, refl, s.spelled) }
-some_value (value.Table t) h = let s = some_table t h in record { value = plain.Table s.value; bytes = s.bytes; spelled = (s.value, refl, s.spelled) }
-some_value (value.Memory l) h = let s = some_limits l h in record { value = plain.Memory s.value; bytes = s.bytes; spelled = (s.value, refl, s.spelled) }
-some_value (value.Export t) h = let s = some_target t h in record { value = plain.Export s.value.0 s.value.1; bytes = s.bytes; spelled = (s.value, refl, s.spelled) }
+some_value : (p : Profile) (v : InValue) → SoundValue v → Spelled (value_rest p v)
+some_value p (value.Import d) h = let s = some_desc p d h in record { value = plain.Import s.value; bytes = s.bytes; spelled = (s.value, refl, s.spelled) }
+some_value p (value.Table t) h = let s = some_table t h in record { value = plain.Table s.value; bytes = s.bytes; spelled = (s.value, refl, s.spelled) }
+some_value p (value.Memory l) h = let s = some_limits l h in record { value = plain.Memory s.value; bytes = s.bytes; spelled = (s.value, refl, s.spelled) }
+some_value p (value.Export t) h = let s = some_target t h in record { value = plain.Export s.value.0 s.value.1; bytes = s.bytes; spelled = (s.value, refl, s.spelled) }
 
-pub some_type : (g : ValType → Item) → Comes (ValueType g)
-some_type g = record { bytes = 0x7F ∷ []; marks = outside_mark (Some (g I32)) ∷ []; spelled = (I32, refl, refl) }
+pub some_type : (p : Profile) (g : ValType → Item) → Comes (ValueType p g)
+some_type p g = record { bytes = 0x7F ∷ []; marks = outside_mark (Some (g I32)) ∷ []; spelled = (I32, (refl, refl), refl) }
 
-pub some_results : Comes ResultTypes
-some_results = some_number (λ n. Some (result_count n)) (λ n. Times n (ValueType one_result)) (λ n. some_times n (ValueType one_result) (some_type one_result))
+pub some_results : (p : Profile) → Comes (ResultTypes p)
+some_results p = some_number (λ n. Some (result_count n)) (λ n. Times n (ValueType p one_result)) (λ n. some_times n (ValueType p one_result) (some_type p one_result))
 
 some_data : Comes DataByte
 some_data = record { bytes = 0 ∷ []; marks = outside_mark (Some (data_byte 0)) ∷ []; spelled = (0, (refl, omega arith), refl) }
 
-a_run : Comes Run
-a_run = record { bytes = 0 ∷ 0x7F ∷ []; marks = marks_ending (Some (locals 0 I32)) (0 ∷ 0x7F ∷ []); spelled = ((0, I32), (0 ∷ [], 0x7F ∷ [], refl, zero_u32, refl), refl) }
+a_run : (p : Profile) → Comes (Run p)
+a_run p = record { bytes = 0 ∷ 0x7F ∷ []; marks = marks_ending (Some (locals 0 I32)) (0 ∷ 0x7F ∷ []); spelled = ((0, I32), (refl, (0 ∷ [], 0x7F ∷ [], refl, zero_u32, refl)), refl) }
 
 module _ (p : Profile) where
   some_ops : (part : Op → Item) (left : ℕ) (e : InExpression) → SoundExpression left e → Comes (ExpressionRest p part e)
@@ -196,20 +197,20 @@ module _ (p : Profile) where
       let s = some_expression p part 0 start (start_sound 0 few) in
       record { bytes = s.0; marks = s.1; spelled = (expression_same loose p part).from s.0 s.1 s.2 }
 
-  pub some_runs : (n : ℕ) → Comes (Then (Times n Run) (Expression p body_op))
-  some_runs n = some_then (Times n Run) (Expression p body_op) (some_times n Run a_run) (some_whole body_op)
+  pub some_runs : (n : ℕ) → Comes (Then (Times n (Run p)) (Expression p body_op))
+  some_runs n = some_then (Times n (Run p)) (Expression p body_op) (some_times n (Run p) (a_run p)) (some_whole body_op)
 
   pub some_of_entry : (left : ℕ) (q : InEntry) → StandsEntry left q → Comes (EntryRest loose p q)
-  some_of_entry left (entry.RunCount r) h = some_counted nothing_at (λ n. Then (Times n Run) (Expression p body_op)) r h some_runs
-  some_of_entry left (entry.Run more r) h = some_then (Leaf (run_rest r) run_part) (Then (Times more Run) (Expression p body_op)) (some_leaf (run_rest r) run_part (some_run r h)) (some_runs more)
+  some_of_entry left (entry.RunCount r) h = some_counted nothing_at (λ n. Then (Times n (Run p)) (Expression p body_op)) r h some_runs
+  some_of_entry left (entry.Run more r) h = some_then (Leaf (run_rest p r) run_part) (Then (Times more (Run p)) (Expression p body_op)) (some_leaf (run_rest p r) run_part (some_run p r h)) (some_runs more)
   some_of_entry left (entry.Body e) h = some_ops body_op left e h.1
   some_of_entry left entry.Over h = absurd h
   some_of_entry left (entry.Failed w) h = absurd h
 
   pub some_size : (n : ℕ) → Comes (InSize loose p n)
   some_size n =
-      let all : MarkedForm = Then (Vector Run) (Expression p body_op) in
-      some_sized n (Entry all) (some_entry all (some_then (Vector Run) (Expression p body_op) (some_vector Run a_run) (some_whole body_op)))
+      let all : MarkedForm = Then (Vector (Run p)) (Expression p body_op) in
+      some_sized n (Entry all) (some_entry all (some_then (Vector (Run p)) (Expression p body_op) (some_vector (Run p) (a_run p)) (some_whole body_op)))
 
   a_function : Comes (Index element_function)
   a_function = some_index element_function
@@ -230,33 +231,33 @@ module _ (p : Profile) where
   after_index (index.ElementFunction more) = some_times more (Index element_function) a_function
   after_index index.Segment = some_then (Expression p const_op) (Vector DataByte) (some_whole const_op) (some_vector DataByte some_data)
 
-  a_desc : Comes (Leaf SpellsDesc import_desc)
-  a_desc = some_leaf SpellsDesc import_desc (some_desc import.Kind tt)
+  a_desc : Comes (Desc p)
+  a_desc = some_leaf (Those (HasDesc p) SpellsDesc) import_desc (some_desc p import.Kind tt)
 
   pub after_name : (of : NameKind) → Comes (AfterName loose p of)
-  after_name name.ImportModule = some_then (Name loose (name_item name.ImportName)) (Leaf SpellsDesc import_desc) (some_name (name_item name.ImportName)) a_desc
+  after_name name.ImportModule = some_then (Name loose (name_item name.ImportName)) (Desc p) (some_name (name_item name.ImportName)) a_desc
   after_name name.ImportName = a_desc
   after_name name.Export = some_leaf (target_rest target.Kind) (λ t. export t.0 t.1) (some_target target.Kind tt)
   after_name name.Custom = some_empty
 
-  after_params : (n : ℕ) → Comes (Then (Times n (ValueType param)) ResultTypes)
-  after_params n = some_then (Times n (ValueType param)) ResultTypes (some_times n (ValueType param) (some_type param)) some_results
+  after_params : (n : ℕ) → Comes (Then (Times n (ValueType p param)) (ResultTypes p))
+  after_params n = some_then (Times n (ValueType p param)) (ResultTypes p) (some_times n (ValueType p param) (some_type p param)) (some_results p)
 
-  some_form : Comes FunctionType
-  some_form = some_then (OneByte 0x60 (Some new_type)) (Then (Vector (ValueType param)) ResultTypes) (record { bytes = 0x60 ∷ []; marks = outside_mark (Some new_type) ∷ []; spelled = (refl, refl) })
-      (some_then (Vector (ValueType param)) ResultTypes (some_vector (ValueType param) (some_type param)) some_results)
+  some_form : Comes (FunctionType p)
+  some_form = some_then (OneByte 0x60 (Some new_type)) (Then (Vector (ValueType p param)) (ResultTypes p)) (record { bytes = 0x60 ∷ []; marks = outside_mark (Some new_type) ∷ []; spelled = (refl, refl) })
+      (some_then (Vector (ValueType p param)) (ResultTypes p) (some_vector (ValueType p param) (some_type p param)) (some_results p))
 
   some_place : (left : ℕ) (q : InMember) (y : List ℕ) → Stands left q → Comes (ComponentRest loose p q y)
   some_place left at.TypeForm y h = some_form
-  some_place left (at.ParamCount r) y h = some_counted nothing_at (λ n. Then (Times n (ValueType param)) ResultTypes) r h after_params
+  some_place left (at.ParamCount r) y h = some_counted nothing_at (λ n. Then (Times n (ValueType p param)) (ResultTypes p)) r h after_params
   some_place left (at.Param more) y h = after_params (suc more)
-  some_place left (at.ResultCount r) y h = some_counted (λ n. Some (result_count n)) (λ n. Times n (ValueType one_result)) r h (λ n. some_times n (ValueType one_result) (some_type one_result))
-  some_place left (at.ResultType more) y h = some_times (suc more) (ValueType one_result) (some_type one_result)
+  some_place left (at.ResultCount r) y h = some_counted (λ n. Some (result_count n)) (λ n. Times n (ValueType p one_result)) r h (λ n. some_times n (ValueType p one_result) (some_type p one_result))
+  some_place left (at.ResultType more) y h = some_times (suc more) (ValueType p one_result) (some_type p one_result)
   some_place left (at.NameLength of r) y h = some_then (TextLeft loose r (name_item of)) (AfterName loose p of) (some_text (name_item of) r h) (after_name of)
   some_place left (at.Name of more) y h = some_then (NameLeft loose y (suc more) (name_item of)) (AfterName loose p of) (some_name_left (name_item of) y (suc more)) (after_name of)
-  some_place left (at.Value v) y h = some_leaf (value_rest v) plain_item (some_value v h)
+  some_place left (at.Value v) y h = some_leaf (value_rest p v) plain_item (some_value p v h)
   some_place left (at.Index of r) y h = some_counted (index_mark loose p of) (λ n. AfterIndex loose p of) r h (λ n. after_index of)
-  some_place left (at.GlobalType g) y h = some_then (Leaf (global_rest g) global_part) (Expression p const_op) (some_leaf (global_rest g) global_part (some_global g)) (some_whole const_op)
+  some_place left (at.GlobalType g) y h = some_then (Leaf (global_rest p g) global_part) (Expression p const_op) (some_leaf (global_rest p g) global_part (some_global p g)) (some_whole const_op)
   some_place left (at.Constant of e) y h = some_then (ExpressionRest p const_op e) (AfterConstant loose p of) (some_ops const_op left e h.1) (after_constant of)
   some_place left (at.Length of r) y h = some_counted nothing_at (λ n. Times n (Listed loose p of)) r h (λ n. some_times n (Listed loose p of) (some_listed of))
   some_place left (at.Data more) y h = some_times (suc more) DataByte some_data

@@ -38,13 +38,13 @@ pub last_end : (p : Profile) (f more left : ℕ)
     → step_of p (machine.Section section_kind.Code f (suc more) (suc left) (at.Entry 0 (entry.Body (expression.Op 0 in_op.First)))) 0x0B
     ≡ (machine.Section section_kind.Code f more left (at.EntrySize fresh), event.Complete (plain.BodyOp op.End))
 last_end p f more left =
-    ap (λ y. (machine_in_member section_kind.Code f (suc more) (suc left) (member_in_entry 0 (entry_after_op (after_reading 0 y).0)), op_event plain.BodyOp (after_reading 0 y).1)) (is_alone p 0x0B op.End tt refl)
+    ap (λ y. (machine_in_member section_kind.Code f (suc more) (suc left) (member_in_entry 0 (entry_after_op (after_reading 0 y).0)), op_event plain.BodyOp (after_reading 0 y).1)) (is_alone p 0x0B op.End refl)
 
 -- the same for what the code knows
-pub last_steps : (left more depth c : ℕ) (q : InOp) (r : Partial) → q ≡ in_op.First → c ≡ 0x0B → depth ≡ 0 → more ≡ 0 → 0 < left → r ≡ fresh
-    → StepsTo section_kind.Code left (at.Entry more (entry.Body (expression.Op depth q))) c (record { left = left - 1; at = at.EntrySize r; part = Some (plain.BodyOp op.End) })
-last_steps zero more depth c q r eq ec ed em less er = absurd (omega arith)
-last_steps (suc l) more depth c q r eq ec ed em less er = λ p f n.
+pub last_steps : (p : Profile) (left more depth c : ℕ) (q : InOp) (r : Partial) → q ≡ in_op.First → c ≡ 0x0B → depth ≡ 0 → more ≡ 0 → 0 < left → r ≡ fresh
+    → StepsTo p section_kind.Code left (at.Entry more (entry.Body (expression.Op depth q))) c (record { left = left - 1; at = at.EntrySize r; part = Some (plain.BodyOp op.End) })
+last_steps p zero more depth c q r eq ec ed em less er = absurd (omega arith)
+last_steps p (suc l) more depth c q r eq ec ed em less er = λ f n.
     let one : l ≡ suc l - 1 = omega arith in
     ap (λ y. step_of p (machine.Section section_kind.Code f (suc n) (suc l) (at.Entry more (entry.Body (expression.Op depth y)))) c) eq
     ∙ (ap (λ y. step_of p (machine.Section section_kind.Code f (suc n) (suc l) (at.Entry more (entry.Body (expression.Op depth in_op.First)))) y) ec
@@ -99,5 +99,5 @@ part_room may p m n part name h k c step room = inl (subst (λ y. MayRunOutAtEve
     at_event None r = absurd r
 
 -- the same place, by what is known of it
-pub steps_so : (of kind : SectionKind) (left : ℕ) (q r : InMember) (c : ℕ) (s : Stepped) → of ≡ kind → q ≡ r → StepsTo kind left r c s → StepsTo of left q c s
-steps_so of kind left q r c s e f h = subst (λ y. StepsTo y left q c s) (sym e) (subst (λ y. StepsTo kind left y c s) (sym f) h)
+pub steps_so : (p : Profile) (of kind : SectionKind) (left : ℕ) (q r : InMember) (c : ℕ) (s : Stepped) → of ≡ kind → q ≡ r → StepsTo p kind left r c s → StepsTo p of left q c s
+steps_so p of kind left q r c s e f h = subst (λ y. StepsTo p y left q c s) (sym e) (subst (λ y. StepsTo p kind left y c s) (sym f) h)

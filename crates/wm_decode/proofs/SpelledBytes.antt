@@ -1,8 +1,8 @@
 -- What is spelled consists of bytes.
-use Rattle.std.proofs.Common.{ℕ, ◌<◌, ◌≤◌, ◌^◌, ℤ, List, [], ◌∷◌, Option, Some, None, length, sym, subst, arith, inl, inr, ◌-◌, Bool, true, false}
+use Rattle.std.proofs.Common.{ℕ, zero, suc, ◌<◌, ◌≤◌, ◌/◌, ◌%◌, ◌^◌, ℤ, List, [], ◌∷◌, Option, Some, None, length, sym, subst, arith, inl, inr, ◌-◌, Bool, true, false}
 use Rattle.std.proofs.lemmas.Option.{slice_get_within}
 use Rattle.wm_syntax.specs.declared.types.ValType.{ValType}
-use Rattle.wm_syntax.specs.declared.types.ValType.TheVariants.{I32, I64}
+use Rattle.wm_syntax.specs.declared.types.ValType.TheVariants.{I32, I64, F32, F64}
 use Rattle.wm_syntax.specs.declared.types.Limits.{Limits}
 use Rattle.wm_syntax.specs.declared.types.GlobalType.{GlobalType}
 use Rattle.wm_syntax.specs.declared.instructions.Simple.{Simple}
@@ -14,24 +14,26 @@ use Rattle.wm_syntax.specs.declared.modules.ImportDesc.TheVariants as desc
 use Rattle.wm_syntax.specs.declared.modules.ExportKind.{ExportKind}
 use Rattle.wm_syntax.specs.declared.modules.ExportKind.TheVariants as kind
 use Rattle.wm_syntax.specs.declared.profile.Profile.{Profile}
-use Rattle.wm_syntax.specs.declared.profile.Profile.TheVariants.{Two}
+use Rattle.wm_syntax.specs.declared.profile.Profile.TheVariants.{Four}
+use Rattle.wm_syntax.proofs.ProfileLaws.{four_extends, module_of_four}
 use Rattle.wm_syntax.specs.Spelling.{Form, Byte, Exactly, AreBytes, Each, ◌▸◌}
 use Rattle.wm_syntax.specs.Leb128.{Unsigned, Signed}
-use Rattle.wm_syntax.specs.Types.{SpellsU32, SpellsBytes, SpellsName, SpellsList, SpellsValType, SpellsBlockType, SpellsSignature, SpellsBounds, SpellsLimits, SpellsTableType, SpellsVar, SpellsGlobalType}
-use Rattle.wm_syntax.specs.Instructions.{SpellsImmediates, SpellsOp}
+use Rattle.wm_syntax.specs.Types.{Signature, SpellsU32, SpellsBytes, SpellsName, SpellsList, SpellsValType, SpellsBlockType, SpellsSignature, SpellsBounds, SpellsLimits, SpellsTableType, SpellsVar, SpellsGlobalType}
+use Rattle.wm_syntax.specs.Instructions.{SpellsFloat, SpellsImmediates, SpellsOp}
+use Rattle.wm_syntax.specs.Profiles.{HasSignature}
 use Rattle.wm_syntax.specs.Opcodes.{opcode}
 use Rattle.wm_syntax.specs.OpClasses.{class_of}
 use Rattle.wm_syntax.specs.exact.ByteTable.{classes}
-use Rattle.wm_syntax.specs.Modules.{Module}
+use Rattle.wm_syntax.specs.Modules.{Import, Module}
 use Rattle.wm_syntax.proofs.OpTable.{found_simple}
-use Rattle.wm_decode.specs.Sections.{Sized, Section, ListSection, StartSection, Customs, SpellsCustom, header, SpellsDesc, SpellsImport, SpellsExport, SpellsRun, SpellsModule, kind_byte}
+use Rattle.wm_decode.specs.Sections.{Sized, Those, Section, ListSection, StartSection, Customs, SpellsCustom, header, SpellsDesc, SpellsImport, SpellsExport, SpellsRun, SpellsModule, kind_byte}
 use Rattle.wm_decode.specs.Items.{Marks}
 use Rattle.wm_decode.specs.Grammar.{strict, Module as Whole}
-use Rattle.wm_decode.specs.Flat.{SpellsOps, SpellsFlatGlobal, SpellsFlatElement, SpellsFlatCode, SpellsFlatSegment, FlatModule, InOrder, flat_sections, SpellsFlat}
+use Rattle.wm_decode.specs.Grammar.{HasGlobalType}
+use Rattle.wm_decode.specs.Flat.{HasImport, SpellsOps, SpellsFlatGlobal, SpellsFlatElement, SpellsFlatCode, SpellsFlatSegment, FlatModule, InOrder, flat_sections, SpellsFlat}
 use Rattle.wm_decode.proofs.ByteLists.{bytes-append}
 use Rattle.wm_decode.proofs.GrammarValues.{items_to}
-use Rattle.wm_decode.proofs.Nesting.{flat_to}
-use Rattle.wm_decode.proofs.OneModule.{module_of_two}
+use Rattle.wm_decode.proofs.Nesting.{flat_to, spells_more}
 
 -- what the form describes consists of bytes
 abbrev InBytes : Form ℕ → Type 0
@@ -78,6 +80,8 @@ in_name text b h = in_bytes text b h.0
 in_type : (t : ValType) → InBytes (SpellsValType t)
 in_type I32 = in_byte 0x7F (omega arith)
 in_type I64 = in_byte 0x7E (omega arith)
+in_type F32 = in_byte 0x7D (omega arith)
+in_type F64 = in_byte 0x7C (omega arith)
 
 in_block : (t : Option ValType) → InBytes (SpellsBlockType t)
 in_block None = in_byte 0x40 (omega arith)
@@ -107,6 +111,10 @@ in_opcode i =
     let few : length classes ≤ 2 ^ 8 = omega arith in
     omega arith
 
+in_float : (width n : ℕ) → InBytes (SpellsFloat width n)
+in_float zero n = λ b h. in_none b h.1
+in_float (suc width) n = in_then (in_byte (n % 256) (omega arith)) (in_float width (n / 256))
+
 in_immediates : (i : Simple) → InBytes (SpellsImmediates i)
 in_immediates (s.Br l) = in_u32 l
 in_immediates (s.BrIf l) = in_u32 l
@@ -121,6 +129,8 @@ in_immediates s.MemorySize = in_byte 0x00 (omega arith)
 in_immediates s.MemoryGrow = in_byte 0x00 (omega arith)
 in_immediates (s.I32Const n) = in_signed 32 n
 in_immediates (s.I64Const n) = in_signed 64 n
+in_immediates (s.F32Const n) = in_float 4 n
+in_immediates (s.F64Const n) = in_float 8 n
 in_immediates (s.Load o at) = in_then (in_u32 at.align) (in_u32 at.offset)
 in_immediates (s.Store o at) = in_then (in_u32 at.align) (in_u32 at.offset)
 in_immediates _ = in_none
@@ -158,6 +168,15 @@ in_desc (desc.Table l) = in_then (in_byte 0x01 (omega arith)) (in_table l)
 in_desc (desc.Memory l) = in_then (in_byte 0x02 (omega arith)) (in_limits l)
 in_desc (desc.Global g) = in_then (in_byte 0x03 (omega arith)) (in_global_type g)
 
+in_signature : (f : Signature) → InBytes (SpellsSignature f)
+in_signature f = in_then (in_byte 0x60 (omega arith)) (in_then (in_list SpellsValType in_type f.params) (in_list SpellsValType in_type f.results))
+
+in_import : (i : Import) → InBytes (SpellsImport i)
+in_import i = in_then (in_name i.module_name) (in_then (in_name i.item_name) (in_desc i.desc))
+
+in_run : (p : Profile) (r : ℕ × ValType) → InBytes (SpellsRun p r)
+in_run p r b h = in_then {P = SpellsU32 r.0} {Q = SpellsValType r.1} (in_u32 r.0) (in_type r.1) b h.1
+
 in_kind : (k : ExportKind) → InBytes (Byte (kind_byte k))
 in_kind kind.Func = in_byte 0x00 (omega arith)
 in_kind kind.Table = in_byte 0x01 (omega arith)
@@ -171,16 +190,16 @@ module _ (p : Profile) where
   in_flat : (v : FlatModule) → InBytes (Exactly header ▸ InOrder (flat_sections p v))
   in_flat v =
       in_then (λ b h. subst AreBytes (sym h) (omega arith, (omega arith, (omega arith, (omega arith, (omega arith, (omega arith, (omega arith, (omega arith, tt)))))))))
-      (in_next (in_listed SpellsSignature 1 (omega arith) (λ f. in_then (in_byte 0x60 (omega arith)) (in_then (in_list SpellsValType in_type f.params) (in_list SpellsValType in_type f.results))) v.types)
-      (in_next (in_listed SpellsImport 2 (omega arith) (λ i. in_then (in_name i.module_name) (in_then (in_name i.item_name) (in_desc i.desc))) v.imports)
+      (in_next (in_listed (Those (HasSignature p) SpellsSignature) 1 (omega arith) (λ f b h. in_signature f b h.1) v.types)
+      (in_next (in_listed (Those (HasImport p) SpellsImport) 2 (omega arith) (λ i b h. in_import i b h.1) v.imports)
       (in_next (in_listed SpellsU32 3 (omega arith) in_u32 v.functions)
       (in_next (in_listed SpellsTableType 4 (omega arith) in_table v.tables)
       (in_next (in_listed SpellsLimits 5 (omega arith) in_limits v.memories)
-      (in_next (in_listed (SpellsFlatGlobal p) 6 (omega arith) (λ g. in_then (in_global_type g.ty) (in_ops g.init)) v.globals)
+      (in_next (in_listed (SpellsFlatGlobal p) 6 (omega arith) (λ g. in_then {P = Those (HasGlobalType p) SpellsGlobalType g.ty} {Q = SpellsOps p g.init} (λ b h. in_global_type g.ty b h.1) (in_ops g.init)) v.globals)
       (in_next (in_listed SpellsExport 7 (omega arith) (λ e. in_then (in_name e.name) (in_then (in_kind e.kind) (in_u32 e.index))) v.exports)
       (in_next (in_start v.start)
       (in_next (in_listed (SpellsFlatElement p) 9 (omega arith) (λ e. in_then (in_u32 e.table) (in_then (in_ops e.offset) (in_list SpellsU32 in_u32 e.functions))) v.elements)
-      (in_next (in_listed (SpellsFlatCode p) 10 (omega arith) (λ c. in_sized (in_then (in_list SpellsRun (λ r. in_then (in_u32 r.0) (in_type r.1)) c.runs) (in_ops c.ops))) v.codes)
+      (in_next (in_listed (SpellsFlatCode p) 10 (omega arith) (λ c. in_sized (in_then (in_list (SpellsRun p) (in_run p) c.runs) (in_ops c.ops))) v.codes)
       (in_next (in_listed (SpellsFlatSegment p) 11 (omega arith) (λ s. in_then (in_u32 s.memory) (in_then (in_ops s.offset) (in_bytes s.bytes))) v.segments)
       in_customs)))))))))))
     where
@@ -193,5 +212,5 @@ module _ (p : Profile) where
   pub whole_bytes : (b : List ℕ) (k : Marks) → Whole strict p b k → AreBytes b
   whole_bytes b k h = let u = items_to p b k h in flat_bytes u.0 b u.1
 
-pub spelled_bytes : (m : Module) (b : List ℕ) → SpellsModule m b → AreBytes b
-spelled_bytes m b h = let u = flat_to Two m b h (module_of_two m) in flat_bytes Two u.0 b u.2
+pub spelled_bytes : (p : Profile) (m : Module) (b : List ℕ) → SpellsModule p m b → AreBytes b
+spelled_bytes p m b h = let u = flat_to Four m b (spells_more p Four (four_extends p) m b h) (module_of_four m) in flat_bytes Four u.0 b u.2

@@ -7,17 +7,20 @@ use Rattle.wm_syntax.specs.inner.Numbers.{Partial}
 use Rattle.wm_syntax.specs.exact.Reading.{fresh, unsigned_push}
 use Rattle.wm_syntax.specs.Spelling.{Form, Byte, ◌▸◌}
 use Rattle.wm_syntax.specs.Types.{SpellsU32, SpellsValType, SpellsBounds, SpellsLimits, SpellsTableType, SpellsVar, SpellsGlobalType, type_byte}
+use Rattle.wm_syntax.specs.declared.profile.Profile.{Profile}
+use Rattle.wm_syntax.specs.Profiles.{has, type_feature, HasType, HasDesc}
 use Rattle.wm_syntax.specs.declared.why.Why.{Why}
 use Rattle.wm_syntax.specs.declared.types.ValType.{ValType}
 use Rattle.wm_syntax.proofs.SameTypes.{byte_tells}
-use Rattle.wm_syntax.specs.declared.types.ValType.TheVariants.{I32, I64}
+use Rattle.wm_syntax.specs.declared.types.ValType.TheVariants.{I32, I64, F32, F64}
 use Rattle.wm_syntax.specs.declared.types.Limits.{Limits}
 use Rattle.wm_syntax.specs.declared.types.GlobalType.{GlobalType}
 use Rattle.wm_syntax.specs.declared.modules.ImportDesc.{ImportDesc}
 use Rattle.wm_syntax.specs.declared.modules.ImportDesc.TheVariants as desc
 use Rattle.wm_syntax.specs.declared.modules.ExportKind.{ExportKind}
 use Rattle.wm_syntax.specs.declared.modules.ExportKind.TheVariants as kind
-use Rattle.wm_decode.specs.Sections.{SpellsDesc, SpellsRun, kind_byte}
+use Rattle.wm_decode.specs.Sections.{Those, SpellsDesc, SpellsRun, kind_byte}
+use Rattle.wm_decode.specs.Grammar.{HasGlobalType}
 use Rattle.wm_decode.specs.exact.Readings.{Goes}
 use Rattle.wm_decode.specs.declared.machine.Plain.{Plain}
 use Rattle.wm_decode.specs.declared.machine.Plain.TheVariants as plain
@@ -37,7 +40,7 @@ use Rattle.wm_decode.specs.declared.step.values.InRun.{InRun}
 use Rattle.wm_decode.specs.declared.step.values.InRun.TheVariants as run
 use Rattle.wm_decode.specs.declared.step.values.InValue.{InValue}
 use Rattle.wm_decode.specs.declared.step.values.InValue.TheVariants as value
-use Rattle.wm_decode.specs.exact.ValueSteps.{read_number, map_reading, after_min, flag_step, limits_push, table_type_push, value_type_of, read_type, var_step, global_type_push, desc_kind_step, desc_push, target_kind_step, target_push, run_push, value_push}
+use Rattle.wm_decode.specs.exact.ValueSteps.{read_number, map_reading, after_min, flag_step, limits_push, table_type_push, type_under, value_type_of, read_type, var_step, global_type_push, desc_kind_step, desc_push, target_kind_step, target_push, run_push, value_push}
 use Rattle.wm_decode.proofs.FirstBytes.{head_same, tail_same, not_nil}
 use Rattle.wm_decode.proofs.Numbers.{Left, NumberNext, number_next, left_nil, fresh_number}
 use Rattle.wm_decode.proofs.Leaves.{IsReader}
@@ -246,106 +249,6 @@ table_some : (at : InTableType) (l : Limits) → table_rest at l [] → ⊥
 table_some table.ElementType l h = byte_some 0x70 (SpellsLimits l) h
 table_some (table.Limits at) l h = limits_some at h.0 h.2
 
--- value types
-abbrev pub TypeAnswer : ℕ → Result ValType Why → Type 0
-TypeAnswer c (Ok t) = c ≡ type_byte t
-TypeAnswer c (Err w) = (t : ValType) → c ≡ type_byte t → ⊥
-
-no_type : (c : ℕ) (t : ValType) → (c ≡ 0x7F → ⊥) → (c ≡ 0x7E → ⊥) → c ≡ type_byte t → ⊥
-no_type c I32 a d e = a e
-no_type c I64 a d e = d e
-
-pub type_answer : (c : ℕ) → TypeAnswer c (value_type_of c)
-type_answer c =
-    cond_both (nat_eq c 0x7F) _ _ (TypeAnswer c) (λ a. eqb-true c 0x7F a)
-    (λ a. cond_both (nat_eq c 0x7E) _ _ (TypeAnswer c) (λ d. eqb-true c 0x7E d)
-    (λ d. let none : (t : ValType) → c ≡ type_byte t → ⊥ = λ t. no_type c t (eqb-false c 0x7F a) (eqb-false c 0x7E d) in
-    cond_both (nat_eq c 0x7D) _ _ (TypeAnswer c) (λ _. none) (λ _. cond_both (nat_eq c 0x7C) _ _ (TypeAnswer c) (λ _. none) (λ _. none))))
-
--- global types
-abbrev pub global_rest : InGlobalType → GlobalType → Form ℕ
-global_rest global.Type g b = SpellsGlobalType g b
-global_rest (global.Var t) g b = (g.ty ≡ t) × SpellsVar g.var b
-
-type_reads : (c : ℕ) (q : Result ValType Why) → TypeAnswer c q → (g : GlobalType) (b : List ℕ) → SpellsGlobalType g (c ∷ b) ↔ Goes global_rest (read_type q (λ t. More (global.Var t))) g b
-type_reads c (Ok t) e g b = (
-  λ h. let f = first_byte (type_byte g.ty) c (SpellsVar g.var) b h in (byte_tells g.ty t (sym f.0 ∙ e), f.1),
-  λ h. subst (λ y. SpellsGlobalType g (y ∷ b)) (ap type_byte h.0 ∙ sym e) (with_byte (type_byte g.ty) (SpellsVar g.var) b h.1),
-)
-type_reads c (Err w) n g b = (
-  λ h. n g.ty (first_byte (type_byte g.ty) c (SpellsVar g.var) b h).0,
-  λ h. absurd h,
-)
-
-var_to : (t : ValType) (v : Bool) (c : ℕ) (b : List ℕ) → SpellsVar v (c ∷ b) → Goes global_rest (var_step t c) (record { ty = t; var = v }) b
-var_to t false c b h = let e = this_byte 0x00 c b h in subst (λ y. Goes global_rest (var_step t y) (record { ty = t; var = false }) b) (sym e.0) (refl, e.1)
-var_to t true c b h = let e = this_byte 0x01 c b h in subst (λ y. Goes global_rest (var_step t y) (record { ty = t; var = true }) b) (sym e.0) (refl, e.1)
-
-var_from : (t : ValType) (g : GlobalType) (c : ℕ) (b : List ℕ) → Goes global_rest (var_step t c) g b → (g.ty ≡ t) × SpellsVar g.var (c ∷ b)
-var_from t g zero b h = (ap (λ (y : GlobalType). y.ty) h.0, subst (λ (y : GlobalType). SpellsVar y.var (0 ∷ b)) (sym h.0) (ap (λ y. 0 ∷ y) h.1))
-var_from t g (suc zero) b h = (ap (λ (y : GlobalType). y.ty) h.0, subst (λ (y : GlobalType). SpellsVar y.var (1 ∷ b)) (sym h.0) (ap (λ y. 1 ∷ y) h.1))
-var_from t g (suc (suc c)) b h = absurd h
-
-global_reads : (at : InGlobalType) (c : ℕ) → c < 2 ^ 8 → Reads global_rest at c (global_type_push at c)
-global_reads global.Type c byte g b = type_reads c (value_type_of c) (type_answer c) g b
-global_reads (global.Var t) c byte g b = (
-  λ h. subst (λ y. Goes global_rest (var_step t c) (record { ty = y; var = g.var }) b) (sym h.0) (var_to t g.var c b h.1),
-  λ h. var_from t g c b h,
-)
-
-var_some : (v : Bool) → SpellsVar v [] → ⊥
-var_some false h = not_nil 0x00 [] (sym h)
-var_some true h = not_nil 0x01 [] (sym h)
-
-global_some : (at : InGlobalType) (g : GlobalType) → global_rest at g [] → ⊥
-global_some global.Type g h = byte_some (type_byte g.ty) (SpellsVar g.var) h
-global_some (global.Var t) g h = var_some g.var h.1
-
-pub global_reader : IsReader global_rest global_type_push
-global_reader = record { law = global_reads; some = global_some }
-
--- what an import brings in
-abbrev pub desc_rest : InImportDesc → ImportDesc → Form ℕ
-desc_rest import.Kind d b = SpellsDesc d b
-desc_rest (import.Func r) d b = NumberThen r (Ends desc.Func d) b
-desc_rest (import.Table at) d b = Within table_rest desc.Table at d b
-desc_rest (import.Memory at) d b = Within limits_rest desc.Memory at d b
-desc_rest (import.Global at) d b = Within global_rest desc.Global at d b
-
-kind_to : (d : ImportDesc) (c : ℕ) (b : List ℕ) → SpellsDesc d (c ∷ b) → Goes desc_rest (desc_kind_step c) d b
-kind_to (desc.Func x) c b h = let f = first_byte 0x00 c (SpellsU32 x) b h in
-    subst (λ y. Goes desc_rest (desc_kind_step y) (desc.Func x) b) (sym f.0) (let n = first_number x b f.1 in (n.0, n.1, n.2, n.3, n.4, (ap desc.Func n.5.0, n.5.1)))
-kind_to (desc.Table l) c b h = let f = first_byte 0x01 c (SpellsTableType l) b h in subst (λ y. Goes desc_rest (desc_kind_step y) (desc.Table l) b) (sym f.0) (l, refl, f.1)
-kind_to (desc.Memory l) c b h = let f = first_byte 0x02 c (SpellsLimits l) b h in subst (λ y. Goes desc_rest (desc_kind_step y) (desc.Memory l) b) (sym f.0) (l, refl, f.1)
-kind_to (desc.Global g) c b h = let f = first_byte 0x03 c (SpellsGlobalType g) b h in subst (λ y. Goes desc_rest (desc_kind_step y) (desc.Global g) b) (sym f.0) (g, refl, f.1)
-
-kind_from : (d : ImportDesc) (c : ℕ) (b : List ℕ) → Goes desc_rest (desc_kind_step c) d b → SpellsDesc d (c ∷ b)
-kind_from d zero b h = subst (λ y. SpellsDesc y (0 ∷ b)) (sym h.5.0) (with_byte 0x00 (SpellsU32 h.0) b (of_number h.0 b (h.0, h.1, h.2, h.3, h.4, (refl, h.5.1))))
-kind_from d (suc zero) b h = subst (λ y. SpellsDesc y (1 ∷ b)) (sym h.1) (with_byte 0x01 (SpellsTableType h.0) b h.2)
-kind_from d (suc (suc zero)) b h = subst (λ y. SpellsDesc y (2 ∷ b)) (sym h.1) (with_byte 0x02 (SpellsLimits h.0) b h.2)
-kind_from d (suc (suc (suc zero))) b h = subst (λ y. SpellsDesc y (3 ∷ b)) (sym h.1) (with_byte 0x03 (SpellsGlobalType h.0) b h.2)
-kind_from d (suc (suc (suc (suc c)))) b h = absurd h
-
-desc_reads : (at : InImportDesc) (c : ℕ) → c < 2 ^ 8 → Reads desc_rest at c (desc_push at c)
-desc_reads import.Kind c byte d b = (kind_to d c b, kind_from d c b)
-desc_reads (import.Func r) c byte d b = number_reads desc_rest c r import.Func (λ n. Done (desc.Func n)) (Ends desc.Func) (λ s x b. same) (λ n x b. same) byte d b
-desc_reads (import.Table at) c byte d b = within_reads table_rest desc.Table desc_rest import.Table (λ r y b. same) at c (table_type_push at c) (table_reads at c byte) d b
-desc_reads (import.Memory at) c byte d b = within_reads limits_rest desc.Memory desc_rest import.Memory (λ r y b. same) at c (limits_push at c) (limits_reads at c byte) d b
-desc_reads (import.Global at) c byte d b = within_reads global_rest desc.Global desc_rest import.Global (λ r y b. same) at c (global_type_push at c) (global_reads at c byte) d b
-
-kind_some : (d : ImportDesc) → SpellsDesc d [] → ⊥
-kind_some (desc.Func x) h = byte_some 0x00 (SpellsU32 x) h
-kind_some (desc.Table l) h = byte_some 0x01 (SpellsTableType l) h
-kind_some (desc.Memory l) h = byte_some 0x02 (SpellsLimits l) h
-kind_some (desc.Global g) h = byte_some 0x03 (SpellsGlobalType g) h
-
-desc_some : (at : InImportDesc) (d : ImportDesc) → desc_rest at d [] → ⊥
-desc_some import.Kind d h = kind_some d h
-desc_some (import.Func r) d h = number_some r (Ends desc.Func d) h
-desc_some (import.Table at) d h = table_some at h.0 h.2
-desc_some (import.Memory at) d h = limits_some at h.0 h.2
-desc_some (import.Global at) d h = global_some at h.0 h.2
-
 -- what an export gives out
 abbrev exporting : ExportKind → ℕ → ExportKind × ℕ
 exporting k n = (k, n)
@@ -386,62 +289,180 @@ target_some : (at : InExportDesc) (t : ExportKind × ℕ) → target_rest at t [
 target_some target.Kind t h = byte_some (kind_byte t.0) (SpellsU32 t.1) h
 target_some (target.Index k r) t h = number_some r (Ends (exporting k) t) h
 
--- a run of locals
-abbrev RunType : ℕ × ValType → ℕ → Form ℕ
-RunType x n b = (x.0 ≡ n) × SpellsValType x.1 b
-
-abbrev pub run_rest : InRun → ℕ × ValType → Form ℕ
-run_rest (run.Count r) x b = NumberThen r (RunType x) b
-run_rest (run.Type n) x b = RunType x n b
-
-run_type : (n c : ℕ) (q : Result ValType Why) → TypeAnswer c q → (x : ℕ × ValType) (b : List ℕ) → RunType x n (c ∷ b) ↔ Goes run_rest (read_type q (λ t. Done (n, t))) x b
-run_type n c (Ok t) e x b = (
-  λ h. let f = this_byte (type_byte x.1) c b h.1 in let s : x.1 ≡ t = byte_tells x.1 t (sym f.0 ∙ e) in (ap (λ y. (y, x.1)) h.0 ∙ ap (λ y. (n, y)) s, f.1),
-  λ h. let s : x.1 ≡ t = ap (λ (y : ℕ × ValType). y.1) h.0 in (ap (λ (y : ℕ × ValType). y.0) h.0, ap (λ y. c ∷ y) h.1 ∙ ap (λ y. y ∷ []) (e ∙ ap type_byte (sym s))),
-)
-run_type n c (Err w) none x b = (
-  λ h. none x.1 (this_byte (type_byte x.1) c b h.1).0,
-  λ h. absurd h,
-)
-
-run_reads : (at : InRun) (c : ℕ) → c < 2 ^ 8 → Reads run_rest at c (run_push at c)
-run_reads (run.Count r) c byte x b = number_reads run_rest c r run.Count (λ n. More (run.Type n)) RunType (λ s x b. same) (λ n x b. same) byte x b
-run_reads (run.Type n) c byte x b = run_type n c (value_type_of c) (type_answer c) x b
-
-run_some : (at : InRun) (x : ℕ × ValType) → run_rest at x [] → ⊥
-run_some (run.Count r) x h = number_some r (RunType x) h
-run_some (run.Type n) x h = not_nil (type_byte x.1) [] (sym h.1)
-
-pub run_reader : IsReader run_rest run_push
-run_reader = record { law = run_reads; some = run_some }
-
-pub run_begins : (x : ℕ × ValType) (b : List ℕ) → SpellsRun x b ↔ run_rest (run.Count fresh) x b
-run_begins x b = (
-  λ h. (x.0, h.0, h.1, h.2, (fresh_number x.0 h.0).0 h.3, (refl, h.4)),
-  λ h. (h.1, h.2, h.3, subst (λ y. SpellsU32 y h.1) (sym h.5.0) ((fresh_number h.0 h.1).1 h.4), h.5.1),
-)
-
--- the value that ends an import, a table, a memory or an export
 abbrev pub export_of : ExportKind × ℕ → Plain
 export_of t = plain.Export t.0 t.1
 
-abbrev pub value_rest : InValue → Plain → Form ℕ
-value_rest (value.Import at) q b = Within desc_rest plain.Import at q b
-value_rest (value.Table at) q b = Within table_rest plain.Table at q b
-value_rest (value.Memory at) q b = Within limits_rest plain.Memory at q b
-value_rest (value.Export at) q b = Within target_rest export_of at q b
+-- what is a type is not refused
+pub type_given : {A : Type 0} (t : ValType) (w : Why) → ◌≡◌ {A = Result ValType Why} (Ok t) (Err w) → A
+type_given t w e = absurd (cc)
 
-value_reads : (at : InValue) (c : ℕ) → c < 2 ^ 8 → Reads value_rest at c (value_push at c)
-value_reads (value.Import at) c byte q b = within_reads desc_rest plain.Import value_rest value.Import (λ r y b. same) at c (desc_push at c) (desc_reads at c byte) q b
-value_reads (value.Table at) c byte q b = within_reads table_rest plain.Table value_rest value.Table (λ r y b. same) at c (table_type_push at c) (table_reads at c byte) q b
-value_reads (value.Memory at) c byte q b = within_reads limits_rest plain.Memory value_rest value.Memory (λ r y b. same) at c (limits_push at c) (limits_reads at c byte) q b
-value_reads (value.Export at) c byte q b = within_reads target_rest export_of value_rest value.Export (λ r y b. same) at c (target_push at c) (target_reads at c byte) q b
+-- what names a value type, under a profile
+module _ (p : Profile) where
+  -- value types
+  abbrev pub TypeAnswer : ℕ → Result ValType Why → Type 0
+  TypeAnswer c (Ok t) = (c ≡ type_byte t) × HasType p t
+  TypeAnswer c (Err w) = (t : ValType) → HasType p t → c ≡ type_byte t → ⊥
 
-value_some : (at : InValue) (q : Plain) → value_rest at q [] → ⊥
-value_some (value.Import at) q h = desc_some at h.0 h.2
-value_some (value.Table at) q h = table_some at h.0 h.2
-value_some (value.Memory at) q h = limits_some at h.0 h.2
-value_some (value.Export at) q h = target_some at h.0 h.2
+  no_type : (c : ℕ) (t : ValType) → (c ≡ 0x7F → ⊥) → (c ≡ 0x7E → ⊥) → (c ≡ 0x7D → ⊥) → (c ≡ 0x7C → ⊥) → c ≡ type_byte t → ⊥
+  no_type c I32 a d f g e = a e
+  no_type c I64 a d f g e = d e
+  no_type c F32 a d f g e = f e
+  no_type c F64 a d f g e = g e
 
-pub value_reader : IsReader value_rest value_push
-value_reader = record { law = value_reads; some = value_some }
+  not_had : (b : Bool) → b ≡ false → b ≡ true → ⊥
+  not_had b n h = let e : false ≡ true = sym n ∙ h in cc
+
+  -- the type that a byte names
+  named_type : (c : ℕ) (t : ValType) → c ≡ type_byte t → TypeAnswer c (type_under p t)
+  named_type c t e =
+      cond_both (has p (type_feature t)) _ _ (TypeAnswer c) (λ h. (e, h))
+      (λ n u h g. not_had (has p (type_feature t)) n (subst (HasType p) (byte_tells u t (sym g ∙ e)) h))
+
+  pub type_answer : (c : ℕ) → TypeAnswer c (value_type_of p c)
+  type_answer c =
+      cond_both (nat_eq c 0x7F) _ _ (TypeAnswer c) (λ a. named_type c I32 (eqb-true c 0x7F a))
+      (λ a. cond_both (nat_eq c 0x7E) _ _ (TypeAnswer c) (λ d. named_type c I64 (eqb-true c 0x7E d))
+      (λ d. cond_both (nat_eq c 0x7D) _ _ (TypeAnswer c) (λ f. named_type c F32 (eqb-true c 0x7D f))
+      (λ f. cond_both (nat_eq c 0x7C) _ _ (TypeAnswer c) (λ g. named_type c F64 (eqb-true c 0x7C g))
+      (λ g t h e. no_type c t (eqb-false c 0x7F a) (eqb-false c 0x7E d) (eqb-false c 0x7D f) (eqb-false c 0x7C g) e))))
+
+  -- global types
+  abbrev pub global_rest : InGlobalType → GlobalType → Form ℕ
+  global_rest global.Type g b = Those (HasGlobalType p) SpellsGlobalType g b
+  global_rest (global.Var t) g b = (g.ty ≡ t) × SpellsVar g.var b
+
+  type_reads : (c : ℕ) (q : Result ValType Why) → TypeAnswer c q → (g : GlobalType) (b : List ℕ) → Those (HasGlobalType p) SpellsGlobalType g (c ∷ b) ↔ Goes global_rest (read_type q (λ t. More (global.Var t))) g b
+  type_reads c (Ok t) e g b = (
+    λ h. let f = first_byte (type_byte g.ty) c (SpellsVar g.var) b h.1 in (byte_tells g.ty t (sym f.0 ∙ e.0), f.1),
+    λ h. (subst (HasType p) (sym h.0) e.1, subst (λ y. SpellsGlobalType g (y ∷ b)) (ap type_byte h.0 ∙ sym e.0) (with_byte (type_byte g.ty) (SpellsVar g.var) b h.1)),
+  )
+  type_reads c (Err w) n g b = (
+    λ h. n g.ty h.0 (first_byte (type_byte g.ty) c (SpellsVar g.var) b h.1).0,
+    λ h. absurd h,
+  )
+
+  var_to : (t : ValType) (v : Bool) (c : ℕ) (b : List ℕ) → SpellsVar v (c ∷ b) → Goes global_rest (var_step t c) (record { ty = t; var = v }) b
+  var_to t false c b h = let e = this_byte 0x00 c b h in subst (λ y. Goes global_rest (var_step t y) (record { ty = t; var = false }) b) (sym e.0) (refl, e.1)
+  var_to t true c b h = let e = this_byte 0x01 c b h in subst (λ y. Goes global_rest (var_step t y) (record { ty = t; var = true }) b) (sym e.0) (refl, e.1)
+
+  var_from : (t : ValType) (g : GlobalType) (c : ℕ) (b : List ℕ) → Goes global_rest (var_step t c) g b → (g.ty ≡ t) × SpellsVar g.var (c ∷ b)
+  var_from t g zero b h = (ap (λ (y : GlobalType). y.ty) h.0, subst (λ (y : GlobalType). SpellsVar y.var (0 ∷ b)) (sym h.0) (ap (λ y. 0 ∷ y) h.1))
+  var_from t g (suc zero) b h = (ap (λ (y : GlobalType). y.ty) h.0, subst (λ (y : GlobalType). SpellsVar y.var (1 ∷ b)) (sym h.0) (ap (λ y. 1 ∷ y) h.1))
+  var_from t g (suc (suc c)) b h = absurd h
+
+  global_reads : (at : InGlobalType) (c : ℕ) → c < 2 ^ 8 → Reads global_rest at c (global_type_push p at c)
+  global_reads global.Type c byte g b = type_reads c (value_type_of p c) (type_answer c) g b
+  global_reads (global.Var t) c byte g b = (
+    λ h. subst (λ y. Goes global_rest (var_step t c) (record { ty = y; var = g.var }) b) (sym h.0) (var_to t g.var c b h.1),
+    λ h. var_from t g c b h,
+  )
+
+  var_some : (v : Bool) → SpellsVar v [] → ⊥
+  var_some false h = not_nil 0x00 [] (sym h)
+  var_some true h = not_nil 0x01 [] (sym h)
+
+  global_some : (at : InGlobalType) (g : GlobalType) → global_rest at g [] → ⊥
+  global_some global.Type g h = byte_some (type_byte g.ty) (SpellsVar g.var) h.1
+  global_some (global.Var t) g h = var_some g.var h.1
+
+  pub global_reader : IsReader global_rest (global_type_push p)
+  global_reader = record { law = global_reads; some = global_some }
+
+  -- what an import brings in
+  abbrev pub desc_rest : InImportDesc → ImportDesc → Form ℕ
+  desc_rest import.Kind d b = Those (HasDesc p) SpellsDesc d b
+  desc_rest (import.Func r) d b = NumberThen r (Ends desc.Func d) b
+  desc_rest (import.Table at) d b = Within table_rest desc.Table at d b
+  desc_rest (import.Memory at) d b = Within limits_rest desc.Memory at d b
+  desc_rest (import.Global at) d b = Within global_rest desc.Global at d b
+
+  kind_to : (d : ImportDesc) (c : ℕ) (b : List ℕ) → Those (HasDesc p) SpellsDesc d (c ∷ b) → Goes desc_rest (desc_kind_step c) d b
+  kind_to (desc.Func x) c b h = let f = first_byte 0x00 c (SpellsU32 x) b h.1 in
+      subst (λ y. Goes desc_rest (desc_kind_step y) (desc.Func x) b) (sym f.0) (let n = first_number x b f.1 in (n.0, n.1, n.2, n.3, n.4, (ap desc.Func n.5.0, n.5.1)))
+  kind_to (desc.Table l) c b h = let f = first_byte 0x01 c (SpellsTableType l) b h.1 in subst (λ y. Goes desc_rest (desc_kind_step y) (desc.Table l) b) (sym f.0) (l, refl, f.1)
+  kind_to (desc.Memory l) c b h = let f = first_byte 0x02 c (SpellsLimits l) b h.1 in subst (λ y. Goes desc_rest (desc_kind_step y) (desc.Memory l) b) (sym f.0) (l, refl, f.1)
+  kind_to (desc.Global g) c b h = let f = first_byte 0x03 c (SpellsGlobalType g) b h.1 in subst (λ y. Goes desc_rest (desc_kind_step y) (desc.Global g) b) (sym f.0) (g, refl, (h.0, f.1))
+
+  kind_from : (d : ImportDesc) (c : ℕ) (b : List ℕ) → Goes desc_rest (desc_kind_step c) d b → Those (HasDesc p) SpellsDesc d (c ∷ b)
+  kind_from d zero b h = subst (λ y. Those (HasDesc p) SpellsDesc y (0 ∷ b)) (sym h.5.0) (tt, with_byte 0x00 (SpellsU32 h.0) b (of_number h.0 b (h.0, h.1, h.2, h.3, h.4, (refl, h.5.1))))
+  kind_from d (suc zero) b h = subst (λ y. Those (HasDesc p) SpellsDesc y (1 ∷ b)) (sym h.1) (tt, with_byte 0x01 (SpellsTableType h.0) b h.2)
+  kind_from d (suc (suc zero)) b h = subst (λ y. Those (HasDesc p) SpellsDesc y (2 ∷ b)) (sym h.1) (tt, with_byte 0x02 (SpellsLimits h.0) b h.2)
+  kind_from d (suc (suc (suc zero))) b h = subst (λ y. Those (HasDesc p) SpellsDesc y (3 ∷ b)) (sym h.1) (h.2.0, with_byte 0x03 (SpellsGlobalType h.0) b h.2.1)
+  kind_from d (suc (suc (suc (suc c)))) b h = absurd h
+
+  desc_reads : (at : InImportDesc) (c : ℕ) → c < 2 ^ 8 → Reads desc_rest at c (desc_push p at c)
+  desc_reads import.Kind c byte d b = (kind_to d c b, kind_from d c b)
+  desc_reads (import.Func r) c byte d b = number_reads desc_rest c r import.Func (λ n. Done (desc.Func n)) (Ends desc.Func) (λ s x b. same) (λ n x b. same) byte d b
+  desc_reads (import.Table at) c byte d b = within_reads table_rest desc.Table desc_rest import.Table (λ r y b. same) at c (table_type_push at c) (table_reads at c byte) d b
+  desc_reads (import.Memory at) c byte d b = within_reads limits_rest desc.Memory desc_rest import.Memory (λ r y b. same) at c (limits_push at c) (limits_reads at c byte) d b
+  desc_reads (import.Global at) c byte d b = within_reads global_rest desc.Global desc_rest import.Global (λ r y b. same) at c (global_type_push p at c) (global_reads at c byte) d b
+
+  kind_some : (d : ImportDesc) → SpellsDesc d [] → ⊥
+  kind_some (desc.Func x) h = byte_some 0x00 (SpellsU32 x) h
+  kind_some (desc.Table l) h = byte_some 0x01 (SpellsTableType l) h
+  kind_some (desc.Memory l) h = byte_some 0x02 (SpellsLimits l) h
+  kind_some (desc.Global g) h = byte_some 0x03 (SpellsGlobalType g) h
+
+  desc_some : (at : InImportDesc) (d : ImportDesc) → desc_rest at d [] → ⊥
+  desc_some import.Kind d h = kind_some d h.1
+  desc_some (import.Func r) d h = number_some r (Ends desc.Func d) h
+  desc_some (import.Table at) d h = table_some at h.0 h.2
+  desc_some (import.Memory at) d h = limits_some at h.0 h.2
+  desc_some (import.Global at) d h = global_some at h.0 h.2
+
+  -- a run of locals
+  abbrev RunType : ℕ × ValType → ℕ → Form ℕ
+  RunType x n b = (x.0 ≡ n) × HasType p x.1 × SpellsValType x.1 b
+
+  abbrev pub run_rest : InRun → ℕ × ValType → Form ℕ
+  run_rest (run.Count r) x b = NumberThen r (RunType x) b
+  run_rest (run.Type n) x b = RunType x n b
+
+  run_type : (n c : ℕ) (q : Result ValType Why) → TypeAnswer c q → (x : ℕ × ValType) (b : List ℕ) → RunType x n (c ∷ b) ↔ Goes run_rest (read_type q (λ t. Done (n, t))) x b
+  run_type n c (Ok t) e x b = (
+    λ h. let f = this_byte (type_byte x.1) c b h.2 in let s : x.1 ≡ t = byte_tells x.1 t (sym f.0 ∙ e.0) in (ap (λ y. (y, x.1)) h.0 ∙ ap (λ y. (n, y)) s, f.1),
+    λ h. let s : x.1 ≡ t = ap (λ (y : ℕ × ValType). y.1) h.0 in (ap (λ (y : ℕ × ValType). y.0) h.0, subst (HasType p) (sym s) e.1, ap (λ y. c ∷ y) h.1 ∙ ap (λ y. y ∷ []) (e.0 ∙ ap type_byte (sym s))),
+  )
+  run_type n c (Err w) none x b = (
+    λ h. none x.1 h.1 (this_byte (type_byte x.1) c b h.2).0,
+    λ h. absurd h,
+  )
+
+  run_reads : (at : InRun) (c : ℕ) → c < 2 ^ 8 → Reads run_rest at c (run_push p at c)
+  run_reads (run.Count r) c byte x b = number_reads run_rest c r run.Count (λ n. More (run.Type n)) RunType (λ s x b. same) (λ n x b. same) byte x b
+  run_reads (run.Type n) c byte x b = run_type n c (value_type_of p c) (type_answer c) x b
+
+  run_some : (at : InRun) (x : ℕ × ValType) → run_rest at x [] → ⊥
+  run_some (run.Count r) x h = number_some r (RunType x) h
+  run_some (run.Type n) x h = not_nil (type_byte x.1) [] (sym h.2)
+
+  pub run_reader : IsReader run_rest (run_push p)
+  run_reader = record { law = run_reads; some = run_some }
+
+  pub run_begins : (x : ℕ × ValType) (b : List ℕ) → SpellsRun p x b ↔ run_rest (run.Count fresh) x b
+  run_begins x b = (
+    λ h. let r = h.1 in (x.0, r.0, r.1, r.2, (fresh_number x.0 r.0).0 r.3, (refl, h.0, r.4)),
+    λ h. (h.5.1, (h.1, h.2, h.3, subst (λ y. SpellsU32 y h.1) (sym h.5.0) ((fresh_number h.0 h.1).1 h.4), h.5.2)),
+  )
+
+  -- the value that ends an import, a table, a memory or an export
+  abbrev pub value_rest : InValue → Plain → Form ℕ
+  value_rest (value.Import at) q b = Within desc_rest plain.Import at q b
+  value_rest (value.Table at) q b = Within table_rest plain.Table at q b
+  value_rest (value.Memory at) q b = Within limits_rest plain.Memory at q b
+  value_rest (value.Export at) q b = Within target_rest export_of at q b
+
+  value_reads : (at : InValue) (c : ℕ) → c < 2 ^ 8 → Reads value_rest at c (value_push p at c)
+  value_reads (value.Import at) c byte q b = within_reads desc_rest plain.Import value_rest value.Import (λ r y b. same) at c (desc_push p at c) (desc_reads at c byte) q b
+  value_reads (value.Table at) c byte q b = within_reads table_rest plain.Table value_rest value.Table (λ r y b. same) at c (table_type_push at c) (table_reads at c byte) q b
+  value_reads (value.Memory at) c byte q b = within_reads limits_rest plain.Memory value_rest value.Memory (λ r y b. same) at c (limits_push at c) (limits_reads at c byte) q b
+  value_reads (value.Export at) c byte q b = within_reads target_rest export_of value_rest value.Export (λ r y b. same) at c (target_push at c) (target_reads at c byte) q b
+
+  value_some : (at : InValue) (q : Plain) → value_rest at q [] → ⊥
+  value_some (value.Import at) q h = desc_some at h.0 h.2
+  value_some (value.Table at) q h = table_some at h.0 h.2
+  value_some (value.Memory at) q h = limits_some at h.0 h.2
+  value_some (value.Export at) q h = target_some at h.0 h.2
+
+  pub value_reader : IsReader value_rest (value_push p)
+  value_reader = record { law = value_reads; some = value_some }

@@ -116,39 +116,39 @@ module _ {H : Type 0} (after : H → Item → Result H Why) (p : Profile) (limit
         ∙ (short_refused after p limit (drop n bytes) (last_of_name of kind f (more - n) left) (behind_name of kind f (more - n - 1) left) (event.EndsName kind) front h (k + n) w some_left (omega arith) last (ap (λ y. and_then y (λ g. Ok ([], g))) given)
         ∙ ap (λ i. Err (record { at = i; why = w })) far)
 
-module _ {H : Type 0} (after : H → Item → Result H Why) (may : H → Item → Type 0) (of : SectionKind) (kind : NameKind) (on : GoesOn of kind) (f left : ℕ) where
+module _ {H : Type 0} (after : H → Item → Result H Why) (may : H → Item → Type 0) (p : Profile) (of : SectionKind) (kind : NameKind) (on : GoesOn of kind) (f left : ℕ) where
   -- a name at the front
   advances_name : {U : Type 0} (bytes : List ℕ) (more n : ℕ) (h g : H) (s : Shortcut) (r : Result U Why) → slice_index bytes 0 ≡ n → 0 < n → n < 2 ^ 7 → n < length bytes → n < more
-      → s.used ≡ n + 1 → s.refused ≡ result_err r → Taken (name_taken after kind (take n (drop 1 bytes)) h) r g → Advances after may bytes (before_name of kind f more left) h s (behind_name of kind f (more - (n + 1)) left) g
+      → s.used ≡ n + 1 → s.refused ≡ result_err r → Taken (name_taken after kind (take n (drop 1 bytes)) h) r g → Advances after may p bytes (before_name of kind f more left) h s (behind_name of kind f (more - (n + 1)) left) g
   advances_name bytes more n h g s (Ok u) first some short inside section used is given = record {
     within = omega arith;
     still = λ e. absurd (omega arith);
-    moved = λ p limit k name go none fits.
+    moved = λ limit k name go none fits.
         name_moved after p limit of kind f left bytes more n name h k first some short inside section fits on g given
         ∙ ap (λ i. decoder_after after p limit (live_so (behind_name of kind f (more - (n + 1)) left) [] g (k + i)) (drop i bytes)) (sym used);
-    stopped = λ p limit k name w no ne fits. absurd (not_both s.refused w is no);
+    stopped = λ limit k name w no ne fits. absurd (not_both s.refused w is no);
     live = λ none l r. r;
     past_header = λ k go far. (omega arith, λ none. omega arith);
-    room = λ p k name low no. absurd (omega arith);
+    room = λ k name low no. absurd (omega arith);
   }
   advances_name bytes more n h g s (Err v) first some short inside section used is given = record {
     within = omega arith;
     still = λ e. absurd (omega arith);
-    moved = λ p limit k name go none fits. absurd (not_both s.refused v none is);
-    stopped = λ p limit k name w no ne fits.
+    moved = λ limit k name go none fits. absurd (not_both s.refused v none is);
+    stopped = λ limit k name w no ne fits.
         let same : v ≡ w = same_why s.refused v w is no in
         name_stopped after p limit of kind f left bytes more n name h k first some short inside section fits on w (given (λ e. ne (sym same ∙ e)) ∙ ap Err same)
         ∙ ap (λ i. Err (record { at = k + i; why = w })) (sym used);
     live = λ none l r. r;
     past_header = λ k go far. (omega arith, λ none. omega arith);
-    room = λ p k name low no. absurd (omega arith);
+    room = λ k name low no. absurd (omega arith);
   }
 
   -- a name after other bytes
   pub name_more : {U : Type 0} (bytes : List ℕ) (m : Machine) (h e g : H) (all i stop : ℕ) (u : Shortcut) (r : Result U Why)
-      → Advances after may bytes m h (record { used = i; refused = None }) (before_name of kind f (all - i) left) e
+      → Advances after may p bytes m h (record { used = i; refused = None }) (before_name of kind f (all - i) left) e
       → NameLies bytes i stop → stop ≤ length bytes → stop ≤ all
-      → u.used ≡ stop → u.refused ≡ result_err r → Taken (name_taken after kind (slice_range bytes (i + 1) stop) e) r g → Advances after may bytes m h u (behind_name of kind f (all - stop) left) g
+      → u.used ≡ stop → u.refused ≡ result_err r → Taken (name_taken after kind (slice_range bytes (i + 1) stop) e) r g → Advances after may p bytes m h u (behind_name of kind f (all - stop) left) g
   name_more bytes m h e g all i stop u r before lies inside section eu er given =
       let n : ℕ = slice_index bytes i in
       let some : i + 1 < stop = lies.some in
@@ -159,7 +159,7 @@ module _ {H : Type 0} (after : H → Item → Result H Why) (may : H → Item �
       let next : all - i - (n + 1) ≡ all - stop = omega arith in
       let first : slice_index (drop i bytes) 0 ≡ n = get_or-drop i bytes 0 0 ∙ ap (λ j. get_or bytes j 0) place in
       let text : slice_range bytes (i + 1) stop ≡ take n (drop 1 (drop i bytes)) = ap (λ j. take j (drop (i + 1) bytes)) (sym count) ∙ ap (λ (y : List ℕ). take n y) (sym (drop-drop 1 i bytes)) in
-      advances_on after may bytes m (before_name of kind f (all - i) left) (behind_name of kind f (all - stop) left) h e g (record { used = i; refused = None }) (record { used = n + 1; refused = u.refused }) u before refl
-      (subst (λ y. Advances after may (drop i bytes) (before_name of kind f (all - i) left) e (record { used = n + 1; refused = u.refused }) (behind_name of kind f y left) g) next
+      advances_on after may p bytes m (before_name of kind f (all - i) left) (behind_name of kind f (all - stop) left) h e g (record { used = i; refused = None }) (record { used = n + 1; refused = u.refused }) u before refl
+      (subst (λ y. Advances after may p (drop i bytes) (before_name of kind f (all - i) left) e (record { used = n + 1; refused = u.refused }) (behind_name of kind f y left) g) next
       (advances_name (drop i bytes) (all - i) n e g (record { used = n + 1; refused = u.refused }) r first (omega arith) lies.short (omega arith) (omega arith) refl er (subst (λ (y : List ℕ). Taken (name_taken after kind y e) r g) text given)))
       (omega arith) refl

@@ -6,7 +6,9 @@ use Rattle.std.proofs.lemmas.Option.{slice_get-get_or}
 use Rattle.wm_syntax.specs.declared.why.Why.{Why}
 use Rattle.wm_syntax.specs.declared.why.Why.TheVariants as why
 use Rattle.wm_syntax.specs.declared.profile.Profile.{Profile}
+use Rattle.wm_syntax.specs.Profiles.{has, type_feature, HasType}
 use Rattle.wm_syntax.specs.declared.types.ValType.{ValType}
+use Rattle.wm_syntax.specs.declared.types.ValType.TheVariants.{I32, I64, F32, F64}
 use Rattle.wm_syntax.specs.declared.types.Limits.{Limits}
 use Rattle.wm_syntax.specs.declared.modules.ImportDesc.TheVariants as desc
 use Rattle.wm_syntax.specs.declared.instructions.Op.{Op}
@@ -16,11 +18,11 @@ use Rattle.wm_syntax.specs.declared.numbers.Step.{Step}
 use Rattle.wm_syntax.specs.declared.numbers.Step.TheVariants as step
 use Rattle.wm_syntax.specs.inner.Numbers.{Partial}
 use Rattle.wm_syntax.specs.exact.Reading.{fresh, unsigned_push, signed_push}
-use Rattle.wm_syntax.specs.exact.ByteTable.{classes, class_in, row_in, class_under}
+use Rattle.wm_syntax.specs.exact.ByteTable.{classes, row_in, class_under}
 use Rattle.wm_syntax.specs.Spelling.{Form}
 use Rattle.wm_syntax.specs.Types.{type_byte}
 use Rattle.wm_syntax.specs.OpClasses.{is_float}
-use Rattle.wm_syntax.proofs.OpTable.{float_in}
+use Rattle.wm_syntax.proofs.OpTable.{float_not_none}
 use Rattle.wm_syntax.proofs.FirstBytes.{float_under}
 use Rattle.wm_decode.specs.declared.step.reading.Reading.{Reading}
 use Rattle.wm_decode.specs.declared.step.reading.Reading.TheVariants.{More, Done, Bad}
@@ -43,13 +45,13 @@ use Rattle.wm_decode.specs.declared.step.values.InValue.{InValue}
 use Rattle.wm_decode.specs.declared.step.values.InValue.TheVariants as value
 use Rattle.wm_decode.specs.declared.machine.Plain.TheVariants as plain
 use Rattle.wm_decode.specs.exact.Readings.{Goes}
-use Rattle.wm_decode.specs.exact.ValueSteps.{read_number, map_reading, after_min, limits_push, table_type_push, value_type_of, read_type, global_type_push, desc_push, target_push, run_push, value_push}
-use Rattle.wm_decode.specs.exact.OpSteps.{index_op, call_op, memory_op, const_32_op, const_64_op, on_answer, first_step, block_step, closing_step, op_push}
+use Rattle.wm_decode.specs.exact.ValueSteps.{read_number, map_reading, after_min, limits_push, table_type_push, type_under, value_type_of, read_type, global_type_push, desc_push, target_push, run_push, value_push}
+use Rattle.wm_decode.specs.exact.OpSteps.{block_op, index_op, call_op, memory_op, const_32_op, const_64_op, on_answer, first_step, block_step, closing_step, op_push}
 use Rattle.wm_decode.specs.Meanings.{Wanted, spelled, an_instruction, a_value_type, a_block_type, an_element_type, a_flag, a_kind, a_zero, IsFloatType, IsNoInstruction, IsFloat, IsOtherByte}
 use Rattle.wm_decode.proofs.FirstBytes.{head_same}
 use Rattle.wm_decode.proofs.Leaves.{IsReader}
 use Rattle.wm_decode.proofs.OpRest.{op_rest, at_offset}
-use Rattle.wm_decode.proofs.ValueBytes.{limits_rest, table_rest, global_rest, desc_rest, target_rest, run_rest, value_rest, export_of, type_answer, TypeAnswer}
+use Rattle.wm_decode.proofs.ValueBytes.{limits_rest, table_rest, global_rest, desc_rest, target_rest, run_rest, value_rest, export_of, type_answer, type_given, TypeAnswer}
 use Rattle.wm_decode.proofs.MustStand.{ValuesBegin, within, op_begins, block_begins, closed_begins, limits_begin, table_begins, global_begins, var_begins, desc_begins, target_begins, run_begins}
 
 -- what is found of the byte, where F says of what that it must stand here
@@ -90,10 +92,19 @@ unfolding class_under
 not_float_op p c byte e f = go (slice_get classes c) refl e
   where
     go : (row : Option OpClass) → slice_get classes c ≡ row → row_in p row ≡ None → ⊥
-    go (Some x) r e = let g : class_in p x ≡ Float = (float_in p c x r).1 f in let n : None ≡ Float = sym e ∙ g in cc
+    go (Some x) r e = float_not_none p c x r f e
     go Nothing r e =
         let long : length classes ≡ 256 = refl in
         nothing_there (get_or classes c None) (sym r ∙ slice_get-get_or classes c None (omega (arith, byte, long)))
+
+inner_bad : {R S X Y : Type 0} (f : R → S) (g : X → Y) (q : Reading R X) (w : Why) → map_reading f g q ≡ Bad w → q ≡ Bad w
+inner_bad f g (More r) w e = absurd (cc)
+inner_bad f g (Done x) w e = absurd (cc)
+inner_bad f g (Bad v) w e = let s : v ≡ w = cc in ap Bad s
+
+type_bad : {R X : Type 0} (q : Result ValType Why) (f : ValType → Reading R X) (w : Why) → ((t : ValType) → f t ≡ Bad w → ⊥) → read_type q f ≡ Bad w → q ≡ Err w
+type_bad (Ok t) f w h e = absurd (h t e)
+type_bad (Err v) f w h e = let s : v ≡ w = cc in ap Err s
 
 module _ (F : Wanted → Type 0) (c : ℕ) (w : Why) where
   -- an answer of a number's reader, and of a value type
@@ -107,24 +118,28 @@ module _ (F : Wanted → Type 0) (c : ℕ) (w : Why) where
   answer_says (step.Done v, s) more done h g = λ e. absurd (g v e)
   answer_says (step.Bad, s) more done h g = λ e. as_named F c why.BadNumber w tt (same_bad why.BadNumber w e)
 
-  pub type_says : F a_value_type → value_type_of c ≡ Err w → Says F c w
-  type_says f =
-      let P : Result ValType Why → Type 0 = λ q. q ≡ Err w → Says F c w in
-      cond_both (nat_eq c 0x7F) _ _ P (λ _ e. absurd (cc))
-      (λ _. cond_both (nat_eq c 0x7E) _ _ P (λ _ e. absurd (cc))
-      (λ _. cond_both (nat_eq c 0x7D) _ _ P (λ a e. as_named F c why.Float w (a_value_type, f, inl (eqb-true c 0x7D a)) (same_err why.Float w e))
-      (λ a. cond_both (nat_eq c 0x7C) _ _ P (λ b e. as_named F c why.Float w (a_value_type, f, inr (eqb-true c 0x7C b)) (same_err why.Float w e))
-      (λ b e. as_named F c why.BadByte w (a_value_type, f, not_float c a b) (same_err why.BadByte w e)))))
+  -- a type of floating-point numbers, where the profile may have it
+  float_says : (p : Profile) (t : ValType) (x : Wanted) → F x → IsFloat x c → type_under p t ≡ Err w → Says F c w
+  float_says p t x f i =
+      cond_both (has p (type_feature t)) _ _ (λ (q : Result ValType Why). q ≡ Err w → Says F c w) (λ _ e. type_given t w e)
+      (λ _ e. as_named F c why.Float w (x, f, i) (same_err why.Float w e))
 
-  block_says : F a_block_type → (i : Opening) → block_step i c ≡ Bad w → Says F c w
-  block_says f i =
-      let P : Reading InOp Op → Type 0 = λ q. q ≡ Bad w → Says F c w in
-      cond_both (nat_eq c 0x40) _ _ P (λ _ e. absurd (cc))
-      (λ _. cond_both (nat_eq c 0x7F) _ _ P (λ _ e. absurd (cc))
-      (λ _. cond_both (nat_eq c 0x7E) _ _ P (λ _ e. absurd (cc))
-      (λ _. cond_both (nat_eq c 0x7D) _ _ P (λ a e. as_named F c why.Float w (a_block_type, f, inl (eqb-true c 0x7D a)) (same_bad why.Float w e))
-      (λ a. cond_both (nat_eq c 0x7C) _ _ P (λ b e. as_named F c why.Float w (a_block_type, f, inr (eqb-true c 0x7C b)) (same_bad why.Float w e))
-      (λ b e. as_named F c why.BadByte w (a_block_type, f, not_float c a b) (same_bad why.BadByte w e))))))
+  named_says : (p : Profile) (x : Wanted) → F x → (IsFloatType c → IsFloat x c) → ((IsFloatType c → ⊥) → IsOtherByte x c) → value_type_of p c ≡ Err w → Says F c w
+  named_says p x f float other =
+      let P : Result ValType Why → Type 0 = λ q. q ≡ Err w → Says F c w in
+      cond_both (nat_eq c 0x7F) _ _ P (λ _ e. type_given I32 w e)
+      (λ _. cond_both (nat_eq c 0x7E) _ _ P (λ _ e. type_given I64 w e)
+      (λ _. cond_both (nat_eq c 0x7D) _ _ P (λ a. float_says p F32 x f (float (inl (eqb-true c 0x7D a))))
+      (λ a. cond_both (nat_eq c 0x7C) _ _ P (λ b. float_says p F64 x f (float (inr (eqb-true c 0x7C b))))
+      (λ b e. as_named F c why.BadByte w (x, f, other (not_float c a b)) (same_err why.BadByte w e)))))
+
+  pub type_says : (p : Profile) → F a_value_type → value_type_of p c ≡ Err w → Says F c w
+  type_says p f = named_says p a_value_type f (λ i. i) (λ n. n)
+
+  block_says : (p : Profile) → F a_block_type → (i : Opening) → block_step p i c ≡ Bad w → Says F c w
+  block_says p f i =
+      cond_both (nat_eq c 0x40) _ _ (λ (q : Reading InOp Op). q ≡ Bad w → Says F c w) (λ _ e. absurd (cc))
+      (λ _ e. named_says p a_block_type f (λ i. i) (λ n. n) (type_bad (value_type_of p c) (λ t. Done (block_op i (Some t))) w (λ t i. cc) e))
 
   closing_says : F a_zero → (o : Op) → closing_step o c ≡ Bad w → Says F c w
   closing_says f o =
@@ -134,15 +149,6 @@ module _ (F : Wanted → Type 0) (c : ℕ) (w : Why) where
   -- at a flag or a kind
   other_says : {R X : Type 0} (x : Wanted) → IsOtherByte x c → F x → ◌≡◌ {A = Reading R X} (Bad why.BadByte) (Bad w) → Says F c w
   other_says x i f e = as_named F c why.BadByte w (x, f, i) (same_bad why.BadByte w e)
-
-inner_bad : {R S X Y : Type 0} (f : R → S) (g : X → Y) (q : Reading R X) (w : Why) → map_reading f g q ≡ Bad w → q ≡ Bad w
-inner_bad f g (More r) w e = absurd (cc)
-inner_bad f g (Done x) w e = absurd (cc)
-inner_bad f g (Bad v) w e = let s : v ≡ w = cc in ap Bad s
-
-type_bad : {R X : Type 0} (q : Result ValType Why) (f : ValType → Reading R X) (w : Why) → ((t : ValType) → f t ≡ Bad w → ⊥) → read_type q f ≡ Bad w → q ≡ Err w
-type_bad (Ok t) f w h e = absurd (h t e)
-type_bad (Err v) f w h e = let s : v ≡ w = cc in ap Err s
 
 module _ (p : Profile) (c : ℕ) (w : Why) where
   -- each value begins with such a thing
@@ -175,28 +181,28 @@ module _ (p : Profile) (c : ℕ) (w : Why) where
       cond_both (nat_eq c 0x70) _ _ (λ (q : Reading InTableType Limits). q ≡ Bad w → Says F c w) (λ _ e. absurd (cc)) (λ _ e. other_says F c w an_element_type tt (table_begins p) e)
   table_says (table.Limits l) = λ e. outer_says (limits_rest l) (λ y. y) (limits_says l (inner_bad table.Limits (λ y. y) (limits_push l c) w e))
 
-  pub global_says : (g : InGlobalType) → global_type_push g c ≡ Bad w → Says (At (global_rest g)) c w
-  global_says global.Type = λ e. type_says (At (global_rest global.Type)) c w (global_begins p) (type_bad (value_type_of c) (λ t. More (global.Var t)) w (λ t i. cc) e)
+  pub global_says : (g : InGlobalType) → global_type_push p g c ≡ Bad w → Says (At (global_rest p g)) c w
+  global_says global.Type = λ e. type_says (At (global_rest p global.Type)) c w p (global_begins p) (type_bad (value_type_of p c) (λ t. More (global.Var t)) w (λ t i. cc) e)
   global_says (global.Var t) = var_says c
     where
-      var_says : (d : ℕ) → global_type_push (global.Var t) d ≡ Bad w → Says (At (global_rest (global.Var t))) d w
+      var_says : (d : ℕ) → global_type_push p (global.Var t) d ≡ Bad w → Says (At (global_rest p (global.Var t))) d w
       var_says zero = λ e. absurd (cc)
       var_says (suc zero) = λ e. absurd (cc)
-      var_says (suc (suc d)) = λ e. other_says (At (global_rest (global.Var t))) (suc (suc d)) w a_flag tt (var_begins p t) e
+      var_says (suc (suc d)) = λ e. other_says (At (global_rest p (global.Var t))) (suc (suc d)) w a_flag tt (var_begins p t) e
 
-  desc_says : (d : InImportDesc) → desc_push d c ≡ Bad w → Says (At (desc_rest d)) c w
+  desc_says : (d : InImportDesc) → desc_push p d c ≡ Bad w → Says (At (desc_rest p d)) c w
   desc_says import.Kind = kind_says c
     where
-      kind_says : (d : ℕ) → desc_push import.Kind d ≡ Bad w → Says (At (desc_rest import.Kind)) d w
+      kind_says : (d : ℕ) → desc_push p import.Kind d ≡ Bad w → Says (At (desc_rest p import.Kind)) d w
       kind_says zero = λ e. absurd (cc)
       kind_says (suc zero) = λ e. absurd (cc)
       kind_says (suc (suc zero)) = λ e. absurd (cc)
       kind_says (suc (suc (suc zero))) = λ e. absurd (cc)
-      kind_says (suc (suc (suc (suc d)))) = λ e. other_says (At (desc_rest import.Kind)) (suc (suc (suc (suc d)))) w a_kind tt (desc_begins p) e
-  desc_says (import.Func r) = number_says (At (desc_rest (import.Func r))) c w (unsigned_push 32 r c) import.Func (λ n. Done (desc.Func n)) (λ n e. absurd (cc))
+      kind_says (suc (suc (suc (suc d)))) = λ e. other_says (At (desc_rest p import.Kind)) (suc (suc (suc (suc d)))) w a_kind tt (desc_begins p) e
+  desc_says (import.Func r) = number_says (At (desc_rest p (import.Func r))) c w (unsigned_push 32 r c) import.Func (λ n. Done (desc.Func n)) (λ n e. absurd (cc))
   desc_says (import.Table t) = λ e. outer_says (table_rest t) desc.Table (table_says t (inner_bad import.Table desc.Table (table_type_push t c) w e))
   desc_says (import.Memory l) = λ e. outer_says (limits_rest l) desc.Memory (limits_says l (inner_bad import.Memory desc.Memory (limits_push l c) w e))
-  desc_says (import.Global g) = λ e. outer_says (global_rest g) desc.Global (global_says g (inner_bad import.Global desc.Global (global_type_push g c) w e))
+  desc_says (import.Global g) = λ e. outer_says (global_rest p g) desc.Global (global_says g (inner_bad import.Global desc.Global (global_type_push p g c) w e))
 
   target_says : (t : InExportDesc) → target_push t c ≡ Bad w → Says (At (target_rest t)) c w
   target_says target.Kind = kind_says c
@@ -209,12 +215,12 @@ module _ (p : Profile) (c : ℕ) (w : Why) where
       kind_says (suc (suc (suc (suc d)))) = λ e. other_says (At (target_rest target.Kind)) (suc (suc (suc (suc d)))) w a_kind tt (target_begins p) e
   target_says (target.Index k r) = number_says (At (target_rest (target.Index k r))) c w (unsigned_push 32 r c) (λ s. target.Index k s) (λ n. Done (k, n)) (λ n e. absurd (cc))
 
-  pub run_says : (r : InRun) → run_push r c ≡ Bad w → Says (At (run_rest r)) c w
-  run_says (run.Count r) = number_says (At (run_rest (run.Count r))) c w (unsigned_push 32 r c) run.Count (λ n. More (run.Type n)) (λ n e. absurd (cc))
-  run_says (run.Type n) = λ e. type_says (At (run_rest (run.Type n))) c w (run_begins p n) (type_bad (value_type_of c) (λ t. Done (n, t)) w (λ t i. cc) e)
+  pub run_says : (r : InRun) → run_push p r c ≡ Bad w → Says (At (run_rest p r)) c w
+  run_says (run.Count r) = number_says (At (run_rest p (run.Count r))) c w (unsigned_push 32 r c) run.Count (λ n. More (run.Type n)) (λ n e. absurd (cc))
+  run_says (run.Type n) = λ e. type_says (At (run_rest p (run.Type n))) c w p (run_begins p n) (type_bad (value_type_of p c) (λ t. Done (n, t)) w (λ t i. cc) e)
 
-  pub value_says : (v : InValue) → value_push v c ≡ Bad w → Says (At (value_rest v)) c w
-  value_says (value.Import d) = λ e. outer_says (desc_rest d) plain.Import (desc_says d (inner_bad value.Import plain.Import (desc_push d c) w e))
+  pub value_says : (v : InValue) → value_push p v c ≡ Bad w → Says (At (value_rest p v)) c w
+  value_says (value.Import d) = λ e. outer_says (desc_rest p d) plain.Import (desc_says d (inner_bad value.Import plain.Import (desc_push p d c) w e))
   value_says (value.Table t) = λ e. outer_says (table_rest t) plain.Table (table_says t (inner_bad value.Table plain.Table (table_type_push t c) w e))
   value_says (value.Memory l) = λ e. outer_says (limits_rest l) plain.Memory (limits_says l (inner_bad value.Memory plain.Memory (limits_push l c) w e))
   value_says (value.Export t) = λ e. outer_says (target_rest t) export_of (target_says t (inner_bad value.Export export_of (target_push t c) w e))
@@ -228,13 +234,17 @@ module _ (p : Profile) (c : ℕ) (w : Why) where
 
   pub op_says : c < 2 ^ 8 → (r : InOp) → op_push p r c ≡ Bad w → Says (At (op_rest p r)) c w
   op_says byte at.First = first_says byte (class_under p c) refl
-  op_says byte (at.BlockType i) = block_says (At (op_rest p (at.BlockType i))) c w (block_begins p i) i
+  op_says byte (at.BlockType i) = block_says (At (op_rest p (at.BlockType i))) c w p (block_begins p i) i
   op_says byte (at.Index i r) = answer_says (At (op_rest p (at.Index i r))) c w (unsigned_push 32 r c) (λ t. More (at.Index i t)) (λ n. Done (index_op i n)) (λ t e. cc) (λ n e. cc)
   op_says byte (at.CallType r) = answer_says (At (op_rest p (at.CallType r))) c w (unsigned_push 32 r c) (λ t. More (at.CallType t)) (λ n. More (at.CallTable n)) (λ t e. cc) (λ n e. cc)
   op_says byte (at.CallTable n) = closing_says (At (op_rest p (at.CallTable n))) c w (closed_begins p (call_op n)) (call_op n)
   op_says byte (at.Memory m) = closing_says (At (op_rest p (at.Memory m))) c w (closed_begins p (memory_op m)) (memory_op m)
   op_says byte (at.Const32 r) = answer_says (At (op_rest p (at.Const32 r))) c w (signed_push 32 r c) (λ t. More (at.Const32 t)) (λ z. Done (const_32_op z)) (λ t e. cc) (λ z e. cc)
   op_says byte (at.Const64 r) = answer_says (At (op_rest p (at.Const64 r))) c w (signed_push 64 r c) (λ t. More (at.Const64 t)) (λ z. Done (const_64_op z)) (λ t e. cc) (λ z e. cc)
+  op_says byte (at.Float32 zero low) = λ e. absurd (cc)
+  op_says byte (at.Float32 (suc left) low) = λ e. absurd (cc)
+  op_says byte (at.Float64 zero low) = λ e. absurd (cc)
+  op_says byte (at.Float64 (suc left) low) = λ e. absurd (cc)
   op_says byte (at.Align a r) = answer_says (At (op_rest p (at.Align a r))) c w (unsigned_push 32 r c) (λ t. More (at.Align a t)) (λ n. More (at.Offset a n fresh)) (λ t e. cc) (λ n e. cc)
   op_says byte (at.Offset a n r) = answer_says (At (op_rest p (at.Offset a n r))) c w (unsigned_push 32 r c) (λ t. More (at.Offset a n t)) (λ m. Done (at_offset a n m)) (λ t e. cc) (λ m e. cc)
 
@@ -244,7 +254,7 @@ none_begins rest push is W r c byte w e v more s =
     let h = v.can (c ∷ more) s in
     subst (λ (q : Reading _ _). Goes rest q h.1 (more ++ h.0)) e ((is.law r c byte h.1 (more ++ h.0)).0 h.2)
 
-pub no_type_begins : (p : Profile) (c : ℕ) (w : Why) → value_type_of c ≡ Err w → (more : List ℕ) → spelled p a_value_type (c ∷ more) → ⊥
+pub no_type_begins : (p : Profile) (c : ℕ) (w : Why) → value_type_of p c ≡ Err w → (more : List ℕ) → spelled p a_value_type (c ∷ more) → ⊥
 no_type_begins p c w e more s =
-    let none : (t : ValType) → c ≡ type_byte t → ⊥ = subst (TypeAnswer c) e (type_answer c) in
-    none s.0 (head_same c (type_byte s.0) more [] s.1)
+    let none : (t : ValType) → HasType p t → c ≡ type_byte t → ⊥ = subst (TypeAnswer p c) e (type_answer p c) in
+    none s.0 s.1.0 (head_same c (type_byte s.0) more [] s.1.1)

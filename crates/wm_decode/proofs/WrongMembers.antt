@@ -9,6 +9,7 @@ use Rattle.wm_syntax.specs.inner.Numbers.{Partial}
 use Rattle.wm_syntax.specs.exact.Reading.{fresh, unsigned_push}
 use Rattle.wm_syntax.specs.Spelling.{Form, AreBytes}
 use Rattle.wm_syntax.specs.Types.{SpellsValType}
+use Rattle.wm_syntax.specs.Profiles.{HasType}
 use Rattle.wm_syntax.specs.declared.why.Why.{Why}
 use Rattle.wm_syntax.specs.declared.why.Why.TheVariants as why
 use Rattle.wm_syntax.specs.declared.profile.Profile.{Profile}
@@ -40,7 +41,7 @@ use Rattle.wm_decode.specs.declared.machine.member.InMember.{InMember}
 use Rattle.wm_decode.specs.declared.machine.member.InMember.TheVariants as at
 use Rattle.wm_decode.specs.Items.{Item, param, one_result, new_type, const_op, body_op, global as global_part, Marks}
 use Rattle.wm_decode.specs.MarkedForms.{MarkedForm, Byte, Then, Times, Leaf, Vector, Sized, Entry}
-use Rattle.wm_decode.specs.Sections.{header}
+use Rattle.wm_decode.specs.Sections.{Those, header}
 use Rattle.wm_decode.specs.Grammar.{Module, Run, Expression, ValueType, ResultTypes, loose, strict}
 use Rattle.wm_decode.specs.Fronts.{IsFront}
 use Rattle.wm_decode.specs.exact.Members.{id_of}
@@ -220,34 +221,34 @@ module _ (p : Profile) (c : ℕ) (byte : c < 2 ^ 8) where
   then_here : (L S Q R : MarkedForm) → Comes Q → (x : Wanted) → Here p c L S x → Here p c (Then L Q) (Then S R) x
   then_here L S Q R q x h = (then_begins (spelled p x) L S Q R h.0 q, h.1)
 
-  run_here : (r : InRun) (w : Why) → run_push r c ≡ Bad w → (x : Wanted) → At p c w (run_rest r) x → Here p c (Leaf (run_rest r) run_part) (Leaf (run_rest r) run_part) x
-  run_here r w e x v = (leaf_begins (spelled p x) (run_rest r) run_part v, none_begins run_rest run_push run_reader (spelled p x) r c byte w e v)
+  run_here : (r : InRun) (w : Why) → run_push p r c ≡ Bad w → (x : Wanted) → At p c w (run_rest p r) x → Here p c (Leaf (run_rest p r) run_part) (Leaf (run_rest p r) run_part) x
+  run_here r w e x v = (leaf_begins (spelled p x) (run_rest p r) run_part v, none_begins (run_rest p) (run_push p) (run_reader p) (spelled p x) r c byte w e v)
 
   entry_says : (q : InEntry) → GoodEntry (InEntries q) c (entry_step p q c).0
   entry_says (entry.RunCount r) =
       number_good entry.Failed StandsEntry entry_apart entry_same (InEntries (entry.RunCount r)) c (unsigned_push 32 r c) entry.RunCount (λ n. (runs_or_body n, event.Nothing)) (λ s. tt)
       (λ n. stands_good entry.Failed StandsEntry entry_apart entry_same (InEntries (entry.RunCount r)) c (runs_or_body n) (runs_stand n))
   entry_says (entry.Run more r) =
-      let L : MarkedForm = Leaf (run_rest r) run_part in
-      let Q : MarkedForm = Then (Times more Run) (Expression p body_op) in
-      value_good entry.Failed StandsEntry entry_apart entry_same (InEntries (entry.Run more r)) c (run_push r c) (λ s. entry.Run more s) (λ v. with_item_given (runs_or_body more) (plain.Locals v.0 v.1)) (λ s. tt) (λ v. runs_stand more)
-      (λ w e. says_map (At p c w (run_rest r)) (InEntries (entry.Run more r)) c (λ x v. then_here L L Q Q (some_runs p more) x (run_here r w e x v)) w (run_says p c w r e))
+      let L : MarkedForm = Leaf (run_rest p r) run_part in
+      let Q : MarkedForm = Then (Times more (Run p)) (Expression p body_op) in
+      value_good entry.Failed StandsEntry entry_apart entry_same (InEntries (entry.Run more r)) c (run_push p r c) (λ s. entry.Run more s) (λ v. with_item_given (runs_or_body more) (plain.Locals v.0 v.1)) (λ s. tt) (λ v. runs_stand more)
+      (λ w e. says_map (At p c w (run_rest p r)) (InEntries (entry.Run more r)) c (λ x v. then_here L L Q Q (some_runs p more) x (run_here r w e x v)) w (run_says p c w r e))
   entry_says (entry.Body e) = body_good (InEntries (entry.Body e)) c (expression_step p e c).0 (expression_says p c byte body_op e)
   entry_says entry.Over = failed_good entry.Failed StandsEntry entry_apart entry_same (InEntries entry.Over) c why.BodyEnd tt
   entry_says (entry.Failed v) = failed_good entry.Failed StandsEntry entry_apart entry_same (InEntries (entry.Failed v)) c why.BodyEnd tt
 
   -- members
-  type_here : (part : ValType → Item) (w : Why) → value_type_of c ≡ Err w → Here p c (ValueType part) (ValueType part) a_value_type
-  type_here part w e = (leaf_begins (spelled p a_value_type) SpellsValType part (type_begins p), no_type_begins p c w e)
+  type_here : (part : ValType → Item) (w : Why) → value_type_of p c ≡ Err w → Here p c (ValueType p part) (ValueType p part) a_value_type
+  type_here part w e = (leaf_begins (spelled p a_value_type) (Those (HasType p) SpellsValType) part (type_begins p), no_type_begins p c w e)
 
-  types_say : (part : ValType → Item) (F : Wanted → Type 0) → (Here p c (ValueType part) (ValueType part) a_value_type → F a_value_type) → (w : Why) → value_type_of c ≡ Err w → Says F c w
-  types_say part F f w e = type_says F c w (f (type_here part w e)) e
+  types_say : (part : ValType → Item) (F : Wanted → Type 0) → (Here p c (ValueType p part) (ValueType p part) a_value_type → F a_value_type) → (w : Why) → value_type_of p c ≡ Err w → Says F c w
+  types_say part F f w e = type_says F c w p (f (type_here part w e)) e
 
   form_says : GoodAt (InMembers at.TypeForm []) c (member_step p at.TypeForm c).0
   form_says =
       let T : MarkedForm = Byte 0x60 (Some new_type) in
-      let Q : MarkedForm = Then (Vector (ValueType param)) ResultTypes in
-      let q : Comes Q = some_then (Vector (ValueType param)) ResultTypes (some_vector (ValueType param) (some_type param)) some_results in
+      let Q : MarkedForm = Then (Vector (ValueType p param)) (ResultTypes p) in
+      let q : Comes Q = some_then (Vector (ValueType p param)) (ResultTypes p) (some_vector (ValueType p param) (some_type p param)) (some_results p) in
       cond_both (nat_eq c 0x60) _ _ (λ (m : InMember × Event). GoodAt (InMembers at.TypeForm []) c m.0) (λ _. stays (InMembers at.TypeForm []) c (at.ParamCount fresh) tt)
       (λ a. fails (InMembers at.TypeForm []) c why.BadByte (a_function_type, then_here T T Q Q q a_function_type (form_begins p (Some new_type), λ more e. eqb-false c 0x60 a (head_same c 0x60 more [] e)), tt))
 
@@ -255,34 +256,34 @@ module _ (p : Profile) (c : ℕ) (byte : c < 2 ^ 8) where
   member_says at.TypeForm y = form_says
   member_says (at.ParamCount r) y = let F = InMembers (at.ParamCount r) y in numbers F c (unsigned_push 32 r c) at.ParamCount (λ n. (after_param n, event.Nothing)) (λ s. tt) (λ n. stays F c (after_param n) (param_stands n))
   member_says (at.Param more) y =
-      let T : MarkedForm = ValueType param in
+      let T : MarkedForm = ValueType p param in
       let F = InMembers (at.Param more) y in
-      type_good at.Failed StandsAt at_apart at_same F c (value_type_of c) (λ t. with_item_given (after_param more) (plain.Param t)) (λ t. param_stands more)
-      (types_say param F (λ h. then_here (Times (suc more) T) (Times (suc more) T) ResultTypes ResultTypes some_results a_value_type (then_here T T (Times more T) (Times more T) (some_times more T (some_type param)) a_value_type h)))
+      type_good at.Failed StandsAt at_apart at_same F c (value_type_of p c) (λ t. with_item_given (after_param more) (plain.Param t)) (λ t. param_stands more)
+      (types_say param F (λ h. then_here (Times (suc more) T) (Times (suc more) T) (ResultTypes p) (ResultTypes p) (some_results p) a_value_type (then_here T T (Times more T) (Times more T) (some_times more T (some_type p param)) a_value_type h)))
   member_says (at.ResultCount r) y =
       let F = InMembers (at.ResultCount r) y in
       numbers F c (unsigned_push 32 r c) at.ResultCount (λ n. with_item_given (after_result n) (plain.ResultCount n)) (λ s. tt) (λ n. stays F c (after_result n) (result_stands n))
   member_says (at.ResultType more) y =
-      let T : MarkedForm = ValueType one_result in
+      let T : MarkedForm = ValueType p one_result in
       let F = InMembers (at.ResultType more) y in
-      type_good at.Failed StandsAt at_apart at_same F c (value_type_of c) (λ t. with_item_given (after_result more) (plain.OneResult t)) (λ t. result_stands more)
-      (types_say one_result F (λ h. then_here T T (Times more T) (Times more T) (some_times more T (some_type one_result)) a_value_type h))
+      type_good at.Failed StandsAt at_apart at_same F c (value_type_of p c) (λ t. with_item_given (after_result more) (plain.OneResult t)) (λ t. result_stands more)
+      (types_say one_result F (λ h. then_here T T (Times more T) (Times more T) (some_times more T (some_type p one_result)) a_value_type h))
   member_says (at.NameLength of r) y = let F = InMembers (at.NameLength of r) y in numbers F c (unsigned_push 32 r c) (λ s. at.NameLength of s) (after_length of) (λ s. tt) (λ n. stays F c (after_length of n).0 (length_stands of n))
   member_says (at.Name of more) y = stays (InMembers (at.Name of more) y) c (name_step of more).0 (step_stands of more)
   member_says (at.Value v) y =
       let F = InMembers (at.Value v) y in
-      value_good at.Failed StandsAt at_apart at_same F c (value_push v c) at.Value (λ q. with_item_given at.Over q) (λ s. tt) (λ x. tt)
-      (λ w e. says_map (At p c w (value_rest v)) F c (λ x s. (leaf_begins (spelled p x) (value_rest v) plain_item s, none_begins value_rest value_push value_reader (spelled p x) v c byte w e s)) w (value_says p c w v e))
+      value_good at.Failed StandsAt at_apart at_same F c (value_push p v c) at.Value (λ q. with_item_given at.Over q) (λ s. tt) (λ x. tt)
+      (λ w e. says_map (At p c w (value_rest p v)) F c (λ x s. (leaf_begins (spelled p x) (value_rest p v) plain_item s, none_begins (value_rest p) (value_push p) (value_reader p) (spelled p x) v c byte w e s)) w (value_says p c w v e))
   member_says (at.Index of r) y =
       let F = InMembers (at.Index of r) y in
       numbers F c (unsigned_push 32 r c) (λ s. at.Index of s) (λ n. with_item_given (after_index of) (index_item of n)) (λ s. tt) (λ n. stays F c (after_index of) (index_stands of))
   member_says (at.GlobalType g) y =
-      let L : MarkedForm = Leaf (global_rest g) global_part in
+      let L : MarkedForm = Leaf (global_rest p g) global_part in
       let Q : MarkedForm = Expression p const_op in
       let F = InMembers (at.GlobalType g) y in
-      value_good at.Failed StandsAt at_apart at_same F c (global_type_push g c) at.GlobalType (λ t. with_item_given (at.Constant constant.Global start) (plain.Global t)) (λ s. tt) (λ x. tt)
-      (λ w e. says_map (At p c w (global_rest g)) F c
-      (λ x s. then_here L L Q Q (some_whole p const_op) x (leaf_begins (spelled p x) (global_rest g) global_part s, none_begins global_rest global_type_push global_reader (spelled p x) g c byte w e s)) w (global_says p c w g e))
+      value_good at.Failed StandsAt at_apart at_same F c (global_type_push p g c) at.GlobalType (λ t. with_item_given (at.Constant constant.Global start) (plain.Global t)) (λ s. tt) (λ x. tt)
+      (λ w e. says_map (At p c w (global_rest p g)) F c
+      (λ x s. then_here L L Q Q (some_whole p const_op) x (leaf_begins (spelled p x) (global_rest p g) global_part s, none_begins (global_rest p) (global_type_push p) (global_reader p) (spelled p x) g c byte w e s)) w (global_says p c w g e))
   member_says (at.Constant of e) y =
       let L : MarkedForm = ExpressionRest p const_op e in
       let F = InMembers (at.Constant of e) y in

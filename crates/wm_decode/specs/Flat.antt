@@ -15,11 +15,11 @@ use Rattle.wm_syntax.specs.Types.{Signature, SpellsU32, SpellsList, SpellsBytes,
 use Rattle.wm_syntax.specs.Types.{SpellsLimits, SpellsTableType, SpellsGlobalType}
 use Rattle.wm_syntax.specs.Instructions.{HasOps, SpellsOp}
 use Rattle.wm_syntax.specs.Modules.{Import, Function, GlobalDef, Export, Element, Segment, Module, constant}
-use Rattle.wm_syntax.specs.Profiles.{IsOpOf}
-use Rattle.wm_decode.specs.Sections.{Sized, ListSection, StartSection, Customs, SpellsImport, SpellsExport}
-use Rattle.wm_decode.specs.Sections.{SpellsRun, header}
+use Rattle.wm_syntax.specs.Profiles.{HasDesc, HasSignature, IsOpOf}
+use Rattle.wm_decode.specs.Sections.{Sized, Those, ListSection, StartSection, Customs, SpellsImport}
+use Rattle.wm_decode.specs.Sections.{SpellsExport, SpellsRun, header}
 use Rattle.wm_syntax.specs.Modules.{locals_of}
-use Rattle.wm_decode.specs.Grammar.{IsExpression}
+use Rattle.wm_decode.specs.Grammar.{IsExpression, HasGlobalType}
 use Rattle.wm_decode.specs.Items.{Item, new_type, param, result_count, one_result, import_module, import_name}
 use Rattle.wm_decode.specs.Items.{import_desc, function, table, memory, global, const_op, export_name, export}
 use Rattle.wm_decode.specs.Items.{start, element, element_function, body, locals, body_op, segment, data_byte}
@@ -106,9 +106,13 @@ flat_items v =
 abbrev pub SpellsOps : Profile → List Op → Form ℕ
 SpellsOps p ops b = IsExpression ops × AllByRecursion (IsOpOf p) ops × Each SpellsOp ops b
 
+-- imports (section 5.5.5), of a global of a type of the profile
+abbrev pub HasImport : Profile → Import → Type 0
+HasImport p i = HasDesc p i.desc
+
 -- globals (section 5.5.9)
 abbrev pub SpellsFlatGlobal : Profile → FlatGlobal → Form ℕ
-SpellsFlatGlobal p g = SpellsGlobalType g.ty ▸ SpellsOps p g.init
+SpellsFlatGlobal p g = Those (HasGlobalType p) SpellsGlobalType g.ty ▸ SpellsOps p g.init
 
 -- element segments (section 5.5.12)
 abbrev pub SpellsFlatElement : Profile → FlatElement → Form ℕ
@@ -116,7 +120,7 @@ SpellsFlatElement p e = SpellsU32 e.table ▸ SpellsOps p e.offset ▸ SpellsLis
 
 -- code (section 5.5.13): in so many bytes, runs and the ops of the body
 abbrev pub SpellsFlatCode : Profile → FlatCode → Form ℕ
-SpellsFlatCode p c = Sized (SpellsList SpellsRun c.runs ▸ SpellsOps p c.ops)
+SpellsFlatCode p c = Sized (SpellsList (SpellsRun p) c.runs ▸ SpellsOps p c.ops)
 
 -- data segments (section 5.5.14)
 abbrev pub SpellsFlatSegment : Profile → FlatSegment → Form ℕ
@@ -130,8 +134,8 @@ InOrder (P ∷ sections) = Customs ▸ P ▸ InOrder sections
 -- the section of each list, by its id (section 5.5.2)
 abbrev pub flat_sections : Profile → FlatModule → List (Form ℕ)
 flat_sections p v =
-    ListSection 1 SpellsSignature v.types
-    ∷ ListSection 2 SpellsImport v.imports
+    ListSection 1 (Those (HasSignature p) SpellsSignature) v.types
+    ∷ ListSection 2 (Those (HasImport p) SpellsImport) v.imports
     ∷ ListSection 3 SpellsU32 v.functions
     ∷ ListSection 4 SpellsTableType v.tables
     ∷ ListSection 5 SpellsLimits v.memories

@@ -11,12 +11,13 @@ use Rattle.wm_syntax.specs.declared.instructions.Op.{Op}
 use Rattle.wm_syntax.specs.declared.instructions.Op.TheVariants as op
 use Rattle.wm_syntax.specs.declared.modules.ExportKind.{ExportKind}
 use Rattle.wm_syntax.specs.declared.types.ValType.{ValType}
+use Rattle.wm_syntax.specs.declared.types.GlobalType.{GlobalType}
 use Rattle.wm_syntax.specs.declared.profile.Profile.{Profile}
 use Rattle.wm_syntax.specs.Spelling.{Byte as OneByte, ◌▸◌}
 use Rattle.wm_syntax.specs.Types.{SpellsU32, SpellsValType, SpellsLimits, SpellsTableType, SpellsGlobalType}
 use Rattle.wm_syntax.specs.Instructions.{SpellsOp, openings, endings}
-use Rattle.wm_syntax.specs.Profiles.{IsOpOf}
-use Rattle.wm_decode.specs.Sections.{SpellsDesc, SpellsRun, kind_byte, header}
+use Rattle.wm_syntax.specs.Profiles.{HasDesc, HasType, IsOpOf}
+use Rattle.wm_decode.specs.Sections.{Those, SpellsDesc, SpellsRun, kind_byte, header}
 use Rattle.wm_decode.specs.Items.{Item, new_type, param, result_count, one_result, import_module, import_name}
 use Rattle.wm_decode.specs.Items.{import_desc, function, table, memory, global, const_op, export_name, export}
 use Rattle.wm_decode.specs.Items.{start, element, element_function, body, locals, body_op, segment, data_byte}
@@ -30,21 +31,24 @@ strict = Unit {0}
 abbrev pub loose : Type 0
 loose = ⊥
 
--- value types and function types (sections 5.3.1, 5.3.3)
-abbrev pub ValueType : (ValType → Item) → MarkedForm
-ValueType = Leaf SpellsValType
+-- value types of the profile, and function types (sections 5.3.1, 5.3.3)
+abbrev pub ValueType : Profile → (ValType → Item) → MarkedForm
+ValueType p = Leaf (Those (HasType p) SpellsValType)
 
-abbrev pub ResultTypes : MarkedForm
-ResultTypes = Number (λ n. Some (result_count n)) (λ n. Times n (ValueType one_result))
+abbrev pub ResultTypes : Profile → MarkedForm
+ResultTypes p = Number (λ n. Some (result_count n)) (λ n. Times n (ValueType p one_result))
 
-abbrev pub FunctionType : MarkedForm
-FunctionType = Then (Byte 0x60 (Some new_type)) (Then (Vector (ValueType param)) ResultTypes)
+abbrev pub FunctionType : Profile → MarkedForm
+FunctionType p = Then (Byte 0x60 (Some new_type)) (Then (Vector (ValueType p param)) (ResultTypes p))
 
 -- imports (section 5.5.5)
-abbrev pub Import : Type 0 → MarkedForm
-Import demanded =
+abbrev pub Desc : Profile → MarkedForm
+Desc p = Leaf (Those (HasDesc p) SpellsDesc) import_desc
+
+abbrev pub Import : Type 0 → Profile → MarkedForm
+Import demanded p =
     Then (Name demanded (λ text. Some (import_module text)))
-    (Then (Name demanded (λ text. Some (import_name text))) (Leaf SpellsDesc import_desc))
+    (Then (Name demanded (λ text. Some (import_name text))) (Desc p))
 
 -- BrTable(n) is followed by n + 1 labels, and no label stands elsewhere
 abbrev pub HasLabels : ℕ → List Op → Type 0
@@ -73,8 +77,11 @@ Expression p part b k = (ops : List Op) × IsExpression ops × AllByRecursion (I
     × EachOp part ops b k
 
 -- globals (section 5.5.9)
+abbrev pub HasGlobalType : Profile → GlobalType → Type 0
+HasGlobalType p g = HasType p g.ty
+
 abbrev pub Global : Profile → MarkedForm
-Global p = Then (Leaf SpellsGlobalType global) (Expression p const_op)
+Global p = Then (Leaf (Those (HasGlobalType p) SpellsGlobalType) global) (Expression p const_op)
 
 -- exports (section 5.5.10)
 abbrev pub Target : MarkedForm
@@ -88,12 +95,12 @@ abbrev pub Element : Profile → MarkedForm
 Element p = Then (Index element) (Then (Expression p const_op) (Vector (Index element_function)))
 
 -- code (section 5.5.13): a size, and in so many bytes runs of locals and an expression
-abbrev pub Run : MarkedForm
-Run = Leaf SpellsRun (λ r. locals r.0 r.1)
+abbrev pub Run : Profile → MarkedForm
+Run p = Leaf (SpellsRun p) (λ r. locals r.0 r.1)
 
 abbrev pub Code : Type 0 → Profile → MarkedForm
 Code demanded p =
-    Number (λ n. Some body) (λ n. Sized demanded n (Entry (Then (Vector Run) (Expression p body_op))))
+    Number (λ n. Some body) (λ n. Sized demanded n (Entry (Then (Vector (Run p)) (Expression p body_op))))
 
 -- data segments (section 5.5.14): each byte is an item
 abbrev pub DataByte : MarkedForm
@@ -108,8 +115,8 @@ Paired demanded f P = Number nothing_at (λ n b k. (demanded → n ≡ f) × Tim
 
 -- The contents of the section with this id, where there are f functions, each with a code entry.
 abbrev pub Contents : Type 0 → Profile → (f id : ℕ) → MarkedForm
-Contents demanded p f (suc zero) = Vector FunctionType
-Contents demanded p f (suc (suc zero)) = Vector (Import demanded)
+Contents demanded p f (suc zero) = Vector (FunctionType p)
+Contents demanded p f (suc (suc zero)) = Vector (Import demanded p)
 Contents demanded p f (suc (suc (suc zero))) = Paired demanded f (Index function)
 Contents demanded p f (suc (suc (suc (suc zero)))) = Vector (Leaf SpellsTableType table)
 Contents demanded p f (suc (suc (suc (suc (suc zero))))) = Vector (Leaf SpellsLimits memory)

@@ -13,12 +13,12 @@ use Rattle.wm_syntax.specs.Leb128.{Unsigned, Signed}
 use Rattle.wm_syntax.specs.Types.{SpellsU32, SpellsValType, SpellsBlockType}
 use Rattle.wm_syntax.specs.Instructions.{SpellsOp}
 use Rattle.wm_syntax.specs.OpClasses.{first_byte, is_float}
-use Rattle.wm_syntax.specs.Profiles.{IsOpOf}
+use Rattle.wm_syntax.specs.Profiles.{HasBlockType, HasType, IsOpOf}
 use Rattle.wm_syntax.specs.declared.profile.Profile.{Profile}
 use Rattle.wm_decode.specs.declared.refusal.Refusal.{Refusal}
 use Rattle.wm_decode.specs.Items.{Item, Mark, Marks, body_op, items_at}
 use Rattle.wm_decode.specs.MarkedForms.{Then, Vector}
-use Rattle.wm_decode.specs.Sections.{Section, header, kind_byte}
+use Rattle.wm_decode.specs.Sections.{Section, Those, header, kind_byte}
 use Rattle.wm_decode.specs.Grammar.{Items, Module, Code, Run, Expression, strict, loose}
 use Rattle.wm_decode.specs.Sinks.{all_taken}
 use Rattle.wm_decode.specs.Fronts.{IsFront}
@@ -103,16 +103,16 @@ pub data Wanted : Type 0 where
   a_kind : Wanted
   a_zero : Wanted
 
--- Its bytes. Of an instruction of the profile, an else or an end (sections 5.4, 5.4.6), of a value type
--- (5.3.1) and of a block type (5.3.2) these are all. Else they are the byte that begins a function type
+-- Its bytes. Of an instruction of the profile, an else or an end (sections 5.4, 5.4.6), of a value type of it
+-- (5.3.1) and of a block type of it (5.3.2) these are all. Else they are the byte that begins a function type
 -- (5.3.3) or a table type (5.3.6); that says whether there is a greatest size (5.3.4), or whether a global
 -- may be set (5.3.7); the kind of an import (5.5.5) or an export (5.5.10); or the 00 that ends some
 -- instructions (5.4.1, 5.4.4).
 abbrev pub spelled : Profile → Wanted → Form ℕ
 spelled p an_instruction b =
     (o : Op) × (c : ℕ) × (first_byte o ≡ Some c) × IsOpOf p o × SpellsOp o b
-spelled p a_value_type b = (t : ValType) × SpellsValType t b
-spelled p a_block_type b = (t : Option ValType) × SpellsBlockType t b
+spelled p a_value_type b = (t : ValType) × Those (HasType p) SpellsValType t b
+spelled p a_block_type b = (t : Option ValType) × Those (HasBlockType p) SpellsBlockType t b
 spelled p a_function_type b = Byte 0x60 b
 spelled p an_element_type b = Byte 0x70 b
 spelled p a_flag b = (Byte 0x00 ∣ Byte 0x01) b
@@ -146,7 +146,8 @@ abbrev pub IsNoInstruction : Wanted → ℕ → Type 0
 IsNoInstruction an_instruction c = IsTrue (is_float c) → ⊥
 IsNoInstruction _ c = ⊥
 
--- Float (sections 5.3.1, 5.3.2, 5.4): an instruction on floating-point numbers, or a type of them
+-- Float (sections 5.3.1, 5.3.2, 5.4): an instruction on floating-point numbers, or a type of them. The
+-- profile has neither, since nothing that must stand there begins with the byte.
 abbrev pub IsFloat : Wanted → ℕ → Type 0
 IsFloat an_instruction c = IsTrue (is_float c)
 IsFloat a_value_type c = IsFloatType c
@@ -237,7 +238,7 @@ pub record OtherSize (p : Profile) (used : List ℕ) : Type 0 where
 
 -- A code entry without its size (section 5.5.13): runs of locals, and an expression.
 abbrev pub IsEntry : Profile → List ℕ → Type 0
-IsEntry p b = (k : Marks) × Then (Vector Run) (Expression p body_op) b k
+IsEntry p b = (k : Marks) × Then (Vector (Run p)) (Expression p body_op) b k
 
 -- at least one byte is missing of such an entry
 abbrev pub BeginsEntry : Profile → List ℕ → Type 0

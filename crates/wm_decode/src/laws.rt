@@ -2,10 +2,10 @@
 
 ghost use Rattle.std.specs.Prelude.{◌≡◌, ◌+◌, ◌≤◌, ◌++◌, Err, ℕ, List, length, map};
 ghost use Rattle.wm_syntax.specs.declared.profile.Profile.{Profile};
-ghost use Rattle.wm_syntax.specs.declared.profile.Profile.TheVariants.{Two};
+ghost use Rattle.wm_syntax.specs.declared.profile.Profile.TheVariants.{Four};
 ghost use Rattle.wm_syntax.specs.Spelling.{AreBytes};
 ghost use Rattle.wm_syntax.specs.Modules.{Module as ModuleValue};
-ghost use Rattle.wm_syntax.specs.Profiles.{IsOf};
+ghost use Rattle.wm_syntax.specs.Profiles.{Extends, IsOf};
 ghost use Rattle.wm_decode.specs.Flat.{FlatModule, IsFlatOf, SpellsFlat, flat_items};
 ghost use Rattle.wm_decode.specs.Items.{Marks, data_byte, items_at};
 ghost use Rattle.wm_decode.specs.Sections.{SpellsModule};
@@ -53,20 +53,20 @@ pub fn items_are_flat()
 
 /// The bytes of a module are those of a flat value of it, and the other way round.
 pub fn module_is_flat()
-    ensures flat { (p : Profile) (m : ModuleValue) (b : List ℕ) → SpellsModule m b → IsOf p m
+    ensures flat { (p : Profile) (m : ModuleValue) (b : List ℕ) → SpellsModule p m b → IsOf p m
         → (v : FlatModule) × IsFlatOf m v × SpellsFlat p v b }
     ensures nested { (p : Profile) (m : ModuleValue) (v : FlatModule) (b : List ℕ) → IsFlatOf m v
         → SpellsFlat p v b
-        → SpellsModule m b × IsOf p m }
+        → SpellsModule p m b × IsOf p m }
 {}
 
 /// What spells a module is a whole input with the items of a flat value of the module, and
 /// such an input spells it.
 pub fn items_are_module()
-    ensures items { (p : Profile) (m : ModuleValue) (b : List ℕ) → SpellsModule m b → IsOf p m
+    ensures items { (p : Profile) (m : ModuleValue) (b : List ℕ) → SpellsModule p m b → IsOf p m
         → (k : Marks) × (v : FlatModule) × Items p b k × IsFlatOf m v × (items_at k ≡ flat_items v) }
     ensures nested { (p : Profile) (m : ModuleValue) (v : FlatModule) (b : List ℕ) (k : Marks)
-        → Items p b k → IsFlatOf m v → items_at k ≡ flat_items v → SpellsModule m b × IsOf p m }
+        → Items p b k → IsFlatOf m v → items_at k ≡ flat_items v → SpellsModule p m b × IsOf p m }
 {}
 
 /// The items determine the flat value and the module.
@@ -77,20 +77,27 @@ pub fn items_determine_module()
         → m ≡ n }
 {}
 
-/// Every module is of the second profile.
-pub fn second_profile_has_all()
-    ensures { (m : ModuleValue) → IsOf Two m }
+/// Every module is of the fourth profile.
+pub fn fourth_profile_has_all()
+    ensures { (m : ModuleValue) → IsOf Four m }
+{}
+
+/// What spells a module under a profile spells it under each that has as much.
+pub fn more_features_spell_as_much()
+    ensures { (p q : Profile) (m : ModuleValue) (b : List ℕ) → Extends q p → SpellsModule p m b
+        → SpellsModule q m b }
 {}
 
 /// A whole input, and what spells a module, consist of bytes.
 pub fn input_is_bytes()
     ensures whole { (p : Profile) (b : List ℕ) (k : Marks) → Items p b k → AreBytes b }
-    ensures spelled { (m : ModuleValue) (b : List ℕ) → SpellsModule m b → AreBytes b }
+    ensures spelled { (p : Profile) (m : ModuleValue) (b : List ℕ) → SpellsModule p m b → AreBytes b }
 {}
 
-/// No bytes spell two modules (section 5.5.15).
+/// No bytes spell two modules (section 5.5.15), under two profiles either.
 pub fn one_spelling_one_module()
-    ensures { (m n : ModuleValue) (b : List ℕ) → SpellsModule m b → SpellsModule n b → m ≡ n }
+    ensures { (p q : Profile) (m n : ModuleValue) (b : List ℕ) → SpellsModule p m b → SpellsModule q n b
+        → m ≡ n }
 {}
 
 /// What the name of a refusal says of the bytes up to its place, over each sink that gives the names of rules

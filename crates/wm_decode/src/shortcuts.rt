@@ -22,6 +22,7 @@ use crate::sink::Sink;
 use crate::step::expressions::InExpression;
 use crate::step::framed;
 use crate::step::members::data_or_over;
+use wm_syntax::profile::Profile;
 use wm_syntax::why::Why;
 
 pub(crate) mod entries;
@@ -130,9 +131,9 @@ fn way_in_code(at: InMember) -> Way {
 
 // Takes the ops of a code entry that lie whole in these bytes
 #[tactic(auto, using(crate::proofs::Advances::advances_none))]
-fn ops<S: Sink>(sink: &mut S, machine: &mut Machine, bytes: &[u8]) -> Shortcut
-    ensures { Advances S.after S.may_run_out bytes.now machine.old (S.held sink.old) result machine.new
-        (S.held sink.new) }
+fn ops<S: Sink>(sink: &mut S, machine: &mut Machine, profile: Profile, bytes: &[u8]) -> Shortcut
+    ensures { Advances S.after S.may_run_out profile bytes.now machine.old (S.held sink.old) result
+        machine.new (S.held sink.new) }
 {
     let Some(body) = InBody::of(*machine) else {
         return Shortcut::none();
@@ -141,7 +142,7 @@ fn ops<S: Sink>(sink: &mut S, machine: &mut Machine, bytes: &[u8]) -> Shortcut
     if room == 0 {
         return Shortcut::none();
     }
-    let ran = take_ops(sink, bytes, body.depth, room);
+    let ran = take_ops(sink, profile, bytes, body.depth, room);
     if ran.used == 0 {
         return Shortcut::none();
     }
@@ -154,10 +155,10 @@ fn ops<S: Sink>(sink: &mut S, machine: &mut Machine, bytes: &[u8]) -> Shortcut
 
 // Takes the bytes of a data segment. The sink is given them at once.
 #[tactic(auto, using(crate::proofs::Advances::advances_none))]
-fn data<S: Sink>(sink: &mut S, machine: &mut Machine, bytes: &[u8]) -> Shortcut
+fn data<S: Sink>(sink: &mut S, machine: &mut Machine, profile: Profile, bytes: &[u8]) -> Shortcut
     requires { 0 < length bytes.now }
-    ensures { Advances S.after S.may_run_out bytes.now machine.old (S.held sink.old) result machine.new
-        (S.held sink.new) }
+    ensures { Advances S.after S.may_run_out profile bytes.now machine.old (S.held sink.old) result
+        machine.new (S.held sink.new) }
 {
     let Machine::Section {
         of,
@@ -202,9 +203,9 @@ fn data<S: Sink>(sink: &mut S, machine: &mut Machine, bytes: &[u8]) -> Shortcut
 
 // Skips the bytes of a custom section, but its last. The sink is given nothing.
 #[tactic(auto, using(crate::proofs::Advances::advances_none))]
-fn pass<S: Sink>(sink: &S, machine: &mut Machine, bytes: &[u8]) -> Shortcut
-    ensures { Advances S.after S.may_run_out bytes.now machine.old (S.held sink.now) result machine.new
-        (S.held sink.now) }
+fn pass<S: Sink>(sink: &S, machine: &mut Machine, profile: Profile, bytes: &[u8]) -> Shortcut
+    ensures { Advances S.after S.may_run_out profile bytes.now machine.old (S.held sink.now) result
+        machine.new (S.held sink.now) }
 {
     let Machine::Custom {
         last,
@@ -233,43 +234,48 @@ fn pass<S: Sink>(sink: &S, machine: &mut Machine, bytes: &[u8]) -> Shortcut
 
 /// Takes the shortcut that there is from the machine's place, where no name goes on.
 #[tactic(auto, using(crate::proofs::Advances::advances_none))]
-pub(crate) fn take_way<S: Sink>(sink: &mut S, machine: &mut Machine, bytes: &[u8]) -> Shortcut
+pub(crate) fn take_way<S: Sink>(
+    sink: &mut S,
+    machine: &mut Machine,
+    profile: Profile,
+    bytes: &[u8],
+) -> Shortcut
     requires { 0 < length bytes.now }
-    ensures { Advances S.after S.may_run_out bytes.now machine.old (S.held sink.old) result machine.new
-        (S.held sink.new) }
+    ensures { Advances S.after S.may_run_out profile bytes.now machine.old (S.held sink.old) result
+        machine.new (S.held sink.new) }
 {
     match way_of(*machine) {
         Way::Type => {
-            let taken = function_types(sink, machine, bytes);
+            let taken = function_types(sink, machine, profile, bytes);
             if taken.used > 0 {
                 return taken;
             }
         }
         Way::Entry => {
-            let taken = entries(sink, machine, bytes);
+            let taken = entries(sink, machine, profile, bytes);
             if taken.used > 0 {
                 return taken;
             }
         }
         Way::Runs => {
-            let taken = runs(sink, machine, bytes);
+            let taken = runs(sink, machine, profile, bytes);
             if taken.used > 0 {
                 return taken;
             }
         }
         Way::Ops => {
-            let taken = body(sink, machine, bytes);
+            let taken = body(sink, machine, profile, bytes);
             if taken.used > 0 {
                 return taken;
             }
         }
-        Way::Import => return imports(sink, machine, bytes),
-        Way::Export => return exports(sink, machine, bytes),
-        Way::Indices => return indices(sink, machine, bytes),
+        Way::Import => return imports(sink, machine, profile, bytes),
+        Way::Export => return exports(sink, machine, profile, bytes),
+        Way::Indices => return indices(sink, machine, profile, bytes),
         Way::Short => {}
-        Way::Data => return data(sink, machine, bytes),
-        Way::Pass => return pass(sink, machine, bytes),
+        Way::Data => return data(sink, machine, profile, bytes),
+        Way::Pass => return pass(sink, machine, profile, bytes),
         Way::One => return Shortcut::none(),
     }
-    short(sink, machine, bytes)
+    short(sink, machine, profile, bytes)
 }

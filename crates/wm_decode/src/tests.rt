@@ -161,10 +161,16 @@ fn told_by(alloc: Global, decoder: Decoder<Recorder>) -> Result<String, AllocErr
 
 // The same of an input of which so many bytes come first, and the rest in pieces of so many,
 // an empty one after each.
-fn told(alloc: Global, bytes: &[u8], first: usize, size: usize) -> Result<String, AllocError>
+fn told(
+    alloc: Global,
+    profile: Profile,
+    bytes: &[u8],
+    first: usize,
+    size: usize,
+) -> Result<String, AllocError>
     requires { 0 < size }
 {
-    let mut decoder = Decoder::new(alloc, nothing_seen(alloc), Profile::One, 1000);
+    let mut decoder = Decoder::new(alloc, nothing_seen(alloc), profile, 1000);
     let (front, back) = bytes.split_at(first.min(bytes.len()));
     let _ = decoder.feed(front);
     for piece in back.chunks(size) {
@@ -175,8 +181,8 @@ fn told(alloc: Global, bytes: &[u8], first: usize, size: usize) -> Result<String
 }
 
 // The items of an input, each behind the count of bytes at which it came.
-fn places(alloc: Global, bytes: &[u8]) -> Result<String, AllocError> {
-    let mut decoder = Decoder::new(alloc, nothing_seen(alloc), Profile::One, 1000);
+fn places(alloc: Global, profile: Profile, bytes: &[u8]) -> Result<String, AllocError> {
+    let mut decoder = Decoder::new(alloc, nothing_seen(alloc), profile, 1000);
     let mut placed = String::new(alloc);
     for piece in bytes.chunks(1) {
         let known = decoder.sink.seen.len();
@@ -189,8 +195,8 @@ fn places(alloc: Global, bytes: &[u8]) -> Result<String, AllocError> {
 }
 
 // Where the input is refused, and by which word.
-fn refusal(alloc: Global, bytes: &[u8]) -> Result<String, AllocError> {
-    let mut decoder = Decoder::new(alloc, NONE, Profile::One, 1000);
+fn refusal(alloc: Global, profile: Profile, bytes: &[u8]) -> Result<String, AllocError> {
+    let mut decoder = Decoder::new(alloc, NONE, profile, 1000);
     let _ = decoder.feed(bytes);
     let mut told = String::new(alloc);
     if let Err(refusal) = decoder.finish() {
@@ -200,27 +206,33 @@ fn refusal(alloc: Global, bytes: &[u8]) -> Result<String, AllocError> {
 }
 
 // The answer of a row: of `items` and `places` what was written down, of `refusal` its place and its word.
-fn answer(alloc: Global, call: &str, bytes: &[u8]) -> Result<String, AllocError> {
+fn answer(alloc: Global, profile: Profile, call: &str, bytes: &[u8]) -> Result<String, AllocError> {
     match call {
-        "items" => told(alloc, bytes, 0, 1000),
-        "places" => places(alloc, bytes),
-        "refusal" => refusal(alloc, bytes),
+        "items" => told(alloc, profile, bytes, 0, 1000),
+        "places" => places(alloc, profile, bytes),
+        "refusal" => refusal(alloc, profile, bytes),
         _ => Ok(String::new(alloc)),
     }
 }
 
 // However the input is cut, the same is told.
-fn expect_any_cut(rt: &impl Abort, alloc: Global, row: &str, bytes: &[u8]) -> Result<(), Fail> {
-    let whole = told(alloc, bytes, 0, 1000)?;
+fn expect_any_cut(
+    rt: &impl Abort,
+    alloc: Global,
+    profile: Profile,
+    row: &str,
+    bytes: &[u8],
+) -> Result<(), Fail> {
+    let whole = told(alloc, profile, bytes, 0, 1000)?;
     for size in SIZES {
-        let cut = told(alloc, bytes, 0, size)?;
+        let cut = told(alloc, profile, bytes, 0, size)?;
         assert!(rt;
             cut.as_str() == whole.as_str(),
             "in pieces of {size}: {row}: {cut}"
         );
     }
     for first in 0..bytes.len() {
-        let cut = told(alloc, bytes, first, 1000)?;
+        let cut = told(alloc, profile, bytes, first, 1000)?;
         assert!(rt;
             cut.as_str() == whole.as_str(),
             "cut at {first}: {row}: {cut}"
@@ -230,21 +242,27 @@ fn expect_any_cut(rt: &impl Abort, alloc: Global, row: &str, bytes: &[u8]) -> Re
 }
 
 // A row is `what is special: CALL BYTES = ANSWER`.
-fn play_row(rt: &impl Abort, alloc: Global, row: &str) -> Result<(), Fail> {
+fn play_row(rt: &impl Abort, alloc: Global, profile: Profile, row: &str) -> Result<(), Fail> {
     let (left, wanted) = row.split_once(" = ").unwrap_or((row, "no answer"));
     let (_, call) = left.split_once(": ").unwrap_or(("", ""));
     let (call, words) = call.split_once(' ').unwrap_or((call, ""));
     let bytes = bytes_of(alloc, words)?;
-    let found = answer(alloc, call, bytes.as_slice())?;
+    let found = answer(alloc, profile, call, bytes.as_slice())?;
     assert!(rt; found.as_str() == wanted, "{row}: {found}");
-    expect_any_cut(rt, alloc, row, bytes.as_slice())
+    expect_any_cut(rt, alloc, profile, row, bytes.as_slice())
 }
 
-// Plays rows, as many as are wanted.
-fn play(rt: &impl Abort, alloc: Global, rows: &str, wanted: usize) -> Result<(), Fail> {
+// Plays rows under a profile, as many as are wanted.
+fn play(
+    rt: &impl Abort,
+    alloc: Global,
+    profile: Profile,
+    rows: &str,
+    wanted: usize,
+) -> Result<(), Fail> {
     let mut played = 0_usize;
     for row in rows.lines() {
-        play_row(rt, alloc, row)?;
+        play_row(rt, alloc, profile, row)?;
         played = played.saturating_add(1);
     }
     assert_eq!(rt; played, wanted);
@@ -292,15 +310,18 @@ a size in six bytes: refusal H 01 84 80 80 80 80 00 = 14 BadNumber
 a name of one bad byte: refusal H 00 02 01 FF = 12 BadUtf8
 a name with a surrogate: refusal H 00 04 03 ED A0 80 = 14 BadUtf8
 a type with another form: refusal H 01 02 01 61 = 12 BadByte
-a parameter of type f64: refusal H 01 05 01 60 01 7D 00 = 14 Float
+a parameter of type f32: refusal H 01 05 01 60 01 7D 00 = 14 Float
+a result of type f64: refusal H 01 05 01 60 00 01 7C = 15 Float
+an imported global of type f64: refusal H 02 08 01 01 61 01 62 03 7C 00 = 17 Float
 a type that the input cuts: refusal H 01 04 01 60 00 = 13 Truncated
 a name that the input cuts: refusal H 00 05 04 6E = 12 Truncated
 a kind of import: refusal H 02 04 01 00 00 04 = 14 BadByte
 a kind of export: refusal H 07 05 01 01 61 04 00 = 14 BadByte
 an element type: refusal H 04 04 01 6F 00 01 = 12 BadByte
 a flag of limits: refusal H 05 03 01 02 01 = 12 BadByte
+a constant of type f32: refusal H 06 09 01 7F 00 43 00 00 C0 7F 0B = 14 Float
 a flag of a global: refusal H 06 06 01 7F 02 41 00 0B = 13 BadByte
-a global of type f32: refusal H 06 06 01 7C 00 41 00 0B = 12 Float
+a global of type f64: refusal H 06 06 01 7C 00 41 00 0B = 12 Float
 a module name of a bad byte: refusal H 02 05 01 01 FF 00 00 = 13 BadUtf8
 the fifth byte of an i32: refusal H 06 0A 01 7F 00 41 80 80 80 80 08 0B = 19 BadNumber
 the tenth byte of an i64: refusal H 06 0F 01 7E 00 42 80 80 80 80 80 80 80 80 80 01 0B = 24 BadNumber
@@ -320,23 +341,67 @@ a size that passes its section: refusal H 01 04 01 60 00 00 03 02 01 00 0A 04 01
 an entry that its section cuts: refusal H 01 04 01 60 00 00 03 02 01 00 0A 04 01 7F 00 01 = 24 SectionEnd
 an entry without an end: refusal H 01 04 01 60 00 00 03 02 01 00 0A 04 01 02 00 01 = 24 BodyEnd
 an instruction on floats: refusal H 01 04 01 60 00 00 03 02 01 00 0A 09 01 07 00 43 00 00 00 00 0B = 24 Float
+locals of type f32: refusal H 01 04 01 60 00 00 03 02 01 00 0A 06 01 04 01 01 7D 0B = 25 Float
+an empty run of type f64: refusal H 01 04 01 60 00 00 03 02 01 00 0A 06 01 04 01 00 7C 0B = 25 Float
+a block of type f32: refusal H 01 04 01 60 00 00 03 02 01 00 0A 07 01 05 00 02 7D 0B 0B = 25 Float
 no instruction: refusal H 01 04 01 60 00 00 03 02 01 00 0A 09 01 07 00 C0 00 00 00 00 0B = 24 BadOpcode
 a padded index of a table: refusal H 01 04 01 60 00 00 03 02 01 00 0A 09 01 07 00 11 00 80 80 00 0B = 26 BadByte
 ";
 
+// Where the profile has floats
+const FLOATS: &str =
+    "a type of floats: items H 01 07 01 60 02 7D 7C 01 7D = NewType, Param(F32), Param(F64), Results(1), Result(F32), taken
+an imported global: items H 02 08 01 01 61 01 62 03 7C 00 = ImportModule([97]), ImportName([98]), ImportGlobal(GlobalType { ty: F64, var: false }), taken
+a global of type f32: items H 06 09 01 7D 00 43 01 02 C3 7F 0B = Global(GlobalType { ty: F32, var: false }), ConstOp(Simple(F32Const(2143486465))), ConstOp(End), taken
+a global of type f64: items H 06 0D 01 7C 01 44 01 00 00 00 00 00 F0 7F 0B = Global(GlobalType { ty: F64, var: true }), ConstOp(Simple(F64Const(9218868437227405313))), ConstOp(End), taken
+the eight bytes of a constant: places H 06 0D 01 7C 01 44 01 02 03 04 05 06 07 88 0B = 13 Global(GlobalType { ty: F64, var: true }), 22 ConstOp(Simple(F64Const(9801809732607083009))), 23 ConstOp(End), 
+locals, a block and constants: items H 01 04 01 60 00 00 03 02 01 00 0A 1C 01 1A 02 01 7D 02 7C 02 7D 43 00 00 80 3F 0B 1A 44 00 00 00 00 00 00 F0 3F 9A 1A 0B = NewType, Results(0), Func(0), Body, Locals(1, F32), Locals(2, F64), Op(Block(Some(F32))), Op(Simple(F32Const(1065353216))), Op(End), Op(Simple(Drop)), Op(Simple(F64Const(4607182418800017408))), Op(Simple(Numeric(FloatUnary(F64, Neg)))), Op(Simple(Drop)), Op(End), taken
+other ops: items H 01 04 01 60 00 00 03 02 01 00 0A 0E 01 0C 00 2A 02 00 39 03 88 01 A8 5B A0 0B = NewType, Results(0), Func(0), Body, Op(Simple(Load(F32Load, MemArg { align: 2, offset: 0 }))), Op(Simple(Store(F64Store, MemArg { align: 3, offset: 136 }))), Op(Simple(Numeric(Convert(I32TruncF32S)))), Op(Simple(Numeric(FloatCompare(F32, Eq)))), Op(Simple(Numeric(FloatBinary(F64, Add)))), Op(End), taken
+an empty run: items H 01 04 01 60 00 00 03 02 01 00 0A 06 01 04 01 00 7C 0B = NewType, Results(0), Func(0), Body, Locals(0, F64), Op(End), taken
+no value type: refusal H 01 05 01 60 01 7B 00 = 14 BadByte
+a constant that the input cuts: refusal H 06 09 01 7D 00 43 00 00 C0 = 17 Truncated
+a constant that its section cuts: refusal H 06 06 01 7D 00 43 00 00 C0 7F 0B = 16 SectionEnd
+a constant that its entry cuts: refusal H 01 04 01 60 00 00 03 02 01 00 0A 06 01 04 00 43 00 00 0B = 26 BodyEnd
+";
+
+// A sign extension, which the third profile has not
+const EXTENDED: &str = "H 01 04 01 60 00 00 03 02 01 00 0A 05 01 03 00 C0 0B";
+
 #[test]
 fn items_and_their_places(rt: HostRuntime) -> Result<(), Fail> {
-    play(&rt, rt.alloc(), ITEMS, 16)
+    play(&rt, rt.alloc(), Profile::One, ITEMS, 16)?;
+    play(&rt, rt.alloc(), Profile::Four, ITEMS, 16)
 }
 
 #[test]
 fn what_is_refused(rt: HostRuntime) -> Result<(), Fail> {
-    play(&rt, rt.alloc(), REFUSALS, 32)
+    play(&rt, rt.alloc(), Profile::One, REFUSALS, 35)?;
+    play(&rt, rt.alloc(), Profile::Two, REFUSALS, 35)
 }
 
 #[test]
 fn code_that_is_refused(rt: HostRuntime) -> Result<(), Fail> {
-    play(&rt, rt.alloc(), CODE_REFUSALS, 13)
+    play(&rt, rt.alloc(), Profile::One, CODE_REFUSALS, 16)
+}
+
+#[test]
+fn floats(rt: HostRuntime) -> Result<(), Fail> {
+    play(&rt, rt.alloc(), Profile::Three, FLOATS, 12)?;
+    play(&rt, rt.alloc(), Profile::Four, FLOATS, 12)
+}
+
+#[test]
+fn sign_extensions(rt: HostRuntime) -> Result<(), Fail> {
+    let bytes = bytes_of(rt.alloc(), EXTENDED)?;
+    for profile in [Profile::One, Profile::Three] {
+        let found = refusal(rt.alloc(), profile, bytes.as_slice())?;
+        assert_eq!(rt; found.as_str(), "24 BadOpcode");
+    }
+    for profile in [Profile::Two, Profile::Four] {
+        let found = refusal(rt.alloc(), profile, bytes.as_slice())?;
+        assert_eq!(rt; found.as_str(), "");
+    }
+    Ok(())
 }
 
 #[test]
@@ -504,12 +569,13 @@ fn laws_are_called(rt: HostRuntime) -> Result<(), Fail> {
     laws::module_is_flat();
     laws::items_are_module();
     laws::items_determine_module();
-    laws::second_profile_has_all();
+    laws::fourth_profile_has_all();
+    laws::more_features_spell_as_much();
     laws::input_is_bytes();
     laws::one_spelling_one_module();
     laws::slices_join::<Recorder>();
     laws::format_names_mean::<Recorder>();
-    let told = told(rt.alloc(), &HEADER, 0, 1)?;
+    let told = told(rt.alloc(), Profile::One, &HEADER, 0, 1)?;
     assert_eq!(rt; told.as_str(), "taken");
     Ok(())
 }

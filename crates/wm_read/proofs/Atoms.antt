@@ -5,8 +5,10 @@ use Rattle.std.proofs.Math.Nat.{mul-le-mul_right, mul-le-mul_left}
 use Rattle.std.specs.Prelude.{◌==◌, ◌&&◌, fold, nat_le, not}
 use Rattle.std.specs.List.{list_all}
 use Rattle.std.proofs.lemmas.Bool.{cond-true, cond-false, cond_both, eqb-true, eq-eqb, ne_eqb, and_parts, and_from, lt-ltb, ltb-true, le-leb, and_left, cases_lt}
-use Rattle.wm_read.specs.Tokens.{is_digit, is_id_char, digit_value, Digits, Magnitude, IsNumber, IsIdentifier, IsWord, is_lower}
-use Rattle.wm_read.specs.exact.Scan.{atom_in, digits_in, with_digit, magnitude_of, is_number, is_atom, is_nil, is_some, number_in, number_next}
+use Rattle.wm_floats.specs.exact.Atoms.{has_form}
+use Rattle.wm_floats.proofs.Written.{form_found, form_more, nothing_form, plus_form, minus_form, dollar_form}
+use Rattle.wm_read.specs.Tokens.{is_digit, is_id_char, digit_value, Digits, Magnitude, IsNumber, IsLiteral, IsIdentifier, IsWord, is_lower}
+use Rattle.wm_read.specs.exact.Scan.{atom_in, digits_in, with_digit, magnitude_of, is_number, is_literal, is_atom, is_nil, is_some, number_in, number_next}
 use Rattle.wm_read.proofs.Basics.{chosen, same_some, same_head, both_are}
 
 abbrev pub EndsAtom : List ℕ → Type 0
@@ -170,8 +172,35 @@ number_more (c ∷ b) (n, inr (inr (x, y, e, p, h))) =
 
 -- ---- atoms
 
+-- floats
+pub literal_found : (a : List ℕ) → is_literal a ≡ true → IsLiteral a
+literal_found [] e = absurd (let f : false ≡ true = e in cc)
+literal_found (c ∷ b) e = elim (chosen (c == 43) (has_form b) _ true e) [
+  | inl p ↦ inr (inl (43 ∷ [], b, ap (λ (x : ℕ). x ∷ b) (eqb-true c 43 p.0), refl, form_found b p.1))
+  | inr p ↦ elim (chosen (c == 45) (has_form b) (has_form (c ∷ b)) true p.1) [
+    | inl q ↦ inr (inr (45 ∷ [], b, ap (λ (x : ℕ). x ∷ b) (eqb-true c 45 q.0), refl, form_found b q.1))
+    | inr q ↦ inl (form_found (c ∷ b) q.1)
+  ]
+]
+
+-- a byte that begins no float
+away : (c s : ℕ) (b : List ℕ) → has_form (c ∷ b) ≡ true → has_form (s ∷ b) ≡ false → (c == s) ≡ false
+away c s b e n = ne_eqb c s (λ k. let f : false ≡ true = sym n ∙ ap (λ (x : ℕ). has_form (x ∷ b)) (sym k) ∙ e in let g : false ≡ true = f in cc)
+
+pub literal_more : (a : List ℕ) → IsLiteral a → is_literal a ≡ true
+literal_more [] (inl h) = absurd (let f : false ≡ true = sym nothing_form ∙ form_more [] h in cc)
+literal_more [] (inr (inl (x, y, e, p, h))) = absurd (let f : [] ≡ 43 ∷ y = e ∙ ap (λ (z : List ℕ). z ++ y) p in cc)
+literal_more [] (inr (inr (x, y, e, p, h))) = absurd (let f : [] ≡ 45 ∷ y = e ∙ ap (λ (z : List ℕ). z ++ y) p in cc)
+literal_more (c ∷ b) (inl h) =
+    let e = form_more (c ∷ b) h in
+    cond-false (c == 43) _ _ (away c 43 b e (plus_form b)) ∙ cond-false (c == 45) _ _ (away c 45 b e (minus_form b)) ∙ e
+literal_more (c ∷ b) (inr (inl (x, y, e, p, h))) =
+    let f : c ∷ b ≡ 43 ∷ y = e ∙ ap (λ (z : List ℕ). z ++ y) p in ap is_literal f ∙ form_more y h
+literal_more (c ∷ b) (inr (inr (x, y, e, p, h))) =
+    let f : c ∷ b ≡ 45 ∷ y = e ∙ ap (λ (z : List ℕ). z ++ y) p in ap is_literal f ∙ form_more y h
+
 abbrev pub IsKind : List ℕ → Type 0
-IsKind a = IsIdentifier a ⊎ IsNumber a ⊎ IsWord a
+IsKind a = IsIdentifier a ⊎ (IsNumber a ⊎ IsLiteral a) ⊎ IsWord a
 
 nil_length : (b : List ℕ) → not (is_nil b) ≡ true → 0 < length b
 nil_length [] h = absurd (let f : false ≡ true = h in cc)
@@ -187,21 +216,29 @@ kind_found (c ∷ b) e = elim (chosen (c == 36) _ _ true e) [
   | inl p ↦ inl (eqb-true c 36 p.0, nil_length b p.1)
   | inr p ↦ elim (chosen (is_lower c) _ _ true p.1) [
     | inl q ↦ inr (inr q.0)
-    | inr q ↦ inr (inl (number_found (c ∷ b) q.1))
+    | inr q ↦ elim (chosen (is_number (c ∷ b)) true (is_literal (c ∷ b)) true q.1) [
+      | inl r ↦ inr (inl (inl (number_found (c ∷ b) r.0)))
+      | inr r ↦ inr (inl (inr (literal_found (c ∷ b) r.1)))
+    ]
   ]
 ]
 
 pub kind_more : (a : List ℕ) → IsKind a → is_atom a ≡ true
 kind_more [] (inl h) = absurd h
-kind_more [] (inr (inl h)) = absurd (let f : false ≡ true = number_more [] h in cc)
+kind_more [] (inr (inl (inl h))) = absurd (let f : false ≡ true = number_more [] h in cc)
+kind_more [] (inr (inl (inr h))) = absurd (let f : false ≡ true = literal_more [] h in cc)
 kind_more [] (inr (inr h)) = absurd h
 kind_more (c ∷ b) (inl (e, n)) = cond-true (c == 36) _ _ (eq-eqb c 36 e) ∙ length_nil b n
 kind_more (c ∷ b) (inr (inr h)) =
     cond-false (c == 36) _ _ (ne_eqb c 36 (λ k. let f : false ≡ true = ap is_lower (sym k) ∙ h in cc)) ∙ cond-true (is_lower c) _ _ h
-kind_more (c ∷ b) (inr (inl h)) =
+kind_more (c ∷ b) (inr (inl (inl h))) =
     let e : is_number (c ∷ b) ≡ true = number_more (c ∷ b) h in
     let not36 : (c == 36) ≡ false = ne_eqb c 36 (λ k. let f : is_some (magnitude_of (36 ∷ b)) ≡ true = ap (λ (x : ℕ). is_number (x ∷ b)) (sym k) ∙ e in let g = some_is (magnitude_of (36 ∷ b)) f in first_digit 36 b g.0 refl g.1) in
-    cond-false (c == 36) _ _ not36 ∙ cond_both (is_lower c) true (is_number (c ∷ b)) (λ x. x ≡ true) (λ _. refl) (λ _. e)
+    cond-false (c == 36) _ _ not36 ∙ cond_both (is_lower c) true _ (λ x. x ≡ true) (λ _. refl) (λ _. cond-true (is_number (c ∷ b)) true (is_literal (c ∷ b)) e)
+kind_more (c ∷ b) (inr (inl (inr h))) =
+    let e : is_literal (c ∷ b) ≡ true = literal_more (c ∷ b) h in
+    let not36 : (c == 36) ≡ false = ne_eqb c 36 (λ k. let f : false ≡ true = sym (dollar_form b) ∙ ap (λ (x : ℕ). is_literal (x ∷ b)) (sym k) ∙ e in let g : false ≡ true = f in cc) in
+    cond-false (c == 36) _ _ not36 ∙ cond_both (is_lower c) true _ (λ x. x ≡ true) (λ _. refl) (λ _. cond_both (is_number (c ∷ b)) true (is_literal (c ∷ b)) (λ x. x ≡ true) (λ _. refl) (λ _. e))
 
 -- ---- as the code reads atoms
 

@@ -7,7 +7,7 @@ use Rattle.wm_syntax.specs.declared.types.Const.{Const}
 use Rattle.wm_syntax.specs.declared.types.Limits.{Limits}
 use Rattle.wm_syntax.specs.declared.instructions.MemArg.{MemArg}
 use Rattle.wm_syntax.specs.declared.instructions.Simple.{Simple}
-use Rattle.wm_syntax.specs.declared.instructions.Simple.TheVariants.{Unreachable, Nop, Return, Drop, Select, Br, BrIf, Call, CallIndirect, LocalGet, LocalSet, LocalTee, GlobalGet, GlobalSet, MemorySize, MemoryGrow, I32Const, I64Const, Load, Store, Numeric}
+use Rattle.wm_syntax.specs.declared.instructions.Simple.TheVariants.{Unreachable, Nop, Return, Drop, Select, Br, BrIf, Call, CallIndirect, LocalGet, LocalSet, LocalTee, GlobalGet, GlobalSet, MemorySize, MemoryGrow, I32Const, I64Const, F32Const, F64Const, Load, Store, Numeric}
 use Rattle.wm_syntax.specs.declared.modules.ExportKind.{ExportKind}
 use Rattle.wm_syntax.specs.declared.modules.ExportKind.TheVariants as kind
 use Rattle.wm_syntax.specs.Instructions.{Instruction, Instructions, none, snoc, simple, table, block, loop, choice}
@@ -117,6 +117,8 @@ balanced_operand s labels MemorySize = balanced_nil
 balanced_operand s labels MemoryGrow = balanced_nil
 balanced_operand s labels (I32Const n) = λ f h. balanced_word h.0 f h.1
 balanced_operand s labels (I64Const n) = λ f h. balanced_word h.0 f h.1
+balanced_operand s labels (F32Const n) = λ f h. balanced_word h.0 f h.1
+balanced_operand s labels (F64Const n) = λ f h. balanced_word h.0 f h.1
 balanced_operand s labels (Load op at) = balanced_access (load op).width at
 balanced_operand s labels (Store op at) = balanced_access (store op).width at
 balanced_operand s labels (Numeric op) = balanced_nil

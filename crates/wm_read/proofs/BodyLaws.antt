@@ -75,6 +75,60 @@ module _ (use_at : Reader ℕ) (p : Profile) (sc : Scope) (use_sound : Sound use
       let size : length x.1 ≤ length k = shorter bs w k x.0 x.1 e in
       ap (λ (z : Option (List Op × List Token)). z >>= λ y. Some (piece_ops x.0 ++ y.0, y.1)) (fuel (suc (length k)) (suc (length x.1)) (after bs x.0) x.1 (omega (arith, size)) (omega arith)))
 
+  -- ---- what is read is written so
+
+  -- a piece that is read, and those after it
+  joins : (bs : Opened) (q : Piece) (later : List Piece) (w : List ℕ) (k left rest : List Token) → piece_at use_at p sc bs w k ≡ Some (q, left) → Still p sc (after bs q) later left rest
+      → Still p sc bs (q ∷ later) (atom w ∷ k) rest
+  joins bs q later w k left rest e still =
+      let g = piece_sound use_at sc use_sound p bs w k q left e in
+      let y = still.front in
+      record {
+        front = atom w ∷ (g.0 ++ y);
+        text = ap (λ (z : List Token). atom w ∷ z) (g.1 ∙ ap (λ (z : List Token). g.0 ++ z) still.text ∙ sym (append_assoc g.0 y rest));
+        writes = (g.2.1, (atom w ∷ g.0, y, refl, g.2.0, still.writes));
+      }
+
+  within_sound : (n : ℕ) (bs : Opened) (k : List Token) (ops : List Op) (rest : List Token) → ops_within use_at p sc n bs k ≡ Some (ops, rest)
+      → BeginsClose rest × (ps : List Piece) × (ops ≡ pieces_ops ps) × Still p sc bs ps k rest
+  within_sound zero bs k ops rest e = absurd cc
+  within_sound (suc n) bs [] ops rest e = absurd (none bs e)
+    where
+      none : (bs : Opened) → ops_within use_at p sc (suc n) bs [] ≡ Some (ops, rest) → ⊥
+      none [] e = cc
+      none (b ∷ bs) e = cc
+  within_sound (suc n) bs (open_paren ∷ k) ops rest e = absurd (none bs e)
+    where
+      none : (bs : Opened) → ops_within use_at p sc (suc n) bs (open_paren ∷ k) ≡ Some (ops, rest) → ⊥
+      none [] e = cc
+      none (b ∷ bs) e = cc
+  within_sound (suc n) bs (string b ∷ k) ops rest e = absurd (none bs e)
+    where
+      none : (bs : Opened) → ops_within use_at p sc (suc n) bs (string b ∷ k) ≡ Some (ops, rest) → ⊥
+      none [] e = cc
+      none (b ∷ bs) e = cc
+  within_sound (suc n) [] (close_paren ∷ k) ops rest e =
+      let u = same_some ([], close_paren ∷ k) (ops, rest) e in
+      subst (λ (z : List Op × List Token). BeginsClose z.1 × (ps : List Piece) × (z.0 ≡ pieces_ops ps) × Still p sc [] ps (close_paren ∷ k) z.1) u
+      (tt, [], refl, record { front = []; text = refl; writes = (refl, refl) })
+  within_sound (suc n) (b ∷ bs) (close_paren ∷ k) ops rest e = absurd cc
+  within_sound (suc n) bs (atom w ∷ k) ops rest e =
+      let a = bind_ok (piece_at use_at p sc bs w k) (λ x. ops_within use_at p sc n (after bs x.0) x.1 >>= λ y. Some (piece_ops x.0 ++ y.0, y.1)) (ops, rest) e in
+      let b = bind_ok (ops_within use_at p sc n (after bs a.0.0) a.0.1) (λ y. Some (piece_ops a.0.0 ++ y.0, y.1)) (ops, rest) a.2 in
+      let u : ◌≡◌ {A = List Op × List Token} (piece_ops a.0.0 ++ b.0.0, b.0.1) (ops, rest) = same_some (piece_ops a.0.0 ++ b.0.0, b.0.1) (ops, rest) b.2 in
+      let m = within_sound n (after bs a.0.0) a.0.1 b.0.0 b.0.1 b.1 in
+      subst (λ (z : List Op × List Token). BeginsClose z.1 × (ps : List Piece) × (z.0 ≡ pieces_ops ps) × Still p sc bs ps (atom w ∷ k) z.1) u (
+        m.0,
+        a.0.0 ∷ m.1,
+        ap (λ (z : List Op). piece_ops a.0.0 ++ z) m.2,
+        joins bs a.0.0 m.1 w k a.0.1 b.0.1 a.1 m.3,
+      )
+
+  pub ops_sound : (bs : Opened) (k : List Token) (ops : List Op) (rest : List Token) → ops_at use_at p sc bs k ≡ Some (ops, rest)
+      → BeginsClose rest × (front : List Token) × (k ≡ front ++ rest) × WritesOps p sc bs ops front
+  unfolding ops_at
+  ops_sound bs k ops rest e = let g = within_sound (suc (length k)) bs k ops rest e in (g.0, g.3.front, g.3.text, (g.1, g.2, g.3.writes))
+
 module _ (use_at : Reader ℕ) (p : Profile) (sc : Scope) (uses : ReadsUse use_at sc.names) (scope : IsScope sc) where
   pub pieces_follow : (bs : Opened) (ps : List Piece) (front rest : List Token) → WritesPieces p sc bs ps front → BeginsClose rest → Follow (front ++ rest)
   pieces_follow bs [] front rest h f = subst (λ (z : List Token). Follow (z ++ rest)) (sym h.1) (close_follows rest f)
@@ -137,41 +191,6 @@ module _ (use_at : Reader ℕ) (p : Profile) (sc : Scope) (uses : ReadsUse use_a
       let g = h.writes in let t = to_rest sc bs q g.1.0 g.1.3 in
       absurd (never _ ((t.0 ++ g.1.1) ++ rest) (h.text ∙ ap (λ (z : List Token). z ++ rest) (g.1.2 ∙ ap (λ (z : List Token). z ++ g.1.1) t.1)))
 
-  within_sound : (n : ℕ) (bs : Opened) (k : List Token) (ops : List Op) (rest : List Token) → ops_within use_at p sc n bs k ≡ Some (ops, rest)
-      → BeginsClose rest × (ps : List Piece) × (ops ≡ pieces_ops ps) × Still p sc bs ps k rest
-  within_sound zero bs k ops rest e = absurd cc
-  within_sound (suc n) bs [] ops rest e = absurd (none bs e)
-    where
-      none : (bs : Opened) → ops_within use_at p sc (suc n) bs [] ≡ Some (ops, rest) → ⊥
-      none [] e = cc
-      none (b ∷ bs) e = cc
-  within_sound (suc n) bs (open_paren ∷ k) ops rest e = absurd (none bs e)
-    where
-      none : (bs : Opened) → ops_within use_at p sc (suc n) bs (open_paren ∷ k) ≡ Some (ops, rest) → ⊥
-      none [] e = cc
-      none (b ∷ bs) e = cc
-  within_sound (suc n) bs (string b ∷ k) ops rest e = absurd (none bs e)
-    where
-      none : (bs : Opened) → ops_within use_at p sc (suc n) bs (string b ∷ k) ≡ Some (ops, rest) → ⊥
-      none [] e = cc
-      none (b ∷ bs) e = cc
-  within_sound (suc n) [] (close_paren ∷ k) ops rest e =
-      let u = same_some ([], close_paren ∷ k) (ops, rest) e in
-      subst (λ (z : List Op × List Token). BeginsClose z.1 × (ps : List Piece) × (z.0 ≡ pieces_ops ps) × Still p sc [] ps (close_paren ∷ k) z.1) u
-      (tt, [], refl, record { front = []; text = refl; writes = (refl, refl) })
-  within_sound (suc n) (b ∷ bs) (close_paren ∷ k) ops rest e = absurd cc
-  within_sound (suc n) bs (atom w ∷ k) ops rest e =
-      let a = bind_ok (piece_at use_at p sc bs w k) (λ x. ops_within use_at p sc n (after bs x.0) x.1 >>= λ y. Some (piece_ops x.0 ++ y.0, y.1)) (ops, rest) e in
-      let b = bind_ok (ops_within use_at p sc n (after bs a.0.0) a.0.1) (λ y. Some (piece_ops a.0.0 ++ y.0, y.1)) (ops, rest) a.2 in
-      let u : ◌≡◌ {A = List Op × List Token} (piece_ops a.0.0 ++ b.0.0, b.0.1) (ops, rest) = same_some (piece_ops a.0.0 ++ b.0.0, b.0.1) (ops, rest) b.2 in
-      let m = within_sound n (after bs a.0.0) a.0.1 b.0.0 b.0.1 b.1 in
-      subst (λ (z : List Op × List Token). BeginsClose z.1 × (ps : List Piece) × (z.0 ≡ pieces_ops ps) × Still p sc bs ps (atom w ∷ k) z.1) u (
-        m.0,
-        a.0.0 ∷ m.1,
-        ap (λ (z : List Op). piece_ops a.0.0 ++ z) m.2,
-        comes_from bs (a.0.0 ∷ m.1) w k b.0.1 (record { piece = a.0.0; later = m.1; left = a.0.1; read = a.1; pieces = refl; still = m.3 }),
-      )
-
   at_close : (n : ℕ) (rest : List Token) → BeginsClose rest → ops_within use_at p sc (suc n) [] rest ≡ Some ([], rest)
   at_close n [] f = absurd f
   at_close n (open_paren ∷ k) f = absurd f
@@ -199,12 +218,7 @@ module _ (use_at : Reader ℕ) (p : Profile) (sc : Scope) (uses : ReadsUse use_a
   within_complete (suc n) bs names ps (close_paren ∷ k) rest lt h f = ended n bs ps (close_paren ∷ k) rest (still_end bs ps (close_paren ∷ k) rest (λ w l e. cc) h) f
   within_complete (suc n) bs names ps (string b ∷ k) rest lt h f = ended n bs ps (string b ∷ k) rest (still_end bs ps (string b ∷ k) rest (λ w l e. cc) h) f
 
-  -- what is read is written so, and what is written so is read
-  pub ops_sound : (bs : Opened) (k : List Token) (ops : List Op) (rest : List Token) → ops_at use_at p sc bs k ≡ Some (ops, rest)
-      → BeginsClose rest × (front : List Token) × (k ≡ front ++ rest) × WritesOps p sc bs ops front
-  unfolding ops_at
-  ops_sound bs k ops rest e = let g = within_sound (suc (length k)) bs k ops rest e in (g.0, g.3.front, g.3.text, (g.1, g.2, g.3.writes))
-
+  -- what is written so is read
   pub ops_complete : (bs : Opened) → AreNames bs → (ops : List Op) (front rest : List Token) → WritesOps p sc bs ops front → BeginsClose rest → ops_at use_at p sc bs (front ++ rest) ≡ Some (ops, rest)
   unfolding ops_at
   ops_complete bs names ops front rest (ps, e, h) f =

@@ -29,38 +29,38 @@ regroup : (p q : Place) (ops : List Op) (o : Option (List Op × List Token)) →
 regroup p q ops None e = refl
 regroup p q ops (Some x) e = ap (λ (z : Option Place). Some (body_in z, x.1)) (after_append ops x.0 p ∙ ap (λ (z : Option Place). if_placed z (λ r. place_after r x.0)) e)
 
-abbrev Use : Scope → Reader ℕ
-Use sc = call_use_at sc.names
+abbrev Use : (pr : Profile) → Scope → Reader ℕ
+Use pr sc = call_use_at pr sc.names
 
 -- one piece further
-pub body_more : (p : Profile) (sc : Scope) (place next : Place) (bs : Opened) (w : List ℕ) (j k left : List Token) (q : Piece) → j ≡ atom w ∷ k → piece_at (call_use_at sc.names) p sc bs w k ≡ Some (q, left)
-    → place_after place (piece_ops q) ≡ Some next → body_from place (ops_at (call_use_at sc.names) p sc bs j) ≡ body_from next (ops_at (call_use_at sc.names) p sc (after bs q) left)
+pub body_more : (p : Profile) (sc : Scope) (place next : Place) (bs : Opened) (w : List ℕ) (j k left : List Token) (q : Piece) → j ≡ atom w ∷ k → piece_at (call_use_at p sc.names) p sc bs w k ≡ Some (q, left)
+    → place_after place (piece_ops q) ≡ Some next → body_from place (ops_at (call_use_at p sc.names) p sc bs j) ≡ body_from next (ops_at (call_use_at p sc.names) p sc (after bs q) left)
 body_more p sc place next bs w j k left q t e g =
-    ap (λ (z : List Token). body_from place (ops_at (Use sc) p sc bs z)) t
-    ∙ ap (body_from place) (ops_step (Use sc) p sc (call_sound sc.names) bs w k ∙ bind_is (piece_at (Use sc) p sc bs w k) _ (q, left) e)
-    ∙ regroup place next (piece_ops q) (ops_at (Use sc) p sc (after bs q) left) g
+    ap (λ (z : List Token). body_from place (ops_at (Use p sc) p sc bs z)) t
+    ∙ ap (body_from place) (ops_step (Use p sc) p sc (call_sound p sc.names) bs w k ∙ bind_is (piece_at (Use p sc) p sc bs w k) _ (q, left) e)
+    ∙ regroup place next (piece_ops q) (ops_at (Use p sc) p sc (after bs q) left) g
 
-pub body_fail : (p : Profile) (sc : Scope) (place : Place) (bs : Opened) (w : List ℕ) (j k : List Token) → j ≡ atom w ∷ k → piece_at (call_use_at sc.names) p sc bs w k ≡ None → body_from place (ops_at (call_use_at sc.names) p sc bs j) ≡ None
+pub body_fail : (p : Profile) (sc : Scope) (place : Place) (bs : Opened) (w : List ℕ) (j k : List Token) → j ≡ atom w ∷ k → piece_at (call_use_at p sc.names) p sc bs w k ≡ None → body_from place (ops_at (call_use_at p sc.names) p sc bs j) ≡ None
 body_fail p sc place bs w j k t e =
-    ap (λ (z : List Token). body_from place (ops_at (Use sc) p sc bs z)) t
-    ∙ ap (body_from place) (ops_step (Use sc) p sc (call_sound sc.names) bs w k ∙ ap (λ (o : Option (Piece × List Token)). o >>= λ x. ops_at (Use sc) p sc (after bs x.0) x.1 >>= λ y. Some (piece_ops x.0 ++ y.0, y.1)) e)
+    ap (λ (z : List Token). body_from place (ops_at (Use p sc) p sc bs z)) t
+    ∙ ap (body_from place) (ops_step (Use p sc) p sc (call_sound p sc.names) bs w k ∙ ap (λ (o : Option (Piece × List Token)). o >>= λ x. ops_at (Use p sc) p sc (after bs x.0) x.1 >>= λ y. Some (piece_ops x.0 ++ y.0, y.1)) e)
 
 pub body_over : (p : Profile) (sc : Scope) (place : Place) (s : Instructions) (bs : Opened) (j k : List Token) → bs ≡ [] → j ≡ close_paren ∷ k → place ≡ at [] s
-    → body_from place (ops_at (call_use_at sc.names) p sc bs j) ≡ Some (s, j)
+    → body_from place (ops_at (call_use_at p sc.names) p sc bs j) ≡ Some (s, j)
 unfolding ops_at
 body_over p sc place s bs j k e t g =
-    ap (λ (z : Opened). body_from place (ops_at (Use sc) p sc z j)) e ∙ ap (λ (z : List Token). body_from place (ops_at (Use sc) p sc [] z)) t
+    ap (λ (z : Opened). body_from place (ops_at (Use p sc) p sc z j)) e ∙ ap (λ (z : List Token). body_from place (ops_at (Use p sc) p sc [] z)) t
     ∙ ap (λ (z : Place). Some (body_at z, close_paren ∷ k)) g ∙ ap (λ (z : List Token). Some (s, z)) (sym t)
 
-pub body_begin : (p : Profile) (sc : Scope) (bs : Opened) (j : List Token) → bs ≡ [] → body_from start (ops_at (call_use_at sc.names) p sc bs j) ≡ instructions_at p sc j
-body_begin p sc bs j e = ap (λ (z : Opened). body_from start (ops_at (Use sc) p sc z j)) e
+pub body_begin : (p : Profile) (sc : Scope) (bs : Opened) (j : List Token) → bs ≡ [] → body_from start (ops_at (call_use_at p sc.names) p sc bs j) ≡ instructions_at p sc j
+body_begin p sc bs j e = ap (λ (z : Opened). body_from start (ops_at (Use p sc) p sc z j)) e
 
 abbrev pub IsStop : List Token → Type 0
 IsStop (atom a ∷ k) = ⊥
 IsStop (close_paren ∷ k) = ⊥
 IsStop _ = Unit {0}
 
-pub body_stop : (p : Profile) (sc : Scope) (place : Place) (bs : Opened) (j : List Token) → IsStop j → body_from place (ops_at (call_use_at sc.names) p sc bs j) ≡ None
+pub body_stop : (p : Profile) (sc : Scope) (place : Place) (bs : Opened) (j : List Token) → IsStop j → body_from place (ops_at (call_use_at p sc.names) p sc bs j) ≡ None
 unfolding ops_at
 body_stop p sc place [] [] h = refl
 body_stop p sc place (b ∷ bs) [] h = refl
@@ -71,26 +71,26 @@ body_stop p sc place [] (string s ∷ k) h = refl
 body_stop p sc place (b ∷ bs) (string s ∷ k) h = refl
 body_stop p sc place bs (atom a ∷ k) h = absurd h
 
-pub body_open : (p : Profile) (sc : Scope) (place : Place) (b : Open) (bs cs : Opened) (j k : List Token) → bs ≡ b ∷ cs → j ≡ close_paren ∷ k → body_from place (ops_at (call_use_at sc.names) p sc bs j) ≡ None
+pub body_open : (p : Profile) (sc : Scope) (place : Place) (b : Open) (bs cs : Opened) (j k : List Token) → bs ≡ b ∷ cs → j ≡ close_paren ∷ k → body_from place (ops_at (call_use_at p sc.names) p sc bs j) ≡ None
 unfolding ops_at
-body_open p sc place b bs cs j k e t = ap (λ (z : Opened). body_from place (ops_at (call_use_at sc.names) p sc z j)) e ∙ ap (λ (z : List Token). body_from place (ops_at (call_use_at sc.names) p sc (b ∷ cs) z)) t
+body_open p sc place b bs cs j k e t = ap (λ (z : Opened). body_from place (ops_at (call_use_at p sc.names) p sc z j)) e ∙ ap (λ (z : List Token). body_from place (ops_at (call_use_at p sc.names) p sc (b ∷ cs) z)) t
 
-pub body_smaller : (p : Profile) (sc : Scope) (bs : Opened) (w : List ℕ) (j k left : List Token) (q : Piece) → j ≡ atom w ∷ k → piece_at (call_use_at sc.names) p sc bs w k ≡ Some (q, left) → length left < length j
-body_smaller p sc bs w j k left q t e = let s : length j ≡ length {A = Token} (atom w ∷ k) = ap length t in let u : length left ≤ length k = shorter (call_use_at sc.names) p sc (call_sound sc.names) bs w k q left e in omega arith
+pub body_smaller : (p : Profile) (sc : Scope) (bs : Opened) (w : List ℕ) (j k left : List Token) (q : Piece) → j ≡ atom w ∷ k → piece_at (call_use_at p sc.names) p sc bs w k ≡ Some (q, left) → length left < length j
+body_smaller p sc bs w j k left q t e = let s : length j ≡ length {A = Token} (atom w ∷ k) = ap length t in let u : length left ≤ length k = shorter (call_use_at p sc.names) p sc (call_sound p sc.names) bs w k q left e in omega arith
 
 pub fails_by : {Y : Type 0} (w : TextWhy) (read : Option Y) → w ≡ Expected → read ≡ None → Fails w read
 fails_by w read e n = subst (λ (z : TextWhy). Fails z read) (sym e) n
 
 -- ---- the builder and the open blocks
 
-next_of : (p : Profile) (sc : Scope) (bs : Opened) (w : List ℕ) (k left : List Token) (q : Piece) → piece_at (call_use_at sc.names) p sc bs w k ≡ Some (q, left) → IsNext bs q
-next_of p sc bs w k left q e = let g = piece_sound (Use sc) sc (call_sound sc.names) p bs w k q left e in is_next sc bs q (atom w ∷ g.0) g.2.0
+next_of : (p : Profile) (sc : Scope) (bs : Opened) (w : List ℕ) (k left : List Token) (q : Piece) → piece_at (call_use_at p sc.names) p sc bs w k ≡ Some (q, left) → IsNext bs q
+next_of p sc bs w k left q e = let g = piece_sound (Use p sc) sc (call_sound p sc.names) p bs w k q left e in is_next sc bs q (atom w ∷ g.0) g.2.0
 
-pub body_can : (p : Profile) (sc : Scope) (place : Place) (bs : Opened) (w : List ℕ) (k left : List Token) (q : Piece) → IsOver place bs → piece_at (call_use_at sc.names) p sc bs w k ≡ Some (q, left) → CanTake place (piece_ops q)
+pub body_can : (p : Profile) (sc : Scope) (place : Place) (bs : Opened) (w : List ℕ) (k left : List Token) (q : Piece) → IsOver place bs → piece_at (call_use_at p sc.names) p sc bs w k ≡ Some (q, left) → CanTake place (piece_ops q)
 unfolding CanTake
 body_can p sc place bs w k left q h e = let t = takes place bs q h (next_of p sc bs w k left q e) in (t.0, t.1)
 
-pub body_still : (p : Profile) (sc : Scope) (place next : Place) (bs cs : Opened) (w : List ℕ) (k left : List Token) (q : Piece) → IsOver place bs → piece_at (call_use_at sc.names) p sc bs w k ≡ Some (q, left)
+pub body_still : (p : Profile) (sc : Scope) (place next : Place) (bs cs : Opened) (w : List ℕ) (k left : List Token) (q : Piece) → IsOver place bs → piece_at (call_use_at p sc.names) p sc bs w k ≡ Some (q, left)
     → place_after place (piece_ops q) ≡ Some next → cs ≡ after bs q → IsOver next cs
 body_still p sc place next bs cs w k left q h e g c =
     let t = takes place bs q h (next_of p sc bs w k left q e) in

@@ -5,15 +5,14 @@ use Rattle.wm_syntax.specs.Spelling.{Form, Each, ◌▸◌}
 use Rattle.wm_syntax.specs.declared.types.Const.{Const}
 use Rattle.wm_syntax.specs.declared.types.GlobalType.{GlobalType}
 use Rattle.wm_syntax.specs.declared.modules.ExportKind.{ExportKind}
-use Rattle.wm_syntax.specs.declared.modules.ImportDesc.{ImportDesc}
 use Rattle.wm_syntax.specs.declared.profile.Profile.{Profile}
 use Rattle.wm_syntax.specs.Modules.{Function}
-use Rattle.wm_syntax.specs.Profiles.{HasInstructions, IsOf}
+use Rattle.wm_syntax.specs.Profiles.{HasConst, HasDesc, HasFunction, HasGlobal, HasSignature, IsOf}
 use Rattle.wm_syntax.specs.Types.{Signature}
 use Rattle.wm_read.specs.Tokens.{Token, open_paren, close_paren, string, atom}
-use Rattle.wm_read.specs.Identifiers.{Id, WritesId, Resolves}
+use Rattle.wm_read.specs.Identifiers.{WritesId, Resolves}
 use Rattle.wm_read.specs.Written.{Names, Paren}
-use Rattle.wm_read.specs.Fields.{Field, type_field, import_field, function_field, table_field, memory_field, global_field, export_field, start_field, element_field, segment_field, HasDistinct, WritesConst, WritesDesc, WritesExport, WritesField, WritesGlobalType, WritesLimits, WritesName, WritesOffset, WritesSignature, WritesStrings, WritesTableType, module_of}
+use Rattle.wm_read.specs.Fields.{Field, type_field, import_field, function_field, table_field, memory_field, global_field, export_field, start_field, element_field, segment_field, HasDistinct, WritesExport, WritesField, WritesLimits, WritesName, WritesStrings, WritesTableType, module_of}
 use Rattle.wm_read.specs.declared.fields.words.FieldKind.{FieldKind}
 use Rattle.wm_read.specs.declared.fields.words.FieldKind.TheVariants as kind
 use Rattle.wm_read.specs.exact.Reading.{atom_at, id_at, index_of, labels_at, then_at}
@@ -21,13 +20,14 @@ use Rattle.wm_read.specs.exact.TypeUses.{begins_open}
 use Rattle.wm_read.specs.exact.Signatures.{signature_at}
 use Rattle.wm_read.specs.exact.FieldTypes.{limits_at, table_type_at, global_type_at}
 use Rattle.wm_read.specs.exact.Fields.{field_word, field_named, name_at, bytes_at, const_at, offset_at, desc_at, item_at, function_at, inside_at, field_at, fields_at}
-use Rattle.wm_read.proofs.FieldParts.{headed_sound, headed_complete, with_found, name_sound, name_complete, bytes_sound, bytes_complete, const_sound, const_complete, offset_sound, offset_complete, desc_sound, desc_complete, item_sound, item_complete, indices_sound, indices_complete, number_not_id, table_not_id, type_not_id, use_not_id, close_number}
-use Rattle.wm_read.proofs.FieldTypes.{NoNumber, limits_sound, limits_complete, table_type_sound, table_type_complete, global_type_sound, global_type_complete}
+use Rattle.wm_read.proofs.FieldParts.{OfConst, OfDesc, OfOffset, headed_sound, headed_complete, with_found, name_sound, name_complete, bytes_sound, bytes_complete, const_sound, const_complete, offset_sound, offset_complete, desc_sound, desc_complete, item_sound, item_complete, indices_sound, indices_complete, number_not_id, table_not_id, type_not_id, use_not_id, close_number}
+use Rattle.wm_read.proofs.FieldTypes.{NoNumber, OfGlobalType, limits_sound, limits_complete, table_type_sound, table_type_complete, global_type_sound, global_type_complete}
 use Rattle.wm_read.proofs.FunctionLaws.{FunctionAt, function_sound, function_complete}
 use Rattle.wm_read.proofs.Immediates.{NotId, id_sound, id_complete}
 use Rattle.wm_read.proofs.Indices.{index_sound, index_complete}
 use Rattle.wm_read.proofs.Readers.{Sound, Complete, Any, Both, Begins, BeginsClose, made_is, made_sound, many_complete, many_sound, then_complete, then_sound}
-use Rattle.wm_read.proofs.SignatureLaws.{signature_sound, signature_complete}
+use Rattle.wm_read.proofs.SignatureLaws.{OfSignature, signature_sound, signature_complete}
+use Rattle.wm_read.proofs.TypeUseLaws.{KnowsTypes}
 
 -- ---- a field, within its parentheses
 
@@ -43,64 +43,71 @@ kind_of (start_field x) = kind.Start
 kind_of (element_field e) = kind.Elem
 kind_of (segment_field s) = kind.Data
 
--- the instructions of a function are of the profile
+-- the types, constants and instructions of a field are of the profile
 abbrev pub FieldOf : Profile → Field → Type 0
-FieldOf p (function_field id f) = HasInstructions p f.body
+FieldOf p (type_field id f) = HasSignature p f
+FieldOf p (import_field id i) = HasDesc p i.desc
+FieldOf p (function_field id f) = HasFunction p f
+FieldOf p (global_field id g) = HasGlobal p g
+FieldOf p (element_field e) = HasConst p e.offset
+FieldOf p (segment_field s) = HasConst p s.offset
 FieldOf p _ = Unit {0}
-
-abbrev Desc : Names → Id × ImportDesc → Form Token
-Desc names x = WritesDesc names x.0 x.1
 
 abbrev Item : Names → ExportKind × ℕ → Form Token
 Item names x = WritesExport names x.0 x.1
 
-abbrev GlobalForm : GlobalType → Form Token
-GlobalForm g = WritesGlobalType g.var g.ty
-
 -- what stands after a field's word
-abbrev pub Inside : (Function → Form Token) → Names → Field → Form Token
-Inside Fn names (type_field id f) = WritesId id ▸ WritesSignature f
-Inside Fn names (import_field id i) = WritesName i.module_name ▸ WritesName i.item_name ▸ Desc names (id, i.desc)
-Inside Fn names (function_field id f) = WritesId id ▸ Fn f
-Inside Fn names (table_field id l) = WritesId id ▸ WritesTableType l
-Inside Fn names (memory_field id l) = WritesId id ▸ WritesLimits l
-Inside Fn names (global_field id g) = WritesId id ▸ GlobalForm g.ty ▸ WritesConst names g.init
-Inside Fn names (export_field e) = WritesName e.name ▸ Item names (e.kind, e.index)
-Inside Fn names (start_field x) = Resolves names.functions x
-Inside Fn names (element_field e) = Resolves names.tables e.table ▸ WritesOffset names e.offset ▸ Each (Resolves names.functions) e.functions
-Inside Fn names (segment_field s) = Resolves names.memories s.memory ▸ WritesOffset names s.offset ▸ WritesStrings s.bytes
+abbrev pub Inside : Profile → (Function → Form Token) → Names → Field → Form Token
+Inside p Fn names (type_field id f) = WritesId id ▸ OfSignature p f
+Inside p Fn names (import_field id i) = WritesName i.module_name ▸ WritesName i.item_name ▸ OfDesc p names (id, i.desc)
+Inside p Fn names (function_field id f) = WritesId id ▸ Fn f
+Inside p Fn names (table_field id l) = WritesId id ▸ WritesTableType l
+Inside p Fn names (memory_field id l) = WritesId id ▸ WritesLimits l
+Inside p Fn names (global_field id g) = WritesId id ▸ OfGlobalType p g.ty ▸ OfConst p names g.init
+Inside p Fn names (export_field e) = WritesName e.name ▸ Item names (e.kind, e.index)
+Inside p Fn names (start_field x) = Resolves names.functions x
+Inside p Fn names (element_field e) = Resolves names.tables e.table ▸ OfOffset p names e.offset ▸ Each (Resolves names.functions) e.functions
+Inside p Fn names (segment_field s) = Resolves names.memories s.memory ▸ OfOffset p names s.offset ▸ WritesStrings s.bytes
 
 abbrev Written : Profile → Names → Field → Form Token
 Written p names f k = WritesField names f k × FieldOf p f
 
-to_field : (p : Profile) (names : Names) (f : Field) (k : List Token) → Paren (field_word (kind_of f)) (Inside (FunctionAt p names) names f) k → Written p names f k
-to_field p names (type_field id f) k h = (h, tt)
-to_field p names (import_field id i) k h = (h, tt)
+to_field : (p : Profile) (names : Names) (f : Field) (k : List Token) → Paren (field_word (kind_of f)) (Inside p (FunctionAt p names) names f) k → Written p names f k
+to_field p names (type_field id f) k (a, b, e, w, (x, c, e2, (y, z, e3, i, (h, of)), l)) = ((a, b, e, w, (x, c, e2, (y, z, e3, i, h), l)), of)
+to_field p names (import_field id i) k (a, b, e, w, (x, c, e2, (y, z, e3, m, (u, v, e4, n, (h, of))), l)) =
+    ((a, b, e, w, (x, c, e2, (y, z, e3, m, (u, v, e4, n, h)), l)), of)
 to_field p names (function_field id f) k (a, b, e, w, (x, c, e2, (y, z, e3, i, (ps, ls, t, few, d, forms, of)), l)) =
     ((ps, ls, t, few, d, (a, b, e, w, (x, c, e2, (y, z, e3, i, forms), l))), of)
 to_field p names (table_field id l) k h = (h, tt)
 to_field p names (memory_field id l) k h = (h, tt)
-to_field p names (global_field id g) k h = (h, tt)
+to_field p names (global_field id g) k (a, b, e, w, (x, c, e2, (y, z, e3, i, (u, v, e4, (h, of), (m, ofc))), l)) =
+    ((a, b, e, w, (x, c, e2, (y, z, e3, i, (u, v, e4, h, m)), l)), (of, ofc))
 to_field p names (export_field e) k h = (h, tt)
 to_field p names (start_field x) k h = (h, tt)
-to_field p names (element_field e) k h = (h, tt)
-to_field p names (segment_field s) k h = (h, tt)
+to_field p names (element_field d) k (a, b, e, w, (x, c, e2, (y, z, e3, i, (u, v, e4, (h, of), m)), l)) =
+    ((a, b, e, w, (x, c, e2, (y, z, e3, i, (u, v, e4, h, m)), l)), of)
+to_field p names (segment_field d) k (a, b, e, w, (x, c, e2, (y, z, e3, i, (u, v, e4, (h, of), m)), l)) =
+    ((a, b, e, w, (x, c, e2, (y, z, e3, i, (u, v, e4, h, m)), l)), of)
 
-from_field : (p : Profile) (names : Names) (f : Field) (k : List Token) → Written p names f k → Paren (field_word (kind_of f)) (Inside (FunctionAt p names) names f) k
-from_field p names (type_field id f) k (h, of) = h
-from_field p names (import_field id i) k (h, of) = h
+from_field : (p : Profile) (names : Names) (f : Field) (k : List Token) → Written p names f k → Paren (field_word (kind_of f)) (Inside p (FunctionAt p names) names f) k
+from_field p names (type_field id f) k ((a, b, e, w, (x, c, e2, (y, z, e3, i, h), l)), of) = (a, b, e, w, (x, c, e2, (y, z, e3, i, (h, of)), l))
+from_field p names (import_field id i) k ((a, b, e, w, (x, c, e2, (y, z, e3, m, (u, v, e4, n, h)), l)), of) =
+    (a, b, e, w, (x, c, e2, (y, z, e3, m, (u, v, e4, n, (h, of))), l))
 from_field p names (function_field id f) k ((ps, ls, t, few, d, (a, b, e, w, (x, c, e2, (y, z, e3, i, forms), l))), of) =
     (a, b, e, w, (x, c, e2, (y, z, e3, i, (ps, ls, t, few, d, forms, of)), l))
 from_field p names (table_field id l) k (h, of) = h
 from_field p names (memory_field id l) k (h, of) = h
-from_field p names (global_field id g) k (h, of) = h
+from_field p names (global_field id g) k ((a, b, e, w, (x, c, e2, (y, z, e3, i, (u, v, e4, h, m)), l)), of) =
+    (a, b, e, w, (x, c, e2, (y, z, e3, i, (u, v, e4, (h, of.0), (m, of.1))), l))
 from_field p names (export_field e) k (h, of) = h
 from_field p names (start_field x) k (h, of) = h
-from_field p names (element_field e) k (h, of) = h
-from_field p names (segment_field s) k (h, of) = h
+from_field p names (element_field d) k ((a, b, e, w, (x, c, e2, (y, z, e3, i, (u, v, e4, h, m)), l)), of) =
+    (a, b, e, w, (x, c, e2, (y, z, e3, i, (u, v, e4, (h, of), m)), l))
+from_field p names (segment_field d) k ((a, b, e, w, (x, c, e2, (y, z, e3, i, (u, v, e4, h, m)), l)), of) =
+    (a, b, e, w, (x, c, e2, (y, z, e3, i, (u, v, e4, (h, of), m)), l))
 
-abbrev pub OfKind : (Function → Form Token) → Names → FieldKind → Field → Form Token
-OfKind Fn names x f k = (kind_of f ≡ x) × Inside Fn names f k
+abbrev pub OfKind : Profile → (Function → Form Token) → Names → FieldKind → Field → Form Token
+OfKind p Fn names x f k = (kind_of f ≡ x) × Inside p Fn names f k
 
 field_found : (a : List ℕ) (x : FieldKind) → field_named a ≡ Some x → a ≡ field_word x
 field_found a x e =
@@ -108,70 +115,96 @@ field_found a x e =
 
 -- where functions are read so
 module _ (p : Profile) (names : Names) (Fn : Function → Form Token) (fn_sound : Sound (function_at p names) Fn) where
-  inside_sound : (x : FieldKind) → Sound (inside_at p names x) (OfKind Fn names x)
+  inside_sound : (x : FieldKind) → Sound (inside_at p names x) (OfKind p Fn names x)
   inside_sound kind.Type =
-      made_sound (λ x. type_field x.0 x.1) (then_at id_at signature_at) (Both WritesId WritesSignature) (OfKind Fn names kind.Type)
-      (then_sound id_at signature_at WritesId WritesSignature id_sound signature_sound) (λ x front h. (refl, h))
+      made_sound (λ x. type_field x.0 x.1) (then_at id_at (signature_at p)) (Both WritesId (OfSignature p)) (OfKind p Fn names kind.Type)
+      (then_sound id_at (signature_at p) WritesId (OfSignature p) id_sound (signature_sound p)) (λ x front h. (refl, h))
   inside_sound kind.Import =
-      made_sound (λ x. import_field x.1.1.0 (record { module_name = x.0; item_name = x.1.0; desc = x.1.1.1 })) (then_at name_at (then_at name_at (desc_at names)))
-      (Both WritesName (Both WritesName (Desc names))) (OfKind Fn names kind.Import)
-      (then_sound name_at (then_at name_at (desc_at names)) WritesName (Both WritesName (Desc names)) name_sound
-      (then_sound name_at (desc_at names) WritesName (Desc names) name_sound (desc_sound names))) (λ x front h. (refl, h))
+      made_sound (λ x. import_field x.1.1.0 (record { module_name = x.0; item_name = x.1.0; desc = x.1.1.1 })) (then_at name_at (then_at name_at (desc_at p names)))
+      (Both WritesName (Both WritesName (OfDesc p names))) (OfKind p Fn names kind.Import)
+      (then_sound name_at (then_at name_at (desc_at p names)) WritesName (Both WritesName (OfDesc p names)) name_sound
+      (then_sound name_at (desc_at p names) WritesName (OfDesc p names) name_sound (desc_sound p names))) (λ x front h. (refl, h))
   inside_sound kind.Func =
-      made_sound (λ x. function_field x.0 x.1) (then_at id_at (function_at p names)) (Both WritesId Fn) (OfKind Fn names kind.Func)
+      made_sound (λ x. function_field x.0 x.1) (then_at id_at (function_at p names)) (Both WritesId Fn) (OfKind p Fn names kind.Func)
       (then_sound id_at (function_at p names) WritesId Fn id_sound fn_sound) (λ x front h. (refl, h))
   inside_sound kind.Table =
-      made_sound (λ x. table_field x.0 x.1) (then_at id_at table_type_at) (Both WritesId WritesTableType) (OfKind Fn names kind.Table)
+      made_sound (λ x. table_field x.0 x.1) (then_at id_at table_type_at) (Both WritesId WritesTableType) (OfKind p Fn names kind.Table)
       (then_sound id_at table_type_at WritesId WritesTableType id_sound table_type_sound) (λ x front h. (refl, h))
   inside_sound kind.Memory =
-      made_sound (λ x. memory_field x.0 x.1) (then_at id_at limits_at) (Both WritesId WritesLimits) (OfKind Fn names kind.Memory)
+      made_sound (λ x. memory_field x.0 x.1) (then_at id_at limits_at) (Both WritesId WritesLimits) (OfKind p Fn names kind.Memory)
       (then_sound id_at limits_at WritesId WritesLimits id_sound limits_sound) (λ x front h. (refl, h))
   inside_sound kind.Global =
-      made_sound (λ x. global_field x.0 (record { ty = x.1.0; init = x.1.1 })) (then_at id_at (then_at global_type_at (const_at p names))) (Both WritesId (Both GlobalForm (WritesConst names))) (OfKind Fn names kind.Global)
-      (then_sound id_at (then_at global_type_at (const_at p names)) WritesId (Both GlobalForm (WritesConst names)) id_sound
-      (then_sound global_type_at (const_at p names) GlobalForm (WritesConst names) global_type_sound (const_sound p names))) (λ x front h. (refl, h))
+      made_sound (λ x. global_field x.0 (record { ty = x.1.0; init = x.1.1 })) (then_at id_at (then_at (global_type_at p) (const_at p names))) (Both WritesId (Both (OfGlobalType p) (OfConst p names))) (OfKind p Fn names kind.Global)
+      (then_sound id_at (then_at (global_type_at p) (const_at p names)) WritesId (Both (OfGlobalType p) (OfConst p names)) id_sound
+      (then_sound (global_type_at p) (const_at p names) (OfGlobalType p) (OfConst p names) (global_type_sound p) (const_sound p names))) (λ x front h. (refl, h))
   inside_sound kind.Export =
-      made_sound (λ x. export_field (record { name = x.0; kind = x.1.0; index = x.1.1 })) (then_at name_at (item_at names)) (Both WritesName (Item names)) (OfKind Fn names kind.Export)
+      made_sound (λ x. export_field (record { name = x.0; kind = x.1.0; index = x.1.1 })) (then_at name_at (item_at names)) (Both WritesName (Item names)) (OfKind p Fn names kind.Export)
       (then_sound name_at (item_at names) WritesName (Item names) name_sound (item_sound names)) (λ x front h. (refl, h))
-  inside_sound kind.Start = made_sound start_field (atom_at (index_of names.functions)) (Resolves names.functions) (OfKind Fn names kind.Start) (index_sound names.functions) (λ x front h. (refl, h))
+  inside_sound kind.Start = made_sound start_field (atom_at (index_of names.functions)) (Resolves names.functions) (OfKind p Fn names kind.Start) (index_sound names.functions) (λ x front h. (refl, h))
   inside_sound kind.Elem =
       made_sound (λ x. element_field (record { table = x.0; offset = x.1.0; functions = x.1.1 })) (then_at (atom_at (index_of names.tables)) (then_at (offset_at p names) (labels_at names.functions)))
-      (Both (Resolves names.tables) (Both (WritesOffset names) (Each (Resolves names.functions)))) (OfKind Fn names kind.Elem)
-      (then_sound (atom_at (index_of names.tables)) (then_at (offset_at p names) (labels_at names.functions)) (Resolves names.tables) (Both (WritesOffset names) (Each (Resolves names.functions))) (index_sound names.tables)
-      (then_sound (offset_at p names) (labels_at names.functions) (WritesOffset names) (Each (Resolves names.functions)) (offset_sound p names) (indices_sound names.functions))) (λ x front h. (refl, h))
+      (Both (Resolves names.tables) (Both (OfOffset p names) (Each (Resolves names.functions)))) (OfKind p Fn names kind.Elem)
+      (then_sound (atom_at (index_of names.tables)) (then_at (offset_at p names) (labels_at names.functions)) (Resolves names.tables) (Both (OfOffset p names) (Each (Resolves names.functions))) (index_sound names.tables)
+      (then_sound (offset_at p names) (labels_at names.functions) (OfOffset p names) (Each (Resolves names.functions)) (offset_sound p names) (indices_sound names.functions))) (λ x front h. (refl, h))
   inside_sound kind.Data =
       made_sound (λ x. segment_field (record { memory = x.0; offset = x.1.0; bytes = x.1.1 })) (then_at (atom_at (index_of names.memories)) (then_at (offset_at p names) bytes_at))
-      (Both (Resolves names.memories) (Both (WritesOffset names) WritesStrings)) (OfKind Fn names kind.Data)
-      (then_sound (atom_at (index_of names.memories)) (then_at (offset_at p names) bytes_at) (Resolves names.memories) (Both (WritesOffset names) WritesStrings) (index_sound names.memories)
-      (then_sound (offset_at p names) bytes_at (WritesOffset names) WritesStrings (offset_sound p names) bytes_sound)) (λ x front h. (refl, h))
+      (Both (Resolves names.memories) (Both (OfOffset p names) WritesStrings)) (OfKind p Fn names kind.Data)
+      (then_sound (atom_at (index_of names.memories)) (then_at (offset_at p names) bytes_at) (Resolves names.memories) (Both (OfOffset p names) WritesStrings) (index_sound names.memories)
+      (then_sound (offset_at p names) bytes_at (OfOffset p names) WritesStrings (offset_sound p names) bytes_sound)) (λ x front h. (refl, h))
 
-  pub field_front : Sound (field_at p names) (λ f k. (x : FieldKind) × Paren (field_word x) (OfKind Fn names x f) k)
+  pub field_front : Sound (field_at p names) (λ f k. (x : FieldKind) × Paren (field_word x) (OfKind p Fn names x f) k)
   unfolding field_at
-  field_front k f rest e = headed_sound field_named field_word (inside_at p names) (OfKind Fn names) field_found inside_sound k f rest e
+  field_front k f rest e = headed_sound field_named field_word (inside_at p names) (OfKind p Fn names) field_found inside_sound k f rest e
 
 module _ (p : Profile) (names : Names) (d : HasDistinct names) where
-  signature_not_id : (f : Signature) (front rest : List Token) → WritesSignature f front → NotId (front ++ rest)
-  signature_not_id f front rest (ps, t, (a, b, e, w, m)) = subst (λ (z : List Token). NotId (z ++ rest)) (sym (e ∙ ap (λ (z : List Token). z ++ b) w)) tt
+  of_kind : (x : FieldKind) (f : Field) (k : List Token) → Paren (field_word x) (OfKind p (FunctionAt p names) names x f) k → Written p names f k
+  of_kind x f k (a, b, e, w, (u, v, e2, (s, h), l)) = to_field p names f k (a, b, e, subst (λ (z : FieldKind). a ≡ open_paren ∷ atom (field_word z) ∷ []) (sym s) w, (u, v, e2, h, l))
+
+  pub field_sound : Sound (field_at p names) (Written p names)
+  field_sound k f rest e = let g = field_front p names (FunctionAt p names) (function_sound p names d) k f rest e in (g.0, g.1, of_kind g.2.0 f g.0 g.2.1)
+
+  each_parts : (fs : List Field) (k : List Token) → Each (Written p names) fs k → Each (WritesField names) fs k × IsOf p (module_of fs)
+  each_parts [] k h = (h, record { types = tt; imports = tt; functions = tt; globals = tt; elements = tt; segments = tt })
+  each_parts (f ∷ fs) k (a, b, e, (w, of), more) = let m = each_parts fs b more in ((a, b, e, w, m.0), by f of m.1)
+    where
+      by : (f : Field) → FieldOf p f → IsOf p (module_of fs) → IsOf p (module_of (f ∷ fs))
+      by (type_field id g) of m = record { types = (of, m.types); imports = m.imports; functions = m.functions; globals = m.globals; elements = m.elements; segments = m.segments }
+      by (import_field id i) of m = record { types = m.types; imports = (of, m.imports); functions = m.functions; globals = m.globals; elements = m.elements; segments = m.segments }
+      by (function_field id g) of m = record { types = m.types; imports = m.imports; functions = (of, m.functions); globals = m.globals; elements = m.elements; segments = m.segments }
+      by (global_field id g) of m = record { types = m.types; imports = m.imports; functions = m.functions; globals = (of, m.globals); elements = m.elements; segments = m.segments }
+      by (element_field e) of m = record { types = m.types; imports = m.imports; functions = m.functions; globals = m.globals; elements = (of, m.elements); segments = m.segments }
+      by (segment_field s) of m = record { types = m.types; imports = m.imports; functions = m.functions; globals = m.globals; elements = m.elements; segments = (of, m.segments) }
+      by _ of m = record { types = m.types; imports = m.imports; functions = m.functions; globals = m.globals; elements = m.elements; segments = m.segments }
+
+  pub fields_sound : Sound (fields_at p names) (λ fs k. Each (WritesField names) fs k × IsOf p (module_of fs))
+  unfolding fields_at
+  fields_sound k fs rest e =
+      let g = many_sound (suc (length k)) begins_open (field_at p names) (Written p names) field_sound k fs rest e in
+      (g.0, g.1, each_parts fs g.0 g.2)
+
+module _ (p : Profile) (names : Names) (d : HasDistinct names) (knows : KnowsTypes p names) where
+  signature_not_id : (f : Signature) (front rest : List Token) → OfSignature p f front → NotId (front ++ rest)
+  signature_not_id f front rest ((ps, t, (a, b, e, w, m)), of) = subst (λ (z : List Token). NotId (z ++ rest)) (sym (e ∙ ap (λ (z : List Token). z ++ b) w)) tt
 
   function_not_id : (f : Function) (front rest : List Token) → FunctionAt p names f front → NotId (front ++ rest)
   function_not_id f front rest (ps, ls, t, few, u, (a, b, e, w, m), of) =
       subst NotId (sym (ap (λ (z : List Token). z ++ rest) e ∙ append_assoc a b rest)) (use_not_id names f.type_index ps a (b ++ rest) w)
 
-  global_not_id : (y : GlobalType × Const) (front rest : List Token) → Both GlobalForm (WritesConst names) y front → NotId (front ++ rest)
-  global_not_id y front rest (a, b, e, w, m) = subst NotId (sym (ap (λ (z : List Token). z ++ rest) e ∙ append_assoc a b rest)) (type_not_id y.0.var y.0.ty a (b ++ rest) w)
+  global_not_id : (y : GlobalType × Const) (front rest : List Token) → Both (OfGlobalType p) (OfConst p names) y front → NotId (front ++ rest)
+  global_not_id y front rest (a, b, e, w, m) = subst NotId (sym (ap (λ (z : List Token). z ++ rest) e ∙ append_assoc a b rest)) (type_not_id y.0.var y.0.ty a (b ++ rest) w.0)
 
-  inside_complete : (f : Field) (front rest : List Token) → Inside (FunctionAt p names) names f front → BeginsClose rest → inside_at p names (kind_of f) (front ++ rest) ≡ Some (f, rest)
+  inside_complete : (f : Field) (front rest : List Token) → Inside p (FunctionAt p names) names f front → BeginsClose rest → inside_at p names (kind_of f) (front ++ rest) ≡ Some (f, rest)
   inside_complete (type_field id f) front rest h c =
-      made_is (λ x. type_field x.0 x.1) (then_at id_at signature_at (front ++ rest)) (id, f) rest
-      (then_complete id_at signature_at WritesId WritesSignature NotId Any id_complete signature_complete (λ y a b w g. signature_not_id y a b w) (id, f) front rest h tt)
+      made_is (λ x. type_field x.0 x.1) (then_at id_at (signature_at p) (front ++ rest)) (id, f) rest
+      (then_complete id_at (signature_at p) WritesId (OfSignature p) NotId Any id_complete (signature_complete p) (λ y a b w g. signature_not_id y a b w) (id, f) front rest h tt)
   inside_complete (import_field id i) front rest h c =
-      made_is (λ x. import_field x.1.1.0 (record { module_name = x.0; item_name = x.1.0; desc = x.1.1.1 })) (then_at name_at (then_at name_at (desc_at names)) (front ++ rest)) (i.module_name, (i.item_name, (id, i.desc))) rest
-      (then_complete name_at (then_at name_at (desc_at names)) WritesName (Both WritesName (Desc names)) Any Any name_complete
-      (then_complete name_at (desc_at names) WritesName (Desc names) Any Any name_complete (desc_complete names d) (λ y a b w g. tt)) (λ y a b w g. tt)
+      made_is (λ x. import_field x.1.1.0 (record { module_name = x.0; item_name = x.1.0; desc = x.1.1.1 })) (then_at name_at (then_at name_at (desc_at p names)) (front ++ rest)) (i.module_name, (i.item_name, (id, i.desc))) rest
+      (then_complete name_at (then_at name_at (desc_at p names)) WritesName (Both WritesName (OfDesc p names)) Any Any name_complete
+      (then_complete name_at (desc_at p names) WritesName (OfDesc p names) Any Any name_complete (desc_complete p names d knows) (λ y a b w g. tt)) (λ y a b w g. tt)
       (i.module_name, (i.item_name, (id, i.desc))) front rest h tt)
   inside_complete (function_field id f) front rest h c =
       made_is (λ x. function_field x.0 x.1) (then_at id_at (function_at p names) (front ++ rest)) (id, f) rest
-      (then_complete id_at (function_at p names) WritesId (FunctionAt p names) NotId BeginsClose id_complete (function_complete p names d) (λ y a b w g. function_not_id y a b w) (id, f) front rest h c)
+      (then_complete id_at (function_at p names) WritesId (FunctionAt p names) NotId BeginsClose id_complete (function_complete p names d knows) (λ y a b w g. function_not_id y a b w) (id, f) front rest h c)
   inside_complete (table_field id l) front rest h c =
       made_is (λ x. table_field x.0 x.1) (then_at id_at table_type_at (front ++ rest)) (id, l) rest
       (then_complete id_at table_type_at WritesId WritesTableType NotId Any id_complete table_type_complete (λ y a b w g. table_not_id a b y w) (id, l) front rest h tt)
@@ -179,9 +212,9 @@ module _ (p : Profile) (names : Names) (d : HasDistinct names) where
       made_is (λ x. memory_field x.0 x.1) (then_at id_at limits_at (front ++ rest)) (id, l) rest
       (then_complete id_at limits_at WritesId WritesLimits NotId NoNumber id_complete limits_complete (λ y a b w g. number_not_id a b y w) (id, l) front rest h (close_number rest c))
   inside_complete (global_field id g) front rest h c =
-      made_is (λ x. global_field x.0 (record { ty = x.1.0; init = x.1.1 })) (then_at id_at (then_at global_type_at (const_at p names)) (front ++ rest)) (id, (g.ty, g.init)) rest
-      (then_complete id_at (then_at global_type_at (const_at p names)) WritesId (Both GlobalForm (WritesConst names)) NotId Any id_complete
-      (then_complete global_type_at (const_at p names) GlobalForm (WritesConst names) Any Any global_type_complete (const_complete p names d) (λ y a b w i. tt)) (λ y a b w i. global_not_id y a b w)
+      made_is (λ x. global_field x.0 (record { ty = x.1.0; init = x.1.1 })) (then_at id_at (then_at (global_type_at p) (const_at p names)) (front ++ rest)) (id, (g.ty, g.init)) rest
+      (then_complete id_at (then_at (global_type_at p) (const_at p names)) WritesId (Both (OfGlobalType p) (OfConst p names)) NotId Any id_complete
+      (then_complete (global_type_at p) (const_at p names) (OfGlobalType p) (OfConst p names) Any Any (global_type_complete p) (const_complete p names d) (λ y a b w i. tt)) (λ y a b w i. global_not_id y a b w)
       (id, (g.ty, g.init)) front rest h tt)
   inside_complete (export_field e) front rest h c =
       made_is (λ x. export_field (record { name = x.0; kind = x.1.0; index = x.1.1 })) (then_at name_at (item_at names) (front ++ rest)) (e.name, (e.kind, e.index)) rest
@@ -190,16 +223,16 @@ module _ (p : Profile) (names : Names) (d : HasDistinct names) where
   inside_complete (element_field e) front rest h c =
       made_is (λ x. element_field (record { table = x.0; offset = x.1.0; functions = x.1.1 })) (then_at (atom_at (index_of names.tables)) (then_at (offset_at p names) (labels_at names.functions)) (front ++ rest))
       (e.table, (e.offset, e.functions)) rest
-      (then_complete (atom_at (index_of names.tables)) (then_at (offset_at p names) (labels_at names.functions)) (Resolves names.tables) (Both (WritesOffset names) (Each (Resolves names.functions))) Any BeginsClose
+      (then_complete (atom_at (index_of names.tables)) (then_at (offset_at p names) (labels_at names.functions)) (Resolves names.tables) (Both (OfOffset p names) (Each (Resolves names.functions))) Any BeginsClose
       (index_complete names.tables d.tables)
-      (then_complete (offset_at p names) (labels_at names.functions) (WritesOffset names) (Each (Resolves names.functions)) Any BeginsClose (offset_complete p names d) (indices_complete names.functions d.functions) (λ y a b w g. tt))
+      (then_complete (offset_at p names) (labels_at names.functions) (OfOffset p names) (Each (Resolves names.functions)) Any BeginsClose (offset_complete p names d) (indices_complete names.functions d.functions) (λ y a b w g. tt))
       (λ y a b w g. tt) (e.table, (e.offset, e.functions)) front rest h c)
   inside_complete (segment_field s) front rest h c =
       made_is (λ x. segment_field (record { memory = x.0; offset = x.1.0; bytes = x.1.1 })) (then_at (atom_at (index_of names.memories)) (then_at (offset_at p names) bytes_at) (front ++ rest))
       (s.memory, (s.offset, s.bytes)) rest
-      (then_complete (atom_at (index_of names.memories)) (then_at (offset_at p names) bytes_at) (Resolves names.memories) (Both (WritesOffset names) WritesStrings) Any BeginsClose
+      (then_complete (atom_at (index_of names.memories)) (then_at (offset_at p names) bytes_at) (Resolves names.memories) (Both (OfOffset p names) WritesStrings) Any BeginsClose
       (index_complete names.memories d.memories)
-      (then_complete (offset_at p names) bytes_at (WritesOffset names) WritesStrings Any BeginsClose (offset_complete p names d) bytes_complete (λ y a b w g. tt))
+      (then_complete (offset_at p names) bytes_at (OfOffset p names) WritesStrings Any BeginsClose (offset_complete p names d) bytes_complete (λ y a b w g. tt))
       (λ y a b w g. tt) (s.memory, (s.offset, s.bytes)) front rest h c)
 
   -- ---- a field
@@ -216,55 +249,38 @@ module _ (p : Profile) (names : Names) (d : HasDistinct names) where
   field_more kind.Elem = refl
   field_more kind.Data = refl
 
-  of_kind : (x : FieldKind) (f : Field) (k : List Token) → Paren (field_word x) (OfKind (FunctionAt p names) names x f) k → Written p names f k
-  of_kind x f k (a, b, e, w, (u, v, e2, (s, h), l)) = to_field p names f k (a, b, e, subst (λ (z : FieldKind). a ≡ open_paren ∷ atom (field_word z) ∷ []) (sym s) w, (u, v, e2, h, l))
-
-  with_kind : (f : Field) (k : List Token) → Paren (field_word (kind_of f)) (Inside (FunctionAt p names) names f) k → Paren (field_word (kind_of f)) (OfKind (FunctionAt p names) names (kind_of f) f) k
+  with_kind : (f : Field) (k : List Token) → Paren (field_word (kind_of f)) (Inside p (FunctionAt p names) names f) k → Paren (field_word (kind_of f)) (OfKind p (FunctionAt p names) names (kind_of f) f) k
   with_kind f k (a, b, e, w, (u, v, e2, h, l)) = (a, b, e, w, (u, v, e2, (refl, h), l))
-
-  pub field_sound : Sound (field_at p names) (Written p names)
-  field_sound k f rest e = let g = field_front p names (FunctionAt p names) (function_sound p names d) k f rest e in (g.0, g.1, of_kind g.2.0 f g.0 g.2.1)
 
   pub field_complete : Complete (field_at p names) (Written p names) Any
   unfolding field_at
   field_complete f front rest h any =
-      headed_complete field_named field_word (inside_at p names) (OfKind (FunctionAt p names) names (kind_of f)) (kind_of f) (field_more (kind_of f))
+      headed_complete field_named field_word (inside_at p names) (OfKind p (FunctionAt p names) names (kind_of f)) (kind_of f) (field_more (kind_of f))
       (λ y a b w c. ap (λ (z : FieldKind). inside_at p names z (a ++ b)) (sym w.0) ∙ inside_complete y a b w.1 c)
       f front rest (with_kind f front (from_field p names f front h))
 
   field_begins : Begins begins_open (Written p names)
   field_begins f front rest h = by (from_field p names f front h)
     where
-      by : Paren (field_word (kind_of f)) (Inside (FunctionAt p names) names f) front → (begins_open (front ++ rest) ≡ true) × (0 < length front)
+      by : Paren (field_word (kind_of f)) (Inside p (FunctionAt p names) names f) front → (begins_open (front ++ rest) ≡ true) × (0 < length front)
       by (a, b, e, w, m) =
           let text : front ≡ open_paren ∷ atom (field_word (kind_of f)) ∷ b = e ∙ ap (λ (z : List Token). z ++ b) w in
           (ap (λ (z : List Token). begins_open (z ++ rest)) text, subst (λ (z : List Token). 0 < length z) (sym text) (omega arith))
 
   -- ---- fields
 
-  each_parts : (fs : List Field) (k : List Token) → Each (Written p names) fs k → Each (WritesField names) fs k × IsOf p (module_of fs)
-  each_parts [] k h = (h, tt)
-  each_parts (f ∷ fs) k (a, b, e, (w, of), more) = let m = each_parts fs b more in ((a, b, e, w, m.0), by f of m.1)
-    where
-      by : (f : Field) → FieldOf p f → IsOf p (module_of fs) → IsOf p (module_of (f ∷ fs))
-      by (function_field id g) of m = (of, m)
-      by (type_field id g) of m = m
-      by _ of m = m
-
   each_written : (fs : List Field) (k : List Token) → Each (WritesField names) fs k → IsOf p (module_of fs) → Each (Written p names) fs k
   each_written [] k h of = h
   each_written (f ∷ fs) k (a, b, e, w, more) of = let o = by f of in (a, b, e, (w, o.0), each_written fs b more o.1)
     where
       by : (f : Field) → IsOf p (module_of (f ∷ fs)) → FieldOf p f × IsOf p (module_of fs)
-      by (function_field id g) m = (m.0, m.1)
-      by (type_field id g) m = (tt, m)
-      by _ m = (tt, m)
-
-  pub fields_sound : Sound (fields_at p names) (λ fs k. Each (WritesField names) fs k × IsOf p (module_of fs))
-  unfolding fields_at
-  fields_sound k fs rest e =
-      let g = many_sound (suc (length k)) begins_open (field_at p names) (Written p names) field_sound k fs rest e in
-      (g.0, g.1, each_parts fs g.0 g.2)
+      by (type_field id g) m = (m.types.0, record { types = m.types.1; imports = m.imports; functions = m.functions; globals = m.globals; elements = m.elements; segments = m.segments })
+      by (import_field id i) m = (m.imports.0, record { types = m.types; imports = m.imports.1; functions = m.functions; globals = m.globals; elements = m.elements; segments = m.segments })
+      by (function_field id g) m = (m.functions.0, record { types = m.types; imports = m.imports; functions = m.functions.1; globals = m.globals; elements = m.elements; segments = m.segments })
+      by (global_field id g) m = (m.globals.0, record { types = m.types; imports = m.imports; functions = m.functions; globals = m.globals.1; elements = m.elements; segments = m.segments })
+      by (element_field e) m = (m.elements.0, record { types = m.types; imports = m.imports; functions = m.functions; globals = m.globals; elements = m.elements.1; segments = m.segments })
+      by (segment_field s) m = (m.segments.0, record { types = m.types; imports = m.imports; functions = m.functions; globals = m.globals; elements = m.elements; segments = m.segments.1 })
+      by _ m = (tt, record { types = m.types; imports = m.imports; functions = m.functions; globals = m.globals; elements = m.elements; segments = m.segments })
 
   pub fields_complete : Complete (fields_at p names) (λ fs k. Each (WritesField names) fs k × IsOf p (module_of fs)) BeginsClose
   unfolding fields_at

@@ -9,7 +9,7 @@ use Rattle.wm_syntax.specs.declared.types.Const.{Const}
 use Rattle.wm_syntax.specs.declared.types.Const.TheVariants as const
 use Rattle.wm_syntax.specs.declared.types.Limits.{Limits}
 use Rattle.wm_syntax.specs.declared.types.ValType.{ValType}
-use Rattle.wm_syntax.specs.declared.types.ValType.TheVariants.{I32, I64}
+use Rattle.wm_syntax.specs.declared.types.ValType.TheVariants.{I32, I64, F32, F64}
 use Rattle.wm_syntax.specs.declared.instructions.Op.TheVariants as op
 use Rattle.wm_syntax.specs.Opcodes.{opcode}
 use Rattle.wm_syntax.specs.OpClasses.{class_of}
@@ -24,7 +24,7 @@ use Rattle.wm_syntax.specs.declared.instructions.op_class.OpClass.TheVariants as
 use Rattle.wm_syntax.specs.declared.profile.Profile.{Profile}
 use Rattle.wm_syntax.specs.exact.NameTable.{class_named}
 use Rattle.wm_syntax.specs.Modules.{constant}
-use Rattle.wm_syntax.proofs.ProfileLaws.{constant_has}
+use Rattle.wm_syntax.specs.Profiles.{HasConst, HasDesc}
 use Rattle.wm_read.specs.Tokens.{Token, open_paren, close_paren, string, atom}
 use Rattle.wm_read.specs.Identifiers.{Id, Ids, AreDistinct, WritesId, Resolves, ResolvesLabel}
 use Rattle.wm_read.specs.Written.{Named, Names, Scope, Paren, TypeUse}
@@ -37,13 +37,16 @@ use Rattle.wm_read.specs.exact.FieldTypes.{limits_at, table_type_at, global_type
 use Rattle.wm_read.specs.exact.Fields.{item_word, with_word, item_named, headed_at, name_at, strings_at, bytes_at, const_kind, const_class, const_at, offset_at, desc_kind, desc_at, space_of, item_at}
 use Rattle.wm_read.proofs.Atoms.{magnitude_more}
 use Rattle.wm_read.proofs.Basics.{chosen, same_some}
-use Rattle.wm_read.proofs.FieldTypes.{NoNumber, limits_sound, limits_complete, table_type_sound, table_type_complete, global_type_sound, global_type_complete}
+use Rattle.wm_read.proofs.FieldTypes.{NoNumber, OfGlobalType, limits_sound, limits_complete, table_type_sound, table_type_complete, global_type_sound, global_type_complete}
+use Rattle.wm_floats.specs.exact.Atoms.{float_of}
+use Rattle.wm_syntax.specs.declared.instructions.FloatType.TheVariants as float
+use Rattle.wm_read.proofs.Floats.{float_complete}
 use Rattle.wm_read.proofs.Immediates.{NotId, NotIndex, id_sound, id_complete, integer_complete, labels_sound, labels_complete}
 use Rattle.wm_read.proofs.Indices.{distinct_nearest, index_sound, index_complete, number_not_id as number_no_id}
 use Rattle.wm_read.proofs.NamedUses.{UseEnds, uses_are_written, uses_are_read}
 use Rattle.wm_read.proofs.PieceLaws.{piece_named, piece_sound}
 use Rattle.wm_read.proofs.Readers.{Sound, Complete, Any, Both, BeginsClose, bind_ok, bind_is, is_same, same_is, made_is, made_sound, paren_complete, paren_sound, then_complete, then_sound}
-use Rattle.wm_read.proofs.TypeUseLaws.{call_sound}
+use Rattle.wm_read.proofs.TypeUseLaws.{KnowsTypes, call_sound}
 
 -- ---- a form whose word says what it holds
 
@@ -152,15 +155,15 @@ abbrev scope_with : Names → Scope
 scope_with names = record { names = names; locals = [] }
 
 module _ (p : Profile) (names : Names) where
-  piece_is : (w : List ℕ) (c : OpClass) (t : List Token) (q : Piece) (rest : List Token) → class_named p w ≡ c → class_at (call_use_at names) (scope_with names) [] c t ≡ Some (q, rest)
-      → piece_at (call_use_at names) p (scope_with names) [] w t ≡ Some (q, rest)
+  piece_is : (w : List ℕ) (c : OpClass) (t : List Token) (q : Piece) (rest : List Token) → class_named p w ≡ c → class_at (call_use_at p names) p (scope_with names) [] c t ≡ Some (q, rest)
+      → piece_at (call_use_at p names) p (scope_with names) [] w t ≡ Some (q, rest)
   unfolding piece_at
-  piece_is w c t q rest n e = ap (λ (z : OpClass). class_at (call_use_at names) (scope_with names) [] z t) n ∙ e
+  piece_is w c t q rest n e = ap (λ (z : OpClass). class_at (call_use_at p names) p (scope_with names) [] z t) n ∙ e
 
   -- a constant is the instruction that a body would have there
   number_piece : {X : Type 0} (f : X → Const) (r : Reader X) (w : List ℕ) (kind : Immediates) (t : List Token) (c : Const) (rest : List Token) → class_named p w ≡ class.With kind
-      → ((k : List Token) → kind_at (call_use_at names) (scope_with names) [] kind k ≡ made (λ x. plain (constant (f x))) (r k)) → made f (r t) ≡ Some (c, rest)
-      → piece_at (call_use_at names) p (scope_with names) [] w t ≡ Some (plain (constant c), rest)
+      → ((k : List Token) → kind_at (call_use_at p names) p (scope_with names) [] kind k ≡ made (λ x. plain (constant (f x))) (r k)) → made f (r t) ≡ Some (c, rest)
+      → piece_at (call_use_at p names) p (scope_with names) [] w t ≡ Some (plain (constant c), rest)
   number_piece {X} f r w kind t c rest n reads e =
       let g = bind_ok (r t) (λ x. Some (f x.0, x.1)) (c, rest) e in
       let is : ◌≡◌ {A = Const × List Token} (f g.0.0, g.0.1) (c, rest) = same_some (f g.0.0, g.0.1) (c, rest) g.2 in
@@ -168,47 +171,68 @@ module _ (p : Profile) (names : Names) where
       (reads t ∙ made_is (λ x. plain (constant (f x))) (r t) g.0.0 g.0.1 g.1 ∙ ap (λ (z : Const × List Token). Some (plain (constant z.0), z.1)) is)
 
   kind_piece : (w : List ℕ) (kind : Immediates) (t : List Token) (c : Const) (rest : List Token) → class_named p w ≡ class.With kind → const_kind names kind t ≡ Some (c, rest)
-      → piece_at (call_use_at names) p (scope_with names) [] w t ≡ Some (plain (constant c), rest)
+      → piece_at (call_use_at p names) p (scope_with names) [] w t ≡ Some (plain (constant c), rest)
   kind_piece w k.I32Const t c rest n e = number_piece const.I32 (atom_at (integer_of 32)) w k.I32Const t c rest n (λ k. refl) e
   kind_piece w k.I64Const t c rest n e = number_piece const.I64 (atom_at (integer_of 64)) w k.I64Const t c rest n (λ k. refl) e
+  kind_piece w k.F32Const t c rest n e = number_piece const.F32 (atom_at (float_of float.F32)) w k.F32Const t c rest n (λ k. refl) e
+  kind_piece w k.F64Const t c rest n e = number_piece const.F64 (atom_at (float_of float.F64)) w k.F64Const t c rest n (λ k. refl) e
   kind_piece w k.GlobalGet t c rest n e = number_piece const.Global (atom_at (index_of names.globals)) w k.GlobalGet t c rest n (λ k. refl) e
   kind_piece w _ t c rest n e = absurd cc
 
   class_piece : (w : List ℕ) (o : OpClass) (t : List Token) (c : Const) (rest : List Token) → class_named p w ≡ o → const_class names o t ≡ Some (c, rest)
-      → piece_at (call_use_at names) p (scope_with names) [] w t ≡ Some (plain (constant c), rest)
+      → piece_at (call_use_at p names) p (scope_with names) [] w t ≡ Some (plain (constant c), rest)
   class_piece w (class.With kind) t c rest n e = kind_piece w kind t c rest n e
   class_piece w (class.Plain o) t c rest n e = absurd cc
   class_piece w class.Float t c rest n e = absurd cc
   class_piece w class.None t c rest n e = absurd cc
 
-  pub const_sound : Sound (const_at p names) (WritesConst names)
+  -- a constant of the profile
+  abbrev pub OfConst : Const → Form Token
+  OfConst c k = WritesConst names c k × HasConst p c
+
+  pub const_sound : Sound (const_at p names) OfConst
   const_sound [] c rest e = absurd cc
   const_sound (open_paren ∷ k) c rest e = absurd cc
   const_sound (close_paren ∷ k) c rest e = absurd cc
   const_sound (string b ∷ k) c rest e = absurd cc
   const_sound (atom w ∷ k) c rest e =
-      let g = piece_sound (call_use_at names) (scope_with names) (call_sound names) p [] w k (plain (constant c)) rest (class_piece w (class_named p w) k c rest refl e) in
-      (atom w ∷ g.0, ap (λ (z : List Token). atom w ∷ z) g.1, g.2.0)
+      let g = piece_sound (call_use_at p names) (scope_with names) (call_sound p names) p [] w k (plain (constant c)) rest (class_piece w (class_named p w) k c rest refl e) in
+      (atom w ∷ g.0, ap (λ (z : List Token). atom w ∷ z) g.1, (g.2.0, g.2.1))
 
-  const_word : (c : Const) (t : List Token) → const_at p names (atom (opcode (constant c)).1 ∷ t) ≡ const_class names (class_of (op.Simple (constant c))) t
-  const_word c t = ap (λ (o : OpClass). const_class names o t) (piece_named p (plain (constant c)) (constant_has p c))
+  const_word : (c : Const) (t : List Token) → HasConst p c → const_at p names (atom (opcode (constant c)).1 ∷ t) ≡ const_class names (class_of (op.Simple (constant c))) t
+  const_word c t of = ap (λ (o : OpClass). const_class names o t) (piece_named p (plain (constant c)) of)
 
-  pub const_complete : HasDistinct names → Complete (const_at p names) (WritesConst names) Any
-  const_complete d (const.I32 n) front rest (a, b, e, w, h) f =
-      ap (λ (z : List Token). const_at p names (z ++ rest)) (e ∙ ap (λ (z : List Token). z ++ b) w) ∙ const_word (const.I32 n) (b ++ rest)
+  pub const_complete : HasDistinct names → Complete (const_at p names) OfConst Any
+  const_complete d (const.I32 n) front rest ((a, b, e, w, h), of) f =
+      ap (λ (z : List Token). const_at p names (z ++ rest)) (e ∙ ap (λ (z : List Token). z ++ b) w) ∙ const_word (const.I32 n) (b ++ rest) of
       ∙ made_is const.I32 (atom_at (integer_of 32) (b ++ rest)) n rest (integer_complete 32 n b rest h tt)
-  const_complete d (const.I64 n) front rest (a, b, e, w, h) f =
-      ap (λ (z : List Token). const_at p names (z ++ rest)) (e ∙ ap (λ (z : List Token). z ++ b) w) ∙ const_word (const.I64 n) (b ++ rest)
+  const_complete d (const.I64 n) front rest ((a, b, e, w, h), of) f =
+      ap (λ (z : List Token). const_at p names (z ++ rest)) (e ∙ ap (λ (z : List Token). z ++ b) w) ∙ const_word (const.I64 n) (b ++ rest) of
       ∙ made_is const.I64 (atom_at (integer_of 64) (b ++ rest)) n rest (integer_complete 64 n b rest h tt)
-  const_complete d (const.Global x) front rest (a, b, e, w, h) f =
-      ap (λ (z : List Token). const_at p names (z ++ rest)) (e ∙ ap (λ (z : List Token). z ++ b) w) ∙ const_word (const.Global x) (b ++ rest)
+  const_complete d (const.F32 n) front rest ((a, b, e, w, h), of) f =
+      ap (λ (z : List Token). const_at p names (z ++ rest)) (e ∙ ap (λ (z : List Token). z ++ b) w) ∙ const_word (const.F32 n) (b ++ rest) of
+      ∙ made_is const.F32 (atom_at (float_of float.F32) (b ++ rest)) n rest (float_complete float.F32 n b rest h tt)
+  const_complete d (const.F64 n) front rest ((a, b, e, w, h), of) f =
+      ap (λ (z : List Token). const_at p names (z ++ rest)) (e ∙ ap (λ (z : List Token). z ++ b) w) ∙ const_word (const.F64 n) (b ++ rest) of
+      ∙ made_is const.F64 (atom_at (float_of float.F64) (b ++ rest)) n rest (float_complete float.F64 n b rest h tt)
+  const_complete d (const.Global x) front rest ((a, b, e, w, h), of) f =
+      ap (λ (z : List Token). const_at p names (z ++ rest)) (e ∙ ap (λ (z : List Token). z ++ b) w) ∙ const_word (const.Global x) (b ++ rest) of
       ∙ made_is const.Global (atom_at (index_of names.globals) (b ++ rest)) x rest (index_complete names.globals d.globals x b rest h tt)
 
-  pub offset_sound : Sound (offset_at p names) (WritesOffset names)
-  offset_sound = paren_sound (codes "offset") (const_at p names) (WritesConst names) const_sound
+  abbrev pub OfOffset : Const → Form Token
+  OfOffset c k = WritesOffset names c k × HasConst p c
 
-  pub offset_complete : HasDistinct names → Complete (offset_at p names) (WritesOffset names) Any
-  offset_complete d = paren_complete (codes "offset") (const_at p names) (WritesConst names) (λ c f r h i. const_complete d c f r h tt)
+  pub offset_sound : Sound (offset_at p names) OfOffset
+  offset_sound k c rest e =
+      let g = paren_sound (codes "offset") (const_at p names) OfConst const_sound k c rest e in
+      (g.0, g.1, by g.0 g.2)
+    where
+      by : (front : List Token) → Paren (codes "offset") (OfConst c) front → OfOffset c front
+      by front (a, b, e, w, (x, y, e2, h, l)) = ((a, b, e, w, (x, y, e2, h.0, l)), h.1)
+
+  pub offset_complete : HasDistinct names → Complete (offset_at p names) OfOffset Any
+  offset_complete d c front rest ((a, b, e, w, (x, y, e2, h, l)), of) any =
+      paren_complete (codes "offset") (const_at p names) OfConst (λ c f r h i. const_complete d c f r h tt) c front rest (a, b, e, w, (x, y, e2, (h, of), l)) tt
 
 -- ---- what is imported
 
@@ -228,37 +252,41 @@ desc_space (desc.Memory l) = kind.Memory
 desc_space (desc.Global g) = kind.Global
 
 -- what stands after the identifier
-abbrev DescType : Names → ImportDesc → Form Token
-DescType names (desc.Func x) = λ k. (ps : List Named) × TypeUse names x ps k
-DescType names (desc.Table l) = WritesTableType l
-DescType names (desc.Memory l) = WritesLimits l
-DescType names (desc.Global g) = WritesGlobalType g.var g.ty
+abbrev DescType : Profile → Names → ImportDesc → Form Token
+DescType pr names (desc.Func x) = λ k. (ps : List Named) × TypeUse names x ps k
+DescType pr names (desc.Table l) = WritesTableType l
+DescType pr names (desc.Memory l) = WritesLimits l
+DescType pr names (desc.Global g) = OfGlobalType pr g
 
-abbrev OfKind : Names → ExportKind → ImportDesc → Form Token
-OfKind names x d k = (desc_space d ≡ x) × DescType names d k
+abbrev OfKind : Profile → Names → ExportKind → ImportDesc → Form Token
+OfKind pr names x d k = (desc_space d ≡ x) × DescType pr names d k
 
-to_desc : (names : Names) (id : Id) (d : ImportDesc) (x : ExportKind) (k : List Token) → Paren (item_word x) (WritesId id ▸ OfKind names x d) k → WritesDesc names id d k
-to_desc names id (desc.Func x) kind k (a, b, e, w, (f, c, e2, (g, h, e3, i, (s, (ps, t))), l)) =
-    (ps, (a, b, e, subst (λ (z : ExportKind). a ≡ open_paren ∷ atom (item_word z) ∷ []) (sym s) w, (f, c, e2, (g, h, e3, i, t), l)))
-to_desc names id (desc.Table d) kind k (a, b, e, w, (f, c, e2, (g, h, e3, i, (s, t)), l)) =
-    (a, b, e, subst (λ (z : ExportKind). a ≡ open_paren ∷ atom (item_word z) ∷ []) (sym s) w, (f, c, e2, (g, h, e3, i, t), l))
-to_desc names id (desc.Memory d) kind k (a, b, e, w, (f, c, e2, (g, h, e3, i, (s, t)), l)) =
-    (a, b, e, subst (λ (z : ExportKind). a ≡ open_paren ∷ atom (item_word z) ∷ []) (sym s) w, (f, c, e2, (g, h, e3, i, t), l))
-to_desc names id (desc.Global d) kind k (a, b, e, w, (f, c, e2, (g, h, e3, i, (s, t)), l)) =
-    (a, b, e, subst (λ (z : ExportKind). a ≡ open_paren ∷ atom (item_word z) ∷ []) (sym s) w, (f, c, e2, (g, h, e3, i, t), l))
+-- what is imported, of the profile
+abbrev pub OfDesc : Profile → Names → Id × ImportDesc → Form Token
+OfDesc pr names x k = WritesDesc names x.0 x.1 k × HasDesc pr x.1
 
-from_desc : (names : Names) (id : Id) (d : ImportDesc) (k : List Token) → WritesDesc names id d k → Paren (item_word (desc_space d)) (WritesId id ▸ OfKind names (desc_space d) d) k
-from_desc names id (desc.Func x) k (ps, (a, b, e, w, (f, c, e2, (g, h, e3, i, t), l))) = (a, b, e, w, (f, c, e2, (g, h, e3, i, (refl, (ps, t))), l))
-from_desc names id (desc.Table d) k (a, b, e, w, (f, c, e2, (g, h, e3, i, t), l)) = (a, b, e, w, (f, c, e2, (g, h, e3, i, (refl, t)), l))
-from_desc names id (desc.Memory d) k (a, b, e, w, (f, c, e2, (g, h, e3, i, t), l)) = (a, b, e, w, (f, c, e2, (g, h, e3, i, (refl, t)), l))
-from_desc names id (desc.Global d) k (a, b, e, w, (f, c, e2, (g, h, e3, i, t), l)) = (a, b, e, w, (f, c, e2, (g, h, e3, i, (refl, t)), l))
+to_desc : (pr : Profile) (names : Names) (id : Id) (d : ImportDesc) (x : ExportKind) (k : List Token) → Paren (item_word x) (WritesId id ▸ OfKind pr names x d) k → OfDesc pr names (id, d) k
+to_desc pr names id (desc.Func x) kind k (a, b, e, w, (f, c, e2, (g, h, e3, i, (s, (ps, t))), l)) =
+    ((ps, (a, b, e, subst (λ (z : ExportKind). a ≡ open_paren ∷ atom (item_word z) ∷ []) (sym s) w, (f, c, e2, (g, h, e3, i, t), l))), tt)
+to_desc pr names id (desc.Table d) kind k (a, b, e, w, (f, c, e2, (g, h, e3, i, (s, t)), l)) =
+    ((a, b, e, subst (λ (z : ExportKind). a ≡ open_paren ∷ atom (item_word z) ∷ []) (sym s) w, (f, c, e2, (g, h, e3, i, t), l)), tt)
+to_desc pr names id (desc.Memory d) kind k (a, b, e, w, (f, c, e2, (g, h, e3, i, (s, t)), l)) =
+    ((a, b, e, subst (λ (z : ExportKind). a ≡ open_paren ∷ atom (item_word z) ∷ []) (sym s) w, (f, c, e2, (g, h, e3, i, t), l)), tt)
+to_desc pr names id (desc.Global d) kind k (a, b, e, w, (f, c, e2, (g, h, e3, i, (s, t)), l)) =
+    ((a, b, e, subst (λ (z : ExportKind). a ≡ open_paren ∷ atom (item_word z) ∷ []) (sym s) w, (f, c, e2, (g, h, e3, i, t.0), l)), t.1)
 
-kind_sound : (names : Names) (x : ExportKind) → Sound (desc_kind names x) (OfKind names x)
-kind_sound names kind.Func =
-    made_sound (λ (u : ℕ × List Named). desc.Func u.0) (named_use_at names) (λ y. TypeUse names y.0 y.1) (OfKind names kind.Func) (uses_are_written names) (λ u front h. (refl, (u.1, h)))
-kind_sound names kind.Table = made_sound desc.Table table_type_at WritesTableType (OfKind names kind.Table) table_type_sound (λ u front h. (refl, h))
-kind_sound names kind.Memory = made_sound desc.Memory limits_at WritesLimits (OfKind names kind.Memory) limits_sound (λ u front h. (refl, h))
-kind_sound names kind.Global = made_sound desc.Global global_type_at (λ g. WritesGlobalType g.var g.ty) (OfKind names kind.Global) global_type_sound (λ u front h. (refl, h))
+from_desc : (pr : Profile) (names : Names) (id : Id) (d : ImportDesc) (k : List Token) → OfDesc pr names (id, d) k → Paren (item_word (desc_space d)) (WritesId id ▸ OfKind pr names (desc_space d) d) k
+from_desc pr names id (desc.Func x) k ((ps, (a, b, e, w, (f, c, e2, (g, h, e3, i, t), l))), of) = (a, b, e, w, (f, c, e2, (g, h, e3, i, (refl, (ps, t))), l))
+from_desc pr names id (desc.Table d) k ((a, b, e, w, (f, c, e2, (g, h, e3, i, t), l)), of) = (a, b, e, w, (f, c, e2, (g, h, e3, i, (refl, t)), l))
+from_desc pr names id (desc.Memory d) k ((a, b, e, w, (f, c, e2, (g, h, e3, i, t), l)), of) = (a, b, e, w, (f, c, e2, (g, h, e3, i, (refl, t)), l))
+from_desc pr names id (desc.Global d) k ((a, b, e, w, (f, c, e2, (g, h, e3, i, t), l)), of) = (a, b, e, w, (f, c, e2, (g, h, e3, i, (refl, (t, of))), l))
+
+kind_sound : (pr : Profile) (names : Names) (x : ExportKind) → Sound (desc_kind pr names x) (OfKind pr names x)
+kind_sound pr names kind.Func =
+    made_sound (λ (u : ℕ × List Named). desc.Func u.0) (named_use_at pr names) (λ y. TypeUse names y.0 y.1) (OfKind pr names kind.Func) (uses_are_written pr names) (λ u front h. (refl, (u.1, h)))
+kind_sound pr names kind.Table = made_sound desc.Table table_type_at WritesTableType (OfKind pr names kind.Table) table_type_sound (λ u front h. (refl, h))
+kind_sound pr names kind.Memory = made_sound desc.Memory limits_at WritesLimits (OfKind pr names kind.Memory) limits_sound (λ u front h. (refl, h))
+kind_sound pr names kind.Global = made_sound desc.Global (global_type_at pr) (OfGlobalType pr) (OfKind pr names kind.Global) (global_type_sound pr) (λ u front h. (refl, h))
 
 close_uses : (k : List Token) → BeginsClose k → UseEnds k
 close_uses [] f = absurd f
@@ -274,12 +302,12 @@ close_number (close_paren ∷ k) f = tt
 close_number (string b ∷ k) f = absurd f
 close_number (atom a ∷ k) f = absurd f
 
-kind_complete : (names : Names) → HasDistinct names → (d : ImportDesc) (front rest : List Token) → DescType names d front → BeginsClose rest → desc_kind names (desc_space d) (front ++ rest) ≡ Some (d, rest)
-kind_complete names n (desc.Func x) front rest (ps, h) f =
-    made_is (λ (u : ℕ × List Named). desc.Func u.0) (named_use_at names (front ++ rest)) (x, ps) rest (uses_are_read names n.types (x, ps) front rest h (close_uses rest f))
-kind_complete names n (desc.Table l) front rest h f = made_is desc.Table (table_type_at (front ++ rest)) l rest (table_type_complete l front rest h tt)
-kind_complete names n (desc.Memory l) front rest h f = made_is desc.Memory (limits_at (front ++ rest)) l rest (limits_complete l front rest h (close_number rest f))
-kind_complete names n (desc.Global g) front rest h f = made_is desc.Global (global_type_at (front ++ rest)) g rest (global_type_complete g front rest h tt)
+kind_complete : (pr : Profile) (names : Names) → HasDistinct names → KnowsTypes pr names → (d : ImportDesc) (front rest : List Token) → DescType pr names d front → BeginsClose rest → desc_kind pr names (desc_space d) (front ++ rest) ≡ Some (d, rest)
+kind_complete pr names n knows (desc.Func x) front rest (ps, h) f =
+    made_is (λ (u : ℕ × List Named). desc.Func u.0) (named_use_at pr names (front ++ rest)) (x, ps) rest (uses_are_read pr names n.types knows (x, ps) front rest h (close_uses rest f))
+kind_complete pr names n knows (desc.Table l) front rest h f = made_is desc.Table (table_type_at (front ++ rest)) l rest (table_type_complete l front rest h tt)
+kind_complete pr names n knows (desc.Memory l) front rest h f = made_is desc.Memory (limits_at (front ++ rest)) l rest (limits_complete l front rest h (close_number rest f))
+kind_complete pr names n knows (desc.Global g) front rest h f = made_is desc.Global (global_type_at pr (front ++ rest)) g rest (global_type_complete pr g front rest h tt)
 
 -- what may stand after an identifier is none
 pub number_not_id : (front rest : List Token) (l : Limits) → WritesLimits l front → NotId (front ++ rest)
@@ -292,33 +320,32 @@ table_not_id front rest l (a, b, e, h, w) = subst NotId (sym (ap (λ (z : List T
 pub type_not_id : (var : Bool) (t : ValType) (front rest : List Token) → WritesGlobalType var t front → NotId (front ++ rest)
 type_not_id false I32 front rest h = subst (λ (z : List Token). NotId (z ++ rest)) (sym h) refl
 type_not_id false I64 front rest h = subst (λ (z : List Token). NotId (z ++ rest)) (sym h) refl
+type_not_id false F32 front rest h = subst (λ (z : List Token). NotId (z ++ rest)) (sym h) refl
+type_not_id false F64 front rest h = subst (λ (z : List Token). NotId (z ++ rest)) (sym h) refl
 type_not_id true t front rest (a, b, e, w, m) = subst (λ (z : List Token). NotId (z ++ rest)) (sym (e ∙ ap (λ (z : List Token). z ++ b) w)) tt
 
 pub use_not_id : (names : Names) (x : ℕ) (ps : List Named) (front rest : List Token) → TypeUse names x ps front → NotId (front ++ rest)
 use_not_id names x ps front rest (f, qs, rs, look, (a, b, e, (c, d, e2, w, m), h), which) =
     subst (λ (z : List Token). NotId (z ++ rest)) (sym (e ∙ ap (λ (z : List Token). z ++ b) (e2 ∙ ap (λ (z : List Token). z ++ d) w))) tt
 
-desc_not_id : (names : Names) (d : ImportDesc) (front rest : List Token) → DescType names d front → NotId (front ++ rest)
-desc_not_id names (desc.Func x) front rest (ps, h) = use_not_id names x ps front rest h
-desc_not_id names (desc.Table l) front rest h = table_not_id front rest l h
-desc_not_id names (desc.Memory l) front rest h = number_not_id front rest l h
-desc_not_id names (desc.Global g) front rest h = type_not_id g.var g.ty front rest h
+desc_not_id : (pr : Profile) (names : Names) (d : ImportDesc) (front rest : List Token) → DescType pr names d front → NotId (front ++ rest)
+desc_not_id pr names (desc.Func x) front rest (ps, h) = use_not_id names x ps front rest h
+desc_not_id pr names (desc.Table l) front rest h = table_not_id front rest l h
+desc_not_id pr names (desc.Memory l) front rest h = number_not_id front rest l h
+desc_not_id pr names (desc.Global g) front rest h = type_not_id g.var g.ty front rest h.0
 
-abbrev WritesItem : Names → Id × ImportDesc → Form Token
-WritesItem names x = WritesDesc names x.0 x.1
+pub desc_sound : (pr : Profile) (names : Names) → Sound (desc_at pr names) (OfDesc pr names)
+desc_sound pr names k x rest e =
+    let g = headed_sound item_named item_word (λ kind. then_at id_at (desc_kind pr names kind)) (λ kind. Both WritesId (OfKind pr names kind)) item_found
+    (λ kind. then_sound id_at (desc_kind pr names kind) WritesId (OfKind pr names kind) id_sound (kind_sound pr names kind)) k x rest e in
+    (g.0, g.1, to_desc pr names x.0 x.1 g.2.0 g.0 g.2.1)
 
-pub desc_sound : (names : Names) → Sound (desc_at names) (WritesItem names)
-desc_sound names k x rest e =
-    let g = headed_sound item_named item_word (λ kind. then_at id_at (desc_kind names kind)) (λ kind. Both WritesId (OfKind names kind)) item_found
-    (λ kind. then_sound id_at (desc_kind names kind) WritesId (OfKind names kind) id_sound (kind_sound names kind)) k x rest e in
-    (g.0, g.1, to_desc names x.0 x.1 g.2.0 g.0 g.2.1)
-
-pub desc_complete : (names : Names) → HasDistinct names → Complete (desc_at names) (WritesItem names) Any
-desc_complete names n (id, d) front rest h f =
-    headed_complete item_named item_word (λ kind. then_at id_at (desc_kind names kind)) (Both WritesId (OfKind names (desc_space d))) (desc_space d) (item_more (desc_space d))
-    (then_complete id_at (desc_kind names (desc_space d)) WritesId (OfKind names (desc_space d)) NotId BeginsClose id_complete
-    (λ y a b w g. ap (λ (z : ExportKind). desc_kind names z (a ++ b)) (sym w.0) ∙ kind_complete names n y a b w.1 g) (λ y a b w g. desc_not_id names y a b w.1))
-    (id, d) front rest (from_desc names id d front h)
+pub desc_complete : (pr : Profile) (names : Names) → HasDistinct names → KnowsTypes pr names → Complete (desc_at pr names) (OfDesc pr names) Any
+desc_complete pr names n knows (id, d) front rest h f =
+    headed_complete item_named item_word (λ kind. then_at id_at (desc_kind pr names kind)) (Both WritesId (OfKind pr names (desc_space d))) (desc_space d) (item_more (desc_space d))
+    (then_complete id_at (desc_kind pr names (desc_space d)) WritesId (OfKind pr names (desc_space d)) NotId BeginsClose id_complete
+    (λ y a b w g. ap (λ (z : ExportKind). desc_kind pr names z (a ++ b)) (sym w.0) ∙ kind_complete pr names n knows y a b w.1 g) (λ y a b w g. desc_not_id pr names y a b w.1))
+    (id, d) front rest (from_desc pr names id d front h)
 
 -- ---- what is exported
 

@@ -2,14 +2,18 @@
 use Rattle.std.proofs.Common.{◌≡◌, ℕ, Bool, true, false, ◌||◌, List, [], ◌∷◌, ◌++◌, Option, Some, None, refl, sym, ap, subst, ◌∙◌, inl, inr}
 use Rattle.std.specs.Prelude.{codes}
 use Rattle.std.proofs.lemmas.Bool.{cond-false, cond-true}
+use Rattle.wm_syntax.specs.Spelling.{Form}
+use Rattle.wm_syntax.specs.declared.types.GlobalType.{GlobalType}
 use Rattle.wm_syntax.specs.declared.types.ValType.{ValType}
+use Rattle.wm_syntax.specs.declared.profile.Profile.{Profile}
+use Rattle.wm_syntax.specs.Profiles.{HasType}
 use Rattle.wm_read.specs.Tokens.{Token, open_paren, close_paren, string, atom, IsUnsigned}
 use Rattle.wm_read.specs.Fields.{WritesGlobalType, WritesLimits, WritesMax, WritesTableType}
-use Rattle.wm_read.specs.Written.{Number, Word, WritesType, type_text}
+use Rattle.wm_read.specs.Written.{Number, Paren, Word, type_text}
 use Rattle.wm_read.specs.exact.FieldTypes.{const_type, global_type_at, limits_at, limits_of, max_at, table_type_at, var_type}
 use Rattle.wm_read.specs.exact.Reading.{◌>>=◌, atom_at, is_id, is_word, paren_at, then_at, type_of, unsigned_of, word_of}
 use Rattle.wm_read.proofs.Basics.{chosen, same_some}
-use Rattle.wm_read.proofs.Immediates.{number_not_word, type_complete, type_sound}
+use Rattle.wm_read.proofs.Immediates.{OfType, number_not_word, type_complete, type_sound}
 use Rattle.wm_read.proofs.Indices.{number_not_id, unsigned_found, unsigned_more}
 use Rattle.wm_read.proofs.Readers.{Sound, Complete, Any, Both, atom_complete, atom_sound, bind_is, bind_ok, made_is, made_sound, paren_complete, paren_sound, then_complete, then_sound, word_found, word_is}
 
@@ -70,31 +74,38 @@ limits_complete l front rest h f =
 
 -- ---- global types
 
-mut_sound : Sound (paren_at (codes "mut") (atom_at type_of)) (WritesGlobalType true)
-mut_sound = paren_sound (codes "mut") (atom_at type_of) WritesType type_sound
+-- a global type, whose value type is of the profile
+abbrev pub OfGlobalType : Profile → GlobalType → Form Token
+OfGlobalType pr g k = WritesGlobalType g.var g.ty k × HasType pr g.ty
 
-const_sound : Sound (λ k. atom_at type_of k >>= λ t. Some (const_type t.0, t.1)) (λ g. WritesGlobalType g.var g.ty)
-const_sound = made_sound const_type (atom_at type_of) WritesType (λ g. WritesGlobalType g.var g.ty) type_sound (λ t front h. h)
+mut_sound : (pr : Profile) → Sound (paren_at (codes "mut") (atom_at (type_of pr))) (λ t. Paren (codes "mut") (OfType pr t))
+mut_sound pr = paren_sound (codes "mut") (atom_at (type_of pr)) (OfType pr) (type_sound pr)
 
-pub global_type_sound : Sound global_type_at (λ g. WritesGlobalType g.var g.ty)
-global_type_sound [] g rest e = const_sound [] g rest e
-global_type_sound (close_paren ∷ k) g rest e = const_sound (close_paren ∷ k) g rest e
-global_type_sound (string b ∷ k) g rest e = const_sound (string b ∷ k) g rest e
-global_type_sound (atom a ∷ k) g rest e = const_sound (atom a ∷ k) g rest e
-global_type_sound (open_paren ∷ k) g rest e =
-    made_sound var_type (paren_at (codes "mut") (atom_at type_of)) (WritesGlobalType true) (λ g. WritesGlobalType g.var g.ty) mut_sound (λ t front h. h) (open_paren ∷ k) g rest e
+var_from : (pr : Profile) (t : ValType) (front : List Token) → Paren (codes "mut") (OfType pr t) front → OfGlobalType pr (var_type t) front
+var_from pr t front (a, b, e, is, (c, d, e2, w, last)) = ((a, b, e, is, (c, d, e2, w.0, last)), w.1)
 
-pub global_type_complete : Complete global_type_at (λ g. WritesGlobalType g.var g.ty) Any
-global_type_complete g front rest h f = by g.var g.ty h
+const_sound : (pr : Profile) → Sound (λ k. atom_at (type_of pr) k >>= λ t. Some (const_type t.0, t.1)) (OfGlobalType pr)
+const_sound pr = made_sound const_type (atom_at (type_of pr)) (OfType pr) (OfGlobalType pr) (type_sound pr) (λ t front h. h)
+
+pub global_type_sound : (pr : Profile) → Sound (global_type_at pr) (OfGlobalType pr)
+global_type_sound pr [] g rest e = const_sound pr [] g rest e
+global_type_sound pr (close_paren ∷ k) g rest e = const_sound pr (close_paren ∷ k) g rest e
+global_type_sound pr (string b ∷ k) g rest e = const_sound pr (string b ∷ k) g rest e
+global_type_sound pr (atom a ∷ k) g rest e = const_sound pr (atom a ∷ k) g rest e
+global_type_sound pr (open_paren ∷ k) g rest e =
+    made_sound var_type (paren_at (codes "mut") (atom_at (type_of pr))) (λ t. Paren (codes "mut") (OfType pr t)) (OfGlobalType pr) (mut_sound pr) (var_from pr) (open_paren ∷ k) g rest e
+
+pub global_type_complete : (pr : Profile) → Complete (global_type_at pr) (OfGlobalType pr) Any
+global_type_complete pr g front rest h f = by g.var g.ty h.0 h.1
   where
-    by : (var : Bool) (t : ValType) → WritesGlobalType var t front → global_type_at (front ++ rest) ≡ Some (record { ty = t; var = var }, rest)
-    by false t e = ap (λ (z : List Token). global_type_at (z ++ rest)) e ∙ made_is const_type (atom_at type_of (atom (type_text t) ∷ rest)) t rest (type_complete t (atom (type_text t) ∷ []) rest refl tt)
-    by true t (a, b, e, is, more) =
+    by : (var : Bool) (t : ValType) → WritesGlobalType var t front → HasType pr t → global_type_at pr (front ++ rest) ≡ Some (record { ty = t; var = var }, rest)
+    by false t e of = ap (λ (z : List Token). global_type_at pr (z ++ rest)) e ∙ made_is const_type (atom_at (type_of pr) (atom (type_text t) ∷ rest)) t rest (type_complete pr t (atom (type_text t) ∷ []) rest (refl, of) tt)
+    by true t (a, b, e, is, (c, d, e2, w, last)) of =
         let text : front ++ rest ≡ open_paren ∷ atom (codes "mut") ∷ (b ++ rest) = ap (λ (z : List Token). z ++ rest) (e ∙ ap (λ (z : List Token). z ++ b) is) in
-        ap global_type_at text
-        ∙ made_is var_type (paren_at (codes "mut") (atom_at type_of) (open_paren ∷ atom (codes "mut") ∷ (b ++ rest))) t rest
-        (ap (paren_at (codes "mut") (atom_at type_of)) (sym text)
-        ∙ paren_complete (codes "mut") (atom_at type_of) WritesType (λ u x r w i. type_complete u x r w tt) t front rest (a, b, e, is, more) tt)
+        ap (global_type_at pr) text
+        ∙ made_is var_type (paren_at (codes "mut") (atom_at (type_of pr)) (open_paren ∷ atom (codes "mut") ∷ (b ++ rest))) t rest
+        (ap (paren_at (codes "mut") (atom_at (type_of pr))) (sym text)
+        ∙ paren_complete (codes "mut") (atom_at (type_of pr)) (OfType pr) (λ u x r w i. type_complete pr u x r w tt) t front rest (a, b, e, is, (c, d, e2, (w, of), last)) tt)
 
 -- ---- table types
 

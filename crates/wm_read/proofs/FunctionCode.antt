@@ -179,13 +179,13 @@ fails_carried v _ read h f = refused v (h tt) f
 abbrev Head : Type 0
 Head = (ℕ × List Named) × List Named
 
-pub head_none : (p : Profile) (names : Names) (k : List Token) → head_at names k ≡ None → function_at p names k ≡ None
+pub head_none : (p : Profile) (names : Names) (k : List Token) → head_at p names k ≡ None → function_at p names k ≡ None
 unfolding function_at
 head_none p names k e = ap (λ (o : Option (Head × List Token)). ◌>>=◌ {B = Function × List Token} o (λ h. function_by p names h.0.0.0 h.0.0.1 h.0.1 h.1)) e
 
-head_is : (p : Profile) (names : Names) (x : ℕ) (ps ls : List Named) (k j : List Token) → head_at names k ≡ Some (((x, ps), ls), j) → function_at p names k ≡ function_by p names x ps ls j
+head_is : (p : Profile) (names : Names) (x : ℕ) (ps ls : List Named) (k j : List Token) → head_at p names k ≡ Some (((x, ps), ls), j) → function_at p names k ≡ function_by p names x ps ls j
 unfolding function_at
-head_is p names x ps ls k j e = bind_is (head_at names k) (λ h. function_by p names h.0.0.0 h.0.0.1 h.0.1 h.1) (((x, ps), ls), j) e
+head_is p names x ps ls k j e = bind_is (head_at p names k) (λ h. function_by p names h.0.0.0 h.0.0.1 h.0.1 h.1) (((x, ps), ls), j) e
 
 no_body : (p : Profile) (sc : Scope) (k : List Token) → begins_open k ≡ true → instructions_at p sc k ≡ None
 unfolding ops_at
@@ -204,10 +204,10 @@ body_none p names x ps ls j e =
     none_by (is_function ps ls) (function_of x ps ls p names j)
     (ap (λ (o : Option (Instructions × List Token)). ◌>>=◌ {B = Function × List Token} o (λ b. Some (record { type_index = x; locals = types_of ls; body = b.0 }, b.1))) e)
 
-pub function_form : (p : Profile) (names : Names) (x : ℕ) (ps ls : List Named) (k j : List Token) → head_at names k ≡ Some (((x, ps), ls), j) → begins_open j ≡ true → function_at p names k ≡ None
+pub function_form : (p : Profile) (names : Names) (x : ℕ) (ps ls : List Named) (k j : List Token) → head_at p names k ≡ Some (((x, ps), ls), j) → begins_open j ≡ true → function_at p names k ≡ None
 function_form p names x ps ls k j e h = head_is p names x ps ls k j e ∙ body_none p names x ps ls j (no_body p _ j h)
 
-pub function_again : (p : Profile) (names : Names) (x : ℕ) (ps ls : List Named) (k j : List Token) → head_at names k ≡ Some (((x, ps), ls), j) → all_new [] (ids_of (ps ++ ls)) ≡ false → function_at p names k ≡ None
+pub function_again : (p : Profile) (names : Names) (x : ℕ) (ps ls : List Named) (k j : List Token) → head_at p names k ≡ Some (((x, ps), ls), j) → all_new [] (ids_of (ps ++ ls)) ≡ false → function_at p names k ≡ None
 function_again p names x ps ls k j e h =
     head_is p names x ps ls k j e ∙ cond-false (is_function ps ls) (function_of x ps ls p names j) None (by (nat_lt (length (types_of ls)) 0x1_0000_0000))
   where
@@ -215,7 +215,7 @@ function_again p names x ps ls k j e h =
     by true = h
     by false = refl
 
-pub function_many : (p : Profile) (names : Names) (x : ℕ) (ps ls : List Named) (k j : List Token) → head_at names k ≡ Some (((x, ps), ls), j) → 2 ^ 32 ≤ length (types_of ls) → function_at p names k ≡ None
+pub function_many : (p : Profile) (names : Names) (x : ℕ) (ps ls : List Named) (k j : List Token) → head_at p names k ≡ Some (((x, ps), ls), j) → 2 ^ 32 ≤ length (types_of ls) → function_at p names k ≡ None
 function_many p names x ps ls k j e h =
     head_is p names x ps ls k j e ∙ cond-false (is_function ps ls) (function_of x ps ls p names j) None
     (and_left (nat_lt (length (types_of ls)) 0x1_0000_0000) (all_new [] (ids_of (ps ++ ls))) (le-ltb (length (types_of ls)) 0x1_0000_0000 h))
@@ -227,12 +227,12 @@ With names ps ls sc = (sc.names ≡ names) × (sc.locals ≡ ids_of (ps ++ ls))
 scope_is : (names : Names) (ps ls : List Named) (sc : Scope) → sc.names ≡ names → sc.locals ≡ ids_of (ps ++ ls) → record { names = names; locals = ids_of (ps ++ ls) } ≡ sc
 scope_is names ps ls sc a b = ap (λ (z : Names). record { names = z; locals = ids_of (ps ++ ls) }) (sym a) ∙ ap (λ (z : Ids). record { names = sc.names; locals = z }) (sym b)
 
-pub function_no_body : (p : Profile) (names : Names) (x : ℕ) (ps ls : List Named) (sc : Scope) (w : TextWhy) (k j : List Token) → head_at names k ≡ Some (((x, ps), ls), j) → sc.names ≡ names → sc.locals ≡ ids_of (ps ++ ls)
+pub function_no_body : (p : Profile) (names : Names) (x : ℕ) (ps ls : List Named) (sc : Scope) (w : TextWhy) (k j : List Token) → head_at p names k ≡ Some (((x, ps), ls), j) → sc.names ≡ names → sc.locals ≡ ids_of (ps ++ ls)
     → Fails w (instructions_at p sc j) → Fails w (function_at p names k)
 function_no_body p names x ps ls sc w k j e a b h = fails_on w (instructions_at p sc j) (function_at p names k)
     (λ n. head_is p names x ps ls k j e ∙ body_none p names x ps ls j (ap (λ (z : Scope). instructions_at p z j) (scope_is names ps ls sc a b) ∙ n)) h
 
-pub function_found : (p : Profile) (names : Names) (x : ℕ) (ps ls : List Named) (sc : Scope) (s : Instructions) (ts : List ValType) (k j rest : List Token) → head_at names k ≡ Some (((x, ps), ls), j)
+pub function_found : (p : Profile) (names : Names) (x : ℕ) (ps ls : List Named) (sc : Scope) (s : Instructions) (ts : List ValType) (k j rest : List Token) → head_at p names k ≡ Some (((x, ps), ls), j)
     → sc.names ≡ names → sc.locals ≡ ids_of (ps ++ ls) → all_new [] (ids_of (ps ++ ls)) ≡ true → ts ≡ types_of ls → length ts < 2 ^ 32 → instructions_at p sc j ≡ Some (s, rest)
     → function_at p names k ≡ Some (record { type_index = x; locals = ts; body = s }, rest)
 function_found p names x ps ls sc s ts k j rest e a b new types few h =
@@ -251,14 +251,14 @@ pub match_some : {X : Type 0} (o : Option X) (x : X) (A : Type 0) (B : X → Typ
 match_some None x A B e h = absurd cc
 match_some (Some y) x A B e h = subst B (same_some y x e) h
 
-pub repeated_fails : (p : Profile) (names : Names) (x : ℕ) (ps ls rs : List Named) (v w : TextWhy) (k j : List Token) → head_at names k ≡ Some (((x, ps), ls), j) → all_new [] (ids_of (ps ++ rs)) ≡ false → rs ≡ ls
+pub repeated_fails : (p : Profile) (names : Names) (x : ℕ) (ps ls rs : List Named) (v w : TextWhy) (k j : List Token) → head_at p names k ≡ Some (((x, ps), ls), j) → all_new [] (ids_of (ps ++ rs)) ≡ false → rs ≡ ls
     → v ≡ why.RepeatedId → (IsRefusal w → IsRefusal v) → Fails w (function_at p names k)
 repeated_fails p names x ps ls rs v w k j e h b r c =
     fails_carried v w (function_at p names k) c
     (subst (λ (z : TextWhy). Fails z (function_at p names k)) (sym r)
     (function_again p names x ps ls k j e (ap (λ (z : List Named). all_new [] (ids_of (ps ++ z))) (sym b) ∙ h)))
 
-pub many_fails : (p : Profile) (names : Names) (x : ℕ) (ps ls rs : List Named) (v w : TextWhy) (k j : List Token) → head_at names k ≡ Some (((x, ps), ls), j) → rs ≡ ls
+pub many_fails : (p : Profile) (names : Names) (x : ℕ) (ps ls rs : List Named) (v w : TextWhy) (k j : List Token) → head_at p names k ≡ Some (((x, ps), ls), j) → rs ≡ ls
     → (v ≡ why.Memory) ⊎ ((v ≡ why.TooManyLocals) × (2 ^ 32 ≤ length (types_of rs))) → (IsRefusal w → IsRefusal v) → Fails w (function_at p names k)
 many_fails p names x ps ls rs v w k j e b (inl m) c = fails_carried v w (function_at p names k) c (subst (λ (z : TextWhy). Fails z (function_at p names k)) (sym m) tt)
 many_fails p names x ps ls rs v w k j e b (inr m) c =

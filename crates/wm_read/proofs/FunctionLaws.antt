@@ -7,7 +7,7 @@ use Rattle.wm_syntax.specs.declared.types.ValType.{ValType}
 use Rattle.wm_syntax.specs.declared.profile.Profile.{Profile}
 use Rattle.wm_syntax.specs.Instructions.{Instructions}
 use Rattle.wm_syntax.specs.Modules.{Function}
-use Rattle.wm_syntax.specs.Profiles.{HasInstructions}
+use Rattle.wm_syntax.specs.Profiles.{HasFunction, HasInstructions}
 use Rattle.wm_read.specs.Tokens.{Token, open_paren, close_paren, string, atom}
 use Rattle.wm_read.specs.Identifiers.{AreDistinct}
 use Rattle.wm_read.specs.Written.{Named, Names, Scope, TypeUse, WritesGroup, WritesGroups, WritesInstructions, ids_of, types_of}
@@ -20,39 +20,40 @@ use Rattle.wm_read.specs.exact.Fields.{all_new, function_at, function_by, functi
 use Rattle.wm_read.proofs.Basics.{chosen, same_some}
 use Rattle.wm_read.proofs.BodyTheorem.{law_read, law_written}
 use Rattle.wm_read.proofs.DistinctIds.{are_distinct, distinct_new}
-use Rattle.wm_read.proofs.NamedGroups.{NotGroup, groups_are_read, groups_are_written}
+use Rattle.wm_read.proofs.NamedGroups.{NotGroup, OfGroups, groups_are_read, groups_are_written}
 use Rattle.wm_read.proofs.NamedUses.{UseEnds, uses_are_read, uses_are_written}
 use Rattle.wm_read.proofs.PieceLaws.{Follow, piece_follows}
 use Rattle.wm_read.proofs.Readers.{Sound, Complete, Both, BeginsClose, bind_is, bind_ok, then_complete, then_sound}
 use Rattle.wm_read.proofs.Trees.{body_flat}
+use Rattle.wm_read.proofs.TypeUseLaws.{AreOf, KnowsTypes}
 
 abbrev pub scope_of : Names → List Named → List Named → Scope
 scope_of names params locals = record { names = names; locals = ids_of (params ++ locals) }
 
--- what stands after a function's identifier, with instructions of the profile
+-- what stands after a function's identifier, with locals and instructions of the profile
 abbrev pub FunctionAt : Profile → Names → Function → Form Token
 FunctionAt p names f k =
     (params locals : List Named) × (types_of locals ≡ f.locals) × (length f.locals < 2 ^ 32) × AreDistinct (ids_of (params ++ locals))
     × (TypeUse names f.type_index params ▸ WritesGroups (codes "local") locals ▸ WritesInstructions (scope_of names params locals) [] f.body) k
-    × HasInstructions p f.body
+    × HasFunction p f
 
 abbrev IsUse : Names → ℕ × List Named → Form Token
 IsUse names y = TypeUse names y.0 y.1
 
-abbrev head_at : Names → Reader ((ℕ × List Named) × List Named)
-head_at names = then_at (named_use_at names) (named_at (codes "local"))
+abbrev head_at : (pr : Profile) → Names → Reader ((ℕ × List Named) × List Named)
+head_at pr names = then_at (named_use_at pr names) (named_at pr (codes "local"))
 
 pub function_sound : (p : Profile) (names : Names) → HasDistinct names → Sound (function_at p names) (FunctionAt p names)
 unfolding function_at
 function_sound p names d k f rest e =
-    let a = bind_ok (head_at names k) (λ h. function_by p names h.0.0.0 h.0.0.1 h.0.1 h.1) (f, rest) e in
-    let one = then_sound (named_use_at names) (named_at (codes "local")) (IsUse names) (WritesGroups (codes "local")) (uses_are_written names) (groups_are_written (codes "local")) k a.0.0 a.0.1 a.1 in
+    let a = bind_ok (head_at p names k) (λ h. function_by p names h.0.0.0 h.0.0.1 h.0.1 h.1) (f, rest) e in
+    let one = then_sound (named_use_at p names) (named_at p (codes "local")) (IsUse names) (OfGroups p (codes "local")) (uses_are_written p names) (groups_are_written p (codes "local")) k a.0.0 a.0.1 a.1 in
     elim (chosen (is_function a.0.0.0.1 a.0.0.1) (function_of a.0.0.0.0 a.0.0.0.1 a.0.0.1 p names a.0.1) None (Some (f, rest)) a.2) [
       | inl t ↦ by a.0.0.0.0 a.0.0.0.1 a.0.0.1 a.0.1 one.0 one.1 one.2 t.0 t.1
       | inr t ↦ absurd (let n : ◌≡◌ {A = Option (Function × List Token)} None (Some (f, rest)) = t.1 in cc)
     ]
   where
-    by : (x : ℕ) (params locals : List Named) (j front : List Token) → k ≡ front ++ j → Both (IsUse names) (WritesGroups (codes "local")) ((x, params), locals) front → is_function params locals ≡ true
+    by : (x : ℕ) (params locals : List Named) (j front : List Token) → k ≡ front ++ j → Both (IsUse names) (OfGroups p (codes "local")) ((x, params), locals) front → is_function params locals ≡ true
         → function_of x params locals p names j ≡ Some (f, rest) → (front : List Token) × (k ≡ front ++ rest) × FunctionAt p names f front
     by x params locals j front text (u, v, cut, used, groups) t h =
         let c = and_parts (nat_lt (length (types_of locals)) 0x1_0000_0000) (all_new [] (ids_of (params ++ locals))) t in
@@ -67,7 +68,7 @@ function_sound p names d k f rest e =
           u ++ (v ++ g.0),
           whole ∙ ap (λ (z : Function × List Token). (u ++ (v ++ g.0)) ++ z.1) is,
           subst (λ (z : Function × List Token). FunctionAt p names z.0 (u ++ (v ++ g.0))) is
-              (params, locals, refl, ltb-true (length (types_of locals)) 0x1_0000_0000 c.0, distinct, (u, v ++ g.0, refl, used, (v, g.0, refl, groups, g.4)), g.5),
+              (params, locals, refl, ltb-true (length (types_of locals)) 0x1_0000_0000 c.0, distinct, (u, v ++ g.0, refl, used, (v, g.0, refl, groups.0, g.4)), (groups.1, g.5)),
         )
 
 -- ---- what follows
@@ -96,8 +97,8 @@ follow_ends (close_paren ∷ k) f = (refl, (refl, refl))
 follow_ends (string b ∷ k) f = absurd f
 follow_ends (atom a ∷ k) f = (refl, (refl, refl))
 
-locals_end : (ls : List Named) (front rest : List Token) → WritesGroups (codes "local") ls front → HeadEnds rest → UseEnds (front ++ rest)
-locals_end ls front rest (groups, e, h) f = by groups front h
+locals_end : (p : Profile) (ls : List Named) (front rest : List Token) → OfGroups p (codes "local") ls front → HeadEnds rest → UseEnds (front ++ rest)
+locals_end p ls front rest ((groups, e, h), of) f = by groups front h
   where
     begins : (group : List Named) (x y : List Token) → WritesGroup (codes "local") group x → UseEnds (x ++ y)
     begins group x y (inl (name, t, g, (a, b, e, w, m))) = subst (λ (z : List Token). UseEnds (z ++ y)) (sym (e ∙ ap (λ (z : List Token). z ++ b) w)) (refl, refl)
@@ -107,16 +108,16 @@ locals_end ls front rest (groups, e, h) f = by groups front h
     by [] front h = subst (λ (z : List Token). UseEnds (z ++ rest)) (sym h) f.1
     by (g ∷ groups) front (x, y, e, w, more) = subst UseEnds (sym (ap (λ (z : List Token). z ++ rest) e ∙ append_assoc x y rest)) (begins g x (y ++ rest) w)
 
-pub function_complete : (p : Profile) (names : Names) → HasDistinct names → Complete (function_at p names) (FunctionAt p names) BeginsClose
+pub function_complete : (p : Profile) (names : Names) → HasDistinct names → KnowsTypes p names → Complete (function_at p names) (FunctionAt p names) BeginsClose
 unfolding function_at
-function_complete p names d f front rest (params, locals, types, few, distinct, (u, v, e, used, (x, y, e2, groups, body)), of) after =
+function_complete p names d knows f front rest (params, locals, types, few, distinct, (u, v, e, used, (x, y, e2, groups, body)), of) after =
     let text : front ++ rest ≡ (u ++ x) ++ (y ++ rest) =
     ap (λ (z : List Token). z ++ rest) (e ∙ ap (λ (z : List Token). u ++ z) e2 ∙ sym (append_assoc u x y)) ∙ append_assoc (u ++ x) y rest in
     ap (function_at p names) text
-    ∙ bind_is (head_at names ((u ++ x) ++ (y ++ rest))) (λ h. function_by p names h.0.0.0 h.0.0.1 h.0.1 h.1) (((f.type_index, params), locals), y ++ rest)
-    (then_complete (named_use_at names) (named_at (codes "local")) (IsUse names) (WritesGroups (codes "local")) UseEnds HeadEnds
-    (uses_are_read names d.types) (λ ls a b w g. groups_are_read (codes "local") ls a b w g.0) locals_end
-    ((f.type_index, params), locals) (u ++ x) (y ++ rest) (u, x, refl, used, groups) (follow_ends (y ++ rest) (instructions_follow p (scope_of names params locals) f.body y rest body of after)))
+    ∙ bind_is (head_at p names ((u ++ x) ++ (y ++ rest))) (λ h. function_by p names h.0.0.0 h.0.0.1 h.0.1 h.1) (((f.type_index, params), locals), y ++ rest)
+    (then_complete (named_use_at p names) (named_at p (codes "local")) (IsUse names) (OfGroups p (codes "local")) UseEnds HeadEnds
+    (uses_are_read p names d.types knows) (λ ls a b w g. groups_are_read p (codes "local") ls a b w g.0) (locals_end p)
+    ((f.type_index, params), locals) (u ++ x) (y ++ rest) (u, x, refl, used, (groups, subst (AreOf p) (sym types) of.0)) (follow_ends (y ++ rest) (instructions_follow p (scope_of names params locals) f.body y rest body of.1 after)))
     ∙ cond-true (is_function params locals) (function_of f.type_index params locals p names (y ++ rest)) None
     (and_from (nat_lt (length (types_of locals)) 0x1_0000_0000) (all_new [] (ids_of (params ++ locals)))
     (lt-ltb (length (types_of locals)) 0x1_0000_0000 (subst (λ (z : List ValType). length z < 2 ^ 32) (sym types) few)) (distinct_new [] (ids_of (params ++ locals)) distinct))
@@ -126,6 +127,6 @@ function_complete p names d f front rest (params, locals, types, few, distinct, 
     read : (rest : List Token) → BeginsClose rest → instructions_at p (scope_of names params locals) (y ++ rest) ≡ Some (f.body, rest)
     read [] g = absurd g
     read (open_paren ∷ k) g = absurd g
-    read (close_paren ∷ k) g = law_written p (scope_of names params locals) y k f.body d distinct body of
+    read (close_paren ∷ k) g = law_written p (scope_of names params locals) y k f.body d distinct knows body of.1
     read (string b ∷ k) g = absurd g
     read (atom a ∷ k) g = absurd g

@@ -6,8 +6,9 @@ use Rattle.std.proofs.lemmas.List.{append-nil}
 use Rattle.wm_syntax.specs.Spelling.{Form}
 use Rattle.wm_syntax.specs.Types.{Signature}
 use Rattle.wm_syntax.specs.declared.types.ValType.{ValType}
+use Rattle.wm_syntax.specs.declared.profile.Profile.{Profile}
 use Rattle.wm_read.specs.Tokens.{Token, open_paren, close_paren, string, atom}
-use Rattle.wm_read.specs.Written.{Names, WritesUnnamed}
+use Rattle.wm_read.specs.Written.{Names}
 use Rattle.wm_read.specs.declared.faults.TextWhy.{TextWhy}
 use Rattle.wm_read.specs.declared.faults.TextWhy.TheVariants as why
 use Rattle.wm_read.specs.inner.Views.{Fails, IsRefusal}
@@ -15,7 +16,7 @@ use Rattle.wm_read.specs.exact.Reading.{Reader, ◌>>=◌, made, atom_at, index_
 use Rattle.wm_read.specs.exact.TypeUses.{types_at, adding, begins_group, groups_at, joined, same_types, no_types, fits, checked, use_at, begins_open, alone_by, call_use_at}
 use Rattle.wm_read.proofs.Basics.{same_some}
 use Rattle.wm_read.proofs.Readers.{Sound, bind_is}
-use Rattle.wm_read.proofs.TypeUseLaws.{group_begins, group_sound, same_types_are, types_same}
+use Rattle.wm_read.proofs.TypeUseLaws.{OfUnnamed, group_begins, group_sound, same_types_are, types_same}
 
 -- ---- refusals
 
@@ -34,22 +35,22 @@ regroup : (front : List ValType) (t : ValType) (o : Option (List ValType × List
 regroup front t None = refl
 regroup front t (Some x) = ap (λ (z : List ValType). Some (z, x.1)) (sym (append_assoc front (t ∷ []) x.0))
 
-pub types_more : (front : List ValType) (t : ValType) (a : List ℕ) (j k : List Token) → j ≡ atom a ∷ k → Some t ≡ type_of a → adding front (types_at j) ≡ adding (front ++ t ∷ []) (types_at k)
-types_more front t a j k e h =
-    ap (λ (z : List Token). adding front (types_at z)) e ∙ ap (adding front) (bind_is (type_of a) (λ u. ◌>>=◌ {B = List ValType × List Token} (types_at k) (λ us. Some (u ∷ us.0, us.1))) t (sym h))
-    ∙ regroup front t (types_at k)
+pub types_more : (pr : Profile) (front : List ValType) (t : ValType) (a : List ℕ) (j k : List Token) → j ≡ atom a ∷ k → Some t ≡ type_of pr a → adding front (types_at pr j) ≡ adding (front ++ t ∷ []) (types_at pr k)
+types_more pr front t a j k e h =
+    ap (λ (z : List Token). adding front (types_at pr z)) e ∙ ap (adding front) (bind_is (type_of pr a) (λ u. ◌>>=◌ {B = List ValType × List Token} (types_at pr k) (λ us. Some (u ∷ us.0, us.1))) t (sym h))
+    ∙ regroup front t (types_at pr k)
 
-pub types_fail : (front : List ValType) (a : List ℕ) (j k : List Token) → j ≡ atom a ∷ k → None ≡ type_of a → adding front (types_at j) ≡ None
-types_fail front a j k e h =
-    ap (λ (z : List Token). adding front (types_at z)) e
-    ∙ ap (λ (o : Option ValType). adding front (◌>>=◌ {B = List ValType × List Token} o (λ u. ◌>>=◌ {B = List ValType × List Token} (types_at k) (λ us. Some (u ∷ us.0, us.1))))) (sym h)
+pub types_fail : (pr : Profile) (front : List ValType) (a : List ℕ) (j k : List Token) → j ≡ atom a ∷ k → None ≡ type_of pr a → adding front (types_at pr j) ≡ None
+types_fail pr front a j k e h =
+    ap (λ (z : List Token). adding front (types_at pr z)) e
+    ∙ ap (λ (o : Option ValType). adding front (◌>>=◌ {B = List ValType × List Token} o (λ u. ◌>>=◌ {B = List ValType × List Token} (types_at pr k) (λ us. Some (u ∷ us.0, us.1))))) (sym h)
 
-pub types_over : (front : List ValType) (j : List Token) → NoAtom j → adding front (types_at j) ≡ Some (front, j)
-types_over front [] h = ap (λ (z : List ValType). Some (z, [])) (append-nil front)
-types_over front (open_paren ∷ k) h = ap (λ (z : List ValType). Some (z, open_paren ∷ k)) (append-nil front)
-types_over front (close_paren ∷ k) h = ap (λ (z : List ValType). Some (z, close_paren ∷ k)) (append-nil front)
-types_over front (string b ∷ k) h = ap (λ (z : List ValType). Some (z, string b ∷ k)) (append-nil front)
-types_over front (atom a ∷ k) h = absurd h
+pub types_over : (pr : Profile) (front : List ValType) (j : List Token) → NoAtom j → adding front (types_at pr j) ≡ Some (front, j)
+types_over pr front [] h = ap (λ (z : List ValType). Some (z, [])) (append-nil front)
+types_over pr front (open_paren ∷ k) h = ap (λ (z : List ValType). Some (z, open_paren ∷ k)) (append-nil front)
+types_over pr front (close_paren ∷ k) h = ap (λ (z : List ValType). Some (z, close_paren ∷ k)) (append-nil front)
+types_over pr front (string b ∷ k) h = ap (λ (z : List ValType). Some (z, string b ∷ k)) (append-nil front)
+types_over pr front (atom a ∷ k) h = absurd h
 
 -- ---- one group
 
@@ -75,24 +76,24 @@ many_is {X} goes r P p some (suc m) (suc n) k h g = ap (λ (z : Option (List X �
         ap (λ (z : Option (List X × List Token)). z >>= λ xs. Some (x.0 ∷ xs.0, xs.1))
         (again x.1 (omega (arith, size, length-append one.0 x.1, s, h)) (omega (arith, size, length-append one.0 x.1, s, g)))
 
-group_size : (word : List ℕ) (ts : List ValType) (front : List Token) → WritesUnnamed word ts front → 0 < length front
-group_size word ts front h = (group_begins word ts front [] h).1
+group_size : (pr : Profile) (word : List ℕ) (ts : List ValType) (front : List Token) → OfUnnamed pr word ts front → 0 < length front
+group_size pr word ts front h = (group_begins pr word ts front [] h).1
 
-groups_step : (word : List ℕ) (k : List Token) → begins_group word k ≡ true
-    → groups_at word k ≡ (paren_at word types_at k >>= λ x. groups_at word x.1 >>= λ xs. Some (x.0 ∷ xs.0, xs.1))
+groups_step : (pr : Profile) (word : List ℕ) (k : List Token) → begins_group word k ≡ true
+    → groups_at pr word k ≡ (paren_at word (types_at pr) k >>= λ x. groups_at pr word x.1 >>= λ xs. Some (x.0 ∷ xs.0, xs.1))
 unfolding groups_at
-groups_step word k b = cond-true (begins_group word k) _ _ b ∙ by (paren_at word types_at k) refl
+groups_step pr word k b = cond-true (begins_group word k) _ _ b ∙ by (paren_at word (types_at pr) k) refl
   where
-    by : (o : Option (List ValType × List Token)) → paren_at word types_at k ≡ o
-        → ◌>>=◌ {B = List (List ValType) × List Token} o (λ x. many_at (length k) (begins_group word) (paren_at word types_at) x.1 >>= λ xs. Some (x.0 ∷ xs.0, xs.1))
-        ≡ ◌>>=◌ {B = List (List ValType) × List Token} o (λ x. groups_at word x.1 >>= λ xs. Some (x.0 ∷ xs.0, xs.1))
+    by : (o : Option (List ValType × List Token)) → paren_at word (types_at pr) k ≡ o
+        → ◌>>=◌ {B = List (List ValType) × List Token} o (λ x. many_at (length k) (begins_group word) (paren_at word (types_at pr)) x.1 >>= λ xs. Some (x.0 ∷ xs.0, xs.1))
+        ≡ ◌>>=◌ {B = List (List ValType) × List Token} o (λ x. groups_at pr word x.1 >>= λ xs. Some (x.0 ∷ xs.0, xs.1))
     by None e = refl
     by (Some x) e =
-        let one = group_sound word k x.0 x.1 e in
+        let one = group_sound pr word k x.0 x.1 e in
         let size : length k ≡ length (one.0 ++ x.1) = ap length one.1 in
-        let s = group_size word x.0 one.0 one.2 in
+        let s = group_size pr word x.0 one.0 one.2 in
         ap (λ (z : Option (List (List ValType) × List Token)). z >>= λ xs. Some (x.0 ∷ xs.0, xs.1))
-        (many_is (begins_group word) (paren_at word types_at) (WritesUnnamed word) (group_sound word) (group_size word) (length k) (suc (length x.1)) x.1
+        (many_is (begins_group word) (paren_at word (types_at pr)) (OfUnnamed pr word) (group_sound pr word) (group_size pr word) (length k) (suc (length x.1)) x.1
         (omega (arith, size, length-append one.0 x.1, s)) (omega arith))
 
 -- the value types of these groups after those that there are
@@ -114,32 +115,32 @@ group_not : (front : List ValType) (o : Option (List ValType × List Token)) →
 group_not front None e = refl
 group_not front (Some x) e = absurd (let f : ◌≡◌ {A = Option (List ValType × List Token)} (Some (front ++ x.0, x.1)) None = e in cc)
 
-pub groups_more : (word : List ℕ) (front new : List ValType) (j k : List Token) → true ≡ begins_group word j → adding front (paren_at word types_at j) ≡ Some (new, k)
-    → after_groups front (groups_at word j) ≡ after_groups new (groups_at word k)
-groups_more word front new j k b e =
-    let g = group_was front new (paren_at word types_at j) k e in
-    ap (after_groups front) (groups_step word j (sym b) ∙ bind_is (paren_at word types_at j) _ (g.0, k) g.1) ∙ gather front g.0 (groups_at word k)
-    ∙ ap (λ (z : List ValType). after_groups z (groups_at word k)) (sym g.2)
+pub groups_more : (pr : Profile) (word : List ℕ) (front new : List ValType) (j k : List Token) → true ≡ begins_group word j → adding front (paren_at word (types_at pr) j) ≡ Some (new, k)
+    → after_groups front (groups_at pr word j) ≡ after_groups new (groups_at pr word k)
+groups_more pr word front new j k b e =
+    let g = group_was front new (paren_at word (types_at pr) j) k e in
+    ap (after_groups front) (groups_step pr word j (sym b) ∙ bind_is (paren_at word (types_at pr) j) _ (g.0, k) g.1) ∙ gather front g.0 (groups_at pr word k)
+    ∙ ap (λ (z : List ValType). after_groups z (groups_at pr word k)) (sym g.2)
 
-pub groups_fail : (word : List ℕ) (front : List ValType) (j : List Token) → true ≡ begins_group word j → adding front (paren_at word types_at j) ≡ None → after_groups front (groups_at word j) ≡ None
-groups_fail word front j b e =
-    ap (after_groups front) (groups_step word j (sym b)
-    ∙ ap (λ (o : Option (List ValType × List Token)). o >>= λ x. groups_at word x.1 >>= λ xs. Some (x.0 ∷ xs.0, xs.1)) (group_not front (paren_at word types_at j) e))
+pub groups_fail : (pr : Profile) (word : List ℕ) (front : List ValType) (j : List Token) → true ≡ begins_group word j → adding front (paren_at word (types_at pr) j) ≡ None → after_groups front (groups_at pr word j) ≡ None
+groups_fail pr word front j b e =
+    ap (after_groups front) (groups_step pr word j (sym b)
+    ∙ ap (λ (o : Option (List ValType × List Token)). o >>= λ x. groups_at pr word x.1 >>= λ xs. Some (x.0 ∷ xs.0, xs.1)) (group_not front (paren_at word (types_at pr) j) e))
 
-pub groups_over : (word : List ℕ) (front : List ValType) (j : List Token) → false ≡ begins_group word j → after_groups front (groups_at word j) ≡ Some (front, j)
+pub groups_over : (pr : Profile) (word : List ℕ) (front : List ValType) (j : List Token) → false ≡ begins_group word j → after_groups front (groups_at pr word j) ≡ Some (front, j)
 unfolding groups_at
-groups_over word front j b = ap (after_groups front) (cond-false (begins_group word j) _ _ (sym b)) ∙ ap (λ (z : List ValType). Some (z, j)) (append-nil front)
+groups_over pr word front j b = ap (after_groups front) (cond-false (begins_group word j) _ _ (sym b)) ∙ ap (λ (z : List ValType). Some (z, j)) (append-nil front)
 
 pub groups_begin : (o : Option (List (List ValType) × List Token)) → after_groups [] o ≡ made joined o
 groups_begin None = refl
 groups_begin (Some x) = refl
 
-pub group_shrinks : (word : List ℕ) (front new : List ValType) (j k : List Token) → adding front (paren_at word types_at j) ≡ Some (new, k) → length k < length j
-group_shrinks word front new j k e =
-    let g = group_was front new (paren_at word types_at j) k e in
-    let one = group_sound word j g.0 k g.1 in
+pub group_shrinks : (pr : Profile) (word : List ℕ) (front new : List ValType) (j k : List Token) → adding front (paren_at word (types_at pr) j) ≡ Some (new, k) → length k < length j
+group_shrinks pr word front new j k e =
+    let g = group_was front new (paren_at word (types_at pr) j) k e in
+    let one = group_sound pr word j g.0 k g.1 in
     let size : length j ≡ length (one.0 ++ k) = ap length one.1 in
-    omega (arith, size, length-append one.0 k, group_size word g.0 one.0 one.2)
+    omega (arith, size, length-append one.0 k, group_size pr word g.0 one.0 one.2)
 
 -- ---- comparison
 
@@ -165,8 +166,8 @@ abbrev Written : Type 0
 Written = List (List ValType) × List (List ValType)
 
 -- the groups of parameters and of results
-abbrev both : List Token → Option (Written × List Token)
-both k = then_at (groups_at (codes "param")) (groups_at (codes "result")) k
+abbrev both : (pr : Profile) → List Token → Option (Written × List Token)
+both pr k = then_at (groups_at pr (codes "param")) (groups_at pr (codes "result")) k
 
 abbrev with_type : ℕ → Option (Written × List Token) → Option ((ℕ × Written) × List Token)
 with_type x o = o >>= λ b. Some ((x, b.0), b.1)
@@ -174,19 +175,19 @@ with_type x o = o >>= λ b. Some ((x, b.0), b.1)
 abbrev fitting : Names → Option ((ℕ × Written) × List Token) → Option (ℕ × List Token)
 fitting names o = o >>= λ r. checked names r.0.0 r.0.1.0 r.0.1.1 >>= λ y. Some (y, r.1)
 
-abbrev use_by : Names → Option (ℕ × List Token) → Option (ℕ × List Token)
-use_by names o = fitting names (o >>= λ a. with_type a.0 (both a.1))
+abbrev use_by : (pr : Profile) → Names → Option (ℕ × List Token) → Option (ℕ × List Token)
+use_by pr names o = fitting names (o >>= λ a. with_type a.0 (both pr a.1))
 
 abbrev After : Names → ℕ → Option (Written × List Token) → Option (ℕ × List Token)
 After names x o = fitting names (with_type x o)
 
-use_is : (names : Names) (x : ℕ) (j k : List Token) → paren_at (codes "type") (atom_at (index_of names.types)) j ≡ Some (x, k) → use_at names j ≡ After names x (both k)
+use_is : (pr : Profile) (names : Names) (x : ℕ) (j k : List Token) → paren_at (codes "type") (atom_at (index_of names.types)) j ≡ Some (x, k) → use_at pr names j ≡ After names x (both pr k)
 unfolding use_at
-use_is names x j k e = ap (use_by names) e
+use_is pr names x j k e = ap (use_by pr names) e
 
-pub use_none : (names : Names) (j : List Token) → paren_at (codes "type") (atom_at (index_of names.types)) j ≡ None → use_at names j ≡ None
+pub use_none : (pr : Profile) (names : Names) (j : List Token) → paren_at (codes "type") (atom_at (index_of names.types)) j ≡ None → use_at pr names j ≡ None
 unfolding use_at
-use_none names j e = ap (use_by names) e
+use_none pr names j e = ap (use_by pr names) e
 
 made_was : (o : Option (List (List ValType) × List Token)) (ts : List ValType) (k : List Token) → made joined o ≡ Some (ts, k) → (gs : List (List ValType)) × (o ≡ Some (gs, k)) × (joined gs ≡ ts)
 made_was None ts k e = absurd (let f : ◌≡◌ {A = Option (List ValType × List Token)} None (Some (ts, k)) = e in cc)
@@ -204,11 +205,11 @@ checked_is names x f ps rs e = bind_is (slice_get names.signatures x) _ f e
 abbrev Checked : Names → ℕ → List (List ValType) → List (List ValType) → List Token → Option (ℕ × List Token)
 Checked names x ps rs k = checked names x ps rs >>= λ y. Some (y, k)
 
-after_both : (names : Names) (x : ℕ) (j k l : List Token) (ps rs : List (List ValType)) → groups_at (codes "param") j ≡ Some (ps, k) → groups_at (codes "result") k ≡ Some (rs, l)
-    → After names x (both j) ≡ Checked names x ps rs l
-after_both names x j k l ps rs e g =
+after_both : (pr : Profile) (names : Names) (x : ℕ) (j k l : List Token) (ps rs : List (List ValType)) → groups_at pr (codes "param") j ≡ Some (ps, k) → groups_at pr (codes "result") k ≡ Some (rs, l)
+    → After names x (both pr j) ≡ Checked names x ps rs l
+after_both pr names x j k l ps rs e g =
     ap (After names x)
-    (bind_is (groups_at (codes "param") j) _ (ps, k) e ∙ bind_is (groups_at (codes "result") k) _ (rs, l) g)
+    (bind_is (groups_at pr (codes "param") j) _ (ps, k) e ∙ bind_is (groups_at pr (codes "result") k) _ (rs, l) g)
 
 checked_fits : (names : Names) (x : ℕ) (f : Signature) (ps rs : List ValType) (gs hs : List (List ValType)) (l : List Token) → slice_get names.signatures x ≡ Some f → joined gs ≡ ps → joined hs ≡ rs
     → Checked names x gs hs l ≡ ◌>>=◌ {B = ℕ × List Token} (cond (fits f ps rs) (Some x) None) (λ y. Some (y, l))
@@ -216,36 +217,36 @@ checked_fits names x f ps rs gs hs l e a b =
     ap (λ (o : Option ℕ). ◌>>=◌ {B = ℕ × List Token} o (λ y. Some (y, l)))
     (checked_is names x f gs hs e ∙ ap (λ (z : List ValType). cond (fits f z (joined hs)) (Some x) None) a ∙ ap (λ (z : List ValType). cond (fits f ps z) (Some x) None) b)
 
-pub use_found : (names : Names) (x : ℕ) (f : Signature) (ps rs : List ValType) (i j k l : List Token) → paren_at (codes "type") (atom_at (index_of names.types)) i ≡ Some (x, j) → slice_get names.signatures x ≡ Some f
-    → made joined (groups_at (codes "param") j) ≡ Some (ps, k) → made joined (groups_at (codes "result") k) ≡ Some (rs, l) → true ≡ fits f ps rs → use_at names i ≡ Some (x, l)
-use_found names x f ps rs i j k l t e g h b =
-    let p = made_was (groups_at (codes "param") j) ps k g in let r = made_was (groups_at (codes "result") k) rs l h in
-    use_is names x i j t ∙ after_both names x j k l p.0 r.0 p.1 r.1 ∙ checked_fits names x f ps rs p.0 r.0 l e p.2 r.2
+pub use_found : (pr : Profile) (names : Names) (x : ℕ) (f : Signature) (ps rs : List ValType) (i j k l : List Token) → paren_at (codes "type") (atom_at (index_of names.types)) i ≡ Some (x, j) → slice_get names.signatures x ≡ Some f
+    → made joined (groups_at pr (codes "param") j) ≡ Some (ps, k) → made joined (groups_at pr (codes "result") k) ≡ Some (rs, l) → true ≡ fits f ps rs → use_at pr names i ≡ Some (x, l)
+use_found pr names x f ps rs i j k l t e g h b =
+    let p = made_was (groups_at pr (codes "param") j) ps k g in let r = made_was (groups_at pr (codes "result") k) rs l h in
+    use_is pr names x i j t ∙ after_both pr names x j k l p.0 r.0 p.1 r.1 ∙ checked_fits names x f ps rs p.0 r.0 l e p.2 r.2
     ∙ ap (λ (c : Bool). ◌>>=◌ {B = ℕ × List Token} (cond c (Some x) None) (λ y. Some (y, l))) (sym b)
 
-pub use_wrong : (names : Names) (x : ℕ) (f : Signature) (ps rs : List ValType) (i j k l : List Token) → paren_at (codes "type") (atom_at (index_of names.types)) i ≡ Some (x, j) → slice_get names.signatures x ≡ Some f
-    → made joined (groups_at (codes "param") j) ≡ Some (ps, k) → made joined (groups_at (codes "result") k) ≡ Some (rs, l) → false ≡ fits f ps rs → use_at names i ≡ None
-use_wrong names x f ps rs i j k l t e g h b =
-    let p = made_was (groups_at (codes "param") j) ps k g in let r = made_was (groups_at (codes "result") k) rs l h in
-    use_is names x i j t ∙ after_both names x j k l p.0 r.0 p.1 r.1 ∙ checked_fits names x f ps rs p.0 r.0 l e p.2 r.2
+pub use_wrong : (pr : Profile) (names : Names) (x : ℕ) (f : Signature) (ps rs : List ValType) (i j k l : List Token) → paren_at (codes "type") (atom_at (index_of names.types)) i ≡ Some (x, j) → slice_get names.signatures x ≡ Some f
+    → made joined (groups_at pr (codes "param") j) ≡ Some (ps, k) → made joined (groups_at pr (codes "result") k) ≡ Some (rs, l) → false ≡ fits f ps rs → use_at pr names i ≡ None
+use_wrong pr names x f ps rs i j k l t e g h b =
+    let p = made_was (groups_at pr (codes "param") j) ps k g in let r = made_was (groups_at pr (codes "result") k) rs l h in
+    use_is pr names x i j t ∙ after_both pr names x j k l p.0 r.0 p.1 r.1 ∙ checked_fits names x f ps rs p.0 r.0 l e p.2 r.2
     ∙ ap (λ (c : Bool). ◌>>=◌ {B = ℕ × List Token} (cond c (Some x) None) (λ y. Some (y, l))) (sym b)
 
-pub use_params : (names : Names) (x : ℕ) (i j : List Token) → paren_at (codes "type") (atom_at (index_of names.types)) i ≡ Some (x, j) → made joined (groups_at (codes "param") j) ≡ None → use_at names i ≡ None
-use_params names x i j t g =
-    use_is names x i j t
-    ∙ ap (λ (o : Option (List (List ValType) × List Token)). After names x (o >>= λ a. groups_at (codes "result") a.1 >>= λ b. Some ((a.0, b.0), b.1)))
-    (made_not (groups_at (codes "param") j) g)
+pub use_params : (pr : Profile) (names : Names) (x : ℕ) (i j : List Token) → paren_at (codes "type") (atom_at (index_of names.types)) i ≡ Some (x, j) → made joined (groups_at pr (codes "param") j) ≡ None → use_at pr names i ≡ None
+use_params pr names x i j t g =
+    use_is pr names x i j t
+    ∙ ap (λ (o : Option (List (List ValType) × List Token)). After names x (o >>= λ a. groups_at pr (codes "result") a.1 >>= λ b. Some ((a.0, b.0), b.1)))
+    (made_not (groups_at pr (codes "param") j) g)
 
-pub use_results : (names : Names) (x : ℕ) (ps : List ValType) (i j k : List Token) → paren_at (codes "type") (atom_at (index_of names.types)) i ≡ Some (x, j)
-    → made joined (groups_at (codes "param") j) ≡ Some (ps, k) → made joined (groups_at (codes "result") k) ≡ None → use_at names i ≡ None
-use_results names x ps i j k t g h =
-    let p = made_was (groups_at (codes "param") j) ps k g in
-    use_is names x i j t
+pub use_results : (pr : Profile) (names : Names) (x : ℕ) (ps : List ValType) (i j k : List Token) → paren_at (codes "type") (atom_at (index_of names.types)) i ≡ Some (x, j)
+    → made joined (groups_at pr (codes "param") j) ≡ Some (ps, k) → made joined (groups_at pr (codes "result") k) ≡ None → use_at pr names i ≡ None
+use_results pr names x ps i j k t g h =
+    let p = made_was (groups_at pr (codes "param") j) ps k g in
+    use_is pr names x i j t
     ∙ ap (After names x)
-    (bind_is (groups_at (codes "param") j) _ (p.0, k) p.1 ∙ ap (λ (o : Option (List (List ValType) × List Token)). o >>= λ b. Some ((p.0, b.0), b.1)) (made_not (groups_at (codes "result") k) h))
+    (bind_is (groups_at pr (codes "param") j) _ (p.0, k) p.1 ∙ ap (λ (o : Option (List (List ValType) × List Token)). o >>= λ b. Some ((p.0, b.0), b.1)) (made_not (groups_at pr (codes "result") k) h))
 
-pub use_untyped : (names : Names) (x : ℕ) (i j : List Token) → paren_at (codes "type") (atom_at (index_of names.types)) i ≡ Some (x, j) → slice_get names.signatures x ≡ None → use_at names i ≡ None
-use_untyped names x i j t e = use_is names x i j t ∙ by (both j)
+pub use_untyped : (pr : Profile) (names : Names) (x : ℕ) (i j : List Token) → paren_at (codes "type") (atom_at (index_of names.types)) i ≡ Some (x, j) → slice_get names.signatures x ≡ None → use_at pr names i ≡ None
+use_untyped pr names x i j t e = use_is pr names x i j t ∙ by (both pr j)
   where
     none : (ps rs : List (List ValType)) → checked names x ps rs ≡ None
     none ps rs = ap (λ (o : Option Signature). ◌>>=◌ {B = ℕ} o (λ f. cond (fits f (joined ps) (joined rs)) (Some x) None)) e
@@ -273,36 +274,36 @@ fails_use w read e n = subst (λ (z : TextWhy). Fails z read) (sym e) n
 
 -- ---- where no form follows
 
-pub call_none : (names : Names) (i : List Token) → use_at names i ≡ None → call_use_at names i ≡ None
+pub call_none : (pr : Profile) (names : Names) (i : List Token) → use_at pr names i ≡ None → call_use_at pr names i ≡ None
 unfolding call_use_at
-call_none names i e = ap (λ (o : Option (ℕ × List Token)). alone_by o) e
+call_none pr names i e = ap (λ (o : Option (ℕ × List Token)). alone_by o) e
 
-pub call_untaken : (names : Names) (j : List Token) → paren_at (codes "type") (atom_at (index_of names.types)) j ≡ None → call_use_at names j ≡ None
-call_untaken names j e = call_none names j (use_none names j e)
+pub call_untaken : (pr : Profile) (names : Names) (j : List Token) → paren_at (codes "type") (atom_at (index_of names.types)) j ≡ None → call_use_at pr names j ≡ None
+call_untaken pr names j e = call_none pr names j (use_none pr names j e)
 
-pub call_found : (names : Names) (x : ℕ) (i l : List Token) → use_at names i ≡ Some (x, l) → begins_open l ≡ false → call_use_at names i ≡ Some (x, l)
+pub call_found : (pr : Profile) (names : Names) (x : ℕ) (i l : List Token) → use_at pr names i ≡ Some (x, l) → begins_open l ≡ false → call_use_at pr names i ≡ Some (x, l)
 unfolding call_use_at
-call_found names x i l e b = bind_is (use_at names i) (λ y. cond (begins_open y.1) None (Some y)) (x, l) e ∙ cond-false (begins_open l) _ _ b
+call_found pr names x i l e b = bind_is (use_at pr names i) (λ y. cond (begins_open y.1) None (Some y)) (x, l) e ∙ cond-false (begins_open l) _ _ b
 
-call_open : (names : Names) (x : ℕ) (i l : List Token) → use_at names i ≡ Some (x, l) → begins_open l ≡ true → call_use_at names i ≡ None
+call_open : (pr : Profile) (names : Names) (x : ℕ) (i l : List Token) → use_at pr names i ≡ Some (x, l) → begins_open l ≡ true → call_use_at pr names i ≡ None
 unfolding call_use_at
-call_open names x i l e b = bind_is (use_at names i) (λ y. cond (begins_open y.1) None (Some y)) (x, l) e ∙ cond-true (begins_open l) _ _ b
+call_open pr names x i l e b = bind_is (use_at pr names i) (λ y. cond (begins_open y.1) None (Some y)) (x, l) e ∙ cond-true (begins_open l) _ _ b
 
-pub call_form : (names : Names) (x : ℕ) (f : Signature) (ps rs : List ValType) (i j k l : List Token) → paren_at (codes "type") (atom_at (index_of names.types)) i ≡ Some (x, j) → slice_get names.signatures x ≡ Some f
-    → made joined (groups_at (codes "param") j) ≡ Some (ps, k) → made joined (groups_at (codes "result") k) ≡ Some (rs, l) → begins_open l ≡ true → call_use_at names i ≡ None
-call_form names x f ps rs i j k l t e g h b = by (fits f ps rs) refl
+pub call_form : (pr : Profile) (names : Names) (x : ℕ) (f : Signature) (ps rs : List ValType) (i j k l : List Token) → paren_at (codes "type") (atom_at (index_of names.types)) i ≡ Some (x, j) → slice_get names.signatures x ≡ Some f
+    → made joined (groups_at pr (codes "param") j) ≡ Some (ps, k) → made joined (groups_at pr (codes "result") k) ≡ Some (rs, l) → begins_open l ≡ true → call_use_at pr names i ≡ None
+call_form pr names x f ps rs i j k l t e g h b = by (fits f ps rs) refl
   where
-    by : (c : Bool) → fits f ps rs ≡ c → call_use_at names i ≡ None
-    by true z = call_open names x i l (use_found names x f ps rs i j k l t e g h (sym z)) b
-    by false z = call_none names i (use_wrong names x f ps rs i j k l t e g h (sym z))
+    by : (c : Bool) → fits f ps rs ≡ c → call_use_at pr names i ≡ None
+    by true z = call_open pr names x i l (use_found pr names x f ps rs i j k l t e g h (sym z)) b
+    by false z = call_none pr names i (use_wrong pr names x f ps rs i j k l t e g h (sym z))
 
-pub params_fail : (names : Names) (x : ℕ) (w : TextWhy) (i j : List Token) → paren_at (codes "type") (atom_at (index_of names.types)) i ≡ Some (x, j) → Fails w (made joined (groups_at (codes "param") j))
-    → Fails w (call_use_at names i)
-params_fail names x w i j t h = fails_on w (made joined (groups_at (codes "param") j)) (call_use_at names i) (λ n. call_none names i (use_params names x i j t n)) h
+pub params_fail : (pr : Profile) (names : Names) (x : ℕ) (w : TextWhy) (i j : List Token) → paren_at (codes "type") (atom_at (index_of names.types)) i ≡ Some (x, j) → Fails w (made joined (groups_at pr (codes "param") j))
+    → Fails w (call_use_at pr names i)
+params_fail pr names x w i j t h = fails_on w (made joined (groups_at pr (codes "param") j)) (call_use_at pr names i) (λ n. call_none pr names i (use_params pr names x i j t n)) h
 
-pub results_fail : (names : Names) (x : ℕ) (ps : List ValType) (w : TextWhy) (i j k : List Token) → paren_at (codes "type") (atom_at (index_of names.types)) i ≡ Some (x, j) → made joined (groups_at (codes "param") j) ≡ Some (ps, k)
-    → Fails w (made joined (groups_at (codes "result") k)) → Fails w (call_use_at names i)
-results_fail names x ps w i j k t g h = fails_on w (made joined (groups_at (codes "result") k)) (call_use_at names i) (λ n. call_none names i (use_results names x ps i j k t g n)) h
+pub results_fail : (pr : Profile) (names : Names) (x : ℕ) (ps : List ValType) (w : TextWhy) (i j k : List Token) → paren_at (codes "type") (atom_at (index_of names.types)) i ≡ Some (x, j) → made joined (groups_at pr (codes "param") j) ≡ Some (ps, k)
+    → Fails w (made joined (groups_at pr (codes "result") k)) → Fails w (call_use_at pr names i)
+results_fail pr names x ps w i j k t g h = fails_on w (made joined (groups_at pr (codes "result") k)) (call_use_at pr names i) (λ n. call_none pr names i (use_results pr names x ps i j k t g n)) h
 
 pub fails_at : {Y : Type 0} (w : TextWhy) (read : Option Y) → w ≡ why.Expected → read ≡ None → Fails w read
 fails_at w read e n = subst (λ (z : TextWhy). Fails z read) (sym e) n

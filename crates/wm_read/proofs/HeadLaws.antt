@@ -4,7 +4,7 @@ use Rattle.std.specs.Prelude.{codes, not, ◌&&◌}
 use Rattle.std.proofs.lemmas.Bool.{cond-true, cond-false}
 use Rattle.wm_syntax.specs.Spelling.{Form, Each, ◌▸◌}
 use Rattle.wm_syntax.specs.declared.types.ValType.{ValType}
-use Rattle.wm_syntax.specs.declared.types.ValType.TheVariants.{I32, I64}
+use Rattle.wm_syntax.specs.declared.types.ValType.TheVariants.{I32, I64, F32, F64}
 use Rattle.wm_syntax.specs.declared.types.Limits.{Limits}
 use Rattle.wm_syntax.specs.declared.modules.ExportKind.{ExportKind}
 use Rattle.wm_syntax.specs.declared.modules.ExportKind.TheVariants as kind
@@ -12,10 +12,12 @@ use Rattle.wm_syntax.specs.declared.modules.ImportDesc.{ImportDesc}
 use Rattle.wm_syntax.specs.declared.modules.ImportDesc.TheVariants.{Func, Table, Memory, Global}
 use Rattle.wm_syntax.specs.Types.{Signature}
 use Rattle.wm_syntax.specs.Modules.{Import, Function}
+use Rattle.wm_syntax.specs.declared.profile.Profile.{Profile}
+use Rattle.wm_syntax.specs.Profiles.{HasSignature}
 use Rattle.wm_read.specs.Tokens.{Token, open_paren, close_paren, atom}
 use Rattle.wm_read.specs.Identifiers.{Id, WritesId, Resolves}
 use Rattle.wm_read.specs.Written.{Word, Paren, Number, WritesType, Named, WritesGroups, Names, TypeUse, WritesInstructions, ids_of}
-use Rattle.wm_read.specs.Fields.{Field, type_field, import_field, function_field, table_field, memory_field, global_field, export_field, start_field, element_field, segment_field, WritesName, WritesSignature, WritesMax, WritesLimits, WritesTableType, WritesGlobalType, WritesConst, WritesDesc, WritesExport, WritesOffset, WritesStrings, WritesField}
+use Rattle.wm_read.specs.Fields.{Field, type_field, import_field, function_field, table_field, memory_field, global_field, export_field, start_field, element_field, segment_field, WritesName, WritesSignature, WritesMax, WritesLimits, WritesTableType, WritesGlobalType, WritesConst, WritesDesc, WritesExport, WritesOffset, WritesStrings, WritesField, names_of}
 use Rattle.wm_read.specs.exact.Fields.{is_new, name_at, space_of}
 use Rattle.wm_read.specs.exact.FirstReading.{Noted, with_item, with_type, free_id_at, skip, type_head_at, desc_head_at, import_head_at, item_head_at, head_by, head_at, heads_within, heads_at}
 use Rattle.wm_read.specs.exact.Signatures.{signature_at}
@@ -29,6 +31,7 @@ use Rattle.wm_read.proofs.Indices.{number_not_id}
 use Rattle.wm_read.proofs.Readers.{bind_is}
 use Rattle.wm_read.proofs.Rules.{kind_of, after, allowed, note_all}
 use Rattle.wm_read.proofs.SignatureLaws.{signature_complete}
+use Rattle.wm_read.proofs.TypeUseLaws.{KnowsTypes}
 
 -- ---- what stands in parentheses
 
@@ -61,6 +64,8 @@ plain_number n f rest (a, e, (lt, h)) = subst (λ (z : List Token). NotId (z ++ 
 plain_type : (t : ValType) → Plain (WritesType t)
 plain_type I32 f rest e = subst (λ (z : List Token). NotId (z ++ rest)) (sym e) refl
 plain_type I64 f rest e = subst (λ (z : List Token). NotId (z ++ rest)) (sym e) refl
+plain_type F32 f rest e = subst (λ (z : List Token). NotId (z ++ rest)) (sym e) refl
+plain_type F64 f rest e = subst (λ (z : List Token). NotId (z ++ rest)) (sym e) refl
 
 plain_limits : (l : Limits) → Plain (WritesLimits l)
 plain_limits l = plain_then (Number l.min) (WritesMax l.max) (plain_number l.min)
@@ -85,16 +90,16 @@ free_is s id Q q ids x rest (i, b, e, w, h) =
     ap (λ (z : List Token). free_id_at ids (z ++ rest)) e ∙ ap (free_id_at ids) (append_assoc i b rest)
     ∙ bind_is (id_at (i ++ (b ++ rest))) (λ j. cond (is_new ids j.0) (Some j) None) (id, b ++ rest) (id_complete id i (b ++ rest) w (q b rest h))
 
-type_is : (s : Noted) (id : Id) (f : Signature) (x rest : List Token) → (WritesId id ▸ WritesSignature f) x
-    → type_head_at s (x ++ close_paren ∷ rest) ≡ cond (is_new s.names.types id) (Some (record s { names = with_type s.names id f }, rest)) None
-type_is s id f x rest w =
-    ap (λ (o : Option (Id × List Token)). ◌>>=◌ {B = Noted × List Token} o (λ i. signature_at i.1 >>= λ g. close_at g.1 >>= λ c. Some (record s { names = with_type s.names i.0 g.0 }, c.1)))
+type_is : (pr : Profile) (s : Noted) (id : Id) (f : Signature) (x rest : List Token) → HasSignature pr f → (WritesId id ▸ WritesSignature f) x
+    → type_head_at pr s (x ++ close_paren ∷ rest) ≡ cond (is_new s.names.types id) (Some (record s { names = with_type s.names id f }, rest)) None
+type_is pr s id f x rest of w =
+    ap (λ (o : Option (Id × List Token)). ◌>>=◌ {B = Noted × List Token} o (λ i. signature_at pr i.1 >>= λ g. close_at g.1 >>= λ c. Some (record s { names = with_type s.names i.0 g.0 }, c.1)))
     (free_is s id (WritesSignature f) (λ g r h. plain_paren (codes "func") _ g r h.2) s.names.types x (close_paren ∷ rest) w)
     ∙ by (is_new s.names.types id)
   where
-    by : (t : Bool) → ◌>>=◌ {A = Id × List Token} {B = Noted × List Token} (cond t (Some (id, w.1 ++ close_paren ∷ rest)) None) (λ i. signature_at i.1 >>= λ g. close_at g.1 >>= λ c. Some (record s { names = with_type s.names i.0 g.0 }, c.1))
+    by : (t : Bool) → ◌>>=◌ {A = Id × List Token} {B = Noted × List Token} (cond t (Some (id, w.1 ++ close_paren ∷ rest)) None) (λ i. signature_at pr i.1 >>= λ g. close_at g.1 >>= λ c. Some (record s { names = with_type s.names i.0 g.0 }, c.1))
         ≡ cond t (Some (record s { names = with_type s.names id f }, rest)) None
-    by true = bind_is (signature_at (w.1 ++ close_paren ∷ rest)) (λ g. close_at g.1 >>= λ c. Some (record s { names = with_type s.names id g.0 }, c.1)) (f, close_paren ∷ rest) (signature_complete f w.1 (close_paren ∷ rest) w.4 tt)
+    by true = bind_is (signature_at pr (w.1 ++ close_paren ∷ rest)) (λ g. close_at g.1 >>= λ c. Some (record s { names = with_type s.names id g.0 }, c.1)) (f, close_paren ∷ rest) (signature_complete pr f w.1 (close_paren ∷ rest) (w.4, of) tt)
     by false = refl
 
 item_is : (kind : ExportKind) (s : Noted) (id : Id) (Q : Form Token) → AllBalanced Q → Plain Q → (x rest : List Token) → (WritesId id ▸ Q) x
@@ -201,45 +206,54 @@ body_plain names f params locals =
     plain_then (TypeUse names f.type_index params) (WritesGroups (codes "local") locals ▸ WritesInstructions (record { names = names; locals = ids_of (params ++ locals) }) [] f.body)
     (plain_use names f.type_index params)
 
-pub head_is : (names : Names) (s : Noted) (f : Field) (front rest : List Token) → WritesField names f front → head_at s (front ++ rest) ≡ Given s f rest
+-- what a type field defines is of the profile
+abbrev pub TypeOf : Profile → Field → Type 0
+TypeOf pr (type_field id f) = HasSignature pr f
+TypeOf pr _ = Unit {0}
+
+types_of_fields : (pr : Profile) (f : Field) (fs : List Field) → KnowsTypes pr (names_of (f ∷ fs)) → TypeOf pr f × KnowsTypes pr (names_of fs)
+types_of_fields pr (type_field id f) fs h = (h.0, h.1)
+types_of_fields pr _ fs h = (tt, h)
+
+pub head_is : (pr : Profile) (names : Names) (s : Noted) (f : Field) (front rest : List Token) → TypeOf pr f → WritesField names f front → head_at pr s (front ++ rest) ≡ Given s f rest
 unfolding head_at head_by
-head_is names s (type_field id f) front rest h =
+head_is pr names s (type_field id f) front rest of h =
     let g = inside (codes "type") (WritesId id ▸ WritesSignature f) front h in
-    ap (head_at s) (g.2 rest) ∙ type_is s id f g.0 rest g.1
-head_is names s (import_field id i) front rest h =
+    ap (head_at pr s) (g.2 rest) ∙ type_is pr s id f g.0 rest of g.1
+head_is pr names s (import_field id i) front rest of h =
     let g = inside (codes "import") (WritesName i.module_name ▸ WritesName i.item_name ▸ WritesDesc names id i.desc) front h in
-    ap (head_at s) (g.2 rest)
+    ap (head_at pr s) (g.2 rest)
     ∙ placed s.defined (is_new (space_of s.names (kind_of i.desc)) id) (import_head_at s (g.0 ++ close_paren ∷ rest)) (after s (import_field id i), rest) (import_is names s id i g.0 rest g.1)
-head_is names s (function_field id f) front rest (params, locals, types, few, distinct, h) =
+head_is pr names s (function_field id f) front rest of (params, locals, types, few, distinct, h) =
     let g = inside (codes "func") (WritesId id ▸ Body names f params locals) front h in
-    ap (head_at s) (g.2 rest) ∙ item_is kind.Func s id (Body names f params locals) (body_balanced names f params locals) (body_plain names f params locals) g.0 rest g.1
-head_is names s (table_field id l) front rest h =
+    ap (head_at pr s) (g.2 rest) ∙ item_is kind.Func s id (Body names f params locals) (body_balanced names f params locals) (body_plain names f params locals) g.0 rest g.1
+head_is pr names s (table_field id l) front rest of h =
     let g = inside (codes "table") (WritesId id ▸ WritesTableType l) front h in
-    ap (head_at s) (g.2 rest) ∙ item_is kind.Table s id (WritesTableType l) (balanced_table_type l) (plain_table_type l) g.0 rest g.1
-head_is names s (memory_field id l) front rest h =
+    ap (head_at pr s) (g.2 rest) ∙ item_is kind.Table s id (WritesTableType l) (balanced_table_type l) (plain_table_type l) g.0 rest g.1
+head_is pr names s (memory_field id l) front rest of h =
     let g = inside (codes "memory") (WritesId id ▸ WritesLimits l) front h in
-    ap (head_at s) (g.2 rest) ∙ item_is kind.Memory s id (WritesLimits l) (balanced_limits l) (plain_limits l) g.0 rest g.1
-head_is names s (global_field id d) front rest h =
+    ap (head_at pr s) (g.2 rest) ∙ item_is kind.Memory s id (WritesLimits l) (balanced_limits l) (plain_limits l) g.0 rest g.1
+head_is pr names s (global_field id d) front rest of h =
     let g = inside (codes "global") (WritesId id ▸ WritesGlobalType d.ty.var d.ty.ty ▸ WritesConst names d.init) front h in
-    ap (head_at s) (g.2 rest)
+    ap (head_at pr s) (g.2 rest)
     ∙ item_is kind.Global s id (WritesGlobalType d.ty.var d.ty.ty ▸ WritesConst names d.init)
     (balanced_then (WritesGlobalType d.ty.var d.ty.ty) (WritesConst names d.init) (balanced_global_type d.ty.var d.ty.ty) (balanced_const names d.init))
     (plain_then (WritesGlobalType d.ty.var d.ty.ty) (WritesConst names d.init) (plain_global_type d.ty.var d.ty.ty)) g.0 rest g.1
-head_is names s (export_field e) front rest h =
+head_is pr names s (export_field e) front rest of h =
     let g = inside (codes "export") (WritesName e.name ▸ WritesExport names e.kind e.index) front h in
-    ap (head_at s) (g.2 rest) ∙ other_is s (WritesName e.name ▸ WritesExport names e.kind e.index) (balanced_export names e) g.0 rest g.1
-head_is names s (start_field x) front rest h =
+    ap (head_at pr s) (g.2 rest) ∙ other_is s (WritesName e.name ▸ WritesExport names e.kind e.index) (balanced_export names e) g.0 rest g.1
+head_is pr names s (start_field x) front rest of h =
     let g = inside (codes "start") (Resolves names.functions x) front h in
-    ap (head_at s) (g.2 rest)
+    ap (head_at pr s) (g.2 rest)
     ∙ once s.started (◌>>=◌ {B = Noted × List Token} (skip 1 (g.0 ++ close_paren ∷ rest)) (λ r. Some (record s { started = true }, r))) (record s { started = true }, rest)
     (other_is (record s { started = true }) (Resolves names.functions x) (balanced_start names x) g.0 rest g.1)
-head_is names s (element_field e) front rest h =
+head_is pr names s (element_field e) front rest of h =
     let g = inside (codes "elem") (Resolves names.tables e.table ▸ WritesOffset names e.offset ▸ Each (Resolves names.functions) e.functions) front h in
-    ap (head_at s) (g.2 rest)
+    ap (head_at pr s) (g.2 rest)
     ∙ other_is s (Resolves names.tables e.table ▸ WritesOffset names e.offset ▸ Each (Resolves names.functions) e.functions) (balanced_element names e) g.0 rest g.1
-head_is names s (segment_field d) front rest h =
+head_is pr names s (segment_field d) front rest of h =
     let g = inside (codes "data") (Resolves names.memories d.memory ▸ WritesOffset names d.offset ▸ WritesStrings d.bytes) front h in
-    ap (head_at s) (g.2 rest)
+    ap (head_at pr s) (g.2 rest)
     ∙ other_is s (Resolves names.memories d.memory ▸ WritesOffset names d.offset ▸ WritesStrings d.bytes) (balanced_segment names d) g.0 rest g.1
 
 -- ---- all fields
@@ -263,26 +277,27 @@ field_opens names f front h = by f h
     by (element_field e) h = paren (codes "elem") _ h
     by (segment_field d) h = paren (codes "data") _ h
 
-within_is : (names : Names) (n : ℕ) (s : Noted) (fs : List Field) (front rest : List Token) → length front < n → Each (WritesField names) fs front → begins_open rest ≡ false
-    → heads_within n s (front ++ rest) ≡ (note_all s fs >>= λ t. Some (t, rest))
-within_is names zero s fs front rest lt h e = absurd (omega (arith, lt))
-within_is names (suc n) s [] front rest lt h e = ap (λ (z : List Token). heads_within (suc n) s (z ++ rest)) h ∙ cond-false (begins_open rest) _ _ e
-within_is names (suc n) s (f ∷ fs) front rest lt (a, b, is, w, more) e =
+within_is : (pr : Profile) (names : Names) (n : ℕ) (s : Noted) (fs : List Field) (front rest : List Token) → length front < n → KnowsTypes pr (names_of fs) → Each (WritesField names) fs front → begins_open rest ≡ false
+    → heads_within pr n s (front ++ rest) ≡ (note_all s fs >>= λ t. Some (t, rest))
+within_is pr names zero s fs front rest lt of h e = absurd (omega (arith, lt))
+within_is pr names (suc n) s [] front rest lt of h e = ap (λ (z : List Token). heads_within pr (suc n) s (z ++ rest)) h ∙ cond-false (begins_open rest) _ _ e
+within_is pr names (suc n) s (f ∷ fs) front rest lt of (a, b, is, w, more) e =
+    let each = types_of_fields pr f fs of in
     let text : front ++ rest ≡ a ++ (b ++ rest) = ap (λ (z : List Token). z ++ rest) is ∙ append_assoc a b rest in
     let o = field_opens names f a w in
     let opens : begins_open (a ++ (b ++ rest)) ≡ true = ap (λ (z : List Token). begins_open (z ++ (b ++ rest))) o.1 in
     let size : length front ≡ length (a ++ b) = ap length is in
     let some : length a ≡ suc (length o.0) = ap length o.1 in
-    ap (heads_within (suc n) s) text ∙ cond-true (begins_open (a ++ (b ++ rest))) _ _ opens
-    ∙ ap (λ (z : Option (Noted × List Token)). z >>= λ x. heads_within n x.0 x.1) (head_is names s f a (b ++ rest) w)
-    ∙ by (allowed s f) (within_is names n (after s f) fs b rest (omega (arith, size, length-append a b, some, lt)) more e)
+    ap (heads_within pr (suc n) s) text ∙ cond-true (begins_open (a ++ (b ++ rest))) _ _ opens
+    ∙ ap (λ (z : Option (Noted × List Token)). z >>= λ x. heads_within pr n x.0 x.1) (head_is pr names s f a (b ++ rest) each.0 w)
+    ∙ by (allowed s f) (within_is pr names n (after s f) fs b rest (omega (arith, size, length-append a b, some, lt)) each.1 more e)
   where
-    by : (t : Bool) → heads_within n (after s f) (b ++ rest) ≡ (note_all (after s f) fs >>= λ t. Some (t, rest))
-        → ◌>>=◌ {A = Noted × List Token} {B = Noted × List Token} (cond t (Some (after s f, b ++ rest)) None) (λ x. heads_within n x.0 x.1) ≡ ◌>>=◌ {B = Noted × List Token} (cond t (note_all (after s f) fs) None) (λ t. Some (t, rest))
+    by : (t : Bool) → heads_within pr n (after s f) (b ++ rest) ≡ (note_all (after s f) fs >>= λ t. Some (t, rest))
+        → ◌>>=◌ {A = Noted × List Token} {B = Noted × List Token} (cond t (Some (after s f, b ++ rest)) None) (λ x. heads_within pr n x.0 x.1) ≡ ◌>>=◌ {B = Noted × List Token} (cond t (note_all (after s f) fs) None) (λ t. Some (t, rest))
     by true h = h
     by false h = refl
 
-pub heads_are : (names : Names) (s : Noted) (fs : List Field) (front rest : List Token) → Each (WritesField names) fs front → begins_open rest ≡ false
-    → heads_at s (front ++ rest) ≡ (note_all s fs >>= λ t. Some (t, rest))
+pub heads_are : (pr : Profile) (names : Names) (s : Noted) (fs : List Field) (front rest : List Token) → KnowsTypes pr (names_of fs) → Each (WritesField names) fs front → begins_open rest ≡ false
+    → heads_at pr s (front ++ rest) ≡ (note_all s fs >>= λ t. Some (t, rest))
 unfolding heads_at
-heads_are names s fs front rest h e = within_is names (suc (length (front ++ rest))) s fs front rest (omega (arith, length-append front rest)) h e
+heads_are pr names s fs front rest of h e = within_is pr names (suc (length (front ++ rest))) s fs front rest (omega (arith, length-append front rest)) of h e

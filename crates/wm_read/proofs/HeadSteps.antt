@@ -4,10 +4,11 @@ use Rattle.std.proofs.lemmas.Bool.{cond-true, cond-false, and_from}
 use Rattle.wm_syntax.specs.declared.modules.ExportKind.{ExportKind}
 use Rattle.wm_syntax.specs.declared.modules.ExportKind.TheVariants as kind
 use Rattle.wm_syntax.specs.Types.{Signature}
+use Rattle.wm_syntax.specs.declared.profile.Profile.{Profile}
 use Rattle.wm_read.specs.Tokens.{Token, open_paren, close_paren, string, atom}
 use Rattle.wm_read.specs.Identifiers.{Id, Ids, AreDistinct, WritesId}
 use Rattle.wm_read.specs.Written.{Names}
-use Rattle.wm_read.specs.Fields.{HasDistinct, WritesName, WritesSignature}
+use Rattle.wm_read.specs.Fields.{HasDistinct, WritesName}
 use Rattle.wm_read.specs.declared.fields.words.FieldKind.{FieldKind}
 use Rattle.wm_read.specs.declared.fields.words.FieldKind.TheVariants as field
 use Rattle.wm_read.specs.exact.Fields.{field_named, is_new, item_named, name_at, space_of}
@@ -20,7 +21,7 @@ use Rattle.wm_read.proofs.DistinctIds.{new_distinct}
 use Rattle.wm_read.proofs.FieldParts.{name_sound}
 use Rattle.wm_read.proofs.Immediates.{id_sound}
 use Rattle.wm_read.proofs.Readers.{Sound, bind_ok, bind_is}
-use Rattle.wm_read.proofs.SignatureLaws.{signature_sound}
+use Rattle.wm_read.proofs.SignatureLaws.{OfSignature, signature_sound}
 
 -- ---- skipping
 
@@ -121,14 +122,14 @@ record Step (s t : Noted) (j k : List Token) : Type 0 where
   size : length k ≤ length j
   distinct : HasDistinct s.names → HasDistinct t.names
 
-type_step : (s t : Noted) (j k : List Token) → type_head_at s j ≡ Some (t, k) → Step s t j k
-type_step s t j k e =
+type_step : (pr : Profile) (s t : Noted) (j k : List Token) → type_head_at pr s j ≡ Some (t, k) → Step s t j k
+type_step pr s t j k e =
     let i = bind_ok (free_id_at s.names.types j) _ (t, k) e in
-    let f = bind_ok (signature_at i.0.1) _ (t, k) i.2 in
+    let f = bind_ok (signature_at pr i.0.1) _ (t, k) i.2 in
     let c = bind_ok (close_at f.0.1) _ (t, k) f.2 in
     let is : ◌≡◌ {A = Noted × List Token} (record s { names = with_type s.names i.0.0 f.0.0 }, c.0.1) (t, k) = same_some _ (t, k) c.2 in
     let free = free_found s.names.types j i.0 i.1 in
-    let b = behind signature_at WritesSignature signature_sound i.0.1 f.0.0 f.0.1 f.1 in
+    let b = behind (signature_at pr) (OfSignature pr) (signature_sound pr) i.0.1 f.0.0 f.0.1 f.1 in
     let l = closed f.0.1 c.0 c.1 in
     subst (λ (z : Noted × List Token). Step s z.0 j z.1) is (record {
       size = omega (arith, free.1, b, l);
@@ -188,75 +189,75 @@ placed : (t : Bool) (o : Option (Noted × List Token)) (x : Noted × List Token)
 placed true o x e = absurd (let f : ◌≡◌ {A = Option (Noted × List Token)} None (Some x) = e in cc)
 placed false o x e = e
 
-by_step : (w : FieldKind) (s t : Noted) (j k : List Token) → head_by w s j ≡ Some (t, k) → Step s t j k
+by_step : (pr : Profile) (w : FieldKind) (s t : Noted) (j k : List Token) → head_by pr w s j ≡ Some (t, k) → Step s t j k
 unfolding head_by
-by_step field.Type s t j k e = type_step s t j k e
-by_step field.Import s t j k e = import_step s t j k (placed s.defined (import_head_at s j) (t, k) e)
-by_step field.Func s t j k e = item_step kind.Func s t j k e
-by_step field.Table s t j k e = item_step kind.Table s t j k e
-by_step field.Memory s t j k e = item_step kind.Memory s t j k e
-by_step field.Global s t j k e = item_step kind.Global s t j k e
-by_step field.Start s t j k e = start_step s t j k (placed s.started (start_head_at s j) (t, k) e)
-by_step field.Export s t j k e = other_step s t j k e
-by_step field.Elem s t j k e = other_step s t j k e
-by_step field.Data s t j k e = other_step s t j k e
+by_step pr field.Type s t j k e = type_step pr s t j k e
+by_step pr field.Import s t j k e = import_step s t j k (placed s.defined (import_head_at s j) (t, k) e)
+by_step pr field.Func s t j k e = item_step kind.Func s t j k e
+by_step pr field.Table s t j k e = item_step kind.Table s t j k e
+by_step pr field.Memory s t j k e = item_step kind.Memory s t j k e
+by_step pr field.Global s t j k e = item_step kind.Global s t j k e
+by_step pr field.Start s t j k e = start_step s t j k (placed s.started (start_head_at s j) (t, k) e)
+by_step pr field.Export s t j k e = other_step s t j k e
+by_step pr field.Elem s t j k e = other_step s t j k e
+by_step pr field.Data s t j k e = other_step s t j k e
 
-head_step : (s t : Noted) (j k : List Token) → head_at s j ≡ Some (t, k) → (length k < length j) × (HasDistinct s.names → HasDistinct t.names)
+head_step : (pr : Profile) (s t : Noted) (j k : List Token) → head_at pr s j ≡ Some (t, k) → (length k < length j) × (HasDistinct s.names → HasDistinct t.names)
 unfolding head_at
-head_step s t j k e =
+head_step pr s t j k e =
     let o = bind_ok (open_at j) _ (t, k) e in
     let w = bind_ok (atom_at field_named o.0.1) _ (t, k) o.2 in
-    let step = by_step w.0.0 s t w.0.1 k w.2 in
+    let step = by_step pr w.0.0 s t w.0.1 k w.2 in
     let a = opened j o.0 o.1 in
     let b = worded field_named o.0.1 w.0 w.1 in
     (omega (arith, step.size, a, b), step.distinct)
 
-pub head_shrinks : (s t : Noted) (j k : List Token) → head_at s j ≡ Some (t, k) → length k < length j
-head_shrinks s t j k e = (head_step s t j k e).0
+pub head_shrinks : (pr : Profile) (s t : Noted) (j k : List Token) → head_at pr s j ≡ Some (t, k) → length k < length j
+head_shrinks pr s t j k e = (head_step pr s t j k e).0
 
 -- ---- all heads
 
 -- any fuel that is enough
-any_fuel : (m n : ℕ) (s : Noted) (k : List Token) → length k < m → length k < n → heads_within m s k ≡ heads_within n s k
-any_fuel zero n s k lm ln = absurd (omega (arith, lm))
-any_fuel (suc m) zero s k lm ln = absurd (omega (arith, ln))
-any_fuel (suc m) (suc n) s k lm ln =
+any_fuel : (pr : Profile) (m n : ℕ) (s : Noted) (k : List Token) → length k < m → length k < n → heads_within pr m s k ≡ heads_within pr n s k
+any_fuel pr zero n s k lm ln = absurd (omega (arith, lm))
+any_fuel pr (suc m) zero s k lm ln = absurd (omega (arith, ln))
+any_fuel pr (suc m) (suc n) s k lm ln =
     ap (λ (o : Option (Noted × List Token)). cond (begins_open k) o (Some (s, k)))
-    (by (λ x e. let l = head_shrinks s x.0 k x.1 e in any_fuel m n x.0 x.1 (omega (arith, l, lm)) (omega (arith, l, ln))) (head_at s k) refl)
+    (by (λ x e. let l = head_shrinks pr s x.0 k x.1 e in any_fuel pr m n x.0 x.1 (omega (arith, l, lm)) (omega (arith, l, ln))) (head_at pr s k) refl)
   where
-    by : ((x : Noted × List Token) → head_at s k ≡ Some x → heads_within m x.0 x.1 ≡ heads_within n x.0 x.1) → (o : Option (Noted × List Token)) → head_at s k ≡ o
-        → ◌>>=◌ {B = Noted × List Token} o (λ x. heads_within m x.0 x.1) ≡ ◌>>=◌ {B = Noted × List Token} o (λ x. heads_within n x.0 x.1)
+    by : ((x : Noted × List Token) → head_at pr s k ≡ Some x → heads_within pr m x.0 x.1 ≡ heads_within pr n x.0 x.1) → (o : Option (Noted × List Token)) → head_at pr s k ≡ o
+        → ◌>>=◌ {B = Noted × List Token} o (λ x. heads_within pr m x.0 x.1) ≡ ◌>>=◌ {B = Noted × List Token} o (λ x. heads_within pr n x.0 x.1)
     by f None e = refl
     by f (Some x) e = f x e
 
-more : (s t : Noted) (j k : List Token) → begins_open j ≡ true → head_at s j ≡ Some (t, k) → heads_at s j ≡ heads_at t k
+more : (pr : Profile) (s t : Noted) (j k : List Token) → begins_open j ≡ true → head_at pr s j ≡ Some (t, k) → heads_at pr s j ≡ heads_at pr t k
 unfolding heads_at
-more s t j k b e =
-    let l = head_shrinks s t j k e in
-    cond-true (begins_open j) _ _ b ∙ bind_is (head_at s j) (λ x. heads_within (length j) x.0 x.1) (t, k) e ∙ any_fuel (length j) (suc (length k)) t k l (omega arith)
+more pr s t j k b e =
+    let l = head_shrinks pr s t j k e in
+    cond-true (begins_open j) _ _ b ∙ bind_is (head_at pr s j) (λ x. heads_within pr (length j) x.0 x.1) (t, k) e ∙ any_fuel pr (length j) (suc (length k)) t k l (omega arith)
 
-pub heads_more : (s t : Noted) (j k : List Token) → true ≡ begins_open j → head_at s j ≡ Some (t, k) → names_in (heads_at s j) ≡ names_in (heads_at t k)
-heads_more s t j k b e = ap names_in (more s t j k (sym b) e)
+pub heads_more : (pr : Profile) (s t : Noted) (j k : List Token) → true ≡ begins_open j → head_at pr s j ≡ Some (t, k) → names_in (heads_at pr s j) ≡ names_in (heads_at pr t k)
+heads_more pr s t j k b e = ap names_in (more pr s t j k (sym b) e)
 
-pub heads_fail : (s : Noted) (j : List Token) → true ≡ begins_open j → head_at s j ≡ None → names_in (heads_at s j) ≡ None
+pub heads_fail : (pr : Profile) (s : Noted) (j : List Token) → true ≡ begins_open j → head_at pr s j ≡ None → names_in (heads_at pr s j) ≡ None
 unfolding heads_at
-heads_fail s j b e = ap names_in (cond-true (begins_open j) _ _ (sym b) ∙ ap (λ (o : Option (Noted × List Token)). ◌>>=◌ {B = Noted × List Token} o (λ x. heads_within (length j) x.0 x.1)) e)
+heads_fail pr s j b e = ap names_in (cond-true (begins_open j) _ _ (sym b) ∙ ap (λ (o : Option (Noted × List Token)). ◌>>=◌ {B = Noted × List Token} o (λ x. heads_within pr (length j) x.0 x.1)) e)
 
-pub heads_over : (s : Noted) (j : List Token) → false ≡ begins_open j → names_in (heads_at s j) ≡ Some (s.names, j)
+pub heads_over : (pr : Profile) (s : Noted) (j : List Token) → false ≡ begins_open j → names_in (heads_at pr s j) ≡ Some (s.names, j)
 unfolding heads_at
-heads_over s j b = ap names_in (cond-false (begins_open j) _ _ (sym b))
+heads_over pr s j b = ap names_in (cond-false (begins_open j) _ _ (sym b))
 
 pub ruleset heads_laws = (heads_more, heads_fail, heads_over, head_shrinks)
 
-within_distinct : (n : ℕ) (s t : Noted) (j k : List Token) → heads_within n s j ≡ Some (t, k) → HasDistinct s.names → HasDistinct t.names
-within_distinct zero s t j k e d = absurd cc
-within_distinct (suc n) s t j k e d = elim (chosen (begins_open j) _ (Some (s, j)) (Some (t, k)) e) [
+within_distinct : (pr : Profile) (n : ℕ) (s t : Noted) (j k : List Token) → heads_within pr n s j ≡ Some (t, k) → HasDistinct s.names → HasDistinct t.names
+within_distinct pr zero s t j k e d = absurd cc
+within_distinct pr (suc n) s t j k e d = elim (chosen (begins_open j) _ (Some (s, j)) (Some (t, k)) e) [
   | inl p ↦ (
-      let h = bind_ok (head_at s j) (λ x. heads_within n x.0 x.1) (t, k) p.1 in
-      within_distinct n h.0.0 t h.0.1 k h.2 ((head_step s h.0.0 j h.0.1 h.1).1 d))
+      let h = bind_ok (head_at pr s j) (λ x. heads_within pr n x.0 x.1) (t, k) p.1 in
+      within_distinct pr n h.0.0 t h.0.1 k h.2 ((head_step pr s h.0.0 j h.0.1 h.1).1 d))
   | inr p ↦ (let is : ◌≡◌ {A = Noted × List Token} (s, j) (t, k) = same_some (s, j) (t, k) p.1 in subst (λ (z : Noted × List Token). HasDistinct z.0.names) is d)
 ]
 
-pub heads_distinct : (s t : Noted) (j k : List Token) → heads_at s j ≡ Some (t, k) → HasDistinct s.names → HasDistinct t.names
+pub heads_distinct : (pr : Profile) (s t : Noted) (j k : List Token) → heads_at pr s j ≡ Some (t, k) → HasDistinct s.names → HasDistinct t.names
 unfolding heads_at
-heads_distinct s t j k e d = within_distinct (suc (length j)) s t j k e d
+heads_distinct pr s t j k e d = within_distinct pr (suc (length j)) s t j k e d

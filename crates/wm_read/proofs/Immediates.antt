@@ -1,19 +1,21 @@
 -- Constants, memory arguments, block types, labels: what is read is written so, and what is written so is read.
-use Rattle.std.proofs.Common.{◌≡◌, ℕ, zero, suc, ◌<◌, ◌≤◌, ◌-◌, ◌⊎◌, Bool, true, false, List, [], ◌∷◌, ◌++◌, Option, Some, None, refl, sym, ap, subst, ◌∙◌, inl, inr, arith}
+use Rattle.std.proofs.Common.{◌≡◌, ℕ, zero, suc, ◌<◌, ◌≤◌, ◌-◌, ◌⊎◌, Bool, true, false, cond, List, [], ◌∷◌, ◌++◌, Option, Some, None, refl, sym, ap, subst, ◌∙◌, inl, inr, arith}
 use Rattle.std.specs.Prelude.{codes, ◌==◌, ◌&&◌, ◌^◌, nat_lt, nat_le, not, ℤ, pos, neg_ℤ, ◌-ℤ◌, ◌≢◌}
 use Rattle.std.proofs.lemmas.Bool.{cond-true, cond-false, eqb-true, eq-eqb, and_parts, ltb-true, lt-ltb, ltb-false, leb-true, le-leb, le-ltb, and_left, ne_eqb, eqb-false}
 use Rattle.std.proofs.lemmas.Nat.{pow_below}
 use Rattle.std.proofs.Math.Pow.{pow_mono}
 use Rattle.wm_syntax.specs.Spelling.{Form, Each}
 use Rattle.wm_syntax.specs.declared.types.ValType.{ValType}
-use Rattle.wm_syntax.specs.declared.types.ValType.TheVariants.{I32, I64}
+use Rattle.wm_syntax.specs.declared.types.ValType.TheVariants.{I32, I64, F32, F64}
+use Rattle.wm_syntax.specs.declared.profile.Profile.{Profile}
+use Rattle.wm_syntax.specs.Profiles.{HasBlockType, HasType, has, type_feature}
 use Rattle.wm_read.specs.Tokens.{Token, open_paren, close_paren, string, atom, is_lower, is_digit, digit_value, Digits, IsInteger, IsIdentifier, Magnitude}
 use Rattle.wm_read.specs.exact.Scan.{magnitude_of}
 use Rattle.wm_read.proofs.Basics.{chosen, same_some, same_head}
 use Rattle.wm_read.proofs.Atoms.{magnitude_more, magnitude_found}
 use Rattle.wm_read.specs.Identifiers.{Id, Ids, WritesId, IsLabel, ResolvesLabel}
 use Rattle.wm_read.specs.Written.{Paren, WritesType, type_text, WritesBlockType, WritesInteger, WritesKey, WritesAccess, Closes}
-use Rattle.wm_read.specs.exact.Reading.{◌>>=◌, same_bytes, atom_at, unsigned_of, plain_of, plus_of, minus_of, integer_of, type_of, is_id, is_word, id_at, index_of, made, then_at, paren_at, block_type_at, again_at, is_same_id, after_key, key_by, key_at, exponent_below, exponent_of, align_at, memarg, access_at, begins_index, labels_at}
+use Rattle.wm_read.specs.exact.Reading.{◌>>=◌, same_bytes, atom_at, unsigned_of, plain_of, plus_of, minus_of, integer_of, type_named, type_of, is_id, is_word, id_at, index_of, made, then_at, paren_at, block_type_at, again_at, is_same_id, after_key, key_by, key_at, exponent_below, exponent_of, align_at, memarg, access_at, begins_index, labels_at}
 use Rattle.wm_read.proofs.Readers.{Sound, Complete, Any, Both, bind_ok, bind_is, same_is, is_same, atom_sound, atom_complete, then_sound, then_complete, paren_sound, paren_complete, made_sound, made_is}
 use Rattle.wm_read.proofs.Indices.{id_is, is_identifier, unsigned_found, unsigned_more, label_found, label_more}
 
@@ -253,51 +255,105 @@ abbrev pub NotOpen : List Token → Type 0
 NotOpen (open_paren ∷ k) = ⊥
 NotOpen _ = Unit {0}
 
-pub type_found : (a : List ℕ) (t : ValType) → type_of a ≡ Some t → a ≡ type_text t
-type_found a t e = elim (chosen (same_bytes a (type_text I32)) _ _ (Some t) e) [
+named_found : (a : List ℕ) (t : ValType) → type_named a ≡ Some t → a ≡ type_text t
+named_found a t e = elim (chosen (same_bytes a (type_text I32)) _ _ (Some t) e) [
   | inl p ↦ (same_is a (type_text I32) p.0 ∙ ap type_text (same_some I32 t p.1))
   | inr p ↦ elim (chosen (same_bytes a (type_text I64)) _ _ (Some t) p.1) [
     | inl q ↦ (same_is a (type_text I64) q.0 ∙ ap type_text (same_some I64 t q.1))
-    | inr q ↦ absurd (let f : ◌≡◌ {A = Option ValType} None (Some t) = q.1 in cc)
+    | inr q ↦ elim (chosen (same_bytes a (type_text F32)) _ _ (Some t) q.1) [
+      | inl r ↦ (same_is a (type_text F32) r.0 ∙ ap type_text (same_some F32 t r.1))
+      | inr r ↦ elim (chosen (same_bytes a (type_text F64)) _ _ (Some t) r.1) [
+        | inl u ↦ (same_is a (type_text F64) u.0 ∙ ap type_text (same_some F64 t u.1))
+        | inr u ↦ absurd (let f : ◌≡◌ {A = Option ValType} None (Some t) = u.1 in cc)
+      ]
+    ]
   ]
 ]
 
-pub type_more : (a : List ℕ) (t : ValType) → a ≡ type_text t → type_of a ≡ Some t
-type_more a I32 e = ap type_of e
-type_more a I64 e = ap type_of e
+named_more : (a : List ℕ) (t : ValType) → a ≡ type_text t → type_named a ≡ Some t
+named_more a I32 e = ap type_named e
+named_more a I64 e = ap type_named e
+named_more a F32 e = ap type_named e
+named_more a F64 e = ap type_named e
 
-abbrev pub IsType : ValType → List ℕ → Type 0
-IsType t a = a ≡ type_text t
+-- the word of a value type of the profile
+abbrev pub IsType : Profile → ValType → List ℕ → Type 0
+IsType pr t a = (a ≡ type_text t) × HasType pr t
 
-pub type_sound : Sound (atom_at type_of) WritesType
-type_sound k t rest e = let g = atom_sound type_of IsType type_found k t rest e in (g.0, g.1, g.2.1 ∙ ap (λ (a : List ℕ). atom a ∷ []) g.2.2)
+pub type_found : (pr : Profile) (a : List ℕ) (t : ValType) → type_of pr a ≡ Some t → IsType pr t a
+type_found pr a t e =
+    let g = bind_ok (type_named a) _ t e in
+    elim (chosen (has pr (type_feature g.0)) (Some g.0) None (Some t) g.2) [
+      | inl q ↦ (let is = same_some g.0 t q.1 in (named_found a t (g.1 ∙ ap Some is), subst (HasType pr) is q.0))
+      | inr q ↦ absurd (let f : ◌≡◌ {A = Option ValType} None (Some t) = q.1 in cc)
+    ]
 
-pub type_complete : Complete (atom_at type_of) WritesType Any
-type_complete t front rest e f = atom_complete type_of IsType type_more t front rest (type_text t, e, refl) f
+pub type_more : (pr : Profile) (a : List ℕ) (t : ValType) → IsType pr t a → type_of pr a ≡ Some t
+type_more pr a t (e, of) = bind_is (type_named a) _ t (named_more a t e) ∙ cond-true (has pr (type_feature t)) (Some t) None of
 
-pub block_type_sound : Sound block_type_at WritesBlockType
-block_type_sound [] x rest e = let p = same_some (None, []) (x, rest) e in ([], ap (λ (z : Option ValType × List Token). z.1) p, subst (λ (z : Option ValType × List Token). WritesBlockType z.0 []) p refl)
-block_type_sound (close_paren ∷ k) x rest e = let p = same_some (None, close_paren ∷ k) (x, rest) e in ([], ap (λ (z : Option ValType × List Token). z.1) p, subst (λ (z : Option ValType × List Token). WritesBlockType z.0 []) p refl)
-block_type_sound (string b ∷ k) x rest e = let p = same_some (None, string b ∷ k) (x, rest) e in ([], ap (λ (z : Option ValType × List Token). z.1) p, subst (λ (z : Option ValType × List Token). WritesBlockType z.0 []) p refl)
-block_type_sound (atom a ∷ k) x rest e = let p = same_some (None, atom a ∷ k) (x, rest) e in ([], ap (λ (z : Option ValType × List Token). z.1) p, subst (λ (z : Option ValType × List Token). WritesBlockType z.0 []) p refl)
-block_type_sound (open_paren ∷ k) x rest e =
-    made_sound Some (paren_at (codes "result") (atom_at type_of)) (λ t. Paren (codes "result") (WritesType t)) WritesBlockType
-    (paren_sound (codes "result") (atom_at type_of) WritesType type_sound) (λ t front h. h) (open_paren ∷ k) x rest e
+-- as the code reads a word
+pub type_has : (pr : Profile) (a : List ℕ) (t : ValType) → Some t ≡ type_named a → has pr (type_feature t) ≡ true → Some t ≡ type_of pr a
+type_has pr a t e h = sym (bind_is (type_named a) _ t (sym e) ∙ cond-true (has pr (type_feature t)) (Some t) None h)
 
-pub block_type_complete : Complete block_type_at WritesBlockType NotOpen
-block_type_complete None front rest e f = ap (λ (z : List Token). block_type_at (z ++ rest)) e ∙ by rest f
+pub type_lacks : (pr : Profile) (a : List ℕ) (t : ValType) → Some t ≡ type_named a → has pr (type_feature t) ≡ false → None ≡ type_of pr a
+type_lacks pr a t e h = sym (bind_is (type_named a) _ t (sym e) ∙ cond-false (has pr (type_feature t)) (Some t) None h)
+
+pub type_none : (pr : Profile) (a : List ℕ) → None ≡ type_named a → None ≡ type_of pr a
+type_none pr a e = ap (λ (o : Option ValType). ◌>>=◌ {B = ValType} o (λ t. cond (has pr (type_feature t)) (Some t) None)) e
+
+pub ruleset type_laws = (type_has, type_lacks, type_none)
+
+-- the tokens of a value type of the profile
+abbrev pub OfType : Profile → ValType → Form Token
+OfType pr t k = WritesType t k × HasType pr t
+
+pub type_sound : (pr : Profile) → Sound (atom_at (type_of pr)) (OfType pr)
+type_sound pr k t rest e =
+    let g = atom_sound (type_of pr) (IsType pr) (type_found pr) k t rest e in
+    (g.0, g.1, (g.2.1 ∙ ap (λ (a : List ℕ). atom a ∷ []) g.2.2.0, g.2.2.1))
+
+pub type_complete : (pr : Profile) → Complete (atom_at (type_of pr)) (OfType pr) Any
+type_complete pr t front rest h f = atom_complete (type_of pr) (IsType pr) (type_more pr) t front rest (type_text t, h.0, (refl, h.1)) f
+
+abbrev pub OfBlockType : Profile → Option ValType → Form Token
+OfBlockType pr t k = WritesBlockType t k × HasBlockType pr t
+
+no_block_type : (pr : Profile) (k : List Token) (x : Option ValType) (rest : List Token) → ◌≡◌ {A = Option (Option ValType × List Token)} (Some (None, k)) (Some (x, rest))
+    → (front : List Token) × (k ≡ front ++ rest) × OfBlockType pr x front
+no_block_type pr k x rest e =
+    let p = same_some (None, k) (x, rest) e in
+    ([], ap (λ (z : Option ValType × List Token). z.1) p, subst (λ (z : Option ValType × List Token). OfBlockType pr z.0 []) p (refl, tt))
+
+-- a result in its parentheses
+result_from : (pr : Profile) (t : ValType) (front : List Token) → Paren (codes "result") (OfType pr t) front → OfBlockType pr (Some t) front
+result_from pr t front (a, b, e, is, (c, d, e2, w, last)) = ((a, b, e, is, (c, d, e2, w.0, last)), w.1)
+
+result_to : (pr : Profile) (t : ValType) (front : List Token) → OfBlockType pr (Some t) front → Paren (codes "result") (OfType pr t) front
+result_to pr t front ((a, b, e, is, (c, d, e2, w, last)), of) = (a, b, e, is, (c, d, e2, (w, of), last))
+
+pub block_type_sound : (pr : Profile) → Sound (block_type_at pr) (OfBlockType pr)
+block_type_sound pr [] x rest e = no_block_type pr [] x rest e
+block_type_sound pr (close_paren ∷ k) x rest e = no_block_type pr (close_paren ∷ k) x rest e
+block_type_sound pr (string b ∷ k) x rest e = no_block_type pr (string b ∷ k) x rest e
+block_type_sound pr (atom a ∷ k) x rest e = no_block_type pr (atom a ∷ k) x rest e
+block_type_sound pr (open_paren ∷ k) x rest e =
+    made_sound Some (paren_at (codes "result") (atom_at (type_of pr))) (λ t. Paren (codes "result") (OfType pr t)) (OfBlockType pr)
+    (paren_sound (codes "result") (atom_at (type_of pr)) (OfType pr) (type_sound pr)) (result_from pr) (open_paren ∷ k) x rest e
+
+pub block_type_complete : (pr : Profile) → Complete (block_type_at pr) (OfBlockType pr) NotOpen
+block_type_complete pr None front rest h f = ap (λ (z : List Token). block_type_at pr (z ++ rest)) h.0 ∙ by rest f
   where
-    by : (rest : List Token) → NotOpen rest → block_type_at rest ≡ Some (None, rest)
+    by : (rest : List Token) → NotOpen rest → block_type_at pr rest ≡ Some (None, rest)
     by [] f = refl
     by (close_paren ∷ k) f = refl
     by (string b ∷ k) f = refl
     by (atom a ∷ k) f = refl
     by (open_paren ∷ k) f = absurd f
-block_type_complete (Some t) front rest w f =
-    begins (front ++ rest) (opens front w) ∙ made_is Some (paren_at (codes "result") (atom_at type_of) (front ++ rest)) t rest
-    (paren_complete (codes "result") (atom_at type_of) WritesType (λ u g r h i. type_complete u g r h tt) t front rest w tt)
+block_type_complete pr (Some t) front rest h f =
+    begins (front ++ rest) (opens front h.0) ∙ made_is Some (paren_at (codes "result") (atom_at (type_of pr)) (front ++ rest)) t rest
+    (paren_complete (codes "result") (atom_at (type_of pr)) (OfType pr) (λ u g r i j. type_complete pr u g r i tt) t front rest (result_to pr t front h) tt)
   where
-    begins : (k : List Token) → (l : List Token) × (k ≡ open_paren ∷ l) → block_type_at k ≡ made Some (paren_at (codes "result") (atom_at type_of) k)
+    begins : (k : List Token) → (l : List Token) × (k ≡ open_paren ∷ l) → block_type_at pr k ≡ made Some (paren_at (codes "result") (atom_at (type_of pr)) k)
     begins [] (l, e) = cc
     begins (open_paren ∷ k) h = refl
     begins (close_paren ∷ k) (l, e) = cc

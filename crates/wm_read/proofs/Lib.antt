@@ -9,6 +9,7 @@ pub mod Places
 pub mod Checks
 pub mod Readers
 pub mod Indices
+pub mod Floats
 pub mod Immediates
 pub mod PieceLaws
 pub mod BodyLaws
@@ -43,6 +44,7 @@ pub mod TextLaws
 pub mod Spaces
 pub mod PrintedNumbers
 pub mod PrintedTokens
+pub mod PrintedFloats
 pub mod PrintedForms
 pub mod PrintedRanges
 pub mod PrintedBodies

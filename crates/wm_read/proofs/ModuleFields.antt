@@ -11,7 +11,7 @@ use Rattle.wm_syntax.specs.declared.instructions.Op.{Op}
 use Rattle.wm_syntax.specs.declared.profile.Profile.{Profile}
 use Rattle.wm_syntax.specs.inner.Building.{tree_of}
 use Rattle.wm_read.specs.Tokens.{Token, open_paren, close_paren, string, atom}
-use Rattle.wm_read.specs.Written.{Named, Names, Scope, WritesGroups, ids_of, types_of}
+use Rattle.wm_read.specs.Written.{Named, Names, Scope, ids_of, types_of}
 use Rattle.std.specs.Prelude.{codes}
 use Rattle.wm_read.specs.Fields.{Field, type_field, import_field, function_field, table_field, memory_field, global_field, export_field, start_field, element_field, segment_field, module_of}
 use Rattle.wm_read.specs.declared.fields.words.FieldKind.{FieldKind}
@@ -25,7 +25,7 @@ use Rattle.wm_read.specs.Written.{Paren, TypeUse}
 use Rattle.wm_read.proofs.Basics.{chosen, same_some}
 use Rattle.wm_read.proofs.FieldLaws.{OfKind, field_front}
 use Rattle.wm_read.proofs.Groups.{many_is}
-use Rattle.wm_read.proofs.NamedGroups.{groups_are_written}
+use Rattle.wm_read.proofs.NamedGroups.{OfGroups, groups_are_written}
 use Rattle.wm_read.proofs.NamedUses.{uses_are_written}
 use Rattle.wm_read.proofs.PieceLaws.{piece_sound}
 use Rattle.wm_read.proofs.Readers.{Sound, bind_is, bind_ok, then_sound}
@@ -33,12 +33,12 @@ use Rattle.wm_read.proofs.TypeUseLaws.{call_sound}
 
 -- ---- what is read stands in front, whatever the names are
 
-ops_front : (p : Profile) (sc : Scope) (n : ℕ) (bs : Opened) (k : List Token) (ops : List Op) (rest : List Token) → ops_within (call_use_at sc.names) p sc n bs k ≡ Some (ops, rest) → (front : List Token) × (k ≡ front ++ rest)
+ops_front : (p : Profile) (sc : Scope) (n : ℕ) (bs : Opened) (k : List Token) (ops : List Op) (rest : List Token) → ops_within (call_use_at p sc.names) p sc n bs k ≡ Some (ops, rest) → (front : List Token) × (k ≡ front ++ rest)
 ops_front p sc zero bs k ops rest e = absurd cc
 ops_front p sc (suc n) bs (atom w ∷ k) ops rest e =
-    let a = bind_ok (piece_at (call_use_at sc.names) p sc bs w k) (λ x. ops_within (call_use_at sc.names) p sc n (after bs x.0) x.1 >>= λ y. Some (piece_ops x.0 ++ y.0, y.1)) (ops, rest) e in
-    let b = bind_ok (ops_within (call_use_at sc.names) p sc n (after bs a.0.0) a.0.1) (λ y. Some (piece_ops a.0.0 ++ y.0, y.1)) (ops, rest) a.2 in
-    let one = piece_sound (call_use_at sc.names) sc (call_sound sc.names) p bs w k a.0.0 a.0.1 a.1 in
+    let a = bind_ok (piece_at (call_use_at p sc.names) p sc bs w k) (λ x. ops_within (call_use_at p sc.names) p sc n (after bs x.0) x.1 >>= λ y. Some (piece_ops x.0 ++ y.0, y.1)) (ops, rest) e in
+    let b = bind_ok (ops_within (call_use_at p sc.names) p sc n (after bs a.0.0) a.0.1) (λ y. Some (piece_ops a.0.0 ++ y.0, y.1)) (ops, rest) a.2 in
+    let one = piece_sound (call_use_at p sc.names) sc (call_sound p sc.names) p bs w k a.0.0 a.0.1 a.1 in
     let two = ops_front p sc n (after bs a.0.0) a.0.1 b.0.0 b.0.1 b.1 in
     let is : ◌≡◌ {A = List Op × List Token} (piece_ops a.0.0 ++ b.0.0, b.0.1) (ops, rest) = same_some (piece_ops a.0.0 ++ b.0.0, b.0.1) (ops, rest) b.2 in
     (atom w ∷ (one.0 ++ two.0), ap (λ (z : List Token). atom w ∷ z) (one.1 ∙ ap (λ (z : List Token). one.0 ++ z) two.1 ∙ sym (append_assoc one.0 two.0 b.0.1)) ∙ ap (λ (z : List Op × List Token). (atom w ∷ (one.0 ++ two.0)) ++ z.1) is)
@@ -60,8 +60,8 @@ IsUse names y = TypeUse names y.0 y.1
 function_front : (p : Profile) (names : Names) → Sound (function_at p names) AnyFunction
 unfolding function_at ops_at
 function_front p names k f rest e =
-    let a = bind_ok (head_at names k) (λ h. function_by p names h.0.0.0 h.0.0.1 h.0.1 h.1) (f, rest) e in
-    let one = then_sound (named_use_at names) (named_at (codes "local")) (IsUse names) (WritesGroups (codes "local")) (uses_are_written names) (groups_are_written (codes "local")) k a.0.0 a.0.1 a.1 in
+    let a = bind_ok (head_at p names k) (λ h. function_by p names h.0.0.0 h.0.0.1 h.0.1 h.1) (f, rest) e in
+    let one = then_sound (named_use_at p names) (named_at p (codes "local")) (IsUse names) (OfGroups p (codes "local")) (uses_are_written p names) (groups_are_written p (codes "local")) k a.0.0 a.0.1 a.1 in
     elim (chosen (is_function a.0.0.0.1 a.0.0.1) (function_of a.0.0.0.0 a.0.0.0.1 a.0.0.1 p names a.0.1) None (Some (f, rest)) a.2) [
       | inl t ↦ by a.0.0.0.0 a.0.0.0.1 a.0.0.1 a.0.1 one.0 one.1 t.1
       | inr t ↦ absurd (let n : ◌≡◌ {A = Option (Function × List Token)} None (Some (f, rest)) = t.1 in cc)
@@ -71,20 +71,20 @@ function_front p names k f rest e =
     by x params locals j front text h =
         let sc : Scope = record { names = names; locals = ids_of (params ++ locals) } in
         let b = bind_ok (instructions_at p sc j) (λ b. Some (record { type_index = x; locals = types_of locals; body = b.0 }, b.1)) (f, rest) h in
-        let c = bind_ok (ops_at (call_use_at names) p sc [] j) (λ y. Some (tree_of y.0, y.1)) b.0 b.1 in
+        let c = bind_ok (ops_at (call_use_at p names) p sc [] j) (λ y. Some (tree_of y.0, y.1)) b.0 b.1 in
         let g = ops_front p sc (suc (length j)) [] j c.0.0 c.0.1 c.1 in
         let left : c.0.1 ≡ rest =
         ap (λ (z : Instructions × List Token). z.1) (same_some (tree_of c.0.0, c.0.1) b.0 c.2)
         ∙ ap (λ (z : Function × List Token). z.1) (same_some (record { type_index = x; locals = types_of locals; body = b.0.0 }, b.0.1) (f, rest) b.2) in
         (front ++ g.0, text ∙ ap (λ (z : List Token). front ++ z) (g.1 ∙ ap (λ (z : List Token). g.0 ++ z) left) ∙ sym (append_assoc front g.0 rest), tt)
 
-abbrev IsField : Names → Field → Form Token
-IsField names f k = (x : FieldKind) × Paren (field_word x) (OfKind AnyFunction names x f) k
+abbrev IsField : Profile → Names → Field → Form Token
+IsField p names f k = (x : FieldKind) × Paren (field_word x) (OfKind p AnyFunction names x f) k
 
-some_tokens : (names : Names) (f : Field) (k : List Token) → IsField names f k → 0 < length k
-some_tokens names f k (x, (a, b, e, w, m)) = subst (λ (z : List Token). 0 < length z) (sym (e ∙ ap (λ (z : List Token). z ++ b) w)) (omega arith)
+some_tokens : (p : Profile) (names : Names) (f : Field) (k : List Token) → IsField p names f k → 0 < length k
+some_tokens p names f k (x, (a, b, e, w, m)) = subst (λ (z : List Token). 0 < length z) (sym (e ∙ ap (λ (z : List Token). z ++ b) w)) (omega arith)
 
-field_any : (p : Profile) (names : Names) → Sound (field_at p names) (IsField names)
+field_any : (p : Profile) (names : Names) → Sound (field_at p names) (IsField p names)
 field_any p names = field_front p names AnyFunction (function_front p names)
 
 -- ---- the loop of the code
@@ -107,9 +107,9 @@ step p names k b = cond-true (begins_open k) _ _ b ∙ by (field_at p names k) r
     by (Some x) e =
         let one = field_any p names k x.0 x.1 e in
         let size : length k ≡ length (one.0 ++ x.1) = ap length one.1 in
-        let s = some_tokens names x.0 one.0 one.2 in
+        let s = some_tokens p names x.0 one.0 one.2 in
         ap (λ (z : Option (List Field × List Token)). z >>= λ xs. Some (x.0 ∷ xs.0, xs.1))
-        (many_is begins_open (field_at p names) (IsField names) (field_any p names) (some_tokens names) (length k) (suc (length x.1)) x.1 (omega (arith, size, length-append one.0 x.1, s)) (omega arith))
+        (many_is begins_open (field_at p names) (IsField p names) (field_any p names) (some_tokens p names) (length k) (suc (length x.1)) x.1 (omega (arith, size, length-append one.0 x.1, s)) (omega arith))
 
 gather : (m : Module) (f : Field) (o : Option (List Field × List Token)) → after_fields m (o >>= λ xs. Some (f ∷ xs.0, xs.1)) ≡ after_fields (with_field m f) o
 gather m f None = refl
@@ -132,7 +132,7 @@ pub field_shrinks : (p : Profile) (names : Names) (f : Field) (j k : List Token)
 field_shrinks p names f j k e =
     let one = field_any p names j f k e in
     let size : length j ≡ length (one.0 ++ k) = ap length one.1 in
-    omega (arith, size, length-append one.0 k, some_tokens names f one.0 one.2)
+    omega (arith, size, length-append one.0 k, some_tokens p names f one.0 one.2)
 
 -- ---- what the fields have together
 

@@ -1,17 +1,20 @@
 -- Groups of parameters and of locals, with their identifiers.
 use Rattle.std.proofs.Common.{◌≡◌, ℕ, zero, suc, ◌+◌, ◌<◌, ◌⊎◌, true, false, List, [], ◌∷◌, ◌++◌, length, replicate, Option, Some, None, refl, sym, ap, subst, ◌∙◌, inl, inr, arith, append_assoc, length-append}
-use Rattle.std.proofs.lemmas.List.{append-nil, replicate_more}
+use Rattle.std.proofs.lemmas.List.{append-nil, map-append, replicate_more}
 use Rattle.std.proofs.lemmas.Bool.{cond-true, cond-false}
 use Rattle.wm_syntax.specs.Spelling.{Form, Each, ◌▸◌}
 use Rattle.wm_syntax.specs.declared.types.ValType.{ValType}
-use Rattle.wm_syntax.specs.declared.types.ValType.TheVariants.{I32, I64}
+use Rattle.wm_syntax.specs.declared.types.ValType.TheVariants.{I32, I64, F32, F64}
+use Rattle.wm_syntax.specs.declared.profile.Profile.{Profile}
+use Rattle.wm_syntax.specs.Profiles.{HasType}
+use Rattle.wm_syntax.proofs.ProfileLaws.{all_append, all_back, all_front}
 use Rattle.wm_read.specs.Tokens.{Token, open_paren, close_paren, string, atom}
 use Rattle.wm_read.specs.Identifiers.{WritesId}
-use Rattle.wm_read.specs.Written.{Named, Paren, WritesGroup, WritesGroups, WritesType, type_text, types_of}
+use Rattle.wm_read.specs.Written.{Named, Paren, WritesGroup, WritesGroups, type_text, types_of}
 use Rattle.wm_read.specs.exact.Reading.{◌>>=◌, made, is_id, atom_at, type_of, paren_at, many_at}
 use Rattle.wm_read.specs.exact.TypeUses.{types_at, begins_group, unnamed, inside_at, named_groups_at, named_at, joined_named, adding_named}
 use Rattle.wm_read.specs.declared.code.named.NamedRun.{NamedRun}
-use Rattle.wm_read.specs.declared.code.named.NamedRun.TheVariants.{One, Unnamed}
+use Rattle.wm_read.specs.declared.code.named.NamedRun.TheVariants.{Unnamed}
 use Rattle.std.specs.Prelude.{Result}
 use Rattle.wm_read.specs.declared.faults.TextFault.{TextFault}
 use Rattle.wm_read.specs.inner.Views.{Reads}
@@ -19,53 +22,69 @@ use Rattle.wm_read.specs.inner.Named.{named_of, named_list}
 use Rattle.wm_read.proofs.Basics.{chosen, same_some}
 use Rattle.wm_read.proofs.Readers.{Sound, Complete, Any, Begins, BeginsClose, bind_ok, bind_is, is_same, made_sound, made_is, paren_sound, paren_complete, many_sound, many_complete}
 use Rattle.wm_read.proofs.Groups.{NoAtom, fails_refused, many_is}
-use Rattle.wm_read.proofs.Immediates.{NotId, type_sound, type_complete}
+use Rattle.wm_read.proofs.Immediates.{NotId, OfType, type_sound, type_complete}
 use Rattle.wm_read.proofs.Indices.{id_is, is_identifier}
-use Rattle.wm_read.proofs.TypeUseLaws.{types_sound, types_complete}
+use Rattle.wm_read.proofs.TypeUseLaws.{AreOf, plain_types, types_complete, types_of_it, types_sound, types_unnamed}
 
--- what stands between a group's word and its closing parenthesis
-abbrev pub Inside : List Named → Form Token
-Inside group k =
-    ((name : List ℕ) × (t : ValType) × (group ≡ (Some name, t) ∷ []) × (WritesId (Some name) ▸ WritesType t) k)
-    ⊎ ((ts : List ValType) × (group ≡ unnamed ts) × Each WritesType ts k)
+-- what stands between a group's word and its closing parenthesis, with types of the profile
+abbrev pub Inside : Profile → List Named → Form Token
+Inside pr group k =
+    ((name : List ℕ) × (t : ValType) × (group ≡ (Some name, t) ∷ []) × (WritesId (Some name) ▸ OfType pr t) k)
+    ⊎ ((ts : List ValType) × (group ≡ unnamed ts) × Each (OfType pr) ts k)
+
+-- the types of parameters or locals are of the profile
+abbrev pub NamedOf : Profile → List Named → Type 0
+NamedOf pr ps = AreOf pr (types_of ps)
+
+abbrev pub OfGroup : Profile → List ℕ → List Named → Form Token
+OfGroup pr word group k = WritesGroup word group k × NamedOf pr group
+
+abbrev pub OfGroups : Profile → List ℕ → List Named → Form Token
+OfGroups pr word all k = WritesGroups word all k × NamedOf pr all
 
 -- a group is that in parentheses
-to_group : (word : List ℕ) (group : List Named) (k : List Token) → Paren word (Inside group) k → WritesGroup word group k
-to_group word group k (a, b, e, o, (f, c, e2, inl (name, t, g, w), l)) = inl (name, t, g, (a, b, e, o, (f, c, e2, w, l)))
-to_group word group k (a, b, e, o, (f, c, e2, inr (ts, g, w), l)) = inr (ts, g, (a, b, e, o, (f, c, e2, w, l)))
+to_group : (pr : Profile) (word : List ℕ) (group : List Named) (k : List Token) → Paren word (Inside pr group) k → OfGroup pr word group k
+to_group pr word group k (a, b, e, o, (f, c, e2, inl (name, t, g, (x, y, e3, i, w)), l)) =
+    (inl (name, t, g, (a, b, e, o, (f, c, e2, (x, y, e3, i, w.0), l))), subst (NamedOf pr) (sym g) (w.1, tt))
+to_group pr word group k (a, b, e, o, (f, c, e2, inr (ts, g, w), l)) =
+    let m = plain_types pr ts f w in
+    (inr (ts, g, (a, b, e, o, (f, c, e2, m.0, l))), subst (NamedOf pr) (sym g) (subst (AreOf pr) (sym (types_unnamed ts)) m.1))
 
-from_group : (word : List ℕ) (group : List Named) (k : List Token) → WritesGroup word group k → Paren word (Inside group) k
-from_group word group k (inl (name, t, g, (a, b, e, o, (f, c, e2, w, l)))) = (a, b, e, o, (f, c, e2, inl (name, t, g, w), l))
-from_group word group k (inr (ts, g, (a, b, e, o, (f, c, e2, w, l)))) = (a, b, e, o, (f, c, e2, inr (ts, g, w), l))
+from_group : (pr : Profile) (word : List ℕ) (group : List Named) (k : List Token) → OfGroup pr word group k → Paren word (Inside pr group) k
+from_group pr word group k (inl (name, t, g, (a, b, e, o, (f, c, e2, (x, y, e3, i, w), l))), of) =
+    let one : NamedOf pr ((Some name, t) ∷ []) = subst (NamedOf pr) g of in
+    (a, b, e, o, (f, c, e2, inl (name, t, g, (x, y, e3, i, (w, one.0))), l))
+from_group pr word group k (inr (ts, g, (a, b, e, o, (f, c, e2, w, l))), of) =
+    (a, b, e, o, (f, c, e2, inr (ts, g, types_of_it pr ts f w (subst (AreOf pr) (types_unnamed ts) (subst (NamedOf pr) g of))), l))
 
-unnamed_sound : Sound (λ k. made unnamed (types_at k)) Inside
-unnamed_sound = made_sound unnamed types_at (Each WritesType) Inside types_sound (λ ts front h. inr (ts, refl, h))
+unnamed_sound : (pr : Profile) → Sound (λ k. made unnamed (types_at pr k)) (Inside pr)
+unnamed_sound pr = made_sound unnamed (types_at pr) (Each (OfType pr)) (Inside pr) (types_sound pr) (λ ts front h. inr (ts, refl, h))
 
-inside_sound : Sound inside_at Inside
+inside_sound : (pr : Profile) → Sound (inside_at pr) (Inside pr)
 unfolding inside_at
-inside_sound [] x rest e = unnamed_sound [] x rest e
-inside_sound (open_paren ∷ k) x rest e = unnamed_sound (open_paren ∷ k) x rest e
-inside_sound (close_paren ∷ k) x rest e = unnamed_sound (close_paren ∷ k) x rest e
-inside_sound (string b ∷ k) x rest e = unnamed_sound (string b ∷ k) x rest e
-inside_sound (atom a ∷ k) x rest e = elim (chosen (is_id a) (◌>>=◌ {B = List Named × List Token} (atom_at type_of k) (λ t. Some ((Some a, t.0) ∷ [], t.1))) (made unnamed (types_at (atom a ∷ k))) (Some (x, rest)) e) [
+inside_sound pr [] x rest e = unnamed_sound pr [] x rest e
+inside_sound pr (open_paren ∷ k) x rest e = unnamed_sound pr (open_paren ∷ k) x rest e
+inside_sound pr (close_paren ∷ k) x rest e = unnamed_sound pr (close_paren ∷ k) x rest e
+inside_sound pr (string b ∷ k) x rest e = unnamed_sound pr (string b ∷ k) x rest e
+inside_sound pr (atom a ∷ k) x rest e = elim (chosen (is_id a) (◌>>=◌ {B = List Named × List Token} (atom_at (type_of pr) k) (λ t. Some ((Some a, t.0) ∷ [], t.1))) (made unnamed (types_at pr (atom a ∷ k))) (Some (x, rest)) e) [
   | inl p ↦ (
-      let g = bind_ok (atom_at type_of k) (λ t. Some ((Some a, t.0) ∷ [], t.1)) (x, rest) p.1 in
-      let one = type_sound k g.0.0 g.0.1 g.1 in
+      let g = bind_ok (atom_at (type_of pr) k) (λ t. Some ((Some a, t.0) ∷ [], t.1)) (x, rest) p.1 in
+      let one = type_sound pr k g.0.0 g.0.1 g.1 in
       let is : ◌≡◌ {A = List Named × List Token} ((Some a, g.0.0) ∷ [], g.0.1) (x, rest) = same_some ((Some a, g.0.0) ∷ [], g.0.1) (x, rest) g.2 in (
         atom a ∷ one.0,
         ap (λ (z : List Token). atom a ∷ z) one.1 ∙ ap (λ (z : List Named × List Token). (atom a ∷ one.0) ++ z.1) is,
-        subst (λ (z : List Named × List Token). Inside z.0 (atom a ∷ one.0)) is (inl (a, g.0.0, refl, (atom a ∷ [], one.0, refl, (is_identifier a p.0, refl), one.2))),
+        subst (λ (z : List Named × List Token). Inside pr z.0 (atom a ∷ one.0)) is (inl (a, g.0.0, refl, (atom a ∷ [], one.0, refl, (is_identifier a p.0, refl), one.2))),
       ))
-  | inr p ↦ unnamed_sound (atom a ∷ k) x rest p.1
+  | inr p ↦ unnamed_sound pr (atom a ∷ k) x rest p.1
 ]
 
-inside_unnamed : (k : List Token) → NotId k → inside_at k ≡ made unnamed (types_at k)
+inside_unnamed : (pr : Profile) (k : List Token) → NotId k → inside_at pr k ≡ made unnamed (types_at pr k)
 unfolding inside_at
-inside_unnamed [] h = refl
-inside_unnamed (open_paren ∷ k) h = refl
-inside_unnamed (close_paren ∷ k) h = refl
-inside_unnamed (string b ∷ k) h = refl
-inside_unnamed (atom a ∷ k) h = cond-false (is_id a) _ _ h
+inside_unnamed pr [] h = refl
+inside_unnamed pr (open_paren ∷ k) h = refl
+inside_unnamed pr (close_paren ∷ k) h = refl
+inside_unnamed pr (string b ∷ k) h = refl
+inside_unnamed pr (atom a ∷ k) h = cond-false (is_id a) _ _ h
 
 close_not_id : (k : List Token) → BeginsClose k → NotId k
 close_not_id [] f = tt
@@ -77,77 +96,94 @@ close_not_id (atom a ∷ k) f = absurd f
 type_not_id : (t : ValType) (k : List Token) → NotId (atom (type_text t) ∷ k)
 type_not_id I32 k = refl
 type_not_id I64 k = refl
+type_not_id F32 k = refl
+type_not_id F64 k = refl
 
-types_not_id : (ts : List ValType) (front rest : List Token) → Each WritesType ts front → BeginsClose rest → NotId (front ++ rest)
-types_not_id [] front rest h f = subst (λ (z : List Token). NotId (z ++ rest)) (sym h) (close_not_id rest f)
-types_not_id (t ∷ ts) front rest (x, y, e, w, more) f =
-    subst (λ (z : List Token). NotId (z ++ rest)) (sym (e ∙ ap (λ (z : List Token). z ++ y) w)) (type_not_id t (y ++ rest))
+types_not_id : (pr : Profile) (ts : List ValType) (front rest : List Token) → Each (OfType pr) ts front → BeginsClose rest → NotId (front ++ rest)
+types_not_id pr [] front rest h f = subst (λ (z : List Token). NotId (z ++ rest)) (sym h) (close_not_id rest f)
+types_not_id pr (t ∷ ts) front rest (x, y, e, w, more) f =
+    subst (λ (z : List Token). NotId (z ++ rest)) (sym (e ∙ ap (λ (z : List Token). z ++ y) w.0)) (type_not_id t (y ++ rest))
 
-inside_complete : Complete inside_at Inside BeginsClose
+inside_complete : (pr : Profile) → Complete (inside_at pr) (Inside pr) BeginsClose
 unfolding inside_at
-inside_complete x front rest (inl (name, t, g, (a, b, e, (i, e2), w))) f =
-    ap (λ (z : List Token). inside_at (z ++ rest)) (e ∙ ap (λ (z : List Token). z ++ b) e2) ∙ cond-true (is_id name) _ _ (id_is name i)
-    ∙ bind_is (atom_at type_of (b ++ rest)) (λ u. Some ((Some name, u.0) ∷ [], u.1)) (t, rest) (type_complete t b rest w tt)
+inside_complete pr x front rest (inl (name, t, g, (a, b, e, (i, e2), w))) f =
+    ap (λ (z : List Token). inside_at pr (z ++ rest)) (e ∙ ap (λ (z : List Token). z ++ b) e2) ∙ cond-true (is_id name) _ _ (id_is name i)
+    ∙ bind_is (atom_at (type_of pr) (b ++ rest)) (λ u. Some ((Some name, u.0) ∷ [], u.1)) (t, rest) (type_complete pr t b rest w tt)
     ∙ ap (λ (z : List Named). Some (z, rest)) (sym g)
-inside_complete x front rest (inr (ts, g, w)) f =
-    inside_unnamed (front ++ rest) (types_not_id ts front rest w f) ∙ made_is unnamed (types_at (front ++ rest)) ts rest (types_complete ts front rest w f)
+inside_complete pr x front rest (inr (ts, g, w)) f =
+    inside_unnamed pr (front ++ rest) (types_not_id pr ts front rest w f) ∙ made_is unnamed (types_at pr (front ++ rest)) ts rest (types_complete pr ts front rest w f)
     ∙ ap (λ (z : List Named). Some (z, rest)) (sym g)
 
 -- ---- groups
 
-pub named_group_sound : (word : List ℕ) → Sound (paren_at word inside_at) (WritesGroup word)
-named_group_sound word k x rest e = let g = paren_sound word inside_at Inside inside_sound k x rest e in (g.0, g.1, to_group word x g.0 g.2)
+pub named_group_sound : (pr : Profile) (word : List ℕ) → Sound (paren_at word (inside_at pr)) (OfGroup pr word)
+named_group_sound pr word k x rest e = let g = paren_sound word (inside_at pr) (Inside pr) (inside_sound pr) k x rest e in (g.0, g.1, to_group pr word x g.0 g.2)
 
-named_group_complete : (word : List ℕ) → Complete (paren_at word inside_at) (WritesGroup word) Any
-named_group_complete word x front rest h f = paren_complete word inside_at Inside inside_complete x front rest (from_group word x front h) f
+named_group_complete : (pr : Profile) (word : List ℕ) → Complete (paren_at word (inside_at pr)) (OfGroup pr word) Any
+named_group_complete pr word x front rest h f = paren_complete word (inside_at pr) (Inside pr) (inside_complete pr) x front rest (from_group pr word x front h) f
 
-pub named_group_begins : (word : List ℕ) → Begins (begins_group word) (WritesGroup word)
-named_group_begins word x front rest h = by (from_group word x front h)
+pub named_group_begins : (pr : Profile) (word : List ℕ) → Begins (begins_group word) (OfGroup pr word)
+named_group_begins pr word x front rest h = by (from_group pr word x front h)
   where
-    by : Paren word (Inside x) front → (begins_group word (front ++ rest) ≡ true) × (0 < length front)
+    by : Paren word (Inside pr x) front → (begins_group word (front ++ rest) ≡ true) × (0 < length front)
     by (a, b, e, is, more) =
         let text : front ≡ open_paren ∷ atom word ∷ b = e ∙ ap (λ (z : List Token). z ++ b) is in
         (ap (λ (z : List Token). begins_group word (z ++ rest)) text ∙ is_same word, subst (λ (z : List Token). 0 < length z) (sym text) (omega arith))
 
-each_groups : (word : List ℕ) → Sound (named_groups_at word) (Each (WritesGroup word))
+each_groups : (pr : Profile) (word : List ℕ) → Sound (named_groups_at pr word) (Each (OfGroup pr word))
 unfolding named_groups_at
-each_groups word k = many_sound (suc (length k)) (begins_group word) (paren_at word inside_at) (WritesGroup word) (named_group_sound word) k
+each_groups pr word k = many_sound (suc (length k)) (begins_group word) (paren_at word (inside_at pr)) (OfGroup pr word) (named_group_sound pr word) k
 
 abbrev pub NotGroup : List ℕ → List Token → Type 0
 NotGroup word k = begins_group word k ≡ false
 
-each_complete : (word : List ℕ) → Complete (named_groups_at word) (Each (WritesGroup word)) (NotGroup word)
+each_complete : (pr : Profile) (word : List ℕ) → Complete (named_groups_at pr word) (Each (OfGroup pr word)) (NotGroup word)
 unfolding named_groups_at
-each_complete word gs front rest h f =
-    many_complete (suc (length (front ++ rest))) (begins_group word) (paren_at word inside_at) (WritesGroup word) Any
-    (named_group_complete word) (named_group_begins word) (λ xs g r h i. tt) gs front rest (omega (arith, length-append front rest)) h f
+each_complete pr word gs front rest h f =
+    many_complete (suc (length (front ++ rest))) (begins_group word) (paren_at word (inside_at pr)) (OfGroup pr word) Any
+    (named_group_complete pr word) (named_group_begins pr word) (λ xs g r h i. tt) gs front rest (omega (arith, length-append front rest)) h f
 
 -- ---- as the laws say it
 
-pub groups_are_written : (word : List ℕ) → Sound (named_at word) (WritesGroups word)
-groups_are_written word = made_sound joined_named (named_groups_at word) (Each (WritesGroup word)) (WritesGroups word) (each_groups word) (λ gs front h. (gs, refl, h))
+plain_groups : (pr : Profile) (word : List ℕ) (gs : List (List Named)) (front : List Token) → Each (OfGroup pr word) gs front → Each (WritesGroup word) gs front × NamedOf pr (joined_named gs)
+plain_groups pr word [] front h = (h, tt)
+plain_groups pr word (g ∷ gs) front (x, y, e, w, more) =
+    let m = plain_groups pr word gs y more in
+    ((x, y, e, w.0, m.0), subst (AreOf pr) (sym (map-append (λ (p : Named). p.1) g (joined_named gs))) (all_append (HasType pr) (types_of g) (types_of (joined_named gs)) w.1 m.1))
 
-pub groups_are_read : (word : List ℕ) → Complete (named_at word) (WritesGroups word) (NotGroup word)
-groups_are_read word all front rest (gs, e, h) f =
-    made_is joined_named (named_groups_at word (front ++ rest)) gs rest (each_complete word gs front rest h f) ∙ ap (λ (z : List Named). Some (z, rest)) (sym e)
+groups_of_it : (pr : Profile) (word : List ℕ) (gs : List (List Named)) (front : List Token) → Each (WritesGroup word) gs front → NamedOf pr (joined_named gs) → Each (OfGroup pr word) gs front
+groups_of_it pr word [] front h of = h
+groups_of_it pr word (g ∷ gs) front (x, y, e, w, more) of =
+    let both : AreOf pr (types_of g ++ types_of (joined_named gs)) = subst (AreOf pr) (map-append (λ (p : Named). p.1) g (joined_named gs)) of in
+    (x, y, e, (w, all_front (HasType pr) (types_of g) (types_of (joined_named gs)) both), groups_of_it pr word gs y more (all_back (HasType pr) (types_of g) (types_of (joined_named gs)) both))
+
+pub groups_are_written : (pr : Profile) (word : List ℕ) → Sound (named_at pr word) (OfGroups pr word)
+groups_are_written pr word =
+    made_sound joined_named (named_groups_at pr word) (Each (OfGroup pr word)) (OfGroups pr word) (each_groups pr word)
+    (λ gs front h. let m = plain_groups pr word gs front h in ((gs, refl, m.0), m.1))
+
+pub groups_are_read : (pr : Profile) (word : List ℕ) → Complete (named_at pr word) (OfGroups pr word) (NotGroup word)
+groups_are_read pr word all front rest ((gs, e, h), of) f =
+    made_is joined_named (named_groups_at pr word (front ++ rest)) gs rest (each_complete pr word gs front rest (groups_of_it pr word gs front h (subst (NamedOf pr) e of)) f)
+    ∙ ap (λ (z : List Named). Some (z, rest)) (sym e)
 
 -- ---- the loops of the code
 
-step : (word : List ℕ) (k : List Token) → begins_group word k ≡ true
-    → named_groups_at word k ≡ (paren_at word inside_at k >>= λ x. named_groups_at word x.1 >>= λ xs. Some (x.0 ∷ xs.0, xs.1))
+step : (pr : Profile) (word : List ℕ) (k : List Token) → begins_group word k ≡ true
+    → named_groups_at pr word k ≡ (paren_at word (inside_at pr) k >>= λ x. named_groups_at pr word x.1 >>= λ xs. Some (x.0 ∷ xs.0, xs.1))
 unfolding named_groups_at
-step word k b = cond-true (begins_group word k) _ _ b ∙ by (paren_at word inside_at k) refl
+step pr word k b = cond-true (begins_group word k) _ _ b ∙ by (paren_at word (inside_at pr) k) refl
   where
-    by : (o : Option (List Named × List Token)) → paren_at word inside_at k ≡ o
-        → ◌>>=◌ {B = List (List Named) × List Token} o (λ x. many_at (length k) (begins_group word) (paren_at word inside_at) x.1 >>= λ xs. Some (x.0 ∷ xs.0, xs.1))
-        ≡ ◌>>=◌ {B = List (List Named) × List Token} o (λ x. named_groups_at word x.1 >>= λ xs. Some (x.0 ∷ xs.0, xs.1))
+    by : (o : Option (List Named × List Token)) → paren_at word (inside_at pr) k ≡ o
+        → ◌>>=◌ {B = List (List Named) × List Token} o (λ x. many_at (length k) (begins_group word) (paren_at word (inside_at pr)) x.1 >>= λ xs. Some (x.0 ∷ xs.0, xs.1))
+        ≡ ◌>>=◌ {B = List (List Named) × List Token} o (λ x. named_groups_at pr word x.1 >>= λ xs. Some (x.0 ∷ xs.0, xs.1))
     by None e = refl
     by (Some x) e =
-        let one = named_group_sound word k x.0 x.1 e in
+        let one = named_group_sound pr word k x.0 x.1 e in
         let size : length k ≡ length (one.0 ++ x.1) = ap length one.1 in
-        let s = (named_group_begins word x.0 one.0 [] one.2).1 in
+        let s = (named_group_begins pr word x.0 one.0 [] one.2).1 in
         ap (λ (z : Option (List (List Named) × List Token)). z >>= λ xs. Some (x.0 ∷ xs.0, xs.1))
-        (many_is (begins_group word) (paren_at word inside_at) (WritesGroup word) (named_group_sound word) (λ y f h. (named_group_begins word y f [] h).1) (length k) (suc (length x.1)) x.1
+        (many_is (begins_group word) (paren_at word (inside_at pr)) (OfGroup pr word) (named_group_sound pr word) (λ y f h. (named_group_begins pr word y f [] h).1) (length k) (suc (length x.1)) x.1
         (omega (arith, size, length-append one.0 x.1, s)) (omega arith))
 
 abbrev pub after_named : List Named → Option (List (List Named) × List Token) → Option (List Named × List Token)
@@ -167,47 +203,47 @@ group_not : (front : List Named) (o : Option (List Named × List Token)) → add
 group_not front None e = refl
 group_not front (Some x) e = absurd (let f : ◌≡◌ {A = Option (List Named × List Token)} (Some (front ++ x.0, x.1)) None = e in cc)
 
-pub named_more : (word : List ℕ) (front new : List Named) (j k : List Token) → true ≡ begins_group word j → adding_named front (paren_at word inside_at j) ≡ Some (new, k)
-    → after_named front (named_groups_at word j) ≡ after_named new (named_groups_at word k)
-named_more word front new j k b e =
-    let g = group_was front new (paren_at word inside_at j) k e in
-    ap (after_named front) (step word j (sym b) ∙ bind_is (paren_at word inside_at j) _ (g.0, k) g.1) ∙ gather front g.0 (named_groups_at word k)
-    ∙ ap (λ (z : List Named). after_named z (named_groups_at word k)) (sym g.2)
+pub named_more : (pr : Profile) (word : List ℕ) (front new : List Named) (j k : List Token) → true ≡ begins_group word j → adding_named front (paren_at word (inside_at pr) j) ≡ Some (new, k)
+    → after_named front (named_groups_at pr word j) ≡ after_named new (named_groups_at pr word k)
+named_more pr word front new j k b e =
+    let g = group_was front new (paren_at word (inside_at pr) j) k e in
+    ap (after_named front) (step pr word j (sym b) ∙ bind_is (paren_at word (inside_at pr) j) _ (g.0, k) g.1) ∙ gather front g.0 (named_groups_at pr word k)
+    ∙ ap (λ (z : List Named). after_named z (named_groups_at pr word k)) (sym g.2)
 
-pub named_fail : (word : List ℕ) (front : List Named) (j : List Token) → true ≡ begins_group word j → adding_named front (paren_at word inside_at j) ≡ None → after_named front (named_groups_at word j) ≡ None
-named_fail word front j b e =
-    ap (after_named front) (step word j (sym b)
-    ∙ ap (λ (o : Option (List Named × List Token)). o >>= λ x. named_groups_at word x.1 >>= λ xs. Some (x.0 ∷ xs.0, xs.1)) (group_not front (paren_at word inside_at j) e))
+pub named_fail : (pr : Profile) (word : List ℕ) (front : List Named) (j : List Token) → true ≡ begins_group word j → adding_named front (paren_at word (inside_at pr) j) ≡ None → after_named front (named_groups_at pr word j) ≡ None
+named_fail pr word front j b e =
+    ap (after_named front) (step pr word j (sym b)
+    ∙ ap (λ (o : Option (List Named × List Token)). o >>= λ x. named_groups_at pr word x.1 >>= λ xs. Some (x.0 ∷ xs.0, xs.1)) (group_not front (paren_at word (inside_at pr) j) e))
 
-pub named_over : (word : List ℕ) (front : List Named) (j : List Token) → false ≡ begins_group word j → after_named front (named_groups_at word j) ≡ Some (front, j)
+pub named_over : (pr : Profile) (word : List ℕ) (front : List Named) (j : List Token) → false ≡ begins_group word j → after_named front (named_groups_at pr word j) ≡ Some (front, j)
 unfolding named_groups_at
-named_over word front j b = ap (after_named front) (cond-false (begins_group word j) _ _ (sym b)) ∙ ap (λ (z : List Named). Some (z, j)) (append-nil front)
+named_over pr word front j b = ap (after_named front) (cond-false (begins_group word j) _ _ (sym b)) ∙ ap (λ (z : List Named). Some (z, j)) (append-nil front)
 
 pub named_begin : (o : Option (List (List Named) × List Token)) → after_named [] o ≡ made joined_named o
 named_begin None = refl
 named_begin (Some x) = refl
 
-pub named_shrinks : (word : List ℕ) (front new : List Named) (j k : List Token) → adding_named front (paren_at word inside_at j) ≡ Some (new, k) → length k < length j
-named_shrinks word front new j k e =
-    let g = group_was front new (paren_at word inside_at j) k e in
-    let one = named_group_sound word j g.0 k g.1 in
+pub named_shrinks : (pr : Profile) (word : List ℕ) (front new : List Named) (j k : List Token) → adding_named front (paren_at word (inside_at pr) j) ≡ Some (new, k) → length k < length j
+named_shrinks pr word front new j k e =
+    let g = group_was front new (paren_at word (inside_at pr) j) k e in
+    let one = named_group_sound pr word j g.0 k g.1 in
     let size : length j ≡ length (one.0 ++ k) = ap length one.1 in
-    omega (arith, size, length-append one.0 k, (named_group_begins word g.0 one.0 [] one.2).1)
+    omega (arith, size, length-append one.0 k, (named_group_begins pr word g.0 one.0 [] one.2).1)
 
 pub ruleset named_laws = (named_more, named_fail, named_over, named_begin, named_shrinks)
 
 -- ---- one group
 
-pub inside_named : (front : List Named) (a : List ℕ) (t : ValType) (j k l : List Token) → j ≡ atom a ∷ k → is_id a ≡ true → atom_at type_of k ≡ Some (t, l) → adding_named front (inside_at j) ≡ Some (front ++ (Some a, t) ∷ [], l)
+pub inside_named : (pr : Profile) (front : List Named) (a : List ℕ) (t : ValType) (j k l : List Token) → j ≡ atom a ∷ k → is_id a ≡ true → atom_at (type_of pr) k ≡ Some (t, l) → adding_named front (inside_at pr j) ≡ Some (front ++ (Some a, t) ∷ [], l)
 unfolding inside_at
-inside_named front a t j k l e i h =
-    ap (λ (z : List Token). adding_named front (inside_at z)) e
-    ∙ ap (adding_named front) (cond-true (is_id a) _ _ i ∙ bind_is (atom_at type_of k) (λ u. Some ((Some a, u.0) ∷ [], u.1)) (t, l) h)
+inside_named pr front a t j k l e i h =
+    ap (λ (z : List Token). adding_named front (inside_at pr z)) e
+    ∙ ap (adding_named front) (cond-true (is_id a) _ _ i ∙ bind_is (atom_at (type_of pr) k) (λ u. Some ((Some a, u.0) ∷ [], u.1)) (t, l) h)
 
-pub inside_fail : (front : List Named) (a : List ℕ) (j k : List Token) → j ≡ atom a ∷ k → is_id a ≡ true → atom_at type_of k ≡ None → adding_named front (inside_at j) ≡ None
+pub inside_fail : (pr : Profile) (front : List Named) (a : List ℕ) (j k : List Token) → j ≡ atom a ∷ k → is_id a ≡ true → atom_at (type_of pr) k ≡ None → adding_named front (inside_at pr j) ≡ None
 unfolding inside_at
-inside_fail front a j k e i h =
-    ap (λ (z : List Token). adding_named front (inside_at z)) e
+inside_fail pr front a j k e i h =
+    ap (λ (z : List Token). adding_named front (inside_at pr z)) e
     ∙ ap (adding_named front) (cond-true (is_id a) _ _ i ∙ ap (λ (o : Option (ValType × List Token)). o >>= λ u. Some ((Some a, u.0) ∷ [], u.1)) h)
 
 -- ---- types without identifiers
@@ -216,24 +252,24 @@ regroup : (front : List Named) (t : ValType) (o : Option (List ValType × List T
 regroup front t None = refl
 regroup front t (Some x) = ap (λ (z : List Named). Some (z, x.1)) (sym (append_assoc front ((None, t) ∷ []) (unnamed x.0)))
 
-pub unnamed_more : (front : List Named) (t : ValType) (a : List ℕ) (j k : List Token) → j ≡ atom a ∷ k → Some t ≡ type_of a
-    → adding_named front (made unnamed (types_at j)) ≡ adding_named (front ++ (None, t) ∷ []) (made unnamed (types_at k))
-unnamed_more front t a j k e h =
-    ap (λ (z : List Token). adding_named front (made unnamed (types_at z))) e
-    ∙ ap (λ (o : Option (List ValType × List Token)). adding_named front (made unnamed o)) (bind_is (type_of a) (λ u. ◌>>=◌ {B = List ValType × List Token} (types_at k) (λ us. Some (u ∷ us.0, us.1))) t (sym h))
-    ∙ regroup front t (types_at k)
+pub unnamed_more : (pr : Profile) (front : List Named) (t : ValType) (a : List ℕ) (j k : List Token) → j ≡ atom a ∷ k → Some t ≡ type_of pr a
+    → adding_named front (made unnamed (types_at pr j)) ≡ adding_named (front ++ (None, t) ∷ []) (made unnamed (types_at pr k))
+unnamed_more pr front t a j k e h =
+    ap (λ (z : List Token). adding_named front (made unnamed (types_at pr z))) e
+    ∙ ap (λ (o : Option (List ValType × List Token)). adding_named front (made unnamed o)) (bind_is (type_of pr a) (λ u. ◌>>=◌ {B = List ValType × List Token} (types_at pr k) (λ us. Some (u ∷ us.0, us.1))) t (sym h))
+    ∙ regroup front t (types_at pr k)
 
-pub unnamed_fail : (front : List Named) (a : List ℕ) (j k : List Token) → j ≡ atom a ∷ k → None ≡ type_of a → adding_named front (made unnamed (types_at j)) ≡ None
-unnamed_fail front a j k e h =
-    ap (λ (z : List Token). adding_named front (made unnamed (types_at z))) e
-    ∙ ap (λ (o : Option ValType). adding_named front (made unnamed (◌>>=◌ {B = List ValType × List Token} o (λ u. ◌>>=◌ {B = List ValType × List Token} (types_at k) (λ us. Some (u ∷ us.0, us.1)))))) (sym h)
+pub unnamed_fail : (pr : Profile) (front : List Named) (a : List ℕ) (j k : List Token) → j ≡ atom a ∷ k → None ≡ type_of pr a → adding_named front (made unnamed (types_at pr j)) ≡ None
+unnamed_fail pr front a j k e h =
+    ap (λ (z : List Token). adding_named front (made unnamed (types_at pr z))) e
+    ∙ ap (λ (o : Option ValType). adding_named front (made unnamed (◌>>=◌ {B = List ValType × List Token} o (λ u. ◌>>=◌ {B = List ValType × List Token} (types_at pr k) (λ us. Some (u ∷ us.0, us.1)))))) (sym h)
 
-pub unnamed_over : (front : List Named) (j : List Token) → NoAtom j → adding_named front (made unnamed (types_at j)) ≡ Some (front, j)
-unnamed_over front [] h = ap (λ (z : List Named). Some (z, [])) (append-nil front)
-unnamed_over front (open_paren ∷ k) h = ap (λ (z : List Named). Some (z, open_paren ∷ k)) (append-nil front)
-unnamed_over front (close_paren ∷ k) h = ap (λ (z : List Named). Some (z, close_paren ∷ k)) (append-nil front)
-unnamed_over front (string b ∷ k) h = ap (λ (z : List Named). Some (z, string b ∷ k)) (append-nil front)
-unnamed_over front (atom a ∷ k) h = absurd h
+pub unnamed_over : (pr : Profile) (front : List Named) (j : List Token) → NoAtom j → adding_named front (made unnamed (types_at pr j)) ≡ Some (front, j)
+unnamed_over pr front [] h = ap (λ (z : List Named). Some (z, [])) (append-nil front)
+unnamed_over pr front (open_paren ∷ k) h = ap (λ (z : List Named). Some (z, open_paren ∷ k)) (append-nil front)
+unnamed_over pr front (close_paren ∷ k) h = ap (λ (z : List Named). Some (z, close_paren ∷ k)) (append-nil front)
+unnamed_over pr front (string b ∷ k) h = ap (λ (z : List Named). Some (z, string b ∷ k)) (append-nil front)
+unnamed_over pr front (atom a ∷ k) h = absurd h
 
 pub ruleset unnamed_laws = (unnamed_more, unnamed_fail, unnamed_over, fails_refused)
 
@@ -271,21 +307,21 @@ pub ruleset push_laws = (last_longer, one_run_more, first_run)
 
 -- ---- what may be in a group
 
-pub inside_other : (front : List Named) (a : List ℕ) (j k : List Token) → j ≡ atom a ∷ k → is_id a ≡ false → adding_named front (inside_at j) ≡ adding_named front (made unnamed (types_at j))
+pub inside_other : (pr : Profile) (front : List Named) (a : List ℕ) (j k : List Token) → j ≡ atom a ∷ k → is_id a ≡ false → adding_named front (inside_at pr j) ≡ adding_named front (made unnamed (types_at pr j))
 unfolding inside_at
-inside_other front a j k e h = ap (λ (z : List Token). adding_named front (inside_at z)) e ∙ ap (adding_named front) (cond-false (is_id a) _ _ h) ∙ ap (λ (z : List Token). adding_named front (made unnamed (types_at z))) (sym e)
+inside_other pr front a j k e h = ap (λ (z : List Token). adding_named front (inside_at pr z)) e ∙ ap (adding_named front) (cond-false (is_id a) _ _ h) ∙ ap (λ (z : List Token). adding_named front (made unnamed (types_at pr z))) (sym e)
 
-pub inside_no_atom : (front : List Named) (j : List Token) → NoAtom j → adding_named front (inside_at j) ≡ adding_named front (made unnamed (types_at j))
+pub inside_no_atom : (pr : Profile) (front : List Named) (j : List Token) → NoAtom j → adding_named front (inside_at pr j) ≡ adding_named front (made unnamed (types_at pr j))
 unfolding inside_at
-inside_no_atom front [] h = refl
-inside_no_atom front (open_paren ∷ k) h = refl
-inside_no_atom front (close_paren ∷ k) h = refl
-inside_no_atom front (string b ∷ k) h = refl
-inside_no_atom front (atom a ∷ k) h = absurd h
+inside_no_atom pr front [] h = refl
+inside_no_atom pr front (open_paren ∷ k) h = refl
+inside_no_atom pr front (close_paren ∷ k) h = refl
+inside_no_atom pr front (string b ∷ k) h = refl
+inside_no_atom pr front (atom a ∷ k) h = absurd h
 
-pub reads_other : {X : Type 0} (view : X → List Named × List Token) (r : Result X TextFault) (front : List Named) (a : List ℕ) (j k : List Token) → j ≡ atom a ∷ k → is_id a ≡ false
-    → Reads view r (adding_named front (made unnamed (types_at j))) → Reads view r (adding_named front (inside_at j))
-reads_other view r front a j k e h g = subst (λ (z : Option (List Named × List Token)). Reads view r z) (sym (inside_other front a j k e h)) g
+pub reads_other : (pr : Profile) {X : Type 0} (view : X → List Named × List Token) (r : Result X TextFault) (front : List Named) (a : List ℕ) (j k : List Token) → j ≡ atom a ∷ k → is_id a ≡ false
+    → Reads view r (adding_named front (made unnamed (types_at pr j))) → Reads view r (adding_named front (inside_at pr j))
+reads_other pr view r front a j k e h g = subst (λ (z : Option (List Named × List Token)). Reads view r z) (sym (inside_other pr front a j k e h)) g
 
 pub ruleset inside_laws = (inside_named, inside_fail, inside_other, inside_no_atom, reads_other, named_push)
 

@@ -6,6 +6,7 @@ use Rattle.std.proofs.lemmas.List.{append-nil, map-append, replicate_more, take_
 use Rattle.wm_syntax.specs.Spelling.{Form, Each}
 use Rattle.wm_syntax.specs.Types.{Signature}
 use Rattle.wm_syntax.specs.declared.types.ValType.{ValType}
+use Rattle.wm_syntax.specs.declared.profile.Profile.{Profile}
 use Rattle.wm_read.specs.Tokens.{Token}
 use Rattle.wm_read.specs.Identifiers.{AreDistinct, Resolves}
 use Rattle.wm_read.specs.Written.{Named, Names, Paren, TypeUse, WritesGroups, WritesResults, WritesUnnamed, types_of}
@@ -19,9 +20,9 @@ use Rattle.wm_read.specs.inner.Views.{Fails}
 use Rattle.wm_read.proofs.Basics.{chosen, same_some}
 use Rattle.wm_read.proofs.Groups.{fails_on}
 use Rattle.wm_read.proofs.Indices.{index_sound, index_complete}
-use Rattle.wm_read.proofs.NamedGroups.{groups_are_read, groups_are_written, named_push}
+use Rattle.wm_read.proofs.NamedGroups.{NamedOf, OfGroups, groups_are_read, groups_are_written, named_push}
 use Rattle.wm_read.proofs.Readers.{Sound, Complete, Any, Both, bind_ok, bind_is, made_is, made_sound, paren_complete, paren_sound, then_complete, then_sound}
-use Rattle.wm_read.proofs.TypeUseLaws.{Fitting, fits_found, fits_more, groups_complete, groups_sound, none_are}
+use Rattle.wm_read.proofs.TypeUseLaws.{AreOf, Fitting, KnowsTypes, OfUnnamed, fits_found, fits_more, fitting_has, groups_complete, groups_of_it, groups_sound, known, none_are, plain_groups}
 
 -- ---- the forms of a use
 
@@ -32,36 +33,56 @@ NotGroup word k = begins_group word k ≡ false
 abbrev pub UseEnds : List Token → Type 0
 UseEnds k = (begins_group (codes "param") k ≡ false) × (begins_group (codes "result") k ≡ false)
 
-pub results_sound : Sound results_at WritesResults
-unfolding results_at
-results_sound = made_sound joined (groups_at (codes "result")) (Each (WritesUnnamed (codes "result"))) WritesResults (groups_sound (codes "result")) (λ gs front h. (gs, refl, h))
+-- results of the profile
+abbrev pub OfResults : Profile → List ValType → Form Token
+OfResults pr rs k = WritesResults rs k × AreOf pr rs
 
-pub results_complete : Complete results_at WritesResults (NotGroup (codes "result"))
+pub results_sound : (pr : Profile) → Sound (results_at pr) (OfResults pr)
 unfolding results_at
-results_complete rs front rest (gs, e, h) f =
-    made_is joined (groups_at (codes "result") (front ++ rest)) gs rest (groups_complete (codes "result") gs front rest h f) ∙ ap (λ (z : List ValType). Some (z, rest)) (sym e)
+results_sound pr =
+    made_sound joined (groups_at pr (codes "result")) (Each (OfUnnamed pr (codes "result"))) (OfResults pr) (groups_sound pr (codes "result"))
+    (λ gs front h. let m = plain_groups pr (codes "result") gs front h in ((gs, refl, m.0), m.1))
 
-pub no_param : (gs : List (List ValType)) (front rest : List Token) → Each (WritesUnnamed (codes "result")) gs front → NotGroup (codes "param") rest → NotGroup (codes "param") (front ++ rest)
-no_param [] front rest h f = subst (λ (z : List Token). NotGroup (codes "param") (z ++ rest)) (sym h) f
-no_param (g ∷ gs) front rest (x, y, e, (a, b, d, is, w), more) f =
+pub results_complete : (pr : Profile) → Complete (results_at pr) (OfResults pr) (NotGroup (codes "result"))
+unfolding results_at
+results_complete pr rs front rest ((gs, e, h), of) f =
+    made_is joined (groups_at pr (codes "result") (front ++ rest)) gs rest (groups_complete pr (codes "result") gs front rest (groups_of_it pr (codes "result") gs front h (subst (AreOf pr) e of)) f)
+    ∙ ap (λ (z : List ValType). Some (z, rest)) (sym e)
+
+no_group : (gs : List (List ValType)) (front rest : List Token) → Each (WritesUnnamed (codes "result")) gs front → NotGroup (codes "param") rest → NotGroup (codes "param") (front ++ rest)
+no_group [] front rest h f = subst (λ (z : List Token). NotGroup (codes "param") (z ++ rest)) (sym h) f
+no_group (g ∷ gs) front rest (x, y, e, (a, b, d, is, w), more) f =
     subst (λ (z : List Token). NotGroup (codes "param") (z ++ rest)) (sym (e ∙ ap (λ (z : List Token). z ++ y) (d ∙ ap (λ (z : List Token). z ++ b) is))) refl
 
-abbrev Forms : Names → ℕ × (List Named × List ValType) → Form Token
-Forms names = Both (λ x. Paren (codes "type") (Resolves names.types x)) (Both (WritesGroups (codes "param")) WritesResults)
+pub no_param : (pr : Profile) (rs : List ValType) (front rest : List Token) → OfResults pr rs front → NotGroup (codes "param") rest → NotGroup (codes "param") (front ++ rest)
+no_param pr rs front rest h f = no_group h.0.0 front rest h.0.2 f
 
-forms_sound : (names : Names) → Sound (use_parts names) (Forms names)
-forms_sound names =
-    then_sound (paren_at (codes "type") (atom_at (index_of names.types))) (then_at (named_at (codes "param")) results_at) (λ x. Paren (codes "type") (Resolves names.types x)) (Both (WritesGroups (codes "param")) WritesResults)
+-- the forms of a use, with types of the profile
+abbrev Forms : Profile → Names → ℕ × (List Named × List ValType) → Form Token
+Forms pr names = Both (λ x. Paren (codes "type") (Resolves names.types x)) (Both (OfGroups pr (codes "param")) (OfResults pr))
+
+forms_sound : (pr : Profile) (names : Names) → Sound (use_parts pr names) (Forms pr names)
+forms_sound pr names =
+    then_sound (paren_at (codes "type") (atom_at (index_of names.types))) (then_at (named_at pr (codes "param")) (results_at pr)) (λ x. Paren (codes "type") (Resolves names.types x)) (Both (OfGroups pr (codes "param")) (OfResults pr))
     (paren_sound (codes "type") (atom_at (index_of names.types)) (Resolves names.types) (index_sound names.types))
-    (then_sound (named_at (codes "param")) results_at (WritesGroups (codes "param")) WritesResults (groups_are_written (codes "param")) results_sound)
+    (then_sound (named_at pr (codes "param")) (results_at pr) (OfGroups pr (codes "param")) (OfResults pr) (groups_are_written pr (codes "param")) (results_sound pr))
 
-forms_complete : (names : Names) → AreDistinct names.types → Complete (use_parts names) (Forms names) UseEnds
-forms_complete names d =
-    then_complete (paren_at (codes "type") (atom_at (index_of names.types))) (then_at (named_at (codes "param")) results_at) (λ x. Paren (codes "type") (Resolves names.types x)) (Both (WritesGroups (codes "param")) WritesResults) Any UseEnds
+forms_complete : (pr : Profile) (names : Names) → AreDistinct names.types → Complete (use_parts pr names) (Forms pr names) UseEnds
+forms_complete pr names d =
+    then_complete (paren_at (codes "type") (atom_at (index_of names.types))) (then_at (named_at pr (codes "param")) (results_at pr)) (λ x. Paren (codes "type") (Resolves names.types x)) (Both (OfGroups pr (codes "param")) (OfResults pr)) Any UseEnds
     (paren_complete (codes "type") (atom_at (index_of names.types)) (Resolves names.types) (λ x f r h i. index_complete names.types d x f r h tt))
-    (then_complete (named_at (codes "param")) results_at (WritesGroups (codes "param")) WritesResults (NotGroup (codes "param")) UseEnds
-    (groups_are_read (codes "param")) (λ rs f r h i. results_complete rs f r h i.1) (λ rs f r h i. no_param h.0 f r h.2 i.0))
+    (then_complete (named_at pr (codes "param")) (results_at pr) (OfGroups pr (codes "param")) (OfResults pr) (NotGroup (codes "param")) UseEnds
+    (groups_are_read pr (codes "param")) (λ rs f r h i. results_complete pr rs f r h i.1) (λ rs f r h i. no_param pr rs f r h i.0))
     (λ y f r h g. tt)
+
+abbrev PlainForms : Names → ℕ × (List Named × List ValType) → Form Token
+PlainForms names = Both (λ x. Paren (codes "type") (Resolves names.types x)) (Both (WritesGroups (codes "param")) WritesResults)
+
+forms_plain : (pr : Profile) (names : Names) (z : ℕ × (List Named × List ValType)) (k : List Token) → Forms pr names z k → PlainForms names z k
+forms_plain pr names z k (a, b, e, w, (c, d, e2, ps, rs)) = (a, b, e, w, (c, d, e2, ps.0, rs.0))
+
+forms_of : (pr : Profile) (names : Names) (z : ℕ × (List Named × List ValType)) (k : List Token) → PlainForms names z k → NamedOf pr z.1.0 → AreOf pr z.1.1 → Forms pr names z k
+forms_of pr names z k (a, b, e, w, (c, d, e2, ps, rs)) of are = (a, b, e, w, (c, d, e2, (ps, of), (rs, are)))
 
 -- ---- what is used
 
@@ -98,22 +119,22 @@ used f ps rs params (inr (a, b, c)) = by (none_written ps rs) refl ∙ sym c
 
 -- ---- the whole use
 
-pub uses_are_written : (names : Names) → Sound (named_use_at names) (λ y. TypeUse names y.0 y.1)
+pub uses_are_written : (pr : Profile) (names : Names) → Sound (named_use_at pr names) (λ y. TypeUse names y.0 y.1)
 unfolding named_use_at
-uses_are_written names k y rest e =
-    let a = bind_ok (use_parts names k) (λ r. used_at names r.0.0 r.0.1.0 r.0.1.1 >>= λ y. Some (y, r.1)) (y, rest) e in
+uses_are_written pr names k y rest e =
+    let a = bind_ok (use_parts pr names k) (λ r. used_at names r.0.0 r.0.1.0 r.0.1.1 >>= λ y. Some (y, r.1)) (y, rest) e in
     let x = a.0.0.0 in let ps = a.0.0.1.0 in let rs = a.0.0.1.1 in
     let b = bind_ok (used_at names x ps rs) (λ y. Some (y, a.0.1)) (y, rest) a.2 in
     let c = bind_ok (slice_get names.signatures x) (λ f. used_of f ps rs >>= λ qs. Some (x, qs)) b.0 b.1 in
     let d = bind_ok (used_of c.0 ps rs) (λ qs. Some (x, qs)) b.0 c.2 in
-    let one = forms_sound names k a.0.0 a.0.1 a.1 in
+    let one = forms_sound pr names k a.0.0 a.0.1 a.1 in
     let is : ◌≡◌ {A = (ℕ × List Named) × List Token} ((x, d.0), a.0.1) (y, rest) =
     ap (λ (z : ℕ × List Named). (z, a.0.1)) (same_some (x, d.0) b.0 d.2) ∙ same_some (b.0, a.0.1) (y, rest) b.2 in (
       one.0,
       one.1 ∙ ap (λ (z : (ℕ × List Named) × List Token). one.0 ++ z.1) is,
       subst (λ (z : (ℕ × List Named) × List Token). TypeUse names z.0.0 z.0.1 one.0) is
           (elim (chosen (fits c.0 (types_of ps) rs) (Some (cond (none_written ps rs) (unnamed c.0.params) ps)) None (Some d.0) d.1) as (λ _. TypeUse names x d.0 one.0) [
-            | inl t ↦ (c.0, ps, rs, c.1, one.2, subst (Which c.0 ps rs) (same_some (cond (none_written ps rs) (unnamed c.0.params) ps) d.0 t.1) (which c.0 ps rs t.0))
+            | inl t ↦ (c.0, ps, rs, c.1, forms_plain pr names a.0.0 one.0 one.2, subst (Which c.0 ps rs) (same_some (cond (none_written ps rs) (unnamed c.0.params) ps) d.0 t.1) (which c.0 ps rs t.0))
             | inr t ↦ absurd (let f : ◌≡◌ {A = Option (List Named)} None (Some d.0) = t.1 in cc)
           ]),
     )
@@ -121,11 +142,12 @@ uses_are_written names k y rest e =
 used_found : (f : Signature) (ps : List Named) (rs : List ValType) (params : List Named) → Which f ps rs params → used_of f ps rs ≡ Some params
 used_found f ps rs params w = cond-true (fits f (types_of ps) rs) (Some (cond (none_written ps rs) (unnamed f.params) ps)) None (fits_more f (types_of ps) rs (fitting f ps rs params w)) ∙ ap Some (used f ps rs params w)
 
-pub uses_are_read : (names : Names) → AreDistinct names.types → Complete (named_use_at names) (λ y. TypeUse names y.0 y.1) UseEnds
+pub uses_are_read : (pr : Profile) (names : Names) → AreDistinct names.types → KnowsTypes pr names → Complete (named_use_at pr names) (λ y. TypeUse names y.0 y.1) UseEnds
 unfolding named_use_at
-uses_are_read names distinct y front rest (f, ps, rs, look, w, h) after =
-    bind_is (use_parts names (front ++ rest)) (λ r. used_at names r.0.0 r.0.1.0 r.0.1.1 >>= λ y. Some (y, r.1)) ((y.0, (ps, rs)), rest)
-    (forms_complete names distinct (y.0, (ps, rs)) front rest w after)
+uses_are_read pr names distinct knows y front rest (f, ps, rs, look, w, h) after =
+    let of = fitting_has pr f (types_of ps) rs (known pr names.signatures y.0 f knows look) (fitting f ps rs y.1 h) in
+    bind_is (use_parts pr names (front ++ rest)) (λ r. used_at names r.0.0 r.0.1.0 r.0.1.1 >>= λ y. Some (y, r.1)) ((y.0, (ps, rs)), rest)
+    (forms_complete pr names distinct (y.0, (ps, rs)) front rest (forms_of pr names (y.0, (ps, rs)) front w of.0 of.1) after)
     ∙ bind_is (used_at names y.0 ps rs) (λ y. Some (y, rest)) (y.0, y.1)
     (bind_is (slice_get names.signatures y.0) (λ f. used_of f ps rs >>= λ qs. Some (y.0, qs)) f look ∙ bind_is (used_of f ps rs) (λ qs. Some (y.0, qs)) y.1 (used_found f ps rs y.1 h))
 
@@ -140,25 +162,25 @@ Written = List Named × List ValType
 abbrev Ends : Names → Option ((ℕ × Written) × List Token) → Option ((ℕ × List Named) × List Token)
 Ends names o = o >>= λ r. used_at names r.0.0 r.0.1.0 r.0.1.1 >>= λ y. Some (y, r.1)
 
-abbrev both : List Token → Option (Written × List Token)
-both k = then_at (named_at (codes "param")) results_at k
+abbrev both : (pr : Profile) → List Token → Option (Written × List Token)
+both pr k = then_at (named_at pr (codes "param")) (results_at pr) k
 
 abbrev After : Names → ℕ → Option (Written × List Token) → Option ((ℕ × List Named) × List Token)
 After names x o = Ends names (o >>= λ b. Some ((x, b.0), b.1))
 
-abbrev By : Names → Option (ℕ × List Token) → Option ((ℕ × List Named) × List Token)
-By names o = Ends names (o >>= λ a. both a.1 >>= λ b. Some ((a.0, b.0), b.1))
+abbrev By : (pr : Profile) → Names → Option (ℕ × List Token) → Option ((ℕ × List Named) × List Token)
+By pr names o = Ends names (o >>= λ a. both pr a.1 >>= λ b. Some ((a.0, b.0), b.1))
 
-pub named_untaken : (names : Names) (i : List Token) → TypeOf names i ≡ None → named_use_at names i ≡ None
+pub named_untaken : (pr : Profile) (names : Names) (i : List Token) → TypeOf names i ≡ None → named_use_at pr names i ≡ None
 unfolding named_use_at
-named_untaken names i e = ap (By names) e
+named_untaken pr names i e = ap (By pr names) e
 
-use_is : (names : Names) (x : ℕ) (i j : List Token) → TypeOf names i ≡ Some (x, j) → named_use_at names i ≡ After names x (both j)
+use_is : (pr : Profile) (names : Names) (x : ℕ) (i j : List Token) → TypeOf names i ≡ Some (x, j) → named_use_at pr names i ≡ After names x (both pr j)
 unfolding named_use_at
-use_is names x i j e = ap (By names) e
+use_is pr names x i j e = ap (By pr names) e
 
-pub named_untyped : (names : Names) (x : ℕ) (i j : List Token) → TypeOf names i ≡ Some (x, j) → slice_get names.signatures x ≡ None → named_use_at names i ≡ None
-named_untyped names x i j t e = use_is names x i j t ∙ by (both j)
+pub named_untyped : (pr : Profile) (names : Names) (x : ℕ) (i j : List Token) → TypeOf names i ≡ Some (x, j) → slice_get names.signatures x ≡ None → named_use_at pr names i ≡ None
+named_untyped pr names x i j t e = use_is pr names x i j t ∙ by (both pr j)
   where
     none : (ps : List Named) (rs : List ValType) → used_at names x ps rs ≡ None
     none ps rs = ap (λ (o : Option Signature). ◌>>=◌ {B = ℕ × List Named} o (λ f. used_of f ps rs >>= λ qs. Some (x, qs))) e
@@ -167,23 +189,23 @@ named_untyped names x i j t e = use_is names x i j t ∙ by (both j)
     by None = refl
     by (Some r) = ap (λ (o : Option (ℕ × List Named)). ◌>>=◌ {B = (ℕ × List Named) × List Token} o (λ y. Some (y, r.1))) (none r.0.0 r.0.1)
 
-pub named_params : (names : Names) (x : ℕ) (i j : List Token) → TypeOf names i ≡ Some (x, j) → named_at (codes "param") j ≡ None → named_use_at names i ≡ None
-named_params names x i j t g = use_is names x i j t ∙ ap (λ (o : Option (List Named × List Token)). After names x (o >>= λ a. results_at a.1 >>= λ b. Some ((a.0, b.0), b.1))) g
+pub named_params : (pr : Profile) (names : Names) (x : ℕ) (i j : List Token) → TypeOf names i ≡ Some (x, j) → named_at pr (codes "param") j ≡ None → named_use_at pr names i ≡ None
+named_params pr names x i j t g = use_is pr names x i j t ∙ ap (λ (o : Option (List Named × List Token)). After names x (o >>= λ a. results_at pr a.1 >>= λ b. Some ((a.0, b.0), b.1))) g
 
-pub named_results : (names : Names) (x : ℕ) (ps : List Named) (i j k : List Token) → TypeOf names i ≡ Some (x, j) → named_at (codes "param") j ≡ Some (ps, k)
-    → made joined (groups_at (codes "result") k) ≡ None → named_use_at names i ≡ None
+pub named_results : (pr : Profile) (names : Names) (x : ℕ) (ps : List Named) (i j k : List Token) → TypeOf names i ≡ Some (x, j) → named_at pr (codes "param") j ≡ Some (ps, k)
+    → made joined (groups_at pr (codes "result") k) ≡ None → named_use_at pr names i ≡ None
 unfolding results_at
-named_results names x ps i j k t g h =
-    use_is names x i j t
-    ∙ ap (After names x) (bind_is (named_at (codes "param") j) (λ a. results_at a.1 >>= λ b. Some ((a.0, b.0), b.1)) (ps, k) g ∙ ap (λ (o : Option (List ValType × List Token)). o >>= λ b. Some ((ps, b.0), b.1)) h)
+named_results pr names x ps i j k t g h =
+    use_is pr names x i j t
+    ∙ ap (After names x) (bind_is (named_at pr (codes "param") j) (λ a. results_at pr a.1 >>= λ b. Some ((a.0, b.0), b.1)) (ps, k) g ∙ ap (λ (o : Option (List ValType × List Token)). o >>= λ b. Some ((ps, b.0), b.1)) h)
 
-pub named_ends : (names : Names) (x : ℕ) (f : Signature) (ps : List Named) (rs : List ValType) (o : Option (List Named)) (i j k l : List Token)
-    → TypeOf names i ≡ Some (x, j) → slice_get names.signatures x ≡ Some f → named_at (codes "param") j ≡ Some (ps, k) → made joined (groups_at (codes "result") k) ≡ Some (rs, l) → o ≡ used_of f ps rs
-    → named_use_at names i ≡ (o >>= λ qs. Some ((x, qs), l))
+pub named_ends : (pr : Profile) (names : Names) (x : ℕ) (f : Signature) (ps : List Named) (rs : List ValType) (o : Option (List Named)) (i j k l : List Token)
+    → TypeOf names i ≡ Some (x, j) → slice_get names.signatures x ≡ Some f → named_at pr (codes "param") j ≡ Some (ps, k) → made joined (groups_at pr (codes "result") k) ≡ Some (rs, l) → o ≡ used_of f ps rs
+    → named_use_at pr names i ≡ (o >>= λ qs. Some ((x, qs), l))
 unfolding results_at
-named_ends names x f ps rs o i j k l t e g h u =
-    use_is names x i j t
-    ∙ ap (After names x) (bind_is (named_at (codes "param") j) (λ a. results_at a.1 >>= λ b. Some ((a.0, b.0), b.1)) (ps, k) g ∙ bind_is (results_at k) (λ b. Some ((ps, b.0), b.1)) (rs, l) h)
+named_ends pr names x f ps rs o i j k l t e g h u =
+    use_is pr names x i j t
+    ∙ ap (After names x) (bind_is (named_at pr (codes "param") j) (λ a. results_at pr a.1 >>= λ b. Some ((a.0, b.0), b.1)) (ps, k) g ∙ bind_is (results_at pr k) (λ b. Some ((ps, b.0), b.1)) (rs, l) h)
     ∙ ap (λ (z : Option (ℕ × List Named)). ◌>>=◌ {B = (ℕ × List Named) × List Token} z (λ y. Some (y, l))) (bind_is (slice_get names.signatures x) (λ f. used_of f ps rs >>= λ qs. Some (x, qs)) f e ∙ ap (λ (z : Option (List Named)). z >>= λ qs. Some (x, qs)) (sym u))
     ∙ by o
   where
@@ -234,11 +256,11 @@ pub ruleset used_laws = (used_none, used_types, used_written)
 
 -- ---- refusals
 
-pub named_params_fail : (names : Names) (x : ℕ) (w : TextWhy) (i j : List Token) → TypeOf names i ≡ Some (x, j) → Fails w (named_at (codes "param") j) → Fails w (named_use_at names i)
-named_params_fail names x w i j t h = fails_on w (named_at (codes "param") j) (named_use_at names i) (named_params names x i j t) h
+pub named_params_fail : (pr : Profile) (names : Names) (x : ℕ) (w : TextWhy) (i j : List Token) → TypeOf names i ≡ Some (x, j) → Fails w (named_at pr (codes "param") j) → Fails w (named_use_at pr names i)
+named_params_fail pr names x w i j t h = fails_on w (named_at pr (codes "param") j) (named_use_at pr names i) (named_params pr names x i j t) h
 
-pub named_results_fail : (names : Names) (x : ℕ) (ps : List Named) (w : TextWhy) (i j k : List Token) → TypeOf names i ≡ Some (x, j) → named_at (codes "param") j ≡ Some (ps, k)
-    → Fails w (made joined (groups_at (codes "result") k)) → Fails w (named_use_at names i)
-named_results_fail names x ps w i j k t g h = fails_on w (made joined (groups_at (codes "result") k)) (named_use_at names i) (named_results names x ps i j k t g) h
+pub named_results_fail : (pr : Profile) (names : Names) (x : ℕ) (ps : List Named) (w : TextWhy) (i j k : List Token) → TypeOf names i ≡ Some (x, j) → named_at pr (codes "param") j ≡ Some (ps, k)
+    → Fails w (made joined (groups_at pr (codes "result") k)) → Fails w (named_use_at pr names i)
+named_results_fail pr names x ps w i j k t g h = fails_on w (made joined (groups_at pr (codes "result") k)) (named_use_at pr names i) (named_results pr names x ps i j k t g) h
 
 pub ruleset named_laws = (named_untaken, named_params_fail, named_results_fail)

@@ -253,9 +253,9 @@ op_pieces bs (q ∷ ps) = (piece_ops q, pieces_ops ps, refl, refl, op_pieces (af
 piece_of : (p : Profile) (q : Piece) → IsPieceOf p q → AllByRecursion (IsOpOf p) (piece_ops q)
 piece_of p (plain i) h = (h, tt)
 piece_of p (jump ls l) h = (tt, labels_of p ls l)
-piece_of p (opens Block id t) h = (tt, tt)
-piece_of p (opens Loop id t) h = (tt, tt)
-piece_of p (opens If id t) h = (tt, tt)
+piece_of p (opens Block id t) h = (h, tt)
+piece_of p (opens Loop id t) h = (h, tt)
+piece_of p (opens If id t) h = (h, tt)
 piece_of p middle h = (tt, tt)
 piece_of p closes h = (tt, tt)
 

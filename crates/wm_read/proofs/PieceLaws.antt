@@ -4,12 +4,15 @@ use Rattle.std.specs.Prelude.{codes, ◌==◌, ◌^◌, nat_lt, not}
 use Rattle.std.proofs.lemmas.Bool.{cond-true, ltb-true, lt-ltb, and_left, ne_eqb}
 use Rattle.wm_syntax.specs.Spelling.{Form, Each, ◌▸◌}
 use Rattle.wm_syntax.specs.declared.types.ValType.{ValType}
-use Rattle.wm_syntax.specs.declared.types.ValType.TheVariants.{I32, I64}
+use Rattle.wm_syntax.specs.declared.instructions.MemArg.{MemArg}
+use Rattle.wm_syntax.specs.declared.instructions.IntType.TheVariants.{I32, I64}
+use Rattle.wm_syntax.specs.declared.instructions.FloatType.TheVariants as float
+use Rattle.wm_syntax.specs.declared.instructions.Conversion.TheVariants.{I32TruncF32S}
 use Rattle.wm_syntax.specs.declared.instructions.LoadOp.{LoadOp}
-use Rattle.wm_syntax.specs.declared.instructions.LoadOp.TheVariants.{I32Load}
+use Rattle.wm_syntax.specs.declared.instructions.LoadOp.TheVariants.{I32Load, F32Load, F64Load}
 use Rattle.wm_syntax.specs.declared.instructions.StoreOp.{StoreOp}
-use Rattle.wm_syntax.specs.declared.instructions.StoreOp.TheVariants.{I32Store}
-use Rattle.wm_syntax.specs.declared.instructions.Numeric.TheVariants.{Test, Compare, Unary, Binary, SignExtend}
+use Rattle.wm_syntax.specs.declared.instructions.StoreOp.TheVariants.{I32Store, F32Store, F64Store}
+use Rattle.wm_syntax.specs.declared.instructions.Numeric.TheVariants.{Test, Compare, Unary, Binary, FloatCompare, FloatUnary, FloatBinary, Convert, SignExtend}
 use Rattle.wm_syntax.specs.declared.instructions.SignExtension.TheVariants.{I32From8}
 use Rattle.wm_syntax.specs.declared.instructions.Op.{Op}
 use Rattle.wm_syntax.specs.declared.instructions.Op.TheVariants as op
@@ -22,7 +25,7 @@ use Rattle.wm_syntax.specs.declared.instructions.op_class.OpClass.TheVariants as
 use Rattle.wm_syntax.specs.declared.profile.Profile.{Profile}
 use Rattle.wm_syntax.specs.Opcodes.{opcode, load, store}
 use Rattle.wm_syntax.specs.OpClasses.{class_of, IsClassOfOp}
-use Rattle.wm_syntax.specs.Profiles.{HasSimple, IsOpOf}
+use Rattle.wm_syntax.specs.Profiles.{HasBlockType, HasSimple, IsOpOf}
 use Rattle.wm_read.specs.Tokens.{Token, open_paren, close_paren, string, atom, is_lower}
 use Rattle.wm_read.proofs.Basics.{chosen, same_some}
 use Rattle.wm_read.specs.declared.code.blocks.Opening.{Opening}
@@ -31,12 +34,14 @@ use Rattle.wm_read.specs.Identifiers.{Id, Ids, AreDistinct, WritesId, Resolves, 
 use Rattle.wm_syntax.specs.OpNames.{op_name}
 use Rattle.wm_syntax.specs.exact.NameTable.{class_named, immediates_name}
 use Rattle.wm_syntax.proofs.NamedOps.{found_named, only_named}
-use Rattle.wm_read.specs.Written.{Names, Scope, UnnamedTypeUse, WritesOperand, WritesBlockType, WritesInteger, WritesAccess}
+use Rattle.wm_read.specs.Written.{Names, Scope, UnnamedTypeUse, WritesOperand, WritesBlockType, WritesInteger, WritesFloat, WritesAccess}
+use Rattle.wm_floats.specs.exact.Atoms.{float_of}
+use Rattle.wm_read.proofs.Floats.{float_sound, float_complete}
 use Rattle.wm_read.specs.inner.Pieces.{Opened, labels, Piece, plain, jump, opens, middle, closes, opening_word, IsPieceOf, WritesPiece}
 use Rattle.wm_read.specs.exact.Reading.{Reader, atom_at, index_of, integer_of, then_at, id_at, is_id, is_word, after_key, access_at, block_type_at, again_at, split_last, labels_at, table_of, table_at, middle_at, closes_at, simple_at, opens_at, kind_at, class_at, piece_at}
 use Rattle.wm_read.proofs.Readers.{Sound, Complete, Both, bind_ok, bind_is, then_sound, then_complete, made_sound, made_is}
 use Rattle.wm_read.proofs.Indices.{index_sound, index_complete, label_sound, label_complete}
-use Rattle.wm_read.proofs.Immediates.{integer_sound, integer_complete, NoKeys, access_sound, access_complete, NotId, id_sound, id_complete, NotOpen, block_type_sound, block_type_complete, IsName, Again, again_sound, again_complete, closes_again, again_closes, NotIndex, labels_sound, labels_complete}
+use Rattle.wm_read.proofs.Immediates.{integer_sound, integer_complete, NoKeys, access_sound, access_complete, NotId, id_sound, id_complete, NotOpen, OfBlockType, block_type_sound, block_type_complete, IsName, Again, again_sound, again_complete, closes_again, again_closes, NotIndex, labels_sound, labels_complete}
 
 -- ---- a piece's word, and what follows it
 
@@ -144,6 +149,14 @@ simple_word (s.Numeric (Unary I32 o)) = (refl, refl, refl)
 simple_word (s.Numeric (Unary I64 o)) = (refl, refl, refl)
 simple_word (s.Numeric (Binary I32 o)) = (refl, refl, refl)
 simple_word (s.Numeric (Binary I64 o)) = (refl, refl, refl)
+simple_word (s.Numeric (FloatCompare float.F32 o)) = (refl, refl, refl)
+simple_word (s.Numeric (FloatCompare float.F64 o)) = (refl, refl, refl)
+simple_word (s.Numeric (FloatUnary float.F32 o)) = (refl, refl, refl)
+simple_word (s.Numeric (FloatUnary float.F64 o)) = (refl, refl, refl)
+simple_word (s.Numeric (FloatBinary float.F32 o)) = (refl, refl, refl)
+simple_word (s.Numeric (FloatBinary float.F64 o)) = (refl, refl, refl)
+simple_word (s.Numeric (Convert I32TruncF32S)) = (refl, refl, refl)
+simple_word (s.Numeric (Convert _)) = (refl, refl, refl)
 simple_word (s.Numeric (SignExtend I32From8)) = (refl, refl, refl)
 simple_word (s.Numeric (SignExtend _)) = (refl, refl, refl)
 simple_word (s.Numeric _) = (refl, refl, refl)
@@ -167,21 +180,49 @@ piece_follows sc bs q front rest h = let g = to_rest sc bs q front h in subst (�
 
 -- ---- a class and its word
 
+-- an instruction of every profile, by its form alone
 IsFree : Simple → Type 0
 IsFree (s.Numeric n) = ⊥
+IsFree (s.F32Const n) = ⊥
+IsFree (s.F64Const n) = ⊥
+IsFree (s.Load o at) = ⊥
+IsFree (s.Store o at) = ⊥
 IsFree _ = Unit {0}
 
 free : (p : Profile) (i : Simple) → IsFree i → HasSimple p i
 unfolding IsFree
 free p (s.Numeric n) h = absurd h
+free p (s.F32Const n) h = absurd h
+free p (s.F64Const n) h = absurd h
+free p (s.Load o at) h = absurd h
+free p (s.Store o at) h = absurd h
 free p _ h = refl
+
+-- whether a profile has an access does not depend on its place
+load_all : (p : Profile) (o : LoadOp) (at : MemArg) → HasSimple p (s.Load o at) → (a : MemArg) → HasSimple p (s.Load o a)
+load_all p F32Load at h a = h
+load_all p F64Load at h a = h
+load_all p _ at h a = refl
+
+store_all : (p : Profile) (o : StoreOp) (at : MemArg) → HasSimple p (s.Store o at) → (a : MemArg) → HasSimple p (s.Store o a)
+store_all p F32Store at h a = h
+store_all p F64Store at h a = h
+store_all p _ at h a = refl
+
+-- the accesses and the floats with these immediates are of the profile
+abbrev KindOf : Profile → Immediates → Type 0
+KindOf p k.F32Const = (n : ℕ) → HasSimple p (s.F32Const n)
+KindOf p k.F64Const = (n : ℕ) → HasSimple p (s.F64Const n)
+KindOf p (k.Load o) = (at : MemArg) → HasSimple p (s.Load o at)
+KindOf p (k.Store o) = (at : MemArg) → HasSimple p (s.Store o at)
+KindOf p _ = Unit {0}
 
 pub piece_named : (p : Profile) (q : Piece) → IsPieceOf p q → class_named p (piece_word q) ≡ piece_class q
 piece_named p (plain i) h = found_named p (opcode i).1 (op.Simple i) refl h
 piece_named p (jump ls l) h = found_named p (codes "br_table") (op.BrTable 0) refl tt
-piece_named p (opens Block id t) h = found_named p (codes "block") (op.Block t) refl tt
-piece_named p (opens Loop id t) h = found_named p (codes "loop") (op.Loop t) refl tt
-piece_named p (opens If id t) h = found_named p (codes "if") (op.If t) refl tt
+piece_named p (opens Block id t) h = found_named p (codes "block") (op.Block t) refl h
+piece_named p (opens Loop id t) h = found_named p (codes "loop") (op.Loop t) refl h
+piece_named p (opens If id t) h = found_named p (codes "if") (op.If t) refl h
 piece_named p middle h = found_named p (codes "else") op.Else refl tt
 piece_named p closes h = found_named p (codes "end") op.End refl tt
 
@@ -326,77 +367,81 @@ module _ (use_at : Reader ℕ) (sc : Scope) (use_sound : Sound use_at (UnnamedTy
       let u = same_some (plain i, k) (q, rest) is in
       ([], ap (λ (z : Piece × List Token). z.1) u, subst (λ (z : Piece × List Token). Headed w z.0 []) u (e, h, g))
 
-  opens_sound : (o : Opening) → Sound (opens_at o) (Headed (opening_word o))
-  opens_sound o = made_sound (λ x. opens o x.0 x.1) (then_at id_at block_type_at) (Both WritesId WritesBlockType) (Headed (opening_word o))
-      (then_sound id_at block_type_at WritesId WritesBlockType id_sound block_type_sound) (λ x front h. (refl, h, tt))
+  opens_sound : (o : Opening) → Sound (opens_at p o) (Headed (opening_word o))
+  opens_sound o = made_sound (λ x. opens o x.0 x.1) (then_at id_at (block_type_at p)) (Both WritesId (OfBlockType p)) (Headed (opening_word o))
+      (then_sound id_at (block_type_at p) WritesId (OfBlockType p) id_sound (block_type_sound p)) (λ x front h. (refl, (h.0, h.1, h.2, h.3, h.4.0), h.4.1))
 
   headed_to : (v w : List ℕ) (r : Reader Piece) → v ≡ w → Sound r (Headed v) → Sound r (Headed w)
   headed_to v w r e h = subst (λ (z : List ℕ). Sound r (Headed z)) e h
 
-  kind_sound : (kind : Immediates) (w : List ℕ) → immediates_name kind ≡ w → Sound (kind_at use_at sc bs kind) (Headed w)
+  kind_sound : (kind : Immediates) (w : List ℕ) → immediates_name kind ≡ w → KindOf p kind → Sound (kind_at use_at p sc bs kind) (Headed w)
   unfolding IsFree
-  kind_sound k.Block w e = headed_to (codes "block") w (opens_at Block) e (opens_sound Block)
-  kind_sound k.Loop w e = headed_to (codes "loop") w (opens_at Loop) e (opens_sound Loop)
-  kind_sound k.If w e = headed_to (codes "if") w (opens_at If) e (opens_sound If)
-  kind_sound k.Br w e = simple_sound s.Br (atom_at (index_of (labels bs))) (ResolvesLabel (labels bs)) w (label_sound (labels bs)) (λ x. e) (λ x. tt) (λ x front h. h)
-  kind_sound k.BrIf w e = simple_sound s.BrIf (atom_at (index_of (labels bs))) (ResolvesLabel (labels bs)) w (label_sound (labels bs)) (λ x. e) (λ x. tt) (λ x front h. h)
-  kind_sound k.BrTable w e = headed_to (codes "br_table") w (table_at (labels bs)) e (table_sound sc bs p)
-  kind_sound k.Call w e = simple_sound s.Call (atom_at (index_of sc.names.functions)) (Resolves sc.names.functions) w (index_sound sc.names.functions) (λ x. e) (λ x. tt) (λ x front h. h)
-  kind_sound k.CallIndirect w e = simple_sound s.CallIndirect use_at (UnnamedTypeUse sc.names) w use_sound (λ x. e) (λ x. tt) (λ x front h. h)
-  kind_sound k.LocalGet w e = simple_sound s.LocalGet (atom_at (index_of sc.locals)) (Resolves sc.locals) w (index_sound sc.locals) (λ x. e) (λ x. tt) (λ x front h. h)
-  kind_sound k.LocalSet w e = simple_sound s.LocalSet (atom_at (index_of sc.locals)) (Resolves sc.locals) w (index_sound sc.locals) (λ x. e) (λ x. tt) (λ x front h. h)
-  kind_sound k.LocalTee w e = simple_sound s.LocalTee (atom_at (index_of sc.locals)) (Resolves sc.locals) w (index_sound sc.locals) (λ x. e) (λ x. tt) (λ x front h. h)
-  kind_sound k.GlobalGet w e = simple_sound s.GlobalGet (atom_at (index_of sc.names.globals)) (Resolves sc.names.globals) w (index_sound sc.names.globals) (λ x. e) (λ x. tt) (λ x front h. h)
-  kind_sound k.GlobalSet w e = simple_sound s.GlobalSet (atom_at (index_of sc.names.globals)) (Resolves sc.names.globals) w (index_sound sc.names.globals) (λ x. e) (λ x. tt) (λ x front h. h)
-  kind_sound k.MemorySize w e = alone_sound s.MemorySize w e refl (free p s.MemorySize tt)
-  kind_sound k.MemoryGrow w e = alone_sound s.MemoryGrow w e refl (free p s.MemoryGrow tt)
-  kind_sound k.I32Const w e = simple_sound s.I32Const (atom_at (integer_of 32)) (WritesInteger 32) w (integer_sound 32) (λ x. e) (λ x. tt) (λ x front h. h)
-  kind_sound k.I64Const w e = simple_sound s.I64Const (atom_at (integer_of 64)) (WritesInteger 64) w (integer_sound 64) (λ x. e) (λ x. tt) (λ x front h. h)
-  kind_sound (k.Load o) w e = simple_sound (s.Load o) (access_at (load o).width) (WritesAccess (load o).width) w (access_sound (load o).width) (λ x. e) (λ x. tt) (λ x front h. h)
-  kind_sound (k.Store o) w e = simple_sound (s.Store o) (access_at (store o).width) (WritesAccess (store o).width) w (access_sound (store o).width) (λ x. e) (λ x. tt) (λ x front h. h)
+  kind_sound k.Block w e of = headed_to (codes "block") w (opens_at p Block) e (opens_sound Block)
+  kind_sound k.Loop w e of = headed_to (codes "loop") w (opens_at p Loop) e (opens_sound Loop)
+  kind_sound k.If w e of = headed_to (codes "if") w (opens_at p If) e (opens_sound If)
+  kind_sound k.Br w e of = simple_sound s.Br (atom_at (index_of (labels bs))) (ResolvesLabel (labels bs)) w (label_sound (labels bs)) (λ x. e) (λ x. tt) (λ x front h. h)
+  kind_sound k.BrIf w e of = simple_sound s.BrIf (atom_at (index_of (labels bs))) (ResolvesLabel (labels bs)) w (label_sound (labels bs)) (λ x. e) (λ x. tt) (λ x front h. h)
+  kind_sound k.BrTable w e of = headed_to (codes "br_table") w (table_at (labels bs)) e (table_sound sc bs p)
+  kind_sound k.Call w e of = simple_sound s.Call (atom_at (index_of sc.names.functions)) (Resolves sc.names.functions) w (index_sound sc.names.functions) (λ x. e) (λ x. tt) (λ x front h. h)
+  kind_sound k.CallIndirect w e of = simple_sound s.CallIndirect use_at (UnnamedTypeUse sc.names) w use_sound (λ x. e) (λ x. tt) (λ x front h. h)
+  kind_sound k.LocalGet w e of = simple_sound s.LocalGet (atom_at (index_of sc.locals)) (Resolves sc.locals) w (index_sound sc.locals) (λ x. e) (λ x. tt) (λ x front h. h)
+  kind_sound k.LocalSet w e of = simple_sound s.LocalSet (atom_at (index_of sc.locals)) (Resolves sc.locals) w (index_sound sc.locals) (λ x. e) (λ x. tt) (λ x front h. h)
+  kind_sound k.LocalTee w e of = simple_sound s.LocalTee (atom_at (index_of sc.locals)) (Resolves sc.locals) w (index_sound sc.locals) (λ x. e) (λ x. tt) (λ x front h. h)
+  kind_sound k.GlobalGet w e of = simple_sound s.GlobalGet (atom_at (index_of sc.names.globals)) (Resolves sc.names.globals) w (index_sound sc.names.globals) (λ x. e) (λ x. tt) (λ x front h. h)
+  kind_sound k.GlobalSet w e of = simple_sound s.GlobalSet (atom_at (index_of sc.names.globals)) (Resolves sc.names.globals) w (index_sound sc.names.globals) (λ x. e) (λ x. tt) (λ x front h. h)
+  kind_sound k.MemorySize w e of = alone_sound s.MemorySize w e refl (free p s.MemorySize tt)
+  kind_sound k.MemoryGrow w e of = alone_sound s.MemoryGrow w e refl (free p s.MemoryGrow tt)
+  kind_sound k.I32Const w e of = simple_sound s.I32Const (atom_at (integer_of 32)) (WritesInteger 32) w (integer_sound 32) (λ x. e) (λ x. tt) (λ x front h. h)
+  kind_sound k.I64Const w e of = simple_sound s.I64Const (atom_at (integer_of 64)) (WritesInteger 64) w (integer_sound 64) (λ x. e) (λ x. tt) (λ x front h. h)
+  kind_sound k.F32Const w e of = made_sound (λ x. plain (s.F32Const x)) (atom_at (float_of float.F32)) (WritesFloat float.F32) (Headed w) (float_sound float.F32) (λ x front h. (e, h, of x))
+  kind_sound k.F64Const w e of = made_sound (λ x. plain (s.F64Const x)) (atom_at (float_of float.F64)) (WritesFloat float.F64) (Headed w) (float_sound float.F64) (λ x front h. (e, h, of x))
+  kind_sound (k.Load o) w e of = made_sound (λ x. plain (s.Load o x)) (access_at (load o).width) (WritesAccess (load o).width) (Headed w) (access_sound (load o).width) (λ x front h. (e, h, of x))
+  kind_sound (k.Store o) w e of = made_sound (λ x. plain (s.Store o x)) (access_at (store o).width) (WritesAccess (store o).width) (Headed w) (access_sound (store o).width) (λ x front h. (e, h, of x))
 
   some_word : (v w : List ℕ) → ◌≡◌ {A = Option (List ℕ)} (Some v) (Some w) → v ≡ w
   some_word v w e = same_some v w e
 
   -- what an op's class reads begins with the op's name
-  class_sound : (o : Op) (w : List ℕ) → op_name o ≡ Some w → IsOpOf p o → Sound (class_at use_at sc bs (class_of o)) (Headed w)
-  class_sound (op.Simple (s.Br x)) w e h = kind_sound k.Br w (some_word (codes "br") w e)
-  class_sound (op.Simple (s.BrIf x)) w e h = kind_sound k.BrIf w (some_word (codes "br_if") w e)
-  class_sound (op.Simple (s.Call x)) w e h = kind_sound k.Call w (some_word (codes "call") w e)
-  class_sound (op.Simple (s.CallIndirect x)) w e h = kind_sound k.CallIndirect w (some_word (codes "call_indirect") w e)
-  class_sound (op.Simple (s.LocalGet x)) w e h = kind_sound k.LocalGet w (some_word (codes "local.get") w e)
-  class_sound (op.Simple (s.LocalSet x)) w e h = kind_sound k.LocalSet w (some_word (codes "local.set") w e)
-  class_sound (op.Simple (s.LocalTee x)) w e h = kind_sound k.LocalTee w (some_word (codes "local.tee") w e)
-  class_sound (op.Simple (s.GlobalGet x)) w e h = kind_sound k.GlobalGet w (some_word (codes "global.get") w e)
-  class_sound (op.Simple (s.GlobalSet x)) w e h = kind_sound k.GlobalSet w (some_word (codes "global.set") w e)
-  class_sound (op.Simple s.MemorySize) w e h = kind_sound k.MemorySize w (some_word (codes "memory.size") w e)
-  class_sound (op.Simple s.MemoryGrow) w e h = kind_sound k.MemoryGrow w (some_word (codes "memory.grow") w e)
-  class_sound (op.Simple (s.I32Const x)) w e h = kind_sound k.I32Const w (some_word (codes "i32.const") w e)
-  class_sound (op.Simple (s.I64Const x)) w e h = kind_sound k.I64Const w (some_word (codes "i64.const") w e)
-  class_sound (op.Simple (s.Load o at)) w e h = kind_sound (k.Load o) w (some_word (load o).name w e)
-  class_sound (op.Simple (s.Store o at)) w e h = kind_sound (k.Store o) w (some_word (store o).name w e)
+  class_sound : (o : Op) (w : List ℕ) → op_name o ≡ Some w → IsOpOf p o → Sound (class_at use_at p sc bs (class_of o)) (Headed w)
+  class_sound (op.Simple (s.Br x)) w e h = kind_sound k.Br w (some_word (codes "br") w e) tt
+  class_sound (op.Simple (s.BrIf x)) w e h = kind_sound k.BrIf w (some_word (codes "br_if") w e) tt
+  class_sound (op.Simple (s.Call x)) w e h = kind_sound k.Call w (some_word (codes "call") w e) tt
+  class_sound (op.Simple (s.CallIndirect x)) w e h = kind_sound k.CallIndirect w (some_word (codes "call_indirect") w e) tt
+  class_sound (op.Simple (s.LocalGet x)) w e h = kind_sound k.LocalGet w (some_word (codes "local.get") w e) tt
+  class_sound (op.Simple (s.LocalSet x)) w e h = kind_sound k.LocalSet w (some_word (codes "local.set") w e) tt
+  class_sound (op.Simple (s.LocalTee x)) w e h = kind_sound k.LocalTee w (some_word (codes "local.tee") w e) tt
+  class_sound (op.Simple (s.GlobalGet x)) w e h = kind_sound k.GlobalGet w (some_word (codes "global.get") w e) tt
+  class_sound (op.Simple (s.GlobalSet x)) w e h = kind_sound k.GlobalSet w (some_word (codes "global.set") w e) tt
+  class_sound (op.Simple s.MemorySize) w e h = kind_sound k.MemorySize w (some_word (codes "memory.size") w e) tt
+  class_sound (op.Simple s.MemoryGrow) w e h = kind_sound k.MemoryGrow w (some_word (codes "memory.grow") w e) tt
+  class_sound (op.Simple (s.I32Const x)) w e h = kind_sound k.I32Const w (some_word (codes "i32.const") w e) tt
+  class_sound (op.Simple (s.I64Const x)) w e h = kind_sound k.I64Const w (some_word (codes "i64.const") w e) tt
+  class_sound (op.Simple (s.F32Const x)) w e h = kind_sound k.F32Const w (some_word (codes "f32.const") w e) (λ n. h)
+  class_sound (op.Simple (s.F64Const x)) w e h = kind_sound k.F64Const w (some_word (codes "f64.const") w e) (λ n. h)
+  class_sound (op.Simple (s.Load o at)) w e h = kind_sound (k.Load o) w (some_word (load o).name w e) (load_all p o at h)
+  class_sound (op.Simple (s.Store o at)) w e h = kind_sound (k.Store o) w (some_word (store o).name w e) (store_all p o at h)
   class_sound (op.Simple (s.Numeric n)) w e h = alone_sound (s.Numeric n) w (some_word (opcode (s.Numeric n)).1 w e) refl h
   class_sound (op.Simple s.Unreachable) w e h = alone_sound s.Unreachable w (some_word (codes "unreachable") w e) refl h
   class_sound (op.Simple s.Nop) w e h = alone_sound s.Nop w (some_word (codes "nop") w e) refl h
   class_sound (op.Simple s.Return) w e h = alone_sound s.Return w (some_word (codes "return") w e) refl h
   class_sound (op.Simple s.Drop) w e h = alone_sound s.Drop w (some_word (codes "drop") w e) refl h
   class_sound (op.Simple s.Select) w e h = alone_sound s.Select w (some_word (codes "select") w e) refl h
-  class_sound (op.Block t) w e h = kind_sound k.Block w (some_word (codes "block") w e)
-  class_sound (op.Loop t) w e h = kind_sound k.Loop w (some_word (codes "loop") w e)
-  class_sound (op.If t) w e h = kind_sound k.If w (some_word (codes "if") w e)
+  class_sound (op.Block t) w e h = kind_sound k.Block w (some_word (codes "block") w e) tt
+  class_sound (op.Loop t) w e h = kind_sound k.Loop w (some_word (codes "loop") w e) tt
+  class_sound (op.If t) w e h = kind_sound k.If w (some_word (codes "if") w e) tt
   class_sound op.Else w e h = headed_to (codes "else") w (middle_at bs) (some_word (codes "else") w e) (middle_sound sc p bs)
   class_sound op.End w e h = headed_to (codes "end") w (closes_at bs) (some_word (codes "end") w e) (closes_sound sc p bs)
-  class_sound (op.BrTable n) w e h = kind_sound k.BrTable w (some_word (codes "br_table") w e)
+  class_sound (op.BrTable n) w e h = kind_sound k.BrTable w (some_word (codes "br_table") w e) tt
   class_sound (op.Label l) w e h = absurd (let f : ◌≡◌ {A = Option (List ℕ)} None (Some w) = e in cc)
 
   -- a piece that is read stands in front
   pub piece_sound : (w : List ℕ) → Sound (piece_at use_at p sc bs w) (λ q front. WritesPiece sc bs q (atom w ∷ front) × IsPieceOf p q)
   unfolding piece_at
   piece_sound w k q rest e = elim (named_has p w) [
-    | inl n ↦ absurd (let f : ◌≡◌ {A = Option (Piece × List Token)} None (Some (q, rest)) = ap (λ (c : OpClass). class_at use_at sc bs c k) (sym n) ∙ e in cc)
-    | inr (inl n) ↦ absurd (let f : ◌≡◌ {A = Option (Piece × List Token)} None (Some (q, rest)) = ap (λ (c : OpClass). class_at use_at sc bs c k) (sym n) ∙ e in cc)
+    | inl n ↦ absurd (let f : ◌≡◌ {A = Option (Piece × List Token)} None (Some (q, rest)) = ap (λ (c : OpClass). class_at use_at p sc bs c k) (sym n) ∙ e in cc)
+    | inr (inl n) ↦ absurd (let f : ◌≡◌ {A = Option (Piece × List Token)} None (Some (q, rest)) = ap (λ (c : OpClass). class_at use_at p sc bs c k) (sym n) ∙ e in cc)
     | inr (inr h) ↦ (
-        let g = class_sound h.0 w h.1 h.2 k q rest (ap (λ (c : OpClass). class_at use_at sc bs c k) h.3 ∙ e) in
+        let g = class_sound h.0 w h.1 h.2 k q rest (ap (λ (c : OpClass). class_at use_at p sc bs c k) h.3 ∙ e) in
         (g.0, g.1, (subst (λ (z : List ℕ). WritesPiece sc bs q (atom z ∷ g.0)) g.2.0 (from_rest sc bs q g.0 g.2.1), g.2.2)))
   ]
 
@@ -405,7 +450,7 @@ module _ (use_at : Reader ℕ) (sc : Scope) (use_sound : Sound use_at (UnnamedTy
   alone_complete i front rest e = ap (λ (z : List Token). Some (plain i, z ++ rest)) e
 
   module _ (scope : IsScope sc) (use_complete : Complete use_at (UnnamedTypeUse sc.names) NotOpen) where
-    simple_complete : (i : Simple) (front rest : List Token) → WritesOperand sc (labels bs) i front → Follow rest → class_at use_at sc bs (class_of (op.Simple i)) (front ++ rest) ≡ Some (plain i, rest)
+    simple_complete : (i : Simple) (front rest : List Token) → WritesOperand sc (labels bs) i front → Follow rest → class_at use_at p sc bs (class_of (op.Simple i)) (front ++ rest) ≡ Some (plain i, rest)
     simple_complete (s.Br x) front rest h f = made_is (λ y. plain (s.Br y)) (atom_at (index_of (labels bs)) (front ++ rest)) x rest (label_complete (labels bs) x front rest h tt)
     simple_complete (s.BrIf x) front rest h f = made_is (λ y. plain (s.BrIf y)) (atom_at (index_of (labels bs)) (front ++ rest)) x rest (label_complete (labels bs) x front rest h tt)
     simple_complete (s.Call x) front rest h f = made_is (λ y. plain (s.Call y)) (atom_at (index_of sc.names.functions) (front ++ rest)) x rest (index_complete sc.names.functions scope.functions x front rest h tt)
@@ -417,6 +462,8 @@ module _ (use_at : Reader ℕ) (sc : Scope) (use_sound : Sound use_at (UnnamedTy
     simple_complete (s.GlobalSet x) front rest h f = made_is (λ y. plain (s.GlobalSet y)) (atom_at (index_of sc.names.globals) (front ++ rest)) x rest (index_complete sc.names.globals scope.globals x front rest h tt)
     simple_complete (s.I32Const z) front rest h f = made_is (λ y. plain (s.I32Const y)) (atom_at (integer_of 32) (front ++ rest)) z rest (integer_complete 32 z front rest h tt)
     simple_complete (s.I64Const z) front rest h f = made_is (λ y. plain (s.I64Const y)) (atom_at (integer_of 64) (front ++ rest)) z rest (integer_complete 64 z front rest h tt)
+    simple_complete (s.F32Const n) front rest h f = made_is (λ y. plain (s.F32Const y)) (atom_at (float_of float.F32) (front ++ rest)) n rest (float_complete float.F32 n front rest h tt)
+    simple_complete (s.F64Const n) front rest h f = made_is (λ y. plain (s.F64Const y)) (atom_at (float_of float.F64) (front ++ rest)) n rest (float_complete float.F64 n front rest h tt)
     simple_complete (s.Load o at) front rest h f = made_is (λ y. plain (s.Load o y)) (access_at (load o).width (front ++ rest)) at rest (access_complete (load o).width (load_width o) at front rest h (follow_keys rest f))
     simple_complete (s.Store o at) front rest h f = made_is (λ y. plain (s.Store o y)) (access_at (store o).width (front ++ rest)) at rest (access_complete (store o).width (store_width o) at front rest h (follow_keys rest f))
     simple_complete s.MemorySize front rest h f = alone_complete s.MemorySize front rest h
@@ -428,23 +475,23 @@ module _ (use_at : Reader ℕ) (sc : Scope) (use_sound : Sound use_at (UnnamedTy
     simple_complete s.Drop front rest h f = alone_complete s.Drop front rest h
     simple_complete s.Select front rest h f = alone_complete s.Select front rest h
 
-    type_not_id : (t : Option ValType) (front rest : List Token) → WritesBlockType t front → Follow rest → NotId (front ++ rest)
-    type_not_id None front rest e f = subst (λ (z : List Token). NotId (z ++ rest)) (sym e) (follow_id rest f)
-    type_not_id (Some t) front rest (a, b, e, is, more) f = subst (λ (z : List Token). NotId (z ++ rest)) (sym (e ∙ ap (λ (z : List Token). z ++ b) is)) tt
+    type_not_id : (t : Option ValType) (front rest : List Token) → OfBlockType p t front → Follow rest → NotId (front ++ rest)
+    type_not_id None front rest (e, of) f = subst (λ (z : List Token). NotId (z ++ rest)) (sym e) (follow_id rest f)
+    type_not_id (Some t) front rest ((a, b, e, is, more), of) f = subst (λ (z : List Token). NotId (z ++ rest)) (sym (e ∙ ap (λ (z : List Token). z ++ b) is)) tt
 
-    opens_complete : (o : Opening) (id : Id) (t : Option ValType) (front rest : List Token) → (WritesId id ▸ WritesBlockType t) front → Follow rest → opens_at o (front ++ rest) ≡ Some (opens o id t, rest)
-    opens_complete o id t front rest h f =
-        made_is (λ x. opens o x.0 x.1) (then_at id_at block_type_at (front ++ rest)) (id, t) rest
-        (then_complete id_at block_type_at WritesId WritesBlockType NotId Follow id_complete (λ u g r h f. block_type_complete u g r h (follow_open r f)) type_not_id (id, t) front rest h f)
+    opens_complete : (o : Opening) (id : Id) (t : Option ValType) (front rest : List Token) → (WritesId id ▸ WritesBlockType t) front → HasBlockType p t → Follow rest → opens_at p o (front ++ rest) ≡ Some (opens o id t, rest)
+    opens_complete o id t front rest (a, b, e, i, w) of f =
+        made_is (λ x. opens o x.0 x.1) (then_at id_at (block_type_at p) (front ++ rest)) (id, t) rest
+        (then_complete id_at (block_type_at p) WritesId (OfBlockType p) NotId Follow id_complete (λ u g r h f. block_type_complete p u g r h (follow_open r f)) type_not_id (id, t) front rest (a, b, e, i, (w, of)) f)
 
-    class_complete : AreNames bs → (q : Piece) (front rest : List Token) → RestOf sc bs q front → Follow rest → class_at use_at sc bs (piece_class q) (front ++ rest) ≡ Some (q, rest)
-    class_complete n (plain i) front rest h f = simple_complete i front rest h f
-    class_complete n (jump ls l) front rest h f = table_complete (labels bs) ls l front rest h (follow_index rest f)
-    class_complete n (opens Block id t) front rest h f = opens_complete Block id t front rest h f
-    class_complete n (opens Loop id t) front rest h f = opens_complete Loop id t front rest h f
-    class_complete n (opens If id t) front rest h f = opens_complete If id t front rest h f
-    class_complete n middle front rest h f = middle_complete sc bs front rest n h (follow_id rest f)
-    class_complete n closes front rest h f = closes_complete sc bs front rest n h (follow_id rest f)
+    class_complete : AreNames bs → (q : Piece) (front rest : List Token) → RestOf sc bs q front → IsPieceOf p q → Follow rest → class_at use_at p sc bs (piece_class q) (front ++ rest) ≡ Some (q, rest)
+    class_complete n (plain i) front rest h of f = simple_complete i front rest h f
+    class_complete n (jump ls l) front rest h of f = table_complete (labels bs) ls l front rest h (follow_index rest f)
+    class_complete n (opens Block id t) front rest h of f = opens_complete Block id t front rest h of f
+    class_complete n (opens Loop id t) front rest h of f = opens_complete Loop id t front rest h of f
+    class_complete n (opens If id t) front rest h of f = opens_complete If id t front rest h of f
+    class_complete n middle front rest h of f = middle_complete sc bs front rest n h (follow_id rest f)
+    class_complete n closes front rest h of f = closes_complete sc bs front rest n h (follow_id rest f)
 
     -- a piece that stands in front is read
     pub piece_complete : AreNames bs → (q : Piece) (front rest : List Token) → WritesPiece sc bs q front → IsPieceOf p q → Follow rest
@@ -452,4 +499,4 @@ module _ (use_at : Reader ℕ) (sc : Scope) (use_sound : Sound use_at (UnnamedTy
     unfolding piece_at
     piece_complete n q front rest h i f =
         let g = to_rest sc bs q front h in
-        (piece_word q, g.0, g.1, ap (λ (c : OpClass). class_at use_at sc bs c (g.0 ++ rest)) (piece_named p q i) ∙ class_complete n q g.0 rest g.2 f)
+        (piece_word q, g.0, g.1, ap (λ (c : OpClass). class_at use_at p sc bs c (g.0 ++ rest)) (piece_named p q i) ∙ class_complete n q g.0 rest g.2 i f)

@@ -10,7 +10,12 @@ use Rattle.std.proofs.lemmas.Grind.{flat_map-append}
 use Rattle.wm_syntax.specs.Spelling.{Form, Each, ◌▸◌}
 use Rattle.wm_syntax.specs.Types.{Signature}
 use Rattle.wm_syntax.specs.declared.types.ValType.{ValType}
-use Rattle.wm_syntax.specs.declared.types.ValType.TheVariants.{I32, I64}
+use Rattle.wm_syntax.specs.declared.instructions.IntType.TheVariants.{I32, I64}
+use Rattle.wm_syntax.specs.declared.instructions.FloatType.TheVariants as float
+use Rattle.wm_syntax.specs.declared.instructions.FloatComparison.TheVariants as fc
+use Rattle.wm_syntax.specs.declared.instructions.FloatUnaryOp.TheVariants as fu
+use Rattle.wm_syntax.specs.declared.instructions.FloatBinaryOp.TheVariants as fb
+use Rattle.wm_syntax.specs.declared.instructions.Conversion.TheVariants.{I32TruncF32S}
 use Rattle.wm_syntax.specs.declared.types.Const.{Const}
 use Rattle.wm_syntax.specs.declared.instructions.MemArg.{MemArg}
 use Rattle.wm_syntax.specs.declared.instructions.Op.{Op}
@@ -20,7 +25,7 @@ use Rattle.wm_syntax.specs.declared.instructions.Simple.TheVariants as s
 use Rattle.wm_syntax.specs.declared.instructions.Comparison.TheVariants.{Eq}
 use Rattle.wm_syntax.specs.declared.instructions.UnaryOp.TheVariants.{Clz}
 use Rattle.wm_syntax.specs.declared.instructions.BinaryOp.TheVariants.{Add}
-use Rattle.wm_syntax.specs.declared.instructions.Numeric.TheVariants.{Test, Compare, Unary, Binary, SignExtend}
+use Rattle.wm_syntax.specs.declared.instructions.Numeric.TheVariants.{Test, Compare, Unary, Binary, FloatCompare, FloatUnary, FloatBinary, Convert, SignExtend}
 use Rattle.wm_syntax.specs.declared.instructions.SignExtension.TheVariants.{I32From8}
 use Rattle.wm_syntax.specs.declared.instructions.LoadOp.TheVariants.{I32Load}
 use Rattle.wm_syntax.specs.declared.instructions.StoreOp.TheVariants.{I32Store}
@@ -34,7 +39,7 @@ use Rattle.wm_read.specs.Written.{Closes, Names, Opens, Scope, TypeUse, WritesAc
 use Rattle.wm_read.specs.Written as w
 use Rattle.wm_read.specs.inner.Printed.{tokens}
 use Rattle.wm_read.proofs.PrintedTokens.{IsBreak, IsHead, body_line_breaks, gap_breaks}
-use Rattle.wm_read.proofs.PrintedForms.{IsPrefix, Prints, head_is, id_at, prints_as, prints_form, prints_index, prints_integer, prints_key, prints_label, prints_nothing, prints_then, prints_type, prints_use, prints_word}
+use Rattle.wm_read.proofs.PrintedForms.{IsPrefix, Prints, head_is, id_at, prints_as, prints_float, prints_form, prints_index, prints_integer, prints_key, prints_label, prints_nothing, prints_then, prints_type, prints_use, prints_word}
 use Rattle.wm_read.proofs.PrintedRanges.{AreFine, Counts, IsFine, IsFineInstruction}
 
 -- ---- the names of instructions are atoms
@@ -62,6 +67,20 @@ simple_name (s.Numeric (Binary I32 Add)) = refl
 simple_name (s.Numeric (Binary I32 _)) = refl
 simple_name (s.Numeric (Binary I64 Add)) = refl
 simple_name (s.Numeric (Binary I64 _)) = refl
+simple_name (s.Numeric (FloatCompare float.F32 fc.Eq)) = refl
+simple_name (s.Numeric (FloatCompare float.F32 _)) = refl
+simple_name (s.Numeric (FloatUnary float.F32 fu.Abs)) = refl
+simple_name (s.Numeric (FloatUnary float.F32 _)) = refl
+simple_name (s.Numeric (FloatBinary float.F32 fb.Add)) = refl
+simple_name (s.Numeric (FloatBinary float.F32 _)) = refl
+simple_name (s.Numeric (FloatCompare float.F64 fc.Eq)) = refl
+simple_name (s.Numeric (FloatCompare float.F64 _)) = refl
+simple_name (s.Numeric (FloatUnary float.F64 fu.Abs)) = refl
+simple_name (s.Numeric (FloatUnary float.F64 _)) = refl
+simple_name (s.Numeric (FloatBinary float.F64 fb.Add)) = refl
+simple_name (s.Numeric (FloatBinary float.F64 _)) = refl
+simple_name (s.Numeric (Convert I32TruncF32S)) = refl
+simple_name (s.Numeric (Convert _)) = refl
 simple_name (s.Numeric (SignExtend I32From8)) = refl
 simple_name (s.Numeric (SignExtend _)) = refl
 simple_name (s.Numeric _) = refl
@@ -133,6 +152,8 @@ module _ (sc : Scope) (c : Counts) (h : HasNames sc.names c) where
   prints_operand labels (s.GlobalSet x) f = prints_use (codes "$g") sc.names.globals x g_prefix f.0 (h.globals x f.1)
   prints_operand labels (s.I32Const n) f = prints_integer 32 n (lit< tt) f (wider n f)
   prints_operand labels (s.I64Const n) f = prints_integer 64 n (lit< tt) f f
+  prints_operand labels (s.F32Const n) f = prints_float float.F32 n f
+  prints_operand labels (s.F64Const n) f = prints_float float.F64 n f
   prints_operand labels (s.Load o at) f = prints_access (load o).width at f.0 f.1
   prints_operand labels (s.Store o at) f = prints_access (store o).width at f.0 f.1
   prints_operand labels _ f = prints_nothing

@@ -1,6 +1,6 @@
 -- Printed words that stand for tokens of a form.
 use Rattle.std.proofs.Common.{◌≡◌, ℕ, ◌<◌, ◌^◌, true, false, List, [], ◌∷◌, ◌++◌, map, flat_map, Some, refl, sym, ap, subst, ◌∙◌, inl, inr, arith, append_assoc, ℤ, ◌-◌, slice_get}
-use Rattle.std.specs.Prelude.{◌==◌, codes, decimal}
+use Rattle.std.specs.Prelude.{◌==◌, ◌+◌, ◌*◌, codes, decimal}
 use Rattle.std.specs.Fmt.{signed_decimal}
 use Rattle.std.specs.List.{AllByRecursion, list_all}
 use Rattle.std.proofs.lemmas.Bool.{cond_both, eqb-true, and_from}
@@ -9,12 +9,16 @@ use Rattle.std.proofs.lemmas.List.Folds.{list_all-append}
 use Rattle.wm_syntax.specs.Leb128.{FitsBits}
 use Rattle.wm_syntax.specs.Spelling.{Form, Exactly, Each, AreBytes, ◌▸◌}
 use Rattle.wm_syntax.specs.declared.types.ValType.{ValType}
-use Rattle.wm_syntax.specs.declared.types.ValType.TheVariants.{I32, I64}
+use Rattle.wm_syntax.specs.declared.types.ValType.TheVariants.{I32, I64, F32, F64}
 use Rattle.wm_write.specs.Layout.{Word, closing, atom, at, gap, spaced, number, quoted, parens, form, name, type_word, key_words}
+use Rattle.wm_write.specs.FloatText.{float_text}
+use Rattle.wm_floats.specs.Nearest.{signif, expon}
+use Rattle.wm_syntax.specs.declared.instructions.FloatType.{FloatType}
+use Rattle.wm_read.proofs.PrintedFloats.{printed_float, float_literal}
 use Rattle.wm_read.specs.Tokens as tok
 use Rattle.wm_read.specs.Tokens.{Token, open_paren, close_paren, is_id_char, is_lower, IsAtom, IsIdentifier, IsUnsigned, IsInteger}
 use Rattle.wm_read.specs.Identifiers.{Id, Ids, WritesId, Resolves, ResolvesLabel}
-use Rattle.wm_read.specs.Written.{Word as AWord, Paren, Nothing, Number, WritesType, WritesKey, WritesInteger}
+use Rattle.wm_read.specs.Written.{Word as AWord, Paren, Nothing, Number, WritesType, WritesKey, WritesInteger, WritesFloat}
 use Rattle.wm_read.specs.inner.Printed.{token_of, tokens}
 use Rattle.wm_read.proofs.PrintedNumbers.{decimal_printed, decimal_text, signed_text, signed_chars, signed_number}
 use Rattle.wm_read.proofs.PrintedTokens.{IsBreak, IsHead, Stands, atom_good, block_stands, both_stand, form_stands, gap_breaks, good_stands, none_stand, number_good, string_good}
@@ -94,11 +98,18 @@ prints_index ids x lt = record { stands = good_stands (number x) (number_good x 
 
 pub prints_integer : (bits : ℕ) (z : ℤ) → 2 ^ (bits - 1) < 2 ^ 64 → FitsBits bits z → FitsBits 64 z → Prints (WritesInteger bits z) (spaced (signed_decimal z) ∷ [])
 prints_integer bits z most fits wide =
-    prints_atom gap (signed_decimal z) gap_breaks (signed_chars z wide, inr (inl (signed_number z wide))) (signed_decimal z, refl, signed_text bits z most fits)
+    prints_atom gap (signed_decimal z) gap_breaks (signed_chars z wide, inr (inl (inl (signed_number z wide)))) (signed_decimal z, refl, signed_text bits z most fits)
+
+pub prints_float : (w : FloatType) (n : ℕ) → n < 2 * 2 ^ (signif w + expon w) → Prints (WritesFloat w n) (spaced (float_text w n) ∷ [])
+prints_float w n few =
+    let h = printed_float w n few in
+    prints_atom gap (float_text w n) gap_breaks (h.chars, inr (inl (inr (float_literal w n (float_text w n) h.is)))) (float_text w n, refl, h.is)
 
 pub prints_type : (t : ValType) → Prints (WritesType t) (type_word t ∷ [])
 prints_type I32 = prints_word gap (codes "i32") gap_breaks (refl, inr (inr refl))
 prints_type I64 = prints_word gap (codes "i64") gap_breaks (refl, inr (inr refl))
+prints_type F32 = prints_word gap (codes "f32") gap_breaks (refl, inr (inr refl))
+prints_type F64 = prints_word gap (codes "f64") gap_breaks (refl, inr (inr refl))
 
 pub prints_string : (bytes : List ℕ) → AreBytes bytes → Prints (Exactly (tok.string bytes ∷ [])) (quoted bytes ∷ [])
 prints_string bytes h = record { stands = good_stands (quoted bytes) (string_good bytes h); writes = refl }

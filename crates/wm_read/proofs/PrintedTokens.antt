@@ -8,7 +8,8 @@ use Rattle.std.proofs.lemmas.Grind.{flat_map-append}
 use Rattle.std.proofs.lemmas.Str.{IsAscii-append, IsUtf8-from_ascii}
 use Rattle.std.proofs.lemmas.Str.Ascii.{IsAscii-cons, IsAscii-nil}
 use Rattle.wm_syntax.specs.Spelling.{Each, AreBytes}
-use Rattle.wm_write.specs.Layout.{Meaning, Word, opening, closing, string, atom, is_plain, hex_digit, escaped, meaning_text, word_text, words_text, at, gap, field_line, body_line, number, quoted, parens, form, last_line}
+use Rattle.wm_write.specs.FloatText.{hex_digit}
+use Rattle.wm_write.specs.Layout.{Meaning, Word, opening, closing, string, atom, is_plain, escaped, meaning_text, word_text, words_text, at, gap, field_line, body_line, number, quoted, parens, form, last_line}
 use Rattle.wm_read.specs.Tokens.{Token, open_paren, close_paren, is_space, is_digit, is_lower, is_upper, is_id_char, digit_value, Blank, Space, Element, String, TokenText, Ends, IsAtom, IsIdentifier, IsNumber, IsWord, IsDigit, AreTokens, Tokens}
 use Rattle.wm_read.specs.Tokens as tok
 use Rattle.wm_read.specs.inner.Printed.{token_of, tokens}
@@ -180,13 +181,13 @@ pub atom_good : (before a : List ℕ) → IsBreak before → IsAtom a → IsGood
 atom_good before a b h = behind before (atom a) b (refl, h) (chars_ascii a h.0)
 
 pub number_is_atom : (n : ℕ) → n < 2 ^ 64 → IsAtom (decimal n)
-number_is_atom n lt = ((decimal_printed n lt).chars, inr (inl (n, inl (decimal_magnitude n lt))))
+number_is_atom n lt = ((decimal_printed n lt).chars, inr (inl (inl (n, inl (decimal_magnitude n lt)))))
 
 pub number_good : (n : ℕ) → n < 2 ^ 64 → IsGood (number n)
 number_good n lt = atom_good gap (decimal n) gap_breaks (number_is_atom n lt)
 
 -- a string
-hex_value : (d : ℕ) → d < 16 → digit_value (hex_digit d) ≡ Some d
+pub hex_value : (d : ℕ) → d < 16 → digit_value (hex_digit d) ≡ Some d
 hex_value zero lt = refl
 hex_value (suc zero) lt = refl
 hex_value (suc (suc zero)) lt = refl

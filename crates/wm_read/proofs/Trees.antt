@@ -8,7 +8,7 @@ use Rattle.wm_syntax.specs.declared.instructions.Op.{Op}
 use Rattle.wm_syntax.specs.declared.instructions.Op.TheVariants as op
 use Rattle.wm_syntax.specs.declared.profile.Profile.{Profile}
 use Rattle.wm_syntax.specs.Instructions.{Instruction, Instructions, none, snoc, simple, table, block, loop, choice, HasOp, HasOps, HasElse}
-use Rattle.wm_syntax.specs.Profiles.{HasInstruction, HasInstructions}
+use Rattle.wm_syntax.specs.Profiles.{HasBlockType, HasInstruction, HasInstructions}
 use Rattle.wm_read.specs.Tokens.{Token}
 use Rattle.wm_read.specs.declared.code.blocks.Opening.{Opening}
 use Rattle.wm_read.specs.declared.code.blocks.Opening.TheVariants.{Block, Loop, If}
@@ -51,10 +51,10 @@ module _ (p : Profile) (sc : Scope) where
     pub ops : has (pieces_ops ps)
 
   around : (bs : Opened) (o : Opening) (id : Id) (t : Option ValType) (x u v : List Token) (inside : List Piece)
-      → Opens (opening_word o) id t x → Runs (opened id (is_if o) ∷ bs) (opened id (is_if o) ∷ bs) inside u → Closes (codes "end") id v
+      → HasBlockType p t → Opens (opening_word o) id t x → Runs (opened id (is_if o) ∷ bs) (opened id (is_if o) ∷ bs) inside u → Closes (codes "end") id v
       → Runs bs bs (opens o id t ∷ [] ++ (inside ++ closes ∷ [])) (x ++ (u ++ v))
-  around bs o id t x u v inside h r c =
-      runs_then bs (opened id (is_if o) ∷ bs) bs (opens o id t ∷ []) (inside ++ closes ∷ []) x (u ++ v) (one_runs bs (opens o id t) x h tt)
+  around bs o id t x u v inside of h r c =
+      runs_then bs (opened id (is_if o) ∷ bs) bs (opens o id t ∷ []) (inside ++ closes ∷ []) x (u ++ v) (one_runs bs (opens o id t) x h of)
       (runs_then (opened id (is_if o) ∷ bs) (opened id (is_if o) ∷ bs) bs inside (closes ∷ []) u v r (one_runs (opened id (is_if o) ∷ bs) closes v c tt))
 
   around_ops : (o : Opening) (id : Id) (t : Option ValType) (inside : List Piece) → pieces_ops (opens o id t ∷ [] ++ (inside ++ closes ∷ [])) ≡ opening_op o t ∷ [] ++ (pieces_ops inside ++ op.End ∷ [])
@@ -87,26 +87,26 @@ module _ (p : Profile) (sc : Scope) where
     instruction_flat bs (simple i) front h g = record { ps = plain i ∷ []; runs = one_runs bs (plain i) front h g; ops = refl }
     instruction_flat bs (table ls l) front h g = record { ps = jump ls l ∷ []; runs = one_runs bs (jump ls l) front h tt; ops = append-nil (piece_ops (jump ls l)) }
     instruction_flat bs (block t body) front (id, (x, y, e, o, (u, v, f, w, c))) g =
-        let r = instructions_flat (opened id false ∷ bs) body u w g in
+        let r = instructions_flat (opened id false ∷ bs) body u w g.1 in
         record {
           ps = opens Block id t ∷ [] ++ (r.ps ++ closes ∷ []);
-          runs = runs_text bs bs (opens Block id t ∷ [] ++ (r.ps ++ closes ∷ [])) front (x ++ (u ++ v)) (e ∙ ap (λ (z : List Token). x ++ z) f) (around bs Block id t x u v r.ps o r.runs c);
+          runs = runs_text bs bs (opens Block id t ∷ [] ++ (r.ps ++ closes ∷ [])) front (x ++ (u ++ v)) (e ∙ ap (λ (z : List Token). x ++ z) f) (around bs Block id t x u v r.ps g.0 o r.runs c);
           ops = (op.Block t ∷ [], pieces_ops r.ps ++ op.End ∷ [], around_ops Block id t r.ps, refl, (pieces_ops r.ps, op.End ∷ [], refl, r.ops, refl));
         }
     instruction_flat bs (loop t body) front (id, (x, y, e, o, (u, v, f, w, c))) g =
-        let r = instructions_flat (opened id false ∷ bs) body u w g in
+        let r = instructions_flat (opened id false ∷ bs) body u w g.1 in
         record {
           ps = opens Loop id t ∷ [] ++ (r.ps ++ closes ∷ []);
-          runs = runs_text bs bs (opens Loop id t ∷ [] ++ (r.ps ++ closes ∷ [])) front (x ++ (u ++ v)) (e ∙ ap (λ (z : List Token). x ++ z) f) (around bs Loop id t x u v r.ps o r.runs c);
+          runs = runs_text bs bs (opens Loop id t ∷ [] ++ (r.ps ++ closes ∷ [])) front (x ++ (u ++ v)) (e ∙ ap (λ (z : List Token). x ++ z) f) (around bs Loop id t x u v r.ps g.0 o r.runs c);
           ops = (op.Loop t ∷ [], pieces_ops r.ps ++ op.End ∷ [], around_ops Loop id t r.ps, refl, (pieces_ops r.ps, op.End ∷ [], refl, r.ops, refl));
         }
     instruction_flat bs (choice t first second) front (id, (x, y, e, o, (u, v, f, w, (a, b, d, m, c)))) g =
-        let r = instructions_flat (opened id true ∷ bs) first u w g.0 in
-        let q = else_flat bs id second a m g.1 (λ y w h. instructions_flat (opened id false ∷ bs) second y w h) in
+        let r = instructions_flat (opened id true ∷ bs) first u w g.1 in
+        let q = else_flat bs id second a m g.2 (λ y w h. instructions_flat (opened id false ∷ bs) second y w h) in
         record {
           ps = opens If id t ∷ [] ++ (r.ps ++ (q.0 ++ closes ∷ []));
           runs = runs_text bs bs (opens If id t ∷ [] ++ (r.ps ++ (q.0 ++ closes ∷ []))) front (x ++ (u ++ (a ++ b))) (e ∙ ap (λ (z : List Token). x ++ z) (f ∙ ap (λ (z : List Token). u ++ z) d))
-              (runs_then bs (opened id true ∷ bs) bs (opens If id t ∷ []) (r.ps ++ (q.0 ++ closes ∷ [])) x (u ++ (a ++ b)) (one_runs bs (opens If id t) x o tt)
+              (runs_then bs (opened id true ∷ bs) bs (opens If id t ∷ []) (r.ps ++ (q.0 ++ closes ∷ [])) x (u ++ (a ++ b)) (one_runs bs (opens If id t) x o g.0)
               (runs_then (opened id true ∷ bs) (opened id true ∷ bs) bs r.ps (q.0 ++ closes ∷ []) u (a ++ b) r.runs
               (q.1 b c)));
           ops = (

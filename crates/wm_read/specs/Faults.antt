@@ -3,6 +3,7 @@ use Rattle.std.specs.Prelude.{◌≡◌, ◌⊎◌, ℕ, List, codes}
 use Rattle.wm_read.specs.declared.faults.TextWhy.{TextWhy}
 use Rattle.wm_read.specs.declared.faults.TextWhy.TheVariants.{NotUtf8, BadToken, OpenComment, OpenString}
 use Rattle.wm_read.specs.declared.faults.TextWhy.TheVariants.{BadEscape, Expected, UnknownWord, BadInteger}
+use Rattle.wm_read.specs.declared.faults.TextWhy.TheVariants.{BadFloat}
 use Rattle.wm_read.specs.declared.faults.TextWhy.TheVariants.{BadName, UnknownId, RepeatedId, TypeUse}
 use Rattle.wm_read.specs.declared.faults.TextWhy.TheVariants.{ImportPlace, SecondStart, NotConst, BadAlign}
 use Rattle.wm_read.specs.declared.faults.TextWhy.TheVariants.{LabelEnd, TooManyLocals, Float, Memory}
@@ -16,6 +17,7 @@ name_of BadEscape = codes "BadEscape"
 name_of Expected = codes "Expected"
 name_of UnknownWord = codes "UnknownWord"
 name_of BadInteger = codes "BadInteger"
+name_of BadFloat = codes "BadFloat"
 name_of BadName = codes "BadName"
 name_of UnknownId = codes "UnknownId"
 name_of RepeatedId = codes "RepeatedId"

@@ -210,7 +210,7 @@ pub record HasDistinct (names : Names) : Type 0 where
   pub memories : AreDistinct names.memories
   pub globals : AreDistinct names.globals
 
--- a module (section 6.6.13) of the profile
+-- a module (section 6.6.13) of the profile: each value type, constant and instruction in it is
 pub record Writes (p : Profile) (k : List Token) (m : Module) : Type 0 where
   pub id : Id
   pub fields : List Field

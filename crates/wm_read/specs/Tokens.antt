@@ -1,11 +1,13 @@
 -- The tokens of a text (sections 6.2 and 6.3). A text is the list of its bytes; a byte of an ASCII character
 -- is that character.
 use Rattle.std.specs.Prelude.{◌≡◌, ◌≢◌, ℕ, ◌+◌, ◌-◌, ◌*◌, ◌^◌, ◌<◌, ◌≤◌, ◌⊎◌, ◌==◌, ◌&&◌, ◌||◌, not, List, []}
-use Rattle.std.specs.Prelude.{◌∷◌, ◌++◌, Bool, false, Option, Some, None, IsTrue, IsFalse, IsUtf8, ℤ, pos}
-use Rattle.std.specs.Prelude.{neg_ℤ, ◌-ℤ◌, if◌then◌else◌, flat_map, codes, length, fold, nat_le, nat_lt}
+use Rattle.std.specs.Prelude.{◌∷◌, ◌++◌, Bool, false, IsTrue, IsFalse, IsUtf8, ℤ, pos}
+use Rattle.std.specs.Prelude.{neg_ℤ, ◌-ℤ◌, flat_map, codes, length, nat_le, nat_lt}
 use Rattle.std.specs.Prelude.{encode_utf8}
 use Rattle.std.specs.List.{list_any, list_all, AllByRecursion}
 use Rattle.wm_syntax.specs.Spelling.{Form, Byte, Exactly, Each, ◌▸◌, ◌∣◌}
+use Rattle.wm_floats.specs.FloatText.{HasForm}
+pub use Rattle.wm_floats.specs.Digits.{digit_value, IsDigit, Digits, value}
 
 -- A token (section 6.2.2): a parenthesis; a string, by the bytes that it means; or an
 -- atom, by its characters.
@@ -65,25 +67,6 @@ abbrev pub is_id_char : ℕ → Bool
 is_id_char c = is_digit c || is_lower c || is_upper c
     || list_any (λ d. c == d) (codes "!#$%&'*+-./:<=>?@\\^_`|~")
 
--- the value of a digit (section 6.3.1)
-abbrev pub digit_value : ℕ → Option ℕ
-digit_value c = if is_digit c then Some (c - 48) else if nat_le 97 c && nat_le c 102 then Some (c - 87)
-    else if nat_le 65 c && nat_le c 70 then Some (c - 55) else None
-
--- a digit of this value in a base
-abbrev pub IsDigit : ℕ → ℕ → Form ℕ
-IsDigit base d b = (c : ℕ) × (b ≡ c ∷ []) × (digit_value c ≡ Some d) × (d < base)
-
--- digits with single underscores between them, and their values (section 6.3.1)
-abbrev pub Digits : ℕ → List ℕ → Form ℕ
-Digits base [] b = ⊥
-Digits base (d ∷ []) b = IsDigit base d b
-Digits base (d ∷ e ∷ ds) b = (IsDigit base d ▸ (Byte 95 ∣ Exactly []) ▸ Digits base (e ∷ ds)) b
-
--- the number that digits make
-abbrev pub value : ℕ → List ℕ → ℕ
-value base ds = fold (λ n d. n * base + d) 0 ds
-
 -- a number with no sign (section 6.3.1): decimal, or hexadecimal after 0x
 abbrev pub Magnitude : ℕ → Form ℕ
 Magnitude n b =
@@ -117,9 +100,13 @@ abbrev pub IsWord : List ℕ → Type 0
 IsWord [] = ⊥
 IsWord (c ∷ a) = IsTrue (is_lower c)
 
+-- what has the form of a float, with a sign or with none (section 6.3.2); its size is not asked here
+abbrev pub IsLiteral : List ℕ → Type 0
+IsLiteral a = HasForm a ⊎ (Byte 43 ▸ HasForm) a ⊎ (Byte 45 ▸ HasForm) a
+
 -- an atom is one of these; other characters in a row are no token (section 6.2.2, reserved)
 abbrev pub IsAtom : List ℕ → Type 0
-IsAtom a = IsTrue (list_all is_id_char a) × (IsIdentifier a ⊎ IsNumber a ⊎ IsWord a)
+IsAtom a = IsTrue (list_all is_id_char a) × (IsIdentifier a ⊎ (IsNumber a ⊎ IsLiteral a) ⊎ IsWord a)
 
 -- what stands in a string for itself (section 6.3.3): no control character, no ", no \
 abbrev pub is_plain : ℕ → Bool

@@ -3,12 +3,16 @@ use Rattle.std.specs.Prelude.{◌≡◌, ℕ, ◌<◌, ◌^◌, ◌⊎◌, List,
 use Rattle.std.specs.Prelude.{map, flat_map, slice_get, ℤ}
 use Rattle.wm_syntax.specs.Spelling.{Form, Exactly, Each, ◌▸◌, ◌∣◌}
 use Rattle.wm_syntax.specs.declared.types.ValType.{ValType}
-use Rattle.wm_syntax.specs.declared.types.ValType.TheVariants.{I32, I64}
+use Rattle.wm_syntax.specs.declared.types.ValType.TheVariants.{I32, I64, F32, F64}
+use Rattle.wm_floats.specs.FloatText.{IsFloat}
+use Rattle.wm_syntax.specs.declared.instructions.FloatType.{FloatType}
+use Rattle.wm_syntax.specs.declared.instructions.FloatType.TheVariants as float
 use Rattle.wm_syntax.specs.declared.instructions.MemArg.{MemArg}
 use Rattle.wm_syntax.specs.declared.instructions.Simple.{Simple}
 use Rattle.wm_syntax.specs.declared.instructions.Simple.TheVariants.{Br, BrIf, Call, CallIndirect, LocalGet}
 use Rattle.wm_syntax.specs.declared.instructions.Simple.TheVariants.{LocalSet, LocalTee, GlobalGet, GlobalSet}
-use Rattle.wm_syntax.specs.declared.instructions.Simple.TheVariants.{I32Const, I64Const, Load, Store}
+use Rattle.wm_syntax.specs.declared.instructions.Simple.TheVariants.{I32Const, I64Const, F32Const, F64Const}
+use Rattle.wm_syntax.specs.declared.instructions.Simple.TheVariants.{Load, Store}
 use Rattle.wm_syntax.specs.Types.{Signature}
 use Rattle.wm_syntax.specs.Opcodes.{opcode, load, store}
 use Rattle.wm_syntax.specs.Instructions.{Instruction, Instructions, none, snoc, simple, table, block, loop}
@@ -33,6 +37,8 @@ Number = One (IsUnsigned 32)
 abbrev pub type_text : ValType → List ℕ
 type_text I32 = codes "i32"
 type_text I64 = codes "i64"
+type_text F32 = codes "f32"
+type_text F64 = codes "f64"
 
 abbrev pub WritesType : ValType → Form Token
 WritesType t = Word (type_text t)
@@ -104,6 +110,10 @@ WritesAccess width at = WritesKey (codes "offset=") 0 at.offset
 abbrev pub WritesInteger : ℕ → ℤ → Form Token
 WritesInteger bits = One (IsInteger bits)
 
+-- the bits of a float
+abbrev pub WritesFloat : FloatType → ℕ → Form Token
+WritesFloat w = One (IsFloat w)
+
 -- a type use whose parameters have no identifiers
 abbrev pub UnnamedTypeUse : Names → ℕ → Form Token
 UnnamedTypeUse names x k = (ts : List ValType) × TypeUse names x (map (λ t. (None, t)) ts) k
@@ -120,6 +130,8 @@ WritesOperand s labels (GlobalGet x) = Resolves s.names.globals x
 WritesOperand s labels (GlobalSet x) = Resolves s.names.globals x
 WritesOperand s labels (I32Const n) = WritesInteger 32 n
 WritesOperand s labels (I64Const n) = WritesInteger 64 n
+WritesOperand s labels (F32Const n) = WritesFloat float.F32 n
+WritesOperand s labels (F64Const n) = WritesFloat float.F64 n
 WritesOperand s labels (Load op at) = WritesAccess (load op).width at
 WritesOperand s labels (Store op at) = WritesAccess (store op).width at
 WritesOperand s labels _ = Nothing

@@ -27,6 +27,8 @@ pub enum TextWhy {
     UnknownWord,
     /// No integer of the range.
     BadInteger,
+    /// No float of the width, or one that lies beyond the largest.
+    BadFloat,
     /// A name that is not UTF-8.
     BadName,
     /// An identifier without a definition.
@@ -47,7 +49,7 @@ pub enum TextWhy {
     LabelEnd,
     /// A function declares 2^32 locals or more.
     TooManyLocals,
-    /// A floating-point type or instruction.
+    /// A floating-point type or instruction that the profile has not.
     Float,
     /// Memory was refused.
     Memory,
@@ -67,6 +69,7 @@ impl TextWhy {
             TextWhy::Expected => "Expected",
             TextWhy::UnknownWord => "UnknownWord",
             TextWhy::BadInteger => "BadInteger",
+            TextWhy::BadFloat => "BadFloat",
             TextWhy::BadName => "BadName",
             TextWhy::UnknownId => "UnknownId",
             TextWhy::RepeatedId => "RepeatedId",
@@ -93,6 +96,7 @@ impl TextWhy {
             TextWhy::Expected => "another token must stand here",
             TextWhy::UnknownWord => "this word names no field or instruction",
             TextWhy::BadInteger => "an integer is malformed or out of range",
+            TextWhy::BadFloat => "a float is malformed or out of range",
             TextWhy::BadName => "a name is not UTF-8",
             TextWhy::UnknownId => "an identifier is not defined",
             TextWhy::RepeatedId => "an identifier is defined twice",
@@ -103,7 +107,7 @@ impl TextWhy {
             TextWhy::BadAlign => "an alignment is not a power of two",
             TextWhy::LabelEnd => "this identifier is not the one of its block",
             TextWhy::TooManyLocals => "a function declares 2^32 locals or more",
-            TextWhy::Float => "floating-point types and instructions are not supported",
+            TextWhy::Float => "the profile has no floats",
             TextWhy::Memory => "memory ran out",
         }
     }

@@ -49,15 +49,16 @@ pub enum Field<'a> {
 /// Two names and an item.
 fn import<'a>(
     alloc: Global,
+    profile: Profile,
     names: &Names,
     text: &'a [u8],
 ) -> Result<(Field<'a>, &'a [u8]), TextFault>
     ensures { Reads (λ x. (field_of x.0, lexed x.1.now)) result
-        (fields.import_at (names_of names.now) (lexed text.now)) }
+        (fields.import_at profile (names_of names.now) (lexed text.now)) }
 {
     let (module_name, rest) = name(alloc, text)?;
     let (item_name, rest) = name(alloc, rest)?;
-    let (id, desc, rest) = desc(alloc, names, rest)?;
+    let (id, desc, rest) = desc(alloc, profile, names, rest)?;
     let import = Import {
         module_name,
         item_name,
@@ -68,6 +69,7 @@ fn import<'a>(
 
 /// A global's identifier, type and initialiser.
 fn global<'a>(
+    alloc: Global,
     profile: Profile,
     names: &Names,
     text: &'a [u8],
@@ -76,8 +78,8 @@ fn global<'a>(
         (fields.global_at profile (names_of names.now) (lexed text.now)) }
 {
     let (id, rest) = id(text);
-    let (ty, rest) = global_type(rest)?;
-    let (init, rest) = constant(profile, names, rest)?;
+    let (ty, rest) = global_type(profile, rest)?;
+    let (init, rest) = constant(alloc, profile, names, rest)?;
     Ok((Field::Global(id, GlobalDef { ty, init }), rest))
 }
 
@@ -125,7 +127,7 @@ fn element<'a>(
         (fields.element_at profile (names_of names.now) (lexed text.now)) }
 {
     let (table, rest) = index(&names.tables, text)?;
-    let (offset, rest) = offset(profile, names, rest)?;
+    let (offset, rest) = offset(alloc, profile, names, rest)?;
     let (functions, rest) = indices(alloc, &names.functions, rest)?;
     let element = Element {
         table,
@@ -146,7 +148,7 @@ fn segment<'a>(
         (fields.segment_at profile (names_of names.now) (lexed text.now)) }
 {
     let (memory, rest) = index(&names.memories, text)?;
-    let (offset, rest) = offset(profile, names, rest)?;
+    let (offset, rest) = offset(alloc, profile, names, rest)?;
     let (bytes, rest) = bytes(alloc, rest)?;
     let segment = Segment {
         memory,
@@ -170,10 +172,10 @@ fn inside<'a>(
     match kind {
         FieldKind::Type => {
             let (id, rest) = id(text);
-            let (ty, rest) = signature(alloc, rest)?;
+            let (ty, rest) = signature(alloc, profile, rest)?;
             Ok((Field::Type(id, ty), rest))
         }
-        FieldKind::Import => import(alloc, names, text),
+        FieldKind::Import => import(alloc, profile, names, text),
         FieldKind::Func => {
             let (id, rest) = id(text);
             let (function, rest) = function(alloc, profile, names, rest)?;
@@ -189,7 +191,7 @@ fn inside<'a>(
             let (limits, rest) = limits(rest)?;
             Ok((Field::Memory(id, limits), rest))
         }
-        FieldKind::Global => global(profile, names, text),
+        FieldKind::Global => global(alloc, profile, names, text),
         FieldKind::Export => export(alloc, names, text),
         FieldKind::Start => {
             let (x, rest) = index(&names.functions, text)?;

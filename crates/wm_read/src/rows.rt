@@ -56,6 +56,8 @@ const SECOND: [&str; 3] = [
     text::tests::REFUSALS,
 ];
 
+const THIRD: [&str; 1] = [text::tests::THIRD];
+
 #[test]
 fn first_profile(rt: HostRuntime) -> Result<(), Fail> {
     play_all(&rt, rt.alloc(), Profile::One, &FIRST)
@@ -84,6 +86,11 @@ fn nested_comments(rt: HostRuntime) -> Result<(), Fail> {
 #[test]
 fn second_profile(rt: HostRuntime) -> Result<(), Fail> {
     play_all(&rt, rt.alloc(), Profile::Two, &SECOND)
+}
+
+#[test]
+fn third_profile(rt: HostRuntime) -> Result<(), Fail> {
+    play_all(&rt, rt.alloc(), Profile::Three, &THIRD)
 }
 
 fn play_all(

@@ -45,10 +45,10 @@ fn end(text: &[u8]) -> Result<(), TextFault>
 }
 
 /// What the fields of a module define, behind which the text ends.
-fn all_names<'a>(alloc: Global, text: &'a [u8]) -> Result<Names<'a>, TextFault>
-    ensures { Reads (λ n. names_of n) result (modules.all_names_at (lexed text.now)) }
+fn all_names<'a>(alloc: Global, profile: Profile, text: &'a [u8]) -> Result<Names<'a>, TextFault>
+    ensures { Reads (λ n. names_of n) result (modules.all_names_at profile (lexed text.now)) }
 {
-    let (names, rest) = read_heads(alloc, text)?;
+    let (names, rest) = read_heads(alloc, profile, text)?;
     let rest = close(rest)?;
     end(rest)?;
     Ok(names)
@@ -75,7 +75,7 @@ fn read_module(alloc: Global, profile: Profile, text: &[u8]) -> Result<Module, T
     ensures { Reads value_of result (modules.module_at profile (lexed text.now)) }
 {
     let inner = frame(text)?;
-    let names = all_names(alloc, inner)?;
+    let names = all_names(alloc, profile, inner)?;
     module_within(alloc, profile, &names, inner)
 }
 

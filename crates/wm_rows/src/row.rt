@@ -9,7 +9,8 @@
 //! ```
 //!
 //! ACTION is `check`, `stats`, `canon` or `show`. OPTIONS are those of `wmod` without their dashes, in
-//! this order: `profile 2`, `limit N`, `max-functions N`, `max-locals N`, `max-open N` and `old-words`.
+//! this order: `profile 2` (or 3, or 4), `limit N`, `max-functions N`, `max-locals N`, `max-open N` and
+//! `old-words`.
 //! BYTES are words: `H` is the header of a module, and another one is a byte in two hexadecimal digits.
 //! `change` stands for the 255 inputs with another byte at that place, and `changes` for those with
 //! another byte at any place.
@@ -94,9 +95,14 @@ fn action_of(line: &str) -> io::Result<(Action, &str)> {
 
 /// The profile, the first where none is named, and what stands behind it.
 fn profile(text: &str) -> (Profile, &str) {
-    match text.strip_prefix("profile 2 ") {
-        Some(rest) => (Profile::Two, rest),
-        None => (Profile::One, text),
+    let Some(rest) = text.strip_prefix("profile ") else {
+        return (Profile::One, text);
+    };
+    match first_word(rest) {
+        ("2", rest) => (Profile::Two, rest),
+        ("3", rest) => (Profile::Three, rest),
+        ("4", rest) => (Profile::Four, rest),
+        _ => (Profile::One, text),
     }
 }
 

@@ -115,6 +115,8 @@ export_built m xs es e u =
 constant_built : (p : Purpose) (c : Const) (m : Module) (xs : List ℕ) → all_taken after (expecting p (holding m xs)) (map const_op (constant_ops c)) ≡ Ok (holding (member_added p c m) xs)
 constant_built p (const.I32 n) m xs = refl
 constant_built p (const.I64 n) m xs = refl
+constant_built p (const.F32 n) m xs = refl
+constant_built p (const.F64 n) m xs = refl
 constant_built p (const.Global x) m xs = refl
 
 abbrev globals_held : Module → List ℕ → List GlobalDef → Built

@@ -4,12 +4,12 @@ use Rattle.std.specs.List.{AllByRecursion}
 use Rattle.std.proofs.lemmas.Bool.{lt-ltb, ltb-true}
 use Rattle.std.proofs.lemmas.Bool.Decides.{nat_tests}
 use Rattle.wm_syntax.specs.declared.types.ValType.{ValType}
-use Rattle.wm_syntax.specs.declared.types.ValType.TheVariants.{I32, I64}
+use Rattle.wm_syntax.specs.declared.types.ValType.TheVariants.{I32, I64, F32, F64}
 use Rattle.wm_syntax.specs.declared.types.GlobalType.{GlobalType}
 use Rattle.wm_syntax.specs.declared.types.Const.{Const}
 use Rattle.wm_syntax.specs.declared.types.Const.TheVariants as const
 use Rattle.wm_syntax.specs.declared.instructions.Simple.{Simple}
-use Rattle.wm_syntax.specs.declared.instructions.Simple.TheVariants.{I32Const, I64Const, GlobalGet}
+use Rattle.wm_syntax.specs.declared.instructions.Simple.TheVariants.{I32Const, I64Const, F32Const, F64Const, GlobalGet}
 use Rattle.wm_syntax.specs.declared.instructions.Op.{Op}
 use Rattle.wm_syntax.specs.declared.instructions.Op.TheVariants as op
 use Rattle.wm_syntax.specs.declared.why.Why.{Why}
@@ -65,6 +65,8 @@ first_takes : (c : Const) (globals : List GlobalType) (t : ValType) (n : ℕ) �
     → constant_after globals (op.Simple (constant c)) (constant_expecting t n) ≡ Ok (Some (seen_of t n))
 first_takes (const.I32 k) globals t n e = type_takes I32 t n (sym e)
 first_takes (const.I64 k) globals t n e = type_takes I64 t n (sym e)
+first_takes (const.F32 k) globals t n e = type_takes F32 t n (sym e)
+first_takes (const.F64 k) globals t n e = type_takes F64 t n (sym e)
 first_takes (const.Global x) globals t n e =
     ap (λ o. of_global o (constant_expecting t n)) (visible_take n globals x ∙ e) ∙ type_takes t t n refl
 
@@ -95,6 +97,8 @@ pub record First (o : Op) (globals : List GlobalType) (t : ValType) (n : ℕ) (k
 simple_back : (i : Simple) (globals : List GlobalType) (t : ValType) (n : ℕ) (k : Option Constant) → constant_after globals (op.Simple i) (constant_expecting t n) ≡ Ok k → First (op.Simple i) globals t n k
 simple_back (I32Const m) globals t n k e = let q = type_back I32 t n k e in record { c = const.I32 m; is = refl; typed = sym q.0; next = q.1 }
 simple_back (I64Const m) globals t n k e = let q = type_back I64 t n k e in record { c = const.I64 m; is = refl; typed = sym q.0; next = q.1 }
+simple_back (F32Const m) globals t n k e = let q = type_back F32 t n k e in record { c = const.F32 m; is = refl; typed = sym q.0; next = q.1 }
+simple_back (F64Const m) globals t n k e = let q = type_back F64 t n k e in record { c = const.F64 m; is = refl; typed = sym q.0; next = q.1 }
 simple_back (GlobalGet x) globals t n k e =
     let q = global_back (visible n globals x) t n k e in
     record { c = const.Global x; is = refl; typed = sym (visible_take n globals x) ∙ q.0; next = q.1 }
@@ -108,6 +112,8 @@ first_back _ globals t n k e = absurd (cc)
 second_simple : (i : Simple) (globals : List GlobalType) (t : ValType) (n : ℕ) (k : Option Constant) → constant_after globals (op.Simple i) (seen_of t n) ≡ Ok k → (op.Simple i ≡ op.End) × (k ≡ None)
 second_simple (I32Const m) globals t n k e = absurd (cc)
 second_simple (I64Const m) globals t n k e = absurd (cc)
+second_simple (F32Const m) globals t n k e = absurd (cc)
+second_simple (F64Const m) globals t n k e = absurd (cc)
 second_simple (GlobalGet x) globals t n k e = absurd (cc)
 second_simple _ globals t n k e = absurd (cc)
 
@@ -133,6 +139,8 @@ one_op o c s e = go c (subst (λ q. endings (q ∷ []) ≡ openings (q ∷ []) +
     go : (c : Const) → endings (op.Simple (constant c) ∷ []) ≡ openings (op.Simple (constant c) ∷ []) + 1 → ⊥
     go (const.I32 n) z = absurd (omega (arith, z))
     go (const.I64 n) z = absurd (omega (arith, z))
+    go (const.F32 n) z = absurd (omega (arith, z))
+    go (const.F64 n) z = absurd (omega (arith, z))
     go (const.Global x) z = absurd (omega (arith, z))
 
 pub const_sound : (ops : List Op) (rest : List Item) (t : ValType) (n : ℕ) (h g : Held) → IsExpression ops
@@ -166,6 +174,8 @@ two_ops o p c s q l = go c (subst (λ z. endings (z ∷ op.End ∷ []) ≤ openi
     go : (c : Const) → endings (op.Simple (constant c) ∷ op.End ∷ []) ≤ openings (op.Simple (constant c) ∷ op.End ∷ []) → ⊥
     go (const.I32 n) z = omega (arith, z)
     go (const.I64 n) z = omega (arith, z)
+    go (const.F32 n) z = omega (arith, z)
+    go (const.F64 n) z = omega (arith, z)
     go (const.Global x) z = omega (arith, z)
 
 last_held : (h g : Held) (k : Option Constant) → all_taken after (with_const h k) [] ≡ Ok g → g.constant ≡ k

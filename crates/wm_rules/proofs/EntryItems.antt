@@ -334,8 +334,8 @@ comes_leaves = record {
   plain = λ x b i. ending_comes x b (λ y e. alone_stood y (subst IsAlone e i));
 }
 
-type_comes : Has Comes FunctionType
-type_comes b k h =
+type_comes : (p : Profile) → Has Comes (FunctionType p)
+type_comes p b k h =
     let rest = has_then type_leaves (has_vector type_leaves (has_leaf type_leaves _ param (λ v. tt)))
     (has_number type_leaves _ _ (λ n. tt) (λ n. has_times type_leaves n (has_leaf type_leaves _ one_result (λ v. tt)))) h.back h.back_marks h.second in
     of_items k (new_type ∷ items_at h.back_marks) (ap items_at (h.marks ∙ ap (λ z. z ++ h.back_marks) h.first.1)) (type_stood (items_at h.back_marks) rest)
@@ -343,7 +343,8 @@ type_comes b k h =
 global_comes : (p : Profile) → Has Comes (Global p)
 global_comes p b k h =
     let v = h.first in
-    let some : HasByte h.front = front_some h.front v.1.0 v.1.1 v.1.2 (byte_some (type_byte v.0.ty) v.1.0 v.1.3) in
+    let g = v.1.1 in
+    let some : HasByte h.front = front_some h.front g.0 g.1 g.2 (byte_some (type_byte v.0.ty) g.0 g.3) in
     subst Comes (sym (h.marks ∙ ap (λ z. z ++ h.back_marks) v.2)) (constant_comes p (global v.0) h.front tt some h.back h.back_marks h.second)
 
 segment_comes : (p : Profile) (opening : ℕ → Item) → ((n : ℕ) → IsOpening (opening n)) → {P : MarkedForm} → Has Comes P → Has Comes (Then (Index opening) (Then (Expression p const_op) P))
@@ -370,7 +371,7 @@ comes : (demanded : Type 0) (p : Profile) → PassesMembers demanded p Comes
 comes demanded p = record {
   leaves = comes_leaves;
   named = λ x front text i n. name_comes x front text (λ y e. named_stood text y (subst (IsNamed text) e i));
-  types = type_comes;
+  types = type_comes p;
   globals = global_comes p;
   elements = segment_comes p element (λ n. tt) (has_vector comes_leaves (has_index comes_leaves element_function (λ n. tt)));
   codes = code_comes demanded p;

@@ -76,7 +76,7 @@ module _ {T : Marks → Type 0} {Is : Option Item → Type 0} (l : Leaves T Is) 
 pub record PassesMembers (demanded : Type 0) (p : Profile) (T : Marks → Type 0) : Type 0 where
   pub leaves : Leaves T IsAlone
   pub named : (x : Option Item) (front text : List ℕ) → IsNamed text x → SpellsU32 (length text) front → T (name_marks x front text)
-  pub types : Has T FunctionType
+  pub types : Has T (FunctionType p)
   pub globals : Has T (Global p)
   pub elements : Has T (Element p)
   pub codes : Has T (Code demanded p)
@@ -89,7 +89,7 @@ module _ (demanded : Type 0) (p : Profile) (T : Marks → Type 0) (t : PassesMem
   has_paired : {P : MarkedForm} (f : ℕ) → Has T P → Has T (Paired demanded f P)
   has_paired {P} f g = has_number t.leaves nothing_at (λ n b k. (demanded → n ≡ f) × Times n P b k) (λ n. tt) (λ n b k h. has_times t.leaves n g b k h.1)
 
-  has_import : Has T (Import demanded)
+  has_import : Has T (Import demanded p)
   has_import = has_then t.leaves (has_name _ (λ s. refl)) (has_then t.leaves (has_name _ (λ s. refl)) (has_leaf t.leaves _ import_desc (λ v. tt)))
 
   has_export : Has T (Export demanded)

@@ -2,11 +2,11 @@
 use Rattle.std.proofs.Common.{◌≡◌, ℕ, ◌+◌, Bool, true, false, cond, List, [], ◌∷◌, ◌++◌, Option, Some, None, Result, Ok, Err, length, refl, sym, ◌∙◌, ap, subst, inl, inr, is_some}
 use Rattle.std.specs.Str.{is_utf8}
 use Rattle.wm_syntax.specs.declared.types.ValType.{ValType}
-use Rattle.wm_syntax.specs.declared.types.ValType.TheVariants.{I32, I64}
+use Rattle.wm_syntax.specs.declared.types.ValType.TheVariants.{I32, I64, F32, F64}
 use Rattle.wm_syntax.specs.declared.types.GlobalType.{GlobalType}
 use Rattle.wm_syntax.specs.declared.types.Const.{Const}
 use Rattle.wm_syntax.specs.declared.types.Const.TheVariants as const
-use Rattle.wm_syntax.specs.declared.instructions.Simple.TheVariants.{I32Const, I64Const, GlobalGet}
+use Rattle.wm_syntax.specs.declared.instructions.Simple.TheVariants.{I32Const, I64Const, F32Const, F64Const, GlobalGet}
 use Rattle.wm_syntax.specs.declared.instructions.Op.{Op}
 use Rattle.wm_syntax.specs.declared.instructions.Op.TheVariants as op
 use Rattle.wm_syntax.specs.declared.why.Why.{Why}
@@ -122,6 +122,8 @@ in_constant : (h h' : holding.Held) (b : Built) (o : Op) (k : Constant) (j : Pen
     → with_constant h (constant_after h.spaces.globals o k) ≡ Ok h' → (b' : Built) × (building.in_constant o b j ≡ Ok b') × Agrees h' b'
 in_constant h h' b (op.Simple (I32Const n)) k j seen code e = given h h' b k j j.value (const.I32 n) (of_type I32 k) refl seen (typed_is I32 k) code e
 in_constant h h' b (op.Simple (I64Const n)) k j seen code e = given h h' b k j j.value (const.I64 n) (of_type I64 k) refl seen (typed_is I64 k) code e
+in_constant h h' b (op.Simple (F32Const n)) k j seen code e = given h h' b k j j.value (const.F32 n) (of_type F32 k) refl seen (typed_is F32 k) code e
+in_constant h h' b (op.Simple (F64Const n)) k j seen code e = given h h' b k j j.value (const.F64 n) (of_type F64 k) refl seen (typed_is F64 k) code e
 in_constant h h' b (op.Simple (GlobalGet x)) k j seen code e = given h h' b k j j.value (const.Global x) (of_global (visible k.sees h.spaces.globals x) k) refl seen (global_is (visible k.sees h.spaces.globals x) k) code e
 in_constant h h' b op.End k j seen code e = ended_constant h h' b k j j.value seen code e
 in_constant h h' b _ k j seen code e = absurd (cc (e))

@@ -195,6 +195,8 @@ never_ill c simple.MemorySize e = test_never why.Index c.has_memory (fixed [] (I
 never_ill c simple.MemoryGrow e = test_never why.Index c.has_memory (fixed (I32 ∷ []) (I32 ∷ [])) (λ d. cc) (λ d. cc) e
 never_ill c (simple.I32Const n) e = cc
 never_ill c (simple.I64Const n) e = cc
+never_ill c (simple.F32Const n) e = cc
+never_ill c (simple.F64Const n) e = cc
 never_ill c (simple.Load o at) e =
     test_never why.Index c.has_memory (where_true why.Align (nat_le (2 ^ at.align) (load o).width) (fixed (I32 ∷ []) ((load o).ty ∷ []))) (λ d. cc)
     (test_never why.Align (nat_le (2 ^ at.align) (load o).width) (fixed (I32 ∷ []) ((load o).ty ∷ [])) (λ d. cc) (λ d. cc)) e

@@ -3,6 +3,7 @@ use Rattle.std.proofs.Common.{◌≡◌, ℕ, List, refl}
 use Rattle.wm_syntax.specs.declared.profile.Profile.{Profile}
 use Rattle.wm_syntax.specs.Profiles.{Extends}
 use Rattle.wm_syntax.proofs.ProfileLaws.{is_of_more}
+use Rattle.wm_decode.proofs.Nesting.{spells_more}
 use Rattle.wm_rules.specs.declared.policy.Policy.{Policy}
 use Rattle.wm_rules.specs.Validation.{Accepted}
 
@@ -11,7 +12,7 @@ pub accepted_more : (p r : Profile) (limit : ℕ) (q : Policy) (bytes : List ℕ
 accepted_more p r limit q bytes more a = (
   record {
     module_value = a.module_value;
-    spelled = a.spelled;
+    spelled = (a.spelled.0, spells_more p r more a.module_value bytes a.spelled.1);
     of_profile = is_of_more p r more a.module_value a.of_profile;
     valid = a.valid;
     within = a.within;

@@ -214,6 +214,8 @@ module _ (E N : Type 0) where
   shape_says c simple.MemoryGrow n = true_says c simple.MemoryGrow why.Index c.has_memory (fixed (I32 ∷ []) (I32 ∷ [])) n tt
   shape_says c (simple.I32Const m) n = tt
   shape_says c (simple.I64Const m) n = tt
+  shape_says c (simple.F32Const m) n = tt
+  shape_says c (simple.F64Const m) n = tt
   shape_says c (simple.Load o at) n =
       true_says c (simple.Load o at) why.Index c.has_memory (where_true why.Align (nat_le (2 ^ at.align) (load o).width) (fixed (I32 ∷ []) ((load o).ty ∷ []))) n
       (true_says c (simple.Load o at) why.Align (nat_le (2 ^ at.align) (load o).width) (fixed (I32 ∷ []) ((load o).ty ∷ [])) (λ e. leb-false (2 ^ at.align) (load o).width e) tt)

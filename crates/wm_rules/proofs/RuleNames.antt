@@ -2,7 +2,7 @@
 use Rattle.std.proofs.Common.{◌≡◌, ◌+◌, ◌^◌, ℕ, List, [], ◌∷◌, ◌++◌, Bool, true, false, cond, Option, Some, None, Result, Ok, Err, replicate, length, slice_get, subst, sym, ◌∙◌, ap, refl}
 use Rattle.std.specs.Prelude.{nat_le, nat_lt, nat_eq}
 use Rattle.wm_syntax.specs.declared.types.ValType.{ValType}
-use Rattle.wm_syntax.specs.declared.types.ValType.TheVariants.{I32, I64}
+use Rattle.wm_syntax.specs.declared.types.ValType.TheVariants.{I32, I64, F32, F64}
 use Rattle.wm_syntax.specs.declared.types.GlobalType.{GlobalType}
 use Rattle.wm_syntax.specs.declared.why.Why.{Why}
 use Rattle.wm_syntax.specs.declared.why.Why.TheVariants as why
@@ -172,6 +172,8 @@ module _ (globals : List GlobalType) (k : Constant) where
   simple_says : (p : Simple) → Said (op.Simple p) (constant_after globals (op.Simple p) k)
   simple_says (simple.I32Const n) = first_says (op.Simple (simple.I32Const n)) (of_type I32 k) (λ e. e) (λ f. type_says (op.Simple (simple.I32Const n)) I32 f (λ d. d))
   simple_says (simple.I64Const n) = first_says (op.Simple (simple.I64Const n)) (of_type I64 k) (λ e. e) (λ f. type_says (op.Simple (simple.I64Const n)) I64 f (λ d. d))
+  simple_says (simple.F32Const n) = first_says (op.Simple (simple.F32Const n)) (of_type F32 k) (λ e. e) (λ f. type_says (op.Simple (simple.F32Const n)) F32 f (λ d. d))
+  simple_says (simple.F64Const n) = first_says (op.Simple (simple.F64Const n)) (of_type F64 k) (λ e. e) (λ f. type_says (op.Simple (simple.F64Const n)) F64 f (λ d. d))
   simple_says (simple.GlobalGet x) = first_says (op.Simple (simple.GlobalGet x)) (of_global (visible k.sees globals x) k) (λ e. e) (λ f. global_says x (visible k.sees globals x) f refl)
   simple_says _ = tt
 

@@ -16,7 +16,7 @@ use Rattle.wm_syntax.specs.declared.modules.ExportKind.TheVariants as kind
 use Rattle.wm_syntax.specs.Modules.{locals_of}
 use Rattle.wm_syntax.specs.Types.{Signature}
 use Rattle.wm_syntax.specs.declared.types.ValType.{ValType}
-use Rattle.wm_syntax.specs.declared.types.ValType.TheVariants.{I32, I64}
+use Rattle.wm_syntax.specs.declared.types.ValType.TheVariants.{I32, I64, F32, F64}
 use Rattle.wm_stacks.specs.declared.entries.FrameKind.TheVariants.{If}
 use Rattle.wm_typing.specs.OpenLists.{Head, head, work, Place, open_at, within, complete, at}
 use Rattle.wm_typing.specs.TypedBodies.{HaveTyping, IsTypedBody}
@@ -227,6 +227,8 @@ IsAlignedPast _ = ⊥
 abbrev pub CannotBeConstant : List GlobalType → Op → Type 0
 CannotBeConstant globals (op.Simple (simple.I32Const n)) = ⊥
 CannotBeConstant globals (op.Simple (simple.I64Const n)) = ⊥
+CannotBeConstant globals (op.Simple (simple.F32Const n)) = ⊥
+CannotBeConstant globals (op.Simple (simple.F64Const n)) = ⊥
 CannotBeConstant globals (op.Simple (simple.GlobalGet x)) =
     (g : GlobalType) × (slice_get globals x ≡ Some g) × (g.var ≡ true)
 CannotBeConstant globals op.End = ⊥
@@ -277,6 +279,8 @@ EndsTyping b o =
 abbrev pub HasOtherType : ValType → List GlobalType → Op → Type 0
 HasOtherType t globals (op.Simple (simple.I32Const n)) = t ≢ I32
 HasOtherType t globals (op.Simple (simple.I64Const n)) = t ≢ I64
+HasOtherType t globals (op.Simple (simple.F32Const n)) = t ≢ F32
+HasOtherType t globals (op.Simple (simple.F64Const n)) = t ≢ F64
 HasOtherType t globals (op.Simple (simple.GlobalGet x)) =
     (g : GlobalType) × (slice_get globals x ≡ Some g) × (t ≢ g.ty)
 HasOtherType t globals _ = ⊥

@@ -38,6 +38,8 @@ impl Constant {
         match op {
             Op::Simple(Simple::I32Const(_)) => self.number(ValType::I32),
             Op::Simple(Simple::I64Const(_)) => self.number(ValType::I64),
+            Op::Simple(Simple::F32Const(_)) => self.number(ValType::F32),
+            Op::Simple(Simple::F64Const(_)) => self.number(ValType::F64),
             Op::Simple(Simple::GlobalGet(index)) => self.global(globals, index),
             Op::End => self.end(),
             _ => Err(Why::NotConst),

@@ -1,32 +1,32 @@
--- The operands that stand in words, the last word being kept apart.
+-- The kinds that stand in words, the last word being kept apart.
 use Rattle.std.proofs.Common.{ℕ, zero, suc, ◌≡◌, ◌≢◌, ◌+◌, ◌-◌, ◌*◌, ◌/◌, ◌%◌, ◌<◌, ◌≤◌, List, [], ◌∷◌, ◌++◌, length, take, drop, set, get_or, get_or-set_same, get_or-set_other, inl, inr, sym, refl, ap, ◌∙◌, arith}
 use Rattle.std.proofs.lemmas.List.{get_or_append_left, get_or-take, length-set, length-take-le, length_push}
 use Rattle.std.proofs.lemmas.Bool.{cases_lt}
-use Rattle.wm_stacks.specs.declared.entries.Entry.{Entry}
+use Rattle.wm_stacks.specs.declared.words.Kind.{Kind}
 use Rattle.wm_stacks.proofs.Digits.{decoded}
-use Rattle.wm_stacks.specs.exact.Words.{code_at, code_of, digit, entry_of_code, operands_in}
+use Rattle.wm_stacks.specs.exact.Words.{code_at, code_of, digit, kind_of_code, kinds_in}
 
-pub length-standing : (ws : List ℕ) (n : ℕ) → length (operands_in ws n) ≡ n
+pub length-standing : (ws : List ℕ) (n : ℕ) → length (kinds_in ws n) ≡ n
 length-standing ws zero = refl
 length-standing ws (suc n) = ap suc (length-standing ws n)
 
 -- words that agree on the lowest n operands
-pub same_standing : (vs ws : List ℕ) (n : ℕ) → ((i : ℕ) → i < n → code_at vs i ≡ code_at ws i) → operands_in vs n ≡ operands_in ws n
+pub same_standing : (vs ws : List ℕ) (n : ℕ) → ((i : ℕ) → i < n → code_at vs i ≡ code_at ws i) → kinds_in vs n ≡ kinds_in ws n
 same_standing vs ws zero h = refl
 same_standing vs ws (suc n) h =
-    ap (λ d. entry_of_code d ∷ operands_in vs n) (h n (omega arith)) ∙ ap (λ es. entry_of_code (code_at ws n) ∷ es) (same_standing vs ws n (λ i l. h i (omega (arith, l))))
+    ap (λ d. kind_of_code d ∷ kinds_in vs n) (h n (omega arith)) ∙ ap (λ es. kind_of_code (code_at ws n) ∷ es) (same_standing vs ws n (λ i l. h i (omega (arith, l))))
 
 -- one operand more on them
-pub pushed_standing : (vs ws : List ℕ) (n : ℕ) (e : Entry) → code_at vs n ≡ code_of e → ((i : ℕ) → i < n → code_at vs i ≡ code_at ws i)
-    → operands_in vs (n + 1) ≡ e ∷ operands_in ws n
+pub pushed_standing : (vs ws : List ℕ) (n : ℕ) (e : Kind) → code_at vs n ≡ code_of e → ((i : ℕ) → i < n → code_at vs i ≡ code_at ws i)
+    → kinds_in vs (n + 1) ≡ e ∷ kinds_in ws n
 pushed_standing vs ws n e there under =
     let k : n + 1 ≡ suc n = omega arith in
-    ap (operands_in vs) k ∙ ap (λ x. x ∷ operands_in vs n) (ap entry_of_code there ∙ decoded e) ∙ ap (λ es. e ∷ es) (same_standing vs ws n under)
+    ap (kinds_in vs) k ∙ ap (λ x. x ∷ kinds_in vs n) (ap kind_of_code there ∙ decoded e) ∙ ap (λ es. e ∷ es) (same_standing vs ws n under)
 
-pub drop-standing : (ws : List ℕ) (k n : ℕ) → drop k (operands_in ws n) ≡ operands_in ws (n - k)
-drop-standing ws zero n = let e : n ≡ n - 0 = omega arith in ap (operands_in ws) e
-drop-standing ws (suc k) zero = let e : 0 ≡ 0 - suc k = omega arith in ap (operands_in ws) e
-drop-standing ws (suc k) (suc n) = let e : n - k ≡ suc n - suc k = omega arith in drop-standing ws k n ∙ ap (operands_in ws) e
+pub drop-standing : (ws : List ℕ) (k n : ℕ) → drop k (kinds_in ws n) ≡ kinds_in ws (n - k)
+drop-standing ws zero n = let e : n ≡ n - 0 = omega arith in ap (kinds_in ws) e
+drop-standing ws (suc k) zero = let e : 0 ≡ 0 - suc k = omega arith in ap (kinds_in ws) e
+drop-standing ws (suc k) (suc n) = let e : n - k ≡ suc n - suc k = omega arith in drop-standing ws k n ∙ ap (kinds_in ws) e
 
 -- the words, the last one being the one that is kept apart
 abbrev pub whole : List ℕ → ℕ → List ℕ
@@ -91,6 +91,6 @@ back ws current index i h l =
     ]
 
 -- the top operand, and those under it
-pub split_standing : (ws : List ℕ) (n : ℕ) → 0 < n → operands_in ws n ≡ entry_of_code (code_at ws (n - 1)) ∷ operands_in ws (n - 1)
+pub split_standing : (ws : List ℕ) (n : ℕ) → 0 < n → kinds_in ws n ≡ kind_of_code (code_at ws (n - 1)) ∷ kinds_in ws (n - 1)
 split_standing ws zero h = absurd (omega (arith, h))
-split_standing ws (suc n) h = let e : n ≡ suc n - 1 = omega arith in ap (λ k. entry_of_code (code_at ws k) ∷ operands_in ws k) e
+split_standing ws (suc n) h = let e : n ≡ suc n - 1 = omega arith in ap (λ k. kind_of_code (code_at ws k) ∷ kinds_in ws k) e

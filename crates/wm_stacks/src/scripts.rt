@@ -93,6 +93,8 @@ fn type_of(rt: &impl Abort, word: &str) -> ValType {
     match word {
         "I32" => ValType::I32,
         "I64" => ValType::I64,
+        "F32" => ValType::F32,
+        "F64" => ValType::F64,
         _ => unknown(rt, word),
     }
 }
@@ -101,6 +103,8 @@ fn entry_of(rt: &impl Abort, word: &str) -> Entry {
     match word {
         "I32" => Entry::I32,
         "I64" => Entry::I64,
+        "F32" => Entry::F32,
+        "F64" => Entry::F64,
         "Unknown" => Entry::Unknown,
         _ => unknown(rt, word),
     }

@@ -1,5 +1,5 @@
 -- What a byte begins under a profile, by the table of instructions.
-use Rattle.std.proofs.Common.{◌≡◌, ℕ, true, Option, Some, slice_get, refl, sym, ap, ◌∙◌}
+use Rattle.std.proofs.Common.{◌≡◌, ℕ, Bool, true, false, Option, Some, slice_get, refl, sym, ap, ◌∙◌}
 use Rattle.std.specs.Prelude.{None as Nothing}
 use Rattle.wm_syntax.specs.declared.instructions.Op.{Op}
 use Rattle.wm_syntax.specs.declared.instructions.op_class.OpClass.{OpClass}
@@ -7,8 +7,9 @@ use Rattle.wm_syntax.specs.declared.instructions.op_class.OpClass.TheVariants.{F
 use Rattle.wm_syntax.specs.declared.profile.Profile.{Profile}
 use Rattle.wm_syntax.specs.OpClasses.{class_of, first_byte, is_float, IsClassOfOp}
 use Rattle.wm_syntax.specs.exact.ByteTable.{classes, class_in, row_in, class_under}
-use Rattle.wm_syntax.specs.Profiles.{IsOpOf}
-use Rattle.wm_syntax.proofs.OpTable.{found_in, begins_in, float_in}
+use Rattle.wm_syntax.specs.Profiles.{IsOpOf, has}
+use Rattle.wm_syntax.specs.declared.profile.Feature.TheVariants.{Floats}
+use Rattle.wm_syntax.proofs.OpTable.{found_in, begins_in, float_in, float_never}
 use Rattle.wm_syntax.proofs.OneInstruction.{class_there}
 
 pub row_under : (p : Profile) (byte : ℕ) (c : OpClass) → slice_get classes byte ≡ Some c → class_in p c ≡ class_under p byte
@@ -35,5 +36,25 @@ unfolding class_under
 float_under p byte f = go (slice_get classes byte) refl f
   where
     go : (row : Option OpClass) → slice_get classes byte ≡ row → row_in p row ≡ Float → is_float byte ≡ true
-    go (Some c) e f = (float_in p byte c e).0 f
+    go (Some c) e f = of (has p Floats) refl
+      where
+        of : (b : Bool) → has p Floats ≡ b → is_float byte ≡ true
+        of true h = absurd (float_never p byte c e h f)
+        of false h = (float_in p byte c e h).0 f
     go Nothing e f = cc
+
+-- where the profile has floats no byte is refused as one of theirs
+pub no_float_under : (p : Profile) (byte : ℕ) → has p Floats ≡ true → class_under p byte ≡ Float → ⊥
+unfolding class_under
+no_float_under p byte h f = go (slice_get classes byte) refl f
+  where
+    go : (row : Option OpClass) → slice_get classes byte ≡ row → row_in p row ≡ Float → ⊥
+    go (Some c) e f = float_never p byte c e h f
+    go Nothing e f = cc
+
+pub float_lacks : (p : Profile) (byte : ℕ) → class_under p byte ≡ Float → has p Floats ≡ false
+float_lacks p byte f = of (has p Floats) refl
+  where
+    of : (b : Bool) → has p Floats ≡ b → b ≡ false
+    of true h = absurd (no_float_under p byte h f)
+    of false h = refl

@@ -1,7 +1,12 @@
 -- What a word names, by the table of instructions.
 use Rattle.std.proofs.Common.{◌≡◌, ℕ, suc, slice_get, ◌⊎◌, Bool, true, false, cond, List, [], ◌∷◌, Option, Some, None as Nothing, refl, sym, ap, subst, ◌∙◌, inl, inr}
 use Rattle.std.specs.Prelude.{codes, slice_index_or}
-use Rattle.wm_syntax.specs.declared.types.ValType.TheVariants.{I32, I64}
+use Rattle.wm_syntax.specs.declared.instructions.IntType.TheVariants.{I32, I64}
+use Rattle.wm_syntax.specs.declared.instructions.FloatType.TheVariants as float
+use Rattle.wm_syntax.specs.declared.instructions.FloatComparison.TheVariants as fc
+use Rattle.wm_syntax.specs.declared.instructions.FloatUnaryOp.TheVariants as fu
+use Rattle.wm_syntax.specs.declared.instructions.FloatBinaryOp.TheVariants as fb
+use Rattle.wm_syntax.specs.declared.instructions.Conversion.TheVariants as cv
 use Rattle.wm_syntax.specs.declared.instructions.Op.{Op}
 use Rattle.wm_syntax.specs.declared.instructions.Op.TheVariants as op
 use Rattle.wm_syntax.specs.declared.instructions.Simple.{Simple}
@@ -9,7 +14,7 @@ use Rattle.wm_syntax.specs.declared.instructions.Simple.TheVariants as s
 use Rattle.wm_syntax.specs.declared.instructions.Comparison.TheVariants.{Eq}
 use Rattle.wm_syntax.specs.declared.instructions.UnaryOp.TheVariants.{Clz}
 use Rattle.wm_syntax.specs.declared.instructions.BinaryOp.TheVariants.{Add}
-use Rattle.wm_syntax.specs.declared.instructions.Numeric.TheVariants.{Test, Compare, Unary, Binary, SignExtend}
+use Rattle.wm_syntax.specs.declared.instructions.Numeric.TheVariants.{Test, Compare, Unary, Binary, FloatCompare, FloatUnary, FloatBinary, Convert, SignExtend}
 use Rattle.wm_syntax.specs.declared.instructions.SignExtension.TheVariants.{I32From8}
 use Rattle.wm_syntax.specs.declared.instructions.LoadOp.TheVariants.{I32Load}
 use Rattle.wm_syntax.specs.declared.instructions.StoreOp.TheVariants.{I32Store}
@@ -56,6 +61,20 @@ named_simple (s.Numeric (Binary I32 Add)) = refl
 named_simple (s.Numeric (Binary I32 _)) = refl
 named_simple (s.Numeric (Binary I64 Add)) = refl
 named_simple (s.Numeric (Binary I64 _)) = refl
+named_simple (s.Numeric (FloatCompare float.F32 fc.Eq)) = refl
+named_simple (s.Numeric (FloatCompare float.F32 _)) = refl
+named_simple (s.Numeric (FloatCompare float.F64 fc.Eq)) = refl
+named_simple (s.Numeric (FloatCompare float.F64 _)) = refl
+named_simple (s.Numeric (FloatUnary float.F32 fu.Abs)) = refl
+named_simple (s.Numeric (FloatUnary float.F32 _)) = refl
+named_simple (s.Numeric (FloatUnary float.F64 fu.Abs)) = refl
+named_simple (s.Numeric (FloatUnary float.F64 _)) = refl
+named_simple (s.Numeric (FloatBinary float.F32 fb.Add)) = refl
+named_simple (s.Numeric (FloatBinary float.F32 _)) = refl
+named_simple (s.Numeric (FloatBinary float.F64 fb.Add)) = refl
+named_simple (s.Numeric (FloatBinary float.F64 _)) = refl
+named_simple (s.Numeric (Convert cv.I32TruncF32S)) = refl
+named_simple (s.Numeric (Convert _)) = refl
 named_simple (s.Numeric (SignExtend I32From8)) = refl
 named_simple (s.Numeric (SignExtend _)) = refl
 named_simple (s.Numeric _) = refl
@@ -128,6 +147,20 @@ name_simple (s.Numeric (Binary I32 Add)) = refl
 name_simple (s.Numeric (Binary I32 _)) = refl
 name_simple (s.Numeric (Binary I64 Add)) = refl
 name_simple (s.Numeric (Binary I64 _)) = refl
+name_simple (s.Numeric (FloatCompare float.F32 fc.Eq)) = refl
+name_simple (s.Numeric (FloatCompare float.F32 _)) = refl
+name_simple (s.Numeric (FloatCompare float.F64 fc.Eq)) = refl
+name_simple (s.Numeric (FloatCompare float.F64 _)) = refl
+name_simple (s.Numeric (FloatUnary float.F32 fu.Abs)) = refl
+name_simple (s.Numeric (FloatUnary float.F32 _)) = refl
+name_simple (s.Numeric (FloatUnary float.F64 fu.Abs)) = refl
+name_simple (s.Numeric (FloatUnary float.F64 _)) = refl
+name_simple (s.Numeric (FloatBinary float.F32 fb.Add)) = refl
+name_simple (s.Numeric (FloatBinary float.F32 _)) = refl
+name_simple (s.Numeric (FloatBinary float.F64 fb.Add)) = refl
+name_simple (s.Numeric (FloatBinary float.F64 _)) = refl
+name_simple (s.Numeric (Convert cv.I32TruncF32S)) = refl
+name_simple (s.Numeric (Convert _)) = refl
 name_simple (s.Numeric (SignExtend I32From8)) = refl
 name_simple (s.Numeric (SignExtend _)) = refl
 name_simple (s.Numeric _) = refl

@@ -11,18 +11,25 @@ use Rattle.wm_syntax.specs.declared.instructions.op_class.OpClass.{OpClass}
 use Rattle.wm_syntax.specs.declared.instructions.op_class.OpClass.TheVariants.{Plain, With, Float, None}
 use Rattle.wm_syntax.specs.Opcodes.{opcode}
 use Rattle.wm_syntax.specs.OpClasses.{class_of, first_byte, is_float, IsClassOfOp}
-use Rattle.wm_syntax.specs.exact.ByteTable.{classes, class_feature, class_in}
+use Rattle.wm_syntax.specs.exact.ByteTable.{classes, class_feature, class_in, left_out}
 use Rattle.wm_syntax.specs.Profiles.{IsOpOf, feature_of, has}
+use Rattle.wm_syntax.specs.declared.profile.Feature.{Feature}
+use Rattle.wm_syntax.specs.declared.profile.Feature.TheVariants.{Base, Floats, SignExtension}
 use Rattle.wm_syntax.specs.declared.profile.Profile.{Profile}
-use Rattle.wm_syntax.specs.declared.types.ValType.TheVariants.{I32, I64}
+use Rattle.wm_syntax.specs.declared.instructions.IntType.TheVariants.{I32, I64}
+use Rattle.wm_syntax.specs.declared.instructions.FloatType.TheVariants as float
+use Rattle.wm_syntax.specs.declared.instructions.FloatComparison.TheVariants as fc
+use Rattle.wm_syntax.specs.declared.instructions.FloatUnaryOp.TheVariants as fu
+use Rattle.wm_syntax.specs.declared.instructions.FloatBinaryOp.TheVariants as fb
+use Rattle.wm_syntax.specs.declared.instructions.Conversion.TheVariants as cv
 use Rattle.wm_syntax.specs.declared.instructions.Simple.{Simple}
 use Rattle.wm_syntax.specs.declared.instructions.Comparison.TheVariants.{Eq}
 use Rattle.wm_syntax.specs.declared.instructions.UnaryOp.TheVariants.{Clz}
 use Rattle.wm_syntax.specs.declared.instructions.BinaryOp.TheVariants.{Add}
-use Rattle.wm_syntax.specs.declared.instructions.Numeric.TheVariants.{Test, Compare, Unary, Binary, SignExtend}
+use Rattle.wm_syntax.specs.declared.instructions.Numeric.TheVariants.{Test, Compare, Unary, Binary, FloatCompare, FloatUnary, FloatBinary, Convert, SignExtend}
 use Rattle.wm_syntax.specs.declared.instructions.SignExtension.TheVariants.{I32From8}
-use Rattle.wm_syntax.specs.declared.instructions.LoadOp.TheVariants.{I32Load}
-use Rattle.wm_syntax.specs.declared.instructions.StoreOp.TheVariants.{I32Store}
+use Rattle.wm_syntax.specs.declared.instructions.LoadOp.TheVariants.{I32Load, F32Load, F64Load}
+use Rattle.wm_syntax.specs.declared.instructions.StoreOp.TheVariants.{I32Store, F32Store, F64Store}
 use Rattle.std.proofs.lemmas.Bool.Decides.{nat_tests}
 
 some_injective : {X : Type 0} {x y : X} → Some x ≡ Some y → x ≡ y
@@ -49,6 +56,20 @@ found_simple (s.Numeric (Binary I32 Add)) = refl
 found_simple (s.Numeric (Binary I32 _)) = refl
 found_simple (s.Numeric (Binary I64 Add)) = refl
 found_simple (s.Numeric (Binary I64 _)) = refl
+found_simple (s.Numeric (FloatCompare float.F32 fc.Eq)) = refl
+found_simple (s.Numeric (FloatCompare float.F32 _)) = refl
+found_simple (s.Numeric (FloatCompare float.F64 fc.Eq)) = refl
+found_simple (s.Numeric (FloatCompare float.F64 _)) = refl
+found_simple (s.Numeric (FloatUnary float.F32 fu.Abs)) = refl
+found_simple (s.Numeric (FloatUnary float.F32 _)) = refl
+found_simple (s.Numeric (FloatUnary float.F64 fu.Abs)) = refl
+found_simple (s.Numeric (FloatUnary float.F64 _)) = refl
+found_simple (s.Numeric (FloatBinary float.F32 fb.Add)) = refl
+found_simple (s.Numeric (FloatBinary float.F32 _)) = refl
+found_simple (s.Numeric (FloatBinary float.F64 fb.Add)) = refl
+found_simple (s.Numeric (FloatBinary float.F64 _)) = refl
+found_simple (s.Numeric (Convert cv.I32TruncF32S)) = refl
+found_simple (s.Numeric (Convert _)) = refl
 found_simple (s.Numeric (SignExtend I32From8)) = refl
 found_simple (s.Numeric (SignExtend _)) = refl
 found_simple (s.Numeric _) = refl
@@ -81,9 +102,9 @@ found_op byte c e (op.BrTable n) f = same_place 0x0E byte c _ e refl f
 found_op byte c e (op.Label l) f = cc
 
 -- the bytes of floating-point instructions are those of the table
-is_float_class : OpClass → Bool
-is_float_class Float = true
-is_float_class _ = false
+is_floats : Feature → Bool
+is_floats Floats = true
+is_floats _ = false
 
 same_bool : Bool → Bool → Bool
 same_bool true b = b
@@ -95,24 +116,34 @@ same_bools true b e = sym e
 same_bools false true e = cc
 same_bools false false e = refl
 
-floats : list_all (λ (e : ℕ × OpClass). same_bool (is_float_class e.1) (is_float e.0)) (enumerate_from 0 classes) ≡ true
-unfolding is_float_class same_bool
+floats : list_all (λ (e : ℕ × OpClass). same_bool (is_floats (class_feature e.1)) (is_float e.0)) (enumerate_from 0 classes) ≡ true
+unfolding is_floats same_bool
 floats = refl
 
-is_float_at : (byte : ℕ) (c : OpClass) → slice_get classes byte ≡ Some c → is_float_class c ≡ is_float byte
-is_float_at byte c e = same_bools _ _ (subst (λ (m : ℕ). same_bool (is_float_class c) (is_float m) ≡ true) (let q : 0 + byte ≡ byte = omega arith in q)
-    (tested (λ n c. same_bool (is_float_class c) (is_float n)) classes 0 byte c floats e))
+is_float_at : (byte : ℕ) (c : OpClass) → slice_get classes byte ≡ Some c → is_floats (class_feature c) ≡ is_float byte
+is_float_at byte c e = same_bools _ _ (subst (λ (m : ℕ). same_bool (is_floats (class_feature c)) (is_float m) ≡ true) (let q : 0 + byte ≡ byte = omega arith in q)
+    (tested (λ n c. same_bool (is_floats (class_feature c)) (is_float n)) classes 0 byte c floats e))
 
-float_only : (c : OpClass) → is_float_class c ≡ true → c ≡ Float
-unfolding is_float_class
-float_only (Plain o) e = cc
-float_only (With kind) e = cc
-float_only Float e = refl
-float_only None e = cc
+floats_feature : (f : Feature) → is_floats f ≡ true → f ≡ Floats
+unfolding is_floats
+floats_feature Base e = cc
+floats_feature Floats e = refl
+floats_feature SignExtension e = cc
 
-pub float_class : (byte : ℕ) (c : OpClass) → slice_get classes byte ≡ Some c → (c ≡ Float) ↔ (is_float byte ≡ true)
-unfolding is_float_class
-float_class byte c e = (λ f. sym (is_float_at byte c e) ∙ ap is_float_class f, λ f. float_only c (is_float_at byte c e ∙ f))
+-- no row of the table says Float: that is what a profile without floats answers
+is_no_float : OpClass → Bool
+is_no_float Float = false
+is_no_float _ = true
+
+no_floats : list_all (λ (e : ℕ × OpClass). is_no_float e.1) (enumerate_from 0 classes) ≡ true
+unfolding is_no_float
+no_floats = refl
+
+not_float : (byte : ℕ) (c : OpClass) → slice_get classes byte ≡ Some c → c ≡ Float → ⊥
+unfolding is_no_float
+not_float byte c e f =
+    let t = tested (λ n c. is_no_float c) classes 0 byte c no_floats e in
+    let g : is_no_float c ≡ false = ap is_no_float f in cc
 
 -- an instruction of a class
 sample : OpClass → Op
@@ -134,6 +165,8 @@ sample (With k.MemorySize) = op.Simple s.MemorySize
 sample (With k.MemoryGrow) = op.Simple s.MemoryGrow
 sample (With k.I32Const) = op.Simple (s.I32Const (pos 0))
 sample (With k.I64Const) = op.Simple (s.I64Const (pos 0))
+sample (With k.F32Const) = op.Simple (s.F32Const 0)
+sample (With k.F64Const) = op.Simple (s.F64Const 0)
 sample (With (k.Load o)) = op.Simple (s.Load o (record { align = 0; offset = 0 }))
 sample (With (k.Store o)) = op.Simple (s.Store o (record { align = 0; offset = 0 }))
 sample Float = op.End
@@ -181,42 +214,95 @@ plain_class op.End e = refl
 plain_class (op.Label l) e = refl
 plain_class _ e = cc
 
-pub class_begins : (byte : ℕ) (c : OpClass) → slice_get classes byte ≡ Some c → IsClassOfOp c → (o : Op) × (first_byte o ≡ Some byte) × (class_of o ≡ c)
+-- it stands at the byte of its class
+sample_begins : (byte : ℕ) (c : OpClass) → slice_get classes byte ≡ Some c → IsClassOfOp c → (first_byte (sample c) ≡ Some byte) × (class_of (sample c) ≡ c)
 unfolding begins sample
-class_begins byte c e i = go c i (subst (λ (m : ℕ). begins m c ≡ true) (let q : 0 + byte ≡ byte = omega arith in q) (tested begins classes 0 byte c all_begin e))
+sample_begins byte c e i = go c i (subst (λ (m : ℕ). begins m c ≡ true) (let q : 0 + byte ≡ byte = omega arith in q) (tested begins classes 0 byte c all_begin e))
   where
-    go : (c : OpClass) → IsClassOfOp c → begins byte c ≡ true → (o : Op) × (first_byte o ≡ Some byte) × (class_of o ≡ c)
-    go (Plain o) i t = (o, is_at_means (first_byte o) byte (both (is_at (first_byte o) byte) _ t).0, plain_class o (both (is_at (first_byte o) byte) _ t).1)
-    go (With kind) i t = (sample (With kind), is_at_means (first_byte (sample (With kind))) byte t, with_class kind)
+    go : (c : OpClass) → IsClassOfOp c → begins byte c ≡ true → (first_byte (sample c) ≡ Some byte) × (class_of (sample c) ≡ c)
+    go (Plain o) i t = (is_at_means (first_byte o) byte (both (is_at (first_byte o) byte) _ t).0, plain_class o (both (is_at (first_byte o) byte) _ t).1)
+    go (With kind) i t = (is_at_means (first_byte (sample (With kind))) byte t, with_class kind)
     go Float i t = absurd i
     go None i t = absurd i
 
--- The same under a profile: an op and its class have one feature.
+-- The same under a profile: an op has a class of its feature.
 simple_feature : (i : Simple) → class_feature (class_of (op.Simple i)) ≡ feature_of i
-simple_feature (s.Numeric (SignExtend x)) = refl
-simple_feature (s.Numeric _) = refl
+simple_feature (s.Numeric x) = refl
+simple_feature (s.Load F32Load at) = refl
+simple_feature (s.Load F64Load at) = refl
+simple_feature (s.Load _ at) = refl
+simple_feature (s.Store F32Store at) = refl
+simple_feature (s.Store F64Store at) = refl
+simple_feature (s.Store _ at) = refl
 simple_feature _ = refl
 
 pub has_class : (p : Profile) (o : Op) → IsOpOf p o → IsTrue (has p (class_feature (class_of o)))
 has_class p (op.Simple i) h = ap (has p) (simple_feature i) ∙ h
 has_class p _ h = refl
 
-of_class : (p : Profile) (o : Op) → IsTrue (has p (class_feature (class_of o))) → IsOpOf p o
-of_class p (op.Simple i) h = ap (has p) (sym (simple_feature i)) ∙ h
-of_class p _ h = tt
+-- an op that is its byte alone is of no class that has immediates
+with_plain : (kind : Immediates) (o : Op) → With kind ≡ Plain o → ⊥
+with_plain kind o e = cc
+
+-- the instruction of a class is of each profile that has the class: where it has a block type, it has no result
+sample_has : (p : Profile) (c : OpClass) → class_of (sample c) ≡ c → IsTrue (has p (class_feature c)) → IsOpOf p (sample c)
+unfolding sample
+sample_has p (Plain (op.Simple i)) e h = h
+sample_has p (Plain (op.Block t)) e h = absurd (with_plain k.Block (op.Block t) e)
+sample_has p (Plain (op.Loop t)) e h = absurd (with_plain k.Loop (op.Loop t) e)
+sample_has p (Plain (op.If t)) e h = absurd (with_plain k.If (op.If t) e)
+sample_has p (Plain _) e h = tt
+sample_has p (With k.Block) e h = tt
+sample_has p (With k.Loop) e h = tt
+sample_has p (With k.If) e h = tt
+sample_has p (With k.BrTable) e h = tt
+sample_has p (With k.F32Const) e h = h
+sample_has p (With k.F64Const) e h = h
+sample_has p (With (k.Load F32Load)) e h = h
+sample_has p (With (k.Load F64Load)) e h = h
+sample_has p (With (k.Load _)) e h = refl
+sample_has p (With (k.Store F32Store)) e h = h
+sample_has p (With (k.Store F64Store)) e h = h
+sample_has p (With (k.Store _)) e h = refl
+sample_has p (With _) e h = refl
+sample_has p Float e h = tt
+sample_has p None e h = tt
 
 pub kept_class : (p : Profile) (c : OpClass) → IsTrue (has p (class_feature c)) → class_in p c ≡ c
 kept_class p c h = rw h refl
 
--- what a profile leaves of a class is nothing, or all of it
-module _ (c : OpClass) where
-  left_true : (b : Bool) → IsClassOfOp (if b then c else None) → b ≡ true
-  left_true true h = refl
-  left_true false h = absurd h
+-- what is answered for a feature that a profile has not
+no_left_out : (f : Feature) → IsClassOfOp (left_out f) → ⊥
+no_left_out Base h = h
+no_left_out Floats h = h
+no_left_out SignExtension h = h
 
-  left_float : (b : Bool) → (if b then c else None) ≡ Float → c ≡ Float
-  left_float true e = e
-  left_float false e = cc
+left_out_float : (f : Feature) → is_floats f ≡ true → left_out f ≡ Float
+unfolding is_floats
+left_out_float Base e = cc
+left_out_float Floats e = refl
+left_out_float SignExtension e = cc
+
+float_left_out : (f : Feature) → left_out f ≡ Float → is_floats f ≡ true
+unfolding is_floats
+float_left_out Base e = cc
+float_left_out Floats e = refl
+float_left_out SignExtension e = cc
+
+-- what a profile leaves of a class is that, or all of it
+module _ (c : OpClass) where
+  left_true : (b : Bool) → IsClassOfOp (if b then c else left_out (class_feature c)) → b ≡ true
+  left_true true h = refl
+  left_true false h = absurd (no_left_out (class_feature c) h)
+
+  left_float : (b : Bool) → (c ≡ Float → ⊥) → (if b then c else left_out (class_feature c)) ≡ Float → (b ≡ false) × (is_floats (class_feature c) ≡ true)
+  left_float true n e = absurd (n e)
+  left_float false n e = (refl, float_left_out (class_feature c) e)
+
+  left_none : (b : Bool) → is_floats (class_feature c) ≡ true → (if b then c else left_out (class_feature c)) ≡ None → ⊥
+  unfolding is_floats
+  left_none true t e = let f : false ≡ true = ap (λ d. is_floats (class_feature d)) (sym e) ∙ t in cc
+  left_none false t e = let f : None ≡ Float = sym e ∙ left_out_float (class_feature c) t in cc
 
 pub is_kept : (p : Profile) (c : OpClass) → IsClassOfOp (class_in p c) → IsTrue (has p (class_feature c))
 is_kept p c h = left_true c (has p (class_feature c)) h
@@ -229,8 +315,29 @@ pub begins_in : (p : Profile) (byte : ℕ) (c : OpClass) → slice_get classes b
 begins_in p byte c e f =
     let h : IsTrue (has p (class_feature c)) = is_kept p c f in
     let same : class_in p c ≡ c = kept_class p c h in
-    let found : (o : Op) × (first_byte o ≡ Some byte) × (class_of o ≡ c) = class_begins byte c e (subst IsClassOfOp same f) in
-    (found.0, found.1, of_class p found.0 (ap (λ d. has p (class_feature d)) found.2 ∙ h), found.2 ∙ sym same)
+    let found : (first_byte (sample c) ≡ Some byte) × (class_of (sample c) ≡ c) = sample_begins byte c e (subst IsClassOfOp same f) in
+    (sample c, found.0, sample_has p c found.1 h, found.1 ∙ sym same)
 
-pub float_in : (p : Profile) (byte : ℕ) (c : OpClass) → slice_get classes byte ≡ Some c → (class_in p c ≡ Float) ↔ (is_float byte ≡ true)
-float_in p byte c e = (λ f. (float_class byte c e).0 (left_float c (has p (class_feature c)) f), λ f. ap (class_in p) ((float_class byte c e).1 f))
+-- Float is the answer for a byte of theirs where the profile has no floats
+pub float_in : (p : Profile) (byte : ℕ) (c : OpClass) → slice_get classes byte ≡ Some c → has p Floats ≡ false → (class_in p c ≡ Float) ↔ (is_float byte ≡ true)
+float_in p byte c e lacks = (to, from)
+  where
+    to : class_in p c ≡ Float → is_float byte ≡ true
+    to f = sym (is_float_at byte c e) ∙ (left_float c (has p (class_feature c)) (not_float byte c e) f).1
+
+    from : is_float byte ≡ true → class_in p c ≡ Float
+    from t =
+        let g : is_floats (class_feature c) ≡ true = is_float_at byte c e ∙ t in
+        let f : has p (class_feature c) ≡ false = ap (has p) (floats_feature (class_feature c) g) ∙ lacks in
+        rw f (left_out_float (class_feature c) g)
+
+-- and for none where it has
+pub float_never : (p : Profile) (byte : ℕ) (c : OpClass) → slice_get classes byte ≡ Some c → has p Floats ≡ true → class_in p c ≡ Float → ⊥
+float_never p byte c e owns f =
+    let g : (has p (class_feature c) ≡ false) × (is_floats (class_feature c) ≡ true) = left_float c (has p (class_feature c)) (not_float byte c e) f in
+    let k : has p (class_feature c) ≡ true = ap (has p) (floats_feature (class_feature c) g.1) ∙ owns in
+    let l : false ≡ true = sym g.0 ∙ k in cc
+
+-- under no profile a byte of theirs is left without a class
+pub float_not_none : (p : Profile) (byte : ℕ) (c : OpClass) → slice_get classes byte ≡ Some c → is_float byte ≡ true → class_in p c ≡ None → ⊥
+float_not_none p byte c e t n = left_none c (has p (class_feature c)) (is_float_at byte c e ∙ t) n

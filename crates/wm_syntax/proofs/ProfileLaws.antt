@@ -1,51 +1,141 @@
--- Profiles, by ops and by instructions.
-use Rattle.std.proofs.Common.{◌≡◌, false, true, ℕ, List, [], ◌∷◌, ◌++◌, ◌↔◌, map, inl, inr, refl, subst}
+-- Profiles, by types, ops and instructions.
+use Rattle.std.proofs.Common.{◌≡◌, false, true, IsTrue, ℕ, List, [], ◌∷◌, ◌++◌, ◌↔◌, Option, None, Some, map, inl, inr, refl, subst}
 use Rattle.std.specs.List.{AllByRecursion}
-use Rattle.wm_syntax.specs.declared.profile.Feature.TheVariants.{Base, SignExtension}
+use Rattle.wm_syntax.specs.declared.profile.Feature.{Feature}
+use Rattle.wm_syntax.specs.declared.profile.Feature.TheVariants.{Base, Floats, SignExtension}
 use Rattle.wm_syntax.specs.declared.profile.Profile.{Profile}
-use Rattle.wm_syntax.specs.declared.profile.Profile.TheVariants.{One}
+use Rattle.wm_syntax.specs.declared.profile.Profile.TheVariants.{One, Four}
 use Rattle.wm_syntax.specs.declared.instructions.Op.{Op}
 use Rattle.wm_syntax.specs.declared.instructions.Op.TheVariants as op
 use Rattle.wm_syntax.specs.Instructions.{HasElse, HasOp, HasOps, Instruction, Instructions, none, snoc, simple, table, block, loop, choice}
+use Rattle.wm_syntax.specs.declared.modules.ImportDesc.{ImportDesc}
+use Rattle.wm_syntax.specs.declared.modules.ImportDesc.TheVariants.{Global}
 use Rattle.wm_syntax.specs.declared.types.Const.{Const}
-use Rattle.wm_syntax.specs.declared.types.Const.TheVariants as const
-use Rattle.wm_syntax.specs.Modules.{Function, Module, constant}
-use Rattle.wm_syntax.specs.Profiles.{Extends, HasInstruction, HasInstructions, HasSimple, IsOf, IsOpOf, feature_of}
+use Rattle.wm_syntax.specs.declared.types.ValType.{ValType}
+use Rattle.wm_syntax.specs.Modules.{Element, Function, GlobalDef, Import, Module, Segment, constant}
+use Rattle.wm_syntax.specs.Profiles.{Extends, HasBlockType, HasConst, HasDesc, HasFunction, HasGlobal, HasInstruction, HasInstructions, HasSignature, HasType, IsOf, IsOpOf, feature_of, has, type_feature}
+use Rattle.wm_syntax.specs.Types.{Signature}
+
+-- a fact of each member of a list, and another that follows from it
+module _ {X : Type 0} (P Q : X → Type 0) (each : (x : X) → P x → Q x) where
+  pub all_each : (xs : List X) → AllByRecursion P xs → AllByRecursion Q xs
+  all_each [] h = tt
+  all_each (x ∷ xs) h = (each x h.0, all_each xs h.1)
 
 -- what one profile has, one that extends it has
 module _ (p q : Profile) (more : Extends q p) where
+  pub type_more : (t : ValType) → HasType p t → HasType q t
+  type_more t h = more (type_feature t) h
+
+  pub block_type_more : (t : Option ValType) → HasBlockType p t → HasBlockType q t
+  block_type_more None h = tt
+  block_type_more (Some t) h = type_more t h
+
+  pub const_more : (c : Const) → HasConst p c → HasConst q c
+  const_more c h = more (feature_of (constant c)) h
+
+  types_more : (ts : List ValType) → AllByRecursion (HasType p) ts → AllByRecursion (HasType q) ts
+  types_more ts h = all_each (HasType p) (HasType q) type_more ts h
+
   mutual
     has_more : (i : Instruction) → HasInstruction p i → HasInstruction q i
     has_more (simple i) h = more (feature_of i) h
     has_more (table labels default) h = tt
-    has_more (block t body) h = have_more body h
-    has_more (loop t body) h = have_more body h
-    has_more (choice t first second) h = (have_more first h.0, have_more second h.1)
+    has_more (block t body) h = (block_type_more t h.0, have_more body h.1)
+    has_more (loop t body) h = (block_type_more t h.0, have_more body h.1)
+    has_more (choice t first second) h = (block_type_more t h.0, have_more first h.1, have_more second h.2)
 
     have_more : (s : Instructions) → HasInstructions p s → HasInstructions q s
     have_more none h = tt
     have_more (snoc s i) h = (have_more s h.0, has_more i h.1)
 
-  all_more : (fs : List Function) → AllByRecursion (λ f. HasInstructions p f.body) fs → AllByRecursion (λ f. HasInstructions q f.body) fs
-  all_more [] h = tt
-  all_more (f ∷ fs) h = (have_more f.body h.0, all_more fs h.1)
+  signature_more : (f : Signature) → HasSignature p f → HasSignature q f
+  signature_more f h = (types_more f.params h.0, types_more f.results h.1)
+
+  desc_more : (d : ImportDesc) → HasDesc p d → HasDesc q d
+  desc_more (Global g) h = type_more g.ty h
+  desc_more _ h = tt
+
+  function_more : (f : Function) → HasFunction p f → HasFunction q f
+  function_more f h = (types_more f.locals h.0, have_more f.body h.1)
+
+  global_more : (g : GlobalDef) → HasGlobal p g → HasGlobal q g
+  global_more g h = (type_more g.ty.ty h.0, const_more g.init h.1)
 
   pub is_of_more : (m : Module) → IsOf p m → IsOf q m
-  is_of_more m h = all_more m.functions h
+  is_of_more m h = record {
+    types = all_each (HasSignature p) (HasSignature q) signature_more m.types h.types;
+    imports = all_each (λ (i : Import). HasDesc p i.desc) (λ (i : Import). HasDesc q i.desc) (λ i k. desc_more i.desc k) m.imports h.imports;
+    functions = all_each (HasFunction p) (HasFunction q) function_more m.functions h.functions;
+    globals = all_each (HasGlobal p) (HasGlobal q) global_more m.globals h.globals;
+    elements = all_each (λ (e : Element). HasConst p e.offset) (λ (e : Element). HasConst q e.offset) (λ e k. const_more e.offset k) m.elements h.elements;
+    segments = all_each (λ (s : Segment). HasConst p s.offset) (λ (s : Segment). HasConst q s.offset) (λ s k. const_more s.offset k) m.segments h.segments;
+  }
 
   pub op_of_more : (o : Op) → IsOpOf p o → IsOpOf q o
   op_of_more (op.Simple i) h = more (feature_of i) h
+  op_of_more (op.Block t) h = block_type_more t h
+  op_of_more (op.Loop t) h = block_type_more t h
+  op_of_more (op.If t) h = block_type_more t h
   op_of_more _ h = tt
 
 pub extends_one : (q : Profile) → Extends q One
 extends_one q Base h = refl
+extends_one q Floats h = let e : false ≡ true = h in cc
 extends_one q SignExtension h = let e : false ≡ true = h in cc
 
--- a constant is of every profile
-pub constant_has : (p : Profile) (c : Const) → HasSimple p (constant c)
-constant_has p (const.I32 n) = refl
-constant_has p (const.I64 n) = refl
-constant_has p (const.Global x) = refl
+-- the fourth has every feature, so everything is of it
+pub four_has : (f : Feature) → IsTrue (has Four f)
+four_has Base = refl
+four_has Floats = refl
+four_has SignExtension = refl
+
+pub four_extends : (p : Profile) → Extends Four p
+four_extends p f h = four_has f
+
+module _ {X : Type 0} (P : X → Type 0) (each : (x : X) → P x) where
+  all_of_each : (xs : List X) → AllByRecursion P xs
+  all_of_each [] = tt
+  all_of_each (x ∷ xs) = (each x, all_of_each xs)
+
+type_of_four : (t : ValType) → HasType Four t
+type_of_four t = four_has (type_feature t)
+
+block_type_of_four : (t : Option ValType) → HasBlockType Four t
+block_type_of_four None = tt
+block_type_of_four (Some t) = type_of_four t
+
+const_of_four : (c : Const) → HasConst Four c
+const_of_four c = four_has (feature_of (constant c))
+
+mutual
+  instruction_of_four : (i : Instruction) → HasInstruction Four i
+  instruction_of_four (simple i) = four_has (feature_of i)
+  instruction_of_four (table labels default) = tt
+  instruction_of_four (block t body) = (block_type_of_four t, instructions_of_four body)
+  instruction_of_four (loop t body) = (block_type_of_four t, instructions_of_four body)
+  instruction_of_four (choice t first second) = (block_type_of_four t, instructions_of_four first, instructions_of_four second)
+
+  instructions_of_four : (s : Instructions) → HasInstructions Four s
+  instructions_of_four none = tt
+  instructions_of_four (snoc s i) = (instructions_of_four s, instruction_of_four i)
+
+desc_of_four : (d : ImportDesc) → HasDesc Four d
+desc_of_four (Global g) = type_of_four g.ty
+desc_of_four _ = tt
+
+types_of_four : (ts : List ValType) → AllByRecursion (HasType Four) ts
+types_of_four ts = all_of_each (HasType Four) type_of_four ts
+
+pub module_of_four : (m : Module) → IsOf Four m
+module_of_four m = record {
+  types = all_of_each (HasSignature Four) (λ f. (types_of_four f.params, types_of_four f.results)) m.types;
+  imports = all_of_each (λ (i : Import). HasDesc Four i.desc) (λ i. desc_of_four i.desc) m.imports;
+  functions = all_of_each (HasFunction Four) (λ f. (types_of_four f.locals, instructions_of_four f.body)) m.functions;
+  globals = all_of_each (HasGlobal Four) (λ g. (type_of_four g.ty.ty, const_of_four g.init)) m.globals;
+  elements = all_of_each (λ (e : Element). HasConst Four e.offset) (λ e. const_of_four e.offset) m.elements;
+  segments = all_of_each (λ (s : Segment). HasConst Four s.offset) (λ s. const_of_four s.offset) m.segments;
+}
 
 -- a fact of each member of a joined list
 module _ {X : Type 0} (P : X → Type 0) where
@@ -82,25 +172,36 @@ module _ (p : Profile) where
     to_op : (i : Instruction) (ops : List Op) → HasOp i ops → HasInstruction p i → AllOf ops
     to_op (simple i) ops e h = rw e (h, tt)
     to_op (table ls d) ops e h = rw e (tt, labels_of ls d)
-    to_op (block t s) ops (x, y, e, f, (u, v, g, k, l)) h = rw (e, f, g, l) (tt, all_append (IsOpOf p) u (op.End ∷ []) (to_ops s u k h) (tt, tt))
-    to_op (loop t s) ops (x, y, e, f, (u, v, g, k, l)) h = rw (e, f, g, l) (tt, all_append (IsOpOf p) u (op.End ∷ []) (to_ops s u k h) (tt, tt))
+    to_op (block t s) ops (x, y, e, f, (u, v, g, k, l)) h = rw (e, f, g, l) (h.0, all_append (IsOpOf p) u (op.End ∷ []) (to_ops s u k h.1) (tt, tt))
+    to_op (loop t s) ops (x, y, e, f, (u, v, g, k, l)) h = rw (e, f, g, l) (h.0, all_append (IsOpOf p) u (op.End ∷ []) (to_ops s u k h.1) (tt, tt))
     to_op (choice t s1 s2) ops (x, y, e, f, (u, v, g, k, (w, z, m, l, n))) h =
-        rw (e, f, g, m, n) (tt, all_append (IsOpOf p) u (w ++ op.End ∷ []) (to_ops s1 u k h.0) (all_append (IsOpOf p) w (op.End ∷ []) (to_else s2 w l h.1 (λ os q r. to_ops s2 os q r)) (tt, tt)))
+        rw (e, f, g, m, n) (h.0, all_append (IsOpOf p) u (w ++ op.End ∷ []) (to_ops s1 u k h.1) (all_append (IsOpOf p) w (op.End ∷ []) (to_else s2 w l h.2 (λ os q r. to_ops s2 os q r)) (tt, tt)))
 
     to_ops : (s : Instructions) (ops : List Op) → HasOps s ops → HasInstructions p s → AllOf ops
     to_ops none ops e h = rw e tt
     to_ops (snoc s i) ops (x, y, e, k, l) h = rw e (all_append (IsOpOf p) x y (to_ops s x k h.0) (to_op i y l h.1))
 
+  -- what stands before the ops that a first one opens
+  opening : (o : Op) (ops x y : List Op) → ops ≡ x ++ y → x ≡ o ∷ [] → AllOf ops → IsOpOf p o × AllOf y
+  opening o ops x y e f h =
+      let whole : AllOf (x ++ y) = subst AllOf e h in
+      ((subst AllOf f (all_front (IsOpOf p) x y whole)).0, all_back (IsOpOf p) x y whole)
+
   mutual
     from_op : (i : Instruction) (ops : List Op) → HasOp i ops → AllOf ops → HasInstruction p i
     from_op (simple i) ops e h = (subst AllOf e h).0
     from_op (table ls d) ops e h = tt
-    from_op (block t s) ops (x, y, e, f, (u, v, g, k, l)) h = from_ops s u k (all_front (IsOpOf p) u v (subst AllOf g (all_back (IsOpOf p) x y (subst AllOf e h))))
-    from_op (loop t s) ops (x, y, e, f, (u, v, g, k, l)) h = from_ops s u k (all_front (IsOpOf p) u v (subst AllOf g (all_back (IsOpOf p) x y (subst AllOf e h))))
+    from_op (block t s) ops (x, y, e, f, (u, v, g, k, l)) h =
+        let parts = opening (op.Block t) ops x y e f h in
+        (parts.0, from_ops s u k (all_front (IsOpOf p) u v (subst AllOf g parts.1)))
+    from_op (loop t s) ops (x, y, e, f, (u, v, g, k, l)) h =
+        let parts = opening (op.Loop t) ops x y e f h in
+        (parts.0, from_ops s u k (all_front (IsOpOf p) u v (subst AllOf g parts.1)))
     from_op (choice t s1 s2) ops (x, y, e, f, (u, v, g, k, (w, z, m, l, n))) h =
-        let inner : AllOf (u ++ v) = subst AllOf g (all_back (IsOpOf p) x y (subst AllOf e h)) in
+        let parts = opening (op.If t) ops x y e f h in
+        let inner : AllOf (u ++ v) = subst AllOf g parts.1 in
         let rest : AllOf (w ++ z) = subst AllOf m (all_back (IsOpOf p) u v inner) in
-        (from_ops s1 u k (all_front (IsOpOf p) u v inner), from_else s2 w l (all_front (IsOpOf p) w z rest) (λ os q r. from_ops s2 os q r))
+        (parts.0, from_ops s1 u k (all_front (IsOpOf p) u v inner), from_else s2 w l (all_front (IsOpOf p) w z rest) (λ os q r. from_ops s2 os q r))
 
     from_ops : (s : Instructions) (ops : List Op) → HasOps s ops → AllOf ops → HasInstructions p s
     from_ops none ops e h = tt

@@ -14,6 +14,7 @@ use Rattle.wm_syntax.specs.declared.instructions.Simple.{Simple}
 use Rattle.wm_syntax.specs.declared.instructions.Simple.TheVariants as s
 use Rattle.wm_syntax.specs.declared.instructions.Op.TheVariants as op
 use Rattle.wm_syntax.proofs.Spellings.{same_unsigned, same_signed}
+use Rattle.wm_syntax.proofs.FloatBytes.{same_float}
 
 -- one form after another, each with its fact
 pub then_same : {A : Type 0} (P Q P' Q' : Form A) (D E : Type 0)
@@ -80,6 +81,10 @@ same_immediates (s.I32Const x) (s.I32Const y) c a b u v p q h = let r : (a ≡ b
 same_immediates (s.I32Const x) _ c a b u v p q h = cc
 same_immediates (s.I64Const x) (s.I64Const y) c a b u v p q h = let r : (a ≡ b) × (x ≡ y) = same_signed 64 x y a b u v p q h in (r.0, ap s.I64Const r.1)
 same_immediates (s.I64Const x) _ c a b u v p q h = cc
+same_immediates (s.F32Const x) (s.F32Const y) c a b u v p q h = let r : (a ≡ b) × (x ≡ y) = same_float 4 x y a b u v p q h in (r.0, ap s.F32Const r.1)
+same_immediates (s.F32Const x) _ c a b u v p q h = cc
+same_immediates (s.F64Const x) (s.F64Const y) c a b u v p q h = let r : (a ≡ b) × (x ≡ y) = same_float 8 x y a b u v p q h in (r.0, ap s.F64Const r.1)
+same_immediates (s.F64Const x) _ c a b u v p q h = cc
 same_immediates (s.Load o at) (s.Load o' at') c a b u v p q h = let r : (a ≡ b) × (at ≡ at') = same_access at at' a b u v p q h in let f : o ≡ o' = cc in (r.0, ap (λ x. s.Load x at) f ∙ ap (s.Load o') r.1)
 same_immediates (s.Load o at) _ c a b u v p q h = cc
 same_immediates (s.Store o at) (s.Store o' at') c a b u v p q h = let r : (a ≡ b) × (at ≡ at') = same_access at at' a b u v p q h in let f : o ≡ o' = cc in (r.0, ap (λ x. s.Store x at) f ∙ ap (s.Store o') r.1)

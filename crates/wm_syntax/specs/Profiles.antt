@@ -1,25 +1,41 @@
--- The instructions of a profile. Each belongs to a feature, and a profile has some of these: the first the
--- instructions of the standard on whole numbers, the second the five sign-extension instructions as well.
-use Rattle.std.specs.Prelude.{Bool, true, false, IsTrue}
+-- The instructions and the types of a profile. Each belongs to a feature, and a profile has some of these:
+-- the first the standard on whole numbers, the second the five sign-extension instructions as well, the third
+-- the whole standard, floats too, and the fourth all.
+use Rattle.std.specs.Prelude.{Bool, true, false, IsTrue, Option, Some, None}
 use Rattle.std.specs.List.{AllByRecursion}
+use Rattle.wm_syntax.specs.declared.types.Const.{Const}
+use Rattle.wm_syntax.specs.declared.types.ValType.{ValType}
+use Rattle.wm_syntax.specs.declared.types.ValType.TheVariants.{I32, I64, F32, F64}
 use Rattle.wm_syntax.specs.declared.instructions.Simple.{Simple}
-use Rattle.wm_syntax.specs.declared.instructions.Simple.TheVariants.{Numeric}
-use Rattle.wm_syntax.specs.declared.instructions.Numeric.TheVariants.{SignExtend}
+use Rattle.wm_syntax.specs.declared.instructions.Simple.TheVariants.{F32Const, F64Const, Load, Store, Numeric}
+use Rattle.wm_syntax.specs.declared.instructions.Numeric.TheVariants.{FloatCompare, FloatUnary, FloatBinary}
+use Rattle.wm_syntax.specs.declared.instructions.Numeric.TheVariants.{Convert, SignExtend}
+use Rattle.wm_syntax.specs.declared.instructions.LoadOp.TheVariants.{F32Load, F64Load}
+use Rattle.wm_syntax.specs.declared.instructions.StoreOp.TheVariants.{F32Store, F64Store}
 use Rattle.wm_syntax.specs.declared.instructions.Op.{Op}
 use Rattle.wm_syntax.specs.declared.instructions.Op.TheVariants as op
+use Rattle.wm_syntax.specs.declared.modules.ImportDesc.{ImportDesc}
+use Rattle.wm_syntax.specs.declared.modules.ImportDesc.TheVariants.{Global}
 use Rattle.wm_syntax.specs.declared.profile.Feature.{Feature}
-use Rattle.wm_syntax.specs.declared.profile.Feature.TheVariants.{Base, SignExtension}
+use Rattle.wm_syntax.specs.declared.profile.Feature.TheVariants.{Base, Floats, SignExtension}
 use Rattle.wm_syntax.specs.declared.profile.Profile.{Profile}
-use Rattle.wm_syntax.specs.declared.profile.Profile.TheVariants.{One, Two}
+use Rattle.wm_syntax.specs.declared.profile.Profile.TheVariants.{One, Two, Three, Four}
+use Rattle.wm_syntax.specs.Types.{Signature}
 use Rattle.wm_syntax.specs.Instructions.{Instruction, Instructions, none, snoc, simple, table, block, loop}
 use Rattle.wm_syntax.specs.Instructions.{choice}
-use Rattle.wm_syntax.specs.Modules.{Module}
+use Rattle.wm_syntax.specs.Modules.{Function, GlobalDef, Module, constant}
 
 -- the features of each profile
 abbrev pub has : Profile → Feature → Bool
 has p Base = true
+has One Floats = false
+has Two Floats = false
+has Three Floats = true
+has Four Floats = true
 has One SignExtension = false
 has Two SignExtension = true
+has Three SignExtension = false
+has Four SignExtension = true
 
 -- a profile that has every feature of another
 abbrev pub Extends : Profile → Profile → Type 0
@@ -27,31 +43,87 @@ Extends q p = (f : Feature) → IsTrue (has p f) → IsTrue (has q f)
 
 -- the feature of an instruction
 abbrev pub feature_of : Simple → Feature
+feature_of (F32Const n) = Floats
+feature_of (F64Const n) = Floats
+feature_of (Load F32Load at) = Floats
+feature_of (Load F64Load at) = Floats
+feature_of (Store F32Store at) = Floats
+feature_of (Store F64Store at) = Floats
+feature_of (Numeric (FloatCompare t op)) = Floats
+feature_of (Numeric (FloatUnary t op)) = Floats
+feature_of (Numeric (FloatBinary t op)) = Floats
+feature_of (Numeric (Convert op)) = Floats
 feature_of (Numeric (SignExtend op)) = SignExtension
 feature_of _ = Base
+
+-- the feature of a value type
+abbrev pub type_feature : ValType → Feature
+type_feature I32 = Base
+type_feature I64 = Base
+type_feature F32 = Floats
+type_feature F64 = Floats
 
 -- an instruction of the profile
 abbrev pub HasSimple : Profile → Simple → Type 0
 HasSimple p i = IsTrue (has p (feature_of i))
 
+-- a value type of the profile
+abbrev pub HasType : Profile → ValType → Type 0
+HasType p t = IsTrue (has p (type_feature t))
+
+-- a block type: no result, or one of a type of the profile
+abbrev pub HasBlockType : Profile → Option ValType → Type 0
+HasBlockType p None = Unit {0}
+HasBlockType p (Some t) = HasType p t
+
+-- a constant expression: its instruction is of the profile
+abbrev pub HasConst : Profile → Const → Type 0
+HasConst p c = HasSimple p (constant c)
+
 -- of the flat form: an op of the profile
 abbrev pub IsOpOf : Profile → Op → Type 0
 IsOpOf p (op.Simple i) = HasSimple p i
+IsOpOf p (op.Block t) = HasBlockType p t
+IsOpOf p (op.Loop t) = HasBlockType p t
+IsOpOf p (op.If t) = HasBlockType p t
 IsOpOf p _ = Unit {0}
 
--- the same of a tree and of a list: every instruction in it is of the profile
+-- the same of a tree and of a list: every instruction and every block type in it is of the profile
 abbrev mutual
   pub HasInstruction : Profile → Instruction → Type 0
   HasInstruction p (simple i) = HasSimple p i
   HasInstruction p (table labels default) = Unit {0}
-  HasInstruction p (block t body) = HasInstructions p body
-  HasInstruction p (loop t body) = HasInstructions p body
-  HasInstruction p (choice t first second) = HasInstructions p first × HasInstructions p second
+  HasInstruction p (block t body) = HasBlockType p t × HasInstructions p body
+  HasInstruction p (loop t body) = HasBlockType p t × HasInstructions p body
+  HasInstruction p (choice t first second) =
+      HasBlockType p t × HasInstructions p first × HasInstructions p second
 
   pub HasInstructions : Profile → Instructions → Type 0
   HasInstructions p none = Unit {0}
   HasInstructions p (snoc s i) = HasInstructions p s × HasInstruction p i
 
--- each instruction of the module is of the profile; a constant is of every one
-abbrev pub IsOf : Profile → Module → Type 0
-IsOf p m = AllByRecursion (λ f. HasInstructions p f.body) m.functions
+-- a function type of the profile: so are its value types
+abbrev pub HasSignature : Profile → Signature → Type 0
+HasSignature p f = AllByRecursion (HasType p) f.params × AllByRecursion (HasType p) f.results
+
+-- what is imported: of a global its type
+abbrev pub HasDesc : Profile → ImportDesc → Type 0
+HasDesc p (Global g) = HasType p g.ty
+HasDesc p _ = Unit {0}
+
+-- a function: its locals and its body
+abbrev pub HasFunction : Profile → Function → Type 0
+HasFunction p f = AllByRecursion (HasType p) f.locals × HasInstructions p f.body
+
+-- a global: its type and its initialiser
+abbrev pub HasGlobal : Profile → GlobalDef → Type 0
+HasGlobal p g = HasType p g.ty.ty × HasConst p g.init
+
+-- a module of the profile: each value type, constant and instruction in it is
+pub record IsOf (p : Profile) (m : Module) : Type 0 where
+  pub types : AllByRecursion (HasSignature p) m.types
+  pub imports : AllByRecursion (λ i. HasDesc p i.desc) m.imports
+  pub functions : AllByRecursion (HasFunction p) m.functions
+  pub globals : AllByRecursion (HasGlobal p) m.globals
+  pub elements : AllByRecursion (λ e. HasConst p e.offset) m.elements
+  pub segments : AllByRecursion (λ s. HasConst p s.offset) m.segments

@@ -1,11 +1,54 @@
 //! Instructions: section 2.4 of the specification.
 
+ghost use Rattle.std.specs.Prelude.{◌≡◌};
+ghost use Rattle.wm_syntax.specs.Opcodes.{float_type, int_type};
+
 use crate::types::ValType;
 
 pub mod accesses;
 pub mod op_class;
 pub mod op_names;
 pub mod opcodes;
+
+/// The whole numbers that an instruction works on.
+#[derive(Clone, Copy, PartialEq, Eq, Debug)]
+pub enum IntType {
+    I32,
+    I64,
+}
+
+impl IntType {
+    /// Their type.
+    #[inline(always)]
+    pub fn ty(self) -> ValType
+        ensures { result ≡ int_type self }
+    {
+        match self {
+            IntType::I32 => ValType::I32,
+            IntType::I64 => ValType::I64,
+        }
+    }
+}
+
+/// The floats that an instruction works on.
+#[derive(Clone, Copy, PartialEq, Eq, Debug)]
+pub enum FloatType {
+    F32,
+    F64,
+}
+
+impl FloatType {
+    /// Their type.
+    #[inline(always)]
+    pub fn ty(self) -> ValType
+        ensures { result ≡ float_type self }
+    {
+        match self {
+            FloatType::F32 => ValType::F32,
+            FloatType::F64 => ValType::F64,
+        }
+    }
+}
 
 #[derive(Clone, Copy, PartialEq, Eq, Debug)]
 pub enum Comparison {
@@ -57,13 +100,76 @@ pub enum SignExtension {
     I64From32,
 }
 
+#[derive(Clone, Copy, PartialEq, Eq, Debug)]
+pub enum FloatComparison {
+    Eq,
+    Ne,
+    Lt,
+    Gt,
+    Le,
+    Ge,
+}
+
+#[derive(Clone, Copy, PartialEq, Eq, Debug)]
+pub enum FloatUnaryOp {
+    Abs,
+    Neg,
+    Ceil,
+    Floor,
+    Trunc,
+    Nearest,
+    Sqrt,
+}
+
+#[derive(Clone, Copy, PartialEq, Eq, Debug)]
+pub enum FloatBinaryOp {
+    Add,
+    Sub,
+    Mul,
+    Div,
+    Min,
+    Max,
+    Copysign,
+}
+
+/// From whole numbers to floats, the other way round, and from floats to floats.
+#[derive(Clone, Copy, PartialEq, Eq, Debug)]
+pub enum Conversion {
+    I32TruncF32S,
+    I32TruncF32U,
+    I32TruncF64S,
+    I32TruncF64U,
+    I64TruncF32S,
+    I64TruncF32U,
+    I64TruncF64S,
+    I64TruncF64U,
+    F32ConvertI32S,
+    F32ConvertI32U,
+    F32ConvertI64S,
+    F32ConvertI64U,
+    F32DemoteF64,
+    F64ConvertI32S,
+    F64ConvertI32U,
+    F64ConvertI64S,
+    F64ConvertI64U,
+    F64PromoteF32,
+    I32ReinterpretF32,
+    I64ReinterpretF64,
+    F32ReinterpretI32,
+    F64ReinterpretI64,
+}
+
 /// A numeric instruction other than a constant.
 #[derive(Clone, Copy, PartialEq, Eq, Debug)]
 pub enum Numeric {
-    Test(ValType),
-    Compare(ValType, Comparison),
-    Unary(ValType, UnaryOp),
-    Binary(ValType, BinaryOp),
+    Test(IntType),
+    Compare(IntType, Comparison),
+    Unary(IntType, UnaryOp),
+    Binary(IntType, BinaryOp),
+    FloatCompare(FloatType, FloatComparison),
+    FloatUnary(FloatType, FloatUnaryOp),
+    FloatBinary(FloatType, FloatBinaryOp),
+    Convert(Conversion),
     Wrap,
     ExtendS,
     ExtendU,
@@ -74,6 +180,8 @@ pub enum Numeric {
 pub enum LoadOp {
     I32Load,
     I64Load,
+    F32Load,
+    F64Load,
     I32Load8S,
     I32Load8U,
     I32Load16S,
@@ -90,6 +198,8 @@ pub enum LoadOp {
 pub enum StoreOp {
     I32Store,
     I64Store,
+    F32Store,
+    F64Store,
     I32Store8,
     I32Store16,
     I64Store8,
@@ -125,6 +235,9 @@ pub enum Simple {
     MemoryGrow,
     I32Const(i32),
     I64Const(i64),
+    /// A float is its bits.
+    F32Const(u32),
+    F64Const(u64),
     Load(LoadOp, MemArg),
     Store(StoreOp, MemArg),
     Numeric(Numeric),

@@ -99,6 +99,8 @@ pub(crate) fn type_of(rt: &impl Abort, word: &str) -> ValType {
     match word {
         "I32" => ValType::I32,
         "I64" => ValType::I64,
+        "F32" => ValType::F32,
+        "F64" => ValType::F64,
         _ => unknown(rt, word),
     }
 }
@@ -107,6 +109,8 @@ pub(crate) fn profile_of(rt: &impl Abort, word: &str) -> Profile {
     match word {
         "One" => Profile::One,
         "Two" => Profile::Two,
+        "Three" => Profile::Three,
+        "Four" => Profile::Four,
         _ => unknown(rt, word),
     }
 }

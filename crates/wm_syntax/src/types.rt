@@ -1,12 +1,31 @@
 //! Types (section 2.3).
 
+ghost use Rattle.std.specs.Prelude.{◌≡◌};
+ghost use Rattle.wm_syntax.specs.Profiles.{type_feature};
+
+use crate::profile::Feature;
 use std::marker::Model;
 
-/// A value type (section 2.3.1): a whole number of 32 or of 64 bits.
+/// A value type (section 2.3.1): a whole number or a float, of 32 or of 64 bits.
 #[derive(Clone, Copy, PartialEq, Eq, Debug)]
 pub enum ValType {
     I32,
     I64,
+    F32,
+    F64,
+}
+
+impl ValType {
+    /// What the type belongs to.
+    #[inline(always)]
+    pub fn feature(self) -> Feature
+        ensures { result ≡ type_feature self }
+    {
+        match self {
+            ValType::I32 | ValType::I64 => Feature::Base,
+            ValType::F32 | ValType::F64 => Feature::Floats,
+        }
+    }
 }
 
 /// A function type (section 2.3.3): the types of what is passed and of what is returned.
@@ -43,5 +62,8 @@ pub struct GlobalType {
 pub enum Const {
     I32(i32),
     I64(i64),
+    /// A float is its bits.
+    F32(u32),
+    F64(u64),
     Global(u32),
 }

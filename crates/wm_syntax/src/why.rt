@@ -27,7 +27,7 @@ pub enum Why {
     BadUtf8,
     /// Another byte is needed here.
     BadByte,
-    /// A floating-point type or instruction.
+    /// A floating-point type or instruction, and the profile has none.
     Float,
     /// No instruction of the profile begins with this byte.
     BadOpcode,
@@ -126,7 +126,7 @@ impl Why {
             Why::BadNumber => "a number has too many bytes, or does not fit its type",
             Why::BadUtf8 => "a name is not UTF-8",
             Why::BadByte => "another byte must stand here",
-            Why::Float => "floating-point types and instructions are not supported",
+            Why::Float => "the profile has no floating-point types and instructions",
             Why::BadOpcode => "no instruction of the profile begins with this byte",
             Why::Truncated => "the input ends inside the header or a section",
             Why::CodeCount => "there are not as many function bodies as declared functions",

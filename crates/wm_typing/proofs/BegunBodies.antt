@@ -9,7 +9,7 @@ use Rattle.wm_syntax.specs.declared.instructions.Op.TheVariants as op
 use Rattle.wm_syntax.specs.Instructions.{Instruction, Instructions, none, snoc, simple, block, loop, choice}
 use Rattle.wm_stacks.specs.declared.entries.FrameKind.TheVariants.{Func, Block, Loop, If, Else}
 use Rattle.wm_typing.specs.Typing.{Context, Typed, TypedInstruction}
-use Rattle.wm_typing.specs.OpenLists.{Head, head, Work, work, Place, open_at, complete, at, CanType, IsOpen, IsSoFar, OpenCan, WorkCan}
+use Rattle.wm_typing.specs.OpenLists.{Head, head, Work, work, open_at, complete, at, CanType, IsOpen, IsSoFar, OpenCan, WorkCan}
 use Rattle.wm_typing.specs.TypedBodies.{IsTypedBody}
 use Rattle.wm_typing.specs.inner.Frames.{Nested}
 use Rattle.wm_typing.proofs.OneOp.{work_with}

@@ -5,6 +5,7 @@ use Rattle.wm_syntax.specs.declared.types.ValType.{ValType}
 use Rattle.wm_syntax.specs.declared.types.ValType.TheVariants.{I32}
 use Rattle.wm_syntax.specs.declared.why.Why.{Why}
 use Rattle.wm_syntax.specs.declared.why.Why.TheVariants as why
+use Rattle.wm_syntax.specs.declared.instructions.Conversion.TheVariants as cv
 use Rattle.wm_syntax.specs.declared.instructions.Simple.{Simple}
 use Rattle.wm_syntax.specs.declared.instructions.Op.{Op}
 use Rattle.wm_syntax.specs.declared.instructions.Op.TheVariants as op
@@ -226,6 +227,11 @@ small_numeric (num.Test t) = tt
 small_numeric (num.Compare t op) = tt
 small_numeric (num.Unary t op) = tt
 small_numeric (num.Binary t op) = tt
+small_numeric (num.FloatCompare t op) = tt
+small_numeric (num.FloatUnary t op) = tt
+small_numeric (num.FloatBinary t op) = tt
+small_numeric (num.Convert cv.I32TruncF32S) = tt
+small_numeric (num.Convert _) = tt
 small_numeric num.Wrap = tt
 small_numeric num.ExtendS = tt
 small_numeric num.ExtendU = tt
@@ -257,6 +263,8 @@ small c s.MemorySize h = small_where why.Index c.has_memory (fixed [] (I32 ∷ [
 small c s.MemoryGrow h = small_where why.Index c.has_memory (fixed (I32 ∷ []) (I32 ∷ [])) tt
 small c (s.I32Const n) h = tt
 small c (s.I64Const n) h = tt
+small c (s.F32Const n) h = tt
+small c (s.F64Const n) h = tt
 small c (s.Load op at) h = small_access c at.align (load op).width (fixed (I32 ∷ []) ((load op).ty ∷ [])) tt
 small c (s.Store op at) h = small_access c at.align (store op).width (fixed (I32 ∷ (store op).ty ∷ []) []) tt
 small c (s.Numeric op) h = small_numeric op

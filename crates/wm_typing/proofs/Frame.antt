@@ -2,9 +2,9 @@
 use Rattle.std.proofs.Common.{◌≡◌, Bool, true, false, cond, IsTrue, List, [], ◌∷◌, ◌++◌, Option, Some, None, reverse, map, sym, refl, ap, ◌∙◌, subst, append-nil, append_assoc, ◌↔◌}
 use Rattle.std.proofs.lemmas.List.{reverse-append, reverse-reverse}
 use Rattle.wm_syntax.specs.declared.types.ValType.{ValType}
-use Rattle.wm_syntax.specs.declared.types.ValType.TheVariants.{I32, I64}
+use Rattle.wm_syntax.specs.declared.types.ValType.TheVariants.{I32, I64, F32, F64}
 use Rattle.wm_stacks.specs.declared.entries.Entry.{Entry}
-use Rattle.wm_stacks.specs.declared.entries.Entry.TheVariants.{I32 as Int32, I64 as Int64, Unknown}
+use Rattle.wm_stacks.specs.declared.entries.Entry.TheVariants.{I32 as Int32, I64 as Int64, F32 as Float32, F64 as Float64, Unknown}
 use Rattle.wm_stacks.specs.Stack.{fits}
 use Rattle.wm_syntax.proofs.SameTypes.{means}
 use Rattle.wm_typing.specs.Entries.{entry_of_type, join}
@@ -26,6 +26,8 @@ some_stand true [] = ([], tt)
 some_stand false [] = ([], refl)
 some_stand un (Int32 ∷ es) = let r = some_stand un es in (I32 ∷ r.0, (refl, r.1))
 some_stand un (Int64 ∷ es) = let r = some_stand un es in (I64 ∷ r.0, (refl, r.1))
+some_stand un (Float32 ∷ es) = let r = some_stand un es in (F32 ∷ r.0, (refl, r.1))
+some_stand un (Float64 ∷ es) = let r = some_stand un es in (F64 ∷ r.0, (refl, r.1))
 some_stand un (Unknown ∷ es) = let r = some_stand un es in (I32 ∷ r.0, (refl, r.1))
 
 -- what is left below types that were taken
@@ -50,10 +52,14 @@ take_law un (e ∷ es) (x ∷ xs) ts = take_step un es xs ts e x (fits e x) refl
 known_agrees : (x : ValType) → Agrees (entry_of_type x) x
 known_agrees I32 = refl
 known_agrees I64 = refl
+known_agrees F32 = refl
+known_agrees F64 = refl
 
 known_only : (x t : ValType) → Agrees (entry_of_type x) t → t ≡ x
 known_only I32 t h = sym (means I32 t h)
 known_only I64 t h = sym (means I64 t h)
+known_only F32 t h = sym (means F32 t h)
+known_only F64 t h = sym (means F64 t h)
 
 pub known_law : (un : Bool) (es : List Entry) (xs ts : List ValType)
     → ((below : List ValType) × Stands un es below × (ts ≡ xs ++ below)) ↔ Stands un (map entry_of_type xs ++ es) ts
@@ -101,6 +107,8 @@ cut_law refused ts = (λ h. h, λ h. h)
 unknown_agrees : (e : Entry) → (t : ValType) × Agrees e t
 unknown_agrees Int32 = (I32, refl)
 unknown_agrees Int64 = (I64, refl)
+unknown_agrees Float32 = (F32, refl)
+unknown_agrees Float64 = (F64, refl)
 unknown_agrees Unknown = (I32, refl)
 
 any_law : (un : Bool) (es : List Entry) (ts : List ValType) → ((t : ValType) × Stands un es (t ∷ ts)) ↔ StandsAfter (take_any un es) ts
@@ -124,6 +132,8 @@ join_law : (a b : Entry) (t : ValType) → (Agrees a t × Agrees b t) ↔ Agrees
 join_law Unknown b t = (λ h. h.1, λ h. (refl, h))
 join_law Int32 b t = join_known I32 b t (fits b I32) refl
 join_law Int64 b t = join_known I64 b t (fits b I64) refl
+join_law Float32 b t = join_known F32 b t (fits b F32) refl
+join_law Float64 b t = join_known F64 b t (fits b F64) refl
 
 joined_law : (un : Bool) (es : List Entry) (j : Option Entry) (ts : List ValType)
     → ((t : ValType) × (below : List ValType) × AgreesJoined j t × Stands un es below × (ts ≡ t ∷ below)) ↔ StandsAfter (joined un es j) ts

@@ -16,7 +16,8 @@ use wm_syntax::why::Why;
 
 /// The declared locals, what searches found of them, and the most runs that one search read.
 ///
-/// A local that was found once is not searched again: its search would read what it read before.
+/// A local of a whole number that was found once is not searched again: its search would read what it read
+/// before.
 #[derive(Debug, Drop)]
 pub(crate) struct DeclaredLocals {
     table: RunTable,

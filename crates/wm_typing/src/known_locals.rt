@@ -1,4 +1,4 @@
-//! Locals whose types are known from an earlier search.
+//! Locals of whole numbers whose types are known from an earlier search.
 
 ghost use Rattle.std.specs.Prelude.{◌≡◌, ℕ, ◌⊎◌, IfSome};
 ghost use Rattle.wm_syntax.specs.declared.types.ValType.{ValType as AType};
@@ -39,7 +39,7 @@ impl KnownLocals {
         }
     }
 
-    // Remembers the type of a local, if it is one of the first.
+    // Remembers the type of a local, if it is one of the first and a whole number's.
     pub(crate) fn note(&mut self, index: u32, ty: ValType)
         ensures { (i : ℕ) (t : AType) → Knows self.new i t → Knows self.old i t ⊎ ((i ≡ index) × (t ≡ ty)) }
     {
@@ -47,10 +47,17 @@ impl KnownLocals {
             return;
         }
         let bit = 1 << index;
-        self.known |= bit;
         match ty {
-            ValType::I32 => self.wide &= !bit,
-            ValType::I64 => self.wide |= bit,
+            ValType::I32 => {
+                self.known |= bit;
+                self.wide &= !bit;
+            }
+            ValType::I64 => {
+                self.known |= bit;
+                self.wide |= bit;
+            }
+            // floats are rare: a local of one is searched each time
+            ValType::F32 | ValType::F64 => {}
         }
     }
 }

@@ -1,5 +1,5 @@
 //! Scripts for tests: a line is a row, with a call and, behind ` = `, its answer as Debug writes it.
-//! Ops stand as in a text module, with a comma between them.
+//! Ops stand as in a text module, with a comma between them; a float's constant is its bits.
 
 use std::alloc::Global;
 use std::fmt::Debug;
@@ -60,6 +60,8 @@ pub(crate) fn type_of(rt: &impl Abort, word: &str) -> ValType {
     match word {
         "i32" => ValType::I32,
         "i64" => ValType::I64,
+        "f32" => ValType::F32,
+        "f64" => ValType::F64,
         _ => unknown(rt, word),
     }
 }
@@ -97,7 +99,7 @@ pub(crate) fn ops_of(rt: &impl Abort, alloc: Global, text: &str) -> Vec<Op> {
 /// `br_table 1`
 pub(crate) fn op_of(rt: &impl Abort, text: &str) -> Op {
     let (name, with) = word_of(text);
-    match op_named(Profile::One, name.as_bytes()) {
+    match op_named(Profile::Three, name.as_bytes()) {
         OpClass::Plain(op) => op,
         OpClass::With(immediates) => op_with(rt, immediates, with),
         _ => label_of(rt, name, with),
@@ -117,6 +119,8 @@ fn op_with(rt: &impl Abort, immediates: Immediates, with: &str) -> Op {
         Immediates::If => Op::If(given_of(rt, with)),
         Immediates::I32Const => int_of(rt, with),
         Immediates::I64Const => Op::Simple(Simple::I64Const(i64::from(number_of(rt, with)))),
+        Immediates::F32Const => Op::Simple(Simple::F32Const(number_of(rt, with))),
+        Immediates::F64Const => Op::Simple(Simple::F64Const(u64::from(number_of(rt, with)))),
         Immediates::Load(load) => load_of(rt, load, with),
         _ => op_with_index(rt, immediates, number_of(rt, with)),
     }

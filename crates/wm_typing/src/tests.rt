@@ -79,7 +79,7 @@ fn run_of(rt: &impl Abort, text: &str) -> (u32, ValType) {
     (number_of(rt, count), type_of(rt, ty))
 }
 
-// Unknown operands, at the floor and above it, and then parameters, locals and ifs.
+// Unknown operands, at the floor and above it, then parameters, locals and ifs, and then floats.
 #[test]
 fn types_whole_bodies(rt: HostRuntime) {
     play(
@@ -93,7 +93,13 @@ fn types_whole_bodies(rt: HostRuntime) {
 i32 i32 -> i32 |: local.get 0, local.get 1, i32.add, end = Ok(BodyStats { moves: 8, operands: 2, controls: 1, probes: 0 })
 -> | 4294967295*i32: local.get 4294967294, drop, end = Ok(BodyStats { moves: 4, operands: 1, controls: 1, probes: 1 })
 -> i32 |: i32.const 1, if i32, i32.const 2, else, i32.const 3, end, end = Ok(BodyStats { moves: 14, operands: 1, controls: 2, probes: 0 })
--> |: i32.const 0, if, else, end, end = Ok(BodyStats { moves: 8, operands: 1, controls: 2, probes: 0 })",
+-> |: i32.const 0, if, else, end, end = Ok(BodyStats { moves: 8, operands: 1, controls: 2, probes: 0 })
+f32 f64 -> f64 |: local.get 0, f64.promote_f32, local.get 1, f64.add, end = Ok(BodyStats { moves: 10, operands: 2, controls: 1, probes: 0 })
+-> f32 |: unreachable, select, f32.neg, end = Ok(BodyStats { moves: 7, operands: 1, controls: 1, probes: 0 })
+-> f64 |: block f64, f64.const 1, end, end = Ok(BodyStats { moves: 8, operands: 1, controls: 2, probes: 0 })
+-> | 2*f32 1*f64: local.get 2, local.get 0, drop, drop, end = Ok(BodyStats { moves: 6, operands: 2, controls: 1, probes: 2 })
+f32 f32 -> f32 |: local.get 0, local.get 1, i32.const 0, select, end = Ok(BodyStats { moves: 10, operands: 3, controls: 1, probes: 0 })
+f64 -> i32 |: local.get 0, i64.trunc_f64_u, i32.wrap_i64, end = Ok(BodyStats { moves: 8, operands: 1, controls: 1, probes: 0 })",
     );
 }
 
@@ -117,6 +123,7 @@ fn before_and_after(rt: &impl Abort, alloc: Global, ops: &[Op]) -> String {
 
 // Labels of different types, of no and one result and of one each, stand in the fifth row and the sixth.
 // What is named comes before the operands: indices, then what may not be set or aligned so.
+// Then one float where another is wanted.
 #[test]
 fn refuses_at_the_op_that_has_no_typing(rt: HostRuntime) {
     play(
@@ -136,7 +143,18 @@ call_indirect 0 = (Err(BodyEnd), Err(Index))
 global.set 0 = (Err(BodyEnd), Err(Immutable))
 i32.load 3 0 = (Err(BodyEnd), Err(Align))
 i32.const 0, if i32, end = (Err(BodyEnd), Err(Mismatch))
-i64.const 0, end = (Err(BodyEnd), Err(Mismatch))",
+i64.const 0, end = (Err(BodyEnd), Err(Mismatch))
+f32.const 0, f64.neg = (Err(BodyEnd), Err(Mismatch))
+f64.const 0, f32.neg = (Err(BodyEnd), Err(Mismatch))
+f64.const 0, i64.eqz = (Err(BodyEnd), Err(Mismatch))
+f32.const 0, i32.eqz = (Err(BodyEnd), Err(Mismatch))
+i64.const 0, f64.neg = (Err(BodyEnd), Err(Mismatch))
+f64.const 0, f32.const 0, f64.add = (Err(BodyEnd), Err(Mismatch))
+f32.const 0, f64.const 0, i32.const 0, select = (Err(BodyEnd), Err(Mismatch))
+block f32, block f64, unreachable, br_table 1, label 0, label 1 = (Err(BodyEnd), Err(Mismatch))
+f32.const 0, end = (Err(BodyEnd), Err(Mismatch))
+f64.load 4 0 = (Err(BodyEnd), Err(Align))
+f32.load 3 0 = (Err(BodyEnd), Err(Align))",
     );
 }
 

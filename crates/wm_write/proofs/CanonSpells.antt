@@ -13,13 +13,16 @@ use Rattle.wm_syntax.specs.declared.types.Const.{Const}
 use Rattle.wm_syntax.specs.declared.modules.ImportDesc.{ImportDesc}
 use Rattle.wm_syntax.specs.declared.modules.ImportDesc.TheVariants.{Func, Table, Memory, Global}
 use Rattle.wm_syntax.specs.declared.instructions.Simple.{Simple}
-use Rattle.wm_syntax.specs.declared.instructions.Simple.TheVariants.{Unreachable, Nop, Return, Drop, Select, Br, BrIf, Call, CallIndirect, LocalGet, LocalSet, LocalTee, GlobalGet, GlobalSet, MemorySize, MemoryGrow, I32Const, I64Const, Load, Store, Numeric}
+use Rattle.wm_syntax.specs.declared.instructions.Simple.TheVariants.{Unreachable, Nop, Return, Drop, Select, Br, BrIf, Call, CallIndirect, LocalGet, LocalSet, LocalTee, GlobalGet, GlobalSet, MemorySize, MemoryGrow, I32Const, I64Const, F32Const, F64Const, Load, Store, Numeric}
 use Rattle.wm_syntax.specs.declared.instructions.Op.{Op}
 use Rattle.wm_syntax.specs.declared.instructions.Op.TheVariants as op
+use Rattle.wm_syntax.specs.declared.profile.Profile.{Profile}
+use Rattle.wm_syntax.specs.Profiles.{HasType}
 use Rattle.wm_syntax.specs.Types.{Signature, block_byte, type_byte, SpellsU32, SpellsList, SpellsName, SpellsValType, SpellsSignature, SpellsBounds, SpellsLimits, SpellsTableType, SpellsVar, SpellsGlobalType, SpellsBlockType}
-use Rattle.wm_syntax.specs.Instructions.{Instruction, Instructions, none, snoc, simple, table, block, loop, choice, SpellsSimple, SpellsOp, SpellsInstructions, instruction_ops, ops_of, else_ops}
+use Rattle.wm_syntax.specs.Instructions.{Instruction, Instructions, none, snoc, simple, table, block, loop, choice, SpellsSimple, SpellsOp, SpellsInstructions, float_bytes, instruction_ops, ops_of, else_ops}
 use Rattle.wm_syntax.specs.Modules.{IsU32, IsSimple, IsInstruction, AreInstructions, AreLimits, IsDesc, IsConst, IsModule, Module, Import, Function, GlobalDef, Export, Element, Segment, constant}
 use Rattle.wm_syntax.proofs.Spellings.{unsigned_spells, signed_spells}
+use Rattle.wm_syntax.proofs.FloatBytes.{float_spells}
 use Rattle.wm_syntax.proofs.Bodies.{has_ops}
 use Rattle.wm_syntax.proofs.Flat.{spelled_by_ops}
 use Rattle.wm_decode.specs.Sections.{ListSection, StartSection, Customs, SpellsConst, SpellsDesc, SpellsImport, SpellsGlobal, SpellsExport, SpellsElement, SpellsRun, SpellsLocals, SpellsCode, SpellsSegment, SpellsModule, kind_byte}
@@ -28,6 +31,7 @@ use Rattle.wm_decode.proofs.NameBytes.{utf8_bytes}
 use Rattle.wm_syntax.specs.Runs.{same, type_before, runs_of}
 use Rattle.wm_syntax.proofs.SameTypes.{means}
 use Rattle.wm_write.specs.Canon.{u32_bytes, op_bytes, ops_bytes}
+use Rattle.wm_write.proofs.Ranges.{HaveLocals, both_in}
 use Rattle.wm_write.specs.Canon.{listed, sized, value_type_bytes, signature_bytes, bounds_bytes, limits_bytes, table_bytes, var_byte, global_type_bytes, desc_bytes, import_bytes, constant_bytes, global_bytes, export_bytes, element_bytes, run_bytes, code_contents, code_bytes, segment_bytes, list_section, start_section, canon, Fits}
 
 -- numbers
@@ -58,6 +62,8 @@ simple_spells MemorySize h = (0x3F ∷ [], 0x00 ∷ [], refl, refl, refl)
 simple_spells MemoryGrow h = (0x40 ∷ [], 0x00 ∷ [], refl, refl, refl)
 simple_spells (I32Const n) h = (0x41 ∷ [], signed_bytes 5 n, refl, refl, signed_spells 32 5 n (omega arith) (omega arith) h)
 simple_spells (I64Const n) h = (0x42 ∷ [], signed_bytes 10 n, refl, refl, signed_spells 64 10 n (omega arith) (omega arith) h)
+simple_spells (F32Const n) h = (0x43 ∷ [], float_bytes 4 n, refl, refl, float_spells 4 n h)
+simple_spells (F64Const n) h = (0x44 ∷ [], float_bytes 8 n, refl, refl, float_spells 8 n h)
 simple_spells (Load o at) h = two_numbers _ at.align at.offset h.0 h.1
 simple_spells (Store o at) h = two_numbers _ at.align at.offset h.0 h.1
 simple_spells Unreachable h = alone _
@@ -242,25 +248,52 @@ run_within (r ∷ runs) n h =
     let e : length (locals_of (r ∷ runs)) ≡ r.0 + length (locals_of runs) = length-append (replicate r.0 r.1) (locals_of runs) ∙ ap (λ k. k + length (locals_of runs)) (length-replicate r.0 r.1) in
     (omega arith, run_within runs n (omega arith))
 
-run_spells : (r : ℕ × ValType) → r.0 < 2 ^ 32 → SpellsRun r (run_bytes r)
-run_spells r h = (u32_bytes r.0, value_type_bytes r.1, refl, number r.0 h, refl)
+-- each run is of the type of some of the locals
+module _ (p : Profile) where
+  abbrev HasRun : ℕ × ValType → Type 0
+  HasRun r = HasType p r.1
+
+  before_has : (t : ValType) (runs : List (ℕ × ValType)) → HasType p t → AllByRecursion HasRun runs → AllByRecursion HasRun (type_before t runs)
+  before_has t [] h k = (h, tt)
+  before_has t ((n, u) ∷ runs) h k = by (same t u)
+    where
+      by : (b : Bool) → AllByRecursion HasRun (cond b ((n + 1, t) ∷ runs) ((1, t) ∷ (n, u) ∷ runs))
+      by true = (h, k.1)
+      by false = (h, k)
+
+  runs_have : (ts : List ValType) → AllByRecursion (HasType p) ts → AllByRecursion HasRun (runs_of ts)
+  runs_have [] h = tt
+  runs_have (t ∷ ts) h = before_has t (runs_of ts) h.0 (runs_have ts h.1)
+
+run_spells : (p : Profile) (r : ℕ × ValType) → HasType p r.1 → r.0 < 2 ^ 32 → SpellsRun p r (run_bytes r)
+run_spells p r t h = (t, (u32_bytes r.0, value_type_bytes r.1, refl, number r.0 h, refl))
 
 run_some : (r : ℕ × ValType) → 1 ≤ length (run_bytes r)
 run_some r = omega (arith, length-append (u32_bytes r.0) (value_type_bytes r.1))
 
-locals_spell : (ts : List ValType) → length ts < 2 ^ 32 → length (listed run_bytes (runs_of ts)) < 2 ^ 32 → SpellsLocals ts (listed run_bytes (runs_of ts))
-locals_spell ts few short =
-    (runs_of ts, expanded ts, few, list_spells SpellsRun run_bytes (λ r. r.0 < 2 ^ 32) (λ r h l. run_spells r h) run_some (runs_of ts) (run_within (runs_of ts) (2 ^ 32) (subst (λ z. length z < 2 ^ 32) (sym (expanded ts)) few)) short)
+locals_spell : (p : Profile) (ts : List ValType) → AllByRecursion (HasType p) ts → length ts < 2 ^ 32 → length (listed run_bytes (runs_of ts)) < 2 ^ 32
+    → SpellsLocals p ts (listed run_bytes (runs_of ts))
+locals_spell p ts has few short =
+    let within = run_within (runs_of ts) (2 ^ 32) (subst (λ z. length z < 2 ^ 32) (sym (expanded ts)) few) in
+    let all = both_in (HasRun p) (λ (r : ℕ × ValType). r.0 < 2 ^ 32) (runs_of ts) (runs_have p ts has) within in
+    (runs_of ts, expanded ts, few, list_spells (SpellsRun p) run_bytes (λ (r : ℕ × ValType). HasRun p r × (r.0 < 2 ^ 32)) (λ r h l. run_spells p r h.0 h.1) run_some (runs_of ts) all short)
 
-code_spells : (f : Function) → IsU32 f.type_index × (length f.locals < 2 ^ 32) × AreInstructions f.body → length (code_bytes f) < 2 ^ 32 → SpellsCode f (code_bytes f)
-code_spells f h few =
+-- a function whose locals are of types of the profile, and whose numbers are in range
+abbrev InRange : Function → Type 0
+InRange f = IsU32 f.type_index × (length f.locals < 2 ^ 32) × AreInstructions f.body
+
+abbrev IsCode : Profile → Function → Type 0
+IsCode p f = AllByRecursion (HasType p) f.locals × InRange f
+
+code_spells : (p : Profile) (f : Function) → IsCode p f → length (code_bytes f) < 2 ^ 32 → SpellsCode p f (code_bytes f)
+code_spells p f h few =
     let l = part_less (u32_bytes (length (code_contents f))) (code_contents f) (2 ^ 32) few in
     let k = part_less (listed run_bytes (runs_of f.locals)) (ops_bytes (ops_of f.body) ++ 0x0B ∷ []) (2 ^ 32) l.1 in (
       u32_bytes (length (code_contents f)),
       code_contents f,
       refl,
       number (length (code_contents f)) l.1,
-      (listed run_bytes (runs_of f.locals), ops_bytes (ops_of f.body) ++ 0x0B ∷ [], refl, locals_spell f.locals h.1 k.0, (ops_bytes (ops_of f.body), 0x0B ∷ [], refl, instructions_spell f.body h.2, refl)),
+      (listed run_bytes (runs_of f.locals), ops_bytes (ops_of f.body) ++ 0x0B ∷ [], refl, locals_spell p f.locals h.0 h.1.1 k.0, (ops_bytes (ops_of f.body), 0x0B ∷ [], refl, instructions_spell f.body h.1.2, refl)),
     )
 
 segment_spells : (s : Segment) → IsU32 s.memory × IsConst s.offset × AreBytes s.bytes → length (segment_bytes s) < 2 ^ 32 → SpellsSegment s (segment_bytes s)
@@ -311,8 +344,8 @@ element_some e = omega (arith, length-append (u32_bytes e.table) (constant_bytes
 segment_some : (s : Segment) → 1 ≤ length (segment_bytes s)
 segment_some s = omega (arith, length-append (u32_bytes s.memory) (constant_bytes s.offset ++ sized s.bytes), number_some s.memory)
 
-pub spells : (m : Module) → IsModule m → Fits m → SpellsModule m (canon m)
-spells m h fit = (
+pub spells : (p : Profile) (m : Module) → HaveLocals p m.functions → IsModule m → Fits m → SpellsModule p m (canon m)
+spells p m types h fit = (
   _,
   _,
   refl,
@@ -328,7 +361,7 @@ spells m h fit = (
       (plainly _ _ (start_section m.start) _ (start_spells m.start h.start)
       (plainly _ _ (list_section 9 element_bytes m.elements) _ (section_spells SpellsElement element_bytes (λ e. IsU32 e.table × IsConst e.offset × AllByRecursion IsU32 e.functions) element_spells element_some 9 m.elements h.elements fit.elements)
       (plainly _ _ (list_section 10 code_bytes m.functions) _
-      (section_spells SpellsCode code_bytes (λ f. IsU32 f.type_index × (length f.locals < 2 ^ 32) × AreInstructions f.body) code_spells (λ f. some_sized (code_contents f)) 10 m.functions h.functions fit.codes)
+      (section_spells (SpellsCode p) code_bytes (IsCode p) (code_spells p) (λ f. some_sized (code_contents f)) 10 m.functions (both_in (λ (f : Function). AllByRecursion (HasType p) f.locals) InRange m.functions types h.functions) fit.codes)
       (last_one _ (list_section 11 segment_bytes m.segments)
       (section_spells SpellsSegment segment_bytes (λ s. IsU32 s.memory × IsConst s.offset × AreBytes s.bytes) segment_spells segment_some 11 m.segments h.segments fit.segments))))))))))),
 )

@@ -1,5 +1,6 @@
 pub mod Writes
 pub mod Lengths
+pub mod FloatPieces
 pub mod PrintedWords
 pub mod Lines
 pub mod PrintedImports

@@ -12,19 +12,19 @@ use Rattle.wm_syntax.specs.Opcodes.{opcode}
 use Rattle.wm_syntax.specs.OpNames.{op_name}
 use Rattle.wm_write.specs.Layout.{const_words, immediate_words, spaced, words_text}
 
--- a name has at most sixteen bytes
+-- a name has at most nineteen bytes
 abbrev is_short : List ℕ → Bool
-is_short name = nat_le (length name) 16
+is_short name = nat_le (length name) 19
 
 all_short : list_all is_short names ≡ true
 all_short = refl
 
-short_in : (xs : List (List ℕ)) (i : ℕ) → list_all is_short xs ≡ true → length (get_or xs i []) ≤ 16
+short_in : (xs : List (List ℕ)) (i : ℕ) → list_all is_short xs ≡ true → length (get_or xs i []) ≤ 19
 short_in [] i h = omega arith
 short_in (x ∷ xs) zero h = grind (arith, nat_tests)
 short_in (x ∷ xs) (suc i) h = short_in xs i (grind (arith, nat_tests))
 
-pub short_name : (byte : ℕ) → length (get_or names byte []) ≤ 16
+pub short_name : (byte : ℕ) → length (get_or names byte []) ≤ 19
 short_name byte = short_in names byte all_short
 
 -- a constant expression

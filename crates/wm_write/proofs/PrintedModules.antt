@@ -11,9 +11,9 @@ use Rattle.std.proofs.lemmas.Bool.Decides.{nat_tests}
 use Rattle.std.proofs.lemmas.List.Folds.{list_all-append}
 use Rattle.wm_syntax.specs.declared.types.ValType.{ValType}
 use Rattle.wm_syntax.specs.declared.instructions.LoadOp.{LoadOp}
-use Rattle.wm_syntax.specs.declared.instructions.LoadOp.TheVariants.{I32Load, I64Load, I32Load8S, I32Load8U, I32Load16S, I32Load16U, I64Load8S, I64Load8U, I64Load16S, I64Load16U, I64Load32S, I64Load32U}
+use Rattle.wm_syntax.specs.declared.instructions.LoadOp.TheVariants.{I32Load, I64Load, F32Load, F64Load, I32Load8S, I32Load8U, I32Load16S, I32Load16U, I64Load8S, I64Load8U, I64Load16S, I64Load16U, I64Load32S, I64Load32U}
 use Rattle.wm_syntax.specs.declared.instructions.StoreOp.{StoreOp}
-use Rattle.wm_syntax.specs.declared.instructions.StoreOp.TheVariants.{I32Store, I64Store, I32Store8, I32Store16, I64Store8, I64Store16, I64Store32}
+use Rattle.wm_syntax.specs.declared.instructions.StoreOp.TheVariants.{I32Store, I64Store, F32Store, F64Store, I32Store8, I32Store16, I64Store8, I64Store16, I64Store32}
 use Rattle.wm_syntax.specs.declared.instructions.Simple.{Simple}
 use Rattle.wm_syntax.specs.declared.instructions.Simple.TheVariants.{Load, Store}
 use Rattle.wm_syntax.specs.declared.instructions.Op.{Op}
@@ -45,6 +45,8 @@ small align width w h = is_true (nat_le align 3) (λ e.
 load_width : (o : LoadOp) → (load o).width ≤ 8
 load_width I32Load = omega arith
 load_width I64Load = omega arith
+load_width F32Load = omega arith
+load_width F64Load = omega arith
 load_width I32Load8S = omega arith
 load_width I32Load8U = omega arith
 load_width I32Load16S = omega arith
@@ -59,6 +61,8 @@ load_width I64Load32U = omega arith
 store_width : (o : StoreOp) → (store o).width ≤ 8
 store_width I32Store = omega arith
 store_width I64Store = omega arith
+store_width F32Store = omega arith
+store_width F64Store = omega arith
 store_width I32Store8 = omega arith
 store_width I32Store16 = omega arith
 store_width I64Store8 = omega arith

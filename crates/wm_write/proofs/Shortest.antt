@@ -10,13 +10,15 @@ use Rattle.wm_syntax.specs.declared.types.Const.{Const}
 use Rattle.wm_syntax.specs.declared.modules.ImportDesc.{ImportDesc}
 use Rattle.wm_syntax.specs.declared.modules.ImportDesc.TheVariants.{Func, Table, Memory, Global}
 use Rattle.wm_syntax.specs.declared.instructions.Simple.{Simple}
-use Rattle.wm_syntax.specs.declared.instructions.Simple.TheVariants.{Unreachable, Nop, Return, Drop, Select, Br, BrIf, Call, CallIndirect, LocalGet, LocalSet, LocalTee, GlobalGet, GlobalSet, MemorySize, MemoryGrow, I32Const, I64Const, Load, Store, Numeric}
+use Rattle.wm_syntax.specs.declared.instructions.Simple.TheVariants.{Unreachable, Nop, Return, Drop, Select, Br, BrIf, Call, CallIndirect, LocalGet, LocalSet, LocalTee, GlobalGet, GlobalSet, MemorySize, MemoryGrow, I32Const, I64Const, F32Const, F64Const, Load, Store, Numeric}
 use Rattle.wm_syntax.specs.declared.instructions.Op.TheVariants as op
+use Rattle.wm_syntax.specs.declared.profile.Profile.{Profile}
 use Rattle.wm_syntax.specs.Runs.{runs_of}
 use Rattle.wm_syntax.specs.Types.{block_byte, Signature, SpellsU32, SpellsList, SpellsBytes, SpellsName, SpellsValType, SpellsSignature, SpellsBounds, SpellsLimits, SpellsTableType, SpellsVar, SpellsGlobalType, SpellsBlockType}
-use Rattle.wm_syntax.specs.Instructions.{Instruction, Instructions, none, snoc, simple, table, block, loop, choice, SpellsSimple, SpellsElse, SpellsInstruction, SpellsInstructions, SpellsExpression, instruction_ops, ops_of, else_ops}
+use Rattle.wm_syntax.specs.Instructions.{Instruction, Instructions, none, snoc, simple, table, block, loop, choice, SpellsSimple, SpellsElse, SpellsInstruction, SpellsInstructions, SpellsExpression, SpellsFloat, float_bytes, instruction_ops, ops_of, else_ops}
 use Rattle.wm_syntax.specs.Modules.{Module, Import, Function, GlobalDef, Export, Element, Segment, constant, constant_body}
 use Rattle.wm_syntax.proofs.Spellings.{shortest_is_least, signed_is_least, unsigned_range}
+use Rattle.wm_syntax.proofs.FloatBytes.{float_one}
 use Rattle.wm_decode.specs.Sections.{Customs, ListSection, StartSection, header, SpellsConst, SpellsDesc, SpellsImport, SpellsGlobal, SpellsExport, SpellsElement, SpellsRun, SpellsLocals, SpellsCode, SpellsSegment, SpellsModule, kind_byte}
 use Rattle.wm_write.specs.Canon.{u32_bytes, op_bytes, ops_bytes, listed, sized, value_type_bytes, signature_bytes, bounds_bytes, limits_bytes, table_bytes, global_type_bytes, desc_bytes, import_bytes, constant_bytes, global_bytes, export_bytes, element_bytes, run_bytes, code_contents, code_bytes, segment_bytes, list_section, start_section, canon, Fits, NoLonger, HasShortestSections}
 use Rattle.wm_syntax.proofs.NumberLoops.{short}
@@ -110,6 +112,8 @@ instruction MemorySize = then (0x3F ∷ []) (0x00 ∷ []) (Byte 0x3F) (Byte 0x00
 instruction MemoryGrow = then (0x40 ∷ []) (0x00 ∷ []) (Byte 0x40) (Byte 0x00) (exactly (0x40 ∷ [])) (exactly (0x00 ∷ []))
 instruction (I32Const n) = then (0x41 ∷ []) (signed_bytes 5 n) (Byte 0x41) (Signed 32 n) (exactly (0x41 ∷ [])) (λ b h. signed_is_least 32 5 n b h)
 instruction (I64Const n) = then (0x42 ∷ []) (signed_bytes 10 n) (Byte 0x42) (Signed 64 n) (exactly (0x42 ∷ [])) (λ b h. signed_is_least 64 10 n b h)
+instruction (F32Const n) = then (0x43 ∷ []) (float_bytes 4 n) (Byte 0x43) (SpellsFloat 4 n) (exactly (0x43 ∷ [])) (λ b h. exactly (float_bytes 4 n) b (float_one 4 n b h))
+instruction (F64Const n) = then (0x44 ∷ []) (float_bytes 8 n) (Byte 0x44) (SpellsFloat 8 n) (exactly (0x44 ∷ [])) (λ b h. exactly (float_bytes 8 n) b (float_one 8 n b h))
 instruction (Load o at) = byte_numbers _ at.align at.offset
 instruction (Store o at) = byte_numbers _ at.align at.offset
 instruction Unreachable = byte_alone _
@@ -192,17 +196,17 @@ segment s =
     then (u32_bytes s.memory) (constant_bytes s.offset ++ sized s.bytes) (SpellsU32 s.memory) (SpellsConst s.offset ▸ SpellsBytes s.bytes) (number s.memory)
     (then (constant_bytes s.offset) (sized s.bytes) (SpellsConst s.offset) (SpellsBytes s.bytes) (constant_expression s.offset) (bytes s.bytes))
 
-run : (r : ℕ × ValType) → NoLonger (run_bytes r) (SpellsRun r)
-run r = then (u32_bytes r.0) (value_type_bytes r.1) (SpellsU32 r.0) (SpellsValType r.1) (number r.0) (value_type r.1)
+run : (p : Profile) (r : ℕ × ValType) → NoLonger (run_bytes r) (SpellsRun p r)
+run p r b h = then (u32_bytes r.0) (value_type_bytes r.1) (SpellsU32 r.0) (SpellsValType r.1) (number r.0) (value_type r.1) b h.1
 
-locals : (ts : List ValType) → NoLonger (listed run_bytes (runs_of ts)) (SpellsLocals ts)
-locals ts b (runs, is, few, h) =
-    let l = list run_bytes SpellsRun run runs b h in
+locals : (p : Profile) (ts : List ValType) → NoLonger (listed run_bytes (runs_of ts)) (SpellsLocals p ts)
+locals p ts b (runs, is, few, h) =
+    let l = list run_bytes (SpellsRun p) (run p) runs b h in
     subst (λ z. length (listed run_bytes (runs_of z)) ≤ length b) is (omega (arith, l, least_locals runs))
 
-code : (f : Function) → NoLonger (code_bytes f) (SpellsCode f)
-code f b (size, contents, is, h, k) =
-    let l = then (listed run_bytes (runs_of f.locals)) (ops_bytes (ops_of f.body) ++ 0x0B ∷ []) (SpellsLocals f.locals) (SpellsExpression f.body) (locals f.locals) (expression f.body) contents k in
+code : (p : Profile) (f : Function) → NoLonger (code_bytes f) (SpellsCode p f)
+code p f b (size, contents, is, h, k) =
+    let l = then (listed run_bytes (runs_of f.locals)) (ops_bytes (ops_of f.body) ++ 0x0B ∷ []) (SpellsLocals p f.locals) (SpellsExpression f.body) (locals p f.locals) (expression f.body) contents k in
     omega (arith, ap length is, length-append size contents, length-append (u32_bytes (length (code_contents f))) (code_contents f), l, number (length contents) size h, number_rises (length (code_contents f)) (length contents) l)
 
 -- sections: their contents are as long as a size can be, or not there
@@ -210,8 +214,8 @@ in_section : {X : Type 0} (id : ℕ) (f : X → List ℕ) (S : X → Form ℕ) �
 in_section id f S g xs b (inl (byte, back, is, p, (size, contents, e, h, k))) = omega (arith, list f S g xs contents k, unsigned_range 32 (length contents) size h)
 in_section id f S g xs b (inr h) = subst (λ z. length (listed f z) < 2 ^ 32) (sym h.0) (omega (arith, length-append (u32_bytes 0) [], short 5 0))
 
-pub spelled_fits : (m : Module) (b : List ℕ) → SpellsModule m b → Fits m
-spelled_fits m b h =
+pub spelled_fits : (p : Profile) (m : Module) (b : List ℕ) → SpellsModule p m b → Fits m
+spelled_fits p m b h =
     let s1 = h.4 in
     let s2 = s1.4.4 in
     let s3 = s2.4.4 in
@@ -232,7 +236,7 @@ spelled_fits m b h =
       globals = in_section 6 global_bytes SpellsGlobal defined m.globals _ s6.4.3;
       exports = in_section 7 export_bytes SpellsExport exported m.exports _ s7.4.3;
       elements = in_section 9 element_bytes SpellsElement element m.elements _ s9.4.3;
-      codes = in_section 10 code_bytes SpellsCode code m.functions _ s10.4.3;
+      codes = in_section 10 code_bytes (SpellsCode p) (code p) m.functions _ s10.4.3;
       segments = in_section 11 segment_bytes SpellsSegment segment m.segments _ s11.4.3;
     }
 
@@ -261,8 +265,8 @@ both a c P Q f g = after (a ++ c) (P ▸ Q) (then a c P Q f g)
 last : (a : List ℕ) (P : Form ℕ) → NoLonger a P → NoLonger a (Customs ▸ P ▸ Customs)
 last a P f b (front, back, is, p, (one, other, e, q, r)) = omega (arith, ap length is, length-append front back, ap length e, length-append one other, f one q)
 
-pub canon_shortest : (m : Module) → NoLonger (canon m) (SpellsModule m)
-canon_shortest m =
+pub canon_shortest : (p : Profile) (m : Module) → NoLonger (canon m) (SpellsModule p m)
+canon_shortest p m =
     then header _ (Exactly header) _ (exactly header)
     (both (list_section 1 signature_bytes m.types) _ (ListSection 1 SpellsSignature m.types) _ (section 1 signature_bytes SpellsSignature signature m.types)
     (both (list_section 2 import_bytes m.imports) _ (ListSection 2 SpellsImport m.imports) _ (section 2 import_bytes SpellsImport imported m.imports)
@@ -273,7 +277,7 @@ canon_shortest m =
     (both (list_section 7 export_bytes m.exports) _ (ListSection 7 SpellsExport m.exports) _ (section 7 export_bytes SpellsExport exported m.exports)
     (both (start_section m.start) _ (StartSection m.start) _ (started m.start)
     (both (list_section 9 element_bytes m.elements) _ (ListSection 9 SpellsElement m.elements) _ (section 9 element_bytes SpellsElement element m.elements)
-    (both (list_section 10 code_bytes m.functions) _ (ListSection 10 SpellsCode m.functions) _ (section 10 code_bytes SpellsCode code m.functions)
+    (both (list_section 10 code_bytes m.functions) _ (ListSection 10 (SpellsCode p) m.functions) _ (section 10 code_bytes (SpellsCode p) (code p) m.functions)
     (last (list_section 11 segment_bytes m.segments) (ListSection 11 SpellsSegment m.segments) (section 11 segment_bytes SpellsSegment segment m.segments))))))))))))
 
 pub shortest_sections : (m : Module) → HasShortestSections m
@@ -287,6 +291,6 @@ shortest_sections m = record {
   exports = list export_bytes SpellsExport exported m.exports;
   start = λ x is. number x;
   elements = list element_bytes SpellsElement element m.elements;
-  codes = list code_bytes SpellsCode code m.functions;
+  codes = λ p. list code_bytes (SpellsCode p) (code p) m.functions;
   segments = list segment_bytes SpellsSegment segment m.segments;
 }

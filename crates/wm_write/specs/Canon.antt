@@ -4,7 +4,7 @@ use Rattle.std.specs.Prelude.{ℕ, ◌≡◌, ◌<◌, ◌≤◌, ◌^◌, List,
 use Rattle.std.specs.Prelude.{false, ℤ, length, flat_map}
 use Rattle.wm_decode.specs.Sections.{header, kind_byte, SpellsImport, SpellsGlobal, SpellsExport}
 use Rattle.wm_decode.specs.Sections.{SpellsElement, SpellsCode, SpellsSegment}
-use Rattle.wm_syntax.specs.Instructions.{ops_of}
+use Rattle.wm_syntax.specs.Instructions.{float_bytes, ops_of}
 use Rattle.wm_syntax.specs.Leb128.{signed_bytes, unsigned_bytes}
 use Rattle.wm_syntax.specs.Modules.{Import, Function, GlobalDef, Export, Element, Segment, Module, constant}
 use Rattle.wm_syntax.specs.Opcodes.{opcode}
@@ -17,10 +17,12 @@ use Rattle.wm_syntax.specs.declared.instructions.Op.{Op}
 use Rattle.wm_syntax.specs.declared.instructions.Simple.TheVariants.{Br, BrIf, Call, CallIndirect, LocalGet}
 use Rattle.wm_syntax.specs.declared.instructions.Simple.TheVariants.{LocalSet, LocalTee, GlobalGet, GlobalSet}
 use Rattle.wm_syntax.specs.declared.instructions.Simple.TheVariants.{MemorySize, MemoryGrow, I32Const}
-use Rattle.wm_syntax.specs.declared.instructions.Simple.TheVariants.{I64Const, Load, Store}
+use Rattle.wm_syntax.specs.declared.instructions.Simple.TheVariants.{I64Const, F32Const, F64Const}
+use Rattle.wm_syntax.specs.declared.instructions.Simple.TheVariants.{Load, Store}
 use Rattle.wm_syntax.specs.declared.instructions.Simple.{Simple}
 use Rattle.wm_syntax.specs.declared.modules.ImportDesc.TheVariants.{Func, Table, Memory, Global}
 use Rattle.wm_syntax.specs.declared.modules.ImportDesc.{ImportDesc}
+use Rattle.wm_syntax.specs.declared.profile.Profile.{Profile}
 use Rattle.wm_syntax.specs.declared.types.Const.{Const}
 use Rattle.wm_syntax.specs.declared.types.GlobalType.{GlobalType}
 use Rattle.wm_syntax.specs.declared.types.Limits.{Limits}
@@ -51,6 +53,8 @@ immediates MemorySize = 0x00 ∷ []
 immediates MemoryGrow = 0x00 ∷ []
 immediates (I32Const n) = s32_bytes n
 immediates (I64Const n) = s64_bytes n
+immediates (F32Const n) = float_bytes 4 n
+immediates (F64Const n) = float_bytes 8 n
 immediates (Load o at) = u32_bytes at.align ++ u32_bytes at.offset
 immediates (Store o at) = u32_bytes at.align ++ u32_bytes at.offset
 immediates _ = []
@@ -196,7 +200,8 @@ pub record Fits (m : Module) : Type 0 where
 abbrev pub NoLonger : List ℕ → Form ℕ → Type 0
 NoLonger a P = (b : List ℕ) → P b → length a ≤ length b
 
--- The contents of each section are no longer than in any spelling of the same part (section 5.5).
+-- The contents of each section are no longer than in any spelling of the same part (section 5.5), under each
+-- profile.
 abbrev pub IsShortest : {X : Type 0} → (X → List ℕ) → (X → Form ℕ) → List X → Type 0
 IsShortest f S xs = NoLonger (listed f xs) (SpellsList S xs)
 
@@ -210,5 +215,5 @@ pub record HasShortestSections (m : Module) : Type 0 where
   pub exports : IsShortest export_bytes SpellsExport m.exports
   pub start : (x : ℕ) → m.start ≡ Some x → NoLonger (u32_bytes x) (SpellsU32 x)
   pub elements : IsShortest element_bytes SpellsElement m.elements
-  pub codes : IsShortest code_bytes SpellsCode m.functions
+  pub codes : (p : Profile) → IsShortest code_bytes (SpellsCode p) m.functions
   pub segments : IsShortest segment_bytes SpellsSegment m.segments

@@ -1,21 +1,22 @@
 -- The printed text of a module (chapter 6): a field a line, and in a function an instruction a line. It is a
 -- list of words, each with the white space before it and what it means, so that the text and its tokens are
 -- one definition.
-use Rattle.std.specs.Prelude.{ℕ, ◌+◌, ◌/◌, ◌%◌, ◌^◌, ◌&&◌, ◌==◌, not, List, [], ◌∷◌, ◌++◌, Bool, Option, Some}
+use Rattle.std.specs.Prelude.{ℕ, ◌/◌, ◌%◌, ◌^◌, ◌&&◌, ◌==◌, not, List, [], ◌∷◌, ◌++◌, Bool, Option, Some}
 use Rattle.std.specs.Prelude.{None, codes, decimal, filter_map, flat_map, if◌then◌else◌, length, map, nat_le}
-use Rattle.std.specs.Prelude.{nat_lt}
 use Rattle.std.specs.Fmt.{signed_decimal}
 use Rattle.std.specs.List.{enumerate_from}
 use Rattle.wm_syntax.specs.declared.types.ValType.{ValType}
-use Rattle.wm_syntax.specs.declared.types.ValType.TheVariants.{I32, I64}
+use Rattle.wm_syntax.specs.declared.types.ValType.TheVariants.{I32, I64, F32, F64}
 use Rattle.wm_syntax.specs.declared.types.Limits.{Limits}
 use Rattle.wm_syntax.specs.declared.types.GlobalType.{GlobalType}
 use Rattle.wm_syntax.specs.declared.types.Const.{Const}
+use Rattle.wm_syntax.specs.declared.instructions.FloatType.TheVariants as float
 use Rattle.wm_syntax.specs.declared.instructions.MemArg.{MemArg}
 use Rattle.wm_syntax.specs.declared.instructions.Simple.{Simple}
 use Rattle.wm_syntax.specs.declared.instructions.Simple.TheVariants.{Br, BrIf, Call, CallIndirect, LocalGet}
 use Rattle.wm_syntax.specs.declared.instructions.Simple.TheVariants.{LocalSet, LocalTee, GlobalGet, GlobalSet}
-use Rattle.wm_syntax.specs.declared.instructions.Simple.TheVariants.{I32Const, I64Const, Load, Store}
+use Rattle.wm_syntax.specs.declared.instructions.Simple.TheVariants.{I32Const, I64Const, F32Const, F64Const}
+use Rattle.wm_syntax.specs.declared.instructions.Simple.TheVariants.{Load, Store}
 use Rattle.wm_syntax.specs.declared.instructions.Op.{Op}
 use Rattle.wm_syntax.specs.declared.instructions.Op.TheVariants as op
 use Rattle.wm_syntax.specs.declared.modules.ImportDesc.{ImportDesc}
@@ -28,6 +29,7 @@ use Rattle.wm_syntax.specs.Modules.{function_of, table_of, memory_of, global_of}
 use Rattle.wm_syntax.specs.Opcodes.{load, opcode, store}
 use Rattle.wm_syntax.specs.OpNames.{op_name}
 use Rattle.wm_syntax.specs.Types.{Signature}
+use Rattle.wm_write.specs.FloatText.{float_text, hex_digit}
 use Rattle.wm_write.specs.declared.print.fields.Places.{Places}
 
 -- What a word means, one token (section 6.2.2): a parenthesis, a string by its bytes, or an
@@ -42,9 +44,6 @@ pub data Meaning : Type 0 where
 -- other byte is \ and two hexadecimal digits, in lower case.
 abbrev pub is_plain : ℕ → Bool
 is_plain b = nat_le 0x20 b && nat_le b 0x7E && not (b == 34) && not (b == 92)
-
-abbrev pub hex_digit : ℕ → ℕ
-hex_digit n = if nat_lt n 10 then 48 + n else 87 + n
 
 abbrev pub escaped : ℕ → List ℕ
 escaped b = if is_plain b then b ∷ [] else 92 ∷ hex_digit (b / 16) ∷ hex_digit (b % 16) ∷ []
@@ -120,6 +119,8 @@ global_name i = name (codes "$g") i
 abbrev pub type_text : ValType → List ℕ
 type_text I32 = codes "i32"
 type_text I64 = codes "i64"
+type_text F32 = codes "f32"
+type_text F64 = codes "f64"
 
 abbrev pub type_word : ValType → Word
 type_word t = spaced (type_text t)
@@ -176,6 +177,8 @@ immediate_words (GlobalGet x) = global_name x ∷ []
 immediate_words (GlobalSet x) = global_name x ∷ []
 immediate_words (I32Const n) = spaced (signed_decimal n) ∷ []
 immediate_words (I64Const n) = spaced (signed_decimal n) ∷ []
+immediate_words (F32Const n) = spaced (float_text float.F32 n) ∷ []
+immediate_words (F64Const n) = spaced (float_text float.F64 n) ∷ []
 immediate_words (Load o at) = access_words (load o).width at
 immediate_words (Store o at) = access_words (store o).width at
 immediate_words _ = []

@@ -1,3 +1,4 @@
 pub mod Canon
+pub mod FloatText
 pub mod Layout
 pub mod exact

@@ -23,6 +23,7 @@ use wm_syntax::modules::Module;
 
 pub(crate) mod body_lines;
 pub(crate) mod fields;
+pub(crate) mod float_text;
 #[cfg(test)]
 mod tests;
 pub(crate) mod words;

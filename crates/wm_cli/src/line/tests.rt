@@ -17,9 +17,11 @@ read wmod canon --max-open 0 = Canon One 4294967295 None None Some(0) Standard N
 read wmod --max-open=3 show --max-locals 002 --max-functions 1 = Show One 4294967295 Some(1) Some(2) Some(3) Standard None None
 read wmod build --old-words a.wat = Build One 4294967295 None None None Older Some("a.wat") Some("a.wat")
 read wmod --old-words build --max-locals 0 = Build One 4294967295 None Some(0) None Older None None
+read wmod check --profile 3 = Check Three 4294967295 None None None Standard None None
+read wmod show --profile 4 - = Show Four 4294967295 None None None Standard Some("-") None
 read wmod run = words 2
 read wmod check --profile 0 = words 2
-read wmod check --profile 3 = words 2
+read wmod check --profile 5 = words 2
 read wmod check --profile 01 = words 2
 read wmod check --profile one = words 2
 read wmod check --profile "" = words 2
@@ -62,10 +64,10 @@ read wmod --most = parser 2
 wrong wmod run --limit x = 'run' is no action: check, stats, canon, show, build, or explain alone
 wrong wmod CHECK = 'CHECK' is no action: check, stats, canon, show, build, or explain alone
 wrong wmod check --limit 0x10 = '0x10' is no limit: decimal digits, at most 4611686018427387904
-wrong wmod check --profile 3 = '3' is no profile: 1, 2
-wrong wmod check --profile "" = '' is no profile: 1, 2
-wrong wmod run --profile 3 --limit x --max-functions x --max-locals x --max-open x --old-words = 'run' is no action: check, stats, canon, show, build, or explain alone
-wrong wmod check --profile 3 --limit x --max-functions x --max-locals x --max-open x --old-words = '3' is no profile: 1, 2
+wrong wmod check --profile 5 = '5' is no profile: 1, 2, 3, 4
+wrong wmod check --profile "" = '' is no profile: 1, 2, 3, 4
+wrong wmod run --profile 5 --limit x --max-functions x --max-locals x --max-open x --old-words = 'run' is no action: check, stats, canon, show, build, or explain alone
+wrong wmod check --profile 5 --limit x --max-functions x --max-locals x --max-open x --old-words = '5' is no profile: 1, 2, 3, 4
 wrong wmod check --limit x --max-functions x --max-locals x --max-open x --old-words = 'x' is no limit: decimal digits, at most 4611686018427387904
 wrong wmod check --max-functions x --max-locals x --max-open x --old-words = 'x' is no number for --max-functions: decimal digits, at most 4294967295
 wrong wmod check --max-locals x --max-open x --old-words = 'x' is no number for --max-locals: decimal digits, at most 4294967295
@@ -73,11 +75,11 @@ wrong wmod check --max-open x --old-words = 'x' is no number for --max-open: dec
 wrong wmod check --old-words = 'check' takes no --old-words: only build does
 wrong wmod check --limit 7 --max-functions 0 --max-locals 0 --max-open 0 a = none
 wrong wmod build --old-words = none
-wrong wmod check --limit 7 a = none
+wrong wmod check --profile 4 --limit 7 a = none
 wrong wmod --most = none"#;
 
 const HELP: &str =
-    "Checks and converts WebAssembly 1.0 modules (integer instructions only), reading them once.\n\n  \
+    "Checks and converts WebAssembly 1.0 modules, reading them once.\n\n  \
     check    write `valid`, or why not and where\n  \
     stats    write figures of a valid module's function bodies\n  \
     canon    write a valid module as its canonical binary: shortest numbers, no custom sections\n  \
@@ -89,7 +91,7 @@ const HELP: &str =
     <ACTION>  check, stats, canon, show, build or explain\n  \
     [FILE]    The file to read; standard input where there is none, or where it is -\n\n\
     Options:\n      \
-    --profile <N>        1, or 2 for sign-extension instructions too [default: 1]\n      \
+    --profile <N>        1, 2, 3 or 4: floats under 3 and 4, sign extension under 2 and 4 [default: 1]\n      \
     --limit <N>          The most bytes that the input may have [default: 4294967295]\n      \
     --max-functions <N>  The most functions that the module may have, imported ones too [default: no limit]\n      \
     --max-locals <N>     The most locals that a function may declare [default: no limit]\n      \

@@ -67,6 +67,9 @@ wmod check < H 01 04 01 60 00 00 02 07 01 01 61 01 62 00 00
 wmod check < H 04 04 01 70 00 01 09 06 01 00 41 00 0B 00
 wmod check --profile 2 < H 01 05 01 60 00 01 7F 03 02 01 00 0A 08 01 06 00 41 FF 01 C0 0B
 wmod check --profile 2 < H 01 05 01 60 00 01 7F 03 02 01 00 0A 08 01 06 00 41 FF 01 C4 0B
+wmod check --profile 3 < H 06 09 01 7D 00 43 01 00 C0 7F 0B
+wmod check --profile 4 < H 06 0D 01 7C 00 44 00 00 00 00 00 00 F8 BF 0B
+wmod build --profile 3 < (module (global f32 f32.const 0))
 wmod check < H 01 04 01 60 00 00 03 02 01 00 0A 0A 01 08 00 41 00 04 40 05 0B 0B
 wmod check < H 01 05 01 60 00 01 7F 03 02 01 00 0A 0E 01 0C 00 41 01 04 7F 41 02 05 41 03 0B 0B
 wmod check < H 06 0A 01 7F 00 41 80 80 80 80 78 0B

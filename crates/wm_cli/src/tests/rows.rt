@@ -11,7 +11,8 @@
 //! ```
 //!
 //! The word `""` is the empty one. INPUT is a text for `build`. Else it is bytes in hexadecimal digits, with
-//! H for the header of a module. What is done with an input under profile 1 is done under profile 2 too.
+//! H for the header of a module. What is done with an input under a profile is done under one that
+//! has more too.
 //!
 //! Rows of inputs whose reader or writer fails have no answer: `wmod WORDS < INPUT`. There `build` stands for
 //! itself, and `check` for all that takes a binary. A text may be written as `bytes` and its bytes.
@@ -126,20 +127,24 @@ fn obey_line(alloc: Global, line: &Line, input: &[u8]) -> Result<String, Fail> {
     Ok(told)
 }
 
-/// Whether what is done by this line is done under profile 2 too.
-fn is_same_under_two(alloc: Global, line: &Line, input: &[u8], told: &str) -> Result<bool, Fail> {
+/// Whether what is done by this line is done under a profile that has more too.
+fn is_same_under_more(alloc: Global, line: &Line, input: &[u8], told: &str) -> Result<bool, Fail> {
     if !told.starts_with("0 ") {
         return Ok(true);
     }
-    let second = Line {
+    let profile = match line.profile {
+        Profile::One => Profile::Two,
+        _ => Profile::Four,
+    };
+    let more = Line {
         action: line.action,
-        profile: Profile::Two,
+        profile,
         limit: line.limit,
         policy: line.policy,
         spellings: line.spellings,
         file: None,
     };
-    Ok(tell(alloc, &second, input, 4096)?.as_str() == told)
+    Ok(tell(alloc, &more, input, 4096)?.as_str() == told)
 }
 
 /// What a command writes for an input.
@@ -149,8 +154,8 @@ pub fn obey(alloc: Global, command: &str, input: &[u8]) -> Result<String, Fail> 
         Err(fault) => return tell_fault(alloc, &fault),
     };
     let told = obey_line(alloc, &line, input)?;
-    if !is_same_under_two(alloc, &line, input, &told)? {
-        return Ok(format!(in alloc; "differs under profile 2")?);
+    if !is_same_under_more(alloc, &line, input, &told)? {
+        return Ok(format!(in alloc; "differs under more")?);
     }
     Ok(told)
 }

@@ -77,9 +77,9 @@ abbrev pub param_count_step : Partial → ℕ → InMember × Event
 param_count_step r c =
     on_number (unsigned_push 32 r c) at.ParamCount (λ n. (after_param n, event.Nothing)) at.Failed
 
-abbrev pub param_step : ℕ → ℕ → InMember × Event
-param_step more c =
-    on_type (value_type_of c) (λ t. with_item_given (after_param more) (plain.Param t)) at.Failed
+abbrev pub param_step : Profile → ℕ → ℕ → InMember × Event
+param_step p more c =
+    on_type (value_type_of p c) (λ t. with_item_given (after_param more) (plain.Param t)) at.Failed
 
 abbrev pub after_result : ℕ → InMember
 after_result zero = at.Over
@@ -90,9 +90,9 @@ result_count_step r c =
     on_number (unsigned_push 32 r c) at.ResultCount
     (λ n. with_item_given (after_result n) (plain.ResultCount n)) at.Failed
 
-abbrev pub result_step : ℕ → ℕ → InMember × Event
-result_step more c =
-    on_type (value_type_of c) (λ t. with_item_given (after_result more) (plain.OneResult t)) at.Failed
+abbrev pub result_step : Profile → ℕ → ℕ → InMember × Event
+result_step p more c =
+    on_type (value_type_of p c) (λ t. with_item_given (after_result more) (plain.OneResult t)) at.Failed
 
 -- names
 abbrev pub after_name : NameKind → InMember
@@ -114,8 +114,8 @@ name_step of zero = (after_name of, event.EndsName of)
 name_step of (suc n) = (at.Name of n, event.InName)
 
 -- values and indices
-abbrev pub value_step : InValue → ℕ → InMember × Event
-value_step v c = on_value (value_push v c) at.Value (λ q. with_item_given at.Over q) at.Failed
+abbrev pub value_step : Profile → InValue → ℕ → InMember × Event
+value_step p v c = on_value (value_push p v c) at.Value (λ q. with_item_given at.Over q) at.Failed
 
 abbrev pub functions_or_over : ℕ → InMember
 functions_or_over zero = at.Over
@@ -140,9 +140,9 @@ index_step of r c =
     on_number (unsigned_push 32 r c) (λ s. at.Index of s)
     (λ n. with_item_given (after_index of) (index_item of n)) at.Failed
 
-abbrev pub global_type_step : InGlobalType → ℕ → InMember × Event
-global_type_step g c =
-    on_value (global_type_push g c) at.GlobalType
+abbrev pub global_type_step : Profile → InGlobalType → ℕ → InMember × Event
+global_type_step p g c =
+    on_value (global_type_push p g c) at.GlobalType
     (λ t. with_item_given (at.Constant constant.Global begin_expression) (plain.Global t)) at.Failed
 
 -- constant expressions and what follows them
@@ -189,9 +189,9 @@ abbrev pub runs_count_step : Partial → ℕ → InEntry × Event
 runs_count_step r c =
     on_number (unsigned_push 32 r c) entry.RunCount (λ n. (runs_or_body n, event.Nothing)) entry.Failed
 
-abbrev pub run_step : ℕ → InRun → ℕ → InEntry × Event
-run_step more r c =
-    on_value (run_push r c) (λ s. entry.Run more s)
+abbrev pub run_step : Profile → ℕ → InRun → ℕ → InEntry × Event
+run_step p more r c =
+    on_value (run_push p r c) (λ s. entry.Run more s)
     (λ x. with_item_given (runs_or_body more) (plain.Locals x.0 x.1)) entry.Failed
 
 abbrev pub entry_after_op : InExpression → InEntry
@@ -204,7 +204,7 @@ body_step p e c = (entry_after_op (expression_step p e c).0, op_event plain.Body
 
 abbrev pub entry_step : Profile → InEntry → ℕ → InEntry × Event
 entry_step p (entry.RunCount r) c = runs_count_step r c
-entry_step p (entry.Run more r) c = run_step more r c
+entry_step p (entry.Run more r) c = run_step p more r c
 entry_step p (entry.Body e) c = body_step p e c
 entry_step p entry.Over c = no_entry why.BodyEnd
 entry_step p (entry.Failed w) c = no_entry why.BodyEnd
@@ -228,14 +228,14 @@ entry_size_step r c =
 abbrev pub member_step : Profile → InMember → ℕ → InMember × Event
 member_step p at.TypeForm c = type_form_step c
 member_step p (at.ParamCount r) c = param_count_step r c
-member_step p (at.Param more) c = param_step more c
+member_step p (at.Param more) c = param_step p more c
 member_step p (at.ResultCount r) c = result_count_step r c
-member_step p (at.ResultType more) c = result_step more c
+member_step p (at.ResultType more) c = result_step p more c
 member_step p (at.NameLength of r) c = name_length_step of r c
 member_step p (at.Name of more) c = name_step of more
-member_step p (at.Value v) c = value_step v c
+member_step p (at.Value v) c = value_step p v c
 member_step p (at.Index of r) c = index_step of r c
-member_step p (at.GlobalType g) c = global_type_step g c
+member_step p (at.GlobalType g) c = global_type_step p g c
 member_step p (at.Constant of e) c = constant_step p of e c
 member_step p (at.Length of r) c = length_step of r c
 member_step p (at.Data more) c = (data_or_over more, event.DataByte)

@@ -1,5 +1,6 @@
 -- What each byte does to the reader of an op: the exact form, for the proofs above it.
-use Rattle.std.specs.Prelude.{ℕ, ◌==◌, ℤ, if◌then◌else◌, Option, Some, None as Nothing}
+use Rattle.std.specs.Prelude.{ℕ, zero, suc, ◌+◌, ◌*◌, ◌/◌, ◌^◌, ◌==◌, ℤ, if◌then◌else◌, Option, Some}
+use Rattle.std.specs.Prelude.{None as Nothing}
 use Rattle.wm_syntax.specs.declared.numbers.Step.{Step}
 use Rattle.wm_syntax.specs.declared.numbers.Step.TheVariants as step
 use Rattle.wm_syntax.specs.inner.Numbers.{Partial}
@@ -8,7 +9,6 @@ use Rattle.wm_syntax.specs.exact.ByteTable.{class_under}
 use Rattle.wm_syntax.specs.declared.profile.Profile.{Profile}
 use Rattle.wm_syntax.specs.declared.why.Why.TheVariants as why
 use Rattle.wm_syntax.specs.declared.types.ValType.{ValType}
-use Rattle.wm_syntax.specs.declared.types.ValType.TheVariants.{I32, I64}
 use Rattle.wm_syntax.specs.declared.instructions.MemArg.{MemArg}
 use Rattle.wm_syntax.specs.declared.instructions.Simple.TheVariants as s
 use Rattle.wm_syntax.specs.declared.instructions.Op.{Op}
@@ -29,6 +29,7 @@ use Rattle.wm_decode.specs.declared.step.ops.LoadOrStore.{LoadOrStore}
 use Rattle.wm_decode.specs.declared.step.ops.LoadOrStore.TheVariants as accesses
 use Rattle.wm_decode.specs.declared.step.ops.InOp.{InOp}
 use Rattle.wm_decode.specs.declared.step.ops.InOp.TheVariants as at
+use Rattle.wm_decode.specs.exact.ValueSteps.{read_type, value_type_of}
 
 -- ops by their immediates
 abbrev pub block_op : Opening → Option ValType → Op
@@ -59,6 +60,12 @@ const_32_op z = op.Simple (s.I32Const z)
 
 abbrev pub const_64_op : ℤ → Op
 const_64_op z = op.Simple (s.I64Const z)
+
+abbrev pub float_32_op : ℕ → Op
+float_32_op n = op.Simple (s.F32Const n)
+
+abbrev pub float_64_op : ℕ → Op
+float_64_op n = op.Simple (s.F64Const n)
 
 abbrev pub access_op : LoadOrStore → MemArg → Op
 access_op (accesses.Load o) at = op.Simple (s.Load o at)
@@ -95,6 +102,8 @@ immediates k.MemorySize = at.Memory sizing.Size
 immediates k.MemoryGrow = at.Memory sizing.Grow
 immediates k.I32Const = at.Const32 fresh
 immediates k.I64Const = at.Const64 fresh
+immediates k.F32Const = at.Float32 3 0
+immediates k.F64Const = at.Float64 7 0
 immediates (k.Load o) = fresh_access (accesses.Load o)
 immediates (k.Store o) = fresh_access (accesses.Store o)
 
@@ -105,13 +114,10 @@ first_step (With kind) = More (immediates kind)
 first_step Float = Bad why.Float
 first_step None = Bad why.BadOpcode
 
-abbrev pub block_step : Opening → ℕ → Reading InOp Op
-block_step o c =
+abbrev pub block_step : Profile → Opening → ℕ → Reading InOp Op
+block_step p o c =
     if c == 0x40 then Done (block_op o Nothing)
-    else (if c == 0x7F then Done (block_op o (Some I32))
-    else (if c == 0x7E then Done (block_op o (Some I64))
-    else (if c == 0x7D then Bad why.Float
-    else (if c == 0x7C then Bad why.Float else Bad why.BadByte))))
+    else read_type (value_type_of p c) (λ t. Done (block_op o (Some t)))
 
 abbrev pub op_index_step : Indexed → Partial → ℕ → Reading InOp Op
 op_index_step i r c =
@@ -134,6 +140,26 @@ abbrev pub const_64_step : Partial → ℕ → Reading InOp Op
 const_64_step r c =
     on_answer (signed_push 64 r c) (λ s. More (at.Const64 s)) (λ z. Done (const_64_op z)) (Bad why.BadNumber)
 
+-- One more byte of a float, which has the lowest first: it takes the highest place, and moves those before it
+-- down by one. In the end all stand where they belong.
+abbrev pub pushed : ℕ → ℕ → ℕ → ℕ
+pushed top low c = low / 256 + c * top
+
+abbrev pub pushed_32 : ℕ → ℕ → ℕ
+pushed_32 = pushed (2 ^ 24)
+
+abbrev pub pushed_64 : ℕ → ℕ → ℕ
+pushed_64 = pushed (2 ^ 56)
+
+-- with so many bytes after it
+abbrev pub float_32_step : ℕ → ℕ → ℕ → Reading InOp Op
+float_32_step zero low c = Done (float_32_op (pushed_32 low c))
+float_32_step (suc left) low c = More (at.Float32 left (pushed_32 low c))
+
+abbrev pub float_64_step : ℕ → ℕ → ℕ → Reading InOp Op
+float_64_step zero low c = Done (float_64_op (pushed_64 low c))
+float_64_step (suc left) low c = More (at.Float64 left (pushed_64 low c))
+
 abbrev pub align_step : LoadOrStore → Partial → ℕ → Reading InOp Op
 align_step a r c =
     on_answer (unsigned_push 32 r c) (λ s. More (at.Align a s)) (λ n. More (at.Offset a n fresh))
@@ -146,12 +172,14 @@ offset_step a align r c =
 
 abbrev pub op_push : Profile → InOp → ℕ → Reading InOp Op
 op_push p at.First c = first_step (class_under p c)
-op_push p (at.BlockType o) c = block_step o c
+op_push p (at.BlockType o) c = block_step p o c
 op_push p (at.Index i r) c = op_index_step i r c
 op_push p (at.CallType r) c = call_type_step r c
 op_push p (at.CallTable n) c = closing_step (call_op n) c
 op_push p (at.Memory m) c = closing_step (memory_op m) c
 op_push p (at.Const32 r) c = const_32_step r c
 op_push p (at.Const64 r) c = const_64_step r c
+op_push p (at.Float32 left low) c = float_32_step left low c
+op_push p (at.Float64 left low) c = float_64_step left low c
 op_push p (at.Align a r) c = align_step a r c
 op_push p (at.Offset a align r) c = offset_step a align r c

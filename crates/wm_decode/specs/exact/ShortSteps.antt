@@ -27,9 +27,9 @@ standing p = machine.Section p.of p.functions p.more p.left p.at
 abbrev pub after_stepped : SectionKind → ℕ → ℕ → Stepped → Machine
 after_stepped of functions more s = machine.Section of functions more s.left s.at
 
--- under each profile this is what the byte does, where bytes of the section come after it
-abbrev pub StepsTo : SectionKind → ℕ → InMember → ℕ → Stepped → Type 0
-StepsTo of left at c s = (p : Profile) (functions more : ℕ)
+-- under the profile this is what the byte does, where bytes of the section come after it
+abbrev pub StepsTo : Profile → SectionKind → ℕ → InMember → ℕ → Stepped → Type 0
+StepsTo p of left at c s = (functions more : ℕ)
     → step_of p (machine.Section of functions (suc more) left at) c
     ≡ (after_stepped of functions more s, part_event s.part)
 

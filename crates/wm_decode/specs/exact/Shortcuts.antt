@@ -14,22 +14,22 @@ use Rattle.wm_decode.specs.exact.Live.{IsAt, IsRefused, Live, MayRunOutAtByte, d
 abbrev pub live_so : {H : Type 0} → Machine → List ℕ → H → ℕ → Live H
 live_so m name h k = record { machine = m; name = name; held = h; at = k }
 
--- From machine m and a sink that held h a shortcut came to n and g over the first of these bytes. The
--- byte step comes there too: under each profile, within each limit, at each place of the input, and
--- whatever name was at hand.
-pub record Advances {H : Type 0} (after : H → Item → Result H Why) (may : H → Item → Type 0) (bytes : List ℕ)
-    (m : Machine) (h : H) (s : Shortcut) (n : Machine) (g : H) : Type 0 where
+-- From machine m and a sink that held h a shortcut came to n and g over the first of these bytes. Under the
+-- profile the byte step comes there too: within each limit, at each place of the input, and whatever name was
+-- at hand.
+pub record Advances {H : Type 0} (after : H → Item → Result H Why) (may : H → Item → Type 0) (p : Profile)
+    (bytes : List ℕ) (m : Machine) (h : H) (s : Shortcut) (n : Machine) (g : H) : Type 0 where
   pub within : s.used ≤ length bytes
   pub still : s.used ≡ 0 → (s.refused ≡ None) × (n ≡ m) × (g ≡ h)
-  pub moved : (p : Profile) (limit k : ℕ) (name : List ℕ) → 0 < s.used → s.refused ≡ None
+  pub moved : (limit k : ℕ) (name : List ℕ) → 0 < s.used → s.refused ≡ None
       → k + length bytes ≤ limit
       → decoder_after after p limit (live_so m name h k) bytes ≡ decoder_after after p limit
       (live_so n [] g (k + s.used)) (drop s.used bytes)
-  pub stopped : (p : Profile) (limit k : ℕ) (name : List ℕ) (w : Why) → s.refused ≡ Some w → w ≢ why.Memory
+  pub stopped : (limit k : ℕ) (name : List ℕ) (w : Why) → s.refused ≡ Some w → w ≢ why.Memory
       → k + length bytes ≤ limit
       → decoder_after after p limit (live_so m name h k) bytes ≡ Err (record { at = k + s.used; why = w })
   pub live : s.refused ≡ None → ¬ (IsRefused m) → ¬ (IsRefused n)
   pub past_header : (k : ℕ) → 0 < s.used → IsAt m k → (8 < k + s.used)
       × (s.refused ≡ None → IsAt n (k + s.used))
-  pub room : (p : Profile) (k : ℕ) (name : List ℕ) → length bytes ≤ 1 → s.refused ≡ Some why.Memory
+  pub room : (k : ℕ) (name : List ℕ) → length bytes ≤ 1 → s.refused ≡ Some why.Memory
       → MayRunOutAtByte may p (live_so m name h k) (slice_index bytes 0)

@@ -8,9 +8,11 @@ use Rattle.wm_syntax.specs.exact.Reading.{fresh, unsigned_push}
 use Rattle.wm_syntax.specs.declared.why.Why.{Why}
 use Rattle.wm_syntax.specs.declared.why.Why.TheVariants as why
 use Rattle.wm_syntax.specs.declared.types.ValType.{ValType}
-use Rattle.wm_syntax.specs.declared.types.ValType.TheVariants.{I32, I64}
+use Rattle.wm_syntax.specs.declared.types.ValType.TheVariants.{I32, I64, F32, F64}
 use Rattle.wm_syntax.specs.declared.types.Limits.{Limits}
 use Rattle.wm_syntax.specs.declared.types.GlobalType.{GlobalType}
+use Rattle.wm_syntax.specs.declared.profile.Profile.{Profile}
+use Rattle.wm_syntax.specs.Profiles.{has, type_feature}
 use Rattle.wm_syntax.specs.declared.modules.ImportDesc.{ImportDesc}
 use Rattle.wm_syntax.specs.declared.modules.ImportDesc.TheVariants as desc
 use Rattle.wm_syntax.specs.declared.modules.ExportKind.{ExportKind}
@@ -76,13 +78,17 @@ abbrev pub table_type_push : InTableType → ℕ → Reading InTableType Limits
 table_type_push table.ElementType c = if c == 0x70 then More (table.Limits limits.Flag) else Bad why.BadByte
 table_type_push (table.Limits at) c = map_reading table.Limits (λ l. l) (limits_push at c)
 
+-- a value type, where the profile has it
+abbrev pub type_under : Profile → ValType → Result ValType Why
+type_under p t = if has p (type_feature t) then Ok t else Err why.Float
+
 -- value types
-abbrev pub value_type_of : ℕ → Result ValType Why
-value_type_of c =
-    if c == 0x7F then Ok I32
-    else (if c == 0x7E then Ok I64
-    else (if c == 0x7D then Err why.Float
-    else (if c == 0x7C then Err why.Float else Err why.BadByte)))
+abbrev pub value_type_of : Profile → ℕ → Result ValType Why
+value_type_of p c =
+    if c == 0x7F then type_under p I32
+    else (if c == 0x7E then type_under p I64
+    else (if c == 0x7D then type_under p F32
+    else (if c == 0x7C then type_under p F64 else Err why.BadByte)))
 
 abbrev pub read_type : {R X : Type 0} → Result ValType Why → (ValType → Reading R X) → Reading R X
 read_type (Ok t) f = f t
@@ -94,9 +100,9 @@ var_step t zero = Done (record { ty = t; var = false })
 var_step t (suc zero) = Done (record { ty = t; var = true })
 var_step t c = Bad why.BadByte
 
-abbrev pub global_type_push : InGlobalType → ℕ → Reading InGlobalType GlobalType
-global_type_push global.Type c = read_type (value_type_of c) (λ t. More (global.Var t))
-global_type_push (global.Var t) c = var_step t c
+abbrev pub global_type_push : Profile → InGlobalType → ℕ → Reading InGlobalType GlobalType
+global_type_push p global.Type c = read_type (value_type_of p c) (λ t. More (global.Var t))
+global_type_push p (global.Var t) c = var_step t c
 
 -- what an import brings in
 abbrev pub func_step : Partial → ℕ → Reading InImportDesc ImportDesc
@@ -118,12 +124,12 @@ desc_kind_step (suc (suc zero)) = More (import.Memory limits.Flag)
 desc_kind_step (suc (suc (suc zero))) = More (import.Global global.Type)
 desc_kind_step c = Bad why.BadByte
 
-abbrev pub desc_push : InImportDesc → ℕ → Reading InImportDesc ImportDesc
-desc_push import.Kind c = desc_kind_step c
-desc_push (import.Func r) c = func_step r c
-desc_push (import.Table at) c = in_table (table_type_push at c)
-desc_push (import.Memory at) c = in_memory (limits_push at c)
-desc_push (import.Global at) c = in_global (global_type_push at c)
+abbrev pub desc_push : Profile → InImportDesc → ℕ → Reading InImportDesc ImportDesc
+desc_push p import.Kind c = desc_kind_step c
+desc_push p (import.Func r) c = func_step r c
+desc_push p (import.Table at) c = in_table (table_type_push at c)
+desc_push p (import.Memory at) c = in_memory (limits_push at c)
+desc_push p (import.Global at) c = in_global (global_type_push p at c)
 
 -- what an export gives out
 abbrev pub target_step : ExportKind → Partial → ℕ → Reading InExportDesc (ExportKind × ℕ)
@@ -144,9 +150,9 @@ target_push (target.Index k r) c = target_step k r c
 abbrev pub run_count_step : Partial → ℕ → Reading InRun (ℕ × ValType)
 run_count_step r c = read_number (unsigned_push 32 r c) run.Count (λ n. More (run.Type n))
 
-abbrev pub run_push : InRun → ℕ → Reading InRun (ℕ × ValType)
-run_push (run.Count r) c = run_count_step r c
-run_push (run.Type n) c = read_type (value_type_of c) (λ t. Done (n, t))
+abbrev pub run_push : Profile → InRun → ℕ → Reading InRun (ℕ × ValType)
+run_push p (run.Count r) c = run_count_step r c
+run_push p (run.Type n) c = read_type (value_type_of p c) (λ t. Done (n, t))
 
 -- the value that ends an import, a table, a memory or an export
 abbrev pub of_import : Reading InImportDesc ImportDesc → Reading InValue Plain
@@ -161,8 +167,8 @@ of_memory = map_reading value.Memory plain.Memory
 abbrev pub of_export : Reading InExportDesc (ExportKind × ℕ) → Reading InValue Plain
 of_export = map_reading value.Export (λ t. plain.Export t.0 t.1)
 
-abbrev pub value_push : InValue → ℕ → Reading InValue Plain
-value_push (value.Import at) c = of_import (desc_push at c)
-value_push (value.Table at) c = of_table (table_type_push at c)
-value_push (value.Memory at) c = of_memory (limits_push at c)
-value_push (value.Export at) c = of_export (target_push at c)
+abbrev pub value_push : Profile → InValue → ℕ → Reading InValue Plain
+value_push p (value.Import at) c = of_import (desc_push p at c)
+value_push p (value.Table at) c = of_table (table_type_push at c)
+value_push p (value.Memory at) c = of_memory (limits_push at c)
+value_push p (value.Export at) c = of_export (target_push at c)

@@ -9,10 +9,8 @@ use Rattle.wm_syntax.specs.declared.numbers.Step.TheVariants as step
 use Rattle.wm_syntax.specs.inner.Numbers.{Partial}
 use Rattle.wm_syntax.specs.exact.Reading.{fresh}
 use Rattle.wm_syntax.specs.declared.profile.Profile.{Profile}
-use Rattle.wm_syntax.specs.declared.instructions.Numeric.TheVariants.{SignExtend}
-use Rattle.wm_syntax.specs.declared.instructions.Simple.TheVariants as s
+use Rattle.wm_syntax.specs.declared.profile.Profile.TheVariants.{One}
 use Rattle.wm_syntax.specs.declared.instructions.Op.{Op}
-use Rattle.wm_syntax.specs.declared.instructions.Op.TheVariants as op
 use Rattle.wm_decode.specs.declared.machine.Machine.{Machine}
 use Rattle.wm_decode.specs.declared.machine.Machine.TheVariants as machine
 use Rattle.wm_decode.specs.declared.machine.member.SectionKind.{SectionKind}
@@ -28,7 +26,7 @@ use Rattle.wm_decode.specs.declared.step.reading.Reading.TheVariants.{More, Done
 use Rattle.wm_decode.specs.declared.step.ops.InOp.{InOp}
 use Rattle.wm_decode.specs.declared.step.ops.InOp.TheVariants.{First}
 use Rattle.wm_decode.specs.Items.{Item, body_op}
-use Rattle.wm_syntax.specs.exact.ByteTable.{classes}
+use Rattle.wm_syntax.specs.exact.ByteTable.{class_in, classes}
 use Rattle.wm_syntax.specs.declared.instructions.op_class.OpClass.{OpClass}
 use Rattle.wm_decode.specs.exact.OpSteps.{op_push, first_step}
 use Rattle.wm_decode.specs.exact.ExpressionSteps.{at_next_op, after_op}
@@ -65,15 +63,15 @@ pub record LiesAt {T : Type 0} (push : Partial → ℕ → Step T × Partial) (b
 abbrev pub one_signed : ℕ → ℤ
 one_signed c = if nat_lt c (2 ^ 6) then pos c else pos c -ℤ pos (2 ^ 7)
 
--- what a byte says of an op that begins with it, under each profile
+-- what a byte says of an op of each profile that begins with it: what the first profile has, each has
 abbrev pub class_read : Option OpClass → Reading InOp Op
-class_read (Some c) = first_step c
+class_read (Some c) = first_step (class_in One c)
 class_read Nothing = Bad why.BadOpcode
 
 abbrev pub first_read : ℕ → Reading InOp Op
 first_read c = class_read (slice_get classes c)
 
--- an op that lies whole in a list, from a place on up to another, and how many blocks are
+-- an op of each profile that lies whole in a list, from a place on up to another, and how many blocks are
 -- open before and after it
 pub record WholeOp (bytes : List ℕ) (start next depth inside : ℕ) (o : Op) : Type 0 where
   pub some : start < next
@@ -81,10 +79,12 @@ pub record WholeOp (bytes : List ℕ) (start next depth inside : ℕ) (o : Op) :
   pub spelled : (p : Profile) → IsOp p First (slice_range bytes start next) o
   pub opens : after_op depth o ≡ at_next_op inside
 
--- an op that is of each profile
-abbrev pub NoSign : Op → Type 0
-NoSign (op.Simple (s.Numeric (SignExtend x))) = ⊥
-NoSign o = Unit {0}
+-- the same of an op of the profile
+pub record OpUnder (p : Profile) (bytes : List ℕ) (start next depth inside : ℕ) (o : Op) : Type 0 where
+  pub some : start < next
+  pub within : next ≤ length bytes
+  pub spelled : IsOp p First (slice_range bytes start next) o
+  pub opens : after_op depth o ≡ at_next_op inside
 
 -- the sink was given what was read, if that lies in so many bytes
 abbrev pub GaveAs : {H : Type 0} → (H → Item → Result H Why) → H → ℕ → Option Read → Took → H → Type 0
@@ -97,30 +97,32 @@ GaveAs after h room Nothing (took.Refused w n) g = ⊥
 GaveAs after h room x took.Left g = h ≡ g
 
 -- what came of the op at a place: the sink took it, it was left, or the sink refused it
-abbrev pub TookAs : {H : Type 0} → (H → Item → Result H Why) → H → List ℕ → ℕ → ℕ → ℕ → Took → H → Type 0
-TookAs after h bytes start depth room (took.Next n d) g =
-    (o : Op) × WholeOp bytes start n depth d o × (n ≤ room) × (after h (body_op o) ≡ Ok g)
-TookAs after h bytes start depth room took.Left g = h ≡ g
-TookAs after h bytes start depth room (took.Refused w n) g =
-    (o : Op) × (d : ℕ) × WholeOp bytes start n depth d o × (n ≤ room)
+abbrev pub TookAs : {H : Type 0} → (H → Item → Result H Why) → Profile → H → List ℕ → ℕ → ℕ → ℕ → Took → H
+    → Type 0
+TookAs after p h bytes start depth room (took.Next n d) g =
+    (o : Op) × OpUnder p bytes start n depth d o × (n ≤ room) × (after h (body_op o) ≡ Ok g)
+TookAs after p h bytes start depth room took.Left g = h ≡ g
+TookAs after p h bytes start depth room (took.Refused w n) g =
+    (o : Op) × (d : ℕ) × OpUnder p bytes start n depth d o × (n ≤ room)
     × (w ≢ why.Memory → after h (body_op o) ≡ Err w)
 
 -- from one place in a list to another lie whole ops, and the sink took them
-pub data OpsTaken {H : Type 0} (after : H → Item → Result H Why) (bytes : List ℕ) (room start depth : ℕ)
+pub data OpsTaken {H : Type 0} (after : H → Item → Result H Why) (p : Profile) (bytes : List ℕ)
+    (room start depth : ℕ)
     (h : H) : ℕ → ℕ → H → Type 0 where
-  no_ops : OpsTaken after bytes room start depth h start depth h
-  one_more : {n d : ℕ} {g : H} → OpsTaken after bytes room start depth h n d g → (o : Op) (m e : ℕ) (f : H)
-      → WholeOp bytes n m d e o → m ≤ room
-      → after g (body_op o) ≡ Ok f → OpsTaken after bytes room start depth h m e f
+  no_ops : OpsTaken after p bytes room start depth h start depth h
+  one_more : {n d : ℕ} {g : H} → OpsTaken after p bytes room start depth h n d g → (o : Op) (m e : ℕ) (f : H)
+      → OpUnder p bytes n m d e o → m ≤ room
+      → after g (body_op o) ≡ Ok f → OpsTaken after p bytes room start depth h m e f
 
 -- what came of the ops from a place on: the sink took some, and where it refused another the bytes used are
 -- those up to its end
-abbrev pub RanTo : {H : Type 0} → (H → Item → Result H Why) → H → List ℕ → ℕ → ℕ → ℕ → ℕ → Option Why → H
-    → Type 0
-RanTo after h bytes room start used depth Nothing g = OpsTaken after bytes room 0 start h used depth g
-RanTo {H} after h bytes room start used depth (Some w) g =
-    (n d e : ℕ) × (f : H) × (o : Op) × OpsTaken after bytes room 0 start h n d f × WholeOp bytes n used d e o
-    × (used ≤ room)
+abbrev pub RanTo : {H : Type 0} → (H → Item → Result H Why) → Profile → H → List ℕ → ℕ → ℕ → ℕ → ℕ
+    → Option Why → H → Type 0
+RanTo after p h bytes room start used depth Nothing g = OpsTaken after p bytes room 0 start h used depth g
+RanTo {H} after p h bytes room start used depth (Some w) g =
+    (n d e : ℕ) × (f : H) × (o : Op) × OpsTaken after p bytes room 0 start h n d f
+    × OpUnder p bytes n used d e o × (used ≤ room)
     × (w ≢ why.Memory → after f (body_op o) ≡ Err w)
 
 -- the machine in an op of a code entry

@@ -10,14 +10,20 @@ use crate::shortcuts::heads::{BeforeEntry, head};
 use crate::shortcuts::in_body::InBody;
 use crate::shortcuts::{Shortcut, ops};
 use crate::sink::Sink;
+use wm_syntax::profile::Profile;
 
 // Takes the last `end` of an entry, where another entry comes after it
 #[inline(always)]
 #[tactic(auto, using(crate::proofs::Advances::advances_none))]
-fn last_end<S: Sink>(sink: &mut S, machine: &mut Machine, bytes: &[u8]) -> Shortcut
+fn last_end<S: Sink>(
+    sink: &mut S,
+    machine: &mut Machine,
+    profile: Profile,
+    bytes: &[u8],
+) -> Shortcut
     requires { 0 < length bytes.now }
-    ensures { Advances S.after S.may_run_out bytes.now machine.old (S.held sink.old) result machine.new
-        (S.held sink.new) }
+    ensures { Advances S.after S.may_run_out profile bytes.now machine.old (S.held sink.old) result
+        machine.new (S.held sink.new) }
 {
     let Some(body) = InBody::of(*machine) else {
         return Shortcut::none();
@@ -39,16 +45,21 @@ fn last_end<S: Sink>(sink: &mut S, machine: &mut Machine, bytes: &[u8]) -> Short
 }
 
 /// Takes the ops of an entry that lie whole in these bytes, and its last `end`.
-pub(crate) fn body<S: Sink>(sink: &mut S, machine: &mut Machine, bytes: &[u8]) -> Shortcut
+pub(crate) fn body<S: Sink>(
+    sink: &mut S,
+    machine: &mut Machine,
+    profile: Profile,
+    bytes: &[u8],
+) -> Shortcut
     requires { 0 < length bytes.now }
-    ensures { Advances S.after S.may_run_out bytes.now machine.old (S.held sink.old) result machine.new
-        (S.held sink.new) }
+    ensures { Advances S.after S.may_run_out profile bytes.now machine.old (S.held sink.old) result
+        machine.new (S.held sink.new) }
 {
-    let ran = ops(sink, machine, bytes);
+    let ran = ops(sink, machine, profile, bytes);
     if ran.refused.is_some() || ran.used == bytes.len() {
         return ran;
     }
-    let last = last_end(sink, machine, &bytes[ran.used..]);
+    let last = last_end(sink, machine, profile, &bytes[ran.used..]);
     Shortcut {
         used: ran.used + last.used,
         refused: last.refused,
@@ -57,16 +68,16 @@ pub(crate) fn body<S: Sink>(sink: &mut S, machine: &mut Machine, bytes: &[u8]) -
 
 // Takes an entry from its head on
 #[inline(always)]
-fn entry<S: Sink>(sink: &mut S, machine: &mut Machine, bytes: &[u8]) -> Shortcut
+fn entry<S: Sink>(sink: &mut S, machine: &mut Machine, profile: Profile, bytes: &[u8]) -> Shortcut
     requires { 0 < length bytes.now }
-    ensures { Advances S.after S.may_run_out bytes.now machine.old (S.held sink.old) result machine.new
-        (S.held sink.new) }
+    ensures { Advances S.after S.may_run_out profile bytes.now machine.old (S.held sink.old) result
+        machine.new (S.held sink.new) }
 {
-    let begun = head(sink, machine, bytes);
+    let begun = head(sink, machine, profile, bytes);
     if begun.refused.is_some() || begun.used == bytes.len() {
         return begun;
     }
-    let rest = body(sink, machine, &bytes[begun.used..]);
+    let rest = body(sink, machine, profile, &bytes[begun.used..]);
     Shortcut {
         used: begun.used + rest.used,
         refused: rest.refused,
@@ -74,13 +85,18 @@ fn entry<S: Sink>(sink: &mut S, machine: &mut Machine, bytes: &[u8]) -> Shortcut
 }
 
 /// Takes the entries that lie in these bytes, as far as they have nothing rare.
-pub(crate) fn entries<S: Sink>(sink: &mut S, machine: &mut Machine, bytes: &[u8]) -> Shortcut
-    ensures { Advances S.after S.may_run_out bytes.now machine.old (S.held sink.old) result machine.new
-        (S.held sink.new) }
+pub(crate) fn entries<S: Sink>(
+    sink: &mut S,
+    machine: &mut Machine,
+    profile: Profile,
+    bytes: &[u8],
+) -> Shortcut
+    ensures { Advances S.after S.may_run_out profile bytes.now machine.old (S.held sink.old) result
+        machine.new (S.held sink.new) }
 {
     let mut used = 0;
     while used < bytes.len() {
-        let taken = entry(sink, machine, &bytes[used..]);
+        let taken = entry(sink, machine, profile, &bytes[used..]);
         used += taken.used;
         if taken.used == 0 || taken.refused.is_some() {
             let refused = taken.refused;

@@ -17,6 +17,7 @@ use crate::shortcuts::whole_names::{InNames, name_end};
 use crate::shortcuts::whole_numbers::u32_at;
 use crate::sink::Sink;
 use wm_syntax::modules::ExportKind;
+use wm_syntax::profile::Profile;
 
 /// Where the name of an export ends, where it ends, and what it gives out.
 #[derive(Clone, Copy)]
@@ -104,9 +105,14 @@ fn export_at(bytes: &[u8], from: usize, end: usize) -> Option<Export>
 /// Takes the exports that lie in these bytes, as long as another export comes after each.
 #[inline(never)]
 #[tactic(auto, using(crate::proofs::Advances::advances_none))]
-pub(crate) fn exports<S: Sink>(sink: &mut S, machine: &mut Machine, bytes: &[u8]) -> Shortcut
-    ensures { Advances S.after S.may_run_out bytes.now machine.old (S.held sink.old) result machine.new
-        (S.held sink.new) }
+pub(crate) fn exports<S: Sink>(
+    sink: &mut S,
+    machine: &mut Machine,
+    profile: Profile,
+    bytes: &[u8],
+) -> Shortcut
+    ensures { Advances S.after S.may_run_out profile bytes.now machine.old (S.held sink.old) result
+        machine.new (S.held sink.new) }
 {
     let Some(start) = at_export(*machine) else {
         return Shortcut::none();

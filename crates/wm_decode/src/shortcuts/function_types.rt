@@ -15,6 +15,7 @@ use crate::shortcuts::Shortcut;
 use crate::sink::Sink;
 use crate::step::types::after_param;
 use crate::step::values::value_type;
+use wm_syntax::profile::Profile;
 use wm_syntax::types::ValType;
 use wm_syntax::why::Why;
 
@@ -170,12 +171,18 @@ fn begin_type(bytes: &[u8], start: InTypes) -> Option<InParams>
 
 // Gives the parameters that lie in these bytes, as long as bytes of the section come after them
 #[inline(always)]
-fn give_params<S: Sink>(sink: &mut S, bytes: &[u8], start: InParams) -> GivenParams
+fn give_params<S: Sink>(
+    sink: &mut S,
+    profile: Profile,
+    bytes: &[u8],
+    start: InParams,
+) -> GivenParams
     ensures section { result.used ≤ start.more }
-    ensures advances { Advances S.after S.may_run_out bytes.now (in_params start) (S.held sink.old) (record {
-      used = result.used;
-      refused = result.refused;
-    }) (in_params (params_after start result.used result.params)) (S.held sink.new) }
+    ensures advances { Advances S.after S.may_run_out profile bytes.now (in_params start) (S.held sink.old)
+        (record {
+          used = result.used;
+          refused = result.refused;
+        }) (in_params (params_after start result.used result.params)) (S.held sink.new) }
 {
     let end = bytes.len().min(start.more as usize);
     let mut params = start.params;
@@ -184,7 +191,7 @@ fn give_params<S: Sink>(sink: &mut S, bytes: &[u8], start: InParams) -> GivenPar
         if used >= end {
             break;
         }
-        let Ok(ty) = value_type(bytes[used]) else {
+        let Ok(ty) = value_type(profile, bytes[used]) else {
             break;
         };
         used += 1;
@@ -208,9 +215,9 @@ fn give_params<S: Sink>(sink: &mut S, bytes: &[u8], start: InParams) -> GivenPar
 // Takes a type up to the count of its results
 #[inline(always)]
 #[tactic(auto, using(crate::proofs::Advances::advances_none))]
-fn params<S: Sink>(sink: &mut S, machine: &mut Machine, bytes: &[u8]) -> Shortcut
-    ensures { Advances S.after S.may_run_out bytes.now machine.old (S.held sink.old) result machine.new
-        (S.held sink.new) }
+fn params<S: Sink>(sink: &mut S, machine: &mut Machine, profile: Profile, bytes: &[u8]) -> Shortcut
+    ensures { Advances S.after S.may_run_out profile bytes.now machine.old (S.held sink.old) result
+        machine.new (S.held sink.new) }
 {
     let Some(start) = InTypes::at_type(*machine) else {
         return Shortcut::none();
@@ -224,7 +231,7 @@ fn params<S: Sink>(sink: &mut S, machine: &mut Machine, bytes: &[u8]) -> Shortcu
             refused: Some(why),
         };
     }
-    let given = give_params(sink, &bytes[2..], begun);
+    let given = give_params(sink, profile, &bytes[2..], begun);
     *machine = begun.after(given.used as u32, given.params);
     Shortcut {
         used: 2 + given.used,
@@ -237,6 +244,7 @@ fn params<S: Sink>(sink: &mut S, machine: &mut Machine, bytes: &[u8]) -> Shortcu
 fn one_result<S: Sink>(
     sink: &mut S,
     machine: &mut Machine,
+    profile: Profile,
     bytes: &[u8],
     start: InTypes,
     ty: ValType,
@@ -246,9 +254,9 @@ fn one_result<S: Sink>(
     requires section { 1 < start.more }
     requires types { 0 < start.left }
     requires count { slice_index bytes.now 0 ≡ 1 }
-    requires typed { value_type_of (slice_index bytes.now 1) ≡ Ok ty }
-    ensures { Advances S.after S.may_run_out bytes.now machine.old (S.held sink.old) result machine.new
-        (S.held sink.new) }
+    requires typed { value_type_of profile (slice_index bytes.now 1) ≡ Ok ty }
+    ensures { Advances S.after S.may_run_out profile bytes.now machine.old (S.held sink.old) result
+        machine.new (S.held sink.new) }
 {
     if let Err(why) = give(sink, Plain::ResultCount(1)) {
         return Shortcut {
@@ -264,9 +272,9 @@ fn one_result<S: Sink>(
 // Takes the results of a type, at most one, where another type comes after it
 #[inline(always)]
 #[tactic(auto, using(crate::proofs::Advances::advances_none))]
-fn results<S: Sink>(sink: &mut S, machine: &mut Machine, bytes: &[u8]) -> Shortcut
-    ensures { Advances S.after S.may_run_out bytes.now machine.old (S.held sink.old) result machine.new
-        (S.held sink.new) }
+fn results<S: Sink>(sink: &mut S, machine: &mut Machine, profile: Profile, bytes: &[u8]) -> Shortcut
+    ensures { Advances S.after S.may_run_out profile bytes.now machine.old (S.held sink.old) result
+        machine.new (S.held sink.new) }
 {
     let Some(start) = InTypes::at_results(*machine) else {
         return Shortcut::none();
@@ -280,26 +288,31 @@ fn results<S: Sink>(sink: &mut S, machine: &mut Machine, bytes: &[u8]) -> Shortc
         let refused = give(sink, Plain::ResultCount(0)).err();
         return Shortcut { used: 1, refused };
     }
-    let Ok(ty) = value_type(bytes[1]) else {
+    let Ok(ty) = value_type(profile, bytes[1]) else {
         return Shortcut::none();
     };
     if count != 1 {
         return Shortcut::none();
     }
-    one_result(sink, machine, bytes, start, ty)
+    one_result(sink, machine, profile, bytes, start, ty)
 }
 
 // Takes a function type, as far as its counts are short and it lies in these bytes.
 #[inline(always)]
-fn function_type<S: Sink>(sink: &mut S, machine: &mut Machine, bytes: &[u8]) -> Shortcut
-    ensures { Advances S.after S.may_run_out bytes.now machine.old (S.held sink.old) result machine.new
-        (S.held sink.new) }
+fn function_type<S: Sink>(
+    sink: &mut S,
+    machine: &mut Machine,
+    profile: Profile,
+    bytes: &[u8],
+) -> Shortcut
+    ensures { Advances S.after S.may_run_out profile bytes.now machine.old (S.held sink.old) result
+        machine.new (S.held sink.new) }
 {
-    let front = params(sink, machine, bytes);
+    let front = params(sink, machine, profile, bytes);
     if front.refused.is_some() {
         return front;
     }
-    let back = results(sink, machine, &bytes[front.used..]);
+    let back = results(sink, machine, profile, &bytes[front.used..]);
     Shortcut {
         used: front.used + back.used,
         refused: back.refused,
@@ -307,13 +320,18 @@ fn function_type<S: Sink>(sink: &mut S, machine: &mut Machine, bytes: &[u8]) -> 
 }
 
 /// Takes the function types that lie in these bytes, one after another.
-pub(crate) fn function_types<S: Sink>(sink: &mut S, machine: &mut Machine, bytes: &[u8]) -> Shortcut
-    ensures { Advances S.after S.may_run_out bytes.now machine.old (S.held sink.old) result machine.new
-        (S.held sink.new) }
+pub(crate) fn function_types<S: Sink>(
+    sink: &mut S,
+    machine: &mut Machine,
+    profile: Profile,
+    bytes: &[u8],
+) -> Shortcut
+    ensures { Advances S.after S.may_run_out profile bytes.now machine.old (S.held sink.old) result
+        machine.new (S.held sink.new) }
 {
     let mut used = 0;
     while used < bytes.len() {
-        let taken = function_type(sink, machine, &bytes[used..]);
+        let taken = function_type(sink, machine, profile, &bytes[used..]);
         used += taken.used;
         if taken.used == 0 || taken.refused.is_some() {
             let refused = taken.refused;

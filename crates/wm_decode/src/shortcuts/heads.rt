@@ -17,6 +17,7 @@ use crate::sink::Sink;
 use crate::step::entries::runs_or_body;
 use crate::step::values::{InRun, value_type};
 use wm_syntax::numbers::Num32;
+use wm_syntax::profile::Profile;
 use wm_syntax::types::ValType;
 use wm_syntax::why::Why;
 
@@ -216,16 +217,16 @@ fn begin_head(bytes: &[u8], start: BeforeEntry) -> Option<Begun>
 
 // The count of a run and its type, where the count has one byte
 #[inline(always)]
-fn run_at(bytes: &[u8], at: usize) -> Option<(u32, ValType)>
+fn run_at(profile: Profile, bytes: &[u8], at: usize) -> Option<(u32, ValType)>
     requires { at + 1 < length bytes.now }
     ensures count { IfSome result (λ r. (r.0 ≡ slice_index bytes.now at) × (r.0 < 2 ^ 7)) }
-    ensures typed { IfSome result (λ r. value_type_of (slice_index bytes.now (at + 1)) ≡ Ok r.1) }
+    ensures typed { IfSome result (λ r. value_type_of profile (slice_index bytes.now (at + 1)) ≡ Ok r.1) }
 {
     let count = bytes[at];
     if count >= 0x80 {
         return None;
     }
-    match value_type(bytes[at + 1]) {
+    match value_type(profile, bytes[at + 1]) {
         Ok(ty) => Some((u32::from(count), ty)),
         Err(_) => None,
     }
@@ -241,13 +242,14 @@ struct GivenRuns {
 
 // Gives the runs that lie in these bytes, as long as bytes of the entry and of the section come after them
 #[inline(always)]
-fn give_runs<S: Sink>(sink: &mut S, bytes: &[u8], start: InHead) -> GivenRuns
+fn give_runs<S: Sink>(sink: &mut S, profile: Profile, bytes: &[u8], start: InHead) -> GivenRuns
     ensures section { result.used ≤ start.more }
     ensures entry { result.used ≤ start.rest }
-    ensures advances { Advances S.after S.may_run_out bytes.now (in_head start) (S.held sink.old) (record {
-      used = result.used;
-      refused = result.refused;
-    }) (in_head (head_after start result.used result.runs)) (S.held sink.new) }
+    ensures advances { Advances S.after S.may_run_out profile bytes.now (in_head start) (S.held sink.old)
+        (record {
+          used = result.used;
+          refused = result.refused;
+        }) (in_head (head_after start result.used result.runs)) (S.held sink.new) }
 {
     let end = bytes.len().min(start.more.min(start.rest) as usize);
     let mut runs = start.runs;
@@ -256,7 +258,7 @@ fn give_runs<S: Sink>(sink: &mut S, bytes: &[u8], start: InHead) -> GivenRuns
         if used + 2 > end {
             break;
         }
-        let Some((count, ty)) = run_at(bytes, used) else {
+        let Some((count, ty)) = run_at(profile, bytes, used) else {
             break;
         };
         used += 2;
@@ -279,14 +281,19 @@ fn give_runs<S: Sink>(sink: &mut S, bytes: &[u8], start: InHead) -> GivenRuns
 
 /// Takes runs of a code entry's locals, as far as their counts are short and they lie in these bytes.
 #[tactic(auto, using(crate::proofs::Advances::advances_none))]
-pub(crate) fn runs<S: Sink>(sink: &mut S, machine: &mut Machine, bytes: &[u8]) -> Shortcut
-    ensures { Advances S.after S.may_run_out bytes.now machine.old (S.held sink.old) result machine.new
-        (S.held sink.new) }
+pub(crate) fn runs<S: Sink>(
+    sink: &mut S,
+    machine: &mut Machine,
+    profile: Profile,
+    bytes: &[u8],
+) -> Shortcut
+    ensures { Advances S.after S.may_run_out profile bytes.now machine.old (S.held sink.old) result
+        machine.new (S.held sink.new) }
 {
     let Some(start) = InHead::of(*machine) else {
         return Shortcut::none();
     };
-    let given = give_runs(sink, bytes, start);
+    let given = give_runs(sink, profile, bytes, start);
     *machine = start.after(given.used as u32, given.runs);
     Shortcut {
         used: given.used,
@@ -296,9 +303,14 @@ pub(crate) fn runs<S: Sink>(sink: &mut S, machine: &mut Machine, bytes: &[u8]) -
 
 /// Takes the head of a code entry, as far as its numbers are short and lie in these bytes.
 #[tactic(auto, using(crate::proofs::Advances::advances_none))]
-pub(crate) fn head<S: Sink>(sink: &mut S, machine: &mut Machine, bytes: &[u8]) -> Shortcut
-    ensures { Advances S.after S.may_run_out bytes.now machine.old (S.held sink.old) result machine.new
-        (S.held sink.new) }
+pub(crate) fn head<S: Sink>(
+    sink: &mut S,
+    machine: &mut Machine,
+    profile: Profile,
+    bytes: &[u8],
+) -> Shortcut
+    ensures { Advances S.after S.may_run_out profile bytes.now machine.old (S.held sink.old) result
+        machine.new (S.held sink.new) }
 {
     let Some(start) = BeforeEntry::of(*machine) else {
         return Shortcut::none();
@@ -313,7 +325,7 @@ pub(crate) fn head<S: Sink>(sink: &mut S, machine: &mut Machine, bytes: &[u8]) -
         };
     }
     let first = begun.sized + 1;
-    let given = give_runs(sink, &bytes[first..], begun.at);
+    let given = give_runs(sink, profile, &bytes[first..], begun.at);
     *machine = begun.at.after(given.used as u32, given.runs);
     Shortcut {
         used: first + given.used,

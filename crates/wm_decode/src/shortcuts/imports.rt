@@ -17,6 +17,7 @@ use crate::shortcuts::whole_names::{InNames, name_end};
 use crate::shortcuts::whole_numbers::u32_at;
 use crate::sink::Sink;
 use wm_syntax::modules::ImportDesc;
+use wm_syntax::profile::Profile;
 
 /// Where the two names of an import end, where it ends, and the index of its function's type.
 #[derive(Clone, Copy)]
@@ -91,9 +92,14 @@ fn import_at(bytes: &[u8], from: usize, end: usize) -> Option<Import>
 /// Takes the imports of functions that lie in these bytes, as long as another import comes after each.
 #[inline(never)]
 #[tactic(auto, using(crate::proofs::Advances::advances_none))]
-pub(crate) fn imports<S: Sink>(sink: &mut S, machine: &mut Machine, bytes: &[u8]) -> Shortcut
-    ensures { Advances S.after S.may_run_out bytes.now machine.old (S.held sink.old) result machine.new
-        (S.held sink.new) }
+pub(crate) fn imports<S: Sink>(
+    sink: &mut S,
+    machine: &mut Machine,
+    profile: Profile,
+    bytes: &[u8],
+) -> Shortcut
+    ensures { Advances S.after S.may_run_out profile bytes.now machine.old (S.held sink.old) result
+        machine.new (S.held sink.new) }
 {
     let Some(start) = at_import(*machine) else {
         return Shortcut::none();

@@ -15,6 +15,7 @@ use crate::shortcuts::{Shortcut, at_most};
 use crate::sink::Sink;
 use crate::step::expressions::InExpression;
 use wm_syntax::numbers::{Num32, short_front};
+use wm_syntax::profile::Profile;
 
 /// Of what the next index is.
 #[derive(Clone, Copy)]
@@ -222,9 +223,14 @@ fn give_indices<S: Sink>(sink: &mut S, list: IndexList, bytes: &[u8]) -> Shortcu
 /// Takes the indices of one byte each at the front of these bytes, but the last of their list, where there
 /// are two or more.
 #[tactic(auto, using(crate::proofs::Advances::advances_none))]
-pub(crate) fn indices<S: Sink>(sink: &mut S, machine: &mut Machine, bytes: &[u8]) -> Shortcut
-    ensures { Advances S.after S.may_run_out bytes.now machine.old (S.held sink.old) result machine.new
-        (S.held sink.new) }
+pub(crate) fn indices<S: Sink>(
+    sink: &mut S,
+    machine: &mut Machine,
+    profile: Profile,
+    bytes: &[u8],
+) -> Shortcut
+    ensures { Advances S.after S.may_run_out profile bytes.now machine.old (S.held sink.old) result
+        machine.new (S.held sink.new) }
 {
     let Some(before) = InIndices::of(*machine) else {
         return Shortcut::none();

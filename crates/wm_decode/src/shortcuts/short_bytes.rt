@@ -14,6 +14,7 @@ use crate::shortcuts::short_steps::{
 };
 use crate::sink::Sink;
 use crate::step::values::InRun;
+use wm_syntax::profile::Profile;
 
 // Takes the byte at a place of a section that goes on after it, where it was found what the byte does there
 #[inline(always)]
@@ -21,6 +22,7 @@ use crate::step::values::InRun;
 fn stepped<S: Sink>(
     sink: &mut S,
     machine: &mut Machine,
+    profile: Profile,
     bytes: &[u8],
     place: Place,
     found: Option<Stepped>,
@@ -28,9 +30,10 @@ fn stepped<S: Sink>(
     requires some { 0 < length bytes.now }
     requires machine { machine.old ≡ standing place }
     requires more { 0 < place.more }
-    requires found { IfSome found (λ s. StepsTo place.of place.left place.at (slice_index bytes.now 0) s) }
-    ensures { Advances S.after S.may_run_out bytes.now machine.old (S.held sink.old) result machine.new
-        (S.held sink.new) }
+    requires found { IfSome found
+        (λ s. StepsTo profile place.of place.left place.at (slice_index bytes.now 0) s) }
+    ensures { Advances S.after S.may_run_out profile bytes.now machine.old (S.held sink.old) result
+        machine.new (S.held sink.new) }
 {
     let Some(next) = found else {
         return Shortcut::none();
@@ -49,32 +52,43 @@ fn stepped<S: Sink>(
 // In a section of function types
 #[inline(always)]
 #[tactic(auto, using(crate::proofs::Advances::advances_none))]
-fn short_type<S: Sink>(sink: &mut S, machine: &mut Machine, bytes: &[u8], place: Place) -> Shortcut
+fn short_type<S: Sink>(
+    sink: &mut S,
+    machine: &mut Machine,
+    profile: Profile,
+    bytes: &[u8],
+    place: Place,
+) -> Shortcut
     requires some { 0 < length bytes.now }
     requires machine { machine.old ≡ standing place }
     requires more { 0 < place.more }
     requires of { place.of ≡ SectionKind.Type }
-    ensures { Advances S.after S.may_run_out bytes.now machine.old (S.held sink.old) result machine.new
-        (S.held sink.new) }
+    ensures { Advances S.after S.may_run_out profile bytes.now machine.old (S.held sink.old) result
+        machine.new (S.held sink.new) }
 {
     let byte = bytes[0];
     let left = place.left;
     let member = place.at;
     match member {
-        InMember::TypeForm => stepped(sink, machine, bytes, place, form_byte(left, byte)),
+        InMember::TypeForm => {
+            let found = form_byte(profile, left, byte);
+            stepped(sink, machine, profile, bytes, place, found)
+        }
         InMember::ParamCount(number) => {
-            let found = param_count_byte(left, number, byte);
-            stepped(sink, machine, bytes, place, found)
+            let found = param_count_byte(profile, left, number, byte);
+            stepped(sink, machine, profile, bytes, place, found)
         }
         InMember::Param { more } => {
-            stepped(sink, machine, bytes, place, param_byte(left, more, byte))
+            let found = param_byte(profile, left, more, byte);
+            stepped(sink, machine, profile, bytes, place, found)
         }
         InMember::ResultCount(number) => {
-            let found = result_count_byte(left, number, byte);
-            stepped(sink, machine, bytes, place, found)
+            let found = result_count_byte(profile, left, number, byte);
+            stepped(sink, machine, profile, bytes, place, found)
         }
         InMember::ResultType { more } => {
-            stepped(sink, machine, bytes, place, result_byte(left, more, byte))
+            let found = result_byte(profile, left, more, byte);
+            stepped(sink, machine, profile, bytes, place, found)
         }
         _ => Shortcut::none(),
     }
@@ -83,36 +97,43 @@ fn short_type<S: Sink>(sink: &mut S, machine: &mut Machine, bytes: &[u8], place:
 // In the code section
 #[inline(always)]
 #[tactic(auto, using(crate::proofs::Advances::advances_none))]
-fn short_code<S: Sink>(sink: &mut S, machine: &mut Machine, bytes: &[u8], place: Place) -> Shortcut
+fn short_code<S: Sink>(
+    sink: &mut S,
+    machine: &mut Machine,
+    profile: Profile,
+    bytes: &[u8],
+    place: Place,
+) -> Shortcut
     requires some { 0 < length bytes.now }
     requires machine { machine.old ≡ standing place }
     requires more { 0 < place.more }
     requires of { place.of ≡ SectionKind.Code }
-    ensures { Advances S.after S.may_run_out bytes.now machine.old (S.held sink.old) result machine.new
-        (S.held sink.new) }
+    ensures { Advances S.after S.may_run_out profile bytes.now machine.old (S.held sink.old) result
+        machine.new (S.held sink.new) }
 {
     let byte = bytes[0];
     let left = place.left;
     let member = place.at;
     if let InMember::EntrySize(number) = member {
-        return stepped(sink, machine, bytes, place, size_byte(left, number, byte));
+        let found = size_byte(profile, left, number, byte);
+        return stepped(sink, machine, profile, bytes, place, found);
     }
     let InMember::Entry { more, at } = member else {
         return Shortcut::none();
     };
     match at {
         InEntry::RunCount(number) => {
-            let found = run_count_byte(left, more, number, byte);
-            stepped(sink, machine, bytes, place, found)
+            let found = run_count_byte(profile, left, more, number, byte);
+            stepped(sink, machine, profile, bytes, place, found)
         }
         InEntry::Run { more: runs, at } => match at {
             InRun::Count(number) => {
-                let found = local_count_byte(left, more, runs, number, byte);
-                stepped(sink, machine, bytes, place, found)
+                let found = local_count_byte(profile, left, more, runs, number, byte);
+                stepped(sink, machine, profile, bytes, place, found)
             }
             InRun::Type { count } => {
-                let found = local_type_byte(left, more, runs, count, byte);
-                stepped(sink, machine, bytes, place, found)
+                let found = local_type_byte(profile, left, more, runs, count, byte);
+                stepped(sink, machine, profile, bytes, place, found)
             }
         },
         _ => Shortcut::none(),
@@ -122,17 +143,22 @@ fn short_code<S: Sink>(sink: &mut S, machine: &mut Machine, bytes: &[u8], place:
 /// Takes a byte by the shorter way, where it has one.
 #[inline(always)]
 #[tactic(auto, using(crate::proofs::Advances::advances_none))]
-pub(crate) fn short<S: Sink>(sink: &mut S, machine: &mut Machine, bytes: &[u8]) -> Shortcut
+pub(crate) fn short<S: Sink>(
+    sink: &mut S,
+    machine: &mut Machine,
+    profile: Profile,
+    bytes: &[u8],
+) -> Shortcut
     requires { 0 < length bytes.now }
-    ensures { Advances S.after S.may_run_out bytes.now machine.old (S.held sink.old) result machine.new
-        (S.held sink.new) }
+    ensures { Advances S.after S.may_run_out profile bytes.now machine.old (S.held sink.old) result
+        machine.new (S.held sink.new) }
 {
     let Some(place) = Place::of(*machine) else {
         return Shortcut::none();
     };
     match place.of {
-        SectionKind::Type => short_type(sink, machine, bytes, place),
-        SectionKind::Code => short_code(sink, machine, bytes, place),
+        SectionKind::Type => short_type(sink, machine, profile, bytes, place),
+        SectionKind::Code => short_code(sink, machine, profile, bytes, place),
         _ => Shortcut::none(),
     }
 }

@@ -14,6 +14,7 @@ use crate::step::types::after_param;
 use crate::step::values::{InRun, value_type};
 use wm_syntax::instructions::Op;
 use wm_syntax::numbers::{Num32, Step};
+use wm_syntax::profile::Profile;
 
 /// Where in a section the next byte stands, how many members come after this one, and the item that the last
 /// byte completed.
@@ -67,8 +68,8 @@ impl Place {
 
 /// In the size of a code entry
 #[inline(always)]
-pub(crate) fn size_byte(left: u32, mut number: Num32, byte: u8) -> Option<Stepped>
-    ensures { IfSome result (λ s. StepsTo SectionKind.Code left (InMember.EntrySize number) byte s) }
+pub(crate) fn size_byte(profile: Profile, left: u32, mut number: Num32, byte: u8) -> Option<Stepped>
+    ensures { IfSome result (λ s. StepsTo profile SectionKind.Code left (InMember.EntrySize number) byte s) }
 {
     match number.push(byte) {
         Step::More => Some(Stepped {
@@ -90,8 +91,14 @@ pub(crate) fn size_byte(left: u32, mut number: Num32, byte: u8) -> Option<Steppe
 
 /// In the count of an entry's runs of locals
 #[inline(always)]
-pub(crate) fn run_count_byte(left: u32, more: u32, mut number: Num32, byte: u8) -> Option<Stepped>
-    ensures { IfSome result (λ s. StepsTo SectionKind.Code left
+pub(crate) fn run_count_byte(
+    profile: Profile,
+    left: u32,
+    more: u32,
+    mut number: Num32,
+    byte: u8,
+) -> Option<Stepped>
+    ensures { IfSome result (λ s. StepsTo profile SectionKind.Code left
         (InMember.Entry more (InEntry.RunCount number)) byte s) }
 {
     let Step::Done(runs) = number.push(byte) else {
@@ -111,13 +118,14 @@ pub(crate) fn run_count_byte(left: u32, more: u32, mut number: Num32, byte: u8) 
 /// In the count of a run of locals
 #[inline(always)]
 pub(crate) fn local_count_byte(
+    profile: Profile,
     left: u32,
     more: u32,
     runs: u32,
     mut number: Num32,
     byte: u8,
 ) -> Option<Stepped>
-    ensures { IfSome result (λ s. StepsTo SectionKind.Code left
+    ensures { IfSome result (λ s. StepsTo profile SectionKind.Code left
         (InMember.Entry more (InEntry.Run runs (InRun.Count number))) byte s) }
 {
     if more == 0 {
@@ -141,19 +149,20 @@ pub(crate) fn local_count_byte(
 /// At the type of a run of so many locals
 #[inline(always)]
 pub(crate) fn local_type_byte(
+    profile: Profile,
     left: u32,
     more: u32,
     runs: u32,
     count: u32,
     byte: u8,
 ) -> Option<Stepped>
-    ensures { IfSome result (λ s. StepsTo SectionKind.Code left
+    ensures { IfSome result (λ s. StepsTo profile SectionKind.Code left
         (InMember.Entry more (InEntry.Run runs (InRun.Type count))) byte s) }
 {
     if more == 0 {
         return None;
     }
-    let Ok(ty) = value_type(byte) else {
+    let Ok(ty) = value_type(profile, byte) else {
         return None;
     };
     let at = runs_or_body(runs);
@@ -166,8 +175,8 @@ pub(crate) fn local_type_byte(
 
 /// At the form of a function type
 #[inline(always)]
-pub(crate) fn form_byte(left: u32, byte: u8) -> Option<Stepped>
-    ensures { IfSome result (λ s. StepsTo SectionKind.Type left InMember.TypeForm byte s) }
+pub(crate) fn form_byte(profile: Profile, left: u32, byte: u8) -> Option<Stepped>
+    ensures { IfSome result (λ s. StepsTo profile SectionKind.Type left InMember.TypeForm byte s) }
 {
     if byte != 0x60 {
         return None;
@@ -181,8 +190,13 @@ pub(crate) fn form_byte(left: u32, byte: u8) -> Option<Stepped>
 
 /// In the count of its parameters
 #[inline(always)]
-pub(crate) fn param_count_byte(left: u32, mut number: Num32, byte: u8) -> Option<Stepped>
-    ensures { IfSome result (λ s. StepsTo SectionKind.Type left (InMember.ParamCount number) byte s) }
+pub(crate) fn param_count_byte(
+    profile: Profile,
+    left: u32,
+    mut number: Num32,
+    byte: u8,
+) -> Option<Stepped>
+    ensures { IfSome result (λ s. StepsTo profile SectionKind.Type left (InMember.ParamCount number) byte s) }
 {
     let Step::Done(count) = number.push(byte) else {
         return None;
@@ -196,10 +210,10 @@ pub(crate) fn param_count_byte(left: u32, mut number: Num32, byte: u8) -> Option
 
 /// At a parameter, with so many after it
 #[inline(always)]
-pub(crate) fn param_byte(left: u32, more: u32, byte: u8) -> Option<Stepped>
-    ensures { IfSome result (λ s. StepsTo SectionKind.Type left (InMember.Param more) byte s) }
+pub(crate) fn param_byte(profile: Profile, left: u32, more: u32, byte: u8) -> Option<Stepped>
+    ensures { IfSome result (λ s. StepsTo profile SectionKind.Type left (InMember.Param more) byte s) }
 {
-    let Ok(ty) = value_type(byte) else {
+    let Ok(ty) = value_type(profile, byte) else {
         return None;
     };
     Some(Stepped {
@@ -211,8 +225,14 @@ pub(crate) fn param_byte(left: u32, more: u32, byte: u8) -> Option<Stepped>
 
 /// In the count of its results
 #[inline(always)]
-pub(crate) fn result_count_byte(left: u32, mut number: Num32, byte: u8) -> Option<Stepped>
-    ensures { IfSome result (λ s. StepsTo SectionKind.Type left (InMember.ResultCount number) byte s) }
+pub(crate) fn result_count_byte(
+    profile: Profile,
+    left: u32,
+    mut number: Num32,
+    byte: u8,
+) -> Option<Stepped>
+    ensures { IfSome result
+        (λ s. StepsTo profile SectionKind.Type left (InMember.ResultCount number) byte s) }
 {
     let Step::Done(count) = number.push(byte) else {
         return None;
@@ -227,10 +247,10 @@ pub(crate) fn result_count_byte(left: u32, mut number: Num32, byte: u8) -> Optio
 
 /// At a result, with so many after it
 #[inline(always)]
-pub(crate) fn result_byte(left: u32, more: u32, byte: u8) -> Option<Stepped>
-    ensures { IfSome result (λ s. StepsTo SectionKind.Type left (InMember.ResultType more) byte s) }
+pub(crate) fn result_byte(profile: Profile, left: u32, more: u32, byte: u8) -> Option<Stepped>
+    ensures { IfSome result (λ s. StepsTo profile SectionKind.Type left (InMember.ResultType more) byte s) }
 {
-    let Ok(ty) = value_type(byte) else {
+    let Ok(ty) = value_type(profile, byte) else {
         return None;
     };
     let part = Some(Plain::OneResult(ty));

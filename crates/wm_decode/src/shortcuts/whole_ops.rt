@@ -3,22 +3,26 @@
 //! What is rare, and all that is refused for its bytes, is left to the byte step.
 
 ghost use Rattle.std.specs.Prelude.{◌≡◌, ◌+◌, ◌<◌, ◌≤◌, ◌^◌, ℕ, IfSome, Some, length, slice_index};
+ghost use Rattle.wm_syntax.specs.exact.ByteTable.{class_under};
 ghost use Rattle.wm_syntax.specs.exact.Reading.{fresh};
 ghost use Rattle.wm_decode.specs.declared.step.reading.Reading.TheVariants.{More, Done};
 ghost use Rattle.wm_decode.specs.declared.step.ops.InOp.TheVariants.{BlockType, Const32, Const64};
-ghost use Rattle.wm_decode.specs.exact.OpSteps.{fresh_access, fresh_index, index_op};
+ghost use Rattle.wm_decode.specs.exact.OpSteps.{fresh_access, fresh_index, immediates, index_op};
 ghost use Rattle.wm_decode.specs.exact.ExpressionSteps.{after_op, at_next_op};
-ghost use Rattle.wm_decode.specs.exact.WholeOps.{GaveAs, NoSign, RanTo, TookAs, WholeOp, first_read};
+ghost use Rattle.wm_decode.specs.exact.WholeOps.{GaveAs, OpUnder, RanTo, TookAs, WholeOp, first_read};
 
 use crate::item::Item;
 use crate::shortcuts::whole_numbers::{s32_at, s64_at, u32_at};
 use crate::sink::Sink;
-use crate::step::ops::{Indexed, LoadOrStore, Opening};
+use crate::step::ops::{Indexed, LoadOrStore, Opening, push_32, push_64};
+use wm_syntax::instructions::IntType::{I32, I64};
+use wm_syntax::instructions::op_class::{Immediates, OpClass};
+use wm_syntax::instructions::opcodes::op_of;
 use wm_syntax::instructions::{
-    BinaryOp, Comparison, LoadOp, MemArg, Numeric, Op, Simple, StoreOp, UnaryOp,
+    BinaryOp, Comparison, IntType, LoadOp, MemArg, Numeric, Op, Simple, StoreOp, UnaryOp,
 };
+use wm_syntax::profile::Profile;
 use wm_syntax::types::ValType;
-use wm_syntax::types::ValType::{I32, I64};
 use wm_syntax::why::Why;
 
 /// An op that was read whole, the place after it, and how many blocks are open there.
@@ -57,7 +61,6 @@ pub(crate) struct Ran {
 fn alone(bytes: &[u8], at: usize, depth: u32, op: Op) -> Option<Read>
     requires within { at < length bytes.now }
     requires first { first_read (slice_index bytes.now at) ≡ Done op }
-    requires each { NoSign op }
     requires opens { after_op depth op ≡ at_next_op depth }
     ensures { IfSome result (λ r. WholeOp bytes.now at r.next depth r.depth r.op) }
 {
@@ -88,7 +91,6 @@ fn end(bytes: &[u8], at: usize, depth: u32) -> Option<Read>
 fn numeric(bytes: &[u8], at: usize, depth: u32, op: Numeric) -> Option<Read>
     requires within { at < length bytes.now }
     requires first { first_read (slice_index bytes.now at) ≡ Done (Op.Simple (Simple.Numeric op)) }
-    requires each { NoSign (Op.Simple (Simple.Numeric op)) }
     ensures { IfSome result (λ r. WholeOp bytes.now at r.next depth r.depth r.op) }
 {
     alone(bytes, at, depth, Op::Simple(Simple::Numeric(op)))
@@ -175,8 +177,8 @@ fn with_type(bytes: &[u8], at: usize, depth: u32, op: Opening) -> Option<Read>
     }
     let ty = match bytes[at + 1] {
         0x40 => None,
-        0x7F => Some(I32),
-        0x7E => Some(I64),
+        0x7F => Some(ValType::I32),
+        0x7E => Some(ValType::I64),
         _ => return None,
     };
     Some(Read {
@@ -192,7 +194,7 @@ fn with_type(bytes: &[u8], at: usize, depth: u32, op: Opening) -> Option<Read>
 fn compares_32(byte: u8) -> Comparison
     requires from { 0x46 ≤ byte }
     requires to { byte ≤ 0x4F }
-    ensures { first_read byte ≡ Done (Op.Simple (Simple.Numeric (Numeric.Compare ValType.I32 result))) }
+    ensures { first_read byte ≡ Done (Op.Simple (Simple.Numeric (Numeric.Compare IntType.I32 result))) }
 {
     match byte {
         0x46 => Comparison::Eq,
@@ -213,7 +215,7 @@ fn compares_32(byte: u8) -> Comparison
 fn compares_64(byte: u8) -> Comparison
     requires from { 0x51 ≤ byte }
     requires to { byte ≤ 0x5A }
-    ensures { first_read byte ≡ Done (Op.Simple (Simple.Numeric (Numeric.Compare ValType.I64 result))) }
+    ensures { first_read byte ≡ Done (Op.Simple (Simple.Numeric (Numeric.Compare IntType.I64 result))) }
 {
     match byte {
         0x51 => Comparison::Eq,
@@ -234,7 +236,7 @@ fn compares_64(byte: u8) -> Comparison
 fn unary_32(byte: u8) -> UnaryOp
     requires from { 0x67 ≤ byte }
     requires to { byte ≤ 0x69 }
-    ensures { first_read byte ≡ Done (Op.Simple (Simple.Numeric (Numeric.Unary ValType.I32 result))) }
+    ensures { first_read byte ≡ Done (Op.Simple (Simple.Numeric (Numeric.Unary IntType.I32 result))) }
 {
     match byte {
         0x67 => UnaryOp::Clz,
@@ -248,7 +250,7 @@ fn unary_32(byte: u8) -> UnaryOp
 fn unary_64(byte: u8) -> UnaryOp
     requires from { 0x79 ≤ byte }
     requires to { byte ≤ 0x7B }
-    ensures { first_read byte ≡ Done (Op.Simple (Simple.Numeric (Numeric.Unary ValType.I64 result))) }
+    ensures { first_read byte ≡ Done (Op.Simple (Simple.Numeric (Numeric.Unary IntType.I64 result))) }
 {
     match byte {
         0x79 => UnaryOp::Clz,
@@ -262,7 +264,7 @@ fn unary_64(byte: u8) -> UnaryOp
 fn binary_32(byte: u8) -> BinaryOp
     requires from { 0x6A ≤ byte }
     requires to { byte ≤ 0x78 }
-    ensures { first_read byte ≡ Done (Op.Simple (Simple.Numeric (Numeric.Binary ValType.I32 result))) }
+    ensures { first_read byte ≡ Done (Op.Simple (Simple.Numeric (Numeric.Binary IntType.I32 result))) }
 {
     match byte {
         0x6A => BinaryOp::Add,
@@ -288,7 +290,7 @@ fn binary_32(byte: u8) -> BinaryOp
 fn binary_64(byte: u8) -> BinaryOp
     requires from { 0x7C ≤ byte }
     requires to { byte ≤ 0x8A }
-    ensures { first_read byte ≡ Done (Op.Simple (Simple.Numeric (Numeric.Binary ValType.I64 result))) }
+    ensures { first_read byte ≡ Done (Op.Simple (Simple.Numeric (Numeric.Binary IntType.I64 result))) }
 {
     match byte {
         0x7C => BinaryOp::Add,
@@ -347,6 +349,140 @@ fn other_op(bytes: &[u8], at: usize, depth: u32) -> Option<Read>
     }
 }
 
+// What is rarer yet: the ops on floating-point numbers and the sign extensions, where the profile has them.
+
+#[inline(always)]
+#[tactic(auto, using(crate::proofs::OpLists::under_plain))]
+fn plain(profile: Profile, bytes: &[u8], at: usize, depth: u32, op: Simple) -> Option<Read>
+    requires within { at < length bytes.now }
+    requires class { class_under profile (slice_index bytes.now at) ≡ OpClass.Plain (Op.Simple op) }
+    ensures { IfSome result (λ r. OpUnder profile bytes.now at r.next depth r.depth r.op) }
+{
+    prove!(at < bytes.len());
+    let next = at + 1;
+    Some(Read {
+        op: Op::Simple(op),
+        next,
+        depth,
+    })
+}
+
+// A load or a store
+fn access(
+    profile: Profile,
+    bytes: &[u8],
+    at: usize,
+    depth: u32,
+    kind: Immediates,
+    op: LoadOrStore,
+) -> Option<Read>
+    requires within { at + 1 < length bytes.now }
+    requires class { class_under profile (slice_index bytes.now at) ≡ OpClass.With kind }
+    requires kind { immediates kind ≡ fresh_access op }
+    ensures { IfSome result (λ r. OpUnder profile bytes.now at r.next depth r.depth r.op) }
+{
+    let align = u32_at(bytes, at + 1)?;
+    if align.next >= bytes.len() {
+        return None;
+    }
+    let offset = u32_at(bytes, align.next)?;
+    let arg = MemArg {
+        align: align.value,
+        offset: offset.value,
+    };
+    Some(Read {
+        op: op.op(arg),
+        next: offset.next,
+        depth,
+    })
+}
+
+// The constants
+fn float_32(profile: Profile, bytes: &[u8], at: usize, depth: u32) -> Option<Read>
+    requires within { at < length bytes.now }
+    requires class { class_under profile (slice_index bytes.now at) ≡ OpClass.With Immediates.F32Const }
+    ensures { IfSome result (λ r. OpUnder profile bytes.now at r.next depth r.depth r.op) }
+{
+    if bytes.len() - at < 5 {
+        return None;
+    }
+    let one = push_32(0, bytes[at + 1]);
+    let two = push_32(one, bytes[at + 2]);
+    let three = push_32(two, bytes[at + 3]);
+    let bits = push_32(three, bytes[at + 4]);
+    Some(Read {
+        op: Op::Simple(Simple::F32Const(bits)),
+        next: at + 5,
+        depth,
+    })
+}
+
+fn float_64(profile: Profile, bytes: &[u8], at: usize, depth: u32) -> Option<Read>
+    requires within { at < length bytes.now }
+    requires class { class_under profile (slice_index bytes.now at) ≡ OpClass.With Immediates.F64Const }
+    ensures { IfSome result (λ r. OpUnder profile bytes.now at r.next depth r.depth r.op) }
+{
+    if bytes.len() - at < 9 {
+        return None;
+    }
+    let one = push_64(0, bytes[at + 1]);
+    let two = push_64(one, bytes[at + 2]);
+    let three = push_64(two, bytes[at + 3]);
+    let four = push_64(three, bytes[at + 4]);
+    let five = push_64(four, bytes[at + 5]);
+    let six = push_64(five, bytes[at + 6]);
+    let seven = push_64(six, bytes[at + 7]);
+    let bits = push_64(seven, bytes[at + 8]);
+    Some(Read {
+        op: Op::Simple(Simple::F64Const(bits)),
+        next: at + 9,
+        depth,
+    })
+}
+
+fn with_kind(
+    profile: Profile,
+    bytes: &[u8],
+    at: usize,
+    depth: u32,
+    kind: Immediates,
+) -> Option<Read>
+    requires within { at + 1 < length bytes.now }
+    requires class { class_under profile (slice_index bytes.now at) ≡ OpClass.With kind }
+    ensures { IfSome result (λ r. OpUnder profile bytes.now at r.next depth r.depth r.op) }
+{
+    match kind {
+        Immediates::F32Const => float_32(profile, bytes, at, depth),
+        Immediates::F64Const => float_64(profile, bytes, at, depth),
+        Immediates::Load(op) => access(profile, bytes, at, depth, kind, LoadOrStore::Load(op)),
+        Immediates::Store(op) => access(profile, bytes, at, depth, kind, LoadOrStore::Store(op)),
+        _ => None,
+    }
+}
+
+fn float_op(profile: Profile, bytes: &[u8], at: usize, depth: u32) -> Option<Read>
+    requires { at + 1 < length bytes.now }
+    ensures { IfSome result (λ r. OpUnder profile bytes.now at r.next depth r.depth r.op) }
+{
+    match op_of(profile, bytes[at]) {
+        OpClass::Plain(Op::Simple(op)) => plain(profile, bytes, at, depth, op),
+        OpClass::With(kind) => with_kind(profile, bytes, at, depth, kind),
+        _ => None,
+    }
+}
+
+// The ops that are not among the most common ones, or rarer yet.
+#[tactic(auto, using(crate::proofs::OpLists::under_whole))]
+fn rare_op(profile: Profile, bytes: &[u8], at: usize, depth: u32) -> Option<Read>
+    requires { at + 1 < length bytes.now }
+    ensures { IfSome result (λ r. OpUnder profile bytes.now at r.next depth r.depth r.op) }
+{
+    match other_op(bytes, at, depth) {
+        Some(read) => Some(read),
+        None => float_op(profile, bytes, at, depth),
+    }
+}
+
 // Gives an op that lies in what is left of the entry.
 #[inline(always)]
 fn give<S: Sink>(sink: &mut S, room: usize, read: Option<Read>) -> Took
@@ -367,19 +503,33 @@ fn give<S: Sink>(sink: &mut S, room: usize, read: Option<Read>) -> Took
 // The same for an op that is not among the most common ones.
 #[inline(never)]
 #[tactic(auto, using(crate::proofs::OpLists::gave_took))]
-fn take_other<S: Sink>(sink: &mut S, bytes: &[u8], at: usize, depth: u32, room: usize) -> Took
+fn take_other<S: Sink>(
+    sink: &mut S,
+    profile: Profile,
+    bytes: &[u8],
+    at: usize,
+    depth: u32,
+    room: usize,
+) -> Took
     requires { at + 1 < length bytes.now }
-    ensures { TookAs S.after (S.held sink.old) bytes.now at depth room result (S.held sink.new) }
+    ensures { TookAs S.after profile (S.held sink.old) bytes.now at depth room result (S.held sink.new) }
 {
-    give(sink, room, other_op(bytes, at, depth))
+    give(sink, room, rare_op(profile, bytes, at, depth))
 }
 
 // Takes the op at a place, if it is among the most common ones. Each of them has its own code.
 #[inline(always)]
-#[tactic(auto, using(crate::proofs::OpLists::gave_took))]
-fn take_common<S: Sink>(sink: &mut S, bytes: &[u8], at: usize, depth: u32, room: usize) -> Took
+#[tactic(auto, using(crate::proofs::OpLists::gave_whole))]
+fn take_common<S: Sink>(
+    sink: &mut S,
+    profile: Profile,
+    bytes: &[u8],
+    at: usize,
+    depth: u32,
+    room: usize,
+) -> Took
     requires { at + 1 < length bytes.now }
-    ensures { TookAs S.after (S.held sink.old) bytes.now at depth room result (S.held sink.new) }
+    ensures { TookAs S.after profile (S.held sink.old) bytes.now at depth room result (S.held sink.new) }
 {
     let byte = bytes[at];
     match byte {
@@ -451,19 +601,25 @@ fn refused(used: usize, depth: u32, why: Why) -> Ran
 
 /// Takes ops while they lie whole in these bytes and in the next `most` of the entry.
 #[inline(never)]
-pub(crate) fn take_ops<S: Sink>(sink: &mut S, bytes: &[u8], start: u32, most: u32) -> Ran
+pub(crate) fn take_ops<S: Sink>(
+    sink: &mut S,
+    profile: Profile,
+    bytes: &[u8],
+    start: u32,
+    most: u32,
+) -> Ran
     ensures within { result.used ≤ most }
     ensures inside { result.used ≤ length bytes.now }
     ensures one { length bytes.now ≤ 1 → result.used ≡ 0 }
-    ensures ran { RanTo S.after (S.held sink.old) bytes.now most start result.used result.depth result.refused
-        (S.held sink.new) }
+    ensures ran { RanTo S.after profile (S.held sink.old) bytes.now most start result.used result.depth
+        result.refused (S.held sink.new) }
 {
     let room = most as usize;
     let mut used = 0;
     let mut depth = start;
     let end = room.min(bytes.len().saturating_sub(1));
     while used < end {
-        match take_common(sink, bytes, used, depth, room) {
+        match take_common(sink, profile, bytes, used, depth, room) {
             Took::Next(next, inside) => {
                 used = next;
                 depth = inside;
@@ -473,7 +629,7 @@ pub(crate) fn take_ops<S: Sink>(sink: &mut S, bytes: &[u8], start: u32, most: u3
             Took::Refused(why, next) => return refused(next, depth, why),
         }
         // called here, so that no answer of the common ops lies in memory
-        match take_other(sink, bytes, used, depth, room) {
+        match take_other(sink, profile, bytes, used, depth, room) {
             Took::Next(next, inside) => {
                 used = next;
                 depth = inside;

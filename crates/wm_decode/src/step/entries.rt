@@ -43,10 +43,10 @@ fn run_count(mut number: Num32, byte: u8) -> (InEntry, Event)
     }
 }
 
-fn run(more: u32, at: InRun, byte: u8) -> (InEntry, Event)
-    ensures { result ≡ run_step more at byte }
+fn run(profile: Profile, more: u32, at: InRun, byte: u8) -> (InEntry, Event)
+    ensures { result ≡ run_step profile more at byte }
 {
-    match run_byte(at, byte) {
+    match run_byte(profile, at, byte) {
         More(at) => (InEntry::Run { more, at }, Event::Nothing),
         Done((count, ty)) => (
             runs_or_body(more),
@@ -82,7 +82,7 @@ fn entry_byte(profile: Profile, at: InEntry, byte: u8) -> (InEntry, Event)
 {
     match at {
         InEntry::RunCount(number) => run_count(number, byte),
-        InEntry::Run { more, at } => run(more, at, byte),
+        InEntry::Run { more, at } => run(profile, more, at, byte),
         InEntry::Body(at) => body(profile, at, byte),
         InEntry::Over | InEntry::Failed(_) => no_entry(Why::BodyEnd),
     }

@@ -105,10 +105,10 @@ fn name_byte(of: NameKind, more: u32) -> (InMember, Event)
 
 // values and indices
 
-fn value(at: InValue, byte: u8) -> (InMember, Event)
-    ensures { result ≡ value_step at byte }
+fn value(profile: Profile, at: InValue, byte: u8) -> (InMember, Event)
+    ensures { result ≡ value_step profile at byte }
 {
-    match value_byte(at, byte) {
+    match value_byte(profile, at, byte) {
         More(at) => (InMember::Value(at), Event::Nothing),
         Done(part) => (InMember::Over, Event::Complete(part)),
         Bad(why) => failed(why),
@@ -168,10 +168,10 @@ fn index(of: IndexOf, mut number: Num32, byte: u8) -> (InMember, Event)
     }
 }
 
-fn global_type(at: InGlobalType, byte: u8) -> (InMember, Event)
-    ensures { result ≡ global_type_step at byte }
+fn global_type(profile: Profile, at: InGlobalType, byte: u8) -> (InMember, Event)
+    ensures { result ≡ global_type_step profile at byte }
 {
-    match global_type_byte(at, byte) {
+    match global_type_byte(profile, at, byte) {
         More(at) => (InMember::GlobalType(at), Event::Nothing),
         Done(ty) => {
             let of = ConstantOf::Global;
@@ -256,14 +256,14 @@ pub(crate) fn member_byte(profile: Profile, at: InMember, byte: u8) -> (InMember
     match at {
         InMember::TypeForm => type_form(byte),
         InMember::ParamCount(number) => param_count(number, byte),
-        InMember::Param { more } => param(more, byte),
+        InMember::Param { more } => param(profile, more, byte),
         InMember::ResultCount(number) => result_count(number, byte),
-        InMember::ResultType { more } => result_type(more, byte),
+        InMember::ResultType { more } => result_type(profile, more, byte),
         InMember::NameLength { of, number } => name_length(of, number, byte),
         InMember::Name { of, more } => name_byte(of, more),
-        InMember::Value(at) => value(at, byte),
+        InMember::Value(at) => value(profile, at, byte),
         InMember::Index { of, number } => index(of, number, byte),
-        InMember::GlobalType(at) => global_type(at, byte),
+        InMember::GlobalType(at) => global_type(profile, at, byte),
         InMember::Constant { of, at } => constant(profile, of, at, byte),
         InMember::Length { of, number } => length(of, number, byte),
         InMember::Data { more } => (data_or_over(more), Event::DataByte),

@@ -4,10 +4,12 @@ ghost use Rattle.std.specs.Prelude.{◌≡◌};
 ghost use Rattle.wm_syntax.specs.exact.ByteTable.{class_under};
 ghost use Rattle.wm_decode.specs.exact.OpSteps.{access_op, align_step, block_op, block_step, call_type_step};
 ghost use Rattle.wm_decode.specs.exact.OpSteps.{closing_step, const_32_step, const_64_step, first_step};
+ghost use Rattle.wm_decode.specs.exact.OpSteps.{float_32_step, float_64_step, pushed_32, pushed_64};
 ghost use Rattle.wm_decode.specs.exact.OpSteps.{fresh_access, fresh_index, immediates, index_op};
 ghost use Rattle.wm_decode.specs.exact.OpSteps.{op_index_step, memory_op, offset_step, op_push};
 
 use crate::step::reading::Reading;
+use crate::step::values::value_type;
 use wm_syntax::instructions::op_class::{Immediates, OpClass};
 use wm_syntax::instructions::opcodes::op_of;
 use wm_syntax::instructions::{LoadOp, MemArg, Op, Simple, StoreOp};
@@ -128,6 +130,15 @@ pub(crate) enum InOp {
     Memory(Sizing),
     Const32(Int32),
     Const64(Int64),
+    /// In the bytes of a float, with so many after the next. Those so far are the highest of its bits.
+    Float32 {
+        left: u8,
+        bits: u32,
+    },
+    Float64 {
+        left: u8,
+        bits: u64,
+    },
     Align {
         op: LoadOrStore,
         number: Num32,
@@ -175,6 +186,8 @@ fn immediates(kind: Immediates) -> InOp
         Immediates::MemoryGrow => InOp::Memory(Sizing::Grow),
         Immediates::I32Const => InOp::Const32(Int32::new()),
         Immediates::I64Const => InOp::Const64(Int64::new()),
+        Immediates::F32Const => InOp::Float32 { left: 3, bits: 0 },
+        Immediates::F64Const => InOp::Float64 { left: 7, bits: 0 },
         Immediates::Load(op) => before_access(LoadOrStore::Load(op)),
         Immediates::Store(op) => before_access(LoadOrStore::Store(op)),
     }
@@ -191,15 +204,15 @@ fn first(profile: Profile, byte: u8) -> Reading<InOp, Op>
     }
 }
 
-fn block_type(op: Opening, byte: u8) -> Reading<InOp, Op>
-    ensures { result ≡ block_step op byte }
+fn block_type(profile: Profile, op: Opening, byte: u8) -> Reading<InOp, Op>
+    ensures { result ≡ block_step profile op byte }
 {
-    match byte {
-        0x40 => Reading::Done(op.op(None)),
-        0x7F => Reading::Done(op.op(Some(ValType::I32))),
-        0x7E => Reading::Done(op.op(Some(ValType::I64))),
-        0x7D | 0x7C => Reading::Bad(Why::Float),
-        _ => Reading::Bad(Why::BadByte),
+    if byte == 0x40 {
+        return Reading::Done(op.op(None));
+    }
+    match value_type(profile, byte) {
+        Ok(ty) => Reading::Done(op.op(Some(ty))),
+        Err(why) => Reading::Bad(why),
     }
 }
 
@@ -253,6 +266,46 @@ fn const_64(mut number: Int64, byte: u8) -> Reading<InOp, Op>
     }
 }
 
+/// The bits of a float so far after one more byte, which takes the highest place: each byte moves those
+/// before it down by one.
+#[inline(always)]
+pub(crate) fn push_32(bits: u32, byte: u8) -> u32
+    ensures { result ≡ pushed_32 bits byte }
+{
+    bits / 0x100 + u32::from(byte) * 0x100_0000
+}
+
+#[inline(always)]
+pub(crate) fn push_64(bits: u64, byte: u8) -> u64
+    ensures { result ≡ pushed_64 bits byte }
+{
+    bits / 0x100 + u64::from(byte) * 0x100_0000_0000_0000
+}
+
+fn float_32(left: u8, bits: u32, byte: u8) -> Reading<InOp, Op>
+    ensures { result ≡ float_32_step left bits byte }
+{
+    let bits = push_32(bits, byte);
+    if left == 0 {
+        Reading::Done(Op::Simple(Simple::F32Const(bits)))
+    } else {
+        let left = left - 1;
+        Reading::More(InOp::Float32 { left, bits })
+    }
+}
+
+fn float_64(left: u8, bits: u64, byte: u8) -> Reading<InOp, Op>
+    ensures { result ≡ float_64_step left bits byte }
+{
+    let bits = push_64(bits, byte);
+    if left == 0 {
+        Reading::Done(Op::Simple(Simple::F64Const(bits)))
+    } else {
+        let left = left - 1;
+        Reading::More(InOp::Float64 { left, bits })
+    }
+}
+
 fn align(op: LoadOrStore, mut number: Num32, byte: u8) -> Reading<InOp, Op>
     ensures { result ≡ align_step op number byte }
 {
@@ -284,13 +337,15 @@ impl InOp {
     {
         match self {
             InOp::First => first(profile, byte),
-            InOp::BlockType(op) => block_type(op, byte),
+            InOp::BlockType(op) => block_type(profile, op, byte),
             InOp::Index { op, number } => index(op, number, byte),
             InOp::CallType(number) => call_type(number, byte),
             InOp::CallTable { ty } => closing(Op::Simple(Simple::CallIndirect(ty)), byte),
             InOp::Memory(op) => closing(op.op(), byte),
             InOp::Const32(number) => const_32(number, byte),
             InOp::Const64(number) => const_64(number, byte),
+            InOp::Float32 { left, bits } => float_32(left, bits, byte),
+            InOp::Float64 { left, bits } => float_64(left, bits, byte),
             InOp::Align { op, number } => align(op, number, byte),
             InOp::Offset { op, align, number } => offset(op, align, number, byte),
         }

@@ -8,6 +8,7 @@ use crate::machine::member::InMember;
 use crate::machine::{Event, Plain};
 use crate::step::values::value_type;
 use wm_syntax::numbers::{Num32, Step};
+use wm_syntax::profile::Profile;
 use wm_syntax::why::Why;
 
 pub(crate) fn type_form(byte: u8) -> (InMember, Event)
@@ -44,10 +45,10 @@ pub(crate) fn param_count(mut number: Num32, byte: u8) -> (InMember, Event)
     }
 }
 
-pub(crate) fn param(more: u32, byte: u8) -> (InMember, Event)
-    ensures { result ≡ param_step more byte }
+pub(crate) fn param(profile: Profile, more: u32, byte: u8) -> (InMember, Event)
+    ensures { result ≡ param_step profile more byte }
 {
-    match value_type(byte) {
+    match value_type(profile, byte) {
         Ok(ty) => (after_param(more), Event::Complete(Plain::Param(ty))),
         Err(why) => (InMember::Failed(why), Event::Nothing),
     }
@@ -73,10 +74,10 @@ pub(crate) fn result_count(mut number: Num32, byte: u8) -> (InMember, Event)
     }
 }
 
-pub(crate) fn result_type(more: u32, byte: u8) -> (InMember, Event)
-    ensures { result ≡ result_step more byte }
+pub(crate) fn result_type(profile: Profile, more: u32, byte: u8) -> (InMember, Event)
+    ensures { result ≡ result_step profile more byte }
 {
-    match value_type(byte) {
+    match value_type(profile, byte) {
         Ok(ty) => (after_result(more), Event::Complete(Plain::OneResult(ty))),
         Err(why) => (InMember::Failed(why), Event::Nothing),
     }

@@ -6,12 +6,13 @@ ghost use Rattle.wm_decode.specs.exact.ValueSteps.{limits_push, min_step, max_st
 ghost use Rattle.wm_decode.specs.exact.ValueSteps.{global_type_push, desc_push, func_step, target_push};
 ghost use Rattle.wm_decode.specs.exact.ValueSteps.{target_step, run_push, run_count_step, value_push};
 ghost use Rattle.wm_decode.specs.exact.ValueSteps.{in_table, in_memory, in_global, of_import, of_table};
-ghost use Rattle.wm_decode.specs.exact.ValueSteps.{of_memory, of_export, value_type_of};
+ghost use Rattle.wm_decode.specs.exact.ValueSteps.{of_memory, of_export, type_under, value_type_of};
 
 use crate::machine::Plain;
 use crate::step::reading::Reading::{self, Bad, Done, More};
 use wm_syntax::modules::{ExportKind, ImportDesc};
 use wm_syntax::numbers::{Num32, Step};
+use wm_syntax::profile::Profile;
 use wm_syntax::types::{GlobalType, Limits, ValType};
 use wm_syntax::why::Why;
 
@@ -90,14 +91,27 @@ fn table_type_byte(at: InTableType, byte: u8) -> Reading<InTableType, Limits>
     }
 }
 
-/// The value type of this byte (section 5.3.1), or why it is none.
-pub(crate) fn value_type(byte: u8) -> Result<ValType, Why>
-    ensures { result ≡ value_type_of byte }
+// A value type, where the profile has it
+#[inline(always)]
+fn of_profile(profile: Profile, ty: ValType) -> Result<ValType, Why>
+    ensures { result ≡ type_under profile ty }
+{
+    if profile.has(ty.feature()) {
+        Ok(ty)
+    } else {
+        Err(Why::Float)
+    }
+}
+
+/// The value type of this byte (section 5.3.1) under the profile, or why it is none.
+pub(crate) fn value_type(profile: Profile, byte: u8) -> Result<ValType, Why>
+    ensures { result ≡ value_type_of profile byte }
 {
     match byte {
-        0x7F => Ok(ValType::I32),
-        0x7E => Ok(ValType::I64),
-        0x7D | 0x7C => Err(Why::Float),
+        0x7F => of_profile(profile, ValType::I32),
+        0x7E => of_profile(profile, ValType::I64),
+        0x7D => of_profile(profile, ValType::F32),
+        0x7C => of_profile(profile, ValType::F64),
         _ => Err(Why::BadByte),
     }
 }
@@ -109,11 +123,15 @@ pub(crate) enum InGlobalType {
     Var(ValType),
 }
 
-pub(crate) fn global_type_byte(at: InGlobalType, byte: u8) -> Reading<InGlobalType, GlobalType>
-    ensures { result ≡ global_type_push at byte }
+pub(crate) fn global_type_byte(
+    profile: Profile,
+    at: InGlobalType,
+    byte: u8,
+) -> Reading<InGlobalType, GlobalType>
+    ensures { result ≡ global_type_push profile at byte }
 {
     match at {
-        InGlobalType::Type => match value_type(byte) {
+        InGlobalType::Type => match value_type(profile, byte) {
             Ok(ty) => More(InGlobalType::Var(ty)),
             Err(why) => Bad(why),
         },
@@ -175,8 +193,8 @@ fn global_desc(reading: Reading<InGlobalType, GlobalType>) -> Reading<InImportDe
     }
 }
 
-fn desc_byte(at: InImportDesc, byte: u8) -> Reading<InImportDesc, ImportDesc>
-    ensures { result ≡ desc_push at byte }
+fn desc_byte(profile: Profile, at: InImportDesc, byte: u8) -> Reading<InImportDesc, ImportDesc>
+    ensures { result ≡ desc_push profile at byte }
 {
     match at {
         InImportDesc::Kind => match byte {
@@ -189,7 +207,7 @@ fn desc_byte(at: InImportDesc, byte: u8) -> Reading<InImportDesc, ImportDesc>
         InImportDesc::Func(number) => func_byte(number, byte),
         InImportDesc::Table(at) => table_desc(table_type_byte(at, byte)),
         InImportDesc::Memory(at) => memory_desc(limits_byte(at, byte)),
-        InImportDesc::Global(at) => global_desc(global_type_byte(at, byte)),
+        InImportDesc::Global(at) => global_desc(global_type_byte(profile, at, byte)),
     }
 }
 
@@ -250,12 +268,12 @@ fn run_count(mut number: Num32, byte: u8) -> Reading<InRun, (u32, ValType)>
     }
 }
 
-pub(crate) fn run_byte(at: InRun, byte: u8) -> Reading<InRun, (u32, ValType)>
-    ensures { result ≡ run_push at byte }
+pub(crate) fn run_byte(profile: Profile, at: InRun, byte: u8) -> Reading<InRun, (u32, ValType)>
+    ensures { result ≡ run_push profile at byte }
 {
     match at {
         InRun::Count(number) => run_count(number, byte),
-        InRun::Type { count } => match value_type(byte) {
+        InRun::Type { count } => match value_type(profile, byte) {
             Ok(ty) => Done((count, ty)),
             Err(why) => Bad(why),
         },
@@ -311,11 +329,11 @@ fn export_part(reading: Reading<InExportDesc, (ExportKind, u32)>) -> Reading<InV
     }
 }
 
-pub(crate) fn value_byte(at: InValue, byte: u8) -> Reading<InValue, Plain>
-    ensures { result ≡ value_push at byte }
+pub(crate) fn value_byte(profile: Profile, at: InValue, byte: u8) -> Reading<InValue, Plain>
+    ensures { result ≡ value_push profile at byte }
 {
     match at {
-        InValue::Import(at) => import_part(desc_byte(at, byte)),
+        InValue::Import(at) => import_part(desc_byte(profile, at, byte)),
         InValue::Table(at) => table_part(table_type_byte(at, byte)),
         InValue::Memory(at) => memory_part(limits_byte(at, byte)),
         InValue::Export(at) => export_part(target_byte(at, byte)),

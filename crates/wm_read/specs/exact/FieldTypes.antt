@@ -3,6 +3,7 @@ use Rattle.std.specs.Prelude.{ℕ, ◌||◌, ◌∷◌, true, false, Option, Som
 use Rattle.wm_syntax.specs.declared.types.GlobalType.{GlobalType}
 use Rattle.wm_syntax.specs.declared.types.Limits.{Limits}
 use Rattle.wm_syntax.specs.declared.types.ValType.{ValType}
+use Rattle.wm_syntax.specs.declared.profile.Profile.{Profile}
 use Rattle.wm_read.specs.Tokens.{open_paren, atom}
 use Rattle.wm_read.specs.exact.Reading.{Reader, ◌>>=◌, made, atom_at, is_id, is_word, paren_at, then_at}
 use Rattle.wm_read.specs.exact.Reading.{type_of, unsigned_of, word_of}
@@ -28,6 +29,7 @@ const_type t = record { ty = t; var = false }
 abbrev pub var_type : ValType → GlobalType
 var_type t = record { ty = t; var = true }
 
-abbrev pub global_type_at : Reader GlobalType
-global_type_at (open_paren ∷ k) = made var_type (paren_at (codes "mut") (atom_at type_of) (open_paren ∷ k))
-global_type_at k = made const_type (atom_at type_of k)
+abbrev pub global_type_at : Profile → Reader GlobalType
+global_type_at p (open_paren ∷ k) =
+    made var_type (paren_at (codes "mut") (atom_at (type_of p)) (open_paren ∷ k))
+global_type_at p k = made const_type (atom_at (type_of p) k)

@@ -4,6 +4,8 @@ use Rattle.std.specs.Prelude.{if◌then◌else◌, codes, flat_map, is_none, len
 use Rattle.std.specs.Str.{is_utf8}
 use Rattle.wm_syntax.specs.declared.types.Const.{Const}
 use Rattle.wm_syntax.specs.declared.types.Const.TheVariants as const
+use Rattle.wm_syntax.specs.declared.instructions.FloatType.TheVariants as float
+use Rattle.wm_floats.specs.exact.Atoms.{float_of}
 use Rattle.wm_syntax.specs.declared.modules.ImportDesc.{ImportDesc}
 use Rattle.wm_syntax.specs.declared.modules.ImportDesc.TheVariants as desc
 use Rattle.wm_syntax.specs.declared.modules.ExportKind.{ExportKind}
@@ -86,6 +88,8 @@ bytes_at k = made (λ parts. flat_map (λ part. part) parts) (strings_at k)
 abbrev pub const_kind : Names → Immediates → Reader Const
 const_kind names k.I32Const t = made const.I32 (atom_at (integer_of 32) t)
 const_kind names k.I64Const t = made const.I64 (atom_at (integer_of 64) t)
+const_kind names k.F32Const t = made const.F32 (atom_at (float_of float.F32) t)
+const_kind names k.F64Const t = made const.F64 (atom_at (float_of float.F64) t)
 const_kind names k.GlobalGet t = made const.Global (atom_at (index_of names.globals) t)
 const_kind names _ t = None
 
@@ -102,14 +106,14 @@ offset_at p names = paren_at (codes "offset") (const_at p names)
 
 -- ---- what is imported, and what is exported
 
-abbrev pub desc_kind : Names → ExportKind → Reader ImportDesc
-desc_kind names kind.Func t = made (λ u. desc.Func u.0) (named_use_at names t)
-desc_kind names kind.Table t = made desc.Table (table_type_at t)
-desc_kind names kind.Memory t = made desc.Memory (limits_at t)
-desc_kind names kind.Global t = made desc.Global (global_type_at t)
+abbrev pub desc_kind : Profile → Names → ExportKind → Reader ImportDesc
+desc_kind p names kind.Func t = made (λ u. desc.Func u.0) (named_use_at p names t)
+desc_kind p names kind.Table t = made desc.Table (table_type_at t)
+desc_kind p names kind.Memory t = made desc.Memory (limits_at t)
+desc_kind p names kind.Global t = made desc.Global (global_type_at p t)
 
-abbrev pub desc_at : Names → Reader (Id × ImportDesc)
-desc_at names = headed_at item_named (λ kind. then_at id_at (desc_kind names kind))
+abbrev pub desc_at : Profile → Names → Reader (Id × ImportDesc)
+desc_at p names = headed_at item_named (λ kind. then_at id_at (desc_kind p names kind))
 
 abbrev pub space_of : Names → ExportKind → Ids
 space_of names kind.Func = names.functions
@@ -149,25 +153,25 @@ function_by p names x params locals t =
 
 unfoldable pub function_at : Profile → Names → Reader Function
 function_at p names t =
-    then_at (named_use_at names) (named_at (codes "local")) t
+    then_at (named_use_at p names) (named_at p (codes "local")) t
     >>= λ h. function_by p names h.0.0.0 h.0.0.1 h.0.1 h.1
 
 -- ---- fields
 
-abbrev pub import_at : Names → Reader Field
-import_at names t =
+abbrev pub import_at : Profile → Names → Reader Field
+import_at p names t =
     made (λ x. import_field x.1.1.0 (record {
       module_name = x.0;
       item_name = x.1.0;
       desc = x.1.1.1;
-    })) (then_at name_at (then_at name_at (desc_at names)) t)
+    })) (then_at name_at (then_at name_at (desc_at p names)) t)
 
 abbrev pub global_at : Profile → Names → Reader Field
 global_at p names t =
     made (λ x. global_field x.0 (record {
       ty = x.1.0;
       init = x.1.1;
-    })) (then_at id_at (then_at global_type_at (const_at p names)) t)
+    })) (then_at id_at (then_at (global_type_at p) (const_at p names)) t)
 
 abbrev pub export_at : Names → Reader Field
 export_at names t =
@@ -189,8 +193,8 @@ segment_at p names t =
 
 -- what stands between a field's word and its closing parenthesis
 abbrev pub inside_at : Profile → Names → FieldKind → Reader Field
-inside_at p names field.Type t = made (λ x. type_field x.0 x.1) (then_at id_at signature_at t)
-inside_at p names field.Import t = import_at names t
+inside_at p names field.Type t = made (λ x. type_field x.0 x.1) (then_at id_at (signature_at p) t)
+inside_at p names field.Import t = import_at p names t
 inside_at p names field.Func t = made (λ x. function_field x.0 x.1) (then_at id_at (function_at p names) t)
 inside_at p names field.Table t = made (λ x. table_field x.0 x.1) (then_at id_at table_type_at t)
 inside_at p names field.Memory t = made (λ x. memory_field x.0 x.1) (then_at id_at limits_at t)

@@ -4,6 +4,7 @@ use Rattle.std.specs.Prelude.{ℕ, zero, suc, List, [], ◌∷◌, ◌++◌, Boo
 use Rattle.std.specs.Prelude.{if◌then◌else◌, length}
 use Rattle.wm_syntax.specs.declared.modules.ExportKind.{ExportKind}
 use Rattle.wm_syntax.specs.declared.modules.ExportKind.TheVariants as kind
+use Rattle.wm_syntax.specs.declared.profile.Profile.{Profile}
 use Rattle.wm_syntax.specs.Types.{Signature}
 use Rattle.wm_read.specs.Tokens.{Token, open_paren, close_paren, string, atom}
 use Rattle.wm_read.specs.Identifiers.{Id, Ids}
@@ -59,9 +60,9 @@ skip (suc n) (string b ∷ k) = skip (suc n) k
 
 -- ---- the heads of fields, from behind their words; all tokens of the field are read or skipped
 
-abbrev pub type_head_at : Noted → Reader Noted
-type_head_at s k =
-    free_id_at s.names.types k >>= λ i. signature_at i.1 >>= λ f. close_at f.1 >>= λ c. Some (
+abbrev pub type_head_at : Profile → Noted → Reader Noted
+type_head_at p s k =
+    free_id_at s.names.types k >>= λ i. signature_at p i.1 >>= λ f. close_at f.1 >>= λ c. Some (
       record s {
         names = with_type s.names i.0 f.0;
       },
@@ -94,34 +95,34 @@ start_head_at s k = skip 1 k >>= λ r. Some (record s { started = true }, r)
 abbrev pub other_head_at : Noted → Reader Noted
 other_head_at s k = skip 1 k >>= λ r. Some (s, r)
 
-unfoldable pub head_by : FieldKind → Noted → Reader Noted
-head_by field.Type s k = type_head_at s k
-head_by field.Import s k = if s.defined then None else import_head_at s k
-head_by field.Func s k = item_head_at kind.Func s k
-head_by field.Table s k = item_head_at kind.Table s k
-head_by field.Memory s k = item_head_at kind.Memory s k
-head_by field.Global s k = item_head_at kind.Global s k
-head_by field.Start s k = if s.started then None else start_head_at s k
-head_by field.Export s k = other_head_at s k
-head_by field.Elem s k = other_head_at s k
-head_by field.Data s k = other_head_at s k
+unfoldable pub head_by : Profile → FieldKind → Noted → Reader Noted
+head_by p field.Type s k = type_head_at p s k
+head_by p field.Import s k = if s.defined then None else import_head_at s k
+head_by p field.Func s k = item_head_at kind.Func s k
+head_by p field.Table s k = item_head_at kind.Table s k
+head_by p field.Memory s k = item_head_at kind.Memory s k
+head_by p field.Global s k = item_head_at kind.Global s k
+head_by p field.Start s k = if s.started then None else start_head_at s k
+head_by p field.Export s k = other_head_at s k
+head_by p field.Elem s k = other_head_at s k
+head_by p field.Data s k = other_head_at s k
 
-unfoldable pub head_at : Noted → Reader Noted
-head_at s k = open_at k >>= λ o. atom_at field_named o.1 >>= λ w. head_by w.0 s w.1
+unfoldable pub head_at : Profile → Noted → Reader Noted
+head_at p s k = open_at k >>= λ o. atom_at field_named o.1 >>= λ w. head_by p w.0 s w.1
 
 -- ---- all heads
 
 -- as many as begin with a parenthesis
-abbrev pub heads_within : ℕ → Noted → Reader Noted
-heads_within zero s k = None
-heads_within (suc n) s k = if begins_open k then (head_at s k >>= λ x. heads_within n x.0 x.1)
+abbrev pub heads_within : Profile → ℕ → Noted → Reader Noted
+heads_within p zero s k = None
+heads_within p (suc n) s k = if begins_open k then (head_at p s k >>= λ x. heads_within p n x.0 x.1)
     else Some (s, k)
 
-unfoldable pub heads_at : Noted → Reader Noted
-heads_at s k = heads_within (suc (length k)) s k
+unfoldable pub heads_at : Profile → Noted → Reader Noted
+heads_at p s k = heads_within p (suc (length k)) s k
 
 abbrev pub names_in : Option (Noted × List Token) → Option (Names × List Token)
 names_in o = made (λ s. s.names) o
 
-abbrev pub names_at : Reader Names
-names_at k = names_in (heads_at nothing k)
+abbrev pub names_at : Profile → Reader Names
+names_at p k = names_in (heads_at p nothing k)

@@ -2,6 +2,7 @@
 -- answers of the code's readers.
 use Rattle.std.specs.Prelude.{ℕ, ◌&&◌, List, Bool, Option, Some, None, if◌then◌else◌, codes, slice_get}
 use Rattle.wm_syntax.specs.declared.types.ValType.{ValType}
+use Rattle.wm_syntax.specs.declared.profile.Profile.{Profile}
 use Rattle.wm_syntax.specs.Types.{Signature}
 use Rattle.wm_read.specs.Written.{Named, Names, types_of}
 use Rattle.wm_read.specs.exact.Reading.{Reader, ◌>>=◌, made, atom_at, index_of, then_at, paren_at}
@@ -19,13 +20,14 @@ used_of f ps rs = if fits f (types_of ps) rs then Some (if none_written ps rs th
 abbrev pub used_at : Names → ℕ → List Named → List ValType → Option (ℕ × List Named)
 used_at names x ps rs = slice_get names.signatures x >>= λ f. used_of f ps rs >>= λ qs. Some (x, qs)
 
-unfoldable pub results_at : Reader (List ValType)
-results_at k = made joined (groups_at (codes "result") k)
+unfoldable pub results_at : Profile → Reader (List ValType)
+results_at p k = made joined (groups_at p (codes "result") k)
 
-abbrev pub use_parts : Names → Reader (ℕ × (List Named × List ValType))
-use_parts names =
+abbrev pub use_parts : Profile → Names → Reader (ℕ × (List Named × List ValType))
+use_parts p names =
     then_at (paren_at (codes "type") (atom_at (index_of names.types)))
-    (then_at (named_at (codes "param")) results_at)
+    (then_at (named_at p (codes "param")) (results_at p))
 
-unfoldable pub named_use_at : Names → Reader (ℕ × List Named)
-named_use_at names k = use_parts names k >>= λ r. used_at names r.0.0 r.0.1.0 r.0.1.1 >>= λ y. Some (y, r.1)
+unfoldable pub named_use_at : Profile → Names → Reader (ℕ × List Named)
+named_use_at p names k =
+    use_parts p names k >>= λ r. used_at names r.0.0 r.0.1.0 r.0.1.1 >>= λ y. Some (y, r.1)

@@ -3,7 +3,9 @@ use Rattle.std.specs.Prelude.{ℕ, zero, suc, ◌-◌, ◌^◌, ◌==◌, ◌&&�
 use Rattle.std.specs.Prelude.{Option, Some, None, if◌then◌else◌, length, codes, nat_lt, nat_le, ℤ, pos, neg_ℤ}
 use Rattle.std.specs.Prelude.{◌-ℤ◌}
 use Rattle.wm_syntax.specs.declared.types.ValType.{ValType}
-use Rattle.wm_syntax.specs.declared.types.ValType.TheVariants.{I32, I64}
+use Rattle.wm_syntax.specs.declared.types.ValType.TheVariants.{I32, I64, F32, F64}
+use Rattle.wm_floats.specs.exact.Atoms.{float_of}
+use Rattle.wm_syntax.specs.declared.instructions.FloatType.TheVariants as float
 use Rattle.wm_syntax.specs.declared.instructions.MemArg.{MemArg}
 use Rattle.wm_syntax.specs.declared.instructions.Simple.{Simple}
 use Rattle.wm_syntax.specs.declared.instructions.Simple.TheVariants as s
@@ -16,6 +18,7 @@ use Rattle.wm_syntax.specs.declared.instructions.op_class.OpClass.TheVariants as
 use Rattle.wm_syntax.specs.declared.profile.Profile.{Profile}
 use Rattle.wm_syntax.specs.exact.NameTable.{class_named}
 use Rattle.wm_syntax.specs.Opcodes.{load, store}
+use Rattle.wm_syntax.specs.Profiles.{has, type_feature}
 use Rattle.wm_read.specs.Tokens.{Token, open_paren, close_paren, atom, is_lower}
 use Rattle.wm_read.specs.exact.Scan.{magnitude_of, is_nil}
 use Rattle.wm_read.specs.declared.code.blocks.Opening.{Opening}
@@ -77,9 +80,15 @@ integer_by half whole (c ∷ a) = if c == 43 then plus_of half a else if c == 45
 unfoldable pub integer_of : ℕ → List ℕ → Option ℤ
 integer_of bits a = integer_by (2 ^ (bits - 1)) (2 ^ bits) a
 
-abbrev pub type_of : List ℕ → Option ValType
-type_of a = if same_bytes a (type_text I32) then Some I32 else if same_bytes a (type_text I64) then Some I64
+abbrev pub type_named : List ℕ → Option ValType
+type_named a =
+    if same_bytes a (type_text I32) then Some I32 else if same_bytes a (type_text I64) then Some I64
+    else if same_bytes a (type_text F32) then Some F32 else if same_bytes a (type_text F64) then Some F64
     else None
+
+-- the same, if the profile has it
+abbrev pub type_of : Profile → List ℕ → Option ValType
+type_of p a = type_named a >>= λ t. if has p (type_feature t) then Some t else None
 
 abbrev pub is_id : List ℕ → Bool
 is_id [] = false
@@ -157,9 +166,10 @@ abbrev pub access_at : ℕ → Reader MemArg
 access_at width k = made memarg (then_at (key_at (codes "offset=") 0) (align_at width) k)
 
 -- a block's type
-abbrev pub block_type_at : Reader (Option ValType)
-block_type_at (open_paren ∷ k) = made Some (paren_at (codes "result") (atom_at type_of) (open_paren ∷ k))
-block_type_at k = Some (None, k)
+abbrev pub block_type_at : Profile → Reader (Option ValType)
+block_type_at p (open_paren ∷ k) =
+    made Some (paren_at (codes "result") (atom_at (type_of p)) (open_paren ∷ k))
+block_type_at p k = Some (None, k)
 
 -- a block's identifier once more, or not
 abbrev pub is_same_id : Id → List ℕ → Bool
@@ -208,44 +218,46 @@ closes_at (b ∷ bs) k = made (λ x. closes) (again_at b.id k)
 abbrev pub simple_at : {X : Type 0} → (X → Simple) → Reader X → Reader Piece
 simple_at f r k = made (λ x. plain (f x)) (r k)
 
-abbrev pub opens_at : Opening → Reader Piece
-opens_at o k = made (λ x. opens o x.0 x.1) (then_at id_at block_type_at k)
+abbrev pub opens_at : Profile → Opening → Reader Piece
+opens_at p o k = made (λ x. opens o x.0 x.1) (then_at id_at (block_type_at p) k)
 
 -- how a type use is read, by the layer of types
 module _ (use_at : Reader ℕ) where
-  abbrev pub kind_at : Scope → Opened → Immediates → Reader Piece
-  kind_at sc bs k.Block = opens_at Block
-  kind_at sc bs k.Loop = opens_at Loop
-  kind_at sc bs k.If = opens_at If
-  kind_at sc bs k.Br = simple_at s.Br (atom_at (index_of (labels bs)))
-  kind_at sc bs k.BrIf = simple_at s.BrIf (atom_at (index_of (labels bs)))
-  kind_at sc bs k.BrTable = table_at (labels bs)
-  kind_at sc bs k.Call = simple_at s.Call (atom_at (index_of sc.names.functions))
-  kind_at sc bs k.CallIndirect = simple_at s.CallIndirect use_at
-  kind_at sc bs k.LocalGet = simple_at s.LocalGet (atom_at (index_of sc.locals))
-  kind_at sc bs k.LocalSet = simple_at s.LocalSet (atom_at (index_of sc.locals))
-  kind_at sc bs k.LocalTee = simple_at s.LocalTee (atom_at (index_of sc.locals))
-  kind_at sc bs k.GlobalGet = simple_at s.GlobalGet (atom_at (index_of sc.names.globals))
-  kind_at sc bs k.GlobalSet = simple_at s.GlobalSet (atom_at (index_of sc.names.globals))
-  kind_at sc bs k.MemorySize = λ k. Some (plain s.MemorySize, k)
-  kind_at sc bs k.MemoryGrow = λ k. Some (plain s.MemoryGrow, k)
-  kind_at sc bs k.I32Const = simple_at s.I32Const (atom_at (integer_of 32))
-  kind_at sc bs k.I64Const = simple_at s.I64Const (atom_at (integer_of 64))
-  kind_at sc bs (k.Load o) = simple_at (s.Load o) (access_at (load o).width)
-  kind_at sc bs (k.Store o) = simple_at (s.Store o) (access_at (store o).width)
+  abbrev pub kind_at : Profile → Scope → Opened → Immediates → Reader Piece
+  kind_at p sc bs k.Block = opens_at p Block
+  kind_at p sc bs k.Loop = opens_at p Loop
+  kind_at p sc bs k.If = opens_at p If
+  kind_at p sc bs k.Br = simple_at s.Br (atom_at (index_of (labels bs)))
+  kind_at p sc bs k.BrIf = simple_at s.BrIf (atom_at (index_of (labels bs)))
+  kind_at p sc bs k.BrTable = table_at (labels bs)
+  kind_at p sc bs k.Call = simple_at s.Call (atom_at (index_of sc.names.functions))
+  kind_at p sc bs k.CallIndirect = simple_at s.CallIndirect use_at
+  kind_at p sc bs k.LocalGet = simple_at s.LocalGet (atom_at (index_of sc.locals))
+  kind_at p sc bs k.LocalSet = simple_at s.LocalSet (atom_at (index_of sc.locals))
+  kind_at p sc bs k.LocalTee = simple_at s.LocalTee (atom_at (index_of sc.locals))
+  kind_at p sc bs k.GlobalGet = simple_at s.GlobalGet (atom_at (index_of sc.names.globals))
+  kind_at p sc bs k.GlobalSet = simple_at s.GlobalSet (atom_at (index_of sc.names.globals))
+  kind_at p sc bs k.MemorySize = λ k. Some (plain s.MemorySize, k)
+  kind_at p sc bs k.MemoryGrow = λ k. Some (plain s.MemoryGrow, k)
+  kind_at p sc bs k.I32Const = simple_at s.I32Const (atom_at (integer_of 32))
+  kind_at p sc bs k.I64Const = simple_at s.I64Const (atom_at (integer_of 64))
+  kind_at p sc bs k.F32Const = simple_at s.F32Const (atom_at (float_of float.F32))
+  kind_at p sc bs k.F64Const = simple_at s.F64Const (atom_at (float_of float.F64))
+  kind_at p sc bs (k.Load o) = simple_at (s.Load o) (access_at (load o).width)
+  kind_at p sc bs (k.Store o) = simple_at (s.Store o) (access_at (store o).width)
 
-  abbrev pub class_at : Scope → Opened → OpClass → Reader Piece
-  class_at sc bs (class.Plain (op.Simple i)) = λ k. Some (plain i, k)
-  class_at sc bs (class.Plain op.Else) = middle_at bs
-  class_at sc bs (class.Plain op.End) = closes_at bs
-  class_at sc bs (class.Plain _) = λ k. None
-  class_at sc bs (class.With kind) = kind_at sc bs kind
-  class_at sc bs class.Float = λ k. None
-  class_at sc bs class.None = λ k. None
+  abbrev pub class_at : Profile → Scope → Opened → OpClass → Reader Piece
+  class_at p sc bs (class.Plain (op.Simple i)) = λ k. Some (plain i, k)
+  class_at p sc bs (class.Plain op.Else) = middle_at bs
+  class_at p sc bs (class.Plain op.End) = closes_at bs
+  class_at p sc bs (class.Plain _) = λ k. None
+  class_at p sc bs (class.With kind) = kind_at p sc bs kind
+  class_at p sc bs class.Float = λ k. None
+  class_at p sc bs class.None = λ k. None
 
   -- a piece whose first word was read
   unfoldable pub piece_at : Profile → Scope → Opened → List ℕ → Reader Piece
-  piece_at p sc bs w = class_at sc bs (class_named p w)
+  piece_at p sc bs w = class_at p sc bs (class_named p w)
 
   -- pieces up to the parenthesis that closes a function
   abbrev pub ops_within : Profile → Scope → ℕ → Opened → Reader (List Op)

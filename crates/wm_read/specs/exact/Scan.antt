@@ -4,6 +4,7 @@ use Rattle.std.specs.Prelude.{Option, Some, None, if◌then◌else◌, length, n
 use Rattle.std.specs.Option.{option_map}
 use Rattle.wm_read.specs.Tokens.{Token, open_paren, close_paren, string, atom, is_space, is_id_char, is_lower}
 use Rattle.wm_read.specs.Tokens.{is_plain, is_scalar, digit_value}
+use Rattle.wm_floats.specs.exact.Atoms.{has_form}
 use Rattle.wm_read.specs.declared.tokens.scan.Class.{Class}
 use Rattle.wm_read.specs.declared.tokens.scan.Class.TheVariants.{Space, Semicolon, Opening, Closing}
 use Rattle.wm_read.specs.declared.tokens.scan.Class.TheVariants.{Quote, Atom}
@@ -132,13 +133,19 @@ is_number [] = false
 is_number (c ∷ b) = if (c == 43) then is_some (magnitude_of b) else if c == 45 then is_some (magnitude_of b)
     else is_some (magnitude_of (c ∷ b))
 
+-- the form of a float, with a sign or with none
+abbrev pub is_literal : List ℕ → Bool
+is_literal [] = false
+is_literal (c ∷ b) = if c == 43 then has_form b else if c == 45 then has_form b else has_form (c ∷ b)
+
 abbrev pub is_nil : List ℕ → Bool
 is_nil [] = true
 is_nil (c ∷ b) = false
 
 abbrev pub is_atom : List ℕ → Bool
 is_atom [] = false
-is_atom (c ∷ b) = if c == 36 then not (is_nil b) else if is_lower c then true else is_number (c ∷ b)
+is_atom (c ∷ b) = if c == 36 then not (is_nil b) else if is_lower c then true
+    else if is_number (c ∷ b) then true else is_literal (c ∷ b)
 
 -- what stands first
 pub data Ahead : Type 0 where

@@ -1,6 +1,7 @@
 -- How the type of a type field is read: the exact answer of the code's reader.
 use Rattle.std.specs.Prelude.{List, codes}
 use Rattle.wm_syntax.specs.declared.types.ValType.{ValType}
+use Rattle.wm_syntax.specs.declared.profile.Profile.{Profile}
 use Rattle.wm_syntax.specs.Types.{Signature}
 use Rattle.wm_read.specs.Written.{Named, types_of}
 use Rattle.wm_read.specs.exact.Reading.{Reader, made, then_at, paren_at}
@@ -11,5 +12,6 @@ use Rattle.wm_read.specs.exact.TypeUses.{named_at}
 abbrev pub signature_of : List Named × List ValType → Signature
 signature_of x = record { params = types_of x.0; results = x.1 }
 
-unfoldable pub signature_at : Reader Signature
-signature_at k = made signature_of (paren_at (codes "func") (then_at (named_at (codes "param")) results_at) k)
+unfoldable pub signature_at : Profile → Reader Signature
+signature_at p k =
+    made signature_of (paren_at (codes "func") (then_at (named_at p (codes "param")) (results_at p)) k)

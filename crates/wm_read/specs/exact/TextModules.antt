@@ -20,11 +20,11 @@ abbrev pub frame_at : List Token → Option (List Token)
 frame_at k = open_at k >>= λ o. atom_at (word_of (codes "module")) o.1 >>= λ w. id_at w.1 >>= λ i. Some i.1
 
 -- the names of fields, behind which the text ends
-abbrev pub all_names_at : List Token → Option Names
-all_names_at k = names_at k >>= λ n. close_at n.1 >>= λ c. end_at c.1 >>= λ e. Some n.0
+abbrev pub all_names_at : Profile → List Token → Option Names
+all_names_at p k = names_at p k >>= λ n. close_at n.1 >>= λ c. end_at c.1 >>= λ e. Some n.0
 
 abbrev pub module_within : Profile → Names → List Token → Option Module
 module_within p names k = made module_of (fields_at p names k) >>= λ m. close_at m.1 >>= λ c. Some m.0
 
 unfoldable pub module_at : Profile → List Token → Option Module
-module_at p k = frame_at k >>= λ j. all_names_at j >>= λ names. module_within p names j
+module_at p k = frame_at k >>= λ j. all_names_at p j >>= λ names. module_within p names j

@@ -14,13 +14,15 @@ piece_of (p.Opens o id t) = opens o (id_of id) t
 piece_of p.Middle = middle
 piece_of p.Closes = closes
 
--- what follows the word of an instruction with these immediates is one operand
+-- what follows the word of an instruction with these immediates is one operand, which can be read
 abbrev pub HasOperand : Immediates → Type 0
 HasOperand k.Block = ⊥
 HasOperand k.Loop = ⊥
 HasOperand k.If = ⊥
 HasOperand k.BrTable = ⊥
 HasOperand k.CallIndirect = ⊥
+HasOperand k.F32Const = ⊥
+HasOperand k.F64Const = ⊥
 HasOperand _ = Unit {0}
 
 -- a table has fewer than 2 ^ 32 labels before its default

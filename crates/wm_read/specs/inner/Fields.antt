@@ -1,5 +1,6 @@
 -- Fields of the code, without where they lie in memory.
 use Rattle.std.specs.Prelude.{ℕ, List, [], ◌∷◌, ◌++◌, Option, Some, None, codes}
+use Rattle.wm_syntax.specs.declared.profile.Profile.{Profile}
 use Rattle.wm_syntax.specs.Modules.{Module}
 use Rattle.wm_read.specs.declared.fields.Field.{Field as Code}
 use Rattle.wm_read.specs.declared.fields.Field.TheVariants as code
@@ -12,8 +13,8 @@ use Rattle.wm_read.specs.exact.Reading.{Reader, then_at}
 use Rattle.wm_read.specs.exact.TypeUses.{named_at}
 
 -- a function's type use, and its locals
-abbrev pub head_at : Names → Reader ((ℕ × List Named) × List Named)
-head_at names = then_at (named_use_at names) (named_at (codes "local"))
+abbrev pub head_at : Profile → Names → Reader ((ℕ × List Named) × List Named)
+head_at p names = then_at (named_use_at p names) (named_at p (codes "local"))
 
 -- a field of the code
 abbrev pub field_of : Code → Field

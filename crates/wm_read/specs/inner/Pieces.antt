@@ -7,7 +7,7 @@ use Rattle.wm_syntax.specs.declared.instructions.Simple.{Simple}
 use Rattle.wm_syntax.specs.declared.instructions.Op.{Op}
 use Rattle.wm_syntax.specs.declared.instructions.Op.TheVariants as op
 use Rattle.wm_syntax.specs.declared.profile.Profile.{Profile}
-use Rattle.wm_syntax.specs.Profiles.{HasSimple}
+use Rattle.wm_syntax.specs.Profiles.{HasBlockType, HasSimple}
 use Rattle.wm_read.specs.Tokens.{Token}
 use Rattle.wm_read.specs.declared.code.blocks.Opening.{Opening}
 use Rattle.wm_read.specs.declared.code.blocks.Opening.TheVariants.{Block, Loop, If}
@@ -71,6 +71,7 @@ pieces_ops (p ∷ ps) = piece_ops p ++ pieces_ops ps
 -- a piece of the profile
 abbrev pub IsPieceOf : Profile → Piece → Type 0
 IsPieceOf p (plain i) = HasSimple p i
+IsPieceOf p (opens o id t) = HasBlockType p t
 IsPieceOf p _ = Unit {0}
 
 abbrev pub WritesPiece : Scope → Opened → Piece → Form Token

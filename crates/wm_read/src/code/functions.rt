@@ -15,7 +15,7 @@ use crate::code::bodies::read_body;
 use crate::code::named;
 use crate::code::named::NamedRun;
 use crate::code::named_uses::{NamedUse, Params, named_use};
-use crate::code::operands::{named_type, refuse};
+use crate::code::operands::{refuse, type_named};
 use crate::code::type_uses::{no_form, type_index};
 use crate::faults::{TextFault, TextWhy};
 use crate::names::identifiers::{Names, Scope, Space, is_new};
@@ -136,14 +136,15 @@ fn local_types(alloc: Global, locals: &[NamedRun], text: &[u8]) -> Result<Locals
 /// A type use, and the locals after it.
 fn read_head<'n, 'a>(
     alloc: Global,
+    profile: Profile,
     names: &'n Names,
     text: &'a [u8],
 ) -> Result<(NamedUse<'n, 'a>, Vec<NamedRun<'a>>, &'a [u8]), TextFault>
     ensures { Reads (λ x. (((x.0.index, params_of x.0.params), named_list x.1.items), lexed x.2.now)) result
-        (head_at (names_of names.now) (lexed text.now)) }
+        (head_at profile (names_of names.now) (lexed text.now)) }
 {
-    let (used, rest) = named_use(alloc, names, true, text)?;
-    let (locals, rest) = named::groups(alloc, b"local", rest)?;
+    let (used, rest) = named_use(alloc, profile, names, true, text)?;
+    let (locals, rest) = named::groups(alloc, profile, b"local", rest)?;
     Ok((used, locals, rest))
 }
 
@@ -174,7 +175,7 @@ fn earlier(
                     seen.push(Some(atom))?;
                 } else if is(atom, b"local") {
                     in_locals = true;
-                } else if in_locals && named_type(atom).is_some() {
+                } else if in_locals && type_named(atom).is_some() {
                     if room == 0 {
                         return Ok(Some(refuse(TextWhy::TooManyLocals, rest)));
                     }
@@ -220,7 +221,7 @@ pub fn function<'a>(
     ensures { Reads (λ x. (x.0, lexed x.1.now)) result
         (fields.function_at profile (names_of names.now) (lexed text.now)) }
 {
-    let (used, locals, rest) = match read_head(alloc, names, text) {
+    let (used, locals, rest) = match read_head(alloc, profile, names, text) {
         Ok(head) => head,
         Err(fault) => return Err(first_fault(alloc, names, fault, text)),
     };

@@ -8,12 +8,13 @@ ghost use Rattle.wm_read.specs.exact.TypeUses as uses;
 ghost use Rattle.wm_read.specs.inner.Named.{named_list, named_of};
 ghost use Rattle.wm_read.specs.inner.Views.{Reads};
 
-use crate::code::operands::{close, named_type, no_type, open, val_type, word};
+use crate::code::operands::{close, no_type, open, type_of, val_type, word};
 use crate::code::type_uses::begins_group;
 use crate::faults::TextFault;
 use crate::tokens::lexeme::{Lexeme, next_token};
 use crate::tokens::literals::is_id;
 use std::alloc::{AllocError, Global};
+use wm_syntax::profile::Profile;
 use wm_syntax::types::ValType;
 
 /// A run of parameters or of locals: one with an identifier, or some of one type with none.
@@ -67,20 +68,24 @@ fn push_unnamed(runs: &mut Vec<NamedRun>, ty: ValType) -> Result<(), AllocError>
 
 /// Adds items with no identifiers, up to what is no atom.
 #[tactic(auto, using(crate::proofs::NamedGroups::unnamed_laws))]
-fn unnamed<'a>(named: &mut Vec<NamedRun<'a>>, text: &'a [u8]) -> Result<&'a [u8], TextFault>
+fn unnamed<'a>(
+    named: &mut Vec<NamedRun<'a>>,
+    profile: Profile,
+    text: &'a [u8],
+) -> Result<&'a [u8], TextFault>
     ensures { Reads (λ r. (named_list named.new.items, lexed r.now)) result
         (uses.adding_named (named_list named.old.items)
-        (reading.made uses.unnamed (uses.types_at (lexed text.now)))) }
+        (reading.made uses.unnamed (uses.types_at profile (lexed text.now)))) }
 {
     let mut rest = text;
     loop {
         match next_token(rest) {
-            Some((Lexeme::Atom(atom), more)) => match named_type(atom) {
+            Some((Lexeme::Atom(atom), more)) => match type_of(profile, atom) {
                 Some(ty) => {
                     push_unnamed(named, ty)?;
                     rest = more;
                 }
-                None => return Err(no_type(atom, rest)),
+                None => return Err(no_type(profile, atom, rest)),
             },
             _ => return Ok(rest),
         }
@@ -89,21 +94,25 @@ fn unnamed<'a>(named: &mut Vec<NamedRun<'a>>, text: &'a [u8]) -> Result<&'a [u8]
 
 /// Adds what stands between a group's word and its closing parenthesis: an identifier and its type, or types.
 #[tactic(auto, using(crate::proofs::NamedGroups::inside_laws))]
-fn inside<'a>(named: &mut Vec<NamedRun<'a>>, text: &'a [u8]) -> Result<&'a [u8], TextFault>
+fn inside<'a>(
+    named: &mut Vec<NamedRun<'a>>,
+    profile: Profile,
+    text: &'a [u8],
+) -> Result<&'a [u8], TextFault>
     ensures { Reads (λ r. (named_list named.new.items, lexed r.now)) result
-        (uses.adding_named (named_list named.old.items) (uses.inside_at (lexed text.now))) }
+        (uses.adding_named (named_list named.old.items) (uses.inside_at profile (lexed text.now))) }
 {
     match next_token(text) {
         Some((Lexeme::Atom(atom), rest)) => {
             if is_id(atom) {
-                let (ty, rest) = val_type(rest)?;
+                let (ty, rest) = val_type(profile, rest)?;
                 named.push(NamedRun::One(atom, ty))?;
                 Ok(rest)
             } else {
-                unnamed(named, text)
+                unnamed(named, profile, text)
             }
         }
-        _ => unnamed(named, text),
+        _ => unnamed(named, profile, text),
     }
 }
 
@@ -111,16 +120,17 @@ fn inside<'a>(named: &mut Vec<NamedRun<'a>>, text: &'a [u8]) -> Result<&'a [u8],
 #[tactic(auto, using(crate::proofs::NamedGroups::group_none))]
 fn group<'a>(
     named: &mut Vec<NamedRun<'a>>,
+    profile: Profile,
     name: &[u8],
     text: &'a [u8],
 ) -> Result<&'a [u8], TextFault>
     ensures { Reads (λ r. (named_list named.new.items, lexed r.now)) result
         (uses.adding_named (named_list named.old.items)
-        (reading.paren_at name.now uses.inside_at (lexed text.now))) }
+        (reading.paren_at name.now (uses.inside_at profile) (lexed text.now))) }
 {
     let rest = open(text)?;
     let rest = word(name, rest)?;
-    let rest = inside(named, rest)?;
+    let rest = inside(named, profile, rest)?;
     close(rest)
 }
 
@@ -129,16 +139,17 @@ fn group<'a>(
 #[tactic(auto, using(crate::proofs::NamedGroups::named_laws))]
 pub fn groups<'a>(
     alloc: Global,
+    profile: Profile,
     name: &[u8],
     text: &'a [u8],
 ) -> Result<(Vec<NamedRun<'a>>, &'a [u8]), TextFault>
     ensures { Reads (λ x. (named_list x.0.items, lexed x.1.now)) result
-        (uses.named_at name.now (lexed text.now)) }
+        (uses.named_at profile name.now (lexed text.now)) }
 {
     let mut named = Vec::new(alloc);
     let mut rest = text;
     while begins_group(name, rest) {
-        rest = group(&mut named, name, rest)?;
+        rest = group(&mut named, profile, name, rest)?;
     }
     Ok((named, rest))
 }

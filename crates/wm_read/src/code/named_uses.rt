@@ -17,6 +17,7 @@ use crate::code::type_uses::{
 use crate::faults::{TextFault, TextWhy};
 use crate::names::identifiers::Names;
 use std::alloc::{AllocError, Global};
+use wm_syntax::profile::Profile;
 use wm_syntax::types::{FuncType, ValType};
 
 /// The parameters of a type use: those of its type, with no identifiers, or those that are written.
@@ -100,18 +101,19 @@ fn misfit(locals: bool, text: &[u8], rest: &[u8]) -> TextFault
 #[tactic(auto, using(crate::proofs::NamedUses::named_laws))]
 pub fn named_use<'n, 'a>(
     alloc: Global,
+    profile: Profile,
     names: &'n Names,
     locals: bool,
     text: &'a [u8],
 ) -> Result<(NamedUse<'n, 'a>, &'a [u8]), TextFault>
     ensures { Reads (λ x. ((x.0.index, params_of x.0.params), lexed x.1.now)) result
-        (uses.named_use_at (names_of names.now) (lexed text.now)) }
+        (uses.named_use_at profile (names_of names.now) (lexed text.now)) }
 {
     let (index, rest) = type_index(names, text)?;
     match type_at(names, index) {
         Some(ty) => {
-            let (params, rest) = named::groups(alloc, b"param", rest)?;
-            let (results, rest) = groups(alloc, b"result", rest)?;
+            let (params, rest) = named::groups(alloc, profile, b"param", rest)?;
+            let (results, rest) = groups(alloc, profile, b"result", rest)?;
             match used(alloc, ty, params, &results)? {
                 Some(params) => Ok((NamedUse { index, params }, rest)),
                 None => Err(misfit(locals, text, rest)),
@@ -124,13 +126,19 @@ pub fn named_use<'n, 'a>(
 /// The fault of a call_indirect's type use, which was refused so. Whole forms that are not those of
 /// the type are a fault at the index; else the first identifier of a parameter is one, unless a wrong
 /// token stands before it.
-pub(crate) fn call_fault(alloc: Global, names: &Names, fault: TextFault, text: &[u8]) -> TextFault
+pub(crate) fn call_fault(
+    alloc: Global,
+    profile: Profile,
+    names: &Names,
+    fault: TextFault,
+    text: &[u8],
+) -> TextFault
     ensures { IsRefusal result.why → IsRefusal fault.why }
 {
     if fault.why == TextWhy::Memory {
         return fault;
     }
-    let with_ids = match named_use(alloc, names, false, text) {
+    let with_ids = match named_use(alloc, profile, names, false, text) {
         Ok((_used, rest)) => no_form(rest),
         Err(other) => Err(other),
     };

@@ -2,21 +2,26 @@
 
 ghost use Rattle.std.specs.Prelude.{◌≡◌, ◌≤◌, ◌<◌, Some, None, codes, Option, nat_lt, if◌then◌else◌, IfOk};
 ghost use Rattle.std.specs.Prelude.{length};
+ghost use Rattle.wm_floats.specs.exact.Atoms as atoms;
 ghost use Rattle.wm_read.specs.exact.Reading as reading;
 ghost use Rattle.wm_read.specs.exact.Scan.{lexed};
 ghost use Rattle.wm_read.specs.exact.TypeUses as uses;
 ghost use Rattle.wm_read.specs.inner.Ids.{id_of};
 ghost use Rattle.wm_read.specs.inner.Pieces.{labels};
 ghost use Rattle.wm_read.specs.inner.Views.{IsRefusal, Reads};
+ghost use Rattle.wm_syntax.specs.declared.instructions.FloatType.TheVariants as float;
 
 use crate::code::blocks::OpenBlocks;
 use crate::faults::{TextFault, TextWhy};
 use crate::names::identifiers::{Space, is_same_id};
 use crate::tokens::lexeme::{Lexeme, next_token, skip_space};
 use crate::tokens::literals::{
-    after_key, constant32, constant64, exponent, is, is_float, is_id, is_word, small, unsigned,
+    after_key, constant32, constant64, exponent, float32, float64, is, is_float, is_id, is_word,
+    small, unsigned,
 };
+use std::alloc::Global;
 use wm_syntax::instructions::MemArg;
+use wm_syntax::profile::{Feature, Profile};
 use wm_syntax::types::ValType;
 
 /// A refusal at the first token of a text.
@@ -104,6 +109,53 @@ pub fn integer_64(text: &[u8]) -> Result<(i64, &[u8]), TextFault>
         },
         _ => Err(refuse(TextWhy::Expected, text)),
     }
+}
+
+/// A constant that is an f32.
+pub fn float_32(alloc: Global, text: &[u8]) -> Result<(u32, &[u8]), TextFault>
+    ensures { Reads (λ x. (x.0, lexed x.1.now)) result
+        (reading.atom_at (atoms.float_of float.F32) (lexed text.now)) }
+{
+    match next_token(text) {
+        Some((Lexeme::Atom(atom), rest)) => match float32(alloc, atom)? {
+            Some(bits) => Ok((bits, rest)),
+            None => Err(no_float(atom, text)),
+        },
+        _ => Err(refuse(TextWhy::Expected, text)),
+    }
+}
+
+/// A constant that is an f64.
+pub fn float_64(alloc: Global, text: &[u8]) -> Result<(u64, &[u8]), TextFault>
+    ensures { Reads (λ x. (x.0, lexed x.1.now)) result
+        (reading.atom_at (atoms.float_of float.F64) (lexed text.now)) }
+{
+    match next_token(text) {
+        Some((Lexeme::Atom(atom), rest)) => match float64(alloc, atom)? {
+            Some(bits) => Ok((bits, rest)),
+            None => Err(no_float(atom, text)),
+        },
+        _ => Err(refuse(TextWhy::Expected, text)),
+    }
+}
+
+/// What is wrong with an atom, the first token of a text, where a float is expected.
+fn no_float(atom: &[u8], text: &[u8]) -> TextFault
+    ensures { IsRefusal result.why }
+{
+    if is_id(atom) {
+        refuse(TextWhy::Expected, text)
+    } else if is_word(atom) && !is_nan(atom) {
+        refuse(TextWhy::Expected, text)
+    } else {
+        refuse(TextWhy::BadFloat, text)
+    }
+}
+
+/// Whether a word begins as a NaN with a payload does. It has no clause, since it decides only which name a
+/// refusal gets.
+fn is_nan(atom: &[u8]) -> bool {
+    atom.starts_with(b"nan:")
 }
 
 /// What is wrong with an atom, the first token of a text, where a constant is expected.
@@ -237,34 +289,61 @@ pub fn word<'a>(word: &[u8], text: &'a [u8]) -> Result<&'a [u8], TextFault>
 }
 
 /// The value type that an atom names.
-pub fn named_type(atom: &[u8]) -> Option<ValType>
-    ensures { result ≡ reading.type_of atom.now }
+pub fn type_named(atom: &[u8]) -> Option<ValType>
+    ensures { result ≡ reading.type_named atom.now }
 {
     if is(atom, b"i32") {
         Some(ValType::I32)
     } else if is(atom, b"i64") {
         Some(ValType::I64)
+    } else if is(atom, b"f32") {
+        Some(ValType::F32)
+    } else if is(atom, b"f64") {
+        Some(ValType::F64)
     } else {
         None
     }
 }
 
-/// What is wrong with an atom, the first token of a text, that is no value type.
-pub fn no_type(atom: &[u8], text: &[u8]) -> TextFault
+/// The same, if the profile has it.
+#[tactic(auto, using(crate::proofs::Immediates::type_laws))]
+pub fn type_of(profile: Profile, atom: &[u8]) -> Option<ValType>
+    ensures { result ≡ reading.type_of profile atom.now }
+{
+    match type_named(atom) {
+        Some(ty) => {
+            if profile.has(ty.feature()) {
+                Some(ty)
+            } else {
+                None
+            }
+        }
+        None => None,
+    }
+}
+
+/// Whether an atom begins and goes on as the name of a floating-point type or instruction does, and the
+/// profile has none. It has no clause, since it decides only which name a refusal gets.
+fn is_left_out(profile: Profile, atom: &[u8]) -> bool {
+    !profile.has(Feature::Floats) && is_float(atom)
+}
+
+/// What is wrong with an atom, the first token of a text, that is no value type of the profile.
+pub fn no_type(profile: Profile, atom: &[u8], text: &[u8]) -> TextFault
     ensures { IsRefusal result.why }
 {
-    if is_float(atom) {
+    if is_left_out(profile, atom) {
         refuse(TextWhy::Float, text)
     } else {
         refuse(TextWhy::Expected, text)
     }
 }
 
-/// What is wrong with an atom, the first token of a text, that names no instruction.
-pub fn no_instruction(atom: &[u8], text: &[u8]) -> TextFault
+/// What is wrong with an atom, the first token of a text, that names no instruction of the profile.
+pub fn no_instruction(profile: Profile, atom: &[u8], text: &[u8]) -> TextFault
     ensures { IsRefusal result.why }
 {
-    if is_float(atom) {
+    if is_left_out(profile, atom) {
         refuse(TextWhy::Float, text)
     } else if is_word(atom) {
         refuse(TextWhy::UnknownWord, text)
@@ -273,38 +352,39 @@ pub fn no_instruction(atom: &[u8], text: &[u8]) -> TextFault
     }
 }
 
-/// A value type.
-pub fn val_type(text: &[u8]) -> Result<(ValType, &[u8]), TextFault>
-    ensures { Reads (λ x. (x.0, lexed x.1.now)) result (reading.atom_at reading.type_of (lexed text.now)) }
+/// A value type of the profile.
+pub fn val_type(profile: Profile, text: &[u8]) -> Result<(ValType, &[u8]), TextFault>
+    ensures { Reads (λ x. (x.0, lexed x.1.now)) result
+        (reading.atom_at (reading.type_of profile) (lexed text.now)) }
 {
     match next_token(text) {
-        Some((Lexeme::Atom(atom), rest)) => match named_type(atom) {
+        Some((Lexeme::Atom(atom), rest)) => match type_of(profile, atom) {
             Some(ty) => Ok((ty, rest)),
-            None => Err(no_type(atom, text)),
+            None => Err(no_type(profile, atom, text)),
         },
         _ => Err(refuse(TextWhy::Expected, text)),
     }
 }
 
 /// `( result valtype )`
-fn result_type(text: &[u8]) -> Result<(ValType, &[u8]), TextFault>
+fn result_type(profile: Profile, text: &[u8]) -> Result<(ValType, &[u8]), TextFault>
     ensures { Reads (λ x. (x.0, lexed x.1.now)) result
-        (reading.paren_at (codes "result") (reading.atom_at reading.type_of) (lexed text.now)) }
+        (reading.paren_at (codes "result") (reading.atom_at (reading.type_of profile)) (lexed text.now)) }
 {
     let rest = open(text)?;
     let rest = word(b"result", rest)?;
-    let (ty, rest) = val_type(rest)?;
+    let (ty, rest) = val_type(profile, rest)?;
     let rest = close(rest)?;
     Ok((ty, rest))
 }
 
 /// A block's type.
-pub fn block_type(text: &[u8]) -> Result<(Option<ValType>, &[u8]), TextFault>
-    ensures { Reads (λ x. (x.0, lexed x.1.now)) result (reading.block_type_at (lexed text.now)) }
+pub fn block_type(profile: Profile, text: &[u8]) -> Result<(Option<ValType>, &[u8]), TextFault>
+    ensures { Reads (λ x. (x.0, lexed x.1.now)) result (reading.block_type_at profile (lexed text.now)) }
 {
     match next_token(text) {
         Some((Lexeme::Open, _)) => {
-            let (ty, rest) = result_type(text)?;
+            let (ty, rest) = result_type(profile, text)?;
             Ok((Some(ty), rest))
         }
         _ => Ok((None, text)),

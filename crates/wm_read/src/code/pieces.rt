@@ -1,6 +1,7 @@
 //! Pieces of a body: an instruction, or what opens, divides or closes a block.
 
 ghost use Rattle.std.specs.Prelude.{◌≡◌, ◌≤◌, Some, IfOk, length};
+ghost use Rattle.wm_floats.specs.exact.Atoms as atoms;
 ghost use Rattle.wm_read.specs.exact.Scan.{lexed};
 ghost use Rattle.wm_read.specs.inner.Blocks.{names_of, scope_of};
 ghost use Rattle.wm_read.specs.exact.TypeUses.{call_use_at};
@@ -9,13 +10,14 @@ ghost use Rattle.wm_read.specs.inner.Pieces as flat;
 ghost use Rattle.wm_read.specs.exact.Reading as reading;
 ghost use Rattle.wm_read.specs.inner.Views.{Reads};
 ghost use Rattle.wm_syntax.specs.Opcodes as table;
+ghost use Rattle.wm_syntax.specs.declared.instructions.FloatType.TheVariants as float;
 ghost use Rattle.wm_syntax.specs.declared.instructions.Simple.TheVariants as Simple;
 
 use crate::code::blocks::{OpenBlocks, Opening};
 use crate::code::named_uses::call_fault;
 use crate::code::operands::{
-    access, again, begins_index, block_type, id, index, integer_32, integer_64, label,
-    no_instruction, refuse,
+    access, again, begins_index, block_type, float_32, float_64, id, index, integer_32, integer_64,
+    label, no_instruction, refuse,
 };
 use crate::code::type_uses::type_use;
 use crate::faults::{TextFault, TextWhy};
@@ -39,13 +41,13 @@ pub enum Piece<'a> {
     Closes,
 }
 
-fn opens(opening: Opening, text: &[u8]) -> Result<(Piece, &[u8]), TextFault>
+fn opens(profile: Profile, opening: Opening, text: &[u8]) -> Result<(Piece, &[u8]), TextFault>
     ensures fits { IfOk result (λ x. FitsPiece (piece_of x.0)) }
     ensures read { Reads (λ x. (piece_of x.0, lexed x.1.now)) result
-        (reading.opens_at opening (lexed text.now)) }
+        (reading.opens_at profile opening (lexed text.now)) }
 {
     let (id, rest) = id(text);
-    let (ty, rest) = block_type(rest)?;
+    let (ty, rest) = block_type(profile, rest)?;
     Ok((Piece::Opens(opening, id, ty), rest))
 }
 
@@ -150,6 +152,7 @@ fn closes<'a>(
 
 /// What follows the word of an instruction with one operand.
 fn operand<'a>(
+    profile: Profile,
     scope: &Scope,
     blocks: &OpenBlocks,
     kind: Immediates,
@@ -158,8 +161,8 @@ fn operand<'a>(
     requires { HasOperand kind }
     ensures fits { IfOk result (λ x. FitsPiece (piece_of x.0)) }
     ensures read { Reads (λ x. (piece_of x.0, lexed x.1.now)) result
-        (reading.kind_at (call_use_at (names_of scope.now.names.now)) (scope_of scope.now) blocks.now kind
-        (lexed text.now)) }
+        (reading.kind_at (call_use_at profile (names_of scope.now.names.now)) profile (scope_of scope.now)
+        blocks.now kind (lexed text.now)) }
 {
     let (simple, rest) = match kind {
         Immediates::Br => {
@@ -211,19 +214,40 @@ fn operand<'a>(
     Ok((Piece::Plain(simple), rest))
 }
 
+/// What follows the word of an f32.const.
+fn constant_f32(alloc: Global, text: &[u8]) -> Result<(Piece, &[u8]), TextFault>
+    ensures fits { IfOk result (λ x. FitsPiece (piece_of x.0)) }
+    ensures read { Reads (λ x. (piece_of x.0, lexed x.1.now)) result
+        (reading.simple_at Simple.F32Const (reading.atom_at (atoms.float_of float.F32)) (lexed text.now)) }
+{
+    let (bits, rest) = float_32(alloc, text)?;
+    Ok((Piece::Plain(Simple::F32Const(bits)), rest))
+}
+
+/// What follows the word of an f64.const.
+fn constant_f64(alloc: Global, text: &[u8]) -> Result<(Piece, &[u8]), TextFault>
+    ensures fits { IfOk result (λ x. FitsPiece (piece_of x.0)) }
+    ensures read { Reads (λ x. (piece_of x.0, lexed x.1.now)) result
+        (reading.simple_at Simple.F64Const (reading.atom_at (atoms.float_of float.F64)) (lexed text.now)) }
+{
+    let (bits, rest) = float_64(alloc, text)?;
+    Ok((Piece::Plain(Simple::F64Const(bits)), rest))
+}
+
 /// What follows the word of a call_indirect.
 fn indirect<'a>(
     alloc: Global,
+    profile: Profile,
     names: &Names,
     text: &'a [u8],
 ) -> Result<(Piece<'a>, &'a [u8]), TextFault>
     ensures fits { IfOk result (λ x. FitsPiece (piece_of x.0)) }
     ensures read { Reads (λ x. (piece_of x.0, lexed x.1.now)) result
-        (reading.simple_at Simple.CallIndirect (call_use_at (names_of names.now)) (lexed text.now)) }
+        (reading.simple_at Simple.CallIndirect (call_use_at profile (names_of names.now)) (lexed text.now)) }
 {
-    match type_use(alloc, names, text) {
+    match type_use(alloc, profile, names, text) {
         Ok((x, rest)) => Ok((Piece::Plain(Simple::CallIndirect(x)), rest)),
-        Err(fault) => Err(call_fault(alloc, names, fault, text)),
+        Err(fault) => Err(call_fault(alloc, profile, names, fault, text)),
     }
 }
 
@@ -240,23 +264,24 @@ pub fn read_piece<'a>(
 ) -> Result<(Piece<'a>, &'a [u8]), TextFault>
     ensures fits { IfOk result (λ x. FitsPiece (piece_of x.0)) }
     ensures read { Reads (λ x. (piece_of x.0, lexed x.1.now)) result
-        (reading.piece_at (call_use_at (names_of scope.now.names.now)) profile (scope_of scope.now) blocks.now
-        word.now
-        (lexed text.now)) }
+        (reading.piece_at (call_use_at profile (names_of scope.now.names.now)) profile (scope_of scope.now)
+        blocks.now word.now (lexed text.now)) }
 {
     match op_named(profile, word) {
         OpClass::Plain(Op::Simple(simple)) => Ok((Piece::Plain(simple), text)),
         OpClass::Plain(Op::Else) => middle(blocks, here, text),
         OpClass::Plain(Op::End) => closes(blocks, here, text),
         OpClass::Plain(_) => Err(refuse(TextWhy::UnknownWord, here)),
-        OpClass::With(Immediates::Block) => opens(Opening::Block, text),
-        OpClass::With(Immediates::Loop) => opens(Opening::Loop, text),
-        OpClass::With(Immediates::If) => opens(Opening::If, text),
+        OpClass::With(Immediates::Block) => opens(profile, Opening::Block, text),
+        OpClass::With(Immediates::Loop) => opens(profile, Opening::Loop, text),
+        OpClass::With(Immediates::If) => opens(profile, Opening::If, text),
         OpClass::With(Immediates::BrTable) => table(alloc, blocks, text),
-        OpClass::With(Immediates::CallIndirect) => indirect(alloc, scope.names, text),
-        OpClass::With(kind) => operand(scope, blocks, kind, text),
+        OpClass::With(Immediates::CallIndirect) => indirect(alloc, profile, scope.names, text),
+        OpClass::With(Immediates::F32Const) => constant_f32(alloc, text),
+        OpClass::With(Immediates::F64Const) => constant_f64(alloc, text),
+        OpClass::With(kind) => operand(profile, scope, blocks, kind, text),
         OpClass::Float => Err(refuse(TextWhy::Float, here)),
-        OpClass::None => Err(no_instruction(word, here)),
+        OpClass::None => Err(no_instruction(profile, word, here)),
     }
 }
 

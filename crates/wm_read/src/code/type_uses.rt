@@ -8,30 +8,35 @@ ghost use Rattle.wm_read.specs.exact.TypeUses as uses;
 ghost use Rattle.wm_read.specs.inner.Blocks.{names_of};
 ghost use Rattle.wm_read.specs.inner.Views.{IsRefusal, Reads};
 
-use crate::code::operands::{close, index, named_type, no_type, open, refuse, word};
+use crate::code::operands::{close, index, no_type, open, refuse, type_of, word};
 use crate::faults::{TextFault, TextWhy};
 use crate::names::identifiers::Names;
 use crate::tokens::lexeme::{Lexeme, next_token};
 use crate::tokens::literals::is;
 use std::alloc::Global;
 use wm_syntax::modules::equality::same_list;
+use wm_syntax::profile::Profile;
 use wm_syntax::types::{FuncType, ValType};
 
 /// Adds value types up to what is no atom.
 #[tactic(auto, using(crate::proofs::Groups::types_laws))]
-fn value_types<'a>(types: &mut Vec<ValType>, text: &'a [u8]) -> Result<&'a [u8], TextFault>
+fn value_types<'a>(
+    types: &mut Vec<ValType>,
+    profile: Profile,
+    text: &'a [u8],
+) -> Result<&'a [u8], TextFault>
     ensures { Reads (λ r. (types.new.items, lexed r.now)) result
-        (uses.adding types.old.items (uses.types_at (lexed text.now))) }
+        (uses.adding types.old.items (uses.types_at profile (lexed text.now))) }
 {
     let mut rest = text;
     loop {
         match next_token(rest) {
-            Some((Lexeme::Atom(atom), more)) => match named_type(atom) {
+            Some((Lexeme::Atom(atom), more)) => match type_of(profile, atom) {
                 Some(ty) => {
                     types.push(ty)?;
                     rest = more;
                 }
-                None => return Err(no_type(atom, rest)),
+                None => return Err(no_type(profile, atom, rest)),
             },
             _ => return Ok(rest),
         }
@@ -53,13 +58,18 @@ pub fn begins_group(name: &[u8], text: &[u8]) -> bool
 
 /// Adds the value types of one group.
 #[tactic(auto, using(crate::proofs::Groups::group_laws))]
-fn group<'a>(types: &mut Vec<ValType>, name: &[u8], text: &'a [u8]) -> Result<&'a [u8], TextFault>
+fn group<'a>(
+    types: &mut Vec<ValType>,
+    profile: Profile,
+    name: &[u8],
+    text: &'a [u8],
+) -> Result<&'a [u8], TextFault>
     ensures { Reads (λ r. (types.new.items, lexed r.now)) result
-        (uses.adding types.old.items (reading.paren_at name.now uses.types_at (lexed text.now))) }
+        (uses.adding types.old.items (reading.paren_at name.now (uses.types_at profile) (lexed text.now))) }
 {
     let rest = open(text)?;
     let rest = word(name, rest)?;
-    let rest = value_types(types, rest)?;
+    let rest = value_types(types, profile, rest)?;
     close(rest)
 }
 
@@ -67,16 +77,17 @@ fn group<'a>(types: &mut Vec<ValType>, name: &[u8], text: &'a [u8]) -> Result<&'
 #[tactic(auto, using(crate::proofs::Groups::groups_laws))]
 pub(crate) fn groups<'a>(
     alloc: Global,
+    profile: Profile,
     name: &[u8],
     text: &'a [u8],
 ) -> Result<(Vec<ValType>, &'a [u8]), TextFault>
     ensures { Reads (λ x. (x.0.items, lexed x.1.now)) result
-        (reading.made uses.joined (uses.groups_at name.now (lexed text.now))) }
+        (reading.made uses.joined (uses.groups_at profile name.now (lexed text.now))) }
 {
     let mut types = Vec::new(alloc);
     let mut rest = text;
     while begins_group(name, rest) {
-        rest = group(&mut types, name, rest)?;
+        rest = group(&mut types, profile, name, rest)?;
     }
     Ok((types, rest))
 }
@@ -154,17 +165,18 @@ pub(crate) fn type_at<'n>(names: &'n Names, x: u32) -> Option<&'n FuncType>
 #[tactic(auto, using(crate::proofs::Groups::use_laws))]
 pub fn type_use<'a>(
     alloc: Global,
+    profile: Profile,
     names: &Names,
     text: &'a [u8],
 ) -> Result<(u32, &'a [u8]), TextFault>
     ensures { Reads (λ x. (x.0, lexed x.1.now)) result
-        (uses.call_use_at (names_of names.now) (lexed text.now)) }
+        (uses.call_use_at profile (names_of names.now) (lexed text.now)) }
 {
     let (x, rest) = type_index(names, text)?;
     match type_at(names, x) {
         Some(ty) => {
-            let (params, rest) = groups(alloc, b"param", rest)?;
-            let (results, rest) = groups(alloc, b"result", rest)?;
+            let (params, rest) = groups(alloc, profile, b"param", rest)?;
+            let (results, rest) = groups(alloc, profile, b"result", rest)?;
             no_form(rest)?;
             if fits(ty, &params, &results) {
                 Ok((x, rest))

@@ -6,11 +6,11 @@ use std::test::Fail;
 
 /// All printed names, and a printed refusal.
 pub(crate) const WORDS: &str = r#"given )
-names => ok NotUtf8 BadToken OpenComment OpenString BadEscape Expected UnknownWord BadInteger BadName UnknownId RepeatedId TypeUse ImportPlace SecondStart NotConst BadAlign LabelEnd TooManyLocals Float Memory
+names => ok NotUtf8 BadToken OpenComment OpenString BadEscape Expected UnknownWord BadInteger BadFloat BadName UnknownId RepeatedId TypeUse ImportPlace SecondStart NotConst BadAlign LabelEnd TooManyLocals Float Memory
 sentence => text refused at 7: BadToken (no token can be read here)
 "#;
 
-const ALL: [TextWhy; 20] = [
+const ALL: [TextWhy; 21] = [
     TextWhy::NotUtf8,
     TextWhy::BadToken,
     TextWhy::OpenComment,
@@ -19,6 +19,7 @@ const ALL: [TextWhy; 20] = [
     TextWhy::Expected,
     TextWhy::UnknownWord,
     TextWhy::BadInteger,
+    TextWhy::BadFloat,
     TextWhy::BadName,
     TextWhy::UnknownId,
     TextWhy::RepeatedId,

@@ -7,10 +7,13 @@ ghost use Rattle.wm_read.specs.exact.Scan.{lexed};
 ghost use Rattle.wm_read.specs.inner.Blocks.{names_of};
 ghost use Rattle.wm_read.specs.inner.Views.{IsRefusal, Reads};
 
-use crate::code::operands::{index, integer_32, integer_64, no_instruction, open, refuse, word};
+use crate::code::operands::{
+    float_32, float_64, index, integer_32, integer_64, no_instruction, open, refuse, word,
+};
 use crate::faults::{TextFault, TextWhy};
 use crate::names::identifiers::Names;
 use crate::tokens::lexeme::{Lexeme, next_token};
+use std::alloc::Global;
 use wm_syntax::instructions::Op;
 use wm_syntax::instructions::op_class::{Immediates, OpClass};
 use wm_syntax::instructions::op_names::op_named;
@@ -25,12 +28,13 @@ fn no_constant(profile: Profile, atom: &[u8], text: &[u8]) -> TextFault
         OpClass::Plain(Op::Else) | OpClass::Plain(Op::End) => refuse(TextWhy::UnknownWord, text),
         OpClass::Plain(_) | OpClass::With(_) => refuse(TextWhy::NotConst, text),
         OpClass::Float => refuse(TextWhy::Float, text),
-        OpClass::None => no_instruction(atom, text),
+        OpClass::None => no_instruction(profile, atom, text),
     }
 }
 
 /// The instruction of a constant expression.
 pub fn constant<'a>(
+    alloc: Global,
     profile: Profile,
     names: &Names,
     text: &'a [u8],
@@ -47,6 +51,14 @@ pub fn constant<'a>(
             OpClass::With(Immediates::I64Const) => {
                 let (n, rest) = integer_64(rest)?;
                 Ok((Const::I64(n), rest))
+            }
+            OpClass::With(Immediates::F32Const) => {
+                let (bits, rest) = float_32(alloc, rest)?;
+                Ok((Const::F32(bits), rest))
+            }
+            OpClass::With(Immediates::F64Const) => {
+                let (bits, rest) = float_64(alloc, rest)?;
+                Ok((Const::F64(bits), rest))
             }
             OpClass::With(Immediates::GlobalGet) => {
                 let (x, rest) = index(&names.globals, rest)?;
@@ -71,6 +83,7 @@ pub fn constant_end(profile: Profile, text: &[u8]) -> Result<&[u8], TextFault>
 
 /// `( offset const )`
 pub fn offset<'a>(
+    alloc: Global,
     profile: Profile,
     names: &Names,
     text: &'a [u8],
@@ -80,7 +93,7 @@ pub fn offset<'a>(
 {
     let rest = open(text)?;
     let rest = word(b"offset", rest)?;
-    let (offset, rest) = constant(profile, names, rest)?;
+    let (offset, rest) = constant(alloc, profile, names, rest)?;
     let rest = constant_end(profile, rest)?;
     Ok((offset, rest))
 }

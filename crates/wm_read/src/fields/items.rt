@@ -15,20 +15,22 @@ use crate::fields::words::item_kind;
 use crate::names::identifiers::{Names, Space};
 use std::alloc::Global;
 use wm_syntax::modules::{ExportKind, ImportDesc};
+use wm_syntax::profile::Profile;
 
 /// What stands after the identifier of an import's item.
 fn desc_type<'a>(
     alloc: Global,
+    profile: Profile,
     names: &Names,
     kind: ExportKind,
     text: &'a [u8],
 ) -> Result<(ImportDesc, &'a [u8]), TextFault>
     ensures { Reads (λ x. (x.0, lexed x.1.now)) result
-        (fields.desc_kind (names_of names.now) kind (lexed text.now)) }
+        (fields.desc_kind profile (names_of names.now) kind (lexed text.now)) }
 {
     match kind {
         ExportKind::Func => {
-            let (used, rest) = named_use(alloc, names, false, text)?;
+            let (used, rest) = named_use(alloc, profile, names, false, text)?;
             Ok((ImportDesc::Func(used.index), rest))
         }
         ExportKind::Table => {
@@ -40,7 +42,7 @@ fn desc_type<'a>(
             Ok((ImportDesc::Memory(limits), rest))
         }
         ExportKind::Global => {
-            let (ty, rest) = global_type(text)?;
+            let (ty, rest) = global_type(profile, text)?;
             Ok((ImportDesc::Global(ty), rest))
         }
     }
@@ -49,16 +51,17 @@ fn desc_type<'a>(
 /// An import's item: its identifier, if it has one, and what it is.
 pub fn desc<'a>(
     alloc: Global,
+    profile: Profile,
     names: &Names,
     text: &'a [u8],
 ) -> Result<(Option<&'a [u8]>, ImportDesc, &'a [u8]), TextFault>
     ensures { Reads (λ x. ((id_of x.0, x.1), lexed x.2.now)) result
-        (fields.desc_at (names_of names.now) (lexed text.now)) }
+        (fields.desc_at profile (names_of names.now) (lexed text.now)) }
 {
     let rest = open(text)?;
     let (kind, rest) = item_kind(rest)?;
     let (id, rest) = id(rest);
-    let (desc, rest) = desc_type(alloc, names, kind, rest)?;
+    let (desc, rest) = desc_type(alloc, profile, names, kind, rest)?;
     let rest = match kind {
         ExportKind::Func => close_forms(rest)?,
         _ => close(rest)?,

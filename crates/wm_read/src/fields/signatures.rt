@@ -11,17 +11,22 @@ use crate::code::operands::{close_forms, open, word};
 use crate::code::type_uses::groups;
 use crate::faults::TextFault;
 use std::alloc::Global;
+use wm_syntax::profile::Profile;
 use wm_syntax::types::FuncType;
 
 /// `( func param* result* )`. Identifiers of parameters are allowed, and mean nothing.
 #[tactic(auto, unfolding(crate::specs::exact::Signatures::signature_at, crate::specs::exact::NamedUses::results_at))]
-pub fn signature(alloc: Global, text: &[u8]) -> Result<(FuncType, &[u8]), TextFault>
-    ensures { Reads (λ x. (x.0, lexed x.1.now)) result (signature_at (lexed text.now)) }
+pub fn signature(
+    alloc: Global,
+    profile: Profile,
+    text: &[u8],
+) -> Result<(FuncType, &[u8]), TextFault>
+    ensures { Reads (λ x. (x.0, lexed x.1.now)) result (signature_at profile (lexed text.now)) }
 {
     let rest = open(text)?;
     let rest = word(b"func", rest)?;
-    let (params, rest) = named::groups(alloc, b"param", rest)?;
-    let (results, rest) = groups(alloc, b"result", rest)?;
+    let (params, rest) = named::groups(alloc, profile, b"param", rest)?;
+    let (results, rest) = groups(alloc, profile, b"result", rest)?;
     let rest = close_forms(rest)?;
     let params = types_of(alloc, &params)?;
     Ok((FuncType { params, results }, rest))

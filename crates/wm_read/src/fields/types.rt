@@ -10,6 +10,7 @@ use crate::code::operands::{close, number, open, refuse, val_type, word};
 use crate::faults::{TextFault, TextWhy};
 use crate::tokens::lexeme::{Lexeme, next_token};
 use crate::tokens::literals::{is_id, is_word};
+use wm_syntax::profile::Profile;
 use wm_syntax::types::{GlobalType, Limits, ValType};
 
 /// A number below 2^32.
@@ -67,28 +68,28 @@ pub fn table_type(text: &[u8]) -> Result<(Limits, &[u8]), TextFault>
 }
 
 /// `( mut valtype )`
-fn mut_type(text: &[u8]) -> Result<(ValType, &[u8]), TextFault>
+fn mut_type(profile: Profile, text: &[u8]) -> Result<(ValType, &[u8]), TextFault>
     ensures { Reads (λ x. (x.0, lexed x.1.now)) result
-        (reading.paren_at (codes "mut") (reading.atom_at reading.type_of) (lexed text.now)) }
+        (reading.paren_at (codes "mut") (reading.atom_at (reading.type_of profile)) (lexed text.now)) }
 {
     let rest = open(text)?;
     let rest = word(b"mut", rest)?;
-    let (ty, rest) = val_type(rest)?;
+    let (ty, rest) = val_type(profile, rest)?;
     let rest = close(rest)?;
     Ok((ty, rest))
 }
 
 /// A value type, or `( mut valtype )`.
-pub fn global_type(text: &[u8]) -> Result<(GlobalType, &[u8]), TextFault>
-    ensures { Reads (λ x. (x.0, lexed x.1.now)) result (fields.global_type_at (lexed text.now)) }
+pub fn global_type(profile: Profile, text: &[u8]) -> Result<(GlobalType, &[u8]), TextFault>
+    ensures { Reads (λ x. (x.0, lexed x.1.now)) result (fields.global_type_at profile (lexed text.now)) }
 {
     match next_token(text) {
         Some((Lexeme::Open, _)) => {
-            let (ty, rest) = mut_type(text)?;
+            let (ty, rest) = mut_type(profile, text)?;
             Ok((GlobalType { ty, var: true }, rest))
         }
         _ => {
-            let (ty, rest) = val_type(text)?;
+            let (ty, rest) = val_type(profile, text)?;
             Ok((GlobalType { ty, var: false }, rest))
         }
     }

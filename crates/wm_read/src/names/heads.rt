@@ -19,6 +19,7 @@ use crate::names::identifiers::{Names, Space, is_new};
 use crate::tokens::lexeme::{Lexeme, next_token};
 use std::alloc::{AllocError, Global};
 use wm_syntax::modules::ExportKind;
+use wm_syntax::profile::Profile;
 
 /// What the heads so far have said.
 #[derive(Debug, Drop)]
@@ -98,14 +99,15 @@ fn skip(depth: usize, text: &[u8]) -> Result<&[u8], TextFault>
 /// The rest of a type field, all of which is read.
 fn type_head<'a>(
     alloc: Global,
+    profile: Profile,
     noted: &mut Noted<'a>,
     text: &'a [u8],
 ) -> Result<&'a [u8], TextFault>
     ensures { Reads (λ r. (noted_of noted.new, lexed r.now)) result
-        (first.type_head_at (noted_of noted.old) (lexed text.now)) }
+        (first.type_head_at profile (noted_of noted.old) (lexed text.now)) }
 {
     let (id, rest) = free_id(&noted.names.types, text)?;
-    let (ty, rest) = signature(alloc, rest)?;
+    let (ty, rest) = signature(alloc, profile, rest)?;
     let rest = close(rest)?;
     noted.names.types.push(id)?;
     noted.names.signatures.push(ty)?;
@@ -159,16 +161,17 @@ fn item_head<'a>(
 #[tactic(auto, unfolding(crate::specs::exact::FirstReading::head_by))]
 fn head_of<'a>(
     alloc: Global,
+    profile: Profile,
     noted: &mut Noted<'a>,
     kind: FieldKind,
     word: &'a [u8],
     text: &'a [u8],
 ) -> Result<&'a [u8], TextFault>
     ensures { Reads (λ r. (noted_of noted.new, lexed r.now)) result
-        (first.head_by kind (noted_of noted.old) (lexed text.now)) }
+        (first.head_by profile kind (noted_of noted.old) (lexed text.now)) }
 {
     match kind {
-        FieldKind::Type => type_head(alloc, noted, text),
+        FieldKind::Type => type_head(alloc, profile, noted, text),
         FieldKind::Import => {
             if noted.defined {
                 Err(refuse(TextWhy::ImportPlace, word))
@@ -194,21 +197,30 @@ fn head_of<'a>(
 
 /// One field.
 #[tactic(auto, unfolding(crate::specs::exact::FirstReading::head_at))]
-fn head<'a>(alloc: Global, noted: &mut Noted<'a>, text: &'a [u8]) -> Result<&'a [u8], TextFault>
+fn head<'a>(
+    alloc: Global,
+    profile: Profile,
+    noted: &mut Noted<'a>,
+    text: &'a [u8],
+) -> Result<&'a [u8], TextFault>
     ensures { Reads (λ r. (noted_of noted.new, lexed r.now)) result
-        (first.head_at (noted_of noted.old) (lexed text.now)) }
+        (first.head_at profile (noted_of noted.old) (lexed text.now)) }
 {
     let word = open(text)?;
     let (kind, rest) = field_kind(word)?;
-    head_of(alloc, noted, kind, word, rest)
+    head_of(alloc, profile, noted, kind, word, rest)
 }
 
 /// What the fields define that stand first, and the text after them. An identifier is refused where
 /// it is defined a second time, an import at its word after a definition other than a type, and a
 /// second start at its word.
 #[tactic(auto, using(crate::proofs::HeadSteps::heads_laws))]
-pub fn read_heads<'a>(alloc: Global, text: &'a [u8]) -> Result<(Names<'a>, &'a [u8]), TextFault>
-    ensures { Reads (λ x. (names_of x.0, lexed x.1.now)) result (first.names_at (lexed text.now)) }
+pub fn read_heads<'a>(
+    alloc: Global,
+    profile: Profile,
+    text: &'a [u8],
+) -> Result<(Names<'a>, &'a [u8]), TextFault>
+    ensures { Reads (λ x. (names_of x.0, lexed x.1.now)) result (first.names_at profile (lexed text.now)) }
 {
     let mut noted = Noted {
         names: Names {
@@ -224,7 +236,7 @@ pub fn read_heads<'a>(alloc: Global, text: &'a [u8]) -> Result<(Names<'a>, &'a [
     };
     let mut rest = text;
     while begins_open(rest) {
-        rest = head(alloc, &mut noted, rest)?;
+        rest = head(alloc, profile, &mut noted, rest)?;
     }
     Ok((noted.names, rest))
 }

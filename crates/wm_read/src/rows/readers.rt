@@ -90,7 +90,7 @@ fn of_given(
     reader: &str,
     text: &[u8],
 ) -> Result<String, Fail> {
-    let (names, rest) = read_heads(alloc, heads.as_bytes())?;
+    let (names, rest) = read_heads(alloc, profile, heads.as_bytes())?;
     of_tokens(alloc, profile, &names, rest, reader, text)
 }
 
@@ -106,15 +106,15 @@ fn of_tokens<'a>(
     close(rest)?;
     match reader {
         "tokens" => of_text_tokens(alloc, text),
-        "signature" => shown(alloc, signature(alloc, text)),
-        "params" => shown(alloc, groups(alloc, b"param", text)),
-        "use" => shown(alloc, named_use(alloc, names, true, text)),
-        "use_alone" => shown(alloc, named_use(alloc, names, false, text)),
+        "signature" => shown(alloc, signature(alloc, profile, text)),
+        "params" => shown(alloc, groups(alloc, profile, b"param", text)),
+        "use" => shown(alloc, named_use(alloc, profile, names, true, text)),
+        "use_alone" => shown(alloc, named_use(alloc, profile, names, false, text)),
         "body" => of_body(alloc, profile, names, text),
         "ops" => of_ops(alloc, profile, names, text),
         "labels" => shown(alloc, three_labels(alloc, text)),
-        "constant" => shown(alloc, constant(profile, names, text)),
-        "offset" => shown(alloc, offset(profile, names, text)),
+        "constant" => shown(alloc, constant(alloc, profile, names, text)),
+        "offset" => shown(alloc, offset(alloc, profile, names, text)),
         "function" => shown(alloc, function(alloc, profile, names, text)),
         _ => of_fields(alloc, profile, names, rest, reader, text),
     }
@@ -134,8 +134,8 @@ fn of_fields<'a>(
         "bytes" => shown(alloc, bytes(alloc, text)),
         "limits" => shown(alloc, limits(text)),
         "table_type" => shown(alloc, table_type(text)),
-        "global_type" => shown(alloc, global_type(text)),
-        "desc" => of_desc(alloc, names, text),
+        "global_type" => shown(alloc, global_type(profile, text)),
+        "desc" => of_desc(alloc, profile, names, text),
         "item" => of_item(alloc, names, text),
         "fields" => of_list(alloc, profile, names, text),
         "text" => of_text(alloc, profile, Spellings::Standard, text),
@@ -143,7 +143,7 @@ fn of_fields<'a>(
         "check" => of_checked(alloc, profile, Policy::no_limits(), text),
         "within" => of_checked(alloc, profile, SMALL, text),
         "canonical" => of_canonical(alloc, profile, text),
-        "heads" => shown(alloc, read_heads(alloc, text)),
+        "heads" => shown(alloc, read_heads(alloc, profile, text)),
         _ => of_names(alloc, names, rest, reader, text),
     }
 }
@@ -205,8 +205,8 @@ fn of_ops(alloc: Global, profile: Profile, names: &Names, text: &[u8]) -> Result
     }
 }
 
-fn of_desc(alloc: Global, names: &Names, text: &[u8]) -> Result<String, Fail> {
-    match desc(alloc, names, text) {
+fn of_desc(alloc: Global, profile: Profile, names: &Names, text: &[u8]) -> Result<String, Fail> {
+    match desc(alloc, profile, names, text) {
         Ok((id, desc, rest)) => shown(alloc, Ok(((id, desc), rest))),
         Err(fault) => shown_fault(alloc, fault),
     }

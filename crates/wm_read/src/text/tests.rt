@@ -18,7 +18,7 @@ large (module (type $of_functions_that_take_nothing_and_give_nothing_back_as_man
 large (module |10000*(memory (;its least is above its greatest, which is read, and refused where the module is checked;) 1 0)|) => Refused(Refusal { at: 17, why: Limits })
 "#;
 
-/// What is refused in every profile.
+/// What is refused in the first two profiles.
 pub(crate) const REFUSALS: &str = r#"given )
 text => Expected at 0
 text module => Expected at 0
@@ -80,6 +80,22 @@ older (module (type (func)) (func (type 0) get_locals)) => UnknownWord at 37
 older (module (type (func)) (func (type 0) get_loca)) => UnknownWord at 37
 older (module (type (func)) (func (type 0) i64.extend_s/i64)) => UnknownWord at 37
 older (module (type (func)) (func (type 0) i32.trunc_s/f32)) => UnknownWord at 37
+"#;
+
+/// Floats of the third profile, with their literals, and what it refuses.
+pub(crate) const THIRD: &str = r#"given )
+text (module (type (func (param f32 f64) (result f32))) (import "a" "g" (global $g f32)) (func (type 0) (local f64) local.get 0 f32.abs local.get 1 f32.demote_f64 f32.add block (result f32) global.get $g end drop) (memory 1) (global f32 global.get $g)) => 0061736d0100000001070160027d7c017d02080101610167037d000302010005030100010606017d0023000b0a13011101017c20008b2001b692027d23000b1a0b|
+text (module (type (func)) (func (type 0) f32.const 1 f64.const -0x1p-1074 drop drop)) => 0061736d01000000010401600000030201000a14011200430000803f4401000000000000801a1a0b|
+text (module (type (func)) (func (type 0) f32.const 1e39)) => BadFloat at 47
+text (module (type (func)) (func (type 0) f64.const nan:0x0)) => BadFloat at 47
+text (module (type (func)) (func (type 0) f64.const i64)) => Expected at 47
+text (module (type (func)) (func (type 0) i32.const 1.5)) => BadInteger at 47
+text (module (type (func)) (func (type 0) f32.const 1__0)) => BadToken at 47
+text (module (type (func)) (func (type 0) f32.ad)) => UnknownWord at 37
+text (module (type (func)) (func (type 0) i32.extend8_s)) => UnknownWord at 37
+text (module (global f32 f64.const nan)) => 0061736d01000000060d017d0044000000000000f87f0b|
+text (module (global f32 f32.const 0x1.8p+1)) => 0061736d010000000609017d0043000040400b|
+text (module (global f64.abs i32.const 0)) => Expected at 16
 "#;
 
 fn expect_no_utf8(rt: &impl Abort, alloc: Global, profile: Profile) {

@@ -1,10 +1,15 @@
 //! What atoms mean: numbers (section 6.3.1), identifiers and words.
 
 ghost use Rattle.std.specs.Prelude.{◌≡◌, ◌≤◌, ◌<◌, ◌+◌, ◌^◌, ℕ, Some, None, nat_lt, if◌then◌else◌};
-ghost use Rattle.std.specs.Prelude.{MatchOption, IfSome, pos, neg_ℤ, ◌≤ℤ◌, ◌<ℤ◌};
+ghost use Rattle.std.specs.Prelude.{MatchOption, IfOk, IfSome, pos, neg_ℤ, ◌≤ℤ◌, ◌<ℤ◌};
+ghost use Rattle.wm_floats.specs.exact.Atoms as atoms;
 ghost use Rattle.wm_read.specs.exact.Reading as reading;
+ghost use Rattle.wm_syntax.specs.declared.instructions.FloatType.TheVariants as float;
 
 use crate::tokens::scan::magnitude;
+use std::alloc::{AllocError, Global};
+use wm_floats::atoms::float_of;
+use wm_syntax::instructions::FloatType;
 
 /// Whether an atom is this word.
 #[tactic(auto, using(crate::proofs::Readers::same_laws))]
@@ -35,7 +40,7 @@ pub fn is_word(atom: &[u8]) -> bool
 }
 
 /// Whether an atom begins and goes on as the name of a floating-point type or instruction does.
-/// No instruction of whole numbers has such a name. It has no clause, since it decides only
+/// No instruction on whole numbers has such a name. It has no clause, since it decides only
 /// which name a refusal gets.
 pub(crate) fn is_float(atom: &[u8]) -> bool {
     if is(atom, b"f32") || is(atom, b"f64") {
@@ -167,6 +172,24 @@ pub fn constant64(atom: &[u8]) -> Option<i64>
         Some(n) => Some(n as i64),
         None => None,
     }
+}
+
+/// The bits of an f32 (section 6.3.2). None also where a number is nearest to an infinity.
+#[tactic(auto, using(crate::proofs::Floats::word_laws))]
+pub fn float32(alloc: Global, atom: &[u8]) -> Result<Option<u32>, AllocError>
+    ensures { IfOk result (λ o. o ≡ atoms.float_of float.F32 atom.now) }
+{
+    match float_of(alloc, FloatType::F32, atom)? {
+        Some(bits) => Ok(Some(bits as u32)),
+        None => Ok(None),
+    }
+}
+
+/// The bits of an f64.
+pub fn float64(alloc: Global, atom: &[u8]) -> Result<Option<u64>, AllocError>
+    ensures { IfOk result (λ o. o ≡ atoms.float_of float.F64 atom.now) }
+{
+    float_of(alloc, FloatType::F64, atom)
 }
 
 /// An index or a depth, which is below 2^32.

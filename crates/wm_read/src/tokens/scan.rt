@@ -10,6 +10,7 @@ ghost use Rattle.wm_read.specs.Tokens as tokens;
 ghost use Rattle.wm_read.specs.inner.Lexemes.{part_of, IsMode, IsStep};
 
 use crate::faults::TextWhy;
+use wm_floats::atoms::has_form;
 
 /// What begins with a byte, between tokens.
 #[derive(Clone, Copy, Debug, PartialEq, Eq)]
@@ -425,7 +426,8 @@ pub fn atom_len(text: &[u8]) -> usize
     text.len()
 }
 
-/// Whether characters of atoms are an identifier (section 6.3.5), a number (6.3.1) or a word (6.3.4).
+/// Whether characters of atoms are an identifier (section 6.3.5), a number (6.3.1), a float (6.3.2) or a word
+/// (6.3.4).
 pub fn is_atom(atom: &[u8]) -> bool
     ensures { result ≡ scan.is_atom atom.now }
 {
@@ -434,8 +436,33 @@ pub fn is_atom(atom: &[u8]) -> bool
         [c, rest @ ..] => match *c {
             b'$' => !rest.is_empty(),
             b'a'..=b'z' => true,
+            _ => is_number(atom) || is_literal(atom),
+        },
+    }
+}
+
+/// Whether an atom is a number, with a sign or with none.
+fn is_number(atom: &[u8]) -> bool
+    ensures { result ≡ scan.is_number atom.now }
+{
+    match atom {
+        [] => false,
+        [c, rest @ ..] => match *c {
             b'+' | b'-' => magnitude(rest).is_some(),
             _ => magnitude(atom).is_some(),
+        },
+    }
+}
+
+/// Whether an atom has the form of a float, with a sign or with none.
+fn is_literal(atom: &[u8]) -> bool
+    ensures { result ≡ scan.is_literal atom.now }
+{
+    match atom {
+        [] => false,
+        [c, rest @ ..] => match *c {
+            b'+' | b'-' => has_form(rest),
+            _ => has_form(atom),
         },
     }
 }

@@ -6,7 +6,8 @@ use Rattle.std.specs.Str.{is_utf8}
 use Rattle.wm_syntax.specs.declared.types.ValType.{ValType}
 use Rattle.wm_syntax.specs.declared.types.Const.{Const}
 use Rattle.wm_syntax.specs.declared.types.Const.TheVariants as const
-use Rattle.wm_syntax.specs.declared.instructions.Simple.TheVariants.{I32Const, I64Const, GlobalGet}
+use Rattle.wm_syntax.specs.declared.instructions.Simple.TheVariants.{I32Const, I64Const, F32Const, F64Const}
+use Rattle.wm_syntax.specs.declared.instructions.Simple.TheVariants.{GlobalGet}
 use Rattle.wm_syntax.specs.declared.instructions.Op.{Op}
 use Rattle.wm_syntax.specs.declared.instructions.Op.TheVariants as op
 use Rattle.wm_syntax.specs.declared.modules.ImportDesc.{ImportDesc}
@@ -118,6 +119,8 @@ constant_ended h k (Some c) = Ok (record h { value = member_added k.purpose c h.
 abbrev pub in_constant : Op → Built → Pending → Result Built Why
 in_constant (op.Simple (I32Const n)) h k = valued (const.I32 n) h k k.value
 in_constant (op.Simple (I64Const n)) h k = valued (const.I64 n) h k k.value
+in_constant (op.Simple (F32Const n)) h k = valued (const.F32 n) h k k.value
+in_constant (op.Simple (F64Const n)) h k = valued (const.F64 n) h k k.value
 in_constant (op.Simple (GlobalGet x)) h k = valued (const.Global x) h k k.value
 in_constant op.End h k = constant_ended h k k.value
 in_constant _ h k = Err why.NotConst

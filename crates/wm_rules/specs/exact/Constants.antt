@@ -3,9 +3,10 @@
 use Rattle.std.specs.Prelude.{ℕ, true, false, List, Option, Some, None, Result, Ok, Err, slice_get, nat_lt}
 use Rattle.std.specs.Prelude.{if◌then◌else◌}
 use Rattle.wm_syntax.specs.declared.types.ValType.{ValType}
-use Rattle.wm_syntax.specs.declared.types.ValType.TheVariants.{I32, I64}
+use Rattle.wm_syntax.specs.declared.types.ValType.TheVariants.{I32, I64, F32, F64}
 use Rattle.wm_syntax.specs.declared.types.GlobalType.{GlobalType}
-use Rattle.wm_syntax.specs.declared.instructions.Simple.TheVariants.{I32Const, I64Const, GlobalGet}
+use Rattle.wm_syntax.specs.declared.instructions.Simple.TheVariants.{I32Const, I64Const, F32Const, F64Const}
+use Rattle.wm_syntax.specs.declared.instructions.Simple.TheVariants.{GlobalGet}
 use Rattle.wm_syntax.specs.declared.instructions.Op.{Op}
 use Rattle.wm_syntax.specs.declared.instructions.Op.TheVariants as op
 use Rattle.wm_syntax.specs.declared.why.Why.{Why}
@@ -37,6 +38,8 @@ visible sees globals x = if nat_lt x sees then slice_get globals x else None
 abbrev pub constant_after : List GlobalType → Op → Constant → Result (Option Constant) Why
 constant_after globals (op.Simple (I32Const n)) k = first_only k (of_type I32 k)
 constant_after globals (op.Simple (I64Const n)) k = first_only k (of_type I64 k)
+constant_after globals (op.Simple (F32Const n)) k = first_only k (of_type F32 k)
+constant_after globals (op.Simple (F64Const n)) k = first_only k (of_type F64 k)
 constant_after globals (op.Simple (GlobalGet x)) k = first_only k (of_global (visible k.sees globals x) k)
 constant_after globals op.End k = if k.seen then Ok None else Err Arity
 constant_after globals _ k = Err NotConst

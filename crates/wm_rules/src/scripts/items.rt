@@ -103,6 +103,8 @@ fn type_of(rt: &impl Abort, word: &str) -> ValType {
     match word {
         "i32" => ValType::I32,
         "i64" => ValType::I64,
+        "f32" => ValType::F32,
+        "f64" => ValType::F64,
         _ => unknown(rt, word),
     }
 }
@@ -146,6 +148,8 @@ fn op_of(rt: &impl Abort, words: &str) -> Op {
     match words {
         "i32.const" => Op::Simple(Simple::I32Const(1)),
         "i64.const" => Op::Simple(Simple::I64Const(1)),
+        "f32.const" => Op::Simple(Simple::F32Const(1)),
+        "f64.const" => Op::Simple(Simple::F64Const(1)),
         "nop" => Op::Simple(Simple::Nop),
         "drop" => Op::Simple(Simple::Drop),
         "block" => Op::Block(None),

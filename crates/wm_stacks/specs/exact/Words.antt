@@ -1,20 +1,34 @@
--- Operands in words of 64 bits, two bits each: 0 is I32, 1 is I64 and 2 is Unknown; 3 never stands.
--- Operand i, counted from the lowest, stands in word i / 32, at bits 2 * (i % 32) and above.
-use Rattle.std.specs.Prelude.{ℕ, zero, suc, ◌*◌, ◌/◌, ◌%◌, ◌^◌, ◌<◌, List, [], ◌∷◌, slice_index}
-use Rattle.wm_stacks.specs.declared.entries.Entry.{Entry}
-use Rattle.wm_stacks.specs.declared.entries.Entry.TheVariants.{I32, I64, Unknown}
+-- The kinds of operands in words of 64 bits, two bits each: 0 is I32, 1 is I64, 2 is Unknown and 3 a float.
+-- That of operand i, counted from the lowest, stands in word i / 32, at bits 2 * (i % 32) and above.
+use Rattle.std.specs.Prelude.{ℕ, zero, suc, ◌*◌, ◌/◌, ◌%◌, ◌^◌, ◌==◌, Bool, true, false, if◌then◌else◌}
+use Rattle.std.specs.Prelude.{List, [], ◌∷◌, slice_index}
+use Rattle.wm_syntax.specs.declared.types.ValType.{ValType}
+use Rattle.wm_syntax.specs.declared.types.ValType.TheVariants as t
+use Rattle.wm_stacks.specs.declared.words.Kind.{Kind}
+use Rattle.wm_stacks.specs.declared.words.Kind.TheVariants.{I32, I64, Unknown, Float}
 
-abbrev pub code_of : Entry → ℕ
+abbrev pub code_of : Kind → ℕ
 code_of I32 = 0
 code_of I64 = 1
 code_of Unknown = 2
+code_of Float = 3
 
--- What a number stands for. That of 3 is any: only the low bit is looked at for an I32.
-abbrev pub entry_of_code : ℕ → Entry
-entry_of_code zero = I32
-entry_of_code (suc zero) = I64
-entry_of_code (suc (suc zero)) = Unknown
-entry_of_code (suc (suc (suc n))) = I64
+-- what a number stands for
+abbrev pub kind_of_code : ℕ → Kind
+kind_of_code c = if c == 0 then I32 else if c == 1 then I64 else if c == 2 then Unknown else Float
+
+-- The kind alone shows that the operand may stand for one of this type. That of a float tells too little.
+abbrev pub shows : ValType → Kind → Bool
+shows t.I32 I32 = true
+shows t.I32 I64 = false
+shows t.I32 Unknown = true
+shows t.I32 Float = false
+shows t.I64 I32 = false
+shows t.I64 I64 = true
+shows t.I64 Unknown = true
+shows t.I64 Float = false
+shows t.F32 k = false
+shows t.F64 k = false
 
 -- the number at place k of a word
 abbrev pub digit : ℕ → ℕ → ℕ
@@ -23,16 +37,12 @@ digit word k = word / 2 ^ (2 * k) % 4
 abbrev pub code_at : List ℕ → ℕ → ℕ
 code_at words i = digit (slice_index words (i / 32)) (i % 32)
 
--- the lowest n operands, the topmost first
-abbrev pub operands_in : List ℕ → ℕ → List Entry
-operands_in words zero = []
-operands_in words (suc n) = entry_of_code (code_at words n) ∷ operands_in words n
+-- the kinds of the lowest n operands, the topmost first
+abbrev pub kinds_in : List ℕ → ℕ → List Kind
+kinds_in words zero = []
+kinds_in words (suc n) = kind_of_code (code_at words n) ∷ kinds_in words n
 
--- each of them is one of the three
-abbrev pub AreEntries : List ℕ → ℕ → Type 0
-AreEntries words n = (i : ℕ) → i < n → code_at words i < 3
-
--- the operands of a body, the topmost first, and the floor of its innermost frame
-pub record Floored : Type 0 where
-  pub entries : List Entry
+-- the kinds of a body's operands, the topmost first, and the floor of its innermost frame
+pub record Kinds : Type 0 where
+  pub kinds : List Kind
   pub floor : ℕ

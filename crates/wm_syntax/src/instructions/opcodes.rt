@@ -1,33 +1,40 @@
 //! Which instruction a byte begins, and which byte an instruction (section 5.4).
 
-ghost use Rattle.std.specs.Prelude.{◌≡◌, ◌↔◌, IsTrue, slice_get};
+ghost use Rattle.std.specs.Prelude.{◌≡◌, ◌↔◌, IsTrue, IsFalse, slice_get};
 ghost use Rattle.wm_syntax.specs.declared.instructions.Op.{Op};
-ghost use Rattle.wm_syntax.specs.exact.ByteTable.{class_feature, class_in, class_under, classes};
-ghost use Rattle.wm_syntax.specs.Opcodes.{binary, comparison, load, numeric, opcode, store, unary};
+ghost use Rattle.wm_syntax.specs.exact.ByteTable.{class_feature, class_in, class_under, classes, left_out};
+ghost use Rattle.wm_syntax.specs.Opcodes.{binary, comparison, conversion, float_binary, float_comparison};
+ghost use Rattle.wm_syntax.specs.Opcodes.{float_unary, load, numeric, opcode, store, unary};
 ghost use Rattle.wm_syntax.specs.OpClasses.{IsClassOfOp, class_of, first_byte, is_float};
-ghost use Rattle.wm_syntax.specs.Profiles.{IsOpOf};
+ghost use Rattle.wm_syntax.specs.Profiles.{IsOpOf, feature_of, has};
+ghost use Rattle.wm_syntax.specs.declared.profile.Feature.TheVariants.{Floats};
 
+use crate::instructions::FloatType::{F32, F64};
+use crate::instructions::IntType::{I32, I64};
 use crate::instructions::Numeric::{
-    Binary, Compare, ExtendS, ExtendU, SignExtend, Test, Unary, Wrap,
+    Binary, Compare, Convert, ExtendS, ExtendU, FloatBinary, FloatCompare, FloatUnary, SignExtend,
+    Test, Unary, Wrap,
 };
 use crate::instructions::Simple::Numeric;
 use crate::instructions::op_class::OpClass::{Plain, With};
 use crate::instructions::op_class::{Immediates, OpClass};
 use crate::instructions::{
-    BinaryOp, Comparison, LoadOp, Numeric as NumericOp, Op, SignExtension, Simple, StoreOp, UnaryOp,
+    BinaryOp, Comparison, Conversion, FloatBinaryOp, FloatComparison, FloatUnaryOp, LoadOp,
+    Numeric as NumericOp, Op, SignExtension, Simple, StoreOp, UnaryOp,
 };
 use crate::profile::{Feature, Profile};
-use crate::types::ValType::{I32, I64};
 
-/// What this byte begins under the profile: an instruction, an else, an end, a floating-point instruction or
-/// nothing (section 5.4).
+/// What this byte begins under the profile: an instruction, an else, an end, a floating-point instruction
+/// that the profile has not, or nothing (section 5.4).
 pub fn op_of(profile: Profile, byte: u8) -> OpClass
     // Each instruction of the profile that begins with the byte is of this class, and the class is that
     // of such an instruction.
     ensures found { (op : Op) → first_byte op ≡ Some byte → IsOpOf profile op → result ≡ class_of op }
     ensures only { IsClassOfOp result → (op : Op) × (first_byte op ≡ Some byte) × IsOpOf profile op
         × (class_of op ≡ result) }
-    ensures float { (result ≡ OpClass.Float) ↔ IsTrue (is_float byte) }
+    // Float says that the profile has no floats, and that the byte begins an instruction on them.
+    ensures float { IsFalse (has profile Floats) → (result ≡ OpClass.Float) ↔ IsTrue (is_float byte) }
+    ensures floats { IsTrue (has profile Floats) → result ≡ OpClass.Float → ⊥ }
     ensures exact { result ≡ class_under profile byte }
 {
     within(profile, class_at(byte))
@@ -36,18 +43,54 @@ pub fn op_of(profile: Profile, byte: u8) -> OpClass
 fn within(profile: Profile, class: OpClass) -> OpClass
     ensures { result ≡ class_in profile class }
 {
-    if !profile.has(feature_of(class)) {
-        return OpClass::None;
+    let feature = feature_of_class(class);
+    if !profile.has(feature) {
+        return without(feature);
     }
     class
 }
 
+// What is answered for the ops of a feature that the profile has not.
+fn without(feature: Feature) -> OpClass
+    ensures { result ≡ left_out feature }
+{
+    match feature {
+        Feature::Floats => OpClass::Float,
+        _ => OpClass::None,
+    }
+}
+
 // What the ops of a class belong to.
-fn feature_of(class: OpClass) -> Feature
+fn feature_of_class(class: OpClass) -> Feature
     ensures { result ≡ class_feature class }
 {
     match class {
-        Plain(Op::Simple(Numeric(SignExtend(_)))) => Feature::SignExtension,
+        Plain(Op::Simple(simple)) => feature_of_simple(simple),
+        With(kind) => match kind {
+            Immediates::F32Const | Immediates::F64Const => Feature::Floats,
+            Immediates::Load(LoadOp::F32Load | LoadOp::F64Load) => Feature::Floats,
+            Immediates::Store(StoreOp::F32Store | StoreOp::F64Store) => Feature::Floats,
+            _ => Feature::Base,
+        },
+        _ => Feature::Base,
+    }
+}
+
+// What an instruction belongs to.
+fn feature_of_simple(simple: Simple) -> Feature
+    ensures { result ≡ feature_of simple }
+{
+    match simple {
+        Simple::F32Const(_) | Simple::F64Const(_) => Feature::Floats,
+        Simple::Load(LoadOp::F32Load | LoadOp::F64Load, _) => Feature::Floats,
+        Simple::Store(StoreOp::F32Store | StoreOp::F64Store, _) => Feature::Floats,
+        Numeric(op) => match op {
+            FloatCompare(_, _) | FloatUnary(_, _) | FloatBinary(_, _) | Convert(_) => {
+                Feature::Floats
+            }
+            SignExtend(_) => Feature::SignExtension,
+            _ => Feature::Base,
+        },
         _ => Feature::Base,
     }
 }
@@ -99,8 +142,8 @@ fn class_at(byte: u8) -> OpClass
         0x27 => OpClass::None,
         0x28 => With(Immediates::Load(LoadOp::I32Load)),
         0x29 => With(Immediates::Load(LoadOp::I64Load)),
-        0x2A => OpClass::Float,
-        0x2B => OpClass::Float,
+        0x2A => With(Immediates::Load(LoadOp::F32Load)),
+        0x2B => With(Immediates::Load(LoadOp::F64Load)),
         0x2C => With(Immediates::Load(LoadOp::I32Load8S)),
         0x2D => With(Immediates::Load(LoadOp::I32Load8U)),
         0x2E => With(Immediates::Load(LoadOp::I32Load16S)),
@@ -113,8 +156,8 @@ fn class_at(byte: u8) -> OpClass
         0x35 => With(Immediates::Load(LoadOp::I64Load32U)),
         0x36 => With(Immediates::Store(StoreOp::I32Store)),
         0x37 => With(Immediates::Store(StoreOp::I64Store)),
-        0x38 => OpClass::Float,
-        0x39 => OpClass::Float,
+        0x38 => With(Immediates::Store(StoreOp::F32Store)),
+        0x39 => With(Immediates::Store(StoreOp::F64Store)),
         0x3A => With(Immediates::Store(StoreOp::I32Store8)),
         0x3B => With(Immediates::Store(StoreOp::I32Store16)),
         0x3C => With(Immediates::Store(StoreOp::I64Store8)),
@@ -124,8 +167,8 @@ fn class_at(byte: u8) -> OpClass
         0x40 => With(Immediates::MemoryGrow),
         0x41 => With(Immediates::I32Const),
         0x42 => With(Immediates::I64Const),
-        0x43 => OpClass::Float,
-        0x44 => OpClass::Float,
+        0x43 => With(Immediates::F32Const),
+        0x44 => With(Immediates::F64Const),
         0x45 => Plain(Op::Simple(Numeric(Test(I32)))),
         0x46 => Plain(Op::Simple(Numeric(Compare(I32, Comparison::Eq)))),
         0x47 => Plain(Op::Simple(Numeric(Compare(I32, Comparison::Ne)))),
@@ -148,18 +191,18 @@ fn class_at(byte: u8) -> OpClass
         0x58 => Plain(Op::Simple(Numeric(Compare(I64, Comparison::LeU)))),
         0x59 => Plain(Op::Simple(Numeric(Compare(I64, Comparison::GeS)))),
         0x5A => Plain(Op::Simple(Numeric(Compare(I64, Comparison::GeU)))),
-        0x5B => OpClass::Float,
-        0x5C => OpClass::Float,
-        0x5D => OpClass::Float,
-        0x5E => OpClass::Float,
-        0x5F => OpClass::Float,
-        0x60 => OpClass::Float,
-        0x61 => OpClass::Float,
-        0x62 => OpClass::Float,
-        0x63 => OpClass::Float,
-        0x64 => OpClass::Float,
-        0x65 => OpClass::Float,
-        0x66 => OpClass::Float,
+        0x5B => Plain(Op::Simple(Numeric(FloatCompare(F32, FloatComparison::Eq)))),
+        0x5C => Plain(Op::Simple(Numeric(FloatCompare(F32, FloatComparison::Ne)))),
+        0x5D => Plain(Op::Simple(Numeric(FloatCompare(F32, FloatComparison::Lt)))),
+        0x5E => Plain(Op::Simple(Numeric(FloatCompare(F32, FloatComparison::Gt)))),
+        0x5F => Plain(Op::Simple(Numeric(FloatCompare(F32, FloatComparison::Le)))),
+        0x60 => Plain(Op::Simple(Numeric(FloatCompare(F32, FloatComparison::Ge)))),
+        0x61 => Plain(Op::Simple(Numeric(FloatCompare(F64, FloatComparison::Eq)))),
+        0x62 => Plain(Op::Simple(Numeric(FloatCompare(F64, FloatComparison::Ne)))),
+        0x63 => Plain(Op::Simple(Numeric(FloatCompare(F64, FloatComparison::Lt)))),
+        0x64 => Plain(Op::Simple(Numeric(FloatCompare(F64, FloatComparison::Gt)))),
+        0x65 => Plain(Op::Simple(Numeric(FloatCompare(F64, FloatComparison::Le)))),
+        0x66 => Plain(Op::Simple(Numeric(FloatCompare(F64, FloatComparison::Ge)))),
         0x67 => Plain(Op::Simple(Numeric(Unary(I32, UnaryOp::Clz)))),
         0x68 => Plain(Op::Simple(Numeric(Unary(I32, UnaryOp::Ctz)))),
         0x69 => Plain(Op::Simple(Numeric(Unary(I32, UnaryOp::Popcnt)))),
@@ -196,59 +239,59 @@ fn class_at(byte: u8) -> OpClass
         0x88 => Plain(Op::Simple(Numeric(Binary(I64, BinaryOp::ShrU)))),
         0x89 => Plain(Op::Simple(Numeric(Binary(I64, BinaryOp::Rotl)))),
         0x8A => Plain(Op::Simple(Numeric(Binary(I64, BinaryOp::Rotr)))),
-        0x8B => OpClass::Float,
-        0x8C => OpClass::Float,
-        0x8D => OpClass::Float,
-        0x8E => OpClass::Float,
-        0x8F => OpClass::Float,
-        0x90 => OpClass::Float,
-        0x91 => OpClass::Float,
-        0x92 => OpClass::Float,
-        0x93 => OpClass::Float,
-        0x94 => OpClass::Float,
-        0x95 => OpClass::Float,
-        0x96 => OpClass::Float,
-        0x97 => OpClass::Float,
-        0x98 => OpClass::Float,
-        0x99 => OpClass::Float,
-        0x9A => OpClass::Float,
-        0x9B => OpClass::Float,
-        0x9C => OpClass::Float,
-        0x9D => OpClass::Float,
-        0x9E => OpClass::Float,
-        0x9F => OpClass::Float,
-        0xA0 => OpClass::Float,
-        0xA1 => OpClass::Float,
-        0xA2 => OpClass::Float,
-        0xA3 => OpClass::Float,
-        0xA4 => OpClass::Float,
-        0xA5 => OpClass::Float,
-        0xA6 => OpClass::Float,
+        0x8B => Plain(Op::Simple(Numeric(FloatUnary(F32, FloatUnaryOp::Abs)))),
+        0x8C => Plain(Op::Simple(Numeric(FloatUnary(F32, FloatUnaryOp::Neg)))),
+        0x8D => Plain(Op::Simple(Numeric(FloatUnary(F32, FloatUnaryOp::Ceil)))),
+        0x8E => Plain(Op::Simple(Numeric(FloatUnary(F32, FloatUnaryOp::Floor)))),
+        0x8F => Plain(Op::Simple(Numeric(FloatUnary(F32, FloatUnaryOp::Trunc)))),
+        0x90 => Plain(Op::Simple(Numeric(FloatUnary(F32, FloatUnaryOp::Nearest)))),
+        0x91 => Plain(Op::Simple(Numeric(FloatUnary(F32, FloatUnaryOp::Sqrt)))),
+        0x92 => Plain(Op::Simple(Numeric(FloatBinary(F32, FloatBinaryOp::Add)))),
+        0x93 => Plain(Op::Simple(Numeric(FloatBinary(F32, FloatBinaryOp::Sub)))),
+        0x94 => Plain(Op::Simple(Numeric(FloatBinary(F32, FloatBinaryOp::Mul)))),
+        0x95 => Plain(Op::Simple(Numeric(FloatBinary(F32, FloatBinaryOp::Div)))),
+        0x96 => Plain(Op::Simple(Numeric(FloatBinary(F32, FloatBinaryOp::Min)))),
+        0x97 => Plain(Op::Simple(Numeric(FloatBinary(F32, FloatBinaryOp::Max)))),
+        0x98 => Plain(Op::Simple(Numeric(FloatBinary(F32, FloatBinaryOp::Copysign)))),
+        0x99 => Plain(Op::Simple(Numeric(FloatUnary(F64, FloatUnaryOp::Abs)))),
+        0x9A => Plain(Op::Simple(Numeric(FloatUnary(F64, FloatUnaryOp::Neg)))),
+        0x9B => Plain(Op::Simple(Numeric(FloatUnary(F64, FloatUnaryOp::Ceil)))),
+        0x9C => Plain(Op::Simple(Numeric(FloatUnary(F64, FloatUnaryOp::Floor)))),
+        0x9D => Plain(Op::Simple(Numeric(FloatUnary(F64, FloatUnaryOp::Trunc)))),
+        0x9E => Plain(Op::Simple(Numeric(FloatUnary(F64, FloatUnaryOp::Nearest)))),
+        0x9F => Plain(Op::Simple(Numeric(FloatUnary(F64, FloatUnaryOp::Sqrt)))),
+        0xA0 => Plain(Op::Simple(Numeric(FloatBinary(F64, FloatBinaryOp::Add)))),
+        0xA1 => Plain(Op::Simple(Numeric(FloatBinary(F64, FloatBinaryOp::Sub)))),
+        0xA2 => Plain(Op::Simple(Numeric(FloatBinary(F64, FloatBinaryOp::Mul)))),
+        0xA3 => Plain(Op::Simple(Numeric(FloatBinary(F64, FloatBinaryOp::Div)))),
+        0xA4 => Plain(Op::Simple(Numeric(FloatBinary(F64, FloatBinaryOp::Min)))),
+        0xA5 => Plain(Op::Simple(Numeric(FloatBinary(F64, FloatBinaryOp::Max)))),
+        0xA6 => Plain(Op::Simple(Numeric(FloatBinary(F64, FloatBinaryOp::Copysign)))),
         0xA7 => Plain(Op::Simple(Numeric(Wrap))),
-        0xA8 => OpClass::Float,
-        0xA9 => OpClass::Float,
-        0xAA => OpClass::Float,
-        0xAB => OpClass::Float,
+        0xA8 => Plain(Op::Simple(Numeric(Convert(Conversion::I32TruncF32S)))),
+        0xA9 => Plain(Op::Simple(Numeric(Convert(Conversion::I32TruncF32U)))),
+        0xAA => Plain(Op::Simple(Numeric(Convert(Conversion::I32TruncF64S)))),
+        0xAB => Plain(Op::Simple(Numeric(Convert(Conversion::I32TruncF64U)))),
         0xAC => Plain(Op::Simple(Numeric(ExtendS))),
         0xAD => Plain(Op::Simple(Numeric(ExtendU))),
-        0xAE => OpClass::Float,
-        0xAF => OpClass::Float,
-        0xB0 => OpClass::Float,
-        0xB1 => OpClass::Float,
-        0xB2 => OpClass::Float,
-        0xB3 => OpClass::Float,
-        0xB4 => OpClass::Float,
-        0xB5 => OpClass::Float,
-        0xB6 => OpClass::Float,
-        0xB7 => OpClass::Float,
-        0xB8 => OpClass::Float,
-        0xB9 => OpClass::Float,
-        0xBA => OpClass::Float,
-        0xBB => OpClass::Float,
-        0xBC => OpClass::Float,
-        0xBD => OpClass::Float,
-        0xBE => OpClass::Float,
-        0xBF => OpClass::Float,
+        0xAE => Plain(Op::Simple(Numeric(Convert(Conversion::I64TruncF32S)))),
+        0xAF => Plain(Op::Simple(Numeric(Convert(Conversion::I64TruncF32U)))),
+        0xB0 => Plain(Op::Simple(Numeric(Convert(Conversion::I64TruncF64S)))),
+        0xB1 => Plain(Op::Simple(Numeric(Convert(Conversion::I64TruncF64U)))),
+        0xB2 => Plain(Op::Simple(Numeric(Convert(Conversion::F32ConvertI32S)))),
+        0xB3 => Plain(Op::Simple(Numeric(Convert(Conversion::F32ConvertI32U)))),
+        0xB4 => Plain(Op::Simple(Numeric(Convert(Conversion::F32ConvertI64S)))),
+        0xB5 => Plain(Op::Simple(Numeric(Convert(Conversion::F32ConvertI64U)))),
+        0xB6 => Plain(Op::Simple(Numeric(Convert(Conversion::F32DemoteF64)))),
+        0xB7 => Plain(Op::Simple(Numeric(Convert(Conversion::F64ConvertI32S)))),
+        0xB8 => Plain(Op::Simple(Numeric(Convert(Conversion::F64ConvertI32U)))),
+        0xB9 => Plain(Op::Simple(Numeric(Convert(Conversion::F64ConvertI64S)))),
+        0xBA => Plain(Op::Simple(Numeric(Convert(Conversion::F64ConvertI64U)))),
+        0xBB => Plain(Op::Simple(Numeric(Convert(Conversion::F64PromoteF32)))),
+        0xBC => Plain(Op::Simple(Numeric(Convert(Conversion::I32ReinterpretF32)))),
+        0xBD => Plain(Op::Simple(Numeric(Convert(Conversion::I64ReinterpretF64)))),
+        0xBE => Plain(Op::Simple(Numeric(Convert(Conversion::F32ReinterpretI32)))),
+        0xBF => Plain(Op::Simple(Numeric(Convert(Conversion::F64ReinterpretI64)))),
         0xC0 => Plain(Op::Simple(Numeric(SignExtend(SignExtension::I32From8)))),
         0xC1 => Plain(Op::Simple(Numeric(SignExtend(SignExtension::I32From16)))),
         0xC2 => Plain(Op::Simple(Numeric(SignExtend(SignExtension::I64From8)))),
@@ -342,6 +385,8 @@ pub fn first_byte(simple: Simple) -> u8
         Simple::MemoryGrow => 0x40,
         Simple::I32Const(_) => 0x41,
         Simple::I64Const(_) => 0x42,
+        Simple::F32Const(_) => 0x43,
+        Simple::F64Const(_) => 0x44,
         Simple::Load(op, _) => load_byte(op),
         Simple::Store(op, _) => store_byte(op),
         Numeric(op) => numeric_byte(op),
@@ -397,12 +442,84 @@ fn binary_place(op: BinaryOp) -> u8
     }
 }
 
+fn float_comparison_place(op: FloatComparison) -> u8
+    ensures { result ≡ (float_comparison op).0 }
+{
+    match op {
+        FloatComparison::Eq => 0,
+        FloatComparison::Ne => 1,
+        FloatComparison::Lt => 2,
+        FloatComparison::Gt => 3,
+        FloatComparison::Le => 4,
+        FloatComparison::Ge => 5,
+    }
+}
+
+fn float_unary_place(op: FloatUnaryOp) -> u8
+    ensures { result ≡ (float_unary op).0 }
+{
+    match op {
+        FloatUnaryOp::Abs => 0,
+        FloatUnaryOp::Neg => 1,
+        FloatUnaryOp::Ceil => 2,
+        FloatUnaryOp::Floor => 3,
+        FloatUnaryOp::Trunc => 4,
+        FloatUnaryOp::Nearest => 5,
+        FloatUnaryOp::Sqrt => 6,
+    }
+}
+
+fn float_binary_place(op: FloatBinaryOp) -> u8
+    ensures { result ≡ (float_binary op).0 }
+{
+    match op {
+        FloatBinaryOp::Add => 0,
+        FloatBinaryOp::Sub => 1,
+        FloatBinaryOp::Mul => 2,
+        FloatBinaryOp::Div => 3,
+        FloatBinaryOp::Min => 4,
+        FloatBinaryOp::Max => 5,
+        FloatBinaryOp::Copysign => 6,
+    }
+}
+
+fn conversion_byte(op: Conversion) -> u8
+    ensures { result ≡ (conversion op).byte }
+{
+    match op {
+        Conversion::I32TruncF32S => 0xA8,
+        Conversion::I32TruncF32U => 0xA9,
+        Conversion::I32TruncF64S => 0xAA,
+        Conversion::I32TruncF64U => 0xAB,
+        Conversion::I64TruncF32S => 0xAE,
+        Conversion::I64TruncF32U => 0xAF,
+        Conversion::I64TruncF64S => 0xB0,
+        Conversion::I64TruncF64U => 0xB1,
+        Conversion::F32ConvertI32S => 0xB2,
+        Conversion::F32ConvertI32U => 0xB3,
+        Conversion::F32ConvertI64S => 0xB4,
+        Conversion::F32ConvertI64U => 0xB5,
+        Conversion::F32DemoteF64 => 0xB6,
+        Conversion::F64ConvertI32S => 0xB7,
+        Conversion::F64ConvertI32U => 0xB8,
+        Conversion::F64ConvertI64S => 0xB9,
+        Conversion::F64ConvertI64U => 0xBA,
+        Conversion::F64PromoteF32 => 0xBB,
+        Conversion::I32ReinterpretF32 => 0xBC,
+        Conversion::I64ReinterpretF64 => 0xBD,
+        Conversion::F32ReinterpretI32 => 0xBE,
+        Conversion::F64ReinterpretI64 => 0xBF,
+    }
+}
+
 fn load_byte(op: LoadOp) -> u8
     ensures { result ≡ (load op).byte }
 {
     match op {
         LoadOp::I32Load => 0x28,
         LoadOp::I64Load => 0x29,
+        LoadOp::F32Load => 0x2A,
+        LoadOp::F64Load => 0x2B,
         LoadOp::I32Load8S => 0x2C,
         LoadOp::I32Load8U => 0x2D,
         LoadOp::I32Load16S => 0x2E,
@@ -422,6 +539,8 @@ fn store_byte(op: StoreOp) -> u8
     match op {
         StoreOp::I32Store => 0x36,
         StoreOp::I64Store => 0x37,
+        StoreOp::F32Store => 0x38,
+        StoreOp::F64Store => 0x39,
         StoreOp::I32Store8 => 0x3A,
         StoreOp::I32Store16 => 0x3B,
         StoreOp::I64Store8 => 0x3C,
@@ -442,6 +561,13 @@ fn numeric_byte(op: NumericOp) -> u8
         Unary(I64, op) => 0x79 + unary_place(op),
         Binary(I32, op) => 0x6A + binary_place(op),
         Binary(I64, op) => 0x7C + binary_place(op),
+        FloatCompare(F32, op) => 0x5B + float_comparison_place(op),
+        FloatCompare(F64, op) => 0x61 + float_comparison_place(op),
+        FloatUnary(F32, op) => 0x8B + float_unary_place(op),
+        FloatUnary(F64, op) => 0x99 + float_unary_place(op),
+        FloatBinary(F32, op) => 0x92 + float_binary_place(op),
+        FloatBinary(F64, op) => 0xA0 + float_binary_place(op),
+        Convert(op) => conversion_byte(op),
         Wrap => 0xA7,
         ExtendS => 0xAC,
         ExtendU => 0xAD,

@@ -191,6 +191,14 @@ fn same_simple(a: Simple, b: Simple) -> bool
             Simple::I64Const(y) => x == y,
             _ => false,
         },
+        Simple::F32Const(x) => match b {
+            Simple::F32Const(y) => x == y,
+            _ => false,
+        },
+        Simple::F64Const(x) => match b {
+            Simple::F64Const(y) => x == y,
+            _ => false,
+        },
         Simple::Load(x, m) => match b {
             Simple::Load(y, n) => x == y && m == n,
             _ => false,
@@ -224,6 +232,22 @@ fn same_numeric(a: Numeric, b: Numeric) -> bool
         },
         Numeric::Binary(x, m) => match b {
             Numeric::Binary(y, n) => x == y && m == n,
+            _ => false,
+        },
+        Numeric::FloatCompare(x, m) => match b {
+            Numeric::FloatCompare(y, n) => x == y && m == n,
+            _ => false,
+        },
+        Numeric::FloatUnary(x, m) => match b {
+            Numeric::FloatUnary(y, n) => x == y && m == n,
+            _ => false,
+        },
+        Numeric::FloatBinary(x, m) => match b {
+            Numeric::FloatBinary(y, n) => x == y && m == n,
+            _ => false,
+        },
+        Numeric::Convert(x) => match b {
+            Numeric::Convert(y) => x == y,
             _ => false,
         },
         Numeric::Wrap => matches!(b, Numeric::Wrap),

@@ -3,7 +3,7 @@
 use Rattle.std.specs.Prelude.{ℕ, ◌^◌, Bool, true, false, List, [], ◌∷◌, ◌++◌, Option, Some, None, slice_get}
 use Rattle.std.specs.Prelude.{option_to_list, nat_le}
 use Rattle.wm_syntax.specs.declared.types.ValType.{ValType}
-use Rattle.wm_syntax.specs.declared.types.ValType.TheVariants.{I32, I64}
+use Rattle.wm_syntax.specs.declared.types.ValType.TheVariants.{I32, I64, F32, F64}
 use Rattle.wm_syntax.specs.declared.why.Why.{Why}
 use Rattle.wm_syntax.specs.declared.why.Why.TheVariants as why
 use Rattle.wm_syntax.specs.declared.instructions.Simple.{Simple}
@@ -11,7 +11,8 @@ use Rattle.wm_syntax.specs.declared.instructions.Simple.TheVariants.{Unreachable
 use Rattle.wm_syntax.specs.declared.instructions.Simple.TheVariants.{Br, BrIf, Call, CallIndirect, LocalGet}
 use Rattle.wm_syntax.specs.declared.instructions.Simple.TheVariants.{LocalSet, LocalTee, GlobalGet, GlobalSet}
 use Rattle.wm_syntax.specs.declared.instructions.Simple.TheVariants.{MemorySize, MemoryGrow, I32Const}
-use Rattle.wm_syntax.specs.declared.instructions.Simple.TheVariants.{I64Const, Load, Store, Numeric}
+use Rattle.wm_syntax.specs.declared.instructions.Simple.TheVariants.{I64Const, F32Const, F64Const, Load}
+use Rattle.wm_syntax.specs.declared.instructions.Simple.TheVariants.{Store, Numeric}
 use Rattle.wm_syntax.specs.Opcodes.{numeric, load, store}
 use Rattle.wm_typing.specs.Typing.{Context, function_type}
 
@@ -72,6 +73,8 @@ effect_of c MemorySize = where_true why.Index c.has_memory (fixed [] (I32 ∷ []
 effect_of c MemoryGrow = where_true why.Index c.has_memory (fixed (I32 ∷ []) (I32 ∷ []))
 effect_of c (I32Const n) = fixed [] (I32 ∷ [])
 effect_of c (I64Const n) = fixed [] (I64 ∷ [])
+effect_of c (F32Const n) = fixed [] (F32 ∷ [])
+effect_of c (F64Const n) = fixed [] (F64 ∷ [])
 effect_of c (Load op at) = access_effect c at.align (load op).width (fixed (I32 ∷ []) ((load op).ty ∷ []))
 effect_of c (Store op at) = access_effect c at.align (store op).width (fixed (I32 ∷ (store op).ty ∷ []) [])
 effect_of c (Numeric op) = fixed (numeric op).takes (numeric op).gives

@@ -10,6 +10,8 @@ use Rattle.wm_syntax.specs.declared.instructions.Op.{Op}
 use Rattle.wm_syntax.specs.declared.instructions.Op.TheVariants as op
 use Rattle.wm_syntax.specs.declared.instructions.Simple.{Simple}
 use Rattle.wm_syntax.specs.declared.instructions.Simple.TheVariants as simple
+use Rattle.wm_syntax.specs.declared.instructions.Numeric.{Numeric}
+use Rattle.wm_syntax.specs.declared.instructions.Numeric.TheVariants as numeric
 use Rattle.wm_syntax.specs.declared.why.Why.{Why}
 use Rattle.wm_syntax.specs.declared.why.Why.TheVariants as why
 use Rattle.wm_stacks.specs.declared.entries.Entry.{Entry}
@@ -81,10 +83,20 @@ HasFixedType simple.MemorySize = Unit {0}
 HasFixedType simple.MemoryGrow = Unit {0}
 HasFixedType (simple.I32Const n) = Unit {0}
 HasFixedType (simple.I64Const n) = Unit {0}
+HasFixedType (simple.F32Const n) = Unit {0}
+HasFixedType (simple.F64Const n) = Unit {0}
 HasFixedType (simple.Load o at) = Unit {0}
 HasFixedType (simple.Store o at) = Unit {0}
 HasFixedType (simple.Numeric o) = Unit {0}
 HasFixedType p = ⊥
+
+-- an instruction on numbers other than a test, a comparison and an operation on whole numbers
+abbrev pub IsRareNumeric : Numeric → Type 0
+IsRareNumeric (numeric.Test t) = ⊥
+IsRareNumeric (numeric.Compare t c) = ⊥
+IsRareNumeric (numeric.Unary t o) = ⊥
+IsRareNumeric (numeric.Binary t o) = ⊥
+IsRareNumeric o = Unit {0}
 
 -- takes the result of the innermost frame, and closes it
 abbrev pub drive_close : Option ValType → Stack → (Frame → Stack → Result Stack Why) → Result Stack Why

@@ -80,6 +80,8 @@ fn immediates_len(simple: Simple) -> u64
         Simple::MemorySize | Simple::MemoryGrow => 1,
         Simple::I32Const(value) => signed_len(i64::from(value), 5),
         Simple::I64Const(value) => signed_len(value, 10),
+        Simple::F32Const(_) => 4,
+        Simple::F64Const(_) => 8,
         Simple::Load(_, at) | Simple::Store(_, at) => access_len(at),
         _ => 0,
     }
@@ -107,6 +109,8 @@ pub(crate) fn constant_len(value: Const) -> u64
     match value {
         Const::I32(number) => signed_len(i64::from(number), 5) + 2,
         Const::I64(number) => signed_len(number, 10) + 2,
+        Const::F32(_) => 6,
+        Const::F64(_) => 10,
         Const::Global(index) => number_len(u64::from(index)) + 2,
     }
 }

@@ -4,6 +4,7 @@ ghost use Rattle.std.specs.Prelude.{◌≡◌, ◌++◌, ◌∷◌, [], length, 
 ghost use Rattle.wm_write.specs.Canon.{desc_bytes, global_type_bytes, limits_bytes, immediates};
 ghost use Rattle.wm_write.specs.Canon.{op_bytes, u32_bytes};
 ghost use Rattle.wm_decode.specs.Sections.{kind_byte};
+ghost use Rattle.wm_syntax.specs.Instructions.{float_bytes};
 ghost use Rattle.wm_syntax.specs.Leb128.{signed_bytes};
 ghost use Rattle.wm_syntax.specs.Modules.{constant};
 ghost use Rattle.wm_syntax.specs.Types.{block_byte, type_byte};
@@ -22,6 +23,8 @@ pub(crate) fn value_byte(ty: ValType) -> u8
     match ty {
         ValType::I32 => 0x7F,
         ValType::I64 => 0x7E,
+        ValType::F32 => 0x7D,
+        ValType::F64 => 0x7C,
     }
 }
 
@@ -94,6 +97,19 @@ fn push_signed(batch: &mut Batch, value: i64, most: usize)
     batch.push(chunk.as_slice());
 }
 
+// Adds the bits of a float, lowest byte first, in so many bytes (section 5.2.3).
+fn push_float(batch: &mut Batch, bits: u64, width: usize)
+    requires { length batch.old + width ≤ 64 }
+    ensures text { batch.new ≡ batch.old ++ float_bytes width bits }
+    ensures short { length batch.new ≤ length batch.old + width }
+{
+    let mut rest = bits;
+    for _ in 0..width {
+        batch.push_byte((rest % 0x100) as u8);
+        rest /= 0x100;
+    }
+}
+
 // Adds what stands behind the first byte of an instruction, at most ten bytes.
 fn push_immediates(batch: &mut Batch, simple: Simple)
     requires { length batch.old + 10 ≤ 64 }
@@ -116,6 +132,8 @@ fn push_immediates(batch: &mut Batch, simple: Simple)
         Simple::MemorySize | Simple::MemoryGrow => batch.push_byte(0x00),
         Simple::I32Const(value) => push_signed(batch, i64::from(value), 5),
         Simple::I64Const(value) => push_signed(batch, value, 10),
+        Simple::F32Const(bits) => push_float(batch, u64::from(bits), 4),
+        Simple::F64Const(bits) => push_float(batch, bits, 8),
         Simple::Load(_, at) | Simple::Store(_, at) => {
             push_number(batch, at.align);
             push_number(batch, at.offset);
@@ -131,6 +149,8 @@ pub(crate) fn instruction_of(value: Const) -> Simple
     match value {
         Const::I32(number) => Simple::I32Const(number),
         Const::I64(number) => Simple::I64Const(number),
+        Const::F32(bits) => Simple::F32Const(bits),
+        Const::F64(bits) => Simple::F64Const(bits),
         Const::Global(index) => Simple::GlobalGet(index),
     }
 }

@@ -53,6 +53,21 @@ tables: [], memories: [], globals: [], exports: [], start: None, elements: [], s
     \x0A\x0E\x01\x0C\x00\x41\x01\x04\x7F\x41\x02\x05\x41\x03\x0B\x0B",
 );
 
+// A NaN with a payload and -0. An empty run between two others is left out.
+const FLOATS: Row = (
+    b"\0asm\x01\0\0\0\x01\x06\x01\x60\x01\x7D\x01\x7C\x03\x02\x01\x00\
+    \x06\x09\x01\x7D\x00\x43\x01\x00\xA0\xFF\x0B\
+    \x0A\x13\x01\x11\x03\x01\x7D\x00\x7F\x02\x7C\x44\x00\x00\x00\x00\x00\x00\x00\x80\x0B",
+    "Module { types: [FuncType { params: [F32], results: [F64] }], imports: [], \
+functions: [Function { type_index: 0, locals: Locals { runs: [Run { end: 1, ty: F32 }, Run { end: 3, ty: F64 }] }, \
+body: Body { ops: [Simple(F64Const(9223372036854775808))] } }], \
+tables: [], memories: [], globals: [GlobalDef { ty: GlobalType { ty: F32, var: false }, init: F32(4288675841) }], \
+exports: [], start: None, elements: [], segments: [] }",
+    b"\0asm\x01\0\0\0\x01\x06\x01\x60\x01\x7D\x01\x7C\x03\x02\x01\x00\
+    \x06\x09\x01\x7D\x00\x43\x01\x00\xA0\xFF\x0B\
+    \x0A\x11\x01\x0F\x02\x01\x7D\x02\x7C\x44\x00\x00\x00\x00\x00\x00\x00\x80\x0B",
+);
+
 const SECTIONS_BYTES: &[u8] = b"\0asm\x01\0\0\0\x01\x06\x01\x60\x01\x7F\x01\x7E\
     \x02\x0D\x02\x01m\x01f\x00\x00\x01m\x00\x03\x7E\x01\
     \x03\x02\x01\x00\x04\x04\x01\x70\x00\x01\x05\x04\x01\x01\x01\x02\
@@ -77,7 +92,7 @@ segments: [Segment { memory: 0, offset: Global(0), bytes: [0, 255] }] }",
 
 /// The module that bytes spell, valid or not.
 fn module_of(rt: &impl Abort, alloc: Global, input: &[u8]) -> Module {
-    let mut decoder = Decoder::new(alloc, Builder::new(alloc), Profile::One, 1000);
+    let mut decoder = Decoder::new(alloc, Builder::new(alloc), Profile::Three, 1000);
     decoder.feed(input).expect(rt, "what begins a module");
     let builder = decoder.finish().expect(rt, "a whole module");
     builder.into_module()
@@ -100,7 +115,7 @@ fn expect_bytes(rt: &impl Abort, alloc: Global, module: &Module, wanted: &[u8]) 
 
 #[test]
 fn modules(rt: HostRuntime) {
-    for row in [EMPTY, ADDS, LOCALS, BRANCHES, SECTIONS] {
+    for row in [EMPTY, ADDS, LOCALS, BRANCHES, FLOATS, SECTIONS] {
         expect(&rt, rt.alloc(), row);
     }
 }

@@ -15,6 +15,7 @@ ghost use Rattle.wm_write.specs.exact.Aligns.{is_printable, is_simple_printable}
 
 use crate::batch::Batch;
 use crate::encode::spell::instruction_of;
+use crate::print::float_text::{push_f32, push_f64};
 use crate::print::words::{push_type_use, put_run, type_bytes};
 use crate::put::put_bytes;
 use wm_syntax::instructions::accesses::{loaded, stored};
@@ -80,16 +81,16 @@ fn op_byte(op: Op) -> Option<u8>
 // The name of what this byte begins.
 fn name(byte: u8) -> &'static [u8]
     ensures named { (op : Op) → first_byte op ≡ Some byte → op_name op ≡ Some result.now }
-    ensures short { length result.now ≤ 16 }
+    ensures short { length result.now ≤ 19 }
 {
     name_of(byte)
 }
 
-// Adds the name of an op on a line of its own, at most 21 bytes, unless it is a label.
+// Adds the name of an op on a line of its own, at most 24 bytes, unless it is a label.
 fn push_name(line: &mut Batch, op: Op)
-    requires { length line.old + 21 ≤ 64 }
+    requires { length line.old + 24 ≤ 64 }
     ensures text { line.new ≡ line.old ++ words_text (head_words (op_name op)) }
-    ensures short { length line.new ≤ length line.old + 21 }
+    ensures short { length line.new ≤ length line.old + 24 }
 {
     if let Some(byte) = op_byte(op) {
         line.push(b"\n    ");
@@ -114,6 +115,8 @@ fn push_immediates(line: &mut Batch, simple: Simple)
         Simple::GlobalGet(index) | Simple::GlobalSet(index) => line.push_counted(b" $g", index),
         Simple::I32Const(value) => line.push_counted(b" ", value),
         Simple::I64Const(value) => line.push_counted(b" ", value),
+        Simple::F32Const(bits) => push_f32(line, u64::from(bits)),
+        Simple::F64Const(bits) => push_f64(line, bits),
         Simple::Load(op, at) => push_access(line, loaded(op).width, at),
         Simple::Store(op, at) => push_access(line, stored(op).width, at),
         Simple::Unreachable

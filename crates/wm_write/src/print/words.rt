@@ -1,7 +1,8 @@
 //! Words of a printed text, each with the white space before it (chapter 6).
 
 ghost use Rattle.std.specs.Prelude.{◌≡◌, ◌+◌, ◌<◌, ◌≤◌, ◌++◌, ◌∷◌, ℕ, List, length, map, replicate};
-ghost use Rattle.wm_write.specs.Layout.{global_type_words, hex_digit, is_plain, limits_words};
+ghost use Rattle.wm_write.specs.FloatText.{hex_digit};
+ghost use Rattle.wm_write.specs.Layout.{global_type_words, is_plain, limits_words};
 ghost use Rattle.wm_write.specs.Layout.{max_words, quoted, table_words, type_text, type_use, type_word};
 ghost use Rattle.wm_write.specs.Layout.{types_words, word_text, words_text};
 ghost use Rattle.wm_write.specs.exact.Writing.{Sent};
@@ -44,6 +45,8 @@ pub(crate) fn type_bytes(ty: ValType) -> &'static [u8]
     match ty {
         ValType::I32 => b" i32",
         ValType::I64 => b" i64",
+        ValType::F32 => b" f32",
+        ValType::F64 => b" f64",
     }
 }
 
@@ -139,7 +142,8 @@ pub(crate) fn push_type_use(line: &mut Batch, index: u32)
     line.push(b")");
 }
 
-fn hex_digit(n: u8) -> u8
+/// A hexadecimal digit, in lower case.
+pub(crate) fn hex_digit(n: u8) -> u8
     requires { n < 16 }
     ensures { result ≡ hex_digit n }
 {

@@ -9,4 +9,4 @@ use Rattle.wm_c.proofs.convert.canonical.Goals as goal
 pub out_of_memory-requires : goal.out_of_memory-requires
 out_of_memory-requires c = λ e.
     c.in-Err.ensures.too_large.0 (ap Err e) (subst (λ m. Fits (value_of m)) (sym c.module.ensures.value)
-    (spelled_fits (value_of (module_in c.in_ok-checked.checked)) c.args.bytes.now c.in_ok-checked.ensures.loads.spelled.1))
+    (spelled_fits c.args.asked.profile (value_of (module_in c.in_ok-checked.checked)) c.args.bytes.now c.in_ok-checked.ensures.loads.spelled.1))

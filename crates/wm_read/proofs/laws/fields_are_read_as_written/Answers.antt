@@ -7,4 +7,4 @@ pub returns-clause-read : goal.returns-clause-read
 returns-clause-read c = λ p names k fields rest d e. let g = fields_sound p names d k fields rest e in (g.0, g.1, g.2.0, g.2.1)
 
 pub returns-clause-written : goal.returns-clause-written
-returns-clause-written c = λ p names fields front more d w of. fields_complete p names d fields front (close_paren ∷ more) (w, of) tt
+returns-clause-written c = λ p names fields front more d knows w of. fields_complete p names d knows fields front (close_paren ∷ more) (w, of) tt

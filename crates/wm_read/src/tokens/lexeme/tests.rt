@@ -28,6 +28,11 @@ tokens a => ok a
 tokens z9AZ => ok z9AZ
 tokens 0 => ok 0
 tokens 007 => ok 007
+tokens 1.5 => ok 1.5
+tokens 0x1.8p+1 => ok 0x1.8p+1
+tokens 1e400 => ok 1e400
+tokens +inf => ok +inf
+tokens -nan:0x1 => ok -nan:0x1
 tokens 1_000 => ok 1_000
 tokens +1 => ok +1
 tokens -0 => ok -0
@@ -61,8 +66,8 @@ tokens (func);) => BadToken at 6
 ;; atoms of no kind
 tokens ( $ ) => BadToken at 2
 tokens $ => BadToken at 0
-tokens 1.5 => BadToken at 0
-tokens (1e5 => BadToken at 1
+tokens 1._5 => BadToken at 0
+tokens (1e => BadToken at 1
 tokens x 0x => BadToken at 2
 tokens 1_ => BadToken at 0
 tokens _1 => BadToken at 0
@@ -75,7 +80,7 @@ tokens +-1 => BadToken at 0
 tokens -$a => BadToken at 0
 tokens Func => BadToken at 0
 tokens nan 1nan => BadToken at 4
-tokens +inf => BadToken at 0
+tokens +infinity => BadToken at 0
 tokens .a => BadToken at 0
 tokens = => BadToken at 0
 ;; control characters in a string

@@ -69,6 +69,8 @@ fn what_is_the_same_and_what_is_not(rt: HostRuntime) {
 2*I32 1*I32: Nop | 3*I32: Nop Nop = (false, true)
 2*I32 1*I32: Nop | 3*I32: Br:7 = (false, true)
 2*I32 1*I32: Nop | empty = (false, true)
+2*F32 1*F64: Nop | 1*F32 1*F32 1*F64: Nop = (true, false)
+1*F32: Nop | 1*F64: Nop, 1*F32: Nop | 1*I32: Nop = (false, true)
 : If Else End | : If End = (true, false)",
     );
 }

@@ -10,7 +10,7 @@ returns g c =
     let one = c.ops-ran.result in
     let two = c.last_end-last.result in
     let bytes : List ℕ = c.args.bytes.now in
-    advances_on g.S.Sink.after g.S.Sink.may_run_out bytes c.args.machine.now c.ops-ran.new.machine c.last_end-last.new.machine (held c.args.sink.now) (held c.ops-ran.new.sink) (held c.last_end-last.new.sink) one two _
+    advances_on g.S.Sink.after g.S.Sink.may_run_out c.args.profile bytes c.args.machine.now c.ops-ran.new.machine c.last_end-last.new.machine (held c.args.sink.now) (held c.ops-ran.new.sink) (held c.last_end-last.new.sink) one two _
     c.ops-ran.ensures (search rules)
-    (subst (λ (y : List ℕ). Advances g.S.Sink.after g.S.Sink.may_run_out y c.ops-ran.new.machine (held c.ops-ran.new.sink) two c.last_end-last.new.machine (held c.last_end-last.new.sink)) (take_rest bytes one.used) c.last_end-last.ensures)
+    (subst (λ (y : List ℕ). Advances g.S.Sink.after g.S.Sink.may_run_out c.args.profile y c.ops-ran.new.machine (held c.ops-ran.new.sink) two c.last_end-last.new.machine (held c.last_end-last.new.sink)) (take_rest bytes one.used) c.last_end-last.ensures)
     refl refl

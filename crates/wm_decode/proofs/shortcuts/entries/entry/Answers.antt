@@ -10,7 +10,7 @@ returns g c =
     let one = c.head-begun.result in
     let two = c.body-rest.result in
     let bytes : List ℕ = c.args.bytes.now in
-    advances_on g.S.Sink.after g.S.Sink.may_run_out bytes c.args.machine.now c.head-begun.new.machine c.body-rest.new.machine (held c.args.sink.now) (held c.head-begun.new.sink) (held c.body-rest.new.sink) one two _
+    advances_on g.S.Sink.after g.S.Sink.may_run_out c.args.profile bytes c.args.machine.now c.head-begun.new.machine c.body-rest.new.machine (held c.args.sink.now) (held c.head-begun.new.sink) (held c.body-rest.new.sink) one two _
     c.head-begun.ensures (search rules)
-    (subst (λ (y : List ℕ). Advances g.S.Sink.after g.S.Sink.may_run_out y c.head-begun.new.machine (held c.head-begun.new.sink) two c.body-rest.new.machine (held c.body-rest.new.sink)) (take_rest bytes one.used) c.body-rest.ensures)
+    (subst (λ (y : List ℕ). Advances g.S.Sink.after g.S.Sink.may_run_out c.args.profile y c.head-begun.new.machine (held c.head-begun.new.sink) two c.body-rest.new.machine (held c.body-rest.new.sink)) (take_rest bytes one.used) c.body-rest.ensures)
     refl refl

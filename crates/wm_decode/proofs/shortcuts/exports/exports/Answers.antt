@@ -10,7 +10,7 @@ pub loop-left-init : goal.loop-left-init
 loop-left-init g c = record {
   within = omega arith;
   section = omega arith;
-  advanced = advances_by g.S.Sink.after g.S.Sink.may_run_out _ _ _ _ _ _ _ _ refl (exports_start c.in-Some.start) (advances_none g.S.Sink.after g.S.Sink.may_run_out c.args.bytes.now (before_export c.in-Some.start) (g.S.Sink.held c.args.sink.now) (record { used = 0; refused = None }) refl refl);
+  advanced = advances_by g.S.Sink.after g.S.Sink.may_run_out c.args.profile _ _ _ _ _ _ _ _ refl (exports_start c.in-Some.start) (advances_none g.S.Sink.after g.S.Sink.may_run_out c.args.profile c.args.bytes.now (before_export c.in-Some.start) (g.S.Sink.held c.args.sink.now) (record { used = 0; refused = None }) refl refl);
 }
 
 pub returns-in-Err : goal.returns-in-Err
@@ -21,9 +21,9 @@ returns-in-Err g c =
     let within : x.found.next ≤ c.min-end.result = x.ensures.within in
     let order : x.found.stop + 1 < x.found.next = x.ensures.index.some in
     let out = c.out in
-    advances_by g.S.Sink.after g.S.Sink.may_run_out _ _ _ _ _ _ _ _ c.in-Some.ensures refl
-    (advances_out g.S.Sink.after g.S.Sink.may_run_out c.args.bytes.now (before_export c.in-Some.start) _ c.args.machine.now (held c.args.sink.now) (held c.give_name.new.sink) (held c.give_name.new.sink) out.result c.in-Err.why out.ensures.refused (omega (arith, x.ensures.name.some))
-    (export_named g.S.Sink.after g.S.Sink.may_run_out c.args.bytes.now (before_export c.in-Some.start) (held c.args.sink.now) (held l.sink) c.in-Some.start l.used l.left x.found.stop l.invariant.advanced x.ensures.name (omega arith) (omega arith)
+    advances_by g.S.Sink.after g.S.Sink.may_run_out c.args.profile _ _ _ _ _ _ _ _ c.in-Some.ensures refl
+    (advances_out g.S.Sink.after g.S.Sink.may_run_out c.args.profile c.args.bytes.now (before_export c.in-Some.start) _ c.args.machine.now (held c.args.sink.now) (held c.give_name.new.sink) (held c.give_name.new.sink) out.result c.in-Err.why out.ensures.refused (omega (arith, x.ensures.name.some))
+    (export_named g.S.Sink.after g.S.Sink.may_run_out c.args.profile c.args.bytes.now (before_export c.in-Some.start) (held c.args.sink.now) (held l.sink) c.in-Some.start l.used l.left x.found.stop l.invariant.advanced x.ensures.name (omega arith) (omega arith)
     (held c.give_name.new.sink) out.result c.give_name.result out.ensures.used (out.ensures.refused ∙ sym (ap result_err c.in-Err.is)) c.give_name.ensures.given))
 
 pub returns-in-Err-give : goal.returns-in-Err-give
@@ -34,9 +34,9 @@ returns-in-Err-give g c =
     let within : x.found.next ≤ c.min-end.result = x.ensures.within in
     let order : x.found.stop + 1 < x.found.next = x.ensures.index.some in
     let out = c.out-in-Err-give in
-    advances_by g.S.Sink.after g.S.Sink.may_run_out _ _ _ _ _ _ _ _ c.in-Some.ensures refl
-    (advances_out g.S.Sink.after g.S.Sink.may_run_out c.args.bytes.now (before_export c.in-Some.start) _ c.args.machine.now (held c.args.sink.now) (held c.give.new.sink) (held c.give.new.sink) out.result c.in-Err-give.why out.ensures.refused (omega arith)
-    (export_taken g.S.Sink.after g.S.Sink.may_run_out c.args.bytes.now (before_export c.in-Some.start) (held c.args.sink.now) (held l.sink) c.in-Some.start l.used l.left x.found.stop l.invariant.advanced x.ensures.name (omega arith) (omega arith)
+    advances_by g.S.Sink.after g.S.Sink.may_run_out c.args.profile _ _ _ _ _ _ _ _ c.in-Some.ensures refl
+    (advances_out g.S.Sink.after g.S.Sink.may_run_out c.args.profile c.args.bytes.now (before_export c.in-Some.start) _ c.args.machine.now (held c.args.sink.now) (held c.give.new.sink) (held c.give.new.sink) out.result c.in-Err-give.why out.ensures.refused (omega arith)
+    (export_taken g.S.Sink.after g.S.Sink.may_run_out c.args.profile c.args.bytes.now (before_export c.in-Some.start) (held c.args.sink.now) (held l.sink) c.in-Some.start l.used l.left x.found.stop l.invariant.advanced x.ensures.name (omega arith) (omega arith)
     (held c.give_name.new.sink) (held c.give.new.sink) x.found.kind x.found.index x.found.next out.result c.give.result c.in_default-give_name.ensures.given x.ensures.kind x.ensures.index (omega arith) (omega arith)
     out.ensures.used (out.ensures.refused ∙ sym (ap result_err c.in-Err-give.is)) c.give.ensures.given c.give.ensures.room))
 
@@ -50,7 +50,7 @@ loop-left-preserved g c =
     record {
       within = omega arith;
       section = omega arith;
-      advanced = export_taken g.S.Sink.after g.S.Sink.may_run_out c.args.bytes.now (before_export c.in-Some.start) (held c.args.sink.now) (held l.sink) c.in-Some.start l.used l.left x.found.stop l.invariant.advanced x.ensures.name (omega arith) (omega arith)
+      advanced = export_taken g.S.Sink.after g.S.Sink.may_run_out c.args.profile c.args.bytes.now (before_export c.in-Some.start) (held c.args.sink.now) (held l.sink) c.in-Some.start l.used l.left x.found.stop l.invariant.advanced x.ensures.name (omega arith) (omega arith)
           (held c.give_name.new.sink) (held c.give.new.sink) x.found.kind x.found.index x.found.next (record { used = x.found.next; refused = None }) ok c.in_default-give_name.ensures.given x.ensures.kind x.ensures.index (omega arith) (omega arith)
           refl refl c.in_default-give.ensures.given tt;
     }

@@ -7,7 +7,7 @@ abbrev pub invariant-loop-left : goal.invariant-loop-left
 invariant-loop-left g l = record {
   within : l.used ≤ length l.bytes;
   section : l.used ≤ l.start.more;
-  advanced : Advances g.S.Sink.after g.S.Sink.may_run_out l.bytes (before_export l.start) (g.S.Sink.held l.fn.sink)
+  advanced : Advances g.S.Sink.after g.S.Sink.may_run_out l.fn.profile l.bytes (before_export l.start) (g.S.Sink.held l.fn.sink)
       (record { used = l.used; refused = None }) (before_export (names_after l.start l.used l.left)) (g.S.Sink.held l.sink);
 }
 

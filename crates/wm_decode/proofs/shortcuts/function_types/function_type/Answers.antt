@@ -10,7 +10,7 @@ returns g c =
     let one = c.params-front.result in
     let two = c.results-back.result in
     let bytes : List ℕ = c.args.bytes.now in
-    advances_on g.S.Sink.after g.S.Sink.may_run_out bytes c.args.machine.now c.params-front.new.machine c.results-back.new.machine (held c.args.sink.now) (held c.params-front.new.sink) (held c.results-back.new.sink) one two _
+    advances_on g.S.Sink.after g.S.Sink.may_run_out c.args.profile bytes c.args.machine.now c.params-front.new.machine c.results-back.new.machine (held c.args.sink.now) (held c.params-front.new.sink) (held c.results-back.new.sink) one two _
     c.params-front.ensures (search rules)
-    (subst (λ (y : List ℕ). Advances g.S.Sink.after g.S.Sink.may_run_out y c.params-front.new.machine (held c.params-front.new.sink) two c.results-back.new.machine (held c.results-back.new.sink)) (take_rest bytes one.used) c.results-back.ensures)
+    (subst (λ (y : List ℕ). Advances g.S.Sink.after g.S.Sink.may_run_out c.args.profile y c.params-front.new.machine (held c.params-front.new.sink) two c.results-back.new.machine (held c.results-back.new.sink)) (take_rest bytes one.used) c.results-back.ensures)
     refl refl

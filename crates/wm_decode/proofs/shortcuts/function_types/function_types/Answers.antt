@@ -7,7 +7,7 @@ use Rattle.wm_decode.proofs.shortcuts.function_types.function_types.Goals as goa
 pub loop-used-init : goal.loop-used-init
 loop-used-init g c = record {
   within = omega arith;
-  advanced = advances_none g.S.Sink.after g.S.Sink.may_run_out c.args.bytes.now c.args.machine.now (g.S.Sink.held c.args.sink.now) (record { used = 0; refused = None }) refl refl;
+  advanced = advances_none g.S.Sink.after g.S.Sink.may_run_out c.args.profile c.args.bytes.now c.args.machine.now (g.S.Sink.held c.args.sink.now) (record { used = 0; refused = None }) refl refl;
 }
 
 pub returns-then-taken-eq0 : goal.returns-then-taken-eq0
@@ -16,7 +16,7 @@ returns-then-taken-eq0 g c =
     let l = c.loop-used in
     let taken = c.function_type-taken.result in
     let bytes : List ℕ = c.args.bytes.now in
-    advances_on g.S.Sink.after g.S.Sink.may_run_out bytes c.args.machine.now l.machine c.function_type-taken.new.machine (held c.args.sink.now) (held l.sink) (held c.function_type-taken.new.sink) (record { used = l.used; refused = None }) taken _
+    advances_on g.S.Sink.after g.S.Sink.may_run_out c.args.profile bytes c.args.machine.now l.machine c.function_type-taken.new.machine (held c.args.sink.now) (held l.sink) (held c.function_type-taken.new.sink) (record { used = l.used; refused = None }) taken _
     l.invariant.advanced refl
-    (subst (λ (y : List ℕ). Advances g.S.Sink.after g.S.Sink.may_run_out y l.machine (held l.sink) taken c.function_type-taken.new.machine (held c.function_type-taken.new.sink)) (take_rest bytes l.used) c.function_type-taken.ensures)
+    (subst (λ (y : List ℕ). Advances g.S.Sink.after g.S.Sink.may_run_out c.args.profile y l.machine (held l.sink) taken c.function_type-taken.new.machine (held c.function_type-taken.new.sink)) (take_rest bytes l.used) c.function_type-taken.ensures)
     refl refl

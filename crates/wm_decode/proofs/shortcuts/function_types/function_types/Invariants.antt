@@ -5,7 +5,7 @@ use Rattle.wm_decode.proofs.shortcuts.function_types.function_types.Given as goa
 abbrev pub invariant-loop-used : goal.invariant-loop-used
 invariant-loop-used g l = record {
   within : l.used ≤ length l.bytes;
-  advanced : Advances g.S.Sink.after g.S.Sink.may_run_out l.bytes l.fn.machine (g.S.Sink.held l.fn.sink)
+  advanced : Advances g.S.Sink.after g.S.Sink.may_run_out l.fn.profile l.bytes l.fn.machine (g.S.Sink.held l.fn.sink)
       (record { used = l.used; refused = None }) l.machine (g.S.Sink.held l.sink);
 }
 

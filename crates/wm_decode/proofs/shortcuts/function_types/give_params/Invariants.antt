@@ -7,7 +7,7 @@ abbrev pub invariant-loop-params : goal.invariant-loop-params
 invariant-loop-params g l = record {
   within : l.used ≤ length l.bytes;
   section : l.used ≤ l.fn.start.more;
-  advanced : Advances g.S.Sink.after g.S.Sink.may_run_out l.bytes (in_params l.fn.start) (g.S.Sink.held l.fn.sink)
+  advanced : Advances g.S.Sink.after g.S.Sink.may_run_out l.fn.profile l.bytes (in_params l.fn.start) (g.S.Sink.held l.fn.sink)
       (record { used = l.used; refused = None }) (in_params (params_after l.fn.start l.used l.params)) (g.S.Sink.held l.sink);
 }
 

@@ -6,6 +6,6 @@ use Rattle.wm_decode.proofs.shortcuts.function_types.results.Goals as goal
 pub returns-then-count-eq0 : goal.returns-then-count-eq0
 returns-then-count-eq0 g c =
     let held = g.S.Sink.held in
-    advances_by g.S.Sink.after g.S.Sink.may_run_out _ _ _ _ _ _ _ _ c.in-Some.ensures c.next.ensures
-    (no_result g.S.Sink.after g.S.Sink.may_run_out c.args.bytes.now c.in-Some.start c.give.result (held c.args.sink.now) (held c.give.new.sink) _ (omega arith) (omega arith) (omega arith) (omega arith) refl
+    advances_by g.S.Sink.after g.S.Sink.may_run_out c.args.profile _ _ _ _ _ _ _ _ c.in-Some.ensures c.next.ensures
+    (no_result g.S.Sink.after g.S.Sink.may_run_out c.args.profile c.args.bytes.now c.in-Some.start c.give.result (held c.args.sink.now) (held c.give.new.sink) _ (omega arith) (omega arith) (omega arith) (omega arith) refl
     c.err-refused.ensures.value c.give.ensures.given c.give.ensures.room)

@@ -8,7 +8,7 @@ invariant-loop-runs g l = record {
   within : l.used ≤ length l.bytes;
   section : l.used ≤ l.fn.start.more;
   own : l.used ≤ l.fn.start.rest;
-  advanced : Advances g.S.Sink.after g.S.Sink.may_run_out l.bytes (in_head l.fn.start) (g.S.Sink.held l.fn.sink)
+  advanced : Advances g.S.Sink.after g.S.Sink.may_run_out l.fn.profile l.bytes (in_head l.fn.start) (g.S.Sink.held l.fn.sink)
       (record { used = l.used; refused = None }) (in_head (head_after l.fn.start l.used l.runs)) (g.S.Sink.held l.sink);
 }
 

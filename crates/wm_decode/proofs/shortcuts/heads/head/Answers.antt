@@ -11,8 +11,8 @@ pub returns-in-Err : goal.returns-in-Err
 returns-in-Err g c =
     let held = g.S.Sink.held in
     let b = c.in-Some-begin_head in
-    advances_by g.S.Sink.after g.S.Sink.may_run_out _ _ _ _ _ _ _ _ c.in-Some.ensures refl
-    (head_out g.S.Sink.after g.S.Sink.may_run_out c.args.bytes.now c.in-Some.start b.begun.sized b.begun.at (held c.args.sink.now) (held c.give_body.new.sink) b.ensures.size b.ensures.within b.ensures.section
+    advances_by g.S.Sink.after g.S.Sink.may_run_out c.args.profile _ _ _ _ _ _ _ _ c.in-Some.ensures refl
+    (head_out g.S.Sink.after g.S.Sink.may_run_out c.args.profile c.args.bytes.now c.in-Some.start b.begun.sized b.begun.at (held c.args.sink.now) (held c.give_body.new.sink) b.ensures.size b.ensures.within b.ensures.section
     c.give_body.result _ c.in-Err.why c.args.machine.now refl refl (sym (ap result_err c.in-Err.is)) c.give_body.ensures.given c.give_body.ensures.room)
 
 pub returns : goal.returns
@@ -24,10 +24,10 @@ returns g c =
     let given = c.give_runs-given.result in
     let next = in_head (head_after b.begun.at given.used given.runs) in
     let rest = take_rest bytes first in
-    let begun = head_begun g.S.Sink.after g.S.Sink.may_run_out bytes c.in-Some.start b.begun.sized b.begun.at (held c.args.sink.now) (held c.give_body.new.sink) b.ensures.size b.ensures.within b.ensures.section
+    let begun = head_begun g.S.Sink.after g.S.Sink.may_run_out c.args.profile bytes c.in-Some.start b.begun.sized b.begun.at (held c.args.sink.now) (held c.give_body.new.sink) b.ensures.size b.ensures.within b.ensures.section
     b.ensures.count.0 b.ensures.count.1 b.ensures.at c.in_default-give_body.ensures.given in
-    advances_by g.S.Sink.after g.S.Sink.may_run_out _ _ _ _ _ _ _ _ c.in-Some.ensures c.after.ensures
-    (advances_on g.S.Sink.after g.S.Sink.may_run_out bytes _ (in_head b.begun.at) next (held c.args.sink.now) (held c.give_body.new.sink) (held c.give_runs-given.new.sink)
+    advances_by g.S.Sink.after g.S.Sink.may_run_out c.args.profile _ _ _ _ _ _ _ _ c.in-Some.ensures c.after.ensures
+    (advances_on g.S.Sink.after g.S.Sink.may_run_out c.args.profile bytes _ (in_head b.begun.at) next (held c.args.sink.now) (held c.give_body.new.sink) (held c.give_runs-given.new.sink)
     (record { used = first; refused = None }) (record { used = given.used; refused = given.refused }) _ begun refl
-    (subst (λ (y : List ℕ). Advances g.S.Sink.after g.S.Sink.may_run_out y (in_head b.begun.at) (held c.give_body.new.sink) (record { used = given.used; refused = given.refused }) next (held c.give_runs-given.new.sink)) rest c.give_runs-given.ensures.advances)
+    (subst (λ (y : List ℕ). Advances g.S.Sink.after g.S.Sink.may_run_out c.args.profile y (in_head b.begun.at) (held c.give_body.new.sink) (record { used = given.used; refused = given.refused }) next (held c.give_runs-given.new.sink)) rest c.give_runs-given.ensures.advances)
     refl refl)

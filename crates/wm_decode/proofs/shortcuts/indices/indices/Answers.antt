@@ -12,5 +12,5 @@ returns g c =
     let count : ℕ = c.short_front-count.result in
     let given = c.give_indices-given.result in
     let front : InFront bytes i count = in_front bytes i count most c.in-Some.ensures.of c.short_front-count.ensures.value c.short_front-count.ensures.within (omega (arith, c.most.ensures)) in
-    advances_by g.S.Sink.after g.S.Sink.may_run_out _ _ _ _ _ _ _ _ c.in-Some.ensures.machine c.after.ensures
-    (advances_indices g.S.Sink.after g.S.Sink.may_run_out bytes i (held c.args.sink.now) (held c.give_indices-given.new.sink) given count front (omega arith) c.give_indices-given.ensures.given (omega (arith, length-take count bytes)))
+    advances_by g.S.Sink.after g.S.Sink.may_run_out c.args.profile _ _ _ _ _ _ _ _ c.in-Some.ensures.machine c.after.ensures
+    (advances_indices g.S.Sink.after g.S.Sink.may_run_out c.args.profile bytes i (held c.args.sink.now) (held c.give_indices-given.new.sink) given count front (omega arith) c.give_indices-given.ensures.given (omega (arith, length-take count bytes)))

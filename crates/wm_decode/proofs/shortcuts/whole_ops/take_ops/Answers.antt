@@ -26,6 +26,6 @@ loop-used-preserved g c =
       one = λ e. absurd (omega (arith, e));
       within = took.2;
       inside = took.1.within;
-      ran = one_more (subst (λ h. OpsTaken g.S.Sink.after c.args.bytes.now c.args.most 0 c.args.start (g.S.Sink.held c.args.sink.now) l.used l.depth h) c.in-Left.ensures l.invariant.ran)
+      ran = one_more (subst (λ h. OpsTaken g.S.Sink.after c.args.profile c.args.bytes.now c.args.most 0 c.args.start (g.S.Sink.held c.args.sink.now) l.used l.depth h) c.in-Left.ensures l.invariant.ran)
           took.0 c.in-Next-take_other.next c.in-Next-take_other.inside (g.S.Sink.held c.take_other.new.sink) took.1 took.2 took.3;
     }

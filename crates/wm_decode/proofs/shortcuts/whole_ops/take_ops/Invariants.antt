@@ -8,7 +8,7 @@ invariant-loop-used g l = record {
   one : l.end ≡ 0 → l.used ≡ 0;
   within : l.used ≤ l.most;
   inside : l.used ≤ length l.bytes;
-  ran : OpsTaken g.S.Sink.after l.bytes l.most 0 l.start (g.S.Sink.held l.initial.sink) l.used l.depth (g.S.Sink.held l.sink);
+  ran : OpsTaken g.S.Sink.after l.fn.profile l.bytes l.most 0 l.start (g.S.Sink.held l.initial.sink) l.used l.depth (g.S.Sink.held l.sink);
 }
 
 abbrev pub decreases-loop-used : goal.decreases-loop-used

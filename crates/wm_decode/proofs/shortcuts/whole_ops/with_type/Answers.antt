@@ -12,9 +12,9 @@ returns c =
     subst (λ v. WholeOp c.args.bytes.now c.args.at (c.args.at + 2) c.args.depth (c.args.depth + 1) v) (sym c.op.ensures)
     (elim c.match-bytes-at.branch [
       | in-64 w ↦ subst (λ t. WholeOp c.args.bytes.now c.args.at (c.args.at + 2) c.args.depth (c.args.depth + 1) (block_op c.args.op t)) (sym w.ty-is)
-          (whole_typed c.args.bytes.now c.args.at c.args.depth 0x40 c.args.op None c.requires.within room c.requires.first w.in-64.is refl)
+          (whole_typed c.args.bytes.now c.args.at c.args.depth 0x40 c.args.op None c.requires.within room c.requires.first w.in-64.is (λ p. refl))
       | in-127 w ↦ subst (λ t. WholeOp c.args.bytes.now c.args.at (c.args.at + 2) c.args.depth (c.args.depth + 1) (block_op c.args.op t)) (sym w.ty-is)
-          (whole_typed c.args.bytes.now c.args.at c.args.depth 0x7F c.args.op (Some I32) c.requires.within room c.requires.first w.in-127.is refl)
+          (whole_typed c.args.bytes.now c.args.at c.args.depth 0x7F c.args.op (Some I32) c.requires.within room c.requires.first w.in-127.is (λ p. refl))
       | in-126 w ↦ subst (λ t. WholeOp c.args.bytes.now c.args.at (c.args.at + 2) c.args.depth (c.args.depth + 1) (block_op c.args.op t)) (sym w.ty-is)
-          (whole_typed c.args.bytes.now c.args.at c.args.depth 0x7E c.args.op (Some I64) c.requires.within room c.requires.first w.in-126.is refl)
+          (whole_typed c.args.bytes.now c.args.at c.args.depth 0x7E c.args.op (Some I64) c.requires.within room c.requires.first w.in-126.is (λ p. refl))
     ])

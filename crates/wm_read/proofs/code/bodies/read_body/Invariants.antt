@@ -9,7 +9,7 @@ use Rattle.wm_read.proofs.code.bodies.read_body.Given as goal
 
 abbrev pub invariant-loop-word : goal.invariant-loop-word
 invariant-loop-word l = record {
-  same : body_from l.body.builder (ops_at (call_use_at (names_of l.scope.names.now)) l.profile (scope_of l.scope) l.body.blocks (lexed l.rest))
+  same : body_from l.body.builder (ops_at (call_use_at l.profile (names_of l.scope.names.now)) l.profile (scope_of l.scope) l.body.blocks (lexed l.rest))
       ≡ instructions_at l.profile (scope_of l.scope) (lexed l.text);
   over : IsOver l.body.builder l.body.blocks;
 }

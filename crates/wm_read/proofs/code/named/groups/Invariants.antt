@@ -5,8 +5,8 @@ use Rattle.wm_read.specs.inner.Named.{named_list}
 use Rattle.wm_read.proofs.NamedGroups.{after_named}
 use Rattle.wm_read.proofs.code.named.groups.Given as goal
 
-abbrev pub invariant-loop-named : goal.invariant-loop-named
-invariant-loop-named l = after_named (named_list l.named.items) (named_groups_at l.name (lexed l.rest)) ≡ named_at l.name (lexed l.text)
+abbrev pub invariant-loop-profile : goal.invariant-loop-profile
+invariant-loop-profile l = after_named (named_list l.named.items) (named_groups_at l.profile l.name (lexed l.rest)) ≡ named_at l.profile l.name (lexed l.text)
 
-abbrev pub decreases-loop-named : goal.decreases-loop-named
-decreases-loop-named l = length (lexed l.rest)
+abbrev pub decreases-loop-profile : goal.decreases-loop-profile
+decreases-loop-profile l = length (lexed l.rest)

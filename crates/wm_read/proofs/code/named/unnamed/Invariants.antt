@@ -7,8 +7,8 @@ use Rattle.wm_read.proofs.code.named.unnamed.Given as goal
 
 abbrev pub invariant-loop-atom : goal.invariant-loop-atom
 invariant-loop-atom l =
-    adding_named (named_list l.named.items) (made unnamed (types_at (lexed l.rest)))
-    ≡ adding_named (named_list l.fn.named.items) (made unnamed (types_at (lexed l.text)))
+    adding_named (named_list l.named.items) (made unnamed (types_at l.profile (lexed l.rest)))
+    ≡ adding_named (named_list l.fn.named.items) (made unnamed (types_at l.profile (lexed l.text)))
 
 abbrev pub decreases-loop-atom : goal.decreases-loop-atom
 decreases-loop-atom l = length l.rest

@@ -15,7 +15,7 @@ use Rattle.wm_read.proofs.code.named_uses.named_use.Goals as goal
 
 pub returns-in-Some-2 : goal.returns-in-Some-2
 returns-in-Some-2 c =
-    named_ends (names_of c.args.names.now) c.in_ok-index.index c.in-Some.ty.now (named_list c.in_ok-params-in-Some.params.items) c.in_ok-results-in-Some.results.items
+    named_ends c.args.profile (names_of c.args.names.now) c.in_ok-index.index c.in-Some.ty.now (named_list c.in_ok-params-in-Some.params.items) c.in_ok-results-in-Some.results.items
     (option_map params_of c.in_ok-params-in-Some-2.field-0) (lexed c.args.text.now) (lexed c.in_ok-index.rest.now) (lexed c.in_ok-params-in-Some.rest.now) (lexed c.in_ok-results-in-Some.rest.now)
     c.in_ok-index.ensures c.in-Some.ensures c.in_ok-params-in-Some.ensures c.in_ok-results-in-Some.ensures
     (c.in_ok-params-in-Some-2.ensures ∙ ap (used_of c.in-Some.ty.now (named_list c.in_ok-params-in-Some.params.items)) c.deref.ensures.value)
@@ -23,8 +23,8 @@ returns-in-Some-2 c =
 
 pub returns-in-Some : goal.returns-in-Some
 returns-in-Some c =
-    fails_refused _ (named_use_at (names_of c.args.names.now) (lexed c.args.text.now)) c.misfit.ensures
-    (named_ends (names_of c.args.names.now) c.in_ok-index.index c.in-Some.ty.now (named_list c.in_ok-params-in-Some.params.items) c.in_ok-results-in-Some.results.items
+    fails_refused _ (named_use_at c.args.profile (names_of c.args.names.now) (lexed c.args.text.now)) c.misfit.ensures
+    (named_ends c.args.profile (names_of c.args.names.now) c.in_ok-index.index c.in-Some.ty.now (named_list c.in_ok-params-in-Some.params.items) c.in_ok-results-in-Some.results.items
     (option_map params_of c.in_ok-params-in-Some-2.field-0) (lexed c.args.text.now) (lexed c.in_ok-index.rest.now) (lexed c.in_ok-params-in-Some.rest.now) (lexed c.in_ok-results-in-Some.rest.now)
     c.in_ok-index.ensures c.in-Some.ensures c.in_ok-params-in-Some.ensures c.in_ok-results-in-Some.ensures
     (c.in_ok-params-in-Some-2.ensures ∙ ap (used_of c.in-Some.ty.now (named_list c.in_ok-params-in-Some.params.items)) c.deref.ensures.value)
@@ -32,18 +32,18 @@ returns-in-Some c =
 
 pub returns : goal.returns
 returns c =
-    fails_use _ (named_use_at (names_of c.args.names.now) (lexed c.args.text.now)) c.refuse_index.ensures
-    (named_untyped (names_of c.args.names.now) c.in_ok-index.index (lexed c.args.text.now) (lexed c.in_ok-index.rest.now) c.in_ok-index.ensures c.in-None.ensures)
+    fails_use _ (named_use_at c.args.profile (names_of c.args.names.now) (lexed c.args.text.now)) c.refuse_index.ensures
+    (named_untyped c.args.profile (names_of c.args.names.now) c.in_ok-index.index (lexed c.args.text.now) (lexed c.in_ok-index.rest.now) c.in_ok-index.ensures c.in-None.ensures)
 
 pub returns-in_err-params-in-Some : goal.returns-in_err-params-in-Some
 returns-in_err-params-in-Some c =
-    let p : (w : TextWhy) → Fails w (named_at (codes "param") (lexed c.in_ok-index.rest.now)) → Fails w (named_use_at (names_of c.args.names.now) (lexed c.args.text.now)) =
-    λ w h. named_params_fail (names_of c.args.names.now) c.in_ok-index.index w (lexed c.args.text.now) (lexed c.in_ok-index.rest.now) c.in_ok-index.ensures h in
+    let p : (w : TextWhy) → Fails w (named_at c.args.profile (codes "param") (lexed c.in_ok-index.rest.now)) → Fails w (named_use_at c.args.profile (names_of c.args.names.now) (lexed c.args.text.now)) =
+    λ w h. named_params_fail c.args.profile (names_of c.args.names.now) c.in_ok-index.index w (lexed c.args.text.now) (lexed c.in_ok-index.rest.now) c.in_ok-index.ensures h in
     search (rules, p)
 
 pub returns-in_err-results-in-Some : goal.returns-in_err-results-in-Some
 returns-in_err-results-in-Some c =
-    let p : (w : TextWhy) → Fails w (made joined (groups_at (codes "result") (lexed c.in_ok-params-in-Some.rest.now))) → Fails w (named_use_at (names_of c.args.names.now) (lexed c.args.text.now)) =
-    λ w h. named_results_fail (names_of c.args.names.now) c.in_ok-index.index (named_list c.in_ok-params-in-Some.params.items) w (lexed c.args.text.now) (lexed c.in_ok-index.rest.now) (lexed c.in_ok-params-in-Some.rest.now)
+    let p : (w : TextWhy) → Fails w (made joined (groups_at c.args.profile (codes "result") (lexed c.in_ok-params-in-Some.rest.now))) → Fails w (named_use_at c.args.profile (names_of c.args.names.now) (lexed c.args.text.now)) =
+    λ w h. named_results_fail c.args.profile (names_of c.args.names.now) c.in_ok-index.index (named_list c.in_ok-params-in-Some.params.items) w (lexed c.args.text.now) (lexed c.in_ok-index.rest.now) (lexed c.in_ok-params-in-Some.rest.now)
     c.in_ok-index.ensures c.in_ok-params-in-Some.ensures h in
     search (rules, p)

@@ -5,8 +5,8 @@ use Rattle.wm_read.specs.exact.TypeUses.{groups_at, joined}
 use Rattle.wm_read.proofs.Groups.{after_groups}
 use Rattle.wm_read.proofs.code.type_uses.groups.Given as goal
 
-abbrev pub invariant-loop-types : goal.invariant-loop-types
-invariant-loop-types l = after_groups l.types.items (groups_at l.name (lexed l.rest)) ≡ made joined (groups_at l.name (lexed l.text))
+abbrev pub invariant-loop-profile : goal.invariant-loop-profile
+invariant-loop-profile l = after_groups l.types.items (groups_at l.profile l.name (lexed l.rest)) ≡ made joined (groups_at l.profile l.name (lexed l.text))
 
-abbrev pub decreases-loop-types : goal.decreases-loop-types
-decreases-loop-types l = length (lexed l.rest)
+abbrev pub decreases-loop-profile : goal.decreases-loop-profile
+decreases-loop-profile l = length (lexed l.rest)

@@ -11,8 +11,8 @@ use Rattle.wm_read.proofs.code.type_uses.type_use.Goals as goal
 
 pub returns-then-fits : goal.returns-then-fits
 returns-then-fits c =
-    call_found (names_of c.args.names.now) c.in_ok-x.x (lexed c.args.text.now) (lexed c.in_ok-results-in-Some.rest.now)
-    (use_found (names_of c.args.names.now) c.in_ok-x.x c.in-Some.ty.now c.in_ok-params-in-Some.params.items c.in_ok-results-in-Some.results.items
+    call_found c.args.profile (names_of c.args.names.now) c.in_ok-x.x (lexed c.args.text.now) (lexed c.in_ok-results-in-Some.rest.now)
+    (use_found c.args.profile (names_of c.args.names.now) c.in_ok-x.x c.in-Some.ty.now c.in_ok-params-in-Some.params.items c.in_ok-results-in-Some.results.items
     (lexed c.args.text.now) (lexed c.in_ok-x.rest.now) (lexed c.in_ok-params-in-Some.rest.now) (lexed c.in_ok-results-in-Some.rest.now)
     c.in_ok-x.ensures c.in-Some.ensures c.in_ok-params-in-Some.ensures c.in_ok-results-in-Some.ensures
     (c.if-fits.ensures ∙ ap (λ z. fits c.in-Some.ty.now z c.deref-in-Some.result.now) c.deref.ensures.value
@@ -21,8 +21,8 @@ returns-then-fits c =
 
 pub returns-in-Some : goal.returns-in-Some
 returns-in-Some c =
-    fails_use _ (call_use_at (names_of c.args.names.now) (lexed c.args.text.now)) c.refuse_index.ensures
-    (call_none (names_of c.args.names.now) (lexed c.args.text.now) (use_wrong (names_of c.args.names.now) c.in_ok-x.x c.in-Some.ty.now c.in_ok-params-in-Some.params.items c.in_ok-results-in-Some.results.items
+    fails_use _ (call_use_at c.args.profile (names_of c.args.names.now) (lexed c.args.text.now)) c.refuse_index.ensures
+    (call_none c.args.profile (names_of c.args.names.now) (lexed c.args.text.now) (use_wrong c.args.profile (names_of c.args.names.now) c.in_ok-x.x c.in-Some.ty.now c.in_ok-params-in-Some.params.items c.in_ok-results-in-Some.results.items
     (lexed c.args.text.now) (lexed c.in_ok-x.rest.now) (lexed c.in_ok-params-in-Some.rest.now) (lexed c.in_ok-results-in-Some.rest.now)
     c.in_ok-x.ensures c.in-Some.ensures c.in_ok-params-in-Some.ensures c.in_ok-results-in-Some.ensures
     (c.if-fits.ensures ∙ ap (λ z. fits c.in-Some.ty.now z c.deref-in-Some.result.now) c.deref.ensures.value
@@ -30,28 +30,28 @@ returns-in-Some c =
 
 pub returns : goal.returns
 returns c =
-    fails_use _ (call_use_at (names_of c.args.names.now) (lexed c.args.text.now)) c.refuse_index-in-None.ensures
-    (call_none (names_of c.args.names.now) (lexed c.args.text.now)
-    (use_untyped (names_of c.args.names.now) c.in_ok-x.x (lexed c.args.text.now) (lexed c.in_ok-x.rest.now) c.in_ok-x.ensures c.in-None.ensures))
+    fails_use _ (call_use_at c.args.profile (names_of c.args.names.now) (lexed c.args.text.now)) c.refuse_index-in-None.ensures
+    (call_none c.args.profile (names_of c.args.names.now) (lexed c.args.text.now)
+    (use_untyped c.args.profile (names_of c.args.names.now) c.in_ok-x.x (lexed c.args.text.now) (lexed c.in_ok-x.rest.now) c.in_ok-x.ensures c.in-None.ensures))
 
 pub returns-in_err-params-in-Some : goal.returns-in_err-params-in-Some
 returns-in_err-params-in-Some c =
-    let p : (w : TextWhy) → Fails w (made joined (groups_at (codes "param") (lexed c.in_ok-x.rest.now))) → Fails w (call_use_at (names_of c.args.names.now) (lexed c.args.text.now)) =
-    λ w h. params_fail (names_of c.args.names.now) c.in_ok-x.x w (lexed c.args.text.now) (lexed c.in_ok-x.rest.now) c.in_ok-x.ensures h in
+    let p : (w : TextWhy) → Fails w (made joined (groups_at c.args.profile (codes "param") (lexed c.in_ok-x.rest.now))) → Fails w (call_use_at c.args.profile (names_of c.args.names.now) (lexed c.args.text.now)) =
+    λ w h. params_fail c.args.profile (names_of c.args.names.now) c.in_ok-x.x w (lexed c.args.text.now) (lexed c.in_ok-x.rest.now) c.in_ok-x.ensures h in
     search (rules, p)
 
 pub returns-in_err-results-in-Some : goal.returns-in_err-results-in-Some
 returns-in_err-results-in-Some c =
-    let p : (w : TextWhy) → Fails w (made joined (groups_at (codes "result") (lexed c.in_ok-params-in-Some.rest.now))) → Fails w (call_use_at (names_of c.args.names.now) (lexed c.args.text.now)) =
-    λ w h. results_fail (names_of c.args.names.now) c.in_ok-x.x c.in_ok-params-in-Some.params.items w (lexed c.args.text.now) (lexed c.in_ok-x.rest.now) (lexed c.in_ok-params-in-Some.rest.now) c.in_ok-x.ensures c.in_ok-params-in-Some.ensures h in
+    let p : (w : TextWhy) → Fails w (made joined (groups_at c.args.profile (codes "result") (lexed c.in_ok-params-in-Some.rest.now))) → Fails w (call_use_at c.args.profile (names_of c.args.names.now) (lexed c.args.text.now)) =
+    λ w h. results_fail c.args.profile (names_of c.args.names.now) c.in_ok-x.x c.in_ok-params-in-Some.params.items w (lexed c.args.text.now) (lexed c.in_ok-x.rest.now) (lexed c.in_ok-params-in-Some.rest.now) c.in_ok-x.ensures c.in_ok-params-in-Some.ensures h in
     search (rules, p)
 
 pub returns-in_err-no_form-in-Some : goal.returns-in_err-no_form-in-Some
 returns-in_err-no_form-in-Some c =
-    let none : call_use_at (names_of c.args.names.now) (lexed c.args.text.now) ≡ None =
-    call_form (names_of c.args.names.now) c.in_ok-x.x c.in-Some.ty.now c.in_ok-params-in-Some.params.items c.in_ok-results-in-Some.results.items
+    let none : call_use_at c.args.profile (names_of c.args.names.now) (lexed c.args.text.now) ≡ None =
+    call_form c.args.profile (names_of c.args.names.now) c.in_ok-x.x c.in-Some.ty.now c.in_ok-params-in-Some.params.items c.in_ok-results-in-Some.results.items
     (lexed c.args.text.now) (lexed c.in_ok-x.rest.now) (lexed c.in_ok-params-in-Some.rest.now) (lexed c.in_ok-results-in-Some.rest.now)
     c.in_ok-x.ensures c.in-Some.ensures c.in_ok-params-in-Some.ensures c.in_ok-results-in-Some.ensures c.in_err-no_form-in-Some.ensures.form.1 in
-    let p : Fails c.in_err-no_form-in-Some.field-0.0.why (call_use_at (names_of c.args.names.now) (lexed c.args.text.now)) =
-    fails_at c.in_err-no_form-in-Some.field-0.0.why (call_use_at (names_of c.args.names.now) (lexed c.args.text.now)) c.in_err-no_form-in-Some.ensures.form.0 none in
+    let p : Fails c.in_err-no_form-in-Some.field-0.0.why (call_use_at c.args.profile (names_of c.args.names.now) (lexed c.args.text.now)) =
+    fails_at c.in_err-no_form-in-Some.field-0.0.why (call_use_at c.args.profile (names_of c.args.names.now) (lexed c.args.text.now)) c.in_err-no_form-in-Some.ensures.form.0 none in
     search (rules, p)

@@ -5,7 +5,7 @@ use Rattle.wm_read.specs.inner.Heads.{noted_of}
 use Rattle.wm_read.proofs.names.heads.read_heads.Given as goal
 
 abbrev pub invariant-loop-alloc : goal.invariant-loop-alloc
-invariant-loop-alloc l = names_in (heads_at (noted_of l.noted) (lexed l.rest)) ≡ names_at (lexed l.text)
+invariant-loop-alloc l = names_in (heads_at l.profile (noted_of l.noted) (lexed l.rest)) ≡ names_at l.profile (lexed l.text)
 
 abbrev pub decreases-loop-alloc : goal.decreases-loop-alloc
 decreases-loop-alloc l = length (lexed l.rest)

@@ -1,4 +1,4 @@
-use Rattle.wm_syntax.proofs.OpTable.{found_in, begins_in, float_in}
+use Rattle.wm_syntax.proofs.OpTable.{found_in, begins_in, float_in, float_never}
 use Rattle.wm_syntax.proofs.FirstBytes.{row_under}
 use Rattle.wm_syntax.proofs.instructions.opcodes.op_of.Goals as goal
 
@@ -6,6 +6,7 @@ pub returns : goal.returns
 returns c = rw c.within.ensures (record {
   found = found_in c.args.profile c.args.byte c.class_at.result c.class_at.ensures;
   only = begins_in c.args.profile c.args.byte c.class_at.result c.class_at.ensures;
-  float = float_in c.args.profile c.args.byte c.class_at.result c.class_at.ensures;
+  float = λ l. float_in c.args.profile c.args.byte c.class_at.result c.class_at.ensures l;
+  floats = λ l. float_never c.args.profile c.args.byte c.class_at.result c.class_at.ensures l;
   exact = row_under c.args.profile c.args.byte c.class_at.result c.class_at.ensures;
 })

@@ -2,7 +2,7 @@
 use Rattle.std.proofs.Common.{sym, None, Some, ◌≡◌, ◌∙◌, ap, refl, true, rules}
 use denote.Enum.Bare.{sameb, same_true}
 use Rattle.wm_syntax.specs.declared.types.ValType.{ValType}
-use Rattle.wm_syntax.specs.declared.types.ValType.TheVariants.{I32, I64}
+use Rattle.wm_syntax.specs.declared.types.ValType.TheVariants.{I32, I64, F32, F64}
 use Rattle.wm_syntax.specs.contracts.types.ValType.{the_type}
 use Rattle.wm_syntax.specs.inner.Runs.{last_type}
 use Rattle.wm_syntax.proofs.RunLists.{last_type_at}
@@ -11,6 +11,8 @@ use Rattle.wm_syntax.proofs.modules.locals.ends_with.Goals as goal
 same_self : (t : ValType) → sameb the_type t t ≡ true
 same_self I32 = refl
 same_self I64 = refl
+same_self F32 = refl
+same_self F64 = refl
 
 pub returns-in-Some : goal.returns-in-Some
 returns-in-Some c =

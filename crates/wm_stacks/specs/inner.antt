@@ -1,0 +1,4 @@
+-- What values hold inside. Contracts name these words and say what follows from them: their
+-- bodies need not be believed.
+pub mod Operands
+pub mod Widths

@@ -1,0 +1,237 @@
+//! The operands of a body, and the floor above which they may be taken.
+
+ghost use Rattle.std.specs.Prelude.{◌≡◌, ◌≢◌, ◌-◌, ◌%◌, ◌^◌, ◌<◌, ◌≤◌, IsTrue, List, [], ◌∷◌, Some, IfErr};
+ghost use Rattle.std.specs.Prelude.{OnErr, OnOk, MatchOption, false, true, drop, length};
+ghost use Rattle.wm_stacks.specs.Stack.{fits};
+ghost use Rattle.wm_stacks.specs.exact.Stacks.{first, rest};
+ghost use Rattle.wm_stacks.specs.inner.Operands.{entry_of, kind_of};
+ghost use Rattle.wm_stacks.specs.inner.Widths.{is_wide};
+
+use crate::entries::Entry;
+use crate::packed::Packed;
+use crate::widths::Widths;
+use crate::words::Kind;
+use std::alloc::Global;
+use std::marker::Model;
+use wm_syntax::types::ValType;
+use wm_syntax::why::Why;
+
+/// The operands of a body, and the floor of its innermost frame.
+///
+/// Two bits say of an operand that it is an i32, an i64 or a float, or that it is not known. How wide a
+/// float is stands apart, so that a body without floats has just those bits. Contracts see the list of the
+/// operands, the topmost first, and the floor.
+#[derive(Debug, Drop)]
+pub(crate) struct Operands {
+    packed: Packed,
+    widths: Widths,
+}
+
+impl Model for Operands {
+    ghost use Rattle.wm_stacks.specs.inner.Operands.{Floored, operands_of};
+
+    ghost Value = { Floored };
+
+    ghost view = { λ o. operands_of o.packed o.widths };
+}
+
+impl Operands {
+    /// No operands, and the floor at 0.
+    pub fn new(alloc: Global) -> Self
+        ensures { result ≡ record { entries = []; floor = 0 } }
+    {
+        let packed = Packed::new(alloc);
+        let widths = Widths::new(alloc);
+        Operands { packed, widths }
+    }
+
+    /// Takes all operands away, and puts the floor at 0.
+    pub fn clear(&mut self)
+        ensures { self.new ≡ record { entries = []; floor = 0 } }
+    {
+        self.packed.clear();
+        self.widths.forget();
+    }
+
+    /// How many operands stand.
+    #[inline(always)]
+    pub fn height(&self) -> usize
+        ensures height { result ≡ length self.now.entries }
+        ensures bounded { result ≤ 2 ^ 62 }
+    {
+        self.packed.height()
+    }
+
+    #[inline(always)]
+    pub fn floor(&self) -> usize
+        ensures { result ≡ self.now.floor }
+    {
+        self.packed.floor()
+    }
+
+    #[inline(always)]
+    pub fn set_floor(&mut self, floor: usize)
+        ensures { self.new ≡ record { entries = self.old.entries; floor = floor } }
+    {
+        self.packed.set_floor(floor);
+    }
+
+    /// Puts an operand on top. `Memory` leaves everything as it was, and comes only where a word more
+    /// is needed than those that take none: of kinds, or for an f64 of widths.
+    #[inline(always)]
+    pub fn push(&mut self, entry: Entry) -> Result<(), Why>
+        requires { length self.old.entries < 2 ^ 63 }
+        ensures ok { OnOk result (self.new ≡ record {
+          entries = entry ∷ self.old.entries;
+          floor = self.old.floor;
+        }) }
+        ensures err { IfErr result (λ why. (why ≡ Why.Memory) × (self.new ≡ self.old)) }
+        ensures near { OnErr result (64 ≤ length self.old.entries) }
+        ensures between { entry ≢ Entry.F64 → OnErr result (length self.old.entries % 32 ≡ 0) }
+    {
+        match entry {
+            Entry::F32 => self.push_f32(),
+            Entry::F64 => self.push_f64(),
+            _ => self.packed.push(kind(entry)),
+        }
+    }
+
+    // An old bit of an f64 may stand where it comes.
+    #[inline(never)]
+    fn push_f32(&mut self) -> Result<(), Why>
+        requires { length self.old.entries < 2 ^ 63 }
+        ensures ok { OnOk result (self.new ≡ record {
+          entries = Entry.F32 ∷ self.old.entries;
+          floor = self.old.floor;
+        }) }
+        ensures err { IfErr result (λ why. (why ≡ Why.Memory) × (self.new ≡ self.old)) }
+        ensures near { OnErr result (64 ≤ length self.old.entries) }
+        ensures between { OnErr result (length self.old.entries % 32 ≡ 0) }
+    {
+        let at = self.packed.height();
+        self.widths.narrow(at);
+        self.packed.push(Kind::Float)
+    }
+
+    // Its bit is written first: where the other list refuses, it means nothing.
+    #[inline(never)]
+    fn push_f64(&mut self) -> Result<(), Why>
+        requires { length self.old.entries < 2 ^ 63 }
+        ensures ok { OnOk result (self.new ≡ record {
+          entries = Entry.F64 ∷ self.old.entries;
+          floor = self.old.floor;
+        }) }
+        ensures err { IfErr result (λ why. (why ≡ Why.Memory) × (self.new ≡ self.old)) }
+        ensures near { OnErr result (64 ≤ length self.old.entries) }
+    {
+        let at = self.packed.height();
+        match self.widths.widen(at) {
+            Ok(()) => self.packed.push(Kind::Float),
+            Err(why) => Err(why),
+        }
+    }
+
+    /// Takes the top operand away where a look at one word shows that it is above the floor and fits: of
+    /// floats it never does.
+    #[inline(always)]
+    pub fn take_near(&mut self, expected: ValType) -> bool
+        ensures taken { result ≡ true → (e : Entry) × (es : List Entry) × (self.old.entries ≡ e ∷ es)
+            × (self.old.floor ≤ length es) × IsTrue (fits e expected)
+            × (self.new ≡ record { entries = es; floor = self.old.floor }) }
+        ensures left { result ≡ false → self.new ≡ self.old }
+    {
+        self.packed.take_near(expected)
+    }
+
+    /// The same of the two topmost operands.
+    #[inline(always)]
+    pub fn take_two_near(&mut self, under: ValType, top: ValType) -> bool
+        ensures taken { result ≡ true → (e : Entry) × (f : Entry) × (es : List Entry)
+            × (self.old.entries ≡ e ∷ f ∷ es) × (self.old.floor ≤ length es)
+            × IsTrue (fits e top) × IsTrue (fits f under)
+            × (self.new ≡ record { entries = es; floor = self.old.floor }) }
+        ensures left { result ≡ false → self.new ≡ self.old }
+    {
+        self.packed.take_two_near(under, top)
+    }
+
+    /// The top operand, where one stands above the floor.
+    #[inline(always)]
+    pub fn top(&self) -> Option<Entry>
+        ensures { MatchOption result (length self.now.entries ≤ self.now.floor)
+            (λ entry. (self.now.floor < length self.now.entries) × (first self.now.entries ≡ Some entry)) }
+    {
+        match self.packed.top() {
+            Some(kind) => {
+                let at = self.packed.height() - 1;
+                Some(entry_at(&self.widths, at, kind))
+            }
+            None => None,
+        }
+    }
+
+    /// Takes the top operand away, if there is one.
+    #[inline(always)]
+    pub fn pop(&mut self)
+        ensures { self.new ≡ record { entries = rest self.old.entries; floor = self.old.floor } }
+    {
+        self.packed.pop();
+    }
+
+    /// Takes the operands above a height away.
+    #[inline(always)]
+    pub fn truncate(&mut self, height: usize)
+        ensures { self.new ≡ record {
+          entries = drop (length self.old.entries - height) self.old.entries;
+          floor = self.old.floor;
+        } }
+    {
+        self.packed.truncate(height);
+    }
+}
+
+#[inline(always)]
+fn kind(entry: Entry) -> Kind
+    ensures { result ≡ kind_of entry }
+{
+    match entry {
+        Entry::I32 => Kind::I32,
+        Entry::I64 => Kind::I64,
+        Entry::F32 | Entry::F64 => Kind::Float,
+        Entry::Unknown => Kind::Unknown,
+    }
+}
+
+// The operand with this index, which is of this kind.
+#[inline(always)]
+fn entry_at(widths: &Widths, at: usize, kind: Kind) -> Entry
+    ensures { result ≡ entry_of kind (is_wide widths.now at) }
+{
+    match kind {
+        Kind::I32 => Entry::I32,
+        Kind::I64 => Entry::I64,
+        Kind::Unknown => Entry::Unknown,
+        Kind::Float => float(widths.is_wide(at)),
+    }
+}
+
+fn float(wide: bool) -> Entry
+    ensures { result ≡ entry_of Kind.Float wide }
+{
+    if wide { Entry::F64 } else { Entry::F32 }
+}
+
+#[cfg(test)]
+mod tests {
+    use super::*;
+    use crate::fields::is;
+
+    /// A further field has to be named here, and a further list to be counted.
+    #[test]
+    fn every_field_is_a_list_that_is_counted(rt: HostRuntime) {
+        let operands = Operands::new(rt.alloc());
+        let Operands { packed, widths } = &operands;
+        is::<Packed>(packed);
+        is::<Widths>(widths);
+    }
+}

@@ -1,0 +1,151 @@
+//! How wide the floats among the operands are.
+
+ghost use Rattle.std.specs.Prelude.{◌≡◌, ◌≢◌, ℕ, ◌/◌, ◌%◌, ◌<◌, ◌≤◌, true, false, [], IfErr, OnErr, OnOk};
+ghost use Rattle.std.specs.Prelude.{length, nat_eq, slice_index};
+ghost use Rattle.std.specs.Int.{bit_at};
+ghost use Rattle.wm_stacks.specs.inner.Widths.{Written, is_wide, words_of};
+
+use std::alloc::Global;
+use wm_syntax::why::Why;
+
+// So many operands have a bit in a word.
+const BITS: usize = 64;
+
+/// Of each operand that is a float, whether it is an f64. Others have a bit too, which means nothing.
+///
+/// Operand i has bit i % 64 of word i / 64. Words are made where an f64 is pushed; a word that was not
+/// made has no bit set.
+#[derive(Debug, Drop)]
+pub(crate) struct Widths {
+    // Word 0, which takes no memory.
+    first: u64,
+    // Those from word 1 on.
+    rest: Vec<u64>,
+}
+
+impl Widths {
+    /// One word.
+    pub fn new(alloc: Global) -> Self
+        ensures { result.rest.items ≡ [] }
+    {
+        Widths {
+            first: 0,
+            rest: Vec::new(alloc),
+        }
+    }
+
+    /// Lets all words but one go. What was taken of memory stays taken.
+    pub fn forget(&mut self)
+        ensures { self.new.rest.items ≡ [] }
+    {
+        self.rest.clear();
+    }
+
+    /// Whether the operand with this index is an f64, if it is a float.
+    pub fn is_wide(&self, at: usize) -> bool
+        ensures { result ≡ is_wide self.now at }
+    {
+        let bits = self.word(at / BITS);
+        (bits >> (at % BITS)) & 1 == 1
+    }
+
+    /// The operand with this index is an f32.
+    pub fn narrow(&mut self, at: usize)
+        ensures { Written at false self.old self.new }
+    {
+        let index = at / BITS;
+        let made = self.rest.len();
+        if made < index {
+            return;
+        }
+        self.put(at, false);
+    }
+
+    /// The operand with this index is an f64. `Memory` changes no width, and comes only where a word more
+    /// is needed than the one that takes none.
+    pub fn widen(&mut self, at: usize) -> Result<(), Why>
+        ensures ok { OnOk result (Written at true self.old self.new) }
+        ensures err { IfErr result (λ why. (why ≡ Why.Memory)
+            × ((i : ℕ) → is_wide self.new i ≡ is_wide self.old i)) }
+        ensures near { OnErr result (64 ≤ at) }
+    {
+        match lengthen(&mut self.rest, at / BITS) {
+            Ok(()) => {
+                self.put(at, true);
+                Ok(())
+            }
+            Err(why) => Err(why),
+        }
+    }
+
+    // Writes the bit of an operand into its word, which was made.
+    fn put(&mut self, at: usize, wide: bool)
+        requires { at / 64 ≤ length self.old.rest.items }
+        ensures { Written at wide self.old self.new }
+    {
+        let index = at / BITS;
+        let old = self.word(index);
+        let word = with_bit(old, at, wide);
+        if index == 0 {
+            self.first = word;
+            return;
+        }
+        self.rest[index - 1] = word;
+    }
+
+    // The word with this index.
+    fn word(&self, index: usize) -> u64
+        ensures { result ≡ slice_index (words_of self.now) index }
+    {
+        if index == 0 {
+            self.first
+        } else {
+            word_in(&self.rest, index - 1)
+        }
+    }
+}
+
+fn word_in(words: &[u64], index: usize) -> u64
+    ensures { result ≡ slice_index words.now index }
+{
+    words.get(index).copied().unwrap_or(0)
+}
+
+// The word with the bit of an operand written.
+fn with_bit(word: u64, at: usize, wide: bool) -> u64
+    ensures there { nat_eq (bit_at result (at % 64)) 1 ≡ wide }
+    ensures others { (i : ℕ) → i < 64 → i ≢ at % 64 → bit_at result i ≡ bit_at word i }
+{
+    let bit = 1 << (at % BITS);
+    if wide { word | bit } else { word & !bit }
+}
+
+// Makes words with no bit set, until there are so many.
+#[inline(never)]
+fn lengthen(words: &mut Vec<u64>, count: usize) -> Result<(), Why>
+    ensures same { (i : ℕ) → slice_index words.new.items i ≡ slice_index words.old.items i }
+    ensures ok { OnOk result (count ≤ length words.new.items) }
+    ensures err { IfErr result (λ why. why ≡ Why.Memory) }
+    ensures near { OnErr result (0 < count) }
+{
+    if count > words.len() {
+        words.resize(count, 0)?;
+    }
+    Ok(())
+}
+
+#[cfg(test)]
+mod tests {
+    use super::*;
+    use crate::fields::{is, is_copy};
+
+    /// A further field has to be named here, and a further list to be counted. Each word of this one was
+    /// made for 64 operands, which were counted then.
+    #[test]
+    fn every_field_is_a_list_that_is_counted(rt: HostRuntime) {
+        let widths = Widths::new(rt.alloc());
+        let Widths { first, rest } = &widths;
+        is_copy(first);
+        is::<Vec<u64>>(rest);
+    }
+}
