@@ -142,7 +142,7 @@ fn ops<S: Sink>(sink: &mut S, machine: &mut Machine, profile: Profile, bytes: &[
     if room == 0 {
         return Shortcut::none();
     }
-    let ran = take_ops(sink, profile, bytes, body.depth, room);
+    let ran = take_ops(sink, profile, bytes, body.depth, room as usize);
     if ran.used == 0 {
         return Shortcut::none();
     }

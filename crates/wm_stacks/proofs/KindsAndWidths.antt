@@ -19,11 +19,11 @@ use Rattle.wm_stacks.specs.inner.Operands.{Floored, entries_in, entry_of, kind_o
 shown : (u : ValType) (k : Kind) (wide : Bool) → shows u k ≡ true → fits (entry_of k wide) u ≡ true
 shown t.I32 I32 wide h = refl
 shown t.I32 I64 wide h = cc
-shown t.I32 Unknown wide h = refl
+shown t.I32 Unknown wide h = cc
 shown t.I32 Float wide h = cc
 shown t.I64 I32 wide h = cc
 shown t.I64 I64 wide h = refl
-shown t.I64 Unknown wide h = refl
+shown t.I64 Unknown wide h = cc
 shown t.I64 Float wide h = cc
 shown t.F32 k wide h = cc
 shown t.F64 k wide h = cc
@@ -35,6 +35,14 @@ told entry.I64 wide n m = refl
 told entry.F32 wide n m = absurd (n refl)
 told entry.F64 wide n m = absurd (m refl)
 told entry.Unknown wide n m = refl
+
+-- a float that is no f64
+pub narrow : (e : Entry) → kind_of e ≡ Float → e ≢ entry.F64 → e ≡ entry.F32
+narrow entry.I32 h n = cc
+narrow entry.I64 h n = cc
+narrow entry.F32 h n = refl
+narrow entry.F64 h n = absurd (n refl)
+narrow entry.Unknown h n = cc
 
 length-entries : (ks : List Kind) (w : Widths) → length (entries_in ks w) ≡ length ks
 length-entries [] w = refl

@@ -90,14 +90,31 @@ impl Operands {
         ensures between { entry ≢ Entry.F64 → OnErr result (length self.old.entries % 32 ≡ 0) }
     {
         match entry {
-            Entry::F32 => self.push_f32(),
-            Entry::F64 => self.push_f64(),
+            Entry::F32 | Entry::F64 => self.push_float(entry),
             _ => self.packed.push(kind(entry)),
         }
     }
 
-    // An old bit of an f64 may stand where it comes.
+    // The same of a float, out of the way of those that are none.
     #[inline(never)]
+    fn push_float(&mut self, entry: Entry) -> Result<(), Why>
+        requires float { kind_of entry ≡ Kind.Float }
+        requires bounded { length self.old.entries < 2 ^ 63 }
+        ensures ok { OnOk result (self.new ≡ record {
+          entries = entry ∷ self.old.entries;
+          floor = self.old.floor;
+        }) }
+        ensures err { IfErr result (λ why. (why ≡ Why.Memory) × (self.new ≡ self.old)) }
+        ensures near { OnErr result (64 ≤ length self.old.entries) }
+        ensures between { entry ≢ Entry.F64 → OnErr result (length self.old.entries % 32 ≡ 0) }
+    {
+        match entry {
+            Entry::F64 => self.push_f64(),
+            _ => self.push_f32(),
+        }
+    }
+
+    // An old bit of an f64 may stand where it comes.
     fn push_f32(&mut self) -> Result<(), Why>
         requires { length self.old.entries < 2 ^ 63 }
         ensures ok { OnOk result (self.new ≡ record {
@@ -114,7 +131,6 @@ impl Operands {
     }
 
     // Its bit is written first: where the other list refuses, it means nothing.
-    #[inline(never)]
     fn push_f64(&mut self) -> Result<(), Why>
         requires { length self.old.entries < 2 ^ 63 }
         ensures ok { OnOk result (self.new ≡ record {
@@ -190,7 +206,7 @@ impl Operands {
     }
 }
 
-#[inline(always)]
+#[inline]
 fn kind(entry: Entry) -> Kind
     ensures { result ≡ kind_of entry }
 {

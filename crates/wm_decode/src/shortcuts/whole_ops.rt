@@ -599,22 +599,22 @@ fn refused(used: usize, depth: u32, why: Why) -> Ran
     }
 }
 
-/// Takes ops while they lie whole in these bytes and in the next `most` of the entry.
+/// Takes ops while they lie whole in these bytes and in the next `room` of the entry.
 #[inline(never)]
 pub(crate) fn take_ops<S: Sink>(
     sink: &mut S,
     profile: Profile,
     bytes: &[u8],
     start: u32,
-    most: u32,
+    room: usize,
 ) -> Ran
-    ensures within { result.used ≤ most }
+    requires { room < 2 ^ 32 }
+    ensures within { result.used ≤ room }
     ensures inside { result.used ≤ length bytes.now }
     ensures one { length bytes.now ≤ 1 → result.used ≡ 0 }
-    ensures ran { RanTo S.after profile (S.held sink.old) bytes.now most start result.used result.depth
+    ensures ran { RanTo S.after profile (S.held sink.old) bytes.now room start result.used result.depth
         result.refused (S.held sink.new) }
 {
-    let room = most as usize;
     let mut used = 0;
     let mut depth = start;
     let end = room.min(bytes.len().saturating_sub(1));

@@ -17,15 +17,15 @@ code_of Float = 3
 abbrev pub kind_of_code : ℕ → Kind
 kind_of_code c = if c == 0 then I32 else if c == 1 then I64 else if c == 2 then Unknown else Float
 
--- The kind alone shows that the operand may stand for one of this type. That of a float tells too little.
+-- The kind alone shows that the operand has this type. That of a float tells too little.
 abbrev pub shows : ValType → Kind → Bool
 shows t.I32 I32 = true
 shows t.I32 I64 = false
-shows t.I32 Unknown = true
+shows t.I32 Unknown = false
 shows t.I32 Float = false
 shows t.I64 I32 = false
 shows t.I64 I64 = true
-shows t.I64 Unknown = true
+shows t.I64 Unknown = false
 shows t.I64 Float = false
 shows t.F32 k = false
 shows t.F64 k = false

@@ -4,13 +4,12 @@ use Rattle.wm_decode.specs.exact.WholeOps.OpsTaken.{no_ops, one_more}
 use Rattle.wm_decode.proofs.shortcuts.whole_ops.take_ops.Goals as goal
 
 pub loop-used-init : goal.loop-used-init
-loop-used-init g c = record { room = refl; one = λ _. refl; within = omega arith; inside = omega arith; ran = no_ops }
+loop-used-init g c = record { one = λ _. refl; within = omega arith; inside = omega arith; ran = no_ops }
 
 pub loop-used-preserved-in-Next : goal.loop-used-preserved-in-Next
 loop-used-preserved-in-Next g c =
     let took = c.in-Next.ensures in
     record {
-      room = refl;
       one = λ e. absurd (omega (arith, e));
       within = took.2;
       inside = took.1.within;
@@ -22,10 +21,9 @@ loop-used-preserved g c =
     let took = c.in-Next-take_other.ensures in
     let l = c.loop-used in
     record {
-      room = refl;
       one = λ e. absurd (omega (arith, e));
       within = took.2;
       inside = took.1.within;
-      ran = one_more (subst (λ h. OpsTaken g.S.Sink.after c.args.profile c.args.bytes.now c.args.most 0 c.args.start (g.S.Sink.held c.args.sink.now) l.used l.depth h) c.in-Left.ensures l.invariant.ran)
+      ran = one_more (subst (λ h. OpsTaken g.S.Sink.after c.args.profile c.args.bytes.now c.args.room 0 c.args.start (g.S.Sink.held c.args.sink.now) l.used l.depth h) c.in-Left.ensures l.invariant.ran)
           took.0 c.in-Next-take_other.next c.in-Next-take_other.inside (g.S.Sink.held c.take_other.new.sink) took.1 took.2 took.3;
     }

@@ -6,16 +6,6 @@ use Rattle.wm_stacks.specs.declared.words.Kind.{Kind}
 use Rattle.wm_stacks.proofs.KindsAndWidths.{told, height_same, push_ok, push_err, near, between}
 use Rattle.wm_stacks.proofs.operands.Operands.push.Goals as goal
 
-pub returns-in-F32 : goal.returns-in-F32
-returns-in-F32 c =
-    let e = c.push_f32.ensures in
-    rw c.in-F32.is (record { ok = e.ok; err = e.err; near = e.near; between = λ _. e.between })
-
-pub returns-in-F64 : goal.returns-in-F64
-returns-in-F64 c =
-    let e = c.push_f64.ensures in
-    rw c.in-F64.is (record { ok = e.ok; err = e.err; near = e.near; between = λ n. absurd (n refl) })
-
 pub push-requires : goal.push-requires
 push-requires c = omega (arith, height_same c.self.inside.packed c.self.inside.widths c.args.self.now c.self.view_is, c.requires)
 
