@@ -2,12 +2,12 @@
 """Compares `wmod build` with wat2wasm of wabt on small texts: `texts.py [--short] [PROGRAM]`.
 
 It makes texts of each rule of the text format, right and wrong, and from them texts that lack one token, have one twice,
-or have two swapped; with `--short` only the first. wmod gets each text under profile 2, which has sign extension and no
-floats, and under profile 3, which has floats and no sign extension. A program reads a text where the text writes some
-module, and accepts it where that is valid. Where both accept a text, `build` has to write what `canon` makes of the binary
-of wat2wasm. Where only one reads it, a class has to explain that; so too where wat2wasm writes another float than
-`literals.py` finds. Printed is for each profile how many texts each class has, with an example, and then each text that
-is wrong; the status is 1 where there is one.
+or have two swapped; with `--short` only the first. wmod gets each text twice: profile 2 has sign extension and no floats,
+profile 3 has floats and no sign extension. A program reads a text where the text writes some module, and accepts it where
+that is valid. Where both accept a text, `build` has to write what `canon` makes of the binary of wat2wasm. Where only one
+reads it, a class has to explain that; so too where wat2wasm writes another float than `literals.py` finds. Printed is for
+each profile how many texts each class has, with an example, and then each text that is wrong. The status is 1 where there
+is one.
 """
 import collections
 import itertools
