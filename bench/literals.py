@@ -5,7 +5,7 @@ It makes 10,000 literals, the same ones for the same seed, half of them of f32 a
 exact values of floats, points halfway between two floats and points a little beside them, some with 800 digits and more,
 subnormals, the largest finite floats and what lies above, infinities, NaNs, and literals with one character changed. What
 each one means is computed in fractions: the nearest float, of two the one whose last bit is 0, and nothing where that is
-no finite one (6.3.2, 4.3.2). This is held against Python's own readers of floats first, wherever these are exact. Then
+no finite one (6.3.2, 4.3.3). This is held against Python's own readers of floats first, wherever these are exact. Then
 wmod has to build the module with just these bits, or to refuse the text; and so has wat2wasm of wabt where it is
 installed. Printed is each difference, and how many there are of a kind. The status is 1 where wmod or Python differ.
 """

@@ -2,10 +2,12 @@
 """Compares `wmod build` with wat2wasm of wabt on small texts: `texts.py [--short] [PROGRAM]`.
 
 It makes texts of each rule of the text format, right and wrong, and from them texts that lack one token, have one twice,
-or have two swapped; with `--short` only the first. A program reads a text where the text writes some module, and accepts
-it where that is valid. Where both accept a text, `build` has to write what `canon` makes of the binary of wat2wasm. Where
-only one reads it, a class has to explain that. Printed is how many texts each class has, with an example, and then each
-text that is wrong; the status is 1 where there is one.
+or have two swapped; with `--short` only the first. wmod gets each text twice: profile 2 has sign extension and no floats,
+profile 3 has floats and no sign extension. A program reads a text where the text writes some module, and accepts it where
+that is valid. Where both accept a text, `build` has to write what `canon` makes of the binary of wat2wasm. Where only one
+reads it, a class has to explain that; so too where wat2wasm writes another float than `literals.py` finds. Printed is for
+each profile how many texts each class has, with an example, and then each text that is wrong. The status is 1 where there
+is one.
 """
 import collections
 import itertools
@@ -14,9 +16,12 @@ import re
 import subprocess
 import sys
 
+import literals
+
 HERE = pathlib.Path(__file__).resolve().parent
 PROGRAM = HERE.parent / "crates/wm_cli/out/wm_cli"
 NAMES = HERE.parent / "crates/wm_syntax/src/instructions/op_names.rt"
+PROFILES = ["2", "3"]
 LATER = ["saturating-float-to-int", "simd", "multi-value", "bulk-memory", "reference-types"]
 FLAGS = [f"--disable-{feature}" for feature in LATER]
 ATOM = r"[0-9A-Za-z!#$%&'*+\-./:<=>?@\\^_`|~]+"
@@ -52,7 +57,8 @@ def of_types():
     forms = ["", "(param)", "(param i32)", "(param i32 i64)", "(param $x i32)", "(param $x i32) (param i64 i64)"]
     forms += ["(result i32)", "(result)", "(param) (result) (result i64)", "(param i32) (result i32)"]
     forms += ["(result i32 i32)", "(result i32) (result i32)", "(param $x i32) (param $x i32)", "(param $x i32 i32)"]
-    forms += ["(result i32) (param i32)", "(result $x i32)", "(param f32)", "(param $x)", "(result) (param)"]
+    forms += ["(result i32) (param i32)", "(result $x i32)", "(param $x)", "(result) (param)"]
+    forms += ["(param f32)", "(param $x f64)", "(result f32)", "(param f32 i32 f64) (result f64)", "(result f32 f64)", "(param f16)"]
     for form in forms:
         yield module(f"(type (func {form}))")
         yield module(f"(type $t (func {form}))")
@@ -67,7 +73,8 @@ def of_imports():
     kinds = ["(func $f (type $t))", "(func (type 0))", "(func $f (type $t) (param i32) (result i32))"]
     kinds += ["(func (type $t) (param $x i32) (result i32))", "(func (type $t) (param i64))", "(func)", "(func (type 1))"]
     kinds += ["(table $a 1 2 funcref)", "(table 0 funcref)", "(memory $m 1 2)", "(memory 1)"]
-    kinds += ["(global $g i32)", "(global i64)", "(global $g (mut i64))", "(global (mut i32))", "(global f64)", "(tag)"]
+    kinds += ["(global $g i32)", "(global i64)", "(global $g (mut i64))", "(global (mut i32))", "(tag)"]
+    kinds += ["(global f64)", "(global $g f32)", "(global $g (mut f64))", "(global (mut f32))", "(func (type $t) (param f32))"]
     for kind in kinds:
         yield module("(type $t (func (param i32) (result i32)))", f'(import "a" "b" {kind})')
     yield module("(memory 1)", '(import "a" "b" (global i32))')
@@ -78,7 +85,8 @@ def of_imports():
 
 def of_functions():
     locals_ = ["", "(local)", "(local i32)", "(local i32 i64) (local i32)", "(local $a i32) (local $b i64)", "(local $a i32 i32)"]
-    locals_ += ["(local $x i32)", "(local f32)", "(local $a i32) (local $a i32)", "(local i32) (param i32)"]
+    locals_ += ["(local $x i32)", "(local $a i32) (local $a i32)", "(local i32) (param i32)"]
+    locals_ += ["(local f32)", "(local $a f64) (local f32 i32 f64 f64)", "(local $x f32)", "(local f64) (param f32)"]
     for form in locals_:
         yield module("(type $t (func (param i32)))", f"(func (type $t) (param $x i32) {form})")
         yield module("(type $t (func (param i32)))", f"(func $f (type 0) {form})")
@@ -107,7 +115,10 @@ def of_tables_and_memories():
 def of_globals():
     for first in ["i32 i32.const 1", "$g i64 i64.const 1", "(mut i32) i32.const 1", "$g (mut i64) i64.const 1"]:
         yield module(f"(global {first})")
-    wrong = ["i32", "i32 (i32.const 1)", "i32 i64.const 1", "i32 i32.const 0 i32.const 0", "i32 nop", "f32 f32.const 0", "i32 global.get 0"]
+    for first in ["f32 f32.const 1", "$g f64 f64.const 1.5", "(mut f32) f32.const -0x1.8p3", "$g (mut f64) f64.const inf"]:
+        yield module(f"(global {first})")
+    wrong = ["i32", "i32 (i32.const 1)", "i32 i64.const 1", "i32 i32.const 0 i32.const 0", "i32 nop", "i32 global.get 0"]
+    wrong += ["f32", "f32 f64.const 1", "f64 f32.const 1", "f32 i32.const 1", "i64 f64.const 1", "f32 f32.const 1 f32.neg"]
     for form in wrong:
         yield module(f"(global {form})")
     yield module('(import "a" "b" (global $g i32))', "(global $h i32 global.get $g)", "(global i32 global.get 0)")
@@ -178,6 +189,8 @@ OPERANDS = {
     "global.set": ["0", "$g", "1"],
     "i32.const": ["0", "-1", "$x", ""],
     "i64.const": ["0", "-1", "$x", ""],
+    "f32.const": ["0", "-1.5", "$x", ""],
+    "f64.const": ["0", "-1.5", "$x", ""],
 }
 CLOSED = {"block": "", "loop": "", "if": "", "else": "if", "end": "block"}
 MEMARGS = ["", "offset=0", "offset=8", "offset=0x_8", "offset=0x8 align=1", "offset=4294967295", "offset=4294967296", "align=1"]
@@ -197,9 +210,22 @@ def of_instructions():
             yield module(*fields, f"(func $f (type $v) (param $x i32) (local i64) {code})")
     for name in ["i32.foo", "get_local", "i32.wrap/i64", "f32.add", "i32.trunc_f32_s", "i32.reinterpret_f32", "f64.load", "I32.add", "ref.null"]:
         yield dead(name)
-    yield dead("f32.const 0 drop")
-    yield dead("f64.const 1.5 drop")
-    yield dead("f32.const nan drop")
+
+
+def of_floats():
+    """Values of floats on their way through a body."""
+    for ty, other in [("f32", "f64"), ("f64", "f32")]:
+        for last in [ty, other, "i32"]:
+            function = f"(func (type $v) (param $x {ty}) (param {other}) (local $y {ty}) (local {other} {ty})"
+            code = f"local.get $x local.tee $y local.set 4 local.get $y {last}.add)"
+            yield module(f"(type $v (func (param {ty} {other}) (result {last})))", function, code)
+            yield body(f"block $a (result {ty}) {last}.const 1 br $a end drop")
+            yield body(f"i32.const 0 if (result {ty}) {ty}.const 1 else {last}.const 2 end drop")
+            yield body(f"{ty}.const 1 {last}.const 2 i32.const 0 select drop")
+            yield body(f"global.get $g {last}.neg global.set $g", f"(global $g (mut {ty}) {ty}.const 0)")
+            yield body(f"i32.const 0 {ty}.load i32.const 0 {last}.load i32.const 0 {last}.store drop", "(memory 1)")
+            yield body(f"{last}.const 1 call $f drop", f"(type $t (func (param {ty}) (result {ty})))", "(func $f (type $t) local.get 0)")
+        yield module('(import "a" "b" (global $g ' + ty + "))", f"(global $h {ty} global.get $g)", f"(global {other} global.get 0)")
 
 
 def of_blocks():
@@ -229,6 +255,9 @@ def of_blocks():
     yield body("(drop (i32.const 0))")
 
 
+FLOATS = ["1.0", "1.", "1e3", "0x1p3", "0x.8", "+inf", "inf", "-nan", "nan", "nan:0x1", "-nan:0x1", "nan:1", "1.5.2", "1e"]
+
+
 def of_numbers():
     digits = ["0", "1", "01", "007", "1_0", "1__0", "_1", "1_", "0x0", "0xF", "0xabcdefABCDEF", "0x_1", "0x1_", "0x", "0X1", "0xg", "1a", "0b1"]
     for bits in (32, 64):
@@ -236,11 +265,36 @@ def of_numbers():
             digits += [str(n + d) for d in (-1, 0, 1)] + [hex(n + d) for d in (-1, 0, 1)]
     for sign, number, ty in itertools.product(["", "+", "-", "--"], digits, ["i32", "i64"]):
         yield module(f"(global {ty} {ty}.const {sign}{number})")
-    for number in ["+", "-", "1.0", "1e3", "0x1p3", "inf", "nan", "nan:0x1", "1,0", "$1", "1_000_000"]:
+    for number in ["+", "-", "1,0", "$1", "1_000_000", *FLOATS]:
         yield module(f"(global i32 i32.const {number})")
     for number in [*digits[:24], "4294967296", "0x100000000"]:
         yield module(f"(memory {number})")
         yield body(f"br {number}")
+
+
+def beside(width):
+    """Pairs of n and an exponent: 0, 1, the greatest and the least floats, and what lies between them and the next ones."""
+    digits, least = literals.FORMATS[width]
+    one, most = 1 << digits + 1, -least - 2 * digits
+    around = [(0, range(6), least - 1), (one, range(-3, 4), least - 1), (one, range(-3, 4), -digits - 1)]
+    around += [(2 * one, range(-5, 2), most)]
+    return [(n + d, exponent) for n, places, exponent in around for d in places]
+
+
+def of_float_literals():
+    for width, sign, literal in itertools.product(literals.FORMATS, ["", "+", "-"], literals.FIXED.split()):
+        yield module(f"(global f{width} f{width}.const {sign}{literal})")
+    for width in literals.FORMATS:
+        for n, exponent in beside(width):
+            decimal, power = (n << exponent, 0) if exponent >= 0 else (n * 5**-exponent, exponent)
+            for literal in [f"0x{n:x}p{exponent}", f"0x{n:x}.001p{exponent}", f"{decimal}e{power}", f"-{decimal}.001e{power}"]:
+                yield module(f"(global f{width} f{width}.const {literal})")
+        for wrong in ["$x", "f32", "i32.const", '"1"', "( 1 )", "offset=1"]:
+            yield module(f"(global f{width} f{width}.const {wrong})")
+    for literal in FLOATS:
+        yield module(f"(memory {literal})")
+        yield body(f"br {literal}")
+        yield body(f"i32.const 0 f32.load offset={literal} drop", "(memory 1)")
 
 
 def data(text):
@@ -298,8 +352,10 @@ def of_white_space():
 
 
 RULES = [of_modules, of_types, of_imports, of_functions, of_tables_and_memories, of_globals, of_exports_and_starts]
-RULES += [of_elements_and_data, of_abbreviations, of_instructions, of_blocks, of_numbers, of_strings, of_identifiers, of_white_space]
-SPELLINGS = [of_numbers, of_strings, of_identifiers, of_white_space]  # single tokens, so no further ones are made of them
+RULES += [of_elements_and_data, of_abbreviations, of_instructions, of_floats, of_blocks]
+# single tokens, so no further ones are made of them
+SPELLINGS = [of_numbers, of_float_literals, of_strings, of_identifiers, of_white_space]
+RULES += SPELLINGS
 
 
 def changes(tokens, i):
@@ -340,15 +396,16 @@ STRICTER = {
     "no type use": r"\( func (\$\S+ )?(\( )?@Expected |call_indirect (\( )?@Expected ",
     "no word module": rf"^\( @Expected {FIELD} ",
     "later than 1.0": r"\) @Expected func |data (\$\S+ @Expected \$|@UnknownId )|(block|loop|if) (\$\S+ )?\( @Expected (type|param) |@Expected tag ",
-    "no result of a block, or two": r"(block|loop|if) (\$\S+ )?\( result (@Expected \)|i(32|64) (\) )?@Expected )",
-    "constant that is not one instruction": r"@NotConst |(offset|global i(32|64)) @Expected \) ",
+    "no result of a block, or two": r"(block|loop|if) (\$\S+ )?\( result (@Expected \)|[if](32|64) (\) )?@Expected )",
+    "constant that is not one instruction": r"@NotConst |(offset|global [if](32|64)) @Expected \) ",
     "type use of no type": "@TypeUse ",
     "table of another type": r"table (\$\S+ )?(\d\S* )+@Expected [if]",
     "index of 2^32 or more": r"@BadInteger (0x\w{9}|\d{10})",
     "plus sign on a number of the upper half": r"@BadInteger \+",
     "control character in a string": r'@BadToken "[^"]*[\x00-\x1f\x7f]',
     "not UTF-8": "@NotUtf8",
-    "floating point": r"@Float (f32|f64|i(32|64)\.\w+_f)|@BadToken \S+ ",
+    "floating point under profile 2": r"@Float (f32|f64|i(32|64)\.\w+_f)",
+    "sign extension under profile 3": r"@UnknownWord i(32|64)\.extend(8|16|32)_s ",
 }
 # What wat2wasm refuses in texts that wmod reads: of a text, @ and the complaint of wat2wasm, @@ where tokens touch.
 LAXER = {
@@ -370,8 +427,8 @@ def run(words, given):
     return done.returncode == 0, done.stdout, done.stderr.decode("utf8", "replace")
 
 
-def built(program, text):
-    well, out, complaint = run([program, "build", "--profile", "2", "-"], text)
+def built(program, profile, text):
+    well, out, complaint = run([program, "build", "--profile", profile, "-"], text)
     line = "" if well else f"{out.decode()}{complaint}".strip()
     return Answer(out if well else None, well or line.startswith("module refused"), line)
 
@@ -381,7 +438,7 @@ def assembled(program, text):
     words = ["wat2wasm", *FLAGS, "-", "--output=-"]
     well, out, complaint = run(words, text)
     if well:
-        well, canonical, _ = run([program, "canon", "--profile", "2", "-"], out)
+        well, canonical, _ = run([program, "canon", "--profile", "4", "-"], out)
         return Answer(canonical if well else None, True, "" if well else "its binary is " + canonical.decode().strip())
     return Answer(None, run([*words, "--no-check"], text)[0], "".join(re.findall("error: (.*)", complaint)[:1]))
 
@@ -404,17 +461,42 @@ def complained(text, line):
     return text + (" @@" if touches(text) else " @") + line
 
 
+def spelled(bits, width):
+    """The float of these bits, exactly."""
+    digits = literals.FORMATS[width][0]
+    power, fraction = divmod(bits % (1 << width - 1), 1 << digits)
+    sign = "-" if bits >> width - 1 else ""
+    if power == (1 << width - 1 - digits) - 1:
+        return sign + (f"nan:0x{fraction:x}" if fraction else "inf")
+    # the fraction of an f32 has a bit less than six hexadecimal digits
+    places = f"{fraction << -digits % 4:0{-(-digits // 4)}x}"
+    return f"{sign}0x{min(power, 1)}.{places}p{max(power, 1) + literals.FORMATS[width][1] + digits - 1}"
+
+
+def exactly(text):
+    """The text with each literal of a float spelled by the bits that it means."""
+
+    def replaced(found):
+        bits = literals.meaning(found[2], int(found[1]))
+        return found[0] if bits is None else f"f{found[1]}.const {spelled(bits, int(found[1]))}"
+
+    return re.sub(rf"f(32|64)\.const\s+({ATOM})", replaced, text.decode("latin1")).encode("latin1")
+
+
 def found(classes, words):
     return next((name for name, pattern in classes.items() if re.search(pattern, words)), "UNEXPLAINED")
 
 
-def judged(text, own, other):
+def judged(program, text, own, other):
     """The class of a text; what is wrong stands in capital letters."""
     if own.line and not re.fullmatch(r"(text|module) refused at \d+: \w+", own.line):
         return "NO ANSWER"
     if own.reads and other.reads:
+        if own.binary and other.binary and own.binary != other.binary:
+            right = assembled(program, exactly(text)).binary == own.binary
+            return "wat2wasm alone rounds wrongly" if right else "OTHER BYTES"
         if own.binary != other.binary:
-            return "OTHER BYTES" if own.binary and other.binary else "ONE IS INVALID"
+            return "ONE IS INVALID"
         return "both accept, same bytes" if own.binary else "both read, both find it invalid"
     if own.reads:
         return f"wmod alone reads it: {found(LAXER, complained(text.decode('utf8', 'replace'), other.line))}"
@@ -426,17 +508,21 @@ def judged(text, own, other):
 def main():
     words = [w for w in sys.argv[1:] if not w.startswith("--")]
     program = words[0] if words else str(PROGRAM)
-    classes = collections.defaultdict(list)
+    classes = {profile: collections.defaultdict(list) for profile in PROFILES}
     for text in texts("--short" in sys.argv):
         data = text.encode("utf8", "surrogateescape")
-        own, other = built(program, data), assembled(program, data)
-        classes[judged(data, own, other)].append((data, own.line, other.line))
-    for name, members in sorted(classes.items(), key=lambda c: -len(c[1])):
-        print(f"{len(members):6} {name}" + ("" if name.startswith("both") else f", as {members[0][0].decode(errors='replace')!r}"))
-    wrong = {name: members for name, members in classes.items() if name.upper() == name or "UNEXPLAINED" in name}
-    for name, members in wrong.items():
-        for member in members:
-            print(f"{name}: text, wmod, wat2wasm:", *map(repr, member), sep="\n  ")
+        other = assembled(program, data)
+        for profile in PROFILES:
+            own = built(program, profile, data)
+            classes[profile][judged(program, data, own, other)].append((data, own.line, other.line))
+    wrong = [(profile, name) for profile in PROFILES for name in classes[profile] if name.upper() == name or "UNEXPLAINED" in name]
+    for profile in PROFILES:
+        print(f"under profile {profile}:")
+        for name, members in sorted(classes[profile].items(), key=lambda c: -len(c[1])):
+            print(f"{len(members):6} {name}" + ("" if name.startswith("both") else f", as {members[0][0].decode(errors='replace')!r}"))
+    for profile, name in wrong:
+        for member in classes[profile][name]:
+            print(f"{name} under profile {profile}: text, wmod, wat2wasm:", *map(repr, member), sep="\n  ")
     return 1 if wrong else 0
 
 

@@ -99,6 +99,7 @@ const ANSWERS: &str =
     Exit status: 0 done, 1 refused, 2 wrong arguments, 3 cannot read or write, 4 out of memory.\n\n\
     Examples:\n  \
     wmod check module.wasm\n  \
+    wmod check --profile 3 with_floats.wasm\n  \
     wmod stats --limit 1000000 < module.wasm\n  \
     wmod canon module.wasm > canonical.wasm\n  \
     wmod show module.wasm > module.wat\n  \

@@ -110,9 +110,10 @@ pub const OF_TEXTS: &str = "\
     UnknownWord | A word that names no field, or no instruction of the profile. An `else` or `end` \
         of no block is one. | 6.5, 6.6 | `(module(a`: at 8 | Look the name up in 6.5 and 6.6. For sign \
         extension take `--profile 2`, with floats `4`; for a word such as `get_local` `--old-words`.\n\
-    BadInteger | A number where an integer must stand, but out of range, or with a sign that may \
-        not be there. Also `offset=` or `align=` before no such number. | 6.3.1 | `(module(data -1))`: \
-        at 13 | Write a number of the range: below 2^32 with no sign for an index or a limit.\n\
+    BadInteger | A number where an integer must stand, but a float, out of range, or with a sign \
+        that may not be there. Also `offset=` or `align=` before no such number. | 6.3.1 | \
+        `(module(data -1))`: at 13 | Write an integer of the range: below 2^32 with no sign for an index \
+        or a limit.\n\
     BadFloat | A number or a NaN where a float must stand, but none of its width: malformed, nearest \
         to an infinity, or with a payload that is 0 or out of range. | 6.3.2 | with `--profile 3` \
         `(module(global f32 f32.const 1e39`: at 29 | Write a number that the width holds, or `inf`.\n\

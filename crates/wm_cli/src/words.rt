@@ -29,7 +29,7 @@ pub enum Action {
 #[derive(Debug, Drop)]
 pub struct Line {
     pub action: Action,
-    /// The instructions that there are.
+    /// The instructions and the types that a module may use.
     pub profile: Profile,
     /// The most bytes that the input may have, at most 2^62.
     pub limit: u64,
