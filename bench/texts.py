@@ -404,7 +404,7 @@ STRICTER = {
     "plus sign on a number of the upper half": r"@BadInteger \+",
     "control character in a string": r'@BadToken "[^"]*[\x00-\x1f\x7f]',
     "not UTF-8": "@NotUtf8",
-    "floating point under profile 2": r"@Float (f32|f64|i(32|64)\.\w+_f)",
+    "floating point under profile 2": r"@Float (f32|f64|i(32|64)\.\w+_f)|@BadToken ([+-]?\d[\w.+-]*|[+-](inf|nan\S*)) ",
     "sign extension under profile 3": r"@UnknownWord i(32|64)\.extend(8|16|32)_s ",
 }
 # What wat2wasm refuses in texts that wmod reads: of a text, @ and the complaint of wat2wasm, @@ where tokens touch.

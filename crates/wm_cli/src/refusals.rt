@@ -92,9 +92,10 @@ pub const OF_MODULES: &str = "\
 pub const OF_TEXTS: &str = "\
     NotUtf8 | The text is not UTF-8. The place is the length of its longest front that is. | 6.2.1 \
         | the byte `80`: at 0 | Save it as UTF-8.\n\
-    BadToken | A character, or a longest run of characters of atoms, that is no token. A string \
-        with a control character decides at its opening quote. | 6.2.2, 6.3 | `,`: at 0 | Remove a byte \
-        order mark, escape control characters. Give a binary module to the other actions.\n\
+    BadToken | A character, or a longest run of characters of atoms, that is no token. So is a literal \
+        such as `1.5` where the profile has no floats. A string with a control character decides at its \
+        opening quote. | 6.2.2, 6.3 | `,`: at 0 | Remove a byte order mark, escape control characters. For \
+        floats take `--profile 3`. Give a binary module to the other actions.\n\
     OpenComment | The text ends inside a block comment. | 6.2.4 | `(;`: at 2 | Give each `(;` its \
         own `;)`.\n\
     OpenString | The text ends inside a string, also in an escape. | 6.3.3 | `\"`: at 1 | Close the \

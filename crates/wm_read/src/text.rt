@@ -1,6 +1,6 @@
 //! Whole texts (section 6.6.13).
 
-ghost use Rattle.std.specs.Prelude.{◌≡◌, ◌≢◌, ◌≤◌, IfErr, IfOk, List, length, map};
+ghost use Rattle.std.specs.Prelude.{◌≡◌, ◌≢◌, ◌≤◌, IfErr, IfOk, IfSome, List, length, map};
 ghost use Rattle.wm_read.specs.Fields.{Writes};
 ghost use Rattle.wm_read.specs.Spellings.{replaced};
 ghost use Rattle.wm_read.specs.Tokens.{Token, Tokens};
@@ -19,10 +19,11 @@ use crate::names::heads::read_heads;
 use crate::names::identifiers::Names;
 use crate::renewed::renewed;
 use crate::spellings::Spellings;
-use crate::tokens::lexeme::{check_tokens, next_token};
+use crate::tokens::lexeme::{Lexeme, check_tokens, next_token, skip_space};
+use crate::tokens::scan::is_float_alone;
 use std::alloc::Global;
 use wm_syntax::modules::Module;
-use wm_syntax::profile::Profile;
+use wm_syntax::profile::{Feature, Profile};
 
 /// `( module id?`; the identifier means nothing.
 fn frame(text: &[u8]) -> Result<&[u8], TextFault>
@@ -103,8 +104,27 @@ fn read_spelled(
 ///
 /// A text that is no UTF-8 is refused first, then the first fault of its tokens, then the first of what its
 /// fields define, and then the first of its fields.
-#[tactic(auto, using(crate::proofs::TextLaws::text_laws))]
 pub fn read_text(
+    alloc: Global,
+    profile: Profile,
+    spellings: Spellings,
+    text: &[u8],
+) -> Result<Module, TextRefusal>
+    ensures written { IfOk result (λ m. (k : List Token) × Tokens text.now k
+        × Writes profile (map (replaced spellings) k) (value_of m)) }
+    ensures refused { IfErr result (λ e. e.why ≢ Memory → (k : List Token) (m : values.Module)
+        → Tokens text.now k → Writes profile (map (replaced spellings) k) m → ⊥) }
+    ensures at { IfErr result (λ e. e.at ≤ length text.now) }
+{
+    match read_tokens(alloc, profile, spellings, text) {
+        Ok(module) => Ok(module),
+        Err(refusal) => Err(told_first(profile, text, refusal)),
+    }
+}
+
+/// The same, where a float is a token under each profile.
+#[tactic(auto, using(crate::proofs::TextLaws::text_laws))]
+fn read_tokens(
     alloc: Global,
     profile: Profile,
     spellings: Spellings,
@@ -118,9 +138,45 @@ pub fn read_text(
 {
     check_tokens(text)?;
     match read_spelled(alloc, profile, spellings, text) {
-        Ok(module) => Ok(module),
+        Ok(read) => Ok(read),
         Err(fault) => Err(fault.refusal(text)),
     }
+}
+
+/// What is told of a text that is refused. Where the profile has no floats, a literal such as `1.5` is no token,
+/// so the first one is told before all else but bytes that are no UTF-8.
+fn told_first(profile: Profile, text: &[u8], refusal: TextRefusal) -> TextRefusal
+    requires { refusal.at ≤ length text.now }
+    ensures at { result.at ≤ length text.now }
+    ensures memory { refusal.why ≡ Memory → result.why ≡ Memory }
+{
+    if profile.has(Feature::Floats) {
+        return refusal;
+    }
+    match refusal.why {
+        TextWhy::Memory | TextWhy::NotUtf8 => refusal,
+        _ => match first_float(text) {
+            Some(at) => TextRefusal {
+                at,
+                why: TextWhy::BadToken,
+            },
+            None => refusal,
+        },
+    }
+}
+
+/// Where the first literal stands that is a token only as a float, before any fault of the tokens.
+fn first_float(text: &[u8]) -> Option<usize>
+    ensures { IfSome result (λ at. at ≤ length text.now) }
+{
+    let mut rest = skip_space(text);
+    while let Some((token, more)) = next_token(rest) {
+        if matches!(token, Lexeme::Atom(atom) if is_float_alone(atom)) {
+            return Some(text.len() - rest.len());
+        }
+        rest = skip_space(more);
+    }
+    None
 }
 
 #[cfg(test)]

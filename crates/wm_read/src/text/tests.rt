@@ -36,6 +36,13 @@ text (module (start 0) (start 0)) => SecondStart at 19
 text (module (func (wrong)) (start 0) (start 0)) => SecondStart at 34
 text (module (func (wrong)) (export "\zz" => BadEscape at 31
 text (module (start $f)) => UnknownId at 15
+;; a literal of a float is no token there, and told first
+text (module (type (func)) (func (type 0) f32.const 1.5)) => BadToken at 47
+text (module (type (func)) (func (type 0) f32.const inf)) => Float at 37
+text (module (type (func)) (func (type 0) f32.const +inf)) => BadToken at 47
+text (module (type (func)) (func (type 0) i32.const 1e5)) => BadToken at 47
+text (module (wrong)) 0x1p3 "\zz" => BadToken at 17
+text (module) "\zz" 1.5 => BadEscape at 9
 "#;
 
 /// Older words, in pairs: each is refused where it is not read, and read where it is.

@@ -467,6 +467,15 @@ fn is_literal(atom: &[u8]) -> bool
     }
 }
 
+/// Whether an atom is one only for being a float (section 6.3.2), and so none where there are no floats. It has no
+/// clause, since it decides only which name a refusal gets.
+pub(crate) fn is_float_alone(atom: &[u8]) -> bool {
+    match atom.first() {
+        None | Some(b'$' | b'a'..=b'z') => false,
+        Some(_) => is_literal(atom) && !is_number(atom),
+    }
+}
+
 /// The value of a number with no sign (section 6.3.1), or 2^64 if it is greater.
 pub fn magnitude(text: &[u8]) -> Option<u128>
     ensures { result ≡ option_map (λ n. min n 0x1_0000_0000_0000_0000) (scan.magnitude_of text.now) }
