@@ -80,8 +80,7 @@ fn profile_of(text: &str) -> Option<Profile>
     }
 }
 
-const ABOUT: &str =
-    "Checks and converts WebAssembly 1.0 modules, reading them once.\n\n  \
+const ABOUT: &str = "Checks and converts WebAssembly 1.0 modules, reading them once.\n\n  \
     check    write `valid`, or why not and where\n  \
     stats    write figures of a valid module's function bodies\n  \
     canon    write a valid module as its canonical binary: shortest numbers, no custom sections\n  \

@@ -339,8 +339,38 @@ zero_is : (w : FloatType) → IsPrintedSize w 0 (codes "0x0p+0")
 zero_is w =
     let z : units w 0 ≡ 0 = none w in
     record {
-      is = inl (0, 1, inr (0 ∷ [], [], 0, 0, refl, refl, (codes "0x", codes "0p+0", refl, refl, (48 ∷ [], codes "p+0", refl, (48, refl, refl, omega arith), ([], codes "p+0", refl, inl refl,
-      inr (inl (0 ∷ [], refl, refl, (112 ∷ [], codes "+0", refl, inl refl, (43 ∷ [], 48 ∷ [], refl, inr refl, (48, refl, refl, omega arith))))))))), exact w 0 1 0 (some w) (omega arith) (omega (arith, z)));
+      is = inl (
+        0,
+        1,
+        inr (
+          0 ∷ [],
+          [],
+          0,
+          0,
+          refl,
+          refl,
+          (
+            codes "0x",
+            codes "0p+0",
+            refl,
+            refl,
+            (
+              48 ∷ [],
+              codes "p+0",
+              refl,
+              (48, refl, refl, omega arith),
+              (
+                [],
+                codes "p+0",
+                refl,
+                inl refl,
+                inr (inl (0 ∷ [], refl, refl, (112 ∷ [], codes "+0", refl, inl refl, (43 ∷ [], 48 ∷ [], refl, inr refl, (48, refl, refl, omega arith))))),
+              ),
+            ),
+          ),
+        ),
+        exact w 0 1 0 (some w) (omega arith) (omega (arith, z)),
+      );
       chars = refl;
     }
   where

@@ -78,8 +78,7 @@ wrong wmod build --old-words = none
 wrong wmod check --profile 4 --limit 7 a = none
 wrong wmod --most = none"#;
 
-const HELP: &str =
-    "Checks and converts WebAssembly 1.0 modules, reading them once.\n\n  \
+const HELP: &str = "Checks and converts WebAssembly 1.0 modules, reading them once.\n\n  \
     check    write `valid`, or why not and where\n  \
     stats    write figures of a valid module's function bodies\n  \
     canon    write a valid module as its canonical binary: shortest numbers, no custom sections\n  \
