@@ -6,6 +6,8 @@ use Rattle.wm_syntax.specs.declared.instructions.Op.TheVariants as op
 use Rattle.wm_syntax.specs.declared.instructions.Simple.{Simple}
 use Rattle.wm_syntax.specs.declared.instructions.Simple.TheVariants as simple
 use Rattle.wm_syntax.specs.declared.modules.ExportKind.{ExportKind}
+use Rattle.wm_syntax.specs.declared.instructions.op_class.Opening.TheVariants as opening
+use Rattle.wm_syntax.specs.declared.instructions.op_class.Indexed.TheVariants as indexed
 use Rattle.wm_syntax.specs.declared.instructions.op_class.Immediates.TheVariants as kind
 use Rattle.wm_syntax.specs.declared.instructions.op_class.OpClass.{OpClass}
 use Rattle.wm_syntax.specs.declared.instructions.op_class.OpClass.TheVariants.{Plain, With}
@@ -229,10 +231,10 @@ labels_first (suc n) o ops h = absurd h
 
 -- which of the ops that are no simple instruction a first byte says
 abbrev rank : OpClass → ℕ
-rank (With kind.Block) = 1
-rank (With kind.Loop) = 2
-rank (With kind.If) = 3
-rank (With kind.BrTable) = 4
+rank (With (kind.Block opening.Block)) = 1
+rank (With (kind.Block opening.Loop)) = 2
+rank (With (kind.Block opening.If)) = 3
+rank (With (kind.Index indexed.BrTable)) = 4
 rank (Plain op.Else) = 5
 rank (Plain op.End) = 6
 rank _ = 0
