@@ -22,7 +22,7 @@ use Rattle.wm_syntax.specs.Types.{SpellsU32, SpellsBlockType, SpellsGlobalType, 
 use Rattle.wm_syntax.specs.Profiles.{HasDesc, HasType}
 use Rattle.wm_syntax.specs.Instructions.{SpellsOp}
 use Rattle.wm_syntax.proofs.Unambiguous.{same_u32, same_simple}
-use Rattle.wm_syntax.proofs.OneInstruction.{class_there}
+use Rattle.wm_syntax.proofs.OpTable.{class_there}
 use Rattle.wm_decode.specs.Sections.{SpellsDesc, kind_byte, header}
 use Rattle.wm_decode.specs.Items.{Item, entry, closing, Mark, Marks, new_type, param, result_count, one_result, import_module, import_name, import_desc, function, table, memory, global, const_op, export_name, export, start, element, element_function, body, locals, body_op, segment, data_byte}
 use Rattle.wm_decode.specs.MarkedForms.{MarkedForm, Empty, Byte, Literal, Then, Times, Leaf, Number, Vector, Index, Name, Sized, Filled, Entry, nothing_at, outside_mark, marks_ending, name_byte_marks, name_marks, in_zone, entry_marks}

@@ -2,8 +2,6 @@
 use Rattle.std.proofs.Common.{◌≡◌, IsTrue, ℕ, List, [], ◌∷◌, ◌++◌, Option, Some, refl, sym, ap, ◌∙◌, subst}
 use Rattle.std.specs.Prelude.{None as Nothing}
 use Rattle.wm_syntax.specs.declared.profile.Profile.{Profile}
-use Rattle.wm_syntax.specs.declared.instructions.LoadOp.TheVariants.{F32Load, F64Load}
-use Rattle.wm_syntax.specs.declared.instructions.StoreOp.TheVariants.{F32Store, F64Store}
 use Rattle.wm_syntax.specs.declared.instructions.Simple.{Simple}
 use Rattle.wm_syntax.specs.declared.instructions.Simple.TheVariants as s
 use Rattle.wm_syntax.specs.declared.instructions.Op.{Op}
@@ -18,10 +16,11 @@ use Rattle.wm_syntax.specs.declared.instructions.op_class.OpClass.{OpClass}
 use Rattle.wm_syntax.specs.declared.instructions.op_class.OpClass.TheVariants.{Plain, With, Float, None}
 use Rattle.wm_syntax.specs.Opcodes.{opcode, load, store}
 use Rattle.wm_syntax.specs.OpClasses.{class_of, first_byte}
-use Rattle.wm_syntax.specs.Profiles.{has, feature_of, HasBlockType, IsOpOf}
+use Rattle.wm_syntax.specs.Profiles.{has, HasBlockType, IsOpOf}
 use Rattle.wm_syntax.specs.exact.ByteTable.{class_feature}
 use Rattle.wm_syntax.specs.Spelling.{Form, Byte, ◌▸◌}
 use Rattle.wm_syntax.specs.Instructions.{SpellsOp, SpellsImmediates}
+use Rattle.wm_syntax.proofs.OpTable.{simple_feature}
 use Rattle.wm_decode.proofs.FirstBytes.{tail_same, not_nil}
 
 -- an op other than a label
@@ -36,17 +35,6 @@ HasImmediates o = (kind : Immediates) × (class_of o ≡ With kind)
 pub no_label : (o : Op) → HasImmediates o → NoLabel o
 no_label (op.Label l) h = let e : Plain (op.Label l) ≡ With h.0 = h.1 in cc
 no_label _ h = tt
-
--- an op is of the feature of its class
-simple_feature : (i : Simple) → class_feature (class_of (op.Simple i)) ≡ feature_of i
-simple_feature (s.Numeric x) = refl
-simple_feature (s.Load F32Load at) = refl
-simple_feature (s.Load F64Load at) = refl
-simple_feature (s.Load _ at) = refl
-simple_feature (s.Store F32Store at) = refl
-simple_feature (s.Store F64Store at) = refl
-simple_feature (s.Store _ at) = refl
-simple_feature _ = refl
 
 -- a block type of the profile, where the op has one
 abbrev pub HasOpType : Profile → Op → Type 0

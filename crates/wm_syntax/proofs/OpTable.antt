@@ -98,19 +98,20 @@ tested t (x ∷ xs) n zero c all e = rw add-zero (subst (λ (y : OpClass). t n y
 tested t (x ∷ xs) n (suc i) c all e =
     subst (λ (m : ℕ). t m c ≡ true) (let q : (n + 1) + i ≡ n + suc i = omega arith in q) (tested t xs (n + 1) i c (both (t n x) _ all).1 e)
 
--- an instruction is found at its byte
-same_place : (n byte : ℕ) (c d : OpClass) → slice_get classes byte ≡ Some c → slice_get classes n ≡ Some d → Some n ≡ Some byte → c ≡ d
-same_place n byte c d e at f = some_injective (sym e ∙ ap (λ (m : ℕ). slice_get classes m) (sym (some_injective f)) ∙ at)
+-- the class that stands at a byte in the table
+pub class_there : (o : Op) (c : ℕ) → first_byte o ≡ Some c → slice_get classes c ≡ Some (class_of o)
+class_there (op.Simple i) c f = subst (λ (n : ℕ). slice_get classes n ≡ Some (class_of (op.Simple i))) (some_injective f) (found_simple i)
+class_there (op.Block t) c f = subst (λ (n : ℕ). slice_get classes n ≡ Some (With (k.Block opening.Block))) (some_injective f) refl
+class_there (op.Loop t) c f = subst (λ (n : ℕ). slice_get classes n ≡ Some (With (k.Block opening.Loop))) (some_injective f) refl
+class_there (op.If t) c f = subst (λ (n : ℕ). slice_get classes n ≡ Some (With (k.Block opening.If))) (some_injective f) refl
+class_there op.Else c f = subst (λ (n : ℕ). slice_get classes n ≡ Some (Plain op.Else)) (some_injective f) refl
+class_there op.End c f = subst (λ (n : ℕ). slice_get classes n ≡ Some (Plain op.End)) (some_injective f) refl
+class_there (op.BrTable n) c f = subst (λ (n : ℕ). slice_get classes n ≡ Some (With (k.Index indexed.BrTable))) (some_injective f) refl
+class_there (op.Label l) c f = cc
 
-pub found_op : (byte : ℕ) (c : OpClass) → slice_get classes byte ≡ Some c → (o : Op) → first_byte o ≡ Some byte → c ≡ class_of o
-found_op byte c e (op.Simple i) f = same_place _ byte c _ e (found_simple i) f
-found_op byte c e (op.Block t) f = same_place 0x02 byte c _ e refl f
-found_op byte c e (op.Loop t) f = same_place 0x03 byte c _ e refl f
-found_op byte c e (op.If t) f = same_place 0x04 byte c _ e refl f
-found_op byte c e op.Else f = same_place 0x05 byte c _ e refl f
-found_op byte c e op.End f = same_place 0x0B byte c _ e refl f
-found_op byte c e (op.BrTable n) f = same_place 0x0E byte c _ e refl f
-found_op byte c e (op.Label l) f = cc
+-- so an instruction is found at its byte
+found_op : (byte : ℕ) (c : OpClass) → slice_get classes byte ≡ Some c → (o : Op) → first_byte o ≡ Some byte → c ≡ class_of o
+found_op byte c e o f = some_injective (sym e ∙ class_there o byte f)
 
 -- the bytes of floating-point instructions are those of the table
 is_floats : Feature → Bool
@@ -243,7 +244,7 @@ sample_begins byte c e i = go c i (subst (λ (m : ℕ). begins m c ≡ true) (le
     go None i t = absurd i
 
 -- The same under a profile: an op has a class of its feature.
-simple_feature : (i : Simple) → class_feature (class_of (op.Simple i)) ≡ feature_of i
+pub simple_feature : (i : Simple) → class_feature (class_of (op.Simple i)) ≡ feature_of i
 simple_feature (s.Numeric x) = refl
 simple_feature (s.Load F32Load at) = refl
 simple_feature (s.Load F64Load at) = refl
