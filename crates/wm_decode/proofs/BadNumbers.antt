@@ -25,7 +25,7 @@ use Rattle.wm_syntax.specs.declared.why.Why.{Why}
 use Rattle.wm_syntax.specs.declared.why.Why.TheVariants as why
 use Rattle.wm_decode.specs.declared.step.reading.Reading.{Reading}
 use Rattle.wm_decode.specs.declared.step.reading.Reading.TheVariants.{More, Done, Bad}
-use Rattle.wm_decode.specs.declared.step.ops.Opening.{Opening}
+use Rattle.wm_syntax.specs.declared.instructions.op_class.Opening.{Opening}
 use Rattle.wm_decode.specs.declared.step.ops.InOp.{InOp}
 use Rattle.wm_decode.specs.declared.step.ops.InOp.TheVariants as in_op
 use Rattle.wm_decode.specs.declared.step.values.InLimits.{InLimits}
@@ -47,7 +47,8 @@ use Rattle.wm_decode.specs.declared.step.expressions.InExpression.TheVariants as
 use Rattle.wm_decode.specs.declared.machine.Plain.TheVariants as plain
 use Rattle.wm_decode.specs.Meanings.{Integer, u32, s32, s64, spells, CanGoOn, WrongNumber}
 use Rattle.wm_decode.specs.exact.ValueSteps.{read_number, map_reading, after_min, limits_push, table_type_push, type_under, value_type_of, read_type, global_type_push, desc_push, target_push, run_push, value_push}
-use Rattle.wm_decode.specs.exact.OpSteps.{block_op, float_32_step, float_64_step, index_op, call_op, memory_op, const_32_op, const_64_op, on_answer, immediates, first_step, block_step, closing_step, op_push}
+use Rattle.wm_syntax.specs.exact.OpGroups.{block_op, index_op, memory_op}
+use Rattle.wm_decode.specs.exact.OpSteps.{float_32_step, float_64_step, call_op, const_32_op, const_64_op, on_answer, immediates, first_step, block_step, closing_step, op_push}
 use Rattle.wm_decode.specs.exact.ExpressionSteps.{start, ends as op_ends, after_op, after_label, after_reading, expression_failed, expression_step}
 use Rattle.wm_decode.proofs.OpRest.{at_offset}
 use Rattle.std.proofs.Common.{◌↔◌}
@@ -205,11 +206,8 @@ num_op (in_op.Offset a n r) = Some (u32, r)
 num_op _ = None
 
 immediates_new : (kind : Immediates) → IsNew (num_op (immediates kind))
-immediates_new k.Block = tt
-immediates_new k.Loop = tt
-immediates_new k.If = tt
-immediates_new k.MemorySize = tt
-immediates_new k.MemoryGrow = tt
+immediates_new (k.Block x) = tt
+immediates_new (k.Memory x) = tt
 immediates_new k.F32Const = tt
 immediates_new k.F64Const = tt
 immediates_new _ = refl

@@ -16,7 +16,7 @@ use Rattle.wm_syntax.specs.declared.modules.ImportDesc.{ImportDesc}
 use Rattle.wm_syntax.specs.declared.modules.ImportDesc.TheVariants as desc
 use Rattle.wm_syntax.specs.declared.modules.ExportKind.{ExportKind}
 use Rattle.wm_syntax.specs.declared.modules.ExportKind.TheVariants as kind
-use Rattle.wm_decode.specs.declared.step.ops.Opening.{Opening}
+use Rattle.wm_syntax.specs.declared.instructions.op_class.Opening.{Opening}
 use Rattle.wm_decode.specs.declared.step.ops.InOp.{InOp}
 use Rattle.wm_decode.specs.declared.step.ops.InOp.TheVariants as at
 use Rattle.wm_decode.specs.declared.step.expressions.InExpression.TheVariants as expression
@@ -26,7 +26,7 @@ use Rattle.wm_decode.specs.declared.step.values.InGlobalType.TheVariants as glob
 use Rattle.wm_decode.specs.declared.step.values.InImportDesc.TheVariants as import
 use Rattle.wm_decode.specs.declared.step.values.InExportDesc.TheVariants as target
 use Rattle.wm_decode.specs.declared.step.values.InRun.TheVariants as run
-use Rattle.wm_decode.specs.exact.OpSteps.{block_op}
+use Rattle.wm_syntax.specs.exact.OpGroups.{block_op}
 use Rattle.wm_decode.specs.Items.{Item, Marks}
 use Rattle.wm_decode.specs.MarkedForms.{MarkedForm, Byte, Then, Leaf, Sized, Filled, Entry, entry_marks, marks_ending, outside_mark}
 use Rattle.wm_decode.specs.Sections.{Those, SpellsDesc, kind_byte}

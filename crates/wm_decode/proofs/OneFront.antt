@@ -6,6 +6,8 @@ use Rattle.wm_syntax.specs.declared.instructions.Op.TheVariants as op
 use Rattle.wm_syntax.specs.declared.instructions.Simple.{Simple}
 use Rattle.wm_syntax.specs.declared.instructions.Simple.TheVariants as simple
 use Rattle.wm_syntax.specs.declared.modules.ExportKind.{ExportKind}
+use Rattle.wm_syntax.specs.declared.instructions.op_class.Opening.TheVariants as opening
+use Rattle.wm_syntax.specs.declared.instructions.op_class.Indexed.TheVariants as indexed
 use Rattle.wm_syntax.specs.declared.instructions.op_class.Immediates.TheVariants as kind
 use Rattle.wm_syntax.specs.declared.instructions.op_class.OpClass.{OpClass}
 use Rattle.wm_syntax.specs.declared.instructions.op_class.OpClass.TheVariants.{Plain, With}
@@ -20,7 +22,7 @@ use Rattle.wm_syntax.specs.Types.{SpellsU32, SpellsBlockType, SpellsGlobalType, 
 use Rattle.wm_syntax.specs.Profiles.{HasDesc, HasType}
 use Rattle.wm_syntax.specs.Instructions.{SpellsOp}
 use Rattle.wm_syntax.proofs.Unambiguous.{same_u32, same_simple}
-use Rattle.wm_syntax.proofs.OneInstruction.{class_there}
+use Rattle.wm_syntax.proofs.OpTable.{class_there}
 use Rattle.wm_decode.specs.Sections.{SpellsDesc, kind_byte, header}
 use Rattle.wm_decode.specs.Items.{Item, entry, closing, Mark, Marks, new_type, param, result_count, one_result, import_module, import_name, import_desc, function, table, memory, global, const_op, export_name, export, start, element, element_function, body, locals, body_op, segment, data_byte}
 use Rattle.wm_decode.specs.MarkedForms.{MarkedForm, Empty, Byte, Literal, Then, Times, Leaf, Number, Vector, Index, Name, Sized, Filled, Entry, nothing_at, outside_mark, marks_ending, name_byte_marks, name_marks, in_zone, entry_marks}
@@ -229,10 +231,10 @@ labels_first (suc n) o ops h = absurd h
 
 -- which of the ops that are no simple instruction a first byte says
 abbrev rank : OpClass → ℕ
-rank (With kind.Block) = 1
-rank (With kind.Loop) = 2
-rank (With kind.If) = 3
-rank (With kind.BrTable) = 4
+rank (With (kind.Block opening.Block)) = 1
+rank (With (kind.Block opening.Loop)) = 2
+rank (With (kind.Block opening.If)) = 3
+rank (With (kind.Index indexed.BrTable)) = 4
 rank (Plain op.Else) = 5
 rank (Plain op.End) = 6
 rank _ = 0

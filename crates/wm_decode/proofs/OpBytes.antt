@@ -2,22 +2,25 @@
 use Rattle.std.proofs.Common.{◌≡◌, IsTrue, ℕ, List, [], ◌∷◌, ◌++◌, Option, Some, refl, sym, ap, ◌∙◌, subst}
 use Rattle.std.specs.Prelude.{None as Nothing}
 use Rattle.wm_syntax.specs.declared.profile.Profile.{Profile}
-use Rattle.wm_syntax.specs.declared.instructions.LoadOp.TheVariants.{F32Load, F64Load}
-use Rattle.wm_syntax.specs.declared.instructions.StoreOp.TheVariants.{F32Store, F64Store}
 use Rattle.wm_syntax.specs.declared.instructions.Simple.{Simple}
 use Rattle.wm_syntax.specs.declared.instructions.Simple.TheVariants as s
 use Rattle.wm_syntax.specs.declared.instructions.Op.{Op}
 use Rattle.wm_syntax.specs.declared.instructions.Op.TheVariants as op
+use Rattle.wm_syntax.specs.declared.instructions.op_class.Opening.TheVariants as opening
+use Rattle.wm_syntax.specs.declared.instructions.op_class.Indexed.TheVariants as indexed
+use Rattle.wm_syntax.specs.declared.instructions.op_class.Sizing.TheVariants as sizing
+use Rattle.wm_syntax.specs.declared.instructions.op_class.LoadOrStore.TheVariants as accesses
 use Rattle.wm_syntax.specs.declared.instructions.op_class.Immediates.{Immediates}
 use Rattle.wm_syntax.specs.declared.instructions.op_class.Immediates.TheVariants as k
 use Rattle.wm_syntax.specs.declared.instructions.op_class.OpClass.{OpClass}
 use Rattle.wm_syntax.specs.declared.instructions.op_class.OpClass.TheVariants.{Plain, With, Float, None}
 use Rattle.wm_syntax.specs.Opcodes.{opcode, load, store}
 use Rattle.wm_syntax.specs.OpClasses.{class_of, first_byte}
-use Rattle.wm_syntax.specs.Profiles.{has, feature_of, HasBlockType, IsOpOf}
+use Rattle.wm_syntax.specs.Profiles.{has, HasBlockType, IsOpOf}
 use Rattle.wm_syntax.specs.exact.ByteTable.{class_feature}
 use Rattle.wm_syntax.specs.Spelling.{Form, Byte, ◌▸◌}
 use Rattle.wm_syntax.specs.Instructions.{SpellsOp, SpellsImmediates}
+use Rattle.wm_syntax.proofs.OpTable.{simple_feature}
 use Rattle.wm_decode.proofs.FirstBytes.{tail_same, not_nil}
 
 -- an op other than a label
@@ -32,17 +35,6 @@ HasImmediates o = (kind : Immediates) × (class_of o ≡ With kind)
 pub no_label : (o : Op) → HasImmediates o → NoLabel o
 no_label (op.Label l) h = let e : Plain (op.Label l) ≡ With h.0 = h.1 in cc
 no_label _ h = tt
-
--- an op is of the feature of its class
-simple_feature : (i : Simple) → class_feature (class_of (op.Simple i)) ≡ feature_of i
-simple_feature (s.Numeric x) = refl
-simple_feature (s.Load F32Load at) = refl
-simple_feature (s.Load F64Load at) = refl
-simple_feature (s.Load _ at) = refl
-simple_feature (s.Store F32Store at) = refl
-simple_feature (s.Store F64Store at) = refl
-simple_feature (s.Store _ at) = refl
-simple_feature _ = refl
 
 -- a block type of the profile, where the op has one
 abbrev pub HasOpType : Profile → Op → Type 0
@@ -61,27 +53,27 @@ of_class p _ h t = tt
 
 -- the byte of a class
 abbrev pub kind_byte : Immediates → ℕ
-kind_byte k.Block = 0x02
-kind_byte k.Loop = 0x03
-kind_byte k.If = 0x04
-kind_byte k.Br = 0x0C
-kind_byte k.BrIf = 0x0D
-kind_byte k.BrTable = 0x0E
-kind_byte k.Call = 0x10
+kind_byte (k.Block opening.Block) = 0x02
+kind_byte (k.Block opening.Loop) = 0x03
+kind_byte (k.Block opening.If) = 0x04
+kind_byte (k.Index indexed.Br) = 0x0C
+kind_byte (k.Index indexed.BrIf) = 0x0D
+kind_byte (k.Index indexed.BrTable) = 0x0E
+kind_byte (k.Index indexed.Call) = 0x10
 kind_byte k.CallIndirect = 0x11
-kind_byte k.LocalGet = 0x20
-kind_byte k.LocalSet = 0x21
-kind_byte k.LocalTee = 0x22
-kind_byte k.GlobalGet = 0x23
-kind_byte k.GlobalSet = 0x24
-kind_byte k.MemorySize = 0x3F
-kind_byte k.MemoryGrow = 0x40
+kind_byte (k.Index indexed.LocalGet) = 0x20
+kind_byte (k.Index indexed.LocalSet) = 0x21
+kind_byte (k.Index indexed.LocalTee) = 0x22
+kind_byte (k.Index indexed.GlobalGet) = 0x23
+kind_byte (k.Index indexed.GlobalSet) = 0x24
+kind_byte (k.Memory sizing.Size) = 0x3F
+kind_byte (k.Memory sizing.Grow) = 0x40
 kind_byte k.I32Const = 0x41
 kind_byte k.I64Const = 0x42
 kind_byte k.F32Const = 0x43
 kind_byte k.F64Const = 0x44
-kind_byte (k.Load o) = (load o).byte
-kind_byte (k.Store o) = (store o).byte
+kind_byte (k.Access (accesses.Load o)) = (load o).byte
+kind_byte (k.Access (accesses.Store o)) = (store o).byte
 
 class_byte : OpClass → Option ℕ
 class_byte (Plain o) = first_byte o

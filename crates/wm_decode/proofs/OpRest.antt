@@ -30,21 +30,22 @@ use Rattle.wm_syntax.specs.Profiles.{has, HasBlockType, HasType, IsOpOf}
 use Rattle.wm_syntax.specs.Instructions.{SpellsFloat, SpellsOp, SpellsImmediates}
 use Rattle.wm_syntax.proofs.Readers.{Goes as NumberGoes, unsigned_law, signed_law, signed_fresh}
 use Rattle.wm_syntax.proofs.SpelledRanges.{begins_with}
-use Rattle.wm_syntax.proofs.OpTable.{has_class}
+use Rattle.wm_syntax.proofs.OpTable.{has_class, block_class, index_class, memory_class, access_class}
 use Rattle.wm_syntax.proofs.FirstBytes.{found_under, begins_under}
 use Rattle.wm_decode.specs.declared.step.reading.Reading.{Reading}
 use Rattle.wm_decode.specs.declared.step.reading.Reading.TheVariants.{More, Done, Bad}
-use Rattle.wm_decode.specs.declared.step.ops.Opening.{Opening}
-use Rattle.wm_decode.specs.declared.step.ops.Opening.TheVariants as opening
-use Rattle.wm_decode.specs.declared.step.ops.Indexed.{Indexed}
-use Rattle.wm_decode.specs.declared.step.ops.Indexed.TheVariants as indexed
-use Rattle.wm_decode.specs.declared.step.ops.Sizing.{Sizing}
-use Rattle.wm_decode.specs.declared.step.ops.Sizing.TheVariants as sizing
-use Rattle.wm_decode.specs.declared.step.ops.LoadOrStore.{LoadOrStore}
-use Rattle.wm_decode.specs.declared.step.ops.LoadOrStore.TheVariants as accesses
+use Rattle.wm_syntax.specs.declared.instructions.op_class.Opening.{Opening}
+use Rattle.wm_syntax.specs.declared.instructions.op_class.Opening.TheVariants as opening
+use Rattle.wm_syntax.specs.declared.instructions.op_class.Indexed.{Indexed}
+use Rattle.wm_syntax.specs.declared.instructions.op_class.Indexed.TheVariants as indexed
+use Rattle.wm_syntax.specs.declared.instructions.op_class.Sizing.{Sizing}
+use Rattle.wm_syntax.specs.declared.instructions.op_class.Sizing.TheVariants as sizing
+use Rattle.wm_syntax.specs.declared.instructions.op_class.LoadOrStore.{LoadOrStore}
+use Rattle.wm_syntax.specs.declared.instructions.op_class.LoadOrStore.TheVariants as accesses
 use Rattle.wm_decode.specs.declared.step.ops.InOp.{InOp}
 use Rattle.wm_decode.specs.declared.step.ops.InOp.TheVariants as at
-use Rattle.wm_decode.specs.exact.OpSteps.{block_op, index_op, call_op, memory_op, const_32_op, const_64_op, float_32_op, float_64_op, pushed, float_32_step, float_64_step, access_op, on_answer, immediates, first_step, block_step, closing_step, op_push}
+use Rattle.wm_syntax.specs.exact.OpGroups.{access_op, block_op, index_op, memory_op}
+use Rattle.wm_decode.specs.exact.OpSteps.{call_op, const_32_op, const_64_op, float_32_op, float_64_op, pushed, float_32_step, float_64_step, on_answer, immediates, first_step, block_step, closing_step, op_push}
 use Rattle.wm_decode.specs.exact.ValueSteps.{read_type, value_type_of}
 use Rattle.wm_decode.specs.exact.Readings.{Goes}
 use Rattle.wm_decode.specs.Sections.{Those}
@@ -260,32 +261,41 @@ module _ (p : Profile) where
         let i = m.5 in
         subst (λ y. IsWhole kind y b) (sym i.1) (class n i.0, type n i.0, whole n i.0 m.1 m.2 m.3 m.4 i.2)
 
+  block_whole : (x : Opening) (t : Option ValType) (b : List ℕ) → Those (HasBlockType p) SpellsBlockType t b → IsWhole (k.Block x) (block_op x t) b
+  block_whole opening.Block t b u = (refl, u.0, from_byte 0x02 (SpellsBlockType t) b u.1)
+  block_whole opening.Loop t b u = (refl, u.0, from_byte 0x03 (SpellsBlockType t) b u.1)
+  block_whole opening.If t b u = (refl, u.0, from_byte 0x04 (SpellsBlockType t) b u.1)
+
+  index_whole : (x : Indexed) (n : ℕ) (b : List ℕ) → SpellsU32 n b → IsWhole (k.Index x) (index_op x n) b
+  index_whole indexed.Br n b u = (refl, tt, from_byte 0x0C (SpellsU32 n) b u)
+  index_whole indexed.BrIf n b u = (refl, tt, from_byte 0x0D (SpellsU32 n) b u)
+  index_whole indexed.BrTable n b u = (refl, tt, from_byte 0x0E (SpellsU32 n) b u)
+  index_whole indexed.Call n b u = (refl, tt, from_byte 0x10 (SpellsU32 n) b u)
+  index_whole indexed.LocalGet n b u = (refl, tt, from_byte 0x20 (SpellsU32 n) b u)
+  index_whole indexed.LocalSet n b u = (refl, tt, from_byte 0x21 (SpellsU32 n) b u)
+  index_whole indexed.LocalTee n b u = (refl, tt, from_byte 0x22 (SpellsU32 n) b u)
+  index_whole indexed.GlobalGet n b u = (refl, tt, from_byte 0x23 (SpellsU32 n) b u)
+  index_whole indexed.GlobalSet n b u = (refl, tt, from_byte 0x24 (SpellsU32 n) b u)
+
+  memory_whole : (x : Sizing) (b : List ℕ) → Byte 0x00 b → IsWhole (k.Memory x) (memory_op x) b
+  memory_whole sizing.Size b u = (refl, tt, from_byte 0x3F (Byte 0x00) b u)
+  memory_whole sizing.Grow b u = (refl, tt, from_byte 0x40 (Byte 0x00) b u)
+
   whole : (kind : Immediates) (o : Op) (b : List ℕ) → op_rest p (immediates kind) o b → IsWhole kind o b
-  whole k.Block o b h = made k.Block o b (block_op opening.Block) (Those (HasBlockType p) SpellsBlockType) (λ t u. (refl, u.0, from_byte 0x02 (SpellsBlockType t) b u.1)) h
-  whole k.Loop o b h = made k.Loop o b (block_op opening.Loop) (Those (HasBlockType p) SpellsBlockType) (λ t u. (refl, u.0, from_byte 0x03 (SpellsBlockType t) b u.1)) h
-  whole k.If o b h = made k.If o b (block_op opening.If) (Those (HasBlockType p) SpellsBlockType) (λ t u. (refl, u.0, from_byte 0x04 (SpellsBlockType t) b u.1)) h
-  whole k.Br o b h = made k.Br o b (index_op indexed.Br) (Left fresh) (λ n u. (refl, tt, from_byte 0x0C (SpellsU32 n) b ((fresh_number n b).1 u))) h
-  whole k.BrIf o b h = made k.BrIf o b (index_op indexed.BrIf) (Left fresh) (λ n u. (refl, tt, from_byte 0x0D (SpellsU32 n) b ((fresh_number n b).1 u))) h
-  whole k.BrTable o b h = made k.BrTable o b (index_op indexed.BrTable) (Left fresh) (λ n u. (refl, tt, from_byte 0x0E (SpellsU32 n) b ((fresh_number n b).1 u))) h
-  whole k.Call o b h = made k.Call o b (index_op indexed.Call) (Left fresh) (λ n u. (refl, tt, from_byte 0x10 (SpellsU32 n) b ((fresh_number n b).1 u))) h
+  whole (k.Block x) o b h = made (k.Block x) o b (block_op x) (Those (HasBlockType p) SpellsBlockType) (λ t u. block_whole x t b u) h
+  whole (k.Index x) o b h = made (k.Index x) o b (index_op x) (Left fresh) (λ n u. index_whole x n b ((fresh_number n b).1 u)) h
   whole k.CallIndirect o b h =
       let n : ℕ = h.0 in
       let c = h.5 in
       subst (λ y. IsWhole k.CallIndirect y b) (sym c.0) (refl, tt, from_byte 0x11 (SpellsImmediates (s.CallIndirect n)) b (h.1, h.2, h.3, (fresh_number n h.1).1 h.4, c.1))
-  whole k.LocalGet o b h = made k.LocalGet o b (index_op indexed.LocalGet) (Left fresh) (λ n u. (refl, tt, from_byte 0x20 (SpellsU32 n) b ((fresh_number n b).1 u))) h
-  whole k.LocalSet o b h = made k.LocalSet o b (index_op indexed.LocalSet) (Left fresh) (λ n u. (refl, tt, from_byte 0x21 (SpellsU32 n) b ((fresh_number n b).1 u))) h
-  whole k.LocalTee o b h = made k.LocalTee o b (index_op indexed.LocalTee) (Left fresh) (λ n u. (refl, tt, from_byte 0x22 (SpellsU32 n) b ((fresh_number n b).1 u))) h
-  whole k.GlobalGet o b h = made k.GlobalGet o b (index_op indexed.GlobalGet) (Left fresh) (λ n u. (refl, tt, from_byte 0x23 (SpellsU32 n) b ((fresh_number n b).1 u))) h
-  whole k.GlobalSet o b h = made k.GlobalSet o b (index_op indexed.GlobalSet) (Left fresh) (λ n u. (refl, tt, from_byte 0x24 (SpellsU32 n) b ((fresh_number n b).1 u))) h
-  whole k.MemorySize o b h = subst (λ y. IsWhole k.MemorySize y b) (sym h.0) (refl, tt, from_byte 0x3F (Byte 0x00) b h.1)
-  whole k.MemoryGrow o b h = subst (λ y. IsWhole k.MemoryGrow y b) (sym h.0) (refl, tt, from_byte 0x40 (Byte 0x00) b h.1)
+  whole (k.Memory x) o b h = subst (λ y. IsWhole (k.Memory x) y b) (sym h.0) (memory_whole x b h.1)
   whole k.I32Const o b h = made k.I32Const o b const_32_op (SignedRest 32 fresh) (λ z u. (refl, tt, from_byte 0x41 (Signed 32 z) b (left_signed 32 above z b u))) h
   whole k.I64Const o b h = made k.I64Const o b const_64_op (SignedRest 64 fresh) (λ z u. (refl, tt, from_byte 0x42 (Signed 64 z) b (left_signed 64 above_64 z b u))) h
   whole k.F32Const o b h = made k.F32Const o b float_32_op (FloatRest (2 ^ 24) 3 0) (λ n u. (refl, tt, from_byte 0x43 (SpellsFloat 4 n) b (left_float_32 n b u))) h
   whole k.F64Const o b h = made k.F64Const o b float_64_op (FloatRest (2 ^ 56) 7 0) (λ n u. (refl, tt, from_byte 0x44 (SpellsFloat 8 n) b (left_float_64 n b u))) h
-  whole (k.Load i) o b h = access_made (k.Load i) o b (accesses.Load i) (λ n m. refl) (λ n m. tt)
+  whole (k.Access (accesses.Load i)) o b h = access_made (k.Access (accesses.Load i)) o b (accesses.Load i) (λ n m. refl) (λ n m. tt)
       (λ n m front back e u v. from_byte (load i).byte (SpellsImmediates (s.Load i (record { align = n; offset = m }))) b (front, back, e, (fresh_number n front).1 u, (fresh_number m back).1 v)) h
-  whole (k.Store i) o b h = access_made (k.Store i) o b (accesses.Store i) (λ n m. refl) (λ n m. tt)
+  whole (k.Access (accesses.Store i)) o b h = access_made (k.Access (accesses.Store i)) o b (accesses.Store i) (λ n m. refl) (λ n m. tt)
       (λ n m front back e u v. from_byte (store i).byte (SpellsImmediates (s.Store i (record { align = n; offset = m }))) b (front, back, e, (fresh_number n front).1 u, (fresh_number m back).1 v)) h
 
   first_from : (c : ℕ) (class : OpClass) → class_under p c ≡ class → (o : Op) (b : List ℕ) → Goes (op_rest p) (first_step class) o b → op_rest p at.First o (c ∷ b)
@@ -358,28 +368,16 @@ module _ (p : Profile) where
 
   -- what comes of an op past its first byte has immediates
   block_has : (i : Opening) (t : Option ValType) → HasImmediates (block_op i t)
-  block_has opening.Block t = (k.Block, refl)
-  block_has opening.Loop t = (k.Loop, refl)
-  block_has opening.If t = (k.If, refl)
+  block_has i t = (k.Block i, block_class i t)
 
   index_has : (i : Indexed) (n : ℕ) → HasImmediates (index_op i n)
-  index_has indexed.Br n = (k.Br, refl)
-  index_has indexed.BrIf n = (k.BrIf, refl)
-  index_has indexed.BrTable n = (k.BrTable, refl)
-  index_has indexed.Call n = (k.Call, refl)
-  index_has indexed.LocalGet n = (k.LocalGet, refl)
-  index_has indexed.LocalSet n = (k.LocalSet, refl)
-  index_has indexed.LocalTee n = (k.LocalTee, refl)
-  index_has indexed.GlobalGet n = (k.GlobalGet, refl)
-  index_has indexed.GlobalSet n = (k.GlobalSet, refl)
+  index_has i n = (k.Index i, index_class i n)
 
   memory_has : (m : Sizing) → HasImmediates (memory_op m)
-  memory_has sizing.Size = (k.MemorySize, refl)
-  memory_has sizing.Grow = (k.MemoryGrow, refl)
+  memory_has m = (k.Memory m, memory_class m)
 
   access_has : (a : LoadOrStore) (m : MemArg) → HasImmediates (access_op a m)
-  access_has (accesses.Load i) m = (k.Load i, refl)
-  access_has (accesses.Store i) m = (k.Store i, refl)
+  access_has a m = (k.Access a, access_class a m)
 
   named : (o f : Op) → o ≡ f → HasImmediates f → NoLabel o
   named o f e h = subst NoLabel (sym e) (no_label f h)

@@ -23,10 +23,11 @@ use Rattle.wm_syntax.proofs.Room.{room_more}
 use Rattle.wm_syntax.proofs.FirstBytes.{float_under}
 use Rattle.wm_decode.specs.declared.step.reading.Reading.{Reading}
 use Rattle.wm_decode.specs.declared.step.reading.Reading.TheVariants.{More, Done, Bad}
-use Rattle.wm_decode.specs.declared.step.ops.Opening.{Opening}
+use Rattle.wm_syntax.specs.declared.instructions.op_class.Opening.{Opening}
 use Rattle.wm_decode.specs.declared.step.ops.InOp.{InOp}
 use Rattle.wm_decode.specs.declared.step.ops.InOp.TheVariants as at
-use Rattle.wm_decode.specs.exact.OpSteps.{block_op, index_op, call_op, memory_op, const_32_op, const_64_op, float_32_op, float_64_op, pushed_32, pushed_64, on_answer, immediates, first_step, block_step, closing_step, op_push}
+use Rattle.wm_syntax.specs.exact.OpGroups.{block_op, index_op, memory_op}
+use Rattle.wm_decode.specs.exact.OpSteps.{call_op, const_32_op, const_64_op, float_32_op, float_64_op, pushed_32, pushed_64, on_answer, immediates, first_step, block_step, closing_step, op_push}
 use Rattle.wm_decode.specs.exact.ValueSteps.{read_type, type_under, value_type_of}
 use Rattle.wm_decode.proofs.Numbers.{Left}
 use Rattle.wm_decode.proofs.FloatBytes.{float_comes}
@@ -91,11 +92,8 @@ pub fresh_32 : HasRoom 32 fresh
 fresh_32 = fresh_room 32 (omega arith)
 
 immediates_sound : (kind : Immediates) → SoundOp (immediates kind)
-immediates_sound k.Block = tt
-immediates_sound k.Loop = tt
-immediates_sound k.If = tt
-immediates_sound k.MemorySize = tt
-immediates_sound k.MemoryGrow = tt
+immediates_sound (k.Block x) = tt
+immediates_sound (k.Memory x) = tt
 immediates_sound k.I64Const = fresh_room 64 (omega arith)
 immediates_sound k.F32Const = tt
 immediates_sound k.F64Const = tt

@@ -26,7 +26,7 @@ use Rattle.wm_syntax.proofs.OpTable.{float_not_none}
 use Rattle.wm_syntax.proofs.FirstBytes.{float_under}
 use Rattle.wm_decode.specs.declared.step.reading.Reading.{Reading}
 use Rattle.wm_decode.specs.declared.step.reading.Reading.TheVariants.{More, Done, Bad}
-use Rattle.wm_decode.specs.declared.step.ops.Opening.{Opening}
+use Rattle.wm_syntax.specs.declared.instructions.op_class.Opening.{Opening}
 use Rattle.wm_decode.specs.declared.step.ops.InOp.{InOp}
 use Rattle.wm_decode.specs.declared.step.ops.InOp.TheVariants as at
 use Rattle.wm_decode.specs.declared.step.values.InLimits.{InLimits}
@@ -46,7 +46,8 @@ use Rattle.wm_decode.specs.declared.step.values.InValue.TheVariants as value
 use Rattle.wm_decode.specs.declared.machine.Plain.TheVariants as plain
 use Rattle.wm_decode.specs.exact.Readings.{Goes}
 use Rattle.wm_decode.specs.exact.ValueSteps.{read_number, map_reading, after_min, limits_push, table_type_push, type_under, value_type_of, read_type, global_type_push, desc_push, target_push, run_push, value_push}
-use Rattle.wm_decode.specs.exact.OpSteps.{block_op, index_op, call_op, memory_op, const_32_op, const_64_op, on_answer, first_step, block_step, closing_step, op_push}
+use Rattle.wm_syntax.specs.exact.OpGroups.{block_op, index_op, memory_op}
+use Rattle.wm_decode.specs.exact.OpSteps.{call_op, const_32_op, const_64_op, on_answer, first_step, block_step, closing_step, op_push}
 use Rattle.wm_decode.specs.Meanings.{Wanted, spelled, an_instruction, a_value_type, a_block_type, an_element_type, a_flag, a_kind, a_zero, IsFloatType, IsNoInstruction, IsFloat, IsOtherByte}
 use Rattle.wm_decode.proofs.FirstBytes.{head_same}
 use Rattle.wm_decode.proofs.Leaves.{IsReader}

@@ -13,11 +13,12 @@ use Rattle.std.specs.List.{AllByRecursion}
 use Rattle.wm_syntax.specs.Profiles.{HasInstructions, IsOpOf}
 use Rattle.wm_syntax.proofs.ProfileLaws.{all_append, by_ops, labels_of}
 use Rattle.wm_read.specs.Tokens.{Token}
-use Rattle.wm_read.specs.declared.code.blocks.Opening.{Opening}
-use Rattle.wm_read.specs.declared.code.blocks.Opening.TheVariants.{Block, Loop, If}
+use Rattle.wm_syntax.specs.exact.OpGroups.{block_op}
+use Rattle.wm_syntax.specs.declared.instructions.op_class.Opening.{Opening}
+use Rattle.wm_syntax.specs.declared.instructions.op_class.Opening.TheVariants.{Block, Loop, If}
 use Rattle.wm_read.specs.Identifiers.{Id}
 use Rattle.wm_read.specs.Written.{Scope, WritesInstruction, WritesInstructions, WritesElse, Opens, Closes}
-use Rattle.wm_read.specs.inner.Pieces.{Open, Opened, labels, Piece, plain, jump, opens, middle, closes, after, piece_ops, pieces_ops, opening_word, opening_op, is_if, IsPieceOf, WritesPiece, WritesPieces, WritesOps}
+use Rattle.wm_read.specs.inner.Pieces.{Open, Opened, labels, Piece, plain, jump, opens, middle, closes, after, piece_ops, pieces_ops, opening_word, is_if, IsPieceOf, WritesPiece, WritesPieces, WritesOps}
 
 abbrev opened : Id → Bool → Open
 opened id b = record { id = id; may_else = b }
@@ -194,7 +195,7 @@ text_grammar sc = record {
   choice_is = λ bs id t s r x u y w v a b c d e. (id, (x, u ++ ((y ++ w) ++ v), refl, a, (u, (y ++ w) ++ v, refl, b, (y ++ w, v, refl, written_else sc bs id r y w c d, e))));
 }
 
-flat_block : (o : Opening) (t : Option ValType) (s : Instructions) (x u v : List Op) → x ≡ opening_op o t ∷ [] → HasOps s u → v ≡ op.End ∷ [] → HasOp (one_block o t s) (x ++ (u ++ v))
+flat_block : (o : Opening) (t : Option ValType) (s : Instructions) (x u v : List Op) → x ≡ block_op o t ∷ [] → HasOps s u → v ≡ op.End ∷ [] → HasOp (one_block o t s) (x ++ (u ++ v))
 flat_block Block t s x u v a b c = (x, u ++ v, refl, a, (u, v, refl, b, c))
 flat_block Loop t s x u v a b c = (x, u ++ v, refl, a, (u, v, refl, b, c))
 flat_block If t s x u v a b c = (x, u ++ v, refl, a, (u, v, refl, b, ([], v, refl, inr refl, c)))
@@ -207,7 +208,7 @@ pub op_grammar : Grammar Op
 op_grammar = record {
   list = λ bs s. HasOps s;
   one = λ bs i. HasOp i;
-  begin = λ o id t x. x ≡ opening_op o t ∷ [];
+  begin = λ o id t x. x ≡ block_op o t ∷ [];
   divide = λ id x. x ≡ op.Else ∷ [];
   finish = λ id x. x ≡ op.End ∷ [];
   piece = λ bs q x. x ≡ piece_ops q;

@@ -1,23 +1,25 @@
 -- A piece of a body: what is read is written so, and what is written so is read.
-use Rattle.std.proofs.Common.{◌≡◌, ℕ, ◌<◌, ◌≤◌, true, false, cond, List, [], ◌∷◌, ◌++◌, ◌⊎◌, length, Option, Some, None, refl, sym, ap, subst, ◌∙◌, inl, inr, arith, append_assoc}
+use Rattle.std.proofs.Common.{◌≡◌, IsTrue, ℕ, ◌<◌, ◌≤◌, true, false, cond, List, [], ◌∷◌, ◌++◌, ◌⊎◌, length, Option, Some, None, refl, sym, ap, subst, ◌∙◌, inl, inr, arith, append_assoc}
 use Rattle.std.specs.Prelude.{codes, ◌==◌, ◌^◌, nat_lt, not}
 use Rattle.std.proofs.lemmas.Bool.{cond-true, ltb-true, lt-ltb, and_left, ne_eqb}
 use Rattle.wm_syntax.specs.Spelling.{Form, Each, ◌▸◌}
 use Rattle.wm_syntax.specs.declared.types.ValType.{ValType}
-use Rattle.wm_syntax.specs.declared.instructions.MemArg.{MemArg}
 use Rattle.wm_syntax.specs.declared.instructions.IntType.TheVariants.{I32, I64}
 use Rattle.wm_syntax.specs.declared.instructions.FloatType.TheVariants as float
 use Rattle.wm_syntax.specs.declared.instructions.Conversion.TheVariants.{I32TruncF32S}
 use Rattle.wm_syntax.specs.declared.instructions.LoadOp.{LoadOp}
-use Rattle.wm_syntax.specs.declared.instructions.LoadOp.TheVariants.{I32Load, F32Load, F64Load}
+use Rattle.wm_syntax.specs.declared.instructions.LoadOp.TheVariants.{I32Load}
 use Rattle.wm_syntax.specs.declared.instructions.StoreOp.{StoreOp}
-use Rattle.wm_syntax.specs.declared.instructions.StoreOp.TheVariants.{I32Store, F32Store, F64Store}
+use Rattle.wm_syntax.specs.declared.instructions.StoreOp.TheVariants.{I32Store}
 use Rattle.wm_syntax.specs.declared.instructions.Numeric.TheVariants.{Test, Compare, Unary, Binary, FloatCompare, FloatUnary, FloatBinary, Convert, SignExtend}
 use Rattle.wm_syntax.specs.declared.instructions.SignExtension.TheVariants.{I32From8}
 use Rattle.wm_syntax.specs.declared.instructions.Op.{Op}
 use Rattle.wm_syntax.specs.declared.instructions.Op.TheVariants as op
 use Rattle.wm_syntax.specs.declared.instructions.Simple.{Simple}
 use Rattle.wm_syntax.specs.declared.instructions.Simple.TheVariants as s
+use Rattle.wm_syntax.specs.declared.instructions.op_class.Indexed.TheVariants as indexed
+use Rattle.wm_syntax.specs.declared.instructions.op_class.Sizing.TheVariants as sizing
+use Rattle.wm_syntax.specs.declared.instructions.op_class.LoadOrStore.TheVariants as accesses
 use Rattle.wm_syntax.specs.declared.instructions.op_class.Immediates.{Immediates}
 use Rattle.wm_syntax.specs.declared.instructions.op_class.Immediates.TheVariants as k
 use Rattle.wm_syntax.specs.declared.instructions.op_class.OpClass.{OpClass}
@@ -25,15 +27,17 @@ use Rattle.wm_syntax.specs.declared.instructions.op_class.OpClass.TheVariants as
 use Rattle.wm_syntax.specs.declared.profile.Profile.{Profile}
 use Rattle.wm_syntax.specs.Opcodes.{opcode, load, store}
 use Rattle.wm_syntax.specs.OpClasses.{class_of, IsClassOfOp}
-use Rattle.wm_syntax.specs.Profiles.{HasBlockType, HasSimple, IsOpOf}
+use Rattle.wm_syntax.specs.Profiles.{has, HasBlockType, HasSimple, IsOpOf}
 use Rattle.wm_read.specs.Tokens.{Token, open_paren, close_paren, string, atom, is_lower}
 use Rattle.wm_read.proofs.Basics.{chosen, same_some}
-use Rattle.wm_read.specs.declared.code.blocks.Opening.{Opening}
-use Rattle.wm_read.specs.declared.code.blocks.Opening.TheVariants.{Block, Loop, If}
+use Rattle.wm_syntax.specs.declared.instructions.op_class.Opening.{Opening}
+use Rattle.wm_syntax.specs.declared.instructions.op_class.Opening.TheVariants.{Block, Loop, If}
 use Rattle.wm_read.specs.Identifiers.{Id, Ids, AreDistinct, WritesId, Resolves, ResolvesLabel}
 use Rattle.wm_syntax.specs.OpNames.{op_name}
-use Rattle.wm_syntax.specs.exact.NameTable.{class_named, immediates_name}
-use Rattle.wm_syntax.proofs.NamedOps.{found_named, only_named}
+use Rattle.wm_syntax.specs.exact.ByteTable.{class_feature}
+use Rattle.wm_syntax.specs.exact.NameTable.{class_name, class_named, immediates_name}
+use Rattle.wm_syntax.proofs.NamedOps.{found_named, one_name, only_named}
+use Rattle.wm_syntax.proofs.OpTable.{has_class, simple_feature}
 use Rattle.wm_read.specs.Written.{Names, Scope, UnnamedTypeUse, WritesOperand, WritesBlockType, WritesInteger, WritesFloat, WritesAccess}
 use Rattle.wm_floats.specs.exact.Atoms.{float_of}
 use Rattle.wm_read.proofs.Floats.{float_sound, float_complete}
@@ -52,15 +56,10 @@ piece_word (opens o id t) = opening_word o
 piece_word middle = codes "else"
 piece_word closes = codes "end"
 
-abbrev pub opening_class : Opening → OpClass
-opening_class Block = class.With k.Block
-opening_class Loop = class.With k.Loop
-opening_class If = class.With k.If
-
 abbrev pub piece_class : Piece → OpClass
 piece_class (plain i) = class_of (op.Simple i)
-piece_class (jump ls l) = class.With k.BrTable
-piece_class (opens o id t) = opening_class o
+piece_class (jump ls l) = class.With (k.Index indexed.BrTable)
+piece_class (opens o id t) = class.With (k.Block o)
 piece_class middle = class.Plain op.Else
 piece_class closes = class.Plain op.End
 
@@ -179,43 +178,6 @@ pub piece_follows : (sc : Scope) (bs : Opened) (q : Piece) (front rest : List To
 piece_follows sc bs q front rest h = let g = to_rest sc bs q front h in subst (λ (z : List Token). Follow (z ++ rest)) (sym g.1) (piece_is_word q)
 
 -- ---- a class and its word
-
--- an instruction of every profile, by its form alone
-IsFree : Simple → Type 0
-IsFree (s.Numeric n) = ⊥
-IsFree (s.F32Const n) = ⊥
-IsFree (s.F64Const n) = ⊥
-IsFree (s.Load o at) = ⊥
-IsFree (s.Store o at) = ⊥
-IsFree _ = Unit {0}
-
-free : (p : Profile) (i : Simple) → IsFree i → HasSimple p i
-unfolding IsFree
-free p (s.Numeric n) h = absurd h
-free p (s.F32Const n) h = absurd h
-free p (s.F64Const n) h = absurd h
-free p (s.Load o at) h = absurd h
-free p (s.Store o at) h = absurd h
-free p _ h = refl
-
--- whether a profile has an access does not depend on its place
-load_all : (p : Profile) (o : LoadOp) (at : MemArg) → HasSimple p (s.Load o at) → (a : MemArg) → HasSimple p (s.Load o a)
-load_all p F32Load at h a = h
-load_all p F64Load at h a = h
-load_all p _ at h a = refl
-
-store_all : (p : Profile) (o : StoreOp) (at : MemArg) → HasSimple p (s.Store o at) → (a : MemArg) → HasSimple p (s.Store o a)
-store_all p F32Store at h a = h
-store_all p F64Store at h a = h
-store_all p _ at h a = refl
-
--- the accesses and the floats with these immediates are of the profile
-abbrev KindOf : Profile → Immediates → Type 0
-KindOf p k.F32Const = (n : ℕ) → HasSimple p (s.F32Const n)
-KindOf p k.F64Const = (n : ℕ) → HasSimple p (s.F64Const n)
-KindOf p (k.Load o) = (at : MemArg) → HasSimple p (s.Load o at)
-KindOf p (k.Store o) = (at : MemArg) → HasSimple p (s.Store o at)
-KindOf p _ = Unit {0}
 
 pub piece_named : (p : Profile) (q : Piece) → IsPieceOf p q → class_named p (piece_word q) ≡ piece_class q
 piece_named p (plain i) h = found_named p (opcode i).1 (op.Simple i) refl h
@@ -358,9 +320,9 @@ module _ (use_at : Reader ℕ) (sc : Scope) (use_sound : Sound use_at (UnnamedTy
   abbrev pub Headed : List ℕ → Piece → Form Token
   Headed w q front = (piece_word q ≡ w) × RestOf sc bs q front × IsPieceOf p q
 
-  simple_sound : {X : Type 0} (f : X → Simple) (r : Reader X) (P : X → Form Token) (w : List ℕ) → Sound r P → ((x : X) → (opcode (f x)).1 ≡ w) → ((x : X) → IsFree (f x))
+  simple_sound : {X : Type 0} (f : X → Simple) (r : Reader X) (P : X → Form Token) (w : List ℕ) → Sound r P → ((x : X) → (opcode (f x)).1 ≡ w) → ((x : X) → HasSimple p (f x))
       → ((x : X) (front : List Token) → P x front → WritesOperand sc (labels bs) (f x) front) → Sound (simple_at f r) (Headed w)
-  simple_sound f r P w sound word isfree operand = made_sound (λ x. plain (f x)) r P (Headed w) sound (λ x front h. (word x, operand x front h, free p (f x) (isfree x)))
+  simple_sound f r P w sound word fits operand = made_sound (λ x. plain (f x)) r P (Headed w) sound (λ x front h. (word x, operand x front h, fits x))
 
   alone_sound : (i : Simple) (w : List ℕ) → (opcode i).1 ≡ w → WritesOperand sc (labels bs) i [] → HasSimple p i → Sound (λ k. Some (plain i, k)) (Headed w)
   alone_sound i w e h g k q rest is =
@@ -374,65 +336,49 @@ module _ (use_at : Reader ℕ) (sc : Scope) (use_sound : Sound use_at (UnnamedTy
   headed_to : (v w : List ℕ) (r : Reader Piece) → v ≡ w → Sound r (Headed v) → Sound r (Headed w)
   headed_to v w r e h = subst (λ (z : List ℕ). Sound r (Headed z)) e h
 
-  kind_sound : (kind : Immediates) (w : List ℕ) → immediates_name kind ≡ w → KindOf p kind → Sound (kind_at use_at p sc bs kind) (Headed w)
-  unfolding IsFree
-  kind_sound k.Block w e of = headed_to (codes "block") w (opens_at p Block) e (opens_sound Block)
-  kind_sound k.Loop w e of = headed_to (codes "loop") w (opens_at p Loop) e (opens_sound Loop)
-  kind_sound k.If w e of = headed_to (codes "if") w (opens_at p If) e (opens_sound If)
-  kind_sound k.Br w e of = simple_sound s.Br (atom_at (index_of (labels bs))) (ResolvesLabel (labels bs)) w (label_sound (labels bs)) (λ x. e) (λ x. tt) (λ x front h. h)
-  kind_sound k.BrIf w e of = simple_sound s.BrIf (atom_at (index_of (labels bs))) (ResolvesLabel (labels bs)) w (label_sound (labels bs)) (λ x. e) (λ x. tt) (λ x front h. h)
-  kind_sound k.BrTable w e of = headed_to (codes "br_table") w (table_at (labels bs)) e (table_sound sc bs p)
-  kind_sound k.Call w e of = simple_sound s.Call (atom_at (index_of sc.names.functions)) (Resolves sc.names.functions) w (index_sound sc.names.functions) (λ x. e) (λ x. tt) (λ x front h. h)
-  kind_sound k.CallIndirect w e of = simple_sound s.CallIndirect use_at (UnnamedTypeUse sc.names) w use_sound (λ x. e) (λ x. tt) (λ x front h. h)
-  kind_sound k.LocalGet w e of = simple_sound s.LocalGet (atom_at (index_of sc.locals)) (Resolves sc.locals) w (index_sound sc.locals) (λ x. e) (λ x. tt) (λ x front h. h)
-  kind_sound k.LocalSet w e of = simple_sound s.LocalSet (atom_at (index_of sc.locals)) (Resolves sc.locals) w (index_sound sc.locals) (λ x. e) (λ x. tt) (λ x front h. h)
-  kind_sound k.LocalTee w e of = simple_sound s.LocalTee (atom_at (index_of sc.locals)) (Resolves sc.locals) w (index_sound sc.locals) (λ x. e) (λ x. tt) (λ x front h. h)
-  kind_sound k.GlobalGet w e of = simple_sound s.GlobalGet (atom_at (index_of sc.names.globals)) (Resolves sc.names.globals) w (index_sound sc.names.globals) (λ x. e) (λ x. tt) (λ x front h. h)
-  kind_sound k.GlobalSet w e of = simple_sound s.GlobalSet (atom_at (index_of sc.names.globals)) (Resolves sc.names.globals) w (index_sound sc.names.globals) (λ x. e) (λ x. tt) (λ x front h. h)
-  kind_sound k.MemorySize w e of = alone_sound s.MemorySize w e refl (free p s.MemorySize tt)
-  kind_sound k.MemoryGrow w e of = alone_sound s.MemoryGrow w e refl (free p s.MemoryGrow tt)
-  kind_sound k.I32Const w e of = simple_sound s.I32Const (atom_at (integer_of 32)) (WritesInteger 32) w (integer_sound 32) (λ x. e) (λ x. tt) (λ x front h. h)
-  kind_sound k.I64Const w e of = simple_sound s.I64Const (atom_at (integer_of 64)) (WritesInteger 64) w (integer_sound 64) (λ x. e) (λ x. tt) (λ x front h. h)
-  kind_sound k.F32Const w e of = made_sound (λ x. plain (s.F32Const x)) (atom_at (float_of float.F32)) (WritesFloat float.F32) (Headed w) (float_sound float.F32) (λ x front h. (e, h, of x))
-  kind_sound k.F64Const w e of = made_sound (λ x. plain (s.F64Const x)) (atom_at (float_of float.F64)) (WritesFloat float.F64) (Headed w) (float_sound float.F64) (λ x front h. (e, h, of x))
-  kind_sound (k.Load o) w e of = made_sound (λ x. plain (s.Load o x)) (access_at (load o).width) (WritesAccess (load o).width) (Headed w) (access_sound (load o).width) (λ x front h. (e, h, of x))
-  kind_sound (k.Store o) w e of = made_sound (λ x. plain (s.Store o x)) (access_at (store o).width) (WritesAccess (store o).width) (Headed w) (access_sound (store o).width) (λ x front h. (e, h, of x))
+  kind_sound : (kind : Immediates) (w : List ℕ) → immediates_name kind ≡ w → IsTrue (has p (class_feature (class.With kind))) → Sound (kind_at use_at p sc bs kind) (Headed w)
+  kind_sound (k.Block o) w e of = headed_to (opening_word o) w (opens_at p o) e (opens_sound o)
+  kind_sound (k.Index indexed.Br) w e of = simple_sound s.Br (atom_at (index_of (labels bs))) (ResolvesLabel (labels bs)) w (label_sound (labels bs)) (λ x. e) (λ x. of) (λ x front h. h)
+  kind_sound (k.Index indexed.BrIf) w e of = simple_sound s.BrIf (atom_at (index_of (labels bs))) (ResolvesLabel (labels bs)) w (label_sound (labels bs)) (λ x. e) (λ x. of) (λ x front h. h)
+  kind_sound (k.Index indexed.BrTable) w e of = headed_to (codes "br_table") w (table_at (labels bs)) e (table_sound sc bs p)
+  kind_sound (k.Index indexed.Call) w e of = simple_sound s.Call (atom_at (index_of sc.names.functions)) (Resolves sc.names.functions) w (index_sound sc.names.functions) (λ x. e) (λ x. of) (λ x front h. h)
+  kind_sound k.CallIndirect w e of = simple_sound s.CallIndirect use_at (UnnamedTypeUse sc.names) w use_sound (λ x. e) (λ x. of) (λ x front h. h)
+  kind_sound (k.Index indexed.LocalGet) w e of = simple_sound s.LocalGet (atom_at (index_of sc.locals)) (Resolves sc.locals) w (index_sound sc.locals) (λ x. e) (λ x. of) (λ x front h. h)
+  kind_sound (k.Index indexed.LocalSet) w e of = simple_sound s.LocalSet (atom_at (index_of sc.locals)) (Resolves sc.locals) w (index_sound sc.locals) (λ x. e) (λ x. of) (λ x front h. h)
+  kind_sound (k.Index indexed.LocalTee) w e of = simple_sound s.LocalTee (atom_at (index_of sc.locals)) (Resolves sc.locals) w (index_sound sc.locals) (λ x. e) (λ x. of) (λ x front h. h)
+  kind_sound (k.Index indexed.GlobalGet) w e of = simple_sound s.GlobalGet (atom_at (index_of sc.names.globals)) (Resolves sc.names.globals) w (index_sound sc.names.globals) (λ x. e) (λ x. of) (λ x front h. h)
+  kind_sound (k.Index indexed.GlobalSet) w e of = simple_sound s.GlobalSet (atom_at (index_of sc.names.globals)) (Resolves sc.names.globals) w (index_sound sc.names.globals) (λ x. e) (λ x. of) (λ x front h. h)
+  kind_sound (k.Memory sizing.Size) w e of = alone_sound s.MemorySize w e refl of
+  kind_sound (k.Memory sizing.Grow) w e of = alone_sound s.MemoryGrow w e refl of
+  kind_sound k.I32Const w e of = simple_sound s.I32Const (atom_at (integer_of 32)) (WritesInteger 32) w (integer_sound 32) (λ x. e) (λ x. of) (λ x front h. h)
+  kind_sound k.I64Const w e of = simple_sound s.I64Const (atom_at (integer_of 64)) (WritesInteger 64) w (integer_sound 64) (λ x. e) (λ x. of) (λ x front h. h)
+  kind_sound k.F32Const w e of = made_sound (λ x. plain (s.F32Const x)) (atom_at (float_of float.F32)) (WritesFloat float.F32) (Headed w) (float_sound float.F32) (λ x front h. (e, h, of))
+  kind_sound k.F64Const w e of = made_sound (λ x. plain (s.F64Const x)) (atom_at (float_of float.F64)) (WritesFloat float.F64) (Headed w) (float_sound float.F64) (λ x front h. (e, h, of))
+  kind_sound (k.Access (accesses.Load o)) w e of =
+      made_sound (λ x. plain (s.Load o x)) (access_at (load o).width) (WritesAccess (load o).width) (Headed w) (access_sound (load o).width) (λ x front h. (e, h, ap (has p) (sym (simple_feature (s.Load o x))) ∙ of))
+  kind_sound (k.Access (accesses.Store o)) w e of =
+      made_sound (λ x. plain (s.Store o x)) (access_at (store o).width) (WritesAccess (store o).width) (Headed w) (access_sound (store o).width) (λ x front h. (e, h, ap (has p) (sym (simple_feature (s.Store o x))) ∙ of))
 
   some_word : (v w : List ℕ) → ◌≡◌ {A = Option (List ℕ)} (Some v) (Some w) → v ≡ w
   some_word v w e = same_some v w e
 
+  with_sound : (o : Op) (kind : Immediates) → class_of o ≡ class.With kind → (w : List ℕ) → op_name o ≡ Some w → IsOpOf p o → Sound (class_at use_at p sc bs (class_of o)) (Headed w)
+  with_sound o kind c w e h =
+      let name : immediates_name kind ≡ w = some_word (immediates_name kind) w (ap class_name (sym c) ∙ (one_name o ∙ e)) in
+      subst (λ (z : OpClass). Sound (class_at use_at p sc bs z) (Headed w)) (sym c) (kind_sound kind w name (subst (λ (z : OpClass). IsTrue (has p (class_feature z))) c (has_class p o h)))
+
   -- what an op's class reads begins with the op's name
   class_sound : (o : Op) (w : List ℕ) → op_name o ≡ Some w → IsOpOf p o → Sound (class_at use_at p sc bs (class_of o)) (Headed w)
-  class_sound (op.Simple (s.Br x)) w e h = kind_sound k.Br w (some_word (codes "br") w e) tt
-  class_sound (op.Simple (s.BrIf x)) w e h = kind_sound k.BrIf w (some_word (codes "br_if") w e) tt
-  class_sound (op.Simple (s.Call x)) w e h = kind_sound k.Call w (some_word (codes "call") w e) tt
-  class_sound (op.Simple (s.CallIndirect x)) w e h = kind_sound k.CallIndirect w (some_word (codes "call_indirect") w e) tt
-  class_sound (op.Simple (s.LocalGet x)) w e h = kind_sound k.LocalGet w (some_word (codes "local.get") w e) tt
-  class_sound (op.Simple (s.LocalSet x)) w e h = kind_sound k.LocalSet w (some_word (codes "local.set") w e) tt
-  class_sound (op.Simple (s.LocalTee x)) w e h = kind_sound k.LocalTee w (some_word (codes "local.tee") w e) tt
-  class_sound (op.Simple (s.GlobalGet x)) w e h = kind_sound k.GlobalGet w (some_word (codes "global.get") w e) tt
-  class_sound (op.Simple (s.GlobalSet x)) w e h = kind_sound k.GlobalSet w (some_word (codes "global.set") w e) tt
-  class_sound (op.Simple s.MemorySize) w e h = kind_sound k.MemorySize w (some_word (codes "memory.size") w e) tt
-  class_sound (op.Simple s.MemoryGrow) w e h = kind_sound k.MemoryGrow w (some_word (codes "memory.grow") w e) tt
-  class_sound (op.Simple (s.I32Const x)) w e h = kind_sound k.I32Const w (some_word (codes "i32.const") w e) tt
-  class_sound (op.Simple (s.I64Const x)) w e h = kind_sound k.I64Const w (some_word (codes "i64.const") w e) tt
-  class_sound (op.Simple (s.F32Const x)) w e h = kind_sound k.F32Const w (some_word (codes "f32.const") w e) (λ n. h)
-  class_sound (op.Simple (s.F64Const x)) w e h = kind_sound k.F64Const w (some_word (codes "f64.const") w e) (λ n. h)
-  class_sound (op.Simple (s.Load o at)) w e h = kind_sound (k.Load o) w (some_word (load o).name w e) (load_all p o at h)
-  class_sound (op.Simple (s.Store o at)) w e h = kind_sound (k.Store o) w (some_word (store o).name w e) (store_all p o at h)
   class_sound (op.Simple (s.Numeric n)) w e h = alone_sound (s.Numeric n) w (some_word (opcode (s.Numeric n)).1 w e) refl h
   class_sound (op.Simple s.Unreachable) w e h = alone_sound s.Unreachable w (some_word (codes "unreachable") w e) refl h
   class_sound (op.Simple s.Nop) w e h = alone_sound s.Nop w (some_word (codes "nop") w e) refl h
   class_sound (op.Simple s.Return) w e h = alone_sound s.Return w (some_word (codes "return") w e) refl h
   class_sound (op.Simple s.Drop) w e h = alone_sound s.Drop w (some_word (codes "drop") w e) refl h
   class_sound (op.Simple s.Select) w e h = alone_sound s.Select w (some_word (codes "select") w e) refl h
-  class_sound (op.Block t) w e h = kind_sound k.Block w (some_word (codes "block") w e) tt
-  class_sound (op.Loop t) w e h = kind_sound k.Loop w (some_word (codes "loop") w e) tt
-  class_sound (op.If t) w e h = kind_sound k.If w (some_word (codes "if") w e) tt
   class_sound op.Else w e h = headed_to (codes "else") w (middle_at bs) (some_word (codes "else") w e) (middle_sound sc p bs)
   class_sound op.End w e h = headed_to (codes "end") w (closes_at bs) (some_word (codes "end") w e) (closes_sound sc p bs)
-  class_sound (op.BrTable n) w e h = kind_sound k.BrTable w (some_word (codes "br_table") w e) tt
   class_sound (op.Label l) w e h = absurd (let f : ◌≡◌ {A = Option (List ℕ)} None (Some w) = e in cc)
+  class_sound o w e h = with_sound o _ refl w e h
 
   -- a piece that is read stands in front
   pub piece_sound : (w : List ℕ) → Sound (piece_at use_at p sc bs w) (λ q front. WritesPiece sc bs q (atom w ∷ front) × IsPieceOf p q)
@@ -487,9 +433,7 @@ module _ (use_at : Reader ℕ) (sc : Scope) (use_sound : Sound use_at (UnnamedTy
     class_complete : AreNames bs → (q : Piece) (front rest : List Token) → RestOf sc bs q front → IsPieceOf p q → Follow rest → class_at use_at p sc bs (piece_class q) (front ++ rest) ≡ Some (q, rest)
     class_complete n (plain i) front rest h of f = simple_complete i front rest h f
     class_complete n (jump ls l) front rest h of f = table_complete (labels bs) ls l front rest h (follow_index rest f)
-    class_complete n (opens Block id t) front rest h of f = opens_complete Block id t front rest h of f
-    class_complete n (opens Loop id t) front rest h of f = opens_complete Loop id t front rest h of f
-    class_complete n (opens If id t) front rest h of f = opens_complete If id t front rest h of f
+    class_complete n (opens o id t) front rest h of f = opens_complete o id t front rest h of f
     class_complete n middle front rest h of f = middle_complete sc bs front rest n h (follow_id rest f)
     class_complete n closes front rest h of f = closes_complete sc bs front rest n h (follow_id rest f)
 

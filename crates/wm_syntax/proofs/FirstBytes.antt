@@ -9,8 +9,7 @@ use Rattle.wm_syntax.specs.OpClasses.{class_of, first_byte, is_float, IsClassOfO
 use Rattle.wm_syntax.specs.exact.ByteTable.{classes, class_in, row_in, class_under}
 use Rattle.wm_syntax.specs.Profiles.{IsOpOf, has}
 use Rattle.wm_syntax.specs.declared.profile.Feature.TheVariants.{Floats}
-use Rattle.wm_syntax.proofs.OpTable.{found_in, begins_in, float_in, float_never}
-use Rattle.wm_syntax.proofs.OneInstruction.{class_there}
+use Rattle.wm_syntax.proofs.OpTable.{class_there, found_in, begins_in, float_in, float_never}
 
 pub row_under : (p : Profile) (byte : ℕ) (c : OpClass) → slice_get classes byte ≡ Some c → class_in p c ≡ class_under p byte
 unfolding class_under

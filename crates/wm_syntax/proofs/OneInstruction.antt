@@ -1,5 +1,5 @@
 -- One spelling, one instruction: of a whole tree, and of a list up to what closes it.
-use Rattle.std.proofs.Common.{◌≡◌, ℕ, Bool, true, false, List, [], ◌∷◌, ◌++◌, length, inl, inr, ◌⊎◌, refl, sym, ap, ◌∙◌, subst, append_assoc, append-nil, arith, Option, Some, slice_get}
+use Rattle.std.proofs.Common.{◌≡◌, ℕ, Bool, true, false, List, [], ◌∷◌, ◌++◌, length, inl, inr, ◌⊎◌, refl, sym, ap, ◌∙◌, append_assoc, append-nil, arith, Option, Some, slice_get}
 use Rattle.std.proofs.lemmas.List.{append_cancel_left}
 use Rattle.wm_syntax.specs.Spelling.{Form, Byte, Each, ◌▸◌}
 use Rattle.wm_syntax.specs.Types.{SpellsU32, SpellsList, SpellsBlockType, block_byte}
@@ -13,10 +13,11 @@ use Rattle.wm_syntax.specs.declared.instructions.Simple.{Simple}
 use Rattle.wm_syntax.specs.declared.instructions.Simple.TheVariants as s
 use Rattle.wm_syntax.specs.declared.instructions.Op.{Op}
 use Rattle.wm_syntax.specs.declared.instructions.Op.TheVariants as op
+use Rattle.wm_syntax.specs.declared.instructions.op_class.Indexed.TheVariants as indexed
 use Rattle.wm_syntax.specs.declared.instructions.op_class.Immediates.TheVariants as k
 use Rattle.wm_syntax.specs.declared.instructions.op_class.OpClass.{OpClass}
 use Rattle.wm_syntax.specs.declared.instructions.op_class.OpClass.TheVariants.{Plain, With}
-use Rattle.wm_syntax.proofs.OpTable.{found_simple}
+use Rattle.wm_syntax.proofs.OpTable.{class_there}
 use Rattle.wm_syntax.proofs.Flat.{each_append, each_one}
 use Rattle.wm_syntax.proofs.Unambiguous.{same_simple, same_u32, then_same}
 
@@ -50,17 +51,6 @@ some_same e = cc
 heads_same : {c d : ℕ} {x y : List ℕ} → c ∷ x ≡ d ∷ y → c ≡ d
 heads_same e = cc
 
--- the class that stands at a byte in the table
-pub class_there : (o : Op) (c : ℕ) → first_byte o ≡ Some c → slice_get classes c ≡ Some (class_of o)
-class_there (op.Simple i) c f = subst (λ (n : ℕ). slice_get classes n ≡ Some (class_of (op.Simple i))) (some_same f) (found_simple i)
-class_there (op.Block t) c f = subst (λ (n : ℕ). slice_get classes n ≡ Some (With k.Block)) (some_same f) refl
-class_there (op.Loop t) c f = subst (λ (n : ℕ). slice_get classes n ≡ Some (With k.Loop)) (some_same f) refl
-class_there (op.If t) c f = subst (λ (n : ℕ). slice_get classes n ≡ Some (With k.If)) (some_same f) refl
-class_there op.Else c f = subst (λ (n : ℕ). slice_get classes n ≡ Some (Plain op.Else)) (some_same f) refl
-class_there op.End c f = subst (λ (n : ℕ). slice_get classes n ≡ Some (Plain op.End)) (some_same f) refl
-class_there (op.BrTable n) c f = subst (λ (n : ℕ). slice_get classes n ≡ Some (With k.BrTable)) (some_same f) refl
-class_there (op.Label l) c f = cc
-
 same_class : (i j : Instruction) (a b u v : List ℕ) → SpellsInstruction i a → SpellsInstruction j b → a ++ u ≡ b ++ v → class_of (first_op i) ≡ class_of (first_op j)
 unfolding Head
 same_class i j a b u v p q e =
@@ -71,10 +61,8 @@ same_class i j a b u v p q e =
 
 -- what a simple instruction is not
 is_structured : OpClass → Bool
-is_structured (With k.Block) = true
-is_structured (With k.Loop) = true
-is_structured (With k.If) = true
-is_structured (With k.BrTable) = true
+is_structured (With (k.Block x)) = true
+is_structured (With (k.Index indexed.BrTable)) = true
 is_structured (Plain op.Else) = true
 is_structured (Plain op.End) = true
 is_structured _ = false

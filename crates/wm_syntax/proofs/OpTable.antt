@@ -2,9 +2,19 @@
 use Rattle.std.proofs.Common.{◌≡◌, ◌↔◌, IsTrue, ℕ, zero, suc, ◌+◌, Bool, true, false, ◌&&◌, ◌==◌, not, List, [], ◌∷◌, Option, Some, slice_get, refl, sym, ap, ◌∙◌, subst, add-zero, arith}
 use Rattle.std.specs.Prelude.{None as Nothing, pos, if◌then◌else◌}
 use Rattle.std.specs.List.{list_all, enumerate_from}
+use Rattle.wm_syntax.specs.declared.types.ValType.{ValType}
+use Rattle.wm_syntax.specs.declared.instructions.MemArg.{MemArg}
 use Rattle.wm_syntax.specs.declared.instructions.Op.{Op}
 use Rattle.wm_syntax.specs.declared.instructions.Op.TheVariants as op
 use Rattle.wm_syntax.specs.declared.instructions.Simple.TheVariants as s
+use Rattle.wm_syntax.specs.declared.instructions.op_class.Opening.{Opening}
+use Rattle.wm_syntax.specs.declared.instructions.op_class.Opening.TheVariants as opening
+use Rattle.wm_syntax.specs.declared.instructions.op_class.Indexed.{Indexed}
+use Rattle.wm_syntax.specs.declared.instructions.op_class.Indexed.TheVariants as indexed
+use Rattle.wm_syntax.specs.declared.instructions.op_class.Sizing.{Sizing}
+use Rattle.wm_syntax.specs.declared.instructions.op_class.Sizing.TheVariants as sizing
+use Rattle.wm_syntax.specs.declared.instructions.op_class.LoadOrStore.{LoadOrStore}
+use Rattle.wm_syntax.specs.declared.instructions.op_class.LoadOrStore.TheVariants as accesses
 use Rattle.wm_syntax.specs.declared.instructions.op_class.Immediates.{Immediates}
 use Rattle.wm_syntax.specs.declared.instructions.op_class.Immediates.TheVariants as k
 use Rattle.wm_syntax.specs.declared.instructions.op_class.OpClass.{OpClass}
@@ -12,6 +22,7 @@ use Rattle.wm_syntax.specs.declared.instructions.op_class.OpClass.TheVariants.{P
 use Rattle.wm_syntax.specs.Opcodes.{opcode}
 use Rattle.wm_syntax.specs.OpClasses.{class_of, first_byte, is_float, IsClassOfOp}
 use Rattle.wm_syntax.specs.exact.ByteTable.{classes, class_feature, class_in, left_out}
+use Rattle.wm_syntax.specs.exact.OpGroups.{access_op, block_op, index_op, memory_op}
 use Rattle.wm_syntax.specs.Profiles.{IsOpOf, feature_of, has}
 use Rattle.wm_syntax.specs.declared.profile.Feature.{Feature}
 use Rattle.wm_syntax.specs.declared.profile.Feature.TheVariants.{Base, Floats, SignExtension}
@@ -87,19 +98,20 @@ tested t (x ∷ xs) n zero c all e = rw add-zero (subst (λ (y : OpClass). t n y
 tested t (x ∷ xs) n (suc i) c all e =
     subst (λ (m : ℕ). t m c ≡ true) (let q : (n + 1) + i ≡ n + suc i = omega arith in q) (tested t xs (n + 1) i c (both (t n x) _ all).1 e)
 
--- an instruction is found at its byte
-same_place : (n byte : ℕ) (c d : OpClass) → slice_get classes byte ≡ Some c → slice_get classes n ≡ Some d → Some n ≡ Some byte → c ≡ d
-same_place n byte c d e at f = some_injective (sym e ∙ ap (λ (m : ℕ). slice_get classes m) (sym (some_injective f)) ∙ at)
+-- the class that stands at a byte in the table
+pub class_there : (o : Op) (c : ℕ) → first_byte o ≡ Some c → slice_get classes c ≡ Some (class_of o)
+class_there (op.Simple i) c f = subst (λ (n : ℕ). slice_get classes n ≡ Some (class_of (op.Simple i))) (some_injective f) (found_simple i)
+class_there (op.Block t) c f = subst (λ (n : ℕ). slice_get classes n ≡ Some (With (k.Block opening.Block))) (some_injective f) refl
+class_there (op.Loop t) c f = subst (λ (n : ℕ). slice_get classes n ≡ Some (With (k.Block opening.Loop))) (some_injective f) refl
+class_there (op.If t) c f = subst (λ (n : ℕ). slice_get classes n ≡ Some (With (k.Block opening.If))) (some_injective f) refl
+class_there op.Else c f = subst (λ (n : ℕ). slice_get classes n ≡ Some (Plain op.Else)) (some_injective f) refl
+class_there op.End c f = subst (λ (n : ℕ). slice_get classes n ≡ Some (Plain op.End)) (some_injective f) refl
+class_there (op.BrTable n) c f = subst (λ (n : ℕ). slice_get classes n ≡ Some (With (k.Index indexed.BrTable))) (some_injective f) refl
+class_there (op.Label l) c f = cc
 
-pub found_op : (byte : ℕ) (c : OpClass) → slice_get classes byte ≡ Some c → (o : Op) → first_byte o ≡ Some byte → c ≡ class_of o
-found_op byte c e (op.Simple i) f = same_place _ byte c _ e (found_simple i) f
-found_op byte c e (op.Block t) f = same_place 0x02 byte c _ e refl f
-found_op byte c e (op.Loop t) f = same_place 0x03 byte c _ e refl f
-found_op byte c e (op.If t) f = same_place 0x04 byte c _ e refl f
-found_op byte c e op.Else f = same_place 0x05 byte c _ e refl f
-found_op byte c e op.End f = same_place 0x0B byte c _ e refl f
-found_op byte c e (op.BrTable n) f = same_place 0x0E byte c _ e refl f
-found_op byte c e (op.Label l) f = cc
+-- so an instruction is found at its byte
+found_op : (byte : ℕ) (c : OpClass) → slice_get classes byte ≡ Some c → (o : Op) → first_byte o ≡ Some byte → c ≡ class_of o
+found_op byte c e o f = some_injective (sym e ∙ class_there o byte f)
 
 -- the bytes of floating-point instructions are those of the table
 is_floats : Feature → Bool
@@ -145,30 +157,35 @@ not_float byte c e f =
     let t = tested (λ n c. is_no_float c) classes 0 byte c no_floats e in
     let g : is_no_float c ≡ false = ap is_no_float f in cc
 
+-- an op of a group has its class
+pub block_class : (x : Opening) (t : Option ValType) → class_of (block_op x t) ≡ With (k.Block x)
+block_class opening.Block t = refl
+block_class _ t = refl
+
+pub index_class : (x : Indexed) (n : ℕ) → class_of (index_op x n) ≡ With (k.Index x)
+index_class indexed.Br n = refl
+index_class _ n = refl
+
+pub memory_class : (x : Sizing) → class_of (memory_op x) ≡ With (k.Memory x)
+memory_class sizing.Size = refl
+memory_class sizing.Grow = refl
+
+pub access_class : (x : LoadOrStore) (at : MemArg) → class_of (access_op x at) ≡ With (k.Access x)
+access_class (accesses.Load o) at = refl
+access_class (accesses.Store o) at = refl
+
 -- an instruction of a class
 sample : OpClass → Op
 sample (Plain o) = o
-sample (With k.Block) = op.Block Nothing
-sample (With k.Loop) = op.Loop Nothing
-sample (With k.If) = op.If Nothing
-sample (With k.Br) = op.Simple (s.Br 0)
-sample (With k.BrIf) = op.Simple (s.BrIf 0)
-sample (With k.BrTable) = op.BrTable 0
-sample (With k.Call) = op.Simple (s.Call 0)
+sample (With (k.Block x)) = block_op x Nothing
+sample (With (k.Index x)) = index_op x 0
 sample (With k.CallIndirect) = op.Simple (s.CallIndirect 0)
-sample (With k.LocalGet) = op.Simple (s.LocalGet 0)
-sample (With k.LocalSet) = op.Simple (s.LocalSet 0)
-sample (With k.LocalTee) = op.Simple (s.LocalTee 0)
-sample (With k.GlobalGet) = op.Simple (s.GlobalGet 0)
-sample (With k.GlobalSet) = op.Simple (s.GlobalSet 0)
-sample (With k.MemorySize) = op.Simple s.MemorySize
-sample (With k.MemoryGrow) = op.Simple s.MemoryGrow
+sample (With (k.Memory x)) = memory_op x
 sample (With k.I32Const) = op.Simple (s.I32Const (pos 0))
 sample (With k.I64Const) = op.Simple (s.I64Const (pos 0))
 sample (With k.F32Const) = op.Simple (s.F32Const 0)
 sample (With k.F64Const) = op.Simple (s.F64Const 0)
-sample (With (k.Load o)) = op.Simple (s.Load o (record { align = 0; offset = 0 }))
-sample (With (k.Store o)) = op.Simple (s.Store o (record { align = 0; offset = 0 }))
+sample (With (k.Access x)) = access_op x (record { align = 0; offset = 0 })
 sample Float = op.End
 sample None = op.End
 
@@ -196,9 +213,10 @@ is_at_means (Some m) n e = ap Some (let q : m ≡ n = grind (arith, nat_tests) i
 
 with_class : (kind : Immediates) → class_of (sample (With kind)) ≡ With kind
 unfolding sample
-with_class k.Block = refl
-with_class (k.Load o) = refl
-with_class (k.Store o) = refl
+with_class (k.Block x) = block_class x Nothing
+with_class (k.Index x) = index_class x 0
+with_class (k.Memory x) = memory_class x
+with_class (k.Access x) = access_class x (record { align = 0; offset = 0 })
 with_class _ = refl
 
 plain_class : (o : Op) → is_plain_class (class_of o) ≡ true → class_of o ≡ Plain o
@@ -226,7 +244,7 @@ sample_begins byte c e i = go c i (subst (λ (m : ℕ). begins m c ≡ true) (le
     go None i t = absurd i
 
 -- The same under a profile: an op has a class of its feature.
-simple_feature : (i : Simple) → class_feature (class_of (op.Simple i)) ≡ feature_of i
+pub simple_feature : (i : Simple) → class_feature (class_of (op.Simple i)) ≡ feature_of i
 simple_feature (s.Numeric x) = refl
 simple_feature (s.Load F32Load at) = refl
 simple_feature (s.Load F64Load at) = refl
@@ -248,22 +266,24 @@ with_plain kind o e = cc
 sample_has : (p : Profile) (c : OpClass) → class_of (sample c) ≡ c → IsTrue (has p (class_feature c)) → IsOpOf p (sample c)
 unfolding sample
 sample_has p (Plain (op.Simple i)) e h = h
-sample_has p (Plain (op.Block t)) e h = absurd (with_plain k.Block (op.Block t) e)
-sample_has p (Plain (op.Loop t)) e h = absurd (with_plain k.Loop (op.Loop t) e)
-sample_has p (Plain (op.If t)) e h = absurd (with_plain k.If (op.If t) e)
+sample_has p (Plain (op.Block t)) e h = absurd (with_plain (k.Block opening.Block) (op.Block t) e)
+sample_has p (Plain (op.Loop t)) e h = absurd (with_plain (k.Block opening.Loop) (op.Loop t) e)
+sample_has p (Plain (op.If t)) e h = absurd (with_plain (k.Block opening.If) (op.If t) e)
 sample_has p (Plain _) e h = tt
-sample_has p (With k.Block) e h = tt
-sample_has p (With k.Loop) e h = tt
-sample_has p (With k.If) e h = tt
-sample_has p (With k.BrTable) e h = tt
+sample_has p (With (k.Block opening.Block)) e h = tt
+sample_has p (With (k.Block _)) e h = tt
+sample_has p (With (k.Index indexed.BrTable)) e h = tt
+sample_has p (With (k.Index _)) e h = refl
+sample_has p (With (k.Memory sizing.Size)) e h = refl
+sample_has p (With (k.Memory sizing.Grow)) e h = refl
 sample_has p (With k.F32Const) e h = h
 sample_has p (With k.F64Const) e h = h
-sample_has p (With (k.Load F32Load)) e h = h
-sample_has p (With (k.Load F64Load)) e h = h
-sample_has p (With (k.Load _)) e h = refl
-sample_has p (With (k.Store F32Store)) e h = h
-sample_has p (With (k.Store F64Store)) e h = h
-sample_has p (With (k.Store _)) e h = refl
+sample_has p (With (k.Access (accesses.Load F32Load))) e h = h
+sample_has p (With (k.Access (accesses.Load F64Load))) e h = h
+sample_has p (With (k.Access (accesses.Load _))) e h = refl
+sample_has p (With (k.Access (accesses.Store F32Store))) e h = h
+sample_has p (With (k.Access (accesses.Store F64Store))) e h = h
+sample_has p (With (k.Access (accesses.Store _))) e h = refl
 sample_has p (With _) e h = refl
 sample_has p Float e h = tt
 sample_has p None e h = tt

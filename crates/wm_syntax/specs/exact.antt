@@ -2,5 +2,6 @@
 -- and need not be believed.
 pub mod ByteTable
 pub mod NameTable
+pub mod OpGroups
 pub mod Reading
 pub mod Runs

@@ -6,7 +6,7 @@ use std::fmt::Debug;
 use std::process::Abort;
 use wm_syntax::instructions::op_class::{Immediates, OpClass};
 use wm_syntax::instructions::op_names::op_named;
-use wm_syntax::instructions::{LoadOp, MemArg, Op, Simple};
+use wm_syntax::instructions::{MemArg, Op, Simple};
 use wm_syntax::profile::Profile;
 use wm_syntax::types::ValType;
 
@@ -115,27 +115,15 @@ fn label_of(rt: &impl Abort, name: &str, with: &str) -> Op {
 
 fn op_with(rt: &impl Abort, immediates: Immediates, with: &str) -> Op {
     match immediates {
-        Immediates::Block => Op::Block(given_of(rt, with)),
-        Immediates::If => Op::If(given_of(rt, with)),
+        Immediates::Block(opening) => opening.op(given_of(rt, with)),
+        Immediates::Index(indexed) => indexed.op(number_of(rt, with)),
+        Immediates::CallIndirect => Op::Simple(Simple::CallIndirect(number_of(rt, with))),
+        Immediates::Memory(sizing) => sizing.op(),
         Immediates::I32Const => int_of(rt, with),
         Immediates::I64Const => Op::Simple(Simple::I64Const(i64::from(number_of(rt, with)))),
         Immediates::F32Const => Op::Simple(Simple::F32Const(number_of(rt, with))),
         Immediates::F64Const => Op::Simple(Simple::F64Const(u64::from(number_of(rt, with)))),
-        Immediates::Load(load) => load_of(rt, load, with),
-        _ => op_with_index(rt, immediates, number_of(rt, with)),
-    }
-}
-
-fn op_with_index(rt: &impl Abort, immediates: Immediates, index: u32) -> Op {
-    match immediates {
-        Immediates::Br => Op::Simple(Simple::Br(index)),
-        Immediates::BrIf => Op::Simple(Simple::BrIf(index)),
-        Immediates::BrTable => Op::BrTable(index),
-        Immediates::Call => Op::Simple(Simple::Call(index)),
-        Immediates::CallIndirect => Op::Simple(Simple::CallIndirect(index)),
-        Immediates::LocalGet => Op::Simple(Simple::LocalGet(index)),
-        Immediates::GlobalSet => Op::Simple(Simple::GlobalSet(index)),
-        _ => unknown(rt, "an op"),
+        Immediates::Access(access) => access.op(arg_of(rt, with)),
     }
 }
 
@@ -144,9 +132,9 @@ fn int_of(rt: &impl Abort, with: &str) -> Op {
 }
 
 // The exponent of the alignment, and the offset.
-fn load_of(rt: &impl Abort, load: LoadOp, with: &str) -> Op {
+fn arg_of(rt: &impl Abort, with: &str) -> MemArg {
     let (align, offset) = word_of(with);
     let align = number_of(rt, align);
     let offset = number_of(rt, offset);
-    Op::Simple(Simple::Load(load, MemArg { align, offset }))
+    MemArg { align, offset }
 }

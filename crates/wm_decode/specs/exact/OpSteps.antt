@@ -1,59 +1,33 @@
 -- What each byte does to the reader of an op: the exact form, for the proofs above it.
-use Rattle.std.specs.Prelude.{ℕ, zero, suc, ◌+◌, ◌*◌, ◌/◌, ◌^◌, ◌==◌, ℤ, if◌then◌else◌, Option, Some}
+use Rattle.std.specs.Prelude.{ℕ, zero, suc, ◌+◌, ◌*◌, ◌/◌, ◌^◌, ◌==◌, ℤ, if◌then◌else◌, Some}
 use Rattle.std.specs.Prelude.{None as Nothing}
 use Rattle.wm_syntax.specs.declared.numbers.Step.{Step}
 use Rattle.wm_syntax.specs.declared.numbers.Step.TheVariants as step
 use Rattle.wm_syntax.specs.inner.Numbers.{Partial}
 use Rattle.wm_syntax.specs.exact.Reading.{fresh, unsigned_push, signed_push}
 use Rattle.wm_syntax.specs.exact.ByteTable.{class_under}
+use Rattle.wm_syntax.specs.exact.OpGroups.{access_op, block_op, index_op, memory_op}
 use Rattle.wm_syntax.specs.declared.profile.Profile.{Profile}
 use Rattle.wm_syntax.specs.declared.why.Why.TheVariants as why
-use Rattle.wm_syntax.specs.declared.types.ValType.{ValType}
-use Rattle.wm_syntax.specs.declared.instructions.MemArg.{MemArg}
 use Rattle.wm_syntax.specs.declared.instructions.Simple.TheVariants as s
 use Rattle.wm_syntax.specs.declared.instructions.Op.{Op}
 use Rattle.wm_syntax.specs.declared.instructions.Op.TheVariants as op
+use Rattle.wm_syntax.specs.declared.instructions.op_class.Opening.{Opening}
+use Rattle.wm_syntax.specs.declared.instructions.op_class.Indexed.{Indexed}
+use Rattle.wm_syntax.specs.declared.instructions.op_class.LoadOrStore.{LoadOrStore}
 use Rattle.wm_syntax.specs.declared.instructions.op_class.Immediates.{Immediates}
 use Rattle.wm_syntax.specs.declared.instructions.op_class.Immediates.TheVariants as k
 use Rattle.wm_syntax.specs.declared.instructions.op_class.OpClass.{OpClass}
 use Rattle.wm_syntax.specs.declared.instructions.op_class.OpClass.TheVariants.{Plain, With, Float, None}
 use Rattle.wm_decode.specs.declared.step.reading.Reading.{Reading}
 use Rattle.wm_decode.specs.declared.step.reading.Reading.TheVariants.{More, Done, Bad}
-use Rattle.wm_decode.specs.declared.step.ops.Opening.{Opening}
-use Rattle.wm_decode.specs.declared.step.ops.Opening.TheVariants as opening
-use Rattle.wm_decode.specs.declared.step.ops.Indexed.{Indexed}
-use Rattle.wm_decode.specs.declared.step.ops.Indexed.TheVariants as indexed
-use Rattle.wm_decode.specs.declared.step.ops.Sizing.{Sizing}
-use Rattle.wm_decode.specs.declared.step.ops.Sizing.TheVariants as sizing
-use Rattle.wm_decode.specs.declared.step.ops.LoadOrStore.{LoadOrStore}
-use Rattle.wm_decode.specs.declared.step.ops.LoadOrStore.TheVariants as accesses
 use Rattle.wm_decode.specs.declared.step.ops.InOp.{InOp}
 use Rattle.wm_decode.specs.declared.step.ops.InOp.TheVariants as at
 use Rattle.wm_decode.specs.exact.ValueSteps.{read_type, value_type_of}
 
--- ops by their immediates
-abbrev pub block_op : Opening → Option ValType → Op
-block_op opening.Block t = op.Block t
-block_op opening.Loop t = op.Loop t
-block_op opening.If t = op.If t
-
-abbrev pub index_op : Indexed → ℕ → Op
-index_op indexed.Br n = op.Simple (s.Br n)
-index_op indexed.BrIf n = op.Simple (s.BrIf n)
-index_op indexed.BrTable n = op.BrTable n
-index_op indexed.Call n = op.Simple (s.Call n)
-index_op indexed.LocalGet n = op.Simple (s.LocalGet n)
-index_op indexed.LocalSet n = op.Simple (s.LocalSet n)
-index_op indexed.LocalTee n = op.Simple (s.LocalTee n)
-index_op indexed.GlobalGet n = op.Simple (s.GlobalGet n)
-index_op indexed.GlobalSet n = op.Simple (s.GlobalSet n)
-
+-- the other ops by their immediates
 abbrev pub call_op : ℕ → Op
 call_op n = op.Simple (s.CallIndirect n)
-
-abbrev pub memory_op : Sizing → Op
-memory_op sizing.Size = op.Simple s.MemorySize
-memory_op sizing.Grow = op.Simple s.MemoryGrow
 
 abbrev pub const_32_op : ℤ → Op
 const_32_op z = op.Simple (s.I32Const z)
@@ -66,10 +40,6 @@ float_32_op n = op.Simple (s.F32Const n)
 
 abbrev pub float_64_op : ℕ → Op
 float_64_op n = op.Simple (s.F64Const n)
-
-abbrev pub access_op : LoadOrStore → MemArg → Op
-access_op (accesses.Load o) at = op.Simple (s.Load o at)
-access_op (accesses.Store o) at = op.Simple (s.Store o at)
 
 -- what follows an answer of a number's reader
 abbrev pub on_answer : {T A : Type 0} → Step T × Partial → (Partial → A) → (T → A) → A → A
@@ -85,27 +55,15 @@ abbrev pub fresh_access : LoadOrStore → InOp
 fresh_access a = at.Align a fresh
 
 abbrev pub immediates : Immediates → InOp
-immediates k.Block = at.BlockType opening.Block
-immediates k.Loop = at.BlockType opening.Loop
-immediates k.If = at.BlockType opening.If
-immediates k.Br = fresh_index indexed.Br
-immediates k.BrIf = fresh_index indexed.BrIf
-immediates k.BrTable = fresh_index indexed.BrTable
-immediates k.Call = fresh_index indexed.Call
+immediates (k.Block o) = at.BlockType o
+immediates (k.Index i) = fresh_index i
 immediates k.CallIndirect = at.CallType fresh
-immediates k.LocalGet = fresh_index indexed.LocalGet
-immediates k.LocalSet = fresh_index indexed.LocalSet
-immediates k.LocalTee = fresh_index indexed.LocalTee
-immediates k.GlobalGet = fresh_index indexed.GlobalGet
-immediates k.GlobalSet = fresh_index indexed.GlobalSet
-immediates k.MemorySize = at.Memory sizing.Size
-immediates k.MemoryGrow = at.Memory sizing.Grow
+immediates (k.Memory m) = at.Memory m
 immediates k.I32Const = at.Const32 fresh
 immediates k.I64Const = at.Const64 fresh
 immediates k.F32Const = at.Float32 3 0
 immediates k.F64Const = at.Float64 7 0
-immediates (k.Load o) = fresh_access (accesses.Load o)
-immediates (k.Store o) = fresh_access (accesses.Store o)
+immediates (k.Access a) = fresh_access a
 
 -- the first byte, by its class
 abbrev pub first_step : OpClass → Reading InOp Op

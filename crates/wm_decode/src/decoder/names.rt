@@ -82,21 +82,21 @@ pub(crate) fn give_empty<S: Sink>(sink: &mut S, kind: NameKind) -> Result<(), Wh
     }
 }
 
-// Gives an item that holds no bytes
-pub(crate) fn give_plain<S: Sink>(sink: &mut S, part: Plain) -> Result<(), Why>
-    ensures given { Taken (S.after (S.held sink.old) (plain_item part)) result (S.held sink.new) }
-    ensures room { IfErr result (λ w. w ≡ Memory → S.may_run_out (S.held sink.old) (plain_item part)) }
-{
-    sink.take(part.item())
-}
-
-// The same in place, for those of which it is known which they are
+// Gives an item that holds no bytes, in place: for those of which it is known which they are
 #[inline(always)]
 pub(crate) fn give<S: Sink>(sink: &mut S, part: Plain) -> Result<(), Why>
     ensures given { Taken (S.after (S.held sink.old) (plain_item part)) result (S.held sink.new) }
     ensures room { IfErr result (λ w. w ≡ Memory → S.may_run_out (S.held sink.old) (plain_item part)) }
 {
     sink.take(part.item())
+}
+
+// The same by a call, for those that may be any
+pub(crate) fn give_plain<S: Sink>(sink: &mut S, part: Plain) -> Result<(), Why>
+    ensures given { Taken (S.after (S.held sink.old) (plain_item part)) result (S.held sink.new) }
+    ensures room { IfErr result (λ w. w ≡ Memory → S.may_run_out (S.held sink.old) (plain_item part)) }
+{
+    give(sink, part)
 }
 
 // Gives an item that holds no bytes, if there is one

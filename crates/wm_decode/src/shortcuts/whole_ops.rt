@@ -4,19 +4,20 @@
 
 ghost use Rattle.std.specs.Prelude.{◌≡◌, ◌+◌, ◌<◌, ◌≤◌, ◌^◌, ℕ, IfSome, Some, length, slice_index};
 ghost use Rattle.wm_syntax.specs.exact.ByteTable.{class_under};
+ghost use Rattle.wm_syntax.specs.exact.OpGroups.{index_op};
 ghost use Rattle.wm_syntax.specs.exact.Reading.{fresh};
 ghost use Rattle.wm_decode.specs.declared.step.reading.Reading.TheVariants.{More, Done};
 ghost use Rattle.wm_decode.specs.declared.step.ops.InOp.TheVariants.{BlockType, Const32, Const64};
-ghost use Rattle.wm_decode.specs.exact.OpSteps.{fresh_access, fresh_index, immediates, index_op};
+ghost use Rattle.wm_decode.specs.exact.OpSteps.{fresh_access, fresh_index};
 ghost use Rattle.wm_decode.specs.exact.ExpressionSteps.{after_op, at_next_op};
 ghost use Rattle.wm_decode.specs.exact.WholeOps.{GaveAs, OpUnder, RanTo, TookAs, WholeOp, first_read};
 
 use crate::item::Item;
 use crate::shortcuts::whole_numbers::{s32_at, s64_at, u32_at};
 use crate::sink::Sink;
-use crate::step::ops::{Indexed, LoadOrStore, Opening, push_32, push_64};
+use crate::step::ops::{push_32, push_64};
 use wm_syntax::instructions::IntType::{I32, I64};
-use wm_syntax::instructions::op_class::{Immediates, OpClass};
+use wm_syntax::instructions::op_class::{Immediates, Indexed, LoadOrStore, OpClass, Opening};
 use wm_syntax::instructions::opcodes::op_of;
 use wm_syntax::instructions::{
     BinaryOp, Comparison, IntType, LoadOp, MemArg, Numeric, Op, Simple, StoreOp, UnaryOp,
@@ -368,17 +369,9 @@ fn plain(profile: Profile, bytes: &[u8], at: usize, depth: u32, op: Simple) -> O
 }
 
 // A load or a store
-fn access(
-    profile: Profile,
-    bytes: &[u8],
-    at: usize,
-    depth: u32,
-    kind: Immediates,
-    op: LoadOrStore,
-) -> Option<Read>
+fn access(profile: Profile, bytes: &[u8], at: usize, depth: u32, op: LoadOrStore) -> Option<Read>
     requires within { at + 1 < length bytes.now }
-    requires class { class_under profile (slice_index bytes.now at) ≡ OpClass.With kind }
-    requires kind { immediates kind ≡ fresh_access op }
+    requires class { class_under profile (slice_index bytes.now at) ≡ OpClass.With (Immediates.Access op) }
     ensures { IfSome result (λ r. OpUnder profile bytes.now at r.next depth r.depth r.op) }
 {
     let align = u32_at(bytes, at + 1)?;
@@ -454,8 +447,7 @@ fn with_kind(
     match kind {
         Immediates::F32Const => float_32(profile, bytes, at, depth),
         Immediates::F64Const => float_64(profile, bytes, at, depth),
-        Immediates::Load(op) => access(profile, bytes, at, depth, kind, LoadOrStore::Load(op)),
-        Immediates::Store(op) => access(profile, bytes, at, depth, kind, LoadOrStore::Store(op)),
+        Immediates::Access(op) => access(profile, bytes, at, depth, op),
         _ => None,
     }
 }

@@ -2,113 +2,20 @@
 
 ghost use Rattle.std.specs.Prelude.{◌≡◌};
 ghost use Rattle.wm_syntax.specs.exact.ByteTable.{class_under};
-ghost use Rattle.wm_decode.specs.exact.OpSteps.{access_op, align_step, block_op, block_step, call_type_step};
-ghost use Rattle.wm_decode.specs.exact.OpSteps.{closing_step, const_32_step, const_64_step, first_step};
-ghost use Rattle.wm_decode.specs.exact.OpSteps.{float_32_step, float_64_step, pushed_32, pushed_64};
-ghost use Rattle.wm_decode.specs.exact.OpSteps.{fresh_access, fresh_index, immediates, index_op};
-ghost use Rattle.wm_decode.specs.exact.OpSteps.{op_index_step, memory_op, offset_step, op_push};
+ghost use Rattle.wm_decode.specs.exact.OpSteps.{align_step, block_step, call_type_step, closing_step};
+ghost use Rattle.wm_decode.specs.exact.OpSteps.{const_32_step, const_64_step, first_step, float_32_step};
+ghost use Rattle.wm_decode.specs.exact.OpSteps.{float_64_step, immediates, offset_step, op_index_step};
+ghost use Rattle.wm_decode.specs.exact.OpSteps.{op_push, pushed_32, pushed_64};
 
 use crate::step::reading::Reading;
 use crate::step::values::value_type;
 use wm_syntax::instructions::op_class::{Immediates, OpClass};
+use wm_syntax::instructions::op_class::{Indexed, LoadOrStore, Opening, Sizing};
 use wm_syntax::instructions::opcodes::op_of;
-use wm_syntax::instructions::{LoadOp, MemArg, Op, Simple, StoreOp};
+use wm_syntax::instructions::{MemArg, Op, Simple};
 use wm_syntax::numbers::{Int32, Int64, Num32, Step};
 use wm_syntax::profile::Profile;
-use wm_syntax::types::ValType;
 use wm_syntax::why::Why;
-
-/// An op that opens a list of instructions.
-#[derive(Clone, Copy)]
-pub(crate) enum Opening {
-    Block,
-    Loop,
-    If,
-}
-
-impl Opening {
-    #[inline(always)]
-    pub(crate) fn op(self, ty: Option<ValType>) -> Op
-        ensures { result ≡ block_op self ty }
-    {
-        match self {
-            Opening::Block => Op::Block(ty),
-            Opening::Loop => Op::Loop(ty),
-            Opening::If => Op::If(ty),
-        }
-    }
-}
-
-/// An op whose only immediate is an index, or how many labels follow it.
-#[derive(Clone, Copy)]
-pub(crate) enum Indexed {
-    Br,
-    BrIf,
-    BrTable,
-    Call,
-    LocalGet,
-    LocalSet,
-    LocalTee,
-    GlobalGet,
-    GlobalSet,
-}
-
-impl Indexed {
-    #[inline(always)]
-    pub(crate) fn op(self, index: u32) -> Op
-        ensures { result ≡ index_op self index }
-    {
-        match self {
-            Indexed::Br => Op::Simple(Simple::Br(index)),
-            Indexed::BrIf => Op::Simple(Simple::BrIf(index)),
-            Indexed::BrTable => Op::BrTable(index),
-            Indexed::Call => Op::Simple(Simple::Call(index)),
-            Indexed::LocalGet => Op::Simple(Simple::LocalGet(index)),
-            Indexed::LocalSet => Op::Simple(Simple::LocalSet(index)),
-            Indexed::LocalTee => Op::Simple(Simple::LocalTee(index)),
-            Indexed::GlobalGet => Op::Simple(Simple::GlobalGet(index)),
-            Indexed::GlobalSet => Op::Simple(Simple::GlobalSet(index)),
-        }
-    }
-}
-
-/// An op on the size of the memory.
-#[derive(Clone, Copy)]
-pub(crate) enum Sizing {
-    Size,
-    Grow,
-}
-
-impl Sizing {
-    #[inline(always)]
-    pub(crate) fn op(self) -> Op
-        ensures { result ≡ memory_op self }
-    {
-        match self {
-            Sizing::Size => Op::Simple(Simple::MemorySize),
-            Sizing::Grow => Op::Simple(Simple::MemoryGrow),
-        }
-    }
-}
-
-/// An op that reads or writes the memory.
-#[derive(Clone, Copy)]
-pub(crate) enum LoadOrStore {
-    Load(LoadOp),
-    Store(StoreOp),
-}
-
-impl LoadOrStore {
-    #[inline(always)]
-    pub(crate) fn op(self, at: MemArg) -> Op
-        ensures { result ≡ access_op self at }
-    {
-        match self {
-            LoadOrStore::Load(op) => Op::Simple(Simple::Load(op, at)),
-            LoadOrStore::Store(op) => Op::Simple(Simple::Store(op, at)),
-        }
-    }
-}
 
 /// Where in an op the next byte stands.
 #[derive(Clone, Copy)]
@@ -150,46 +57,26 @@ pub(crate) enum InOp {
     },
 }
 
-fn before_index(op: Indexed) -> InOp
-    ensures { result ≡ fresh_index op }
-{
-    let number = Num32::new();
-    InOp::Index { op, number }
-}
-
-fn before_access(op: LoadOrStore) -> InOp
-    ensures { result ≡ fresh_access op }
-{
-    let number = Num32::new();
-    InOp::Align { op, number }
-}
-
 // Where the immediates of an op begin
 fn immediates(kind: Immediates) -> InOp
     ensures { result ≡ immediates kind }
 {
     match kind {
-        Immediates::Block => InOp::BlockType(Opening::Block),
-        Immediates::Loop => InOp::BlockType(Opening::Loop),
-        Immediates::If => InOp::BlockType(Opening::If),
-        Immediates::Br => before_index(Indexed::Br),
-        Immediates::BrIf => before_index(Indexed::BrIf),
-        Immediates::BrTable => before_index(Indexed::BrTable),
-        Immediates::Call => before_index(Indexed::Call),
+        Immediates::Block(op) => InOp::BlockType(op),
+        Immediates::Index(op) => InOp::Index {
+            op,
+            number: Num32::new(),
+        },
         Immediates::CallIndirect => InOp::CallType(Num32::new()),
-        Immediates::LocalGet => before_index(Indexed::LocalGet),
-        Immediates::LocalSet => before_index(Indexed::LocalSet),
-        Immediates::LocalTee => before_index(Indexed::LocalTee),
-        Immediates::GlobalGet => before_index(Indexed::GlobalGet),
-        Immediates::GlobalSet => before_index(Indexed::GlobalSet),
-        Immediates::MemorySize => InOp::Memory(Sizing::Size),
-        Immediates::MemoryGrow => InOp::Memory(Sizing::Grow),
+        Immediates::Memory(op) => InOp::Memory(op),
         Immediates::I32Const => InOp::Const32(Int32::new()),
         Immediates::I64Const => InOp::Const64(Int64::new()),
         Immediates::F32Const => InOp::Float32 { left: 3, bits: 0 },
         Immediates::F64Const => InOp::Float64 { left: 7, bits: 0 },
-        Immediates::Load(op) => before_access(LoadOrStore::Load(op)),
-        Immediates::Store(op) => before_access(LoadOrStore::Store(op)),
+        Immediates::Access(op) => InOp::Align {
+            op,
+            number: Num32::new(),
+        },
     }
 }
 

@@ -10,6 +10,7 @@ use Rattle.wm_syntax.specs.declared.modules.ImportDesc.{ImportDesc}
 use Rattle.wm_syntax.specs.declared.modules.ImportDesc.TheVariants as desc
 use Rattle.wm_syntax.specs.declared.modules.ExportKind.{ExportKind}
 use Rattle.wm_syntax.specs.declared.modules.ExportKind.TheVariants as kind
+use Rattle.wm_syntax.specs.declared.instructions.op_class.Indexed.TheVariants as indexed
 use Rattle.wm_syntax.specs.declared.instructions.op_class.Immediates.{Immediates}
 use Rattle.wm_syntax.specs.declared.instructions.op_class.Immediates.TheVariants as k
 use Rattle.wm_syntax.specs.declared.instructions.op_class.OpClass.{OpClass}
@@ -90,7 +91,7 @@ const_kind names k.I32Const t = made const.I32 (atom_at (integer_of 32) t)
 const_kind names k.I64Const t = made const.I64 (atom_at (integer_of 64) t)
 const_kind names k.F32Const t = made const.F32 (atom_at (float_of float.F32) t)
 const_kind names k.F64Const t = made const.F64 (atom_at (float_of float.F64) t)
-const_kind names k.GlobalGet t = made const.Global (atom_at (index_of names.globals) t)
+const_kind names (k.Index indexed.GlobalGet) t = made const.Global (atom_at (index_of names.globals) t)
 const_kind names _ t = None
 
 abbrev pub const_class : Names → OpClass → Reader Const

@@ -11,6 +11,11 @@ use Rattle.wm_syntax.specs.declared.instructions.Simple.{Simple}
 use Rattle.wm_syntax.specs.declared.instructions.Simple.TheVariants as s
 use Rattle.wm_syntax.specs.declared.instructions.Op.{Op}
 use Rattle.wm_syntax.specs.declared.instructions.Op.TheVariants as op
+use Rattle.wm_syntax.specs.declared.instructions.op_class.Opening.{Opening}
+use Rattle.wm_syntax.specs.declared.instructions.op_class.Indexed.{Indexed}
+use Rattle.wm_syntax.specs.declared.instructions.op_class.Indexed.TheVariants as indexed
+use Rattle.wm_syntax.specs.declared.instructions.op_class.Sizing.TheVariants as sizing
+use Rattle.wm_syntax.specs.declared.instructions.op_class.LoadOrStore.TheVariants as accesses
 use Rattle.wm_syntax.specs.declared.instructions.op_class.Immediates.{Immediates}
 use Rattle.wm_syntax.specs.declared.instructions.op_class.Immediates.TheVariants as k
 use Rattle.wm_syntax.specs.declared.instructions.op_class.OpClass.{OpClass}
@@ -21,8 +26,6 @@ use Rattle.wm_syntax.specs.Opcodes.{load, store}
 use Rattle.wm_syntax.specs.Profiles.{has, type_feature}
 use Rattle.wm_read.specs.Tokens.{Token, open_paren, close_paren, atom, is_lower}
 use Rattle.wm_read.specs.exact.Scan.{magnitude_of, is_nil}
-use Rattle.wm_read.specs.declared.code.blocks.Opening.{Opening}
-use Rattle.wm_read.specs.declared.code.blocks.Opening.TheVariants.{Block, Loop, If}
 use Rattle.wm_read.specs.Identifiers.{Id, Ids}
 use Rattle.wm_read.specs.Written.{Scope, type_text}
 use Rattle.wm_read.specs.inner.Pieces.{Opened, labels, Piece, plain, jump, opens, middle, closes, after}
@@ -221,30 +224,32 @@ simple_at f r k = made (λ x. plain (f x)) (r k)
 abbrev pub opens_at : Profile → Opening → Reader Piece
 opens_at p o k = made (λ x. opens o x.0 x.1) (then_at id_at (block_type_at p) k)
 
+-- what follows the word of an instruction with an index, or of a br_table
+abbrev pub indexed_at : Scope → Opened → Indexed → Reader Piece
+indexed_at sc bs indexed.Br = simple_at s.Br (atom_at (index_of (labels bs)))
+indexed_at sc bs indexed.BrIf = simple_at s.BrIf (atom_at (index_of (labels bs)))
+indexed_at sc bs indexed.BrTable = table_at (labels bs)
+indexed_at sc bs indexed.Call = simple_at s.Call (atom_at (index_of sc.names.functions))
+indexed_at sc bs indexed.LocalGet = simple_at s.LocalGet (atom_at (index_of sc.locals))
+indexed_at sc bs indexed.LocalSet = simple_at s.LocalSet (atom_at (index_of sc.locals))
+indexed_at sc bs indexed.LocalTee = simple_at s.LocalTee (atom_at (index_of sc.locals))
+indexed_at sc bs indexed.GlobalGet = simple_at s.GlobalGet (atom_at (index_of sc.names.globals))
+indexed_at sc bs indexed.GlobalSet = simple_at s.GlobalSet (atom_at (index_of sc.names.globals))
+
 -- how a type use is read, by the layer of types
 module _ (use_at : Reader ℕ) where
   abbrev pub kind_at : Profile → Scope → Opened → Immediates → Reader Piece
-  kind_at p sc bs k.Block = opens_at p Block
-  kind_at p sc bs k.Loop = opens_at p Loop
-  kind_at p sc bs k.If = opens_at p If
-  kind_at p sc bs k.Br = simple_at s.Br (atom_at (index_of (labels bs)))
-  kind_at p sc bs k.BrIf = simple_at s.BrIf (atom_at (index_of (labels bs)))
-  kind_at p sc bs k.BrTable = table_at (labels bs)
-  kind_at p sc bs k.Call = simple_at s.Call (atom_at (index_of sc.names.functions))
+  kind_at p sc bs (k.Block o) = opens_at p o
+  kind_at p sc bs (k.Index i) = indexed_at sc bs i
   kind_at p sc bs k.CallIndirect = simple_at s.CallIndirect use_at
-  kind_at p sc bs k.LocalGet = simple_at s.LocalGet (atom_at (index_of sc.locals))
-  kind_at p sc bs k.LocalSet = simple_at s.LocalSet (atom_at (index_of sc.locals))
-  kind_at p sc bs k.LocalTee = simple_at s.LocalTee (atom_at (index_of sc.locals))
-  kind_at p sc bs k.GlobalGet = simple_at s.GlobalGet (atom_at (index_of sc.names.globals))
-  kind_at p sc bs k.GlobalSet = simple_at s.GlobalSet (atom_at (index_of sc.names.globals))
-  kind_at p sc bs k.MemorySize = λ k. Some (plain s.MemorySize, k)
-  kind_at p sc bs k.MemoryGrow = λ k. Some (plain s.MemoryGrow, k)
+  kind_at p sc bs (k.Memory sizing.Size) = λ k. Some (plain s.MemorySize, k)
+  kind_at p sc bs (k.Memory sizing.Grow) = λ k. Some (plain s.MemoryGrow, k)
   kind_at p sc bs k.I32Const = simple_at s.I32Const (atom_at (integer_of 32))
   kind_at p sc bs k.I64Const = simple_at s.I64Const (atom_at (integer_of 64))
   kind_at p sc bs k.F32Const = simple_at s.F32Const (atom_at (float_of float.F32))
   kind_at p sc bs k.F64Const = simple_at s.F64Const (atom_at (float_of float.F64))
-  kind_at p sc bs (k.Load o) = simple_at (s.Load o) (access_at (load o).width)
-  kind_at p sc bs (k.Store o) = simple_at (s.Store o) (access_at (store o).width)
+  kind_at p sc bs (k.Access (accesses.Load o)) = simple_at (s.Load o) (access_at (load o).width)
+  kind_at p sc bs (k.Access (accesses.Store o)) = simple_at (s.Store o) (access_at (store o).width)
 
   abbrev pub class_at : Profile → Scope → Opened → OpClass → Reader Piece
   class_at p sc bs (class.Plain (op.Simple i)) = λ k. Some (plain i, k)

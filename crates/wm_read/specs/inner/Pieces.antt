@@ -9,8 +9,11 @@ use Rattle.wm_syntax.specs.declared.instructions.Op.TheVariants as op
 use Rattle.wm_syntax.specs.declared.profile.Profile.{Profile}
 use Rattle.wm_syntax.specs.Profiles.{HasBlockType, HasSimple}
 use Rattle.wm_read.specs.Tokens.{Token}
-use Rattle.wm_read.specs.declared.code.blocks.Opening.{Opening}
-use Rattle.wm_read.specs.declared.code.blocks.Opening.TheVariants.{Block, Loop, If}
+use Rattle.wm_syntax.specs.exact.NameTable.{immediates_name}
+use Rattle.wm_syntax.specs.exact.OpGroups.{block_op}
+use Rattle.wm_syntax.specs.declared.instructions.op_class.Opening.{Opening}
+use Rattle.wm_syntax.specs.declared.instructions.op_class.Opening.TheVariants.{Block, Loop, If}
+use Rattle.wm_syntax.specs.declared.instructions.op_class.Immediates.TheVariants as k
 use Rattle.wm_read.specs.Identifiers.{Id, Ids}
 use Rattle.wm_read.specs.Written.{Scope, WritesSimple, WritesTable, Opens, Closes}
 
@@ -38,14 +41,7 @@ is_if Block = false
 is_if Loop = false
 
 abbrev pub opening_word : Opening → List ℕ
-opening_word Block = codes "block"
-opening_word Loop = codes "loop"
-opening_word If = codes "if"
-
-abbrev pub opening_op : Opening → Option ValType → Op
-opening_op Block t = op.Block t
-opening_op Loop t = op.Loop t
-opening_op If t = op.If t
+opening_word o = immediates_name (k.Block o)
 
 -- the blocks after a piece
 abbrev pub after : Opened → Piece → Opened
@@ -60,7 +56,7 @@ after (b ∷ bs) closes = bs
 abbrev pub piece_ops : Piece → List Op
 piece_ops (plain i) = op.Simple i ∷ []
 piece_ops (jump ls l) = op.BrTable (length ls) ∷ map op.Label ls ++ op.Label l ∷ []
-piece_ops (opens o id t) = opening_op o t ∷ []
+piece_ops (opens o id t) = block_op o t ∷ []
 piece_ops middle = op.Else ∷ []
 piece_ops closes = op.End ∷ []
 

@@ -10,14 +10,6 @@ use std::alloc::{AllocError, Global};
 use std::collections::BTreeMap;
 use std::marker::Model;
 
-/// What opens a block.
-#[derive(Clone, Copy, PartialEq, Eq, Debug)]
-pub enum Opening {
-    Block,
-    Loop,
-    If,
-}
-
 /// An open block: its identifier, and whether an `else` may still come.
 #[derive(Clone, Copy, Debug)]
 pub struct Block<'a> {

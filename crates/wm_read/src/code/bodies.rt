@@ -13,7 +13,7 @@ ghost use Rattle.wm_syntax.specs.inner.Building.{at, place_after};
 ghost use Rattle.wm_syntax.specs.Instructions.{Instructions};
 ghost use Rattle.wm_syntax.specs.declared.instructions.Op.TheVariants as Op;
 
-use crate::code::blocks::{OpenBlocks, Opening};
+use crate::code::blocks::OpenBlocks;
 use crate::code::operands::refuse;
 use crate::code::pieces::{Piece, read_piece};
 use crate::faults::{TextFault, TextWhy};
@@ -21,10 +21,10 @@ use crate::names::identifiers::Scope;
 use crate::tokens::lexeme::{Lexeme, next_token};
 use std::alloc::Global;
 use wm_syntax::instructions::Op;
+use wm_syntax::instructions::op_class::Opening;
 use wm_syntax::modules::body::Body;
 use wm_syntax::modules::body_builder::{BodyBuilder, BodyFault};
 use wm_syntax::profile::Profile;
-use wm_syntax::types::ValType;
 
 /// A body that is being read: its ops so far, and the blocks that are open.
 #[derive(Debug, Drop)]
@@ -77,17 +77,6 @@ fn push_table(builder: &mut BodyBuilder, labels: &[u32], default: u32) -> Result
     push(builder, Op::Label(default))
 }
 
-/// The op that opens a block of this type.
-fn opening_op(opening: Opening, ty: Option<ValType>) -> Op
-    ensures { result ≡ flat.opening_op opening ty }
-{
-    match opening {
-        Opening::Block => Op::Block(ty),
-        Opening::Loop => Op::Loop(ty),
-        Opening::If => Op::If(ty),
-    }
-}
-
 /// Whether an `else` may follow.
 fn is_if(opening: Opening) -> bool
     ensures { result ≡ flat.is_if opening }
@@ -108,7 +97,7 @@ fn add<'a>(body: &mut OpenBody<'a>, piece: Piece<'a>) -> Result<(), TextFault>
         Piece::Plain(simple) => push(&mut body.builder, Op::Simple(simple))?,
         Piece::Table(labels, default) => push_table(&mut body.builder, &labels, default)?,
         Piece::Opens(opening, id, ty) => {
-            push(&mut body.builder, opening_op(opening, ty))?;
+            push(&mut body.builder, opening.op(ty))?;
             body.blocks.open(id, is_if(opening))?;
         }
         Piece::Middle => {

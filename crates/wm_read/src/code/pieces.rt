@@ -5,7 +5,7 @@ ghost use Rattle.wm_floats.specs.exact.Atoms as atoms;
 ghost use Rattle.wm_read.specs.exact.Scan.{lexed};
 ghost use Rattle.wm_read.specs.inner.Blocks.{names_of, scope_of};
 ghost use Rattle.wm_read.specs.exact.TypeUses.{call_use_at};
-ghost use Rattle.wm_read.specs.inner.CodePieces.{FitsPiece, piece_of, HasOperand};
+ghost use Rattle.wm_read.specs.inner.CodePieces.{FitsPiece, piece_of};
 ghost use Rattle.wm_read.specs.inner.Pieces as flat;
 ghost use Rattle.wm_read.specs.exact.Reading as reading;
 ghost use Rattle.wm_read.specs.inner.Views.{Reads};
@@ -13,7 +13,7 @@ ghost use Rattle.wm_syntax.specs.Opcodes as table;
 ghost use Rattle.wm_syntax.specs.declared.instructions.FloatType.TheVariants as float;
 ghost use Rattle.wm_syntax.specs.declared.instructions.Simple.TheVariants as Simple;
 
-use crate::code::blocks::{OpenBlocks, Opening};
+use crate::code::blocks::OpenBlocks;
 use crate::code::named_uses::call_fault;
 use crate::code::operands::{
     access, again, begins_index, block_type, float_32, float_64, id, index, integer_32, integer_64,
@@ -26,6 +26,7 @@ use crate::tokens::lexeme::{Lexeme, next_token};
 use std::alloc::Global;
 use wm_syntax::instructions::accesses::{loaded, stored};
 use wm_syntax::instructions::op_class::{Immediates, OpClass};
+use wm_syntax::instructions::op_class::{Indexed, LoadOrStore, Opening, Sizing};
 use wm_syntax::instructions::op_names::op_named;
 use wm_syntax::instructions::{LoadOp, Op, Simple, StoreOp};
 use wm_syntax::profile::Profile;
@@ -150,68 +151,53 @@ fn closes<'a>(
     }
 }
 
-/// What follows the word of an instruction with one operand.
-fn operand<'a>(
-    profile: Profile,
+/// What follows the word of an instruction with an index, or of a br_table.
+fn indexed<'a>(
+    alloc: Global,
     scope: &Scope,
     blocks: &OpenBlocks,
-    kind: Immediates,
+    op: Indexed,
     text: &'a [u8],
 ) -> Result<(Piece<'a>, &'a [u8]), TextFault>
-    requires { HasOperand kind }
     ensures fits { IfOk result (λ x. FitsPiece (piece_of x.0)) }
     ensures read { Reads (λ x. (piece_of x.0, lexed x.1.now)) result
-        (reading.kind_at (call_use_at profile (names_of scope.now.names.now)) profile (scope_of scope.now)
-        blocks.now kind (lexed text.now)) }
+        (reading.indexed_at (scope_of scope.now) blocks.now op (lexed text.now)) }
 {
-    let (simple, rest) = match kind {
-        Immediates::Br => {
+    match op {
+        Indexed::Br => {
             let (l, rest) = label(blocks, text)?;
-            (Simple::Br(l), rest)
+            Ok((Piece::Plain(Simple::Br(l)), rest))
         }
-        Immediates::BrIf => {
+        Indexed::BrIf => {
             let (l, rest) = label(blocks, text)?;
-            (Simple::BrIf(l), rest)
+            Ok((Piece::Plain(Simple::BrIf(l)), rest))
         }
-        Immediates::Call => {
+        Indexed::BrTable => table(alloc, blocks, text),
+        Indexed::Call => {
             let (x, rest) = index(&scope.names.functions, text)?;
-            (Simple::Call(x), rest)
+            Ok((Piece::Plain(Simple::Call(x)), rest))
         }
-        Immediates::LocalGet => {
+        Indexed::LocalGet => {
             let (x, rest) = index(&scope.locals, text)?;
-            (Simple::LocalGet(x), rest)
+            Ok((Piece::Plain(Simple::LocalGet(x)), rest))
         }
-        Immediates::LocalSet => {
+        Indexed::LocalSet => {
             let (x, rest) = index(&scope.locals, text)?;
-            (Simple::LocalSet(x), rest)
+            Ok((Piece::Plain(Simple::LocalSet(x)), rest))
         }
-        Immediates::LocalTee => {
+        Indexed::LocalTee => {
             let (x, rest) = index(&scope.locals, text)?;
-            (Simple::LocalTee(x), rest)
+            Ok((Piece::Plain(Simple::LocalTee(x)), rest))
         }
-        Immediates::GlobalGet => {
+        Indexed::GlobalGet => {
             let (x, rest) = index(&scope.names.globals, text)?;
-            (Simple::GlobalGet(x), rest)
+            Ok((Piece::Plain(Simple::GlobalGet(x)), rest))
         }
-        Immediates::GlobalSet => {
+        Indexed::GlobalSet => {
             let (x, rest) = index(&scope.names.globals, text)?;
-            (Simple::GlobalSet(x), rest)
+            Ok((Piece::Plain(Simple::GlobalSet(x)), rest))
         }
-        Immediates::MemorySize => (Simple::MemorySize, text),
-        Immediates::MemoryGrow => (Simple::MemoryGrow, text),
-        Immediates::I32Const => {
-            let (n, rest) = integer_32(text)?;
-            (Simple::I32Const(n), rest)
-        }
-        Immediates::I64Const => {
-            let (n, rest) = integer_64(text)?;
-            (Simple::I64Const(n), rest)
-        }
-        Immediates::Load(op) => load(op, text)?,
-        Immediates::Store(op) => store(op, text)?,
-        _ => return Err(refuse(TextWhy::UnknownWord, text)),
-    };
-    Ok((Piece::Plain(simple), rest))
+    }
 }
 
 /// What follows the word of an f32.const.
@@ -251,6 +237,47 @@ fn indirect<'a>(
     }
 }
 
+/// What follows the word of an instruction with immediates.
+fn operand<'a>(
+    alloc: Global,
+    profile: Profile,
+    scope: &Scope,
+    blocks: &OpenBlocks,
+    kind: Immediates,
+    text: &'a [u8],
+) -> Result<(Piece<'a>, &'a [u8]), TextFault>
+    ensures fits { IfOk result (λ x. FitsPiece (piece_of x.0)) }
+    ensures read { Reads (λ x. (piece_of x.0, lexed x.1.now)) result
+        (reading.kind_at (call_use_at profile (names_of scope.now.names.now)) profile (scope_of scope.now)
+        blocks.now kind (lexed text.now)) }
+{
+    match kind {
+        Immediates::Block(opening) => opens(profile, opening, text),
+        Immediates::Index(op) => indexed(alloc, scope, blocks, op, text),
+        Immediates::CallIndirect => indirect(alloc, profile, scope.names, text),
+        Immediates::Memory(Sizing::Size) => Ok((Piece::Plain(Simple::MemorySize), text)),
+        Immediates::Memory(Sizing::Grow) => Ok((Piece::Plain(Simple::MemoryGrow), text)),
+        Immediates::I32Const => {
+            let (n, rest) = integer_32(text)?;
+            Ok((Piece::Plain(Simple::I32Const(n)), rest))
+        }
+        Immediates::I64Const => {
+            let (n, rest) = integer_64(text)?;
+            Ok((Piece::Plain(Simple::I64Const(n)), rest))
+        }
+        Immediates::F32Const => constant_f32(alloc, text),
+        Immediates::F64Const => constant_f64(alloc, text),
+        Immediates::Access(LoadOrStore::Load(op)) => {
+            let (simple, rest) = load(op, text)?;
+            Ok((Piece::Plain(simple), rest))
+        }
+        Immediates::Access(LoadOrStore::Store(op)) => {
+            let (simple, rest) = store(op, text)?;
+            Ok((Piece::Plain(simple), rest))
+        }
+    }
+}
+
 /// The piece that begins with this word, which stands first in `here`, before `text`.
 #[tactic(auto, unfolding(crate::specs::exact::Reading::piece_at))]
 pub fn read_piece<'a>(
@@ -272,14 +299,7 @@ pub fn read_piece<'a>(
         OpClass::Plain(Op::Else) => middle(blocks, here, text),
         OpClass::Plain(Op::End) => closes(blocks, here, text),
         OpClass::Plain(_) => Err(refuse(TextWhy::UnknownWord, here)),
-        OpClass::With(Immediates::Block) => opens(profile, Opening::Block, text),
-        OpClass::With(Immediates::Loop) => opens(profile, Opening::Loop, text),
-        OpClass::With(Immediates::If) => opens(profile, Opening::If, text),
-        OpClass::With(Immediates::BrTable) => table(alloc, blocks, text),
-        OpClass::With(Immediates::CallIndirect) => indirect(alloc, profile, scope.names, text),
-        OpClass::With(Immediates::F32Const) => constant_f32(alloc, text),
-        OpClass::With(Immediates::F64Const) => constant_f64(alloc, text),
-        OpClass::With(kind) => operand(profile, scope, blocks, kind, text),
+        OpClass::With(kind) => operand(alloc, profile, scope, blocks, kind, text),
         OpClass::Float => Err(refuse(TextWhy::Float, here)),
         OpClass::None => Err(no_instruction(profile, word, here)),
     }

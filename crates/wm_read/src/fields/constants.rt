@@ -15,7 +15,7 @@ use crate::names::identifiers::Names;
 use crate::tokens::lexeme::{Lexeme, next_token};
 use std::alloc::Global;
 use wm_syntax::instructions::Op;
-use wm_syntax::instructions::op_class::{Immediates, OpClass};
+use wm_syntax::instructions::op_class::{Immediates, Indexed, OpClass};
 use wm_syntax::instructions::op_names::op_named;
 use wm_syntax::profile::Profile;
 use wm_syntax::types::Const;
@@ -44,26 +44,29 @@ pub fn constant<'a>(
 {
     match next_token(text) {
         Some((Lexeme::Atom(atom), rest)) => match op_named(profile, atom) {
-            OpClass::With(Immediates::I32Const) => {
-                let (n, rest) = integer_32(rest)?;
-                Ok((Const::I32(n), rest))
-            }
-            OpClass::With(Immediates::I64Const) => {
-                let (n, rest) = integer_64(rest)?;
-                Ok((Const::I64(n), rest))
-            }
-            OpClass::With(Immediates::F32Const) => {
-                let (bits, rest) = float_32(alloc, rest)?;
-                Ok((Const::F32(bits), rest))
-            }
-            OpClass::With(Immediates::F64Const) => {
-                let (bits, rest) = float_64(alloc, rest)?;
-                Ok((Const::F64(bits), rest))
-            }
-            OpClass::With(Immediates::GlobalGet) => {
-                let (x, rest) = index(&names.globals, rest)?;
-                Ok((Const::Global(x), rest))
-            }
+            OpClass::With(kind) => match kind {
+                Immediates::I32Const => {
+                    let (n, rest) = integer_32(rest)?;
+                    Ok((Const::I32(n), rest))
+                }
+                Immediates::I64Const => {
+                    let (n, rest) = integer_64(rest)?;
+                    Ok((Const::I64(n), rest))
+                }
+                Immediates::F32Const => {
+                    let (bits, rest) = float_32(alloc, rest)?;
+                    Ok((Const::F32(bits), rest))
+                }
+                Immediates::F64Const => {
+                    let (bits, rest) = float_64(alloc, rest)?;
+                    Ok((Const::F64(bits), rest))
+                }
+                Immediates::Index(Indexed::GlobalGet) => {
+                    let (x, rest) = index(&names.globals, rest)?;
+                    Ok((Const::Global(x), rest))
+                }
+                _ => Err(no_constant(profile, atom, text)),
+            },
             _ => Err(no_constant(profile, atom, text)),
         },
         _ => Err(refuse(TextWhy::Expected, text)),

@@ -30,6 +30,11 @@ use Rattle.wm_syntax.specs.declared.instructions.StoreOp.TheVariants.{I32Store8,
 use Rattle.wm_syntax.specs.declared.instructions.StoreOp.TheVariants.{I64Store16, I64Store32}
 use Rattle.wm_syntax.specs.declared.instructions.Simple.TheVariants as s
 use Rattle.wm_syntax.specs.declared.instructions.Op.TheVariants as op
+use Rattle.wm_syntax.specs.declared.instructions.op_class.Opening.TheVariants as opening
+use Rattle.wm_syntax.specs.declared.instructions.op_class.Indexed.TheVariants as indexed
+use Rattle.wm_syntax.specs.declared.instructions.op_class.Sizing.TheVariants as sizing
+use Rattle.wm_syntax.specs.declared.instructions.op_class.LoadOrStore.{LoadOrStore}
+use Rattle.wm_syntax.specs.declared.instructions.op_class.LoadOrStore.TheVariants as accesses
 use Rattle.wm_syntax.specs.declared.instructions.op_class.Immediates.TheVariants as k
 use Rattle.wm_syntax.specs.declared.instructions.op_class.OpClass.{OpClass}
 use Rattle.wm_syntax.specs.declared.instructions.op_class.OpClass.TheVariants.{Plain, With, Float, None}
@@ -43,9 +48,9 @@ abbrev pub classes : List OpClass
 classes =
     Plain (op.Simple s.Unreachable) ∷
     Plain (op.Simple s.Nop) ∷
-    With k.Block ∷
-    With k.Loop ∷
-    With k.If ∷
+    With (k.Block opening.Block) ∷
+    With (k.Block opening.Loop) ∷
+    With (k.Block opening.If) ∷
     Plain op.Else ∷
     None ∷
     None ∷
@@ -53,11 +58,11 @@ classes =
     None ∷
     None ∷
     Plain op.End ∷
-    With k.Br ∷
-    With k.BrIf ∷
-    With k.BrTable ∷
+    With (k.Index indexed.Br) ∷
+    With (k.Index indexed.BrIf) ∷
+    With (k.Index indexed.BrTable) ∷
     Plain (op.Simple s.Return) ∷
-    With k.Call ∷
+    With (k.Index indexed.Call) ∷
     With k.CallIndirect ∷
     None ∷
     None ∷
@@ -73,39 +78,39 @@ classes =
     None ∷
     None ∷
     None ∷
-    With k.LocalGet ∷
-    With k.LocalSet ∷
-    With k.LocalTee ∷
-    With k.GlobalGet ∷
-    With k.GlobalSet ∷
+    With (k.Index indexed.LocalGet) ∷
+    With (k.Index indexed.LocalSet) ∷
+    With (k.Index indexed.LocalTee) ∷
+    With (k.Index indexed.GlobalGet) ∷
+    With (k.Index indexed.GlobalSet) ∷
     None ∷
     None ∷
     None ∷
-    With (k.Load I32Load) ∷
-    With (k.Load I64Load) ∷
-    With (k.Load F32Load) ∷
-    With (k.Load F64Load) ∷
-    With (k.Load I32Load8S) ∷
-    With (k.Load I32Load8U) ∷
-    With (k.Load I32Load16S) ∷
-    With (k.Load I32Load16U) ∷
-    With (k.Load I64Load8S) ∷
-    With (k.Load I64Load8U) ∷
-    With (k.Load I64Load16S) ∷
-    With (k.Load I64Load16U) ∷
-    With (k.Load I64Load32S) ∷
-    With (k.Load I64Load32U) ∷
-    With (k.Store I32Store) ∷
-    With (k.Store I64Store) ∷
-    With (k.Store F32Store) ∷
-    With (k.Store F64Store) ∷
-    With (k.Store I32Store8) ∷
-    With (k.Store I32Store16) ∷
-    With (k.Store I64Store8) ∷
-    With (k.Store I64Store16) ∷
-    With (k.Store I64Store32) ∷
-    With k.MemorySize ∷
-    With k.MemoryGrow ∷
+    With (k.Access (accesses.Load I32Load)) ∷
+    With (k.Access (accesses.Load I64Load)) ∷
+    With (k.Access (accesses.Load F32Load)) ∷
+    With (k.Access (accesses.Load F64Load)) ∷
+    With (k.Access (accesses.Load I32Load8S)) ∷
+    With (k.Access (accesses.Load I32Load8U)) ∷
+    With (k.Access (accesses.Load I32Load16S)) ∷
+    With (k.Access (accesses.Load I32Load16U)) ∷
+    With (k.Access (accesses.Load I64Load8S)) ∷
+    With (k.Access (accesses.Load I64Load8U)) ∷
+    With (k.Access (accesses.Load I64Load16S)) ∷
+    With (k.Access (accesses.Load I64Load16U)) ∷
+    With (k.Access (accesses.Load I64Load32S)) ∷
+    With (k.Access (accesses.Load I64Load32U)) ∷
+    With (k.Access (accesses.Store I32Store)) ∷
+    With (k.Access (accesses.Store I64Store)) ∷
+    With (k.Access (accesses.Store F32Store)) ∷
+    With (k.Access (accesses.Store F64Store)) ∷
+    With (k.Access (accesses.Store I32Store8)) ∷
+    With (k.Access (accesses.Store I32Store16)) ∷
+    With (k.Access (accesses.Store I64Store8)) ∷
+    With (k.Access (accesses.Store I64Store16)) ∷
+    With (k.Access (accesses.Store I64Store32)) ∷
+    With (k.Memory sizing.Size) ∷
+    With (k.Memory sizing.Grow) ∷
     With k.I32Const ∷
     With k.I64Const ∷
     With k.F32Const ∷
@@ -299,15 +304,20 @@ classes =
     None ∷
     []
 
+-- the feature of a load or a store
+abbrev pub access_feature : LoadOrStore → Feature
+access_feature (accesses.Load F32Load) = Floats
+access_feature (accesses.Load F64Load) = Floats
+access_feature (accesses.Store F32Store) = Floats
+access_feature (accesses.Store F64Store) = Floats
+access_feature _ = Base
+
 -- the feature of the ops of a class
 abbrev pub class_feature : OpClass → Feature
 class_feature (Plain (op.Simple i)) = feature_of i
 class_feature (With k.F32Const) = Floats
 class_feature (With k.F64Const) = Floats
-class_feature (With (k.Load F32Load)) = Floats
-class_feature (With (k.Load F64Load)) = Floats
-class_feature (With (k.Store F32Store)) = Floats
-class_feature (With (k.Store F64Store)) = Floats
+class_feature (With (k.Access a)) = access_feature a
 class_feature _ = Base
 
 -- what is answered for the ops of a feature that the profile has not

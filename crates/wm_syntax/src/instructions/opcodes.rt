@@ -2,7 +2,8 @@
 
 ghost use Rattle.std.specs.Prelude.{◌≡◌, ◌↔◌, IsTrue, IsFalse, slice_get};
 ghost use Rattle.wm_syntax.specs.declared.instructions.Op.{Op};
-ghost use Rattle.wm_syntax.specs.exact.ByteTable.{class_feature, class_in, class_under, classes, left_out};
+ghost use Rattle.wm_syntax.specs.exact.ByteTable.{access_feature, class_feature, class_in, class_under};
+ghost use Rattle.wm_syntax.specs.exact.ByteTable.{classes, left_out};
 ghost use Rattle.wm_syntax.specs.Opcodes.{binary, comparison, conversion, float_binary, float_comparison};
 ghost use Rattle.wm_syntax.specs.Opcodes.{float_unary, load, numeric, opcode, store, unary};
 ghost use Rattle.wm_syntax.specs.OpClasses.{IsClassOfOp, class_of, first_byte, is_float};
@@ -17,7 +18,7 @@ use crate::instructions::Numeric::{
 };
 use crate::instructions::Simple::Numeric;
 use crate::instructions::op_class::OpClass::{Plain, With};
-use crate::instructions::op_class::{Immediates, OpClass};
+use crate::instructions::op_class::{Immediates, Indexed, LoadOrStore, OpClass, Opening, Sizing};
 use crate::instructions::{
     BinaryOp, Comparison, Conversion, FloatBinaryOp, FloatComparison, FloatUnaryOp, LoadOp,
     Numeric as NumericOp, Op, SignExtension, Simple, StoreOp, UnaryOp,
@@ -68,10 +69,20 @@ fn feature_of_class(class: OpClass) -> Feature
         Plain(Op::Simple(simple)) => feature_of_simple(simple),
         With(kind) => match kind {
             Immediates::F32Const | Immediates::F64Const => Feature::Floats,
-            Immediates::Load(LoadOp::F32Load | LoadOp::F64Load) => Feature::Floats,
-            Immediates::Store(StoreOp::F32Store | StoreOp::F64Store) => Feature::Floats,
+            Immediates::Access(op) => feature_of_access(op),
             _ => Feature::Base,
         },
+        _ => Feature::Base,
+    }
+}
+
+// What a load or a store belongs to.
+fn feature_of_access(op: LoadOrStore) -> Feature
+    ensures { result ≡ access_feature op }
+{
+    match op {
+        LoadOrStore::Load(LoadOp::F32Load | LoadOp::F64Load) => Feature::Floats,
+        LoadOrStore::Store(StoreOp::F32Store | StoreOp::F64Store) => Feature::Floats,
         _ => Feature::Base,
     }
 }
@@ -102,9 +113,9 @@ fn class_at(byte: u8) -> OpClass
     match byte {
         0x00 => Plain(Op::Simple(Simple::Unreachable)),
         0x01 => Plain(Op::Simple(Simple::Nop)),
-        0x02 => With(Immediates::Block),
-        0x03 => With(Immediates::Loop),
-        0x04 => With(Immediates::If),
+        0x02 => With(Immediates::Block(Opening::Block)),
+        0x03 => With(Immediates::Block(Opening::Loop)),
+        0x04 => With(Immediates::Block(Opening::If)),
         0x05 => Plain(Op::Else),
         0x06 => OpClass::None,
         0x07 => OpClass::None,
@@ -112,11 +123,11 @@ fn class_at(byte: u8) -> OpClass
         0x09 => OpClass::None,
         0x0A => OpClass::None,
         0x0B => Plain(Op::End),
-        0x0C => With(Immediates::Br),
-        0x0D => With(Immediates::BrIf),
-        0x0E => With(Immediates::BrTable),
+        0x0C => With(Immediates::Index(Indexed::Br)),
+        0x0D => With(Immediates::Index(Indexed::BrIf)),
+        0x0E => With(Immediates::Index(Indexed::BrTable)),
         0x0F => Plain(Op::Simple(Simple::Return)),
-        0x10 => With(Immediates::Call),
+        0x10 => With(Immediates::Index(Indexed::Call)),
         0x11 => With(Immediates::CallIndirect),
         0x12 => OpClass::None,
         0x13 => OpClass::None,
@@ -132,39 +143,39 @@ fn class_at(byte: u8) -> OpClass
         0x1D => OpClass::None,
         0x1E => OpClass::None,
         0x1F => OpClass::None,
-        0x20 => With(Immediates::LocalGet),
-        0x21 => With(Immediates::LocalSet),
-        0x22 => With(Immediates::LocalTee),
-        0x23 => With(Immediates::GlobalGet),
-        0x24 => With(Immediates::GlobalSet),
+        0x20 => With(Immediates::Index(Indexed::LocalGet)),
+        0x21 => With(Immediates::Index(Indexed::LocalSet)),
+        0x22 => With(Immediates::Index(Indexed::LocalTee)),
+        0x23 => With(Immediates::Index(Indexed::GlobalGet)),
+        0x24 => With(Immediates::Index(Indexed::GlobalSet)),
         0x25 => OpClass::None,
         0x26 => OpClass::None,
         0x27 => OpClass::None,
-        0x28 => With(Immediates::Load(LoadOp::I32Load)),
-        0x29 => With(Immediates::Load(LoadOp::I64Load)),
-        0x2A => With(Immediates::Load(LoadOp::F32Load)),
-        0x2B => With(Immediates::Load(LoadOp::F64Load)),
-        0x2C => With(Immediates::Load(LoadOp::I32Load8S)),
-        0x2D => With(Immediates::Load(LoadOp::I32Load8U)),
-        0x2E => With(Immediates::Load(LoadOp::I32Load16S)),
-        0x2F => With(Immediates::Load(LoadOp::I32Load16U)),
-        0x30 => With(Immediates::Load(LoadOp::I64Load8S)),
-        0x31 => With(Immediates::Load(LoadOp::I64Load8U)),
-        0x32 => With(Immediates::Load(LoadOp::I64Load16S)),
-        0x33 => With(Immediates::Load(LoadOp::I64Load16U)),
-        0x34 => With(Immediates::Load(LoadOp::I64Load32S)),
-        0x35 => With(Immediates::Load(LoadOp::I64Load32U)),
-        0x36 => With(Immediates::Store(StoreOp::I32Store)),
-        0x37 => With(Immediates::Store(StoreOp::I64Store)),
-        0x38 => With(Immediates::Store(StoreOp::F32Store)),
-        0x39 => With(Immediates::Store(StoreOp::F64Store)),
-        0x3A => With(Immediates::Store(StoreOp::I32Store8)),
-        0x3B => With(Immediates::Store(StoreOp::I32Store16)),
-        0x3C => With(Immediates::Store(StoreOp::I64Store8)),
-        0x3D => With(Immediates::Store(StoreOp::I64Store16)),
-        0x3E => With(Immediates::Store(StoreOp::I64Store32)),
-        0x3F => With(Immediates::MemorySize),
-        0x40 => With(Immediates::MemoryGrow),
+        0x28 => With(Immediates::Access(LoadOrStore::Load(LoadOp::I32Load))),
+        0x29 => With(Immediates::Access(LoadOrStore::Load(LoadOp::I64Load))),
+        0x2A => With(Immediates::Access(LoadOrStore::Load(LoadOp::F32Load))),
+        0x2B => With(Immediates::Access(LoadOrStore::Load(LoadOp::F64Load))),
+        0x2C => With(Immediates::Access(LoadOrStore::Load(LoadOp::I32Load8S))),
+        0x2D => With(Immediates::Access(LoadOrStore::Load(LoadOp::I32Load8U))),
+        0x2E => With(Immediates::Access(LoadOrStore::Load(LoadOp::I32Load16S))),
+        0x2F => With(Immediates::Access(LoadOrStore::Load(LoadOp::I32Load16U))),
+        0x30 => With(Immediates::Access(LoadOrStore::Load(LoadOp::I64Load8S))),
+        0x31 => With(Immediates::Access(LoadOrStore::Load(LoadOp::I64Load8U))),
+        0x32 => With(Immediates::Access(LoadOrStore::Load(LoadOp::I64Load16S))),
+        0x33 => With(Immediates::Access(LoadOrStore::Load(LoadOp::I64Load16U))),
+        0x34 => With(Immediates::Access(LoadOrStore::Load(LoadOp::I64Load32S))),
+        0x35 => With(Immediates::Access(LoadOrStore::Load(LoadOp::I64Load32U))),
+        0x36 => With(Immediates::Access(LoadOrStore::Store(StoreOp::I32Store))),
+        0x37 => With(Immediates::Access(LoadOrStore::Store(StoreOp::I64Store))),
+        0x38 => With(Immediates::Access(LoadOrStore::Store(StoreOp::F32Store))),
+        0x39 => With(Immediates::Access(LoadOrStore::Store(StoreOp::F64Store))),
+        0x3A => With(Immediates::Access(LoadOrStore::Store(StoreOp::I32Store8))),
+        0x3B => With(Immediates::Access(LoadOrStore::Store(StoreOp::I32Store16))),
+        0x3C => With(Immediates::Access(LoadOrStore::Store(StoreOp::I64Store8))),
+        0x3D => With(Immediates::Access(LoadOrStore::Store(StoreOp::I64Store16))),
+        0x3E => With(Immediates::Access(LoadOrStore::Store(StoreOp::I64Store32))),
+        0x3F => With(Immediates::Memory(Sizing::Size)),
+        0x40 => With(Immediates::Memory(Sizing::Grow)),
         0x41 => With(Immediates::I32Const),
         0x42 => With(Immediates::I64Const),
         0x43 => With(Immediates::F32Const),
