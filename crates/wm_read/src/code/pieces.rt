@@ -25,6 +25,7 @@ use crate::names::identifiers::{Names, Scope};
 use crate::tokens::lexeme::{Lexeme, next_token};
 use std::alloc::Global;
 use wm_syntax::instructions::accesses::{loaded, stored};
+use wm_syntax::instructions::halves::{I64Halves, U64Halves};
 use wm_syntax::instructions::op_class::{Immediates, OpClass};
 use wm_syntax::instructions::op_names::op_named;
 use wm_syntax::instructions::{LoadOp, Op, Simple, StoreOp};
@@ -65,6 +66,14 @@ fn store(op: StoreOp, text: &[u8]) -> Result<(Simple, &[u8]), TextFault>
 {
     let (at, rest) = access(stored(op).width, text)?;
     Ok((Simple::Store(op, at), rest))
+}
+
+fn constant_i64(text: &[u8]) -> Result<(Simple, &[u8]), TextFault>
+    ensures { Reads (λ x. (flat.plain x.0, lexed x.1.now)) result
+        (reading.simple_at Simple.I64Const (reading.atom_at (reading.integer_of 64)) (lexed text.now)) }
+{
+    let (n, rest) = integer_64(text)?;
+    Ok((Simple::I64Const(I64Halves::new(n)), rest))
 }
 
 /// Labels, as many as stand first. One after the `most` that there may be is a fault.
@@ -203,10 +212,7 @@ fn operand<'a>(
             let (n, rest) = integer_32(text)?;
             (Simple::I32Const(n), rest)
         }
-        Immediates::I64Const => {
-            let (n, rest) = integer_64(text)?;
-            (Simple::I64Const(n), rest)
-        }
+        Immediates::I64Const => constant_i64(text)?,
         Immediates::Load(op) => load(op, text)?,
         Immediates::Store(op) => store(op, text)?,
         _ => return Err(refuse(TextWhy::UnknownWord, text)),
@@ -231,7 +237,7 @@ fn constant_f64(alloc: Global, text: &[u8]) -> Result<(Piece, &[u8]), TextFault>
         (reading.simple_at Simple.F64Const (reading.atom_at (atoms.float_of float.F64)) (lexed text.now)) }
 {
     let (bits, rest) = float_64(alloc, text)?;
-    Ok((Piece::Plain(Simple::F64Const(bits)), rest))
+    Ok((Piece::Plain(Simple::F64Const(U64Halves::new(bits))), rest))
 }
 
 /// What follows the word of a call_indirect.
