@@ -11,8 +11,8 @@ use wm_syntax::types::ValType;
 /// Function types (section 2.3.3) that have one result at most. The parameters of all stand in one list, so
 /// that a type has no block of memory of its own. Contracts see the list of types.
 ///
-/// Places have 32 bits: a 2^32nd parameter is refused as where memory is. No module has it, since its parameters
-/// are bytes of one section.
+/// Places have 32 bits: a 2^32nd parameter is refused as if memory ran out. No module has it, since its
+/// parameters are bytes of one section.
 #[derive(Debug, Drop)]
 pub struct FuncTypes {
     params: Vec<ValType>,
