@@ -284,9 +284,9 @@ impl Builder {
         };
         match op {
             Op::Simple(Simple::I32Const(value)) => self.give(pending, Const::I32(value)),
-            Op::Simple(Simple::I64Const(value)) => self.give(pending, Const::I64(value)),
+            Op::Simple(Simple::I64Const(value)) => self.give(pending, Const::I64(value.get())),
             Op::Simple(Simple::F32Const(bits)) => self.give(pending, Const::F32(bits)),
-            Op::Simple(Simple::F64Const(bits)) => self.give(pending, Const::F64(bits)),
+            Op::Simple(Simple::F64Const(bits)) => self.give(pending, Const::F64(bits.get())),
             Op::Simple(Simple::GlobalGet(index)) => self.give(pending, Const::Global(index)),
             Op::End => self.end_constant(pending),
             _ => Err(Why::NotConst),
@@ -379,9 +379,9 @@ impl Builder {
         let Some(code) = self.code.take() else {
             return Err(Why::Index);
         };
-        if op != Op::End {
+        let Op::End = op else {
             return Err(Why::ElsePlace);
-        }
+        };
         let Ok(body) = code.body.finish() else {
             return Err(Why::ElsePlace);
         };

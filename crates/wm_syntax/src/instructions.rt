@@ -3,9 +3,11 @@
 ghost use Rattle.std.specs.Prelude.{◌≡◌};
 ghost use Rattle.wm_syntax.specs.Opcodes.{float_type, int_type};
 
+use crate::instructions::halves::{I64Halves, U64Halves};
 use crate::types::ValType;
 
 pub mod accesses;
+pub mod halves;
 pub mod op_class;
 pub mod op_names;
 pub mod opcodes;
@@ -234,10 +236,10 @@ pub enum Simple {
     MemorySize,
     MemoryGrow,
     I32Const(i32),
-    I64Const(i64),
+    I64Const(I64Halves),
     /// A float is its bits.
     F32Const(u32),
-    F64Const(u64),
+    F64Const(U64Halves),
     Load(LoadOp, MemArg),
     Store(StoreOp, MemArg),
     Numeric(Numeric),

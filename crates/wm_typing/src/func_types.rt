@@ -1,7 +1,7 @@
 //! The function types of a module, in two lists.
 
-ghost use Rattle.std.specs.Prelude.{◌≡◌, ◌-◌, ◌<◌, [], ◌∷◌, ◌++◌, None, Some, MatchOption, OnErr, OnOk};
-ghost use Rattle.std.specs.Prelude.{length, option_to_list, slice_get};
+ghost use Rattle.std.specs.Prelude.{◌≡◌, ◌+◌, ◌-◌, ◌<◌, ◌^◌, [], ◌∷◌, ◌++◌, None, Some};
+ghost use Rattle.std.specs.Prelude.{MatchOption, OnErr, OnOk, length, option_to_list, slice_get};
 ghost use Rattle.wm_typing.specs.inner.FuncTypes.{with_last};
 
 use std::alloc::{AllocError, Global};
@@ -10,6 +10,9 @@ use wm_syntax::types::ValType;
 
 /// Function types (section 2.3.3) that have one result at most. The parameters of all stand in one list, so
 /// that a type has no block of memory of its own. Contracts see the list of types.
+///
+/// Places have 32 bits: a 2^32nd parameter is refused as if memory ran out. No module has it, since its
+/// parameters are bytes of one section.
 #[derive(Debug, Drop)]
 pub struct FuncTypes {
     params: Vec<ValType>,
@@ -26,13 +29,13 @@ pub struct FuncTypeRef<'a> {
 // Where the parameters of a type begin, how many there are, and its result
 #[derive(Clone, Copy, Debug, PartialEq, Eq)]
 struct TypeEntry {
-    start: usize,
-    count: usize,
+    start: u32,
+    count: u32,
     result: Option<ValType>,
 }
 
 impl Model for FuncTypes {
-    ghost use Rattle.std.specs.Prelude.{List, length};
+    ghost use Rattle.std.specs.Prelude.{List, length, ◌<◌, ◌^◌};
     ghost use Rattle.wm_syntax.specs.Types.{Signature};
     ghost use Rattle.wm_typing.specs.inner.FuncTypes.{AreEntries, signatures_in};
 
@@ -40,7 +43,8 @@ impl Model for FuncTypes {
 
     ghost view = { λ t. signatures_in t.params.items t.entries.items };
 
-    ghost invariant = { λ t. AreEntries (length t.params.items) t.entries.items };
+    ghost invariant = { λ t. AreEntries (length t.params.items) t.entries.items
+        × (length t.params.items < 2 ^ 32) };
 }
 
 impl FuncTypes {
@@ -71,8 +75,9 @@ impl FuncTypes {
             })) }
     {
         let entry = *self.entries.get(index)?;
+        let start = entry.start as usize;
         Some(FuncTypeRef {
-            params: &self.params[entry.start..entry.start + entry.count],
+            params: &self.params[start..start + entry.count as usize],
             result: entry.result,
         })
     }
@@ -107,10 +112,9 @@ impl FuncTypes {
             (self.new ≡ with_last (λ f. record f { params = f.params ++ ty ∷ [] }) self.old) }
         ensures err { OnErr result (self.new ≡ self.old) }
     {
-        self.params.push(ty)?;
-        // no test: a type has no more parameters than there are
-        let _total = self.params.len();
+        add_param(&mut self.params, ty)?;
         let last = self.entries.len() - 1;
+        // no test: a type has no more parameters than there are
         self.entries[last].count += 1;
         Ok(())
     }
@@ -125,14 +129,29 @@ impl FuncTypes {
     }
 }
 
-// Adds parameters, and the entry of their type.
+// Adds a parameter, where its place has 32 bits.
+fn add_param(all: &mut Vec<ValType>, ty: ValType) -> Result<(), AllocError>
+    ensures ok { OnOk result (all.new.items ≡ all.old.items ++ ty ∷ []) }
+    ensures few { OnOk result (length all.old.items + 1 < 2 ^ 32) }
+    ensures err { OnErr result (all.new.items ≡ all.old.items) }
+{
+    if all.len() >= u32::MAX as usize {
+        return Err(AllocError);
+    }
+    all.push(ty)?;
+    Ok(())
+}
+
+// Adds parameters, and the entry of their type, where their places have 32 bits.
 fn push_entry(
     all: &mut Vec<ValType>,
     entries: &mut Vec<TypeEntry>,
     params: &[ValType],
     given: Option<ValType>,
 ) -> Result<(), AllocError>
+    requires { length all.old.items < 2 ^ 32 }
     ensures params { OnOk result (all.new.items ≡ all.old.items ++ params.now) }
+    ensures few { OnOk result (length all.old.items + length params.now < 2 ^ 32) }
     ensures entries { OnOk result (entries.new.items ≡ entries.old.items ++ record {
       start = length all.old.items;
       count = length params.now;
@@ -141,10 +160,14 @@ fn push_entry(
     ensures err { OnErr result ((all.new.items ≡ all.old.items) × (entries.new.items ≡ entries.old.items)) }
 {
     let start = all.len();
+    let count = params.len();
+    if count > u32::MAX as usize - start {
+        return Err(AllocError);
+    }
     all.extend_from_slice(params)?;
     let entry = TypeEntry {
-        start,
-        count: params.len(),
+        start: start as u32,
+        count: count as u32,
         result: given,
     };
     if entries.push(entry).is_err() {
@@ -158,6 +181,7 @@ fn push_entry(
 mod tests {
     use super::*;
     use crate::tests::{is, is_copy};
+    use std::mem;
 
     /// A further field has to be named here, and a further list to be counted.
     #[test]
@@ -171,5 +195,7 @@ mod tests {
             count: 0,
             result: None,
         });
+        // of a module of many types these are a good part of what is held
+        assert_eq!(rt; mem::size_of::<TypeEntry>(), 12);
     }
 }

@@ -4,6 +4,7 @@
 use std::alloc::Global;
 use std::fmt::Debug;
 use std::process::Abort;
+use wm_syntax::instructions::halves::{I64Halves, U64Halves};
 use wm_syntax::instructions::op_class::{Immediates, OpClass};
 use wm_syntax::instructions::op_names::op_named;
 use wm_syntax::instructions::{MemArg, Op, Simple};
@@ -120,9 +121,15 @@ fn op_with(rt: &impl Abort, immediates: Immediates, with: &str) -> Op {
         Immediates::CallIndirect => Op::Simple(Simple::CallIndirect(number_of(rt, with))),
         Immediates::Memory(sizing) => sizing.op(),
         Immediates::I32Const => int_of(rt, with),
-        Immediates::I64Const => Op::Simple(Simple::I64Const(i64::from(number_of(rt, with)))),
+        Immediates::I64Const => {
+            let number = I64Halves::new(i64::from(number_of(rt, with)));
+            Op::Simple(Simple::I64Const(number))
+        }
         Immediates::F32Const => Op::Simple(Simple::F32Const(number_of(rt, with))),
-        Immediates::F64Const => Op::Simple(Simple::F64Const(u64::from(number_of(rt, with)))),
+        Immediates::F64Const => {
+            let bits = U64Halves::new(u64::from(number_of(rt, with)));
+            Op::Simple(Simple::F64Const(bits))
+        }
         Immediates::Access(access) => access.op(arg_of(rt, with)),
     }
 }

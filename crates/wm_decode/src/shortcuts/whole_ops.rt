@@ -17,6 +17,7 @@ use crate::shortcuts::whole_numbers::{s32_at, s64_at, u32_at};
 use crate::sink::Sink;
 use crate::step::ops::{push_32, push_64};
 use wm_syntax::instructions::IntType::{I32, I64};
+use wm_syntax::instructions::halves::{I64Halves, U64Halves};
 use wm_syntax::instructions::op_class::{Immediates, Indexed, LoadOrStore, OpClass, Opening};
 use wm_syntax::instructions::opcodes::op_of;
 use wm_syntax::instructions::{
@@ -160,7 +161,7 @@ fn const_64(bytes: &[u8], at: usize, depth: u32) -> Option<Read>
 {
     let number = s64_at(bytes, at + 1)?;
     Some(Read {
-        op: Op::Simple(Simple::I64Const(number.value)),
+        op: Op::Simple(Simple::I64Const(I64Halves::new(number.value))),
         next: number.next,
         depth,
     })
@@ -427,7 +428,7 @@ fn float_64(profile: Profile, bytes: &[u8], at: usize, depth: u32) -> Option<Rea
     let seven = push_64(six, bytes[at + 7]);
     let bits = push_64(seven, bytes[at + 8]);
     Some(Read {
-        op: Op::Simple(Simple::F64Const(bits)),
+        op: Op::Simple(Simple::F64Const(U64Halves::new(bits))),
         next: at + 9,
         depth,
     })

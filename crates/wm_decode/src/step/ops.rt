@@ -9,6 +9,7 @@ ghost use Rattle.wm_decode.specs.exact.OpSteps.{op_push, pushed_32, pushed_64};
 
 use crate::step::reading::Reading;
 use crate::step::values::value_type;
+use wm_syntax::instructions::halves::{I64Halves, U64Halves};
 use wm_syntax::instructions::op_class::{Immediates, OpClass};
 use wm_syntax::instructions::op_class::{Indexed, LoadOrStore, Opening, Sizing};
 use wm_syntax::instructions::opcodes::op_of;
@@ -148,7 +149,7 @@ fn const_64(mut number: Int64, byte: u8) -> Reading<InOp, Op>
 {
     match number.push(byte) {
         Step::More => Reading::More(InOp::Const64(number)),
-        Step::Done(z) => Reading::Done(Op::Simple(Simple::I64Const(z))),
+        Step::Done(z) => Reading::Done(Op::Simple(Simple::I64Const(I64Halves::new(z)))),
         Step::Bad => Reading::Bad(Why::BadNumber),
     }
 }
@@ -186,7 +187,7 @@ fn float_64(left: u8, bits: u64, byte: u8) -> Reading<InOp, Op>
 {
     let bits = push_64(bits, byte);
     if left == 0 {
-        Reading::Done(Op::Simple(Simple::F64Const(bits)))
+        Reading::Done(Op::Simple(Simple::F64Const(U64Halves::new(bits))))
     } else {
         let left = left - 1;
         Reading::More(InOp::Float64 { left, bits })

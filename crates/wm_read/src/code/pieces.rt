@@ -25,6 +25,7 @@ use crate::names::identifiers::{Names, Scope};
 use crate::tokens::lexeme::{Lexeme, next_token};
 use std::alloc::Global;
 use wm_syntax::instructions::accesses::{loaded, stored};
+use wm_syntax::instructions::halves::{I64Halves, U64Halves};
 use wm_syntax::instructions::op_class::{Immediates, OpClass};
 use wm_syntax::instructions::op_class::{Indexed, LoadOrStore, Opening, Sizing};
 use wm_syntax::instructions::op_names::op_named;
@@ -66,6 +67,14 @@ fn store(op: StoreOp, text: &[u8]) -> Result<(Simple, &[u8]), TextFault>
 {
     let (at, rest) = access(stored(op).width, text)?;
     Ok((Simple::Store(op, at), rest))
+}
+
+fn constant_i64(text: &[u8]) -> Result<(Simple, &[u8]), TextFault>
+    ensures { Reads (λ x. (flat.plain x.0, lexed x.1.now)) result
+        (reading.simple_at Simple.I64Const (reading.atom_at (reading.integer_of 64)) (lexed text.now)) }
+{
+    let (n, rest) = integer_64(text)?;
+    Ok((Simple::I64Const(I64Halves::new(n)), rest))
 }
 
 /// Labels, as many as stand first. One after the `most` that there may be is a fault.
@@ -217,7 +226,7 @@ fn constant_f64(alloc: Global, text: &[u8]) -> Result<(Piece, &[u8]), TextFault>
         (reading.simple_at Simple.F64Const (reading.atom_at (atoms.float_of float.F64)) (lexed text.now)) }
 {
     let (bits, rest) = float_64(alloc, text)?;
-    Ok((Piece::Plain(Simple::F64Const(bits)), rest))
+    Ok((Piece::Plain(Simple::F64Const(U64Halves::new(bits))), rest))
 }
 
 /// What follows the word of a call_indirect.
@@ -262,8 +271,8 @@ fn operand<'a>(
             Ok((Piece::Plain(Simple::I32Const(n)), rest))
         }
         Immediates::I64Const => {
-            let (n, rest) = integer_64(text)?;
-            Ok((Piece::Plain(Simple::I64Const(n)), rest))
+            let (simple, rest) = constant_i64(text)?;
+            Ok((Piece::Plain(simple), rest))
         }
         Immediates::F32Const => constant_f32(alloc, text),
         Immediates::F64Const => constant_f64(alloc, text),

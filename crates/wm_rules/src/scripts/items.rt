@@ -5,6 +5,7 @@ use std::alloc::Global;
 use std::fmt::Write;
 use std::process::Abort;
 use wm_decode::{Item, Sink};
+use wm_syntax::instructions::halves::{I64Halves, U64Halves};
 use wm_syntax::instructions::{Op, Simple};
 use wm_syntax::modules::ExportKind;
 use wm_syntax::types::{GlobalType, Limits, ValType};
@@ -147,9 +148,9 @@ fn global_of(rt: &impl Abort, words: &str) -> GlobalType {
 fn op_of(rt: &impl Abort, words: &str) -> Op {
     match words {
         "i32.const" => Op::Simple(Simple::I32Const(1)),
-        "i64.const" => Op::Simple(Simple::I64Const(1)),
+        "i64.const" => Op::Simple(Simple::I64Const(I64Halves::new(1))),
         "f32.const" => Op::Simple(Simple::F32Const(1)),
-        "f64.const" => Op::Simple(Simple::F64Const(1)),
+        "f64.const" => Op::Simple(Simple::F64Const(U64Halves::new(1))),
         "nop" => Op::Simple(Simple::Nop),
         "drop" => Op::Simple(Simple::Drop),
         "block" => Op::Block(None),

@@ -75,7 +75,7 @@ fn ends_in_else(ops: &[Op]) -> bool
     ensures { result ≡ is_else (last_of ops.now) }
 {
     match ops.last() {
-        Some(op) => *op == Op::Else,
+        Some(op) => matches!(op, Op::Else),
         None => false,
     }
 }

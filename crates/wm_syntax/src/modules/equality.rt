@@ -5,6 +5,7 @@ ghost use Rattle.std.specs.Prelude.{◌≡◌, ◌↔◌, true};
 ghost use Rattle.wm_syntax.specs.Values.{value_of};
 ghost use Rattle.wm_syntax.specs.declared.modules.Module.{Module};
 
+use crate::instructions::halves::{I64Halves, U64Halves};
 use crate::instructions::{Numeric, Op, Simple};
 use crate::modules::body::Body;
 use crate::modules::locals::{Locals, Run};
@@ -136,6 +137,18 @@ fn same_op(a: Op, b: Op) -> bool
     }
 }
 
+fn same_i64(a: I64Halves, b: I64Halves) -> bool
+    ensures { (result ≡ true) ↔ (a ≡ b) }
+{
+    a.get() == b.get()
+}
+
+fn same_u64(a: U64Halves, b: U64Halves) -> bool
+    ensures { (result ≡ true) ↔ (a ≡ b) }
+{
+    a.get() == b.get()
+}
+
 fn same_simple(a: Simple, b: Simple) -> bool
     ensures { (result ≡ true) ↔ (a ≡ b) }
 {
@@ -188,7 +201,7 @@ fn same_simple(a: Simple, b: Simple) -> bool
             _ => false,
         },
         Simple::I64Const(x) => match b {
-            Simple::I64Const(y) => x == y,
+            Simple::I64Const(y) => same_i64(x, y),
             _ => false,
         },
         Simple::F32Const(x) => match b {
@@ -196,7 +209,7 @@ fn same_simple(a: Simple, b: Simple) -> bool
             _ => false,
         },
         Simple::F64Const(x) => match b {
-            Simple::F64Const(y) => x == y,
+            Simple::F64Const(y) => same_u64(x, y),
             _ => false,
         },
         Simple::Load(x, m) => match b {

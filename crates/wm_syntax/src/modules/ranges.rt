@@ -2,13 +2,15 @@
 //! (sections 2.2, 2.5). The types hold it, and to read each value once is what shows it of a whole module.
 
 ghost use Rattle.std.specs.List.{AllByRecursion};
-ghost use Rattle.std.specs.Prelude.{◌<◌, IsUtf8};
-ghost use Rattle.wm_syntax.specs.Modules.{AreLimits, IsConst, IsDesc, IsModule, IsU32};
+ghost use Rattle.std.specs.Prelude.{◌<◌, ◌^◌, IsUtf8};
+ghost use Rattle.wm_syntax.specs.Leb128.{FitsBits};
+ghost use Rattle.wm_syntax.specs.Modules.{AreLimits, IsConst, IsDesc, IsModule, IsSimple, IsU32};
 ghost use Rattle.wm_syntax.specs.inner.Ranges.{IsInRange};
 ghost use Rattle.wm_syntax.specs.Spelling.{AreBytes};
 ghost use Rattle.wm_syntax.specs.Values.{value_of};
 
-use crate::instructions::Op;
+use crate::instructions::halves::{I64Halves, U64Halves};
+use crate::instructions::{MemArg, Op, Simple};
 use crate::modules::body::Body;
 use crate::modules::{Element, Export, Function, GlobalDef, Import, ImportDesc, Module, Segment};
 use crate::types::{Const, Limits};
@@ -58,9 +60,65 @@ fn description(value: ImportDesc)
     ensures { IsDesc value }
 {}
 
+fn int_32(value: i32)
+    ensures { FitsBits 32 value }
+{}
+
+// Of halves, that the number is read is what shows its range.
+fn int_64(value: I64Halves)
+    ensures { FitsBits 64 value }
+{
+    let _ = value.get();
+}
+
+fn bits_64(value: U64Halves)
+    ensures { value < 2 ^ 64 }
+{
+    let _ = value.get();
+}
+
+fn access(at: MemArg)
+    ensures { IsU32 at.align × IsU32 at.offset }
+{}
+
+fn leaf(value: Simple)
+    ensures { IsSimple value }
+{
+    match value {
+        Simple::Br(n)
+        | Simple::BrIf(n)
+        | Simple::Call(n)
+        | Simple::CallIndirect(n)
+        | Simple::LocalGet(n)
+        | Simple::LocalSet(n)
+        | Simple::LocalTee(n)
+        | Simple::GlobalGet(n)
+        | Simple::GlobalSet(n)
+        | Simple::F32Const(n) => index(n),
+        Simple::I32Const(number) => int_32(number),
+        Simple::I64Const(number) => int_64(number),
+        Simple::F64Const(bits) => bits_64(bits),
+        Simple::Load(_, at) | Simple::Store(_, at) => access(at),
+        Simple::Unreachable
+        | Simple::Nop
+        | Simple::Return
+        | Simple::Drop
+        | Simple::Select
+        | Simple::MemorySize
+        | Simple::MemoryGrow
+        | Simple::Numeric(_) => {}
+    }
+}
+
 fn instruction(value: Op)
     ensures { IsInRange value }
-{}
+{
+    match value {
+        Op::Simple(simple) => leaf(simple),
+        Op::BrTable(n) | Op::Label(n) => index(n),
+        Op::Block(_) | Op::Loop(_) | Op::If(_) | Op::Else | Op::End => {}
+    }
+}
 
 fn name(value: &str)
     ensures { IsUtf8 value.now }

@@ -79,7 +79,7 @@ fn immediates_len(simple: Simple) -> u64
         Simple::CallIndirect(index) => number_len(u64::from(index)) + 1,
         Simple::MemorySize | Simple::MemoryGrow => 1,
         Simple::I32Const(value) => signed_len(i64::from(value), 5),
-        Simple::I64Const(value) => signed_len(value, 10),
+        Simple::I64Const(value) => signed_len(value.get(), 10),
         Simple::F32Const(_) => 4,
         Simple::F64Const(_) => 8,
         Simple::Load(_, at) | Simple::Store(_, at) => access_len(at),

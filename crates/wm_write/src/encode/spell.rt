@@ -11,6 +11,7 @@ ghost use Rattle.wm_syntax.specs.Types.{block_byte, type_byte};
 
 use crate::batch::Batch;
 use wm_syntax::chunk::Chunk;
+use wm_syntax::instructions::halves::{I64Halves, U64Halves};
 use wm_syntax::instructions::opcodes::first_byte;
 use wm_syntax::instructions::{Op, Simple};
 use wm_syntax::modules::{ExportKind, ImportDesc};
@@ -131,9 +132,9 @@ fn push_immediates(batch: &mut Batch, simple: Simple)
         }
         Simple::MemorySize | Simple::MemoryGrow => batch.push_byte(0x00),
         Simple::I32Const(value) => push_signed(batch, i64::from(value), 5),
-        Simple::I64Const(value) => push_signed(batch, value, 10),
+        Simple::I64Const(value) => push_signed(batch, value.get(), 10),
         Simple::F32Const(bits) => push_float(batch, u64::from(bits), 4),
-        Simple::F64Const(bits) => push_float(batch, bits, 8),
+        Simple::F64Const(bits) => push_float(batch, bits.get(), 8),
         Simple::Load(_, at) | Simple::Store(_, at) => {
             push_number(batch, at.align);
             push_number(batch, at.offset);
@@ -148,9 +149,9 @@ pub(crate) fn instruction_of(value: Const) -> Simple
 {
     match value {
         Const::I32(number) => Simple::I32Const(number),
-        Const::I64(number) => Simple::I64Const(number),
+        Const::I64(number) => Simple::I64Const(I64Halves::new(number)),
         Const::F32(bits) => Simple::F32Const(bits),
-        Const::F64(bits) => Simple::F64Const(bits),
+        Const::F64(bits) => Simple::F64Const(U64Halves::new(bits)),
         Const::Global(index) => Simple::GlobalGet(index),
     }
 }

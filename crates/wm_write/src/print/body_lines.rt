@@ -114,9 +114,9 @@ fn push_immediates(line: &mut Batch, simple: Simple)
         Simple::CallIndirect(index) => push_type_use(line, index),
         Simple::GlobalGet(index) | Simple::GlobalSet(index) => line.push_counted(b" $g", index),
         Simple::I32Const(value) => line.push_counted(b" ", value),
-        Simple::I64Const(value) => line.push_counted(b" ", value),
+        Simple::I64Const(value) => line.push_counted(b" ", value.get()),
         Simple::F32Const(bits) => push_f32(line, u64::from(bits)),
-        Simple::F64Const(bits) => push_f64(line, bits),
+        Simple::F64Const(bits) => push_f64(line, bits.get()),
         Simple::Load(op, at) => push_access(line, loaded(op).width, at),
         Simple::Store(op, at) => push_access(line, stored(op).width, at),
         Simple::Unreachable

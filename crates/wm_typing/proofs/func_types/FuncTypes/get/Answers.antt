@@ -14,7 +14,7 @@ at c = found _ _ _ _ c.deref.ensures.value (search (rules, c.in_ok-entry.ensures
 
 within : (c : goal.After-deref-2) → c.in_ok-entry.field-0.now.start + c.in_ok-entry.field-0.now.count ≤ length c.deref-2.result.now
 within c =
-    let k = entry_within _ _ _ _ c.self.invariant (at c) in
+    let k = entry_within _ _ _ _ c.self.invariant.0 (at c) in
     omega (arith, k, ap length c.deref-2.ensures.value)
 
 pub overflow_add-result : goal.overflow_add-result
