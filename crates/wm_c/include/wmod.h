@@ -26,7 +26,7 @@ extern "C" {
 /* The interface that this file describes. wmod_version() is that of the library. The first is raised by a change
  * that breaks callers, the second by an addition. */
 #define WMOD_VERSION_MAJOR 1
-#define WMOD_VERSION_MINOR 0
+#define WMOD_VERSION_MINOR 1
 #define WMOD_VERSION (WMOD_VERSION_MAJOR * 65536u + WMOD_VERSION_MINOR)
 
 /* How a call ended: the statuses of the command `wmod` mean the same. */

@@ -49,7 +49,7 @@ fn write(word: &[u8], to: &mut [u8])
 /// minor part.
 #[unsafe(no_mangle)]
 pub extern "C" fn wmod_version() -> u32
-    ensures { result ≡ 65536 }
+    ensures { result ≡ 65537 }
 {
-    1 << 16
+    (1 << 16) + 1
 }

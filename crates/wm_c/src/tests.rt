@@ -144,7 +144,7 @@ fn calls_of_a_host(rt: HostRuntime) {
         drop(loose.into_box());
         panic!(rt; "an ended handle holds something");
     }
-    assert!(rt; wmod_version() == 65536);
+    assert!(rt; wmod_version() == 65537);
 }
 
 fn play(rt: &impl Abort, alloc: Global, v: &mut Handle, line: &str) {

@@ -117,7 +117,7 @@ pub const OF_TEXTS: &str = "\
         or a limit.\n\
     BadFloat | A number or a NaN where a float must stand, but none of its width: malformed, nearest \
         to an infinity, or with a payload that is 0 or out of range. | 6.3.2 | with `--profile 3` \
-        `(module(global f32 f32.const 1e39`: at 29 | Write a number that the width holds, or `inf`.\n\
+        `(module(global f32 f32.const 1e39))`: at 29 | Write a number that the width holds, or `inf`.\n\
     BadName | A name of an import or an export whose bytes are not UTF-8. Its string decides. | \
         6.3.4 | `(module(import\"\\ff\"`: at 14 | Write names in UTF-8.\n\
     UnknownId | An identifier that no item of its space has, or no open block. The identifier \

@@ -1,11 +1,11 @@
--- Floats as bits, and the float nearest to a fraction (sections 2.2.2, 4.3.2, 4.3.3, 5.2.3). Nothing here
+-- Floats as bits, and the float nearest to a fraction (sections 2.2.3, 4.3.1, 4.3.3, 5.2.3). Nothing here
 -- computes with floats.
 use Rattle.std.specs.Prelude.{◌≡◌, ◌⊎◌, ℕ, zero, suc, Bool, true, false, ◌+◌, ◌-◌, ◌*◌, ◌/◌, ◌%◌, ◌^◌}
 use Rattle.std.specs.Prelude.{◌<◌, ◌≤◌}
 use Rattle.wm_syntax.specs.declared.instructions.FloatType.{FloatType}
 use Rattle.wm_syntax.specs.declared.instructions.FloatType.TheVariants.{F32, F64}
 
--- how many bits there are below the exponent's field, and in it (section 2.2.2, signif and expon)
+-- how many bits there are below the exponent's field, and in it (section 2.2.3, signif and expon)
 abbrev pub signif : FloatType → ℕ
 signif F32 = 23
 signif F64 = 52

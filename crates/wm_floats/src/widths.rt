@@ -1,4 +1,4 @@
-//! The two widths of floats (section 2.2.2).
+//! The two widths of floats (section 2.2.3).
 
 ghost use Rattle.std.specs.Prelude.{◌≡◌, ◌+◌, ◌-◌, ◌^◌};
 ghost use Rattle.wm_floats.specs.Nearest.{expon, infinity, least, signif};
