@@ -42,10 +42,7 @@ fn push(builder: &mut BodyBuilder, op: Op) -> Result<(), TextFault>
 {
     match builder.push(op) {
         Ok(()) => Ok(()),
-        Err(BodyFault::Memory) => Err(TextFault {
-            why: TextWhy::Memory,
-            left: 0,
-        }),
+        Err(BodyFault::Memory) => Err(TextFault::MEMORY),
         Err(BodyFault::Unbalanced) => unreachable!(),
     }
 }
