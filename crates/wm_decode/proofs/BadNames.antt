@@ -12,13 +12,11 @@ use Rattle.wm_syntax.specs.Spelling.{Form, AreBytes}
 use Rattle.wm_syntax.specs.declared.profile.Profile.{Profile}
 use Rattle.wm_syntax.specs.declared.why.Why.{Why}
 use Rattle.wm_syntax.specs.declared.types.ValType.{ValType}
-use Rattle.wm_syntax.specs.declared.instructions.Op.{Op}
 use Rattle.wm_decode.specs.declared.machine.NameKind.{NameKind}
 use Rattle.wm_decode.specs.declared.machine.NameKind.TheVariants as name
 use Rattle.wm_decode.specs.declared.machine.InCustom.TheVariants as custom
 use Rattle.wm_decode.specs.declared.machine.Machine.{Machine}
 use Rattle.wm_decode.specs.declared.machine.Machine.TheVariants as machine
-use Rattle.wm_decode.specs.declared.machine.Plain.{Plain}
 use Rattle.wm_decode.specs.declared.machine.Plain.TheVariants as plain
 use Rattle.wm_decode.specs.declared.machine.Event.{Event}
 use Rattle.wm_decode.specs.declared.machine.Event.TheVariants as event
@@ -26,6 +24,7 @@ use Rattle.wm_decode.specs.declared.step.reading.Reading.{Reading}
 use Rattle.wm_decode.specs.declared.step.reading.Reading.TheVariants.{More, Done, Bad}
 use Rattle.wm_decode.specs.declared.machine.member.SectionKind.{SectionKind}
 use Rattle.wm_decode.specs.declared.machine.member.SectionKind.TheVariants as section_kind
+use Rattle.wm_decode.specs.declared.machine.member.ConstantOf.{ConstantOf}
 use Rattle.wm_decode.specs.declared.machine.member.ConstantOf.TheVariants as constant
 use Rattle.wm_decode.specs.declared.machine.member.InEntry.TheVariants as entry
 use Rattle.wm_decode.specs.declared.machine.member.InMember.{InMember}
@@ -37,8 +36,8 @@ use Rattle.wm_decode.specs.Grammar.{loose, strict}
 use Rattle.wm_decode.specs.Meanings.{BadName, MustStand}
 use Rattle.wm_decode.specs.exact.Members.{section_kind_of}
 use Rattle.wm_decode.specs.exact.ValueSteps.{value_type_of, global_type_push, value_push}
-use Rattle.wm_decode.specs.exact.ExpressionSteps.{start, expression_step}
-use Rattle.wm_decode.specs.exact.MemberSteps.{on_number, on_value, on_type, with_item_given, after_param, after_result, after_length, index_item, after_index, op_event, list_or_over, entry_step, member_in_entry, member_step}
+use Rattle.wm_decode.specs.exact.ExpressionSteps.{ExpressionAnswer, start, expression_step}
+use Rattle.wm_decode.specs.exact.MemberSteps.{on_number, on_value, on_type, on_expression, with_item_given, after_param, after_result, after_length, index_item, after_index, after_constant, list_or_over, entry_step, member_in_entry, member_step}
 use Rattle.wm_decode.specs.exact.Steps.{custom_after_length, after_count, begun_section, machine_if_rising, section_start, after_size, custom_size, header_step, step_of}
 use Rattle.wm_decode.specs.exact.Runs.{name_item, byte_read, ByteRead, MachineState, zone_of, after_byte, state_after, state_at_start}
 use Rattle.wm_decode.proofs.ByteLists.{front_bytes}
@@ -80,9 +79,10 @@ type_no : {M : Type 0} (q : Result ValType Why) (done : ValType → M × Event) 
 type_no (Ok t) done bad h = h t
 type_no (Err w) done bad h = tt
 
-op_no : (f : Op → Plain) (o : Option Op) → NoName (op_event f o)
-op_no f None = tt
-op_no f (Some o) = tt
+op_no : (of : ConstantOf) (a : ExpressionAnswer) → NoName (on_expression a (after_constant of) plain.ConstOp at.Failed).1
+op_no of (Ok (e, None)) = tt
+op_no of (Ok (e, Some o)) = tt
+op_no of (Err w) = tt
 
 length_no : (of : NameKind) (n : ℕ) → NoName (after_length of n).1
 length_no of zero = tt
@@ -103,7 +103,7 @@ member_no p c (at.Name of more) i = absurd i
 member_no p c (at.Value v) i = value_no (value_push p v c) at.Value (λ q. with_item_given at.Over q) at.Failed (λ x. tt)
 member_no p c (at.Index of r) i = number_no (unsigned_push 32 r c) (λ s. at.Index of s) (λ n. with_item_given (after_index of) (index_item of n)) at.Failed (λ n. tt)
 member_no p c (at.GlobalType g) i = value_no (global_type_push p g c) at.GlobalType (λ t. with_item_given (at.Constant constant.Global start) (plain.Global t)) at.Failed (λ x. tt)
-member_no p c (at.Constant of e) i = op_no plain.ConstOp (expression_step p e c).1
+member_no p c (at.Constant of e) i = op_no of (expression_step p e c)
 member_no p c (at.Length of r) i = number_no (unsigned_push 32 r c) (λ s. at.Length of s) (λ n. (list_or_over of n, event.Nothing)) at.Failed (λ n. tt)
 member_no p c (at.Data more) i = tt
 member_no p c (at.EntrySize r) i = number_no (unsigned_push 32 r c) at.EntrySize (λ n. with_item_given (member_in_entry n (entry.RunCount fresh)) plain.Body) at.Failed (λ n. tt)

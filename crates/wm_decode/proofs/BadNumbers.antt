@@ -1,5 +1,5 @@
 -- BadNumber is given at a byte with which no number goes on that has begun and must stand.
-use Rattle.std.proofs.Common.{◌≡◌, ◌≢◌, ℕ, zero, suc, ◌<◌, ◌^◌, ◌⊎◌, inl, inr, Bool, true, false, List, [], ◌∷◌, ◌++◌, Option, Some, None, Result, ℤ, refl, sym, ◌∙◌, ap, subst, arith, nat_eq, nat_lt, nat_le, append_assoc, append-nil}
+use Rattle.std.proofs.Common.{◌≡◌, ◌≢◌, ℕ, zero, suc, ◌<◌, ◌^◌, ◌⊎◌, inl, inr, Bool, true, false, List, [], ◌∷◌, ◌++◌, Option, Some, None, Result, Ok, Err, ℤ, refl, sym, ◌∙◌, ap, subst, arith, nat_eq, nat_lt, nat_le, append_assoc, append-nil}
 use Rattle.std.proofs.lemmas.Bool.{cond_both}
 use Rattle.std.specs.Prelude.{slice_index}
 use Rattle.std.specs.Str.{is_utf8}
@@ -49,7 +49,7 @@ use Rattle.wm_decode.specs.Meanings.{Integer, u32, s32, s64, spells, CanGoOn, Wr
 use Rattle.wm_decode.specs.exact.ValueSteps.{read_number, map_reading, after_min, limits_push, table_type_push, type_under, value_type_of, read_type, global_type_push, desc_push, target_push, run_push, value_push}
 use Rattle.wm_syntax.specs.exact.OpGroups.{block_op, index_op, memory_op}
 use Rattle.wm_decode.specs.exact.OpSteps.{float_32_step, float_64_step, call_op, const_32_op, const_64_op, on_answer, immediates, first_step, block_step, closing_step, op_push}
-use Rattle.wm_decode.specs.exact.ExpressionSteps.{start, ends as op_ends, after_op, after_label, after_reading, expression_failed, expression_step}
+use Rattle.wm_decode.specs.exact.ExpressionSteps.{ExpressionAnswer, start, ends as op_ends, after_op, after_label, after_reading, expression_step}
 use Rattle.wm_decode.proofs.OpRest.{at_offset}
 use Rattle.std.proofs.Common.{◌↔◌}
 use Rattle.wm_syntax.specs.Spelling.{Form, AreBytes}
@@ -79,7 +79,7 @@ use Rattle.wm_decode.specs.Items.{Zone, Marks}
 use Rattle.wm_decode.specs.Sections.{header}
 use Rattle.wm_decode.specs.Grammar.{Items, strict}
 use Rattle.wm_decode.specs.exact.Members.{section_kind_of, member_at_start}
-use Rattle.wm_decode.specs.exact.MemberSteps.{on_number, on_value, on_type, with_item_given, after_param, after_result, after_name, after_length, name_step, functions_or_over, index_item, after_index, constant_over, after_constant, data_or_over, list_or_over, runs_or_body, entry_after_op, entry_step, member_in_entry, member_step}
+use Rattle.wm_decode.specs.exact.MemberSteps.{on_number, on_value, on_type, on_expression, with_item_given, after_param, after_result, after_name, after_length, name_step, functions_or_over, index_item, after_index, constant_over, after_constant, data_or_over, list_or_over, runs_or_body, entry_after_op, entry_step, member_in_entry, member_step}
 use Rattle.wm_decode.specs.exact.Steps.{custom_after_length, machine_in_custom, custom_step, machine_in_member, machine_after_count, machine_after_paired_count, after_count, begun_section, machine_if_rising, section_start, machine_in_contents, after_size, custom_size, header_step, step_of}
 use Rattle.wm_decode.specs.exact.Runs.{byte_read, ByteRead, MachineState, zone_of, after_byte, state_after, marks, state_at_start}
 use Rattle.wm_decode.specs.exact.Live.{IsRefused}
@@ -375,46 +375,49 @@ num_expression (expression.Op depth q) = num_op q
 num_expression (expression.Label depth left r) = Some (u32, r)
 num_expression e = None
 
-abbrev ExpressionNew : InExpression → Type 0
-ExpressionNew = Settled expression.Failed num_expression
+abbrev num_answer : ExpressionAnswer → Num
+num_answer (Ok a) = num_expression a.0
+num_answer (Err w) = None
 
-ends_new : (depth : ℕ) → ExpressionNew (op_ends depth)
-ends_new zero = (tt, λ e. cc)
-ends_new (suc n) = (tt, λ e. cc)
+abbrev AnswerNew : ExpressionAnswer → Type 0
+AnswerNew = Settled {M = ExpressionAnswer} Err num_answer
 
-after_op_new : (depth : ℕ) (o : Op) → ExpressionNew (after_op depth o)
+ends_new : (depth : ℕ) → IsNew (num_expression (op_ends depth))
+ends_new zero = tt
+ends_new (suc n) = tt
+
+after_op_new : (depth : ℕ) (o : Op) → IsNew (num_expression (after_op depth o))
 after_op_new depth op.End = ends_new depth
-after_op_new depth (op.BrTable n) = (refl, λ e. cc)
-after_op_new depth (op.Block t) = (tt, λ e. cc)
-after_op_new depth (op.Loop t) = (tt, λ e. cc)
-after_op_new depth (op.If t) = (tt, λ e. cc)
-after_op_new depth o = (tt, λ e. cc)
+after_op_new depth (op.BrTable n) = refl
+after_op_new depth (op.Block t) = tt
+after_op_new depth (op.Loop t) = tt
+after_op_new depth (op.If t) = tt
+after_op_new depth o = tt
 
-after_label_new : (depth left : ℕ) → ExpressionNew (after_label depth left)
-after_label_new depth zero = (tt, λ e. cc)
-after_label_new depth (suc n) = (refl, λ e. cc)
+after_label_new : (depth left : ℕ) → IsNew (num_expression (after_label depth left))
+after_label_new depth zero = tt
+after_label_new depth (suc n) = refl
 
-reading_keeps : (depth : ℕ) (x : Reading InOp Op) (i : Integer) (s : Partial) → num_reading num_op x ≡ Some (i, s) → ((num_expression (after_reading depth x).0 ≡ Some (i, s)) × ((after_reading depth x).0 ≢ expression.Failed why.BadNumber)) ⊎ IsCut expression.Failed num_expression (after_reading depth x).0
+reading_keeps : (depth : ℕ) (x : Reading InOp Op) (i : Integer) (s : Partial) → num_reading num_op x ≡ Some (i, s) → ((num_answer (after_reading depth x) ≡ Some (i, s)) × (after_reading depth x ≢ Err why.BadNumber)) ⊎ IsCut {M = ExpressionAnswer} Err num_answer (after_reading depth x)
 reading_keeps depth (More r) i s e = inl (e, λ e. cc)
 reading_keeps depth (Done o) i s e = absurd (cc)
 reading_keeps depth (Bad w) i s e = absurd (cc)
 
-reading_new : (depth : ℕ) (x : Reading InOp Op) → OpNew x → ExpressionNew (after_reading depth x).0
+reading_new : (depth : ℕ) (x : Reading InOp Op) → OpNew x → AnswerNew (after_reading depth x)
 reading_new depth (More r) h = (h.0, λ e. cc)
-reading_new depth (Done o) h = after_op_new depth o
+reading_new depth (Done o) h = (after_op_new depth o, λ e. cc)
 reading_new depth (Bad w) h = (tt, λ e. h.1 (ap Bad (let s : w ≡ why.BadNumber = cc in s)))
 
-label_law : (depth left : ℕ) (q : Step ℕ × Partial) → Pushed expression.Failed num_expression u32 q (on_answer q (λ s. (expression.Label depth left s, None)) (λ l. (after_label depth left, Some (op.Label l))) (expression_failed why.BadNumber)).0
+label_law : (depth left : ℕ) (q : Step ℕ × Partial) → Pushed {M = ExpressionAnswer} Err num_answer u32 q (on_answer q (λ s. Ok (expression.Label depth left s, None)) (λ l. Ok (after_label depth left, Some (op.Label l))) (Err why.BadNumber))
 label_law depth left (step.More, s) = inl (refl, λ e. cc)
-label_law depth left (step.Done v, s) = after_label_new depth left
+label_law depth left (step.Done v, s) = (after_label_new depth left, λ e. cc)
 label_law depth left (step.Bad, s) = refl
 
-expression_law : (p : Profile) (e : InExpression) (c : ℕ) → Law expression.Failed num_expression (num_expression e) c (expression_step p e c).0
+expression_law : (p : Profile) (e : InExpression) (c : ℕ) → Law {M = ExpressionAnswer} Err num_answer (num_expression e) c (expression_step p e c)
 expression_law p (expression.Op depth q) c =
-    lift {M = Reading InOp Op} {N = InExpression} Bad (num_reading num_op) expression.Failed num_expression (λ x. (after_reading depth x).0) (λ w. refl) (reading_keeps depth) (reading_new depth) (num_op q) c (op_push p q c) (op_law p q c)
+    lift {M = Reading InOp Op} {N = ExpressionAnswer} Bad (num_reading num_op) Err num_answer (after_reading depth) (λ w. refl) (reading_keeps depth) (reading_new depth) (num_op q) c (op_push p q c) (op_law p q c)
 expression_law p (expression.Label depth left r) c = label_law depth left (unsigned_push 32 r c)
 expression_law p expression.Over c = (tt, λ e. cc)
-expression_law p (expression.Failed w) c = (tt, λ e. cc)
 
 -- code entries
 abbrev num_entry : InEntry → Num
@@ -430,17 +433,20 @@ runs_new : (n : ℕ) → EntryNew (runs_or_body n)
 runs_new zero = (tt, λ e. cc)
 runs_new (suc n) = (refl, λ e. cc)
 
-body_keeps : (x : InExpression) (i : Integer) (s : Partial) → num_expression x ≡ Some (i, s) → ((num_entry (entry_after_op x) ≡ Some (i, s)) × (entry_after_op x ≢ entry.Failed why.BadNumber)) ⊎ IsCut entry.Failed num_entry (entry_after_op x)
-body_keeps (expression.Op depth q) i s e = inl (e, λ e. cc)
-body_keeps (expression.Label depth left r) i s e = inl (e, λ e. cc)
-body_keeps expression.Over i s e = absurd (cc)
-body_keeps (expression.Failed w) i s e = absurd (cc)
+abbrev after_body : ExpressionAnswer → InEntry
+after_body a = (on_expression a entry_after_op plain.BodyOp entry.Failed).0
 
-body_new : (x : InExpression) → ExpressionNew x → EntryNew (entry_after_op x)
-body_new (expression.Op depth q) h = (h.0, λ e. cc)
-body_new (expression.Label depth left r) h = (h.0, λ e. cc)
-body_new expression.Over h = (tt, λ e. cc)
-body_new (expression.Failed w) h = (tt, λ e. h.1 (ap expression.Failed (let s : w ≡ why.BadNumber = cc in s)))
+body_keeps : (x : ExpressionAnswer) (i : Integer) (s : Partial) → num_answer x ≡ Some (i, s) → ((num_entry (after_body x) ≡ Some (i, s)) × (after_body x ≢ entry.Failed why.BadNumber)) ⊎ IsCut entry.Failed num_entry (after_body x)
+body_keeps (Ok (expression.Op depth q, o)) i s e = inl (e, λ e. cc)
+body_keeps (Ok (expression.Label depth left r, o)) i s e = inl (e, λ e. cc)
+body_keeps (Ok (expression.Over, o)) i s e = absurd (cc)
+body_keeps (Err w) i s e = absurd (cc)
+
+body_new : (x : ExpressionAnswer) → AnswerNew x → EntryNew (after_body x)
+body_new (Ok (expression.Op depth q, o)) h = (h.0, λ e. cc)
+body_new (Ok (expression.Label depth left r, o)) h = (h.0, λ e. cc)
+body_new (Ok (expression.Over, o)) h = (tt, λ e. cc)
+body_new (Err w) h = (tt, λ e. h.1 (ap Err (let s : w ≡ why.BadNumber = cc in s)))
 
 entry_apart : (w : Why) → entry.Failed w ≡ entry.Failed why.BadNumber → w ≡ why.BadNumber
 entry_apart w e = cc
@@ -449,7 +455,7 @@ entry_law : (p : Profile) (q : InEntry) (c : ℕ) → Law entry.Failed num_entry
 entry_law p (entry.RunCount r) c = on_number_law entry.Failed num_entry (unsigned_push 32 r c) entry.RunCount (λ n. (runs_or_body n, event.Nothing)) (λ s. refl) (λ s e. cc) runs_new
 entry_law p (entry.Run more r) c =
     on_value_law entry.Failed num_entry num_run (λ s. entry.Run more s) (λ x. with_item_given (runs_or_body more) (plain.Locals x.0 x.1)) (λ s. refl) (λ s e. cc) (λ w. tt) entry_apart (λ x. runs_new more) (num_run r) c (run_push p r c) (run_law p r c)
-entry_law p (entry.Body e) c = lift expression.Failed num_expression entry.Failed num_entry entry_after_op (λ w. refl) body_keeps body_new (num_expression e) c (expression_step p e c).0 (expression_law p e c)
+entry_law p (entry.Body e) c = lift {M = ExpressionAnswer} Err num_answer entry.Failed num_entry after_body (λ w. refl) body_keeps body_new (num_expression e) c (expression_step p e c) (expression_law p e c)
 entry_law p entry.Over c = (tt, λ e. cc)
 entry_law p (entry.Failed w) c = (tt, λ e. cc)
 
@@ -515,17 +521,20 @@ over_new constant.Global = (tt, λ e. cc)
 over_new constant.Element = (refl, λ e. cc)
 over_new constant.Segment = (refl, λ e. cc)
 
-constant_keeps : (of : ConstantOf) (x : InExpression) (i : Integer) (s : Partial) → num_expression x ≡ Some (i, s) → ((num_member (after_constant of x) ≡ Some (i, s)) × (after_constant of x ≢ at.Failed why.BadNumber)) ⊎ IsCut at.Failed num_member (after_constant of x)
-constant_keeps of (expression.Op depth q) i s e = inl (e, λ e. cc)
-constant_keeps of (expression.Label depth left r) i s e = inl (e, λ e. cc)
-constant_keeps of expression.Over i s e = absurd (cc)
-constant_keeps of (expression.Failed w) i s e = absurd (cc)
+abbrev after_one : ConstantOf → ExpressionAnswer → InMember
+after_one of a = (on_expression a (after_constant of) plain.ConstOp at.Failed).0
 
-constant_new : (of : ConstantOf) (x : InExpression) → ExpressionNew x → MemberNew (after_constant of x)
-constant_new of (expression.Op depth q) h = (h.0, λ e. cc)
-constant_new of (expression.Label depth left r) h = (h.0, λ e. cc)
-constant_new of expression.Over h = over_new of
-constant_new of (expression.Failed w) h = (tt, λ e. h.1 (ap expression.Failed (let s : w ≡ why.BadNumber = cc in s)))
+constant_keeps : (of : ConstantOf) (x : ExpressionAnswer) (i : Integer) (s : Partial) → num_answer x ≡ Some (i, s) → ((num_member (after_one of x) ≡ Some (i, s)) × (after_one of x ≢ at.Failed why.BadNumber)) ⊎ IsCut at.Failed num_member (after_one of x)
+constant_keeps of (Ok (expression.Op depth q, o)) i s e = inl (e, λ e. cc)
+constant_keeps of (Ok (expression.Label depth left r, o)) i s e = inl (e, λ e. cc)
+constant_keeps of (Ok (expression.Over, o)) i s e = absurd (cc)
+constant_keeps of (Err w) i s e = absurd (cc)
+
+constant_new : (of : ConstantOf) (x : ExpressionAnswer) → AnswerNew x → MemberNew (after_one of x)
+constant_new of (Ok (expression.Op depth q, o)) h = (h.0, λ e. cc)
+constant_new of (Ok (expression.Label depth left r, o)) h = (h.0, λ e. cc)
+constant_new of (Ok (expression.Over, o)) h = over_new of
+constant_new of (Err w) h = (tt, λ e. h.1 (ap Err (let s : w ≡ why.BadNumber = cc in s)))
 
 framed_keeps : (n : ℕ) (x : InEntry) (i : Integer) (s : Partial) → num_entry x ≡ Some (i, s) → ((num_member (member_in_entry n x) ≡ Some (i, s)) × (member_in_entry n x ≢ at.Failed why.BadNumber)) ⊎ IsCut at.Failed num_member (member_in_entry n x)
 framed_keeps n (entry.Failed w) i s e = absurd (cc)
@@ -571,7 +580,7 @@ member_law p (at.Name of more) c = name_step_new of more
 member_law p (at.Value v) c = on_value_law at.Failed num_member num_value at.Value (λ q. with_item_given at.Over q) (λ s. refl) (λ s e. cc) (λ w. tt) at_apart (λ x. (tt, λ e. cc)) (num_value v) c (value_push p v c) (value_law p v c)
 member_law p (at.Index of r) c = on_number_law at.Failed num_member (unsigned_push 32 r c) (λ s. at.Index of s) (λ n. with_item_given (after_index of) (index_item of n)) (λ s. refl) (λ s e. cc) (λ n. index_new of)
 member_law p (at.GlobalType g) c = on_value_law at.Failed num_member num_global at.GlobalType (λ t. with_item_given (at.Constant constant.Global start) (plain.Global t)) (λ s. refl) (λ s e. cc) (λ w. tt) at_apart (λ x. (tt, λ e. cc)) None c (global_type_push p g c) (global_law p g c)
-member_law p (at.Constant of e) c = lift expression.Failed num_expression at.Failed num_member (after_constant of) (λ w. refl) (constant_keeps of) (constant_new of) (num_expression e) c (expression_step p e c).0 (expression_law p e c)
+member_law p (at.Constant of e) c = lift {M = ExpressionAnswer} Err num_answer at.Failed num_member (after_one of) (λ w. refl) (constant_keeps of) (constant_new of) (num_expression e) c (expression_step p e c) (expression_law p e c)
 member_law p (at.Length of r) c = on_number_law at.Failed num_member (unsigned_push 32 r c) (λ s. at.Length of s) (λ n. (list_or_over of n, event.Nothing)) (λ s. refl) (λ s e. cc) (list_new of)
 member_law p (at.Data more) c = data_new more
 member_law p (at.EntrySize r) c = on_number_law at.Failed num_member (unsigned_push 32 r c) at.EntrySize (λ n. with_item_given (member_in_entry n (entry.RunCount fresh)) plain.Body) (λ s. refl) (λ s e. cc) (λ n. framed_new n (entry.RunCount fresh) (refl, λ e. cc))

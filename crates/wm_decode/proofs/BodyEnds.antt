@@ -25,7 +25,6 @@ use Rattle.wm_decode.specs.declared.machine.Event.{Event}
 use Rattle.wm_decode.specs.declared.machine.Event.TheVariants as event
 use Rattle.wm_decode.specs.declared.step.reading.Reading.{Reading}
 use Rattle.wm_decode.specs.declared.step.reading.Reading.TheVariants.{More, Done, Bad}
-use Rattle.wm_decode.specs.declared.step.expressions.InExpression.{InExpression}
 use Rattle.wm_decode.specs.declared.step.expressions.InExpression.TheVariants as expression
 use Rattle.wm_decode.specs.declared.machine.member.SectionKind.{SectionKind}
 use Rattle.wm_decode.specs.declared.machine.member.SectionKind.TheVariants as section_kind
@@ -46,8 +45,8 @@ use Rattle.wm_decode.specs.Grammar.{Code, Run, Expression, strict, loose}
 use Rattle.wm_decode.specs.Meanings.{MustStand, IsEntry, BeginsEntry, OtherBodySize}
 use Rattle.wm_decode.specs.exact.Members.{section_kind_of, member_at_start}
 use Rattle.wm_decode.specs.exact.ValueSteps.{value_type_of, global_type_push, value_push}
-use Rattle.wm_decode.specs.exact.ExpressionSteps.{start, expression_step}
-use Rattle.wm_decode.specs.exact.MemberSteps.{on_number, on_value, on_type, with_item_given, after_param, after_result, after_name, after_length, name_step, functions_or_over, index_item, after_index, constant_over, after_constant, data_or_over, list_or_over, entry_step, member_in_entry, member_step}
+use Rattle.wm_decode.specs.exact.ExpressionSteps.{ExpressionAnswer, start, expression_step}
+use Rattle.wm_decode.specs.exact.MemberSteps.{on_number, on_value, on_type, on_expression, with_item_given, after_param, after_result, after_name, after_length, name_step, functions_or_over, index_item, after_index, constant_over, after_constant, data_or_over, list_or_over, entry_step, member_in_entry, member_step}
 use Rattle.wm_decode.specs.exact.Steps.{custom_after_length, machine_in_custom, custom_step, machine_in_member, machine_after_count, machine_after_paired_count, after_count, begun_section, machine_if_rising, section_start, machine_in_contents, after_size, custom_size, header_step, step_of}
 use Rattle.wm_decode.specs.exact.Runs.{byte_read, ByteRead, MachineState, zone_of, after_byte, state_after, state_at_start}
 use Rattle.wm_decode.specs.exact.Live.{IsRefused}
@@ -142,11 +141,11 @@ over_out constant.Global = tt
 over_out constant.Element = tt
 over_out constant.Segment = tt
 
-constant_out : (of : ConstantOf) (e : InExpression) → IsOutside (after_constant of e)
-constant_out of expression.Over = over_out of
-constant_out of (expression.Failed w) = tt
-constant_out of (expression.Op depth q) = tt
-constant_out of (expression.Label depth n r) = tt
+constant_out : (of : ConstantOf) (a : ExpressionAnswer) → IsOutside (on_expression a (after_constant of) plain.ConstOp at.Failed).0
+constant_out of (Ok (expression.Over, o)) = over_out of
+constant_out of (Ok (expression.Op depth q, o)) = tt
+constant_out of (Ok (expression.Label depth n r, o)) = tt
+constant_out of (Err w) = tt
 
 number_out : (q : Step ℕ × Partial) (more : Partial → InMember) (done : ℕ → InMember × Event) → ((s : Partial) → IsOutside (more s)) → ((n : ℕ) → IsOutside (done n).0) → IsOutside (on_number q more done at.Failed).0
 number_out (step.More, s) more done a b = a s
@@ -173,7 +172,7 @@ step_stays p c (at.Name of more) o = name_step_out of more
 step_stays p c (at.Value v) o = value_out (value_push p v c) at.Value (λ q. with_item_given at.Over q) (λ s. tt) (λ x. tt)
 step_stays p c (at.Index of r) o = number_out (unsigned_push 32 r c) (λ s. at.Index of s) (λ n. with_item_given (after_index of) (index_item of n)) (λ s. tt) (λ n. index_out of)
 step_stays p c (at.GlobalType g) o = value_out (global_type_push p g c) at.GlobalType (λ t. with_item_given (at.Constant constant.Global start) (plain.Global t)) (λ s. tt) (λ x. tt)
-step_stays p c (at.Constant of e) o = constant_out of (expression_step p e c).0
+step_stays p c (at.Constant of e) o = constant_out of (expression_step p e c)
 step_stays p c (at.Length of r) o = number_out (unsigned_push 32 r c) (λ s. at.Length of s) (λ n. (list_or_over of n, event.Nothing)) (λ s. tt) (list_out of)
 step_stays p c (at.Data more) o = data_out more
 step_stays p c (at.EntrySize r) o = absurd o

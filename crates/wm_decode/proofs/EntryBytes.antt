@@ -1,5 +1,5 @@
 -- What may still come of a code entry, and that each byte goes on with it.
-use Rattle.std.proofs.Common.{◌≡◌, ℕ, zero, suc, ◌<◌, ◌^◌, List, [], ◌∷◌, ◌++◌, Option, Some, None, length, refl, sym, ◌∙◌, ap, subst, arith}
+use Rattle.std.proofs.Common.{◌≡◌, ℕ, zero, suc, ◌<◌, ◌^◌, List, [], ◌∷◌, ◌++◌, Some, None, Ok, Err, length, refl, sym, ◌∙◌, ap, subst, arith}
 use Rattle.wm_syntax.specs.declared.numbers.Step.{Step}
 use Rattle.wm_syntax.specs.declared.numbers.Step.TheVariants as step
 use Rattle.wm_syntax.specs.inner.Numbers.{Partial}
@@ -7,8 +7,6 @@ use Rattle.wm_syntax.specs.exact.Reading.{fresh, unsigned_push}
 use Rattle.wm_syntax.specs.declared.why.Why.{Why}
 use Rattle.wm_syntax.specs.declared.profile.Profile.{Profile}
 use Rattle.wm_syntax.specs.declared.types.ValType.{ValType}
-use Rattle.wm_syntax.specs.declared.instructions.Op.{Op}
-use Rattle.wm_decode.specs.declared.machine.Plain.{Plain}
 use Rattle.wm_decode.specs.declared.machine.Plain.TheVariants as plain
 use Rattle.wm_decode.specs.declared.machine.Event.{Event}
 use Rattle.wm_decode.specs.declared.machine.Event.TheVariants as event
@@ -19,20 +17,19 @@ use Rattle.wm_decode.specs.declared.machine.member.InEntry.{InEntry}
 use Rattle.wm_decode.specs.declared.machine.member.InEntry.TheVariants as entry
 use Rattle.wm_decode.specs.declared.step.expressions.InExpression.{InExpression}
 use Rattle.wm_decode.specs.declared.step.expressions.InExpression.TheVariants as expression
-use Rattle.wm_decode.specs.Items.{Item, locals, body_op, outside, entry as in_entry, closing, Mark, Marks}
+use Rattle.wm_decode.specs.Items.{Item, locals, body_op, entry as in_entry, closing, Mark, Marks}
 use Rattle.wm_decode.specs.MarkedForms.{MarkedForm, Empty, Then, Times, Leaf, Vector, Counted, Sized, Entry, nothing_at, in_zone, entry_marks, outside_mark}
 use Rattle.wm_decode.specs.Grammar.{Run, Expression}
-use Rattle.wm_decode.specs.exact.Runs.{byte_read}
 use Rattle.wm_decode.specs.exact.ValueSteps.{run_push}
-use Rattle.wm_decode.specs.exact.ExpressionSteps.{start, expression_step}
-use Rattle.wm_decode.specs.exact.MemberSteps.{on_number, on_value, with_item_given, runs_or_body, entry_after_op, op_event, body_step, entry_step}
+use Rattle.wm_decode.specs.exact.ExpressionSteps.{ExpressionAnswer, start, expression_step}
+use Rattle.wm_decode.specs.exact.MemberSteps.{on_number, on_value, on_expression, with_item_given, runs_or_body, entry_after_op, entry_step}
 use Rattle.wm_decode.proofs.FirstBytes.{Next, Same, HasBytes, Never, not_nil, same_refl, same_then, next_to, next_never, then_has, empty_then, then_assoc, then_same}
 use Rattle.wm_decode.proofs.Numbers.{Left, left_nil}
 use Rattle.wm_decode.proofs.Counts.{counted_has, counted_fresh}
 use Rattle.wm_decode.proofs.Leaves.{leaf_has, leaf_marked}
 use Rattle.wm_decode.proofs.ValuesThatAsk.{has_mark}
 use Rattle.wm_decode.proofs.ValueBytes.{run_rest, run_reader, run_begins}
-use Rattle.wm_decode.proofs.ExpressionRest.{ExpressionRest, IsInside, CanOpen, expression_has, expression_marked, expression_same, expression_follows, mark_of}
+use Rattle.wm_decode.proofs.ExpressionRest.{ExpressionRest, IsInside, CanOpen, AnswerFollows, expression_has, expression_marked, expression_same, expression_follows}
 use Rattle.wm_decode.proofs.MachineParts.{Follows, number_follows, leaf_follows}
 
 -- the item of a run of locals
@@ -55,14 +52,15 @@ value_parts (More s) more done bad h = tt
 value_parts (Done x) more done bad h = h x
 value_parts (Bad w) more done bad h = tt
 
-op_parts : (f : Op → Plain) (o : Option Op) → OnlyParts (op_event f o)
-op_parts f None = tt
-op_parts f (Some o) = tt
+op_parts : (a : ExpressionAnswer) → OnlyParts (on_expression a entry_after_op plain.BodyOp entry.Failed).1
+op_parts (Ok (e, None)) = tt
+op_parts (Ok (e, Some o)) = tt
+op_parts (Err w) = tt
 
 pub entry_parts : (p : Profile) (q : InEntry) (c : ℕ) → OnlyParts (entry_step p q c).1
 entry_parts p (entry.RunCount r) c = number_parts (unsigned_push 32 r c) entry.RunCount (λ n. (runs_or_body n, event.Nothing)) entry.Failed (λ n. tt)
 entry_parts p (entry.Run more r) c = value_parts (run_push p r c) (λ s. entry.Run more s) (λ x. with_item_given (runs_or_body more) (plain.Locals x.0 x.1)) entry.Failed (λ x. tt)
-entry_parts p (entry.Body e) c = op_parts plain.BodyOp (expression_step p e c).1
+entry_parts p (entry.Body e) c = op_parts (expression_step p e c)
 entry_parts p entry.Over c = tt
 entry_parts p (entry.Failed w) c = tt
 
@@ -112,25 +110,13 @@ module _ (demanded : Type 0) (p : Profile) where
 
   after_same : (e : InExpression) → Same demanded (ExpressionRest p body_op e) (EntryRest (entry_after_op e))
   after_same expression.Over = same_refl demanded Empty
-  after_same (expression.Failed w) = same_refl demanded Never
   after_same (expression.Op depth q) = same_refl demanded (ExpressionRest p body_op (expression.Op depth q))
   after_same (expression.Label depth left r) = same_refl demanded (ExpressionRest p body_op (expression.Label depth left r))
 
-  heard_op : (m : InEntry) (c : ℕ) (o : Option Op) → (byte_read entry.Failed outside [] c (m, op_event plain.BodyOp o)).mark ≡ outside_mark (mark_of body_op o)
-  heard_op m c None = refl
-  heard_op m c (Some o) = refl
-
-  heard_at : (m : InEntry) (c : ℕ) (o : Option Op) → (byte_read entry.Failed outside [] c (m, op_event plain.BodyOp o)).at ≡ m
-  heard_at m c None = refl
-  heard_at m c (Some o) = refl
-
-  body_follows : (e : InExpression) (c : ℕ) → CanOpen e → c < 2 ^ 8 → EntryFollows c (ExpressionRest p body_op e) (body_step p e c)
-  body_follows e c room byte =
-      let x = expression_step p e c in
-      let P : MarkedForm = ExpressionRest p body_op e in
-      subst (λ y. Next demanded P c y (EntryRest (byte_read entry.Failed outside [] c (entry_after_op x.0, op_event plain.BodyOp x.1)).at)) (sym (heard_op (entry_after_op x.0) c x.1))
-      (subst (λ y. Next demanded P c (outside_mark (mark_of body_op x.1)) (EntryRest y)) (sym (heard_at (entry_after_op x.0) c x.1))
-      (next_to demanded P (ExpressionRest p body_op x.0) (EntryRest (entry_after_op x.0)) c (outside_mark (mark_of body_op x.1)) (after_same x.0) (expression_follows demanded p body_op e c room byte)))
+  body_follows : (P : MarkedForm) (c : ℕ) (a : ExpressionAnswer) → AnswerFollows demanded p body_op P c a → EntryFollows c P (on_expression a entry_after_op plain.BodyOp entry.Failed)
+  body_follows P c (Ok (e, None)) n = next_to demanded P (ExpressionRest p body_op e) (EntryRest (entry_after_op e)) c (outside_mark None) (after_same e) n
+  body_follows P c (Ok (e, Some o)) n = next_to demanded P (ExpressionRest p body_op e) (EntryRest (entry_after_op e)) c (outside_mark (Some (body_op o))) (after_same e) n
+  body_follows P c (Err w) n = n
 
   pub entry_follows : (q : InEntry) (c : ℕ) → CanOpenIn q → c < 2 ^ 8 → EntryFollows c (EntryRest q) (entry_step p q c)
   entry_follows (entry.RunCount r) c room byte =
@@ -139,7 +125,7 @@ module _ (demanded : Type 0) (p : Profile) where
   entry_follows (entry.Run more r) c room byte =
       leaf_follows demanded entry.Failed named_rest (λ w. same_refl demanded Never) [] c (run_rest p) (run_push p) (run_reader p) run_part (Then (Times more (Run p)) Body) (λ s. entry.Run more s) (λ x. with_item_given (runs_or_body more) (plain.Locals x.0 x.1))
       (λ s. same_refl demanded (EntryRest (entry.Run more s))) (λ x. refl) (λ x. runs_same more) r byte
-  entry_follows (entry.Body e) c room byte = body_follows e c room byte
+  entry_follows (entry.Body e) c room byte = body_follows (ExpressionRest p body_op e) c (expression_step p e c) (expression_follows demanded p body_op e c room byte)
   entry_follows entry.Over c room byte = next_never demanded Empty c (outside_mark None) (λ s b k h. not_nil c b h.0)
   entry_follows (entry.Failed w) c room byte = next_never demanded Never c (outside_mark None) (λ s b k h. h)
 

@@ -1,5 +1,5 @@
 -- What may still come of an expression, and that each byte goes on with it.
-use Rattle.std.proofs.Common.{◌≡◌, ℕ, zero, suc, ◌+◌, ◌-◌, ◌<◌, ◌^◌, List, [], ◌∷◌, ◌++◌, Option, Some, None, refl, sym, ◌∙◌, ap, subst, arith, nat_lt}
+use Rattle.std.proofs.Common.{◌≡◌, ℕ, zero, suc, ◌+◌, ◌-◌, ◌<◌, ◌^◌, List, [], ◌∷◌, ◌++◌, Option, Some, None, Ok, Err, refl, sym, ◌∙◌, ap, subst, arith, nat_lt}
 use Rattle.std.specs.List.{AllByRecursion}
 use Rattle.std.proofs.lemmas.Bool.{cond_both, ltb-false}
 use Rattle.wm_syntax.specs.declared.profile.Profile.{Profile}
@@ -20,7 +20,7 @@ use Rattle.wm_decode.specs.Items.{Item, Marks}
 use Rattle.wm_decode.specs.MarkedForms.{MarkedForm, Empty, Counted, marks_ending, outside_mark}
 use Rattle.wm_decode.specs.Grammar.{EachOp, Expression}
 use Rattle.wm_decode.specs.exact.OpSteps.{on_answer, op_push}
-use Rattle.wm_decode.specs.exact.ExpressionSteps.{start, at_next_op, deeper, after_op, after_label, after_reading, expression_failed, expression_step}
+use Rattle.wm_decode.specs.exact.ExpressionSteps.{ExpressionAnswer, start, at_next_op, deeper, after_op, after_label, after_reading, expression_step}
 use Rattle.wm_decode.specs.exact.Readings.{Goes}
 use Rattle.wm_decode.proofs.FirstBytes.{Next, Same, Never, not_nil, next_to, next_never}
 use Rattle.wm_decode.proofs.Numbers.{Left, left_nil, fresh_number}
@@ -35,7 +35,6 @@ abbrev pub IsInside : InExpression → Type 0
 IsInside (expression.Op depth at) = Unit {0}
 IsInside (expression.Label depth left r) = Unit {0}
 IsInside expression.Over = ⊥
-IsInside (expression.Failed w) = ⊥
 
 module _ (p : Profile) (part : Op → Item) where
   -- ops up to the end, with so many blocks open and so many labels to come
@@ -53,19 +52,16 @@ module _ (p : Profile) (part : Op → Item) where
   ExpressionRest (expression.Op depth at) = Led (op_rest p at) part (OpsAfter depth)
   ExpressionRest (expression.Label depth left r) = Counted (Left r) label_part (λ l. OpsFrom depth left)
   ExpressionRest expression.Over = Empty
-  ExpressionRest (expression.Failed w) = Never
 
   pub expression_has : (at : InExpression) → IsInside at → (k : Marks) → ExpressionRest at [] k → ⊥
   expression_has (expression.Op depth at) i k h = led_has (Unit {0}) (op_rest p) (op_push p) (op_reader p) part (OpsAfter depth) at k h
   expression_has (expression.Label depth left r) i k h = left_nil r h.n (subst (Left r h.n) (no_front h.front h.back h.bytes) h.number)
   expression_has expression.Over i k h = i
-  expression_has (expression.Failed w) i k h = i
 
   pub expression_marked : (at : InExpression) → IsInside at → (b : List ℕ) → ExpressionRest at b [] → ⊥
   expression_marked (expression.Op depth at) i b h = led_marked (Unit {0}) (op_rest p) (op_push p) (op_reader p) part (OpsAfter depth) at b h
   expression_marked (expression.Label depth left r) i b h = has_mark (label_part h.n) h.front h.back_marks (λ e. left_nil r h.n (subst (Left r h.n) e h.number)) h.marks
   expression_marked expression.Over i b h = i
-  expression_marked (expression.Failed w) i b h = i
 
 -- the item of an op that is complete
 abbrev pub mark_of : (Op → Item) → Option Op → Option Item
@@ -183,11 +179,13 @@ module _ (demanded : Type 0) (p : Profile) (part : Op → Item) where
     from = λ b k h. let g = (opened_same 0).from b k h in (g.0, (expression_ends g.0).1 g.1, g.2, g.3);
   }
 
-  abbrev Follows : MarkedForm → ℕ → InExpression × Option Op → Type 0
-  Follows P c a = Next demanded P c (outside_mark (mark_of part a.1)) (ExpressionRest p part a.0)
+  -- P goes on as the answer says
+  abbrev pub AnswerFollows : MarkedForm → ℕ → ExpressionAnswer → Type 0
+  AnswerFollows P c (Ok a) = Next demanded P c (outside_mark (mark_of part a.1)) (ExpressionRest p part a.0)
+  AnswerFollows P c (Err w) = Next demanded P c (outside_mark None) Never
 
   op_follows : (depth : ℕ) → depth + 1 < 2 ^ 32 → (at : InOp) (c : ℕ) (a : Reading InOp Op) → ((o : Op) → a ≡ Done o → NoLabel o) → LedNext demanded (op_rest p) (op_push p) (op_reader p) part (OpsAfter p part depth) at c a
-      → Follows (ExpressionRest p part (expression.Op depth at)) c (after_reading depth a)
+      → AnswerFollows (ExpressionRest p part (expression.Op depth at)) c (after_reading depth a)
   op_follows depth h at c (More s) n next = next
   op_follows depth h at c (Done o) n next = next_to demanded (ExpressionRest p part (expression.Op depth at)) (OpsAfter p part depth o) (ExpressionRest p part (after_op depth o)) c (outside_mark (Some (part o))) (after_same depth h o (n o refl)) next
   op_follows depth h at c (Bad w) n next = next
@@ -198,14 +196,13 @@ module _ (demanded : Type 0) (p : Profile) (part : Op → Item) where
       rest_named p at o (c ∷ []) ((r.law at c byte o []).1 (subst (λ y. Goes (op_rest p) y o []) (sym e) (refl, refl)))
 
   label_follows : (depth left : ℕ) (r : Partial) (c : ℕ) (q : Step ℕ × Partial) → CountedNext demanded (label_part p part) (λ l. OpsFrom p part depth left) r c q
-      → Follows (ExpressionRest p part (expression.Label depth left r)) c (on_answer q (λ s. (expression.Label depth left s, None)) (λ l. (after_label depth left, Some (op.Label l))) (expression_failed why.BadNumber))
+      → AnswerFollows (ExpressionRest p part (expression.Label depth left r)) c (on_answer q (λ s. Ok (expression.Label depth left s, None)) (λ l. Ok (after_label depth left, Some (op.Label l))) (Err why.BadNumber))
   label_follows depth left r c (step.More, s) next = next
   label_follows depth left r c (step.Done v, s) next = next_to demanded (ExpressionRest p part (expression.Label depth left r)) (OpsFrom p part depth left) (ExpressionRest p part (after_label depth left)) c (outside_mark (label_part p part v)) (after_label_same depth left) next
   label_follows depth left r c (step.Bad, s) next = next
 
   -- each byte goes on with what may still come
-  pub expression_follows : (at : InExpression) (c : ℕ) → CanOpen at → c < 2 ^ 8 → Next demanded (ExpressionRest p part at) c (outside_mark (mark_of part (expression_step p at c).1)) (ExpressionRest p part (expression_step p at c).0)
+  pub expression_follows : (at : InExpression) (c : ℕ) → CanOpen at → c < 2 ^ 8 → AnswerFollows (ExpressionRest p part at) c (expression_step p at c)
   expression_follows (expression.Op depth at) c h byte = op_follows depth h at c (op_push p at c) (done_good at c byte) (led_next demanded (op_rest p) (op_push p) (op_reader p) part (OpsAfter p part depth) at c byte)
   expression_follows (expression.Label depth left r) c h byte = label_follows depth left r c (unsigned_push 32 r c) (counted_next demanded (label_part p part) (λ l. OpsFrom p part depth left) r c byte)
   expression_follows expression.Over c h byte = next_never demanded Empty c (outside_mark None) (λ s b k e. not_nil c b e.0)
-  expression_follows (expression.Failed w) c h byte = next_never demanded Never c (outside_mark None) (λ s b k e. e)

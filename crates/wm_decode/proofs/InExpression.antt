@@ -1,5 +1,5 @@
 -- Inside the expression of a code entry the machine stands before a byte of an op.
-use Rattle.std.proofs.Common.{◌≡◌, ℕ, zero, suc, ◌+◌, ◌-◌, ◌*◌, ◌<◌, ◌≤◌, ◌^◌, ◌⊎◌, inl, inr, List, [], ◌∷◌, ◌++◌, Option, Some, None, refl, sym, ◌∙◌, ap, subst, arith}
+use Rattle.std.proofs.Common.{◌≡◌, ℕ, zero, suc, ◌+◌, ◌-◌, ◌*◌, ◌<◌, ◌≤◌, ◌^◌, ◌⊎◌, inl, inr, List, [], ◌∷◌, ◌++◌, Some, None, Ok, Err, refl, sym, ◌∙◌, ap, subst, arith}
 use Rattle.wm_syntax.specs.inner.Numbers.{Partial}
 use Rattle.wm_syntax.specs.exact.Reading.{fresh}
 use Rattle.wm_syntax.specs.Spelling.{AreBytes}
@@ -20,8 +20,8 @@ use Rattle.wm_decode.specs.declared.machine.Event.TheVariants as event
 use Rattle.wm_decode.specs.declared.machine.Machine.{Machine}
 use Rattle.wm_decode.specs.declared.machine.Machine.TheVariants as machine
 use Rattle.wm_decode.specs.declared.machine.Plain.TheVariants as plain
-use Rattle.wm_decode.specs.exact.MemberSteps.{entry_after_op, member_in_entry, entry_step, op_event}
-use Rattle.wm_decode.specs.exact.ExpressionSteps.{expression_step}
+use Rattle.wm_decode.specs.exact.MemberSteps.{on_expression, entry_after_op, body_step, member_in_entry, entry_step}
+use Rattle.wm_decode.specs.exact.ExpressionSteps.{ExpressionAnswer, expression_step}
 use Rattle.wm_decode.specs.Fronts.{InExpression, entry_more, entry_after}
 use Rattle.wm_decode.specs.exact.Live.{IsRefused, Live, MayRunOutAtEvent, MayRunOutAtByte}
 use Rattle.wm_decode.specs.Items.{Item, body_op, Zone, entry as in_entry, Marks, locals, items_at}
@@ -280,17 +280,17 @@ module _ (p : Profile) where
 not_memory : why.Float ≡ why.Memory → ⊥
 not_memory e = cc
 
-expression_memory : (p : Profile) (e : Place) (c : ℕ) → (expression_step p e c).0 ≡ expression.Failed why.Memory → ⊥
+expression_memory : (p : Profile) (e : Place) (c : ℕ) → expression_step p e c ≡ Err why.Memory → ⊥
 expression_memory p e c = expression_fault why.Memory (λ c. ⊥) (λ w i s. subst IsOther s i) (λ c s f. absurd (not_memory s)) p e c (inr (λ s. cc))
 
 abbrev Never : InMember → Type 0
 Never q = q ≡ at.Failed why.Memory → ⊥
 
-op_never : (e : Place) → (e ≡ expression.Failed why.Memory → ⊥) → entry_after_op e ≡ entry.Failed why.Memory → ⊥
-op_never expression.Over h i = cc
-op_never (expression.Failed w) h i = h (let s : w ≡ why.Memory = cc in ap expression.Failed s)
-op_never (expression.Op depth q) h i = cc
-op_never (expression.Label depth n r) h i = cc
+op_never : (a : ExpressionAnswer) → (a ≡ Err why.Memory → ⊥) → (on_expression a entry_after_op plain.BodyOp entry.Failed).0 ≡ entry.Failed why.Memory → ⊥
+op_never (Ok (expression.Over, o)) h i = cc
+op_never (Ok (expression.Op depth q, o)) h i = cc
+op_never (Ok (expression.Label depth n r, o)) h i = cc
+op_never (Err w) h i = h (let s : w ≡ why.Memory = cc in ap Err s)
 
 entry_never : (n : ℕ) (q : InEntry) → (q ≡ entry.Failed why.Memory → ⊥) → Never (member_in_entry n q)
 entry_never n (entry.Failed w) h e = h (let s : w ≡ why.Memory = cc in ap entry.Failed s)
@@ -312,9 +312,10 @@ framed_never of functions (suc n) (suc l) at.Over h e = cc
 framed_never of functions zero left q h e = cc
 framed_never of functions (suc n) left q h e = cc
 
-event_op : {H : Type 0} (may : H → Item → Type 0) (o : Option Op) (name : List ℕ) (c : ℕ) (h : H) → MayRunOutAtEvent may (op_event plain.BodyOp o) name c h → (x : Op) × may h (body_op x)
-event_op may None name c h m = absurd m
-event_op may (Some x) name c h m = (x, m)
+event_op : {H : Type 0} (may : H → Item → Type 0) (a : ExpressionAnswer) (name : List ℕ) (c : ℕ) (h : H) → MayRunOutAtEvent may (on_expression a entry_after_op plain.BodyOp entry.Failed).1 name c h → (x : Op) × may h (body_op x)
+event_op may (Ok (e, None)) name c h m = absurd m
+event_op may (Ok (e, Some x)) name c h m = (x, m)
+event_op may (Err w) name c h m = absurd m
 
 pub runs_out_at_op : {H : Type 0} (may : H → Item → Type 0) (p : Profile) (b : List ℕ) → AreBytes b → (IsRefused (state_after p state_at_start b).machine → ⊥) → InExpression p b
     → (l : Live H) (c : ℕ) → l.machine ≡ (state_after p state_at_start b).machine → MayRunOutAtByte may p l c → (x : Op) × may l.held (body_op x)
@@ -323,7 +324,7 @@ runs_out_at_op {H} may p b bytes live i l c same m =
     let is : l.machine ≡ entry_machine a.of a.functions a.more a.left a.rest (entry.Body a.place) = same ∙ a.is in
     let n : MayRunOutAtByte may p (record l { machine = entry_machine a.of a.functions a.more a.left a.rest (entry.Body a.place) }) c = subst (λ x. MayRunOutAtByte may p (record l { machine = x }) c) is m in
     elim n [
-      | inl g ↦ event_op may (expression_step p a.place c).1 l.name c l.held g
-      | inr r ↦ absurd (framed_never a.of a.functions a.more a.left (member_in_entry a.rest (entry_after_op (expression_step p a.place c).0))
-          (entry_never a.rest (entry_after_op (expression_step p a.place c).0) (op_never (expression_step p a.place c).0 (expression_memory p a.place c))) r)
+      | inl g ↦ event_op may (expression_step p a.place c) l.name c l.held g
+      | inr r ↦ absurd (framed_never a.of a.functions a.more a.left (member_in_entry a.rest (body_step p a.place c).0)
+          (entry_never a.rest (body_step p a.place c).0 (op_never (expression_step p a.place c) (expression_memory p a.place c))) r)
     ]

@@ -27,8 +27,8 @@ use Rattle.wm_decode.specs.Items.{Item}
 use Rattle.wm_decode.specs.Sinks.{and_then, all_taken}
 use Rattle.wm_decode.specs.exact.Steps.{step_of, machine_in_member}
 use Rattle.wm_decode.specs.exact.OpSteps.{on_answer}
-use Rattle.wm_decode.specs.exact.ExpressionSteps.{after_label, expression_failed}
-use Rattle.wm_decode.specs.exact.MemberSteps.{on_number, after_index, index_item, with_item_given, member_in_entry, entry_after_op, op_event}
+use Rattle.wm_decode.specs.exact.ExpressionSteps.{after_label}
+use Rattle.wm_decode.specs.exact.MemberSteps.{on_number, on_expression, after_index, index_item, with_item_given, member_in_entry, entry_after_op}
 use Rattle.wm_decode.specs.exact.Live.{Live, live_from, live_byte, decoder_after, event_effect}
 use Rattle.wm_decode.specs.exact.Indices.{GaveEach, LiesIn, before_index, index_item_in, index_part, indices_after, list_after, members_after, most_in, most_indices}
 use Rattle.wm_decode.proofs.WholeNumbers.{u32_one}
@@ -58,8 +58,8 @@ in_table : (p : Profile) (of : SectionKind) (f more left rest depth labels c : �
     → step_of p (machine.Section of f (suc more) left (at.Entry (suc rest) (entry.Body (expression.Label depth (suc labels) fresh)))) c
     ≡ (machine.Section of f more left (at.Entry rest (entry.Body (expression.Label depth labels fresh))), event.Complete (plain.BodyOp (op.Label c)))
 in_table p of f more left rest depth labels c less =
-    ap (λ x. let y = on_answer x (λ s. (expression.Label depth (suc labels) s, None)) (λ l. (after_label depth (suc labels), Some (op.Label l))) (expression_failed why.BadNumber)
-    in (machine_in_member of f (suc more) left (member_in_entry (suc rest) (entry_after_op y.0)), op_event plain.BodyOp y.1)) (u32_one c less)
+    ap (λ x. let y = on_expression (on_answer x (λ s. Ok (expression.Label depth (suc labels) s, None)) (λ l. Ok (after_label depth (suc labels), Some (op.Label l))) (Err why.BadNumber)) entry_after_op plain.BodyOp entry.Failed
+    in (machine_in_member of f (suc more) left (member_in_entry (suc rest) y.0), y.1)) (u32_one c less)
 
 -- before so many indices more
 abbrev left_ahead : List ℕ → ℕ → IndexList → ℕ

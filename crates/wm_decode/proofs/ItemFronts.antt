@@ -12,8 +12,6 @@ use Rattle.wm_syntax.specs.declared.why.Why.{Why}
 use Rattle.wm_syntax.specs.declared.why.Why.TheVariants as why
 use Rattle.wm_syntax.specs.declared.profile.Profile.{Profile}
 use Rattle.wm_syntax.specs.declared.types.ValType.{ValType}
-use Rattle.wm_syntax.specs.declared.instructions.Op.{Op}
-use Rattle.wm_syntax.specs.declared.instructions.Op.TheVariants as op
 use Rattle.wm_decode.specs.declared.machine.NameKind.{NameKind}
 use Rattle.wm_decode.specs.declared.machine.NameKind.TheVariants as name
 use Rattle.wm_decode.specs.declared.machine.InCustom.{InCustom}
@@ -25,7 +23,6 @@ use Rattle.wm_decode.specs.declared.machine.Event.{Event}
 use Rattle.wm_decode.specs.declared.machine.Event.TheVariants as event
 use Rattle.wm_decode.specs.declared.step.reading.Reading.{Reading}
 use Rattle.wm_decode.specs.declared.step.reading.Reading.TheVariants.{More, Done, Bad}
-use Rattle.wm_decode.specs.declared.step.ops.InOp.{InOp}
 use Rattle.wm_decode.specs.declared.step.expressions.InExpression.{InExpression}
 use Rattle.wm_decode.specs.declared.step.expressions.InExpression.TheVariants as expression
 use Rattle.wm_decode.specs.declared.machine.member.SectionKind.{SectionKind}
@@ -45,9 +42,8 @@ use Rattle.wm_decode.specs.Grammar.{Module, loose}
 use Rattle.wm_decode.specs.Fronts.{IsFront}
 use Rattle.wm_decode.specs.exact.Members.{id_of, section_kind_of}
 use Rattle.wm_decode.specs.exact.ValueSteps.{value_type_of, global_type_push, run_push, value_push}
-use Rattle.wm_decode.specs.exact.OpSteps.{on_answer, op_push}
-use Rattle.wm_decode.specs.exact.ExpressionSteps.{start, ends, after_op, after_label, after_reading, expression_step}
-use Rattle.wm_decode.specs.exact.MemberSteps.{on_number, on_value, on_type, with_item_given, after_param, after_result, after_name, after_length, name_step, functions_or_over, index_item, after_index, constant_over, after_constant, op_event, data_or_over, list_or_over, runs_or_body, entry_after_op, entry_step, member_in_entry, member_step}
+use Rattle.wm_decode.specs.exact.ExpressionSteps.{ExpressionAnswer, start, expression_step}
+use Rattle.wm_decode.specs.exact.MemberSteps.{on_number, on_value, on_type, on_expression, with_item_given, after_param, after_result, after_name, after_length, name_step, functions_or_over, index_item, after_index, constant_over, after_constant, op_event, data_or_over, list_or_over, runs_or_body, entry_after_op, entry_step, member_in_entry, member_step}
 use Rattle.wm_decode.specs.exact.Steps.{custom_after_length, custom_step, machine_in_member, after_count, begun_section, machine_if_rising, section_start, after_size, custom_size, header_step, step_of}
 use Rattle.wm_decode.specs.exact.Runs.{name_item, byte_read, ByteRead, zone_in, zone_of, read_byte, state_after, marks, state_at_start}
 use Rattle.wm_decode.proofs.FirstBytes.{Next}
@@ -96,47 +92,6 @@ module _ (c : ℕ) (x : Item) where
       go : (k : Marks) → e.later ≡ k → Ends (Entry P) c x
       go [] is = record { mark = in_zone closing e.mark; completes = e.completes; bytes = e.bytes; later = []; spelled = record { inner = e.mark ∷ e.later; marks = sym (ap (λ y. entry_marks (e.mark ∷ y)) is); contents = e.spelled } }
       go (n ∷ k) is = record { mark = in_zone in_entry e.mark; completes = e.completes; bytes = e.bytes; later = entry_marks (n ∷ k); spelled = record { inner = e.mark ∷ e.later; marks = sym (ap (λ y. entry_marks (e.mark ∷ y)) is); contents = e.spelled } }
-
--- an expression in which an op is complete has not failed
-abbrev pub StandsIn : InExpression → Type 0
-StandsIn (expression.Failed w) = ⊥
-StandsIn e = Unit {0}
-
-abbrev Gave : InExpression × Option Op → Type 0
-Gave z = (o : Op) → z.1 ≡ Some o → StandsIn z.0
-
-ends_stands : (depth : ℕ) → StandsIn (ends depth)
-ends_stands zero = tt
-ends_stands (suc n) = tt
-
-pub op_stands : (depth : ℕ) (o : Op) → StandsIn (after_op depth o)
-op_stands depth (op.Block t) = tt
-op_stands depth (op.Loop t) = tt
-op_stands depth (op.If t) = tt
-op_stands depth op.End = ends_stands depth
-op_stands depth (op.BrTable n) = tt
-op_stands depth o = tt
-
-pub label_stands : (depth left : ℕ) → StandsIn (after_label depth left)
-label_stands depth zero = tt
-label_stands depth (suc n) = tt
-
-reading_gave : (depth : ℕ) (q : Reading InOp Op) → Gave (after_reading depth q)
-reading_gave depth (More at) o e = absurd (no_item o e)
-reading_gave depth (Done v) o e = op_stands depth v
-reading_gave depth (Bad w) o e = absurd (no_item o e)
-
-label_gave : (depth left : ℕ) (q : Step ℕ × Partial)
-    → Gave (on_answer q (λ s. (expression.Label depth left s, None)) (λ l. (after_label depth left, Some (op.Label l))) (expression.Failed why.BadNumber, None))
-label_gave depth left (step.More, s) o e = absurd (no_item o e)
-label_gave depth left (step.Done v, s) o e = label_stands depth left
-label_gave depth left (step.Bad, s) o e = absurd (no_item o e)
-
-expression_gave : (p : Profile) (e : InExpression) (c : ℕ) → Gave (expression_step p e c)
-expression_gave p (expression.Op depth at) c = reading_gave depth (op_push p at c)
-expression_gave p (expression.Label depth left r) c = label_gave depth left (unsigned_push 32 r c)
-expression_gave p expression.Over c = λ o e. absurd (no_item o e)
-expression_gave p (expression.Failed w) c = λ o e. absurd (no_item o e)
 
 -- A place at which an item is complete has not failed.
 module _ {M : Type 0} (fail : Why → M) (Stands : M → Type 0) (zone : Zone) (y : List ℕ) (c : ℕ) (x : Item) where
@@ -219,21 +174,19 @@ over_stands constant.Global = tt
 over_stands constant.Element = tt
 over_stands constant.Segment = tt
 
-constant_stands : (of : ConstantOf) (e : InExpression) → StandsIn e → StandsAt (after_constant of e)
-constant_stands of expression.Over s = over_stands of
-constant_stands of (expression.Failed w) s = absurd s
-constant_stands of (expression.Op depth q) s = tt
-constant_stands of (expression.Label depth left r) s = tt
+pub constant_stands : (of : ConstantOf) (e : InExpression) → StandsAt (after_constant of e)
+constant_stands of expression.Over = over_stands of
+constant_stands of (expression.Op depth q) = tt
+constant_stands of (expression.Label depth left r) = tt
 
 pub runs_stand : (n : ℕ) → StandsEntry (runs_or_body n)
 runs_stand zero = tt
 runs_stand (suc n) = tt
 
-body_stands : (e : InExpression) → StandsIn e → StandsEntry (entry_after_op e)
-body_stands expression.Over s = tt
-body_stands (expression.Failed w) s = absurd s
-body_stands (expression.Op depth q) s = tt
-body_stands (expression.Label depth left r) s = tt
+pub body_stands : (e : InExpression) → StandsEntry (entry_after_op e)
+body_stands expression.Over = tt
+body_stands (expression.Op depth q) = tt
+body_stands (expression.Label depth left r) = tt
 
 -- code entries are judged by their own steps
 abbrev IsOutside : InMember → Type 0
@@ -262,19 +215,19 @@ module _ (zone : Zone) (y : List ℕ) (c : ℕ) (x : Item) where
   name_fine of zero = stands (after_name of) (event.EndsName of) (name_stands of)
   name_fine of (suc n) = stands (at.Name of n) event.InName tt
 
-  constant_fine : (of : ConstantOf) (z : InExpression × Option Op) → Gave z → FineAt (after_constant of z.0, op_event plain.ConstOp z.1)
-  constant_fine of (e, None) g = silent (after_constant of e)
-  constant_fine of (e, Some o) g = stands (after_constant of e) (event.Complete (plain.ConstOp o)) (constant_stands of e (g o refl))
+  constant_fine : (of : ConstantOf) (a : ExpressionAnswer) → FineAt (on_expression a (after_constant of) plain.ConstOp at.Failed)
+  constant_fine of (Ok (e, o)) = stands (after_constant of e) (op_event plain.ConstOp o) (constant_stands of e)
+  constant_fine of (Err w) = silent (at.Failed w)
 
-  body_fine : (z : InExpression × Option Op) → Gave z → FineEntry (entry_after_op z.0, op_event plain.BodyOp z.1)
-  body_fine (e, None) g = quiet entry.Failed StandsEntry zone y c x (entry_after_op e)
-  body_fine (e, Some o) g = fine entry.Failed StandsEntry zone y c x (entry_after_op e) (event.Complete (plain.BodyOp o)) (body_stands e (g o refl))
+  body_fine : (a : ExpressionAnswer) → FineEntry (on_expression a entry_after_op plain.BodyOp entry.Failed)
+  body_fine (Ok (e, o)) = fine entry.Failed StandsEntry zone y c x (entry_after_op e) (op_event plain.BodyOp o) (body_stands e)
+  body_fine (Err w) = quiet entry.Failed StandsEntry zone y c x (entry.Failed w)
 
   entry_fine : (p : Profile) (q : InEntry) → FineEntry (entry_step p q c)
   entry_fine p (entry.RunCount r) = number_fine entry.Failed StandsEntry zone y c x (unsigned_push 32 r c) entry.RunCount (λ n. (runs_or_body n, event.Nothing)) (λ n. quiet entry.Failed StandsEntry zone y c x (runs_or_body n))
   entry_fine p (entry.Run more r) = value_fine entry.Failed StandsEntry zone y c x (run_push p r c) (λ s. entry.Run more s) (λ v. with_item_given (runs_or_body more) (plain.Locals v.0 v.1))
       (λ v. fine entry.Failed StandsEntry zone y c x (runs_or_body more) (event.Complete (plain.Locals v.0 v.1)) (runs_stand more))
-  entry_fine p (entry.Body e) = body_fine (expression_step p e c) (expression_gave p e c)
+  entry_fine p (entry.Body e) = body_fine (expression_step p e c)
   entry_fine p entry.Over = quiet entry.Failed StandsEntry zone y c x (entry.Failed why.BodyEnd)
   entry_fine p (entry.Failed w) = quiet entry.Failed StandsEntry zone y c x (entry.Failed why.BodyEnd)
 
@@ -289,7 +242,7 @@ module _ (zone : Zone) (y : List ℕ) (c : ℕ) (x : Item) where
   member_fine p (at.Value v) i = value_fine at.Failed StandsAt zone y c x (value_push p v c) at.Value (λ q. with_item_given at.Over q) (λ q. stands at.Over (event.Complete q) tt)
   member_fine p (at.Index of r) i = number_fine at.Failed StandsAt zone y c x (unsigned_push 32 r c) (λ s. at.Index of s) (λ n. with_item_given (after_index of) (index_item of n)) (λ n. stands (after_index of) (event.Complete (index_item of n)) (index_stands of))
   member_fine p (at.GlobalType g) i = value_fine at.Failed StandsAt zone y c x (global_type_push p g c) at.GlobalType (λ t. with_item_given (at.Constant constant.Global start) (plain.Global t)) (λ t. stands (at.Constant constant.Global start) (event.Complete (plain.Global t)) tt)
-  member_fine p (at.Constant of e) i = constant_fine of (expression_step p e c) (expression_gave p e c)
+  member_fine p (at.Constant of e) i = constant_fine of (expression_step p e c)
   member_fine p (at.Length of r) i = number_fine at.Failed StandsAt zone y c x (unsigned_push 32 r c) (λ s. at.Length of s) (λ n. (list_or_over of n, event.Nothing)) (λ n. silent (list_or_over of n))
   member_fine p (at.Data more) i = stands (data_or_over more) event.DataByte (data_stand more)
   member_fine p (at.EntrySize r) i = absurd i

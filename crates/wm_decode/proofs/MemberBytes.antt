@@ -1,9 +1,8 @@
 -- What may still come of a member, and that each byte goes on with it.
-use Rattle.std.proofs.Common.{◌≡◌, ℕ, zero, suc, ◌<◌, ◌^◌, List, [], ◌∷◌, ◌++◌, Option, Some, None, length, refl, sym, ◌∙◌, ap, subst, arith, append-nil}
+use Rattle.std.proofs.Common.{◌≡◌, ℕ, zero, suc, ◌<◌, ◌^◌, List, [], ◌∷◌, ◌++◌, Option, Some, None, Ok, Err, length, refl, sym, ◌∙◌, ap, subst, arith, append-nil}
 use Rattle.wm_syntax.specs.exact.Reading.{fresh}
 use Rattle.wm_syntax.specs.Types.{SpellsLimits, SpellsTableType}
 use Rattle.wm_syntax.specs.declared.profile.Profile.{Profile}
-use Rattle.wm_syntax.specs.declared.instructions.Op.{Op}
 use Rattle.wm_decode.specs.declared.machine.NameKind.{NameKind}
 use Rattle.wm_decode.specs.declared.machine.NameKind.TheVariants as name
 use Rattle.wm_decode.specs.declared.machine.Plain.TheVariants as plain
@@ -34,15 +33,15 @@ use Rattle.wm_decode.specs.Grammar.{ValueType, ResultTypes, FunctionType, Desc, 
 use Rattle.wm_decode.specs.exact.Runs.{ByteRead, byte_read, name_item, plain_item, zone_in}
 use Rattle.wm_decode.specs.exact.Members.{member_at_start}
 use Rattle.wm_decode.specs.exact.ValueSteps.{global_type_push, value_push}
-use Rattle.wm_decode.specs.exact.ExpressionSteps.{start, expression_step}
-use Rattle.wm_decode.specs.exact.MemberSteps.{after_param, after_result, after_name, functions_or_over, index_item, after_index, constant_over, after_constant, op_event, constant_step, data_or_over, list_or_over, entry_step, member_in_entry, member_of_entry, with_item_given, member_step}
-use Rattle.wm_decode.proofs.FirstBytes.{Next, Same, HasBytes, Never, head_same, tail_same, not_nil, same_refl, same_then, next_to, next_from, next_then, then_has, byte_has, empty_then, never_then, then_assoc, then_same}
+use Rattle.wm_decode.specs.exact.ExpressionSteps.{ExpressionAnswer, start, expression_step}
+use Rattle.wm_decode.specs.exact.MemberSteps.{after_param, after_result, after_name, functions_or_over, index_item, after_index, constant_over, after_constant, on_expression, data_or_over, list_or_over, entry_step, member_in_entry, member_of_entry, with_item_given, member_step}
+use Rattle.wm_decode.proofs.FirstBytes.{Next, Same, HasBytes, Never, head_same, tail_same, not_nil, same_refl, same_then, next_to, next_from, next_then, then_has, byte_has, empty_then, fails_first, then_assoc, then_same}
 use Rattle.wm_decode.proofs.Numbers.{Left}
 use Rattle.wm_decode.proofs.Counts.{counted_has, counted_fresh, number_fresh}
 use Rattle.wm_decode.proofs.Leaves.{leaf_has}
 use Rattle.wm_decode.proofs.NamesAndSizes.{is_nil, NameLeft, TextLeft, text_has, text_fresh, left_has, sized_next, sized_has, sized_none, sized_same}
 use Rattle.wm_decode.proofs.ValueBytes.{global_rest, global_reader, value_rest, value_reader}
-use Rattle.wm_decode.proofs.ExpressionRest.{ExpressionRest, IsInside, CanOpen, expression_has, expression_same, expression_follows, mark_of}
+use Rattle.wm_decode.proofs.ExpressionRest.{ExpressionRest, AnswerFollows, expression_has, expression_same, expression_follows}
 use Rattle.wm_decode.proofs.EntryBytes.{OnlyParts, entry_parts, IsInEntry, CanOpenIn, EntryRest, entry_same, entry_follows, entry_has, entry_marked, goes_inside, ends_inside, no_entry}
 use Rattle.wm_decode.proofs.ExpressionSound.{sound_opens}
 use Rattle.wm_decode.proofs.MemberSound.{StandsEntry, CanEnter, MayEnter, entry_may, CanGo}
@@ -172,7 +171,6 @@ module _ (demanded : Type 0) (p : Profile) where
 
   after_constant_same : (of : ConstantOf) (e : InExpression) → Same demanded (Then (ExpressionRest p const_op e) (AfterConstant of)) (ComponentRest (after_constant of e) [])
   after_constant_same of expression.Over = same_then demanded (Then Empty (AfterConstant of)) (AfterConstant of) (ComponentRest (constant_over of) []) (empty_then demanded (AfterConstant of)) (over_same of)
-  after_constant_same of (expression.Failed w) = never_then demanded Never (AfterConstant of) (same_refl demanded Never)
   after_constant_same of (expression.Op depth q) = same_refl demanded (ComponentRest (at.Constant of (expression.Op depth q)) [])
   after_constant_same of (expression.Label depth left r) = same_refl demanded (ComponentRest (at.Constant of (expression.Label depth left r)) [])
 
@@ -288,24 +286,14 @@ module _ (demanded : Type 0) (p : Profile) where
       (next_then demanded DataByte (Times more DataByte) c (outside_mark (Some (data_byte c))) Empty (data_next c byte) data_has)
 
   -- constant expressions
-  heard_const : (m : InMember) (y : List ℕ) (c : ℕ) (o : Option Op) → (byte_read at.Failed outside y c (m, op_event plain.ConstOp o)).mark ≡ outside_mark (mark_of const_op o)
-  heard_const m y c None = refl
-  heard_const m y c (Some o) = refl
-
-  const_at : (m : InMember) (y : List ℕ) (c : ℕ) (o : Option Op) → ComponentRest (byte_read at.Failed outside y c (m, op_event plain.ConstOp o)).at (byte_read at.Failed outside y c (m, op_event plain.ConstOp o)).name ≡ ComponentRest m []
-  const_at m y c None = refl
-  const_at m y c (Some o) = refl
-
-  constant_follows : (of : ConstantOf) (e : InExpression) (y : List ℕ) (c : ℕ) → IsInside e → CanOpen e → c < 2 ^ 8 → ComponentFollows y c (Then (ExpressionRest p const_op e) (AfterConstant of)) (constant_step p of e c)
-  constant_follows of e y c inside room byte =
-      let x = expression_step p e c in
-      let P : MarkedForm = Then (ExpressionRest p const_op e) (AfterConstant of) in
-      let m : InMember = after_constant of x.0 in
-      let n : Next demanded P c (outside_mark (mark_of const_op x.1)) (ComponentRest m []) =
-      next_to demanded P (Then (ExpressionRest p const_op x.0) (AfterConstant of)) (ComponentRest m []) c (outside_mark (mark_of const_op x.1)) (after_constant_same of x.0)
-      (next_then demanded (ExpressionRest p const_op e) (AfterConstant of) c (outside_mark (mark_of const_op x.1)) (ExpressionRest p const_op x.0) (expression_follows demanded p const_op e c room byte) (λ s k h. expression_has p const_op e inside k h)) in
-      subst (λ (z : Mark). Next demanded P c z (ComponentRest (byte_read at.Failed outside y c (m, op_event plain.ConstOp x.1)).at (byte_read at.Failed outside y c (m, op_event plain.ConstOp x.1)).name)) (sym (heard_const m y c x.1))
-      (subst (λ (Z : MarkedForm). Next demanded P c (outside_mark (mark_of const_op x.1)) Z) (sym (const_at m y c x.1)) n)
+  constant_follows : (of : ConstantOf) (y : List ℕ) (c : ℕ) (P : MarkedForm) (a : ExpressionAnswer) → HasBytes demanded P → AnswerFollows demanded p const_op P c a → ComponentFollows y c (Then P (AfterConstant of)) (on_expression a (after_constant of) plain.ConstOp at.Failed)
+  constant_follows of y c P (Ok (e, None)) has n =
+      next_to demanded (Then P (AfterConstant of)) (Then (ExpressionRest p const_op e) (AfterConstant of)) (ComponentRest (after_constant of e) []) c (outside_mark None) (after_constant_same of e)
+      (next_then demanded P (AfterConstant of) c (outside_mark None) (ExpressionRest p const_op e) n has)
+  constant_follows of y c P (Ok (e, Some o)) has n =
+      next_to demanded (Then P (AfterConstant of)) (Then (ExpressionRest p const_op e) (AfterConstant of)) (ComponentRest (after_constant of e) []) c (outside_mark (Some (const_op o))) (after_constant_same of e)
+      (next_then demanded P (AfterConstant of) c (outside_mark (Some (const_op o))) (ExpressionRest p const_op e) n has)
+  constant_follows of y c P (Err w) has n = fails_first demanded P (AfterConstant of) c (outside_mark None) n has
 
   -- code entries: the mark of each byte says that it is one of an entry
   zoned : (zone : Zone) (y : List ℕ) (c : ℕ) (m : InMember) (q : InEntry) (e : Event) → OnlyParts e → (byte_read at.Failed zone y c (m, e)).mark ≡ in_zone zone (byte_read entry.Failed outside [] c (q, e)).mark
@@ -428,7 +416,7 @@ module _ (demanded : Type 0) (p : Profile) where
   component_follows left (at.GlobalType g) y c go byte =
       leaf_follows demanded at.Failed ComponentRest (λ w. same_refl demanded Never) y c (global_rest p) (global_type_push p) (global_reader p) global_part Constant at.GlobalType (λ t. with_item_given (at.Constant constant.Global start) (plain.Global t))
       (λ s. same_refl demanded (ComponentRest (at.GlobalType s) [])) (λ t. refl) (λ t. global_begins) g byte
-  component_follows left (at.Constant of e) y c go byte = constant_follows of e y c go.1.0 (sound_opens left e go.1.1) byte
+  component_follows left (at.Constant of e) y c go byte = constant_follows of y c (ExpressionRest p const_op e) (expression_step p e c) (λ s k h. expression_has p const_op e go.1.0 k h) (expression_follows demanded p const_op e c (sound_opens left e go.1.1) byte)
   component_follows left (at.Length of r) y c go byte =
       number_follows demanded at.Failed ComponentRest (λ w. same_refl demanded Never) y c nothing_at (λ n. Times n (Listed of)) (λ s. at.Length of s) (λ n. (list_or_over of n, event.Nothing))
       (λ s. same_refl demanded (ComponentRest (at.Length of s) [])) (λ n. refl) (list_same of) r byte

@@ -42,12 +42,11 @@ use Rattle.wm_decode.specs.declared.machine.member.InEntry.{InEntry}
 use Rattle.wm_decode.specs.declared.machine.member.InEntry.TheVariants as entry
 use Rattle.wm_decode.specs.declared.machine.member.InMember.{InMember}
 use Rattle.wm_decode.specs.declared.machine.member.InMember.TheVariants as at
-use Rattle.wm_decode.specs.declared.step.expressions.InExpression.{InExpression}
 use Rattle.wm_decode.specs.declared.step.expressions.InExpression.TheVariants as expression
 use Rattle.wm_decode.specs.Decoding.{IsFloatByte}
 use Rattle.wm_decode.specs.exact.ValueSteps.{read_number, map_reading, after_min, limits_push, table_type_push, type_under, value_type_of, read_type, var_step, global_type_push, desc_kind_step, desc_push, target_kind_step, target_push, run_push, value_push}
-use Rattle.wm_decode.specs.exact.ExpressionSteps.{start, expression_step}
-use Rattle.wm_decode.specs.exact.MemberSteps.{on_number, on_value, on_type, with_item_given, after_param, after_result, after_name, after_length, name_step, functions_or_over, index_item, after_index, constant_over, after_constant, data_or_over, list_or_over, runs_or_body, entry_after_op, entry_step, member_in_entry, member_step}
+use Rattle.wm_decode.specs.exact.ExpressionSteps.{ExpressionAnswer, start, expression_step}
+use Rattle.wm_decode.specs.exact.MemberSteps.{on_number, on_value, on_type, on_expression, with_item_given, after_param, after_result, after_name, after_length, name_step, functions_or_over, index_item, after_index, constant_over, after_constant, data_or_over, list_or_over, runs_or_body, entry_after_op, entry_step, member_in_entry, member_step}
 use Rattle.wm_decode.proofs.ExpressionSound.{expression_fault}
 use Rattle.wm_decode.proofs.OpSound.{IsOther}
 use Rattle.wm_decode.proofs.ValueBytes.{type_given}
@@ -216,11 +215,11 @@ module _ (refusal : Why) (Fault : ℕ → Type 0) (other : (w : Why) → IsOther
   runs_float zero e = cc
   runs_float (suc n) e = cc
 
-  op_float : (e : InExpression) → (e ≡ expression.Failed refusal → Fault c) → FailsEntry (entry_after_op e)
-  op_float expression.Over h i = cc
-  op_float (expression.Failed w) h i = h (let s : w ≡ refusal = cc in ap expression.Failed s)
-  op_float (expression.Op depth q) h i = cc
-  op_float (expression.Label depth n r) h i = cc
+  op_float : (a : ExpressionAnswer) → (a ≡ Err refusal → Fault c) → FailsEntry (on_expression a entry_after_op plain.BodyOp entry.Failed).0
+  op_float (Ok (expression.Over, o)) h i = cc
+  op_float (Ok (expression.Op depth q, o)) h i = cc
+  op_float (Ok (expression.Label depth n r, o)) h i = cc
+  op_float (Err w) h i = h (let s : w ≡ refusal = cc in ap Err s)
 
   -- an expression that is over is refused by SectionEnd, and so is what is over
   abbrev Later : Type 0 → Type 0
@@ -237,7 +236,7 @@ module _ (refusal : Why) (Fault : ℕ → Type 0) (other : (w : Why) → IsOther
   entry_float : (p : Profile) (q : InEntry) → Later (IsOpen q) → Spared (IsInEntry q) → FailsEntry (entry_step p q c).0
   entry_float p (entry.RunCount r) i j = on_number_any FailsEntry (unsigned_push 32 r c) entry.RunCount (λ n. (runs_or_body n, event.Nothing)) entry.Failed (λ s e. cc) runs_float (no_entry why.BadNumber tt)
   entry_float p (entry.Run more r) i j = on_value_any FailsEntry (run_push p r c) (λ s. entry.Run more s) _ entry.Failed (run_reads p r) (λ s e. cc) (λ x. runs_float more) entry_by
-  entry_float p (entry.Body e) i j = op_float (expression_step p e c).0 (expression_fault refusal Fault other float p e c i)
+  entry_float p (entry.Body e) i j = op_float (expression_step p e c) (expression_fault refusal Fault other float p e c i)
   entry_float p entry.Over i j = past_body j
   entry_float p (entry.Failed w) i j = past_body j
 
@@ -288,11 +287,11 @@ module _ (refusal : Why) (Fault : ℕ → Type 0) (other : (w : Why) → IsOther
   over_float constant.Element e = cc
   over_float constant.Segment e = cc
 
-  constant_float : (of : ConstantOf) (e : InExpression) → (e ≡ expression.Failed refusal → Fault c) → Fails (after_constant of e)
-  constant_float of expression.Over h = over_float of
-  constant_float of (expression.Failed w) h = λ i. h (let s : w ≡ refusal = cc in ap expression.Failed s)
-  constant_float of (expression.Op depth q) h = λ i. cc
-  constant_float of (expression.Label depth n r) h = λ i. cc
+  constant_float : (of : ConstantOf) (a : ExpressionAnswer) → (a ≡ Err refusal → Fault c) → Fails (on_expression a (after_constant of) plain.ConstOp at.Failed).0
+  constant_float of (Ok (expression.Over, o)) h = over_float of
+  constant_float of (Ok (expression.Op depth q, o)) h = λ i. cc
+  constant_float of (Ok (expression.Label depth n r, o)) h = λ i. cc
+  constant_float of (Err w) h = λ i. h (let s : w ≡ refusal = cc in ap Err s)
 
   no_body_end : (why.BodyEnd ≡ refusal → ⊥) → Fails (at.Failed why.BodyEnd)
   no_body_end j e = absurd (j (same_place why.BodyEnd refusal e))
@@ -326,7 +325,7 @@ module _ (refusal : Why) (Fault : ℕ → Type 0) (other : (w : Why) → IsOther
   component_fault p (at.Value v) i j = on_value_any Fails (value_push p v c) at.Value (λ q. with_item_given at.Over q) at.Failed (value_reads p v) (λ s e. cc) (λ x e. cc) fails_by
   component_fault p (at.Index of r) i j = on_number_any Fails (unsigned_push 32 r c) (λ s. at.Index of s) (λ n. with_item_given (after_index of) (index_item of n)) at.Failed (λ s e. cc) (λ n. index_float of) (no_place why.BadNumber tt)
   component_fault p (at.GlobalType g) i j = on_value_any Fails (global_type_push p g c) at.GlobalType (λ t. with_item_given (at.Constant constant.Global start) (plain.Global t)) at.Failed (global_reads p g) (λ s e. cc) (λ x e. cc) fails_by
-  component_fault p (at.Constant of e) i j = constant_float of (expression_step p e c).0 (expression_fault refusal Fault other float p e c i)
+  component_fault p (at.Constant of e) i j = constant_float of (expression_step p e c) (expression_fault refusal Fault other float p e c i)
   component_fault p (at.Length of r) i j = on_number_any Fails (unsigned_push 32 r c) (λ s. at.Length of s) (λ n. (list_or_over of n, event.Nothing)) at.Failed (λ s e. cc) (list_float of) (no_place why.BadNumber tt)
   component_fault p (at.Data more) i j = data_float more
   component_fault p (at.EntrySize r) i (inl o) = absurd o

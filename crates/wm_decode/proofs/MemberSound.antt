@@ -43,12 +43,11 @@ use Rattle.wm_decode.specs.declared.machine.member.InEntry.{InEntry}
 use Rattle.wm_decode.specs.declared.machine.member.InEntry.TheVariants as entry
 use Rattle.wm_decode.specs.declared.machine.member.InMember.{InMember}
 use Rattle.wm_decode.specs.declared.machine.member.InMember.TheVariants as at
-use Rattle.wm_decode.specs.declared.step.expressions.InExpression.{InExpression}
 use Rattle.wm_decode.specs.declared.step.expressions.InExpression.TheVariants as expression
 use Rattle.wm_decode.specs.exact.Members.{member_at_start}
 use Rattle.wm_decode.specs.exact.ValueSteps.{read_number, map_reading, after_min, limits_push, table_type_push, value_type_of, read_type, global_type_push, desc_kind_step, desc_push, target_kind_step, target_push, run_push, value_push}
-use Rattle.wm_decode.specs.exact.ExpressionSteps.{start, expression_step}
-use Rattle.wm_decode.specs.exact.MemberSteps.{on_number, on_value, on_type, with_item_given, after_param, after_result, after_name, after_length, name_step, functions_or_over, index_item, after_index, constant_over, after_constant, data_or_over, list_or_over, runs_or_body, entry_after_op, entry_step, member_in_entry, member_step}
+use Rattle.wm_decode.specs.exact.ExpressionSteps.{ExpressionAnswer, start, expression_step}
+use Rattle.wm_decode.specs.exact.MemberSteps.{on_number, on_value, on_type, on_expression, with_item_given, after_param, after_result, after_name, after_length, name_step, functions_or_over, index_item, after_index, constant_over, after_constant, data_or_over, list_or_over, runs_or_body, entry_after_op, entry_step, member_in_entry, member_step}
 use Rattle.wm_decode.proofs.OpSound.{HasRoom, RoomAfter, fresh_32, unsigned_room}
 use Rattle.wm_decode.proofs.ExpressionRest.{IsInside}
 use Rattle.wm_decode.proofs.ExpressionSound.{SoundExpression, FineExpression, start_sound, expression_sound}
@@ -224,16 +223,16 @@ module _ (left : ℕ) (few : left < 2 ^ 32) where
   runs_may zero = (few, (tt, start_sound left few))
   runs_may (suc n) = (few, fresh_32)
 
-  op_may : (e : InExpression) → FineExpression left e → MayEnter left (entry_after_op e)
-  op_may expression.Over h = tt
-  op_may (expression.Failed w) h = tt
-  op_may (expression.Op depth q) h = (few, (tt, h))
-  op_may (expression.Label depth n r) h = (few, (tt, h))
+  op_may : (a : ExpressionAnswer) → FineExpression left a → MayEnter left (on_expression a entry_after_op plain.BodyOp entry.Failed).0
+  op_may (Ok (expression.Over, o)) h = tt
+  op_may (Ok (expression.Op depth q, o)) h = (few, (tt, h))
+  op_may (Ok (expression.Label depth n r, o)) h = (few, (tt, h))
+  op_may (Err w) h = tt
 
   pub entry_may : (p : Profile) (q : InEntry) (c : ℕ) → c < 2 ^ 8 → StandsEntry (suc left) q → MayEnter left (entry_step p q c).0
   entry_may p (entry.RunCount r) c byte h = number_may (MayEnter left) r c entry.RunCount (λ n. (runs_or_body n, event.Nothing)) entry.Failed h byte (λ s g. (few, g)) (λ n l. runs_may n) tt
   entry_may p (entry.Run more r) c byte h = value_may (MayEnter left) SoundRun (run_push p r c) (λ s. entry.Run more s) _ entry.Failed (run_fine p r c byte h) (λ s g. (few, g)) (λ x. runs_may more) (λ w. tt)
-  entry_may p (entry.Body e) c byte h = op_may (expression_step p e c).0 (expression_sound p left e c byte h.1)
+  entry_may p (entry.Body e) c byte h = op_may (expression_step p e c) (expression_sound p left e c byte h.1)
   entry_may p entry.Over c byte h = absurd h
   entry_may p (entry.Failed w) c byte h = absurd h
 
@@ -298,11 +297,11 @@ module _ (left : ℕ) (few : left < 2 ^ 32) where
   over_may constant.Element = (few, fresh_32)
   over_may constant.Segment = (few, fresh_32)
 
-  constant_may : (of : ConstantOf) (e : InExpression) → FineExpression left e → MayGo left (after_constant of e)
-  constant_may of expression.Over h = over_may of
-  constant_may of (expression.Failed w) h = tt
-  constant_may of (expression.Op depth q) h = (few, (tt, h))
-  constant_may of (expression.Label depth n r) h = (few, (tt, h))
+  constant_may : (of : ConstantOf) (a : ExpressionAnswer) → FineExpression left a → MayGo left (on_expression a (after_constant of) plain.ConstOp at.Failed).0
+  constant_may of (Ok (expression.Over, o)) h = over_may of
+  constant_may of (Ok (expression.Op depth q, o)) h = (few, (tt, h))
+  constant_may of (Ok (expression.Label depth n r, o)) h = (few, (tt, h))
+  constant_may of (Err w) h = tt
 
   framed_may : (n : ℕ) (q : InEntry) → MayEnter n q → MayGo left (member_in_entry n q)
   framed_may n (entry.Failed w) h = tt
@@ -326,7 +325,7 @@ module _ (left : ℕ) (few : left < 2 ^ 32) where
   step_may p (at.Value v) c byte h = value_may (MayGo left) SoundValue (value_push p v c) at.Value (λ q. with_item_given at.Over q) at.Failed (value_fine p v c byte h) (λ s g. (few, g)) (λ x. tt) (λ w. tt)
   step_may p (at.Index of r) c byte h = number_may (MayGo left) r c (λ s. at.Index of s) (λ n. with_item_given (after_index of) (index_item of n)) at.Failed h byte (λ s g. (few, g)) (λ n l. index_may of) tt
   step_may p (at.GlobalType g) c byte h = value_may (MayGo left) AnyGlobal (global_type_push p g c) at.GlobalType (λ t. with_item_given (at.Constant constant.Global start) (plain.Global t)) at.Failed (any_fine (global_type_push p g c)) (λ s i. (few, tt)) (λ x. (few, (tt, start_sound left few))) (λ w. tt)
-  step_may p (at.Constant of e) c byte h = constant_may of (expression_step p e c).0 (expression_sound p left e c byte h.1)
+  step_may p (at.Constant of e) c byte h = constant_may of (expression_step p e c) (expression_sound p left e c byte h.1)
   step_may p (at.Length of r) c byte h = number_may (MayGo left) r c (λ s. at.Length of s) (λ n. (list_or_over of n, event.Nothing)) at.Failed h byte (λ s g. (few, g)) (λ n l. list_may of n) tt
   step_may p (at.Data more) c byte h = data_may more
   step_may p (at.EntrySize r) c byte h = number_may (MayGo left) r c at.EntrySize (λ n. with_item_given (member_in_entry n (entry.RunCount fresh)) plain.Body) at.Failed h byte (λ s g. (few, g)) (λ n l. framed_may n (entry.RunCount fresh) (l, fresh_32)) tt

@@ -26,7 +26,7 @@ use Rattle.wm_decode.specs.declared.shortcuts.short_steps.Stepped.{Stepped}
 use Rattle.wm_decode.specs.Items.{Item}
 use Rattle.wm_decode.specs.Sinks.{and_then}
 use Rattle.wm_decode.specs.exact.Steps.{step_of, machine_in_member}
-use Rattle.wm_decode.specs.exact.MemberSteps.{member_in_entry, entry_after_op, op_event}
+use Rattle.wm_decode.specs.exact.MemberSteps.{on_expression, member_in_entry, entry_after_op}
 use Rattle.wm_decode.specs.exact.ExpressionSteps.{after_reading}
 use Rattle.wm_decode.specs.exact.ShortSteps.{StepsTo, PartMayRunOut, part_event, part_taken}
 use Rattle.wm_decode.specs.exact.Live.{MayRunOutAtByte, MayRunOutAtEvent, live_from, event_effect, decoder_after}
@@ -38,7 +38,8 @@ pub last_end : (p : Profile) (f more left : ℕ)
     → step_of p (machine.Section section_kind.Code f (suc more) (suc left) (at.Entry 0 (entry.Body (expression.Op 0 in_op.First)))) 0x0B
     ≡ (machine.Section section_kind.Code f more left (at.EntrySize fresh), event.Complete (plain.BodyOp op.End))
 last_end p f more left =
-    ap (λ y. (machine_in_member section_kind.Code f (suc more) (suc left) (member_in_entry 0 (entry_after_op (after_reading 0 y).0)), op_event plain.BodyOp (after_reading 0 y).1)) (is_alone p 0x0B op.End refl)
+    ap (λ y. let q = on_expression (after_reading 0 y) entry_after_op plain.BodyOp entry.Failed
+    in (machine_in_member section_kind.Code f (suc more) (suc left) (member_in_entry 0 q.0), q.1)) (is_alone p 0x0B op.End refl)
 
 -- the same for what the code knows
 pub last_steps : (p : Profile) (left more depth c : ℕ) (q : InOp) (r : Partial) → q ≡ in_op.First → c ≡ 0x0B → depth ≡ 0 → more ≡ 0 → 0 < left → r ≡ fresh

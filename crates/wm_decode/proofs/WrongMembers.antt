@@ -47,8 +47,8 @@ use Rattle.wm_decode.specs.Fronts.{IsFront}
 use Rattle.wm_decode.specs.exact.Members.{id_of}
 use Rattle.wm_decode.specs.exact.ValueSteps.{value_type_of, global_type_push, run_push, value_push}
 use Rattle.wm_decode.specs.exact.OpSteps.{on_answer, op_push}
-use Rattle.wm_decode.specs.exact.ExpressionSteps.{start, after_op, after_label, after_reading, expression_failed, expression_step}
-use Rattle.wm_decode.specs.exact.MemberSteps.{on_number, on_value, on_type, with_item_given, after_param, after_result, after_length, name_step, index_item, after_index, constant_over, after_constant, data_or_over, list_or_over, runs_or_body, entry_after_op, entry_step, member_in_entry, member_step}
+use Rattle.wm_decode.specs.exact.ExpressionSteps.{ExpressionAnswer, start, after_label, after_reading, expression_step}
+use Rattle.wm_decode.specs.exact.MemberSteps.{on_number, on_value, on_type, on_expression, with_item_given, after_param, after_result, after_length, name_step, index_item, after_index, after_constant, data_or_over, list_or_over, runs_or_body, entry_after_op, entry_step, member_in_entry, member_step}
 use Rattle.wm_decode.specs.exact.Steps.{custom_after_length, custom_step, header_step, step_of}
 use Rattle.wm_decode.specs.exact.Runs.{plain_item, MachineState, state_after, marks, state_at_start}
 use Rattle.wm_decode.specs.exact.Live.{IsRefused}
@@ -65,7 +65,7 @@ use Rattle.wm_decode.proofs.MachineAndSink.{begin_fits}
 use Rattle.wm_decode.proofs.Fronts.{some_later}
 use Rattle.wm_decode.proofs.OneFront.{Agree, modules_agree}
 use Rattle.wm_decode.proofs.AfterTheHeader.{IsLive, step_at}
-use Rattle.wm_decode.proofs.ItemFronts.{StandsIn, StandsAt, StandsEntry, op_stands, label_stands, param_stands, result_stands, name_stands, functions_stand, data_stand, index_stands, over_stands, runs_stand}
+use Rattle.wm_decode.proofs.ItemFronts.{StandsAt, StandsEntry, param_stands, result_stands, name_stands, functions_stand, data_stand, index_stands, constant_stands, runs_stand, body_stands}
 use Rattle.wm_decode.proofs.MustStand.{PartsBegin, leaf_begins, then_begins, sized_begins, entry_begins, led_begins, type_begins, form_begins}
 use Rattle.wm_decode.proofs.WrongBytes.{Says, says_map, as_named, type_says, At, run_says, value_says, global_says, op_says, none_begins, no_type_begins}
 
@@ -110,16 +110,12 @@ module _ {M : Type 0} (fail : Why → M) (Stands : M → Type 0) (apart : (m : M
   type_good (Err w) done b h = failed_good w (h w refl)
 
 -- expressions
-in_apart : (e : InExpression) (w : Why) → StandsIn e → e ≡ expression.Failed w → ⊥
-in_apart (expression.Failed v) w s e = s
-in_apart e w s i = cc
-
-in_same : (v w : Why) → expression.Failed v ≡ expression.Failed w → v ≡ w
+in_same : (v w : Why) → ◌≡◌ {A = ExpressionAnswer} (Err v) (Err w) → v ≡ w
 in_same v w e = cc
 
-reading_bad : (depth : ℕ) (a : Reading InOp Op) (w : Why) → (after_reading depth a).0 ≡ expression.Failed w → a ≡ Bad w
+reading_bad : (depth : ℕ) (a : Reading InOp Op) (w : Why) → after_reading depth a ≡ Err w → a ≡ Bad w
 reading_bad depth (More s) w e = absurd (cc)
-reading_bad depth (Done o) w e = absurd (in_apart (after_op depth o) w (op_stands depth o) e)
+reading_bad depth (Done o) w e = absurd (cc)
 reading_bad depth (Bad v) w e = ap Bad (in_same v w e)
 
 module _ (p : Profile) (c : ℕ) (byte : c < 2 ^ 8) where
@@ -127,19 +123,18 @@ module _ (p : Profile) (c : ℕ) (byte : c < 2 ^ 8) where
   InOps part e = Here p c (ExpressionRest p part e) (ExpressionRest p part e)
 
   label_says : (F : Wanted → Type 0) (depth left : ℕ) (q : Step ℕ × Partial) (w : Why)
-      → (on_answer q (λ s. (expression.Label depth left s, None)) (λ l. (after_label depth left, Some (op.Label l))) (expression_failed why.BadNumber)).0 ≡ expression.Failed w → Says F c w
+      → ◌≡◌ {A = ExpressionAnswer} (on_answer q (λ s. Ok (expression.Label depth left s, None)) (λ l. Ok (after_label depth left, Some (op.Label l))) (Err why.BadNumber)) (Err w) → Says F c w
   label_says F depth left (step.More, s) w e = absurd (cc)
-  label_says F depth left (step.Done v, s) w e = absurd (in_apart (after_label depth left) w (label_stands depth left) e)
+  label_says F depth left (step.Done v, s) w e = absurd (cc)
   label_says F depth left (step.Bad, s) w e = as_named F c why.BadNumber w tt (in_same why.BadNumber w e)
 
-  expression_says : (part : Op → Item) (e : InExpression) (w : Why) → (expression_step p e c).0 ≡ expression.Failed w → Says (InOps part e) c w
+  expression_says : (part : Op → Item) (e : InExpression) (w : Why) → expression_step p e c ≡ Err w → Says (InOps part e) c w
   expression_says part (expression.Op depth r) w e =
       let bad : op_push p r c ≡ Bad w = reading_bad depth (op_push p r c) w e in
       says_map (At p c w (op_rest p r)) (InOps part (expression.Op depth r)) c
       (λ x v. (led_begins (spelled p x) p part depth r v, none_begins (op_rest p) (op_push p) (op_reader p) (spelled p x) r c byte w bad v)) w (op_says p c w byte r bad)
   expression_says part (expression.Label depth left r) w e = label_says (InOps part (expression.Label depth left r)) depth left (unsigned_push 32 r c) w e
   expression_says part expression.Over w e = as_named (InOps part expression.Over) c why.SectionEnd w tt (in_same why.SectionEnd w e)
-  expression_says part (expression.Failed v) w e = as_named (InOps part (expression.Failed v)) c why.SectionEnd w tt (in_same why.SectionEnd w e)
 
 -- code entries
 entry_apart : (q : InEntry) (w : Why) → StandsEntry q → q ≡ entry.Failed w → ⊥
@@ -184,17 +179,13 @@ module _ (F : Wanted → Type 0) (c : ℕ) where
   numbers : (q : Step ℕ × Partial) (more : Partial → InMember) (done : ℕ → InMember × Event) → ((s : Partial) → StandsAt (more s)) → ((n : ℕ) → GoodAt (done n).0) → GoodAt (on_number q more done at.Failed).0
   numbers = number_good at.Failed StandsAt at_apart at_same F c
 
-  body_good : (e : InExpression) → ((w : Why) → e ≡ expression.Failed w → Says F c w) → GoodEntry (entry_after_op e)
-  body_good expression.Over h = stands_good entry.Failed StandsEntry entry_apart entry_same F c entry.Over tt
-  body_good (expression.Failed v) h = failed_good entry.Failed StandsEntry entry_apart entry_same F c v (h v refl)
-  body_good (expression.Op depth r) h = stands_good entry.Failed StandsEntry entry_apart entry_same F c (entry.Body (expression.Op depth r)) tt
-  body_good (expression.Label depth n r) h = stands_good entry.Failed StandsEntry entry_apart entry_same F c (entry.Body (expression.Label depth n r)) tt
+  body_good : (a : ExpressionAnswer) → ((w : Why) → a ≡ Err w → Says F c w) → GoodEntry (on_expression a entry_after_op plain.BodyOp entry.Failed).0
+  body_good (Ok (e, o)) h = stands_good entry.Failed StandsEntry entry_apart entry_same F c (entry_after_op e) (body_stands e)
+  body_good (Err v) h = failed_good entry.Failed StandsEntry entry_apart entry_same F c v (h v refl)
 
-  constant_good : (of : ConstantOf) (e : InExpression) → ((w : Why) → e ≡ expression.Failed w → Says F c w) → GoodAt (after_constant of e)
-  constant_good of expression.Over h = stays (constant_over of) (over_stands of)
-  constant_good of (expression.Failed v) h = fails v (h v refl)
-  constant_good of (expression.Op depth r) h = stays (at.Constant of (expression.Op depth r)) tt
-  constant_good of (expression.Label depth n r) h = stays (at.Constant of (expression.Label depth n r)) tt
+  constant_good : (of : ConstantOf) (a : ExpressionAnswer) → ((w : Why) → a ≡ Err w → Says F c w) → GoodAt (on_expression a (after_constant of) plain.ConstOp at.Failed).0
+  constant_good of (Ok (e, o)) h = stays (after_constant of e) (constant_stands of e)
+  constant_good of (Err v) h = fails v (h v refl)
 
   framed_good : (n : ℕ) (q : InEntry) → GoodEntry q → GoodAt (member_in_entry n q)
   framed_good n (entry.Failed v) h = fails v (h v refl)
@@ -233,7 +224,7 @@ module _ (p : Profile) (c : ℕ) (byte : c < 2 ^ 8) where
       let Q : MarkedForm = Then (Times more (Run p)) (Expression p body_op) in
       value_good entry.Failed StandsEntry entry_apart entry_same (InEntries (entry.Run more r)) c (run_push p r c) (λ s. entry.Run more s) (λ v. with_item_given (runs_or_body more) (plain.Locals v.0 v.1)) (λ s. tt) (λ v. runs_stand more)
       (λ w e. says_map (At p c w (run_rest p r)) (InEntries (entry.Run more r)) c (λ x v. then_here L L Q Q (some_runs p more) x (run_here r w e x v)) w (run_says p c w r e))
-  entry_says (entry.Body e) = body_good (InEntries (entry.Body e)) c (expression_step p e c).0 (expression_says p c byte body_op e)
+  entry_says (entry.Body e) = body_good (InEntries (entry.Body e)) c (expression_step p e c) (expression_says p c byte body_op e)
   entry_says entry.Over = failed_good entry.Failed StandsEntry entry_apart entry_same (InEntries entry.Over) c why.BodyEnd tt
   entry_says (entry.Failed v) = failed_good entry.Failed StandsEntry entry_apart entry_same (InEntries (entry.Failed v)) c why.BodyEnd tt
 
@@ -287,7 +278,7 @@ module _ (p : Profile) (c : ℕ) (byte : c < 2 ^ 8) where
   member_says (at.Constant of e) y =
       let L : MarkedForm = ExpressionRest p const_op e in
       let F = InMembers (at.Constant of e) y in
-      constant_good F c of (expression_step p e c).0 (λ w i.
+      constant_good F c of (expression_step p e c) (λ w i.
       says_map (Here p c L L) F c (λ x h. then_here L L (AfterConstant loose p of) (AfterConstant strict p of) (constant_comes p of) x h) w (expression_says p c byte const_op e w i))
   member_says (at.Length of r) y =
       let F = InMembers (at.Length of r) y in

@@ -1,5 +1,6 @@
 -- What each byte does to the reader of an expression: the exact form, for the proofs above it.
 use Rattle.std.specs.Prelude.{ℕ, zero, suc, ◌-◌, ◌^◌, nat_lt, if◌then◌else◌, Option, Some, None}
+use Rattle.std.specs.Prelude.{Result, Ok, Err}
 use Rattle.wm_syntax.specs.inner.Numbers.{Partial}
 use Rattle.wm_syntax.specs.exact.Reading.{fresh, unsigned_push}
 use Rattle.wm_syntax.specs.declared.profile.Profile.{Profile}
@@ -43,24 +44,24 @@ abbrev pub after_label : ℕ → ℕ → InExpression
 after_label depth zero = at_next_op depth
 after_label depth (suc n) = expression.Label depth n fresh
 
-abbrev pub expression_failed : Why → InExpression × Option Op
-expression_failed w = (expression.Failed w, None)
+-- the next place and the op or label that a byte completes, or why it is refused
+abbrev pub ExpressionAnswer : Type 0
+ExpressionAnswer = Result (InExpression × Option Op) Why
 
-abbrev pub label_step : ℕ → ℕ → Partial → ℕ → InExpression × Option Op
+abbrev pub label_step : ℕ → ℕ → Partial → ℕ → ExpressionAnswer
 label_step depth left r c =
-    on_answer (unsigned_push 32 r c) (λ s. (expression.Label depth left s, None))
-    (λ l. (after_label depth left, Some (op.Label l))) (expression_failed why.BadNumber)
+    on_answer (unsigned_push 32 r c) (λ s. Ok (expression.Label depth left s, None))
+    (λ l. Ok (after_label depth left, Some (op.Label l))) (Err why.BadNumber)
 
-abbrev pub after_reading : ℕ → Reading InOp Op → InExpression × Option Op
-after_reading depth (More at) = (expression.Op depth at, None)
-after_reading depth (Done o) = (after_op depth o, Some o)
-after_reading depth (Bad w) = expression_failed w
+abbrev pub after_reading : ℕ → Reading InOp Op → ExpressionAnswer
+after_reading depth (More at) = Ok (expression.Op depth at, None)
+after_reading depth (Done o) = Ok (after_op depth o, Some o)
+after_reading depth (Bad w) = Err w
 
-abbrev pub op_step : Profile → ℕ → InOp → ℕ → InExpression × Option Op
+abbrev pub op_step : Profile → ℕ → InOp → ℕ → ExpressionAnswer
 op_step p depth at c = after_reading depth (op_push p at c)
 
-abbrev pub expression_step : Profile → InExpression → ℕ → InExpression × Option Op
+abbrev pub expression_step : Profile → InExpression → ℕ → ExpressionAnswer
 expression_step p (expression.Op depth at) c = op_step p depth at c
 expression_step p (expression.Label depth left r) c = label_step depth left r c
-expression_step p expression.Over c = expression_failed why.SectionEnd
-expression_step p (expression.Failed w) c = expression_failed why.SectionEnd
+expression_step p expression.Over c = Err why.SectionEnd

@@ -37,7 +37,8 @@ use Rattle.wm_decode.specs.declared.machine.member.InMember.TheVariants as at
 use Rattle.wm_decode.specs.declared.step.expressions.InExpression.{InExpression}
 use Rattle.wm_decode.specs.declared.step.expressions.InExpression.TheVariants as expression
 use Rattle.wm_decode.specs.exact.ValueSteps.{value_type_of, global_type_push, run_push, value_push}
-use Rattle.wm_decode.specs.exact.ExpressionSteps.{start as begin_expression, expression_step}
+use Rattle.wm_decode.specs.exact.ExpressionSteps.{ExpressionAnswer, expression_step}
+use Rattle.wm_decode.specs.exact.ExpressionSteps.{start as begin_expression}
 
 abbrev pub member_failed : Why → InMember × Event
 member_failed w = (at.Failed w, event.Nothing)
@@ -153,7 +154,6 @@ constant_over constant.Segment = at.Length length_of.Bytes fresh
 
 abbrev pub after_constant : ConstantOf → InExpression → InMember
 after_constant of expression.Over = constant_over of
-after_constant of (expression.Failed w) = at.Failed w
 after_constant of e = at.Constant of e
 
 -- what an op that is complete, if there is one, gives
@@ -161,9 +161,14 @@ abbrev pub op_event : (Op → Plain) → Option Op → Event
 op_event f (Some o) = event.Complete (f o)
 op_event f None = event.Nothing
 
+-- what follows an answer of an expression's reader
+abbrev pub on_expression : {M : Type 0} → ExpressionAnswer → (InExpression → M) → (Op → Plain) → (Why → M) → M
+    × Event
+on_expression (Ok x) next part bad = (next x.0, op_event part x.1)
+on_expression (Err w) next part bad = (bad w, event.Nothing)
+
 abbrev pub constant_step : Profile → ConstantOf → InExpression → ℕ → InMember × Event
-constant_step p of e c =
-    (after_constant of (expression_step p e c).0, op_event plain.ConstOp (expression_step p e c).1)
+constant_step p of e c = on_expression (expression_step p e c) (after_constant of) plain.ConstOp at.Failed
 
 abbrev pub data_or_over : ℕ → InMember
 data_or_over zero = at.Over
@@ -196,11 +201,10 @@ run_step p more r c =
 
 abbrev pub entry_after_op : InExpression → InEntry
 entry_after_op expression.Over = entry.Over
-entry_after_op (expression.Failed w) = entry.Failed w
 entry_after_op e = entry.Body e
 
 abbrev pub body_step : Profile → InExpression → ℕ → InEntry × Event
-body_step p e c = (entry_after_op (expression_step p e c).0, op_event plain.BodyOp (expression_step p e c).1)
+body_step p e c = on_expression (expression_step p e c) entry_after_op plain.BodyOp entry.Failed
 
 abbrev pub entry_step : Profile → InEntry → ℕ → InEntry × Event
 entry_step p (entry.RunCount r) c = runs_count_step r c

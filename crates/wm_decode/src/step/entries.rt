@@ -61,7 +61,6 @@ fn after_op(at: InExpression) -> InEntry
 {
     match at {
         InExpression::Over => InEntry::Over,
-        InExpression::Failed(why) => InEntry::Failed(why),
         _ => InEntry::Body(at),
     }
 }
@@ -69,12 +68,11 @@ fn after_op(at: InExpression) -> InEntry
 fn body(profile: Profile, at: InExpression, byte: u8) -> (InEntry, Event)
     ensures { result ≡ body_step profile at byte }
 {
-    let (next, op) = expression_byte(profile, at, byte);
-    let event = match op {
-        Some(op) => Event::Complete(Plain::BodyOp(op)),
-        None => Event::Nothing,
-    };
-    (after_op(next), event)
+    match expression_byte(profile, at, byte) {
+        Ok((next, Some(op))) => (after_op(next), Event::Complete(Plain::BodyOp(op))),
+        Ok((next, None)) => (after_op(next), Event::Nothing),
+        Err(why) => no_entry(why),
+    }
 }
 
 fn entry_byte(profile: Profile, at: InEntry, byte: u8) -> (InEntry, Event)

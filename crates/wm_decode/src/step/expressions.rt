@@ -2,8 +2,7 @@
 
 ghost use Rattle.std.specs.Prelude.{◌≡◌};
 ghost use Rattle.wm_decode.specs.exact.ExpressionSteps.{after_label, after_op, ends, expression_step};
-ghost use Rattle.wm_decode.specs.exact.ExpressionSteps.{expression_failed, label_step, op_step, at_next_op};
-ghost use Rattle.wm_decode.specs.exact.ExpressionSteps.{start};
+ghost use Rattle.wm_decode.specs.exact.ExpressionSteps.{label_step, op_step, at_next_op, start};
 
 use crate::step::ops::InOp;
 use crate::step::reading::Reading;
@@ -28,8 +27,6 @@ pub(crate) enum InExpression {
     },
     /// Nothing may follow.
     Over,
-    /// The byte was refused.
-    Failed(Why),
 }
 
 // Before an op
@@ -80,13 +77,12 @@ fn after_label(depth: u32, left: u32) -> InExpression
     }
 }
 
-fn failed(why: Why) -> (InExpression, Option<Op>)
-    ensures { result ≡ expression_failed why }
-{
-    (InExpression::Failed(why), None)
-}
-
-fn label_byte(depth: u32, left: u32, mut number: Num32, byte: u8) -> (InExpression, Option<Op>)
+fn label_byte(
+    depth: u32,
+    left: u32,
+    mut number: Num32,
+    byte: u8,
+) -> Result<(InExpression, Option<Op>), Why>
     ensures { result ≡ label_step depth left number byte }
 {
     match number.push(byte) {
@@ -96,20 +92,25 @@ fn label_byte(depth: u32, left: u32, mut number: Num32, byte: u8) -> (InExpressi
                 left,
                 number,
             };
-            (at, None)
+            Ok((at, None))
         }
-        Step::Done(label) => (after_label(depth, left), Some(Op::Label(label))),
-        Step::Bad => failed(Why::BadNumber),
+        Step::Done(label) => Ok((after_label(depth, left), Some(Op::Label(label)))),
+        Step::Bad => Err(Why::BadNumber),
     }
 }
 
-fn op_byte(profile: Profile, depth: u32, at: InOp, byte: u8) -> (InExpression, Option<Op>)
+fn op_byte(
+    profile: Profile,
+    depth: u32,
+    at: InOp,
+    byte: u8,
+) -> Result<(InExpression, Option<Op>), Why>
     ensures { result ≡ op_step profile depth at byte }
 {
     match at.push(profile, byte) {
-        Reading::More(at) => (InExpression::Op { depth, at }, None),
-        Reading::Done(op) => (after_op(depth, op), Some(op)),
-        Reading::Bad(why) => failed(why),
+        Reading::More(at) => Ok((InExpression::Op { depth, at }, None)),
+        Reading::Done(op) => Ok((after_op(depth, op), Some(op))),
+        Reading::Bad(why) => Err(why),
     }
 }
 
@@ -122,12 +123,12 @@ impl InExpression {
     }
 }
 
-/// The next place in an expression, and the op or label that this byte completes.
+/// The next place in an expression and the op or label that this byte completes, or why it is refused.
 pub(crate) fn expression_byte(
     profile: Profile,
     at: InExpression,
     byte: u8,
-) -> (InExpression, Option<Op>)
+) -> Result<(InExpression, Option<Op>), Why>
     ensures { result ≡ expression_step profile at byte }
 {
     match at {
@@ -137,7 +138,7 @@ pub(crate) fn expression_byte(
             left,
             number,
         } => label_byte(depth, left, number, byte),
-        InExpression::Over | InExpression::Failed(_) => failed(Why::SectionEnd),
+        InExpression::Over => Err(Why::SectionEnd),
     }
 }
 

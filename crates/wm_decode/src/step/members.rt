@@ -209,7 +209,6 @@ fn after_constant(of: ConstantOf, at: InExpression) -> InMember
 {
     match at {
         InExpression::Over => constant_over(of),
-        InExpression::Failed(why) => InMember::Failed(why),
         _ => InMember::Constant { of, at },
     }
 }
@@ -217,12 +216,11 @@ fn after_constant(of: ConstantOf, at: InExpression) -> InMember
 fn constant(profile: Profile, of: ConstantOf, at: InExpression, byte: u8) -> (InMember, Event)
     ensures { result ≡ constant_step profile of at byte }
 {
-    let (next, op) = expression_byte(profile, at, byte);
-    let event = match op {
-        Some(op) => Event::Complete(Plain::ConstOp(op)),
-        None => Event::Nothing,
-    };
-    (after_constant(of, next), event)
+    match expression_byte(profile, at, byte) {
+        Ok((next, Some(op))) => (after_constant(of, next), Event::Complete(Plain::ConstOp(op))),
+        Ok((next, None)) => (after_constant(of, next), Event::Nothing),
+        Err(why) => failed(why),
+    }
 }
 
 /// In a data segment, with so many bytes of it left, or after it.

@@ -5,22 +5,25 @@ use crate::fixtures::bytes_of;
 use std::alloc::{AllocError, Global};
 use std::process::Abort;
 
-// The ops that some bytes complete, and where the reader then stands
+// The ops that some bytes complete, and where the reader then stands, or why it refuses
 fn read(
     alloc: Global,
     profile: Profile,
     bytes: &[u8],
-) -> Result<(Vec<Op>, InExpression), AllocError> {
+) -> Result<(Vec<Op>, Result<InExpression, Why>), AllocError> {
     let mut ops = Vec::new(alloc);
     let mut at = InExpression::new();
     for byte in bytes {
-        let (next, op) = expression_byte(profile, at, *byte);
+        let (next, op) = match expression_byte(profile, at, *byte) {
+            Ok(read) => read,
+            Err(why) => return Ok((ops, Err(why))),
+        };
         at = next;
         if let Some(op) = op {
             ops.push(op)?;
         }
     }
-    Ok((ops, at))
+    Ok((ops, Ok(at)))
 }
 
 // The ops of a whole expression, or why its bytes are refused.
@@ -28,9 +31,9 @@ fn told(alloc: Global, profile: Profile, bytes: &[u8]) -> Result<String, AllocEr
     let (ops, at) = read(alloc, profile, bytes)?;
     let mut told = String::new(alloc);
     match at {
-        InExpression::Over => write!(told, "{:?}", ops.as_slice())?,
-        InExpression::Failed(why) => write!(told, "{}", why.name())?,
-        _ => write!(told, "unfinished")?,
+        Ok(InExpression::Over) => write!(told, "{:?}", ops.as_slice())?,
+        Ok(_) => write!(told, "unfinished")?,
+        Err(why) => write!(told, "{}", why.name())?,
     }
     Ok(told)
 }
@@ -105,21 +108,21 @@ fn unfinished(rt: HostRuntime) -> Result<(), AllocError> {
     assert!(rt;
         matches!(
             at,
-            InExpression::Op {
+            Ok(InExpression::Op {
                 depth: 0,
                 at: InOp::First
-            }
+            })
         )
     );
     let (_, at) = read(rt.alloc(), Profile::One, &[0x0E, 0x02, 0x00, 0x01])?;
     assert!(rt;
         matches!(
             at,
-            InExpression::Label {
+            Ok(InExpression::Label {
                 depth: 0,
                 left: 0,
                 ..
-            }
+            })
         )
     );
     Ok(())
