@@ -8,11 +8,8 @@ ghost use Rattle.wm_decode.specs.exact.ShortSteps.{StepsTo, standing};
 use crate::machine::member::{InEntry, InMember, SectionKind};
 use crate::machine::{Machine, Plain};
 use crate::step::entries::runs_or_body;
-use crate::step::expressions::InExpression;
-use crate::step::ops::InOp;
 use crate::step::types::after_param;
 use crate::step::values::{InRun, value_type};
-use wm_syntax::instructions::Op;
 use wm_syntax::numbers::{Num32, Step};
 use wm_syntax::profile::Profile;
 

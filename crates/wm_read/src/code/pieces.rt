@@ -22,7 +22,6 @@ use crate::code::operands::{
 use crate::code::type_uses::type_use;
 use crate::faults::{TextFault, TextWhy};
 use crate::names::identifiers::{Names, Scope};
-use crate::tokens::lexeme::{Lexeme, next_token};
 use std::alloc::Global;
 use wm_syntax::instructions::accesses::{loaded, stored};
 use wm_syntax::instructions::op_class::{Immediates, OpClass};
