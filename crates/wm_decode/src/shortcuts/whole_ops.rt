@@ -6,7 +6,7 @@ ghost use Rattle.std.specs.Prelude.{◌≡◌, ◌+◌, ◌<◌, ◌≤◌, ◌^
 ghost use Rattle.wm_syntax.specs.exact.ByteTable.{class_under};
 ghost use Rattle.wm_syntax.specs.exact.Reading.{fresh};
 ghost use Rattle.wm_decode.specs.declared.step.reading.Reading.TheVariants.{More, Done};
-ghost use Rattle.wm_decode.specs.declared.step.ops.InOp.TheVariants.{BlockType, Const32, Const64};
+ghost use Rattle.wm_decode.specs.declared.step.ops.InOp.TheVariants.{BlockType, CallType, Const32, Const64};
 ghost use Rattle.wm_decode.specs.exact.OpSteps.{fresh_access, fresh_index, immediates, index_op};
 ghost use Rattle.wm_decode.specs.exact.ExpressionSteps.{after_op, at_next_op};
 ghost use Rattle.wm_decode.specs.exact.WholeOps.{GaveAs, OpUnder, RanTo, TookAs, WholeOp, first_read};
@@ -188,7 +188,73 @@ fn with_type(bytes: &[u8], at: usize, depth: u32, op: Opening) -> Option<Read>
     })
 }
 
+// An indirect call, which ends with the byte 00.
+#[inline(always)]
+fn call_indirect(bytes: &[u8], at: usize, depth: u32) -> Option<Read>
+    requires within { at + 1 < length bytes.now }
+    requires first { first_read (slice_index bytes.now at) ≡ More (CallType fresh) }
+    ensures { IfSome result (λ r. WholeOp bytes.now at r.next depth r.depth r.op) }
+{
+    let ty = u32_at(bytes, at + 1)?;
+    if ty.next >= bytes.len() || bytes[ty.next] != 0x00 {
+        return None;
+    }
+    Some(Read {
+        op: Op::Simple(Simple::CallIndirect(ty.value)),
+        next: ty.next + 1,
+        depth,
+    })
+}
+
 // The ops of a group, by their bytes.
+
+#[inline(always)]
+fn narrow_loads_32(byte: u8) -> LoadOp
+    requires from { 0x2C ≤ byte }
+    requires to { byte ≤ 0x2F }
+    ensures { first_read byte ≡ More (fresh_access (LoadOrStore.Load result)) }
+{
+    match byte {
+        0x2C => LoadOp::I32Load8S,
+        0x2D => LoadOp::I32Load8U,
+        0x2E => LoadOp::I32Load16S,
+        0x2F => LoadOp::I32Load16U,
+        _ => unreachable!(),
+    }
+}
+
+#[inline(always)]
+fn narrow_loads_64(byte: u8) -> LoadOp
+    requires from { 0x30 ≤ byte }
+    requires to { byte ≤ 0x35 }
+    ensures { first_read byte ≡ More (fresh_access (LoadOrStore.Load result)) }
+{
+    match byte {
+        0x30 => LoadOp::I64Load8S,
+        0x31 => LoadOp::I64Load8U,
+        0x32 => LoadOp::I64Load16S,
+        0x33 => LoadOp::I64Load16U,
+        0x34 => LoadOp::I64Load32S,
+        0x35 => LoadOp::I64Load32U,
+        _ => unreachable!(),
+    }
+}
+
+#[inline(always)]
+fn narrow_stores(byte: u8) -> StoreOp
+    requires from { 0x3A ≤ byte }
+    requires to { byte ≤ 0x3E }
+    ensures { first_read byte ≡ More (fresh_access (LoadOrStore.Store result)) }
+{
+    match byte {
+        0x3A => StoreOp::I32Store8,
+        0x3B => StoreOp::I32Store16,
+        0x3C => StoreOp::I64Store8,
+        0x3D => StoreOp::I64Store16,
+        0x3E => StoreOp::I64Store32,
+        _ => unreachable!(),
+    }
+}
 
 #[inline(always)]
 fn compares_32(byte: u8) -> Comparison
@@ -312,44 +378,7 @@ fn binary_64(byte: u8) -> BinaryOp
     }
 }
 
-// The ops that are not among the most common ones.
-fn other_op(bytes: &[u8], at: usize, depth: u32) -> Option<Read>
-    requires { at + 1 < length bytes.now }
-    ensures { IfSome result (λ r. WholeOp bytes.now at r.next depth r.depth r.op) }
-{
-    let byte = bytes[at];
-    match byte {
-        0x00 => alone(bytes, at, depth, Op::Simple(Simple::Unreachable)),
-        0x1B => alone(bytes, at, depth, Op::Simple(Simple::Select)),
-        0x29 => with_arg(bytes, at, depth, LoadOrStore::Load(LoadOp::I64Load)),
-        0x2C => with_arg(bytes, at, depth, LoadOrStore::Load(LoadOp::I32Load8S)),
-        0x2D => with_arg(bytes, at, depth, LoadOrStore::Load(LoadOp::I32Load8U)),
-        0x2E => with_arg(bytes, at, depth, LoadOrStore::Load(LoadOp::I32Load16S)),
-        0x2F => with_arg(bytes, at, depth, LoadOrStore::Load(LoadOp::I32Load16U)),
-        0x30 => with_arg(bytes, at, depth, LoadOrStore::Load(LoadOp::I64Load8S)),
-        0x31 => with_arg(bytes, at, depth, LoadOrStore::Load(LoadOp::I64Load8U)),
-        0x32 => with_arg(bytes, at, depth, LoadOrStore::Load(LoadOp::I64Load16S)),
-        0x33 => with_arg(bytes, at, depth, LoadOrStore::Load(LoadOp::I64Load16U)),
-        0x34 => with_arg(bytes, at, depth, LoadOrStore::Load(LoadOp::I64Load32S)),
-        0x35 => with_arg(bytes, at, depth, LoadOrStore::Load(LoadOp::I64Load32U)),
-        0x37 => with_arg(bytes, at, depth, LoadOrStore::Store(StoreOp::I64Store)),
-        0x3A => with_arg(bytes, at, depth, LoadOrStore::Store(StoreOp::I32Store8)),
-        0x3B => with_arg(bytes, at, depth, LoadOrStore::Store(StoreOp::I32Store16)),
-        0x3C => with_arg(bytes, at, depth, LoadOrStore::Store(StoreOp::I64Store8)),
-        0x3D => with_arg(bytes, at, depth, LoadOrStore::Store(StoreOp::I64Store16)),
-        0x3E => with_arg(bytes, at, depth, LoadOrStore::Store(StoreOp::I64Store32)),
-        0x50 => numeric(bytes, at, depth, Numeric::Test(I64)),
-        0x51..=0x5A => numeric(bytes, at, depth, Numeric::Compare(I64, compares_64(byte))),
-        0x67..=0x69 => numeric(bytes, at, depth, Numeric::Unary(I32, unary_32(byte))),
-        0x79..=0x7B => numeric(bytes, at, depth, Numeric::Unary(I64, unary_64(byte))),
-        0xA7 => numeric(bytes, at, depth, Numeric::Wrap),
-        0xAC => numeric(bytes, at, depth, Numeric::ExtendS),
-        0xAD => numeric(bytes, at, depth, Numeric::ExtendU),
-        _ => None,
-    }
-}
-
-// What is rarer yet: the ops on floating-point numbers and the sign extensions, where the profile has them.
+// The ops on floating-point numbers and the sign extensions, where the profile has them.
 
 #[inline(always)]
 #[tactic(auto, using(crate::proofs::OpLists::under_plain))]
@@ -471,18 +500,6 @@ fn float_op(profile: Profile, bytes: &[u8], at: usize, depth: u32) -> Option<Rea
     }
 }
 
-// The ops that are not among the most common ones, or rarer yet.
-#[tactic(auto, using(crate::proofs::OpLists::under_whole))]
-fn rare_op(profile: Profile, bytes: &[u8], at: usize, depth: u32) -> Option<Read>
-    requires { at + 1 < length bytes.now }
-    ensures { IfSome result (λ r. OpUnder profile bytes.now at r.next depth r.depth r.op) }
-{
-    match other_op(bytes, at, depth) {
-        Some(read) => Some(read),
-        None => float_op(profile, bytes, at, depth),
-    }
-}
-
 // Gives an op that lies in what is left of the entry.
 #[inline(always)]
 fn give<S: Sink>(sink: &mut S, room: usize, read: Option<Read>) -> Took
@@ -500,10 +517,10 @@ fn give<S: Sink>(sink: &mut S, room: usize, read: Option<Read>) -> Took
     }
 }
 
-// The same for an op that is not among the most common ones.
+// The same for an op on floating-point numbers or a sign extension.
 #[inline(never)]
 #[tactic(auto, using(crate::proofs::OpLists::gave_took))]
-fn take_other<S: Sink>(
+fn take_float<S: Sink>(
     sink: &mut S,
     profile: Profile,
     bytes: &[u8],
@@ -514,7 +531,7 @@ fn take_other<S: Sink>(
     requires { at + 1 < length bytes.now }
     ensures { TookAs S.after profile (S.held sink.old) bytes.now at depth room result (S.held sink.new) }
 {
-    give(sink, room, rare_op(profile, bytes, at, depth))
+    give(sink, room, float_op(profile, bytes, at, depth))
 }
 
 // Takes the op at a place, if it is among the most common ones. Each of them has its own code.
@@ -586,6 +603,88 @@ fn take_common<S: Sink>(
     }
 }
 
+// The same for those that are less common. Each has its own code too, but out of line: so the loop over ops stays as small as
+// it has to be for the most common ones to be inlined there.
+#[inline(never)]
+#[tactic(auto, using(crate::proofs::OpLists::gave_whole))]
+fn take_uncommon<S: Sink>(
+    sink: &mut S,
+    profile: Profile,
+    bytes: &[u8],
+    at: usize,
+    depth: u32,
+    room: usize,
+) -> Took
+    requires { at + 1 < length bytes.now }
+    ensures { TookAs S.after profile (S.held sink.old) bytes.now at depth room result (S.held sink.new) }
+{
+    let byte = bytes[at];
+    match byte {
+        0x00 => give(
+            sink,
+            room,
+            alone(bytes, at, depth, Op::Simple(Simple::Unreachable)),
+        ),
+        0x11 => give(sink, room, call_indirect(bytes, at, depth)),
+        0x1B => give(
+            sink,
+            room,
+            alone(bytes, at, depth, Op::Simple(Simple::Select)),
+        ),
+        0x29 => give(
+            sink,
+            room,
+            with_arg(bytes, at, depth, LoadOrStore::Load(LoadOp::I64Load)),
+        ),
+        0x2C..=0x2F => {
+            let op = narrow_loads_32(byte);
+            give(
+                sink,
+                room,
+                with_arg(bytes, at, depth, LoadOrStore::Load(op)),
+            )
+        }
+        0x30..=0x35 => {
+            let op = narrow_loads_64(byte);
+            give(
+                sink,
+                room,
+                with_arg(bytes, at, depth, LoadOrStore::Load(op)),
+            )
+        }
+        0x37 => give(
+            sink,
+            room,
+            with_arg(bytes, at, depth, LoadOrStore::Store(StoreOp::I64Store)),
+        ),
+        0x3A..=0x3E => {
+            let op = narrow_stores(byte);
+            give(
+                sink,
+                room,
+                with_arg(bytes, at, depth, LoadOrStore::Store(op)),
+            )
+        }
+        0x50 => give(sink, room, numeric(bytes, at, depth, Numeric::Test(I64))),
+        0x51..=0x5A => {
+            let op = Numeric::Compare(I64, compares_64(byte));
+            give(sink, room, numeric(bytes, at, depth, op))
+        }
+        0x67..=0x69 => {
+            let op = Numeric::Unary(I32, unary_32(byte));
+            give(sink, room, numeric(bytes, at, depth, op))
+        }
+        0x79..=0x7B => {
+            let op = Numeric::Unary(I64, unary_64(byte));
+            give(sink, room, numeric(bytes, at, depth, op))
+        }
+        0xA7 => give(sink, room, numeric(bytes, at, depth, Numeric::Wrap)),
+        0xAC => give(sink, room, numeric(bytes, at, depth, Numeric::ExtendS)),
+        0xAD => give(sink, room, numeric(bytes, at, depth, Numeric::ExtendU)),
+        _ => take_float(sink, profile, bytes, at, depth, room),
+    }
+}
+
 // After an op that the sink refused
 #[inline(always)]
 fn refused(used: usize, depth: u32, why: Why) -> Ran
@@ -629,7 +728,7 @@ pub(crate) fn take_ops<S: Sink>(
             Took::Refused(why, next) => return refused(next, depth, why),
         }
         // called here, so that no answer of the common ops lies in memory
-        match take_other(sink, profile, bytes, used, depth, room) {
+        match take_uncommon(sink, profile, bytes, used, depth, room) {
             Took::Next(next, inside) => {
                 used = next;
                 depth = inside;
