@@ -56,7 +56,7 @@ last_steps p (suc l) more depth c q r eq ec ed em less er = λ f n.
 
 -- the first of some bytes, after which the section goes on
 module _ {H : Type 0} (after : H → Item → Result H Why) (p : Profile) (limit : ℕ) where
-  first_step : (bytes : List ℕ) (m n : Machine) (e : Event) (name : List ℕ) (h : H) (k : ℕ) → 0 < length bytes → k < limit
+  pub first_step : (bytes : List ℕ) (m n : Machine) (e : Event) (name : List ℕ) (h : H) (k : ℕ) → 0 < length bytes → k < limit
       → step_of p m (slice_index bytes 0) ≡ (n, e)
       → decoder_after after p limit (live_so m name h k) bytes
       ≡ and_then (live_from n (k + 1) (event_effect after e name (slice_index bytes 0) h)) (λ l. decoder_after after p limit l (drop 1 bytes))

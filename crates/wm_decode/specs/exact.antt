@@ -1,6 +1,7 @@
 -- Exact answers of functions, refusals included. They follow the code for the layers above,
 -- and need not be believed.
 pub mod ExpressionSteps
+pub mod Frames
 pub mod Heads
 pub mod Indices
 pub mod Live

@@ -11,6 +11,7 @@ use crate::machine::member::{InEntry, InMember, SectionKind};
 use crate::machine::{InCustom, Machine, refusal_of};
 use crate::shortcuts::entries::{body, entries};
 use crate::shortcuts::exports::exports;
+use crate::shortcuts::frames::frames;
 use crate::shortcuts::function_types::function_types;
 use crate::shortcuts::heads::runs;
 use crate::shortcuts::imports::imports;
@@ -27,6 +28,7 @@ use wm_syntax::why::Why;
 
 pub(crate) mod entries;
 pub(crate) mod exports;
+pub(crate) mod frames;
 pub(crate) mod function_types;
 pub(crate) mod heads;
 pub(crate) mod imports;
@@ -93,6 +95,7 @@ enum Way {
     Short,
     Data,
     Pass,
+    Frame,
     One,
 }
 
@@ -100,7 +103,9 @@ fn way_of(machine: Machine) -> Way {
     let (of, at) = match machine {
         Machine::Section { of, at, .. } => (of, at),
         Machine::Custom { .. } => return Way::Pass,
-        _ => return Way::One,
+        // tried once, at the header's begin
+        Machine::Header(1..) | Machine::Refused(_) => return Way::One,
+        _ => return Way::Frame,
     };
     match of {
         SectionKind::Type => Way::Type,
@@ -275,6 +280,7 @@ pub(crate) fn take_way<S: Sink>(
         Way::Short => {}
         Way::Data => return data(sink, machine, profile, bytes),
         Way::Pass => return pass(sink, machine, profile, bytes),
+        Way::Frame => return frames(sink, machine, profile, bytes),
         Way::One => return Shortcut::none(),
     }
     short(sink, machine, profile, bytes)

@@ -1,6 +1,8 @@
 //! What one byte does between sections and to the frame of one.
 
-ghost use Rattle.std.specs.Prelude.{◌≡◌};
+ghost use Rattle.std.specs.Prelude.{◌≡◌, IfSome, false, true};
+ghost use Rattle.wm_syntax.specs.exact.Reading.{fresh};
+ghost use Rattle.wm_decode.specs.exact.Frames.{IsFrameStep};
 ghost use Rattle.wm_decode.specs.exact.Steps.{custom_length_step, custom_name_step, custom_step};
 ghost use Rattle.wm_decode.specs.exact.Steps.{machine_in_custom, machine_in_member, machine_refused};
 ghost use Rattle.wm_decode.specs.exact.Steps.{section_start, machine_after_count, machine_after_paired_count};
@@ -287,6 +289,147 @@ fn in_header(at: u8, byte: u8) -> (Machine, Event)
             functions: 0,
         };
         (start, Event::Nothing)
+    }
+}
+
+// A shorter way for bytes of the header, and of the frame of a section: its id, its size and its count. They complete nothing.
+// What is rare and what is refused is left to `step`.
+
+// The kind of section that this id begins
+#[inline(always)]
+fn begun(last: u8, functions: u32, byte: u8) -> Option<SectionKind>
+    ensures { IfSome result (λ of. section_start last functions byte
+        ≡ (Machine.Size of functions fresh, Event.Nothing)) }
+{
+    let of = SectionKind::of(byte)?;
+    match of {
+        SectionKind::Segment if functions > 0 => None,
+        _ if byte <= last => None,
+        _ => Some(of),
+    }
+}
+
+#[inline(always)]
+fn size_byte(
+    machine: &mut Machine,
+    of: SectionKind,
+    functions: u32,
+    mut number: Num32,
+    byte: u8,
+) -> bool
+    requires { machine.old ≡ Machine.Size of functions number }
+    ensures taken { result ≡ true → IsFrameStep machine.old byte machine.new }
+    ensures left { result ≡ false → machine.new ≡ machine.old }
+{
+    match number.push(byte) {
+        Step::More => {
+            *machine = Machine::Size {
+                of,
+                functions,
+                number,
+            };
+            true
+        }
+        Step::Done(0) | Step::Bad => false,
+        Step::Done(size) => {
+            let SectionKind::Start = of else {
+                *machine = Machine::Count {
+                    of,
+                    functions,
+                    more: size - 1,
+                    number: Num32::new(),
+                };
+                return true;
+            };
+            false
+        }
+    }
+}
+
+#[inline(always)]
+fn count_byte(
+    machine: &mut Machine,
+    of: SectionKind,
+    functions: u32,
+    more: u32,
+    mut number: Num32,
+    byte: u8,
+) -> bool
+    requires { machine.old ≡ Machine.Count of functions more number }
+    ensures taken { result ≡ true → IsFrameStep machine.old byte machine.new }
+    ensures left { result ≡ false → machine.new ≡ machine.old }
+{
+    let Step::Done(n) = number.push(byte) else {
+        return false;
+    };
+    match counted(of, functions, more, n) {
+        Machine::Refused(_) => false,
+        next => {
+            *machine = next;
+            true
+        }
+    }
+}
+
+#[inline(always)]
+fn header_byte(machine: &mut Machine, at: u8, byte: u8) -> bool
+    requires { machine.old ≡ Machine.Header at }
+    ensures taken { result ≡ true → IsFrameStep machine.old byte machine.new }
+    ensures left { result ≡ false → machine.new ≡ machine.old }
+{
+    if at > 7 || byte != HEADER[at as usize] {
+        return false;
+    }
+    *machine = if at < 7 {
+        Machine::Header(at + 1)
+    } else {
+        Machine::Between {
+            last: 0,
+            functions: 0,
+        }
+    };
+    true
+}
+
+#[inline(always)]
+fn id_byte(machine: &mut Machine, last: u8, functions: u32, byte: u8) -> bool
+    requires { machine.old ≡ Machine.Between last functions }
+    ensures taken { result ≡ true → IsFrameStep machine.old byte machine.new }
+    ensures left { result ≡ false → machine.new ≡ machine.old }
+{
+    let Some(of) = begun(last, functions, byte) else {
+        return false;
+    };
+    *machine = Machine::Size {
+        of,
+        functions,
+        number: Num32::new(),
+    };
+    true
+}
+
+/// Takes a byte of the header or of a frame, where it goes by the shorter way.
+#[inline(always)]
+pub(crate) fn frame_byte(machine: &mut Machine, byte: u8) -> bool
+    ensures taken { result ≡ true → IsFrameStep machine.old byte machine.new }
+    ensures left { result ≡ false → machine.new ≡ machine.old }
+{
+    let before = *machine;
+    match before {
+        Machine::Header(at) => header_byte(machine, at, byte),
+        Machine::Between { last, functions } => id_byte(machine, last, functions, byte),
+        Machine::Size {
+            of,
+            functions,
+            number,
+        } => size_byte(machine, of, functions, number, byte),
+        Machine::Count {
+            of,
+            functions,
+            more,
+            number,
+        } => count_byte(machine, of, functions, more, number, byte),
+        _ => false,
     }
 }
 
