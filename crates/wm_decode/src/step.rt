@@ -292,8 +292,8 @@ fn in_header(at: u8, byte: u8) -> (Machine, Event)
     }
 }
 
-// A shorter way for bytes of the header, and of the frame of a section: its id, its size and its count. They complete nothing.
-// What is rare and what is refused is left to `step`.
+// A shorter way for bytes of the header, and of the frame of a section: its id, its size and its count. They
+// complete nothing. What is rare and what is refused is left to `step`.
 
 // The kind of section that this id begins
 #[inline(always)]
@@ -433,8 +433,19 @@ pub(crate) fn frame_byte(machine: &mut Machine, byte: u8) -> bool
     }
 }
 
-/// The machine after one more byte, and what this byte completes.
-pub(crate) fn step(profile: Profile, machine: Machine, byte: u8) -> (Machine, Event)
+/// Takes one more byte, and says what it completes. The machine stays in its place: to hand it back is a copy more.
+#[inline(never)]
+pub(crate) fn step(profile: Profile, machine: &mut Machine, byte: u8) -> Event
+    ensures { (machine.new, result) ≡ step_of profile machine.old byte }
+{
+    let (next, event) = stepped(profile, *machine, byte);
+    *machine = next;
+    event
+}
+
+// The machine after one more byte, and what this byte completes
+#[inline(always)]
+fn stepped(profile: Profile, machine: Machine, byte: u8) -> (Machine, Event)
     ensures { result ≡ step_of profile machine byte }
 {
     match machine {
