@@ -72,6 +72,18 @@ impl Batch {
         self.len += 1;
     }
 
+    /// Adds two bytes.
+    #[inline(always)]
+    pub(crate) fn push_two(&mut self, first: u8, second: u8)
+        requires { length self.old + 2 ≤ 64 }
+        ensures { self.new ≡ self.old ++ first ∷ second ∷ [] }
+    {
+        let len = self.len;
+        self.bytes[len] = first;
+        self.bytes[len + 1] = second;
+        self.len = len + 2;
+    }
+
     // Adds a number in digits.
     fn push_digits<I: Integer>(&mut self, n: I)
         requires { length self.old + I.MAX_STR_LEN ≤ 64 }
