@@ -11,6 +11,7 @@ pub mod Readers
 pub mod Indices
 pub mod Floats
 pub mod Immediates
+pub mod OpWords
 pub mod PieceLaws
 pub mod BodyLaws
 pub mod BodyLoop

@@ -15,6 +15,7 @@ ghost use Rattle.wm_syntax.specs.declared.instructions.Simple.TheVariants as Sim
 
 use crate::code::blocks::{OpenBlocks, Opening};
 use crate::code::named_uses::call_fault;
+use crate::code::op_words::op_word;
 use crate::code::operands::{
     access, again, begins_index, block_type, float_32, float_64, id, index, integer_32, integer_64,
     label, no_instruction, refuse,
@@ -25,7 +26,6 @@ use crate::names::identifiers::{Names, Scope};
 use std::alloc::Global;
 use wm_syntax::instructions::accesses::{loaded, stored};
 use wm_syntax::instructions::op_class::{Immediates, OpClass};
-use wm_syntax::instructions::op_names::op_named;
 use wm_syntax::instructions::{LoadOp, Op, Simple, StoreOp};
 use wm_syntax::profile::Profile;
 use wm_syntax::types::ValType;
@@ -266,7 +266,7 @@ pub fn read_piece<'a>(
         (reading.piece_at (call_use_at profile (names_of scope.now.names.now)) profile (scope_of scope.now)
         blocks.now word.now (lexed text.now)) }
 {
-    match op_named(profile, word) {
+    match op_word(profile, word) {
         OpClass::Plain(Op::Simple(simple)) => Ok((Piece::Plain(simple), text)),
         OpClass::Plain(Op::Else) => middle(blocks, here, text),
         OpClass::Plain(Op::End) => closes(blocks, here, text),
