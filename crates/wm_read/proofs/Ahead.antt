@@ -34,7 +34,7 @@ class_space : (c : ℕ) → is_space c ≡ true → class_of c ≡ k.Space
 unfolding class_of
 class_space c h = cond-true (is_space c) _ _ h
 
-class_atom : (c : ℕ) → is_id_char c ≡ true → class_of c ≡ k.Atom
+pub class_atom : (c : ℕ) → is_id_char c ≡ true → class_of c ≡ k.Atom
 unfolding class_of
 class_atom c h =
     let apart : (x : ℕ) → is_id_char x ≡ false → (c == x) ≡ false = λ x n. ne_eqb c x (λ e. let f : false ≡ true = sym n ∙ ap is_id_char (sym e) ∙ h in cc) in
@@ -180,7 +180,7 @@ ahead_is_so (c ∷ b) = ahead_at_by c b (class_of c) (class_law c)
 
 -- ---- as the code reads an atom
 
-atom_whole : (c : ℕ) (b : List ℕ) → class_of c ≡ k.Atom → atom_in (c ∷ b) ≡ (c ∷ (atom_in b).0, (atom_in b).1)
+pub atom_whole : (c : ℕ) (b : List ℕ) → class_of c ≡ k.Atom → atom_in (c ∷ b) ≡ (c ∷ (atom_in b).0, (atom_in b).1)
 atom_whole c b h = cond-true (is_id_char c) _ _ (subst (IsOf c) h (class_law c))
 
 pub ahead_atom : (b : List ℕ) → starts_atom b → cond (is_atom (atom_in b).0) (first (atom (atom_in b).0) (atom_in b).1) fault ≡ ahead b

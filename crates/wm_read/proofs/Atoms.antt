@@ -107,7 +107,7 @@ digits_left base n false (c ∷ b) m e = elim (chosen ((c == 95) && false) _ _ (
 -- ---- numbers
 
 -- what decimal digits make, though no 0x leads
-decimal_magnitude : (n : ℕ) (b : List ℕ) → digits_in 10 0 false b ≡ Some n → magnitude_of b ≡ Some n
+pub decimal_magnitude : (n : ℕ) (b : List ℕ) → digits_in 10 0 false b ≡ Some n → magnitude_of b ≡ Some n
 decimal_magnitude n [] e = absurd cc
 decimal_magnitude n (c ∷ []) e = e
 decimal_magnitude n (c ∷ d ∷ b) e = cond_both ((c == 48) && (d == 120)) _ _ (λ x. x ≡ Some n)

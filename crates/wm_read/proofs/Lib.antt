@@ -3,6 +3,7 @@ pub mod Comments
 pub mod Atoms
 pub mod Strings
 pub mod Ahead
+pub mod PlainAtoms
 pub mod Whole
 pub mod Parts
 pub mod Places

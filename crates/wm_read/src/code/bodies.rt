@@ -18,7 +18,7 @@ use crate::code::operands::refuse;
 use crate::code::pieces::{Piece, read_piece};
 use crate::faults::{TextFault, TextWhy};
 use crate::names::identifiers::Scope;
-use crate::tokens::lexeme::{Lexeme, next_token};
+use crate::tokens::lexeme::{Lexeme, first_token};
 use std::alloc::Global;
 use wm_syntax::instructions::Op;
 use wm_syntax::modules::body::Body;
@@ -153,7 +153,7 @@ pub fn read_body<'a>(
     };
     let mut rest = text;
     loop {
-        match next_token(rest) {
+        match first_token(rest) {
             Some((Lexeme::Atom(word), more)) => {
                 let (piece, more) = read_piece(
                     alloc,

@@ -16,7 +16,7 @@ use crate::fields::signatures::signature;
 use crate::fields::strings::name;
 use crate::fields::words::{FieldKind, field_kind, item_kind};
 use crate::names::identifiers::{Names, Space, is_new};
-use crate::tokens::lexeme::{Lexeme, next_token};
+use crate::tokens::lexeme::{Lexeme, first_token};
 use std::alloc::{AllocError, Global};
 use wm_syntax::modules::ExportKind;
 use wm_syntax::profile::Profile;
@@ -80,7 +80,7 @@ fn skip(depth: usize, text: &[u8]) -> Result<&[u8], TextFault>
     let mut open = depth;
     let mut rest = text;
     while open > 0 {
-        match next_token(rest) {
+        match first_token(rest) {
             Some((Lexeme::Open, more)) => {
                 open += 1;
                 rest = more;

@@ -15,7 +15,7 @@ ghost use Rattle.wm_read.specs.inner.Places.{Before, IsPlace};
 use crate::faults::{TextRefusal, TextWhy};
 use crate::tokens::scan::{
     Class, Mode, Step, after_comment, after_line, after_spaces, after_string, atom_len, class_of,
-    given_first, is_atom, string_step,
+    given_first, is_atom, plain_atom, string_step,
 };
 use std::alloc::{AllocError, Global};
 
@@ -131,13 +131,38 @@ fn atom(text: &[u8]) -> Found
 }
 
 /// The first token, and the text after it; none at the end, or where `check_tokens` finds a fault.
-#[tactic(auto, using(crate::proofs::Whole::ahead_laws))]
 pub fn next_token(text: &[u8]) -> Option<(Lexeme, &[u8])>
     ensures token { MatchOption result (scan.lexed text.now ≡ [])
         (λ x. scan.lexed text.now ≡ token_of x.0 ∷ scan.lexed x.1.now) }
     ensures shorter { IfSome result (λ x. length x.1.now < length text.now) }
 {
-    let mut rest = after_spaces(text);
+    first_token(text)
+}
+
+/// The same, for the loops that read most of the tokens: a plain atom is found with no call.
+#[inline(always)]
+#[tactic(auto, using(crate::proofs::Whole::ahead_laws))]
+pub fn first_token(text: &[u8]) -> Option<(Lexeme, &[u8])>
+    ensures token { MatchOption result (scan.lexed text.now ≡ [])
+        (λ x. scan.lexed text.now ≡ token_of x.0 ∷ scan.lexed x.1.now) }
+    ensures shorter { IfSome result (λ x. length x.1.now < length text.now) }
+{
+    let rest = after_spaces(text);
+    match plain_atom(rest) {
+        Some((atom, more)) => Some((Lexeme::Atom(atom), more)),
+        None => any_token(rest),
+    }
+}
+
+/// The same, whatever stands first.
+#[inline(never)]
+#[tactic(auto, using(crate::proofs::Whole::ahead_laws))]
+fn any_token(text: &[u8]) -> Option<(Lexeme, &[u8])>
+    ensures token { MatchOption result (scan.lexed text.now ≡ [])
+        (λ x. scan.lexed text.now ≡ token_of x.0 ∷ scan.lexed x.1.now) }
+    ensures shorter { IfSome result (λ x. length x.1.now < length text.now) }
+{
+    let mut rest = text;
     loop {
         match ahead(rest) {
             Found::Nothing | Found::Fault(_) => return None,
@@ -200,11 +225,14 @@ fn check_whole(text: &[u8]) -> Result<(), TextRefusal>
 {
     let mut rest = after_spaces(text);
     loop {
-        match ahead(rest) {
-            Found::Nothing => return Ok(()),
-            Found::Fault(why) => return Err(fault(text, rest, why)),
-            Found::Blank(more) => rest = after_spaces(more),
-            Found::First(_, more) => rest = after_spaces(more),
+        match plain_atom(rest) {
+            Some((_, more)) => rest = after_spaces(more),
+            None => match ahead(rest) {
+                Found::Nothing => return Ok(()),
+                Found::Fault(why) => return Err(fault(text, rest, why)),
+                Found::Blank(more) => rest = after_spaces(more),
+                Found::First(_, more) => rest = after_spaces(more),
+            },
         }
     }
 }

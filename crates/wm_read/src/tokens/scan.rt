@@ -1,7 +1,7 @@
 //! How the bytes of a text are told apart.
 
 ghost use Rattle.std.specs.Prelude.{◌≡◌, ◌≤◌, ◌+◌, zero, length, take, drop, false, Some, None, MatchOption};
-ghost use Rattle.std.specs.Prelude.{IfSome, IfErr, MatchResult, ◌*◌, ◌<◌, ◌∷◌, min};
+ghost use Rattle.std.specs.Prelude.{IfSome, IfErr, MatchResult, ◌*◌, ◌<◌, ◌∷◌, get_or, min};
 ghost use Rattle.std.specs.Option.{option_map};
 ghost use Rattle.wm_read.specs.exact.Scan as scan;
 ghost use Rattle.wm_read.specs.declared.tokens.scan.Mode.TheVariants.{Plain, Escape, Digits};
@@ -95,6 +95,14 @@ pub fn is_id_char(byte: u8) -> bool
     ensures { result ≡ tokens.is_id_char byte }
 {
     ID_CHARS[byte as usize] != b','
+}
+
+/// Whether this byte is a decimal digit.
+#[inline(always)]
+fn is_digit(byte: u8) -> bool
+    ensures { result ≡ tokens.is_digit byte }
+{
+    b'0' <= byte && byte <= b'9'
 }
 
 /// Whether this byte is white space by itself (section 6.2.3).
@@ -424,6 +432,52 @@ pub fn atom_len(text: &[u8]) -> usize
         }
     }
     text.len()
+}
+
+/// The atom that stands first, and what follows it, where its first byte tells that it is one: a word, an
+/// identifier, or decimal digits alone. None where another token stands first, or an atom of another form.
+#[inline(always)]
+pub fn plain_atom(text: &[u8]) -> Option<(&[u8], &[u8])>
+    ensures { IfSome result (λ x. scan.first (tokens.atom x.0.now) x.1.now ≡ scan.ahead text.now) }
+{
+    match text {
+        [] => None,
+        [c, ..] => match *c {
+            b'a'..=b'z' => Some(text.split_at(atom_len(text))),
+            b'0'..=b'9' => plain_number(text),
+            b'$' => plain_id(text),
+            _ => None,
+        },
+    }
+}
+
+/// The decimal digits that stand first, and what follows them, where that is a byte and no character of atoms.
+#[inline(always)]
+fn plain_number(text: &[u8]) -> Option<(&[u8], &[u8])>
+    ensures { IfSome result (λ x. scan.first (tokens.atom x.0.now) x.1.now ≡ scan.ahead text.now) }
+{
+    for (i, c) in text.iter().enumerate() {
+        if !is_digit(*c) {
+            if i == 0 {
+                return None;
+            }
+            if is_id_char(*c) {
+                return None;
+            }
+            return Some(text.split_at(i));
+        }
+    }
+    None
+}
+
+/// The identifier that stands first, from its `$` on, and what follows it.
+#[inline(always)]
+fn plain_id(text: &[u8]) -> Option<(&[u8], &[u8])>
+    requires { get_or text.now 0 0 ≡ 36 }
+    ensures { IfSome result (λ x. scan.first (tokens.atom x.0.now) x.1.now ≡ scan.ahead text.now) }
+{
+    let n = atom_len(text);
+    if n < 2 { None } else { Some(text.split_at(n)) }
 }
 
 /// Whether characters of atoms are an identifier (section 6.3.5), a number (6.3.1), a float (6.3.2) or a word
