@@ -1,7 +1,7 @@
 //! How the bytes of a text are told apart.
 
 ghost use Rattle.std.specs.Prelude.{◌≡◌, ◌≤◌, ◌+◌, zero, length, take, drop, false, Some, None, MatchOption};
-ghost use Rattle.std.specs.Prelude.{IfSome, IfErr, MatchResult, ◌*◌, ◌<◌, ◌∷◌, get_or, min};
+ghost use Rattle.std.specs.Prelude.{IfSome, IfErr, MatchResult, ◌*◌, ◌<◌, ◌∷◌, get_or, min, true, ℕ};
 ghost use Rattle.std.specs.Option.{option_map};
 ghost use Rattle.wm_read.specs.exact.Scan as scan;
 ghost use Rattle.wm_read.specs.declared.tokens.scan.Mode.TheVariants.{Plain, Escape, Digits};
@@ -420,18 +420,46 @@ fn bad_in(mode: Mode) -> TextWhy
     }
 }
 
-/// How many characters of atoms stand first.
+/// How many characters of atoms stand first. Four are asked in a step, while four are left.
 #[inline(always)]
 pub fn atom_len(text: &[u8]) -> usize
     ensures within { result ≤ length text.now }
     ensures atom { scan.atom_in text.now ≡ (take result text.now, drop result text.now) }
 {
-    for (i, c) in text.iter().enumerate() {
-        if !is_id_char(*c) {
+    let mut i = 0;
+    while text.len() - i >= 4 {
+        if !is_id_char(text[i]) {
             return i;
         }
+        if !is_id_char(text[i + 1]) {
+            return i + 1;
+        }
+        if !is_id_char(text[i + 2]) {
+            return i + 2;
+        }
+        if !is_id_char(text[i + 3]) {
+            return i + 3;
+        }
+        i += 4;
     }
-    text.len()
+    atom_end(i, text)
+}
+
+/// The same, where so many are known to stand first.
+fn atom_end(known: usize, text: &[u8]) -> usize
+    requires within { known ≤ length text.now }
+    requires known { (k : ℕ) → k < known → tokens.is_id_char (get_or text.now k 0) ≡ true }
+    ensures within { result ≤ length text.now }
+    ensures atom { scan.atom_in text.now ≡ (take result text.now, drop result text.now) }
+{
+    let mut i = known;
+    while i < text.len() {
+        if !is_id_char(text[i]) {
+            return i;
+        }
+        i += 1;
+    }
+    i
 }
 
 /// The atom that stands first, and what follows it, where its first byte tells that it is one: a word, an
