@@ -14,7 +14,7 @@ ghost use Rattle.wm_syntax.specs.declared.instructions.FloatType.TheVariants as 
 use crate::code::blocks::OpenBlocks;
 use crate::faults::{TextFault, TextWhy};
 use crate::names::identifiers::{Space, is_same_id};
-use crate::tokens::lexeme::{Lexeme, next_token, skip_space};
+use crate::tokens::lexeme::{Lexeme, first_token, next_token, skip_space};
 use crate::tokens::literals::{
     after_key, constant32, constant64, exponent, float32, float64, is, is_float, is_id, is_word,
     small, unsigned,
@@ -69,7 +69,7 @@ pub fn index<'a>(space: &Space, text: &'a [u8]) -> Result<(u32, &'a [u8]), TextF
     ensures { Reads (λ x. (x.0, lexed x.1.now)) result
         (reading.atom_at (reading.index_of space.now) (lexed text.now)) }
 {
-    match next_token(text) {
+    match first_token(text) {
         Some((Lexeme::Atom(atom), rest)) => {
             if is_id(atom) {
                 let x = known(space.place(atom), text)?;
@@ -88,7 +88,7 @@ pub fn integer_32(text: &[u8]) -> Result<(i32, &[u8]), TextFault>
     ensures { Reads (λ x. (x.0, lexed x.1.now)) result
         (reading.atom_at (reading.integer_of 32) (lexed text.now)) }
 {
-    match next_token(text) {
+    match first_token(text) {
         Some((Lexeme::Atom(atom), rest)) => match constant32(atom) {
             Some(n) => Ok((n, rest)),
             None => Err(no_integer(atom, text)),
@@ -185,7 +185,7 @@ pub fn label<'a>(blocks: &OpenBlocks, text: &'a [u8]) -> Result<(u32, &'a [u8]),
     ensures read { Reads (λ x. (x.0, lexed x.1.now)) result
         (reading.atom_at (reading.index_of (labels blocks.now)) (lexed text.now)) }
 {
-    match next_token(text) {
+    match first_token(text) {
         Some((Lexeme::Atom(atom), rest)) => {
             if is_id(atom) {
                 let l = known(blocks.depth(atom), text)?;
@@ -395,7 +395,7 @@ pub fn block_type(profile: Profile, text: &[u8]) -> Result<(Option<ValType>, &[u
 pub fn key<'a>(key: &[u8], usual: u32, text: &'a [u8]) -> Result<(u32, &'a [u8]), TextFault>
     ensures { Reads (λ x. (x.0, lexed x.1.now)) result (reading.key_at key.now usual (lexed text.now)) }
 {
-    match next_token(text) {
+    match first_token(text) {
         Some((Lexeme::Atom(atom), rest)) => match after_key(key, atom) {
             Some(digits) => match unsigned(digits) {
                 Some(n) => Ok((n, rest)),
