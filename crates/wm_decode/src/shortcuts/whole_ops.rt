@@ -603,8 +603,8 @@ fn take_common<S: Sink>(
     }
 }
 
-// The same for those that are less common. Each has its own code too, but out of line: so the loop over ops stays as small as
-// it has to be for the most common ones to be inlined there.
+// The same for those that are less common. Each has its own code too, but out of line: so the loop over ops
+// stays as small as it has to be for the most common ones to be inlined there.
 #[inline(never)]
 #[tactic(auto, using(crate::proofs::OpLists::gave_whole))]
 fn take_uncommon<S: Sink>(
