@@ -2,7 +2,7 @@
 
 ghost use Rattle.std.specs.Prelude.{◌≡◌, ◌∷◌, [], ◌++◌, Ok, refl};
 ghost use Rattle.std.specs.String.{string_bytes};
-ghost use Rattle.wm_decode.specs.Sinks.{Taken};
+ghost use Rattle.wm_decode.specs.Sinks.{RunsOut, Taken, Took, items_for};
 ghost use Rattle.wm_decode.specs.Items.{body, export, import_desc, new_type, start};
 ghost use Rattle.wm_rules.specs.exact.Built.{Built, after, body_ended, change_last, constant_ended};
 ghost use Rattle.wm_rules.specs.exact.Built.{constant_taken, expecting, locals_taken, name_from, nothing};
@@ -167,8 +167,26 @@ impl Sink for Builder {
     // at any item
     ghost may_run_out = { λ h x. Unit {0} };
 
-    #[tactic(auto, using(crate::proofs::BuiltData::bytes_took, crate::proofs::BuiltData::bytes_room, crate::proofs::LastLemmas::taken_then))]
+    // Ops come many at once: inline, so that at each call it is known which op comes.
+    #[inline(always)]
     fn take(&mut self, item: Item) -> Result<(), Why> {
+        match item {
+            Item::Op(op) => self.take_op(op),
+            _ => self.take_other(item),
+        }
+    }
+
+    ghost takes_data = { λ h c. refl };
+}
+
+impl Builder {
+    // The same, out of line: for an item that is no op of a body.
+    #[inline(never)]
+    #[tactic(auto, using(crate::proofs::BuiltData::bytes_took, crate::proofs::BuiltData::bytes_room, crate::proofs::LastLemmas::taken_then))]
+    fn take_other(&mut self, item: Item) -> Result<(), Why>
+        ensures took { Took after (built self.old) (items_for item.entry) result (built self.new) }
+        ensures room { RunsOut (λ h x. Unit {0}) (built self.old) (items_for item.entry) result }
+    {
         match item {
             Item::NewType => self.begin_type(),
             Item::Param(ty) => add_param(&mut self.module_value.types, ty),
@@ -198,10 +216,6 @@ impl Sink for Builder {
         }
     }
 
-    ghost takes_data = { λ h c. refl };
-}
-
-impl Builder {
     /// Nothing came yet.
     pub fn new(alloc: Global) -> Self
         ensures { built result ≡ nothing }
@@ -358,6 +372,7 @@ impl Builder {
         }
     }
 
+    #[inline(always)]
     fn take_op(&mut self, op: Op) -> Result<(), Why>
         ensures { Taken (op_taken op (built self.old) self.old.code) result (built self.new) }
     {
@@ -373,6 +388,7 @@ impl Builder {
     }
 
     // An end that closes no list inside the body ends it.
+    #[inline(never)]
     fn end_body(&mut self, op: Op) -> Result<(), Why>
         ensures { Taken (body_ended op (built self.old) self.old.code) result (built self.new) }
     {

@@ -1,7 +1,7 @@
 use Rattle.wm_rules.specs.inner.Builders.{built}
 use Rattle.wm_decode.specs.Sinks.{items_for}
 use Rattle.wm_rules.proofs.BuiltData.{bytes_room, bytes_took}
-use Rattle.wm_rules.proofs.builder.BuilderSink.take.Goals as goal
+use Rattle.wm_rules.proofs.builder.Builder.take_other.Goals as goal
 
 pub returns-in-DataBytes-clause-took : goal.returns-in-DataBytes-clause-took
 returns-in-DataBytes-clause-took c = rw c.in-DataBytes.is (bytes_took c.in-DataBytes.bytes.now (built c.args.self.now) c.add_bytes.new.segments.items c.add_bytes.result c.add_bytes.ensures)
