@@ -80,14 +80,17 @@ fn ends_in_else(ops: &[Op]) -> bool
     }
 }
 
+#[inline(always)]
 fn push(ops: &mut Vec<Op>, op: Op) -> Result<(), BodyFault>
     ensures ok { OnOk result (ops.new.items ≡ ops.old.items ++ op ∷ []) }
     ensures err { IfErr result (λ fault. (fault ≡ BodyFault.Memory) × (ops.new.items ≡ ops.old.items)) }
 {
-    match ops.push(op) {
-        Ok(()) => Ok(()),
-        Err(_) => Err(BodyFault::Memory),
+    // in two steps, so that no refused op comes back through memory
+    if ops.reserve(1).is_err() {
+        return Err(BodyFault::Memory);
     }
+    ops.push_reserved(op);
+    Ok(())
 }
 
 // An end takes the place of an else right before it.
@@ -128,8 +131,31 @@ fn push_open(
     }
 }
 
-// Takes an op where it may stand.
+// Takes an op where it may stand. Most ops are instructions that hold no list, outside of a br_table: they go
+// a short way, inline, so that at each call it is known which op comes.
+#[inline(always)]
 fn push_op(
+    ops: &mut Vec<Op>,
+    begun: &mut Vec<Opened>,
+    left: &mut u64,
+    op: Op,
+) -> Result<(), BodyFault>
+    ensures ok { OnOk result ((ops.new.items ≡ next_ops op ops.old.items)
+        × (begun.new.items ≡ next_open op begun.old.items) × (left.new ≡ next_left op left.old)) }
+    ensures err { OnErr result ((ops.new.items ≡ ops.old.items) × (begun.new.items ≡ begun.old.items)
+        × (left.new ≡ left.old)) }
+    ensures fits { fits begun.old.items left.old op ≡ true → result ≢ Err BodyFault.Unbalanced }
+    ensures unbalanced { fits begun.old.items left.old op ≡ false → result ≡ Err BodyFault.Unbalanced }
+{
+    match op {
+        Op::Simple(_) if *left == 0 => push(ops, op),
+        _ => push_any(ops, begun, left, op),
+    }
+}
+
+// The same, out of line: for any op.
+#[inline(never)]
+fn push_any(
     ops: &mut Vec<Op>,
     begun: &mut Vec<Opened>,
     left: &mut u64,
@@ -211,6 +237,7 @@ impl BodyBuilder {
     }
 
     /// Takes one op more. A refusal changes nothing.
+    #[inline(always)]
     pub fn push(&mut self, op: Op) -> Result<(), BodyFault>
         ensures ok { OnOk result (placed self.old op ≡ Some self.new) }
         ensures err { OnErr result (self.new ≡ self.old) }
