@@ -6,9 +6,9 @@ use itoa::{Buffer, Integer};
 use std::marker::Model;
 
 /// The most bytes of a batch.
-pub(crate) const ROOM: usize = 64;
+pub(crate) const ROOM: usize = 256;
 
-/// At most 64 bytes. Contracts see them as a list.
+/// At most 256 bytes. Contracts see them as a list.
 #[derive(Drop)]
 pub(crate) struct Batch {
     bytes: [u8; ROOM],
@@ -22,7 +22,7 @@ impl Model for Batch {
 
     ghost view = { λ b. take b.len b.bytes };
 
-    ghost invariant = { λ b. b.len ≤ 64 };
+    ghost invariant = { λ b. b.len ≤ 256 };
 }
 
 impl Batch {
@@ -55,7 +55,7 @@ impl Batch {
 
     /// Adds some bytes.
     pub(crate) fn push(&mut self, bytes: &[u8])
-        requires { length self.old + length bytes.now ≤ 64 }
+        requires { length self.old + length bytes.now ≤ 256 }
         ensures { self.new ≡ self.old ++ bytes.now }
     {
         let end = self.len + bytes.len();
@@ -65,16 +65,28 @@ impl Batch {
 
     /// Adds a byte.
     pub(crate) fn push_byte(&mut self, byte: u8)
-        requires { length self.old < 64 }
+        requires { length self.old < 256 }
         ensures { self.new ≡ self.old ++ byte ∷ [] }
     {
         self.bytes[self.len] = byte;
         self.len += 1;
     }
 
+    /// Adds two bytes.
+    #[inline(always)]
+    pub(crate) fn push_two(&mut self, first: u8, second: u8)
+        requires { length self.old + 2 ≤ 256 }
+        ensures { self.new ≡ self.old ++ first ∷ second ∷ [] }
+    {
+        let len = self.len;
+        self.bytes[len] = first;
+        self.bytes[len + 1] = second;
+        self.len = len + 2;
+    }
+
     // Adds a number in digits.
     fn push_digits<I: Integer>(&mut self, n: I)
-        requires { length self.old + I.MAX_STR_LEN ≤ 64 }
+        requires { length self.old + I.MAX_STR_LEN ≤ 256 }
         ensures text { self.new ≡ self.old ++ I.text n }
         ensures short { length self.new ≤ length self.old + I.MAX_STR_LEN }
     {
@@ -85,7 +97,7 @@ impl Batch {
     /// Adds a number in digits behind some bytes. It is inline, since their length is known at each call.
     #[inline(always)]
     pub(crate) fn push_counted<I: Integer>(&mut self, front: &[u8], n: I)
-        requires { length self.old + (length front.now + I.MAX_STR_LEN) ≤ 64 }
+        requires { length self.old + (length front.now + I.MAX_STR_LEN) ≤ 256 }
         ensures text { self.new ≡ self.old ++ (front.now ++ I.text n) }
         ensures short { length self.new ≤ length self.old + (length front.now + I.MAX_STR_LEN) }
     {

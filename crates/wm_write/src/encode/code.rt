@@ -63,19 +63,21 @@ fn put_ops<W: Dest>(w: &mut W, written: &mut u64, ops: &[Op])
 {
     let mut batch = Batch::new();
     for op in ops {
-        put_full(w, written, &mut batch);
-        push_op(&mut batch, *op);
+        put_full(w, written, &mut batch, LONGEST_OP);
+        push_op(&mut batch, op);
     }
     put_bytes(w, written, batch.as_slice());
 }
 
-// Writes a batch that may have no room for one more op, and empties it.
-fn put_full<W: Dest>(w: &mut W, written: &mut u64, batch: &mut Batch)
-    ensures room { length batch.new + 11 ≤ 64 }
+/// Writes a batch that may have no room for so many bytes more, and empties it.
+#[inline(always)]
+pub(crate) fn put_full<W: Dest>(w: &mut W, written: &mut u64, batch: &mut Batch, more: usize)
+    requires { more ≤ 256 }
+    ensures room { length batch.new + more ≤ 256 }
     ensures sent { SentBut batch.new batch.old (W.has_failed w.old, W.contents w.old, written.old)
         (W.has_failed w.new, W.contents w.new, written.new) }
 {
-    if batch.len() > ROOM - LONGEST_OP {
+    if batch.len() > ROOM - more {
         put_bytes(w, written, batch.as_slice());
         batch.clear();
     }
@@ -87,7 +89,7 @@ fn ops_len(ops: &[Op]) -> u64
 {
     let mut sum = 0u64;
     for op in ops {
-        sum = sum.saturating_add(op_len(*op));
+        sum = sum.saturating_add(op_len(op));
     }
     sum
 }

@@ -62,9 +62,10 @@ fn access_len(at: MemArg) -> u64
     number_len(u64::from(at.align)) + number_len(u64::from(at.offset))
 }
 
-// How many bytes stand behind the first byte of an instruction.
-fn immediates_len(simple: Simple) -> u64
-    ensures value { result ≡ length (immediates simple) }
+// How many bytes stand behind the first byte of an instruction. It is lent: a copy would go through memory.
+#[inline(always)]
+fn immediates_len(simple: &Simple) -> u64
+    ensures value { result ≡ length (immediates simple.now) }
     ensures short { result ≤ 10 }
 {
     match simple {
@@ -75,29 +76,30 @@ fn immediates_len(simple: Simple) -> u64
         | Simple::LocalSet(index)
         | Simple::LocalTee(index)
         | Simple::GlobalGet(index)
-        | Simple::GlobalSet(index) => number_len(u64::from(index)),
-        Simple::CallIndirect(index) => number_len(u64::from(index)) + 1,
+        | Simple::GlobalSet(index) => number_len(u64::from(*index)),
+        Simple::CallIndirect(index) => number_len(u64::from(*index)) + 1,
         Simple::MemorySize | Simple::MemoryGrow => 1,
-        Simple::I32Const(value) => signed_len(i64::from(value), 5),
-        Simple::I64Const(value) => signed_len(value, 10),
+        Simple::I32Const(value) => signed_len(i64::from(*value), 5),
+        Simple::I64Const(value) => signed_len(*value, 10),
         Simple::F32Const(_) => 4,
         Simple::F64Const(_) => 8,
-        Simple::Load(_, at) | Simple::Store(_, at) => access_len(at),
+        Simple::Load(_, at) | Simple::Store(_, at) => access_len(*at),
         _ => 0,
     }
 }
 
 /// How many bytes an op has (section 5.4).
-pub(crate) fn op_len(op: Op) -> u64
-    ensures value { result ≡ length (op_bytes op) }
+#[inline(always)]
+pub(crate) fn op_len(op: &Op) -> u64
+    ensures value { result ≡ length (op_bytes op.now) }
     ensures short { result ≤ 11 }
 {
     match op {
         Op::Simple(simple) => 1 + immediates_len(simple),
         Op::Block(_) | Op::Loop(_) | Op::If(_) => 2,
         Op::Else | Op::End => 1,
-        Op::BrTable(count) => 1 + number_len(u64::from(count)),
-        Op::Label(label) => number_len(u64::from(label)),
+        Op::BrTable(count) => 1 + number_len(u64::from(*count)),
+        Op::Label(label) => number_len(u64::from(*label)),
     }
 }
 

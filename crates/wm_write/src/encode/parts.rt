@@ -67,8 +67,8 @@ impl Part for ConstantExpression {
 
     fn put<W: Dest>(w: &mut W, written: &mut u64, value: &Const) {
         let mut batch = Batch::new();
-        push_op(&mut batch, Op::Simple(instruction_of(*value)));
-        push_op(&mut batch, Op::End);
+        push_op(&mut batch, &Op::Simple(instruction_of(*value)));
+        push_op(&mut batch, &Op::End);
         put_bytes(w, written, batch.as_slice());
     }
 }

@@ -1,9 +1,10 @@
 //! Instructions in bytes, by the shortest numbers (section 5.4).
 
-ghost use Rattle.std.specs.Prelude.{◌≡◌, ◌++◌, ◌∷◌, [], length, ◌≤◌, ◌+◌};
+ghost use Rattle.std.specs.Prelude.{◌≡◌, ◌++◌, ◌∷◌, [], length, ◌≤◌, ◌+◌, pos};
 ghost use Rattle.wm_write.specs.Canon.{desc_bytes, global_type_bytes, limits_bytes, immediates};
 ghost use Rattle.wm_write.specs.Canon.{op_bytes, u32_bytes};
 ghost use Rattle.wm_decode.specs.Sections.{kind_byte};
+ghost use Rattle.wm_syntax.specs.declared.instructions.Op.{Op};
 ghost use Rattle.wm_syntax.specs.Instructions.{float_bytes};
 ghost use Rattle.wm_syntax.specs.Leb128.{signed_bytes};
 ghost use Rattle.wm_syntax.specs.Modules.{constant};
@@ -73,22 +74,33 @@ fn with_number(byte: u8, value: u32) -> Chunk
 }
 
 // Adds a number.
+#[inline(always)]
 fn push_number(batch: &mut Batch, value: u32)
-    requires { length batch.old + 5 ≤ 64 }
+    requires { length batch.old + 5 ≤ 256 }
     ensures text { batch.new ≡ batch.old ++ u32_bytes value }
     ensures short { length batch.new ≤ length batch.old + 5 }
 {
     if value < 0x80 {
         batch.push_byte(value as u8);
     } else {
-        batch.push(number(u64::from(value)).as_slice());
+        push_long_number(batch, value);
     }
+}
+
+// The same, out of line.
+#[inline(never)]
+fn push_long_number(batch: &mut Batch, value: u32)
+    requires { length batch.old + 5 ≤ 256 }
+    ensures text { batch.new ≡ batch.old ++ u32_bytes value }
+    ensures short { length batch.new ≤ length batch.old + 5 }
+{
+    batch.push(number(u64::from(value)).as_slice());
 }
 
 // Adds a signed number, spelled in at most so many bytes.
 fn push_signed(batch: &mut Batch, value: i64, most: usize)
     requires most { most ≤ 10 }
-    requires room { length batch.old + most ≤ 64 }
+    requires room { length batch.old + most ≤ 256 }
     ensures text { batch.new ≡ batch.old ++ signed_bytes most value }
     ensures short { length batch.new ≤ length batch.old + most }
 {
@@ -99,7 +111,7 @@ fn push_signed(batch: &mut Batch, value: i64, most: usize)
 
 // Adds the bits of a float, lowest byte first, in so many bytes (section 5.2.3).
 fn push_float(batch: &mut Batch, bits: u64, width: usize)
-    requires { length batch.old + width ≤ 64 }
+    requires { length batch.old + width ≤ 256 }
     ensures text { batch.new ≡ batch.old ++ float_bytes width bits }
     ensures short { length batch.new ≤ length batch.old + width }
 {
@@ -110,9 +122,54 @@ fn push_float(batch: &mut Batch, bits: u64, width: usize)
     }
 }
 
+// Adds a byte and a number; both at once where the number has one byte.
+#[inline(always)]
+fn push_indexed(batch: &mut Batch, byte: u8, index: u32)
+    requires { length batch.old + 11 ≤ 256 }
+    ensures text { batch.new ≡ batch.old ++ byte ∷ u32_bytes index }
+    ensures short { length batch.new ≤ length batch.old + 11 }
+{
+    if index < 0x80 {
+        batch.push_two(byte, index as u8);
+    } else {
+        batch.push_byte(byte);
+        push_long_number(batch, index);
+    }
+}
+
+// Adds an i32.const that is not negative; both bytes at once where the number has one byte.
+#[inline(always)]
+fn push_positive_const(batch: &mut Batch, value: u32)
+    requires { length batch.old + 11 ≤ 256 }
+    ensures text { batch.new ≡ batch.old ++ 0x41 ∷ signed_bytes 5 (pos value) }
+    ensures short { length batch.new ≤ length batch.old + 11 }
+{
+    if value < 0x40 {
+        batch.push_two(0x41, value as u8);
+    } else {
+        batch.push_byte(0x41);
+        push_signed(batch, i64::from(value), 5);
+    }
+}
+
+// Adds an i32.const.
+#[inline(always)]
+fn push_i32_const(batch: &mut Batch, value: i32)
+    requires { length batch.old + 11 ≤ 256 }
+    ensures text { batch.new ≡ batch.old ++ 0x41 ∷ signed_bytes 5 value }
+    ensures short { length batch.new ≤ length batch.old + 11 }
+{
+    if value >= 0 {
+        push_positive_const(batch, value as u32);
+    } else {
+        batch.push_byte(0x41);
+        push_signed(batch, i64::from(value), 5);
+    }
+}
+
 // Adds what stands behind the first byte of an instruction, at most ten bytes.
 fn push_immediates(batch: &mut Batch, simple: Simple)
-    requires { length batch.old + 10 ≤ 64 }
+    requires { length batch.old + 10 ≤ 256 }
     ensures text { batch.new ≡ batch.old ++ immediates simple }
     ensures short { length batch.new ≤ length batch.old + 10 }
 {
@@ -157,7 +214,7 @@ pub(crate) fn instruction_of(value: Const) -> Simple
 
 // Adds a block's first byte and its type (section 5.3.2).
 fn push_block(batch: &mut Batch, byte: u8, ty: Option<ValType>)
-    requires { length batch.old + 2 ≤ 64 }
+    requires { length batch.old + 2 ≤ 256 }
     ensures text { batch.new ≡ batch.old ++ byte ∷ block_byte ty ∷ [] }
     ensures short { length batch.new ≤ length batch.old + 2 }
 {
@@ -165,27 +222,63 @@ fn push_block(batch: &mut Batch, byte: u8, ty: Option<ValType>)
     batch.push_byte(block_byte(ty));
 }
 
-/// Adds an op, at most eleven bytes.
-pub(crate) fn push_op(batch: &mut Batch, op: Op)
-    requires { length batch.old + 11 ≤ 64 }
-    ensures text { batch.new ≡ batch.old ++ op_bytes op }
+// Adds any instruction.
+#[inline(never)]
+fn push_rare(batch: &mut Batch, simple: Simple)
+    requires { length batch.old + 11 ≤ 256 }
+    ensures text { batch.new ≡ batch.old ++ op_bytes (Op.Simple simple) }
+    ensures short { length batch.new ≤ length batch.old + 11 }
+{
+    batch.push_byte(first_byte(simple));
+    push_immediates(batch, simple);
+}
+
+// Adds an instruction. Common ones go a way of their own.
+#[inline(always)]
+fn push_simple(batch: &mut Batch, simple: &Simple)
+    requires { length batch.old + 11 ≤ 256 }
+    ensures text { batch.new ≡ batch.old ++ op_bytes (Op.Simple simple.now) }
+    ensures short { length batch.new ≤ length batch.old + 11 }
+{
+    match simple {
+        Simple::Br(index) => push_indexed(batch, 0x0C, *index),
+        Simple::BrIf(index) => push_indexed(batch, 0x0D, *index),
+        Simple::Call(index) => push_indexed(batch, 0x10, *index),
+        Simple::LocalGet(index) => push_indexed(batch, 0x20, *index),
+        Simple::LocalSet(index) => push_indexed(batch, 0x21, *index),
+        Simple::LocalTee(index) => push_indexed(batch, 0x22, *index),
+        Simple::GlobalGet(index) => push_indexed(batch, 0x23, *index),
+        Simple::GlobalSet(index) => push_indexed(batch, 0x24, *index),
+        Simple::I32Const(value) => push_i32_const(batch, *value),
+        Simple::Load(_, at) | Simple::Store(_, at) => {
+            batch.push_byte(first_byte(*simple));
+            push_number(batch, at.align);
+            push_number(batch, at.offset);
+        }
+        Simple::Numeric(_) => batch.push_byte(first_byte(*simple)),
+        _ => push_rare(batch, *simple),
+    }
+}
+
+/// Adds an op, at most eleven bytes. It is lent: a copy would go through memory.
+#[inline(always)]
+pub(crate) fn push_op(batch: &mut Batch, op: &Op)
+    requires { length batch.old + 11 ≤ 256 }
+    ensures text { batch.new ≡ batch.old ++ op_bytes op.now }
     ensures short { length batch.new ≤ length batch.old + 11 }
 {
     match op {
-        Op::Simple(simple) => {
-            batch.push_byte(first_byte(simple));
-            push_immediates(batch, simple);
-        }
-        Op::Block(ty) => push_block(batch, 0x02, ty),
-        Op::Loop(ty) => push_block(batch, 0x03, ty),
-        Op::If(ty) => push_block(batch, 0x04, ty),
+        Op::Simple(simple) => push_simple(batch, simple),
+        Op::Block(ty) => push_block(batch, 0x02, *ty),
+        Op::Loop(ty) => push_block(batch, 0x03, *ty),
+        Op::If(ty) => push_block(batch, 0x04, *ty),
         Op::Else => batch.push_byte(0x05),
         Op::End => batch.push_byte(0x0B),
         Op::BrTable(count) => {
             batch.push_byte(0x0E);
-            push_number(batch, count);
+            push_number(batch, *count);
         }
-        Op::Label(label) => push_number(batch, label),
+        Op::Label(label) => push_number(batch, *label),
     }
 }
 

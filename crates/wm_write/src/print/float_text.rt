@@ -17,7 +17,7 @@ const PLACE: u64 = 0x1_0000_0000_0000;
 
 /// Adds an f32 behind a space.
 pub(crate) fn push_f32(line: &mut Batch, bits: u64)
-    requires { length line.old + 36 ≤ 64 }
+    requires { length line.old + 36 ≤ 256 }
     ensures { line.new ≡ line.old ++ words_text (spaced (float_text float.F32 bits) ∷ []) }
 {
     let exponent = (bits / 0x80_0000 % 0x100) as u32;
@@ -32,7 +32,7 @@ pub(crate) fn push_f32(line: &mut Batch, bits: u64)
 
 /// Adds an f64 behind a space.
 pub(crate) fn push_f64(line: &mut Batch, bits: u64)
-    requires { length line.old + 36 ≤ 64 }
+    requires { length line.old + 36 ≤ 256 }
     ensures { line.new ≡ line.old ++ words_text (spaced (float_text float.F64 bits) ∷ []) }
 {
     let exponent = (bits / 0x10_0000_0000_0000 % 0x800) as u32;
@@ -55,7 +55,7 @@ fn front(bits: u64, half: u64) -> &'static [u8]
 
 // Adds an infinity, or a NaN by its payload.
 fn push_special(line: &mut Batch, payload: u64)
-    requires { length line.old + 22 ≤ 64 }
+    requires { length line.old + 22 ≤ 256 }
     ensures { line.new ≡ line.old ++ special_text payload }
 {
     if payload == 0 {
@@ -67,7 +67,7 @@ fn push_special(line: &mut Batch, payload: u64)
 
 // Adds a NaN by its payload.
 fn push_nan(line: &mut Batch, payload: u64)
-    requires { length line.old + 22 ≤ 64 }
+    requires { length line.old + 22 ≤ 256 }
     ensures { line.new ≡ line.old ++ (codes "nan:0x" ++ hexadecimal 16 payload) }
 {
     line.push(b"nan:0x");
@@ -76,7 +76,7 @@ fn push_nan(line: &mut Batch, payload: u64)
 
 // Adds the hexadecimal digits of a number that is not 0, of which so many are enough.
 fn push_hexadecimal(line: &mut Batch, n: u64, most: usize)
-    requires { length line.old + most ≤ 64 }
+    requires { length line.old + most ≤ 256 }
     ensures text { line.new ≡ line.old ++ hexadecimal most n }
     ensures short { length line.new ≤ length line.old + most }
 {
@@ -93,7 +93,7 @@ fn push_hexadecimal(line: &mut Batch, n: u64, most: usize)
 // Adds a number, by its fraction, which is n / 16^13, and its exponent, which has the bias in it.
 fn push_finite(line: &mut Batch, n: u64, bias: u32, exponent: u32)
     requires few { n < 16 ^ 13 }
-    requires room { length line.old + 29 ≤ 64 }
+    requires room { length line.old + 29 ≤ 256 }
     ensures { line.new ≡ line.old ++ finite_text n bias exponent }
 {
     if exponent == 0 {
@@ -106,7 +106,7 @@ fn push_finite(line: &mut Batch, n: u64, bias: u32, exponent: u32)
 // Adds a number below the normal floats, which has their least exponent, or zero.
 fn push_small(line: &mut Batch, n: u64, bias: u32)
     requires few { n < 16 ^ 13 }
-    requires room { length line.old + 29 ≤ 64 }
+    requires room { length line.old + 29 ≤ 256 }
     ensures { line.new ≡ line.old ++ finite_text n bias 0 }
 {
     if n == 0 {
@@ -119,7 +119,7 @@ fn push_small(line: &mut Batch, n: u64, bias: u32)
 // Adds a first digit, a fraction and an exponent.
 fn push_scaled(line: &mut Batch, first: &[u8], n: u64, bias: u32, exponent: u32)
     requires few { n < 16 ^ 13 }
-    requires room { length line.old + (length first.now + 26) ≤ 64 }
+    requires room { length line.old + (length first.now + 26) ≤ 256 }
     ensures { line.new ≡ line.old ++ scaled_text first.now n bias exponent }
 {
     line.push(first);
@@ -130,7 +130,7 @@ fn push_scaled(line: &mut Batch, first: &[u8], n: u64, bias: u32, exponent: u32)
 // Adds a point and the digits of n / 16^13, unless that is 0.
 fn push_fraction(line: &mut Batch, n: u64)
     requires few { n < 16 ^ 13 }
-    requires room { length line.old + 14 ≤ 64 }
+    requires room { length line.old + 14 ≤ 256 }
     ensures text { line.new ≡ line.old ++ fraction_text n }
     ensures short { length line.new ≤ length line.old + 14 }
 {
@@ -144,7 +144,7 @@ fn push_fraction(line: &mut Batch, n: u64)
 // Adds the digits of n / 16^13, but for zeros at the end.
 fn push_places(line: &mut Batch, n: u64)
     requires few { n < 16 ^ 13 }
-    requires room { length line.old + 13 ≤ 64 }
+    requires room { length line.old + 13 ≤ 256 }
     ensures text { line.new ≡ line.old ++ places 13 n }
     ensures short { length line.new ≤ length line.old + 13 }
 {
@@ -160,7 +160,7 @@ fn push_places(line: &mut Batch, n: u64)
 
 // Adds an exponent that has the bias in it.
 fn push_exponent(line: &mut Batch, bias: u32, exponent: u32)
-    requires { length line.old + 12 ≤ 64 }
+    requires { length line.old + 12 ≤ 256 }
     ensures { line.new ≡ line.old ++ exponent_text bias exponent }
 {
     if exponent < bias {
@@ -172,7 +172,7 @@ fn push_exponent(line: &mut Batch, bias: u32, exponent: u32)
 
 // Adds an exponent that is not negative.
 fn push_above(line: &mut Batch, exponent: u32)
-    requires { length line.old + 12 ≤ 64 }
+    requires { length line.old + 12 ≤ 256 }
     ensures { line.new ≡ line.old ++ (codes "p+" ++ decimal exponent) }
 {
     line.push_counted(b"p+", exponent);

@@ -135,7 +135,7 @@ pub(crate) fn put_type_use<W: Dest>(w: &mut W, written: &mut u64, index: u32)
 
 /// Adds the use of a type to a line.
 pub(crate) fn push_type_use(line: &mut Batch, index: u32)
-    requires { length line.old + 20 ≤ 64 }
+    requires { length line.old + 20 ≤ 256 }
     ensures { line.new ≡ line.old ++ words_text (type_use index) }
 {
     line.push_counted(b" (type $t", index);

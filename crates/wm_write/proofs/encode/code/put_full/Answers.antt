@@ -1,5 +1,5 @@
 use Rattle.wm_write.proofs.Writes.{held_all}
 use Rattle.wm_write.proofs.encode.code.put_full.Goals as goal
 
-pub returns-else-len-clause-sent : goal.returns-else-len-clause-sent
-returns-else-len-clause-sent g c = held_all c.args.batch.now _
+pub returns-else-len-more-clause-sent : goal.returns-else-len-more-clause-sent
+returns-else-len-more-clause-sent g c = held_all c.args.batch.now _
