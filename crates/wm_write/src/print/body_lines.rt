@@ -14,6 +14,7 @@ ghost use Rattle.wm_write.specs.exact.Writing.{Sent};
 ghost use Rattle.wm_write.specs.exact.Aligns.{is_printable, is_simple_printable};
 
 use crate::batch::Batch;
+use crate::encode::code::put_full;
 use crate::encode::spell::instruction_of;
 use crate::print::float_text::{push_f32, push_f64};
 use crate::print::words::{push_type_use, put_run, type_bytes};
@@ -25,6 +26,9 @@ use wm_syntax::instructions::{MemArg, Op, Simple};
 use wm_syntax::io::Dest;
 use wm_syntax::modules::locals::Locals;
 use wm_syntax::types::{Const, ValType};
+
+// The most bytes that an op has: its name on a line of its own has 24, and what stands behind it 36.
+const LONGEST_LINE: usize = 60;
 
 // The number of bytes of an alignment.
 fn power(align: u32) -> u32
@@ -41,7 +45,7 @@ fn power(align: u32) -> u32
 
 // Adds a part of a memory argument, unless it has its usual value.
 fn push_key(line: &mut Batch, key: &[u8], usual: u32, n: u32)
-    requires { length line.old + (length key.now + 11) ≤ 64 }
+    requires { length line.old + (length key.now + 11) ≤ 256 }
     ensures text { line.new ≡ line.old ++ words_text (key_words key.now usual n) }
     ensures short { length line.new ≤ length line.old + (length key.now + 11) }
 {
@@ -55,7 +59,7 @@ fn push_key(line: &mut Batch, key: &[u8], usual: u32, n: u32)
 // Adds the memory argument of an access of this width.
 fn push_access(line: &mut Batch, width: u32, at: MemArg)
     requires usual { at.align ≤ 3 }
-    requires room { length line.old + 36 ≤ 64 }
+    requires room { length line.old + 36 ≤ 256 }
     ensures { line.new ≡ line.old ++ words_text (access_words width at) }
 {
     push_key(line, b"offset=", 0, at.offset);
@@ -63,11 +67,12 @@ fn push_access(line: &mut Batch, width: u32, at: MemArg)
 }
 
 // The byte that begins an op; a label has none of its own.
-fn op_byte(op: Op) -> Option<u8>
-    ensures { result ≡ first_byte op }
+#[inline(always)]
+fn op_byte(op: &Op) -> Option<u8>
+    ensures { result ≡ first_byte op.now }
 {
     match op {
-        Op::Simple(simple) => Some(first_byte(simple)),
+        Op::Simple(simple) => Some(first_byte(*simple)),
         Op::Block(_) => Some(0x02),
         Op::Loop(_) => Some(0x03),
         Op::If(_) => Some(0x04),
@@ -87,9 +92,10 @@ fn name(byte: u8) -> &'static [u8]
 }
 
 // Adds the name of an op on a line of its own, at most 24 bytes, unless it is a label.
-fn push_name(line: &mut Batch, op: Op)
-    requires { length line.old + 24 ≤ 64 }
-    ensures text { line.new ≡ line.old ++ words_text (head_words (op_name op)) }
+#[inline(always)]
+fn push_name(line: &mut Batch, op: &Op)
+    requires { length line.old + 24 ≤ 256 }
+    ensures text { line.new ≡ line.old ++ words_text (head_words (op_name op.now)) }
     ensures short { length line.new ≤ length line.old + 24 }
 {
     if let Some(byte) = op_byte(op) {
@@ -98,27 +104,28 @@ fn push_name(line: &mut Batch, op: Op)
     }
 }
 
-// Adds what stands behind the name of an instruction.
-fn push_immediates(line: &mut Batch, simple: Simple)
-    requires usual { IsTrue (is_simple_printable simple) }
-    requires room { length line.old + 36 ≤ 64 }
-    ensures { line.new ≡ line.old ++ words_text (immediate_words simple) }
+// Adds what stands behind the name of an instruction. It is lent: a copy would go through memory.
+#[inline(always)]
+fn push_immediates(line: &mut Batch, simple: &Simple)
+    requires usual { IsTrue (is_simple_printable simple.now) }
+    requires room { length line.old + 36 ≤ 256 }
+    ensures { line.new ≡ line.old ++ words_text (immediate_words simple.now) }
 {
     match simple {
         Simple::Br(index)
         | Simple::BrIf(index)
         | Simple::LocalGet(index)
         | Simple::LocalSet(index)
-        | Simple::LocalTee(index) => line.push_counted(b" ", index),
-        Simple::Call(index) => line.push_counted(b" $f", index),
-        Simple::CallIndirect(index) => push_type_use(line, index),
-        Simple::GlobalGet(index) | Simple::GlobalSet(index) => line.push_counted(b" $g", index),
-        Simple::I32Const(value) => line.push_counted(b" ", value),
-        Simple::I64Const(value) => line.push_counted(b" ", value),
-        Simple::F32Const(bits) => push_f32(line, u64::from(bits)),
-        Simple::F64Const(bits) => push_f64(line, bits),
-        Simple::Load(op, at) => push_access(line, loaded(op).width, at),
-        Simple::Store(op, at) => push_access(line, stored(op).width, at),
+        | Simple::LocalTee(index) => line.push_index(b" ", *index),
+        Simple::Call(index) => line.push_index(b" $f", *index),
+        Simple::CallIndirect(index) => push_type_use(line, *index),
+        Simple::GlobalGet(index) | Simple::GlobalSet(index) => line.push_index(b" $g", *index),
+        Simple::I32Const(value) => line.push_counted(b" ", *value),
+        Simple::I64Const(value) => line.push_counted(b" ", *value),
+        Simple::F32Const(bits) => push_f32(line, u64::from(*bits)),
+        Simple::F64Const(bits) => push_f64(line, *bits),
+        Simple::Load(op, at) => push_access(line, loaded(*op).width, *at),
+        Simple::Store(op, at) => push_access(line, stored(*op).width, *at),
         Simple::Unreachable
         | Simple::Nop
         | Simple::Return
@@ -132,7 +139,7 @@ fn push_immediates(line: &mut Batch, simple: Simple)
 
 // Adds the type of a block.
 fn push_block_type(line: &mut Batch, ty: Option<ValType>)
-    requires { length line.old + 36 ≤ 64 }
+    requires { length line.old + 36 ≤ 256 }
     ensures { line.new ≡ line.old ++ words_text (result_words ty) }
 {
     match ty {
@@ -146,40 +153,43 @@ fn push_block_type(line: &mut Batch, ty: Option<ValType>)
 }
 
 // Adds what stands behind the name of an op, at most 36 bytes.
-fn push_operands(line: &mut Batch, op: Op)
-    requires usual { IsTrue (is_printable op) }
-    requires room { length line.old + 36 ≤ 64 }
-    ensures { line.new ≡ line.old ++ words_text (operand_words op) }
+#[inline(always)]
+fn push_operands(line: &mut Batch, op: &Op)
+    requires usual { IsTrue (is_printable op.now) }
+    requires room { length line.old + 36 ≤ 256 }
+    ensures { line.new ≡ line.old ++ words_text (operand_words op.now) }
 {
     match op {
         Op::Simple(simple) => push_immediates(line, simple),
-        Op::Block(ty) | Op::Loop(ty) | Op::If(ty) => push_block_type(line, ty),
-        Op::Label(label) => line.push_counted(b" ", label),
+        Op::Block(ty) | Op::Loop(ty) | Op::If(ty) => push_block_type(line, *ty),
+        Op::Label(label) => line.push_index(b" ", *label),
         Op::Else | Op::End | Op::BrTable(_) => {}
     }
 }
 
-// Writes an op by one `put`: an instruction on a line of its own, or a label.
-fn put_op<W: Dest>(w: &mut W, written: &mut u64, op: Op)
-    requires { IsTrue (is_printable op) }
-    ensures { Sent (words_text (op_words op)) (W.has_failed w.old, W.contents w.old, written.old)
-        (W.has_failed w.new, W.contents w.new, written.new) }
+// Adds an op, at most 60 bytes: an instruction on a line of its own, or a label.
+#[inline(always)]
+fn push_line(batch: &mut Batch, op: &Op)
+    requires usual { IsTrue (is_printable op.now) }
+    requires room { length batch.old + 60 ≤ 256 }
+    ensures { batch.new ≡ batch.old ++ words_text (op_words op.now) }
 {
-    let mut line = Batch::new();
-    push_name(&mut line, op);
-    push_operands(&mut line, op);
-    put_bytes(w, written, line.as_slice());
+    push_name(batch, op);
+    push_operands(batch, op);
 }
 
-/// Writes the lines of a body.
+/// Writes the lines of a body, as many ops at a time as a batch has room for.
 pub(crate) fn put_body<W: Dest>(w: &mut W, written: &mut u64, ops: &[Op])
     requires { IsTrue (list_all is_printable ops.now) }
     ensures { Sent (words_text (body_words ops.now)) (W.has_failed w.old, W.contents w.old, written.old)
         (W.has_failed w.new, W.contents w.new, written.new) }
 {
+    let mut batch = Batch::new();
     for op in ops {
-        put_op(w, written, *op);
+        put_full(w, written, &mut batch, LONGEST_LINE);
+        push_line(&mut batch, op);
     }
+    put_bytes(w, written, batch.as_slice());
 }
 
 /// Writes the line of the locals, unless there are none.
@@ -217,6 +227,6 @@ pub(crate) fn put_const<W: Dest>(w: &mut W, written: &mut u64, value: Const)
     let mut line = Batch::new();
     line.push(b" ");
     line.push(name(first_byte(instruction)));
-    push_immediates(&mut line, instruction);
+    push_immediates(&mut line, &instruction);
     put_bytes(w, written, line.as_slice());
 }

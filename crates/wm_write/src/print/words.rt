@@ -138,7 +138,7 @@ pub(crate) fn push_type_use(line: &mut Batch, index: u32)
     requires { length line.old + 20 ≤ 256 }
     ensures { line.new ≡ line.old ++ words_text (type_use index) }
 {
-    line.push_counted(b" (type $t", index);
+    line.push_index(b" (type $t", index);
     line.push(b")");
 }
 
