@@ -167,9 +167,25 @@ fn push_operands(line: &mut Batch, op: &Op)
     }
 }
 
-// Adds an op, at most 60 bytes: an instruction on a line of its own, or a label.
+// Adds an op, at most 60 bytes: an instruction on a line of its own, or a label. Those with the index of a
+// local are more than a third of all, and the name of each is copied with what stands around it.
 #[inline(always)]
 fn push_line(batch: &mut Batch, op: &Op)
+    requires usual { IsTrue (is_printable op.now) }
+    requires room { length batch.old + 60 ≤ 256 }
+    ensures { batch.new ≡ batch.old ++ words_text (op_words op.now) }
+{
+    match op {
+        Op::Simple(Simple::LocalGet(index)) => batch.push_index(b"\n    local.get ", *index),
+        Op::Simple(Simple::LocalSet(index)) => batch.push_index(b"\n    local.set ", *index),
+        Op::Simple(Simple::LocalTee(index)) => batch.push_index(b"\n    local.tee ", *index),
+        _ => push_any_line(batch, op),
+    }
+}
+
+// The same of any op.
+#[inline(always)]
+fn push_any_line(batch: &mut Batch, op: &Op)
     requires usual { IsTrue (is_printable op.now) }
     requires room { length batch.old + 60 ≤ 256 }
     ensures { batch.new ≡ batch.old ++ words_text (op_words op.now) }

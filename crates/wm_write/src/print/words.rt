@@ -1,17 +1,21 @@
 //! Words of a printed text, each with the white space before it (chapter 6).
 
-ghost use Rattle.std.specs.Prelude.{◌≡◌, ◌+◌, ◌<◌, ◌≤◌, ◌++◌, ◌∷◌, ℕ, List, length, map, replicate};
+ghost use Rattle.std.specs.Prelude.{◌≡◌, ◌+◌, ◌<◌, ◌≤◌, ◌++◌, ◌∷◌, ℕ, List, flat_map, length, map, replicate};
 ghost use Rattle.wm_write.specs.FloatText.{hex_digit};
-ghost use Rattle.wm_write.specs.Layout.{global_type_words, is_plain, limits_words};
+ghost use Rattle.wm_write.specs.Layout.{escaped, global_type_words, is_plain, limits_words};
 ghost use Rattle.wm_write.specs.Layout.{max_words, quoted, table_words, type_text, type_use, type_word};
 ghost use Rattle.wm_write.specs.Layout.{types_words, word_text, words_text};
 ghost use Rattle.wm_write.specs.exact.Writing.{Sent};
 
 use crate::batch::Batch;
+use crate::encode::code::put_full;
 use crate::put::{Part, put_bytes, put_each};
 use itoa::{Buffer, Integer};
 use wm_syntax::io::Dest;
 use wm_syntax::types::{GlobalType, Limits, ValType};
+
+// The most bytes that a byte has in a string.
+const LONGEST_ESCAPE: usize = 3;
 
 /// Writes a number behind some bytes.
 pub(crate) fn put_counted<I: Integer, W: Dest>(w: &mut W, written: &mut u64, front: &[u8], n: I)
@@ -156,27 +160,30 @@ fn is_plain(byte: u8) -> bool
     byte >= 0x20 && byte <= 0x7E && byte != b'"' && byte != b'\\'
 }
 
-/// A byte in a string.
-struct Escaped;
-
-impl Part for Escaped {
-    ghost use Rattle.wm_write.specs.Layout.{escaped};
-
-    type Value = u8;
-
-    ghost bytes = { escaped };
-
-    fn put<W: Dest>(w: &mut W, written: &mut u64, byte: &u8) {
-        if is_plain(*byte) {
-            put_bytes(w, written, &[*byte]);
-        } else {
-            put_bytes(
-                w,
-                written,
-                &[b'\\', hex_digit(*byte / 16), hex_digit(*byte % 16)],
-            );
-        }
+// Adds a byte of a string.
+fn push_escaped(batch: &mut Batch, byte: u8)
+    requires { length batch.old + 3 ≤ 256 }
+    ensures { batch.new ≡ batch.old ++ escaped byte }
+{
+    if is_plain(byte) {
+        batch.push_byte(byte);
+    } else {
+        batch.push_byte(b'\\');
+        batch.push_two(hex_digit(byte / 16), hex_digit(byte % 16));
     }
+}
+
+// Writes the bytes of a string, as many at a time as a batch has room for.
+fn put_escaped<W: Dest>(w: &mut W, written: &mut u64, bytes: &[u8])
+    ensures { Sent (flat_map escaped bytes.now) (W.has_failed w.old, W.contents w.old, written.old)
+        (W.has_failed w.new, W.contents w.new, written.new) }
+{
+    let mut batch = Batch::new();
+    for byte in bytes {
+        put_full(w, written, &mut batch, LONGEST_ESCAPE);
+        push_escaped(&mut batch, *byte);
+    }
+    put_bytes(w, written, batch.as_slice());
 }
 
 /// Writes a string behind a space.
@@ -185,6 +192,6 @@ pub(crate) fn put_string<W: Dest>(w: &mut W, written: &mut u64, bytes: &[u8])
         (W.has_failed w.new, W.contents w.new, written.new) }
 {
     put_bytes(w, written, b" \"");
-    put_each::<Escaped, W>(w, written, bytes);
+    put_escaped(w, written, bytes);
     put_bytes(w, written, b"\"");
 }
