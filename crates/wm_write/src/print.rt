@@ -36,8 +36,8 @@ pub enum PrintFault {
     Io,
 }
 
-/// Writes the text of a module. No memory is taken. Each instruction is one `put`, and each other word one
-/// or two, so a slow writer wants a buffer.
+/// Writes the text of a module. No memory is taken. Instructions and the bytes of a string go out some at a
+/// time, and each other word is one `put` or two, so a slow writer wants a buffer.
 pub fn print<W: Dest>(checked: &Checked, w: &mut W) -> Result<(), PrintFault>
     requires open { W.has_failed w.old ≡ false }
     ensures written { OnOk result (Appends (W.contents w.old) (W.contents w.new)
