@@ -209,3 +209,48 @@ two_taken p q v now under top seen h = (
   shown under h.1 (is_wide v (length h.2)) h.6,
   changed p q v now h.2 (entries_in h.2 v) seen h.7 refl,
 )
+
+-- one operand or two are taken, and one that is no float is put on what is left
+abbrev pub ReplacesKind : ValType → Kind → Kinds → Kinds → Type 0
+ReplacesKind u j p q =
+    (k : Kind) × (ks : List Kind) × (p.kinds ≡ k ∷ ks) × (p.floor ≤ length ks) × IsTrue (shows u k)
+    × (q ≡ record { kinds = j ∷ ks; floor = p.floor })
+
+abbrev pub ReplacesEntry : ValType → Entry → Floored → Floored → Type 0
+ReplacesEntry u d now after =
+    (e : Entry) × (es : List Entry) × (now.entries ≡ e ∷ es) × (now.floor ≤ length es) × IsTrue (fits e u)
+    × (after ≡ record { entries = d ∷ es; floor = now.floor })
+
+pub one_replaced : (p q : Kinds) (v : Widths) (now : Floored) (u : ValType) (j : Kind) (d : Entry) → operands_of p v ≡ now
+    → ((wide : Bool) → entry_of j wide ≡ d) → ReplacesKind u j p q → ReplacesEntry u d now (operands_of q v)
+one_replaced p q v now u j d seen is h = (
+  entry_of h.0 (is_wide v (length h.1)),
+  entries_in h.1 v,
+  ap (λ (z : Floored). z.entries) (sym seen) ∙ ap (λ ks. entries_in ks v) h.2,
+  omega (arith, floor_same p v now seen, length-entries h.1 v, h.3),
+  shown u h.0 (is_wide v (length h.1)) h.4,
+  changed p q v now (j ∷ h.1) (d ∷ entries_in h.1 v) seen h.5 (ap (λ e. e ∷ entries_in h.1 v) (is (is_wide v (length h.1)))),
+)
+
+abbrev pub ReplacesTwoKinds : ValType → ValType → Kind → Kinds → Kinds → Type 0
+ReplacesTwoKinds under top j p q =
+    (k : Kind) × (l : Kind) × (ks : List Kind) × (p.kinds ≡ k ∷ l ∷ ks) × (p.floor ≤ length ks)
+    × IsTrue (shows top k) × IsTrue (shows under l) × (q ≡ record { kinds = j ∷ ks; floor = p.floor })
+
+abbrev pub ReplacesTwoEntries : ValType → ValType → Entry → Floored → Floored → Type 0
+ReplacesTwoEntries under top d now after =
+    (e : Entry) × (f : Entry) × (es : List Entry) × (now.entries ≡ e ∷ f ∷ es) × (now.floor ≤ length es)
+    × IsTrue (fits e top) × IsTrue (fits f under) × (after ≡ record { entries = d ∷ es; floor = now.floor })
+
+pub two_replaced : (p q : Kinds) (v : Widths) (now : Floored) (under top : ValType) (j : Kind) (d : Entry) → operands_of p v ≡ now
+    → ((wide : Bool) → entry_of j wide ≡ d) → ReplacesTwoKinds under top j p q → ReplacesTwoEntries under top d now (operands_of q v)
+two_replaced p q v now under top j d seen is h = (
+  entry_of h.0 (is_wide v (length (h.1 ∷ h.2))),
+  entry_of h.1 (is_wide v (length h.2)),
+  entries_in h.2 v,
+  ap (λ (z : Floored). z.entries) (sym seen) ∙ ap (λ ks. entries_in ks v) h.3,
+  omega (arith, floor_same p v now seen, length-entries h.2 v, h.4),
+  shown top h.0 (is_wide v (length (h.1 ∷ h.2))) h.5,
+  shown under h.1 (is_wide v (length h.2)) h.6,
+  changed p q v now (j ∷ h.2) (d ∷ entries_in h.2 v) seen h.7 (ap (λ e. e ∷ entries_in h.2 v) (is (is_wide v (length h.2)))),
+)

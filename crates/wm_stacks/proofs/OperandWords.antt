@@ -1,96 +1,108 @@
--- The kinds that stand in words, the last word being kept apart.
-use Rattle.std.proofs.Common.{ℕ, zero, suc, ◌≡◌, ◌≢◌, ◌+◌, ◌-◌, ◌*◌, ◌/◌, ◌%◌, ◌<◌, ◌≤◌, List, [], ◌∷◌, ◌++◌, length, take, drop, set, get_or, get_or-set_same, get_or-set_other, inl, inr, sym, refl, ap, ◌∙◌, arith}
-use Rattle.std.proofs.lemmas.List.{get_or_append_left, get_or-take, length-set, length-take-le, length_push}
-use Rattle.std.proofs.lemmas.Bool.{cases_lt}
+-- The kinds that stand in words, those of the topmost operands being kept apart.
+use Rattle.std.proofs.Common.{ℕ, zero, suc, ◌≡◌, ◌+◌, ◌-◌, ◌*◌, ◌/◌, ◌%◌, ◌^◌, ◌<◌, ◌≤◌, List, [], ◌∷◌, ◌++◌, length, take, drop, get_or, sym, refl, ap, ◌∙◌, arith}
+use Rattle.std.proofs.lemmas.List.{append-nil, append_assoc, drop_all, drop-append-le, drop-drop, length-append}
+use Rattle.std.proofs.Math.Seq.{drop-append-add}
+use Rattle.std.proofs.lemmas.Nat.{shr-shr, mod-pow-add}
 use Rattle.wm_stacks.specs.declared.words.Kind.{Kind}
-use Rattle.wm_stacks.proofs.Digits.{decoded}
-use Rattle.wm_stacks.specs.exact.Words.{code_at, code_of, digit, kind_of_code, kinds_in}
+use Rattle.wm_stacks.specs.declared.words.Kind.TheVariants.{I32, I64, Unknown, Float}
+use Rattle.wm_stacks.specs.exact.Words.{code_of, kind_of_code, kinds_in, kinds_of_word, kinds_under}
 
-pub length-standing : (ws : List ℕ) (n : ℕ) → length (kinds_in ws n) ≡ n
-length-standing ws zero = refl
-length-standing ws (suc n) = ap suc (length-standing ws n)
+pub decoded : (e : Kind) → kind_of_code (code_of e) ≡ e
+decoded I32 = refl
+decoded I64 = refl
+decoded Unknown = refl
+decoded Float = refl
 
--- words that agree on the lowest n operands
-pub same_standing : (vs ws : List ℕ) (n : ℕ) → ((i : ℕ) → i < n → code_at vs i ≡ code_at ws i) → kinds_in vs n ≡ kinds_in ws n
-same_standing vs ws zero h = refl
-same_standing vs ws (suc n) h =
-    ap (λ d. kind_of_code d ∷ kinds_in vs n) (h n (omega arith)) ∙ ap (λ es. kind_of_code (code_at ws n) ∷ es) (same_standing vs ws n (λ i l. h i (omega (arith, l))))
+length-word : (n w : ℕ) → length (kinds_of_word n w) ≡ n
+length-word zero w = refl
+length-word (suc n) w = ap suc (length-word n (w / 4))
 
--- one operand more on them
-pub pushed_standing : (vs ws : List ℕ) (n : ℕ) (e : Kind) → code_at vs n ≡ code_of e → ((i : ℕ) → i < n → code_at vs i ≡ code_at ws i)
-    → kinds_in vs (n + 1) ≡ e ∷ kinds_in ws n
-pushed_standing vs ws n e there under =
+length-under : (ws : List ℕ) → length (kinds_under ws) ≡ 32 * length ws
+length-under [] = refl
+length-under (w ∷ ws) =
+    omega (arith, length-append (kinds_under ws) (kinds_of_word 32 w), length-under ws, length-word 32 w)
+
+pub length-standing : (ws : List ℕ) (c n : ℕ) → length (kinds_in ws c n) ≡ n + 32 * length ws
+length-standing ws c n = omega (arith, length-append (kinds_of_word n c) (kinds_under ws), length-under ws, length-word n c)
+
+-- a word keeps its lowest kinds where it loses its highest bits
+cut_word : (n m w : ℕ) → n ≤ m → kinds_of_word n (w % 2 ^ (2 * m)) ≡ kinds_of_word n w
+cut_word zero m w h = refl
+cut_word (suc n) zero w h = absurd (omega (arith, h))
+cut_word (suc n) (suc m) w h =
+    let k : 2 * suc m ≡ 2 * m + 2 = omega arith in
+    let split : w % 2 ^ (2 * suc m) ≡ (w / 4 % 2 ^ (2 * m)) * 4 + w % 4 = ap (λ i. w % 2 ^ i) k ∙ mod-pow-add w (2 * m) 2 in
+    let low : w % 2 ^ (2 * suc m) % 4 ≡ w % 4 = omega (arith, split) in
+    let high : w % 2 ^ (2 * suc m) / 4 ≡ w / 4 % 2 ^ (2 * m) = omega (arith, split) in
+    ap (λ d. kind_of_code d ∷ kinds_of_word n (w % 2 ^ (2 * suc m) / 4)) low
+    ∙ ap (λ v. kind_of_code (w % 4) ∷ kinds_of_word n v) high
+    ∙ ap (λ ks. kind_of_code (w % 4) ∷ ks) (cut_word n m (w / 4) (omega (arith, h)))
+
+-- one operand more, in the lowest place
+pub pushed_standing : (ws : List ℕ) (c v n : ℕ) (e : Kind) → n ≤ 31 → v % 4 ≡ code_of e → v / 4 ≡ c % 2 ^ 62
+    → kinds_in ws v (n + 1) ≡ e ∷ kinds_in ws c n
+pushed_standing ws c v n e h there others =
     let k : n + 1 ≡ suc n = omega arith in
-    ap (kinds_in vs) k ∙ ap (λ x. x ∷ kinds_in vs n) (ap kind_of_code there ∙ decoded e) ∙ ap (λ es. e ∷ es) (same_standing vs ws n under)
-
-pub drop-standing : (ws : List ℕ) (k n : ℕ) → drop k (kinds_in ws n) ≡ kinds_in ws (n - k)
-drop-standing ws zero n = let e : n ≡ n - 0 = omega arith in ap (kinds_in ws) e
-drop-standing ws (suc k) zero = let e : 0 ≡ 0 - suc k = omega arith in ap (kinds_in ws) e
-drop-standing ws (suc k) (suc n) = let e : n - k ≡ suc n - suc k = omega arith in drop-standing ws k n ∙ ap (kinds_in ws) e
-
--- the words, the last one being the one that is kept apart
-abbrev pub whole : List ℕ → ℕ → List ℕ
-whole ws current = set ws (length ws - 1) current
-
--- an operand of the last word
-pub at_top : (ws : List ℕ) (current i : ℕ) → 0 < length ws → 32 * length ws ≤ i + 32 → i < 32 * length ws
-    → code_at (whole ws current) i ≡ digit current (i % 32)
-at_top ws current i h low high =
-    let k : i / 32 ≡ length ws - 1 = omega arith in
-    let l : length ws - 1 < length ws = omega arith in
-    ap (λ n. digit (get_or (whole ws current) n 0) (i % 32)) k ∙ ap (λ w. digit w (i % 32)) (get_or-set_same ws (length ws - 1) current 0 l)
-
--- an operand under it
-pub under_top : (ws : List ℕ) (current i : ℕ) → i + 32 < 32 * length ws → code_at (whole ws current) i ≡ code_at ws i
-under_top ws current i h =
-    let k : i / 32 ≢ length ws - 1 = omega arith in
-    ap (λ w. digit w (i % 32)) (get_or-set_other ws (length ws - 1) (i / 32) current 0 k)
-
-changed_inside : (ws : List ℕ) (v w n i : ℕ) → 0 < length ws → 32 * length ws ≤ n + 32 → n < 32 * length ws
-    → ((k : ℕ) → k < n % 32 → digit v k ≡ digit w k) → i < n → 32 * length ws ≤ i + 32 → code_at (whole ws v) i ≡ code_at (whole ws w) i
-changed_inside ws v w n i h low high same l above =
-    let k : i % 32 < n % 32 = omega (arith, low, high, l, above) in
-    let j : i < 32 * length ws = omega (arith, l, high) in
-    at_top ws v i h above j ∙ same (i % 32) k ∙ sym (at_top ws w i h above j)
-
--- another last word, that agrees with the first one on the operands under n
-pub changed_top : (ws : List ℕ) (v w n i : ℕ) → 0 < length ws → 32 * length ws ≤ n + 32 → n < 32 * length ws
-    → ((k : ℕ) → k < n % 32 → digit v k ≡ digit w k) → i < n → code_at (whole ws v) i ≡ code_at (whole ws w) i
-changed_top ws v w n i h low high same l =
-    elim (cases_lt (i + 32) (32 * length ws)) [
-      | inl below ↦ under_top ws v i below ∙ sym (under_top ws w i below)
-      | inr above ↦ changed_inside ws v w n i h low high same l above
-    ]
-
--- a word more: those under it are as they were
-pub begun : (ws : List ℕ) (current v i : ℕ) → i < 32 * length ws
-    → code_at (whole (whole ws current ++ 0 ∷ []) v) i ≡ code_at (whole ws current) i
-begun ws current v i l =
-    let old : length (whole ws current) ≡ length ws = length-set ws (length ws - 1) current in
-    let more : length (whole ws current ++ 0 ∷ []) ≡ length ws + 1 = length_push (whole ws current) 0 ∙ ap (λ n. n + 1) old in
-    let below : i + 32 < 32 * length (whole ws current ++ 0 ∷ []) = omega (arith, more, l) in
-    let inside : i / 32 < length (whole ws current) = omega (arith, old, l) in
-    under_top (whole ws current ++ 0 ∷ []) v i below
-    ∙ ap (λ w. digit w (i % 32)) (get_or_append_left (whole ws current) (0 ∷ []) 0 (i / 32) inside)
-
--- the operands of an earlier word, and those under it
-pub back : (ws : List ℕ) (current index i : ℕ) → index + 1 < length ws → i < 32 * (index + 1)
-    → code_at (whole (take (index + 1) ws) (get_or ws index 0)) i ≡ code_at (whole ws current) i
-back ws current index i h l =
-    let n : length (take (index + 1) ws) ≡ index + 1 = length-take-le (index + 1) ws (omega (arith, h)) in
-    let below : i + 32 < 32 * length ws = omega (arith, h, l) in
-    elim (cases_lt (i + 32) (32 * length (take (index + 1) ws))) [
-      | inl under ↦ under_top (take (index + 1) ws) (get_or ws index 0) i under
-          ∙ ap (λ w. digit w (i % 32)) (get_or-take (index + 1) ws (i / 32) 0 (omega (arith, l)))
-          ∙ sym (under_top ws current i below)
-      | inr above ↦
-          let k : index ≡ i / 32 = omega (arith, n, above, l) in
-          at_top (take (index + 1) ws) (get_or ws index 0) i (omega (arith, n)) above (omega (arith, n, l))
-          ∙ ap (λ j. digit (get_or ws j 0) (i % 32)) k
-          ∙ sym (under_top ws current i below)
-    ]
+    ap (λ i. kinds_in ws v i) k
+    ∙ ap (λ x. x ∷ (kinds_of_word n (v / 4) ++ kinds_under ws)) (ap kind_of_code there ∙ decoded e)
+    ∙ ap (λ w. e ∷ (kinds_of_word n w ++ kinds_under ws)) others
+    ∙ ap (λ ks. e ∷ (ks ++ kinds_under ws)) (cut_word n 31 c h)
 
 -- the top operand, and those under it
-pub split_standing : (ws : List ℕ) (n : ℕ) → 0 < n → kinds_in ws n ≡ kind_of_code (code_at ws (n - 1)) ∷ kinds_in ws (n - 1)
-split_standing ws zero h = absurd (omega (arith, h))
-split_standing ws (suc n) h = let e : n ≡ suc n - 1 = omega arith in ap (λ k. kind_of_code (code_at ws k) ∷ kinds_in ws k) e
+pub split_standing : (ws : List ℕ) (c n : ℕ) → 0 < n → kinds_in ws c n ≡ kind_of_code (c % 4) ∷ kinds_in ws (c / 4) (n - 1)
+split_standing ws c zero h = absurd (omega (arith, h))
+split_standing ws c (suc n) h = let e : n ≡ suc n - 1 = omega arith in ap (λ k. kind_of_code (c % 4) ∷ kinds_in ws (c / 4) k) e
+
+drop-word : (k n w : ℕ) → drop k (kinds_of_word n w) ≡ kinds_of_word (n - k) (w / 2 ^ (2 * k))
+drop-word zero n w =
+    let a : n ≡ n - 0 = omega arith in
+    let b : w ≡ w / 1 = omega arith in
+    ap (λ i. kinds_of_word i w) a ∙ ap (kinds_of_word (n - 0)) b
+drop-word (suc k) zero w = let e : 0 ≡ 0 - suc k = omega arith in ap (λ i. kinds_of_word i (w / 2 ^ (2 * suc k))) e
+drop-word (suc k) (suc n) w =
+    let e : n - k ≡ suc n - suc k = omega arith in
+    let i : 2 + 2 * k ≡ 2 * suc k = omega arith in
+    drop-word k n (w / 4) ∙ ap (kinds_of_word (n - k)) (shr-shr w 2 (2 * k) ∙ ap (λ j. w / 2 ^ j) i)
+    ∙ ap (λ j. kinds_of_word j (w / 2 ^ (2 * suc k))) e
+
+-- some operands of the current word taken away
+pub dropped_standing : (ws : List ℕ) (c n k : ℕ) → k ≤ n → drop k (kinds_in ws c n) ≡ kinds_in ws (c / 2 ^ (2 * k)) (n - k)
+dropped_standing ws c n k h =
+    drop-append-le k (kinds_of_word n c) (kinds_under ws) (omega (arith, length-word n c, h))
+    ∙ ap (λ ks. ks ++ kinds_under ws) (drop-word k n c)
+
+-- the current word, which is full, on the list, and another begun
+pub kept_word : (ws : List ℕ) → (c v : ℕ) → kinds_in (ws ++ c ∷ []) v 0 ≡ kinds_in ws c 32
+kept_word [] c v = refl
+kept_word (w ∷ ws) c v =
+    ap (λ ks. ks ++ kinds_of_word 32 w) (kept_word ws c v)
+    ∙ append_assoc (kinds_of_word 32 c) (kinds_under ws) (kinds_of_word 32 w)
+
+-- the word with this index is the current one, and those above it are taken away
+back_to : (ws : List ℕ) (index : ℕ) → index < length ws
+    → drop (32 * (length ws - index - 1)) (kinds_under ws) ≡ kinds_in (take index ws) (get_or ws index 0) 32
+back_to [] index h = absurd (omega (arith, h))
+back_to (w ∷ ws) zero h =
+    let k : 32 * (suc (length ws) - 0 - 1) ≡ length (kinds_under ws) = omega (arith, length-under ws) in
+    ap (λ n. drop n (kinds_under ws ++ kinds_of_word 32 w)) k
+    ∙ drop-append-le (length (kinds_under ws)) (kinds_under ws) (kinds_of_word 32 w) (omega arith)
+    ∙ ap (λ ks. ks ++ kinds_of_word 32 w) (drop_all (length (kinds_under ws)) (kinds_under ws) (omega arith))
+    ∙ sym (append-nil (kinds_of_word 32 w))
+back_to (w ∷ ws) (suc index) h =
+    let k : 32 * (suc (length ws) - suc index - 1) ≡ 32 * (length ws - index - 1) = omega arith in
+    let l : 32 * (length ws - index - 1) ≤ length (kinds_under ws) = omega (arith, length-under ws) in
+    ap (λ n. drop n (kinds_under ws ++ kinds_of_word 32 w)) k
+    ∙ drop-append-le (32 * (length ws - index - 1)) (kinds_under ws) (kinds_of_word 32 w) l
+    ∙ ap (λ ks. ks ++ kinds_of_word 32 w) (back_to ws index (omega (arith, h)))
+    ∙ append_assoc (kinds_of_word 32 (get_or ws index 0)) (kinds_under (take index ws)) (kinds_of_word 32 w)
+
+-- operands taken away, so that some of the word with this index are left
+pub back : (ws : List ℕ) (c n k index : ℕ) → index < length ws → k ≤ 32
+    → drop (n + 32 * (length ws - index - 1) + k) (kinds_in ws c n) ≡ kinds_in (take index ws) (get_or ws index 0 / 2 ^ (2 * k)) (32 - k)
+back ws c n k index h l =
+    let m = 32 * (length ws - index - 1) in
+    let under : drop (n + m) (kinds_in ws c n) ≡ drop m (kinds_under ws) =
+    ap (λ i. drop (i + m) (kinds_in ws c n)) (sym (length-word n c)) ∙ drop-append-add (kinds_of_word n c) (kinds_under ws) m in
+    sym (drop-drop k (n + m) (kinds_in ws c n))
+    ∙ ap (drop k) (under ∙ back_to ws index h)
+    ∙ dropped_standing (take index ws) (get_or ws index 0) 32 k l

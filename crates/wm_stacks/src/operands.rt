@@ -171,6 +171,36 @@ impl Operands {
         self.packed.take_two_near(under, top)
     }
 
+    /// Puts an operand that is no float in the place of the top one, where `take_near` would take that. A
+    /// float is never put there, since its width would have to be written too.
+    #[inline(always)]
+    pub fn replace_near(&mut self, expected: ValType, entry: Entry) -> bool
+        ensures replaced { result ≡ true → (e : Entry) × (es : List Entry) × (self.old.entries ≡ e ∷ es)
+            × (self.old.floor ≤ length es) × IsTrue (fits e expected)
+            × (self.new ≡ record { entries = entry ∷ es; floor = self.old.floor }) }
+        ensures left { result ≡ false → self.new ≡ self.old }
+    {
+        match entry {
+            Entry::F32 | Entry::F64 => false,
+            _ => self.packed.replace_near(expected, kind(entry)),
+        }
+    }
+
+    /// The same in the place of the two topmost, where `take_two_near` would take those.
+    #[inline(always)]
+    pub fn replace_two_near(&mut self, under: ValType, top: ValType, entry: Entry) -> bool
+        ensures replaced { result ≡ true → (e : Entry) × (f : Entry) × (es : List Entry)
+            × (self.old.entries ≡ e ∷ f ∷ es) × (self.old.floor ≤ length es)
+            × IsTrue (fits e top) × IsTrue (fits f under)
+            × (self.new ≡ record { entries = entry ∷ es; floor = self.old.floor }) }
+        ensures left { result ≡ false → self.new ≡ self.old }
+    {
+        match entry {
+            Entry::F32 | Entry::F64 => false,
+            _ => self.packed.replace_two_near(under, top, kind(entry)),
+        }
+    }
+
     /// The top operand, where one stands above the floor.
     #[inline(always)]
     pub fn top(&self) -> Option<Entry>

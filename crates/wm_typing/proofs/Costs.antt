@@ -190,6 +190,10 @@ small_option : (t : Option ValType) → Small (option_to_list t)
 small_option None = tt
 small_option (Some t) = tt
 
+-- what is done adds so much
+pub done_adds : (p : List ValType) (given : Option ValType) (s z : Stack) → drive_fixed p (option_to_list given) s ≡ Ok z → Adds 3 1 s z
+done_adds p given s z h = subst (MayAdd 3 1 s) h (fixed_adds p (option_to_list given) s (small_option given))
+
 small_item : {A : Type 0} (o : Option A) (f : A → Effect) → ((x : A) → o ≡ Some x → SmallShape (f x)) → SmallShape (with_item o f)
 small_item None f h = tt
 small_item (Some x) f h = h x refl

@@ -1,7 +1,7 @@
 -- The kinds of operands in words of 64 bits, two bits each: 0 is I32, 1 is I64, 2 is Unknown and 3 a float.
--- That of operand i, counted from the lowest, stands in word i / 32, at bits 2 * (i % 32) and above.
-use Rattle.std.specs.Prelude.{ℕ, zero, suc, ◌*◌, ◌/◌, ◌%◌, ◌^◌, ◌==◌, Bool, true, false, if◌then◌else◌}
-use Rattle.std.specs.Prelude.{List, [], ◌∷◌, slice_index}
+-- The topmost of the operands whose kinds are in a word has the lowest place.
+use Rattle.std.specs.Prelude.{ℕ, zero, suc, ◌/◌, ◌%◌, ◌==◌, Bool, true, false, if◌then◌else◌}
+use Rattle.std.specs.Prelude.{List, [], ◌∷◌, ◌++◌}
 use Rattle.wm_syntax.specs.declared.types.ValType.{ValType}
 use Rattle.wm_syntax.specs.declared.types.ValType.TheVariants as t
 use Rattle.wm_stacks.specs.declared.words.Kind.{Kind}
@@ -30,17 +30,19 @@ shows t.I64 Float = false
 shows t.F32 k = false
 shows t.F64 k = false
 
--- the number at place k of a word
-abbrev pub digit : ℕ → ℕ → ℕ
-digit word k = word / 2 ^ (2 * k) % 4
+-- the kinds in the lowest n places of a word, that in the lowest place first
+abbrev pub kinds_of_word : ℕ → ℕ → List Kind
+kinds_of_word zero word = []
+kinds_of_word (suc n) word = kind_of_code (word % 4) ∷ kinds_of_word n (word / 4)
 
-abbrev pub code_at : List ℕ → ℕ → ℕ
-code_at words i = digit (slice_index words (i / 32)) (i % 32)
+-- the kinds in full words, the topmost first: the last word is that of the topmost operands
+abbrev pub kinds_under : List ℕ → List Kind
+kinds_under [] = []
+kinds_under (w ∷ ws) = kinds_under ws ++ kinds_of_word 32 w
 
--- the kinds of the lowest n operands, the topmost first
-abbrev pub kinds_in : List ℕ → ℕ → List Kind
-kinds_in words zero = []
-kinds_in words (suc n) = kind_of_code (code_at words n) ∷ kinds_in words n
+-- the n kinds of the current word, and those in the words under it
+abbrev pub kinds_in : List ℕ → ℕ → ℕ → List Kind
+kinds_in words current n = kinds_of_word n current ++ kinds_under words
 
 -- the kinds of a body's operands, the topmost first, and the floor of its innermost frame
 pub record Kinds : Type 0 where
