@@ -1,11 +1,11 @@
 -- Function types whose parameters stand in one list.
-use Rattle.std.proofs.Common.{ℕ, zero, suc, ◌≡◌, ◌+◌, ◌-◌, ◌≤◌, ◌<◌, List, [], ◌∷◌, ◌++◌, Option, Some, None, length, take, drop, slice_get, slice_set, slice_range, get_or, option_to_list, refl, ap, sym, ◌∙◌, subst, arith, length-append, length-drop}
+use Rattle.std.proofs.Common.{ℕ, zero, suc, ◌≡◌, ◌+◌, ◌-◌, ◌≤◌, ◌<◌, List, [], ◌∷◌, ◌++◌, Option, Some, None, length, take, drop, slice_get, slice_set, slice_range, get_or, option_to_list, refl, ap, sym, ◌∙◌, subst, arith, length-append, length-drop, length-take}
 use Rattle.std.proofs.lemmas.List.{take-append-le, drop-append-le, take_all, drop_at, map-append, length-map, length-set}
 use Rattle.std.proofs.lemmas.Option.{slice_get-map, slice_get-get_or}
 use Rattle.wm_syntax.specs.declared.types.ValType.{ValType}
 use Rattle.wm_syntax.specs.Types.{Signature}
 use Rattle.wm_typing.specs.declared.func_types.TypeEntry.{TypeEntry}
-use Rattle.wm_typing.specs.Contexts.{first_of}
+use Rattle.wm_typing.specs.Contexts.{first_of, params_in}
 use Rattle.wm_typing.specs.inner.FuncTypes.{signature_in, signatures_in, AreEntries, with_last}
 
 -- what lies in a list lies there still in a longer one
@@ -40,6 +40,34 @@ type_at ps es i e g = rw (slice_get-map (signature_in ps) es i, g) refl
 
 pub no_type_at : (ps : List ValType) (es : List TypeEntry) (i : ℕ) → slice_get es i ≡ None → slice_get (signatures_in ps es) i ≡ None
 no_type_at ps es i g = rw (slice_get-map (signature_in ps) es i, g) refl
+
+-- the parameters of a type
+pub params_at : (ps : List ValType) (es : List TypeEntry) (i : ℕ) (e : TypeEntry) (fs : List Signature) → slice_get es i ≡ Some e → signatures_in ps es ≡ fs
+    → params_in (slice_get fs i) ≡ (signature_in ps e).params
+params_at ps es i e fs at is = ap (λ (gs : List Signature). params_in (slice_get gs i)) (sym is) ∙ ap params_in (type_at ps es i e at)
+
+get-take : {X : Type 0} (n : ℕ) (xs : List X) (i : ℕ) → i < n → slice_get (take n xs) i ≡ slice_get xs i
+get-take zero xs i h = absurd (omega (arith, h))
+get-take (suc n) [] i h = refl
+get-take (suc n) (x ∷ xs) zero h = refl
+get-take (suc n) (x ∷ xs) (suc i) h = get-take n xs i (omega (arith, h))
+
+get-drop : {X : Type 0} (n : ℕ) (xs : List X) (i : ℕ) → slice_get (drop n xs) i ≡ slice_get xs (n + i)
+get-drop zero xs i = let e : i ≡ 0 + i = omega arith in ap (slice_get xs) e
+get-drop (suc n) [] i = refl
+get-drop (suc n) (x ∷ xs) i =
+    let e : suc (n + i) ≡ suc n + i = omega arith in
+    get-drop n xs i ∙ ap (slice_get (x ∷ xs)) e
+
+-- a parameter of an entry, and how many there are
+pub length-params : (ps : List ValType) (e : TypeEntry) → e.start + e.count ≤ length ps → length (signature_in ps e).params ≡ e.count
+length-params ps e h = omega (arith, length-take (e.start + e.count - e.start) (drop e.start ps), length-drop e.start ps, h)
+
+pub param_at : (ps : List ValType) (e : TypeEntry) (i : ℕ) (t : ValType) → e.start + e.count ≤ length ps → i < e.count → slice_get ps (e.start + i) ≡ Some t
+    → slice_get (signature_in ps e).params i ≡ Some t
+param_at ps e i t h l g =
+    let k : i < e.start + e.count - e.start = omega (arith, l) in
+    get-take (e.start + e.count - e.start) (drop e.start ps) i k ∙ get-drop e.start ps i ∙ g
 
 -- the types stay where parameters are added
 types_longer : (ps qs : List ValType) (es : List TypeEntry) → AreEntries (length ps) es → signatures_in (ps ++ qs) es ≡ signatures_in ps es

@@ -1,7 +1,8 @@
 //! The function types of a module, in two lists.
 
-ghost use Rattle.std.specs.Prelude.{◌≡◌, ◌-◌, ◌<◌, [], ◌∷◌, ◌++◌, None, Some, MatchOption, OnErr, OnOk};
-ghost use Rattle.std.specs.Prelude.{length, option_to_list, slice_get};
+ghost use Rattle.std.specs.Prelude.{◌≡◌, ◌+◌, ◌-◌, ◌<◌, [], ◌∷◌, ◌++◌, None, Some, MatchOption, MatchResult};
+ghost use Rattle.std.specs.Prelude.{OnErr, OnOk, length, option_to_list, slice_get};
+ghost use Rattle.wm_typing.specs.Contexts.{params_in};
 ghost use Rattle.wm_typing.specs.inner.FuncTypes.{with_last};
 
 use std::alloc::{AllocError, Global};
@@ -75,6 +76,25 @@ impl FuncTypes {
             params: &self.params[entry.start..entry.start + entry.count],
             result: entry.result,
         })
+    }
+
+    // The parameter with this index of a type, or how far past the last one that is.
+    #[inline(always)]
+    pub(crate) fn param(&self, ty: usize, index: u32) -> Result<ValType, u32>
+        ensures { MatchResult result
+            (λ t. slice_get (params_in (slice_get self.now ty)) index ≡ Some t)
+            (λ past. index ≡ length (params_in (slice_get self.now ty)) + past) }
+    {
+        let Some(entry) = self.entries.get(ty) else {
+            return Err(index);
+        };
+        let params = self.params.as_slice();
+        let at = index as usize;
+        if at < entry.count {
+            Ok(params[entry.start + at])
+        } else {
+            Err((at - entry.count) as u32)
+        }
     }
 
     /// The last type, None where there is none.
