@@ -1,6 +1,6 @@
 //! Some bytes of output that are put together, and go out by one `put`.
 
-ghost use Rattle.std.specs.Prelude.{◌≡◌, ◌+◌, ◌<◌, ◌≤◌, [], ◌∷◌, ◌++◌, length};
+ghost use Rattle.std.specs.Prelude.{◌≡◌, ◌+◌, ◌<◌, ◌≤◌, [], ◌∷◌, ◌++◌, decimal, length};
 
 use itoa::{Buffer, Integer};
 use std::marker::Model;
@@ -92,6 +92,23 @@ impl Batch {
     {
         let mut buffer = Buffer::new();
         self.push(buffer.format(n).as_bytes());
+    }
+
+    /// Adds an index in digits behind some bytes; a short one goes a short way.
+    #[inline(always)]
+    pub(crate) fn push_index(&mut self, front: &[u8], n: u32)
+        requires { length self.old + (length front.now + 10) ≤ 64 }
+        ensures text { self.new ≡ self.old ++ (front.now ++ decimal n) }
+        ensures short { length self.new ≤ length self.old + (length front.now + 10) }
+    {
+        self.push(front);
+        if n < 10 {
+            self.push_byte(b'0' + n as u8);
+        } else if n < 100 {
+            self.push_two(b'0' + (n / 10) as u8, b'0' + (n % 10) as u8);
+        } else {
+            self.push_digits(n);
+        }
     }
 
     /// Adds a number in digits behind some bytes. It is inline, since their length is known at each call.

@@ -88,9 +88,21 @@ fn immediates_len(simple: &Simple) -> u64
     }
 }
 
-/// How many bytes an op has (section 5.4).
+/// How many bytes an op has (section 5.4). Most ops are simple instructions.
 #[inline(always)]
 pub(crate) fn op_len(op: &Op) -> u64
+    ensures value { result ≡ length (op_bytes op.now) }
+    ensures short { result ≤ 11 }
+{
+    match op {
+        Op::Simple(simple) => 1 + immediates_len(simple),
+        _ => any_op_len(op),
+    }
+}
+
+// The same of any op, out of line.
+#[inline(never)]
+fn any_op_len(op: &Op) -> u64
     ensures value { result ≡ length (op_bytes op.now) }
     ensures short { result ≤ 11 }
 {

@@ -260,7 +260,8 @@ fn push_simple(batch: &mut Batch, simple: &Simple)
     }
 }
 
-/// Adds an op, at most eleven bytes. It is lent: a copy would go through memory.
+/// Adds an op, at most eleven bytes. It is lent: a copy would go through memory. Most ops are simple
+/// instructions.
 #[inline(always)]
 pub(crate) fn push_op(batch: &mut Batch, op: &Op)
     requires { length batch.old + 11 ≤ 64 }
@@ -269,6 +270,19 @@ pub(crate) fn push_op(batch: &mut Batch, op: &Op)
 {
     match op {
         Op::Simple(simple) => push_simple(batch, simple),
+        _ => push_any_op(batch, op),
+    }
+}
+
+// The same of any op, out of line.
+#[inline(never)]
+fn push_any_op(batch: &mut Batch, op: &Op)
+    requires { length batch.old + 11 ≤ 64 }
+    ensures text { batch.new ≡ batch.old ++ op_bytes op.now }
+    ensures short { length batch.new ≤ length batch.old + 11 }
+{
+    match op {
+        Op::Simple(simple) => push_rare(batch, *simple),
         Op::Block(ty) => push_block(batch, 0x02, *ty),
         Op::Loop(ty) => push_block(batch, 0x03, *ty),
         Op::If(ty) => push_block(batch, 0x04, *ty),

@@ -63,11 +63,12 @@ fn push_access(line: &mut Batch, width: u32, at: MemArg)
 }
 
 // The byte that begins an op; a label has none of its own.
-fn op_byte(op: Op) -> Option<u8>
-    ensures { result ≡ first_byte op }
+#[inline(always)]
+fn op_byte(op: &Op) -> Option<u8>
+    ensures { result ≡ first_byte op.now }
 {
     match op {
-        Op::Simple(simple) => Some(first_byte(simple)),
+        Op::Simple(simple) => Some(first_byte(*simple)),
         Op::Block(_) => Some(0x02),
         Op::Loop(_) => Some(0x03),
         Op::If(_) => Some(0x04),
@@ -87,9 +88,10 @@ fn name(byte: u8) -> &'static [u8]
 }
 
 // Adds the name of an op on a line of its own, at most 24 bytes, unless it is a label.
-fn push_name(line: &mut Batch, op: Op)
+#[inline(always)]
+fn push_name(line: &mut Batch, op: &Op)
     requires { length line.old + 24 ≤ 64 }
-    ensures text { line.new ≡ line.old ++ words_text (head_words (op_name op)) }
+    ensures text { line.new ≡ line.old ++ words_text (head_words (op_name op.now)) }
     ensures short { length line.new ≤ length line.old + 24 }
 {
     if let Some(byte) = op_byte(op) {
@@ -98,27 +100,28 @@ fn push_name(line: &mut Batch, op: Op)
     }
 }
 
-// Adds what stands behind the name of an instruction.
-fn push_immediates(line: &mut Batch, simple: Simple)
-    requires usual { IsTrue (is_simple_printable simple) }
+// Adds what stands behind the name of an instruction. It is lent: a copy would go through memory.
+#[inline(always)]
+fn push_immediates(line: &mut Batch, simple: &Simple)
+    requires usual { IsTrue (is_simple_printable simple.now) }
     requires room { length line.old + 36 ≤ 64 }
-    ensures { line.new ≡ line.old ++ words_text (immediate_words simple) }
+    ensures { line.new ≡ line.old ++ words_text (immediate_words simple.now) }
 {
     match simple {
         Simple::Br(index)
         | Simple::BrIf(index)
         | Simple::LocalGet(index)
         | Simple::LocalSet(index)
-        | Simple::LocalTee(index) => line.push_counted(b" ", index),
-        Simple::Call(index) => line.push_counted(b" $f", index),
-        Simple::CallIndirect(index) => push_type_use(line, index),
-        Simple::GlobalGet(index) | Simple::GlobalSet(index) => line.push_counted(b" $g", index),
-        Simple::I32Const(value) => line.push_counted(b" ", value),
-        Simple::I64Const(value) => line.push_counted(b" ", value),
-        Simple::F32Const(bits) => push_f32(line, u64::from(bits)),
-        Simple::F64Const(bits) => push_f64(line, bits),
-        Simple::Load(op, at) => push_access(line, loaded(op).width, at),
-        Simple::Store(op, at) => push_access(line, stored(op).width, at),
+        | Simple::LocalTee(index) => line.push_index(b" ", *index),
+        Simple::Call(index) => line.push_index(b" $f", *index),
+        Simple::CallIndirect(index) => push_type_use(line, *index),
+        Simple::GlobalGet(index) | Simple::GlobalSet(index) => line.push_index(b" $g", *index),
+        Simple::I32Const(value) => line.push_counted(b" ", *value),
+        Simple::I64Const(value) => line.push_counted(b" ", *value),
+        Simple::F32Const(bits) => push_f32(line, u64::from(*bits)),
+        Simple::F64Const(bits) => push_f64(line, *bits),
+        Simple::Load(op, at) => push_access(line, loaded(*op).width, *at),
+        Simple::Store(op, at) => push_access(line, stored(*op).width, *at),
         Simple::Unreachable
         | Simple::Nop
         | Simple::Return
@@ -146,28 +149,56 @@ fn push_block_type(line: &mut Batch, ty: Option<ValType>)
 }
 
 // Adds what stands behind the name of an op, at most 36 bytes.
-fn push_operands(line: &mut Batch, op: Op)
-    requires usual { IsTrue (is_printable op) }
+#[inline(always)]
+fn push_operands(line: &mut Batch, op: &Op)
+    requires usual { IsTrue (is_printable op.now) }
     requires room { length line.old + 36 ≤ 64 }
-    ensures { line.new ≡ line.old ++ words_text (operand_words op) }
+    ensures { line.new ≡ line.old ++ words_text (operand_words op.now) }
 {
     match op {
         Op::Simple(simple) => push_immediates(line, simple),
-        Op::Block(ty) | Op::Loop(ty) | Op::If(ty) => push_block_type(line, ty),
-        Op::Label(label) => line.push_counted(b" ", label),
+        Op::Block(ty) | Op::Loop(ty) | Op::If(ty) => push_block_type(line, *ty),
+        Op::Label(label) => line.push_index(b" ", *label),
         Op::Else | Op::End | Op::BrTable(_) => {}
     }
 }
 
-// Writes an op by one `put`: an instruction on a line of its own, or a label.
-fn put_op<W: Dest>(w: &mut W, written: &mut u64, op: Op)
-    requires { IsTrue (is_printable op) }
-    ensures { Sent (words_text (op_words op)) (W.has_failed w.old, W.contents w.old, written.old)
+// Adds an op, at most 60 bytes: an instruction on a line of its own, or a label. Those with the index of a
+// local are more than a third of all, and the name of each is copied with what stands around it.
+#[inline(always)]
+fn push_line(line: &mut Batch, op: &Op)
+    requires usual { IsTrue (is_printable op.now) }
+    requires room { length line.old + 60 ≤ 64 }
+    ensures { line.new ≡ line.old ++ words_text (op_words op.now) }
+{
+    match op {
+        Op::Simple(Simple::LocalGet(index)) => line.push_index(b"\n    local.get ", *index),
+        Op::Simple(Simple::LocalSet(index)) => line.push_index(b"\n    local.set ", *index),
+        Op::Simple(Simple::LocalTee(index)) => line.push_index(b"\n    local.tee ", *index),
+        _ => push_any_line(line, op),
+    }
+}
+
+// The same of any op.
+#[inline(always)]
+fn push_any_line(line: &mut Batch, op: &Op)
+    requires usual { IsTrue (is_printable op.now) }
+    requires room { length line.old + 60 ≤ 64 }
+    ensures { line.new ≡ line.old ++ words_text (op_words op.now) }
+{
+    push_name(line, op);
+    push_operands(line, op);
+}
+
+// Writes an op by one `put`.
+#[inline(always)]
+fn put_op<W: Dest>(w: &mut W, written: &mut u64, op: &Op)
+    requires { IsTrue (is_printable op.now) }
+    ensures { Sent (words_text (op_words op.now)) (W.has_failed w.old, W.contents w.old, written.old)
         (W.has_failed w.new, W.contents w.new, written.new) }
 {
     let mut line = Batch::new();
-    push_name(&mut line, op);
-    push_operands(&mut line, op);
+    push_line(&mut line, op);
     put_bytes(w, written, line.as_slice());
 }
 
@@ -178,7 +209,7 @@ pub(crate) fn put_body<W: Dest>(w: &mut W, written: &mut u64, ops: &[Op])
         (W.has_failed w.new, W.contents w.new, written.new) }
 {
     for op in ops {
-        put_op(w, written, *op);
+        put_op(w, written, op);
     }
 }
 
@@ -217,6 +248,6 @@ pub(crate) fn put_const<W: Dest>(w: &mut W, written: &mut u64, value: Const)
     let mut line = Batch::new();
     line.push(b" ");
     line.push(name(first_byte(instruction)));
-    push_immediates(&mut line, instruction);
+    push_immediates(&mut line, &instruction);
     put_bytes(w, written, line.as_slice());
 }
