@@ -8,6 +8,7 @@ pub mod PrintedModules
 pub mod SectionLemmas
 pub mod CanonSpells
 pub mod Ranges
+pub mod KeptSizes
 pub mod LeastRuns
 pub mod Shortest
 pub mod RoundTrip

@@ -1,8 +1,10 @@
 //! Code entries (section 5.5.13). Each stands behind its size, so it is counted before it is written.
 
 ghost use Rattle.std.specs.Prelude.{◌≡◌, ◌+◌, ◌<◌, ◌≤◌, ◌^◌, flat_map, length};
+ghost use Rattle.wm_syntax.specs.Modules.{Function};
 ghost use Rattle.wm_syntax.specs.Runs.{runs_of};
 ghost use Rattle.wm_write.specs.Canon.{code_bytes, code_contents, listed, ops_bytes, run_bytes};
+ghost use Rattle.wm_write.specs.exact.Measures.{AreSizes};
 ghost use Rattle.wm_write.specs.exact.Writing.{Sent, SentBut, capped};
 
 use crate::batch::{Batch, ROOM};
@@ -105,43 +107,60 @@ fn runs_len(locals: &Locals) -> u64
     sum
 }
 
-/// How many bytes the contents of the code section have; 2^64 - 1 where there are more.
-pub(crate) fn codes_len(functions: &[Function]) -> u64
-    ensures { result ≡ capped (length (listed code_bytes functions.now)) }
+/// Of so many bodies the sizes are kept from the counting to the writing, so that these are counted once.
+pub(crate) const KEPT: usize = 1024;
+
+/// How many bytes the contents of the code section have; 2^64 - 1 where there are more. The sizes of the first
+/// entries are kept, as many as there is room for; 2^32 - 1 of a larger one, which is never written.
+pub(crate) fn codes_len(functions: &[Function], kept: &mut [u32]) -> u64
+    ensures len { result ≡ capped (length (listed code_bytes functions.now)) }
+    ensures kept { AreSizes functions.now kept.new }
 {
     let mut sum = number_len(functions.len() as u64);
-    for function in functions {
-        sum = sum.saturating_add(code_len(function));
+    for index in 0..functions.len() {
+        let size = CodeContents::len(&functions[index]);
+        if index < kept.len() {
+            kept[index] = size.min(u64::from(u32::MAX)) as u32;
+        }
+        sum = sum.saturating_add(code_len(size));
     }
     sum
 }
 
-// How many bytes a code entry has; 2^64 - 1 where there are more.
-fn code_len(function: &Function) -> u64
-    ensures { result ≡ capped (length (code_bytes function.now)) }
+// How many bytes a code entry has whose contents have so many; 2^64 - 1 where there are more.
+fn code_len(size: u64) -> u64
+    ensures { (f : Function) → size ≡ capped (length (code_contents f))
+        → result ≡ capped (length (code_bytes f)) }
 {
-    let size = CodeContents::len(function);
     size.saturating_add(number_len(size))
 }
 
-/// Writes the contents of the code section.
-pub(crate) fn put_codes<W: Dest>(w: &mut W, written: &mut u64, functions: &[Function])
-    requires { length (listed code_bytes functions.now) < 2 ^ 32 }
+/// Writes the contents of the code section, by the sizes that are kept.
+pub(crate) fn put_codes<W: Dest>(w: &mut W, written: &mut u64, functions: &[Function], kept: &[u32])
+    requires few { length (listed code_bytes functions.now) < 2 ^ 32 }
+    requires kept { AreSizes functions.now kept.now }
     ensures { Sent (listed code_bytes functions.now) (W.has_failed w.old, W.contents w.old, written.old)
         (W.has_failed w.new, W.contents w.new, written.new) }
 {
     put_number(w, written, functions.len() as u64);
-    for function in functions {
-        put_code(w, written, function);
+    for index in 0..functions.len() {
+        let function = &functions[index];
+        let size = if index < kept.len() {
+            u64::from(kept[index])
+        } else {
+            CodeContents::len(function)
+        };
+        put_code(w, written, function, size);
     }
 }
 
-// Writes a code entry.
-fn put_code<W: Dest>(w: &mut W, written: &mut u64, function: &Function)
-    requires { length (code_contents function.now) < 2 ^ 32 }
+// Writes a code entry, whose contents have this size.
+fn put_code<W: Dest>(w: &mut W, written: &mut u64, function: &Function, size: u64)
+    requires size { size ≡ capped (length (code_contents function.now)) }
+    requires few { length (code_contents function.now) < 2 ^ 32 }
     ensures { Sent (code_bytes function.now) (W.has_failed w.old, W.contents w.old, written.old)
         (W.has_failed w.new, W.contents w.new, written.new) }
 {
-    put_number(w, written, CodeContents::len(function));
+    put_number(w, written, size);
     CodeContents::put(w, written, function);
 }
