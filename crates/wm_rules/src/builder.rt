@@ -167,11 +167,11 @@ impl Sink for Builder {
     // at any item
     ghost may_run_out = { λ h x. Unit {0} };
 
-    // Ops come many at once: inline, so that at each call it is known which op comes.
+    // Ops come many at once: inline, so that at each call it is known that one comes.
     #[inline(always)]
     fn take(&mut self, item: Item) -> Result<(), Why> {
         match item {
-            Item::Op(op) => self.take_op(op),
+            Item::Op(op) => self.take_op(&op),
             _ => self.take_other(item),
         }
     }
@@ -210,7 +210,7 @@ impl Builder {
             Item::ElemFunc(index) => add_element(&mut self.module_value.elements, index),
             Item::Body => self.begin_body(),
             Item::Locals(count, ty) => self.add_locals(count, ty),
-            Item::Op(op) => self.take_op(op),
+            Item::Op(op) => self.take_op(&op),
             Item::Segment(index) => self.expect(Purpose::Segment(index)),
             Item::DataBytes(bytes) => add_bytes(&mut self.module_value.segments, bytes),
         }
@@ -372,18 +372,20 @@ impl Builder {
         }
     }
 
-    #[inline(always)]
-    fn take_op(&mut self, op: Op) -> Result<(), Why>
-        ensures { Taken (op_taken op (built self.old) self.old.code) result (built self.new) }
+    // Out of line, so that the loop over ops stays as small as it has to be for the common ones to be inlined
+    // there. The op is lent: a copy would go through memory.
+    #[inline(never)]
+    fn take_op(&mut self, op: &Op) -> Result<(), Why>
+        ensures { Taken (op_taken op.now (built self.old) self.old.code) result (built self.new) }
     {
         let pushed = match &mut self.code {
             None => return Err(Why::Index),
-            Some(code) => code.body.push(op),
+            Some(code) => code.body.push(*op),
         };
         match pushed {
             Ok(()) => Ok(()),
             Err(BodyFault::Memory) => Err(Why::Memory),
-            Err(BodyFault::Unbalanced) => self.end_body(op),
+            Err(BodyFault::Unbalanced) => self.end_body(*op),
         }
     }
 
