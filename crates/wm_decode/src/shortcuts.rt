@@ -269,6 +269,10 @@ pub(crate) fn take_way<S: Sink>(
             }
         }
         Way::Ops => {
+            // what comes byte by byte goes the byte step's way at once
+            if bytes.len() == 1 {
+                return Shortcut::none();
+            }
             let taken = body(sink, machine, profile, bytes);
             if taken.used > 0 {
                 return taken;

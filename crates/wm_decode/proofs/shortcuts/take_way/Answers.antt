@@ -2,7 +2,7 @@ use Rattle.std.proofs.Common.{ℕ, List, None, ap, arith, refl}
 use Rattle.wm_decode.specs.declared.shortcuts.Shortcut.{Shortcut}
 use Rattle.wm_decode.proofs.Advances.{advances_later, advances_none}
 use Rattle.wm_decode.proofs.shortcuts.take_way.Goals as goal
-use Rattle.wm_decode.proofs.shortcuts.take_way.Goals.{in-Type+else-taken-gt0, in-Entry+else-taken-gt0-2, in-Runs+else-taken-gt0-3, in-Ops+else-taken-gt0-4, in-Short}
+use Rattle.wm_decode.proofs.shortcuts.take_way.Goals.{in-Type+else-taken-gt0, in-Entry+else-taken-gt0-2, in-Runs+else-taken-gt0-3, in-Ops+else-bytes-eq1+else-taken-gt0-4, in-Short}
 
 pub returns : goal.returns
 returns g c =
@@ -21,7 +21,7 @@ returns g c =
           let x = w.runs-taken in
           advances_later g.S.Sink.after g.S.Sink.may_run_out c.args.profile bytes c.args.machine.now x.new.machine c.match-way_of.machine c.short.new.machine (held c.args.sink.now) (held x.new.sink) (held c.match-way_of.sink) (held c.short.new.sink) x.result c.short.result
           x.ensures w.if-taken-gt0-3.false w.machine-is (ap held w.sink-is) c.short.ensures)
-      | in-Ops+else-taken-gt0-4 w ↦ (
+      | in-Ops+else-bytes-eq1+else-taken-gt0-4 w ↦ (
           let x = w.body-taken in
           advances_later g.S.Sink.after g.S.Sink.may_run_out c.args.profile bytes c.args.machine.now x.new.machine c.match-way_of.machine c.short.new.machine (held c.args.sink.now) (held x.new.sink) (held c.match-way_of.sink) (held c.short.new.sink) x.result c.short.result
           x.ensures w.if-taken-gt0-4.false w.machine-is (ap held w.sink-is) c.short.ensures)
