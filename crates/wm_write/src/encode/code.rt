@@ -107,7 +107,8 @@ fn runs_len(locals: &Locals) -> u64
     sum
 }
 
-/// Of so many bodies the sizes are kept from the counting to the writing, so that these are counted once.
+/// Of so many bodies the sizes are kept from the counting to the writing, so that these are counted once. They
+/// fill 4 KiB of the stack, which has to be small; the bodies of a module behind them are counted twice.
 pub(crate) const KEPT: usize = 1024;
 
 /// How many bytes the contents of the code section have; 2^64 - 1 where there are more. The sizes of the first
