@@ -1,8 +1,9 @@
 -- What is put on a line.
-use Rattle.std.proofs.Common.{◌≡◌, ℕ, zero, suc, ◌≤◌, Bool, true, List, [], ◌∷◌, ◌++◌, length, refl, ap, ◌∙◌, arith, get_or, Some}
+use Rattle.std.proofs.Common.{◌≡◌, ℕ, zero, suc, ◌≤◌, Bool, true, List, [], ◌∷◌, ◌++◌, length, refl, sym, ap, ◌∙◌, append_assoc, arith, get_or, Some}
 use Rattle.std.specs.Prelude.{nat_le}
 use Rattle.std.specs.List.{list_all}
 use Rattle.std.proofs.lemmas.Bool.Decides.{nat_tests}
+use Rattle.wm_syntax.specs.declared.instructions.Op.{Op}
 use Rattle.wm_syntax.specs.declared.instructions.Op.TheVariants as op
 use Rattle.wm_syntax.specs.declared.instructions.Simple.{Simple}
 use Rattle.wm_syntax.specs.declared.types.Const.{Const}
@@ -10,7 +11,7 @@ use Rattle.wm_syntax.specs.exact.NameTable.{names}
 use Rattle.wm_syntax.specs.Modules.{constant}
 use Rattle.wm_syntax.specs.Opcodes.{opcode}
 use Rattle.wm_syntax.specs.OpNames.{op_name}
-use Rattle.wm_write.specs.Layout.{const_words, immediate_words, spaced, words_text}
+use Rattle.wm_write.specs.Layout.{const_words, immediate_words, op_words, spaced, words_text}
 
 -- a name has at most nineteen bytes
 abbrev is_short : List ℕ → Bool
@@ -36,3 +37,13 @@ const_line c i name l0 l1 l2 l3 is named none space then rest =
     let e3 : l3 ≡ 32 ∷ (name ++ words_text (immediate_words i)) = rest ∙ ap (λ (z : List ℕ). z ++ words_text (immediate_words i)) e2 in
     let same : name ≡ (opcode i).1 = cc named in
     e3 ∙ (ap (λ (z : List ℕ). 32 ∷ (z ++ words_text (immediate_words i))) same ∙ ap (λ (z : Simple). words_text (spaced (opcode z).1 ∷ immediate_words z)) is)
+
+-- an op whose text is put behind a line
+pub op_line : (o p : Op) (line new text : List ℕ) → o ≡ p → new ≡ line ++ text → text ≡ words_text (op_words p) → new ≡ line ++ words_text (op_words o)
+op_line o p line new text same put e = put ∙ ap (λ (z : List ℕ). line ++ z) (e ∙ ap (λ (z : Op). words_text (op_words z)) (sym same))
+
+-- the same in two parts
+pub op_line_in_two : (o p : Op) (line then new name rest : List ℕ) → o ≡ p → then ≡ line ++ name → new ≡ then ++ rest → name ++ rest ≡ words_text (op_words p)
+    → new ≡ line ++ words_text (op_words o)
+op_line_in_two o p line then new name rest same one two e =
+    op_line o p line new (name ++ rest) same (two ∙ (ap (λ (z : List ℕ). z ++ rest) one ∙ append_assoc line name rest)) e

@@ -1,6 +1,7 @@
 //! Some bytes of output that are put together, and go out by one `put`.
 
 ghost use Rattle.std.specs.Prelude.{◌≡◌, ◌+◌, ◌<◌, ◌≤◌, [], ◌∷◌, ◌++◌, decimal, length};
+ghost use Rattle.std.specs.Fmt.{signed_decimal};
 
 use itoa::{Buffer, Integer};
 use std::marker::Model;
@@ -108,6 +109,20 @@ impl Batch {
             self.push_two(b'0' + (n / 10) as u8, b'0' + (n % 10) as u8);
         } else {
             self.push_digits(n);
+        }
+    }
+
+    /// Adds a constant behind some bytes; a small one goes a short way.
+    #[inline(always)]
+    pub(crate) fn push_constant(&mut self, front: &[u8], value: i32)
+        requires { length self.old + (length front.now + 11) ≤ 64 }
+        ensures text { self.new ≡ self.old ++ (front.now ++ signed_decimal value) }
+        ensures short { length self.new ≤ length self.old + (length front.now + 11) }
+    {
+        if value >= 0 && value < 100 {
+            self.push_index(front, value as u32);
+        } else {
+            self.push_counted(front, value);
         }
     }
 

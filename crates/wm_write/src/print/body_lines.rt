@@ -21,7 +21,7 @@ use crate::put::put_bytes;
 use wm_syntax::instructions::accesses::{loaded, stored};
 use wm_syntax::instructions::op_names::name_of;
 use wm_syntax::instructions::opcodes::first_byte;
-use wm_syntax::instructions::{MemArg, Op, Simple};
+use wm_syntax::instructions::{LoadOp, MemArg, Op, Simple, StoreOp};
 use wm_syntax::io::Dest;
 use wm_syntax::modules::locals::Locals;
 use wm_syntax::types::{Const, ValType};
@@ -163,8 +163,9 @@ fn push_operands(line: &mut Batch, op: &Op)
     }
 }
 
-// Adds an op, at most 60 bytes: an instruction on a line of its own, or a label. Those with the index of a
-// local are more than a third of all, and the name of each is copied with what stands around it.
+// Adds an op, at most 60 bytes: an instruction on a line of its own, or a label. The name of each of the most
+// common ones is copied with what stands around it, once it is known which op it is; of all others it is
+// looked up.
 #[inline(always)]
 fn push_line(line: &mut Batch, op: &Op)
     requires usual { IsTrue (is_printable op.now) }
@@ -172,9 +173,40 @@ fn push_line(line: &mut Batch, op: &Op)
     ensures { line.new ≡ line.old ++ words_text (op_words op.now) }
 {
     match op {
-        Op::Simple(Simple::LocalGet(index)) => line.push_index(b"\n    local.get ", *index),
-        Op::Simple(Simple::LocalSet(index)) => line.push_index(b"\n    local.set ", *index),
-        Op::Simple(Simple::LocalTee(index)) => line.push_index(b"\n    local.tee ", *index),
+        Op::Simple(simple) => push_instruction(line, op, simple),
+        Op::End => line.push(b"\n    end"),
+        Op::Block(None) => line.push(b"\n    block"),
+        Op::Loop(None) => line.push(b"\n    loop"),
+        _ => push_any_line(line, op),
+    }
+}
+
+// The same of an instruction that holds no other.
+#[inline(always)]
+fn push_instruction(line: &mut Batch, op: &Op, simple: &Simple)
+    requires simple { op.now ≡ Op.Simple simple.now }
+    requires usual { IsTrue (is_printable op.now) }
+    requires room { length line.old + 60 ≤ 64 }
+    ensures { line.new ≡ line.old ++ words_text (op_words op.now) }
+{
+    match simple {
+        Simple::LocalGet(index) => line.push_index(b"\n    local.get ", *index),
+        Simple::LocalSet(index) => line.push_index(b"\n    local.set ", *index),
+        Simple::LocalTee(index) => line.push_index(b"\n    local.tee ", *index),
+        Simple::GlobalGet(index) => line.push_index(b"\n    global.get $g", *index),
+        Simple::GlobalSet(index) => line.push_index(b"\n    global.set $g", *index),
+        Simple::Call(index) => line.push_index(b"\n    call $f", *index),
+        Simple::Br(label) => line.push_index(b"\n    br ", *label),
+        Simple::BrIf(label) => line.push_index(b"\n    br_if ", *label),
+        Simple::I32Const(value) => line.push_constant(b"\n    i32.const ", *value),
+        Simple::Load(load, at) if *load == LoadOp::I32Load => {
+            line.push(b"\n    i32.load");
+            push_access(line, 4, *at);
+        }
+        Simple::Store(store, at) if *store == StoreOp::I32Store => {
+            line.push(b"\n    i32.store");
+            push_access(line, 4, *at);
+        }
         _ => push_any_line(line, op),
     }
 }
