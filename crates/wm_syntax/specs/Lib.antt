@@ -1,4 +1,5 @@
 pub mod Instructions
+pub mod Lengths
 pub mod Leb128
 pub mod Modules
 pub mod OpClasses

@@ -6,6 +6,7 @@ ghost use Rattle.wm_syntax.specs.Opcodes.{float_type, int_type};
 use crate::types::ValType;
 
 pub mod accesses;
+pub mod lengths;
 pub mod op_class;
 pub mod op_names;
 pub mod opcodes;

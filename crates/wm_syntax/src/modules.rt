@@ -15,6 +15,7 @@ pub mod body_builder;
 pub mod equality;
 pub mod locals;
 pub mod ranges;
+mod sized_ops;
 
 /// What an import brings in (section 2.5.11). Of a function it is the index of its type.
 #[derive(Clone, Copy, PartialEq, Eq, Debug)]

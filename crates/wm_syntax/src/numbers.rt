@@ -10,6 +10,8 @@ ghost use Rattle.wm_syntax.specs.inner.Numbers.{SignedAfter, UnsignedAfter};
 
 use std::marker::Model;
 
+pub mod lengths;
+
 /// What a reader of a number answers to one byte.
 #[derive(Clone, Copy, PartialEq, Eq, Debug)]
 pub enum Step<T> {

@@ -1,16 +1,18 @@
 //! Bodies, as their ops.
 
-ghost use Rattle.std.specs.Prelude.{◌≡◌};
+ghost use Rattle.std.specs.Prelude.{◌≡◌, ◌-◌, ◌^◌, min};
 ghost use Rattle.wm_syntax.specs.Instructions.{ops_of};
+ghost use Rattle.wm_syntax.specs.Lengths.{ops_len};
 ghost use Rattle.wm_syntax.specs.inner.Building.{tree_of};
 
 use crate::instructions::Op;
+use crate::modules::sized_ops::SizedOps;
 use std::marker::Model;
 
 /// The body of a function.
 #[derive(Debug, Drop)]
 pub struct Body {
-    ops: Vec<Op>,
+    ops: SizedOps,
 }
 
 impl Model for Body {
@@ -23,16 +25,16 @@ impl Model for Body {
 
     ghost coded = { instructions_code };
 
-    ghost view = { λ b. tree_of b.ops.items };
+    ghost view = { λ b. tree_of b.ops };
 
-    ghost invariant = { λ b. b.ops.items ≡ ops_of (tree_of b.ops.items) };
+    ghost invariant = { λ b. b.ops ≡ ops_of (tree_of b.ops) };
 }
 
 impl Body {
     // The body with these ops.
-    pub(crate) fn from_ops(ops: Vec<Op>) -> Self
-        requires { ops.items ≡ ops_of (tree_of ops.items) }
-        ensures { result ≡ tree_of ops.items }
+    pub(crate) fn from_ops(ops: SizedOps) -> Self
+        requires { ops ≡ ops_of (tree_of ops) }
+        ensures { result ≡ tree_of ops }
     {
         Body { ops }
     }
@@ -41,7 +43,15 @@ impl Body {
     pub fn ops(&self) -> &[Op]
         ensures { result.now ≡ ops_of self.now }
     {
-        &self.ops
+        self.ops.as_slice()
+    }
+
+    /// How many bytes its ops have (section 5.4), where each number has the fewest; 2^64 - 1 where there are
+    /// more. It was counted while the body was built.
+    pub fn encoded_len(&self) -> u64
+        ensures { result ≡ min (ops_len (ops_of self.now)) (2 ^ 64 - 1) }
+    {
+        self.ops.len()
     }
 }
 

@@ -4,11 +4,14 @@ ghost use Rattle.std.specs.Prelude.{◌≡◌, ◌≢◌, ◌+◌, ◌++◌, ◌
 ghost use Rattle.std.specs.Prelude.{MatchResult, OnErr, OnOk, false, true};
 ghost use Rattle.wm_syntax.specs.inner.Building.{Place, at, placed, start};
 ghost use Rattle.wm_syntax.specs.Instructions.{Instructions};
+ghost use Rattle.wm_syntax.specs.Lengths.{op_len};
 ghost use Rattle.wm_syntax.specs.inner.Builders.{fits, fits_list, is_else, is_first, last_of, last_set};
 ghost use Rattle.wm_syntax.specs.inner.Builders.{next_left, next_open, next_ops};
 
 use crate::instructions::Op;
+use crate::instructions::lengths::op_len;
 use crate::modules::body::Body;
+use crate::modules::sized_ops::SizedOps;
 use std::alloc::Global;
 use std::error::Error;
 use std::fmt;
@@ -81,48 +84,48 @@ fn ends_in_else(ops: &[Op]) -> bool
 }
 
 #[inline(always)]
-fn push(ops: &mut Vec<Op>, op: Op) -> Result<(), BodyFault>
-    ensures ok { OnOk result (ops.new.items ≡ ops.old.items ++ op ∷ []) }
-    ensures err { IfErr result (λ fault. (fault ≡ BodyFault.Memory) × (ops.new.items ≡ ops.old.items)) }
+fn push(ops: &mut SizedOps, op: Op, len: u64) -> Result<(), BodyFault>
+    requires { len ≡ op_len op }
+    ensures ok { OnOk result (ops.new ≡ ops.old ++ op ∷ []) }
+    ensures err { IfErr result (λ fault. (fault ≡ BodyFault.Memory) × (ops.new ≡ ops.old)) }
 {
-    // in two steps, so that no refused op comes back through memory
-    if ops.reserve(1).is_err() {
-        return Err(BodyFault::Memory);
+    match ops.push(op, len) {
+        Ok(()) => Ok(()),
+        Err(_) => Err(BodyFault::Memory),
     }
-    ops.push_reserved(op);
-    Ok(())
 }
 
 // An end takes the place of an else right before it.
-fn push_end(ops: &mut Vec<Op>) -> Result<(), BodyFault>
-    ensures ok { OnOk result (ops.new.items ≡ next_ops Op.End ops.old.items) }
-    ensures err { IfErr result (λ fault. (fault ≡ BodyFault.Memory) × (ops.new.items ≡ ops.old.items)) }
+fn push_end(ops: &mut SizedOps) -> Result<(), BodyFault>
+    ensures ok { OnOk result (ops.new ≡ next_ops Op.End ops.old) }
+    ensures err { IfErr result (λ fault. (fault ≡ BodyFault.Memory) × (ops.new ≡ ops.old)) }
 {
-    if ends_in_else(ops) {
-        let last = ops.len() - 1;
-        ops[last] = Op::End;
+    if ends_in_else(ops.as_slice()) {
+        ops.end_else();
         Ok(())
     } else {
-        push(ops, Op::End)
+        push(ops, Op::End, 1)
     }
 }
 
 // An op that opens a list.
 fn push_open(
-    ops: &mut Vec<Op>,
+    ops: &mut SizedOps,
     begun: &mut Vec<Opened>,
     op: Op,
+    len: u64,
     opened: Opened,
 ) -> Result<(), BodyFault>
-    ensures ok { OnOk result ((ops.new.items ≡ ops.old.items ++ op ∷ [])
+    requires { len ≡ op_len op }
+    ensures ok { OnOk result ((ops.new ≡ ops.old ++ op ∷ [])
         × (begun.new.items ≡ begun.old.items ++ opened ∷ [])) }
-    ensures err { IfErr result (λ fault. (fault ≡ BodyFault.Memory) × (ops.new.items ≡ ops.old.items)
+    ensures err { IfErr result (λ fault. (fault ≡ BodyFault.Memory) × (ops.new ≡ ops.old)
         × (begun.new.items ≡ begun.old.items)) }
 {
     if begun.push(opened).is_err() {
         return Err(BodyFault::Memory);
     }
-    match push(ops, op) {
+    match push(ops, op, len) {
         Ok(()) => Ok(()),
         Err(fault) => {
             begun.pop();
@@ -135,35 +138,39 @@ fn push_open(
 // a short way, inline, so that at each call it is known which op comes.
 #[inline(always)]
 fn push_op(
-    ops: &mut Vec<Op>,
+    ops: &mut SizedOps,
     begun: &mut Vec<Opened>,
     left: &mut u64,
     op: Op,
+    len: u64,
 ) -> Result<(), BodyFault>
-    ensures ok { OnOk result ((ops.new.items ≡ next_ops op ops.old.items)
+    requires { len ≡ op_len op }
+    ensures ok { OnOk result ((ops.new ≡ next_ops op ops.old)
         × (begun.new.items ≡ next_open op begun.old.items) × (left.new ≡ next_left op left.old)) }
-    ensures err { OnErr result ((ops.new.items ≡ ops.old.items) × (begun.new.items ≡ begun.old.items)
+    ensures err { OnErr result ((ops.new ≡ ops.old) × (begun.new.items ≡ begun.old.items)
         × (left.new ≡ left.old)) }
     ensures fits { fits begun.old.items left.old op ≡ true → result ≢ Err BodyFault.Unbalanced }
     ensures unbalanced { fits begun.old.items left.old op ≡ false → result ≡ Err BodyFault.Unbalanced }
 {
     match op {
-        Op::Simple(_) if *left == 0 => push(ops, op),
-        _ => push_any(ops, begun, left, op),
+        Op::Simple(_) if *left == 0 => push(ops, op, len),
+        _ => push_any(ops, begun, left, op, len),
     }
 }
 
 // The same, out of line: for any op.
 #[inline(never)]
 fn push_any(
-    ops: &mut Vec<Op>,
+    ops: &mut SizedOps,
     begun: &mut Vec<Opened>,
     left: &mut u64,
     op: Op,
+    len: u64,
 ) -> Result<(), BodyFault>
-    ensures ok { OnOk result ((ops.new.items ≡ next_ops op ops.old.items)
+    requires { len ≡ op_len op }
+    ensures ok { OnOk result ((ops.new ≡ next_ops op ops.old)
         × (begun.new.items ≡ next_open op begun.old.items) × (left.new ≡ next_left op left.old)) }
-    ensures err { OnErr result ((ops.new.items ≡ ops.old.items) × (begun.new.items ≡ begun.old.items)
+    ensures err { OnErr result ((ops.new ≡ ops.old) × (begun.new.items ≡ begun.old.items)
         × (left.new ≡ left.old)) }
     ensures fits { fits begun.old.items left.old op ≡ true → result ≢ Err BodyFault.Unbalanced }
     ensures unbalanced { fits begun.old.items left.old op ≡ false → result ≡ Err BodyFault.Unbalanced }
@@ -172,11 +179,11 @@ fn push_any(
         return Err(BodyFault::Unbalanced);
     }
     match op {
-        Op::Simple(_) => push(ops, op),
-        Op::Block(_) | Op::Loop(_) => push_open(ops, begun, op, Opened::List),
-        Op::If(_) => push_open(ops, begun, op, Opened::First),
+        Op::Simple(_) => push(ops, op, len),
+        Op::Block(_) | Op::Loop(_) => push_open(ops, begun, op, len, Opened::List),
+        Op::If(_) => push_open(ops, begun, op, len, Opened::First),
         Op::Else => {
-            push(ops, op)?;
+            push(ops, op, len)?;
             let last = begun.len() - 1;
             begun[last] = Opened::Second;
             Ok(())
@@ -187,12 +194,12 @@ fn push_any(
             Ok(())
         }
         Op::BrTable(count) => {
-            push(ops, op)?;
+            push(ops, op, len)?;
             *left = u64::from(count) + 1;
             Ok(())
         }
         Op::Label(_) => {
-            push(ops, op)?;
+            push(ops, op, len)?;
             *left -= 1;
             Ok(())
         }
@@ -203,7 +210,7 @@ fn push_any(
 /// `ops_lead_on` say which ops lead where.
 #[derive(Debug, Drop)]
 pub struct BodyBuilder {
-    ops: Vec<Op>,
+    ops: SizedOps,
     // how the lists that are open were opened
     begun: Vec<Opened>,
     // how many labels of a br_table are still to come
@@ -219,9 +226,9 @@ impl Model for BodyBuilder {
 
     ghost coded = { place_code };
 
-    ghost view = { λ b. place_in b.ops.items };
+    ghost view = { λ b. place_in b.ops };
 
-    ghost invariant = { λ b. Keeps b.ops.items b.begun.items b.left (place_in b.ops.items) };
+    ghost invariant = { λ b. Keeps b.ops b.begun.items b.left (place_in b.ops) };
 }
 
 impl BodyBuilder {
@@ -230,7 +237,7 @@ impl BodyBuilder {
         ensures { result ≡ start }
     {
         BodyBuilder {
-            ops: Vec::new(alloc),
+            ops: SizedOps::new(alloc),
             begun: Vec::new(alloc),
             left: 0,
         }
@@ -244,7 +251,19 @@ impl BodyBuilder {
         ensures stands { (p : Place) → placed self.old op ≡ Some p → result ≢ Err BodyFault.Unbalanced }
         ensures unbalanced { placed self.old op ≡ None → result ≡ Err BodyFault.Unbalanced }
     {
-        push_op(&mut self.ops, &mut self.begun, &mut self.left, op)
+        self.push_with_len(op, op_len(&op))
+    }
+
+    /// The same of an op of which the caller knows how many bytes it has.
+    #[inline(always)]
+    pub fn push_with_len(&mut self, op: Op, len: u64) -> Result<(), BodyFault>
+        requires { len ≡ op_len op }
+        ensures ok { OnOk result (placed self.old op ≡ Some self.new) }
+        ensures err { OnErr result (self.new ≡ self.old) }
+        ensures stands { (p : Place) → placed self.old op ≡ Some p → result ≢ Err BodyFault.Unbalanced }
+        ensures unbalanced { placed self.old op ≡ None → result ≡ Err BodyFault.Unbalanced }
+    {
+        push_op(&mut self.ops, &mut self.begun, &mut self.left, op, len)
     }
 
     /// The body, where all that was opened has ended.

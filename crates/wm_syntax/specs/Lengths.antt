@@ -1,0 +1,52 @@
+-- How many bytes an op has (section 5.4), where its numbers are spelled in the fewest (section 5.2.2).
+use Rattle.std.specs.Prelude.{ℕ, ◌+◌, List, length}
+use Rattle.std.specs.List.{sum_by}
+use Rattle.wm_syntax.specs.Leb128.{signed_bytes, unsigned_bytes}
+use Rattle.wm_syntax.specs.declared.instructions.Op.{Op}
+use Rattle.wm_syntax.specs.declared.instructions.Op.TheVariants as op
+use Rattle.wm_syntax.specs.declared.instructions.Simple.{Simple}
+use Rattle.wm_syntax.specs.declared.instructions.Simple.TheVariants.{Br, BrIf, Call, CallIndirect, LocalGet}
+use Rattle.wm_syntax.specs.declared.instructions.Simple.TheVariants.{LocalSet, LocalTee, GlobalGet, GlobalSet}
+use Rattle.wm_syntax.specs.declared.instructions.Simple.TheVariants.{MemorySize, MemoryGrow, I32Const}
+use Rattle.wm_syntax.specs.declared.instructions.Simple.TheVariants.{I64Const, F32Const, F64Const}
+use Rattle.wm_syntax.specs.declared.instructions.Simple.TheVariants.{Load, Store}
+
+-- a u32
+abbrev pub index_len : ℕ → ℕ
+index_len n = length (unsigned_bytes 5 n)
+
+-- what follows the byte of an instruction (sections 5.4.1 to 5.4.5)
+abbrev pub immediates_len : Simple → ℕ
+immediates_len (Br l) = index_len l
+immediates_len (BrIf l) = index_len l
+immediates_len (Call x) = index_len x
+immediates_len (CallIndirect x) = index_len x + 1
+immediates_len (LocalGet x) = index_len x
+immediates_len (LocalSet x) = index_len x
+immediates_len (LocalTee x) = index_len x
+immediates_len (GlobalGet x) = index_len x
+immediates_len (GlobalSet x) = index_len x
+immediates_len MemorySize = 1
+immediates_len MemoryGrow = 1
+immediates_len (I32Const n) = length (signed_bytes 5 n)
+immediates_len (I64Const n) = length (signed_bytes 10 n)
+immediates_len (F32Const n) = 4
+immediates_len (F64Const n) = 8
+immediates_len (Load o at) = index_len at.align + index_len at.offset
+immediates_len (Store o at) = index_len at.align + index_len at.offset
+immediates_len _ = 0
+
+-- one op: its byte and what follows; a block, a loop or an if has the byte of its type behind it
+abbrev pub op_len : Op → ℕ
+op_len (op.Simple i) = 1 + immediates_len i
+op_len (op.Block t) = 2
+op_len (op.Loop t) = 2
+op_len (op.If t) = 2
+op_len op.Else = 1
+op_len op.End = 1
+op_len (op.BrTable n) = 1 + index_len n
+op_len (op.Label l) = index_len l
+
+-- ops, joined
+abbrev pub ops_len : List Op → ℕ
+ops_len ops = sum_by op_len ops

@@ -1,0 +1,112 @@
+//! Ops that are held with their length (section 5.4), so that it need not be counted before they are written.
+
+ghost use Rattle.std.specs.Prelude.{◌≡◌, ◌++◌, ◌∷◌, ◌-◌, ◌^◌, [], Some, OnErr, OnOk, min};
+ghost use Rattle.wm_syntax.specs.Lengths.{op_len, ops_len};
+ghost use Rattle.wm_syntax.specs.declared.instructions.Op.TheVariants.{Else, End};
+ghost use Rattle.wm_syntax.specs.inner.Builders.{last_of, last_set};
+
+use crate::instructions::Op;
+use std::alloc::{AllocError, Global};
+use std::fmt;
+use std::marker::Model;
+
+/// Ops, and how many bytes they have; 2^64 - 1 where there are more.
+#[derive(Drop)]
+pub(crate) struct SizedOps {
+    ops: Vec<Op>,
+    len: u64,
+}
+
+impl Model for SizedOps {
+    ghost use Rattle.std.specs.Prelude.{List, ◌≡◌, ◌-◌, ◌^◌, min};
+    ghost use Rattle.wm_syntax.specs.Lengths.{ops_len};
+    ghost use Rattle.wm_syntax.specs.declared.instructions.Op.{Op as OpValue};
+    ghost use Rattle.wm_syntax.specs.inner.Codes.{ops_code};
+
+    ghost Value = { List OpValue };
+
+    ghost coded = { ops_code };
+
+    ghost view = { λ o. o.ops.items };
+
+    ghost invariant = { λ o. o.len ≡ min (ops_len o.ops.items) (2 ^ 64 - 1) };
+}
+
+// The length is told by the ops.
+impl fmt::Debug for SizedOps {
+    fn fmt<W: fmt::Write>(&self, f: &mut fmt::Formatter<W>) -> fmt::Result {
+        fmt::Debug::fmt(&self.ops, f)
+    }
+}
+
+impl SizedOps {
+    /// No ops yet.
+    pub(crate) fn new(alloc: Global) -> Self
+        ensures { result ≡ [] }
+    {
+        SizedOps {
+            ops: Vec::new(alloc),
+            len: 0,
+        }
+    }
+
+    pub(crate) fn as_slice(&self) -> &[Op]
+        ensures { result.now ≡ self.now }
+    {
+        &self.ops
+    }
+
+    /// How many bytes they have; 2^64 - 1 where there are more.
+    pub(crate) fn len(&self) -> u64
+        ensures { result ≡ min (ops_len self.now) (2 ^ 64 - 1) }
+    {
+        self.len
+    }
+
+    /// Adds an op, which has so many bytes.
+    #[inline(always)]
+    pub(crate) fn push(&mut self, op: Op, len: u64) -> Result<(), AllocError>
+        requires { len ≡ op_len op }
+        ensures ok { OnOk result (self.new ≡ self.old ++ op ∷ []) }
+        ensures err { OnErr result (self.new ≡ self.old) }
+    {
+        // in two steps, so that no refused op comes back through memory
+        self.ops.reserve(1)?;
+        self.ops.push_reserved(op);
+        self.len = self.len.saturating_add(len);
+        Ok(())
+    }
+
+    /// An end takes the place of an else, which is the last op and has as many bytes.
+    pub(crate) fn end_else(&mut self)
+        requires { last_of self.old ≡ Some Else }
+        ensures { self.new ≡ last_set End self.old }
+    {
+        let last = self.ops.len() - 1;
+        self.ops[last] = Op::End;
+    }
+
+    /// Gives back memory that no op fills.
+    pub(crate) fn shrink_to_fit(&mut self)
+        ensures { self.new ≡ self.old }
+    {
+        self.ops.shrink_to_fit();
+    }
+
+    #[cfg(test)]
+    pub(crate) fn capacity(&self) -> usize {
+        self.ops.capacity()
+    }
+}
+
+#[cfg(test)]
+mod tests {
+    use super::*;
+
+    /// A further field has to be named here.
+    #[test]
+    fn sized_ops_have_these_fields(rt: HostRuntime) {
+        let SizedOps { ops, len } = SizedOps::new(rt.alloc());
+        assert!(rt; ops.capacity() == 0 && len == 0);
+    }
+}
