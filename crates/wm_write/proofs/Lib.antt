@@ -1,5 +1,4 @@
 pub mod Writes
-pub mod Lengths
 pub mod FloatPieces
 pub mod PrintedWords
 pub mod Lines
@@ -8,7 +7,7 @@ pub mod PrintedModules
 pub mod SectionLemmas
 pub mod CanonSpells
 pub mod Ranges
-pub mod KeptSizes
 pub mod LeastRuns
+pub mod OpLengths
 pub mod Shortest
 pub mod RoundTrip

@@ -145,15 +145,6 @@ module _ {X : Type 0} (f : X → List ℕ) where
       each_more xs i x (slice_get_within xs i x is) ∙ ap (λ y. flat_map f (take i xs) ++ f y) (get_or_from_slice_get xs i x x is) in
       omega (arith, ap length e, length-append (flat_map f (take i xs)) (f x), counts, before, add)
 
-  -- the same, where that number is capped
-  pub len_more : (front : ℕ) (xs : List X) (i : ℕ) (x : X) (n sum now : ℕ)
-      → slice_get xs i ≡ Some x → n ≡ capped (length (f x)) → sum ≡ capped (front + length (flat_map f (take i xs))) → now ≡ capped (sum + n)
-      → now ≡ capped (front + length (flat_map f (take (i + 1) xs)))
-  len_more front xs i x n sum now is counts before add =
-      let e : flat_map f (take (i + 1) xs) ≡ flat_map f (take i xs) ++ f x =
-      each_more xs i x (slice_get_within xs i x is) ∙ ap (λ y. flat_map f (take i xs) ++ f y) (get_or_from_slice_get xs i x x is) in
-      omega (arith, ap length e, length-append (flat_map f (take i xs)) (f x), counts, before, add)
-
   -- a member is no longer than all of them
   pub member_less : (xs : List X) (i : ℕ) (x : X) → i < length xs → x ≡ get_or xs i x → length (f x) ≤ length (flat_map f xs)
   member_less [] i x h is = absurd (omega (arith, h))

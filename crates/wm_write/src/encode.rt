@@ -4,10 +4,9 @@ ghost use Rattle.std.specs.Prelude.{◌≡◌, ◌≤◌, ◌↔◌, ℕ, Err, I
 ghost use Rattle.std.specs.Io.KnownBytes.{Appends};
 ghost use Rattle.wm_syntax.specs.Values.{value_of};
 ghost use Rattle.wm_write.specs.Canon.{Fits, canon};
-ghost use Rattle.wm_write.specs.exact.Measures.{AreSizes, Measures};
+ghost use Rattle.wm_write.specs.exact.Measures.{Measures};
 ghost use Rattle.wm_write.specs.exact.Writing.{Sent};
 
-use crate::encode::code::KEPT;
 use crate::encode::parts::{
     ElementEntry, ExportEntry, FunctionEntry, GlobalEntry, ImportEntry, MemoryEntry, SegmentEntry,
     TableEntry, TypeEntry,
@@ -51,12 +50,11 @@ pub fn encode<W: Dest>(m: &Module, w: &mut W) -> Result<u64, WriteFault>
     ensures untouched { result ≡ Err WriteFault.TooLarge → w.new ≡ w.old }
     ensures failed { ((n : ℕ) × (result ≡ Err (WriteFault.Io n))) ↔ (W.has_failed w.new ≡ true) }
 {
-    let mut kept = [0; KEPT];
-    let Some(sizes) = Sizes::of(m, &mut kept) else {
+    let Some(sizes) = Sizes::of(m) else {
         return Err(WriteFault::TooLarge);
     };
     let mut written = 0;
-    put_module(w, &mut written, m, &sizes, &kept);
+    put_module(w, &mut written, m, &sizes);
     if w.failed() {
         Err(WriteFault::Io { written })
     } else {
@@ -64,10 +62,9 @@ pub fn encode<W: Dest>(m: &Module, w: &mut W) -> Result<u64, WriteFault>
     }
 }
 
-// Writes a module by the sizes of its sections and of its first code entries.
-fn put_module<W: Dest>(w: &mut W, written: &mut u64, m: &Module, sizes: &Sizes, kept: &[u32])
+// Writes a module by the sizes of its sections.
+fn put_module<W: Dest>(w: &mut W, written: &mut u64, m: &Module, sizes: &Sizes)
     requires measured { Measures sizes.now (value_of m.now) }
-    requires kept { AreSizes (value_of m.now).functions kept.now }
     requires fits { Fits (value_of m.now) }
     ensures { Sent (canon (value_of m.now)) (W.has_failed w.old, W.contents w.old, written.old)
         (W.has_failed w.new, W.contents w.new, written.new) }
@@ -82,6 +79,6 @@ fn put_module<W: Dest>(w: &mut W, written: &mut u64, m: &Module, sizes: &Sizes, 
     put_section::<ExportEntry, W>(w, written, 7, sizes.exports, &m.exports);
     put_start_section(w, written, m.start);
     put_section::<ElementEntry, W>(w, written, 9, sizes.elements, &m.elements);
-    put_code_section(w, written, sizes.codes, &m.functions, kept);
+    put_code_section(w, written, sizes.codes, &m.functions);
     put_section::<SegmentEntry, W>(w, written, 11, sizes.segments, &m.segments);
 }

@@ -4,9 +4,9 @@ ghost use Rattle.std.specs.Prelude.{◌≡◌, List, flat_map, length, ℕ};
 ghost use Rattle.wm_write.specs.Canon.{listed, sized, u32_bytes};
 ghost use Rattle.wm_write.specs.exact.Writing.{Sent, capped};
 
-use crate::encode::lengths::number_len;
 use crate::encode::spell::number;
 use wm_syntax::io::{Dest, put_all};
+use wm_syntax::numbers::lengths::number_len;
 
 /// A part of a module, in one of its forms.
 pub(crate) trait Part {

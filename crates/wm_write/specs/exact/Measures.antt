@@ -1,8 +1,8 @@
 -- How many bytes the contents of sections have.
-use Rattle.std.specs.Prelude.{ℕ, ◌≡◌, ◌-◌, ◌^◌, ◌<◌, min, List, Some, length, slice_get, slice_index}
-use Rattle.wm_syntax.specs.Modules.{Function, Module}
+use Rattle.std.specs.Prelude.{◌≡◌, length}
+use Rattle.wm_syntax.specs.Modules.{Module}
 use Rattle.wm_write.specs.declared.encode.sizes.Sizes.{Sizes}
-use Rattle.wm_write.specs.Canon.{code_bytes, code_contents, element_bytes, export_bytes, global_bytes, import_bytes}
+use Rattle.wm_write.specs.Canon.{code_bytes, element_bytes, export_bytes, global_bytes, import_bytes}
 use Rattle.wm_write.specs.Canon.{limits_bytes, listed, segment_bytes, signature_bytes, table_bytes, u32_bytes}
 
 pub record Measures (s : Sizes) (m : Module) : Type 0 where
@@ -16,8 +16,3 @@ pub record Measures (s : Sizes) (m : Module) : Type 0 where
   pub elements : s.elements ≡ length (listed element_bytes m.elements)
   pub codes : s.codes ≡ length (listed code_bytes m.functions)
   pub segments : s.segments ≡ length (listed segment_bytes m.segments)
-
--- these are the sizes of the contents of the first code entries; of one that can't be spelled it is 2^32 - 1
-abbrev pub AreSizes : List Function → List ℕ → Type 0
-AreSizes fs kept = (i : ℕ) (f : Function) → slice_get fs i ≡ Some f → i < length kept
-    → slice_index kept i ≡ min (length (code_contents f)) (2 ^ 32 - 1)

@@ -1,7 +1,7 @@
 //! The parts of a module in bytes (section 5.5).
 
 use crate::batch::Batch;
-use crate::encode::lengths::{constant_len, desc_len, limits_len, number_len};
+use crate::encode::lengths::{constant_len, desc_len, limits_len};
 use crate::encode::spell::{
     instruction_of, one, push_global_type, push_limits, push_op, spell_desc, spell_item, value_byte,
 };
@@ -10,6 +10,7 @@ use wm_syntax::chunk::Chunk;
 use wm_syntax::instructions::Op;
 use wm_syntax::io::Dest;
 use wm_syntax::modules::{Element, Export, Function, GlobalDef, Import, Segment};
+use wm_syntax::numbers::lengths::number_len;
 use wm_syntax::types::{Const, FuncType, Limits, ValType};
 
 /// A value type (section 5.3.1).

@@ -2,7 +2,6 @@
 
 ghost use Rattle.std.specs.Prelude.{◌≡◌, ◌<◌, ◌^◌, ◌∷◌, length};
 ghost use Rattle.wm_write.specs.Canon.{code_bytes, list_section, listed, start_section, u32_bytes};
-ghost use Rattle.wm_write.specs.exact.Measures.{AreSizes};
 ghost use Rattle.wm_write.specs.exact.Writing.{Sent};
 
 use crate::encode::code::put_codes;
@@ -30,18 +29,15 @@ pub(crate) fn put_section<P: Part, W: Dest>(
     put_list::<P, W>(w, written, values);
 }
 
-/// Writes the code section (section 5.5.13), unless there are no functions. The sizes of its first entries are
-/// kept.
+/// Writes the code section (section 5.5.13), unless there are no functions.
 pub(crate) fn put_code_section<W: Dest>(
     w: &mut W,
     written: &mut u64,
     size: u64,
     functions: &[Function],
-    kept: &[u32],
 )
     requires size { size ≡ length (listed code_bytes functions.now) }
     requires few { size < 2 ^ 32 }
-    requires kept { AreSizes functions.now kept.now }
     ensures { Sent (list_section 10 code_bytes functions.now)
         (W.has_failed w.old, W.contents w.old, written.old)
         (W.has_failed w.new, W.contents w.new, written.new) }
@@ -50,7 +46,7 @@ pub(crate) fn put_code_section<W: Dest>(
         return;
     }
     put_head(w, written, 10, size);
-    put_codes(w, written, functions, kept);
+    put_codes(w, written, functions);
 }
 
 /// Writes the start section (section 5.5.11), unless there is no start function.

@@ -3,7 +3,6 @@
 ghost use Rattle.std.specs.Prelude.{◌<◌, ◌^◌, ◌↔◌, IfSome, IsSome, IsTrue};
 ghost use Rattle.wm_syntax.specs.Values.{value_of};
 ghost use Rattle.wm_write.specs.Canon.{Fits};
-ghost use Rattle.wm_write.specs.exact.Measures.{AreSizes};
 
 use crate::encode::code::codes_len;
 use crate::encode::parts::{
@@ -31,12 +30,10 @@ pub(crate) struct Sizes {
 impl Sizes {
     ghost use Rattle.wm_write.specs.exact.Measures.{Measures};
 
-    /// The sizes of a module's sections, None where one cannot be spelled. Those of the first code entries are
-    /// kept, as many as there is room for.
-    pub(crate) fn of(m: &Module, kept: &mut [u32]) -> Option<Self>
+    /// The sizes of a module's sections, None where one cannot be spelled.
+    pub(crate) fn of(m: &Module) -> Option<Self>
         ensures fits { IsSome result ↔ Fits (value_of m.now) }
         ensures measured { IfSome result (λ s. Measures s (value_of m.now)) }
-        ensures kept { AreSizes (value_of m.now).functions kept.new }
     {
         let sizes = Sizes {
             types: list_len::<TypeEntry>(&m.types),
@@ -47,7 +44,7 @@ impl Sizes {
             globals: list_len::<GlobalEntry>(&m.globals),
             exports: list_len::<ExportEntry>(&m.exports),
             elements: list_len::<ElementEntry>(&m.elements),
-            codes: codes_len(&m.functions, kept),
+            codes: codes_len(&m.functions),
             segments: list_len::<SegmentEntry>(&m.segments),
         };
         if sizes.fit() { Some(sizes) } else { None }

@@ -1,12 +1,8 @@
 use Rattle.std.proofs.Common.{◌≡◌, ◌+◌, length, take, flat_map}
 use Rattle.wm_write.specs.Canon.{code_bytes, u32_bytes}
 use Rattle.wm_write.specs.exact.Writing.{capped}
-use Rattle.wm_write.proofs.KeptSizes.{KeptTo}
 use Rattle.wm_write.proofs.encode.code.codes_len.Given as goal
 
--- the bytes of the count and of the functions so far, and the sizes of those that are kept
-abbrev pub invariant-loop-index : goal.invariant-loop-index
-invariant-loop-index l = record {
-  sum : l.sum ≡ capped (length (u32_bytes (length l.functions)) + length (flat_map code_bytes (take l.index l.functions)));
-  kept : KeptTo l.index l.functions l.kept;
-}
+-- the bytes of the count and of the functions so far
+abbrev pub invariant-loop-function : goal.invariant-loop-function
+invariant-loop-function l = l.sum ≡ capped (length (u32_bytes (length l.functions)) + length (flat_map code_bytes (take l.function-index l.functions)))

@@ -2,4 +2,4 @@ use Rattle.wm_write.proofs.Writes.{sent_sized}
 use Rattle.wm_write.proofs.encode.code.put_code.Goals as goal
 
 pub returns : goal.returns
-returns g c = sent_sized c.args.size _ _ _ _ c.requires.size c.requires.few c.put_number.ensures c.put.ensures
+returns g c = sent_sized c.len.result _ _ _ _ c.len.ensures c.requires c.put_number.ensures c.put.ensures
