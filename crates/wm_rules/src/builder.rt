@@ -373,9 +373,22 @@ impl Builder {
     }
 
     // Out of line, so that the loop over ops stays as small as it has to be for the common ones to be inlined
-    // there. The op is lent: a copy would go through memory.
+    // there. The op is lent: a copy would go through memory. Most ops are taken at once.
     #[inline(never)]
     fn take_op(&mut self, op: &Op) -> Result<(), Why>
+        ensures { Taken (op_taken op.now (built self.old) self.old.code) result (built self.new) }
+    {
+        if let Some(code) = &mut self.code {
+            if code.body.push_near(op) {
+                return Ok(());
+            }
+        }
+        self.take_any_op(op)
+    }
+
+    // The same of any op.
+    #[inline(never)]
+    fn take_any_op(&mut self, op: &Op) -> Result<(), Why>
         ensures { Taken (op_taken op.now (built self.old) self.old.code) result (built self.new) }
     {
         let pushed = match &mut self.code {

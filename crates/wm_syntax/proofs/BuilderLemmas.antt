@@ -256,6 +256,25 @@ outcome (Ok u) ops ops' begun begun' left left' p o k ok err un = go (placed p o
     go None is = absurd (cc (un (keeps_fits ops begun left p o k ∙ ap is_some is)))
     go (Some q) is = record { place = q; keeps = rw (ok.0, ok.1, ok.2) (keeps_next ops begun left p q o k is); taken = is; refused = tt }
 
+-- What a push leaves that takes an op at once, or leaves it.
+pub record NearOutcome (taken_now : Bool) (ops : List Op) (begun : List Opened) (left : ℕ) (p : Place) (o : Op) : Type 0 where
+  pub place : Place
+  pub keeps : Keeps ops begun left place
+  pub taken : taken_now ≡ true → placed p o ≡ Some place
+  pub left_there : taken_now ≡ false → place ≡ p
+
+pub near_outcome : (b : Bool) (ops ops' : List Op) (begun : List Opened) (left : ℕ) (p : Place) (o : Op) → Keeps ops begun left p → (b ≡ true → ops' ≡ next_ops o ops)
+    → (b ≡ true → (begun : List Opened) → next_open o begun ≡ begun) → (b ≡ true → next_left o left ≡ left)
+    → (b ≡ true → (begun : List Opened) → fits begun left o ≡ true) → (b ≡ false → ops' ≡ ops) → NearOutcome b ops' begun left p o
+near_outcome true ops ops' begun left p o k next opens none_left fit still_there =
+    let x : Outcome (Ok (tt {0})) ops' begun left p o =
+    outcome (Ok (tt {0})) ops ops' begun begun left left p o k (next refl, sym (opens refl begun), sym (none_left refl)) tt
+    (λ e. absurd (not_both _ (fit refl begun) e)) in
+    record { place = x.place; keeps = x.keeps; taken = λ _. x.taken; left_there = λ e. absurd (cc e) }
+near_outcome false ops ops' begun left p o k next opens none_left fit still_there =
+    let same : ops' ≡ ops = still_there refl in
+    record { place = p; keeps = rw same k; taken = λ e. absurd (cc e); left_there = λ _. refl }
+
 -- which refusal comes when
 pub stands : (r : Result (Unit {0}) BodyFault) (ops : List Op) (begun : List Opened) (left : ℕ) (p q : Place) (o : Op) → Keeps ops begun left p
     → (fits begun left o ≡ true → r ≢ Err fault.Unbalanced) → placed p o ≡ Some q → r ≢ Err fault.Unbalanced

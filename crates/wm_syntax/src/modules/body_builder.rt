@@ -1,7 +1,7 @@
 //! Bodies, built op by op.
 
 ghost use Rattle.std.specs.Prelude.{◌≡◌, ◌≢◌, ◌+◌, ◌++◌, ◌∷◌, [], None, Some, Ok, Err, IfErr, IfOk};
-ghost use Rattle.std.specs.Prelude.{MatchResult, OnErr, OnOk, false, true};
+ghost use Rattle.std.specs.Prelude.{List, MatchResult, OnErr, OnOk, false, true};
 ghost use Rattle.wm_syntax.specs.inner.Building.{Place, at, placed, start};
 ghost use Rattle.wm_syntax.specs.Instructions.{Instructions};
 ghost use Rattle.wm_syntax.specs.Lengths.{op_len};
@@ -158,6 +158,22 @@ fn push_op(
     }
 }
 
+// An instruction that holds no list, outside of a br_table, where there is room for it. The op is lent: a copy
+// would go through memory.
+#[inline(always)]
+fn push_near(ops: &mut SizedOps, left: u64, op: &Op) -> bool
+    ensures ops { result ≡ true → ops.new ≡ next_ops op.now ops.old }
+    ensures begun { result ≡ true → (begun : List Opened) → next_open op.now begun ≡ begun }
+    ensures labels { result ≡ true → next_left op.now left ≡ left }
+    ensures fits { result ≡ true → (begun : List Opened) → fits begun left op.now ≡ true }
+    ensures left { result ≡ false → ops.new ≡ ops.old }
+{
+    match op {
+        Op::Simple(_) => left == 0 && ops.push_near(op, op_len(op)),
+        _ => false,
+    }
+}
+
 // The same, out of line: for any op.
 #[inline(never)]
 fn push_any(
@@ -251,19 +267,23 @@ impl BodyBuilder {
         ensures stands { (p : Place) → placed self.old op ≡ Some p → result ≢ Err BodyFault.Unbalanced }
         ensures unbalanced { placed self.old op ≡ None → result ≡ Err BodyFault.Unbalanced }
     {
-        self.push_with_len(op, op_len(&op))
+        push_op(
+            &mut self.ops,
+            &mut self.begun,
+            &mut self.left,
+            op,
+            op_len(&op),
+        )
     }
 
-    /// The same of an op of which the caller knows how many bytes it has.
+    /// The same of an instruction that holds no list, lent, where no label of a br_table is to come and no memory
+    /// has to be asked for. Else it is false, and nothing changes.
     #[inline(always)]
-    pub fn push_with_len(&mut self, op: Op, len: u64) -> Result<(), BodyFault>
-        requires { len ≡ op_len op }
-        ensures ok { OnOk result (placed self.old op ≡ Some self.new) }
-        ensures err { OnErr result (self.new ≡ self.old) }
-        ensures stands { (p : Place) → placed self.old op ≡ Some p → result ≢ Err BodyFault.Unbalanced }
-        ensures unbalanced { placed self.old op ≡ None → result ≡ Err BodyFault.Unbalanced }
+    pub fn push_near(&mut self, op: &Op) -> bool
+        ensures taken { result ≡ true → placed self.old op.now ≡ Some self.new }
+        ensures left { result ≡ false → self.new ≡ self.old }
     {
-        push_op(&mut self.ops, &mut self.begun, &mut self.left, op, len)
+        push_near(&mut self.ops, self.left, op)
     }
 
     /// The body, where all that was opened has ended.

@@ -1,6 +1,6 @@
 //! Ops that are held with their length (section 5.4), so that it need not be counted before they are written.
 
-ghost use Rattle.std.specs.Prelude.{◌≡◌, ◌++◌, ◌∷◌, ◌-◌, ◌^◌, [], Some, OnErr, OnOk, min};
+ghost use Rattle.std.specs.Prelude.{◌≡◌, ◌++◌, ◌∷◌, ◌-◌, ◌^◌, [], Some, OnErr, OnOk, false, min, true};
 ghost use Rattle.wm_syntax.specs.Lengths.{op_len, ops_len};
 ghost use Rattle.wm_syntax.specs.declared.instructions.Op.TheVariants.{Else, End};
 ghost use Rattle.wm_syntax.specs.inner.Builders.{last_of, last_set};
@@ -75,6 +75,21 @@ impl SizedOps {
         self.ops.push_reserved(op);
         self.len = self.len.saturating_add(len);
         Ok(())
+    }
+
+    /// The same of an op that is lent, where there is room for it. Else it is false, and nothing changes.
+    #[inline(always)]
+    pub(crate) fn push_near(&mut self, op: &Op, len: u64) -> bool
+        requires { len ≡ op_len op.now }
+        ensures taken { result ≡ true → self.new ≡ self.old ++ op.now ∷ [] }
+        ensures left { result ≡ false → self.new ≡ self.old }
+    {
+        if self.ops.len() >= self.ops.capacity() {
+            return false;
+        }
+        self.ops.push_reserved(*op);
+        self.len = len.saturating_add(self.len);
+        true
     }
 
     /// An end takes the place of an else, which is the last op and has as many bytes.

@@ -1,7 +1,7 @@
 use Rattle.std.proofs.Common.{subst, sym}
 use Rattle.wm_syntax.specs.inner.Builders.{Keeps}
 use Rattle.wm_syntax.proofs.BuilderLemmas.{outcome, stands, falls, keeps_there, on_ok_at, on_err_at}
-use Rattle.wm_syntax.proofs.modules.body_builder.BodyBuilder.push_with_len.Goals as goal
+use Rattle.wm_syntax.proofs.modules.body_builder.BodyBuilder.push.Goals as goal
 
 pub invariant_of-self : goal.invariant_of-self
 invariant_of-self c =
