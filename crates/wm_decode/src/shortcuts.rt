@@ -36,6 +36,7 @@ pub(crate) mod in_body;
 pub(crate) mod indices;
 pub(crate) mod short_bytes;
 pub(crate) mod short_steps;
+pub(crate) mod whole_indices;
 pub(crate) mod whole_names;
 pub(crate) mod whole_numbers;
 pub(crate) mod whole_ops;

@@ -39,11 +39,26 @@ LiesIn of x = Unit {0}
 abbrev pub before_index : InIndices → Machine
 before_index i = machine.Section i.of i.functions i.more i.left (at_index i.list)
 
--- how many come after which yet another comes, and a byte of all that they lie in
+-- how many bytes of all that they lie in come after the next
+abbrev pub room_in : ℕ → IndexList → ℕ
+room_in more (list.Labels rest depth labels) = min more rest
+room_in more x = more
+
+abbrev pub index_room : InIndices → ℕ
+index_room i = room_in i.more i.list
+
+-- how many come after which yet another comes
+abbrev pub followed_in : ℕ → IndexList → ℕ
+followed_in left list.Types = left
+followed_in left (list.Functions rest) = rest
+followed_in left (list.Labels rest depth labels) = labels
+
+abbrev pub followed_indices : InIndices → ℕ
+followed_indices i = followed_in i.left i.list
+
+-- how many of one byte come after which yet another comes, and a byte of all that they lie in
 abbrev pub most_in : ℕ → ℕ → IndexList → ℕ
-most_in more left list.Types = min more left
-most_in more left (list.Functions rest) = min more rest
-most_in more left (list.Labels rest depth labels) = min (min more rest) labels
+most_in more left l = min (room_in more l) (followed_in left l)
 
 abbrev pub most_indices : InIndices → ℕ
 most_indices i = most_in i.more i.left i.list
@@ -53,17 +68,25 @@ abbrev pub members_after : ℕ → IndexList → ℕ → ℕ
 members_after left list.Types n = left - n
 members_after left x n = left
 
+-- the same after so many bytes, which were so many indices
+abbrev pub list_past : IndexList → ℕ → ℕ → IndexList
+list_past list.Types used n = list.Types
+list_past (list.Functions rest) used n = list.Functions (rest - n)
+list_past (list.Labels rest depth labels) used n = list.Labels (rest - used) depth (labels - n)
+
+abbrev pub indices_past : InIndices → ℕ → ℕ → InIndices
+indices_past i used n = record i {
+  more = i.more - used;
+  left = members_after i.left i.list n;
+  list = list_past i.list used n;
+}
+
+-- the same where each has one byte
 abbrev pub list_after : IndexList → ℕ → IndexList
-list_after list.Types n = list.Types
-list_after (list.Functions rest) n = list.Functions (rest - n)
-list_after (list.Labels rest depth labels) n = list.Labels (rest - n) depth (labels - n)
+list_after l n = list_past l n n
 
 abbrev pub indices_after : InIndices → ℕ → InIndices
-indices_after i n = record i {
-  more = i.more - n;
-  left = members_after i.left i.list n;
-  list = list_after i.list n;
-}
+indices_after i n = indices_past i n n
 
 abbrev pub index_part : IndexList → ℕ → Plain
 index_part list.Types x = plain.Function x

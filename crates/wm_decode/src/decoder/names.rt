@@ -145,7 +145,8 @@ pub(crate) fn give_end<S: Sink>(sink: &mut S) -> Result<(), Why>
 // Gives an index of a list
 #[inline(always)]
 pub(crate) fn give_index<S: Sink>(sink: &mut S, list: IndexList, index: u32) -> Result<(), Why>
-    ensures { Taken (S.after (S.held sink.old) (index_item_in list index)) result (S.held sink.new) }
+    ensures given { Taken (S.after (S.held sink.old) (index_item_in list index)) result (S.held sink.new) }
+    ensures room { IfErr result (λ w. w ≡ Memory → S.may_run_out (S.held sink.old) (index_item_in list index)) }
 {
     match list {
         IndexList::Types => sink.take(Item::Func(index)),

@@ -1,16 +1,17 @@
-//! Indices of one byte each that follow one another (section 5.5.1): what the byte step
-//! makes of them, at once.
+//! Indices that follow one another (section 5.5.1): what the byte step makes of them, at once.
 //!
-//! The last of a list, one that is longer, and what is refused for its bytes are left to the byte step.
+//! Two or more of one byte each are found together. The last of a list, and what is refused for its bytes, are
+//! left to the byte step.
 
 ghost use Rattle.std.specs.Prelude.{◌≡◌, ◌≤◌, IfSome, length};
 ghost use Rattle.wm_decode.specs.exact.Shortcuts.{Advances};
 ghost use Rattle.wm_decode.specs.exact.Indices.{GaveEach, LiesIn, at_index, before_index, index_item_in};
-ghost use Rattle.wm_decode.specs.exact.Indices.{indices_after, most_indices};
+ghost use Rattle.wm_decode.specs.exact.Indices.{followed_indices, index_room, indices_past, most_indices};
 
 use crate::decoder::names::give_index;
 use crate::machine::Machine;
 use crate::machine::member::{InEntry, InMember, IndexOf, SectionKind};
+use crate::shortcuts::whole_indices::whole_indices;
 use crate::shortcuts::{Shortcut, at_most};
 use crate::sink::Sink;
 use crate::step::expressions::InExpression;
@@ -150,26 +151,44 @@ impl InIndices {
         })
     }
 
-    /// How many come after which yet another comes, and a byte of all that they lie in.
-    pub(crate) fn most(self) -> u32
-        ensures { result ≡ most_indices self }
+    /// How many bytes of all that they lie in come after the next.
+    pub(crate) fn room(self) -> u32
+        ensures { result ≡ index_room self }
     {
         match self.list {
-            IndexList::Types => self.more.min(self.left),
-            IndexList::Functions { rest } => self.more.min(rest),
-            IndexList::Labels { rest, labels, .. } => self.more.min(rest).min(labels),
+            IndexList::Types | IndexList::Functions { .. } => self.more,
+            IndexList::Labels { rest, .. } => self.more.min(rest),
         }
     }
 
-    /// The machine after so many of them.
-    pub(crate) fn after(self, used: u32) -> Machine
-        requires { used ≤ most_indices self }
-        ensures { result ≡ before_index (indices_after self used) }
+    /// How many come after which yet another comes.
+    pub(crate) fn followed(self) -> u32
+        ensures { result ≡ followed_indices self }
+    {
+        match self.list {
+            IndexList::Types => self.left,
+            IndexList::Functions { rest } => rest,
+            IndexList::Labels { labels, .. } => labels,
+        }
+    }
+
+    /// How many of one byte come after which yet another comes, and a byte of all that they lie in.
+    pub(crate) fn most(self) -> u32
+        ensures { result ≡ most_indices self }
+    {
+        self.room().min(self.followed())
+    }
+
+    /// The machine after so many bytes, which were so many indices.
+    pub(crate) fn after(self, used: u32, count: u32) -> Machine
+        requires room { used ≤ index_room self }
+        requires followed { count ≤ followed_indices self }
+        ensures { result ≡ before_index (indices_past self used count) }
     {
         let (left, list) = match self.list {
-            IndexList::Types => (self.left - used, IndexList::Types),
+            IndexList::Types => (self.left - count, IndexList::Types),
             IndexList::Functions { rest } => {
-                let rest = rest - used;
+                let rest = rest - count;
                 (self.left, IndexList::Functions { rest })
             }
             IndexList::Labels {
@@ -178,7 +197,7 @@ impl InIndices {
                 labels,
             } => {
                 let rest = rest - used;
-                let labels = labels - used;
+                let labels = labels - count;
                 let list = IndexList::Labels {
                     rest,
                     depth,
@@ -220,8 +239,8 @@ fn give_indices<S: Sink>(sink: &mut S, list: IndexList, bytes: &[u8]) -> Shortcu
     }
 }
 
-/// Takes the indices of one byte each at the front of these bytes, but the last of their list, where there
-/// are two or more.
+/// Takes the indices at the front of these bytes, but the last of their list: those of one byte each where there
+/// are two or more of them, or else those of any length.
 #[tactic(auto, using(crate::proofs::Advances::advances_none))]
 pub(crate) fn indices<S: Sink>(
     sink: &mut S,
@@ -238,9 +257,10 @@ pub(crate) fn indices<S: Sink>(
     let most = at_most(before.most(), bytes.len());
     let count = short_front(&bytes[..most as usize]);
     if count < 2 {
-        return Shortcut::none();
+        return whole_indices(sink, machine, before, profile, bytes);
     }
     let given = give_indices(sink, before.list, &bytes[..count]);
-    *machine = before.after(given.used as u32);
+    let used = given.used as u32;
+    *machine = before.after(used, used);
     given
 }

@@ -1,0 +1,68 @@
+//! Indices of any length (section 5.5.1) that lie whole in a piece.
+
+ghost use Rattle.std.specs.Prelude.{◌≡◌, ◌≤◌, IfSome, length};
+ghost use Rattle.wm_syntax.specs.exact.Reading.{unsigned_push};
+ghost use Rattle.wm_decode.specs.exact.Shortcuts.{Advances};
+ghost use Rattle.wm_decode.specs.exact.Indices.{LiesIn, before_index};
+ghost use Rattle.wm_decode.specs.exact.WholeOps.{LiesAt};
+
+use crate::decoder::names::give_index;
+use crate::machine::Machine;
+use crate::shortcuts::Shortcut;
+use crate::shortcuts::indices::InIndices;
+use crate::shortcuts::whole_numbers::{Whole, u32_at};
+use crate::sink::Sink;
+use wm_syntax::profile::Profile;
+
+// The index at a place, where it lies in the first so many bytes
+#[inline(always)]
+fn index_at(bytes: &[u8], from: usize, end: usize) -> Option<Whole<u32>>
+    requires { end ≤ length bytes.now }
+    ensures lies { IfSome result (λ w. LiesAt (unsigned_push 32) bytes.now from w.next w.value) }
+    ensures within { IfSome result (λ w. w.next ≤ end) }
+{
+    if from >= end {
+        return None;
+    }
+    let index = u32_at(bytes, from)?;
+    if index.next > end {
+        return None;
+    }
+    Some(index)
+}
+
+/// Takes the indices that lie in these bytes, as long as another of their list comes after each. Out of line,
+/// where the loop keeps its values in registers.
+#[inline(never)]
+pub(crate) fn whole_indices<S: Sink>(
+    sink: &mut S,
+    machine: &mut Machine,
+    before: InIndices,
+    profile: Profile,
+    bytes: &[u8],
+) -> Shortcut
+    requires stands { machine.now ≡ before_index before }
+    requires lies { LiesIn before.of before.list }
+    ensures { Advances S.after S.may_run_out profile bytes.now machine.old (S.held sink.old) result
+        machine.new (S.held sink.new) }
+{
+    let end = bytes.len().min(before.room() as usize);
+    let followed = before.followed();
+    let mut used = 0;
+    let mut count = 0;
+    while count < followed {
+        let Some(index) = index_at(bytes, used, end) else {
+            break;
+        };
+        used = index.next;
+        count += 1;
+        if let Err(why) = give_index(sink, before.list, index.value) {
+            return Shortcut::out(used, why);
+        }
+    }
+    *machine = before.after(used as u32, count);
+    Shortcut {
+        used,
+        refused: None,
+    }
+}
