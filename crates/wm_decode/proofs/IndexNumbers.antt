@@ -1,5 +1,5 @@
--- An index of any length, after which another of its list comes, is taken as the byte step takes it.
-use Rattle.std.proofs.Common.{◌≡◌, ℕ, suc, ◌+◌, ◌-◌, ◌<◌, ◌≤◌, List, Some, None, Result, IfErr, length, slice_index, slice_range, refl, sym, ◌∙◌, ap, subst, arith}
+-- An index of any length is taken as the byte step takes it: one after which another of its list comes, and the last.
+use Rattle.std.proofs.Common.{◌≡◌, ◌≢◌, ℕ, suc, ◌+◌, ◌-◌, ◌<◌, ◌≤◌, List, Some, None, Result, Ok, Err, IfErr, length, slice_index, slice_range, refl, sym, ◌∙◌, ap, subst, arith}
 use Rattle.std.specs.Result.{result_err}
 use Rattle.wm_syntax.specs.declared.profile.Profile.{Profile}
 use Rattle.wm_syntax.specs.declared.numbers.Step.TheVariants as step
@@ -11,6 +11,7 @@ use Rattle.wm_syntax.specs.exact.Reading.{fresh, unsigned_push}
 use Rattle.wm_decode.specs.declared.machine.Machine.{Machine}
 use Rattle.wm_decode.specs.declared.machine.Machine.TheVariants as machine
 use Rattle.wm_decode.specs.declared.machine.Event.{Event}
+use Rattle.wm_decode.specs.declared.machine.Event.TheVariants as event
 use Rattle.wm_decode.specs.declared.machine.Plain.TheVariants as plain
 use Rattle.wm_decode.specs.declared.machine.member.SectionKind.{SectionKind}
 use Rattle.wm_decode.specs.declared.machine.member.SectionKind.TheVariants as section_kind
@@ -20,21 +21,23 @@ use Rattle.wm_decode.specs.declared.machine.member.IndexOf.TheVariants as index_
 use Rattle.wm_decode.specs.declared.machine.member.InEntry.TheVariants as entry
 use Rattle.wm_decode.specs.declared.step.expressions.InExpression.TheVariants as expression
 use Rattle.wm_decode.specs.declared.shortcuts.Shortcut.{Shortcut}
+use Rattle.wm_decode.specs.declared.shortcuts.short_steps.Place.{Place}
 use Rattle.wm_decode.specs.declared.shortcuts.short_steps.Stepped.{Stepped}
 use Rattle.wm_decode.specs.declared.shortcuts.indices.IndexList.{IndexList}
 use Rattle.wm_decode.specs.declared.shortcuts.indices.IndexList.TheVariants as list
 use Rattle.wm_decode.specs.declared.shortcuts.indices.InIndices.{InIndices}
 use Rattle.wm_decode.specs.Items.{Item}
 use Rattle.wm_decode.specs.Sinks.{Taken}
-use Rattle.wm_decode.specs.exact.Steps.{machine_in_member}
+use Rattle.wm_decode.specs.exact.Steps.{machine_in_member, step_of}
+use Rattle.wm_decode.specs.exact.Live.{refusal_in_machine}
 use Rattle.wm_decode.specs.exact.OpSteps.{on_answer}
 use Rattle.wm_decode.specs.exact.ExpressionSteps.{after_label, expression_failed}
 use Rattle.wm_decode.specs.exact.MemberSteps.{on_number, after_index, index_item, with_item_given, member_in_entry, entry_after_op, op_event}
-use Rattle.wm_decode.specs.exact.ShortSteps.{StepsTo}
+use Rattle.wm_decode.specs.exact.ShortSteps.{StepsTo, standing}
 use Rattle.wm_decode.specs.exact.Shortcuts.{Advances}
-use Rattle.wm_decode.specs.exact.Indices.{LiesIn, at_index, before_index, followed_in, index_item_in, index_part, indices_past, list_past, members_after, room_in}
+use Rattle.wm_decode.specs.exact.Indices.{LiesIn, after_last, at_index, before_index, followed_in, index_item_in, index_part, indices_ended, indices_past, list_past, members_after, room_in}
 use Rattle.wm_decode.specs.exact.WholeOps.{IsNumber, LiesAt}
-use Rattle.wm_decode.proofs.Advances.{advances_by, advances_more}
+use Rattle.wm_decode.proofs.Advances.{advances_by, advances_more, advances_none, advances_over, advances_over_out}
 use Rattle.wm_decode.proofs.NumberSteps.{BeforeLast, NumberGoesOn, before_last}
 
 -- where an index of a list stands after some of its bytes, with so many bytes of what it lies in to come after the next
@@ -204,3 +207,57 @@ module _ {H : Type 0} (after : H → Item → Result H Why) (may : H → Item �
       advances_by after may p bytes m _ m _ h g u refl (sym (past_again q.more q.left i j last q.list q.of q.functions (omega arith)))
       (one_index after may p bytes m h e g x i last v u r (lies_past q.of q.list i j lies) before number (room_past q.more i j last q.list room) (followed_past q.left i j q.list some) eu er
       (subst (λ y. Taken (after e y) r g) (sym item) given) (subst (λ y. IfErr r (λ w. w ≡ why.Memory → may e y)) (sym item) quiet))
+
+-- the last byte of the last index
+index_over : (p : Profile) (of : SectionKind) (f more left all n v : ℕ) (l : IndexList) → followed_in left l ≡ 0 → (r s : Partial) (c : ℕ) → unsigned_push 32 r c ≡ (step.Done v, s)
+    → step_of p (machine.Section of f more left (in_index l (space_in all l - n) r)) c ≡ (machine_in_member of f more left (after_last l n), event.Complete (index_part l v))
+index_over p of f more left all n v list.Types none r s c e =
+    ap (λ y. let q = on_number y (λ s. at.Index index_of.Function s) (λ n. with_item_given (after_index index_of.Function) (index_item index_of.Function n)) at.Failed
+    in (machine_in_member of f more left q.0, q.1)) e
+index_over p of f more left all n v (list.Functions rest) none r s c e =
+    ap (λ y. let q = on_number y (λ s. at.Index (index_of.ElementFunction rest) s) (λ n. with_item_given (after_index (index_of.ElementFunction rest)) (index_item (index_of.ElementFunction rest) n)) at.Failed
+    in (machine_in_member of f more left q.0, q.1)) e
+    ∙ ap (λ y. (machine_in_member of f more left (after_index (index_of.ElementFunction y)), event.Complete (plain.ElementFunction v))) none
+index_over p of f more left all n v (list.Labels rest depth labels) none r s c e =
+    ap (λ x. let y = on_answer x (λ s. (expression.Label depth labels s, None)) (λ l. (after_label depth labels, Some (op.Label l))) (expression_failed why.BadNumber)
+    in (machine_in_member of f more left (member_in_entry (rest - n) (entry_after_op y.0)), op_event plain.BodyOp y.1)) e
+    ∙ ap (λ y. (machine_in_member of f more left (member_in_entry (rest - n) (entry_after_op (after_label depth y))), op_event plain.BodyOp (Some (op.Label v)))) none
+
+module _ {H : Type 0} (after : H → Item → Result H Why) (may : H → Item → Type 0) (p : Profile) (bytes : List ℕ) (h g : H) (q : InIndices) (last v : ℕ) (u : Shortcut)
+    (number : LiesAt (unsigned_push 32) bytes 0 last v) (room : last - 1 ≤ room_in q.more q.list) (none : followed_in q.left q.list ≡ 0) (eu : u.used ≡ last) where
+  -- before its last byte
+  before_it : BeforeLast after may p bytes (before_index q) h h q.of q.functions q.left (in_index q.list (space_in q.more q.list - (last - 1))) (q.more - (last - 1)) (last - 1) v
+  before_it =
+      let order : 0 < last = number.some in
+      let whole : last ≤ length bytes = number.within in
+      let a : last - 1 ≤ q.more = in_section q.more (last - 1) q.list room in
+      let b : last - 1 ≤ space_in q.more q.list = in_space q.more (last - 1) q.list room in
+      let end : last ≡ last - 1 + 1 = omega arith in
+      before_last after may p bytes (before_index q) h h q.of q.functions q.left (in_index q.list) (index_goes_on p q.of q.left q.list) (last - 1) v (q.more - (last - 1)) (space_in q.more q.list - (last - 1)) (omega arith)
+      (last - 1) 0 q.more (space_in q.more q.list) fresh (omega arith) (omega arith) (omega arith) (subst (λ y. IsNumber (unsigned_push 32) fresh (slice_range bytes 0 y) v) end number.spelled)
+      (subst (λ y. Advances after may p bytes (before_index q) h (record { used = 0; refused = None }) (machine.Section q.of q.functions q.more q.left y) h) (begins q.more q.list)
+      (advances_none after may p bytes (before_index q) h (record { used = 0; refused = None }) refl refl))
+
+  abbrev at_last : Partial → Place
+  at_last r = record { of = q.of; functions = q.functions; more = q.more - (last - 1); left = q.left; at = in_index q.list (space_in q.more q.list - (last - 1)) r }
+
+  ends_so : step_of p (standing (at_last before_it.reader)) (slice_index bytes (last - 1)) ≡ (indices_ended q (last - 1), event.Complete (index_part q.list v))
+  ends_so = index_over p q.of q.functions (q.more - (last - 1)) q.left q.more (last - 1) v q.list none before_it.reader before_it.next (slice_index bytes (last - 1)) before_it.ends
+
+  inside : last - 1 < length bytes
+  inside =
+      let order : 0 < last = number.some in
+      let whole : last ≤ length bytes = number.within in
+      omega arith
+
+  ended : u.used ≡ last - 1 + 1
+  ended =
+      let order : 0 < last = number.some in
+      omega arith
+
+  -- the last index
+  pub last_taken : u.refused ≡ refusal_in_machine (indices_ended q (last - 1)) → after h (index_item_in q.list v) ≡ Ok g → Advances after may p bytes (before_index q) h u (indices_ended q (last - 1)) g
+  last_taken is given = advances_over after may p (at_last before_it.reader) (indices_ended q (last - 1)) (index_part q.list v) h bytes (before_index q) h g (last - 1) u before_it.came inside ends_so ended is given
+
+  pub last_refused : (d : Machine) (w : Why) → u.refused ≡ Some w → (w ≢ why.Memory → after h (index_item_in q.list v) ≡ Err w) → (w ≡ why.Memory → may h (index_item_in q.list v)) → Advances after may p bytes (before_index q) h u d g
+  last_refused d w is given quiet = advances_over_out after may p (at_last before_it.reader) (indices_ended q (last - 1)) (index_part q.list v) h bytes (before_index q) h g (last - 1) u before_it.came inside ends_so ended d w is given quiet

@@ -327,6 +327,10 @@ the fifth byte of an i32: refusal H 06 0A 01 7F 00 41 80 80 80 80 08 0B = 19 Bad
 the tenth byte of an i64: refusal H 06 0F 01 7E 00 42 80 80 80 80 80 80 80 80 80 01 0B = 24 BadNumber
 data that pass their section: refusal H 0B 07 01 00 41 00 0B 02 61 = 17 SectionEnd
 a byte after the data: refusal H 0B 07 01 00 41 00 0B 00 61 = 16 SectionEnd
+functions that their section cuts: refusal H 03 03 02 81 00 = 13 SectionEnd
+an index that passes its section: refusal H 03 04 02 81 00 81 = 14 SectionEnd
+a byte after the functions: refusal H 03 05 02 81 00 00 00 = 14 SectionEnd
+an index in six bytes: refusal H 03 0A 02 81 80 80 80 80 00 81 00 00 = 16 BadNumber
 ";
 
 // Of one function of type [] to [].
@@ -345,6 +349,8 @@ locals of type f32: refusal H 01 04 01 60 00 00 03 02 01 00 0A 06 01 04 01 01 7D
 an empty run of type f64: refusal H 01 04 01 60 00 00 03 02 01 00 0A 06 01 04 01 00 7C 0B = 25 Float
 a block of type f32: refusal H 01 04 01 60 00 00 03 02 01 00 0A 07 01 05 00 02 7D 0B 0B = 25 Float
 no instruction: refusal H 01 04 01 60 00 00 03 02 01 00 0A 09 01 07 00 C0 00 00 00 00 0B = 24 BadOpcode
+labels that end their entry: refusal H 01 04 01 60 00 00 03 02 01 00 0A 08 01 06 00 0E 01 81 00 00 = 28 BodyEnd
+a label that passes its entry: refusal H 01 04 01 60 00 00 03 02 01 00 0A 0B 01 06 00 0E 01 81 00 81 00 0B 0B = 28 BodyEnd
 a padded index of a table: refusal H 01 04 01 60 00 00 03 02 01 00 0A 09 01 07 00 11 00 80 80 00 0B = 26 BadByte
 ";
 
@@ -375,13 +381,13 @@ fn items_and_their_places(rt: HostRuntime) -> Result<(), Fail> {
 
 #[test]
 fn what_is_refused(rt: HostRuntime) -> Result<(), Fail> {
-    play(&rt, rt.alloc(), Profile::One, REFUSALS, 35)?;
-    play(&rt, rt.alloc(), Profile::Two, REFUSALS, 35)
+    play(&rt, rt.alloc(), Profile::One, REFUSALS, 39)?;
+    play(&rt, rt.alloc(), Profile::Two, REFUSALS, 39)
 }
 
 #[test]
 fn code_that_is_refused(rt: HostRuntime) -> Result<(), Fail> {
-    play(&rt, rt.alloc(), Profile::One, CODE_REFUSALS, 16)
+    play(&rt, rt.alloc(), Profile::One, CODE_REFUSALS, 18)
 }
 
 #[test]

@@ -23,6 +23,9 @@ use Rattle.wm_decode.specs.declared.shortcuts.indices.InIndices.{InIndices}
 use Rattle.wm_decode.specs.Items.{Item}
 use Rattle.wm_decode.specs.Sinks.{all_taken}
 use Rattle.wm_decode.specs.exact.Runs.{plain_item}
+use Rattle.wm_decode.specs.exact.Steps.{machine_in_member}
+use Rattle.wm_decode.specs.exact.ExpressionSteps.{at_next_op}
+use Rattle.wm_decode.specs.exact.MemberSteps.{member_in_entry}
 
 -- where in a member of a section the indices of a list stand
 abbrev pub at_index : IndexList → InMember
@@ -87,6 +90,15 @@ list_after l n = list_past l n n
 
 abbrev pub indices_after : InIndices → ℕ → InIndices
 indices_after i n = indices_past i n n
+
+-- where a member goes on after the last index of a list, so many bytes after the next one
+abbrev pub after_last : IndexList → ℕ → InMember
+after_last (list.Labels rest depth labels) n = member_in_entry (rest - n) (entry.Body (at_next_op depth))
+after_last l n = at.Over
+
+-- the machine after the last index, which had so many bytes before its last
+abbrev pub indices_ended : InIndices → ℕ → Machine
+indices_ended i n = machine_in_member i.of i.functions (i.more - n) i.left (after_last i.list n)
 
 abbrev pub index_part : IndexList → ℕ → Plain
 index_part list.Types x = plain.Function x

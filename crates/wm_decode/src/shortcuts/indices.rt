@@ -1,12 +1,12 @@
 //! Indices that follow one another (section 5.5.1): what the byte step makes of them, at once.
 //!
-//! Two or more of one byte each are found together. The last of a list, and what is refused for its bytes, are
-//! left to the byte step.
+//! Two or more of one byte each are found together. What is refused for its bytes is left to the byte step.
 
 ghost use Rattle.std.specs.Prelude.{◌≡◌, ◌≤◌, IfSome, length};
 ghost use Rattle.wm_decode.specs.exact.Shortcuts.{Advances};
 ghost use Rattle.wm_decode.specs.exact.Indices.{GaveEach, LiesIn, at_index, before_index, index_item_in};
-ghost use Rattle.wm_decode.specs.exact.Indices.{followed_indices, index_room, indices_past, most_indices};
+ghost use Rattle.wm_decode.specs.exact.Indices.{followed_indices, index_room, indices_ended, indices_past};
+ghost use Rattle.wm_decode.specs.exact.Indices.{most_indices};
 
 use crate::decoder::names::give_index;
 use crate::machine::Machine;
@@ -14,7 +14,9 @@ use crate::machine::member::{InEntry, InMember, IndexOf, SectionKind};
 use crate::shortcuts::whole_indices::whole_indices;
 use crate::shortcuts::{Shortcut, at_most};
 use crate::sink::Sink;
-use crate::step::expressions::InExpression;
+use crate::step::entries::entry_framed;
+use crate::step::expressions::{InExpression, opened};
+use crate::step::framed;
 use wm_syntax::numbers::{Num32, short_front};
 use wm_syntax::profile::Profile;
 
@@ -214,6 +216,20 @@ impl InIndices {
             at: list.at(),
         }
     }
+
+    /// The machine after the last of them, which has so many bytes before its last.
+    pub(crate) fn ended(self, used: u32) -> Machine
+        requires { used ≤ index_room self }
+        ensures { result ≡ indices_ended self used }
+    {
+        let at = match self.list {
+            IndexList::Types | IndexList::Functions { .. } => InMember::Over,
+            IndexList::Labels { rest, depth, .. } => {
+                entry_framed(rest - used, InEntry::Body(opened(depth)))
+            }
+        };
+        framed(self.of, self.functions, self.more - used, self.left, at)
+    }
 }
 
 // Gives a sink the index that each of these bytes is, up to one that it refuses. Out of line, where the loop
@@ -239,8 +255,8 @@ fn give_indices<S: Sink>(sink: &mut S, list: IndexList, bytes: &[u8]) -> Shortcu
     }
 }
 
-/// Takes the indices at the front of these bytes, but the last of their list: those of one byte each where there
-/// are two or more of them, or else those of any length.
+/// Takes the indices at the front of these bytes: those of one byte each where there are two or more of them
+/// and another comes after them, or else those of any length.
 #[tactic(auto, using(crate::proofs::Advances::advances_none))]
 pub(crate) fn indices<S: Sink>(
     sink: &mut S,

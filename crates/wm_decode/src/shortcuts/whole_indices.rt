@@ -3,11 +3,11 @@
 ghost use Rattle.std.specs.Prelude.{◌≡◌, ◌≤◌, IfSome, length};
 ghost use Rattle.wm_syntax.specs.exact.Reading.{unsigned_push};
 ghost use Rattle.wm_decode.specs.exact.Shortcuts.{Advances};
-ghost use Rattle.wm_decode.specs.exact.Indices.{LiesIn, before_index};
+ghost use Rattle.wm_decode.specs.exact.Indices.{LiesIn, before_index, followed_indices};
 ghost use Rattle.wm_decode.specs.exact.WholeOps.{LiesAt};
 
 use crate::decoder::names::give_index;
-use crate::machine::Machine;
+use crate::machine::{Machine, refusal_of};
 use crate::shortcuts::Shortcut;
 use crate::shortcuts::indices::InIndices;
 use crate::shortcuts::whole_numbers::{Whole, u32_at};
@@ -31,8 +31,39 @@ fn index_at(bytes: &[u8], from: usize, end: usize) -> Option<Whole<u32>>
     Some(index)
 }
 
-/// Takes the indices that lie in these bytes, as long as another of their list comes after each. Out of line,
-/// where the loop keeps its values in registers.
+// Takes the last index of a list, where it lies in these bytes. After it the section may be over, or the
+// machine refuse.
+#[inline(never)]
+#[tactic(auto, using(crate::proofs::Advances::advances_none))]
+fn last_index<S: Sink>(
+    sink: &mut S,
+    machine: &mut Machine,
+    before: InIndices,
+    profile: Profile,
+    bytes: &[u8],
+) -> Shortcut
+    requires stands { machine.now ≡ before_index before }
+    requires last { followed_indices before ≡ 0 }
+    ensures { Advances S.after S.may_run_out profile bytes.now machine.old (S.held sink.old) result
+        machine.new (S.held sink.new) }
+{
+    let end = bytes.len().min(before.room() as usize + 1);
+    let Some(index) = index_at(bytes, 0, end) else {
+        return Shortcut::none();
+    };
+    let used = index.next;
+    *machine = before.ended((used - 1) as u32);
+    if let Err(why) = give_index(sink, before.list, index.value) {
+        return Shortcut::out(used, why);
+    }
+    Shortcut {
+        used,
+        refused: refusal_of(*machine),
+    }
+}
+
+/// Takes the indices that lie in these bytes: the last of a list, or those after which another comes. Out of
+/// line, where the loop keeps its values in registers.
 #[inline(never)]
 pub(crate) fn whole_indices<S: Sink>(
     sink: &mut S,
@@ -46,8 +77,11 @@ pub(crate) fn whole_indices<S: Sink>(
     ensures { Advances S.after S.may_run_out profile bytes.now machine.old (S.held sink.old) result
         machine.new (S.held sink.new) }
 {
-    let end = bytes.len().min(before.room() as usize);
     let followed = before.followed();
+    if followed == 0 {
+        return last_index(sink, machine, before, profile, bytes);
+    }
+    let end = bytes.len().min(before.room() as usize);
     let mut used = 0;
     let mut count = 0;
     while count < followed {

@@ -88,8 +88,8 @@ fn entry_byte(profile: Profile, at: InEntry, byte: u8) -> (InEntry, Event)
     }
 }
 
-// The place in a code entry with so many bytes left
-fn entry_framed(left: u32, at: InEntry) -> InMember
+/// The place in a code entry with so many bytes left.
+pub(crate) fn entry_framed(left: u32, at: InEntry) -> InMember
     ensures { result ≡ member_in_entry left at }
 {
     match at {

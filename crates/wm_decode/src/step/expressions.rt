@@ -32,8 +32,8 @@ pub(crate) enum InExpression {
     Failed(Why),
 }
 
-// Before an op
-fn opened(depth: u32) -> InExpression
+/// Before an op.
+pub(crate) fn opened(depth: u32) -> InExpression
     ensures { result ≡ at_next_op depth }
 {
     let at = InOp::First;
