@@ -1,5 +1,5 @@
-use Rattle.std.proofs.Common.{◌-◌, ◌<◌, ◌≤◌, ap, arith, refl, ◌∙◌}
-use Rattle.wm_decode.specs.exact.Indices.{index_room, indices_ended}
+use Rattle.std.proofs.Common.{◌-◌, ◌≤◌, ap, arith, refl, ◌∙◌}
+use Rattle.wm_decode.specs.exact.Indices.{index_room}
 use Rattle.wm_decode.specs.exact.Live.{refusal_in_machine}
 use Rattle.wm_decode.proofs.Advances.{advances_by}
 use Rattle.wm_decode.proofs.IndexNumbers.{last_refused, last_taken}
