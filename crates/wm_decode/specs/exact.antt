@@ -16,5 +16,6 @@ pub mod Steps
 pub mod TypeStarts
 pub mod TwoSinks
 pub mod ValueSteps
+pub mod WholeMembers
 pub mod WholeNames
 pub mod WholeOps

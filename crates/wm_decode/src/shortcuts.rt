@@ -13,6 +13,7 @@ use crate::shortcuts::entries::{body, entries};
 use crate::shortcuts::exports::exports;
 use crate::shortcuts::frames::frames;
 use crate::shortcuts::function_types::function_types;
+use crate::shortcuts::globals::globals;
 use crate::shortcuts::heads::runs;
 use crate::shortcuts::imports::imports;
 use crate::shortcuts::in_body::InBody;
@@ -23,16 +24,20 @@ use crate::sink::Sink;
 use crate::step::expressions::InExpression;
 use crate::step::framed;
 use crate::step::members::data_or_over;
+use crate::step::values::InGlobalType;
 use wm_syntax::profile::Profile;
 use wm_syntax::why::Why;
 
+pub(crate) mod constants;
 pub(crate) mod entries;
 pub(crate) mod exports;
 pub(crate) mod frames;
 pub(crate) mod function_types;
+pub(crate) mod globals;
 pub(crate) mod heads;
 pub(crate) mod imports;
 pub(crate) mod in_body;
+pub(crate) mod in_section;
 pub(crate) mod indices;
 pub(crate) mod short_bytes;
 pub(crate) mod short_steps;
@@ -88,6 +93,7 @@ pub(crate) fn at_most(count: u32, len: usize) -> u32
 enum Way {
     Type,
     Import,
+    Global,
     Export,
     Entry,
     Runs,
@@ -111,10 +117,18 @@ fn way_of(machine: Machine) -> Way {
     match of {
         SectionKind::Type => Way::Type,
         SectionKind::Import => Way::Import,
+        SectionKind::Global => way_in_globals(at),
         SectionKind::Export => Way::Export,
         SectionKind::Function | SectionKind::Element => Way::Indices,
         SectionKind::Code => way_in_code(at),
         SectionKind::Segment => Way::Data,
+        _ => Way::One,
+    }
+}
+
+fn way_in_globals(at: InMember) -> Way {
+    match at {
+        InMember::GlobalType(InGlobalType::Type) => Way::Global,
         _ => Way::One,
     }
 }
@@ -280,6 +294,7 @@ pub(crate) fn take_way<S: Sink>(
             }
         }
         Way::Import => return imports(sink, machine, profile, bytes),
+        Way::Global => return globals(sink, machine, profile, bytes),
         Way::Export => return exports(sink, machine, profile, bytes),
         Way::Indices => return indices(sink, machine, profile, bytes),
         Way::Short => {}

@@ -27,10 +27,10 @@ use wm_syntax::why::Why;
 
 /// An op that was read whole, the place after it, and how many blocks are open there.
 #[derive(Clone, Copy)]
-struct Read {
-    op: Op,
-    next: usize,
-    depth: u32,
+pub(crate) struct Read {
+    pub(crate) op: Op,
+    pub(crate) next: usize,
+    pub(crate) depth: u32,
 }
 
 /// What came of the op at a place.
@@ -98,7 +98,7 @@ fn numeric(bytes: &[u8], at: usize, depth: u32, op: Numeric) -> Option<Read>
 
 #[inline(always)]
 #[tactic(auto, using(crate::proofs::OpLists::whole_index))]
-fn with_index(bytes: &[u8], at: usize, depth: u32, op: Indexed) -> Option<Read>
+pub(crate) fn with_index(bytes: &[u8], at: usize, depth: u32, op: Indexed) -> Option<Read>
     requires within { at + 1 < length bytes.now }
     requires first { first_read (slice_index bytes.now at) ≡ More (fresh_index op) }
     requires opens { (n : ℕ) → after_op depth (index_op op n) ≡ at_next_op depth }
@@ -137,7 +137,7 @@ fn with_arg(bytes: &[u8], at: usize, depth: u32, op: LoadOrStore) -> Option<Read
 
 #[inline(always)]
 #[tactic(auto, using(crate::proofs::OpLists::whole_const_32))]
-fn const_32(bytes: &[u8], at: usize, depth: u32) -> Option<Read>
+pub(crate) fn const_32(bytes: &[u8], at: usize, depth: u32) -> Option<Read>
     requires within { at + 1 < length bytes.now }
     requires first { first_read (slice_index bytes.now at) ≡ More (Const32 fresh) }
     ensures { IfSome result (λ r. WholeOp bytes.now at r.next depth r.depth r.op) }
@@ -152,7 +152,7 @@ fn const_32(bytes: &[u8], at: usize, depth: u32) -> Option<Read>
 
 #[inline(always)]
 #[tactic(auto, using(crate::proofs::OpLists::whole_const_64))]
-fn const_64(bytes: &[u8], at: usize, depth: u32) -> Option<Read>
+pub(crate) fn const_64(bytes: &[u8], at: usize, depth: u32) -> Option<Read>
     requires within { at + 1 < length bytes.now }
     requires first { first_read (slice_index bytes.now at) ≡ More (Const64 fresh) }
     ensures { IfSome result (λ r. WholeOp bytes.now at r.next depth r.depth r.op) }
