@@ -10,6 +10,7 @@ pub mod Members
 pub mod OpSteps
 pub mod Readings
 pub mod Runs
+pub mod Segments
 pub mod ShortSteps
 pub mod Shortcuts
 pub mod Steps

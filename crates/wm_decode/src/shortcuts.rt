@@ -7,7 +7,7 @@ ghost use Rattle.std.specs.Prelude.{◌≡◌, ◌<◌, None, Some, length, min}
 ghost use Rattle.wm_decode.specs.exact.Shortcuts.{Advances};
 
 use crate::decoder::names::give_bytes;
-use crate::machine::member::{InEntry, InMember, SectionKind};
+use crate::machine::member::{InEntry, InMember, IndexOf, SectionKind};
 use crate::machine::{InCustom, Machine, refusal_of};
 use crate::shortcuts::entries::{body, entries};
 use crate::shortcuts::exports::exports;
@@ -18,6 +18,7 @@ use crate::shortcuts::heads::runs;
 use crate::shortcuts::imports::imports;
 use crate::shortcuts::in_body::InBody;
 use crate::shortcuts::indices::indices;
+use crate::shortcuts::segments::segment_head;
 use crate::shortcuts::short_bytes::short;
 use crate::shortcuts::whole_ops::take_ops;
 use crate::sink::Sink;
@@ -39,6 +40,7 @@ pub(crate) mod imports;
 pub(crate) mod in_body;
 pub(crate) mod in_section;
 pub(crate) mod indices;
+pub(crate) mod segments;
 pub(crate) mod short_bytes;
 pub(crate) mod short_steps;
 pub(crate) mod whole_indices;
@@ -100,6 +102,7 @@ enum Way {
     Ops,
     Indices,
     Short,
+    Segment,
     Data,
     Pass,
     Frame,
@@ -119,9 +122,10 @@ fn way_of(machine: Machine) -> Way {
         SectionKind::Import => Way::Import,
         SectionKind::Global => way_in_globals(at),
         SectionKind::Export => Way::Export,
-        SectionKind::Function | SectionKind::Element => Way::Indices,
+        SectionKind::Function => Way::Indices,
+        SectionKind::Element => way_in_elements(at),
         SectionKind::Code => way_in_code(at),
-        SectionKind::Segment => Way::Data,
+        SectionKind::Segment => way_in_data(at),
         _ => Way::One,
     }
 }
@@ -129,6 +133,24 @@ fn way_of(machine: Machine) -> Way {
 fn way_in_globals(at: InMember) -> Way {
     match at {
         InMember::GlobalType(InGlobalType::Type) => Way::Global,
+        _ => Way::One,
+    }
+}
+
+fn way_in_elements(at: InMember) -> Way {
+    match at {
+        InMember::Index { of, .. } => match of {
+            IndexOf::Element => Way::Segment,
+            _ => Way::Indices,
+        },
+        _ => Way::One,
+    }
+}
+
+fn way_in_data(at: InMember) -> Way {
+    match at {
+        InMember::Index { .. } => Way::Segment,
+        InMember::Data { .. } => Way::Data,
         _ => Way::One,
     }
 }
@@ -298,6 +320,7 @@ pub(crate) fn take_way<S: Sink>(
         Way::Export => return exports(sink, machine, profile, bytes),
         Way::Indices => return indices(sink, machine, profile, bytes),
         Way::Short => {}
+        Way::Segment => return segment_head(sink, machine, profile, bytes),
         Way::Data => return data(sink, machine, profile, bytes),
         Way::Pass => return pass(sink, machine, profile, bytes),
         Way::Frame => return frames(sink, machine, profile, bytes),

@@ -115,7 +115,8 @@ fn value(profile: Profile, at: InValue, byte: u8) -> (InMember, Event)
     }
 }
 
-fn functions_or_over(left: u32) -> InMember
+/// In the functions of an element segment, with so many of them left, or after it.
+pub(crate) fn functions_or_over(left: u32) -> InMember
     ensures { result ≡ functions_or_over left }
 {
     if left == 0 {
