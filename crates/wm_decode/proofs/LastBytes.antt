@@ -13,7 +13,7 @@ use Rattle.wm_decode.specs.Items.{Item}
 use Rattle.wm_decode.specs.Sinks.{Taken, and_then}
 use Rattle.wm_decode.specs.exact.Steps.{machine_in_member, step_of}
 use Rattle.wm_decode.specs.exact.MemberSteps.{member_step}
-use Rattle.wm_decode.specs.exact.Live.{IsAt, IsRefused, decoder_after, live_from, refusal_in_machine}
+use Rattle.wm_decode.specs.exact.Live.{IsAt, decoder_after, live_from, refusal_in_machine}
 use Rattle.wm_decode.specs.exact.ShortSteps.{PartMayRunOut, StepsTo, part_event, part_taken}
 use Rattle.wm_decode.specs.exact.Shortcuts.{Advances, live_so}
 use Rattle.wm_syntax.specs.declared.numbers.Step.{Step}
@@ -23,18 +23,10 @@ use Rattle.wm_syntax.specs.exact.Reading.{unsigned_push}
 use Rattle.wm_decode.specs.exact.WholeOps.{IsNumber, NumberGoes}
 use Rattle.wm_decode.proofs.Heads.{ok}
 use Rattle.wm_decode.proofs.OpLists.{range_first, range_length}
-use Rattle.wm_decode.proofs.Advances.{advances_more, advances_on, not_both, same_why}
+use Rattle.wm_decode.proofs.Advances.{advances_more, advances_on, is_refused, not_both, not_refused, same_why}
 use Rattle.wm_decode.proofs.Header.{stays}
 use Rattle.wm_decode.proofs.ShortSteps.{first_step, part_err, part_ok, part_room, short_refused}
 use Rattle.wm_decode.proofs.Stretches.{goes_on, stops}
-
-pub not_refused : (n : Machine) → refusal_in_machine n ≡ None → IsRefused n → ⊥
-not_refused (machine.Refused w) e r = cc
-not_refused n e r = r
-
-pub is_refused : (n : Machine) (w : Why) → refusal_in_machine n ≡ Some w → n ≡ machine.Refused w
-is_refused (machine.Refused v) w e = let same : v ≡ w = cc in ap machine.Refused same
-is_refused n w e = cc
 
 -- why what came of a byte is refused: by the sink, or else by the machine
 abbrev pub why_refused : {U : Type 0} → Result U Why → Machine → Option Why

@@ -34,8 +34,9 @@ use Rattle.wm_decode.specs.exact.ShortSteps.{StepsTo}
 use Rattle.wm_decode.specs.exact.Shortcuts.{Advances}
 use Rattle.wm_decode.specs.exact.WholeOps.{LiesAt}
 use Rattle.wm_decode.specs.exact.WholeNames.{IsKindByte, NameLies, before_export, before_import, names_after}
-use Rattle.wm_decode.proofs.Advances.{advances_more}
+use Rattle.wm_decode.proofs.Advances.{advances_by, advances_more, advances_none}
 use Rattle.wm_decode.proofs.Heads.{ok}
+use Rattle.wm_decode.proofs.LastBytes.{EndsWithNumber, number_last, why_refused}
 use Rattle.wm_decode.proofs.WholeNames.{behind_name, name_more}
 use Rattle.wm_decode.proofs.NumberSteps.{ReadsNumber, number_taken}
 
@@ -73,16 +74,28 @@ index_reads p left k some = record {
       ∙ ap (λ n. framed section_kind.Export f more n (with_item_given at.Over (plain.Export k v))) one;
 }
 
+index_ends : (p : Profile) (left : ℕ) (k : ExportKind) → EndsWithNumber p section_kind.Export left (λ s. at.Value (value.Export (target.Index k s))) (λ v. at.Over) (λ v. Some (plain.Export k v))
+index_ends p left k = record {
+  goes_on = λ r s c e f more. ap (λ y. framed section_kind.Export f more left (on_value (of_export (read_number y (λ s. target.Index k s) (λ n. Done (k, n)))) at.Value (λ q. with_item_given at.Over q) at.Failed)) e;
+  ends = λ r s c v e. ap (λ y. on_value (of_export (read_number y (λ s. target.Index k s) (λ n. Done (k, n)))) at.Value (λ q. with_item_given at.Over q) at.Failed) e;
+}
+
 -- before the first of them
 pub imports_start : (i : InNames) → before_import (names_after i 0 i.left) ≡ before_import i
 imports_start i =
     let a : i.more - 0 ≡ i.more = omega arith in
     ap (λ x. machine.Section section_kind.Import i.functions x i.left (at.NameLength name.ImportModule fresh)) a
 
-pub exports_start : (i : InNames) → before_export (names_after i 0 i.left) ≡ before_export i
+exports_start : (i : InNames) → before_export (names_after i 0 i.left) ≡ before_export i
 exports_start i =
     let a : i.more - 0 ≡ i.more = omega arith in
     ap (λ x. machine.Section section_kind.Export i.functions x i.left (at.NameLength name.Export fresh)) a
+
+pub exports_begun : {H : Type 0} (after : H → Item → Result H Why) (may : H → Item → Type 0) (p : Profile) (bytes : List ℕ) (h : H) (i : InNames)
+    → Advances after may p bytes (before_export i) h (record { used = 0; refused = None }) (before_export (names_after i 0 i.left)) h
+exports_begun after may p bytes h i =
+    advances_by after may p bytes (before_export i) (before_export (names_after i 0 i.left)) (before_export i) (before_export i) h h (record { used = 0; refused = None }) refl (exports_start i)
+    (advances_none after may p bytes (before_export i) h (record { used = 0; refused = None }) refl refl)
 
 module _ {H : Type 0} (after : H → Item → Result H Why) (may : H → Item → Type 0) (p : Profile) (bytes : List ℕ) (m : Machine) (h e : H) (start : InNames) (i left : ℕ) where
   -- an import after other bytes: the name of its module, its own, and what it brings in
@@ -125,20 +138,36 @@ module _ {H : Type 0} (after : H → Item → Result H Why) (may : H → Item �
         → Advances after may p bytes m h u (behind_name section_kind.Export name.Export start.functions (start.more - stop) left) g
     export_named g u r used is given = name_more after may p section_kind.Export name.Export (λ f more l. refl) start.functions left bytes m h e g start.more i stop u r before lies inside section used is given
 
+    -- up to the index of what it gives out
+    export_begun : (d : H) (k : ExportKind) → name_taken after name.Export (slice_range bytes (i + 1) stop) e ≡ Ok d → IsKindByte (slice_index bytes stop) k → stop < length bytes → stop < start.more
+        → Advances after may p bytes m h (record { used = stop + 1; refused = None }) (machine.Section section_kind.Export start.functions (start.more - stop - 1) left (at.Value (value.Export (target.Index k fresh)))) d
+    export_begun d k given kind whole far =
+        let here : Place = record { of = section_kind.Export; functions = start.functions; more = start.more - stop; left = left; at = at.Value (value.Export target.Kind) } in
+        let first : Stepped = record { left = left; at = at.Value (value.Export (target.Index k fresh)); part = None } in
+        advances_more after may p bytes m (machine.Section section_kind.Export start.functions (start.more - stop - 1) left (at.Value (value.Export (target.Index k fresh)))) h d d here first stop (record { used = stop + 1; refused = None }) ok
+        (export_named d (record { used = stop; refused = None }) ok refl refl given) whole (omega arith) (kind_alone p left (slice_index bytes stop) k kind) refl refl refl tt refl
+
     pub export_taken : {U : Type 0} (d c : H) (k : ExportKind) (x last : ℕ) (u : Shortcut) (r : Result U Why) → name_taken after name.Export (slice_range bytes (i + 1) stop) e ≡ Ok d
         → IsKindByte (slice_index bytes stop) k → LiesAt (unsigned_push 32) bytes (stop + 1) last x → last ≤ start.more → 0 < left
         → u.used ≡ last → u.refused ≡ result_err r → Taken (after d (export k x)) r c → IfErr r (λ w. w ≡ why.Memory → may d (export k x))
         → Advances after may p bytes m h u (before_export (names_after start last (left - 1))) c
     export_taken d c k x last u r given kind index far some used is taken quiet =
-        let here : Place = record { of = section_kind.Export; functions = start.functions; more = start.more - stop; left = left; at = at.Value (value.Export target.Kind) } in
-        let first : Stepped = record { left = left; at = at.Value (value.Export (target.Index k fresh)); part = None } in
         let order : stop + 1 < last = index.some in
         let whole : last ≤ length bytes = index.within in
         let place : start.more - last ≡ start.more - stop - 1 - (last - (stop + 1)) = omega arith in
-        let begun : Advances after may p bytes m h (record { used = stop + 1; refused = None }) (machine.Section section_kind.Export start.functions (start.more - stop - 1) left (at.Value (value.Export (target.Index k fresh)))) d =
-        advances_more after may p bytes m (machine.Section section_kind.Export start.functions (start.more - stop - 1) left (at.Value (value.Export (target.Index k fresh)))) h d d here first stop (record { used = stop + 1; refused = None }) ok
-        (export_named d (record { used = stop; refused = None }) ok refl refl given) (omega arith) (omega arith) (kind_alone p left (slice_index bytes stop) k kind) refl refl refl tt refl in
         number_taken after may p bytes m (before_export (names_after start last (left - 1))) h d c section_kind.Export start.functions left (λ s. at.Value (value.Export (target.Index k s)))
         (λ v. record { left = left - 1; at = at.NameLength name.Export fresh; part = Some (plain.Export k v) }) (index_reads p left k some) last x u r whole used is taken quiet
-        (last - (stop + 1)) (stop + 1) (start.more - stop - 1) fresh (omega arith) (omega arith) index.spelled begun
+        (last - (stop + 1)) (stop + 1) (start.more - stop - 1) fresh (omega arith) (omega arith) index.spelled (export_begun d k given kind (omega arith) (omega arith))
         (ap (λ n. machine.Section section_kind.Export start.functions n (left - 1) (at.NameLength name.Export fresh)) place)
+
+    -- the last of its section, or one that ends too early or too late
+    pub last_export_taken : {U : Type 0} (d c : H) (k : ExportKind) (x next rest : ℕ) (u : Shortcut) (r : Result U Why) → name_taken after name.Export (slice_range bytes (i + 1) stop) e ≡ Ok d
+        → IsKindByte (slice_index bytes stop) k → LiesAt (unsigned_push 32) bytes (stop + 1) next x → next + rest ≡ start.more + 1
+        → u.used ≡ next → u.refused ≡ why_refused r (machine_in_member section_kind.Export start.functions rest left at.Over) → Taken (after d (export k x)) r c → IfErr r (λ w. w ≡ why.Memory → may d (export k x))
+        → Advances after may p bytes m h u (machine_in_member section_kind.Export start.functions rest left at.Over) c
+    last_export_taken d c k x next rest u r given kind index room used is taken quiet =
+        let order : stop + 1 < next = index.some in
+        let whole : next ≤ length bytes = index.within in
+        number_last after may p bytes m h d c section_kind.Export start.functions left (λ s. at.Value (value.Export (target.Index k s))) (λ v. at.Over) (λ v. Some (plain.Export k v)) (index_ends p left k)
+        next x rest u r whole used is taken quiet
+        (next - (stop + 1)) (stop + 1) (start.more - stop - 1) fresh (omega arith) (omega arith) index.spelled (export_begun d k given kind (omega arith) (omega arith))

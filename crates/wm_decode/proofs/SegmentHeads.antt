@@ -1,5 +1,5 @@
 -- The head of a segment, taken at once, is what the byte step makes of it.
-use Rattle.std.proofs.Common.{◌≡◌, ℕ, suc, ◌+◌, ◌-◌, ◌<◌, ◌≤◌, List, Some, None, Result, Ok, IfErr, length, slice_index, refl, ◌∙◌, ap, arith}
+use Rattle.std.proofs.Common.{◌≡◌, ℕ, ◌+◌, ◌-◌, ◌<◌, ◌≤◌, List, Some, None, Result, Ok, IfErr, length, slice_index, refl, ◌∙◌, ap, arith}
 use Rattle.std.specs.Result.{result_err}
 use Rattle.wm_syntax.specs.declared.profile.Profile.{Profile}
 use Rattle.wm_syntax.specs.declared.why.Why.{Why}
@@ -9,14 +9,12 @@ use Rattle.wm_syntax.specs.declared.instructions.Op.TheVariants as op
 use Rattle.wm_syntax.specs.exact.Reading.{fresh, unsigned_push}
 use Rattle.wm_decode.specs.declared.machine.Machine.{Machine}
 use Rattle.wm_decode.specs.declared.machine.Machine.TheVariants as machine
-use Rattle.wm_decode.specs.declared.machine.Event.{Event}
 use Rattle.wm_decode.specs.declared.machine.Event.TheVariants as event
 use Rattle.wm_decode.specs.declared.machine.Plain.TheVariants as plain
 use Rattle.wm_decode.specs.declared.machine.member.SectionKind.{SectionKind}
 use Rattle.wm_decode.specs.declared.machine.member.IndexOf.{IndexOf}
 use Rattle.wm_decode.specs.declared.machine.member.ConstantOf.{ConstantOf}
 use Rattle.wm_decode.specs.declared.machine.member.LengthOf.{LengthOf}
-use Rattle.wm_decode.specs.declared.machine.member.InMember.{InMember}
 use Rattle.wm_decode.specs.declared.machine.member.InMember.TheVariants as at
 use Rattle.wm_decode.specs.declared.step.ops.InOp.TheVariants.{First}
 use Rattle.wm_decode.specs.declared.shortcuts.Shortcut.{Shortcut}
@@ -37,11 +35,7 @@ use Rattle.wm_decode.proofs.Advances.{advances_more, advances_none}
 use Rattle.wm_decode.proofs.Heads.{ok}
 use Rattle.wm_decode.proofs.LastBytes.{EndsWithNumber, number_last, why_refused}
 use Rattle.wm_decode.proofs.NumberSteps.{ReadsNumber, number_taken}
-use Rattle.wm_decode.proofs.WholeMembers.{constant_closed, constant_taken}
-
--- what a byte makes of the section that goes on after it
-abbrev framed : SectionKind → ℕ → ℕ → ℕ → InMember × Event → Machine × Event
-framed of f more left z = (machine_in_member of f (suc more) left z.0, z.1)
+use Rattle.wm_decode.proofs.WholeMembers.{constant_closed, constant_taken, framed}
 
 -- the index, after which an offset comes
 index_then : (p : Profile) (of : SectionKind) (x : IndexOf) (kind : ConstantOf) (left : ℕ) → after_index x ≡ at.Constant kind (at_next_op 0)

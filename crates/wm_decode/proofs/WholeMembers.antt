@@ -46,7 +46,7 @@ use Rattle.wm_decode.proofs.LastBytes.{advances_last, why_refused}
 use Rattle.wm_decode.proofs.OpLists.{is_alone, range_first, range_length}
 
 -- what a byte makes of the section that goes on after it
-abbrev framed : SectionKind → ℕ → ℕ → ℕ → InMember × Event → Machine × Event
+abbrev pub framed : SectionKind → ℕ → ℕ → ℕ → InMember × Event → Machine × Event
 framed of f more left z = (machine_in_member of f (suc more) left z.0, z.1)
 
 -- a byte of a constant's instruction, and its last

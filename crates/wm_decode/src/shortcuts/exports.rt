@@ -1,7 +1,6 @@
-//! A shortcut for exports (section 5.5.10) that follow one another.
+//! A shortcut for exports (section 5.5.10) that follow one another, with the last of a section.
 //!
-//! Empty names and long ones, the last of a section, and what is refused for its bytes are left to the byte
-//! step.
+//! Empty names and long ones, and what is refused for its bytes, are left to the byte step.
 
 ghost use Rattle.std.specs.Prelude.{◌≡◌, ◌+◌, ◌≤◌, IfSome, length, slice_index};
 ghost use Rattle.wm_syntax.specs.exact.Reading.{unsigned_push};
@@ -11,11 +10,12 @@ ghost use Rattle.wm_decode.specs.exact.WholeOps.{LiesAt};
 
 use crate::decoder::names::{give, give_name};
 use crate::machine::member::{InMember, SectionKind};
-use crate::machine::{Machine, NameKind, Plain};
+use crate::machine::{Machine, NameKind, Plain, refusal_of};
 use crate::shortcuts::Shortcut;
 use crate::shortcuts::whole_names::{InNames, name_end};
 use crate::shortcuts::whole_numbers::u32_at;
 use crate::sink::Sink;
+use crate::step::framed;
 use wm_syntax::modules::ExportKind;
 use wm_syntax::profile::Profile;
 
@@ -102,10 +102,10 @@ fn export_at(bytes: &[u8], from: usize, end: usize) -> Option<Export>
     })
 }
 
-/// Takes the exports that lie in these bytes, as long as another export comes after each.
-#[inline(never)]
+// Takes the exports that lie in these bytes, as long as another export comes after each
+#[inline(always)]
 #[tactic(auto, using(crate::proofs::Advances::advances_none))]
-pub(crate) fn exports<S: Sink>(
+fn exports_before_last<S: Sink>(
     sink: &mut S,
     machine: &mut Machine,
     profile: Profile,
@@ -138,5 +138,72 @@ pub(crate) fn exports<S: Sink>(
     Shortcut {
         used,
         refused: None,
+    }
+}
+
+// Takes the last export of a section
+#[inline(always)]
+#[tactic(auto, using(crate::proofs::Advances::advances_none))]
+fn last_export<S: Sink>(
+    sink: &mut S,
+    machine: &mut Machine,
+    profile: Profile,
+    bytes: &[u8],
+) -> Shortcut
+    ensures { Advances S.after S.may_run_out profile bytes.now machine.old (S.held sink.old) result
+        machine.new (S.held sink.new) }
+{
+    let Some(start) = at_export(*machine) else {
+        return Shortcut::none();
+    };
+    if start.left != 0 {
+        return Shortcut::none();
+    }
+    let Some(found) = export_at(bytes, 0, bytes.len()) else {
+        return Shortcut::none();
+    };
+    let last = found.next - 1;
+    if last > start.more as usize {
+        return Shortcut::none();
+    }
+    let name = &bytes[1..found.stop];
+    if let Err(why) = give_name(sink, NameKind::Export, name) {
+        return Shortcut::out(found.stop, why);
+    }
+    if let Err(why) = give(sink, Plain::Export(found.kind, found.index)) {
+        return Shortcut::out(found.next, why);
+    }
+    *machine = framed(
+        SectionKind::Export,
+        start.functions,
+        start.more - last as u32,
+        start.left,
+        InMember::Over,
+    );
+    Shortcut {
+        used: found.next,
+        refused: refusal_of(*machine),
+    }
+}
+
+/// Takes the exports that lie in these bytes.
+#[inline(never)]
+pub(crate) fn exports<S: Sink>(
+    sink: &mut S,
+    machine: &mut Machine,
+    profile: Profile,
+    bytes: &[u8],
+) -> Shortcut
+    ensures { Advances S.after S.may_run_out profile bytes.now machine.old (S.held sink.old) result
+        machine.new (S.held sink.new) }
+{
+    let some = exports_before_last(sink, machine, profile, bytes);
+    if some.refused.is_some() {
+        return some;
+    }
+    let last = last_export(sink, machine, profile, &bytes[some.used..]);
+    Shortcut {
+        used: some.used + last.used,
+        refused: last.refused,
     }
 }

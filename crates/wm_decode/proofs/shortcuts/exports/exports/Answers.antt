@@ -1,56 +1,16 @@
-use Rattle.std.proofs.Common.{◌+◌, ◌<◌, ◌≤◌, None, ap, arith, refl, sym, ◌∙◌}
-use Rattle.std.specs.Result.{result_err}
-use Rattle.wm_decode.specs.exact.WholeNames.{before_export}
-use Rattle.wm_decode.proofs.Advances.{advances_by, advances_none, advances_out}
-use Rattle.wm_decode.proofs.Heads.{ok}
-use Rattle.wm_decode.proofs.NamedMembers.{export_named, export_taken, exports_start}
+use Rattle.std.proofs.Common.{List, ℕ, refl, rules, subst}
+use Rattle.std.proofs.lemmas.List.{take_rest}
+use Rattle.wm_decode.specs.exact.Shortcuts.{Advances}
+use Rattle.wm_decode.proofs.Advances.{advances_on}
 use Rattle.wm_decode.proofs.shortcuts.exports.exports.Goals as goal
 
-pub loop-left-init : goal.loop-left-init
-loop-left-init g c = record {
-  within = omega arith;
-  section = omega arith;
-  advanced = advances_by g.S.Sink.after g.S.Sink.may_run_out c.args.profile _ _ _ _ _ _ _ _ refl (exports_start c.in-Some.start) (advances_none g.S.Sink.after g.S.Sink.may_run_out c.args.profile c.args.bytes.now (before_export c.in-Some.start) (g.S.Sink.held c.args.sink.now) (record { used = 0; refused = None }) refl refl);
-}
-
-pub returns-in-Err : goal.returns-in-Err
-returns-in-Err g c =
+pub returns : goal.returns
+returns g c =
     let held = g.S.Sink.held in
-    let l = c.loop-left in
-    let x = c.in-Some-export_at in
-    let within : x.found.next ≤ c.min-end.result = x.ensures.within in
-    let order : x.found.stop + 1 < x.found.next = x.ensures.index.some in
-    let out = c.out in
-    advances_by g.S.Sink.after g.S.Sink.may_run_out c.args.profile _ _ _ _ _ _ _ _ c.in-Some.ensures refl
-    (advances_out g.S.Sink.after g.S.Sink.may_run_out c.args.profile c.args.bytes.now (before_export c.in-Some.start) _ c.args.machine.now (held c.args.sink.now) (held c.give_name.new.sink) (held c.give_name.new.sink) out.result c.in-Err.why out.ensures.refused (omega (arith, x.ensures.name.some))
-    (export_named g.S.Sink.after g.S.Sink.may_run_out c.args.profile c.args.bytes.now (before_export c.in-Some.start) (held c.args.sink.now) (held l.sink) c.in-Some.start l.used l.left x.found.stop l.invariant.advanced x.ensures.name (omega arith) (omega arith)
-    (held c.give_name.new.sink) out.result c.give_name.result out.ensures.used (out.ensures.refused ∙ sym (ap result_err c.in-Err.is)) c.give_name.ensures.given))
-
-pub returns-in-Err-give : goal.returns-in-Err-give
-returns-in-Err-give g c =
-    let held = g.S.Sink.held in
-    let l = c.loop-left in
-    let x = c.in-Some-export_at in
-    let within : x.found.next ≤ c.min-end.result = x.ensures.within in
-    let order : x.found.stop + 1 < x.found.next = x.ensures.index.some in
-    let out = c.out-in-Err-give in
-    advances_by g.S.Sink.after g.S.Sink.may_run_out c.args.profile _ _ _ _ _ _ _ _ c.in-Some.ensures refl
-    (advances_out g.S.Sink.after g.S.Sink.may_run_out c.args.profile c.args.bytes.now (before_export c.in-Some.start) _ c.args.machine.now (held c.args.sink.now) (held c.give.new.sink) (held c.give.new.sink) out.result c.in-Err-give.why out.ensures.refused (omega arith)
-    (export_taken g.S.Sink.after g.S.Sink.may_run_out c.args.profile c.args.bytes.now (before_export c.in-Some.start) (held c.args.sink.now) (held l.sink) c.in-Some.start l.used l.left x.found.stop l.invariant.advanced x.ensures.name (omega arith) (omega arith)
-    (held c.give_name.new.sink) (held c.give.new.sink) x.found.kind x.found.index x.found.next out.result c.give.result c.in_default-give_name.ensures.given x.ensures.kind x.ensures.index (omega arith) (omega arith)
-    out.ensures.used (out.ensures.refused ∙ sym (ap result_err c.in-Err-give.is)) c.give.ensures.given c.give.ensures.room))
-
-pub loop-left-preserved : goal.loop-left-preserved
-loop-left-preserved g c =
-    let held = g.S.Sink.held in
-    let l = c.loop-left in
-    let x = c.in-Some-export_at in
-    let within : x.found.next ≤ c.min-end.result = x.ensures.within in
-    let order : x.found.stop + 1 < x.found.next = x.ensures.index.some in
-    record {
-      within = omega arith;
-      section = omega arith;
-      advanced = export_taken g.S.Sink.after g.S.Sink.may_run_out c.args.profile c.args.bytes.now (before_export c.in-Some.start) (held c.args.sink.now) (held l.sink) c.in-Some.start l.used l.left x.found.stop l.invariant.advanced x.ensures.name (omega arith) (omega arith)
-          (held c.give_name.new.sink) (held c.give.new.sink) x.found.kind x.found.index x.found.next (record { used = x.found.next; refused = None }) ok c.in_default-give_name.ensures.given x.ensures.kind x.ensures.index (omega arith) (omega arith)
-          refl refl c.in_default-give.ensures.given tt;
-    }
+    let one = c.exports_before_last-some.result in
+    let two = c.last_export-last.result in
+    let bytes : List ℕ = c.args.bytes.now in
+    advances_on g.S.Sink.after g.S.Sink.may_run_out c.args.profile bytes c.args.machine.now c.exports_before_last-some.new.machine c.last_export-last.new.machine (held c.args.sink.now) (held c.exports_before_last-some.new.sink) (held c.last_export-last.new.sink) one two _
+    c.exports_before_last-some.ensures (search rules)
+    (subst (λ (y : List ℕ). Advances g.S.Sink.after g.S.Sink.may_run_out c.args.profile y c.exports_before_last-some.new.machine (held c.exports_before_last-some.new.sink) two c.last_export-last.new.machine (held c.last_export-last.new.sink)) (take_rest bytes one.used) c.last_export-last.ensures)
+    refl refl

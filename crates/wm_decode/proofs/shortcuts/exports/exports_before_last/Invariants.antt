@@ -1,7 +1,7 @@
 use Rattle.std.proofs.Common.{◌≤◌, None, length}
 use Rattle.wm_decode.specs.exact.Shortcuts.{Advances}
 use Rattle.wm_decode.specs.exact.WholeNames.{before_export, names_after}
-use Rattle.wm_decode.proofs.shortcuts.exports.exports.Given as goal
+use Rattle.wm_decode.proofs.shortcuts.exports.exports_before_last.Given as goal
 
 abbrev pub invariant-loop-left : goal.invariant-loop-left
 invariant-loop-left g l = record {
