@@ -41,14 +41,6 @@ not_both r w a b = let s : None ≡ Some w = sym a ∙ b in cc
 pub same_why : (r : Option Why) (v w : Why) → r ≡ Some v → r ≡ Some w → v ≡ w
 same_why r v w a b = let s : Some v ≡ Some w = sym a ∙ b in cc
 
-pub not_refused : (n : Machine) → refusal_in_machine n ≡ None → IsRefused n → ⊥
-not_refused (machine.Refused w) e r = cc
-not_refused n e r = r
-
-pub is_refused : (n : Machine) (w : Why) → refusal_in_machine n ≡ Some w → n ≡ machine.Refused w
-is_refused (machine.Refused v) w e = let same : v ≡ w = cc in ap machine.Refused same
-is_refused n w e = cc
-
 module _ {H : Type 0} (after : H → Item → Result H Why) (may : H → Item → Type 0) (p : Profile) where
   -- nothing was taken
   pub advances_idle : (bytes : List ℕ) (m : Machine) (h g : H) (s : Shortcut) → s.used ≡ 0 → s.refused ≡ None → g ≡ h → Advances after may p bytes m h s m g
@@ -367,7 +359,7 @@ module _ {H : Type 0} (after : H → Item → Result H Why) (may : H → Item �
           ∙ ap (λ i. decoder_after after p limit (live_so (ended used) [] g (k + s.used)) (drop i bytes)) (sym eu));
       stopped = λ limit k name w no ne fits.
           decoded limit k name fits ∙ ap (λ y. and_then y (λ x. decoder_after after p limit x (drop (used + 1) bytes))) (stops (ended used) [] g (k + s.used) w (sym is ∙ no));
-      live = λ none l. not_refused (ended used) (sym is ∙ none);
+      live = λ none l. still_live (ended used) (sym is ∙ none);
       past_header = λ k go far.
           let farther : 8 ≤ k + used = omega arith in
           let place : k + used + 1 ≡ k + s.used = omega arith in

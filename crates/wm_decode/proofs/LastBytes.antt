@@ -23,10 +23,10 @@ use Rattle.wm_syntax.specs.exact.Reading.{unsigned_push}
 use Rattle.wm_decode.specs.exact.WholeOps.{IsNumber, NumberGoes}
 use Rattle.wm_decode.proofs.Heads.{ok}
 use Rattle.wm_decode.proofs.OpLists.{range_first, range_length}
-use Rattle.wm_decode.proofs.Advances.{advances_more, advances_on, is_refused, not_both, not_refused, same_why}
+use Rattle.wm_decode.proofs.Advances.{advances_more, advances_on, not_both, same_why}
 use Rattle.wm_decode.proofs.Header.{stays}
 use Rattle.wm_decode.proofs.ShortSteps.{first_step, part_err, part_ok, part_room, short_refused}
-use Rattle.wm_decode.proofs.Stretches.{goes_on, stops}
+use Rattle.wm_decode.proofs.Stretches.{goes_on, is_refused, still_live, stops}
 
 -- why what came of a byte is refused: by the sink, or else by the machine
 abbrev pub why_refused : {U : Type 0} → Result U Why → Machine → Option Why
@@ -54,7 +54,7 @@ module _ {H : Type 0} (after : H → Item → Result H Why) (may : H → Item �
         reached limit k name fits
         ∙ (ap (λ y. and_then y (λ x. decoder_after after p limit x (drop 1 bytes))) (stops ended [] g (k + 1) w (sym is ∙ no))
         ∙ ap (λ i. Err (record { at = k + i; why = w })) (sym used));
-    live = λ none l. not_refused ended (sym is ∙ none);
+    live = λ none l. still_live ended (sym is ∙ none);
     past_header = λ k go far.
         let place : k + 1 ≡ k + s.used = omega arith in
         (omega arith, λ none. subst (IsAt ended) place (subst (λ (y : InMember). IsAt (machine_in_member of functions more left y) (k + 1)) (ap (λ y. y.0) to) (stays p here (slice_index bytes 0) k far)));
