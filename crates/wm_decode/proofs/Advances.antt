@@ -8,9 +8,6 @@ use Rattle.wm_syntax.specs.declared.why.Why.{Why}
 use Rattle.wm_syntax.specs.declared.why.Why.TheVariants as why
 use Rattle.wm_decode.specs.declared.machine.Machine.{Machine}
 use Rattle.wm_decode.specs.declared.machine.Machine.TheVariants as machine
-use Rattle.wm_decode.specs.declared.machine.Event.{Event}
-use Rattle.wm_decode.specs.declared.machine.Event.TheVariants as event
-use Rattle.wm_decode.specs.declared.machine.Plain.{Plain}
 use Rattle.wm_decode.specs.declared.machine.InCustom.TheVariants as custom
 use Rattle.wm_decode.specs.declared.machine.member.SectionKind.{SectionKind}
 use Rattle.wm_decode.specs.declared.machine.member.InMember.TheVariants as at
@@ -23,15 +20,14 @@ use Rattle.wm_decode.specs.Items.{Item, data_byte}
 use Rattle.wm_decode.specs.Sinks.{Taken, all_taken, and_then}
 use Rattle.wm_decode.specs.exact.Steps.{step_of, machine_in_member}
 use Rattle.wm_decode.specs.exact.MemberSteps.{data_or_over}
-use Rattle.wm_decode.specs.exact.Live.{IsAt, MayRunOutAtByte, decoder_after, live_from, live_or_refused, refusal_in_machine}
-use Rattle.wm_decode.specs.exact.Runs.{plain_item}
+use Rattle.wm_decode.specs.exact.Live.{IsAt, MayRunOutAtByte, decoder_after, live_or_refused, refusal_in_machine}
 use Rattle.wm_decode.specs.exact.Indices.{GaveEach, before_index, index_item_in, indices_after}
 use Rattle.wm_decode.specs.exact.ShortSteps.{PartMayRunOut, StepsTo, after_stepped, part_event, part_taken, standing}
 use Rattle.wm_decode.specs.exact.Shortcuts.{Advances, live_so}
 use Rattle.wm_decode.specs.exact.WholeOps.{RanTo, before_op}
 use Rattle.wm_decode.proofs.Header.{stays}
 use Rattle.wm_decode.proofs.IndexBytes.{InFront, indices_moved, indices_refused}
-use Rattle.wm_decode.proofs.ShortSteps.{first_step, part_err, part_ok, part_room, short_moved, short_refused}
+use Rattle.wm_decode.proofs.ShortSteps.{part_err, part_ok, part_room, short_moved, short_refused}
 use Rattle.wm_decode.proofs.Stretches.{data_decoded, data_ended, goes_on, is_refused, skips, still_live, stops}
 use Rattle.wm_decode.proofs.WholeOps.{ran_decoded, ran_refused}
 
@@ -183,73 +179,6 @@ module _ {H : Type 0} (after : H → Item → Result H Why) (may : H → Item �
       let one = advances_step (drop i bytes) f g q x (record { used = 1; refused = u.refused }) more (omega arith) here refl r er given quiet in
       advances_by bytes m n m (after_stepped q.of q.functions (q.more - 1) x) h g u refl en
       (advances_on bytes m (standing q) (after_stepped q.of q.functions (q.more - 1) x) h f g (record { used = i; refused = None }) (record { used = 1; refused = u.refused }) u a refl one eu refl)
-
-  -- a byte after which the section may be over, or the machine refuse: the sink took what it completed
-  module _ (q : Place) (n : Machine) (part : Plain) (f : H) where
-    advances_last : (bytes : List ℕ) (g : H) (s : Shortcut) → 0 < length bytes → step_of p (standing q) (slice_index bytes 0) ≡ (n, event.Complete part)
-        → s.used ≡ 1 → s.refused ≡ refusal_in_machine n → after f (plain_item part) ≡ Ok g → Advances after may p bytes (standing q) f s n g
-    advances_last bytes g s some to used is given = record {
-      within = omega arith;
-      still = λ e. absurd (omega arith);
-      moved = λ limit k name go none fits.
-          goes limit k name (omega arith)
-          ∙ (ap (λ y. and_then y (λ l. decoder_after after p limit l (drop 1 bytes))) (goes_on n [] g (k + 1) (sym is ∙ none))
-          ∙ ap (λ i. decoder_after after p limit (live_so n [] g (k + i)) (drop i bytes)) (sym used));
-      stopped = λ limit k name w no ne fits.
-          goes limit k name (omega arith)
-          ∙ (ap (λ y. and_then y (λ l. decoder_after after p limit l (drop 1 bytes))) (stops n [] g (k + 1) w (sym is ∙ no))
-          ∙ ap (λ i. Err (record { at = k + i; why = w })) (sym used));
-      live = λ none l. still_live n (sym is ∙ none);
-      past_header = λ k go far.
-          let place : k + 1 ≡ k + s.used = omega arith in
-          let late : 8 ≤ k = far in
-          (omega arith, λ none. subst (IsAt n) place (subst (λ (y : Machine × Event). IsAt y.0 (k + 1)) to (stays p (standing q) (slice_index bytes 0) k far)));
-      room = λ k name short out. inr (ap (λ (y : Machine × Event). y.0) to ∙ is_refused n why.Memory (sym is ∙ out));
-    }
-      where
-        goes : (limit k : ℕ) (name : List ℕ) → k < limit → decoder_after after p limit (live_so (standing q) name f k) bytes ≡ and_then (live_or_refused n [] g (k + 1)) (λ l. decoder_after after p limit l (drop 1 bytes))
-        goes limit k name less =
-            first_step after p limit bytes (standing q) n (event.Complete part) name f k some less to
-            ∙ ap (λ y. and_then (live_from n (k + 1) (and_then y (λ g. Ok ([], g)))) (λ l. decoder_after after p limit l (drop 1 bytes))) given
-
-    -- or it refused that
-    advances_last_out : (bytes : List ℕ) (d : Machine) (g : H) (s : Shortcut) (v : Why) → 0 < length bytes → step_of p (standing q) (slice_index bytes 0) ≡ (n, event.Complete part)
-        → s.used ≡ 1 → s.refused ≡ Some v → (v ≢ why.Memory → after f (plain_item part) ≡ Err v) → (v ≡ why.Memory → may f (plain_item part)) → Advances after may p bytes (standing q) f s d g
-    advances_last_out bytes d g s v some to used is given quiet = record {
-      within = omega arith;
-      still = λ e. absurd (omega arith);
-      moved = λ limit k name go none fits. absurd (not_both s.refused v none is);
-      stopped = λ limit k name w no ne fits.
-          let same : v ≡ w = same_why s.refused v w is no in
-          short_refused after p limit bytes (standing q) n (event.Complete part) name f k w some (omega arith) to
-          (part_err after (Some part) name (slice_index bytes 0) f w (given (λ e. ne (sym same ∙ e)) ∙ ap Err same))
-          ∙ ap (λ i. Err (record { at = k + i; why = w })) (sym used);
-      live = λ none l. absurd (not_both s.refused v none is);
-      past_header = λ k go far.
-          let late : 8 ≤ k = far in
-          (omega arith, λ none. absurd (not_both s.refused v none is));
-      room = λ k name short no. part_room may p (standing q) n (Some part) name f k (slice_index bytes 0) to (quiet (same_why s.refused v why.Memory is no));
-    }
-
-    -- the same after other bytes
-    module _ (bytes : List ℕ) (m : Machine) (h g : H) (i : ℕ) (u : Shortcut) (a : Advances after may p bytes m h (record { used = i; refused = None }) (standing q) f) (less : i < length bytes) (to : step_of p (standing q) (slice_index bytes i) ≡ (n, event.Complete part)) (eu : u.used ≡ i + 1) where
-      here : slice_index bytes i ≡ slice_index (drop i bytes) 0
-      here =
-          let place : i + 0 ≡ i = omega arith in
-          sym (rw (get_or-drop) (ap (λ j. get_or bytes j 0) place))
-
-      some_left : 0 < length (drop i bytes)
-      some_left = omega (arith, length-drop i bytes)
-
-      pub advances_over : u.refused ≡ refusal_in_machine n → after f (plain_item part) ≡ Ok g → Advances after may p bytes m h u n g
-      advances_over is given =
-          advances_on bytes m (standing q) n h f g (record { used = i; refused = None }) (record { used = 1; refused = u.refused }) u a refl
-          (advances_last (drop i bytes) g (record { used = 1; refused = u.refused }) some_left (subst (λ c. step_of p (standing q) c ≡ (n, event.Complete part)) here to) refl is given) eu refl
-
-      pub advances_over_out : (d : Machine) (v : Why) → u.refused ≡ Some v → (v ≢ why.Memory → after f (plain_item part) ≡ Err v) → (v ≡ why.Memory → may f (plain_item part)) → Advances after may p bytes m h u d g
-      advances_over_out d v is given quiet =
-          advances_on bytes m (standing q) d h f g (record { used = i; refused = None }) (record { used = 1; refused = u.refused }) u a refl
-          (advances_last_out (drop i bytes) d g (record { used = 1; refused = u.refused }) v some_left (subst (λ c. step_of p (standing q) c ≡ (n, event.Complete part)) here to) refl is given quiet) eu refl
 
   -- whole ops
   pub advances_ops : (bytes : List ℕ) (b : InBody) (h g : H) (s : Shortcut) (d : ℕ) → RanTo after p h bytes (min b.more b.rest) b.depth s.used d s.refused g

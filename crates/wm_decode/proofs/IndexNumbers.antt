@@ -1,5 +1,5 @@
 -- An index of any length is taken as the byte step takes it: one after which another of its list comes, and the last.
-use Rattle.std.proofs.Common.{◌≡◌, ◌≢◌, ℕ, suc, ◌+◌, ◌-◌, ◌<◌, ◌≤◌, List, Some, None, Result, Ok, Err, IfErr, length, slice_index, slice_range, refl, sym, ◌∙◌, ap, subst, arith}
+use Rattle.std.proofs.Common.{◌≡◌, ℕ, suc, ◌+◌, ◌-◌, ◌<◌, ◌≤◌, List, Some, None, Result, IfErr, length, slice_index, slice_range, refl, sym, ◌∙◌, ap, subst, arith}
 use Rattle.std.specs.Result.{result_err}
 use Rattle.wm_syntax.specs.declared.profile.Profile.{Profile}
 use Rattle.wm_syntax.specs.declared.numbers.Step.TheVariants as step
@@ -21,23 +21,22 @@ use Rattle.wm_decode.specs.declared.machine.member.IndexOf.TheVariants as index_
 use Rattle.wm_decode.specs.declared.machine.member.InEntry.TheVariants as entry
 use Rattle.wm_decode.specs.declared.step.expressions.InExpression.TheVariants as expression
 use Rattle.wm_decode.specs.declared.shortcuts.Shortcut.{Shortcut}
-use Rattle.wm_decode.specs.declared.shortcuts.short_steps.Place.{Place}
 use Rattle.wm_decode.specs.declared.shortcuts.short_steps.Stepped.{Stepped}
 use Rattle.wm_decode.specs.declared.shortcuts.indices.IndexList.{IndexList}
 use Rattle.wm_decode.specs.declared.shortcuts.indices.IndexList.TheVariants as list
 use Rattle.wm_decode.specs.declared.shortcuts.indices.InIndices.{InIndices}
 use Rattle.wm_decode.specs.Items.{Item}
 use Rattle.wm_decode.specs.Sinks.{Taken}
-use Rattle.wm_decode.specs.exact.Steps.{machine_in_member, step_of}
-use Rattle.wm_decode.specs.exact.Live.{refusal_in_machine}
+use Rattle.wm_decode.specs.exact.Steps.{machine_in_member}
 use Rattle.wm_decode.specs.exact.OpSteps.{on_answer}
 use Rattle.wm_decode.specs.exact.ExpressionSteps.{after_label, expression_failed}
-use Rattle.wm_decode.specs.exact.MemberSteps.{on_number, after_index, index_item, with_item_given, member_in_entry, entry_after_op, op_event}
-use Rattle.wm_decode.specs.exact.ShortSteps.{StepsTo, standing}
+use Rattle.wm_decode.specs.exact.MemberSteps.{member_step, on_number, after_index, index_item, with_item_given, member_in_entry, entry_after_op, op_event}
+use Rattle.wm_decode.specs.exact.ShortSteps.{StepsTo}
 use Rattle.wm_decode.specs.exact.Shortcuts.{Advances}
 use Rattle.wm_decode.specs.exact.Indices.{LiesIn, after_last, at_index, before_index, followed_in, index_item_in, index_part, indices_ended, indices_past, list_past, members_after, room_in}
 use Rattle.wm_decode.specs.exact.WholeOps.{IsNumber, LiesAt}
-use Rattle.wm_decode.proofs.Advances.{advances_by, advances_more, advances_none, advances_over, advances_over_out}
+use Rattle.wm_decode.proofs.Advances.{advances_by, advances_more, advances_none}
+use Rattle.wm_decode.proofs.LastBytes.{advances_last, why_refused}
 use Rattle.wm_decode.proofs.NumberSteps.{BeforeLast, NumberGoesOn, before_last}
 
 -- where an index of a list stands after some of its bytes, with so many bytes of what it lies in to come after the next
@@ -209,19 +208,17 @@ module _ {H : Type 0} (after : H → Item → Result H Why) (may : H → Item �
       (subst (λ y. Taken (after e y) r g) (sym item) given) (subst (λ y. IfErr r (λ w. w ≡ why.Memory → may e y)) (sym item) quiet))
 
 -- the last byte of the last index
-index_over : (p : Profile) (of : SectionKind) (f more left all n v : ℕ) (l : IndexList) → followed_in left l ≡ 0 → (r s : Partial) (c : ℕ) → unsigned_push 32 r c ≡ (step.Done v, s)
-    → step_of p (machine.Section of f more left (in_index l (space_in all l - n) r)) c ≡ (machine_in_member of f more left (after_last l n), event.Complete (index_part l v))
-index_over p of f more left all n v list.Types none r s c e =
-    ap (λ y. let q = on_number y (λ s. at.Index index_of.Function s) (λ n. with_item_given (after_index index_of.Function) (index_item index_of.Function n)) at.Failed
-    in (machine_in_member of f more left q.0, q.1)) e
-index_over p of f more left all n v (list.Functions rest) none r s c e =
-    ap (λ y. let q = on_number y (λ s. at.Index (index_of.ElementFunction rest) s) (λ n. with_item_given (after_index (index_of.ElementFunction rest)) (index_item (index_of.ElementFunction rest) n)) at.Failed
-    in (machine_in_member of f more left q.0, q.1)) e
-    ∙ ap (λ y. (machine_in_member of f more left (after_index (index_of.ElementFunction y)), event.Complete (plain.ElementFunction v))) none
-index_over p of f more left all n v (list.Labels rest depth labels) none r s c e =
+index_over : (p : Profile) (left all n v : ℕ) (l : IndexList) → followed_in left l ≡ 0 → (r s : Partial) (c : ℕ) → unsigned_push 32 r c ≡ (step.Done v, s)
+    → member_step p (in_index l (space_in all l - n) r) c ≡ (after_last l n, event.Complete (index_part l v))
+index_over p left all n v list.Types none r s c e =
+    ap (λ y. on_number y (λ s. at.Index index_of.Function s) (λ n. with_item_given (after_index index_of.Function) (index_item index_of.Function n)) at.Failed) e
+index_over p left all n v (list.Functions rest) none r s c e =
+    ap (λ y. on_number y (λ s. at.Index (index_of.ElementFunction rest) s) (λ n. with_item_given (after_index (index_of.ElementFunction rest)) (index_item (index_of.ElementFunction rest) n)) at.Failed) e
+    ∙ ap (λ y. (after_index (index_of.ElementFunction y), event.Complete (plain.ElementFunction v))) none
+index_over p left all n v (list.Labels rest depth labels) none r s c e =
     ap (λ x. let y = on_answer x (λ s. (expression.Label depth labels s, None)) (λ l. (after_label depth labels, Some (op.Label l))) (expression_failed why.BadNumber)
-    in (machine_in_member of f more left (member_in_entry (rest - n) (entry_after_op y.0)), op_event plain.BodyOp y.1)) e
-    ∙ ap (λ y. (machine_in_member of f more left (member_in_entry (rest - n) (entry_after_op (after_label depth y))), op_event plain.BodyOp (Some (op.Label v)))) none
+    in (member_in_entry (rest - n) (entry_after_op y.0), op_event plain.BodyOp y.1)) e
+    ∙ ap (λ y. (member_in_entry (rest - n) (entry_after_op (after_label depth y)), op_event plain.BodyOp (Some (op.Label v)))) none
 
 module _ {H : Type 0} (after : H → Item → Result H Why) (may : H → Item → Type 0) (p : Profile) (bytes : List ℕ) (h g : H) (q : InIndices) (last v : ℕ) (u : Shortcut)
     (number : LiesAt (unsigned_push 32) bytes 0 last v) (room : last - 1 ≤ room_in q.more q.list) (none : followed_in q.left q.list ≡ 0) (eu : u.used ≡ last) where
@@ -238,26 +235,12 @@ module _ {H : Type 0} (after : H → Item → Result H Why) (may : H → Item �
       (subst (λ y. Advances after may p bytes (before_index q) h (record { used = 0; refused = None }) (machine.Section q.of q.functions q.more q.left y) h) (begins q.more q.list)
       (advances_none after may p bytes (before_index q) h (record { used = 0; refused = None }) refl refl))
 
-  abbrev at_last : Partial → Place
-  at_last r = record { of = q.of; functions = q.functions; more = q.more - (last - 1); left = q.left; at = in_index q.list (space_in q.more q.list - (last - 1)) r }
-
-  ends_so : step_of p (standing (at_last before_it.reader)) (slice_index bytes (last - 1)) ≡ (indices_ended q (last - 1), event.Complete (index_part q.list v))
-  ends_so = index_over p q.of q.functions (q.more - (last - 1)) q.left q.more (last - 1) v q.list none before_it.reader before_it.next (slice_index bytes (last - 1)) before_it.ends
-
-  inside : last - 1 < length bytes
-  inside =
+  -- the last index, which the sink took or refused
+  pub last_taken : {U : Type 0} (r : Result U Why) → u.refused ≡ why_refused r (indices_ended q (last - 1)) → Taken (after h (index_item_in q.list v)) r g → IfErr r (λ w. w ≡ why.Memory → may h (index_item_in q.list v))
+      → Advances after may p bytes (before_index q) h u (indices_ended q (last - 1)) g
+  last_taken r er given quiet =
       let order : 0 < last = number.some in
       let whole : last ≤ length bytes = number.within in
-      omega arith
-
-  ended : u.used ≡ last - 1 + 1
-  ended =
-      let order : 0 < last = number.some in
-      omega arith
-
-  -- the last index
-  pub last_taken : u.refused ≡ refusal_in_machine (indices_ended q (last - 1)) → after h (index_item_in q.list v) ≡ Ok g → Advances after may p bytes (before_index q) h u (indices_ended q (last - 1)) g
-  last_taken is given = advances_over after may p (at_last before_it.reader) (indices_ended q (last - 1)) (index_part q.list v) h bytes (before_index q) h g (last - 1) u before_it.came inside ends_so ended is given
-
-  pub last_refused : (d : Machine) (w : Why) → u.refused ≡ Some w → (w ≢ why.Memory → after h (index_item_in q.list v) ≡ Err w) → (w ≡ why.Memory → may h (index_item_in q.list v)) → Advances after may p bytes (before_index q) h u d g
-  last_refused d w is given quiet = advances_over_out after may p (at_last before_it.reader) (indices_ended q (last - 1)) (index_part q.list v) h bytes (before_index q) h g (last - 1) u before_it.came inside ends_so ended d w is given quiet
+      let b = before_it in
+      advances_last after may p q.of q.functions (q.more - (last - 1)) q.left (in_index q.list (space_in q.more q.list - (last - 1)) b.reader) (after_last q.list (last - 1)) (Some (index_part q.list v)) bytes (before_index q) h h g (last - 1) u r b.came (omega arith)
+      (index_over p q.left q.more (last - 1) v q.list none b.reader b.next (slice_index bytes (last - 1)) b.ends) (omega arith) er given quiet
