@@ -1,5 +1,5 @@
 -- A byte of a member after other bytes, also one that ends the member or is refused there.
-use Rattle.std.proofs.Common.{zero, suc, ◌∷◌, take, slice_range, ◌≡◌, ℕ, ◌+◌, ◌-◌, ◌<◌, ◌≤◌, inr, List, [], Option, Some, None, Result, Ok, Err, IfErr, length, length-drop, drop, get_or, get_or-drop, slice_index, refl, sym, ◌∙◌, ap, subst, arith}
+use Rattle.std.proofs.Common.{zero, suc, take, slice_range, ◌≡◌, ℕ, ◌+◌, ◌-◌, ◌<◌, ◌≤◌, inr, List, [], Option, Some, None, Result, Ok, Err, IfErr, length, length-drop, drop, get_or, get_or-drop, slice_index, refl, sym, ◌∙◌, ap, subst, arith}
 use Rattle.wm_syntax.specs.declared.profile.Profile.{Profile}
 use Rattle.wm_syntax.specs.declared.why.Why.{Why}
 use Rattle.wm_syntax.specs.declared.why.Why.TheVariants as why
@@ -16,15 +16,13 @@ use Rattle.wm_decode.specs.exact.MemberSteps.{member_step}
 use Rattle.wm_decode.specs.exact.Live.{IsAt, decoder_after, live_from, refusal_in_machine}
 use Rattle.wm_decode.specs.exact.ShortSteps.{PartMayRunOut, StepsTo, part_event, part_taken}
 use Rattle.wm_decode.specs.exact.Shortcuts.{Advances, live_so}
-use Rattle.wm_syntax.specs.declared.numbers.Step.{Step}
 use Rattle.wm_syntax.specs.declared.numbers.Step.TheVariants as step
 use Rattle.wm_syntax.specs.inner.Numbers.{Partial}
 use Rattle.wm_syntax.specs.exact.Reading.{unsigned_push}
-use Rattle.wm_decode.specs.exact.WholeOps.{IsNumber, NumberGoes}
-use Rattle.wm_decode.proofs.Heads.{ok}
-use Rattle.wm_decode.proofs.OpLists.{range_first, range_length}
-use Rattle.wm_decode.proofs.Advances.{advances_more, advances_on, not_both, same_why}
+use Rattle.wm_decode.specs.exact.WholeOps.{IsNumber}
+use Rattle.wm_decode.proofs.Advances.{advances_on, not_both, same_why}
 use Rattle.wm_decode.proofs.Header.{stays}
+use Rattle.wm_decode.proofs.NumberSteps.{before_last}
 use Rattle.wm_decode.proofs.ShortSteps.{first_step, part_err, part_ok, part_room, short_refused}
 use Rattle.wm_decode.proofs.Stretches.{goes_on, is_refused, still_live, stops}
 
@@ -99,12 +97,7 @@ module _ {H : Type 0} (after : H → Item → Result H Why) (may : H → Item �
       advances_on after may p bytes m here ended h f g (record { used = i; refused = None }) (record { used = 1; refused = u.refused }) u a refl
       (one_byte (drop i bytes) f g (record { used = 1; refused = u.refused }) r (omega arith) (ap (member_step p q) (sym first) ∙ to) refl er given quiet) eu refl
 
--- a number that a member or its head ends with
-some_rest : (s : Partial) (b : List ℕ) (v : ℕ) → IsNumber (unsigned_push 32) s b v → 0 < length b
-some_rest s [] v is = absurd is
-some_rest s (c ∷ b) v is = omega arith
-
--- where the number stands, and what comes of it: a byte of it goes on so, and its last ends so
+-- where a number stands that a member or its head ends with, and what comes of it: a byte of it goes on so, and its last ends so
 pub record EndsWithNumber (p : Profile) (of : SectionKind) (left : ℕ) (q : Partial → InMember) (next : ℕ → InMember) (part : ℕ → Option Plain) : Type 0 where
   pub goes_on : (r s : Partial) (c : ℕ) → unsigned_push 32 r c ≡ (step.More, s) → StepsTo p of left (q r) c (record { left = left; at = q s; part = None })
   pub ends : (r s : Partial) (c v : ℕ) → unsigned_push 32 r c ≡ (step.Done v, s) → member_step p (q r) c ≡ (next v, part_event (part v))
@@ -112,37 +105,16 @@ pub record EndsWithNumber (p : Profile) (of : SectionKind) (left : ℕ) (q : Par
 module _ {H U : Type 0} (after : H → Item → Result H Why) (may : H → Item → Type 0) (p : Profile) (bytes : List ℕ) (m : Machine) (h f g : H) (of : SectionKind) (functions left : ℕ) (q : Partial → InMember) (next : ℕ → InMember) (part : ℕ → Option Plain) (reads : EndsWithNumber p of left q next part)
     (stop v last : ℕ) (u : Shortcut) (r : Result U Why) (inside : stop ≤ length bytes) (eu : u.used ≡ stop) (er : u.refused ≡ why_refused r (machine_in_member of functions last left (next v)))
     (given : Taken (part_taken after (part v) f) r g) (quiet : IfErr r (λ w. w ≡ why.Memory → PartMayRunOut may (part v) f)) where
-  abbrev at_last : ℕ → Machine
-  at_last rest = machine_in_member of functions rest left (next v)
-
   -- after other bytes, and after some of its own
   pub number_last : (size i more : ℕ) (s : Partial) → i + size ≡ stop → size + last ≡ more + 1 → IsNumber (unsigned_push 32) s (slice_range bytes i stop) v
-      → Advances after may p bytes m h (record { used = i; refused = None }) (machine.Section of functions more left (q s)) f → Advances after may p bytes m h u (at_last last) g
+      → Advances after may p bytes m h (record { used = i; refused = None }) (machine.Section of functions more left (q s)) f
+      → Advances after may p bytes m h u (machine_in_member of functions last left (next v)) g
   number_last zero i more s e less is before =
       let none : stop - i ≡ 0 = omega arith in
       absurd (subst (λ y. IsNumber (unsigned_push 32) s (take y (drop i bytes)) v) none is)
   number_last (suc k) i more s e less is before =
-      go (λ t b a l. number_last k (i + 1) (more - 1) t (omega arith) (omega arith) b a)
-      (unsigned_push 32 s (slice_index bytes i)) refl (subst (λ (y : List ℕ). IsNumber (unsigned_push 32) s y v) (range_first bytes i stop (omega arith) (omega arith)) is)
-    where
-      rest_size : length (slice_range bytes (i + 1) stop) ≡ stop - (i + 1)
-      rest_size = range_length bytes (i + 1) stop inside
-
-      go : ((t : Partial) → IsNumber (unsigned_push 32) t (slice_range bytes (i + 1) stop) v → Advances after may p bytes m h (record { used = i + 1; refused = None }) (machine.Section of functions (more - 1) left (q t)) f → 0 < more → Advances after may p bytes m h u (at_last last) g)
-          → (x : Step ℕ × Partial) → unsigned_push 32 s (slice_index bytes i) ≡ x → NumberGoes x (λ t. IsNumber (unsigned_push 32) t (slice_range bytes (i + 1) stop) v) (slice_range bytes (i + 1) stop) v
-          → Advances after may p bytes m h u (at_last last) g
-      go again (step.More, t) is rest =
-          let long : 0 < length (slice_range bytes (i + 1) stop) = some_rest t (slice_range bytes (i + 1) stop) v rest in
-          let size : length (slice_range bytes (i + 1) stop) ≡ stop - (i + 1) = rest_size in
-          let some : 0 < more = omega arith in
-          again t rest (advances_more after may p bytes m (machine.Section of functions (more - 1) left (q t)) h f f (record { of = of; functions = functions; more = more; left = left; at = q s }) (record { left = left; at = q t; part = None }) i
-          (record { used = i + 1; refused = None }) ok before (omega arith) some (reads.goes_on s t (slice_index bytes i) is) refl refl refl tt refl) some
-      go again (step.Done w, t) is rest =
-          let same : w ≡ v = rest.0 in
-          let none : length (slice_range bytes (i + 1) stop) ≡ 0 = ap length rest.1 in
-          let size : length (slice_range bytes (i + 1) stop) ≡ stop - (i + 1) = rest_size in
-          let all : last ≡ more = omega arith in
-          subst (λ y. Advances after may p bytes m h u (at_last y) g) (sym all)
-          (advances_last after may p of functions more left (q s) (next v) (part v) bytes m h f g i u r before (omega arith) (reads.ends s t (slice_index bytes i) v (is ∙ ap (λ y. (step.Done y, t)) same))
-          (omega arith) (er ∙ ap (λ y. why_refused r (at_last y)) all) given quiet)
-      go again (step.Bad, t) is rest = absurd rest
+      let end : stop ≡ i + k + 1 = omega arith in
+      let b = before_last after may p bytes m h f of functions left (λ _. q) (λ _. reads.goes_on) (i + k) v last 0 (omega arith)
+      k i more k s refl (omega arith) (omega arith) (subst (λ y. IsNumber (unsigned_push 32) s (slice_range bytes i y) v) end is) before in
+      advances_last after may p of functions last left (q b.reader) (next v) (part v) bytes m h f g (i + k) u r b.came (omega arith) (reads.ends b.reader b.next (slice_index bytes (i + k)) v b.ends)
+      (omega arith) er given quiet
