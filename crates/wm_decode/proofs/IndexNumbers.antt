@@ -10,7 +10,6 @@ use Rattle.wm_syntax.specs.declared.instructions.Op.TheVariants as op
 use Rattle.wm_syntax.specs.exact.Reading.{fresh, unsigned_push}
 use Rattle.wm_decode.specs.declared.machine.Machine.{Machine}
 use Rattle.wm_decode.specs.declared.machine.Machine.TheVariants as machine
-use Rattle.wm_decode.specs.declared.machine.Event.{Event}
 use Rattle.wm_decode.specs.declared.machine.Event.TheVariants as event
 use Rattle.wm_decode.specs.declared.machine.Plain.TheVariants as plain
 use Rattle.wm_decode.specs.declared.machine.member.SectionKind.{SectionKind}
@@ -27,7 +26,6 @@ use Rattle.wm_decode.specs.declared.shortcuts.indices.IndexList.TheVariants as l
 use Rattle.wm_decode.specs.declared.shortcuts.indices.InIndices.{InIndices}
 use Rattle.wm_decode.specs.Items.{Item}
 use Rattle.wm_decode.specs.Sinks.{Taken}
-use Rattle.wm_decode.specs.exact.Steps.{machine_in_member}
 use Rattle.wm_decode.specs.exact.OpSteps.{on_answer}
 use Rattle.wm_decode.specs.exact.ExpressionSteps.{after_label, expression_failed}
 use Rattle.wm_decode.specs.exact.MemberSteps.{member_step, on_number, after_index, index_item, with_item_given, member_in_entry, entry_after_op, op_event}
@@ -37,7 +35,7 @@ use Rattle.wm_decode.specs.exact.Indices.{LiesIn, after_last, at_index, before_i
 use Rattle.wm_decode.specs.exact.WholeOps.{IsNumber, LiesAt}
 use Rattle.wm_decode.proofs.Advances.{advances_by, advances_more, advances_none}
 use Rattle.wm_decode.proofs.LastBytes.{advances_last, why_refused}
-use Rattle.wm_decode.proofs.NumberSteps.{BeforeLast, NumberGoesOn, before_last}
+use Rattle.wm_decode.proofs.NumberSteps.{BeforeLast, NumberGoesOn, before_last, framed}
 
 -- where an index of a list stands after some of its bytes, with so many bytes of what it lies in to come after the next
 abbrev pub in_index : IndexList → ℕ → Partial → InMember
@@ -49,9 +47,6 @@ in_index (list.Labels rest depth labels) room r = at.Entry room (entry.Body (exp
 abbrev pub space_in : ℕ → IndexList → ℕ
 space_in more (list.Labels rest depth labels) = rest
 space_in more l = more
-
-abbrev framed : SectionKind → ℕ → ℕ → ℕ → InMember × Event → Machine × Event
-framed of f more left z = (machine_in_member of f (suc more) left z.0, z.1)
 
 -- a byte that is not its last
 pub index_goes_on : (p : Profile) (of : SectionKind) (left : ℕ) (l : IndexList) → NumberGoesOn p of left (in_index l)

@@ -9,12 +9,9 @@ use Rattle.wm_syntax.specs.declared.modules.ExportKind.{ExportKind}
 use Rattle.wm_syntax.specs.exact.Reading.{fresh, unsigned_push}
 use Rattle.wm_decode.specs.declared.machine.Machine.{Machine}
 use Rattle.wm_decode.specs.declared.machine.Machine.TheVariants as machine
-use Rattle.wm_decode.specs.declared.machine.Event.{Event}
 use Rattle.wm_decode.specs.declared.machine.NameKind.TheVariants as name
 use Rattle.wm_decode.specs.declared.machine.Plain.TheVariants as plain
-use Rattle.wm_decode.specs.declared.machine.member.SectionKind.{SectionKind}
 use Rattle.wm_decode.specs.declared.machine.member.SectionKind.TheVariants as section_kind
-use Rattle.wm_decode.specs.declared.machine.member.InMember.{InMember}
 use Rattle.wm_decode.specs.declared.machine.member.InMember.TheVariants as at
 use Rattle.wm_decode.specs.declared.step.reading.Reading.TheVariants.{Done}
 use Rattle.wm_decode.specs.declared.step.values.InValue.TheVariants as value
@@ -38,11 +35,7 @@ use Rattle.wm_decode.proofs.Advances.{advances_by, advances_more, advances_none}
 use Rattle.wm_decode.proofs.Heads.{ok}
 use Rattle.wm_decode.proofs.LastBytes.{EndsWithNumber, number_last, why_refused}
 use Rattle.wm_decode.proofs.WholeNames.{behind_name, name_more}
-use Rattle.wm_decode.proofs.NumberSteps.{ReadsNumber, number_taken}
-
--- what a byte makes of the section that goes on after it
-abbrev framed : SectionKind → ℕ → ℕ → ℕ → InMember × Event → Machine × Event
-framed of f more left z = (machine_in_member of f (suc more) left z.0, z.1)
+use Rattle.wm_decode.proofs.NumberSteps.{ReadsNumber, framed, number_taken}
 
 -- an import's kind and the index of its function's type
 function_alone : (p : Profile) (left c : ℕ) → c ≡ 0 → StepsTo p section_kind.Import left (at.Value (value.Import import.Kind)) c (record { left = left; at = at.Value (value.Import (import.Func fresh)); part = None })

@@ -11,12 +11,14 @@ use Rattle.wm_syntax.specs.declared.why.Why.{Why}
 use Rattle.wm_syntax.specs.declared.why.Why.TheVariants as why
 use Rattle.wm_decode.specs.declared.machine.Machine.{Machine}
 use Rattle.wm_decode.specs.declared.machine.Machine.TheVariants as machine
+use Rattle.wm_decode.specs.declared.machine.Event.{Event}
 use Rattle.wm_decode.specs.declared.machine.member.SectionKind.{SectionKind}
 use Rattle.wm_decode.specs.declared.machine.member.InMember.{InMember}
 use Rattle.wm_decode.specs.declared.shortcuts.Shortcut.{Shortcut}
 use Rattle.wm_decode.specs.declared.shortcuts.short_steps.Stepped.{Stepped}
 use Rattle.wm_decode.specs.Items.{Item}
 use Rattle.wm_decode.specs.Sinks.{Taken}
+use Rattle.wm_decode.specs.exact.Steps.{machine_in_member}
 use Rattle.wm_decode.specs.exact.ShortSteps.{PartMayRunOut, StepsTo, after_stepped, part_taken}
 use Rattle.wm_decode.specs.exact.Shortcuts.{Advances}
 use Rattle.wm_decode.specs.exact.WholeOps.{IsNumber, NumberGoes}
@@ -28,6 +30,10 @@ range_front : (bytes : List ℕ) (i stop : ℕ) → i < stop → stop ≤ length
 range_front bytes i stop less inside =
     let size : stop - i ≡ suc (stop - (i + 1)) = omega arith in
     ap (λ n. take n (drop i bytes)) size ∙ ap (λ (y : List ℕ). take (suc (stop - (i + 1))) y) (drop_more bytes i 0 (omega arith))
+
+-- what a byte makes of the section that goes on after it
+abbrev pub framed : SectionKind → ℕ → ℕ → ℕ → InMember × Event → Machine × Event
+framed of f more left z = (machine_in_member of f (suc more) left z.0, z.1)
 
 -- a byte of a number that is not its last goes on so, where so many bytes of what the number lies in come after it
 abbrev pub NumberGoesOn : Profile → SectionKind → ℕ → (ℕ → Partial → InMember) → Type 0

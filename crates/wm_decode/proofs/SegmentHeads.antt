@@ -34,8 +34,8 @@ use Rattle.wm_decode.specs.exact.WholeOps.{LiesAt, WholeOp}
 use Rattle.wm_decode.proofs.Advances.{advances_more, advances_none}
 use Rattle.wm_decode.proofs.Heads.{ok}
 use Rattle.wm_decode.proofs.LastBytes.{EndsWithNumber, number_last, why_refused}
-use Rattle.wm_decode.proofs.NumberSteps.{ReadsNumber, number_taken}
-use Rattle.wm_decode.proofs.WholeMembers.{constant_closed, constant_taken, framed}
+use Rattle.wm_decode.proofs.NumberSteps.{ReadsNumber, framed, number_taken}
+use Rattle.wm_decode.proofs.WholeMembers.{constant_closed, constant_taken}
 
 -- the index, after which an offset comes
 index_then : (p : Profile) (of : SectionKind) (x : IndexOf) (kind : ConstantOf) (left : ℕ) → after_index x ≡ at.Constant kind (at_next_op 0)

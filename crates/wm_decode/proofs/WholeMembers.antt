@@ -10,14 +10,12 @@ use Rattle.wm_syntax.specs.declared.instructions.Op.{Op}
 use Rattle.wm_syntax.specs.declared.instructions.Op.TheVariants as op
 use Rattle.wm_decode.specs.declared.machine.Machine.{Machine}
 use Rattle.wm_decode.specs.declared.machine.Machine.TheVariants as machine
-use Rattle.wm_decode.specs.declared.machine.Event.{Event}
 use Rattle.wm_decode.specs.declared.machine.Event.TheVariants as event
 use Rattle.wm_decode.specs.declared.machine.Plain.TheVariants as plain
 use Rattle.wm_decode.specs.declared.machine.member.SectionKind.{SectionKind}
 use Rattle.wm_decode.specs.declared.machine.member.SectionKind.TheVariants as section_kind
 use Rattle.wm_decode.specs.declared.machine.member.ConstantOf.{ConstantOf}
 use Rattle.wm_decode.specs.declared.machine.member.ConstantOf.TheVariants as constant
-use Rattle.wm_decode.specs.declared.machine.member.InMember.{InMember}
 use Rattle.wm_decode.specs.declared.machine.member.InMember.TheVariants as at
 use Rattle.wm_decode.specs.declared.step.reading.Reading.{Reading}
 use Rattle.wm_decode.specs.declared.step.reading.Reading.TheVariants.{More, Done, Bad}
@@ -43,11 +41,8 @@ use Rattle.wm_decode.specs.exact.WholeOps.{IsOp, OpGoes, WholeOp}
 use Rattle.wm_decode.proofs.Advances.{advances_more, advances_step}
 use Rattle.wm_decode.proofs.Heads.{ok}
 use Rattle.wm_decode.proofs.LastBytes.{advances_last, why_refused}
+use Rattle.wm_decode.proofs.NumberSteps.{framed}
 use Rattle.wm_decode.proofs.OpLists.{is_alone, range_first, range_length}
-
--- what a byte makes of the section that goes on after it
-abbrev pub framed : SectionKind → ℕ → ℕ → ℕ → InMember × Event → Machine × Event
-framed of f more left z = (machine_in_member of f (suc more) left z.0, z.1)
 
 -- a byte of a constant's instruction, and its last
 constant_goes : (p : Profile) (of : SectionKind) (left : ℕ) (kind : ConstantOf) (q r : InOp) (c : ℕ) → op_push p q c ≡ More r
