@@ -30,7 +30,7 @@ use Rattle.wm_decode.specs.exact.OpSteps.{on_answer}
 use Rattle.wm_decode.specs.exact.ExpressionSteps.{after_label, expression_failed}
 use Rattle.wm_decode.specs.exact.MemberSteps.{on_number, after_index, index_item, with_item_given, member_in_entry, entry_after_op, op_event}
 use Rattle.wm_decode.specs.exact.Live.{Live, live_from, live_byte, decoder_after, event_effect}
-use Rattle.wm_decode.specs.exact.Indices.{GaveEach, LiesIn, before_index, index_item_in, index_part, indices_after, list_after, members_after, most_in, most_indices}
+use Rattle.wm_decode.specs.exact.Indices.{GaveEach, LiesIn, before_index, index_item_in, index_part, indices_after, list_after, list_past, members_after, most_in, most_indices}
 use Rattle.wm_decode.proofs.WholeNumbers.{u32_one}
 use Rattle.wm_decode.proofs.WholeOps.{past, past_all}
 
@@ -105,16 +105,16 @@ ahead_of i b n size most = by i.of i.functions i.more i.left i.list most
         ∙ (ap (λ z. record { of = of; functions = f; more = more; left = left; list = list.Labels z depth (past b (labels - n)) }) y
         ∙ ap (λ z. record { of = of; functions = f; more = more; left = left; list = list.Labels rest depth z }) w)
 
--- after some indices they are of the same list
-lies_after : (of : SectionKind) (l : IndexList) (n : ℕ) → LiesIn of l → LiesIn of (list_after l n)
-lies_after of list.Types n lies = lies
-lies_after of (list.Functions rest) n lies = tt
-lies_after of (list.Labels rest depth labels) n lies = tt
+-- after some bytes, which were some indices, they are of the same list
+pub lies_past : (of : SectionKind) (l : IndexList) (i j : ℕ) → LiesIn of l → LiesIn of (list_past l i j)
+lies_past of list.Types i j lies = lies
+lies_past of (list.Functions rest) i j lies = tt
+lies_past of (list.Labels rest depth labels) i j lies = tt
 
-item_after : (l : IndexList) (n c : ℕ) → index_item_in (list_after l n) c ≡ index_item_in l c
-item_after list.Types n c = refl
-item_after (list.Functions rest) n c = refl
-item_after (list.Labels rest depth labels) n c = refl
+pub item_past : (l : IndexList) (i j v : ℕ) → index_item_in (list_past l i j) v ≡ index_item_in l v
+item_past list.Types i j v = refl
+item_past (list.Functions rest) i j v = refl
+item_past (list.Labels rest depth labels) i j v = refl
 
 items_after : (l : IndexList) (n : ℕ) (b : List ℕ) → map (index_item_in (list_after l n)) b ≡ map (index_item_in l) b
 items_after list.Types n b = refl
@@ -236,7 +236,7 @@ module _ {H : Type 0} (after : H → Item → Result H Why) (p : Profile) (limit
       let front : List ℕ = take n bytes in
       let size : length front ≡ n = omega (arith, length-take n bytes) in
       let whole : ahead front (indices_after i n) ≡ i = ahead_of i front n size most in
-      let r = taken_steps (indices_after i n) front (drop n bytes) name h g k (lies_after i.of i.list n lies) (short_taken bytes n short) (ap (all_taken after h) (items_after i.list n front) ∙ taken) (omega arith) in (
+      let r = taken_steps (indices_after i n) front (drop n bytes) name h g k (lies_past i.of i.list n n lies) (short_taken bytes n short) (ap (all_taken after h) (items_after i.list n front) ∙ taken) (omega arith) in (
         r.0,
         λ some. r.1 (omega arith),
         ap (λ z. decoder_after after p limit (standing_at z name h k) bytes) (sym whole)
@@ -250,9 +250,9 @@ module _ {H : Type 0} (after : H → Item → Result H Why) (p : Profile) (limit
       let next : InIndices = indices_after i 1 in
       let whole : ahead (c ∷ []) next ≡ i = ahead_of i (c ∷ []) 1 refl most in
       let step : step_of p (before_index i) c ≡ (before_index (ahead [] next), event.Complete (index_part next.list c)) =
-      ap (λ z. step_of p (before_index z) c) (sym whole) ∙ one_index p next.of next.functions next.more next.left next.list c [] (lies_after i.of i.list 1 lies) short in
+      ap (λ z. step_of p (before_index z) c) (sym whole) ∙ one_index p next.of next.functions next.more next.left next.list c [] (lies_past i.of i.list 1 1 lies) short in
       one_step (before_index i) (before_index (ahead [] next)) (event.Complete (index_part next.list c)) name h k c less step
-      ∙ ap (λ y. live_from (before_index (ahead [] next)) (k + 1) (and_then y (λ g. Ok ([], g)))) (ap (after h) (item_after i.list 1 c) ∙ refused)
+      ∙ ap (λ y. live_from (before_index (ahead [] next)) (k + 1) (and_then y (λ g. Ok ([], g)))) (ap (after h) (item_past i.list 1 1 c) ∙ refused)
 
   pub indices_moved : (bytes : List ℕ) (i : InIndices) (count used : ℕ) (name : List ℕ) (h g : H) (k : ℕ) (r : Option Why)
       → InFront bytes i count → 0 < count → GaveEach after (index_item_in i.list) (take count bytes) h used r g → r ≡ None → k + length bytes ≤ limit
@@ -287,6 +287,6 @@ module _ {H : Type 0} (after : H → Item → Result H Why) (p : Profile) (limit
       s.2
       ∙ (ap (λ (z : List ℕ). decoder_after after p limit (standing_at (indices_after i j) s.0 gave.1 (k + j)) z) (drop_more bytes j 0 (omega arith))
       ∙ ap (λ y. and_then y (λ x. decoder_after after p limit x (drop (j + 1) bytes)))
-      (refused_step (indices_after i j) (slice_index bytes j) s.0 gave.1 (k + j) w (omega arith) (lies_after i.of i.list j lies) (most_after i.more i.left i.list j (omega arith)) (short_at bytes j (omega arith))
-      (ap (after gave.1) (item_after i.list j (slice_index bytes j)) ∙ refused)
+      (refused_step (indices_after i j) (slice_index bytes j) s.0 gave.1 (k + j) w (omega arith) (lies_past i.of i.list j j lies) (most_after i.more i.left i.list j (omega arith)) (short_at bytes j (omega arith))
+      (ap (after gave.1) (item_past i.list j j (slice_index bytes j)) ∙ refused)
       ∙ ap (λ z. Err (record { at = z; why = w })) last))

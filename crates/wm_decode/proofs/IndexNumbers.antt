@@ -34,6 +34,7 @@ use Rattle.wm_decode.specs.exact.Shortcuts.{Advances}
 use Rattle.wm_decode.specs.exact.Indices.{LiesIn, after_last, at_index, before_index, followed_in, index_item_in, index_part, indices_ended, indices_past, list_past, members_after, room_in}
 use Rattle.wm_decode.specs.exact.WholeOps.{IsNumber, LiesAt}
 use Rattle.wm_decode.proofs.Advances.{advances_by, advances_more, advances_none}
+use Rattle.wm_decode.proofs.IndexBytes.{item_past, lies_past}
 use Rattle.wm_decode.proofs.LastBytes.{advances_last, why_refused}
 use Rattle.wm_decode.proofs.NumberSteps.{BeforeLast, NumberGoesOn, before_last, framed}
 
@@ -150,11 +151,6 @@ past_again more left i j n (list.Labels rest depth labels) of f less =
     ∙ (ap (λ y. machine.Section of f (more - n) left (at_index (list.Labels (rest - i - (n - i)) depth y))) b
     ∙ ap (λ y. machine.Section of f (more - n) left (at_index (list.Labels y depth (labels - (j + 1))))) d)
 
-lies_past : (of : SectionKind) (l : IndexList) (i j : ℕ) → LiesIn of l → LiesIn of (list_past l i j)
-lies_past of list.Types i j lies = lies
-lies_past of (list.Functions rest) i j lies = tt
-lies_past of (list.Labels rest depth labels) i j lies = tt
-
 room_past : (more i j n : ℕ) (l : IndexList) → n ≤ room_in more l → n - i ≤ room_in (more - i) (list_past l i j)
 room_past more i j n list.Types less = omega arith
 room_past more i j n (list.Functions rest) less = omega arith
@@ -164,11 +160,6 @@ followed_past : (left i j : ℕ) (l : IndexList) → j < followed_in left l → 
 followed_past left i j list.Types less = omega arith
 followed_past left i j (list.Functions rest) less = omega arith
 followed_past left i j (list.Labels rest depth labels) less = omega arith
-
-pub item_past : (l : IndexList) (i j v : ℕ) → index_item_in (list_past l i j) v ≡ index_item_in l v
-item_past list.Types i j v = refl
-item_past (list.Functions rest) i j v = refl
-item_past (list.Labels rest depth labels) i j v = refl
 
 -- before the first of them
 pub indices_start : (q : InIndices) → before_index (indices_past q 0 0) ≡ before_index q
