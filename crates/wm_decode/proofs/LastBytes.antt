@@ -14,7 +14,7 @@ use Rattle.wm_decode.specs.Sinks.{Taken, and_then}
 use Rattle.wm_decode.specs.exact.Steps.{machine_in_member, step_of}
 use Rattle.wm_decode.specs.exact.MemberSteps.{member_step}
 use Rattle.wm_decode.specs.exact.Live.{IsAt, decoder_after, live_from, refusal_in_machine}
-use Rattle.wm_decode.specs.exact.ShortSteps.{PartMayRunOut, StepsTo, part_event, part_taken}
+use Rattle.wm_decode.specs.exact.ShortSteps.{PartMayRunOut, part_event, part_taken}
 use Rattle.wm_decode.specs.exact.Shortcuts.{Advances, live_so}
 use Rattle.wm_syntax.specs.declared.numbers.Step.TheVariants as step
 use Rattle.wm_syntax.specs.inner.Numbers.{Partial}
@@ -22,7 +22,7 @@ use Rattle.wm_syntax.specs.exact.Reading.{unsigned_push}
 use Rattle.wm_decode.specs.exact.WholeOps.{IsNumber}
 use Rattle.wm_decode.proofs.Advances.{advances_on, not_both, same_why}
 use Rattle.wm_decode.proofs.Header.{stays}
-use Rattle.wm_decode.proofs.NumberSteps.{before_last}
+use Rattle.wm_decode.proofs.NumberSteps.{ByteGoesOn, before_last}
 use Rattle.wm_decode.proofs.ShortSteps.{first_step, part_err, part_ok, part_room, short_refused}
 use Rattle.wm_decode.proofs.Stretches.{goes_on, is_refused, still_live, stops}
 
@@ -99,7 +99,7 @@ module _ {H : Type 0} (after : H → Item → Result H Why) (may : H → Item �
 
 -- where a number stands that a member or its head ends with, and what comes of it: a byte of it goes on so, and its last ends so
 pub record EndsWithNumber (p : Profile) (of : SectionKind) (left : ℕ) (q : Partial → InMember) (next : ℕ → InMember) (part : ℕ → Option Plain) : Type 0 where
-  pub goes_on : (r s : Partial) (c : ℕ) → unsigned_push 32 r c ≡ (step.More, s) → StepsTo p of left (q r) c (record { left = left; at = q s; part = None })
+  pub goes_on : ByteGoesOn p of left q q
   pub ends : (r s : Partial) (c v : ℕ) → unsigned_push 32 r c ≡ (step.Done v, s) → member_step p (q r) c ≡ (next v, part_event (part v))
 
 module _ {H U : Type 0} (after : H → Item → Result H Why) (may : H → Item → Type 0) (p : Profile) (bytes : List ℕ) (m : Machine) (h f g : H) (of : SectionKind) (functions left : ℕ) (q : Partial → InMember) (next : ℕ → InMember) (part : ℕ → Option Plain) (reads : EndsWithNumber p of left q next part)

@@ -35,7 +35,7 @@ use Rattle.wm_decode.proofs.Advances.{advances_by, advances_more, advances_none}
 use Rattle.wm_decode.proofs.Heads.{ok}
 use Rattle.wm_decode.proofs.LastBytes.{EndsWithNumber, number_last, why_refused}
 use Rattle.wm_decode.proofs.WholeNames.{behind_name, name_more}
-use Rattle.wm_decode.proofs.NumberSteps.{ReadsNumber, framed, number_taken}
+use Rattle.wm_decode.proofs.NumberSteps.{ByteGoesOn, ReadsNumber, framed, number_taken}
 
 -- an import's kind and the index of its function's type
 function_alone : (p : Profile) (left c : ℕ) → c ≡ 0 → StepsTo p section_kind.Import left (at.Value (value.Import import.Kind)) c (record { left = left; at = at.Value (value.Import (import.Func fresh)); part = None })
@@ -57,10 +57,14 @@ kind_alone : (p : Profile) (left c : ℕ) (k : ExportKind) → IsKindByte c k �
 kind_alone p left c k is f more =
     ap (λ y. framed section_kind.Export f more left (on_value (of_export y) at.Value (λ q. with_item_given at.Over q) at.Failed)) is
 
+index_goes_on : (p : Profile) (left : ℕ) (k : ExportKind) → ByteGoesOn p section_kind.Export left (λ s. at.Value (value.Export (target.Index k s))) (λ s. at.Value (value.Export (target.Index k s)))
+index_goes_on p left k r s c e f more =
+    ap (λ y. framed section_kind.Export f more left (on_value (of_export (read_number y (λ s. target.Index k s) (λ n. Done (k, n)))) at.Value (λ q. with_item_given at.Over q) at.Failed)) e
+
 index_reads : (p : Profile) (left : ℕ) (k : ExportKind) → 0 < left
     → ReadsNumber p section_kind.Export left (λ s. at.Value (value.Export (target.Index k s))) (λ v. record { left = left - 1; at = at.NameLength name.Export fresh; part = Some (plain.Export k v) })
 index_reads p left k some = record {
-  goes_on = λ r s c e f more. ap (λ y. framed section_kind.Export f more left (on_value (of_export (read_number y (λ s. target.Index k s) (λ n. Done (k, n)))) at.Value (λ q. with_item_given at.Over q) at.Failed)) e;
+  goes_on = index_goes_on p left k;
   ends = λ r s c v e f more.
       let one : left ≡ suc (left - 1) = omega arith in
       ap (λ y. framed section_kind.Export f more left (on_value (of_export (read_number y (λ s. target.Index k s) (λ n. Done (k, n)))) at.Value (λ q. with_item_given at.Over q) at.Failed)) e
@@ -69,7 +73,7 @@ index_reads p left k some = record {
 
 index_ends : (p : Profile) (left : ℕ) (k : ExportKind) → EndsWithNumber p section_kind.Export left (λ s. at.Value (value.Export (target.Index k s))) (λ v. at.Over) (λ v. Some (plain.Export k v))
 index_ends p left k = record {
-  goes_on = λ r s c e f more. ap (λ y. framed section_kind.Export f more left (on_value (of_export (read_number y (λ s. target.Index k s) (λ n. Done (k, n)))) at.Value (λ q. with_item_given at.Over q) at.Failed)) e;
+  goes_on = index_goes_on p left k;
   ends = λ r s c v e. ap (λ y. on_value (of_export (read_number y (λ s. target.Index k s) (λ n. Done (k, n)))) at.Value (λ q. with_item_given at.Over q) at.Failed) e;
 }
 

@@ -35,13 +35,17 @@ range_front bytes i stop less inside =
 abbrev pub framed : SectionKind → ℕ → ℕ → ℕ → InMember × Event → Machine × Event
 framed of f more left z = (machine_in_member of f (suc more) left z.0, z.1)
 
--- a byte of a number that is not its last goes on so, where so many bytes of what the number lies in come after it
+-- a byte of a number that is not its last goes on so
+abbrev pub ByteGoesOn : Profile → SectionKind → ℕ → (Partial → InMember) → (Partial → InMember) → Type 0
+ByteGoesOn profile of left q next = (r s : Partial) (c : ℕ) → unsigned_push 32 r c ≡ (step.More, s) → StepsTo profile of left (q r) c (record { left = left; at = next s; part = None })
+
+-- the same where so many bytes of what the number lies in come after it
 abbrev pub NumberGoesOn : Profile → SectionKind → ℕ → (ℕ → Partial → InMember) → Type 0
-NumberGoesOn profile of left q = (room : ℕ) (r s : Partial) (c : ℕ) → unsigned_push 32 r c ≡ (step.More, s) → StepsTo profile of left (q (suc room) r) c (record { left = left; at = q room s; part = None })
+NumberGoesOn profile of left q = (room : ℕ) → ByteGoesOn profile of left (q (suc room)) (q room)
 
 -- where a member's number stands, and what comes of it: a byte of it goes on so, and its last ends so
 pub record ReadsNumber (profile : Profile) (of : SectionKind) (left : ℕ) (q : Partial → InMember) (done : ℕ → Stepped) : Type 0 where
-  pub goes_on : (r s : Partial) (c : ℕ) → unsigned_push 32 r c ≡ (step.More, s) → StepsTo profile of left (q r) c (record { left = left; at = q s; part = None })
+  pub goes_on : ByteGoesOn profile of left q q
   pub ends : (r s : Partial) (c v : ℕ) → unsigned_push 32 r c ≡ (step.Done v, s) → StepsTo profile of left (q r) c (done v)
 
 -- before the last byte of a number, after other bytes
