@@ -39,18 +39,18 @@ use Rattle.wm_decode.proofs.LastBytes.{advances_last, why_refused}
 use Rattle.wm_decode.proofs.NumberSteps.{BeforeLast, NumberGoesOn, before_last, framed}
 
 -- where an index of a list stands after some of its bytes, with so many bytes of what it lies in to come after the next
-abbrev pub in_index : IndexList → ℕ → Partial → InMember
+abbrev in_index : IndexList → ℕ → Partial → InMember
 in_index list.Types room r = at.Index index_of.Function r
 in_index (list.Functions rest) room r = at.Index (index_of.ElementFunction rest) r
 in_index (list.Labels rest depth labels) room r = at.Entry room (entry.Body (expression.Label depth labels r))
 
 -- how many bytes of the entry that a list lies in come after the next, or of the section
-abbrev pub space_in : ℕ → IndexList → ℕ
+abbrev space_in : ℕ → IndexList → ℕ
 space_in more (list.Labels rest depth labels) = rest
 space_in more l = more
 
 -- a byte that is not its last
-pub index_goes_on : (p : Profile) (of : SectionKind) (left : ℕ) (l : IndexList) → NumberGoesOn p of left (in_index l)
+index_goes_on : (p : Profile) (of : SectionKind) (left : ℕ) (l : IndexList) → NumberGoesOn p of left (in_index l)
 index_goes_on p of left list.Types room r s c e f more =
     ap (λ y. framed of f more left (on_number y (λ s. at.Index index_of.Function s) (λ n. with_item_given (after_index index_of.Function) (index_item index_of.Function n)) at.Failed)) e
 index_goes_on p of left (list.Functions rest) room r s c e f more =
