@@ -32,6 +32,7 @@ use wm_syntax::why::Why;
 pub(crate) mod constants;
 pub(crate) mod entries;
 pub(crate) mod exports;
+pub(crate) mod float_ops;
 pub(crate) mod frames;
 pub(crate) mod function_types;
 pub(crate) mod globals;

@@ -2,8 +2,9 @@
 //!
 //! What is rare, and all that is refused for its bytes, is left to the byte step.
 
-ghost use Rattle.std.specs.Prelude.{◌≡◌, ◌+◌, ◌<◌, ◌≤◌, ◌^◌, ℕ, IfSome, Some, length, slice_index};
-ghost use Rattle.wm_syntax.specs.exact.ByteTable.{class_under};
+ghost use Rattle.std.specs.Prelude.{◌≡◌, ◌+◌, ◌<◌, ◌≤◌, ◌^◌, ℕ, IfSome, Some, length, slice_get, slice_index, true};
+ghost use Rattle.wm_syntax.specs.Profiles.{has};
+ghost use Rattle.wm_syntax.specs.exact.ByteTable.{class_feature, class_under, classes};
 ghost use Rattle.wm_syntax.specs.exact.Reading.{fresh};
 ghost use Rattle.wm_decode.specs.declared.step.reading.Reading.TheVariants.{More, Done};
 ghost use Rattle.wm_decode.specs.declared.step.ops.InOp.TheVariants.{BlockType, CallType, Const32, Const64};
@@ -12,6 +13,9 @@ ghost use Rattle.wm_decode.specs.exact.ExpressionSteps.{after_op, at_next_op};
 ghost use Rattle.wm_decode.specs.exact.WholeOps.{GaveAs, OpUnder, RanTo, TookAs, WholeOp, first_read};
 
 use crate::item::Item;
+use crate::shortcuts::float_ops::{
+    binary_f32, binary_f64, compares_f32, compares_f64, unary_f32, unary_f64,
+};
 use crate::shortcuts::whole_numbers::{s32_at, s64_at, u32_at};
 use crate::sink::Sink;
 use crate::step::ops::{Indexed, LoadOrStore, Opening, push_32, push_64};
@@ -19,9 +23,9 @@ use wm_syntax::instructions::IntType::{I32, I64};
 use wm_syntax::instructions::op_class::{Immediates, OpClass};
 use wm_syntax::instructions::opcodes::op_of;
 use wm_syntax::instructions::{
-    BinaryOp, Comparison, IntType, LoadOp, MemArg, Numeric, Op, Simple, StoreOp, UnaryOp,
+    BinaryOp, Comparison, FloatType, IntType, LoadOp, MemArg, Numeric, Op, Simple, StoreOp, UnaryOp,
 };
-use wm_syntax::profile::Profile;
+use wm_syntax::profile::{Feature, Profile};
 use wm_syntax::types::ValType;
 use wm_syntax::why::Why;
 
@@ -397,6 +401,7 @@ fn plain(profile: Profile, bytes: &[u8], at: usize, depth: u32, op: Simple) -> O
 }
 
 // A load or a store
+#[inline(always)]
 fn access(
     profile: Profile,
     bytes: &[u8],
@@ -500,6 +505,97 @@ fn float_op(profile: Profile, bytes: &[u8], at: usize, depth: u32) -> Option<Rea
     }
 }
 
+// The ops on floating-point numbers that are common, where the profile has them.
+
+#[inline(always)]
+fn float_numeric(profile: Profile, bytes: &[u8], at: usize, depth: u32, op: Numeric) -> Option<Read>
+    requires within { at < length bytes.now }
+    requires class { slice_get classes (slice_index bytes.now at)
+        ≡ Some (OpClass.Plain (Op.Simple (Simple.Numeric op))) }
+    requires feature { class_feature (OpClass.Plain (Op.Simple (Simple.Numeric op))) ≡ Feature.Floats }
+    requires floats { has profile Feature.Floats ≡ true }
+    ensures { IfSome result (λ r. OpUnder profile bytes.now at r.next depth r.depth r.op) }
+{
+    plain(profile, bytes, at, depth, Simple::Numeric(op))
+}
+
+#[inline(always)]
+fn float_access(
+    profile: Profile,
+    bytes: &[u8],
+    at: usize,
+    depth: u32,
+    kind: Immediates,
+    op: LoadOrStore,
+) -> Option<Read>
+    requires within { at + 1 < length bytes.now }
+    requires class { slice_get classes (slice_index bytes.now at) ≡ Some (OpClass.With kind) }
+    requires feature { class_feature (OpClass.With kind) ≡ Feature.Floats }
+    requires floats { has profile Feature.Floats ≡ true }
+    requires kind { immediates kind ≡ fresh_access op }
+    ensures { IfSome result (λ r. OpUnder profile bytes.now at r.next depth r.depth r.op) }
+{
+    access(profile, bytes, at, depth, kind, op)
+}
+
+#[inline(always)]
+fn float_load(profile: Profile, bytes: &[u8], at: usize, depth: u32, op: LoadOp) -> Option<Read>
+    requires within { at + 1 < length bytes.now }
+    requires class { slice_get classes (slice_index bytes.now at) ≡ Some (OpClass.With (Immediates.Load op)) }
+    requires feature { class_feature (OpClass.With (Immediates.Load op)) ≡ Feature.Floats }
+    requires floats { has profile Feature.Floats ≡ true }
+    ensures { IfSome result (λ r. OpUnder profile bytes.now at r.next depth r.depth r.op) }
+{
+    float_access(
+        profile,
+        bytes,
+        at,
+        depth,
+        Immediates::Load(op),
+        LoadOrStore::Load(op),
+    )
+}
+
+#[inline(always)]
+fn float_store(profile: Profile, bytes: &[u8], at: usize, depth: u32, op: StoreOp) -> Option<Read>
+    requires within { at + 1 < length bytes.now }
+    requires class { slice_get classes (slice_index bytes.now at) ≡ Some (OpClass.With (Immediates.Store op)) }
+    requires feature { class_feature (OpClass.With (Immediates.Store op)) ≡ Feature.Floats }
+    requires floats { has profile Feature.Floats ≡ true }
+    ensures { IfSome result (λ r. OpUnder profile bytes.now at r.next depth r.depth r.op) }
+{
+    float_access(
+        profile,
+        bytes,
+        at,
+        depth,
+        Immediates::Store(op),
+        LoadOrStore::Store(op),
+    )
+}
+
+#[inline(always)]
+fn float_const_32(profile: Profile, bytes: &[u8], at: usize, depth: u32) -> Option<Read>
+    requires within { at < length bytes.now }
+    requires class { slice_get classes (slice_index bytes.now at) ≡ Some (OpClass.With Immediates.F32Const) }
+    requires feature { class_feature (OpClass.With Immediates.F32Const) ≡ Feature.Floats }
+    requires floats { has profile Feature.Floats ≡ true }
+    ensures { IfSome result (λ r. OpUnder profile bytes.now at r.next depth r.depth r.op) }
+{
+    float_32(profile, bytes, at, depth)
+}
+
+#[inline(always)]
+fn float_const_64(profile: Profile, bytes: &[u8], at: usize, depth: u32) -> Option<Read>
+    requires within { at < length bytes.now }
+    requires class { slice_get classes (slice_index bytes.now at) ≡ Some (OpClass.With Immediates.F64Const) }
+    requires feature { class_feature (OpClass.With Immediates.F64Const) ≡ Feature.Floats }
+    requires floats { has profile Feature.Floats ≡ true }
+    ensures { IfSome result (λ r. OpUnder profile bytes.now at r.next depth r.depth r.op) }
+{
+    float_64(profile, bytes, at, depth)
+}
+
 // Gives an op that lies in what is left of the entry.
 #[inline(always)]
 fn give<S: Sink>(sink: &mut S, room: usize, read: Option<Read>) -> Took
@@ -517,7 +613,24 @@ fn give<S: Sink>(sink: &mut S, room: usize, read: Option<Read>) -> Took
     }
 }
 
-// The same for an op on floating-point numbers or a sign extension.
+// The same for any op on floating-point numbers or a sign extension, by the table of ops.
+#[inline(never)]
+#[tactic(auto, using(crate::proofs::OpLists::gave_took))]
+fn take_by_table<S: Sink>(
+    sink: &mut S,
+    profile: Profile,
+    bytes: &[u8],
+    at: usize,
+    depth: u32,
+    room: usize,
+) -> Took
+    requires { at + 1 < length bytes.now }
+    ensures { TookAs S.after profile (S.held sink.old) bytes.now at depth room result (S.held sink.new) }
+{
+    give(sink, room, float_op(profile, bytes, at, depth))
+}
+
+// The same for an op on floating-point numbers or a sign extension. The most common ones have their own code.
 #[inline(never)]
 #[tactic(auto, using(crate::proofs::OpLists::gave_took))]
 fn take_float<S: Sink>(
@@ -531,7 +644,59 @@ fn take_float<S: Sink>(
     requires { at + 1 < length bytes.now }
     ensures { TookAs S.after profile (S.held sink.old) bytes.now at depth room result (S.held sink.new) }
 {
-    give(sink, room, float_op(profile, bytes, at, depth))
+    if !profile.has(Feature::Floats) {
+        return take_by_table(sink, profile, bytes, at, depth, room);
+    }
+    let byte = bytes[at];
+    match byte {
+        0x2A => give(
+            sink,
+            room,
+            float_load(profile, bytes, at, depth, LoadOp::F32Load),
+        ),
+        0x2B => give(
+            sink,
+            room,
+            float_load(profile, bytes, at, depth, LoadOp::F64Load),
+        ),
+        0x38 => give(
+            sink,
+            room,
+            float_store(profile, bytes, at, depth, StoreOp::F32Store),
+        ),
+        0x39 => give(
+            sink,
+            room,
+            float_store(profile, bytes, at, depth, StoreOp::F64Store),
+        ),
+        0x43 => give(sink, room, float_const_32(profile, bytes, at, depth)),
+        0x44 => give(sink, room, float_const_64(profile, bytes, at, depth)),
+        0x5B..=0x60 => {
+            let op = Numeric::FloatCompare(FloatType::F32, compares_f32(byte));
+            give(sink, room, float_numeric(profile, bytes, at, depth, op))
+        }
+        0x61..=0x66 => {
+            let op = Numeric::FloatCompare(FloatType::F64, compares_f64(byte));
+            give(sink, room, float_numeric(profile, bytes, at, depth, op))
+        }
+        0x8B..=0x91 => {
+            let op = Numeric::FloatUnary(FloatType::F32, unary_f32(byte));
+            give(sink, room, float_numeric(profile, bytes, at, depth, op))
+        }
+        0x92..=0x98 => {
+            let op = Numeric::FloatBinary(FloatType::F32, binary_f32(byte));
+            give(sink, room, float_numeric(profile, bytes, at, depth, op))
+        }
+        0x99..=0x9F => {
+            let op = Numeric::FloatUnary(FloatType::F64, unary_f64(byte));
+            give(sink, room, float_numeric(profile, bytes, at, depth, op))
+        }
+        0xA0..=0xA6 => {
+            let op = Numeric::FloatBinary(FloatType::F64, binary_f64(byte));
+            give(sink, room, float_numeric(profile, bytes, at, depth, op))
+        }
+        _ => take_by_table(sink, profile, bytes, at, depth, room),
+    }
 }
 
 // Takes the op at a place, if it is among the most common ones. Each of them has its own code.
