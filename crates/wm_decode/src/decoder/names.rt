@@ -142,9 +142,26 @@ pub(crate) fn give_end<S: Sink>(sink: &mut S) -> Result<(), Why>
     sink.take(Item::Op(Op::End))
 }
 
-// Gives an index of a list
-#[inline(always)]
+// Gives an index of a list. Out of line: it has several callers.
+#[inline(never)]
 pub(crate) fn give_index<S: Sink>(sink: &mut S, list: IndexList, index: u32) -> Result<(), Why>
+    ensures given { Taken (S.after (S.held sink.old) (index_item_in list index)) result (S.held sink.new) }
+    ensures room { IfErr result (λ w. w ≡ Memory → S.may_run_out (S.held sink.old) (index_item_in list index)) }
+{
+    match list {
+        IndexList::Types => sink.take(Item::Func(index)),
+        IndexList::Functions { .. } => sink.take(Item::ElemFunc(index)),
+        IndexList::Labels { .. } => sink.take(Item::Op(Op::Label(index))),
+    }
+}
+
+// The same, inline: with a second caller it would not stand in the loop over indices of one byte each.
+#[inline(always)]
+pub(crate) fn give_short_index<S: Sink>(
+    sink: &mut S,
+    list: IndexList,
+    index: u32,
+) -> Result<(), Why>
     ensures given { Taken (S.after (S.held sink.old) (index_item_in list index)) result (S.held sink.new) }
     ensures room { IfErr result (λ w. w ≡ Memory → S.may_run_out (S.held sink.old) (index_item_in list index)) }
 {

@@ -8,7 +8,7 @@ ghost use Rattle.wm_decode.specs.exact.Indices.{GaveEach, LiesIn, at_index, befo
 ghost use Rattle.wm_decode.specs.exact.Indices.{followed_indices, index_room, indices_ended, indices_past};
 ghost use Rattle.wm_decode.specs.exact.Indices.{most_indices};
 
-use crate::decoder::names::give_index;
+use crate::decoder::names::give_short_index;
 use crate::machine::Machine;
 use crate::machine::member::{InEntry, InMember, IndexOf, SectionKind};
 use crate::shortcuts::whole_indices::whole_indices;
@@ -242,7 +242,7 @@ fn give_indices<S: Sink>(sink: &mut S, list: IndexList, bytes: &[u8]) -> Shortcu
         (S.held sink.new) }
 {
     for (i, byte) in bytes.iter().enumerate() {
-        if let Err(why) = give_index(sink, list, u32::from(*byte)) {
+        if let Err(why) = give_short_index(sink, list, u32::from(*byte)) {
             return Shortcut {
                 used: i + 1,
                 refused: Some(why),
