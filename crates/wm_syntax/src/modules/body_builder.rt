@@ -113,10 +113,9 @@ fn push_open(
     ops: &mut SizedOps,
     begun: &mut Vec<Opened>,
     op: Op,
-    len: u64,
     opened: Opened,
 ) -> Result<(), BodyFault>
-    requires { len ≡ op_len op }
+    requires { op_len op ≡ 2 }
     ensures ok { OnOk result ((ops.new ≡ ops.old ++ op ∷ [])
         × (begun.new.items ≡ begun.old.items ++ opened ∷ [])) }
     ensures err { IfErr result (λ fault. (fault ≡ BodyFault.Memory) × (ops.new ≡ ops.old)
@@ -125,7 +124,7 @@ fn push_open(
     if begun.push(opened).is_err() {
         return Err(BodyFault::Memory);
     }
-    match push(ops, op, len) {
+    match push(ops, op, 2) {
         Ok(()) => Ok(()),
         Err(fault) => {
             begun.pop();
@@ -142,9 +141,7 @@ fn push_op(
     begun: &mut Vec<Opened>,
     left: &mut u64,
     op: Op,
-    len: u64,
 ) -> Result<(), BodyFault>
-    requires { len ≡ op_len op }
     ensures ok { OnOk result ((ops.new ≡ next_ops op ops.old)
         × (begun.new.items ≡ next_open op begun.old.items) × (left.new ≡ next_left op left.old)) }
     ensures err { OnErr result ((ops.new ≡ ops.old) × (begun.new.items ≡ begun.old.items)
@@ -153,8 +150,8 @@ fn push_op(
     ensures unbalanced { fits begun.old.items left.old op ≡ false → result ≡ Err BodyFault.Unbalanced }
 {
     match op {
-        Op::Simple(_) if *left == 0 => push(ops, op, len),
-        _ => push_any(ops, begun, left, op, len),
+        Op::Simple(_) if *left == 0 => push(ops, op, op_len(&op)),
+        _ => push_any(ops, begun, left, op),
     }
 }
 
@@ -181,9 +178,7 @@ fn push_any(
     begun: &mut Vec<Opened>,
     left: &mut u64,
     op: Op,
-    len: u64,
 ) -> Result<(), BodyFault>
-    requires { len ≡ op_len op }
     ensures ok { OnOk result ((ops.new ≡ next_ops op ops.old)
         × (begun.new.items ≡ next_open op begun.old.items) × (left.new ≡ next_left op left.old)) }
     ensures err { OnErr result ((ops.new ≡ ops.old) × (begun.new.items ≡ begun.old.items)
@@ -195,11 +190,11 @@ fn push_any(
         return Err(BodyFault::Unbalanced);
     }
     match op {
-        Op::Simple(_) => push(ops, op, len),
-        Op::Block(_) | Op::Loop(_) => push_open(ops, begun, op, len, Opened::List),
-        Op::If(_) => push_open(ops, begun, op, len, Opened::First),
+        Op::Simple(_) => push(ops, op, op_len(&op)),
+        Op::Block(_) | Op::Loop(_) => push_open(ops, begun, op, Opened::List),
+        Op::If(_) => push_open(ops, begun, op, Opened::First),
         Op::Else => {
-            push(ops, op, len)?;
+            push(ops, op, 1)?;
             let last = begun.len() - 1;
             begun[last] = Opened::Second;
             Ok(())
@@ -210,12 +205,12 @@ fn push_any(
             Ok(())
         }
         Op::BrTable(count) => {
-            push(ops, op, len)?;
+            push(ops, op, op_len(&op))?;
             *left = u64::from(count) + 1;
             Ok(())
         }
         Op::Label(_) => {
-            push(ops, op, len)?;
+            push(ops, op, op_len(&op))?;
             *left -= 1;
             Ok(())
         }
@@ -267,13 +262,7 @@ impl BodyBuilder {
         ensures stands { (p : Place) → placed self.old op ≡ Some p → result ≢ Err BodyFault.Unbalanced }
         ensures unbalanced { placed self.old op ≡ None → result ≡ Err BodyFault.Unbalanced }
     {
-        push_op(
-            &mut self.ops,
-            &mut self.begun,
-            &mut self.left,
-            op,
-            op_len(&op),
-        )
+        push_op(&mut self.ops, &mut self.begun, &mut self.left, op)
     }
 
     /// The same of an instruction that holds no list, lent, where no label of a br_table is to come and no memory
