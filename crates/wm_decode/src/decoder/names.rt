@@ -7,7 +7,9 @@ ghost use Rattle.wm_decode.specs.Sinks.{Taken, all_taken};
 ghost use Rattle.wm_decode.specs.exact.Runs.{name_item, plain_item};
 ghost use Rattle.wm_decode.specs.exact.Live.{MayRunOutAt, name_taken, effect_of_maybe};
 ghost use Rattle.wm_syntax.specs.declared.why.Why.TheVariants.{Memory};
-ghost use Rattle.wm_decode.specs.Items.{body, body_op, data_byte, locals};
+ghost use Rattle.wm_decode.specs.Items.{body, body_op, data_byte, export, import_desc, locals, new_type};
+ghost use Rattle.wm_decode.specs.Items.{one_result, param, result_count};
+ghost use Rattle.wm_syntax.specs.declared.modules.ImportDesc.TheVariants as ImportDesc;
 ghost use Rattle.wm_decode.specs.exact.Indices.{index_item_in};
 ghost use Rattle.wm_decode.specs.exact.ShortSteps.{PartMayRunOut, part_taken};
 
@@ -16,6 +18,7 @@ use crate::machine::{NameKind, Plain};
 use crate::shortcuts::indices::IndexList;
 use crate::sink::Sink;
 use wm_syntax::instructions::Op;
+use wm_syntax::modules::ExportKind;
 use wm_syntax::names::is_name;
 use wm_syntax::types::ValType;
 use wm_syntax::why::Why;
@@ -97,6 +100,61 @@ pub(crate) fn give<S: Sink>(sink: &mut S, part: Plain) -> Result<(), Why>
     ensures room { IfErr result (λ w. w ≡ Memory → S.may_run_out (S.held sink.old) (plain_item part)) }
 {
     sink.take(part.item())
+}
+
+// Items that come many at once: each by a function of its own. In the one above the item is not known before it
+// is inlined, so that for a sink with much code it stays out of line, and the item lies in memory.
+
+#[inline(always)]
+pub(crate) fn give_new_type<S: Sink>(sink: &mut S) -> Result<(), Why>
+    ensures given { Taken (S.after (S.held sink.old) new_type) result (S.held sink.new) }
+    ensures room { IfErr result (λ w. w ≡ Memory → S.may_run_out (S.held sink.old) new_type) }
+{
+    sink.take(Item::NewType)
+}
+
+#[inline(always)]
+pub(crate) fn give_param<S: Sink>(sink: &mut S, ty: ValType) -> Result<(), Why>
+    ensures given { Taken (S.after (S.held sink.old) (param ty)) result (S.held sink.new) }
+    ensures room { IfErr result (λ w. w ≡ Memory → S.may_run_out (S.held sink.old) (param ty)) }
+{
+    sink.take(Item::Param(ty))
+}
+
+// How many results a type has. It has two callers, so it would be copied.
+#[inline(never)]
+pub(crate) fn give_result_count<S: Sink>(sink: &mut S, count: u32) -> Result<(), Why>
+    ensures given { Taken (S.after (S.held sink.old) (result_count count)) result (S.held sink.new) }
+    ensures room { IfErr result (λ w. w ≡ Memory → S.may_run_out (S.held sink.old) (result_count count)) }
+{
+    sink.take(Item::Results(count))
+}
+
+#[inline(always)]
+pub(crate) fn give_result<S: Sink>(sink: &mut S, ty: ValType) -> Result<(), Why>
+    ensures given { Taken (S.after (S.held sink.old) (one_result ty)) result (S.held sink.new) }
+    ensures room { IfErr result (λ w. w ≡ Memory → S.may_run_out (S.held sink.old) (one_result ty)) }
+{
+    sink.take(Item::Result(ty))
+}
+
+#[inline(always)]
+pub(crate) fn give_import<S: Sink>(sink: &mut S, function: u32) -> Result<(), Why>
+    ensures given { Taken (S.after (S.held sink.old) (import_desc (ImportDesc.Func function))) result
+        (S.held sink.new) }
+    ensures room { IfErr result (λ w. w ≡ Memory
+        → S.may_run_out (S.held sink.old) (import_desc (ImportDesc.Func function))) }
+{
+    sink.take(Item::ImportFunc(function))
+}
+
+// It has two callers, so it would be copied.
+#[inline(never)]
+pub(crate) fn give_export<S: Sink>(sink: &mut S, kind: ExportKind, index: u32) -> Result<(), Why>
+    ensures given { Taken (S.after (S.held sink.old) (export kind index)) result (S.held sink.new) }
+    ensures room { IfErr result (λ w. w ≡ Memory → S.may_run_out (S.held sink.old) (export kind index)) }
+{
+    sink.take(Item::Export(kind, index))
 }
 
 // Gives an item that holds no bytes, if there is one

@@ -8,9 +8,9 @@ ghost use Rattle.wm_decode.specs.exact.Shortcuts.{Advances};
 ghost use Rattle.wm_decode.specs.exact.WholeNames.{IsKindByte, NameLies, before_export};
 ghost use Rattle.wm_decode.specs.exact.WholeOps.{LiesAt};
 
-use crate::decoder::names::{give, give_name};
+use crate::decoder::names::{give_export, give_name};
 use crate::machine::member::{InMember, SectionKind};
-use crate::machine::{Machine, NameKind, Plain, refusal_of};
+use crate::machine::{Machine, NameKind, refusal_of};
 use crate::shortcuts::Shortcut;
 use crate::shortcuts::whole_names::{InNames, name_end};
 use crate::shortcuts::whole_numbers::u32_at;
@@ -130,7 +130,7 @@ fn exports_before_last<S: Sink>(
         }
         used = found.next;
         left -= 1;
-        if let Err(why) = give(sink, Plain::Export(found.kind, found.index)) {
+        if let Err(why) = give_export(sink, found.kind, found.index) {
             return Shortcut::out(used, why);
         }
     }
@@ -170,7 +170,7 @@ fn last_export<S: Sink>(
     if let Err(why) = give_name(sink, NameKind::Export, name) {
         return Shortcut::out(found.stop, why);
     }
-    if let Err(why) = give(sink, Plain::Export(found.kind, found.index)) {
+    if let Err(why) = give_export(sink, found.kind, found.index) {
         return Shortcut::out(found.next, why);
     }
     *machine = framed(

@@ -8,9 +8,9 @@ ghost use Rattle.wm_decode.specs.exact.TypeStarts.{before_results, before_type, 
 ghost use Rattle.wm_decode.specs.exact.TypeStarts.{params_after};
 ghost use Rattle.wm_decode.specs.exact.ValueSteps.{value_type_of};
 
-use crate::decoder::names::give;
+use crate::decoder::names::{give_new_type, give_param, give_result, give_result_count};
+use crate::machine::Machine;
 use crate::machine::member::{InMember, SectionKind};
-use crate::machine::{Machine, Plain};
 use crate::shortcuts::Shortcut;
 use crate::sink::Sink;
 use crate::step::types::after_param;
@@ -196,7 +196,7 @@ fn give_params<S: Sink>(
         };
         used += 1;
         params -= 1;
-        if let Err(why) = give(sink, Plain::Param(ty)) {
+        if let Err(why) = give_param(sink, ty) {
             let refused = Some(why);
             return GivenParams {
                 used,
@@ -225,7 +225,7 @@ fn params<S: Sink>(sink: &mut S, machine: &mut Machine, profile: Profile, bytes:
     let Some(begun) = begin_type(bytes, start) else {
         return Shortcut::none();
     };
-    if let Err(why) = give(sink, Plain::NewType) {
+    if let Err(why) = give_new_type(sink) {
         return Shortcut {
             used: 1,
             refused: Some(why),
@@ -258,14 +258,14 @@ fn one_result<S: Sink>(
     ensures { Advances S.after S.may_run_out profile bytes.now machine.old (S.held sink.old) result
         machine.new (S.held sink.new) }
 {
-    if let Err(why) = give(sink, Plain::ResultCount(1)) {
+    if let Err(why) = give_result_count(sink, 1) {
         return Shortcut {
             used: 1,
             refused: Some(why),
         };
     }
     *machine = start.next(2);
-    let refused = give(sink, Plain::OneResult(ty)).err();
+    let refused = give_result(sink, ty).err();
     Shortcut { used: 2, refused }
 }
 
@@ -285,7 +285,7 @@ fn results<S: Sink>(sink: &mut S, machine: &mut Machine, profile: Profile, bytes
     let count = bytes[0];
     if count == 0 {
         *machine = start.next(1);
-        let refused = give(sink, Plain::ResultCount(0)).err();
+        let refused = give_result_count(sink, 0).err();
         return Shortcut { used: 1, refused };
     }
     let Ok(ty) = value_type(profile, bytes[1]) else {

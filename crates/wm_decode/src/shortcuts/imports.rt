@@ -9,14 +9,13 @@ ghost use Rattle.wm_decode.specs.exact.Shortcuts.{Advances};
 ghost use Rattle.wm_decode.specs.exact.WholeNames.{NameLies, before_import};
 ghost use Rattle.wm_decode.specs.exact.WholeOps.{LiesAt};
 
-use crate::decoder::names::{give, give_name};
+use crate::decoder::names::{give_import, give_name};
 use crate::machine::member::{InMember, SectionKind};
-use crate::machine::{Machine, NameKind, Plain};
+use crate::machine::{Machine, NameKind};
 use crate::shortcuts::Shortcut;
 use crate::shortcuts::whole_names::{InNames, name_end};
 use crate::shortcuts::whole_numbers::u32_at;
 use crate::sink::Sink;
-use wm_syntax::modules::ImportDesc;
 use wm_syntax::profile::Profile;
 
 /// Where the two names of an import end, where it ends, and the index of its function's type.
@@ -121,7 +120,7 @@ pub(crate) fn imports<S: Sink>(
         }
         used = found.next;
         left -= 1;
-        if let Err(why) = give(sink, Plain::Import(ImportDesc::Func(found.index))) {
+        if let Err(why) = give_import(sink, found.index) {
             return Shortcut::out(used, why);
         }
     }

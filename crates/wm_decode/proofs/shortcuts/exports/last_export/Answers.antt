@@ -22,20 +22,20 @@ returns-in-Err g c =
     (export_named g.S.Sink.after g.S.Sink.may_run_out c.args.profile c.args.bytes.now (before_export i) (held c.args.sink.now) (held c.args.sink.now) i 0 i.left x.found.stop start x.ensures.name (omega arith) (omega arith)
     (held c.give_name.new.sink) out.result c.give_name.result out.ensures.used (out.ensures.refused ∙ sym (ap result_err c.in-Err.is)) c.give_name.ensures.given))
 
-pub returns-in-Err-give : goal.returns-in-Err-give
-returns-in-Err-give g c =
+pub returns-in-Err-give_export : goal.returns-in-Err-give_export
+returns-in-Err-give_export g c =
     let held = g.S.Sink.held in
     let i = c.in-Some.start in
     let x = c.in-Some-export_at in
     let order : x.found.stop + 1 < x.found.next = x.ensures.index.some in
     let whole : x.found.next ≤ length c.args.bytes.now = x.ensures.index.within in
-    let out = c.out-in-Err-give in
+    let out = c.out-in-Err-give_export in
     let start = exports_begun g.S.Sink.after g.S.Sink.may_run_out c.args.profile c.args.bytes.now (held c.args.sink.now) i in
     advances_by g.S.Sink.after g.S.Sink.may_run_out c.args.profile _ _ _ _ _ _ _ _ c.in-Some.ensures refl
-    (advances_out g.S.Sink.after g.S.Sink.may_run_out c.args.profile c.args.bytes.now (before_export i) _ c.args.machine.now (held c.args.sink.now) (held c.give.new.sink) (held c.give.new.sink) out.result c.in-Err-give.why out.ensures.refused (omega arith)
+    (advances_out g.S.Sink.after g.S.Sink.may_run_out c.args.profile c.args.bytes.now (before_export i) _ c.args.machine.now (held c.args.sink.now) (held c.give_export.new.sink) (held c.give_export.new.sink) out.result c.in-Err-give_export.why out.ensures.refused (omega arith)
     (last_export_taken g.S.Sink.after g.S.Sink.may_run_out c.args.profile c.args.bytes.now (before_export i) (held c.args.sink.now) (held c.args.sink.now) i 0 i.left x.found.stop start x.ensures.name (omega arith) (omega arith)
-    (held c.give_name.new.sink) (held c.give.new.sink) x.found.kind x.found.index x.found.next (i.more - (x.found.next - 1)) out.result c.give.result c.in_default-give_name.ensures.given x.ensures.kind x.ensures.index (omega arith)
-    out.ensures.used (rw c.in-Err-give.is out.ensures.refused) c.give.ensures.given c.give.ensures.room))
+    (held c.give_name.new.sink) (held c.give_export.new.sink) x.found.kind x.found.index x.found.next (i.more - (x.found.next - 1)) out.result c.give_export.result c.in_default-give_name.ensures.given x.ensures.kind x.ensures.index (omega arith)
+    out.ensures.used (rw c.in-Err-give_export.is out.ensures.refused) c.give_export.ensures.given c.give_export.ensures.room))
 
 pub returns : goal.returns
 returns g c =
@@ -47,5 +47,5 @@ returns g c =
     let start = exports_begun g.S.Sink.after g.S.Sink.may_run_out c.args.profile c.args.bytes.now (held c.args.sink.now) i in
     advances_by g.S.Sink.after g.S.Sink.may_run_out c.args.profile _ _ _ _ _ _ _ _ c.in-Some.ensures c.framed.ensures
     (last_export_taken g.S.Sink.after g.S.Sink.may_run_out c.args.profile c.args.bytes.now (before_export i) (held c.args.sink.now) (held c.args.sink.now) i 0 i.left x.found.stop start x.ensures.name (omega arith) (omega arith)
-    (held c.give_name.new.sink) (held c.give.new.sink) x.found.kind x.found.index x.found.next (i.more - (x.found.next - 1)) _ ok c.in_default-give_name.ensures.given x.ensures.kind x.ensures.index (omega arith)
-    refl (c.refusal_of.ensures ∙ ap refusal_in_machine c.framed.ensures) c.in_default-give.ensures.given tt)
+    (held c.give_name.new.sink) (held c.give_export.new.sink) x.found.kind x.found.index x.found.next (i.more - (x.found.next - 1)) _ ok c.in_default-give_name.ensures.given x.ensures.kind x.ensures.index (omega arith)
+    refl (c.refusal_of.ensures ∙ ap refusal_in_machine c.framed.ensures) c.in_default-give_export.ensures.given tt)

@@ -21,8 +21,8 @@ returns-in-Err-clause-advances g c =
     let x = c.in-Ok in
     let one : l.params ≡ suc (l.params - 1) = omega arith in
     let before = subst (λ n. Advances g.S.Sink.after g.S.Sink.may_run_out c.args.profile c.args.bytes.now (in_params c.args.start) (held c.args.sink.now) (record { used = l.used; refused = None }) (in_params (params_after c.args.start l.used n)) (held l.sink)) one l.invariant.advanced in
-    param_taken g.S.Sink.after g.S.Sink.may_run_out c.args.profile c.args.bytes.now (in_params c.args.start) (held c.args.sink.now) (held l.sink) (held c.give.new.sink) c.args.start l.used (l.params - 1) x.ty _
-    c.give.result before (omega arith) (omega arith) (sym c.value_type.ensures ∙ x.is) refl (sym (ap result_err c.in-Err.is)) c.give.ensures.given c.give.ensures.room
+    param_taken g.S.Sink.after g.S.Sink.may_run_out c.args.profile c.args.bytes.now (in_params c.args.start) (held c.args.sink.now) (held l.sink) (held c.give_param.new.sink) c.args.start l.used (l.params - 1) x.ty _
+    c.give_param.result before (omega arith) (omega arith) (sym c.value_type.ensures ∙ x.is) refl (sym (ap result_err c.in-Err.is)) c.give_param.ensures.given c.give_param.ensures.room
 
 pub loop-params-preserved : goal.loop-params-preserved
 loop-params-preserved g c =
@@ -34,6 +34,6 @@ loop-params-preserved g c =
     record {
       within = omega arith;
       section = omega arith;
-      advanced = param_taken g.S.Sink.after g.S.Sink.may_run_out c.args.profile c.args.bytes.now (in_params c.args.start) (held c.args.sink.now) (held l.sink) (held c.give.new.sink) c.args.start l.used (l.params - 1) x.ty (record { used = l.used + 1; refused = None })
-          ok before (omega arith) (omega arith) (sym c.value_type.ensures ∙ x.is) refl refl c.in_default-give.ensures.given tt;
+      advanced = param_taken g.S.Sink.after g.S.Sink.may_run_out c.args.profile c.args.bytes.now (in_params c.args.start) (held c.args.sink.now) (held l.sink) (held c.give_param.new.sink) c.args.start l.used (l.params - 1) x.ty (record { used = l.used + 1; refused = None })
+          ok before (omega arith) (omega arith) (sym c.value_type.ensures ∙ x.is) refl refl c.in_default-give_param.ensures.given tt;
     }

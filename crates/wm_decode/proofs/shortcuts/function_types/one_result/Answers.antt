@@ -8,12 +8,12 @@ pub returns-in-Err : goal.returns-in-Err
 returns-in-Err g c =
     let held = g.S.Sink.held in
     advances_by g.S.Sink.after g.S.Sink.may_run_out c.args.profile _ _ _ _ _ _ _ _ c.requires.machine refl
-    (count_out g.S.Sink.after g.S.Sink.may_run_out c.args.profile c.args.bytes.now c.args.start c.give.result (held c.args.sink.now) (held c.give.new.sink) _ c.in-Err.why c.args.machine.now c.requires.count (omega (arith, c.requires.within)) (omega (arith, c.requires.section)) refl refl
-    (sym (ap result_err c.in-Err.is)) c.give.ensures.given c.give.ensures.room)
+    (count_out g.S.Sink.after g.S.Sink.may_run_out c.args.profile c.args.bytes.now c.args.start c.give_result_count.result (held c.args.sink.now) (held c.give_result_count.new.sink) _ c.in-Err.why c.args.machine.now c.requires.count (omega (arith, c.requires.within)) (omega (arith, c.requires.section)) refl refl
+    (sym (ap result_err c.in-Err.is)) c.give_result_count.ensures.given c.give_result_count.ensures.room)
 
 pub returns : goal.returns
 returns g c =
     let held = g.S.Sink.held in
     advances_by g.S.Sink.after g.S.Sink.may_run_out c.args.profile _ _ _ _ _ _ _ _ c.requires.machine c.next.ensures
-    (result_taken g.S.Sink.after g.S.Sink.may_run_out c.args.profile c.args.bytes.now c.args.start c.give-2.result (held c.args.sink.now) (held c.give.new.sink) (held c.give-2.new.sink) _ c.args.ty c.requires.count c.requires.typed c.requires.within c.requires.section c.requires.types
-    c.in_default.ensures.given refl c.err-refused.ensures.value c.give-2.ensures.given c.give-2.ensures.room)
+    (result_taken g.S.Sink.after g.S.Sink.may_run_out c.args.profile c.args.bytes.now c.args.start c.give_result.result (held c.args.sink.now) (held c.give_result_count.new.sink) (held c.give_result.new.sink) _ c.args.ty c.requires.count c.requires.typed c.requires.within c.requires.section c.requires.types
+    c.in_default.ensures.given refl c.err-refused.ensures.value c.give_result.ensures.given c.give_result.ensures.room)

@@ -12,8 +12,8 @@ returns-in-Err g c =
     let held = g.S.Sink.held in
     let b = c.in-Some-begin_type in
     advances_by g.S.Sink.after g.S.Sink.may_run_out c.args.profile _ _ _ _ _ _ _ _ c.in-Some.ensures refl
-    (type_out g.S.Sink.after g.S.Sink.may_run_out c.args.profile c.args.bytes.now c.in-Some.start c.give.result (held c.args.sink.now) (held c.give.new.sink) _ c.in-Err.why c.args.machine.now b.ensures.form (omega (arith, b.ensures.within)) (omega (arith, b.ensures.section)) refl refl
-    (sym (ap result_err c.in-Err.is)) c.give.ensures.given c.give.ensures.room)
+    (type_out g.S.Sink.after g.S.Sink.may_run_out c.args.profile c.args.bytes.now c.in-Some.start c.give_new_type.result (held c.args.sink.now) (held c.give_new_type.new.sink) _ c.in-Err.why c.args.machine.now b.ensures.form (omega (arith, b.ensures.within)) (omega (arith, b.ensures.section)) refl refl
+    (sym (ap result_err c.in-Err.is)) c.give_new_type.ensures.given c.give_new_type.ensures.room)
 
 pub returns : goal.returns
 returns g c =
@@ -22,10 +22,10 @@ returns g c =
     let bytes : List ℕ = c.args.bytes.now in
     let given = c.give_params-given.result in
     let next = in_params (params_after b.begun given.used given.params) in
-    let begun = type_begun g.S.Sink.after g.S.Sink.may_run_out c.args.profile bytes c.in-Some.start b.begun (held c.args.sink.now) (held c.give.new.sink) b.ensures.form b.ensures.count.0 b.ensures.count.1 b.ensures.within b.ensures.section b.ensures.at
-    c.in_default-give.ensures.given in
+    let begun = type_begun g.S.Sink.after g.S.Sink.may_run_out c.args.profile bytes c.in-Some.start b.begun (held c.args.sink.now) (held c.give_new_type.new.sink) b.ensures.form b.ensures.count.0 b.ensures.count.1 b.ensures.within b.ensures.section b.ensures.at
+    c.in_default-give_new_type.ensures.given in
     advances_by g.S.Sink.after g.S.Sink.may_run_out c.args.profile _ _ _ _ _ _ _ _ c.in-Some.ensures c.after.ensures
-    (advances_on g.S.Sink.after g.S.Sink.may_run_out c.args.profile bytes _ (in_params b.begun) next (held c.args.sink.now) (held c.give.new.sink) (held c.give_params-given.new.sink)
+    (advances_on g.S.Sink.after g.S.Sink.may_run_out c.args.profile bytes _ (in_params b.begun) next (held c.args.sink.now) (held c.give_new_type.new.sink) (held c.give_params-given.new.sink)
     (record { used = 2; refused = None }) (record { used = given.used; refused = given.refused }) _ begun refl
-    (subst (λ (y : List ℕ). Advances g.S.Sink.after g.S.Sink.may_run_out c.args.profile y (in_params b.begun) (held c.give.new.sink) (record { used = given.used; refused = given.refused }) next (held c.give_params-given.new.sink)) (take_rest bytes 2) c.give_params-given.ensures.advances)
+    (subst (λ (y : List ℕ). Advances g.S.Sink.after g.S.Sink.may_run_out c.args.profile y (in_params b.begun) (held c.give_new_type.new.sink) (record { used = given.used; refused = given.refused }) next (held c.give_params-given.new.sink)) (take_rest bytes 2) c.give_params-given.ensures.advances)
     refl refl)

@@ -44,8 +44,8 @@ returns-in-Err-give_name g c =
     (held c.give_name.new.sink) x.found.stop c.in_default-give_name.ensures.given x.ensures.name (omega arith) (omega arith)
     (held c.give_name-in-loop-left.new.sink) out.result c.give_name-in-loop-left.result out.ensures.used (out.ensures.refused ∙ sym (ap result_err c.in-Err-give_name.is)) c.give_name-in-loop-left.ensures.given))
 
-pub returns-in-Err-give : goal.returns-in-Err-give
-returns-in-Err-give g c =
+pub returns-in-Err-give_import : goal.returns-in-Err-give_import
+returns-in-Err-give_import g c =
     let held = g.S.Sink.held in
     let l = c.loop-left in
     let x = c.in-Some-import_at in
@@ -53,13 +53,13 @@ returns-in-Err-give g c =
     let order : x.found.stop + 1 < x.found.next = x.ensures.index.some in
     let first : l.used + 1 < x.found.middle = x.ensures.module.some in
     let second : x.found.middle + 1 < x.found.stop = x.ensures.name.some in
-    let out = c.out-in-Err-give in
+    let out = c.out-in-Err-give_import in
     advances_by g.S.Sink.after g.S.Sink.may_run_out c.args.profile _ _ _ _ _ _ _ _ c.in-Some.ensures refl
-    (advances_out g.S.Sink.after g.S.Sink.may_run_out c.args.profile c.args.bytes.now (before_import c.in-Some.start) _ c.args.machine.now (held c.args.sink.now) (held c.give.new.sink) (held c.give.new.sink) out.result c.in-Err-give.why out.ensures.refused (omega arith)
+    (advances_out g.S.Sink.after g.S.Sink.may_run_out c.args.profile c.args.bytes.now (before_import c.in-Some.start) _ c.args.machine.now (held c.args.sink.now) (held c.give_import.new.sink) (held c.give_import.new.sink) out.result c.in-Err-give_import.why out.ensures.refused (omega arith)
     (import_taken g.S.Sink.after g.S.Sink.may_run_out c.args.profile c.args.bytes.now (before_import c.in-Some.start) (held c.args.sink.now) (held l.sink) c.in-Some.start l.used l.left x.found.middle l.invariant.advanced x.ensures.module (omega arith) (omega arith)
     (held c.give_name.new.sink) x.found.stop c.in_default-give_name.ensures.given x.ensures.name (omega arith) (omega arith)
-    (held c.give_name-in-loop-left.new.sink) (held c.give.new.sink) x.found.index x.found.next out.result c.give.result c.in_default-give_name-2.ensures.given x.ensures.kind x.ensures.index (omega arith) (omega arith)
-    out.ensures.used (out.ensures.refused ∙ sym (ap result_err c.in-Err-give.is)) c.give.ensures.given c.give.ensures.room))
+    (held c.give_name-in-loop-left.new.sink) (held c.give_import.new.sink) x.found.index x.found.next out.result c.give_import.result c.in_default-give_name-2.ensures.given x.ensures.kind x.ensures.index (omega arith) (omega arith)
+    out.ensures.used (out.ensures.refused ∙ sym (ap result_err c.in-Err-give_import.is)) c.give_import.ensures.given c.give_import.ensures.room))
 
 pub loop-left-preserved : goal.loop-left-preserved
 loop-left-preserved g c =
@@ -75,6 +75,6 @@ loop-left-preserved g c =
       section = omega arith;
       advanced = import_taken g.S.Sink.after g.S.Sink.may_run_out c.args.profile c.args.bytes.now (before_import c.in-Some.start) (held c.args.sink.now) (held l.sink) c.in-Some.start l.used l.left x.found.middle l.invariant.advanced x.ensures.module (omega arith) (omega arith)
           (held c.give_name.new.sink) x.found.stop c.in_default-give_name.ensures.given x.ensures.name (omega arith) (omega arith)
-          (held c.give_name-in-loop-left.new.sink) (held c.give.new.sink) x.found.index x.found.next (record { used = x.found.next; refused = None }) ok c.in_default-give_name-2.ensures.given x.ensures.kind x.ensures.index (omega arith) (omega arith)
-          refl refl c.in_default-give.ensures.given tt;
+          (held c.give_name-in-loop-left.new.sink) (held c.give_import.new.sink) x.found.index x.found.next (record { used = x.found.next; refused = None }) ok c.in_default-give_name-2.ensures.given x.ensures.kind x.ensures.index (omega arith) (omega arith)
+          refl refl c.in_default-give_import.ensures.given tt;
     }
