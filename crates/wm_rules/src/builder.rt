@@ -1,6 +1,6 @@
 //! A module, built item by item.
 
-ghost use Rattle.std.specs.Prelude.{◌≡◌, ◌∷◌, [], ◌++◌, Ok, refl};
+ghost use Rattle.std.specs.Prelude.{◌≡◌, ◌∷◌, [], ◌++◌, IfErr, IfOk, Ok, refl};
 ghost use Rattle.std.specs.String.{string_bytes};
 ghost use Rattle.wm_decode.specs.Sinks.{RunsOut, Taken, Took, items_for};
 ghost use Rattle.wm_decode.specs.Items.{body, export, import_desc, new_type, start};
@@ -8,12 +8,15 @@ ghost use Rattle.wm_rules.specs.exact.Built.{Built, after, body_ended, change_la
 ghost use Rattle.wm_rules.specs.exact.Built.{constant_taken, expecting, locals_taken, name_from, nothing};
 ghost use Rattle.wm_rules.specs.exact.Built.{op_taken, valued};
 ghost use Rattle.wm_rules.specs.inner.Builders.{built};
+ghost use Rattle.wm_syntax.specs.Instructions.{Instructions};
 ghost use Rattle.wm_syntax.specs.Values.{value_of};
+ghost use Rattle.wm_syntax.specs.inner.Building.{at};
 
 use std::alloc::Global;
 use std::mem;
 use wm_decode::{Item, Sink};
 use wm_syntax::instructions::{Op, Simple};
+use wm_syntax::modules::body::Body;
 use wm_syntax::modules::body_builder::{BodyBuilder, BodyFault};
 use wm_syntax::modules::locals::Locals;
 use wm_syntax::modules::{
@@ -60,6 +63,8 @@ pub struct Builder {
     exported: String,
     constant: Option<Pending>,
     code: Option<Code>,
+    // what the last body was built in: its memory serves for the next one
+    spare: BodyBuilder,
 }
 
 fn push<T: Drop>(items: &mut Vec<T>, item: T) -> Result<(), Why>
@@ -157,6 +162,19 @@ fn set_name(alloc: Global, name: &mut String, bytes: &[u8]) -> Result<(), Why>
     }
 }
 
+// The body that has ended. What it was built in takes the place of the spare one.
+fn take_body(mut built: BodyBuilder, spare: &mut BodyBuilder, alloc: Global) -> Result<Body, Why>
+    ensures ok { IfOk result (λ body. built ≡ at [] body) }
+    ensures err { IfErr result (λ why. (why ≡ Why.ElsePlace)
+        × ((s : Instructions) → built ≡ at [] s → ⊥)) }
+{
+    let Ok(body) = built.take_body(alloc) else {
+        return Err(Why::ElsePlace);
+    };
+    *spare = built;
+    Ok(body)
+}
+
 impl Sink for Builder {
     ghost Held = { Built };
 
@@ -229,6 +247,7 @@ impl Builder {
             exported: String::new(alloc),
             constant: None,
             code: None,
+            spare: BodyBuilder::new(alloc),
         }
     }
 
@@ -356,9 +375,11 @@ impl Builder {
     fn begin_body(&mut self) -> Result<(), Why>
         ensures { Taken (after (built self.old) body) result (built self.new) }
     {
+        let mut body = mem::replace(&mut self.spare, BodyBuilder::new(self.alloc));
+        body.clear();
         self.code = Some(Code {
             locals: Locals::new(self.alloc),
-            body: BodyBuilder::new(self.alloc),
+            body,
         });
         Ok(())
     }
@@ -413,14 +434,13 @@ impl Builder {
         if op != Op::End {
             return Err(Why::ElsePlace);
         }
-        let Ok(body) = code.body.finish() else {
-            return Err(Why::ElsePlace);
-        };
+        let Code { locals, body } = code;
+        let body = take_body(body, &mut self.spare, self.alloc)?;
         let next = self.module_value.functions.len();
         let type_index = self.indices.get(next).copied().unwrap_or(0);
         let function = Function {
             type_index,
-            locals: code.locals,
+            locals,
             body,
         };
         push(&mut self.module_value.functions, function)
@@ -447,6 +467,7 @@ mod tests {
             exported,
             constant,
             code,
+            spare,
         } = &builder;
         is::<Global>(alloc);
         is::<Module>(module_value);
@@ -456,6 +477,7 @@ mod tests {
         is::<String>(exported);
         is_copy(constant);
         is::<Option<Code>>(code);
+        is::<BodyBuilder>(spare);
     }
 
     #[test]

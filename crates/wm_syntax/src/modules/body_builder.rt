@@ -11,11 +11,11 @@ ghost use Rattle.wm_syntax.specs.inner.Builders.{next_left, next_open, next_ops}
 use crate::instructions::Op;
 use crate::instructions::lengths::op_len;
 use crate::modules::body::Body;
-use crate::modules::sized_ops::SizedOps;
+use crate::modules::sized_ops::{MOST_COPIED, SizedOps};
 use std::alloc::Global;
 use std::error::Error;
-use std::fmt;
 use std::marker::Model;
+use std::{fmt, mem};
 
 #[cfg(test)]
 mod tests;
@@ -124,6 +124,7 @@ fn push_open(
     if begun.push(opened).is_err() {
         return Err(BodyFault::Memory);
     }
+    // its own byte, and that of its type
     match push(ops, op, 2) {
         Ok(()) => Ok(()),
         Err(fault) => {
@@ -254,6 +255,15 @@ impl BodyBuilder {
         }
     }
 
+    /// Takes all ops away; what they took of memory is kept.
+    pub fn clear(&mut self)
+        ensures { self.new ≡ start }
+    {
+        self.ops.clear();
+        self.begun.clear();
+        self.left = 0;
+    }
+
     /// Takes one op more. A refusal changes nothing.
     #[inline(always)]
     pub fn push(&mut self, op: Op) -> Result<(), BodyFault>
@@ -286,6 +296,24 @@ impl BodyBuilder {
         }
         let mut ops = self.ops;
         ops.shrink_to_fit();
+        Ok(Body::from_ops(ops))
+    }
+
+    /// The same, and from then on there are no ops; what they took of memory may serve for the next body. Where lists
+    /// are open or labels are to come nothing changes.
+    pub fn take_body(&mut self, alloc: Global) -> Result<Body, BodyFault>
+        ensures ok { IfOk result (λ body. (self.old ≡ at [] body) × (self.new ≡ start)) }
+        ensures err { IfErr result (λ fault. (fault ≡ BodyFault.Unbalanced) × (self.new ≡ self.old)
+            × ((s : Instructions) → self.old ≡ at [] s → ⊥)) }
+    {
+        let all_ended = self.begun.is_empty() && self.left == 0;
+        if !all_ended {
+            return Err(BodyFault::Unbalanced);
+        }
+        if self.begun.capacity() > MOST_COPIED {
+            self.begun = Vec::new(alloc);
+        }
+        let ops = self.ops.take(alloc);
         Ok(Body::from_ops(ops))
     }
 }

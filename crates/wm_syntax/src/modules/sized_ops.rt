@@ -7,8 +7,15 @@ ghost use Rattle.wm_syntax.specs.inner.Builders.{last_of, last_set};
 
 use crate::instructions::Op;
 use std::alloc::{AllocError, Global};
-use std::fmt;
 use std::marker::Model;
+use std::{fmt, mem};
+
+// A list that is full gets room for so many ops more, or for twice as many as it has: most bodies then grow two or
+// three times.
+const FEW: usize = 64;
+
+/// The most ops that are copied when they are taken.
+pub(crate) const MOST_COPIED: usize = 1024;
 
 /// Ops, and how many bytes they have; 2^64 - 1 where there are more.
 #[derive(Drop)]
@@ -71,7 +78,9 @@ impl SizedOps {
         ensures err { OnErr result (self.new ≡ self.old) }
     {
         // in two steps, so that no refused op comes back through memory
-        self.ops.reserve(1)?;
+        if self.ops.len() >= self.ops.capacity() {
+            self.ops.reserve(FEW)?;
+        }
         self.ops.push_reserved(op);
         self.len = self.len.saturating_add(len);
         Ok(())
@@ -99,6 +108,32 @@ impl SizedOps {
     {
         let last = self.ops.len() - 1;
         self.ops[last] = Op::End;
+    }
+
+    /// Takes all ops out. Few are copied once into memory that they fill, and the list that they grew in stays. Of
+    /// many, and where that memory is refused, the list itself is taken.
+    pub(crate) fn take(&mut self, alloc: Global) -> Self
+        ensures taken { result ≡ self.old }
+        ensures left { self.new ≡ [] }
+    {
+        if self.ops.len() <= MOST_COPIED {
+            if let Ok(ops) = Vec::from_slice(alloc, &self.ops) {
+                let len = self.len;
+                self.clear();
+                return SizedOps { ops, len };
+            }
+        }
+        let mut all = mem::replace(self, SizedOps::new(alloc));
+        all.shrink_to_fit();
+        all
+    }
+
+    /// Takes all ops away; what they took of memory is kept.
+    pub(crate) fn clear(&mut self)
+        ensures { self.new ≡ [] }
+    {
+        self.ops.clear();
+        self.len = 0;
     }
 
     /// Gives back memory that no op fills.
