@@ -166,6 +166,64 @@ pub top_read : (p : Kinds) (v : Widths) (now : Floored) (k : Kind) (at : ℕ) (e
     → at ≡ length p.kinds - 1 → e ≡ entry_of k (is_wide v at) → first now.entries ≡ Some e
 top_read p v now k at e seen f a r = ap (λ (z : Floored). first z.entries) (sym seen) ∙ first_entry p.kinds v k at e f a r
 
+-- Where a float is on top of these kinds, and the widths say which, it is on top of the operands.
+abbrev pub ShowsFloat : Kinds → Type 0
+ShowsFloat p = (k : Kind) × (ks : List Kind) × (p.kinds ≡ k ∷ ks) × (p.floor ≤ length ks) × (k ≡ Float)
+
+top_is : (p : Kinds) (v : Widths) (now : Floored) (at : ℕ) (float : Entry) (k : Kind) (ks : List Kind) → operands_of p v ≡ now → p.kinds ≡ k ∷ ks → k ≡ Float
+    → at ≡ length p.kinds - 1 → entry_of Float (is_wide v at) ≡ float → now.entries ≡ float ∷ entries_in ks v
+top_is p v now at float k ks seen is kind a told =
+    let index : length ks ≡ at = omega (arith, a, ap length is) in
+    ap (λ (z : Floored). z.entries) (sym seen) ∙ ap (λ js. entries_in js v) is
+    ∙ ap (λ j. entry_of j (is_wide v (length ks)) ∷ entries_in ks v) kind
+    ∙ ap (λ i. entry_of Float (is_wide v i) ∷ entries_in ks v) index
+    ∙ ap (λ e. e ∷ entries_in ks v) told
+
+pub float_shown : (p : Kinds) (v : Widths) (now : Floored) (at : ℕ) (float : Entry) → operands_of p v ≡ now → at ≡ length p.kinds - 1
+    → entry_of Float (is_wide v at) ≡ float → ShowsFloat p → (es : List Entry) × (now.entries ≡ float ∷ es) × (now.floor ≤ length es)
+float_shown p v now at float seen a told h = (
+  entries_in h.1 v,
+  top_is p v now at float h.0 h.1 seen h.2 h.4 a told,
+  omega (arith, floor_same p v now seen, length-entries h.1 v, h.3),
+)
+
+abbrev pub TakesFloat : Kinds → Kinds → Type 0
+TakesFloat p q =
+    (k : Kind) × (ks : List Kind) × (p.kinds ≡ k ∷ ks) × (p.floor ≤ length ks) × (k ≡ Float)
+    × (q ≡ record { kinds = ks; floor = p.floor })
+
+pub float_taken : (p q : Kinds) (v : Widths) (now : Floored) (at : ℕ) (float : Entry) → operands_of p v ≡ now → at ≡ length p.kinds - 1
+    → entry_of Float (is_wide v at) ≡ float → TakesFloat p q
+    → (es : List Entry) × (now.entries ≡ float ∷ es) × (now.floor ≤ length es)
+    × (operands_of q v ≡ record { entries = es; floor = now.floor })
+float_taken p q v now at float seen a told h = (
+  entries_in h.1 v,
+  top_is p v now at float h.0 h.1 seen h.2 h.4 a told,
+  omega (arith, floor_same p v now seen, length-entries h.1 v, h.3),
+  changed p q v now h.1 (entries_in h.1 v) seen h.5 refl,
+)
+
+abbrev pub MergesFloats : Kinds → Kinds → Type 0
+MergesFloats p q =
+    (k : Kind) × (l : Kind) × (ks : List Kind) × (p.kinds ≡ k ∷ l ∷ ks) × (p.floor ≤ length ks) × (k ≡ Float)
+    × (l ≡ Float) × (q ≡ record { kinds = l ∷ ks; floor = p.floor })
+
+pub floats_merged : (p q : Kinds) (v : Widths) (now : Floored) (top under : ℕ) (float : Entry) → operands_of p v ≡ now → top ≡ length p.kinds - 1
+    → under ≡ length p.kinds - 2 → entry_of Float (is_wide v top) ≡ float → entry_of Float (is_wide v under) ≡ float → MergesFloats p q
+    → (es : List Entry) × (now.entries ≡ float ∷ float ∷ es) × (now.floor ≤ length es)
+    × (operands_of q v ≡ record { entries = float ∷ es; floor = now.floor })
+floats_merged p q v now top under float seen a b told told2 h =
+    let index : length h.2 ≡ under = omega (arith, b, ap length h.3) in
+    let second : entries_in (h.1 ∷ h.2) v ≡ float ∷ entries_in h.2 v =
+    ap (λ j. entry_of j (is_wide v (length h.2)) ∷ entries_in h.2 v) h.6
+    ∙ ap (λ i. entry_of Float (is_wide v i) ∷ entries_in h.2 v) index
+    ∙ ap (λ e. e ∷ entries_in h.2 v) told2 in (
+      entries_in h.2 v,
+      top_is p v now top float h.0 (h.1 ∷ h.2) seen h.3 h.5 a told ∙ ap (λ es. float ∷ es) second,
+      omega (arith, floor_same p v now seen, length-entries h.2 v, h.4),
+      changed p q v now (h.1 ∷ h.2) (float ∷ entries_in h.2 v) seen h.7 second,
+    )
+
 -- one operand is taken, or two
 abbrev pub TakesKind : ValType → Kinds → Kinds → Type 0
 TakesKind u p q =

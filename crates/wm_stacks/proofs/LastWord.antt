@@ -1,9 +1,8 @@
 -- What a look at the current word tells of the operands on top.
-use Rattle.std.proofs.Common.{ℕ, suc, ◌≡◌, ◌+◌, ◌-◌, ◌*◌, ◌/◌, ◌%◌, ◌^◌, ◌<◌, ◌≤◌, true, IsTrue, List, [], ◌∷◌, ◌++◌, Some, length, drop, get_or, sym, refl, ap, ◌∙◌, arith}
-use Rattle.wm_syntax.specs.declared.types.ValType.{ValType}
+use Rattle.std.proofs.Common.{ℕ, suc, ◌≡◌, ◌+◌, ◌-◌, ◌*◌, ◌/◌, ◌%◌, ◌^◌, ◌<◌, ◌≤◌, List, [], ◌∷◌, ◌++◌, Some, length, drop, get_or, sym, refl, ap, ◌∙◌, arith}
 use Rattle.wm_stacks.specs.declared.words.Kind.{Kind}
 use Rattle.wm_stacks.specs.exact.Stacks.{first, rest}
-use Rattle.wm_stacks.specs.exact.Words.{Kinds, code_of, kind_of_code, kinds_in, kinds_of_word, kinds_under, shows}
+use Rattle.wm_stacks.specs.exact.Words.{Kinds, code_of, kind_of_code, kinds_in, kinds_of_word, kinds_under}
 use Rattle.wm_stacks.proofs.OperandWords.{kept_word, length-standing, pushed_standing, split_standing}
 
 -- these kinds and this floor, seen as a value
@@ -22,21 +21,22 @@ floor_seen ws c n floor now seen = ap (λ (v : Kinds). v.floor) seen
 pub height_seen : (ws : List ℕ) (c n floor : ℕ) (now : Kinds) → Seen ws c n floor now → length now.kinds ≡ n + 32 * length ws
 height_seen ws c n floor now seen = ap (λ es. length es) (kinds_seen ws c n floor now seen) ∙ length-standing ws c n
 
--- What a take leaves, or what comes in its place.
-abbrev pub Leaves : ValType → (List Kind → List Kind) → Kinds → Kinds → Type 0
-Leaves t then now after =
-    (e : Kind) × (es : List Kind) × (now.kinds ≡ e ∷ es) × (now.floor ≤ length es) × IsTrue (shows t e)
+-- What a take of a kind of which P holds leaves, or what comes in its place.
+abbrev pub Leaves : (Kind → Type 0) → (List Kind → List Kind) → Kinds → Kinds → Type 0
+Leaves P then now after =
+    (e : Kind) × (es : List Kind) × (now.kinds ≡ e ∷ es) × (now.floor ≤ length es) × P e
     × (after ≡ view_of (then es) now.floor)
 
-abbrev pub LeavesTwo : ValType → ValType → (List Kind → List Kind) → Kinds → Kinds → Type 0
-LeavesTwo under top then now after =
+-- The same of two kinds, the top one first.
+abbrev pub LeavesTwo : (Kind → Type 0) → (Kind → Type 0) → (Kind → List Kind → List Kind) → Kinds → Kinds → Type 0
+LeavesTwo P Q then now after =
     (e : Kind) × (f : Kind) × (es : List Kind) × (now.kinds ≡ e ∷ f ∷ es) × (now.floor ≤ length es)
-    × IsTrue (shows top e) × IsTrue (shows under f) × (after ≡ view_of (then es) now.floor)
+    × P e × Q f × (after ≡ view_of (then f es) now.floor)
 
-pub one_taken : (ws : List ℕ) (c n floor : ℕ) (now : Kinds) (t : ValType) (then : List Kind → List Kind) (after : List Kind)
-    → 0 < n → floor < n + 32 * length ws → Seen ws c n floor now → shows t (kind_of_code (c % 4)) ≡ true
-    → after ≡ then (kinds_in ws (c / 4) (n - 1)) → Leaves t then now (view_of after floor)
-one_taken ws c n floor now t then after some above seen ok is =
+pub one_taken : (ws : List ℕ) (c n floor : ℕ) (now : Kinds) (P : Kind → Type 0) (then : List Kind → List Kind) (after : List Kind)
+    → 0 < n → floor < n + 32 * length ws → Seen ws c n floor now → P (kind_of_code (c % 4))
+    → after ≡ then (kinds_in ws (c / 4) (n - 1)) → Leaves P then now (view_of after floor)
+one_taken ws c n floor now P then after some above seen ok is =
     let f = floor_seen ws c n floor now seen in (
       kind_of_code (c % 4),
       kinds_in ws (c / 4) (n - 1),
@@ -46,11 +46,11 @@ one_taken ws c n floor now t then after some above seen ok is =
       ap (λ ks. view_of ks floor) is ∙ ap (λ i. view_of (then (kinds_in ws (c / 4) (n - 1))) i) f,
     )
 
-pub two_taken : (ws : List ℕ) (c n floor : ℕ) (now : Kinds) (under top : ValType) (then : List Kind → List Kind) (after : List Kind)
-    → 1 < n → floor + 1 < n + 32 * length ws → Seen ws c n floor now → shows top (kind_of_code (c % 4)) ≡ true
-    → shows under (kind_of_code (c / 4 % 4)) ≡ true
-    → after ≡ then (kinds_in ws (c / 4 / 4) (n - 1 - 1)) → LeavesTwo under top then now (view_of after floor)
-two_taken ws c n floor now under top then after some above seen ok ok2 is =
+pub two_taken : (ws : List ℕ) (c n floor : ℕ) (now : Kinds) (P Q : Kind → Type 0) (then : Kind → List Kind → List Kind) (after : List Kind)
+    → 1 < n → floor + 1 < n + 32 * length ws → Seen ws c n floor now → P (kind_of_code (c % 4))
+    → Q (kind_of_code (c / 4 % 4))
+    → after ≡ then (kind_of_code (c / 4 % 4)) (kinds_in ws (c / 4 / 4) (n - 1 - 1)) → LeavesTwo P Q then now (view_of after floor)
+two_taken ws c n floor now P Q then after some above seen ok ok2 is =
     let f = floor_seen ws c n floor now seen in (
       kind_of_code (c % 4),
       kind_of_code (c / 4 % 4),
@@ -60,7 +60,7 @@ two_taken ws c n floor now under top then after some above seen ok ok2 is =
       omega (arith, f, length-standing ws (c / 4 / 4) (n - 1 - 1), above, some),
       ok,
       ok2,
-      ap (λ ks. view_of ks floor) is ∙ ap (λ i. view_of (then (kinds_in ws (c / 4 / 4) (n - 1 - 1))) i) f,
+      ap (λ ks. view_of ks floor) is ∙ ap (λ i. view_of (then (kind_of_code (c / 4 % 4)) (kinds_in ws (c / 4 / 4) (n - 1 - 1))) i) f,
     )
 
 -- one operand more, in the current word

@@ -114,8 +114,9 @@ impl Operands {
         }
     }
 
-    // An old bit of an f64 may stand where it comes.
-    fn push_f32(&mut self) -> Result<(), Why>
+    /// An f32. An old bit of an f64 may stand where it comes.
+    #[inline(always)]
+    pub fn push_f32(&mut self) -> Result<(), Why>
         requires { length self.old.entries < 2 ^ 63 }
         ensures ok { OnOk result (self.new ≡ record {
           entries = Entry.F32 ∷ self.old.entries;
@@ -130,8 +131,9 @@ impl Operands {
         self.packed.push(Kind::Float)
     }
 
-    // Its bit is written first: where the other list refuses, it means nothing.
-    fn push_f64(&mut self) -> Result<(), Why>
+    /// An f64. Its bit is written first: where the other list refuses, it means nothing.
+    #[inline(always)]
+    pub fn push_f64(&mut self) -> Result<(), Why>
         requires { length self.old.entries < 2 ^ 63 }
         ensures ok { OnOk result (self.new ≡ record {
           entries = Entry.F64 ∷ self.old.entries;
@@ -201,6 +203,52 @@ impl Operands {
         }
     }
 
+    /// Whether a look at one word and one bit shows that this float is the top operand, above the floor.
+    #[inline(always)]
+    pub fn has_float_near(&self, float: Entry) -> bool
+        ensures { result ≡ true → (es : List Entry) × (self.now.entries ≡ float ∷ es)
+            × (self.now.floor ≤ length es) }
+    {
+        let top = self.packed.height().saturating_sub(1);
+        if !is_float(float, self.widths.is_wide(top)) {
+            return false;
+        }
+        self.packed.has_float_near()
+    }
+
+    /// Takes the top operand away where `has_float_near` shows that it is this float.
+    #[inline(always)]
+    pub fn take_float_near(&mut self, float: Entry) -> bool
+        ensures taken { result ≡ true → (es : List Entry) × (self.old.entries ≡ float ∷ es)
+            × (self.old.floor ≤ length es)
+            × (self.new ≡ record { entries = es; floor = self.old.floor }) }
+        ensures left { result ≡ false → self.new ≡ self.old }
+    {
+        let top = self.packed.height().saturating_sub(1);
+        if !is_float(float, self.widths.is_wide(top)) {
+            return false;
+        }
+        self.packed.take_float_near()
+    }
+
+    /// Takes the top operand away where such a look shows that it and the one under it are this float.
+    #[inline(always)]
+    pub fn merge_floats_near(&mut self, float: Entry) -> bool
+        ensures merged { result ≡ true → (es : List Entry) × (self.old.entries ≡ float ∷ float ∷ es)
+            × (self.old.floor ≤ length es)
+            × (self.new ≡ record { entries = float ∷ es; floor = self.old.floor }) }
+        ensures left { result ≡ false → self.new ≡ self.old }
+    {
+        let top = self.packed.height().saturating_sub(1);
+        let under = self.packed.height().saturating_sub(2);
+        if !is_float(float, self.widths.is_wide(top))
+            || !is_float(float, self.widths.is_wide(under))
+        {
+            return false;
+        }
+        self.packed.merge_floats_near()
+    }
+
     /// The top operand, where one stands above the floor.
     #[inline(always)]
     pub fn top(&self) -> Option<Entry>
@@ -258,6 +306,18 @@ fn entry_at(widths: &Widths, at: usize, kind: Kind) -> Entry
         Kind::I64 => Entry::I64,
         Kind::Unknown => Entry::Unknown,
         Kind::Float => float(widths.is_wide(at)),
+    }
+}
+
+// Whether a float that is so wide is this one.
+#[inline(always)]
+fn is_float(float: Entry, wide: bool) -> bool
+    ensures { result ≡ true → entry_of Kind.Float wide ≡ float }
+{
+    match float {
+        Entry::F64 => wide,
+        Entry::F32 => !wide,
+        _ => false,
     }
 }
 

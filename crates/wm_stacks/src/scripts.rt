@@ -5,7 +5,7 @@
 
 use crate::entries::{Entry, FrameKind};
 use crate::run_table::RunTable;
-use crate::stacks::Stacks;
+use crate::stacks::{Stacks, entry_of_type};
 use std::alloc::Global;
 use std::fmt::Debug;
 use std::process::Abort;
@@ -185,6 +185,15 @@ fn moved(rt: &impl Abort, alloc: Global, stacks: &mut Stacks, call: &str) -> Str
     match word {
         "push" => shown(rt, alloc, stacks.push(entry_of(rt, with))),
         "take" => shown(rt, alloc, stacks.take(&types_of(rt, alloc, with))),
+        "take_float" => shown(rt, alloc, stacks.take_float_near(type_of(rt, with))),
+        "keep_float" => {
+            let ty = type_of(rt, with);
+            shown(rt, alloc, stacks.keep_float_near(ty, entry_of_type(ty)))
+        }
+        "merge_floats" => {
+            let ty = type_of(rt, with);
+            shown(rt, alloc, stacks.merge_floats_near(ty, entry_of_type(ty)))
+        }
         "take_any" => shown(rt, alloc, stacks.take_any()),
         "close" => shown(rt, alloc, stacks.close()),
         "cut_to_floor" => {

@@ -42,6 +42,7 @@ impl Widths {
     }
 
     /// Whether the operand with this index is an f64, if it is a float.
+    #[inline(always)]
     pub fn is_wide(&self, at: usize) -> bool
         ensures { result ≡ is_wide self.now at }
     {
@@ -50,6 +51,7 @@ impl Widths {
     }
 
     /// The operand with this index is an f32.
+    #[inline(always)]
     pub fn narrow(&mut self, at: usize)
         ensures { Written at false self.old self.new }
     {
@@ -63,6 +65,7 @@ impl Widths {
 
     /// The operand with this index is an f64. `Memory` changes no width, and comes only where a word more
     /// is needed than the one that takes none.
+    #[inline(always)]
     pub fn widen(&mut self, at: usize) -> Result<(), Why>
         ensures ok { OnOk result (Written at true self.old self.new) }
         ensures err { IfErr result (λ why. (why ≡ Why.Memory)
@@ -79,6 +82,7 @@ impl Widths {
     }
 
     // Writes the bit of an operand into its word, which was made.
+    #[inline(always)]
     fn put(&mut self, at: usize, wide: bool)
         requires { at / 64 ≤ length self.old.rest.items }
         ensures { Written at wide self.old self.new }
@@ -94,6 +98,7 @@ impl Widths {
     }
 
     // The word with this index.
+    #[inline(always)]
     fn word(&self, index: usize) -> u64
         ensures { result ≡ slice_index (words_of self.now) index }
     {
@@ -105,6 +110,7 @@ impl Widths {
     }
 }
 
+#[inline(never)]
 fn word_in(words: &[u64], index: usize) -> u64
     ensures { result ≡ slice_index words.now index }
 {
@@ -112,6 +118,7 @@ fn word_in(words: &[u64], index: usize) -> u64
 }
 
 // The word with the bit of an operand written.
+#[inline(always)]
 fn with_bit(word: u64, at: usize, wide: bool) -> u64
     ensures there { nat_eq (bit_at result (at % 64)) 1 ≡ wide }
     ensures others { (i : ℕ) → i < 64 → i ≢ at % 64 → bit_at result i ≡ bit_at word i }
@@ -121,16 +128,28 @@ fn with_bit(word: u64, at: usize, wide: bool) -> u64
 }
 
 // Makes words with no bit set, until there are so many.
-#[inline(never)]
+#[inline(always)]
 fn lengthen(words: &mut Vec<u64>, count: usize) -> Result<(), Why>
     ensures same { (i : ℕ) → slice_index words.new.items i ≡ slice_index words.old.items i }
     ensures ok { OnOk result (count ≤ length words.new.items) }
     ensures err { IfErr result (λ why. why ≡ Why.Memory) }
     ensures near { OnErr result (0 < count) }
 {
-    if count > words.len() {
-        words.resize(count, 0)?;
+    if count <= words.len() {
+        return Ok(());
     }
+    make_words(words, count)
+}
+
+// The same where there are fewer.
+#[inline(never)]
+fn make_words(words: &mut Vec<u64>, count: usize) -> Result<(), Why>
+    requires { length words.old.items < count }
+    ensures same { (i : ℕ) → slice_index words.new.items i ≡ slice_index words.old.items i }
+    ensures ok { OnOk result (length words.new.items ≡ count) }
+    ensures err { IfErr result (λ why. why ≡ Why.Memory) }
+{
+    words.resize(count, 0)?;
     Ok(())
 }
 

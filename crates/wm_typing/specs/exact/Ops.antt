@@ -90,12 +90,15 @@ HasFixedType (simple.Store o at) = Unit {0}
 HasFixedType (simple.Numeric o) = Unit {0}
 HasFixedType p = ⊥
 
--- an instruction on numbers other than a test, a comparison and an operation on whole numbers
+-- an instruction on numbers other than a test, a comparison and an operation on numbers of one type
 abbrev pub IsRareNumeric : Numeric → Type 0
 IsRareNumeric (numeric.Test t) = ⊥
 IsRareNumeric (numeric.Compare t c) = ⊥
 IsRareNumeric (numeric.Unary t o) = ⊥
 IsRareNumeric (numeric.Binary t o) = ⊥
+IsRareNumeric (numeric.FloatCompare t c) = ⊥
+IsRareNumeric (numeric.FloatUnary t o) = ⊥
+IsRareNumeric (numeric.FloatBinary t o) = ⊥
 IsRareNumeric o = Unit {0}
 
 -- takes the result of the innermost frame, and closes it

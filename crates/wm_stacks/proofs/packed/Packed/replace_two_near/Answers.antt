@@ -1,6 +1,7 @@
 -- Both operands stand in the current word, above the floor, and so does the one in their place.
-use Rattle.std.proofs.Common.{◌+◌, ◌-◌, ◌*◌, ◌/◌, ◌%◌, ◌^◌, ◌≡◌, ◌≤◌, ◌∷◌, length, ap, sym, ◌∙◌, arith}
-use Rattle.wm_stacks.specs.exact.Words.{kinds_in}
+use Rattle.std.proofs.Common.{IsTrue, ◌+◌, ◌-◌, ◌*◌, ◌/◌, ◌%◌, ◌^◌, ◌≡◌, ◌≤◌, ◌∷◌, length, ap, sym, ◌∙◌, arith}
+use Rattle.wm_stacks.specs.declared.words.Kind.{Kind}
+use Rattle.wm_stacks.specs.exact.Words.{kinds_in, shows}
 use Rattle.wm_stacks.proofs.LastWord.{two_taken}
 use Rattle.wm_stacks.proofs.OperandWords.{pushed_standing}
 use Rattle.wm_stacks.proofs.packed.Packed.replace_two_near.Goals as goal
@@ -15,6 +16,7 @@ returns-clause-replaced c =
     let few : n - 1 - 1 ≤ 31 = omega arith in
     let w : c.without_kind-2.result ≡ s.current / 4 / 4 = c.without_kind-2.ensures ∙ ap (λ x. x / 4) c.without_kind.ensures in
     let others : v / 4 ≡ s.current / 4 / 4 % 2 ^ 62 = c.with_kind-self-inside.ensures.others ∙ ap (λ x. x % 2 ^ 62) w in
-    λ _. two_taken ws s.current n s.floor c.args.self.now c.args.under c.args.top (λ ks. c.args.kind ∷ ks) _ (omega arith) (omega arith) c.self.view_is
+    λ _. two_taken ws s.current n s.floor c.args.self.now (λ (e : Kind). IsTrue (shows c.args.top e)) (λ (e : Kind). IsTrue (shows c.args.under e))
+    (λ f ks. c.args.kind ∷ ks) _ (omega arith) (omega arith) c.self.view_is
     (sym c.first_fits.ensures ∙ c.if-not-first_fits.false) (sym c.second_fits.ensures ∙ c.if-not-second_fits.false)
     (ap (λ m. kinds_in ws v m) k ∙ pushed_standing ws (s.current / 4 / 4) v (n - 1 - 1) c.args.kind few c.with_kind-self-inside.ensures.lowest others)
