@@ -9,7 +9,7 @@ ghost use Rattle.wm_stacks.specs.inner.Widths.{is_wide};
 
 use crate::entries::Entry;
 use crate::packed::Packed;
-use crate::widths::Widths;
+use crate::widths::{IN_FIRST, Widths};
 use crate::words::Kind;
 use std::alloc::Global;
 use std::marker::Model;
@@ -203,14 +203,18 @@ impl Operands {
         }
     }
 
-    /// Whether a look at one word and one bit shows that this float is the top operand, above the floor.
+    /// Whether a look at one word and one bit shows that this float is the top operand, above the floor: only in the
+    /// first word of widths, so that nothing is called.
     #[inline(always)]
     pub fn has_float_near(&self, float: Entry) -> bool
         ensures { result ≡ true → (es : List Entry) × (self.now.entries ≡ float ∷ es)
             × (self.now.floor ≤ length es) }
     {
-        let top = self.packed.height().saturating_sub(1);
-        if !is_float(float, self.widths.is_wide(top)) {
+        let height = self.packed.height();
+        if height == 0 || height > IN_FIRST {
+            return false;
+        }
+        if !is_float(float, self.widths.is_wide(height - 1)) {
             return false;
         }
         self.packed.has_float_near()
@@ -224,8 +228,11 @@ impl Operands {
             × (self.new ≡ record { entries = es; floor = self.old.floor }) }
         ensures left { result ≡ false → self.new ≡ self.old }
     {
-        let top = self.packed.height().saturating_sub(1);
-        if !is_float(float, self.widths.is_wide(top)) {
+        let height = self.packed.height();
+        if height == 0 || height > IN_FIRST {
+            return false;
+        }
+        if !is_float(float, self.widths.is_wide(height - 1)) {
             return false;
         }
         self.packed.take_float_near()
@@ -239,10 +246,12 @@ impl Operands {
             × (self.new ≡ record { entries = float ∷ es; floor = self.old.floor }) }
         ensures left { result ≡ false → self.new ≡ self.old }
     {
-        let top = self.packed.height().saturating_sub(1);
-        let under = self.packed.height().saturating_sub(2);
-        if !is_float(float, self.widths.is_wide(top))
-            || !is_float(float, self.widths.is_wide(under))
+        let height = self.packed.height();
+        if height < 2 || height > IN_FIRST {
+            return false;
+        }
+        if !is_float(float, self.widths.is_wide(height - 1))
+            || !is_float(float, self.widths.is_wide(height - 2))
         {
             return false;
         }

@@ -11,6 +11,9 @@ use wm_syntax::why::Why;
 // So many operands have a bit in a word.
 const BITS: usize = 64;
 
+/// So many have one in the first word.
+pub(crate) const IN_FIRST: usize = BITS;
+
 /// Of each operand that is a float, whether it is an f64. Others have a bit too, which means nothing.
 ///
 /// Operand i has bit i % 64 of word i / 64. Words are made where an f64 is pushed; a word that was not

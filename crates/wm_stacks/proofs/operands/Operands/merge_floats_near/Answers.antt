@@ -1,5 +1,5 @@
 -- The kinds of the two topmost operands, and their widths.
-use Rattle.std.proofs.Common.{◌≡◌, ◌-◌, length, sym, ap, ◌∙◌, arith}
+use Rattle.std.proofs.Common.{◌≡◌, ◌-◌, length, sym, ap, ◌∙◌}
 use Rattle.wm_stacks.specs.declared.words.Kind.TheVariants.{Float}
 use Rattle.wm_stacks.specs.exact.Words.{Kinds}
 use Rattle.wm_stacks.specs.inner.Operands.{entry_of, operands_of}
@@ -9,9 +9,9 @@ use Rattle.wm_stacks.proofs.operands.Operands.merge_floats_near.Goals as goal
 pub returns-clause-merged : goal.returns-clause-merged
 returns-clause-merged c =
     let s = c.self.inside in
-    let top : c.saturating_sub-top.result ≡ length s.packed.kinds - 1 = omega (arith, c.saturating_sub-top.ensures, c.height.ensures.height) in
-    let under : c.saturating_sub-under.result ≡ length s.packed.kinds - 2 = omega (arith, c.saturating_sub-under.ensures, c.height-2.ensures.height) in
-    λ t. floats_merged s.packed c.merge_floats_near.new.self s.widths c.args.self.now c.saturating_sub-top.result c.saturating_sub-under.result c.args.float
+    let top : c.height-height.result - 1 ≡ length s.packed.kinds - 1 = ap (λ n. n - 1) c.height-height.ensures.height in
+    let under : c.height-height.result - 2 ≡ length s.packed.kinds - 2 = ap (λ n. n - 2) c.height-height.ensures.height in
+    λ t. floats_merged s.packed c.merge_floats_near.new.self s.widths c.args.self.now (c.height-height.result - 1) (c.height-height.result - 2) c.args.float
     c.self.view_is top under
     (ap (λ b. entry_of Float b) (sym c.is_wide.ensures) ∙ c.is_float.ensures c.if-not-is_float.false)
     (ap (λ b. entry_of Float b) (sym c.is_wide-else-not-is_float.ensures) ∙ c.is_float-else-not-is_float.ensures c.if-not-is_float-2.false) (c.merge_floats_near.ensures.merged t)

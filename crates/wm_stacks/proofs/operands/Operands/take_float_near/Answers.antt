@@ -1,5 +1,5 @@
 -- The kind of the top operand, and its width.
-use Rattle.std.proofs.Common.{◌≡◌, ◌-◌, length, sym, ap, ◌∙◌, arith}
+use Rattle.std.proofs.Common.{◌≡◌, ◌-◌, length, sym, ap, ◌∙◌}
 use Rattle.wm_stacks.specs.declared.words.Kind.TheVariants.{Float}
 use Rattle.wm_stacks.specs.exact.Words.{Kinds}
 use Rattle.wm_stacks.specs.inner.Operands.{entry_of, operands_of}
@@ -9,8 +9,8 @@ use Rattle.wm_stacks.proofs.operands.Operands.take_float_near.Goals as goal
 pub returns-clause-taken : goal.returns-clause-taken
 returns-clause-taken c =
     let s = c.self.inside in
-    let at : c.saturating_sub-top.result ≡ length s.packed.kinds - 1 = omega (arith, c.saturating_sub-top.ensures, c.height.ensures.height) in
-    λ t. float_taken s.packed c.take_float_near.new.self s.widths c.args.self.now c.saturating_sub-top.result c.args.float c.self.view_is at
+    let at : c.height-height.result - 1 ≡ length s.packed.kinds - 1 = ap (λ n. n - 1) c.height-height.ensures.height in
+    λ t. float_taken s.packed c.take_float_near.new.self s.widths c.args.self.now (c.height-height.result - 1) c.args.float c.self.view_is at
     (ap (λ b. entry_of Float b) (sym c.is_wide.ensures) ∙ c.is_float.ensures c.if-not-is_float.false) (c.take_float_near.ensures.taken t)
 
 pub returns-clause-left : goal.returns-clause-left
