@@ -96,7 +96,7 @@ floor_set p q v now floor seen is =
     ap (λ (z : Kinds). operands_of z v) is ∙ ap (λ (z : Floored). let y : Floored = record { entries = z.entries; floor = floor } in y) seen
 
 -- nothing changed, but for bits above the operands
-kept : (p q : Kinds) (v w : Widths) (now : Floored) → operands_of p v ≡ now → q ≡ p
+pub kept : (p q : Kinds) (v w : Widths) (now : Floored) → operands_of p v ≡ now → q ≡ p
     → ((i : ℕ) → i < length p.kinds → is_wide w i ≡ is_wide v i) → operands_of q w ≡ now
 kept p q v w now seen is same =
     ap (λ (z : Kinds). operands_of z w) is
@@ -104,7 +104,7 @@ kept p q v w now seen is same =
     ∙ seen
 
 -- one operand more
-pushed : (p q : Kinds) (v w : Widths) (now : Floored) (k : Kind) (e : Entry) → operands_of p v ≡ now → q ≡ record { kinds = k ∷ p.kinds; floor = p.floor }
+pub pushed : (p q : Kinds) (v w : Widths) (now : Floored) (k : Kind) (e : Entry) → operands_of p v ≡ now → q ≡ record { kinds = k ∷ p.kinds; floor = p.floor }
     → ((i : ℕ) → i < length p.kinds → is_wide w i ≡ is_wide v i) → entry_of k (is_wide w (length p.kinds)) ≡ e
     → operands_of q w ≡ record { entries = e ∷ now.entries; floor = now.floor }
 pushed p q v w now k e seen is same there =

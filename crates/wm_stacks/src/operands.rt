@@ -149,6 +149,28 @@ impl Operands {
         }
     }
 
+    /// Puts this float on top where the current word has a place for its kind, and the first word of widths for its
+    /// bit.
+    #[inline(always)]
+    pub fn push_float_near(&mut self, float: Entry) -> bool
+        ensures pushed { result ≡ true → self.new ≡ record {
+          entries = float ∷ self.old.entries;
+          floor = self.old.floor;
+        } }
+        ensures left { result ≡ false → self.new ≡ self.old }
+    {
+        let height = self.packed.height();
+        if height >= IN_FIRST {
+            return false;
+        }
+        let wide = float == Entry::F64;
+        if !is_float(float, wide) {
+            return false;
+        }
+        self.widths.put(height, wide);
+        self.packed.push_near(Kind::Float)
+    }
+
     /// Takes the top operand away where a look at one word shows that it is above the floor and fits: of
     /// floats it never does.
     #[inline(always)]

@@ -185,6 +185,7 @@ fn moved(rt: &impl Abort, alloc: Global, stacks: &mut Stacks, call: &str) -> Str
     match word {
         "push" => shown(rt, alloc, stacks.push(entry_of(rt, with))),
         "take" => shown(rt, alloc, stacks.take(&types_of(rt, alloc, with))),
+        "push_float" => shown(rt, alloc, stacks.push_float_near(entry_of(rt, with))),
         "take_float" => shown(rt, alloc, stacks.take_float_near(type_of(rt, with))),
         "keep_float" => {
             let ty = type_of(rt, with);

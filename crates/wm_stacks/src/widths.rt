@@ -84,9 +84,9 @@ impl Widths {
         }
     }
 
-    // Writes the bit of an operand into its word, which was made.
+    /// Writes the bit of an operand into its word, which was made.
     #[inline(always)]
-    fn put(&mut self, at: usize, wide: bool)
+    pub fn put(&mut self, at: usize, wide: bool)
         requires { at / 64 ≤ length self.old.rest.items }
         ensures { Written at wide self.old self.new }
     {

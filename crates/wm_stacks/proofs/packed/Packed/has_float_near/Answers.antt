@@ -1,8 +1,7 @@
 -- The top operand stands in the current word, above the floor.
-use Rattle.std.proofs.Common.{◌-◌, ◌*◌, ◌≡◌, length, refl, ap, arith}
+use Rattle.std.proofs.Common.{◌-◌, ◌*◌, ◌≡◌, length, refl, arith}
 use Rattle.wm_stacks.specs.declared.words.Kind.{Kind}
 use Rattle.wm_stacks.specs.declared.words.Kind.TheVariants.{Float}
-use Rattle.wm_stacks.specs.exact.Words.{kinds_in}
 use Rattle.wm_stacks.proofs.LastWord.{one_taken}
 use Rattle.wm_stacks.proofs.packed.Packed.has_float_near.Goals as goal
 
