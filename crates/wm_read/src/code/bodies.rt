@@ -20,7 +20,7 @@ use crate::faults::{TextFault, TextWhy};
 use crate::names::identifiers::Scope;
 use crate::tokens::lexeme::{Lexeme, first_token};
 use std::alloc::Global;
-use wm_syntax::instructions::Op;
+use wm_syntax::instructions::{Op, Simple};
 use wm_syntax::modules::body::Body;
 use wm_syntax::modules::body_builder::{BodyBuilder, BodyFault};
 use wm_syntax::profile::Profile;
@@ -34,6 +34,7 @@ struct OpenBody<'a> {
 }
 
 /// Takes an op that may stand next.
+#[inline(never)]
 #[tactic(auto, using(crate::proofs::BuiltBodies::op_laws))]
 fn push(builder: &mut BodyBuilder, op: Op) -> Result<(), TextFault>
     requires { CanTake builder.old (op ∷ []) }
@@ -47,6 +48,22 @@ fn push(builder: &mut BodyBuilder, op: Op) -> Result<(), TextFault>
             left: 0,
         }),
         Err(BodyFault::Unbalanced) => unreachable!(),
+    }
+}
+
+/// Takes an instruction that holds no list and may stand next: at once, where there is room for it. Most ops are
+/// such.
+#[inline(always)]
+#[tactic(auto, using(crate::proofs::BuiltBodies::op_laws))]
+fn push_simple(builder: &mut BodyBuilder, simple: Simple) -> Result<(), TextFault>
+    requires { CanTake builder.old (Op.Simple simple ∷ []) }
+    ensures memory { IfErr result (λ e. e.why ≡ Memory) }
+    ensures taken { OnOk result (place_after builder.old (Op.Simple simple ∷ []) ≡ Some builder.new) }
+{
+    if builder.push_near(&Op::Simple(simple)) {
+        Ok(())
+    } else {
+        push(builder, Op::Simple(simple))
     }
 }
 
@@ -105,7 +122,7 @@ fn add<'a>(body: &mut OpenBody<'a>, piece: Piece<'a>) -> Result<(), TextFault>
     ensures blocks { OnOk result (body.new.blocks ≡ flat.after body.old.blocks (piece_of piece.entry)) }
 {
     match piece {
-        Piece::Plain(simple) => push(&mut body.builder, Op::Simple(simple))?,
+        Piece::Plain(simple) => push_simple(&mut body.builder, simple)?,
         Piece::Table(labels, default) => push_table(&mut body.builder, &labels, default)?,
         Piece::Opens(opening, id, ty) => {
             push(&mut body.builder, opening_op(opening, ty))?;
