@@ -53,3 +53,4 @@ pub mod PrintedBodies
 pub mod PrintedFields
 pub mod PrintedParts
 pub mod PrintedTexts
+pub mod Stretches

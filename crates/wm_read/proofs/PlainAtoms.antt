@@ -16,10 +16,10 @@ second_of false v w = refl
 abbrev marks : ℕ → Bool
 marks c = list_any (λ d. c == d) (codes "!#$%&'*+-./:<=>?@\\^_`|~")
 
-lower_is : (c : ℕ) → is_lower c ≡ true → is_id_char c ≡ true
+pub lower_is : (c : ℕ) → is_lower c ≡ true → is_id_char c ≡ true
 lower_is c h = ap (λ (x : Bool). ((is_digit c || x) || is_upper c) || marks c) h ∙ second_of (is_digit c) (is_upper c) (marks c)
 
-digit_is : (c : ℕ) → is_digit c ≡ true → is_id_char c ≡ true
+pub digit_is : (c : ℕ) → is_digit c ≡ true → is_id_char c ≡ true
 digit_is c h = ap (λ (x : Bool). ((x || is_lower c) || is_upper c) || marks c) h
 
 front : (c : ℕ) (t a : List ℕ) (n : ℕ) → class_of c ≡ k.Atom → atom_in (c ∷ t) ≡ (take n (c ∷ t), drop n (c ∷ t)) → a ≡ take n (c ∷ t) → a ≡ c ∷ (atom_in t).0
@@ -55,7 +55,7 @@ digits_all (c ∷ b) (suc n) m after h all s =
 no_sign : (c s : ℕ) → is_digit c ≡ true → s < 48 → (c == s) ≡ false
 no_sign c s h lt = ne_eqb c s (λ e. let low : 48 ≤ c = leb-true 48 c (and_parts (nat_le 48 c) (nat_le c 57) h).0 in omega (arith, e, low, lt))
 
-digits_number : (c : ℕ) (b : List ℕ) (m : ℕ) → is_digit c ≡ true → digits_in 10 0 false (c ∷ b) ≡ Some m → is_number (c ∷ b) ≡ true
+pub digits_number : (c : ℕ) (b : List ℕ) (m : ℕ) → is_digit c ≡ true → digits_in 10 0 false (c ∷ b) ≡ Some m → is_number (c ∷ b) ≡ true
 digits_number c b m h e =
     cond-false (c == 43) _ _ (no_sign c 43 h (omega arith)) ∙ cond-false (c == 45) _ _ (no_sign c 45 h (omega arith)) ∙ ap is_some (decimal_magnitude m (c ∷ b) e)
 

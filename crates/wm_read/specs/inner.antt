@@ -13,3 +13,4 @@ pub mod Places
 pub mod Views
 pub mod Printed
 pub mod Renewed
+pub mod Stretches

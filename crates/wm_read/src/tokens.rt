@@ -3,3 +3,4 @@
 pub(crate) mod lexeme;
 pub(crate) mod literals;
 pub(crate) mod scan;
+pub(crate) mod stretches;

@@ -17,6 +17,7 @@ use crate::tokens::scan::{
     Class, Mode, Step, after_comment, after_line, after_spaces, after_string, atom_len, class_of,
     given_first, is_atom, plain_atom, string_step,
 };
+use crate::tokens::stretches::after_stretches;
 use std::alloc::{AllocError, Global};
 
 /// A token (section 6.3), as it lies in the text.
@@ -216,22 +217,23 @@ pub fn check_tokens(text: &[u8]) -> Result<(), TextRefusal>
 }
 
 /// Whether a whole text is made of tokens.
-#[tactic(auto, using(crate::proofs::Whole::stand_laws, crate::proofs::Places::place_laws))]
+#[tactic(auto, using(crate::proofs::Whole::stand_laws, crate::proofs::Places::place_laws, crate::proofs::Stretches::kept_laws))]
 fn check_whole(text: &[u8]) -> Result<(), TextRefusal>
     ensures tokens { MatchResult result (λ _. scan.has_tokens text.now ≡ true)
         (λ _. scan.has_tokens text.now ≡ false) }
     ensures why { IfErr result (λ e. IsOfTokens e.why) }
     ensures at { IfErr result (λ e. IsPlace text.now e) }
 {
-    let mut rest = after_spaces(text);
+    let mut rest = after_stretches(text);
     loop {
         match plain_atom(rest) {
             Some((_, more)) => rest = after_spaces(more),
             None => match ahead(rest) {
                 Found::Nothing => return Ok(()),
                 Found::Fault(why) => return Err(fault(text, rest, why)),
-                Found::Blank(more) => rest = after_spaces(more),
-                Found::First(_, more) => rest = after_spaces(more),
+                Found::Blank(more) => rest = after_stretches(more),
+                Found::First(Lexeme::Open, more) => rest = after_spaces(more),
+                Found::First(_, more) => rest = after_stretches(more),
             },
         }
     }

@@ -52,6 +52,11 @@ tokens "\u{D7FF}\u{e000}" => ok [237, 159, 191, 238, 128, 128]
 tokens "\u{10ffff}" => ok [244, 143, 191, 191]
 tokens "\u{0000000000000041}" => ok [65]
 tokens " ~" => ok [32, 126]
+;; eight bytes and more of words, identifiers and digits
+tokens abcdefgh 0123 $x 9 ij (kl mnopqrst) 7 => ok abcdefgh 0123 $x 9 ij ( kl mnopqrst ) 7
+tokens local.get 0 i32.const -1 i32.add => ok local.get 0 i32.const -1 i32.add
+tokens abcdefgh $$0a=B 12345678 c => ok abcdefgh $$0a=B 12345678 c
+tokens a b c d e f g h;;i␊j k l m n o p "q" => ok a b c d e f g h j k l m n o p [113]
 "#;
 
 /// Texts with a fault, the first of which is told.
@@ -83,6 +88,14 @@ tokens nan 1nan => BadToken at 4
 tokens +infinity => BadToken at 0
 tokens .a => BadToken at 0
 tokens = => BadToken at 0
+;; behind eight bytes and more of words, identifiers and digits
+tokens abcdefgh 12a => BadToken at 9
+tokens abcd efg 1234567a b => BadToken at 9
+tokens abcdefghijklmn $ op => BadToken at 15
+tokens abcdefgh 12$a => BadToken at 9
+tokens abcdefg a,bcdefgh => BadToken at 9
+tokens abcdefg aé bcdefgh => BadToken at 9
+tokens abcdefgh ijk; l => BadToken at 12
 ;; control characters in a string
 tokens a "b␊" => BadToken at 2
 ;; the first fault is the one that is told
