@@ -16,7 +16,9 @@ use crate::fields::signatures::signature;
 use crate::fields::strings::name;
 use crate::fields::words::{FieldKind, field_kind, item_kind};
 use crate::names::identifiers::{Names, Space, is_new};
-use crate::tokens::lexeme::{Lexeme, first_token};
+use crate::tokens::lexeme::{Lexeme, next_token};
+use crate::tokens::scan::{after_spaces, plain_atom};
+use crate::tokens::stretches::after_stretches;
 use std::alloc::{AllocError, Global};
 use wm_syntax::modules::ExportKind;
 use wm_syntax::profile::Profile;
@@ -72,7 +74,7 @@ fn free_id<'a>(space: &Space, text: &'a [u8]) -> Result<(Option<&'a [u8]>, &'a [
 }
 
 /// Past the parenthesis that closes so many.
-#[tactic(auto, using(crate::proofs::HeadSteps::skip_laws))]
+#[tactic(auto, using(crate::proofs::HeadSteps::skip_laws, crate::proofs::Stretches::skip_laws))]
 fn skip(depth: usize, text: &[u8]) -> Result<&[u8], TextFault>
     requires { depth ≤ 2 }
     ensures { Reads (λ r. lexed r.now) result (first.skip depth (lexed text.now)) }
@@ -80,17 +82,21 @@ fn skip(depth: usize, text: &[u8]) -> Result<&[u8], TextFault>
     let mut open = depth;
     let mut rest = text;
     while open > 0 {
-        match first_token(rest) {
-            Some((Lexeme::Open, more)) => {
-                open += 1;
-                rest = more;
-            }
-            Some((Lexeme::Close, more)) => {
-                open -= 1;
-                rest = more;
-            }
-            Some((Lexeme::String(_) | Lexeme::Atom(_), more)) => rest = more,
-            None => return Err(refuse(TextWhy::Expected, rest)),
+        match plain_atom(rest) {
+            Some((_, more)) => rest = after_spaces(more),
+            None => match next_token(rest) {
+                Some((Lexeme::Open, more)) => {
+                    open += 1;
+                    rest = more;
+                }
+                Some((Lexeme::Close, more)) => {
+                    open -= 1;
+                    rest = more;
+                }
+                Some((Lexeme::String(_), more)) => rest = after_stretches(more),
+                Some((Lexeme::Atom(_), more)) => rest = after_stretches(more),
+                None => return Err(refuse(TextWhy::Expected, rest)),
+            },
         }
     }
     Ok(rest)

@@ -35,4 +35,5 @@ heads ($a) => Expected, 3 left
 heads () => Expected, 1 left
 heads (func (nop) => Expected, 0 left
 heads (memory => Expected, 0 left
+heads (func local.get 0 i32.const 12a) => Expected, 4 left
 "#;
