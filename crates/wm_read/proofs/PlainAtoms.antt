@@ -1,7 +1,7 @@
 -- Atoms whose first byte tells that they are some.
 use Rattle.std.proofs.Common.{◌≡◌, ℕ, zero, suc, ◌<◌, ◌≤◌, ◌+◌, ◌-◌, ◌*◌, ◌⊎◌, Bool, true, false, List, [], ◌∷◌, length, Some, refl, sym, ap, subst, ◌∙◌, inl, inr, arith, take, drop, get_or}
 use Rattle.std.specs.Prelude.{◌||◌, ◌==◌, nat_le, codes}
-use Rattle.std.specs.List.{list_any}
+use Rattle.std.specs.List.{list_any, list_all}
 use Rattle.std.proofs.lemmas.Bool.{cond-false, ne_eqb, and_from, le-leb, and_parts, leb-true}
 use Rattle.wm_read.specs.Tokens.{atom, is_digit, is_lower, is_upper, is_id_char}
 use Rattle.wm_read.specs.declared.tokens.scan.Class.TheVariants as k
@@ -43,14 +43,20 @@ id_cut (c ∷ t) a r n g two len e p q =
     atom_cut (c ∷ t) a r n starts e p q (ap is_atom whole ∙ kind_more (c ∷ (atom_in t).0) (inl (g, omega (arith, long, len, two))))
 
 -- decimal digits alone are a number
-digits_all : (b : List ℕ) (n m : ℕ) (after : Bool) → n ≤ length b → ((i : ℕ) → i < n → is_digit (get_or b i 0) ≡ true) → (after ≡ true) ⊎ (0 < n) → (v : ℕ) × (digits_in 10 m after (take n b) ≡ Some v)
-digits_all b zero m after h all (inl t) = (m, ap (λ (x : Bool). digits_in 10 m x []) t)
-digits_all b zero m after h all (inr lt) = absurd (omega (arith, lt))
-digits_all [] (suc n) m after h all s = absurd (omega (arith, h))
-digits_all (c ∷ b) (suc n) m after h all s =
-    let d = and_parts (nat_le 48 c) (nat_le c 57) (all 0 (omega arith)) in
-    let g = digits_all b n (m * 10 + (c - 48)) true (omega (arith, h)) (λ i lt. all (suc i) (omega (arith, lt))) (inl refl) in
-    (g.0, decimal_go c m after (take n b) (leb-true 48 c d.0) (leb-true c 57 d.1) ∙ g.1)
+pub digits_value : (b : List ℕ) (m : ℕ) (after : Bool) → list_all is_digit b ≡ true → (after ≡ true) ⊎ (0 < length b) → (v : ℕ) × (digits_in 10 m after b ≡ Some v)
+digits_value [] m after h (inl t) = (m, ap (λ (x : Bool). digits_in 10 m x []) t)
+digits_value [] m after h (inr lt) = absurd (omega (arith, lt))
+digits_value (c ∷ b) m after h s =
+    let p = and_parts (is_digit c) (list_all is_digit b) h in
+    let d = and_parts (nat_le 48 c) (nat_le c 57) p.0 in
+    let g = digits_value b (m * 10 + (c - 48)) true p.1 (inl refl) in
+    (g.0, decimal_go c m after b (leb-true 48 c d.0) (leb-true c 57 d.1) ∙ g.1)
+
+digits_front : (b : List ℕ) (n : ℕ) → n ≤ length b → ((i : ℕ) → i < n → is_digit (get_or b i 0) ≡ true) → list_all is_digit (take n b) ≡ true
+digits_front b zero h all = refl
+digits_front [] (suc n) h all = absurd (omega (arith, h))
+digits_front (c ∷ b) (suc n) h all =
+    and_from (is_digit c) (list_all is_digit (take n b)) (all 0 (omega arith)) (digits_front b n (omega (arith, h)) (λ i lt. all (suc i) (omega (arith, lt))))
 
 no_sign : (c s : ℕ) → is_digit c ≡ true → s < 48 → (c == s) ≡ false
 no_sign c s h lt = ne_eqb c s (λ e. let low : 48 ≤ c = leb-true 48 c (and_parts (nat_le 48 c) (nat_le c 57) h).0 in omega (arith, e, low, lt))
@@ -65,6 +71,6 @@ number_cut (c ∷ t) a r zero lt more all stop p q = absurd (omega (arith, more)
 number_cut (c ∷ t) a r (suc n) lt more all stop p q =
     let e : atom_in (c ∷ t) ≡ (take (suc n) (c ∷ t), drop (suc n) (c ∷ t)) = atom_at (c ∷ t) (suc n) (omega (arith, lt)) (λ i l. digit_is (get_or (c ∷ t) i 0) (all i l)) (inr stop) in
     let digit : is_digit c ≡ true = all 0 (omega arith) in
-    let value = digits_all (c ∷ t) (suc n) 0 false (omega (arith, lt)) all (inr (omega arith)) in
+    let value = digits_value (c ∷ take n t) 0 false (digits_front (c ∷ t) (suc n) (omega (arith, lt)) all) (inr (omega arith)) in
     let number : is_number (c ∷ take n t) ≡ true = digits_number c (take n t) value.0 digit value.1 in
     atom_cut (c ∷ t) a r (suc n) (class_atom c (digit_is c digit)) e p q (ap is_atom p ∙ kind_more (c ∷ take n t) (inr (inl (inl (number_found (c ∷ take n t) number)))))

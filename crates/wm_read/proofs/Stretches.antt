@@ -1,18 +1,18 @@
 -- Stretches of white space by itself and plain atoms.
-use Rattle.std.proofs.Common.{◌≡◌, ℕ, zero, suc, ◌<◌, ◌≤◌, ◌+◌, ◌-◌, ◌*◌, ◌%◌, ◌⊎◌, Bool, true, false, cond, List, [], ◌∷◌, ◌++◌, length, Option, Some, refl, sym, ap, subst, ◌∙◌, inl, inr, arith, drop, get_or, append_assoc, length-append}
-use Rattle.std.specs.Prelude.{◌==◌, ◌&&◌, nat_le}
+use Rattle.std.proofs.Common.{◌≡◌, ℕ, ◌<◌, ◌≤◌, ◌+◌, ◌%◌, Bool, true, false, List, [], ◌∷◌, ◌++◌, length, refl, sym, ap, subst, ◌∙◌, inl, inr, arith, drop, get_or, append_assoc, length-append}
+use Rattle.std.specs.Prelude.{◌==◌}
 use Rattle.std.specs.List.{list_all}
-use Rattle.std.proofs.lemmas.Bool.{cond_both, or_cases, and_parts, and_from, eqb-true, leb-true}
-use Rattle.std.proofs.lemmas.List.{append-nil, drop_more}
+use Rattle.std.proofs.lemmas.Bool.{cond_both, or_cases, and_parts, and_from, eqb-true}
+use Rattle.std.proofs.lemmas.List.{drop_more}
 use Rattle.std.proofs.lemmas.List.Folds.{list_all-append}
-use Rattle.wm_read.specs.Tokens.{Token, string, atom, is_digit, is_id_char, is_lower, is_space, IsAtom, IsIdentifier, IsWord}
-use Rattle.wm_read.specs.exact.Scan.{after_spaces, ahead, blank, first, digits_in, lexed, has_tokens}
+use Rattle.wm_read.specs.Tokens.{Token, string, atom, is_digit, is_id_char, is_lower, is_space, IsAtom}
+use Rattle.wm_read.specs.exact.Scan.{after_spaces, ahead, first, lexed, has_tokens}
 use Rattle.wm_read.specs.exact.FirstReading.{skip}
 use Rattle.wm_read.specs.inner.Places.{Before}
 use Rattle.wm_read.specs.inner.Stretches.{Passes, here, over_blank, over_atom, AtHand, nothing, word, digits, dollar, other, after_byte, place_of, IsPart, Leads}
-use Rattle.wm_read.proofs.Atoms.{decimal_go, number_found}
+use Rattle.wm_read.proofs.Atoms.{number_found}
 use Rattle.wm_read.proofs.Ahead.{ahead_blank, ahead_token}
-use Rattle.wm_read.proofs.PlainAtoms.{lower_is, digit_is, digits_number}
+use Rattle.wm_read.proofs.PlainAtoms.{lower_is, digit_is, digits_value, digits_number}
 use Rattle.wm_read.proofs.Whole.{ahead_skips, ahead_takes, stand_skip, stand_take, spaces_along, spaces_lexed, spaces_within, first_shorter}
 use Rattle.wm_read.proofs.Places.{before_skip, before_take}
 use Rattle.wm_read.proofs.HeadSteps.{skip_atom, skip_string}
@@ -72,15 +72,6 @@ pub ruleset kept_laws = (passes_has, passes_before)
 all_id : (b : List ℕ) → list_all is_digit b ≡ true → list_all is_id_char b ≡ true
 all_id [] h = refl
 all_id (c ∷ b) h = let p = and_parts (is_digit c) (list_all is_digit b) h in and_from (is_id_char c) (list_all is_id_char b) (digit_is c p.0) (all_id b p.1)
-
-digits_value : (b : List ℕ) (m : ℕ) (after : Bool) → list_all is_digit b ≡ true → (after ≡ true) ⊎ (0 < length b) → (v : ℕ) × (digits_in 10 m after b ≡ Some v)
-digits_value [] m after h (inl t) = (m, ap (λ (x : Bool). digits_in 10 m x []) t)
-digits_value [] m after h (inr lt) = absurd (omega (arith, lt))
-digits_value (c ∷ b) m after h s =
-    let p = and_parts (is_digit c) (list_all is_digit b) h in
-    let d = and_parts (nat_le 48 c) (nat_le c 57) p.0 in
-    let g = digits_value b (m * 10 + (c - 48)) true p.1 (inl refl) in
-    (g.0, decimal_go c m after b (leb-true 48 c d.0) (leb-true c 57 d.1) ∙ g.1)
 
 digits_atom : (b : List ℕ) → list_all is_digit b ≡ true → 0 < length b → IsAtom b
 digits_atom [] h lt = absurd (omega (arith, lt))

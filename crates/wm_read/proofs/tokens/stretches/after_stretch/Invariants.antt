@@ -1,4 +1,4 @@
-use Rattle.std.proofs.Common.{◌≡◌, ◌≤◌, ◌-◌, length, drop}
+use Rattle.std.proofs.Common.{◌≤◌, ◌-◌, length, drop}
 use Rattle.wm_read.specs.inner.Stretches.{Passes}
 use Rattle.wm_read.proofs.Stretches.{At}
 use Rattle.wm_read.proofs.tokens.stretches.after_stretch.Given as goal
