@@ -51,7 +51,7 @@ class_atom c h =
     cond-false (is_space c) _ _ not_space ∙ cond-false (c == 59) _ _ (apart 59 refl) ∙ cond-false (c == 40) _ _ (apart 40 refl) ∙ cond-false (c == 41) _ _ (apart 41 refl)
     ∙ cond-false (c == 34) _ _ (apart 34 refl) ∙ cond-true (is_id_char c) _ _ h
 
-ahead_is : (c : ℕ) (b : List ℕ) (x : Class) → class_of c ≡ x → ahead (c ∷ b) ≡ ahead_by x c b
+pub ahead_is : (c : ℕ) (b : List ℕ) (x : Class) → class_of c ≡ x → ahead (c ∷ b) ≡ ahead_by x c b
 unfolding ahead
 ahead_is c b x e = ap (λ (y : Class). ahead_by y c b) e
 

@@ -54,3 +54,4 @@ pub mod PrintedFields
 pub mod PrintedParts
 pub mod PrintedTexts
 pub mod Stretches
+pub mod Keys

@@ -1,7 +1,7 @@
 //! What follows the word of an instruction: operands, from the first token of a text on.
 
 ghost use Rattle.std.specs.Prelude.{◌≡◌, ◌≤◌, ◌<◌, Some, None, codes, Option, nat_lt, if◌then◌else◌, IfOk};
-ghost use Rattle.std.specs.Prelude.{length};
+ghost use Rattle.std.specs.Prelude.{length, true, ℕ};
 ghost use Rattle.wm_floats.specs.exact.Atoms as atoms;
 ghost use Rattle.wm_read.specs.exact.Reading as reading;
 ghost use Rattle.wm_read.specs.exact.Scan.{lexed};
@@ -19,6 +19,7 @@ use crate::tokens::literals::{
     after_key, constant32, constant64, exponent, float32, float64, is, is_float, is_id, is_word,
     small, unsigned,
 };
+use crate::tokens::scan::after_spaces;
 use std::alloc::Global;
 use wm_syntax::instructions::MemArg;
 use wm_syntax::profile::{Feature, Profile};
@@ -391,10 +392,29 @@ pub fn block_type(profile: Profile, text: &[u8]) -> Result<(Option<ValType>, &[u
     }
 }
 
+/// Whether a word stands first that begins otherwise than a key, so that it is not looked through to its end.
+#[inline(always)]
+#[tactic(auto, using(crate::proofs::Keys::other_key))]
+fn begins_other_word(key: &[u8], text: &[u8]) -> bool
+    ensures { result ≡ true → (usual : ℕ)
+        → reading.key_at key.now usual (lexed text.now) ≡ Some (usual, lexed text.now) }
+{
+    match after_spaces(text) {
+        [c @ b'a'..=b'z', ..] => match key {
+            [first, ..] => *first != *c,
+            [] => false,
+        },
+        _ => false,
+    }
+}
+
 /// A number behind a key, or the usual one.
 pub fn key<'a>(key: &[u8], usual: u32, text: &'a [u8]) -> Result<(u32, &'a [u8]), TextFault>
     ensures { Reads (λ x. (x.0, lexed x.1.now)) result (reading.key_at key.now usual (lexed text.now)) }
 {
+    if begins_other_word(key, text) {
+        return Ok((usual, text));
+    }
     match first_token(text) {
         Some((Lexeme::Atom(atom), rest)) => match after_key(key, atom) {
             Some(digits) => match unsigned(digits) {

@@ -211,8 +211,24 @@ pub fn after_key<'a>(key: &[u8], atom: &'a [u8]) -> Option<&'a [u8]>
     atom.strip_prefix(key)
 }
 
-/// The exponent of a power of two.
+/// The exponent of a power of two. Accesses have at most eight bytes, so most numbers are one of four.
+#[inline(always)]
+#[tactic(auto, unfolding(crate::specs::exact::Reading::exponent_of))]
 pub fn exponent(n: u32) -> Option<u32>
+    ensures { result ≡ reading.exponent_of n }
+{
+    match n {
+        1 => Some(0),
+        2 => Some(1),
+        4 => Some(2),
+        8 => Some(3),
+        _ => any_exponent(n),
+    }
+}
+
+/// The same of any number.
+#[inline(never)]
+fn any_exponent(n: u32) -> Option<u32>
     ensures { result ≡ reading.exponent_of n }
 {
     let mut e = 32;
