@@ -1,7 +1,7 @@
 -- Stretches of a text that are white space by itself and plain atoms alone.
 use Rattle.std.specs.Prelude.{◌≡◌, ◌<◌, ◌==◌, ◌⊎◌, ℕ, List, [], ◌∷◌, ◌++◌, true, if◌then◌else◌, length}
 use Rattle.std.specs.List.{list_all}
-use Rattle.wm_read.specs.Tokens.{atom, is_digit, is_id_char, is_lower, is_space, IsIdentifier, IsWord}
+use Rattle.wm_read.specs.Tokens.{Token, atom, is_digit, is_id_char, is_lower, is_space, IsIdentifier, IsWord}
 use Rattle.wm_read.specs.exact.Scan.{ahead, blank, first}
 
 -- from the first text blanks and atoms lead to the second
@@ -47,3 +47,7 @@ IsPart other part = Unit {0}
 -- what is left of a text, and what is at hand before it
 abbrev pub Leads : List ℕ → AtHand → List ℕ → Type 0
 Leads text hand rest = (part : List ℕ) × Passes text (part ++ rest) × IsPart hand part
+
+-- a word stands first
+abbrev pub BeginsWord : List Token → Type 0
+BeginsWord k = (c : ℕ) × (a : List ℕ) × (j : List Token) × (k ≡ atom (c ∷ a) ∷ j) × (is_lower c ≡ true)

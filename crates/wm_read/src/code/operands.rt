@@ -9,6 +9,7 @@ ghost use Rattle.wm_read.specs.exact.TypeUses as uses;
 ghost use Rattle.wm_read.specs.inner.Ids.{id_of};
 ghost use Rattle.wm_read.specs.inner.Pieces.{labels};
 ghost use Rattle.wm_read.specs.inner.Views.{IsRefusal, Reads};
+ghost use Rattle.wm_read.specs.inner.Stretches.{BeginsWord};
 ghost use Rattle.wm_syntax.specs.declared.instructions.FloatType.TheVariants as float;
 
 use crate::code::blocks::OpenBlocks;
@@ -200,10 +201,24 @@ pub fn label<'a>(blocks: &OpenBlocks, text: &'a [u8]) -> Result<(u32, &'a [u8]),
     }
 }
 
+/// Whether a word stands first, as its first byte tells. Most identifiers that may stand are left out, and then the
+/// next instruction is not looked through to the end of its word.
+#[inline(always)]
+#[tactic(auto, using(crate::proofs::Keys::word_begins))]
+fn begins_word(text: &[u8]) -> bool
+    ensures { result ≡ true → BeginsWord (lexed text.now) }
+{
+    matches!(after_spaces(text), [b'a'..=b'z', ..])
+}
+
 /// An identifier, or none.
+#[tactic(auto, using(crate::proofs::Keys::word_id))]
 pub fn id(text: &[u8]) -> (Option<&[u8]>, &[u8])
     ensures { Some (id_of result.0, lexed result.1.now) ≡ reading.id_at (lexed text.now) }
 {
+    if begins_word(text) {
+        return (None, text);
+    }
     match next_token(text) {
         Some((Lexeme::Atom(atom), rest)) => {
             if is_id(atom) {
@@ -217,9 +232,13 @@ pub fn id(text: &[u8]) -> (Option<&[u8]>, &[u8])
 }
 
 /// A block's identifier once more, or nothing.
+#[tactic(auto, using(crate::proofs::Keys::word_again))]
 pub fn again<'a>(id: Option<&[u8]>, text: &'a [u8]) -> Result<&'a [u8], TextFault>
     ensures { Reads (λ r. (tt, lexed r.now)) result (reading.again_at (id_of id.entry) (lexed text.now)) }
 {
+    if begins_word(text) {
+        return Ok(text);
+    }
     match next_token(text) {
         Some((Lexeme::Atom(atom), rest)) => {
             if !is_id(atom) {
@@ -380,9 +399,13 @@ fn result_type(profile: Profile, text: &[u8]) -> Result<(ValType, &[u8]), TextFa
 }
 
 /// A block's type.
+#[tactic(auto, using(crate::proofs::Keys::word_type))]
 pub fn block_type(profile: Profile, text: &[u8]) -> Result<(Option<ValType>, &[u8]), TextFault>
     ensures { Reads (λ x. (x.0, lexed x.1.now)) result (reading.block_type_at profile (lexed text.now)) }
 {
+    if begins_word(text) {
+        return Ok((None, text));
+    }
     match next_token(text) {
         Some((Lexeme::Open, _)) => {
             let (ty, rest) = result_type(profile, text)?;
