@@ -145,7 +145,7 @@ number_found (c ∷ b) e = elim (chosen (c == 43) _ _ true e) [
 ]
 
 -- a number with no sign begins with a digit
-first_digit : (c : ℕ) (b : List ℕ) (n : ℕ) → digit_value c ≡ None → magnitude_of (c ∷ b) ≡ Some n → ⊥
+pub first_digit : (c : ℕ) (b : List ℕ) (n : ℕ) → digit_value c ≡ None → magnitude_of (c ∷ b) ≡ Some n → ⊥
 first_digit c b n v e = by b (magnitude_found n (c ∷ b) e)
   where
     here : (base : ℕ) (ds b : List ℕ) → Digits base ds (c ∷ b) → ⊥

@@ -1,11 +1,13 @@
 -- Numbers, no further than 2 ^ 64.
-use Rattle.std.proofs.Common.{◌≡◌, ℕ, zero, suc, ◌<◌, ◌≤◌, ◌+◌, ◌-◌, Bool, true, false, List, ◌++◌, Option, Some, None, refl, sym, ap, ◌∙◌, arith}
+use Rattle.std.proofs.Common.{◌≡◌, ℕ, zero, suc, ◌<◌, ◌≤◌, ◌+◌, ◌-◌, Bool, true, false, List, [], ◌∷◌, ◌++◌, Option, Some, None, refl, sym, ap, ◌∙◌, arith}
 use Rattle.std.specs.Prelude.{min, nat_lt, nat_le, pos, neg_ℤ, ◌-ℤ◌, ◌^◌, ◌==◌, ◌≢◌}
 use Rattle.std.specs.Option.{option_map, MatchOption}
 use Rattle.std.proofs.lemmas.Bool.{cond-true, cond-false, lt-ltb, le-ltb, le-leb, leb-true, eq-eqb, ne_eqb}
+use Rattle.wm_read.specs.Tokens.{digit_value}
 use Rattle.wm_read.specs.exact.Scan.{magnitude_of}
 use Rattle.wm_read.proofs.Basics.{same_some}
-use Rattle.wm_read.specs.exact.Reading.{◌>>=◌, unsigned_of, plus_of, minus_of, plain_of, exponent_below, exponent_of, after_key}
+use Rattle.wm_read.proofs.Atoms.{first_digit}
+use Rattle.wm_read.specs.exact.Reading.{◌>>=◌, unsigned_of, plus_of, minus_of, plain_of, integer_of, exponent_below, exponent_of, after_key}
 use Rattle.std.specs.Borrow.{Bor}
 use Rattle.wm_read.proofs.Immediates.{key_found, key_more}
 
@@ -107,5 +109,16 @@ key_none key a h = by (after_key key a) refl
 pub key_cases : (key a : List ℕ) (r : Option (Bor (List ℕ))) → MatchOption r ((rest : List ℕ) → a ≢ key ++ rest) (λ x. a ≡ key ++ x.now) → MatchOption r (after_key key a ≡ None) (λ x. after_key key a ≡ Some x.now)
 key_cases key a None h = key_none key a h
 key_cases key a (Some x) h = ap (after_key key) h ∙ key_more key x.now
+
+-- a number below 10 ^ 9
+pub short_unsigned : (a : List ℕ) (n : ℕ) → magnitude_of a ≡ Some n → n < 1_000_000_000 → Some n ≡ unsigned_of a
+short_unsigned a n e lt = sym (cond-true (nat_lt n 0x1_0000_0000) _ _ (lt-ltb n 0x1_0000_0000 (omega (arith, lt)))) ∙ bind_at (magnitude_of a) _ n e
+
+pub short_constant : (a : List ℕ) (n : ℕ) → magnitude_of a ≡ Some n → n < 1_000_000_000 → Some (pos n) ≡ integer_of 32 a
+unfolding integer_of
+short_constant [] n e lt = absurd cc
+short_constant (c ∷ b) n e lt =
+    let away : (x : ℕ) → digit_value x ≡ None → (c == x) ≡ false = λ x v. ne_eqb c x (λ k. first_digit x b n v (ap (λ (z : ℕ). magnitude_of (z ∷ b)) (sym k) ∙ e)) in
+    sym (cond-false (c == 43) _ _ (away 43 refl) ∙ cond-false (c == 45) _ _ (away 45 refl) ∙ sym (bind_at (magnitude_of (c ∷ b)) _ n e) ∙ cond-true (nat_lt n 0x8000_0000) _ _ (lt-ltb n 0x8000_0000 (omega (arith, lt))))
 
 pub ruleset number_laws = (unsigned_in, unsigned_out, unsigned_none, plus_in, plus_out, plus_none, minus_in, minus_out, minus_none, plain_low, plain_high, plain_out, plain_none)

@@ -6,7 +6,7 @@ ghost use Rattle.wm_floats.specs.exact.Atoms as atoms;
 ghost use Rattle.wm_read.specs.exact.Reading as reading;
 ghost use Rattle.wm_syntax.specs.declared.instructions.FloatType.TheVariants as float;
 
-use crate::tokens::scan::magnitude;
+use crate::tokens::scan::{magnitude, short_decimal};
 use std::alloc::{AllocError, Global};
 use wm_floats::atoms::float_of;
 use wm_syntax::instructions::FloatType;
@@ -59,8 +59,19 @@ pub(crate) fn is_float(atom: &[u8]) -> bool {
 }
 
 /// A number below 2^32 (section 6.3.1).
-#[tactic(auto, using(crate::proofs::Numbers::number_laws))]
+#[tactic(auto, using(crate::proofs::Numbers::short_unsigned))]
 pub fn unsigned(atom: &[u8]) -> Option<u32>
+    ensures { result ≡ reading.unsigned_of atom.now }
+{
+    match short_decimal(atom) {
+        Some(n) => Some(n),
+        None => any_unsigned(atom),
+    }
+}
+
+/// The same of a number in any form.
+#[tactic(auto, using(crate::proofs::Numbers::number_laws))]
+fn any_unsigned(atom: &[u8]) -> Option<u32>
     ensures { result ≡ reading.unsigned_of atom.now }
 {
     match magnitude(atom) {
@@ -153,8 +164,18 @@ fn plain(half: u64, whole: u128, atom: &[u8]) -> Option<i128>
 }
 
 /// The constant of an i32.
-#[tactic(auto, unfolding(crate::specs::exact::Reading::integer_of))]
 pub fn constant32(atom: &[u8]) -> Option<i32>
+    ensures { result ≡ reading.integer_of 32 atom.now }
+{
+    match short_decimal(atom) {
+        Some(n) => Some(n as i32),
+        None => any_constant32(atom),
+    }
+}
+
+/// The same in any form.
+#[tactic(auto, unfolding(crate::specs::exact::Reading::integer_of))]
+fn any_constant32(atom: &[u8]) -> Option<i32>
     ensures { result ≡ reading.integer_of 32 atom.now }
 {
     match integer(0x8000_0000, 0x1_0000_0000, atom) {

@@ -571,8 +571,9 @@ pub fn magnitude(text: &[u8]) -> Option<u128>
 /// The value of a number below 10^9 that is decimal digits alone, which most numbers are.
 #[inline(always)]
 #[tactic(auto, using(crate::proofs::Atoms::decimal_laws))]
-fn short_decimal(text: &[u8]) -> Option<u32>
-    ensures { IfSome result (λ n. scan.magnitude_of text.now ≡ Some n) }
+pub fn short_decimal(text: &[u8]) -> Option<u32>
+    ensures value { IfSome result (λ n. scan.magnitude_of text.now ≡ Some n) }
+    ensures small { IfSome result (λ n. n < 1_000_000_000) }
 {
     let mut rest = text;
     let mut n = 0u32;
