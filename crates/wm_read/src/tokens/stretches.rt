@@ -88,7 +88,7 @@ fn after_stretch(text: &[u8]) -> &[u8]
 }
 
 /// A text from behind a stretch that stands first in it, or behind a part of that, and from its first byte on that
-/// is not white space by itself. It is looked for where a word begins: parentheses stand near one another.
+/// is not white space by itself. It is looked for where a plain atom begins: parentheses stand near one another.
 #[inline(never)]
 #[tactic(auto, using(crate::proofs::Stretches::stretch_laws))]
 pub fn after_stretches(text: &[u8]) -> &[u8]
@@ -97,7 +97,7 @@ pub fn after_stretches(text: &[u8]) -> &[u8]
 {
     let rest = after_spaces(text);
     match rest {
-        [b'a'..=b'z', ..] => after_spaces(after_stretch(rest)),
+        [b'a'..=b'z' | b'0'..=b'9' | b'$', ..] => after_spaces(after_stretch(rest)),
         _ => rest,
     }
 }

@@ -1,4 +1,4 @@
-use Rattle.std.proofs.Common.{◌<◌, ◌∙◌, Some, ap, arith, w32, ℤ}
+use Rattle.std.proofs.Common.{◌∙◌, Some, ap, arith, w32, ℤ}
 use Rattle.std.proofs.lemmas.Int.{to_z_pos}
 use Rattle.wm_read.proofs.Numbers.{short_constant}
 use Rattle.wm_read.proofs.tokens.literals.constant32.Goals as goal
