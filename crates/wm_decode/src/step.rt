@@ -292,12 +292,12 @@ fn in_header(at: u8, byte: u8) -> (Machine, Event)
     }
 }
 
-// A shorter way for bytes of the header, and of the frame of a section: its id, its size and its count. They
-// complete nothing. What is rare and what is refused is left to `step`.
+// A shorter way for bytes of the frame of a section: its id, its size and its count. They complete nothing. What is
+// rare and what is refused is left to `step`.
 
-// The kind of section that this id begins
+/// The kind of section that this id begins.
 #[inline(always)]
-fn begun(last: u8, functions: u32, byte: u8) -> Option<SectionKind>
+pub(crate) fn begun(last: u8, functions: u32, byte: u8) -> Option<SectionKind>
     ensures { IfSome result (λ of. section_start last functions byte
         ≡ (Machine.Size of functions fresh, Event.Nothing)) }
 {
@@ -309,86 +309,59 @@ fn begun(last: u8, functions: u32, byte: u8) -> Option<SectionKind>
     }
 }
 
+/// How many bytes of the section come after the next, where this byte ends its size.
 #[inline(always)]
-fn size_byte(
-    machine: &mut Machine,
+pub(crate) fn size_end(of: SectionKind, functions: u32, mut number: Num32, byte: u8) -> Option<u32>
+    ensures { IfSome result (λ more. IsFrameStep (Machine.Size of functions number) byte
+        (Machine.Count of functions more fresh)) }
+{
+    let Step::Done(size) = number.push(byte) else {
+        return None;
+    };
+    if size == 0 {
+        return None;
+    }
+    match of {
+        SectionKind::Start => None,
+        _ => Some(size - 1),
+    }
+}
+
+/// The size so far, where it goes on after this byte.
+#[inline(always)]
+pub(crate) fn size_more(
     of: SectionKind,
     functions: u32,
     mut number: Num32,
     byte: u8,
-) -> bool
-    requires { machine.old ≡ Machine.Size of functions number }
-    ensures taken { result ≡ true → IsFrameStep machine.old byte machine.new }
-    ensures left { result ≡ false → machine.new ≡ machine.old }
+) -> Option<Num32>
+    ensures { IfSome result (λ n. IsFrameStep (Machine.Size of functions number) byte
+        (Machine.Size of functions n)) }
 {
     match number.push(byte) {
-        Step::More => {
-            *machine = Machine::Size {
-                of,
-                functions,
-                number,
-            };
-            true
-        }
-        Step::Done(0) | Step::Bad => false,
-        Step::Done(size) => {
-            let SectionKind::Start = of else {
-                *machine = Machine::Count {
-                    of,
-                    functions,
-                    more: size - 1,
-                    number: Num32::new(),
-                };
-                return true;
-            };
-            false
-        }
+        Step::More => Some(number),
+        _ => None,
     }
 }
 
+/// The machine after the count of a section's members, where this byte ends it.
 #[inline(always)]
-fn count_byte(
-    machine: &mut Machine,
+pub(crate) fn count_end(
     of: SectionKind,
     functions: u32,
     more: u32,
     mut number: Num32,
     byte: u8,
-) -> bool
-    requires { machine.old ≡ Machine.Count of functions more number }
-    ensures taken { result ≡ true → IsFrameStep machine.old byte machine.new }
-    ensures left { result ≡ false → machine.new ≡ machine.old }
+) -> Option<Machine>
+    ensures { IfSome result (λ n. IsFrameStep (Machine.Count of functions more number) byte n) }
 {
     let Step::Done(n) = number.push(byte) else {
-        return false;
+        return None;
     };
     match counted(of, functions, more, n) {
-        Machine::Refused(_) => false,
-        next => {
-            *machine = next;
-            true
-        }
+        Machine::Refused(_) => None,
+        next => Some(next),
     }
-}
-
-#[inline(always)]
-fn header_byte(machine: &mut Machine, at: u8, byte: u8) -> bool
-    requires { machine.old ≡ Machine.Header at }
-    ensures taken { result ≡ true → IsFrameStep machine.old byte machine.new }
-    ensures left { result ≡ false → machine.new ≡ machine.old }
-{
-    if at > 7 || byte != HEADER[at as usize] {
-        return false;
-    }
-    *machine = if at < 7 {
-        Machine::Header(at + 1)
-    } else {
-        Machine::Between {
-            last: 0,
-            functions: 0,
-        }
-    };
-    true
 }
 
 #[inline(always)]
@@ -408,15 +381,66 @@ fn id_byte(machine: &mut Machine, last: u8, functions: u32, byte: u8) -> bool
     true
 }
 
-/// Takes a byte of the header or of a frame, where it goes by the shorter way.
 #[inline(always)]
+fn size_byte(
+    machine: &mut Machine,
+    of: SectionKind,
+    functions: u32,
+    number: Num32,
+    byte: u8,
+) -> bool
+    requires { machine.old ≡ Machine.Size of functions number }
+    ensures taken { result ≡ true → IsFrameStep machine.old byte machine.new }
+    ensures left { result ≡ false → machine.new ≡ machine.old }
+{
+    if let Some(number) = size_more(of, functions, number, byte) {
+        *machine = Machine::Size {
+            of,
+            functions,
+            number,
+        };
+        return true;
+    }
+    let Some(more) = size_end(of, functions, number, byte) else {
+        return false;
+    };
+    *machine = Machine::Count {
+        of,
+        functions,
+        more,
+        number: Num32::new(),
+    };
+    true
+}
+
+#[inline(always)]
+fn count_byte(
+    machine: &mut Machine,
+    of: SectionKind,
+    functions: u32,
+    more: u32,
+    number: Num32,
+    byte: u8,
+) -> bool
+    requires { machine.old ≡ Machine.Count of functions more number }
+    ensures taken { result ≡ true → IsFrameStep machine.old byte machine.new }
+    ensures left { result ≡ false → machine.new ≡ machine.old }
+{
+    let Some(next) = count_end(of, functions, more, number, byte) else {
+        return false;
+    };
+    *machine = next;
+    true
+}
+
+/// Takes a byte of a frame, where it goes by the shorter way.
+#[inline(never)]
 pub(crate) fn frame_byte(machine: &mut Machine, byte: u8) -> bool
     ensures taken { result ≡ true → IsFrameStep machine.old byte machine.new }
     ensures left { result ≡ false → machine.new ≡ machine.old }
 {
     let before = *machine;
     match before {
-        Machine::Header(at) => header_byte(machine, at, byte),
         Machine::Between { last, functions } => id_byte(machine, last, functions, byte),
         Machine::Size {
             of,

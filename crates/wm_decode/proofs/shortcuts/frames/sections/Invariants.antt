@@ -1,6 +1,6 @@
 use Rattle.std.proofs.Common.{◌-◌, length}
 use Rattle.wm_decode.specs.exact.Frames.{LeadsTo}
-use Rattle.wm_decode.proofs.shortcuts.frames.frames.Given as goal
+use Rattle.wm_decode.proofs.shortcuts.frames.sections.Given as goal
 
 abbrev pub invariant-loop-used : goal.invariant-loop-used
 invariant-loop-used g l = LeadsTo g.S.Sink.after l.fn.profile l.bytes l.fn.machine l.used l.machine
