@@ -4,15 +4,51 @@ ghost use Rattle.std.specs.Prelude.{◌<◌, length};
 ghost use Rattle.wm_decode.specs.exact.Shortcuts.{Advances};
 
 use crate::decoder::names::give_end;
-use crate::machine::Machine;
-use crate::machine::member::SectionKind;
+use crate::machine::member::{InMember, SectionKind};
+use crate::machine::{Machine, refusal_of};
 use crate::shortcuts::heads::{BeforeEntry, head};
 use crate::shortcuts::in_body::InBody;
 use crate::shortcuts::{Shortcut, ops};
 use crate::sink::Sink;
+use crate::step::framed;
 use wm_syntax::profile::Profile;
 
-// Takes the last `end` of an entry, where another entry comes after it
+// Takes the last `end` of an entry, whatever comes after it. With it the section may be over, or the machine refuse.
+#[inline(never)]
+#[tactic(auto, using(crate::proofs::Advances::advances_none))]
+fn final_end<S: Sink>(
+    sink: &mut S,
+    machine: &mut Machine,
+    profile: Profile,
+    bytes: &[u8],
+) -> Shortcut
+    requires { 0 < length bytes.now }
+    ensures { Advances S.after S.may_run_out profile bytes.now machine.old (S.held sink.old) result
+        machine.new (S.held sink.new) }
+{
+    let Some(last) = InBody::of(*machine) else {
+        return Shortcut::none();
+    };
+    if bytes[0] != 0x0B || last.depth != 0 || last.rest != 0 {
+        return Shortcut::none();
+    }
+    *machine = framed(
+        last.of,
+        last.functions,
+        last.more,
+        last.left,
+        InMember::Over,
+    );
+    if let Err(why) = give_end(sink) {
+        return Shortcut::out(1, why);
+    }
+    Shortcut {
+        used: 1,
+        refused: refusal_of(*machine),
+    }
+}
+
+// Takes the last `end` of an entry, by a shorter way where another entry comes after it
 #[inline(always)]
 #[tactic(auto, using(crate::proofs::Advances::advances_none))]
 fn last_end<S: Sink>(
@@ -31,8 +67,11 @@ fn last_end<S: Sink>(
     let SectionKind::Code = body.of else {
         return Shortcut::none();
     };
-    if bytes[0] != 0x0B || body.depth != 0 || body.rest != 0 || body.left == 0 || body.more == 0 {
+    if bytes[0] != 0x0B || body.depth != 0 || body.rest != 0 {
         return Shortcut::none();
+    }
+    if body.left == 0 || body.more == 0 {
+        return final_end(sink, machine, profile, bytes);
     }
     let next = BeforeEntry {
         functions: body.functions,
