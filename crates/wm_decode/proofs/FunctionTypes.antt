@@ -22,13 +22,14 @@ use Rattle.wm_decode.specs.declared.shortcuts.short_steps.Stepped.{Stepped}
 use Rattle.wm_decode.specs.Items.{Item, new_type, one_result, param, result_count}
 use Rattle.wm_decode.specs.Sinks.{Taken}
 use Rattle.wm_decode.specs.exact.Steps.{machine_in_member}
-use Rattle.wm_decode.specs.exact.MemberSteps.{after_param, after_result, on_number, on_type, with_item_given}
+use Rattle.wm_decode.specs.exact.MemberSteps.{after_param, after_result, member_step, on_number, on_type, with_item_given}
 use Rattle.wm_decode.specs.exact.ValueSteps.{value_type_of}
 use Rattle.wm_decode.specs.exact.ShortSteps.{StepsTo}
 use Rattle.wm_decode.specs.exact.TypeStarts.{before_results, before_type, in_params, next_type, params_after}
 use Rattle.wm_decode.specs.exact.Shortcuts.{Advances}
-use Rattle.wm_decode.proofs.Advances.{advances_more, advances_out, advances_step}
+use Rattle.wm_decode.proofs.Advances.{advances_more, advances_none, advances_out, advances_step}
 use Rattle.wm_decode.proofs.Heads.{ok}
+use Rattle.wm_decode.proofs.LastBytes.{advances_last, why_refused}
 use Rattle.wm_decode.proofs.WholeNumbers.{u32_one}
 
 -- what a byte makes of the section that goes on after it
@@ -69,6 +70,15 @@ result_alone p left c t is some f more =
     let one : left ≡ suc (left - 1) = omega arith in
     ap (λ y. framed f more left (on_type y (λ t. with_item_given (after_result 0) (plain.OneResult t)) at.Failed)) is
     ∙ ap (λ n. framed f more n (with_item_given at.Over (plain.OneResult t))) one
+
+-- the same of the last type, whatever comes after it
+none_over : (p : Profile) (c : ℕ) → c ≡ 0 → member_step p (at.ResultCount fresh) c ≡ (at.Over, event.Complete (plain.ResultCount 0))
+none_over p c e =
+    ap (λ y. on_number y at.ResultCount (λ n. with_item_given (after_result n) (plain.ResultCount n)) at.Failed) (u32_one c (omega arith))
+    ∙ ap (λ n. with_item_given (after_result n) (plain.ResultCount n)) e
+
+typed_over : (p : Profile) (c : ℕ) (t : ValType) → value_type_of p c ≡ Ok t → member_step p (at.ResultType 0) c ≡ (at.Over, event.Complete (plain.OneResult t))
+typed_over p c t is = ap (λ y. on_type y (λ t. with_item_given (after_result 0) (plain.OneResult t)) at.Failed) is
 
 -- before the first parameter
 pub params_start : (i : InParams) → in_params (params_after i 0 i.params) ≡ in_params i
@@ -137,6 +147,20 @@ module _ {H : Type 0} (after : H → Item → Result H Why) (may : H → Item �
         advances_more after may p bytes (before_results e) (before_type (next_type e 2)) h f g here ended 1 s r
         (one_counted ok h f (record { used = 1; refused = None }) count (omega arith) (omega arith) refl refl first tt) inside (omega arith) (result_alone p e.left (slice_index bytes 1) t typed left) used er given quiet
         (ap (λ n. machine.Section section_kind.Type e.functions n (e.left - 1) at.TypeForm) place)
+
+    -- the results of a type, whatever comes after it
+    pub results_over : {U : Type 0} (r : Result U Why) (h g : H) (s : Shortcut) → slice_index bytes 0 ≡ 0 → 0 < length bytes → s.used ≡ 1 → s.refused ≡ why_refused r (machine_in_member section_kind.Type e.functions e.more e.left at.Over)
+        → Taken (after h (result_count 0)) r g → IfErr r (λ w. w ≡ why.Memory → may h (result_count 0)) → Advances after may p bytes (before_results e) h s (machine_in_member section_kind.Type e.functions e.more e.left at.Over) g
+    results_over r h g s count inside used er given quiet =
+        advances_last after may p section_kind.Type e.functions e.more e.left (at.ResultCount fresh) at.Over (Some (plain.ResultCount 0)) bytes (before_results e) h h g 0 s r
+        (advances_none after may p bytes (before_results e) h (record { used = 0; refused = None }) refl refl) inside (none_over p (slice_index bytes 0) count) (omega arith) er given quiet
+
+    pub result_over : {U : Type 0} (r : Result U Why) (h f g : H) (s : Shortcut) (t : ValType) → slice_index bytes 0 ≡ 1 → value_type_of p (slice_index bytes 1) ≡ Ok t → 1 < length bytes → 0 < e.more → after h (result_count 1) ≡ Ok f
+        → s.used ≡ 2 → s.refused ≡ why_refused r (machine_in_member section_kind.Type e.functions (e.more - 1) e.left at.Over) → Taken (after f (one_result t)) r g → IfErr r (λ w. w ≡ why.Memory → may f (one_result t))
+        → Advances after may p bytes (before_results e) h s (machine_in_member section_kind.Type e.functions (e.more - 1) e.left at.Over) g
+    result_over r h f g s t count typed inside more first used er given quiet =
+        advances_last after may p section_kind.Type e.functions (e.more - 1) e.left (at.ResultType 0) at.Over (Some (plain.OneResult t)) bytes (before_results e) h f g 1 s r
+        (one_counted ok h f (record { used = 1; refused = None }) count (omega arith) more refl refl first tt) inside (typed_over p (slice_index bytes 1) t typed) (omega arith) er given quiet
 
   -- a parameter after others
   module _ {U : Type 0} (m : Machine) (h f g : H) (i : InParams) (used params : ℕ) (t : ValType) (s : Shortcut) (r : Result U Why)

@@ -121,7 +121,7 @@ pub(crate) fn give_param<S: Sink>(sink: &mut S, ty: ValType) -> Result<(), Why>
     sink.take(Item::Param(ty))
 }
 
-// How many results a type has. It has two callers, so it would be copied.
+// How many results a type has. It has several callers, so it would be copied.
 #[inline(never)]
 pub(crate) fn give_result_count<S: Sink>(sink: &mut S, count: u32) -> Result<(), Why>
     ensures given { Taken (S.after (S.held sink.old) (result_count count)) result (S.held sink.new) }
@@ -130,7 +130,7 @@ pub(crate) fn give_result_count<S: Sink>(sink: &mut S, count: u32) -> Result<(),
     sink.take(Item::Results(count))
 }
 
-#[inline(always)]
+#[inline(never)]
 pub(crate) fn give_result<S: Sink>(sink: &mut S, ty: ValType) -> Result<(), Why>
     ensures given { Taken (S.after (S.held sink.old) (one_result ty)) result (S.held sink.new) }
     ensures room { IfErr result (λ w. w ≡ Memory → S.may_run_out (S.held sink.old) (one_result ty)) }

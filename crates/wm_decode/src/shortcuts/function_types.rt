@@ -9,10 +9,11 @@ ghost use Rattle.wm_decode.specs.exact.TypeStarts.{params_after};
 ghost use Rattle.wm_decode.specs.exact.ValueSteps.{value_type_of};
 
 use crate::decoder::names::{give_new_type, give_param, give_result, give_result_count};
-use crate::machine::Machine;
 use crate::machine::member::{InMember, SectionKind};
+use crate::machine::{Machine, refusal_of};
 use crate::shortcuts::Shortcut;
 use crate::sink::Sink;
+use crate::step::framed;
 use crate::step::types::after_param;
 use crate::step::values::value_type;
 use wm_syntax::profile::Profile;
@@ -269,7 +270,85 @@ fn one_result<S: Sink>(
     Shortcut { used: 2, refused }
 }
 
-// Takes the results of a type, at most one, where another type comes after it
+// Takes the count of one result, and the result, whatever comes after it
+#[inline(never)]
+fn last_result<S: Sink>(
+    sink: &mut S,
+    machine: &mut Machine,
+    profile: Profile,
+    bytes: &[u8],
+    start: InTypes,
+    ty: ValType,
+) -> Shortcut
+    requires machine { machine.old ≡ before_results start }
+    requires within { 1 < length bytes.now }
+    requires section { 0 < start.more }
+    requires count { slice_index bytes.now 0 ≡ 1 }
+    requires typed { value_type_of profile (slice_index bytes.now 1) ≡ Ok ty }
+    ensures { Advances S.after S.may_run_out profile bytes.now machine.old (S.held sink.old) result
+        machine.new (S.held sink.new) }
+{
+    if let Err(why) = give_result_count(sink, 1) {
+        return Shortcut::out(1, why);
+    }
+    *machine = framed(
+        SectionKind::Type,
+        start.functions,
+        start.more - 1,
+        start.left,
+        InMember::Over,
+    );
+    if let Err(why) = give_result(sink, ty) {
+        return Shortcut::out(2, why);
+    }
+    Shortcut {
+        used: 2,
+        refused: refusal_of(*machine),
+    }
+}
+
+// Takes the results of a type, at most one, whatever comes after it. With them the section may be over, or the machine
+// refuse.
+#[inline(never)]
+#[tactic(auto, using(crate::proofs::Advances::advances_none))]
+fn last_results<S: Sink>(
+    sink: &mut S,
+    machine: &mut Machine,
+    profile: Profile,
+    bytes: &[u8],
+    start: InTypes,
+) -> Shortcut
+    requires machine { machine.old ≡ before_results start }
+    requires within { 1 < length bytes.now }
+    ensures { Advances S.after S.may_run_out profile bytes.now machine.old (S.held sink.old) result
+        machine.new (S.held sink.new) }
+{
+    if bytes[0] == 0 {
+        *machine = framed(
+            SectionKind::Type,
+            start.functions,
+            start.more,
+            start.left,
+            InMember::Over,
+        );
+        if let Err(why) = give_result_count(sink, 0) {
+            return Shortcut::out(1, why);
+        }
+        return Shortcut {
+            used: 1,
+            refused: refusal_of(*machine),
+        };
+    }
+    let Ok(ty) = value_type(profile, bytes[1]) else {
+        return Shortcut::none();
+    };
+    if bytes[0] != 1 || start.more == 0 {
+        return Shortcut::none();
+    }
+    last_result(sink, machine, profile, bytes, start, ty)
+}
+
+// Takes the results of a type, at most one; by a shorter way where another type comes after it
 #[inline(always)]
 #[tactic(auto, using(crate::proofs::Advances::advances_none))]
 fn results<S: Sink>(sink: &mut S, machine: &mut Machine, profile: Profile, bytes: &[u8]) -> Shortcut
@@ -279,8 +358,11 @@ fn results<S: Sink>(sink: &mut S, machine: &mut Machine, profile: Profile, bytes
     let Some(start) = InTypes::at_results(*machine) else {
         return Shortcut::none();
     };
-    if bytes.len() < 2 || start.more < 2 || start.left == 0 {
+    if bytes.len() < 2 {
         return Shortcut::none();
+    }
+    if start.more < 2 || start.left == 0 {
+        return last_results(sink, machine, profile, bytes, start);
     }
     let count = bytes[0];
     if count == 0 {
