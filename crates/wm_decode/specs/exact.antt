@@ -4,6 +4,7 @@ pub mod ExpressionSteps
 pub mod Frames
 pub mod Heads
 pub mod Indices
+pub mod Limited
 pub mod Live
 pub mod MemberSteps
 pub mod Members

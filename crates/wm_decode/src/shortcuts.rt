@@ -18,6 +18,7 @@ use crate::shortcuts::heads::runs;
 use crate::shortcuts::imports::imports;
 use crate::shortcuts::in_body::InBody;
 use crate::shortcuts::indices::indices;
+use crate::shortcuts::limited::limited_member;
 use crate::shortcuts::segments::segment_head;
 use crate::shortcuts::short_bytes::short;
 use crate::shortcuts::whole_ops::take_ops;
@@ -25,7 +26,7 @@ use crate::sink::Sink;
 use crate::step::expressions::InExpression;
 use crate::step::framed;
 use crate::step::members::data_or_over;
-use crate::step::values::InGlobalType;
+use crate::step::values::{InGlobalType, InLimits, InTableType, InValue};
 use wm_syntax::profile::Profile;
 use wm_syntax::why::Why;
 
@@ -41,6 +42,7 @@ pub(crate) mod imports;
 pub(crate) mod in_body;
 pub(crate) mod in_section;
 pub(crate) mod indices;
+pub(crate) mod limited;
 pub(crate) mod segments;
 pub(crate) mod short_bytes;
 pub(crate) mod short_steps;
@@ -96,6 +98,7 @@ pub(crate) fn at_most(count: u32, len: usize) -> u32
 enum Way {
     Type,
     Import,
+    Limited,
     Global,
     Export,
     Entry,
@@ -110,6 +113,7 @@ enum Way {
     One,
 }
 
+#[inline(always)]
 fn way_of(machine: Machine) -> Way {
     let (of, at) = match machine {
         Machine::Section { of, at, .. } => (of, at),
@@ -121,12 +125,25 @@ fn way_of(machine: Machine) -> Way {
     match of {
         SectionKind::Type => Way::Type,
         SectionKind::Import => Way::Import,
+        SectionKind::Table | SectionKind::Memory => way_in_limited(at),
         SectionKind::Global => way_in_globals(at),
         SectionKind::Export => Way::Export,
         SectionKind::Function => Way::Indices,
         SectionKind::Element => way_in_elements(at),
         SectionKind::Code => way_in_code(at),
         SectionKind::Segment => way_in_data(at),
+        _ => Way::One,
+    }
+}
+
+fn way_in_limited(at: InMember) -> Way {
+    match at {
+        InMember::Value(at) => match at {
+            InValue::Table(InTableType::ElementType) | InValue::Memory(InLimits::Flag) => {
+                Way::Limited
+            }
+            _ => Way::One,
+        },
         _ => Way::One,
     }
 }
@@ -317,6 +334,7 @@ pub(crate) fn take_way<S: Sink>(
             }
         }
         Way::Import => return imports(sink, machine, profile, bytes),
+        Way::Limited => return limited_member(sink, machine, profile, bytes),
         Way::Global => return globals(sink, machine, profile, bytes),
         Way::Export => return exports(sink, machine, profile, bytes),
         Way::Indices => return indices(sink, machine, profile, bytes),

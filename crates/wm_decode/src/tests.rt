@@ -283,6 +283,7 @@ indices of one byte and of two: items H 03 06 04 00 01 81 00 02 09 0D 01 00 41 0
 names of an import: items H 02 09 01 02 C3 A9 02 62 63 00 00 = ImportModule([195, 169]), ImportName([98, 99]), ImportFunc(0), taken
 no section: items H = taken
 no types: items H 01 01 00 = taken
+sizes in two bytes and in three: items H 01 84 00 01 60 00 00 05 83 80 00 01 00 01 = NewType, Results(0), Memory(Limits { min: 1, max: None }), taken
 a size in five bytes: items H 01 84 80 80 80 00 01 60 00 00 = NewType, Results(0), taken
 a custom section of no data: items H 00 05 04 6E 61 6D 65 = taken
 a custom section, and then no types: items H 00 06 03 61 C3 A9 00 01 01 01 00 = taken
@@ -331,6 +332,15 @@ functions that their section cuts: refusal H 03 03 02 81 00 = 13 SectionEnd
 an index that passes its section: refusal H 03 04 02 81 00 81 = 14 SectionEnd
 a byte after the functions: refusal H 03 05 02 81 00 00 00 = 14 SectionEnd
 an index in six bytes: refusal H 03 0A 02 81 80 80 80 80 00 81 00 00 = 16 BadNumber
+a byte after the last type: refusal H 01 05 01 60 00 00 00 = 14 SectionEnd
+a byte after the last result: refusal H 01 06 01 60 00 01 7F 00 = 15 SectionEnd
+a result that its section cuts: refusal H 01 04 01 60 00 01 7F = 14 SectionEnd
+two results that their section cuts: refusal H 01 05 01 60 00 02 7F = 15 SectionEnd
+a byte after the memory: refusal H 05 04 01 00 01 00 = 13 SectionEnd
+limits that their section cuts: refusal H 05 02 01 00 01 = 12 SectionEnd
+a greatest size that its section cuts: refusal H 04 05 01 70 01 80 01 02 = 15 SectionEnd
+a memory that the input cuts: refusal H 05 04 01 01 01 = 13 Truncated
+a size in three bytes, and a byte after its section: refusal H 05 83 80 00 01 00 01 0C = 16 SectionId
 ";
 
 // Of one function of type [] to [].
@@ -352,6 +362,7 @@ no instruction: refusal H 01 04 01 60 00 00 03 02 01 00 0A 09 01 07 00 C0 00 00 
 labels that end their entry: refusal H 01 04 01 60 00 00 03 02 01 00 0A 08 01 06 00 0E 01 81 00 00 = 28 BodyEnd
 a label that passes its entry: refusal H 01 04 01 60 00 00 03 02 01 00 0A 0B 01 06 00 0E 01 81 00 81 00 0B 0B = 28 BodyEnd
 a padded index of a table: refusal H 01 04 01 60 00 00 03 02 01 00 0A 09 01 07 00 11 00 80 80 00 0B = 26 BadByte
+a byte after the last entry: refusal H 01 04 01 60 00 00 03 02 01 00 0A 05 01 02 00 0B 0B = 24 SectionEnd
 ";
 
 // Where the profile has floats
@@ -375,19 +386,19 @@ const EXTENDED: &str = "H 01 04 01 60 00 00 03 02 01 00 0A 05 01 03 00 C0 0B";
 
 #[test]
 fn items_and_their_places(rt: HostRuntime) -> Result<(), Fail> {
-    play(&rt, rt.alloc(), Profile::One, ITEMS, 16)?;
-    play(&rt, rt.alloc(), Profile::Four, ITEMS, 16)
+    play(&rt, rt.alloc(), Profile::One, ITEMS, 17)?;
+    play(&rt, rt.alloc(), Profile::Four, ITEMS, 17)
 }
 
 #[test]
 fn what_is_refused(rt: HostRuntime) -> Result<(), Fail> {
-    play(&rt, rt.alloc(), Profile::One, REFUSALS, 39)?;
-    play(&rt, rt.alloc(), Profile::Two, REFUSALS, 39)
+    play(&rt, rt.alloc(), Profile::One, REFUSALS, 48)?;
+    play(&rt, rt.alloc(), Profile::Two, REFUSALS, 48)
 }
 
 #[test]
 fn code_that_is_refused(rt: HostRuntime) -> Result<(), Fail> {
-    play(&rt, rt.alloc(), Profile::One, CODE_REFUSALS, 18)
+    play(&rt, rt.alloc(), Profile::One, CODE_REFUSALS, 19)
 }
 
 #[test]

@@ -1,6 +1,6 @@
 //! A shortcut for function types (section 5.5.4) that lie in the piece.
 //!
-//! Long counts, what ends the section, and what is refused for its bytes are left to the byte step.
+//! Long counts, and what is refused for its bytes, are left to the byte step.
 
 ghost use Rattle.std.specs.Prelude.{◌≡◌, ◌-◌, ◌<◌, ◌≤◌, ◌^◌, IfSome, Ok, length, slice_index};
 ghost use Rattle.wm_decode.specs.exact.Shortcuts.{Advances};
