@@ -114,9 +114,8 @@ impl Operands {
         }
     }
 
-    /// An f32. An old bit of an f64 may stand where it comes.
-    #[inline(always)]
-    pub fn push_f32(&mut self) -> Result<(), Why>
+    // An old bit of an f64 may stand where it comes.
+    fn push_f32(&mut self) -> Result<(), Why>
         requires { length self.old.entries < 2 ^ 63 }
         ensures ok { OnOk result (self.new ≡ record {
           entries = Entry.F32 ∷ self.old.entries;
@@ -131,9 +130,8 @@ impl Operands {
         self.packed.push(Kind::Float)
     }
 
-    /// An f64. Its bit is written first: where the other list refuses, it means nothing.
-    #[inline(always)]
-    pub fn push_f64(&mut self) -> Result<(), Why>
+    // Its bit is written first: where the other list refuses, it means nothing.
+    fn push_f64(&mut self) -> Result<(), Why>
         requires { length self.old.entries < 2 ^ 63 }
         ensures ok { OnOk result (self.new ≡ record {
           entries = Entry.F64 ∷ self.old.entries;
