@@ -364,7 +364,3 @@ pub decimal_end : (n : ℕ) (after : Bool) (b text : List ℕ) → digits_in 10 
 decimal_end n after b text e none t = decimal_magnitude n text (sym e ∙ ap (digits_in 10 n after) none ∙ ap (λ (x : Bool). digits_in 10 n x []) t)
 
 pub ruleset decimal_laws = (decimal_go, decimal_end)
-
--- a number below 2 ^ 64 stands for itself
-pub short_number : (n : ℕ) (b : List ℕ) → magnitude_of b ≡ Some n → n < 0x1_0000_0000 → Some n ≡ option_map (λ k. min k 0x1_0000_0000_0000_0000) (magnitude_of b)
-short_number n b e lt = let same : n ≡ min n 0x1_0000_0000_0000_0000 = omega (arith, lt) in ap Some same ∙ sym (ap (option_map (λ k. min k 0x1_0000_0000_0000_0000)) e)

@@ -1,5 +1,6 @@
 //! Stretches of a text that are white space by itself and plain atoms: words, identifiers and decimal digits.
-//! Such a stretch is passed over by a machine that has no jump on what a byte is.
+//! Such a stretch is passed over by a machine that has no jump on what a byte is: a shift-based DFA, as Per Vognsen
+//! described it.
 
 ghost use Rattle.std.specs.Prelude.{◌≡◌, ◌≤◌, ◌%◌, length};
 ghost use Rattle.wm_read.specs.inner.Stretches.{AtHand, Passes, after_byte, place_of};

@@ -52,6 +52,10 @@ tokens "\u{D7FF}\u{e000}" => ok [237, 159, 191, 238, 128, 128]
 tokens "\u{10ffff}" => ok [244, 143, 191, 191]
 tokens "\u{0000000000000041}" => ok [65]
 tokens " ~" => ok [32, 126]
+;; seven, eight and nine bytes of them up to the end
+tokens ab cd 1 => ok ab cd 1
+tokens ab cd 12 => ok ab cd 12
+tokens ab cd 123 => ok ab cd 123
 ;; eight bytes and more of words, identifiers and digits
 tokens abcdefgh 0123 $x 9 ij (kl mnopqrst) 7 => ok abcdefgh 0123 $x 9 ij ( kl mnopqrst ) 7
 tokens local.get 0 i32.const -1 i32.add => ok local.get 0 i32.const -1 i32.add
