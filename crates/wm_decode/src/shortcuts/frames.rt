@@ -28,7 +28,6 @@ struct Sized {
 // The size of a section, which stands behind its id and has one byte or two
 #[inline(always)]
 fn short_size<S: Sink>(
-    _sink: &S,
     machine: &Machine,
     profile: Profile,
     bytes: &[u8],
@@ -55,7 +54,7 @@ fn short_size<S: Sink>(
 // and says how many bytes they are
 #[inline(always)]
 #[tactic(auto, using(crate::proofs::FrameBytes::frames_none))]
-fn section_begin<S: Sink>(sink: &S, machine: &mut Machine, profile: Profile, bytes: &[u8]) -> usize
+fn section_begin<S: Sink>(machine: &mut Machine, profile: Profile, bytes: &[u8]) -> usize
     ensures { LeadsTo S.after profile bytes.now machine.old result machine.new }
 {
     let Machine::Between { last, functions } = *machine else {
@@ -67,7 +66,7 @@ fn section_begin<S: Sink>(sink: &S, machine: &mut Machine, profile: Profile, byt
     let Some(of) = begun(last, functions, bytes[0]) else {
         return 0;
     };
-    let Some(size) = short_size(sink, machine, profile, bytes, of, functions) else {
+    let Some(size) = short_size::<S>(machine, profile, bytes, of, functions) else {
         return 0;
     };
     let count = bytes[size.next];
@@ -80,12 +79,12 @@ fn section_begin<S: Sink>(sink: &S, machine: &mut Machine, profile: Profile, byt
 
 // Takes the frames of sections, one after another
 #[inline(always)]
-fn sections<S: Sink>(sink: &S, machine: &mut Machine, profile: Profile, bytes: &[u8]) -> usize
+fn sections<S: Sink>(machine: &mut Machine, profile: Profile, bytes: &[u8]) -> usize
     ensures { LeadsTo S.after profile bytes.now machine.old result machine.new }
 {
     let mut used = 0;
     while used < bytes.len() {
-        used += section_begin(sink, machine, profile, &bytes[used..]);
+        used += section_begin::<S>(machine, profile, &bytes[used..]);
         if used == bytes.len() || !frame_byte(machine, bytes[used]) {
             break;
         }
@@ -119,7 +118,7 @@ fn from_header<S: Sink>(sink: &S, machine: &mut Machine, profile: Profile, bytes
         last: 0,
         functions: 0,
     };
-    let used = sections(sink, machine, profile, &bytes[8..]);
+    let used = sections::<S>(machine, profile, &bytes[8..]);
     // no shortcut ends in the header
     if used == 0 {
         *machine = Machine::Header(0);
@@ -146,7 +145,7 @@ pub(crate) fn frames<S: Sink>(
         Machine::Header(0) => from_header(sink, machine, profile, bytes),
         Machine::Header(_) | Machine::Refused(_) => Shortcut::none(),
         _ => {
-            let used = sections(sink, machine, profile, bytes);
+            let used = sections::<S>(machine, profile, bytes);
             Shortcut {
                 used,
                 refused: None,
