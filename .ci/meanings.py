@@ -1,19 +1,33 @@
-"""Must-fail edits. A file of must-fail/ turns one meaning, or some, each behind a line `# NAME`. `rt ci` tries all of a file
-at once, and gate.py each by itself."""
+#!/usr/bin/env python3
+"""Must-fail edits, each by itself. A file of must-fail/ turns one meaning, or some, each behind a line `# NAME`. `rt ci` makes all of
+a file at once. Here each meaning of the crates that are named becomes a file of its own, in a copy of the tree, and
+`rt must-fail` tries them there: the prover has to refuse each, and not only because a proof names what is gone.
+
+    .ci/meanings.py CRATE[/WORD]..     of these crates, those whose names hold the word
+"""
 import glob
 import os
+import pathlib
 import re
+import shutil
+import subprocess
+import sys
+import tempfile
+
+TOP = pathlib.Path(__file__).resolve().parent.parent
+# what says that the contract refused nothing, or less than it should
+IS_FAULT = re.compile(r"^must-fail .*(NOT REFUSED|NOT TRIED|BAD EDIT|only because|only by a limit)", re.M)
 
 
 def of(edit):
     """The meanings that an edit's file turns, by their names, each as the text of an edit of its own."""
     with open(edit, encoding="utf-8") as it:
-        before, *named = re.split(r"(?m)^# (\w+)$\n?", it.read())
-    if not named:
+        before, *named_ones = re.split(r"(?m)^# (\w+)$\n?", it.read())
+    if not named_ones:
         return {os.path.basename(edit).removesuffix(".edit"): before}
-    if before.strip() or len(set(named[::2])) < len(named[::2]):
+    if before.strip() or len(set(named_ones[::2])) < len(named_ones[::2]):
         raise SystemExit(f"{edit}: each meaning stands behind a name of its own")
-    return dict(zip(named[::2], named[1::2]))
+    return dict(zip(named_ones[::2], named_ones[1::2]))
 
 
 def named(crate, name):
@@ -35,3 +49,43 @@ def pairs_of(text):
         elif line.startswith("new:"):
             pairs.append((path, old, line[4:].removeprefix(" ")))
     return pairs
+
+
+def spread(crate, word, folder):
+    """Writes each meaning of a crate as a file of its own to its copy's must-fail/, and says how many there are."""
+    texts = {}
+    for edit in sorted(glob.glob(f"{TOP}/crates/{crate}/must-fail/*.edit")):
+        for name, text in of(edit).items():
+            if name in texts:
+                raise SystemExit(f"{crate}: two edits have the name {name}")
+            texts[name] = text
+    shutil.rmtree(folder)
+    os.makedirs(folder)
+    for name, text in texts.items():
+        if word in name:
+            pathlib.Path(folder, f"{name}.edit").write_text(text, encoding="utf-8")
+    return sum(word in name for name in texts)
+
+
+def main():
+    if len(sys.argv) < 2:
+        sys.exit(__doc__)
+    asked = [it.partition("/") for it in sys.argv[1:]]
+    with tempfile.TemporaryDirectory(prefix="meanings-") as room:
+        shutil.copytree(TOP / "crates", f"{room}/crates", ignore=shutil.ignore_patterns("out"))
+        for name in ("crates.txt", "HANDLES"):
+            shutil.copy(TOP / name, room)
+        count = sum(spread(crate, word, f"{room}/crates/{crate}/must-fail") for crate, _, word in asked)
+        ran = subprocess.Popen(["rt", "must-fail", *(it for it, _, _ in asked)], cwd=room, stdout=subprocess.PIPE, stderr=subprocess.STDOUT, text=True)
+        said = []
+        for line in ran.stdout:
+            print(line, end="", flush=True)
+            said.append(line)
+        status = ran.wait()
+    faults = [line for line in said if IS_FAULT.search(line.removeprefix("rt: "))]
+    print(f"{count} meanings, each by itself: {len(faults)} of which the contract says less than it should" + "".join(f"\n  {it.rstrip()}" for it in faults))
+    return status or (1 if faults else 0)
+
+
+if __name__ == "__main__":
+    sys.exit(main())

@@ -1,0 +1,205 @@
+#!/usr/bin/env python3
+"""Counts instructions of `wmod` of two built checkouts on inputs that a fast way may make dearer: `bench/dearer.py OLD NEW [WORD..]`.
+
+The inputs are those that once got dearer when others got quicker: ops without a fast way, pieces of one byte or two, lists
+of short indices behind a longer one, empty bodies, code that cannot be reached, texts of one kind of token, and texts that
+are refused. Each row is made twice, in another size and order. Printed are the instructions of both by callgrind, without
+those of an input that holds nothing, in millions, and NEW's over OLD's. With words only rows are run whose names hold one of
+them. Both have to answer the same. crates/wm_cli/out/wm_cli of each checkout is run: `rt run` in crates/wm_cli builds it.
+"""
+import pathlib
+import re
+import socket
+import subprocess
+import sys
+import threading
+from concurrent.futures import ThreadPoolExecutor
+
+sys.dont_write_bytecode = True
+from make_module import HEADER, I32, I64, MEMORY, NOTHING, Numbers, entry, module, section, unsigned, vector
+
+# the words of an action, the input, the length of its pieces (0: as it is read), and the input that holds nothing
+EMPTY_TEXT = b"(module)"
+
+
+def code(runs, one, memory=b""):
+    """Functions that repeat this: one long one, or many of a few."""
+
+    def made(numbers):
+        if numbers.state == 1:
+            return module([NOTHING], [entry(runs, one * 20_000)], memory)
+        return module([NOTHING], [entry(runs, one * (1 + numbers.below(40))) for _ in range(900)], memory)
+
+    return made
+
+
+def bodies(one):
+    """Functions with this body, of which there are many."""
+    return lambda numbers: module([NOTHING], [entry([], one)] * (20_000 if numbers.state == 1 else 7_000))
+
+
+def indices(count, long_ones):
+    """Numbers below 100 in one byte each, but that those at some places have two."""
+    return lambda numbers, n=count, wide=long_ones: [unsigned(numbers.below(100), 2 if wide(i) else 1) for i in range(n)]
+
+
+def first(i):
+    return i == 0
+
+
+def one_in_a_hundred(i):
+    return i % 100 == 0
+
+
+def each(_):
+    return True
+
+
+def elements(count, wide):
+    """Element segments of so many functions each."""
+
+    def made(numbers):
+        functions = section(3, vector([b"\x00"] * 100)) + section(4, vector([b"\x70\x00\x64"]))
+        segments = [b"\x00\x41\x00\x0b" + vector(indices(count, wide)(numbers)) for _ in range(3 if numbers.state == 1 else 2)]
+        codes = section(10, vector([entry([], b"")] * 100))
+        return HEADER + section(1, vector([NOTHING])) + functions + section(9, vector(segments)) + codes
+
+    return made
+
+
+def labels(count, wide):
+    """Tables of so many labels each, behind 100 open blocks."""
+
+    def made(numbers):
+        tables = b""
+        for _ in range(3 if numbers.state == 1 else 2):
+            spelled = indices(count + 1, wide)(numbers)
+            tables += b"\x02\x40\x41\x00\x0e" + unsigned(count) + b"".join(spelled) + b"\x0b"
+        return module([NOTHING], [entry([], b"\x02\x40" * 100 + tables + b"\x0b" * 100)])
+
+    return made
+
+
+def customs(numbers):
+    one = section(0, b"\x01c")
+    return HEADER + one * (3_000 if numbers.state == 1 else 1_700)
+
+
+def spread(blank):
+    """A text of fields that are parted by many of these."""
+
+    def made(numbers):
+        parts = (blank * (100 + numbers.below(4_000)) + b"(type (func))" for _ in range(60 if numbers.state == 1 else 41))
+        return b"(module" + b"".join(parts) + b")"
+
+    return made
+
+
+def comments(numbers):
+    lines = (b";; " + b"a comment " * (1 + numbers.below(8)) + b"\n" for _ in range(3_000 if numbers.state == 1 else 1_900))
+    return b"(module\n" + b"".join(lines) + b")"
+
+
+def identifiers(numbers):
+    count = 1_500 if numbers.state == 1 else 900
+    names = [b"$a_name_of_%d_letters_%d" % (numbers.below(10**6), i) for i in range(count)]
+    functions = (b"(func %s (type $t) call %s)\n" % (one, numbers.one_of(names)) for one in names)
+    return b"(module (type $t (func))\n" + b"".join(functions) + b")"
+
+
+def repeated(*parts):
+    return lambda numbers: b"".join(part * (100_000 if numbers.state == 1 else 61_000) for part in parts)
+
+
+CHECK, CANON, BUILD = ["check"], ["canon"], ["build"]
+WITH_EXTENSION, WITH_FLOATS = ["check", "--profile", "2"], ["check", "--profile", "3"]
+LOCAL = [(1, I32), (1, I64)]
+ROWS = {
+    "f32.reinterpret_i32 and back": (WITH_FLOATS, code(LOCAL, b"\x20\x00\xbe\xbc\x21\x00"), 0),
+    "f64.convert_i32_s": (WITH_FLOATS, code(LOCAL, b"\x41\x01\xb7\x1a"), 0),
+    "i32.trunc_f64_s": (WITH_FLOATS, code(LOCAL, b"\x44" + bytes(8) + b"\xaa\x1a"), 0),
+    "i32.extend8_s": (WITH_EXTENSION, code(LOCAL, b"\x41\x01\xc0\x1a"), 0),
+    "i64.extend32_s": (WITH_EXTENSION, code(LOCAL, b"\x42\x01\xc4\x1a"), 0),
+    "memory.size": (CHECK, code(LOCAL, b"\x3f\x00\x1a", MEMORY), 0),
+    "memory.grow": (CHECK, code(LOCAL, b"\x41\x01\x40\x00\x1a", MEMORY), 0),
+    "empty bodies in pieces of one": (CHECK, bodies(b""), 1),
+    "short bodies in pieces of one": (CHECK, bodies(b"\x41\x00\x1a"), 1),
+    "empty bodies in pieces of two": (CHECK, bodies(b""), 2),
+    "short bodies in pieces of two": (CHECK, bodies(b"\x41\x00\x1a"), 2),
+    "elements behind a long one": (CHECK, elements(9_000, first), 0),
+    "labels behind a long one": (CHECK, labels(9_000, first), 0),
+    "elements, one in a hundred long": (CHECK, elements(9_000, one_in_a_hundred), 0),
+    "labels, one in a hundred long": (CHECK, labels(9_000, one_in_a_hundred), 0),
+    "elements, all long": (CHECK, elements(9_000, each), 0),
+    "elements, all long, in pieces of one": (CHECK, elements(3_000, each), 1),
+    "elements in pieces of one": (CHECK, elements(3_000, lambda i: False), 1),
+    "empty bodies, written": (CANON, bodies(b""), 0),
+    "short bodies, written": (CANON, bodies(b"\x41\x00\x1a"), 0),
+    "i32.add behind unreachable": (CHECK, code(LOCAL, b"\x00" + b"\x6a" * 30 + b"\x1a"), 0),
+    "i32.add alone behind unreachable": (CHECK, lambda numbers: module([NOTHING], [entry([], b"\x00" + b"\x6a" * (30_000 if numbers.state == 1 else 17_000) + b"\x1a")]), 0),
+    "custom sections in pieces of one": (CHECK, customs, 1),
+    "blanks": (BUILD, spread(b" "), 0),
+    "line ends": (BUILD, spread(b"\n"), 0),
+    "line comments": (BUILD, comments, 0),
+    "identifiers": (BUILD, identifiers, 0),
+    "parentheses, refused": (BUILD, repeated(b"(", b")"), 0),
+    "strings, refused": (BUILD, repeated(b'"a"'), 0),
+    "parentheses and letters, refused": (BUILD, repeated(b")a"), 0),
+    "digits, refused": (BUILD, repeated(b"1"), 0),
+}
+
+
+def fed(program, words, given, piece):
+    """What callgrind counts, and how the program ended and what it wrote. Pieces are packets of a socket: each is one read."""
+    command = ["valgrind", "--tool=callgrind", "--callgrind-out-file=/dev/null", program, *words]
+    here, there = socket.socketpair(socket.AF_UNIX, socket.SOCK_SEQPACKET if piece else socket.SOCK_STREAM)
+    with subprocess.Popen(command, stdin=there, stdout=subprocess.PIPE, stderr=subprocess.PIPE, env={"PATH": "/usr/bin:/bin"}) as ran:
+        there.close()
+        sender = threading.Thread(target=send, args=(here, given, piece))
+        sender.start()
+        written, told = ran.communicate()
+        sender.join()
+    counted = re.search(rb"Collected : (\d+)", told)
+    if not counted:
+        sys.exit(told.decode())
+    return int(counted[1]), (ran.returncode, written)
+
+
+def send(socket_of_it, given, piece):
+    try:
+        for at in range(0, len(given), piece or len(given)):
+            socket_of_it.sendall(given[at : at + (piece or len(given))])
+    except BrokenPipeError:
+        # (what is refused is not read to its end)
+        pass
+    socket_of_it.close()
+
+
+def counted(programs, name, seed):
+    words, made, piece = ROWS[name]
+    given, nothing = made(Numbers(seed)), EMPTY_TEXT if words == BUILD else HEADER
+    counts, answers = [], []
+    for program in programs:
+        count, answer = fed(program, words, given, piece)
+        counts.append(count - fed(program, words, nothing, piece)[0])
+        answers.append(answer)
+    if answers[0] != answers[1]:
+        sys.exit(f"{name}: the answers differ: {answers[0]!r:.200} and {answers[1]!r:.200}")
+    return counts
+
+
+def main():
+    if len(sys.argv) < 3:
+        sys.exit(__doc__)
+    programs = [pathlib.Path(top).resolve() / "crates/wm_cli/out/wm_cli" for top in sys.argv[1:3]]
+    names = [name for name in ROWS if not sys.argv[3:] or any(word in name for word in sys.argv[3:])]
+    print("| Input | OLD, million | NEW, million | NEW over OLD | another set |", flush=True)
+    print("|---|---|---|---|---|", flush=True)
+    with ThreadPoolExecutor(2) as pool:
+        for name in names:
+            one, two = pool.map(lambda seed, name=name: counted(programs, name, seed), (1, 2))
+            print(f"| {name} | {one[0] / 1e6:.2f} | {one[1] / 1e6:.2f} | {one[1] / one[0]:.3f} | {two[1] / two[0]:.3f} |", flush=True)
+
+
+if __name__ == "__main__":
+    main()
