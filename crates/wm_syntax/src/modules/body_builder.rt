@@ -11,7 +11,7 @@ ghost use Rattle.wm_syntax.specs.inner.Builders.{next_left, next_open, next_ops}
 use crate::instructions::Op;
 use crate::instructions::lengths::op_len;
 use crate::modules::body::Body;
-use crate::modules::sized_ops::{MOST_COPIED, SizedOps};
+use crate::modules::sized_ops::{MOST_KEPT, SizedOps};
 use std::alloc::Global;
 use std::error::Error;
 use std::marker::Model;
@@ -310,7 +310,7 @@ impl BodyBuilder {
         if !all_ended {
             return Err(BodyFault::Unbalanced);
         }
-        if self.begun.capacity() > MOST_COPIED {
+        if self.begun.capacity() > MOST_KEPT {
             self.begun = Vec::new(alloc);
         }
         let ops = self.ops.take(alloc);

@@ -14,8 +14,8 @@ use std::{fmt, mem};
 // three times.
 const FEW: usize = 64;
 
-/// The most ops that are copied when they are taken.
-pub(crate) const MOST_COPIED: usize = 1024;
+/// A list that has room for at most so many ops stays when these are taken, and serves for the next ones.
+pub(crate) const MOST_KEPT: usize = 1024;
 
 /// Ops, and how many bytes they have; 2^64 - 1 where there are more.
 #[derive(Drop)]
@@ -110,13 +110,13 @@ impl SizedOps {
         self.ops[last] = Op::End;
     }
 
-    /// Takes all ops out. Few are copied once into memory that they fill, and the list that they grew in stays. Of
-    /// many, and where that memory is refused, the list itself is taken.
+    /// Takes all ops out. From a short list they are copied once into memory that they fill, and the list stays. A
+    /// longer one, even where few ops stand in it, is taken itself, and so is one where that memory is refused.
     pub(crate) fn take(&mut self, alloc: Global) -> Self
         ensures taken { result ≡ self.old }
         ensures left { self.new ≡ [] }
     {
-        if self.ops.len() <= MOST_COPIED {
+        if self.ops.capacity() <= MOST_KEPT {
             if let Ok(ops) = Vec::from_slice(alloc, &self.ops) {
                 let len = self.len;
                 self.clear();
