@@ -36,9 +36,8 @@ use Rattle.wm_rules.specs.exact.Checking.{in_spaces, where_ok, in_names, with_co
 use Rattle.wm_rules.specs.declared.builder.Purpose.{Purpose}
 use Rattle.wm_rules.specs.declared.builder.Purpose.TheVariants as purpose
 use Rattle.wm_rules.specs.declared.builder.Pending.{Pending}
-use Rattle.wm_rules.specs.declared.builder.Code.{Code}
 use Rattle.wm_rules.specs.exact.Built as building
-use Rattle.wm_rules.specs.exact.Built.{Built, name_from, valued, constant_ended, if_it_stands}
+use Rattle.wm_rules.specs.exact.Built.{Built, Code, name_from, valued, constant_ended, if_it_stands}
 use Rattle.wm_rules.proofs.FollowedOps.{SamePlace, follow, kinds_in, first_is}
 
 abbrev pub SameConstant : Option Constant → Option Pending → Type 0

@@ -13,7 +13,7 @@ ghost use Rattle.wm_syntax.specs.Values.{value_of};
 ghost use Rattle.wm_syntax.specs.inner.Building.{at};
 
 use std::alloc::Global;
-use std::mem;
+use std::{fmt, mem};
 use wm_decode::{Item, Sink};
 use wm_syntax::instructions::{Op, Simple};
 use wm_syntax::modules::body::Body;
@@ -41,17 +41,17 @@ pub struct Pending {
     value: Option<Const>,
 }
 
-/// A code entry at hand: its locals and its body so far.
-#[derive(Debug, Drop)]
-pub struct Code {
-    locals: Locals,
-    body: BodyBuilder,
+// A code entry at hand, as it is printed: its locals and its body so far.
+#[derive(Clone, Copy, Debug)]
+struct Code<'a> {
+    locals: &'a Locals,
+    body: &'a BodyBuilder,
 }
 
 /// Builds a module of its items, valid or not. It refuses a name that is not UTF-8, a constant expression of
 /// another form, a misplaced op of a body, and 2^32 locals; items in an order that no decoder sends may be
 /// refused under any name.
-#[derive(Debug, Drop)]
+#[derive(Drop)]
 pub struct Builder {
     alloc: Global,
     module_value: Module,
@@ -62,9 +62,28 @@ pub struct Builder {
     item_name: String,
     exported: String,
     constant: Option<Pending>,
-    code: Option<Code>,
-    // what the last body was built in: its memory serves for the next one
-    spare: BodyBuilder,
+    // of a code entry at hand its locals
+    locals: Option<Locals>,
+    // and its body so far. It stays here between entries, so that its memory serves for the next body
+    body: BodyBuilder,
+}
+
+// Where no code entry is at hand, what a body is built in is no part of what the builder holds.
+impl fmt::Debug for Builder {
+    fn fmt<W: fmt::Write>(&self, f: &mut fmt::Formatter<W>) -> fmt::Result {
+        let body = &self.body;
+        let code = self.locals.as_ref().map(|locals| Code { locals, body });
+        f.debug_struct("Builder")
+            .field("alloc", &self.alloc)
+            .field("module_value", &self.module_value)
+            .field("indices", &self.indices)
+            .field("module_name", &self.module_name)
+            .field("item_name", &self.item_name)
+            .field("exported", &self.exported)
+            .field("constant", &self.constant)
+            .field("code", &code)
+            .finish()
+    }
 }
 
 fn push<T: Drop>(items: &mut Vec<T>, item: T) -> Result<(), Why>
@@ -162,19 +181,6 @@ fn set_name(alloc: Global, name: &mut String, bytes: &[u8]) -> Result<(), Why>
     }
 }
 
-// The body that has ended. What it was built in takes the place of the spare one.
-fn take_body(mut built: BodyBuilder, spare: &mut BodyBuilder, alloc: Global) -> Result<Body, Why>
-    ensures ok { IfOk result (λ body. built ≡ at [] body) }
-    ensures err { IfErr result (λ why. (why ≡ Why.ElsePlace)
-        × ((s : Instructions) → built ≡ at [] s → ⊥)) }
-{
-    let Ok(body) = built.take_body(alloc) else {
-        return Err(Why::ElsePlace);
-    };
-    *spare = built;
-    Ok(body)
-}
-
 impl Sink for Builder {
     ghost Held = { Built };
 
@@ -246,8 +252,8 @@ impl Builder {
             item_name: String::new(alloc),
             exported: String::new(alloc),
             constant: None,
-            code: None,
-            spare: BodyBuilder::new(alloc),
+            locals: None,
+            body: BodyBuilder::new(alloc),
         }
     }
 
@@ -375,21 +381,21 @@ impl Builder {
     fn begin_body(&mut self) -> Result<(), Why>
         ensures { Taken (after (built self.old) body) result (built self.new) }
     {
-        let mut body = mem::replace(&mut self.spare, BodyBuilder::new(self.alloc));
-        body.clear();
-        self.code = Some(Code {
-            locals: Locals::new(self.alloc),
-            body,
-        });
+        if self.locals.is_some() {
+            // what a body that did not end took of memory goes with it
+            self.body = BodyBuilder::new(self.alloc);
+        }
+        self.body.clear();
+        self.locals = Some(Locals::new(self.alloc));
         Ok(())
     }
 
     fn add_locals(&mut self, count: u32, ty: ValType) -> Result<(), Why>
-        ensures { Taken (locals_taken count ty (built self.old) self.old.code) result (built self.new) }
+        ensures { Taken (locals_taken count ty (built self.old) (built self.old).code) result (built self.new) }
     {
-        match &mut self.code {
+        match &mut self.locals {
             None => Err(Why::Index),
-            Some(code) => code.locals.add(count, ty),
+            Some(locals) => locals.add(count, ty),
         }
     }
 
@@ -397,12 +403,10 @@ impl Builder {
     // there. The op is lent: a copy would go through memory. Most ops are taken at once.
     #[inline(never)]
     fn take_op(&mut self, op: &Op) -> Result<(), Why>
-        ensures { Taken (op_taken op.now (built self.old) self.old.code) result (built self.new) }
+        ensures { Taken (op_taken op.now (built self.old) (built self.old).code) result (built self.new) }
     {
-        if let Some(code) = &mut self.code {
-            if code.body.push_near(op) {
-                return Ok(());
-            }
+        if self.locals.is_some() && self.body.push_near(op) {
+            return Ok(());
         }
         self.take_any_op(op)
     }
@@ -410,13 +414,12 @@ impl Builder {
     // The same of any op.
     #[inline(never)]
     fn take_any_op(&mut self, op: &Op) -> Result<(), Why>
-        ensures { Taken (op_taken op.now (built self.old) self.old.code) result (built self.new) }
+        ensures { Taken (op_taken op.now (built self.old) (built self.old).code) result (built self.new) }
     {
-        let pushed = match &mut self.code {
-            None => return Err(Why::Index),
-            Some(code) => code.body.push(*op),
-        };
-        match pushed {
+        if self.locals.is_none() {
+            return Err(Why::Index);
+        }
+        match self.body.push(*op) {
             Ok(()) => Ok(()),
             Err(BodyFault::Memory) => Err(Why::Memory),
             Err(BodyFault::Unbalanced) => self.end_body(*op),
@@ -426,16 +429,19 @@ impl Builder {
     // An end that closes no list inside the body ends it.
     #[inline(never)]
     fn end_body(&mut self, op: Op) -> Result<(), Why>
-        ensures { Taken (body_ended op (built self.old) self.old.code) result (built self.new) }
+        ensures { Taken (body_ended op (built self.old) (built self.old).code) result (built self.new) }
     {
-        let Some(code) = self.code.take() else {
+        let Some(locals) = self.locals.take() else {
             return Err(Why::Index);
         };
         if op != Op::End {
+            self.body = BodyBuilder::new(self.alloc);
             return Err(Why::ElsePlace);
         }
-        let Code { locals, body } = code;
-        let body = take_body(body, &mut self.spare, self.alloc)?;
+        let Ok(body) = self.body.take_body(self.alloc) else {
+            self.body = BodyBuilder::new(self.alloc);
+            return Err(Why::ElsePlace);
+        };
         let next = self.module_value.functions.len();
         let type_index = self.indices.get(next).copied().unwrap_or(0);
         let function = Function {
@@ -466,8 +472,8 @@ mod tests {
             item_name,
             exported,
             constant,
-            code,
-            spare,
+            locals,
+            body,
         } = &builder;
         is::<Global>(alloc);
         is::<Module>(module_value);
@@ -476,8 +482,8 @@ mod tests {
         is::<String>(item_name);
         is::<String>(exported);
         is_copy(constant);
-        is::<Option<Code>>(code);
-        is::<BodyBuilder>(spare);
+        is::<Option<Locals>>(locals);
+        is::<BodyBuilder>(body);
     }
 
     #[test]
@@ -505,16 +511,5 @@ mod tests {
         is_copy(start);
         is::<Vec<Element>>(elements);
         is::<Vec<Segment>>(segments);
-    }
-
-    #[test]
-    fn every_field_of_a_code_entry(rt: HostRuntime) {
-        let code = Code {
-            locals: Locals::new(rt.alloc()),
-            body: BodyBuilder::new(rt.alloc()),
-        };
-        let Code { locals, body } = &code;
-        is::<Locals>(locals);
-        is::<BodyBuilder>(body);
     }
 }

@@ -39,6 +39,7 @@ fn answer(rt: &impl Abort, alloc: Global, word: &str, with: &'static str) -> Str
         "within" => policy::tests::within(rt, alloc, with),
         "function_0" => tests::function_0(rt, alloc, with),
         "build" => loader::tests::build(rt, alloc, with),
+        "show" => loader::tests::show(rt, alloc, with),
         "both" => loader::tests::both(rt, alloc, with),
         "kept" => validator::tests::kept(rt, alloc, with),
         "most" => validator::tests::most(rt, alloc, with),

@@ -22,12 +22,16 @@ use Rattle.wm_syntax.specs.inner.Building as building
 use Rattle.wm_rules.specs.declared.builder.Purpose.{Purpose}
 use Rattle.wm_rules.specs.declared.builder.Purpose.TheVariants as purpose
 use Rattle.wm_rules.specs.declared.builder.Pending.{Pending}
-use Rattle.wm_rules.specs.declared.builder.Code.{Code}
 use Rattle.wm_syntax.specs.exact.Runs.{add_run}
 use Rattle.wm_decode.specs.Items.{Item, new_type, param, result_count, one_result, import_module, import_name}
 use Rattle.wm_decode.specs.Items.{import_desc, function, table, memory, global, const_op, export_name, export}
 use Rattle.wm_decode.specs.Items.{start, element, element_function, body, locals, body_op, segment, data_byte}
 use Rattle.wm_decode.specs.Sinks.{and_then}
+
+-- a code entry at hand: its locals, and its body so far
+pub record Code : Type 0 where
+  pub locals : List ValType
+  pub body : Place
 
 -- the module so far; the types' indices of all its functions; and what is at hand: the names of an import or
 -- an export, a constant expression, a code entry
