@@ -3,7 +3,8 @@
 a file at once. Here each meaning of the crates that are named becomes a file of its own, in a copy of the tree, and
 `rt must-fail` tries them there: the prover has to refuse each, and not only because a proof names what is gone.
 
-    .ci/meanings.py CRATE[/WORD]..     of these crates, those whose names hold the word
+    .ci/meanings.py CRATE..            all of these crates
+    .ci/meanings.py CRATE/NAME..       these alone
 """
 import glob
 import os
@@ -51,32 +52,36 @@ def pairs_of(text):
     return pairs
 
 
-def spread(crate, word, folder):
-    """Writes each meaning of a crate as a file of its own to its copy's must-fail/, and says how many there are."""
+def spread(crate, wanted, folder):
+    """Writes each meaning of a crate, or those that are wanted, as a file of its own to its copy's must-fail/. Returns how many."""
     texts = {}
     for edit in sorted(glob.glob(f"{TOP}/crates/{crate}/must-fail/*.edit")):
         for name, text in of(edit).items():
             if name in texts:
                 raise SystemExit(f"{crate}: two edits have the name {name}")
             texts[name] = text
+    names = wanted or list(texts)
     shutil.rmtree(folder)
     os.makedirs(folder)
-    for name, text in texts.items():
-        if word in name:
-            pathlib.Path(folder, f"{name}.edit").write_text(text, encoding="utf-8")
-    return sum(word in name for name in texts)
+    for name in names:
+        if name not in texts:
+            raise SystemExit(f"{crate}: no edit has the name {name}")
+        pathlib.Path(folder, f"{name}.edit").write_text(texts[name], encoding="utf-8")
+    return len(names)
 
 
 def main():
     if len(sys.argv) < 2:
         sys.exit(__doc__)
-    asked = [it.partition("/") for it in sys.argv[1:]]
+    asked = {}
+    for crate, _, name in (it.partition("/") for it in sys.argv[1:]):
+        asked.setdefault(crate, []).extend([name] if name else [])
     with tempfile.TemporaryDirectory(prefix="meanings-") as room:
         shutil.copytree(TOP / "crates", f"{room}/crates", ignore=shutil.ignore_patterns("out"))
         for name in ("crates.txt", "HANDLES"):
             shutil.copy(TOP / name, room)
-        count = sum(spread(crate, word, f"{room}/crates/{crate}/must-fail") for crate, _, word in asked)
-        ran = subprocess.Popen(["rt", "must-fail", *(it for it, _, _ in asked)], cwd=room, stdout=subprocess.PIPE, stderr=subprocess.STDOUT, text=True)
+        count = sum(spread(crate, wanted, f"{room}/crates/{crate}/must-fail") for crate, wanted in asked.items())
+        ran = subprocess.Popen(["rt", "must-fail", *asked], cwd=room, stdout=subprocess.PIPE, stderr=subprocess.STDOUT, text=True)
         said = []
         for line in ran.stdout:
             print(line, end="", flush=True)
