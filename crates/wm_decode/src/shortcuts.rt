@@ -9,7 +9,7 @@ ghost use Rattle.wm_decode.specs.exact.Shortcuts.{Advances};
 use crate::decoder::names::give_bytes;
 use crate::machine::member::{InEntry, InMember, IndexOf, SectionKind};
 use crate::machine::{InCustom, Machine, refusal_of};
-use crate::shortcuts::entries::{body, entries};
+use crate::shortcuts::entries::{body, entries, last_end};
 use crate::shortcuts::exports::exports;
 use crate::shortcuts::frames::frames;
 use crate::shortcuts::function_types::function_types;
@@ -324,9 +324,9 @@ pub(crate) fn take_way<S: Sink>(
             }
         }
         Way::Ops => {
-            // what comes byte by byte goes the byte step's way at once
+            // of what comes byte by byte only the last `end` has a shortcut: the others want two bytes
             if bytes.len() == 1 {
-                return Shortcut::none();
+                return last_end(sink, machine, profile, bytes);
             }
             let taken = body(sink, machine, profile, bytes);
             if taken.used > 0 {

@@ -48,10 +48,10 @@ fn final_end<S: Sink>(
     }
 }
 
-// Takes the last `end` of an entry, by a shorter way where another entry comes after it
+/// Takes the last `end` of an entry, by a shorter way where another entry comes after it.
 #[inline(always)]
 #[tactic(auto, using(crate::proofs::Advances::advances_none))]
-fn last_end<S: Sink>(
+pub(crate) fn last_end<S: Sink>(
     sink: &mut S,
     machine: &mut Machine,
     profile: Profile,
@@ -61,13 +61,17 @@ fn last_end<S: Sink>(
     ensures { Advances S.after S.may_run_out profile bytes.now machine.old (S.held sink.old) result
         machine.new (S.held sink.new) }
 {
+    // first, so that another byte costs no look at the machine
+    if bytes[0] != 0x0B {
+        return Shortcut::none();
+    }
     let Some(body) = InBody::of(*machine) else {
         return Shortcut::none();
     };
     let SectionKind::Code = body.of else {
         return Shortcut::none();
     };
-    if bytes[0] != 0x0B || body.depth != 0 || body.rest != 0 {
+    if body.depth != 0 || body.rest != 0 {
         return Shortcut::none();
     }
     if body.left == 0 || body.more == 0 {
