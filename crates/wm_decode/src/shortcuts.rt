@@ -118,8 +118,12 @@ fn way_of(machine: Machine) -> Way {
     let (of, at) = match machine {
         Machine::Section { of, at, .. } => (of, at),
         Machine::Custom { .. } => return Way::Pass,
-        // tried once, at the header's begin
-        Machine::Header(1..) | Machine::Refused(_) => return Way::One,
+        // what `frames` does not take: the header behind its begin, the sizes of a custom and of a start section
+        Machine::Header(1..) | Machine::CustomSize { .. } | Machine::Refused(_) => return Way::One,
+        Machine::Size {
+            of: SectionKind::Start,
+            ..
+        } => return Way::One,
         _ => return Way::Frame,
     };
     match of {
