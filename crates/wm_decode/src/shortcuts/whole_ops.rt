@@ -7,21 +7,21 @@ ghost use Rattle.wm_syntax.specs.Profiles.{has};
 ghost use Rattle.wm_syntax.specs.exact.ByteTable.{class_feature, class_under, classes};
 ghost use Rattle.wm_syntax.specs.exact.Reading.{fresh};
 ghost use Rattle.wm_decode.specs.declared.step.reading.Reading.TheVariants.{More, Done};
-ghost use Rattle.wm_decode.specs.declared.step.ops.InOp.TheVariants.{BlockType, CallType, Const32, Const64};
+ghost use Rattle.wm_decode.specs.declared.step.ops.InOp.TheVariants.{BlockType, CallType, Const32, Const64, Memory};
 ghost use Rattle.wm_decode.specs.exact.OpSteps.{fresh_access, fresh_index, immediates, index_op};
 ghost use Rattle.wm_decode.specs.exact.ExpressionSteps.{after_op, at_next_op};
 ghost use Rattle.wm_decode.specs.exact.WholeOps.{GaveAs, OpUnder, RanTo, TookAs, WholeOp, first_read};
 
 use crate::item::Item;
 use crate::shortcuts::float_ops::{
-    binary_f32, binary_f64, compares_f32, compares_f64, unary_f32, unary_f64,
+    binary_f32, binary_f64, compares_f32, compares_f64, converts, sign_extends, truncates_32,
+    unary_f32, unary_f64,
 };
 use crate::shortcuts::whole_numbers::{s32_at, s64_at, u32_at};
 use crate::sink::Sink;
-use crate::step::ops::{Indexed, LoadOrStore, Opening, push_32, push_64};
+use crate::step::ops::{Indexed, LoadOrStore, Opening, Sizing, push_32, push_64};
 use wm_syntax::instructions::IntType::{I32, I64};
 use wm_syntax::instructions::op_class::{Immediates, OpClass};
-use wm_syntax::instructions::opcodes::op_of;
 use wm_syntax::instructions::{
     BinaryOp, Comparison, FloatType, IntType, LoadOp, MemArg, Numeric, Op, Simple, StoreOp, UnaryOp,
 };
@@ -206,6 +206,23 @@ fn call_indirect(bytes: &[u8], at: usize, depth: u32) -> Option<Read>
     Some(Read {
         op: Op::Simple(Simple::CallIndirect(ty.value)),
         next: ty.next + 1,
+        depth,
+    })
+}
+
+// An op on the size of the memory, which ends with the byte 00.
+#[inline(always)]
+fn memory(bytes: &[u8], at: usize, depth: u32, op: Sizing) -> Option<Read>
+    requires within { at + 1 < length bytes.now }
+    requires first { first_read (slice_index bytes.now at) ≡ More (Memory op) }
+    ensures { IfSome result (λ r. WholeOp bytes.now at r.next depth r.depth r.op) }
+{
+    if bytes[at + 1] != 0x00 {
+        return None;
+    }
+    Some(Read {
+        op: op.op(),
+        next: at + 2,
         depth,
     })
 }
@@ -474,38 +491,22 @@ fn float_64(profile: Profile, bytes: &[u8], at: usize, depth: u32) -> Option<Rea
     })
 }
 
-fn with_kind(
-    profile: Profile,
-    bytes: &[u8],
-    at: usize,
-    depth: u32,
-    kind: Immediates,
-) -> Option<Read>
-    requires within { at + 1 < length bytes.now }
-    requires class { class_under profile (slice_index bytes.now at) ≡ OpClass.With kind }
+// A sign extension, where the profile has them.
+#[inline(always)]
+fn sign_extension(profile: Profile, bytes: &[u8], at: usize, depth: u32) -> Option<Read>
+    requires within { at < length bytes.now }
+    requires from { 0xC0 ≤ slice_index bytes.now at }
+    requires to { slice_index bytes.now at ≤ 0xC4 }
     ensures { IfSome result (λ r. OpUnder profile bytes.now at r.next depth r.depth r.op) }
 {
-    match kind {
-        Immediates::F32Const => float_32(profile, bytes, at, depth),
-        Immediates::F64Const => float_64(profile, bytes, at, depth),
-        Immediates::Load(op) => access(profile, bytes, at, depth, kind, LoadOrStore::Load(op)),
-        Immediates::Store(op) => access(profile, bytes, at, depth, kind, LoadOrStore::Store(op)),
-        _ => None,
+    if !profile.has(Feature::SignExtension) {
+        return None;
     }
+    let op = Numeric::SignExtend(sign_extends(bytes[at]));
+    plain(profile, bytes, at, depth, Simple::Numeric(op))
 }
 
-fn float_op(profile: Profile, bytes: &[u8], at: usize, depth: u32) -> Option<Read>
-    requires { at + 1 < length bytes.now }
-    ensures { IfSome result (λ r. OpUnder profile bytes.now at r.next depth r.depth r.op) }
-{
-    match op_of(profile, bytes[at]) {
-        OpClass::Plain(Op::Simple(op)) => plain(profile, bytes, at, depth, op),
-        OpClass::With(kind) => with_kind(profile, bytes, at, depth, kind),
-        _ => None,
-    }
-}
-
-// The ops on floating-point numbers that are common, where the profile has them.
+// The ops on floating-point numbers, where the profile has them.
 
 #[inline(always)]
 fn float_numeric(profile: Profile, bytes: &[u8], at: usize, depth: u32, op: Numeric) -> Option<Read>
@@ -613,24 +614,7 @@ fn give<S: Sink>(sink: &mut S, room: usize, read: Option<Read>) -> Took
     }
 }
 
-// The same for any op on floating-point numbers or a sign extension, by the table of ops.
-#[inline(never)]
-#[tactic(auto, using(crate::proofs::OpLists::gave_took))]
-fn take_by_table<S: Sink>(
-    sink: &mut S,
-    profile: Profile,
-    bytes: &[u8],
-    at: usize,
-    depth: u32,
-    room: usize,
-) -> Took
-    requires { at + 1 < length bytes.now }
-    ensures { TookAs S.after profile (S.held sink.old) bytes.now at depth room result (S.held sink.new) }
-{
-    give(sink, room, float_op(profile, bytes, at, depth))
-}
-
-// The same for an op on floating-point numbers or a sign extension. The most common ones have their own code.
+// The same for an op on floating-point numbers.
 #[inline(never)]
 #[tactic(auto, using(crate::proofs::OpLists::gave_took))]
 fn take_float<S: Sink>(
@@ -645,7 +629,7 @@ fn take_float<S: Sink>(
     ensures { TookAs S.after profile (S.held sink.old) bytes.now at depth room result (S.held sink.new) }
 {
     if !profile.has(Feature::Floats) {
-        return take_by_table(sink, profile, bytes, at, depth, room);
+        return Took::Left;
     }
     let byte = bytes[at];
     match byte {
@@ -695,7 +679,15 @@ fn take_float<S: Sink>(
             let op = Numeric::FloatBinary(FloatType::F64, binary_f64(byte));
             give(sink, room, float_numeric(profile, bytes, at, depth, op))
         }
-        _ => take_by_table(sink, profile, bytes, at, depth, room),
+        0xA8..=0xAB => {
+            let op = Numeric::Convert(truncates_32(byte));
+            give(sink, room, float_numeric(profile, bytes, at, depth, op))
+        }
+        0xAE..=0xBF => {
+            let op = Numeric::Convert(converts(byte));
+            give(sink, room, float_numeric(profile, bytes, at, depth, op))
+        }
+        _ => Took::Left,
     }
 }
 
@@ -830,6 +822,8 @@ fn take_uncommon<S: Sink>(
                 with_arg(bytes, at, depth, LoadOrStore::Store(op)),
             )
         }
+        0x3F => give(sink, room, memory(bytes, at, depth, Sizing::Size)),
+        0x40 => give(sink, room, memory(bytes, at, depth, Sizing::Grow)),
         0x50 => give(sink, room, numeric(bytes, at, depth, Numeric::Test(I64))),
         0x51..=0x5A => {
             let op = Numeric::Compare(I64, compares_64(byte));
@@ -846,6 +840,7 @@ fn take_uncommon<S: Sink>(
         0xA7 => give(sink, room, numeric(bytes, at, depth, Numeric::Wrap)),
         0xAC => give(sink, room, numeric(bytes, at, depth, Numeric::ExtendS)),
         0xAD => give(sink, room, numeric(bytes, at, depth, Numeric::ExtendU)),
+        0xC0..=0xC4 => give(sink, room, sign_extension(profile, bytes, at, depth)),
         _ => take_float(sink, profile, bytes, at, depth, room),
     }
 }
