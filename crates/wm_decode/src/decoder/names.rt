@@ -213,20 +213,21 @@ pub(crate) fn give_index<S: Sink>(sink: &mut S, list: IndexList, index: u32) -> 
     }
 }
 
-// The same, inline: with a second caller it would not stand in the loop over indices of one byte each.
+// The same of one that is short, inline: with a second caller, as `give_index` would be, it would not stand in the loop
+// over indices of one byte each.
 #[inline(always)]
 pub(crate) fn give_short_index<S: Sink>(
     sink: &mut S,
     list: IndexList,
-    index: u32,
+    short: u32,
 ) -> Result<(), Why>
-    ensures given { Taken (S.after (S.held sink.old) (index_item_in list index)) result (S.held sink.new) }
-    ensures room { IfErr result (λ w. w ≡ Memory → S.may_run_out (S.held sink.old) (index_item_in list index)) }
+    ensures given { Taken (S.after (S.held sink.old) (index_item_in list short)) result (S.held sink.new) }
+    ensures room { IfErr result (λ w. w ≡ Memory → S.may_run_out (S.held sink.old) (index_item_in list short)) }
 {
     match list {
-        IndexList::Types => sink.take(Item::Func(index)),
-        IndexList::Functions { .. } => sink.take(Item::ElemFunc(index)),
-        IndexList::Labels { .. } => sink.take(Item::Op(Op::Label(index))),
+        IndexList::Types => sink.take(Item::Func(short)),
+        IndexList::Functions { .. } => sink.take(Item::ElemFunc(short)),
+        IndexList::Labels { .. } => sink.take(Item::Op(Op::Label(short))),
     }
 }
 

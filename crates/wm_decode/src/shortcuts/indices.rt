@@ -267,6 +267,10 @@ pub(crate) fn indices<S: Sink>(
     ensures { Advances S.after S.may_run_out profile bytes.now machine.old (S.held sink.old) result
         machine.new (S.held sink.new) }
 {
+    // alone, the first byte of a longer one is the byte step's
+    if bytes.len() == 1 && bytes[0] >= 0x80 {
+        return Shortcut::none();
+    }
     let Some(before) = InIndices::of(*machine) else {
         return Shortcut::none();
     };

@@ -14,6 +14,11 @@ use crate::shortcuts::whole_numbers::{Whole, u32_at};
 use crate::sink::Sink;
 use wm_syntax::profile::Profile;
 
+// After so many indices that have one byte each the loop over those of any length ends: the decoder's next turn takes
+// more of them, with fewer instructions each. A turn costs what some eight of them save. Only after each so many it is
+// looked at how long they were, so that longer ones stay as quick.
+const MANY_SHORT: u32 = 16;
+
 // The index at a place, where it lies in the first so many bytes
 #[inline(always)]
 fn index_at(bytes: &[u8], from: usize, end: usize) -> Option<Whole<u32>>
@@ -62,8 +67,8 @@ fn last_index<S: Sink>(
     }
 }
 
-/// Takes the indices that lie in these bytes: the last of a list, or those after which another comes. Out of
-/// line, where the loop keeps its values in registers.
+/// Takes indices that lie in these bytes: the last of a list, or those after which another comes, until many
+/// have one byte each. Out of line, where the loop keeps its values in registers.
 #[inline(never)]
 pub(crate) fn whole_indices<S: Sink>(
     sink: &mut S,
@@ -82,9 +87,17 @@ pub(crate) fn whole_indices<S: Sink>(
         return last_index(sink, machine, before, profile, bytes);
     }
     let end = bytes.len().min(before.room() as usize);
-    let mut used = 0;
+    let mut used: usize = 0;
     let mut count = 0;
+    // where the last so many begin
+    let mut from = 0;
     while count < followed {
+        if count % MANY_SHORT == 0 {
+            if used.wrapping_sub(from) == MANY_SHORT as usize {
+                break;
+            }
+            from = used;
+        }
         let Some(index) = index_at(bytes, used, end) else {
             break;
         };
