@@ -65,12 +65,12 @@ pub digits_number : (c : ℕ) (b : List ℕ) (m : ℕ) → is_digit c ≡ true �
 digits_number c b m h e =
     cond-false (c == 43) _ _ (no_sign c 43 h (omega arith)) ∙ cond-false (c == 45) _ _ (no_sign c 45 h (omega arith)) ∙ ap is_some (decimal_magnitude m (c ∷ b) e)
 
-pub number_cut : (b a r : List ℕ) (n : ℕ) → n < length b → 0 < n → ((i : ℕ) → i < n → is_digit (get_or b i 0) ≡ true) → is_id_char (get_or b n 0) ≡ false → a ≡ take n b → r ≡ drop n b → first (atom a) r ≡ ahead b
-number_cut [] a r n lt more all stop p q = absurd (omega (arith, lt))
-number_cut (c ∷ t) a r zero lt more all stop p q = absurd (omega (arith, more))
-number_cut (c ∷ t) a r (suc n) lt more all stop p q =
-    let e : atom_in (c ∷ t) ≡ (take (suc n) (c ∷ t), drop (suc n) (c ∷ t)) = atom_at (c ∷ t) (suc n) (omega (arith, lt)) (λ i l. digit_is (get_or (c ∷ t) i 0) (all i l)) (inr stop) in
+pub number_cut : (b a r : List ℕ) (n : ℕ) → n ≤ length b → 0 < n → ((i : ℕ) → i < n → is_digit (get_or b i 0) ≡ true) → ((n ≡ length b) ⊎ (is_id_char (get_or b n 0) ≡ false)) → a ≡ take n b → r ≡ drop n b → first (atom a) r ≡ ahead b
+number_cut [] a r n le more all stop p q = absurd (omega (arith, le, more))
+number_cut (c ∷ t) a r zero le more all stop p q = absurd (omega (arith, more))
+number_cut (c ∷ t) a r (suc n) le more all stop p q =
+    let e : atom_in (c ∷ t) ≡ (take (suc n) (c ∷ t), drop (suc n) (c ∷ t)) = atom_at (c ∷ t) (suc n) le (λ i l. digit_is (get_or (c ∷ t) i 0) (all i l)) stop in
     let digit : is_digit c ≡ true = all 0 (omega arith) in
-    let value = digits_value (c ∷ take n t) 0 false (digits_front (c ∷ t) (suc n) (omega (arith, lt)) all) (inr (omega arith)) in
+    let value = digits_value (c ∷ take n t) 0 false (digits_front (c ∷ t) (suc n) le all) (inr (omega arith)) in
     let number : is_number (c ∷ take n t) ≡ true = digits_number c (take n t) value.0 digit value.1 in
     atom_cut (c ∷ t) a r (suc n) (class_atom c (digit_is c digit)) e p q (ap is_atom p ∙ kind_more (c ∷ take n t) (inr (inl (inl (number_found (c ∷ take n t) number)))))

@@ -201,6 +201,16 @@ pub fn label<'a>(blocks: &OpenBlocks, text: &'a [u8]) -> Result<(u32, &'a [u8]),
     }
 }
 
+/// A text from behind the white space by itself that stands first, so that what may be left out is looked for
+/// there, and it is not walked again where nothing of it is written.
+#[inline(always)]
+#[tactic(auto, using(crate::proofs::Whole::spaces_lexed))]
+fn unspaced(text: &[u8]) -> &[u8]
+    ensures { lexed result.now ≡ lexed text.now }
+{
+    after_spaces(text)
+}
+
 /// Whether a word stands first, as its first byte tells. Most identifiers that may stand are left out, and then the
 /// next instruction is not looked through to the end of its word.
 #[inline(always)]
@@ -216,18 +226,19 @@ fn begins_word(text: &[u8]) -> bool
 pub fn id(text: &[u8]) -> (Option<&[u8]>, &[u8])
     ensures { Some (id_of result.0, lexed result.1.now) ≡ reading.id_at (lexed text.now) }
 {
-    if begins_word(text) {
-        return (None, text);
+    let first = unspaced(text);
+    if begins_word(first) {
+        return (None, first);
     }
-    match next_token(text) {
+    match next_token(first) {
         Some((Lexeme::Atom(atom), rest)) => {
             if is_id(atom) {
                 (Some(atom), rest)
             } else {
-                (None, text)
+                (None, first)
             }
         }
-        _ => (None, text),
+        _ => (None, first),
     }
 }
 
@@ -236,20 +247,21 @@ pub fn id(text: &[u8]) -> (Option<&[u8]>, &[u8])
 pub fn again<'a>(id: Option<&[u8]>, text: &'a [u8]) -> Result<&'a [u8], TextFault>
     ensures { Reads (λ r. (tt, lexed r.now)) result (reading.again_at (id_of id.entry) (lexed text.now)) }
 {
-    if begins_word(text) {
-        return Ok(text);
+    let first = unspaced(text);
+    if begins_word(first) {
+        return Ok(first);
     }
-    match next_token(text) {
+    match next_token(first) {
         Some((Lexeme::Atom(atom), rest)) => {
             if !is_id(atom) {
-                Ok(text)
+                Ok(first)
             } else if is_same_id(id, atom) {
                 Ok(rest)
             } else {
-                Err(refuse(TextWhy::LabelEnd, text))
+                Err(refuse(TextWhy::LabelEnd, first))
             }
         }
-        _ => Ok(text),
+        _ => Ok(first),
     }
 }
 
@@ -403,15 +415,16 @@ fn result_type(profile: Profile, text: &[u8]) -> Result<(ValType, &[u8]), TextFa
 pub fn block_type(profile: Profile, text: &[u8]) -> Result<(Option<ValType>, &[u8]), TextFault>
     ensures { Reads (λ x. (x.0, lexed x.1.now)) result (reading.block_type_at profile (lexed text.now)) }
 {
-    if begins_word(text) {
-        return Ok((None, text));
+    let first = unspaced(text);
+    if begins_word(first) {
+        return Ok((None, first));
     }
-    match next_token(text) {
+    match next_token(first) {
         Some((Lexeme::Open, _)) => {
-            let (ty, rest) = result_type(profile, text)?;
+            let (ty, rest) = result_type(profile, first)?;
             Ok((Some(ty), rest))
         }
-        _ => Ok((None, text)),
+        _ => Ok((None, first)),
     }
 }
 
@@ -435,18 +448,19 @@ fn begins_other_word(key: &[u8], text: &[u8]) -> bool
 pub fn key<'a>(key: &[u8], usual: u32, text: &'a [u8]) -> Result<(u32, &'a [u8]), TextFault>
     ensures { Reads (λ x. (x.0, lexed x.1.now)) result (reading.key_at key.now usual (lexed text.now)) }
 {
-    if begins_other_word(key, text) {
-        return Ok((usual, text));
+    let first = unspaced(text);
+    if begins_other_word(key, first) {
+        return Ok((usual, first));
     }
-    match first_token(text) {
+    match first_token(first) {
         Some((Lexeme::Atom(atom), rest)) => match after_key(key, atom) {
             Some(digits) => match unsigned(digits) {
                 Some(n) => Ok((n, rest)),
-                None => Err(refuse(TextWhy::BadInteger, text)),
+                None => Err(refuse(TextWhy::BadInteger, first)),
             },
-            None => Ok((usual, text)),
+            None => Ok((usual, first)),
         },
-        _ => Ok((usual, text)),
+        _ => Ok((usual, first)),
     }
 }
 

@@ -113,14 +113,55 @@ fn is_space(byte: u8) -> bool
     matches!(byte, b' ' | b'\t' | b'\n' | b'\r')
 }
 
-/// A text from its first byte on that is not white space by itself.
+/// A text from its first byte on that is not white space by itself. Most tokens are parted by one such byte or none,
+/// and these are told in place; a longer run is passed over out of line.
 #[inline(always)]
 pub fn after_spaces(text: &[u8]) -> &[u8]
     ensures { result.now ≡ scan.after_spaces text.now }
 {
-    let mut rest = text;
+    match text {
+        [first, more @ ..] => {
+            if !is_space(*first) {
+                return text;
+            }
+            match more {
+                [second, ..] => {
+                    if is_space(*second) {
+                        after_run(more)
+                    } else {
+                        more
+                    }
+                }
+                [] => more,
+            }
+        }
+        [] => text,
+    }
+}
+
+/// The same, for a run of white space.
+#[inline(never)]
+fn after_run(text: &[u8]) -> &[u8]
+    ensures { result.now ≡ scan.after_spaces text.now }
+{
+    let mut rest = within_run(text);
     while let [c, more @ ..] = rest {
         if !is_space(*c) {
+            return rest;
+        }
+        rest = more;
+    }
+    rest
+}
+
+/// A text from within the white space that stands first, near its end: four bytes are asked in a step.
+#[inline(always)]
+fn within_run(text: &[u8]) -> &[u8]
+    ensures { scan.after_spaces result.now ≡ scan.after_spaces text.now }
+{
+    let mut rest = text;
+    while let [a, b, c, d, more @ ..] = rest {
+        if !(is_space(*a) && is_space(*b) && is_space(*c) && is_space(*d)) {
             return rest;
         }
         rest = more;
@@ -132,12 +173,27 @@ pub fn after_spaces(text: &[u8]) -> &[u8]
 pub fn after_line(text: &[u8]) -> &[u8]
     ensures { result.now ≡ scan.after_line text.now }
 {
-    let mut rest = text;
+    let mut rest = within_line(text);
     while let [c, more @ ..] = rest {
         rest = more;
         if *c == b'\n' {
             return rest;
         }
+    }
+    rest
+}
+
+/// A line comment from within it, near its end: four bytes are asked in a step.
+#[inline(always)]
+fn within_line(text: &[u8]) -> &[u8]
+    ensures { scan.after_line result.now ≡ scan.after_line text.now }
+{
+    let mut rest = text;
+    while let [a, b, c, d, more @ ..] = rest {
+        if *a == b'\n' || *b == b'\n' || *c == b'\n' || *d == b'\n' {
+            return rest;
+        }
+        rest = more;
     }
     rest
 }
@@ -479,23 +535,35 @@ pub fn plain_atom(text: &[u8]) -> Option<(&[u8], &[u8])>
     }
 }
 
-/// The decimal digits that stand first, and what follows them, where that is a byte and no character of atoms.
+/// How many decimal digits stand first.
+#[inline(always)]
+fn digits_len(text: &[u8]) -> usize
+    ensures within { result ≤ length text.now }
+    ensures digits { (k : ℕ) → k < result → tokens.is_digit (get_or text.now k 0) ≡ true }
+{
+    let mut i = 0;
+    while i < text.len() {
+        if !is_digit(text[i]) {
+            return i;
+        }
+        i += 1;
+    }
+    i
+}
+
+/// The decimal digits that stand first, and what follows them, where that is no character of atoms.
 #[inline(always)]
 fn plain_number(text: &[u8]) -> Option<(&[u8], &[u8])>
     ensures { IfSome result (λ x. scan.first (tokens.atom x.0.now) x.1.now ≡ scan.ahead text.now) }
 {
-    for (i, c) in text.iter().enumerate() {
-        if !is_digit(*c) {
-            if i == 0 {
-                return None;
-            }
-            if is_id_char(*c) {
-                return None;
-            }
-            return Some(text.split_at(i));
-        }
+    let n = digits_len(text);
+    if n == 0 {
+        return None;
     }
-    None
+    if n < text.len() && is_id_char(text[n]) {
+        return None;
+    }
+    Some(text.split_at(n))
 }
 
 /// The identifier that stands first, from its `$` on, and what follows it.
