@@ -168,7 +168,7 @@ pub fn constant32(atom: &[u8]) -> Option<i32>
     ensures { result ≡ reading.integer_of 32 atom.now }
 {
     match short_decimal(atom) {
-        Some(n) => Some(n as i32),
+        Some(short) => Some(short as i32),
         None => any_constant32(atom),
     }
 }

@@ -4,4 +4,4 @@ use Rattle.wm_read.proofs.Numbers.{short_constant}
 use Rattle.wm_read.proofs.tokens.literals.constant32.Goals as goal
 
 pub returns-in-Some : goal.returns-in-Some
-returns-in-Some c = ap (λ (z : ℤ). Some z) (to_z_pos w32 c.in-Some.n (omega (arith, c.in-Some.ensures.small))) ∙ short_constant c.args.atom.now c.in-Some.n c.in-Some.ensures.value c.in-Some.ensures.small
+returns-in-Some c = ap (λ (z : ℤ). Some z) (to_z_pos w32 c.in-Some.short (omega (arith, c.in-Some.ensures.small))) ∙ short_constant c.args.atom.now c.in-Some.short c.in-Some.ensures.value c.in-Some.ensures.small
