@@ -249,19 +249,19 @@ pub fn again<'a>(id: Option<&[u8]>, text: &'a [u8]) -> Result<&'a [u8], TextFaul
 {
     let first = unspaced(text);
     if begins_word(first) {
-        return Ok(first);
+        return Ok(text);
     }
     match next_token(first) {
         Some((Lexeme::Atom(atom), rest)) => {
             if !is_id(atom) {
-                Ok(first)
+                Ok(text)
             } else if is_same_id(id, atom) {
                 Ok(rest)
             } else {
                 Err(refuse(TextWhy::LabelEnd, first))
             }
         }
-        _ => Ok(first),
+        _ => Ok(text),
     }
 }
 
