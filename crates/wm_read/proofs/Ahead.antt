@@ -1,5 +1,5 @@
 -- What stands first in a text.
-use Rattle.std.proofs.Common.{◌≡◌, ℕ, zero, ◌⊎◌, Bool, true, false, cond, List, [], ◌∷◌, ◌++◌, Option, Some, None, refl, sym, ap, subst, ◌∙◌, inl, inr, append_assoc, take, drop}
+use Rattle.std.proofs.Common.{◌≡◌, ℕ, zero, ◌⊎◌, Bool, true, false, cond, List, [], ◌∷◌, ◌++◌, Option, Some, None, refl, sym, ap, subst, ◌∙◌, inl, inr, append_assoc, take, drop, get_or, arith}
 use Rattle.std.specs.Prelude.{◌==◌, ◌&&◌}
 use Rattle.std.specs.List.{list_all}
 use Rattle.std.proofs.lemmas.Bool.{cond-true, cond-false, cond_both, eqb-true, ne_eqb, and_parts, or_cases, false_from_ne_true}
@@ -66,6 +66,14 @@ ahead_40 b = refl
 ahead_41 : (b : List ℕ) → ahead (41 ∷ b) ≡ first close_paren b
 unfolding ahead class_of
 ahead_41 b = refl
+
+pub closes_first : (b r : List ℕ) → get_or b 0 0 ≡ 41 → r ≡ drop 1 b → first close_paren r ≡ ahead b
+closes_first [] r e p = absurd (let f : 0 ≡ 41 = e in omega (arith, f))
+closes_first (c ∷ t) r e p = ap (first close_paren) p ∙ sym (ap (λ (x : ℕ). ahead (x ∷ t)) e ∙ ahead_41 t)
+
+pub opens_first : (b r : List ℕ) → get_or b 0 0 ≡ 40 → r ≡ drop 1 b → ahead_opening r ≡ ahead b
+opens_first [] r e p = absurd (let f : 0 ≡ 40 = e in omega (arith, f))
+opens_first (c ∷ t) r e p = ap ahead_opening p ∙ sym (ap (λ (x : ℕ). ahead (x ∷ t)) e ∙ ahead_40 t)
 
 ahead_34 : (b : List ℕ) → ahead (34 ∷ b) ≡ string_or_fault (string_in m.Plain b)
 unfolding ahead class_of

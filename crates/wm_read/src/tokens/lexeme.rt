@@ -131,13 +131,55 @@ fn atom(text: &[u8]) -> Found
     }
 }
 
-/// The first token, and the text after it; none at the end, or where `check_tokens` finds a fault.
+/// The parenthesis that stands first, and what follows it; none where another token stands, or a block comment.
+#[inline(always)]
+fn parenthesis(text: &[u8]) -> Option<(Lexeme, &[u8])>
+    ensures { IfSome result (λ x. scan.first (token_of x.0) x.1.now ≡ scan.ahead text.now) }
+{
+    match text {
+        [first, more @ ..] => {
+            if *first == b')' {
+                Some((Lexeme::Close, more))
+            } else if *first == b'(' {
+                opening_alone(more)
+            } else {
+                None
+            }
+        }
+        [] => None,
+    }
+}
+
+/// The same where an opening parenthesis stands, from the text after it.
+#[inline(always)]
+fn opening_alone(text: &[u8]) -> Option<(Lexeme, &[u8])>
+    ensures { IfSome result (λ x. scan.first (token_of x.0) x.1.now ≡ scan.ahead_opening text.now) }
+{
+    match text {
+        [second, ..] => {
+            if *second == b';' {
+                None
+            } else {
+                Some((Lexeme::Open, text))
+            }
+        }
+        [] => Some((Lexeme::Open, text)),
+    }
+}
+
+/// The first token, and the text after it; none at the end, or where `check_tokens` finds a fault. Most that are asked
+/// for here are parentheses, which are found in place.
+#[tactic(auto, using(crate::proofs::Whole::ahead_laws))]
 pub fn next_token(text: &[u8]) -> Option<(Lexeme, &[u8])>
     ensures token { MatchOption result (scan.lexed text.now ≡ [])
         (λ x. scan.lexed text.now ≡ token_of x.0 ∷ scan.lexed x.1.now) }
     ensures shorter { IfSome result (λ x. length x.1.now < length text.now) }
 {
-    first_token(text)
+    let rest = after_spaces(text);
+    match parenthesis(rest) {
+        Some((token, more)) => Some((token, more)),
+        None => unspaced_token(rest),
+    }
 }
 
 /// The same, for the loops that read most of the tokens: a plain atom is found with no call.
@@ -148,10 +190,20 @@ pub fn first_token(text: &[u8]) -> Option<(Lexeme, &[u8])>
         (λ x. scan.lexed text.now ≡ token_of x.0 ∷ scan.lexed x.1.now) }
     ensures shorter { IfSome result (λ x. length x.1.now < length text.now) }
 {
-    let rest = after_spaces(text);
-    match plain_atom(rest) {
+    unspaced_token(after_spaces(text))
+}
+
+/// The same, where no white space by itself need be passed over.
+#[inline(always)]
+#[tactic(auto, using(crate::proofs::Whole::ahead_laws))]
+fn unspaced_token(text: &[u8]) -> Option<(Lexeme, &[u8])>
+    ensures token { MatchOption result (scan.lexed text.now ≡ [])
+        (λ x. scan.lexed text.now ≡ token_of x.0 ∷ scan.lexed x.1.now) }
+    ensures shorter { IfSome result (λ x. length x.1.now < length text.now) }
+{
+    match plain_atom(text) {
         Some((atom, more)) => Some((Lexeme::Atom(atom), more)),
-        None => any_token(rest),
+        None => any_token(text),
     }
 }
 
