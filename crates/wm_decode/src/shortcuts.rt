@@ -93,7 +93,7 @@ pub(crate) fn at_most(count: u32, len: usize) -> u32
     (count as usize).min(len) as u32
 }
 
-/// Which shortcut there may be from a state. Nothing but time rests on this.
+/// Which shortcut there may be from a state, at its next byte. Nothing but time rests on this.
 #[derive(Clone, Copy)]
 enum Way {
     Type,
@@ -114,12 +114,13 @@ enum Way {
 }
 
 #[inline(always)]
-fn way_of(machine: Machine) -> Way {
+fn way_of(machine: Machine, next: u8) -> Way {
     let (of, at) = match machine {
         Machine::Section { of, at, .. } => (of, at),
         Machine::Custom { .. } => return Way::Pass,
-        // what `frames` does not take: the header behind its begin, the sizes of a custom and of a start section
+        // what `frames` does not take: the header behind its begin, a custom section, the size of a start section
         Machine::Header(1..) | Machine::CustomSize { .. } | Machine::Refused(_) => return Way::One,
+        Machine::Between { .. } if next == 0x00 => return Way::One,
         Machine::Size {
             of: SectionKind::Start,
             ..
@@ -308,7 +309,7 @@ pub(crate) fn take_way<S: Sink>(
     ensures { Advances S.after S.may_run_out profile bytes.now machine.old (S.held sink.old) result
         machine.new (S.held sink.new) }
 {
-    match way_of(*machine) {
+    match way_of(*machine, bytes[0]) {
         Way::Type => {
             let taken = function_types(sink, machine, profile, bytes);
             if taken.used > 0 {
