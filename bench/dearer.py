@@ -107,6 +107,13 @@ def identifiers(numbers):
     return b"(module (type $t (func))\n" + b"".join(functions) + b")"
 
 
+def imports_and_exports(numbers):
+    count = 2_000 if numbers.state == 1 else 1_300
+    imports = (b'  (import "env" "name%d" (func $f%d (type $t0)))\n' % (numbers.below(10**6), i) for i in range(count))
+    exports = (b'  (export "e%d" (func $f%d))\n' % (i, numbers.below(count)) for i in range(count))
+    return b"(module\n  (type $t0 (func))\n" + b"".join(imports) + b"".join(exports) + b")\n"
+
+
 def repeated(*parts):
     return lambda numbers: b"".join(part * (100_000 if numbers.state == 1 else 61_000) for part in parts)
 
@@ -142,6 +149,7 @@ ROWS = {
     "line ends": (BUILD, spread(b"\n"), 0),
     "line comments": (BUILD, comments, 0),
     "identifiers": (BUILD, identifiers, 0),
+    "imports and exports": (BUILD, imports_and_exports, 0),
     "parentheses, refused": (BUILD, repeated(b"(", b")"), 0),
     "strings, refused": (BUILD, repeated(b'"a"'), 0),
     "parentheses and letters, refused": (BUILD, repeated(b")a"), 0),
