@@ -1,6 +1,7 @@
-"""What is tried on the built programs, once `rt ci` has proved and built them: each growth of wmod and of wm_rows refused in
-turn (growths.py), a million nested blocks (deep.py), the calls for C beside wmod (c_calls.py), and what is installed
-(packages.py). The library for C, which `rt ci` proves and does not write, is built by `rt lib` first.
+"""What is tried on the built programs, once `rt ci` has proved and built them, as both compilers built them: each growth of
+wmod and of wm_rows refused in turn (growths.py), and a million nested blocks (deep.py). Then the calls for C beside wmod
+(c_calls.py), and what is installed (packages.py). The library for C, which `rt ci` proves and does not write, is built by
+`rt lib` first. That proves anew what no check on this machine has kept.
 
     .ci/built.py       at the top, after `rt ci`
 """
@@ -19,12 +20,15 @@ import packages
 CRATES = pathlib.Path(__file__).resolve().parent.parent / "crates"
 
 
-def program(name):
-    return str(CRATES / name / "out" / name)
+def programs(name):
+    """As LLVM built it, and as Rattle's own compiler did, where that could."""
+    found = CRATES / name / "out" / name
+    return [str(it) for it in (found, found.with_name(f"{name}.by-rattle")) if it.exists()] or [str(found)]
 
 
 def is_library_built():
     """Whether the library for C is proved and built; says what was wrong."""
+    print("the library for C is proved and built, which takes some minutes", flush=True)
     built = subprocess.run(["rt", "lib"], cwd=CRATES / "wm_c", stdout=subprocess.PIPE, stderr=subprocess.STDOUT, text=True, check=False)
     if built.returncode:
         print(f"the library for C could not be built:\n{built.stdout[-4000:]}", flush=True)
@@ -40,9 +44,10 @@ def print_tally():
 
 
 def main():
-    wmod, rows = program("wm_cli"), program("wm_rows")
-    is_well = [growths.sweep(wmod), deep.is_well(wmod), growths.sweep_rows(rows)]
+    is_well = [does(it) for it in programs("wm_cli") for does in (growths.sweep, deep.is_well)]
+    is_well += [growths.sweep_rows(it) for it in programs("wm_rows")]
     print_tally()
+    wmod = programs("wm_cli")[0]
     if is_library_built():
         library = str(CRATES / "wm_c/out/libwm_c.a")
         is_well += [c_calls.is_well(library, wmod), packages.is_well(library, wmod)]

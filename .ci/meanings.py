@@ -5,6 +5,7 @@ a file at once. Here each meaning of the crates that are named becomes a file of
 
     .ci/meanings.py CRATE..            all of these crates
     .ci/meanings.py CRATE/NAME..       these alone
+    .ci/meanings.py --names            tries none: whether each has a name of its own, and each old text stands once
 """
 import glob
 import os
@@ -52,16 +53,38 @@ def pairs_of(text):
     return pairs
 
 
-def spread(crate, wanted, folder):
-    """Writes each meaning of a crate, or those that are wanted, as a file of its own to its copy's must-fail/. Returns how many."""
+def all_of(crate):
+    """The meanings that all edits of a crate turn, by their names."""
     texts = {}
     for edit in sorted(glob.glob(f"{TOP}/crates/{crate}/must-fail/*.edit")):
         for name, text in of(edit).items():
             if name in texts:
                 raise SystemExit(f"{crate}: two edits have the name {name}")
             texts[name] = text
+    return texts
+
+
+def are_named():
+    """Whether each edit has a name of its own and can be made by itself; says which can't."""
+    lost, count = [], 0
+    for crate in sorted(it.name for it in (TOP / "crates").iterdir()):
+        for name, text in all_of(crate).items():
+            count += 1
+            pairs = pairs_of(text)
+            made = {path: (TOP / "crates" / crate / path).read_text(encoding="utf-8") for path, _, _ in pairs}
+            for path, old, new in pairs:
+                lost += [f"{crate}/{name}: {old!r} stands {made[path].count(old)} times in {path}"] if made[path].count(old) != 1 else []
+                made[path] = made[path].replace(old, new)
+    print("\n".join(lost), end="\n" if lost else "")
+    print(f"{count} edits have a name of their own" if not lost else f"{len(lost)} of {count} edits cannot be made")
+    return not lost
+
+
+def spread(crate, wanted, folder):
+    """Writes each meaning of a crate, or those that are wanted, as a file of its own to its copy's must-fail/. Returns how many."""
+    texts = all_of(crate)
     names = wanted or list(texts)
-    shutil.rmtree(folder)
+    shutil.rmtree(folder, ignore_errors=True)
     os.makedirs(folder)
     for name in names:
         if name not in texts:
@@ -73,9 +96,13 @@ def spread(crate, wanted, folder):
 def main():
     if len(sys.argv) < 2:
         sys.exit(__doc__)
+    if sys.argv[1:] == ["--names"]:
+        return 0 if are_named() else 1
     asked = {}
     for crate, _, name in (it.partition("/") for it in sys.argv[1:]):
-        asked.setdefault(crate, []).extend([name] if name else [])
+        asked.setdefault(crate, []).append(name)
+    # (a crate's name by itself asks for all)
+    asked = {crate: [] if "" in names else names for crate, names in asked.items()}
     with tempfile.TemporaryDirectory(prefix="meanings-") as room:
         shutil.copytree(TOP / "crates", f"{room}/crates", ignore=shutil.ignore_patterns("out"))
         for name in ("crates.txt", "HANDLES"):

@@ -12,13 +12,14 @@ import re
 import socket
 import subprocess
 import sys
+import tempfile
 import threading
 from concurrent.futures import ThreadPoolExecutor
 
 sys.dont_write_bytecode = True
 from make_module import HEADER, I32, I64, MEMORY, NOTHING, Numbers, entry, module, section, unsigned, vector
 
-# the words of an action, the input, the length of its pieces (0: as it is read), and the input that holds nothing
+# the input of `build` that holds nothing
 EMPTY_TEXT = b"(module)"
 
 
@@ -55,12 +56,12 @@ def each(_):
     return True
 
 
-def elements(count, wide):
-    """Element segments of so many functions each."""
+def elements(count, wide, segments_of_it=0):
+    """Element segments of so many functions each: so many, or three and two."""
 
     def made(numbers):
         functions = section(3, vector([b"\x00"] * 100)) + section(4, vector([b"\x70\x00\x64"]))
-        segments = [b"\x00\x41\x00\x0b" + vector(indices(count, wide)(numbers)) for _ in range(3 if numbers.state == 1 else 2)]
+        segments = [b"\x00\x41\x00\x0b" + vector(indices(count, wide)(numbers)) for _ in range(segments_of_it or (3 if numbers.state == 1 else 2))]
         codes = section(10, vector([entry([], b"")] * 100))
         return HEADER + section(1, vector([NOTHING])) + functions + section(9, vector(segments)) + codes
 
@@ -119,14 +120,20 @@ def repeated(*parts):
 
 
 CHECK, CANON, BUILD = ["check"], ["canon"], ["build"]
-WITH_EXTENSION, WITH_FLOATS = ["check", "--profile", "2"], ["check", "--profile", "3"]
+WITH_EXTENSION, WITH_FLOATS, WITH_BOTH = (["check", "--profile", it] for it in "234")
+LOADED = ["canon", "--profile", "4"]
 LOCAL = [(1, I32), (1, I64)]
+# the words of an action, the input, and the length of its pieces (0: as wmod reads a file)
 ROWS = {
     "f32.reinterpret_i32 and back": (WITH_FLOATS, code(LOCAL, b"\x20\x00\xbe\xbc\x21\x00"), 0),
     "f64.convert_i32_s": (WITH_FLOATS, code(LOCAL, b"\x41\x01\xb7\x1a"), 0),
     "i32.trunc_f64_s": (WITH_FLOATS, code(LOCAL, b"\x44" + bytes(8) + b"\xaa\x1a"), 0),
     "i32.extend8_s": (WITH_EXTENSION, code(LOCAL, b"\x41\x01\xc0\x1a"), 0),
     "i64.extend32_s": (WITH_EXTENSION, code(LOCAL, b"\x42\x01\xc4\x1a"), 0),
+    "f32.reinterpret_i32 and back, profile 4": (WITH_BOTH, code(LOCAL, b"\x20\x00\xbe\xbc\x21\x00"), 0),
+    "i32.extend8_s, profile 4": (WITH_BOTH, code(LOCAL, b"\x41\x01\xc0\x1a"), 0),
+    "f32.reinterpret_i32 and back, written": (LOADED, code(LOCAL, b"\x20\x00\xbe\xbc\x21\x00"), 0),
+    "i32.extend8_s, written": (LOADED, code(LOCAL, b"\x41\x01\xc0\x1a"), 0),
     "memory.size": (CHECK, code(LOCAL, b"\x3f\x00\x1a", MEMORY), 0),
     "memory.grow": (CHECK, code(LOCAL, b"\x41\x01\x40\x00\x1a", MEMORY), 0),
     "empty bodies in pieces of one": (CHECK, bodies(b""), 1),
@@ -137,6 +144,7 @@ ROWS = {
     "labels behind a long one": (CHECK, labels(9_000, first), 0),
     "elements, one in a hundred long": (CHECK, elements(9_000, one_in_a_hundred), 0),
     "labels, one in a hundred long": (CHECK, labels(9_000, one_in_a_hundred), 0),
+    "elements of one segment alone": (CHECK, elements(7_900, first, 1), 0),
     "elements, all long": (CHECK, elements(9_000, each), 0),
     "elements, all long, in pieces of one": (CHECK, elements(3_000, each), 1),
     "elements in pieces of one": (CHECK, elements(3_000, lambda i: False), 1),
@@ -158,29 +166,35 @@ ROWS = {
 
 
 def fed(program, words, given, piece):
-    """What callgrind counts, and how the program ended and what it wrote. Pieces are packets of a socket: each is one read."""
-    command = ["valgrind", "--tool=callgrind", "--callgrind-out-file=/dev/null", program, *words]
-    here, there = socket.socketpair(socket.AF_UNIX, socket.SOCK_SEQPACKET if piece else socket.SOCK_STREAM)
-    with subprocess.Popen(command, stdin=there, stdout=subprocess.PIPE, stderr=subprocess.PIPE, env={"PATH": "/usr/bin:/bin"}) as ran:
-        there.close()
-        sender = threading.Thread(target=send, args=(here, given, piece))
-        sender.start()
-        written, told = ran.communicate()
-        sender.join()
+    """What callgrind counts, and how the program ended and what it wrote."""
+    with tempfile.TemporaryFile() as file:
+        file.write(given)
+        file.seek(0)
+        here, there = socket.socketpair(socket.AF_UNIX, socket.SOCK_SEQPACKET)
+        command = ["valgrind", "--tool=callgrind", "--callgrind-out-file=/dev/null", program, *words]
+        streams = {"stdin": there if piece else file, "stdout": subprocess.PIPE, "stderr": subprocess.PIPE}
+        with subprocess.Popen(command, env={"PATH": "/usr/bin:/bin"}, **streams) as ran:
+            there.close()
+            sender = threading.Thread(target=send, args=(here, given, piece))
+            sender.start()
+            written, told = ran.communicate()
+            sender.join()
     counted = re.search(rb"Collected : (\d+)", told)
     if not counted:
         sys.exit(told.decode())
-    return int(counted[1]), (ran.returncode, written)
+    # what valgrind itself says has its number before it
+    return int(counted[1]), (ran.returncode, written, re.sub(rb"(?m)^==\d+==.*\n", b"", told))
 
 
-def send(socket_of_it, given, piece):
-    try:
-        for at in range(0, len(given), piece or len(given)):
-            socket_of_it.sendall(given[at : at + (piece or len(given))])
-    except BrokenPipeError:
-        # (what is refused is not read to its end)
-        pass
-    socket_of_it.close()
+def send(here, given, piece):
+    """Sends pieces as packets, each of which is one read."""
+    with here:
+        try:
+            for at in range(0, len(given), piece) if piece else ():
+                here.sendall(given[at : at + piece])
+        except ConnectionError:
+            # (what is refused is not read to its end)
+            pass
 
 
 def counted(programs, name, seed):
