@@ -1,5 +1,6 @@
 #!/usr/bin/env python3
-"""Counts instructions of `wmod` of two built checkouts on inputs that a fast way may make dearer: `bench/dearer.py OLD NEW [WORD..]`.
+"""Counts instructions of `wmod` of two built checkouts on inputs that a fast way may make dearer: `bench/dearer.py OLD NEW [WORD..]`,
+and with `--shapes` as WORD on a megabyte of each shape of make_module.py, by each action.
 
 The inputs are those that once got dearer when others got quicker: ops without a fast way, pieces of one byte or two, lists
 of short indices behind a longer one, empty bodies, code that cannot be reached, texts of one kind of token, and texts that
@@ -17,7 +18,7 @@ import threading
 from concurrent.futures import ThreadPoolExecutor
 
 sys.dont_write_bytecode = True
-from make_module import HEADER, I32, I64, MEMORY, NOTHING, Numbers, entry, module, section, unsigned, vector
+from make_module import HEADER, I32, I64, MEMORY, NOTHING, SHAPES, WITH_FLOATS, Numbers, entry, make, module, section, unsigned, vector
 
 # the input of `build` that holds nothing
 EMPTY_TEXT = b"(module)"
@@ -120,18 +121,18 @@ def repeated(*parts):
 
 
 CHECK, CANON, BUILD = ["check"], ["canon"], ["build"]
-WITH_EXTENSION, WITH_FLOATS, WITH_BOTH = (["check", "--profile", it] for it in "234")
+UNDER_2, UNDER_3, UNDER_4 = (["check", "--profile", it] for it in "234")
 LOADED = ["canon", "--profile", "4"]
 LOCAL = [(1, I32), (1, I64)]
 # the words of an action, the input, and the length of its pieces (0: as wmod reads a file)
 ROWS = {
-    "f32.reinterpret_i32 and back": (WITH_FLOATS, code(LOCAL, b"\x20\x00\xbe\xbc\x21\x00"), 0),
-    "f64.convert_i32_s": (WITH_FLOATS, code(LOCAL, b"\x41\x01\xb7\x1a"), 0),
-    "i32.trunc_f64_s": (WITH_FLOATS, code(LOCAL, b"\x44" + bytes(8) + b"\xaa\x1a"), 0),
-    "i32.extend8_s": (WITH_EXTENSION, code(LOCAL, b"\x41\x01\xc0\x1a"), 0),
-    "i64.extend32_s": (WITH_EXTENSION, code(LOCAL, b"\x42\x01\xc4\x1a"), 0),
-    "f32.reinterpret_i32 and back, profile 4": (WITH_BOTH, code(LOCAL, b"\x20\x00\xbe\xbc\x21\x00"), 0),
-    "i32.extend8_s, profile 4": (WITH_BOTH, code(LOCAL, b"\x41\x01\xc0\x1a"), 0),
+    "f32.reinterpret_i32 and back": (UNDER_3, code(LOCAL, b"\x20\x00\xbe\xbc\x21\x00"), 0),
+    "f64.convert_i32_s": (UNDER_3, code(LOCAL, b"\x41\x01\xb7\x1a"), 0),
+    "i32.trunc_f64_s": (UNDER_3, code(LOCAL, b"\x44" + bytes(8) + b"\xaa\x1a"), 0),
+    "i32.extend8_s": (UNDER_2, code(LOCAL, b"\x41\x01\xc0\x1a"), 0),
+    "i64.extend32_s": (UNDER_2, code(LOCAL, b"\x42\x01\xc4\x1a"), 0),
+    "f32.reinterpret_i32 and back, profile 4": (UNDER_4, code(LOCAL, b"\x20\x00\xbe\xbc\x21\x00"), 0),
+    "i32.extend8_s, profile 4": (UNDER_4, code(LOCAL, b"\x41\x01\xc0\x1a"), 0),
     "f32.reinterpret_i32 and back, written": (LOADED, code(LOCAL, b"\x20\x00\xbe\xbc\x21\x00"), 0),
     "i32.extend8_s, written": (LOADED, code(LOCAL, b"\x41\x01\xc0\x1a"), 0),
     "memory.size": (CHECK, code(LOCAL, b"\x3f\x00\x1a", MEMORY), 0),
@@ -210,13 +211,42 @@ def counted(programs, name, seed):
     return counts
 
 
+def shapes():
+    """Each shape with its profile and a module of a megabyte; and two of ops that not every profile has."""
+    for shape in (it.__name__ for it in SHAPES):
+        yield shape, "3" if shape in WITH_FLOATS else "1", make(shape, 1)
+    yield "sign extensions", "2", module([NOTHING], [entry(LOCAL, b"\x20\x00\xc0\x21\x00\x20\x01\xc4\x21\x01" * 100_000)])
+    yield "conversions", "3", module([NOTHING], [entry(LOCAL, b"\x20\x00\xb7\xaa\x21\x00\x20\x01\xb4\xae\x21\x01" * 80_000)])
+
+
+def ratio(programs, words, given, nothing):
+    """NEW's instructions over OLD's, without those of an input that holds nothing."""
+    (old, told), (new, tells) = (fed(it, words, given, 0) for it in programs)
+    if told != tells:
+        sys.exit(f"{words}: the answers differ")
+    old, new = (count - fed(it, words, nothing, 0)[0] for it, count in zip(programs, (old, new)))
+    return f"{new / old:.2f}"
+
+
+def print_shapes(programs):
+    print("| Shape | `check` | `canon` | `show` | `build` |\n|---|---|---|---|---|", flush=True)
+    with ThreadPoolExecutor(4) as pool:
+        for shape, profile, given in shapes():
+            text = subprocess.run([programs[1], "show", "--profile", profile], input=given, stdout=subprocess.PIPE, check=True).stdout
+            inputs = [(it, given, HEADER) for it in ("check", "canon", "show")] + [("build", text, EMPTY_TEXT)]
+            found = pool.map(lambda it, profile=profile: ratio(programs, [it[0], "--profile", profile], *it[1:]), inputs)
+            print(f"| {shape} | {' | '.join(found)} |", flush=True)
+
+
 def main():
     if len(sys.argv) < 3:
         sys.exit(__doc__)
     programs = [pathlib.Path(top).resolve() / "crates/wm_cli/out/wm_cli" for top in sys.argv[1:3]]
+    if sys.argv[3:] == ["--shapes"]:
+        print_shapes(programs)
+        return
     names = [name for name in ROWS if not sys.argv[3:] or any(word in name for word in sys.argv[3:])]
-    print("| Input | OLD, million | NEW, million | NEW over OLD | another set |", flush=True)
-    print("|---|---|---|---|---|", flush=True)
+    print("| Input | OLD, million | NEW, million | NEW over OLD | another set |\n|---|---|---|---|---|", flush=True)
     with ThreadPoolExecutor(2) as pool:
         for name in names:
             one, two = pool.map(lambda seed, name=name: counted(programs, name, seed), (1, 2))
