@@ -2,6 +2,7 @@
 """That the runs can fail: growths.py and deep.py are given a stand-in for wmod and for wm_rows, and wm_rows and the tests of wm_cli
 stand on libraries, as they should be and then with one thing wrong. It takes a quarter of an hour."""
 import os
+import pathlib
 import re
 import shutil
 import subprocess
@@ -10,8 +11,8 @@ import tempfile
 
 sys.dont_write_bytecode = True
 import deep
+import edits
 import growths
-import meanings
 
 # answers `valid` to all, with one growth; a text is told `module`
 STAND_IN = """
@@ -112,11 +113,10 @@ def answers_with(room, edit):
 def make(crates, edit):
     """Makes an edit of one pair in this copy of the crates."""
     crate, name = edit.split("/")
-    [(path, old, new)] = meanings.pairs_of(meanings.named(f"{crates}/{crate}", name))
-    with open(f"{crates}/{crate}/{path}", encoding="utf-8") as it:
-        text = it.read()
-    with open(f"{crates}/{crate}/{path}", "w", encoding="utf-8") as it:
-        it.write(text.replace(old, new))
+    folder = pathlib.Path(crates, crate)
+    [(path, old, new)] = edits.pairs_of(edits.edits_of(folder)[name])
+    text = (folder / path).read_text(encoding="utf-8")
+    (folder / path).write_text(text.replace(old, new), encoding="utf-8")
 
 
 def main():
