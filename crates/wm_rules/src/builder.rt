@@ -391,7 +391,8 @@ impl Builder {
     }
 
     fn add_locals(&mut self, count: u32, ty: ValType) -> Result<(), Why>
-        ensures { Taken (locals_taken count ty (built self.old) (built self.old).code) result (built self.new) }
+        ensures { Taken (locals_taken count ty (built self.old) (built self.old).code) result
+            (built self.new) }
     {
         match &mut self.locals {
             None => Err(Why::Index),
@@ -411,7 +412,7 @@ impl Builder {
         self.take_any_op(op)
     }
 
-    // The same of any op.
+    // The same of any op. An end is looked at first: where no list is open inside the body, it ends that.
     #[inline(never)]
     fn take_any_op(&mut self, op: &Op) -> Result<(), Why>
         ensures { Taken (op_taken op.now (built self.old) (built self.old).code) result (built self.new) }
@@ -419,28 +420,29 @@ impl Builder {
         if self.locals.is_none() {
             return Err(Why::Index);
         }
+        if let Op::End = op {
+            if let Ok(body) = self.body.take_body(self.alloc) {
+                return self.end_body(body);
+            }
+        }
         match self.body.push(*op) {
             Ok(()) => Ok(()),
             Err(BodyFault::Memory) => Err(Why::Memory),
-            Err(BodyFault::Unbalanced) => self.end_body(*op),
+            Err(BodyFault::Unbalanced) => {
+                // what this body took of memory goes with it
+                self.locals = None;
+                self.body = BodyBuilder::new(self.alloc);
+                Err(Why::ElsePlace)
+            }
         }
     }
 
-    // An end that closes no list inside the body ends it.
-    #[inline(never)]
-    fn end_body(&mut self, op: Op) -> Result<(), Why>
-        ensures { Taken (body_ended op (built self.old) (built self.old).code) result (built self.new) }
+    // The code entry at hand has this body.
+    fn end_body(&mut self, body: Body) -> Result<(), Why>
+        ensures { Taken (body_ended body (built self.old) (built self.old).code) result (built self.new) }
     {
         let Some(locals) = self.locals.take() else {
             return Err(Why::Index);
-        };
-        if op != Op::End {
-            self.body = BodyBuilder::new(self.alloc);
-            return Err(Why::ElsePlace);
-        }
-        let Ok(body) = self.body.take_body(self.alloc) else {
-            self.body = BodyBuilder::new(self.alloc);
-            return Err(Why::ElsePlace);
         };
         let next = self.module_value.functions.len();
         let type_index = self.indices.get(next).copied().unwrap_or(0);

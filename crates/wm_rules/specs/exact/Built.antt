@@ -17,6 +17,7 @@ use Rattle.wm_syntax.specs.declared.why.Why.TheVariants as why
 use Rattle.wm_syntax.specs.Types.{Signature}
 use Rattle.wm_syntax.specs.Modules.{Module, Import, Function, GlobalDef, Export, Element, Segment}
 use Rattle.wm_syntax.specs.Modules as modules
+use Rattle.wm_syntax.specs.Instructions.{Instructions}
 use Rattle.wm_syntax.specs.inner.Building.{Place, at, labels, placed}
 use Rattle.wm_syntax.specs.inner.Building as building
 use Rattle.wm_rules.specs.declared.builder.Purpose.{Purpose}
@@ -143,9 +144,9 @@ locals_taken n t h None = Err why.Index
 locals_taken n t h (Some c) =
     and_then (add_run n t c.locals) (λ ts. Ok (record h { code = Some (record c { locals = ts }) }))
 
--- an end that closes no list inside the body ends it
-abbrev pub code_ended : Built → Code → Place → Result Built Why
-code_ended h c (at [] s) =
+-- the code entry at hand has this body
+abbrev pub completed : Instructions → Built → Code → Result Built Why
+completed s h c =
     Ok (record h {
       value = record h.value {
         functions = h.value.functions ++ record {
@@ -156,17 +157,21 @@ code_ended h c (at [] s) =
       };
       code = None;
     })
+
+abbrev pub body_ended : Instructions → Built → Option Code → Result Built Why
+body_ended s h None = Err why.Index
+body_ended s h (Some c) = completed s h c
+
+-- an end that closes no list inside the body ends it
+abbrev pub code_ended : Built → Code → Place → Result Built Why
+code_ended h c (at [] s) = completed s h c
 code_ended h c (at (o ∷ outer) s) = Err why.ElsePlace
 code_ended h c (labels outer s seen n) = Err why.ElsePlace
 
+-- of the code entry at hand, an op that can't stand inside of its body
 abbrev pub not_placed : Op → Built → Code → Result Built Why
 not_placed op.End h c = code_ended h c c.body
 not_placed _ h c = Err why.ElsePlace
-
--- of the code entry at hand, an op that can't stand inside of its body
-abbrev pub body_ended : Op → Built → Option Code → Result Built Why
-body_ended o h None = Err why.Index
-body_ended o h (Some c) = not_placed o h c
 
 abbrev pub if_it_stands : Op → Built → Code → Option Place → Result Built Why
 if_it_stands o h c (Some p) = Ok (record h { code = Some (record c { body = p }) })

@@ -14,8 +14,8 @@ use crate::modules::body::Body;
 use crate::modules::sized_ops::{MOST_KEPT, SizedOps};
 use std::alloc::Global;
 use std::error::Error;
+use std::fmt;
 use std::marker::Model;
-use std::{fmt, mem};
 
 #[cfg(test)]
 mod tests;
@@ -156,8 +156,8 @@ fn push_op(
     }
 }
 
-// An instruction that holds no list, outside of a br_table, where there is room for it. The op is lent: a copy
-// would go through memory.
+// An instruction that holds no list, outside of a br_table, where there is room for it. The op is lent: a
+// copy would go through memory.
 #[inline(always)]
 fn push_near(ops: &mut SizedOps, left: u64, op: &Op) -> bool
     ensures ops { result ≡ true → ops.new ≡ next_ops op.now ops.old }
@@ -218,6 +218,21 @@ fn push_any(
     }
 }
 
+// Takes all ops out, where no list is open; what they took of memory may serve for the next ones. Out of
+// line, so that where lists are open a caller finds it in place.
+#[inline(never)]
+fn take_all(ops: &mut SizedOps, begun: &mut Vec<Opened>, alloc: Global) -> SizedOps
+    requires { begun.old.items ≡ [] }
+    ensures taken { result ≡ ops.old }
+    ensures left { ops.new ≡ [] }
+    ensures begun { begun.new.items ≡ [] }
+{
+    if begun.capacity() > MOST_KEPT {
+        *begun = Vec::new(alloc);
+    }
+    ops.take(alloc)
+}
+
 /// Builds a body op by op. Contracts see where the ops so far stand; the laws `ops_lead_to_their_body` and
 /// `ops_lead_on` say which ops lead where.
 #[derive(Debug, Drop)]
@@ -275,8 +290,8 @@ impl BodyBuilder {
         push_op(&mut self.ops, &mut self.begun, &mut self.left, op)
     }
 
-    /// The same of an instruction that holds no list, lent, where no label of a br_table is to come and no memory
-    /// has to be asked for. Else it is false, and nothing changes.
+    /// The same of an instruction that holds no list, lent, where no label of a br_table is to come and no
+    /// memory has to be asked for. Else it is false, and nothing changes.
     #[inline(always)]
     pub fn push_near(&mut self, op: &Op) -> bool
         ensures taken { result ≡ true → placed self.old op.now ≡ Some self.new }
@@ -299,8 +314,9 @@ impl BodyBuilder {
         Ok(Body::from_ops(ops))
     }
 
-    /// The same, and from then on there are no ops; what they took of memory may serve for the next body. Where lists
-    /// are open or labels are to come nothing changes.
+    /// The same, and from then on there are no ops; what they took of memory may serve for the next body.
+    /// Where lists are open or labels are to come nothing changes.
+    #[inline(always)]
     pub fn take_body(&mut self, alloc: Global) -> Result<Body, BodyFault>
         ensures ok { IfOk result (λ body. (self.old ≡ at [] body) × (self.new ≡ start)) }
         ensures err { IfErr result (λ fault. (fault ≡ BodyFault.Unbalanced) × (self.new ≡ self.old)
@@ -310,10 +326,6 @@ impl BodyBuilder {
         if !all_ended {
             return Err(BodyFault::Unbalanced);
         }
-        if self.begun.capacity() > MOST_KEPT {
-            self.begun = Vec::new(alloc);
-        }
-        let ops = self.ops.take(alloc);
-        Ok(Body::from_ops(ops))
+        Ok(Body::from_ops(take_all(&mut self.ops, &mut self.begun, alloc)))
     }
 }
