@@ -14,10 +14,11 @@ use crate::shortcuts::whole_numbers::{Whole, u32_at};
 use crate::sink::Sink;
 use wm_syntax::profile::Profile;
 
-// After so many indices that have one byte each the loop over those of any length ends: the decoder's next turn takes
-// more of them, with fewer instructions each. A turn costs what some eight of them save. Only after each so many it is
-// looked at how long they were, so that longer ones stay as quick.
-const MANY_SHORT: u32 = 16;
+// After so many indices that have one byte each the loop over those of any length ends: the decoder's next
+// turn takes more of them, with fewer instructions each. A turn costs what all of these save. Only once in so
+// many it is looked at how long they were, so that longer ones stay as quick; for the first time behind the
+// first one, since a long one is what brings the decoder here.
+const MANY_SHORT: u32 = 8;
 
 // The index at a place, where it lies in the first so many bytes
 #[inline(always)]
@@ -92,7 +93,7 @@ pub(crate) fn whole_indices<S: Sink>(
     // where the last so many begin
     let mut from = 0;
     while count < followed {
-        if count % MANY_SHORT == 0 {
+        if count % MANY_SHORT == 1 {
             if used.wrapping_sub(from) == MANY_SHORT as usize {
                 break;
             }
