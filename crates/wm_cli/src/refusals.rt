@@ -1,5 +1,5 @@
-//! The table of refusals, a line for each: the NAME, what it means, the standard's section, a smallest input and
-//! what to do. Both tables of `docs/REFUSALS.md` have these lines as their rows.
+//! The table of refusals, a line for each: the NAME, what it means, the standard's section, a smallest input
+//! and what to do. Both tables of `docs/REFUSALS.md` have these lines as their rows.
 
 /// Refusals of a module.
 pub const OF_MODULES: &str = "\

@@ -292,8 +292,8 @@ fn in_header(at: u8, byte: u8) -> (Machine, Event)
     }
 }
 
-// A shorter way for bytes of the frame of a section: its id, its size and its count. They complete nothing. What is
-// rare and what is refused is left to `step`.
+// A shorter way for bytes of the frame of a section: its id, its size and its count. They complete nothing.
+// What is rare and what is refused is left to `step`.
 
 /// The kind of section that this id begins.
 #[inline(always)]
@@ -457,7 +457,8 @@ pub(crate) fn frame_byte(machine: &mut Machine, byte: u8) -> bool
     }
 }
 
-/// Takes one more byte, and says what it completes. The machine stays in its place: to hand it back is a copy more.
+/// Takes one more byte, and says what it completes. The machine stays in its place: to hand it back is a copy
+/// more.
 #[inline(never)]
 pub(crate) fn step(profile: Profile, machine: &mut Machine, byte: u8) -> Event
     ensures { (machine.new, result) ≡ step_of profile machine.old byte }

@@ -147,8 +147,8 @@ impl Operands {
         }
     }
 
-    /// Puts this float on top where the current word has a place for its kind, and the first word of widths for its
-    /// bit.
+    /// Puts this float on top where the current word has a place for its kind, and the first word of widths
+    /// for its bit.
     #[inline(always)]
     pub fn push_float_near(&mut self, float: Entry) -> bool
         ensures pushed { result ≡ true → self.new ≡ record {
@@ -223,8 +223,8 @@ impl Operands {
         }
     }
 
-    /// Whether a look at one word and one bit shows that this float is the top operand, above the floor: only in the
-    /// first word of widths, so that nothing is called.
+    /// Whether a look at one word and one bit shows that this float is the top operand, above the floor: only
+    /// in the first word of widths, so that nothing is called.
     #[inline(always)]
     pub fn has_float_near(&self, float: Entry) -> bool
         ensures { result ≡ true → (es : List Entry) × (self.now.entries ≡ float ∷ es)

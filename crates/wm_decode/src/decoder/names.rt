@@ -102,8 +102,8 @@ pub(crate) fn give<S: Sink>(sink: &mut S, part: Plain) -> Result<(), Why>
     sink.take(part.item())
 }
 
-// Items that come many at once: each by a function of its own. In the one above the item is not known before it
-// is inlined, so that for a sink with much code it stays out of line, and the item lies in memory.
+// Items that come many at once: each by a function of its own. In the one above the item is not known before
+// it is inlined, so that for a sink with much code it stays out of line, and the item lies in memory.
 
 #[inline(always)]
 pub(crate) fn give_new_type<S: Sink>(sink: &mut S) -> Result<(), Why>
@@ -204,7 +204,8 @@ pub(crate) fn give_end<S: Sink>(sink: &mut S) -> Result<(), Why>
 #[inline(never)]
 pub(crate) fn give_index<S: Sink>(sink: &mut S, list: IndexList, index: u32) -> Result<(), Why>
     ensures given { Taken (S.after (S.held sink.old) (index_item_in list index)) result (S.held sink.new) }
-    ensures room { IfErr result (λ w. w ≡ Memory → S.may_run_out (S.held sink.old) (index_item_in list index)) }
+    ensures room { IfErr result (λ w. w ≡ Memory
+        → S.may_run_out (S.held sink.old) (index_item_in list index)) }
 {
     match list {
         IndexList::Types => sink.take(Item::Func(index)),
@@ -213,8 +214,8 @@ pub(crate) fn give_index<S: Sink>(sink: &mut S, list: IndexList, index: u32) -> 
     }
 }
 
-// The same of one that is short, inline: with a second caller, as `give_index` would be, it would not stand in the loop
-// over indices of one byte each.
+// The same of one that is short, inline: with a second caller, as `give_index` would be, it would not stand
+// in the loop over indices of one byte each.
 #[inline(always)]
 pub(crate) fn give_short_index<S: Sink>(
     sink: &mut S,
@@ -222,7 +223,8 @@ pub(crate) fn give_short_index<S: Sink>(
     short: u32,
 ) -> Result<(), Why>
     ensures given { Taken (S.after (S.held sink.old) (index_item_in list short)) result (S.held sink.new) }
-    ensures room { IfErr result (λ w. w ≡ Memory → S.may_run_out (S.held sink.old) (index_item_in list short)) }
+    ensures room { IfErr result (λ w. w ≡ Memory
+        → S.may_run_out (S.held sink.old) (index_item_in list short)) }
 {
     match list {
         IndexList::Types => sink.take(Item::Func(short)),

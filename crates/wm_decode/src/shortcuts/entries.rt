@@ -13,7 +13,8 @@ use crate::sink::Sink;
 use crate::step::framed;
 use wm_syntax::profile::Profile;
 
-// Takes the last `end` of an entry, whatever comes after it. With it the section may be over, or the machine refuse.
+// Takes the last `end` of an entry, whatever comes after it. With it the section may be over, or the machine
+// refuse.
 #[inline(never)]
 #[tactic(auto, using(crate::proofs::Advances::advances_none))]
 fn final_end<S: Sink>(

@@ -125,7 +125,8 @@ pub(crate) fn binary_f64(byte: u8) -> FloatBinaryOp
 pub(crate) fn truncates_32(byte: u8) -> Conversion
     requires from { 0xA8 ≤ byte }
     requires to { byte ≤ 0xAB }
-    ensures { slice_get classes byte ≡ Some (OpClass.Plain (Op.Simple (Simple.Numeric (Numeric.Convert result)))) }
+    ensures { slice_get classes byte
+        ≡ Some (OpClass.Plain (Op.Simple (Simple.Numeric (Numeric.Convert result)))) }
 {
     match byte {
         0xA8 => Conversion::I32TruncF32S,
@@ -140,7 +141,8 @@ pub(crate) fn truncates_32(byte: u8) -> Conversion
 pub(crate) fn converts(byte: u8) -> Conversion
     requires from { 0xAE ≤ byte }
     requires to { byte ≤ 0xBF }
-    ensures { slice_get classes byte ≡ Some (OpClass.Plain (Op.Simple (Simple.Numeric (Numeric.Convert result)))) }
+    ensures { slice_get classes byte
+        ≡ Some (OpClass.Plain (Op.Simple (Simple.Numeric (Numeric.Convert result)))) }
 {
     match byte {
         0xAE => Conversion::I64TruncF32S,
@@ -169,7 +171,8 @@ pub(crate) fn converts(byte: u8) -> Conversion
 pub(crate) fn sign_extends(byte: u8) -> SignExtension
     requires from { 0xC0 ≤ byte }
     requires to { byte ≤ 0xC4 }
-    ensures { slice_get classes byte ≡ Some (OpClass.Plain (Op.Simple (Simple.Numeric (Numeric.SignExtend result)))) }
+    ensures { slice_get classes byte
+        ≡ Some (OpClass.Plain (Op.Simple (Simple.Numeric (Numeric.SignExtend result)))) }
 {
     match byte {
         0xC0 => SignExtension::I32From8,

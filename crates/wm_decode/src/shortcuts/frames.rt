@@ -1,8 +1,9 @@
-//! The header (section 5.5.15) and the frames of sections, which are ids, sizes and counts (section 5.5.2), one
-//! after another.
+//! The header (section 5.5.15) and the frames of sections, which are ids, sizes and counts (section 5.5.2),
+//! one after another.
 //!
-//! Their bytes complete nothing. Left to the byte step are custom sections, counts of several bytes, what is
-//! refused, and a header that no id of another section follows in the piece.
+//! Their bytes complete nothing. Left to the byte step are custom sections, counts of several bytes, the last
+//! byte of a start section's size, what is refused, and a header that no id of another section follows in the
+//! piece.
 
 ghost use Rattle.std.specs.Prelude.{◌≡◌, ◌<◌, ◌≤◌, IfSome, false, length, slice_index, true, ℕ};
 ghost use Rattle.wm_syntax.specs.exact.Reading.{fresh};
@@ -18,7 +19,8 @@ use crate::step::{begun, count_end, frame_byte, size_end, size_more};
 use wm_syntax::numbers::Num32;
 use wm_syntax::profile::Profile;
 
-/// How many bytes come before the count of a section's members, and how many of the section after its first byte.
+/// How many bytes come before the count of a section's members, and how many of the section after its first
+/// byte.
 #[derive(Clone, Copy)]
 struct Sized {
     next: usize,
@@ -50,8 +52,8 @@ fn short_size<S: Sink>(
     Some(Sized { next: 3, more })
 }
 
-// Takes the id, the size and the count of a section, where the size has one byte or two and the count has one,
-// and says how many bytes they are
+// Takes the id, the size and the count of a section, where the size has one byte or two and the count has
+// one, and says how many bytes they are
 #[inline(always)]
 #[tactic(auto, using(crate::proofs::FrameBytes::frames_none))]
 fn section_begin<S: Sink>(machine: &mut Machine, profile: Profile, bytes: &[u8]) -> usize

@@ -307,8 +307,8 @@ fn last_result<S: Sink>(
     }
 }
 
-// Takes the results of a type, at most one, whatever comes after it. With them the section may be over, or the machine
-// refuse.
+// Takes the results of a type, at most one, whatever comes after it. With them the section may be over, or
+// the machine refuse.
 #[inline(never)]
 #[tactic(auto, using(crate::proofs::Advances::advances_none))]
 fn last_results<S: Sink>(

@@ -1,5 +1,5 @@
-//! A shortcut for tables and memories (sections 5.5.7 and 5.5.8): each is limits (section 5.3.4), those of a table
-//! behind the type of its elements.
+//! A shortcut for tables and memories (sections 5.5.7 and 5.5.8): each is limits (section 5.3.4), those of a
+//! table behind the type of its elements.
 //!
 //! What the piece cuts, and what is refused for its bytes, are left to the byte step.
 

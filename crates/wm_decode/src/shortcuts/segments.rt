@@ -1,5 +1,5 @@
-//! A shortcut for the head of an element segment or a data segment (sections 5.5.12 and 5.5.14): its index, its
-//! offset, and its count of functions or its length.
+//! A shortcut for the head of an element segment or a data segment (sections 5.5.12 and 5.5.14): its index,
+//! its offset, and its count of functions or its length.
 //!
 //! What is refused for its bytes is left to the byte step.
 

@@ -2,12 +2,14 @@
 //!
 //! What is rare, and all that is refused for its bytes, is left to the byte step.
 
-ghost use Rattle.std.specs.Prelude.{◌≡◌, ◌+◌, ◌<◌, ◌≤◌, ◌^◌, ℕ, IfSome, Some, length, slice_get, slice_index, true};
+ghost use Rattle.std.specs.Prelude.{◌≡◌, ◌+◌, ◌<◌, ◌≤◌, ◌^◌, ℕ, IfSome, Some, length, slice_get};
+ghost use Rattle.std.specs.Prelude.{slice_index, true};
 ghost use Rattle.wm_syntax.specs.Profiles.{has};
 ghost use Rattle.wm_syntax.specs.exact.ByteTable.{class_feature, class_under, classes};
 ghost use Rattle.wm_syntax.specs.exact.Reading.{fresh};
 ghost use Rattle.wm_decode.specs.declared.step.reading.Reading.TheVariants.{More, Done};
-ghost use Rattle.wm_decode.specs.declared.step.ops.InOp.TheVariants.{BlockType, CallType, Const32, Const64, Memory};
+ghost use Rattle.wm_decode.specs.declared.step.ops.InOp.TheVariants.{BlockType, CallType, Const32};
+ghost use Rattle.wm_decode.specs.declared.step.ops.InOp.TheVariants.{Const64, Memory};
 ghost use Rattle.wm_decode.specs.exact.OpSteps.{fresh_access, fresh_index, immediates, index_op};
 ghost use Rattle.wm_decode.specs.exact.ExpressionSteps.{after_op, at_next_op};
 ghost use Rattle.wm_decode.specs.exact.WholeOps.{GaveAs, OpUnder, RanTo, TookAs, WholeOp, first_read};
@@ -560,7 +562,8 @@ fn float_load(profile: Profile, bytes: &[u8], at: usize, depth: u32, op: LoadOp)
 #[inline(always)]
 fn float_store(profile: Profile, bytes: &[u8], at: usize, depth: u32, op: StoreOp) -> Option<Read>
     requires within { at + 1 < length bytes.now }
-    requires class { slice_get classes (slice_index bytes.now at) ≡ Some (OpClass.With (Immediates.Store op)) }
+    requires class { slice_get classes (slice_index bytes.now at)
+        ≡ Some (OpClass.With (Immediates.Store op)) }
     requires feature { class_feature (OpClass.With (Immediates.Store op)) ≡ Feature.Floats }
     requires floats { has profile Feature.Floats ≡ true }
     ensures { IfSome result (λ r. OpUnder profile bytes.now at r.next depth r.depth r.op) }

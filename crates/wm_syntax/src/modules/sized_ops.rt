@@ -10,8 +10,8 @@ use std::alloc::{AllocError, Global};
 use std::marker::Model;
 use std::{fmt, mem};
 
-// A list that is full gets room for so many ops more, or for twice as many as it has: most bodies then grow two or
-// three times.
+// A list that is full gets room for so many ops more, or for twice as many as it has: most bodies then grow
+// two or three times.
 const FEW: usize = 64;
 
 /// A list that has room for at most so many ops stays when these are taken, and serves for the next ones.
@@ -110,8 +110,9 @@ impl SizedOps {
         self.ops[last] = Op::End;
     }
 
-    /// Takes all ops out. From a short list they are copied once into memory that they fill, and the list stays. A
-    /// longer one, even where few ops stand in it, is taken itself, and so is one where that memory is refused.
+    /// Takes all ops out. From a short list they are copied once into memory that they fill, and the list
+    /// stays. A longer one, even where few ops stand in it, is taken itself, and so is one where that memory
+    /// is refused.
     pub(crate) fn take(&mut self, alloc: Global) -> Self
         ensures taken { result ≡ self.old }
         ensures left { self.new ≡ [] }
