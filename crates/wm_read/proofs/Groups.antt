@@ -1,6 +1,6 @@
 -- Type uses as the code reads them: value types, groups of them, and their comparison with a type's.
 use Rattle.std.proofs.Common.{◌≡◌, ℕ, zero, suc, ◌<◌, Bool, true, false, cond, List, [], ◌∷◌, ◌++◌, ◌↔◌, length, Option, Some, None, refl, sym, ap, subst, ◌∙◌, arith, append_assoc, length-append}
-use Rattle.std.specs.Prelude.{codes, slice_get}
+use Rattle.std.specs.Prelude.{codes, flat_map, slice_get}
 use Rattle.std.proofs.lemmas.Bool.{cond-true, cond-false, false_from_ne_true}
 use Rattle.std.proofs.lemmas.List.{append-nil}
 use Rattle.wm_syntax.specs.Spelling.{Form}
@@ -76,71 +76,96 @@ many_is {X} goes r P p some (suc m) (suc n) k h g = ap (λ (z : Option (List X �
         ap (λ (z : Option (List X × List Token)). z >>= λ xs. Some (x.0 ∷ xs.0, xs.1))
         (again x.1 (omega (arith, size, length-append one.0 x.1, s, h)) (omega (arith, size, length-append one.0 x.1, s, g)))
 
+-- groups of any members: what a loop gathers of them, after what there is
+module _ {M : Type 0} where
+  abbrev Adding : List M → Option (List M × List Token) → Option (List M × List Token)
+  Adding front read = made (λ xs. front ++ xs) read
+
+  abbrev Together : List (List M) → List M
+  Together gs = flat_map (λ g. g) gs
+
+  abbrev Gathered : List M → Option (List (List M) × List Token) → Option (List M × List Token)
+  Gathered front read = made (λ gs. front ++ Together gs) read
+
+  gather : (front xs : List M) (o : Option (List (List M) × List Token)) → Gathered front (o >>= λ gs. Some (xs ∷ gs.0, gs.1)) ≡ Gathered (front ++ xs) o
+  gather front xs None = refl
+  gather front xs (Some x) = ap (λ (z : List M). Some (z, x.1)) (sym (append_assoc front xs (Together x.0)))
+
+  -- what a group that was added to a list was
+  group_was : (front new : List M) (o : Option (List M × List Token)) (k : List Token) → Adding front o ≡ Some (new, k) → (xs : List M) × (o ≡ Some (xs, k)) × (new ≡ front ++ xs)
+  group_was front new None k e = absurd (let f : ◌≡◌ {A = Option (List M × List Token)} None (Some (new, k)) = e in cc)
+  group_was front new (Some x) k e =
+      let p = same_some (front ++ x.0, x.1) (new, k) e in
+      (x.0, ap (λ (z : List M × List Token). Some (x.0, z.1)) p, ap (λ (z : List M × List Token). z.0) (sym p))
+
+  group_not : (front : List M) (o : Option (List M × List Token)) → Adding front o ≡ None → o ≡ None
+  group_not front None e = refl
+  group_not front (Some x) e = absurd (let f : ◌≡◌ {A = Option (List M × List Token)} (Some (front ++ x.0, x.1)) None = e in cc)
+
+module _ {M : Type 0} (word : List ℕ) (r : Reader (List M)) (P : List M → Form Token) (sound : Sound (paren_at word r) P) (some : (x : List M) (front : List Token) → P x front → 0 < length front) where
+  abbrev AllGroups : Reader (List (List M))
+  AllGroups k = many_at (suc (length k)) (begins_group word) (paren_at word r) k
+
+  step : (k : List Token) → begins_group word k ≡ true → AllGroups k ≡ (paren_at word r k >>= λ x. AllGroups x.1 >>= λ xs. Some (x.0 ∷ xs.0, xs.1))
+  step k b = cond-true (begins_group word k) _ _ b ∙ by (paren_at word r k) refl
+    where
+      by : (o : Option (List M × List Token)) → paren_at word r k ≡ o
+          → ◌>>=◌ {B = List (List M) × List Token} o (λ x. many_at (length k) (begins_group word) (paren_at word r) x.1 >>= λ xs. Some (x.0 ∷ xs.0, xs.1))
+          ≡ ◌>>=◌ {B = List (List M) × List Token} o (λ x. AllGroups x.1 >>= λ xs. Some (x.0 ∷ xs.0, xs.1))
+      by None e = refl
+      by (Some x) e =
+          let one = sound k x.0 x.1 e in
+          let size : length k ≡ length (one.0 ++ x.1) = ap length one.1 in
+          let s = some x.0 one.0 one.2 in
+          ap (λ (z : Option (List (List M) × List Token)). z >>= λ xs. Some (x.0 ∷ xs.0, xs.1))
+          (many_is (begins_group word) (paren_at word r) P sound some (length k) (suc (length x.1)) x.1 (omega (arith, size, length-append one.0 x.1, s)) (omega arith))
+
+  pub groups_on : (front new : List M) (j k : List Token) → true ≡ begins_group word j → Adding front (paren_at word r j) ≡ Some (new, k) → Gathered front (AllGroups j) ≡ Gathered new (AllGroups k)
+  groups_on front new j k b e =
+      let g = group_was front new (paren_at word r j) k e in
+      ap (Gathered front) (step j (sym b) ∙ bind_is (paren_at word r j) _ (g.0, k) g.1) ∙ gather front g.0 (AllGroups k)
+      ∙ ap (λ (z : List M). Gathered z (AllGroups k)) (sym g.2)
+
+  pub groups_out : (front : List M) (j : List Token) → true ≡ begins_group word j → Adding front (paren_at word r j) ≡ None → Gathered front (AllGroups j) ≡ None
+  groups_out front j b e =
+      ap (Gathered front) (step j (sym b) ∙ ap (λ (o : Option (List M × List Token)). o >>= λ x. AllGroups x.1 >>= λ xs. Some (x.0 ∷ xs.0, xs.1)) (group_not front (paren_at word r j) e))
+
+  pub groups_done : (front : List M) (j : List Token) → false ≡ begins_group word j → Gathered front (AllGroups j) ≡ Some (front, j)
+  groups_done front j b = ap (Gathered front) (cond-false (begins_group word j) _ _ (sym b)) ∙ ap (λ (z : List M). Some (z, j)) (append-nil front)
+
+  pub rest_shorter : (front new : List M) (j k : List Token) → Adding front (paren_at word r j) ≡ Some (new, k) → length k < length j
+  rest_shorter front new j k e =
+      let g = group_was front new (paren_at word r j) k e in
+      let one = sound j g.0 k g.1 in
+      let size : length j ≡ length (one.0 ++ k) = ap length one.1 in
+      omega (arith, size, length-append one.0 k, some g.0 one.0 one.2)
+
+-- those of value types
 group_size : (pr : Profile) (word : List ℕ) (ts : List ValType) (front : List Token) → OfUnnamed pr word ts front → 0 < length front
 group_size pr word ts front h = (group_begins pr word ts front [] h).1
 
-groups_step : (pr : Profile) (word : List ℕ) (k : List Token) → begins_group word k ≡ true
-    → groups_at pr word k ≡ (paren_at word (types_at pr) k >>= λ x. groups_at pr word x.1 >>= λ xs. Some (x.0 ∷ xs.0, xs.1))
-unfolding groups_at
-groups_step pr word k b = cond-true (begins_group word k) _ _ b ∙ by (paren_at word (types_at pr) k) refl
-  where
-    by : (o : Option (List ValType × List Token)) → paren_at word (types_at pr) k ≡ o
-        → ◌>>=◌ {B = List (List ValType) × List Token} o (λ x. many_at (length k) (begins_group word) (paren_at word (types_at pr)) x.1 >>= λ xs. Some (x.0 ∷ xs.0, xs.1))
-        ≡ ◌>>=◌ {B = List (List ValType) × List Token} o (λ x. groups_at pr word x.1 >>= λ xs. Some (x.0 ∷ xs.0, xs.1))
-    by None e = refl
-    by (Some x) e =
-        let one = group_sound pr word k x.0 x.1 e in
-        let size : length k ≡ length (one.0 ++ x.1) = ap length one.1 in
-        let s = group_size pr word x.0 one.0 one.2 in
-        ap (λ (z : Option (List (List ValType) × List Token)). z >>= λ xs. Some (x.0 ∷ xs.0, xs.1))
-        (many_is (begins_group word) (paren_at word (types_at pr)) (OfUnnamed pr word) (group_sound pr word) (group_size pr word) (length k) (suc (length x.1)) x.1
-        (omega (arith, size, length-append one.0 x.1, s)) (omega arith))
-
--- the value types of these groups after those that there are
 abbrev pub after_groups : List ValType → Option (List (List ValType) × List Token) → Option (List ValType × List Token)
 after_groups front read = made (λ gs. front ++ joined gs) read
 
-gather : (front ts : List ValType) (o : Option (List (List ValType) × List Token)) → after_groups front (o >>= λ xs. Some (ts ∷ xs.0, xs.1)) ≡ after_groups (front ++ ts) o
-gather front ts None = refl
-gather front ts (Some x) = ap (λ (z : List ValType). Some (z, x.1)) (sym (append_assoc front ts (joined x.0)))
-
--- what a group that was added to a list was
-group_was : (front new : List ValType) (o : Option (List ValType × List Token)) (k : List Token) → adding front o ≡ Some (new, k) → (ts : List ValType) × (o ≡ Some (ts, k)) × (new ≡ front ++ ts)
-group_was front new None k e = absurd (let f : ◌≡◌ {A = Option (List ValType × List Token)} None (Some (new, k)) = e in cc)
-group_was front new (Some x) k e =
-    let p = same_some (front ++ x.0, x.1) (new, k) e in
-    (x.0, ap (λ (z : List ValType × List Token). Some (x.0, z.1)) p, ap (λ (z : List ValType × List Token). z.0) (sym p))
-
-group_not : (front : List ValType) (o : Option (List ValType × List Token)) → adding front o ≡ None → o ≡ None
-group_not front None e = refl
-group_not front (Some x) e = absurd (let f : ◌≡◌ {A = Option (List ValType × List Token)} (Some (front ++ x.0, x.1)) None = e in cc)
-
 pub groups_more : (pr : Profile) (word : List ℕ) (front new : List ValType) (j k : List Token) → true ≡ begins_group word j → adding front (paren_at word (types_at pr) j) ≡ Some (new, k)
     → after_groups front (groups_at pr word j) ≡ after_groups new (groups_at pr word k)
-groups_more pr word front new j k b e =
-    let g = group_was front new (paren_at word (types_at pr) j) k e in
-    ap (after_groups front) (groups_step pr word j (sym b) ∙ bind_is (paren_at word (types_at pr) j) _ (g.0, k) g.1) ∙ gather front g.0 (groups_at pr word k)
-    ∙ ap (λ (z : List ValType). after_groups z (groups_at pr word k)) (sym g.2)
+unfolding groups_at
+groups_more pr word front new j k b e = groups_on word (types_at pr) (OfUnnamed pr word) (group_sound pr word) (group_size pr word) front new j k b e
 
 pub groups_fail : (pr : Profile) (word : List ℕ) (front : List ValType) (j : List Token) → true ≡ begins_group word j → adding front (paren_at word (types_at pr) j) ≡ None → after_groups front (groups_at pr word j) ≡ None
-groups_fail pr word front j b e =
-    ap (after_groups front) (groups_step pr word j (sym b)
-    ∙ ap (λ (o : Option (List ValType × List Token)). o >>= λ x. groups_at pr word x.1 >>= λ xs. Some (x.0 ∷ xs.0, xs.1)) (group_not front (paren_at word (types_at pr) j) e))
+unfolding groups_at
+groups_fail pr word front j b e = groups_out word (types_at pr) (OfUnnamed pr word) (group_sound pr word) (group_size pr word) front j b e
 
 pub groups_over : (pr : Profile) (word : List ℕ) (front : List ValType) (j : List Token) → false ≡ begins_group word j → after_groups front (groups_at pr word j) ≡ Some (front, j)
 unfolding groups_at
-groups_over pr word front j b = ap (after_groups front) (cond-false (begins_group word j) _ _ (sym b)) ∙ ap (λ (z : List ValType). Some (z, j)) (append-nil front)
+groups_over pr word front j b = groups_done word (types_at pr) (OfUnnamed pr word) (group_sound pr word) (group_size pr word) front j b
 
 pub groups_begin : (o : Option (List (List ValType) × List Token)) → after_groups [] o ≡ made joined o
 groups_begin None = refl
 groups_begin (Some x) = refl
 
 pub group_shrinks : (pr : Profile) (word : List ℕ) (front new : List ValType) (j k : List Token) → adding front (paren_at word (types_at pr) j) ≡ Some (new, k) → length k < length j
-group_shrinks pr word front new j k e =
-    let g = group_was front new (paren_at word (types_at pr) j) k e in
-    let one = group_sound pr word j g.0 k g.1 in
-    let size : length j ≡ length (one.0 ++ k) = ap length one.1 in
-    omega (arith, size, length-append one.0 k, group_size pr word g.0 one.0 one.2)
+group_shrinks pr word front new j k e = rest_shorter word (types_at pr) (OfUnnamed pr word) (group_sound pr word) (group_size pr word) front new j k e
 
 -- ---- comparison
 

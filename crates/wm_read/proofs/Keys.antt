@@ -1,8 +1,8 @@
 -- Words that stand where a key, an identifier or a type may be left out.
 use Rattle.std.proofs.Common.{◌≡◌, ◌≢◌, ℕ, ◌<◌, ◌≤◌, Bool, true, false, not, List, [], ◌∷◌, length, Some, None, refl, sym, ap, subst, ◌∙◌, inr, arith, get_or}
 use Rattle.std.specs.Prelude.{◌==◌, ◌&&◌, nat_le}
-use Rattle.std.proofs.lemmas.Bool.{and_from, le-leb, ne_eqb, cond-true, cond-false}
-use Rattle.wm_read.specs.Tokens.{Token, atom, is_lower}
+use Rattle.std.proofs.lemmas.Bool.{and_from, or_from, le-leb, ne_eqb, cond-true, cond-false}
+use Rattle.wm_read.specs.Tokens.{Token, atom, is_lower, is_space}
 use Rattle.wm_read.specs.exact.Scan.{after_spaces, ahead, first, atom_in, is_atom, is_nil, lexed}
 use Rattle.wm_read.specs.exact.Reading.{key_at, key_by, is_id, id_at, again_at, block_type_at}
 use Rattle.wm_read.specs.declared.tokens.scan.Class.TheVariants as k
@@ -23,23 +23,29 @@ word_token c t text e lower = sym (spaces_lexed text) ∙ ap lexed (sym e) ∙ a
 lower_from : (c : ℕ) → 97 ≤ c → c ≤ 122 → is_lower c ≡ true
 lower_from c low high = and_from (nat_le 97 c) (nat_le c 122) (le-leb 97 c low) (le-leb c 122 high)
 
+-- a letter is no white space
+unspaced : (c : ℕ) (t : List ℕ) → 97 ≤ c → c ∷ t ≡ after_spaces (c ∷ t)
+unspaced c t low =
+    let apart : (d : ℕ) → d < 97 → (c == d) ≡ false = λ d lt. ne_eqb c d (λ e. omega (arith, e, low, lt)) in
+    sym (cond-false (is_space c) _ _ (or_from _ _ (or_from _ _ (or_from _ _ (apart 32 (omega arith)) (apart 9 (omega arith))) (apart 10 (omega arith))) (apart 13 (omega arith))))
+
 -- ---- a key that is not written
 
 no_key : (key : List ℕ) (usual c : ℕ) (a : List ℕ) (j : List Token) → 0 < length key → get_or key 0 0 ≢ c → key_at key usual (atom (c ∷ a) ∷ j) ≡ Some (usual, atom (c ∷ a) ∷ j)
 no_key [] usual c a j lt ne = absurd (omega (arith, lt))
 no_key (d ∷ key) usual c a j lt ne = ap (λ o. key_by usual o (c ∷ a) j) (cond-false (d == c) _ _ (ne_eqb d c ne))
 
-pub other_key : (key text b : List ℕ) (usual : ℕ) → b ≡ after_spaces text → 97 ≤ get_or b 0 0 → get_or b 0 0 ≤ 122 → 0 < length key → get_or key 0 0 ≢ get_or b 0 0
+pub other_key : (key text : List ℕ) (usual : ℕ) → 97 ≤ get_or text 0 0 → get_or text 0 0 ≤ 122 → 0 < length key → get_or key 0 0 ≢ get_or text 0 0
     → key_at key usual (lexed text) ≡ Some (usual, lexed text)
-other_key key text [] usual e low high lt ne = absurd (let f : 97 ≤ 0 = low in omega (arith, f))
-other_key key text (c ∷ t) usual e low high lt ne =
-    subst (λ (z : List Token). key_at key usual z ≡ Some (usual, z)) (sym (word_token c t text e (lower_from c low high))) (no_key key usual c (atom_in t).0 (lexed (atom_in t).1) lt ne)
+other_key key [] usual low high lt ne = absurd (let f : 97 ≤ 0 = low in omega (arith, f))
+other_key key (c ∷ t) usual low high lt ne =
+    subst (λ (z : List Token). key_at key usual z ≡ Some (usual, z)) (sym (word_token c t (c ∷ t) (unspaced c t low) (lower_from c low high))) (no_key key usual c (atom_in t).0 (lexed (atom_in t).1) lt ne)
 
 -- ---- an identifier or a type that is not written
 
-pub word_begins : (text b : List ℕ) → b ≡ after_spaces text → 97 ≤ get_or b 0 0 → get_or b 0 0 ≤ 122 → BeginsWord (lexed text)
-word_begins text [] e low high = absurd (let f : 97 ≤ 0 = low in omega (arith, f))
-word_begins text (c ∷ t) e low high = let lower = lower_from c low high in (c, (atom_in t).0, lexed (atom_in t).1, word_token c t text e lower, lower)
+pub word_begins : (text : List ℕ) → 97 ≤ get_or text 0 0 → get_or text 0 0 ≤ 122 → BeginsWord (lexed text)
+word_begins [] low high = absurd (let f : 97 ≤ 0 = low in omega (arith, f))
+word_begins (c ∷ t) low high = let lower = lower_from c low high in (c, (atom_in t).0, lexed (atom_in t).1, word_token c t (c ∷ t) (unspaced c t low) lower, lower)
 
 no_id : (c : ℕ) (a : List ℕ) → is_lower c ≡ true → is_id (c ∷ a) ≡ false
 no_id c a lower = ap (λ (x : Bool). x && not (is_nil a)) (ne_eqb c 36 (λ e. let f : false ≡ true = ap is_lower (sym e) ∙ lower in cc))

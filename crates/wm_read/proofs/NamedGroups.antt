@@ -11,7 +11,7 @@ use Rattle.wm_syntax.proofs.ProfileLaws.{all_append, all_back, all_front}
 use Rattle.wm_read.specs.Tokens.{Token, open_paren, close_paren, string, atom}
 use Rattle.wm_read.specs.Identifiers.{WritesId}
 use Rattle.wm_read.specs.Written.{Named, Paren, WritesGroup, WritesGroups, type_text, types_of}
-use Rattle.wm_read.specs.exact.Reading.{◌>>=◌, made, is_id, atom_at, type_of, paren_at, many_at}
+use Rattle.wm_read.specs.exact.Reading.{◌>>=◌, made, is_id, atom_at, type_of, paren_at}
 use Rattle.wm_read.specs.exact.TypeUses.{types_at, begins_group, unnamed, inside_at, named_groups_at, named_at, joined_named, adding_named}
 use Rattle.wm_read.specs.declared.code.named.NamedRun.{NamedRun}
 use Rattle.wm_read.specs.declared.code.named.NamedRun.TheVariants.{Unnamed}
@@ -21,7 +21,7 @@ use Rattle.wm_read.specs.inner.Views.{Reads}
 use Rattle.wm_read.specs.inner.Named.{named_of, named_list}
 use Rattle.wm_read.proofs.Basics.{chosen, same_some}
 use Rattle.wm_read.proofs.Readers.{Sound, Complete, Any, Begins, BeginsClose, bind_ok, bind_is, is_same, made_sound, made_is, paren_sound, paren_complete, many_sound, many_complete}
-use Rattle.wm_read.proofs.Groups.{NoAtom, fails_refused, many_is}
+use Rattle.wm_read.proofs.Groups.{NoAtom, fails_refused, groups_on, groups_out, groups_done, rest_shorter}
 use Rattle.wm_read.proofs.Immediates.{NotId, OfType, type_sound, type_complete}
 use Rattle.wm_read.proofs.Indices.{id_is, is_identifier}
 use Rattle.wm_read.proofs.TypeUseLaws.{AreOf, plain_types, types_complete, types_of_it, types_sound, types_unnamed}
@@ -169,66 +169,31 @@ groups_are_read pr word all front rest ((gs, e, h), of) f =
 
 -- ---- the loops of the code
 
-step : (pr : Profile) (word : List ℕ) (k : List Token) → begins_group word k ≡ true
-    → named_groups_at pr word k ≡ (paren_at word (inside_at pr) k >>= λ x. named_groups_at pr word x.1 >>= λ xs. Some (x.0 ∷ xs.0, xs.1))
-unfolding named_groups_at
-step pr word k b = cond-true (begins_group word k) _ _ b ∙ by (paren_at word (inside_at pr) k) refl
-  where
-    by : (o : Option (List Named × List Token)) → paren_at word (inside_at pr) k ≡ o
-        → ◌>>=◌ {B = List (List Named) × List Token} o (λ x. many_at (length k) (begins_group word) (paren_at word (inside_at pr)) x.1 >>= λ xs. Some (x.0 ∷ xs.0, xs.1))
-        ≡ ◌>>=◌ {B = List (List Named) × List Token} o (λ x. named_groups_at pr word x.1 >>= λ xs. Some (x.0 ∷ xs.0, xs.1))
-    by None e = refl
-    by (Some x) e =
-        let one = named_group_sound pr word k x.0 x.1 e in
-        let size : length k ≡ length (one.0 ++ x.1) = ap length one.1 in
-        let s = (named_group_begins pr word x.0 one.0 [] one.2).1 in
-        ap (λ (z : Option (List (List Named) × List Token)). z >>= λ xs. Some (x.0 ∷ xs.0, xs.1))
-        (many_is (begins_group word) (paren_at word (inside_at pr)) (OfGroup pr word) (named_group_sound pr word) (λ y f h. (named_group_begins pr word y f [] h).1) (length k) (suc (length x.1)) x.1
-        (omega (arith, size, length-append one.0 x.1, s)) (omega arith))
+group_size : (pr : Profile) (word : List ℕ) (group : List Named) (front : List Token) → OfGroup pr word group front → 0 < length front
+group_size pr word group front h = (named_group_begins pr word group front [] h).1
 
 abbrev pub after_named : List Named → Option (List (List Named) × List Token) → Option (List Named × List Token)
 after_named front read = made (λ gs. front ++ joined_named gs) read
 
-gather : (front ts : List Named) (o : Option (List (List Named) × List Token)) → after_named front (o >>= λ xs. Some (ts ∷ xs.0, xs.1)) ≡ after_named (front ++ ts) o
-gather front ts None = refl
-gather front ts (Some x) = ap (λ (z : List Named). Some (z, x.1)) (sym (append_assoc front ts (joined_named x.0)))
-
-group_was : (front new : List Named) (o : Option (List Named × List Token)) (k : List Token) → adding_named front o ≡ Some (new, k) → (ts : List Named) × (o ≡ Some (ts, k)) × (new ≡ front ++ ts)
-group_was front new None k e = absurd (let f : ◌≡◌ {A = Option (List Named × List Token)} None (Some (new, k)) = e in cc)
-group_was front new (Some x) k e =
-    let p = same_some (front ++ x.0, x.1) (new, k) e in
-    (x.0, ap (λ (z : List Named × List Token). Some (x.0, z.1)) p, ap (λ (z : List Named × List Token). z.0) (sym p))
-
-group_not : (front : List Named) (o : Option (List Named × List Token)) → adding_named front o ≡ None → o ≡ None
-group_not front None e = refl
-group_not front (Some x) e = absurd (let f : ◌≡◌ {A = Option (List Named × List Token)} (Some (front ++ x.0, x.1)) None = e in cc)
-
 pub named_more : (pr : Profile) (word : List ℕ) (front new : List Named) (j k : List Token) → true ≡ begins_group word j → adding_named front (paren_at word (inside_at pr) j) ≡ Some (new, k)
     → after_named front (named_groups_at pr word j) ≡ after_named new (named_groups_at pr word k)
-named_more pr word front new j k b e =
-    let g = group_was front new (paren_at word (inside_at pr) j) k e in
-    ap (after_named front) (step pr word j (sym b) ∙ bind_is (paren_at word (inside_at pr) j) _ (g.0, k) g.1) ∙ gather front g.0 (named_groups_at pr word k)
-    ∙ ap (λ (z : List Named). after_named z (named_groups_at pr word k)) (sym g.2)
+unfolding named_groups_at
+named_more pr word front new j k b e = groups_on word (inside_at pr) (OfGroup pr word) (named_group_sound pr word) (group_size pr word) front new j k b e
 
 pub named_fail : (pr : Profile) (word : List ℕ) (front : List Named) (j : List Token) → true ≡ begins_group word j → adding_named front (paren_at word (inside_at pr) j) ≡ None → after_named front (named_groups_at pr word j) ≡ None
-named_fail pr word front j b e =
-    ap (after_named front) (step pr word j (sym b)
-    ∙ ap (λ (o : Option (List Named × List Token)). o >>= λ x. named_groups_at pr word x.1 >>= λ xs. Some (x.0 ∷ xs.0, xs.1)) (group_not front (paren_at word (inside_at pr) j) e))
+unfolding named_groups_at
+named_fail pr word front j b e = groups_out word (inside_at pr) (OfGroup pr word) (named_group_sound pr word) (group_size pr word) front j b e
 
 pub named_over : (pr : Profile) (word : List ℕ) (front : List Named) (j : List Token) → false ≡ begins_group word j → after_named front (named_groups_at pr word j) ≡ Some (front, j)
 unfolding named_groups_at
-named_over pr word front j b = ap (after_named front) (cond-false (begins_group word j) _ _ (sym b)) ∙ ap (λ (z : List Named). Some (z, j)) (append-nil front)
+named_over pr word front j b = groups_done word (inside_at pr) (OfGroup pr word) (named_group_sound pr word) (group_size pr word) front j b
 
 pub named_begin : (o : Option (List (List Named) × List Token)) → after_named [] o ≡ made joined_named o
 named_begin None = refl
 named_begin (Some x) = refl
 
 pub named_shrinks : (pr : Profile) (word : List ℕ) (front new : List Named) (j k : List Token) → adding_named front (paren_at word (inside_at pr) j) ≡ Some (new, k) → length k < length j
-named_shrinks pr word front new j k e =
-    let g = group_was front new (paren_at word (inside_at pr) j) k e in
-    let one = named_group_sound pr word j g.0 k g.1 in
-    let size : length j ≡ length (one.0 ++ k) = ap length one.1 in
-    omega (arith, size, length-append one.0 k, (named_group_begins pr word g.0 one.0 [] one.2).1)
+named_shrinks pr word front new j k e = rest_shorter word (inside_at pr) (OfGroup pr word) (named_group_sound pr word) (group_size pr word) front new j k e
 
 pub ruleset named_laws = (named_more, named_fail, named_over, named_begin, named_shrinks)
 

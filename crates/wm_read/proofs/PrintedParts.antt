@@ -12,11 +12,11 @@ use Rattle.wm_syntax.specs.declared.modules.ImportDesc.{ImportDesc}
 use Rattle.wm_syntax.specs.declared.modules.ImportDesc.TheVariants.{Func, Table, Memory, Global}
 use Rattle.wm_syntax.specs.declared.modules.ExportKind.{ExportKind}
 use Rattle.wm_syntax.specs.declared.modules.ExportKind.TheVariants as kind
-use Rattle.wm_syntax.specs.Modules.{Function, GlobalDef, Import, Module, all_functions, all_globals, all_memories, all_tables, function_of, global_of, memory_of, table_of}
+use Rattle.wm_syntax.specs.Modules.{Element, Export, Function, GlobalDef, Import, Module, Segment, all_functions, all_globals, all_memories, all_tables, function_of, global_of, memory_of, table_of}
 use Rattle.wm_write.specs.Layout.{places}
 use Rattle.wm_read.specs.Identifiers.{AreDistinct, Id, Ids}
 use Rattle.wm_read.specs.Written.{Names}
-use Rattle.wm_read.specs.Fields.{Field, HasDistinct, IsDefinition, IsImport, Writes, WritesField, element_field, element_of, export_field, export_of, function_field, global_field, id_in, import_field, import_of, imports_in, memory_field, module_of, names_of, segment_field, segment_of, start_field, start_of, table_field, type_field, type_of}
+use Rattle.wm_read.specs.Fields.{Field, element_field, element_of, export_field, export_of, function_field, global_field, id_in, import_field, import_of, imports_in, memory_field, module_of, names_of, segment_field, segment_of, start_field, start_of, table_field, type_field, type_of}
 use Rattle.wm_read.specs.Fields as f
 use Rattle.wm_read.proofs.PrintedNumbers.{one_decimal}
 use Rattle.wm_read.proofs.PrintedForms.{id_at}
@@ -133,16 +133,59 @@ itself (x ∷ xs) = ap (λ z. x ∷ z) (itself xs)
 pub joined : {Y : Type 0} (p : Field → Option Y) (xs ys : List Field) (a b : List Y) → filter_map p xs ≡ a → filter_map p ys ≡ b → filter_map p (xs ++ ys) ≡ a ++ b
 joined p xs ys a b h g = filter_map-append p xs ys ∙ ap (λ z. z ++ filter_map p ys) h ∙ ap (λ z. a ++ z) g
 
--- of each of the ten kinds
-gathered : {Y : Type 0} (p : Field → Option Y) (m : Module) (a b c d e g h i j k : List Y)
-    → filter_map p (types_in m) ≡ a → filter_map p (imports_from [] m.imports) ≡ b → filter_map p (functions_in m) ≡ c → filter_map p (tables_in m) ≡ d
-    → filter_map p (memories_in m) ≡ e → filter_map p (globals_in m) ≡ g → filter_map p (map export_field m.exports) ≡ h → filter_map p (start_fields m.start) ≡ i
-    → filter_map p (map element_field m.elements) ≡ j → filter_map p (map segment_field m.segments) ≡ k
-    → filter_map p (fields_in m) ≡ a ++ (b ++ (c ++ (d ++ (e ++ (g ++ (h ++ (i ++ (j ++ k))))))))
-unfolding fields_in
-gathered p m a b c d e g h i j k pa pb pc pd pe pg ph pi pj pk =
-    joined p (types_in m) _ a _ pa (joined p (imports_from [] m.imports) _ b _ pb (joined p (functions_in m) _ c _ pc (joined p (tables_in m) _ d _ pd (joined p (memories_in m) _ e _ pe
-    (joined p (globals_in m) _ g _ pg (joined p (map export_field m.exports) _ h _ ph (joined p (start_fields m.start) _ i _ pi (joined p (map element_field m.elements) _ j k pj pk))))))))
+-- a part whose fields have identifiers: none of its fields, all of their values, all of their identifiers
+no_part : {X Y : Type 0} (p : Field → Option Y) (prefix : List ℕ) (field : Id → X → Field) → ((id : Id) (x : X) → p (field id x) ≡ None) → (start : ℕ) (xs : List X) → filter_map p (part prefix field start xs) ≡ []
+no_part {X} p prefix field h start xs = none_in p (λ (e : ℕ × X). field (id_at prefix e.0) e.1) (λ e. h (id_at prefix e.0) e.1) (enumerate_from start xs)
+
+all_part : {X : Type 0} (p : Field → Option X) (prefix : List ℕ) (field : Id → X → Field) → ((id : Id) (x : X) → p (field id x) ≡ Some x) → (start : ℕ) (xs : List X) → filter_map p (part prefix field start xs) ≡ xs
+all_part {X} p prefix field h start xs =
+    all_in p (λ (e : ℕ × X). field (id_at prefix e.0) e.1) (λ (e : ℕ × X). e.1) (λ e. h (id_at prefix e.0) e.1) (enumerate_from start xs) ∙ seconds start xs
+
+all_ids : {X : Type 0} (p : Field → Option Id) (prefix : List ℕ) (field : Id → X → Field) → ((id : Id) (x : X) → p (field id x) ≡ Some id) → (start : ℕ) (xs : List X)
+    → filter_map p (part prefix field start xs) ≡ numbered prefix start (length xs)
+all_ids {X} p prefix field h start xs =
+    all_in p (λ (e : ℕ × X). field (id_at prefix e.0) e.1) (λ (e : ℕ × X). id_at prefix e.0) (λ e. h (id_at prefix e.0) e.1) (enumerate_from start xs) ∙ firsts prefix start xs
+
+module _ {Y : Type 0} (p : Field → Option Y) (m : Module) where
+  -- parts of which nothing is found
+  no_types : ((id : Id) (x : Signature) → p (type_field id x) ≡ None) → filter_map p (types_in m) ≡ []
+  no_types h = no_part p (codes "$t") type_field h 0 m.types
+
+  no_functions : ((id : Id) (x : Function) → p (function_field id x) ≡ None) → filter_map p (functions_in m) ≡ []
+  no_functions h = no_part p (codes "$f") function_field h (places m.imports).functions m.functions
+
+  no_tables : ((id : Id) (x : Limits) → p (table_field id x) ≡ None) → filter_map p (tables_in m) ≡ []
+  no_tables h = no_part p (codes "$tab") table_field h (places m.imports).tables m.tables
+
+  no_memories : ((id : Id) (x : Limits) → p (memory_field id x) ≡ None) → filter_map p (memories_in m) ≡ []
+  no_memories h = no_part p (codes "$mem") memory_field h (places m.imports).memories m.memories
+
+  no_globals : ((id : Id) (x : GlobalDef) → p (global_field id x) ≡ None) → filter_map p (globals_in m) ≡ []
+  no_globals h = no_part p (codes "$g") global_field h (places m.imports).globals m.globals
+
+  -- of the parts that define nothing
+  rest_is : (h i j k : List Y) → filter_map p (map export_field m.exports) ≡ h → filter_map p (start_fields m.start) ≡ i → filter_map p (map element_field m.elements) ≡ j → filter_map p (map segment_field m.segments) ≡ k
+      → filter_map p (rest_of m) ≡ h ++ (i ++ (j ++ k))
+  rest_is h i j k ph pi pj pk = joined p (map export_field m.exports) _ h _ ph (joined p (start_fields m.start) _ i _ pi (joined p (map element_field m.elements) _ j k pj pk))
+
+  no_rest : ((x : Export) → p (export_field x) ≡ None) → ((x : ℕ) → p (start_field x) ≡ None) → ((x : Element) → p (element_field x) ≡ None) → ((x : Segment) → p (segment_field x) ≡ None) → filter_map p (rest_of m) ≡ []
+  no_rest e s l g = rest_is [] [] [] [] (none_in p export_field e m.exports) (no_start p s m.start) (none_in p element_field l m.elements) (none_in p segment_field g m.segments)
+
+  -- of all parts
+  gathered : (a b c d e g k : List Y)
+      → filter_map p (types_in m) ≡ a → filter_map p (imports_from [] m.imports) ≡ b → filter_map p (functions_in m) ≡ c → filter_map p (tables_in m) ≡ d
+      → filter_map p (memories_in m) ≡ e → filter_map p (globals_in m) ≡ g → filter_map p (rest_of m) ≡ k
+      → filter_map p (fields_in m) ≡ a ++ (b ++ (c ++ (d ++ (e ++ (g ++ k)))))
+  unfolding fields_in
+  gathered a b c d e g k pa pb pc pd pe pg pk =
+      joined p (types_in m) _ a _ pa (joined p (imports_from [] m.imports) _ b _ pb (joined p (functions_in m) _ c _ pc (joined p (tables_in m) _ d _ pd (joined p (memories_in m) _ e _ pe
+      (joined p (globals_in m) (rest_of m) g k pg pk)))))
+
+  -- where what defines something has none
+  in_rest : ((id : Id) (x : Signature) → p (type_field id x) ≡ None) → ((id : Id) (x : Import) → p (import_field id x) ≡ None) → ((id : Id) (x : Function) → p (function_field id x) ≡ None)
+      → ((id : Id) (x : Limits) → p (table_field id x) ≡ None) → ((id : Id) (x : Limits) → p (memory_field id x) ≡ None) → ((id : Id) (x : GlobalDef) → p (global_field id x) ≡ None)
+      → (k : List Y) → filter_map p (rest_of m) ≡ k → filter_map p (fields_in m) ≡ k
+  in_rest t i u b y g k pk = gathered [] [] [] [] [] [] k (no_types t) (no_import p i [] m.imports) (no_functions u) (no_tables b) (no_memories y) (no_globals g) pk
 
 imports_back : (before is : List Import) → filter_map import_of (imports_from before is) ≡ is
 imports_back before [] = refl
@@ -164,17 +207,10 @@ abbrev type_pair : ℕ × Signature → Id × Signature
 type_pair e = (id_at (codes "$t") e.0, e.1)
 
 types_found : (m : Module) → filter_map type_of (fields_in m) ≡ map type_pair (enumerate_from 0 m.types)
-types_found m = gathered type_of m (map type_pair (enumerate_from 0 m.types)) [] [] [] [] [] [] [] [] []
+types_found m = gathered type_of m (map type_pair (enumerate_from 0 m.types)) [] [] [] [] [] []
     (all_in type_of (λ (e : ℕ × Signature). type_field (id_at (codes "$t") e.0) e.1) type_pair (λ x. refl) (enumerate_from 0 m.types))
-    (no_import type_of (λ id i. refl) [] m.imports)
-    (none_in type_of (λ (e : ℕ × Function). function_field (id_at (codes "$f") e.0) e.1) (λ x. refl) (enumerate_from (places m.imports).functions m.functions))
-    (none_in type_of (λ (e : ℕ × Limits). table_field (id_at (codes "$tab") e.0) e.1) (λ x. refl) (enumerate_from (places m.imports).tables m.tables))
-    (none_in type_of (λ (e : ℕ × Limits). memory_field (id_at (codes "$mem") e.0) e.1) (λ x. refl) (enumerate_from (places m.imports).memories m.memories))
-    (none_in type_of (λ (e : ℕ × GlobalDef). global_field (id_at (codes "$g") e.0) e.1) (λ x. refl) (enumerate_from (places m.imports).globals m.globals))
-    (none_in type_of export_field (λ x. refl) m.exports)
-    (no_start type_of (λ x. refl) m.start)
-    (none_in type_of element_field (λ x. refl) m.elements)
-    (none_in type_of segment_field (λ x. refl) m.segments)
+    (no_import type_of (λ id x. refl) [] m.imports) (no_functions type_of m (λ id x. refl)) (no_tables type_of m (λ id x. refl)) (no_memories type_of m (λ id x. refl)) (no_globals type_of m (λ id x. refl))
+    (no_rest type_of m (λ x. refl) (λ x. refl) (λ x. refl) (λ x. refl))
     ∙ append-nil (map type_pair (enumerate_from 0 m.types))
 
 signatures_found : (m : Module) → map (λ t. t.1) (filter_map type_of (fields_in m)) ≡ m.types
@@ -184,130 +220,57 @@ type_ids_found : (m : Module) → map (λ t. t.0) (filter_map type_of (fields_in
 type_ids_found m = ap (λ z. map (λ (t : Id × Signature). t.0) z) (types_found m) ∙ mapped (λ (t : Id × Signature). t.0) type_pair (enumerate_from 0 m.types) ∙ firsts (codes "$t") 0 m.types
 
 imports_found : (m : Module) → filter_map import_of (fields_in m) ≡ m.imports
-imports_found m = gathered import_of m [] m.imports [] [] [] [] [] [] [] []
-    (none_in import_of (λ (e : ℕ × Signature). type_field (id_at (codes "$t") e.0) e.1) (λ x. refl) (enumerate_from 0 m.types))
-    (imports_back [] m.imports)
-    (none_in import_of (λ (e : ℕ × Function). function_field (id_at (codes "$f") e.0) e.1) (λ x. refl) (enumerate_from (places m.imports).functions m.functions))
-    (none_in import_of (λ (e : ℕ × Limits). table_field (id_at (codes "$tab") e.0) e.1) (λ x. refl) (enumerate_from (places m.imports).tables m.tables))
-    (none_in import_of (λ (e : ℕ × Limits). memory_field (id_at (codes "$mem") e.0) e.1) (λ x. refl) (enumerate_from (places m.imports).memories m.memories))
-    (none_in import_of (λ (e : ℕ × GlobalDef). global_field (id_at (codes "$g") e.0) e.1) (λ x. refl) (enumerate_from (places m.imports).globals m.globals))
-    (none_in import_of export_field (λ x. refl) m.exports)
-    (no_start import_of (λ x. refl) m.start)
-    (none_in import_of element_field (λ x. refl) m.elements)
-    (none_in import_of segment_field (λ x. refl) m.segments)
+imports_found m = gathered import_of m [] m.imports [] [] [] [] []
+    (no_types import_of m (λ id x. refl)) (imports_back [] m.imports) (no_functions import_of m (λ id x. refl)) (no_tables import_of m (λ id x. refl)) (no_memories import_of m (λ id x. refl)) (no_globals import_of m (λ id x. refl))
+    (no_rest import_of m (λ x. refl) (λ x. refl) (λ x. refl) (λ x. refl))
     ∙ append-nil m.imports
 
 functions_found : (m : Module) → filter_map f.function_of (fields_in m) ≡ m.functions
-functions_found m = gathered f.function_of m [] [] (map (λ (e : ℕ × Function). e.1) (enumerate_from (places m.imports).functions m.functions)) [] [] [] [] [] [] []
-    (none_in f.function_of (λ (e : ℕ × Signature). type_field (id_at (codes "$t") e.0) e.1) (λ x. refl) (enumerate_from 0 m.types))
-    (no_import f.function_of (λ id i. refl) [] m.imports)
-    (all_in f.function_of (λ (e : ℕ × Function). function_field (id_at (codes "$f") e.0) e.1) (λ (e : ℕ × Function). e.1) (λ x. refl) (enumerate_from (places m.imports).functions m.functions))
-    (none_in f.function_of (λ (e : ℕ × Limits). table_field (id_at (codes "$tab") e.0) e.1) (λ x. refl) (enumerate_from (places m.imports).tables m.tables))
-    (none_in f.function_of (λ (e : ℕ × Limits). memory_field (id_at (codes "$mem") e.0) e.1) (λ x. refl) (enumerate_from (places m.imports).memories m.memories))
-    (none_in f.function_of (λ (e : ℕ × GlobalDef). global_field (id_at (codes "$g") e.0) e.1) (λ x. refl) (enumerate_from (places m.imports).globals m.globals))
-    (none_in f.function_of export_field (λ x. refl) m.exports)
-    (no_start f.function_of (λ x. refl) m.start)
-    (none_in f.function_of element_field (λ x. refl) m.elements)
-    (none_in f.function_of segment_field (λ x. refl) m.segments)
-    ∙ append-nil (map (λ (e : ℕ × Function). e.1) (enumerate_from (places m.imports).functions m.functions)) ∙ seconds (places m.imports).functions m.functions
+functions_found m = gathered f.function_of m [] [] m.functions [] [] [] []
+    (no_types f.function_of m (λ id x. refl)) (no_import f.function_of (λ id x. refl) [] m.imports)
+    (all_part f.function_of (codes "$f") function_field (λ id x. refl) (places m.imports).functions m.functions) (no_tables f.function_of m (λ id x. refl)) (no_memories f.function_of m (λ id x. refl)) (no_globals f.function_of m (λ id x. refl))
+    (no_rest f.function_of m (λ x. refl) (λ x. refl) (λ x. refl) (λ x. refl))
+    ∙ append-nil m.functions
 
 tables_found : (m : Module) → filter_map f.table_of (fields_in m) ≡ m.tables
-tables_found m = gathered f.table_of m [] [] [] (map (λ (e : ℕ × Limits). e.1) (enumerate_from (places m.imports).tables m.tables)) [] [] [] [] [] []
-    (none_in f.table_of (λ (e : ℕ × Signature). type_field (id_at (codes "$t") e.0) e.1) (λ x. refl) (enumerate_from 0 m.types))
-    (no_import f.table_of (λ id i. refl) [] m.imports)
-    (none_in f.table_of (λ (e : ℕ × Function). function_field (id_at (codes "$f") e.0) e.1) (λ x. refl) (enumerate_from (places m.imports).functions m.functions))
-    (all_in f.table_of (λ (e : ℕ × Limits). table_field (id_at (codes "$tab") e.0) e.1) (λ (e : ℕ × Limits). e.1) (λ x. refl) (enumerate_from (places m.imports).tables m.tables))
-    (none_in f.table_of (λ (e : ℕ × Limits). memory_field (id_at (codes "$mem") e.0) e.1) (λ x. refl) (enumerate_from (places m.imports).memories m.memories))
-    (none_in f.table_of (λ (e : ℕ × GlobalDef). global_field (id_at (codes "$g") e.0) e.1) (λ x. refl) (enumerate_from (places m.imports).globals m.globals))
-    (none_in f.table_of export_field (λ x. refl) m.exports)
-    (no_start f.table_of (λ x. refl) m.start)
-    (none_in f.table_of element_field (λ x. refl) m.elements)
-    (none_in f.table_of segment_field (λ x. refl) m.segments)
-    ∙ append-nil (map (λ (e : ℕ × Limits). e.1) (enumerate_from (places m.imports).tables m.tables)) ∙ seconds (places m.imports).tables m.tables
+tables_found m = gathered f.table_of m [] [] [] m.tables [] [] []
+    (no_types f.table_of m (λ id x. refl)) (no_import f.table_of (λ id x. refl) [] m.imports)
+    (no_functions f.table_of m (λ id x. refl)) (all_part f.table_of (codes "$tab") table_field (λ id x. refl) (places m.imports).tables m.tables) (no_memories f.table_of m (λ id x. refl)) (no_globals f.table_of m (λ id x. refl))
+    (no_rest f.table_of m (λ x. refl) (λ x. refl) (λ x. refl) (λ x. refl))
+    ∙ append-nil m.tables
 
 memories_found : (m : Module) → filter_map f.memory_of (fields_in m) ≡ m.memories
-memories_found m = gathered f.memory_of m [] [] [] [] (map (λ (e : ℕ × Limits). e.1) (enumerate_from (places m.imports).memories m.memories)) [] [] [] [] []
-    (none_in f.memory_of (λ (e : ℕ × Signature). type_field (id_at (codes "$t") e.0) e.1) (λ x. refl) (enumerate_from 0 m.types))
-    (no_import f.memory_of (λ id i. refl) [] m.imports)
-    (none_in f.memory_of (λ (e : ℕ × Function). function_field (id_at (codes "$f") e.0) e.1) (λ x. refl) (enumerate_from (places m.imports).functions m.functions))
-    (none_in f.memory_of (λ (e : ℕ × Limits). table_field (id_at (codes "$tab") e.0) e.1) (λ x. refl) (enumerate_from (places m.imports).tables m.tables))
-    (all_in f.memory_of (λ (e : ℕ × Limits). memory_field (id_at (codes "$mem") e.0) e.1) (λ (e : ℕ × Limits). e.1) (λ x. refl) (enumerate_from (places m.imports).memories m.memories))
-    (none_in f.memory_of (λ (e : ℕ × GlobalDef). global_field (id_at (codes "$g") e.0) e.1) (λ x. refl) (enumerate_from (places m.imports).globals m.globals))
-    (none_in f.memory_of export_field (λ x. refl) m.exports)
-    (no_start f.memory_of (λ x. refl) m.start)
-    (none_in f.memory_of element_field (λ x. refl) m.elements)
-    (none_in f.memory_of segment_field (λ x. refl) m.segments)
-    ∙ append-nil (map (λ (e : ℕ × Limits). e.1) (enumerate_from (places m.imports).memories m.memories)) ∙ seconds (places m.imports).memories m.memories
+memories_found m = gathered f.memory_of m [] [] [] [] m.memories [] []
+    (no_types f.memory_of m (λ id x. refl)) (no_import f.memory_of (λ id x. refl) [] m.imports)
+    (no_functions f.memory_of m (λ id x. refl)) (no_tables f.memory_of m (λ id x. refl)) (all_part f.memory_of (codes "$mem") memory_field (λ id x. refl) (places m.imports).memories m.memories) (no_globals f.memory_of m (λ id x. refl))
+    (no_rest f.memory_of m (λ x. refl) (λ x. refl) (λ x. refl) (λ x. refl))
+    ∙ append-nil m.memories
 
 globals_found : (m : Module) → filter_map f.global_of (fields_in m) ≡ m.globals
-globals_found m = gathered f.global_of m [] [] [] [] [] (map (λ (e : ℕ × GlobalDef). e.1) (enumerate_from (places m.imports).globals m.globals)) [] [] [] []
-    (none_in f.global_of (λ (e : ℕ × Signature). type_field (id_at (codes "$t") e.0) e.1) (λ x. refl) (enumerate_from 0 m.types))
-    (no_import f.global_of (λ id i. refl) [] m.imports)
-    (none_in f.global_of (λ (e : ℕ × Function). function_field (id_at (codes "$f") e.0) e.1) (λ x. refl) (enumerate_from (places m.imports).functions m.functions))
-    (none_in f.global_of (λ (e : ℕ × Limits). table_field (id_at (codes "$tab") e.0) e.1) (λ x. refl) (enumerate_from (places m.imports).tables m.tables))
-    (none_in f.global_of (λ (e : ℕ × Limits). memory_field (id_at (codes "$mem") e.0) e.1) (λ x. refl) (enumerate_from (places m.imports).memories m.memories))
-    (all_in f.global_of (λ (e : ℕ × GlobalDef). global_field (id_at (codes "$g") e.0) e.1) (λ (e : ℕ × GlobalDef). e.1) (λ x. refl) (enumerate_from (places m.imports).globals m.globals))
-    (none_in f.global_of export_field (λ x. refl) m.exports)
-    (no_start f.global_of (λ x. refl) m.start)
-    (none_in f.global_of element_field (λ x. refl) m.elements)
-    (none_in f.global_of segment_field (λ x. refl) m.segments)
-    ∙ append-nil (map (λ (e : ℕ × GlobalDef). e.1) (enumerate_from (places m.imports).globals m.globals)) ∙ seconds (places m.imports).globals m.globals
+globals_found m = gathered f.global_of m [] [] [] [] [] m.globals []
+    (no_types f.global_of m (λ id x. refl)) (no_import f.global_of (λ id x. refl) [] m.imports)
+    (no_functions f.global_of m (λ id x. refl)) (no_tables f.global_of m (λ id x. refl)) (no_memories f.global_of m (λ id x. refl)) (all_part f.global_of (codes "$g") global_field (λ id x. refl) (places m.imports).globals m.globals)
+    (no_rest f.global_of m (λ x. refl) (λ x. refl) (λ x. refl) (λ x. refl))
+    ∙ append-nil m.globals
 
 exports_found : (m : Module) → filter_map export_of (fields_in m) ≡ m.exports
-exports_found m = gathered export_of m [] [] [] [] [] [] (map (λ x. x) m.exports) [] [] []
-    (none_in export_of (λ (e : ℕ × Signature). type_field (id_at (codes "$t") e.0) e.1) (λ x. refl) (enumerate_from 0 m.types))
-    (no_import export_of (λ id i. refl) [] m.imports)
-    (none_in export_of (λ (e : ℕ × Function). function_field (id_at (codes "$f") e.0) e.1) (λ x. refl) (enumerate_from (places m.imports).functions m.functions))
-    (none_in export_of (λ (e : ℕ × Limits). table_field (id_at (codes "$tab") e.0) e.1) (λ x. refl) (enumerate_from (places m.imports).tables m.tables))
-    (none_in export_of (λ (e : ℕ × Limits). memory_field (id_at (codes "$mem") e.0) e.1) (λ x. refl) (enumerate_from (places m.imports).memories m.memories))
-    (none_in export_of (λ (e : ℕ × GlobalDef). global_field (id_at (codes "$g") e.0) e.1) (λ x. refl) (enumerate_from (places m.imports).globals m.globals))
-    (all_in export_of export_field (λ x. x) (λ x. refl) m.exports)
-    (no_start export_of (λ x. refl) m.start)
-    (none_in export_of element_field (λ x. refl) m.elements)
-    (none_in export_of segment_field (λ x. refl) m.segments)
-    ∙ append-nil (map (λ x. x) m.exports) ∙ itself m.exports
+exports_found m = in_rest export_of m (λ id x. refl) (λ id x. refl) (λ id x. refl) (λ id x. refl) (λ id x. refl) (λ id x. refl) _
+    (rest_is export_of m m.exports [] [] [] (all_in export_of export_field (λ x. x) (λ x. refl) m.exports ∙ itself m.exports) (no_start export_of (λ x. refl) m.start) (none_in export_of element_field (λ x. refl) m.elements) (none_in export_of segment_field (λ x. refl) m.segments))
+    ∙ append-nil m.exports
 
 pub starts_found : (m : Module) → filter_map start_of (fields_in m) ≡ start_list m.start
-starts_found m = gathered start_of m [] [] [] [] [] [] [] (start_list m.start) [] []
-    (none_in start_of (λ (e : ℕ × Signature). type_field (id_at (codes "$t") e.0) e.1) (λ x. refl) (enumerate_from 0 m.types))
-    (no_import start_of (λ id i. refl) [] m.imports)
-    (none_in start_of (λ (e : ℕ × Function). function_field (id_at (codes "$f") e.0) e.1) (λ x. refl) (enumerate_from (places m.imports).functions m.functions))
-    (none_in start_of (λ (e : ℕ × Limits). table_field (id_at (codes "$tab") e.0) e.1) (λ x. refl) (enumerate_from (places m.imports).tables m.tables))
-    (none_in start_of (λ (e : ℕ × Limits). memory_field (id_at (codes "$mem") e.0) e.1) (λ x. refl) (enumerate_from (places m.imports).memories m.memories))
-    (none_in start_of (λ (e : ℕ × GlobalDef). global_field (id_at (codes "$g") e.0) e.1) (λ x. refl) (enumerate_from (places m.imports).globals m.globals))
-    (none_in start_of export_field (λ x. refl) m.exports)
-    (starts_back m.start)
-    (none_in start_of element_field (λ x. refl) m.elements)
-    (none_in start_of segment_field (λ x. refl) m.segments)
+starts_found m = in_rest start_of m (λ id x. refl) (λ id x. refl) (λ id x. refl) (λ id x. refl) (λ id x. refl) (λ id x. refl) _
+    (rest_is start_of m [] (start_list m.start) [] [] (none_in start_of export_field (λ x. refl) m.exports) (starts_back m.start) (none_in start_of element_field (λ x. refl) m.elements) (none_in start_of segment_field (λ x. refl) m.segments))
     ∙ append-nil (start_list m.start)
 
 elements_found : (m : Module) → filter_map element_of (fields_in m) ≡ m.elements
-elements_found m = gathered element_of m [] [] [] [] [] [] [] [] (map (λ x. x) m.elements) []
-    (none_in element_of (λ (e : ℕ × Signature). type_field (id_at (codes "$t") e.0) e.1) (λ x. refl) (enumerate_from 0 m.types))
-    (no_import element_of (λ id i. refl) [] m.imports)
-    (none_in element_of (λ (e : ℕ × Function). function_field (id_at (codes "$f") e.0) e.1) (λ x. refl) (enumerate_from (places m.imports).functions m.functions))
-    (none_in element_of (λ (e : ℕ × Limits). table_field (id_at (codes "$tab") e.0) e.1) (λ x. refl) (enumerate_from (places m.imports).tables m.tables))
-    (none_in element_of (λ (e : ℕ × Limits). memory_field (id_at (codes "$mem") e.0) e.1) (λ x. refl) (enumerate_from (places m.imports).memories m.memories))
-    (none_in element_of (λ (e : ℕ × GlobalDef). global_field (id_at (codes "$g") e.0) e.1) (λ x. refl) (enumerate_from (places m.imports).globals m.globals))
-    (none_in element_of export_field (λ x. refl) m.exports)
-    (no_start element_of (λ x. refl) m.start)
-    (all_in element_of element_field (λ x. x) (λ x. refl) m.elements)
-    (none_in element_of segment_field (λ x. refl) m.segments)
-    ∙ append-nil (map (λ x. x) m.elements) ∙ itself m.elements
+elements_found m = in_rest element_of m (λ id x. refl) (λ id x. refl) (λ id x. refl) (λ id x. refl) (λ id x. refl) (λ id x. refl) _
+    (rest_is element_of m [] [] m.elements [] (none_in element_of export_field (λ x. refl) m.exports) (no_start element_of (λ x. refl) m.start) (all_in element_of element_field (λ x. x) (λ x. refl) m.elements ∙ itself m.elements) (none_in element_of segment_field (λ x. refl) m.segments))
+    ∙ append-nil m.elements
 
 segments_found : (m : Module) → filter_map segment_of (fields_in m) ≡ m.segments
-segments_found m = gathered segment_of m [] [] [] [] [] [] [] [] [] (map (λ x. x) m.segments)
-    (none_in segment_of (λ (e : ℕ × Signature). type_field (id_at (codes "$t") e.0) e.1) (λ x. refl) (enumerate_from 0 m.types))
-    (no_import segment_of (λ id i. refl) [] m.imports)
-    (none_in segment_of (λ (e : ℕ × Function). function_field (id_at (codes "$f") e.0) e.1) (λ x. refl) (enumerate_from (places m.imports).functions m.functions))
-    (none_in segment_of (λ (e : ℕ × Limits). table_field (id_at (codes "$tab") e.0) e.1) (λ x. refl) (enumerate_from (places m.imports).tables m.tables))
-    (none_in segment_of (λ (e : ℕ × Limits). memory_field (id_at (codes "$mem") e.0) e.1) (λ x. refl) (enumerate_from (places m.imports).memories m.memories))
-    (none_in segment_of (λ (e : ℕ × GlobalDef). global_field (id_at (codes "$g") e.0) e.1) (λ x. refl) (enumerate_from (places m.imports).globals m.globals))
-    (none_in segment_of export_field (λ x. refl) m.exports)
-    (no_start segment_of (λ x. refl) m.start)
-    (none_in segment_of element_field (λ x. refl) m.elements)
-    (all_in segment_of segment_field (λ x. x) (λ x. refl) m.segments)
-    ∙ itself m.segments
+segments_found m = in_rest segment_of m (λ id x. refl) (λ id x. refl) (λ id x. refl) (λ id x. refl) (λ id x. refl) (λ id x. refl) _
+    (rest_is segment_of m [] [] [] m.segments (none_in segment_of export_field (λ x. refl) m.exports) (no_start segment_of (λ x. refl) m.start) (none_in segment_of element_field (λ x. refl) m.elements) (all_in segment_of segment_field (λ x. x) (λ x. refl) m.segments ∙ itself m.segments))
 
 first_start : (s : Option ℕ) → slice_get (start_list s) 0 ≡ s
 first_start None = refl
@@ -399,72 +362,41 @@ global_hit before i = by i.desc
     by (Memory x) = inr (refl, refl)
     by (Global x) = inl (x, refl, refl)
 
+-- those of the imports, and then those of a part
+ids_joined : (prefix : List ℕ) (n k : ℕ) → numbered prefix 0 n ++ (numbered prefix n k ++ []) ≡ numbered prefix 0 (n + k)
+ids_joined prefix n k =
+    ap (λ z. numbered prefix 0 n ++ z) (append-nil (numbered prefix n k)) ∙ ap (λ z. numbered prefix 0 n ++ numbered prefix z k) (let e : n ≡ 0 + n = omega arith in e) ∙ numbered_join prefix 0 n k
+
 function_ids_found : (m : Module) → filter_map (id_in kind.Func) (fields_in m) ≡ numbered (codes "$f") 0 (length (all_functions m))
-function_ids_found m = gathered (id_in kind.Func) m [] (numbered (codes "$f") 0 (length (filter_map function_of m.imports))) (numbered (codes "$f") (length (filter_map function_of m.imports)) (length m.functions)) [] [] [] [] [] [] []
-    (none_in (id_in kind.Func) (λ (e : ℕ × Signature). type_field (id_at (codes "$t") e.0) e.1) (λ x. refl) (enumerate_from 0 m.types))
-    (imports_named kind.Func function_of (codes "$f") function_hit [] m.imports)
-    (all_in (id_in kind.Func) (λ (e : ℕ × Function). function_field (id_at (codes "$f") e.0) e.1) (λ (e : ℕ × Function). id_at (codes "$f") e.0) (λ x. refl) (enumerate_from (places m.imports).functions m.functions) ∙ firsts (codes "$f") (length (filter_map function_of m.imports)) m.functions)
-    (none_in (id_in kind.Func) (λ (e : ℕ × Limits). table_field (id_at (codes "$tab") e.0) e.1) (λ x. refl) (enumerate_from (places m.imports).tables m.tables))
-    (none_in (id_in kind.Func) (λ (e : ℕ × Limits). memory_field (id_at (codes "$mem") e.0) e.1) (λ x. refl) (enumerate_from (places m.imports).memories m.memories))
-    (none_in (id_in kind.Func) (λ (e : ℕ × GlobalDef). global_field (id_at (codes "$g") e.0) e.1) (λ x. refl) (enumerate_from (places m.imports).globals m.globals))
-    (none_in (id_in kind.Func) export_field (λ x. refl) m.exports)
-    (no_start (id_in kind.Func) (λ x. refl) m.start)
-    (none_in (id_in kind.Func) element_field (λ x. refl) m.elements)
-    (none_in (id_in kind.Func) segment_field (λ x. refl) m.segments)
-    ∙ ap (λ z. (numbered (codes "$f") 0 (length (filter_map function_of m.imports))) ++ z) (append-nil (numbered (codes "$f") (length (filter_map function_of m.imports)) (length m.functions)))
-    ∙ ap (λ z. (numbered (codes "$f") 0 (length (filter_map function_of m.imports))) ++ numbered (codes "$f") z (length m.functions)) (let e : length (filter_map function_of m.imports) ≡ 0 + length (filter_map function_of m.imports) = omega arith in e)
-    ∙ numbered_join (codes "$f") 0 (length (filter_map function_of m.imports)) (length m.functions)
+function_ids_found m = gathered (id_in kind.Func) m [] (numbered (codes "$f") 0 (length (filter_map function_of m.imports))) (numbered (codes "$f") (length (filter_map function_of m.imports)) (length m.functions)) [] [] [] []
+    (no_types (id_in kind.Func) m (λ id x. refl)) (imports_named kind.Func function_of (codes "$f") function_hit [] m.imports)
+    (all_ids (id_in kind.Func) (codes "$f") function_field (λ id x. refl) (places m.imports).functions m.functions) (no_tables (id_in kind.Func) m (λ id x. refl)) (no_memories (id_in kind.Func) m (λ id x. refl)) (no_globals (id_in kind.Func) m (λ id x. refl))
+    (no_rest (id_in kind.Func) m (λ x. refl) (λ x. refl) (λ x. refl) (λ x. refl))
+    ∙ ids_joined (codes "$f") (length (filter_map function_of m.imports)) (length m.functions)
     ∙ ap (λ z. numbered (codes "$f") 0 z) (sym (length-append (filter_map function_of m.imports) (map (λ f. f.type_index) m.functions) ∙ ap (λ z. length (filter_map function_of m.imports) + z) (length-map m.functions (λ f. f.type_index))))
 
 table_ids_found : (m : Module) → filter_map (id_in kind.Table) (fields_in m) ≡ numbered (codes "$tab") 0 (length (all_tables m))
-table_ids_found m = gathered (id_in kind.Table) m [] (numbered (codes "$tab") 0 (length (filter_map table_of m.imports))) [] (numbered (codes "$tab") (length (filter_map table_of m.imports)) (length m.tables)) [] [] [] [] [] []
-    (none_in (id_in kind.Table) (λ (e : ℕ × Signature). type_field (id_at (codes "$t") e.0) e.1) (λ x. refl) (enumerate_from 0 m.types))
-    (imports_named kind.Table table_of (codes "$tab") table_hit [] m.imports)
-    (none_in (id_in kind.Table) (λ (e : ℕ × Function). function_field (id_at (codes "$f") e.0) e.1) (λ x. refl) (enumerate_from (places m.imports).functions m.functions))
-    (all_in (id_in kind.Table) (λ (e : ℕ × Limits). table_field (id_at (codes "$tab") e.0) e.1) (λ (e : ℕ × Limits). id_at (codes "$tab") e.0) (λ x. refl) (enumerate_from (places m.imports).tables m.tables) ∙ firsts (codes "$tab") (length (filter_map table_of m.imports)) m.tables)
-    (none_in (id_in kind.Table) (λ (e : ℕ × Limits). memory_field (id_at (codes "$mem") e.0) e.1) (λ x. refl) (enumerate_from (places m.imports).memories m.memories))
-    (none_in (id_in kind.Table) (λ (e : ℕ × GlobalDef). global_field (id_at (codes "$g") e.0) e.1) (λ x. refl) (enumerate_from (places m.imports).globals m.globals))
-    (none_in (id_in kind.Table) export_field (λ x. refl) m.exports)
-    (no_start (id_in kind.Table) (λ x. refl) m.start)
-    (none_in (id_in kind.Table) element_field (λ x. refl) m.elements)
-    (none_in (id_in kind.Table) segment_field (λ x. refl) m.segments)
-    ∙ ap (λ z. (numbered (codes "$tab") 0 (length (filter_map table_of m.imports))) ++ z) (append-nil (numbered (codes "$tab") (length (filter_map table_of m.imports)) (length m.tables)))
-    ∙ ap (λ z. (numbered (codes "$tab") 0 (length (filter_map table_of m.imports))) ++ numbered (codes "$tab") z (length m.tables)) (let e : length (filter_map table_of m.imports) ≡ 0 + length (filter_map table_of m.imports) = omega arith in e)
-    ∙ numbered_join (codes "$tab") 0 (length (filter_map table_of m.imports)) (length m.tables)
+table_ids_found m = gathered (id_in kind.Table) m [] (numbered (codes "$tab") 0 (length (filter_map table_of m.imports))) [] (numbered (codes "$tab") (length (filter_map table_of m.imports)) (length m.tables)) [] [] []
+    (no_types (id_in kind.Table) m (λ id x. refl)) (imports_named kind.Table table_of (codes "$tab") table_hit [] m.imports)
+    (no_functions (id_in kind.Table) m (λ id x. refl)) (all_ids (id_in kind.Table) (codes "$tab") table_field (λ id x. refl) (places m.imports).tables m.tables) (no_memories (id_in kind.Table) m (λ id x. refl)) (no_globals (id_in kind.Table) m (λ id x. refl))
+    (no_rest (id_in kind.Table) m (λ x. refl) (λ x. refl) (λ x. refl) (λ x. refl))
+    ∙ ids_joined (codes "$tab") (length (filter_map table_of m.imports)) (length m.tables)
     ∙ ap (λ z. numbered (codes "$tab") 0 z) (sym (length-append (filter_map table_of m.imports) m.tables))
 
 memory_ids_found : (m : Module) → filter_map (id_in kind.Memory) (fields_in m) ≡ numbered (codes "$mem") 0 (length (all_memories m))
-memory_ids_found m = gathered (id_in kind.Memory) m [] (numbered (codes "$mem") 0 (length (filter_map memory_of m.imports))) [] [] (numbered (codes "$mem") (length (filter_map memory_of m.imports)) (length m.memories)) [] [] [] [] []
-    (none_in (id_in kind.Memory) (λ (e : ℕ × Signature). type_field (id_at (codes "$t") e.0) e.1) (λ x. refl) (enumerate_from 0 m.types))
-    (imports_named kind.Memory memory_of (codes "$mem") memory_hit [] m.imports)
-    (none_in (id_in kind.Memory) (λ (e : ℕ × Function). function_field (id_at (codes "$f") e.0) e.1) (λ x. refl) (enumerate_from (places m.imports).functions m.functions))
-    (none_in (id_in kind.Memory) (λ (e : ℕ × Limits). table_field (id_at (codes "$tab") e.0) e.1) (λ x. refl) (enumerate_from (places m.imports).tables m.tables))
-    (all_in (id_in kind.Memory) (λ (e : ℕ × Limits). memory_field (id_at (codes "$mem") e.0) e.1) (λ (e : ℕ × Limits). id_at (codes "$mem") e.0) (λ x. refl) (enumerate_from (places m.imports).memories m.memories) ∙ firsts (codes "$mem") (length (filter_map memory_of m.imports)) m.memories)
-    (none_in (id_in kind.Memory) (λ (e : ℕ × GlobalDef). global_field (id_at (codes "$g") e.0) e.1) (λ x. refl) (enumerate_from (places m.imports).globals m.globals))
-    (none_in (id_in kind.Memory) export_field (λ x. refl) m.exports)
-    (no_start (id_in kind.Memory) (λ x. refl) m.start)
-    (none_in (id_in kind.Memory) element_field (λ x. refl) m.elements)
-    (none_in (id_in kind.Memory) segment_field (λ x. refl) m.segments)
-    ∙ ap (λ z. (numbered (codes "$mem") 0 (length (filter_map memory_of m.imports))) ++ z) (append-nil (numbered (codes "$mem") (length (filter_map memory_of m.imports)) (length m.memories)))
-    ∙ ap (λ z. (numbered (codes "$mem") 0 (length (filter_map memory_of m.imports))) ++ numbered (codes "$mem") z (length m.memories)) (let e : length (filter_map memory_of m.imports) ≡ 0 + length (filter_map memory_of m.imports) = omega arith in e)
-    ∙ numbered_join (codes "$mem") 0 (length (filter_map memory_of m.imports)) (length m.memories)
+memory_ids_found m = gathered (id_in kind.Memory) m [] (numbered (codes "$mem") 0 (length (filter_map memory_of m.imports))) [] [] (numbered (codes "$mem") (length (filter_map memory_of m.imports)) (length m.memories)) [] []
+    (no_types (id_in kind.Memory) m (λ id x. refl)) (imports_named kind.Memory memory_of (codes "$mem") memory_hit [] m.imports)
+    (no_functions (id_in kind.Memory) m (λ id x. refl)) (no_tables (id_in kind.Memory) m (λ id x. refl)) (all_ids (id_in kind.Memory) (codes "$mem") memory_field (λ id x. refl) (places m.imports).memories m.memories) (no_globals (id_in kind.Memory) m (λ id x. refl))
+    (no_rest (id_in kind.Memory) m (λ x. refl) (λ x. refl) (λ x. refl) (λ x. refl))
+    ∙ ids_joined (codes "$mem") (length (filter_map memory_of m.imports)) (length m.memories)
     ∙ ap (λ z. numbered (codes "$mem") 0 z) (sym (length-append (filter_map memory_of m.imports) m.memories))
 
 global_ids_found : (m : Module) → filter_map (id_in kind.Global) (fields_in m) ≡ numbered (codes "$g") 0 (length (all_globals m))
-global_ids_found m = gathered (id_in kind.Global) m [] (numbered (codes "$g") 0 (length (filter_map global_of m.imports))) [] [] [] (numbered (codes "$g") (length (filter_map global_of m.imports)) (length m.globals)) [] [] [] []
-    (none_in (id_in kind.Global) (λ (e : ℕ × Signature). type_field (id_at (codes "$t") e.0) e.1) (λ x. refl) (enumerate_from 0 m.types))
-    (imports_named kind.Global global_of (codes "$g") global_hit [] m.imports)
-    (none_in (id_in kind.Global) (λ (e : ℕ × Function). function_field (id_at (codes "$f") e.0) e.1) (λ x. refl) (enumerate_from (places m.imports).functions m.functions))
-    (none_in (id_in kind.Global) (λ (e : ℕ × Limits). table_field (id_at (codes "$tab") e.0) e.1) (λ x. refl) (enumerate_from (places m.imports).tables m.tables))
-    (none_in (id_in kind.Global) (λ (e : ℕ × Limits). memory_field (id_at (codes "$mem") e.0) e.1) (λ x. refl) (enumerate_from (places m.imports).memories m.memories))
-    (all_in (id_in kind.Global) (λ (e : ℕ × GlobalDef). global_field (id_at (codes "$g") e.0) e.1) (λ (e : ℕ × GlobalDef). id_at (codes "$g") e.0) (λ x. refl) (enumerate_from (places m.imports).globals m.globals) ∙ firsts (codes "$g") (length (filter_map global_of m.imports)) m.globals)
-    (none_in (id_in kind.Global) export_field (λ x. refl) m.exports)
-    (no_start (id_in kind.Global) (λ x. refl) m.start)
-    (none_in (id_in kind.Global) element_field (λ x. refl) m.elements)
-    (none_in (id_in kind.Global) segment_field (λ x. refl) m.segments)
-    ∙ ap (λ z. (numbered (codes "$g") 0 (length (filter_map global_of m.imports))) ++ z) (append-nil (numbered (codes "$g") (length (filter_map global_of m.imports)) (length m.globals)))
-    ∙ ap (λ z. (numbered (codes "$g") 0 (length (filter_map global_of m.imports))) ++ numbered (codes "$g") z (length m.globals)) (let e : length (filter_map global_of m.imports) ≡ 0 + length (filter_map global_of m.imports) = omega arith in e)
-    ∙ numbered_join (codes "$g") 0 (length (filter_map global_of m.imports)) (length m.globals)
+global_ids_found m = gathered (id_in kind.Global) m [] (numbered (codes "$g") 0 (length (filter_map global_of m.imports))) [] [] [] (numbered (codes "$g") (length (filter_map global_of m.imports)) (length m.globals)) []
+    (no_types (id_in kind.Global) m (λ id x. refl)) (imports_named kind.Global global_of (codes "$g") global_hit [] m.imports)
+    (no_functions (id_in kind.Global) m (λ id x. refl)) (no_tables (id_in kind.Global) m (λ id x. refl)) (no_memories (id_in kind.Global) m (λ id x. refl)) (all_ids (id_in kind.Global) (codes "$g") global_field (λ id x. refl) (places m.imports).globals m.globals)
+    (no_rest (id_in kind.Global) m (λ x. refl) (λ x. refl) (λ x. refl) (λ x. refl))
+    ∙ ids_joined (codes "$g") (length (filter_map global_of m.imports)) (length m.globals)
     ∙ ap (λ z. numbered (codes "$g") 0 z) (sym (length-append (filter_map global_of m.imports) (map (λ g. g.ty) m.globals) ∙ ap (λ z. length (filter_map global_of m.imports) + z) (length-map m.globals (λ g. g.ty))))
 
 -- what the text of the module defines

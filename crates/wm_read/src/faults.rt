@@ -146,6 +146,12 @@ pub struct TextFault {
 }
 
 impl TextFault {
+    /// Memory was refused, at no token.
+    pub(crate) const MEMORY: TextFault = TextFault {
+        why: TextWhy::Memory,
+        left: 0,
+    };
+
     /// The same with its place in the whole text.
     pub fn refusal(self, text: &[u8]) -> TextRefusal
         ensures why { result.why ≡ self.why }
@@ -163,10 +169,7 @@ impl From<AllocError> for TextFault {
     ghost from_gives = { λ _ e. e.why ≡ Memory };
 
     fn from(_e: AllocError) -> TextFault {
-        TextFault {
-            why: TextWhy::Memory,
-            left: 0,
-        }
+        TextFault::MEMORY
     }
 }
 
@@ -174,10 +177,7 @@ impl<T: Drop> From<AllocFailed<T>> for TextFault {
     ghost from_gives = { λ _ e. e.why ≡ Memory };
 
     fn from(_e: AllocFailed<T>) -> TextFault {
-        TextFault {
-            why: TextWhy::Memory,
-            left: 0,
-        }
+        TextFault::MEMORY
     }
 }
 

@@ -143,8 +143,8 @@ fn read_tokens(
     }
 }
 
-/// What is told of a text that is refused. Where the profile has no floats, a literal such as `1.5` is no token,
-/// so the first one is told before all else but bytes that are no UTF-8.
+/// What is told of a text that is refused. Where the profile has no floats, a literal such as `1.5` is no
+/// token, so the first one is told before all else but bytes that are no UTF-8.
 fn told_first(profile: Profile, text: &[u8], refusal: TextRefusal) -> TextRefusal
     requires { refusal.at ≤ length text.now }
     ensures at { result.at ≤ length text.now }

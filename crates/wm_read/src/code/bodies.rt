@@ -43,16 +43,13 @@ fn push(builder: &mut BodyBuilder, op: Op) -> Result<(), TextFault>
 {
     match builder.push(op) {
         Ok(()) => Ok(()),
-        Err(BodyFault::Memory) => Err(TextFault {
-            why: TextWhy::Memory,
-            left: 0,
-        }),
+        Err(BodyFault::Memory) => Err(TextFault::MEMORY),
         Err(BodyFault::Unbalanced) => unreachable!(),
     }
 }
 
-/// Takes an instruction that holds no list and may stand next: at once, where there is room for it. Most ops are
-/// such.
+/// Takes an instruction that holds no list and may stand next: at once, where there is room for it. Most ops
+/// are such.
 #[inline(always)]
 #[tactic(auto, using(crate::proofs::BuiltBodies::op_laws))]
 fn push_simple(builder: &mut BodyBuilder, simple: Simple) -> Result<(), TextFault>

@@ -122,12 +122,7 @@ fn local_types(alloc: Global, locals: &[NamedRun], text: &[u8]) -> Result<Locals
         match types.add(count, ty) {
             Ok(()) => rest = more,
             Err(Why::TooManyLocals) => return Err(refuse(TextWhy::TooManyLocals, text)),
-            Err(_) => {
-                return Err(TextFault {
-                    why: TextWhy::Memory,
-                    left: 0,
-                });
-            }
+            Err(_) => return Err(TextFault::MEMORY),
         }
     }
     Ok(types)
@@ -203,10 +198,7 @@ fn first_fault(alloc: Global, names: &Names, fault: TextFault, text: &[u8]) -> T
     match earlier(alloc, rest, fault.left, 0xFFFF_FFFF) {
         Ok(Some(other)) => other,
         Ok(None) => fault,
-        Err(_) => TextFault {
-            why: TextWhy::Memory,
-            left: 0,
-        },
+        Err(_) => TextFault::MEMORY,
     }
 }
 

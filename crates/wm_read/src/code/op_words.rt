@@ -11,8 +11,8 @@ use wm_syntax::instructions::opcodes::op_of;
 use wm_syntax::profile::Profile;
 
 // The bytes of the instructions whose names have five characters and more, each at the place that
-// `long_guess` gives its name, and 0 at every other. Two names have one place: there stands `memory.size`, and
-// `i32.popcnt` is searched. A wrong byte here only costs time.
+// `long_guess` gives its name, and 0 at every other. Two names have one place: there stands `memory.size`,
+// and `i32.popcnt` is searched. A wrong byte here only costs time.
 static GUESSES: [u8; 512] = [
     0x00, 0x00, 0x00, 0x00, 0x00, 0x00, 0x63, 0x00, 0x00, 0x00, 0x00, 0x00, 0x81, 0x00, 0x00, 0x4F,
     0xA4, 0xA8, 0x00, 0x00, 0x00, 0x00, 0x00, 0x00, 0x00, 0x6D, 0x00, 0x00, 0x00, 0x00, 0x00, 0x00,

@@ -211,14 +211,14 @@ fn unspaced(text: &[u8]) -> &[u8]
     after_spaces(text)
 }
 
-/// Whether a word stands first, as its first byte tells. Most identifiers that may stand are left out, and then the
-/// next instruction is not looked through to the end of its word.
+/// Whether a word stands first, as its first byte tells. Most identifiers that may stand are left out, and
+/// then the next instruction is not looked through to the end of its word.
 #[inline(always)]
 #[tactic(auto, using(crate::proofs::Keys::word_begins))]
 fn begins_word(text: &[u8]) -> bool
     ensures { result ≡ true → BeginsWord (lexed text.now) }
 {
-    matches!(after_spaces(text), [b'a'..=b'z', ..])
+    matches!(text, [b'a'..=b'z', ..])
 }
 
 /// An identifier, or none.
@@ -435,7 +435,7 @@ fn begins_other_word(key: &[u8], text: &[u8]) -> bool
     ensures { result ≡ true → (usual : ℕ)
         → reading.key_at key.now usual (lexed text.now) ≡ Some (usual, lexed text.now) }
 {
-    match after_spaces(text) {
+    match text {
         [c @ b'a'..=b'z', ..] => match key {
             [first, ..] => *first != *c,
             [] => false,

@@ -131,7 +131,8 @@ fn atom(text: &[u8]) -> Found
     }
 }
 
-/// The parenthesis that stands first, and what follows it; none where another token stands, or a block comment.
+/// The parenthesis that stands first, and what follows it; none where another token stands, or a block
+/// comment.
 #[inline(always)]
 fn parenthesis(text: &[u8]) -> Option<(Lexeme, &[u8])>
     ensures { IfSome result (λ x. scan.first (token_of x.0) x.1.now ≡ scan.ahead text.now) }
@@ -167,8 +168,8 @@ fn opening_alone(text: &[u8]) -> Option<(Lexeme, &[u8])>
     }
 }
 
-/// The first token, and the text after it; none at the end, or where `check_tokens` finds a fault. Most that are asked
-/// for here are parentheses, which are found in place.
+/// The first token, and the text after it; none at the end, or where `check_tokens` finds a fault. Most that
+/// are asked for here are parentheses, which are found in place.
 #[tactic(auto, using(crate::proofs::Whole::ahead_laws))]
 pub fn next_token(text: &[u8]) -> Option<(Lexeme, &[u8])>
     ensures token { MatchOption result (scan.lexed text.now ≡ [])

@@ -113,8 +113,8 @@ fn is_space(byte: u8) -> bool
     matches!(byte, b' ' | b'\t' | b'\n' | b'\r')
 }
 
-/// A text from its first byte on that is not white space by itself. Most tokens are parted by one such byte or none,
-/// and these are told in place; a longer run is passed over out of line.
+/// A text from its first byte on that is not white space by itself. Most tokens are parted by one such byte
+/// or none, and these are told in place; a longer run is passed over out of line.
 #[inline(always)]
 pub fn after_spaces(text: &[u8]) -> &[u8]
     ensures { result.now ≡ scan.after_spaces text.now }
@@ -429,7 +429,8 @@ fn given_last(mode: Mode, text: &[u8]) -> Option<(u8, &[u8])>
 
 /// A string from where no byte stands first that `given_first` finds.
 fn after_given(text: &[u8]) -> &[u8]
-    ensures rest { scan.rest_of (scan.string_in Plain result.now) ≡ scan.rest_of (scan.string_in Plain text.now) }
+    ensures rest { scan.rest_of (scan.string_in Plain result.now)
+        ≡ scan.rest_of (scan.string_in Plain text.now) }
     ensures within { length result.now ≤ length text.now }
 {
     let mut rest = text;
@@ -617,8 +618,8 @@ fn is_literal(atom: &[u8]) -> bool
     }
 }
 
-/// Whether an atom is one only for being a float (section 6.3.2), and so none where there are no floats. It has no
-/// clause, since it decides only which name a refusal gets.
+/// Whether an atom is one only for being a float (section 6.3.2), and so none where there are no floats. It
+/// has no clause, since it decides only which name a refusal gets.
 pub(crate) fn is_float_alone(atom: &[u8]) -> bool {
     match atom.first() {
         None | Some(b'$' | b'a'..=b'z') => false,

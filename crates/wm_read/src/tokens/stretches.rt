@@ -1,15 +1,15 @@
 //! Stretches of a text that are white space by itself and plain atoms: words, identifiers and decimal digits.
-//! Such a stretch is passed over by a machine that has no jump on what a byte is: a shift-based DFA, as Per Vognsen
-//! described it.
+//! Such a stretch is passed over by a machine that has no jump on what a byte is: a shift-based DFA, as Per
+//! Vognsen described it.
 
 ghost use Rattle.std.specs.Prelude.{◌≡◌, ◌≤◌, ◌%◌, length};
 ghost use Rattle.wm_read.specs.inner.Stretches.{AtHand, Passes, after_byte, place_of};
 
 use crate::tokens::scan::after_spaces;
 
-// What a byte does to the atom at hand: a row has the next one for each, in five bits at its own place, and what
-// is at hand is told by its place. Nothing stands at 0, a word at 5, digits at 10, and the `$` of an identifier
-// at 15. A byte that no stretch has leads to 20, from where nothing leads away.
+// What a byte does to the atom at hand: a row has the next one for each, in five bits at its own place, and
+// what is at hand is told by its place. Nothing stands at 0, a word at 5, digits at 10, and the `$` of an
+// identifier at 15. A byte that no stretch has leads to 20, from where nothing leads away.
 const NOTHING: u32 = 0;
 
 const STOPPED: u32 = 20;
@@ -58,8 +58,8 @@ fn after(hand: u32, byte: u8) -> u32
     ROWS[byte as usize] >> (hand % 32)
 }
 
-/// A text from behind a stretch that stands first in it, or behind a part of that: eight bytes are taken in a step,
-/// and a step may end within an atom.
+/// A text from behind a stretch that stands first in it, or behind a part of that: eight bytes are taken in a
+/// step, and a step may end within an atom.
 #[inline(never)]
 fn after_stretch(text: &[u8]) -> &[u8]
     ensures passes { Passes text.now result.now }
@@ -89,8 +89,9 @@ fn after_stretch(text: &[u8]) -> &[u8]
     rest
 }
 
-/// A text from behind a stretch that stands first in it, or behind a part of that, and from its first byte on that
-/// is not white space by itself. It is looked for where a plain atom begins: parentheses stand near one another.
+/// A text from behind a stretch that stands first in it, or behind a part of that, and from its first byte on
+/// that is not white space by itself. It is looked for where a plain atom begins: parentheses stand near one
+/// another.
 #[inline(always)]
 #[tactic(auto, using(crate::proofs::Stretches::stretch_laws))]
 pub fn after_stretches(text: &[u8]) -> &[u8]
