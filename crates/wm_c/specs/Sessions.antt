@@ -28,6 +28,11 @@ abbrev pub IsOver : State → Type 0
 IsOver (Reading v) = ⊥
 IsOver (Ended a) = Unit {0}
 
+-- it has no answer yet
+abbrev pub IsOpen : State → Type 0
+IsOpen (Reading v) = Unit {0}
+IsOpen (Ended a) = ⊥
+
 -- it was refused memory
 abbrev pub StateRanOut : State → Type 0
 StateRanOut (Reading v) = IfSome (refusal_in v) (λ r. r.why ≡ Memory)

@@ -3,7 +3,7 @@
 ghost use Rattle.std.specs.Prelude.{◌≡◌, ◌≢◌, ◌++◌, ◌↔◌, ◌⊎◌, ℕ, List, [], Err, None};
 ghost use Rattle.wm_c.specs.Answers.{Answers, in_numbers, misuse};
 ghost use Rattle.wm_c.specs.Codes.{status_code};
-ghost use Rattle.wm_c.specs.Handles.{Holds, HoldsAnswer, HoldsRefusal, RanOut, TakesNothing};
+ghost use Rattle.wm_c.specs.Handles.{Holds, HoldsAnswer, HoldsRefusal, RanOut, TakesNothing, TakesPieces};
 ghost use Rattle.wm_c.specs.Options.{Asking, Asks, plain_options};
 ghost use Rattle.wm_c.specs.declared.answer.Answer.{Answer as AnAnswer};
 ghost use Rattle.wm_decode.specs.declared.refusal.Refusal.{Refusal as ARefusal};
@@ -24,6 +24,8 @@ use std::mem;
 pub extern "C" fn wmod_begin(alloc: Global, v: &mut Handle, profile: u32, max_bytes: u64) -> u32
     ensures begun { result ≡ 0 → Asking (plain_options profile max_bytes) (λ p limit q.
         Holds v.new.held p limit q []) }
+    ensures ready { result ≡ 0 → TakesPieces v.new.held }
+    ensures unrefused { result ≡ 0 → (r : ARefusal) → HoldsRefusal v.new.held r → ⊥ }
     ensures misused { result ≡ 2 → (v.new.held ≡ v.old.held)
         × ((p : AProfile) → Asks (plain_options profile max_bytes) p → ⊥) }
     ensures memory { result ≡ 4 → v.new.held ≡ None }
@@ -36,6 +38,8 @@ pub extern "C" fn wmod_begin(alloc: Global, v: &mut Handle, profile: u32, max_by
 #[unsafe(no_mangle)]
 pub extern "C" fn wmod_begin_with(alloc: Global, v: &mut Handle, options: &Options) -> u32
     ensures begun { result ≡ 0 → Asking options.now (λ p limit q. Holds v.new.held p limit q []) }
+    ensures ready { result ≡ 0 → TakesPieces v.new.held }
+    ensures unrefused { result ≡ 0 → (r : ARefusal) → HoldsRefusal v.new.held r → ⊥ }
     ensures misused { result ≡ 2 → (v.new.held ≡ v.old.held) × ((p : AProfile) → Asks options.now p → ⊥) }
     ensures memory { result ≡ 4 → v.new.held ≡ None }
     ensures status { (result ≡ 0) ⊎ (result ≡ 2) ⊎ (result ≡ 4) }
@@ -45,6 +49,8 @@ pub extern "C" fn wmod_begin_with(alloc: Global, v: &mut Handle, options: &Optio
 
 fn begin(alloc: Global, v: &mut Handle, options: &Options) -> u32
     ensures begun { result ≡ 0 → Asking options.now (λ p limit q. Holds v.new.held p limit q []) }
+    ensures ready { result ≡ 0 → TakesPieces v.new.held }
+    ensures unrefused { result ≡ 0 → (r : ARefusal) → HoldsRefusal v.new.held r → ⊥ }
     ensures misused { result ≡ 2 → (v.new.held ≡ v.old.held) × ((p : AProfile) → Asks options.now p → ⊥) }
     ensures memory { result ≡ 4 → v.new.held ≡ None }
     ensures status { (result ≡ 0) ⊎ (result ≡ 2) ⊎ (result ≡ 4) }
@@ -75,6 +81,9 @@ pub extern "C" fn wmod_feed(alloc: Global, v: &mut Handle, piece: &[u8]) -> u32
     // Misuse is answered where the handle is empty or its input has ended, and changes nothing.
     ensures over { (result ≡ 2) ↔ TakesNothing v.old.held }
     ensures misused { result ≡ 2 → v.new.held ≡ v.old.held }
+    // A piece that is taken, refused or not, leaves a handle that takes pieces.
+    ensures ready { result ≢ 2 → TakesPieces v.new.held }
+    ensures unrefused { result ≡ 0 → (r : ARefusal) → HoldsRefusal v.new.held r → ⊥ }
     ensures memory { result ≡ 4 → RanOut v.new.held }
     // The first refusal stays.
     ensures first { result ≢ 0 → result ≢ 2 → (r : ARefusal) × (result ≡ status_code r.why)

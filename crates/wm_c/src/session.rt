@@ -3,7 +3,7 @@
 ghost use Rattle.std.specs.Prelude.{◌≡◌, ◌≢◌, ◌≤◌, ◌^◌, ◌++◌, ◌↔◌, ℕ, List, [], Err, IfSome, Some};
 ghost use Rattle.wm_c.specs.Answers.{Answers, IsRight, in_numbers};
 ghost use Rattle.wm_c.specs.Codes.{status_code};
-ghost use Rattle.wm_c.specs.Sessions.{HasTaken, HasEnded, IsOver, StateRanOut, StateRefused, StateTaken};
+ghost use Rattle.wm_c.specs.Sessions.{HasTaken, HasEnded, IsOpen, IsOver, StateRanOut, StateRefused, StateTaken};
 ghost use Rattle.wm_c.specs.declared.session.State.TheVariants.{Ended};
 ghost use Rattle.wm_decode.specs.declared.refusal.Refusal.{Refusal as ARefusal};
 ghost use Rattle.wm_rules.specs.Validation.{Accepted};
@@ -35,9 +35,12 @@ pub enum State {
 
 impl Session {
     /// Has taken nothing, and takes no memory.
+    #[tactic(auto, using(crate::proofs::Begun::nothing_refused))]
     pub(crate) fn new(alloc: Global, asked: Asked) -> Session
         requires { asked.max_bytes ≤ 2 ^ 62 }
-        ensures { HasTaken result asked.profile asked.max_bytes asked.policy [] }
+        ensures taken { HasTaken result asked.profile asked.max_bytes asked.policy [] }
+        ensures ready { IsOpen result.state }
+        ensures unrefused { (r : ARefusal) → StateRefused result.state r → ⊥ }
     {
         let Asked {
             profile,
@@ -60,6 +63,9 @@ impl Session {
             → (more : List ℕ) → Accepted p limit q ((before ++ piece.now) ++ more) → ⊥ }
         ensures over { (result ≡ 2) ↔ IsOver self.old.state }
         ensures misused { result ≡ 2 → self.new ≡ self.old }
+        // A piece that it takes never ends it, refused or not.
+        ensures ready { result ≢ 2 → IsOpen self.new.state }
+        ensures unrefused { result ≡ 0 → (r : ARefusal) → StateRefused self.new.state r → ⊥ }
         ensures memory { result ≡ 4 → StateRanOut self.new.state }
         // The first refusal stays.
         ensures first { result ≢ 0 → result ≢ 2 → (r : ARefusal) × (result ≡ status_code r.why)
@@ -89,12 +95,14 @@ impl Session {
 }
 
 // Its status after one more piece.
+#[tactic(auto, using(crate::proofs::Statuses::not_none))]
 fn fed(validator: &mut Validator, piece: &[u8]) -> u32
     ensures read { HavingRead validator.old (λ p limit q before.
         HasRead validator.new p limit q (before ++ piece.now)) }
     ensures refused { result ≡ 1 → HavingRead validator.old (λ p limit q before. (more : List ℕ)
         → Accepted p limit q ((before ++ piece.now) ++ more) → ⊥) }
     ensures status { result ≢ 2 }
+    ensures unrefused { result ≡ 0 → (r : ARefusal) → refusal_in validator.new ≡ Some r → ⊥ }
     ensures memory { result ≡ 4 → IfSome (refusal_in validator.new) (λ r. r.why ≡ Memory) }
     ensures first { result ≢ 0 → (r : ARefusal) × (result ≡ status_code r.why)
         × (refusal_in validator.new ≡ Some r) }

@@ -61,7 +61,8 @@ with 64 1 1000 - - - 0 ADD = 2: 2 0 0 0 0 0 0 0
 with 56 9 1000 - - - 0 ADD = 2: 2 0 0 0 0 0 0 0
 with 56 1 1000 - - - 2 ADD = 2: 2 0 0 0 0 0 0 0";
 
-// A handle: pieces, the end twice, a feed after it, an end of what is empty.
+// A handle: pieces, empty ones too, the end twice, a feed after it, an end of what is empty, a refused piece
+// after one that was taken.
 const HANDLE: &str = "feed H = 2
 finish = 2: 2 0 0 0 0 0 0 0
 end = 0
@@ -72,6 +73,12 @@ finish = 0: 0 0 0 0 0 0 0 0
 finish = 0: 0 0 0 0 0 0 0 0
 feed 00 = 2
 finish = 0: 0 0 0 0 0 0 0 0
+begin 1 1000 = 0
+feed . = 0
+feed H = 0
+feed 0C = 1
+feed . = 1
+finish = 1: 1 3 9 0 0 0 0 0
 begin 2 1000 = 0
 feed 0061736D02 = 1
 feed 00 = 1
