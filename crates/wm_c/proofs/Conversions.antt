@@ -14,7 +14,7 @@ use Rattle.wm_c.specs.declared.output.Output.{Output}
 use Rattle.wm_c.specs.Conversions.{Builds, Converted, ConvertedFrom, ConvertedText, Fills, IsMemory, IsRefused, IsUnbuilt, misuse, no_room, refuses, unbuilt, wrote}
 use Rattle.wm_c.specs.declared.output.Unbuilt.{Unbuilt}
 use Rattle.wm_c.specs.Options.{Asking, Asks, spellings_of}
-use Rattle.wm_c.proofs.Statuses.{not_memory, one_or_four, refused_memory, unbuilt_memory, unbuilt_status}
+use Rattle.wm_c.proofs.Statuses.{not_memory, one_or_four, refused_memory, unbuilt_length, unbuilt_memory, unbuilt_status}
 
 -- The relations of a conversion are named alike in all that follows.
 abbrev pub Relation : Type 1
@@ -33,7 +33,10 @@ fits Of form R o text before after (p, a, (m, l, is)) f = record {
   status = inl refl;
   written = λ e. (p, a, (m, l, subst (λ t. Fills t before after) is f, ap (λ t. wrote (length t)) is));
   room = λ e. absurd (omega (arith, e));
-  refused = λ e. absurd (omega (arith, e));
+  refused = λ e. absurd (elim e [
+    | inl h ↦ omega (arith, h)
+    | inr h ↦ omega (arith, h)
+  ]);
   misused = λ e. absurd (omega (arith, e));
   memory = λ e. absurd (omega (arith, e));
   untouched = λ n. absurd (n refl);
@@ -45,7 +48,10 @@ longer Of form R o text before (p, a, (m, l, is)) lt = record {
   status = inr (inr (inr (inr refl)));
   written = λ e. absurd (omega (arith, e));
   room = λ e. (p, a, (m, l, subst (λ t. length before < length t) is lt, ap (λ t. no_room (length t)) is));
-  refused = λ e. absurd (omega (arith, e));
+  refused = λ e. absurd (elim e [
+    | inl h ↦ omega (arith, h)
+    | inr h ↦ omega (arith, h)
+  ]);
   misused = λ e. absurd (omega (arith, e));
   memory = λ e. absurd (omega (arith, e));
   untouched = λ n. refl;
@@ -77,9 +83,9 @@ converted Of form R o items text before new after result out makes lent whole ro
     (subst (λ (x : List ℕ). Converted Of form R o before x result) (sym is_new)
     (given Of form R o text before new result (subst (λ (t : List ℕ). Makes Of form o t) (sym lent) makes) whole room))
 
--- nothing was made, and the output is a refusal's, or memory's
+-- nothing was made, and the output is a refusal's, also one for want of memory
 pub refusing : (Of : Relation) (form : Module → List ℕ) (R : Refusing) (o : Options) (before after : List ℕ) (out : Output) → ((n : ℕ) → out.status ≡ n → (n ≡ 1) ⊎ (n ≡ 4))
-    → (out.status ≡ 4 → IsMemory out.why) → (out.status ≡ 1 → Asking o (λ p limit q. R p limit q out)) → after ≡ before → Converted Of form R o before after out
+    → (out.status ≡ 4 → IsMemory out.why × (out.length ≡ 0)) → Asking o (λ p limit q. R p limit q out) → after ≡ before → Converted Of form R o before after out
 refusing Of form R o before after out statuses memory refused same = record {
   status = elim (statuses out.status refl) [
     | inl one ↦ inr (inl one)
@@ -93,7 +99,7 @@ refusing Of form R o before after out statuses memory refused same = record {
     | inl h ↦ omega (arith, h)
     | inr h ↦ omega (arith, h)
   ]);
-  refused = refused;
+  refused = λ e. refused;
   misused = λ e. absurd (elim (statuses 2 e) [
     | inl h ↦ omega (arith, h)
     | inr h ↦ omega (arith, h)
@@ -109,7 +115,10 @@ misusing Of form R o before after out is never same =
       status = inr (inr (inl refl));
       written = λ e. absurd (omega (arith, e));
       room = λ e. absurd (omega (arith, e));
-      refused = λ e. absurd (omega (arith, e));
+      refused = λ e. absurd (elim e [
+        | inl h ↦ omega (arith, h)
+        | inr h ↦ omega (arith, h)
+      ]);
       misused = λ e. (refl, never);
       memory = λ e. absurd (omega (arith, e));
       untouched = λ n. same;
@@ -120,8 +129,8 @@ pub refused_from : (form : Module → List ℕ) (o : Options) (input before afte
     → Asking o (λ p limit q. IsRight p limit q input (Err r)) → out ≡ refuses r → after ≡ before → ConvertedFrom form o input before after out
 refused_from form o input before after r out (p, a, right) is same =
     subst (λ (x : Output). ConvertedFrom form o input before after x) (sym is)
-    (refusing (λ p limit q m. Loads p limit q input m) form (IsRefused input) o before after (refuses r) (one_or_four r.why) (refused_memory r.why)
-    (λ e. (p, a, (r, not_memory r.why e, right, refl))) same)
+    (refusing (λ p limit q m. Loads p limit q input m) form (IsRefused input) o before after (refuses r) (one_or_four r.why) (λ e. (refused_memory r.why e, refl))
+    (p, a, (r, not_memory r.why, right, refl)) same)
 
 -- a refusal of a text
 pub unbuilt_from : (o : Options) (input before after : List ℕ) (u : Unbuilt) (out : Output)
@@ -129,7 +138,7 @@ pub unbuilt_from : (o : Options) (input before after : List ℕ) (u : Unbuilt) (
 unbuilt_from o input before after u out (p, a, why) is same =
     subst (λ (x : Output). ConvertedText o input before after x) (sym is)
     (refusing (Builds (spellings_of o) input) canon (λ p limit q out. (u : Unbuilt) × IsUnbuilt (spellings_of o) input p limit q u × (out ≡ unbuilt u)) o before after (unbuilt u)
-    (unbuilt_status u) (unbuilt_memory u) (λ e. (p, a, (u, why, refl))) same)
+    (unbuilt_status u) (λ e. (unbuilt_memory u e, unbuilt_length u)) (p, a, (u, why, refl)) same)
 
 -- the canonical binary of a module is no longer than the bytes that spell it
 pub enough : (o : Options) (input before after : List ℕ) (out : Output) → ConvertedFrom canon o input before after out

@@ -118,6 +118,14 @@ unbuilt_memory (Check (check.Refused r)) e = refused_memory r.why e
 unbuilt_memory (Check check.TooLarge) e = absurd (not_four e)
 unbuilt_memory (Check check.Memory) e = inl refl
 
+-- a text that has no binary has no length of one
+pub unbuilt_length : (u : Unbuilt) → (unbuilt u).length ≡ 0
+unbuilt_length (TooLong at) = refl
+unbuilt_length (Text r) = refl
+unbuilt_length (Check (check.Refused r)) = refl
+unbuilt_length (Check check.TooLarge) = refl
+unbuilt_length (Check check.Memory) = refl
+
 pub not_none : (w : Why) → status_code w ≡ 0 → ⊥
 not_none w e = elim (one_or_four w 0 e) [
   | inl one ↦ absurd (omega (arith, one))

@@ -65,7 +65,7 @@ abbrev pub IsMemory : ℕ → Type 0
 IsMemory n = (n ≡ why_code why.Memory) ⊎ (n ≡ text_code text.Memory)
 
 -- What a conversion comes to in a buffer, as the options ask. `Of` says which module it is, `form` what is
--- written of it, and `Refuses` which refusal is told.
+-- written of it, and `Refuses` which refusal is told, one for want of memory too.
 pub record Converted (Of : Profile → ℕ → Policy → Module → Type 0) (form : Module → List ℕ)
     (Refuses : Profile → ℕ → Policy → Output → Type 0) (o : Options) (before after : List ℕ) (out : Output)
     : Type 0 where
@@ -75,15 +75,16 @@ pub record Converted (Of : Profile → ℕ → Policy → Module → Type 0) (fo
   -- it is longer than the buffer
   pub room : out.status ≡ 5 → Asking o (λ p limit q. (m : Module) × Of p limit q m
       × (length before < length (form m)) × (out ≡ no_room (length (form m))))
-  pub refused : out.status ≡ 1 → Asking o (λ p limit q. Refuses p limit q out)
+  -- of the input by 1, for want of memory by 4
+  pub refused : (out.status ≡ 1) ⊎ (out.status ≡ 4) → Asking o (λ p limit q. Refuses p limit q out)
   pub misused : out.status ≡ 2 → (out ≡ misuse) × ((p : Profile) → Asks o p → ⊥)
-  pub memory : out.status ≡ 4 → IsMemory out.why
+  pub memory : out.status ≡ 4 → IsMemory out.why × (out.length ≡ 0)
   pub untouched : out.status ≢ 0 → after ≡ before
 
--- the refusal of a module's bytes is the validator's
+-- the refusal of a module's bytes is one of a validator's; by 1 it is none for want of memory
 abbrev pub IsRefused : List ℕ → Profile → ℕ → Policy → Output → Type 0
-IsRefused input p limit q out =
-    (r : Refusal) × (r.why ≢ why.Memory) × IsRight p limit q input (Err r) × (out ≡ refuses r)
+IsRefused input p limit q out = (r : Refusal) × (out.status ≡ 1 → r.why ≢ why.Memory)
+    × IsRight p limit q input (Err r) × (out ≡ refuses r)
 
 -- of a module that the bytes spell
 abbrev pub ConvertedFrom : (Module → List ℕ) → Options → List ℕ → List ℕ → List ℕ → Output → Type 0
@@ -105,12 +106,13 @@ IsUnchecked p q m (check.Refused r) = (Valid m → Within q m → ⊥) × (r.why
 IsUnchecked p q m check.TooLarge = Fits m → ⊥
 IsUnchecked p q m check.Memory = Unit {0}
 
--- why a text has no binary; memory aside
+-- Why a text has no binary, memory aside. One above the limit is refused for that alone.
 abbrev pub IsUnbuilt : Spellings → List ℕ → Profile → ℕ → Policy → Unbuilt → Type 0
 IsUnbuilt s input p limit q (TooLong at) = (limit < length input) × (at ≡ limit + 1)
-IsUnbuilt s input p limit q (Text r) =
-    (r.why ≢ text.Memory → (m : Module) → IsTextOf p s m input → ⊥) × (r.at ≤ length input)
-IsUnbuilt s input p limit q (Check f) = (m : Module) × IsTextOf p s m input × IsUnchecked p q m f
+IsUnbuilt s input p limit q (Text r) = (length input ≤ limit)
+    × (r.why ≢ text.Memory → (m : Module) → IsTextOf p s m input → ⊥) × (r.at ≤ length input)
+IsUnbuilt s input p limit q (Check f) =
+    (length input ≤ limit) × ((m : Module) × IsTextOf p s m input × IsUnchecked p q m f)
 
 -- of a text
 abbrev pub ConvertedText : Options → List ℕ → List ℕ → List ℕ → Output → Type 0

@@ -1,8 +1,8 @@
 //! A module converted into a buffer of C's.
 
-ghost use Rattle.std.specs.Prelude.{◌≡◌, ◌≢◌, ◌≤◌, ◌^◌, Err, IfOk, IfErr, length};
+ghost use Rattle.std.specs.Prelude.{◌≡◌, ◌≢◌, ◌<◌, ◌≤◌, ◌+◌, ◌^◌, Err, IfOk, IfErr, length};
 ghost use Rattle.wm_c.specs.Answers.{IsRight};
-ghost use Rattle.wm_c.specs.Conversions.{Builds, ConvertedFrom, ConvertedText, IsUnbuilt, IsUnchecked};
+ghost use Rattle.wm_c.specs.Conversions.{Builds, ConvertedFrom, ConvertedText, IsUnbuilt, IsUnchecked, unbuilt};
 ghost use Rattle.wm_rules.specs.Loading.{Loads};
 ghost use Rattle.wm_rules.specs.Policies.{Within};
 ghost use Rattle.wm_rules.specs.Validation.{Valid};
@@ -81,6 +81,9 @@ pub extern "C" fn wmod_build(
     output: &mut Output,
 ) -> u32
     ensures converted { ConvertedText options.now text.now out.old out.new output.new }
+    // A text above the limit is refused for that alone, whatever it says and whatever memory there is.
+    ensures too_long { result ≢ 2 → options.now.max_bytes < length text.now
+        → output.new ≡ unbuilt (Unbuilt.TooLong (options.now.max_bytes + 1)) }
     ensures status { result ≡ output.new.status }
 {
     *output = match options.asked() {
@@ -164,6 +167,8 @@ fn built(alloc: Global, text: &[u8], asked: Asked) -> Result<Vec<u8>, Unbuilt>
         × (b.items ≡ canon m)) }
     ensures unbuilt { IfErr result
         (IsUnbuilt asked.spellings text.now asked.profile asked.max_bytes asked.policy) }
+    ensures too_long { asked.max_bytes < length text.now
+        → result ≡ Err (Unbuilt.TooLong (asked.max_bytes + 1)) }
 {
     let Asked {
         profile,

@@ -128,11 +128,12 @@ show 0 56 1 1000 - - - 0 H = 5: 5 0 0 9
 show 9 56 1 1000 - - - 0 H0B = 1: 1 11 9 0 ?????????
 show 1 55 1 1000 - - - 0 H = 2: 2 0 0 0 ?";
 
-// A text, a text that is none, one whose module is not valid, one that is too long, older words.
+// A text, a text that is none, two that are too long, one whose module is not valid, older words.
 const BUILD: &str = "build 8 56 1 1000 - - - 0 (module) = 0: 0 0 0 8 0061736d01000000
 build 7 56 1 1000 - - - 0 (module) = 5: 5 0 0 8 ??????????????
 build 1 56 1 1000 - - - 0 (module = 1: 1 106 7 0 ??
 build 1 56 1 7 - - - 0 (module) = 1: 1 26 8 0 ??
+build 1 56 1 6 - - - 0 (module = 1: 1 26 7 0 ??
 build 1 56 1 1000 - - - 0 START = 1: 1 15 11 0 ??
 build 1 56 1 1000 - - - 2 (module) = 2: 2 0 0 0 ??
 build 1 56 1 1000 - - - 0 OLDER = 1: 1 107 49 0 ??

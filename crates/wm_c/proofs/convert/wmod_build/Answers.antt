@@ -1,4 +1,4 @@
-use Rattle.std.proofs.Common.{◌≡◌, ◌∙◌, ℕ, subst}
+use Rattle.std.proofs.Common.{◌≡◌, ◌∙◌, ◌<◌, ◌+◌, ℕ, Result, Ok, Err, ap, length, subst, sym}
 use Rattle.wm_syntax.specs.declared.profile.Profile.{Profile}
 use Rattle.wm_syntax.specs.Modules.{Module}
 use Rattle.wm_rules.specs.declared.policy.Policy.{Policy}
@@ -6,6 +6,7 @@ use Rattle.wm_read.specs.declared.spellings.Spellings.{Spellings}
 use Rattle.wm_write.specs.Canon.{canon}
 use Rattle.wm_c.specs.declared.output.Output.{Output}
 use Rattle.wm_c.specs.declared.output.Unbuilt.{Unbuilt}
+use Rattle.wm_c.specs.declared.output.Unbuilt.TheVariants.{TooLong}
 use Rattle.wm_c.specs.Conversions.{Builds, IsUnbuilt, unbuilt}
 use Rattle.wm_c.specs.Options.{spellings_of}
 use Rattle.wm_c.proofs.Conversions.{converted, misusing, unbuilt_from}
@@ -31,4 +32,23 @@ returns-clause-converted c =
           (subst (λ (s : Spellings). IsUnbuilt s input a.profile a.max_bytes a.policy u) w.in-Some.ensures.3 w.in-Err.ensures.unbuilt))
           (w.output-is ∙ w.unbuilt.ensures) w.out-is
       | in-None w ↦ misusing (Builds (spellings_of o) input) canon R o c.args.out.now c.match-asked.out c.match-asked.output (w.output-is ∙ w.misused.ensures) w.in-None.ensures w.out-is
+    ]
+
+clash : {A B : Type 0} (x : A) (y : B) → ◌≡◌ {A = Result A B} (Ok x) (Err y) → ⊥
+clash x y e = cc
+
+same : {A B : Type 0} (x y : B) → ◌≡◌ {A = Result A B} (Err x) (Err y) → x ≡ y
+same x y e = cc
+
+pub returns-clause-too_long : goal.returns-clause-too_long
+returns-clause-too_long c used longer =
+    elim c.match-asked.branch [
+      | in-Some+in-Ok w ↦
+          let most = w.in-Some.ensures.1 in
+          absurd (clash _ _ (w.in-Ok.ensures.too_long (subst (λ (n : ℕ). n < length c.args.text.now) (sym most) longer)))
+      | in-Some+in-Err w ↦
+          let most = w.in-Some.ensures.1 in
+          w.output-is ∙ w.unbuilt.ensures ∙ ap unbuilt (same _ _ (w.in-Err.ensures.too_long (subst (λ (n : ℕ). n < length c.args.text.now) (sym most) longer))
+          ∙ ap (λ (n : ℕ). TooLong (n + 1)) most)
+      | in-None w ↦ absurd (used (ap (λ (x : Output). x.status) (w.output-is ∙ w.misused.ensures)))
     ]
