@@ -118,8 +118,8 @@ fn way_of(machine: Machine, next: u8) -> Way {
     let (of, at) = match machine {
         Machine::Section { of, at, .. } => (of, at),
         Machine::Custom { .. } => return Way::Pass,
-        // what `frames` does not take: the header behind its begin, a custom section, the size of a start
-        // section, whose last byte ends its frame
+        // what `frames` does not take, or not to its end: the header behind its begin, a custom section, the
+        // size of a start section, whose last byte is left
         Machine::Header(1..) | Machine::CustomSize { .. } | Machine::Refused(_) => return Way::One,
         Machine::Between { .. } if next == 0x00 => return Way::One,
         Machine::Size {

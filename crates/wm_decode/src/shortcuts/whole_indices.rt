@@ -15,9 +15,9 @@ use crate::sink::Sink;
 use wm_syntax::profile::Profile;
 
 // After so many indices that have one byte each the loop over those of any length ends: the decoder's next
-// turn takes more of them, with fewer instructions each. A turn costs what all of these save. Only once in so
-// many it is looked at how long they were, so that longer ones stay as quick; for the first time behind the
-// first one, since a long one is what brings the decoder here.
+// turn takes more of them, with fewer instructions each. A turn costs about what so many save. Only once in
+// so many it is looked at how long they were, so that longer ones stay as quick; for the first time behind
+// the first one, since a long one is what brings the decoder here.
 const MANY_SHORT: u32 = 8;
 
 // The index at a place, where it lies in the first so many bytes

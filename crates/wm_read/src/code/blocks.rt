@@ -44,7 +44,8 @@ impl<'a> Model for OpenBlocks<'a> {
 
     ghost view = { λ o. blocks_of o.blocks.items };
 
-    ghost invariant = { λ o. HasInnermost o.places (reverse o.blocks.items) × HasOuter (reverse o.blocks.items) };
+    ghost invariant = { λ o. HasInnermost o.places (reverse o.blocks.items)
+        × HasOuter (reverse o.blocks.items) };
 }
 
 impl<'a> OpenBlocks<'a> {

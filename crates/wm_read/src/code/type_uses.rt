@@ -142,7 +142,8 @@ fn unclosed(names: &Names, x: u32, at_index: &[u8], rest: &[u8]) -> TextFault
 /// `( type idx )`
 pub(crate) fn type_index<'a>(names: &Names, text: &'a [u8]) -> Result<(u32, &'a [u8]), TextFault>
     ensures { Reads (λ x. (x.0, lexed x.1.now)) result
-        (reading.paren_at (codes "type") (reading.atom_at (reading.index_of (names_of names.now).types)) (lexed text.now)) }
+        (reading.paren_at (codes "type") (reading.atom_at (reading.index_of (names_of names.now).types))
+        (lexed text.now)) }
 {
     let rest = open(text)?;
     let at_index = word(b"type", rest)?;

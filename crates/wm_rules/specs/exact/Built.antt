@@ -144,9 +144,9 @@ locals_taken n t h None = Err why.Index
 locals_taken n t h (Some c) =
     and_then (add_run n t c.locals) (λ ts. Ok (record h { code = Some (record c { locals = ts }) }))
 
--- the code entry at hand has this body
-abbrev pub completed : Instructions → Built → Code → Result Built Why
-completed s h c =
+-- an end that closes no list inside the body ends it
+abbrev pub code_ended : Built → Code → Place → Result Built Why
+code_ended h c (at [] s) =
     Ok (record h {
       value = record h.value {
         functions = h.value.functions ++ record {
@@ -157,18 +157,14 @@ completed s h c =
       };
       code = None;
     })
-
-abbrev pub body_ended : Instructions → Built → Option Code → Result Built Why
-body_ended s h None = Err why.Index
-body_ended s h (Some c) = completed s h c
-
--- an end that closes no list inside the body ends it
-abbrev pub code_ended : Built → Code → Place → Result Built Why
-code_ended h c (at [] s) = completed s h c
 code_ended h c (at (o ∷ outer) s) = Err why.ElsePlace
 code_ended h c (labels outer s seen n) = Err why.ElsePlace
 
--- of the code entry at hand, an op that can't stand inside of its body
+-- the code entry at hand has this body
+abbrev pub body_ended : Instructions → Built → Option Code → Result Built Why
+body_ended s h None = Err why.Index
+body_ended s h (Some c) = code_ended h c (at [] s)
+
 abbrev pub not_placed : Op → Built → Code → Result Built Why
 not_placed op.End h c = code_ended h c c.body
 not_placed _ h c = Err why.ElsePlace

@@ -219,7 +219,7 @@ fn push_any(
 }
 
 // Takes all ops out, where no list is open; what they took of memory may serve for the next ones. Out of
-// line, so that where lists are open a caller finds it in place.
+// line, so that a caller is told in place where lists are open.
 #[inline(never)]
 fn take_all(ops: &mut SizedOps, begun: &mut Vec<Opened>, alloc: Global) -> SizedOps
     requires { begun.old.items ≡ [] }
