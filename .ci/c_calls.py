@@ -1,7 +1,8 @@
 """The calls for C beside the program: a made module gets the same line from both, however it is cut, and the same canonical
 binary, text and module of that text. Each growth of the samples is refused in turn: they end with status 4, or as with ample
-memory, and give back what they took. On a stack of 64 KiB they take a million nested blocks. Header and samples are compiled
-as C89 and as C++98 first. Where the machine has no C compiler, this is said and nothing is tried.
+memory, and give back what they took. On a stack of 64 KiB they take a million nested blocks. What cannot be read has no answer.
+No bytes may lie at NULL, and no room. Header and samples are compiled as C89 and as C++98 first. Where the machine has no C
+compiler, this is said and nothing is tried.
 
     .ci/c_calls.py ARCHIVE PROGRAM       libwm_c.a and wmod, as they were built
 """
@@ -25,6 +26,23 @@ LANGUAGES = [["cc", "-std=c89", *STRICT], ["c++", "-x", "c++", "-std=c++98", "-W
 MODULES = 1000
 # in KiB: what the header says
 STACK = 64
+# what null_bytes.c prints: the refusals of no bytes and of an empty text, and the lengths of what has no room
+NULL_LINES = """validate 1 11 0
+validate_with 1 11 0
+begin 0 0 0
+feed 0 0 0
+feed a module 0 0 0
+feed 0 0 0
+finish 0 0 0
+feed 2 0 0
+canon 1 11 0
+show 1 11 0
+build 1 106 0
+canon a module 5 0 8
+show a module 5 0 9
+build a text 5 0 8
+why_name 5
+"""
 
 
 def made(number):
@@ -41,10 +59,18 @@ def line(words, given):
     return ran.returncode, ran.stdout
 
 
+def line_unread(words, env=None):
+    """The same where standard input cannot be read: it is a folder."""
+    folder = os.open(HERE, os.O_RDONLY)
+    ran = subprocess.run(words, stdin=folder, stdout=subprocess.PIPE, stderr=subprocess.DEVNULL, timeout=60, check=False, env=env)
+    os.close(folder)
+    return ran.returncode, ran.stdout
+
+
 def compiled(archive, room):
     """What a compiler said; nothing where all is well. The programs stand in the room then."""
-    for name in SAMPLES:
-        sample = f"{CRATE}/samples/{name}.c"
+    files = {name: f"{CRATE}/samples/{name}.c" for name in SAMPLES} | {"null_bytes": f"{HERE}/null_bytes.c"}
+    for name, sample in files.items():
         strict = [[*words, "-c", sample, "-o", f"{room}/{name}.o"] for words in LANGUAGES]
         linked = ["cc", "-O2", sample, f"-I{CRATE}/include", archive, HEAP, "-o", f"{room}/{name}"]
         for words in [*strict, linked]:
@@ -99,6 +125,22 @@ def is_flat(room):
     return not wrong
 
 
+def is_bare(room):
+    """Whether no bytes and no room are taken at NULL."""
+    found = line([f"{room}/null_bytes"], b"")
+    is_right = found == (0, NULL_LINES.encode())
+    print("C: no bytes at NULL, and no room: " + ("well" if is_right else f"wrong: {found!r:.600}"), flush=True)
+    return is_right
+
+
+def is_unanswered(room, program):
+    """Whether the samples have no answer to what cannot be read, as wmod has none."""
+    runs = [([f"{room}/check"], "check")] + [([f"{room}/convert", action], action) for action in ("canon", "show", "build")]
+    wrong = [action for words, action in runs for it in (words, [program, action, "-"]) if line_unread(it) != (3, b"")]
+    print("C: what cannot be read: " + (f"wrong: {', '.join(wrong)}" if wrong else "well"), flush=True)
+    return not wrong
+
+
 def is_well(archive, program):
     """Whether all is well; says so."""
     if not shutil.which("cc") or not shutil.which("c++"):
@@ -108,7 +150,7 @@ def is_well(archive, program):
         fault = compiled(archive, room)
         wrong = [fault] if fault else [it for number in range(MODULES) for it in differences(room, program, number)]
         print(f"C: {MODULES} modules as C and as wmod: " + (f"wrong: {'; '.join(wrong[:3])}" if wrong else "well"), flush=True)
-        return not wrong and all([sweep(room), is_flat(room)])
+        return not wrong and all([is_bare(room), is_unanswered(room, program), sweep(room), is_flat(room)])
 
 
 if __name__ == "__main__":

@@ -115,7 +115,7 @@ def compiled(it):
 
 
 def check_samples(it, made):
-    """A sample's line is that of the program with the sample's policy."""
+    """A sample's line is that of the program with the sample's policy, and it has none of what cannot be read."""
     env = {**os.environ, "LD_LIBRARY_PATH": str(it.to / "lib")}
     for number in range(MODULES):
         module, _ = c_calls.made(number)
@@ -125,6 +125,7 @@ def check_samples(it, made):
                 if key[0] == name:
                     same(f"{key} of module {number}", run(sample, given=module, wanted=None, env=env), wanted)
     for key, sample in made.items():
+        same(f"{key} of what cannot be read", c_calls.line_unread([sample], env), (3, b""))
         if key[0] == "upload":
             check_stops(sample, env)
 

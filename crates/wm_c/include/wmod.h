@@ -5,9 +5,13 @@
  * data. It never ends the program and never unwinds. C89 and C++ read this file alike.
  *
  * Rules of every call
- *   Pointers      No pointer is NULL, but one of bytes with length 0 may be. What an answer points to belongs to the
- *                 caller, who may leave it uninitialised, and lies apart from the bytes.
- *   Threads       There is no shared state. Calls run side by side if they share no answer and no handle.
+ *   Pointers      No pointer is NULL, but one that comes with length 0 may be. What a call writes, an answer, an output
+ *                 or a buffer, belongs to the caller, who may leave it uninitialised.
+ *   Overlap       What a call writes, a handle too, shares no byte with anything else that it is handed. What it only
+ *                 reads, bytes and options, may overlap.
+ *   Heap          malloc, realloc and free are those of one allocator. A block of malloc and of realloc is aligned to
+ *                 each power of two up to 16 that divides its size: one of 24 bytes to 8.
+ *   Threads       There is no shared state. Calls run side by side if they share nothing that one of them writes.
  *   Signals       A call allocates: make none in a signal handler, nor in the child of a fork of a threaded program.
  *   Memory        Nothing is kept after a call that takes no handle. Where memory is refused the status is
  *                 WMOD_MEMORY, and everything that was taken is given back.
@@ -42,7 +46,8 @@ extern "C" {
 #define WMOD_PROFILE_3 3u /* all of WebAssembly 1.0, floats too */
 #define WMOD_PROFILE_4 4u /* the same and the five sign-extension instructions */
 
-/* Limits, in bytes: what is longer is refused as WMOD_WHY_TOO_LONG. */
+/* Limits, in bytes. What is longer is refused: as WMOD_WHY_TOO_LONG, unless its first bytes are refused for another
+ * reason. A text that is longer is refused as WMOD_WHY_TOO_LONG whatever it holds. */
 #define WMOD_LIMIT_DEFAULT ((uint64_t)0xFFFFFFFFu)
 #define WMOD_LIMIT_MOST ((uint64_t)1 << 62)
 
@@ -119,8 +124,9 @@ typedef struct wmod_answer {
 /* Judges an input that lies in memory as a whole. The result is the answer's status. The profile is 1 to 4, the
  * limit at most WMOD_LIMIT_MOST: else WMOD_MISUSE.
  *
- * Proved: WMOD_VALID is answered for valid modules of the profile alone, within the limit, WMOD_REFUSED for no such,
- * WMOD_MEMORY for want of memory alone; and the bytes alone say which refusal, which place and which figures it is. */
+ * Proved: WMOD_VALID is answered for valid modules of the profile within the limit alone, WMOD_REFUSED for none of
+ * these; and with either of the two the bytes alone say which refusal, which place and which figures it is. Tested, and
+ * not proved: WMOD_MEMORY is answered for want of memory alone. */
 uint32_t wmod_validate(const uint8_t *bytes, size_t length, uint32_t profile, uint64_t limit, wmod_answer *answer);
 
 /* What a host asks for. Begin with the defaults, so that a later field has its default too:
@@ -148,28 +154,32 @@ typedef struct wmod_options {
 /* The same as the options ask. Proved of it: the same, where a valid module is also one within the options' limits. */
 uint32_t wmod_validate_with(const uint8_t *bytes, size_t length, const wmod_options *options, wmod_answer *answer);
 
-/* How a conversion ended. Unless the status is WMOD_REFUSED or WMOD_MEMORY, `why` and `at` are 0. */
+/* How a conversion ended. Unless the status is WMOD_REFUSED or WMOD_MEMORY, `why` and `at` are 0; of WMOD_MEMORY `at`
+ * says nothing. */
 typedef struct wmod_output {
   uint32_t status; /* WMOD_VALID: written; WMOD_REFUSED, WMOD_MISUSE, WMOD_MEMORY or WMOD_NO_ROOM */
-  uint32_t why;    /* WMOD_WHY_.., of a text that writes no module WMOD_TEXT_.. */
+  uint32_t why;    /* WMOD_WHY_.., of wmod_build also WMOD_TEXT_.. */
   uint64_t at;     /* as in wmod_answer; of wmod_build see there */
   uint64_t length; /* WMOD_VALID: so many bytes were written. WMOD_NO_ROOM: so many would have been. Else 0 */
 } wmod_output;
 
 /* Conversions: each writes to the front of a buffer, which does not overlap the input, and leaves the rest of it
- * alone. The result is the output's status; with any but WMOD_VALID nothing is written. A buffer of length 0 may be
- * NULL, and tells the length. What is written is made in memory first, so such a call costs as much as a whole one.
+ * alone. The result is the output's status; with any but WMOD_VALID nothing is written to the buffer. A buffer of length
+ * 0 tells the length. What is written is made in memory first, so such a call costs as much as a whole one.
  *
  * wmod_canon: the canonical binary of a valid module. No buffer need be longer than the input.
  * wmod_show: the text of a valid module. A megabyte may declare 2^32 locals, gigabytes of text: of a stranger's
  *   module bound them by the options.
- * wmod_build: the canonical binary of the valid module that a text writes. `at` is a place of the text where `why` is
- *   a WMOD_TEXT_.. (so many bytes stand before the token that decided it) or WMOD_WHY_TOO_LONG, and else a place of
- *   the module's canonical binary; of WMOD_WHY_TOO_LARGE it is 0.
+ * wmod_build: the canonical binary of the valid module that a text writes. It is refused as WMOD_WHY_TOO_LONG where the
+ *   text is longer than the limit, as a WMOD_TEXT_.. where the text writes no module of the profile, as
+ *   WMOD_WHY_TOO_LARGE where a section of the module's binary would be too large, and else as the module is. `at` is a
+ *   place of the text where `why` is a WMOD_TEXT_.. (so many bytes stand before the token that decided it) or
+ *   WMOD_WHY_TOO_LONG, and else a place of the module's canonical binary; of WMOD_WHY_TOO_LARGE it is 0.
  *
  * Proved: what is written is the canonical binary or the text of the module that the input spells or writes, which is
- * valid, of the profile and within the limits; a refusal is the one that wmod_validate gives, of wmod_build of that
- * module's binary, or the text writes no module of the profile. */
+ * valid, of the profile and within the limits. A refusal of wmod_canon and wmod_show is the one that wmod_validate_with
+ * gives. One of wmod_build comes only where the above says so; one of the module is that of its canonical binary, whose
+ * length no option bounds. Which WMOD_TEXT_.. it is, and at which place of the text, is tested. */
 uint32_t wmod_canon(const uint8_t *bytes, size_t length, const wmod_options *options, uint8_t *out, size_t room,
                     wmod_output *output);
 uint32_t wmod_show(const uint8_t *bytes, size_t length, const wmod_options *options, uint8_t *out, size_t room,
@@ -194,25 +204,30 @@ uint32_t wmod_version(void);
  *   while ((n = read(fd, piece, sizeof piece)) > 0 && wmod_feed(&v, piece, n) == WMOD_VALID) {}
  *   wmod_finish(&v, &answer);
  *   wmod_end(&v);
+ *   if (n < 0) return 3;
+ *
+ * The last line is needed: where reading fails, the bytes before are no whole input, and what is answered to them is no
+ * answer to it.
  */
 typedef struct wmod_validator {
   void *state;
 } wmod_validator;
 #define WMOD_VALIDATOR_EMPTY {0}
 
-/* Begins an input; a handle that is in use is begun anew. WMOD_VALID; WMOD_MISUSE, and nothing changed; or WMOD_MEMORY,
- * and the handle is empty. */
+/* Begins an input; a handle that is in use is begun anew. WMOD_VALID: it takes pieces. WMOD_MISUSE: nothing changed.
+ * WMOD_MEMORY: the handle is empty. */
 uint32_t wmod_begin(wmod_validator *v, uint32_t profile, uint64_t limit);
 
 /* The same as the options ask. */
 uint32_t wmod_begin_with(wmod_validator *v, const wmod_options *options);
 
-/* Takes the next piece, of any length, 0 too. WMOD_VALID: go on. WMOD_REFUSED and WMOD_MEMORY stay: every later feed
- * answers the same and reads nothing. WMOD_MISUSE: the handle is empty or the input was finished; nothing changed. */
+/* Takes the next piece, of any length, 0 too. WMOD_VALID: nothing is refused so far, go on. WMOD_REFUSED and WMOD_MEMORY
+ * stay: every later feed answers the same and reads nothing, and wmod_finish says why. WMOD_MISUSE: the handle is empty
+ * or the input was finished, and nothing changed; a handle that was begun takes pieces till then. */
 uint32_t wmod_feed(wmod_validator *v, const uint8_t *piece, size_t length);
 
-/* The end of the input. The answer is the one that wmod_validate gives of the pieces joined. A second call gives it
- * again. WMOD_MISUSE where the handle is empty. */
+/* The end of the input. The answer is the one that wmod_validate gives of the pieces joined, where memory is refused to
+ * neither. A second call gives it again. WMOD_MISUSE where the handle is empty. */
 uint32_t wmod_finish(wmod_validator *v, wmod_answer *answer);
 
 /* Gives back what the handle holds, at any moment, and leaves it empty. Of an empty handle it does nothing. */

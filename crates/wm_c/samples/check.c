@@ -1,4 +1,5 @@
-/* Judges standard input as it comes, in pieces of as many bytes as the first word says, and prints the line of `wmod check`:
+/* Judges standard input as it comes, in pieces of as many bytes as the first word says, and prints the line of `wmod check`.
+ * Where reading fails there is no answer, since what came before is no whole input.
  *
  *   cc check.c -I crates/wm_c/include crates/wm_c/out/libwm_c.a $KIT/c/liblibc_c.a
  */
@@ -24,6 +25,10 @@ int main(int count, char **words) {
   }
   wmod_finish(&v, &answer);
   wmod_end(&v);
+  if (ferror(stdin)) {
+    fputs("check: standard input cannot be read\n", stderr);
+    return 3;
+  }
   if (answer.status == WMOD_VALID) {
     puts("valid");
   } else if (answer.status == WMOD_REFUSED) {

@@ -10,7 +10,7 @@
 
 typedef uint32_t (*conversion)(const uint8_t *, size_t, const wmod_options *, uint8_t *, size_t, wmod_output *);
 
-/* Standard input whole, or NULL where memory is refused. */
+/* Standard input whole, or up to where reading fails; NULL where memory is refused. */
 static uint8_t *whole(size_t *length) {
   uint8_t *bytes = NULL;
   size_t room = 0, n;
@@ -70,6 +70,11 @@ int main(int count, char **words) {
   uint8_t *bytes = whole(&length), *out;
   if (!bytes) {
     return WMOD_MEMORY;
+  }
+  if (ferror(stdin)) {
+    fputs("convert: standard input cannot be read\n", stderr);
+    free(bytes);
+    return 3;
   }
   out = converted(call, bytes, length, &output);
   if (out) {

@@ -1,5 +1,5 @@
-/* Two threads judge one module side by side, each with a handle of its own, in pieces of other lengths. It prints `valid`, or
- * `refused at N: NAME`, where both agree:
+/* Two threads judge one module of at most a megabyte side by side, each with a handle of its own, in pieces of other lengths. It
+ * prints `valid`, or `refused at N: NAME`, where both agree:
  *
  *   cc -pthread threads.c $(pkg-config --cflags --libs wmod) -o threads
  */
@@ -51,6 +51,10 @@ int main(void) {
   char name[32];
   int n;
   length = fread(module, 1, sizeof module, stdin);
+  if (getc(stdin) != EOF || ferror(stdin)) {
+    fputs("threads: standard input cannot be read, or is longer than a megabyte\n", stderr);
+    return 3;
+  }
   for (n = 0; n < 2; n++) {
     jobs[n].piece = n == 0 ? 7 : 64;
     if (pthread_create(&threads[n], NULL, rounds, &jobs[n]) != 0) {
