@@ -1,6 +1,7 @@
 //! Laws of the definitions, as the contracts of functions that do nothing.
 
-ghost use Rattle.std.specs.Prelude.{◌≡◌, ◌+◌, ◌≤◌, ◌++◌, Err, ℕ, List, length, map};
+ghost use Rattle.std.specs.Prelude.{◌≡◌, ◌+◌, ◌≤◌, ◌++◌, ◌↔◌, Err, ℕ, List, length, map};
+ghost use Rattle.std.specs.List.{AllByRecursion};
 ghost use Rattle.wm_syntax.specs.declared.profile.Profile.{Profile};
 ghost use Rattle.wm_syntax.specs.declared.profile.Profile.TheVariants.{Four};
 ghost use Rattle.wm_syntax.specs.Spelling.{AreBytes};
@@ -11,6 +12,7 @@ ghost use Rattle.wm_decode.specs.Items.{Marks, data_byte, items_at};
 ghost use Rattle.wm_decode.specs.Sections.{SpellsModule};
 ghost use Rattle.wm_decode.specs.Sinks.{all_taken, and_then};
 ghost use Rattle.wm_decode.specs.Grammar.{Items};
+ghost use Rattle.wm_decode.specs.BetweenProfiles.{HasItem, SameUpToProfile};
 ghost use Rattle.wm_decode.specs.Decoding.{Setting};
 ghost use Rattle.wm_decode.specs.Meanings.{AtItem, GivesRuleNames, IsRuleName, Meaning, Meant};
 ghost use Rattle.wm_decode.specs.Meanings.{RefusesBy};
@@ -114,4 +116,20 @@ pub fn rule_names_are_of_items<S: Sink>()
     ensures { (s : Setting S.Held) (input : List ℕ) (r : Refusal) → AreBytes input → IsRuleName r.why
         → answer_of S.after s input ≡ Err r
         → Meant (λ used rest w. AtItem s.profile (RefusesBy S.after s.first w) used) input r }
+{}
+
+/// A profile answers an input as each does that has its features and more, up to a byte that begins nothing
+/// of it. That byte it refuses as `Float` or `BadOpcode`, and the other refuses no earlier one.
+pub fn profiles_answer_alike<S: Sink>()
+    ensures { (p q : Profile) (limit : ℕ) (first : S.Held) (input : List ℕ) → Extends q p
+        → SameUpToProfile
+        (answer_of S.after (record { profile = p; limit = limit; first = first }) input)
+        (answer_of S.after (record { profile = q; limit = limit; first = first }) input) }
+{}
+
+/// A flat value is spelled under a profile exactly where it is spelled under one that has its features and
+/// more, and each of its items is of the first: what has been left out of that is all there is between them.
+pub fn items_tell_the_profile()
+    ensures { (p q : Profile) (v : FlatModule) (b : List ℕ) → Extends q p
+        → SpellsFlat p v b ↔ SpellsFlat q v b × AllByRecursion (HasItem p) (flat_items v) }
 {}
