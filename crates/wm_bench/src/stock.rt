@@ -14,8 +14,8 @@ pub struct Entry {
     pub class_end: usize,
 }
 
-/// A module from which others are made: entries of functions of one type change their places, and bytes change
-/// that may be any of some.
+/// A module from which others are made: entries of functions of one type change their places, and bytes
+/// change that may be any of some.
 #[derive(Drop)]
 pub struct Template {
     pub profile: Profile,
