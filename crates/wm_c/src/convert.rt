@@ -2,7 +2,8 @@
 
 ghost use Rattle.std.specs.Prelude.{◌≡◌, ◌≢◌, ◌<◌, ◌≤◌, ◌+◌, ◌^◌, Err, IfOk, IfErr, length};
 ghost use Rattle.wm_c.specs.Answers.{IsRight};
-ghost use Rattle.wm_c.specs.Conversions.{Builds, ConvertedFrom, ConvertedText, IsUnbuilt, IsUnchecked, unbuilt};
+ghost use Rattle.wm_c.specs.Conversions.{Builds, ConvertedFrom, ConvertedText};
+ghost use Rattle.wm_c.specs.Conversions.{IsUnbuilt, IsUnchecked, unbuilt};
 ghost use Rattle.wm_rules.specs.Loading.{Loads};
 ghost use Rattle.wm_rules.specs.Policies.{Within};
 ghost use Rattle.wm_rules.specs.Validation.{Valid};

@@ -3,7 +3,8 @@
 ghost use Rattle.std.specs.Prelude.{◌≡◌, ◌≢◌, ◌≤◌, ◌^◌, ◌++◌, ◌↔◌, ℕ, List, [], Err, IfSome, Some};
 ghost use Rattle.wm_c.specs.Answers.{Answers, IsRight, in_numbers};
 ghost use Rattle.wm_c.specs.Codes.{status_code};
-ghost use Rattle.wm_c.specs.Sessions.{HasTaken, HasEnded, IsOpen, IsOver, StateRanOut, StateRefused, StateTaken};
+ghost use Rattle.wm_c.specs.Sessions.{HasTaken, HasEnded, IsOpen, IsOver};
+ghost use Rattle.wm_c.specs.Sessions.{StateRanOut, StateRefused, StateTaken};
 ghost use Rattle.wm_c.specs.declared.session.State.TheVariants.{Ended};
 ghost use Rattle.wm_decode.specs.declared.refusal.Refusal.{Refusal as ARefusal};
 ghost use Rattle.wm_rules.specs.Validation.{Accepted};

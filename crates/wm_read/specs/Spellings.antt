@@ -1,4 +1,5 @@
--- Older spellings of words, from before the standard, the words that they are read as, and what a text writes.
+-- Older spellings of words, from before the standard, the words that they are read as, and what a text
+-- writes.
 use Rattle.std.specs.Prelude.{ℕ, List, [], ◌∷◌, codes, map}
 use Rattle.std.specs.Map.{lookup}
 use Rattle.std.specs.Option.{unwrap_or}

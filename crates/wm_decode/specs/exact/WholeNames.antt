@@ -1,5 +1,5 @@
--- Imports and exports that lie in a piece, with the names that they begin with: the exact form, for the proofs
--- above it.
+-- Imports and exports that lie in a piece, with the names that they begin with: the exact form, for the
+-- proofs above it.
 use Rattle.std.specs.Prelude.{◌≡◌, ℕ, ◌+◌, ◌-◌, ◌^◌, ◌<◌, List, slice_index}
 use Rattle.wm_syntax.specs.exact.Reading.{fresh}
 use Rattle.wm_syntax.specs.declared.modules.ExportKind.{ExportKind}
