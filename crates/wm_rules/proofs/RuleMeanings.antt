@@ -44,7 +44,7 @@ use Rattle.wm_rules.specs.exact.Constants.{constant_expecting, visible}
 use Rattle.wm_rules.specs.exact.Spaces.{items_in, one_if, index_check, is_plain, is_within, next_type, plain, context_of, function_added, import_added, table_added, memory_added}
 use Rattle.wm_rules.specs.exact.Checking.{after, checker_after_op, constant_begun, empty_checker, in_names, in_spaces, is_taken, put_name, where_ok}
 use Rattle.wm_rules.specs.Validation.{WithinRange}
-use Rattle.wm_rules.specs.Meanings.{AreTooMany, CountDiffers, Leaves, BeginsBefore, BeginsBody, EndsTyping, HasOtherType, HasWrongCount, IsMistyped, IsNotOne, LastHasResult, AtConstant, AtOp, CannotBeConstant, ConstantNamesNothing, HasNoItem, InBody, InConstant, InEntry, IsAlignedPast, IsConstantOf, IsElseOutside, IsNoFirstBranch, IsNoStart, IsOutOfRange, IsRepeated, IsSecond, OpNamesNothing, SetsConstant, context_inside, context_of_body, context_so_far, heads_of, how_many, next_function, one_where, so_far}
+use Rattle.wm_rules.specs.Meanings.{AreTooMany, CountDiffers, Leaves, BeginsBefore, BeginsBody, EndsTyping, HasOtherType, HasWrongCount, IsMistyped, IsNotOne, LastHasResult, AtConstant, AtOp, CannotBeConstant, ConstantNamesNothing, HasNoItem, InBody, InConstant, InEntry, IsAlignedPast, IsConstantOf, IsElseOutside, IsNoFirstBranch, IsNoStart, IsOutOfRange, IsRepeated, IsSecond, OpNamesNothing, SetsConstant, TypesDiffer, context_inside, context_of_body, context_so_far, heads_of, how_many, next_function, one_where, so_far}
 use Rattle.wm_rules.proofs.CodeEntries.{at_hand, over_at_hand}
 use Rattle.wm_rules.proofs.ConstantMembers.{AfterOps, const_front, with_const}
 use Rattle.wm_rules.proofs.DueLabels.{InOrder, heads_are, in_order, labels_are}
@@ -52,6 +52,7 @@ use Rattle.wm_rules.proofs.EntryItems.{ConstantItems, GoesOn, HasType, IsOpening
 use Rattle.wm_rules.proofs.ItemMembers.{within_from}
 use Rattle.wm_rules.proofs.MemberFolds.{ok_then, taken-append}
 use Rattle.wm_rules.proofs.LeftTypes.{count_differs}
+use Rattle.wm_rules.proofs.OtherTypes.{types_differ}
 use Rattle.wm_rules.proofs.OpNames.{Only, OutsideElse}
 use Rattle.wm_rules.proofs.RuleNames.{ConstantSays, CountsWrong, IsHidden, LocalsSay, NoneThere, OfConstant, OpOf, TypeSays, constant_names, count_name, entry_name, locals_names, op_names, param_names, result_names}
 use Rattle.wm_rules.proofs.SpacesSoFar.{entry_context, few_globals, some_type}
@@ -427,16 +428,28 @@ module _ (items : List Item) (h : Held) (t : all_taken after empty_checker items
         λ m. none (front_typed c (ops ++ o ∷ []) m.0 (body_can c ((ops ++ o ∷ []) ++ m.0) refl m.1)),
       )
 
-  counts_differ : (o : Op) → after h (body_op o) ≡ Err why.Arity → (s : Stood (body_op o) items) (types : List ValType) → Leaves (context_of_body s.0 (entry_at_hand s.0).type_index) (body_now s.0).typing.0 types
-      → CountDiffers (context_of_body s.0 (entry_at_hand s.0).type_index) (body_now s.0).typing.0 o types
-  counts_differ o refused s =
+  -- the step of the body is refused by this name
+  step_err : (o : Op) (w : Why) → after h (body_op o) ≡ Err w → (s : Stood (body_op o) items)
+      → step (context_of_body s.0 (entry_at_hand s.0).type_index) h.body.state o ≡ Err w
+  step_err o w refused s =
       let l = (body_open o s).1 in
+      let c : Context = context_so_far (so_far s.0.before) in
+      subst (λ z. step z h.body.state o ≡ Err w) (own_context s.0 l)
+      (stepped_err h.body (probes_in c h.body o) (step (context_in c h.body) h.body.state o) w (entry_at_hand s.0).held.unrefused (body_err o w refused s))
+
+  counts_are_other : (o : Op) → after h (body_op o) ≡ Err why.Arity → (s : Stood (body_op o) items) (types : List ValType) → Leaves (context_of_body s.0 (entry_at_hand s.0).type_index) (body_now s.0).typing.0 types
+      → CountDiffers (context_of_body s.0 (entry_at_hand s.0).type_index) (body_now s.0).typing.0 o types
+  counts_are_other o refused s =
       let a = entry_at_hand s.0 in
       let k = a.held.keeps in
-      let c : Context = context_so_far (so_far s.0.before) in
-      let step_err = stepped_err h.body (probes_in c h.body o) (step (context_in c h.body) h.body.state o) why.Arity a.held.unrefused (body_err o why.Arity refused s) in
-      count_differs (context_of_body s.0 a.type_index) o h.body.state.table h.body.state.stacks k.place k.frames l k.holds k.goes
-      (subst (λ z. step z h.body.state o ≡ Err why.Arity) (own_context s.0 l) step_err)
+      count_differs (context_of_body s.0 a.type_index) o h.body.state.table h.body.state.stacks k.place k.frames (body_open o s).1 k.holds k.goes (step_err o why.Arity refused s)
+
+  types_are_other : (o : Op) → after h (body_op o) ≡ Err why.Mismatch → (s : Stood (body_op o) items) (types : List ValType) → Leaves (context_of_body s.0 (entry_at_hand s.0).type_index) (body_now s.0).typing.0 types
+      → TypesDiffer (context_of_body s.0 (entry_at_hand s.0).type_index) (body_now s.0).typing.0 o types
+  types_are_other o refused s =
+      let a = entry_at_hand s.0 in
+      let k = a.held.keeps in
+      types_differ (context_of_body s.0 a.type_index) o h.body.state.table h.body.state.stacks k.place k.frames (body_open o s).1 k.holds k.goes (step_err o why.Mismatch refused s)
 
   outside_is : (u : Option BrTable) (fs : List Frame) → OutsideElse u fs → IsNoFirstBranch (map head_of fs)
   outside_is None fs o = o
@@ -449,8 +462,8 @@ module _ (items : List Item) (h : Held) (t : all_taken after empty_checker items
   by_op why.Immutable o e i = (tt, λ s. subst (λ (y : IndexSpaces). SetsConstant y.globals o) told i)
   by_op why.Align o e i = (tt, λ s. i)
   by_op why.Index o e i = (tt, none_there o i)
-  by_op why.Mismatch o e i = (tt, λ s. (body_now s.0, ends_typing o why.Mismatch e s))
-  by_op why.Arity o e i = (tt, λ s. (body_now s.0, ends_typing o why.Arity e s, counts_differ o e s))
+  by_op why.Mismatch o e i = (tt, λ s. (body_now s.0, ends_typing o why.Mismatch e s, types_are_other o e s))
+  by_op why.Arity o e i = (tt, λ s. (body_now s.0, ends_typing o why.Arity e s, counts_are_other o e s))
   by_op why.ElsePlace op.Else e i = (tt, else_there i)
   by_op why.ElsePlace o e i = absurd i
   by_op w o e i = absurd i

@@ -268,8 +268,7 @@ abbrev pub BeginsBefore : Context → List Op → Op → Type 0
 BeginsBefore c ops (op.Label l) = Unit {0}
 BeginsBefore c ops _ = BeginsBody c ops
 
--- Type and Arity, in a body (section 3.3): the ops so far begin a typed one, and none with this op. Of Type
--- this is all, so its line is true of every op that a rule refuses.
+-- Type and Arity, in a body (section 3.3): the ops so far begin a typed one, and none with this op
 abbrev pub EndsTyping : {items : List Item} → InBody items → Op → Type 0
 EndsTyping b o =
     BeginsBefore (context_of_body b.entry b.type_index) b.entry.code.ops o
@@ -284,12 +283,6 @@ HasOtherType t globals (op.Simple (simple.F64Const n)) = t ≢ F64
 HasOtherType t globals (op.Simple (simple.GlobalGet x)) =
     (g : GlobalType) × (slice_get globals x ≡ Some g) × (t ≢ g.ty)
 HasOtherType t globals _ = ⊥
-
-abbrev pub IsMistyped : List Item → Item → Type 0
-IsMistyped items (const_op o) =
-    (c : InConstant items) × (c.ops ≡ []) × HasOtherType c.wanted (so_far items).globals o
-IsMistyped items (body_op o) = (b : InBody items) × EndsTyping b o
-IsMistyped items _ = ⊥
 
 -- Arity: a constant ends with no instruction, or has a second one (section 3.3.7);
 abbrev pub IsNotOne : List Op → Op → Type 0
@@ -309,7 +302,48 @@ Leaves c (open_at (h ∷ hs) (work first s ∷ ws)) types = Typed (at c (h ∷ h
 Leaves c (within n seen (h ∷ hs) (work first s ∷ ws)) types = Typed (at c (h ∷ hs)) s [] (types ++ I32 ∷ [])
 Leaves c _ types = ⊥
 
--- in a body (sections 3.3.1 to 3.3.6) an op has a type in its context, but whatever it takes is more than
+-- Two lists of types, each with the topmost last, agree above some place, at which both have a type: that of
+-- the operand which is there is another one than is wanted.
+pub record OperandDiffers (types takes : List ValType) : Type 0 where
+  pub under : List ValType
+  pub there : ValType
+  pub before : List ValType
+  pub wanted : ValType
+  pub above : List ValType
+  pub left : types ≡ under ++ there ∷ above
+  pub taken : takes ≡ before ++ wanted ∷ above
+  pub differ : there ≢ wanted
+
+-- Type: in a body (sections 3.3.1 to 3.3.6) an op has a type in its context, but whatever it takes, an operand
+-- of such a list has another type. So has the result of a list at an else or an end, unless an if with a
+-- result ends there without an else; and at a label of a br_table the operand, or a label that was seen.
+abbrev pub TypesDiffer : Context → Place → Op → List ValType → Type 0
+TypesDiffer c q (op.Simple p) types =
+    ((takes gives : List ValType) × TypedSimple (at c (heads_of q)) p takes gives)
+    × ((takes gives : List ValType) → TypedSimple (at c (heads_of q)) p takes gives
+    → OperandDiffers types takes)
+TypesDiffer c q (op.If t) types = OperandDiffers types (I32 ∷ [])
+TypesDiffer c q (op.BrTable n) types = OperandDiffers types (I32 ∷ [])
+TypesDiffer c (within n seen hs ws) (op.Label l) types =
+    (t : Option ValType) × (slice_get (at c hs).labels l ≡ Some t)
+    × (OperandDiffers types (option_to_list t)
+    ⊎ ((front rest : List ℕ) × (k : ℕ) × (u : Option ValType) × (seen ≡ front ++ k ∷ rest)
+    × (slice_get (at c hs).labels k ≡ Some u) × (u ≢ t)))
+TypesDiffer c (open_at (head k t ∷ hs) ws) op.Else types = OperandDiffers types (option_to_list t)
+TypesDiffer c (open_at (head If (Some t) ∷ hs) ws) op.End types = Unit {0}
+TypesDiffer c (open_at (head k t ∷ hs) ws) op.End types = OperandDiffers types (option_to_list t)
+TypesDiffer c q _ types = ⊥
+
+abbrev pub IsMistyped : List Item → Item → Type 0
+IsMistyped items (const_op o) =
+    (c : InConstant items) × (c.ops ≡ []) × HasOtherType c.wanted (so_far items).globals o
+IsMistyped items (body_op o) =
+    (b : InBody items) × EndsTyping b o
+    × ((types : List ValType) → Leaves (context_of_body b.entry b.type_index) b.typing.0 types
+    → TypesDiffer (context_of_body b.entry b.type_index) b.typing.0 o types)
+IsMistyped items _ = ⊥
+
+-- Arity: in a body (sections 3.3.1 to 3.3.6) an op has a type in its context, but whatever it takes is more than
 -- such a list has; and at an else or an end the list has not as many types as the result
 abbrev pub CountDiffers : Context → Place → Op → List ValType → Type 0
 CountDiffers c q (op.Simple p) types =
