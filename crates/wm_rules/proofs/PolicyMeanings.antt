@@ -16,7 +16,7 @@ use Rattle.wm_decode.specs.Sinks.{all_taken}
 use Rattle.wm_rules.specs.declared.counts.Counts.{Counts}
 use Rattle.wm_rules.specs.declared.policy.Policy.{Policy}
 use Rattle.wm_rules.specs.exact.Checking.{after, empty_checker}
-use Rattle.wm_rules.specs.exact.Counting.{count_after, counted, counts_at_start, function_counted, one_open_more, open_after, open_within, with_functions, with_locals, with_open}
+use Rattle.wm_rules.specs.exact.Counting.{count_after, counted, counts_at_start, one_open_more, open_after, open_within, with_functions, with_locals, with_open}
 use Rattle.wm_rules.specs.Holding.{Held}
 use Rattle.wm_rules.specs.Meanings.{AreManyFunctions, AreManyLocals, InBody, IsTooDeep, so_far}
 use Rattle.wm_rules.specs.Policies.{AtMost}
