@@ -7,7 +7,7 @@ use Rattle.wm_syntax.specs.declared.instructions.Op.{Op}
 use Rattle.wm_syntax.specs.declared.instructions.Op.TheVariants as op
 use Rattle.wm_syntax.specs.declared.modules.ImportDesc.{ImportDesc}
 use Rattle.wm_syntax.specs.declared.modules.ImportDesc.TheVariants as desc
-use Rattle.wm_syntax.specs.Instructions.{openings, endings}
+use Rattle.wm_syntax.specs.Instructions.{opens, openings, endings}
 use Rattle.wm_syntax.specs.Modules.{locals_of}
 use Rattle.wm_typing.specs.OpenLists.{levels}
 use Rattle.wm_decode.specs.Items.{Item, import_desc, function, body, locals, body_op}
@@ -18,7 +18,7 @@ use Rattle.wm_rules.specs.declared.policy.Policy.{Policy}
 use Rattle.wm_rules.specs.exact.Checking.{after, empty_checker}
 use Rattle.wm_rules.specs.exact.Counting.{count_after, counted, counts_at_start, one_open_more, open_after, open_within, with_functions, with_locals, with_open}
 use Rattle.wm_rules.specs.Holding.{Held}
-use Rattle.wm_rules.specs.Meanings.{AreManyFunctions, AreManyLocals, InBody, IsTooDeep, so_far}
+use Rattle.wm_rules.specs.Meanings.{AreManyFunctions, AreManyLocals, IsTooDeep, so_far}
 use Rattle.wm_rules.specs.Policies.{AtMost}
 use Rattle.wm_rules.proofs.CountedSoFar.{IsCount, blocks_told, functions_told, locals_told, policy_kept}
 use Rattle.wm_rules.proofs.EntryItems.{GoesOn, Stood}
@@ -50,14 +50,20 @@ past : (limit : Option ℕ) (n m more : ℕ) → IsCount limit n m → count_aft
 past None n m more i e l = none_some n (sym e)
 past (Some most) n m more i e l = none_some (n + more) (sym e ∙ count_takes most n more (omega (arith, i, l)))
 
--- as with a list that an op opens
-past_open : (o : Op) (limit : Option ℕ) (n m : ℕ) → ((most : ℕ) → open_after o most n ≡ one_open_more most n) → IsCount limit (n + 1) m → open_within o limit n ≡ None → AtMost limit m → ⊥
-past_open o None n m opens i e l = none_some n (sym e)
-past_open o (Some most) n m opens i e l = let low : n < most = omega (arith, i, l) in none_some (n + 1) (sym e ∙ opens most ∙ one_more most n low)
+-- an op that is refused opens a list, and as many are open as the limit allows
+opens_past : (o : Op) (limit : Option ℕ) (n m : ℕ) → IsCount limit (n + 1) m → open_within o limit n ≡ None → (opens o ≡ 1) × (AtMost limit m → ⊥)
+opens_past o None n m i e = absurd (none_some n (sym e))
+opens_past o (Some most) n m i e = go o e
+  where
+    full : one_open_more most n ≡ None → m ≤ most → ⊥
+    full e l = let low : n < most = omega (arith, i, l) in none_some (n + 1) (sym e ∙ one_more most n low)
 
-never_past : (o : Op) (limit : Option ℕ) (n m : ℕ) → ((most : ℕ) → open_after o most n ≡ Some m) → open_within o limit n ≡ None → ⊥
-never_past o None n m stays e = none_some n (sym e)
-never_past o (Some most) n m stays e = none_some m (sym e ∙ stays most)
+    go : (o : Op) → open_after o most n ≡ None → (opens o ≡ 1) × (m ≤ most → ⊥)
+    go (op.Block t) e = (refl, full e)
+    go (op.Loop t) e = (refl, full e)
+    go (op.If t) e = (refl, full e)
+    go op.End e = absurd (none_some (n - 1) (sym e))
+    go o e = absurd (none_some n (sym e))
 
 -- the ops of an expression that goes on end nowhere more than they open
 fronts_open : (ops : List Op) (o : Op) → GoesOn ops o → (front back : List Op) → ops ≡ front ++ back → endings front ≤ openings front
@@ -110,13 +116,6 @@ module _ (q : Policy) (items : List Item) (h : Held) (c : Counts) (t : all_taken
   open_err (Some n) w e = absurd (cc)
   open_err None w e = (cc, refl)
 
-  opens_deep : (o : Op) (b : InBody items) → IsCount q.depth (c.blocks + 1) (levels b.typing.0) → open_within o q.depth c.blocks ≡ None → IsTooDeep q items (body_op o)
-  opens_deep (op.Block t) b i e = (b, past_open (op.Block t) q.depth c.blocks (levels b.typing.0) (λ most. refl) i e)
-  opens_deep (op.Loop t) b i e = (b, past_open (op.Loop t) q.depth c.blocks (levels b.typing.0) (λ most. refl) i e)
-  opens_deep (op.If t) b i e = (b, past_open (op.If t) q.depth c.blocks (levels b.typing.0) (λ most. refl) i e)
-  opens_deep op.End b i e = absurd (never_past op.End q.depth c.blocks (c.blocks - 1) (λ most. refl) e)
-  opens_deep o b i e = absurd (never_past o q.depth c.blocks c.blocks (λ most. refl) e)
-
   one_more_list : (limit : Option ℕ) (n m ends begins : ℕ) → IsCount limit (n + ends) begins → m + ends ≡ begins + 1 → IsCount limit (n + 1) m
   one_more_list None n m ends begins i e = tt
   one_more_list (Some most) n m ends begins i e = omega (arith, i, e)
@@ -125,8 +124,9 @@ module _ (q : Policy) (items : List Item) (h : Held) (c : Counts) (t : all_taken
   too_deep o e s =
       let b = body_at_hand items h t s.0 in
       let n = blocks_told q items c k s.0 (fronts_open s.0.code.ops o s.1) in
-      opens_deep o b.0 (one_more_list q.depth c.blocks (levels b.0.typing.0) (endings s.0.code.ops) (openings s.0.code.ops) n b.1)
-      (subst (λ (p : Policy). open_within o p.depth c.blocks ≡ None) (policy_kept q items c k) e)
+      let more = opens_past o q.depth c.blocks (levels b.0.typing.0) (one_more_list q.depth c.blocks (levels b.0.typing.0) (endings s.0.code.ops) (openings s.0.code.ops) n b.1)
+      (subst (λ (p : Policy). open_within o p.depth c.blocks ≡ None) (policy_kept q items c k) e) in
+      (b.0, more.0, more.1)
 
   pub count_refused : (x : Item) (w : Why) → counted c x ≡ Err w → WrongBy q w items x
   count_refused (import_desc d) w e = import_refused d w e

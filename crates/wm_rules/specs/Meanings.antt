@@ -7,6 +7,7 @@ use Rattle.wm_syntax.specs.declared.types.GlobalType.{GlobalType}
 use Rattle.wm_syntax.specs.declared.instructions.Simple.TheVariants as simple
 use Rattle.wm_syntax.specs.declared.instructions.Op.{Op}
 use Rattle.wm_syntax.specs.declared.instructions.Op.TheVariants as op
+use Rattle.wm_syntax.specs.Instructions.{opens}
 use Rattle.wm_syntax.specs.Opcodes.{load, store}
 use Rattle.wm_syntax.specs.declared.profile.Profile.{Profile}
 use Rattle.wm_syntax.specs.declared.why.Why.{Why}
@@ -355,9 +356,8 @@ AreManyLocals q items _ = ⊥
 -- Deep: a block, a loop or an if, with which more are open than the policy allows. The body itself is an open
 -- list too, so as many are open then as there are open lists before.
 abbrev pub IsTooDeep : Policy → List Item → Item → Type 0
-IsTooDeep q items (body_op (op.Block t)) = (b : InBody items) × (AtMost q.depth (levels b.typing.0) → ⊥)
-IsTooDeep q items (body_op (op.Loop t)) = (b : InBody items) × (AtMost q.depth (levels b.typing.0) → ⊥)
-IsTooDeep q items (body_op (op.If t)) = (b : InBody items) × (AtMost q.depth (levels b.typing.0) → ⊥)
+IsTooDeep q items (body_op o) =
+    (b : InBody items) × (opens o ≡ 1) × (AtMost q.depth (levels b.typing.0) → ⊥)
 IsTooDeep q items _ = ⊥
 
 -- What the name says. It is said of the 14 names of the format, of the twelve of rules, and of the three of a
