@@ -47,7 +47,7 @@ line_of_action Show j place why n = (place, why, n, refl)
 line_of_action Build j place why n = absurd j
 
 refused_out : (action : Action) → IsJudged action → (p : Profile) (limit : ℕ) (q : Policy) (s : Spellings) (input : List ℕ) (r : Refusal) → r.why ≢ Memory → (Accepted p limit q input → ⊥) → r.at ≤ length input
-    → verdict p limit q input ≡ Err r → Meaning p limit input r → OutOf action p limit q s input (refusal_line r.at r.why) status.Refused
+    → verdict p limit q input ≡ Err r → Meaning p limit q input r → OutOf action p limit q s input (refusal_line r.at r.why) status.Refused
 refused_out Check j p limit q s input r why none place same means = inr (none, (r, why, place, same, means, refl), refl)
 refused_out Stats j p limit q s input r why none place same means = inr (none, (r, why, place, same, means, refl), refl)
 refused_out Canon j p limit q s input r why none place same means = inr (none, (r, why, place, same, means, refl), refl)

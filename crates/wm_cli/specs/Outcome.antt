@@ -42,14 +42,13 @@ stats_text s =
     ++ figure_line (codes "probes") s.probes)))
 
 -- The bytes of a module are judged: where they are accepted, a report; else one refusal, other than for
--- memory, at a place within them, which they alone determine. What its name says of them is so; those of a
--- policy say nothing.
+-- memory, at a place within them, which they alone determine. What its name says of them is so.
 abbrev pub Judged : (List ℕ → Type 0) → Profile → ℕ → Policy → List ℕ → List ℕ → Status → Type 0
 Judged Report p limit q input written status =
     (Accepted p limit q input × Report written × (status ≡ Done))
     ⊎ ((Accepted p limit q input → ⊥)
     × ((r : Refusal) × (r.why ≢ Memory) × (r.at ≤ length input) × (verdict p limit q input ≡ Err r)
-    × Meaning p limit input r × (written ≡ refusal_line r.at r.why))
+    × Meaning p limit q input r × (written ≡ refusal_line r.at r.why))
     × (status ≡ Refused))
 
 -- What an action writes of an input: `valid`; the figures of its summary, which the bytes alone determine;

@@ -22,7 +22,7 @@ use Rattle.wm_stacks.specs.declared.entries.Frame.{Frame}
 use Rattle.wm_typing.specs.declared.labels.BrTable.{BrTable}
 use Rattle.wm_typing.specs.Typing.{Context, function_type}
 use Rattle.wm_typing.specs.Contexts.{in_function, result_of}
-use Rattle.wm_typing.specs.OpenLists.{Place, open_at, within, complete, IsSoFar, head_of, label_type}
+use Rattle.wm_typing.specs.OpenLists.{Place, open_at, within, complete, IsSoFar, head_of, label_type, levels}
 use Rattle.wm_typing.specs.Bodies.{Body, BodyState}
 use Rattle.wm_typing.specs.inner.Frames.{Frames, running, in_table, ended, Holds, TracksWith}
 use Rattle.wm_stacks.specs.Stack.{Stack}
@@ -77,9 +77,6 @@ Says w items x = ⊥
 -- the item is refused by this name, and where the items before it are those that it stands on, what is said of it holds
 abbrev pub Wrong : Why → List Item → Item → Type 0
 Wrong w items x = IsRuleName w × (Stood x items → Says w items x)
-
-pub wrong_name : (w : Why) (items : List Item) (x : Item) → Wrong w items x → IsRuleName w
-wrong_name w items x h = h.0
 
 -- a refusal by a name of which this is so
 only : {A : Type 0} (P : Why → Type 0) (r : Result A Why) (w : Why) → Only P r → r ≡ Err w → P w
@@ -330,6 +327,10 @@ module _ (items : List Item) (h : Held) (t : all_taken after empty_checker items
       let a = entry_at_hand e in
       let k = a.held.keeps in
       record { entry = e; type_index = a.type_index; is_type = a.is_type; typing = (k.place, k.so_far, holds_can (context_of_body e a.type_index) k.place k.frames k.holds) }
+
+  -- and how many lists are open in it
+  pub body_at_hand : (e : InEntry items) → (b : InBody items) × (levels b.typing.0 + endings e.code.ops ≡ openings e.code.ops + 1)
+  body_at_hand e = (body_now e, (entry_at_hand e).held.nested)
 
   heads_now : (e : InEntry items) → heads_of (body_now e).typing.0 ≡ map head_of h.body.state.stacks.frames
   heads_now e =

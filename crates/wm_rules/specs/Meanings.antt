@@ -1,11 +1,13 @@
--- What the name of a refusal says of the bytes up to its place, where a rule was broken: of the items that
--- are complete in them. The names of the format say what they say of any sink.
+-- What the name of a refusal says of the bytes up to its place, where a rule was broken or a limit of the
+-- policy was passed: of the items that are complete in them. The names of the format say what they say of any
+-- sink.
 use Rattle.std.specs.Prelude.{◌≡◌, ◌≢◌, ℕ, ◌+◌, ◌^◌, ◌<◌, ◌≤◌, Bool, true, false, List, [], ◌∷◌, ◌++◌, None}
 use Rattle.std.specs.Prelude.{◌⊎◌, Option, Some, length, map, option_to_list, slice_get}
 use Rattle.wm_syntax.specs.declared.types.GlobalType.{GlobalType}
 use Rattle.wm_syntax.specs.declared.instructions.Simple.TheVariants as simple
 use Rattle.wm_syntax.specs.declared.instructions.Op.{Op}
 use Rattle.wm_syntax.specs.declared.instructions.Op.TheVariants as op
+use Rattle.wm_syntax.specs.Instructions.{opens}
 use Rattle.wm_syntax.specs.Opcodes.{load, store}
 use Rattle.wm_syntax.specs.declared.profile.Profile.{Profile}
 use Rattle.wm_syntax.specs.declared.why.Why.{Why}
@@ -18,7 +20,7 @@ use Rattle.wm_syntax.specs.Types.{Signature}
 use Rattle.wm_syntax.specs.declared.types.ValType.{ValType}
 use Rattle.wm_syntax.specs.declared.types.ValType.TheVariants.{I32, I64, F32, F64}
 use Rattle.wm_stacks.specs.declared.entries.FrameKind.TheVariants.{If}
-use Rattle.wm_typing.specs.OpenLists.{Head, head, work, Place, open_at, within, complete, at}
+use Rattle.wm_typing.specs.OpenLists.{Head, head, work, Place, open_at, within, complete, at, levels}
 use Rattle.wm_typing.specs.TypedBodies.{HaveTyping, IsTypedBody}
 use Rattle.wm_decode.specs.Flat.{FlatCode, code_items}
 use Rattle.wm_typing.specs.Contexts.{context, body_context}
@@ -29,7 +31,9 @@ use Rattle.wm_decode.specs.Items.{function, table, memory}
 use Rattle.wm_decode.specs.Items.{global, const_op, export_name, export, start, element, element_function}
 use Rattle.wm_decode.specs.Items.{body, locals, body_op, segment}
 use Rattle.wm_decode.specs.Meanings.{AtItem, Meant, Means as MeansOfFormat}
+use Rattle.wm_rules.specs.declared.policy.Policy.{Policy}
 use Rattle.wm_rules.specs.Holding.{IndexSpaces}
+use Rattle.wm_rules.specs.Policies.{AtMost}
 use Rattle.wm_rules.specs.Validation.{ValidMemory, ValidTable}
 
 -- The index spaces of the module so far (section 2.5.1), as its items tell them: what each of them adds.
@@ -369,23 +373,47 @@ HasWrongCount items (body_op o) =
     → CountDiffers (context_of_body b.entry b.type_index) b.typing.0 o types)
 HasWrongCount items _ = ⊥
 
--- What the name says. It is said of the 14 names of the format, and of the twelve of rules. Nothing is said
--- of those of a policy and of Memory.
-abbrev pub Means : Profile → ℕ → List ℕ → List ℕ → Why → Type 0
-Means p limit used rest why.Index = AtItem p HasNoItem used
-Means p limit used rest why.Limits = AtItem p IsOutOfRange used
-Means p limit used rest why.Second = AtItem p IsSecond used
-Means p limit used rest why.DuplicateExport = AtItem p IsRepeated used
-Means p limit used rest why.StartType = AtItem p IsNoStart used
-Means p limit used rest why.NotConst = AtItem p (AtConstant CannotBeConstant) used
-Means p limit used rest why.Immutable = AtItem p (AtOp SetsConstant) used
-Means p limit used rest why.Align = AtItem p (AtOp (λ globals o. IsAlignedPast o)) used
-Means p limit used rest why.TooManyLocals = AtItem p AreTooMany used
-Means p limit used rest why.Mismatch = AtItem p IsMistyped used
-Means p limit used rest why.Arity = AtItem p HasWrongCount used
-Means p limit used rest why.ElsePlace = AtItem p IsElseOutside used
-Means p limit used rest w = MeansOfFormat p limit used rest w
+-- ManyFunctions: a function, imported or own, with which there are more than the policy allows
+abbrev pub AreManyFunctions : Policy → List Item → Item → Type 0
+AreManyFunctions q items (function x) = AtMost q.functions (length (so_far items).functions + 1) → ⊥
+AreManyFunctions q items (import_desc (desc.Func x)) =
+    AtMost q.functions (length (so_far items).functions + 1) → ⊥
+AreManyFunctions q items _ = ⊥
+
+-- ManyLocals: a run of locals, with which the code entry declares more than the policy allows
+abbrev pub AreManyLocals : Policy → List Item → Item → Type 0
+AreManyLocals q items (locals n t) =
+    (e : InEntry items) × (e.code.ops ≡ [])
+    × (AtMost q.locals (length (locals_of e.code.runs) + n) → ⊥)
+AreManyLocals q items _ = ⊥
+
+-- Deep: a block, a loop or an if, with which more are open than the policy allows. The body itself is an open
+-- list too, so as many are open then as there are open lists before.
+abbrev pub IsTooDeep : Policy → List Item → Item → Type 0
+IsTooDeep q items (body_op o) =
+    (b : InBody items) × (opens o ≡ 1) × (AtMost q.depth (levels b.typing.0) → ⊥)
+IsTooDeep q items _ = ⊥
+
+-- What the name says. It is said of the 14 names of the format, of the twelve of rules, and of the three of a
+-- policy. Nothing is said of Memory.
+abbrev pub Means : Profile → ℕ → Policy → List ℕ → List ℕ → Why → Type 0
+Means p limit q used rest why.Index = AtItem p HasNoItem used
+Means p limit q used rest why.Limits = AtItem p IsOutOfRange used
+Means p limit q used rest why.Second = AtItem p IsSecond used
+Means p limit q used rest why.DuplicateExport = AtItem p IsRepeated used
+Means p limit q used rest why.StartType = AtItem p IsNoStart used
+Means p limit q used rest why.NotConst = AtItem p (AtConstant CannotBeConstant) used
+Means p limit q used rest why.Immutable = AtItem p (AtOp SetsConstant) used
+Means p limit q used rest why.Align = AtItem p (AtOp (λ globals o. IsAlignedPast o)) used
+Means p limit q used rest why.TooManyLocals = AtItem p AreTooMany used
+Means p limit q used rest why.Mismatch = AtItem p IsMistyped used
+Means p limit q used rest why.Arity = AtItem p HasWrongCount used
+Means p limit q used rest why.ElsePlace = AtItem p IsElseOutside used
+Means p limit q used rest why.ManyFunctions = AtItem p (AreManyFunctions q) used
+Means p limit q used rest why.ManyLocals = AtItem p (AreManyLocals q) used
+Means p limit q used rest why.Deep = AtItem p (IsTooDeep q) used
+Means p limit q used rest w = MeansOfFormat p limit used rest w
 
 -- A refusal of an input says this of the bytes up to its place, which lies within it.
-abbrev pub Meaning : Profile → ℕ → List ℕ → Refusal → Type 0
-Meaning p limit input r = Meant (Means p limit) input r
+abbrev pub Meaning : Profile → ℕ → Policy → List ℕ → Refusal → Type 0
+Meaning p limit q input r = Meant (Means p limit q) input r
