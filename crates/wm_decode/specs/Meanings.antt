@@ -10,7 +10,7 @@ use Rattle.wm_syntax.specs.declared.instructions.Op.{Op}
 use Rattle.wm_syntax.specs.declared.modules.ExportKind.{ExportKind}
 use Rattle.wm_syntax.specs.Spelling.{Form, Byte, Exactly, Each, ◌▸◌, ◌∣◌}
 use Rattle.wm_syntax.specs.Leb128.{Unsigned, Signed}
-use Rattle.wm_syntax.specs.Types.{SpellsU32, SpellsValType, SpellsBlockType}
+use Rattle.wm_syntax.specs.Types.{SpellsU32, SpellsName, SpellsValType, SpellsBlockType}
 use Rattle.wm_syntax.specs.Instructions.{SpellsOp}
 use Rattle.wm_syntax.specs.OpClasses.{first_byte, is_float}
 use Rattle.wm_syntax.specs.Profiles.{HasBlockType, HasType, IsOpOf}
@@ -161,12 +161,20 @@ IsOtherByte a_value_type c = IsFloatType c → ⊥
 IsOtherByte a_block_type c = IsFloatType c → ⊥
 IsOtherByte _ c = Unit {0}
 
--- BadUtf8: so many bytes of a name must stand there, and these are not UTF-8 (section 5.2.4).
+-- a name (section 5.2.4)
+abbrev pub IsName : Form ℕ
+IsName b = (text : List ℕ) × SpellsName text b
+
+-- BadUtf8 (section 5.2.4): where a name must stand comes its length, and then so many bytes, which are not
+-- UTF-8. So many bytes that are must stand there.
 pub record BadName (p : Profile) (used : List ℕ) : Type 0 where
   pub before : List ℕ
+  pub size : List ℕ
   pub text : List ℕ
-  pub whole : used ≡ before ++ text
-  pub place : MustStand p (λ b. (length b ≡ length text) × IsUtf8 b) before
+  pub whole : used ≡ before ++ (size ++ text)
+  pub name : MustStand p IsName before
+  pub spelled : SpellsU32 (length text) size
+  pub place : MustStand p (λ b. (length b ≡ length text) × IsUtf8 b) (before ++ size)
   pub bad : IsUtf8 text → ⊥
 
 -- The sections declare so many functions (sections 5.5.6, 5.5.15): the contents of one with id 3 begin with
