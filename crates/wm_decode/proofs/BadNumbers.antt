@@ -1,12 +1,12 @@
 -- BadNumber is given at a byte with which no number goes on that has begun and must stand.
-use Rattle.std.proofs.Common.{◌≡◌, ◌≢◌, ℕ, zero, suc, ◌<◌, ◌^◌, ◌⊎◌, inl, inr, Bool, true, false, List, [], ◌∷◌, ◌++◌, Option, Some, None, Result, ℤ, refl, sym, ◌∙◌, ap, subst, arith, nat_eq, nat_lt, nat_le, append_assoc, append-nil}
+use Rattle.std.proofs.Common.{◌≡◌, ◌≢◌, ℕ, zero, suc, ◌<◌, ◌^◌, ◌⊎◌, inl, inr, Bool, true, false, List, [], ◌∷◌, ◌++◌, Option, Some, None, Result, ℤ, pos, refl, sym, ◌∙◌, ap, subst, arith, nat_eq, nat_lt, nat_le, append_assoc, append-nil}
 use Rattle.std.proofs.lemmas.Bool.{cond_both}
 use Rattle.std.specs.Prelude.{slice_index}
 use Rattle.std.specs.Str.{is_utf8}
 use Rattle.wm_syntax.specs.declared.numbers.Step.{Step}
 use Rattle.wm_syntax.specs.declared.numbers.Step.TheVariants as step
-use Rattle.wm_syntax.specs.inner.Numbers.{Partial, UnsignedRest, SignedRest, UnsignedAfter, SignedAfter}
-use Rattle.wm_syntax.specs.exact.Reading.{fresh, unsigned_push, signed_push}
+use Rattle.wm_syntax.specs.inner.Numbers.{Partial, SignedRest, UnsignedAfter, SignedAfter}
+use Rattle.wm_syntax.specs.exact.Reading.{fresh, last_signed, unsigned_push, signed_push}
 use Rattle.wm_syntax.specs.exact.ByteTable.{class_under}
 use Rattle.wm_syntax.specs.declared.profile.Profile.{Profile}
 use Rattle.wm_syntax.specs.Profiles.{has, type_feature}
@@ -45,13 +45,13 @@ use Rattle.wm_decode.specs.declared.step.values.InValue.TheVariants as value
 use Rattle.wm_decode.specs.declared.step.expressions.InExpression.{InExpression}
 use Rattle.wm_decode.specs.declared.step.expressions.InExpression.TheVariants as expression
 use Rattle.wm_decode.specs.declared.machine.Plain.TheVariants as plain
-use Rattle.wm_decode.specs.Meanings.{Integer, u32, s32, s64, spells, CanGoOn, WrongNumber}
+use Rattle.wm_decode.specs.Meanings.{Integer, u32, s32, s64, spells, goes_on, CanGoOn, MustStand, WrongNumber}
 use Rattle.wm_decode.specs.exact.ValueSteps.{read_number, map_reading, after_min, limits_push, table_type_push, type_under, value_type_of, read_type, global_type_push, desc_push, target_push, run_push, value_push}
 use Rattle.wm_decode.specs.exact.OpSteps.{block_op, float_32_step, float_64_step, index_op, call_op, memory_op, const_32_op, const_64_op, on_answer, immediates, first_step, block_step, closing_step, op_push}
 use Rattle.wm_decode.specs.exact.ExpressionSteps.{start, ends as op_ends, after_op, after_label, after_reading, expression_failed, expression_step}
 use Rattle.wm_decode.proofs.OpRest.{at_offset}
 use Rattle.std.proofs.Common.{◌↔◌}
-use Rattle.wm_syntax.specs.Spelling.{Form, AreBytes}
+use Rattle.wm_syntax.specs.Spelling.{AreBytes}
 use Rattle.wm_syntax.specs.Leb128.{Signed}
 use Rattle.wm_syntax.proofs.Readers.{unsigned_fresh, signed_fresh, signed_law, Goes as NumberGoes}
 use Rattle.wm_decode.specs.declared.machine.NameKind.{NameKind}
@@ -76,7 +76,7 @@ use Rattle.wm_decode.specs.declared.machine.member.InMember.{InMember}
 use Rattle.wm_decode.specs.declared.machine.member.InMember.TheVariants as at
 use Rattle.wm_decode.specs.Items.{Zone, Marks}
 use Rattle.wm_decode.specs.Sections.{header}
-use Rattle.wm_decode.specs.Grammar.{Items, strict}
+use Rattle.wm_decode.specs.Grammar.{strict}
 use Rattle.wm_decode.specs.exact.Members.{section_kind_of, member_at_start}
 use Rattle.wm_decode.specs.exact.MemberSteps.{on_number, on_value, on_type, with_item_given, after_param, after_result, after_name, after_length, name_step, functions_or_over, index_item, after_index, constant_over, after_constant, data_or_over, list_or_over, runs_or_body, entry_after_op, entry_step, member_in_entry, member_step}
 use Rattle.wm_decode.specs.exact.Steps.{custom_after_length, machine_in_custom, custom_step, machine_in_member, machine_after_count, machine_after_paired_count, after_count, begun_section, machine_if_rising, section_start, machine_in_contents, after_size, custom_size, header_step, step_of}
@@ -87,12 +87,11 @@ use Rattle.wm_decode.proofs.MachineStates.{Fits, step_fits, run_fits}
 use Rattle.wm_decode.proofs.MachineAndSink.{begin_fits}
 use Rattle.wm_decode.proofs.WholeMachine.{MayEnd, MachineRest, machine_follows, ends, begin_to, run_to}
 use Rattle.wm_decode.proofs.Fronts.{is_front}
+use Rattle.wm_decode.proofs.OpSound.{HasRoom, RoomAfter, fresh_room, unsigned_room, signed_room, last_byte, last_signed_byte}
+use Rattle.wm_decode.proofs.WrongMembers.{can_stand}
+use Rattle.wm_decode.proofs.NumbersAtHand.{Num, num_op, num_limits, num_table, num_global, num_desc, num_target, num_run, num_value, num_expression, num_entry, num_member, num_custom, num_machine, RestOf, Rests, number_can}
 use Rattle.wm_decode.proofs.SpelledBytes.{whole_bytes}
 use Rattle.wm_decode.proofs.FramedBytes.{Numbers, numbers}
-
--- the number that a state is in, and what was read of it
-abbrev Num : Type 0
-Num = Option (Integer × Partial)
 
 abbrev IsNew : Num → Type 0
 IsNew None = Unit {0}
@@ -195,15 +194,6 @@ module _ {R S X Y : Type 0} (num : R → Num) (outer : S → Num) (f : R → S) 
   within_law = lift {M = Reading R X} {N = Reading S Y} Bad (num_reading num) Bad (num_reading outer) (map_reading f g) (λ w. refl) within_keeps within_new
 
 -- ops
-abbrev num_op : InOp → Num
-num_op (in_op.Index i r) = Some (u32, r)
-num_op (in_op.CallType r) = Some (u32, r)
-num_op (in_op.Const32 r) = Some (s32, r)
-num_op (in_op.Const64 r) = Some (s64, r)
-num_op (in_op.Align a r) = Some (u32, r)
-num_op (in_op.Offset a n r) = Some (u32, r)
-num_op _ = None
-
 immediates_new : (kind : Immediates) → IsNew (num_op (immediates kind))
 immediates_new k.Block = tt
 immediates_new k.Loop = tt
@@ -255,39 +245,6 @@ op_law p (in_op.Align a r) c = answer_law num_op u32 (unsigned_push 32 r c) (λ 
 op_law p (in_op.Offset a n r) c = answer_law num_op u32 (unsigned_push 32 r c) (λ t. in_op.Offset a n t) (λ m. Done (at_offset a n m)) (λ s. refl) (λ m. new_done num_op (at_offset a n m))
 
 -- values
-abbrev num_limits : InLimits → Num
-num_limits limits.Flag = None
-num_limits (limits.Min bounded r) = Some (u32, r)
-num_limits (limits.Max min r) = Some (u32, r)
-
-abbrev num_table : InTableType → Num
-num_table table.ElementType = None
-num_table (table.Limits l) = num_limits l
-
-abbrev num_global : InGlobalType → Num
-num_global g = None
-
-abbrev num_desc : InImportDesc → Num
-num_desc import.Kind = None
-num_desc (import.Func r) = Some (u32, r)
-num_desc (import.Table t) = num_table t
-num_desc (import.Memory l) = num_limits l
-num_desc (import.Global g) = None
-
-abbrev num_target : InExportDesc → Num
-num_target target.Kind = None
-num_target (target.Index k r) = Some (u32, r)
-
-abbrev num_run : InRun → Num
-num_run (run.Count r) = Some (u32, r)
-num_run (run.Type n) = None
-
-abbrev num_value : InValue → Num
-num_value (value.Import d) = num_desc d
-num_value (value.Table t) = num_table t
-num_value (value.Memory l) = num_limits l
-num_value (value.Export t) = num_target t
-
 min_law : (bounded : Bool) (n : ℕ) → ReadSettled {R = InLimits} {X = Limits} num_limits (after_min bounded n)
 min_law true n = new_more num_limits (limits.Max n fresh) refl
 min_law false n = (tt, λ e. cc)
@@ -372,11 +329,6 @@ module _ {M : Type 0} (fail : Why → M) (num : M → Num) where
     on_value_law = lift {M = Reading R X} {N = M} Bad (num_reading inner) fail num heard (λ w. refl) heard_keeps heard_new
 
 -- expressions
-abbrev num_expression : InExpression → Num
-num_expression (expression.Op depth q) = num_op q
-num_expression (expression.Label depth left r) = Some (u32, r)
-num_expression e = None
-
 abbrev ExpressionNew : InExpression → Type 0
 ExpressionNew = Settled expression.Failed num_expression
 
@@ -419,12 +371,6 @@ expression_law p expression.Over c = (tt, λ e. cc)
 expression_law p (expression.Failed w) c = (tt, λ e. cc)
 
 -- code entries
-abbrev num_entry : InEntry → Num
-num_entry (entry.RunCount r) = Some (u32, r)
-num_entry (entry.Run more r) = num_run r
-num_entry (entry.Body e) = num_expression e
-num_entry q = None
-
 abbrev EntryNew : InEntry → Type 0
 EntryNew = Settled entry.Failed num_entry
 
@@ -456,18 +402,6 @@ entry_law p entry.Over c = (tt, λ e. cc)
 entry_law p (entry.Failed w) c = (tt, λ e. cc)
 
 -- members
-abbrev num_member : InMember → Num
-num_member (at.ParamCount r) = Some (u32, r)
-num_member (at.ResultCount r) = Some (u32, r)
-num_member (at.NameLength of r) = Some (u32, r)
-num_member (at.Value v) = num_value v
-num_member (at.Index of r) = Some (u32, r)
-num_member (at.Constant of e) = num_expression e
-num_member (at.Length of r) = Some (u32, r)
-num_member (at.EntrySize r) = Some (u32, r)
-num_member (at.Entry more q) = num_entry q
-num_member q = None
-
 abbrev MemberNew : InMember → Type 0
 MemberNew = Settled at.Failed num_member
 
@@ -582,10 +516,6 @@ member_law p at.Over c = (tt, λ e. cc)
 member_law p (at.Failed w) c = (tt, λ e. cc)
 
 -- the machine
-abbrev num_custom : InCustom → Num
-num_custom (custom.Length r) = Some (u32, r)
-num_custom q = None
-
 length_settled : (n : ℕ) → Settled custom.Failed num_custom (custom_after_length n).0
 length_settled zero = (tt, λ e. cc)
 length_settled (suc n) = (tt, λ e. cc)
@@ -596,14 +526,6 @@ custom_law (custom.Name zero) c = (tt, λ e. cc)
 custom_law (custom.Name (suc n)) c = (tt, λ e. cc)
 custom_law custom.Skip c = (tt, λ e. cc)
 custom_law (custom.Failed w) c = (tt, λ e. cc)
-
-abbrev num_machine : Machine → Num
-num_machine (machine.CustomSize last functions r) = Some (u32, r)
-num_machine (machine.Custom last functions more q) = num_custom q
-num_machine (machine.Size of functions r) = Some (u32, r)
-num_machine (machine.Count of functions more r) = Some (u32, r)
-num_machine (machine.Section of functions more left q) = num_member q
-num_machine m = None
 
 abbrev MachineNew : Machine → Type 0
 MachineNew = Settled machine.Refused num_machine
@@ -728,16 +650,16 @@ machine_law p (machine.Count of functions more r) c live = count_law of function
 machine_law p (machine.Section of functions more left q) c live = lift at.Failed num_member machine.Refused num_machine (machine_in_member of functions more left) (λ w. refl) (section_keeps of functions more left) (section_new of functions more left) (num_member q) c (member_step p q c).0 (member_law p q c)
 machine_law p (machine.Refused w) c live = absurd (live tt)
 
--- the number that has begun
+-- the number that has begun and can go on
 abbrev After : Integer → Partial → List ℕ → Type 0
-After u32 r y = UnsignedAfter 32 r y
-After s32 r y = SignedAfter 32 r y
-After s64 r y = SignedAfter 64 r y
+After u32 r y = UnsignedAfter 32 r y × HasRoom 32 r
+After s32 r y = SignedAfter 32 r y × HasRoom 32 r
+After s64 r y = SignedAfter 64 r y × HasRoom 64 r
 
 fresh_after : (i : Integer) → After i fresh []
-fresh_after u32 = unsigned_fresh 32 (omega arith)
-fresh_after s32 = signed_fresh 32 (omega arith)
-fresh_after s64 = signed_fresh 64 (omega arith)
+fresh_after u32 = (unsigned_fresh 32 (omega arith), fresh_room 32 (omega arith))
+fresh_after s32 = (signed_fresh 32 (omega arith), fresh_room 32 (omega arith))
+fresh_after s64 = (signed_fresh 64 (omega arith), fresh_room 64 (omega arith))
 
 abbrev Tracked : Num → List ℕ → Type 0
 Tracked None b = Unit {0}
@@ -752,13 +674,13 @@ PushAfter i (step.More, s) y = After i s y
 PushAfter i (step.Done v, s) y = Unit {0}
 PushAfter i (step.Bad, s) y = Unit {0}
 
-unsigned_pushed : (r : Partial) (y : List ℕ) (c : ℕ) → c < 2 ^ 8 → UnsignedAfter 32 r y → PushAfter u32 (unsigned_push 32 r c) (y ++ c ∷ [])
-unsigned_pushed r y c byte u = go (unsigned_push 32 r c) (numbers r y c byte u)
+unsigned_pushed : (r : Partial) (y : List ℕ) (c : ℕ) → c < 2 ^ 8 → After u32 r y → PushAfter u32 (unsigned_push 32 r c) (y ++ c ∷ [])
+unsigned_pushed r y c byte u = go (unsigned_push 32 r c) (numbers r y c byte u.0) (unsigned_room 32 r c u.1 byte)
   where
-    go : (q : Step ℕ × Partial) → Numbers (y ++ c ∷ []) q → PushAfter u32 q (y ++ c ∷ [])
-    go (step.More, s) h = h
-    go (step.Done v, s) h = tt
-    go (step.Bad, s) h = tt
+    go : (q : Step ℕ × Partial) → Numbers (y ++ c ∷ []) q → RoomAfter 32 q → PushAfter u32 q (y ++ c ∷ [])
+    go (step.More, s) h room = (h, room)
+    go (step.Done v, s) h room = tt
+    go (step.Bad, s) h room = tt
 
 module _ (bits : ℕ) (r : Partial) (y : List ℕ) (c : ℕ) (byte : c < 2 ^ 8) (u : SignedAfter bits r y) where
   abbrev SignedThen : Step ℤ × Partial → Type 0
@@ -780,15 +702,15 @@ module _ (bits : ℕ) (r : Partial) (y : List ℕ) (c : ℕ) (byte : c < 2 ^ 8) 
       go (step.Done v, s) next = tt
       go (step.Bad, s) next = tt
 
-of_32 : (q : Step ℤ × Partial) (r : Partial) (y : List ℕ) (c : ℕ) (byte : c < 2 ^ 8) (u : SignedAfter 32 r y) → SignedThen 32 r y c byte u q → PushAfter s32 q (y ++ c ∷ [])
-of_32 (step.More, s) r y c byte u h = h
-of_32 (step.Done v, s) r y c byte u h = tt
-of_32 (step.Bad, s) r y c byte u h = tt
+of_32 : (q : Step ℤ × Partial) (r : Partial) (y : List ℕ) (c : ℕ) (byte : c < 2 ^ 8) (u : SignedAfter 32 r y) → SignedThen 32 r y c byte u q → RoomAfter 32 q → PushAfter s32 q (y ++ c ∷ [])
+of_32 (step.More, s) r y c byte u h room = (h, room)
+of_32 (step.Done v, s) r y c byte u h room = tt
+of_32 (step.Bad, s) r y c byte u h room = tt
 
-of_64 : (q : Step ℤ × Partial) (r : Partial) (y : List ℕ) (c : ℕ) (byte : c < 2 ^ 8) (u : SignedAfter 64 r y) → SignedThen 64 r y c byte u q → PushAfter s64 q (y ++ c ∷ [])
-of_64 (step.More, s) r y c byte u h = h
-of_64 (step.Done v, s) r y c byte u h = tt
-of_64 (step.Bad, s) r y c byte u h = tt
+of_64 : (q : Step ℤ × Partial) (r : Partial) (y : List ℕ) (c : ℕ) (byte : c < 2 ^ 8) (u : SignedAfter 64 r y) → SignedThen 64 r y c byte u q → RoomAfter 64 q → PushAfter s64 q (y ++ c ∷ [])
+of_64 (step.More, s) r y c byte u h room = (h, room)
+of_64 (step.Done v, s) r y c byte u h room = tt
+of_64 (step.Bad, s) r y c byte u h room = tt
 
 pushed_tracked : {T : Type 0} (i : Integer) (q : Step T × Partial) (before y b : List ℕ) (c : ℕ) → PushAfter i q (y ++ c ∷ []) → b ≡ before ++ y → (x : Machine) → Pushed machine.Refused num_machine i q x → Tracked (num_machine x) (b ++ c ∷ [])
 pushed_tracked i (step.More, s) before y b c a e x (inl h) = subst (λ n. Tracked n (b ++ c ∷ [])) (sym h.0) (before, y ++ c ∷ [], ap (λ z. z ++ c ∷ []) e ∙ append_assoc before y (c ∷ []), a)
@@ -799,8 +721,8 @@ pushed_tracked i (step.Bad, s) before y b c a e x h = subst (λ m. Tracked (num_
 law_tracked : (n : Num) (c : ℕ) → c < 2 ^ 8 → (x : Machine) (b : List ℕ) → Law machine.Refused num_machine n c x → Tracked n b → Tracked (num_machine x) (b ++ c ∷ [])
 law_tracked None c byte x b h t = new_tracked (num_machine x) (b ++ c ∷ []) h.0
 law_tracked (Some (u32, r)) c byte x b h t = pushed_tracked u32 (unsigned_push 32 r c) t.0 t.1 b c (unsigned_pushed r t.1 c byte t.3) t.2 x h
-law_tracked (Some (s32, r)) c byte x b h t = pushed_tracked s32 (signed_push 32 r c) t.0 t.1 b c (of_32 (signed_push 32 r c) r t.1 c byte t.3 (signed_pushed 32 r t.1 c byte t.3)) t.2 x h
-law_tracked (Some (s64, r)) c byte x b h t = pushed_tracked s64 (signed_push 64 r c) t.0 t.1 b c (of_64 (signed_push 64 r c) r t.1 c byte t.3 (signed_pushed 64 r t.1 c byte t.3)) t.2 x h
+law_tracked (Some (s32, r)) c byte x b h t = pushed_tracked s32 (signed_push 32 r c) t.0 t.1 b c (of_32 (signed_push 32 r c) r t.1 c byte t.3.0 (signed_pushed 32 r t.1 c byte t.3.0) (signed_room 32 r c t.3.1 byte)) t.2 x h
+law_tracked (Some (s64, r)) c byte x b h t = pushed_tracked s64 (signed_push 64 r c) t.0 t.1 b c (of_64 (signed_push 64 r c) r t.1 c byte t.3.0 (signed_pushed 64 r t.1 c byte t.3.0) (signed_room 64 r c t.3.1 byte)) t.2 x h
 
 heard_tracked : (zone : Zone) (y : List ℕ) (c : ℕ) (m : Machine) (e : Event) (b : List ℕ) → Tracked (num_machine m) b → Tracked (num_machine (byte_read machine.Refused zone y c (m, e)).at) b
 heard_tracked zone y c m event.Nothing b h = h
@@ -822,21 +744,25 @@ run_tracked p s before (c ∷ b) a t =
     subst (λ y. Tracked (num_machine (state_after p (after_byte p s c) b).machine) y) (append_assoc before (c ∷ []) b) (run_tracked p (after_byte p s c) (before ++ c ∷ []) b a.1 one)
 
 -- what may still come of it
-abbrev RestOf : Integer → Partial → Form ℕ
-RestOf u32 r b = (n : ℕ) × UnsignedRest 32 r n b
-RestOf s32 r b = (z : ℤ) × SignedRest 32 r z b
-RestOf s64 r b = (z : ℤ) × SignedRest 64 r z b
-
 to_spelled : (i : Integer) (r : Partial) (y b : List ℕ) → After i r y → b ≢ [] → RestOf i r b → spells i (y ++ b)
 to_spelled i r y [] a some h = absurd (some refl)
-to_spelled u32 r y (d ∷ b) a some h = (h.0, (a.same h.0 d b).1 h.1)
-to_spelled s32 r y (d ∷ b) a some h = (h.0, (a.same h.0 d b).1 h.1)
-to_spelled s64 r y (d ∷ b) a some h = (h.0, (a.same h.0 d b).1 h.1)
+to_spelled u32 r y (d ∷ b) a some h = (h.0, (a.0.same h.0 d b).1 h.1)
+to_spelled s32 r y (d ∷ b) a some h = (h.0, (a.0.same h.0 d b).1 h.1)
+to_spelled s64 r y (d ∷ b) a some h = (h.0, (a.0.same h.0 d b).1 h.1)
 
 from_spelled : (i : Integer) (r : Partial) (y : List ℕ) (d : ℕ) (b : List ℕ) → After i r y → spells i (y ++ d ∷ b) → RestOf i r (d ∷ b)
-from_spelled u32 r y d b a h = (h.0, (a.same h.0 d b).0 h.1)
-from_spelled s32 r y d b a h = (h.0, (a.same h.0 d b).0 h.1)
-from_spelled s64 r y d b a h = (h.0, (a.same h.0 d b).0 h.1)
+from_spelled u32 r y d b a h = (h.0, (a.0.same h.0 d b).0 h.1)
+from_spelled s32 r y d b a h = (h.0, (a.0.same h.0 d b).0 h.1)
+from_spelled s64 r y d b a h = (h.0, (a.0.same h.0 d b).0 h.1)
+
+from_goes : (i : Integer) (r : Partial) (y b : List ℕ) → After i r y → goes_on i y b → RestOf i r b
+from_goes i r y [] a h = absurd (h.0 refl)
+from_goes i r y (d ∷ b) a h = from_spelled i r y d b a h.1
+
+last_comes : (i : Integer) (r : Partial) (y : List ℕ) → After i r y → RestOf i r (0 ∷ [])
+last_comes u32 r y a = (r.low, last_byte r a.1.0)
+last_comes s32 r y a = (last_signed r (pos 0), last_signed_byte 32 r a.1.0)
+last_comes s64 r y a = (last_signed r (pos 0), last_signed_byte 64 r a.1.0)
 
 -- by a byte it goes on, is whole, or fails
 abbrev Onward : {T : Type 0} → Integer → Partial → ℕ → Step T × Partial → Type 0
@@ -946,12 +872,15 @@ module _ (p : Profile) (b : List ℕ) (bytes : AreBytes b) (c : ℕ) (byte : c <
     number = i;
     whole = ap (λ y. y ++ c ∷ []) t.2;
     front = subst (CanGoOn p) t.2 (marks p state_at_start b, is_front p b bytes live);
-    must = λ more k h.
-        let w : Items p (b ++ more) k = subst (λ y. Items p (y ++ more) k) (sym t.2) h in
-        let all : AreBytes more = back_bytes b more (whole_bytes p (b ++ more) k w) in
-        let g = run_to strict p tt state_at_start b more k bytes begin_fits (begin_to strict p (b ++ more) k w) in
-        let s = rest_comes p more Now.machine Now.name g.0 i r f all e g.2 in
-        (s.0, s.1, s.2, s.3, to_spelled i r t.1 s.0 t.3 s.3 s.4);
+    some = (0 ∷ [], ((λ e. cc), to_spelled i r t.1 (0 ∷ []) t.3 (λ e. cc) (last_comes i r t.1 t.3)));
+    place = subst (MustStand p (goes_on i t.1)) t.2 (record {
+      can = λ y s. can_stand p b bytes (Rests (num_machine Now.machine)) (number_can p Now.machine Now.name) y (subst (λ n. Rests n y) (sym e) (from_goes i r t.1 y t.3 s));
+      must = λ more k w.
+          let all : AreBytes more = back_bytes b more (whole_bytes p (b ++ more) k w) in
+          let g = run_to strict p tt state_at_start b more k bytes begin_fits (begin_to strict p (b ++ more) k w) in
+          let s = rest_comes p more Now.machine Now.name g.0 i r f all e g.2 in
+          (s.0, s.1, s.2, (s.3, to_spelled i r t.1 s.0 t.3 s.3 s.4));
+    });
     none = λ more h. none more (from_spelled i r t.1 c more t.3 h);
   }
 

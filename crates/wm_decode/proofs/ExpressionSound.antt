@@ -115,7 +115,7 @@ module _ (p : Profile) (part : Op → Item) where
     ),
   )
 
-  some_ops : (depth labels : ℕ) → Comes (OpsFrom p part depth labels)
+  pub some_ops : (depth labels : ℕ) → Comes (OpsFrom p part depth labels)
   some_ops zero zero = first_op op.End 0 0 [] (0x0B ∷ []) [] [] refl tt refl tt (refl, refl)
   some_ops (suc d) zero = let g = some_ops d zero in let r = g.2 in first_op op.End (suc d) 0 r.0 (0x0B ∷ []) g.0 g.1 refl tt r.1 r.2 r.3
   some_ops depth (suc n) = let g = some_ops depth n in let r = g.2 in first_op (op.Label 0) depth (suc n) r.0 (0 ∷ []) g.0 g.1 ((fresh_number 0 (0 ∷ [])).1 (last_byte fresh (omega arith))) tt r.1 r.2 r.3

@@ -39,14 +39,22 @@ use Rattle.wm_decode.proofs.ExpressionRest.{ExpressionRest}
 use Rattle.wm_decode.proofs.ExpressionSound.{some_after}
 use Rattle.wm_decode.proofs.OpenMembers.{Comes, zero_u32, zero_limits, zeros, zeros_length, zeros_bytes}
 
--- of values
+-- of values: each such thing has one that goes on from it
+abbrev pub ValuesCan : {X : Type 0} → Form ℕ → (X → Form ℕ) → Type 0
+ValuesCan {X} W V = (b : List ℕ) → W b → (rest : List ℕ) × (x : X) × V x (b ++ rest)
+
+-- and each begins with one
 pub record ValuesBegin {X : Type 0} (W : Form ℕ) (V : X → Form ℕ) : Type 0 where
-  pub can : (b : List ℕ) → W b → (rest : List ℕ) × (x : X) × V x (b ++ rest)
+  pub can : ValuesCan W V
   pub must : (x : X) (b : List ℕ) → V x b → (y rest : List ℕ) × (b ≡ y ++ rest) × W y
 
--- of parts: each such thing can stand in the loose grammar, and in the strict one each part begins with one
+-- of parts: each such thing can stand in the loose grammar
+abbrev pub PartsCan : Form ℕ → MarkedForm → Type 0
+PartsCan W L = (b : List ℕ) → W b → (rest : List ℕ) × (k : Marks) × L (b ++ rest) k
+
+-- and in the strict one each part begins with one
 pub record PartsBegin (W : Form ℕ) (L S : MarkedForm) : Type 0 where
-  pub can : (b : List ℕ) → W b → (rest : List ℕ) × (k : Marks) × L (b ++ rest) k
+  pub can : PartsCan W L
   pub must : (b : List ℕ) (k : Marks) → S b k → (y rest : List ℕ) × (b ≡ y ++ rest) × W y
 
 -- values that are such things, whole
@@ -57,57 +65,79 @@ whole W V f g = record {
 }
 
 -- values within others
+pub within_can : {X Y : Type 0} (W : Form ℕ) (V : X → Form ℕ) (g : X → Y) → ValuesCan W V → ValuesCan W (λ y b. (x : X) × (y ≡ g x) × V x b)
+within_can W V g v b w = let h = v b w in (h.0, g h.1, (h.1, refl, h.2))
+
 pub within : {X Y : Type 0} (W : Form ℕ) (V : X → Form ℕ) (g : X → Y) → ValuesBegin W V → ValuesBegin W (λ y b. (x : X) × (y ≡ g x) × V x b)
 within W V g v = record {
-  can = λ b w. let h = v.can b w in (h.0, g h.1, (h.1, refl, h.2));
+  can = within_can W V g v.can;
   must = λ y b h. v.must h.0 b h.2;
 }
 
 module _ (W : Form ℕ) where
+  pub leaf_can : {X : Type 0} (V : X → Form ℕ) (part : X → Item) → ValuesCan W V → PartsCan W (Leaf V part)
+  leaf_can V part v b w = let h = v b w in (h.0, marks_ending (Some (part h.1)) (b ++ h.0), (h.1, h.2, refl))
+
   pub leaf_begins : {X : Type 0} (V : X → Form ℕ) (part : X → Item) → ValuesBegin W V → PartsBegin W (Leaf V part) (Leaf V part)
   leaf_begins V part v = record {
-    can = λ b w. let h = v.can b w in (h.0, marks_ending (Some (part h.1)) (b ++ h.0), (h.1, h.2, refl));
+    can = leaf_can V part v.can;
     must = λ b k h. v.must h.0 b h.1;
   }
 
   first_of : (front back b : List ℕ) → b ≡ front ++ back → ((y rest : List ℕ) × (front ≡ y ++ rest) × W y) → (y rest : List ℕ) × (b ≡ y ++ rest) × W y
   first_of front back b e m = (m.0, m.1 ++ back, e ∙ (ap (λ y. y ++ back) m.2 ∙ append_assoc m.0 m.1 back), m.3)
 
+  pub then_can : (L Q : MarkedForm) → PartsCan W L → Comes Q → PartsCan W (Then L Q)
+  then_can L Q v q b w =
+      let h = v b w in
+      (h.0 ++ q.bytes, h.1 ++ q.marks, record { front = b ++ h.0; back = q.bytes; front_marks = h.1; back_marks = q.marks; bytes = sym (append_assoc b h.0 q.bytes); marks = refl; first = h.2; second = q.spelled })
+
   pub then_begins : (L S Q R : MarkedForm) → PartsBegin W L S → Comes Q → PartsBegin W (Then L Q) (Then S R)
   then_begins L S Q R v q = record {
-    can = λ b w. let h = v.can b w in
-        (h.0 ++ q.bytes, h.1 ++ q.marks, record { front = b ++ h.0; back = q.bytes; front_marks = h.1; back_marks = q.marks; bytes = sym (append_assoc b h.0 q.bytes); marks = refl; first = h.2; second = q.spelled });
+    can = then_can L Q v.can q;
     must = λ b k h. first_of h.front h.back b h.bytes (v.must h.front h.front_marks h.first);
   }
 
+  pub sized_can : (n : ℕ) (L : MarkedForm) → PartsCan W L → PartsCan W (Sized loose n L)
+  sized_can n L v b w = let h = v b w in (h.0, h.1, ((λ d. absurd d), h.2))
+
   pub sized_begins : (n : ℕ) (L S : MarkedForm) → PartsBegin W L S → PartsBegin W (Sized loose n L) (Sized strict n S)
   sized_begins n L S v = record {
-    can = λ b w. let h = v.can b w in (h.0, h.1, ((λ d. absurd d), h.2));
+    can = sized_can n L v.can;
     must = λ b k h. v.must b k h.1;
   }
 
+  pub entry_can : (L : MarkedForm) → PartsCan W L → PartsCan W (Entry L)
+  entry_can L v b w = let h = v b w in (h.0, entry_marks h.1, record { inner = h.1; marks = refl; contents = h.2 })
+
   pub entry_begins : (L S : MarkedForm) → PartsBegin W L S → PartsBegin W (Entry L) (Entry S)
   entry_begins L S v = record {
-    can = λ b w. let h = v.can b w in (h.0, entry_marks h.1, record { inner = h.1; marks = refl; contents = h.2 });
+    can = entry_can L v.can;
     must = λ b k h. v.must b h.inner h.contents;
   }
 
+  pub filled_can : (n : ℕ) (L : MarkedForm) → PartsCan W L → PartsCan W (Filled loose n L)
+  filled_can n L v b w =
+      let h = v b w in
+      let back : List ℕ = zeros (n - length (b ++ h.0)) in
+      (h.0 ++ back, h.1 ++ marks_ending None back, record { front = b ++ h.0; back = back; front_marks = h.1; bytes = sym (append_assoc b h.0 back); marks = refl; first = h.2; fits = λ d. absurd d; size = zeros_length (n - length (b ++ h.0)); are_bytes = zeros_bytes (n - length (b ++ h.0)) })
+
   pub filled_begins : (n : ℕ) (L S : MarkedForm) → PartsBegin W L S → PartsBegin W (Filled loose n L) (Filled strict n S)
   filled_begins n L S v = record {
-    can = λ b w.
-        let h = v.can b w in
-        let back : List ℕ = zeros (n - length (b ++ h.0)) in
-        (h.0 ++ back, h.1 ++ marks_ending None back, record { front = b ++ h.0; back = back; front_marks = h.1; bytes = sym (append_assoc b h.0 back); marks = refl; first = h.2; fits = λ d. absurd d; size = zeros_length (n - length (b ++ h.0)); are_bytes = zeros_bytes (n - length (b ++ h.0)) });
+    can = filled_can n L v.can;
     must = λ b k h. first_of h.front h.back b h.bytes (v.must h.front h.front_marks h.first);
   }
 
   -- an op, and what follows it in an expression
+  pub led_can : (p : Profile) (part : Op → Item) (depth : ℕ) (r : InOp) → ValuesCan W (op_rest p r) → PartsCan W (ExpressionRest p part (expression.Op depth r))
+  led_can p part depth r v b w =
+      let h = v b w in
+      let g = some_after p part depth h.1 (rest_named p r h.1 (b ++ h.0) h.2) in
+      (h.0 ++ g.0, marks_ending (Some (part h.1)) (b ++ h.0) ++ g.1, record { value = h.1; front = b ++ h.0; back = g.0; back_marks = g.1; bytes = sym (append_assoc b h.0 g.0); marks = refl; spelled = h.2; rest = g.2 })
+
   pub led_begins : (p : Profile) (part : Op → Item) (depth : ℕ) (r : InOp) → ValuesBegin W (op_rest p r) → PartsBegin W (ExpressionRest p part (expression.Op depth r)) (ExpressionRest p part (expression.Op depth r))
   led_begins p part depth r v = record {
-    can = λ b w.
-        let h = v.can b w in
-        let g = some_after p part depth h.1 (rest_named p r h.1 (b ++ h.0) h.2) in
-        (h.0 ++ g.0, marks_ending (Some (part h.1)) (b ++ h.0) ++ g.1, record { value = h.1; front = b ++ h.0; back = g.0; back_marks = g.1; bytes = sym (append_assoc b h.0 g.0); marks = refl; spelled = h.2; rest = g.2 });
+    can = led_can p part depth r v.can;
     must = λ b k h. first_of h.front h.back b h.bytes (v.must h.value h.front h.spelled);
   }
 

@@ -142,7 +142,7 @@ op_fine p (at.Offset a n r) c byte h = answer_fine 32 (unsigned_push 32 r c) (λ
 pub last_byte : (r : Partial) → 7 * r.count < 32 → Left r r.low (0 ∷ [])
 last_byte r h = (h, 0, omega arith, inl (omega arith, pow_pos (32 - 7 * r.count), refl, refl))
 
-last_signed_byte : (bits : ℕ) (r : Partial) → 7 * r.count < bits → SignedRest bits r (last_signed r (pos 0)) (0 ∷ [])
+pub last_signed_byte : (bits : ℕ) (r : Partial) → 7 * r.count < bits → SignedRest bits r (last_signed r (pos 0)) (0 ∷ [])
 last_signed_byte bits r h = (h, pos 0, refl, inl (omega arith, pow_pos (bits - 7 * r.count - 1), refl, refl))
 
 fresh_last : Left fresh 0 (0 ∷ [])

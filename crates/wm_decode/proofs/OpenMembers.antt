@@ -215,7 +215,7 @@ module _ (p : Profile) where
   a_function : Comes (Index element_function)
   a_function = some_index element_function
 
-  some_listed : (of : LengthOf) → Comes (Listed loose p of)
+  pub some_listed : (of : LengthOf) → Comes (Listed loose p of)
   some_listed length_of.Functions = a_function
   some_listed length_of.Bytes = some_data
 
@@ -224,7 +224,7 @@ module _ (p : Profile) where
   after_constant constant.Element = some_vector (Index element_function) a_function
   after_constant constant.Segment = some_vector DataByte some_data
 
-  after_index : (of : IndexOf) → Comes (AfterIndex loose p of)
+  pub after_index : (of : IndexOf) → Comes (AfterIndex loose p of)
   after_index index.Function = some_empty
   after_index index.Start = some_empty
   after_index index.Element = some_then (Expression p const_op) (Vector (Index element_function)) (some_whole const_op) (some_vector (Index element_function) a_function)
@@ -240,7 +240,7 @@ module _ (p : Profile) where
   after_name name.Export = some_leaf (target_rest target.Kind) (λ t. export t.0 t.1) (some_target target.Kind tt)
   after_name name.Custom = some_empty
 
-  after_params : (n : ℕ) → Comes (Then (Times n (ValueType p param)) (ResultTypes p))
+  pub after_params : (n : ℕ) → Comes (Then (Times n (ValueType p param)) (ResultTypes p))
   after_params n = some_then (Times n (ValueType p param)) (ResultTypes p) (some_times n (ValueType p param) (some_type p param)) (some_results p)
 
   some_form : Comes (FunctionType p)

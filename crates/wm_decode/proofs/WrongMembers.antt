@@ -66,7 +66,7 @@ use Rattle.wm_decode.proofs.Fronts.{some_later}
 use Rattle.wm_decode.proofs.OneFront.{Agree, modules_agree}
 use Rattle.wm_decode.proofs.AfterTheHeader.{IsLive, step_at}
 use Rattle.wm_decode.proofs.ItemFronts.{StandsIn, StandsAt, StandsEntry, op_stands, label_stands, param_stands, result_stands, name_stands, functions_stand, data_stand, index_stands, over_stands, runs_stand}
-use Rattle.wm_decode.proofs.MustStand.{PartsBegin, leaf_begins, then_begins, sized_begins, entry_begins, led_begins, type_begins, form_begins}
+use Rattle.wm_decode.proofs.MustStand.{PartsCan, PartsBegin, leaf_begins, then_begins, sized_begins, entry_begins, led_begins, type_begins, form_begins}
 use Rattle.wm_decode.proofs.WrongBytes.{Says, says_map, as_named, type_says, At, run_says, value_says, global_says, op_says, none_begins, no_type_begins}
 
 -- what must stand in a member must stand in its section
@@ -367,13 +367,16 @@ module _ (p : Profile) (b : List ℕ) (bytes : AreBytes b) where
   abbrev Now : MachineState
   Now = state_after p state_at_start b
 
+  pub can_stand : (W : Form ℕ) → PartsCan W (MachineRest loose p Now.machine Now.name) → (y : List ℕ) → W y → (k : Marks) × IsFront p (b ++ y) k
+  can_stand W can y s =
+      let h = can y s in
+      let k : Marks = marks p state_at_start b ++ h.1 in
+      let whole : Module loose p (b ++ (y ++ h.0)) k = begin_from loose p (b ++ (y ++ h.0)) k (run_from loose p state_at_start b (y ++ h.0) h.1 bytes begin_fits h.2) in
+      front_of p (b ++ y) h.0 k (subst (λ z. Module loose p z k) (sym (append_assoc b y h.0)) whole)
+
   pub must_stand : (W : Form ℕ) → PartsBegin W (MachineRest loose p Now.machine Now.name) (MachineRest strict p Now.machine Now.name) → MustStand p W b
   must_stand W v = record {
-    can = λ y s.
-        let h = v.can y s in
-        let k : Marks = marks p state_at_start b ++ h.1 in
-        let whole : Module loose p (b ++ (y ++ h.0)) k = begin_from loose p (b ++ (y ++ h.0)) k (run_from loose p state_at_start b (y ++ h.0) h.1 bytes begin_fits h.2) in
-        front_of p (b ++ y) h.0 k (subst (λ z. Module loose p z k) (sym (append_assoc b y h.0)) whole);
+    can = can_stand W v.can;
     must = λ more k i.
         let g = run_to strict p tt state_at_start b more k bytes begin_fits (begin_to strict p (b ++ more) k i) in
         v.must more g.0 g.2;

@@ -276,8 +276,12 @@ spells u32 b = (n : ℕ) × Unsigned 32 n b
 spells s32 b = (z : ℤ) × Signed 32 z b
 spells s64 b = (z : ℤ) × Signed 64 z b
 
--- BadNumber (section 5.2.2): an integer has begun, and none goes on with the last byte. The bytes before can
--- go on, and in each whole input that begins with them the rest of such an integer comes.
+-- the rest of an integer that has begun with these bytes
+abbrev pub goes_on : Integer → List ℕ → Form ℕ
+goes_on number begun b = (b ≢ []) × spells number (begun ++ b)
+
+-- BadNumber (section 5.2.2): an integer has begun that can go on, and its rest must stand after the bytes
+-- before. None goes on with the last byte.
 pub record WrongNumber (p : Profile) (used : List ℕ) : Type 0 where
   pub before : List ℕ
   pub begun : List ℕ
@@ -285,8 +289,8 @@ pub record WrongNumber (p : Profile) (used : List ℕ) : Type 0 where
   pub number : Integer
   pub whole : used ≡ (before ++ begun) ++ byte ∷ []
   pub front : CanGoOn p (before ++ begun)
-  pub must : (more : List ℕ) (k : Marks) → Items p ((before ++ begun) ++ more) k
-      → (b rest : List ℕ) × (more ≡ b ++ rest) × (b ≢ []) × spells number (begun ++ b)
+  pub some : (b : List ℕ) × goes_on number begun b
+  pub place : MustStand p (goes_on number begun) (before ++ begun)
   pub none : (more : List ℕ) → spells number (begun ++ byte ∷ more) → ⊥
 
 -- What a name says of the bytes that were used, and of those behind them. Each name of the format has a line
