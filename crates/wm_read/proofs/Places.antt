@@ -4,7 +4,7 @@ use Rattle.std.specs.Prelude.{Result, Ok, Err, IfErr, ◌==◌, ◌↔◌}
 use Rattle.std.specs.Str.{IsValidUpTo}
 use Rattle.std.proofs.lemmas.Bool.{cond_both, eqb-true}
 use Rattle.std.proofs.lemmas.List.{append-nil}
-use Rattle.wm_read.specs.Tokens.{Token, open_paren, close_paren, string, atom, Blank, LineComment, LastSpace, TokenText, Ends, CommentRest}
+use Rattle.wm_read.specs.Tokens.{Token, open_paren, close_paren, string, atom, Blank, LineComment, LastSpace, TokenText, Ends, CommentRest, Tokens}
 use Rattle.wm_read.specs.TokenFaults.{IsAmong, LeadsTo, BeginsNothing, EndsInComment, EndsInString, HasNoEscape, BeginsFault, IsPlace, FirstFault}
 use Rattle.wm_read.specs.TokenFaults as lead
 use Rattle.wm_read.specs.declared.faults.TextRefusal.{TextRefusal}
@@ -13,13 +13,14 @@ use Rattle.wm_read.specs.declared.faults.TextWhy.TheVariants.{NotUtf8, BadToken,
 use Rattle.wm_read.specs.declared.tokens.scan.Class.{Class}
 use Rattle.wm_read.specs.declared.tokens.scan.Class.TheVariants as k
 use Rattle.wm_read.specs.declared.tokens.scan.Mode.TheVariants as m
-use Rattle.wm_read.specs.exact.Scan.{after_spaces, ahead, Ahead, no_more, blank, first, fault, ahead_opening, blank_or_fault, string_or_fault, after_comment, string_in, why_in, told, told_by, class_of}
-use Rattle.wm_read.specs.inner.Places.{Steps, here, over_blank, over_token, IsFault}
+use Rattle.wm_read.specs.exact.Scan.{after_spaces, ahead, Ahead, no_more, blank, first, fault, ahead_opening, blank_or_fault, string_or_fault, after_comment, string_in, why_in, told, told_by, class_of, is_atom, is_float_alone, has_tokens, is_some}
+use Rattle.wm_read.specs.inner.Places.{Steps, here, over_blank, over_token, IsFault, IsFloat, HasNoFloat, TellsFault}
 use Rattle.wm_read.proofs.Ahead.{IsOf, class_law, IsAhead, ahead_is_so, ahead_blank, ahead_last, ahead_token, ahead_40, ahead_34}
 use Rattle.wm_read.proofs.Basics.{same_some}
 use Rattle.wm_read.proofs.Comments.{comment_more, comment_front}
 use Rattle.wm_read.proofs.StringFaults.{Open, Wrong, Fault, fault_found, open_more, wrong_more}
-use Rattle.wm_read.proofs.Whole.{ahead_nil, blank_shorter, first_shorter, spaces_along}
+use Rattle.wm_read.proofs.Whole.{ahead_nil, blank_shorter, first_shorter, spaces_along, spaces_within, stand_skip, stand_take, stand_stop, tokens_more}
+use Rattle.wm_read.proofs.Atoms.{kind_more, float_alone, not_alone}
 
 -- ---- what leads to a fault
 
@@ -133,21 +134,22 @@ one_end floats text r s to_r at_r to_s at_s = elim (begun floats r s (on_the_way
 fault_stuck : (floats : Bool) (b : List ℕ) → ahead b ≡ fault → Stuck floats b
 fault_stuck floats b e r = ((λ f. let g : blank r ≡ fault = f ∙ e in cc), λ t f among. let g : first t r ≡ fault = f ∙ e in cc)
 
-no_last_space : (b : List ℕ) → ahead b ≡ fault → LastSpace b → ⊥
-no_last_space b e (inl ([], none)) = let f : no_more ≡ fault = sym (ap ahead none ∙ ahead_nil) ∙ e in cc
-no_last_space b e (inl (part ∷ parts, (x, y, cut, (is, space), more))) =
-    let f : blank y ≡ fault = sym (ap ahead (cut ∙ ap (λ (z : List ℕ). z ++ y) is) ∙ ahead_blank part y space) ∙ e in cc
-no_last_space b e (inr (x, y, cut, ([], none), line)) =
-    let f : blank [] ≡ fault = sym (ap ahead (cut ∙ ap (λ (z : List ℕ). z ++ y) none) ∙ ahead_last y line) ∙ e in cc
-no_last_space b e (inr (x, y, cut, (part ∷ parts, (u, v, cut2, (is, space), more)), line)) =
+no_last_space : (b : List ℕ) → ahead b ≢ no_more → ((r : List ℕ) → ahead b ≢ blank r) → LastSpace b → ⊥
+no_last_space b some on (inl ([], none)) = some (ap ahead none ∙ ahead_nil)
+no_last_space b some on (inl (part ∷ parts, (x, y, cut, (is, space), more))) = on y (ap ahead (cut ∙ ap (λ (z : List ℕ). z ++ y) is) ∙ ahead_blank part y space)
+no_last_space b some on (inr (x, y, cut, ([], none), line)) = on [] (ap ahead (cut ∙ ap (λ (z : List ℕ). z ++ y) none) ∙ ahead_last y line)
+no_last_space b some on (inr (x, y, cut, (part ∷ parts, (u, v, cut2, (is, space), more)), line)) =
     let text : b ≡ part ++ (v ++ y) = cut ∙ ap (λ (z : List ℕ). z ++ y) (cut2 ∙ ap (λ (z : List ℕ). z ++ v) is) ∙ append_assoc part v y in
-    let f : blank (v ++ y) ≡ fault = sym (ap ahead text ∙ ahead_blank part (v ++ y) space) ∙ e in cc
+    on (v ++ y) (ap ahead text ∙ ahead_blank part (v ++ y) space)
 
 begins_nothing : (floats : Bool) (b : List ℕ) → ahead b ≡ fault → BeginsNothing floats b
-begins_nothing floats b e = (no_last_space b e, λ part rest is. (
+begins_nothing floats b e = (no_last_space b (λ n. let f : fault ≡ no_more = sym e ∙ n in cc) (λ r n. let f : fault ≡ blank r = sym e ∙ n in cc), λ part rest is. (
   (λ h. let f : blank rest ≡ fault = sym (ahead_blank part rest h) ∙ ap ahead (sym is) ∙ e in cc),
   (λ t h ends among. let f : first t rest ≡ fault = sym (ahead_token t part rest h ends) ∙ ap ahead (sym is) ∙ e in cc),
 ))
+
+fault_some : (b : List ℕ) → fault ≡ ahead b → b ≢ []
+fault_some b e nil = let f : fault ≡ no_more = e ∙ ap ahead nil ∙ ahead_nil in cc
 
 -- these are told so
 abbrev Told : TextWhy → List ℕ → Type 0
@@ -269,7 +271,7 @@ begins_stuck : (floats : Bool) (w : TextWhy) (b : List ℕ) → BeginsFault floa
 begins_stuck floats w b h = by (named floats w b h)
   where
     by : Named floats w b → Stuck floats b
-    by (inl (three, (e, told))) = fault_stuck floats b e
+    by (inl (three, (e, is))) = fault_stuck floats b e
     by (inr (is, none, (space, nothing))) = λ r. (
       (λ e. over_space r (subst (IsAhead b) (sym e) (ahead_is_so b))),
       (λ t e among. let g = subst (IsAhead b) (sym e) (ahead_is_so b) in (nothing (g.0 ∷ g.1) r g.2).1 t g.3 g.4 among),
@@ -295,6 +297,93 @@ one_fault floats text v w x y g h =
     let name : v ≡ w = one_name floats v w h.rest (subst (BeginsFault floats v) same g.fault) h.fault in
     (name, place_same w text h.rest x y (subst (λ (z : List ℕ). IsPlace w text z x) same (subst (λ (z : TextWhy). IsPlace z text g.rest x) name g.place)) h.place)
 
+-- ---- and no tokens
+
+fault_ahead : (w : TextWhy) (b : List ℕ) → BeginsFault true w b → ahead b ≡ fault
+fault_ahead w b h = by (named true w b h) (begins_stuck true w b h)
+  where
+    by : Named true w b → Stuck true b → ahead b ≡ fault
+    by (inl (three, (e, is))) stuck = e
+    by (inr (is, none, (space, nothing))) stuck = at (ahead b) refl (ahead_is_so b)
+      where
+        at : (f : Ahead) → ahead b ≡ f → IsAhead b f → ahead b ≡ fault
+        at no_more e h = absurd (space (inl ([], h)))
+        at (blank r) e h = absurd ((stuck r).0 (sym e))
+        at (first t r) e h = absurd ((stuck r).1 t (sym e) (all_among t))
+        at fault e h = e
+
+steps_has : (floats : Bool) (text rest : List ℕ) → Steps floats text rest → has_tokens rest ≡ has_tokens text
+steps_has floats text rest here = refl
+steps_has floats text rest (over_blank {r = r} h e) = sym (stand_skip r rest e) ∙ steps_has floats text r h
+steps_has floats text rest (over_token {r = r} {t = t} h e among) = sym (stand_take r rest t e) ∙ steps_has floats text r h
+
+pub no_tokens : (text : List ℕ) (w : TextWhy) (n : ℕ) (k : List Token) → FirstFault true text w n → Tokens text k → ⊥
+no_tokens text w n k g t =
+    let none : has_tokens g.rest ≡ false = stand_stop g.rest (sym (fault_ahead w g.rest g.fault)) in
+    let f : true ≡ false = sym (ap is_some (tokens_more k text t.1)) ∙ sym (steps_has true text g.rest (lead_steps true text g.rest g.leads)) ∙ none in cc
+
+-- ---- where floats are no tokens
+
+steps_any : (text rest : List ℕ) → Steps false text rest → Steps true text rest
+steps_any text rest here = here
+steps_any text rest (over_blank {r = r} h e) = over_blank (steps_any text r h) e
+steps_any text rest (over_token {r = r} {t = t} h e among) = over_token (steps_any text r h) e (all_among t)
+
+-- a fault is one with floats too
+any_begins : (w : TextWhy) (b : List ℕ) → ahead b ≡ fault → BeginsFault false w b → BeginsFault true w b
+any_begins OpenComment b e h = h
+any_begins OpenString b e h = h
+any_begins BadEscape b e h = h
+any_begins BadToken b e (nothing, comment, unended, escape) = (begins_nothing true b e, comment, unended, escape)
+any_begins _ b e h = absurd h
+
+pub float_told : (text : List ℕ) (at : ℕ) → IsFloat text at → TellsFault false text BadToken at
+float_told text at (rest, more, a, steps, is, alone, place) w n h =
+    one_fault false text BadToken w at n (record {
+      rest = rest;
+      utf8 = h.utf8;
+      leads = steps_lead false text rest (λ nil. let f : first (atom a) more ≡ no_more = is ∙ ap ahead nil ∙ ahead_nil in cc) steps;
+      fault = (nothing, not_told OpenComment (λ g. comment_told rest g), not_told OpenString (λ g. open_told rest g), not_told BadEscape (λ g. escape_told rest g));
+      place = place;
+    }) h
+  where
+    not_told : {X : Type 0} (v : TextWhy) → (X → Told v rest) → X → ⊥
+    not_told v tells x = let f : first (atom a) more ≡ fault = is ∙ (tells x).0 in cc
+
+    nothing : BeginsNothing false rest
+    nothing = (
+      no_last_space rest (λ e. let f : first (atom a) more ≡ no_more = is ∙ e in cc) (λ r e. let f : first (atom a) more ≡ blank r = is ∙ e in cc),
+      λ part r cut. (
+        (λ space. let f : first (atom a) more ≡ blank r = is ∙ ap ahead cut ∙ ahead_blank part r space in cc),
+        (λ t token ends among.
+          let f : first (atom a) more ≡ first t r = is ∙ ap ahead cut ∙ ahead_token t part r token ends in
+          let same : t ≡ atom a = cc in
+          alone (subst (IsAmong false) same among)),
+      ),
+    )
+
+pub no_float_told : (text : List ℕ) (why : TextWhy) (at : ℕ) → HasNoFloat text → TellsFault true text why at → TellsFault false text why at
+no_float_told text why at (rest, steps, inl none) tells w n h =
+    let same : h.rest ≡ rest = one_end false text h.rest rest (lead_steps false text h.rest h.leads) (begins_stuck false w h.rest h.fault) steps
+    (λ r. ((λ e. let f : blank r ≡ no_more = e ∙ sym none in cc), λ t e among. let f : first t r ≡ no_more = e ∙ sym none in cc)) in
+    absurd (over (named false w rest (subst (BeginsFault false w) same h.fault)))
+  where
+    over : Named false w rest → ⊥
+    over (inl (three, (e, named))) = let f : no_more ≡ fault = none ∙ e in cc
+    over (inr (is, not_three, (space, nothing))) = space (inl ([], subst (IsAhead rest) (sym none) (ahead_is_so rest)))
+no_float_told text why at (rest, steps, inr stop) tells w n h =
+    let same : h.rest ≡ rest = one_end false text h.rest rest (lead_steps false text h.rest h.leads) (begins_stuck false w h.rest h.fault) steps (fault_stuck false rest (sym stop)) in
+    tells w n (record {
+      rest = rest;
+      utf8 = h.utf8;
+      leads = steps_lead true text rest (fault_some rest stop) (steps_any text rest steps);
+      fault = any_begins w rest (sym stop) (subst (BeginsFault false w) same h.fault);
+      place = subst (λ (z : List ℕ). IsPlace w text z n) same h.place;
+    })
+
+plain_skip : (text b r : List ℕ) → blank r ≡ ahead b → Steps false text b → Steps false text r
+plain_skip text b r e h = over_blank h e
+
 -- ---- as the code finds it
 
 pub place_within : (w : TextWhy) (text rest : List ℕ) (x : ℕ) → IsPlace w text rest x → x ≤ length text
@@ -308,9 +397,6 @@ place_front OpenComment text rest x c s p = absurd (c refl)
 place_front OpenString text rest x c s p = absurd (s refl)
 place_front NotUtf8 text rest x c s p = p
 place_front _ text rest x c s p = p
-
-fault_some : (b : List ℕ) → fault ≡ ahead b → b ≢ []
-fault_some b e nil = let f : fault ≡ no_more = e ∙ ap ahead nil ∙ ahead_nil in cc
 
 pub fault_first : (text : List ℕ) (e : TextRefusal) → IsUtf8 text → IsFault text e → FirstFault true text e.why e.at
 fault_first text e u (rest, steps, is, why, place) = record {
@@ -346,3 +432,41 @@ at_err text (Err e) h = place_within e.why text h.0 e.at h.4
 pub utf8_at_err : (text : List ℕ) (r : Result (Unit {0}) TextRefusal) → IfErr r (λ e. IsFault text e) → IfErr r (λ e. e.why ≡ NotUtf8 → IsValidUpTo text e.at)
 utf8_at_err text (Ok x) h = tt
 utf8_at_err text (Err e) h = λ none. absurd (fault_named text e h none)
+
+pub plain_all : (text : List ℕ) → Steps false text text
+plain_all text = here
+
+pub plain_blank : (text b r : List ℕ) → blank r ≡ ahead b → Steps false text b → Steps false text (after_spaces r)
+plain_blank text b r e h = spaces_along (Steps false text) (plain_skip text) r (over_blank h e)
+
+pub plain_spaces : (text : List ℕ) → Steps false text (after_spaces text)
+plain_spaces text = spaces_along (Steps false text) (plain_skip text) text here
+
+pub plain_take : (text b r : List ℕ) (t : Token) → first t r ≡ ahead b → IsAmong false t → Steps false text b → Steps false text (after_spaces r)
+plain_take text b r t e among h = spaces_along (Steps false text) (plain_skip text) r (over_token h e among)
+
+-- the atom that stands first is one
+atom_first : (b a r : List ℕ) → first (atom a) r ≡ ahead b → is_atom a ≡ true
+atom_first b a r e = let g = subst (IsAhead b) (sym e) (ahead_is_so b) in kind_more a g.3.1.1
+
+pub plain_atom_take : (text b r a : List ℕ) → first (atom a) r ≡ ahead b → is_float_alone a ≡ false → Steps false text b → Steps false text (after_spaces r)
+plain_atom_take text b r a e n h = plain_take text b r (atom a) e (not_alone a (atom_first b a r e) n) h
+
+pub float_here : (text b r a : List ℕ) (at : ℕ) → first (atom a) r ≡ ahead b → is_float_alone a ≡ true → Steps false text b → at ≡ length text - length b → IsFloat text at
+float_here text b r a at e alone h place = (b, r, a, h, e, float_alone a alone, let le = steps_within false text b h in omega (arith, le, place))
+
+pub none_at_end : (text b : List ℕ) → no_more ≡ ahead b → Steps false text b → HasNoFloat text
+none_at_end text b e h = (b, h, inl e)
+
+pub none_at_fault : (text b : List ℕ) → fault ≡ ahead b → Steps false text b → HasNoFloat text
+none_at_fault text b e h = (b, h, inr e)
+
+pub ruleset float_laws = (plain_all, plain_blank, plain_spaces, plain_take, plain_atom_take, none_at_end, none_at_fault, blank_shorter, first_shorter, spaces_within)
+
+-- ---- as a text is read
+
+pub tells_none : (text : List ℕ) (k : List Token) (why : TextWhy) (at : ℕ) → Tokens text k → TellsFault true text why at
+tells_none text k why at t w n h = absurd (no_tokens text w n k h t)
+
+pub tells_first : (text : List ℕ) (why : TextWhy) (at : ℕ) → FirstFault true text why at → TellsFault true text why at
+tells_first text why at g w n h = one_fault true text why w at n g h

@@ -149,6 +149,12 @@ is_atom [] = false
 is_atom (c ∷ b) = if c == 36 then not (is_nil b) else if is_lower c then true
     else if is_number (c ∷ b) then true else is_literal (c ∷ b)
 
+-- an atom that is one only for being a float
+abbrev pub is_float_alone : List ℕ → Bool
+is_float_alone [] = false
+is_float_alone (c ∷ b) = if c == 36 then false else if is_lower c then false
+    else is_literal (c ∷ b) && not (is_number (c ∷ b))
+
 -- what stands first
 pub data Ahead : Type 0 where
   no_more : Ahead

@@ -10,12 +10,12 @@ ghost use Rattle.wm_read.specs.Tokens as tokens;
 ghost use Rattle.wm_read.specs.declared.faults.TextWhy.TheVariants.{NotUtf8, BadToken, OpenComment};
 ghost use Rattle.wm_read.specs.declared.tokens.scan.Mode.TheVariants as mode;
 ghost use Rattle.wm_read.specs.inner.Lexemes.{token_of, bytes_of, ahead_of, IsTold};
-ghost use Rattle.wm_read.specs.inner.Places.{Steps, IsFault};
+ghost use Rattle.wm_read.specs.inner.Places.{HasNoFloat, IsFault, IsFloat, Steps};
 
 use crate::faults::{TextRefusal, TextWhy};
 use crate::tokens::scan::{
     Class, Mode, Step, after_comment, after_line, after_spaces, after_string, atom_len, class_of,
-    given_first, is_atom, plain_atom, string_step,
+    given_first, is_atom, is_float_alone, plain_atom, string_step,
 };
 use crate::tokens::stretches::after_stretches;
 use std::alloc::{AllocError, Global};
@@ -222,6 +222,37 @@ fn any_token(text: &[u8]) -> Option<(Lexeme, &[u8])>
             Found::Nothing | Found::Fault(_) => return None,
             Found::Blank(more) => rest = after_spaces(more),
             Found::First(token, more) => return Some((token, more)),
+        }
+    }
+}
+
+/// What stands first; most that is asked for here is a plain atom, which is found with no call.
+fn first_found(text: &[u8]) -> Found
+    ensures { ahead_of result ≡ scan.ahead text.now }
+{
+    match plain_atom(text) {
+        Some((atom, more)) => Found::First(Lexeme::Atom(atom), more),
+        None => ahead(text),
+    }
+}
+
+/// Where the first literal stands that is a token only as a float, before any fault of the tokens.
+#[tactic(auto, using(crate::proofs::Places::float_laws))]
+pub(crate) fn first_float(text: &[u8]) -> Option<usize>
+    ensures { MatchOption result (HasNoFloat text.now) (λ at. IsFloat text.now at) }
+{
+    let mut rest = after_spaces(text);
+    loop {
+        match first_found(rest) {
+            Found::Nothing | Found::Fault(_) => return None,
+            Found::Blank(more) => rest = after_spaces(more),
+            Found::First(Lexeme::Atom(atom), more) => {
+                if is_float_alone(atom) {
+                    return Some(text.len() - rest.len());
+                }
+                rest = after_spaces(more);
+            }
+            Found::First(_, more) => rest = after_spaces(more),
         }
     }
 }

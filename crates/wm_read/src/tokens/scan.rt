@@ -621,9 +621,10 @@ fn is_literal(atom: &[u8]) -> bool
     }
 }
 
-/// Whether an atom is one only for being a float (section 6.3.2), and so none where there are no floats. It
-/// has no clause, since it decides only which name a refusal gets.
-pub(crate) fn is_float_alone(atom: &[u8]) -> bool {
+/// Whether an atom is one only for being a float (section 6.3.2), and so none where there are no floats.
+pub(crate) fn is_float_alone(atom: &[u8]) -> bool
+    ensures { result ≡ scan.is_float_alone atom.now }
+{
     match atom.first() {
         None | Some(b'$' | b'a'..=b'z') => false,
         Some(_) => is_literal(atom) && !is_number(atom),
