@@ -5,7 +5,7 @@ use Rattle.std.specs.Str.{IsValidUpTo}
 use Rattle.std.proofs.lemmas.Bool.{cond_both, eqb-true}
 use Rattle.std.proofs.lemmas.List.{append-nil}
 use Rattle.wm_read.specs.Tokens.{Token, open_paren, close_paren, string, atom, Blank, LineComment, LastSpace, TokenText, Ends, CommentRest, Tokens}
-use Rattle.wm_read.specs.TokenFaults.{IsAmong, LeadsTo, BeginsNothing, EndsInComment, EndsInString, HasNoEscape, BeginsFault, IsPlace, FirstFault}
+use Rattle.wm_read.specs.TokenFaults.{IsAmong, LeadsTo, BeginsNothing, EndsInComment, EndsInString, HasNoEscape, BeginsFault, IsPlace, FirstFault, IsOfTokens, TellsFault}
 use Rattle.wm_read.specs.TokenFaults as lead
 use Rattle.wm_read.specs.declared.faults.TextRefusal.{TextRefusal}
 use Rattle.wm_read.specs.declared.faults.TextWhy.{TextWhy}
@@ -14,7 +14,8 @@ use Rattle.wm_read.specs.declared.tokens.scan.Class.{Class}
 use Rattle.wm_read.specs.declared.tokens.scan.Class.TheVariants as k
 use Rattle.wm_read.specs.declared.tokens.scan.Mode.TheVariants as m
 use Rattle.wm_read.specs.exact.Scan.{after_spaces, ahead, Ahead, no_more, blank, first, fault, ahead_opening, blank_or_fault, string_or_fault, after_comment, string_in, why_in, told, told_by, class_of, is_atom, is_float_alone, has_tokens, is_some}
-use Rattle.wm_read.specs.inner.Places.{Steps, here, over_blank, over_token, IsFault, IsFloat, HasNoFloat, TellsFault}
+use Rattle.wm_read.specs.inner.Views.{IsOfReaders}
+use Rattle.wm_read.specs.inner.Places.{Steps, here, over_blank, over_token, IsFault, IsFloat, HasNoFloat}
 use Rattle.wm_read.proofs.Ahead.{IsOf, class_law, IsAhead, ahead_is_so, ahead_blank, ahead_last, ahead_token, ahead_40, ahead_34}
 use Rattle.wm_read.proofs.Basics.{same_some}
 use Rattle.wm_read.proofs.Comments.{comment_more, comment_front}
@@ -329,23 +330,42 @@ steps_any text rest here = here
 steps_any text rest (over_blank {r = r} h e) = over_blank (steps_any text r h) e
 steps_any text rest (over_token {r = r} {t = t} h e among) = over_token (steps_any text r h) e (all_among t)
 
--- a fault is one with floats too
-any_begins : (w : TextWhy) (b : List ℕ) → ahead b ≡ fault → BeginsFault false w b → BeginsFault true w b
-any_begins OpenComment b e h = h
-any_begins OpenString b e h = h
-any_begins BadEscape b e h = h
-any_begins BadToken b e (nothing, comment, unended, escape) = (begins_nothing true b e, comment, unended, escape)
-any_begins _ b e h = absurd h
+-- a fault is one with floats or without
+any_begins : (f g : Bool) (w : TextWhy) (b : List ℕ) → ahead b ≡ fault → BeginsFault f w b → BeginsFault g w b
+any_begins f g OpenComment b e h = h
+any_begins f g OpenString b e h = h
+any_begins f g BadEscape b e h = h
+any_begins f g BadToken b e (nothing, comment, unended, escape) = (begins_nothing g b e, comment, unended, escape)
+any_begins f g _ b e h = absurd h
 
-pub float_told : (text : List ℕ) (at : ℕ) → IsFloat text at → TellsFault false text BadToken at
-float_told text at (rest, more, a, steps, is, alone, place) w n h =
-    one_fault false text BadToken w at n (record {
+-- at a place that is reached with floats and without, the first fault is one with or without
+moved : (f g : Bool) (text rest : List ℕ) (w : TextWhy) (n : ℕ) → Steps f text rest → Steps g text rest → (no_more ≡ ahead rest) ⊎ (fault ≡ ahead rest) → FirstFault f text w n → FirstFault g text w n
+moved f g text rest w n to too (inl none) h =
+    let same : h.rest ≡ rest = one_end f text h.rest rest (lead_steps f text h.rest h.leads) (begins_stuck f w h.rest h.fault) to
+    (λ r. ((λ e. let f : blank r ≡ no_more = e ∙ sym none in cc), λ t e among. let f : first t r ≡ no_more = e ∙ sym none in cc)) in
+    absurd (over (named f w rest (subst (BeginsFault f w) same h.fault)))
+  where
+    over : Named f w rest → ⊥
+    over (inl (three, (e, is))) = let f : no_more ≡ fault = none ∙ e in cc
+    over (inr (is, not_three, (space, nothing))) = space (inl ([], subst (IsAhead rest) (sym none) (ahead_is_so rest)))
+moved f g text rest w n to too (inr stop) h =
+    let same : h.rest ≡ rest = one_end f text h.rest rest (lead_steps f text h.rest h.leads) (begins_stuck f w h.rest h.fault) to (fault_stuck f rest (sym stop)) in
+    record {
       rest = rest;
       utf8 = h.utf8;
+      leads = steps_lead g text rest (fault_some rest stop) too;
+      fault = any_begins f g w rest (sym stop) (subst (BeginsFault f w) same h.fault);
+      place = subst (λ (z : List ℕ). IsPlace w text z n) same h.place;
+    }
+
+float_first : (text : List ℕ) (at : ℕ) → IsUtf8 text → IsFloat text at → FirstFault false text BadToken at
+float_first text at u (rest, more, a, steps, is, alone, place) = record {
+      rest = rest;
+      utf8 = u;
       leads = steps_lead false text rest (λ nil. let f : first (atom a) more ≡ no_more = is ∙ ap ahead nil ∙ ahead_nil in cc) steps;
       fault = (nothing, not_told OpenComment (λ g. comment_told rest g), not_told OpenString (λ g. open_told rest g), not_told BadEscape (λ g. escape_told rest g));
       place = place;
-    }) h
+    }
   where
     not_told : {X : Type 0} (v : TextWhy) → (X → Told v rest) → X → ⊥
     not_told v tells x = let f : first (atom a) more ≡ fault = is ∙ (tells x).0 in cc
@@ -362,24 +382,45 @@ float_told text at (rest, more, a, steps, is, alone, place) w n h =
       ),
     )
 
+-- ---- what is told
+
+of_tokens : (floats : Bool) (w : TextWhy) (b : List ℕ) → BeginsFault floats w b → IsOfTokens w
+of_tokens floats OpenComment b h = tt
+of_tokens floats OpenString b h = tt
+of_tokens floats BadEscape b h = tt
+of_tokens floats BadToken b h = tt
+of_tokens floats _ b h = h
+
+not_of_readers : (w : TextWhy) → IsOfTokens w → IsOfReaders w → ⊥
+not_of_readers OpenComment h r = r
+not_of_readers OpenString h r = r
+not_of_readers BadEscape h r = r
+not_of_readers BadToken h r = r
+not_of_readers _ h r = h
+
+pub tells_first : (floats : Bool) (text : List ℕ) (why : TextWhy) (at : ℕ) → FirstFault floats text why at → TellsFault floats text why at
+tells_first floats text why at g w n = (
+  (λ h. let same = one_fault floats text why w at n g h in (of_tokens floats w h.rest h.fault, same.0, same.1)),
+  (λ p. subst (λ (v : TextWhy). FirstFault floats text v n) p.1 (subst (FirstFault floats text why) p.2 g)),
+)
+
+pub tells_none : (text : List ℕ) (k : List Token) (why : TextWhy) (at : ℕ) → Tokens text k → IsOfReaders why → TellsFault true text why at
+tells_none text k why at t r w n = (
+  (λ h. absurd (no_tokens text w n k h t)),
+  (λ p. absurd (not_of_readers w p.0 (subst IsOfReaders p.1 r))),
+)
+
+pub not_utf8_tells : (floats : Bool) (text : List ℕ) (why : TextWhy) (at : ℕ) → why ≡ NotUtf8 → ¬ (IsUtf8 text) → TellsFault floats text why at
+not_utf8_tells floats text why at is n w m = ((λ h. absurd (n h.utf8)), (λ p. absurd (subst IsOfTokens (sym p.1 ∙ is) p.0)))
+
+pub float_told : (text : List ℕ) (at : ℕ) → IsUtf8 text → IsFloat text at → TellsFault false text BadToken at
+float_told text at u h = tells_first false text BadToken at (float_first text at u h)
+
 pub no_float_told : (text : List ℕ) (why : TextWhy) (at : ℕ) → HasNoFloat text → TellsFault true text why at → TellsFault false text why at
-no_float_told text why at (rest, steps, inl none) tells w n h =
-    let same : h.rest ≡ rest = one_end false text h.rest rest (lead_steps false text h.rest h.leads) (begins_stuck false w h.rest h.fault) steps
-    (λ r. ((λ e. let f : blank r ≡ no_more = e ∙ sym none in cc), λ t e among. let f : first t r ≡ no_more = e ∙ sym none in cc)) in
-    absurd (over (named false w rest (subst (BeginsFault false w) same h.fault)))
-  where
-    over : Named false w rest → ⊥
-    over (inl (three, (e, named))) = let f : no_more ≡ fault = none ∙ e in cc
-    over (inr (is, not_three, (space, nothing))) = space (inl ([], subst (IsAhead rest) (sym none) (ahead_is_so rest)))
-no_float_told text why at (rest, steps, inr stop) tells w n h =
-    let same : h.rest ≡ rest = one_end false text h.rest rest (lead_steps false text h.rest h.leads) (begins_stuck false w h.rest h.fault) steps (fault_stuck false rest (sym stop)) in
-    tells w n (record {
-      rest = rest;
-      utf8 = h.utf8;
-      leads = steps_lead true text rest (fault_some rest stop) (steps_any text rest steps);
-      fault = any_begins w rest (sym stop) (subst (BeginsFault false w) same h.fault);
-      place = subst (λ (z : List ℕ). IsPlace w text z n) same h.place;
-    })
+no_float_told text why at (rest, steps, end) tells w n = (
+  (λ h. (tells w n).0 (moved false true text rest w n steps (steps_any text rest steps) end h)),
+  (λ p. moved true false text rest w n (steps_any text rest steps) steps end ((tells w n).1 p)),
+)
 
 plain_skip : (text b r : List ℕ) → blank r ≡ ahead b → Steps false text b → Steps false text r
 plain_skip text b r e h = over_blank h e
@@ -462,11 +503,3 @@ pub none_at_fault : (text b : List ℕ) → fault ≡ ahead b → Steps false te
 none_at_fault text b e h = (b, h, inr e)
 
 pub ruleset float_laws = (plain_all, plain_blank, plain_spaces, plain_take, plain_atom_take, none_at_end, none_at_fault, blank_shorter, first_shorter, spaces_within)
-
--- ---- as a text is read
-
-pub tells_none : (text : List ℕ) (k : List Token) (why : TextWhy) (at : ℕ) → Tokens text k → TellsFault true text why at
-tells_none text k why at t w n h = absurd (no_tokens text w n k h t)
-
-pub tells_first : (text : List ℕ) (why : TextWhy) (at : ℕ) → FirstFault true text why at → TellsFault true text why at
-tells_first text why at g w n h = one_fault true text why w at n g h

@@ -1,6 +1,6 @@
 -- What is wrong with the tokens of a text that has none, and where (sections 6.2 and 6.3). Each of these says
 -- whether there are floats: where there are none, an atom that only has the form of a float is no token.
-use Rattle.std.specs.Prelude.{◌≡◌, ℕ, ◌+◌, ◌⊎◌, List, [], ◌∷◌, ◌++◌, Bool, IsTrue, IsUtf8, codes, length}
+use Rattle.std.specs.Prelude.{◌≡◌, ℕ, ◌+◌, ◌⊎◌, ◌↔◌, List, [], ◌∷◌, ◌++◌, Bool, IsTrue, IsUtf8, codes, length}
 use Rattle.wm_syntax.specs.Spelling.{Form, Byte, Exactly, Each, ◌▸◌, ◌∣◌}
 use Rattle.wm_read.specs.Tokens.{Token, atom, CommentRest, Blank, LastSpace, IsIdentifier, IsNumber, IsWord}
 use Rattle.wm_read.specs.Tokens.{Element, IsDigit, Digits, TokenText, Ends}
@@ -77,3 +77,17 @@ pub record FirstFault (floats : Bool) (text : List ℕ) (why : TextWhy) (at : �
   pub leads : LeadsTo floats text rest
   pub fault : BeginsFault floats why rest
   pub place : IsPlace why text rest at
+
+-- the four names
+abbrev pub IsOfTokens : TextWhy → Type 0
+IsOfTokens BadToken = Unit {0}
+IsOfTokens OpenComment = Unit {0}
+IsOfTokens OpenString = Unit {0}
+IsOfTokens BadEscape = Unit {0}
+IsOfTokens _ = ⊥
+
+-- What an answer of this name and this place says of the tokens: it is one of the four exactly where they have
+-- a fault, and then it is the first one's, with its place.
+abbrev pub TellsFault : Bool → List ℕ → TextWhy → ℕ → Type 0
+TellsFault floats text why at =
+    (w : TextWhy) (n : ℕ) → FirstFault floats text w n ↔ (IsOfTokens w × (why ≡ w) × (at ≡ n))

@@ -1,17 +1,15 @@
 //! Whole texts (section 6.6.13).
 
-ghost use Rattle.std.specs.Prelude.{◌≡◌, ◌≢◌, ◌≤◌, IfErr, IfOk, IsUtf8, List, length, map, true, ℕ};
+ghost use Rattle.std.specs.Prelude.{◌≡◌, ◌≢◌, ◌≤◌, ◌↔◌, IfErr, IfOk, IsUtf8, List, length, map, true};
 ghost use Rattle.std.specs.Str.{IsValidUpTo};
 ghost use Rattle.wm_read.specs.Fields.{Writes};
 ghost use Rattle.wm_read.specs.Spellings.{replaced};
-ghost use Rattle.wm_read.specs.TokenFaults.{FirstFault};
+ghost use Rattle.wm_read.specs.TokenFaults.{TellsFault};
 ghost use Rattle.wm_read.specs.Tokens.{Token, Tokens};
 ghost use Rattle.wm_read.specs.declared.faults.TextWhy.TheVariants.{Memory, NotUtf8};
-ghost use Rattle.wm_read.specs.declared.faults.TextWhy.{TextWhy};
 ghost use Rattle.wm_read.specs.exact.Scan.{lexed};
 ghost use Rattle.wm_read.specs.exact.TextModules as modules;
 ghost use Rattle.wm_read.specs.inner.Blocks.{names_of};
-ghost use Rattle.wm_read.specs.inner.Places.{TellsFault};
 ghost use Rattle.wm_read.specs.inner.Views.{Reads};
 ghost use Rattle.wm_syntax.specs.Modules as values;
 ghost use Rattle.wm_syntax.specs.Profiles.{has};
@@ -120,9 +118,10 @@ pub fn read_text(
     ensures refused { IfErr result (λ e. e.why ≢ Memory → (k : List Token) (m : values.Module)
         → Tokens text.now k → Writes profile (map (replaced spellings) k) m → ⊥) }
     ensures at { IfErr result (λ e. e.at ≤ length text.now) }
-    ensures utf8 { IfErr result (λ e. ¬ (IsUtf8 text.now) → (e.why ≡ NotUtf8) × IsValidUpTo text.now e.at) }
-    ensures fault { IfErr result (λ e. e.why ≢ Memory → (w : TextWhy) (n : ℕ)
-        → FirstFault (has profile Floats) text.now w n → (e.why ≡ w) × (e.at ≡ n)) }
+    ensures utf8 { IfErr result (λ e. (e.why ≡ NotUtf8) ↔ (¬ (IsUtf8 text.now))) }
+    ensures utf8_at { IfErr result (λ e. e.why ≡ NotUtf8 → IsValidUpTo text.now e.at) }
+    ensures fault { IfErr result (λ e. e.why ≢ Memory
+        → TellsFault (has profile Floats) text.now e.why e.at) }
 {
     match check_tokens(text) {
         Ok(()) => read_tokens(alloc, profile, spellings, text),
@@ -149,6 +148,7 @@ fn read_tokens(
     ensures at { IfErr result (λ e. e.at ≤ length text.now) }
     ensures fault { IfErr result (λ e. e.why ≢ Memory
         → TellsFault (has profile Floats) text.now e.why e.at) }
+    ensures utf8 { IfErr result (λ e. e.why ≢ NotUtf8) }
 {
     match read_spelled(alloc, profile, spellings, text) {
         Ok(module) => Ok(module),
@@ -160,9 +160,11 @@ fn read_tokens(
 /// is no token, so the first one is told before all else.
 fn told_first(profile: Profile, text: &[u8], refusal: TextRefusal) -> TextRefusal
     requires at { refusal.at ≤ length text.now }
+    requires utf8 { IsUtf8 text.now }
     requires fault { TellsFault true text.now refusal.why refusal.at }
     ensures at { result.at ≤ length text.now }
     ensures memory { refusal.why ≡ Memory → result.why ≡ Memory }
+    ensures utf8 { refusal.why ≢ NotUtf8 → result.why ≢ NotUtf8 }
     ensures fault { result.why ≢ Memory → TellsFault (has profile Floats) text.now result.why result.at }
 {
     if profile.has(Feature::Floats) {

@@ -1,11 +1,10 @@
 -- Where the first fault of the tokens stands, as it is found.
 use Rattle.std.specs.Prelude.{◌≡◌, ℕ, ◌+◌, ◌⊎◌, List, Bool, true, false, length}
 use Rattle.wm_read.specs.Tokens.{Token, atom}
-use Rattle.wm_read.specs.TokenFaults.{FirstFault, IsAmong, IsPlace}
+use Rattle.wm_read.specs.TokenFaults.{IsAmong, IsPlace}
 use Rattle.wm_read.specs.exact.Scan.{ahead, told, no_more, blank, first}
 use Rattle.wm_read.specs.exact.Scan as scan
 use Rattle.wm_read.specs.declared.faults.TextRefusal.{TextRefusal}
-use Rattle.wm_read.specs.declared.faults.TextWhy.{TextWhy}
 
 -- what stands first, and then what follows it, leads from the one to the other
 pub data Steps : Bool → List ℕ → List ℕ → Type 0 where
@@ -28,7 +27,3 @@ IsFloat text at = (rest more a : List ℕ) × Steps false text rest × (first (a
 abbrev pub HasNoFloat : List ℕ → Type 0
 HasNoFloat text = (rest : List ℕ) × Steps false text rest
     × ((no_more ≡ ahead rest) ⊎ (scan.fault ≡ ahead rest))
-
--- where the tokens are at fault, the first fault has this name and this place
-abbrev pub TellsFault : Bool → List ℕ → TextWhy → ℕ → Type 0
-TellsFault floats text why at = (w : TextWhy) (n : ℕ) → FirstFault floats text w n → (why ≡ w) × (at ≡ n)

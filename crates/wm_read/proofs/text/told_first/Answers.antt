@@ -1,5 +1,5 @@
 use Rattle.std.proofs.Common.{Bool, sym, subst, ◌∙◌, arith}
-use Rattle.wm_read.specs.inner.Places.{TellsFault}
+use Rattle.wm_read.specs.TokenFaults.{TellsFault}
 use Rattle.wm_read.specs.declared.faults.TextWhy.TheVariants.{BadToken}
 use Rattle.wm_read.proofs.Places.{float_told, no_float_told}
 use Rattle.wm_read.proofs.text.told_first.Goals as goal
@@ -11,13 +11,15 @@ pub returns-in-Some : goal.returns-in-Some
 returns-in-Some c = record {
     at = (let place = c.in-Some.ensures.6 in omega (arith, place));
     memory = λ e. absurd (c.in_default.not-Memory e);
-    fault = λ _. subst (λ (floats : Bool). TellsFault floats c.args.text.now BadToken c.in-Some.at) (sym c.if-has.false ∙ c.has.ensures) (float_told c.args.text.now c.in-Some.at c.in-Some.ensures);
+    utf8 = λ _ e. cc;
+    fault = λ _. subst (λ (floats : Bool). TellsFault floats c.args.text.now BadToken c.in-Some.at) (sym c.if-has.false ∙ c.has.ensures) (float_told c.args.text.now c.in-Some.at c.requires.utf8 c.in-Some.ensures);
 }
 
 pub returns-in-None : goal.returns-in-None
 returns-in-None c = record {
     at = c.requires.at;
     memory = λ e. e;
+    utf8 = λ n. n;
     fault = λ _. subst (λ (floats : Bool). TellsFault floats c.args.text.now c.args.refusal.why c.args.refusal.at) (sym c.if-has.false ∙ c.has.ensures)
         (no_float_told c.args.text.now c.args.refusal.why c.args.refusal.at c.in-None.ensures c.requires.fault);
 }
