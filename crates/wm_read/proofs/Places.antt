@@ -1,10 +1,10 @@
 -- The first fault of the tokens: its name and its place.
-use Rattle.std.proofs.Common.{◌≡◌, ◌≢◌, ℕ, zero, ◌<◌, ◌≤◌, ◌+◌, ◌-◌, ◌⊎◌, Bool, true, false, cond, List, [], ◌∷◌, ◌++◌, length, Option, Some, None, refl, sym, ap, subst, ◌∙◌, inl, inr, arith, append_assoc, length-append, IsUtf8}
+use Rattle.std.proofs.Common.{◌≡◌, ◌≢◌, ℕ, zero, ◌≤◌, ◌+◌, ◌-◌, ◌⊎◌, Bool, true, false, List, [], ◌∷◌, ◌++◌, length, Option, Some, None, refl, sym, ap, subst, ◌∙◌, inl, inr, arith, append_assoc, IsUtf8}
 use Rattle.std.specs.Prelude.{Result, Ok, Err, IfErr, ◌==◌, ◌↔◌}
 use Rattle.std.specs.Str.{IsValidUpTo}
 use Rattle.std.proofs.lemmas.Bool.{cond_both, eqb-true}
 use Rattle.std.proofs.lemmas.List.{append-nil}
-use Rattle.wm_read.specs.Tokens.{Token, open_paren, close_paren, string, atom, Blank, LineComment, LastSpace, TokenText, Ends, CommentRest, Tokens}
+use Rattle.wm_read.specs.Tokens.{Token, open_paren, close_paren, string, atom, LineComment, LastSpace, CommentRest, Tokens}
 use Rattle.wm_read.specs.TokenFaults.{IsAmong, LeadsTo, BeginsNothing, EndsInComment, EndsInString, HasNoEscape, BeginsFault, IsPlace, FirstFault, IsOfTokens, TellsFault}
 use Rattle.wm_read.specs.TokenFaults as lead
 use Rattle.wm_read.specs.declared.faults.TextRefusal.{TextRefusal}
@@ -17,9 +17,8 @@ use Rattle.wm_read.specs.exact.Scan.{after_spaces, ahead, Ahead, no_more, blank,
 use Rattle.wm_read.specs.inner.Views.{IsOfReaders}
 use Rattle.wm_read.specs.inner.Places.{Steps, here, over_blank, over_token, IsFault, IsFloat, HasNoFloat}
 use Rattle.wm_read.proofs.Ahead.{IsOf, class_law, IsAhead, ahead_is_so, ahead_blank, ahead_last, ahead_token, ahead_40, ahead_34}
-use Rattle.wm_read.proofs.Basics.{same_some}
 use Rattle.wm_read.proofs.Comments.{comment_more, comment_front}
-use Rattle.wm_read.proofs.StringFaults.{Open, Wrong, Fault, fault_found, open_more, wrong_more}
+use Rattle.wm_read.proofs.StringFaults.{Fault, fault_found, open_more, wrong_more}
 use Rattle.wm_read.proofs.Whole.{ahead_nil, blank_shorter, first_shorter, spaces_along, spaces_within, stand_skip, stand_take, stand_stop, tokens_more}
 use Rattle.wm_read.proofs.Atoms.{kind_more, float_alone, not_alone}
 
@@ -144,10 +143,13 @@ no_last_space b some on (inr (x, y, cut, (part ∷ parts, (u, v, cut2, (is, spac
     on (v ++ y) (ap ahead text ∙ ahead_blank part (v ++ y) space)
 
 begins_nothing : (floats : Bool) (b : List ℕ) → ahead b ≡ fault → BeginsNothing floats b
-begins_nothing floats b e = (no_last_space b (λ n. let f : fault ≡ no_more = sym e ∙ n in cc) (λ r n. let f : fault ≡ blank r = sym e ∙ n in cc), λ part rest is. (
-  (λ h. let f : blank rest ≡ fault = sym (ahead_blank part rest h) ∙ ap ahead (sym is) ∙ e in cc),
-  (λ t h ends among. let f : first t rest ≡ fault = sym (ahead_token t part rest h ends) ∙ ap ahead (sym is) ∙ e in cc),
-))
+begins_nothing floats b e = (
+  no_last_space b (λ n. let f : fault ≡ no_more = sym e ∙ n in cc) (λ r n. let f : fault ≡ blank r = sym e ∙ n in cc),
+  λ part rest is. (
+    (λ h. let f : blank rest ≡ fault = sym (ahead_blank part rest h) ∙ ap ahead (sym is) ∙ e in cc),
+    (λ t h ends among. let f : first t rest ≡ fault = sym (ahead_token t part rest h ends) ∙ ap ahead (sym is) ∙ e in cc),
+  ),
+)
 
 fault_some : (b : List ℕ) → fault ≡ ahead b → b ≢ []
 fault_some b e nil = let f : fault ≡ no_more = e ∙ ap ahead nil ∙ ahead_nil in cc
@@ -294,7 +296,7 @@ place_same _ text rest x y p q = omega (arith, p, q)
 pub one_fault : (floats : Bool) (text : List ℕ) (v w : TextWhy) (x y : ℕ) → FirstFault floats text v x → FirstFault floats text w y → (v ≡ w) × (x ≡ y)
 one_fault floats text v w x y g h =
     let same : g.rest ≡ h.rest = one_end floats text g.rest h.rest (lead_steps floats text g.rest g.leads) (begins_stuck floats v g.rest g.fault)
-        (lead_steps floats text h.rest h.leads) (begins_stuck floats w h.rest h.fault) in
+    (lead_steps floats text h.rest h.leads) (begins_stuck floats w h.rest h.fault) in
     let name : v ≡ w = one_name floats v w h.rest (subst (BeginsFault floats v) same g.fault) h.fault in
     (name, place_same w text h.rest x y (subst (λ (z : List ℕ). IsPlace w text z x) same (subst (λ (z : TextWhy). IsPlace z text g.rest x) name g.place)) h.place)
 
@@ -360,12 +362,12 @@ moved f g text rest w n to too (inr stop) h =
 
 float_first : (text : List ℕ) (at : ℕ) → IsUtf8 text → IsFloat text at → FirstFault false text BadToken at
 float_first text at u (rest, more, a, steps, is, alone, place) = record {
-      rest = rest;
-      utf8 = u;
-      leads = steps_lead false text rest (λ nil. let f : first (atom a) more ≡ no_more = is ∙ ap ahead nil ∙ ahead_nil in cc) steps;
-      fault = (nothing, not_told OpenComment (λ g. comment_told rest g), not_told OpenString (λ g. open_told rest g), not_told BadEscape (λ g. escape_told rest g));
-      place = place;
-    }
+  rest = rest;
+  utf8 = u;
+  leads = steps_lead false text rest (λ nil. let f : first (atom a) more ≡ no_more = is ∙ ap ahead nil ∙ ahead_nil in cc) steps;
+  fault = (nothing, not_told OpenComment (λ g. comment_told rest g), not_told OpenString (λ g. open_told rest g), not_told BadEscape (λ g. escape_told rest g));
+  place = place;
+}
   where
     not_told : {X : Type 0} (v : TextWhy) → (X → Told v rest) → X → ⊥
     not_told v tells x = let f : first (atom a) more ≡ fault = is ∙ (tells x).0 in cc
@@ -376,9 +378,9 @@ float_first text at u (rest, more, a, steps, is, alone, place) = record {
       λ part r cut. (
         (λ space. let f : first (atom a) more ≡ blank r = is ∙ ap ahead cut ∙ ahead_blank part r space in cc),
         (λ t token ends among.
-          let f : first (atom a) more ≡ first t r = is ∙ ap ahead cut ∙ ahead_token t part r token ends in
-          let same : t ≡ atom a = cc in
-          alone (subst (IsAmong false) same among)),
+            let f : first (atom a) more ≡ first t r = is ∙ ap ahead cut ∙ ahead_token t part r token ends in
+            let same : t ≡ atom a = cc in
+            alone (subst (IsAmong false) same among)),
       ),
     )
 
@@ -410,9 +412,6 @@ tells_none text k why at t r w n = (
   (λ p. absurd (not_of_readers w p.0 (subst IsOfReaders p.1 r))),
 )
 
-pub not_utf8_tells : (floats : Bool) (text : List ℕ) (why : TextWhy) (at : ℕ) → why ≡ NotUtf8 → ¬ (IsUtf8 text) → TellsFault floats text why at
-not_utf8_tells floats text why at is n w m = ((λ h. absurd (n h.utf8)), (λ p. absurd (subst IsOfTokens (sym p.1 ∙ is) p.0)))
-
 pub float_told : (text : List ℕ) (at : ℕ) → IsUtf8 text → IsFloat text at → TellsFault false text BadToken at
 float_told text at u h = tells_first false text BadToken at (float_first text at u h)
 
@@ -441,11 +440,11 @@ place_front _ text rest x c s p = p
 
 pub fault_first : (text : List ℕ) (e : TextRefusal) → IsUtf8 text → IsFault text e → FirstFault true text e.why e.at
 fault_first text e u (rest, steps, is, why, place) = record {
-    rest = rest;
-    utf8 = u;
-    leads = steps_lead true text rest (fault_some rest is) steps;
-    fault = subst (λ (w : TextWhy). BeginsFault true w rest) (sym why) (begins true rest (sym is));
-    place = place;
+  rest = rest;
+  utf8 = u;
+  leads = steps_lead true text rest (fault_some rest is) steps;
+  fault = subst (λ (w : TextWhy). BeginsFault true w rest) (sym why) (begins true rest (sym is));
+  place = place;
 }
 
 fault_named : (text : List ℕ) (e : TextRefusal) → IsFault text e → e.why ≢ NotUtf8

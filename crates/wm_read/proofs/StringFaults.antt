@@ -1,11 +1,11 @@
 -- What is wrong with a string: the text ends within it, or an escape is none.
-use Rattle.std.proofs.Common.{◌≡◌, ℕ, zero, suc, ◌<◌, ◌+◌, ◌*◌, ◌⊎◌, Bool, true, false, cond, List, [], ◌∷◌, ◌++◌, Option, Some, None, refl, sym, ap, subst, ◌∙◌, inl, inr, arith, append_assoc, length, length-append}
+use Rattle.std.proofs.Common.{◌≡◌, ℕ, zero, suc, ◌<◌, ◌+◌, ◌*◌, ◌⊎◌, Bool, true, false, List, [], ◌∷◌, ◌++◌, Option, Some, None, refl, sym, ap, subst, ◌∙◌, inl, inr, arith, append_assoc, length, length-append}
 use Rattle.std.specs.Prelude.{◌==◌, ◌&&◌, fold, encode_utf8}
 use Rattle.std.proofs.lemmas.Bool.{cond_both, eqb-true, and_parts}
 use Rattle.std.proofs.lemmas.List.{append-nil, append_cancel_right}
 use Rattle.wm_syntax.specs.Spelling.{Each, ◌▸◌}
 use Rattle.wm_syntax.proofs.Flat.{each_append}
-use Rattle.wm_read.specs.Tokens.{digit_value, is_plain, is_scalar, Element, Digits}
+use Rattle.wm_read.specs.Tokens.{digit_value, is_plain, is_scalar, Element}
 use Rattle.wm_read.specs.TokenFaults.{EscapeFront, Elements, NoEscape}
 use Rattle.wm_read.specs.declared.faults.TextWhy.{TextWhy}
 use Rattle.wm_read.specs.declared.faults.TextWhy.TheVariants.{BadToken, OpenString, BadEscape}
@@ -284,12 +284,14 @@ further e r all why (inr (inr is)) = inr (inr (why ∙ is))
 -- within an escape
 bad_escape : (b : List ℕ) (w : TextWhy) → part_in m.Plain (92 ∷ b) ≡ wrong w → (w ≡ BadEscape) × NoEscape (92 ∷ b)
 bad_escape b w e =
-    let at : part_in m.Escape b ≡ wrong w = sym (part_goes m.Plain 92 b (On m.Escape) step_slash) ∙ e in
-    (
+    let at : part_in m.Escape b ≡ wrong w = sym (part_goes m.Plain 92 b (On m.Escape) step_slash) ∙ e in (
       subst Inside at (inside m.Escape b tt),
-      (b, refl,
-      (λ front. let f : over ≡ wrong w = sym (over_more (92 ∷ b) front) ∙ e in cc),
-      (λ given part rest is h. let f : passed rest ≡ wrong w = sym (passed_more given part rest h) ∙ ap (part_in m.Plain) (sym is) ∙ e in cc)),
+      (
+        b,
+        refl,
+        (λ front. let f : over ≡ wrong w = sym (over_more (92 ∷ b) front) ∙ e in cc),
+        (λ given part rest is h. let f : passed rest ≡ wrong w = sym (passed_more given part rest h) ∙ ap (part_in m.Plain) (sym is) ∙ e in cc),
+      ),
     )
 
 -- outside of one

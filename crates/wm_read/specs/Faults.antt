@@ -1,5 +1,5 @@
 -- Why a text is refused: the printed words, and which of them the tokens of a text can give.
-use Rattle.std.specs.Prelude.{◌≡◌, ◌⊎◌, ℕ, List, codes}
+use Rattle.std.specs.Prelude.{ℕ, List, codes}
 use Rattle.wm_read.specs.declared.faults.TextWhy.{TextWhy}
 use Rattle.wm_read.specs.declared.faults.TextWhy.TheVariants.{NotUtf8, BadToken, OpenComment, OpenString}
 use Rattle.wm_read.specs.declared.faults.TextWhy.TheVariants.{BadEscape, Expected, UnknownWord, BadInteger}

@@ -150,12 +150,7 @@ pub(crate) fn call_fault(
 
 /// The same type use, with identifiers at its parameters.
 #[tactic(auto, using(crate::proofs::Groups::fails_read, crate::proofs::Groups::expected_read))]
-fn with_ids(
-    alloc: Global,
-    profile: Profile,
-    names: &Names,
-    text: &[u8],
-) -> Result<(), TextFault>
+fn with_ids(alloc: Global, profile: Profile, names: &Names, text: &[u8]) -> Result<(), TextFault>
     ensures { IfErr result (λ e. IsOfReaders e.why) }
 {
     match named_use(alloc, profile, names, false, text) {

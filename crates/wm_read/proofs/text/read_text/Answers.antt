@@ -1,21 +1,20 @@
 use Rattle.std.proofs.Common.{true}
-use Rattle.wm_read.specs.declared.faults.TextWhy.TheVariants.{NotUtf8}
-use Rattle.wm_read.proofs.Places.{tells_first, not_utf8_tells}
+use Rattle.wm_read.proofs.Places.{tells_first}
 use Rattle.wm_read.proofs.text.read_text.Goals as goal
 
 pub told_first-requires : goal.told_first-requires
 told_first-requires c = record {
-    at = c.in-Err.ensures.at;
-    utf8 = (c.in-Err.ensures.fault c.in_default.not-NotUtf8).utf8;
-    fault = tells_first true c.args.text.now c.in-Err.refusal.why c.in-Err.refusal.at (c.in-Err.ensures.fault c.in_default.not-NotUtf8);
+  at = c.in-Err.ensures.at;
+  utf8 = (c.in-Err.ensures.fault c.in_default.not-NotUtf8).utf8;
+  fault = tells_first true c.args.text.now c.in-Err.refusal.why c.in-Err.refusal.at (c.in-Err.ensures.fault c.in_default.not-NotUtf8);
 }
 
 pub returns-in_default : goal.returns-in_default
 returns-in_default c = record {
-    written = tt;
-    refused = λ _ k m t w. c.in-Err.ensures.err k t;
-    at = c.told_first.ensures.at;
-    utf8 = ((λ none. absurd (c.told_first.ensures.utf8 c.in_default.not-NotUtf8 none)), (λ n. absurd (n (c.in-Err.ensures.fault c.in_default.not-NotUtf8).utf8)));
-    utf8_at = λ none. absurd (c.told_first.ensures.utf8 c.in_default.not-NotUtf8 none);
-    fault = c.told_first.ensures.fault;
+  written = tt;
+  refused = λ _ k m t w. c.in-Err.ensures.err k t;
+  at = c.told_first.ensures.at;
+  utf8 = ((λ none. absurd (c.told_first.ensures.utf8 c.in_default.not-NotUtf8 none)), (λ n. absurd (n (c.in-Err.ensures.fault c.in_default.not-NotUtf8).utf8)));
+  utf8_at = λ none. absurd (c.told_first.ensures.utf8 c.in_default.not-NotUtf8 none);
+  fault = c.told_first.ensures.fault;
 }

@@ -9,17 +9,17 @@ returns-then-has-clause-fault c = λ _. subst (λ (floats : Bool). TellsFault fl
 
 pub returns-in-Some : goal.returns-in-Some
 returns-in-Some c = record {
-    at = (let place = c.in-Some.ensures.6 in omega (arith, place));
-    memory = λ e. absurd (c.in_default.not-Memory e);
-    utf8 = λ _ e. cc;
-    fault = λ _. subst (λ (floats : Bool). TellsFault floats c.args.text.now BadToken c.in-Some.at) (sym c.if-has.false ∙ c.has.ensures) (float_told c.args.text.now c.in-Some.at c.requires.utf8 c.in-Some.ensures);
+  at = (let place = c.in-Some.ensures.6 in omega (arith, place));
+  memory = λ e. absurd (c.in_default.not-Memory e);
+  utf8 = λ _ e. cc;
+  fault = λ _. subst (λ (floats : Bool). TellsFault floats c.args.text.now BadToken c.in-Some.at) (sym c.if-has.false ∙ c.has.ensures) (float_told c.args.text.now c.in-Some.at c.requires.utf8 c.in-Some.ensures);
 }
 
 pub returns-in-None : goal.returns-in-None
 returns-in-None c = record {
-    at = c.requires.at;
-    memory = λ e. e;
-    utf8 = λ n. n;
-    fault = λ _. subst (λ (floats : Bool). TellsFault floats c.args.text.now c.args.refusal.why c.args.refusal.at) (sym c.if-has.false ∙ c.has.ensures)
-        (no_float_told c.args.text.now c.args.refusal.why c.args.refusal.at c.in-None.ensures c.requires.fault);
+  at = c.requires.at;
+  memory = λ e. e;
+  utf8 = λ n. n;
+  fault = λ _. subst (λ (floats : Bool). TellsFault floats c.args.text.now c.args.refusal.why c.args.refusal.at) (sym c.if-has.false ∙ c.has.ensures)
+      (no_float_told c.args.text.now c.args.refusal.why c.args.refusal.at c.in-None.ensures c.requires.fault);
 }
