@@ -24,7 +24,7 @@ IsOf c k.Quote = c ≡ 34
 IsOf c k.Atom = is_id_char c ≡ true
 IsOf c k.Other = Unit {0}
 
-class_law : (c : ℕ) → IsOf c (class_of c)
+pub class_law : (c : ℕ) → IsOf c (class_of c)
 unfolding class_of
 class_law c =
     cond_both (is_space c) _ _ (IsOf c) (λ t. t) (λ _. cond_both (c == 59) _ _ (IsOf c) (λ t. eqb-true c 59 t) (λ _. cond_both (c == 40) _ _ (IsOf c) (λ t. eqb-true c 40 t)
@@ -59,7 +59,7 @@ ahead_59 : (b : List ℕ) → ahead (59 ∷ b) ≡ ahead_semicolon b
 unfolding ahead class_of
 ahead_59 b = refl
 
-ahead_40 : (b : List ℕ) → ahead (40 ∷ b) ≡ ahead_opening b
+pub ahead_40 : (b : List ℕ) → ahead (40 ∷ b) ≡ ahead_opening b
 unfolding ahead class_of
 ahead_40 b = refl
 
@@ -75,7 +75,7 @@ pub opens_first : (b r : List ℕ) → get_or b 0 0 ≡ 40 → r ≡ drop 1 b �
 opens_first [] r e p = absurd (let f : 0 ≡ 40 = e in omega (arith, f))
 opens_first (c ∷ t) r e p = ap ahead_opening p ∙ sym (ap (λ (x : ℕ). ahead (x ∷ t)) e ∙ ahead_40 t)
 
-ahead_34 : (b : List ℕ) → ahead (34 ∷ b) ≡ string_or_fault (string_in m.Plain b)
+pub ahead_34 : (b : List ℕ) → ahead (34 ∷ b) ≡ string_or_fault (string_in m.Plain b)
 unfolding ahead class_of
 ahead_34 b = refl
 

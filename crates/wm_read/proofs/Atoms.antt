@@ -8,7 +8,9 @@ use Rattle.std.proofs.lemmas.Bool.{cond-true, cond-false, cond_both, eqb-true, e
 use Rattle.wm_floats.specs.exact.Atoms.{has_form}
 use Rattle.wm_floats.proofs.Written.{form_found, form_more, nothing_form, plus_form, minus_form, dollar_form}
 use Rattle.wm_read.specs.Tokens.{is_digit, is_id_char, digit_value, Digits, Magnitude, IsNumber, IsLiteral, IsIdentifier, IsWord, is_lower}
-use Rattle.wm_read.specs.exact.Scan.{atom_in, digits_in, with_digit, magnitude_of, is_number, is_literal, is_atom, is_nil, is_some, number_in, number_next}
+use Rattle.wm_read.specs.Tokens.{atom}
+use Rattle.wm_read.specs.TokenFaults.{IsAmong}
+use Rattle.wm_read.specs.exact.Scan.{atom_in, digits_in, with_digit, magnitude_of, is_number, is_literal, is_atom, is_nil, is_some, number_in, number_next, is_float_alone}
 use Rattle.wm_read.proofs.Basics.{chosen, same_some, same_head, both_are}
 
 abbrev pub EndsAtom : List ℕ → Type 0
@@ -239,6 +241,43 @@ kind_more (c ∷ b) (inr (inl (inr h))) =
     let e : is_literal (c ∷ b) ≡ true = literal_more (c ∷ b) h in
     let not36 : (c == 36) ≡ false = ne_eqb c 36 (λ k. let f : false ≡ true = sym (dollar_form b) ∙ ap (λ (x : ℕ). is_literal (x ∷ b)) (sym k) ∙ e in let g : false ≡ true = f in cc) in
     cond-false (c == 36) _ _ not36 ∙ cond_both (is_lower c) true _ (λ x. x ≡ true) (λ _. refl) (λ _. cond_both (is_number (c ∷ b)) true (is_literal (c ∷ b)) (λ x. x ≡ true) (λ _. refl) (λ _. e))
+
+-- ---- without floats
+
+pub float_alone : (a : List ℕ) → is_float_alone a ≡ true → IsAmong false (atom a) → ⊥
+float_alone a e (inl t) = let f : false ≡ true = t in cc
+float_alone [] e h = let f : false ≡ true = e in cc
+float_alone (c ∷ b) e (inr (inl (is, n))) = let f : false ≡ true = sym (cond-true (c == 36) _ _ (eq-eqb c 36 is)) ∙ e in cc
+float_alone (c ∷ b) e (inr (inr (inl h))) =
+    let n : is_number (c ∷ b) ≡ true = number_more (c ∷ b) h in
+    elim (chosen (c == 36) _ _ true e) [
+      | inl p ↦ (let f : false ≡ true = p.1 in cc)
+      | inr p ↦ elim (chosen (is_lower c) _ _ true p.1) [
+        | inl q ↦ (let f : false ≡ true = q.1 in cc)
+        | inr q ↦ (let g = and_parts (is_literal (c ∷ b)) (not (is_number (c ∷ b))) q.1 in let f : false ≡ true = ap not (sym n) ∙ g.1 in cc)
+      ]
+    ]
+float_alone (c ∷ b) e (inr (inr (inr h))) = elim (chosen (c == 36) _ _ true e) [
+  | inl p ↦ (let f : false ≡ true = p.1 in cc)
+  | inr p ↦ (let f : false ≡ true = sym (cond-true (is_lower c) _ _ h) ∙ p.1 in cc)
+]
+
+pub not_alone : (a : List ℕ) → is_atom a ≡ true → is_float_alone a ≡ false → IsAmong false (atom a)
+not_alone [] e n = absurd (let f : false ≡ true = e in cc)
+not_alone (c ∷ b) e n = elim (chosen (c == 36) _ _ true e) [
+  | inl p ↦ inr (inl (eqb-true c 36 p.0, nil_length b p.1))
+  | inr p ↦ elim (chosen (is_lower c) _ _ true p.1) [
+    | inl q ↦ inr (inr (inr q.0))
+    | inr q ↦ elim (chosen (is_number (c ∷ b)) true (is_literal (c ∷ b)) true q.1) [
+      | inl r ↦ inr (inr (inl (number_found (c ∷ b) r.0)))
+      | inr r ↦ absurd (
+          let alone : is_float_alone (c ∷ b) ≡ true =
+          cond-false (c == 36) _ _ p.0 ∙ cond-false (is_lower c) _ _ q.0 ∙ and_from (is_literal (c ∷ b)) (not (is_number (c ∷ b))) r.1 (ap not r.0)
+          in
+          let f : true ≡ false = sym alone ∙ n in cc)
+    ]
+  ]
+]
 
 -- ---- as the code reads atoms
 

@@ -19,9 +19,9 @@ use Rattle.wm_read.specs.exact.TypeUses.{begins_open, instructions_at, unnamed}
 use Rattle.wm_read.specs.exact.Fields.{all_new, function_at, function_by, function_of, is_function, is_new}
 use Rattle.wm_read.specs.inner.Fields.{head_at}
 use Rattle.wm_read.specs.inner.Named.{named_of, named_list}
-use Rattle.wm_read.specs.inner.Views.{Fails, IsRefusal}
+use Rattle.wm_read.specs.inner.Views.{Fails, IsOfReaders, NotMemory}
 use Rattle.wm_read.proofs.Basics.{same_some}
-use Rattle.wm_read.proofs.Groups.{fails_on}
+use Rattle.wm_read.proofs.Groups.{fails_read, fails_on}
 use Rattle.wm_read.proofs.NamedGroups.{named_append, named_push}
 use Rattle.wm_read.proofs.Readers.{bind_is}
 
@@ -161,20 +161,27 @@ pub ruleset types_laws = (types_more, types_end, types_many)
 
 -- ---- the whole
 
-pub fails_carried : {Y : Type 0} (v w : TextWhy) (read : Option Y) → (IsRefusal w → IsRefusal v) → Fails v read → Fails w read
-fails_carried v why.Memory read h f = tt
-fails_carried v why.NotUtf8 read h f = refused v (h tt) f
-  where
-    refused : (v : TextWhy) → IsRefusal v → Fails v read → read ≡ None
-    refused why.Memory h f = absurd h
-    refused why.NotUtf8 h f = f
-    refused _ h f = f
-fails_carried v _ read h f = refused v (h tt) f
-  where
-    refused : (v : TextWhy) → IsRefusal v → Fails v read → read ≡ None
-    refused why.Memory h f = absurd h
-    refused why.NotUtf8 h f = f
-    refused _ h f = f
+refused : {Y : Type 0} (v : TextWhy) (read : Option Y) → NotMemory v → Fails v read → read ≡ None
+refused why.Memory read h f = absurd h
+refused why.NotUtf8 read h f = absurd f
+refused why.BadToken read h f = absurd f
+refused why.OpenComment read h f = absurd f
+refused why.OpenString read h f = absurd f
+refused why.BadEscape read h f = absurd f
+refused _ read h f = f
+
+pub fails_carried : {Y : Type 0} (v w : TextWhy) (read : Option Y) → (NotMemory w → NotMemory v) → (IsOfReaders v → IsOfReaders w) → Fails v read → Fails w read
+fails_carried v why.Memory read h g f = tt
+fails_carried v why.NotUtf8 read h g f = g (fails_read v read f)
+fails_carried v why.BadToken read h g f = g (fails_read v read f)
+fails_carried v why.OpenComment read h g f = g (fails_read v read f)
+fails_carried v why.OpenString read h g f = g (fails_read v read f)
+fails_carried v why.BadEscape read h g f = g (fails_read v read f)
+fails_carried v _ read h g f = refused v read (h tt) f
+
+pub earlier_read : (w : TextWhy) → (w ≡ why.RepeatedId) ⊎ (w ≡ why.TooManyLocals) → IsOfReaders w
+earlier_read w (inl e) = subst IsOfReaders (sym e) tt
+earlier_read w (inr e) = subst IsOfReaders (sym e) tt
 
 abbrev Head : Type 0
 Head = (ℕ × List Named) × List Named
@@ -252,17 +259,17 @@ match_some None x A B e h = absurd cc
 match_some (Some y) x A B e h = subst B (same_some y x e) h
 
 pub repeated_fails : (p : Profile) (names : Names) (x : ℕ) (ps ls rs : List Named) (v w : TextWhy) (k j : List Token) → head_at p names k ≡ Some (((x, ps), ls), j) → all_new [] (ids_of (ps ++ rs)) ≡ false → rs ≡ ls
-    → v ≡ why.RepeatedId → (IsRefusal w → IsRefusal v) → Fails w (function_at p names k)
-repeated_fails p names x ps ls rs v w k j e h b r c =
-    fails_carried v w (function_at p names k) c
+    → v ≡ why.RepeatedId → (NotMemory w → NotMemory v) → (IsOfReaders v → IsOfReaders w) → Fails w (function_at p names k)
+repeated_fails p names x ps ls rs v w k j e h b r c d =
+    fails_carried v w (function_at p names k) c d
     (subst (λ (z : TextWhy). Fails z (function_at p names k)) (sym r)
     (function_again p names x ps ls k j e (ap (λ (z : List Named). all_new [] (ids_of (ps ++ z))) (sym b) ∙ h)))
 
 pub many_fails : (p : Profile) (names : Names) (x : ℕ) (ps ls rs : List Named) (v w : TextWhy) (k j : List Token) → head_at p names k ≡ Some (((x, ps), ls), j) → rs ≡ ls
-    → (v ≡ why.Memory) ⊎ ((v ≡ why.TooManyLocals) × (2 ^ 32 ≤ length (types_of rs))) → (IsRefusal w → IsRefusal v) → Fails w (function_at p names k)
-many_fails p names x ps ls rs v w k j e b (inl m) c = fails_carried v w (function_at p names k) c (subst (λ (z : TextWhy). Fails z (function_at p names k)) (sym m) tt)
-many_fails p names x ps ls rs v w k j e b (inr m) c =
-    fails_carried v w (function_at p names k) c
+    → (v ≡ why.Memory) ⊎ ((v ≡ why.TooManyLocals) × (2 ^ 32 ≤ length (types_of rs))) → (NotMemory w → NotMemory v) → (IsOfReaders v → IsOfReaders w) → Fails w (function_at p names k)
+many_fails p names x ps ls rs v w k j e b (inl m) c d = fails_carried v w (function_at p names k) c d (subst (λ (z : TextWhy). Fails z (function_at p names k)) (sym m) tt)
+many_fails p names x ps ls rs v w k j e b (inr m) c d =
+    fails_carried v w (function_at p names k) c d
     (subst (λ (z : TextWhy). Fails z (function_at p names k)) (sym m.0)
     (function_many p names x ps ls k j e (subst (λ (z : List Named). 2 ^ 32 ≤ length (types_of z)) b m.1)))
 

@@ -11,7 +11,7 @@ use Rattle.wm_read.specs.Tokens.{Token, open_paren, close_paren, string, atom}
 use Rattle.wm_read.specs.Written.{Names}
 use Rattle.wm_read.specs.declared.faults.TextWhy.{TextWhy}
 use Rattle.wm_read.specs.declared.faults.TextWhy.TheVariants as why
-use Rattle.wm_read.specs.inner.Views.{Fails, IsRefusal}
+use Rattle.wm_read.specs.inner.Views.{Fails, IsOfReaders, IsRefusal}
 use Rattle.wm_read.specs.exact.Reading.{Reader, ◌>>=◌, made, atom_at, index_of, type_of, paren_at, many_at, then_at}
 use Rattle.wm_read.specs.exact.TypeUses.{types_at, adding, begins_group, groups_at, joined, same_types, no_types, fits, checked, use_at, begins_open, alone_by, call_use_at}
 use Rattle.wm_read.proofs.Basics.{same_some}
@@ -22,8 +22,24 @@ use Rattle.wm_read.proofs.TypeUseLaws.{OfUnnamed, group_begins, group_sound, sam
 
 pub fails_refused : {Y : Type 0} (w : TextWhy) (read : Option Y) → IsRefusal w → read ≡ None → Fails w read
 fails_refused why.Memory read h e = tt
-fails_refused why.NotUtf8 read h e = e
+fails_refused why.NotUtf8 read h e = h
+fails_refused why.BadToken read h e = h
+fails_refused why.OpenComment read h e = h
+fails_refused why.OpenString read h e = h
+fails_refused why.BadEscape read h e = h
 fails_refused _ read h e = e
+
+-- a reader does not blame the bytes or the tokens
+pub fails_read : {Y : Type 0} (w : TextWhy) (read : Option Y) → Fails w read → IsOfReaders w
+fails_read why.NotUtf8 read h = h
+fails_read why.BadToken read h = h
+fails_read why.OpenComment read h = h
+fails_read why.OpenString read h = h
+fails_read why.BadEscape read h = h
+fails_read _ read h = tt
+
+pub expected_read : (w : TextWhy) → w ≡ why.Expected → IsOfReaders w
+expected_read w e = subst IsOfReaders (sym e) tt
 
 -- ---- value types
 
@@ -291,7 +307,11 @@ pub ruleset no_type_laws = (no_types_at, some_types_at)
 -- a refusal that is passed on
 pub fails_on : {X Y : Type 0} (w : TextWhy) (o : Option X) (p : Option Y) → (o ≡ None → p ≡ None) → Fails w o → Fails w p
 fails_on why.Memory o p f h = tt
-fails_on why.NotUtf8 o p f h = f h
+fails_on why.NotUtf8 o p f h = h
+fails_on why.BadToken o p f h = h
+fails_on why.OpenComment o p f h = h
+fails_on why.OpenString o p f h = h
+fails_on why.BadEscape o p f h = h
 fails_on _ o p f h = f h
 
 pub fails_use : {Y : Type 0} (w : TextWhy) (read : Option Y) → w ≡ why.TypeUse → read ≡ None → Fails w read

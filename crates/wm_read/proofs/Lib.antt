@@ -6,6 +6,7 @@ pub mod Ahead
 pub mod PlainAtoms
 pub mod Whole
 pub mod Parts
+pub mod StringFaults
 pub mod Places
 pub mod Checks
 pub mod Readers

@@ -8,13 +8,13 @@ use Rattle.std.proofs.lemmas.List.Folds.{list_all-append}
 use Rattle.wm_read.specs.Tokens.{Token, string, atom, is_digit, is_id_char, is_lower, is_space, IsAtom}
 use Rattle.wm_read.specs.exact.Scan.{after_spaces, ahead, first, lexed, has_tokens}
 use Rattle.wm_read.specs.exact.FirstReading.{skip}
-use Rattle.wm_read.specs.inner.Places.{Before}
+use Rattle.wm_read.specs.inner.Places.{Steps}
 use Rattle.wm_read.specs.inner.Stretches.{Passes, here, over_blank, over_atom, AtHand, nothing, word, digits, dollar, other, after_byte, place_of, IsPart, Leads}
 use Rattle.wm_read.proofs.Atoms.{number_found}
 use Rattle.wm_read.proofs.Ahead.{ahead_blank, ahead_token}
 use Rattle.wm_read.proofs.PlainAtoms.{lower_is, digit_is, digits_value, digits_number}
 use Rattle.wm_read.proofs.Whole.{ahead_skips, ahead_takes, stand_skip, stand_take, spaces_along, spaces_lexed, spaces_within, first_shorter}
-use Rattle.wm_read.proofs.Places.{before_skip, before_take}
+use Rattle.wm_read.proofs.Places.{steps_skip, steps_take}
 use Rattle.wm_read.proofs.HeadSteps.{skip_atom, skip_string}
 
 -- ---- what a stretch leaves as it is
@@ -24,10 +24,10 @@ passes_has b r here = refl
 passes_has b s (over_blank {r = r} p e) = sym (stand_skip r s e) ∙ passes_has b r p
 passes_has b s (over_atom {r = r} {a = a} p e) = sym (stand_take r s (atom a) e) ∙ passes_has b r p
 
-pub passes_before : (text b r : List ℕ) → Passes b r → Before text b → Before text r
-passes_before text b r here h = h
-passes_before text b s (over_blank {r = r} p e) h = before_skip text r s e (passes_before text b r p h)
-passes_before text b s (over_atom {r = r} {a = a} p e) h = before_take text r s (atom a) e (passes_before text b r p h)
+pub passes_steps : (text b r : List ℕ) → Passes b r → Steps true text b → Steps true text r
+passes_steps text b r here h = h
+passes_steps text b s (over_blank {r = r} p e) h = steps_skip text r s e (passes_steps text b r p h)
+passes_steps text b s (over_atom {r = r} {a = a} p e) h = steps_take text r s (atom a) e (passes_steps text b r p h)
 
 pub passes_skip : (n : ℕ) (b r : List ℕ) → 0 < n → Passes b r → skip n (lexed r) ≡ skip n (lexed b)
 passes_skip n b r lt here = refl
@@ -65,7 +65,7 @@ passes_spaces b = spaces_along (Passes b) (λ x r e p. over_blank p e) b here
 
 pub ruleset stretch_laws = (passes_join, passes_spaces, spaces_within)
 
-pub ruleset kept_laws = (passes_has, passes_before)
+pub ruleset kept_laws = (passes_has, passes_steps)
 
 -- ---- atoms
 

@@ -10,7 +10,7 @@ use Rattle.wm_read.specs.declared.tokens.scan.Mode.{Mode}
 use Rattle.wm_read.specs.declared.tokens.scan.Mode.TheVariants as m
 use Rattle.wm_read.specs.declared.tokens.scan.Step.{Step}
 use Rattle.wm_read.specs.declared.tokens.scan.Step.TheVariants.{On, Byte, Scalar, End, Bad}
-use Rattle.wm_read.specs.exact.Scan.{with_digit, short_escape, first_escape, capped, string_step, string_next, string_in, giving, given_next, given_in, rest_of, first, string_or_fault}
+use Rattle.wm_read.specs.exact.Scan.{with_digit, short_escape, first_escape, capped, string_step, string_next, string_in, giving, given_next, given_in, rest_of, first, string_or_fault, why_next, why_in, bad_in}
 use Rattle.wm_read.proofs.Basics.{same_some, both_are}
 use Rattle.wm_read.proofs.Atoms.{digit_goes, not_underscore, DigitsLeft, digit_before, any_after}
 
@@ -76,7 +76,7 @@ Law mode c (Scalar n) = (b given r : List ℕ) → Body b given r → Left mode 
 Law mode c End = (b : List ℕ) → Left mode (c ∷ b) [] b
 Law mode c Bad = Unit {0}
 
-with_digit_both : {X : Type 0} (base c : ℕ) (none : X) (some : ℕ → X) (P : X → Type 0) → P none → ((d : ℕ) → digit_value c ≡ Some d → d < base → P (some d)) → P (with_digit base c none some)
+pub with_digit_both : {X : Type 0} (base c : ℕ) (none : X) (some : ℕ → X) (P : X → Type 0) → P none → ((d : ℕ) → digit_value c ≡ Some d → d < base → P (some d)) → P (with_digit base c none some)
 with_digit_both {X} base c none some P p q = by (digit_value c) refl
   where
     by : (o : Option ℕ) → digit_value c ≡ o → P (elim o as (λ _. X) [ None ↦ none | Some e ↦ cond (ltb e base) (some e) none ])
@@ -203,7 +203,7 @@ digit_not_short c d v =
     ∙ cond-false (c == 34) _ _ (digit_apart c d 34 v refl) ∙ cond-false (c == 39) _ _ (digit_apart c d 39 v refl) ∙ cond-false (c == 92) _ _ (digit_apart c d 92 v refl)
 
 -- one step, where it is known
-goes : (mode : Mode) (c : ℕ) (b : List ℕ) (s : Step) → string_step mode c ≡ s → string_in mode (c ∷ b) ≡ string_next s b (λ n. string_in n b)
+pub goes : (mode : Mode) (c : ℕ) (b : List ℕ) (s : Step) → string_step mode c ≡ s → string_in mode (c ∷ b) ≡ string_next s b (λ n. string_in n b)
 goes mode c b s e = ap (λ (x : Step). string_next x b (λ n. string_in n b)) e
 
 step_plain : (c : ℕ) → is_plain c ≡ true → string_step m.Plain c ≡ Byte c
@@ -212,11 +212,11 @@ step_plain c h =
     let apart : (x : ℕ) → is_plain x ≡ false → (c == x) ≡ false = λ x n. ne_eqb c x (λ k. let f : false ≡ true = sym n ∙ ap is_plain (sym k) ∙ h in cc) in
     cond-false (c == 34) _ _ (apart 34 refl) ∙ cond-false (c == 92) _ _ (apart 92 refl) ∙ cond-true (is_plain c) _ _ h
 
-step_slash : string_step m.Plain 92 ≡ On m.Escape
+pub step_slash : string_step m.Plain 92 ≡ On m.Escape
 unfolding string_step
 step_slash = refl
 
-step_quote : string_step m.Plain 34 ≡ End
+pub step_quote : string_step m.Plain 34 ≡ End
 unfolding string_step
 step_quote = refl
 
@@ -224,7 +224,7 @@ step_short : (c x : ℕ) → IsShort c x → string_step m.Escape c ≡ Byte x
 unfolding string_step
 step_short c x h = ap (λ (o : Option ℕ). first_escape o c) (short_is c x h)
 
-step_high : (c d : ℕ) → digit_value c ≡ Some d → d < 16 → string_step m.Escape c ≡ On (m.Low d)
+pub step_high : (c d : ℕ) → digit_value c ≡ Some d → d < 16 → string_step m.Escape c ≡ On (m.Low d)
 unfolding string_step
 step_high c d v lt =
     ap (λ (o : Option ℕ). first_escape o c) (digit_not_short c d v) ∙ cond-false (c == 117) _ _ (digit_apart c d 117 v refl) ∙ digit_goes 16 c d Bad (λ d. On (m.Low d)) v lt
@@ -233,11 +233,11 @@ step_low : (h c d : ℕ) → digit_value c ≡ Some d → d < 16 → string_step
 unfolding string_step
 step_low h c d v lt = digit_goes 16 c d Bad (λ d. Byte (h * 16 + d)) v lt
 
-step_u : string_step m.Escape 117 ≡ On m.Brace
+pub step_u : string_step m.Escape 117 ≡ On m.Brace
 unfolding string_step
 step_u = refl
 
-step_brace : string_step m.Brace 123 ≡ On (m.Digits 0 false)
+pub step_brace : string_step m.Brace 123 ≡ On (m.Digits 0 false)
 unfolding string_step
 step_brace = refl
 
@@ -247,7 +247,7 @@ step_digit n after c d v lt =
     cond-false ((c == 95) && after) _ _ (and_left (c == 95) after (not_underscore c d v))
     ∙ cond-false ((c == 125) && (after && is_scalar n)) _ _ (and_left (c == 125) _ (digit_apart c d 125 v refl)) ∙ digit_goes 16 c d Bad _ v lt
 
-step_under : (n : ℕ) → string_step (m.Digits n true) 95 ≡ On (m.Digits n false)
+pub step_under : (n : ℕ) → string_step (m.Digits n true) 95 ≡ On (m.Digits n false)
 unfolding string_step
 step_under n = refl
 
@@ -255,37 +255,49 @@ step_end : (n : ℕ) → is_scalar n ≡ true → string_step (m.Digits n true) 
 unfolding string_step
 step_end n h = cond-true (is_scalar n) _ _ h
 
-string_digits : (n : ℕ) (after : Bool) (ds b r : List ℕ) → Digits 16 ds b → string_in (m.Digits n after) (b ++ r) ≡ string_in (m.Digits (fold next_capped n ds) true) r
-string_digits n after [] b r h = absurd h
-string_digits n after (d ∷ []) b r (c, e, v, lt) = ap (λ (z : List ℕ). string_in (m.Digits n after) (z ++ r)) e ∙ goes (m.Digits n after) c r _ (step_digit n after c d v lt)
-string_digits n after (d ∷ e ∷ ds) b r (x, y, whole, (c, is, v, lt), (s, w, parts, inl under, more)) =
-    let text : b ≡ c ∷ 95 ∷ w = whole ∙ ap (λ (z : List ℕ). z ++ y) is ∙ ap (λ (z : List ℕ). c ∷ z) (parts ∙ ap (λ (z : List ℕ). z ++ w) under) in
-    ap (λ (z : List ℕ). string_in (m.Digits n after) (z ++ r)) text ∙ goes (m.Digits n after) c (95 ∷ w ++ r) _ (step_digit n after c d v lt)
-    ∙ goes (m.Digits (capped (n * 16 + d)) true) 95 (w ++ r) _ (step_under _) ∙ string_digits (capped (n * 16 + d)) false (e ∷ ds) w r more
-string_digits n after (d ∷ e ∷ ds) b r (x, y, whole, (c, is, v, lt), (s, w, parts, inr none, more)) =
-    let text : b ≡ c ∷ w = whole ∙ ap (λ (z : List ℕ). z ++ y) is ∙ ap (λ (z : List ℕ). c ∷ z) (parts ∙ ap (λ (z : List ℕ). z ++ w) none) in
-    ap (λ (z : List ℕ). string_in (m.Digits n after) (z ++ r)) text ∙ goes (m.Digits n after) c (w ++ r) _ (step_digit n after c d v lt)
-    ∙ string_digits (capped (n * 16 + d)) true (e ∷ ds) w r more
+-- What follows the steps of a string: f from one mode to the next, and g where an element has given its bytes.
+abbrev pub Follows : {X : Type 0} → (Mode → List ℕ → X) → (List ℕ → List ℕ → X) → Type 0
+Follows f g =
+    ((mode next : Mode) (c : ℕ) (b : List ℕ) → string_step mode c ≡ On next → f mode (c ∷ b) ≡ f next b)
+    × ((mode : Mode) (c x : ℕ) (b : List ℕ) → string_step mode c ≡ Byte x → f mode (c ∷ b) ≡ g (x ∷ []) b)
+    × ((mode : Mode) (c n : ℕ) (b : List ℕ) → string_step mode c ≡ Scalar n → f mode (c ∷ b) ≡ g (encode_utf8 n) b)
 
-element_more : (part u r : List ℕ) → Element part u → string_in m.Plain (u ++ r) ≡ giving part (string_in m.Plain r)
-element_more part u r (inl (c, g, p, e)) =
-    ap (λ (z : List ℕ). string_in m.Plain (z ++ r)) e ∙ goes m.Plain c r _ (step_plain c p) ∙ ap (λ (z : List ℕ). giving z (string_in m.Plain r)) (sym g)
-element_more part u r (inr (inl (letter, c, g, p, e))) =
-    ap (λ (z : List ℕ). string_in m.Plain (z ++ r)) e ∙ goes m.Plain 92 (letter ∷ r) _ step_slash ∙ goes m.Escape letter r _ (step_short letter c p)
-    ∙ ap (λ (z : List ℕ). giving z (string_in m.Plain r)) (sym g)
-element_more part u r (inr (inr (inl (h, l, g, (x, y, e, p, (x2, y2, e2, (c, is, v, lt), (d, is2, v2, lt2))))))) =
+pub digits_passed : {X : Type 0} (f : Mode → List ℕ → X) (g : List ℕ → List ℕ → X) → Follows f g → (n : ℕ) (after : Bool) (ds b r : List ℕ) → Digits 16 ds b
+    → f (m.Digits n after) (b ++ r) ≡ f (m.Digits (fold next_capped n ds) true) r
+digits_passed f g go n after [] b r h = absurd h
+digits_passed f g go n after (d ∷ []) b r (c, e, v, lt) = ap (λ (z : List ℕ). f (m.Digits n after) (z ++ r)) e ∙ go.0 (m.Digits n after) (m.Digits (capped (n * 16 + d)) true) c r (step_digit n after c d v lt)
+digits_passed f g go n after (d ∷ e ∷ ds) b r (x, y, whole, (c, is, v, lt), (s, w, parts, inl under, more)) =
+    let text : b ≡ c ∷ 95 ∷ w = whole ∙ ap (λ (z : List ℕ). z ++ y) is ∙ ap (λ (z : List ℕ). c ∷ z) (parts ∙ ap (λ (z : List ℕ). z ++ w) under) in
+    ap (λ (z : List ℕ). f (m.Digits n after) (z ++ r)) text ∙ go.0 (m.Digits n after) (m.Digits (capped (n * 16 + d)) true) c (95 ∷ w ++ r) (step_digit n after c d v lt)
+    ∙ go.0 (m.Digits (capped (n * 16 + d)) true) (m.Digits (capped (n * 16 + d)) false) 95 (w ++ r) (step_under _) ∙ digits_passed f g go (capped (n * 16 + d)) false (e ∷ ds) w r more
+digits_passed f g go n after (d ∷ e ∷ ds) b r (x, y, whole, (c, is, v, lt), (s, w, parts, inr none, more)) =
+    let text : b ≡ c ∷ w = whole ∙ ap (λ (z : List ℕ). z ++ y) is ∙ ap (λ (z : List ℕ). c ∷ z) (parts ∙ ap (λ (z : List ℕ). z ++ w) none) in
+    ap (λ (z : List ℕ). f (m.Digits n after) (z ++ r)) text ∙ go.0 (m.Digits n after) (m.Digits (capped (n * 16 + d)) true) c (w ++ r) (step_digit n after c d v lt)
+    ∙ digits_passed f g go (capped (n * 16 + d)) true (e ∷ ds) w r more
+
+pub element_passed : {X : Type 0} (f : Mode → List ℕ → X) (g : List ℕ → List ℕ → X) → Follows f g → (part u r : List ℕ) → Element part u → f m.Plain (u ++ r) ≡ g part r
+element_passed f g go part u r (inl (c, given, p, e)) =
+    ap (λ (z : List ℕ). f m.Plain (z ++ r)) e ∙ go.1 m.Plain c c r (step_plain c p) ∙ ap (λ (z : List ℕ). g z r) (sym given)
+element_passed f g go part u r (inr (inl (letter, c, given, p, e))) =
+    ap (λ (z : List ℕ). f m.Plain (z ++ r)) e ∙ go.0 m.Plain m.Escape 92 (letter ∷ r) step_slash ∙ go.1 m.Escape letter c r (step_short letter c p)
+    ∙ ap (λ (z : List ℕ). g z r) (sym given)
+element_passed f g go part u r (inr (inr (inl (h, l, given, (x, y, e, p, (x2, y2, e2, (c, is, v, lt), (d, is2, v2, lt2))))))) =
     let text : u ≡ 92 ∷ c ∷ d ∷ [] = e ∙ ap (λ (z : List ℕ). z ++ y) p ∙ ap (λ (z : List ℕ). 92 ∷ z) (e2 ∙ ap (λ (z : List ℕ). z ++ y2) is ∙ ap (λ (z : List ℕ). c ∷ z) is2) in
-    ap (λ (z : List ℕ). string_in m.Plain (z ++ r)) text ∙ goes m.Plain 92 (c ∷ d ∷ r) _ step_slash ∙ goes m.Escape c (d ∷ r) _ (step_high c h v lt)
-    ∙ goes (m.Low h) d r _ (step_low h d l v2 lt2) ∙ ap (λ (z : List ℕ). giving z (string_in m.Plain r)) (sym g)
-element_more part u r (inr (inr (inr (ds, g, sc, (x, y, e, p, (x2, y2, e2, hd, last)))))) =
+    ap (λ (z : List ℕ). f m.Plain (z ++ r)) text ∙ go.0 m.Plain m.Escape 92 (c ∷ d ∷ r) step_slash ∙ go.0 m.Escape (m.Low h) c (d ∷ r) (step_high c h v lt)
+    ∙ go.1 (m.Low h) d (h * 16 + l) r (step_low h d l v2 lt2) ∙ ap (λ (z : List ℕ). g z r) (sym given)
+element_passed f g go part u r (inr (inr (inr (ds, given, sc, (x, y, e, p, (x2, y2, e2, hd, last)))))) =
     let text : u ≡ 92 ∷ 117 ∷ 123 ∷ x2 ++ 125 ∷ [] = e ∙ ap (λ (z : List ℕ). z ++ y) p ∙ ap (λ (z : List ℕ). 92 ∷ 117 ∷ 123 ∷ z) (e2 ∙ ap (λ (z : List ℕ). x2 ++ z) last) in
     let whole : u ++ r ≡ 92 ∷ 117 ∷ 123 ∷ x2 ++ 125 ∷ r = ap (λ (z : List ℕ). z ++ r) text ∙ ap (λ (z : List ℕ). 92 ∷ 117 ∷ 123 ∷ z) (append_assoc x2 (125 ∷ []) r) in
     let n : ℕ = fold next_capped 0 ds in
     let n-is : n ≡ value 16 ds = capped_value 0 ds ∙ scalar_kept (value 16 ds) sc in
     let scn : is_scalar n ≡ true = subst (λ (k : ℕ). is_scalar k ≡ true) (sym n-is) sc in
-    ap (string_in m.Plain) whole ∙ goes m.Plain 92 (117 ∷ 123 ∷ x2 ++ 125 ∷ r) _ step_slash ∙ goes m.Escape 117 (123 ∷ x2 ++ 125 ∷ r) _ step_u
-    ∙ goes m.Brace 123 (x2 ++ 125 ∷ r) _ step_brace ∙ string_digits 0 false ds x2 (125 ∷ r) hd ∙ goes (m.Digits n true) 125 r _ (step_end n scn)
-    ∙ ap (λ (z : List ℕ). giving z (string_in m.Plain r)) (ap encode_utf8 n-is ∙ sym g)
+    ap (f m.Plain) whole ∙ go.0 m.Plain m.Escape 92 (117 ∷ 123 ∷ x2 ++ 125 ∷ r) step_slash ∙ go.0 m.Escape m.Brace 117 (123 ∷ x2 ++ 125 ∷ r) step_u
+    ∙ go.0 m.Brace (m.Digits 0 false) 123 (x2 ++ 125 ∷ r) step_brace ∙ digits_passed f g go 0 false ds x2 (125 ∷ r) hd ∙ go.2 (m.Digits n true) 125 n r (step_end n scn)
+    ∙ ap (λ (z : List ℕ). g z r) (ap encode_utf8 n-is ∙ sym given)
+
+pub element_more : (part u r : List ℕ) → Element part u → string_in m.Plain (u ++ r) ≡ giving part (string_in m.Plain r)
+element_more = element_passed string_in (λ part r. giving part (string_in m.Plain r))
+    ((λ mode next c b e. goes mode c b (On next) e), (λ mode c x b e. goes mode c b (Byte x) e), (λ mode c n b e. goes mode c b (Scalar n) e))
 
 pub body_more : (parts : List (List ℕ)) (t r : List ℕ) → Each Element parts t → string_in m.Plain (t ++ 34 ∷ r) ≡ Some (joined parts, r)
 body_more [] t r e = ap (λ (z : List ℕ). string_in m.Plain (z ++ 34 ∷ r)) e ∙ goes m.Plain 34 r _ step_quote
@@ -328,6 +340,23 @@ pub rest_bad : (mode : Mode) (c : ℕ) (b : List ℕ) → Bad ≡ string_step mo
 rest_bad mode c b e = ap rest_of (at_step mode c b Bad e)
 
 pub ruleset rest_laws = (rest_on, rest_byte, rest_scalar, rest_end, rest_bad)
+
+why_goes : (mode : Mode) (c : ℕ) (b : List ℕ) (s : Step) → s ≡ string_step mode c → why_in mode (c ∷ b) ≡ why_next mode s (λ n. why_in n b)
+why_goes mode c b s e = ap (λ (x : Step). why_next mode x (λ n. why_in n b)) (sym e)
+
+pub why_on : (mode next : Mode) (c : ℕ) (b : List ℕ) → On next ≡ string_step mode c → why_in mode (c ∷ b) ≡ why_in next b
+why_on mode next c b e = why_goes mode c b (On next) e
+
+pub why_byte : (mode : Mode) (c x : ℕ) (b : List ℕ) → Byte x ≡ string_step mode c → why_in mode (c ∷ b) ≡ why_in m.Plain b
+why_byte mode c x b e = why_goes mode c b (Byte x) e
+
+pub why_scalar : (mode : Mode) (c x : ℕ) (b : List ℕ) → Scalar x ≡ string_step mode c → why_in mode (c ∷ b) ≡ why_in m.Plain b
+why_scalar mode c x b e = why_goes mode c b (Scalar x) e
+
+pub why_bad : (mode : Mode) (c : ℕ) (b : List ℕ) → Bad ≡ string_step mode c → why_in mode (c ∷ b) ≡ bad_in mode
+why_bad mode c b e = why_goes mode c b Bad e
+
+pub ruleset why_laws = (why_on, why_byte, why_scalar, why_bad)
 
 given_goes : (mode : Mode) (c : ℕ) (b : List ℕ) (s : Step) → s ≡ string_step mode c → given_in mode (c ∷ b) ≡ given_next s (λ n. given_in n b)
 given_goes mode c b s e = ap (λ (x : Step). given_next x (λ n. given_in n b)) (sym e)

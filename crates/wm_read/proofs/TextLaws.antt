@@ -23,7 +23,11 @@ given p s text m t e = (lexed text, t, found p (map (replaced s) (lexed text)) m
 
 fails_none : {Y : Type 0} (w : TextWhy) (read : Option Y) → Fails w read → w ≢ why.Memory → read ≡ None
 fails_none why.Memory read h n = absurd (n refl)
-fails_none why.NotUtf8 read h n = h
+fails_none why.NotUtf8 read h n = absurd h
+fails_none why.BadToken read h n = absurd h
+fails_none why.OpenComment read h n = absurd h
+fails_none why.OpenString read h n = absurd h
+fails_none why.BadEscape read h n = absurd h
 fails_none _ read h n = h
 
 pub refused : (p : Profile) (s : Spellings) (text : List ℕ) (w v : TextWhy) → Tokens text (lexed text) → Fails w (module_at p (map (replaced s) (lexed text))) → v ≡ w

@@ -1,5 +1,5 @@
 -- Why a text is refused: the printed words, and which of them the tokens of a text can give.
-use Rattle.std.specs.Prelude.{◌≡◌, ◌⊎◌, ℕ, List, codes}
+use Rattle.std.specs.Prelude.{ℕ, List, codes}
 use Rattle.wm_read.specs.declared.faults.TextWhy.{TextWhy}
 use Rattle.wm_read.specs.declared.faults.TextWhy.TheVariants.{NotUtf8, BadToken, OpenComment, OpenString}
 use Rattle.wm_read.specs.declared.faults.TextWhy.TheVariants.{BadEscape, Expected, UnknownWord, BadInteger}
@@ -30,19 +30,3 @@ name_of LabelEnd = codes "LabelEnd"
 name_of TooManyLocals = codes "TooManyLocals"
 name_of Float = codes "Float"
 name_of Memory = codes "Memory"
-
--- the refusals of tokens in a text that is UTF-8
-abbrev pub IsOfTokens : TextWhy → Type 0
-IsOfTokens BadToken = Unit {0}
-IsOfTokens OpenComment = Unit {0}
-IsOfTokens OpenString = Unit {0}
-IsOfTokens BadEscape = Unit {0}
-IsOfTokens _ = ⊥
-
--- what is missing would stand at the end of the text
-abbrev pub IsOfTheEnd : TextWhy → Type 0
-IsOfTheEnd why = (why ≡ OpenComment) ⊎ (why ≡ OpenString)
-
--- an atom or a string is wrong
-abbrev pub IsOfAToken : TextWhy → Type 0
-IsOfAToken why = (why ≡ BadToken) ⊎ (why ≡ BadEscape)

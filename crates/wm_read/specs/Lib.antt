@@ -2,6 +2,7 @@ pub mod Faults
 pub mod Fields
 pub mod Identifiers
 pub mod Spellings
+pub mod TokenFaults
 pub mod Tokens
 pub mod Written
 pub mod exact

@@ -162,8 +162,3 @@ AreTokens (t ∷ k) =
 -- strings alone.
 abbrev pub Tokens : List ℕ → List Token → Type 0
 Tokens text k = IsUtf8 text × AreTokens k text
-
--- neither white space nor a token begins here
-abbrev pub BeginsNothing : List ℕ → Type 0
-BeginsNothing b = (part rest : List ℕ) → b ≡ part ++ rest → (Blank part → ⊥)
-    × ((t : Token) → TokenText t part → Ends t rest → ⊥)

@@ -1,16 +1,20 @@
 //! Whole texts (section 6.6.13).
 
-ghost use Rattle.std.specs.Prelude.{◌≡◌, ◌≢◌, ◌≤◌, IfErr, IfOk, IfSome, List, length, map};
+ghost use Rattle.std.specs.Prelude.{◌≡◌, ◌≢◌, ◌≤◌, ◌↔◌, IfErr, IfOk, IsUtf8, List, length, map, true};
+ghost use Rattle.std.specs.Str.{IsValidUpTo};
 ghost use Rattle.wm_read.specs.Fields.{Writes};
 ghost use Rattle.wm_read.specs.Spellings.{replaced};
+ghost use Rattle.wm_read.specs.TokenFaults.{TellsFault};
 ghost use Rattle.wm_read.specs.Tokens.{Token, Tokens};
-ghost use Rattle.wm_read.specs.declared.faults.TextWhy.TheVariants.{Memory};
+ghost use Rattle.wm_read.specs.declared.faults.TextWhy.TheVariants.{Memory, NotUtf8};
 ghost use Rattle.wm_read.specs.exact.Scan.{lexed};
 ghost use Rattle.wm_read.specs.exact.TextModules as modules;
 ghost use Rattle.wm_read.specs.inner.Blocks.{names_of};
 ghost use Rattle.wm_read.specs.inner.Views.{Reads};
 ghost use Rattle.wm_syntax.specs.Modules as values;
+ghost use Rattle.wm_syntax.specs.Profiles.{has};
 ghost use Rattle.wm_syntax.specs.Values.{value_of};
+ghost use Rattle.wm_syntax.specs.declared.profile.Feature.TheVariants.{Floats};
 
 use crate::code::operands::{close, id, open, refuse, word};
 use crate::faults::{TextFault, TextRefusal, TextWhy};
@@ -19,8 +23,7 @@ use crate::names::heads::read_heads;
 use crate::names::identifiers::Names;
 use crate::renewed::renewed;
 use crate::spellings::Spellings;
-use crate::tokens::lexeme::{Lexeme, check_tokens, next_token, skip_space};
-use crate::tokens::scan::is_float_alone;
+use crate::tokens::lexeme::{check_tokens, first_float, next_token};
 use std::alloc::Global;
 use wm_syntax::modules::Module;
 use wm_syntax::profile::{Feature, Profile};
@@ -115,14 +118,21 @@ pub fn read_text(
     ensures refused { IfErr result (λ e. e.why ≢ Memory → (k : List Token) (m : values.Module)
         → Tokens text.now k → Writes profile (map (replaced spellings) k) m → ⊥) }
     ensures at { IfErr result (λ e. e.at ≤ length text.now) }
+    ensures utf8 { IfErr result (λ e. (e.why ≡ NotUtf8) ↔ (¬ (IsUtf8 text.now))) }
+    ensures utf8_at { IfErr result (λ e. e.why ≡ NotUtf8 → IsValidUpTo text.now e.at) }
+    ensures fault { IfErr result (λ e. e.why ≢ Memory
+        → TellsFault (has profile Floats) text.now e.why e.at) }
 {
-    match read_tokens(alloc, profile, spellings, text) {
-        Ok(module) => Ok(module),
-        Err(refusal) => Err(told_first(profile, text, refusal)),
+    match check_tokens(text) {
+        Ok(()) => read_tokens(alloc, profile, spellings, text),
+        Err(refusal) => match refusal.why {
+            TextWhy::NotUtf8 => Err(refusal),
+            _ => Err(told_first(profile, text, refusal)),
+        },
     }
 }
 
-/// The same, where a float is a token under each profile.
+/// The same of a text that has tokens, where a float is a token under each profile.
 #[tactic(auto, using(crate::proofs::TextLaws::text_laws))]
 fn read_tokens(
     alloc: Global,
@@ -130,31 +140,38 @@ fn read_tokens(
     spellings: Spellings,
     text: &[u8],
 ) -> Result<Module, TextRefusal>
+    requires { Tokens text.now (lexed text.now) }
     ensures written { IfOk result (λ m. (k : List Token) × Tokens text.now k
         × Writes profile (map (replaced spellings) k) (value_of m)) }
     ensures refused { IfErr result (λ e. e.why ≢ Memory → (k : List Token) (m : values.Module)
         → Tokens text.now k → Writes profile (map (replaced spellings) k) m → ⊥) }
     ensures at { IfErr result (λ e. e.at ≤ length text.now) }
+    ensures fault { IfErr result (λ e. e.why ≢ Memory
+        → TellsFault (has profile Floats) text.now e.why e.at) }
+    ensures utf8 { IfErr result (λ e. e.why ≢ NotUtf8) }
 {
-    check_tokens(text)?;
     match read_spelled(alloc, profile, spellings, text) {
-        Ok(read) => Ok(read),
-        Err(fault) => Err(fault.refusal(text)),
+        Ok(module) => Ok(module),
+        Err(fault) => Err(told_first(profile, text, fault.refusal(text))),
     }
 }
 
-/// What is told of a text that is refused. Where the profile has no floats, a literal such as `1.5` is no
-/// token, so the first one is told before all else but bytes that are no UTF-8.
+/// What is told of a text that is UTF-8 and refused. Where the profile has no floats, a literal such as `1.5`
+/// is no token, so the first one is told before all else.
 fn told_first(profile: Profile, text: &[u8], refusal: TextRefusal) -> TextRefusal
-    requires { refusal.at ≤ length text.now }
+    requires at { refusal.at ≤ length text.now }
+    requires utf8 { IsUtf8 text.now }
+    requires fault { TellsFault true text.now refusal.why refusal.at }
     ensures at { result.at ≤ length text.now }
     ensures memory { refusal.why ≡ Memory → result.why ≡ Memory }
+    ensures utf8 { refusal.why ≢ NotUtf8 → result.why ≢ NotUtf8 }
+    ensures fault { result.why ≢ Memory → TellsFault (has profile Floats) text.now result.why result.at }
 {
     if profile.has(Feature::Floats) {
         return refusal;
     }
     match refusal.why {
-        TextWhy::Memory | TextWhy::NotUtf8 => refusal,
+        TextWhy::Memory => refusal,
         _ => match first_float(text) {
             Some(at) => TextRefusal {
                 at,
@@ -163,20 +180,6 @@ fn told_first(profile: Profile, text: &[u8], refusal: TextRefusal) -> TextRefusa
             None => refusal,
         },
     }
-}
-
-/// Where the first literal stands that is a token only as a float, before any fault of the tokens.
-fn first_float(text: &[u8]) -> Option<usize>
-    ensures { IfSome result (λ at. at ≤ length text.now) }
-{
-    let mut rest = skip_space(text);
-    while let Some((token, more)) = next_token(rest) {
-        if matches!(token, Lexeme::Atom(atom) if is_float_alone(atom)) {
-            return Some(text.len() - rest.len());
-        }
-        rest = skip_space(more);
-    }
-    None
 }
 
 #[cfg(test)]

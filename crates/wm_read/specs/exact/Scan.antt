@@ -5,6 +5,8 @@ use Rattle.std.specs.Option.{option_map}
 use Rattle.wm_read.specs.Tokens.{Token, open_paren, close_paren, string, atom, is_space, is_id_char, is_lower}
 use Rattle.wm_read.specs.Tokens.{is_plain, is_scalar, digit_value}
 use Rattle.wm_floats.specs.exact.Atoms.{has_form}
+use Rattle.wm_read.specs.declared.faults.TextWhy.{TextWhy}
+use Rattle.wm_read.specs.declared.faults.TextWhy.TheVariants.{BadToken, OpenComment, OpenString, BadEscape}
 use Rattle.wm_read.specs.declared.tokens.scan.Class.{Class}
 use Rattle.wm_read.specs.declared.tokens.scan.Class.TheVariants.{Space, Semicolon, Opening, Closing}
 use Rattle.wm_read.specs.declared.tokens.scan.Class.TheVariants.{Quote, Atom}
@@ -147,6 +149,12 @@ is_atom [] = false
 is_atom (c ∷ b) = if c == 36 then not (is_nil b) else if is_lower c then true
     else if is_number (c ∷ b) then true else is_literal (c ∷ b)
 
+-- an atom that is one only for being a float
+abbrev pub is_float_alone : List ℕ → Bool
+is_float_alone [] = false
+is_float_alone (c ∷ b) = if c == 36 then false else if is_lower c then false
+    else is_literal (c ∷ b) && not (is_number (c ∷ b))
+
 -- what stands first
 pub data Ahead : Type 0 where
   no_more : Ahead
@@ -241,3 +249,30 @@ rest_of (Some x) = Some x.1
 abbrev pub starts_atom : List ℕ → Type 0
 starts_atom [] = ⊥
 starts_atom (c ∷ b) = class_of c ≡ Atom
+
+-- what a byte that can't stand in a string is called
+abbrev pub bad_in : Mode → TextWhy
+bad_in Plain = BadToken
+bad_in _ = BadEscape
+
+-- what the fault of the rest of a string is called, where it has one
+abbrev pub why_next : Mode → Step → (Mode → TextWhy) → TextWhy
+why_next mode (On next) more = more next
+why_next mode (Byte byte) more = more Plain
+why_next mode (Scalar n) more = more Plain
+why_next mode End more = BadToken
+why_next mode Bad more = bad_in mode
+
+abbrev pub why_in : Mode → List ℕ → TextWhy
+why_in mode [] = OpenString
+why_in mode (c ∷ b) = why_next mode (string_step mode c) (λ m. why_in m b)
+
+-- what a fault that stands first is called
+abbrev pub told_by : Class → List ℕ → TextWhy
+told_by Opening b = OpenComment
+told_by Quote b = why_in Plain b
+told_by _ b = BadToken
+
+unfoldable pub told : List ℕ → TextWhy
+told [] = BadToken
+told (c ∷ b) = told_by (class_of c) b

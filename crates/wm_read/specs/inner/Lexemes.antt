@@ -1,9 +1,9 @@
 -- The values of the code, without where they lie in memory.
-use Rattle.std.specs.Prelude.{◌<◌, ◌≤◌, ℕ, List, IsTrue}
-use Rattle.wm_read.specs.Faults.{IsOfTokens}
+use Rattle.std.specs.Prelude.{◌≡◌, ◌<◌, ◌≤◌, ℕ, List, IsTrue}
 use Rattle.wm_read.specs.Tokens.{Token, open_paren, close_paren, string, atom, is_scalar}
 use Rattle.wm_read.specs.exact.Scan.{CommentPart, close, opening, on, over, Ahead, no_more, blank, first}
 use Rattle.wm_read.specs.exact.Scan.{fault, given_in}
+use Rattle.wm_read.specs.declared.faults.TextWhy.{TextWhy}
 use Rattle.wm_read.specs.declared.tokens.scan.Part.{Part}
 use Rattle.wm_read.specs.declared.tokens.scan.Part.TheVariants as p
 use Rattle.wm_read.specs.declared.tokens.scan.Mode.{Mode}
@@ -38,10 +38,10 @@ ahead_of (Blank b) = blank b.now
 ahead_of (First t b) = first (token_of t) b.now
 ahead_of (Fault w) = fault
 
--- a fault is one that tokens can have
-abbrev pub FaultOfTokens : Found → Type 0
-FaultOfTokens (Fault why) = IsOfTokens why
-FaultOfTokens _ = Unit {0}
+-- a fault has this name
+abbrev pub IsTold : TextWhy → Found → Type 0
+IsTold why (Fault w) = w ≡ why
+IsTold why _ = Unit {0}
 
 -- what the code's numbers keep to
 abbrev pub IsMode : Mode → Type 0

@@ -9,7 +9,7 @@ ghost use Rattle.wm_read.specs.exact.Scan.{lexed};
 ghost use Rattle.wm_read.specs.inner.Blocks.{names_of};
 ghost use Rattle.wm_read.specs.inner.Fields.{head_at};
 ghost use Rattle.wm_read.specs.inner.Named.{named_list, named_of, params_of};
-ghost use Rattle.wm_read.specs.inner.Views.{IsRefusal, Reads};
+ghost use Rattle.wm_read.specs.inner.Views.{IsOfReaders, NotMemory, Reads};
 
 use crate::code::bodies::read_body;
 use crate::code::named;
@@ -186,8 +186,10 @@ fn earlier(
 
 /// An identifier that comes again is a fault before this one, and so is a local too many, where it stands
 /// before it. The text begins with the type use.
+#[tactic(auto, using(crate::proofs::FunctionCode::earlier_read))]
 fn first_fault(alloc: Global, names: &Names, fault: TextFault, text: &[u8]) -> TextFault
-    ensures { IsRefusal result.why → IsRefusal fault.why }
+    ensures memory { NotMemory result.why → NotMemory fault.why }
+    ensures readers { IsOfReaders fault.why → IsOfReaders result.why }
 {
     if fault.why == TextWhy::Memory {
         return fault;

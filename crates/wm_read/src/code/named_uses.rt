@@ -1,13 +1,13 @@
 //! Type uses of functions and imports (section 6.6.3), whose parameters may have identifiers.
 
-ghost use Rattle.std.specs.Prelude.{◌≡◌, ◌++◌, IfOk, OnOk, replicate};
+ghost use Rattle.std.specs.Prelude.{◌≡◌, ◌++◌, IfErr, IfOk, OnOk, replicate};
 ghost use Rattle.std.specs.Option.{option_map};
 ghost use Rattle.wm_read.specs.Written as written;
 ghost use Rattle.wm_read.specs.exact.NamedUses as uses;
 ghost use Rattle.wm_read.specs.exact.Scan.{lexed};
 ghost use Rattle.wm_read.specs.inner.Blocks.{names_of};
 ghost use Rattle.wm_read.specs.inner.Named.{named_list, params_of};
-ghost use Rattle.wm_read.specs.inner.Views.{IsRefusal, Reads};
+ghost use Rattle.wm_read.specs.inner.Views.{IsOfReaders, IsRefusal, NotMemory, Reads};
 
 use crate::code::named;
 use crate::code::named::NamedRun;
@@ -133,21 +133,29 @@ pub(crate) fn call_fault(
     fault: TextFault,
     text: &[u8],
 ) -> TextFault
-    ensures { IsRefusal result.why → IsRefusal fault.why }
+    ensures memory { NotMemory result.why → NotMemory fault.why }
+    ensures readers { IsOfReaders fault.why → IsOfReaders result.why }
 {
     if fault.why == TextWhy::Memory {
         return fault;
     }
-    let with_ids = match named_use(alloc, profile, names, false, text) {
-        Ok((_used, rest)) => no_form(rest),
-        Err(other) => Err(other),
-    };
-    match with_ids {
+    match with_ids(alloc, profile, names, text) {
         Err(other) if other.why == TextWhy::Memory || other.left >= fault.left => other,
         _ => TextFault {
             why: TextWhy::TypeUse,
             left: fault.left,
         },
+    }
+}
+
+/// The same type use, with identifiers at its parameters.
+#[tactic(auto, using(crate::proofs::Groups::fails_read, crate::proofs::Groups::expected_read))]
+fn with_ids(alloc: Global, profile: Profile, names: &Names, text: &[u8]) -> Result<(), TextFault>
+    ensures { IfErr result (λ e. IsOfReaders e.why) }
+{
+    match named_use(alloc, profile, names, false, text) {
+        Ok((_used, rest)) => no_form(rest),
+        Err(other) => Err(other),
     }
 }
 

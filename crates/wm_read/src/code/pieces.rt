@@ -234,6 +234,7 @@ fn constant_f64(alloc: Global, text: &[u8]) -> Result<(Piece, &[u8]), TextFault>
 }
 
 /// What follows the word of a call_indirect.
+#[tactic(auto, using(crate::proofs::Groups::fails_read, crate::proofs::FunctionCode::fails_carried))]
 fn indirect<'a>(
     alloc: Global,
     profile: Profile,

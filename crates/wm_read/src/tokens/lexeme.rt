@@ -1,21 +1,21 @@
 //! The tokens of a text (sections 6.2 and 6.3), one at a time.
 
-ghost use Rattle.std.specs.Prelude.{◌≡◌, ◌<◌, ◌≤◌, length, MatchOption, MatchResult, true, false, OnOk};
+ghost use Rattle.std.specs.Prelude.{◌≡◌, ◌≢◌, ◌<◌, ◌≤◌, length, MatchOption, MatchResult, true, false, OnOk};
 ghost use Rattle.std.specs.Prelude.{OnErr, IfSome, IfErr, IsUtf8, ◌↔◌, ◌⊎◌, take, drop, List, [], ◌∷◌, ◌++◌};
 ghost use Rattle.std.specs.Prelude.{IsTrue, IfOk, encode_utf8};
 ghost use Rattle.std.specs.Str.{IsValidUpTo};
 ghost use Rattle.wm_read.specs.exact.Scan as scan;
-ghost use Rattle.wm_read.specs.Faults.{IsOfAToken, IsOfTheEnd, IsOfTokens};
+ghost use Rattle.wm_read.specs.TokenFaults.{FirstFault, IsPlace};
 ghost use Rattle.wm_read.specs.Tokens as tokens;
-ghost use Rattle.wm_read.specs.declared.faults.TextWhy.TheVariants.{NotUtf8};
+ghost use Rattle.wm_read.specs.declared.faults.TextWhy.TheVariants.{NotUtf8, BadToken, OpenComment};
 ghost use Rattle.wm_read.specs.declared.tokens.scan.Mode.TheVariants as mode;
-ghost use Rattle.wm_read.specs.inner.Lexemes.{token_of, bytes_of, ahead_of, FaultOfTokens};
-ghost use Rattle.wm_read.specs.inner.Places.{Before, IsPlace};
+ghost use Rattle.wm_read.specs.inner.Lexemes.{token_of, bytes_of, ahead_of, IsTold};
+ghost use Rattle.wm_read.specs.inner.Places.{HasNoFloat, IsFault, IsFloat, Steps};
 
 use crate::faults::{TextRefusal, TextWhy};
 use crate::tokens::scan::{
     Class, Mode, Step, after_comment, after_line, after_spaces, after_string, atom_len, class_of,
-    given_first, is_atom, plain_atom, string_step,
+    given_first, is_atom, is_float_alone, plain_atom, string_step,
 };
 use crate::tokens::stretches::after_stretches;
 use std::alloc::{AllocError, Global};
@@ -46,10 +46,10 @@ pub enum Found<'a> {
 
 /// What stands first.
 #[inline(always)]
-#[tactic(auto, unfolding(crate::specs::exact::Scan::ahead))]
+#[tactic(auto, unfolding(crate::specs::exact::Scan::ahead, crate::specs::exact::Scan::told))]
 pub fn ahead(text: &[u8]) -> Found
     ensures found { ahead_of result ≡ scan.ahead text.now }
-    ensures why { FaultOfTokens result }
+    ensures why { IsTold (scan.told text.now) result }
 {
     match text {
         [] => Found::Nothing,
@@ -68,7 +68,7 @@ pub fn ahead(text: &[u8]) -> Found
 /// What stands first where a semicolon does, from the text after it.
 fn semicolon(text: &[u8]) -> Found
     ensures found { ahead_of result ≡ scan.ahead_semicolon text.now }
-    ensures why { FaultOfTokens result }
+    ensures why { IsTold BadToken result }
 {
     match text {
         [d, line @ ..] => {
@@ -85,7 +85,7 @@ fn semicolon(text: &[u8]) -> Found
 /// What stands first where an opening parenthesis does, from the text after it.
 fn opening(text: &[u8]) -> Found
     ensures found { ahead_of result ≡ scan.ahead_opening text.now }
-    ensures why { FaultOfTokens result }
+    ensures why { IsTold OpenComment result }
 {
     match text {
         [d, inner @ ..] => {
@@ -106,7 +106,7 @@ fn opening(text: &[u8]) -> Found
 #[tactic(auto, using(crate::proofs::Strings::string_laws))]
 fn quote(text: &[u8]) -> Found
     ensures found { ahead_of result ≡ scan.string_or_fault (scan.string_in mode.Plain text.now) }
-    ensures why { FaultOfTokens result }
+    ensures why { IsTold (scan.why_in mode.Plain text.now) result }
 {
     match after_string(text) {
         Ok(rest) => {
@@ -121,7 +121,7 @@ fn quote(text: &[u8]) -> Found
 fn atom(text: &[u8]) -> Found
     requires { scan.starts_atom text.now }
     ensures found { ahead_of result ≡ scan.ahead text.now }
-    ensures why { FaultOfTokens result }
+    ensures why { IsTold BadToken result }
 {
     let (atom, rest) = text.split_at(atom_len(text));
     if is_atom(atom) {
@@ -226,6 +226,37 @@ fn any_token(text: &[u8]) -> Option<(Lexeme, &[u8])>
     }
 }
 
+/// What stands first; most that is asked for here is a plain atom, which is found with no call.
+fn first_found(text: &[u8]) -> Found
+    ensures { ahead_of result ≡ scan.ahead text.now }
+{
+    match plain_atom(text) {
+        Some((atom, more)) => Found::First(Lexeme::Atom(atom), more),
+        None => ahead(text),
+    }
+}
+
+/// Where the first literal stands that is a token only as a float, before any fault of the tokens.
+#[tactic(auto, using(crate::proofs::Places::float_laws))]
+pub(crate) fn first_float(text: &[u8]) -> Option<usize>
+    ensures { MatchOption result (HasNoFloat text.now) (λ at. IsFloat text.now at) }
+{
+    let mut rest = after_spaces(text);
+    loop {
+        match first_found(rest) {
+            Found::Nothing | Found::Fault(_) => return None,
+            Found::Blank(more) => rest = after_spaces(more),
+            Found::First(Lexeme::Atom(atom), more) => {
+                if is_float_alone(atom) {
+                    return Some(text.len() - rest.len());
+                }
+                rest = after_spaces(more);
+            }
+            Found::First(_, more) => rest = after_spaces(more),
+        }
+    }
+}
+
 /// A text from its first token on.
 #[tactic(auto, using(crate::proofs::Whole::ahead_laws))]
 pub fn skip_space(text: &[u8]) -> &[u8]
@@ -251,14 +282,10 @@ pub fn skip_space(text: &[u8]) -> &[u8]
 pub fn check_tokens(text: &[u8]) -> Result<(), TextRefusal>
     ensures ok { OnOk result (tokens.Tokens text.now (scan.lexed text.now)) }
     ensures err { OnErr result ((k : List tokens.Token) → tokens.Tokens text.now k → ⊥) }
-    ensures why { IfErr result (λ e. (e.why ≡ NotUtf8) ⊎ IsOfTokens e.why) }
     ensures utf8 { IfErr result (λ e. (e.why ≡ NotUtf8) ↔ (¬ (IsUtf8 text.now))) }
+    ensures fault { IfErr result (λ e. e.why ≢ NotUtf8 → FirstFault true text.now e.why e.at) }
     ensures at { IfErr result (λ e. e.at ≤ length text.now) }
     ensures utf8_at { IfErr result (λ e. e.why ≡ NotUtf8 → IsValidUpTo text.now e.at) }
-    ensures end_at { IfErr result (λ e. IsOfTheEnd e.why → e.at ≡ length text.now) }
-    ensures token_at { IfErr result (λ e. IsOfAToken e.why
-        → ((k : List tokens.Token) × tokens.AreTokens k (take e.at text.now))
-        × tokens.BeginsNothing (drop e.at text.now)) }
 {
     match std::str::from_utf8(text) {
         Ok(_) => check_whole(text),
@@ -270,12 +297,11 @@ pub fn check_tokens(text: &[u8]) -> Result<(), TextRefusal>
 }
 
 /// Whether a whole text is made of tokens.
-#[tactic(auto, using(crate::proofs::Whole::stand_laws, crate::proofs::Places::place_laws, crate::proofs::Stretches::kept_laws))]
+#[tactic(auto, using(crate::proofs::Whole::stand_laws, crate::proofs::Places::step_laws, crate::proofs::Stretches::kept_laws))]
 fn check_whole(text: &[u8]) -> Result<(), TextRefusal>
     ensures tokens { MatchResult result (λ _. scan.has_tokens text.now ≡ true)
         (λ _. scan.has_tokens text.now ≡ false) }
-    ensures why { IfErr result (λ e. IsOfTokens e.why) }
-    ensures at { IfErr result (λ e. IsPlace text.now e) }
+    ensures fault { IfErr result (λ e. IsFault text.now e) }
 {
     let mut rest = after_stretches(text);
     loop {
@@ -293,12 +319,11 @@ fn check_whole(text: &[u8]) -> Result<(), TextRefusal>
 }
 
 /// The fault of what stands first in the rest of a text.
-#[tactic(auto, using(crate::proofs::Places::fault_laws))]
+#[tactic(auto, using(crate::proofs::Places::place_front))]
 fn fault(text: &[u8], rest: &[u8], why: TextWhy) -> TextRefusal
-    requires before { Before text.now rest.now }
-    requires none { scan.fault ≡ scan.ahead rest.now }
+    requires within { length rest.now ≤ length text.now }
     ensures why { result.why ≡ why }
-    ensures at { IsPlace text.now result }
+    ensures at { IsPlace why text.now rest.now result.at }
 {
     let at = match why {
         TextWhy::OpenComment | TextWhy::OpenString => text.len(),

@@ -5,7 +5,6 @@ ghost use Rattle.std.specs.Prelude.{IfSome, IfErr, MatchResult, ◌*◌, ◌<◌
 ghost use Rattle.std.specs.Option.{option_map};
 ghost use Rattle.wm_read.specs.exact.Scan as scan;
 ghost use Rattle.wm_read.specs.declared.tokens.scan.Mode.TheVariants.{Plain, Escape, Digits};
-ghost use Rattle.wm_read.specs.Faults.{IsOfTokens};
 ghost use Rattle.wm_read.specs.Tokens as tokens;
 ghost use Rattle.wm_read.specs.inner.Lexemes.{part_of, IsMode, IsStep};
 
@@ -371,10 +370,11 @@ fn is_scalar(n: u32) -> bool
 /// The byte that stands first in a string, and what follows it; none where something else stands there, or an
 /// escape of more than three characters.
 #[inline(always)]
-#[tactic(auto, using(crate::proofs::Strings::rest_laws, crate::proofs::Strings::given_laws))]
+#[tactic(auto, using(crate::proofs::Strings::rest_laws, crate::proofs::Strings::why_laws, crate::proofs::Strings::given_laws))]
 pub fn given_first(text: &[u8]) -> Option<(u8, &[u8])>
     ensures rest { IfSome result (λ x. scan.rest_of (scan.string_in Plain text.now)
         ≡ scan.rest_of (scan.string_in Plain x.1.now)) }
+    ensures why { IfSome result (λ x. scan.why_in Plain text.now ≡ scan.why_in Plain x.1.now) }
     ensures given { IfSome result (λ x. scan.given_in Plain text.now ≡ x.0 ∷ scan.given_in Plain x.1.now) }
     ensures shorter { IfSome result (λ x. length x.1.now < length text.now) }
 {
@@ -390,11 +390,12 @@ pub fn given_first(text: &[u8]) -> Option<(u8, &[u8])>
 
 /// The same within an escape, behind its first character.
 #[inline(always)]
-#[tactic(auto, using(crate::proofs::Strings::rest_laws, crate::proofs::Strings::given_laws))]
+#[tactic(auto, using(crate::proofs::Strings::rest_laws, crate::proofs::Strings::why_laws, crate::proofs::Strings::given_laws))]
 fn given_within(mode: Mode, text: &[u8]) -> Option<(u8, &[u8])>
     requires { IsMode mode }
     ensures rest { IfSome result (λ x. scan.rest_of (scan.string_in mode text.now)
         ≡ scan.rest_of (scan.string_in Plain x.1.now)) }
+    ensures why { IfSome result (λ x. scan.why_in mode text.now ≡ scan.why_in Plain x.1.now) }
     ensures given { IfSome result (λ x. scan.given_in mode text.now ≡ x.0 ∷ scan.given_in Plain x.1.now) }
     ensures shorter { IfSome result (λ x. length x.1.now < length text.now) }
 {
@@ -410,11 +411,12 @@ fn given_within(mode: Mode, text: &[u8]) -> Option<(u8, &[u8])>
 
 /// The same behind the second character of an escape.
 #[inline(always)]
-#[tactic(auto, using(crate::proofs::Strings::rest_laws, crate::proofs::Strings::given_laws))]
+#[tactic(auto, using(crate::proofs::Strings::rest_laws, crate::proofs::Strings::why_laws, crate::proofs::Strings::given_laws))]
 fn given_last(mode: Mode, text: &[u8]) -> Option<(u8, &[u8])>
     requires { IsMode mode }
     ensures rest { IfSome result (λ x. scan.rest_of (scan.string_in mode text.now)
         ≡ scan.rest_of (scan.string_in Plain x.1.now)) }
+    ensures why { IfSome result (λ x. scan.why_in mode text.now ≡ scan.why_in Plain x.1.now) }
     ensures given { IfSome result (λ x. scan.given_in mode text.now ≡ x.0 ∷ scan.given_in Plain x.1.now) }
     ensures shorter { IfSome result (λ x. length x.1.now < length text.now) }
 {
@@ -431,6 +433,7 @@ fn given_last(mode: Mode, text: &[u8]) -> Option<(u8, &[u8])>
 fn after_given(text: &[u8]) -> &[u8]
     ensures rest { scan.rest_of (scan.string_in Plain result.now)
         ≡ scan.rest_of (scan.string_in Plain text.now) }
+    ensures why { scan.why_in Plain result.now ≡ scan.why_in Plain text.now }
     ensures within { length result.now ≤ length text.now }
 {
     let mut rest = text;
@@ -442,11 +445,11 @@ fn after_given(text: &[u8]) -> &[u8]
 
 /// What stands behind a string (section 6.3.3), from the text after its quotation mark.
 #[inline(never)]
-#[tactic(auto, using(crate::proofs::Strings::rest_laws))]
+#[tactic(auto, using(crate::proofs::Strings::rest_laws, crate::proofs::Strings::why_laws))]
 pub fn after_string(text: &[u8]) -> Result<&[u8], TextWhy>
     ensures rest { MatchResult result (λ r. scan.rest_of (scan.string_in Plain text.now) ≡ Some r.now)
         (λ _. scan.rest_of (scan.string_in Plain text.now) ≡ None) }
-    ensures why { IfErr result IsOfTokens }
+    ensures why { IfErr result (λ w. w ≡ scan.why_in Plain text.now) }
 {
     let mut rest = after_given(text);
     let mut mode = Mode::Plain;
@@ -469,7 +472,7 @@ pub fn after_string(text: &[u8]) -> Result<&[u8], TextWhy>
 
 /// What a byte that can't stand in a string is called: outside of an escape it is a control character.
 fn bad_in(mode: Mode) -> TextWhy
-    ensures { IsOfTokens result }
+    ensures { result ≡ scan.bad_in mode }
 {
     match mode {
         Mode::Plain => TextWhy::BadToken,
@@ -618,9 +621,10 @@ fn is_literal(atom: &[u8]) -> bool
     }
 }
 
-/// Whether an atom is one only for being a float (section 6.3.2), and so none where there are no floats. It
-/// has no clause, since it decides only which name a refusal gets.
-pub(crate) fn is_float_alone(atom: &[u8]) -> bool {
+/// Whether an atom is one only for being a float (section 6.3.2), and so none where there are no floats.
+pub(crate) fn is_float_alone(atom: &[u8]) -> bool
+    ensures { result ≡ scan.is_float_alone atom.now }
+{
     match atom.first() {
         None | Some(b'$' | b'a'..=b'z') => false,
         Some(_) => is_literal(atom) && !is_number(atom),

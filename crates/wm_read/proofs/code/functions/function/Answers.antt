@@ -15,13 +15,13 @@ returns-in-None c =
     repeated_fails c.args.profile (names_of c.args.names.now) c.in-Ok.head.0.index (params_of c.in-Ok.head.0.params) (named_list c.in-Ok.head.1.items)
     (named_list c.deref.result.now) c.refuse-fault.result.why c.first_fault-in-None.result.why (lexed c.args.text.now) (lexed c.in-Ok.head.2.now)
     c.in-Ok.ensures (match_none c.in_ok-space.field-0 _ _ c.in-None.is c.in_ok-space.ensures) (ap named_list c.deref.ensures.value)
-    c.refuse-fault.ensures.why c.first_fault-in-None.ensures
+    c.refuse-fault.ensures.why c.first_fault-in-None.ensures.memory c.first_fault-in-None.ensures.readers
 
 pub returns-in-Err-local_types : goal.returns-in-Err-local_types
 returns-in-Err-local_types c =
     many_fails c.args.profile (names_of c.args.names.now) c.in-Ok.head.0.index (params_of c.in-Ok.head.0.params) (named_list c.in-Ok.head.1.items)
     (named_list c.deref-2.result.now) c.in-Err-local_types.fault.why c.first_fault-in-Err-local_types.result.why (lexed c.args.text.now) (lexed c.in-Ok.head.2.now)
-    c.in-Ok.ensures (ap named_list c.deref-2.ensures.value) c.in-Err-local_types.ensures.many c.first_fault-in-Err-local_types.ensures
+    c.in-Ok.ensures (ap named_list c.deref-2.ensures.value) c.in-Err-local_types.ensures.many c.first_fault-in-Err-local_types.ensures.memory c.first_fault-in-Err-local_types.ensures.readers
 
 pub returns-in_err-body : goal.returns-in_err-body
 returns-in_err-body c =
