@@ -1,6 +1,6 @@
 """Refuses each growth of a built program in turn: the first, the second, .. until a run meets none, once alone and once with all
 after it. Each such run of wmod ends with status 4, its one line and nothing written, or with the answer of ample memory. One of
-wm_rows ends with all answers of ample memory, or with status 1, its one line and some of these answers, each of them whole.
+wm_rows ends with all answers of ample memory, or with status 1, its one line and some of these answers, each of them whole. A name that lies whole in what wmod reads at once takes no growth: it is lent.
 
     .ci/growths.py PROGRAM       wmod or wm_rows, as it was built
 """
@@ -35,6 +35,9 @@ MODULES = {
 }
 TEXT = r'(module (memory $mem0 1) (data $mem0 (offset i32.const 0) "\00\u{e9}\""))'
 OLDER = "(module (type (func)) (memory 1) (func (type 0) (local i32) current_memory set_local 0))"
+
+# custom sections, of which the last has a name that is longer than what is read at once
+NAMES = [f"{HEAD} 00 {section}" for section in ("01 00", "04 03 61 62 63", "F3 A2 04 F0 A2 04 70000*{61}")]
 
 # for wm_rows: a module whose text, checked value and canonical binary are made, and a text. Each is also cut at every place
 ROWS = f"""canon {MODULES['a long number'].replace(HEAD, 'H')}
@@ -149,6 +152,17 @@ def swept(name, program, runs, kind_of_run, gives_back=False):
     return not wrong and asked > 0
 
 
+def is_name_lent(program):
+    """Whether a name that lies whole in what is read takes no growth, and one that does not takes some."""
+    if compiler() is None:
+        return True
+    with tempfile.TemporaryDirectory(prefix="growths-") as room:
+        refuser = Refuser(room)
+        without, whole, cut = (refuser.run(program, ["check"], bytes_of(module))[1] for module in NAMES)
+    print(f"growths of wmod, without a name, with one that lies whole and with one that is cut: {without}, {whole}, {cut}", flush=True)
+    return without == whole < cut
+
+
 def sweep(program):
     return swept("wmod", program, runs_of(program), kind_of)
 
@@ -161,4 +175,5 @@ if __name__ == "__main__":
     if len(sys.argv) != 2:
         sys.exit(__doc__)
     is_of_rows = os.path.basename(sys.argv[1]).startswith("wm_rows")
-    sys.exit(0 if (sweep_rows if is_of_rows else sweep)(sys.argv[1]) else 1)
+    trials = [sweep_rows] if is_of_rows else [sweep, is_name_lent]
+    sys.exit(0 if all([is_well(sys.argv[1]) for is_well in trials]) else 1)

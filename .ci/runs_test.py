@@ -131,6 +131,9 @@ def main():
         for name, deeper, wanted in (("a block is kept", KEEPS, False), ("all is given back", GIVES_BACK, True)):
             if growths.swept("a stand-in", built(room, RIGHT, deeper), [(["check"], b"")], growths.kind_of, gives_back=True) != wanted:
                 faults.append(f"growths.py and a stand-in of which all is to be given back: {name}")
+        for name, deeper, wanted in (("a name longer than a piece is lent", "", False), ("it is copied", "if (size > 9999) malloc(1);", True)):
+            if growths.is_name_lent(built(room, RIGHT, deeper)) != wanted:
+                faults.append(f"growths.py and a stand-in for names: {name}")
         # (no stand-in answers all that deep.py asks: what is looked at is how it ends)
         for name, deeper, wanted in (("nothing wrong", "", (0, b"valid\n")), ("it recurses", "nested(1000000);", (-11, b""))):
             if deep.run(built(room, RIGHT, deeper), "check", deep.DEEP) != wanted:
