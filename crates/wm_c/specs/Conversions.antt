@@ -7,6 +7,7 @@ use Rattle.wm_decode.specs.declared.refusal.Refusal.{Refusal}
 use Rattle.wm_rules.specs.declared.policy.Policy.{Policy}
 use Rattle.wm_rules.specs.inner.Validators.{verdict}
 use Rattle.wm_rules.specs.Loading.{Loads}
+use Rattle.wm_rules.specs.Meanings.{Meaning}
 use Rattle.wm_rules.specs.Policies.{Within}
 use Rattle.wm_rules.specs.Validation.{Valid}
 use Rattle.wm_write.specs.Canon.{Fits, canon}
@@ -15,6 +16,7 @@ use Rattle.wm_read.specs.declared.check.CheckFault.TheVariants as check
 use Rattle.wm_read.specs.declared.faults.TextWhy.TheVariants as text
 use Rattle.wm_read.specs.declared.spellings.Spellings.{Spellings}
 use Rattle.wm_read.specs.Spellings.{IsTextOf}
+use Rattle.wm_read.specs.TokenFaults.{TellsText}
 use Rattle.wm_c.specs.declared.output.Output.{Output}
 use Rattle.wm_c.specs.declared.output.Unbuilt.{Unbuilt}
 use Rattle.wm_c.specs.declared.output.Unbuilt.TheVariants.{TooLong, Text, Check}
@@ -99,18 +101,21 @@ pub record Builds (s : Spellings) (input : List ℕ) (p : Profile) (limit : ℕ)
   pub valid : Valid m
   pub within : Within q m
 
--- why a module has no canonical binary, or is none to be given: its refusal is that binary's
+-- why a module has no canonical binary, or is none to be given: its refusal is that binary's, of which what its
+-- name says is so
 abbrev pub IsUnchecked : Profile → Policy → Module → CheckFault → Type 0
 IsUnchecked p q m (check.Refused r) = (Valid m → Within q m → ⊥) × (r.why ≢ why.Memory)
-    × (verdict p (2 ^ 62) q (canon m) ≡ Err r) × (r.at ≤ length (canon m))
+    × (verdict p (2 ^ 62) q (canon m) ≡ Err r) × (r.at ≤ length (canon m)) × Meaning p (2 ^ 62) q (canon m) r
 IsUnchecked p q m check.TooLarge = Fits m → ⊥
 IsUnchecked p q m check.Memory = Unit {0}
 
--- Why a text has no binary, memory aside. One above the limit is refused for that alone.
+-- Why a text has no binary, memory aside. One above the limit is refused for that alone, and what is told of
+-- another says of its bytes and tokens what TellsText says.
 abbrev pub IsUnbuilt : Spellings → List ℕ → Profile → ℕ → Policy → Unbuilt → Type 0
 IsUnbuilt s input p limit q (TooLong at) = (limit < length input) × (at ≡ limit + 1)
 IsUnbuilt s input p limit q (Text r) = (length input ≤ limit)
     × (r.why ≢ text.Memory → (m : Module) → IsTextOf p s m input → ⊥) × (r.at ≤ length input)
+    × TellsText p input r.why r.at
 IsUnbuilt s input p limit q (Check f) =
     (length input ≤ limit) × ((m : Module) × IsTextOf p s m input × IsUnchecked p q m f)
 

@@ -15,6 +15,7 @@ use Rattle.wm_read.specs.declared.faults.TextWhy.{TextWhy}
 use Rattle.wm_read.specs.declared.faults.TextWhy.TheVariants as fault
 use Rattle.wm_read.specs.declared.spellings.Spellings.{Spellings}
 use Rattle.wm_read.specs.Spellings.{IsTextOf}
+use Rattle.wm_read.specs.TokenFaults.{TellsText}
 use Rattle.wm_cli.specs.declared.status.Status.{Status}
 use Rattle.wm_cli.specs.declared.status.Status.TheVariants.{Done, Refused}
 use Rattle.wm_cli.specs.Refused.{module_line, refusal_line, text_line, too_large_line}
@@ -32,13 +33,13 @@ ModuleOut p q m written status =
     ⊎ ((Fits m → ⊥) × (written ≡ too_large_line) × (status ≡ Refused))
 
 -- Of a text: what becomes of the module that it writes, or a refusal at a place within
--- it where it writes none.
+-- it where it writes none, which says of its bytes and tokens what TellsText says.
 abbrev pub TextOut : Profile → Policy → Spellings → List ℕ → List ℕ → Status → Type 0
 TextOut p q s text written status =
     ((m : Module) × IsTextOf p s m text × ModuleOut p q m written status)
     ⊎ (((m : Module) → IsTextOf p s m text → ⊥)
     × ((place : ℕ) × (why : TextWhy) × (why ≢ fault.Memory) × (place ≤ length text)
-    × (written ≡ text_line place why))
+    × TellsText p text why place × (written ≡ text_line place why))
     × (status ≡ Refused))
 
 -- of an input, which is a text where it is no longer than the limit

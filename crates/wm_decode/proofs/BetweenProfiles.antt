@@ -39,7 +39,7 @@ use Rattle.wm_decode.specs.declared.step.values.InRun.TheVariants as run
 use Rattle.wm_decode.specs.declared.step.values.InValue.{InValue}
 use Rattle.wm_decode.specs.declared.step.values.InValue.TheVariants as value
 use Rattle.wm_decode.specs.declared.refusal.Refusal.{Refusal}
-use Rattle.wm_decode.specs.BetweenProfiles.{IsOfProfile, SameUpToProfile}
+use Rattle.wm_decode.specs.BetweenProfiles.{IsProfileName, SameUpToProfile}
 use Rattle.wm_decode.specs.Items.{Item}
 use Rattle.wm_decode.specs.Sinks.{and_then}
 use Rattle.wm_decode.specs.exact.ValueSteps.{type_under, value_type_of, read_type, global_type_push, desc_push, in_global, run_push, value_push, of_import}
@@ -53,7 +53,7 @@ use Rattle.wm_decode.proofs.MachineAndSink.{live_ok, reached, used_of}
 
 -- the same, or the first was refused by a name of its profile
 abbrev Apart : {A : Type 0} → (Why → A) → A → A → Type 0
-Apart refused x y = (x ≡ y) ⊎ ((w : Why) × IsOfProfile w × (x ≡ refused w))
+Apart refused x y = (x ≡ y) ⊎ ((w : Why) × IsProfileName w × (x ≡ refused w))
 
 -- a value type by what its byte is
 abbrev type_by : Profile → (i32 i64 f32 f64 : Bool) → Result ValType Why
@@ -197,7 +197,7 @@ module _ (p q : Profile) (more : Extends q p) where
       live : (m : Live H) → y ≡ Ok m → at ≤ m.at
 
     abbrev RunApart : Result (Live H) Refusal → Result (Live H) Refusal → Type 0
-    RunApart x y = (x ≡ y) ⊎ ((r : Refusal) × (x ≡ Err r) × IsOfProfile r.why × LaterThan r.at y)
+    RunApart x y = (x ≡ y) ⊎ ((r : Refusal) × (x ≡ Err r) × IsProfileName r.why × LaterThan r.at y)
 
     later : (l : Live H) (c : ℕ) (b : List ℕ) → l.at ≤ limit → LaterThan (l.at + 1) (decoder_after after q limit l (c ∷ b))
     later l c b low = record {

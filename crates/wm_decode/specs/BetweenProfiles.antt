@@ -7,18 +7,18 @@ use Rattle.wm_syntax.specs.Profiles.{HasDesc, HasType, IsOpOf}
 use Rattle.wm_decode.specs.declared.refusal.Refusal.{Refusal}
 use Rattle.wm_decode.specs.Items.{Item, param, one_result, import_desc, global, const_op, locals, body_op}
 
--- the names by which a profile refuses a byte that begins nothing of it
-abbrev pub IsOfProfile : Why → Type 0
-IsOfProfile why.Float = Unit {0}
-IsOfProfile why.BadOpcode = Unit {0}
-IsOfProfile w = ⊥
+-- the names of a byte that begins nothing of the profile, but may begin something of one with more features
+abbrev pub IsProfileName : Why → Type 0
+IsProfileName why.Float = Unit {0}
+IsProfileName why.BadOpcode = Unit {0}
+IsProfileName w = ⊥
 
 -- Of one input, the answers of two profiles, the second of which has every feature of the first. They are the
 -- same, or the first refuses a byte by one of these names. Then the second refuses no earlier, if it does.
 abbrev pub SameUpToProfile : {A : Type 0} → Result A Refusal → Result A Refusal → Type 0
 SameUpToProfile first second =
     (first ≡ second)
-    ⊎ ((r : Refusal) × (first ≡ Err r) × IsOfProfile r.why
+    ⊎ ((r : Refusal) × (first ≡ Err r) × IsProfileName r.why
     × ((other : Refusal) → second ≡ Err other → r.at ≤ other.at))
 
 -- an item of the profile: its value type, or its instruction with its block type, is of the profile

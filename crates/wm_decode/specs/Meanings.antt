@@ -166,7 +166,7 @@ abbrev pub IsName : Form ℕ
 IsName b = (text : List ℕ) × SpellsName text b
 
 -- BadUtf8 (section 5.2.4): where a name must stand comes its length, and then so many bytes, which are not
--- UTF-8. So many bytes that are must stand there.
+-- UTF-8. After the length so many bytes of UTF-8 must stand.
 pub record BadName (p : Profile) (used : List ℕ) : Type 0 where
   pub before : List ℕ
   pub size : List ℕ

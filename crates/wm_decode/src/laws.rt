@@ -118,8 +118,8 @@ pub fn rule_names_are_of_items<S: Sink>()
         → Meant (λ used rest w. AtItem s.profile (RefusesBy S.after s.first w) used) input r }
 {}
 
-/// A profile answers an input as each does that has its features and more, up to a byte that begins nothing
-/// of it. That byte it refuses as `Float` or `BadOpcode`, and the other refuses no earlier one.
+/// A profile answers an input as each does that has all its features, or it refuses a byte as `Float` or
+/// `BadOpcode`, and the other refuses no earlier.
 pub fn profiles_answer_alike<S: Sink>()
     ensures { (p q : Profile) (limit : ℕ) (first : S.Held) (input : List ℕ) → Extends q p
         → SameUpToProfile

@@ -1,4 +1,4 @@
--- Why a text is refused: the printed words, and which of them the tokens of a text can give.
+-- Why a text is refused: the printed words.
 use Rattle.std.specs.Prelude.{ℕ, List, codes}
 use Rattle.wm_read.specs.declared.faults.TextWhy.{TextWhy}
 use Rattle.wm_read.specs.declared.faults.TextWhy.TheVariants.{NotUtf8, BadToken, OpenComment, OpenString}

@@ -1,11 +1,16 @@
--- What is wrong with the tokens of a text that has none, and where (sections 6.2 and 6.3). Each of these says
--- whether there are floats: where there are none, an atom that only has the form of a float is no token.
-use Rattle.std.specs.Prelude.{◌≡◌, ℕ, ◌+◌, ◌⊎◌, ◌↔◌, List, [], ◌∷◌, ◌++◌, Bool, IsTrue, IsUtf8, codes, length}
+-- What is wrong with the tokens of a text that has none, and where (sections 6.2 and 6.3). Where it matters, a
+-- definition takes whether there are floats: without them an atom that only has the form of a float is no token.
+use Rattle.std.specs.Prelude.{◌≡◌, ◌≢◌, ℕ, ◌+◌, ◌⊎◌, ◌↔◌, List, [], ◌∷◌, ◌++◌, Bool, IsTrue, IsUtf8, codes, length}
+use Rattle.std.specs.Str.{IsValidUpTo}
+use Rattle.wm_syntax.specs.declared.profile.Profile.{Profile}
+use Rattle.wm_syntax.specs.declared.profile.Feature.TheVariants.{Floats}
+use Rattle.wm_syntax.specs.Profiles.{has}
 use Rattle.wm_syntax.specs.Spelling.{Form, Byte, Exactly, Each, ◌▸◌, ◌∣◌}
 use Rattle.wm_read.specs.Tokens.{Token, atom, CommentRest, Blank, LastSpace, IsIdentifier, IsNumber, IsWord}
 use Rattle.wm_read.specs.Tokens.{Element, IsDigit, Digits, TokenText, Ends}
 use Rattle.wm_read.specs.declared.faults.TextWhy.{TextWhy}
-use Rattle.wm_read.specs.declared.faults.TextWhy.TheVariants.{BadToken, OpenComment, OpenString, BadEscape}
+use Rattle.wm_read.specs.declared.faults.TextWhy.TheVariants.{NotUtf8, BadToken, OpenComment, OpenString}
+use Rattle.wm_read.specs.declared.faults.TextWhy.TheVariants.{BadEscape, Memory}
 
 -- this token is one, with floats or without
 abbrev pub IsAmong : Bool → Token → Type 0
@@ -91,3 +96,9 @@ IsOfTokens _ = ⊥
 abbrev pub TellsFault : Bool → List ℕ → TextWhy → ℕ → Type 0
 TellsFault floats text why at =
     (w : TextWhy) (n : ℕ) → FirstFault floats text w n ↔ (IsOfTokens w × (why ≡ w) × (at ≡ n))
+
+-- What the refusal of a text says of its bytes, and, unless memory was refused, of its tokens under a profile.
+-- It is NotUtf8 exactly where the bytes are no UTF-8; the place is then the length of their longest front that is.
+abbrev pub TellsText : Profile → List ℕ → TextWhy → ℕ → Type 0
+TellsText p text why at = ((why ≡ NotUtf8) ↔ (IsUtf8 text → ⊥))
+    × (why ≡ NotUtf8 → IsValidUpTo text at) × (why ≢ Memory → TellsFault (has p Floats) text why at)

@@ -1,7 +1,7 @@
 -- What the name of a refusal says of the bytes up to its place, where a rule was broken or a limit of the
 -- policy was passed: of the items that are complete in them. The names of the format say what they say of any
 -- sink.
-use Rattle.std.specs.Prelude.{◌≡◌, ◌≢◌, ℕ, ◌+◌, ◌^◌, ◌<◌, ◌≤◌, Bool, true, false, List, [], ◌∷◌, ◌++◌, None}
+use Rattle.std.specs.Prelude.{◌≡◌, ◌≢◌, ℕ, ◌+◌, ◌-◌, ◌^◌, ◌<◌, ◌≤◌, Bool, true, false, List, [], ◌∷◌, ◌++◌, None}
 use Rattle.std.specs.Prelude.{◌⊎◌, Option, Some, length, map, option_to_list, slice_get}
 use Rattle.wm_syntax.specs.declared.types.GlobalType.{GlobalType}
 use Rattle.wm_syntax.specs.declared.instructions.Simple.TheVariants as simple
@@ -33,7 +33,7 @@ use Rattle.wm_decode.specs.Items.{body, locals, body_op, segment}
 use Rattle.wm_decode.specs.Meanings.{AtItem, Meant, Means as MeansOfFormat}
 use Rattle.wm_rules.specs.declared.policy.Policy.{Policy}
 use Rattle.wm_rules.specs.Holding.{IndexSpaces}
-use Rattle.wm_rules.specs.Policies.{AtMost}
+use Rattle.wm_rules.specs.Policies.{Passes}
 use Rattle.wm_rules.specs.Validation.{ValidMemory, ValidTable}
 
 -- The index spaces of the module so far (section 2.5.1), as its items tell them: what each of them adds.
@@ -373,25 +373,26 @@ HasWrongCount items (body_op o) =
     → CountDiffers (context_of_body b.entry b.type_index) b.typing.0 o types)
 HasWrongCount items _ = ⊥
 
--- ManyFunctions: a function, imported or own, with which there are more than the policy allows
+-- ManyFunctions: the first function, imported or own, with which there are more than the policy allows
 abbrev pub AreManyFunctions : Policy → List Item → Item → Type 0
-AreManyFunctions q items (function x) = AtMost q.functions (length (so_far items).functions + 1) → ⊥
+AreManyFunctions q items (function x) =
+    Passes q.functions (length (so_far items).functions) (length (so_far items).functions + 1)
 AreManyFunctions q items (import_desc (desc.Func x)) =
-    AtMost q.functions (length (so_far items).functions + 1) → ⊥
+    Passes q.functions (length (so_far items).functions) (length (so_far items).functions + 1)
 AreManyFunctions q items _ = ⊥
 
--- ManyLocals: a run of locals, with which the code entry declares more than the policy allows
+-- ManyLocals: the first run of locals with which the code entry declares more than the policy allows
 abbrev pub AreManyLocals : Policy → List Item → Item → Type 0
 AreManyLocals q items (locals n t) =
     (e : InEntry items) × (e.code.ops ≡ [])
-    × (AtMost q.locals (length (locals_of e.code.runs) + n) → ⊥)
+    × Passes q.locals (length (locals_of e.code.runs)) (length (locals_of e.code.runs) + n)
 AreManyLocals q items _ = ⊥
 
--- Deep: a block, a loop or an if, with which more are open than the policy allows. The body itself is an open
--- list too, so as many are open then as there are open lists before.
+-- Deep: the first block, loop or if of the body with which more are open than the policy allows. The body
+-- itself is an open list and no block, so with this op as many blocks are open as there were open lists before.
 abbrev pub IsTooDeep : Policy → List Item → Item → Type 0
 IsTooDeep q items (body_op o) =
-    (b : InBody items) × (opens o ≡ 1) × (AtMost q.depth (levels b.typing.0) → ⊥)
+    (b : InBody items) × (opens o ≡ 1) × Passes q.depth (levels b.typing.0 - 1) (levels b.typing.0)
 IsTooDeep q items _ = ⊥
 
 -- What the name says. It is said of the 14 names of the format, of the twelve of rules, and of the three of a

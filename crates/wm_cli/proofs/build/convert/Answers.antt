@@ -15,6 +15,10 @@ returns-in-Err-clause-answered g c = λ n.
     let r = c.in-Err.refusal in (
       text_line r.at r.why,
       status.Refused,
-      inr ((λ m t. c.in-Err.ensures.refused out.0 t.0 m t.1 t.2), (r.at, r.why, out.0, c.in-Err.ensures.at, refl), refl),
+      inr (
+        (λ m t. c.in-Err.ensures.refused out.0 t.0 m t.1 t.2),
+        (r.at, r.why, out.0, c.in-Err.ensures.at, (c.in-Err.ensures.utf8, c.in-Err.ensures.utf8_at, c.in-Err.ensures.fault), refl),
+        refl,
+      ),
       out.1,
     )
