@@ -16,7 +16,7 @@ use Rattle.wm_decode.specs.inner.Decoders.{RanOut, HasDecoded, answer_of, Having
 use Rattle.wm_decode.proofs.ByteLists.{bytes-append, front_bytes}
 use Rattle.wm_decode.proofs.MachineAndSink.{Used, reached, used_of, used_refused, settled_ok, settled_not, decoded_append, takes_of_ended, ended_of_takes, given_taken, marks_taken, so_far, never}
 use Rattle.wm_decode.proofs.Fronts.{is_front, name_kept}
-use Rattle.wm_decode.proofs.IdleSinks.{is_memory}
+use Rattle.wm_decode.proofs.TakenItems.{is_memory}
 use Rattle.wm_decode.specs.Fronts.{IsFront, SoFar}
 use Rattle.wm_decode.proofs.OneFront.{one_front}
 use Rattle.wm_decode.specs.exact.Runs.{MachineState, state_after, marks, state_at_start}

@@ -1,3 +1,6 @@
 //! Tests of the libraries, over what these hand out. A crate with tests is proved twice, with them and
 //! without; so they stand here, above the crates that they try.
 #![tactic(auto)]
+
+#[cfg(test)]
+mod decode;

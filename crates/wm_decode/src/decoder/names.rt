@@ -246,7 +246,7 @@ pub(crate) fn give_data<S: Sink>(sink: &mut S, byte: &[u8]) -> Result<(), Why>
 }
 
 // Gives bytes of a data segment at once; none is refused, but for want of memory.
-#[tactic(auto, using(crate::proofs::IdleSinks::slice_room))]
+#[tactic(auto, using(crate::proofs::TakenItems::slice_room))]
 pub(crate) fn give_bytes<S: Sink>(sink: &mut S, bytes: &[u8]) -> Result<(), Why>
     ensures given { MatchResult result
         (λ u. all_taken S.after (S.held sink.old) (map data_byte bytes.now) ≡ Ok (S.held sink.new))

@@ -140,6 +140,3 @@ pub(crate) fn expression_byte(
         InExpression::Over | InExpression::Failed(_) => failed(Why::SectionEnd),
     }
 }
-
-#[cfg(test)]
-mod tests;

@@ -1,4 +1,4 @@
-use Rattle.wm_decode.proofs.IdleSinks.{slices_taken}
+use Rattle.wm_decode.proofs.TakenItems.{slices_taken}
 use Rattle.wm_decode.proofs.laws.slices_join.Goals as goal
 
 pub returns : goal.returns

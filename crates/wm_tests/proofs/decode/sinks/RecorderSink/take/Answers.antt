@@ -1,7 +1,7 @@
 use Rattle.std.proofs.Common.{Ok, refl}
 use Rattle.wm_decode.specs.Sinks.{items_for}
-use Rattle.wm_decode.proofs.IdleSinks.{any_room, quiet_or_memory}
-use Rattle.wm_decode.proofs.tests.RecorderSink.take.Goals as goal
+use Rattle.wm_tests.proofs.IdleSinks.{any_room, quiet_or_memory}
+use Rattle.wm_tests.proofs.decode.sinks.RecorderSink.take.Goals as goal
 
 pub returns-clause-took : goal.returns-clause-took
 returns-clause-took c = quiet_or_memory (λ h x. Ok h) tt (λ x. refl) (items_for c.args.item) c.write_item.result c.write_item.ensures
