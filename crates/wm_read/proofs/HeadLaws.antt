@@ -199,7 +199,7 @@ body_balanced names f params locals =
     balanced_then (TypeUse names f.type_index params) (WritesGroups (codes "local") locals ▸ WritesInstructions (record { names = names; locals = ids_of (params ++ locals) }) [] f.body)
     (balanced_use names f.type_index params)
     (balanced_then (WritesGroups (codes "local") locals) (WritesInstructions (record { names = names; locals = ids_of (params ++ locals) }) [] f.body)
-    (balanced_groups (codes "local") locals) (balanced_instructions (record { names = names; locals = ids_of (params ++ locals) }) [] f.body))
+    (balanced_groups (codes "local") refl locals) (balanced_instructions (record { names = names; locals = ids_of (params ++ locals) }) [] f.body))
 
 body_plain : (names : Names) (f : Function) (params locals : List Named) → Plain (Body names f params locals)
 body_plain names f params locals =

@@ -38,9 +38,11 @@ pub mod ModuleFields
 pub mod NamedUses
 pub mod SignatureLaws
 pub mod HeadSteps
+pub mod WrittenForms
 pub mod Balanced
 pub mod Rules
 pub mod HeadLaws
+pub mod FaultyTexts
 pub mod ModuleLaws
 pub mod OlderWords
 pub mod TextLaws

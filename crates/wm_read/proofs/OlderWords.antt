@@ -49,6 +49,14 @@ found : (a : List ℕ) (es : List (List ℕ × List ℕ)) → list_all (λ e. go
 found a [] h = inl (refl, refl)
 found a (e ∷ es) h = let p = and_parts (good e.0 e.1) (list_all (λ e. good e.0 e.1) es) h in found_first a e es p.0 (found a es p.1) (bytes_eq a e.0) refl
 
+-- an atom stays as it is, or is a word
+pub stays_or_word : (a : List ℕ) → (unwrap_or (lookup (bytes_eq a) older_words) a ≡ a) ⊎ (is_word a ≡ true)
+stays_or_word a = by (found a older_words all_good)
+  where
+    by : IsFoundIn older_words a → (unwrap_or (lookup (bytes_eq a) older_words) a ≡ a) ⊎ (is_word a ≡ true)
+    by (inl (none, _)) = inl (ap (λ o. unwrap_or o a) none)
+    by (inr (w, some, _, h)) = inr (and_parts (is_word a) (is_word w && (list_all is_id_char w && nat_le (length w) (length a))) h).0
+
 lower_is_char : (c : ℕ) → is_lower c ≡ true → is_id_char c ≡ true
 lower_is_char c h =
     or_left ((is_digit c || is_lower c) || is_upper c) (list_any (λ d. c == d) (codes "!#$%&'*+-./:<=>?@\\^_`|~")) (or_left (is_digit c || is_lower c) (is_upper c) (or_right (is_digit c) (is_lower c) h))

@@ -137,10 +137,10 @@ follow_index (close_paren ∷ k) f = refl
 follow_index (string b ∷ k) f = absurd f
 follow_index (atom a ∷ k) f = ap not f.0
 
-abbrev IsPlainWord : List ℕ → Type 0
+abbrev pub IsPlainWord : List ℕ → Type 0
 IsPlainWord a = (is_word a ≡ true) × (after_key (codes "offset=") a ≡ None) × (after_key (codes "align=") a ≡ None)
 
-simple_word : (i : Simple) → IsPlainWord (opcode i).1
+pub simple_word : (i : Simple) → IsPlainWord (opcode i).1
 simple_word (s.Numeric (Test I32)) = (refl, refl, refl)
 simple_word (s.Numeric (Test I64)) = (refl, refl, refl)
 simple_word (s.Numeric (Compare I32 o)) = (refl, refl, refl)

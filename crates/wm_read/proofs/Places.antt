@@ -69,7 +69,7 @@ steps_lead floats text rest some (over_token {r = r} {t = t} h e among) = by (su
     by : IsAhead r (first t rest) → (r ≢ [] → LeadsTo floats text r) → LeadsTo floats text rest
     by (c, part, is, token, ends) before = lead.over_token (c ∷ part) t (before (nil_none c (part ++ rest) r is)) is token ends among
 
-lead_steps : (floats : Bool) (text rest : List ℕ) → LeadsTo floats text rest → Steps floats text rest
+pub lead_steps : (floats : Bool) (text rest : List ℕ) → LeadsTo floats text rest → Steps floats text rest
 lead_steps floats text rest lead.here = here
 lead_steps floats text rest (lead.over_blank {b = b} part h is space) = over_blank (lead_steps floats text b h) (sym (ap ahead is ∙ ahead_blank part rest space))
 lead_steps floats text rest (lead.over_token {b = b} part t h is token ends among) =
@@ -327,7 +327,7 @@ no_tokens text w n k g t =
 
 -- ---- where floats are no tokens
 
-steps_any : (text rest : List ℕ) → Steps false text rest → Steps true text rest
+pub steps_any : (text rest : List ℕ) → Steps false text rest → Steps true text rest
 steps_any text rest here = here
 steps_any text rest (over_blank {r = r} h e) = over_blank (steps_any text r h) e
 steps_any text rest (over_token {r = r} {t = t} h e among) = over_token (steps_any text r h) e (all_among t)
@@ -341,7 +341,7 @@ any_begins f g BadToken b e (nothing, comment, unended, escape) = (begins_nothin
 any_begins f g _ b e h = absurd h
 
 -- at a place that is reached with floats and without, the first fault is one with or without
-moved : (f g : Bool) (text rest : List ℕ) (w : TextWhy) (n : ℕ) → Steps f text rest → Steps g text rest → (no_more ≡ ahead rest) ⊎ (fault ≡ ahead rest) → FirstFault f text w n → FirstFault g text w n
+pub moved : (f g : Bool) (text rest : List ℕ) (w : TextWhy) (n : ℕ) → Steps f text rest → Steps g text rest → (no_more ≡ ahead rest) ⊎ (fault ≡ ahead rest) → FirstFault f text w n → FirstFault g text w n
 moved f g text rest w n to too (inl none) h =
     let same : h.rest ≡ rest = one_end f text h.rest rest (lead_steps f text h.rest h.leads) (begins_stuck f w h.rest h.fault) to
     (λ r. ((λ e. let f : blank r ≡ no_more = e ∙ sym none in cc), λ t e among. let f : first t r ≡ no_more = e ∙ sym none in cc)) in
