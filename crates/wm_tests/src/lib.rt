@@ -1,3 +1,8 @@
 //! Tests of the libraries, over what these hand out. A crate with tests is proved twice, with them and
 //! without; so they stand here, above the crates that they try.
 #![tactic(auto)]
+
+#[cfg(test)]
+mod scripts;
+#[cfg(test)]
+mod typing;
