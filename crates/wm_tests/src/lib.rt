@@ -3,6 +3,8 @@
 #![tactic(auto)]
 
 #[cfg(test)]
+mod floats;
+#[cfg(test)]
 mod scripts;
 #[cfg(test)]
 mod typing;
