@@ -7,4 +7,6 @@ mod floats;
 #[cfg(test)]
 mod scripts;
 #[cfg(test)]
+mod stacks;
+#[cfg(test)]
 mod typing;

@@ -19,6 +19,45 @@ pub(crate) fn play<S: Scripted>(rt: &impl Abort, alloc: Global, called: &mut S, 
     }
 }
 
+/// The same, of lines with several calls that have one answer: `3 times push I32, close = Ok(())` makes
+/// both calls three times in turn.
+pub(crate) fn play_each<S: Scripted>(rt: &impl Abort, alloc: Global, called: &mut S, script: &str) {
+    assert!(rt; !script.is_empty(), "an empty script");
+    for line in script.lines() {
+        play_line(rt, alloc, called, line);
+    }
+}
+
+fn play_line<S: Scripted>(rt: &impl Abort, alloc: Global, called: &mut S, line: &str) {
+    let (calls, wanted) = parts_of(rt, line, " = ");
+    let (times, calls) = repeated(rt, calls);
+    for _ in 0..times {
+        play_calls(rt, alloc, called, calls, wanted);
+    }
+}
+
+// How often the calls of a line are made, and which.
+fn repeated<'a>(rt: &impl Abort, calls: &'a str) -> (u32, &'a str) {
+    let Some((times, calls)) = calls.split_once(" times ") else {
+        return (1, calls);
+    };
+    let times = number_of(rt, times);
+    assert!(rt; times > 0);
+    (times, calls)
+}
+
+fn play_calls<S: Scripted>(
+    rt: &impl Abort,
+    alloc: Global,
+    called: &mut S,
+    calls: &str,
+    wanted: &str,
+) {
+    for call in calls.split(", ") {
+        play_call(rt, alloc, called, call, wanted);
+    }
+}
+
 fn play_call<S: Scripted>(
     rt: &impl Abort,
     alloc: Global,
