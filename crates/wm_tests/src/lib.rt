@@ -10,3 +10,5 @@ mod scripts;
 mod stacks;
 #[cfg(test)]
 mod typing;
+#[cfg(test)]
+mod write;
