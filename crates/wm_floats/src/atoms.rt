@@ -169,6 +169,3 @@ pub fn has_form(text: &[u8]) -> bool
         None => is_number(text),
     }
 }
-
-#[cfg(test)]
-mod tests;

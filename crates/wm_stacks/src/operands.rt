@@ -355,18 +355,3 @@ fn float(wide: bool) -> Entry
 {
     if wide { Entry::F64 } else { Entry::F32 }
 }
-
-#[cfg(test)]
-mod tests {
-    use super::*;
-    use crate::fields::is;
-
-    /// A further field has to be named here, and a further list to be counted.
-    #[test]
-    fn every_field_is_a_list_that_is_counted(rt: HostRuntime) {
-        let operands = Operands::new(rt.alloc());
-        let Operands { packed, widths } = &operands;
-        is::<Packed>(packed);
-        is::<Widths>(widths);
-    }
-}

@@ -155,19 +155,3 @@ fn make_words(words: &mut Vec<u64>, count: usize) -> Result<(), Why>
     words.resize(count, 0)?;
     Ok(())
 }
-
-#[cfg(test)]
-mod tests {
-    use super::*;
-    use crate::fields::{is, is_copy};
-
-    /// A further field has to be named here, and a further list to be counted. Each word of this one was
-    /// made for 64 operands, which were counted then.
-    #[test]
-    fn every_field_is_a_list_that_is_counted(rt: HostRuntime) {
-        let widths = Widths::new(rt.alloc());
-        let Widths { first, rest } = &widths;
-        is_copy(first);
-        is::<Vec<u64>>(rest);
-    }
-}

@@ -4,3 +4,13 @@
 
 #[cfg(test)]
 mod decode;
+#[cfg(test)]
+mod floats;
+#[cfg(test)]
+mod scripts;
+#[cfg(test)]
+mod stacks;
+#[cfg(test)]
+mod typing;
+#[cfg(test)]
+mod write;

@@ -124,23 +124,3 @@ impl DeclaredLocals {
         found.ty
     }
 }
-
-#[cfg(test)]
-mod tests {
-    use super::*;
-    use crate::tests::{is, is_copy};
-
-    /// A further field has to be named here, and a further list to be counted.
-    #[test]
-    fn every_field_is_a_list_that_is_counted(rt: HostRuntime) {
-        let locals = DeclaredLocals::new(rt.alloc());
-        let DeclaredLocals {
-            table,
-            known,
-            probes,
-        } = &locals;
-        is::<RunTable>(table);
-        is_copy(known);
-        is_copy(probes);
-    }
-}

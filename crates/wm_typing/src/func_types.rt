@@ -173,23 +173,3 @@ fn push_entry(
     }
     Ok(())
 }
-
-#[cfg(test)]
-mod tests {
-    use super::*;
-    use crate::tests::{is, is_copy};
-
-    /// A further field has to be named here, and a further list to be counted.
-    #[test]
-    fn every_field_is_a_list_that_is_counted(rt: HostRuntime) {
-        let types = FuncTypes::new(rt.alloc());
-        let FuncTypes { params, entries } = &types;
-        is::<Vec<ValType>>(params);
-        is::<Vec<TypeEntry>>(entries);
-        is_copy(&TypeEntry {
-            start: 0,
-            count: 0,
-            result: None,
-        });
-    }
-}

@@ -14,8 +14,4 @@ pub mod labels;
 pub mod laws;
 mod operands;
 mod ops;
-#[cfg(test)]
-mod scripts;
 pub mod stats;
-#[cfg(test)]
-mod tests;

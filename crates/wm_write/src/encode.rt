@@ -24,8 +24,6 @@ pub(crate) mod parts;
 pub(crate) mod sections;
 pub(crate) mod sizes;
 pub(crate) mod spell;
-#[cfg(test)]
-mod tests;
 
 /// Why a module was not written.
 #[derive(Clone, Copy, PartialEq, Eq, Debug, Error)]

@@ -5,7 +5,5 @@ mod batch;
 pub mod encode;
 pub mod in_memory;
 pub mod laws;
-#[cfg(test)]
-mod narrow;
 pub mod print;
 mod put;

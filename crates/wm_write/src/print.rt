@@ -24,8 +24,6 @@ use wm_syntax::modules::Module;
 pub(crate) mod body_lines;
 pub(crate) mod fields;
 pub(crate) mod float_text;
-#[cfg(test)]
-mod tests;
 pub(crate) mod words;
 
 /// Why a module was not printed whole.

@@ -1,60 +1,14 @@
-//! Scripts for tests: a line is a row, with a call and, behind ` = `, its answer as Debug writes it.
-//! Ops stand as in a text module, with a comma between them; a float's constant is its bits.
+//! Types and ops in scripts. Ops stand as in a text module, with a comma between them; a float's constant
+//! is its bits.
 
+use crate::scripts::{number_of, unknown, word_of};
 use std::alloc::Global;
-use std::fmt::Debug;
 use std::process::Abort;
 use wm_syntax::instructions::op_class::{Immediates, OpClass};
 use wm_syntax::instructions::op_names::op_named;
 use wm_syntax::instructions::{LoadOp, MemArg, Op, Simple};
 use wm_syntax::profile::Profile;
 use wm_syntax::types::ValType;
-
-/// What a script makes calls on.
-pub(crate) trait Scripted {
-    /// Makes this call, and gives its answer as text.
-    fn answer<A: Abort>(&mut self, rt: &A, alloc: Global, call: &str) -> String;
-}
-
-/// Makes the calls of a script in turn.
-pub(crate) fn play<S: Scripted>(rt: &impl Abort, alloc: Global, called: &mut S, script: &str) {
-    assert!(rt; !script.is_empty(), "an empty script");
-    for line in script.lines() {
-        play_line(rt, alloc, called, line);
-    }
-}
-
-fn play_line<S: Scripted>(rt: &impl Abort, alloc: Global, called: &mut S, line: &str) {
-    let (call, wanted) = parts_of(rt, line, " = ");
-    let found = called.answer(rt, alloc, call);
-    assert!(rt; found.as_str() == wanted, "{line}: {found}");
-}
-
-/// An answer, as Debug writes it.
-pub(crate) fn shown<T: Debug + Drop>(rt: &impl Abort, alloc: Global, answer: T) -> String {
-    format!(in alloc; "{answer:?}").expect(rt, "memory")
-}
-
-/// Ends the test at a word that a script cannot have.
-pub(crate) fn unknown(rt: &impl Abort, word: &str) -> ! {
-    panic!(rt; "unknown in a script: {word:?}")
-}
-
-/// The first word of a text, and what follows it.
-pub(crate) fn word_of(text: &str) -> (&str, &str) {
-    match text.split_once(' ') {
-        Some(parts) => parts,
-        None => (text, ""),
-    }
-}
-
-/// What stands before a mark, and what stands behind it.
-pub(crate) fn parts_of<'a>(rt: &impl Abort, text: &'a str, mark: &str) -> (&'a str, &'a str) {
-    match text.split_once(mark) {
-        Some(parts) => parts,
-        None => unknown(rt, text),
-    }
-}
 
 pub(crate) fn type_of(rt: &impl Abort, word: &str) -> ValType {
     match word {
@@ -72,10 +26,6 @@ pub(crate) fn given_of(rt: &impl Abort, word: &str) -> Option<ValType> {
         return None;
     }
     Some(type_of(rt, word))
-}
-
-pub(crate) fn number_of(rt: &impl Abort, word: &str) -> u32 {
-    word.parse::<u32>().expect(rt, "a number")
 }
 
 /// `i32 i64`

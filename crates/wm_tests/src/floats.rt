@@ -1,8 +1,10 @@
 //! Rows of atoms: a width, an atom, and behind ` = ` the bits that it writes, or `none`.
 
-use super::*;
+use crate::scripts::{Scripted, play, shown, unknown, word_of};
+use std::alloc::Global;
 use std::process::Abort;
-use std::test::Fail;
+use wm_floats::atoms::{float_of, has_form};
+use wm_syntax::instructions::FloatType;
 
 /// A hundred zeros, for which `{z}` stands in a row.
 const ZEROS: &str = "00000000000000000000000000000000000000000000000000\
@@ -163,44 +165,34 @@ form infx = false";
 
 const SCRIPTS: [&str; 4] = [DECIMALS, HEXADECIMALS, OTHERS, FORMS];
 
+/// The calls on an atom.
+#[derive(Drop)]
+struct FloatAtoms;
+
+impl Scripted for FloatAtoms {
+    fn answer<A: Abort>(&mut self, rt: &A, alloc: Global, call: &str) -> String {
+        let call = call.replace(alloc, "{z}", ZEROS).expect(rt, "memory");
+        let (word, atom) = word_of(call.as_str());
+        let atom = atom.as_bytes();
+        match word {
+            "f32" => bits_of(rt, alloc, FloatType::F32, atom),
+            "f64" => bits_of(rt, alloc, FloatType::F64, atom),
+            "form" => shown(rt, alloc, has_form(atom)),
+            _ => unknown(rt, word),
+        }
+    }
+}
+
+fn bits_of(rt: &impl Abort, alloc: Global, width: FloatType, atom: &[u8]) -> String {
+    match float_of(alloc, width, atom).expect(rt, "memory") {
+        Some(bits) => format!(in alloc; "{bits:X}").expect(rt, "memory"),
+        None => format!(in alloc; "none").expect(rt, "memory"),
+    }
+}
+
 #[test]
-fn atoms(rt: HostRuntime) -> Result<(), Fail> {
+fn atoms(rt: HostRuntime) {
     for script in SCRIPTS {
-        play(&rt, rt.alloc(), script)?;
-    }
-    Ok(())
-}
-
-/// Plays at least one row.
-fn play(rt: &impl Abort, alloc: Global, script: &'static str) -> Result<(), Fail> {
-    assert!(rt; !script.is_empty(), "an empty script");
-    for row in script.lines() {
-        play_row(rt, alloc, row)?;
-    }
-    Ok(())
-}
-
-fn play_row(rt: &impl Abort, alloc: Global, row: &str) -> Result<(), Fail> {
-    let row = row.replace(alloc, "{z}", ZEROS)?;
-    let (call, wanted) = row.as_str().split_once(" = ").unwrap_or(("", "an answer"));
-    let (word, atom) = call.split_once(' ').unwrap_or((call, ""));
-    let found = answer(alloc, word, atom.as_bytes())?;
-    assert!(rt; found.as_str() == wanted, "{row}, and not {found}");
-    Ok(())
-}
-
-fn answer(alloc: Global, word: &str, atom: &[u8]) -> Result<String, Fail> {
-    match word {
-        "f32" => shown(alloc, float_of(alloc, FloatType::F32, atom)?),
-        "f64" => shown(alloc, float_of(alloc, FloatType::F64, atom)?),
-        "form" => Ok(format!(in alloc; "{}", has_form(atom))?),
-        _ => Ok(format!(in alloc; "unknown: {word}")?),
-    }
-}
-
-fn shown(alloc: Global, found: Option<u64>) -> Result<String, Fail> {
-    match found {
-        Some(bits) => Ok(format!(in alloc; "{bits:X}")?),
-        None => Ok(format!(in alloc; "none")?),
+        play(&rt, rt.alloc(), &mut FloatAtoms, script);
     }
 }

@@ -1,14 +1,15 @@
 //! Modules and their canonical binaries. A module stands as bytes that spell it, as Debug writes it, and as
 //! its canonical binary.
 
-use super::*;
-use crate::narrow::Narrow;
+use crate::write::narrow::Narrow;
 use std::alloc::Global;
 use std::process::Abort;
 use wm_decode::Decoder;
 use wm_rules::Builder;
 use wm_syntax::io::output::Output;
+use wm_syntax::modules::Module;
 use wm_syntax::profile::Profile;
+use wm_write::encode::{WriteFault, encode};
 
 type Row = (&'static [u8], &'static str, &'static [u8]);
 

@@ -2,24 +2,20 @@
 
 ghost use Rattle.std.specs.Prelude.{◌<◌, ◌^◌, length};
 
-use crate::bodies::check_body;
-use crate::context::Context;
-use crate::func_types::FuncTypes;
-use crate::scripts::{
-    Scripted, given_of, number_of, ops_of, parts_of, play, shown, type_of, types_of,
-};
-use crate::stats::BodyStats;
+use crate::scripts::{Scripted, number_of, parts_of, play, shown};
+use crate::typing::ops::{given_of, ops_of, type_of, types_of};
 use std::alloc::Global;
 use std::process::Abort;
 use wm_syntax::instructions::Op;
 use wm_syntax::types::{GlobalType, ValType};
 use wm_syntax::why::Why;
+use wm_typing::bodies::check_body;
+use wm_typing::context::Context;
+use wm_typing::func_types::FuncTypes;
+use wm_typing::stats::BodyStats;
 
-/// A field of this type, of a struct that a test takes apart.
-pub(crate) fn is<T>(_field: &T) {}
-
-/// What can be copied is no list.
-pub(crate) fn is_copy<T: Copy>(_field: &T) {}
+mod body_checker;
+mod ops;
 
 // Checks a body, in a module with a memory and a constant global, whose function 0 takes three i32 and
 // gives nothing.

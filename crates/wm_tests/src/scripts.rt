@@ -1,0 +1,100 @@
+//! Scripts for tests: a line is a row, with a call and, behind ` = `, its answer as Debug writes it.
+
+use std::alloc::Global;
+use std::fmt::Debug;
+use std::process::Abort;
+
+/// What a script makes calls on.
+pub(crate) trait Scripted {
+    /// Makes this call, and gives its answer as text.
+    fn answer<A: Abort>(&mut self, rt: &A, alloc: Global, call: &str) -> String;
+}
+
+/// Makes the calls of a script in turn.
+pub(crate) fn play<S: Scripted>(rt: &impl Abort, alloc: Global, called: &mut S, script: &str) {
+    assert!(rt; !script.is_empty(), "an empty script");
+    for line in script.lines() {
+        let (call, wanted) = parts_of(rt, line, " = ");
+        play_call(rt, alloc, called, call, wanted);
+    }
+}
+
+/// The same, of lines with several calls that have one answer: `3 times push I32, close = Ok(())` makes
+/// both calls three times in turn.
+pub(crate) fn play_each<S: Scripted>(rt: &impl Abort, alloc: Global, called: &mut S, script: &str) {
+    assert!(rt; !script.is_empty(), "an empty script");
+    for line in script.lines() {
+        play_line(rt, alloc, called, line);
+    }
+}
+
+fn play_line<S: Scripted>(rt: &impl Abort, alloc: Global, called: &mut S, line: &str) {
+    let (calls, wanted) = parts_of(rt, line, " = ");
+    let (times, calls) = repeated(rt, calls);
+    for _ in 0..times {
+        play_calls(rt, alloc, called, calls, wanted);
+    }
+}
+
+// How often the calls of a line are made, and which.
+fn repeated<'a>(rt: &impl Abort, calls: &'a str) -> (u32, &'a str) {
+    let Some((times, calls)) = calls.split_once(" times ") else {
+        return (1, calls);
+    };
+    let times = number_of(rt, times);
+    assert!(rt; times > 0);
+    (times, calls)
+}
+
+fn play_calls<S: Scripted>(
+    rt: &impl Abort,
+    alloc: Global,
+    called: &mut S,
+    calls: &str,
+    wanted: &str,
+) {
+    for call in calls.split(", ") {
+        play_call(rt, alloc, called, call, wanted);
+    }
+}
+
+fn play_call<S: Scripted>(
+    rt: &impl Abort,
+    alloc: Global,
+    called: &mut S,
+    call: &str,
+    wanted: &str,
+) {
+    let found = called.answer(rt, alloc, call);
+    assert!(rt; found.as_str() == wanted, "{call} = {wanted}: {found}");
+}
+
+/// An answer, as Debug writes it.
+pub(crate) fn shown<T: Debug + Drop>(rt: &impl Abort, alloc: Global, answer: T) -> String {
+    format!(in alloc; "{answer:?}").expect(rt, "memory")
+}
+
+/// Ends the test at a word that a script cannot have.
+pub(crate) fn unknown(rt: &impl Abort, word: &str) -> ! {
+    panic!(rt; "unknown in a script: {word:?}")
+}
+
+/// The first word of a text, and what follows it.
+pub(crate) fn word_of(text: &str) -> (&str, &str) {
+    match text.split_once(' ') {
+        Some(parts) => parts,
+        None => (text, ""),
+    }
+}
+
+/// What stands before a mark, and what stands behind it.
+pub(crate) fn parts_of<'a>(rt: &impl Abort, text: &'a str, mark: &str) -> (&'a str, &'a str) {
+    match text.split_once(mark) {
+        Some(parts) => parts,
+        None => unknown(rt, text),
+    }
+}
+
+pub(crate) fn number_of(rt: &impl Abort, word: &str) -> u32 {
+    word.parse::<u32>().expect(rt, "a number")
+}
