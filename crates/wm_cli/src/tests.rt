@@ -5,6 +5,7 @@ pub(crate) mod ends;
 pub(crate) mod faults;
 mod inputs;
 pub(crate) mod rows;
+mod texts;
 mod uses;
 
 use crate::run::run_line;

@@ -180,6 +180,3 @@ impl<T: Drop> From<AllocFailed<T>> for TextFault {
         TextFault::MEMORY
     }
 }
-
-#[cfg(test)]
-pub(crate) mod tests;

@@ -8,8 +8,6 @@ mod fields;
 pub mod laws;
 mod names;
 mod renewed;
-#[cfg(test)]
-mod rows;
 pub mod spellings;
 pub mod text;
 mod tokens;

@@ -181,6 +181,3 @@ fn told_first(profile: Profile, text: &[u8], refusal: TextRefusal) -> TextRefusa
         },
     }
 }
-
-#[cfg(test)]
-pub(crate) mod tests;

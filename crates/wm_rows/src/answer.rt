@@ -4,10 +4,13 @@ use crate::changes::answer_changes;
 use crate::pieces::{Verdict, is_answered, judge, spread};
 use crate::row::{Action, Row};
 use crate::tally::{Tally, count};
-use crate::text::{Built, build, is_given_back, refuse, say, show, spell};
+use crate::text::{Built, build, is_given_back, read, refuse, say, show, spell};
 use std::alloc::Global;
 use std::io;
 use wm_rules::Summary;
+
+/// A longer binary that a text gives is told by its length, and is not cut.
+const LONGEST: usize = 2048;
 
 /// The figures of a module's bodies.
 fn figures(alloc: Global, summary: &Summary) -> io::Result<String> {
@@ -34,7 +37,7 @@ fn accept(
     match row.action {
         Action::Check | Action::Change(_) | Action::Changes => say(alloc, "valid"),
         Action::Stats => figures(alloc, summary),
-        Action::Canon | Action::Build => spell(alloc, canonical),
+        Action::Canon | Action::Build | Action::Read => spell(alloc, canonical),
         Action::Show => show(alloc, row, binary),
     }
 }
@@ -110,12 +113,15 @@ fn answer_binary(alloc: Global, row: &Row, binary: &[u8], tally: &mut Tally) -> 
     answer_judged(alloc, row, binary, &whole)
 }
 
-/// The answer to a row with a text: what it gives, which is its own canonical binary.
+/// The answer to a row with a text: what it gives, which is its own canonical binary, or the length of that.
 fn answer_text(alloc: Global, row: &Row, tally: &mut Tally) -> io::Result<String> {
     let binary = match build(alloc, row, row.spellings, &row.input)? {
         Built::Binary(binary) => binary,
         Built::Refused(line) => return Ok(line),
     };
+    if binary.len() > LONGEST {
+        return Ok(format!(in alloc; "{} bytes", binary.len())?);
+    }
     let answer = answer_binary(alloc, row, &binary, tally)?;
     if answer.as_str() == spell(alloc, &binary)?.as_str() {
         Ok(answer)
@@ -170,6 +176,7 @@ pub fn answer(alloc: Global, row: &Row, tally: &mut Tally) -> io::Result<String>
     count(&mut tally.rows);
     match row.action {
         Action::Build => answer_text(alloc, row, tally),
+        Action::Read => read(alloc, row),
         Action::Change(place) => answer_change(alloc, row, place, tally),
         Action::Changes => answer_changes(alloc, row, tally),
         _ => answer_binary(alloc, row, &row.input, tally),

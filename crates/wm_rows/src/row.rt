@@ -5,6 +5,7 @@
 //! change PLACE [OPTIONS] BYTES
 //! changes [OPTIONS] BYTES
 //! build [OPTIONS] TEXT
+//! build [OPTIONS] many PARTS
 //! build [OPTIONS] bytes BYTES
 //! ```
 //!
@@ -12,6 +13,8 @@
 //! this order: `profile 2` (or 3, or 4), `limit N`, `max-functions N`, `max-locals N`, `max-open N` and
 //! `old-words`.
 //! BYTES are words: `H` is the header of a module, and another one is a byte in two hexadecimal digits.
+//! In a TEXT `␊` stands for a line feed. PARTS are a text too, in which `3*a|b` stands for `aaab`.
+//! `read` stands in the place of `build` where the module of a text need not be valid.
 //! `change` stands for the 255 inputs with another byte at that place, and `changes` for those with
 //! another byte at any place.
 
@@ -37,6 +40,8 @@ pub enum Action {
     Show,
     /// The canonical binary of what the input, a text, writes.
     Build,
+    /// The binary of what the input, a text, writes, be it valid or not.
+    Read,
     /// Whether the inputs with another byte at this place are valid.
     Change(usize),
     /// How many of the inputs with one other byte are valid.
@@ -84,6 +89,7 @@ fn action_of(line: &str) -> io::Result<(Action, &str)> {
         "canon" => Ok((Action::Canon, rest)),
         "show" => Ok((Action::Show, rest)),
         "build" => Ok((Action::Build, rest)),
+        "read" => Ok((Action::Read, rest)),
         "changes" => Ok((Action::Changes, rest)),
         "change" => {
             let (place, rest) = number(rest)?;
@@ -166,11 +172,34 @@ fn bytes(alloc: Global, words: &str) -> io::Result<Vec<u8>> {
     Ok(bytes)
 }
 
+/// The text of parts, each with how many times it comes, if that is more than once.
+fn repeated(alloc: Global, parts: &str) -> io::Result<Vec<u8>> {
+    let mut text = Vec::new(alloc);
+    for part in parts.split('|') {
+        let (times, part) = part.split_once('*').unwrap_or(("1", part));
+        let (times, _) = number(times)?;
+        for _ in 0..times {
+            text.extend_from_slice(part.as_bytes())?;
+        }
+    }
+    Ok(text)
+}
+
+/// The text that stands behind an action and its options.
+fn text(alloc: Global, rest: &str) -> io::Result<Vec<u8>> {
+    if let Some(words) = rest.strip_prefix("bytes ") {
+        return bytes(alloc, words);
+    }
+    match rest.strip_prefix("many ") {
+        Some(parts) => repeated(alloc, parts),
+        None => Ok(rest.replace(alloc, "␊", "\n")?.as_bytes().to_vec(alloc)?),
+    }
+}
+
 /// The input that stands behind an action and its options.
 fn input(alloc: Global, action: Action, rest: &str) -> io::Result<Vec<u8>> {
-    match (action, rest.strip_prefix("bytes ")) {
-        (Action::Build, None) => Ok(rest.as_bytes().to_vec(alloc)?),
-        (Action::Build, Some(rest)) => bytes(alloc, rest),
+    match action {
+        Action::Build | Action::Read => text(alloc, rest),
         _ => bytes(alloc, rest),
     }
 }

@@ -5,8 +5,8 @@ use std::alloc::Global;
 use std::fmt::Write;
 use std::io;
 use std::io::ErrorKind;
-use wm_read::check::{CheckFault, check};
-use wm_read::faults::TextWhy;
+use wm_read::check::{CheckFault, check, checked_bytes};
+use wm_read::faults::{TextRefusal, TextWhy};
 use wm_read::spellings::Spellings;
 use wm_read::text::read_text;
 use wm_rules::{Checked, FromFault, load_from};
@@ -68,30 +68,56 @@ pub fn refuse(alloc: Global, whose: &str, at: u64, name: &str) -> io::Result<Str
     Ok(format!(in alloc; "{whose}refused at {at}: {name}")?)
 }
 
-/// What a module gives that is checked as a value.
+/// The canonical binary of a module that is checked as a value.
+fn bytes_of(alloc: Global, row: &Row, module: &Module) -> io::Result<Result<Vec<u8>, CheckFault>> {
+    match check(alloc, row.profile, row.policy, module) {
+        Ok(checked) => Ok(Ok(canonical(alloc, checked.module())?)),
+        Err(CheckFault::Memory) => Err(out_of_memory()),
+        Err(fault) => Ok(Err(fault)),
+    }
+}
+
+/// What a module gives that is checked as a value, whether a second one is made of it or its bytes alone.
 fn build_module(alloc: Global, row: &Row, module: &Module) -> io::Result<Built> {
-    let line = match check(alloc, row.profile, row.policy, module) {
-        Ok(checked) => return Ok(Built::Binary(canonical(alloc, checked.module())?)),
-        Err(CheckFault::Memory) => return Err(out_of_memory()),
-        Err(CheckFault::TooLarge) => say(alloc, "module refused: TooLarge")?,
+    let bytes = bytes_of(alloc, row, module)?;
+    let alone = checked_bytes(alloc, row.profile, row.policy, module);
+    if let Err(CheckFault::Memory) = alone {
+        return Err(out_of_memory());
+    }
+    if bytes != alone {
+        return Ok(Built::Refused(say(alloc, "the two checks of a module differ")?));
+    }
+    let line = match bytes {
+        Ok(bytes) => return Ok(Built::Binary(bytes)),
         Err(CheckFault::Refused(refusal)) => {
             refuse(alloc, "module ", refusal.at, refusal.why.name())?
         }
+        Err(_) => say(alloc, "module refused: TooLarge")?,
     };
     Ok(Built::Refused(line))
+}
+
+/// The answer where a text is refused.
+fn refuse_text(alloc: Global, refusal: TextRefusal) -> io::Result<String> {
+    if refusal.why == TextWhy::Memory {
+        return Err(out_of_memory());
+    }
+    refuse(alloc, "text ", refusal.at as u64, refusal.why.name())
 }
 
 /// What a text gives, which has words so spelled.
 pub fn build(alloc: Global, row: &Row, spellings: Spellings, text: &[u8]) -> io::Result<Built> {
     match read_text(alloc, row.profile, spellings, text) {
         Ok(module) => build_module(alloc, row, &module),
-        Err(refusal) => {
-            if refusal.why == TextWhy::Memory {
-                return Err(out_of_memory());
-            }
-            let line = refuse(alloc, "text ", refusal.at as u64, refusal.why.name())?;
-            Ok(Built::Refused(line))
-        }
+        Err(refusal) => Ok(Built::Refused(refuse_text(alloc, refusal)?)),
+    }
+}
+
+/// The binary of the module that a row's text writes, be it valid or not.
+pub fn read(alloc: Global, row: &Row) -> io::Result<String> {
+    match read_text(alloc, row.profile, row.spellings, &row.input) {
+        Ok(module) => spell(alloc, &canonical(alloc, &module)?),
+        Err(refusal) => refuse_text(alloc, refusal),
     }
 }
 

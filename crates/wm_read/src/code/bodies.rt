@@ -189,6 +189,3 @@ pub fn read_body<'a>(
         }
     }
 }
-
-#[cfg(test)]
-pub(crate) mod tests;

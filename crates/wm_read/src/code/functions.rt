@@ -244,6 +244,3 @@ pub fn function<'a>(
     };
     Ok((function, rest))
 }
-
-#[cfg(test)]
-pub(crate) mod tests;

@@ -153,6 +153,3 @@ pub fn groups<'a>(
     }
     Ok((named, rest))
 }
-
-#[cfg(test)]
-pub(crate) mod tests;

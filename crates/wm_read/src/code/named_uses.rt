@@ -158,6 +158,3 @@ fn with_ids(alloc: Global, profile: Profile, names: &Names, text: &[u8]) -> Resu
         Err(other) => Err(other),
     }
 }
-
-#[cfg(test)]
-pub(crate) mod tests;

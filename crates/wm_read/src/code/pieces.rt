@@ -284,6 +284,3 @@ pub fn read_piece<'a>(
         OpClass::None => Err(no_instruction(profile, word, here)),
     }
 }
-
-#[cfg(test)]
-pub(crate) mod tests;

@@ -97,6 +97,3 @@ pub fn offset<'a>(
     let rest = constant_end(profile, rest)?;
     Ok((offset, rest))
 }
-
-#[cfg(test)]
-pub(crate) mod tests;

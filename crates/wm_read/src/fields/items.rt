@@ -92,6 +92,3 @@ pub fn item<'a>(names: &Names, text: &'a [u8]) -> Result<(ExportKind, u32, &'a [
     let rest = close(rest)?;
     Ok((kind, x, rest))
 }
-
-#[cfg(test)]
-pub(crate) mod tests;

@@ -62,6 +62,3 @@ pub fn read_fields<'a>(
     }
     Ok((whole, rest))
 }
-
-#[cfg(test)]
-pub(crate) mod tests;

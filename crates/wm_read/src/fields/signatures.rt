@@ -31,6 +31,3 @@ pub fn signature(
     let params = types_of(alloc, &params)?;
     Ok((FuncType { params, results }, rest))
 }
-
-#[cfg(test)]
-pub(crate) mod tests;

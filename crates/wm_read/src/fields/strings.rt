@@ -46,6 +46,3 @@ pub fn bytes(alloc: Global, text: &[u8]) -> Result<(Vec<u8>, &[u8]), TextFault>
         }
     }
 }
-
-#[cfg(test)]
-pub(crate) mod tests;

@@ -94,6 +94,3 @@ pub fn global_type(profile: Profile, text: &[u8]) -> Result<(GlobalType, &[u8]),
         }
     }
 }
-
-#[cfg(test)]
-pub(crate) mod tests;

@@ -246,6 +246,3 @@ pub fn read_heads<'a>(
     }
     Ok((noted.names, rest))
 }
-
-#[cfg(test)]
-pub(crate) mod tests;

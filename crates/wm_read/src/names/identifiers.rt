@@ -182,6 +182,3 @@ pub fn is_new(space: &Space, id: Option<&[u8]>) -> bool
         None => true,
     }
 }
-
-#[cfg(test)]
-pub(crate) mod tests;

@@ -388,6 +388,3 @@ fn push_scalar(bytes: &mut Vec<u8>, n: u32) -> Result<(), AllocError>
         None => Ok(()),
     }
 }
-
-#[cfg(test)]
-pub(crate) mod tests;

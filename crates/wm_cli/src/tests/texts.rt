@@ -1,0 +1,61 @@
+//! Tests of `wm_read`: what is printed of a refused text where no row of `wm_rows` shows it, and its laws.
+
+use std::alloc::Global;
+use std::process::Abort;
+use std::test::Fail;
+use wm_read::faults::{TextRefusal, TextWhy};
+use wm_read::laws;
+
+/// A refusal with a short text, and the two that are in no row: a text needs gigabytes for the first, and the
+/// second is never printed.
+const REFUSALS: [(TextWhy, &str); 3] = [
+    (
+        TextWhy::BadToken,
+        "text refused at 7: BadToken (no token can be read here)",
+    ),
+    (
+        TextWhy::TooManyLocals,
+        "text refused at 7: TooManyLocals (a function declares 2^32 locals or more)",
+    ),
+    (
+        TextWhy::Memory,
+        "text refused at 7: Memory (memory ran out)",
+    ),
+];
+
+fn expect_line(
+    rt: &impl Abort,
+    alloc: Global,
+    why: TextWhy,
+    line: &'static str,
+) -> Result<(), Fail> {
+    let found = format!(in alloc; "{}", TextRefusal { at: 7, why })?;
+    assert!(rt; found.as_str() == line, "{found}");
+    Ok(())
+}
+
+#[test]
+fn refusals_are_printed(rt: HostRuntime) -> Result<(), Fail> {
+    for (why, line) in REFUSALS {
+        expect_line(&rt, rt.alloc(), why, line)?;
+    }
+    Ok(())
+}
+
+#[test]
+fn laws_are_called(_rt: HostRuntime) {
+    laws::standard_words_stay();
+    laws::one_list_of_tokens();
+    laws::one_first_fault();
+    laws::faulty_texts_write_no_module();
+    laws::bodies_are_read_as_written();
+    laws::one_body();
+    laws::groups_are_read_as_written();
+    laws::type_uses_are_read_as_written();
+    laws::heads_are_read_as_written();
+    laws::fields_are_read_as_written();
+    laws::modules_are_read_as_written();
+    laws::one_module();
+    laws::modules_tell_their_profiles();
+    laws::printed_texts_write_their_modules();
+}
