@@ -4,3 +4,5 @@
 
 #[cfg(test)]
 mod decode;
+#[cfg(test)]
+mod rules;
