@@ -101,19 +101,3 @@ fn hash_of(name: &[u8]) -> u64
     }
     hash
 }
-
-#[cfg(test)]
-mod tests {
-    use super::*;
-    use crate::tests::{is, is_copy};
-
-    /// A further field has to be named here, and a further list to be counted.
-    #[test]
-    fn every_field_is_a_list_that_is_counted(rt: HostRuntime) {
-        let exports = ExportNames::new(rt.alloc());
-        let ExportNames { alloc, names, kept } = &exports;
-        is::<Global>(alloc);
-        is::<BTreeSet<HashedName>>(names);
-        is_copy(kept);
-    }
-}

@@ -7,6 +7,8 @@ mod decode;
 #[cfg(test)]
 mod floats;
 #[cfg(test)]
+mod rules;
+#[cfg(test)]
 mod scripts;
 #[cfg(test)]
 mod stacks;

@@ -6,11 +6,11 @@
 pub(crate) mod bytes;
 pub(crate) mod items;
 
-use crate::policy::Policy;
-use crate::{loader, pieces, policy, tests, validator};
+use super::{function_0, judge, loader, pieces, policy, validator};
 use std::alloc::Global;
 use std::fmt::Debug;
 use std::process::Abort;
+use wm_rules::Policy;
 
 /// Makes the calls of a script in turn.
 pub(crate) fn play(rt: &impl Abort, alloc: Global, script: &'static str) {
@@ -35,28 +35,28 @@ fn play_call(rt: &impl Abort, alloc: Global, call: &'static str, wanted: &str) {
 
 fn answer(rt: &impl Abort, alloc: Global, word: &str, with: &'static str) -> String {
     match word {
-        "judge" => tests::judge(rt, alloc, Policy::no_limits(), with),
-        "within" => policy::tests::within(rt, alloc, with),
-        "function_0" => tests::function_0(rt, alloc, with),
-        "build" => loader::tests::build(rt, alloc, with),
-        "show" => loader::tests::show(rt, alloc, with),
-        "both" => loader::tests::both(rt, alloc, with),
-        "kept" => validator::tests::kept(rt, alloc, with),
-        "most" => validator::tests::most(rt, alloc, with),
-        "validate" => pieces::tests::validated(rt, alloc, Policy::no_limits(), with),
+        "judge" => judge(rt, alloc, Policy::no_limits(), with),
+        "within" => policy::within(rt, alloc, with),
+        "function_0" => function_0(rt, alloc, with),
+        "build" => loader::build(rt, alloc, with),
+        "show" => loader::show(rt, alloc, with),
+        "both" => loader::both(rt, alloc, with),
+        "kept" => validator::kept(rt, alloc, with),
+        "most" => validator::most(rt, alloc, with),
+        "validate" => pieces::validated(rt, alloc, Policy::no_limits(), with),
         _ => answer_of_bytes(rt, alloc, word, with),
     }
 }
 
 fn answer_of_bytes(rt: &impl Abort, alloc: Global, word: &str, with: &str) -> String {
     match word {
-        "read" => pieces::tests::read(rt, alloc, with),
-        "cut" => pieces::tests::cut(rt, alloc, with),
-        "from" => pieces::tests::from(rt, alloc, Policy::no_limits(), with),
-        "feed" => loader::tests::feed(rt, alloc, with),
-        "load" => loader::tests::load(rt, alloc, Policy::no_limits(), with),
-        "load_from" => loader::tests::load_source(rt, alloc, Policy::no_limits(), with),
-        "count" => loader::tests::count(rt, alloc, with),
+        "read" => pieces::read(rt, alloc, with),
+        "cut" => pieces::cut(rt, alloc, with),
+        "from" => pieces::from(rt, alloc, Policy::no_limits(), with),
+        "feed" => loader::feed(rt, alloc, with),
+        "load" => loader::load(rt, alloc, Policy::no_limits(), with),
+        "load_from" => loader::load_source(rt, alloc, Policy::no_limits(), with),
+        "count" => loader::count(rt, alloc, with),
         _ => unknown(rt, word),
     }
 }

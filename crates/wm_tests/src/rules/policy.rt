@@ -1,10 +1,10 @@
 //! What passes a policy, and what is just within it.
 
-use super::*;
-use crate::scripts::{number_of, play, unknown, word_of};
-use crate::{loader, pieces, tests};
+use super::scripts::{number_of, play, unknown, word_of};
+use super::{judge, loader, pieces};
 use std::alloc::Global;
 use std::process::Abort;
+use wm_rules::Policy;
 
 /// The answer to a call under a policy: its limits of functions, locals and depth, and the call.
 pub(crate) fn within(rt: &impl Abort, alloc: Global, text: &'static str) -> String {
@@ -22,11 +22,11 @@ pub(crate) fn within(rt: &impl Abort, alloc: Global, text: &'static str) -> Stri
 fn answer(rt: &impl Abort, alloc: Global, policy: Policy, call: &'static str) -> String {
     let (word, with) = word_of(call);
     match word {
-        "judge" => tests::judge(rt, alloc, policy, with),
-        "validate" => pieces::tests::validated(rt, alloc, policy, with),
-        "from" => pieces::tests::from(rt, alloc, policy, with),
-        "load" => loader::tests::load(rt, alloc, policy, with),
-        "load_from" => loader::tests::load_source(rt, alloc, policy, with),
+        "judge" => judge(rt, alloc, policy, with),
+        "validate" => pieces::validated(rt, alloc, policy, with),
+        "from" => pieces::from(rt, alloc, policy, with),
+        "load" => loader::load(rt, alloc, policy, with),
+        "load_from" => loader::load_source(rt, alloc, policy, with),
         _ => unknown(rt, word),
     }
 }
