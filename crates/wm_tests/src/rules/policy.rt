@@ -1,7 +1,8 @@
 //! What passes a policy, and what is just within it.
 
-use super::scripts::{number_of, play, unknown, word_of};
+use super::scripts::play;
 use super::{judge, loader, pieces};
+use crate::scripts::{number_of, unknown, word_of};
 use std::alloc::Global;
 use std::process::Abort;
 use wm_rules::Policy;

@@ -7,8 +7,8 @@ pub(crate) mod bytes;
 pub(crate) mod items;
 
 use super::{function_0, judge, loader, pieces, policy, validator};
+use crate::scripts::{parts_of, unknown, word_of};
 use std::alloc::Global;
-use std::fmt::Debug;
 use std::process::Abort;
 use wm_rules::Policy;
 
@@ -59,34 +59,4 @@ fn answer_of_bytes(rt: &impl Abort, alloc: Global, word: &str, with: &str) -> St
         "count" => loader::count(rt, alloc, with),
         _ => unknown(rt, word),
     }
-}
-
-/// An answer, as Debug writes it.
-pub(crate) fn shown<T: Debug + Drop>(rt: &impl Abort, alloc: Global, answer: T) -> String {
-    format!(in alloc; "{answer:?}").expect(rt, "memory")
-}
-
-/// Ends the test at a word that a script cannot have.
-pub(crate) fn unknown(rt: &impl Abort, word: &str) -> ! {
-    panic!(rt; "unknown in a script: {word:?}")
-}
-
-/// The first word of a text, and what follows it.
-pub(crate) fn word_of(text: &str) -> (&str, &str) {
-    match text.split_once(' ') {
-        Some(parts) => parts,
-        None => (text, ""),
-    }
-}
-
-/// What stands before a mark, and what stands behind it.
-pub(crate) fn parts_of<'a>(rt: &impl Abort, text: &'a str, mark: &str) -> (&'a str, &'a str) {
-    match text.split_once(mark) {
-        Some(parts) => parts,
-        None => unknown(rt, text),
-    }
-}
-
-pub(crate) fn number_of(rt: &impl Abort, word: &str) -> u32 {
-    word.parse::<u32>().expect(rt, "a number")
 }
