@@ -66,7 +66,7 @@ module _ (B : List Token → Type 0) (A : List ℕ → Type 0) (c : Closed B A) 
   pub keeps_paren : (w : List ℕ) → is_word w ≡ true → (P : Form Token) → Keeps P → Keeps (Paren w P)
   keeps_paren w word P p f (a, b, e, is, (x, y, e2, h, last)) =
       let text : f ≡ open_paren ∷ atom w ∷ (x ++ close_paren ∷ []) =
-          e ∙ ap (λ (z : List Token). z ++ b) is ∙ ap (λ (z : List Token). open_paren ∷ atom w ∷ z) (e2 ∙ ap (λ (z : List Token). x ++ z) last) in
+      e ∙ ap (λ (z : List Token). z ++ b) is ∙ ap (λ (z : List Token). open_paren ∷ atom w ∷ z) (e2 ∙ ap (λ (z : List Token). x ++ z) last) in
       subst B (sym text) (c.paren w x (c.word w word) (p x h))
 
   -- ---- numbers, identifiers, types, type uses

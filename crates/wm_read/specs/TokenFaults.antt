@@ -1,6 +1,8 @@
--- What is wrong with the tokens of a text that has none, and where (sections 6.2 and 6.3). Where it matters, a
--- definition takes whether there are floats: without them an atom that only has the form of a float is no token.
-use Rattle.std.specs.Prelude.{◌≡◌, ◌≢◌, ℕ, ◌+◌, ◌⊎◌, ◌↔◌, List, [], ◌∷◌, ◌++◌, Bool, IsTrue, IsUtf8, codes, length}
+-- What is wrong with the tokens of a text that has none, and where (sections 6.2 and 6.3). Where it matters,
+-- a definition takes whether there are floats: without them an atom that only has the form of a float is no
+-- token.
+use Rattle.std.specs.Prelude.{◌≡◌, ◌≢◌, ℕ, ◌+◌, ◌⊎◌, ◌↔◌, List, [], ◌∷◌, ◌++◌, Bool, IsTrue, IsUtf8}
+use Rattle.std.specs.Prelude.{codes, length}
 use Rattle.std.specs.Str.{IsValidUpTo}
 use Rattle.wm_syntax.specs.declared.profile.Profile.{Profile}
 use Rattle.wm_syntax.specs.declared.profile.Feature.TheVariants.{Floats}
@@ -91,14 +93,15 @@ IsOfTokens OpenString = Unit {0}
 IsOfTokens BadEscape = Unit {0}
 IsOfTokens _ = ⊥
 
--- What an answer of this name and this place says of the tokens: it is one of the four exactly where they have
--- a fault, and then it is the first one's, with its place.
+-- What an answer of this name and this place says of the tokens: it is one of the four exactly where they
+-- have a fault, and then it is the first one's, with its place.
 abbrev pub TellsFault : Bool → List ℕ → TextWhy → ℕ → Type 0
 TellsFault floats text why at =
     (w : TextWhy) (n : ℕ) → FirstFault floats text w n ↔ (IsOfTokens w × (why ≡ w) × (at ≡ n))
 
--- What the refusal of a text says of its bytes, and, unless memory was refused, of its tokens under a profile.
--- It is NotUtf8 exactly where the bytes are no UTF-8; the place is then the length of their longest front that is.
+-- What the refusal of a text says of its bytes, and, unless memory was refused, of its tokens under a
+-- profile. It is NotUtf8 exactly where the bytes are no UTF-8; the place is then the length of their longest
+-- front that is.
 abbrev pub TellsText : Profile → List ℕ → TextWhy → ℕ → Type 0
 TellsText p text why at = ((why ≡ NotUtf8) ↔ (IsUtf8 text → ⊥))
     × (why ≡ NotUtf8 → IsValidUpTo text at) × (why ≢ Memory → TellsFault (has p Floats) text why at)

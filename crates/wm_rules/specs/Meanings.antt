@@ -1,7 +1,8 @@
 -- What the name of a refusal says of the bytes up to its place, where a rule was broken or a limit of the
 -- policy was passed: of the items that are complete in them. The names of the format say what they say of any
 -- sink.
-use Rattle.std.specs.Prelude.{◌≡◌, ◌≢◌, ℕ, ◌+◌, ◌-◌, ◌^◌, ◌<◌, ◌≤◌, Bool, true, false, List, [], ◌∷◌, ◌++◌, None}
+use Rattle.std.specs.Prelude.{◌≡◌, ◌≢◌, ℕ, ◌+◌, ◌-◌, ◌^◌, ◌<◌, ◌≤◌, Bool, true, false, List, [], ◌∷◌, ◌++◌}
+use Rattle.std.specs.Prelude.{None}
 use Rattle.std.specs.Prelude.{◌⊎◌, Option, Some, length, map, option_to_list, slice_get}
 use Rattle.wm_syntax.specs.declared.types.GlobalType.{GlobalType}
 use Rattle.wm_syntax.specs.declared.instructions.Simple.TheVariants as simple
@@ -318,8 +319,8 @@ pub record OperandDiffers (types takes : List ValType) : Type 0 where
   pub taken : takes ≡ before ++ wanted ∷ above
   pub differ : there ≢ wanted
 
--- Type: in a body (sections 3.3.1 to 3.3.6) an op has a type in its context, but whatever it takes, an operand
--- of such a list has another type. So has the result of a list at an else or an end, unless an if with a
+-- Type: in a body (sections 3.3.1 to 3.3.6) an op has a type in its context, but whatever it takes, an
+-- operand of such a list has another type. So has the result of a list at an else or an end, unless an if with a
 -- result ends there without an else; and at a label of a br_table the operand, or a label that was seen.
 abbrev pub TypesDiffer : Context → Place → Op → List ValType → Type 0
 TypesDiffer c q (op.Simple p) types =
@@ -347,8 +348,8 @@ IsMistyped items (body_op o) =
     → TypesDiffer (context_of_body b.entry b.type_index) b.typing.0 o types)
 IsMistyped items _ = ⊥
 
--- Arity: in a body (sections 3.3.1 to 3.3.6) an op has a type in its context, but whatever it takes is more than
--- such a list has; and at an else or an end the list has not as many types as the result
+-- Arity: in a body (sections 3.3.1 to 3.3.6) an op has a type in its context, but whatever it takes is more
+-- than such a list has; and at an else or an end the list has not as many types as the result
 abbrev pub CountDiffers : Context → Place → Op → List ValType → Type 0
 CountDiffers c q (op.Simple p) types =
     ((takes gives : List ValType) × TypedSimple (at c (heads_of q)) p takes gives)
@@ -389,7 +390,8 @@ AreManyLocals q items (locals n t) =
 AreManyLocals q items _ = ⊥
 
 -- Deep: the first block, loop or if of the body with which more are open than the policy allows. The body
--- itself is an open list and no block, so with this op as many blocks are open as there were open lists before.
+-- itself is an open list and no block, so with this op as many blocks are open as there were open lists
+-- before.
 abbrev pub IsTooDeep : Policy → List Item → Item → Type 0
 IsTooDeep q items (body_op o) =
     (b : InBody items) × (opens o ≡ 1) × Passes q.depth (levels b.typing.0 - 1) (levels b.typing.0)
