@@ -350,6 +350,9 @@ fn laws_are_called(rt: HostRuntime) -> Result<(), Fail> {
     laws::one_spelling_one_module();
     laws::slices_join::<Recorder>();
     laws::format_names_mean::<Recorder>();
+    laws::rule_names_are_of_items::<Recorder>();
+    laws::profiles_answer_alike::<Recorder>();
+    laws::items_tell_the_profile();
     let told = told(rt.alloc(), Profile::One, &HEADER, 0, 1)?;
     assert_eq!(rt; told.as_str(), "taken");
     Ok(())
