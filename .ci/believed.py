@@ -41,9 +41,11 @@ wm_rules Validator: *state: Result<Decoder<Checker>, Refusal>
 wm_rules Loader: *state: Result<Decoder<Both<Checker, Builder>>, Refusal>
 """
 
-# A field of a struct, as rustfmt lays it out
-FIELD = re.compile(r"^    (?:pub(?:\(crate\))? )?(\w+): (.+),$", re.M)
-COPIED = re.compile(r"#\[derive\([^)]*\bCopy\b[^)]*\)\]\n(?:#\[.*\]\n)*(?:pub(?:\(crate\))? )?(?:struct|enum) (\w+)")
+# A line of a struct with a field, as rustfmt lays it out, and one with none
+VISIBLE = r"(?:pub(?:\([^)]*\))? )?"
+FIELD = re.compile(rf"    {VISIBLE}(\w+): (.+),")
+NO_FIELD = re.compile(r"\s*|    //.*|    #\[.*\]|    ghost .*")
+COPIED = re.compile(rf"#\[derive\([^)]*\bCopy\b[^)]*\)\]\n(?:#\[.*\]\n)*{VISIBLE}(?:struct|enum) (\w+)")
 PLAIN = {"bool", "u8", "u32", "u64", "usize", "i32", "i64", "Option", "Global"}
 
 
@@ -56,23 +58,36 @@ def imported():
             yield f"{path.relative_to(TOP)}: a definition imports an exact answer: {line.strip()}"
 
 
+def fields_of(source, struct):
+    """The fields of a struct, each with its type. What is no field in one line stands there as it is."""
+    body = re.search(rf"^{VISIBLE}struct {struct}\b[^{{;]*{{\n(.*?)^}}", source, re.M | re.S)
+    for line in body[1].splitlines() if body else []:
+        field = FIELD.fullmatch(line)
+        if field:
+            yield field.groups()
+        elif not NO_FIELD.fullmatch(line):
+            yield line, ""
+
+
 def uncounted():
     """The structs whose fields are others than KEPT names, and fields that are neither counted nor copied."""
     sources = {
         crate.name: "\n".join(path.read_text(encoding="utf8") for path in sorted(crate.glob("src/**/*.rt")))
         for crate in sorted(TOP.glob("crates/*"))
     }
-    copied = PLAIN.union(*(COPIED.findall(source) for source in sources.values()))
+    copied = {name: set(COPIED.findall(source)) for name, source in sources.items()}
     for row in KEPT.strip().splitlines():
         head, named = row.split(": ", 1)
-        crate, name = head.split()
-        body = re.search(rf"^(?:pub(?:\(crate\))? )?struct {name}\b[^{{;]*{{\n(.*?)^}}", sources[crate], re.M | re.S)
-        found = FIELD.findall(body[1]) if body else []
+        crate, struct = head.split()
+        found = list(fields_of(sources[crate], struct))
         if ", ".join(f"{field}: {kind}" for field, kind in found) != named.replace("*", ""):
-            yield f"{crate}: {name} has other fields than .ci/believed.py names: {found}"
+            yield f"{crate}: {struct} has other fields than .ci/believed.py names: {found}"
         for field, kind in found:
-            if f"*{field}: " not in named and not copied.issuperset(re.findall(r"\w+", kind)):
-                yield f"{crate}: {name}: {field} is not counted, and {kind} is not copied"
+            words = set(re.findall(r"\w+", kind)) - PLAIN - copied[crate]
+            # a word that the crate itself does not define is one of a crate below
+            foreign = {word for word in words if not re.search(rf"^{VISIBLE}(?:struct|enum) {word}\b", sources[crate], re.M)}
+            if f"*{field}: " not in named and (words != foreign or not foreign <= set().union(*copied.values())):
+                yield f"{crate}: {struct}: {field} is not counted, and {kind} is not copied"
 
 
 def main():

@@ -155,6 +155,7 @@ def swept(name, program, runs, kind_of_run, gives_back=False):
 def is_name_lent(program):
     """Whether a name that lies whole in what is read takes no growth, and one that does not takes some."""
     if compiler() is None:
+        print("growths: there is no C compiler here, so no growths of wmod with names were counted", flush=True)
         return True
     with tempfile.TemporaryDirectory(prefix="growths-") as room:
         refuser = Refuser(room)

@@ -131,7 +131,8 @@ def main():
         for name, deeper, wanted in (("a block is kept", KEEPS, False), ("all is given back", GIVES_BACK, True)):
             if growths.swept("a stand-in", built(room, RIGHT, deeper), [(["check"], b"")], growths.kind_of, gives_back=True) != wanted:
                 faults.append(f"growths.py and a stand-in of which all is to be given back: {name}")
-        for name, deeper, wanted in (("a name longer than a piece is lent", "", False), ("it is copied", "if (size > 9999) malloc(1);", True)):
+        names = (("one longer than a piece is lent", "", False), ("it is copied", "if (size > 9999) malloc(1);", True), ("each is copied", "if (size > 11) malloc(1);", False))
+        for name, deeper, wanted in names:
             if growths.is_name_lent(built(room, RIGHT, deeper)) != wanted:
                 faults.append(f"growths.py and a stand-in for names: {name}")
         # (no stand-in answers all that deep.py asks: what is looked at is how it ends)

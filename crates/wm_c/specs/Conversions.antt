@@ -101,8 +101,8 @@ pub record Builds (s : Spellings) (input : List ℕ) (p : Profile) (limit : ℕ)
   pub valid : Valid m
   pub within : Within q m
 
--- why a module has no canonical binary, or is none to be given: its refusal is that binary's, of which what its
--- name says is so
+-- why a module has no canonical binary, or is none to be given: its refusal is that binary's, of which what
+-- its name says is so
 abbrev pub IsUnchecked : Profile → Policy → Module → CheckFault → Type 0
 IsUnchecked p q m (check.Refused r) = (Valid m → Within q m → ⊥) × (r.why ≢ why.Memory)
     × (verdict p (2 ^ 62) q (canon m) ≡ Err r) × (r.at ≤ length (canon m)) × Meaning p (2 ^ 62) q (canon m) r

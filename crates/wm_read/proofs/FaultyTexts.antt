@@ -17,7 +17,7 @@ use Rattle.wm_read.specs.Tokens.{Token, open_paren, close_paren, string, atom, B
 use Rattle.wm_read.specs.TokenFaults.{IsAmong, LeadsTo, FirstFault}
 use Rattle.wm_read.specs.TokenFaults as lead
 use Rattle.wm_read.specs.Identifiers.{Id, WritesId, Resolves}
-use Rattle.wm_read.specs.Written.{Paren, WritesGroups, WritesResults, Names, TypeUse, WritesInstructions, ids_of}
+use Rattle.wm_read.specs.Written.{Paren, WritesGroups, WritesResults, Names, Scope, TypeUse, WritesInstructions, ids_of}
 use Rattle.wm_read.specs.Fields.{Field, type_field, import_field, function_field, table_field, memory_field, global_field, export_field, start_field, element_field, segment_field, WritesName, WritesSignature, WritesLimits, WritesTableType, WritesGlobalType, WritesConst, WritesDesc, WritesExport, WritesOffset, WritesStrings, WritesField, Writes, function_of, global_of, element_of, segment_of, module_of, names_of}
 use Rattle.wm_read.specs.Spellings.{IsTextOf, replaced}
 use Rattle.wm_read.specs.declared.faults.TextWhy.{TextWhy}
@@ -107,7 +107,7 @@ module _ (p : Profile) (none : has p Floats ≡ false) where
       (then (WritesName i.module_name) (WritesName i.item_name ▸ WritesDesc names id i.desc) (keeps_name Plain IsPlain closed p float i.module_name)
       (then (WritesName i.item_name) (WritesDesc names id i.desc) (keeps_name Plain IsPlain closed p float i.item_name) (plain_desc names id i.desc))) f h
   plain_field names (function_field id x) fine f (params, locals, is, lt, distinct, h) =
-      let scope = record { names = names; locals = ids_of (params ++ locals) } in
+      let scope : Scope = record { names = names; locals = ids_of (params ++ locals) } in
       paren (codes "func") refl (WritesId id ▸ TypeUse names x.type_index params ▸ WritesGroups (codes "local") locals ▸ WritesInstructions scope [] x.body)
       (then (WritesId id) (TypeUse names x.type_index params ▸ WritesGroups (codes "local") locals ▸ WritesInstructions scope [] x.body) (plain_id id)
       (then (TypeUse names x.type_index params) (WritesGroups (codes "local") locals ▸ WritesInstructions scope [] x.body) (keeps_use Plain IsPlain closed p float names x.type_index params)

@@ -86,7 +86,7 @@ one_opened most n m (op.If t) l e = let s = one_sound most n m e in omega (arith
 one_opened most n m op.End l e = let is : n - 1 ≡ m = cc (e) in omega (arith, l, is)
 one_opened most n m _ l e = let is : n ≡ m = cc (e) in omega (arith, is)
 
-opened_is : (most n m : ℕ) (ops : List Op) → ((front back : List Op) → ops ≡ front ++ back → endings front ≤ n + openings front) → opened most n ops ≡ Some m → m + endings ops ≡ n + openings ops
+pub opened_is : (most n m : ℕ) (ops : List Op) → ((front back : List Op) → ops ≡ front ++ back → endings front ≤ n + openings front) → opened most n ops ≡ Some m → m + endings ops ≡ n + openings ops
 opened_is most n m [] low e = let is : n ≡ m = cc (e) in omega (arith, is)
 opened_is most n m (o ∷ ops) low e =
     let s = then_some (open_after o most n) (λ k. opened most k ops) m e in
@@ -107,7 +107,7 @@ module _ (q : Policy) (items : List Item) (c : Counts) (t : all_taken counted (c
       none_yet (Some most) = refl
 
   -- of the code entry at hand
-  entry_told : (e : InEntry items) → (runs_counted q.locals 0 e.code.runs ≡ Some c.locals) × (ops_open q.depth 0 e.code.ops ≡ Some c.blocks)
+  pub entry_told : (e : InEntry items) → (runs_counted q.locals 0 e.code.runs ≡ Some c.locals) × (ops_open q.depth 0 e.code.ops ≡ Some c.blocks)
   entry_told e =
       let start = counts_at_start q in
       let s = ok_then (all_taken counted start e.before) (λ g. all_taken counted g (code_items e.code)) c (sym (taken-append counted e.before (code_items e.code) start) ∙ (ap (λ y. all_taken counted start y) (sym e.whole) ∙ t)) in

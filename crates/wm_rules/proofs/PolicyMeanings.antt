@@ -18,10 +18,10 @@ use Rattle.wm_rules.specs.declared.policy.Policy.{Policy}
 use Rattle.wm_rules.specs.exact.Checking.{after, empty_checker}
 use Rattle.wm_rules.specs.exact.Counting.{count_after, counted, counts_at_start, one_open_more, open_after, open_within, with_functions, with_locals, with_open}
 use Rattle.wm_rules.specs.Holding.{Held}
-use Rattle.wm_rules.specs.Meanings.{AreManyFunctions, AreManyLocals, IsTooDeep, so_far}
-use Rattle.wm_rules.specs.Policies.{AtMost, Passes}
+use Rattle.wm_rules.specs.Meanings.{AreManyFunctions, AreManyLocals, InEntry, IsTooDeep, so_far}
+use Rattle.wm_rules.specs.Policies.{AtMost, GoesPast}
 use Rattle.wm_rules.proofs.CountedSoFar.{IsCount, blocks_told, functions_told, locals_told, policy_kept}
-use Rattle.wm_rules.proofs.CountsWithin.{counts_fit}
+use Rattle.wm_rules.proofs.CountsWithin.{blocks_fit_so_far, counts_fit}
 use Rattle.wm_rules.proofs.EntryItems.{GoesOn, Stood}
 use Rattle.wm_rules.proofs.PolicyItems.{count_takes, none_some, one_more}
 use Rattle.wm_rules.proofs.RuleMeanings.{Says, Wrong, body_at_hand}
@@ -47,25 +47,22 @@ pub by_rules : (q : Policy) (w : Why) (items : List Item) (x : Item) → Wrong w
 by_rules q w items x h = (h.0, λ s. rule_says q w items x (h.1 s))
 
 -- with more than were counted the limit is passed, and not before
-past : (limit : Option ℕ) (n m more : ℕ) → IsCount limit n m → AtMost limit n → count_after limit n more ≡ None → Passes limit m (m + more)
+past : (limit : Option ℕ) (n m more : ℕ) → IsCount limit n m → AtMost limit n → count_after limit n more ≡ None → GoesPast limit m (m + more)
 past None n m more i f e = absurd (none_some n (sym e))
 past (Some most) n m more i f e = (omega (arith, i, f), λ l. none_some (n + more) (sym e ∙ count_takes most n more (omega (arith, i, l))))
 
 -- an op that is refused opens a list, and as many are open as the limit allows
-opens_past : (o : Op) (limit : Option ℕ) (n m : ℕ) → IsCount limit (n + 1) m → AtMost limit n → open_within o limit n ≡ None → (opens o ≡ 1) × Passes limit (m - 1) m
-opens_past o None n m i f e = absurd (none_some n (sym e))
-opens_past o (Some most) n m i f e = go o e
+opens_past : (o : Op) (limit : Option ℕ) (n m : ℕ) → IsCount limit (n + 1) m → open_within o limit n ≡ None → (opens o ≡ 1) × (AtMost limit m → ⊥)
+opens_past o None n m i e = absurd (none_some n (sym e))
+opens_past o (Some most) n m i e = go o e
   where
     full : one_open_more most n ≡ None → m ≤ most → ⊥
     full e l = let low : n < most = omega (arith, i, l) in none_some (n + 1) (sym e ∙ one_more most n low)
 
-    before : m - 1 ≤ most
-    before = omega (arith, i, f)
-
-    go : (o : Op) → open_after o most n ≡ None → (opens o ≡ 1) × ((m - 1 ≤ most) × (m ≤ most → ⊥))
-    go (op.Block t) e = (refl, (before, full e))
-    go (op.Loop t) e = (refl, (before, full e))
-    go (op.If t) e = (refl, (before, full e))
+    go : (o : Op) → open_after o most n ≡ None → (opens o ≡ 1) × (m ≤ most → ⊥)
+    go (op.Block t) e = (refl, full e)
+    go (op.Loop t) e = (refl, full e)
+    go (op.If t) e = (refl, full e)
     go op.End e = absurd (none_some (n - 1) (sym e))
     go o e = absurd (none_some n (sym e))
 
@@ -84,8 +81,8 @@ module _ (q : Policy) (items : List Item) (h : Held) (c : Counts) (t : all_taken
   kept : c.policy ≡ q
   kept = policy_kept q items c k
 
-  fits : AtMost q.functions c.functions × AtMost q.locals c.locals × AtMost q.depth c.blocks
-  fits = subst (λ (p : Policy). AtMost p.functions c.functions × AtMost p.locals c.locals × AtMost p.depth c.blocks) kept (counts_fit q items c k)
+  fits : AtMost q.functions c.functions × AtMost q.locals c.locals
+  fits = subst (λ (p : Policy). AtMost p.functions c.functions × AtMost p.locals c.locals) kept (counts_fit q items c k)
 
   by_name : (x : Item) (v w : Why) → v ≡ w → WrongBy q v items x → WrongBy q w items x
   by_name x v w same says = subst (λ w. WrongBy q w items x) same says
@@ -95,7 +92,7 @@ module _ (q : Policy) (items : List Item) (h : Held) (c : Counts) (t : all_taken
   functions_err (Some n) w e = absurd (cc)
   functions_err None w e = (cc, refl)
 
-  many_functions : count_after c.policy.functions c.functions 1 ≡ None → Passes q.functions (length (so_far items).functions) (length (so_far items).functions + 1)
+  many_functions : count_after c.policy.functions c.functions 1 ≡ None → GoesPast q.functions (length (so_far items).functions) (length (so_far items).functions + 1)
   many_functions e =
       past q.functions c.functions (length (so_far items).functions) 1 (functions_told q items c k) fits.0
       (subst (λ (p : Policy). count_after p.functions c.functions 1 ≡ None) kept e)
@@ -135,8 +132,13 @@ module _ (q : Policy) (items : List Item) (h : Held) (c : Counts) (t : all_taken
       let b = body_at_hand items h t s.0 in
       let n = blocks_told q items c k s.0 (fronts_open s.0.code.ops o s.1) in
       let more = opens_past o q.depth c.blocks (levels b.0.typing.0) (one_more_list q.depth c.blocks (levels b.0.typing.0) (endings s.0.code.ops) (openings s.0.code.ops) n b.1)
-      fits.2 (subst (λ (p : Policy). open_within o p.depth c.blocks ≡ None) kept e) in
-      (b.0, more.0, more.1)
+      (subst (λ (p : Policy). open_within o p.depth c.blocks ≡ None) kept e) in
+      let low = fronts_open s.0.code.ops o s.1 in (
+        b.0,
+        more.0,
+        (λ front back is. blocks_fit_so_far q items c k s.0 low front back (ap (λ (e : InEntry items). e.code.ops) (sym b.2) ∙ is)),
+        more.1,
+      )
 
   pub count_refused : (x : Item) (w : Why) → counted c x ≡ Err w → WrongBy q w items x
   count_refused (import_desc d) w e = import_refused d w e

@@ -329,8 +329,8 @@ module _ (items : List Item) (h : Held) (t : all_taken after empty_checker items
       record { entry = e; type_index = a.type_index; is_type = a.is_type; typing = (k.place, k.so_far, holds_can (context_of_body e a.type_index) k.place k.frames k.holds) }
 
   -- and how many lists are open in it
-  pub body_at_hand : (e : InEntry items) → (b : InBody items) × (levels b.typing.0 + endings e.code.ops ≡ openings e.code.ops + 1)
-  body_at_hand e = (body_now e, (entry_at_hand e).held.nested)
+  pub body_at_hand : (e : InEntry items) → (b : InBody items) × (levels b.typing.0 + endings e.code.ops ≡ openings e.code.ops + 1) × (b.entry ≡ e)
+  body_at_hand e = (body_now e, (entry_at_hand e).held.nested, refl)
 
   heads_now : (e : InEntry items) → heads_of (body_now e).typing.0 ≡ map head_of h.body.state.stacks.frames
   heads_now e =

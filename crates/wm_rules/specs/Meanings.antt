@@ -8,7 +8,7 @@ use Rattle.wm_syntax.specs.declared.types.GlobalType.{GlobalType}
 use Rattle.wm_syntax.specs.declared.instructions.Simple.TheVariants as simple
 use Rattle.wm_syntax.specs.declared.instructions.Op.{Op}
 use Rattle.wm_syntax.specs.declared.instructions.Op.TheVariants as op
-use Rattle.wm_syntax.specs.Instructions.{opens}
+use Rattle.wm_syntax.specs.Instructions.{endings, openings, opens}
 use Rattle.wm_syntax.specs.Opcodes.{load, store}
 use Rattle.wm_syntax.specs.declared.profile.Profile.{Profile}
 use Rattle.wm_syntax.specs.declared.why.Why.{Why}
@@ -34,7 +34,7 @@ use Rattle.wm_decode.specs.Items.{body, locals, body_op, segment}
 use Rattle.wm_decode.specs.Meanings.{AtItem, Meant, Means as MeansOfFormat}
 use Rattle.wm_rules.specs.declared.policy.Policy.{Policy}
 use Rattle.wm_rules.specs.Holding.{IndexSpaces}
-use Rattle.wm_rules.specs.Policies.{Passes}
+use Rattle.wm_rules.specs.Policies.{AtMost, GoesPast}
 use Rattle.wm_rules.specs.Validation.{ValidMemory, ValidTable}
 
 -- The index spaces of the module so far (section 2.5.1), as its items tell them: what each of them adds.
@@ -377,24 +377,27 @@ HasWrongCount items _ = ⊥
 -- ManyFunctions: the first function, imported or own, with which there are more than the policy allows
 abbrev pub AreManyFunctions : Policy → List Item → Item → Type 0
 AreManyFunctions q items (function x) =
-    Passes q.functions (length (so_far items).functions) (length (so_far items).functions + 1)
+    GoesPast q.functions (length (so_far items).functions) (length (so_far items).functions + 1)
 AreManyFunctions q items (import_desc (desc.Func x)) =
-    Passes q.functions (length (so_far items).functions) (length (so_far items).functions + 1)
+    GoesPast q.functions (length (so_far items).functions) (length (so_far items).functions + 1)
 AreManyFunctions q items _ = ⊥
 
 -- ManyLocals: the first run of locals with which the code entry declares more than the policy allows
 abbrev pub AreManyLocals : Policy → List Item → Item → Type 0
 AreManyLocals q items (locals n t) =
     (e : InEntry items) × (e.code.ops ≡ [])
-    × Passes q.locals (length (locals_of e.code.runs)) (length (locals_of e.code.runs) + n)
+    × GoesPast q.locals (length (locals_of e.code.runs)) (length (locals_of e.code.runs) + n)
 AreManyLocals q items _ = ⊥
 
--- Deep: the first block, loop or if of the body with which more are open than the policy allows. The body
--- itself is an open list and no block, so with this op as many blocks are open as there were open lists
--- before.
+-- Deep: the first block, loop or if of the body with which more are open than the policy allows. After each
+-- front of its ops so many are open as were opened and not ended. The body itself is an open list and no block,
+-- so with this op as many blocks are open as there were open lists before.
 abbrev pub IsTooDeep : Policy → List Item → Item → Type 0
 IsTooDeep q items (body_op o) =
-    (b : InBody items) × (opens o ≡ 1) × Passes q.depth (levels b.typing.0 - 1) (levels b.typing.0)
+    (b : InBody items) × (opens o ≡ 1)
+    × ((front back : List Op) → b.entry.code.ops ≡ front ++ back
+    → AtMost q.depth (openings front - endings front))
+    × (AtMost q.depth (levels b.typing.0) → ⊥)
 IsTooDeep q items _ = ⊥
 
 -- What the name says. It is said of the 14 names of the format, of the twelve of rules, and of the three of a

@@ -1,5 +1,5 @@
-//! Tests of the libraries, over what these hand out. A crate with tests is proved twice, with them and
-//! without; so they stand here, above the crates that they try.
+//! Tests of the libraries below `wm_read`, over what they hand out. A crate with tests is proved twice, with
+//! them and without; so they stand here, above the crates that they try.
 #![tactic(auto)]
 
 #[cfg(test)]

@@ -144,18 +144,13 @@ fn read_head<'n, 'a>(
 }
 
 /// The first fault among the tokens of parameters and locals that more than so many bytes are left at: an
-/// identifier that comes again, or a local after the `most` that there may be.
-fn earlier(
-    alloc: Global,
-    text: &[u8],
-    left: usize,
-    most: usize,
-) -> Result<Option<TextFault>, AllocError>
+/// identifier that comes again, or a local after the 2^32 - 1 that there may be.
+fn earlier(alloc: Global, text: &[u8], left: usize) -> Result<Option<TextFault>, AllocError>
     ensures { IfOk result (λ o. IfSome o (λ e. (e.why ≡ RepeatedId) ⊎ (e.why ≡ TooManyLocals))) }
 {
     let mut seen = Space::new(alloc);
     let mut in_locals = false;
-    let mut room = most;
+    let mut room = u32::MAX;
     let mut rest = text;
     loop {
         match next_token(rest) {
@@ -197,7 +192,7 @@ fn first_fault(alloc: Global, names: &Names, fault: TextFault, text: &[u8]) -> T
     let Ok((_, rest)) = type_index(names, text) else {
         return fault;
     };
-    match earlier(alloc, rest, fault.left, 0xFFFF_FFFF) {
+    match earlier(alloc, rest, fault.left) {
         Ok(Some(other)) => other,
         Ok(None) => fault,
         Err(_) => TextFault::MEMORY,
