@@ -190,9 +190,10 @@ fn text(alloc: Global, rest: &str) -> io::Result<Vec<u8>> {
     if let Some(words) = rest.strip_prefix("bytes ") {
         return bytes(alloc, words);
     }
-    match rest.strip_prefix("many ") {
+    let text = rest.replace(alloc, "␊", "\n")?;
+    match text.as_str().strip_prefix("many ") {
         Some(parts) => repeated(alloc, parts),
-        None => Ok(rest.replace(alloc, "␊", "\n")?.as_bytes().to_vec(alloc)?),
+        None => Ok(text.as_bytes().to_vec(alloc)?),
     }
 }
 
