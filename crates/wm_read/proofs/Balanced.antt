@@ -1,5 +1,5 @@
 -- The parentheses of a field's tokens balance, so that skipping goes past them.
-use Rattle.std.proofs.Common.{◌≡◌, ℕ, suc, Bool, true, List, [], ◌∷◌, ◌++◌, None, refl, ap, ◌∙◌, append_assoc}
+use Rattle.std.proofs.Common.{◌≡◌, ℕ, suc, Bool, true, List, [], ◌∷◌, ◌++◌, refl, ap, ◌∙◌, append_assoc}
 use Rattle.std.specs.Prelude.{IsTrue}
 use Rattle.wm_syntax.specs.Spelling.{Form, Each, ◌▸◌}
 use Rattle.wm_syntax.specs.declared.types.ValType.{ValType}
@@ -8,10 +8,10 @@ use Rattle.wm_syntax.specs.declared.types.Limits.{Limits}
 use Rattle.wm_syntax.specs.declared.profile.Profile.TheVariants.{Four}
 use Rattle.wm_syntax.specs.declared.profile.Feature.TheVariants.{Floats}
 use Rattle.wm_syntax.specs.Instructions.{Instructions}
-use Rattle.wm_syntax.specs.Modules.{Export, Element, Module, Segment, constant, empty_module}
+use Rattle.wm_syntax.specs.Modules.{Export, Element, Segment, constant, empty_module}
 use Rattle.wm_syntax.specs.Profiles.{feature_of, has, HasInstructions}
 use Rattle.wm_syntax.proofs.ProfileLaws.{four_has, module_of_four}
-use Rattle.wm_read.specs.Tokens.{Token, open_paren, close_paren, string, atom}
+use Rattle.wm_read.specs.Tokens.{Token, open_paren, close_paren, atom}
 use Rattle.wm_read.specs.Identifiers.{Ids, Resolves}
 use Rattle.wm_read.specs.Written.{Named, WritesGroups, Names, TypeUse, Scope, WritesInstructions}
 use Rattle.wm_read.specs.Fields.{WritesName, WritesLimits, WritesTableType, WritesGlobalType, WritesConst, WritesExport, WritesStrings, WritesOffset}

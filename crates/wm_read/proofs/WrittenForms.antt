@@ -8,7 +8,6 @@ use Rattle.wm_syntax.specs.declared.types.ValType.TheVariants as val
 use Rattle.wm_syntax.specs.declared.types.Const.{Const}
 use Rattle.wm_syntax.specs.declared.types.Limits.{Limits}
 use Rattle.wm_syntax.specs.declared.instructions.MemArg.{MemArg}
-use Rattle.wm_syntax.specs.declared.instructions.FloatType.{FloatType}
 use Rattle.wm_syntax.specs.declared.instructions.Simple.{Simple}
 use Rattle.wm_syntax.specs.declared.instructions.Simple.TheVariants.{Unreachable, Nop, Return, Drop, Select, Br, BrIf, Call, CallIndirect, LocalGet, LocalSet, LocalTee, GlobalGet, GlobalSet, MemorySize, MemoryGrow, I32Const, I64Const, F32Const, F64Const, Load, Store, Numeric}
 use Rattle.wm_syntax.specs.declared.modules.ExportKind.{ExportKind}
@@ -21,7 +20,7 @@ use Rattle.wm_syntax.specs.Opcodes.{opcode, load, store}
 use Rattle.wm_syntax.specs.Profiles.{has, HasSimple, HasConst, HasInstruction, HasInstructions}
 use Rattle.wm_read.specs.Tokens.{Token, open_paren, close_paren, string, atom, IsIdentifier, IsInteger, IsNumber, IsUnsigned}
 use Rattle.wm_read.specs.Identifiers.{Id, Ids, One, IsIndex, IsLabel, WritesId, Resolves, ResolvesLabel}
-use Rattle.wm_read.specs.Written.{Word, Paren, Number, WritesType, type_text, Named, WritesGroup, WritesGroups, WritesUnnamed, WritesResults, Names, TypeUse, Scope, WritesKey, WritesAccess, WritesInteger, WritesFloat, WritesOperand, WritesSimple, WritesBlockType, Closes, WritesElse, Opens, WritesTable, WritesInstruction, WritesInstructions}
+use Rattle.wm_read.specs.Written.{Word, Paren, Number, WritesType, type_text, Named, WritesGroup, WritesGroups, WritesUnnamed, WritesResults, Names, TypeUse, Scope, WritesKey, WritesAccess, WritesOperand, WritesSimple, WritesBlockType, Closes, WritesElse, Opens, WritesTable, WritesInstruction, WritesInstructions}
 use Rattle.wm_read.specs.Fields.{WritesName, WritesMax, WritesLimits, WritesTableType, WritesGlobalType, WritesConst, WritesExport, WritesStrings, WritesOffset}
 use Rattle.wm_read.specs.exact.Reading.{is_word}
 use Rattle.wm_read.proofs.PieceLaws.{simple_word}
