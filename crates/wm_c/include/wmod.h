@@ -178,10 +178,11 @@ typedef struct wmod_output {
  *
  * Proved: what is written is the canonical binary or the text of the module that the input spells or writes, which is
  * valid, of the profile and within the limits. A refusal of wmod_canon and wmod_show is the one that wmod_validate_with
- * gives. One of wmod_build comes only where the above says so; one of the module is that of its canonical binary, whose
- * length no option bounds. Of a text within the limit, unless memory was refused, WMOD_TEXT_NOT_UTF8 comes exactly where the
- * text is not UTF-8, and the next four exactly where its tokens have a fault, each at its place. Which other
- * WMOD_TEXT_.. it is, and at which place, is tested, of WMOD_TEXT_TOO_MANY_LOCALS it is by reading. */
+ * gives, where memory is refused to neither. One of wmod_build comes only where the above says so; one of the module is
+ * that of its canonical binary, whose length no option bounds. Of a text within the limit, where the options are in range
+ * and memory was not refused, WMOD_TEXT_NOT_UTF8 comes exactly where the text is not UTF-8, and the next four exactly
+ * where its tokens have a fault, each at its place. Which other WMOD_TEXT_.. it is, and at which place, is tested; of
+ * WMOD_TEXT_TOO_MANY_LOCALS it is by reading. */
 uint32_t wmod_canon(const uint8_t *bytes, size_t length, const wmod_options *options, uint8_t *out, size_t room,
                     wmod_output *output);
 uint32_t wmod_show(const uint8_t *bytes, size_t length, const wmod_options *options, uint8_t *out, size_t room,
