@@ -1,0 +1,71 @@
+#!/usr/bin/env python3
+"""The two tables that follow from the names of instructions: `BY_NAME` of wm_syntax, the bytes in the order of their names, and
+`GUESSES` of wm_read, where each byte stands at the place that `long_guess` gives its name. Both are made from `name_at` of
+op_names.rt. Status 1 where one of them stands otherwise. That `BY_NAME` is in order is proved, too; a wrong guess only costs time.
+
+    bench/tables.py            says which is not as it should be
+    bench/tables.py --write    writes both; `rt fmt` in the two crates then lays them out
+"""
+import pathlib
+import re
+import sys
+
+CRATES = pathlib.Path(__file__).resolve().parent.parent / "crates"
+NAMES = CRATES / "wm_syntax/src/instructions/op_names.rt"
+GUESSED = CRATES / "wm_read/src/code/op_words.rt"
+# of two names with one place this one is guessed
+PREFERRED = b"memory.size"
+
+
+def names():
+    """The bytes that have a name, each with it."""
+    rows = re.findall(r'0x([0-9A-F]{2}) => b"([^"]+)",', NAMES.read_text(encoding="utf-8"))
+    return {int(byte, 16): name.encode() for byte, name in rows}
+
+
+def by_name(named):
+    return sorted(named, key=named.get)
+
+
+def weights(source):
+    """What `long_guess` takes each character of a word by, and its length."""
+    parts = re.findall(r"usize::from\(word\[([^]]+)\]\) \* (\d+)", source)
+    size = int(re.search(r"static GUESSES: \[u8; (\d+)\]", source)[1])
+    length = re.search(r"\(length % (\d+)\) \* (\d+)", source)
+    return [(place.replace("length ", "").replace(" ", ""), int(by)) for place, by in parts], (int(length[1]), int(length[2])), size
+
+
+def guesses(named, source):
+    parts, (modulus, by), size = weights(source)
+    table = [0] * size
+    for byte, name in sorted(named.items(), key=lambda it: it[1] == PREFERRED):
+        if len(name) >= 5:
+            total = sum(name[int(place)] * weight for place, weight in parts) + len(name) % modulus * by
+            table[total % size] = byte
+    return table
+
+
+def stated(source, name):
+    return [int(it, 16) for it in re.findall(r"0x([0-9A-F]{2})", re.search(rf"{name}: \[u8; \d+\] = \[(.*?)\];", source, re.S)[1])]
+
+
+def with_table(source, name, table):
+    rows = ", ".join(f"0x{byte:02X}" for byte in table)
+    return re.sub(rf"({name}: \[u8; )\d+(\] = \[).*?\];", lambda it: f"{it[1]}{len(table)}{it[2]}{rows}];", source, flags=re.S)
+
+
+def main():
+    named, wrong = names(), []
+    for path, name in ((NAMES, "BY_NAME"), (GUESSED, "GUESSES")):
+        source = path.read_text(encoding="utf-8")
+        table = by_name(named) if name == "BY_NAME" else guesses(named, source)
+        if stated(source, name) != table:
+            wrong.append(name)
+            if "--write" in sys.argv[1:]:
+                path.write_text(with_table(source, name, table), encoding="utf-8")
+    print(f"tables of {len(named)} names: " + (f"not as they should be: {', '.join(wrong)}" if wrong else "well"))
+    return 1 if wrong and "--write" not in sys.argv[1:] else 0
+
+
+if __name__ == "__main__":
+    sys.exit(main())
