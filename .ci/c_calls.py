@@ -1,13 +1,14 @@
 """The calls for C beside the program: a made module gets the same line from both, however it is cut, and the same canonical
 binary, text and module of that text. Each growth of the samples is refused in turn: they end with status 4, or as with ample
 memory, and give back what they took. On a stack of 64 KiB they take a million nested blocks. What cannot be read has no answer.
-No bytes may lie at NULL, and no room. Header and samples are compiled as C89 and as C++98 first. Where the machine has no C
-compiler, this is said and nothing is tried.
+No bytes may lie at NULL, and no room. The calls of c_rows.txt are made one after another, and answer as it says. Header and samples
+are compiled as C89 and as C++98 first. Where the machine has no C compiler, this is said and nothing is tried.
 
     .ci/c_calls.py ARCHIVE PROGRAM       libwm_c.a and wmod, as they were built
 """
 import os
 import random
+import re
 import shutil
 import subprocess
 import sys
@@ -26,6 +27,14 @@ LANGUAGES = [["cc", "-std=c89", *STRICT], ["c++", "-x", "c++", "-std=c++98", "-W
 MODULES = 1000
 # in KiB: what the header says
 STACK = 64
+# what inputs of c_rows.txt stand for: a function that adds two numbers, one that extends a byte, a text with a word of older tools,
+# and one whose module is not valid
+INPUTS = {
+    "ADD": "0061736D0100000001070160027F7F017F030201000A09010700200020016A0B",
+    "EXTEND": "0061736D010000000105016000017F030201000A070105004100C00B",
+    "OLDER": "(module (type (func)) (func (type 0) (local i32) get_local 0 drop))",
+    "START": "(module (start 0))",
+}
 # what null_bytes.c prints: the refusals of no bytes and of an empty text, and the lengths of what has no room
 NULL_LINES = """validate 1 11 0
 validate_with 1 11 0
@@ -69,7 +78,7 @@ def line_unread(words, env=None):
 
 def compiled(archive, room):
     """What a compiler said; nothing where all is well. The programs stand in the room then."""
-    files = {name: f"{CRATE}/samples/{name}.c" for name in SAMPLES} | {"null_bytes": f"{HERE}/null_bytes.c"}
+    files = {name: f"{CRATE}/samples/{name}.c" for name in SAMPLES} | {name: f"{HERE}/{name}.c" for name in ("null_bytes", "c_rows")}
     for name, sample in files.items():
         strict = [[*words, "-c", sample, "-o", f"{room}/{name}.o"] for words in LANGUAGES]
         linked = ["cc", "-O2", sample, f"-I{CRATE}/include", archive, HEAP, "-o", f"{room}/{name}"]
@@ -133,6 +142,26 @@ def is_bare(room):
     return is_right
 
 
+def rows():
+    """The rows of c_rows.txt, each call with its answer."""
+    with open(f"{HERE}/c_rows.txt", encoding="ascii") as it:
+        lines = [row.rstrip("\n") for row in it if row.strip() and not row.startswith("#")]
+    return [re.sub(rf" ({'|'.join(INPUTS)}) = ", lambda found: f" {INPUTS[found[1]]} = ", row) for row in lines]
+
+
+def are_rows_right(room):
+    """Whether each call of the rows answers as they say."""
+    wanted = rows()
+    given = "".join(row.partition(" = ")[0] + "\n" for row in wanted).encode()
+    status, written = line([f"{room}/c_rows"], given)
+    found = written.decode("ascii", "replace").splitlines()
+    wrong = [f"{row}: {answer}" for row, answer in zip(wanted, found) if row != answer]
+    if status or len(found) != len(wanted):
+        wrong.append(f"status {status} after {len(found)} rows")
+    print(f"C: {len(wanted)} rows of calls: " + (f"wrong: {'; '.join(wrong[:3])}" if wrong else "well"), flush=True)
+    return not wrong
+
+
 def is_unanswered(room, program):
     """Whether the samples have no answer to what cannot be read, as wmod has none."""
     runs = [([f"{room}/check"], "check")] + [([f"{room}/convert", action], action) for action in ("canon", "show", "build")]
@@ -150,7 +179,7 @@ def is_well(archive, program):
         fault = compiled(archive, room)
         wrong = [fault] if fault else [it for number in range(MODULES) for it in differences(room, program, number)]
         print(f"C: {MODULES} modules as C and as wmod: " + (f"wrong: {'; '.join(wrong[:3])}" if wrong else "well"), flush=True)
-        return not wrong and all([is_bare(room), is_unanswered(room, program), sweep(room), is_flat(room)])
+        return not wrong and all([is_bare(room), are_rows_right(room), is_unanswered(room, program), sweep(room), is_flat(room)])
 
 
 if __name__ == "__main__":

@@ -1,6 +1,7 @@
 """Refuses each growth of a built program in turn: the first, the second, .. until a run meets none, once alone and once with all
 after it. Each such run of wmod ends with status 4, its one line and nothing written, or with the answer of ample memory. One of
-wm_rows ends with all answers of ample memory, or with status 1, its one line and some of these answers, each of them whole. A name that lies whole in what wmod reads at once takes no growth: it is lent.
+wm_rows ends with all answers of ample memory, or with status 1, its one line and some of these answers, each of them whole. A name that lies whole in what wmod reads at once takes no growth: it is lent. A list
+that a long body grew in doesn't stay for the bodies behind it, nor one of deeply nested blocks.
 
     .ci/growths.py PROGRAM       wmod or wm_rows, as it was built
 """
@@ -38,6 +39,10 @@ OLDER = "(module (type (func)) (memory 1) (func (type 0) (local i32) current_mem
 
 # custom sections, of which the last has a name that is longer than what is read at once
 NAMES = [f"{HEAD} 00 {section}" for section in ("01 00", "04 03 61 62 63", "F3 A2 04 F0 A2 04 70000*{61}")]
+
+# what a list that stays has room for at most: ops, and open blocks (MOST_KEPT of wm_syntax)
+MOST_KEPT = 1024
+NOP, BLOCK, END = b"\x01", b"\x02\x40", b"\x0b"
 
 # for wm_rows: a module whose text, checked value and canonical binary are made, and a text. Each is also cut at every place
 ROWS = f"""canon {MODULES['a long number'].replace(HEAD, 'H')}
@@ -164,6 +169,41 @@ def is_name_lent(program):
     return without == whole < cut
 
 
+def number(value):
+    """A number in the fewest bytes (section 5.2.2)."""
+    return bytes([value]) if value < 128 else bytes([value % 128 + 128]) + number(value // 128)
+
+
+def module_of(*bodies):
+    """A module with functions of type [] to [] that have these bodies, without their last end."""
+    entries = [b"\x00" + ops + END for ops in bodies]
+    contents = number(len(bodies)) + b"".join(number(len(it)) + it for it in entries)
+    functions = bytes([len(bodies) + 1, len(bodies)]) + bytes(len(bodies))
+    return bytes_of(f"{HEAD} 01 04 01 60 00 00 03") + functions + b"\x0a" + number(len(contents)) + contents
+
+
+def is_long_list_let_go(program):
+    """Whether a body behind one of more ops than a list that stays has room for takes one growth more than behind one of as many;
+    and so of one with a block, behind blocks that are nested so deep."""
+    if compiler() is None:
+        print("growths: there is no C compiler here, so no growths of wmod behind long bodies were counted", flush=True)
+        return True
+    longs = [NOP * MOST_KEPT, NOP * (MOST_KEPT + 1)]
+    deeps = [BLOCK * depth + END * depth for depth in (MOST_KEPT, MOST_KEPT + 1)]
+    with tempfile.TemporaryDirectory(prefix="growths-") as room:
+        refuser = Refuser(room)
+
+        def more(first, shorter, longer):
+            """How many growths more the longer body behind the first takes than the shorter one."""
+            counts = [refuser.run(program, ["canon"], module_of(first, it))[1] for it in (shorter, longer)]
+            return counts[1] - counts[0]
+
+        ops = [more(first, b"", NOP) for first in longs]
+        blocks = [more(first, NOP * 2, BLOCK + END) for first in deeps]
+    print(f"growths of wmod for a body behind a list that stays and one that does not: of ops {ops}, of open blocks {blocks}", flush=True)
+    return ops[0] + 1 == ops[1] and blocks[0] + 1 == blocks[1]
+
+
 def sweep(program):
     return swept("wmod", program, runs_of(program), kind_of)
 
@@ -176,5 +216,5 @@ if __name__ == "__main__":
     if len(sys.argv) != 2:
         sys.exit(__doc__)
     is_of_rows = os.path.basename(sys.argv[1]).startswith("wm_rows")
-    trials = [sweep_rows] if is_of_rows else [sweep, is_name_lent]
+    trials = [sweep_rows] if is_of_rows else [sweep, is_name_lent, is_long_list_let_go]
     sys.exit(0 if all([is_well(sys.argv[1]) for is_well in trials]) else 1)

@@ -11,6 +11,4 @@ pub mod options;
 pub mod output;
 pub mod pieces;
 pub mod session;
-#[cfg(test)]
-mod tests;
 pub mod whole;

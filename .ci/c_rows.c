@@ -1,0 +1,195 @@
+/* Makes the calls of the lines of standard input, one after another, and writes each line again with what its call answers behind
+ * ` = `. `begin PROFILE LIMIT` and `validate PROFILE LIMIT INPUT`; with all seven options `options` and `with`, where `-` is no
+ * limit. An answer has its eight fields. Inputs stand as hexadecimal digits; `H` is the header, and `.` nothing. `canon`, `show`
+ * and `build` take the size of the buffer first, then the options, and of `build` the input is a text. They answer the output's
+ * four fields, and what stands in the buffer: as hexadecimal digits, or as a text with `|` for a line feed. `name NUMBER ROOM`
+ * answers the length and what stands in the room, with `0` for its end. `held` says whether the handle holds something.
+ */
+#include "wmod.h"
+#include <stdio.h>
+#include <stdlib.h>
+#include <string.h>
+
+enum { LINE = 1000, ROOM = 100, HEADER = 8 };
+
+static const uint8_t header[HEADER] = {0, 'a', 's', 'm', 1, 0, 0, 0};
+/* what is left of the line at hand */
+static const char *rest;
+
+static void fail(const char *what) {
+  fprintf(stderr, "c_rows: %s\n", what);
+  exit(3);
+}
+
+/* The next word of the line. */
+static void word(char *into, size_t room) {
+  size_t length = strcspn(rest, " ");
+  if (length == 0 || length >= room) fail("no word");
+  memcpy(into, rest, length);
+  into[length] = 0;
+  rest += length + (rest[length] == ' ');
+}
+
+/* The next word, a number; `-` is the greatest. */
+static uint64_t number(void) {
+  char digits[30];
+  const char *at;
+  uint64_t sum = 0;
+  word(digits, sizeof digits);
+  if (strcmp(digits, "-") == 0) return WMOD_NO_LIMIT;
+  for (at = digits; *at; at++) {
+    if (*at < '0' || *at > '9') fail("no number");
+    sum = 10 * sum + (uint64_t)(*at - '0');
+  }
+  return sum;
+}
+
+static wmod_options asked(void) {
+  wmod_options options;
+  options.size = number();
+  options.profile = number();
+  options.max_bytes = number();
+  options.functions = number();
+  options.locals = number();
+  options.depth = number();
+  options.old_words = number();
+  return options;
+}
+
+static unsigned digit(char c) {
+  if (c >= '0' && c <= '9') return (unsigned)(c - '0');
+  if (c >= 'A' && c <= 'F') return (unsigned)(c - 'A') + 10;
+  fail("no digit");
+  return 0;
+}
+
+/* The bytes that the rest of the line stands for. */
+static size_t input(uint8_t *bytes) {
+  size_t length = 0;
+  if (strcmp(rest, ".") == 0) return 0;
+  if (*rest == 'H') {
+    memcpy(bytes, header, HEADER);
+    length = HEADER;
+    rest++;
+  }
+  for (; *rest; rest += 2) bytes[length++] = (uint8_t)(16 * digit(rest[0]) + digit(rest[1]));
+  return length;
+}
+
+static void say(uint64_t number) { printf("%lu", (unsigned long)number); }
+
+static void say_answer(uint32_t ended, const wmod_answer *answer) {
+  printf("%lu: %lu %lu", (unsigned long)ended, (unsigned long)answer->status, (unsigned long)answer->why);
+  printf(" %lu %lu", (unsigned long)answer->at, (unsigned long)answer->functions);
+  printf(" %lu %lu", (unsigned long)answer->moves, (unsigned long)answer->operands);
+  printf(" %lu %lu", (unsigned long)answer->controls, (unsigned long)answer->probes);
+}
+
+/* What stands in a buffer; `?` is what was there before. */
+static void say_room(const uint8_t *out, size_t room, int in_digits) {
+  size_t i;
+  for (i = 0; i < room; i++) {
+    if (in_digits && out[i] != '?') printf("%02x", out[i]);
+    else if (in_digits) printf("??");
+    else putchar(out[i] == '\n' ? '|' : out[i]);
+  }
+}
+
+static void whole(int with_options) {
+  uint8_t bytes[LINE];
+  wmod_options options;
+  wmod_answer answer;
+  uint32_t profile, ended;
+  uint64_t limit;
+  size_t length;
+  if (with_options) {
+    options = asked();
+    length = input(bytes);
+    ended = wmod_validate_with(bytes, length, &options, &answer);
+  } else {
+    profile = (uint32_t)number();
+    limit = number();
+    length = input(bytes);
+    ended = wmod_validate(bytes, length, profile, limit, &answer);
+  }
+  say_answer(ended, &answer);
+}
+
+static void convert(const char *name) {
+  uint8_t bytes[LINE], out[ROOM];
+  wmod_output output;
+  wmod_options options;
+  uint32_t ended;
+  size_t length, room = (size_t)number();
+  if (room > ROOM) fail("too much room");
+  memset(out, '?', room);
+  options = asked();
+  if (strcmp(name, "build") == 0) {
+    ended = wmod_build((const uint8_t *)rest, strlen(rest), &options, out, room, &output);
+  } else {
+    length = input(bytes);
+    ended = (*name == 'c' ? wmod_canon : wmod_show)(bytes, length, &options, out, room, &output);
+  }
+  printf("%lu: %lu %lu", (unsigned long)ended, (unsigned long)output.status, (unsigned long)output.why);
+  printf(" %lu %lu ", (unsigned long)output.at, (unsigned long)output.length);
+  say_room(out, room, *name != 's');
+}
+
+static void why_name(void) {
+  char out[ROOM];
+  uint32_t why = (uint32_t)number();
+  size_t i, length, room = (size_t)number();
+  if (room > ROOM) fail("too much room");
+  memset(out, '?', room);
+  length = wmod_why_name(why, out, room);
+  printf("%lu ", (unsigned long)length);
+  for (i = 0; i < room; i++) putchar(out[i] ? out[i] : '0');
+}
+
+/* A call on the handle. */
+static void piecewise(wmod_validator *v, const char *name) {
+  uint8_t bytes[LINE];
+  wmod_options options;
+  wmod_answer answer;
+  uint32_t profile;
+  size_t length;
+  if (strcmp(name, "begin") == 0) {
+    profile = (uint32_t)number();
+    say(wmod_begin(v, profile, number()));
+  } else if (strcmp(name, "options") == 0) {
+    options = asked();
+    say(wmod_begin_with(v, &options));
+  } else if (strcmp(name, "feed") == 0) {
+    length = input(bytes);
+    say(wmod_feed(v, bytes, length));
+  } else if (strcmp(name, "finish") == 0) {
+    profile = wmod_finish(v, &answer);
+    say_answer(profile, &answer);
+  } else if (strcmp(name, "end") == 0) {
+    wmod_end(v);
+    say(0);
+  } else if (strcmp(name, "held") == 0) {
+    say(v->state != NULL);
+  } else {
+    fail("no call");
+  }
+}
+
+int main(void) {
+  static char line[LINE];
+  char name[10];
+  wmod_validator v = WMOD_VALIDATOR_EMPTY;
+  while (fgets(line, sizeof line, stdin)) {
+    line[strcspn(line, "\n")] = 0;
+    printf("%s = ", line);
+    rest = line;
+    word(name, sizeof name);
+    if (strcmp(name, "validate") == 0 || strcmp(name, "with") == 0) whole(*name == 'w');
+    else if (strcmp(name, "canon") == 0 || strcmp(name, "show") == 0 || strcmp(name, "build") == 0) convert(name);
+    else if (strcmp(name, "name") == 0) why_name();
+    else if (strcmp(name, "version") == 0) say(wmod_version());
+    else piecewise(&v, name);
+    putchar('\n');
+  }
+  return 0;
+}
