@@ -9,8 +9,6 @@ use std::io;
 
 pub mod input;
 pub mod output;
-#[cfg(test)]
-mod tests;
 
 /// A reader.
 pub trait Source {

@@ -10,7 +10,5 @@ pub mod modules;
 pub mod names;
 pub mod numbers;
 pub mod profile;
-#[cfg(test)]
-mod scripts;
 pub mod types;
 pub mod why;

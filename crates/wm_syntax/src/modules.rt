@@ -173,31 +173,3 @@ impl Module {
         }
     }
 }
-
-#[cfg(test)]
-mod tests {
-    use super::*;
-
-    /// A further field has to be named here.
-    #[test]
-    fn a_module_without_parts_takes_no_memory(rt: HostRuntime) {
-        let Module {
-            types,
-            imports,
-            functions,
-            tables,
-            memories,
-            globals,
-            exports,
-            start,
-            elements,
-            segments,
-        } = Module::new(rt.alloc());
-        let sections = [types.capacity(), imports.capacity(), functions.capacity()];
-        assert!(rt; sections == [0; 3] && start.is_none());
-        let sections = [tables.capacity(), memories.capacity(), globals.capacity()];
-        assert!(rt; sections == [0; 3]);
-        let sections = [exports.capacity(), elements.capacity(), segments.capacity()];
-        assert!(rt; sections == [0; 3]);
-    }
-}

@@ -8,16 +8,3 @@ pub fn is_name(bytes: &[u8]) -> bool
 {
     simdutf8::is_utf8(bytes)
 }
-
-#[cfg(test)]
-mod tests {
-    use super::*;
-
-    #[test]
-    fn names(rt: HostRuntime) {
-        assert!(rt; is_name(b""));
-        assert!(rt; is_name(&[0x61, 0xC3, 0xA9]));
-        assert!(rt; !is_name(&[0xFF]));
-        assert!(rt; !is_name(&[0xED, 0xA0, 0x80]), "a surrogate");
-    }
-}

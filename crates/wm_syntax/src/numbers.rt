@@ -394,6 +394,3 @@ impl Int64 {
         self.bytes.push_signed(64, byte)
     }
 }
-
-#[cfg(test)]
-mod tests;

@@ -175,6 +175,3 @@ impl<T: Drop> From<AllocFailed<T>> for Why {
         Why::Memory
     }
 }
-
-#[cfg(test)]
-mod tests;

@@ -13,6 +13,8 @@ mod scripts;
 #[cfg(test)]
 mod stacks;
 #[cfg(test)]
+mod syntax;
+#[cfg(test)]
 mod typing;
 #[cfg(test)]
 mod write;

@@ -3,6 +3,7 @@
 use std::alloc::Global;
 use std::fmt::Debug;
 use std::process::Abort;
+use wm_syntax::types::ValType;
 
 /// What a script makes calls on.
 pub(crate) trait Scripted {
@@ -97,4 +98,14 @@ pub(crate) fn parts_of<'a>(rt: &impl Abort, text: &'a str, mark: &str) -> (&'a s
 
 pub(crate) fn number_of(rt: &impl Abort, word: &str) -> u32 {
     word.parse::<u32>().expect(rt, "a number")
+}
+
+pub(crate) fn type_of(rt: &impl Abort, word: &str) -> ValType {
+    match word {
+        "I32" => ValType::I32,
+        "I64" => ValType::I64,
+        "F32" => ValType::F32,
+        "F64" => ValType::F64,
+        _ => unknown(rt, word),
+    }
 }

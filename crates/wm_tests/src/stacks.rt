@@ -3,7 +3,7 @@
 ghost use Rattle.std.specs.Prelude.{IsTrue};
 ghost use Rattle.wm_stacks.specs.Stack.{fits};
 
-use crate::scripts::{Scripted, number_of, play_each, shown, unknown, word_of};
+use crate::scripts::{Scripted, number_of, play_each, shown, type_of, unknown, word_of};
 use std::alloc::Global;
 use std::process::Abort;
 use std::test::Fail;
@@ -12,16 +12,6 @@ use wm_stacks::run_table::RunTable;
 use wm_stacks::stacks::Stacks;
 use wm_syntax::types::ValType;
 use wm_syntax::why::Why;
-
-fn type_of(rt: &impl Abort, word: &str) -> ValType {
-    match word {
-        "I32" => ValType::I32,
-        "I64" => ValType::I64,
-        "F32" => ValType::F32,
-        "F64" => ValType::F64,
-        _ => unknown(rt, word),
-    }
-}
 
 fn entry_of(rt: &impl Abort, word: &str) -> Entry {
     match word {

@@ -12,9 +12,6 @@ use crate::instructions::opcodes::op_of;
 use crate::profile::Profile;
 use std::cmp::Ordering;
 
-#[cfg(test)]
-mod tests;
-
 // The bytes that begin an instruction, an else or an end, in the order of their names.
 const BY_NAME: [u8; 177] = [
     0x02, 0x0C, 0x0D, 0x0E, 0x10, 0x11, 0x1A, 0x05, 0x0B, 0x8B, 0x92, 0x8D, 0x43, 0xB2, 0xB3, 0xB4,

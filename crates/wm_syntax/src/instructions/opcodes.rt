@@ -378,9 +378,6 @@ fn class_at(byte: u8) -> OpClass
     CLASSES[byte as usize]
 }
 
-#[cfg(test)]
-mod tests;
-
 /// The byte that an instruction begins with (section 5.4).
 pub fn first_byte(simple: Simple) -> u8
     ensures { result ≡ (opcode simple).0 }

@@ -54,16 +54,3 @@ impl Body {
         self.ops.len()
     }
 }
-
-#[cfg(test)]
-mod tests {
-    use super::*;
-    use crate::modules::body_builder::BodyBuilder;
-
-    /// A further field has to be named here.
-    #[test]
-    fn a_body_has_these_fields(rt: HostRuntime) {
-        let Body { ops } = BodyBuilder::new(rt.alloc()).finish().expect(&rt, "a body");
-        assert!(rt; ops.capacity() == 0);
-    }
-}

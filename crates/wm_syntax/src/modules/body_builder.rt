@@ -17,9 +17,6 @@ use std::error::Error;
 use std::fmt;
 use std::marker::Model;
 
-#[cfg(test)]
-mod tests;
-
 // How a list of instructions was opened.
 #[derive(Clone, Copy, PartialEq, Eq, Debug)]
 enum Opened {

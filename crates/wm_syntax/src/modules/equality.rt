@@ -13,9 +13,6 @@ use crate::modules::{
 };
 use crate::types::{Const, FuncType, GlobalType, Limits, ValType};
 
-#[cfg(test)]
-mod tests;
-
 /// What is the same where its value is.
 pub trait Same {
     /// Whether the two are the same value.

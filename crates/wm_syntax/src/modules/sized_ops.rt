@@ -143,21 +143,4 @@ impl SizedOps {
     {
         self.ops.shrink_to_fit();
     }
-
-    #[cfg(test)]
-    pub(crate) fn capacity(&self) -> usize {
-        self.ops.capacity()
-    }
-}
-
-#[cfg(test)]
-mod tests {
-    use super::*;
-
-    /// A further field has to be named here.
-    #[test]
-    fn sized_ops_have_these_fields(rt: HostRuntime) {
-        let SizedOps { ops, len } = SizedOps::new(rt.alloc());
-        assert!(rt; ops.capacity() == 0 && len == 0);
-    }
 }

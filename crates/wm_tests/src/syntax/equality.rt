@@ -1,10 +1,13 @@
 //! Tests of the equality of modules.
 
-use super::*;
-use crate::modules::body_builder::BodyBuilder;
-use crate::scripts::{Scripted, number_of, op_of_word, parts_of, play, shown, type_of};
+use crate::scripts::{Scripted, number_of, parts_of, play_each, shown, type_of};
+use crate::syntax::scripts::op_of_word;
 use std::alloc::Global;
 use std::process::Abort;
+use wm_syntax::modules::body::Body;
+use wm_syntax::modules::body_builder::BodyBuilder;
+use wm_syntax::modules::locals::Locals;
+use wm_syntax::modules::{Function, Module};
 
 /// Whether two modules are equal, and whether they are not.
 #[derive(Drop)]
@@ -60,7 +63,7 @@ fn body_of(rt: &impl Abort, alloc: Global, ops: &str) -> Body {
 // An empty else makes no difference.
 #[test]
 fn what_is_the_same_and_what_is_not(rt: HostRuntime) {
-    play(
+    play_each(
         &rt,
         rt.alloc(),
         &mut Equality,

@@ -1,9 +1,10 @@
 //! Tests of the readers of numbers.
 
-use super::*;
-use crate::scripts::{Scripted, bytes_of, play, shown, unknown, word_of};
+use crate::scripts::{Scripted, play, shown, unknown, word_of};
+use crate::syntax::scripts::bytes_of;
 use std::alloc::Global;
 use std::process::Abort;
+use wm_syntax::numbers::{Int32, Int64, Leb128, Num32, Num64, Step, short_front};
 
 fn read_u32(bytes: &[u8]) -> Step<u32> {
     let mut reader = Num32::new();

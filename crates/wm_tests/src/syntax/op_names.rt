@@ -1,10 +1,13 @@
 //! Tests of the names of instructions.
 
-use super::*;
-use crate::scripts::{Scripted, byte_of, play, profile_of, shown, word_of};
+use crate::scripts::{Scripted, play_each, shown, word_of};
+use crate::syntax::scripts::{byte_of, profile_of};
 use std::alloc::Global;
 use std::process::Abort;
 use std::str::from_utf8;
+use wm_syntax::instructions::op_names::{name_of, op_named};
+use wm_syntax::instructions::opcodes::op_of;
+use wm_syntax::profile::Profile;
 
 /// The name of a byte, or what a word names under a profile.
 #[derive(Drop)]
@@ -34,7 +37,7 @@ fn naming(rt: &impl Abort, alloc: Global, profile: &str, word: &str) -> String {
 // a profile has not is `Float` where it is on floats, and else nothing.
 #[test]
 fn names_of_bytes_and_what_words_name(rt: HostRuntime) {
-    play(
+    play_each(
         &rt,
         rt.alloc(),
         &mut Names,

@@ -2,14 +2,15 @@
 
 ghost use Rattle.std.specs.Prelude.{◌≡◌, IfOk};
 
-use super::input::Input;
-use super::output::Output;
-use super::*;
 use crate::scripts::{Scripted, play, shown, unknown, word_of};
 use std::alloc::Global;
 use std::fmt::Debug;
+use std::io;
 use std::io::{ErrorKind, Read, Write};
 use std::process::Abort;
+use wm_syntax::io::input::Input;
+use wm_syntax::io::output::Output;
+use wm_syntax::io::{Dest, Source, put_all};
 
 // What a call answers that reads up to three bytes.
 fn given(rt: &impl Abort, alloc: Global, source: &mut impl Source) -> String {

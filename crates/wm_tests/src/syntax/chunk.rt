@@ -1,9 +1,10 @@
 //! Tests of the shortest spellings of numbers.
 
-use super::*;
-use crate::scripts::{Scripted, digits_of, number_of, play, unknown, word_of};
+use crate::scripts::{Scripted, number_of, play_each, unknown, word_of};
+use crate::syntax::scripts::digits_of;
 use std::alloc::Global;
 use std::process::Abort;
+use wm_syntax::chunk::{put_s32, put_s64, put_u32};
 
 /// Spells this number: the bytes that were put.
 #[derive(Drop)]
@@ -43,7 +44,7 @@ fn spelled_s64(rt: &impl Abort, alloc: Global, number: &str) -> String {
 
 #[test]
 fn shortest_numbers(rt: HostRuntime) {
-    play(
+    play_each(
         &rt,
         rt.alloc(),
         &mut Spelling,

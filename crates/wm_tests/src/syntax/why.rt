@@ -1,9 +1,9 @@
 //! Tests of the words of refusals.
 
-use super::*;
-use crate::scripts::{Scripted, play, shown, unknown, word_of};
+use crate::scripts::{Scripted, play_each, shown, unknown, word_of};
 use std::alloc::Global;
 use std::process::Abort;
+use wm_syntax::why::Why;
 
 const ALL: [Why; 30] = [
     Why::Magic,
@@ -77,7 +77,7 @@ fn why_of(rt: &impl Abort, alloc: Global, word: &str) -> Why {
 
 #[test]
 fn printed_names_and_sentences(rt: HostRuntime) {
-    play(
+    play_each(
         &rt,
         rt.alloc(),
         &mut Printed,

@@ -1,11 +1,12 @@
 //! Tests of the table of first bytes.
 
-use super::*;
-use crate::instructions::{FloatType, IntType};
-use crate::scripts::{Scripted, byte_of, play, profile_of, shown, type_of, unknown, word_of};
-use crate::types::ValType;
+use crate::scripts::{Scripted, play_each, shown, type_of, unknown, word_of};
+use crate::syntax::scripts::{byte_of, profile_of};
 use std::alloc::Global;
 use std::process::Abort;
+use wm_syntax::instructions::opcodes::op_of;
+use wm_syntax::instructions::{FloatType, IntType};
+use wm_syntax::types::ValType;
 
 /// What a byte begins under a profile, or the feature of a value type, or the type of what an instruction
 /// works on.
@@ -41,7 +42,7 @@ fn ty_of(rt: &impl Abort, word: &str) -> ValType {
 // Sign extension is of the second profile and of the fourth, floats are of the third and of the fourth.
 #[test]
 fn first_bytes(rt: HostRuntime) {
-    play(
+    play_each(
         &rt,
         rt.alloc(),
         &mut Opcodes,
