@@ -1,5 +1,18 @@
 //! The binaries and the texts of modules.
 
+use wm_write::laws;
+
 mod encode;
 mod narrow;
 mod print;
+
+#[test]
+fn laws_are_called(_rt: HostRuntime) {
+    laws::canon_spells();
+    laws::spelled_has_canon();
+    laws::canon_has_shortest_sections();
+    laws::ops_have_their_length();
+    laws::one_canon_one_module();
+    laws::canon_loads();
+    laws::loaded_modules_by_their_bytes();
+}

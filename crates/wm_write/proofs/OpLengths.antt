@@ -14,7 +14,7 @@ immediates_counted (Load o at) = length-append (u32_bytes at.align) (u32_bytes a
 immediates_counted (Store o at) = length-append (u32_bytes at.align) (u32_bytes at.offset)
 immediates_counted i = refl
 
-op_counted : (o : Op) → length (op_bytes o) ≡ op_len o
+pub op_counted : (o : Op) → length (op_bytes o) ≡ op_len o
 op_counted (op.Simple i) = omega (arith, immediates_counted i)
 op_counted (op.BrTable n) = omega arith
 op_counted o = refl
