@@ -4,7 +4,7 @@
 //! complete; the decoder does the rest.
 
 ghost use Rattle.std.specs.Prelude.{◌≡◌, ◌<◌, None, Some, length, min};
-ghost use Rattle.wm_decode.specs.exact.Shortcuts.{Advances};
+ghost use Rattle.wm_decode.specs.exact.Shortcuts.{Advances, why_refused};
 
 use crate::decoder::names::give_bytes;
 use crate::machine::member::{InEntry, InMember, IndexOf, SectionKind};
@@ -17,6 +17,7 @@ use crate::shortcuts::globals::globals;
 use crate::shortcuts::heads::runs;
 use crate::shortcuts::imports::imports;
 use crate::shortcuts::in_body::InBody;
+use crate::shortcuts::in_section::InSection;
 use crate::shortcuts::indices::indices;
 use crate::shortcuts::limited::limited_member;
 use crate::shortcuts::segments::segment_head;
@@ -83,6 +84,19 @@ impl Shortcut {
             used,
             refused: Some(why),
         }
+    }
+
+    /// Where the last of so many bytes led to a machine, and the sink was given what it completed.
+    #[inline(always)]
+    pub(crate) fn ended(used: usize, given: Result<(), Why>, machine: Machine) -> Shortcut
+        ensures used { result.used ≡ used }
+        ensures refused { result.refused ≡ why_refused given machine }
+    {
+        let refused = match given {
+            Ok(()) => refusal_of(machine),
+            Err(why) => Some(why),
+        };
+        Shortcut { used, refused }
     }
 }
 
@@ -226,40 +240,25 @@ fn data<S: Sink>(sink: &mut S, machine: &mut Machine, profile: Profile, bytes: &
     ensures { Advances S.after S.may_run_out profile bytes.now machine.old (S.held sink.old) result
         machine.new (S.held sink.new) }
 {
-    let Machine::Section {
-        of,
-        functions,
-        more,
-        left,
-        at,
-    } = *machine
-    else {
+    let Some((of, at, start)) = InSection::of(*machine) else {
         return Shortcut::none();
     };
     let InMember::Data { more: rest } = at else {
         return Shortcut::none();
     };
-    let count = at_most(more.min(rest), bytes.len());
+    let count = at_most(start.more.min(rest), bytes.len());
     let end = count as usize;
-    let (more, rest) = (more - count, rest - count);
+    let next = start.after(count, start.left);
+    let rest = rest - count;
     if end == bytes.len() {
-        *machine = Machine::Section {
-            of,
-            functions,
-            more,
-            left,
-            at: InMember::Data { more: rest },
-        };
+        *machine = next.at(of, InMember::Data { more: rest });
         let refused = give_bytes(sink, bytes).err();
         return Shortcut { used: end, refused };
     }
     // the next byte is the last of the segment or of the section
-    *machine = framed(of, functions, more, left, data_or_over(rest));
+    *machine = framed(of, next.functions, next.more, next.left, data_or_over(rest));
     if let Err(why) = give_bytes(sink, &bytes[..=end]) {
-        return Shortcut {
-            used: end + 1,
-            refused: Some(why),
-        };
+        return Shortcut::out(end + 1, why);
     }
     Shortcut {
         used: end + 1,

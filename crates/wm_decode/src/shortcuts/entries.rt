@@ -4,10 +4,11 @@ ghost use Rattle.std.specs.Prelude.{◌<◌, length};
 ghost use Rattle.wm_decode.specs.exact.Shortcuts.{Advances};
 
 use crate::decoder::names::give_end;
+use crate::machine::Machine;
 use crate::machine::member::{InMember, SectionKind};
-use crate::machine::{Machine, refusal_of};
-use crate::shortcuts::heads::{BeforeEntry, head};
+use crate::shortcuts::heads::head;
 use crate::shortcuts::in_body::InBody;
+use crate::shortcuts::in_section::InSection;
 use crate::shortcuts::{Shortcut, ops};
 use crate::sink::Sink;
 use crate::step::framed;
@@ -40,13 +41,8 @@ fn final_end<S: Sink>(
         last.left,
         InMember::Over,
     );
-    if let Err(why) = give_end(sink) {
-        return Shortcut::out(1, why);
-    }
-    Shortcut {
-        used: 1,
-        refused: refusal_of(*machine),
-    }
+    let given = give_end(sink);
+    Shortcut::ended(1, given, *machine)
 }
 
 /// Takes the last `end` of an entry, by a shorter way where another entry comes after it.
@@ -78,12 +74,12 @@ pub(crate) fn last_end<S: Sink>(
     if body.left == 0 || body.more == 0 {
         return final_end(sink, machine, profile, bytes);
     }
-    let next = BeforeEntry {
+    let section = InSection {
         functions: body.functions,
-        more: body.more - 1,
-        left: body.left - 1,
+        more: body.more,
+        left: body.left,
     };
-    *machine = next.machine();
+    *machine = section.next(SectionKind::Code, 1);
     let refused = give_end(sink).err();
     Shortcut { used: 1, refused }
 }

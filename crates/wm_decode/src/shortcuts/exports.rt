@@ -5,17 +5,18 @@
 ghost use Rattle.std.specs.Prelude.{◌≡◌, ◌+◌, ◌≤◌, IfSome, length, slice_index};
 ghost use Rattle.wm_syntax.specs.exact.Reading.{unsigned_push};
 ghost use Rattle.wm_decode.specs.exact.Shortcuts.{Advances};
-ghost use Rattle.wm_decode.specs.exact.WholeNames.{IsKindByte, NameLies, before_export};
+ghost use Rattle.wm_decode.specs.exact.WholeMembers.{before_member};
+ghost use Rattle.wm_decode.specs.exact.WholeNames.{IsKindByte, NameLies};
 ghost use Rattle.wm_decode.specs.exact.WholeOps.{LiesAt};
 
 use crate::decoder::names::{give_export, give_name};
 use crate::machine::member::{InMember, SectionKind};
-use crate::machine::{Machine, NameKind, refusal_of};
+use crate::machine::{Machine, NameKind};
 use crate::shortcuts::Shortcut;
-use crate::shortcuts::whole_names::{InNames, name_end};
+use crate::shortcuts::in_section::InSection;
+use crate::shortcuts::whole_names::name_end;
 use crate::shortcuts::whole_numbers::u32_at;
 use crate::sink::Sink;
-use crate::step::framed;
 use wm_syntax::modules::ExportKind;
 use wm_syntax::profile::Profile;
 
@@ -30,20 +31,10 @@ struct Export {
 
 // What is known of a machine that stands before an export
 #[inline(always)]
-fn at_export(machine: Machine) -> Option<InNames>
-    ensures { IfSome result (λ i. machine ≡ before_export i) }
+fn at_export(machine: Machine) -> Option<InSection>
+    ensures { IfSome result (λ i. machine ≡ before_member SectionKind.Export i) }
 {
-    let Machine::Section {
-        of,
-        functions,
-        more,
-        left,
-        at,
-    } = machine
-    else {
-        return None;
-    };
-    let SectionKind::Export = of else {
+    let Some((SectionKind::Export, at, section)) = InSection::of(machine) else {
         return None;
     };
     let InMember::NameLength { of: kind, number } = at else {
@@ -55,11 +46,7 @@ fn at_export(machine: Machine) -> Option<InNames>
     if !number.is_new() {
         return None;
     }
-    Some(InNames {
-        functions,
-        more,
-        left,
-    })
+    Some(section)
 }
 
 // What a byte says that an export gives out
@@ -134,7 +121,7 @@ fn exports_before_last<S: Sink>(
             return Shortcut::out(used, why);
         }
     }
-    *machine = start.after(used as u32, left).export();
+    *machine = start.after(used as u32, left).before(SectionKind::Export);
     Shortcut {
         used,
         refused: None,
@@ -170,20 +157,9 @@ fn last_export<S: Sink>(
     if let Err(why) = give_name(sink, NameKind::Export, name) {
         return Shortcut::out(found.stop, why);
     }
-    if let Err(why) = give_export(sink, found.kind, found.index) {
-        return Shortcut::out(found.next, why);
-    }
-    *machine = framed(
-        SectionKind::Export,
-        start.functions,
-        start.more - last as u32,
-        start.left,
-        InMember::Over,
-    );
-    Shortcut {
-        used: found.next,
-        refused: refusal_of(*machine),
-    }
+    *machine = start.over(SectionKind::Export, last as u32);
+    let given = give_export(sink, found.kind, found.index);
+    Shortcut::ended(found.next, given, *machine)
 }
 
 /// Takes the exports that lie in these bytes.

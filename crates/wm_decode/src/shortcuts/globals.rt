@@ -12,12 +12,11 @@ ghost use Rattle.wm_decode.specs.exact.WholeOps.{WholeOp};
 
 use crate::decoder::names::give;
 use crate::machine::member::{InMember, SectionKind};
-use crate::machine::{Machine, Plain, refusal_of};
+use crate::machine::{Machine, Plain};
 use crate::shortcuts::Shortcut;
 use crate::shortcuts::constants::{Constant, constant_at};
 use crate::shortcuts::in_section::InSection;
 use crate::sink::Sink;
-use crate::step::framed;
 use crate::step::values::{InGlobalType, value_type};
 use wm_syntax::instructions::Op;
 use wm_syntax::profile::Profile;
@@ -35,30 +34,11 @@ struct Global {
 fn at_global(machine: Machine) -> Option<InSection>
     ensures { IfSome result (λ i. machine ≡ before_member SectionKind.Global i) }
 {
-    let Machine::Section {
-        of,
-        functions,
-        more,
-        left,
-        at,
-    } = machine
-    else {
+    let Some((SectionKind::Global, InMember::GlobalType(InGlobalType::Type), section)) =
+        InSection::of(machine) else {
         return None;
     };
-    let SectionKind::Global = of else {
-        return None;
-    };
-    let InMember::GlobalType(at) = at else {
-        return None;
-    };
-    let InGlobalType::Type = at else {
-        return None;
-    };
-    Some(InSection {
-        functions,
-        more,
-        left,
-    })
+    Some(section)
 }
 
 // The global at the front of these bytes, where it lies whole in them
@@ -114,21 +94,9 @@ fn take_global<S: Sink>(
     if let Err(why) = give(sink, Plain::ConstOp(found.value.op)) {
         return Shortcut::out(stop, why);
     }
-    if let Err(why) = give(sink, Plain::ConstOp(Op::End)) {
-        return Shortcut::out(stop + 1, why);
-    }
-    let more = start.more - stop as u32;
-    *machine = framed(
-        SectionKind::Global,
-        start.functions,
-        more,
-        start.left,
-        InMember::Over,
-    );
-    Shortcut {
-        used: stop + 1,
-        refused: refusal_of(*machine),
-    }
+    *machine = start.over(SectionKind::Global, stop as u32);
+    let given = give(sink, Plain::ConstOp(Op::End));
+    Shortcut::ended(stop + 1, given, *machine)
 }
 
 /// Takes the globals that lie in these bytes.

@@ -1,4 +1,4 @@
-use Rattle.std.proofs.Common.{List, ℕ, None, ap, arith, refl, subst, sym}
+use Rattle.std.proofs.Common.{List, ℕ, None, ap, arith, refl, subst, sym, ◌∙◌}
 use Rattle.std.specs.Result.{result_err}
 use Rattle.std.proofs.lemmas.List.{take_rest}
 use Rattle.wm_decode.specs.exact.TypeStarts.{in_params, params_after}
@@ -12,8 +12,8 @@ returns-in-Err g c =
     let held = g.S.Sink.held in
     let b = c.in-Some-begin_type in
     advances_by g.S.Sink.after g.S.Sink.may_run_out c.args.profile _ _ _ _ _ _ _ _ c.in-Some.ensures refl
-    (type_out g.S.Sink.after g.S.Sink.may_run_out c.args.profile c.args.bytes.now c.in-Some.start c.give_new_type.result (held c.args.sink.now) (held c.give_new_type.new.sink) _ c.in-Err.why c.args.machine.now b.ensures.form (omega (arith, b.ensures.within)) (omega (arith, b.ensures.section)) refl refl
-    (sym (ap result_err c.in-Err.is)) c.give_new_type.ensures.given c.give_new_type.ensures.room)
+    (type_out g.S.Sink.after g.S.Sink.may_run_out c.args.profile c.args.bytes.now c.in-Some.start c.give_new_type.result (held c.args.sink.now) (held c.give_new_type.new.sink) c.out.result c.in-Err.why c.args.machine.now b.ensures.form (omega (arith, b.ensures.within)) (omega (arith, b.ensures.section)) c.out.ensures.used c.out.ensures.refused
+    (c.out.ensures.refused ∙ sym (ap result_err c.in-Err.is)) c.give_new_type.ensures.given c.give_new_type.ensures.room)
 
 pub returns : goal.returns
 returns g c =

@@ -1,4 +1,4 @@
-use Rattle.std.proofs.Common.{List, ℕ, ◌+◌, None, ap, refl, subst, sym}
+use Rattle.std.proofs.Common.{List, ℕ, ◌+◌, None, ap, refl, subst, sym, ◌∙◌}
 use Rattle.std.specs.Result.{result_err}
 use Rattle.std.proofs.lemmas.List.{take_rest}
 use Rattle.wm_decode.specs.exact.Heads.{head_after, in_head}
@@ -13,7 +13,7 @@ returns-in-Err g c =
     let b = c.in-Some-begin_head in
     advances_by g.S.Sink.after g.S.Sink.may_run_out c.args.profile _ _ _ _ _ _ _ _ c.in-Some.ensures refl
     (head_out g.S.Sink.after g.S.Sink.may_run_out c.args.profile c.args.bytes.now c.in-Some.start b.begun.sized b.begun.at (held c.args.sink.now) (held c.give_body.new.sink) b.ensures.size b.ensures.within b.ensures.section
-    c.give_body.result _ c.in-Err.why c.args.machine.now refl refl (sym (ap result_err c.in-Err.is)) c.give_body.ensures.given c.give_body.ensures.room)
+    c.give_body.result c.out.result c.in-Err.why c.args.machine.now c.out.ensures.used c.out.ensures.refused (c.out.ensures.refused ∙ sym (ap result_err c.in-Err.is)) c.give_body.ensures.given c.give_body.ensures.room)
 
 pub returns : goal.returns
 returns g c =
