@@ -9,20 +9,19 @@ ghost use Rattle.wm_decode.specs.exact.Shortcuts.{Advances, why_refused};
 use crate::decoder::names::give_bytes;
 use crate::machine::member::{InEntry, InMember, IndexOf, SectionKind};
 use crate::machine::{InCustom, Machine, refusal_of};
-use crate::shortcuts::entries::{body, entries, last_end};
+use crate::shortcuts::chains::Link;
+use crate::shortcuts::entries::{Body, LastEnd, entries};
 use crate::shortcuts::exports::exports;
 use crate::shortcuts::frames::frames;
 use crate::shortcuts::function_types::function_types;
 use crate::shortcuts::globals::globals;
 use crate::shortcuts::heads::runs;
 use crate::shortcuts::imports::imports;
-use crate::shortcuts::in_body::InBody;
 use crate::shortcuts::in_section::InSection;
 use crate::shortcuts::indices::indices;
 use crate::shortcuts::limited::limited_member;
 use crate::shortcuts::segments::segment_head;
 use crate::shortcuts::short_bytes::short;
-use crate::shortcuts::whole_ops::take_ops;
 use crate::sink::Sink;
 use crate::step::expressions::InExpression;
 use crate::step::framed;
@@ -31,6 +30,7 @@ use crate::step::values::{InGlobalType, InLimits, InTableType, InValue};
 use wm_syntax::profile::Profile;
 use wm_syntax::why::Why;
 
+pub(crate) mod chains;
 pub(crate) mod constants;
 pub(crate) mod entries;
 pub(crate) mod exports;
@@ -209,30 +209,6 @@ fn way_in_code(at: InMember) -> Way {
     }
 }
 
-// Takes the ops of a code entry that lie whole in these bytes
-#[tactic(auto, using(crate::proofs::Advances::advances_none))]
-fn ops<S: Sink>(sink: &mut S, machine: &mut Machine, profile: Profile, bytes: &[u8]) -> Shortcut
-    ensures { Advances S.after S.may_run_out profile bytes.now machine.old (S.held sink.old) result
-        machine.new (S.held sink.new) }
-{
-    let Some(body) = InBody::of(*machine) else {
-        return Shortcut::none();
-    };
-    let room = body.more.min(body.rest);
-    if room == 0 {
-        return Shortcut::none();
-    }
-    let ran = take_ops(sink, profile, bytes, body.depth, room as usize);
-    if ran.used == 0 {
-        return Shortcut::none();
-    }
-    *machine = body.after(ran.used, ran.depth);
-    Shortcut {
-        used: ran.used as usize,
-        refused: ran.refused,
-    }
-}
-
 // Takes the bytes of a data segment. The sink is given them at once.
 #[tactic(auto, using(crate::proofs::Advances::advances_none))]
 fn data<S: Sink>(sink: &mut S, machine: &mut Machine, profile: Profile, bytes: &[u8]) -> Shortcut
@@ -331,9 +307,9 @@ pub(crate) fn take_way<S: Sink>(
         Way::Ops => {
             // of what comes byte by byte only the last `end` has a shortcut: the others want two bytes
             if bytes.len() == 1 {
-                return last_end(sink, machine, profile, bytes);
+                return LastEnd::take(sink, machine, profile, bytes);
             }
-            let taken = body(sink, machine, profile, bytes);
+            let taken = Body::take(sink, machine, profile, bytes);
             if taken.used > 0 {
                 return taken;
             }

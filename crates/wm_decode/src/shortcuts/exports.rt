@@ -2,7 +2,7 @@
 //!
 //! Empty names and long ones, and what is refused for its bytes, are left to the byte step.
 
-ghost use Rattle.std.specs.Prelude.{◌≡◌, ◌+◌, ◌≤◌, IfSome, length, slice_index};
+ghost use Rattle.std.specs.Prelude.{◌≡◌, ◌+◌, ◌<◌, ◌≤◌, IfSome, length, slice_index};
 ghost use Rattle.wm_syntax.specs.exact.Reading.{unsigned_push};
 ghost use Rattle.wm_decode.specs.exact.Shortcuts.{Advances};
 ghost use Rattle.wm_decode.specs.exact.WholeMembers.{before_member};
@@ -13,6 +13,7 @@ use crate::decoder::names::{give_export, give_name};
 use crate::machine::member::{InMember, SectionKind};
 use crate::machine::{Machine, NameKind};
 use crate::shortcuts::Shortcut;
+use crate::shortcuts::chains::Link;
 use crate::shortcuts::in_section::InSection;
 use crate::shortcuts::whole_names::name_end;
 use crate::shortcuts::whole_numbers::u32_at;
@@ -89,77 +90,79 @@ fn export_at(bytes: &[u8], from: usize, end: usize) -> Option<Export>
     })
 }
 
-// Takes the exports that lie in these bytes, as long as another export comes after each
-#[inline(always)]
+/// The exports that lie in the bytes, as long as another export comes after each.
+struct ExportsBeforeLast;
+
 #[tactic(auto, using(crate::proofs::Advances::advances_none))]
-fn exports_before_last<S: Sink>(
-    sink: &mut S,
-    machine: &mut Machine,
-    profile: Profile,
-    bytes: &[u8],
-) -> Shortcut
-    ensures { Advances S.after S.may_run_out profile bytes.now machine.old (S.held sink.old) result
-        machine.new (S.held sink.new) }
-{
-    let Some(start) = at_export(*machine) else {
-        return Shortcut::none();
-    };
-    let end = bytes.len().min(start.more as usize);
-    let mut left = start.left;
-    let mut used = 0;
-    while left > 0 {
-        let Some(found) = export_at(bytes, used, end) else {
-            break;
+impl Link for ExportsBeforeLast {
+    #[inline(always)]
+    fn take<S: Sink>(
+        sink: &mut S,
+        machine: &mut Machine,
+        profile: Profile,
+        bytes: &[u8],
+    ) -> Shortcut {
+        let Some(start) = at_export(*machine) else {
+            return Shortcut::none();
         };
-        let name = &bytes[used + 1..found.stop];
-        if let Err(why) = give_name(sink, NameKind::Export, name) {
-            return Shortcut::out(found.stop, why);
+        let end = bytes.len().min(start.more as usize);
+        let mut left = start.left;
+        let mut used = 0;
+        while left > 0 {
+            let Some(found) = export_at(bytes, used, end) else {
+                break;
+            };
+            let name = &bytes[used + 1..found.stop];
+            if let Err(why) = give_name(sink, NameKind::Export, name) {
+                return Shortcut::out(found.stop, why);
+            }
+            used = found.next;
+            left -= 1;
+            if let Err(why) = give_export(sink, found.kind, found.index) {
+                return Shortcut::out(used, why);
+            }
         }
-        used = found.next;
-        left -= 1;
-        if let Err(why) = give_export(sink, found.kind, found.index) {
-            return Shortcut::out(used, why);
+        *machine = start.after(used as u32, left).before(SectionKind::Export);
+        Shortcut {
+            used,
+            refused: None,
         }
-    }
-    *machine = start.after(used as u32, left).before(SectionKind::Export);
-    Shortcut {
-        used,
-        refused: None,
     }
 }
 
-// Takes the last export of a section
-#[inline(always)]
+/// The last export of a section.
+struct LastExport;
+
 #[tactic(auto, using(crate::proofs::Advances::advances_none))]
-fn last_export<S: Sink>(
-    sink: &mut S,
-    machine: &mut Machine,
-    profile: Profile,
-    bytes: &[u8],
-) -> Shortcut
-    ensures { Advances S.after S.may_run_out profile bytes.now machine.old (S.held sink.old) result
-        machine.new (S.held sink.new) }
-{
-    let Some(start) = at_export(*machine) else {
-        return Shortcut::none();
-    };
-    if start.left != 0 {
-        return Shortcut::none();
+impl Link for LastExport {
+    #[inline(always)]
+    fn take<S: Sink>(
+        sink: &mut S,
+        machine: &mut Machine,
+        profile: Profile,
+        bytes: &[u8],
+    ) -> Shortcut {
+        let Some(start) = at_export(*machine) else {
+            return Shortcut::none();
+        };
+        if start.left != 0 {
+            return Shortcut::none();
+        }
+        let Some(found) = export_at(bytes, 0, bytes.len()) else {
+            return Shortcut::none();
+        };
+        let last = found.next - 1;
+        if last > start.more as usize {
+            return Shortcut::none();
+        }
+        let name = &bytes[1..found.stop];
+        if let Err(why) = give_name(sink, NameKind::Export, name) {
+            return Shortcut::out(found.stop, why);
+        }
+        *machine = start.over(SectionKind::Export, last as u32);
+        let given = give_export(sink, found.kind, found.index);
+        Shortcut::ended(found.next, given, *machine)
     }
-    let Some(found) = export_at(bytes, 0, bytes.len()) else {
-        return Shortcut::none();
-    };
-    let last = found.next - 1;
-    if last > start.more as usize {
-        return Shortcut::none();
-    }
-    let name = &bytes[1..found.stop];
-    if let Err(why) = give_name(sink, NameKind::Export, name) {
-        return Shortcut::out(found.stop, why);
-    }
-    *machine = start.over(SectionKind::Export, last as u32);
-    let given = give_export(sink, found.kind, found.index);
-    Shortcut::ended(found.next, given, *machine)
 }
 
 /// Takes the exports that lie in these bytes.
@@ -170,16 +173,9 @@ pub(crate) fn exports<S: Sink>(
     profile: Profile,
     bytes: &[u8],
 ) -> Shortcut
+    requires { 0 < length bytes.now }
     ensures { Advances S.after S.may_run_out profile bytes.now machine.old (S.held sink.old) result
         machine.new (S.held sink.new) }
 {
-    let some = exports_before_last(sink, machine, profile, bytes);
-    if some.refused.is_some() {
-        return some;
-    }
-    let last = last_export(sink, machine, profile, &bytes[some.used..]);
-    Shortcut {
-        used: some.used + last.used,
-        refused: last.refused,
-    }
+    <(ExportsBeforeLast, LastExport)>::take(sink, machine, profile, bytes)
 }

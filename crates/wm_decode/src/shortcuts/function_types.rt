@@ -12,6 +12,7 @@ use crate::decoder::names::{give_new_type, give_param, give_result, give_result_
 use crate::machine::Machine;
 use crate::machine::member::{InMember, SectionKind};
 use crate::shortcuts::Shortcut;
+use crate::shortcuts::chains::{Link, repeated};
 use crate::shortcuts::in_section::InSection;
 use crate::sink::Sink;
 use crate::step::types::after_param;
@@ -155,27 +156,33 @@ fn give_params<S: Sink>(
     }
 }
 
-// Takes a type up to the count of its results
-#[inline(always)]
+/// A type up to the count of its results.
+struct Params;
+
 #[tactic(auto, using(crate::proofs::Advances::advances_none))]
-fn params<S: Sink>(sink: &mut S, machine: &mut Machine, profile: Profile, bytes: &[u8]) -> Shortcut
-    ensures { Advances S.after S.may_run_out profile bytes.now machine.old (S.held sink.old) result
-        machine.new (S.held sink.new) }
-{
-    let Some(start) = at_type(*machine) else {
-        return Shortcut::none();
-    };
-    let Some(begun) = begin_type(bytes, start) else {
-        return Shortcut::none();
-    };
-    if let Err(why) = give_new_type(sink) {
-        return Shortcut::out(1, why);
-    }
-    let given = give_params(sink, profile, &bytes[2..], begun);
-    *machine = begun.after(given.used as u32, given.params);
-    Shortcut {
-        used: 2 + given.used,
-        refused: given.refused,
+impl Link for Params {
+    #[inline(always)]
+    fn take<S: Sink>(
+        sink: &mut S,
+        machine: &mut Machine,
+        profile: Profile,
+        bytes: &[u8],
+    ) -> Shortcut {
+        let Some(start) = at_type(*machine) else {
+            return Shortcut::none();
+        };
+        let Some(begun) = begin_type(bytes, start) else {
+            return Shortcut::none();
+        };
+        if let Err(why) = give_new_type(sink) {
+            return Shortcut::out(1, why);
+        }
+        let given = give_params(sink, profile, &bytes[2..], begun);
+        *machine = begun.after(given.used as u32, given.params);
+        Shortcut {
+            used: 2 + given.used,
+            refused: given.refused,
+        }
     }
 }
 
@@ -262,60 +269,44 @@ fn last_results<S: Sink>(
     last_result(sink, machine, profile, bytes, start, ty)
 }
 
-// Takes the results of a type, at most one; by a shorter way where another type comes after it
-#[inline(always)]
+/// The results of a type, at most one; by a shorter way where another type comes after it.
+struct Results;
+
 #[tactic(auto, using(crate::proofs::Advances::advances_none))]
-fn results<S: Sink>(sink: &mut S, machine: &mut Machine, profile: Profile, bytes: &[u8]) -> Shortcut
-    ensures { Advances S.after S.may_run_out profile bytes.now machine.old (S.held sink.old) result
-        machine.new (S.held sink.new) }
-{
-    let Some(start) = at_results(*machine) else {
-        return Shortcut::none();
-    };
-    if bytes.len() < 2 {
-        return Shortcut::none();
-    }
-    if start.more < 2 || start.left == 0 {
-        return last_results(sink, machine, profile, bytes, start);
-    }
-    let count = bytes[0];
-    if count == 0 {
-        *machine = start.next(SectionKind::Type, 1);
-        let refused = give_result_count(sink, 0).err();
-        return Shortcut { used: 1, refused };
-    }
-    let Ok(ty) = value_type(profile, bytes[1]) else {
-        return Shortcut::none();
-    };
-    if count != 1 {
-        return Shortcut::none();
-    }
-    one_result(sink, machine, profile, bytes, start, ty)
-}
-
-// Takes a function type, as far as its counts are short and it lies in these bytes.
-#[inline(always)]
-fn function_type<S: Sink>(
-    sink: &mut S,
-    machine: &mut Machine,
-    profile: Profile,
-    bytes: &[u8],
-) -> Shortcut
-    ensures { Advances S.after S.may_run_out profile bytes.now machine.old (S.held sink.old) result
-        machine.new (S.held sink.new) }
-{
-    let front = params(sink, machine, profile, bytes);
-    if front.refused.is_some() {
-        return front;
-    }
-    let back = results(sink, machine, profile, &bytes[front.used..]);
-    Shortcut {
-        used: front.used + back.used,
-        refused: back.refused,
+impl Link for Results {
+    #[inline(always)]
+    fn take<S: Sink>(
+        sink: &mut S,
+        machine: &mut Machine,
+        profile: Profile,
+        bytes: &[u8],
+    ) -> Shortcut {
+        let Some(start) = at_results(*machine) else {
+            return Shortcut::none();
+        };
+        if bytes.len() < 2 {
+            return Shortcut::none();
+        }
+        if start.more < 2 || start.left == 0 {
+            return last_results(sink, machine, profile, bytes, start);
+        }
+        let count = bytes[0];
+        if count == 0 {
+            *machine = start.next(SectionKind::Type, 1);
+            let refused = give_result_count(sink, 0).err();
+            return Shortcut { used: 1, refused };
+        }
+        let Ok(ty) = value_type(profile, bytes[1]) else {
+            return Shortcut::none();
+        };
+        if count != 1 {
+            return Shortcut::none();
+        }
+        one_result(sink, machine, profile, bytes, start, ty)
     }
 }
 
-/// Takes the function types that lie in these bytes, one after another.
+/// Takes the function types that lie in these bytes, as far as their counts are short.
 pub(crate) fn function_types<S: Sink>(
     sink: &mut S,
     machine: &mut Machine,
@@ -325,17 +316,5 @@ pub(crate) fn function_types<S: Sink>(
     ensures { Advances S.after S.may_run_out profile bytes.now machine.old (S.held sink.old) result
         machine.new (S.held sink.new) }
 {
-    let mut used = 0;
-    while used < bytes.len() {
-        let taken = function_type(sink, machine, profile, &bytes[used..]);
-        used += taken.used;
-        if taken.used == 0 || taken.refused.is_some() {
-            let refused = taken.refused;
-            return Shortcut { used, refused };
-        }
-    }
-    Shortcut {
-        used,
-        refused: None,
-    }
+    repeated::<(Params, Results), S>(sink, machine, profile, bytes)
 }

@@ -14,6 +14,7 @@ use crate::decoder::names::give;
 use crate::machine::member::{InMember, SectionKind};
 use crate::machine::{Machine, Plain};
 use crate::shortcuts::Shortcut;
+use crate::shortcuts::chains::{Link, repeated};
 use crate::shortcuts::constants::{Constant, constant_at};
 use crate::shortcuts::in_section::InSection;
 use crate::sink::Sink;
@@ -24,7 +25,7 @@ use wm_syntax::types::GlobalType;
 
 /// The type of a global, and its value.
 #[derive(Clone, Copy)]
-struct Global {
+struct Found {
     ty: GlobalType,
     value: Constant,
 }
@@ -43,7 +44,7 @@ fn at_global(machine: Machine) -> Option<InSection>
 
 // The global at the front of these bytes, where it lies whole in them
 #[inline(always)]
-fn global_at(profile: Profile, bytes: &[u8]) -> Option<Global>
+fn global_at(profile: Profile, bytes: &[u8]) -> Option<Found>
     ensures ty { IfSome result (λ g. value_type_of profile (slice_index bytes.now 0) ≡ Ok g.ty.ty) }
     ensures var { IfSome result (λ g. var_step g.ty.ty (slice_index bytes.now 1) ≡ Done g.ty) }
     ensures op { IfSome result (λ g. WholeOp bytes.now 2 g.value.stop 0 0 g.value.op) }
@@ -60,43 +61,44 @@ fn global_at(profile: Profile, bytes: &[u8]) -> Option<Global>
         _ => return None,
     };
     let value = constant_at(bytes, 2)?;
-    Some(Global {
+    Some(Found {
         ty: GlobalType { ty, var },
         value,
     })
 }
 
-// Takes a global
-#[inline(always)]
+/// A global, whatever comes after it.
+struct Global;
+
 #[tactic(auto, using(crate::proofs::Advances::advances_none))]
-fn take_global<S: Sink>(
-    sink: &mut S,
-    machine: &mut Machine,
-    profile: Profile,
-    bytes: &[u8],
-) -> Shortcut
-    ensures { Advances S.after S.may_run_out profile bytes.now machine.old (S.held sink.old) result
-        machine.new (S.held sink.new) }
-{
-    let Some(start) = at_global(*machine) else {
-        return Shortcut::none();
-    };
-    let Some(found) = global_at(profile, bytes) else {
-        return Shortcut::none();
-    };
-    let stop = found.value.stop;
-    if stop > start.more as usize {
-        return Shortcut::none();
+impl Link for Global {
+    #[inline(always)]
+    fn take<S: Sink>(
+        sink: &mut S,
+        machine: &mut Machine,
+        profile: Profile,
+        bytes: &[u8],
+    ) -> Shortcut {
+        let Some(start) = at_global(*machine) else {
+            return Shortcut::none();
+        };
+        let Some(found) = global_at(profile, bytes) else {
+            return Shortcut::none();
+        };
+        let stop = found.value.stop;
+        if stop > start.more as usize {
+            return Shortcut::none();
+        }
+        if let Err(why) = give(sink, Plain::Global(found.ty)) {
+            return Shortcut::out(2, why);
+        }
+        if let Err(why) = give(sink, Plain::ConstOp(found.value.op)) {
+            return Shortcut::out(stop, why);
+        }
+        *machine = start.over(SectionKind::Global, stop as u32);
+        let given = give(sink, Plain::ConstOp(Op::End));
+        Shortcut::ended(stop + 1, given, *machine)
     }
-    if let Err(why) = give(sink, Plain::Global(found.ty)) {
-        return Shortcut::out(2, why);
-    }
-    if let Err(why) = give(sink, Plain::ConstOp(found.value.op)) {
-        return Shortcut::out(stop, why);
-    }
-    *machine = start.over(SectionKind::Global, stop as u32);
-    let given = give(sink, Plain::ConstOp(Op::End));
-    Shortcut::ended(stop + 1, given, *machine)
 }
 
 /// Takes the globals that lie in these bytes.
@@ -110,17 +112,5 @@ pub(crate) fn globals<S: Sink>(
     ensures { Advances S.after S.may_run_out profile bytes.now machine.old (S.held sink.old) result
         machine.new (S.held sink.new) }
 {
-    let mut used = 0;
-    while used < bytes.len() {
-        let taken = take_global(sink, machine, profile, &bytes[used..]);
-        used += taken.used;
-        if taken.used == 0 || taken.refused.is_some() {
-            let refused = taken.refused;
-            return Shortcut { used, refused };
-        }
-    }
-    Shortcut {
-        used,
-        refused: None,
-    }
+    repeated::<Global, S>(sink, machine, profile, bytes)
 }

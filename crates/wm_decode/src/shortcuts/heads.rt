@@ -13,6 +13,7 @@ use crate::decoder::names::{give_body, give_locals};
 use crate::machine::Machine;
 use crate::machine::member::{InEntry, InMember, SectionKind};
 use crate::shortcuts::Shortcut;
+use crate::shortcuts::chains::Link;
 use crate::shortcuts::in_section::InSection;
 use crate::shortcuts::whole_numbers::Whole;
 use crate::sink::Sink;
@@ -253,31 +254,32 @@ pub(crate) fn runs<S: Sink>(
     }
 }
 
-/// Takes the head of a code entry, as far as its numbers are short and lie in these bytes.
+/// The head of a code entry, as far as its numbers are short and lie in the bytes.
+pub(crate) struct Head;
+
 #[tactic(auto, using(crate::proofs::Advances::advances_none))]
-pub(crate) fn head<S: Sink>(
-    sink: &mut S,
-    machine: &mut Machine,
-    profile: Profile,
-    bytes: &[u8],
-) -> Shortcut
-    ensures { Advances S.after S.may_run_out profile bytes.now machine.old (S.held sink.old) result
-        machine.new (S.held sink.new) }
-{
-    let Some(start) = at_entry(*machine) else {
-        return Shortcut::none();
-    };
-    let Some(begun) = begin_head(bytes, start) else {
-        return Shortcut::none();
-    };
-    if let Err(why) = give_body(sink) {
-        return Shortcut::out(begun.sized, why);
-    }
-    let first = begun.sized + 1;
-    let given = give_runs(sink, profile, &bytes[first..], begun.at);
-    *machine = begun.at.after(given.used as u32, given.runs);
-    Shortcut {
-        used: first + given.used,
-        refused: given.refused,
+impl Link for Head {
+    fn take<S: Sink>(
+        sink: &mut S,
+        machine: &mut Machine,
+        profile: Profile,
+        bytes: &[u8],
+    ) -> Shortcut {
+        let Some(start) = at_entry(*machine) else {
+            return Shortcut::none();
+        };
+        let Some(begun) = begin_head(bytes, start) else {
+            return Shortcut::none();
+        };
+        if let Err(why) = give_body(sink) {
+            return Shortcut::out(begun.sized, why);
+        }
+        let first = begun.sized + 1;
+        let given = give_runs(sink, profile, &bytes[first..], begun.at);
+        *machine = begun.at.after(given.used as u32, given.runs);
+        Shortcut {
+            used: first + given.used,
+            refused: given.refused,
+        }
     }
 }
