@@ -6,9 +6,8 @@
 ghost use Rattle.std.specs.Prelude.{◌≡◌, ◌<◌, None, Some, length, min};
 ghost use Rattle.wm_decode.specs.exact.Shortcuts.{Advances, why_refused};
 
-use crate::decoder::names::give_bytes;
 use crate::machine::member::{InEntry, InMember, IndexOf, SectionKind};
-use crate::machine::{InCustom, Machine, refusal_of};
+use crate::machine::{Machine, refusal_of};
 use crate::shortcuts::chains::Link;
 use crate::shortcuts::entries::{Body, LastEnd, entries};
 use crate::shortcuts::exports::exports;
@@ -17,15 +16,13 @@ use crate::shortcuts::function_types::function_types;
 use crate::shortcuts::globals::globals;
 use crate::shortcuts::heads::runs;
 use crate::shortcuts::imports::imports;
-use crate::shortcuts::in_section::InSection;
 use crate::shortcuts::indices::indices;
 use crate::shortcuts::limited::limited_member;
 use crate::shortcuts::segments::segment_head;
 use crate::shortcuts::short_bytes::short;
+use crate::shortcuts::stretches::{data, pass};
 use crate::sink::Sink;
 use crate::step::expressions::InExpression;
-use crate::step::framed;
-use crate::step::members::data_or_over;
 use crate::step::values::{InGlobalType, InLimits, InTableType, InValue};
 use wm_syntax::profile::Profile;
 use wm_syntax::why::Why;
@@ -35,6 +32,7 @@ pub(crate) mod constants;
 pub(crate) mod entries;
 pub(crate) mod exports;
 pub(crate) mod float_ops;
+pub(crate) mod frame_bytes;
 pub(crate) mod frames;
 pub(crate) mod function_types;
 pub(crate) mod globals;
@@ -47,6 +45,7 @@ pub(crate) mod limited;
 pub(crate) mod segments;
 pub(crate) mod short_bytes;
 pub(crate) mod short_steps;
+pub(crate) mod stretches;
 pub(crate) mod whole_indices;
 pub(crate) mod whole_names;
 pub(crate) mod whole_numbers;
@@ -206,70 +205,6 @@ fn way_in_code(at: InMember) -> Way {
         InExpression::Op { .. } => Way::Ops,
         InExpression::Label { .. } => Way::Indices,
         _ => Way::One,
-    }
-}
-
-// Takes the bytes of a data segment. The sink is given them at once.
-#[tactic(auto, using(crate::proofs::Advances::advances_none))]
-fn data<S: Sink>(sink: &mut S, machine: &mut Machine, profile: Profile, bytes: &[u8]) -> Shortcut
-    requires { 0 < length bytes.now }
-    ensures { Advances S.after S.may_run_out profile bytes.now machine.old (S.held sink.old) result
-        machine.new (S.held sink.new) }
-{
-    let Some((of, at, start)) = InSection::of(*machine) else {
-        return Shortcut::none();
-    };
-    let InMember::Data { more: rest } = at else {
-        return Shortcut::none();
-    };
-    let count = at_most(start.more.min(rest), bytes.len());
-    let end = count as usize;
-    let next = start.after(count, start.left);
-    let rest = rest - count;
-    if end == bytes.len() {
-        *machine = next.at(of, InMember::Data { more: rest });
-        let refused = give_bytes(sink, bytes).err();
-        return Shortcut { used: end, refused };
-    }
-    // the next byte is the last of the segment or of the section
-    *machine = framed(of, next.functions, next.more, next.left, data_or_over(rest));
-    if let Err(why) = give_bytes(sink, &bytes[..=end]) {
-        return Shortcut::out(end + 1, why);
-    }
-    Shortcut {
-        used: end + 1,
-        refused: refusal_of(*machine),
-    }
-}
-
-// Skips the bytes of a custom section, but its last. The sink is given nothing.
-#[tactic(auto, using(crate::proofs::Advances::advances_none))]
-fn pass<S: Sink>(sink: &S, machine: &mut Machine, profile: Profile, bytes: &[u8]) -> Shortcut
-    ensures { Advances S.after S.may_run_out profile bytes.now machine.old (S.held sink.now) result
-        machine.new (S.held sink.now) }
-{
-    let Machine::Custom {
-        last,
-        functions,
-        more,
-        part,
-    } = *machine
-    else {
-        return Shortcut::none();
-    };
-    let InCustom::Skip = part else {
-        return Shortcut::none();
-    };
-    let used = at_most(more, bytes.len());
-    *machine = Machine::Custom {
-        last,
-        functions,
-        more: more - used,
-        part,
-    };
-    Shortcut {
-        used: used as usize,
-        refused: None,
     }
 }
 

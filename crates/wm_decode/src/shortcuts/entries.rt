@@ -3,7 +3,7 @@
 ghost use Rattle.std.specs.Prelude.{◌<◌, length};
 ghost use Rattle.wm_decode.specs.exact.Shortcuts.{Advances};
 
-use crate::decoder::names::give_end;
+use crate::decoder::give::give_end;
 use crate::machine::Machine;
 use crate::machine::member::{InMember, SectionKind};
 use crate::shortcuts::Shortcut;

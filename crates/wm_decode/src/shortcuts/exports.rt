@@ -9,7 +9,7 @@ ghost use Rattle.wm_decode.specs.exact.WholeMembers.{before_member};
 ghost use Rattle.wm_decode.specs.exact.WholeNames.{IsKindByte, NameLies};
 ghost use Rattle.wm_decode.specs.exact.WholeOps.{LiesAt};
 
-use crate::decoder::names::{give_export, give_name};
+use crate::decoder::give::{give_export, give_name};
 use crate::machine::member::{InMember, SectionKind};
 use crate::machine::{Machine, NameKind};
 use crate::shortcuts::Shortcut;

@@ -8,7 +8,7 @@ ghost use Rattle.wm_decode.specs.exact.TypeStarts.{before_results, in_params, pa
 ghost use Rattle.wm_decode.specs.exact.ValueSteps.{value_type_of};
 ghost use Rattle.wm_decode.specs.exact.WholeMembers.{before_member};
 
-use crate::decoder::names::{give_new_type, give_param, give_result, give_result_count};
+use crate::decoder::give::{give_new_type, give_param, give_result, give_result_count};
 use crate::machine::Machine;
 use crate::machine::member::{InMember, SectionKind};
 use crate::shortcuts::Shortcut;

@@ -10,7 +10,7 @@ ghost use Rattle.wm_decode.specs.exact.ValueSteps.{value_type_of, var_step};
 ghost use Rattle.wm_decode.specs.exact.WholeMembers.{before_member};
 ghost use Rattle.wm_decode.specs.exact.WholeOps.{WholeOp};
 
-use crate::decoder::names::give;
+use crate::decoder::give::give;
 use crate::machine::member::{InMember, SectionKind};
 use crate::machine::{Machine, Plain};
 use crate::shortcuts::Shortcut;

@@ -9,7 +9,7 @@ ghost use Rattle.wm_decode.specs.exact.Shortcuts.{Advances};
 ghost use Rattle.wm_decode.specs.exact.ValueSteps.{value_type_of};
 ghost use Rattle.wm_decode.specs.exact.WholeMembers.{before_member};
 
-use crate::decoder::names::{give_body, give_locals};
+use crate::decoder::give::{give_body, give_locals};
 use crate::machine::Machine;
 use crate::machine::member::{InEntry, InMember, SectionKind};
 use crate::shortcuts::Shortcut;
@@ -19,7 +19,6 @@ use crate::shortcuts::whole_numbers::Whole;
 use crate::sink::Sink;
 use crate::step::entries::runs_or_body;
 use crate::step::values::{InRun, value_type};
-use wm_syntax::numbers::Num32;
 use wm_syntax::profile::Profile;
 use wm_syntax::types::ValType;
 use wm_syntax::why::Why;

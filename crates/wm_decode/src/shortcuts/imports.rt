@@ -10,7 +10,7 @@ ghost use Rattle.wm_decode.specs.exact.WholeMembers.{before_member};
 ghost use Rattle.wm_decode.specs.exact.WholeNames.{NameLies};
 ghost use Rattle.wm_decode.specs.exact.WholeOps.{LiesAt};
 
-use crate::decoder::names::{give_import, give_name};
+use crate::decoder::give::{give_import, give_name};
 use crate::machine::member::{InMember, SectionKind};
 use crate::machine::{Machine, NameKind};
 use crate::shortcuts::Shortcut;

@@ -8,7 +8,7 @@ ghost use Rattle.wm_decode.specs.exact.Indices.{GaveEach, LiesIn, at_index, befo
 ghost use Rattle.wm_decode.specs.exact.Indices.{followed_indices, index_room, indices_ended, indices_past};
 ghost use Rattle.wm_decode.specs.exact.Indices.{most_indices};
 
-use crate::decoder::names::give_short_index;
+use crate::decoder::give::give_short_index;
 use crate::machine::Machine;
 use crate::machine::member::{InEntry, InMember, IndexOf, SectionKind};
 use crate::shortcuts::in_section::InSection;

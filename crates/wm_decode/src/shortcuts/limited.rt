@@ -8,7 +8,7 @@ ghost use Rattle.wm_decode.specs.exact.Limited.{LimitsBegin, LimitsLie, limited_
 ghost use Rattle.wm_decode.specs.exact.Shortcuts.{Advances};
 ghost use Rattle.wm_decode.specs.exact.WholeMembers.{before_member};
 
-use crate::decoder::names::give;
+use crate::decoder::give::give;
 use crate::machine::member::{InMember, SectionKind};
 use crate::machine::{Machine, Plain};
 use crate::shortcuts::Shortcut;

@@ -11,7 +11,7 @@ ghost use Rattle.wm_decode.specs.exact.Shortcuts.{Advances};
 ghost use Rattle.wm_decode.specs.exact.WholeMembers.{before_member};
 ghost use Rattle.wm_decode.specs.exact.WholeOps.{LiesAt, WholeOp};
 
-use crate::decoder::names::give;
+use crate::decoder::give::give;
 use crate::machine::member::{InMember, IndexOf, SectionKind};
 use crate::machine::{Machine, Plain, refusal_of};
 use crate::shortcuts::Shortcut;

@@ -6,7 +6,7 @@ ghost use Rattle.wm_decode.specs.exact.Shortcuts.{Advances};
 ghost use Rattle.wm_decode.specs.exact.Indices.{LiesIn, before_index, followed_indices};
 ghost use Rattle.wm_decode.specs.exact.WholeOps.{LiesAt};
 
-use crate::decoder::names::give_index;
+use crate::decoder::give::give_index;
 use crate::machine::Machine;
 use crate::shortcuts::Shortcut;
 use crate::shortcuts::indices::InIndices;

@@ -5,7 +5,7 @@ use Rattle.wm_decode.specs.exact.Live.{refusal_in_machine}
 use Rattle.wm_decode.specs.exact.Steps.{machine_in_member}
 use Rattle.wm_decode.specs.exact.WholeMembers.{in_member}
 use Rattle.wm_decode.proofs.Advances.{advances_by, advances_data, advances_data_end, advances_data_out}
-use Rattle.wm_decode.proofs.shortcuts.data.Goals as goal
+use Rattle.wm_decode.proofs.shortcuts.stretches.data.Goals as goal
 
 pub returns-then-end-bytes : goal.returns-then-end-bytes
 returns-then-end-bytes g c =

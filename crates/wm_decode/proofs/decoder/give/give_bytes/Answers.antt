@@ -1,5 +1,5 @@
 use Rattle.wm_decode.proofs.TakenItems.{slice_taken}
-use Rattle.wm_decode.proofs.decoder.names.give_bytes.Goals as goal
+use Rattle.wm_decode.proofs.decoder.give.give_bytes.Goals as goal
 
 pub returns-clause-given : goal.returns-clause-given
 returns-clause-given g c =
