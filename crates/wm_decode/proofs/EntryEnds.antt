@@ -17,10 +17,10 @@ use Rattle.wm_decode.specs.Sinks.{Taken}
 use Rattle.wm_decode.specs.exact.Steps.{machine_in_member}
 use Rattle.wm_decode.specs.exact.ExpressionSteps.{after_reading}
 use Rattle.wm_decode.specs.exact.MemberSteps.{entry_after_op, member_in_entry, member_step, op_event}
-use Rattle.wm_decode.specs.exact.Shortcuts.{Advances}
+use Rattle.wm_decode.specs.exact.Shortcuts.{Advances, why_refused}
 use Rattle.wm_decode.specs.exact.WholeOps.{before_op}
 use Rattle.wm_decode.proofs.Advances.{advances_none}
-use Rattle.wm_decode.proofs.LastBytes.{advances_last, why_refused}
+use Rattle.wm_decode.proofs.LastBytes.{advances_last}
 use Rattle.wm_decode.proofs.OpLists.{is_alone}
 
 entry_closed : (p : Profile) (rest depth c : ℕ) → c ≡ 0x0B → depth ≡ 0 → rest ≡ 0

@@ -15,8 +15,8 @@ use Rattle.wm_decode.specs.declared.machine.member.SectionKind.TheVariants as se
 use Rattle.wm_decode.specs.declared.machine.member.InMember.{InMember}
 use Rattle.wm_decode.specs.declared.machine.member.InMember.TheVariants as at
 use Rattle.wm_decode.specs.declared.shortcuts.Shortcut.{Shortcut}
-use Rattle.wm_decode.specs.declared.shortcuts.function_types.InTypes.{InTypes}
 use Rattle.wm_decode.specs.declared.shortcuts.function_types.InParams.{InParams}
+use Rattle.wm_decode.specs.declared.shortcuts.in_section.InSection.{InSection}
 use Rattle.wm_decode.specs.declared.shortcuts.short_steps.Place.{Place}
 use Rattle.wm_decode.specs.declared.shortcuts.short_steps.Stepped.{Stepped}
 use Rattle.wm_decode.specs.Items.{Item, new_type, one_result, param, result_count}
@@ -25,11 +25,12 @@ use Rattle.wm_decode.specs.exact.Steps.{machine_in_member}
 use Rattle.wm_decode.specs.exact.MemberSteps.{after_param, after_result, member_step, on_number, on_type, with_item_given}
 use Rattle.wm_decode.specs.exact.ValueSteps.{value_type_of}
 use Rattle.wm_decode.specs.exact.ShortSteps.{StepsTo}
-use Rattle.wm_decode.specs.exact.TypeStarts.{before_results, before_type, in_params, next_type, params_after}
-use Rattle.wm_decode.specs.exact.Shortcuts.{Advances}
+use Rattle.wm_decode.specs.exact.TypeStarts.{before_results, in_params, params_after}
+use Rattle.wm_decode.specs.exact.Shortcuts.{Advances, why_refused}
+use Rattle.wm_decode.specs.exact.WholeMembers.{before_member, section_after}
 use Rattle.wm_decode.proofs.Advances.{advances_more, advances_none, advances_out, advances_step}
 use Rattle.wm_decode.proofs.Heads.{ok}
-use Rattle.wm_decode.proofs.LastBytes.{advances_last, why_refused}
+use Rattle.wm_decode.proofs.LastBytes.{advances_last}
 use Rattle.wm_decode.proofs.WholeNumbers.{u32_one}
 
 -- what a byte makes of the section that goes on after it
@@ -87,7 +88,7 @@ params_start i =
     ap (λ x. machine.Section section_kind.Type i.functions x i.left (after_param i.params)) a
 
 module _ {H : Type 0} (after : H → Item → Result H Why) (may : H → Item → Type 0) (p : Profile) (bytes : List ℕ) where
-  module _ (e : InTypes) where
+  module _ (e : InSection) where
     abbrev start : Place
     start = record { of = section_kind.Type; functions = e.functions; more = e.more; left = e.left; at = at.TypeForm }
 
@@ -99,21 +100,21 @@ module _ {H : Type 0} (after : H → Item → Result H Why) (may : H → Item �
 
     -- the sink refused the type
     pub type_out : {U : Type 0} (r : Result U Why) (h g : H) (s : Shortcut) (w : Why) (n : Machine) → slice_index bytes 0 ≡ 0x60 → 0 < length bytes → 0 < e.more → s.used ≡ 1 → s.refused ≡ Some w → s.refused ≡ result_err r
-        → Taken (after h new_type) r g → IfErr r (λ w. w ≡ why.Memory → may h new_type) → Advances after may p bytes (before_type e) h s n g
+        → Taken (after h new_type) r g → IfErr r (λ w. w ≡ why.Memory → may h new_type) → Advances after may p bytes (before_member section_kind.Type e) h s n g
     type_out r h g s w n form inside more used is er given quiet =
-        advances_out after may p bytes (before_type e) (machine.Section section_kind.Type e.functions (e.more - 1) e.left (at.ParamCount fresh)) n h g g s w is (omega arith)
+        advances_out after may p bytes (before_member section_kind.Type e) (machine.Section section_kind.Type e.functions (e.more - 1) e.left (at.ParamCount fresh)) n h g g s w is (omega arith)
         (advances_step after may p bytes h g start formed s more inside (form_alone p e.left (slice_index bytes 0) form) used r er given quiet)
 
     -- the sink took it
     pub type_begun : (i : InParams) (h g : H) → slice_index bytes 0 ≡ 0x60 → slice_index bytes 1 ≡ i.params → i.params < 2 ^ 7 → 1 < length bytes → 1 < e.more
-        → i ≡ record { functions = e.functions; more = e.more - 2; left = e.left; params = i.params } → after h new_type ≡ Ok g → Advances after may p bytes (before_type e) h (record { used = 2; refused = None }) (in_params i) g
+        → i ≡ record { functions = e.functions; more = e.more - 2; left = e.left; params = i.params } → after h new_type ≡ Ok g → Advances after may p bytes (before_member section_kind.Type e) h (record { used = 2; refused = None }) (in_params i) g
     type_begun i h g form count short inside more is given =
         let counted : Stepped = record { left = e.left; at = after_param i.params; part = None } in
-        let begun : Advances after may p bytes (before_type e) h (record { used = 1; refused = None }) (machine.Section section_kind.Type e.functions (e.more - 1) e.left (at.ParamCount fresh)) g =
+        let begun : Advances after may p bytes (before_member section_kind.Type e) h (record { used = 1; refused = None }) (machine.Section section_kind.Type e.functions (e.more - 1) e.left (at.ParamCount fresh)) g =
         advances_step after may p bytes h g start formed (record { used = 1; refused = None }) (omega arith) (omega arith) (form_alone p e.left (slice_index bytes 0) form) refl ok refl given tt in
         let to : StepsTo p section_kind.Type e.left (at.ParamCount fresh) (slice_index bytes 1) counted = subst (λ c. StepsTo p section_kind.Type e.left (at.ParamCount fresh) c counted) (sym count) (params_alone p e.left i.params short) in
         let place : e.more - 2 ≡ e.more - 1 - 1 = omega arith in
-        advances_more after may p bytes (before_type e) (in_params i) h g g between counted 1 (record { used = 2; refused = None }) ok begun inside (omega arith) to refl refl refl tt
+        advances_more after may p bytes (before_member section_kind.Type e) (in_params i) h g g between counted 1 (record { used = 2; refused = None }) ok begun inside (omega arith) to refl refl refl tt
         (ap in_params is ∙ ap (λ n. machine.Section section_kind.Type e.functions n e.left (after_param i.params)) place)
 
     -- results
@@ -121,7 +122,7 @@ module _ {H : Type 0} (after : H → Item → Result H Why) (may : H → Item �
     counting = record { of = section_kind.Type; functions = e.functions; more = e.more; left = e.left; at = at.ResultCount fresh }
 
     pub no_result : {U : Type 0} (r : Result U Why) (h g : H) (s : Shortcut) → slice_index bytes 0 ≡ 0 → 0 < length bytes → 0 < e.more → 0 < e.left → s.used ≡ 1 → s.refused ≡ result_err r
-        → Taken (after h (result_count 0)) r g → IfErr r (λ w. w ≡ why.Memory → may h (result_count 0)) → Advances after may p bytes (before_results e) h s (before_type (next_type e 1)) g
+        → Taken (after h (result_count 0)) r g → IfErr r (λ w. w ≡ why.Memory → may h (result_count 0)) → Advances after may p bytes (before_results e) h s (before_member section_kind.Type (section_after e 1 (e.left - 1))) g
     no_result r h g s count inside more left used er given quiet =
         advances_step after may p bytes h g counting (record { left = e.left - 1; at = at.TypeForm; part = Some (plain.ResultCount 0) }) s more inside (none_alone p e.left (slice_index bytes 0) count left) used r er given quiet
 
@@ -139,12 +140,12 @@ module _ {H : Type 0} (after : H → Item → Result H Why) (may : H → Item �
         advances_out after may p bytes (before_results e) (machine.Section section_kind.Type e.functions (e.more - 1) e.left (at.ResultType 0)) n h g g s w is (omega arith) (one_counted r h g s count inside more used er given quiet)
 
     pub result_taken : {U : Type 0} (r : Result U Why) (h f g : H) (s : Shortcut) (t : ValType) → slice_index bytes 0 ≡ 1 → value_type_of p (slice_index bytes 1) ≡ Ok t → 1 < length bytes → 1 < e.more → 0 < e.left → after h (result_count 1) ≡ Ok f
-        → s.used ≡ 2 → s.refused ≡ result_err r → Taken (after f (one_result t)) r g → IfErr r (λ w. w ≡ why.Memory → may f (one_result t)) → Advances after may p bytes (before_results e) h s (before_type (next_type e 2)) g
+        → s.used ≡ 2 → s.refused ≡ result_err r → Taken (after f (one_result t)) r g → IfErr r (λ w. w ≡ why.Memory → may f (one_result t)) → Advances after may p bytes (before_results e) h s (before_member section_kind.Type (section_after e 2 (e.left - 1))) g
     result_taken r h f g s t count typed inside more left first used er given quiet =
         let here : Place = record { of = section_kind.Type; functions = e.functions; more = e.more - 1; left = e.left; at = at.ResultType 0 } in
         let ended : Stepped = record { left = e.left - 1; at = at.TypeForm; part = Some (plain.OneResult t) } in
         let place : e.more - 2 ≡ e.more - 1 - 1 = omega arith in
-        advances_more after may p bytes (before_results e) (before_type (next_type e 2)) h f g here ended 1 s r
+        advances_more after may p bytes (before_results e) (before_member section_kind.Type (section_after e 2 (e.left - 1))) h f g here ended 1 s r
         (one_counted ok h f (record { used = 1; refused = None }) count (omega arith) (omega arith) refl refl first tt) inside (omega arith) (result_alone p e.left (slice_index bytes 1) t typed left) used er given quiet
         (ap (λ n. machine.Section section_kind.Type e.functions n (e.left - 1) at.TypeForm) place)
 

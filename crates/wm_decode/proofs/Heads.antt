@@ -20,9 +20,9 @@ use Rattle.wm_decode.specs.declared.step.reading.Reading.{Reading}
 use Rattle.wm_decode.specs.declared.step.values.InRun.{InRun}
 use Rattle.wm_decode.specs.declared.step.values.InRun.TheVariants as run
 use Rattle.wm_decode.specs.declared.shortcuts.Shortcut.{Shortcut}
-use Rattle.wm_decode.specs.declared.shortcuts.heads.BeforeEntry.{BeforeEntry}
 use Rattle.wm_decode.specs.declared.shortcuts.heads.InHead.{InHead}
 use Rattle.wm_decode.specs.declared.shortcuts.in_body.InBody.{InBody}
+use Rattle.wm_decode.specs.declared.shortcuts.in_section.InSection.{InSection}
 use Rattle.wm_syntax.specs.declared.instructions.Op.TheVariants as op
 use Rattle.wm_decode.specs.declared.step.expressions.InExpression.TheVariants as expression
 use Rattle.wm_decode.specs.declared.step.ops.InOp.TheVariants as in_op
@@ -36,8 +36,9 @@ use Rattle.wm_decode.specs.exact.Steps.{machine_in_member}
 use Rattle.wm_decode.specs.exact.MemberSteps.{member_in_entry, on_number, on_value, runs_or_body, with_item_given}
 use Rattle.wm_decode.specs.exact.ValueSteps.{read_number, read_type, value_type_of}
 use Rattle.wm_decode.specs.exact.ShortSteps.{StepsTo}
-use Rattle.wm_decode.specs.exact.Heads.{IsShort, before_entry, head_after, in_head}
+use Rattle.wm_decode.specs.exact.Heads.{IsShort, head_after, in_head}
 use Rattle.wm_decode.specs.exact.Shortcuts.{Advances}
+use Rattle.wm_decode.specs.exact.WholeMembers.{before_member}
 use Rattle.wm_decode.specs.declared.step.reading.Reading.TheVariants.{More, Done}
 use Rattle.wm_decode.proofs.Advances.{advances_by, advances_more, advances_out, advances_step}
 use Rattle.wm_decode.proofs.WholeNumbers.{u32_goes_on, u32_one, u32_second}
@@ -109,7 +110,7 @@ abbrev pub ok : Result (Unit {0}) Why
 ok = Ok tt
 
 module _ {H : Type 0} (after : H → Item → Result H Why) (may : H → Item → Type 0) (p : Profile) (bytes : List ℕ) where
-  module _ (e : BeforeEntry) where
+  module _ (e : InSection) where
     -- after the size
     abbrev sized_at : ℕ → ℕ → Machine
     sized_at used v = machine.Section section_kind.Code e.functions (e.more - used) e.left (at.Entry (v - 1) (entry.RunCount fresh))
@@ -118,7 +119,7 @@ module _ {H : Type 0} (after : H → Item → Result H Why) (may : H → Item �
     start = record { of = section_kind.Code; functions = e.functions; more = e.more; left = e.left; at = at.EntrySize fresh }
 
     one_byte : {U : Type 0} (h g : H) (s : Shortcut) (r : Result U Why) → 0 < slice_index bytes 0 → slice_index bytes 0 < 2 ^ 7 → 0 < e.more → 0 < length bytes → s.used ≡ 1
-        → s.refused ≡ result_err r → Taken (after h body) r g → IfErr r (λ w. w ≡ why.Memory → may h body) → Advances after may p bytes (before_entry e) h s (sized_at 1 (slice_index bytes 0)) g
+        → s.refused ≡ result_err r → Taken (after h body) r g → IfErr r (λ w. w ≡ why.Memory → may h body) → Advances after may p bytes (before_member section_kind.Code e) h s (sized_at 1 (slice_index bytes 0)) g
     one_byte h g s r some less more inside used is given quiet =
         let c = slice_index bytes 0 in
         advances_step after may p bytes h g start (record { left = e.left; at = at.Entry (c - 1) (entry.RunCount fresh); part = Some plain.Body }) s more inside (size_alone p e.left c some less) used r is given quiet
@@ -126,7 +127,7 @@ module _ {H : Type 0} (after : H → Item → Result H Why) (may : H → Item �
     two_bytes : {U : Type 0} (h g : H) (s : Shortcut) (r : Result U Why) → 2 ^ 7 ≤ slice_index bytes 0 → slice_index bytes 1 < 2 ^ 7
         → 0 < slice_index bytes 0 - 2 ^ 7 + slice_index bytes 1 * 2 ^ 7 → 1 < e.more → 1 < length bytes → s.used ≡ 2
         → s.refused ≡ result_err r → Taken (after h body) r g → IfErr r (λ w. w ≡ why.Memory → may h body)
-        → Advances after may p bytes (before_entry e) h s (sized_at 2 (slice_index bytes 0 - 2 ^ 7 + slice_index bytes 1 * 2 ^ 7)) g
+        → Advances after may p bytes (before_member section_kind.Code e) h s (sized_at 2 (slice_index bytes 0 - 2 ^ 7 + slice_index bytes 1 * 2 ^ 7)) g
     two_bytes h g s r high less some more inside used is given quiet =
         let c : ℕ = slice_index bytes 0 in
         let d : ℕ = slice_index bytes 1 in
@@ -135,28 +136,28 @@ module _ {H : Type 0} (after : H → Item → Result H Why) (may : H → Item �
         let between : Place = record { of = section_kind.Code; functions = e.functions; more = e.more - 1; left = e.left; at = at.EntrySize (record { low = c - 2 ^ 7; count = 1 }) } in
         let place : e.more - 2 ≡ e.more - 1 - 1 = omega arith in
         let one : Shortcut = record { used = 1; refused = None } in
-        advances_more after may p bytes (before_entry e) (sized_at 2 (c - 2 ^ 7 + d * 2 ^ 7)) h h g between second 1 s r
+        advances_more after may p bytes (before_member section_kind.Code e) (sized_at 2 (c - 2 ^ 7 + d * 2 ^ 7)) h h g between second 1 s r
         (advances_step after may p bytes h h start first one (omega arith) (omega arith) (size_first p e.left c high) refl ok refl refl tt)
         inside (omega arith) (size_second p e.left (c - 2 ^ 7) d some less) used is given quiet
         (ap (λ n. machine.Section section_kind.Code e.functions n e.left (at.Entry (c - 2 ^ 7 + d * 2 ^ 7 - 1) (entry.RunCount fresh))) place)
 
     sized : {U : Type 0} (used v : ℕ) (h g : H) (s : Shortcut) (r : Result U Why) → IsShort bytes used v → 0 < v → used ≤ e.more → used ≤ length bytes → s.used ≡ used
-        → s.refused ≡ result_err r → Taken (after h body) r g → IfErr r (λ w. w ≡ why.Memory → may h body) → Advances after may p bytes (before_entry e) h s (sized_at used v) g
+        → s.refused ≡ result_err r → Taken (after h body) r g → IfErr r (λ w. w ≡ why.Memory → may h body) → Advances after may p bytes (before_member section_kind.Code e) h s (sized_at used v) g
     sized used v h g s r (inl (a, less, b)) some more inside eu is given quiet =
-        subst (λ n. Advances after may p bytes (before_entry e) h s (sized_at n v) g) (sym a)
-        (subst (λ n. Advances after may p bytes (before_entry e) h s (sized_at 1 n) g) (sym b)
+        subst (λ n. Advances after may p bytes (before_member section_kind.Code e) h s (sized_at n v) g) (sym a)
+        (subst (λ n. Advances after may p bytes (before_member section_kind.Code e) h s (sized_at 1 n) g) (sym b)
         (one_byte h g s r (omega arith) less (omega arith) (omega arith) (omega arith) is given quiet))
     sized used v h g s r (inr (a, high, less, b)) some more inside eu is given quiet =
-        subst (λ n. Advances after may p bytes (before_entry e) h s (sized_at n v) g) (sym a)
-        (subst (λ n. Advances after may p bytes (before_entry e) h s (sized_at 2 n) g) (sym b)
+        subst (λ n. Advances after may p bytes (before_member section_kind.Code e) h s (sized_at n v) g) (sym a)
+        (subst (λ n. Advances after may p bytes (before_member section_kind.Code e) h s (sized_at 2 n) g) (sym b)
         (two_bytes h g s r high less (omega arith) (omega arith) (omega arith) (omega arith) is given quiet))
 
     module _ (used : ℕ) (i : InHead) (h g : H) (size : IsShort bytes used (i.rest + 2)) (inside : used < length bytes) (more : used < e.more) where
       -- the sink refused the body
       pub head_out : {U : Type 0} (r : Result U Why) (s : Shortcut) (w : Why) (n : Machine) → s.used ≡ used → s.refused ≡ Some w → s.refused ≡ result_err r
-          → Taken (after h body) r g → IfErr r (λ w. w ≡ why.Memory → may h body) → Advances after may p bytes (before_entry e) h s n g
+          → Taken (after h body) r g → IfErr r (λ w. w ≡ why.Memory → may h body) → Advances after may p bytes (before_member section_kind.Code e) h s n g
       head_out r s w n eu is er given quiet =
-          advances_out after may p bytes (before_entry e) (sized_at used (i.rest + 2)) n h g g s w is (some size)
+          advances_out after may p bytes (before_member section_kind.Code e) (sized_at used (i.rest + 2)) n h g g s w is (some size)
           (sized used (i.rest + 2) h g s r size (omega arith) (omega arith) (omega arith) eu er given quiet)
         where
           some : IsShort bytes used (i.rest + 2) → 0 < s.used
@@ -165,15 +166,15 @@ module _ {H : Type 0} (after : H → Item → Result H Why) (may : H → Item �
 
       -- the sink took it
       pub head_begun : slice_index bytes used ≡ i.runs → i.runs < 2 ^ 7 → i ≡ record { functions = e.functions; more = e.more - (used + 1); left = e.left; rest = i.rest; runs = i.runs }
-          → after h body ≡ Ok g → Advances after may p bytes (before_entry e) h (record { used = used + 1; refused = None }) (in_head i) g
+          → after h body ≡ Ok g → Advances after may p bytes (before_member section_kind.Code e) h (record { used = used + 1; refused = None }) (in_head i) g
       head_begun count short is given =
           let between : Place = record { of = section_kind.Code; functions = e.functions; more = e.more - used; left = e.left; at = at.Entry (i.rest + 2 - 1) (entry.RunCount fresh) } in
           let next : Stepped = record { left = e.left; at = at.Entry (i.rest + 2 - 1 - 1) (runs_or_body i.runs); part = None } in
-          let begun : Advances after may p bytes (before_entry e) h (record { used = used; refused = None }) (sized_at used (i.rest + 2)) g = sized used (i.rest + 2) h g (record { used = used; refused = None }) ok size (omega arith) (omega arith) (omega arith) refl refl given tt in
+          let begun : Advances after may p bytes (before_member section_kind.Code e) h (record { used = used; refused = None }) (sized_at used (i.rest + 2)) g = sized used (i.rest + 2) h g (record { used = used; refused = None }) ok size (omega arith) (omega arith) (omega arith) refl refl given tt in
           let to : StepsTo p section_kind.Code e.left (at.Entry (i.rest + 2 - 1) (entry.RunCount fresh)) (slice_index bytes used) next = subst (λ c. StepsTo p section_kind.Code e.left (at.Entry (i.rest + 2 - 1) (entry.RunCount fresh)) c next) (sym count) (runs_alone p e.left (i.rest + 2 - 1) i.runs (omega arith) short) in
           let place : e.more - (used + 1) ≡ e.more - used - 1 = omega arith in
           let less : i.rest ≡ i.rest + 2 - 1 - 1 = omega arith in
-          advances_more after may p bytes (before_entry e) (in_head i) h g g between next used (record { used = used + 1; refused = None }) ok
+          advances_more after may p bytes (before_member section_kind.Code e) (in_head i) h g g between next used (record { used = used + 1; refused = None }) ok
           begun inside (omega arith) to refl refl refl tt
           (ap in_head is
           ∙ (ap (λ n. machine.Section section_kind.Code e.functions n e.left (at.Entry i.rest (runs_or_body i.runs))) place
@@ -213,15 +214,15 @@ head_start i =
 
 -- the last `end` of an entry, where another comes after it
 module _ {H U : Type 0} (after : H → Item → Result H Why) (may : H → Item → Type 0) (p : Profile) (bytes : List ℕ) (b : InBody) (h g : H) (s : Shortcut) (r : Result U Why) where
-  abbrev pub next_entry : BeforeEntry
-  next_entry = record { functions = b.functions; more = b.more - 1; left = b.left - 1 }
+  abbrev pub next_entry : Machine
+  next_entry = machine.Section section_kind.Code b.functions (b.more - 1) (b.left - 1) (at.EntrySize fresh)
 
   pub last_taken : b.of ≡ section_kind.Code → slice_index bytes 0 ≡ 0x0B → b.depth ≡ 0 → b.rest ≡ 0 → 0 < b.left → 0 < b.more → 0 < length bytes
-      → s.used ≡ 1 → s.refused ≡ result_err r → Taken (after h (body_op op.End)) r g → IfErr r (λ w. w ≡ why.Memory → may h (body_op op.End)) → Advances after may p bytes (before_op b) h s (before_entry next_entry) g
+      → s.used ≡ 1 → s.refused ≡ result_err r → Taken (after h (body_op op.End)) r g → IfErr r (λ w. w ≡ why.Memory → may h (body_op op.End)) → Advances after may p bytes (before_op b) h s next_entry g
   last_taken of byte depth rest left more some used is given quiet =
       let here : Place = record { of = b.of; functions = b.functions; more = b.more; left = b.left; at = at.Entry b.rest (entry.Body (expression.Op b.depth in_op.First)) } in
       let ended : Stepped = record { left = b.left - 1; at = at.EntrySize fresh; part = Some (plain.BodyOp op.End) } in
       let to : StepsTo p b.of b.left here.at (slice_index bytes 0) ended = steps_so p b.of section_kind.Code b.left here.at here.at (slice_index bytes 0) ended of refl (last_steps p b.left b.rest b.depth (slice_index bytes 0) in_op.First fresh refl byte depth rest left refl) in
-      advances_by after may p bytes (before_op b) (before_entry next_entry) (before_op b) (machine.Section b.of b.functions (b.more - 1) (b.left - 1) (at.EntrySize fresh)) h g s refl
+      advances_by after may p bytes (before_op b) next_entry (before_op b) (machine.Section b.of b.functions (b.more - 1) (b.left - 1) (at.EntrySize fresh)) h g s refl
       (ap (λ k. machine.Section k b.functions (b.more - 1) (b.left - 1) (at.EntrySize fresh)) (sym of))
       (advances_step after may p bytes h g here ended s more some to used r is given quiet)

@@ -30,12 +30,12 @@ use Rattle.wm_decode.specs.exact.OpSteps.{on_answer}
 use Rattle.wm_decode.specs.exact.ExpressionSteps.{after_label, expression_failed}
 use Rattle.wm_decode.specs.exact.MemberSteps.{member_step, on_number, after_index, index_item, with_item_given, member_in_entry, entry_after_op, op_event}
 use Rattle.wm_decode.specs.exact.ShortSteps.{StepsTo}
-use Rattle.wm_decode.specs.exact.Shortcuts.{Advances}
+use Rattle.wm_decode.specs.exact.Shortcuts.{Advances, why_refused}
 use Rattle.wm_decode.specs.exact.Indices.{LiesIn, after_last, at_index, before_index, followed_in, index_item_in, index_part, indices_ended, indices_past, list_past, members_after, room_in}
 use Rattle.wm_decode.specs.exact.WholeOps.{IsNumber, LiesAt}
 use Rattle.wm_decode.proofs.Advances.{advances_by, advances_more, advances_none}
 use Rattle.wm_decode.proofs.IndexBytes.{item_past, lies_past}
-use Rattle.wm_decode.proofs.LastBytes.{advances_last, why_refused}
+use Rattle.wm_decode.proofs.LastBytes.{advances_last}
 use Rattle.wm_decode.proofs.NumberSteps.{BeforeLast, NumberGoesOn, before_last, framed}
 
 -- where an index of a list stands after some of its bytes, with so many bytes of what it lies in to come after the next

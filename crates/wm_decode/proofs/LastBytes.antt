@@ -1,5 +1,5 @@
 -- A byte of a member after other bytes, also one that ends the member or is refused there.
-use Rattle.std.proofs.Common.{zero, suc, take, slice_range, ◌≡◌, ℕ, ◌+◌, ◌-◌, ◌<◌, ◌≤◌, inr, List, [], Option, Some, None, Result, Ok, Err, IfErr, length, length-drop, drop, get_or, get_or-drop, slice_index, refl, sym, ◌∙◌, ap, subst, arith}
+use Rattle.std.proofs.Common.{zero, suc, take, slice_range, ◌≡◌, ℕ, ◌+◌, ◌-◌, ◌<◌, ◌≤◌, inr, List, [], Option, None, Result, Ok, Err, IfErr, length, length-drop, drop, get_or, get_or-drop, slice_index, refl, sym, ◌∙◌, ap, subst, arith}
 use Rattle.wm_syntax.specs.declared.profile.Profile.{Profile}
 use Rattle.wm_syntax.specs.declared.why.Why.{Why}
 use Rattle.wm_syntax.specs.declared.why.Why.TheVariants as why
@@ -13,9 +13,9 @@ use Rattle.wm_decode.specs.Items.{Item}
 use Rattle.wm_decode.specs.Sinks.{Taken, and_then}
 use Rattle.wm_decode.specs.exact.Steps.{machine_in_member, step_of}
 use Rattle.wm_decode.specs.exact.MemberSteps.{member_step}
-use Rattle.wm_decode.specs.exact.Live.{IsAt, decoder_after, live_from, refusal_in_machine}
+use Rattle.wm_decode.specs.exact.Live.{IsAt, decoder_after, live_from}
 use Rattle.wm_decode.specs.exact.ShortSteps.{PartMayRunOut, part_event, part_taken}
-use Rattle.wm_decode.specs.exact.Shortcuts.{Advances, live_so}
+use Rattle.wm_decode.specs.exact.Shortcuts.{Advances, live_so, why_refused}
 use Rattle.wm_syntax.specs.declared.numbers.Step.TheVariants as step
 use Rattle.wm_syntax.specs.inner.Numbers.{Partial}
 use Rattle.wm_syntax.specs.exact.Reading.{unsigned_push}
@@ -25,11 +25,6 @@ use Rattle.wm_decode.proofs.Header.{stays}
 use Rattle.wm_decode.proofs.NumberSteps.{ByteGoesOn, before_last}
 use Rattle.wm_decode.proofs.ShortSteps.{first_step, part_err, part_ok, part_room, short_refused}
 use Rattle.wm_decode.proofs.Stretches.{goes_on, is_refused, still_live, stops}
-
--- why what came of a byte is refused: by the sink, or else by the machine
-abbrev pub why_refused : {U : Type 0} → Result U Why → Machine → Option Why
-why_refused (Ok u) n = refusal_in_machine n
-why_refused (Err w) n = Some w
 
 module _ {H : Type 0} (after : H → Item → Result H Why) (may : H → Item → Type 0) (p : Profile) (of : SectionKind) (functions more left : ℕ) (q next : InMember) (part : Option Plain) where
   abbrev here : Machine

@@ -32,11 +32,11 @@ use Rattle.wm_decode.specs.exact.MemberSteps.{member_step, on_value, with_item_g
 use Rattle.wm_decode.specs.exact.ValueSteps.{after_min, flag_step, limits_push, map_reading, of_memory, of_table, read_number}
 use Rattle.wm_decode.specs.exact.Limited.{BothLie, LeastLies, LimitsBegin, LimitsLie, in_limits, limited_item, limited_section}
 use Rattle.wm_decode.specs.exact.ShortSteps.{StepsTo, part_event}
-use Rattle.wm_decode.specs.exact.Shortcuts.{Advances}
+use Rattle.wm_decode.specs.exact.Shortcuts.{Advances, why_refused}
 use Rattle.wm_decode.specs.exact.WholeMembers.{before_member}
 use Rattle.wm_decode.proofs.Advances.{advances_more, advances_none, advances_step}
 use Rattle.wm_decode.proofs.Heads.{ok}
-use Rattle.wm_decode.proofs.LastBytes.{EndsWithNumber, number_last, why_refused}
+use Rattle.wm_decode.proofs.LastBytes.{EndsWithNumber, number_last}
 use Rattle.wm_decode.proofs.NumberSteps.{ReadsNumber, framed, number_taken}
 
 -- what an answer of the reader of limits makes of the member

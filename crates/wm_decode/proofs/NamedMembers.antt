@@ -18,7 +18,7 @@ use Rattle.wm_decode.specs.declared.step.values.InValue.TheVariants as value
 use Rattle.wm_decode.specs.declared.step.values.InImportDesc.TheVariants as import
 use Rattle.wm_decode.specs.declared.step.values.InExportDesc.TheVariants as target
 use Rattle.wm_decode.specs.declared.shortcuts.Shortcut.{Shortcut}
-use Rattle.wm_decode.specs.declared.shortcuts.whole_names.InNames.{InNames}
+use Rattle.wm_decode.specs.declared.shortcuts.in_section.InSection.{InSection}
 use Rattle.wm_decode.specs.declared.shortcuts.short_steps.Place.{Place}
 use Rattle.wm_decode.specs.declared.shortcuts.short_steps.Stepped.{Stepped}
 use Rattle.wm_decode.specs.Items.{Item, export, import_desc}
@@ -28,12 +28,13 @@ use Rattle.wm_decode.specs.exact.MemberSteps.{on_value, with_item_given}
 use Rattle.wm_decode.specs.exact.ValueSteps.{desc_kind_step, of_export, of_import, read_number}
 use Rattle.wm_decode.specs.exact.Live.{name_taken}
 use Rattle.wm_decode.specs.exact.ShortSteps.{StepsTo}
-use Rattle.wm_decode.specs.exact.Shortcuts.{Advances}
+use Rattle.wm_decode.specs.exact.Shortcuts.{Advances, why_refused}
+use Rattle.wm_decode.specs.exact.WholeMembers.{before_member, section_after}
 use Rattle.wm_decode.specs.exact.WholeOps.{LiesAt}
-use Rattle.wm_decode.specs.exact.WholeNames.{IsKindByte, NameLies, before_export, before_import, names_after}
+use Rattle.wm_decode.specs.exact.WholeNames.{IsKindByte, NameLies}
 use Rattle.wm_decode.proofs.Advances.{advances_by, advances_more, advances_none}
 use Rattle.wm_decode.proofs.Heads.{ok}
-use Rattle.wm_decode.proofs.LastBytes.{EndsWithNumber, number_last, why_refused}
+use Rattle.wm_decode.proofs.LastBytes.{EndsWithNumber, number_last}
 use Rattle.wm_decode.proofs.WholeNames.{behind_name, name_more}
 use Rattle.wm_decode.proofs.NumberSteps.{ByteGoesOn, ReadsNumber, framed, number_taken}
 
@@ -78,25 +79,25 @@ index_ends p left k = record {
 }
 
 -- before the first of them
-pub imports_start : (i : InNames) → before_import (names_after i 0 i.left) ≡ before_import i
+pub imports_start : (i : InSection) → before_member section_kind.Import (section_after i 0 i.left) ≡ before_member section_kind.Import i
 imports_start i =
     let a : i.more - 0 ≡ i.more = omega arith in
     ap (λ x. machine.Section section_kind.Import i.functions x i.left (at.NameLength name.ImportModule fresh)) a
 
-exports_start : (i : InNames) → before_export (names_after i 0 i.left) ≡ before_export i
+exports_start : (i : InSection) → before_member section_kind.Export (section_after i 0 i.left) ≡ before_member section_kind.Export i
 exports_start i =
     let a : i.more - 0 ≡ i.more = omega arith in
     ap (λ x. machine.Section section_kind.Export i.functions x i.left (at.NameLength name.Export fresh)) a
 
-pub exports_begun : {H : Type 0} (after : H → Item → Result H Why) (may : H → Item → Type 0) (p : Profile) (bytes : List ℕ) (h : H) (i : InNames)
-    → Advances after may p bytes (before_export i) h (record { used = 0; refused = None }) (before_export (names_after i 0 i.left)) h
+pub exports_begun : {H : Type 0} (after : H → Item → Result H Why) (may : H → Item → Type 0) (p : Profile) (bytes : List ℕ) (h : H) (i : InSection)
+    → Advances after may p bytes (before_member section_kind.Export i) h (record { used = 0; refused = None }) (before_member section_kind.Export (section_after i 0 i.left)) h
 exports_begun after may p bytes h i =
-    advances_by after may p bytes (before_export i) (before_export (names_after i 0 i.left)) (before_export i) (before_export i) h h (record { used = 0; refused = None }) refl (exports_start i)
-    (advances_none after may p bytes (before_export i) h (record { used = 0; refused = None }) refl refl)
+    advances_by after may p bytes (before_member section_kind.Export i) (before_member section_kind.Export (section_after i 0 i.left)) (before_member section_kind.Export i) (before_member section_kind.Export i) h h (record { used = 0; refused = None }) refl (exports_start i)
+    (advances_none after may p bytes (before_member section_kind.Export i) h (record { used = 0; refused = None }) refl refl)
 
-module _ {H : Type 0} (after : H → Item → Result H Why) (may : H → Item → Type 0) (p : Profile) (bytes : List ℕ) (m : Machine) (h e : H) (start : InNames) (i left : ℕ) where
+module _ {H : Type 0} (after : H → Item → Result H Why) (may : H → Item → Type 0) (p : Profile) (bytes : List ℕ) (m : Machine) (h e : H) (start : InSection) (i left : ℕ) where
   -- an import after other bytes: the name of its module, its own, and what it brings in
-  module _ (middle : ℕ) (before : Advances after may p bytes m h (record { used = i; refused = None }) (before_import (names_after start i left)) e)
+  module _ (middle : ℕ) (before : Advances after may p bytes m h (record { used = i; refused = None }) (before_member section_kind.Import (section_after start i left)) e)
       (lies : NameLies bytes i middle) (inside : middle ≤ length bytes) (section : middle ≤ start.more) where
     pub module_named : {U : Type 0} (g : H) (u : Shortcut) (r : Result U Why) → u.used ≡ middle → u.refused ≡ result_err r → Taken (name_taken after name.ImportModule (slice_range bytes (i + 1) middle) e) r g
         → Advances after may p bytes m h u (behind_name section_kind.Import name.ImportModule start.functions (start.more - middle) left) g
@@ -113,7 +114,7 @@ module _ {H : Type 0} (after : H → Item → Result H Why) (may : H → Item �
       pub import_taken : {U : Type 0} (d c : H) (x last : ℕ) (u : Shortcut) (r : Result U Why) → name_taken after name.ImportName (slice_range bytes (middle + 1) stop) g ≡ Ok d
           → slice_index bytes stop ≡ 0 → LiesAt (unsigned_push 32) bytes (stop + 1) last x → last ≤ start.more → 0 < left
           → u.used ≡ last → u.refused ≡ result_err r → Taken (after d (import_desc (desc.Func x))) r c → IfErr r (λ w. w ≡ why.Memory → may d (import_desc (desc.Func x)))
-          → Advances after may p bytes m h u (before_import (names_after start last (left - 1))) c
+          → Advances after may p bytes m h u (before_member section_kind.Import (section_after start last (left - 1))) c
       import_taken d c x last u r given kind index far some used is taken quiet =
           let here : Place = record { of = section_kind.Import; functions = start.functions; more = start.more - stop; left = left; at = at.Value (value.Import import.Kind) } in
           let first : Stepped = record { left = left; at = at.Value (value.Import (import.Func fresh)); part = None } in
@@ -123,13 +124,13 @@ module _ {H : Type 0} (after : H → Item → Result H Why) (may : H → Item �
           let begun : Advances after may p bytes m h (record { used = stop + 1; refused = None }) (machine.Section section_kind.Import start.functions (start.more - stop - 1) left (at.Value (value.Import (import.Func fresh)))) d =
           advances_more after may p bytes m (machine.Section section_kind.Import start.functions (start.more - stop - 1) left (at.Value (value.Import (import.Func fresh)))) h d d here first stop (record { used = stop + 1; refused = None }) ok
           (import_named d (record { used = stop; refused = None }) ok refl refl given) (omega arith) (omega arith) (function_alone p left (slice_index bytes stop) kind) refl refl refl tt refl in
-          number_taken after may p bytes m (before_import (names_after start last (left - 1))) h d c section_kind.Import start.functions left (λ s. at.Value (value.Import (import.Func s)))
+          number_taken after may p bytes m (before_member section_kind.Import (section_after start last (left - 1))) h d c section_kind.Import start.functions left (λ s. at.Value (value.Import (import.Func s)))
           (λ v. record { left = left - 1; at = at.NameLength name.ImportModule fresh; part = Some (plain.Import (desc.Func v)) }) (type_reads p left some) last x u r whole used is taken quiet
           (last - (stop + 1)) (stop + 1) (start.more - stop - 1) fresh (omega arith) (omega arith) index.spelled begun
           (ap (λ n. machine.Section section_kind.Import start.functions n (left - 1) (at.NameLength name.ImportModule fresh)) place)
 
   -- an export after other bytes: its name, and what it gives out
-  module _ (stop : ℕ) (before : Advances after may p bytes m h (record { used = i; refused = None }) (before_export (names_after start i left)) e)
+  module _ (stop : ℕ) (before : Advances after may p bytes m h (record { used = i; refused = None }) (before_member section_kind.Export (section_after start i left)) e)
       (lies : NameLies bytes i stop) (inside : stop ≤ length bytes) (section : stop ≤ start.more) where
     pub export_named : {U : Type 0} (g : H) (u : Shortcut) (r : Result U Why) → u.used ≡ stop → u.refused ≡ result_err r → Taken (name_taken after name.Export (slice_range bytes (i + 1) stop) e) r g
         → Advances after may p bytes m h u (behind_name section_kind.Export name.Export start.functions (start.more - stop) left) g
@@ -147,12 +148,12 @@ module _ {H : Type 0} (after : H → Item → Result H Why) (may : H → Item �
     pub export_taken : {U : Type 0} (d c : H) (k : ExportKind) (x last : ℕ) (u : Shortcut) (r : Result U Why) → name_taken after name.Export (slice_range bytes (i + 1) stop) e ≡ Ok d
         → IsKindByte (slice_index bytes stop) k → LiesAt (unsigned_push 32) bytes (stop + 1) last x → last ≤ start.more → 0 < left
         → u.used ≡ last → u.refused ≡ result_err r → Taken (after d (export k x)) r c → IfErr r (λ w. w ≡ why.Memory → may d (export k x))
-        → Advances after may p bytes m h u (before_export (names_after start last (left - 1))) c
+        → Advances after may p bytes m h u (before_member section_kind.Export (section_after start last (left - 1))) c
     export_taken d c k x last u r given kind index far some used is taken quiet =
         let order : stop + 1 < last = index.some in
         let whole : last ≤ length bytes = index.within in
         let place : start.more - last ≡ start.more - stop - 1 - (last - (stop + 1)) = omega arith in
-        number_taken after may p bytes m (before_export (names_after start last (left - 1))) h d c section_kind.Export start.functions left (λ s. at.Value (value.Export (target.Index k s)))
+        number_taken after may p bytes m (before_member section_kind.Export (section_after start last (left - 1))) h d c section_kind.Export start.functions left (λ s. at.Value (value.Export (target.Index k s)))
         (λ v. record { left = left - 1; at = at.NameLength name.Export fresh; part = Some (plain.Export k v) }) (index_reads p left k some) last x u r whole used is taken quiet
         (last - (stop + 1)) (stop + 1) (start.more - stop - 1) fresh (omega arith) (omega arith) index.spelled (export_begun d k given kind (omega arith) (omega arith))
         (ap (λ n. machine.Section section_kind.Export start.functions n (left - 1) (at.NameLength name.Export fresh)) place)

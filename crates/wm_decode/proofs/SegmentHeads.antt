@@ -1,5 +1,5 @@
 -- The head of a segment, taken at once, is what the byte step makes of it.
-use Rattle.std.proofs.Common.{◌≡◌, ℕ, ◌+◌, ◌-◌, ◌<◌, ◌≤◌, List, Some, None, Result, Ok, IfErr, length, slice_index, refl, ◌∙◌, ap, arith}
+use Rattle.std.proofs.Common.{◌≡◌, ℕ, ◌+◌, ◌-◌, ◌<◌, ◌≤◌, List, Some, None, Result, Ok, IfErr, length, slice_index, refl, ◌∙◌, ap, subst, arith}
 use Rattle.std.specs.Result.{result_err}
 use Rattle.wm_syntax.specs.declared.profile.Profile.{Profile}
 use Rattle.wm_syntax.specs.declared.why.Why.{Why}
@@ -26,14 +26,16 @@ use Rattle.wm_decode.specs.Sinks.{Taken}
 use Rattle.wm_decode.specs.exact.Runs.{plain_item}
 use Rattle.wm_decode.specs.exact.Steps.{machine_in_member}
 use Rattle.wm_decode.specs.exact.ExpressionSteps.{at_next_op}
+use Rattle.wm_decode.specs.exact.Members.{member_at_start}
 use Rattle.wm_decode.specs.exact.MemberSteps.{after_index, constant_over, index_item, list_or_over, on_number, with_item_given}
-use Rattle.wm_decode.specs.exact.Segments.{before_segment, index_of, offset_of, section_of, size_of}
+use Rattle.wm_decode.specs.exact.Segments.{index_of, offset_of, section_of, size_of}
 use Rattle.wm_decode.specs.exact.ShortSteps.{StepsTo}
-use Rattle.wm_decode.specs.exact.Shortcuts.{Advances}
+use Rattle.wm_decode.specs.exact.Shortcuts.{Advances, why_refused}
+use Rattle.wm_decode.specs.exact.WholeMembers.{before_member, in_member}
 use Rattle.wm_decode.specs.exact.WholeOps.{LiesAt, WholeOp}
 use Rattle.wm_decode.proofs.Advances.{advances_more, advances_none}
 use Rattle.wm_decode.proofs.Heads.{ok}
-use Rattle.wm_decode.proofs.LastBytes.{EndsWithNumber, number_last, why_refused}
+use Rattle.wm_decode.proofs.LastBytes.{EndsWithNumber, number_last}
 use Rattle.wm_decode.proofs.NumberSteps.{ReadsNumber, framed, number_taken}
 use Rattle.wm_decode.proofs.WholeMembers.{constant_closed, constant_taken}
 
@@ -69,6 +71,11 @@ size_ends p of long left = record {
   ends = λ r s c v e. ap (λ y. on_number y (λ s. at.Length long s) (λ n. (list_or_over long n, event.Nothing)) at.Failed) e;
 }
 
+-- before the index
+begins : (s : Segments) → member_at_start (section_of s) ≡ at.Index (index_of s) fresh
+begins segments.Elements = refl
+begins segments.Data = refl
+
 -- a head at the front: its index, its offset, the end of its offset, and its size
 module _ {H : Type 0} (after : H → Item → Result H Why) (may : H → Item → Type 0) (p : Profile) (bytes : List ℕ) (s : Segments) (i : InSection) (h : H) (x middle : ℕ) (index : LiesAt (unsigned_push 32) bytes 0 middle x) where
   abbrev in_offset : ℕ → Machine
@@ -78,19 +85,22 @@ module _ {H : Type 0} (after : H → Item → Result H Why) (may : H → Item �
   item = plain_item (index_item (index_of s) x)
 
   pub head_indexed : {U : Type 0} (g : H) (u : Shortcut) (r : Result U Why) → middle ≤ i.more → u.used ≡ middle → u.refused ≡ result_err r
-      → Taken (after h item) r g → IfErr r (λ w. w ≡ why.Memory → may h item) → Advances after may p bytes (before_segment s i) h u (in_offset middle) g
+      → Taken (after h item) r g → IfErr r (λ w. w ≡ why.Memory → may h item) → Advances after may p bytes (before_member (section_of s) i) h u (in_offset middle) g
   head_indexed g u r room used is given quiet =
-      number_taken after may p bytes (before_segment s i) (in_offset middle) h h g (section_of s) i.functions i.left (λ r. at.Index (index_of s) r)
+      number_taken after may p bytes (before_member (section_of s) i) (in_offset middle) h h g (section_of s) i.functions i.left (λ r. at.Index (index_of s) r)
       (λ v. record { left = i.left; at = at.Constant (offset_of s) (at_next_op 0); part = Some (index_item (index_of s) v) }) (index_reads p s i.left) middle x u r index.within used is given quiet
-      middle 0 i.more fresh (omega arith) room index.spelled (advances_none after may p bytes (before_segment s i) h (record { used = 0; refused = None }) refl refl) refl
+      middle 0 i.more fresh (omega arith) room index.spelled
+      (subst (λ q. Advances after may p bytes (before_member (section_of s) i) h (record { used = 0; refused = None }) (in_member (section_of s) q i) h) (begins s)
+      (advances_none after may p bytes (before_member (section_of s) i) h (record { used = 0; refused = None }) refl refl))
+      refl
 
   module _ (e : H) (indexed : after h item ≡ Ok e) (stop : ℕ) (o : Op) (whole : WholeOp bytes middle stop 0 0 o) (room : stop ≤ i.more) where
     pub head_offset : {U : Type 0} (g : H) (u : Shortcut) (r : Result U Why) → u.used ≡ stop → u.refused ≡ result_err r
-        → Taken (after e (const_op o)) r g → IfErr r (λ w. w ≡ why.Memory → may e (const_op o)) → Advances after may p bytes (before_segment s i) h u (in_offset stop) g
+        → Taken (after e (const_op o)) r g → IfErr r (λ w. w ≡ why.Memory → may e (const_op o)) → Advances after may p bytes (before_member (section_of s) i) h u (in_offset stop) g
     head_offset g u r used is given quiet =
         let some : middle < stop = whole.some in
         let place : i.more - stop ≡ i.more - middle - (stop - middle) = omega arith in
-        constant_taken after may p bytes (before_segment s i) (in_offset stop) h e g (section_of s) i.functions i.left (offset_of s) stop o whole.opens u r whole.within used is given quiet
+        constant_taken after may p bytes (before_member (section_of s) i) (in_offset stop) h e g (section_of s) i.functions i.left (offset_of s) stop o whole.opens u r whole.within used is given quiet
         (stop - middle) middle (i.more - middle) First (omega arith) (omega arith) (whole.spelled p)
         (head_indexed e (record { used = middle; refused = None }) ok (omega arith) refl refl indexed tt)
         (ap (λ y. machine.Section (section_of s) i.functions y i.left (at.Constant (offset_of s) (at_next_op 0))) place)
@@ -100,20 +110,20 @@ module _ {H : Type 0} (after : H → Item → Result H Why) (may : H → Item �
       before_size = machine.Section (section_of s) i.functions (i.more - (stop + 1)) i.left (at.Length (size_of s) fresh)
 
       pub head_closed : {U : Type 0} (g : H) (u : Shortcut) (r : Result U Why) → u.used ≡ stop + 1 → u.refused ≡ result_err r
-          → Taken (after d (const_op op.End)) r g → IfErr r (λ w. w ≡ why.Memory → may d (const_op op.End)) → Advances after may p bytes (before_segment s i) h u before_size g
+          → Taken (after d (const_op op.End)) r g → IfErr r (λ w. w ≡ why.Memory → may d (const_op op.End)) → Advances after may p bytes (before_member (section_of s) i) h u before_size g
       head_closed g u r used is given quiet =
           let place : i.more - (stop + 1) ≡ i.more - stop - 1 = omega arith in
-          advances_more after may p bytes (before_segment s i) before_size h d g
+          advances_more after may p bytes (before_member (section_of s) i) before_size h d g
           (record { of = section_of s; functions = i.functions; more = i.more - stop; left = i.left; at = at.Constant (offset_of s) (at_next_op 0) }) (record { left = i.left; at = at.Length (size_of s) fresh; part = Some (plain.ConstOp op.End) }) stop u r
           (head_offset d (record { used = stop; refused = None }) ok refl refl valued tt) inside (omega arith) (offset_ends p s i.left (slice_index bytes stop) byte) used is given quiet
           (ap (λ y. machine.Section (section_of s) i.functions y i.left (at.Length (size_of s) fresh)) place)
 
       pub head_taken : (g : H) (n next rest : ℕ) (u : Shortcut) → after d (const_op op.End) ≡ Ok g → LiesAt (unsigned_push 32) bytes (stop + 1) next n → next + rest ≡ i.more + 1 → u.used ≡ next
           → u.refused ≡ why_refused ok (machine_in_member (section_of s) i.functions rest i.left (list_or_over (size_of s) n))
-          → Advances after may p bytes (before_segment s i) h u (machine_in_member (section_of s) i.functions rest i.left (list_or_over (size_of s) n)) g
+          → Advances after may p bytes (before_member (section_of s) i) h u (machine_in_member (section_of s) i.functions rest i.left (list_or_over (size_of s) n)) g
       head_taken g n next rest u closed size room used is =
           let some : stop + 1 < next = size.some in
-          number_last after may p bytes (before_segment s i) h g g (section_of s) i.functions i.left (λ r. at.Length (size_of s) r) (λ v. list_or_over (size_of s) v) (λ v. None) (size_ends p (section_of s) (size_of s) i.left)
+          number_last after may p bytes (before_member (section_of s) i) h g g (section_of s) i.functions i.left (λ r. at.Length (size_of s) r) (λ v. list_or_over (size_of s) v) (λ v. None) (size_ends p (section_of s) (size_of s) i.left)
           next n rest u ok size.within used is refl tt
           (next - (stop + 1)) (stop + 1) (i.more - (stop + 1)) fresh (omega arith) (omega arith) size.spelled
           (head_closed g (record { used = stop + 1; refused = None }) ok refl refl closed tt)

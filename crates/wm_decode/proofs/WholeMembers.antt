@@ -35,12 +35,12 @@ use Rattle.wm_decode.specs.exact.ExpressionSteps.{after_op, after_reading, at_ne
 use Rattle.wm_decode.specs.exact.MemberSteps.{after_constant, constant_over, member_step, on_value, op_event, with_item_given}
 use Rattle.wm_decode.specs.exact.ValueSteps.{read_type, value_type_of, var_step}
 use Rattle.wm_decode.specs.exact.ShortSteps.{StepsTo}
-use Rattle.wm_decode.specs.exact.Shortcuts.{Advances}
+use Rattle.wm_decode.specs.exact.Shortcuts.{Advances, why_refused}
 use Rattle.wm_decode.specs.exact.WholeMembers.{before_member}
 use Rattle.wm_decode.specs.exact.WholeOps.{IsOp, OpGoes, WholeOp}
 use Rattle.wm_decode.proofs.Advances.{advances_more, advances_step}
 use Rattle.wm_decode.proofs.Heads.{ok}
-use Rattle.wm_decode.proofs.LastBytes.{advances_last, why_refused}
+use Rattle.wm_decode.proofs.LastBytes.{advances_last}
 use Rattle.wm_decode.proofs.NumberSteps.{framed}
 use Rattle.wm_decode.proofs.OpLists.{is_alone, range_first, range_length}
 

@@ -4,36 +4,35 @@
 //! complete; the decoder does the rest.
 
 ghost use Rattle.std.specs.Prelude.{◌≡◌, ◌<◌, None, Some, length, min};
-ghost use Rattle.wm_decode.specs.exact.Shortcuts.{Advances};
+ghost use Rattle.wm_decode.specs.exact.Shortcuts.{Advances, why_refused};
 
-use crate::decoder::names::give_bytes;
 use crate::machine::member::{InEntry, InMember, IndexOf, SectionKind};
-use crate::machine::{InCustom, Machine, refusal_of};
-use crate::shortcuts::entries::{body, entries, last_end};
+use crate::machine::{Machine, refusal_of};
+use crate::shortcuts::chains::Link;
+use crate::shortcuts::entries::{Body, LastEnd, entries};
 use crate::shortcuts::exports::exports;
 use crate::shortcuts::frames::frames;
 use crate::shortcuts::function_types::function_types;
 use crate::shortcuts::globals::globals;
 use crate::shortcuts::heads::runs;
 use crate::shortcuts::imports::imports;
-use crate::shortcuts::in_body::InBody;
 use crate::shortcuts::indices::indices;
 use crate::shortcuts::limited::limited_member;
 use crate::shortcuts::segments::segment_head;
 use crate::shortcuts::short_bytes::short;
-use crate::shortcuts::whole_ops::take_ops;
+use crate::shortcuts::stretches::{data, pass};
 use crate::sink::Sink;
 use crate::step::expressions::InExpression;
-use crate::step::framed;
-use crate::step::members::data_or_over;
 use crate::step::values::{InGlobalType, InLimits, InTableType, InValue};
 use wm_syntax::profile::Profile;
 use wm_syntax::why::Why;
 
+pub(crate) mod chains;
 pub(crate) mod constants;
 pub(crate) mod entries;
 pub(crate) mod exports;
 pub(crate) mod float_ops;
+pub(crate) mod frame_bytes;
 pub(crate) mod frames;
 pub(crate) mod function_types;
 pub(crate) mod globals;
@@ -46,6 +45,7 @@ pub(crate) mod limited;
 pub(crate) mod segments;
 pub(crate) mod short_bytes;
 pub(crate) mod short_steps;
+pub(crate) mod stretches;
 pub(crate) mod whole_indices;
 pub(crate) mod whole_names;
 pub(crate) mod whole_numbers;
@@ -83,6 +83,19 @@ impl Shortcut {
             used,
             refused: Some(why),
         }
+    }
+
+    /// Where the last of so many bytes led to a machine, and the sink was given what it completed.
+    #[inline(always)]
+    pub(crate) fn ended(used: usize, given: Result<(), Why>, machine: Machine) -> Shortcut
+        ensures used { result.used ≡ used }
+        ensures refused { result.refused ≡ why_refused given machine }
+    {
+        let refused = match given {
+            Ok(()) => refusal_of(machine),
+            Err(why) => Some(why),
+        };
+        Shortcut { used, refused }
     }
 }
 
@@ -195,109 +208,6 @@ fn way_in_code(at: InMember) -> Way {
     }
 }
 
-// Takes the ops of a code entry that lie whole in these bytes
-#[tactic(auto, using(crate::proofs::Advances::advances_none))]
-fn ops<S: Sink>(sink: &mut S, machine: &mut Machine, profile: Profile, bytes: &[u8]) -> Shortcut
-    ensures { Advances S.after S.may_run_out profile bytes.now machine.old (S.held sink.old) result
-        machine.new (S.held sink.new) }
-{
-    let Some(body) = InBody::of(*machine) else {
-        return Shortcut::none();
-    };
-    let room = body.more.min(body.rest);
-    if room == 0 {
-        return Shortcut::none();
-    }
-    let ran = take_ops(sink, profile, bytes, body.depth, room as usize);
-    if ran.used == 0 {
-        return Shortcut::none();
-    }
-    *machine = body.after(ran.used, ran.depth);
-    Shortcut {
-        used: ran.used as usize,
-        refused: ran.refused,
-    }
-}
-
-// Takes the bytes of a data segment. The sink is given them at once.
-#[tactic(auto, using(crate::proofs::Advances::advances_none))]
-fn data<S: Sink>(sink: &mut S, machine: &mut Machine, profile: Profile, bytes: &[u8]) -> Shortcut
-    requires { 0 < length bytes.now }
-    ensures { Advances S.after S.may_run_out profile bytes.now machine.old (S.held sink.old) result
-        machine.new (S.held sink.new) }
-{
-    let Machine::Section {
-        of,
-        functions,
-        more,
-        left,
-        at,
-    } = *machine
-    else {
-        return Shortcut::none();
-    };
-    let InMember::Data { more: rest } = at else {
-        return Shortcut::none();
-    };
-    let count = at_most(more.min(rest), bytes.len());
-    let end = count as usize;
-    let (more, rest) = (more - count, rest - count);
-    if end == bytes.len() {
-        *machine = Machine::Section {
-            of,
-            functions,
-            more,
-            left,
-            at: InMember::Data { more: rest },
-        };
-        let refused = give_bytes(sink, bytes).err();
-        return Shortcut { used: end, refused };
-    }
-    // the next byte is the last of the segment or of the section
-    *machine = framed(of, functions, more, left, data_or_over(rest));
-    if let Err(why) = give_bytes(sink, &bytes[..=end]) {
-        return Shortcut {
-            used: end + 1,
-            refused: Some(why),
-        };
-    }
-    Shortcut {
-        used: end + 1,
-        refused: refusal_of(*machine),
-    }
-}
-
-// Skips the bytes of a custom section, but its last. The sink is given nothing.
-#[tactic(auto, using(crate::proofs::Advances::advances_none))]
-fn pass<S: Sink>(sink: &S, machine: &mut Machine, profile: Profile, bytes: &[u8]) -> Shortcut
-    ensures { Advances S.after S.may_run_out profile bytes.now machine.old (S.held sink.now) result
-        machine.new (S.held sink.now) }
-{
-    let Machine::Custom {
-        last,
-        functions,
-        more,
-        part,
-    } = *machine
-    else {
-        return Shortcut::none();
-    };
-    let InCustom::Skip = part else {
-        return Shortcut::none();
-    };
-    let used = at_most(more, bytes.len());
-    *machine = Machine::Custom {
-        last,
-        functions,
-        more: more - used,
-        part,
-    };
-    Shortcut {
-        used: used as usize,
-        refused: None,
-    }
-}
-
 /// Takes the shortcut that there is from the machine's place, where no name goes on.
 #[tactic(auto, using(crate::proofs::Advances::advances_none))]
 pub(crate) fn take_way<S: Sink>(
@@ -332,9 +242,9 @@ pub(crate) fn take_way<S: Sink>(
         Way::Ops => {
             // of what comes byte by byte only the last `end` has a shortcut: the others want two bytes
             if bytes.len() == 1 {
-                return last_end(sink, machine, profile, bytes);
+                return LastEnd::take(sink, machine, profile, bytes);
             }
-            let taken = body(sink, machine, profile, bytes);
+            let taken = Body::take(sink, machine, profile, bytes);
             if taken.used > 0 {
                 return taken;
             }

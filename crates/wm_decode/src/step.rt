@@ -1,8 +1,6 @@
 //! What one byte does between sections and to the frame of one.
 
-ghost use Rattle.std.specs.Prelude.{◌≡◌, IfSome, false, true};
-ghost use Rattle.wm_syntax.specs.exact.Reading.{fresh};
-ghost use Rattle.wm_decode.specs.exact.Frames.{IsFrameStep};
+ghost use Rattle.std.specs.Prelude.{◌≡◌};
 ghost use Rattle.wm_decode.specs.exact.Steps.{custom_length_step, custom_name_step, custom_step};
 ghost use Rattle.wm_decode.specs.exact.Steps.{machine_in_custom, machine_in_member, machine_refused};
 ghost use Rattle.wm_decode.specs.exact.Steps.{section_start, machine_after_count, machine_after_paired_count};
@@ -132,8 +130,8 @@ fn listed(of: SectionKind, functions: u32, bytes: u32, count: u32) -> Machine
     }
 }
 
-// The same, where functions begin to await their code, or get it
-fn counted(of: SectionKind, functions: u32, bytes: u32, count: u32) -> Machine
+/// The same, where functions begin to await their code, or get it.
+pub(crate) fn counted(of: SectionKind, functions: u32, bytes: u32, count: u32) -> Machine
     ensures { result ≡ machine_after_paired_count of functions bytes count }
 {
     match of {
@@ -289,171 +287,6 @@ fn in_header(at: u8, byte: u8) -> (Machine, Event)
             functions: 0,
         };
         (start, Event::Nothing)
-    }
-}
-
-// A shorter way for bytes of the frame of a section: its id, its size and its count. They complete nothing.
-// What is rare and what is refused is left to `step`.
-
-/// The kind of section that this id begins.
-#[inline(always)]
-pub(crate) fn begun(last: u8, functions: u32, byte: u8) -> Option<SectionKind>
-    ensures { IfSome result (λ of. section_start last functions byte
-        ≡ (Machine.Size of functions fresh, Event.Nothing)) }
-{
-    let of = SectionKind::of(byte)?;
-    match of {
-        SectionKind::Segment if functions > 0 => None,
-        _ if byte <= last => None,
-        _ => Some(of),
-    }
-}
-
-/// How many bytes of the section come after the next, where this byte ends its size.
-#[inline(always)]
-pub(crate) fn size_end(of: SectionKind, functions: u32, mut number: Num32, byte: u8) -> Option<u32>
-    ensures { IfSome result (λ more. IsFrameStep (Machine.Size of functions number) byte
-        (Machine.Count of functions more fresh)) }
-{
-    let Step::Done(size) = number.push(byte) else {
-        return None;
-    };
-    if size == 0 {
-        return None;
-    }
-    match of {
-        SectionKind::Start => None,
-        _ => Some(size - 1),
-    }
-}
-
-/// The size so far, where it goes on after this byte.
-#[inline(always)]
-pub(crate) fn size_more(
-    of: SectionKind,
-    functions: u32,
-    mut number: Num32,
-    byte: u8,
-) -> Option<Num32>
-    ensures { IfSome result (λ n. IsFrameStep (Machine.Size of functions number) byte
-        (Machine.Size of functions n)) }
-{
-    match number.push(byte) {
-        Step::More => Some(number),
-        _ => None,
-    }
-}
-
-/// The machine after the count of a section's members, where this byte ends it.
-#[inline(always)]
-pub(crate) fn count_end(
-    of: SectionKind,
-    functions: u32,
-    more: u32,
-    mut number: Num32,
-    byte: u8,
-) -> Option<Machine>
-    ensures { IfSome result (λ n. IsFrameStep (Machine.Count of functions more number) byte n) }
-{
-    let Step::Done(n) = number.push(byte) else {
-        return None;
-    };
-    match counted(of, functions, more, n) {
-        Machine::Refused(_) => None,
-        next => Some(next),
-    }
-}
-
-#[inline(always)]
-fn id_byte(machine: &mut Machine, last: u8, functions: u32, byte: u8) -> bool
-    requires { machine.old ≡ Machine.Between last functions }
-    ensures taken { result ≡ true → IsFrameStep machine.old byte machine.new }
-    ensures left { result ≡ false → machine.new ≡ machine.old }
-{
-    let Some(of) = begun(last, functions, byte) else {
-        return false;
-    };
-    *machine = Machine::Size {
-        of,
-        functions,
-        number: Num32::new(),
-    };
-    true
-}
-
-#[inline(always)]
-fn size_byte(
-    machine: &mut Machine,
-    of: SectionKind,
-    functions: u32,
-    number: Num32,
-    byte: u8,
-) -> bool
-    requires { machine.old ≡ Machine.Size of functions number }
-    ensures taken { result ≡ true → IsFrameStep machine.old byte machine.new }
-    ensures left { result ≡ false → machine.new ≡ machine.old }
-{
-    if let Some(number) = size_more(of, functions, number, byte) {
-        *machine = Machine::Size {
-            of,
-            functions,
-            number,
-        };
-        return true;
-    }
-    let Some(more) = size_end(of, functions, number, byte) else {
-        return false;
-    };
-    *machine = Machine::Count {
-        of,
-        functions,
-        more,
-        number: Num32::new(),
-    };
-    true
-}
-
-#[inline(always)]
-fn count_byte(
-    machine: &mut Machine,
-    of: SectionKind,
-    functions: u32,
-    more: u32,
-    number: Num32,
-    byte: u8,
-) -> bool
-    requires { machine.old ≡ Machine.Count of functions more number }
-    ensures taken { result ≡ true → IsFrameStep machine.old byte machine.new }
-    ensures left { result ≡ false → machine.new ≡ machine.old }
-{
-    let Some(next) = count_end(of, functions, more, number, byte) else {
-        return false;
-    };
-    *machine = next;
-    true
-}
-
-/// Takes a byte of a frame, where it goes by the shorter way.
-#[inline(never)]
-pub(crate) fn frame_byte(machine: &mut Machine, byte: u8) -> bool
-    ensures taken { result ≡ true → IsFrameStep machine.old byte machine.new }
-    ensures left { result ≡ false → machine.new ≡ machine.old }
-{
-    let before = *machine;
-    match before {
-        Machine::Between { last, functions } => id_byte(machine, last, functions, byte),
-        Machine::Size {
-            of,
-            functions,
-            number,
-        } => size_byte(machine, of, functions, number, byte),
-        Machine::Count {
-            of,
-            functions,
-            more,
-            number,
-        } => count_byte(machine, of, functions, more, number, byte),
-        _ => false,
     }
 }
 

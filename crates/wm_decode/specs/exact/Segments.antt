@@ -1,7 +1,4 @@
 -- The head of a segment that lies in a piece: the exact form, for the proofs above it.
-use Rattle.wm_syntax.specs.exact.Reading.{fresh}
-use Rattle.wm_decode.specs.declared.machine.Machine.{Machine}
-use Rattle.wm_decode.specs.declared.machine.Machine.TheVariants as machine
 use Rattle.wm_decode.specs.declared.machine.member.SectionKind.{SectionKind}
 use Rattle.wm_decode.specs.declared.machine.member.SectionKind.TheVariants as section_kind
 use Rattle.wm_decode.specs.declared.machine.member.IndexOf.{IndexOf}
@@ -10,8 +7,6 @@ use Rattle.wm_decode.specs.declared.machine.member.ConstantOf.{ConstantOf}
 use Rattle.wm_decode.specs.declared.machine.member.ConstantOf.TheVariants as constant
 use Rattle.wm_decode.specs.declared.machine.member.LengthOf.{LengthOf}
 use Rattle.wm_decode.specs.declared.machine.member.LengthOf.TheVariants as length_of
-use Rattle.wm_decode.specs.declared.machine.member.InMember.TheVariants as at
-use Rattle.wm_decode.specs.declared.shortcuts.in_section.InSection.{InSection}
 use Rattle.wm_decode.specs.declared.shortcuts.segments.Segments.{Segments}
 use Rattle.wm_decode.specs.declared.shortcuts.segments.Segments.TheVariants as segments
 
@@ -31,7 +26,3 @@ offset_of segments.Data = constant.Segment
 abbrev pub size_of : Segments → LengthOf
 size_of segments.Elements = length_of.Functions
 size_of segments.Data = length_of.Bytes
-
--- the machine before a segment
-abbrev pub before_segment : Segments → InSection → Machine
-before_segment s i = machine.Section (section_of s) i.functions i.more i.left (at.Index (index_of s) fresh)

@@ -1,7 +1,7 @@
 -- Bytes that a shortcut takes at once, as the byte step takes them one by one: the exact form,
 -- for the proofs above it.
 use Rattle.std.specs.Prelude.{◌≡◌, ◌≢◌, ℕ, ◌+◌, ◌<◌, ◌≤◌, List, [], length, drop, slice_index, Some, None}
-use Rattle.std.specs.Prelude.{Result, Err}
+use Rattle.std.specs.Prelude.{Option, Result, Ok, Err}
 use Rattle.wm_syntax.specs.declared.profile.Profile.{Profile}
 use Rattle.wm_syntax.specs.declared.why.Why.{Why}
 use Rattle.wm_syntax.specs.declared.why.Why.TheVariants as why
@@ -9,6 +9,7 @@ use Rattle.wm_decode.specs.declared.machine.Machine.{Machine}
 use Rattle.wm_decode.specs.declared.shortcuts.Shortcut.{Shortcut}
 use Rattle.wm_decode.specs.Items.{Item}
 use Rattle.wm_decode.specs.exact.Live.{IsAt, IsRefused, Live, MayRunOutAtByte, decoder_after}
+use Rattle.wm_decode.specs.exact.Live.{refusal_in_machine}
 
 -- a decoder of this machine and this sink, with this name at hand, after so many bytes of the input
 abbrev pub live_so : {H : Type 0} → Machine → List ℕ → H → ℕ → Live H
@@ -33,3 +34,8 @@ pub record Advances {H : Type 0} (after : H → Item → Result H Why) (may : H 
       × (s.refused ≡ None → IsAt n (k + s.used))
   pub room : (k : ℕ) (name : List ℕ) → length bytes ≤ 1 → s.refused ≡ Some why.Memory
       → MayRunOutAtByte may p (live_so m name h k) (slice_index bytes 0)
+
+-- why what came of a byte is refused: by the sink, or else by the machine
+abbrev pub why_refused : {U : Type 0} → Result U Why → Machine → Option Why
+why_refused (Ok u) n = refusal_in_machine n
+why_refused (Err w) n = Some w

@@ -5,16 +5,14 @@ use Rattle.wm_decode.specs.declared.machine.Machine.{Machine}
 use Rattle.wm_decode.specs.declared.machine.Machine.TheVariants as machine
 use Rattle.wm_decode.specs.declared.machine.member.SectionKind.TheVariants as section_kind
 use Rattle.wm_decode.specs.declared.machine.member.InMember.TheVariants as at
-use Rattle.wm_decode.specs.declared.shortcuts.function_types.InTypes.{InTypes}
 use Rattle.wm_decode.specs.declared.shortcuts.function_types.InParams.{InParams}
+use Rattle.wm_decode.specs.declared.shortcuts.in_section.InSection.{InSection}
 use Rattle.wm_decode.specs.exact.MemberSteps.{after_param}
+use Rattle.wm_decode.specs.exact.WholeMembers.{in_member}
 
--- the machine before a function type, and before the count of its results
-abbrev pub before_type : InTypes → Machine
-before_type t = machine.Section section_kind.Type t.functions t.more t.left at.TypeForm
-
-abbrev pub before_results : InTypes → Machine
-before_results t = machine.Section section_kind.Type t.functions t.more t.left (at.ResultCount fresh)
+-- the machine before the count of the results
+abbrev pub before_results : InSection → Machine
+before_results = in_member section_kind.Type (at.ResultCount fresh)
 
 -- the machine before a parameter, or before the count of the results where none is to come
 abbrev pub in_params : InParams → Machine
@@ -23,7 +21,3 @@ in_params i = machine.Section section_kind.Type i.functions i.more i.left (after
 -- what is known there after so many more bytes, with so many parameters to come
 abbrev pub params_after : InParams → ℕ → ℕ → InParams
 params_after i used params = record i { more = i.more - used; params = params }
-
--- what is known before the next type, after so many more bytes
-abbrev pub next_type : InTypes → ℕ → InTypes
-next_type t used = record t { more = t.more - used; left = t.left - 1 }

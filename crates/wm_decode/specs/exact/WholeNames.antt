@@ -1,30 +1,11 @@
 -- Imports and exports that lie in a piece, with the names that they begin with: the exact form, for the
 -- proofs above it.
-use Rattle.std.specs.Prelude.{◌≡◌, ℕ, ◌+◌, ◌-◌, ◌^◌, ◌<◌, List, slice_index}
+use Rattle.std.specs.Prelude.{◌≡◌, ℕ, ◌+◌, ◌^◌, ◌<◌, List, slice_index}
 use Rattle.wm_syntax.specs.exact.Reading.{fresh}
 use Rattle.wm_syntax.specs.declared.modules.ExportKind.{ExportKind}
-use Rattle.wm_decode.specs.declared.machine.Machine.{Machine}
-use Rattle.wm_decode.specs.declared.machine.Machine.TheVariants as machine
-use Rattle.wm_decode.specs.declared.machine.NameKind.TheVariants as name
-use Rattle.wm_decode.specs.declared.machine.member.SectionKind.TheVariants as section_kind
-use Rattle.wm_decode.specs.declared.machine.member.InMember.TheVariants as at
 use Rattle.wm_decode.specs.declared.step.reading.Reading.TheVariants.{More}
 use Rattle.wm_decode.specs.declared.step.values.InExportDesc.TheVariants as target
-use Rattle.wm_decode.specs.declared.shortcuts.whole_names.InNames.{InNames}
 use Rattle.wm_decode.specs.exact.ValueSteps.{target_kind_step}
-
--- the machine before an import, and before an export
-abbrev pub before_import : InNames → Machine
-before_import i =
-    machine.Section section_kind.Import i.functions i.more i.left (at.NameLength name.ImportModule fresh)
-
-abbrev pub before_export : InNames → Machine
-before_export i =
-    machine.Section section_kind.Export i.functions i.more i.left (at.NameLength name.Export fresh)
-
--- what is known before a later one, after so many bytes and with so many to come after it
-abbrev pub names_after : InNames → ℕ → ℕ → InNames
-names_after i used left = record i { more = i.more - used; left = left }
 
 -- a name that has bytes, with its length in one byte, lies from a place up to another
 pub record NameLies (bytes : List ℕ) (from stop : ℕ) : Type 0 where

@@ -3,15 +3,48 @@
 ghost use Rattle.std.specs.Prelude.{◌<◌, length};
 ghost use Rattle.wm_decode.specs.exact.Shortcuts.{Advances};
 
-use crate::decoder::names::give_end;
+use crate::decoder::give::give_end;
+use crate::machine::Machine;
 use crate::machine::member::{InMember, SectionKind};
-use crate::machine::{Machine, refusal_of};
-use crate::shortcuts::heads::{BeforeEntry, head};
+use crate::shortcuts::Shortcut;
+use crate::shortcuts::chains::{Link, repeated};
+use crate::shortcuts::heads::Head;
 use crate::shortcuts::in_body::InBody;
-use crate::shortcuts::{Shortcut, ops};
+use crate::shortcuts::in_section::InSection;
+use crate::shortcuts::whole_ops::take_ops;
 use crate::sink::Sink;
 use crate::step::framed;
 use wm_syntax::profile::Profile;
+
+/// The ops of an entry that lie whole in the bytes.
+struct Ops;
+
+#[tactic(auto, using(crate::proofs::Advances::advances_none))]
+impl Link for Ops {
+    fn take<S: Sink>(
+        sink: &mut S,
+        machine: &mut Machine,
+        profile: Profile,
+        bytes: &[u8],
+    ) -> Shortcut {
+        let Some(body) = InBody::of(*machine) else {
+            return Shortcut::none();
+        };
+        let room = body.more.min(body.rest);
+        if room == 0 {
+            return Shortcut::none();
+        }
+        let ran = take_ops(sink, profile, bytes, body.depth, room as usize);
+        if ran.used == 0 {
+            return Shortcut::none();
+        }
+        *machine = body.after(ran.used, ran.depth);
+        Shortcut {
+            used: ran.used as usize,
+            refused: ran.refused,
+        }
+    }
+}
 
 // Takes the last `end` of an entry, whatever comes after it. With it the section may be over, or the machine
 // refuse.
@@ -40,91 +73,60 @@ fn final_end<S: Sink>(
         last.left,
         InMember::Over,
     );
-    if let Err(why) = give_end(sink) {
-        return Shortcut::out(1, why);
-    }
-    Shortcut {
-        used: 1,
-        refused: refusal_of(*machine),
-    }
+    let given = give_end(sink);
+    Shortcut::ended(1, given, *machine)
 }
 
-/// Takes the last `end` of an entry, by a shorter way where another entry comes after it.
-#[inline(always)]
+/// The last `end` of an entry; by a shorter way where another entry comes after it.
+pub(crate) struct LastEnd;
+
 #[tactic(auto, using(crate::proofs::Advances::advances_none))]
-pub(crate) fn last_end<S: Sink>(
-    sink: &mut S,
-    machine: &mut Machine,
-    profile: Profile,
-    bytes: &[u8],
-) -> Shortcut
-    requires { 0 < length bytes.now }
-    ensures { Advances S.after S.may_run_out profile bytes.now machine.old (S.held sink.old) result
-        machine.new (S.held sink.new) }
-{
-    // first, so that another byte costs no look at the machine
-    if bytes[0] != 0x0B {
-        return Shortcut::none();
-    }
-    let Some(body) = InBody::of(*machine) else {
-        return Shortcut::none();
-    };
-    let SectionKind::Code = body.of else {
-        return Shortcut::none();
-    };
-    if body.depth != 0 || body.rest != 0 {
-        return Shortcut::none();
-    }
-    if body.left == 0 || body.more == 0 {
-        return final_end(sink, machine, profile, bytes);
-    }
-    let next = BeforeEntry {
-        functions: body.functions,
-        more: body.more - 1,
-        left: body.left - 1,
-    };
-    *machine = next.machine();
-    let refused = give_end(sink).err();
-    Shortcut { used: 1, refused }
-}
-
-/// Takes the ops of an entry that lie whole in these bytes, and its last `end`.
-pub(crate) fn body<S: Sink>(
-    sink: &mut S,
-    machine: &mut Machine,
-    profile: Profile,
-    bytes: &[u8],
-) -> Shortcut
-    requires { 0 < length bytes.now }
-    ensures { Advances S.after S.may_run_out profile bytes.now machine.old (S.held sink.old) result
-        machine.new (S.held sink.new) }
-{
-    let ran = ops(sink, machine, profile, bytes);
-    if ran.refused.is_some() || ran.used == bytes.len() {
-        return ran;
-    }
-    let last = last_end(sink, machine, profile, &bytes[ran.used..]);
-    Shortcut {
-        used: ran.used + last.used,
-        refused: last.refused,
+impl Link for LastEnd {
+    #[inline(always)]
+    fn take<S: Sink>(
+        sink: &mut S,
+        machine: &mut Machine,
+        profile: Profile,
+        bytes: &[u8],
+    ) -> Shortcut {
+        // first, so that another byte costs no look at the machine
+        if bytes[0] != 0x0B {
+            return Shortcut::none();
+        }
+        let Some(body) = InBody::of(*machine) else {
+            return Shortcut::none();
+        };
+        let SectionKind::Code = body.of else {
+            return Shortcut::none();
+        };
+        if body.depth != 0 || body.rest != 0 {
+            return Shortcut::none();
+        }
+        if body.left == 0 || body.more == 0 {
+            return final_end(sink, machine, profile, bytes);
+        }
+        let section = InSection {
+            functions: body.functions,
+            more: body.more,
+            left: body.left,
+        };
+        *machine = section.next(SectionKind::Code, 1);
+        let refused = give_end(sink).err();
+        Shortcut { used: 1, refused }
     }
 }
 
-// Takes an entry from its head on
-#[inline(always)]
-fn entry<S: Sink>(sink: &mut S, machine: &mut Machine, profile: Profile, bytes: &[u8]) -> Shortcut
-    requires { 0 < length bytes.now }
-    ensures { Advances S.after S.may_run_out profile bytes.now machine.old (S.held sink.old) result
-        machine.new (S.held sink.new) }
-{
-    let begun = head(sink, machine, profile, bytes);
-    if begun.refused.is_some() || begun.used == bytes.len() {
-        return begun;
-    }
-    let rest = body(sink, machine, profile, &bytes[begun.used..]);
-    Shortcut {
-        used: begun.used + rest.used,
-        refused: rest.refused,
+/// The ops of an entry that lie whole in the bytes, and its last `end`.
+pub(crate) struct Body;
+
+impl Link for Body {
+    fn take<S: Sink>(
+        sink: &mut S,
+        machine: &mut Machine,
+        profile: Profile,
+        bytes: &[u8],
+    ) -> Shortcut {
+        <(Ops, LastEnd)>::take(sink, machine, profile, bytes)
     }
 }
 
@@ -138,17 +140,5 @@ pub(crate) fn entries<S: Sink>(
     ensures { Advances S.after S.may_run_out profile bytes.now machine.old (S.held sink.old) result
         machine.new (S.held sink.new) }
 {
-    let mut used = 0;
-    while used < bytes.len() {
-        let taken = entry(sink, machine, profile, &bytes[used..]);
-        used += taken.used;
-        if taken.used == 0 || taken.refused.is_some() {
-            let refused = taken.refused;
-            return Shortcut { used, refused };
-        }
-    }
-    Shortcut {
-        used,
-        refused: None,
-    }
+    repeated::<(Head, Body), S>(sink, machine, profile, bytes)
 }

@@ -2,20 +2,22 @@
 //!
 //! Empty names and long ones, and what is refused for its bytes, are left to the byte step.
 
-ghost use Rattle.std.specs.Prelude.{◌≡◌, ◌+◌, ◌≤◌, IfSome, length, slice_index};
+ghost use Rattle.std.specs.Prelude.{◌≡◌, ◌+◌, ◌<◌, ◌≤◌, IfSome, length, slice_index};
 ghost use Rattle.wm_syntax.specs.exact.Reading.{unsigned_push};
 ghost use Rattle.wm_decode.specs.exact.Shortcuts.{Advances};
-ghost use Rattle.wm_decode.specs.exact.WholeNames.{IsKindByte, NameLies, before_export};
+ghost use Rattle.wm_decode.specs.exact.WholeMembers.{before_member};
+ghost use Rattle.wm_decode.specs.exact.WholeNames.{IsKindByte, NameLies};
 ghost use Rattle.wm_decode.specs.exact.WholeOps.{LiesAt};
 
-use crate::decoder::names::{give_export, give_name};
+use crate::decoder::give::{give_export, give_name};
 use crate::machine::member::{InMember, SectionKind};
-use crate::machine::{Machine, NameKind, refusal_of};
+use crate::machine::{Machine, NameKind};
 use crate::shortcuts::Shortcut;
-use crate::shortcuts::whole_names::{InNames, name_end};
+use crate::shortcuts::chains::Link;
+use crate::shortcuts::in_section::InSection;
+use crate::shortcuts::whole_names::name_end;
 use crate::shortcuts::whole_numbers::u32_at;
 use crate::sink::Sink;
-use crate::step::framed;
 use wm_syntax::modules::ExportKind;
 use wm_syntax::profile::Profile;
 
@@ -30,20 +32,10 @@ struct Export {
 
 // What is known of a machine that stands before an export
 #[inline(always)]
-fn at_export(machine: Machine) -> Option<InNames>
-    ensures { IfSome result (λ i. machine ≡ before_export i) }
+fn at_export(machine: Machine) -> Option<InSection>
+    ensures { IfSome result (λ i. machine ≡ before_member SectionKind.Export i) }
 {
-    let Machine::Section {
-        of,
-        functions,
-        more,
-        left,
-        at,
-    } = machine
-    else {
-        return None;
-    };
-    let SectionKind::Export = of else {
+    let Some((SectionKind::Export, at, section)) = InSection::of(machine) else {
         return None;
     };
     let InMember::NameLength { of: kind, number } = at else {
@@ -55,11 +47,7 @@ fn at_export(machine: Machine) -> Option<InNames>
     if !number.is_new() {
         return None;
     }
-    Some(InNames {
-        functions,
-        more,
-        left,
-    })
+    Some(section)
 }
 
 // What a byte says that an export gives out
@@ -102,87 +90,78 @@ fn export_at(bytes: &[u8], from: usize, end: usize) -> Option<Export>
     })
 }
 
-// Takes the exports that lie in these bytes, as long as another export comes after each
-#[inline(always)]
+/// The exports that lie in the bytes, as long as another export comes after each.
+struct ExportsBeforeLast;
+
 #[tactic(auto, using(crate::proofs::Advances::advances_none))]
-fn exports_before_last<S: Sink>(
-    sink: &mut S,
-    machine: &mut Machine,
-    profile: Profile,
-    bytes: &[u8],
-) -> Shortcut
-    ensures { Advances S.after S.may_run_out profile bytes.now machine.old (S.held sink.old) result
-        machine.new (S.held sink.new) }
-{
-    let Some(start) = at_export(*machine) else {
-        return Shortcut::none();
-    };
-    let end = bytes.len().min(start.more as usize);
-    let mut left = start.left;
-    let mut used = 0;
-    while left > 0 {
-        let Some(found) = export_at(bytes, used, end) else {
-            break;
+impl Link for ExportsBeforeLast {
+    #[inline(always)]
+    fn take<S: Sink>(
+        sink: &mut S,
+        machine: &mut Machine,
+        profile: Profile,
+        bytes: &[u8],
+    ) -> Shortcut {
+        let Some(start) = at_export(*machine) else {
+            return Shortcut::none();
         };
-        let name = &bytes[used + 1..found.stop];
-        if let Err(why) = give_name(sink, NameKind::Export, name) {
-            return Shortcut::out(found.stop, why);
+        let end = bytes.len().min(start.more as usize);
+        let mut left = start.left;
+        let mut used = 0;
+        while left > 0 {
+            let Some(found) = export_at(bytes, used, end) else {
+                break;
+            };
+            let name = &bytes[used + 1..found.stop];
+            if let Err(why) = give_name(sink, NameKind::Export, name) {
+                return Shortcut::out(found.stop, why);
+            }
+            used = found.next;
+            left -= 1;
+            if let Err(why) = give_export(sink, found.kind, found.index) {
+                return Shortcut::out(used, why);
+            }
         }
-        used = found.next;
-        left -= 1;
-        if let Err(why) = give_export(sink, found.kind, found.index) {
-            return Shortcut::out(used, why);
+        *machine = start.after(used as u32, left).before(SectionKind::Export);
+        Shortcut {
+            used,
+            refused: None,
         }
-    }
-    *machine = start.after(used as u32, left).export();
-    Shortcut {
-        used,
-        refused: None,
     }
 }
 
-// Takes the last export of a section
-#[inline(always)]
+/// The last export of a section.
+struct LastExport;
+
 #[tactic(auto, using(crate::proofs::Advances::advances_none))]
-fn last_export<S: Sink>(
-    sink: &mut S,
-    machine: &mut Machine,
-    profile: Profile,
-    bytes: &[u8],
-) -> Shortcut
-    ensures { Advances S.after S.may_run_out profile bytes.now machine.old (S.held sink.old) result
-        machine.new (S.held sink.new) }
-{
-    let Some(start) = at_export(*machine) else {
-        return Shortcut::none();
-    };
-    if start.left != 0 {
-        return Shortcut::none();
-    }
-    let Some(found) = export_at(bytes, 0, bytes.len()) else {
-        return Shortcut::none();
-    };
-    let last = found.next - 1;
-    if last > start.more as usize {
-        return Shortcut::none();
-    }
-    let name = &bytes[1..found.stop];
-    if let Err(why) = give_name(sink, NameKind::Export, name) {
-        return Shortcut::out(found.stop, why);
-    }
-    if let Err(why) = give_export(sink, found.kind, found.index) {
-        return Shortcut::out(found.next, why);
-    }
-    *machine = framed(
-        SectionKind::Export,
-        start.functions,
-        start.more - last as u32,
-        start.left,
-        InMember::Over,
-    );
-    Shortcut {
-        used: found.next,
-        refused: refusal_of(*machine),
+impl Link for LastExport {
+    #[inline(always)]
+    fn take<S: Sink>(
+        sink: &mut S,
+        machine: &mut Machine,
+        profile: Profile,
+        bytes: &[u8],
+    ) -> Shortcut {
+        let Some(start) = at_export(*machine) else {
+            return Shortcut::none();
+        };
+        if start.left != 0 {
+            return Shortcut::none();
+        }
+        let Some(found) = export_at(bytes, 0, bytes.len()) else {
+            return Shortcut::none();
+        };
+        let last = found.next - 1;
+        if last > start.more as usize {
+            return Shortcut::none();
+        }
+        let name = &bytes[1..found.stop];
+        if let Err(why) = give_name(sink, NameKind::Export, name) {
+            return Shortcut::out(found.stop, why);
+        }
+        *machine = start.over(SectionKind::Export, last as u32);
+        let given = give_export(sink, found.kind, found.index);
+        Shortcut::ended(found.next, given, *machine)
     }
 }
 
@@ -194,16 +173,9 @@ pub(crate) fn exports<S: Sink>(
     profile: Profile,
     bytes: &[u8],
 ) -> Shortcut
+    requires { 0 < length bytes.now }
     ensures { Advances S.after S.may_run_out profile bytes.now machine.old (S.held sink.old) result
         machine.new (S.held sink.new) }
 {
-    let some = exports_before_last(sink, machine, profile, bytes);
-    if some.refused.is_some() {
-        return some;
-    }
-    let last = last_export(sink, machine, profile, &bytes[some.used..]);
-    Shortcut {
-        used: some.used + last.used,
-        refused: last.refused,
-    }
+    <(ExportsBeforeLast, LastExport)>::take(sink, machine, profile, bytes)
 }

@@ -5,7 +5,7 @@
 //! byte of a start section's size, what is refused, and a header that no id of another section follows in the
 //! piece.
 
-ghost use Rattle.std.specs.Prelude.{◌≡◌, ◌<◌, ◌≤◌, IfSome, false, length, slice_index, true, ℕ};
+ghost use Rattle.std.specs.Prelude.{◌≡◌, ◌<◌, IfSome, length, slice_index, true, ℕ};
 ghost use Rattle.wm_syntax.specs.exact.Reading.{fresh};
 ghost use Rattle.wm_decode.specs.Sections.{header};
 ghost use Rattle.wm_decode.specs.exact.Frames.{IsFrameStep, LeadsTo};
@@ -14,8 +14,8 @@ ghost use Rattle.wm_decode.specs.exact.Shortcuts.{Advances};
 use crate::machine::Machine;
 use crate::machine::member::SectionKind;
 use crate::shortcuts::Shortcut;
+use crate::shortcuts::frame_bytes::{begun, count_end, frame_byte, size_end, size_more};
 use crate::sink::Sink;
-use crate::step::{begun, count_end, frame_byte, size_end, size_more};
 use wm_syntax::numbers::Num32;
 use wm_syntax::profile::Profile;
 

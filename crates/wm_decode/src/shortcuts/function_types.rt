@@ -4,106 +4,49 @@
 
 ghost use Rattle.std.specs.Prelude.{◌≡◌, ◌-◌, ◌<◌, ◌≤◌, ◌^◌, IfSome, Ok, length, slice_index};
 ghost use Rattle.wm_decode.specs.exact.Shortcuts.{Advances};
-ghost use Rattle.wm_decode.specs.exact.TypeStarts.{before_results, before_type, in_params, next_type};
-ghost use Rattle.wm_decode.specs.exact.TypeStarts.{params_after};
+ghost use Rattle.wm_decode.specs.exact.TypeStarts.{before_results, in_params, params_after};
 ghost use Rattle.wm_decode.specs.exact.ValueSteps.{value_type_of};
+ghost use Rattle.wm_decode.specs.exact.WholeMembers.{before_member};
 
-use crate::decoder::names::{give_new_type, give_param, give_result, give_result_count};
+use crate::decoder::give::{give_new_type, give_param, give_result, give_result_count};
+use crate::machine::Machine;
 use crate::machine::member::{InMember, SectionKind};
-use crate::machine::{Machine, refusal_of};
 use crate::shortcuts::Shortcut;
+use crate::shortcuts::chains::{Link, repeated};
+use crate::shortcuts::in_section::InSection;
 use crate::sink::Sink;
-use crate::step::framed;
 use crate::step::types::after_param;
 use crate::step::values::value_type;
 use wm_syntax::profile::Profile;
 use wm_syntax::types::ValType;
 use wm_syntax::why::Why;
 
-/// What is known before a function type, or before the count of its results: how many functions await their
-/// code, how many bytes of the section come after the next, and how many types after this one.
-#[derive(Clone, Copy)]
-pub(crate) struct InTypes {
-    pub(crate) functions: u32,
-    pub(crate) more: u32,
-    pub(crate) left: u32,
+// What is known of a machine before a function type
+#[inline(always)]
+fn at_type(machine: Machine) -> Option<InSection>
+    ensures { IfSome result (λ i. machine ≡ before_member SectionKind.Type i) }
+{
+    let Some((SectionKind::Type, InMember::TypeForm, section)) = InSection::of(machine) else {
+        return None;
+    };
+    Some(section)
 }
 
-impl InTypes {
-    // That of a machine before a type
-    #[inline(always)]
-    fn at_type(machine: Machine) -> Option<InTypes>
-        ensures { IfSome result (λ t. machine ≡ before_type t) }
-    {
-        let Machine::Section {
-            of,
-            functions,
-            more,
-            left,
-            at,
-        } = machine
-        else {
-            return None;
-        };
-        let SectionKind::Type = of else {
-            return None;
-        };
-        let InMember::TypeForm = at else {
-            return None;
-        };
-        Some(InTypes {
-            functions,
-            more,
-            left,
-        })
+// The same before the count of its results
+#[inline(always)]
+fn at_results(machine: Machine) -> Option<InSection>
+    ensures { IfSome result (λ i. machine ≡ before_results i) }
+{
+    let Some((SectionKind::Type, at, section)) = InSection::of(machine) else {
+        return None;
+    };
+    let InMember::ResultCount(number) = at else {
+        return None;
+    };
+    if !number.is_new() {
+        return None;
     }
-
-    // That of a machine before the count of the results
-    #[inline(always)]
-    fn at_results(machine: Machine) -> Option<InTypes>
-        ensures { IfSome result (λ t. machine ≡ before_results t) }
-    {
-        let Machine::Section {
-            of,
-            functions,
-            more,
-            left,
-            at,
-        } = machine
-        else {
-            return None;
-        };
-        let SectionKind::Type = of else {
-            return None;
-        };
-        let InMember::ResultCount(number) = at else {
-            return None;
-        };
-        if !number.is_new() {
-            return None;
-        }
-        Some(InTypes {
-            functions,
-            more,
-            left,
-        })
-    }
-
-    // The machine before the next type, after so many more bytes
-    #[inline(always)]
-    fn next(self, used: u32) -> Machine
-        requires section { used ≤ self.more }
-        requires types { 0 < self.left }
-        ensures { result ≡ before_type (next_type self used) }
-    {
-        Machine::Section {
-            of: SectionKind::Type,
-            functions: self.functions,
-            more: self.more - used,
-            left: self.left - 1,
-            at: InMember::TypeForm,
-        }
-    }
+    Some(section)
 }
 
 /// What is known before a parameter, or before the count of the results: of the section as before the type,
@@ -143,7 +86,7 @@ struct GivenParams {
 
 // The form of a type and the count of its parameters
 #[inline(always)]
-fn begin_type(bytes: &[u8], start: InTypes) -> Option<InParams>
+fn begin_type(bytes: &[u8], start: InSection) -> Option<InParams>
     ensures within { IfSome result (λ i. 1 < length bytes.now) }
     ensures section { IfSome result (λ i. 1 < start.more) }
     ensures form { IfSome result (λ i. slice_index bytes.now 0 ≡ 0x60) }
@@ -213,30 +156,33 @@ fn give_params<S: Sink>(
     }
 }
 
-// Takes a type up to the count of its results
-#[inline(always)]
+/// A type up to the count of its results.
+struct Params;
+
 #[tactic(auto, using(crate::proofs::Advances::advances_none))]
-fn params<S: Sink>(sink: &mut S, machine: &mut Machine, profile: Profile, bytes: &[u8]) -> Shortcut
-    ensures { Advances S.after S.may_run_out profile bytes.now machine.old (S.held sink.old) result
-        machine.new (S.held sink.new) }
-{
-    let Some(start) = InTypes::at_type(*machine) else {
-        return Shortcut::none();
-    };
-    let Some(begun) = begin_type(bytes, start) else {
-        return Shortcut::none();
-    };
-    if let Err(why) = give_new_type(sink) {
-        return Shortcut {
-            used: 1,
-            refused: Some(why),
+impl Link for Params {
+    #[inline(always)]
+    fn take<S: Sink>(
+        sink: &mut S,
+        machine: &mut Machine,
+        profile: Profile,
+        bytes: &[u8],
+    ) -> Shortcut {
+        let Some(start) = at_type(*machine) else {
+            return Shortcut::none();
         };
-    }
-    let given = give_params(sink, profile, &bytes[2..], begun);
-    *machine = begun.after(given.used as u32, given.params);
-    Shortcut {
-        used: 2 + given.used,
-        refused: given.refused,
+        let Some(begun) = begin_type(bytes, start) else {
+            return Shortcut::none();
+        };
+        if let Err(why) = give_new_type(sink) {
+            return Shortcut::out(1, why);
+        }
+        let given = give_params(sink, profile, &bytes[2..], begun);
+        *machine = begun.after(given.used as u32, given.params);
+        Shortcut {
+            used: 2 + given.used,
+            refused: given.refused,
+        }
     }
 }
 
@@ -247,7 +193,7 @@ fn one_result<S: Sink>(
     machine: &mut Machine,
     profile: Profile,
     bytes: &[u8],
-    start: InTypes,
+    start: InSection,
     ty: ValType,
 ) -> Shortcut
     requires machine { machine.old ≡ before_results start }
@@ -260,12 +206,9 @@ fn one_result<S: Sink>(
         machine.new (S.held sink.new) }
 {
     if let Err(why) = give_result_count(sink, 1) {
-        return Shortcut {
-            used: 1,
-            refused: Some(why),
-        };
+        return Shortcut::out(1, why);
     }
-    *machine = start.next(2);
+    *machine = start.next(SectionKind::Type, 2);
     let refused = give_result(sink, ty).err();
     Shortcut { used: 2, refused }
 }
@@ -277,7 +220,7 @@ fn last_result<S: Sink>(
     machine: &mut Machine,
     profile: Profile,
     bytes: &[u8],
-    start: InTypes,
+    start: InSection,
     ty: ValType,
 ) -> Shortcut
     requires machine { machine.old ≡ before_results start }
@@ -291,20 +234,9 @@ fn last_result<S: Sink>(
     if let Err(why) = give_result_count(sink, 1) {
         return Shortcut::out(1, why);
     }
-    *machine = framed(
-        SectionKind::Type,
-        start.functions,
-        start.more - 1,
-        start.left,
-        InMember::Over,
-    );
-    if let Err(why) = give_result(sink, ty) {
-        return Shortcut::out(2, why);
-    }
-    Shortcut {
-        used: 2,
-        refused: refusal_of(*machine),
-    }
+    *machine = start.over(SectionKind::Type, 1);
+    let given = give_result(sink, ty);
+    Shortcut::ended(2, given, *machine)
 }
 
 // Takes the results of a type, at most one, whatever comes after it. With them the section may be over, or
@@ -316,7 +248,7 @@ fn last_results<S: Sink>(
     machine: &mut Machine,
     profile: Profile,
     bytes: &[u8],
-    start: InTypes,
+    start: InSection,
 ) -> Shortcut
     requires machine { machine.old ≡ before_results start }
     requires within { 1 < length bytes.now }
@@ -324,20 +256,9 @@ fn last_results<S: Sink>(
         machine.new (S.held sink.new) }
 {
     if bytes[0] == 0 {
-        *machine = framed(
-            SectionKind::Type,
-            start.functions,
-            start.more,
-            start.left,
-            InMember::Over,
-        );
-        if let Err(why) = give_result_count(sink, 0) {
-            return Shortcut::out(1, why);
-        }
-        return Shortcut {
-            used: 1,
-            refused: refusal_of(*machine),
-        };
+        *machine = start.over(SectionKind::Type, 0);
+        let given = give_result_count(sink, 0);
+        return Shortcut::ended(1, given, *machine);
     }
     let Ok(ty) = value_type(profile, bytes[1]) else {
         return Shortcut::none();
@@ -348,60 +269,44 @@ fn last_results<S: Sink>(
     last_result(sink, machine, profile, bytes, start, ty)
 }
 
-// Takes the results of a type, at most one; by a shorter way where another type comes after it
-#[inline(always)]
+/// The results of a type, at most one; by a shorter way where another type comes after it.
+struct Results;
+
 #[tactic(auto, using(crate::proofs::Advances::advances_none))]
-fn results<S: Sink>(sink: &mut S, machine: &mut Machine, profile: Profile, bytes: &[u8]) -> Shortcut
-    ensures { Advances S.after S.may_run_out profile bytes.now machine.old (S.held sink.old) result
-        machine.new (S.held sink.new) }
-{
-    let Some(start) = InTypes::at_results(*machine) else {
-        return Shortcut::none();
-    };
-    if bytes.len() < 2 {
-        return Shortcut::none();
-    }
-    if start.more < 2 || start.left == 0 {
-        return last_results(sink, machine, profile, bytes, start);
-    }
-    let count = bytes[0];
-    if count == 0 {
-        *machine = start.next(1);
-        let refused = give_result_count(sink, 0).err();
-        return Shortcut { used: 1, refused };
-    }
-    let Ok(ty) = value_type(profile, bytes[1]) else {
-        return Shortcut::none();
-    };
-    if count != 1 {
-        return Shortcut::none();
-    }
-    one_result(sink, machine, profile, bytes, start, ty)
-}
-
-// Takes a function type, as far as its counts are short and it lies in these bytes.
-#[inline(always)]
-fn function_type<S: Sink>(
-    sink: &mut S,
-    machine: &mut Machine,
-    profile: Profile,
-    bytes: &[u8],
-) -> Shortcut
-    ensures { Advances S.after S.may_run_out profile bytes.now machine.old (S.held sink.old) result
-        machine.new (S.held sink.new) }
-{
-    let front = params(sink, machine, profile, bytes);
-    if front.refused.is_some() {
-        return front;
-    }
-    let back = results(sink, machine, profile, &bytes[front.used..]);
-    Shortcut {
-        used: front.used + back.used,
-        refused: back.refused,
+impl Link for Results {
+    #[inline(always)]
+    fn take<S: Sink>(
+        sink: &mut S,
+        machine: &mut Machine,
+        profile: Profile,
+        bytes: &[u8],
+    ) -> Shortcut {
+        let Some(start) = at_results(*machine) else {
+            return Shortcut::none();
+        };
+        if bytes.len() < 2 {
+            return Shortcut::none();
+        }
+        if start.more < 2 || start.left == 0 {
+            return last_results(sink, machine, profile, bytes, start);
+        }
+        let count = bytes[0];
+        if count == 0 {
+            *machine = start.next(SectionKind::Type, 1);
+            let refused = give_result_count(sink, 0).err();
+            return Shortcut { used: 1, refused };
+        }
+        let Ok(ty) = value_type(profile, bytes[1]) else {
+            return Shortcut::none();
+        };
+        if count != 1 {
+            return Shortcut::none();
+        }
+        one_result(sink, machine, profile, bytes, start, ty)
     }
 }
 
-/// Takes the function types that lie in these bytes, one after another.
+/// Takes the function types that lie in these bytes, as far as their counts are short.
 pub(crate) fn function_types<S: Sink>(
     sink: &mut S,
     machine: &mut Machine,
@@ -411,17 +316,5 @@ pub(crate) fn function_types<S: Sink>(
     ensures { Advances S.after S.may_run_out profile bytes.now machine.old (S.held sink.old) result
         machine.new (S.held sink.new) }
 {
-    let mut used = 0;
-    while used < bytes.len() {
-        let taken = function_type(sink, machine, profile, &bytes[used..]);
-        used += taken.used;
-        if taken.used == 0 || taken.refused.is_some() {
-            let refused = taken.refused;
-            return Shortcut { used, refused };
-        }
-    }
-    Shortcut {
-        used,
-        refused: None,
-    }
+    repeated::<(Params, Results), S>(sink, machine, profile, bytes)
 }

@@ -10,14 +10,14 @@ ghost use Rattle.wm_decode.specs.exact.ValueSteps.{value_type_of, var_step};
 ghost use Rattle.wm_decode.specs.exact.WholeMembers.{before_member};
 ghost use Rattle.wm_decode.specs.exact.WholeOps.{WholeOp};
 
-use crate::decoder::names::give;
+use crate::decoder::give::give;
 use crate::machine::member::{InMember, SectionKind};
-use crate::machine::{Machine, Plain, refusal_of};
+use crate::machine::{Machine, Plain};
 use crate::shortcuts::Shortcut;
+use crate::shortcuts::chains::{Link, repeated};
 use crate::shortcuts::constants::{Constant, constant_at};
 use crate::shortcuts::in_section::InSection;
 use crate::sink::Sink;
-use crate::step::framed;
 use crate::step::values::{InGlobalType, value_type};
 use wm_syntax::instructions::Op;
 use wm_syntax::profile::Profile;
@@ -25,7 +25,7 @@ use wm_syntax::types::GlobalType;
 
 /// The type of a global, and its value.
 #[derive(Clone, Copy)]
-struct Global {
+struct Found {
     ty: GlobalType,
     value: Constant,
 }
@@ -35,35 +35,16 @@ struct Global {
 fn at_global(machine: Machine) -> Option<InSection>
     ensures { IfSome result (λ i. machine ≡ before_member SectionKind.Global i) }
 {
-    let Machine::Section {
-        of,
-        functions,
-        more,
-        left,
-        at,
-    } = machine
-    else {
+    let Some((SectionKind::Global, InMember::GlobalType(InGlobalType::Type), section)) =
+        InSection::of(machine) else {
         return None;
     };
-    let SectionKind::Global = of else {
-        return None;
-    };
-    let InMember::GlobalType(at) = at else {
-        return None;
-    };
-    let InGlobalType::Type = at else {
-        return None;
-    };
-    Some(InSection {
-        functions,
-        more,
-        left,
-    })
+    Some(section)
 }
 
 // The global at the front of these bytes, where it lies whole in them
 #[inline(always)]
-fn global_at(profile: Profile, bytes: &[u8]) -> Option<Global>
+fn global_at(profile: Profile, bytes: &[u8]) -> Option<Found>
     ensures ty { IfSome result (λ g. value_type_of profile (slice_index bytes.now 0) ≡ Ok g.ty.ty) }
     ensures var { IfSome result (λ g. var_step g.ty.ty (slice_index bytes.now 1) ≡ Done g.ty) }
     ensures op { IfSome result (λ g. WholeOp bytes.now 2 g.value.stop 0 0 g.value.op) }
@@ -80,54 +61,43 @@ fn global_at(profile: Profile, bytes: &[u8]) -> Option<Global>
         _ => return None,
     };
     let value = constant_at(bytes, 2)?;
-    Some(Global {
+    Some(Found {
         ty: GlobalType { ty, var },
         value,
     })
 }
 
-// Takes a global
-#[inline(always)]
+/// A global, whatever comes after it.
+struct Global;
+
 #[tactic(auto, using(crate::proofs::Advances::advances_none))]
-fn take_global<S: Sink>(
-    sink: &mut S,
-    machine: &mut Machine,
-    profile: Profile,
-    bytes: &[u8],
-) -> Shortcut
-    ensures { Advances S.after S.may_run_out profile bytes.now machine.old (S.held sink.old) result
-        machine.new (S.held sink.new) }
-{
-    let Some(start) = at_global(*machine) else {
-        return Shortcut::none();
-    };
-    let Some(found) = global_at(profile, bytes) else {
-        return Shortcut::none();
-    };
-    let stop = found.value.stop;
-    if stop > start.more as usize {
-        return Shortcut::none();
-    }
-    if let Err(why) = give(sink, Plain::Global(found.ty)) {
-        return Shortcut::out(2, why);
-    }
-    if let Err(why) = give(sink, Plain::ConstOp(found.value.op)) {
-        return Shortcut::out(stop, why);
-    }
-    if let Err(why) = give(sink, Plain::ConstOp(Op::End)) {
-        return Shortcut::out(stop + 1, why);
-    }
-    let more = start.more - stop as u32;
-    *machine = framed(
-        SectionKind::Global,
-        start.functions,
-        more,
-        start.left,
-        InMember::Over,
-    );
-    Shortcut {
-        used: stop + 1,
-        refused: refusal_of(*machine),
+impl Link for Global {
+    #[inline(always)]
+    fn take<S: Sink>(
+        sink: &mut S,
+        machine: &mut Machine,
+        profile: Profile,
+        bytes: &[u8],
+    ) -> Shortcut {
+        let Some(start) = at_global(*machine) else {
+            return Shortcut::none();
+        };
+        let Some(found) = global_at(profile, bytes) else {
+            return Shortcut::none();
+        };
+        let stop = found.value.stop;
+        if stop > start.more as usize {
+            return Shortcut::none();
+        }
+        if let Err(why) = give(sink, Plain::Global(found.ty)) {
+            return Shortcut::out(2, why);
+        }
+        if let Err(why) = give(sink, Plain::ConstOp(found.value.op)) {
+            return Shortcut::out(stop, why);
+        }
+        *machine = start.over(SectionKind::Global, stop as u32);
+        let given = give(sink, Plain::ConstOp(Op::End));
+        Shortcut::ended(stop + 1, given, *machine)
     }
 }
 
@@ -142,17 +112,5 @@ pub(crate) fn globals<S: Sink>(
     ensures { Advances S.after S.may_run_out profile bytes.now machine.old (S.held sink.old) result
         machine.new (S.held sink.new) }
 {
-    let mut used = 0;
-    while used < bytes.len() {
-        let taken = take_global(sink, machine, profile, &bytes[used..]);
-        used += taken.used;
-        if taken.used == 0 || taken.refused.is_some() {
-            let refused = taken.refused;
-            return Shortcut { used, refused };
-        }
-    }
-    Shortcut {
-        used,
-        refused: None,
-    }
+    repeated::<Global, S>(sink, machine, profile, bytes)
 }

@@ -4,77 +4,40 @@
 //! Long numbers, and what is refused for its bytes, are left to the byte step.
 
 ghost use Rattle.std.specs.Prelude.{◌≡◌, ◌+◌, ◌-◌, ◌<◌, ◌≤◌, ◌^◌, IfSome, Ok, length, slice_index};
-ghost use Rattle.wm_decode.specs.exact.Heads.{IsShort, before_entry, head_after, in_head};
+ghost use Rattle.wm_decode.specs.exact.Heads.{IsShort, head_after, in_head};
 ghost use Rattle.wm_decode.specs.exact.Shortcuts.{Advances};
 ghost use Rattle.wm_decode.specs.exact.ValueSteps.{value_type_of};
+ghost use Rattle.wm_decode.specs.exact.WholeMembers.{before_member};
 
-use crate::decoder::names::{give_body, give_locals};
+use crate::decoder::give::{give_body, give_locals};
 use crate::machine::Machine;
 use crate::machine::member::{InEntry, InMember, SectionKind};
 use crate::shortcuts::Shortcut;
+use crate::shortcuts::chains::Link;
+use crate::shortcuts::in_section::InSection;
 use crate::shortcuts::whole_numbers::Whole;
 use crate::sink::Sink;
 use crate::step::entries::runs_or_body;
 use crate::step::values::{InRun, value_type};
-use wm_syntax::numbers::Num32;
 use wm_syntax::profile::Profile;
 use wm_syntax::types::ValType;
 use wm_syntax::why::Why;
 
-/// What is known before the size of a code entry: how many functions await their code, how many bytes of the
-/// section come after the next, and how many entries after this one.
-#[derive(Clone, Copy)]
-pub(crate) struct BeforeEntry {
-    pub(crate) functions: u32,
-    pub(crate) more: u32,
-    pub(crate) left: u32,
-}
-
-impl BeforeEntry {
-    /// The machine that stands so.
-    #[inline(always)]
-    pub(crate) fn machine(self) -> Machine
-        ensures { result ≡ before_entry self }
-    {
-        Machine::Section {
-            of: SectionKind::Code,
-            functions: self.functions,
-            more: self.more,
-            left: self.left,
-            at: InMember::EntrySize(Num32::new()),
-        }
+// What is known of a machine before the size of a code entry
+#[inline(always)]
+fn at_entry(machine: Machine) -> Option<InSection>
+    ensures { IfSome result (λ i. machine ≡ before_member SectionKind.Code i) }
+{
+    let Some((SectionKind::Code, at, section)) = InSection::of(machine) else {
+        return None;
+    };
+    let InMember::EntrySize(number) = at else {
+        return None;
+    };
+    if !number.is_new() {
+        return None;
     }
-
-    /// That of a machine, where it stands so.
-    #[inline(always)]
-    fn of(machine: Machine) -> Option<BeforeEntry>
-        ensures { IfSome result (λ e. machine ≡ before_entry e) }
-    {
-        let Machine::Section {
-            of,
-            functions,
-            more,
-            left,
-            at,
-        } = machine
-        else {
-            return None;
-        };
-        let SectionKind::Code = of else {
-            return None;
-        };
-        let InMember::EntrySize(number) = at else {
-            return None;
-        };
-        if !number.is_new() {
-            return None;
-        }
-        Some(BeforeEntry {
-            functions,
-            more,
-            left,
-        })
-    }
+    Some(section)
 }
 
 /// What is known before a run of locals, or before the first op: of the section as before its size, of the
@@ -94,20 +57,9 @@ impl InHead {
     fn of(machine: Machine) -> Option<InHead>
         ensures { IfSome result (λ i. machine ≡ in_head i) }
     {
-        let Machine::Section {
-            of,
-            functions,
-            more,
-            left,
-            at,
-        } = machine
-        else {
-            return None;
-        };
-        let SectionKind::Code = of else {
-            return None;
-        };
-        let InMember::Entry { more: rest, at } = at else {
+        let Some((SectionKind::Code, InMember::Entry { more: rest, at }, section)) = InSection::of(
+            machine,
+        ) else {
             return None;
         };
         let InEntry::Run { more: runs, at } = at else {
@@ -120,9 +72,9 @@ impl InHead {
             return None;
         }
         Some(InHead {
-            functions,
-            more,
-            left,
+            functions: section.functions,
+            more: section.more,
+            left: section.left,
             rest,
             runs: runs + 1,
         })
@@ -182,7 +134,7 @@ fn short_number(bytes: &[u8]) -> Option<Whole<u32>>
 
 // The size of an entry and the count of its runs, where bytes of the entry and of the section come after them
 #[inline(always)]
-fn begin_head(bytes: &[u8], start: BeforeEntry) -> Option<Begun>
+fn begin_head(bytes: &[u8], start: InSection) -> Option<Begun>
     ensures size { IfSome result (λ b. IsShort bytes.now b.sized (b.at.rest + 2)) }
     ensures within { IfSome result (λ b. b.sized < length bytes.now) }
     ensures section { IfSome result (λ b. b.sized < start.more) }
@@ -301,34 +253,32 @@ pub(crate) fn runs<S: Sink>(
     }
 }
 
-/// Takes the head of a code entry, as far as its numbers are short and lie in these bytes.
+/// The head of a code entry, as far as its numbers are short and lie in the bytes.
+pub(crate) struct Head;
+
 #[tactic(auto, using(crate::proofs::Advances::advances_none))]
-pub(crate) fn head<S: Sink>(
-    sink: &mut S,
-    machine: &mut Machine,
-    profile: Profile,
-    bytes: &[u8],
-) -> Shortcut
-    ensures { Advances S.after S.may_run_out profile bytes.now machine.old (S.held sink.old) result
-        machine.new (S.held sink.new) }
-{
-    let Some(start) = BeforeEntry::of(*machine) else {
-        return Shortcut::none();
-    };
-    let Some(begun) = begin_head(bytes, start) else {
-        return Shortcut::none();
-    };
-    if let Err(why) = give_body(sink) {
-        return Shortcut {
-            used: begun.sized,
-            refused: Some(why),
+impl Link for Head {
+    fn take<S: Sink>(
+        sink: &mut S,
+        machine: &mut Machine,
+        profile: Profile,
+        bytes: &[u8],
+    ) -> Shortcut {
+        let Some(start) = at_entry(*machine) else {
+            return Shortcut::none();
         };
-    }
-    let first = begun.sized + 1;
-    let given = give_runs(sink, profile, &bytes[first..], begun.at);
-    *machine = begun.at.after(given.used as u32, given.runs);
-    Shortcut {
-        used: first + given.used,
-        refused: given.refused,
+        let Some(begun) = begin_head(bytes, start) else {
+            return Shortcut::none();
+        };
+        if let Err(why) = give_body(sink) {
+            return Shortcut::out(begun.sized, why);
+        }
+        let first = begun.sized + 1;
+        let given = give_runs(sink, profile, &bytes[first..], begun.at);
+        *machine = begun.at.after(given.used as u32, given.runs);
+        Shortcut {
+            used: first + given.used,
+            refused: given.refused,
+        }
     }
 }

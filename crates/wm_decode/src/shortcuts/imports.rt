@@ -6,14 +6,16 @@
 ghost use Rattle.std.specs.Prelude.{◌≡◌, ◌+◌, ◌≤◌, IfSome, length, slice_index};
 ghost use Rattle.wm_syntax.specs.exact.Reading.{unsigned_push};
 ghost use Rattle.wm_decode.specs.exact.Shortcuts.{Advances};
-ghost use Rattle.wm_decode.specs.exact.WholeNames.{NameLies, before_import};
+ghost use Rattle.wm_decode.specs.exact.WholeMembers.{before_member};
+ghost use Rattle.wm_decode.specs.exact.WholeNames.{NameLies};
 ghost use Rattle.wm_decode.specs.exact.WholeOps.{LiesAt};
 
-use crate::decoder::names::{give_import, give_name};
+use crate::decoder::give::{give_import, give_name};
 use crate::machine::member::{InMember, SectionKind};
 use crate::machine::{Machine, NameKind};
 use crate::shortcuts::Shortcut;
-use crate::shortcuts::whole_names::{InNames, name_end};
+use crate::shortcuts::in_section::InSection;
+use crate::shortcuts::whole_names::name_end;
 use crate::shortcuts::whole_numbers::u32_at;
 use crate::sink::Sink;
 use wm_syntax::profile::Profile;
@@ -29,20 +31,10 @@ struct Import {
 
 // What is known of a machine that stands before an import
 #[inline(always)]
-fn at_import(machine: Machine) -> Option<InNames>
-    ensures { IfSome result (λ i. machine ≡ before_import i) }
+fn at_import(machine: Machine) -> Option<InSection>
+    ensures { IfSome result (λ i. machine ≡ before_member SectionKind.Import i) }
 {
-    let Machine::Section {
-        of,
-        functions,
-        more,
-        left,
-        at,
-    } = machine
-    else {
-        return None;
-    };
-    let SectionKind::Import = of else {
+    let Some((SectionKind::Import, at, section)) = InSection::of(machine) else {
         return None;
     };
     let InMember::NameLength { of: kind, number } = at else {
@@ -54,11 +46,7 @@ fn at_import(machine: Machine) -> Option<InNames>
     if !number.is_new() {
         return None;
     }
-    Some(InNames {
-        functions,
-        more,
-        left,
-    })
+    Some(section)
 }
 
 // The import of a function at a place, where it lies in the first so many bytes and its names are short
@@ -124,7 +112,7 @@ pub(crate) fn imports<S: Sink>(
             return Shortcut::out(used, why);
         }
     }
-    *machine = start.after(used as u32, left).import();
+    *machine = start.after(used as u32, left).before(SectionKind::Import);
     Shortcut {
         used,
         refused: None,

@@ -5,6 +5,7 @@ ghost use Rattle.wm_decode.specs.exact.WholeOps.{before_op};
 
 use crate::machine::Machine;
 use crate::machine::member::{InEntry, InMember, SectionKind};
+use crate::shortcuts::in_section::InSection;
 use crate::step::expressions::InExpression;
 use crate::step::ops::InOp;
 
@@ -26,33 +27,23 @@ impl InBody {
     pub(crate) fn of(machine: Machine) -> Option<InBody>
         ensures { IfSome result (λ b. machine ≡ before_op b) }
     {
-        let Machine::Section {
-            of,
-            functions,
-            more,
-            left,
-            at,
-        } = machine
+        let Some((of, InMember::Entry { more: rest, at }, section)) = InSection::of(machine) else {
+            return None;
+        };
+        let InEntry::Body(
+            InExpression::Op {
+                depth,
+                at: InOp::First,
+            },
+        ) = at
         else {
-            return None;
-        };
-        let InMember::Entry { more: rest, at } = at else {
-            return None;
-        };
-        let InEntry::Body(at) = at else {
-            return None;
-        };
-        let InExpression::Op { depth, at } = at else {
-            return None;
-        };
-        let InOp::First = at else {
             return None;
         };
         Some(InBody {
             of,
-            functions,
-            more,
-            left,
+            functions: section.functions,
+            more: section.more,
+            left: section.left,
             rest,
             depth,
         })

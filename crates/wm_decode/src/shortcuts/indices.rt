@@ -8,9 +8,10 @@ ghost use Rattle.wm_decode.specs.exact.Indices.{GaveEach, LiesIn, at_index, befo
 ghost use Rattle.wm_decode.specs.exact.Indices.{followed_indices, index_room, indices_ended, indices_past};
 ghost use Rattle.wm_decode.specs.exact.Indices.{most_indices};
 
-use crate::decoder::names::give_short_index;
+use crate::decoder::give::give_short_index;
 use crate::machine::Machine;
 use crate::machine::member::{InEntry, InMember, IndexOf, SectionKind};
+use crate::shortcuts::in_section::InSection;
 use crate::shortcuts::whole_indices::whole_indices;
 use crate::shortcuts::{Shortcut, at_most};
 use crate::sink::Sink;
@@ -133,22 +134,15 @@ impl InIndices {
         ensures machine { IfSome result (λ i. machine ≡ before_index i) }
         ensures of { IfSome result (λ i. LiesIn i.of i.list) }
     {
-        let Machine::Section {
-            of,
-            functions,
-            more,
-            left,
-            at,
-        } = machine
-        else {
+        let Some((of, at, section)) = InSection::of(machine) else {
             return None;
         };
         let list = IndexList::of(of, at)?;
         Some(InIndices {
             of,
-            functions,
-            more,
-            left,
+            functions: section.functions,
+            more: section.more,
+            left: section.left,
             list,
         })
     }

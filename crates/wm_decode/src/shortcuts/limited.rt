@@ -8,14 +8,13 @@ ghost use Rattle.wm_decode.specs.exact.Limited.{LimitsBegin, LimitsLie, limited_
 ghost use Rattle.wm_decode.specs.exact.Shortcuts.{Advances};
 ghost use Rattle.wm_decode.specs.exact.WholeMembers.{before_member};
 
-use crate::decoder::names::give;
+use crate::decoder::give::give;
 use crate::machine::member::{InMember, SectionKind};
-use crate::machine::{Machine, Plain, refusal_of};
+use crate::machine::{Machine, Plain};
 use crate::shortcuts::Shortcut;
 use crate::shortcuts::in_section::InSection;
 use crate::shortcuts::whole_numbers::u32_at;
 use crate::sink::Sink;
-use crate::step::framed;
 use crate::step::values::{InLimits, InTableType, InValue};
 use wm_syntax::profile::Profile;
 use wm_syntax::types::Limits;
@@ -83,34 +82,13 @@ struct Found {
 fn at_limited(machine: Machine) -> Option<BeforeLimited>
     ensures { IfSome result (λ b. machine ≡ before_member (limited_section b.of) b.place) }
 {
-    let Machine::Section {
-        of: section,
-        functions,
-        more,
-        left,
-        at,
-    } = machine
-    else {
+    let Some((section, InMember::Value(at), place)) = InSection::of(machine) else {
         return None;
     };
-    let InMember::Value(at) = at else {
-        return None;
-    };
-    let of = match section {
-        SectionKind::Table => match at {
-            InValue::Table(InTableType::ElementType) => Limited::Table,
-            _ => return None,
-        },
-        SectionKind::Memory => match at {
-            InValue::Memory(InLimits::Flag) => Limited::Memory,
-            _ => return None,
-        },
+    let of = match (section, at) {
+        (SectionKind::Table, InValue::Table(InTableType::ElementType)) => Limited::Table,
+        (SectionKind::Memory, InValue::Memory(InLimits::Flag)) => Limited::Memory,
         _ => return None,
-    };
-    let place = InSection {
-        functions,
-        more,
-        left,
     };
     Some(BeforeLimited { of, place })
 }
@@ -175,19 +153,7 @@ pub(crate) fn limited_member<S: Sink>(
     if last > place.more as usize {
         return Shortcut::none();
     }
-    let more = place.more - last as u32;
-    *machine = framed(
-        start.of.section(),
-        place.functions,
-        more,
-        place.left,
-        InMember::Over,
-    );
-    if let Err(why) = give(sink, start.of.item(found.limits)) {
-        return Shortcut::out(found.next, why);
-    }
-    Shortcut {
-        used: found.next,
-        refused: refusal_of(*machine),
-    }
+    *machine = place.over(start.of.section(), last as u32);
+    let given = give(sink, start.of.item(found.limits));
+    Shortcut::ended(found.next, given, *machine)
 }

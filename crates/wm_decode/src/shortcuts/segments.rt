@@ -6,11 +6,12 @@
 ghost use Rattle.std.specs.Prelude.{◌≡◌, ◌+◌, IfSome, slice_index};
 ghost use Rattle.wm_syntax.specs.exact.Reading.{unsigned_push};
 ghost use Rattle.wm_decode.specs.exact.MemberSteps.{index_item, list_or_over};
-ghost use Rattle.wm_decode.specs.exact.Segments.{before_segment, index_of, section_of, size_of};
+ghost use Rattle.wm_decode.specs.exact.Segments.{index_of, section_of, size_of};
 ghost use Rattle.wm_decode.specs.exact.Shortcuts.{Advances};
+ghost use Rattle.wm_decode.specs.exact.WholeMembers.{before_member};
 ghost use Rattle.wm_decode.specs.exact.WholeOps.{LiesAt, WholeOp};
 
-use crate::decoder::names::give;
+use crate::decoder::give::give;
 use crate::machine::member::{InMember, IndexOf, SectionKind};
 use crate::machine::{Machine, Plain, refusal_of};
 use crate::shortcuts::Shortcut;
@@ -84,16 +85,9 @@ struct SegmentHead {
 // What is known of a machine that stands before a segment
 #[inline(always)]
 fn at_segment(machine: Machine) -> Option<BeforeSegment>
-    ensures { IfSome result (λ b. machine ≡ before_segment b.of b.place) }
+    ensures { IfSome result (λ b. machine ≡ before_member (section_of b.of) b.place) }
 {
-    let Machine::Section {
-        of: section,
-        functions,
-        more,
-        left,
-        at,
-    } = machine
-    else {
+    let Some((section, at, place)) = InSection::of(machine) else {
         return None;
     };
     let InMember::Index { of: index, number } = at else {
@@ -102,21 +96,10 @@ fn at_segment(machine: Machine) -> Option<BeforeSegment>
     if !number.is_new() {
         return None;
     }
-    let of = match section {
-        SectionKind::Element => match index {
-            IndexOf::Element => Segments::Elements,
-            _ => return None,
-        },
-        SectionKind::Segment => match index {
-            IndexOf::Segment => Segments::Data,
-            _ => return None,
-        },
+    let of = match (section, index) {
+        (SectionKind::Element, IndexOf::Element) => Segments::Elements,
+        (SectionKind::Segment, IndexOf::Segment) => Segments::Data,
         _ => return None,
-    };
-    let place = InSection {
-        functions,
-        more,
-        left,
     };
     Some(BeforeSegment { of, place })
 }

@@ -4,7 +4,7 @@ ghost use Rattle.std.specs.Prelude.{◌≡◌, ◌<◌, IfSome, length, slice_in
 ghost use Rattle.wm_decode.specs.exact.ShortSteps.{StepsTo, standing};
 ghost use Rattle.wm_decode.specs.exact.Shortcuts.{Advances};
 
-use crate::decoder::names::give_part;
+use crate::decoder::give::give_part;
 use crate::machine::Machine;
 use crate::machine::member::{InEntry, InMember, SectionKind};
 use crate::shortcuts::Shortcut;

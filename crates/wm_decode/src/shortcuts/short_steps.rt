@@ -7,6 +7,7 @@ ghost use Rattle.wm_decode.specs.exact.ShortSteps.{StepsTo, standing};
 
 use crate::machine::member::{InEntry, InMember, SectionKind};
 use crate::machine::{Machine, Plain};
+use crate::shortcuts::in_section::InSection;
 use crate::step::entries::runs_or_body;
 use crate::step::types::after_param;
 use crate::step::values::{InRun, value_type};
@@ -40,24 +41,17 @@ impl Place {
         ensures machine { IfSome result (λ p. machine ≡ standing p) }
         ensures more { IfSome result (λ p. 0 < p.more) }
     {
-        let Machine::Section {
-            of,
-            functions,
-            more,
-            left,
-            at,
-        } = machine
-        else {
+        let Some((of, at, section)) = InSection::of(machine) else {
             return None;
         };
-        if more == 0 {
+        if section.more == 0 {
             return None;
         }
         Some(Place {
             of,
-            functions,
-            more,
-            left,
+            functions: section.functions,
+            more: section.more,
+            left: section.left,
             at,
         })
     }

@@ -6,8 +6,8 @@ ghost use Rattle.wm_decode.specs.exact.Shortcuts.{Advances};
 ghost use Rattle.wm_decode.specs.exact.Indices.{LiesIn, before_index, followed_indices};
 ghost use Rattle.wm_decode.specs.exact.WholeOps.{LiesAt};
 
-use crate::decoder::names::give_index;
-use crate::machine::{Machine, refusal_of};
+use crate::decoder::give::give_index;
+use crate::machine::Machine;
 use crate::shortcuts::Shortcut;
 use crate::shortcuts::indices::InIndices;
 use crate::shortcuts::whole_numbers::{Whole, u32_at};
@@ -59,13 +59,8 @@ fn last_index<S: Sink>(
     };
     let used = index.next;
     *machine = before.ended((used - 1) as u32);
-    if let Err(why) = give_index(sink, before.list, index.value) {
-        return Shortcut::out(used, why);
-    }
-    Shortcut {
-        used,
-        refused: refusal_of(*machine),
-    }
+    let given = give_index(sink, before.list, index.value);
+    Shortcut::ended(used, given, *machine)
 }
 
 /// Takes indices that lie in these bytes: the last of a list, or those after which another comes, until many

@@ -22,7 +22,7 @@ returns g c =
           advances_later g.S.Sink.after g.S.Sink.may_run_out c.args.profile bytes c.args.machine.now x.new.machine c.match-way_of.machine c.short.new.machine (held c.args.sink.now) (held x.new.sink) (held c.match-way_of.sink) (held c.short.new.sink) x.result c.short.result
           x.ensures w.if-taken-gt0-3.false w.machine-is (ap held w.sink-is) c.short.ensures)
       | in-Ops+else-bytes-eq1+else-taken-gt0-4 w ↦ (
-          let x = w.body-taken in
+          let x = w.take-taken in
           advances_later g.S.Sink.after g.S.Sink.may_run_out c.args.profile bytes c.args.machine.now x.new.machine c.match-way_of.machine c.short.new.machine (held c.args.sink.now) (held x.new.sink) (held c.match-way_of.sink) (held c.short.new.sink) x.result c.short.result
           x.ensures w.if-taken-gt0-4.false w.machine-is (ap held w.sink-is) c.short.ensures)
       | in-Short w ↦ (

@@ -1,8 +1,9 @@
 use Rattle.std.proofs.Common.{◌+◌, ◌-◌, ◌≤◌, ◌<◌, ap, arith, length, sym, refl, ◌∙◌}
 use Rattle.std.specs.Result.{result_err}
 use Rattle.wm_decode.specs.exact.Live.{refusal_in_machine}
-use Rattle.wm_decode.specs.exact.Segments.{before_segment, section_of}
+use Rattle.wm_decode.specs.exact.Segments.{section_of}
 use Rattle.wm_decode.specs.exact.Steps.{machine_in_member}
+use Rattle.wm_decode.specs.exact.WholeMembers.{before_member}
 use Rattle.wm_decode.proofs.Advances.{advances_by, advances_out}
 use Rattle.wm_decode.proofs.SegmentHeads.{head_closed, head_indexed, head_offset, head_taken}
 use Rattle.wm_decode.proofs.shortcuts.segments.segment_head.Goals as goal
@@ -17,7 +18,7 @@ returns-in-Err g c =
     let third : x.head.offset.stop + 1 < x.head.next = x.ensures.size.some in
     let out = c.out in
     advances_by g.S.Sink.after g.S.Sink.may_run_out c.args.profile _ _ _ _ _ _ _ _ c.in-Some.ensures refl
-    (advances_out g.S.Sink.after g.S.Sink.may_run_out c.args.profile c.args.bytes.now (before_segment b.of b.place) _ c.args.machine.now (held c.args.sink.now) (held c.give.new.sink) (held c.give.new.sink) out.result c.in-Err.why out.ensures.refused (omega arith)
+    (advances_out g.S.Sink.after g.S.Sink.may_run_out c.args.profile c.args.bytes.now (before_member (section_of b.of) b.place) _ c.args.machine.now (held c.args.sink.now) (held c.give.new.sink) (held c.give.new.sink) out.result c.in-Err.why out.ensures.refused (omega arith)
     (head_indexed g.S.Sink.after g.S.Sink.may_run_out c.args.profile c.args.bytes.now b.of b.place (held c.args.sink.now) x.head.index x.head.middle x.ensures.index (held c.give.new.sink) out.result c.give.result (omega arith) out.ensures.used
     (out.ensures.refused ∙ sym (ap result_err c.in-Err.is)) (rw (← c.item.ensures) c.give.ensures.given) (rw (← c.item.ensures) c.give.ensures.room)))
 
@@ -30,7 +31,7 @@ returns-in-Err-give g c =
     let third : x.head.offset.stop + 1 < x.head.next = x.ensures.size.some in
     let out = c.out-in-Err-give in
     advances_by g.S.Sink.after g.S.Sink.may_run_out c.args.profile _ _ _ _ _ _ _ _ c.in-Some.ensures refl
-    (advances_out g.S.Sink.after g.S.Sink.may_run_out c.args.profile c.args.bytes.now (before_segment b.of b.place) _ c.args.machine.now (held c.args.sink.now) (held c.give-2.new.sink) (held c.give-2.new.sink) out.result c.in-Err-give.why out.ensures.refused (omega arith)
+    (advances_out g.S.Sink.after g.S.Sink.may_run_out c.args.profile c.args.bytes.now (before_member (section_of b.of) b.place) _ c.args.machine.now (held c.args.sink.now) (held c.give-2.new.sink) (held c.give-2.new.sink) out.result c.in-Err-give.why out.ensures.refused (omega arith)
     (head_offset g.S.Sink.after g.S.Sink.may_run_out c.args.profile c.args.bytes.now b.of b.place (held c.args.sink.now) x.head.index x.head.middle x.ensures.index (held c.give.new.sink) (rw (← c.item.ensures) c.in_default-give.ensures.given) x.head.offset.stop x.head.offset.op x.ensures.op (omega arith)
     (held c.give-2.new.sink) out.result c.give-2.result out.ensures.used (out.ensures.refused ∙ sym (ap result_err c.in-Err-give.is)) c.give-2.ensures.given c.give-2.ensures.room))
 
@@ -43,7 +44,7 @@ returns-in-Err-give-2 g c =
     let all : x.head.next ≤ length c.args.bytes.now = x.ensures.size.within in
     let out = c.out-in-Err-give-2 in
     advances_by g.S.Sink.after g.S.Sink.may_run_out c.args.profile _ _ _ _ _ _ _ _ c.in-Some.ensures refl
-    (advances_out g.S.Sink.after g.S.Sink.may_run_out c.args.profile c.args.bytes.now (before_segment b.of b.place) _ c.args.machine.now (held c.args.sink.now) (held c.give-3.new.sink) (held c.give-3.new.sink) out.result c.in-Err-give-2.why out.ensures.refused (omega arith)
+    (advances_out g.S.Sink.after g.S.Sink.may_run_out c.args.profile c.args.bytes.now (before_member (section_of b.of) b.place) _ c.args.machine.now (held c.args.sink.now) (held c.give-3.new.sink) (held c.give-3.new.sink) out.result c.in-Err-give-2.why out.ensures.refused (omega arith)
     (head_closed g.S.Sink.after g.S.Sink.may_run_out c.args.profile c.args.bytes.now b.of b.place (held c.args.sink.now) x.head.index x.head.middle x.ensures.index (held c.give.new.sink) (rw (← c.item.ensures) c.in_default-give.ensures.given) x.head.offset.stop x.head.offset.op x.ensures.op (omega arith)
     (held c.give-2.new.sink) c.in_default-give-2.ensures.given x.ensures.end (omega arith) (omega arith)
     (held c.give-3.new.sink) out.result c.give-3.result out.ensures.used (out.ensures.refused ∙ sym (ap result_err c.in-Err-give-2.is)) c.give-3.ensures.given c.give-3.ensures.room))
