@@ -125,8 +125,9 @@ typedef struct wmod_answer {
  * limit at most WMOD_LIMIT_MOST: else WMOD_MISUSE.
  *
  * Proved: WMOD_VALID is answered for valid modules of the profile within the limit alone, WMOD_REFUSED for none of
- * these; and with either of the two the bytes alone say which refusal, which place and which figures it is. Tested, and
- * not proved: WMOD_MEMORY is answered for want of memory alone. */
+ * these; and with either of the two the bytes alone say which refusal, which place and which figures it is. What
+ * docs/REFUSALS.md says of the name of a refusal is so. WMOD_MISUSE comes exactly where the profile or the limit is out of
+ * range. Tested, and not proved: WMOD_MEMORY is answered for want of memory alone. */
 uint32_t wmod_validate(const uint8_t *bytes, size_t length, uint32_t profile, uint64_t limit, wmod_answer *answer);
 
 /* What a host asks for. Begin with the defaults, so that a later field has its default too:
@@ -179,10 +180,10 @@ typedef struct wmod_output {
  * Proved: what is written is the canonical binary or the text of the module that the input spells or writes, which is
  * valid, of the profile and within the limits. A refusal of wmod_canon and wmod_show is the one that wmod_validate_with
  * gives, where memory is refused to neither. One of wmod_build comes only where the above says so; one of the module is
- * that of its canonical binary, whose length no option bounds. Of a text within the limit, where the options are in range
- * and memory was not refused, WMOD_TEXT_NOT_UTF8 comes exactly where the text is not UTF-8, and the next four exactly
- * where its tokens have a fault, each at its place. Which other WMOD_TEXT_.. it is, and at which place, is tested; of
- * WMOD_TEXT_TOO_MANY_LOCALS it is by reading. */
+ * that of its canonical binary, whose length no option bounds. What docs/REFUSALS.md says of the name of a module's refusal
+ * is so. Of a text within the limit, where the options are in range and memory was not refused, WMOD_TEXT_NOT_UTF8 comes
+ * exactly where the text is not UTF-8, and the next four exactly where its tokens have a fault, each at its place. Which
+ * other WMOD_TEXT_.. it is, and at which place, is tested; of WMOD_TEXT_TOO_MANY_LOCALS it is by reading. */
 uint32_t wmod_canon(const uint8_t *bytes, size_t length, const wmod_options *options, uint8_t *out, size_t room,
                     wmod_output *output);
 uint32_t wmod_show(const uint8_t *bytes, size_t length, const wmod_options *options, uint8_t *out, size_t room,
@@ -217,8 +218,8 @@ typedef struct wmod_validator {
 } wmod_validator;
 #define WMOD_VALIDATOR_EMPTY {0}
 
-/* Begins an input; a handle that is in use is begun anew. WMOD_VALID: it takes pieces. WMOD_MISUSE: nothing changed.
- * WMOD_MEMORY: the handle is empty. */
+/* Begins an input; a handle that is in use is begun anew. WMOD_VALID: it takes pieces. WMOD_MISUSE, exactly where the
+ * profile or the limit is out of range: nothing changed. WMOD_MEMORY: the handle is empty. */
 uint32_t wmod_begin(wmod_validator *v, uint32_t profile, uint64_t limit);
 
 /* The same as the options ask. */

@@ -6,6 +6,7 @@ use Rattle.wm_decode.specs.declared.refusal.Refusal.{Refusal}
 use Rattle.wm_rules.specs.declared.checker.Summary.{Summary}
 use Rattle.wm_rules.specs.declared.policy.Policy.{Policy}
 use Rattle.wm_rules.specs.Bounds.{SummaryOf}
+use Rattle.wm_rules.specs.Meanings.{Meaning}
 use Rattle.wm_rules.specs.Validation.{Accepted}
 use Rattle.wm_rules.specs.inner.Validators.{verdict}
 use Rattle.wm_c.specs.declared.answer.Answer.{Answer}
@@ -47,12 +48,14 @@ misuse = record {
   probes = 0;
 }
 
--- What a validator may answer to a whole input. Memory aside the bytes alone tell it.
+-- What a validator may answer to a whole input. Memory aside the bytes alone tell it, and what the name of a
+-- refusal says of them is so.
 abbrev pub IsRight : Profile → ℕ → Policy → List ℕ → Result Summary Refusal → Type 0
 IsRight p limit q input (Ok s) =
     Accepted p limit q input × SummaryOf p limit q input s × (verdict p limit q input ≡ Ok s)
 IsRight p limit q input (Err r) =
-    (r.why ≢ Memory → (Accepted p limit q input → ⊥) × (verdict p limit q input ≡ Err r))
+    (r.why ≢ Memory → (Accepted p limit q input → ⊥) × (verdict p limit q input ≡ Err r)
+    × Meaning p limit q input r)
     × (r.at ≤ length input)
 
 -- the answer, in numbers, is one that a validator may give
