@@ -110,7 +110,7 @@ IsUnchecked p q m check.TooLarge = Fits m → ⊥
 IsUnchecked p q m check.Memory = Unit {0}
 
 -- Why a text has no binary, memory aside. One above the limit is refused for that alone, and what is told of
--- another says of its bytes and tokens what TellsText says.
+-- another says of its bytes, its tokens and its end what TellsText says.
 abbrev pub IsUnbuilt : Spellings → List ℕ → Profile → ℕ → Policy → Unbuilt → Type 0
 IsUnbuilt s input p limit q (TooLong at) = (limit < length input) × (at ≡ limit + 1)
 IsUnbuilt s input p limit q (Text r) = (length input ≤ limit)

@@ -33,7 +33,7 @@ ModuleOut p q m written status =
     ⊎ ((Fits m → ⊥) × (written ≡ too_large_line) × (status ≡ Refused))
 
 -- Of a text: what becomes of the module that it writes, or a refusal at a place within
--- it where it writes none, which says of its bytes and tokens what TellsText says.
+-- it where it writes none, which says of its bytes, its tokens and its end what TellsText says.
 abbrev pub TextOut : Profile → Policy → Spellings → List ℕ → List ℕ → Status → Type 0
 TextOut p q s text written status =
     ((m : Module) × IsTextOf p s m text × ModuleOut p q m written status)

@@ -10,6 +10,7 @@ pub mod StringFaults
 pub mod Places
 pub mod Checks
 pub mod Readers
+pub mod Ends
 pub mod Indices
 pub mod Floats
 pub mod Immediates
@@ -38,6 +39,7 @@ pub mod ModuleFields
 pub mod NamedUses
 pub mod SignatureLaws
 pub mod HeadSteps
+pub mod Tails
 pub mod WrittenForms
 pub mod Balanced
 pub mod Rules

@@ -87,6 +87,9 @@ some_tokens p names f k (x, (a, b, e, w, m)) = subst (λ (z : List Token). 0 < l
 field_any : (p : Profile) (names : Names) → Sound (field_at p names) (IsField p names)
 field_any p names = field_front p names AnyFunction (function_front p names)
 
+pub field_behind : (p : Profile) (names : Names) (f : Field) (j k : List Token) → field_at p names j ≡ Some (f, k) → (front : List Token) × (j ≡ front ++ k)
+field_behind p names f j k e = let one = field_any p names j f k e in (one.0, one.1)
+
 -- ---- the loop of the code
 
 abbrev pub with_fields : Module → List Field → Module

@@ -5,7 +5,7 @@ use Rattle.std.specs.Str.{IsValidUpTo}
 use Rattle.std.proofs.lemmas.Bool.{cond_both, eqb-true}
 use Rattle.std.proofs.lemmas.List.{append-nil}
 use Rattle.wm_read.specs.Tokens.{Token, open_paren, close_paren, string, atom, LineComment, LastSpace, CommentRest, Tokens}
-use Rattle.wm_read.specs.TokenFaults.{IsAmong, LeadsTo, BeginsNothing, EndsInComment, EndsInString, HasNoEscape, BeginsFault, IsPlace, FirstFault, IsOfTokens, TellsFault}
+use Rattle.wm_read.specs.TokenFaults.{IsAmong, LeadsTo, BeginsNothing, EndsInComment, EndsInString, HasNoEscape, BeginsFault, IsPlace, FirstFault, IsOfTokens, IsOfEnd, TellsFault}
 use Rattle.wm_read.specs.TokenFaults as lead
 use Rattle.wm_read.specs.declared.faults.TextRefusal.{TextRefusal}
 use Rattle.wm_read.specs.declared.faults.TextWhy.{TextWhy}
@@ -286,6 +286,13 @@ begins_stuck floats w b h = by (named floats w b h)
             let whole : b ≡ c ∷ part = is ∙ ap (λ (z : List ℕ). c ∷ part ++ z) end ∙ append-nil (c ∷ part) in
             space (inr ([], b, refl, ([], refl), subst LineComment (sym whole) line))
 
+pub nothing_begins : (floats : Bool) (w : TextWhy) (b : List ℕ) → BeginsFault floats w b → BeginsNothing floats b
+nothing_begins floats w b h = by (named floats w b h)
+  where
+    by : Named floats w b → BeginsNothing floats b
+    by (inl (three, (e, is))) = begins_nothing floats b e
+    by (inr (is, none, nothing)) = nothing
+
 -- the place goes by the rest
 place_same : (w : TextWhy) (text rest : List ℕ) (x y : ℕ) → IsPlace w text rest x → IsPlace w text rest y → x ≡ y
 place_same OpenComment text rest x y p q = p ∙ sym q
@@ -423,6 +430,27 @@ no_float_told text why at (rest, steps, end) tells w n = (
 
 plain_skip : (text b r : List ℕ) → blank r ≡ ahead b → Steps false text b → Steps false text r
 plain_skip text b r e h = over_blank h e
+
+-- ---- at the end of the text
+
+none_left : (b : List ℕ) → length b ≡ 0 → b ≡ []
+none_left [] e = refl
+none_left (c ∷ b) e = absurd (omega (arith, e))
+
+pub fault_end : (floats : Bool) (text : List ℕ) (w : TextWhy) (n : ℕ) → FirstFault floats text w n → n ≡ length text → IsOfEnd w
+fault_end floats text w n g end = by w g.fault g.place
+  where
+    by : (w : TextWhy) → BeginsFault floats w g.rest → IsPlace w text g.rest n → IsOfEnd w
+    by OpenComment h place = tt
+    by OpenString h place = tt
+    by BadToken h place = absurd ((subst (BeginsNothing floats) (none_left g.rest (omega (arith, place, end))) h.0).0 (inl ([], refl)))
+    by BadEscape (q, r, cut, quote, h) place =
+        absurd (let f : [] ≡ 34 ∷ r = sym (none_left g.rest (omega (arith, place, end))) ∙ cut ∙ ap (λ (z : List ℕ). z ++ r) quote in cc)
+    by _ h place = absurd h
+
+pub float_end : (text : List ℕ) (at : ℕ) → IsFloat text at → at ≢ length text
+float_end text at (rest, more, a, steps, is, alone, place) end =
+    let f : first (atom a) more ≡ no_more = is ∙ ap ahead (none_left rest (omega (arith, place, end))) ∙ ahead_nil in cc
 
 -- ---- as the code finds it
 

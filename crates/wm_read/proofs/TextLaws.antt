@@ -1,9 +1,11 @@
 -- A text is read exactly where its tokens, in these spellings, write a module.
-use Rattle.std.proofs.Common.{◌≡◌, ◌≢◌, ℕ, List, Option, Some, None, map, refl, sym, ap, ◌∙◌}
+use Rattle.std.proofs.Common.{◌≡◌, ◌≢◌, ℕ, ◌<◌, true, false, List, [], ◌∷◌, length, Option, Some, None, map, refl, sym, ap, subst, ◌∙◌, arith}
+use Rattle.std.specs.Prelude.{IsTrue}
 use Rattle.wm_syntax.specs.declared.profile.Profile.{Profile}
 use Rattle.wm_syntax.specs.Modules.{Module}
 use Rattle.wm_read.specs.Fields.{Writes}
 use Rattle.wm_read.specs.Spellings.{replaced}
+use Rattle.wm_read.specs.TokenFaults.{IsOfEnd}
 use Rattle.wm_read.specs.Tokens.{Token, Tokens}
 use Rattle.wm_read.specs.declared.faults.TextWhy.{TextWhy}
 use Rattle.wm_read.specs.declared.faults.TextWhy.TheVariants as why
@@ -11,8 +13,10 @@ use Rattle.wm_read.specs.declared.spellings.Spellings.{Spellings}
 use Rattle.wm_read.specs.declared.spellings.Spellings.TheVariants as spelling
 use Rattle.wm_read.specs.exact.Scan.{lexed}
 use Rattle.wm_read.specs.exact.TextModules.{module_at}
+use Rattle.wm_read.specs.inner.Ends.{can_end}
 use Rattle.wm_read.specs.inner.Renewed.{Renewed}
 use Rattle.wm_read.specs.inner.Views.{Fails}
+use Rattle.wm_read.proofs.Ends.{nothing_left}
 use Rattle.wm_read.proofs.ModuleLaws.{found, more}
 use Rattle.wm_read.proofs.OlderWords.{standard_stays}
 use Rattle.wm_read.proofs.Whole.{one_list}
@@ -39,7 +43,21 @@ refused p s text w v t h e n k m u writes =
     in
     let f : ◌≡◌ {A = Option Module} None (Some m) = sym none ∙ some in cc
 
-pub ruleset text_laws = (given, refused)
+-- ---- at the end of the text
+
+end_named : (w : TextWhy) → IsTrue (can_end w) → IsOfEnd w
+end_named why.Expected h = tt
+end_named why.OpenComment h = tt
+end_named why.OpenString h = tt
+end_named why.Memory h = tt
+end_named _ h = absurd (let f : false ≡ true = h in cc)
+
+pub end_told : (text : List ℕ) (at : ℕ) (v w : TextWhy) → (0 < length text → at ≡ length text → IsTrue (can_end v)) → (length text ≡ 0 → IsTrue (can_end v)) → w ≡ v
+    → at ≡ length text → IsOfEnd w
+end_told [] at v w some none e is = end_named w (subst (λ (z : TextWhy). IsTrue (can_end z)) (sym e) (none refl))
+end_told (c ∷ text) at v w some none e is = end_named w (subst (λ (z : TextWhy). IsTrue (can_end z)) (sym e) (some (omega arith) is))
+
+pub ruleset text_laws = (given, refused, end_told)
 
 -- as the code reads a text: itself, or its copy
 pub read_itself : (p : Profile) (text : List ℕ) → module_at p (lexed text) ≡ module_at p (map (replaced spelling.Standard) (lexed text))
@@ -48,4 +66,13 @@ read_itself p text = ap (module_at p) (sym (standard_stays (lexed text)))
 pub read_copy : (p : Profile) (text copy : List ℕ) → Renewed text copy → module_at p (lexed copy) ≡ module_at p (map (replaced spelling.Older) (lexed text))
 read_copy p text copy h = ap (module_at p) h.tokens
 
-pub ruleset spelled_laws = (read_itself, read_copy)
+pub copy_empty : (text copy : List ℕ) → Renewed text copy → length text ≡ 0 → lexed copy ≡ []
+copy_empty text copy h e = nothing_left copy (h.size ∙ e)
+
+pub end_expected : (w : TextWhy) → w ≡ why.Expected → IsTrue (can_end w)
+end_expected w e = subst (λ (z : TextWhy). IsTrue (can_end z)) (sym e) refl
+
+pub end_memory : (w : TextWhy) → w ≡ why.Memory → IsTrue (can_end w)
+end_memory w e = subst (λ (z : TextWhy). IsTrue (can_end z)) (sym e) refl
+
+pub ruleset spelled_laws = (read_itself, read_copy, copy_empty, nothing_left, end_expected, end_memory)

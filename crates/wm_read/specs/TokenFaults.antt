@@ -12,7 +12,7 @@ use Rattle.wm_read.specs.Tokens.{Token, atom, CommentRest, Blank, LastSpace, IsI
 use Rattle.wm_read.specs.Tokens.{Element, IsDigit, Digits, TokenText, Ends}
 use Rattle.wm_read.specs.declared.faults.TextWhy.{TextWhy}
 use Rattle.wm_read.specs.declared.faults.TextWhy.TheVariants.{NotUtf8, BadToken, OpenComment, OpenString}
-use Rattle.wm_read.specs.declared.faults.TextWhy.TheVariants.{BadEscape, Memory}
+use Rattle.wm_read.specs.declared.faults.TextWhy.TheVariants.{BadEscape, Expected, Memory}
 
 -- this token is one, with floats or without
 abbrev pub IsAmong : Bool → Token → Type 0
@@ -99,9 +99,19 @@ abbrev pub TellsFault : Bool → List ℕ → TextWhy → ℕ → Type 0
 TellsFault floats text why at =
     (w : TextWhy) (n : ℕ) → FirstFault floats text w n ↔ (IsOfTokens w × (why ≡ w) × (at ≡ n))
 
--- What the refusal of a text says of its bytes, and, unless memory was refused, of its tokens under a
--- profile. It is NotUtf8 exactly where the bytes are no UTF-8; the place is then the length of their longest
--- front that is.
+-- a name that a refusal at a text's end may have: another token is needed there, a comment or a string does
+-- not end, or memory was refused
+abbrev pub IsOfEnd : TextWhy → Type 0
+IsOfEnd Expected = Unit {0}
+IsOfEnd OpenComment = Unit {0}
+IsOfEnd OpenString = Unit {0}
+IsOfEnd Memory = Unit {0}
+IsOfEnd _ = ⊥
+
+-- What the refusal of a text says of its bytes, of its end, and, unless memory was refused, of its tokens
+-- under a profile. It is NotUtf8 exactly where the bytes are no UTF-8; the place is then the length of their
+-- longest front that is. At the text's end it has one of four names.
 abbrev pub TellsText : Profile → List ℕ → TextWhy → ℕ → Type 0
 TellsText p text why at = ((why ≡ NotUtf8) ↔ (IsUtf8 text → ⊥))
     × (why ≡ NotUtf8 → IsValidUpTo text at) × (why ≢ Memory → TellsFault (has p Floats) text why at)
+    × (at ≡ length text → IsOfEnd why)

@@ -3,6 +3,7 @@
 pub mod Blocks
 pub mod Bodies
 pub mod CodePieces
+pub mod Ends
 pub mod Fields
 pub mod Heads
 pub mod Ids
@@ -14,3 +15,4 @@ pub mod Views
 pub mod Printed
 pub mod Renewed
 pub mod Stretches
+pub mod Tails

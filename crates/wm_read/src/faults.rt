@@ -1,8 +1,9 @@
 //! Where and why a text is refused.
 
-ghost use Rattle.std.specs.Prelude.{◌≡◌, ◌+◌, ◌≤◌, length};
+ghost use Rattle.std.specs.Prelude.{◌≡◌, ◌+◌, ◌≤◌, ◌<◌, IsTrue, length};
 ghost use Rattle.wm_read.specs.Faults.{name_of};
 ghost use Rattle.wm_read.specs.declared.faults.TextWhy.TheVariants.{Memory};
+ghost use Rattle.wm_read.specs.inner.Ends.{can_end};
 
 use std::alloc::{AllocError, AllocFailed};
 use std::error::Error;
@@ -143,6 +144,8 @@ impl Error for TextRefusal {}
 pub struct TextFault {
     pub why: TextWhy,
     pub left: usize,
+    /// Where nothing is left another token is needed, or memory was refused.
+    ghost ended: { left ≡ 0 → IsTrue (can_end why) },
 }
 
 impl TextFault {
@@ -157,6 +160,7 @@ impl TextFault {
         ensures why { result.why ≡ self.why }
         ensures at { result.at ≤ length text.now }
         ensures left { self.left ≤ length text.now → result.at + self.left ≡ length text.now }
+        ensures end { 0 < length text.now → result.at ≡ length text.now → IsTrue (can_end self.why) }
     {
         TextRefusal {
             at: text.len().saturating_sub(self.left),

@@ -6,6 +6,7 @@ ghost use Rattle.wm_read.specs.exact.Reading as reading;
 ghost use Rattle.wm_read.specs.exact.Scan.{lexed};
 ghost use Rattle.wm_read.specs.inner.Blocks.{names_of};
 ghost use Rattle.wm_read.specs.inner.Fields.{field_of};
+ghost use Rattle.wm_read.specs.inner.Tails.{IsTail};
 ghost use Rattle.wm_read.specs.inner.Views.{Reads};
 
 use crate::code::functions::function;
@@ -159,6 +160,7 @@ fn segment<'a>(
 }
 
 /// What stands between a field's word and its closing parenthesis.
+#[tactic(auto, using(crate::proofs::Tails::tail_id))]
 fn inside<'a>(
     alloc: Global,
     profile: Profile,
@@ -166,6 +168,7 @@ fn inside<'a>(
     kind: FieldKind,
     text: &'a [u8],
 ) -> Result<(Field<'a>, &'a [u8]), TextFault>
+    requires { IsTail (lexed text.now) }
     ensures { Reads (λ x. (field_of x.0, lexed x.1.now)) result
         (fields.inside_at profile (names_of names.now) kind (lexed text.now)) }
 {
@@ -213,13 +216,14 @@ fn field_end(profile: Profile, kind: FieldKind, text: &[u8]) -> Result<&[u8], Te
 }
 
 /// A field.
-#[tactic(auto, unfolding(crate::specs::exact::Fields::field_at))]
+#[tactic(auto, using(crate::proofs::Tails::tail_laws), unfolding(crate::specs::exact::Fields::field_at))]
 pub fn read_field<'a>(
     alloc: Global,
     profile: Profile,
     names: &Names<'a>,
     text: &'a [u8],
 ) -> Result<(Field<'a>, &'a [u8]), TextFault>
+    requires { IsTail (lexed text.now) }
     ensures { Reads (λ x. (field_of x.0, lexed x.1.now)) result
         (fields.field_at profile (names_of names.now) (lexed text.now)) }
 {

@@ -1,15 +1,18 @@
 //! Whole texts (section 6.6.13).
 
-ghost use Rattle.std.specs.Prelude.{◌≡◌, ◌≢◌, ◌≤◌, ◌↔◌, IfErr, IfOk, IsUtf8, List, length, map, true};
+ghost use Rattle.std.specs.Prelude.{◌≡◌, ◌≢◌, ◌<◌, ◌≤◌, ◌↔◌, [], IfErr, IfOk, IsTrue, IsUtf8, List};
+ghost use Rattle.std.specs.Prelude.{length, map, true};
 ghost use Rattle.std.specs.Str.{IsValidUpTo};
 ghost use Rattle.wm_read.specs.Fields.{Writes};
 ghost use Rattle.wm_read.specs.Spellings.{replaced};
-ghost use Rattle.wm_read.specs.TokenFaults.{TellsFault};
+ghost use Rattle.wm_read.specs.TokenFaults.{IsOfEnd, TellsFault};
 ghost use Rattle.wm_read.specs.Tokens.{Token, Tokens};
-ghost use Rattle.wm_read.specs.declared.faults.TextWhy.TheVariants.{Memory, NotUtf8};
+ghost use Rattle.wm_read.specs.declared.faults.TextWhy.TheVariants.{Expected, Memory, NotUtf8};
 ghost use Rattle.wm_read.specs.exact.Scan.{lexed};
 ghost use Rattle.wm_read.specs.exact.TextModules as modules;
 ghost use Rattle.wm_read.specs.inner.Blocks.{names_of};
+ghost use Rattle.wm_read.specs.inner.Ends.{can_end};
+ghost use Rattle.wm_read.specs.inner.Tails.{IsTail};
 ghost use Rattle.wm_read.specs.inner.Views.{Reads};
 ghost use Rattle.wm_syntax.specs.Modules as values;
 ghost use Rattle.wm_syntax.specs.Profiles.{has};
@@ -29,8 +32,10 @@ use wm_syntax::modules::Module;
 use wm_syntax::profile::{Feature, Profile};
 
 /// `( module id?`; the identifier means nothing.
+#[tactic(auto, using(crate::proofs::Ends::open_stands))]
 fn frame(text: &[u8]) -> Result<&[u8], TextFault>
-    ensures { Reads (λ r. lexed r.now) result (modules.frame_at (lexed text.now)) }
+    ensures read { Reads (λ r. lexed r.now) result (modules.frame_at (lexed text.now)) }
+    ensures nothing { lexed text.now ≡ [] → IfErr result (λ e. e.why ≡ Expected) }
 {
     let rest = open(text)?;
     let rest = word(b"module", rest)?;
@@ -65,6 +70,7 @@ fn module_within<'a>(
     names: &Names<'a>,
     text: &'a [u8],
 ) -> Result<Module, TextFault>
+    requires { IsTail (lexed text.now) }
     ensures { Reads value_of result (modules.module_within profile (names_of names.now) (lexed text.now)) }
 {
     let (module, rest) = read_fields(alloc, profile, names, text)?;
@@ -74,9 +80,10 @@ fn module_within<'a>(
 
 /// The module that the tokens of a whole text write: first what its fields define is
 /// read, and then the fields.
-#[tactic(auto, unfolding(crate::specs::exact::TextModules::module_at))]
+#[tactic(auto, using(crate::proofs::Ends::frame_stands), unfolding(crate::specs::exact::TextModules::module_at))]
 fn read_module(alloc: Global, profile: Profile, text: &[u8]) -> Result<Module, TextFault>
-    ensures { Reads value_of result (modules.module_at profile (lexed text.now)) }
+    ensures read { Reads value_of result (modules.module_at profile (lexed text.now)) }
+    ensures nothing { lexed text.now ≡ [] → IfErr result (λ e. e.why ≡ Expected) }
 {
     let inner = frame(text)?;
     let names = all_names(alloc, profile, inner)?;
@@ -91,7 +98,9 @@ fn read_spelled(
     spellings: Spellings,
     text: &[u8],
 ) -> Result<Module, TextFault>
-    ensures { Reads value_of result (modules.module_at profile (map (replaced spellings) (lexed text.now))) }
+    ensures read { Reads value_of result
+        (modules.module_at profile (map (replaced spellings) (lexed text.now))) }
+    ensures empty { length text.now ≡ 0 → IfErr result (λ e. IsTrue (can_end e.why)) }
 {
     match spellings {
         Spellings::Standard => read_module(alloc, profile, text),
@@ -106,7 +115,8 @@ fn read_spelled(
 /// module of its tokens with each older word replaced. Places are those of the text as it is.
 ///
 /// A text that is no UTF-8 is refused first, then the first fault of its tokens, then the first of what its
-/// fields define, and then the first of its fields.
+/// fields define, and then the first of its fields. A refusal at the text's end is `Expected`, but for a
+/// comment or a string that does not end, and for memory.
 pub fn read_text(
     alloc: Global,
     profile: Profile,
@@ -118,6 +128,7 @@ pub fn read_text(
     ensures refused { IfErr result (λ e. e.why ≢ Memory → (k : List Token) (m : values.Module)
         → Tokens text.now k → Writes profile (map (replaced spellings) k) m → ⊥) }
     ensures at { IfErr result (λ e. e.at ≤ length text.now) }
+    ensures end { IfErr result (λ e. e.at ≡ length text.now → IsOfEnd e.why) }
     ensures utf8 { IfErr result (λ e. (e.why ≡ NotUtf8) ↔ (¬ (IsUtf8 text.now))) }
     ensures utf8_at { IfErr result (λ e. e.why ≡ NotUtf8 → IsValidUpTo text.now e.at) }
     ensures fault { IfErr result (λ e. e.why ≢ Memory
@@ -146,6 +157,7 @@ fn read_tokens(
     ensures refused { IfErr result (λ e. e.why ≢ Memory → (k : List Token) (m : values.Module)
         → Tokens text.now k → Writes profile (map (replaced spellings) k) m → ⊥) }
     ensures at { IfErr result (λ e. e.at ≤ length text.now) }
+    ensures end { IfErr result (λ e. e.at ≡ length text.now → IsOfEnd e.why) }
     ensures fault { IfErr result (λ e. e.why ≢ Memory
         → TellsFault (has profile Floats) text.now e.why e.at) }
     ensures utf8 { IfErr result (λ e. e.why ≢ NotUtf8) }
@@ -160,9 +172,11 @@ fn read_tokens(
 /// is no token, so the first one is told before all else.
 fn told_first(profile: Profile, text: &[u8], refusal: TextRefusal) -> TextRefusal
     requires at { refusal.at ≤ length text.now }
+    requires end { refusal.at ≡ length text.now → IsOfEnd refusal.why }
     requires utf8 { IsUtf8 text.now }
     requires fault { TellsFault true text.now refusal.why refusal.at }
     ensures at { result.at ≤ length text.now }
+    ensures end { result.at ≡ length text.now → IsOfEnd result.why }
     ensures memory { refusal.why ≡ Memory → result.why ≡ Memory }
     ensures utf8 { refusal.why ≢ NotUtf8 → result.why ≢ NotUtf8 }
     ensures fault { result.why ≢ Memory → TellsFault (has profile Floats) text.now result.why result.at }

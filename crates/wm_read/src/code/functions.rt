@@ -1,6 +1,6 @@
 //! Functions (section 6.6.5).
 
-ghost use Rattle.std.specs.Prelude.{◌≡◌, ◌++◌, ◌<◌, ◌≤◌, ◌⊎◌, ◌^◌, [], IfErr, IfOk, IfSome, MatchOption};
+ghost use Rattle.std.specs.Prelude.{◌≡◌, ◌≢◌, ◌++◌, ◌<◌, ◌≤◌, ◌⊎◌, ◌^◌, [], IfErr, IfOk, IfSome, MatchOption};
 ghost use Rattle.std.specs.Prelude.{false, length, true};
 ghost use Rattle.wm_read.specs.Written as written;
 ghost use Rattle.wm_read.specs.declared.faults.TextWhy.TheVariants.{Memory, RepeatedId, TooManyLocals};
@@ -9,6 +9,7 @@ ghost use Rattle.wm_read.specs.exact.Scan.{lexed};
 ghost use Rattle.wm_read.specs.inner.Blocks.{names_of};
 ghost use Rattle.wm_read.specs.inner.Fields.{head_at};
 ghost use Rattle.wm_read.specs.inner.Named.{named_list, named_of, params_of};
+ghost use Rattle.wm_read.specs.inner.Tails.{IsTail};
 ghost use Rattle.wm_read.specs.inner.Views.{IsOfReaders, NotMemory, Reads};
 
 use crate::code::bodies::read_body;
@@ -107,9 +108,10 @@ fn locals_space<'a>(
     }
 }
 
-/// The types of locals, which stand before this text.
+/// The types of locals, which stand before this text. It has a token.
 #[tactic(auto, using(crate::proofs::FunctionCode::types_laws))]
 fn local_types(alloc: Global, locals: &[NamedRun], text: &[u8]) -> Result<Locals, TextFault>
+    requires { lexed text.now ≢ [] }
     ensures types { IfOk result (λ ts. (ts ≡ written.types_of (named_list locals.now))
         × (length ts < 2 ^ 32)) }
     ensures many { IfErr result (λ e. (e.why ≡ Memory)
@@ -200,13 +202,14 @@ fn first_fault(alloc: Global, names: &Names, fault: TextFault, text: &[u8]) -> T
 }
 
 /// What stands after a function's identifier: its type use, its locals and its body.
-#[tactic(auto, using(crate::proofs::FunctionCode::function_laws))]
+#[tactic(auto, using(crate::proofs::FunctionCode::function_laws, crate::proofs::Tails::head_stands))]
 pub fn function<'a>(
     alloc: Global,
     profile: Profile,
     names: &Names<'a>,
     text: &'a [u8],
 ) -> Result<(Function, &'a [u8]), TextFault>
+    requires { IsTail (lexed text.now) }
     ensures { Reads (λ x. (x.0, lexed x.1.now)) result
         (fields.function_at profile (names_of names.now) (lexed text.now)) }
 {

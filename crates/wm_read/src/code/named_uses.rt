@@ -1,6 +1,6 @@
 //! Type uses of functions and imports (section 6.6.3), whose parameters may have identifiers.
 
-ghost use Rattle.std.specs.Prelude.{◌≡◌, ◌++◌, IfErr, IfOk, OnOk, replicate};
+ghost use Rattle.std.specs.Prelude.{◌≡◌, ◌≤◌, ◌++◌, IfErr, IfOk, OnOk, replicate, length};
 ghost use Rattle.std.specs.Option.{option_map};
 ghost use Rattle.wm_read.specs.Written as written;
 ghost use Rattle.wm_read.specs.exact.NamedUses as uses;
@@ -84,6 +84,7 @@ fn used<'n, 'a>(
 /// The fault of a use whose parameters or results are not its type's, from the text of the use and the text
 /// after it: a wrong form that stands there, or the index. Locals are no wrong form where they may stand.
 fn misfit(locals: bool, text: &[u8], rest: &[u8]) -> TextFault
+    requires { 3 ≤ length (lexed text.now) }
     ensures { IsRefusal result.why }
 {
     if locals && begins_group(b"local", rest) {
@@ -98,7 +99,7 @@ fn misfit(locals: bool, text: &[u8], rest: &[u8]) -> TextFault
 /// `( type idx )`, parameters and results, as many as stand first; `locals` tells whether locals
 /// may follow. Parameters and results that are not those of the type are a fault at the index,
 /// unless a wrong form follows.
-#[tactic(auto, using(crate::proofs::NamedUses::named_laws))]
+#[tactic(auto, using(crate::proofs::NamedUses::named_laws, crate::proofs::Ends::index_stands))]
 pub fn named_use<'n, 'a>(
     alloc: Global,
     profile: Profile,
@@ -125,7 +126,7 @@ pub fn named_use<'n, 'a>(
 
 /// The fault of a call_indirect's type use, which was refused so. Whole forms that are not those of
 /// the type are a fault at the index; else the first identifier of a parameter is one, unless a wrong
-/// token stands before it.
+/// token stands before it. None stands at the text's end, so a fault there stays.
 pub(crate) fn call_fault(
     alloc: Global,
     profile: Profile,
@@ -136,7 +137,7 @@ pub(crate) fn call_fault(
     ensures memory { NotMemory result.why → NotMemory fault.why }
     ensures readers { IsOfReaders fault.why → IsOfReaders result.why }
 {
-    if fault.why == TextWhy::Memory {
+    if fault.why == TextWhy::Memory || fault.left == 0 {
         return fault;
     }
     match with_ids(alloc, profile, names, text) {

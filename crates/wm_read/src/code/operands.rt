@@ -1,11 +1,13 @@
 //! What follows the word of an instruction: operands, from the first token of a text on.
 
-ghost use Rattle.std.specs.Prelude.{◌≡◌, ◌≤◌, ◌<◌, Some, None, codes, Option, nat_lt, if◌then◌else◌, IfOk};
-ghost use Rattle.std.specs.Prelude.{length, true, ℕ};
+ghost use Rattle.std.specs.Prelude.{◌≡◌, ◌≢◌, ◌≤◌, ◌<◌, [], Some, None, codes, Option, nat_lt, if◌then◌else◌};
+ghost use Rattle.std.specs.Prelude.{IfErr, IfOk, IsTrue, length, true, ℕ};
 ghost use Rattle.wm_floats.specs.exact.Atoms as atoms;
+ghost use Rattle.wm_read.specs.declared.faults.TextWhy.TheVariants.{Expected};
 ghost use Rattle.wm_read.specs.exact.Reading as reading;
 ghost use Rattle.wm_read.specs.exact.Scan.{lexed};
 ghost use Rattle.wm_read.specs.exact.TypeUses as uses;
+ghost use Rattle.wm_read.specs.inner.Ends.{can_end};
 ghost use Rattle.wm_read.specs.inner.Ids.{id_of};
 ghost use Rattle.wm_read.specs.inner.Pieces.{labels};
 ghost use Rattle.wm_read.specs.inner.Views.{IsRefusal, Reads};
@@ -26,8 +28,10 @@ use wm_syntax::instructions::MemArg;
 use wm_syntax::profile::{Feature, Profile};
 use wm_syntax::types::ValType;
 
-/// A refusal at the first token of a text.
+/// A refusal at the first token of a text; where there is none, another token is needed there.
+#[tactic(auto, using(crate::proofs::Ends::nothing_left))]
 pub fn refuse(why: TextWhy, text: &[u8]) -> TextFault
+    requires { lexed text.now ≡ [] → IsTrue (can_end why) }
     ensures why { result.why ≡ why }
     ensures left { result.left ≤ length text.now }
 {
@@ -39,6 +43,7 @@ pub fn refuse(why: TextWhy, text: &[u8]) -> TextFault
 
 /// An index or a depth from its number, the first token of a text.
 pub fn number(atom: &[u8], text: &[u8]) -> Result<u32, TextFault>
+    requires { lexed text.now ≢ [] }
     ensures { Reads (λ n. n) result (reading.unsigned_of atom.now) }
 {
     match unsigned(atom) {
@@ -55,6 +60,7 @@ pub fn number(atom: &[u8], text: &[u8]) -> Result<u32, TextFault>
 
 /// An index or a depth from the place of its identifier, the first token of a text.
 fn known(place: Option<usize>, text: &[u8]) -> Result<u32, TextFault>
+    requires { lexed text.now ≢ [] }
     ensures { Reads (λ n. n) result (reading.small_place place) }
 {
     match place {
@@ -143,6 +149,7 @@ pub fn float_64(alloc: Global, text: &[u8]) -> Result<(u64, &[u8]), TextFault>
 
 /// What is wrong with an atom, the first token of a text, where a float is expected.
 fn no_float(atom: &[u8], text: &[u8]) -> TextFault
+    requires { lexed text.now ≢ [] }
     ensures { IsRefusal result.why }
 {
     if is_id(atom) {
@@ -162,6 +169,7 @@ fn is_nan(atom: &[u8]) -> bool {
 
 /// What is wrong with an atom, the first token of a text, where a constant is expected.
 fn no_integer(atom: &[u8], text: &[u8]) -> TextFault
+    requires { lexed text.now ≢ [] }
     ensures { IsRefusal result.why }
 {
     if is_word(atom) || is_id(atom) {
@@ -267,7 +275,8 @@ pub fn again<'a>(id: Option<&[u8]>, text: &'a [u8]) -> Result<&'a [u8], TextFaul
 
 /// An opening parenthesis.
 pub fn open(text: &[u8]) -> Result<&[u8], TextFault>
-    ensures { Reads (λ r. (tt, lexed r.now)) result (reading.open_at (lexed text.now)) }
+    ensures read { Reads (λ r. (tt, lexed r.now)) result (reading.open_at (lexed text.now)) }
+    ensures nothing { lexed text.now ≡ [] → IfErr result (λ e. e.why ≡ Expected) }
 {
     match next_token(text) {
         Some((Lexeme::Open, rest)) => Ok(rest),
@@ -362,6 +371,7 @@ fn is_left_out(profile: Profile, atom: &[u8]) -> bool {
 
 /// What is wrong with an atom, the first token of a text, that is no value type of the profile.
 pub fn no_type(profile: Profile, atom: &[u8], text: &[u8]) -> TextFault
+    requires { lexed text.now ≢ [] }
     ensures { IsRefusal result.why }
 {
     if is_left_out(profile, atom) {
@@ -373,6 +383,7 @@ pub fn no_type(profile: Profile, atom: &[u8], text: &[u8]) -> TextFault
 
 /// What is wrong with an atom, the first token of a text, that names no instruction of the profile.
 pub fn no_instruction(profile: Profile, atom: &[u8], text: &[u8]) -> TextFault
+    requires { lexed text.now ≢ [] }
     ensures { IsRefusal result.why }
 {
     if is_left_out(profile, atom) {
@@ -465,7 +476,9 @@ pub fn key<'a>(key: &[u8], usual: u32, text: &'a [u8]) -> Result<(u32, &'a [u8])
 }
 
 /// The arguments of a load or a store of so many bytes.
+#[tactic(auto, using(crate::proofs::Ends::align_stands))]
 pub fn access(width: u32, text: &[u8]) -> Result<(MemArg, &[u8]), TextFault>
+    requires { reading.exponent_of width ≢ None }
     ensures { Reads (λ x. (x.0, lexed x.1.now)) result (reading.access_at width (lexed text.now)) }
 {
     let (offset, rest) = key(b"offset=", 0, text)?;

@@ -1,6 +1,6 @@
 //! Pieces of a body: an instruction, or what opens, divides or closes a block.
 
-ghost use Rattle.std.specs.Prelude.{◌≡◌, ◌≤◌, Some, IfOk, length};
+ghost use Rattle.std.specs.Prelude.{◌≡◌, ◌≢◌, ◌≤◌, [], Some, IfOk, length};
 ghost use Rattle.wm_floats.specs.exact.Atoms as atoms;
 ghost use Rattle.wm_read.specs.exact.Scan.{lexed};
 ghost use Rattle.wm_read.specs.inner.Blocks.{names_of, scope_of};
@@ -50,6 +50,7 @@ fn opens(profile: Profile, opening: Opening, text: &[u8]) -> Result<(Piece, &[u8
     Ok((Piece::Opens(opening, id, ty), rest))
 }
 
+#[tactic(auto, using(crate::proofs::Ends::load_width))]
 fn load(op: LoadOp, text: &[u8]) -> Result<(Simple, &[u8]), TextFault>
     ensures { Reads (λ x. (flat.plain x.0, lexed x.1.now)) result
         (reading.simple_at (Simple.Load op) (reading.access_at (table.load op).width) (lexed text.now)) }
@@ -58,6 +59,7 @@ fn load(op: LoadOp, text: &[u8]) -> Result<(Simple, &[u8]), TextFault>
     Ok((Simple::Load(op, at), rest))
 }
 
+#[tactic(auto, using(crate::proofs::Ends::store_width))]
 fn store(op: StoreOp, text: &[u8]) -> Result<(Simple, &[u8]), TextFault>
     ensures { Reads (λ x. (flat.plain x.0, lexed x.1.now)) result
         (reading.simple_at (Simple.Store op) (reading.access_at (table.store op).width) (lexed text.now)) }
@@ -114,6 +116,7 @@ fn middle<'a>(
     here: &[u8],
     text: &'a [u8],
 ) -> Result<(Piece<'a>, &'a [u8]), TextFault>
+    requires { lexed here.now ≢ [] }
     ensures fits { IfOk result (λ x. FitsPiece (piece_of x.0)) }
     ensures read { Reads (λ x. (piece_of x.0, lexed x.1.now)) result
         (reading.middle_at blocks.now (lexed text.now)) }
@@ -136,6 +139,7 @@ fn closes<'a>(
     here: &[u8],
     text: &'a [u8],
 ) -> Result<(Piece<'a>, &'a [u8]), TextFault>
+    requires { lexed here.now ≢ [] }
     ensures fits { IfOk result (λ x. FitsPiece (piece_of x.0)) }
     ensures read { Reads (λ x. (piece_of x.0, lexed x.1.now)) result
         (reading.closes_at blocks.now (lexed text.now)) }
@@ -262,6 +266,7 @@ pub fn read_piece<'a>(
     here: &[u8],
     text: &'a [u8],
 ) -> Result<(Piece<'a>, &'a [u8]), TextFault>
+    requires { lexed here.now ≢ [] }
     ensures fits { IfOk result (λ x. FitsPiece (piece_of x.0)) }
     ensures read { Reads (λ x. (piece_of x.0, lexed x.1.now)) result
         (reading.piece_at (call_use_at profile (names_of scope.now.names.now)) profile (scope_of scope.now)

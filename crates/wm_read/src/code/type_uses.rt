@@ -1,6 +1,7 @@
 //! Type uses (section 6.6.3): an index of a type, and what may be written of its parameters and results.
 
-ghost use Rattle.std.specs.Prelude.{◌≡◌, IfErr, MatchOption, None, Some, OnOk, codes, false, slice_get, true};
+ghost use Rattle.std.specs.Prelude.{◌≡◌, ◌≢◌, ◌≤◌, [], IfErr, MatchOption, None, Some, OnOk, codes, false, length};
+ghost use Rattle.std.specs.Prelude.{slice_get, true};
 ghost use Rattle.wm_read.specs.declared.faults.TextWhy.TheVariants.{Expected};
 ghost use Rattle.wm_read.specs.exact.Reading as reading;
 ghost use Rattle.wm_read.specs.exact.Scan.{lexed};
@@ -131,6 +132,7 @@ pub(crate) fn no_form(text: &[u8]) -> Result<(), TextFault>
 /// What is wrong behind `( type idx`, which is not closed there: the index, if no type has it,
 /// or what stands there.
 fn unclosed(names: &Names, x: u32, at_index: &[u8], rest: &[u8]) -> TextFault
+    requires { lexed at_index.now ≢ [] }
     ensures { IsRefusal result.why }
 {
     match type_at(names, x) {
@@ -140,6 +142,7 @@ fn unclosed(names: &Names, x: u32, at_index: &[u8], rest: &[u8]) -> TextFault
 }
 
 /// `( type idx )`
+#[tactic(auto, using(crate::proofs::Ends::atom_stands))]
 pub(crate) fn type_index<'a>(names: &Names, text: &'a [u8]) -> Result<(u32, &'a [u8]), TextFault>
     ensures { Reads (λ x. (x.0, lexed x.1.now)) result
         (reading.paren_at (codes "type") (reading.atom_at (reading.index_of (names_of names.now).types))
@@ -163,7 +166,7 @@ pub(crate) fn type_at<'n>(names: &'n Names, x: u32) -> Option<&'n FuncType>
 }
 
 /// The type use of a call_indirect, whose parameters have no identifiers.
-#[tactic(auto, using(crate::proofs::Groups::use_laws))]
+#[tactic(auto, using(crate::proofs::Groups::use_laws, crate::proofs::Ends::index_stands))]
 pub fn type_use<'a>(
     alloc: Global,
     profile: Profile,
@@ -191,6 +194,7 @@ pub fn type_use<'a>(
 
 /// A refusal at the index of a type use, the third token of a text.
 pub(crate) fn refuse_index(why: TextWhy, text: &[u8]) -> TextFault
+    requires { 3 ≤ length (lexed text.now) }
     ensures { result.why ≡ why }
 {
     let mut rest = text;

@@ -1,6 +1,6 @@
 //! Constant expressions (section 3.3.7): one instruction, a number or the value of a global.
 
-ghost use Rattle.std.specs.Prelude.{◌≡◌};
+ghost use Rattle.std.specs.Prelude.{◌≡◌, ◌≢◌, []};
 ghost use Rattle.wm_read.specs.exact.Fields as fields;
 ghost use Rattle.wm_read.specs.exact.Reading as reading;
 ghost use Rattle.wm_read.specs.exact.Scan.{lexed};
@@ -22,6 +22,7 @@ use wm_syntax::types::Const;
 
 /// What is wrong with an atom, the first token of a text, that begins no constant.
 fn no_constant(profile: Profile, atom: &[u8], text: &[u8]) -> TextFault
+    requires { lexed text.now ≢ [] }
     ensures { IsRefusal result.why }
 {
     match op_named(profile, atom) {

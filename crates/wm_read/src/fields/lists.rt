@@ -7,6 +7,7 @@ ghost use Rattle.wm_read.specs.exact.Reading as reading;
 ghost use Rattle.wm_read.specs.exact.Scan.{lexed};
 ghost use Rattle.wm_read.specs.inner.Blocks.{names_of};
 ghost use Rattle.wm_read.specs.inner.Fields.{field_of, with_field};
+ghost use Rattle.wm_read.specs.inner.Tails.{IsTail};
 ghost use Rattle.wm_read.specs.inner.Views.{Reads};
 ghost use Rattle.wm_syntax.specs.Values.{value_of};
 
@@ -43,13 +44,14 @@ fn add(whole: &mut Module, field: Field) -> Result<(), AllocError>
 
 /// The module of all fields that stand first, and the text after them. Where identifiers are distinct in
 /// their spaces, `fields_are_read_as_written` says which tokens these are.
-#[tactic(auto, using(crate::proofs::ModuleFields::fields_laws))]
+#[tactic(auto, using(crate::proofs::ModuleFields::fields_laws, crate::proofs::Tails::tail_field))]
 pub fn read_fields<'a>(
     alloc: Global,
     profile: Profile,
     names: &Names<'a>,
     text: &'a [u8],
 ) -> Result<(Module, &'a [u8]), TextFault>
+    requires { IsTail (lexed text.now) }
     ensures { Reads (λ x. (value_of x.0, lexed x.1.now)) result
         (reading.made module_of (fields.fields_at profile (names_of names.now) (lexed text.now))) }
 {

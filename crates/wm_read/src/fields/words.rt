@@ -1,6 +1,6 @@
 //! The words that begin a field (section 6.6) and an item of an import or an export.
 
-ghost use Rattle.std.specs.Prelude.{◌≡◌};
+ghost use Rattle.std.specs.Prelude.{◌≡◌, ◌≢◌, []};
 ghost use Rattle.wm_read.specs.exact.Fields.{field_named, item_named};
 ghost use Rattle.wm_read.specs.exact.Reading as reading;
 ghost use Rattle.wm_read.specs.exact.Scan.{lexed};
@@ -75,6 +75,7 @@ fn item_with(atom: &[u8]) -> Option<ExportKind>
 
 /// What is wrong with an atom, the first token of a text, where a form's word is expected.
 fn no_form(atom: &[u8], text: &[u8]) -> TextFault
+    requires { lexed text.now ≢ [] }
     ensures { IsRefusal result.why }
 {
     if is_word(atom) {

@@ -1,7 +1,7 @@
 //! A first reading of a module (section 6.6): what its fields define. Of each field it reads the head, and
 //! skips the rest.
 
-ghost use Rattle.std.specs.Prelude.{◌≡◌, ◌≤◌, OnOk};
+ghost use Rattle.std.specs.Prelude.{◌≡◌, ◌≢◌, ◌≤◌, [], OnOk};
 ghost use Rattle.wm_read.specs.exact.Fields as fields;
 ghost use Rattle.wm_read.specs.exact.FirstReading as first;
 ghost use Rattle.wm_read.specs.exact.Scan.{lexed};
@@ -62,6 +62,7 @@ fn push_item<'a>(
 }
 
 /// An identifier that no item of the space has, or none.
+#[tactic(auto, using(crate::proofs::Ends::id_stands))]
 fn free_id<'a>(space: &Space, text: &'a [u8]) -> Result<(Option<&'a [u8]>, &'a [u8]), TextFault>
     ensures { Reads (λ x. (id_of x.0, lexed x.1.now)) result (first.free_id_at space.now (lexed text.now)) }
 {
@@ -173,6 +174,7 @@ fn head_of<'a>(
     word: &'a [u8],
     text: &'a [u8],
 ) -> Result<&'a [u8], TextFault>
+    requires { lexed word.now ≢ [] }
     ensures { Reads (λ r. (noted_of noted.new, lexed r.now)) result
         (first.head_by profile kind (noted_of noted.old) (lexed text.now)) }
 {
@@ -202,7 +204,7 @@ fn head_of<'a>(
 }
 
 /// One field.
-#[tactic(auto, unfolding(crate::specs::exact::FirstReading::head_at))]
+#[tactic(auto, using(crate::proofs::Ends::atom_stands), unfolding(crate::specs::exact::FirstReading::head_at))]
 fn head<'a>(
     alloc: Global,
     profile: Profile,

@@ -17,7 +17,7 @@ returns-in-Err-clause-answered g c = λ n.
       status.Refused,
       inr (
         (λ m t. c.in-Err.ensures.refused out.0 t.0 m t.1 t.2),
-        (r.at, r.why, out.0, c.in-Err.ensures.at, (c.in-Err.ensures.utf8, c.in-Err.ensures.utf8_at, c.in-Err.ensures.fault), refl),
+        (r.at, r.why, out.0, c.in-Err.ensures.at, (c.in-Err.ensures.utf8, c.in-Err.ensures.utf8_at, c.in-Err.ensures.fault, c.in-Err.ensures.end), refl),
         refl,
       ),
       out.1,

@@ -9,9 +9,13 @@ use Rattle.wm_read.specs.exact.NamedUses.{named_use_at, used_of}
 use Rattle.wm_read.specs.inner.Blocks.{names_of}
 use Rattle.wm_read.specs.inner.Named.{named_list, params_of}
 use Rattle.wm_read.specs.inner.Views.{Fails}
+use Rattle.wm_read.proofs.Ends.{index_stands}
 use Rattle.wm_read.proofs.Groups.{fails_refused, fails_use}
 use Rattle.wm_read.proofs.NamedUses.{named_ends, named_untyped, named_params_fail, named_results_fail}
 use Rattle.wm_read.proofs.code.named_uses.named_use.Goals as goal
+
+pub misfit-requires : goal.misfit-requires
+misfit-requires c = index_stands (names_of c.args.names.now).types (lexed c.args.text.now) (c.in_ok-index.index, lexed c.in_ok-index.rest.now) c.in_ok-index.ensures
 
 pub returns-in-Some-2 : goal.returns-in-Some-2
 returns-in-Some-2 c =

@@ -4,10 +4,14 @@ use Rattle.wm_read.specs.exact.Reading.{made}
 use Rattle.wm_read.specs.exact.Scan.{lexed}
 use Rattle.wm_read.specs.exact.TypeUses.{call_use_at, fits, groups_at, joined}
 use Rattle.wm_read.specs.inner.Blocks.{names_of}
+use Rattle.wm_read.proofs.Ends.{index_stands}
 use Rattle.wm_read.proofs.Groups.{use_found, use_wrong, use_untyped, call_found, call_form, call_none, params_fail, results_fail, fails_at, fails_use}
 use Rattle.wm_read.specs.declared.faults.TextWhy.{TextWhy}
 use Rattle.wm_read.specs.inner.Views.{Fails}
 use Rattle.wm_read.proofs.code.type_uses.type_use.Goals as goal
+
+pub refuse_index-requires : goal.refuse_index-requires
+refuse_index-requires c = index_stands (names_of c.args.names.now).types (lexed c.args.text.now) (c.in_ok-x.x, lexed c.in_ok-x.rest.now) c.in_ok-x.ensures
 
 pub returns-then-fits : goal.returns-then-fits
 returns-then-fits c =
