@@ -182,8 +182,9 @@ typedef struct wmod_output {
  * gives, where memory is refused to neither. One of wmod_build comes only where the above says so; one of the module is
  * that of its canonical binary, whose length no option bounds. What docs/REFUSALS.md says of the name of a module's refusal
  * is so. Of a text within the limit, where the options are in range and memory was not refused, WMOD_TEXT_NOT_UTF8 comes
- * exactly where the text is not UTF-8, and the next four exactly where its tokens have a fault, each at its place. Which
- * other WMOD_TEXT_.. it is, and at which place, is tested; of WMOD_TEXT_TOO_MANY_LOCALS it is by reading. */
+ * exactly where the text is not UTF-8, and the next four exactly where its tokens have a fault, each at its place. Where none
+ * of these comes and `at` is the text's length, it is WMOD_TEXT_EXPECTED. Which other WMOD_TEXT_.. it is, and at which place,
+ * is tested; of WMOD_TEXT_TOO_MANY_LOCALS it is by reading. */
 uint32_t wmod_canon(const uint8_t *bytes, size_t length, const wmod_options *options, uint8_t *out, size_t room,
                     wmod_output *output);
 uint32_t wmod_show(const uint8_t *bytes, size_t length, const wmod_options *options, uint8_t *out, size_t room,
