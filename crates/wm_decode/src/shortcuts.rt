@@ -87,12 +87,12 @@ impl Shortcut {
 
     /// Where the last of so many bytes led to a machine, and the sink was given what it completed.
     #[inline(always)]
-    pub(crate) fn ended(used: usize, given: Result<(), Why>, machine: Machine) -> Shortcut
+    pub(crate) fn ended(used: usize, given: Result<(), Why>, machine: &Machine) -> Shortcut
         ensures used { result.used ≡ used }
-        ensures refused { result.refused ≡ why_refused given machine }
+        ensures refused { result.refused ≡ why_refused given machine.now }
     {
         let refused = match given {
-            Ok(()) => refusal_of(machine),
+            Ok(()) => refusal_of(*machine),
             Err(why) => Some(why),
         };
         Shortcut { used, refused }

@@ -74,7 +74,7 @@ fn final_end<S: Sink>(
         InMember::Over,
     );
     let given = give_end(sink);
-    Shortcut::ended(1, given, *machine)
+    Shortcut::ended(1, given, machine)
 }
 
 /// The last `end` of an entry; by a shorter way where another entry comes after it.

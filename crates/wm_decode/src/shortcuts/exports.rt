@@ -161,7 +161,7 @@ impl Link for LastExport {
         }
         *machine = start.over(SectionKind::Export, last as u32);
         let given = give_export(sink, found.kind, found.index);
-        Shortcut::ended(found.next, given, *machine)
+        Shortcut::ended(found.next, given, machine)
     }
 }
 

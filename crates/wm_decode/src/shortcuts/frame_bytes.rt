@@ -132,6 +132,10 @@ pub(crate) fn frame_byte(machine: &mut Machine, byte: u8) -> bool
     ensures taken { result ≡ true → IsFrameStep machine.old byte machine.new }
     ensures left { result ≡ false → machine.new ≡ machine.old }
 {
+    // mostly a member comes: that is seen without a copy of the machine
+    if let Machine::Section { .. } = *machine {
+        return false;
+    }
     let Some(next) = after_byte(*machine, byte) else {
         return false;
     };

@@ -236,7 +236,7 @@ fn last_result<S: Sink>(
     }
     *machine = start.over(SectionKind::Type, 1);
     let given = give_result(sink, ty);
-    Shortcut::ended(2, given, *machine)
+    Shortcut::ended(2, given, machine)
 }
 
 // Takes the results of a type, at most one, whatever comes after it. With them the section may be over, or
@@ -258,7 +258,7 @@ fn last_results<S: Sink>(
     if bytes[0] == 0 {
         *machine = start.over(SectionKind::Type, 0);
         let given = give_result_count(sink, 0);
-        return Shortcut::ended(1, given, *machine);
+        return Shortcut::ended(1, given, machine);
     }
     let Ok(ty) = value_type(profile, bytes[1]) else {
         return Shortcut::none();

@@ -97,7 +97,7 @@ impl Link for Global {
         }
         *machine = start.over(SectionKind::Global, stop as u32);
         let given = give(sink, Plain::ConstOp(Op::End));
-        Shortcut::ended(stop + 1, given, *machine)
+        Shortcut::ended(stop + 1, given, machine)
     }
 }
 

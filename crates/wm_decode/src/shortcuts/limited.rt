@@ -155,5 +155,5 @@ pub(crate) fn limited_member<S: Sink>(
     }
     *machine = place.over(start.of.section(), last as u32);
     let given = give(sink, start.of.item(found.limits));
-    Shortcut::ended(found.next, given, *machine)
+    Shortcut::ended(found.next, given, machine)
 }

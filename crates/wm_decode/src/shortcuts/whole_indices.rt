@@ -60,7 +60,7 @@ fn last_index<S: Sink>(
     let used = index.next;
     *machine = before.ended((used - 1) as u32);
     let given = give_index(sink, before.list, index.value);
-    Shortcut::ended(used, given, *machine)
+    Shortcut::ended(used, given, machine)
 }
 
 /// Takes indices that lie in these bytes: the last of a list, or those after which another comes, until many
