@@ -173,7 +173,7 @@ def is_unanswered(room, program):
 def is_well(archive, program):
     """Whether all is well; says so."""
     if not shutil.which("cc") or not shutil.which("c++"):
-        print("C: no compiler here, so header and samples were not tried", flush=True)
+        print("C: no compiler here, so header, samples and rows of calls were not tried", flush=True)
         return True
     with tempfile.TemporaryDirectory(prefix="c-calls-") as room:
         fault = compiled(archive, room)

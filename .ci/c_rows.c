@@ -3,7 +3,8 @@
  * limit. An answer has its eight fields. Inputs stand as hexadecimal digits; `H` is the header, and `.` nothing. `canon`, `show`
  * and `build` take the size of the buffer first, then the options, and of `build` the input is a text. They answer the output's
  * four fields, and what stands in the buffer: as hexadecimal digits, or as a text with `|` for a line feed. `name NUMBER ROOM`
- * answers the length and what stands in the room, with `0` for its end. `held` says whether the handle holds something.
+ * answers the length and what stands in the room, with `0` for its end. `feed` takes a piece, `finish` answers the eight fields, `end`
+ * has no answer and is written as 0, `held` says whether the handle holds something, and `version` is the library's.
  */
 #include "wmod.h"
 #include <stdio.h>
@@ -151,7 +152,7 @@ static void piecewise(wmod_validator *v, const char *name) {
   uint8_t bytes[LINE];
   wmod_options options;
   wmod_answer answer;
-  uint32_t profile;
+  uint32_t profile, ended;
   size_t length;
   if (strcmp(name, "begin") == 0) {
     profile = (uint32_t)number();
@@ -163,8 +164,8 @@ static void piecewise(wmod_validator *v, const char *name) {
     length = input(bytes);
     say(wmod_feed(v, bytes, length));
   } else if (strcmp(name, "finish") == 0) {
-    profile = wmod_finish(v, &answer);
-    say_answer(profile, &answer);
+    ended = wmod_finish(v, &answer);
+    say_answer(ended, &answer);
   } else if (strcmp(name, "end") == 0) {
     wmod_end(v);
     say(0);

@@ -126,8 +126,8 @@ typedef struct wmod_answer {
  *
  * Proved: WMOD_VALID is answered for valid modules of the profile within the limit alone, WMOD_REFUSED for none of
  * these; and with either of the two the bytes alone say which refusal, which place and which figures it is. What
- * docs/REFUSALS.md says of the name of a refusal is so. WMOD_MISUSE comes exactly where the profile or the limit is out of
- * range. Tested, and not proved: WMOD_MEMORY is answered for want of memory alone. */
+ * docs/REFUSALS.md calls proved of the name of a refusal is so. WMOD_MISUSE comes exactly where the profile or the
+ * limit is out of range. Tested, and not proved: WMOD_MEMORY is answered for want of memory alone. */
 uint32_t wmod_validate(const uint8_t *bytes, size_t length, uint32_t profile, uint64_t limit, wmod_answer *answer);
 
 /* What a host asks for. Begin with the defaults, so that a later field has its default too:
@@ -152,7 +152,8 @@ typedef struct wmod_options {
   { sizeof(wmod_options), WMOD_PROFILE_1, WMOD_LIMIT_DEFAULT, WMOD_NO_LIMIT, \
     WMOD_NO_LIMIT, WMOD_NO_LIMIT, 0 }
 
-/* The same as the options ask. Proved of it: the same, where a valid module is also one within the options' limits. */
+/* The same as the options ask. Proved of it: the same, where a valid module is also one within the options' limits.
+ * WMOD_MISUSE comes exactly where `size`, `profile`, `max_bytes` or `old_words` is out of range. */
 uint32_t wmod_validate_with(const uint8_t *bytes, size_t length, const wmod_options *options, wmod_answer *answer);
 
 /* How a conversion ended. Unless the status is WMOD_REFUSED or WMOD_MEMORY, `why` and `at` are 0; of WMOD_MEMORY `at`
@@ -178,13 +179,14 @@ typedef struct wmod_output {
  *   WMOD_WHY_TOO_LONG, and else a place of the module's canonical binary; of WMOD_WHY_TOO_LARGE it is 0.
  *
  * Proved: what is written is the canonical binary or the text of the module that the input spells or writes, which is
- * valid, of the profile and within the limits. A refusal of wmod_canon and wmod_show is the one that wmod_validate_with
- * gives, where memory is refused to neither. One of wmod_build comes only where the above says so; one of the module is
- * that of its canonical binary, whose length no option bounds. What docs/REFUSALS.md says of the name of a module's refusal
- * is so. Of a text within the limit, where the options are in range and memory was not refused, WMOD_TEXT_NOT_UTF8 comes
- * exactly where the text is not UTF-8, and the next four exactly where its tokens have a fault, each at its place. Where none
- * of these comes and `at` is the text's length, it is WMOD_TEXT_EXPECTED. Which other WMOD_TEXT_.. it is, and at which place,
- * is tested; of WMOD_TEXT_TOO_MANY_LOCALS it is by reading. */
+ * valid, of the profile and within the limits. A refusal of wmod_canon and wmod_show is the one that
+ * wmod_validate_with gives, where memory is refused to neither. One of wmod_build comes only where the above says so;
+ * one of the module is that of its canonical binary, whose length no option bounds. What docs/REFUSALS.md calls
+ * proved of the name of a module's refusal is so. Of a text within the limit, where the options are in range and
+ * memory was not refused, WMOD_TEXT_NOT_UTF8 comes exactly where the text is not UTF-8, and the next four exactly
+ * where its tokens have a fault, each at its place. Of a text that writes no module, where none of these comes and
+ * `at` is the text's length, it is WMOD_TEXT_EXPECTED. Which other WMOD_TEXT_.. it is, and at which place, is tested;
+ * of WMOD_TEXT_TOO_MANY_LOCALS it is by reading. */
 uint32_t wmod_canon(const uint8_t *bytes, size_t length, const wmod_options *options, uint8_t *out, size_t room,
                     wmod_output *output);
 uint32_t wmod_show(const uint8_t *bytes, size_t length, const wmod_options *options, uint8_t *out, size_t room,
@@ -223,7 +225,7 @@ typedef struct wmod_validator {
  * profile or the limit is out of range: nothing changed. WMOD_MEMORY: the handle is empty. */
 uint32_t wmod_begin(wmod_validator *v, uint32_t profile, uint64_t limit);
 
-/* The same as the options ask. */
+/* The same as the options ask; WMOD_MISUSE exactly where one of those four is out of range. */
 uint32_t wmod_begin_with(wmod_validator *v, const wmod_options *options);
 
 /* Takes the next piece, of any length, 0 too. WMOD_VALID: nothing is refused so far, go on. WMOD_REFUSED and WMOD_MEMORY
