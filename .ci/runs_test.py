@@ -1,6 +1,6 @@
 #!/usr/bin/env python3
-"""That the runs can fail: growths.py and deep.py are given a stand-in for wmod and for wm_rows, and wm_rows and the tests of wm_cli
-stand on libraries, as they should be and then with one thing wrong. It takes a quarter of an hour."""
+"""That the runs can fail: growths.py and deep.py are given a stand-in for wmod and for wm_rows, c_calls.py one for c_rows, and wm_rows
+and the tests of wm_cli stand on libraries, as they should be and then with one thing wrong. It takes a quarter of an hour."""
 import os
 import pathlib
 import re
@@ -10,6 +10,7 @@ import sys
 import tempfile
 
 sys.dont_write_bytecode = True
+import c_calls
 import deep
 import edits
 import growths
@@ -66,6 +67,26 @@ TRIALS_OF_ROWS = {
 
 # an edit that the prover refuses, and what wm_rows answers to two rows where it is made
 ROWS = ["check H 01 01 00 01 01", "show H"]
+
+# how long the modules are in which a body stands behind a list that is let go: of ops, and of open blocks
+PAST = growths.MOST_KEPT + 1
+BEHIND_OPS = len(growths.module_of(growths.NOP * PAST, growths.NOP))
+BEHIND_BLOCKS = len(growths.module_of(growths.BLOCK * PAST + growths.END * PAST, growths.BLOCK + growths.END))
+# which modules take one growth more, and whether growths.py finds that long lists are let go
+LISTS = {
+    "both are let go": (f"size == {BEHIND_OPS} || size == {BEHIND_BLOCKS}", True),
+    "that of ops stays": (f"size == {BEHIND_BLOCKS}", False),
+    "that of open blocks stays": (f"size == {BEHIND_OPS}", False),
+    "each body takes one": ("size > 1000", False),
+}
+
+# what a stand-in for c_rows does with the file of all rows, and whether c_calls.py finds no fault with it
+TRIALS_OF_CALLS = {
+    "nothing wrong": ("cat", True),
+    "another answer": ("sed s/TooLarge/TooSmall/", False),
+    "a row is missing": ("sed 3d", False),
+    "it ends by a fault": ("(cat; false) <", False),
+}
 SEEDS = {
     None: ["refused at 12: SectionOrder", "text:\n(module)\n"],
     # a refusal is forgotten
@@ -92,6 +113,15 @@ def built(room, refused, deeper):
         it.write(STAND_IN.replace("REFUSED", refused).replace("DEEPER", deeper))
     subprocess.run([growths.compiler(), "-O0", "-w", source, "-o", program], check=True)
     return program
+
+
+def standing_in(room, does):
+    """The room with a stand-in for c_rows, which writes all rows by this command."""
+    rows, program = pathlib.Path(room, "rows"), pathlib.Path(room, "c_rows")
+    rows.write_text("".join(f"{row}\n" for row in c_calls.rows()), encoding="ascii")
+    program.write_text(f"#!/bin/sh\n{does} {rows}\n", encoding="ascii")
+    program.chmod(0o755)
+    return room
 
 
 def tried_with(room, edit, crate, *words, given=""):
@@ -135,6 +165,12 @@ def main():
         for name, deeper, wanted in names:
             if growths.is_name_lent(built(room, RIGHT, deeper)) != wanted:
                 faults.append(f"growths.py and a stand-in for names: {name}")
+        for name, (which, wanted) in LISTS.items():
+            if growths.is_long_list_let_go(built(room, RIGHT, f"if ({which}) malloc(1);")) != wanted:
+                faults.append(f"growths.py and a stand-in for long lists: {name}")
+        for name, (does, wanted) in TRIALS_OF_CALLS.items():
+            if c_calls.are_rows_right(standing_in(room, does)) != wanted:
+                faults.append(f"c_calls.py and a stand-in for c_rows: {name}")
         # (no stand-in answers all that deep.py asks: what is looked at is how it ends)
         for name, deeper, wanted in (("nothing wrong", "", (0, b"valid\n")), ("it recurses", "nested(1000000);", (-11, b""))):
             if deep.run(built(room, RIGHT, deeper), "check", deep.DEEP) != wanted:

@@ -28,7 +28,7 @@ pub extern "C" fn wmod_begin(alloc: Global, v: &mut Handle, profile: u32, max_by
     ensures unrefused { result ≡ 0 → (r : ARefusal) → HoldsRefusal v.new.held r → ⊥ }
     ensures misused { result ≡ 2 → (v.new.held ≡ v.old.held)
         × ((p : AProfile) → Asks (plain_options profile max_bytes) p → ⊥) }
-    // Memory is answered to no options that are out of range.
+    // Any other status is answered to options in range alone.
     ensures asked { result ≢ 2 → (p : AProfile) × Asks (plain_options profile max_bytes) p }
     ensures memory { result ≡ 4 → v.new.held ≡ None }
     ensures status { (result ≡ 0) ⊎ (result ≡ 2) ⊎ (result ≡ 4) }
@@ -43,7 +43,7 @@ pub extern "C" fn wmod_begin_with(alloc: Global, v: &mut Handle, options: &Optio
     ensures ready { result ≡ 0 → TakesPieces v.new.held }
     ensures unrefused { result ≡ 0 → (r : ARefusal) → HoldsRefusal v.new.held r → ⊥ }
     ensures misused { result ≡ 2 → (v.new.held ≡ v.old.held) × ((p : AProfile) → Asks options.now p → ⊥) }
-    // Memory is answered to no options that are out of range.
+    // Any other status is answered to options in range alone.
     ensures asked { result ≢ 2 → (p : AProfile) × Asks options.now p }
     ensures memory { result ≡ 4 → v.new.held ≡ None }
     ensures status { (result ≡ 0) ⊎ (result ≡ 2) ⊎ (result ≡ 4) }

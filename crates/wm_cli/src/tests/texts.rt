@@ -47,6 +47,7 @@ fn laws_are_called(_rt: HostRuntime) {
     laws::standard_words_stay();
     laws::one_list_of_tokens();
     laws::one_first_fault();
+    laws::faults_begin_no_token();
     laws::faulty_texts_write_no_module();
     laws::bodies_are_read_as_written();
     laws::one_body();

@@ -90,8 +90,8 @@ impl InSection {
         self.after(used, self.left - 1).before(of)
     }
 
-    /// The machine after the last byte of a member, before which there were so many more. With it the section
-    /// may be over, or the machine refuse.
+    /// The machine after the last byte of a member, where so many bytes come before that one. With it the
+    /// section may be over, or the machine refuse.
     #[inline(always)]
     pub(crate) fn over(self, of: SectionKind, used: u32) -> Machine
         requires { used ≤ self.more }
