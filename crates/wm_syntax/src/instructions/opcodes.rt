@@ -97,7 +97,7 @@ fn feature_of_simple(simple: Simple) -> Feature
 
 // What each byte begins, from 00 to FF, under the profile that has all features.
 static CLASSES: [OpClass; 256] = [
-    // 00
+    // 0x00
     Plain(Op::Simple(Simple::Unreachable)),
     Plain(Op::Simple(Simple::Nop)),
     With(Immediates::Block),
@@ -114,7 +114,7 @@ static CLASSES: [OpClass; 256] = [
     With(Immediates::BrIf),
     With(Immediates::BrTable),
     Plain(Op::Simple(Simple::Return)),
-    // 10
+    // 0x10
     With(Immediates::Call),
     With(Immediates::CallIndirect),
     OpClass::None,
@@ -131,7 +131,7 @@ static CLASSES: [OpClass; 256] = [
     OpClass::None,
     OpClass::None,
     OpClass::None,
-    // 20
+    // 0x20
     With(Immediates::LocalGet),
     With(Immediates::LocalSet),
     With(Immediates::LocalTee),
@@ -148,7 +148,7 @@ static CLASSES: [OpClass; 256] = [
     With(Immediates::Load(LoadOp::I32Load8U)),
     With(Immediates::Load(LoadOp::I32Load16S)),
     With(Immediates::Load(LoadOp::I32Load16U)),
-    // 30
+    // 0x30
     With(Immediates::Load(LoadOp::I64Load8S)),
     With(Immediates::Load(LoadOp::I64Load8U)),
     With(Immediates::Load(LoadOp::I64Load16S)),
@@ -165,7 +165,7 @@ static CLASSES: [OpClass; 256] = [
     With(Immediates::Store(StoreOp::I64Store16)),
     With(Immediates::Store(StoreOp::I64Store32)),
     With(Immediates::MemorySize),
-    // 40
+    // 0x40
     With(Immediates::MemoryGrow),
     With(Immediates::I32Const),
     With(Immediates::I64Const),
@@ -182,7 +182,7 @@ static CLASSES: [OpClass; 256] = [
     Plain(Op::Simple(Numeric(Compare(I32, Comparison::LeU)))),
     Plain(Op::Simple(Numeric(Compare(I32, Comparison::GeS)))),
     Plain(Op::Simple(Numeric(Compare(I32, Comparison::GeU)))),
-    // 50
+    // 0x50
     Plain(Op::Simple(Numeric(Test(I64)))),
     Plain(Op::Simple(Numeric(Compare(I64, Comparison::Eq)))),
     Plain(Op::Simple(Numeric(Compare(I64, Comparison::Ne)))),
@@ -199,7 +199,7 @@ static CLASSES: [OpClass; 256] = [
     Plain(Op::Simple(Numeric(FloatCompare(F32, FloatComparison::Lt)))),
     Plain(Op::Simple(Numeric(FloatCompare(F32, FloatComparison::Gt)))),
     Plain(Op::Simple(Numeric(FloatCompare(F32, FloatComparison::Le)))),
-    // 60
+    // 0x60
     Plain(Op::Simple(Numeric(FloatCompare(F32, FloatComparison::Ge)))),
     Plain(Op::Simple(Numeric(FloatCompare(F64, FloatComparison::Eq)))),
     Plain(Op::Simple(Numeric(FloatCompare(F64, FloatComparison::Ne)))),
@@ -216,7 +216,7 @@ static CLASSES: [OpClass; 256] = [
     Plain(Op::Simple(Numeric(Binary(I32, BinaryOp::DivS)))),
     Plain(Op::Simple(Numeric(Binary(I32, BinaryOp::DivU)))),
     Plain(Op::Simple(Numeric(Binary(I32, BinaryOp::RemS)))),
-    // 70
+    // 0x70
     Plain(Op::Simple(Numeric(Binary(I32, BinaryOp::RemU)))),
     Plain(Op::Simple(Numeric(Binary(I32, BinaryOp::And)))),
     Plain(Op::Simple(Numeric(Binary(I32, BinaryOp::Or)))),
@@ -233,7 +233,7 @@ static CLASSES: [OpClass; 256] = [
     Plain(Op::Simple(Numeric(Binary(I64, BinaryOp::Sub)))),
     Plain(Op::Simple(Numeric(Binary(I64, BinaryOp::Mul)))),
     Plain(Op::Simple(Numeric(Binary(I64, BinaryOp::DivS)))),
-    // 80
+    // 0x80
     Plain(Op::Simple(Numeric(Binary(I64, BinaryOp::DivU)))),
     Plain(Op::Simple(Numeric(Binary(I64, BinaryOp::RemS)))),
     Plain(Op::Simple(Numeric(Binary(I64, BinaryOp::RemU)))),
@@ -250,7 +250,7 @@ static CLASSES: [OpClass; 256] = [
     Plain(Op::Simple(Numeric(FloatUnary(F32, FloatUnaryOp::Ceil)))),
     Plain(Op::Simple(Numeric(FloatUnary(F32, FloatUnaryOp::Floor)))),
     Plain(Op::Simple(Numeric(FloatUnary(F32, FloatUnaryOp::Trunc)))),
-    // 90
+    // 0x90
     Plain(Op::Simple(Numeric(FloatUnary(F32, FloatUnaryOp::Nearest)))),
     Plain(Op::Simple(Numeric(FloatUnary(F32, FloatUnaryOp::Sqrt)))),
     Plain(Op::Simple(Numeric(FloatBinary(F32, FloatBinaryOp::Add)))),
@@ -267,7 +267,7 @@ static CLASSES: [OpClass; 256] = [
     Plain(Op::Simple(Numeric(FloatUnary(F64, FloatUnaryOp::Trunc)))),
     Plain(Op::Simple(Numeric(FloatUnary(F64, FloatUnaryOp::Nearest)))),
     Plain(Op::Simple(Numeric(FloatUnary(F64, FloatUnaryOp::Sqrt)))),
-    // A0
+    // 0xA0
     Plain(Op::Simple(Numeric(FloatBinary(F64, FloatBinaryOp::Add)))),
     Plain(Op::Simple(Numeric(FloatBinary(F64, FloatBinaryOp::Sub)))),
     Plain(Op::Simple(Numeric(FloatBinary(F64, FloatBinaryOp::Mul)))),
@@ -284,7 +284,7 @@ static CLASSES: [OpClass; 256] = [
     Plain(Op::Simple(Numeric(ExtendU))),
     Plain(Op::Simple(Numeric(Convert(Conversion::I64TruncF32S)))),
     Plain(Op::Simple(Numeric(Convert(Conversion::I64TruncF32U)))),
-    // B0
+    // 0xB0
     Plain(Op::Simple(Numeric(Convert(Conversion::I64TruncF64S)))),
     Plain(Op::Simple(Numeric(Convert(Conversion::I64TruncF64U)))),
     Plain(Op::Simple(Numeric(Convert(Conversion::F32ConvertI32S)))),
@@ -301,7 +301,7 @@ static CLASSES: [OpClass; 256] = [
     Plain(Op::Simple(Numeric(Convert(Conversion::I64ReinterpretF64)))),
     Plain(Op::Simple(Numeric(Convert(Conversion::F32ReinterpretI32)))),
     Plain(Op::Simple(Numeric(Convert(Conversion::F64ReinterpretI64)))),
-    // C0
+    // 0xC0
     Plain(Op::Simple(Numeric(SignExtend(SignExtension::I32From8)))),
     Plain(Op::Simple(Numeric(SignExtend(SignExtension::I32From16)))),
     Plain(Op::Simple(Numeric(SignExtend(SignExtension::I64From8)))),
@@ -318,7 +318,7 @@ static CLASSES: [OpClass; 256] = [
     OpClass::None,
     OpClass::None,
     OpClass::None,
-    // D0
+    // 0xD0
     OpClass::None,
     OpClass::None,
     OpClass::None,
@@ -335,7 +335,7 @@ static CLASSES: [OpClass; 256] = [
     OpClass::None,
     OpClass::None,
     OpClass::None,
-    // E0
+    // 0xE0
     OpClass::None,
     OpClass::None,
     OpClass::None,
@@ -352,7 +352,7 @@ static CLASSES: [OpClass; 256] = [
     OpClass::None,
     OpClass::None,
     OpClass::None,
-    // F0
+    // 0xF0
     OpClass::None,
     OpClass::None,
     OpClass::None,
