@@ -1,7 +1,7 @@
 -- What bytes complete goes to a sink: at each exit of a shortcut it does what the byte step does.
 use Rattle.std.proofs.Common.{◌≡◌, ℕ, suc, ◌+◌, ◌-◌, ◌<◌, ◌≤◌, List, [], ◌∷◌, Option, Some, None, Result, Ok, Err, IfErr, inr, length, length-drop, drop, take, get_or, get_or-drop, slice_index, slice_range, refl, sym, ◌∙◌, ap, subst, arith}
 use Rattle.std.specs.Result.{result_err}
-use Rattle.std.proofs.lemmas.List.{drop-drop}
+use Rattle.std.proofs.lemmas.List.{drop-drop, take_rest}
 use Rattle.wm_syntax.specs.declared.profile.Profile.{Profile}
 use Rattle.wm_syntax.specs.declared.why.Why.{Why}
 use Rattle.wm_syntax.specs.declared.why.Why.TheVariants as why
@@ -248,6 +248,11 @@ pub why_given : {U : Type 0} (r : Result U Why) {m n : Machine} → m ≡ n → 
 why_given (Ok u) en live = sym (ap refusal_in_machine en ∙ live)
 why_given (Err w) en live = refl
 
+-- before the first byte, for what the code knows
+pub none_yet : {H : Type 0} {after : H → Item → Result H Why} {may : H → Item → Type 0} {p : Profile} {bytes : List ℕ} {m n : Machine} {h : H} → n ≡ m → Advances after may p bytes m h (record { used = 0; refused = None }) n h
+none_yet {after = after} {may = may} {p = p} {bytes = bytes} {m = m} {h = h} e =
+    subst (λ y. Advances after may p bytes m h (record { used = 0; refused = None }) y h) (sym e) (advances_none after may p bytes m h (record { used = 0; refused = None }) refl refl)
+
 -- A sink was given what bytes of a section completed, after other bytes: it took all, or refused the last of them.
 module _ {H U : Type 0} {after : H → Item → Result H Why} {may : H → Item → Type 0} {p : Profile} {bytes : List ℕ} {start i : ℕ} {of : SectionKind} {functions more left : ℕ} {q : InMember} {l m n : Machine} {xs : List Completed} {last : Option Completed} {h e f : H}
     {u : Shortcut} (em : l ≡ m) (before : Advances after may p bytes m h (record { used = start; refused = None }) (machine.Section of functions more left q) e)
@@ -267,7 +272,16 @@ module _ {H U : Type 0} {after : H → Item → Result H Why} {may : H → Item 
 module _ {H U : Type 0} {after : H → Item → Result H Why} {may : H → Item → Type 0} {p : Profile} {bytes : List ℕ} {i : ℕ} {of : SectionKind} {functions more left : ℕ} {q : InMember} {m n : Machine} {xs : List Completed} {last : Option Completed} {h f : H}
     {u : Shortcut} (em : m ≡ machine.Section of functions more left q) (steps : Completes p bytes 0 (machine.Section of functions more left q) xs last i n) (some : 0 < i) (gave : Gave after xs h f) (used : u.used ≡ i) (r : Result U Why) (g : H) where
   pub first_taken : {o : Machine} → o ≡ n → u.refused ≡ why_refused r o → Taken (last_taken after last f) r g → IfErr r (λ w. w ≡ why.Memory → LastMayRunOut may last f) → Advances after may p bytes m h u o g
-  first_taken en er given quiet = then_taken em (advances_none after may p bytes (machine.Section of functions more left q) h (record { used = 0; refused = None }) refl refl) steps some gave used r g en er given quiet
+  first_taken en er given quiet = then_taken em (none_yet refl) steps some gave used r g en er given quiet
 
   pub first_refused : {o : Machine} {d : H} {w : Why} → u.refused ≡ Some w → r ≡ Err w → Taken (last_taken after last f) r g → IfErr r (λ w. w ≡ why.Memory → LastMayRunOut may last f) → Advances after may p bytes m h u o d
-  first_refused is er given quiet = then_refused em (advances_none after may p bytes (machine.Section of functions more left q) h (record { used = 0; refused = None }) refl refl) steps some gave used r g is er given quiet
+  first_refused is er given quiet = then_refused em (none_yet refl) steps some gave used r g is er given quiet
+
+-- the same bytes, all of which it took, and a shortcut behind them
+pub first_then : {H : Type 0} {after : H → Item → Result H Why} {may : H → Item → Type 0} {p : Profile} {bytes : List ℕ} {i : ℕ} {of : SectionKind} {functions more left : ℕ} {q : InMember} {l m n o : Machine} {xs : List Completed} {h f g : H} {t u : Shortcut}
+    → m ≡ machine.Section of functions more left q → Completes p bytes 0 (machine.Section of functions more left q) xs None i n → 0 < i → refusal_in_machine n ≡ None → Gave after xs h f
+    → Advances after may p (slice_range bytes i (length bytes)) n f t o g → l ≡ o → u.used ≡ i + t.used → u.refused ≡ t.refused → Advances after may p bytes m h u l g
+first_then {after = after} {may = may} {p = p} {bytes = bytes} {i = i} {l = l} {m = m} {n = n} {o = o} {h = h} {f = f} {g = g} {t = t} {u = u} em steps some live gave behind en eu er =
+    advances_by after may p bytes m l m o h g u refl en
+    (advances_on after may p bytes m n o h f g (record { used = i; refused = None }) t u (first_taken em steps some gave refl ok f refl (sym live) refl tt) refl
+    (subst (λ (y : List ℕ). Advances after may p y n f t o g) (take_rest bytes i) behind) eu er)

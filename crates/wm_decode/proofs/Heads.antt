@@ -90,7 +90,7 @@ module _ {p : Profile} {bytes : List ℕ} where
   module _ (e : InSection) where
     pub sized : {used v : ℕ} → IsShort bytes used v → 0 < v → used ≤ e.more → used ≤ length bytes → Completes p bytes 0 (before_member section_kind.Code e) [] (Some (part plain.Body)) used (sized_at e used v)
     sized {used = used} {v = v} short some more inside =
-        let lies = short_lies short inside in
+        let lies : LiesAt (unsigned_push 32) bytes 0 used v = short_lies short inside in
         let first : 0 < used = lies.some in
         let one : v ≡ suc (v - 1) = omega arith in
         number_whole {room = used - 1} (λ _. at.EntrySize) (λ _ r s c is f more. ap (λ y. sized_by e f more y) is) (suc (e.more - used)) 0 (sized_at e used v) (Some plain.Body) lies no_byte (omega arith) (omega arith)

@@ -1,7 +1,6 @@
 -- An import and an export, taken at once, are what the byte step makes of them.
-use Rattle.std.proofs.Common.{◌≡◌, ℕ, suc, ◌+◌, ◌-◌, ◌<◌, ◌≤◌, List, [], ◌∷◌, Some, None, Result, length, slice_index, slice_range, refl, ◌∙◌, ap, arith}
+use Rattle.std.proofs.Common.{◌≡◌, ℕ, suc, ◌+◌, ◌-◌, ◌<◌, ◌≤◌, List, [], ◌∷◌, Some, None, length, slice_index, slice_range, refl, ◌∙◌, ap, arith}
 use Rattle.wm_syntax.specs.declared.profile.Profile.{Profile}
-use Rattle.wm_syntax.specs.declared.why.Why.{Why}
 use Rattle.wm_syntax.specs.declared.modules.ImportDesc.TheVariants as desc
 use Rattle.wm_syntax.specs.declared.modules.ExportKind.{ExportKind}
 use Rattle.wm_syntax.specs.exact.Reading.{fresh, unsigned_push}
@@ -16,21 +15,18 @@ use Rattle.wm_decode.specs.declared.step.values.InValue.TheVariants as value
 use Rattle.wm_decode.specs.declared.step.values.InImportDesc.TheVariants as import
 use Rattle.wm_decode.specs.declared.step.values.InExportDesc.TheVariants as target
 use Rattle.wm_decode.specs.declared.shortcuts.in_section.InSection.{InSection}
-use Rattle.wm_decode.specs.Items.{Item}
 use Rattle.wm_decode.specs.exact.Steps.{machine_in_member}
 use Rattle.wm_decode.specs.exact.MemberSteps.{on_value, with_item_given}
 use Rattle.wm_decode.specs.exact.ValueSteps.{desc_kind_step, of_export, of_import, read_number}
 use Rattle.wm_decode.specs.exact.ShortSteps.{StepsTo}
 use Rattle.wm_decode.specs.exact.Members.{member_at_start}
 use Rattle.wm_decode.specs.declared.machine.member.SectionKind.{SectionKind}
-use Rattle.wm_decode.specs.exact.Shortcuts.{Advances}
 use Rattle.wm_decode.specs.exact.Completed.{Completes}
 use Rattle.wm_decode.specs.exact.Completed.Completed.{part, named}
 use Rattle.wm_decode.specs.exact.Completed.Completes.{no_byte, one_name}
 use Rattle.wm_decode.specs.exact.WholeMembers.{before_member, section_after}
 use Rattle.wm_decode.specs.exact.WholeOps.{LiesAt}
 use Rattle.wm_decode.specs.exact.WholeNames.{IsKindByte, NameLies}
-use Rattle.wm_decode.proofs.Advances.{advances_by, advances_none}
 use Rattle.wm_decode.proofs.Completed.{byte_on}
 use Rattle.wm_decode.proofs.NumberSteps.{ByteGoesOn, EndsWithNumber, ReadsNumber, framed, number_on, number_over}
 
@@ -140,16 +136,10 @@ module _ {p : Profile} {bytes : List ℕ} {i f left : ℕ} (more : ℕ) where
           number_over rest (index_ends p left k) index (export_begun (omega arith)) (omega arith)
 
 -- before the first of them
-start_of : (of : SectionKind) (i : InSection) → before_member of (section_after i 0 i.left) ≡ before_member of i
+pub start_of : (of : SectionKind) (i : InSection) → before_member of (section_after i 0 i.left) ≡ before_member of i
 start_of of i =
     let a : i.more - 0 ≡ i.more = omega arith in
     ap (λ x. machine.Section of i.functions x i.left (member_at_start of)) a
-
-pub members_begun : {H : Type 0} (after : H → Item → Result H Why) (may : H → Item → Type 0) (p : Profile) (bytes : List ℕ) (h : H) (of : SectionKind) (i : InSection)
-    → Advances after may p bytes (before_member of i) h (record { used = 0; refused = None }) (before_member of (section_after i 0 i.left)) h
-members_begun after may p bytes h of i =
-    advances_by after may p bytes (before_member of i) (before_member of (section_after i 0 i.left)) (before_member of i) (before_member of i) h h (record { used = 0; refused = None }) refl (start_of of i)
-    (advances_none after may p bytes (before_member of i) h (record { used = 0; refused = None }) refl refl)
 
 -- and after it
 pub next_at : (of : SectionKind) (i : InSection) (left from to : ℕ) → from < to → before_member of (section_after i to left) ≡ machine.Section of i.functions (i.more - from - (to - from)) left (member_at_start of)

@@ -1,7 +1,5 @@
-use Rattle.std.proofs.Common.{◌≡◌, suc, ◌-◌, None, arith, refl, sym, ◌∙◌}
-use Rattle.wm_decode.specs.exact.TypeStarts.{in_params}
-use Rattle.wm_decode.proofs.Advances.{advances_by, advances_none}
-use Rattle.wm_decode.proofs.Completed.{ok, then_refused, then_taken}
+use Rattle.std.proofs.Common.{◌≡◌, suc, ◌-◌, arith, refl, sym, ◌∙◌}
+use Rattle.wm_decode.proofs.Completed.{none_yet, ok, then_refused, then_taken}
 use Rattle.wm_decode.proofs.Completed.Gave.{nothing}
 use Rattle.wm_decode.proofs.FunctionTypes.{param_completes, params_start}
 use Rattle.wm_decode.proofs.shortcuts.function_types.give_params.Goals as goal
@@ -10,7 +8,7 @@ pub loop-params-init : goal.loop-params-init
 loop-params-init g c = record {
   within = omega arith;
   section = omega arith;
-  advanced = advances_by g.S.Sink.after g.S.Sink.may_run_out c.args.profile _ _ _ _ _ _ _ _ refl (params_start c.args.start) (advances_none g.S.Sink.after g.S.Sink.may_run_out c.args.profile c.args.bytes.now (in_params c.args.start) (g.S.Sink.held c.args.sink.now) (record { used = 0; refused = None }) refl refl);
+  advanced = none_yet (params_start c.args.start);
 }
 
 pub returns-in-Err-clause-advances : goal.returns-in-Err-clause-advances

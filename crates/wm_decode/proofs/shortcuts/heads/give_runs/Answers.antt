@@ -1,7 +1,5 @@
-use Rattle.std.proofs.Common.{◌≡◌, suc, ◌-◌, None, arith, refl}
-use Rattle.wm_decode.specs.exact.Heads.{in_head}
-use Rattle.wm_decode.proofs.Advances.{advances_by, advances_none}
-use Rattle.wm_decode.proofs.Completed.{ok, then_refused, then_taken}
+use Rattle.std.proofs.Common.{◌≡◌, suc, ◌-◌, arith, refl}
+use Rattle.wm_decode.proofs.Completed.{none_yet, ok, then_refused, then_taken}
 use Rattle.wm_decode.proofs.Completed.Gave.{nothing}
 use Rattle.wm_decode.proofs.Heads.{head_start, run_completes}
 use Rattle.wm_decode.proofs.shortcuts.heads.give_runs.Goals as goal
@@ -11,7 +9,7 @@ loop-runs-init g c = record {
   within = omega arith;
   section = omega arith;
   own = omega arith;
-  advanced = advances_by g.S.Sink.after g.S.Sink.may_run_out c.args.profile _ _ _ _ _ _ _ _ refl (head_start c.args.start) (advances_none g.S.Sink.after g.S.Sink.may_run_out c.args.profile c.args.bytes.now (in_head c.args.start) (g.S.Sink.held c.args.sink.now) (record { used = 0; refused = None }) refl refl);
+  advanced = none_yet (head_start c.args.start);
 }
 
 pub returns-in-Err-clause-advances : goal.returns-in-Err-clause-advances

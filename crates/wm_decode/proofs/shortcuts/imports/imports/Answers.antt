@@ -1,16 +1,16 @@
 use Rattle.std.proofs.Common.{◌+◌, ◌<◌, ◌≤◌, ◌-◌, arith, refl}
 use Rattle.wm_decode.specs.declared.machine.member.SectionKind.TheVariants as section_kind
 use Rattle.wm_decode.specs.exact.WholeMembers.{before_member, section_after}
-use Rattle.wm_decode.proofs.Completed.{ok, then_refused, then_taken}
+use Rattle.wm_decode.proofs.Completed.{none_yet, ok, then_refused, then_taken}
 use Rattle.wm_decode.proofs.Completed.Gave.{also, nothing}
-use Rattle.wm_decode.proofs.NamedMembers.{import_completes, import_named, members_begun, module_named, next_at}
+use Rattle.wm_decode.proofs.NamedMembers.{import_completes, import_named, start_of, module_named, next_at}
 use Rattle.wm_decode.proofs.shortcuts.imports.imports.Goals as goal
 
 pub loop-left-init : goal.loop-left-init
 loop-left-init g c = record {
   within = omega arith;
   section = omega arith;
-  advanced = members_begun g.S.Sink.after g.S.Sink.may_run_out c.args.profile c.args.bytes.now (g.S.Sink.held c.args.sink.now) section_kind.Import c.in-Some.start;
+  advanced = none_yet (start_of section_kind.Import c.in-Some.start);
 }
 
 pub returns-in-Err : goal.returns-in-Err

@@ -1,8 +1,7 @@
-use Rattle.std.proofs.Common.{◌≤◌, None, arith, refl}
-use Rattle.wm_decode.specs.exact.Indices.{before_index, index_room}
+use Rattle.std.proofs.Common.{◌≤◌, arith, refl}
+use Rattle.wm_decode.specs.exact.Indices.{index_room}
 use Rattle.wm_decode.specs.exact.Completed.Completes.{no_byte}
-use Rattle.wm_decode.proofs.Advances.{advances_by, advances_none}
-use Rattle.wm_decode.proofs.Completed.{ok, then_refused, then_taken}
+use Rattle.wm_decode.proofs.Completed.{none_yet, ok, then_refused, then_taken}
 use Rattle.wm_decode.proofs.Completed.Gave.{nothing}
 use Rattle.wm_decode.proofs.IndexNumbers.{index_completes, indices_start}
 use Rattle.wm_decode.proofs.shortcuts.whole_indices.whole_indices.Goals as goal
@@ -12,7 +11,7 @@ loop-count-init g c = record {
   within = omega arith;
   room = omega arith;
   followed = omega arith;
-  advanced = advances_by g.S.Sink.after g.S.Sink.may_run_out c.args.profile _ _ _ _ _ _ _ _ refl (indices_start c.args.before) (advances_none g.S.Sink.after g.S.Sink.may_run_out c.args.profile c.args.bytes.now (before_index c.args.before) (g.S.Sink.held c.args.sink.now) (record { used = 0; refused = None }) refl refl);
+  advanced = none_yet (indices_start c.args.before);
 }
 
 pub returns-in-Err : goal.returns-in-Err
