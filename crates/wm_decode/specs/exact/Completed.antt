@@ -1,6 +1,6 @@
 -- What bytes complete, and where they lead, whatever receives it: the exact form, for the proofs above it.
-use Rattle.std.specs.Prelude.{◌≡◌, ℕ, suc, ◌+◌, ◌-◌, ◌<◌, ◌≤◌, List, [], ◌∷◌, length, slice_index, slice_range}
-use Rattle.std.specs.Prelude.{Option, Some, None, Result, Ok}
+use Rattle.std.specs.Prelude.{◌≡◌, ℕ, suc, ◌+◌, ◌-◌, ◌<◌, ◌≤◌, List, [], ◌∷◌, length, slice_index}
+use Rattle.std.specs.Prelude.{Option, Some, None, Result, Ok, slice_range}
 use Rattle.wm_syntax.specs.declared.profile.Profile.{Profile}
 use Rattle.wm_syntax.specs.declared.why.Why.{Why}
 use Rattle.wm_syntax.specs.exact.Reading.{fresh}
@@ -62,5 +62,5 @@ pub data Completes (p : Profile) (bytes : List ℕ) (start : ℕ) (m : Machine) 
       → NameLies bytes i stop → stop ≤ length bytes → stop ≤ i + more
       → ((n : ℕ) → machine_in_member of f (suc n) left (after_name kind)
       ≡ machine.Section of f n left (after_name kind))
-      → Completes p bytes start m (with_last last xs) (Some (named kind (slice_range bytes (i + 1) stop))) stop
-      (machine.Section of f (more - (stop - i)) left (after_name kind))
+      → Completes p bytes start m (with_last last xs) (Some (named kind (slice_range bytes (i + 1) stop)))
+      stop (machine.Section of f (more - (stop - i)) left (after_name kind))
