@@ -20,6 +20,7 @@ use Rattle.wm_syntax.specs.Instructions.{choice}
 use Rattle.wm_read.specs.Tokens.{Token, open_paren, close_paren, atom, IsUnsigned, IsInteger}
 use Rattle.wm_read.specs.Identifiers.{Id, Ids, One, WritesId, Resolves, ResolvesLabel}
 
+-- this word, a keyword of the text format (section 6.3.1)
 abbrev pub Keyword : List ℕ → Form Token
 Keyword w = Exactly (atom w ∷ [])
 

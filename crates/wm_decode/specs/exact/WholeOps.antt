@@ -61,7 +61,7 @@ pub record LiesAt {T : Type 0} (push : Partial → ℕ → Step T × Partial) (b
 abbrev pub one_signed : ℕ → ℤ
 one_signed c = if nat_lt c (2 ^ 6) then pos c else pos c -ℤ pos (2 ^ 7)
 
--- what a byte says of an op that begins with it
+-- what a byte says of an op of the profile that begins with it
 abbrev pub first_read : Profile → ℕ → Reading InOp Op
 first_read p c = first_step (class_row p c)
 

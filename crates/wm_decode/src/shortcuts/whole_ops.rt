@@ -57,8 +57,8 @@ pub(crate) struct Ran {
     pub(crate) refused: Option<Why>,
 }
 
-// Readers of the ops after whose first byte comes nothing, an index, a type, a number or two. The profile is
-// named where not every one has the op.
+// Readers of the ops after whose first byte comes nothing, an index, a type, a number or two. Those of one byte
+// and of accesses are told the profile, since not each has all of these; each profile has the others.
 
 #[inline(always)]
 #[tactic(auto, using(crate::proofs::OpLists::under_alone))]

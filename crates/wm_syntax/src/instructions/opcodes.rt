@@ -42,8 +42,8 @@ pub fn op_of(profile: Profile, byte: u8) -> OpClass
     within(profile, class_at(byte))
 }
 
-/// The numeric instruction of the profile that begins with this byte (section 5.4.5): a small value, where an
-/// `OpClass` is a large one.
+/// The numeric instruction of the profile that begins with this byte (section 5.4.5), in three bytes, where
+/// an `OpClass` has 24 and more.
 #[inline(always)]
 pub fn numeric_of(profile: Profile, byte: u8) -> Option<NumericOp>
     // Each numeric instruction of the profile is found at its byte, and none at another.
