@@ -1,5 +1,5 @@
 -- What shortcuts do is what the byte step does, one after another too.
-use Rattle.std.proofs.Common.{◌≡◌, ◌≢◌, ℕ, zero, suc, ◌+◌, ◌-◌, ◌<◌, ◌≤◌, List, [], Option, Some, None, Result, Ok, Err, MatchResult, IfErr, inl, inr, length, length-drop, length-take, map, min, drop, take, get_or, get_or-drop, get_or-take, slice_index, slice_range, refl, sym, ◌∙◌, ap, subst, arith}
+use Rattle.std.proofs.Common.{◌≡◌, ◌≢◌, ℕ, zero, suc, ◌+◌, ◌-◌, ◌<◌, ◌≤◌, List, [], Option, Some, None, Result, Ok, Err, MatchResult, IfErr, inl, inr, length, length-drop, length-take, map, drop, take, get_or, get_or-drop, get_or-take, slice_index, slice_range, refl, sym, ◌∙◌, ap, subst, arith}
 use Rattle.std.specs.Result.{result_err}
 use Rattle.std.proofs.Math.Seq.{take-length}
 use Rattle.std.proofs.lemmas.List.{drop-drop, take_rest}
@@ -11,25 +11,15 @@ use Rattle.wm_decode.specs.declared.machine.Machine.TheVariants as machine
 use Rattle.wm_decode.specs.declared.machine.InCustom.TheVariants as custom
 use Rattle.wm_decode.specs.declared.machine.member.SectionKind.{SectionKind}
 use Rattle.wm_decode.specs.declared.machine.member.InMember.TheVariants as at
-use Rattle.wm_decode.specs.declared.shortcuts.in_body.InBody.{InBody}
-use Rattle.wm_decode.specs.declared.shortcuts.indices.InIndices.{InIndices}
-use Rattle.wm_decode.specs.declared.shortcuts.short_steps.Stepped.{Stepped}
-use Rattle.wm_decode.specs.declared.shortcuts.short_steps.Place.{Place}
 use Rattle.wm_decode.specs.declared.shortcuts.Shortcut.{Shortcut}
 use Rattle.wm_decode.specs.Items.{Item, data_byte}
-use Rattle.wm_decode.specs.Sinks.{Taken, all_taken, and_then}
-use Rattle.wm_decode.specs.exact.Steps.{step_of, machine_in_member}
+use Rattle.wm_decode.specs.Sinks.{all_taken, and_then}
+use Rattle.wm_decode.specs.exact.Steps.{machine_in_member}
 use Rattle.wm_decode.specs.exact.MemberSteps.{data_or_over}
 use Rattle.wm_decode.specs.exact.Live.{IsAt, MayRunOutAtByte, decoder_after, live_or_refused, refusal_in_machine}
-use Rattle.wm_decode.specs.exact.Indices.{GaveEach, before_index, index_item_in, indices_after}
-use Rattle.wm_decode.specs.exact.ShortSteps.{PartMayRunOut, StepsTo, after_stepped, part_event, part_taken, standing}
 use Rattle.wm_decode.specs.exact.Shortcuts.{Advances, live_so}
-use Rattle.wm_decode.specs.exact.WholeOps.{RanTo, before_op}
 use Rattle.wm_decode.proofs.Header.{stays}
-use Rattle.wm_decode.proofs.IndexBytes.{InFront, indices_moved, indices_refused}
-use Rattle.wm_decode.proofs.ShortSteps.{part_err, part_ok, part_room, short_moved, short_refused}
 use Rattle.wm_decode.proofs.Stretches.{data_decoded, data_ended, goes_on, is_refused, skips, still_live, stops}
-use Rattle.wm_decode.proofs.WholeOps.{ran_decoded, ran_refused}
 
 pub not_both : (r : Option Why) (w : Why) → r ≡ None → r ≡ Some w → ⊥
 not_both r w a b = let s : None ≡ Some w = sym a ∙ b in cc
@@ -98,43 +88,6 @@ module _ {H : Type 0} (after : H → Item → Result H Why) (may : H → Item �
   pub advances_by : (bytes : List ℕ) (m n x y : Machine) (h g : H) (s : Shortcut) → m ≡ x → n ≡ y → Advances after may p bytes x h s y g → Advances after may p bytes m h s n g
   advances_by bytes m n x y h g s em en a = subst (λ z. Advances after may p bytes z h s n g) (sym em) (subst (λ z. Advances after may p bytes x h s z g) (sym en) a)
 
-  -- one byte that goes by a shorter way
-  module _ (bytes : List ℕ) (h g : H) (q : Place) (x : Stepped) (s : Shortcut) (more : 0 < q.more) (some : 0 < length bytes) (to : StepsTo p q.of q.left q.at (slice_index bytes 0) x) (used : s.used ≡ 1) where
-    abbrev next : Machine
-    next = after_stepped q.of q.functions (q.more - 1) x
-
-    steps : step_of p (standing q) (slice_index bytes 0) ≡ (next, part_event x.part)
-    steps =
-        let one : q.more ≡ suc (q.more - 1) = omega arith in
-        ap (λ i. step_of p (machine.Section q.of q.functions i q.left q.at) (slice_index bytes 0)) one ∙ to q.functions (q.more - 1)
-
-    pub advances_step : {U : Type 0} (r : Result U Why) → s.refused ≡ result_err r → Taken (part_taken after x.part h) r g → IfErr r (λ w. w ≡ why.Memory → PartMayRunOut may x.part h)
-        → Advances after may p bytes (standing q) h s next g
-    advances_step (Ok u) is given quiet = record {
-      within = omega arith;
-      still = λ e. absurd (omega arith);
-      moved = λ limit k name go none fits.
-          short_moved after p limit bytes (standing q) q.of q.functions (q.more - 1) x.left x.at (part_event x.part) name h g k some (omega arith) steps (part_ok after x.part name (slice_index bytes 0) h g given)
-          ∙ ap (λ i. decoder_after after p limit (live_so next [] g (k + i)) (drop i bytes)) (sym used);
-      stopped = λ limit k name w no ne fits. absurd (not_both s.refused w is no);
-      live = λ none l r. r;
-      past_header = λ k go far. (omega arith, λ none. omega arith);
-      room = λ k name short no. absurd (not_both s.refused why.Memory is no);
-    }
-    advances_step (Err v) is given quiet = record {
-      within = omega arith;
-      still = λ e. absurd (omega arith);
-      moved = λ limit k name go none fits. absurd (not_both s.refused v none is);
-      stopped = λ limit k name w no ne fits.
-          let same : v ≡ w = same_why s.refused v w is no in
-          short_refused after p limit bytes (standing q) next (part_event x.part) name h k w some (omega arith) steps
-          (part_err after x.part name (slice_index bytes 0) h w (given (λ e. ne (sym same ∙ e)) ∙ ap Err same))
-          ∙ ap (λ i. Err (record { at = k + i; why = w })) (sym used);
-      live = λ none l r. r;
-      past_header = λ k go far. (omega arith, λ none. omega arith);
-      room = λ k name short no. part_room may p (standing q) next x.part name h k (slice_index bytes 0) steps (quiet (same_why s.refused v why.Memory is no));
-    }
-
   -- where the sink refused it does not matter where the machine was left
   pub advances_out : (bytes : List ℕ) (m n o : Machine) (h g f : H) (s : Shortcut) (w : Why) → s.refused ≡ Some w → 0 < s.used → Advances after may p bytes m h s n g → Advances after may p bytes m h s o f
   advances_out bytes m n o h g f s w is some a = record {
@@ -165,56 +118,6 @@ module _ {H : Type 0} (after : H → Item → Result H Why) (may : H → Item �
           let same : s ≡ u = alike s (omega arith) (none ∙ sym (er ∙ still.0)) in
           subst (λ y. Advances after may p bytes m h y n g) same (subst (λ y. Advances after may p bytes m h s y g) (sym still.1) (subst (λ y. Advances after may p bytes m h s o y) (sym still.2) a))
       by_count (suc i) e (suc j) d = advances_then bytes m o n h f g s t u a none (omega arith) b (omega arith) eu er
-
-  -- a byte after other bytes
-  pub advances_more : {U : Type 0} (bytes : List ℕ) (m n : Machine) (h f g : H) (q : Place) (x : Stepped) (i : ℕ) (u : Shortcut) (r : Result U Why)
-      → Advances after may p bytes m h (record { used = i; refused = None }) (standing q) f → i < length bytes → 0 < q.more → StepsTo p q.of q.left q.at (slice_index bytes i) x
-      → u.used ≡ i + 1 → u.refused ≡ result_err r → Taken (part_taken after x.part f) r g → IfErr r (λ w. w ≡ why.Memory → PartMayRunOut may x.part f)
-      → n ≡ after_stepped q.of q.functions (q.more - 1) x → Advances after may p bytes m h u n g
-  advances_more bytes m n h f g q x i u r a less more to eu er given quiet en =
-      let left : length (drop i bytes) ≡ length bytes - i = length-drop i bytes in
-      let place : i + 0 ≡ i = omega arith in
-      let first : slice_index bytes i ≡ slice_index (drop i bytes) 0 = sym (rw (get_or-drop) (ap (λ j. get_or bytes j 0) place)) in
-      let here : StepsTo p q.of q.left q.at (slice_index (drop i bytes) 0) x = subst (λ c. StepsTo p q.of q.left q.at c x) first to in
-      let one = advances_step (drop i bytes) f g q x (record { used = 1; refused = u.refused }) more (omega arith) here refl r er given quiet in
-      advances_by bytes m n m (after_stepped q.of q.functions (q.more - 1) x) h g u refl en
-      (advances_on bytes m (standing q) (after_stepped q.of q.functions (q.more - 1) x) h f g (record { used = i; refused = None }) (record { used = 1; refused = u.refused }) u a refl one eu refl)
-
-  -- whole ops
-  pub advances_ops : (bytes : List ℕ) (b : InBody) (h g : H) (s : Shortcut) (d : ℕ) → RanTo after p h bytes (min b.more b.rest) b.depth s.used d s.refused g
-      → s.used ≤ length bytes → 0 < s.used → (length bytes ≤ 1 → s.used ≡ 0)
-      → Advances after may p bytes (before_op b) h s (before_op (record b { more = b.more - s.used; rest = b.rest - s.used; depth = d })) g
-  advances_ops bytes b h g s d ran within some one =
-      let so : (r : Option Why) → s.refused ≡ r → RanTo after p h bytes (min b.more b.rest) b.depth s.used d r g = λ r e. subst (λ y. RanTo after p h bytes (min b.more b.rest) b.depth s.used d y g) e ran in
-      record {
-        within = within;
-        still = λ e. absurd (omega arith);
-        moved = λ limit k name go none fits. ran_decoded after p limit bytes b name h g k s.used d (so None none) fits some;
-        stopped = λ limit k name w is ne fits. ran_refused after p limit bytes b name h g k s.used d w (so (Some w) is) fits ne;
-        live = λ none l r. r;
-        past_header = λ k go far. (omega arith, λ none. omega arith);
-        room = λ k name short is. absurd (let none : s.used ≡ 0 = one short in omega arith);
-      }
-
-  -- indices, of which there are two or more
-  pub advances_indices : (bytes : List ℕ) (i : InIndices) (h g : H) (s : Shortcut) (count : ℕ) → InFront bytes i count → 2 ≤ count
-      → GaveEach after (index_item_in i.list) (take count bytes) h s.used s.refused g → s.used ≤ count → Advances after may p bytes (before_index i) h s (before_index (indices_after i s.used)) g
-  advances_indices bytes i h g s count front two gave few =
-      let inside : count ≤ length bytes = front.inside in
-      let some : 0 < s.used = used_some s.used s.refused gave in
-      record {
-        within = omega arith;
-        still = λ e. absurd (omega arith);
-        moved = λ limit k name go none fits. indices_moved after p limit bytes i count s.used name h g k s.refused front (omega arith) gave none fits;
-        stopped = λ limit k name w is ne fits. indices_refused after p limit bytes i count s.used name h g k s.refused w front gave is fits ne;
-        live = λ none l r. r;
-        past_header = λ k go far. (omega arith, λ none. omega arith);
-        room = λ k name short is. absurd (omega arith);
-      }
-    where
-      used_some : (used : ℕ) (r : Option Why) → GaveEach after (index_item_in i.list) (take count bytes) h used r g → 0 < used
-      used_some used None t = let all : used ≡ length (take count bytes) = t.0 in let inside : count ≤ length bytes = front.inside in omega (arith, length-take count bytes)
-      used_some used (Some w) t = let last : used ≡ t.0 + 1 = t.2 in omega arith
 
   -- the bytes of a custom section
   pub advances_pass : (bytes : List ℕ) (h : H) (s : Shortcut) (last f more : ℕ) → s.used ≤ length bytes → s.used ≤ more → s.refused ≡ None

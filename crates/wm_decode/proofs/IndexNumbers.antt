@@ -1,10 +1,8 @@
 -- An index of any length is taken as the byte step takes it: one after which another of its list comes, and the last.
-use Rattle.std.proofs.Common.{◌≡◌, ℕ, suc, ◌+◌, ◌-◌, ◌<◌, ◌≤◌, List, Some, None, Result, IfErr, length, slice_index, slice_range, refl, sym, ◌∙◌, ap, subst, arith}
-use Rattle.std.specs.Result.{result_err}
+use Rattle.std.proofs.Common.{◌≡◌, ℕ, suc, ◌+◌, ◌-◌, ◌<◌, ◌≤◌, List, [], Option, Some, None, slice_index, refl, sym, ◌∙◌, ap, subst, arith}
 use Rattle.wm_syntax.specs.declared.profile.Profile.{Profile}
 use Rattle.wm_syntax.specs.declared.numbers.Step.TheVariants as step
 use Rattle.wm_syntax.specs.inner.Numbers.{Partial}
-use Rattle.wm_syntax.specs.declared.why.Why.{Why}
 use Rattle.wm_syntax.specs.declared.why.Why.TheVariants as why
 use Rattle.wm_syntax.specs.declared.instructions.Op.TheVariants as op
 use Rattle.wm_syntax.specs.exact.Reading.{fresh, unsigned_push}
@@ -19,24 +17,21 @@ use Rattle.wm_decode.specs.declared.machine.member.InMember.TheVariants as at
 use Rattle.wm_decode.specs.declared.machine.member.IndexOf.TheVariants as index_of
 use Rattle.wm_decode.specs.declared.machine.member.InEntry.TheVariants as entry
 use Rattle.wm_decode.specs.declared.step.expressions.InExpression.TheVariants as expression
-use Rattle.wm_decode.specs.declared.shortcuts.Shortcut.{Shortcut}
 use Rattle.wm_decode.specs.declared.shortcuts.short_steps.Stepped.{Stepped}
 use Rattle.wm_decode.specs.declared.shortcuts.indices.IndexList.{IndexList}
 use Rattle.wm_decode.specs.declared.shortcuts.indices.IndexList.TheVariants as list
 use Rattle.wm_decode.specs.declared.shortcuts.indices.InIndices.{InIndices}
-use Rattle.wm_decode.specs.Items.{Item}
-use Rattle.wm_decode.specs.Sinks.{Taken}
 use Rattle.wm_decode.specs.exact.OpSteps.{on_answer}
 use Rattle.wm_decode.specs.exact.ExpressionSteps.{after_label, expression_failed}
 use Rattle.wm_decode.specs.exact.MemberSteps.{member_step, on_number, after_index, index_item, with_item_given, member_in_entry, entry_after_op, op_event}
 use Rattle.wm_decode.specs.exact.ShortSteps.{StepsTo}
-use Rattle.wm_decode.specs.exact.Shortcuts.{Advances, why_refused}
-use Rattle.wm_decode.specs.exact.Indices.{LiesIn, after_last, at_index, before_index, followed_in, index_item_in, index_part, indices_ended, indices_past, list_past, members_after, room_in}
-use Rattle.wm_decode.specs.exact.WholeOps.{IsNumber, LiesAt}
-use Rattle.wm_decode.proofs.Advances.{advances_by, advances_more, advances_none}
-use Rattle.wm_decode.proofs.IndexBytes.{item_past, lies_past}
-use Rattle.wm_decode.proofs.LastBytes.{advances_last}
-use Rattle.wm_decode.proofs.NumberSteps.{BeforeLast, NumberGoesOn, before_last, framed}
+use Rattle.wm_decode.specs.exact.Completed.{Completed, Completes, with_last}
+use Rattle.wm_decode.specs.exact.Completed.Completed.{part}
+use Rattle.wm_decode.specs.exact.Completed.Completes.{no_byte}
+use Rattle.wm_decode.specs.exact.Steps.{machine_in_member}
+use Rattle.wm_decode.specs.exact.Indices.{LiesIn, after_last, at_index, before_index, followed_in, index_part, indices_ended, indices_past, list_past, members_after, room_in}
+use Rattle.wm_decode.specs.exact.WholeOps.{LiesAt}
+use Rattle.wm_decode.proofs.NumberSteps.{NumberGoesOn, framed, number_whole}
 
 -- where an index of a list stands after some of its bytes, with so many bytes of what it lies in to come after the next
 abbrev in_index : IndexList → ℕ → Partial → InMember
@@ -106,30 +101,31 @@ begins_next more n list.Types = refl
 begins_next more n (list.Functions rest) = refl
 begins_next more n (list.Labels rest depth labels) = refl
 
-module _ {H : Type 0} (after : H → Item → Result H Why) (may : H → Item → Type 0) (p : Profile) (bytes : List ℕ) (m : Machine) (h e g : H) where
-  -- one index after other bytes
-  one_index : {U : Type 0} (q : InIndices) (i last v : ℕ) (u : Shortcut) (r : Result U Why) → LiesIn q.of q.list → Advances after may p bytes m h (record { used = i; refused = None }) (before_index q) e
-      → LiesAt (unsigned_push 32) bytes i last v → last - i ≤ room_in q.more q.list → 0 < followed_in q.left q.list
-      → u.used ≡ last → u.refused ≡ result_err r → Taken (after e (index_item_in q.list v)) r g → IfErr r (λ w. w ≡ why.Memory → may e (index_item_in q.list v))
-      → Advances after may p bytes m h u (before_index (indices_past q (last - i) 1)) g
-  one_index q i last v u r lies before number room some eu er given quiet =
+-- after some bytes, which were some indices, they are of the same list
+pub lies_past : (of : SectionKind) (l : IndexList) (i j : ℕ) → LiesIn of l → LiesIn of (list_past l i j)
+lies_past of list.Types i j lies = lies
+lies_past of (list.Functions rest) i j lies = tt
+lies_past of (list.Labels rest depth labels) i j lies = tt
+
+pub part_past : (l : IndexList) (i j v : ℕ) → index_part (list_past l i j) v ≡ index_part l v
+part_past list.Types i j v = refl
+part_past (list.Functions rest) i j v = refl
+part_past (list.Labels rest depth labels) i j v = refl
+
+module _ {p : Profile} {bytes : List ℕ} {start : ℕ} {m : Machine} {xs : List Completed} {before : Option Completed} (q : InIndices) where
+  -- one index after which another comes
+  one_index : {i last v : ℕ} (n : Machine) → LiesIn q.of q.list → LiesAt (unsigned_push 32) bytes i last v → last - i ≤ room_in q.more q.list → 0 < followed_in q.left q.list → Completes p bytes start m xs before i (before_index q)
+      → n ≡ before_index (indices_past q (last - i) 1) → Completes p bytes start m (with_last before xs) (Some (part (index_part q.list v))) last n
+  one_index {i = i} {last = last} {v = v} n lies number room some steps en =
       let order : i < last = number.some in
-      let whole : last ≤ length bytes = number.within in
       let size : ℕ = last - i in
       let space : ℕ = space_in q.more q.list in
       let in_more : size ≤ q.more = in_section q.more size q.list room in
       let in_list : size ≤ space = in_space q.more size q.list room in
-      let end : last ≡ last - 1 + 1 = omega arith in
-      let place : q.more - size ≡ q.more - (size - 1) - 1 = omega arith in
-      let b : BeforeLast after may p bytes m h e q.of q.functions q.left (in_index q.list (suc (space - size))) (q.more - (size - 1)) (last - 1) v =
-      before_last after may p bytes m h e q.of q.functions q.left (in_index q.list) (index_goes_on p q.of q.left q.list) (last - 1) v (q.more - (size - 1)) (suc (space - size)) (omega arith)
-      (size - 1) i q.more space fresh (omega arith) (omega arith) (omega arith) (subst (λ y. IsNumber (unsigned_push 32) fresh (slice_range bytes i y) v) end number.spelled)
-      (subst (λ y. Advances after may p bytes m h (record { used = i; refused = None }) (machine.Section q.of q.functions q.more q.left y) e) (begins q.more q.list) before) in
-      advances_more after may p bytes m (before_index (indices_past q size 1)) h e g (record { of = q.of; functions = q.functions; more = q.more - (size - 1); left = q.left; at = in_index q.list (suc (space - size)) b.reader })
-      (index_done q.left q.list (space - size) v) (last - 1) u r b.came (omega arith) (omega arith) (index_ends p q.of q.left (space - size) v q.list lies some b.reader b.next (slice_index bytes (last - 1)) b.ends)
-      (omega arith) er given quiet
-      (ap (λ y. machine.Section q.of q.functions y (members_after q.left q.list 1) (at_index (list_past q.list size 1))) place
-      ∙ ap (λ y. machine.Section q.of q.functions (q.more - (size - 1) - 1) (members_after q.left q.list 1) y) (begins_next q.more size q.list))
+      number_whole (in_index q.list) (index_goes_on p q.of q.left q.list) (suc (q.more - size)) (suc (space - size)) n (Some (index_part q.list v)) number
+      (subst (λ y. Completes p bytes start m xs before i (machine.Section q.of q.functions q.more q.left y)) (begins q.more q.list) steps) (omega arith) (omega arith)
+      (λ r s e. index_ends p q.of q.left (space - size) v q.list lies some r s (slice_index bytes (last - 1)) e q.functions (q.more - size)
+      ∙ ap (λ (y : Machine). (y, event.Complete (index_part q.list v))) (ap (λ y. machine.Section q.of q.functions (q.more - size) (members_after q.left q.list 1) y) (sym (begins_next q.more size q.list)) ∙ sym en))
 
 -- so many more of a list, after some of it
 past_again : (more left i j n : ℕ) (l : IndexList) (of : SectionKind) (f : ℕ) → i ≤ n
@@ -179,19 +175,15 @@ indices_start q = by q.of q.functions q.more q.left q.list
         ∙ (ap (λ y. machine.Section of f more left (at_index (list.Labels y depth (labels - 0)))) (none rest)
         ∙ ap (λ y. machine.Section of f more left (at_index (list.Labels rest depth y))) (none labels))
 
-module _ {H : Type 0} (after : H → Item → Result H Why) (may : H → Item → Type 0) (p : Profile) (bytes : List ℕ) (m : Machine) (h e g : H) where
+module _ {p : Profile} {bytes : List ℕ} {start : ℕ} {m : Machine} {xs : List Completed} {before : Option Completed} (q : InIndices) where
   -- one more index of a list
-  pub index_taken : {U : Type 0} (q : InIndices) (i j last v : ℕ) (u : Shortcut) (r : Result U Why) → LiesIn q.of q.list → Advances after may p bytes m h (record { used = i; refused = None }) (before_index (indices_past q i j)) e
-      → LiesAt (unsigned_push 32) bytes i last v → last ≤ room_in q.more q.list → j < followed_in q.left q.list
-      → u.used ≡ last → u.refused ≡ result_err r → Taken (after e (index_item_in q.list v)) r g → IfErr r (λ w. w ≡ why.Memory → may e (index_item_in q.list v))
-      → Advances after may p bytes m h u (before_index (indices_past q last (j + 1))) g
-  index_taken q i j last v u r lies before number room some eu er given quiet =
+  pub index_completes : (i j : ℕ) {last v : ℕ} → LiesIn q.of q.list → LiesAt (unsigned_push 32) bytes i last v → last ≤ room_in q.more q.list → j < followed_in q.left q.list → Completes p bytes start m xs before i (before_index (indices_past q i j))
+      → Completes p bytes start m (with_last before xs) (Some (part (index_part q.list v))) last (before_index (indices_past q last (j + 1)))
+  index_completes i j {last = last} {v = v} lies number room some steps =
       let order : i < last = number.some in
-      let item = item_past q.list i j v in
-      let x : InIndices = indices_past q i j in
-      advances_by after may p bytes m _ m _ h g u refl (sym (past_again q.more q.left i j last q.list q.of q.functions (omega arith)))
-      (one_index after may p bytes m h e g x i last v u r (lies_past q.of q.list i j lies) before number (room_past q.more i j last q.list room) (followed_past q.left i j q.list some) eu er
-      (subst (λ y. Taken (after e y) r g) (sym item) given) (subst (λ y. IfErr r (λ w. w ≡ why.Memory → may e y)) (sym item) quiet))
+      subst (λ y. Completes p bytes start m (with_last before xs) (Some (part y)) last (before_index (indices_past q last (j + 1)))) (part_past q.list i j v)
+      (one_index (indices_past q i j) (before_index (indices_past q last (j + 1))) (lies_past q.of q.list i j lies) number (room_past q.more i j last q.list room) (followed_past q.left i j q.list some) steps
+      (sym (past_again q.more q.left i j last q.list q.of q.functions (omega arith))))
 
 -- the last byte of the last index
 index_over : (p : Profile) (left all n v : ℕ) (l : IndexList) → followed_in left l ≡ 0 → (r s : Partial) (c : ℕ) → unsigned_push 32 r c ≡ (step.Done v, s)
@@ -206,27 +198,13 @@ index_over p left all n v (list.Labels rest depth labels) none r s c e =
     in (member_in_entry (rest - n) (entry_after_op y.0), op_event plain.BodyOp y.1)) e
     ∙ ap (λ y. (member_in_entry (rest - n) (entry_after_op (after_label depth y)), op_event plain.BodyOp (Some (op.Label v)))) none
 
-module _ {H : Type 0} (after : H → Item → Result H Why) (may : H → Item → Type 0) (p : Profile) (bytes : List ℕ) (h g : H) (q : InIndices) (last v : ℕ) (u : Shortcut)
-    (number : LiesAt (unsigned_push 32) bytes 0 last v) (room : last - 1 ≤ room_in q.more q.list) (none : followed_in q.left q.list ≡ 0) (eu : u.used ≡ last) where
-  -- before its last byte
-  before_it : BeforeLast after may p bytes (before_index q) h h q.of q.functions q.left (in_index q.list (space_in q.more q.list - (last - 1))) (q.more - (last - 1)) (last - 1) v
-  before_it =
-      let order : 0 < last = number.some in
-      let whole : last ≤ length bytes = number.within in
-      let a : last - 1 ≤ q.more = in_section q.more (last - 1) q.list room in
-      let b : last - 1 ≤ space_in q.more q.list = in_space q.more (last - 1) q.list room in
-      let end : last ≡ last - 1 + 1 = omega arith in
-      before_last after may p bytes (before_index q) h h q.of q.functions q.left (in_index q.list) (index_goes_on p q.of q.left q.list) (last - 1) v (q.more - (last - 1)) (space_in q.more q.list - (last - 1)) (omega arith)
-      (last - 1) 0 q.more (space_in q.more q.list) fresh (omega arith) (omega arith) (omega arith) (subst (λ y. IsNumber (unsigned_push 32) fresh (slice_range bytes 0 y) v) end number.spelled)
-      (subst (λ y. Advances after may p bytes (before_index q) h (record { used = 0; refused = None }) (machine.Section q.of q.functions q.more q.left y) h) (begins q.more q.list)
-      (advances_none after may p bytes (before_index q) h (record { used = 0; refused = None }) refl refl))
-
-  -- the last index, which the sink took or refused
-  pub last_taken : {U : Type 0} (r : Result U Why) → u.refused ≡ why_refused r (indices_ended q (last - 1)) → Taken (after h (index_item_in q.list v)) r g → IfErr r (λ w. w ≡ why.Memory → may h (index_item_in q.list v))
-      → Advances after may p bytes (before_index q) h u (indices_ended q (last - 1)) g
-  last_taken r er given quiet =
-      let order : 0 < last = number.some in
-      let whole : last ≤ length bytes = number.within in
-      let b = before_it in
-      advances_last after may p q.of q.functions (q.more - (last - 1)) q.left (in_index q.list (space_in q.more q.list - (last - 1)) b.reader) (after_last q.list (last - 1)) (Some (index_part q.list v)) bytes (before_index q) h h g (last - 1) u r b.came (omega arith)
-      (index_over p q.left q.more (last - 1) v q.list none b.reader b.next (slice_index bytes (last - 1)) b.ends) (omega arith) er given quiet
+-- the last index
+pub last_index_completes : {p : Profile} {bytes : List ℕ} (q : InIndices) {last v : ℕ} → LiesAt (unsigned_push 32) bytes 0 last v → last - 1 ≤ room_in q.more q.list → followed_in q.left q.list ≡ 0
+    → Completes p bytes 0 (before_index q) [] (Some (part (index_part q.list v))) last (indices_ended q (last - 1))
+last_index_completes {p = p} {bytes = bytes} q {last = last} {v = v} number room none =
+    let order : 0 < last = number.some in
+    let a : last - 1 ≤ q.more = in_section q.more (last - 1) q.list room in
+    let b : last - 1 ≤ space_in q.more q.list = in_space q.more (last - 1) q.list room in
+    number_whole (in_index q.list) (index_goes_on p q.of q.left q.list) (q.more - (last - 1)) (space_in q.more q.list - (last - 1)) (indices_ended q (last - 1)) (Some (index_part q.list v)) number
+    (subst (λ y. Completes p bytes 0 (before_index q) [] None 0 (machine.Section q.of q.functions q.more q.left y)) (begins q.more q.list) no_byte) (omega arith) (omega arith)
+    (λ r s e. ap (λ y. (machine_in_member q.of q.functions (q.more - (last - 1)) q.left y.0, y.1)) (index_over p q.left q.more (last - 1) v q.list none r s (slice_index bytes (last - 1)) e))

@@ -1,8 +1,6 @@
 -- A table or a memory, taken at once, is what the byte step makes of it.
-use Rattle.std.proofs.Common.{◌≡◌, ℕ, ◌+◌, ◌-◌, ◌<◌, ◌≤◌, inl, inr, Bool, true, false, List, Some, None, Result, IfErr, length, slice_index, refl, sym, ap, subst, arith}
+use Rattle.std.proofs.Common.{◌≡◌, ℕ, ◌+◌, ◌-◌, ◌<◌, ◌≤◌, inl, inr, Bool, true, false, List, [], Some, None, length, slice_index, refl, sym, ap, subst, arith}
 use Rattle.wm_syntax.specs.declared.profile.Profile.{Profile}
-use Rattle.wm_syntax.specs.declared.why.Why.{Why}
-use Rattle.wm_syntax.specs.declared.why.Why.TheVariants as why
 use Rattle.wm_syntax.specs.declared.types.Limits.{Limits}
 use Rattle.wm_syntax.specs.exact.Reading.{fresh}
 use Rattle.wm_decode.specs.declared.machine.Machine.{Machine}
@@ -18,26 +16,20 @@ use Rattle.wm_decode.specs.declared.step.values.InLimits.{InLimits}
 use Rattle.wm_decode.specs.declared.step.values.InLimits.TheVariants as limits
 use Rattle.wm_decode.specs.declared.step.values.InTableType.TheVariants as table
 use Rattle.wm_decode.specs.declared.step.values.InValue.TheVariants as value
-use Rattle.wm_decode.specs.declared.shortcuts.Shortcut.{Shortcut}
 use Rattle.wm_decode.specs.declared.shortcuts.in_section.InSection.{InSection}
 use Rattle.wm_decode.specs.declared.shortcuts.limited.Limited.{Limited}
 use Rattle.wm_decode.specs.declared.shortcuts.limited.Limited.TheVariants as limited
-use Rattle.wm_decode.specs.declared.shortcuts.short_steps.Place.{Place}
-use Rattle.wm_decode.specs.declared.shortcuts.short_steps.Stepped.{Stepped}
-use Rattle.wm_decode.specs.Items.{Item}
-use Rattle.wm_decode.specs.Sinks.{Taken}
-use Rattle.wm_decode.specs.exact.Runs.{plain_item}
 use Rattle.wm_decode.specs.exact.Steps.{machine_in_member}
 use Rattle.wm_decode.specs.exact.MemberSteps.{member_step, on_value, with_item_given}
 use Rattle.wm_decode.specs.exact.ValueSteps.{after_min, flag_step, limits_push, map_reading, of_memory, of_table, read_number}
-use Rattle.wm_decode.specs.exact.Limited.{BothLie, LeastLies, LimitsBegin, LimitsLie, in_limits, limited_item, limited_section}
+use Rattle.wm_decode.specs.exact.Limited.{LimitsBegin, LimitsLie, in_limits, limited_item, limited_section}
 use Rattle.wm_decode.specs.exact.ShortSteps.{StepsTo, part_event}
-use Rattle.wm_decode.specs.exact.Shortcuts.{Advances, why_refused}
+use Rattle.wm_decode.specs.exact.Completed.{Completes}
+use Rattle.wm_decode.specs.exact.Completed.Completed.{part}
+use Rattle.wm_decode.specs.exact.Completed.Completes.{no_byte}
 use Rattle.wm_decode.specs.exact.WholeMembers.{before_member}
-use Rattle.wm_decode.proofs.Advances.{advances_more, advances_none, advances_step}
-use Rattle.wm_decode.proofs.Heads.{ok}
-use Rattle.wm_decode.proofs.LastBytes.{EndsWithNumber, number_last}
-use Rattle.wm_decode.proofs.NumberSteps.{ReadsNumber, framed, number_taken}
+use Rattle.wm_decode.proofs.Completed.{byte_on}
+use Rattle.wm_decode.proofs.NumberSteps.{EndsWithNumber, ReadsNumber, framed, number_on, number_over}
 
 -- what an answer of the reader of limits makes of the member
 abbrev answered : Limited → Reading InLimits Limits → InMember × Event
@@ -80,69 +72,43 @@ max_ends p l of left min = record {
   ends = λ r s c v e. ends p l (limits.Max min r) c (record { min = min; max = Some v }) (ap (λ y. read_number y (λ s. limits.Max min s) (λ n. Done (record { min = min; max = Some n }))) e);
 }
 
-module _ {H : Type 0} (after : H → Item → Result H Why) (may : H → Item → Type 0) (p : Profile) (bytes : List ℕ) (i : InSection) (h : H) where
-  abbrev in_them : Limited → ℕ → InLimits → Machine
-  in_them l used q = machine.Section (limited_section l) i.functions (i.more - used) i.left (in_limits l q)
+-- in the limits, after so many bytes
+abbrev in_them : InSection → Limited → ℕ → InLimits → Machine
+in_them i l used q = machine.Section (limited_section l) i.functions (i.more - used) i.left (in_limits l q)
 
-  abbrev comes : Limited → ℕ → Machine → Type 0
-  comes l used n = Advances after may p bytes (before_member (limited_section l) i) h (record { used = used; refused = None }) n h
-
+module _ {p : Profile} {bytes : List ℕ} (i : InSection) where
   -- up to the limits
-  begun : (l : Limited) (from : ℕ) → LimitsBegin l bytes from → 0 < length bytes → 0 < i.more → comes l from (in_them l from limits.Flag)
+  begun : (l : Limited) (from : ℕ) → LimitsBegin l bytes from → 0 < length bytes → 0 < i.more → Completes p bytes 0 (before_member (limited_section l) i) [] None from (in_them i l from limits.Flag)
   begun limited.Table from b some room =
-      let start : Place = record { of = section_kind.Table; functions = i.functions; more = i.more; left = i.left; at = at.Value (value.Table table.ElementType) } in
-      let next : Stepped = record { left = i.left; at = in_limits limited.Table limits.Flag; part = None } in
-      subst (λ n. comes limited.Table n (in_them limited.Table n limits.Flag)) (sym b.1)
-      (advances_step after may p bytes h h start next (record { used = 1; refused = None }) room some (element_goes p i.left (slice_index bytes 0) b.0) refl ok refl refl tt)
+      subst (λ n. Completes p bytes 0 (before_member (limited_section limited.Table) i) [] None n (in_them i limited.Table n limits.Flag)) (sym b.1)
+      (byte_on (record { left = i.left; at = in_limits limited.Table limits.Flag; part = None }) no_byte some room (element_goes p i.left (slice_index bytes 0) b.0) refl)
   begun limited.Memory from b some room =
       let all : i.more ≡ i.more - 0 = omega arith in
-      subst (λ n. comes limited.Memory n (in_them limited.Memory n limits.Flag)) (sym b)
-      (subst (λ n. comes limited.Memory 0 (machine.Section section_kind.Memory i.functions n i.left (in_limits limited.Memory limits.Flag))) all
-      (advances_none after may p bytes (before_member section_kind.Memory i) h (record { used = 0; refused = None }) refl refl))
+      subst (λ n. Completes p bytes 0 (before_member (limited_section limited.Memory) i) [] None n (in_them i limited.Memory n limits.Flag)) (sym b)
+      (subst (λ n. Completes p bytes 0 (before_member (limited_section limited.Memory) i) [] None 0 (machine.Section section_kind.Memory i.functions n i.left (in_limits limited.Memory limits.Flag))) all no_byte)
 
   -- with the flag
   flagged : (l : Limited) (from : ℕ) (bounded : Bool) → LimitsBegin l bytes from → flag_step (slice_index bytes from) ≡ More (limits.Min bounded fresh) → from < length bytes → from < i.more
-      → comes l (from + 1) (in_them l (from + 1) (limits.Min bounded fresh))
+      → Completes p bytes 0 (before_member (limited_section l) i) [] None (from + 1) (in_them i l (from + 1) (limits.Min bounded fresh))
   flagged l from bounded b is inside room =
       let place : i.more - (from + 1) ≡ i.more - from - 1 = omega arith in
-      advances_more after may p bytes (before_member (limited_section l) i) (in_them l (from + 1) (limits.Min bounded fresh)) h h h
-      (record { of = limited_section l; functions = i.functions; more = i.more - from; left = i.left; at = in_limits l limits.Flag }) (record { left = i.left; at = in_limits l (limits.Min bounded fresh); part = None }) from
-      (record { used = from + 1; refused = None }) ok (begun l from b (omega arith) (omega arith)) inside (omega arith) (goes p l (limited_section l) i.left limits.Flag (limits.Min bounded fresh) (slice_index bytes from) is) refl refl refl tt
-      (ap (λ n. machine.Section (limited_section l) i.functions n i.left (in_limits l (limits.Min bounded fresh))) place)
+      byte_on (record { left = i.left; at = in_limits l (limits.Min bounded fresh); part = None }) (begun l from b (omega arith) (omega arith)) inside (omega arith)
+      (goes p l (limited_section l) i.left limits.Flag (limits.Min bounded fresh) (slice_index bytes from) is) (ap (λ n. machine.Section (limited_section l) i.functions n i.left (in_limits l (limits.Min bounded fresh))) place)
 
-  module _ {U : Type 0} (l : Limited) (from next : ℕ) (x : Limits) (g : H) (u : Shortcut) (r : Result U Why) (b : LimitsBegin l bytes from) (room : next ≤ i.more + 1) (eu : u.used ≡ next)
-      (er : u.refused ≡ why_refused r (machine_in_member (limited_section l) i.functions (i.more - (next - 1)) i.left at.Over)) where
-    abbrev over : Type 0
-    over = Advances after may p bytes (before_member (limited_section l) i) h u (machine_in_member (limited_section l) i.functions (i.more - (next - 1)) i.left at.Over) g
-
-    least_taken : (v : LeastLies bytes from next x) → Taken (after h (plain_item (limited_item l (record { min = v.least; max = None })))) r g
-        → IfErr r (λ w. w ≡ why.Memory → may h (plain_item (limited_item l (record { min = v.least; max = None })))) → over
-    least_taken v given quiet =
-        let some : from + 1 < next = v.min.some in
-        let whole : next ≤ length bytes = v.min.within in
-        number_last after may p bytes (before_member (limited_section l) i) h h g (limited_section l) i.functions i.left (λ r. in_limits l (limits.Min false r)) (λ v. at.Over) (λ v. Some (limited_item l (record { min = v; max = None })))
-        (min_ends p l (limited_section l) i.left) next v.least (i.more - (next - 1)) u r whole eu er given quiet
-        (next - (from + 1)) (from + 1) (i.more - (from + 1)) fresh (omega arith) (omega arith) v.min.spelled
-        (flagged l from false b (ap flag_step v.flag) (omega arith) (omega arith))
-
-    both_taken : (v : BothLie bytes from next x) → Taken (after h (plain_item (limited_item l (record { min = v.least; max = Some v.greatest })))) r g
-        → IfErr r (λ w. w ≡ why.Memory → may h (plain_item (limited_item l (record { min = v.least; max = Some v.greatest })))) → over
-    both_taken v given quiet =
-        let some : from + 1 < v.middle = v.min.some in
-        let more : v.middle < next = v.max.some in
-        let whole : next ≤ length bytes = v.max.within in
-        let place : i.more - v.middle ≡ i.more - (from + 1) - (v.middle - (from + 1)) = omega arith in
-        number_last after may p bytes (before_member (limited_section l) i) h h g (limited_section l) i.functions i.left (λ r. in_limits l (limits.Max v.least r)) (λ v. at.Over) (λ n. Some (limited_item l (record { min = v.least; max = Some n })))
-        (max_ends p l (limited_section l) i.left v.least) next v.greatest (i.more - (next - 1)) u r whole eu er given quiet
-        (next - v.middle) v.middle (i.more - v.middle) fresh (omega arith) (omega arith) v.max.spelled
-        (number_taken after may p bytes (before_member (limited_section l) i) (in_them l v.middle (limits.Max v.least fresh)) h h h (limited_section l) i.functions i.left (λ r. in_limits l (limits.Min true r))
-        (λ v. record { left = i.left; at = in_limits l (limits.Max v fresh); part = None }) (min_reads p l (limited_section l) i.left) v.middle v.least (record { used = v.middle; refused = None }) ok (omega arith) refl refl refl tt
-        (v.middle - (from + 1)) (from + 1) (i.more - (from + 1)) fresh (omega arith) (omega arith) v.min.spelled
-        (flagged l from true b (ap flag_step v.flag) (omega arith) (omega arith))
-        (ap (λ n. machine.Section (limited_section l) i.functions n i.left (in_limits l (limits.Max v.least fresh))) place))
-
-    pub limits_taken : LimitsLie bytes from next x → Taken (after h (plain_item (limited_item l x))) r g → IfErr r (λ w. w ≡ why.Memory → may h (plain_item (limited_item l x))) → over
-    limits_taken (inl v) given quiet =
-        least_taken v (subst (λ y. Taken (after h (plain_item (limited_item l y))) r g) v.is given) (subst (λ y. IfErr r (λ w. w ≡ why.Memory → may h (plain_item (limited_item l y)))) v.is quiet)
-    limits_taken (inr v) given quiet =
-        both_taken v (subst (λ y. Taken (after h (plain_item (limited_item l y))) r g) v.is given) (subst (λ y. IfErr r (λ w. w ≡ why.Memory → may h (plain_item (limited_item l y)))) v.is quiet)
+  pub limits_complete : (l : Limited) (from next : ℕ) (x : Limits) → LimitsBegin l bytes from → next ≤ i.more + 1 → LimitsLie bytes from next x
+      → Completes p bytes 0 (before_member (limited_section l) i) [] (Some (part (limited_item l x))) next (machine_in_member (limited_section l) i.functions (i.more - (next - 1)) i.left at.Over)
+  limits_complete l from next x b room (inl v) =
+      let some : from + 1 < next = v.min.some in
+      let whole : next ≤ length bytes = v.min.within in
+      subst (λ y. Completes p bytes 0 (before_member (limited_section l) i) [] (Some (part (limited_item l y))) next (machine_in_member (limited_section l) i.functions (i.more - (next - 1)) i.left at.Over)) (sym v.is)
+      (number_over (i.more - (next - 1)) (min_ends p l (limited_section l) i.left) v.min (flagged l from false b (ap flag_step v.flag) (omega arith) (omega arith)) (omega arith))
+  limits_complete l from next x b room (inr v) =
+      let some : from + 1 < v.middle = v.min.some in
+      let more : v.middle < next = v.max.some in
+      let whole : next ≤ length bytes = v.max.within in
+      let place : i.more - v.middle ≡ i.more - (from + 1) - (v.middle - (from + 1)) = omega arith in
+      let least : Completes p bytes 0 (before_member (limited_section l) i) [] None v.middle (in_them i l v.middle (limits.Max v.least fresh)) =
+      number_on (min_reads p l (limited_section l) i.left) v.min (flagged l from true b (ap flag_step v.flag) (omega arith) (omega arith)) (omega arith)
+      (ap (λ n. machine.Section (limited_section l) i.functions n i.left (in_limits l (limits.Max v.least fresh))) place) in
+      subst (λ y. Completes p bytes 0 (before_member (limited_section l) i) [] (Some (part (limited_item l y))) next (machine_in_member (limited_section l) i.functions (i.more - (next - 1)) i.left at.Over)) (sym v.is)
+      (number_over (i.more - (next - 1)) (max_ends p l (limited_section l) i.left v.least) v.max least (omega arith))

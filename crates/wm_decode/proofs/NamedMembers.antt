@@ -1,9 +1,6 @@
 -- An import and an export, taken at once, are what the byte step makes of them.
-use Rattle.std.proofs.Common.{◌≡◌, ℕ, suc, ◌+◌, ◌-◌, ◌<◌, ◌≤◌, List, Some, None, Result, Ok, IfErr, length, slice_index, slice_range, refl, ◌∙◌, ap, arith}
-use Rattle.std.specs.Result.{result_err}
+use Rattle.std.proofs.Common.{◌≡◌, ℕ, suc, ◌+◌, ◌-◌, ◌<◌, ◌≤◌, List, [], ◌∷◌, Some, None, length, slice_index, slice_range, refl, ◌∙◌, ap, arith}
 use Rattle.wm_syntax.specs.declared.profile.Profile.{Profile}
-use Rattle.wm_syntax.specs.declared.why.Why.{Why}
-use Rattle.wm_syntax.specs.declared.why.Why.TheVariants as why
 use Rattle.wm_syntax.specs.declared.modules.ImportDesc.TheVariants as desc
 use Rattle.wm_syntax.specs.declared.modules.ExportKind.{ExportKind}
 use Rattle.wm_syntax.specs.exact.Reading.{fresh, unsigned_push}
@@ -17,26 +14,21 @@ use Rattle.wm_decode.specs.declared.step.reading.Reading.TheVariants.{Done}
 use Rattle.wm_decode.specs.declared.step.values.InValue.TheVariants as value
 use Rattle.wm_decode.specs.declared.step.values.InImportDesc.TheVariants as import
 use Rattle.wm_decode.specs.declared.step.values.InExportDesc.TheVariants as target
-use Rattle.wm_decode.specs.declared.shortcuts.Shortcut.{Shortcut}
 use Rattle.wm_decode.specs.declared.shortcuts.in_section.InSection.{InSection}
-use Rattle.wm_decode.specs.declared.shortcuts.short_steps.Place.{Place}
-use Rattle.wm_decode.specs.declared.shortcuts.short_steps.Stepped.{Stepped}
-use Rattle.wm_decode.specs.Items.{Item, export, import_desc}
-use Rattle.wm_decode.specs.Sinks.{Taken}
 use Rattle.wm_decode.specs.exact.Steps.{machine_in_member}
 use Rattle.wm_decode.specs.exact.MemberSteps.{on_value, with_item_given}
 use Rattle.wm_decode.specs.exact.ValueSteps.{desc_kind_step, of_export, of_import, read_number}
-use Rattle.wm_decode.specs.exact.Live.{name_taken}
 use Rattle.wm_decode.specs.exact.ShortSteps.{StepsTo}
-use Rattle.wm_decode.specs.exact.Shortcuts.{Advances, why_refused}
+use Rattle.wm_decode.specs.exact.Members.{member_at_start}
+use Rattle.wm_decode.specs.declared.machine.member.SectionKind.{SectionKind}
+use Rattle.wm_decode.specs.exact.Completed.{Completes}
+use Rattle.wm_decode.specs.exact.Completed.Completed.{part, named}
+use Rattle.wm_decode.specs.exact.Completed.Completes.{no_byte, one_name}
 use Rattle.wm_decode.specs.exact.WholeMembers.{before_member, section_after}
 use Rattle.wm_decode.specs.exact.WholeOps.{LiesAt}
 use Rattle.wm_decode.specs.exact.WholeNames.{IsKindByte, NameLies}
-use Rattle.wm_decode.proofs.Advances.{advances_by, advances_more, advances_none}
-use Rattle.wm_decode.proofs.Heads.{ok}
-use Rattle.wm_decode.proofs.LastBytes.{EndsWithNumber, number_last}
-use Rattle.wm_decode.proofs.WholeNames.{behind_name, name_more}
-use Rattle.wm_decode.proofs.NumberSteps.{ByteGoesOn, ReadsNumber, framed, number_taken}
+use Rattle.wm_decode.proofs.Completed.{byte_on}
+use Rattle.wm_decode.proofs.NumberSteps.{ByteGoesOn, EndsWithNumber, ReadsNumber, framed, number_on, number_over}
 
 -- an import's kind and the index of its function's type
 function_alone : (p : Profile) (left c : ℕ) → c ≡ 0 → StepsTo p section_kind.Import left (at.Value (value.Import import.Kind)) c (record { left = left; at = at.Value (value.Import (import.Func fresh)); part = None })
@@ -78,94 +70,79 @@ index_ends p left k = record {
   ends = λ r s c v e. ap (λ y. on_value (of_export (read_number y (λ s. target.Index k s) (λ n. Done (k, n)))) at.Value (λ q. with_item_given at.Over q) at.Failed) e;
 }
 
--- before the first of them
-pub imports_start : (i : InSection) → before_member section_kind.Import (section_after i 0 i.left) ≡ before_member section_kind.Import i
-imports_start i =
-    let a : i.more - 0 ≡ i.more = omega arith in
-    ap (λ x. machine.Section section_kind.Import i.functions x i.left (at.NameLength name.ImportModule fresh)) a
+-- how many bytes of the section come after the next, at a later place
+abbrev left_after : ℕ → ℕ → ℕ → ℕ
+left_after more from to = more - (to - from)
 
-exports_start : (i : InSection) → before_member section_kind.Export (section_after i 0 i.left) ≡ before_member section_kind.Export i
-exports_start i =
-    let a : i.more - 0 ≡ i.more = omega arith in
-    ap (λ x. machine.Section section_kind.Export i.functions x i.left (at.NameLength name.Export fresh)) a
+abbrev at_import : ℕ → ℕ → ℕ → Machine
+at_import f more left = machine.Section section_kind.Import f more left (at.NameLength name.ImportModule fresh)
 
-pub exports_begun : {H : Type 0} (after : H → Item → Result H Why) (may : H → Item → Type 0) (p : Profile) (bytes : List ℕ) (h : H) (i : InSection)
-    → Advances after may p bytes (before_member section_kind.Export i) h (record { used = 0; refused = None }) (before_member section_kind.Export (section_after i 0 i.left)) h
-exports_begun after may p bytes h i =
-    advances_by after may p bytes (before_member section_kind.Export i) (before_member section_kind.Export (section_after i 0 i.left)) (before_member section_kind.Export i) (before_member section_kind.Export i) h h (record { used = 0; refused = None }) refl (exports_start i)
-    (advances_none after may p bytes (before_member section_kind.Export i) h (record { used = 0; refused = None }) refl refl)
+abbrev at_export : ℕ → ℕ → ℕ → Machine
+at_export f more left = machine.Section section_kind.Export f more left (at.NameLength name.Export fresh)
 
-module _ {H : Type 0} (after : H → Item → Result H Why) (may : H → Item → Type 0) (p : Profile) (bytes : List ℕ) (m : Machine) (h e : H) (start : InSection) (i left : ℕ) where
+module _ {p : Profile} {bytes : List ℕ} {i f left : ℕ} (more : ℕ) where
   -- an import after other bytes: the name of its module, its own, and what it brings in
-  module _ (middle : ℕ) (before : Advances after may p bytes m h (record { used = i; refused = None }) (before_member section_kind.Import (section_after start i left)) e)
-      (lies : NameLies bytes i middle) (inside : middle ≤ length bytes) (section : middle ≤ start.more) where
-    pub module_named : {U : Type 0} (g : H) (u : Shortcut) (r : Result U Why) → u.used ≡ middle → u.refused ≡ result_err r → Taken (name_taken after name.ImportModule (slice_range bytes (i + 1) middle) e) r g
-        → Advances after may p bytes m h u (behind_name section_kind.Import name.ImportModule start.functions (start.more - middle) left) g
-    module_named g u r used is given = name_more after may p section_kind.Import name.ImportModule (λ f more l. refl) start.functions left bytes m h e g start.more i middle u r before lies inside section used is given
+  module _ {middle : ℕ} (lies : NameLies bytes i middle) (inside : middle ≤ length bytes) (section : middle ≤ i + more) where
+    pub module_named : Completes p bytes i (at_import f more left) [] (Some (named name.ImportModule (slice_range bytes (i + 1) middle))) middle (machine.Section section_kind.Import f (left_after more i middle) left (at.NameLength name.ImportName fresh))
+    module_named = one_name section_kind.Import name.ImportModule f more left middle no_byte lies inside section (λ n. refl)
 
-    module _ (g : H) (stop : ℕ) (named : name_taken after name.ImportModule (slice_range bytes (i + 1) middle) e ≡ Ok g)
-        (next : NameLies bytes middle stop) (within : stop ≤ length bytes) (room : stop ≤ start.more) where
-      pub import_named : {U : Type 0} (d : H) (u : Shortcut) (r : Result U Why) → u.used ≡ stop → u.refused ≡ result_err r → Taken (name_taken after name.ImportName (slice_range bytes (middle + 1) stop) g) r d
-          → Advances after may p bytes m h u (behind_name section_kind.Import name.ImportName start.functions (start.more - stop) left) d
-      import_named d u r used is given =
-          name_more after may p section_kind.Import name.ImportName (λ f more l. refl) start.functions left bytes m h g d start.more middle stop u r
-          (module_named g (record { used = middle; refused = None }) ok refl refl named) next within room used is given
+    module _ {stop : ℕ} (next : NameLies bytes middle stop) (within : stop ≤ length bytes) (room : stop ≤ i + more) where
+      pub import_named : Completes p bytes i (at_import f more left) (named name.ImportModule (slice_range bytes (i + 1) middle) ∷ []) (Some (named name.ImportName (slice_range bytes (middle + 1) stop))) stop
+          (machine.Section section_kind.Import f (left_after (left_after more i middle) middle stop) left (at.Value (value.Import import.Kind)))
+      import_named =
+          let some : i + 1 < middle = lies.some in
+          one_name section_kind.Import name.ImportName f (left_after more i middle) left stop module_named next within (omega arith) (λ n. refl)
 
-      pub import_taken : {U : Type 0} (d c : H) (x last : ℕ) (u : Shortcut) (r : Result U Why) → name_taken after name.ImportName (slice_range bytes (middle + 1) stop) g ≡ Ok d
-          → slice_index bytes stop ≡ 0 → LiesAt (unsigned_push 32) bytes (stop + 1) last x → last ≤ start.more → 0 < left
-          → u.used ≡ last → u.refused ≡ result_err r → Taken (after d (import_desc (desc.Func x))) r c → IfErr r (λ w. w ≡ why.Memory → may d (import_desc (desc.Func x)))
-          → Advances after may p bytes m h u (before_member section_kind.Import (section_after start last (left - 1))) c
-      import_taken d c x last u r given kind index far some used is taken quiet =
-          let here : Place = record { of = section_kind.Import; functions = start.functions; more = start.more - stop; left = left; at = at.Value (value.Import import.Kind) } in
-          let first : Stepped = record { left = left; at = at.Value (value.Import (import.Func fresh)); part = None } in
+      pub import_completes : {x last : ℕ} (n : Machine) → slice_index bytes stop ≡ 0 → LiesAt (unsigned_push 32) bytes (stop + 1) last x → last ≤ i + more → 0 < left
+          → n ≡ machine.Section section_kind.Import f (left_after more i last) (left - 1) (at.NameLength name.ImportModule fresh)
+          → Completes p bytes i (at_import f more left) (named name.ImportName (slice_range bytes (middle + 1) stop) ∷ named name.ImportModule (slice_range bytes (i + 1) middle) ∷ []) (Some (part (plain.Import (desc.Func x)))) last n
+      import_completes {last = last} n kind index far some en =
+          let first : i + 1 < middle = lies.some in
+          let second : middle + 1 < stop = next.some in
           let order : stop + 1 < last = index.some in
           let whole : last ≤ length bytes = index.within in
-          let place : start.more - last ≡ start.more - stop - 1 - (last - (stop + 1)) = omega arith in
-          let begun : Advances after may p bytes m h (record { used = stop + 1; refused = None }) (machine.Section section_kind.Import start.functions (start.more - stop - 1) left (at.Value (value.Import (import.Func fresh)))) d =
-          advances_more after may p bytes m (machine.Section section_kind.Import start.functions (start.more - stop - 1) left (at.Value (value.Import (import.Func fresh)))) h d d here first stop (record { used = stop + 1; refused = None }) ok
-          (import_named d (record { used = stop; refused = None }) ok refl refl given) (omega arith) (omega arith) (function_alone p left (slice_index bytes stop) kind) refl refl refl tt refl in
-          number_taken after may p bytes m (before_member section_kind.Import (section_after start last (left - 1))) h d c section_kind.Import start.functions left (λ s. at.Value (value.Import (import.Func s)))
-          (λ v. record { left = left - 1; at = at.NameLength name.ImportModule fresh; part = Some (plain.Import (desc.Func v)) }) (type_reads p left some) last x u r whole used is taken quiet
-          (last - (stop + 1)) (stop + 1) (start.more - stop - 1) fresh (omega arith) (omega arith) index.spelled begun
-          (ap (λ n. machine.Section section_kind.Import start.functions n (left - 1) (at.NameLength name.ImportModule fresh)) place)
+          let place : left_after more i last ≡ left_after (left_after (left_after more i middle) middle stop - 1) (stop + 1) last = omega arith in
+          number_on (type_reads p left some) index
+          (byte_on (record { left = left; at = at.Value (value.Import (import.Func fresh)); part = None }) import_named (omega arith) (omega arith) (function_alone p left (slice_index bytes stop) kind) refl) (omega arith)
+          (en ∙ ap (λ y. machine.Section section_kind.Import f y (left - 1) (at.NameLength name.ImportModule fresh)) place)
 
   -- an export after other bytes: its name, and what it gives out
-  module _ (stop : ℕ) (before : Advances after may p bytes m h (record { used = i; refused = None }) (before_member section_kind.Export (section_after start i left)) e)
-      (lies : NameLies bytes i stop) (inside : stop ≤ length bytes) (section : stop ≤ start.more) where
-    pub export_named : {U : Type 0} (g : H) (u : Shortcut) (r : Result U Why) → u.used ≡ stop → u.refused ≡ result_err r → Taken (name_taken after name.Export (slice_range bytes (i + 1) stop) e) r g
-        → Advances after may p bytes m h u (behind_name section_kind.Export name.Export start.functions (start.more - stop) left) g
-    export_named g u r used is given = name_more after may p section_kind.Export name.Export (λ f more l. refl) start.functions left bytes m h e g start.more i stop u r before lies inside section used is given
+  module _ {stop : ℕ} (lies : NameLies bytes i stop) (inside : stop ≤ length bytes) (section : stop ≤ i + more) where
+    pub export_named : Completes p bytes i (at_export f more left) [] (Some (named name.Export (slice_range bytes (i + 1) stop))) stop (machine.Section section_kind.Export f (left_after more i stop) left (at.Value (value.Export target.Kind)))
+    export_named = one_name section_kind.Export name.Export f more left stop no_byte lies inside section (λ n. refl)
 
-    -- up to the index of what it gives out
-    export_begun : (d : H) (k : ExportKind) → name_taken after name.Export (slice_range bytes (i + 1) stop) e ≡ Ok d → IsKindByte (slice_index bytes stop) k → stop < length bytes → stop < start.more
-        → Advances after may p bytes m h (record { used = stop + 1; refused = None }) (machine.Section section_kind.Export start.functions (start.more - stop - 1) left (at.Value (value.Export (target.Index k fresh)))) d
-    export_begun d k given kind whole far =
-        let here : Place = record { of = section_kind.Export; functions = start.functions; more = start.more - stop; left = left; at = at.Value (value.Export target.Kind) } in
-        let first : Stepped = record { left = left; at = at.Value (value.Export (target.Index k fresh)); part = None } in
-        advances_more after may p bytes m (machine.Section section_kind.Export start.functions (start.more - stop - 1) left (at.Value (value.Export (target.Index k fresh)))) h d d here first stop (record { used = stop + 1; refused = None }) ok
-        (export_named d (record { used = stop; refused = None }) ok refl refl given) whole (omega arith) (kind_alone p left (slice_index bytes stop) k kind) refl refl refl tt refl
+    module _ {k : ExportKind} {x last : ℕ} (kind : IsKindByte (slice_index bytes stop) k) (index : LiesAt (unsigned_push 32) bytes (stop + 1) last x) where
+      -- up to the index of what it gives out
+      export_begun : stop < i + more → Completes p bytes i (at_export f more left) (named name.Export (slice_range bytes (i + 1) stop) ∷ []) None (stop + 1) (machine.Section section_kind.Export f (left_after more i stop - 1) left (at.Value (value.Export (target.Index k fresh))))
+      export_begun far =
+          let some : i + 1 < stop = lies.some in
+          let order : stop + 1 < last = index.some in
+          let whole : last ≤ length bytes = index.within in
+          byte_on (record { left = left; at = at.Value (value.Export (target.Index k fresh)); part = None }) export_named (omega arith) (omega arith) (kind_alone p left (slice_index bytes stop) k kind) refl
 
-    pub export_taken : {U : Type 0} (d c : H) (k : ExportKind) (x last : ℕ) (u : Shortcut) (r : Result U Why) → name_taken after name.Export (slice_range bytes (i + 1) stop) e ≡ Ok d
-        → IsKindByte (slice_index bytes stop) k → LiesAt (unsigned_push 32) bytes (stop + 1) last x → last ≤ start.more → 0 < left
-        → u.used ≡ last → u.refused ≡ result_err r → Taken (after d (export k x)) r c → IfErr r (λ w. w ≡ why.Memory → may d (export k x))
-        → Advances after may p bytes m h u (before_member section_kind.Export (section_after start last (left - 1))) c
-    export_taken d c k x last u r given kind index far some used is taken quiet =
-        let order : stop + 1 < last = index.some in
-        let whole : last ≤ length bytes = index.within in
-        let place : start.more - last ≡ start.more - stop - 1 - (last - (stop + 1)) = omega arith in
-        number_taken after may p bytes m (before_member section_kind.Export (section_after start last (left - 1))) h d c section_kind.Export start.functions left (λ s. at.Value (value.Export (target.Index k s)))
-        (λ v. record { left = left - 1; at = at.NameLength name.Export fresh; part = Some (plain.Export k v) }) (index_reads p left k some) last x u r whole used is taken quiet
-        (last - (stop + 1)) (stop + 1) (start.more - stop - 1) fresh (omega arith) (omega arith) index.spelled (export_begun d k given kind (omega arith) (omega arith))
-        (ap (λ n. machine.Section section_kind.Export start.functions n (left - 1) (at.NameLength name.Export fresh)) place)
+      pub export_completes : (n : Machine) → last ≤ i + more → 0 < left → n ≡ machine.Section section_kind.Export f (left_after more i last) (left - 1) (at.NameLength name.Export fresh)
+          → Completes p bytes i (at_export f more left) (named name.Export (slice_range bytes (i + 1) stop) ∷ []) (Some (part (plain.Export k x))) last n
+      export_completes n far some en =
+          let first : i + 1 < stop = lies.some in
+          let order : stop + 1 < last = index.some in
+          let place : left_after more i last ≡ left_after (left_after more i stop - 1) (stop + 1) last = omega arith in
+          number_on (index_reads p left k some) index (export_begun (omega arith)) (omega arith) (en ∙ ap (λ y. machine.Section section_kind.Export f y (left - 1) (at.NameLength name.Export fresh)) place)
 
-    -- the last of its section, or one that ends too early or too late
-    pub last_export_taken : {U : Type 0} (d c : H) (k : ExportKind) (x next rest : ℕ) (u : Shortcut) (r : Result U Why) → name_taken after name.Export (slice_range bytes (i + 1) stop) e ≡ Ok d
-        → IsKindByte (slice_index bytes stop) k → LiesAt (unsigned_push 32) bytes (stop + 1) next x → next + rest ≡ start.more + 1
-        → u.used ≡ next → u.refused ≡ why_refused r (machine_in_member section_kind.Export start.functions rest left at.Over) → Taken (after d (export k x)) r c → IfErr r (λ w. w ≡ why.Memory → may d (export k x))
-        → Advances after may p bytes m h u (machine_in_member section_kind.Export start.functions rest left at.Over) c
-    last_export_taken d c k x next rest u r given kind index room used is taken quiet =
-        let order : stop + 1 < next = index.some in
-        let whole : next ≤ length bytes = index.within in
-        number_last after may p bytes m h d c section_kind.Export start.functions left (λ s. at.Value (value.Export (target.Index k s))) (λ v. at.Over) (λ v. Some (plain.Export k v)) (index_ends p left k)
-        next x rest u r whole used is taken quiet
-        (next - (stop + 1)) (stop + 1) (start.more - stop - 1) fresh (omega arith) (omega arith) index.spelled (export_begun d k given kind (omega arith) (omega arith))
+      -- the last of its section, or one that ends too early or too late
+      pub last_export_completes : (rest : ℕ) → last + rest ≡ i + more + 1 → Completes p bytes i (at_export f more left) (named name.Export (slice_range bytes (i + 1) stop) ∷ []) (Some (part (plain.Export k x))) last (machine_in_member section_kind.Export f rest left at.Over)
+      last_export_completes rest room =
+          let first : i + 1 < stop = lies.some in
+          let order : stop + 1 < last = index.some in
+          number_over rest (index_ends p left k) index (export_begun (omega arith)) (omega arith)
+
+-- before the first of them
+pub start_of : (of : SectionKind) (i : InSection) → before_member of (section_after i 0 i.left) ≡ before_member of i
+start_of of i =
+    let a : i.more - 0 ≡ i.more = omega arith in
+    ap (λ x. machine.Section of i.functions x i.left (member_at_start of)) a
+
+-- and after it
+pub next_at : (of : SectionKind) (i : InSection) (left from to : ℕ) → from < to → before_member of (section_after i to left) ≡ machine.Section of i.functions (i.more - from - (to - from)) left (member_at_start of)
+next_at of i left from to less =
+    let a : i.more - to ≡ i.more - from - (to - from) = omega arith in
+    ap (λ x. machine.Section of i.functions x left (member_at_start of)) a

@@ -1,5 +1,5 @@
 -- A byte that goes by a shorter way does what the byte step says.
-use Rattle.std.proofs.Common.{◌≡◌, ℕ, zero, suc, ◌+◌, ◌-◌, ◌<◌, inl, Option, Some, None, List, [], Result, Ok, Err, length, refl, sym, ◌∙◌, ap, subst, drop, slice_index, cond, arith}
+use Rattle.std.proofs.Common.{◌≡◌, ℕ, zero, suc, ◌+◌, ◌-◌, ◌<◌, inl, Option, Some, None, List, Result, Err, length, refl, sym, ◌∙◌, ap, subst, drop, slice_index, cond, arith}
 use Rattle.std.proofs.lemmas.Bool.{lt-ltb}
 use Rattle.std.proofs.lemmas.List.{drop_more}
 use Rattle.wm_syntax.specs.declared.profile.Profile.{Profile}
@@ -28,7 +28,8 @@ use Rattle.wm_decode.specs.Sinks.{and_then}
 use Rattle.wm_decode.specs.exact.Steps.{step_of, machine_in_member}
 use Rattle.wm_decode.specs.exact.MemberSteps.{member_in_entry, entry_after_op, op_event}
 use Rattle.wm_decode.specs.exact.ExpressionSteps.{after_reading}
-use Rattle.wm_decode.specs.exact.ShortSteps.{StepsTo, PartMayRunOut, part_event, part_taken}
+use Rattle.wm_decode.specs.exact.ShortSteps.{StepsTo, part_event}
+use Rattle.wm_decode.specs.exact.Completed.{LastMayRunOut, completed_part}
 use Rattle.wm_decode.specs.exact.Live.{MayRunOutAtByte, MayRunOutAtEvent, live_from, event_effect, decoder_after}
 use Rattle.wm_decode.specs.exact.Shortcuts.{live_so}
 use Rattle.wm_decode.proofs.OpLists.{is_alone}
@@ -65,36 +66,12 @@ module _ {H : Type 0} (after : H → Item → Result H Why) (p : Profile) (limit
       ∙ (ap (λ y. and_then (cond y (live_from (step_of p m (slice_index bytes 0)).0 (k + 1) (event_effect after (step_of p m (slice_index bytes 0)).1 name (slice_index bytes 0) h)) (Err (record { at = limit + 1; why = why.TooLong }))) (λ l. decoder_after after p limit l (drop 1 bytes))) (lt-ltb k limit less)
       ∙ ap (λ y. and_then (live_from y.0 (k + 1) (event_effect after y.1 name (slice_index bytes 0) h)) (λ l. decoder_after after p limit l (drop 1 bytes))) step)
 
-  pub short_moved : (bytes : List ℕ) (m : Machine) (of : SectionKind) (f more left : ℕ) (q : InMember) (e : Event) (name : List ℕ) (h g : H) (k : ℕ)
-      → 0 < length bytes → k < limit → step_of p m (slice_index bytes 0) ≡ (machine.Section of f more left q, e)
-      → event_effect after e name (slice_index bytes 0) h ≡ Ok ([], g)
-      → decoder_after after p limit (live_so m name h k) bytes ≡ decoder_after after p limit (live_so (machine.Section of f more left q) [] g (k + 1)) (drop 1 bytes)
-  short_moved bytes m of f more left q e name h g k some less step given =
-      first_step bytes m (machine.Section of f more left q) e name h k some less step
-      ∙ ap (λ y. and_then (live_from (machine.Section of f more left q) (k + 1) y) (λ l. decoder_after after p limit l (drop 1 bytes))) given
-
-  pub short_refused : (bytes : List ℕ) (m n : Machine) (e : Event) (name : List ℕ) (h : H) (k : ℕ) (w : Why)
-      → 0 < length bytes → k < limit → step_of p m (slice_index bytes 0) ≡ (n, e)
-      → event_effect after e name (slice_index bytes 0) h ≡ Err w
-      → decoder_after after p limit (live_so m name h k) bytes ≡ Err (record { at = k + 1; why = w })
-  short_refused bytes m n e name h k w some less step refused =
-      first_step bytes m n e name h k some less step
-      ∙ ap (λ y. and_then (live_from n (k + 1) y) (λ l. decoder_after after p limit l (drop 1 bytes))) refused
-
--- what was completed, as an event
-pub part_ok : {H : Type 0} (after : H → Item → Result H Why) (part : Option Plain) (name : List ℕ) (c : ℕ) (h g : H) → part_taken after part h ≡ Ok g → event_effect after (part_event part) name c h ≡ Ok ([], g)
-part_ok after (Some x) name c h g taken = ap (λ y. and_then y (λ g. Ok ([], g))) taken
-part_ok after None name c h g taken = ap (λ y. and_then y (λ g. Ok ([], g))) taken
-
-pub part_err : {H : Type 0} (after : H → Item → Result H Why) (part : Option Plain) (name : List ℕ) (c : ℕ) (h : H) (w : Why) → part_taken after part h ≡ Err w → event_effect after (part_event part) name c h ≡ Err w
-part_err after (Some x) name c h w refused = ap (λ y. and_then y (λ g. Ok ([], g))) refused
-part_err after None name c h w refused = cc
-
+-- memory may run out at what was completed
 pub part_room : {H : Type 0} (may : H → Item → Type 0) (p : Profile) (m n : Machine) (part : Option Plain) (name : List ℕ) (h : H) (k c : ℕ)
-    → step_of p m c ≡ (n, part_event part) → PartMayRunOut may part h → MayRunOutAtByte may p (live_so m name h k) c
+    → step_of p m c ≡ (n, part_event part) → LastMayRunOut may (completed_part part) h → MayRunOutAtByte may p (live_so m name h k) c
 part_room may p m n part name h k c step room = inl (subst (λ y. MayRunOutAtEvent may y.1 name c h) (sym step) (at_event part room))
   where
-    at_event : (part : Option Plain) → PartMayRunOut may part h → MayRunOutAtEvent may (part_event part) name c h
+    at_event : (part : Option Plain) → LastMayRunOut may (completed_part part) h → MayRunOutAtEvent may (part_event part) name c h
     at_event (Some x) r = r
     at_event None r = absurd r
 

@@ -1,5 +1,5 @@
 -- A sink that takes a list of items takes the parts of it one after the other, and a slice of data at once.
-use Rattle.std.proofs.Common.{arith, ◌≡◌, ◌≢◌, ◌⊎◌, inl, inr, ℕ, List, [], ◌∷◌, ◌++◌, Result, Ok, Err, IfErr, IsOk, MatchResult, map, refl, ◌∙◌, ap, ◌+◌, ◌<◌, length, take, slice_index}
+use Rattle.std.proofs.Common.{arith, ◌≡◌, ◌≢◌, ◌⊎◌, inl, inr, ℕ, List, [], ◌∷◌, ◌++◌, Result, Ok, Err, IfErr, IsOk, MatchResult, map, refl, sym, ◌∙◌, ap, ◌+◌, ◌<◌, length, take, slice_index}
 use Rattle.std.proofs.lemmas.List.{map-append, take_more}
 use Rattle.wm_syntax.specs.declared.why.Why.{Why}
 use Rattle.wm_syntax.specs.declared.why.Why.TheVariants as why
@@ -16,6 +16,10 @@ pub all_taken-append : {H : Type 0} (after : H → Item → Result H Why) (xs ys
 all_taken-append after [] ys h = refl
 all_taken-append after (x ∷ xs) ys h = taken_then after (after h x) xs ys (λ g. all_taken-append after xs ys g)
 
+pub split : {A B : Type 0} (r : Result A Why) (f : A → Result B Why) (y : B) → and_then r f ≡ Ok y → (x : A) × (r ≡ Ok x) × (f x ≡ Ok y)
+split (Ok x) f y e = (x, refl, e)
+split (Err r) f y e = cc
+
 -- the same of the items that numbers in two lists are
 module _ {H : Type 0} (after : H → Item → Result H Why) (item : ℕ → Item) where
   pub numbers_taken : (h : H) (a b : List ℕ) → all_taken after h (map item (a ++ b)) ≡ and_then (all_taken after h (map item a)) (λ g. all_taken after g (map item b))
@@ -29,6 +33,16 @@ module _ {H : Type 0} (after : H → Item → Result H Why) (item : ℕ → Item
       ∙ (numbers_taken h (take i bytes) (slice_index bytes i ∷ [])
       ∙ (ap (λ r. and_then r (λ k. all_taken after k (item (slice_index bytes i) ∷ []))) before
       ∙ ap (λ r. and_then r (λ k. Ok k)) given))
+
+  -- the last
+  pub last_number : (h g : H) (bytes : List ℕ) (i : ℕ) → i < length bytes → all_taken after h (map item (take (i + 1) bytes)) ≡ Ok g
+      → (f : H) × (all_taken after h (map item (take i bytes)) ≡ Ok f) × (after f (item (slice_index bytes i)) ≡ Ok g)
+  last_number h g bytes i less taken =
+      let c = slice_index bytes i in
+      let both = sym (numbers_taken h (take i bytes) (c ∷ [])) ∙ (ap (λ (y : List ℕ). all_taken after h (map item y)) (sym (take_more bytes i 0 less)) ∙ taken) in
+      let s = split (all_taken after h (map item (take i bytes))) (λ k. all_taken after k (item c ∷ [])) g both in
+      let t = split (after s.0 (item c)) (λ k. Ok k) g s.2 in
+      (s.0, s.1, t.1 ∙ t.2)
 
 pub slices_taken : {H : Type 0} (after : H → Item → Result H Why) (h : H) (a b : List ℕ) → all_taken after h (map data_byte (a ++ b)) ≡ and_then (all_taken after h (map data_byte a)) (λ g. all_taken after g (map data_byte b))
 slices_taken after h a b = numbers_taken after data_byte h a b

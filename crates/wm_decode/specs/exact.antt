@@ -1,5 +1,6 @@
 -- Exact answers of functions, refusals included. They follow the code for the layers above,
 -- and need not be believed.
+pub mod Completed
 pub mod ExpressionSteps
 pub mod Frames
 pub mod Heads

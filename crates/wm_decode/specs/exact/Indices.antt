@@ -85,9 +85,6 @@ indices_past i used n = record i {
 }
 
 -- the same where each has one byte
-abbrev pub list_after : IndexList → ℕ → IndexList
-list_after l n = list_past l n n
-
 abbrev pub indices_after : InIndices → ℕ → InIndices
 indices_after i n = indices_past i n n
 

@@ -1,7 +1,6 @@
 -- What the byte step makes of a byte of function indices and of code entries, where the section goes on: the
 -- exact form, for the proofs above it.
-use Rattle.std.specs.Prelude.{◌≡◌, ℕ, suc, Option, Some, None, Result, Ok}
-use Rattle.wm_syntax.specs.declared.why.Why.{Why}
+use Rattle.std.specs.Prelude.{◌≡◌, ℕ, suc, Option, Some, None}
 use Rattle.wm_syntax.specs.declared.profile.Profile.{Profile}
 use Rattle.wm_decode.specs.declared.machine.Plain.{Plain}
 use Rattle.wm_decode.specs.declared.machine.Event.{Event}
@@ -12,8 +11,6 @@ use Rattle.wm_decode.specs.declared.machine.member.SectionKind.{SectionKind}
 use Rattle.wm_decode.specs.declared.machine.member.InMember.{InMember}
 use Rattle.wm_decode.specs.declared.shortcuts.short_steps.Stepped.{Stepped}
 use Rattle.wm_decode.specs.declared.shortcuts.short_steps.Place.{Place}
-use Rattle.wm_decode.specs.Items.{Item}
-use Rattle.wm_decode.specs.exact.Runs.{plain_item}
 use Rattle.wm_decode.specs.exact.Steps.{step_of}
 
 -- what a byte completes, if it completes an item
@@ -32,12 +29,3 @@ abbrev pub StepsTo : Profile → SectionKind → ℕ → InMember → ℕ → St
 StepsTo p of left at c s = (functions more : ℕ)
     → step_of p (machine.Section of functions (suc more) left at) c
     ≡ (after_stepped of functions more s, part_event s.part)
-
--- what a sink holds after what a byte completed, if it completed an item
-abbrev pub part_taken : {H : Type 0} → (H → Item → Result H Why) → Option Plain → H → Result H Why
-part_taken after (Some part) h = after h (plain_item part)
-part_taken after None h = Ok h
-
-abbrev pub PartMayRunOut : {H : Type 0} → (H → Item → Type 0) → Option Plain → H → Type 0
-PartMayRunOut may (Some part) h = may h (plain_item part)
-PartMayRunOut may None h = ⊥

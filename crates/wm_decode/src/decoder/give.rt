@@ -11,7 +11,7 @@ ghost use Rattle.wm_decode.specs.Items.{body, body_op, data_byte, export, import
 ghost use Rattle.wm_decode.specs.Items.{one_result, param, result_count};
 ghost use Rattle.wm_syntax.specs.declared.modules.ImportDesc.TheVariants as ImportDesc;
 ghost use Rattle.wm_decode.specs.exact.Indices.{index_item_in};
-ghost use Rattle.wm_decode.specs.exact.ShortSteps.{PartMayRunOut, part_taken};
+ghost use Rattle.wm_decode.specs.exact.Completed.{LastMayRunOut, completed_part, last_taken};
 
 use crate::item::Item;
 use crate::machine::{NameKind, Plain};
@@ -160,8 +160,10 @@ pub(crate) fn give_export<S: Sink>(sink: &mut S, kind: ExportKind, index: u32) -
 // Gives an item that holds no bytes, if there is one
 #[inline(always)]
 pub(crate) fn give_part<S: Sink>(sink: &mut S, part: Option<Plain>) -> Result<(), Why>
-    ensures given { Taken (part_taken S.after part (S.held sink.old)) result (S.held sink.new) }
-    ensures room { IfErr result (λ w. w ≡ Memory → PartMayRunOut S.may_run_out part (S.held sink.old)) }
+    ensures given { Taken (last_taken S.after (completed_part part) (S.held sink.old)) result
+        (S.held sink.new) }
+    ensures room { IfErr result (λ w. w ≡ Memory
+        → LastMayRunOut S.may_run_out (completed_part part) (S.held sink.old)) }
 {
     let Some(part) = part else {
         return Ok(());

@@ -29,7 +29,7 @@ struct Sized {
 
 // The size of a section, which stands behind its id and has one byte or two
 #[inline(always)]
-fn short_size<S: Sink>(
+fn short_size(
     machine: &Machine,
     profile: Profile,
     bytes: &[u8],
@@ -38,7 +38,7 @@ fn short_size<S: Sink>(
 ) -> Option<Sized>
     requires some { 3 < length bytes.now }
     requires begun { IsFrameStep machine.now (slice_index bytes.now 0) (Machine.Size of functions fresh) }
-    ensures leads { IfSome result (λ s. LeadsTo S.after profile bytes.now machine.now s.next
+    ensures leads { IfSome result (λ s. LeadsTo profile bytes.now machine.now s.next
         (Machine.Count of functions s.more fresh)) }
     ensures within { IfSome result (λ s. s.next < length bytes.now) }
 {
@@ -56,8 +56,8 @@ fn short_size<S: Sink>(
 // one, and says how many bytes they are
 #[inline(always)]
 #[tactic(auto, using(crate::proofs::FrameBytes::frames_none))]
-fn section_begin<S: Sink>(machine: &mut Machine, profile: Profile, bytes: &[u8]) -> usize
-    ensures { LeadsTo S.after profile bytes.now machine.old result machine.new }
+fn section_begin(machine: &mut Machine, profile: Profile, bytes: &[u8]) -> usize
+    ensures { LeadsTo profile bytes.now machine.old result machine.new }
 {
     let Machine::Between { last, functions } = *machine else {
         return 0;
@@ -68,7 +68,7 @@ fn section_begin<S: Sink>(machine: &mut Machine, profile: Profile, bytes: &[u8])
     let Some(of) = begun(last, functions, bytes[0]) else {
         return 0;
     };
-    let Some(size) = short_size::<S>(machine, profile, bytes, of, functions) else {
+    let Some(size) = short_size(machine, profile, bytes, of, functions) else {
         return 0;
     };
     let count = bytes[size.next];
@@ -81,12 +81,13 @@ fn section_begin<S: Sink>(machine: &mut Machine, profile: Profile, bytes: &[u8])
 
 // Takes the frames of sections, one after another
 #[inline(always)]
-fn sections<S: Sink>(machine: &mut Machine, profile: Profile, bytes: &[u8]) -> usize
-    ensures { LeadsTo S.after profile bytes.now machine.old result machine.new }
+#[tactic(auto, using(crate::proofs::FrameBytes::frames_none))]
+fn sections(machine: &mut Machine, profile: Profile, bytes: &[u8]) -> usize
+    ensures { LeadsTo profile bytes.now machine.old result machine.new }
 {
     let mut used = 0;
     while used < bytes.len() {
-        used += section_begin::<S>(machine, profile, &bytes[used..]);
+        used += section_begin(machine, profile, &bytes[used..]);
         if used == bytes.len() || !frame_byte(machine, bytes[used]) {
             break;
         }
@@ -120,7 +121,7 @@ fn from_header<S: Sink>(sink: &S, machine: &mut Machine, profile: Profile, bytes
         last: 0,
         functions: 0,
     };
-    let used = sections::<S>(machine, profile, &bytes[8..]);
+    let used = sections(machine, profile, &bytes[8..]);
     // no shortcut ends in the header
     if used == 0 {
         *machine = Machine::Header(0);
@@ -147,7 +148,7 @@ pub(crate) fn frames<S: Sink>(
         Machine::Header(0) => from_header(sink, machine, profile, bytes),
         Machine::Header(_) | Machine::Refused(_) => Shortcut::none(),
         _ => {
-            let used = sections::<S>(machine, profile, bytes);
+            let used = sections(machine, profile, bytes);
             Shortcut {
                 used,
                 refused: None,

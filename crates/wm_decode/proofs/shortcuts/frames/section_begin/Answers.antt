@@ -6,10 +6,10 @@ use Rattle.wm_decode.proofs.FrameBytes.{frames_more}
 use Rattle.wm_decode.proofs.shortcuts.frames.section_begin.Goals as goal
 
 pub returns : goal.returns
-returns g c =
+returns c =
     let b = c.args.bytes.now in
     let functions = c.in-Between.functions in
     let x = c.in-Some-short_size in
     let next = c.in-Some-count_end.next in
-    frames_more g.S.Sink.after c.args.profile b c.args.machine.now (machine.Count c.in-Some.of functions x.size.more fresh) next x.size.next x.ensures.leads x.ensures.within
+    frames_more c.args.profile b c.args.machine.now (machine.Count c.in-Some.of functions x.size.more fresh) next x.size.next x.ensures.leads x.ensures.within
     (subst (λ n. IsFrameStep (machine.Count c.in-Some.of functions x.size.more n) (slice_index b x.size.next) next) c.new.ensures.fresh c.in-Some-count_end.ensures)

@@ -1,19 +1,13 @@
-use Rattle.std.proofs.Common.{ap, arith, refl, sym, ◌∙◌}
-use Rattle.std.specs.Result.{result_err}
-use Rattle.wm_decode.proofs.Advances.{advances_by}
-use Rattle.wm_decode.proofs.FunctionTypes.{count_out, result_taken}
+use Rattle.std.proofs.Common.{arith, refl, ◌∙◌}
+use Rattle.wm_decode.proofs.Completed.{first_refused, first_taken, why_given}
+use Rattle.wm_decode.proofs.Completed.Gave.{also, nothing}
+use Rattle.wm_decode.proofs.FunctionTypes.{one_counted, one_result}
 use Rattle.wm_decode.proofs.shortcuts.function_types.one_result.Goals as goal
 
 pub returns-in-Err : goal.returns-in-Err
 returns-in-Err g c =
-    let held = g.S.Sink.held in
-    advances_by g.S.Sink.after g.S.Sink.may_run_out c.args.profile _ _ _ _ _ _ _ _ c.requires.machine refl
-    (count_out g.S.Sink.after g.S.Sink.may_run_out c.args.profile c.args.bytes.now c.args.start c.give_result_count.result (held c.args.sink.now) (held c.give_result_count.new.sink) c.out.result c.in-Err.why c.args.machine.now c.requires.count (omega (arith, c.requires.within)) (omega (arith, c.requires.section)) c.out.ensures.used c.out.ensures.refused
-    (c.out.ensures.refused ∙ sym (ap result_err c.in-Err.is)) c.give_result_count.ensures.given c.give_result_count.ensures.room)
+    first_refused c.requires.machine (one_counted c.args.start c.requires.count (omega (arith, c.requires.within)) (omega (arith, c.requires.section))) (omega arith) nothing c.out.ensures.used c.give_result_count.result _ c.out.ensures.refused c.in-Err.is c.give_result_count.ensures.given c.give_result_count.ensures.room
 
 pub returns : goal.returns
 returns g c =
-    let held = g.S.Sink.held in
-    advances_by g.S.Sink.after g.S.Sink.may_run_out c.args.profile _ _ _ _ _ _ _ _ c.requires.machine c.next.ensures
-    (result_taken g.S.Sink.after g.S.Sink.may_run_out c.args.profile c.args.bytes.now c.args.start c.give_result.result (held c.args.sink.now) (held c.give_result_count.new.sink) (held c.give_result.new.sink) _ c.args.ty c.requires.count c.requires.typed c.requires.within c.requires.section c.requires.types
-    c.in_default.ensures.given refl c.err-refused.ensures.value c.give_result.ensures.given c.give_result.ensures.room)
+    first_taken c.requires.machine (one_result c.args.start c.requires.count c.requires.typed c.requires.within c.requires.section c.requires.types) (omega arith) (also nothing c.in_default.ensures.given) refl c.give_result.result _ c.next.ensures (c.err-refused.ensures.value ∙ why_given c.give_result.result c.next.ensures refl) c.give_result.ensures.given c.give_result.ensures.room

@@ -1,7 +1,7 @@
 use Rattle.std.proofs.Common.{◌≡◌, min, arith, rules, subst, sym}
 use Rattle.wm_decode.specs.exact.WholeOps.{RanTo}
-use Rattle.wm_decode.proofs.Advances.{advances_by, advances_idle, advances_ops}
-use Rattle.wm_decode.proofs.WholeOps.{none_ran}
+use Rattle.wm_decode.proofs.Advances.{advances_by, advances_idle}
+use Rattle.wm_decode.proofs.WholeOps.{advances_ops, none_ran}
 use Rattle.wm_decode.proofs.shortcuts.entries.OpsLink.take.Goals as goal
 
 pub returns-then-ran-eq0 : goal.returns-then-ran-eq0
@@ -17,6 +17,6 @@ returns g c =
     let ran = c.take_ops-ran.result in
     let least : c.min-room.result ≡ min c.in-Some.body.more c.in-Some.body.rest = search rules in
     advances_by g.S.Sink.after g.S.Sink.may_run_out c.args.profile _ _ _ _ _ _ _ _ c.in-Some.ensures c.after.ensures
-    (advances_ops g.S.Sink.after g.S.Sink.may_run_out c.args.profile c.args.bytes.now c.in-Some.body (held c.args.sink.now) (held c.take_ops-ran.new.sink) _ ran.depth
+    (advances_ops g.S.Sink.after c.args.profile c.args.bytes.now c.in-Some.body (held c.args.sink.now) g.S.Sink.may_run_out (held c.take_ops-ran.new.sink) _ ran.depth
     (subst (λ n. RanTo g.S.Sink.after c.args.profile (held c.args.sink.now) c.args.bytes.now n c.in-Some.body.depth ran.used ran.depth ran.refused (held c.take_ops-ran.new.sink)) least c.take_ops-ran.ensures.ran)
     c.take_ops-ran.ensures.inside (omega arith) c.take_ops-ran.ensures.one)
