@@ -27,36 +27,8 @@ not_memory w e h =
 
 -- a refusal's status is 1, but for memory
 cases : (w : Why) → (status_code w ≡ 1) ⊎ (w ≡ Memory)
-cases why.Magic = inl refl
-cases why.Version = inl refl
-cases why.SectionId = inl refl
-cases why.SectionOrder = inl refl
-cases why.SectionEnd = inl refl
-cases why.BadNumber = inl refl
-cases why.BadUtf8 = inl refl
-cases why.BadByte = inl refl
-cases why.Float = inl refl
-cases why.BadOpcode = inl refl
-cases why.Truncated = inl refl
-cases why.CodeCount = inl refl
-cases why.BodyEnd = inl refl
-cases why.TooManyLocals = inl refl
-cases why.Index = inl refl
-cases why.Mismatch = inl refl
-cases why.Arity = inl refl
-cases why.Limits = inl refl
-cases why.Second = inl refl
-cases why.DuplicateExport = inl refl
-cases why.StartType = inl refl
-cases why.NotConst = inl refl
-cases why.Immutable = inl refl
-cases why.Align = inl refl
-cases why.ElsePlace = inl refl
-cases why.TooLong = inl refl
 cases why.Memory = inr refl
-cases why.ManyFunctions = inl refl
-cases why.ManyLocals = inl refl
-cases why.Deep = inl refl
+cases _ = inl refl
 
 pub one_or_four : (w : Why) (n : ℕ) → status_code w ≡ n → (n ≡ 1) ⊎ (n ≡ 4)
 one_or_four w n e = elim (cases w) [
@@ -65,27 +37,8 @@ one_or_four w n e = elim (cases w) [
 ]
 
 text_cases : (w : TextWhy) → (text_status_code w ≡ 1) ⊎ (w ≡ text.Memory)
-text_cases text.NotUtf8 = inl refl
-text_cases text.BadToken = inl refl
-text_cases text.OpenComment = inl refl
-text_cases text.OpenString = inl refl
-text_cases text.BadEscape = inl refl
-text_cases text.Expected = inl refl
-text_cases text.UnknownWord = inl refl
-text_cases text.BadInteger = inl refl
-text_cases text.BadFloat = inl refl
-text_cases text.BadName = inl refl
-text_cases text.UnknownId = inl refl
-text_cases text.RepeatedId = inl refl
-text_cases text.TypeUse = inl refl
-text_cases text.ImportPlace = inl refl
-text_cases text.SecondStart = inl refl
-text_cases text.NotConst = inl refl
-text_cases text.BadAlign = inl refl
-text_cases text.LabelEnd = inl refl
-text_cases text.TooManyLocals = inl refl
-text_cases text.Float = inl refl
 text_cases text.Memory = inr refl
+text_cases _ = inl refl
 
 -- so are those of a text
 pub unbuilt_status : (u : Unbuilt) (n : ℕ) → (unbuilt u).status ≡ n → (n ≡ 1) ⊎ (n ≡ 4)

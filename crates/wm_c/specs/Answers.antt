@@ -59,5 +59,5 @@ IsRight p limit q input (Err r) =
     × (r.at ≤ length input)
 
 -- the answer, in numbers, is one that a validator may give
-abbrev pub Answers : Profile → ℕ → Policy → List ℕ → Answer → Type 0
-Answers p limit q input a = (r : Result Summary Refusal) × (a ≡ in_numbers r) × IsRight p limit q input r
+abbrev pub IsAnswerOf : Profile → ℕ → Policy → List ℕ → Answer → Type 0
+IsAnswerOf p limit q input a = (r : Result Summary Refusal) × (a ≡ in_numbers r) × IsRight p limit q input r

@@ -5,7 +5,7 @@ use Rattle.wm_decode.specs.declared.refusal.Refusal.{Refusal}
 use Rattle.wm_rules.specs.declared.policy.Policy.{Policy}
 use Rattle.wm_c.specs.declared.answer.Answer.{Answer}
 use Rattle.wm_c.specs.declared.session.Session.{Session}
-use Rattle.wm_c.specs.Sessions.{HasEnded, HasTaken, IsOpen, IsOver, StateRanOut, StateRefused}
+use Rattle.wm_c.specs.Sessions.{HasEnded, HasTaken, IsReading, IsOver, StateRanOut, StateRefused}
 use base.Fml.{Fml, feq}
 use denote.RawPtr.{Ptr, null_ptr}
 use denote.RattleType.{RattleType}
@@ -40,7 +40,7 @@ TakesNothing (Some s) = IsOver s.state
 -- pieces can be taken: there is a session, and it has no answer yet
 abbrev pub TakesPieces : Option Session → Type 0
 TakesPieces None = ⊥
-TakesPieces (Some s) = IsOpen s.state
+TakesPieces (Some s) = IsReading s.state
 
 -- a session there was refused memory
 abbrev pub RanOut : Option Session → Type 0

@@ -19,5 +19,5 @@ IsWritten word before after = after ≡ written word before
 -- the number is that of a refusal with this name: of a module, of a text, or of a module too large to encode
 abbrev pub HasName : ℕ → List ℕ → Type 0
 HasName n word = ((w : Why) × (n ≡ why_code w) × (word ≡ modules.name_of w))
-    ⊎ ((w : TextWhy) × (n ≡ text_code w) × (word ≡ texts.name_of w))
+    ⊎ ((w : TextWhy) × (n ≡ text_code w) × (word ≡ texts.text_name_of w))
     ⊎ ((n ≡ 100) × (word ≡ codes "TooLarge"))

@@ -9,12 +9,12 @@ use Rattle.wm_c.specs.declared.answer.Answer.{Answer}
 use Rattle.wm_c.specs.declared.session.Session.{Session}
 use Rattle.wm_c.specs.declared.session.State.{State}
 use Rattle.wm_c.specs.declared.session.State.TheVariants.{Reading, Ended}
-use Rattle.wm_c.specs.Answers.{Answers}
+use Rattle.wm_c.specs.Answers.{IsAnswerOf}
 
 -- Its validator has read just these bytes, or its answer is one to just these.
 abbrev pub StateTaken : State → Profile → ℕ → Policy → List ℕ → Type 0
 StateTaken (Reading v) p limit q bytes = HasRead v p limit q bytes
-StateTaken (Ended a) p limit q bytes = Answers p limit q bytes a
+StateTaken (Ended a) p limit q bytes = IsAnswerOf p limit q bytes a
 
 abbrev pub HasTaken : Session → Profile → ℕ → Policy → List ℕ → Type 0
 HasTaken s p limit q bytes = StateTaken s.state p limit q bytes
@@ -29,9 +29,9 @@ IsOver (Reading v) = ⊥
 IsOver (Ended a) = Unit {0}
 
 -- it has no answer yet
-abbrev pub IsOpen : State → Type 0
-IsOpen (Reading v) = Unit {0}
-IsOpen (Ended a) = ⊥
+abbrev pub IsReading : State → Type 0
+IsReading (Reading v) = Unit {0}
+IsReading (Ended a) = ⊥
 
 -- it was refused memory
 abbrev pub StateRanOut : State → Type 0

@@ -1,7 +1,7 @@
 //! An input that comes in pieces.
 
 ghost use Rattle.std.specs.Prelude.{◌≡◌, ◌≢◌, ◌++◌, ◌↔◌, ◌⊎◌, ℕ, List, [], Err, None};
-ghost use Rattle.wm_c.specs.Answers.{Answers, in_numbers, misuse};
+ghost use Rattle.wm_c.specs.Answers.{IsAnswerOf, in_numbers, misuse};
 ghost use Rattle.wm_c.specs.Codes.{status_code};
 ghost use Rattle.wm_c.specs.Handles.{Holds, HoldsAnswer, HoldsRefusal, RanOut, TakesNothing, TakesPieces};
 ghost use Rattle.wm_c.specs.Options.{Asking, Asks, plain_options};
@@ -111,7 +111,7 @@ pub extern "C" fn wmod_feed(alloc: Global, v: &mut Handle, piece: &[u8]) -> u32
 #[unsafe(no_mangle)]
 pub extern "C" fn wmod_finish(alloc: Global, v: &mut Handle, answer: &mut Answer) -> u32
     ensures answers { (p : AProfile) (limit : ℕ) (q : APolicy) (input : List ℕ)
-        → Holds v.old.held p limit q input → Answers p limit q input answer.new }
+        → Holds v.old.held p limit q input → IsAnswerOf p limit q input answer.new }
     // What was refused is answered.
     ensures told { (r : ARefusal) → HoldsRefusal v.old.held r → answer.new ≡ in_numbers (Err r) }
     // A second call gives the same and changes nothing.
@@ -137,7 +137,7 @@ pub extern "C" fn wmod_end(alloc: Global, v: &mut Handle)
 
 fn answered(alloc: Global, v: &mut Handle) -> Answer
     ensures answers { (p : AProfile) (limit : ℕ) (q : APolicy) (input : List ℕ)
-        → Holds v.old.held p limit q input → Answers p limit q input result }
+        → Holds v.old.held p limit q input → IsAnswerOf p limit q input result }
     ensures told { (r : ARefusal) → HoldsRefusal v.old.held r → result ≡ in_numbers (Err r) }
     ensures again { (a : AnAnswer) → HoldsAnswer v.old.held a → (result ≡ a) × (v.new.held ≡ v.old.held) }
     ensures ended { v.old.held ≢ None → HoldsAnswer v.new.held result }

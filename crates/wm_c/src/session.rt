@@ -1,9 +1,9 @@
 //! A module that C hands over in pieces.
 
 ghost use Rattle.std.specs.Prelude.{◌≡◌, ◌≢◌, ◌≤◌, ◌^◌, ◌++◌, ◌↔◌, ℕ, List, [], Err, IfSome, Some};
-ghost use Rattle.wm_c.specs.Answers.{Answers, IsRight, in_numbers};
+ghost use Rattle.wm_c.specs.Answers.{IsAnswerOf, IsRight, in_numbers};
 ghost use Rattle.wm_c.specs.Codes.{status_code};
-ghost use Rattle.wm_c.specs.Sessions.{HasTaken, HasEnded, IsOpen, IsOver};
+ghost use Rattle.wm_c.specs.Sessions.{HasTaken, HasEnded, IsReading, IsOver};
 ghost use Rattle.wm_c.specs.Sessions.{StateRanOut, StateRefused, StateTaken};
 ghost use Rattle.wm_c.specs.declared.session.State.TheVariants.{Ended};
 ghost use Rattle.wm_decode.specs.declared.refusal.Refusal.{Refusal as ARefusal};
@@ -40,7 +40,7 @@ impl Session {
     pub(crate) fn new(alloc: Global, asked: Asked) -> Session
         requires { asked.max_bytes ≤ 2 ^ 62 }
         ensures taken { HasTaken result asked.profile asked.max_bytes asked.policy [] }
-        ensures ready { IsOpen result.state }
+        ensures ready { IsReading result.state }
         ensures unrefused { (r : ARefusal) → StateRefused result.state r → ⊥ }
     {
         let Asked {
@@ -65,7 +65,7 @@ impl Session {
         ensures over { (result ≡ 2) ↔ IsOver self.old.state }
         ensures misused { result ≡ 2 → self.new ≡ self.old }
         // A piece that it takes never ends it, refused or not.
-        ensures ready { result ≢ 2 → IsOpen self.new.state }
+        ensures ready { result ≢ 2 → IsReading self.new.state }
         ensures unrefused { result ≡ 0 → (r : ARefusal) → StateRefused self.new.state r → ⊥ }
         ensures memory { result ≡ 4 → StateRanOut self.new.state }
         // The first refusal stays.
@@ -83,7 +83,7 @@ impl Session {
     /// The answer to what it has taken. Another call gives it again.
     pub fn finish(&mut self) -> Answer
         ensures answers { (p : AProfile) (limit : ℕ) (q : APolicy) (input : List ℕ)
-            → HasTaken self.old p limit q input → Answers p limit q input result }
+            → HasTaken self.old p limit q input → IsAnswerOf p limit q input result }
         // What was refused is answered.
         ensures told { (r : ARefusal) → StateRefused self.old.state r → result ≡ in_numbers (Err r) }
         ensures ended { HasEnded self.new result }
@@ -118,7 +118,7 @@ fn fed(validator: &mut Validator, piece: &[u8]) -> u32
 
 fn answer_of(state: State) -> Answer
     ensures answers { (p : AProfile) (limit : ℕ) (q : APolicy) (input : List ℕ)
-        → StateTaken state p limit q input → Answers p limit q input result }
+        → StateTaken state p limit q input → IsAnswerOf p limit q input result }
     ensures told { (r : ARefusal) → StateRefused state r → result ≡ in_numbers (Err r) }
     ensures again { (a : _) → state ≡ Ended a → result ≡ a }
 {

@@ -1,7 +1,7 @@
 //! A whole input in one call.
 
 ghost use Rattle.std.specs.Prelude.{◌≡◌, ◌≢◌, ◌≤◌, ◌^◌};
-ghost use Rattle.wm_c.specs.Answers.{Answers, misuse};
+ghost use Rattle.wm_c.specs.Answers.{IsAnswerOf, misuse};
 ghost use Rattle.wm_c.specs.Codes.{why_code};
 ghost use Rattle.wm_c.specs.Options.{Asking, Asks, plain_options};
 ghost use Rattle.wm_rules.specs.Validation.{Accepted};
@@ -26,7 +26,7 @@ pub extern "C" fn wmod_validate(
 ) -> u32
     // The answer is the validator's, in numbers.
     ensures answered { result ≢ 2 → Asking (plain_options profile max_bytes) (λ p limit q.
-        Answers p limit q bytes.now answer.new) }
+        IsAnswerOf p limit q bytes.now answer.new) }
     // Valid is answered for accepted inputs alone.
     ensures valid { result ≡ 0 → Asking (plain_options profile max_bytes) (λ p limit q.
         Accepted p limit q bytes.now) }
@@ -53,7 +53,7 @@ pub extern "C" fn wmod_validate_with(
 ) -> u32
     // The answer is the validator's, in numbers.
     ensures answered { result ≢ 2 → Asking options.now (λ p limit q.
-        Answers p limit q bytes.now answer.new) }
+        IsAnswerOf p limit q bytes.now answer.new) }
     // Valid is answered for accepted inputs alone.
     ensures valid { result ≡ 0 → Asking options.now (λ p limit q. Accepted p limit q bytes.now) }
     // Refused is answered for no accepted input.
@@ -69,7 +69,7 @@ pub extern "C" fn wmod_validate_with(
 
 fn judged(alloc: Global, bytes: &[u8], options: &Options) -> Answer
     ensures answered { result.status ≢ 2 → Asking options.now (λ p limit q.
-        Answers p limit q bytes.now result) }
+        IsAnswerOf p limit q bytes.now result) }
     ensures valid { result.status ≡ 0 → Asking options.now (λ p limit q. Accepted p limit q bytes.now) }
     ensures refused { result.status ≡ 1 → Asking options.now (λ p limit q.
         Accepted p limit q bytes.now → ⊥) }

@@ -9,11 +9,11 @@ use Rattle.wm_cli.specs.declared.status.Status.TheVariants.{Done, Refused, Io, M
 use Rattle.wm_cli.specs.declared.words.LineFault.{LineFault}
 use Rattle.wm_cli.specs.declared.words.LineFault.TheVariants as fault
 
-abbrev pub status_code : Status → ℕ
-status_code Done = 0
-status_code Refused = 1
-status_code Io = 3
-status_code Memory = 4
+abbrev pub exit_status : Status → ℕ
+exit_status Done = 0
+exit_status Refused = 1
+exit_status Io = 3
+exit_status Memory = 4
 
 -- a request for help, or for the version, is no fault
 abbrev pub kind_code : ErrorKind → ℕ
@@ -28,5 +28,5 @@ fault_code fault.Words = 2
 fault_code fault.Memory = 4
 
 abbrev pub end_code : Result Status LineFault → ℕ
-end_code (Ok status) = status_code status
+end_code (Ok status) = exit_status status
 end_code (Err fault) = fault_code fault

@@ -15,7 +15,7 @@ refusal_line place why = line_of (codes "refused at ") place (name_of why)
 
 -- the line of a text that is refused at this place
 abbrev pub text_line : ℕ → TextWhy → List ℕ
-text_line place why = line_of (codes "text refused at ") place (text.name_of why)
+text_line place why = line_of (codes "text refused at ") place (text.text_name_of why)
 
 -- the line of a module that a text writes and that is refused at this place of its canonical binary
 abbrev pub module_line : ℕ → Why → List ℕ

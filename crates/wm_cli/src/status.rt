@@ -18,11 +18,11 @@ pub enum Status {
 
 impl Status {
     ghost use Rattle.std.specs.Prelude.{◌≡◌};
-    ghost use Rattle.wm_cli.specs.Codes.{status_code};
+    ghost use Rattle.wm_cli.specs.Codes.{exit_status};
 
     /// The exit status of the program.
     pub fn code(self) -> u8
-        ensures { result ≡ status_code self }
+        ensures { result ≡ exit_status self }
     {
         match self {
             Status::Done => 0,

@@ -4,7 +4,7 @@ use Rattle.std.proofs.lemmas.Bool.{ltb-true, ltb-false}
 use Rattle.wm_syntax.specs.declared.profile.Profile.{Profile}
 use Rattle.wm_syntax.specs.exact.Reading.{fresh}
 use Rattle.wm_decode.specs.Items.{Marks}
-use Rattle.wm_decode.specs.MarkedForms.{MarkedForm, Byte, Then, Times, Counted, Number, Name, Sized, Filled, nothing_at, outside_mark}
+use Rattle.wm_decode.specs.MarkedForms.{MarkedForm, MarkedByte, Then, Times, Counted, MarkedNumber, Name, Sized, Filled, nothing_at, outside_mark}
 use Rattle.wm_decode.specs.Grammar.{Contents, Section, Custom, Customs, MayMiss, Optional, Chain}
 use Rattle.wm_decode.proofs.FirstBytes.{Next, HasBytes, head_same, not_nil, same_refl, next_from, next_byte, byte_has, then_has, then_assoc, ends_first}
 use Rattle.wm_decode.proofs.Numbers.{Left}
@@ -37,7 +37,7 @@ missing_none f low high none i above below = absurd (omega (arith, none, above, 
 module _ (demanded : Type 0) (p : Profile) (f : ℕ) where
   -- the size of a section other than a custom one, and its contents
   abbrev Sizes : ℕ → MarkedForm
-  Sizes id = Number nothing_at (λ n. Sized demanded n (Contents demanded p f id))
+  Sizes id = MarkedNumber nothing_at (λ n. Sized demanded n (Contents demanded p f id))
 
   -- after the id of a section, and after that of a custom one
   abbrev pub InSection : ℕ → MarkedForm → MarkedForm
@@ -46,28 +46,28 @@ module _ (demanded : Type 0) (p : Profile) (f : ℕ) where
   abbrev pub InCustomSection : MarkedForm → MarkedForm
   InCustomSection Q = Counted (Left fresh) nothing_at (λ n. Then (Filled demanded n (Name demanded unnamed)) Q)
 
-  section_next : (id : ℕ) (G : ℕ → MarkedForm) (Q : MarkedForm) → Next demanded (Then (Then (Byte id None) (Number nothing_at G)) Q) id (outside_mark None) (Counted (Left fresh) nothing_at (λ n. Then (G n) Q))
+  section_next : (id : ℕ) (G : ℕ → MarkedForm) (Q : MarkedForm) → Next demanded (Then (Then (MarkedByte id None) (MarkedNumber nothing_at G)) Q) id (outside_mark None) (Counted (Left fresh) nothing_at (λ n. Then (G n) Q))
   section_next id G Q =
-      let N : MarkedForm = Number nothing_at G in
+      let N : MarkedForm = MarkedNumber nothing_at G in
       let R : MarkedForm = Counted (Left fresh) nothing_at (λ n. Then (G n) Q) in
-      next_from demanded (Then (Byte id None) (Then N Q)) (Then (Then (Byte id None) N) Q) R id (outside_mark None) (then_assoc demanded (Byte id None) N Q)
-      (ends_first demanded (Byte id None) (Then N Q) R id (outside_mark None) (next_byte demanded id None) (byte_has demanded id None)
+      next_from demanded (Then (MarkedByte id None) (Then N Q)) (Then (Then (MarkedByte id None) N) Q) R id (outside_mark None) (then_assoc demanded (MarkedByte id None) N Q)
+      (ends_first demanded (MarkedByte id None) (Then N Q) R id (outside_mark None) (next_byte demanded id None) (byte_has demanded id None)
       (counted_fresh demanded nothing_at G Q (λ n. Then (G n) Q) (λ n. same_refl demanded (Then (G n) Q))))
 
   -- what begins with a section begins with its id
-  byte_front : (id c : ℕ) (b : List ℕ) (front back : List ℕ) (k : Marks) → c ∷ b ≡ front ++ back → Byte id None front k → c ≡ id
+  byte_front : (id c : ℕ) (b : List ℕ) (front back : List ℕ) (k : Marks) → c ∷ b ≡ front ++ back → MarkedByte id None front k → c ≡ id
   byte_front id c b [] back k e h = absurd (not_nil id [] (sym h.0))
   byte_front id c b (d ∷ front) back k e h = head_same c d b (front ++ back) e ∙ head_same d id front [] h.0
 
-  id_has : (id : ℕ) (N : MarkedForm) → HasBytes (Unit {0}) (Then (Byte id None) N)
-  id_has id N = then_has (Unit {0}) (Byte id None) N (byte_has (Unit {0}) id None)
+  id_has : (id : ℕ) (N : MarkedForm) → HasBytes (Unit {0}) (Then (MarkedByte id None) N)
+  id_has id N = then_has (Unit {0}) (MarkedByte id None) N (byte_has (Unit {0}) id None)
 
-  id_front : (id : ℕ) (N : MarkedForm) (c : ℕ) (b : List ℕ) (front back : List ℕ) (k : Marks) → c ∷ b ≡ front ++ back → Then (Byte id None) N front k → c ≡ id
+  id_front : (id : ℕ) (N : MarkedForm) (c : ℕ) (b : List ℕ) (front back : List ℕ) (k : Marks) → c ∷ b ≡ front ++ back → Then (MarkedByte id None) N front k → c ≡ id
   id_front id N c b [] back k e h = absurd (id_has id N tt k h)
   id_front id N c b (d ∷ front) back k e h = head_same c d b (front ++ back) e ∙ byte_front id d front h.front h.back h.front_marks h.bytes h.first
 
   -- the same of what stands first
-  first_front : (id : ℕ) (N Q : MarkedForm) (c : ℕ) (b : List ℕ) (k : Marks) → Then (Then (Byte id None) N) Q (c ∷ b) k → c ≡ id
+  first_front : (id : ℕ) (N Q : MarkedForm) (c : ℕ) (b : List ℕ) (k : Marks) → Then (Then (MarkedByte id None) N) Q (c ∷ b) k → c ≡ id
   first_front id N Q c b k h = id_front id N c b h.front h.back h.front_marks h.bytes h.first
 
   -- no custom section, and then the rest
@@ -157,7 +157,7 @@ module _ (demanded : Type 0) (p : Profile) (f : ℕ) where
 
   -- no custom section begins with another id
   not_custom : (Q : MarkedForm) (c : ℕ) (b : List ℕ) (k : Marks) → Then (Custom demanded) Q (suc c ∷ b) k → ⊥
-  not_custom Q c b k t = no_zero c (sym (first_front 0 (Number nothing_at Nameless) Q (suc c) b k t))
+  not_custom Q c b k t = no_zero c (sym (first_front 0 (MarkedNumber nothing_at Nameless) Q (suc c) b k t))
 
   -- which first bytes there may be
   first_id : (count id c : ℕ) (b : List ℕ) (k : Marks) → Sections count id (suc c ∷ b) k → (id ≤ suc c) × (suc c < id + count)
@@ -222,7 +222,7 @@ module _ (demanded : Type 0) (p : Profile) (f : ℕ) where
   -- the sections may be over
   no_times : (n : ℕ) (k : Marks) → Times n (Custom demanded) [] k → k ≡ []
   no_times zero k h = h.1
-  no_times (suc n) k h = absurd (then_has (Unit {0}) (Custom demanded) (Times n (Custom demanded)) (id_has 0 (Number nothing_at Nameless)) tt k h)
+  no_times (suc n) k h = absurd (then_has (Unit {0}) (Custom demanded) (Times n (Custom demanded)) (id_has 0 (MarkedNumber nothing_at Nameless)) tt k h)
 
   no_section : (id : ℕ) (Q : MarkedForm) → HasBytes (Unit {0}) (Then (Section demanded p f id) Q)
   no_section id Q = then_has (Unit {0}) (Section demanded p f id) Q (id_has id (Sizes id))
@@ -230,7 +230,7 @@ module _ (demanded : Type 0) (p : Profile) (f : ℕ) where
   pub over_missing : (count id : ℕ) (k : Marks) → Sections count id [] k → (k ≡ []) × Missing f id (id + count)
   over_missing zero id k h = (no_times h.0 k h.1, missing_none f id (id + 0) (omega arith))
   over_missing (suc count) id k h = elim (split [] k h) [
-    | inr t ↦ absurd (then_has (Unit {0}) (Custom demanded) (Then (Customs demanded) (Then (Optional demanded p f id) (Sections count (suc id)))) (id_has 0 (Number nothing_at Nameless)) tt k t)
+    | inr t ↦ absurd (then_has (Unit {0}) (Custom demanded) (Then (Customs demanded) (Then (Optional demanded p f id) (Sections count (suc id)))) (id_has 0 (MarkedNumber nothing_at Nameless)) tt k t)
     | inl o ↦ elim (optional_split count id [] k o) [
       | inl s ↦ absurd (no_section id (Sections count (suc id)) tt k s)
       | inr m ↦

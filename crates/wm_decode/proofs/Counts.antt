@@ -6,7 +6,7 @@ use Rattle.wm_syntax.specs.declared.numbers.Step.TheVariants.{More, Done, Bad}
 use Rattle.wm_syntax.specs.inner.Numbers.{Partial}
 use Rattle.wm_syntax.specs.exact.Reading.{fresh, unsigned_push}
 use Rattle.wm_decode.specs.Items.{Item, Marks}
-use Rattle.wm_decode.specs.MarkedForms.{MarkedForm, Then, Counted, Number, marks_ending, outside_mark}
+use Rattle.wm_decode.specs.MarkedForms.{MarkedForm, Then, Counted, MarkedNumber, marks_ending, outside_mark}
 use Rattle.wm_decode.proofs.FirstBytes.{Goes, Next, Same, HasBytes, Never, head_same, tail_same, not_nil, next_never, same_then}
 use Rattle.wm_decode.proofs.Numbers.{Left, NumberNext, number_next, left_nil, fresh_number}
 
@@ -104,9 +104,9 @@ module _ (demanded : Type 0) where
   }
 
   -- a number from its first byte
-  pub number_fresh : (x : ℕ → Option Item) (F G : ℕ → MarkedForm) → ((n : ℕ) → Same demanded (F n) (G n)) → Same demanded (Number x F) (Counted (Left fresh) x G)
+  pub number_fresh : (x : ℕ → Option Item) (F G : ℕ → MarkedForm) → ((n : ℕ) → Same demanded (F n) (G n)) → Same demanded (MarkedNumber x F) (Counted (Left fresh) x G)
   number_fresh x F G s = counted_same SpellsU32 (Left fresh) x F G fresh_number s
 
   -- a counted part and what follows it, from its first byte
-  pub counted_fresh : (x : ℕ → Option Item) (F : ℕ → MarkedForm) (Q : MarkedForm) (G : ℕ → MarkedForm) → ((n : ℕ) → Same demanded (Then (F n) Q) (G n)) → Same demanded (Then (Number x F) Q) (Counted (Left fresh) x G)
-  counted_fresh x F Q G s = same_then demanded (Then (Number x F) Q) (Number x (λ n. Then (F n) Q)) (Counted (Left fresh) x G) (counted_then SpellsU32 x F Q) (number_fresh x (λ n. Then (F n) Q) G s)
+  pub counted_fresh : (x : ℕ → Option Item) (F : ℕ → MarkedForm) (Q : MarkedForm) (G : ℕ → MarkedForm) → ((n : ℕ) → Same demanded (Then (F n) Q) (G n)) → Same demanded (Then (MarkedNumber x F) Q) (Counted (Left fresh) x G)
+  counted_fresh x F Q G s = same_then demanded (Then (MarkedNumber x F) Q) (MarkedNumber x (λ n. Then (F n) Q)) (Counted (Left fresh) x G) (counted_then SpellsU32 x F Q) (number_fresh x (λ n. Then (F n) Q) G s)

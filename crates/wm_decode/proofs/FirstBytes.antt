@@ -2,7 +2,7 @@
 -- that each law serves the strict grammar whole and of the loose one the way back.
 use Rattle.std.proofs.Common.{◌≡◌, ℕ, List, [], ◌∷◌, ◌++◌, Option, refl, sym, ◌∙◌, ap, subst, append_assoc}
 use Rattle.wm_decode.specs.Items.{Item, Mark, Marks}
-use Rattle.wm_decode.specs.MarkedForms.{MarkedForm, Empty, Byte, Then, outside_mark}
+use Rattle.wm_decode.specs.MarkedForms.{MarkedForm, Empty, MarkedByte, Then, outside_mark}
 
 abbrev pub Never : MarkedForm
 Never b k = ⊥
@@ -54,16 +54,16 @@ module _ (demanded : Type 0) where
   pub next_never : (P : MarkedForm) (c : ℕ) (m : Mark) → (demanded → (b : List ℕ) (k : Marks) → P (c ∷ b) k → ⊥) → Next P c m Never
   next_never P c m h = record { to = λ s b k p. absurd (h s b k p); from = λ b k g. absurd g.2 }
 
-  pub next_byte : (c : ℕ) (x : Option Item) → Next (Byte c x) c (outside_mark x) Empty
+  pub next_byte : (c : ℕ) (x : Option Item) → Next (MarkedByte c x) c (outside_mark x) Empty
   next_byte c x = record {
     to = λ s b k h. ([], h.1, (tail_same c c b [] h.0, refl));
     from = λ b k g. (ap (λ e. c ∷ e) g.2.0, g.1 ∙ ap (λ e. outside_mark x ∷ e) g.2.1);
   }
 
-  pub other_byte : (c d : ℕ) (x : Option Item) (b : List ℕ) (k : Marks) → (d ≡ c → ⊥) → Byte c x (d ∷ b) k → ⊥
+  pub other_byte : (c d : ℕ) (x : Option Item) (b : List ℕ) (k : Marks) → (d ≡ c → ⊥) → MarkedByte c x (d ∷ b) k → ⊥
   other_byte c d x b k ne h = ne (head_same d c b [] h.0)
 
-  pub byte_has : (c : ℕ) (x : Option Item) → HasBytes (Byte c x)
+  pub byte_has : (c : ℕ) (x : Option Item) → HasBytes (MarkedByte c x)
   byte_has c x s k h = not_nil c [] (sym h.0)
 
   module _ (P Q : MarkedForm) where

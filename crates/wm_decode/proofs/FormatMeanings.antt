@@ -34,7 +34,7 @@ use Rattle.wm_decode.specs.exact.Runs.{name_item, plain_item, marks, MachineStat
 use Rattle.wm_decode.specs.exact.Steps.{machine_after_count, machine_after_paired_count, after_count, begun_section, machine_if_rising, section_start, header_step, custom_step, custom_after_length, step_of}
 use Rattle.wm_decode.specs.exact.Live.{effect_of_maybe, name_taken, event_effect, Live, live_or_refused, live_from, live_byte, decoder_after, live_at_start, answer_at_end_of, answer_at_end, IsRefused}
 use Rattle.wm_decode.specs.inner.Decoders.{answer_of}
-use Rattle.wm_decode.specs.Meanings.{RawSection, WrongInHeader, WrongId, IsUnknown, IsLate, HasFrom, EndsInSection, Declare, OtherCount, NoCode, OtherSize, OtherBodySize, WrongNumber, Wanted, WrongByte, IsNoInstruction, IsFloat, IsOtherByte, Means, Meaning, IsRuleName, GivesRuleNames}
+use Rattle.wm_decode.specs.Meanings.{RawSection, WrongInHeader, WrongId, IsUnknown, IsLate, HasFrom, EndsInSection, Declare, OtherCount, NoCode, OtherSize, OtherBodySize, WrongNumber, Wanted, WrongByte, IsNoInstruction, BeginsFloat, IsOtherByte, MeansOfFormat, MeaningOfFormat, IsRuleName, GivesRuleNames}
 use Rattle.wm_decode.proofs.ByteLists.{front_bytes}
 use Rattle.wm_decode.proofs.WrongBytes.{Found, Says as SaysOfByte}
 use Rattle.wm_decode.proofs.WrongMembers.{InInput, byte_says}
@@ -283,7 +283,7 @@ step_says p (machine.Count of functions more r) c b byte live fit f =
 step_says p (machine.Section of functions more left q) c b byte live fit f = section_says p (machine.Section of functions more left q) c (b ++ c ∷ []) tt (λ i. i)
 
 -- the names that a sink gives are none of these
-by_rule : (p : Profile) (limit : ℕ) (used rest : List ℕ) (w : Why) → IsRuleName w → Means p limit used rest w
+by_rule : (p : Profile) (limit : ℕ) (used rest : List ℕ) (w : Why) → IsRuleName w → MeansOfFormat p limit used rest w
 by_rule p limit used rest why.Magic i = absurd i
 by_rule p limit used rest why.Version i = absurd i
 by_rule p limit used rest why.SectionId i = absurd i
@@ -304,7 +304,7 @@ by_rule p limit used rest w i = tt
 found : (p : Profile) (b : List ℕ) (a : AreBytes b) (c : ℕ) (IsWrong : Wanted → ℕ → Type 0) → Found (InInput p b a c) IsWrong c → WrongByte p IsWrong (b ++ c ∷ [])
 found p b a c IsWrong s = record { before = b; byte = c; whole = refl; wanted = s.0; place = s.1.0; none = s.1.1; wrong = s.2 }
 
-by_machine : (p : Profile) (limit : ℕ) (b rest : List ℕ) (a : AreBytes b) (c : ℕ) (w : Why) → MachineSays (b ++ c ∷ []) w → SaysOfByte (InInput p b a c) c w → (w ≡ why.SectionEnd → OtherSize p (b ++ c ∷ [])) → (w ≡ why.BodyEnd → OtherBodySize p (b ++ c ∷ [])) → (w ≡ why.BadNumber → WrongNumber p (b ++ c ∷ [])) → Means p limit (b ++ c ∷ []) rest w
+by_machine : (p : Profile) (limit : ℕ) (b rest : List ℕ) (a : AreBytes b) (c : ℕ) (w : Why) → MachineSays (b ++ c ∷ []) w → SaysOfByte (InInput p b a c) c w → (w ≡ why.SectionEnd → OtherSize p (b ++ c ∷ [])) → (w ≡ why.BodyEnd → OtherBodySize p (b ++ c ∷ [])) → (w ≡ why.BadNumber → WrongNumber p (b ++ c ∷ [])) → MeansOfFormat p limit (b ++ c ∷ []) rest w
 by_machine p limit b rest a c why.Magic h s cut body number = h
 by_machine p limit b rest a c why.Version h s cut body number = h
 by_machine p limit b rest a c why.SectionId h s cut body number = h
@@ -312,7 +312,7 @@ by_machine p limit b rest a c why.SectionOrder h s cut body number = h
 by_machine p limit b rest a c why.Truncated h s cut body number = absurd h
 by_machine p limit b rest a c why.TooLong h s cut body number = absurd h
 by_machine p limit b rest a c why.BadOpcode h s cut body number = found p b a c IsNoInstruction s
-by_machine p limit b rest a c why.Float h s cut body number = found p b a c IsFloat s
+by_machine p limit b rest a c why.Float h s cut body number = found p b a c BeginsFloat s
 by_machine p limit b rest a c why.BadByte h s cut body number = found p b a c IsOtherByte s
 by_machine p limit b rest a c why.BadUtf8 h s cut body number = absurd h
 by_machine p limit b rest a c why.CodeCount h s cut body number = h rest
@@ -452,7 +452,7 @@ module _ {H : Type 0} (after : H → Item → Result H Why) (s : Setting H) (nam
       (items_at said, sym (given_taken after said s.first) ∙ q.held)
 
   -- whatever comes after these bytes
-  pub on_byte : (b more : List ℕ) (r : Refusal) → AreBytes b → Decoded b ≡ Err r → Meaning s.profile s.limit (b ++ more) r
+  pub on_byte : (b more : List ℕ) (r : Refusal) → AreBytes b → Decoded b ≡ Err r → MeaningOfFormat s.profile s.limit (b ++ more) r
   on_byte b more r bytes e =
       let low : Starts.at ≤ s.limit = omega arith in
       let u = used_of after s.profile s.limit b Starts r low e in
@@ -471,10 +471,10 @@ module _ {H : Type 0} (after : H → Item → Result H Why) (s : Setting H) (nam
     where
       go : (u : Used after s.profile s.limit Starts b r) → AreBytes u.used → u.byte < 2 ^ 8 → r.at ≡ length (u.used ++ u.byte ∷ []) → state_of after s.profile s.limit u.before ≡ state_after s.profile state_at_start u.used
           → (IsRefused u.before.machine → ⊥) → Fits u.before.machine → Framed u.before.machine u.used → ((parts : List Item) × (all_taken after s.first parts ≡ Ok u.before.held)) → Cause after s.profile s.limit u.before u.byte r
-          → Means s.profile s.limit (u.used ++ u.byte ∷ []) (u.rest ++ more) r.why
-      go u bytes byte place same live fit f parts (too_long at w) = subst (λ y. Means s.profile s.limit (u.used ++ u.byte ∷ []) (u.rest ++ more) y) (sym w) (sym place ∙ at)
+          → MeansOfFormat s.profile s.limit (u.used ++ u.byte ∷ []) (u.rest ++ more) r.why
+      go u bytes byte place same live fit f parts (too_long at w) = subst (λ y. MeansOfFormat s.profile s.limit (u.used ++ u.byte ∷ []) (u.rest ++ more) y) (sym w) (sym place ∙ at)
       go u bytes byte place same live fit f parts (by_text t w) =
-          subst (λ y. Means s.profile s.limit (u.used ++ u.byte ∷ []) (u.rest ++ more) y) (sym w) (bad_name s.profile u.used bytes u.byte u.before.machine u.before.name t.0 (sym same) t.1 t.2)
+          subst (λ y. MeansOfFormat s.profile s.limit (u.used ++ u.byte ∷ []) (u.rest ++ more) y) (sym w) (bad_name s.profile u.used bytes u.byte u.before.machine u.before.name t.0 (sym same) t.1 t.2)
       go u bytes byte place same live fit f parts (by_step m text) =
           by_machine s.profile s.limit u.used (u.rest ++ more) bytes u.byte r.why (step_says s.profile u.before.machine u.byte u.used byte live fit f r.why m)
           (byte_says s.profile u.used bytes u.byte byte u.before.machine (ap (λ (m : MachineState). m.machine) same) live r.why m)
@@ -483,13 +483,13 @@ module _ {H : Type 0} (after : H → Item → Result H Why) (s : Setting H) (nam
           (λ w. wrong_number s.profile u.used bytes u.byte byte u.before.machine (ap (λ (m : MachineState). m.machine) same) live (m ∙ ap machine.Refused w))
       go u bytes byte place same live fit f parts (by_item x e) = by_rule s.profile s.limit (u.used ++ u.byte ∷ []) (u.rest ++ more) r.why (names parts.0 u.before.held x r.why parts.1 e)
 
-  at_end : (m : Machine) (h : H) (at : ℕ) (b : List ℕ) (r : Refusal) → (IsRefused m → ⊥) → Fits m → Framed m b → answer_at_end_of m h at ≡ Err r → Means s.profile s.limit b [] r.why
+  at_end : (m : Machine) (h : H) (at : ℕ) (b : List ℕ) (r : Refusal) → (IsRefused m → ⊥) → Fits m → Framed m b → answer_at_end_of m h at ≡ Err r → MeansOfFormat s.profile s.limit b [] r.why
   at_end m h at b r live fit f e = go m live fit f e
     where
-      named : (w : Why) → record { at = at; why = w } ≡ r → Means s.profile s.limit b [] w → Means s.profile s.limit b [] r.why
-      named w is x = subst (λ y. Means s.profile s.limit b [] y) (ap (λ (y : Refusal). y.why) is) x
+      named : (w : Why) → record { at = at; why = w } ≡ r → MeansOfFormat s.profile s.limit b [] w → MeansOfFormat s.profile s.limit b [] r.why
+      named w is x = subst (λ y. MeansOfFormat s.profile s.limit b [] y) (ap (λ (y : Refusal). y.why) is) x
 
-      go : (m : Machine) → (IsRefused m → ⊥) → Fits m → Framed m b → answer_at_end_of m h at ≡ Err r → Means s.profile s.limit b [] r.why
+      go : (m : Machine) → (IsRefused m → ⊥) → Fits m → Framed m b → answer_at_end_of m h at ≡ Err r → MeansOfFormat s.profile s.limit b [] r.why
       go (machine.Refused w) live fit f e = absurd (live tt)
       go (machine.Between last zero) live fit f e = absurd (cc)
       go (machine.Between last (suc n)) live fit f e = named why.CodeCount (cc (e)) (inr (no_code last (suc n) b f.0 f.1 fit (omega arith) b [] (inl (refl, refl))))
@@ -515,11 +515,11 @@ module _ {H : Type 0} (after : H → Item → Result H Why) (s : Setting H) (nam
       go m e = its why.Truncated (cc (e))
 
   -- the answer to a whole input
-  pub whole_input : (input : List ℕ) (r : Refusal) → AreBytes input → answer_of after s input ≡ Err r → Meaning s.profile s.limit input r
+  pub whole_input : (input : List ℕ) (r : Refusal) → AreBytes input → answer_of after s input ≡ Err r → MeaningOfFormat s.profile s.limit input r
   whole_input input r bytes e = go (Decoded input) refl e
     where
-      go : (x : Result (Live H) Refusal) → Decoded input ≡ x → and_then x answer_at_end ≡ Err r → Meaning s.profile s.limit input r
-      go (Err t) is e = let same : t ≡ r = cc (e) in subst (λ y. Meaning s.profile s.limit y r) (append-nil input) (on_byte input [] r bytes (is ∙ ap Err same))
+      go : (x : Result (Live H) Refusal) → Decoded input ≡ x → and_then x answer_at_end ≡ Err r → MeaningOfFormat s.profile s.limit input r
+      go (Err t) is e = let same : t ≡ r = cc (e) in subst (λ y. MeaningOfFormat s.profile s.limit y r) (append-nil input) (on_byte input [] r bytes (is ∙ ap Err same))
       go (Ok l) is e =
           let q = reached after s.profile s.limit input Starts l is in
           record {

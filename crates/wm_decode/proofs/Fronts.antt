@@ -15,7 +15,7 @@ use Rattle.wm_decode.specs.declared.machine.member.SectionKind.TheVariants as se
 use Rattle.wm_decode.specs.declared.machine.member.InMember.{InMember}
 use Rattle.wm_decode.specs.declared.machine.member.InMember.TheVariants as at
 use Rattle.wm_decode.specs.Items.{Zone}
-use Rattle.wm_decode.specs.MarkedForms.{MarkedForm, Byte, Then, Times, Counted, Number, Name, Sized, Filled, nothing_at, marks_ending, outside_mark}
+use Rattle.wm_decode.specs.MarkedForms.{MarkedForm, MarkedByte, Then, Times, Counted, MarkedNumber, Name, Sized, Filled, nothing_at, marks_ending, outside_mark}
 use Rattle.wm_decode.specs.Sections.{header}
 use Rattle.wm_decode.specs.Grammar.{Contents, Customs, Optional, MayMiss, Chain, loose}
 use Rattle.wm_decode.specs.exact.Members.{id_of, section_kind_of}
@@ -53,7 +53,7 @@ module _ (p : Profile) where
   with_section : (f : ℕ) (of : SectionKind) → Comes (Optional loose p f (id_of of))
   with_section f of =
       let C : ℕ → MarkedForm = λ n. Sized loose n (Contents loose p f (id_of of)) in
-      let c = some_then (Byte (id_of of) None) (Number nothing_at C) (record { bytes = id_of of ∷ []; marks = outside_mark None ∷ []; spelled = (refl, refl) })
+      let c = some_then (MarkedByte (id_of of) None) (MarkedNumber nothing_at C) (record { bytes = id_of of ∷ []; marks = outside_mark None ∷ []; spelled = (refl, refl) })
       (some_number nothing_at C (λ n. some_sized n (Contents loose p f (id_of of)) (some_contents of f))) in
       record { bytes = c.bytes; marks = c.marks; spelled = inl c.spelled }
 

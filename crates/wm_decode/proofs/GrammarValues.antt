@@ -18,8 +18,8 @@ use Rattle.wm_syntax.specs.Instructions.{SpellsOp}
 use Rattle.wm_syntax.specs.Opcodes.{opcode}
 use Rattle.wm_decode.specs.Sections.{Section as SectionForm, Those, ListSection, StartSection, Customs as CustomForms, SpellsCustom, SpellsDesc, SpellsImport, SpellsExport, SpellsRun, kind_byte, header}
 use Rattle.wm_decode.specs.Items.{Item, Marks, items_at, new_type, param, result_count, one_result, import_module, import_name, import_desc, function, table, memory, global, const_op, export_name, export, start, element, element_function, body, body_op, segment, data_byte}
-use Rattle.wm_decode.specs.MarkedForms.{MarkedForm, Empty, Byte, Literal, Then, Times, Number, Vector, Index, Name, Sized, nothing_at, marks_ending}
-use Rattle.wm_decode.specs.Grammar.{strict, ValueType, ResultTypes, FunctionType, Import, HasGlobalType, EachOp, Expression, Global, Export, Element, Run, Code, DataByte, Segment, Paired, Custom, Customs, MayMiss, Chain, Module}
+use Rattle.wm_decode.specs.MarkedForms.{MarkedForm, Empty, MarkedByte, Literal, Then, Times, MarkedNumber, Vector, Index, Name, Sized, nothing_at, marks_ending}
+use Rattle.wm_decode.specs.Grammar.{strict, ValueType, ResultTypes, FunctionType, ImportForm, HasGlobalType, EachOp, Expression, Global, ExportForm, ElementForm, Run, Code, DataByte, SegmentForm, Paired, Custom, Customs, MayMiss, Chain, ModuleForm}
 use Rattle.wm_decode.specs.Flat.{FlatModule, HasImport, type_items, import_items, global_items, export_items, start_items, element_items, code_items, segment_items, flat_items, SpellsOps, SpellsFlatGlobal, SpellsFlatElement, SpellsFlatCode, SpellsFlatSegment, InOrder, flat_sections, SpellsFlat}
 use Rattle.wm_decode.proofs.EntryBytes.{run_part}
 use Rattle.wm_decode.proofs.Those.{those_from, those_to}
@@ -59,7 +59,7 @@ desc_some (desc.Table l) b h = front_some b h.0 h.1 h.2 (byte_some 0x01 h.0 h.3)
 desc_some (desc.Memory l) b h = front_some b h.0 h.1 h.2 (byte_some 0x02 h.0 h.3)
 desc_some (desc.Global g) b h = front_some b h.0 h.1 h.2 (byte_some 0x03 h.0 h.3)
 
-reads_import : (p : Profile) → Reads (Import strict p) (Those (HasImport p) SpellsImport) import_items
+reads_import : (p : Profile) → Reads (ImportForm strict p) (Those (HasImport p) SpellsImport) import_items
 reads_import p = reads_as
     (reads_then (reads_name (λ text. Some (import_module text))) (reads_then (reads_name (λ text. Some (import_name text))) (reads_leaf (Those (HasDesc p) SpellsDesc) import_desc (λ d b h. desc_some d b h.1))))
     (λ z b h. let i = h.4 in let d = i.4 in (record { module_name = z.0; item_name = z.1.0; desc = z.1.1 }, (d.0, (h.0, h.1, h.2, h.3, (i.0, i.1, i.2, i.3, d.1))), refl))
@@ -120,7 +120,7 @@ reads_global p = reads_as (reads_then (reads_leaf (Those (HasGlobalType p) Spell
     (λ g b h. ((g.ty, g.init), h, refl))
 
 -- exports
-reads_export : Reads (Export strict) SpellsExport export_items
+reads_export : Reads (ExportForm strict) SpellsExport export_items
 reads_export = reads_as
     (reads_then (reads_name (λ text. Some (export_name text)))
     (reads_leaf {X = ExportKind × ℕ} (λ t. OneByte (kind_byte t.0) ▸ SpellsU32 t.1) (λ t. export t.0 t.1) (λ t b h. front_some b h.0 h.1 h.2 (byte_some (kind_byte t.0) h.0 h.3))))
@@ -128,7 +128,7 @@ reads_export = reads_as
     (λ e b h. ((e.name, (e.kind, e.index)), h, refl))
 
 -- element segments
-reads_element : (p : Profile) → Reads (Element p) (SpellsFlatElement p) element_items
+reads_element : (p : Profile) → Reads (ElementForm p) (SpellsFlatElement p) element_items
 reads_element p = reads_as (reads_then (reads_index element) (reads_then (reads_ops const_op p) (reads_list element_function (reads_index element_function))))
     (λ z b h. (record { table = z.0; offset = z.1.0; functions = z.1.1 }, h, refl))
     (λ e b h. ((e.table, (e.offset, e.functions)), h, refl))
@@ -162,14 +162,14 @@ reads_bytes = reads_as (reads_list data_byte (reads_leaf SpellsByte data_byte (�
     (λ bytes b h. (bytes, (h.0, h.1, h.2, h.3, bytes_to bytes h.1 h.4), refl))
     (λ bytes b h. (bytes, (h.0, h.1, h.2, h.3, subst (Each SpellsByte bytes) (sym h.4.0) (bytes_from bytes h.4.1)), refl))
 
-reads_segment : (p : Profile) → Reads (Segment p) (SpellsFlatSegment p) segment_items
+reads_segment : (p : Profile) → Reads (SegmentForm p) (SpellsFlatSegment p) segment_items
 reads_segment p = reads_as (reads_then (reads_index segment) (reads_then (reads_ops const_op p) reads_bytes))
     (λ z b h. (record { memory = z.0; offset = z.1.0; bytes = z.1.1 }, h, refl))
     (λ s b h. ((s.memory, (s.offset, s.bytes)), h, refl))
 
 -- sections (section 5.5.2)
 reads_section : {X : Type 0} {P : MarkedForm} {V : X → Form ℕ} {p : X → List Item} (id : ℕ) → Reads P V p
-    → Reads (Then (Byte id None) (Number nothing_at (λ n. Sized strict n P))) (λ x. SectionForm id (V x)) p
+    → Reads (Then (MarkedByte id None) (MarkedNumber nothing_at (λ n. Sized strict n P))) (λ x. SectionForm id (V x)) p
 reads_section id r = reads_after (reads_byte id None) (reads_sized r None)
 
 -- custom sections: a name, and then the bytes that are left of the size
@@ -236,7 +236,7 @@ reads_customs = record {
 
 -- a section that may be left out, where its value has no item
 abbrev OrNothing : Type 0 → ℕ → MarkedForm → MarkedForm
-OrNothing M id P b k = Then (Byte id None) (Number nothing_at (λ n. Sized strict n P)) b k ⊎ (M × Empty b k)
+OrNothing M id P b k = Then (MarkedByte id None) (MarkedNumber nothing_at (λ n. Sized strict n P)) b k ⊎ (M × Empty b k)
 
 reads_or_nothing : {X : Type 0} {P : MarkedForm} {V : X → Form ℕ} {p : X → List Item} (M : Type 0) (IsNone : X → Type 0) (id : ℕ)
     → (M → (x : X) × IsNone x) → ((x : X) → IsNone x → M × (p x ≡ [])) → Reads P V p
@@ -359,8 +359,8 @@ module _ (p : Profile) where
   reads_module f = reads_after reads_header (reads_chain f)
 
 -- each reading of a whole input is that of a flat module, and the other way round
-pub items_to : (p : Profile) (b : List ℕ) (k : Marks) → Module strict p b k → (v : FlatModule) × SpellsFlat p v b × (items_at k ≡ flat_items v)
+pub items_to : (p : Profile) (b : List ℕ) (k : Marks) → ModuleForm strict p b k → (v : FlatModule) × SpellsFlat p v b × (items_at k ≡ flat_items v)
 items_to p b k h = let u = (reads_module p h.0).to b k h.1 in (u.0.0, (u.0.2 ∙ sym u.0.1, u.1), u.2)
 
-pub items_from : (p : Profile) (v : FlatModule) (b : List ℕ) → SpellsFlat p v b → (k : Marks) × Module strict p b k × (items_at k ≡ flat_items v)
+pub items_from : (p : Profile) (v : FlatModule) (b : List ℕ) → SpellsFlat p v b → (k : Marks) × ModuleForm strict p b k × (items_at k ≡ flat_items v)
 items_from p v b h = let u = (reads_module p (length v.functions)).from (v, refl, h.0) b h.1 in (u.0, (length v.functions, u.1), u.2)

@@ -34,7 +34,7 @@ use Rattle.std.proofs.lemmas.Nat.{pow_pos}
 use Rattle.wm_decode.specs.declared.step.values.InRun.{InRun}
 use Rattle.wm_decode.specs.declared.step.values.InRun.TheVariants as run_at
 use Rattle.wm_decode.specs.exact.Members.{id_of}
-use Rattle.wm_decode.specs.Grammar.{Module, Run, Expression, loose}
+use Rattle.wm_decode.specs.Grammar.{ModuleForm, Run, Expression, loose}
 use Rattle.wm_decode.specs.MarkedForms.{MarkedForm, Then, Times, Leaf, Sized, marks_ending, entry_marks, outside_mark}
 use Rattle.wm_decode.proofs.OpenMembers.{Comes, some_times, some_runs, some_one}
 use Rattle.wm_decode.proofs.MemberBytes.{OneOf, ComponentRest}
@@ -258,8 +258,8 @@ module _ (p : Profile) where
     not_before of functions more left rest q e h before =
         let t = machine_comes of functions more left rest q (state_after p state_at_start b).name h before in
         let spelled : MachineRest loose p (state_after p state_at_start b).machine (state_after p state_at_start b).name t.bytes t.marks = subst (λ m. MachineRest loose p m (state_after p state_at_start b).name t.bytes t.marks) (sym e) t.spelled in
-        let whole : Module loose p (b ++ t.bytes) (marks p state_at_start b ++ t.marks) = begin_from loose p (b ++ t.bytes) (marks p state_at_start b ++ t.marks) (run_from loose p state_at_start b t.bytes t.marks bytes begin_fits spelled) in
-        i.no_run t.bytes t.marks t.count t.type t.rest (subst (λ k. Module loose p (b ++ t.bytes) (k ++ t.marks)) (sym same_marks) whole) t.first
+        let whole : ModuleForm loose p (b ++ t.bytes) (marks p state_at_start b ++ t.marks) = begin_from loose p (b ++ t.bytes) (marks p state_at_start b ++ t.marks) (run_from loose p state_at_start b t.bytes t.marks bytes begin_fits spelled) in
+        i.no_run t.bytes t.marks t.count t.type t.rest (subst (λ k. ModuleForm loose p (b ++ t.bytes) (k ++ t.marks)) (sym same_marks) whole) t.first
 
     by_place : (of : SectionKind) (functions more left rest : ℕ) (q : InEntry) → (state_after p state_at_start b).machine ≡ entry_machine of functions more left rest q → StandsEntry (suc rest) q → AtOp (state_after p state_at_start b).machine
     by_place of functions more left rest (entry.Body e) is h = record { of = of; functions = functions; more = more; left = left; rest = rest; place = e; is = is }

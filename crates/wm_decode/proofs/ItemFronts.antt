@@ -41,7 +41,7 @@ use Rattle.wm_decode.specs.declared.machine.member.InMember.TheVariants as at
 use Rattle.wm_decode.specs.Items.{Item, body, Zone, outside, entry as in_entry, closing, Mark, Marks}
 use Rattle.wm_decode.specs.MarkedForms.{MarkedForm, Then, Times, Counted, Sized, Entry, in_zone, entry_marks, outside_mark}
 use Rattle.wm_decode.specs.Sections.{header}
-use Rattle.wm_decode.specs.Grammar.{Module, loose}
+use Rattle.wm_decode.specs.Grammar.{ModuleForm, loose}
 use Rattle.wm_decode.specs.Fronts.{IsFront}
 use Rattle.wm_decode.specs.exact.Members.{id_of, section_kind_of}
 use Rattle.wm_decode.specs.exact.ValueSteps.{value_type_of, global_type_push, run_push, value_push}
@@ -456,6 +456,6 @@ item_front p b c x bytes byte i =
         rest = e.bytes;
         rest_marks = e.later;
         same = length-append b (c ∷ []) ∙ (ap (λ n. n + 1) (length_marks p b state_at_start) ∙ sym (length-append told (e.mark ∷ [])));
-        whole = subst (λ y. Module loose p y ((told ++ e.mark ∷ []) ++ e.later)) (sym (append_assoc b (c ∷ []) e.bytes)) (subst (λ k. Module loose p (b ++ c ∷ e.bytes) k) (sym (append_assoc told (e.mark ∷ []) e.later)) whole);
+        whole = subst (λ y. ModuleForm loose p y ((told ++ e.mark ∷ []) ++ e.later)) (sym (append_assoc b (c ∷ []) e.bytes)) (subst (λ k. ModuleForm loose p (b ++ c ∷ e.bytes) k) (sym (append_assoc told (e.mark ∷ []) e.later)) whole);
       },
     )

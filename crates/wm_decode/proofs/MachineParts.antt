@@ -19,7 +19,7 @@ use Rattle.wm_decode.specs.declared.machine.Event.TheVariants as event
 use Rattle.wm_decode.specs.declared.step.reading.Reading.{Reading}
 use Rattle.wm_decode.specs.declared.step.reading.Reading.TheVariants.{More, Done, Bad}
 use Rattle.wm_decode.specs.Items.{Item, outside}
-use Rattle.wm_decode.specs.MarkedForms.{MarkedForm, Empty, Byte, Then, Leaf, Counted, marks_ending, outside_mark}
+use Rattle.wm_decode.specs.MarkedForms.{MarkedForm, Empty, MarkedByte, Then, Leaf, Counted, marks_ending, outside_mark}
 use Rattle.wm_decode.specs.Grammar.{ValueType}
 use Rattle.wm_decode.specs.exact.Runs.{name_item, byte_read, ByteRead}
 use Rattle.wm_decode.specs.exact.ValueSteps.{value_type_of}
@@ -102,13 +102,13 @@ module _ (demanded : Type 0) where
 
     -- this byte and what follows it
     pub byte_follows : (d : ℕ) (x : Option Item) (Q : MarkedForm) (q : M × Event) → (hears q).mark ≡ outside_mark x → Same demanded Q (rest (hears q).at (hears q).name)
-        → Follows (Then (Byte d x) Q) (cond (nat_eq c d) q (fail why.BadByte, event.Nothing))
+        → Follows (Then (MarkedByte d x) Q) (cond (nat_eq c d) q (fail why.BadByte, event.Nothing))
     byte_follows d x Q q mark s =
-        cond_both (nat_eq c d) _ _ (λ (a : M × Event). Follows (Then (Byte d x) Q) a)
-        (λ a. subst (λ y. Next demanded (Then (Byte d x) Q) c y (rest (hears q).at (hears q).name)) (sym mark)
-        (subst (λ y. Next demanded (Then (Byte d x) Q) y (outside_mark x) (rest (hears q).at (hears q).name)) (sym (eqb-true c d a))
-        (ends_first demanded (Byte d x) Q (rest (hears q).at (hears q).name) d (outside_mark x) (next_byte demanded d x) (byte_has demanded d x) s)))
-        (λ a. halts (Then (Byte d x) Q) why.BadByte (fails_first demanded (Byte d x) Q c (outside_mark None) (next_never demanded (Byte d x) c (outside_mark None) (λ s b k h. other_byte demanded d c x b k (eqb-false c d a) h)) (byte_has demanded d x)))
+        cond_both (nat_eq c d) _ _ (λ (a : M × Event). Follows (Then (MarkedByte d x) Q) a)
+        (λ a. subst (λ y. Next demanded (Then (MarkedByte d x) Q) c y (rest (hears q).at (hears q).name)) (sym mark)
+        (subst (λ y. Next demanded (Then (MarkedByte d x) Q) y (outside_mark x) (rest (hears q).at (hears q).name)) (sym (eqb-true c d a))
+        (ends_first demanded (MarkedByte d x) Q (rest (hears q).at (hears q).name) d (outside_mark x) (next_byte demanded d x) (byte_has demanded d x) s)))
+        (λ a. halts (Then (MarkedByte d x) Q) why.BadByte (fails_first demanded (MarkedByte d x) Q c (outside_mark None) (next_never demanded (MarkedByte d x) c (outside_mark None) (λ s b k h. other_byte demanded d c x b k (eqb-false c d a) h)) (byte_has demanded d x)))
 
     -- a name and what follows it
     module _ (of : NameKind) (Q : MarkedForm) (after : M) (afters : Same demanded Q (rest after [])) (left : ℕ → M) (lefts : (n : ℕ) (y : List ℕ) → Same demanded (Then (NameLeft demanded y (suc n) (name_item of)) Q) (rest (left n) y)) where

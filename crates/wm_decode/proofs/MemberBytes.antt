@@ -29,8 +29,8 @@ use Rattle.wm_decode.specs.declared.machine.member.InMember.TheVariants as at
 use Rattle.wm_decode.specs.declared.step.expressions.InExpression.{InExpression}
 use Rattle.wm_decode.specs.declared.step.expressions.InExpression.TheVariants as expression
 use Rattle.wm_decode.specs.Items.{Item, new_type, param, result_count, one_result, function, table as table_part, memory as memory_part, global as global_part, const_op, start as start_part, element_function, body, body_op, data_byte, Zone, outside, entry as in_entry, closing, Mark}
-use Rattle.wm_decode.specs.MarkedForms.{MarkedForm, Empty, Byte, Then, Times, Leaf, Number, Vector, Index, Counted, Name, Sized, Entry, nothing_at, marks_ending, in_zone, outside_mark}
-use Rattle.wm_decode.specs.Grammar.{ValueType, ResultTypes, FunctionType, Desc, Import, Global, Target, Export, Element, Run, Code, DataByte, Segment, Expression}
+use Rattle.wm_decode.specs.MarkedForms.{MarkedForm, Empty, MarkedByte, Then, Times, Leaf, MarkedNumber, Vector, Index, Counted, Name, Sized, Entry, nothing_at, marks_ending, in_zone, outside_mark}
+use Rattle.wm_decode.specs.Grammar.{ValueType, ResultTypes, FunctionType, Desc, ImportForm, Global, Target, ExportForm, ElementForm, Run, Code, DataByte, SegmentForm, Expression}
 use Rattle.wm_decode.specs.exact.Runs.{ByteRead, byte_read, name_item, plain_item, zone_in}
 use Rattle.wm_decode.specs.exact.Members.{member_at_start}
 use Rattle.wm_decode.specs.exact.ValueSteps.{global_type_push, value_push}
@@ -63,16 +63,16 @@ module _ (demanded : Type 0) (p : Profile) where
   -- one member of a section
   abbrev pub OneOf : SectionKind → MarkedForm
   OneOf section_kind.Type = FunctionType p
-  OneOf section_kind.Import = Import demanded p
+  OneOf section_kind.Import = ImportForm demanded p
   OneOf section_kind.Function = Index function
   OneOf section_kind.Table = Leaf SpellsTableType table_part
   OneOf section_kind.Memory = Leaf SpellsLimits memory_part
   OneOf section_kind.Global = Global p
-  OneOf section_kind.Export = Export demanded
+  OneOf section_kind.Export = ExportForm demanded
   OneOf section_kind.Start = Index start_part
-  OneOf section_kind.Element = Element p
+  OneOf section_kind.Element = ElementForm p
   OneOf section_kind.Code = Code demanded p
-  OneOf section_kind.Segment = Segment p
+  OneOf section_kind.Segment = SegmentForm p
 
   abbrev Constant : MarkedForm
   Constant = Expression p const_op
@@ -249,10 +249,10 @@ module _ (demanded : Type 0) (p : Profile) where
       (entry_framed_same n (entry.RunCount fresh) tt)
 
   -- where each member begins
-  index_begins : (of : IndexOf) → Same demanded (Then (Number (index_mark of) (λ n. Empty)) (AfterIndex of)) (ComponentRest (at.Index of fresh) [])
+  index_begins : (of : IndexOf) → Same demanded (Then (MarkedNumber (index_mark of) (λ n. Empty)) (AfterIndex of)) (ComponentRest (at.Index of fresh) [])
   index_begins of = counted_fresh demanded (index_mark of) (λ n. Empty) (AfterIndex of) (λ n. AfterIndex of) (λ n. empty_then demanded (AfterIndex of))
 
-  index_alone : (of : IndexOf) (F : ℕ → MarkedForm) → ((n : ℕ) → Same demanded (F n) (AfterIndex of)) → Same demanded (Number (index_mark of) F) (ComponentRest (at.Index of fresh) [])
+  index_alone : (of : IndexOf) (F : ℕ → MarkedForm) → ((n : ℕ) → Same demanded (F n) (AfterIndex of)) → Same demanded (MarkedNumber (index_mark of) F) (ComponentRest (at.Index of fresh) [])
   index_alone of F s = number_fresh demanded (index_mark of) F (λ n. AfterIndex of) s
 
   pub begin_same : (of : SectionKind) → Same demanded (OneOf of) (ComponentRest (member_at_start of) [])
@@ -441,7 +441,7 @@ module _ (demanded : Type 0) (p : Profile) where
   component_follows left (at.Failed w) y c go byte = absurd go.1
 
   pub component_has : (left : ℕ) (q : InMember) (y : List ℕ) → CanGo left q → HasBytes demanded (ComponentRest q y)
-  component_has left at.TypeForm y go = then_has demanded (Byte 0x60 (Some new_type)) (Then (Vector (ValueType p param)) (ResultTypes p)) (byte_has demanded 0x60 (Some new_type))
+  component_has left at.TypeForm y go = then_has demanded (MarkedByte 0x60 (Some new_type)) (Then (Vector (ValueType p param)) (ResultTypes p)) (byte_has demanded 0x60 (Some new_type))
   component_has left (at.ParamCount r) y go = counted_has demanded nothing_at (λ n. Then (Times n (ValueType p param)) (ResultTypes p)) r
   component_has left (at.Param more) y go = then_has demanded (Times (suc more) (ValueType p param)) (ResultTypes p) (then_has demanded (ValueType p param) (Times more (ValueType p param)) (value_has demanded p param))
   component_has left (at.ResultCount r) y go = counted_has demanded (λ n. Some (result_count n)) (λ n. Times n (ValueType p one_result)) r

@@ -28,7 +28,7 @@ use Rattle.wm_decode.specs.declared.step.values.InExportDesc.TheVariants as targ
 use Rattle.wm_decode.specs.declared.step.values.InRun.TheVariants as run
 use Rattle.wm_decode.specs.exact.OpSteps.{block_op}
 use Rattle.wm_decode.specs.Items.{Item, Marks}
-use Rattle.wm_decode.specs.MarkedForms.{MarkedForm, Byte, Then, Leaf, Sized, Filled, Entry, entry_marks, marks_ending, outside_mark}
+use Rattle.wm_decode.specs.MarkedForms.{MarkedForm, MarkedByte, Then, Leaf, Sized, Filled, Entry, entry_marks, marks_ending, outside_mark}
 use Rattle.wm_decode.specs.Sections.{Those, SpellsDesc, kind_byte}
 use Rattle.wm_decode.specs.Grammar.{loose, strict}
 use Rattle.wm_decode.specs.Meanings.{spelled, an_instruction, a_value_type, a_block_type, a_function_type, an_element_type, a_flag, a_kind, a_zero}
@@ -219,7 +219,7 @@ module _ (p : Profile) where
   run_begins n = whole (spelled p a_value_type) (run_rest p (run.Type n)) (λ b w. ((n, w.0), (refl, w.1.0, w.1.1))) (λ x b h. (x.1, (h.1, h.2)))
 
   -- what begins a function type
-  pub form_begins : (x : Option Item) → PartsBegin (spelled p a_function_type) (Byte 0x60 x) (Byte 0x60 x)
+  pub form_begins : (x : Option Item) → PartsBegin (spelled p a_function_type) (MarkedByte 0x60 x) (MarkedByte 0x60 x)
   form_begins x = record {
     can = λ b e. ([], outside_mark x ∷ [], (append-nil b ∙ e, refl));
     must = λ b k h. (b, [], sym (append-nil b), h.0);

@@ -23,8 +23,8 @@ use Rattle.wm_syntax.proofs.Unambiguous.{same_u32, same_simple}
 use Rattle.wm_syntax.proofs.OneInstruction.{class_there}
 use Rattle.wm_decode.specs.Sections.{SpellsDesc, kind_byte, header}
 use Rattle.wm_decode.specs.Items.{Item, entry, closing, Mark, Marks, new_type, param, result_count, one_result, import_module, import_name, import_desc, function, table, memory, global, const_op, export_name, export, start, element, element_function, body, locals, body_op, segment, data_byte}
-use Rattle.wm_decode.specs.MarkedForms.{MarkedForm, Empty, Byte, Literal, Then, Times, Leaf, Number, Vector, Index, Name, Sized, Filled, Entry, nothing_at, outside_mark, marks_ending, name_byte_marks, name_marks, in_zone, entry_marks}
-use Rattle.wm_decode.specs.Grammar.{loose, ValueType, ResultTypes, FunctionType, Import, HasLabels, IsExpression, EachOp, Expression, Global, HasGlobalType, Export, Element, Run, Code, DataByte, Segment, Paired, Contents, Section, Custom, Optional, Chain, Module}
+use Rattle.wm_decode.specs.MarkedForms.{MarkedForm, Empty, MarkedByte, Literal, Then, Times, Leaf, MarkedNumber, Vector, Index, Name, Sized, Filled, Entry, nothing_at, outside_mark, marks_ending, name_byte_marks, name_marks, in_zone, entry_marks}
+use Rattle.wm_decode.specs.Grammar.{loose, ValueType, ResultTypes, FunctionType, ImportForm, HasLabels, IsExpression, EachOp, Expression, Global, HasGlobalType, ExportForm, ElementForm, Run, Code, DataByte, SegmentForm, Paired, Contents, Section, Custom, Optional, Chain, ModuleForm}
 use Rattle.wm_syntax.specs.Instructions.{openings, endings}
 use Rattle.wm_decode.specs.Fronts.{IsFront}
 use Rattle.wm_decode.proofs.FirstBytes.{head_same, tail_same, not_nil}
@@ -146,10 +146,10 @@ times_alike : {P : MarkedForm} → Alike P → (n : ℕ) → Alike (Times n P)
 times_alike f zero = empty_alike
 times_alike f (suc n) = then_alike f (times_alike f n)
 
-bytes_meet : (c d : ℕ) (x y : Option Item) → (c ≡ d → x ≡ y) → Meets (Byte c x) (Byte d y) (c ≡ d)
+bytes_meet : (c d : ℕ) (x y : Option Item) → (c ≡ d → x ≡ y) → Meets (MarkedByte c x) (MarkedByte d y) (c ≡ d)
 bytes_meet c d x y f a j b k h i = meet_at (c ≡ d) h.0 h.1 i.0 i.1 (λ e. (ap outside_mark (f e), e))
 
-byte_alike : (c : ℕ) (x : Option Item) → Alike (Byte c x)
+byte_alike : (c : ℕ) (x : Option Item) → Alike (MarkedByte c x)
 byte_alike c x a j b k h i = meet_as (c ≡ c) Done a j b k (λ d. tt) (bytes_meet c c x x (λ e. refl) a j b k h i)
 
 literal_alike : (text : List ℕ) → Alike (Literal text)
@@ -161,7 +161,7 @@ leaf_alike o part a j b k h i =
     (meet_as (h.0 ≡ i.0) Done a (marks_ending (Some (part h.0)) a) b (marks_ending (Some (part i.0)) b) (λ d. tt)
     (meet_ending (h.0 ≡ i.0) (Some (part h.0)) (Some (part i.0)) a b (λ u v e. o h.0 i.0 a b u v h.1 i.1 e) (λ e. ap (λ y. Some (part y)) e)))
 
-number_alike : (x : ℕ → Option Item) (F G : ℕ → MarkedForm) → ((n : ℕ) → Meets (F n) (G n) Done) → Meets (Number x F) (Number x G) Done
+number_alike : (x : ℕ → Option Item) (F G : ℕ → MarkedForm) → ((n : ℕ) → Meets (F n) (G n) Done) → Meets (MarkedNumber x F) (MarkedNumber x G) Done
 number_alike x F G f a j b k h i =
     meet_at Done h.bytes h.marks i.bytes i.marks
     (meet_then (h.n ≡ i.n) Done h.front (marks_ending (x h.n) h.front) i.front (marks_ending (x i.n) i.front) h.back h.back_marks i.back i.back_marks
@@ -334,10 +334,10 @@ results_alike p = number_alike (λ n. Some (result_count n)) (λ n. Times n (Val
 function_type_alike : (p : Profile) → Alike (FunctionType p)
 function_type_alike p = then_alike (byte_alike 0x60 (Some new_type)) (then_alike (vector_alike (value_alike p param)) (results_alike p))
 
-import_alike : (p : Profile) → Alike (Import loose p)
+import_alike : (p : Profile) → Alike (ImportForm loose p)
 import_alike p = then_alike (name_alike (λ text. Some (import_module text))) (then_alike (name_alike (λ text. Some (import_name text))) (leaf_alike (once_those (HasDesc p) SpellsDesc once_desc) import_desc))
 
-export_alike : Alike (Export loose)
+export_alike : Alike (ExportForm loose)
 export_alike =
     then_alike (name_alike (λ text. Some (export_name text)))
     (leaf_alike {X = ExportKind × ℕ} {V = λ t. OneByte (kind_byte t.0) ▸ SpellsU32 t.1} (once_then once_kind same_u32) (λ t. export t.0 t.1))
@@ -355,10 +355,10 @@ module _ (p : Profile) where
   global_alike : Alike (Global p)
   global_alike = then_alike (leaf_alike (once_those (HasGlobalType p) SpellsGlobalType once_global_type) global) (expression_alike const_op p)
 
-  element_alike : Alike (Element p)
+  element_alike : Alike (ElementForm p)
   element_alike = then_alike (index_alike element) (then_alike (expression_alike const_op p) (vector_alike (index_alike element_function)))
 
-  segment_alike : Alike (Segment p)
+  segment_alike : Alike (SegmentForm p)
   segment_alike = then_alike (index_alike segment) (then_alike (expression_alike const_op p) (vector_alike data_alike))
 
   code_alike : Alike (Code loose p)
@@ -471,7 +471,7 @@ module _ (p : Profile) where
       subst (λ y. Tail id y k) (sym h.bytes) (subst (λ y. Tail id (h.front ++ h.back) y) (sym h.marks) (after_customs h.first.0 id h.front h.front_marks h.first.1 h.back h.back_marks section))
 
   -- the first byte of a section, of which nothing is outside_mark
-  begun : (id : ℕ) (F : ℕ → MarkedForm) (Q : MarkedForm) (b : List ℕ) (k : Marks) → Then (Then (Byte id None) (Number nothing_at F)) Q b k → (rest : List ℕ) × (later : Marks) × (b ≡ id ∷ rest) × (k ≡ outside_mark None ∷ later)
+  begun : (id : ℕ) (F : ℕ → MarkedForm) (Q : MarkedForm) (b : List ℕ) (k : Marks) → Then (Then (MarkedByte id None) (MarkedNumber nothing_at F)) Q b k → (rest : List ℕ) × (later : Marks) × (b ≡ id ∷ rest) × (k ≡ outside_mark None ∷ later)
   begun id F Q b k h =
       let s = h.first in (
         s.back ++ h.back,
@@ -481,7 +481,7 @@ module _ (p : Profile) where
       )
 
   other_sections : (x y : ℕ) (F G : ℕ → MarkedForm) (P Q : MarkedForm) → (x ≡ y → ⊥) → (a : List ℕ) (j : Marks) (b : List ℕ) (k : Marks)
-      → Then (Then (Byte x None) (Number nothing_at F)) P a j → Then (Then (Byte y None) (Number nothing_at G)) Q b k → Agree a j b k
+      → Then (Then (MarkedByte x None) (MarkedNumber nothing_at F)) P a j → Then (Then (MarkedByte y None) (MarkedNumber nothing_at G)) Q b k → Agree a j b k
   other_sections x y F G P Q n a j b k h i =
       let s = begun x F P a j h in
       let t = begun y G Q b k i in
@@ -509,7 +509,7 @@ module _ (p : Profile) where
         | inr ne ↦ other_sections x y (λ n. Sized loose n (Contents loose p f x)) (λ n. Sized loose n (Contents loose p g y)) (Tails n (suc x)) (Tails m (suc y)) ne a j b k h i
       ]
 
-  pub modules_agree : (a : List ℕ) (j : Marks) (b : List ℕ) (k : Marks) → Module loose p a j → Module loose p b k → Agree a j b k
+  pub modules_agree : (a : List ℕ) (j : Marks) (b : List ℕ) (k : Marks) → ModuleForm loose p a j → ModuleForm loose p b k → Agree a j b k
   modules_agree a j b k (f, h) (g, i) =
       let t = tail_of_chain f 11 1 h.back h.back_marks h.second in
       let u = tail_of_chain g 11 1 i.back i.back_marks i.second in

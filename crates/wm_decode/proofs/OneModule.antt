@@ -12,7 +12,7 @@ use Rattle.wm_syntax.specs.Profiles.{IsOf}
 use Rattle.wm_syntax.proofs.Bodies.{same_instructions}
 use Rattle.wm_decode.specs.Items.{Marks, items_at}
 use Rattle.wm_decode.specs.Sections.{SpellsModule}
-use Rattle.wm_decode.specs.Grammar.{strict, Module as Whole}
+use Rattle.wm_decode.specs.Grammar.{strict, ModuleForm as Whole}
 use Rattle.wm_decode.specs.Flat.{FlatGlobal, FlatElement, FlatCode, FlatSegment, FlatModule, flat_items, SpellsFlat, constant_ops, IsIndexOf, IsCodeOf, IsGlobalOf, IsElementOf, IsSegmentOf, IsFlatOf}
 use Rattle.wm_decode.proofs.GrammarValues.{items_from, items_to}
 use Rattle.wm_decode.proofs.Nesting.{flat_from, flat_to}

@@ -41,7 +41,7 @@ use Rattle.wm_decode.specs.declared.machine.member.InMember.{InMember}
 use Rattle.wm_decode.specs.declared.machine.member.InMember.TheVariants as at
 use Rattle.wm_decode.specs.declared.step.expressions.InExpression.{InExpression}
 use Rattle.wm_decode.specs.Items.{Item, new_type, param, result_count, one_result, import_desc, global as global_part, const_op, element_function, export, locals, body, body_op, data_byte, Marks}
-use Rattle.wm_decode.specs.MarkedForms.{MarkedForm, Empty, Byte as OneByte, Then, Times, Leaf, Number, Vector, Index, Counted, Name, Sized, Filled, Entry, nothing_at, marks_ending, name_byte_marks, name_marks, entry_marks, outside_mark}
+use Rattle.wm_decode.specs.MarkedForms.{MarkedForm, Empty, MarkedByte as OneByte, Then, Times, Leaf, MarkedNumber, Vector, Index, Counted, Name, Sized, Filled, Entry, nothing_at, marks_ending, name_byte_marks, name_marks, entry_marks, outside_mark}
 use Rattle.wm_decode.specs.Sections.{Those, SpellsDesc}
 use Rattle.wm_decode.specs.Grammar.{ValueType, ResultTypes, FunctionType, Desc, Run, DataByte, Expression, loose}
 use Rattle.wm_decode.specs.exact.Runs.{name_item, plain_item}
@@ -76,7 +76,7 @@ pub some_counted : (x : ℕ → Option Item) (F : ℕ → MarkedForm) (r : Parti
 some_counted x F r h f = let g = f r.low in
     record { bytes = 0 ∷ g.bytes; marks = outside_mark (x r.low) ∷ g.marks; spelled = record { n = r.low; front = 0 ∷ []; back = g.bytes; back_marks = g.marks; bytes = refl; marks = refl; number = last_byte r h.0; rest = g.spelled } }
 
-pub some_number : (x : ℕ → Option Item) (F : ℕ → MarkedForm) → ((n : ℕ) → Comes (F n)) → Comes (Number x F)
+pub some_number : (x : ℕ → Option Item) (F : ℕ → MarkedForm) → ((n : ℕ) → Comes (F n)) → Comes (MarkedNumber x F)
 some_number x F f = let c = some_counted x F fresh fresh_32 f in let s = c.spelled in
     record { bytes = c.bytes; marks = c.marks; spelled = record { n = s.n; front = s.front; back = s.back; back_marks = s.back_marks; bytes = s.bytes; marks = s.marks; number = (fresh_number s.n s.front).1 s.number; rest = s.rest } }
 

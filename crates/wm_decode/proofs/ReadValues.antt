@@ -5,7 +5,7 @@ use Rattle.wm_syntax.specs.Spelling.{Form, Each, ◌▸◌}
 use Rattle.wm_syntax.specs.Types.{SpellsU32, SpellsList, SpellsName}
 use Rattle.wm_decode.specs.Sections.{Sized as SizedForm}
 use Rattle.wm_decode.specs.Items.{Item, Marks, put_item, items_at}
-use Rattle.wm_decode.specs.MarkedForms.{MarkedForm, Empty, Byte, Then, Times, Leaf, Number, Vector, Index, Name, Sized, Entry, nothing_at, marks_ending, name_byte_marks, name_marks, outside_mark, entry_marks}
+use Rattle.wm_decode.specs.MarkedForms.{MarkedForm, Empty, MarkedByte, Then, Times, Leaf, MarkedNumber, Vector, Index, Name, Sized, Entry, nothing_at, marks_ending, name_byte_marks, name_marks, outside_mark, entry_marks}
 use Rattle.wm_decode.specs.Grammar.{strict}
 use Rattle.wm_decode.proofs.NameBytes.{utf8_bytes}
 
@@ -77,7 +77,7 @@ reads_as r f g = record {
 pub reads_empty : Reads {X = Unit {0}} Empty (λ u b. b ≡ []) (λ u. [])
 reads_empty = record { to = λ b k h. (tt, h.0, ap items_at h.1); from = λ u b h. ([], (h, refl), refl) }
 
-pub reads_byte : (c : ℕ) (x : Option Item) → Reads {X = Unit {0}} (Byte c x) (λ u b. b ≡ c ∷ []) (λ u. put_item x [])
+pub reads_byte : (c : ℕ) (x : Option Item) → Reads {X = Unit {0}} (MarkedByte c x) (λ u b. b ≡ c ∷ []) (λ u. put_item x [])
 reads_byte c x = record { to = λ b k h. (tt, h.0, ap items_at h.1); from = λ u b h. (outside_mark x ∷ [], (h, refl), refl) }
 
 pub reads_leaf : {X : Type 0} (V : X → Form ℕ) (part : X → Item) → ((x : X) (b : List ℕ) → V x b → HasByte b) → Reads (Leaf V part) V (λ x. part x ∷ [])
@@ -106,7 +106,7 @@ reads_after r s = reads_as (reads_then r s) (λ z b h. (z.1, h, refl)) (λ x b h
 
 pub reads_number : {Y : Type 0} {F : ℕ → MarkedForm} {W : ℕ → Y → Form ℕ} {q : ℕ → Y → List Item} (x : ℕ → Option Item)
     → ((n : ℕ) → Reads (F n) (W n) (q n))
-    → Reads {X = ℕ × Y} (Number x F) (λ z. SpellsU32 z.0 ▸ W z.0 z.1) (λ z. put_item (x z.0) [] ++ q z.0 z.1)
+    → Reads {X = ℕ × Y} (MarkedNumber x F) (λ z. SpellsU32 z.0 ▸ W z.0 z.1) (λ z. put_item (x z.0) [] ++ q z.0 z.1)
 reads_number x r = record {
   to = λ b k h.
       let v = (r h.n).to h.back h.back_marks h.rest in
@@ -150,7 +150,7 @@ module _ {X : Type 0} {P : MarkedForm} {V : X → Form ℕ} {p : X → List Item
       (λ xs b h. ((length xs, xs), (h.0, h.1, h.2, h.3, (refl, h.4)), refl))
 
   -- how many bytes there are, and then those
-  pub reads_sized : (x : Option Item) → Reads (Number (λ n. x) (λ n. Sized strict n P)) (λ v. SizedForm (V v)) (λ v. put_item x [] ++ p v)
+  pub reads_sized : (x : Option Item) → Reads (MarkedNumber (λ n. x) (λ n. Sized strict n P)) (λ v. SizedForm (V v)) (λ v. put_item x [] ++ p v)
   reads_sized x = record {
     to = λ b k h.
         let v = r.to h.back h.back_marks h.rest.1 in (

@@ -27,7 +27,7 @@ use Rattle.wm_decode.specs.declared.machine.member.InMember.TheVariants as at
 use Rattle.wm_decode.specs.Items.{Zone, outside, Mark, Marks}
 use Rattle.wm_decode.specs.MarkedForms.{MarkedForm, Empty, Then, Times, Counted, Sized, Filled, Name, nothing_at, outside_mark}
 use Rattle.wm_decode.specs.Sections.{header}
-use Rattle.wm_decode.specs.Grammar.{Items, Module, Chain, Section, loose, strict}
+use Rattle.wm_decode.specs.Grammar.{Items, ModuleForm, Chain, Section, loose, strict}
 use Rattle.wm_decode.specs.Meanings.{CanGoOn, CanEnd, OtherSize}
 use Rattle.wm_decode.specs.exact.Members.{id_of, section_kind_of, member_at_start}
 use Rattle.wm_decode.specs.exact.MemberSteps.{on_number, member_step}
@@ -402,10 +402,10 @@ module _ (p : Profile) (b : List ℕ) (bytes : AreBytes b) (c : ℕ) where
   abbrev Now : MarkedForm
   Now = let s = state_after p state_at_start b in MachineRest loose p s.machine s.name
 
-  whole : (rest : List ℕ) (k : Marks) → Now (c ∷ rest) k → Module loose p ((b ++ c ∷ []) ++ rest) (marks p state_at_start b ++ k)
+  whole : (rest : List ℕ) (k : Marks) → Now (c ∷ rest) k → ModuleForm loose p ((b ++ c ∷ []) ++ rest) (marks p state_at_start b ++ k)
   whole rest k h =
       let l : Marks = marks p state_at_start b ++ k in
-      subst (λ z. Module loose p z l) (sym (append_assoc b (c ∷ []) rest)) (begin_from loose p (b ++ c ∷ rest) l (run_from loose p state_at_start b (c ∷ rest) k bytes begin_fits h))
+      subst (λ z. ModuleForm loose p z l) (sym (append_assoc b (c ∷ []) rest)) (begin_from loose p (b ++ c ∷ rest) l (run_from loose p state_at_start b (c ∷ rest) k bytes begin_fits h))
 
   goes_on : Goes c Now → CanGoOn p (b ++ c ∷ [])
   goes_on g = front_of p (b ++ c ∷ []) g.0 (marks p state_at_start b ++ g.1) (whole g.0 g.1 g.2)

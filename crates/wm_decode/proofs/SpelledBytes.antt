@@ -28,7 +28,7 @@ use Rattle.wm_syntax.specs.Modules.{Import, Module}
 use Rattle.wm_syntax.proofs.OpTable.{found_simple}
 use Rattle.wm_decode.specs.Sections.{Sized, Those, Section, ListSection, StartSection, Customs, SpellsCustom, header, SpellsDesc, SpellsImport, SpellsExport, SpellsRun, SpellsModule, kind_byte}
 use Rattle.wm_decode.specs.Items.{Marks}
-use Rattle.wm_decode.specs.Grammar.{strict, Module as Whole}
+use Rattle.wm_decode.specs.Grammar.{strict, ModuleForm as Whole}
 use Rattle.wm_decode.specs.Grammar.{HasGlobalType}
 use Rattle.wm_decode.specs.Flat.{HasImport, SpellsOps, SpellsFlatGlobal, SpellsFlatElement, SpellsFlatCode, SpellsFlatSegment, FlatModule, InOrder, flat_sections, SpellsFlat}
 use Rattle.wm_decode.proofs.ByteLists.{bytes-append}

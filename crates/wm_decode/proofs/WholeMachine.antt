@@ -23,7 +23,7 @@ use Rattle.wm_decode.specs.declared.machine.member.InMember.TheVariants as at
 use Rattle.wm_decode.specs.Items.{Zone, outside, Mark, Marks, data_byte}
 use Rattle.wm_decode.specs.MarkedForms.{MarkedForm, Empty, Literal, Then, Times, Name, Sized, Filled, Counted, nothing_at, marks_ending, outside_mark}
 use Rattle.wm_decode.specs.Sections.{header}
-use Rattle.wm_decode.specs.Grammar.{Contents, Chain, Module}
+use Rattle.wm_decode.specs.Grammar.{Contents, Chain, ModuleForm}
 use Rattle.wm_decode.specs.exact.Members.{id_of, section_kind_of, member_at_start as begin_component}
 use Rattle.wm_decode.specs.exact.MemberSteps.{on_number, member_step}
 use Rattle.wm_decode.specs.exact.Steps.{machine_in_custom, custom_step, machine_in_member, machine_after_count, machine_after_paired_count, after_count, begun_section, machine_if_rising, section_start, after_size, custom_size, header_step, step_of}
@@ -370,13 +370,13 @@ module _ (demanded : Type 0) (p : Profile) where
   in_header_has n s k h = then_has demanded (Literal (get_or header n 0 ∷ drop (n + 1) header)) (Later 0 0) (literal_has (get_or header n 0) (drop (n + 1) header)) s k (subst (λ y. Then (Literal y) (Later 0 0) [] k) (header_cut n h.0) h.1)
 
   -- a module as the machine sees it
-  pub begin_to : (b : List ℕ) (k : Marks) → Module demanded p b k → StateRest state_at_start b k
+  pub begin_to : (b : List ℕ) (k : Marks) → ModuleForm demanded p b k → StateRest state_at_start b k
   begin_to b k h =
       let few : 0 < 8 = omega arith in
       let t = h.1 in
       (few, record { front = t.front; back = t.back; front_marks = t.front_marks; back_marks = t.back_marks; bytes = t.bytes; marks = t.marks; first = t.first; second = (h.0, λ l. absurd (omega (arith, l)), t.second) })
 
-  pub begin_from : (b : List ℕ) (k : Marks) → StateRest state_at_start b k → Module demanded p b k
+  pub begin_from : (b : List ℕ) (k : Marks) → StateRest state_at_start b k → ModuleForm demanded p b k
   begin_from b k h =
       let t = h.1 in let q = t.second in
       (q.0, record { front = t.front; back = t.back; front_marks = t.front_marks; back_marks = t.back_marks; bytes = t.bytes; marks = t.marks; first = t.first; second = q.2 })

@@ -47,7 +47,7 @@ use Rattle.wm_decode.specs.declared.machine.Plain.TheVariants as plain
 use Rattle.wm_decode.specs.exact.Readings.{Goes}
 use Rattle.wm_decode.specs.exact.ValueSteps.{read_number, map_reading, after_min, limits_push, table_type_push, type_under, value_type_of, read_type, global_type_push, desc_push, target_push, run_push, value_push}
 use Rattle.wm_decode.specs.exact.OpSteps.{block_op, index_op, call_op, memory_op, const_32_op, const_64_op, on_answer, first_step, block_step, closing_step, op_push}
-use Rattle.wm_decode.specs.Meanings.{Wanted, spelled, an_instruction, a_value_type, a_block_type, an_element_type, a_flag, a_kind, a_zero, IsFloatType, IsNoInstruction, IsFloat, IsOtherByte}
+use Rattle.wm_decode.specs.Meanings.{Wanted, spelled, an_instruction, a_value_type, a_block_type, an_element_type, a_flag, a_kind, a_zero, IsFloatType, IsNoInstruction, BeginsFloat, IsOtherByte}
 use Rattle.wm_decode.proofs.FirstBytes.{head_same}
 use Rattle.wm_decode.proofs.Leaves.{IsReader}
 use Rattle.wm_decode.proofs.OpRest.{op_rest, at_offset}
@@ -61,7 +61,7 @@ Found F IsWrong c = (x : Wanted) × F x × IsWrong x c
 -- by each name
 abbrev pub Says : (Wanted → Type 0) → ℕ → Why → Type 0
 Says F c why.BadOpcode = Found F IsNoInstruction c
-Says F c why.Float = Found F IsFloat c
+Says F c why.Float = Found F BeginsFloat c
 Says F c why.BadByte = Found F IsOtherByte c
 Says F c w = Unit {0}
 
@@ -119,12 +119,12 @@ module _ (F : Wanted → Type 0) (c : ℕ) (w : Why) where
   answer_says (step.Bad, s) more done h g = λ e. as_named F c why.BadNumber w tt (same_bad why.BadNumber w e)
 
   -- a type of floating-point numbers, where the profile may have it
-  float_says : (p : Profile) (t : ValType) (x : Wanted) → F x → IsFloat x c → type_under p t ≡ Err w → Says F c w
+  float_says : (p : Profile) (t : ValType) (x : Wanted) → F x → BeginsFloat x c → type_under p t ≡ Err w → Says F c w
   float_says p t x f i =
       cond_both (has p (type_feature t)) _ _ (λ (q : Result ValType Why). q ≡ Err w → Says F c w) (λ _ e. type_given t w e)
       (λ _ e. as_named F c why.Float w (x, f, i) (same_err why.Float w e))
 
-  named_says : (p : Profile) (x : Wanted) → F x → (IsFloatType c → IsFloat x c) → ((IsFloatType c → ⊥) → IsOtherByte x c) → value_type_of p c ≡ Err w → Says F c w
+  named_says : (p : Profile) (x : Wanted) → F x → (IsFloatType c → BeginsFloat x c) → ((IsFloatType c → ⊥) → IsOtherByte x c) → value_type_of p c ≡ Err w → Says F c w
   named_says p x f float other =
       let P : Result ValType Why → Type 0 = λ q. q ≡ Err w → Says F c w in
       cond_both (nat_eq c 0x7F) _ _ P (λ _ e. type_given I32 w e)

@@ -40,9 +40,9 @@ use Rattle.wm_decode.specs.declared.machine.member.InEntry.TheVariants as entry
 use Rattle.wm_decode.specs.declared.machine.member.InMember.{InMember}
 use Rattle.wm_decode.specs.declared.machine.member.InMember.TheVariants as at
 use Rattle.wm_decode.specs.Items.{Item, param, one_result, new_type, const_op, body_op, global as global_part, Marks}
-use Rattle.wm_decode.specs.MarkedForms.{MarkedForm, Byte, Then, Times, Leaf, Vector, Sized, Entry}
+use Rattle.wm_decode.specs.MarkedForms.{MarkedForm, MarkedByte, Then, Times, Leaf, Vector, Sized, Entry}
 use Rattle.wm_decode.specs.Sections.{Those, header}
-use Rattle.wm_decode.specs.Grammar.{Module, Run, Expression, ValueType, ResultTypes, loose, strict}
+use Rattle.wm_decode.specs.Grammar.{ModuleForm, Run, Expression, ValueType, ResultTypes, loose, strict}
 use Rattle.wm_decode.specs.Fronts.{IsFront}
 use Rattle.wm_decode.specs.exact.Members.{id_of}
 use Rattle.wm_decode.specs.exact.ValueSteps.{value_type_of, global_type_push, run_push, value_push}
@@ -246,7 +246,7 @@ module _ (p : Profile) (c : ℕ) (byte : c < 2 ^ 8) where
 
   form_says : GoodAt (InMembers at.TypeForm []) c (member_step p at.TypeForm c).0
   form_says =
-      let T : MarkedForm = Byte 0x60 (Some new_type) in
+      let T : MarkedForm = MarkedByte 0x60 (Some new_type) in
       let Q : MarkedForm = Then (Vector (ValueType p param)) (ResultTypes p) in
       let q : Comes Q = some_then (Vector (ValueType p param)) (ResultTypes p) (some_vector (ValueType p param) (some_type p param)) (some_results p) in
       cond_both (nat_eq c 0x60) _ _ (λ (m : InMember × Event). GoodAt (InMembers at.TypeForm []) c m.0) (λ _. stays (InMembers at.TypeForm []) c (at.ParamCount fresh) tt)
@@ -358,10 +358,10 @@ cut_marks [] r k h = ([], k, refl, refl)
 cut_marks (c ∷ b) r [] h = absurd (omega (arith, h))
 cut_marks (c ∷ b) r (m ∷ k) h = let s = cut_marks b r k (omega (arith, h)) in (m ∷ s.0, s.1, ap (λ y. m ∷ y) s.2, ap suc s.3)
 
-pub front_of : (p : Profile) (b r : List ℕ) (k : Marks) → Module loose p (b ++ r) k → (j : Marks) × IsFront p b j
+pub front_of : (p : Profile) (b r : List ℕ) (k : Marks) → ModuleForm loose p (b ++ r) k → (j : Marks) × IsFront p b j
 front_of p b r k m =
     let s = cut_marks b r k (agree_long (b ++ r) k (modules_agree p (b ++ r) k (b ++ r) k m m)) in
-    (s.0, record { rest = r; rest_marks = s.1; same = s.3; whole = subst (Module loose p (b ++ r)) s.2 m })
+    (s.0, record { rest = r; rest_marks = s.1; same = s.3; whole = subst (ModuleForm loose p (b ++ r)) s.2 m })
 
 module _ (p : Profile) (b : List ℕ) (bytes : AreBytes b) where
   abbrev Now : MachineState
@@ -371,8 +371,8 @@ module _ (p : Profile) (b : List ℕ) (bytes : AreBytes b) where
   can_stand W can y s =
       let h = can y s in
       let k : Marks = marks p state_at_start b ++ h.1 in
-      let whole : Module loose p (b ++ (y ++ h.0)) k = begin_from loose p (b ++ (y ++ h.0)) k (run_from loose p state_at_start b (y ++ h.0) h.1 bytes begin_fits h.2) in
-      front_of p (b ++ y) h.0 k (subst (λ z. Module loose p z k) (sym (append_assoc b y h.0)) whole)
+      let whole : ModuleForm loose p (b ++ (y ++ h.0)) k = begin_from loose p (b ++ (y ++ h.0)) k (run_from loose p state_at_start b (y ++ h.0) h.1 bytes begin_fits h.2) in
+      front_of p (b ++ y) h.0 k (subst (λ z. ModuleForm loose p z k) (sym (append_assoc b y h.0)) whole)
 
   pub must_stand : (W : Form ℕ) → PartsBegin W (MachineRest loose p Now.machine Now.name) (MachineRest strict p Now.machine Now.name) → MustStand p W b
   must_stand W v = record {

@@ -5,7 +5,7 @@ use Rattle.wm_syntax.specs.declared.why.Why.{Why}
 use Rattle.wm_syntax.specs.declared.types.ValType.{ValType}
 use Rattle.wm_decode.specs.declared.decoder.state.Decoder.{Decoder}
 use Rattle.wm_decode.specs.Items.{Item, locals, Zone, outside, name, entry, closing, Marks, items_at}
-use Rattle.wm_decode.specs.Grammar.{Module, Items, loose}
+use Rattle.wm_decode.specs.Grammar.{ModuleForm, Items, loose}
 use Rattle.wm_decode.specs.Sinks.{all_taken}
 use Rattle.wm_decode.specs.Decoding.{Setting, held_in}
 
@@ -14,7 +14,7 @@ pub record IsFront (p : Profile) (b : List ℕ) (k : Marks) : Type 0 where
   pub rest : List ℕ
   pub rest_marks : Marks
   pub same : length b ≡ length k
-  pub whole : Module loose p (b ++ rest) (k ++ rest_marks)
+  pub whole : ModuleForm loose p (b ++ rest) (k ++ rest_marks)
 
 abbrev pub name_more : Zone → ℕ → ℕ
 name_more name n = suc n
@@ -69,7 +69,7 @@ pub record InExpression (p : Profile) (b : List ℕ) : Type 0 where
   pub front : IsFront p b marks
   pub at_hand : 0 < entry_bytes marks
   pub no_run : (more : List ℕ) (later : Marks) (n : ℕ) (t : ValType) (rest : List Item)
-      → Module loose p (b ++ more) (marks ++ later)
+      → ModuleForm loose p (b ++ more) (marks ++ later)
       → items_at later ≡ locals n t ∷ rest → ⊥
 
 -- the bytes so far of a name that goes on, which is all that a decoder keeps of the input

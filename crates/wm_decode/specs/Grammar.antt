@@ -21,8 +21,8 @@ use Rattle.wm_decode.specs.Sections.{Those, SpellsDesc, SpellsRun, kind_byte, he
 use Rattle.wm_decode.specs.Items.{Item, new_type, param, result_count, one_result, import_module, import_name}
 use Rattle.wm_decode.specs.Items.{import_desc, function, table, memory, global, const_op, export_name, export}
 use Rattle.wm_decode.specs.Items.{start, element, element_function, body, locals, body_op, segment, data_byte}
-use Rattle.wm_decode.specs.MarkedForms.{MarkedForm, Empty, Byte, Literal, Then, Times, Leaf, Number, Vector}
-use Rattle.wm_decode.specs.MarkedForms.{Index, Name, Sized, Filled, Entry, nothing_at, marks_ending}
+use Rattle.wm_decode.specs.MarkedForms.{MarkedForm, Empty, MarkedByte, Literal, Then, Times, Leaf, Vector}
+use Rattle.wm_decode.specs.MarkedForms.{MarkedNumber, Index, Name, Sized, Filled, Entry, nothing_at, marks_ending}
 
 -- these are as the format has them, or are left open
 abbrev pub strict : Type 0
@@ -36,17 +36,17 @@ abbrev pub ValueType : Profile → (ValType → Item) → MarkedForm
 ValueType p = Leaf (Those (HasType p) SpellsValType)
 
 abbrev pub ResultTypes : Profile → MarkedForm
-ResultTypes p = Number (λ n. Some (result_count n)) (λ n. Times n (ValueType p one_result))
+ResultTypes p = MarkedNumber (λ n. Some (result_count n)) (λ n. Times n (ValueType p one_result))
 
 abbrev pub FunctionType : Profile → MarkedForm
-FunctionType p = Then (Byte 0x60 (Some new_type)) (Then (Vector (ValueType p param)) (ResultTypes p))
+FunctionType p = Then (MarkedByte 0x60 (Some new_type)) (Then (Vector (ValueType p param)) (ResultTypes p))
 
 -- imports (section 5.5.5)
 abbrev pub Desc : Profile → MarkedForm
 Desc p = Leaf (Those (HasDesc p) SpellsDesc) import_desc
 
-abbrev pub Import : Type 0 → Profile → MarkedForm
-Import demanded p =
+abbrev pub ImportForm : Type 0 → Profile → MarkedForm
+ImportForm demanded p =
     Then (Name demanded (λ text. Some (import_module text)))
     (Then (Name demanded (λ text. Some (import_name text))) (Desc p))
 
@@ -87,12 +87,12 @@ Global p = Then (Leaf (Those (HasGlobalType p) SpellsGlobalType) global) (Expres
 abbrev pub Target : MarkedForm
 Target = Leaf {X = ExportKind × ℕ} (λ t. OneByte (kind_byte t.0) ▸ SpellsU32 t.1) (λ t. export t.0 t.1)
 
-abbrev pub Export : Type 0 → MarkedForm
-Export demanded = Then (Name demanded (λ text. Some (export_name text))) Target
+abbrev pub ExportForm : Type 0 → MarkedForm
+ExportForm demanded = Then (Name demanded (λ text. Some (export_name text))) Target
 
 -- element segments (section 5.5.12)
-abbrev pub Element : Profile → MarkedForm
-Element p = Then (Index element) (Then (Expression p const_op) (Vector (Index element_function)))
+abbrev pub ElementForm : Profile → MarkedForm
+ElementForm p = Then (Index element) (Then (Expression p const_op) (Vector (Index element_function)))
 
 -- code (section 5.5.13): a size, and in so many bytes runs of locals and an expression
 abbrev pub Run : Profile → MarkedForm
@@ -100,45 +100,46 @@ Run p = Leaf (SpellsRun p) (λ r. locals r.0 r.1)
 
 abbrev pub Code : Type 0 → Profile → MarkedForm
 Code demanded p =
-    Number (λ n. Some body) (λ n. Sized demanded n (Entry (Then (Vector (Run p)) (Expression p body_op))))
+    MarkedNumber (λ n. Some body)
+    (λ n. Sized demanded n (Entry (Then (Vector (Run p)) (Expression p body_op))))
 
 -- data segments (section 5.5.14): each byte is an item
 abbrev pub DataByte : MarkedForm
 DataByte = Leaf (λ c b. (b ≡ c ∷ []) × (c < 2 ^ 8)) data_byte
 
-abbrev pub Segment : Profile → MarkedForm
-Segment p = Then (Index segment) (Then (Expression p const_op) (Vector DataByte))
+abbrev pub SegmentForm : Profile → MarkedForm
+SegmentForm p = Then (Index segment) (Then (Expression p const_op) (Vector DataByte))
 
 -- so many as a number says, and where all is demanded just f
 abbrev pub Paired : Type 0 → ℕ → MarkedForm → MarkedForm
-Paired demanded f P = Number nothing_at (λ n b k. (demanded → n ≡ f) × Times n P b k)
+Paired demanded f P = MarkedNumber nothing_at (λ n b k. (demanded → n ≡ f) × Times n P b k)
 
 -- The contents of the section with this id, where there are f functions, each with a code entry.
 abbrev pub Contents : Type 0 → Profile → (f id : ℕ) → MarkedForm
 Contents demanded p f (suc zero) = Vector (FunctionType p)
-Contents demanded p f (suc (suc zero)) = Vector (Import demanded p)
+Contents demanded p f (suc (suc zero)) = Vector (ImportForm demanded p)
 Contents demanded p f (suc (suc (suc zero))) = Paired demanded f (Index function)
 Contents demanded p f (suc (suc (suc (suc zero)))) = Vector (Leaf SpellsTableType table)
 Contents demanded p f (suc (suc (suc (suc (suc zero))))) = Vector (Leaf SpellsLimits memory)
 Contents demanded p f (suc (suc (suc (suc (suc (suc zero)))))) = Vector (Global p)
-Contents demanded p f (suc (suc (suc (suc (suc (suc (suc zero))))))) = Vector (Export demanded)
+Contents demanded p f (suc (suc (suc (suc (suc (suc (suc zero))))))) = Vector (ExportForm demanded)
 Contents demanded p f (suc (suc (suc (suc (suc (suc (suc (suc zero)))))))) = Index start
-Contents demanded p f (suc (suc (suc (suc (suc (suc (suc (suc (suc zero))))))))) = Vector (Element p)
+Contents demanded p f (suc (suc (suc (suc (suc (suc (suc (suc (suc zero))))))))) = Vector (ElementForm p)
 Contents demanded p f (suc (suc (suc (suc (suc (suc (suc (suc (suc (suc zero)))))))))) =
     Paired demanded f (Code demanded p)
 Contents demanded p f (suc (suc (suc (suc (suc (suc (suc (suc (suc (suc (suc zero))))))))))) =
-    Vector (Segment p)
+    Vector (SegmentForm p)
 Contents demanded p f _ = λ b k. ⊥
 
 -- a section (section 5.5.2): its id, its size, and contents of so many bytes
 abbrev pub Section : Type 0 → Profile → (f id : ℕ) → MarkedForm
 Section demanded p f id =
-    Then (Byte id None) (Number nothing_at (λ n. Sized demanded n (Contents demanded p f id)))
+    Then (MarkedByte id None) (MarkedNumber nothing_at (λ n. Sized demanded n (Contents demanded p f id)))
 
 -- a custom section (section 5.5.3): a name, and then any bytes; it gives no item
 abbrev pub Custom : Type 0 → MarkedForm
 Custom demanded =
-    Then (Byte 0 None) (Number nothing_at (λ n. Filled demanded n (Name demanded (λ text. None))))
+    Then (MarkedByte 0 None) (MarkedNumber nothing_at (λ n. Filled demanded n (Name demanded (λ text. None))))
 
 abbrev pub Customs : Type 0 → MarkedForm
 Customs demanded b k = (n : ℕ) × Times n (Custom demanded) b k
@@ -158,9 +159,9 @@ Chain demanded p f (suc count) id =
     Then (Customs demanded) (Then (Optional demanded p f id) (Chain demanded p f count (suc id)))
 
 -- a module (section 5.5.15): the magic number and the version, and the sections with ids 1 to 11
-abbrev pub Module : Type 0 → Profile → MarkedForm
-Module demanded p b k = (f : ℕ) × Then (Literal header) (Chain demanded p f 11 1) b k
+abbrev pub ModuleForm : Type 0 → Profile → MarkedForm
+ModuleForm demanded p b k = (f : ℕ) × Then (Literal header) (Chain demanded p f 11 1) b k
 
 -- the bytes are a whole input, of which so much is said beside each byte
 abbrev pub Items : Profile → MarkedForm
-Items p = Module strict p
+Items p = ModuleForm strict p

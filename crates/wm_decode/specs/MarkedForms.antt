@@ -44,8 +44,8 @@ abbrev pub Empty : MarkedForm
 Empty b k = (b ≡ []) × (k ≡ [])
 
 -- this byte, at which the item is complete
-abbrev pub Byte : ℕ → Option Item → MarkedForm
-Byte c x b k = (b ≡ c ∷ []) × (k ≡ outside_mark x ∷ [])
+abbrev pub MarkedByte : ℕ → Option Item → MarkedForm
+MarkedByte c x b k = (b ≡ c ∷ []) × (k ≡ outside_mark x ∷ [])
 
 -- these bytes
 abbrev pub Literal : List ℕ → MarkedForm
@@ -84,19 +84,19 @@ pub record Counted (Spells : ℕ → List ℕ → Type 0) (x : ℕ → Option It
   pub number : Spells n front
   pub rest : F n back back_marks
 
-abbrev pub Number : (ℕ → Option Item) → (ℕ → MarkedForm) → MarkedForm
-Number = Counted SpellsU32
+abbrev pub MarkedNumber : (ℕ → Option Item) → (ℕ → MarkedForm) → MarkedForm
+MarkedNumber = Counted SpellsU32
 
 abbrev pub nothing_at : ℕ → Option Item
 nothing_at n = None
 
 -- vec(X) (section 5.1.3): how many there are, and so many of them
 abbrev pub Vector : MarkedForm → MarkedForm
-Vector P = Number nothing_at (λ n. Times n P)
+Vector P = MarkedNumber nothing_at (λ n. Times n P)
 
 -- an index, at which an item is complete
 abbrev pub Index : (ℕ → Item) → MarkedForm
-Index part = Number (λ n. Some (part n)) (λ n. Empty)
+Index part = MarkedNumber (λ n. Some (part n)) (λ n. Empty)
 
 -- A name (section 5.2.4): how long it is, spelled so, and its bytes. Where all is demanded they are UTF-8.
 pub record Text (demanded : Type 0) (Spells : ℕ → List ℕ → Type 0) (x : List ℕ → Option Item) (b : List ℕ)

@@ -19,7 +19,7 @@ use Rattle.wm_decode.specs.declared.refusal.Refusal.{Refusal}
 use Rattle.wm_decode.specs.Items.{Item, Mark, Marks, body_op, items_at}
 use Rattle.wm_decode.specs.MarkedForms.{Then, Vector}
 use Rattle.wm_decode.specs.Sections.{Section, Those, header, kind_byte}
-use Rattle.wm_decode.specs.Grammar.{Items, Module, Code, Run, Expression, strict, loose}
+use Rattle.wm_decode.specs.Grammar.{Items, ModuleForm, Code, Run, Expression, strict, loose}
 use Rattle.wm_decode.specs.Sinks.{all_taken}
 use Rattle.wm_decode.specs.Fronts.{IsFront}
 
@@ -148,11 +148,11 @@ IsNoInstruction _ c = ⊥
 
 -- Float (sections 5.3.1, 5.3.2, 5.4): an instruction on floating-point numbers, or a type of them. The
 -- profile has neither, since nothing that must stand there begins with the byte.
-abbrev pub IsFloat : Wanted → ℕ → Type 0
-IsFloat an_instruction c = IsTrue (is_float c)
-IsFloat a_value_type c = IsFloatType c
-IsFloat a_block_type c = IsFloatType c
-IsFloat _ c = ⊥
+abbrev pub BeginsFloat : Wanted → ℕ → Type 0
+BeginsFloat an_instruction c = IsTrue (is_float c)
+BeginsFloat a_value_type c = IsFloatType c
+BeginsFloat a_block_type c = IsFloatType c
+BeginsFloat _ c = ⊥
 
 -- BadByte (sections as at spelled): the byte begins nothing of what must stand there, and is not Float
 abbrev pub IsOtherByte : Wanted → ℕ → Type 0
@@ -226,7 +226,7 @@ CanGoOn p used = (k : Marks) × IsFront p used k
 abbrev pub CanEnd : Profile → List ℕ → Type 0
 CanEnd p used =
     (rest : List ℕ) × ((rest ≡ []) ⊎ (rest ≡ 0x0A ∷ 0x01 ∷ 0x00 ∷ [])) × (k : Marks)
-    × Module loose p (used ++ rest) k
+    × ModuleForm loose p (used ++ rest) k
 
 -- SectionEnd (section 5.5.2): no module begins with these bytes, and after these sections one more comes up
 -- to here. It has all bytes of its size, and these bytes are a module or begin one, sizes, names and the
@@ -296,33 +296,33 @@ pub record WrongNumber (p : Profile) (used : List ℕ) : Type 0 where
 -- What a name says of the bytes that were used, and of those behind them. Each name of the format has a line
 -- of its own. TooLong: one byte more than the limit. Of the others nothing is said: of those of a checker of
 -- rules (Index, Mismatch and so on) or of a policy, and of Memory.
-abbrev pub Means : Profile → ℕ → List ℕ → List ℕ → Why → Type 0
-Means p limit used rest why.Magic = WrongInHeader 0 4 used
-Means p limit used rest why.Version = WrongInHeader 4 8 used
-Means p limit used rest why.SectionId = WrongId IsUnknown used
-Means p limit used rest why.SectionOrder = WrongId IsLate used
-Means p limit used rest why.Truncated = EndsInside used rest
-Means p limit used rest why.TooLong = length used ≡ limit + 1
-Means p limit used rest why.BadOpcode = WrongByte p IsNoInstruction used
-Means p limit used rest why.Float = WrongByte p IsFloat used
-Means p limit used rest why.BadByte = WrongByte p IsOtherByte used
-Means p limit used rest why.BadUtf8 = BadName p used
-Means p limit used rest why.CodeCount = OtherCount used ⊎ NoCode used rest
-Means p limit used rest why.SectionEnd = OtherSize p used
-Means p limit used rest why.BodyEnd = OtherBodySize p used
-Means p limit used rest why.BadNumber = WrongNumber p used
-Means p limit used rest w = Unit {0}
+abbrev pub MeansOfFormat : Profile → ℕ → List ℕ → List ℕ → Why → Type 0
+MeansOfFormat p limit used rest why.Magic = WrongInHeader 0 4 used
+MeansOfFormat p limit used rest why.Version = WrongInHeader 4 8 used
+MeansOfFormat p limit used rest why.SectionId = WrongId IsUnknown used
+MeansOfFormat p limit used rest why.SectionOrder = WrongId IsLate used
+MeansOfFormat p limit used rest why.Truncated = EndsInside used rest
+MeansOfFormat p limit used rest why.TooLong = length used ≡ limit + 1
+MeansOfFormat p limit used rest why.BadOpcode = WrongByte p IsNoInstruction used
+MeansOfFormat p limit used rest why.Float = WrongByte p BeginsFloat used
+MeansOfFormat p limit used rest why.BadByte = WrongByte p IsOtherByte used
+MeansOfFormat p limit used rest why.BadUtf8 = BadName p used
+MeansOfFormat p limit used rest why.CodeCount = OtherCount used ⊎ NoCode used rest
+MeansOfFormat p limit used rest why.SectionEnd = OtherSize p used
+MeansOfFormat p limit used rest why.BodyEnd = OtherBodySize p used
+MeansOfFormat p limit used rest why.BadNumber = WrongNumber p used
+MeansOfFormat p limit used rest w = Unit {0}
 
 -- A refusal of an input: its place lies within it, and what its name says holds of the bytes up to there.
-pub record Meant (Means : List ℕ → List ℕ → Why → Type 0) (input : List ℕ) (r : Refusal) : Type 0 where
+pub record Meant (Says : List ℕ → List ℕ → Why → Type 0) (input : List ℕ) (r : Refusal) : Type 0 where
   pub used : List ℕ
   pub rest : List ℕ
   pub whole : input ≡ used ++ rest
   pub at : r.at ≡ length used
-  pub means : Means used rest r.why
+  pub means : Says used rest r.why
 
-abbrev pub Meaning : Profile → ℕ → List ℕ → Refusal → Type 0
-Meaning p limit input r = Meant (Means p limit) input r
+abbrev pub MeaningOfFormat : Profile → ℕ → List ℕ → Refusal → Type 0
+MeaningOfFormat p limit input r = Meant (MeansOfFormat p limit) input r
 
 -- The last byte completes an item, and of the items before it and of it this is true. All these bytes are a
 -- module, or begin one, sizes, names and the number of code entries aside.

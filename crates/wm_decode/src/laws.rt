@@ -14,7 +14,7 @@ ghost use Rattle.wm_decode.specs.Sinks.{all_taken, and_then};
 ghost use Rattle.wm_decode.specs.Grammar.{Items};
 ghost use Rattle.wm_decode.specs.BetweenProfiles.{HasItem, SameUpToProfile};
 ghost use Rattle.wm_decode.specs.Decoding.{Setting};
-ghost use Rattle.wm_decode.specs.Meanings.{AtItem, GivesRuleNames, IsRuleName, Meaning, Meant};
+ghost use Rattle.wm_decode.specs.Meanings.{AtItem, GivesRuleNames, IsRuleName, MeaningOfFormat, Meant};
 ghost use Rattle.wm_decode.specs.Meanings.{RefusesBy};
 ghost use Rattle.wm_decode.specs.declared.refusal.Refusal.{Refusal};
 ghost use Rattle.wm_decode.specs.inner.Decoders.{answer_of};
@@ -107,7 +107,7 @@ pub fn one_spelling_one_module()
 pub fn format_names_mean<S: Sink>()
     ensures { (s : Setting S.Held) (input : List ℕ) (r : Refusal) → AreBytes input
         → GivesRuleNames S.after s.first
-        → answer_of S.after s input ≡ Err r → Meaning s.profile s.limit input r }
+        → answer_of S.after s input ≡ Err r → MeaningOfFormat s.profile s.limit input r }
 {}
 
 /// By its own names a sink refuses an item that the last byte up to the place completes, after it took the

@@ -11,7 +11,8 @@ use lib.Ieee.{Format, prec, low}
 use Rattle.core.specs.Dec2flt.Rounding.{scaled_bits, IsNearestBits, IsJustAbove, IsSignificand}
 use Rattle.core.proofs.dec2flt.RoundingLemmas.{nearest_below, nearest_tie, nearest_above}
 use Rattle.wm_syntax.specs.declared.instructions.FloatType.{FloatType}
-use Rattle.wm_floats.specs.Nearest.{signif, infinity, IsBinary}
+use Rattle.wm_syntax.specs.Floats.{signif}
+use Rattle.wm_floats.specs.Nearest.{infinity, IsBinary}
 use Rattle.wm_floats.specs.inner.Kit.{format_of}
 use Rattle.wm_floats.proofs.Bridge.{scaled_is}
 use Rattle.wm_floats.proofs.Cuts.{bounds, exactly, strictly, less, greater, beyond, level, unit_is, some_whole, lies_above, lies_at, lies_below}

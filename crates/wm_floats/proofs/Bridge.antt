@@ -14,7 +14,8 @@ use Rattle.core.specs.Dec2flt.Rounding.{scaled_bits, IsNearestBits, IsJustAbove}
 use Rattle.core.proofs.dec2flt.RoundingLemmas.{nearest_below, nearest_tie, nearest_above}
 use Rattle.wm_syntax.specs.declared.instructions.FloatType.{FloatType}
 use Rattle.wm_syntax.specs.declared.instructions.FloatType.TheVariants.{F32, F64}
-use Rattle.wm_floats.specs.Nearest.{signif, infinity, least, units, IsFrom, doubled, both, Rounds, Chosen, IsNearest}
+use Rattle.wm_syntax.specs.Floats.{signif}
+use Rattle.wm_floats.specs.Nearest.{infinity, least, units, IsFrom, doubled, both, Rounds, Chosen, IsNearest}
 use Rattle.wm_floats.specs.inner.Kit.{format_of}
 use Rattle.wm_floats.proofs.Units.{units_at, units_le}
 

@@ -7,7 +7,7 @@ use Rattle.std.proofs.Math.Nat.{mul-le-mul_right, mul-le-mul_left}
 use Rattle.std.proofs.lemmas.Bool.{cond-true, cond-false, cases_lt, lt-ltb, le-ltb}
 use Rattle.wm_syntax.specs.declared.instructions.FloatType.{FloatType}
 use Rattle.wm_syntax.specs.declared.instructions.FloatType.TheVariants.{F32, F64}
-use Rattle.wm_floats.specs.Nearest.{signif}
+use Rattle.wm_syntax.specs.Floats.{signif}
 use Rattle.wm_floats.specs.exact.Atoms.{plain, payload_bits, nan_bits, are_digits}
 use Rattle.wm_floats.proofs.Underscores.{one_after, value_skip, value_keep, byte_below, digits_all}
 

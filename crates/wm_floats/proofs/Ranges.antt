@@ -4,7 +4,8 @@ use Rattle.std.specs.Prelude.{◌==◌}
 use Rattle.std.specs.Str.Parse.{digits_value}
 use Rattle.wm_syntax.specs.declared.instructions.FloatType.{FloatType}
 use Rattle.wm_syntax.specs.declared.instructions.FloatType.TheVariants.{F32, F64}
-use Rattle.wm_floats.specs.Nearest.{signif, expon, infinity}
+use Rattle.wm_syntax.specs.Floats.{signif, expon}
+use Rattle.wm_floats.specs.Nearest.{infinity}
 use Rattle.wm_floats.specs.exact.Atoms.{nearest, payload_bits, nan_bits, numeral_of, number_by, number_bits, behind, is_just, payload_or_number, magnitude_of, below_zero, float_of, are_digits, plain}
 use Rattle.wm_floats.proofs.Basics.{chosen, same_some, none_some, bind_ok}
 

@@ -5,7 +5,8 @@ use lib.Pow.{pow_pos}
 use lib.Arith.{digits_div, digits_mod}
 use Rattle.std.proofs.lemmas.Bool.{cases_lt}
 use Rattle.wm_syntax.specs.declared.instructions.FloatType.{FloatType}
-use Rattle.wm_floats.specs.Nearest.{signif, units, of_fields}
+use Rattle.wm_syntax.specs.Floats.{signif}
+use Rattle.wm_floats.specs.Nearest.{units, of_fields}
 
 -- the fields of a number of bits
 pub units_of_fields : (w : FloatType) (e t : ℕ) → t < 2 ^ signif w → units w (e * 2 ^ signif w + t) ≡ of_fields w e t

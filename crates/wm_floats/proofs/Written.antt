@@ -9,7 +9,8 @@ use Rattle.std.proofs.lemmas.Bool.{cond-true, cond-false, eqb-true}
 use Rattle.wm_syntax.specs.declared.instructions.FloatType.{FloatType}
 use Rattle.wm_floats.specs.Digits.{value}
 use Rattle.wm_floats.specs.FloatText.{IsDecimal, IsHexadecimal, IsMagnitude, IsFloat, HasForm}
-use Rattle.wm_floats.specs.Nearest.{signif, infinity, IsNearest}
+use Rattle.wm_syntax.specs.Floats.{signif}
+use Rattle.wm_floats.specs.Nearest.{infinity, IsNearest}
 use Rattle.wm_floats.specs.exact.Atoms.{Numeral, are_digits, plain, numeral_of, digits_of, places, up, down, decimal_bits, decimal_of, hexadecimal_bits, hexadecimal_of, payload_bits, nan_bits, behind, is_just, number_by, payload_or_number, magnitude_of, below_zero, float_of, is_number_by, is_payload_or_number, has_form}
 use Rattle.wm_floats.proofs.Basics.{chosen, same_some, none_some, bind_ok, bind_is, some_is, is_some_of}
 use Rattle.wm_floats.proofs.WrittenDigits.{digits_write, digits_are}

@@ -3,7 +3,8 @@ use Rattle.std.specs.Prelude.{◌≡◌, ◌⊎◌, ℕ, ◌+◌, ◌-◌, ◌*�
 use Rattle.wm_syntax.specs.Spelling.{Form, Byte, Exactly, ◌▸◌, ◌∣◌}
 use Rattle.wm_syntax.specs.declared.instructions.FloatType.{FloatType}
 use Rattle.wm_floats.specs.Digits.{Digits, value}
-use Rattle.wm_floats.specs.Nearest.{signif, expon, infinity, IsNearest}
+use Rattle.wm_syntax.specs.Floats.{signif, expon}
+use Rattle.wm_floats.specs.Nearest.{infinity, IsNearest}
 
 -- a point and the digits after it, of which there may be none; or neither
 abbrev pub Fraction : ℕ → List ℕ → Form ℕ

@@ -3,16 +3,7 @@
 use Rattle.std.specs.Prelude.{◌≡◌, ◌⊎◌, ℕ, zero, suc, Bool, true, false, ◌+◌, ◌-◌, ◌*◌, ◌/◌, ◌%◌, ◌^◌}
 use Rattle.std.specs.Prelude.{◌<◌, ◌≤◌}
 use Rattle.wm_syntax.specs.declared.instructions.FloatType.{FloatType}
-use Rattle.wm_syntax.specs.declared.instructions.FloatType.TheVariants.{F32, F64}
-
--- how many bits there are below the exponent's field, and in it (section 2.2.3, signif and expon)
-abbrev pub signif : FloatType → ℕ
-signif F32 = 23
-signif F64 = 52
-
-abbrev pub expon : FloatType → ℕ
-expon F32 = 8
-expon F64 = 11
+use Rattle.wm_syntax.specs.Floats.{signif, expon}
 
 -- the bits of infinity, without a sign
 abbrev pub infinity : FloatType → ℕ

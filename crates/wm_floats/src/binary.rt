@@ -4,7 +4,8 @@ ghost use Rattle.std.specs.Prelude.{◌≡◌, ℕ, ◌+◌, ◌-◌, ◌*◌, �
 ghost use Rattle.std.specs.Prelude.{MatchOption, if◌then◌else◌};
 ghost use Rattle.std.specs.Ordering.{MatchOrdering};
 ghost use Rattle.core.specs.Dec2flt.Rounding.{IsNearestBits};
-ghost use Rattle.wm_floats.specs.Nearest.{IsBinary, IsNearest, infinity, least, signif};
+ghost use Rattle.wm_syntax.specs.Floats.{signif};
+ghost use Rattle.wm_floats.specs.Nearest.{IsBinary, IsNearest, infinity, least};
 ghost use Rattle.wm_floats.specs.inner.Kit.{format_of};
 
 use crate::widths::{fraction_bits, infinity_bits, lowest};

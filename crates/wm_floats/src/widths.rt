@@ -1,7 +1,8 @@
 //! The two widths of floats (section 2.2.3).
 
 ghost use Rattle.std.specs.Prelude.{◌≡◌, ◌+◌, ◌-◌, ◌^◌};
-ghost use Rattle.wm_floats.specs.Nearest.{expon, infinity, least, signif};
+ghost use Rattle.wm_syntax.specs.Floats.{expon, signif};
+ghost use Rattle.wm_floats.specs.Nearest.{infinity, least};
 
 use wm_syntax::instructions::FloatType;
 

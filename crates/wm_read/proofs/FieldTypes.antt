@@ -9,7 +9,8 @@ use Rattle.wm_syntax.specs.declared.profile.Profile.{Profile}
 use Rattle.wm_syntax.specs.Profiles.{HasType}
 use Rattle.wm_read.specs.Tokens.{Token, open_paren, close_paren, string, atom, IsUnsigned}
 use Rattle.wm_read.specs.Fields.{WritesGlobalType, WritesLimits, WritesMax, WritesTableType}
-use Rattle.wm_read.specs.Written.{Number, Paren, Word, type_text}
+use Rattle.wm_syntax.specs.Types.{type_text}
+use Rattle.wm_read.specs.Written.{UnsignedNumber, Paren, Keyword}
 use Rattle.wm_read.specs.exact.FieldTypes.{const_type, global_type_at, limits_at, limits_of, max_at, table_type_at, var_type}
 use Rattle.wm_read.specs.exact.Reading.{◌>>=◌, atom_at, is_id, is_word, paren_at, then_at, type_of, unsigned_of, word_of}
 use Rattle.wm_read.proofs.Basics.{chosen, same_some}
@@ -19,10 +20,10 @@ use Rattle.wm_read.proofs.Readers.{Sound, Complete, Any, Both, atom_complete, at
 
 -- ---- limits
 
-number_sound : Sound (atom_at unsigned_of) Number
+number_sound : Sound (atom_at unsigned_of) UnsignedNumber
 number_sound = atom_sound unsigned_of (IsUnsigned 32) unsigned_found
 
-number_complete : Complete (atom_at unsigned_of) Number Any
+number_complete : Complete (atom_at unsigned_of) UnsignedNumber Any
 number_complete = atom_complete unsigned_of (IsUnsigned 32) unsigned_more
 
 no_number : (n : ℕ) (a : List ℕ) → IsUnsigned 32 n a → (is_word a || is_id a) ≡ false
@@ -65,12 +66,12 @@ max_complete (Some n) front rest (a, e, u) f =
     ap (λ (z : List Token). max_at (z ++ rest)) e ∙ cond-false (is_word a || is_id a) _ _ (no_number n a u) ∙ bind_is (unsigned_of a) (λ n. Some (Some n, rest)) n (unsigned_more a n u)
 
 pub limits_sound : Sound limits_at WritesLimits
-limits_sound = made_sound limits_of (then_at (atom_at unsigned_of) max_at) (Both Number WritesMax) WritesLimits (then_sound (atom_at unsigned_of) max_at Number WritesMax number_sound max_sound) (λ x front h. h)
+limits_sound = made_sound limits_of (then_at (atom_at unsigned_of) max_at) (Both UnsignedNumber WritesMax) WritesLimits (then_sound (atom_at unsigned_of) max_at UnsignedNumber WritesMax number_sound max_sound) (λ x front h. h)
 
 pub limits_complete : Complete limits_at WritesLimits NoNumber
 limits_complete l front rest h f =
     made_is limits_of (then_at (atom_at unsigned_of) max_at (front ++ rest)) (l.min, l.max) rest
-    (then_complete (atom_at unsigned_of) max_at Number WritesMax Any NoNumber number_complete max_complete (λ m g r i j. tt) (l.min, l.max) front rest h f)
+    (then_complete (atom_at unsigned_of) max_at UnsignedNumber WritesMax Any NoNumber number_complete max_complete (λ m g r i j. tt) (l.min, l.max) front rest h f)
 
 -- ---- global types
 
@@ -109,21 +110,21 @@ global_type_complete pr g front rest h f = by g.var g.ty h.0 h.1
 
 -- ---- table types
 
-word_sound : (w : List ℕ) → Sound (atom_at (word_of w)) (λ u. Word w)
+word_sound : (w : List ℕ) → Sound (atom_at (word_of w)) (λ u. Keyword w)
 word_sound w k u rest e = (atom w ∷ [], word_found w k (u, rest) e, refl)
 
-word_complete : (w : List ℕ) → Complete (atom_at (word_of w)) (λ u. Word w) Any
+word_complete : (w : List ℕ) → Complete (atom_at (word_of w)) (λ u. Keyword w) Any
 word_complete w u front rest h f = ap (λ (z : List Token). atom_at (word_of w) (z ++ rest)) h ∙ word_is w rest
 
 pub table_type_sound : Sound table_type_at WritesTableType
 table_type_sound =
-    made_sound (λ x. x.0) (then_at limits_at (atom_at (word_of (codes "funcref")))) (Both WritesLimits (λ u. Word (codes "funcref"))) WritesTableType
-    (then_sound limits_at (atom_at (word_of (codes "funcref"))) WritesLimits (λ u. Word (codes "funcref")) limits_sound (word_sound (codes "funcref"))) (λ x front h. h)
+    made_sound (λ x. x.0) (then_at limits_at (atom_at (word_of (codes "funcref")))) (Both WritesLimits (λ u. Keyword (codes "funcref"))) WritesTableType
+    (then_sound limits_at (atom_at (word_of (codes "funcref"))) WritesLimits (λ u. Keyword (codes "funcref")) limits_sound (word_sound (codes "funcref"))) (λ x front h. h)
 
 pub table_type_complete : Complete table_type_at WritesTableType Any
 table_type_complete l front rest h f =
     made_is (λ x. x.0) (then_at limits_at (atom_at (word_of (codes "funcref"))) (front ++ rest)) (l, tt) rest
-    (then_complete limits_at (atom_at (word_of (codes "funcref"))) WritesLimits (λ u. Word (codes "funcref")) NoNumber Any limits_complete (word_complete (codes "funcref"))
+    (then_complete limits_at (atom_at (word_of (codes "funcref"))) WritesLimits (λ u. Keyword (codes "funcref")) NoNumber Any limits_complete (word_complete (codes "funcref"))
     (λ u g r w i. subst (λ (z : List Token). NoNumber (z ++ r)) (sym w) refl) (l, tt) front rest h f)
 
 -- ---- the code

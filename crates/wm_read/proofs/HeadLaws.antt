@@ -16,7 +16,7 @@ use Rattle.wm_syntax.specs.declared.profile.Profile.{Profile}
 use Rattle.wm_syntax.specs.Profiles.{HasSignature}
 use Rattle.wm_read.specs.Tokens.{Token, open_paren, close_paren, atom}
 use Rattle.wm_read.specs.Identifiers.{Id, WritesId, Resolves}
-use Rattle.wm_read.specs.Written.{Word, Paren, Number, WritesType, Named, WritesGroups, Names, TypeUse, WritesInstructions, ids_of}
+use Rattle.wm_read.specs.Written.{Keyword, Paren, UnsignedNumber, WritesType, Named, WritesGroups, Names, TypeUse, WritesInstructions, ids_of}
 use Rattle.wm_read.specs.Fields.{Field, type_field, import_field, function_field, table_field, memory_field, global_field, export_field, start_field, element_field, segment_field, WritesName, WritesSignature, WritesMax, WritesLimits, WritesTableType, WritesGlobalType, WritesConst, WritesDesc, WritesExport, WritesOffset, WritesStrings, WritesField, names_of}
 use Rattle.wm_read.specs.exact.Fields.{is_new, name_at, space_of}
 use Rattle.wm_read.specs.exact.FirstReading.{Noted, with_item, with_type, free_id_at, skip, type_head_at, desc_head_at, import_head_at, item_head_at, head_by, head_at, heads_within, heads_at}
@@ -58,7 +58,7 @@ plain_then P Q p f rest (x, y, e, a, b) = subst NotId (sym (ap (λ (z : List Tok
 plain_paren : (w : List ℕ) (P : Form Token) → Plain (Paren w P)
 plain_paren w P f rest (a, b, e, is, h) = subst (λ (z : List Token). NotId (z ++ rest)) (sym (e ∙ ap (λ (z : List Token). z ++ b) is)) tt
 
-plain_number : (n : ℕ) → Plain (Number n)
+plain_number : (n : ℕ) → Plain (UnsignedNumber n)
 plain_number n f rest (a, e, (lt, h)) = subst (λ (z : List Token). NotId (z ++ rest)) (sym e) (number_not_id n a (magnitude_more n a h))
 
 plain_type : (t : ValType) → Plain (WritesType t)
@@ -68,10 +68,10 @@ plain_type F32 f rest e = subst (λ (z : List Token). NotId (z ++ rest)) (sym e)
 plain_type F64 f rest e = subst (λ (z : List Token). NotId (z ++ rest)) (sym e) refl
 
 plain_limits : (l : Limits) → Plain (WritesLimits l)
-plain_limits l = plain_then (Number l.min) (WritesMax l.max) (plain_number l.min)
+plain_limits l = plain_then (UnsignedNumber l.min) (WritesMax l.max) (plain_number l.min)
 
 plain_table_type : (l : Limits) → Plain (WritesTableType l)
-plain_table_type l = plain_then (WritesLimits l) (Word (codes "funcref")) (plain_limits l)
+plain_table_type l = plain_then (WritesLimits l) (Keyword (codes "funcref")) (plain_limits l)
 
 plain_global_type : (var : Bool) (t : ValType) → Plain (WritesGlobalType var t)
 plain_global_type false t = plain_type t

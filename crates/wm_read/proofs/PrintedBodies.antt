@@ -32,7 +32,7 @@ use Rattle.wm_syntax.specs.declared.instructions.StoreOp.TheVariants.{I32Store}
 use Rattle.wm_syntax.specs.Opcodes.{load, opcode, store}
 use Rattle.wm_syntax.specs.Instructions.{Instruction, Instructions, none, snoc, simple, table, block, loop, choice, else_ops, ops_of, instruction_ops}
 use Rattle.wm_syntax.specs.Modules.{IsU32, constant}
-use Rattle.wm_write.specs.Layout.{Word, access_words, at, atom, body_line, const_words, gap, immediate_words, op_words, result_words, type_name, type_use, type_word}
+use Rattle.wm_write.specs.Layout.{Word, access_words, word_at, atom, body_line, const_words, gap, immediate_words, op_words, result_words, type_name, type_use, type_word}
 use Rattle.wm_read.specs.Tokens.{Token, IsAtom, is_id_char, is_lower}
 use Rattle.wm_read.specs.Identifiers.{Ids, ResolvesLabel}
 use Rattle.wm_read.specs.Written.{Closes, Names, Opens, Scope, TypeUse, WritesAccess, WritesBlockType, WritesElse, WritesInstruction, WritesInstructions, WritesOperand, WritesSimple, WritesTable}
@@ -84,10 +84,10 @@ simple_name (s.Numeric (Convert _)) = refl
 simple_name (s.Numeric (SignExtend I32From8)) = refl
 simple_name (s.Numeric (SignExtend _)) = refl
 simple_name (s.Numeric _) = refl
-simple_name (s.Load I32Load at) = refl
-simple_name (s.Load _ at) = refl
-simple_name (s.Store I32Store at) = refl
-simple_name (s.Store _ at) = refl
+simple_name (s.Load I32Load word_at) = refl
+simple_name (s.Load _ word_at) = refl
+simple_name (s.Store I32Store word_at) = refl
+simple_name (s.Store _ word_at) = refl
 simple_name _ = refl
 
 -- ---- type uses
@@ -126,9 +126,9 @@ prints_type_use names c h x lt below f e =
 
 -- ---- operands
 
-prints_access : (width : ℕ) (at : MemArg) → IsU32 at.offset → at.align ≤ 3 → Prints (WritesAccess width at) (access_words width at)
-prints_access width at o a =
-    prints_then _ _ (prints_key 111 (codes "ffset=") 0 at.offset refl refl o) (prints_key 97 (codes "lign=") width (2 ^ at.align) refl refl (small at.align a))
+prints_access : (width : ℕ) (word_at : MemArg) → IsU32 word_at.offset → word_at.align ≤ 3 → Prints (WritesAccess width word_at) (access_words width word_at)
+prints_access width word_at o a =
+    prints_then _ _ (prints_key 111 (codes "ffset=") 0 word_at.offset refl refl o) (prints_key 97 (codes "lign=") width (2 ^ word_at.align) refl refl (small word_at.align a))
   where
     small : (n : ℕ) → n ≤ 3 → 2 ^ n < 2 ^ 32
     small n le = let p : 2 ^ n ≤ 2 ^ 3 = pow-le-pow_right (lit< tt) le in omega (arith, p)
@@ -154,13 +154,13 @@ module _ (sc : Scope) (c : Counts) (h : HasNames sc.names c) where
   prints_operand labels (s.I64Const n) f = prints_integer 64 n (lit< tt) f f
   prints_operand labels (s.F32Const n) f = prints_float float.F32 n f
   prints_operand labels (s.F64Const n) f = prints_float float.F64 n f
-  prints_operand labels (s.Load o at) f = prints_access (load o).width at f.0 f.1
-  prints_operand labels (s.Store o at) f = prints_access (store o).width at f.0 f.1
+  prints_operand labels (s.Load o word_at) f = prints_access (load o).width word_at f.0 f.1
+  prints_operand labels (s.Store o word_at) f = prints_access (store o).width word_at f.0 f.1
   prints_operand labels _ f = prints_nothing
 
-  prints_simple : (before : List ℕ) → IsBreak before → (labels : Ids) (i : Simple) → IsFine c i → Prints (WritesSimple sc labels i) (at before (atom (opcode i).1) ∷ immediate_words i)
+  prints_simple : (before : List ℕ) → IsBreak before → (labels : Ids) (i : Simple) → IsFine c i → Prints (WritesSimple sc labels i) (word_at before (atom (opcode i).1) ∷ immediate_words i)
   prints_simple before b labels i f =
-      prints_then (at before (atom (opcode i).1) ∷ []) (immediate_words i) (prints_word before (opcode i).1 b (name_atom (opcode i).1 (simple_name i))) (prints_operand labels i f)
+      prints_then (word_at before (atom (opcode i).1) ∷ []) (immediate_words i) (prints_word before (opcode i).1 b (name_atom (opcode i).1 (simple_name i))) (prints_operand labels i f)
 
   -- a constant expression
   pub prints_const : (x : Const) → IsFine c (constant x) → Prints (WritesSimple sc [] (constant x)) (const_words x)
@@ -171,15 +171,15 @@ module _ (sc : Scope) (c : Counts) (h : HasNames sc.names c) where
   abbrev printed : List Op → List Word
   printed ops = flat_map op_words ops
 
-  prints_line : (a : List ℕ) → is_name a ≡ true → Prints (w.Word a) (at body_line (atom a) ∷ [])
+  prints_line : (a : List ℕ) → is_name a ≡ true → Prints (w.Keyword a) (word_at body_line (atom a) ∷ [])
   prints_line a h = prints_word body_line a body_line_breaks (name_atom a h)
 
   prints_block_type : (t : Option ValType) → Prints (WritesBlockType t) (result_words t)
   prints_block_type None = prints_nothing
   prints_block_type (Some t) = prints_form gap (codes "result") (type_word t ∷ []) gap_breaks (head_is 114 (codes "esult") refl refl refl) (prints_type t)
 
-  prints_opens : (a : List ℕ) (t : Option ValType) → is_name a ≡ true → Prints (Opens a None t) (at body_line (atom a) ∷ result_words t)
-  prints_opens a t n = prints_then (at body_line (atom a) ∷ []) (result_words t) (prints_line a n) (prints_then [] (result_words t) prints_nothing (prints_block_type t))
+  prints_opens : (a : List ℕ) (t : Option ValType) → is_name a ≡ true → Prints (Opens a None t) (word_at body_line (atom a) ∷ result_words t)
+  prints_opens a t n = prints_then (word_at body_line (atom a) ∷ []) (result_words t) (prints_line a n) (prints_then [] (result_words t) prints_nothing (prints_block_type t))
 
   labels_printed : (ids : Ids) (ls : List ℕ) (l : ℕ) → AllByRecursion IsU32 ls → IsU32 l → Prints (Each (ResolvesLabel ids) ls ▸ ResolvesLabel ids l) (printed (map op.Label ls ++ op.Label l ∷ []))
   labels_printed ids [] l f lt = prints_then [] _ prints_nothing (prints_label ids l lt)

@@ -12,7 +12,8 @@ use Rattle.wm_syntax.specs.declared.instructions.FloatType.TheVariants as float
 use Rattle.wm_write.specs.FloatText.{hex_digit, hexadecimal, places, fraction_text, exponent_text, scaled_text, finite_text, special_text, float_text}
 use Rattle.wm_floats.specs.Digits.{Digits, IsDigit, value}
 use Rattle.wm_floats.specs.FloatText.{Fraction, Exponent, IsHexadecimal, IsMagnitude, IsFloat, HasForm}
-use Rattle.wm_floats.specs.Nearest.{signif, expon, infinity, least, units}
+use Rattle.wm_syntax.specs.Floats.{signif, expon}
+use Rattle.wm_floats.specs.Nearest.{infinity, least, units}
 use Rattle.wm_floats.proofs.WrittenDigits.{next, fold_append}
 use Rattle.wm_floats.proofs.HexDigits.{sixteen}
 use Rattle.wm_floats.proofs.Rounding.{exact}

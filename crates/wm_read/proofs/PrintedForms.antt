@@ -10,15 +10,15 @@ use Rattle.wm_syntax.specs.Leb128.{FitsBits}
 use Rattle.wm_syntax.specs.Spelling.{Form, Exactly, Each, AreBytes, ◌▸◌}
 use Rattle.wm_syntax.specs.declared.types.ValType.{ValType}
 use Rattle.wm_syntax.specs.declared.types.ValType.TheVariants.{I32, I64, F32, F64}
-use Rattle.wm_write.specs.Layout.{Word, closing, atom, at, gap, spaced, number, quoted, parens, form, name, type_word, key_words}
+use Rattle.wm_write.specs.Layout.{Word, closing, atom, word_at, gap, spaced, number, quoted, parens, form, name, type_word, key_words}
 use Rattle.wm_write.specs.FloatText.{float_text}
-use Rattle.wm_floats.specs.Nearest.{signif, expon}
+use Rattle.wm_syntax.specs.Floats.{signif, expon}
 use Rattle.wm_syntax.specs.declared.instructions.FloatType.{FloatType}
 use Rattle.wm_read.proofs.PrintedFloats.{printed_float, float_literal}
 use Rattle.wm_read.specs.Tokens as tok
 use Rattle.wm_read.specs.Tokens.{Token, open_paren, close_paren, is_id_char, is_lower, IsAtom, IsIdentifier, IsUnsigned, IsInteger}
 use Rattle.wm_read.specs.Identifiers.{Id, Ids, WritesId, Resolves, ResolvesLabel}
-use Rattle.wm_read.specs.Written.{Word as AWord, Paren, Nothing, Number, WritesType, WritesKey, WritesInteger, WritesFloat}
+use Rattle.wm_read.specs.Written.{Keyword as AWord, Paren, Nothing, UnsignedNumber, WritesType, WritesKey, WritesInteger, WritesFloat}
 use Rattle.wm_read.specs.inner.Printed.{token_of, tokens}
 use Rattle.wm_read.proofs.PrintedNumbers.{decimal_printed, decimal_text, signed_text, signed_chars, signed_number}
 use Rattle.wm_read.proofs.PrintedTokens.{IsBreak, IsHead, Stands, atom_good, block_stands, both_stand, form_stands, gap_breaks, good_stands, none_stand, number_good, string_good}
@@ -62,7 +62,7 @@ each_then {X} P xs ys ws us h g = record {
 
 parens_tokens : (before head : List ℕ) (ws : List Word) (after : List ℕ)
     → tokens (parens before head ws after) ≡ (open_paren ∷ tok.atom head ∷ []) ++ (tokens ws ++ close_paren ∷ [])
-parens_tokens before head ws after = ap (λ (z : List Token). open_paren ∷ tok.atom head ∷ z) (tokens_append ws (at after closing ∷ []))
+parens_tokens before head ws after = ap (λ (z : List Token). open_paren ∷ tok.atom head ∷ z) (tokens_append ws (word_at after closing ∷ []))
 
 pub in_parens : {P : Form Token} (before head : List ℕ) (ws : List Word) (after : List ℕ) → P (tokens ws) → Paren head P (tokens (parens before head ws after))
 in_parens before head ws after h =
@@ -81,13 +81,13 @@ head_is c r h l s = record { first = c; rest = r; is = refl; no_comment = s; ato
 
 -- ---- atoms
 
-pub prints_atom : {P : Form Token} (before a : List ℕ) → IsBreak before → IsAtom a → P (tok.atom a ∷ []) → Prints P (at before (atom a) ∷ [])
-prints_atom before a b h w = record { stands = good_stands (at before (atom a)) (atom_good before a b h); writes = w }
+pub prints_atom : {P : Form Token} (before a : List ℕ) → IsBreak before → IsAtom a → P (tok.atom a ∷ []) → Prints P (word_at before (atom a) ∷ [])
+prints_atom before a b h w = record { stands = good_stands (word_at before (atom a)) (atom_good before a b h); writes = w }
 
-pub prints_word : (before a : List ℕ) → IsBreak before → IsAtom a → Prints (AWord a) (at before (atom a) ∷ [])
+pub prints_word : (before a : List ℕ) → IsBreak before → IsAtom a → Prints (AWord a) (word_at before (atom a) ∷ [])
 prints_word before a b h = prints_atom before a b h refl
 
-pub prints_number : (n : ℕ) → n < 2 ^ 32 → Prints (Number n) (number n ∷ [])
+pub prints_number : (n : ℕ) → n < 2 ^ 32 → Prints (UnsignedNumber n) (number n ∷ [])
 prints_number n lt = record { stands = good_stands (number n) (number_good n (omega (arith, lt))); writes = (decimal n, refl, decimal_text n lt) }
 
 pub prints_label : (labels : Ids) (l : ℕ) → l < 2 ^ 32 → Prints (ResolvesLabel labels l) (number l ∷ [])

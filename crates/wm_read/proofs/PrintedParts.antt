@@ -12,7 +12,7 @@ use Rattle.wm_syntax.specs.declared.modules.ImportDesc.{ImportDesc}
 use Rattle.wm_syntax.specs.declared.modules.ImportDesc.TheVariants.{Func, Table, Memory, Global}
 use Rattle.wm_syntax.specs.declared.modules.ExportKind.{ExportKind}
 use Rattle.wm_syntax.specs.declared.modules.ExportKind.TheVariants as kind
-use Rattle.wm_syntax.specs.Modules.{Element, Export, Function, GlobalDef, Import, Module, Segment, all_functions, all_globals, all_memories, all_tables, function_of, global_of, memory_of, table_of}
+use Rattle.wm_syntax.specs.Modules.{Element, Export, Function, GlobalDef, Import, Module, Segment, all_functions, all_globals, all_memories, all_tables, imported_function, imported_global, imported_memory, imported_table}
 use Rattle.wm_write.specs.Layout.{places}
 use Rattle.wm_read.specs.Identifiers.{AreDistinct, Id, Ids}
 use Rattle.wm_read.specs.Written.{Names}
@@ -318,44 +318,44 @@ module _ {X : Type 0} (space : ExportKind) (g : Import → Option X) (prefix : L
           ∙ more ∙ ap (λ z. numbered prefix (length z) (length (filter_map g is))) count
           ∙ sym (ap (λ z. numbered prefix (length (filter_map g before)) (length (cons_option z (filter_map g is)))) e)
 
-function_hit : (before : List Import) (i : Import) → ((x : ℕ) × (function_of i ≡ Some x) × (id_in kind.Func (import_field (import_id before i.desc) i) ≡ Some (id_at (codes "$f") (length (filter_map function_of before)))))
-    ⊎ ((function_of i ≡ None) × (id_in kind.Func (import_field (import_id before i.desc) i) ≡ None))
+function_hit : (before : List Import) (i : Import) → ((x : ℕ) × (imported_function i ≡ Some x) × (id_in kind.Func (import_field (import_id before i.desc) i) ≡ Some (id_at (codes "$f") (length (filter_map imported_function before)))))
+    ⊎ ((imported_function i ≡ None) × (id_in kind.Func (import_field (import_id before i.desc) i) ≡ None))
 function_hit before i = by i.desc
   where
-    by : (d : ImportDesc) → ((x : ℕ) × ((elim d as (λ _. Option ℕ) [ Func x ↦ Some x | _ ↦ None ]) ≡ Some x) × (cond (imports_in kind.Func d) (Some (import_id before d)) None ≡ Some (id_at (codes "$f") (length (filter_map function_of before)))))
+    by : (d : ImportDesc) → ((x : ℕ) × ((elim d as (λ _. Option ℕ) [ Func x ↦ Some x | _ ↦ None ]) ≡ Some x) × (cond (imports_in kind.Func d) (Some (import_id before d)) None ≡ Some (id_at (codes "$f") (length (filter_map imported_function before)))))
         ⊎ (((elim d as (λ _. Option ℕ) [ Func x ↦ Some x | _ ↦ None ]) ≡ None) × (cond (imports_in kind.Func d) (Some (import_id before d)) None ≡ None))
     by (Func x) = inl (x, refl, refl)
     by (Table x) = inr (refl, refl)
     by (Memory x) = inr (refl, refl)
     by (Global x) = inr (refl, refl)
 
-table_hit : (before : List Import) (i : Import) → ((x : Limits) × (table_of i ≡ Some x) × (id_in kind.Table (import_field (import_id before i.desc) i) ≡ Some (id_at (codes "$tab") (length (filter_map table_of before)))))
-    ⊎ ((table_of i ≡ None) × (id_in kind.Table (import_field (import_id before i.desc) i) ≡ None))
+table_hit : (before : List Import) (i : Import) → ((x : Limits) × (imported_table i ≡ Some x) × (id_in kind.Table (import_field (import_id before i.desc) i) ≡ Some (id_at (codes "$tab") (length (filter_map imported_table before)))))
+    ⊎ ((imported_table i ≡ None) × (id_in kind.Table (import_field (import_id before i.desc) i) ≡ None))
 table_hit before i = by i.desc
   where
-    by : (d : ImportDesc) → ((x : Limits) × ((elim d as (λ _. Option Limits) [ Table x ↦ Some x | _ ↦ None ]) ≡ Some x) × (cond (imports_in kind.Table d) (Some (import_id before d)) None ≡ Some (id_at (codes "$tab") (length (filter_map table_of before)))))
+    by : (d : ImportDesc) → ((x : Limits) × ((elim d as (λ _. Option Limits) [ Table x ↦ Some x | _ ↦ None ]) ≡ Some x) × (cond (imports_in kind.Table d) (Some (import_id before d)) None ≡ Some (id_at (codes "$tab") (length (filter_map imported_table before)))))
         ⊎ (((elim d as (λ _. Option Limits) [ Table x ↦ Some x | _ ↦ None ]) ≡ None) × (cond (imports_in kind.Table d) (Some (import_id before d)) None ≡ None))
     by (Func x) = inr (refl, refl)
     by (Table x) = inl (x, refl, refl)
     by (Memory x) = inr (refl, refl)
     by (Global x) = inr (refl, refl)
 
-memory_hit : (before : List Import) (i : Import) → ((x : Limits) × (memory_of i ≡ Some x) × (id_in kind.Memory (import_field (import_id before i.desc) i) ≡ Some (id_at (codes "$mem") (length (filter_map memory_of before)))))
-    ⊎ ((memory_of i ≡ None) × (id_in kind.Memory (import_field (import_id before i.desc) i) ≡ None))
+memory_hit : (before : List Import) (i : Import) → ((x : Limits) × (imported_memory i ≡ Some x) × (id_in kind.Memory (import_field (import_id before i.desc) i) ≡ Some (id_at (codes "$mem") (length (filter_map imported_memory before)))))
+    ⊎ ((imported_memory i ≡ None) × (id_in kind.Memory (import_field (import_id before i.desc) i) ≡ None))
 memory_hit before i = by i.desc
   where
-    by : (d : ImportDesc) → ((x : Limits) × ((elim d as (λ _. Option Limits) [ Memory x ↦ Some x | _ ↦ None ]) ≡ Some x) × (cond (imports_in kind.Memory d) (Some (import_id before d)) None ≡ Some (id_at (codes "$mem") (length (filter_map memory_of before)))))
+    by : (d : ImportDesc) → ((x : Limits) × ((elim d as (λ _. Option Limits) [ Memory x ↦ Some x | _ ↦ None ]) ≡ Some x) × (cond (imports_in kind.Memory d) (Some (import_id before d)) None ≡ Some (id_at (codes "$mem") (length (filter_map imported_memory before)))))
         ⊎ (((elim d as (λ _. Option Limits) [ Memory x ↦ Some x | _ ↦ None ]) ≡ None) × (cond (imports_in kind.Memory d) (Some (import_id before d)) None ≡ None))
     by (Func x) = inr (refl, refl)
     by (Table x) = inr (refl, refl)
     by (Memory x) = inl (x, refl, refl)
     by (Global x) = inr (refl, refl)
 
-global_hit : (before : List Import) (i : Import) → ((x : GlobalType) × (global_of i ≡ Some x) × (id_in kind.Global (import_field (import_id before i.desc) i) ≡ Some (id_at (codes "$g") (length (filter_map global_of before)))))
-    ⊎ ((global_of i ≡ None) × (id_in kind.Global (import_field (import_id before i.desc) i) ≡ None))
+global_hit : (before : List Import) (i : Import) → ((x : GlobalType) × (imported_global i ≡ Some x) × (id_in kind.Global (import_field (import_id before i.desc) i) ≡ Some (id_at (codes "$g") (length (filter_map imported_global before)))))
+    ⊎ ((imported_global i ≡ None) × (id_in kind.Global (import_field (import_id before i.desc) i) ≡ None))
 global_hit before i = by i.desc
   where
-    by : (d : ImportDesc) → ((x : GlobalType) × ((elim d as (λ _. Option GlobalType) [ Global x ↦ Some x | _ ↦ None ]) ≡ Some x) × (cond (imports_in kind.Global d) (Some (import_id before d)) None ≡ Some (id_at (codes "$g") (length (filter_map global_of before)))))
+    by : (d : ImportDesc) → ((x : GlobalType) × ((elim d as (λ _. Option GlobalType) [ Global x ↦ Some x | _ ↦ None ]) ≡ Some x) × (cond (imports_in kind.Global d) (Some (import_id before d)) None ≡ Some (id_at (codes "$g") (length (filter_map imported_global before)))))
         ⊎ (((elim d as (λ _. Option GlobalType) [ Global x ↦ Some x | _ ↦ None ]) ≡ None) × (cond (imports_in kind.Global d) (Some (import_id before d)) None ≡ None))
     by (Func x) = inr (refl, refl)
     by (Table x) = inr (refl, refl)
@@ -368,36 +368,36 @@ ids_joined prefix n k =
     ap (λ z. numbered prefix 0 n ++ z) (append-nil (numbered prefix n k)) ∙ ap (λ z. numbered prefix 0 n ++ numbered prefix z k) (let e : n ≡ 0 + n = omega arith in e) ∙ numbered_join prefix 0 n k
 
 function_ids_found : (m : Module) → filter_map (id_in kind.Func) (fields_in m) ≡ numbered (codes "$f") 0 (length (all_functions m))
-function_ids_found m = gathered (id_in kind.Func) m [] (numbered (codes "$f") 0 (length (filter_map function_of m.imports))) (numbered (codes "$f") (length (filter_map function_of m.imports)) (length m.functions)) [] [] [] []
-    (no_types (id_in kind.Func) m (λ id x. refl)) (imports_named kind.Func function_of (codes "$f") function_hit [] m.imports)
+function_ids_found m = gathered (id_in kind.Func) m [] (numbered (codes "$f") 0 (length (filter_map imported_function m.imports))) (numbered (codes "$f") (length (filter_map imported_function m.imports)) (length m.functions)) [] [] [] []
+    (no_types (id_in kind.Func) m (λ id x. refl)) (imports_named kind.Func imported_function (codes "$f") function_hit [] m.imports)
     (all_ids (id_in kind.Func) (codes "$f") function_field (λ id x. refl) (places m.imports).functions m.functions) (no_tables (id_in kind.Func) m (λ id x. refl)) (no_memories (id_in kind.Func) m (λ id x. refl)) (no_globals (id_in kind.Func) m (λ id x. refl))
     (no_rest (id_in kind.Func) m (λ x. refl) (λ x. refl) (λ x. refl) (λ x. refl))
-    ∙ ids_joined (codes "$f") (length (filter_map function_of m.imports)) (length m.functions)
-    ∙ ap (λ z. numbered (codes "$f") 0 z) (sym (length-append (filter_map function_of m.imports) (map (λ f. f.type_index) m.functions) ∙ ap (λ z. length (filter_map function_of m.imports) + z) (length-map m.functions (λ f. f.type_index))))
+    ∙ ids_joined (codes "$f") (length (filter_map imported_function m.imports)) (length m.functions)
+    ∙ ap (λ z. numbered (codes "$f") 0 z) (sym (length-append (filter_map imported_function m.imports) (map (λ f. f.type_index) m.functions) ∙ ap (λ z. length (filter_map imported_function m.imports) + z) (length-map m.functions (λ f. f.type_index))))
 
 table_ids_found : (m : Module) → filter_map (id_in kind.Table) (fields_in m) ≡ numbered (codes "$tab") 0 (length (all_tables m))
-table_ids_found m = gathered (id_in kind.Table) m [] (numbered (codes "$tab") 0 (length (filter_map table_of m.imports))) [] (numbered (codes "$tab") (length (filter_map table_of m.imports)) (length m.tables)) [] [] []
-    (no_types (id_in kind.Table) m (λ id x. refl)) (imports_named kind.Table table_of (codes "$tab") table_hit [] m.imports)
+table_ids_found m = gathered (id_in kind.Table) m [] (numbered (codes "$tab") 0 (length (filter_map imported_table m.imports))) [] (numbered (codes "$tab") (length (filter_map imported_table m.imports)) (length m.tables)) [] [] []
+    (no_types (id_in kind.Table) m (λ id x. refl)) (imports_named kind.Table imported_table (codes "$tab") table_hit [] m.imports)
     (no_functions (id_in kind.Table) m (λ id x. refl)) (all_ids (id_in kind.Table) (codes "$tab") table_field (λ id x. refl) (places m.imports).tables m.tables) (no_memories (id_in kind.Table) m (λ id x. refl)) (no_globals (id_in kind.Table) m (λ id x. refl))
     (no_rest (id_in kind.Table) m (λ x. refl) (λ x. refl) (λ x. refl) (λ x. refl))
-    ∙ ids_joined (codes "$tab") (length (filter_map table_of m.imports)) (length m.tables)
-    ∙ ap (λ z. numbered (codes "$tab") 0 z) (sym (length-append (filter_map table_of m.imports) m.tables))
+    ∙ ids_joined (codes "$tab") (length (filter_map imported_table m.imports)) (length m.tables)
+    ∙ ap (λ z. numbered (codes "$tab") 0 z) (sym (length-append (filter_map imported_table m.imports) m.tables))
 
 memory_ids_found : (m : Module) → filter_map (id_in kind.Memory) (fields_in m) ≡ numbered (codes "$mem") 0 (length (all_memories m))
-memory_ids_found m = gathered (id_in kind.Memory) m [] (numbered (codes "$mem") 0 (length (filter_map memory_of m.imports))) [] [] (numbered (codes "$mem") (length (filter_map memory_of m.imports)) (length m.memories)) [] []
-    (no_types (id_in kind.Memory) m (λ id x. refl)) (imports_named kind.Memory memory_of (codes "$mem") memory_hit [] m.imports)
+memory_ids_found m = gathered (id_in kind.Memory) m [] (numbered (codes "$mem") 0 (length (filter_map imported_memory m.imports))) [] [] (numbered (codes "$mem") (length (filter_map imported_memory m.imports)) (length m.memories)) [] []
+    (no_types (id_in kind.Memory) m (λ id x. refl)) (imports_named kind.Memory imported_memory (codes "$mem") memory_hit [] m.imports)
     (no_functions (id_in kind.Memory) m (λ id x. refl)) (no_tables (id_in kind.Memory) m (λ id x. refl)) (all_ids (id_in kind.Memory) (codes "$mem") memory_field (λ id x. refl) (places m.imports).memories m.memories) (no_globals (id_in kind.Memory) m (λ id x. refl))
     (no_rest (id_in kind.Memory) m (λ x. refl) (λ x. refl) (λ x. refl) (λ x. refl))
-    ∙ ids_joined (codes "$mem") (length (filter_map memory_of m.imports)) (length m.memories)
-    ∙ ap (λ z. numbered (codes "$mem") 0 z) (sym (length-append (filter_map memory_of m.imports) m.memories))
+    ∙ ids_joined (codes "$mem") (length (filter_map imported_memory m.imports)) (length m.memories)
+    ∙ ap (λ z. numbered (codes "$mem") 0 z) (sym (length-append (filter_map imported_memory m.imports) m.memories))
 
 global_ids_found : (m : Module) → filter_map (id_in kind.Global) (fields_in m) ≡ numbered (codes "$g") 0 (length (all_globals m))
-global_ids_found m = gathered (id_in kind.Global) m [] (numbered (codes "$g") 0 (length (filter_map global_of m.imports))) [] [] [] (numbered (codes "$g") (length (filter_map global_of m.imports)) (length m.globals)) []
-    (no_types (id_in kind.Global) m (λ id x. refl)) (imports_named kind.Global global_of (codes "$g") global_hit [] m.imports)
+global_ids_found m = gathered (id_in kind.Global) m [] (numbered (codes "$g") 0 (length (filter_map imported_global m.imports))) [] [] [] (numbered (codes "$g") (length (filter_map imported_global m.imports)) (length m.globals)) []
+    (no_types (id_in kind.Global) m (λ id x. refl)) (imports_named kind.Global imported_global (codes "$g") global_hit [] m.imports)
     (no_functions (id_in kind.Global) m (λ id x. refl)) (no_tables (id_in kind.Global) m (λ id x. refl)) (no_memories (id_in kind.Global) m (λ id x. refl)) (all_ids (id_in kind.Global) (codes "$g") global_field (λ id x. refl) (places m.imports).globals m.globals)
     (no_rest (id_in kind.Global) m (λ x. refl) (λ x. refl) (λ x. refl) (λ x. refl))
-    ∙ ids_joined (codes "$g") (length (filter_map global_of m.imports)) (length m.globals)
-    ∙ ap (λ z. numbered (codes "$g") 0 z) (sym (length-append (filter_map global_of m.imports) (map (λ g. g.ty) m.globals) ∙ ap (λ z. length (filter_map global_of m.imports) + z) (length-map m.globals (λ g. g.ty))))
+    ∙ ids_joined (codes "$g") (length (filter_map imported_global m.imports)) (length m.globals)
+    ∙ ap (λ z. numbered (codes "$g") 0 z) (sym (length-append (filter_map imported_global m.imports) (map (λ g. g.ty) m.globals) ∙ ap (λ z. length (filter_map imported_global m.imports) + z) (length-map m.globals (λ g. g.ty))))
 
 -- what the text of the module defines
 abbrev pub names_for : Module → Names

@@ -9,8 +9,8 @@ use Rattle.std.proofs.lemmas.Str.{IsAscii-append, IsUtf8-from_ascii}
 use Rattle.std.proofs.lemmas.Str.Ascii.{IsAscii-cons, IsAscii-nil}
 use Rattle.wm_syntax.specs.Spelling.{Each, AreBytes}
 use Rattle.wm_write.specs.FloatText.{hex_digit}
-use Rattle.wm_write.specs.Layout.{Meaning, Word, opening, closing, string, atom, is_plain, escaped, meaning_text, word_text, words_text, at, gap, field_line, body_line, number, quoted, parens, form, last_line}
-use Rattle.wm_read.specs.Tokens.{Token, open_paren, close_paren, is_space, is_digit, is_lower, is_upper, is_id_char, digit_value, Blank, Space, Element, String, TokenText, Ends, IsAtom, IsIdentifier, IsNumber, IsWord, IsDigit, AreTokens, Tokens}
+use Rattle.wm_write.specs.Layout.{WordMeaning, Word, opening, closing, string, atom, is_plain, escaped, meaning_text, word_text, words_text, word_at, gap, field_line, body_line, number, quoted, parens, form, last_line}
+use Rattle.wm_read.specs.Tokens.{Token, open_paren, close_paren, is_space, is_digit, is_lower, is_upper, is_id_char, digit_value, Blank, Space, StringElement, String, TokenText, Ends, IsAtom, IsIdentifier, IsNumber, IsWord, IsDigit, AreTokens, Tokens}
 use Rattle.wm_read.specs.Tokens as tok
 use Rattle.wm_read.specs.inner.Printed.{token_of, tokens}
 use Rattle.wm_read.proofs.PrintedNumbers.{decimal_printed, decimal_magnitude}
@@ -168,7 +168,7 @@ body_line_breaks = record {
 
 -- ---- a token behind such white space
 
-behind : (before : List ℕ) (means : Meaning) → IsBreak before → TokenText (token_of means) (meaning_text means) → IsAscii (meaning_text means) → IsGood (at before means)
+behind : (before : List ℕ) (means : WordMeaning) → IsBreak before → TokenText (token_of means) (meaning_text means) → IsAscii (meaning_text means) → IsGood (word_at before means)
 behind before means b t a = record {
   space = b.space;
   text = t;
@@ -177,7 +177,7 @@ behind before means b t a = record {
 }
 
 -- an atom
-pub atom_good : (before a : List ℕ) → IsBreak before → IsAtom a → IsGood (at before (atom a))
+pub atom_good : (before a : List ℕ) → IsBreak before → IsAtom a → IsGood (word_at before (atom a))
 atom_good before a b h = behind before (atom a) b (refl, h) (chars_ascii a h.0)
 
 pub number_is_atom : (n : ℕ) → n < 2 ^ 64 → IsAtom (decimal n)
@@ -209,7 +209,7 @@ hex_value (suc (suc (suc (suc (suc (suc (suc (suc (suc (suc (suc (suc (suc (suc 
 hex_small : (d : ℕ) → d < 16 → hex_digit d < 128
 hex_small d lt = cond_both (nat_lt d 10) (48 + d) (87 + d) (λ z. z < 128) (λ h. omega (arith, lt)) (λ h. omega (arith, lt))
 
-plain_stands : (b : ℕ) → is_plain b ≡ true → tok.is_plain b ≡ true
+plain_stands : (b : ℕ) → is_plain b ≡ true → tok.is_string_char b ≡ true
 plain_stands b h =
     let p = and_parts (nat_le 0x20 b && nat_le b 0x7E && not (b == 34)) (not (b == 92)) h in
     let q = and_parts (nat_le 0x20 b && nat_le b 0x7E) (not (b == 34)) p.0 in
@@ -218,8 +218,8 @@ plain_stands b h =
     and_from (nat_le 0x20 b && not (b == 0x7F) && not (b == 34)) (not (b == 92))
     (and_from (nat_le 0x20 b && not (b == 0x7F)) (not (b == 34)) (and_from (nat_le 0x20 b) (not (b == 0x7F)) r.0 (ap not (ne_eqb b 0x7F (λ e. omega (arith, low, e))))) q.1) p.1
 
-escape_is : (b : ℕ) → b < 2 ^ 8 → Element (b ∷ []) (escaped b)
-escape_is b lt = cond_both (is_plain b) (b ∷ []) (92 ∷ hex_digit (b / 16) ∷ hex_digit (b % 16) ∷ []) (Element (b ∷ []))
+escape_is : (b : ℕ) → b < 2 ^ 8 → StringElement (b ∷ []) (escaped b)
+escape_is b lt = cond_both (is_plain b) (b ∷ []) (92 ∷ hex_digit (b / 16) ∷ hex_digit (b % 16) ∷ []) (StringElement (b ∷ []))
     (λ h. inl (b, refl, plain_stands b h, refl))
     (λ h. let high : b / 16 < 16 = omega (arith, lt) in
     let low : b % 16 < 16 = omega arith in
@@ -245,7 +245,7 @@ joined_back : (bytes : List ℕ) → bytes ≡ flat_map (λ part. part) (parts_o
 joined_back [] = refl
 joined_back (b ∷ bytes) = ap (λ z. b ∷ z) (joined_back bytes)
 
-elements : (bytes : List ℕ) → AreBytes bytes → Each Element (parts_of bytes) (flat_map escaped bytes)
+elements : (bytes : List ℕ) → AreBytes bytes → Each StringElement (parts_of bytes) (flat_map escaped bytes)
 elements [] h = refl
 elements (b ∷ bytes) h = (escaped b, flat_map escaped bytes, refl, escape_is b h.0, elements bytes h.1)
 
@@ -268,7 +268,7 @@ pub record IsHead (head : List ℕ) : Type 0 where
   pub no_comment : (first == 59) ≡ false
   pub atom : IsAtom head
 
-closing_good : (after : List ℕ) → (c : ℕ) → (r : List ℕ) → after ++ 41 ∷ [] ≡ c ∷ r → IsEnd c → Space after → IsAscii after → IsGood (at after closing)
+closing_good : (after : List ℕ) → (c : ℕ) → (r : List ℕ) → after ++ 41 ∷ [] ≡ c ∷ r → IsEnd c → Space after → IsAscii after → IsGood (word_at after closing)
 closing_good after c r e i s a = record {
   space = s;
   text = refl;
@@ -277,25 +277,25 @@ closing_good after c r e i s a = record {
 }
 
 -- the closing parenthesis of a module
-pub last_closing : (ws : List Word) → IsGood (at (last_line ws) closing)
+pub last_closing : (ws : List Word) → IsGood (word_at (last_line ws) closing)
 last_closing [] = closing_good [] 41 [] refl (refl, refl) space_nil IsAscii-nil
 last_closing (w ∷ ws) = closing_good (10 ∷ []) 10 (41 ∷ []) refl (refl, refl) (space_before 10 [] refl space_nil) (IsAscii-cons 10 [] (omega arith) IsAscii-nil)
 
-inner_words : (head : List ℕ) (ws vs : List Word) → IsHead head → Stands ws → Starts vs → AreWords vs → AreWords (at [] (atom head) ∷ ws ++ vs)
+inner_words : (head : List ℕ) (ws vs : List Word) → IsHead head → Stands ws → Starts vs → AreWords vs → AreWords (word_at [] (atom head) ∷ ws ++ vs)
 inner_words head ws vs h g s a = (space_nil, (refl, h.atom), ends_before (tok.atom head) (ws ++ vs) (g.starts vs s), g.joins vs s a)
 
-parens_stand : (before head : List ℕ) (ws : List Word) (after : List ℕ) → IsBreak before → IsHead head → Stands ws → IsGood (at after closing) → Stands (parens before head ws after)
+parens_stand : (before head : List ℕ) (ws : List Word) (after : List ℕ) → IsBreak before → IsHead head → Stands ws → IsGood (word_at after closing) → Stands (parens before head ws after)
 parens_stand before head ws after b h g c = record {
   joins = λ vs s a.
-      let close = good_stands (at after closing) c in
-      let rest = inner_words head ws (at after closing ∷ vs) h g (close.starts vs s) (close.joins vs s a) in
-      let comment : Ends open_paren (whole (at [] (atom head) ∷ ws ++ at after closing ∷ vs)) =
-      subst (λ (z : List ℕ). Ends open_paren ((z ++ words_text (ws ++ at after closing ∷ vs)) ++ 10 ∷ [])) (sym h.is) h.no_comment in
-      subst AreWords (sym (ap (λ (z : List Word). at before opening ∷ at [] (atom head) ∷ z) (append_assoc ws (at after closing ∷ []) vs)))
+      let close = good_stands (word_at after closing) c in
+      let rest = inner_words head ws (word_at after closing ∷ vs) h g (close.starts vs s) (close.joins vs s a) in
+      let comment : Ends open_paren (whole (word_at [] (atom head) ∷ ws ++ word_at after closing ∷ vs)) =
+      subst (λ (z : List ℕ). Ends open_paren ((z ++ words_text (ws ++ word_at after closing ∷ vs)) ++ 10 ∷ [])) (sym h.is) h.no_comment in
+      subst AreWords (sym (ap (λ (z : List Word). word_at before opening ∷ word_at [] (atom head) ∷ z) (append_assoc ws (word_at after closing ∷ []) vs)))
       (b.space, refl, comment, rest);
   starts = λ vs s. (b.first, b.rest ++ 40 ∷ [], ap (λ (z : List ℕ). z ++ 40 ∷ []) b.is, b.ends);
   ascii = IsAscii-append (before ++ 40 ∷ []) _ (IsAscii-append before (40 ∷ []) b.ascii (IsAscii-cons 40 [] (omega arith) IsAscii-nil))
-      (IsAscii-append head _ (chars_ascii head h.atom.0) (both_stand ws (at after closing ∷ []) g (good_stands (at after closing) c)).ascii);
+      (IsAscii-append head _ (chars_ascii head h.atom.0) (both_stand ws (word_at after closing ∷ []) g (good_stands (word_at after closing) c)).ascii);
 }
 
 pub form_stands : (before head : List ℕ) (ws : List Word) → IsBreak before → IsHead head → Stands ws → Stands (form before head ws)
@@ -306,14 +306,14 @@ block_stands before head ws after b h g a =
     parens_stand before head ws after b h g (closing_good after a.first (a.rest ++ 41 ∷ []) (ap (λ (z : List ℕ). z ++ 41 ∷ []) a.is) a.ends a.space a.ascii)
 
 -- a text of one such form, with nothing before it
-pub form_is_text : (head : List ℕ) (ws : List Word) (after : List ℕ) → IsHead head → Stands ws → IsGood (at after closing)
+pub form_is_text : (head : List ℕ) (ws : List Word) (after : List ℕ) → IsHead head → Stands ws → IsGood (word_at after closing)
     → Tokens (whole (parens [] head ws after)) (tokens (parens [] head ws after))
 form_is_text head ws after h g c =
-    let close = good_stands (at after closing) c in
-    let rest = inner_words head ws (at after closing ∷ []) h g (close.starts [] tt) (close.joins [] tt tt) in
-    let comment : Ends open_paren (whole (at [] (atom head) ∷ ws ++ at after closing ∷ [])) =
-    subst (λ (z : List ℕ). Ends open_paren ((z ++ words_text (ws ++ at after closing ∷ [])) ++ 10 ∷ [])) (sym h.is) h.no_comment in
-    let ascii = IsAscii-cons 40 _ (omega arith) (IsAscii-append head _ (chars_ascii head h.atom.0) (both_stand ws (at after closing ∷ []) g close).ascii) in (
+    let close = good_stands (word_at after closing) c in
+    let rest = inner_words head ws (word_at after closing ∷ []) h g (close.starts [] tt) (close.joins [] tt tt) in
+    let comment : Ends open_paren (whole (word_at [] (atom head) ∷ ws ++ word_at after closing ∷ [])) =
+    subst (λ (z : List ℕ). Ends open_paren ((z ++ words_text (ws ++ word_at after closing ∷ [])) ++ 10 ∷ [])) (sym h.is) h.no_comment in
+    let ascii = IsAscii-cons 40 _ (omega arith) (IsAscii-append head _ (chars_ascii head h.atom.0) (both_stand ws (word_at after closing ∷ []) g close).ascii) in (
       IsUtf8-from_ascii _ (IsAscii-append (words_text (parens [] head ws after)) (10 ∷ []) ascii (IsAscii-cons 10 [] (omega arith) IsAscii-nil)),
       words_are_tokens (parens [] head ws after) (space_nil, refl, comment, rest),
     )

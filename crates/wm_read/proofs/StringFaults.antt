@@ -5,7 +5,7 @@ use Rattle.std.proofs.lemmas.Bool.{cond_both, eqb-true, and_parts}
 use Rattle.std.proofs.lemmas.List.{append-nil, append_cancel_right}
 use Rattle.wm_syntax.specs.Spelling.{Each, ◌▸◌}
 use Rattle.wm_syntax.proofs.Flat.{each_append}
-use Rattle.wm_read.specs.Tokens.{digit_value, is_plain, is_scalar, Element}
+use Rattle.wm_read.specs.Tokens.{digit_value, is_string_char, is_scalar, StringElement}
 use Rattle.wm_read.specs.TokenFaults.{EscapeFront, Elements, NoEscape}
 use Rattle.wm_read.specs.declared.faults.TextWhy.{TextWhy}
 use Rattle.wm_read.specs.declared.faults.TextWhy.TheVariants.{BadToken, OpenString, BadEscape}
@@ -76,7 +76,7 @@ gives mode (c ∷ b) = by (string_step mode c) (λ n. gives n b)
 
 -- ---- an element is passed over
 
-passed_more : (part u r : List ℕ) → Element part u → part_in m.Plain (u ++ r) ≡ passed r
+passed_more : (part u r : List ℕ) → StringElement part u → part_in m.Plain (u ++ r) ≡ passed r
 passed_more = element_passed part_in (λ part r. passed r)
     ((λ mode next c b e. part_goes mode c b (On next) e), (λ mode c x b e. part_goes mode c b (Byte x) e), (λ mode c n b e. part_goes mode c b (Scalar n) e))
 
@@ -111,10 +111,10 @@ passed_found b r is = by (subst (Front m.Plain b) is (front_is m.Plain b))
         with_quote : Body (e ++ 34 ∷ []) (x ++ []) [] → (e : List ℕ) × (b ≡ e ++ r) × (0 < length e) × Elements e
         with_quote (t, parts, whole, given, (p, q, s, all, last)) =
             let same : e ≡ p = append_cancel_right e p (34 ∷ []) (whole ∙ append-nil t ∙ s ∙ ap (λ (z : List ℕ). p ++ z) last) in
-            (e, cut, lt, (parts, subst (Each Element parts) (sym same) all))
+            (e, cut, lt, (parts, subst (Each StringElement parts) (sym same) all))
 
 -- an element of these is the first
-first_element : (e : List ℕ) → 0 < length e → Elements e → (given part rest : List ℕ) × (e ≡ part ++ rest) × Element given part
+first_element : (e : List ℕ) → 0 < length e → Elements e → (given part rest : List ℕ) × (e ≡ part ++ rest) × StringElement given part
 first_element e lt ([], h) = absurd (let n : length e ≡ 0 = ap length h in omega (arith, lt, n))
 first_element e lt (given ∷ parts, (x, y, cut, h, more)) = (given, x, y, cut, h)
 
@@ -146,7 +146,7 @@ unfolding string_step
 plain_law c =
     cond_both (c == 34) _ _ (Law m.Plain c) (λ _ n. n)
     (λ _. cond_both (c == 92) _ _ (Law m.Plain c) (λ t. (tt, λ b h. subst (λ (x : ℕ). Cut m.Plain (x ∷ b)) (sym (eqb-true c 92 t)) (inr h)))
-    (λ _. cond_both (is_plain c) _ _ (Law m.Plain c) (λ _. tt) (λ _. tt)))
+    (λ _. cond_both (is_string_char c) _ _ (Law m.Plain c) (λ _. tt) (λ _. tt)))
 
 escape_law : (c : ℕ) → Law m.Escape c (string_step m.Escape c)
 unfolding string_step
@@ -276,9 +276,9 @@ Fault b =
 
 further : (e r : List ℕ) → Elements e → why_in m.Plain (e ++ r) ≡ why_in m.Plain r → Fault r → Fault (e ++ r)
 further e r (parts, all) why (inl (is, (x, y, cut, (more, h), last))) =
-    inl (why ∙ is, (e ++ x, y, ap (λ (z : List ℕ). e ++ z) cut ∙ sym (append_assoc e x y), (parts ++ more, each_append Element parts more e x all h), last))
+    inl (why ∙ is, (e ++ x, y, ap (λ (z : List ℕ). e ++ z) cut ∙ sym (append_assoc e x y), (parts ++ more, each_append StringElement parts more e x all h), last))
 further e r (parts, all) why (inr (inl (is, (x, y, cut, (more, h), last)))) =
-    inr (inl (why ∙ is, (e ++ x, y, ap (λ (z : List ℕ). e ++ z) cut ∙ sym (append_assoc e x y), (parts ++ more, each_append Element parts more e x all h), last)))
+    inr (inl (why ∙ is, (e ++ x, y, ap (λ (z : List ℕ). e ++ z) cut ∙ sym (append_assoc e x y), (parts ++ more, each_append StringElement parts more e x all h), last)))
 further e r all why (inr (inr is)) = inr (inr (why ∙ is))
 
 -- within an escape
@@ -299,7 +299,7 @@ bad_byte : (c : ℕ) (b : List ℕ) (w : TextWhy) → (c == 92) ≡ false → pa
 unfolding string_step
 bad_byte c b w n = cond_both (c == 34) _ _ (λ s. part_next m.Plain s b (λ n. part_in n b) ≡ wrong w → w ≡ BadToken) (λ _ e. absurd cc)
     (λ _. cond_both (c == 92) _ _ (λ s. part_next m.Plain s b (λ n. part_in n b) ≡ wrong w → w ≡ BadToken) (λ t e. absurd (let f : true ≡ false = sym t ∙ n in cc))
-    (λ _. cond_both (is_plain c) _ _ (λ s. part_next m.Plain s b (λ n. part_in n b) ≡ wrong w → w ≡ BadToken) (λ _ e. absurd cc) (λ _ e. let f : wrong BadToken ≡ wrong w = e in cc)))
+    (λ _. cond_both (is_string_char c) _ _ (λ s. part_next m.Plain s b (λ n. part_in n b) ≡ wrong w → w ≡ BadToken) (λ _ e. absurd cc) (λ _ e. let f : wrong BadToken ≡ wrong w = e in cc)))
 
 none_given : (x : List ℕ) (o : Option (List ℕ × List ℕ)) → giving x o ≡ None → o ≡ None
 none_given x None e = refl
@@ -340,7 +340,7 @@ fault_found b none = within (suc (length b)) b (omega arith) none
 abbrev Tells : TextWhy → List ℕ → Type 0
 Tells w b = (string_in m.Plain b ≡ None) × (why_in m.Plain b ≡ w)
 
-behind : (w : TextWhy) (parts : List (List ℕ)) (e r : List ℕ) → Each Element parts e → Tells w r → Tells w (e ++ r)
+behind : (w : TextWhy) (parts : List (List ℕ)) (e r : List ℕ) → Each StringElement parts e → Tells w r → Tells w (e ++ r)
 behind w [] e r none h = subst (λ (z : List ℕ). Tells w (z ++ r)) (sym none) h
 behind w (part ∷ parts) e r (x, y, cut, first, more) h = one (behind w parts y r more h)
   where

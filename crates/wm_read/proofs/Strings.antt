@@ -5,7 +5,7 @@ use Rattle.std.specs.List.{list_any}
 use Rattle.std.proofs.lemmas.Bool.{cond-true, cond-false, cond_both, eqb-true, ne_eqb, and_parts, or_cases, lt-ltb, le-ltb, ltb-true, ltb-false, and_left}
 use Rattle.std.proofs.lemmas.List.{take_at}
 use Rattle.wm_syntax.specs.Spelling.{Exactly, Each, ◌▸◌}
-use Rattle.wm_read.specs.Tokens.{digit_value, Digits, value, is_plain, is_scalar, short_escapes, Element, String, string}
+use Rattle.wm_read.specs.Tokens.{digit_value, Digits, value, is_string_char, is_scalar, short_escapes, StringElement, String, string}
 use Rattle.wm_read.specs.declared.tokens.scan.Mode.{Mode}
 use Rattle.wm_read.specs.declared.tokens.scan.Mode.TheVariants as m
 use Rattle.wm_read.specs.declared.tokens.scan.Step.{Step}
@@ -47,7 +47,7 @@ scalar_back n = cond_both (nat_lt n 0x11_0000) n 0x11_0000 (λ x. is_scalar x �
 -- ---- what is left of a string
 
 abbrev pub Body : List ℕ → List ℕ → List ℕ → Type 0
-Body b given r = (t : List ℕ) × (parts : List (List ℕ)) × (b ≡ t ++ r) × (given ≡ joined parts) × (Each Element parts ▸ Exactly (34 ∷ [])) t
+Body b given r = (t : List ℕ) × (parts : List (List ℕ)) × (b ≡ t ++ r) × (given ≡ joined parts) × (Each StringElement parts ▸ Exactly (34 ∷ [])) t
 
 abbrev pub DigitsBody : ℕ → Bool → List ℕ → List ℕ → List ℕ → Type 0
 DigitsBody n after b given r =
@@ -60,7 +60,7 @@ Left (m.Low h) b given r = (c : ℕ) → digit_value c ≡ Some h → h < 16 →
 Left m.Brace b given r = Body (92 ∷ 117 ∷ b) given r
 Left (m.Digits n after) b given r = DigitsBody n after b given r
 
-element_body : (part u b given r : List ℕ) → Element part u → Body b given r → Body (u ++ b) (part ++ given) r
+element_body : (part u b given r : List ℕ) → StringElement part u → Body b given r → Body (u ++ b) (part ++ given) r
 element_body part u b given r h (t, parts, e, g, (x, y, s, p, q)) = (
   u ++ t,
   part ∷ parts,
@@ -90,7 +90,7 @@ plain_law c =
     (λ t b. let e : c ≡ 34 = eqb-true c 34 t in (34 ∷ [], [], ap (λ (x : ℕ). x ∷ b) e, refl, ([], 34 ∷ [], refl, refl, refl)))
     (λ _. cond_both (c == 92) _ _ (Law m.Plain c)
     (λ t b given r h. let e : c ≡ 92 = eqb-true c 92 t in subst (λ (x : ℕ). Body (x ∷ b) given r) (sym e) h)
-    (λ _. cond_both (is_plain c) _ _ (Law m.Plain c)
+    (λ _. cond_both (is_string_char c) _ _ (Law m.Plain c)
     (λ t b given r h. element_body (c ∷ []) (c ∷ []) b given r (inl (c, refl, t, refl)) h)
     (λ _. tt)))
 
@@ -126,7 +126,7 @@ opened b given r (w, more, rest, k, e, (ds, hd, kd), sc, g, body) =
     let k-is : k ≡ capped (value 16 ds) = kd ∙ capped_value 0 ds in
     let same : k ≡ value 16 ds = k-is ∙ scalar_back (value 16 ds) (subst (λ (x : ℕ). is_scalar x ≡ true) k-is sc) in
     let text : 92 ∷ 117 ∷ 123 ∷ b ≡ (92 ∷ 117 ∷ 123 ∷ w ++ 125 ∷ []) ++ more = ap (λ (z : List ℕ). 92 ∷ 117 ∷ 123 ∷ z) (e ∙ sym (append_assoc w (125 ∷ []) more)) in
-    let element : Element (encode_utf8 k) (92 ∷ 117 ∷ 123 ∷ w ++ 125 ∷ []) =
+    let element : StringElement (encode_utf8 k) (92 ∷ 117 ∷ 123 ∷ w ++ 125 ∷ []) =
     inr (inr (inr (ds, ap encode_utf8 same, subst (λ (x : ℕ). is_scalar x ≡ true) same sc, (92 ∷ 117 ∷ 123 ∷ [], w ++ 125 ∷ [], refl, refl, (w, 125 ∷ [], refl, hd, refl))))) in
     subst (λ (z : List ℕ). Body z given r) (sym text) (subst (λ (z : List ℕ). Body ((92 ∷ 117 ∷ 123 ∷ w ++ 125 ∷ []) ++ more) z r) (sym g) (element_body (encode_utf8 k) (92 ∷ 117 ∷ 123 ∷ w ++ 125 ∷ []) more rest r element body))
 
@@ -206,11 +206,11 @@ digit_not_short c d v =
 pub goes : (mode : Mode) (c : ℕ) (b : List ℕ) (s : Step) → string_step mode c ≡ s → string_in mode (c ∷ b) ≡ string_next s b (λ n. string_in n b)
 goes mode c b s e = ap (λ (x : Step). string_next x b (λ n. string_in n b)) e
 
-step_plain : (c : ℕ) → is_plain c ≡ true → string_step m.Plain c ≡ Byte c
+step_plain : (c : ℕ) → is_string_char c ≡ true → string_step m.Plain c ≡ Byte c
 unfolding string_step
 step_plain c h =
-    let apart : (x : ℕ) → is_plain x ≡ false → (c == x) ≡ false = λ x n. ne_eqb c x (λ k. let f : false ≡ true = sym n ∙ ap is_plain (sym k) ∙ h in cc) in
-    cond-false (c == 34) _ _ (apart 34 refl) ∙ cond-false (c == 92) _ _ (apart 92 refl) ∙ cond-true (is_plain c) _ _ h
+    let apart : (x : ℕ) → is_string_char x ≡ false → (c == x) ≡ false = λ x n. ne_eqb c x (λ k. let f : false ≡ true = sym n ∙ ap is_string_char (sym k) ∙ h in cc) in
+    cond-false (c == 34) _ _ (apart 34 refl) ∙ cond-false (c == 92) _ _ (apart 92 refl) ∙ cond-true (is_string_char c) _ _ h
 
 pub step_slash : string_step m.Plain 92 ≡ On m.Escape
 unfolding string_step
@@ -275,7 +275,7 @@ digits_passed f g go n after (d ∷ e ∷ ds) b r (x, y, whole, (c, is, v, lt), 
     ap (λ (z : List ℕ). f (m.Digits n after) (z ++ r)) text ∙ go.0 (m.Digits n after) (m.Digits (capped (n * 16 + d)) true) c (w ++ r) (step_digit n after c d v lt)
     ∙ digits_passed f g go (capped (n * 16 + d)) true (e ∷ ds) w r more
 
-pub element_passed : {X : Type 0} (f : Mode → List ℕ → X) (g : List ℕ → List ℕ → X) → Follows f g → (part u r : List ℕ) → Element part u → f m.Plain (u ++ r) ≡ g part r
+pub element_passed : {X : Type 0} (f : Mode → List ℕ → X) (g : List ℕ → List ℕ → X) → Follows f g → (part u r : List ℕ) → StringElement part u → f m.Plain (u ++ r) ≡ g part r
 element_passed f g go part u r (inl (c, given, p, e)) =
     ap (λ (z : List ℕ). f m.Plain (z ++ r)) e ∙ go.1 m.Plain c c r (step_plain c p) ∙ ap (λ (z : List ℕ). g z r) (sym given)
 element_passed f g go part u r (inr (inl (letter, c, given, p, e))) =
@@ -295,11 +295,11 @@ element_passed f g go part u r (inr (inr (inr (ds, given, sc, (x, y, e, p, (x2, 
     ∙ go.0 m.Brace (m.Digits 0 false) 123 (x2 ++ 125 ∷ r) step_brace ∙ digits_passed f g go 0 false ds x2 (125 ∷ r) hd ∙ go.2 (m.Digits n true) 125 n r (step_end n scn)
     ∙ ap (λ (z : List ℕ). g z r) (ap encode_utf8 n-is ∙ sym given)
 
-pub element_more : (part u r : List ℕ) → Element part u → string_in m.Plain (u ++ r) ≡ giving part (string_in m.Plain r)
+pub element_more : (part u r : List ℕ) → StringElement part u → string_in m.Plain (u ++ r) ≡ giving part (string_in m.Plain r)
 element_more = element_passed string_in (λ part r. giving part (string_in m.Plain r))
     ((λ mode next c b e. goes mode c b (On next) e), (λ mode c x b e. goes mode c b (Byte x) e), (λ mode c n b e. goes mode c b (Scalar n) e))
 
-pub body_more : (parts : List (List ℕ)) (t r : List ℕ) → Each Element parts t → string_in m.Plain (t ++ 34 ∷ r) ≡ Some (joined parts, r)
+pub body_more : (parts : List (List ℕ)) (t r : List ℕ) → Each StringElement parts t → string_in m.Plain (t ++ 34 ∷ r) ≡ Some (joined parts, r)
 body_more [] t r e = ap (λ (z : List ℕ). string_in m.Plain (z ++ 34 ∷ r)) e ∙ goes m.Plain 34 r _ step_quote
 body_more (part ∷ parts) t r (x, y, e, p, q) =
     ap (λ (z : List ℕ). string_in m.Plain (z ++ 34 ∷ r)) e ∙ ap (string_in m.Plain) (append_assoc x y (34 ∷ r)) ∙ element_more part x (y ++ 34 ∷ r) p

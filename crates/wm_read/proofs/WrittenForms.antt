@@ -20,7 +20,8 @@ use Rattle.wm_syntax.specs.Opcodes.{opcode, load, store}
 use Rattle.wm_syntax.specs.Profiles.{has, HasSimple, HasConst, HasInstruction, HasInstructions}
 use Rattle.wm_read.specs.Tokens.{Token, open_paren, close_paren, string, atom, IsIdentifier, IsInteger, IsNumber, IsUnsigned}
 use Rattle.wm_read.specs.Identifiers.{Id, Ids, One, IsIndex, IsLabel, WritesId, Resolves, ResolvesLabel}
-use Rattle.wm_read.specs.Written.{Word, Paren, Number, WritesType, type_text, Named, WritesGroup, WritesGroups, WritesUnnamed, WritesResults, Names, TypeUse, Scope, WritesKey, WritesAccess, WritesOperand, WritesSimple, WritesBlockType, Closes, WritesElse, Opens, WritesTable, WritesInstruction, WritesInstructions}
+use Rattle.wm_syntax.specs.Types.{type_text}
+use Rattle.wm_read.specs.Written.{Keyword, Paren, UnsignedNumber, WritesType, Named, WritesGroup, WritesGroups, WritesUnnamed, WritesResults, Names, TypeUse, Scope, WritesKey, WritesAccess, WritesOperand, WritesSimple, WritesBlockType, Closes, WritesElse, Opens, WritesTable, WritesInstruction, WritesInstructions}
 use Rattle.wm_read.specs.Fields.{WritesName, WritesMax, WritesLimits, WritesTableType, WritesGlobalType, WritesConst, WritesExport, WritesStrings, WritesOffset}
 use Rattle.wm_read.specs.exact.Reading.{is_word}
 use Rattle.wm_read.proofs.PieceLaws.{simple_word}
@@ -56,7 +57,7 @@ module _ (B : List Token → Type 0) (A : List ℕ → Type 0) (c : Closed B A) 
   keeps_atom : (a : List ℕ) → A a → (f : List Token) → f ≡ atom a ∷ [] → B f
   keeps_atom a is f e = subst B (sym e) (c.one a is)
 
-  keeps_word : (w : List ℕ) → is_word w ≡ true → Keeps (Word w)
+  keeps_word : (w : List ℕ) → is_word w ≡ true → Keeps (Keyword w)
   keeps_word w is = keeps_atom w (c.word w is)
 
   keeps_one : {X : Type 0} (P : X → List ℕ → Type 0) (x : X) → ((a : List ℕ) → P x a → A a) → Keeps (One P x)
@@ -163,7 +164,7 @@ module _ (B : List Token → Type 0) (A : List ℕ → Type 0) (c : Closed B A) 
 
   keeps_simple : (s : Scope) (labels : Ids) (i : Simple) → HasSimple p i → Keeps (WritesSimple s labels i)
   keeps_simple s labels i has =
-      keeps_then (Word (opcode i).1) (WritesOperand s labels i) (keeps_word (opcode i).1 (simple_word i).0) (keeps_operand s labels i has)
+      keeps_then (Keyword (opcode i).1) (WritesOperand s labels i) (keeps_word (opcode i).1 (simple_word i).0) (keeps_operand s labels i has)
 
   keeps_block_type : (t : Option ValType) → Keeps (WritesBlockType t)
   keeps_block_type None = keeps_nil
@@ -171,7 +172,7 @@ module _ (B : List Token → Type 0) (A : List ℕ → Type 0) (c : Closed B A) 
 
   keeps_opens : (w : List ℕ) → is_word w ≡ true → (id : Id) (t : Option ValType) → Keeps (Opens w id t)
   keeps_opens w word id t =
-      keeps_then (Word w) (WritesId id ▸ WritesBlockType t) (keeps_word w word) (keeps_then (WritesId id) (WritesBlockType t) (keeps_id id) (keeps_block_type t))
+      keeps_then (Keyword w) (WritesId id ▸ WritesBlockType t) (keeps_word w word) (keeps_then (WritesId id) (WritesBlockType t) (keeps_id id) (keeps_block_type t))
 
   -- the identifier that a block has
   abbrev IsName : Id → Type 0
@@ -194,7 +195,7 @@ module _ (B : List Token → Type 0) (A : List ℕ → Type 0) (c : Closed B A) 
 
   keeps_table : (labels : Ids) (ls : List ℕ) (default : ℕ) → Keeps (WritesTable labels ls default)
   keeps_table labels ls default f (lt, h) =
-      keeps_then (Word (codes "br_table")) (Each (ResolvesLabel labels) ls ▸ ResolvesLabel labels default) (keeps_word (codes "br_table") refl)
+      keeps_then (Keyword (codes "br_table")) (Each (ResolvesLabel labels) ls ▸ ResolvesLabel labels default) (keeps_word (codes "br_table") refl)
       (keeps_then (Each (ResolvesLabel labels) ls) (ResolvesLabel labels default) (keeps_each (ResolvesLabel labels) (keeps_label labels) ls) (keeps_label labels default)) f h
 
   -- a block from its word to its end
@@ -227,14 +228,14 @@ module _ (B : List Token → Type 0) (A : List ℕ → Type 0) (c : Closed B A) 
   -- ---- parts of fields
 
   pub keeps_limits : (l : Limits) → Keeps (WritesLimits l)
-  keeps_limits l = keeps_then (Number l.min) (WritesMax l.max) (keeps_one (IsUnsigned 32) l.min (unsigned 32 l.min)) (most l.max)
+  keeps_limits l = keeps_then (UnsignedNumber l.min) (WritesMax l.max) (keeps_one (IsUnsigned 32) l.min (unsigned 32 l.min)) (most l.max)
     where
       most : (max : Option ℕ) → Keeps (WritesMax max)
       most None = keeps_nil
       most (Some max) = keeps_one (IsUnsigned 32) max (unsigned 32 max)
 
   pub keeps_table_type : (l : Limits) → Keeps (WritesTableType l)
-  keeps_table_type l = keeps_then (WritesLimits l) (Word (codes "funcref")) (keeps_limits l) (keeps_word (codes "funcref") refl)
+  keeps_table_type l = keeps_then (WritesLimits l) (Keyword (codes "funcref")) (keeps_limits l) (keeps_word (codes "funcref") refl)
 
   pub keeps_global_type : (var : Bool) (t : ValType) → Keeps (WritesGlobalType var t)
   keeps_global_type false t = keeps_type t

@@ -16,7 +16,7 @@ use Rattle.wm_syntax.specs.Profiles.{IsOf}
 use Rattle.wm_syntax.specs.Modules.{Import, Function, GlobalDef, Export, Element, Segment, Module, constant}
 use Rattle.wm_read.specs.Tokens.{Token, string}
 use Rattle.wm_read.specs.Identifiers.{Id, AreDistinct, WritesId, Resolves}
-use Rattle.wm_read.specs.Written.{Word, Paren, Nothing, Number, WritesType, Named, WritesGroups}
+use Rattle.wm_read.specs.Written.{Keyword, Paren, Nothing, UnsignedNumber, WritesType, Named, WritesGroups}
 use Rattle.wm_read.specs.Written.{WritesResults, types_of, ids_of, Names, TypeUse, WritesSimple}
 use Rattle.wm_read.specs.Written.{WritesInstructions}
 
@@ -30,13 +30,13 @@ WritesSignature f k =
 
 abbrev pub WritesMax : Option ℕ → Form Token
 WritesMax None = Nothing
-WritesMax (Some max) = Number max
+WritesMax (Some max) = UnsignedNumber max
 
 abbrev pub WritesLimits : Limits → Form Token
-WritesLimits l = Number l.min ▸ WritesMax l.max
+WritesLimits l = UnsignedNumber l.min ▸ WritesMax l.max
 
 abbrev pub WritesTableType : Limits → Form Token
-WritesTableType l = WritesLimits l ▸ Word (codes "funcref")
+WritesTableType l = WritesLimits l ▸ Keyword (codes "funcref")
 
 abbrev pub WritesGlobalType : Bool → ValType → Form Token
 WritesGlobalType false t = WritesType t

@@ -9,7 +9,7 @@ use Rattle.wm_syntax.specs.declared.profile.Feature.TheVariants.{Floats}
 use Rattle.wm_syntax.specs.Profiles.{has}
 use Rattle.wm_syntax.specs.Spelling.{Form, Byte, Exactly, Each, ◌▸◌, ◌∣◌}
 use Rattle.wm_read.specs.Tokens.{Token, atom, CommentRest, Blank, LastSpace, IsIdentifier, IsNumber, IsWord}
-use Rattle.wm_read.specs.Tokens.{Element, IsDigit, Digits, TokenText, Ends}
+use Rattle.wm_read.specs.Tokens.{StringElement, IsDigit, Digits, TokenText, Ends}
 use Rattle.wm_read.specs.declared.faults.TextWhy.{TextWhy}
 use Rattle.wm_read.specs.declared.faults.TextWhy.TheVariants.{NotUtf8, BadToken, OpenComment, OpenString}
 use Rattle.wm_read.specs.declared.faults.TextWhy.TheVariants.{BadEscape, Expected, Memory}
@@ -46,7 +46,7 @@ EscapeFront b = (b ≡ codes "\\") ⊎ ((h : ℕ) × (Byte 92 ▸ IsDigit 16 h) 
 
 -- the elements of a string
 abbrev pub Elements : Form ℕ
-Elements b = (parts : List (List ℕ)) × Each Element parts b
+Elements b = (parts : List (List ℕ)) × Each StringElement parts b
 
 -- a string begins here, and the text ends within it, perhaps in an escape
 abbrev pub EndsInString : Form ℕ
@@ -55,7 +55,7 @@ EndsInString = Byte 34 ▸ Elements ▸ (Exactly [] ∣ EscapeFront)
 -- a \ with which no element begins, though the text doesn't end within an escape
 abbrev pub NoEscape : Form ℕ
 NoEscape b = (c : List ℕ) × (b ≡ 92 ∷ c) × (EscapeFront b → ⊥)
-    × ((given part rest : List ℕ) → b ≡ part ++ rest → Element given part → ⊥)
+    × ((given part rest : List ℕ) → b ≡ part ++ rest → StringElement given part → ⊥)
 
 -- a string begins here, and behind some of its elements stands an escape that is none
 abbrev pub HasNoEscape : Form ℕ

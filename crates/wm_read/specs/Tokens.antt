@@ -109,8 +109,8 @@ abbrev pub IsAtom : List ℕ → Type 0
 IsAtom a = IsTrue (list_all is_id_char a) × (IsIdentifier a ⊎ (IsNumber a ⊎ IsLiteral a) ⊎ IsWord a)
 
 -- what stands in a string for itself (section 6.3.3): no control character, no ", no \
-abbrev pub is_plain : ℕ → Bool
-is_plain c = nat_le 0x20 c && not (c == 0x7F) && not (c == 34) && not (c == 92)
+abbrev pub is_string_char : ℕ → Bool
+is_string_char c = nat_le 0x20 c && not (c == 0x7F) && not (c == 34) && not (c == 92)
 
 -- \t \n \r \" \' \\, and the byte that each gives
 abbrev pub short_escapes : List (ℕ × ℕ)
@@ -123,9 +123,9 @@ is_scalar c = nat_lt c 0xD800 || (nat_le 0xE000 c && nat_lt c 0x11_0000)
 -- One element of a string (section 6.3.3) and the bytes that it gives: a byte for itself; an escape of one
 -- letter; \ and two hexadecimal digits, which give a byte; \u{ and hexadecimal digits and }, which give the
 -- UTF-8 of a scalar value.
-abbrev pub Element : List ℕ → Form ℕ
-Element given b =
-    ((c : ℕ) × (given ≡ c ∷ []) × IsTrue (is_plain c) × (b ≡ c ∷ []))
+abbrev pub StringElement : List ℕ → Form ℕ
+StringElement given b =
+    ((c : ℕ) × (given ≡ c ∷ []) × IsTrue (is_string_char c) × (b ≡ c ∷ []))
     ⊎ ((letter c : ℕ) × (given ≡ c ∷ []) × IsTrue (list_any (λ e. (e.0 == letter)
     && (e.1 == c)) short_escapes) × (b ≡ 92 ∷ letter ∷ []))
     ⊎ ((h l : ℕ) × (given ≡ (h * 16 + l) ∷ []) × (Byte 92 ▸ IsDigit 16 h ▸ IsDigit 16 l) b)
@@ -135,7 +135,7 @@ Element given b =
 -- a string (section 6.3.3): its elements between quotation marks
 abbrev pub String : List ℕ → Form ℕ
 String bytes b = (parts : List (List ℕ)) × (bytes ≡ flat_map (λ part. part) parts)
-    × (Byte 34 ▸ Each Element parts ▸ Byte 34) b
+    × (Byte 34 ▸ Each StringElement parts ▸ Byte 34) b
 
 -- the text of a token
 abbrev pub TokenText : Token → Form ℕ

@@ -13,15 +13,15 @@ use Rattle.wm_syntax.specs.declared.instructions.Simple.TheVariants.{Br, BrIf, C
 use Rattle.wm_syntax.specs.declared.instructions.Simple.TheVariants.{LocalSet, LocalTee, GlobalGet, GlobalSet}
 use Rattle.wm_syntax.specs.declared.instructions.Simple.TheVariants.{I32Const, I64Const, F32Const, F64Const}
 use Rattle.wm_syntax.specs.declared.instructions.Simple.TheVariants.{Load, Store}
-use Rattle.wm_syntax.specs.Types.{Signature}
+use Rattle.wm_syntax.specs.Types.{Signature, type_text}
 use Rattle.wm_syntax.specs.Opcodes.{opcode, load, store}
 use Rattle.wm_syntax.specs.Instructions.{Instruction, Instructions, none, snoc, simple, table, block, loop}
 use Rattle.wm_syntax.specs.Instructions.{choice}
 use Rattle.wm_read.specs.Tokens.{Token, open_paren, close_paren, atom, IsUnsigned, IsInteger}
 use Rattle.wm_read.specs.Identifiers.{Id, Ids, One, WritesId, Resolves, ResolvesLabel}
 
-abbrev pub Word : List ℕ → Form Token
-Word w = Exactly (atom w ∷ [])
+abbrev pub Keyword : List ℕ → Form Token
+Keyword w = Exactly (atom w ∷ [])
 
 -- ( word .. )
 abbrev pub Paren : List ℕ → Form Token → Form Token
@@ -30,18 +30,12 @@ Paren word P = Exactly (open_paren ∷ atom word ∷ []) ▸ P ▸ Exactly (clos
 abbrev pub Nothing : Form Token
 Nothing = Exactly []
 
-abbrev pub Number : ℕ → Form Token
-Number = One (IsUnsigned 32)
+abbrev pub UnsignedNumber : ℕ → Form Token
+UnsignedNumber = One (IsUnsigned 32)
 
 -- types (section 6.4)
-abbrev pub type_text : ValType → List ℕ
-type_text I32 = codes "i32"
-type_text I64 = codes "i64"
-type_text F32 = codes "f32"
-type_text F64 = codes "f64"
-
 abbrev pub WritesType : ValType → Form Token
-WritesType t = Word (type_text t)
+WritesType t = Keyword (type_text t)
 
 -- a parameter or a local, with its identifier
 abbrev pub Named : Type 0
@@ -137,7 +131,7 @@ WritesOperand s labels (Store op at) = WritesAccess (store op).width at
 WritesOperand s labels _ = Nothing
 
 abbrev pub WritesSimple : Scope → Ids → Simple → Form Token
-WritesSimple s labels i = Word (opcode i).1 ▸ WritesOperand s labels i
+WritesSimple s labels i = Keyword (opcode i).1 ▸ WritesOperand s labels i
 
 abbrev pub WritesBlockType : Option ValType → Form Token
 WritesBlockType None = Nothing
@@ -146,8 +140,8 @@ WritesBlockType (Some t) = Paren (codes "result") (WritesType t)
 -- The word else or end, and the block's identifier once more, or not. So it may follow the end of an if
 -- without else, where section 6.5.2 has none.
 abbrev pub Closes : List ℕ → Id → Form Token
-Closes word None = Word word
-Closes word (Some name) = Word word ∣ Exactly (atom word ∷ atom name ∷ [])
+Closes word None = Keyword word
+Closes word (Some name) = Keyword word ∣ Exactly (atom word ∷ atom name ∷ [])
 
 abbrev pub WritesElse : Id → Instructions → Form Token → Form Token
 WritesElse id none written = (Closes (codes "else") id ▸ written) ∣ Nothing
@@ -155,12 +149,12 @@ WritesElse id (snoc s i) written = Closes (codes "else") id ▸ written
 
 -- a block's word, its identifier and its type
 abbrev pub Opens : List ℕ → Id → Option ValType → Form Token
-Opens word id t = Word word ▸ WritesId id ▸ WritesBlockType t
+Opens word id t = Keyword word ▸ WritesId id ▸ WritesBlockType t
 
 -- a br_table: labels, fewer than 2 ^ 32, and then the default
 abbrev pub WritesTable : Ids → List ℕ → ℕ → Form Token
 WritesTable labels ls default =
-    λ k. (length ls < 2 ^ 32) × (Word (codes "br_table") ▸ Each (ResolvesLabel labels) ls
+    λ k. (length ls < 2 ^ 32) × (Keyword (codes "br_table") ▸ Each (ResolvesLabel labels) ls
     ▸ ResolvesLabel labels default) k
 
 abbrev mutual

@@ -1,7 +1,7 @@
 //! Where and why a text is refused.
 
 ghost use Rattle.std.specs.Prelude.{◌≡◌, ◌+◌, ◌≤◌, ◌<◌, IsTrue, length};
-ghost use Rattle.wm_read.specs.Faults.{name_of};
+ghost use Rattle.wm_read.specs.Faults.{text_name_of};
 ghost use Rattle.wm_read.specs.declared.faults.TextWhy.TheVariants.{Memory};
 ghost use Rattle.wm_read.specs.inner.Ends.{can_end};
 
@@ -59,7 +59,7 @@ pub enum TextWhy {
 impl TextWhy {
     /// The word that is printed for it.
     pub fn name(self) -> &'static str
-        ensures { result.now ≡ name_of self }
+        ensures { result.now ≡ text_name_of self }
     {
         match self {
             TextWhy::NotUtf8 => "NotUtf8",

@@ -8,8 +8,8 @@ use Rattle.wm_syntax.specs.Instructions.{SpellsOp}
 use Rattle.wm_syntax.specs.Spelling.{Form}
 use Rattle.wm_decode.specs.Items.{Item, new_type, param, one_result, import_module, import_name, import_desc, function, table, memory, global, const_op, export_name, start, element, element_function, body, locals, body_op, segment, data_byte, Marks}
 use Rattle.wm_decode.specs.Sections.{header}
-use Rattle.wm_decode.specs.MarkedForms.{MarkedForm, Empty, Byte, Then, Times, Leaf, Number, Vector, Index, Name, nothing_at, marks_ending, name_marks}
-use Rattle.wm_decode.specs.Grammar.{FunctionType, Import, EachOp, Expression, Global, Export, Element, Code, Segment, Paired, Contents, Section, Custom, Customs, Optional, Chain, Module}
+use Rattle.wm_decode.specs.MarkedForms.{MarkedForm, Empty, MarkedByte, Then, Times, Leaf, MarkedNumber, Vector, Index, Name, nothing_at, marks_ending, name_marks}
+use Rattle.wm_decode.specs.Grammar.{FunctionType, ImportForm, EachOp, Expression, Global, ExportForm, ElementForm, Code, SegmentForm, Paired, Contents, Section, Custom, Customs, Optional, Chain, ModuleForm}
 
 -- an item that is complete at a byte outside names and code entries, or none
 abbrev pub IsPlain : Option Item → Type 0
@@ -50,7 +50,7 @@ module _ {T : Marks → Type 0} {Is : Option Item → Type 0} (l : Leaves T Is) 
   has_empty : Has T Empty
   has_empty b k h = subst T (sym h.1) l.none
 
-  has_byte : (c : ℕ) (x : Option Item) → Is x → Has T (Byte c x)
+  has_byte : (c : ℕ) (x : Option Item) → Is x → Has T (MarkedByte c x)
   has_byte c x i b k h = subst T (sym h.1) (l.plain x (c ∷ []) i)
 
   pub has_then : {P Q : MarkedForm} → Has T P → Has T Q → Has T (Then P Q)
@@ -63,7 +63,7 @@ module _ {T : Marks → Type 0} {Is : Option Item → Type 0} (l : Leaves T Is) 
   pub has_leaf : {X : Type 0} (V : X → Form ℕ) (part : X → Item) → ((v : X) → Is (Some (part v))) → Has T (Leaf V part)
   has_leaf V part i b k h = subst T (sym h.2) (l.plain (Some (part h.0)) b (i h.0))
 
-  pub has_number : (x : ℕ → Option Item) (F : ℕ → MarkedForm) → ((n : ℕ) → Is (x n)) → ((n : ℕ) → Has T (F n)) → Has T (Number x F)
+  pub has_number : (x : ℕ → Option Item) (F : ℕ → MarkedForm) → ((n : ℕ) → Is (x n)) → ((n : ℕ) → Has T (F n)) → Has T (MarkedNumber x F)
   has_number x F i f b k h = subst T (sym h.marks) (l.both (marks_ending (x h.n) h.front) h.back_marks (l.plain (x h.n) h.front (i h.n)) (f h.n h.back h.back_marks h.rest))
 
   pub has_vector : {P : MarkedForm} → Has T P → Has T (Vector P)
@@ -78,9 +78,9 @@ pub record PassesMembers (demanded : Type 0) (p : Profile) (T : Marks → Type 0
   pub named : (x : Option Item) (front text : List ℕ) → IsNamed text x → SpellsU32 (length text) front → T (name_marks x front text)
   pub types : Has T (FunctionType p)
   pub globals : Has T (Global p)
-  pub elements : Has T (Element p)
+  pub elements : Has T (ElementForm p)
   pub codes : Has T (Code demanded p)
-  pub segments : Has T (Segment p)
+  pub segments : Has T (SegmentForm p)
 
 module _ (demanded : Type 0) (p : Profile) (T : Marks → Type 0) (t : PassesMembers demanded p T) where
   has_name : (x : List ℕ → Option Item) → ((text : List ℕ) → IsNamed text (x text)) → Has T (Name demanded x)
@@ -89,10 +89,10 @@ module _ (demanded : Type 0) (p : Profile) (T : Marks → Type 0) (t : PassesMem
   has_paired : {P : MarkedForm} (f : ℕ) → Has T P → Has T (Paired demanded f P)
   has_paired {P} f g = has_number t.leaves nothing_at (λ n b k. (demanded → n ≡ f) × Times n P b k) (λ n. tt) (λ n b k h. has_times t.leaves n g b k h.1)
 
-  has_import : Has T (Import demanded p)
+  has_import : Has T (ImportForm demanded p)
   has_import = has_then t.leaves (has_name _ (λ s. refl)) (has_then t.leaves (has_name _ (λ s. refl)) (has_leaf t.leaves _ import_desc (λ v. tt)))
 
-  has_export : Has T (Export demanded)
+  has_export : Has T (ExportForm demanded)
   has_export = has_then t.leaves (has_name _ (λ s. refl)) (has_leaf t.leaves _ _ (λ v. tt))
 
   has_contents : (f id : ℕ) → Has T (Contents demanded p f id)
@@ -126,7 +126,7 @@ module _ (demanded : Type 0) (p : Profile) (T : Marks → Type 0) (t : PassesMem
   has_chain f zero id = has_customs
   has_chain f (suc count) id = has_then t.leaves has_customs (has_then t.leaves (has_optional f id) (has_chain f count (suc id)))
 
-  pub has_members : Has T (Module demanded p)
+  pub has_members : Has T (ModuleForm demanded p)
   has_members b k h = has_then t.leaves (λ c m e. subst T (sym e.1) (t.leaves.plain None header tt)) (has_chain h.0 11 1) b k h.1
 
 -- where each item outside names and code entries stands by itself
@@ -166,5 +166,5 @@ module _ (demanded : Type 0) (p : Profile) (T : Marks → Type 0) (t : Passes de
     segments = has_then plain_leaves (has_index plain_leaves segment (λ n. tt)) (has_then plain_leaves has_expression (has_vector plain_leaves (has_leaf plain_leaves _ data_byte (λ v. tt))));
   }
 
-  pub has_module : Has T (Module demanded p)
+  pub has_module : Has T (ModuleForm demanded p)
   has_module = has_members demanded p T members

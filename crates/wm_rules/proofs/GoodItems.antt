@@ -8,7 +8,7 @@ use Rattle.wm_syntax.specs.declared.types.GlobalType.{GlobalType}
 use Rattle.wm_syntax.specs.declared.modules.ExportKind.{ExportKind}
 use Rattle.wm_syntax.specs.declared.modules.ExportKind.TheVariants as kind
 use Rattle.wm_syntax.specs.declared.instructions.Op.{Op}
-use Rattle.wm_syntax.specs.Modules.{Export, Function, function_of, table_of, memory_of, global_of}
+use Rattle.wm_syntax.specs.Modules.{Export, Function, imported_function, imported_table, imported_memory, imported_global}
 use Rattle.wm_typing.specs.TypedBodies.{IsTypedBody}
 use Rattle.wm_typing.specs.Bodies.{no_stats}
 use Rattle.wm_typing.specs.Contexts.{body_context}
@@ -94,8 +94,8 @@ module _ (v : FlatModule) where
 
   same_flags : after_memories ≡ before_globals
   same_flags =
-      ap (λ b. in_memory (in_table after_functions b) (is_some_item v.memories || after_tables.spaces.has_memory)) (some_append (filter_map table_of v.imports) v.tables)
-      ∙ ap (λ b. in_memory (in_table after_functions (is_some_item (flat_tables v))) b) (some_append (filter_map memory_of v.imports) v.memories)
+      ap (λ b. in_memory (in_table after_functions b) (is_some_item v.memories || after_tables.spaces.has_memory)) (some_append (filter_map imported_table v.imports) v.tables)
+      ∙ ap (λ b. in_memory (in_table after_functions (is_some_item (flat_tables v))) b) (some_append (filter_map imported_memory v.imports) v.memories)
 
   abbrev pub after_globals : Held
   after_globals = in_globals before_globals (flat_globals v)
@@ -154,28 +154,28 @@ module _ (v : FlatModule) where
 
   -- an initialiser sees what was imported
   abbrev Sees : Held → Type 0
-  Sees h = (take h.spaces.imported_globals h.spaces.globals ≡ filter_map global_of v.imports) × (h.spaces.imported_globals ≤ length h.spaces.globals)
+  Sees h = (take h.spaces.imported_globals h.spaces.globals ≡ filter_map imported_global v.imports) × (h.spaces.imported_globals ≤ length h.spaces.globals)
 
-  sees_more : (h : Held) (t : GlobalType) → Sees h → take h.spaces.imported_globals (h.spaces.globals ++ t ∷ []) ≡ filter_map global_of v.imports
+  sees_more : (h : Held) (t : GlobalType) → Sees h → take h.spaces.imported_globals (h.spaces.globals ++ t ∷ []) ≡ filter_map imported_global v.imports
   sees_more h t i = take-append-le h.spaces.imported_globals h.spaces.globals (t ∷ []) i.1 ∙ i.0
 
   sees_keeps : (h : Held) (g : FlatGlobal) → Sees h → Sees (put_global h g)
   sees_keeps h g i = (sees_more h g.ty i, omega (arith, i.1, length-append h.spaces.globals (g.ty ∷ [])))
 
-  sees_same : (h : Held) (g : FlatGlobal) → Sees h → GoodGlobal h g ↔ IsTypedConst (filter_map global_of v.imports) g.init g.ty.ty
+  sees_same : (h : Held) (g : FlatGlobal) → Sees h → GoodGlobal h g ↔ IsTypedConst (filter_map imported_global v.imports) g.init g.ty.ty
   sees_same h g i = (
     (λ d. (d.0, d.1, subst (λ z. TypedConst z d.0 g.ty.ty) (sees_more h g.ty i) d.2)),
     (λ d. (d.0, d.1, subst (λ z. TypedConst z d.0 g.ty.ty) (sym (sees_more h g.ty i)) d.2)),
   )
 
   sees_first : Sees before_globals
-  sees_first = let e : 0 + length (filter_map global_of v.imports) ≡ length (filter_map global_of v.imports) = omega arith in
-      (ap (λ n. take n (filter_map global_of v.imports)) e ∙ take_all (filter_map global_of v.imports), omega arith)
+  sees_first = let e : 0 + length (filter_map imported_global v.imports) ≡ length (filter_map imported_global v.imports) = omega arith in
+      (ap (λ n. take n (filter_map imported_global v.imports)) e ∙ take_all (filter_map imported_global v.imports), omega arith)
 
-  globals_iff : GoodAll GoodGlobal put_global before_globals v.globals ↔ AllByRecursion (λ g. IsTypedConst (filter_map global_of v.imports) g.init g.ty.ty) v.globals
+  globals_iff : GoodAll GoodGlobal put_global before_globals v.globals ↔ AllByRecursion (λ g. IsTypedConst (filter_map imported_global v.imports) g.init g.ty.ty) v.globals
   globals_iff = (
-    all_to GoodGlobal put_global (λ g. IsTypedConst (filter_map global_of v.imports) g.init g.ty.ty) Sees sees_keeps sees_same v.globals before_globals sees_first,
-    all_from GoodGlobal put_global (λ g. IsTypedConst (filter_map global_of v.imports) g.init g.ty.ty) Sees sees_keeps sees_same v.globals before_globals sees_first,
+    all_to GoodGlobal put_global (λ g. IsTypedConst (filter_map imported_global v.imports) g.init g.ty.ty) Sees sees_keeps sees_same v.globals before_globals sees_first,
+    all_from GoodGlobal put_global (λ g. IsTypedConst (filter_map imported_global v.imports) g.init g.ty.ty) Sees sees_keeps sees_same v.globals before_globals sees_first,
   )
 
   -- exports
@@ -309,7 +309,7 @@ module _ (v : FlatModule) where
   bodies_at_end = puts_keep put_segment (λ h. h.spaces.bodies ≡ length v.codes) (λ h x i. i) v.segments after_codes
       (let e = counted_codes v.codes after_elements 0 (ap (λ s. s.bodies) spaces_before_code) in omega (arith, e))
 
-  counted : length (filter_map function_of v.imports) ≡ all_spaces.imported_functions + 0
+  counted : length (filter_map imported_function v.imports) ≡ all_spaces.imported_functions + 0
   counted = omega arith
 
   -- the greatest controls so far, and those of these functions' bodies
@@ -330,7 +330,7 @@ module _ (v : FlatModule) where
   pub controls_at_end : (fs : List Function) → IsGood v → AllZip IsCodeOf fs v.codes → at_end.most.controls ≡ deepest_nesting fs
   controls_at_end fs d r =
       let one : OneResults after_elements = subst (λ s. AllByRecursion (λ f. length f.results ≤ 1) s.types) (sym spaces_before_code) d.types in
-      let g = codes_from v.codes (filter_map function_of v.imports) v.functions after_elements 0 spaces_before_code refl counted d.codes in
+      let g = codes_from v.codes (filter_map imported_function v.imports) v.functions after_elements 0 spaces_before_code refl counted d.codes in
       let e = codes_controls fs v.codes after_elements one g r in
       let n : after_elements.most.controls ≡ 0 = ap (λ s. s.controls) no_stats_before_code in
       puts_keep put_segment (λ h. h.most.controls ≡ deepest_nesting fs) (λ h x i. i) v.segments after_codes (omega (arith, e, n))
@@ -409,8 +409,8 @@ module _ (v : FlatModule) where
       let i = imports_to v.imports after_types a2.0 in
       let ts = tables_to v.tables after_functions a4.0 in
       let ms = memories_to v.memories after_tables a5.0 in
-      let one_table = count_to (filter_map table_of v.imports) v.tables i.tables ts.1 in
-      let one_memory = count_to (filter_map memory_of v.imports) v.memories i.memories ms.1 in
+      let one_table = count_to (filter_map imported_table v.imports) v.tables i.tables ts.1 in
+      let one_memory = count_to (filter_map imported_memory v.imports) v.memories i.memories ms.1 in
       let x = exports_to one_table one_memory v.exports after_globals refl a7.0 in
       record {
         types = types;
@@ -425,19 +425,19 @@ module _ (v : FlatModule) where
         names = (distinct_new (map (λ e. e.name) v.exports)).0 x.1;
         start = start_iff.0 a8.0;
         elements = (elements_iff one_table).0 a9.0;
-        codes = codes_to v.codes (filter_map function_of v.imports) v.functions after_elements 0 spaces_before_code refl counted q.paired a10.0;
+        codes = codes_to v.codes (filter_map imported_function v.imports) v.functions after_elements 0 spaces_before_code refl counted q.paired a10.0;
         segments = (segments_iff one_memory).0 a11.0;
       }
 
   pub good_taken : IsGrammatical v → IsGood v → all_taken after empty_checker (parts_by_member v) ≡ Ok at_end
   good_taken q d =
-      let ts = count_from (filter_map table_of v.imports) v.tables d.one_table in
-      let ms = count_from (filter_map memory_of v.imports) v.memories d.one_memory in
+      let ts = count_from (filter_map imported_table v.imports) v.tables d.one_table in
+      let ms = count_from (filter_map imported_memory v.imports) v.memories d.one_memory in
       let i : GoodImports after_types v.imports = record { each = d.imports; tables = ts.0; memories = ms.0 } in
       let t10 : Takes after_codes segments_left at_end = sym (ap (λ z. all_taken after after_codes z) (append-nil segments_left))
       ∙ seq_takes after segment_items (Expresses (λ s. s.offset)) GoodSegment put_segment segment_member v.segments [] after_codes at_end (expresses_all (λ s. s.offset) put_segment v.segments after_codes q.segments) ((segments_iff d.one_memory).1 d.segments) refl in
       let t9 : Takes after_elements codes_left at_end = seq_takes after code_items IsCode CodeOf put_code code_member v.codes segments_left after_elements at_end (codes_asked d.types q.codes)
-      (codes_from v.codes (filter_map function_of v.imports) v.functions after_elements 0 spaces_before_code refl counted d.codes) t10 in
+      (codes_from v.codes (filter_map imported_function v.imports) v.functions after_elements 0 spaces_before_code refl counted d.codes) t10 in
       let t8 : Takes after_start elements_left at_end = seq_takes after element_items (Expresses (λ e. e.offset)) GoodElement put_segment element_member v.elements codes_left after_start at_end (expresses_all (λ e. e.offset) put_segment v.elements after_start q.elements) ((elements_iff d.one_table).1 d.elements) t9 in
       let t7 : Takes after_exports start_left at_end = seq_takes after start_part Any GoodStart (λ h x. h) start_member (option_to_list v.start) elements_left after_exports at_end (any_all (λ h x. h) (option_to_list v.start) after_exports) (start_iff.1 d.start) t8 in
       let t6 : Takes after_globals exports_left at_end = seq_takes after export_items Any GoodExport put_export export_member v.exports start_left after_globals at_end (any_all put_export v.exports after_globals)

@@ -10,7 +10,7 @@ use Rattle.wm_syntax.specs.declared.instructions.Op.TheVariants as op
 use Rattle.wm_syntax.specs.Instructions.{Instructions, HasOps}
 use Rattle.wm_syntax.specs.Spelling.{Exactly, ◌▸◌}
 use Rattle.wm_syntax.specs.Types.{Signature}
-use Rattle.wm_syntax.specs.Modules.{Module, Function, GlobalDef, Element, Segment, function_of, global_of, all_functions, all_globals, all_tables, all_memories}
+use Rattle.wm_syntax.specs.Modules.{Module, Function, GlobalDef, Element, Segment, imported_function, imported_global, all_functions, all_globals, all_tables, all_memories}
 use Rattle.wm_syntax.specs.declared.modules.ExportKind.{ExportKind}
 use Rattle.wm_syntax.specs.declared.modules.ExportKind.TheVariants as kind
 use Rattle.wm_syntax.proofs.Bodies.{same_instructions}
@@ -167,7 +167,7 @@ context_with v f g = context v.types f g (is_some_item (flat_tables v)) (is_some
 pub made : (v : FlatModule) → IsGood v → (m : Module) × IsFlatOf m v × Valid m
 made v d =
     let fs = functions_made (flat_context v) d.types v.functions v.codes d.functions d.codes in
-    let gs = globals_made (filter_map global_of v.imports) v.globals d.globals in
+    let gs = globals_made (filter_map imported_global v.imports) v.globals d.globals in
     let es = elements_made (length (flat_tables v)) (flat_globals v) (length (flat_functions v)) v.elements d.elements in
     let ss = segments_made (length (flat_memories v)) (flat_globals v) v.segments d.segments in
     let m : Module = record {
@@ -182,8 +182,8 @@ made v d =
       elements = es.0;
       segments = ss.0;
     } in
-    let f : flat_functions v ≡ all_functions m = ap (λ z. filter_map function_of v.imports ++ z) (sym (indices fs.0 v.functions fs.1)) in
-    let g : flat_globals v ≡ all_globals m = ap (λ z. filter_map global_of v.imports ++ z) (sym (global_types gs.0 v.globals gs.1)) in
+    let f : flat_functions v ≡ all_functions m = ap (λ z. filter_map imported_function v.imports ++ z) (sym (indices fs.0 v.functions fs.1)) in
+    let g : flat_globals v ≡ all_globals m = ap (λ z. filter_map imported_global v.imports ++ z) (sym (global_types gs.0 v.globals gs.1)) in
     let same : flat_context v ≡ module_context m = ap (λ z. context_with v z (flat_globals v)) f ∙ ap (λ z. context_with v (all_functions m) z) g in (
       m,
       record {
@@ -237,8 +237,8 @@ good : (m : Module) (xs : List ℕ) (gs : List FlatGlobal) (es : List FlatElemen
     → Valid m → IsGood (flat_with m xs gs es cs ss)
 good m xs gs es cs ss i r e k s h =
     let v = flat_with m xs gs es cs ss in
-    let f : all_functions m ≡ flat_functions v = ap (λ z. filter_map function_of m.imports ++ z) (indices m.functions xs i) in
-    let g : all_globals m ≡ flat_globals v = ap (λ z. filter_map global_of m.imports ++ z) (global_types m.globals gs r) in
+    let f : all_functions m ≡ flat_functions v = ap (λ z. filter_map imported_function m.imports ++ z) (indices m.functions xs i) in
+    let g : all_globals m ≡ flat_globals v = ap (λ z. filter_map imported_global m.imports ++ z) (global_types m.globals gs r) in
     let same : module_context m ≡ flat_context v = ap (λ z. context_with v z (all_globals m)) f ∙ ap (λ z. context_with v (flat_functions v) z) g in
     let fs = functions_back (module_context m) h.types m.functions xs cs i k h.functions in
     record {
@@ -249,7 +249,7 @@ good m xs gs es cs ss i r e k s h =
       memories = h.memories;
       one_table = h.one_table;
       one_memory = h.one_memory;
-      globals = globals_back (filter_map global_of m.imports) m.globals gs r h.globals;
+      globals = globals_back (filter_map imported_global m.imports) m.globals gs r h.globals;
       exports = all_weaker (λ e. e.index < items_of m e.kind) (λ e. e.index < flat_items v e.kind) (λ e l. subst (λ n. e.index < n) (items_same m v f g refl refl e.kind) l) m.exports h.exports;
       names = pairs_to (map (λ e. e.name) m.exports) h.names;
       start = subst (λ c. IfSome m.start (λ x. function_type c x ≡ Some no_type)) same h.start;

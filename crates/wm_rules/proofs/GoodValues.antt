@@ -9,7 +9,7 @@ use Rattle.wm_syntax.specs.declared.types.Const.{Const}
 use Rattle.wm_syntax.specs.declared.instructions.Op.{Op}
 use Rattle.wm_syntax.specs.declared.modules.ExportKind.{ExportKind}
 use Rattle.wm_syntax.specs.declared.modules.ExportKind.TheVariants as kind
-use Rattle.wm_syntax.specs.Modules.{function_of, table_of, memory_of, global_of}
+use Rattle.wm_syntax.specs.Modules.{imported_function, imported_table, imported_memory, imported_global}
 use Rattle.wm_typing.specs.TypedBodies.{IsTypedBody}
 use Rattle.wm_typing.specs.Contexts.{body_context, context}
 use Rattle.wm_typing.specs.Typing.{Context, function_type}
@@ -24,16 +24,16 @@ IsTypedConst globals ops t = (c : Const) × (ops ≡ constant_ops c) × TypedCon
 
 -- the index spaces
 abbrev pub flat_functions : FlatModule → List ℕ
-flat_functions v = filter_map function_of v.imports ++ v.functions
+flat_functions v = filter_map imported_function v.imports ++ v.functions
 
 abbrev pub flat_tables : FlatModule → List Limits
-flat_tables v = filter_map table_of v.imports ++ v.tables
+flat_tables v = filter_map imported_table v.imports ++ v.tables
 
 abbrev pub flat_memories : FlatModule → List Limits
-flat_memories v = filter_map memory_of v.imports ++ v.memories
+flat_memories v = filter_map imported_memory v.imports ++ v.memories
 
 abbrev pub flat_globals : FlatModule → List GlobalType
-flat_globals v = filter_map global_of v.imports ++ map (λ g. g.ty) v.globals
+flat_globals v = filter_map imported_global v.imports ++ map (λ g. g.ty) v.globals
 
 abbrev pub flat_context : FlatModule → Context
 flat_context v =
@@ -63,7 +63,7 @@ pub record IsGood (v : FlatModule) : Type 0 where
   pub memories : AllByRecursion ValidMemory v.memories
   pub one_table : length (flat_tables v) ≤ 1
   pub one_memory : length (flat_memories v) ≤ 1
-  pub globals : AllByRecursion (λ g. IsTypedConst (filter_map global_of v.imports) g.init g.ty.ty) v.globals
+  pub globals : AllByRecursion (λ g. IsTypedConst (filter_map imported_global v.imports) g.init g.ty.ty) v.globals
   pub exports : AllByRecursion (λ e. e.index < flat_items v e.kind) v.exports
   pub names : AreDistinct (map (λ e. e.name) v.exports)
   pub start : IfSome v.start (λ x. function_type (flat_context v) x ≡ Some (record { params = []; results = [] }))

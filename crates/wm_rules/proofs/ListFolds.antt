@@ -6,7 +6,7 @@ use Rattle.wm_syntax.specs.declared.types.GlobalType.{GlobalType}
 use Rattle.wm_syntax.specs.declared.modules.ImportDesc.{ImportDesc}
 use Rattle.wm_syntax.specs.declared.modules.ImportDesc.TheVariants as desc
 use Rattle.wm_syntax.specs.Types.{Signature}
-use Rattle.wm_syntax.specs.Modules.{Import, function_of, table_of, memory_of, global_of}
+use Rattle.wm_syntax.specs.Modules.{Import, imported_function, imported_table, imported_memory, imported_global}
 use Rattle.wm_rules.specs.Validation.{ValidDesc, ValidTable, ValidMemory, is_some_item}
 use Rattle.wm_rules.specs.exact.Spaces.{one_if}
 use Rattle.wm_rules.specs.Holding.{Held}
@@ -89,18 +89,18 @@ same_imported h a c n m b d k l t u v w p q r s x y = cc
 
 abbrev pub after_imports : Held → List Import → Held
 after_imports h is =
-    imported h (h.spaces.functions ++ filter_map function_of is) (h.spaces.imported_functions + length (filter_map function_of is))
-    (h.spaces.globals ++ filter_map global_of is) (h.spaces.imported_globals + length (filter_map global_of is))
-    (is_some_item (filter_map table_of is) || h.spaces.has_table) (is_some_item (filter_map memory_of is) || h.spaces.has_memory)
+    imported h (h.spaces.functions ++ filter_map imported_function is) (h.spaces.imported_functions + length (filter_map imported_function is))
+    (h.spaces.globals ++ filter_map imported_global is) (h.spaces.imported_globals + length (filter_map imported_global is))
+    (is_some_item (filter_map imported_table is) || h.spaces.has_table) (is_some_item (filter_map imported_memory is) || h.spaces.has_memory)
 
 abbrev pub import : List ℕ → List ℕ → ImportDesc → Import
 import a b d = record { module_name = a; item_name = b; desc = d }
 
 one_import : (d : ImportDesc) (a b : List ℕ) (is : List Import) (h : Held) → after_imports (put_desc h d) is ≡ after_imports h (import a b d ∷ is)
-one_import (desc.Func x) a b is h = same_imported h _ _ _ _ _ _ _ _ _ _ _ _ (append_assoc h.spaces.functions (x ∷ []) (filter_map function_of is)) (omega arith) refl refl refl refl
-one_import (desc.Table l) a b is h = same_imported h _ _ _ _ _ _ _ _ _ _ _ _ refl refl refl refl (or_true (is_some_item (filter_map table_of is))) refl
-one_import (desc.Memory l) a b is h = same_imported h _ _ _ _ _ _ _ _ _ _ _ _ refl refl refl refl refl (or_true (is_some_item (filter_map memory_of is)))
-one_import (desc.Global g) a b is h = same_imported h _ _ _ _ _ _ _ _ _ _ _ _ refl refl (append_assoc h.spaces.globals (g ∷ []) (filter_map global_of is)) (omega arith) refl refl
+one_import (desc.Func x) a b is h = same_imported h _ _ _ _ _ _ _ _ _ _ _ _ (append_assoc h.spaces.functions (x ∷ []) (filter_map imported_function is)) (omega arith) refl refl refl refl
+one_import (desc.Table l) a b is h = same_imported h _ _ _ _ _ _ _ _ _ _ _ _ refl refl refl refl (or_true (is_some_item (filter_map imported_table is))) refl
+one_import (desc.Memory l) a b is h = same_imported h _ _ _ _ _ _ _ _ _ _ _ _ refl refl refl refl refl (or_true (is_some_item (filter_map imported_memory is)))
+one_import (desc.Global g) a b is h = same_imported h _ _ _ _ _ _ _ _ _ _ _ _ refl refl (append_assoc h.spaces.globals (g ∷ []) (filter_map imported_global is)) (omega arith) refl refl
 
 pub imports : (is : List Import) (h : Held) → puts put_import h is ≡ after_imports h is
 imports [] h = same_imported h _ _ _ _ _ _ _ _ _ _ _ _ (sym (append-nil h.spaces.functions)) (omega arith) (sym (append-nil h.spaces.globals)) (omega arith) refl refl
@@ -108,13 +108,13 @@ imports (i ∷ is) h = imports is (put_import h i) ∙ one_import i.desc i.modul
 
 pub record GoodImports (h : Held) (is : List Import) : Type 0 where
   pub each : AllByRecursion (λ i. ValidDesc (length h.spaces.types) i.desc) is
-  pub tables : one_if h.spaces.has_table + length (filter_map table_of is) ≤ 1
-  pub memories : one_if h.spaces.has_memory + length (filter_map memory_of is) ≤ 1
+  pub tables : one_if h.spaces.has_table + length (filter_map imported_table is) ≤ 1
+  pub memories : one_if h.spaces.has_memory + length (filter_map imported_memory is) ≤ 1
 
 import_to : (d : ImportDesc) (a b : List ℕ) (is : List Import) (h : Held) → GoodImportDesc h d → GoodImports (put_desc h d) is → GoodImports h (import a b d ∷ is)
 import_to (desc.Func x) a b is h g r = record { each = (g, r.each); tables = r.tables; memories = r.memories }
-import_to (desc.Table l) a b is h g r = record { each = (g.1, r.each); tables = first_one h.spaces.has_table (length (filter_map table_of is)) g.0 r.tables; memories = r.memories }
-import_to (desc.Memory l) a b is h g r = record { each = (g.1, r.each); tables = r.tables; memories = first_one h.spaces.has_memory (length (filter_map memory_of is)) g.0 r.memories }
+import_to (desc.Table l) a b is h g r = record { each = (g.1, r.each); tables = first_one h.spaces.has_table (length (filter_map imported_table is)) g.0 r.tables; memories = r.memories }
+import_to (desc.Memory l) a b is h g r = record { each = (g.1, r.each); tables = r.tables; memories = first_one h.spaces.has_memory (length (filter_map imported_memory is)) g.0 r.memories }
 import_to (desc.Global v) a b is h g r = record { each = (tt, r.each); tables = r.tables; memories = r.memories }
 
 pub imports_to : (is : List Import) (h : Held) → GoodAll GoodImport put_import h is → GoodImports h is
@@ -124,9 +124,9 @@ imports_to (i ∷ is) h g = import_to i.desc i.module_name i.item_name is h g.0 
 import_from : (d : ImportDesc) (a b : List ℕ) (is : List Import) (h : Held) → GoodImports h (import a b d ∷ is) → GoodImportDesc h d × GoodImports (put_desc h d) is
 import_from (desc.Func x) a b is h r = (r.each.0, record { each = r.each.1; tables = r.tables; memories = r.memories })
 import_from (desc.Table l) a b is h r =
-    ((none_if h.spaces.has_table (length (filter_map table_of is)) r.tables, r.each.0), record { each = r.each.1; tables = then_none h.spaces.has_table (length (filter_map table_of is)) r.tables; memories = r.memories })
+    ((none_if h.spaces.has_table (length (filter_map imported_table is)) r.tables, r.each.0), record { each = r.each.1; tables = then_none h.spaces.has_table (length (filter_map imported_table is)) r.tables; memories = r.memories })
 import_from (desc.Memory l) a b is h r =
-    ((none_if h.spaces.has_memory (length (filter_map memory_of is)) r.memories, r.each.0), record { each = r.each.1; tables = r.tables; memories = then_none h.spaces.has_memory (length (filter_map memory_of is)) r.memories })
+    ((none_if h.spaces.has_memory (length (filter_map imported_memory is)) r.memories, r.each.0), record { each = r.each.1; tables = r.tables; memories = then_none h.spaces.has_memory (length (filter_map imported_memory is)) r.memories })
 import_from (desc.Global v) a b is h r = (tt, record { each = r.each.1; tables = r.tables; memories = r.memories })
 
 pub imports_from : (is : List Import) (h : Held) → GoodImports h is → GoodAll GoodImport put_import h is

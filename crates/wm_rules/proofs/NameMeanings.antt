@@ -5,7 +5,7 @@ use Rattle.wm_syntax.specs.declared.why.Why.{Why}
 use Rattle.wm_syntax.specs.declared.why.Why.TheVariants as why
 use Rattle.wm_decode.specs.declared.refusal.Refusal.{Refusal}
 use Rattle.wm_decode.specs.Items.{items_at}
-use Rattle.wm_decode.specs.Meanings.{AtItem, IsRuleName, Meant, Means as MeansOfFormat, Meaning as MeaningOfFormat, RefusesBy}
+use Rattle.wm_decode.specs.Meanings.{AtItem, IsRuleName, Meant, MeansOfFormat, MeaningOfFormat, RefusesBy}
 use Rattle.wm_rules.specs.declared.policy.Policy.{Policy}
 use Rattle.wm_rules.specs.exact.Policing.{checker_after, checker_at_start}
 use Rattle.wm_rules.specs.Meanings.{Means, Meaning}

@@ -31,7 +31,7 @@ use Rattle.wm_decode.specs.Items.{Item, new_type, param, result_count, one_resul
 use Rattle.wm_decode.specs.Items.{function, table, memory}
 use Rattle.wm_decode.specs.Items.{global, const_op, export_name, export, start, element, element_function}
 use Rattle.wm_decode.specs.Items.{body, locals, body_op, segment}
-use Rattle.wm_decode.specs.Meanings.{AtItem, Meant, Means as MeansOfFormat}
+use Rattle.wm_decode.specs.Meanings.{AtItem, Meant, MeansOfFormat}
 use Rattle.wm_rules.specs.declared.policy.Policy.{Policy}
 use Rattle.wm_rules.specs.Holding.{IndexSpaces}
 use Rattle.wm_rules.specs.Policies.{AtMost, GoesPast}

@@ -1,3 +1,4 @@
+pub mod Floats
 pub mod Instructions
 pub mod Lengths
 pub mod Leb128

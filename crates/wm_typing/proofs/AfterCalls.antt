@@ -17,7 +17,7 @@ use Rattle.wm_typing.specs.declared.body_checker.Progress.TheVariants.{Inside, E
 use Rattle.wm_typing.specs.Typing.{Context}
 use Rattle.wm_typing.specs.Contexts.{params_of, result_of, in_function, body_context}
 use Rattle.wm_typing.specs.exact.Ops.{step}
-use Rattle.wm_typing.specs.Bodies.{BodyState, Body, Within, Twice, stats_after, body_entries}
+use Rattle.wm_typing.specs.Bodies.{BodyState, Body, WithinOps, Twice, stats_after, body_entries}
 use Rattle.wm_typing.specs.Answers.{stack_weight}
 use Rattle.wm_typing.specs.exact.Bodies.{body_at_start, declared_to, declared_more, context_in, while_open, with_state, body_from, unless_refused, body_after_op, progress_at, refused_with}
 use Rattle.wm_typing.specs.Probes.{probes_in}
@@ -64,9 +64,9 @@ open_keeps : (fs : List Frame) (types : List ValType) → 0 < length fs → whil
 open_keeps [] types l = absurd (omega (arith, l))
 open_keeps (f ∷ fs) types l = refl
 
-pub within_after : (c : Context) (n : ℕ) (b : Body) (x : Op) (z : Body) → Within n b
+pub within_after : (c : Context) (n : ℕ) (b : Body) (x : Op) (z : Body) → WithinOps n b
     → z.stats ≡ stats_after z.state.stacks (probes_in c b x) b.stats → stack_weight z.state.stacks ≤ stack_weight b.state.stacks + 4
-    → height_sum z.state.stacks ≤ height_sum b.state.stacks + 1 → Within (n + 1) z
+    → height_sum z.state.stacks ≤ height_sum b.state.stacks + 1 → WithinOps (n + 1) z
 within_after c n b x z w e h k =
     let p = op_le (params_of c b.type_index) b.declared b.state.table x in
     let o : z.stats.operands ≡ max b.stats.operands (length z.state.stacks.operands) = ap (λ s. s.operands) e in
@@ -89,7 +89,7 @@ unrefused_step c x locals ops b y a l =
     ∙ ap (λ d. body_from b (probes_in c b y) (step d b.state y)) (in_context c x locals ops b a l)
 
 pub after_ok : (c : Context) (x : ℕ) (locals : List ValType) (ops : List Op) (b : Body) (y : Op) (z : Body) → BodyAfter c x locals ops b → 0 < length b.state.stacks.frames
-    → body_after_op c y b ≡ Ok z → Within (length ops + 1) z → BodyAfter c x locals (ops ++ y ∷ []) z
+    → body_after_op c y b ≡ Ok z → WithinOps (length ops + 1) z → BodyAfter c x locals (ops ++ y ∷ []) z
 after_ok c x locals ops b y z a l e w =
     go (step (body_context c x locals) b.state y) refl (sym (unrefused_step c x locals ops b y a l) ∙ e)
   where
@@ -110,7 +110,7 @@ after_ok c x locals ops b y z a l e w =
           declared = λ o. open_keeps s.stacks.frames b.declared o ∙ a.declared l;
           emptied = λ n. ap (λ v. while_open v b.declared) n;
           keeps = f;
-          within = subst (λ v. Within v (with_state b (probes_in c b y) s)) (sym (length-append ops (y ∷ []))) (subst (λ v. Within (length ops + 1) v) (sym q) w);
+          within = subst (λ v. WithinOps v (with_state b (probes_in c b y) s)) (sym (length-append ops (y ∷ []))) (subst (λ v. WithinOps (length ops + 1) v) (sym q) w);
           nested = omega (arith, g.open_lists, a.nested, o, i);
           controls = ap (λ v. max v (length s.stacks.frames)) a.controls ∙ ap (λ v. max (deepest_so_far a.keeps.place) v) (sym n) ∙ sym g.depths;
           steady = λ h.
@@ -181,7 +181,7 @@ twice_at c x locals ops b a n l =
     let o : length b.state.stacks.operands ≡ 0 = ap length (no_operands (body_context c x locals) ops b.state.table b.state.stacks a.keeps n) in
     record { operands = omega (arith, u.most_operands, o); controls = omega (arith, u.most_controls, f) }
 
-module _ (c : Context) (x : ℕ) (locals : List ValType) (ops : List Op) (b : Body) (y : Op) (z : Body) (a : BodyAfter c x locals ops b) (l : 0 < length b.state.stacks.frames) (w : Within (length ops + 1) z) where
+module _ (c : Context) (x : ℕ) (locals : List ValType) (ops : List Op) (b : Body) (y : Op) (z : Body) (a : BodyAfter c x locals ops b) (l : 0 < length b.state.stacks.frames) (w : WithinOps (length ops + 1) z) where
   pub after_said : (r : Result Progress Why) → Answers c y b z r → OnOk r (BodyAfter c x locals (ops ++ y ∷ []) z)
   after_said (Ok p) e = after_ok c x locals ops b y z a l e w
   after_said (Err why) e = tt

@@ -37,7 +37,7 @@ stats_after s probes b = record {
 }
 
 -- what n ops allow: so many entries and moves, and 32 runs read to find a local
-pub record Within (n : ℕ) (b : Body) : Type 0 where
+pub record WithinOps (n : ℕ) (b : Body) : Type 0 where
   pub heights : height_sum b.state.stacks ≤ n + 1
   pub moves : b.state.stacks.moves + height_sum b.state.stacks ≤ 4 * n + 2
   pub counts : b.stats.moves ≡ b.state.stacks.moves

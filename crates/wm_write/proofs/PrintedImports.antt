@@ -5,7 +5,7 @@ use Rattle.std.proofs.lemmas.List.{length-take-le, take_more}
 use Rattle.std.proofs.lemmas.List.Elements.{filter_map-append}
 use Rattle.wm_syntax.specs.declared.modules.ImportDesc.{ImportDesc}
 use Rattle.wm_syntax.specs.declared.modules.ImportDesc.TheVariants.{Func, Table, Memory, Global}
-use Rattle.wm_syntax.specs.Modules.{Import, function_of, global_of, memory_of, table_of}
+use Rattle.wm_syntax.specs.Modules.{Import, imported_function, imported_global, imported_memory, imported_table}
 use Rattle.wm_write.specs.declared.print.fields.Places.{Places}
 use Rattle.wm_write.specs.Layout.{Word, import_field, import_fields, places, words_text}
 use Rattle.wm_write.specs.exact.Printing.{IsCountable, one_more}
@@ -28,16 +28,16 @@ places_more : (xs : List Import) (a b : List ℕ) (desc : ImportDesc)
     → places (xs ++ record { module_name = a; item_name = b; desc = desc } ∷ []) ≡ one_more desc (places xs)
 places_more xs a b (Func y) =
     let x : Import = record { module_name = a; item_name = b; desc = Func y } in
-    these _ _ _ _ (one_more (Func y) (places xs)) (counted function_of xs x) (omega (arith, counted table_of xs x)) (omega (arith, counted memory_of xs x)) (omega (arith, counted global_of xs x))
+    these _ _ _ _ (one_more (Func y) (places xs)) (counted imported_function xs x) (omega (arith, counted imported_table xs x)) (omega (arith, counted imported_memory xs x)) (omega (arith, counted imported_global xs x))
 places_more xs a b (Table y) =
     let x : Import = record { module_name = a; item_name = b; desc = Table y } in
-    these _ _ _ _ (one_more (Table y) (places xs)) (omega (arith, counted function_of xs x)) (counted table_of xs x) (omega (arith, counted memory_of xs x)) (omega (arith, counted global_of xs x))
+    these _ _ _ _ (one_more (Table y) (places xs)) (omega (arith, counted imported_function xs x)) (counted imported_table xs x) (omega (arith, counted imported_memory xs x)) (omega (arith, counted imported_global xs x))
 places_more xs a b (Memory y) =
     let x : Import = record { module_name = a; item_name = b; desc = Memory y } in
-    these _ _ _ _ (one_more (Memory y) (places xs)) (omega (arith, counted function_of xs x)) (omega (arith, counted table_of xs x)) (counted memory_of xs x) (omega (arith, counted global_of xs x))
+    these _ _ _ _ (one_more (Memory y) (places xs)) (omega (arith, counted imported_function xs x)) (omega (arith, counted imported_table xs x)) (counted imported_memory xs x) (omega (arith, counted imported_global xs x))
 places_more xs a b (Global y) =
     let x : Import = record { module_name = a; item_name = b; desc = Global y } in
-    these _ _ _ _ (one_more (Global y) (places xs)) (omega (arith, counted function_of xs x)) (omega (arith, counted table_of xs x)) (omega (arith, counted memory_of xs x)) (counted global_of xs x)
+    these _ _ _ _ (one_more (Global y) (places xs)) (omega (arith, counted imported_function xs x)) (omega (arith, counted imported_table xs x)) (omega (arith, counted imported_memory xs x)) (counted imported_global xs x)
 
 pub next_places : (xs : List Import) (i : ℕ) (x : Import) (desc : ImportDesc) (p q : Places) → i < length xs → x ≡ get_or xs i x → desc ≡ x.desc → p ≡ places (take i xs)
     → q ≡ one_more desc p → q ≡ places (take (i + 1) xs)
@@ -55,10 +55,10 @@ pub few_places : (xs : List Import) (i : ℕ) (p : Places) → i < length xs →
 few_places xs i p few all is =
     let short : length (take i xs) ≡ i = length-take-le i xs (omega arith) in
     subst IsCountable (sym is) (record {
-      functions = omega (arith, few_of function_of (take i xs), short, few, all);
-      tables = omega (arith, few_of table_of (take i xs), short, few, all);
-      memories = omega (arith, few_of memory_of (take i xs), short, few, all);
-      globals = omega (arith, few_of global_of (take i xs), short, few, all);
+      functions = omega (arith, few_of imported_function (take i xs), short, few, all);
+      tables = omega (arith, few_of imported_table (take i xs), short, few, all);
+      memories = omega (arith, few_of imported_memory (take i xs), short, few, all);
+      globals = omega (arith, few_of imported_global (take i xs), short, few, all);
     })
 
 -- their fields

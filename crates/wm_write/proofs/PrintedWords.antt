@@ -14,7 +14,7 @@ use Rattle.wm_syntax.specs.Runs.{runs_of}
 use Rattle.wm_write.proofs.CanonSpells.{expanded}
 use Rattle.wm_syntax.specs.declared.types.GlobalType.{GlobalType}
 use Rattle.wm_syntax.specs.declared.types.ValType.{ValType}
-use Rattle.wm_write.specs.Layout.{Word, at, closing, field_line, form, gap, global_type_words, item_words, name, parens, start_field, type_word, types_words, word_text, words_text}
+use Rattle.wm_write.specs.Layout.{Word, word_at, closing, field_line, form, gap, global_type_words, item_words, name, parens, start_field, type_word, types_words, word_text, words_text}
 use Rattle.wm_write.specs.exact.Printing.{item_front}
 use Rattle.wm_write.specs.exact.Writing.{Sent, State}
 use Rattle.wm_write.proofs.Writes.{sent_none, sent_nothing, sent_then}
@@ -40,8 +40,8 @@ sent_word x s t h = sent_same _ _ s t (sym (append-nil (word_text x))) h
 pub parens_text : (before head : List ℕ) (words : List Word) (after : List ℕ)
     → words_text (parens before head words after) ≡ (before ++ 40 ∷ head) ++ (words_text words ++ (after ++ 41 ∷ []))
 parens_text before head words after =
-    let inner : words_text (words ++ at after closing ∷ []) ≡ words_text words ++ (after ++ 41 ∷ []) =
-    flat_map-append word_text words (at after closing ∷ []) ∙ ap (λ (z : List ℕ). words_text words ++ z) (append-nil (after ++ 41 ∷ [])) in
+    let inner : words_text (words ++ word_at after closing ∷ []) ≡ words_text words ++ (after ++ 41 ∷ []) =
+    flat_map-append word_text words (word_at after closing ∷ []) ∙ ap (λ (z : List ℕ). words_text words ++ z) (append-nil (after ++ 41 ∷ [])) in
     ap (λ (z : List ℕ). (before ++ 40 ∷ []) ++ (head ++ z)) inner
     ∙ (sym (append_assoc (before ++ 40 ∷ []) head (words_text words ++ (after ++ 41 ∷ [])))
     ∙ ap (λ (z : List ℕ). z ++ (words_text words ++ (after ++ 41 ∷ []))) (append_assoc before (40 ∷ []) head))

@@ -181,20 +181,20 @@ canon m =
     ++ list_section 11 segment_bytes m.segments))))))))))
 
 -- The contents of each section can be sized: they have fewer than 2 ^ 32 bytes (section 5.5.2).
-abbrev pub Within : {X : Type 0} → (X → List ℕ) → List X → Type 0
-Within f xs = length (listed f xs) < 2 ^ 32
+abbrev pub CanBeSized : {X : Type 0} → (X → List ℕ) → List X → Type 0
+CanBeSized f xs = length (listed f xs) < 2 ^ 32
 
 pub record Fits (m : Module) : Type 0 where
-  pub types : Within signature_bytes m.types
-  pub imports : Within import_bytes m.imports
-  pub functions : Within (λ f. u32_bytes f.type_index) m.functions
-  pub tables : Within table_bytes m.tables
-  pub memories : Within limits_bytes m.memories
-  pub globals : Within global_bytes m.globals
-  pub exports : Within export_bytes m.exports
-  pub elements : Within element_bytes m.elements
-  pub codes : Within code_bytes m.functions
-  pub segments : Within segment_bytes m.segments
+  pub types : CanBeSized signature_bytes m.types
+  pub imports : CanBeSized import_bytes m.imports
+  pub functions : CanBeSized (λ f. u32_bytes f.type_index) m.functions
+  pub tables : CanBeSized table_bytes m.tables
+  pub memories : CanBeSized limits_bytes m.memories
+  pub globals : CanBeSized global_bytes m.globals
+  pub exports : CanBeSized export_bytes m.exports
+  pub elements : CanBeSized element_bytes m.elements
+  pub codes : CanBeSized code_bytes m.functions
+  pub segments : CanBeSized segment_bytes m.segments
 
 -- These bytes are no longer than any that the form describes.
 abbrev pub NoLonger : List ℕ → Form ℕ → Type 0

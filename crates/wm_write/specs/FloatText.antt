@@ -2,7 +2,7 @@
 use Rattle.std.specs.Prelude.{ℕ, zero, suc, ◌+◌, ◌-◌, ◌*◌, ◌/◌, ◌%◌, ◌^◌, ◌==◌, List, [], ◌∷◌, ◌++◌, codes}
 use Rattle.std.specs.Prelude.{decimal, if◌then◌else◌, nat_le, nat_lt}
 use Rattle.wm_syntax.specs.declared.instructions.FloatType.{FloatType}
-use Rattle.wm_syntax.specs.Opcodes.{by_float}
+use Rattle.wm_syntax.specs.Floats.{signif, expon}
 
 -- a digit below 16, in lower case
 abbrev pub hex_digit : ℕ → ℕ
@@ -40,13 +40,6 @@ finite_text n bias e =
 -- an infinity, or a NaN by its payload
 abbrev pub special_text : ℕ → List ℕ
 special_text payload = if payload == 0 then codes "inf" else codes "nan:0x" ++ hexadecimal 16 payload
-
--- The bits of a float (section 4.3.1): its sign, an exponent in so many of them, and a fraction in so many.
-abbrev pub expon : FloatType → ℕ
-expon t = by_float t 8 11
-
-abbrev pub signif : FloatType → ℕ
-signif t = by_float t 23 52
 
 -- a minus where the sign's bit is set
 abbrev pub sign_text : ℕ → ℕ → List ℕ

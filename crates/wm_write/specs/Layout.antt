@@ -25,20 +25,20 @@ use Rattle.wm_syntax.specs.declared.modules.ExportKind.{ExportKind}
 use Rattle.wm_syntax.specs.declared.modules.ExportKind.TheVariants as kind
 use Rattle.wm_syntax.specs.Instructions.{ops_of}
 use Rattle.wm_syntax.specs.Modules.{Import, Function, GlobalDef, Export, Element, Segment, Module, constant}
-use Rattle.wm_syntax.specs.Modules.{function_of, table_of, memory_of, global_of}
+use Rattle.wm_syntax.specs.Modules.{imported_function, imported_table, imported_memory, imported_global}
 use Rattle.wm_syntax.specs.Opcodes.{load, opcode, store}
 use Rattle.wm_syntax.specs.OpNames.{op_name}
-use Rattle.wm_syntax.specs.Types.{Signature}
+use Rattle.wm_syntax.specs.Types.{Signature, type_text}
 use Rattle.wm_write.specs.FloatText.{float_text, hex_digit}
 use Rattle.wm_write.specs.declared.print.fields.Places.{Places}
 
 -- What a word means, one token (section 6.2.2): a parenthesis, a string by its bytes, or an
 -- atom by its characters.
-pub data Meaning : Type 0 where
-  opening : Meaning
-  closing : Meaning
-  string : List ℕ → Meaning
-  atom : List ℕ → Meaning
+pub data WordMeaning : Type 0 where
+  opening : WordMeaning
+  closing : WordMeaning
+  string : List ℕ → WordMeaning
+  atom : List ℕ → WordMeaning
 
 -- In a string (section 6.3.3) the printable ASCII characters other than " and \ stand for themselves, and any
 -- other byte is \ and two hexadecimal digits, in lower case.
@@ -48,7 +48,7 @@ is_plain b = nat_le 0x20 b && nat_le b 0x7E && not (b == 34) && not (b == 92)
 abbrev pub escaped : ℕ → List ℕ
 escaped b = if is_plain b then b ∷ [] else 92 ∷ hex_digit (b / 16) ∷ hex_digit (b % 16) ∷ []
 
-abbrev pub meaning_text : Meaning → List ℕ
+abbrev pub meaning_text : WordMeaning → List ℕ
 meaning_text opening = 40 ∷ []
 meaning_text closing = 41 ∷ []
 meaning_text (string bytes) = 34 ∷ flat_map escaped bytes ++ 34 ∷ []
@@ -57,7 +57,7 @@ meaning_text (atom a) = a
 -- a word: the white space before it, and what it means
 pub record Word : Type 0 where
   pub space : List ℕ
-  pub means : Meaning
+  pub means : WordMeaning
 
 abbrev pub word_text : Word → List ℕ
 word_text w = w.space ++ meaning_text w.means
@@ -65,8 +65,8 @@ word_text w = w.space ++ meaning_text w.means
 abbrev pub words_text : List Word → List ℕ
 words_text words = flat_map word_text words
 
-abbrev pub at : List ℕ → Meaning → Word
-at space means = record { space = space; means = means }
+abbrev pub word_at : List ℕ → WordMeaning → Word
+word_at space means = record { space = space; means = means }
 
 -- a space; a new line with the two spaces of a field; a new line with the four spaces of
 -- what stands in a function
@@ -81,17 +81,18 @@ body_line = 10 ∷ 32 ∷ 32 ∷ 32 ∷ 32 ∷ []
 
 -- an atom, a number and a string behind a space
 abbrev pub spaced : List ℕ → Word
-spaced a = at gap (atom a)
+spaced a = word_at gap (atom a)
 
 abbrev pub number : ℕ → Word
 number n = spaced (decimal n)
 
 abbrev pub quoted : List ℕ → Word
-quoted bytes = at gap (string bytes)
+quoted bytes = word_at gap (string bytes)
 
 -- ( head words ), with white space before each of its parentheses
 abbrev pub parens : List ℕ → List ℕ → List Word → List ℕ → List Word
-parens before head words after = at before opening ∷ at [] (atom head) ∷ words ++ at after closing ∷ []
+parens before head words after =
+    word_at before opening ∷ word_at [] (atom head) ∷ words ++ word_at after closing ∷ []
 
 abbrev pub form : List ℕ → List ℕ → List Word → List Word
 form before head words = parens before head words []
@@ -116,12 +117,6 @@ abbrev pub global_name : ℕ → Word
 global_name i = name (codes "$g") i
 
 -- value types (section 6.4.1)
-abbrev pub type_text : ValType → List ℕ
-type_text I32 = codes "i32"
-type_text I64 = codes "i64"
-type_text F32 = codes "f32"
-type_text F64 = codes "f64"
-
 abbrev pub type_word : ValType → Word
 type_word t = spaced (type_text t)
 
@@ -199,7 +194,7 @@ operand_words _ = []
 -- the name of an instruction, on a line of its own; a label has none and stands behind its br_table
 abbrev pub head_words : Option (List ℕ) → List Word
 head_words None = []
-head_words (Some name) = at body_line (atom name) ∷ []
+head_words (Some name) = word_at body_line (atom name) ∷ []
 
 -- An op (section 6.5). All lines of a body are indented alike, so its words are those of
 -- its ops in their order.
@@ -225,10 +220,10 @@ type_field e =
 -- how many imports of each kind there are
 abbrev pub places : List Import → Places
 places imports = record {
-  functions = length (filter_map function_of imports);
-  tables = length (filter_map table_of imports);
-  memories = length (filter_map memory_of imports);
-  globals = length (filter_map global_of imports);
+  functions = length (filter_map imported_function imports);
+  tables = length (filter_map imported_table imports);
+  memories = length (filter_map imported_memory imports);
+  globals = length (filter_map imported_global imports);
 }
 
 -- an import (section 6.6.4), named by how many of its kind stand before it

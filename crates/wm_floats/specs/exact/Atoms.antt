@@ -6,7 +6,8 @@ use Rattle.std.specs.Char.{is_digit}
 use Rattle.std.specs.Str.Parse.{digits_value}
 use lib.Ieee.{to_bits, round}
 use Rattle.wm_syntax.specs.declared.instructions.FloatType.{FloatType}
-use Rattle.wm_floats.specs.Nearest.{signif, expon, infinity}
+use Rattle.wm_syntax.specs.Floats.{signif, expon}
+use Rattle.wm_floats.specs.Nearest.{infinity}
 use Rattle.wm_floats.specs.inner.Kit.{format_of}
 
 infixl 10 ◌>>=◌

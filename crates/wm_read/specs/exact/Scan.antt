@@ -3,7 +3,7 @@ use Rattle.std.specs.Prelude.{ℕ, suc, zero, ◌+◌, ◌*◌, ◌==◌, ◌&&�
 use Rattle.std.specs.Prelude.{Option, Some, None, if◌then◌else◌, length, nat_lt, encode_utf8, ◌≡◌, min}
 use Rattle.std.specs.Option.{option_map}
 use Rattle.wm_read.specs.Tokens.{Token, open_paren, close_paren, string, atom, is_space, is_id_char, is_lower}
-use Rattle.wm_read.specs.Tokens.{is_plain, is_scalar, digit_value}
+use Rattle.wm_read.specs.Tokens.{is_string_char, is_scalar, digit_value}
 use Rattle.wm_floats.specs.exact.Atoms.{has_form}
 use Rattle.wm_read.specs.declared.faults.TextWhy.{TextWhy}
 use Rattle.wm_read.specs.declared.faults.TextWhy.TheVariants.{BadToken, OpenComment, OpenString, BadEscape}
@@ -74,7 +74,7 @@ first_escape (Some byte) c = Byte byte
 first_escape None c = if c == 117 then On Brace else with_digit 16 c Bad (λ d. On (Low d))
 
 unfoldable pub string_step : Mode → ℕ → Step
-string_step Plain c = if c == 34 then End else if c == 92 then On Escape else if is_plain c then Byte c
+string_step Plain c = if c == 34 then End else if c == 92 then On Escape else if is_string_char c then Byte c
     else Bad
 string_step Escape c = first_escape (short_escape c) c
 string_step (Low h) c = with_digit 16 c Bad (λ d. Byte (h * 16 + d))

@@ -1,9 +1,9 @@
 -- The tokens that printed words are meant for.
 use Rattle.std.specs.Prelude.{List, map}
-use Rattle.wm_write.specs.Layout.{Meaning, Word, opening, closing, string, atom}
+use Rattle.wm_write.specs.Layout.{WordMeaning, Word, opening, closing, string, atom}
 use Rattle.wm_read.specs.Tokens as tok
 
-abbrev pub token_of : Meaning → tok.Token
+abbrev pub token_of : WordMeaning → tok.Token
 token_of opening = tok.open_paren
 token_of closing = tok.close_paren
 token_of (string bytes) = tok.string bytes

@@ -9,7 +9,7 @@ use Rattle.wm_typing.specs.Contexts.{body_context, result_of}
 use Rattle.wm_typing.specs.OpenLists.{Place, IsSoFar, levels, deepest_so_far}
 use Rattle.wm_syntax.specs.Instructions.{openings, endings}
 use Rattle.wm_typing.specs.inner.Frames.{Frames, Holds, TracksWith}
-use Rattle.wm_typing.specs.Bodies.{Body, Within}
+use Rattle.wm_typing.specs.Bodies.{Body, WithinOps}
 
 -- what the stacks hold after these ops, in the context of a body
 pub record Keeps (c : Context) (ops : List Op) (t : Option BrTable) (s : Stack) : Type 0 where
@@ -35,7 +35,7 @@ pub record BodyAfter (c : Context) (x : ℕ) (locals : List ValType) (ops : List
   pub declared : 0 < length b.state.stacks.frames → b.declared ≡ locals
   pub emptied : b.state.stacks.frames ≡ [] → b.declared ≡ []
   pub keeps : Keeps (body_context c x locals) ops b.state.table b.state.stacks
-  pub within : Within (length ops) b
+  pub within : WithinOps (length ops) b
   pub nested : levels keeps.place + endings ops ≡ openings ops + 1
   pub controls : b.stats.controls ≡ deepest_so_far keeps.place
   pub steady : b.stats.moves < 2 ^ 64 - 1 → Steady b

@@ -3,7 +3,8 @@
 ghost use Rattle.std.specs.Prelude.{◌≡◌, ◌+◌, ◌<◌, ◌≤◌, ◌++◌, ◌∷◌, ℕ, List, length, map, replicate};
 ghost use Rattle.wm_write.specs.FloatText.{hex_digit};
 ghost use Rattle.wm_write.specs.Layout.{global_type_words, is_plain, limits_words};
-ghost use Rattle.wm_write.specs.Layout.{max_words, quoted, table_words, type_text, type_use, type_word};
+ghost use Rattle.wm_syntax.specs.Types.{type_text};
+ghost use Rattle.wm_write.specs.Layout.{max_words, quoted, table_words, type_use, type_word};
 ghost use Rattle.wm_write.specs.Layout.{types_words, word_text, words_text};
 ghost use Rattle.wm_write.specs.exact.Writing.{Sent};
 

@@ -3,7 +3,8 @@ use native.Mathlib.Nat.{lt_of_lt_of_le}
 use lib.Pow.{pow_mono}
 use Rattle.core.specs.Dec2flt.Rounding.{IsSignificand}
 use Rattle.wm_syntax.specs.declared.instructions.FloatType.{FloatType}
-use Rattle.wm_floats.specs.Nearest.{signif, least}
+use Rattle.wm_syntax.specs.Floats.{signif}
+use Rattle.wm_floats.specs.Nearest.{least}
 use Rattle.wm_floats.specs.inner.Kit.{format_of}
 use Rattle.wm_floats.proofs.Bridge.{same}
 use Rattle.wm_floats.proofs.Cuts.{HasLength, significand, significand_with_zeros}
