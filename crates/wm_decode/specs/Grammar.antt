@@ -21,8 +21,9 @@ use Rattle.wm_decode.specs.Sections.{Those, SpellsDesc, SpellsRun, kind_byte, he
 use Rattle.wm_decode.specs.Items.{Item, new_type, param, result_count, one_result, import_module, import_name}
 use Rattle.wm_decode.specs.Items.{import_desc, function, table, memory, global, const_op, export_name, export}
 use Rattle.wm_decode.specs.Items.{start, element, element_function, body, locals, body_op, segment, data_byte}
-use Rattle.wm_decode.specs.MarkedForms.{MarkedForm, Empty, MarkedByte, Literal, Then, Times, Leaf, Vector}
-use Rattle.wm_decode.specs.MarkedForms.{MarkedNumber, Index, Name, Sized, Filled, Entry, nothing_at, marks_ending}
+use Rattle.wm_decode.specs.MarkedForms.{MarkedForm, Empty, MarkedByte, Literal, Then, Times, Leaf, Index}
+use Rattle.wm_decode.specs.MarkedForms.{MarkedNumber, Vector, Name, Sized, Filled, Entry, nothing_at}
+use Rattle.wm_decode.specs.MarkedForms.{marks_ending}
 
 -- these are as the format has them, or are left open
 abbrev pub strict : Type 0

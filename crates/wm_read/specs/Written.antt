@@ -3,7 +3,6 @@ use Rattle.std.specs.Prelude.{◌≡◌, ℕ, ◌<◌, ◌^◌, ◌⊎◌, List,
 use Rattle.std.specs.Prelude.{map, flat_map, slice_get, ℤ}
 use Rattle.wm_syntax.specs.Spelling.{Form, Exactly, Each, ◌▸◌, ◌∣◌}
 use Rattle.wm_syntax.specs.declared.types.ValType.{ValType}
-use Rattle.wm_syntax.specs.declared.types.ValType.TheVariants.{I32, I64, F32, F64}
 use Rattle.wm_floats.specs.FloatText.{IsFloat}
 use Rattle.wm_syntax.specs.declared.instructions.FloatType.{FloatType}
 use Rattle.wm_syntax.specs.declared.instructions.FloatType.TheVariants as float
@@ -20,6 +19,7 @@ use Rattle.wm_syntax.specs.Instructions.{choice}
 use Rattle.wm_read.specs.Tokens.{Token, open_paren, close_paren, atom, IsUnsigned, IsInteger}
 use Rattle.wm_read.specs.Identifiers.{Id, Ids, One, WritesId, Resolves, ResolvesLabel}
 
+-- this word, a keyword of the text format (section 6.3.1)
 abbrev pub Keyword : List ℕ → Form Token
 Keyword w = Exactly (atom w ∷ [])
 
