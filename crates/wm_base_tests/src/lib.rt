@@ -1,6 +1,6 @@
-//! Tests of the libraries that `wm_decode` and `wm_rules` stand on, over what they hand out. A crate with tests
-//! is proved twice, with them and without; so they stand here, above the crates that they try, and apart from
-//! those of `wm_tests`, which begin only where `wm_write` is proved.
+//! Tests of `wm_syntax`, `wm_floats`, `wm_stacks` and `wm_typing`, over what they hand out. A crate with
+//! tests is proved twice, with them and without; so they stand here, above the crates that they try, and
+//! apart from those of `wm_tests`, which begin only where `wm_write` is proved.
 #![tactic(auto)]
 
 #[cfg(test)]

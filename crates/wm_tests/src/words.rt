@@ -1,4 +1,4 @@
-//! The words of scripts: a line is a row, with a call and, behind ` = `, its answer.
+//! Words and answers of the scripts that these tests play.
 
 use std::alloc::Global;
 use std::fmt::Debug;
