@@ -169,9 +169,9 @@ impl Operands {
         self.packed.push_near(Kind::Float)
     }
 
-    /// Takes the top operand away where a look at one word shows that it is above the floor and fits, and puts
-    /// the given one in its place, if one is given. Neither is a float: its width would have to be looked at,
-    /// or written.
+    /// Takes the top operand away where a look at one word shows that it is above the floor and fits, and
+    /// puts the given one in its place, if one is given. Neither is a float: its width would have to be looked
+    /// at, or written.
     #[inline(always)]
     pub fn replace_near(&mut self, expected: ValType, given: Option<Entry>) -> bool
         ensures { DoneOrLeft (ReplacesEntries (expected ∷ []) given) result self.old self.new }
