@@ -204,7 +204,7 @@ impl Operands {
     }
 
     /// The same of a float, which one bit more tells: only in the first word of widths, so that nothing is
-    /// called. A float is given in its place only where that bit is its width.
+    /// called. A float is given in its place only where it has that type.
     #[inline(always)]
     pub fn replace_float_near(&mut self, expected: ValType, given: Option<Entry>) -> bool
         ensures { DoneOrLeft (ReplacesEntries (expected ∷ []) given) result self.old self.new }
@@ -213,8 +213,7 @@ impl Operands {
         if height == 0 || height > IN_FIRST {
             return false;
         }
-        let wide = self.widths.is_wide(height - 1);
-        if !is_of_width(expected, wide) || !has_width(given, wide) {
+        if !is_of_width(expected, self.widths.is_wide(height - 1)) || !has_type(given, expected) {
             return false;
         }
         self.packed.replace_near(Kind::Float, kind_given(given))
@@ -234,11 +233,10 @@ impl Operands {
         if height < 2 || height > IN_FIRST {
             return false;
         }
-        let wide = self.widths.is_wide(height - 2);
         if !is_of_width(top, self.widths.is_wide(height - 1)) {
             return false;
         }
-        if !is_of_width(under, wide) || !has_width(given, wide) {
+        if !is_of_width(under, self.widths.is_wide(height - 2)) || !has_type(given, under) {
             return false;
         }
         self.packed
@@ -343,14 +341,15 @@ fn is_of_width(ty: ValType, wide: bool) -> bool
     }
 }
 
-// Whether what is given is so wide, if it is a float.
+// Whether what is given has this type, if it is a float.
 #[inline(always)]
-fn has_width(given: Option<Entry>, wide: bool) -> bool
-    ensures { result ≡ true → IsTold given wide }
+fn has_type(given: Option<Entry>, ty: ValType) -> bool
+    ensures { result ≡ true → (wide : Bool) → IsTrue (fits (entry_of Kind.Float wide) ty)
+        → IsTold given wide }
 {
     match given {
-        Some(Entry::F64) => wide,
-        Some(Entry::F32) => !wide,
+        Some(Entry::F64) => ty == ValType::F64,
+        Some(Entry::F32) => ty == ValType::F32,
         Some(Entry::I32 | Entry::I64 | Entry::Unknown) => true,
         None => true,
     }
