@@ -97,7 +97,11 @@ fn moved(rt: &impl Abort, alloc: Global, stacks: &mut Stacks, call: &str) -> Str
         "push" => shown(rt, alloc, stacks.push(entry_of(rt, with))),
         "take" => shown(rt, alloc, stacks.take(&types_of(rt, alloc, with))),
         "push_float" => shown(rt, alloc, stacks.push_float_near(entry_of(rt, with))),
-        "take_float" => shown(rt, alloc, stacks.replace_float_near(type_of(rt, with), None)),
+        "take_float" => shown(
+            rt,
+            alloc,
+            stacks.replace_float_near(type_of(rt, with), None),
+        ),
         "keep_float" => {
             let (ty, given) = (type_of(rt, with), Some(entry_of(rt, with)));
             shown(rt, alloc, stacks.replace_float_near(ty, given))
