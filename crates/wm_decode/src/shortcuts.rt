@@ -31,7 +31,6 @@ pub(crate) mod chains;
 pub(crate) mod constants;
 pub(crate) mod entries;
 pub(crate) mod exports;
-pub(crate) mod float_ops;
 pub(crate) mod frame_bytes;
 pub(crate) mod frames;
 pub(crate) mod function_types;

@@ -1,7 +1,7 @@
 -- Numbers and ops that lie whole in a list of bytes, as the byte step reads them: the exact form, for the
 -- proofs above it.
 use Rattle.std.specs.Prelude.{◌≡◌, ◌≢◌, ◌≤◌, ◌<◌, ℕ, ◌^◌, nat_lt, if◌then◌else◌, ℤ, pos, ◌-ℤ◌, List, [], ◌∷◌}
-use Rattle.std.specs.Prelude.{length, slice_range, Result, Ok, Err, Option, Some, None as Nothing, slice_get}
+use Rattle.std.specs.Prelude.{length, slice_range, Result, Ok, Err, Option, Some, None as Nothing}
 use Rattle.wm_syntax.specs.declared.why.Why.{Why}
 use Rattle.wm_syntax.specs.declared.why.Why.TheVariants as why
 use Rattle.wm_syntax.specs.declared.numbers.Step.{Step}
@@ -9,7 +9,6 @@ use Rattle.wm_syntax.specs.declared.numbers.Step.TheVariants as step
 use Rattle.wm_syntax.specs.inner.Numbers.{Partial}
 use Rattle.wm_syntax.specs.exact.Reading.{fresh}
 use Rattle.wm_syntax.specs.declared.profile.Profile.{Profile}
-use Rattle.wm_syntax.specs.declared.profile.Profile.TheVariants.{One}
 use Rattle.wm_syntax.specs.declared.instructions.Op.{Op}
 use Rattle.wm_decode.specs.declared.machine.Machine.{Machine}
 use Rattle.wm_decode.specs.declared.machine.Machine.TheVariants as machine
@@ -26,8 +25,7 @@ use Rattle.wm_decode.specs.declared.step.reading.Reading.TheVariants.{More, Done
 use Rattle.wm_decode.specs.declared.step.ops.InOp.{InOp}
 use Rattle.wm_decode.specs.declared.step.ops.InOp.TheVariants.{First}
 use Rattle.wm_decode.specs.Items.{Item, body_op}
-use Rattle.wm_syntax.specs.exact.ByteTable.{class_in, classes}
-use Rattle.wm_syntax.specs.declared.instructions.op_class.OpClass.{OpClass}
+use Rattle.wm_syntax.specs.exact.ByteTable.{class_row}
 use Rattle.wm_decode.specs.exact.OpSteps.{op_push, first_step}
 use Rattle.wm_decode.specs.exact.ExpressionSteps.{at_next_op, after_op}
 
@@ -63,13 +61,9 @@ pub record LiesAt {T : Type 0} (push : Partial → ℕ → Step T × Partial) (b
 abbrev pub one_signed : ℕ → ℤ
 one_signed c = if nat_lt c (2 ^ 6) then pos c else pos c -ℤ pos (2 ^ 7)
 
--- what a byte says of an op of each profile that begins with it: what the first profile has, each has
-abbrev pub class_read : Option OpClass → Reading InOp Op
-class_read (Some c) = first_step (class_in One c)
-class_read Nothing = Bad why.BadOpcode
-
-abbrev pub first_read : ℕ → Reading InOp Op
-first_read c = class_read (slice_get classes c)
+-- what a byte says of an op that begins with it
+abbrev pub first_read : Profile → ℕ → Reading InOp Op
+first_read p c = first_step (class_row p c)
 
 -- an op of each profile that lies whole in a list, from a place on up to another, and how many blocks are
 -- open before and after it
