@@ -91,6 +91,16 @@ fn end(profile: Profile, bytes: &[u8], at: usize, depth: u32) -> Option<Read>
 }
 
 #[inline(always)]
+fn numeric(profile: Profile, bytes: &[u8], at: usize, depth: u32, op: Numeric) -> Option<Read>
+    requires within { at < length bytes.now }
+    requires class { class_row profile (slice_index bytes.now at)
+        ≡ OpClass.Plain (Op.Simple (Simple.Numeric op)) }
+    ensures { IfSome result (λ r. OpUnder profile bytes.now at r.next depth r.depth r.op) }
+{
+    alone(profile, bytes, at, depth, Op::Simple(Simple::Numeric(op)))
+}
+
+#[inline(always)]
 #[tactic(auto, using(crate::proofs::OpLists::whole_index))]
 pub(crate) fn with_index(bytes: &[u8], at: usize, depth: u32, op: Indexed) -> Option<Read>
     requires within { at + 1 < length bytes.now }
@@ -404,84 +414,6 @@ fn give<S: Sink>(sink: &mut S, room: usize, read: Option<Read>) -> Took
     }
 }
 
-// Reads and gives a numeric op.
-#[inline(always)]
-#[tactic(auto, using(crate::proofs::OpLists::gave_took))]
-fn give_numeric<S: Sink>(
-    sink: &mut S,
-    profile: Profile,
-    bytes: &[u8],
-    at: usize,
-    depth: u32,
-    room: usize,
-    op: Numeric,
-) -> Took
-    requires within { at < length bytes.now }
-    requires class { class_row profile (slice_index bytes.now at)
-        ≡ OpClass.Plain (Op.Simple (Simple.Numeric op)) }
-    ensures { TookAs S.after profile (S.held sink.old) bytes.now at depth room result (S.held sink.new) }
-{
-    let op = Op::Simple(Simple::Numeric(op));
-    give(sink, room, alone(profile, bytes, at, depth, op))
-}
-
-// Reads and gives a load or a store.
-#[inline(always)]
-fn give_access<S: Sink>(
-    sink: &mut S,
-    profile: Profile,
-    bytes: &[u8],
-    at: usize,
-    depth: u32,
-    room: usize,
-    op: LoadOrStore,
-) -> Took
-    requires within { at + 1 < length bytes.now }
-    requires class { class_row profile (slice_index bytes.now at) ≡ access_class op }
-    ensures { TookAs S.after profile (S.held sink.old) bytes.now at depth room result (S.held sink.new) }
-{
-    give(sink, room, access(profile, bytes, at, depth, op))
-}
-
-// Takes the comparison, the unary op or the sign extension at a place. Each kind has its own code, here and in
-// `take_float`: so the sink knows the kind.
-#[inline(always)]
-#[tactic(auto, using(crate::proofs::OpLists::gave_took))]
-fn take_numeric<S: Sink>(
-    sink: &mut S,
-    profile: Profile,
-    bytes: &[u8],
-    at: usize,
-    depth: u32,
-    room: usize,
-) -> Took
-    requires { at + 1 < length bytes.now }
-    ensures { TookAs S.after profile (S.held sink.old) bytes.now at depth room result (S.held sink.new) }
-{
-    let Some(op) = numeric_of(profile, bytes[at]) else {
-        return Took::Left;
-    };
-    match op {
-        Numeric::Compare(I64, op) => {
-            let op = Numeric::Compare(I64, op);
-            give_numeric(sink, profile, bytes, at, depth, room, op)
-        }
-        Numeric::Unary(I32, op) => {
-            let op = Numeric::Unary(I32, op);
-            give_numeric(sink, profile, bytes, at, depth, room, op)
-        }
-        Numeric::Unary(I64, op) => {
-            let op = Numeric::Unary(I64, op);
-            give_numeric(sink, profile, bytes, at, depth, room, op)
-        }
-        Numeric::SignExtend(op) => {
-            let op = Numeric::SignExtend(op);
-            give_numeric(sink, profile, bytes, at, depth, room, op)
-        }
-        _ => Took::Left,
-    }
-}
-
 // Takes the op on floating-point numbers at a place.
 #[inline(never)]
 #[tactic(auto, using(crate::proofs::OpLists::gave_took))]
@@ -499,75 +431,57 @@ fn take_float<S: Sink>(
     if !profile.has(Feature::Floats) {
         return Took::Left;
     }
-    match bytes[at] {
+    let byte = bytes[at];
+    match byte {
         0x2A => {
             let op = LoadOrStore::Load(LoadOp::F32Load);
-            give_access(sink, profile, bytes, at, depth, room, op)
+            give(sink, room, access(profile, bytes, at, depth, op))
         }
         0x2B => {
             let op = LoadOrStore::Load(LoadOp::F64Load);
-            give_access(sink, profile, bytes, at, depth, room, op)
+            give(sink, room, access(profile, bytes, at, depth, op))
         }
         0x38 => {
             let op = LoadOrStore::Store(StoreOp::F32Store);
-            give_access(sink, profile, bytes, at, depth, room, op)
+            give(sink, room, access(profile, bytes, at, depth, op))
         }
         0x39 => {
             let op = LoadOrStore::Store(StoreOp::F64Store);
-            give_access(sink, profile, bytes, at, depth, room, op)
+            give(sink, room, access(profile, bytes, at, depth, op))
         }
         0x43 => give(sink, room, float_32(profile, bytes, at, depth)),
         0x44 => give(sink, room, float_64(profile, bytes, at, depth)),
-        _ => take_float_numeric(sink, profile, bytes, at, depth, room),
-    }
-}
-
-#[inline(always)]
-#[tactic(auto, using(crate::proofs::OpLists::gave_took))]
-fn take_float_numeric<S: Sink>(
-    sink: &mut S,
-    profile: Profile,
-    bytes: &[u8],
-    at: usize,
-    depth: u32,
-    room: usize,
-) -> Took
-    requires { at + 1 < length bytes.now }
-    ensures { TookAs S.after profile (S.held sink.old) bytes.now at depth room result (S.held sink.new) }
-{
-    let Some(op) = numeric_of(profile, bytes[at]) else {
-        return Took::Left;
-    };
-    match op {
-        Numeric::FloatCompare(F32, op) => {
-            let op = Numeric::FloatCompare(F32, op);
-            give_numeric(sink, profile, bytes, at, depth, room, op)
-        }
-        Numeric::FloatCompare(F64, op) => {
-            let op = Numeric::FloatCompare(F64, op);
-            give_numeric(sink, profile, bytes, at, depth, room, op)
-        }
-        Numeric::FloatUnary(F32, op) => {
-            let op = Numeric::FloatUnary(F32, op);
-            give_numeric(sink, profile, bytes, at, depth, room, op)
-        }
-        Numeric::FloatUnary(F64, op) => {
-            let op = Numeric::FloatUnary(F64, op);
-            give_numeric(sink, profile, bytes, at, depth, room, op)
-        }
-        Numeric::FloatBinary(F32, op) => {
-            let op = Numeric::FloatBinary(F32, op);
-            give_numeric(sink, profile, bytes, at, depth, room, op)
-        }
-        Numeric::FloatBinary(F64, op) => {
-            let op = Numeric::FloatBinary(F64, op);
-            give_numeric(sink, profile, bytes, at, depth, room, op)
-        }
-        Numeric::Convert(op) => {
-            let op = Numeric::Convert(op);
-            give_numeric(sink, profile, bytes, at, depth, room, op)
-        }
-        _ => Took::Left,
+        _ => match numeric_of(profile, byte) {
+            Some(Numeric::FloatCompare(F32, op)) => {
+                let op = Numeric::FloatCompare(F32, op);
+                give(sink, room, numeric(profile, bytes, at, depth, op))
+            }
+            Some(Numeric::FloatCompare(F64, op)) => {
+                let op = Numeric::FloatCompare(F64, op);
+                give(sink, room, numeric(profile, bytes, at, depth, op))
+            }
+            Some(Numeric::FloatUnary(F32, op)) => {
+                let op = Numeric::FloatUnary(F32, op);
+                give(sink, room, numeric(profile, bytes, at, depth, op))
+            }
+            Some(Numeric::FloatUnary(F64, op)) => {
+                let op = Numeric::FloatUnary(F64, op);
+                give(sink, room, numeric(profile, bytes, at, depth, op))
+            }
+            Some(Numeric::FloatBinary(F32, op)) => {
+                let op = Numeric::FloatBinary(F32, op);
+                give(sink, room, numeric(profile, bytes, at, depth, op))
+            }
+            Some(Numeric::FloatBinary(F64, op)) => {
+                let op = Numeric::FloatBinary(F64, op);
+                give(sink, room, numeric(profile, bytes, at, depth, op))
+            }
+            Some(Numeric::Convert(op)) => {
+                let op = Numeric::Convert(op);
+                give(sink, room, numeric(profile, bytes, at, depth, op))
+            }
+            _ => Took::Left,
+        },
     }
 }
 
@@ -614,29 +528,29 @@ fn take_common<S: Sink>(
         0x24 => give(sink, room, with_index(bytes, at, depth, Indexed::GlobalSet)),
         0x28 => {
             let op = LoadOrStore::Load(LoadOp::I32Load);
-            give_access(sink, profile, bytes, at, depth, room, op)
+            give(sink, room, access(profile, bytes, at, depth, op))
         }
         0x36 => {
             let op = LoadOrStore::Store(StoreOp::I32Store);
-            give_access(sink, profile, bytes, at, depth, room, op)
+            give(sink, room, access(profile, bytes, at, depth, op))
         }
         0x41 => give(sink, room, const_32(bytes, at, depth)),
         0x42 => give(sink, room, const_64(bytes, at, depth)),
         0x45 => {
             let op = Numeric::Test(I32);
-            give_numeric(sink, profile, bytes, at, depth, room, op)
+            give(sink, room, numeric(profile, bytes, at, depth, op))
         }
         0x46..=0x4F => {
             let op = Numeric::Compare(I32, compares_32(profile, byte));
-            give_numeric(sink, profile, bytes, at, depth, room, op)
+            give(sink, room, numeric(profile, bytes, at, depth, op))
         }
         0x6A..=0x78 => {
             let op = Numeric::Binary(I32, binary_32(profile, byte));
-            give_numeric(sink, profile, bytes, at, depth, room, op)
+            give(sink, room, numeric(profile, bytes, at, depth, op))
         }
         0x7C..=0x8A => {
             let op = Numeric::Binary(I64, binary_64(profile, byte));
-            give_numeric(sink, profile, bytes, at, depth, room, op)
+            give(sink, room, numeric(profile, bytes, at, depth, op))
         }
         _ => Took::Left,
     }
@@ -670,44 +584,62 @@ fn take_uncommon<S: Sink>(
         }
         0x29 => {
             let op = LoadOrStore::Load(LoadOp::I64Load);
-            give_access(sink, profile, bytes, at, depth, room, op)
+            give(sink, room, access(profile, bytes, at, depth, op))
         }
         0x2C..=0x2F => {
             let op = LoadOrStore::Load(narrow_loads_32(profile, byte));
-            give_access(sink, profile, bytes, at, depth, room, op)
+            give(sink, room, access(profile, bytes, at, depth, op))
         }
         0x30..=0x35 => {
             let op = LoadOrStore::Load(narrow_loads_64(profile, byte));
-            give_access(sink, profile, bytes, at, depth, room, op)
+            give(sink, room, access(profile, bytes, at, depth, op))
         }
         0x37 => {
             let op = LoadOrStore::Store(StoreOp::I64Store);
-            give_access(sink, profile, bytes, at, depth, room, op)
+            give(sink, room, access(profile, bytes, at, depth, op))
         }
         0x3A..=0x3E => {
             let op = LoadOrStore::Store(narrow_stores(profile, byte));
-            give_access(sink, profile, bytes, at, depth, room, op)
+            give(sink, room, access(profile, bytes, at, depth, op))
         }
         0x3F => give(sink, room, memory(bytes, at, depth, Sizing::Size)),
         0x40 => give(sink, room, memory(bytes, at, depth, Sizing::Grow)),
         0x50 => {
             let op = Numeric::Test(I64);
-            give_numeric(sink, profile, bytes, at, depth, room, op)
+            give(sink, room, numeric(profile, bytes, at, depth, op))
         }
         0x51..=0x5A | 0x67..=0x69 | 0x79..=0x7B | 0xC0..=0xC4 => {
-            take_numeric(sink, profile, bytes, at, depth, room)
+            match numeric_of(profile, byte) {
+                Some(Numeric::Compare(I64, op)) => {
+                    let op = Numeric::Compare(I64, op);
+                    give(sink, room, numeric(profile, bytes, at, depth, op))
+                }
+                Some(Numeric::Unary(I32, op)) => {
+                    let op = Numeric::Unary(I32, op);
+                    give(sink, room, numeric(profile, bytes, at, depth, op))
+                }
+                Some(Numeric::Unary(I64, op)) => {
+                    let op = Numeric::Unary(I64, op);
+                    give(sink, room, numeric(profile, bytes, at, depth, op))
+                }
+                Some(Numeric::SignExtend(op)) => {
+                    let op = Numeric::SignExtend(op);
+                    give(sink, room, numeric(profile, bytes, at, depth, op))
+                }
+                _ => Took::Left,
+            }
         }
         0xA7 => {
             let op = Numeric::Wrap;
-            give_numeric(sink, profile, bytes, at, depth, room, op)
+            give(sink, room, numeric(profile, bytes, at, depth, op))
         }
         0xAC => {
             let op = Numeric::ExtendS;
-            give_numeric(sink, profile, bytes, at, depth, room, op)
+            give(sink, room, numeric(profile, bytes, at, depth, op))
         }
         0xAD => {
             let op = Numeric::ExtendU;
-            give_numeric(sink, profile, bytes, at, depth, room, op)
+            give(sink, room, numeric(profile, bytes, at, depth, op))
         }
         _ => take_float(sink, profile, bytes, at, depth, room),
     }
