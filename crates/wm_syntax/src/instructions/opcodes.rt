@@ -42,15 +42,16 @@ pub fn op_of(profile: Profile, byte: u8) -> OpClass
     within(profile, class_at(byte))
 }
 
-/// The numeric instruction of the profile that begins with this byte (section 5.4.5), without what an `OpClass`
-/// has room for.
+/// The numeric instruction of the profile that begins with this byte (section 5.4.5): a small value, where an
+/// `OpClass` is a large one.
 #[inline(always)]
 pub fn numeric_of(profile: Profile, byte: u8) -> Option<NumericOp>
     // Each numeric instruction of the profile is found at its byte, and none at another.
     ensures found { (op : NumericOp) → (numeric op).byte ≡ byte → HasSimple profile (Simple.Numeric op)
         → result ≡ Some op }
     ensures only { IfSome result (λ op. ((numeric op).byte ≡ byte) × HasSimple profile (Simple.Numeric op)) }
-    ensures exact { IfSome result (λ op. class_row profile byte ≡ OpClass.Plain (Op.Simple (Simple.Numeric op))) }
+    ensures exact { IfSome result (λ op. class_row profile byte
+        ≡ OpClass.Plain (Op.Simple (Simple.Numeric op))) }
 {
     let op = as_numeric(class_at(byte))?;
     if !profile.has(feature_of_simple(Numeric(op))) {
