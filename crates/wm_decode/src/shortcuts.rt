@@ -41,6 +41,7 @@ pub(crate) mod in_body;
 pub(crate) mod in_section;
 pub(crate) mod indices;
 pub(crate) mod limited;
+pub(crate) mod op_groups;
 pub(crate) mod segments;
 pub(crate) mod short_bytes;
 pub(crate) mod short_steps;

@@ -9,9 +9,9 @@ use Rattle.wm_syntax.specs.declared.instructions.op_class.Immediates.{Immediates
 use Rattle.wm_syntax.specs.declared.instructions.op_class.Immediates.TheVariants as k
 use Rattle.wm_syntax.specs.declared.instructions.op_class.OpClass.{OpClass}
 use Rattle.wm_syntax.specs.declared.instructions.op_class.OpClass.TheVariants.{Plain, With, Float, None}
-use Rattle.wm_syntax.specs.Opcodes.{numeric, opcode}
+use Rattle.wm_syntax.specs.Opcodes.{opcode}
 use Rattle.wm_syntax.specs.OpClasses.{class_of, first_byte, is_float, IsClassOfOp}
-use Rattle.wm_syntax.specs.exact.ByteTable.{classes, class_feature, class_in, left_out, numeric_in}
+use Rattle.wm_syntax.specs.exact.ByteTable.{classes, class_feature, class_in, left_out}
 use Rattle.wm_syntax.specs.Profiles.{IsOpOf, feature_of, has}
 use Rattle.wm_syntax.specs.declared.profile.Feature.{Feature}
 use Rattle.wm_syntax.specs.declared.profile.Feature.TheVariants.{Base, Floats, SignExtension}
@@ -26,7 +26,6 @@ use Rattle.wm_syntax.specs.declared.instructions.Simple.{Simple}
 use Rattle.wm_syntax.specs.declared.instructions.Comparison.TheVariants.{Eq}
 use Rattle.wm_syntax.specs.declared.instructions.UnaryOp.TheVariants.{Clz}
 use Rattle.wm_syntax.specs.declared.instructions.BinaryOp.TheVariants.{Add}
-use Rattle.wm_syntax.specs.declared.instructions.Numeric.{Numeric}
 use Rattle.wm_syntax.specs.declared.instructions.Numeric.TheVariants.{Test, Compare, Unary, Binary, FloatCompare, FloatUnary, FloatBinary, Convert, SignExtend}
 use Rattle.wm_syntax.specs.declared.instructions.SignExtension.TheVariants.{I32From8}
 use Rattle.wm_syntax.specs.declared.instructions.LoadOp.TheVariants.{I32Load, F32Load, F64Load}
@@ -225,19 +224,6 @@ sample_begins byte c e i = go c i (subst (λ (m : ℕ). begins m c ≡ true) (le
     go (With kind) i t = (is_at_means (first_byte (sample (With kind))) byte t, with_class kind)
     go Float i t = absurd i
     go None i t = absurd i
-
--- a numeric instruction by the class of its byte
-numeric_class : (c : OpClass) (o : Numeric) → numeric_in c ≡ Some o → c ≡ Plain (op.Simple (s.Numeric o))
-numeric_class (Plain (op.Simple (s.Numeric x))) o e = ap (λ y. Plain (op.Simple (s.Numeric y))) (some_injective e)
-numeric_class _ o e = cc
-
-module _ (byte : ℕ) (c : OpClass) (row : slice_get classes byte ≡ Some c) where
-  pub numeric_found : (o : Numeric) → (numeric o).byte ≡ byte → numeric_in c ≡ Some o
-  numeric_found o at = ap numeric_in (found_op byte c row (op.Simple (s.Numeric o)) (ap Some at))
-
-  pub numeric_byte : (o : Numeric) → numeric_in c ≡ Some o → (numeric o).byte ≡ byte
-  unfolding sample
-  numeric_byte o e = some_injective (sample_begins byte (Plain (op.Simple (s.Numeric o))) (row ∙ ap Some (numeric_class c o e)) tt).0
 
 -- The same under a profile: an op has a class of its feature.
 simple_feature : (i : Simple) → class_feature (class_of (op.Simple i)) ≡ feature_of i

@@ -4,26 +4,27 @@
 
 ghost use Rattle.std.specs.Prelude.{◌≡◌, ◌+◌, ◌<◌, ◌≤◌, ◌^◌, ℕ, IfSome, Some, length, slice_index};
 ghost use Rattle.wm_syntax.specs.declared.profile.Profile.{Profile};
-ghost use Rattle.wm_syntax.specs.exact.ByteTable.{class_row};
 ghost use Rattle.wm_syntax.specs.exact.Reading.{fresh};
 ghost use Rattle.wm_decode.specs.declared.step.reading.Reading.TheVariants.{More, Done};
 ghost use Rattle.wm_decode.specs.declared.step.ops.InOp.TheVariants.{BlockType, CallType, Const32};
 ghost use Rattle.wm_decode.specs.declared.step.ops.InOp.TheVariants.{Const64, Memory};
 ghost use Rattle.wm_decode.specs.exact.OpSteps.{access_class, fresh_index, index_op};
 ghost use Rattle.wm_decode.specs.exact.ExpressionSteps.{after_op, at_next_op};
-ghost use Rattle.wm_decode.specs.exact.WholeOps.{GaveAs, OpUnder, RanTo, TookAs, WholeOp, first_read};
+ghost use Rattle.wm_decode.specs.exact.WholeOps.{GaveAs, OpUnder, RanTo, TookAs, WholeOp};
+ghost use Rattle.wm_decode.specs.exact.WholeOps.{class_row, first_read};
 
 use crate::item::Item;
+use crate::shortcuts::op_groups::{
+    binary, comparison, conversion, float_binary, float_comparison, float_unary, narrow_load,
+    narrow_store, sign_extension, unary,
+};
 use crate::shortcuts::whole_numbers::{s32_at, s64_at, u32_at};
 use crate::sink::Sink;
 use crate::step::ops::{Indexed, LoadOrStore, Opening, Sizing, push_32, push_64};
 use wm_syntax::instructions::FloatType::{F32, F64};
 use wm_syntax::instructions::IntType::{I32, I64};
 use wm_syntax::instructions::op_class::{Immediates, OpClass};
-use wm_syntax::instructions::opcodes::numeric_of;
-use wm_syntax::instructions::{
-    BinaryOp, Comparison, IntType, LoadOp, MemArg, Numeric, Op, Simple, StoreOp,
-};
+use wm_syntax::instructions::{LoadOp, MemArg, Numeric, Op, Simple, StoreOp};
 use wm_syntax::profile::{Feature, Profile};
 use wm_syntax::types::ValType;
 use wm_syntax::why::Why;
@@ -227,132 +228,6 @@ fn memory(bytes: &[u8], at: usize, depth: u32, op: Sizing) -> Option<Read>
     })
 }
 
-// The ops of a group, by their bytes.
-
-#[inline(always)]
-fn narrow_loads_32(profile: Profile, byte: u8) -> LoadOp
-    requires from { 0x2C ≤ byte }
-    requires to { byte ≤ 0x2F }
-    ensures { class_row profile byte ≡ OpClass.With (Immediates.Load result) }
-{
-    match byte {
-        0x2C => LoadOp::I32Load8S,
-        0x2D => LoadOp::I32Load8U,
-        0x2E => LoadOp::I32Load16S,
-        0x2F => LoadOp::I32Load16U,
-        _ => unreachable!(),
-    }
-}
-
-#[inline(always)]
-fn narrow_loads_64(profile: Profile, byte: u8) -> LoadOp
-    requires from { 0x30 ≤ byte }
-    requires to { byte ≤ 0x35 }
-    ensures { class_row profile byte ≡ OpClass.With (Immediates.Load result) }
-{
-    match byte {
-        0x30 => LoadOp::I64Load8S,
-        0x31 => LoadOp::I64Load8U,
-        0x32 => LoadOp::I64Load16S,
-        0x33 => LoadOp::I64Load16U,
-        0x34 => LoadOp::I64Load32S,
-        0x35 => LoadOp::I64Load32U,
-        _ => unreachable!(),
-    }
-}
-
-#[inline(always)]
-fn narrow_stores(profile: Profile, byte: u8) -> StoreOp
-    requires from { 0x3A ≤ byte }
-    requires to { byte ≤ 0x3E }
-    ensures { class_row profile byte ≡ OpClass.With (Immediates.Store result) }
-{
-    match byte {
-        0x3A => StoreOp::I32Store8,
-        0x3B => StoreOp::I32Store16,
-        0x3C => StoreOp::I64Store8,
-        0x3D => StoreOp::I64Store16,
-        0x3E => StoreOp::I64Store32,
-        _ => unreachable!(),
-    }
-}
-
-#[inline(always)]
-fn compares_32(profile: Profile, byte: u8) -> Comparison
-    requires from { 0x46 ≤ byte }
-    requires to { byte ≤ 0x4F }
-    ensures { class_row profile byte
-        ≡ OpClass.Plain (Op.Simple (Simple.Numeric (Numeric.Compare IntType.I32 result))) }
-{
-    match byte {
-        0x46 => Comparison::Eq,
-        0x47 => Comparison::Ne,
-        0x48 => Comparison::LtS,
-        0x49 => Comparison::LtU,
-        0x4A => Comparison::GtS,
-        0x4B => Comparison::GtU,
-        0x4C => Comparison::LeS,
-        0x4D => Comparison::LeU,
-        0x4E => Comparison::GeS,
-        0x4F => Comparison::GeU,
-        _ => unreachable!(),
-    }
-}
-
-#[inline(always)]
-fn binary_32(profile: Profile, byte: u8) -> BinaryOp
-    requires from { 0x6A ≤ byte }
-    requires to { byte ≤ 0x78 }
-    ensures { class_row profile byte
-        ≡ OpClass.Plain (Op.Simple (Simple.Numeric (Numeric.Binary IntType.I32 result))) }
-{
-    match byte {
-        0x6A => BinaryOp::Add,
-        0x6B => BinaryOp::Sub,
-        0x6C => BinaryOp::Mul,
-        0x6D => BinaryOp::DivS,
-        0x6E => BinaryOp::DivU,
-        0x6F => BinaryOp::RemS,
-        0x70 => BinaryOp::RemU,
-        0x71 => BinaryOp::And,
-        0x72 => BinaryOp::Or,
-        0x73 => BinaryOp::Xor,
-        0x74 => BinaryOp::Shl,
-        0x75 => BinaryOp::ShrS,
-        0x76 => BinaryOp::ShrU,
-        0x77 => BinaryOp::Rotl,
-        0x78 => BinaryOp::Rotr,
-        _ => unreachable!(),
-    }
-}
-
-#[inline(always)]
-fn binary_64(profile: Profile, byte: u8) -> BinaryOp
-    requires from { 0x7C ≤ byte }
-    requires to { byte ≤ 0x8A }
-    ensures { class_row profile byte
-        ≡ OpClass.Plain (Op.Simple (Simple.Numeric (Numeric.Binary IntType.I64 result))) }
-{
-    match byte {
-        0x7C => BinaryOp::Add,
-        0x7D => BinaryOp::Sub,
-        0x7E => BinaryOp::Mul,
-        0x7F => BinaryOp::DivS,
-        0x80 => BinaryOp::DivU,
-        0x81 => BinaryOp::RemS,
-        0x82 => BinaryOp::RemU,
-        0x83 => BinaryOp::And,
-        0x84 => BinaryOp::Or,
-        0x85 => BinaryOp::Xor,
-        0x86 => BinaryOp::Shl,
-        0x87 => BinaryOp::ShrS,
-        0x88 => BinaryOp::ShrU,
-        0x89 => BinaryOp::Rotl,
-        0x8A => BinaryOp::Rotr,
-        _ => unreachable!(),
-    }
-}
-
 // The floating-point constants, where the profile has them.
 
 fn float_32(profile: Profile, bytes: &[u8], at: usize, depth: u32) -> Option<Read>
@@ -451,37 +326,35 @@ fn take_float<S: Sink>(
         }
         0x43 => give(sink, room, float_32(profile, bytes, at, depth)),
         0x44 => give(sink, room, float_64(profile, bytes, at, depth)),
-        _ => match numeric_of(profile, byte) {
-            Some(Numeric::FloatCompare(F32, op)) => {
-                let op = Numeric::FloatCompare(F32, op);
-                give(sink, room, numeric(profile, bytes, at, depth, op))
-            }
-            Some(Numeric::FloatCompare(F64, op)) => {
-                let op = Numeric::FloatCompare(F64, op);
-                give(sink, room, numeric(profile, bytes, at, depth, op))
-            }
-            Some(Numeric::FloatUnary(F32, op)) => {
-                let op = Numeric::FloatUnary(F32, op);
-                give(sink, room, numeric(profile, bytes, at, depth, op))
-            }
-            Some(Numeric::FloatUnary(F64, op)) => {
-                let op = Numeric::FloatUnary(F64, op);
-                give(sink, room, numeric(profile, bytes, at, depth, op))
-            }
-            Some(Numeric::FloatBinary(F32, op)) => {
-                let op = Numeric::FloatBinary(F32, op);
-                give(sink, room, numeric(profile, bytes, at, depth, op))
-            }
-            Some(Numeric::FloatBinary(F64, op)) => {
-                let op = Numeric::FloatBinary(F64, op);
-                give(sink, room, numeric(profile, bytes, at, depth, op))
-            }
-            Some(Numeric::Convert(op)) => {
-                let op = Numeric::Convert(op);
-                give(sink, room, numeric(profile, bytes, at, depth, op))
-            }
-            _ => Took::Left,
-        },
+        0x5B..=0x60 => {
+            let op = Numeric::FloatCompare(F32, float_comparison(byte));
+            give(sink, room, numeric(profile, bytes, at, depth, op))
+        }
+        0x61..=0x66 => {
+            let op = Numeric::FloatCompare(F64, float_comparison(byte));
+            give(sink, room, numeric(profile, bytes, at, depth, op))
+        }
+        0x8B..=0x91 => {
+            let op = Numeric::FloatUnary(F32, float_unary(byte));
+            give(sink, room, numeric(profile, bytes, at, depth, op))
+        }
+        0x92..=0x98 => {
+            let op = Numeric::FloatBinary(F32, float_binary(byte));
+            give(sink, room, numeric(profile, bytes, at, depth, op))
+        }
+        0x99..=0x9F => {
+            let op = Numeric::FloatUnary(F64, float_unary(byte));
+            give(sink, room, numeric(profile, bytes, at, depth, op))
+        }
+        0xA0..=0xA6 => {
+            let op = Numeric::FloatBinary(F64, float_binary(byte));
+            give(sink, room, numeric(profile, bytes, at, depth, op))
+        }
+        0xA8..=0xAB | 0xAE..=0xBF => {
+            let op = Numeric::Convert(conversion(byte));
+            give(sink, room, numeric(profile, bytes, at, depth, op))
+        }
+        _ => Took::Left,
     }
 }
 
@@ -541,15 +414,15 @@ fn take_common<S: Sink>(
             give(sink, room, numeric(profile, bytes, at, depth, op))
         }
         0x46..=0x4F => {
-            let op = Numeric::Compare(I32, compares_32(profile, byte));
+            let op = Numeric::Compare(I32, comparison(byte));
             give(sink, room, numeric(profile, bytes, at, depth, op))
         }
         0x6A..=0x78 => {
-            let op = Numeric::Binary(I32, binary_32(profile, byte));
+            let op = Numeric::Binary(I32, binary(byte));
             give(sink, room, numeric(profile, bytes, at, depth, op))
         }
         0x7C..=0x8A => {
-            let op = Numeric::Binary(I64, binary_64(profile, byte));
+            let op = Numeric::Binary(I64, binary(byte));
             give(sink, room, numeric(profile, bytes, at, depth, op))
         }
         _ => Took::Left,
@@ -587,11 +460,11 @@ fn take_uncommon<S: Sink>(
             give(sink, room, access(profile, bytes, at, depth, op))
         }
         0x2C..=0x2F => {
-            let op = LoadOrStore::Load(narrow_loads_32(profile, byte));
+            let op = LoadOrStore::Load(narrow_load(byte));
             give(sink, room, access(profile, bytes, at, depth, op))
         }
         0x30..=0x35 => {
-            let op = LoadOrStore::Load(narrow_loads_64(profile, byte));
+            let op = LoadOrStore::Load(narrow_load(byte));
             give(sink, room, access(profile, bytes, at, depth, op))
         }
         0x37 => {
@@ -599,7 +472,7 @@ fn take_uncommon<S: Sink>(
             give(sink, room, access(profile, bytes, at, depth, op))
         }
         0x3A..=0x3E => {
-            let op = LoadOrStore::Store(narrow_stores(profile, byte));
+            let op = LoadOrStore::Store(narrow_store(byte));
             give(sink, room, access(profile, bytes, at, depth, op))
         }
         0x3F => give(sink, room, memory(bytes, at, depth, Sizing::Size)),
@@ -608,26 +481,17 @@ fn take_uncommon<S: Sink>(
             let op = Numeric::Test(I64);
             give(sink, room, numeric(profile, bytes, at, depth, op))
         }
-        0x51..=0x5A | 0x67..=0x69 | 0x79..=0x7B | 0xC0..=0xC4 => {
-            match numeric_of(profile, byte) {
-                Some(Numeric::Compare(I64, op)) => {
-                    let op = Numeric::Compare(I64, op);
-                    give(sink, room, numeric(profile, bytes, at, depth, op))
-                }
-                Some(Numeric::Unary(I32, op)) => {
-                    let op = Numeric::Unary(I32, op);
-                    give(sink, room, numeric(profile, bytes, at, depth, op))
-                }
-                Some(Numeric::Unary(I64, op)) => {
-                    let op = Numeric::Unary(I64, op);
-                    give(sink, room, numeric(profile, bytes, at, depth, op))
-                }
-                Some(Numeric::SignExtend(op)) => {
-                    let op = Numeric::SignExtend(op);
-                    give(sink, room, numeric(profile, bytes, at, depth, op))
-                }
-                _ => Took::Left,
-            }
+        0x51..=0x5A => {
+            let op = Numeric::Compare(I64, comparison(byte));
+            give(sink, room, numeric(profile, bytes, at, depth, op))
+        }
+        0x67..=0x69 => {
+            let op = Numeric::Unary(I32, unary(byte));
+            give(sink, room, numeric(profile, bytes, at, depth, op))
+        }
+        0x79..=0x7B => {
+            let op = Numeric::Unary(I64, unary(byte));
+            give(sink, room, numeric(profile, bytes, at, depth, op))
         }
         0xA7 => {
             let op = Numeric::Wrap;
@@ -639,6 +503,13 @@ fn take_uncommon<S: Sink>(
         }
         0xAD => {
             let op = Numeric::ExtendU;
+            give(sink, room, numeric(profile, bytes, at, depth, op))
+        }
+        0xC0..=0xC4 => {
+            if !profile.has(Feature::SignExtension) {
+                return Took::Left;
+            }
+            let op = Numeric::SignExtend(sign_extension(byte));
             give(sink, room, numeric(profile, bytes, at, depth, op))
         }
         _ => take_float(sink, profile, bytes, at, depth, room),

@@ -4,8 +4,6 @@
 use Rattle.std.specs.Prelude.{ℕ, List, Option, Some, None as Nothing, slice_get}
 use Rattle.std.specs.Prelude.{if◌then◌else◌}
 use Rattle.wm_syntax.specs.declared.instructions.LoadOp.TheVariants.{F32Load, F64Load}
-use Rattle.wm_syntax.specs.declared.instructions.Numeric.{Numeric}
-use Rattle.wm_syntax.specs.declared.instructions.Simple.TheVariants as s
 use Rattle.wm_syntax.specs.declared.instructions.StoreOp.TheVariants.{F32Store, F64Store}
 use Rattle.wm_syntax.specs.declared.instructions.Op.TheVariants as op
 use Rattle.wm_syntax.specs.declared.instructions.op_class.Immediates.TheVariants as k
@@ -20,11 +18,6 @@ use Rattle.wm_syntax.specs.Profiles.{feature_of, has}
 -- what each byte begins, from 00 to FF: the code's own table
 abbrev pub classes : List OpClass
 classes = CLASSES
-
--- the numeric instruction of a class
-abbrev pub numeric_in : OpClass → Option Numeric
-numeric_in (Plain (op.Simple (s.Numeric o))) = Some o
-numeric_in _ = Nothing
 
 -- the feature of the ops of a class
 abbrev pub class_feature : OpClass → Feature
@@ -51,9 +44,5 @@ row_in p (Some c) = class_in p c
 row_in p Nothing = None
 
 -- what a byte begins under a profile; what is no byte begins nothing
-abbrev pub class_row : Profile → ℕ → OpClass
-class_row p byte = row_in p (slice_get classes byte)
-
--- the same, which is looked up only where a proof asks for it
 unfoldable pub class_under : Profile → ℕ → OpClass
-class_under p byte = class_row p byte
+class_under p byte = row_in p (slice_get classes byte)

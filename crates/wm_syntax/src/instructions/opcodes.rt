@@ -1,14 +1,12 @@
 //! Which instruction a byte begins, and which byte an instruction (section 5.4).
 
-ghost use Rattle.std.specs.Prelude.{◌≡◌, ◌↔◌, IfSome, IsTrue, IsFalse, Some, slice_get};
-ghost use Rattle.wm_syntax.specs.declared.instructions.Numeric.{Numeric as NumericOp};
+ghost use Rattle.std.specs.Prelude.{◌≡◌, ◌↔◌, IsTrue, IsFalse, slice_get};
 ghost use Rattle.wm_syntax.specs.declared.instructions.Op.{Op};
-ghost use Rattle.wm_syntax.specs.exact.ByteTable.{class_feature, class_in, class_row, class_under, classes};
-ghost use Rattle.wm_syntax.specs.exact.ByteTable.{left_out, numeric_in};
+ghost use Rattle.wm_syntax.specs.exact.ByteTable.{class_feature, class_in, class_under, classes, left_out};
 ghost use Rattle.wm_syntax.specs.Opcodes.{binary, comparison, conversion, float_binary, float_comparison};
 ghost use Rattle.wm_syntax.specs.Opcodes.{float_unary, load, numeric, opcode, store, unary};
 ghost use Rattle.wm_syntax.specs.OpClasses.{IsClassOfOp, class_of, first_byte, is_float};
-ghost use Rattle.wm_syntax.specs.Profiles.{HasSimple, IsOpOf, feature_of, has};
+ghost use Rattle.wm_syntax.specs.Profiles.{IsOpOf, feature_of, has};
 ghost use Rattle.wm_syntax.specs.declared.profile.Feature.TheVariants.{Floats};
 
 use crate::instructions::FloatType::{F32, F64};
@@ -40,35 +38,6 @@ pub fn op_of(profile: Profile, byte: u8) -> OpClass
     ensures exact { result ≡ class_under profile byte }
 {
     within(profile, class_at(byte))
-}
-
-/// The numeric instruction of the profile that begins with this byte (section 5.4.5): a small value, where an
-/// `OpClass` is a large one.
-#[inline(always)]
-pub fn numeric_of(profile: Profile, byte: u8) -> Option<NumericOp>
-    // Each numeric instruction of the profile is found at its byte, and none at another.
-    ensures found { (op : NumericOp) → (numeric op).byte ≡ byte → HasSimple profile (Simple.Numeric op)
-        → result ≡ Some op }
-    ensures only { IfSome result (λ op. ((numeric op).byte ≡ byte) × HasSimple profile (Simple.Numeric op)) }
-    ensures exact { IfSome result (λ op. class_row profile byte
-        ≡ OpClass.Plain (Op.Simple (Simple.Numeric op))) }
-{
-    let op = as_numeric(class_at(byte))?;
-    if !profile.has(feature_of_simple(Numeric(op))) {
-        return None;
-    }
-    Some(op)
-}
-
-// The numeric instruction of a class
-#[inline(always)]
-fn as_numeric(class: OpClass) -> Option<NumericOp>
-    ensures { result ≡ numeric_in class }
-{
-    match class {
-        Plain(Op::Simple(Numeric(op))) => Some(op),
-        _ => None,
-    }
 }
 
 fn within(profile: Profile, class: OpClass) -> OpClass
@@ -108,7 +77,6 @@ fn feature_of_class(class: OpClass) -> Feature
 }
 
 // What an instruction belongs to.
-#[inline(always)]
 fn feature_of_simple(simple: Simple) -> Feature
     ensures { result ≡ feature_of simple }
 {
@@ -404,7 +372,6 @@ static CLASSES: [OpClass; 256] = [
 ];
 
 // What this byte begins under the profile that has all features.
-#[inline(always)]
 fn class_at(byte: u8) -> OpClass
     ensures { slice_get classes byte ≡ Some result }
 {
