@@ -107,6 +107,11 @@ immediates k.F64Const = at.Float64 7 0
 immediates (k.Load o) = fresh_access (accesses.Load o)
 immediates (k.Store o) = fresh_access (accesses.Store o)
 
+-- the class of a load or a store
+abbrev pub access_class : LoadOrStore → OpClass
+access_class (accesses.Load o) = With (k.Load o)
+access_class (accesses.Store o) = With (k.Store o)
+
 -- the first byte, by its class
 abbrev pub first_step : OpClass → Reading InOp Op
 first_step (Plain o) = Done o

@@ -9,7 +9,6 @@ use Rattle.wm_syntax.specs.declared.numbers.Step.TheVariants as step
 use Rattle.wm_syntax.specs.inner.Numbers.{Partial}
 use Rattle.wm_syntax.specs.exact.Reading.{fresh}
 use Rattle.wm_syntax.specs.declared.profile.Profile.{Profile}
-use Rattle.wm_syntax.specs.declared.profile.Profile.TheVariants.{One}
 use Rattle.wm_syntax.specs.declared.instructions.Op.{Op}
 use Rattle.wm_decode.specs.declared.machine.Machine.{Machine}
 use Rattle.wm_decode.specs.declared.machine.Machine.TheVariants as machine
@@ -26,9 +25,15 @@ use Rattle.wm_decode.specs.declared.step.reading.Reading.TheVariants.{More, Done
 use Rattle.wm_decode.specs.declared.step.ops.InOp.{InOp}
 use Rattle.wm_decode.specs.declared.step.ops.InOp.TheVariants.{First}
 use Rattle.wm_decode.specs.Items.{Item, body_op}
-use Rattle.wm_syntax.specs.exact.ByteTable.{class_in, classes}
+use Rattle.wm_syntax.specs.declared.instructions.Numeric.{Numeric}
+use Rattle.wm_syntax.specs.declared.instructions.Simple.TheVariants as s
+use Rattle.wm_syntax.specs.declared.instructions.Op.TheVariants as op
 use Rattle.wm_syntax.specs.declared.instructions.op_class.OpClass.{OpClass}
-use Rattle.wm_decode.specs.exact.OpSteps.{op_push, first_step}
+use Rattle.wm_syntax.specs.declared.instructions.op_class.OpClass.TheVariants.{Plain}
+use Rattle.wm_syntax.specs.declared.profile.Feature.TheVariants.{Base}
+use Rattle.wm_syntax.specs.exact.ByteTable.{class_feature, classes, row_in}
+use Rattle.wm_decode.specs.declared.step.ops.LoadOrStore.{LoadOrStore}
+use Rattle.wm_decode.specs.exact.OpSteps.{access_class, op_push, first_step}
 use Rattle.wm_decode.specs.exact.ExpressionSteps.{at_next_op, after_op}
 
 -- what a byte leaves of a number: the number with no byte after it, or what goes on
@@ -63,13 +68,21 @@ pub record LiesAt {T : Type 0} (push : Partial → ℕ → Step T × Partial) (b
 abbrev pub one_signed : ℕ → ℤ
 one_signed c = if nat_lt c (2 ^ 6) then pos c else pos c -ℤ pos (2 ^ 7)
 
--- what a byte says of an op of each profile that begins with it: what the first profile has, each has
-abbrev pub class_read : Option OpClass → Reading InOp Op
-class_read (Some c) = first_step (class_in One c)
-class_read Nothing = Bad why.BadOpcode
+-- what a byte begins under a profile, as its row of the table says
+abbrev pub class_row : Profile → ℕ → OpClass
+class_row p byte = row_in p (slice_get classes byte)
 
-abbrev pub first_read : ℕ → Reading InOp Op
-first_read c = class_read (slice_get classes c)
+-- the byte begins this numeric op under the profile that has all features
+abbrev pub HasNumeric : ℕ → Numeric → Type 0
+HasNumeric byte o = slice_get classes byte ≡ Some (Plain (op.Simple (s.Numeric o)))
+
+-- the byte begins this load or store under every profile
+abbrev pub HasAccess : ℕ → LoadOrStore → Type 0
+HasAccess byte a = (slice_get classes byte ≡ Some (access_class a)) × (class_feature (access_class a) ≡ Base)
+
+-- what a byte says of an op that begins with it
+abbrev pub first_read : Profile → ℕ → Reading InOp Op
+first_read p c = first_step (class_row p c)
 
 -- an op of each profile that lies whole in a list, from a place on up to another, and how many blocks are
 -- open before and after it

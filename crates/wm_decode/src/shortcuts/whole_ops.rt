@@ -2,31 +2,29 @@
 //!
 //! What is rare, and all that is refused for its bytes, is left to the byte step.
 
-ghost use Rattle.std.specs.Prelude.{◌≡◌, ◌+◌, ◌<◌, ◌≤◌, ◌^◌, ℕ, IfSome, Some, length, slice_get};
-ghost use Rattle.std.specs.Prelude.{slice_index, true};
-ghost use Rattle.wm_syntax.specs.Profiles.{has};
-ghost use Rattle.wm_syntax.specs.exact.ByteTable.{class_feature, class_under, classes};
+ghost use Rattle.std.specs.Prelude.{◌≡◌, ◌+◌, ◌<◌, ◌≤◌, ◌^◌, ℕ, IfSome, Some, length, slice_index};
+ghost use Rattle.wm_syntax.specs.declared.profile.Profile.{Profile};
 ghost use Rattle.wm_syntax.specs.exact.Reading.{fresh};
 ghost use Rattle.wm_decode.specs.declared.step.reading.Reading.TheVariants.{More, Done};
 ghost use Rattle.wm_decode.specs.declared.step.ops.InOp.TheVariants.{BlockType, CallType, Const32};
 ghost use Rattle.wm_decode.specs.declared.step.ops.InOp.TheVariants.{Const64, Memory};
-ghost use Rattle.wm_decode.specs.exact.OpSteps.{fresh_access, fresh_index, immediates, index_op};
+ghost use Rattle.wm_decode.specs.exact.OpSteps.{access_class, fresh_index, index_op};
 ghost use Rattle.wm_decode.specs.exact.ExpressionSteps.{after_op, at_next_op};
-ghost use Rattle.wm_decode.specs.exact.WholeOps.{GaveAs, OpUnder, RanTo, TookAs, WholeOp, first_read};
+ghost use Rattle.wm_decode.specs.exact.WholeOps.{GaveAs, OpUnder, RanTo, TookAs, WholeOp};
+ghost use Rattle.wm_decode.specs.exact.WholeOps.{class_row, first_read};
 
 use crate::item::Item;
-use crate::shortcuts::float_ops::{
-    binary_f32, binary_f64, compares_f32, compares_f64, converts, sign_extends, truncates_32,
-    unary_f32, unary_f64,
+use crate::shortcuts::op_groups::{
+    binary, comparison, conversion, float_binary, float_comparison, float_unary, narrow_load,
+    narrow_store, sign_extension, unary,
 };
 use crate::shortcuts::whole_numbers::{s32_at, s64_at, u32_at};
 use crate::sink::Sink;
 use crate::step::ops::{Indexed, LoadOrStore, Opening, Sizing, push_32, push_64};
+use wm_syntax::instructions::FloatType::{F32, F64};
 use wm_syntax::instructions::IntType::{I32, I64};
 use wm_syntax::instructions::op_class::{Immediates, OpClass};
-use wm_syntax::instructions::{
-    BinaryOp, Comparison, FloatType, IntType, LoadOp, MemArg, Numeric, Op, Simple, StoreOp, UnaryOp,
-};
+use wm_syntax::instructions::{LoadOp, MemArg, Numeric, Op, Simple, StoreOp};
 use wm_syntax::profile::{Feature, Profile};
 use wm_syntax::types::ValType;
 use wm_syntax::why::Why;
@@ -60,15 +58,16 @@ pub(crate) struct Ran {
     pub(crate) refused: Option<Why>,
 }
 
-// Readers of the ops after whose first byte comes nothing, an index, a type, a number or two.
+// Readers of the ops after whose first byte comes nothing, an index, a type, a number or two. The profile is
+// named where not every one has the op.
 
 #[inline(always)]
-#[tactic(auto, using(crate::proofs::OpLists::whole_alone))]
-fn alone(bytes: &[u8], at: usize, depth: u32, op: Op) -> Option<Read>
+#[tactic(auto, using(crate::proofs::OpLists::under_alone))]
+fn alone(profile: Profile, bytes: &[u8], at: usize, depth: u32, op: Op) -> Option<Read>
     requires within { at < length bytes.now }
-    requires first { first_read (slice_index bytes.now at) ≡ Done op }
+    requires class { class_row profile (slice_index bytes.now at) ≡ OpClass.Plain op }
     requires opens { after_op depth op ≡ at_next_op depth }
-    ensures { IfSome result (λ r. WholeOp bytes.now at r.next depth r.depth r.op) }
+    ensures { IfSome result (λ r. OpUnder profile bytes.now at r.next depth r.depth r.op) }
 {
     prove!(at < bytes.len());
     let next = at + 1;
@@ -76,11 +75,10 @@ fn alone(bytes: &[u8], at: usize, depth: u32, op: Op) -> Option<Read>
 }
 
 #[inline(always)]
-#[tactic(auto, using(crate::proofs::OpLists::whole_alone))]
-fn end(bytes: &[u8], at: usize, depth: u32) -> Option<Read>
+fn end(profile: Profile, bytes: &[u8], at: usize, depth: u32) -> Option<Read>
     requires within { at < length bytes.now }
-    requires first { first_read (slice_index bytes.now at) ≡ Done Op.End }
-    ensures { IfSome result (λ r. WholeOp bytes.now at r.next depth r.depth r.op) }
+    requires class { class_row profile (slice_index bytes.now at) ≡ OpClass.Plain Op.End }
+    ensures { IfSome result (λ r. OpUnder profile bytes.now at r.next depth r.depth r.op) }
 {
     prove!(at < bytes.len());
     if depth == 0 {
@@ -94,19 +92,20 @@ fn end(bytes: &[u8], at: usize, depth: u32) -> Option<Read>
 }
 
 #[inline(always)]
-fn numeric(bytes: &[u8], at: usize, depth: u32, op: Numeric) -> Option<Read>
+fn numeric(profile: Profile, bytes: &[u8], at: usize, depth: u32, op: Numeric) -> Option<Read>
     requires within { at < length bytes.now }
-    requires first { first_read (slice_index bytes.now at) ≡ Done (Op.Simple (Simple.Numeric op)) }
-    ensures { IfSome result (λ r. WholeOp bytes.now at r.next depth r.depth r.op) }
+    requires class { class_row profile (slice_index bytes.now at)
+        ≡ OpClass.Plain (Op.Simple (Simple.Numeric op)) }
+    ensures { IfSome result (λ r. OpUnder profile bytes.now at r.next depth r.depth r.op) }
 {
-    alone(bytes, at, depth, Op::Simple(Simple::Numeric(op)))
+    alone(profile, bytes, at, depth, Op::Simple(Simple::Numeric(op)))
 }
 
 #[inline(always)]
 #[tactic(auto, using(crate::proofs::OpLists::whole_index))]
 pub(crate) fn with_index(bytes: &[u8], at: usize, depth: u32, op: Indexed) -> Option<Read>
     requires within { at + 1 < length bytes.now }
-    requires first { first_read (slice_index bytes.now at) ≡ More (fresh_index op) }
+    requires first { (p : Profile) → first_read p (slice_index bytes.now at) ≡ More (fresh_index op) }
     requires opens { (n : ℕ) → after_op depth (index_op op n) ≡ at_next_op depth }
     ensures { IfSome result (λ r. WholeOp bytes.now at r.next depth r.depth r.op) }
 {
@@ -118,12 +117,12 @@ pub(crate) fn with_index(bytes: &[u8], at: usize, depth: u32, op: Indexed) -> Op
     })
 }
 
+// A load or a store
 #[inline(always)]
-#[tactic(auto, using(crate::proofs::OpLists::whole_access))]
-fn with_arg(bytes: &[u8], at: usize, depth: u32, op: LoadOrStore) -> Option<Read>
+fn access(profile: Profile, bytes: &[u8], at: usize, depth: u32, op: LoadOrStore) -> Option<Read>
     requires within { at + 1 < length bytes.now }
-    requires first { first_read (slice_index bytes.now at) ≡ More (fresh_access op) }
-    ensures { IfSome result (λ r. WholeOp bytes.now at r.next depth r.depth r.op) }
+    requires class { class_row profile (slice_index bytes.now at) ≡ access_class op }
+    ensures { IfSome result (λ r. OpUnder profile bytes.now at r.next depth r.depth r.op) }
 {
     let align = u32_at(bytes, at + 1)?;
     if align.next >= bytes.len() {
@@ -145,7 +144,7 @@ fn with_arg(bytes: &[u8], at: usize, depth: u32, op: LoadOrStore) -> Option<Read
 #[tactic(auto, using(crate::proofs::OpLists::whole_const_32))]
 pub(crate) fn const_32(bytes: &[u8], at: usize, depth: u32) -> Option<Read>
     requires within { at + 1 < length bytes.now }
-    requires first { first_read (slice_index bytes.now at) ≡ More (Const32 fresh) }
+    requires first { (p : Profile) → first_read p (slice_index bytes.now at) ≡ More (Const32 fresh) }
     ensures { IfSome result (λ r. WholeOp bytes.now at r.next depth r.depth r.op) }
 {
     let number = s32_at(bytes, at + 1)?;
@@ -160,7 +159,7 @@ pub(crate) fn const_32(bytes: &[u8], at: usize, depth: u32) -> Option<Read>
 #[tactic(auto, using(crate::proofs::OpLists::whole_const_64))]
 pub(crate) fn const_64(bytes: &[u8], at: usize, depth: u32) -> Option<Read>
     requires within { at + 1 < length bytes.now }
-    requires first { first_read (slice_index bytes.now at) ≡ More (Const64 fresh) }
+    requires first { (p : Profile) → first_read p (slice_index bytes.now at) ≡ More (Const64 fresh) }
     ensures { IfSome result (λ r. WholeOp bytes.now at r.next depth r.depth r.op) }
 {
     let number = s64_at(bytes, at + 1)?;
@@ -175,7 +174,7 @@ pub(crate) fn const_64(bytes: &[u8], at: usize, depth: u32) -> Option<Read>
 #[tactic(auto, using(crate::proofs::OpLists::whole_block))]
 fn with_type(bytes: &[u8], at: usize, depth: u32, op: Opening) -> Option<Read>
     requires within { at + 1 < length bytes.now }
-    requires first { first_read (slice_index bytes.now at) ≡ More (BlockType op) }
+    requires first { (p : Profile) → first_read p (slice_index bytes.now at) ≡ More (BlockType op) }
     ensures { IfSome result (λ r. WholeOp bytes.now at r.next depth r.depth r.op) }
 {
     if depth == u32::MAX {
@@ -198,7 +197,7 @@ fn with_type(bytes: &[u8], at: usize, depth: u32, op: Opening) -> Option<Read>
 #[inline(always)]
 fn call_indirect(bytes: &[u8], at: usize, depth: u32) -> Option<Read>
     requires within { at + 1 < length bytes.now }
-    requires first { first_read (slice_index bytes.now at) ≡ More (CallType fresh) }
+    requires first { (p : Profile) → first_read p (slice_index bytes.now at) ≡ More (CallType fresh) }
     ensures { IfSome result (λ r. WholeOp bytes.now at r.next depth r.depth r.op) }
 {
     let ty = u32_at(bytes, at + 1)?;
@@ -216,7 +215,7 @@ fn call_indirect(bytes: &[u8], at: usize, depth: u32) -> Option<Read>
 #[inline(always)]
 fn memory(bytes: &[u8], at: usize, depth: u32, op: Sizing) -> Option<Read>
     requires within { at + 1 < length bytes.now }
-    requires first { first_read (slice_index bytes.now at) ≡ More (Memory op) }
+    requires first { (p : Profile) → first_read p (slice_index bytes.now at) ≡ More (Memory op) }
     ensures { IfSome result (λ r. WholeOp bytes.now at r.next depth r.depth r.op) }
 {
     if bytes[at + 1] != 0x00 {
@@ -229,231 +228,11 @@ fn memory(bytes: &[u8], at: usize, depth: u32, op: Sizing) -> Option<Read>
     })
 }
 
-// The ops of a group, by their bytes.
+// The floating-point constants, where the profile has them.
 
-#[inline(always)]
-fn narrow_loads_32(byte: u8) -> LoadOp
-    requires from { 0x2C ≤ byte }
-    requires to { byte ≤ 0x2F }
-    ensures { first_read byte ≡ More (fresh_access (LoadOrStore.Load result)) }
-{
-    match byte {
-        0x2C => LoadOp::I32Load8S,
-        0x2D => LoadOp::I32Load8U,
-        0x2E => LoadOp::I32Load16S,
-        0x2F => LoadOp::I32Load16U,
-        _ => unreachable!(),
-    }
-}
-
-#[inline(always)]
-fn narrow_loads_64(byte: u8) -> LoadOp
-    requires from { 0x30 ≤ byte }
-    requires to { byte ≤ 0x35 }
-    ensures { first_read byte ≡ More (fresh_access (LoadOrStore.Load result)) }
-{
-    match byte {
-        0x30 => LoadOp::I64Load8S,
-        0x31 => LoadOp::I64Load8U,
-        0x32 => LoadOp::I64Load16S,
-        0x33 => LoadOp::I64Load16U,
-        0x34 => LoadOp::I64Load32S,
-        0x35 => LoadOp::I64Load32U,
-        _ => unreachable!(),
-    }
-}
-
-#[inline(always)]
-fn narrow_stores(byte: u8) -> StoreOp
-    requires from { 0x3A ≤ byte }
-    requires to { byte ≤ 0x3E }
-    ensures { first_read byte ≡ More (fresh_access (LoadOrStore.Store result)) }
-{
-    match byte {
-        0x3A => StoreOp::I32Store8,
-        0x3B => StoreOp::I32Store16,
-        0x3C => StoreOp::I64Store8,
-        0x3D => StoreOp::I64Store16,
-        0x3E => StoreOp::I64Store32,
-        _ => unreachable!(),
-    }
-}
-
-#[inline(always)]
-fn compares_32(byte: u8) -> Comparison
-    requires from { 0x46 ≤ byte }
-    requires to { byte ≤ 0x4F }
-    ensures { first_read byte ≡ Done (Op.Simple (Simple.Numeric (Numeric.Compare IntType.I32 result))) }
-{
-    match byte {
-        0x46 => Comparison::Eq,
-        0x47 => Comparison::Ne,
-        0x48 => Comparison::LtS,
-        0x49 => Comparison::LtU,
-        0x4A => Comparison::GtS,
-        0x4B => Comparison::GtU,
-        0x4C => Comparison::LeS,
-        0x4D => Comparison::LeU,
-        0x4E => Comparison::GeS,
-        0x4F => Comparison::GeU,
-        _ => unreachable!(),
-    }
-}
-
-#[inline(always)]
-fn compares_64(byte: u8) -> Comparison
-    requires from { 0x51 ≤ byte }
-    requires to { byte ≤ 0x5A }
-    ensures { first_read byte ≡ Done (Op.Simple (Simple.Numeric (Numeric.Compare IntType.I64 result))) }
-{
-    match byte {
-        0x51 => Comparison::Eq,
-        0x52 => Comparison::Ne,
-        0x53 => Comparison::LtS,
-        0x54 => Comparison::LtU,
-        0x55 => Comparison::GtS,
-        0x56 => Comparison::GtU,
-        0x57 => Comparison::LeS,
-        0x58 => Comparison::LeU,
-        0x59 => Comparison::GeS,
-        0x5A => Comparison::GeU,
-        _ => unreachable!(),
-    }
-}
-
-#[inline(always)]
-fn unary_32(byte: u8) -> UnaryOp
-    requires from { 0x67 ≤ byte }
-    requires to { byte ≤ 0x69 }
-    ensures { first_read byte ≡ Done (Op.Simple (Simple.Numeric (Numeric.Unary IntType.I32 result))) }
-{
-    match byte {
-        0x67 => UnaryOp::Clz,
-        0x68 => UnaryOp::Ctz,
-        0x69 => UnaryOp::Popcnt,
-        _ => unreachable!(),
-    }
-}
-
-#[inline(always)]
-fn unary_64(byte: u8) -> UnaryOp
-    requires from { 0x79 ≤ byte }
-    requires to { byte ≤ 0x7B }
-    ensures { first_read byte ≡ Done (Op.Simple (Simple.Numeric (Numeric.Unary IntType.I64 result))) }
-{
-    match byte {
-        0x79 => UnaryOp::Clz,
-        0x7A => UnaryOp::Ctz,
-        0x7B => UnaryOp::Popcnt,
-        _ => unreachable!(),
-    }
-}
-
-#[inline(always)]
-fn binary_32(byte: u8) -> BinaryOp
-    requires from { 0x6A ≤ byte }
-    requires to { byte ≤ 0x78 }
-    ensures { first_read byte ≡ Done (Op.Simple (Simple.Numeric (Numeric.Binary IntType.I32 result))) }
-{
-    match byte {
-        0x6A => BinaryOp::Add,
-        0x6B => BinaryOp::Sub,
-        0x6C => BinaryOp::Mul,
-        0x6D => BinaryOp::DivS,
-        0x6E => BinaryOp::DivU,
-        0x6F => BinaryOp::RemS,
-        0x70 => BinaryOp::RemU,
-        0x71 => BinaryOp::And,
-        0x72 => BinaryOp::Or,
-        0x73 => BinaryOp::Xor,
-        0x74 => BinaryOp::Shl,
-        0x75 => BinaryOp::ShrS,
-        0x76 => BinaryOp::ShrU,
-        0x77 => BinaryOp::Rotl,
-        0x78 => BinaryOp::Rotr,
-        _ => unreachable!(),
-    }
-}
-
-#[inline(always)]
-fn binary_64(byte: u8) -> BinaryOp
-    requires from { 0x7C ≤ byte }
-    requires to { byte ≤ 0x8A }
-    ensures { first_read byte ≡ Done (Op.Simple (Simple.Numeric (Numeric.Binary IntType.I64 result))) }
-{
-    match byte {
-        0x7C => BinaryOp::Add,
-        0x7D => BinaryOp::Sub,
-        0x7E => BinaryOp::Mul,
-        0x7F => BinaryOp::DivS,
-        0x80 => BinaryOp::DivU,
-        0x81 => BinaryOp::RemS,
-        0x82 => BinaryOp::RemU,
-        0x83 => BinaryOp::And,
-        0x84 => BinaryOp::Or,
-        0x85 => BinaryOp::Xor,
-        0x86 => BinaryOp::Shl,
-        0x87 => BinaryOp::ShrS,
-        0x88 => BinaryOp::ShrU,
-        0x89 => BinaryOp::Rotl,
-        0x8A => BinaryOp::Rotr,
-        _ => unreachable!(),
-    }
-}
-
-// The ops on floating-point numbers and the sign extensions, where the profile has them.
-
-#[inline(always)]
-#[tactic(auto, using(crate::proofs::OpLists::under_plain))]
-fn plain(profile: Profile, bytes: &[u8], at: usize, depth: u32, op: Simple) -> Option<Read>
-    requires within { at < length bytes.now }
-    requires class { class_under profile (slice_index bytes.now at) ≡ OpClass.Plain (Op.Simple op) }
-    ensures { IfSome result (λ r. OpUnder profile bytes.now at r.next depth r.depth r.op) }
-{
-    prove!(at < bytes.len());
-    let next = at + 1;
-    Some(Read {
-        op: Op::Simple(op),
-        next,
-        depth,
-    })
-}
-
-// A load or a store
-#[inline(always)]
-fn access(
-    profile: Profile,
-    bytes: &[u8],
-    at: usize,
-    depth: u32,
-    kind: Immediates,
-    op: LoadOrStore,
-) -> Option<Read>
-    requires within { at + 1 < length bytes.now }
-    requires class { class_under profile (slice_index bytes.now at) ≡ OpClass.With kind }
-    requires kind { immediates kind ≡ fresh_access op }
-    ensures { IfSome result (λ r. OpUnder profile bytes.now at r.next depth r.depth r.op) }
-{
-    let align = u32_at(bytes, at + 1)?;
-    if align.next >= bytes.len() {
-        return None;
-    }
-    let offset = u32_at(bytes, align.next)?;
-    let arg = MemArg {
-        align: align.value,
-        offset: offset.value,
-    };
-    Some(Read {
-        op: op.op(arg),
-        next: offset.next,
-        depth,
-    })
-}
-
-// The constants
 fn float_32(profile: Profile, bytes: &[u8], at: usize, depth: u32) -> Option<Read>
     requires within { at < length bytes.now }
-    requires class { class_under profile (slice_index bytes.now at) ≡ OpClass.With Immediates.F32Const }
+    requires class { class_row profile (slice_index bytes.now at) ≡ OpClass.With Immediates.F32Const }
     ensures { IfSome result (λ r. OpUnder profile bytes.now at r.next depth r.depth r.op) }
 {
     if bytes.len() - at < 5 {
@@ -472,7 +251,7 @@ fn float_32(profile: Profile, bytes: &[u8], at: usize, depth: u32) -> Option<Rea
 
 fn float_64(profile: Profile, bytes: &[u8], at: usize, depth: u32) -> Option<Read>
     requires within { at < length bytes.now }
-    requires class { class_under profile (slice_index bytes.now at) ≡ OpClass.With Immediates.F64Const }
+    requires class { class_row profile (slice_index bytes.now at) ≡ OpClass.With Immediates.F64Const }
     ensures { IfSome result (λ r. OpUnder profile bytes.now at r.next depth r.depth r.op) }
 {
     if bytes.len() - at < 9 {
@@ -493,113 +272,6 @@ fn float_64(profile: Profile, bytes: &[u8], at: usize, depth: u32) -> Option<Rea
     })
 }
 
-// A sign extension, where the profile has them.
-#[inline(always)]
-fn sign_extension(profile: Profile, bytes: &[u8], at: usize, depth: u32) -> Option<Read>
-    requires within { at < length bytes.now }
-    requires from { 0xC0 ≤ slice_index bytes.now at }
-    requires to { slice_index bytes.now at ≤ 0xC4 }
-    ensures { IfSome result (λ r. OpUnder profile bytes.now at r.next depth r.depth r.op) }
-{
-    if !profile.has(Feature::SignExtension) {
-        return None;
-    }
-    let op = Numeric::SignExtend(sign_extends(bytes[at]));
-    plain(profile, bytes, at, depth, Simple::Numeric(op))
-}
-
-// The ops on floating-point numbers, where the profile has them.
-
-#[inline(always)]
-fn float_numeric(profile: Profile, bytes: &[u8], at: usize, depth: u32, op: Numeric) -> Option<Read>
-    requires within { at < length bytes.now }
-    requires class { slice_get classes (slice_index bytes.now at)
-        ≡ Some (OpClass.Plain (Op.Simple (Simple.Numeric op))) }
-    requires feature { class_feature (OpClass.Plain (Op.Simple (Simple.Numeric op))) ≡ Feature.Floats }
-    requires floats { has profile Feature.Floats ≡ true }
-    ensures { IfSome result (λ r. OpUnder profile bytes.now at r.next depth r.depth r.op) }
-{
-    plain(profile, bytes, at, depth, Simple::Numeric(op))
-}
-
-#[inline(always)]
-fn float_access(
-    profile: Profile,
-    bytes: &[u8],
-    at: usize,
-    depth: u32,
-    kind: Immediates,
-    op: LoadOrStore,
-) -> Option<Read>
-    requires within { at + 1 < length bytes.now }
-    requires class { slice_get classes (slice_index bytes.now at) ≡ Some (OpClass.With kind) }
-    requires feature { class_feature (OpClass.With kind) ≡ Feature.Floats }
-    requires floats { has profile Feature.Floats ≡ true }
-    requires kind { immediates kind ≡ fresh_access op }
-    ensures { IfSome result (λ r. OpUnder profile bytes.now at r.next depth r.depth r.op) }
-{
-    access(profile, bytes, at, depth, kind, op)
-}
-
-#[inline(always)]
-fn float_load(profile: Profile, bytes: &[u8], at: usize, depth: u32, op: LoadOp) -> Option<Read>
-    requires within { at + 1 < length bytes.now }
-    requires class { slice_get classes (slice_index bytes.now at) ≡ Some (OpClass.With (Immediates.Load op)) }
-    requires feature { class_feature (OpClass.With (Immediates.Load op)) ≡ Feature.Floats }
-    requires floats { has profile Feature.Floats ≡ true }
-    ensures { IfSome result (λ r. OpUnder profile bytes.now at r.next depth r.depth r.op) }
-{
-    float_access(
-        profile,
-        bytes,
-        at,
-        depth,
-        Immediates::Load(op),
-        LoadOrStore::Load(op),
-    )
-}
-
-#[inline(always)]
-fn float_store(profile: Profile, bytes: &[u8], at: usize, depth: u32, op: StoreOp) -> Option<Read>
-    requires within { at + 1 < length bytes.now }
-    requires class { slice_get classes (slice_index bytes.now at)
-        ≡ Some (OpClass.With (Immediates.Store op)) }
-    requires feature { class_feature (OpClass.With (Immediates.Store op)) ≡ Feature.Floats }
-    requires floats { has profile Feature.Floats ≡ true }
-    ensures { IfSome result (λ r. OpUnder profile bytes.now at r.next depth r.depth r.op) }
-{
-    float_access(
-        profile,
-        bytes,
-        at,
-        depth,
-        Immediates::Store(op),
-        LoadOrStore::Store(op),
-    )
-}
-
-#[inline(always)]
-fn float_const_32(profile: Profile, bytes: &[u8], at: usize, depth: u32) -> Option<Read>
-    requires within { at < length bytes.now }
-    requires class { slice_get classes (slice_index bytes.now at) ≡ Some (OpClass.With Immediates.F32Const) }
-    requires feature { class_feature (OpClass.With Immediates.F32Const) ≡ Feature.Floats }
-    requires floats { has profile Feature.Floats ≡ true }
-    ensures { IfSome result (λ r. OpUnder profile bytes.now at r.next depth r.depth r.op) }
-{
-    float_32(profile, bytes, at, depth)
-}
-
-#[inline(always)]
-fn float_const_64(profile: Profile, bytes: &[u8], at: usize, depth: u32) -> Option<Read>
-    requires within { at < length bytes.now }
-    requires class { slice_get classes (slice_index bytes.now at) ≡ Some (OpClass.With Immediates.F64Const) }
-    requires feature { class_feature (OpClass.With Immediates.F64Const) ≡ Feature.Floats }
-    requires floats { has profile Feature.Floats ≡ true }
-    ensures { IfSome result (λ r. OpUnder profile bytes.now at r.next depth r.depth r.op) }
-{
-    float_64(profile, bytes, at, depth)
-}
-
 // Gives an op that lies in what is left of the entry.
 #[inline(always)]
 fn give<S: Sink>(sink: &mut S, room: usize, read: Option<Read>) -> Took
@@ -617,7 +289,7 @@ fn give<S: Sink>(sink: &mut S, room: usize, read: Option<Read>) -> Took
     }
 }
 
-// The same for an op on floating-point numbers.
+// Takes the op on floating-point numbers at a place.
 #[inline(never)]
 #[tactic(auto, using(crate::proofs::OpLists::gave_took))]
 fn take_float<S: Sink>(
@@ -636,59 +308,51 @@ fn take_float<S: Sink>(
     }
     let byte = bytes[at];
     match byte {
-        0x2A => give(
-            sink,
-            room,
-            float_load(profile, bytes, at, depth, LoadOp::F32Load),
-        ),
-        0x2B => give(
-            sink,
-            room,
-            float_load(profile, bytes, at, depth, LoadOp::F64Load),
-        ),
-        0x38 => give(
-            sink,
-            room,
-            float_store(profile, bytes, at, depth, StoreOp::F32Store),
-        ),
-        0x39 => give(
-            sink,
-            room,
-            float_store(profile, bytes, at, depth, StoreOp::F64Store),
-        ),
-        0x43 => give(sink, room, float_const_32(profile, bytes, at, depth)),
-        0x44 => give(sink, room, float_const_64(profile, bytes, at, depth)),
+        0x2A => {
+            let op = LoadOrStore::Load(LoadOp::F32Load);
+            give(sink, room, access(profile, bytes, at, depth, op))
+        }
+        0x2B => {
+            let op = LoadOrStore::Load(LoadOp::F64Load);
+            give(sink, room, access(profile, bytes, at, depth, op))
+        }
+        0x38 => {
+            let op = LoadOrStore::Store(StoreOp::F32Store);
+            give(sink, room, access(profile, bytes, at, depth, op))
+        }
+        0x39 => {
+            let op = LoadOrStore::Store(StoreOp::F64Store);
+            give(sink, room, access(profile, bytes, at, depth, op))
+        }
+        0x43 => give(sink, room, float_32(profile, bytes, at, depth)),
+        0x44 => give(sink, room, float_64(profile, bytes, at, depth)),
         0x5B..=0x60 => {
-            let op = Numeric::FloatCompare(FloatType::F32, compares_f32(byte));
-            give(sink, room, float_numeric(profile, bytes, at, depth, op))
+            let op = Numeric::FloatCompare(F32, float_comparison(byte));
+            give(sink, room, numeric(profile, bytes, at, depth, op))
         }
         0x61..=0x66 => {
-            let op = Numeric::FloatCompare(FloatType::F64, compares_f64(byte));
-            give(sink, room, float_numeric(profile, bytes, at, depth, op))
+            let op = Numeric::FloatCompare(F64, float_comparison(byte));
+            give(sink, room, numeric(profile, bytes, at, depth, op))
         }
         0x8B..=0x91 => {
-            let op = Numeric::FloatUnary(FloatType::F32, unary_f32(byte));
-            give(sink, room, float_numeric(profile, bytes, at, depth, op))
+            let op = Numeric::FloatUnary(F32, float_unary(byte));
+            give(sink, room, numeric(profile, bytes, at, depth, op))
         }
         0x92..=0x98 => {
-            let op = Numeric::FloatBinary(FloatType::F32, binary_f32(byte));
-            give(sink, room, float_numeric(profile, bytes, at, depth, op))
+            let op = Numeric::FloatBinary(F32, float_binary(byte));
+            give(sink, room, numeric(profile, bytes, at, depth, op))
         }
         0x99..=0x9F => {
-            let op = Numeric::FloatUnary(FloatType::F64, unary_f64(byte));
-            give(sink, room, float_numeric(profile, bytes, at, depth, op))
+            let op = Numeric::FloatUnary(F64, float_unary(byte));
+            give(sink, room, numeric(profile, bytes, at, depth, op))
         }
         0xA0..=0xA6 => {
-            let op = Numeric::FloatBinary(FloatType::F64, binary_f64(byte));
-            give(sink, room, float_numeric(profile, bytes, at, depth, op))
+            let op = Numeric::FloatBinary(F64, float_binary(byte));
+            give(sink, room, numeric(profile, bytes, at, depth, op))
         }
-        0xA8..=0xAB => {
-            let op = Numeric::Convert(truncates_32(byte));
-            give(sink, room, float_numeric(profile, bytes, at, depth, op))
-        }
-        0xAE..=0xBF => {
-            let op = Numeric::Convert(converts(byte));
-            give(sink, room, float_numeric(profile, bytes, at, depth, op))
+        0xA8..=0xAB | 0xAE..=0xBF => {
+            let op = Numeric::Convert(conversion(byte));
+            give(sink, room, numeric(profile, bytes, at, depth, op))
         }
         _ => Took::Left,
     }
@@ -696,7 +360,7 @@ fn take_float<S: Sink>(
 
 // Takes the op at a place, if it is among the most common ones. Each of them has its own code.
 #[inline(always)]
-#[tactic(auto, using(crate::proofs::OpLists::gave_whole))]
+#[tactic(auto, using(crate::proofs::OpLists::gave_took, crate::proofs::OpLists::gave_whole))]
 fn take_common<S: Sink>(
     sink: &mut S,
     profile: Profile,
@@ -710,54 +374,56 @@ fn take_common<S: Sink>(
 {
     let byte = bytes[at];
     match byte {
-        0x01 => give(sink, room, alone(bytes, at, depth, Op::Simple(Simple::Nop))),
+        0x01 => {
+            let op = Op::Simple(Simple::Nop);
+            give(sink, room, alone(profile, bytes, at, depth, op))
+        }
         0x02 => give(sink, room, with_type(bytes, at, depth, Opening::Block)),
         0x03 => give(sink, room, with_type(bytes, at, depth, Opening::Loop)),
         0x04 => give(sink, room, with_type(bytes, at, depth, Opening::If)),
-        0x05 => give(sink, room, alone(bytes, at, depth, Op::Else)),
-        0x0B => give(sink, room, end(bytes, at, depth)),
+        0x05 => give(sink, room, alone(profile, bytes, at, depth, Op::Else)),
+        0x0B => give(sink, room, end(profile, bytes, at, depth)),
         0x0C => give(sink, room, with_index(bytes, at, depth, Indexed::Br)),
         0x0D => give(sink, room, with_index(bytes, at, depth, Indexed::BrIf)),
-        0x0F => give(
-            sink,
-            room,
-            alone(bytes, at, depth, Op::Simple(Simple::Return)),
-        ),
+        0x0F => {
+            let op = Op::Simple(Simple::Return);
+            give(sink, room, alone(profile, bytes, at, depth, op))
+        }
         0x10 => give(sink, room, with_index(bytes, at, depth, Indexed::Call)),
-        0x1A => give(
-            sink,
-            room,
-            alone(bytes, at, depth, Op::Simple(Simple::Drop)),
-        ),
+        0x1A => {
+            let op = Op::Simple(Simple::Drop);
+            give(sink, room, alone(profile, bytes, at, depth, op))
+        }
         0x20 => give(sink, room, with_index(bytes, at, depth, Indexed::LocalGet)),
         0x21 => give(sink, room, with_index(bytes, at, depth, Indexed::LocalSet)),
         0x22 => give(sink, room, with_index(bytes, at, depth, Indexed::LocalTee)),
         0x23 => give(sink, room, with_index(bytes, at, depth, Indexed::GlobalGet)),
         0x24 => give(sink, room, with_index(bytes, at, depth, Indexed::GlobalSet)),
-        0x28 => give(
-            sink,
-            room,
-            with_arg(bytes, at, depth, LoadOrStore::Load(LoadOp::I32Load)),
-        ),
-        0x36 => give(
-            sink,
-            room,
-            with_arg(bytes, at, depth, LoadOrStore::Store(StoreOp::I32Store)),
-        ),
+        0x28 => {
+            let op = LoadOrStore::Load(LoadOp::I32Load);
+            give(sink, room, access(profile, bytes, at, depth, op))
+        }
+        0x36 => {
+            let op = LoadOrStore::Store(StoreOp::I32Store);
+            give(sink, room, access(profile, bytes, at, depth, op))
+        }
         0x41 => give(sink, room, const_32(bytes, at, depth)),
         0x42 => give(sink, room, const_64(bytes, at, depth)),
-        0x45 => give(sink, room, numeric(bytes, at, depth, Numeric::Test(I32))),
+        0x45 => {
+            let op = Numeric::Test(I32);
+            give(sink, room, numeric(profile, bytes, at, depth, op))
+        }
         0x46..=0x4F => {
-            let op = Numeric::Compare(I32, compares_32(byte));
-            give(sink, room, numeric(bytes, at, depth, op))
+            let op = Numeric::Compare(I32, comparison(byte));
+            give(sink, room, numeric(profile, bytes, at, depth, op))
         }
         0x6A..=0x78 => {
-            let op = Numeric::Binary(I32, binary_32(byte));
-            give(sink, room, numeric(bytes, at, depth, op))
+            let op = Numeric::Binary(I32, binary(byte));
+            give(sink, room, numeric(profile, bytes, at, depth, op))
         }
         0x7C..=0x8A => {
-            let op = Numeric::Binary(I64, binary_64(byte));
-            give(sink, room, numeric(bytes, at, depth, op))
+            let op = Numeric::Binary(I64, binary(byte));
+            give(sink, room, numeric(profile, bytes, at, depth, op))
         }
         _ => Took::Left,
     }
@@ -766,7 +432,7 @@ fn take_common<S: Sink>(
 // The same for those that are less common. Each has its own code too, but out of line: so the loop over ops
 // stays as small as it has to be for the most common ones to be inlined there.
 #[inline(never)]
-#[tactic(auto, using(crate::proofs::OpLists::gave_whole))]
+#[tactic(auto, using(crate::proofs::OpLists::gave_took, crate::proofs::OpLists::gave_whole))]
 fn take_uncommon<S: Sink>(
     sink: &mut S,
     profile: Profile,
@@ -780,70 +446,72 @@ fn take_uncommon<S: Sink>(
 {
     let byte = bytes[at];
     match byte {
-        0x00 => give(
-            sink,
-            room,
-            alone(bytes, at, depth, Op::Simple(Simple::Unreachable)),
-        ),
+        0x00 => {
+            let op = Op::Simple(Simple::Unreachable);
+            give(sink, room, alone(profile, bytes, at, depth, op))
+        }
         0x11 => give(sink, room, call_indirect(bytes, at, depth)),
-        0x1B => give(
-            sink,
-            room,
-            alone(bytes, at, depth, Op::Simple(Simple::Select)),
-        ),
-        0x29 => give(
-            sink,
-            room,
-            with_arg(bytes, at, depth, LoadOrStore::Load(LoadOp::I64Load)),
-        ),
+        0x1B => {
+            let op = Op::Simple(Simple::Select);
+            give(sink, room, alone(profile, bytes, at, depth, op))
+        }
+        0x29 => {
+            let op = LoadOrStore::Load(LoadOp::I64Load);
+            give(sink, room, access(profile, bytes, at, depth, op))
+        }
         0x2C..=0x2F => {
-            let op = narrow_loads_32(byte);
-            give(
-                sink,
-                room,
-                with_arg(bytes, at, depth, LoadOrStore::Load(op)),
-            )
+            let op = LoadOrStore::Load(narrow_load(byte));
+            give(sink, room, access(profile, bytes, at, depth, op))
         }
         0x30..=0x35 => {
-            let op = narrow_loads_64(byte);
-            give(
-                sink,
-                room,
-                with_arg(bytes, at, depth, LoadOrStore::Load(op)),
-            )
+            let op = LoadOrStore::Load(narrow_load(byte));
+            give(sink, room, access(profile, bytes, at, depth, op))
         }
-        0x37 => give(
-            sink,
-            room,
-            with_arg(bytes, at, depth, LoadOrStore::Store(StoreOp::I64Store)),
-        ),
+        0x37 => {
+            let op = LoadOrStore::Store(StoreOp::I64Store);
+            give(sink, room, access(profile, bytes, at, depth, op))
+        }
         0x3A..=0x3E => {
-            let op = narrow_stores(byte);
-            give(
-                sink,
-                room,
-                with_arg(bytes, at, depth, LoadOrStore::Store(op)),
-            )
+            let op = LoadOrStore::Store(narrow_store(byte));
+            give(sink, room, access(profile, bytes, at, depth, op))
         }
         0x3F => give(sink, room, memory(bytes, at, depth, Sizing::Size)),
         0x40 => give(sink, room, memory(bytes, at, depth, Sizing::Grow)),
-        0x50 => give(sink, room, numeric(bytes, at, depth, Numeric::Test(I64))),
+        0x50 => {
+            let op = Numeric::Test(I64);
+            give(sink, room, numeric(profile, bytes, at, depth, op))
+        }
         0x51..=0x5A => {
-            let op = Numeric::Compare(I64, compares_64(byte));
-            give(sink, room, numeric(bytes, at, depth, op))
+            let op = Numeric::Compare(I64, comparison(byte));
+            give(sink, room, numeric(profile, bytes, at, depth, op))
         }
         0x67..=0x69 => {
-            let op = Numeric::Unary(I32, unary_32(byte));
-            give(sink, room, numeric(bytes, at, depth, op))
+            let op = Numeric::Unary(I32, unary(byte));
+            give(sink, room, numeric(profile, bytes, at, depth, op))
         }
         0x79..=0x7B => {
-            let op = Numeric::Unary(I64, unary_64(byte));
-            give(sink, room, numeric(bytes, at, depth, op))
+            let op = Numeric::Unary(I64, unary(byte));
+            give(sink, room, numeric(profile, bytes, at, depth, op))
         }
-        0xA7 => give(sink, room, numeric(bytes, at, depth, Numeric::Wrap)),
-        0xAC => give(sink, room, numeric(bytes, at, depth, Numeric::ExtendS)),
-        0xAD => give(sink, room, numeric(bytes, at, depth, Numeric::ExtendU)),
-        0xC0..=0xC4 => give(sink, room, sign_extension(profile, bytes, at, depth)),
+        0xA7 => {
+            let op = Numeric::Wrap;
+            give(sink, room, numeric(profile, bytes, at, depth, op))
+        }
+        0xAC => {
+            let op = Numeric::ExtendS;
+            give(sink, room, numeric(profile, bytes, at, depth, op))
+        }
+        0xAD => {
+            let op = Numeric::ExtendU;
+            give(sink, room, numeric(profile, bytes, at, depth, op))
+        }
+        0xC0..=0xC4 => {
+            if !profile.has(Feature::SignExtension) {
+                return Took::Left;
+            }
+            let op = Numeric::SignExtend(sign_extension(byte));
+            give(sink, room, numeric(profile, bytes, at, depth, op))
+        }
         _ => take_float(sink, profile, bytes, at, depth, room),
     }
 }

@@ -8,4 +8,4 @@ returns c =
     let a = c.in_ok-align.align in
     let o = c.in_ok-offset.offset in
     subst (λ v. OpUnder c.args.profile c.args.bytes.now c.args.at o.next c.args.depth c.args.depth v) (sym c.op.ensures)
-    (under_access c.args.profile c.args.bytes.now c.args.at a.next o.next c.args.depth a.value o.value c.args.kind c.args.op c.requires.class c.requires.kind c.in_ok-align.ensures c.in_ok-offset.ensures)
+    (under_access c.args.profile c.args.bytes.now c.args.at a.next o.next c.args.depth a.value o.value c.args.op c.requires.class c.in_ok-align.ensures c.in_ok-offset.ensures)
