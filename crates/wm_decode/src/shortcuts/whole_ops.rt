@@ -350,7 +350,11 @@ fn take_float<S: Sink>(
             let op = Numeric::FloatBinary(F64, float_binary(byte));
             give(sink, room, numeric(profile, bytes, at, depth, op))
         }
-        0xA8..=0xAB | 0xAE..=0xBF => {
+        0xA8..=0xAB => {
+            let op = Numeric::Convert(conversion(byte));
+            give(sink, room, numeric(profile, bytes, at, depth, op))
+        }
+        0xAE..=0xBF => {
             let op = Numeric::Convert(conversion(byte));
             give(sink, room, numeric(profile, bytes, at, depth, op))
         }
