@@ -48,19 +48,23 @@ fn add_run<'a>(space: &mut Space<'a>, run: NamedRun<'a>) -> Result<bool, AllocEr
     Ok(true)
 }
 
-/// Adds the identifiers of parameters or locals, up to one that is there. It tells whether it added all.
+/// A space with the identifiers of parameters or locals too, if they are distinct and new.
 #[tactic(auto, using(crate::proofs::FunctionCode::ids_laws))]
-fn add_ids<'a>(space: &mut Space<'a>, items: &[NamedRun<'a>]) -> Result<bool, AllocError>
-    ensures new { IfOk result (λ b. b ≡ fields.all_new space.old (written.ids_of (named_list items.now))) }
-    ensures added { IfOk result (λ b. b ≡ true
-        → space.new ≡ space.old ++ written.ids_of (named_list items.now)) }
+fn with_ids<'a>(
+    mut space: Space<'a>,
+    items: &[NamedRun<'a>],
+) -> Result<Option<Space<'a>>, AllocError>
+    ensures { IfOk result (λ o. MatchOption o
+        (fields.all_new space.entry (written.ids_of (named_list items.now)) ≡ false)
+        (λ s. (s ≡ space.entry ++ written.ids_of (named_list items.now))
+        × (fields.all_new space.entry (written.ids_of (named_list items.now)) ≡ true))) }
 {
     for run in items {
-        if !add_run(space, *run)? {
-            return Ok(false);
+        if !add_run(&mut space, *run)? {
+            return Ok(None);
         }
     }
-    Ok(true)
+    Ok(Some(space))
 }
 
 /// The space of a function's parameters, if their identifiers are distinct. Those of the type take no time.
@@ -73,14 +77,7 @@ fn params_space<'a>(alloc: Global, params: &Params<'_, 'a>) -> Result<Option<Spa
 {
     match params {
         Params::OfType(types) => Ok(Some(Space::of_unnamed(alloc, types))),
-        Params::Written(params) => {
-            let mut space = Space::new(alloc);
-            if add_ids(&mut space, params)? {
-                Ok(Some(space))
-            } else {
-                Ok(None)
-            }
-        }
+        Params::Written(params) => with_ids(Space::new(alloc), params),
     }
 }
 
@@ -97,13 +94,7 @@ fn locals_space<'a>(
         × (fields.all_new [] (written.ids_of (params_of params.now ++ named_list locals.now)) ≡ true))) }
 {
     match params_space(alloc, params)? {
-        Some(mut space) => {
-            if add_ids(&mut space, locals)? {
-                Ok(Some(space))
-            } else {
-                Ok(None)
-            }
-        }
+        Some(space) => with_ids(space, locals),
         None => Ok(None),
     }
 }

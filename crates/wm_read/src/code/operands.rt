@@ -20,7 +20,7 @@ use crate::names::identifiers::{Space, is_same_id};
 use crate::tokens::lexeme::{Lexeme, first_token, next_token, skip_space};
 use crate::tokens::literals::{
     after_key, constant32, constant64, exponent, float32, float64, is, is_float, is_id, is_word,
-    small, unsigned,
+    unsigned,
 };
 use crate::tokens::scan::after_spaces;
 use std::alloc::Global;
@@ -48,13 +48,7 @@ pub fn number(atom: &[u8], text: &[u8]) -> Result<u32, TextFault>
 {
     match unsigned(atom) {
         Some(n) => Ok(n),
-        None => {
-            if is_word(atom) {
-                Err(refuse(TextWhy::Expected, text))
-            } else {
-                Err(refuse(TextWhy::BadInteger, text))
-            }
-        }
+        None => Err(no_integer(atom, text)),
     }
 }
 
@@ -64,12 +58,20 @@ fn known(place: Option<usize>, text: &[u8]) -> Result<u32, TextFault>
     ensures { Reads (λ n. n) result (reading.small_place place) }
 {
     match place {
-        Some(x) => match small(x) {
-            Some(x) => Ok(x),
-            None => Err(refuse(TextWhy::UnknownId, text)),
-        },
-        None => Err(refuse(TextWhy::UnknownId, text)),
+        Some(x) if x < 0x1_0000_0000 => Ok(x as u32),
+        _ => Err(refuse(TextWhy::UnknownId, text)),
     }
+}
+
+/// What is made of an operand, and the text after it.
+#[inline(always)]
+pub fn with<'a, T, U, F: FnOnce(T) -> U>(make: F, read: (T, &'a [u8])) -> (U, &'a [u8])
+    requires { F.pre make read.0 }
+    ensures made { F.post make read.entry.0 result.0 }
+    ensures rest { result.1.now ≡ read.entry.1.now }
+{
+    let (operand, rest) = read;
+    (make(operand), rest)
 }
 
 /// A number or an identifier of these items.
@@ -78,15 +80,10 @@ pub fn index<'a>(space: &Space, text: &'a [u8]) -> Result<(u32, &'a [u8]), TextF
         (reading.atom_at (reading.index_of space.now) (lexed text.now)) }
 {
     match first_token(text) {
-        Some((Lexeme::Atom(atom), rest)) => {
-            if is_id(atom) {
-                let x = known(space.place(atom), text)?;
-                Ok((x, rest))
-            } else {
-                let x = number(atom, text)?;
-                Ok((x, rest))
-            }
+        Some((Lexeme::Atom(atom), rest)) if is_id(atom) => {
+            Ok((known(space.place(atom), text)?, rest))
         }
+        Some((Lexeme::Atom(atom), rest)) => Ok((number(atom, text)?, rest)),
         _ => Err(refuse(TextWhy::Expected, text)),
     }
 }
@@ -152,19 +149,12 @@ fn no_float(atom: &[u8], text: &[u8]) -> TextFault
     requires { lexed text.now ≢ [] }
     ensures { IsRefusal result.why }
 {
-    if is_id(atom) {
-        refuse(TextWhy::Expected, text)
-    } else if is_word(atom) && !is_nan(atom) {
+    // `nan:` begins a NaN with a payload
+    if is_id(atom) || (is_word(atom) && !atom.starts_with(b"nan:")) {
         refuse(TextWhy::Expected, text)
     } else {
         refuse(TextWhy::BadFloat, text)
     }
-}
-
-/// Whether a word begins as a NaN with a payload does. It has no clause, since it decides only which name a
-/// refusal gets.
-fn is_nan(atom: &[u8]) -> bool {
-    atom.starts_with(b"nan:")
 }
 
 /// What is wrong with an atom, the first token of a text, where a constant is expected.
@@ -183,10 +173,7 @@ fn no_integer(atom: &[u8], text: &[u8]) -> TextFault
 pub fn begins_index(text: &[u8]) -> bool
     ensures { result ≡ reading.begins_index (lexed text.now) }
 {
-    match next_token(text) {
-        Some((Lexeme::Atom(atom), _)) => !is_word(atom),
-        _ => false,
-    }
+    matches!(next_token(text), Some((Lexeme::Atom(atom), _)) if !is_word(atom))
 }
 
 /// A number or the identifier of an open block.
@@ -196,15 +183,10 @@ pub fn label<'a>(blocks: &OpenBlocks, text: &'a [u8]) -> Result<(u32, &'a [u8]),
         (reading.atom_at (reading.index_of (labels blocks.now)) (lexed text.now)) }
 {
     match first_token(text) {
-        Some((Lexeme::Atom(atom), rest)) => {
-            if is_id(atom) {
-                let l = known(blocks.depth(atom), text)?;
-                Ok((l, rest))
-            } else {
-                let l = number(atom, text)?;
-                Ok((l, rest))
-            }
+        Some((Lexeme::Atom(atom), rest)) if is_id(atom) => {
+            Ok((known(blocks.depth(atom), text)?, rest))
         }
+        Some((Lexeme::Atom(atom), rest)) => Ok((number(atom, text)?, rest)),
         _ => Err(refuse(TextWhy::Expected, text)),
     }
 }
@@ -239,13 +221,7 @@ pub fn id(text: &[u8]) -> (Option<&[u8]>, &[u8])
         return (None, first);
     }
     match next_token(first) {
-        Some((Lexeme::Atom(atom), rest)) => {
-            if is_id(atom) {
-                (Some(atom), rest)
-            } else {
-                (None, first)
-            }
-        }
+        Some((Lexeme::Atom(atom), rest)) if is_id(atom) => (Some(atom), rest),
         _ => (None, first),
     }
 }
@@ -318,13 +294,7 @@ pub fn word<'a>(word: &[u8], text: &'a [u8]) -> Result<&'a [u8], TextFault>
         (reading.atom_at (reading.word_of word.now) (lexed text.now)) }
 {
     match next_token(text) {
-        Some((Lexeme::Atom(atom), rest)) => {
-            if is(atom, word) {
-                Ok(rest)
-            } else {
-                Err(refuse(TextWhy::Expected, text))
-            }
-        }
+        Some((Lexeme::Atom(atom), rest)) if is(atom, word) => Ok(rest),
         _ => Err(refuse(TextWhy::Expected, text)),
     }
 }
@@ -351,16 +321,8 @@ pub fn type_named(atom: &[u8]) -> Option<ValType>
 pub fn type_of(profile: Profile, atom: &[u8]) -> Option<ValType>
     ensures { result ≡ reading.type_of profile atom.now }
 {
-    match type_named(atom) {
-        Some(ty) => {
-            if profile.has(ty.feature()) {
-                Some(ty)
-            } else {
-                None
-            }
-        }
-        None => None,
-    }
+    let ty = type_named(atom)?;
+    profile.has(ty.feature()).then_some(ty)
 }
 
 /// Whether an atom begins and goes on as the name of a floating-point type or instruction does, and the
@@ -409,13 +371,17 @@ pub fn val_type(profile: Profile, text: &[u8]) -> Result<(ValType, &[u8]), TextF
     }
 }
 
-/// `( result valtype )`
-fn result_type(profile: Profile, text: &[u8]) -> Result<(ValType, &[u8]), TextFault>
+/// `( word valtype )`
+pub fn paren_type<'a>(
+    profile: Profile,
+    name: &[u8],
+    text: &'a [u8],
+) -> Result<(ValType, &'a [u8]), TextFault>
     ensures { Reads (λ x. (x.0, lexed x.1.now)) result
-        (reading.paren_at (codes "result") (reading.atom_at (reading.type_of profile)) (lexed text.now)) }
+        (reading.paren_at name.now (reading.atom_at (reading.type_of profile)) (lexed text.now)) }
 {
     let rest = open(text)?;
-    let rest = word(b"result", rest)?;
+    let rest = word(name, rest)?;
     let (ty, rest) = val_type(profile, rest)?;
     let rest = close(rest)?;
     Ok((ty, rest))
@@ -432,7 +398,7 @@ pub fn block_type(profile: Profile, text: &[u8]) -> Result<(Option<ValType>, &[u
     }
     match next_token(first) {
         Some((Lexeme::Open, _)) => {
-            let (ty, rest) = result_type(profile, first)?;
+            let (ty, rest) = paren_type(profile, b"result", first)?;
             Ok((Some(ty), rest))
         }
         _ => Ok((None, first)),

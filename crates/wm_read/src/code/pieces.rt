@@ -18,7 +18,7 @@ use crate::code::named_uses::call_fault;
 use crate::code::op_words::op_word;
 use crate::code::operands::{
     access, again, begins_index, block_type, float_32, float_64, id, index, integer_32, integer_64,
-    label, no_instruction, refuse,
+    label, no_instruction, refuse, with,
 };
 use crate::code::type_uses::type_use;
 use crate::faults::{TextFault, TextWhy};
@@ -122,15 +122,8 @@ fn middle<'a>(
         (reading.middle_at blocks.now (lexed text.now)) }
 {
     match blocks.innermost() {
-        Some(block) => {
-            if block.may_else {
-                let rest = again(block.id, text)?;
-                Ok((Piece::Middle, rest))
-            } else {
-                Err(refuse(TextWhy::UnknownWord, here))
-            }
-        }
-        None => Err(refuse(TextWhy::UnknownWord, here)),
+        Some(block) if block.may_else => Ok((Piece::Middle, again(block.id, text)?)),
+        _ => Err(refuse(TextWhy::UnknownWord, here)),
     }
 }
 
@@ -145,10 +138,7 @@ fn closes<'a>(
         (reading.closes_at blocks.now (lexed text.now)) }
 {
     match blocks.innermost() {
-        Some(block) => {
-            let rest = again(block.id, text)?;
-            Ok((Piece::Closes, rest))
-        }
+        Some(block) => Ok((Piece::Closes, again(block.id, text)?)),
         None => Err(refuse(TextWhy::UnknownWord, here)),
     }
 }
@@ -168,48 +158,18 @@ fn operand<'a>(
         blocks.now kind (lexed text.now)) }
 {
     let (simple, rest) = match kind {
-        Immediates::Br => {
-            let (l, rest) = label(blocks, text)?;
-            (Simple::Br(l), rest)
-        }
-        Immediates::BrIf => {
-            let (l, rest) = label(blocks, text)?;
-            (Simple::BrIf(l), rest)
-        }
-        Immediates::Call => {
-            let (x, rest) = index(&scope.names.functions, text)?;
-            (Simple::Call(x), rest)
-        }
-        Immediates::LocalGet => {
-            let (x, rest) = index(&scope.locals, text)?;
-            (Simple::LocalGet(x), rest)
-        }
-        Immediates::LocalSet => {
-            let (x, rest) = index(&scope.locals, text)?;
-            (Simple::LocalSet(x), rest)
-        }
-        Immediates::LocalTee => {
-            let (x, rest) = index(&scope.locals, text)?;
-            (Simple::LocalTee(x), rest)
-        }
-        Immediates::GlobalGet => {
-            let (x, rest) = index(&scope.names.globals, text)?;
-            (Simple::GlobalGet(x), rest)
-        }
-        Immediates::GlobalSet => {
-            let (x, rest) = index(&scope.names.globals, text)?;
-            (Simple::GlobalSet(x), rest)
-        }
+        Immediates::Br => with(Simple::Br, label(blocks, text)?),
+        Immediates::BrIf => with(Simple::BrIf, label(blocks, text)?),
+        Immediates::Call => with(Simple::Call, index(&scope.names.functions, text)?),
+        Immediates::LocalGet => with(Simple::LocalGet, index(&scope.locals, text)?),
+        Immediates::LocalSet => with(Simple::LocalSet, index(&scope.locals, text)?),
+        Immediates::LocalTee => with(Simple::LocalTee, index(&scope.locals, text)?),
+        Immediates::GlobalGet => with(Simple::GlobalGet, index(&scope.names.globals, text)?),
+        Immediates::GlobalSet => with(Simple::GlobalSet, index(&scope.names.globals, text)?),
         Immediates::MemorySize => (Simple::MemorySize, text),
         Immediates::MemoryGrow => (Simple::MemoryGrow, text),
-        Immediates::I32Const => {
-            let (n, rest) = integer_32(text)?;
-            (Simple::I32Const(n), rest)
-        }
-        Immediates::I64Const => {
-            let (n, rest) = integer_64(text)?;
-            (Simple::I64Const(n), rest)
-        }
+        Immediates::I32Const => with(Simple::I32Const, integer_32(text)?),
+        Immediates::I64Const => with(Simple::I64Const, integer_64(text)?),
         Immediates::Load(op) => load(op, text)?,
         Immediates::Store(op) => store(op, text)?,
         _ => return Err(refuse(TextWhy::UnknownWord, text)),

@@ -8,7 +8,7 @@ ghost use Rattle.wm_read.specs.inner.Blocks.{names_of};
 ghost use Rattle.wm_read.specs.inner.Views.{IsRefusal, Reads};
 
 use crate::code::operands::{
-    float_32, float_64, index, integer_32, integer_64, no_instruction, open, refuse, word,
+    float_32, float_64, index, integer_32, integer_64, no_instruction, open, refuse, with, word,
 };
 use crate::faults::{TextFault, TextWhy};
 use crate::names::identifiers::Names;
@@ -45,25 +45,12 @@ pub fn constant<'a>(
 {
     match next_token(text) {
         Some((Lexeme::Atom(atom), rest)) => match op_named(profile, atom) {
-            OpClass::With(Immediates::I32Const) => {
-                let (n, rest) = integer_32(rest)?;
-                Ok((Const::I32(n), rest))
-            }
-            OpClass::With(Immediates::I64Const) => {
-                let (n, rest) = integer_64(rest)?;
-                Ok((Const::I64(n), rest))
-            }
-            OpClass::With(Immediates::F32Const) => {
-                let (bits, rest) = float_32(alloc, rest)?;
-                Ok((Const::F32(bits), rest))
-            }
-            OpClass::With(Immediates::F64Const) => {
-                let (bits, rest) = float_64(alloc, rest)?;
-                Ok((Const::F64(bits), rest))
-            }
+            OpClass::With(Immediates::I32Const) => Ok(with(Const::I32, integer_32(rest)?)),
+            OpClass::With(Immediates::I64Const) => Ok(with(Const::I64, integer_64(rest)?)),
+            OpClass::With(Immediates::F32Const) => Ok(with(Const::F32, float_32(alloc, rest)?)),
+            OpClass::With(Immediates::F64Const) => Ok(with(Const::F64, float_64(alloc, rest)?)),
             OpClass::With(Immediates::GlobalGet) => {
-                let (x, rest) = index(&names.globals, rest)?;
-                Ok((Const::Global(x), rest))
+                Ok(with(Const::Global, index(&names.globals, rest)?))
             }
             _ => Err(no_constant(profile, atom, text)),
         },

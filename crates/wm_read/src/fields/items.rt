@@ -8,7 +8,7 @@ ghost use Rattle.wm_read.specs.inner.Ids.{id_of};
 ghost use Rattle.wm_read.specs.inner.Views.{Reads};
 
 use crate::code::named_uses::named_use;
-use crate::code::operands::{close, close_forms, id, index, open};
+use crate::code::operands::{close, close_forms, id, index, open, with};
 use crate::faults::TextFault;
 use crate::fields::types::{global_type, limits, table_type};
 use crate::fields::words::item_kind;
@@ -33,18 +33,9 @@ fn desc_type<'a>(
             let (used, rest) = named_use(alloc, profile, names, false, text)?;
             Ok((ImportDesc::Func(used.index), rest))
         }
-        ExportKind::Table => {
-            let (limits, rest) = table_type(text)?;
-            Ok((ImportDesc::Table(limits), rest))
-        }
-        ExportKind::Memory => {
-            let (limits, rest) = limits(text)?;
-            Ok((ImportDesc::Memory(limits), rest))
-        }
-        ExportKind::Global => {
-            let (ty, rest) = global_type(profile, text)?;
-            Ok((ImportDesc::Global(ty), rest))
-        }
+        ExportKind::Table => Ok(with(ImportDesc::Table, table_type(text)?)),
+        ExportKind::Memory => Ok(with(ImportDesc::Memory, limits(text)?)),
+        ExportKind::Global => Ok(with(ImportDesc::Global, global_type(profile, text)?)),
     }
 }
 
@@ -70,7 +61,7 @@ pub fn desc<'a>(
 }
 
 /// The index space of these items.
-fn space_of<'n, 'a>(names: &'n Names<'a>, kind: ExportKind) -> &'n Space<'a>
+pub(crate) fn space_of<'n, 'a>(names: &'n Names<'a>, kind: ExportKind) -> &'n Space<'a>
     ensures { result.now ≡ fields.space_of (names_of names.now) kind }
 {
     match kind {

@@ -1,17 +1,17 @@
 //! The types of tables, memories and globals (section 6.4).
 
-ghost use Rattle.std.specs.Prelude.{◌≡◌, codes};
+ghost use Rattle.std.specs.Prelude.{◌≡◌};
 ghost use Rattle.wm_read.specs.exact.FieldTypes as fields;
 ghost use Rattle.wm_read.specs.exact.Reading as reading;
 ghost use Rattle.wm_read.specs.exact.Scan.{lexed};
 ghost use Rattle.wm_read.specs.inner.Views.{Reads};
 
-use crate::code::operands::{close, number, open, refuse, val_type, word};
+use crate::code::operands::{number, paren_type, refuse, val_type, word};
 use crate::faults::{TextFault, TextWhy};
 use crate::tokens::lexeme::{Lexeme, next_token};
 use crate::tokens::literals::{is_id, is_word};
 use wm_syntax::profile::Profile;
-use wm_syntax::types::{GlobalType, Limits, ValType};
+use wm_syntax::types::{GlobalType, Limits};
 
 /// A number below 2^32.
 #[tactic(auto, using(crate::proofs::FieldTypes::id_no_number))]
@@ -20,14 +20,7 @@ fn minimum(text: &[u8]) -> Result<(u32, &[u8]), TextFault>
         (reading.atom_at reading.unsigned_of (lexed text.now)) }
 {
     match next_token(text) {
-        Some((Lexeme::Atom(atom), rest)) => {
-            if is_id(atom) {
-                Err(refuse(TextWhy::Expected, text))
-            } else {
-                let n = number(atom, text)?;
-                Ok((n, rest))
-            }
-        }
+        Some((Lexeme::Atom(atom), rest)) if !is_id(atom) => Ok((number(atom, text)?, rest)),
         _ => Err(refuse(TextWhy::Expected, text)),
     }
 }
@@ -37,13 +30,8 @@ fn maximum(text: &[u8]) -> Result<(Option<u32>, &[u8]), TextFault>
     ensures { Reads (λ x. (x.0, lexed x.1.now)) result (fields.max_at (lexed text.now)) }
 {
     match next_token(text) {
-        Some((Lexeme::Atom(atom), rest)) => {
-            if is_word(atom) || is_id(atom) {
-                Ok((None, text))
-            } else {
-                let n = number(atom, text)?;
-                Ok((Some(n), rest))
-            }
+        Some((Lexeme::Atom(atom), rest)) if !is_word(atom) && !is_id(atom) => {
+            Ok((Some(number(atom, text)?), rest))
         }
         _ => Ok((None, text)),
     }
@@ -67,25 +55,13 @@ pub fn table_type(text: &[u8]) -> Result<(Limits, &[u8]), TextFault>
     Ok((limits, rest))
 }
 
-/// `( mut valtype )`
-fn mut_type(profile: Profile, text: &[u8]) -> Result<(ValType, &[u8]), TextFault>
-    ensures { Reads (λ x. (x.0, lexed x.1.now)) result
-        (reading.paren_at (codes "mut") (reading.atom_at (reading.type_of profile)) (lexed text.now)) }
-{
-    let rest = open(text)?;
-    let rest = word(b"mut", rest)?;
-    let (ty, rest) = val_type(profile, rest)?;
-    let rest = close(rest)?;
-    Ok((ty, rest))
-}
-
 /// A value type, or `( mut valtype )`.
 pub fn global_type(profile: Profile, text: &[u8]) -> Result<(GlobalType, &[u8]), TextFault>
     ensures { Reads (λ x. (x.0, lexed x.1.now)) result (fields.global_type_at profile (lexed text.now)) }
 {
     match next_token(text) {
         Some((Lexeme::Open, _)) => {
-            let (ty, rest) = mut_type(profile, text)?;
+            let (ty, rest) = paren_type(profile, b"mut", text)?;
             Ok((GlobalType { ty, var: true }, rest))
         }
         _ => {

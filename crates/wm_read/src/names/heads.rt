@@ -12,6 +12,7 @@ ghost use Rattle.wm_read.specs.inner.Views.{Reads};
 
 use crate::code::operands::{begins_open, close, id, open, refuse};
 use crate::faults::{TextFault, TextWhy};
+use crate::fields::items::space_of;
 use crate::fields::signatures::signature;
 use crate::fields::strings::name;
 use crate::fields::words::{FieldKind, field_kind, item_kind};
@@ -31,18 +32,6 @@ struct Noted<'a> {
     defined: bool,
     /// Whether a field was a start.
     started: bool,
-}
-
-/// The index space of a kind of item.
-fn space<'n, 'a>(names: &'n Names<'a>, kind: ExportKind) -> &'n Space<'a>
-    ensures { result.now ≡ fields.space_of (names_of names.now) kind }
-{
-    match kind {
-        ExportKind::Func => &names.functions,
-        ExportKind::Table => &names.tables,
-        ExportKind::Memory => &names.memories,
-        ExportKind::Global => &names.globals,
-    }
 }
 
 /// One item more of a kind.
@@ -128,7 +117,7 @@ fn desc_head<'a>(noted: &mut Noted<'a>, text: &'a [u8]) -> Result<&'a [u8], Text
 {
     let rest = open(text)?;
     let (kind, rest) = item_kind(rest)?;
-    let (id, rest) = free_id(space(&noted.names, kind), rest)?;
+    let (id, rest) = free_id(space_of(&noted.names, kind), rest)?;
     push_item(&mut noted.names, kind, id)?;
     Ok(rest)
 }
@@ -157,7 +146,7 @@ fn item_head<'a>(
     ensures { Reads (λ r. (noted_of noted.new, lexed r.now)) result
         (first.item_head_at kind (noted_of noted.old) (lexed text.now)) }
 {
-    let (id, rest) = free_id(space(&noted.names, kind), text)?;
+    let (id, rest) = free_id(space_of(&noted.names, kind), text)?;
     let rest = skip(1, rest)?;
     push_item(&mut noted.names, kind, id)?;
     noted.defined = true;

@@ -71,14 +71,8 @@ fn semicolon(text: &[u8]) -> Found
     ensures why { IsTold BadToken result }
 {
     match text {
-        [d, line @ ..] => {
-            if *d == b';' {
-                Found::Blank(after_line(line))
-            } else {
-                Found::Fault(TextWhy::BadToken)
-            }
-        }
-        [] => Found::Fault(TextWhy::BadToken),
+        [b';', line @ ..] => Found::Blank(after_line(line)),
+        _ => Found::Fault(TextWhy::BadToken),
     }
 }
 
@@ -88,17 +82,11 @@ fn opening(text: &[u8]) -> Found
     ensures why { IsTold OpenComment result }
 {
     match text {
-        [d, inner @ ..] => {
-            if *d == b';' {
-                match after_comment(inner) {
-                    Some(rest) => Found::Blank(rest),
-                    None => Found::Fault(TextWhy::OpenComment),
-                }
-            } else {
-                Found::First(Lexeme::Open, text)
-            }
-        }
-        [] => Found::First(Lexeme::Open, text),
+        [b';', inner @ ..] => match after_comment(inner) {
+            Some(rest) => Found::Blank(rest),
+            None => Found::Fault(TextWhy::OpenComment),
+        },
+        _ => Found::First(Lexeme::Open, text),
     }
 }
 
@@ -138,16 +126,9 @@ fn parenthesis(text: &[u8]) -> Option<(Lexeme, &[u8])>
     ensures { IfSome result (λ x. scan.first (token_of x.0) x.1.now ≡ scan.ahead text.now) }
 {
     match text {
-        [first, more @ ..] => {
-            if *first == b')' {
-                Some((Lexeme::Close, more))
-            } else if *first == b'(' {
-                opening_alone(more)
-            } else {
-                None
-            }
-        }
-        [] => None,
+        [b')', more @ ..] => Some((Lexeme::Close, more)),
+        [b'(', more @ ..] => opening_alone(more),
+        _ => None,
     }
 }
 
@@ -157,14 +138,8 @@ fn opening_alone(text: &[u8]) -> Option<(Lexeme, &[u8])>
     ensures { IfSome result (λ x. scan.first (token_of x.0) x.1.now ≡ scan.ahead_opening text.now) }
 {
     match text {
-        [second, ..] => {
-            if *second == b';' {
-                None
-            } else {
-                Some((Lexeme::Open, text))
-            }
-        }
-        [] => Some((Lexeme::Open, text)),
+        [b';', ..] => None,
+        _ => Some((Lexeme::Open, text)),
     }
 }
 

@@ -23,20 +23,14 @@ pub fn is(atom: &[u8], word: &[u8]) -> bool
 pub fn is_id(atom: &[u8]) -> bool
     ensures { result ≡ reading.is_id atom.now }
 {
-    match atom {
-        [] => false,
-        [c, rest @ ..] => *c == b'$' && !rest.is_empty(),
-    }
+    matches!(atom, [b'$', _, ..])
 }
 
 /// Whether an atom is a word (section 6.2.2, keyword).
 pub fn is_word(atom: &[u8]) -> bool
     ensures { result ≡ reading.is_word atom.now }
 {
-    match atom {
-        [] => false,
-        [c, ..] => c.is_ascii_lowercase(),
-    }
+    matches!(atom, [b'a'..=b'z', ..])
 }
 
 /// Whether an atom begins and goes on as the name of a floating-point type or instruction does.
@@ -74,16 +68,7 @@ pub fn unsigned(atom: &[u8]) -> Option<u32>
 fn any_unsigned(atom: &[u8]) -> Option<u32>
     ensures { result ≡ reading.unsigned_of atom.now }
 {
-    match magnitude(atom) {
-        Some(n) => {
-            if n < 0x1_0000_0000 {
-                Some(n as u32)
-            } else {
-                None
-            }
-        }
-        None => None,
-    }
+    u32::try_from(magnitude(atom)?).ok()
 }
 
 /// A constant, where half of the numbers below `whole` stand for themselves.
@@ -95,12 +80,9 @@ fn integer(half: u64, whole: u128, atom: &[u8]) -> Option<i128>
     ensures range { IfSome result (λ z. (neg_ℤ (pos half) ≤ℤ z) × (z <ℤ pos half)) }
 {
     match atom {
-        [] => None,
-        [c, rest @ ..] => match *c {
-            b'+' => plus(half, rest),
-            b'-' => minus(half, rest),
-            _ => plain(half, whole, atom),
-        },
+        [b'+', rest @ ..] => plus(half, rest),
+        [b'-', rest @ ..] => minus(half, rest),
+        _ => plain(half, whole, atom),
     }
 }
 
@@ -111,14 +93,8 @@ fn plus(half: u64, atom: &[u8]) -> Option<i128>
     ensures range { IfSome result (λ z. (neg_ℤ (pos half) ≤ℤ z) × (z <ℤ pos half)) }
 {
     match magnitude(atom) {
-        Some(n) => {
-            if n < u128::from(half) {
-                Some(n as i128)
-            } else {
-                None
-            }
-        }
-        None => None,
+        Some(n) if n < u128::from(half) => Some(n as i128),
+        _ => None,
     }
 }
 
@@ -130,14 +106,8 @@ fn minus(half: u64, atom: &[u8]) -> Option<i128>
     ensures range { IfSome result (λ z. (neg_ℤ (pos half) ≤ℤ z) × (z <ℤ pos half)) }
 {
     match magnitude(atom) {
-        Some(n) => {
-            if n <= u128::from(half) {
-                Some(-(n as i128))
-            } else {
-                None
-            }
-        }
-        None => None,
+        Some(n) if n <= u128::from(half) => Some(-(n as i128)),
+        _ => None,
     }
 }
 
@@ -150,16 +120,9 @@ fn plain(half: u64, whole: u128, atom: &[u8]) -> Option<i128>
     ensures range { IfSome result (λ z. (neg_ℤ (pos half) ≤ℤ z) × (z <ℤ pos half)) }
 {
     match magnitude(atom) {
-        Some(n) => {
-            if n < u128::from(half) {
-                Some(n as i128)
-            } else if n < whole {
-                Some(n as i128 - whole as i128)
-            } else {
-                None
-            }
-        }
-        None => None,
+        Some(n) if n < u128::from(half) => Some(n as i128),
+        Some(n) if n < whole => Some(n as i128 - whole as i128),
+        _ => None,
     }
 }
 
@@ -178,10 +141,8 @@ pub fn constant32(atom: &[u8]) -> Option<i32>
 fn any_constant32(atom: &[u8]) -> Option<i32>
     ensures { result ≡ reading.integer_of 32 atom.now }
 {
-    match integer(0x8000_0000, 0x1_0000_0000, atom) {
-        Some(n) => Some(n as i32),
-        None => None,
-    }
+    let n = integer(0x8000_0000, 0x1_0000_0000, atom)?;
+    Some(n as i32)
 }
 
 /// The constant of an i64.
@@ -189,10 +150,8 @@ fn any_constant32(atom: &[u8]) -> Option<i32>
 pub fn constant64(atom: &[u8]) -> Option<i64>
     ensures { result ≡ reading.integer_of 64 atom.now }
 {
-    match integer(0x8000_0000_0000_0000, 0x1_0000_0000_0000_0000, atom) {
-        Some(n) => Some(n as i64),
-        None => None,
-    }
+    let n = integer(0x8000_0000_0000_0000, 0x1_0000_0000_0000_0000, atom)?;
+    Some(n as i64)
 }
 
 /// The bits of an f32 (section 6.3.2). None also where a number is nearest to an infinity.
@@ -211,17 +170,6 @@ pub fn float64(alloc: Global, atom: &[u8]) -> Result<Option<u64>, AllocError>
     ensures { IfOk result (λ o. o ≡ atoms.float_of float.F64 atom.now) }
 {
     float_of(alloc, FloatType::F64, atom)
-}
-
-/// An index or a depth, which is below 2^32.
-pub fn small(n: usize) -> Option<u32>
-    ensures { result ≡ (if nat_lt n 0x1_0000_0000 then Some n else None) }
-{
-    if n < 0x1_0000_0000 {
-        Some(n as u32)
-    } else {
-        None
-    }
 }
 
 /// What follows a key.

@@ -119,22 +119,11 @@ pub fn after_spaces(text: &[u8]) -> &[u8]
     ensures { result.now ≡ scan.after_spaces text.now }
 {
     match text {
-        [first, more @ ..] => {
-            if !is_space(*first) {
-                return text;
-            }
-            match more {
-                [second, ..] => {
-                    if is_space(*second) {
-                        after_run(more)
-                    } else {
-                        more
-                    }
-                }
-                [] => more,
-            }
-        }
-        [] => text,
+        [first, more @ ..] if is_space(*first) => match more {
+            [second, ..] if is_space(*second) => after_run(more),
+            _ => more,
+        },
+        _ => text,
     }
 }
 
@@ -210,25 +199,15 @@ enum Part<'a> {
 }
 
 /// What stands first in a block comment.
-
 #[tactic(auto, unfolding(crate::specs::exact::Scan::comment_part))]
 fn comment_part(text: &[u8]) -> Part
     ensures { part_of result ≡ scan.comment_part text.now }
 {
     match text {
+        [b';', b')', rest @ ..] => Part::Close(rest),
+        [b'(', b';', rest @ ..] => Part::Open(rest),
+        [_, rest @ ..] => Part::On(rest),
         [] => Part::End,
-        [first, more @ ..] => match more {
-            [] => Part::On(more),
-            [second, rest @ ..] => {
-                if *first == b';' && *second == b')' {
-                    Part::Close(rest)
-                } else if *first == b'(' && *second == b';' {
-                    Part::Open(rest)
-                } else {
-                    Part::On(more)
-                }
-            }
-        },
     }
 }
 
@@ -529,13 +508,10 @@ pub fn plain_atom(text: &[u8]) -> Option<(&[u8], &[u8])>
     ensures { IfSome result (λ x. scan.first (tokens.atom x.0.now) x.1.now ≡ scan.ahead text.now) }
 {
     match text {
-        [] => None,
-        [c, ..] => match *c {
-            b'a'..=b'z' => Some(text.split_at(atom_len(text))),
-            b'0'..=b'9' => plain_number(text),
-            b'$' => plain_id(text),
-            _ => None,
-        },
+        [b'a'..=b'z', ..] => Some(text.split_at(atom_len(text))),
+        [b'0'..=b'9', ..] => plain_number(text),
+        [b'$', ..] => plain_id(text),
+        _ => None,
     }
 }
 
@@ -586,12 +562,9 @@ pub fn is_atom(atom: &[u8]) -> bool
     ensures { result ≡ scan.is_atom atom.now }
 {
     match atom {
-        [] => false,
-        [c, rest @ ..] => match *c {
-            b'$' => !rest.is_empty(),
-            b'a'..=b'z' => true,
-            _ => is_number(atom) || is_literal(atom),
-        },
+        [b'$', rest @ ..] => !rest.is_empty(),
+        [b'a'..=b'z', ..] => true,
+        _ => is_number(atom) || is_literal(atom),
     }
 }
 
@@ -600,11 +573,8 @@ fn is_number(atom: &[u8]) -> bool
     ensures { result ≡ scan.is_number atom.now }
 {
     match atom {
-        [] => false,
-        [c, rest @ ..] => match *c {
-            b'+' | b'-' => magnitude(rest).is_some(),
-            _ => magnitude(atom).is_some(),
-        },
+        [b'+' | b'-', rest @ ..] => magnitude(rest).is_some(),
+        _ => magnitude(atom).is_some(),
     }
 }
 
@@ -667,17 +637,8 @@ fn any_magnitude(text: &[u8]) -> Option<u128>
     ensures { result ≡ option_map (λ n. min n 0x1_0000_0000_0000_0000) (scan.magnitude_of text.now) }
 {
     match text {
-        [] => None,
-        [c, more @ ..] => match more {
-            [] => digits(10, text),
-            [d, rest @ ..] => {
-                if *c == b'0' && *d == b'x' {
-                    digits(16, rest)
-                } else {
-                    digits(10, text)
-                }
-            }
-        },
+        [b'0', b'x', rest @ ..] => digits(16, rest),
+        _ => digits(10, text),
     }
 }
 
@@ -692,13 +653,7 @@ pub fn digits(base: u8, text: &[u8]) -> Option<u128>
     let mut n = 0u128;
     let mut after = false;
     while let Some((c, more)) = rest.split_first() {
-        match number_next(base, n, after, *c) {
-            Some((next, digit)) => {
-                n = next;
-                after = digit;
-            }
-            None => return None,
-        }
+        (n, after) = number_next(base, n, after, *c)?;
         rest = more;
     }
     if after { Some(n) } else { None }
@@ -717,14 +672,8 @@ fn number_next(base: u8, n: u128, after: bool, byte: u8) -> Option<(u128, bool)>
         return Some((n, false));
     }
     match digit_value(byte) {
-        Some(d) => {
-            if d < base {
-                Some((with_digit(base, n, d), true))
-            } else {
-                None
-            }
-        }
-        None => None,
+        Some(d) if d < base => Some((with_digit(base, n, d), true)),
+        _ => None,
     }
 }
 

@@ -1,7 +1,7 @@
 use Rattle.std.proofs.Common.{◌≡◌, ◌++◌, take, true}
 use Rattle.wm_read.specs.exact.Fields.{all_new}
 use Rattle.wm_read.proofs.FunctionCode.{code_ids}
-use Rattle.wm_read.proofs.code.functions.add_ids.Given as goal
+use Rattle.wm_read.proofs.code.functions.with_ids.Given as goal
 
 abbrev pub invariant-loop-run : goal.invariant-loop-run
 invariant-loop-run l = record {
