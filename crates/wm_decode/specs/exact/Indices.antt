@@ -60,11 +60,8 @@ abbrev pub followed_indices : InIndices → ℕ
 followed_indices i = followed_in i.left i.list
 
 -- how many of one byte come after which yet another comes, and a byte of all that they lie in
-abbrev pub most_in : ℕ → ℕ → IndexList → ℕ
-most_in more left l = min (room_in more l) (followed_in left l)
-
 abbrev pub most_indices : InIndices → ℕ
-most_indices i = most_in i.more i.left i.list
+most_indices i = min (room_in i.more i.list) (followed_in i.left i.list)
 
 -- what is left after so many
 abbrev pub members_after : ℕ → IndexList → ℕ → ℕ

@@ -69,9 +69,6 @@ change_last f (x ∷ y ∷ xs) = x ∷ change_last f (y ∷ xs)
 abbrev pub with_types : Built → List Signature → Built
 with_types h ts = record h { value = record h.value { types = ts } }
 
-abbrev pub with_elements : Built → List Element → Built
-with_elements h es = record h { value = record h.value { elements = es } }
-
 abbrev pub with_segments : Built → List Segment → Built
 with_segments h ss = record h { value = record h.value { segments = ss } }
 
@@ -90,14 +87,6 @@ imported h d = record h {
   };
   module_name = [];
   item_name = [];
-}
-
-abbrev pub exports_one : Built → ExportKind → ℕ → Built
-exports_one h k x = record h {
-  value = record h.value {
-    exports = h.value.exports ++ record { name = h.exported; kind = k; index = x } ∷ [];
-  };
-  exported = [];
 }
 
 -- constant expressions
@@ -194,11 +183,16 @@ after h (memory l) = Ok (record h { value = record h.value { memories = h.value.
 after h (global g) = Ok (expecting (purpose.Global g) h)
 after h (const_op o) = constant_taken o h h.constant
 after h (export_name text) = and_then (name_from text) (λ name. Ok (record h { exported = name }))
-after h (export k x) = Ok (exports_one h k x)
+after h (export k x) = Ok (record h {
+  value = record h.value { exports = h.value.exports ++ record { name = h.exported; kind = k; index = x } ∷ [] };
+  exported = [];
+})
 after h (start x) = Ok (record h { value = record h.value { start = Some x } })
 after h (element x) = Ok (expecting (purpose.Element x) h)
 after h (element_function y) =
-    Ok (with_elements h (change_last (λ e. record e { functions = e.functions ++ y ∷ [] }) h.value.elements))
+    Ok (record h { value = record h.value {
+      elements = change_last (λ e. record e { functions = e.functions ++ y ∷ [] }) h.value.elements;
+    } })
 after h body = Ok (record h { code = Some (record { locals = []; body = building.start }) })
 after h (locals n t) = locals_taken n t h h.code
 after h (body_op o) = op_taken o h h.code
