@@ -2,7 +2,6 @@
 //! skips the rest.
 
 ghost use Rattle.std.specs.Prelude.{◌≡◌, ◌≢◌, ◌≤◌, [], OnOk};
-ghost use Rattle.wm_read.specs.exact.Fields as fields;
 ghost use Rattle.wm_read.specs.exact.FirstReading as first;
 ghost use Rattle.wm_read.specs.exact.Scan.{lexed};
 ghost use Rattle.wm_read.specs.inner.Blocks.{names_of};

@@ -1,6 +1,6 @@
 //! What atoms mean: numbers (section 6.3.1), identifiers and words.
 
-ghost use Rattle.std.specs.Prelude.{◌≡◌, ◌≤◌, ◌<◌, ◌+◌, ◌^◌, ℕ, Some, None, nat_lt, if◌then◌else◌};
+ghost use Rattle.std.specs.Prelude.{◌≡◌, ◌≤◌, ◌<◌, ◌+◌, ◌^◌, ℕ, Some, None};
 ghost use Rattle.std.specs.Prelude.{MatchOption, IfOk, IfSome, pos, neg_ℤ, ◌≤ℤ◌, ◌<ℤ◌};
 ghost use Rattle.wm_floats.specs.exact.Atoms as atoms;
 ghost use Rattle.wm_read.specs.exact.Reading as reading;
