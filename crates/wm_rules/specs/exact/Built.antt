@@ -11,11 +11,10 @@ use Rattle.wm_syntax.specs.declared.instructions.Simple.TheVariants.{GlobalGet}
 use Rattle.wm_syntax.specs.declared.instructions.Op.{Op}
 use Rattle.wm_syntax.specs.declared.instructions.Op.TheVariants as op
 use Rattle.wm_syntax.specs.declared.modules.ImportDesc.{ImportDesc}
-use Rattle.wm_syntax.specs.declared.modules.ExportKind.{ExportKind}
 use Rattle.wm_syntax.specs.declared.why.Why.{Why}
 use Rattle.wm_syntax.specs.declared.why.Why.TheVariants as why
 use Rattle.wm_syntax.specs.Types.{Signature}
-use Rattle.wm_syntax.specs.Modules.{Module, Import, Function, GlobalDef, Export, Element, Segment}
+use Rattle.wm_syntax.specs.Modules.{Module, Element, Segment}
 use Rattle.wm_syntax.specs.Modules as modules
 use Rattle.wm_syntax.specs.Instructions.{Instructions}
 use Rattle.wm_syntax.specs.inner.Building.{Place, at, labels, placed}
@@ -68,6 +67,9 @@ change_last f (x ∷ y ∷ xs) = x ∷ change_last f (y ∷ xs)
 
 abbrev pub with_types : Built → List Signature → Built
 with_types h ts = record h { value = record h.value { types = ts } }
+
+abbrev pub with_elements : Built → List Element → Built
+with_elements h es = record h { value = record h.value { elements = es } }
 
 abbrev pub with_segments : Built → List Segment → Built
 with_segments h ss = record h { value = record h.value { segments = ss } }
@@ -138,11 +140,8 @@ abbrev pub code_ended : Built → Code → Place → Result Built Why
 code_ended h c (at [] s) =
     Ok (record h {
       value = record h.value {
-        functions = h.value.functions ++ record {
-          type_index = next_type h;
-          locals = c.locals;
-          body = s;
-        } ∷ [];
+        functions =
+            h.value.functions ++ record { type_index = next_type h; locals = c.locals; body = s } ∷ [];
       };
       code = None;
     })
@@ -184,15 +183,15 @@ after h (global g) = Ok (expecting (purpose.Global g) h)
 after h (const_op o) = constant_taken o h h.constant
 after h (export_name text) = and_then (name_from text) (λ name. Ok (record h { exported = name }))
 after h (export k x) = Ok (record h {
-  value = record h.value { exports = h.value.exports ++ record { name = h.exported; kind = k; index = x } ∷ [] };
+  value = record h.value {
+    exports = h.value.exports ++ record { name = h.exported; kind = k; index = x } ∷ [];
+  };
   exported = [];
 })
 after h (start x) = Ok (record h { value = record h.value { start = Some x } })
 after h (element x) = Ok (expecting (purpose.Element x) h)
 after h (element_function y) =
-    Ok (record h { value = record h.value {
-      elements = change_last (λ e. record e { functions = e.functions ++ y ∷ [] }) h.value.elements;
-    } })
+    Ok (with_elements h (change_last (λ e. record e { functions = e.functions ++ y ∷ [] }) h.value.elements))
 after h body = Ok (record h { code = Some (record { locals = []; body = building.start }) })
 after h (locals n t) = locals_taken n t h h.code
 after h (body_op o) = op_taken o h h.code
