@@ -170,8 +170,8 @@ impl Operands {
     }
 
     /// Takes the top operand away where a look at one word shows that it is above the floor and fits, and
-    /// puts the given one in its place, if one is given. Neither is a float: its width would have to be looked
-    /// at, or written.
+    /// puts the given one in its place, if one is given. Neither is a float: its width would have to be
+    /// looked at, or written.
     #[inline(always)]
     pub fn replace_near(&mut self, expected: ValType, given: Option<Entry>) -> bool
         ensures { DoneOrLeft (ReplacesEntries (expected ∷ []) given) result self.old self.new }
