@@ -278,7 +278,7 @@ impl Operands {
     }
 }
 
-// Its kind.
+// The kind of what is given.
 #[inline(always)]
 fn kind_given(given: Option<Entry>) -> Option<Kind>
     ensures { result ≡ option_map kind_of given }
@@ -355,7 +355,7 @@ fn has_type(given: Option<Entry>, ty: ValType) -> bool
     }
 }
 
-// Whether it is no float.
+// Whether what is given is no float, or nothing is.
 #[inline(always)]
 fn has_no_width(given: Option<Entry>) -> bool
     ensures { result ≡ true → (wide : Bool) → IsTold given wide }

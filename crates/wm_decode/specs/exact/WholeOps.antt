@@ -72,7 +72,7 @@ one_signed c = if nat_lt c (2 ^ 6) then pos c else pos c -ℤ pos (2 ^ 7)
 abbrev pub class_row : Profile → ℕ → OpClass
 class_row p byte = row_in p (slice_get classes byte)
 
--- the byte begins this numeric op under the profile that has all features
+-- the byte's row has this numeric op, whichever profiles have it
 abbrev pub HasNumeric : ℕ → Numeric → Type 0
 HasNumeric byte o = slice_get classes byte ≡ Some (Plain (op.Simple (s.Numeric o)))
 

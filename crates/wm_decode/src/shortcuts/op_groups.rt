@@ -161,7 +161,7 @@ pub(crate) fn float_binary(byte: u8) -> FloatBinaryOp
     }
 }
 
-// Between them stand the two that extend an i32.
+// All but 0xAC and 0xAD, which extend an i32.
 #[inline(always)]
 pub(crate) fn conversion(byte: u8) -> Conversion
     requires from { 0xA8 ≤ byte }

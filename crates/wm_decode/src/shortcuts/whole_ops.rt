@@ -5,7 +5,7 @@
 ghost use Rattle.std.specs.Prelude.{◌≡◌, ◌+◌, ◌<◌, ◌≤◌, ◌^◌, ℕ, IfSome, Some, length, slice_index};
 ghost use Rattle.wm_syntax.specs.declared.profile.Profile.{Profile};
 ghost use Rattle.wm_syntax.specs.exact.Reading.{fresh};
-ghost use Rattle.wm_decode.specs.declared.step.reading.Reading.TheVariants.{More, Done};
+ghost use Rattle.wm_decode.specs.declared.step.reading.Reading.TheVariants.{More};
 ghost use Rattle.wm_decode.specs.declared.step.ops.InOp.TheVariants.{BlockType, CallType, Const32};
 ghost use Rattle.wm_decode.specs.declared.step.ops.InOp.TheVariants.{Const64, Memory};
 ghost use Rattle.wm_decode.specs.exact.OpSteps.{access_class, fresh_index, index_op};
@@ -58,8 +58,8 @@ pub(crate) struct Ran {
     pub(crate) refused: Option<Why>,
 }
 
-// Readers of the ops after whose first byte comes nothing, an index, a type, a number or two. The profile is
-// named where not every one has the op.
+// Readers of the ops after whose first byte comes nothing, an index, a type, a number or two. Where a profile
+// is named the op is one of this profile (`OpUnder`), else of each (`WholeOp`).
 
 #[inline(always)]
 #[tactic(auto, using(crate::proofs::OpLists::under_alone))]

@@ -1,6 +1,6 @@
 //! What follows the word of an instruction: operands, from the first token of a text on.
 
-ghost use Rattle.std.specs.Prelude.{◌≡◌, ◌≢◌, ◌≤◌, ◌<◌, [], Some, None, Option, nat_lt, if◌then◌else◌};
+ghost use Rattle.std.specs.Prelude.{◌≡◌, ◌≢◌, ◌≤◌, ◌<◌, [], Some, None, Option};
 ghost use Rattle.std.specs.Prelude.{IfErr, IfOk, IsTrue, length, true, ℕ};
 ghost use Rattle.wm_floats.specs.exact.Atoms as atoms;
 ghost use Rattle.wm_read.specs.declared.faults.TextWhy.TheVariants.{Expected};
@@ -157,7 +157,7 @@ fn no_float(atom: &[u8], text: &[u8]) -> TextFault
     }
 }
 
-/// What is wrong with an atom, the first token of a text, where a constant is expected.
+/// What is wrong with an atom, the first token of a text, where a whole number is expected.
 fn no_integer(atom: &[u8], text: &[u8]) -> TextFault
     requires { lexed text.now ≢ [] }
     ensures { IsRefusal result.why }
