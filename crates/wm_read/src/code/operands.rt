@@ -42,6 +42,7 @@ pub fn refuse(why: TextWhy, text: &[u8]) -> TextFault
 }
 
 /// An index or a depth from its number, the first token of a text.
+#[inline(always)]
 pub fn number(atom: &[u8], text: &[u8]) -> Result<u32, TextFault>
     requires { lexed text.now ≢ [] }
     ensures { Reads (λ n. n) result (reading.unsigned_of atom.now) }
@@ -158,6 +159,7 @@ fn no_float(atom: &[u8], text: &[u8]) -> TextFault
 }
 
 /// What is wrong with an atom, the first token of a text, where a whole number is expected.
+#[inline(never)]
 fn no_integer(atom: &[u8], text: &[u8]) -> TextFault
     requires { lexed text.now ≢ [] }
     ensures { IsRefusal result.why }
