@@ -1,5 +1,4 @@
 -- Exact answers of functions, refusals included. They follow the code for the layers above,
 -- and need not be believed.
-pub mod Near
 pub mod Stacks
 pub mod Words
