@@ -1,8 +1,5 @@
 //! The two stacks of a body, and a table of its locals.
 
-ghost use Rattle.std.specs.Prelude.{IsTrue};
-ghost use Rattle.wm_stacks.specs.Stack.{fits};
-
 use crate::scripts::{Scripted, number_of, play_each, shown, type_of, unknown, word_of};
 use std::alloc::Global;
 use std::process::Abort;
@@ -21,18 +18,6 @@ fn entry_of(rt: &impl Abort, word: &str) -> Entry {
         "F64" => Entry::F64,
         "Unknown" => Entry::Unknown,
         _ => unknown(rt, word),
-    }
-}
-
-// The operand that a value of this type is.
-fn entry_of_type(ty: ValType) -> Entry
-    ensures { IsTrue (fits result ty) }
-{
-    match ty {
-        ValType::I32 => Entry::I32,
-        ValType::I64 => Entry::I64,
-        ValType::F32 => Entry::F32,
-        ValType::F64 => Entry::F64,
     }
 }
 
@@ -112,14 +97,18 @@ fn moved(rt: &impl Abort, alloc: Global, stacks: &mut Stacks, call: &str) -> Str
         "push" => shown(rt, alloc, stacks.push(entry_of(rt, with))),
         "take" => shown(rt, alloc, stacks.take(&types_of(rt, alloc, with))),
         "push_float" => shown(rt, alloc, stacks.push_float_near(entry_of(rt, with))),
-        "take_float" => shown(rt, alloc, stacks.take_float_near(type_of(rt, with))),
+        "take_float" => shown(
+            rt,
+            alloc,
+            stacks.replace_float_near(type_of(rt, with), None),
+        ),
         "keep_float" => {
-            let ty = type_of(rt, with);
-            shown(rt, alloc, stacks.keep_float_near(ty, entry_of_type(ty)))
+            let (ty, given) = (type_of(rt, with), Some(entry_of(rt, with)));
+            shown(rt, alloc, stacks.replace_float_near(ty, given))
         }
         "merge_floats" => {
-            let ty = type_of(rt, with);
-            shown(rt, alloc, stacks.merge_floats_near(ty, entry_of_type(ty)))
+            let (ty, given) = (type_of(rt, with), Some(entry_of(rt, with)));
+            shown(rt, alloc, stacks.replace_two_floats_near(ty, ty, given))
         }
         "take_any" => shown(rt, alloc, stacks.take_any()),
         "close" => shown(rt, alloc, stacks.close()),

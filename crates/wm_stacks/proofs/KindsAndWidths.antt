@@ -1,40 +1,18 @@
 -- Operands by their kinds and their widths, when one of the two lists changes.
-use Rattle.std.proofs.Common.{ℕ, zero, suc, ◌≡◌, ◌≢◌, ◌-◌, ◌%◌, ◌<◌, ◌≤◌, Bool, true, IsTrue, List, [], ◌∷◌, Some, Result, Ok, Err, OnOk, OnErr, IfErr, length, drop, sym, refl, ap, ◌∙◌, arith}
+use Rattle.std.proofs.Common.{ℕ, zero, suc, ◌≡◌, ◌≢◌, ◌-◌, ◌%◌, ◌<◌, ◌≤◌, Bool, IsTrue, List, [], ◌∷◌, ◌++◌, Option, None, Some, Result, Ok, Err, OnOk, OnErr, IfErr, length, drop, option_map, option_to_list, sym, refl, ap, ◌∙◌, subst, arith}
 use Rattle.wm_syntax.specs.declared.types.ValType.{ValType}
-use Rattle.wm_syntax.specs.declared.types.ValType.TheVariants as t
 use Rattle.wm_syntax.specs.declared.why.Why.{Why}
 use Rattle.wm_syntax.specs.declared.why.Why.TheVariants.{Memory}
 use Rattle.wm_stacks.specs.declared.entries.Entry.{Entry}
 use Rattle.wm_stacks.specs.declared.entries.Entry.TheVariants as entry
 use Rattle.wm_stacks.specs.declared.words.Kind.{Kind}
-use Rattle.wm_stacks.specs.declared.words.Kind.TheVariants.{I32, I64, Unknown, Float}
+use Rattle.wm_stacks.specs.declared.words.Kind.TheVariants.{Float}
 use Rattle.wm_stacks.specs.declared.widths.Widths.{Widths}
 use Rattle.wm_stacks.specs.Stack.{fits}
 use Rattle.wm_stacks.specs.exact.Stacks.{first, rest}
-use Rattle.wm_stacks.specs.exact.Words.{Kinds, shows}
+use Rattle.wm_stacks.specs.exact.Words.{Kinds, ReplacesKinds}
 use Rattle.wm_stacks.specs.inner.Widths.{Written, is_wide}
-use Rattle.wm_stacks.specs.inner.Operands.{Floored, entries_in, entry_of, kind_of, operands_of}
-
--- a kind that shows that its operand fits, however wide
-shown : (u : ValType) (k : Kind) (wide : Bool) → shows u k ≡ true → fits (entry_of k wide) u ≡ true
-shown t.I32 I32 wide h = refl
-shown t.I32 I64 wide h = cc
-shown t.I32 Unknown wide h = cc
-shown t.I32 Float wide h = cc
-shown t.I64 I32 wide h = cc
-shown t.I64 I64 wide h = refl
-shown t.I64 Unknown wide h = cc
-shown t.I64 Float wide h = cc
-shown t.F32 k wide h = cc
-shown t.F64 k wide h = cc
-
--- what is no float is told by its kind
-pub told : (e : Entry) (wide : Bool) → e ≢ entry.F32 → e ≢ entry.F64 → entry_of (kind_of e) wide ≡ e
-told entry.I32 wide n m = refl
-told entry.I64 wide n m = refl
-told entry.F32 wide n m = absurd (n refl)
-told entry.F64 wide n m = absurd (m refl)
-told entry.Unknown wide n m = refl
+use Rattle.wm_stacks.specs.inner.Operands.{Floored, IsTold, ReplacesEntries, entries_in, entry_of, kind_of, operands_of}
 
 -- a float that is no f64
 pub narrow : (e : Entry) → kind_of e ≡ Float → e ≢ entry.F64 → e ≡ entry.F32
@@ -166,149 +144,43 @@ pub top_read : (p : Kinds) (v : Widths) (now : Floored) (k : Kind) (at : ℕ) (e
     → at ≡ length p.kinds - 1 → e ≡ entry_of k (is_wide v at) → first now.entries ≡ Some e
 top_read p v now k at e seen f a r = ap (λ (z : Floored). first z.entries) (sym seen) ∙ first_entry p.kinds v k at e f a r
 
--- Where a float is on top of these kinds, and the widths say which, it is on top of the operands.
-abbrev pub ShowsFloat : Kinds → Type 0
-ShowsFloat p = (k : Kind) × (ks : List Kind) × (p.kinds ≡ k ∷ ks) × (p.floor ≤ length ks) × (k ≡ Float)
+-- What is given, of this kind, with those operands under it.
+given_entries : (given : Option Entry) (ks : List Kind) (v : Widths) → IsTold given (is_wide v (length ks))
+    → entries_in (option_to_list (option_map kind_of given) ++ ks) v ≡ option_to_list given ++ entries_in ks v
+given_entries None ks v told = refl
+given_entries (Some e) ks v told = ap (λ d. d ∷ entries_in ks v) told
 
-top_is : (p : Kinds) (v : Widths) (now : Floored) (at : ℕ) (float : Entry) (k : Kind) (ks : List Kind) → operands_of p v ≡ now → p.kinds ≡ k ∷ ks → k ≡ Float
-    → at ≡ length p.kinds - 1 → entry_of Float (is_wide v at) ≡ float → now.entries ≡ float ∷ entries_in ks v
-top_is p v now at float k ks seen is kind a told =
-    let index : length ks ≡ at = omega (arith, a, ap length is) in
-    ap (λ (z : Floored). z.entries) (sym seen) ∙ ap (λ js. entries_in js v) is
-    ∙ ap (λ j. entry_of j (is_wide v (length ks)) ∷ entries_in ks v) kind
-    ∙ ap (λ i. entry_of Float (is_wide v i) ∷ entries_in ks v) index
-    ∙ ap (λ e. e ∷ entries_in ks v) told
-
-pub float_shown : (p : Kinds) (v : Widths) (now : Floored) (at : ℕ) (float : Entry) → operands_of p v ≡ now → at ≡ length p.kinds - 1
-    → entry_of Float (is_wide v at) ≡ float → ShowsFloat p → (es : List Entry) × (now.entries ≡ float ∷ es) × (now.floor ≤ length es)
-float_shown p v now at float seen a told h = (
-  entries_in h.1 v,
-  top_is p v now at float h.0 h.1 seen h.2 h.4 a told,
-  omega (arith, floor_same p v now seen, length-entries h.1 v, h.3),
-)
-
-abbrev pub TakesFloat : Kinds → Kinds → Type 0
-TakesFloat p q =
-    (k : Kind) × (ks : List Kind) × (p.kinds ≡ k ∷ ks) × (p.floor ≤ length ks) × (k ≡ Float)
-    × (q ≡ record { kinds = ks; floor = p.floor })
-
-pub float_taken : (p q : Kinds) (v : Widths) (now : Floored) (at : ℕ) (float : Entry) → operands_of p v ≡ now → at ≡ length p.kinds - 1
-    → entry_of Float (is_wide v at) ≡ float → TakesFloat p q
-    → (es : List Entry) × (now.entries ≡ float ∷ es) × (now.floor ≤ length es)
-    × (operands_of q v ≡ record { entries = es; floor = now.floor })
-float_taken p q v now at float seen a told h = (
-  entries_in h.1 v,
-  top_is p v now at float h.0 h.1 seen h.2 h.4 a told,
-  omega (arith, floor_same p v now seen, length-entries h.1 v, h.3),
-  changed p q v now h.1 (entries_in h.1 v) seen h.5 refl,
-)
-
-abbrev pub MergesFloats : Kinds → Kinds → Type 0
-MergesFloats p q =
-    (k : Kind) × (l : Kind) × (ks : List Kind) × (p.kinds ≡ k ∷ l ∷ ks) × (p.floor ≤ length ks) × (k ≡ Float)
-    × (l ≡ Float) × (q ≡ record { kinds = l ∷ ks; floor = p.floor })
-
-pub floats_merged : (p q : Kinds) (v : Widths) (now : Floored) (top under : ℕ) (float : Entry) → operands_of p v ≡ now → top ≡ length p.kinds - 1
-    → under ≡ length p.kinds - 2 → entry_of Float (is_wide v top) ≡ float → entry_of Float (is_wide v under) ≡ float → MergesFloats p q
-    → (es : List Entry) × (now.entries ≡ float ∷ float ∷ es) × (now.floor ≤ length es)
-    × (operands_of q v ≡ record { entries = float ∷ es; floor = now.floor })
-floats_merged p q v now top under float seen a b told told2 h =
-    let index : length h.2 ≡ under = omega (arith, b, ap length h.3) in
-    let second : entries_in (h.1 ∷ h.2) v ≡ float ∷ entries_in h.2 v =
-    ap (λ j. entry_of j (is_wide v (length h.2)) ∷ entries_in h.2 v) h.6
-    ∙ ap (λ i. entry_of Float (is_wide v i) ∷ entries_in h.2 v) index
-    ∙ ap (λ e. e ∷ entries_in h.2 v) told2 in (
-      entries_in h.2 v,
-      top_is p v now top float h.0 (h.1 ∷ h.2) seen h.3 h.5 a told ∙ ap (λ es. float ∷ es) second,
-      omega (arith, floor_same p v now seen, length-entries h.2 v, h.4),
-      changed p q v now (h.1 ∷ h.2) (float ∷ entries_in h.2 v) seen h.7 second,
+-- One operand is replaced, or two: of each its kind and its width show that it fits. The given one comes at the
+-- index of the lowest, where that width is its own, if it is a float.
+pub one_replaced : (p q : Kinds) (v : Widths) (now : Floored) (at : ℕ) (k : Kind) (u : ValType) (given : Option Entry)
+    → operands_of p v ≡ now → at ≡ length p.kinds - 1 → IsTrue (fits (entry_of k (is_wide v at)) u) → IsTold given (is_wide v at)
+    → ReplacesKinds (k ∷ []) (option_map kind_of given) p q → ReplacesEntries (u ∷ []) given now (operands_of q v)
+one_replaced p q v now at k u given seen is fit told h =
+    let ks = h.0 in
+    let i : at ≡ length ks = omega (arith, is, ap length h.1) in (
+      entry_of k (is_wide v (length ks)) ∷ [],
+      entries_in ks v,
+      ap (λ (z : Floored). z.entries) (sym seen) ∙ ap (λ js. entries_in js v) h.1,
+      (subst (λ n. IsTrue (fits (entry_of k (is_wide v n)) u)) i fit, tt),
+      omega (arith, floor_same p v now seen, length-entries ks v, h.2),
+      changed p q v now (option_to_list (option_map kind_of given) ++ ks) (option_to_list given ++ entries_in ks v) seen h.3
+          (given_entries given ks v (subst (λ n. IsTold given (is_wide v n)) i told)),
     )
 
--- one operand is taken, or two
-abbrev pub TakesKind : ValType → Kinds → Kinds → Type 0
-TakesKind u p q =
-    (k : Kind) × (ks : List Kind) × (p.kinds ≡ k ∷ ks) × (p.floor ≤ length ks) × IsTrue (shows u k)
-    × (q ≡ record { kinds = ks; floor = p.floor })
-
-abbrev pub TakesEntry : ValType → Floored → Floored → Type 0
-TakesEntry u now after =
-    (e : Entry) × (es : List Entry) × (now.entries ≡ e ∷ es) × (now.floor ≤ length es) × IsTrue (fits e u)
-    × (after ≡ record { entries = es; floor = now.floor })
-
-pub one_taken : (p q : Kinds) (v : Widths) (now : Floored) (u : ValType) → operands_of p v ≡ now → TakesKind u p q → TakesEntry u now (operands_of q v)
-one_taken p q v now u seen h = (
-  entry_of h.0 (is_wide v (length h.1)),
-  entries_in h.1 v,
-  ap (λ (z : Floored). z.entries) (sym seen) ∙ ap (λ ks. entries_in ks v) h.2,
-  omega (arith, floor_same p v now seen, length-entries h.1 v, h.3),
-  shown u h.0 (is_wide v (length h.1)) h.4,
-  changed p q v now h.1 (entries_in h.1 v) seen h.5 refl,
-)
-
-abbrev pub TakesTwoKinds : ValType → ValType → Kinds → Kinds → Type 0
-TakesTwoKinds under top p q =
-    (k : Kind) × (l : Kind) × (ks : List Kind) × (p.kinds ≡ k ∷ l ∷ ks) × (p.floor ≤ length ks)
-    × IsTrue (shows top k) × IsTrue (shows under l) × (q ≡ record { kinds = ks; floor = p.floor })
-
-abbrev pub TakesTwoEntries : ValType → ValType → Floored → Floored → Type 0
-TakesTwoEntries under top now after =
-    (e : Entry) × (f : Entry) × (es : List Entry) × (now.entries ≡ e ∷ f ∷ es) × (now.floor ≤ length es)
-    × IsTrue (fits e top) × IsTrue (fits f under) × (after ≡ record { entries = es; floor = now.floor })
-
-pub two_taken : (p q : Kinds) (v : Widths) (now : Floored) (under top : ValType) → operands_of p v ≡ now → TakesTwoKinds under top p q
-    → TakesTwoEntries under top now (operands_of q v)
-two_taken p q v now under top seen h = (
-  entry_of h.0 (is_wide v (length (h.1 ∷ h.2))),
-  entry_of h.1 (is_wide v (length h.2)),
-  entries_in h.2 v,
-  ap (λ (z : Floored). z.entries) (sym seen) ∙ ap (λ ks. entries_in ks v) h.3,
-  omega (arith, floor_same p v now seen, length-entries h.2 v, h.4),
-  shown top h.0 (is_wide v (length (h.1 ∷ h.2))) h.5,
-  shown under h.1 (is_wide v (length h.2)) h.6,
-  changed p q v now h.2 (entries_in h.2 v) seen h.7 refl,
-)
-
--- one operand or two are taken, and one that is no float is put on what is left
-abbrev pub ReplacesKind : ValType → Kind → Kinds → Kinds → Type 0
-ReplacesKind u j p q =
-    (k : Kind) × (ks : List Kind) × (p.kinds ≡ k ∷ ks) × (p.floor ≤ length ks) × IsTrue (shows u k)
-    × (q ≡ record { kinds = j ∷ ks; floor = p.floor })
-
-abbrev pub ReplacesEntry : ValType → Entry → Floored → Floored → Type 0
-ReplacesEntry u d now after =
-    (e : Entry) × (es : List Entry) × (now.entries ≡ e ∷ es) × (now.floor ≤ length es) × IsTrue (fits e u)
-    × (after ≡ record { entries = d ∷ es; floor = now.floor })
-
-pub one_replaced : (p q : Kinds) (v : Widths) (now : Floored) (u : ValType) (j : Kind) (d : Entry) → operands_of p v ≡ now
-    → ((wide : Bool) → entry_of j wide ≡ d) → ReplacesKind u j p q → ReplacesEntry u d now (operands_of q v)
-one_replaced p q v now u j d seen is h = (
-  entry_of h.0 (is_wide v (length h.1)),
-  entries_in h.1 v,
-  ap (λ (z : Floored). z.entries) (sym seen) ∙ ap (λ ks. entries_in ks v) h.2,
-  omega (arith, floor_same p v now seen, length-entries h.1 v, h.3),
-  shown u h.0 (is_wide v (length h.1)) h.4,
-  changed p q v now (j ∷ h.1) (d ∷ entries_in h.1 v) seen h.5 (ap (λ e. e ∷ entries_in h.1 v) (is (is_wide v (length h.1)))),
-)
-
-abbrev pub ReplacesTwoKinds : ValType → ValType → Kind → Kinds → Kinds → Type 0
-ReplacesTwoKinds under top j p q =
-    (k : Kind) × (l : Kind) × (ks : List Kind) × (p.kinds ≡ k ∷ l ∷ ks) × (p.floor ≤ length ks)
-    × IsTrue (shows top k) × IsTrue (shows under l) × (q ≡ record { kinds = j ∷ ks; floor = p.floor })
-
-abbrev pub ReplacesTwoEntries : ValType → ValType → Entry → Floored → Floored → Type 0
-ReplacesTwoEntries under top d now after =
-    (e : Entry) × (f : Entry) × (es : List Entry) × (now.entries ≡ e ∷ f ∷ es) × (now.floor ≤ length es)
-    × IsTrue (fits e top) × IsTrue (fits f under) × (after ≡ record { entries = d ∷ es; floor = now.floor })
-
-pub two_replaced : (p q : Kinds) (v : Widths) (now : Floored) (under top : ValType) (j : Kind) (d : Entry) → operands_of p v ≡ now
-    → ((wide : Bool) → entry_of j wide ≡ d) → ReplacesTwoKinds under top j p q → ReplacesTwoEntries under top d now (operands_of q v)
-two_replaced p q v now under top j d seen is h = (
-  entry_of h.0 (is_wide v (length (h.1 ∷ h.2))),
-  entry_of h.1 (is_wide v (length h.2)),
-  entries_in h.2 v,
-  ap (λ (z : Floored). z.entries) (sym seen) ∙ ap (λ ks. entries_in ks v) h.3,
-  omega (arith, floor_same p v now seen, length-entries h.2 v, h.4),
-  shown top h.0 (is_wide v (length (h.1 ∷ h.2))) h.5,
-  shown under h.1 (is_wide v (length h.2)) h.6,
-  changed p q v now (j ∷ h.2) (d ∷ entries_in h.2 v) seen h.7 (ap (λ e. e ∷ entries_in h.2 v) (is (is_wide v (length h.2)))),
-)
+pub two_replaced : (p q : Kinds) (v : Widths) (now : Floored) (first_at second_at : ℕ) (k l : Kind) (top under : ValType) (given : Option Entry)
+    → operands_of p v ≡ now → first_at ≡ length p.kinds - 1 → second_at ≡ length p.kinds - 2
+    → IsTrue (fits (entry_of k (is_wide v first_at)) top) → IsTrue (fits (entry_of l (is_wide v second_at)) under)
+    → IsTold given (is_wide v second_at) → ReplacesKinds (k ∷ l ∷ []) (option_map kind_of given) p q
+    → ReplacesEntries (top ∷ under ∷ []) given now (operands_of q v)
+two_replaced p q v now first_at second_at k l top under given seen is is2 fit fit2 told h =
+    let ks = h.0 in
+    let i : first_at ≡ length (l ∷ ks) = omega (arith, is, ap length h.1) in
+    let j : second_at ≡ length ks = omega (arith, is2, ap length h.1) in (
+      entry_of k (is_wide v (length (l ∷ ks))) ∷ entry_of l (is_wide v (length ks)) ∷ [],
+      entries_in ks v,
+      ap (λ (z : Floored). z.entries) (sym seen) ∙ ap (λ js. entries_in js v) h.1,
+      (subst (λ n. IsTrue (fits (entry_of k (is_wide v n)) top)) i fit, (subst (λ n. IsTrue (fits (entry_of l (is_wide v n)) under)) j fit2, tt)),
+      omega (arith, floor_same p v now seen, length-entries ks v, h.2),
+      changed p q v now (option_to_list (option_map kind_of given) ++ ks) (option_to_list given ++ entries_in ks v) seen h.3
+          (given_entries given ks v (subst (λ n. IsTold given (is_wide v n)) j told)),
+    )

@@ -1,8 +1,8 @@
 -- What a look at the current word tells of the operands on top.
-use Rattle.std.proofs.Common.{ℕ, suc, ◌≡◌, ◌+◌, ◌-◌, ◌*◌, ◌/◌, ◌%◌, ◌^◌, ◌<◌, ◌≤◌, List, [], ◌∷◌, ◌++◌, Some, length, drop, get_or, sym, refl, ap, ◌∙◌, arith}
+use Rattle.std.proofs.Common.{ℕ, suc, ◌≡◌, ◌+◌, ◌-◌, ◌*◌, ◌/◌, ◌%◌, ◌^◌, ◌<◌, ◌≤◌, List, [], ◌∷◌, ◌++◌, Option, Some, length, drop, get_or, option_to_list, sym, refl, ap, ◌∙◌, arith}
 use Rattle.wm_stacks.specs.declared.words.Kind.{Kind}
 use Rattle.wm_stacks.specs.exact.Stacks.{first, rest}
-use Rattle.wm_stacks.specs.exact.Words.{Kinds, code_of, kind_of_code, kinds_in, kinds_of_word, kinds_under}
+use Rattle.wm_stacks.specs.exact.Words.{Kinds, ReplacesKinds, code_of, kind_of_code, kinds_in, kinds_of_word, kinds_under}
 use Rattle.wm_stacks.proofs.OperandWords.{kept_word, length-standing, pushed_standing, split_standing}
 
 -- these kinds and this floor, seen as a value
@@ -21,46 +21,31 @@ floor_seen ws c n floor now seen = ap (λ (v : Kinds). v.floor) seen
 pub height_seen : (ws : List ℕ) (c n floor : ℕ) (now : Kinds) → Seen ws c n floor now → length now.kinds ≡ n + 32 * length ws
 height_seen ws c n floor now seen = ap (λ es. length es) (kinds_seen ws c n floor now seen) ∙ length-standing ws c n
 
--- What a take of a kind of which P holds leaves, or what comes in its place.
-abbrev pub Leaves : (Kind → Type 0) → (List Kind → List Kind) → Kinds → Kinds → Type 0
-Leaves P then now after =
-    (e : Kind) × (es : List Kind) × (now.kinds ≡ e ∷ es) × (now.floor ≤ length es) × P e
-    × (after ≡ view_of (then es) now.floor)
-
--- The same of two kinds, the top one first.
-abbrev pub LeavesTwo : (Kind → Type 0) → (Kind → Type 0) → (Kind → List Kind → List Kind) → Kinds → Kinds → Type 0
-LeavesTwo P Q then now after =
-    (e : Kind) × (f : Kind) × (es : List Kind) × (now.kinds ≡ e ∷ f ∷ es) × (now.floor ≤ length es)
-    × P e × Q f × (after ≡ view_of (then f es) now.floor)
-
-pub one_taken : (ws : List ℕ) (c n floor : ℕ) (now : Kinds) (P : Kind → Type 0) (then : List Kind → List Kind) (after : List Kind)
-    → 0 < n → floor < n + 32 * length ws → Seen ws c n floor now → P (kind_of_code (c % 4))
-    → after ≡ then (kinds_in ws (c / 4) (n - 1)) → Leaves P then now (view_of after floor)
-one_taken ws c n floor now P then after some above seen ok is =
-    let f = floor_seen ws c n floor now seen in (
-      kind_of_code (c % 4),
-      kinds_in ws (c / 4) (n - 1),
-      kinds_seen ws c n floor now seen ∙ split_standing ws c n some,
+-- the top operand is taken, or the two topmost, and these kinds stand above what is left
+pub one_replaced : (ws : List ℕ) (c n floor : ℕ) (now : Kinds) (k : Kind) (given : Option Kind) (after : List Kind)
+    → 0 < n → floor < n + 32 * length ws → Seen ws c n floor now → kind_of_code (c % 4) ≡ k
+    → after ≡ option_to_list given ++ kinds_in ws (c / 4) (n - 1) → ReplacesKinds (k ∷ []) given now (view_of after floor)
+one_replaced ws c n floor now k given after some above seen ok is =
+    let f = floor_seen ws c n floor now seen in
+    let left = kinds_in ws (c / 4) (n - 1) in (
+      left,
+      kinds_seen ws c n floor now seen ∙ split_standing ws c n some ∙ ap (λ j. j ∷ left) ok,
       omega (arith, f, length-standing ws (c / 4) (n - 1), above, some),
-      ok,
-      ap (λ ks. view_of ks floor) is ∙ ap (λ i. view_of (then (kinds_in ws (c / 4) (n - 1))) i) f,
+      ap (λ ks. view_of ks floor) is ∙ ap (λ i. view_of (option_to_list given ++ left) i) f,
     )
 
-pub two_taken : (ws : List ℕ) (c n floor : ℕ) (now : Kinds) (P Q : Kind → Type 0) (then : Kind → List Kind → List Kind) (after : List Kind)
-    → 1 < n → floor + 1 < n + 32 * length ws → Seen ws c n floor now → P (kind_of_code (c % 4))
-    → Q (kind_of_code (c / 4 % 4))
-    → after ≡ then (kind_of_code (c / 4 % 4)) (kinds_in ws (c / 4 / 4) (n - 1 - 1)) → LeavesTwo P Q then now (view_of after floor)
-two_taken ws c n floor now P Q then after some above seen ok ok2 is =
-    let f = floor_seen ws c n floor now seen in (
-      kind_of_code (c % 4),
-      kind_of_code (c / 4 % 4),
-      kinds_in ws (c / 4 / 4) (n - 1 - 1),
-      kinds_seen ws c n floor now seen ∙ split_standing ws c n (omega (arith, some))
-          ∙ ap (λ es. kind_of_code (c % 4) ∷ es) (split_standing ws (c / 4) (n - 1) (omega (arith, some))),
+pub two_replaced : (ws : List ℕ) (c n floor : ℕ) (now : Kinds) (k l : Kind) (given : Option Kind) (after : List Kind)
+    → 1 < n → floor + 1 < n + 32 * length ws → Seen ws c n floor now → kind_of_code (c % 4) ≡ k
+    → kind_of_code (c / 4 % 4) ≡ l → after ≡ option_to_list given ++ kinds_in ws (c / 4 / 4) (n - 1 - 1)
+    → ReplacesKinds (k ∷ l ∷ []) given now (view_of after floor)
+two_replaced ws c n floor now k l given after some above seen ok ok2 is =
+    let f = floor_seen ws c n floor now seen in
+    let left = kinds_in ws (c / 4 / 4) (n - 1 - 1) in (
+      left,
+      kinds_seen ws c n floor now seen ∙ split_standing ws c n (omega (arith, some)) ∙ ap (λ j. j ∷ kinds_in ws (c / 4) (n - 1)) ok
+          ∙ ap (λ es. k ∷ es) (split_standing ws (c / 4) (n - 1) (omega (arith, some)) ∙ ap (λ j. j ∷ left) ok2),
       omega (arith, f, length-standing ws (c / 4 / 4) (n - 1 - 1), above, some),
-      ok,
-      ok2,
-      ap (λ ks. view_of ks floor) is ∙ ap (λ i. view_of (then (kind_of_code (c / 4 % 4)) (kinds_in ws (c / 4 / 4) (n - 1 - 1))) i) f,
+      ap (λ ks. view_of ks floor) is ∙ ap (λ i. view_of (option_to_list given ++ left) i) f,
     )
 
 -- one operand more, in the current word

@@ -1,4 +1,5 @@
 -- Exact answers of functions, refusals included. They follow the code for the layers above,
 -- and need not be believed.
+pub mod Near
 pub mod Stacks
 pub mod Words

@@ -1,10 +1,11 @@
 //! The operands of a body, and the floor above which they may be taken.
 
-ghost use Rattle.std.specs.Prelude.{◌≡◌, ◌≢◌, ◌-◌, ◌%◌, ◌^◌, ◌<◌, ◌≤◌, IsTrue, List, [], ◌∷◌, Some, IfErr};
-ghost use Rattle.std.specs.Prelude.{OnErr, OnOk, MatchOption, false, true, drop, length};
+ghost use Rattle.std.specs.Prelude.{◌≡◌, ◌≢◌, ◌-◌, ◌%◌, ◌^◌, ◌<◌, ◌≤◌, IsTrue, Bool, [], ◌∷◌, Some, IfErr};
+ghost use Rattle.std.specs.Prelude.{OnErr, OnOk, IfSome, MatchOption, true, drop, length, option_map};
 ghost use Rattle.wm_stacks.specs.Stack.{fits};
 ghost use Rattle.wm_stacks.specs.exact.Stacks.{first, rest};
-ghost use Rattle.wm_stacks.specs.inner.Operands.{entry_of, kind_of};
+ghost use Rattle.wm_stacks.specs.exact.Near.{DoneOrLeft};
+ghost use Rattle.wm_stacks.specs.inner.Operands.{IsTold, PushesEntry, ReplacesEntries, entry_of, kind_of};
 ghost use Rattle.wm_stacks.specs.inner.Widths.{is_wide};
 
 use crate::entries::Entry;
@@ -89,10 +90,13 @@ impl Operands {
         ensures near { OnErr result (64 ≤ length self.old.entries) }
         ensures between { entry ≢ Entry.F64 → OnErr result (length self.old.entries % 32 ≡ 0) }
     {
-        match entry {
-            Entry::F32 | Entry::F64 => self.push_float(entry),
-            _ => self.packed.push(kind(entry)),
-        }
+        let kind = match entry {
+            Entry::I32 => Kind::I32,
+            Entry::I64 => Kind::I64,
+            Entry::Unknown => Kind::Unknown,
+            Entry::F32 | Entry::F64 => return self.push_float(entry),
+        };
+        self.packed.push(kind)
     }
 
     // The same of a float, out of the way of those that are none.
@@ -151,11 +155,7 @@ impl Operands {
     /// for its bit.
     #[inline(always)]
     pub fn push_float_near(&mut self, float: Entry) -> bool
-        ensures pushed { result ≡ true → self.new ≡ record {
-          entries = float ∷ self.old.entries;
-          floor = self.old.floor;
-        } }
-        ensures left { result ≡ false → self.new ≡ self.old }
+        ensures { DoneOrLeft (PushesEntry float) result self.old self.new }
     {
         let height = self.packed.height();
         if height >= IN_FIRST {
@@ -169,113 +169,78 @@ impl Operands {
         self.packed.push_near(Kind::Float)
     }
 
-    /// Takes the top operand away where a look at one word shows that it is above the floor and fits: of
-    /// floats it never does.
+    /// Takes the top operand away where a look at one word shows that it is above the floor and fits, and
+    /// puts the given one in its place, if one is given. Neither is a float: its width would have to be
+    /// looked at, or written.
     #[inline(always)]
-    pub fn take_near(&mut self, expected: ValType) -> bool
-        ensures taken { result ≡ true → (e : Entry) × (es : List Entry) × (self.old.entries ≡ e ∷ es)
-            × (self.old.floor ≤ length es) × IsTrue (fits e expected)
-            × (self.new ≡ record { entries = es; floor = self.old.floor }) }
-        ensures left { result ≡ false → self.new ≡ self.old }
+    pub fn replace_near(&mut self, expected: ValType, given: Option<Entry>) -> bool
+        ensures { DoneOrLeft (ReplacesEntries (expected ∷ []) given) result self.old self.new }
     {
-        self.packed.take_near(expected)
+        let Some(top) = whole_kind(expected) else {
+            return false;
+        };
+        if !has_no_width(given) {
+            return false;
+        }
+        self.packed.replace_near(top, kind_given(given))
     }
 
     /// The same of the two topmost operands.
     #[inline(always)]
-    pub fn take_two_near(&mut self, under: ValType, top: ValType) -> bool
-        ensures taken { result ≡ true → (e : Entry) × (f : Entry) × (es : List Entry)
-            × (self.old.entries ≡ e ∷ f ∷ es) × (self.old.floor ≤ length es)
-            × IsTrue (fits e top) × IsTrue (fits f under)
-            × (self.new ≡ record { entries = es; floor = self.old.floor }) }
-        ensures left { result ≡ false → self.new ≡ self.old }
+    pub fn replace_two_near(&mut self, under: ValType, top: ValType, given: Option<Entry>) -> bool
+        ensures { DoneOrLeft (ReplacesEntries (top ∷ under ∷ []) given) result self.old self.new }
     {
-        self.packed.take_two_near(under, top)
-    }
-
-    /// Puts an operand that is no float in the place of the top one, where `take_near` would take that. A
-    /// float is never put there, since its width would have to be written too.
-    #[inline(always)]
-    pub fn replace_near(&mut self, expected: ValType, entry: Entry) -> bool
-        ensures replaced { result ≡ true → (e : Entry) × (es : List Entry) × (self.old.entries ≡ e ∷ es)
-            × (self.old.floor ≤ length es) × IsTrue (fits e expected)
-            × (self.new ≡ record { entries = entry ∷ es; floor = self.old.floor }) }
-        ensures left { result ≡ false → self.new ≡ self.old }
-    {
-        match entry {
-            Entry::F32 | Entry::F64 => false,
-            _ => self.packed.replace_near(expected, kind(entry)),
+        let Some(second) = whole_kind(under) else {
+            return false;
+        };
+        let Some(first) = whole_kind(top) else {
+            return false;
+        };
+        if !has_no_width(given) {
+            return false;
         }
+        self.packed
+            .replace_two_near(second, first, kind_given(given))
     }
 
-    /// The same in the place of the two topmost, where `take_two_near` would take those.
+    /// The same of a float, which one bit more tells: only in the first word of widths, so that nothing is
+    /// called. A float is given in its place only where it has that type.
     #[inline(always)]
-    pub fn replace_two_near(&mut self, under: ValType, top: ValType, entry: Entry) -> bool
-        ensures replaced { result ≡ true → (e : Entry) × (f : Entry) × (es : List Entry)
-            × (self.old.entries ≡ e ∷ f ∷ es) × (self.old.floor ≤ length es)
-            × IsTrue (fits e top) × IsTrue (fits f under)
-            × (self.new ≡ record { entries = entry ∷ es; floor = self.old.floor }) }
-        ensures left { result ≡ false → self.new ≡ self.old }
-    {
-        match entry {
-            Entry::F32 | Entry::F64 => false,
-            _ => self.packed.replace_two_near(under, top, kind(entry)),
-        }
-    }
-
-    /// Whether a look at one word and one bit shows that this float is the top operand, above the floor: only
-    /// in the first word of widths, so that nothing is called.
-    #[inline(always)]
-    pub fn has_float_near(&self, float: Entry) -> bool
-        ensures { result ≡ true → (es : List Entry) × (self.now.entries ≡ float ∷ es)
-            × (self.now.floor ≤ length es) }
+    pub fn replace_float_near(&mut self, expected: ValType, given: Option<Entry>) -> bool
+        ensures { DoneOrLeft (ReplacesEntries (expected ∷ []) given) result self.old self.new }
     {
         let height = self.packed.height();
         if height == 0 || height > IN_FIRST {
             return false;
         }
-        if !is_float(float, self.widths.is_wide(height - 1)) {
+        if !is_of_width(expected, self.widths.is_wide(height - 1)) || !has_type(given, expected) {
             return false;
         }
-        self.packed.has_float_near()
+        self.packed.replace_near(Kind::Float, kind_given(given))
     }
 
-    /// Takes the top operand away where `has_float_near` shows that it is this float.
+    /// The same of two floats.
     #[inline(always)]
-    pub fn take_float_near(&mut self, float: Entry) -> bool
-        ensures taken { result ≡ true → (es : List Entry) × (self.old.entries ≡ float ∷ es)
-            × (self.old.floor ≤ length es)
-            × (self.new ≡ record { entries = es; floor = self.old.floor }) }
-        ensures left { result ≡ false → self.new ≡ self.old }
-    {
-        let height = self.packed.height();
-        if height == 0 || height > IN_FIRST {
-            return false;
-        }
-        if !is_float(float, self.widths.is_wide(height - 1)) {
-            return false;
-        }
-        self.packed.take_float_near()
-    }
-
-    /// Takes the top operand away where such a look shows that it and the one under it are this float.
-    #[inline(always)]
-    pub fn merge_floats_near(&mut self, float: Entry) -> bool
-        ensures merged { result ≡ true → (es : List Entry) × (self.old.entries ≡ float ∷ float ∷ es)
-            × (self.old.floor ≤ length es)
-            × (self.new ≡ record { entries = float ∷ es; floor = self.old.floor }) }
-        ensures left { result ≡ false → self.new ≡ self.old }
+    pub fn replace_two_floats_near(
+        &mut self,
+        under: ValType,
+        top: ValType,
+        given: Option<Entry>,
+    ) -> bool
+        ensures { DoneOrLeft (ReplacesEntries (top ∷ under ∷ []) given) result self.old self.new }
     {
         let height = self.packed.height();
         if height < 2 || height > IN_FIRST {
             return false;
         }
-        if !is_float(float, self.widths.is_wide(height - 1))
-            || !is_float(float, self.widths.is_wide(height - 2))
-        {
+        if !is_of_width(top, self.widths.is_wide(height - 1)) {
             return false;
         }
-        self.packed.merge_floats_near()
+        if !is_of_width(under, self.widths.is_wide(height - 2)) || !has_type(given, under) {
+            return false;
+        }
+        self.packed
+            .replace_two_near(Kind::Float, Kind::Float, kind_given(given))
     }
 
     /// The top operand, where one stands above the floor.
@@ -313,15 +278,29 @@ impl Operands {
     }
 }
 
-#[inline]
-fn kind(entry: Entry) -> Kind
-    ensures { result ≡ kind_of entry }
+// The kind of what is given.
+#[inline(always)]
+fn kind_given(given: Option<Entry>) -> Option<Kind>
+    ensures { result ≡ option_map kind_of given }
 {
-    match entry {
-        Entry::I32 => Kind::I32,
-        Entry::I64 => Kind::I64,
-        Entry::F32 | Entry::F64 => Kind::Float,
-        Entry::Unknown => Kind::Unknown,
+    match given {
+        Some(Entry::I32) => Some(Kind::I32),
+        Some(Entry::I64) => Some(Kind::I64),
+        Some(Entry::F32 | Entry::F64) => Some(Kind::Float),
+        Some(Entry::Unknown) => Some(Kind::Unknown),
+        None => None,
+    }
+}
+
+// The kind of an operand of this type, which is no float.
+#[inline(always)]
+fn whole_kind(ty: ValType) -> Option<Kind>
+    ensures { IfSome result (λ kind. (wide : Bool) → IsTrue (fits (entry_of kind wide) ty)) }
+{
+    match ty {
+        ValType::I32 => Some(Kind::I32),
+        ValType::I64 => Some(Kind::I64),
+        ValType::F32 | ValType::F64 => None,
     }
 }
 
@@ -347,6 +326,44 @@ fn is_float(float: Entry, wide: bool) -> bool
         Entry::F64 => wide,
         Entry::F32 => !wide,
         _ => false,
+    }
+}
+
+// Whether a float that is so wide has this type.
+#[inline(always)]
+fn is_of_width(ty: ValType, wide: bool) -> bool
+    ensures { result ≡ true → IsTrue (fits (entry_of Kind.Float wide) ty) }
+{
+    match ty {
+        ValType::F64 => wide,
+        ValType::F32 => !wide,
+        ValType::I32 | ValType::I64 => false,
+    }
+}
+
+// Whether what is given has this type, if it is a float.
+#[inline(always)]
+fn has_type(given: Option<Entry>, ty: ValType) -> bool
+    ensures { result ≡ true → (wide : Bool) → IsTrue (fits (entry_of Kind.Float wide) ty)
+        → IsTold given wide }
+{
+    match given {
+        Some(Entry::F64) => ty == ValType::F64,
+        Some(Entry::F32) => ty == ValType::F32,
+        Some(Entry::I32 | Entry::I64 | Entry::Unknown) => true,
+        None => true,
+    }
+}
+
+// Whether what is given is no float, or nothing is.
+#[inline(always)]
+fn has_no_width(given: Option<Entry>) -> bool
+    ensures { result ≡ true → (wide : Bool) → IsTold given wide }
+{
+    match given {
+        Some(Entry::F32 | Entry::F64) => false,
+        Some(Entry::I32 | Entry::I64 | Entry::Unknown) => true,
+        None => true,
     }
 }
 

@@ -1,5 +1,5 @@
 -- What each op can add to the moves and to the heights.
-use Rattle.std.proofs.Common.{ℕ, zero, suc, ◌≡◌, ◌≤◌, ◌+◌, ◌-◌, Bool, true, false, cond, List, [], ◌∷◌, ◌++◌, Option, Some, None, Result, Ok, Err, reverse, length, slice_get, option_to_list, refl, ap, subst, arith}
+use Rattle.std.proofs.Common.{ℕ, zero, suc, ◌≡◌, ◌≤◌, ◌+◌, ◌-◌, Bool, true, false, cond, List, [], ◌∷◌, ◌++◌, Option, Some, None, Result, Ok, Err, reverse, length, slice_get, option_map, option_to_list, refl, sym, ap, ◌∙◌, subst, arith}
 use Rattle.std.specs.Prelude.{nat_le, nat_lt, nat_eq, ◌^◌, option_and_then}
 use Rattle.wm_syntax.specs.declared.types.ValType.{ValType}
 use Rattle.wm_syntax.specs.declared.types.ValType.TheVariants.{I32}
@@ -17,6 +17,7 @@ use Rattle.wm_stacks.specs.declared.entries.Frame.{Frame}
 use Rattle.wm_stacks.specs.declared.entries.Reach.{Reach}
 use Rattle.wm_stacks.specs.declared.entries.Reach.TheVariants.{Whole, Floor}
 use Rattle.wm_stacks.specs.Stack.{Stack, fits}
+use Rattle.wm_stacks.specs.exact.Near.{Replaces, push_given}
 use Rattle.wm_stacks.specs.exact.Stacks.{push, open_frame, count_after_move, pop_to, at_floor as stack_at_floor, takes, take_above, in_frame, take_one, take_all, goes_on, any_above, take_any, cut, cut_at, down_to, close, close_at}
 use Rattle.wm_typing.specs.declared.labels.BrTable.{BrTable}
 use Rattle.wm_typing.specs.Typing.{Context, function_type}
@@ -32,7 +33,7 @@ use Rattle.wm_syntax.specs.declared.instructions.Numeric.TheVariants as num
 use Rattle.wm_syntax.specs.declared.instructions.SignExtension.TheVariants as ext
 use Rattle.wm_syntax.specs.Types.{Signature}
 use Rattle.wm_syntax.specs.Opcodes.{numeric, load, store}
-use Rattle.wm_typing.specs.exact.Answers.{Adds}
+use Rattle.wm_typing.specs.exact.Answers.{Acts, Adds}
 
 abbrev pub OneAdds : Result Reach Why × Stack → Stack → Type 0
 OneAdds (Ok Whole, z) s = Adds 0 0 s z
@@ -191,8 +192,31 @@ small_option None = tt
 small_option (Some t) = tt
 
 -- what is done adds so much
-pub done_adds : (p : List ValType) (given : Option ValType) (s z : Stack) → drive_fixed p (option_to_list given) s ≡ Ok z → Adds 3 1 s z
+done_adds : (p : List ValType) (given : Option ValType) (s z : Stack) → drive_fixed p (option_to_list given) s ≡ Ok z → Adds 3 1 s z
 done_adds p given s z h = subst (MayAdd 3 1 s) h (fixed_adds p (option_to_list given) s (small_option given))
+
+put_all : (given : Option ValType) (s : Stack) → push_given (option_map entry_of_type given) s ≡ push_all (option_to_list given) s
+put_all None s = refl
+put_all (Some t) s = refl
+
+after_taken : (r : Result Reach Why × Stack) (given : Option ValType) (z : Stack) → r.0 ≡ Ok Whole → z ≡ push_given (option_map entry_of_type given) r.1
+    → after_call r (λ a y. Ok (push_all (option_to_list given) y)) ≡ Ok z
+after_taken (Ok a, y) given z taken is = ap (λ (x : Stack). Ok x) (sym (is ∙ put_all given y))
+after_taken (Err w, y) given z taken is = cc
+
+-- what a look at the operands did is what the type says
+near_done : (under : Option ValType) (top : ValType) (given : Option ValType) (s z : Stack)
+    → Replaces (top ∷ option_to_list under) (option_map entry_of_type given) s z
+    → drive_fixed (option_to_list under ++ top ∷ []) (option_to_list given) s ≡ Ok z
+near_done None top given s z h = after_taken (take_all (top ∷ []) s) given z h.0 h.1
+near_done (Some u) top given s z h = after_taken (take_all (top ∷ u ∷ []) s) given z h.0 h.1
+
+pub near_acts : (under : Option ValType) (top : ValType) (given : Option ValType) (put : Option Entry) (s z : Stack)
+    → put ≡ option_map entry_of_type given → Replaces (top ∷ option_to_list under) put s z
+    → Acts {A = Unit {0}} (drive_fixed (option_to_list under ++ top ∷ []) (option_to_list given) s) 3 1 s z (Ok tt)
+near_acts under top given put s z is h =
+    let d = near_done under top given s z (subst (λ (p : Option Entry). Replaces (top ∷ option_to_list under) p s z) is h) in
+    (d, tt, done_adds (option_to_list under ++ top ∷ []) given s z d)
 
 small_item : {A : Type 0} (o : Option A) (f : A → Effect) → ((x : A) → o ≡ Some x → SmallShape (f x)) → SmallShape (with_item o f)
 small_item None f h = tt

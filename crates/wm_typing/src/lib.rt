@@ -7,7 +7,6 @@ pub mod body_checker;
 pub mod context;
 mod declared_locals;
 pub mod func_types;
-mod function;
 mod instructions;
 mod known_locals;
 pub mod labels;

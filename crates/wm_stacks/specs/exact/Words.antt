@@ -1,9 +1,7 @@
 -- The kinds of operands in words of 64 bits, two bits each: 0 is I32, 1 is I64, 2 is Unknown and 3 a float.
 -- The topmost of the operands whose kinds are in a word has the lowest place.
-use Rattle.std.specs.Prelude.{ℕ, zero, suc, ◌/◌, ◌%◌, ◌==◌, Bool, true, false, if◌then◌else◌}
-use Rattle.std.specs.Prelude.{List, [], ◌∷◌, ◌++◌}
-use Rattle.wm_syntax.specs.declared.types.ValType.{ValType}
-use Rattle.wm_syntax.specs.declared.types.ValType.TheVariants as t
+use Rattle.std.specs.Prelude.{ℕ, zero, suc, ◌/◌, ◌%◌, ◌==◌, if◌then◌else◌}
+use Rattle.std.specs.Prelude.{◌≡◌, ◌≤◌, List, [], ◌∷◌, ◌++◌, Option, length, option_to_list}
 use Rattle.wm_stacks.specs.declared.words.Kind.{Kind}
 use Rattle.wm_stacks.specs.declared.words.Kind.TheVariants.{I32, I64, Unknown, Float}
 
@@ -16,19 +14,6 @@ code_of Float = 3
 -- what a number stands for
 abbrev pub kind_of_code : ℕ → Kind
 kind_of_code c = if c == 0 then I32 else if c == 1 then I64 else if c == 2 then Unknown else Float
-
--- The kind alone shows that the operand has this type. That of a float tells too little.
-abbrev pub shows : ValType → Kind → Bool
-shows t.I32 I32 = true
-shows t.I32 I64 = false
-shows t.I32 Unknown = false
-shows t.I32 Float = false
-shows t.I64 I32 = false
-shows t.I64 I64 = true
-shows t.I64 Unknown = false
-shows t.I64 Float = false
-shows t.F32 k = false
-shows t.F64 k = false
 
 -- the kinds in the lowest n places of a word, that in the lowest place first
 abbrev pub kinds_of_word : ℕ → ℕ → List Kind
@@ -48,3 +33,12 @@ kinds_in words current n = kinds_of_word n current ++ kinds_under words
 pub record Kinds : Type 0 where
   pub kinds : List Kind
   pub floor : ℕ
+
+abbrev pub PushesKind : Kind → Kinds → Kinds → Type 0
+PushesKind k s z = z ≡ record { kinds = k ∷ s.kinds; floor = s.floor }
+
+-- these kinds are taken from above the floor, the first of the list from the top, and this one is put there
+abbrev pub ReplacesKinds : List Kind → Option Kind → Kinds → Kinds → Type 0
+ReplacesKinds taken given s z =
+    (ks : List Kind) × (s.kinds ≡ taken ++ ks) × (s.floor ≤ length ks)
+    × (z ≡ record { kinds = option_to_list given ++ ks; floor = s.floor })

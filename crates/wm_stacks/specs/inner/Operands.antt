@@ -1,5 +1,8 @@
 -- Operands by their kinds and their widths.
-use Rattle.std.specs.Prelude.{ℕ, Bool, true, false, List, [], ◌∷◌, length}
+use Rattle.std.specs.Prelude.{ℕ, ◌≡◌, ◌≤◌, Bool, true, false, List, [], ◌∷◌, ◌++◌, Option, Some, None, length}
+use Rattle.std.specs.Prelude.{option_to_list}
+use Rattle.wm_syntax.specs.declared.types.ValType.{ValType}
+use Rattle.wm_stacks.specs.Stack.{AgreeAll}
 use Rattle.wm_stacks.specs.declared.entries.Entry.{Entry}
 use Rattle.wm_stacks.specs.declared.entries.Entry.TheVariants as entry
 use Rattle.wm_stacks.specs.declared.words.Kind.{Kind}
@@ -28,6 +31,11 @@ entry_of Unknown wide = entry.Unknown
 entry_of Float true = entry.F64
 entry_of Float false = entry.F32
 
+-- what is given is told by its kind, and by this width if it is a float
+abbrev pub IsTold : Option Entry → Bool → Type 0
+IsTold None wide = Unit {0}
+IsTold (Some e) wide = entry_of (kind_of e) wide ≡ e
+
 -- In both lists the topmost is the first, so an operand's index is how many are under it.
 abbrev pub entries_in : List Kind → Widths → List Entry
 entries_in [] w = []
@@ -35,3 +43,12 @@ entries_in (k ∷ ks) w = entry_of k (is_wide w (length ks)) ∷ entries_in ks w
 
 abbrev pub operands_of : Kinds → Widths → Floored
 operands_of p w = record { entries = entries_in p.kinds w; floor = p.floor }
+
+abbrev pub PushesEntry : Entry → Floored → Floored → Type 0
+PushesEntry e s z = z ≡ record { entries = e ∷ s.entries; floor = s.floor }
+
+-- operands of these types are taken from above the floor, and this one is put there
+abbrev pub ReplacesEntries : List ValType → Option Entry → Floored → Floored → Type 0
+ReplacesEntries ts given s z =
+    (taken es : List Entry) × (s.entries ≡ taken ++ es) × AgreeAll taken ts × (s.floor ≤ length es)
+    × (z ≡ record { entries = option_to_list given ++ es; floor = s.floor })

@@ -99,6 +99,7 @@ IsRareNumeric (numeric.Binary t o) = ⊥
 IsRareNumeric (numeric.FloatCompare t c) = ⊥
 IsRareNumeric (numeric.FloatUnary t o) = ⊥
 IsRareNumeric (numeric.FloatBinary t o) = ⊥
+IsRareNumeric (numeric.SignExtend o) = ⊥
 IsRareNumeric o = Unit {0}
 
 -- takes the result of the innermost frame, and closes it

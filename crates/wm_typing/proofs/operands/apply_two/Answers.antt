@@ -1,9 +1,9 @@
--- What is done at once is what the type says, and what is done adds so much.
-use Rattle.std.proofs.Common.{[], ◌∷◌}
-use Rattle.wm_typing.proofs.Costs.{done_adds}
+-- What is done at once is what the type says.
+use Rattle.std.proofs.Common.{Some}
+use Rattle.wm_typing.proofs.Costs.{near_acts}
 use Rattle.wm_typing.proofs.operands.apply_two.Goals as goal
 
-pub returns-then-applied_two : goal.returns-then-applied_two
-returns-then-applied_two c =
-    let a = c.applied_two.ensures.applied c.if-applied_two.true in
-    (a, tt, done_adds (c.args.under ∷ c.args.top ∷ []) c.args.given c.args.stacks.now c.applied_two.new.stacks a)
+pub returns-then-replace_two_near : goal.returns-then-replace_two_near
+returns-then-replace_two_near c =
+    near_acts (Some c.args.under) c.args.top c.args.given c.entry_given.result c.args.stacks.now c.replace_two_near.new.self c.entry_given.ensures
+    (c.replace_two_near.ensures.0 c.if-replace_two_near.true)

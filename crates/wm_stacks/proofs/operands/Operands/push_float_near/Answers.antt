@@ -4,19 +4,14 @@ use Rattle.wm_stacks.specs.declared.words.Kind.TheVariants.{Float}
 use Rattle.wm_stacks.proofs.KindsAndWidths.{kept, pushed, written_there, written_under}
 use Rattle.wm_stacks.proofs.operands.Operands.push_float_near.Goals as goal
 
-pub returns-clause-pushed : goal.returns-clause-pushed
-returns-clause-pushed c =
+pub returns : goal.returns
+returns c =
     let s = c.self.inside in
     let w = c.put.new.self in
     let n = length s.packed.kinds in
     let at = c.height-height.result in
-    λ t. pushed s.packed c.push_near.new.self s.widths w c.args.self.now Float c.args.float c.self.view_is (c.push_near.ensures.pushed t)
-    (written_under at _ s.widths w n c.put.ensures c.height-height.ensures.height)
-    (written_there at _ s.widths w n c.put.ensures c.height-height.ensures.height ∙ c.is_float.ensures c.if-not-is_float.false)
-
-pub returns-clause-left : goal.returns-clause-left
-returns-clause-left c =
-    let s = c.self.inside in
-    let w = c.put.new.self in
-    λ t. kept s.packed c.push_near.new.self s.widths w c.args.self.now c.self.view_is (c.push_near.ensures.left t)
-    (written_under c.height-height.result _ s.widths w (length s.packed.kinds) c.put.ensures c.height-height.ensures.height)
+    let under = written_under at _ s.widths w n c.put.ensures c.height-height.ensures.height in (
+      λ t. pushed s.packed c.push_near.new.self s.widths w c.args.self.now Float c.args.float c.self.view_is (c.push_near.ensures.0 t) under
+          (written_there at _ s.widths w n c.put.ensures c.height-height.ensures.height ∙ c.is_float.ensures c.if-not-is_float.false),
+      λ t. kept s.packed c.push_near.new.self s.widths w c.args.self.now c.self.view_is (c.push_near.ensures.1 t) under,
+    )

@@ -1,20 +1,21 @@
--- A kind that shows that its operand fits says so of the operand, and what is no float is told by its kind.
-use Rattle.std.proofs.Common.{ap, ◌∙◌}
+-- Its kind shows that what is taken fits, and what is given is told by its kind.
+use Rattle.std.proofs.Common.{◌-◌, [], ◌∷◌, length, refl, ap, ◌∙◌, subst}
+use Rattle.std.proofs.Common.{Option}
 use Rattle.wm_stacks.specs.declared.words.Kind.{Kind}
-use Rattle.wm_stacks.specs.exact.Words.{Kinds}
-use Rattle.wm_stacks.specs.inner.Operands.{entry_of, operands_of}
-use Rattle.wm_stacks.proofs.KindsAndWidths.{one_replaced, told}
+use Rattle.wm_stacks.specs.exact.Words.{Kinds, ReplacesKinds}
+use Rattle.wm_stacks.specs.inner.Operands.{operands_of}
+use Rattle.wm_stacks.specs.inner.Widths.{is_wide}
+use Rattle.wm_stacks.proofs.KindsAndWidths.{one_replaced}
 use Rattle.wm_stacks.proofs.operands.Operands.replace_near.Goals as goal
 
-pub returns-in_default : goal.returns-in_default
-returns-in_default c =
+pub returns : goal.returns
+returns c =
     let s = c.self.inside in
     let q = c.replace_near.new.self in
-    let d = c.args.entry in
-    record {
-      replaced =
-          λ t. one_replaced s.packed q s.widths c.args.self.now c.args.expected c.kind.result d c.self.view_is
-          (λ wide. ap (λ (k : Kind). entry_of k wide) c.kind.ensures ∙ told d wide c.in_default.not-F32 c.in_default.not-F64)
-          (c.replace_near.ensures.replaced t);
-      left = λ t. ap (λ (z : Kinds). operands_of z s.widths) (c.replace_near.ensures.left t) ∙ c.self.view_is;
-    }
+    let at = length s.packed.kinds - 1 in
+    let wide = is_wide s.widths at in (
+      λ t. one_replaced s.packed q s.widths c.args.self.now at c.in-Some.top c.args.expected c.args.given c.self.view_is refl
+          (c.in-Some.ensures wide) (c.has_no_width.ensures c.if-not-has_no_width.false wide)
+          (subst (λ (j : Option Kind). ReplacesKinds (c.in-Some.top ∷ []) j s.packed q) c.kind_given.ensures (c.replace_near.ensures.0 t)),
+      λ t. ap (λ (z : Kinds). operands_of z s.widths) (c.replace_near.ensures.1 t) ∙ c.self.view_is,
+    )

@@ -1,0 +1,13 @@
+-- What the look did to the operands is what a take and a push would do.
+use Rattle.std.proofs.Common.{true, false, ◌≡◌, [], ◌∷◌, reverse, arith}
+use Rattle.wm_stacks.proofs.Takes.{replaced}
+use Rattle.wm_stacks.proofs.stacks.Stacks.replace_two_floats_near.Goals as goal
+
+pub returns : goal.returns
+returns c =
+    let s = c.self.inside in (
+      λ _. replaced (c.args.top ∷ c.args.under ∷ []) c.args.given s.operands c.replace_two_floats_near.new.self (reverse s.frames.items) s.moves _ c.args.self.now
+          c.count.new.self c.requires c.self.invariant.2 c.self.view_is (omega (arith, c.pushes.ensures)) c.count.ensures
+          (c.replace_two_floats_near.ensures.0 c.if-not-replace_two_floats_near.false),
+      λ (e : true ≡ false). cc,
+    )
