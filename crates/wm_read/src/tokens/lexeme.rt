@@ -1,7 +1,7 @@
 //! The tokens of a text (sections 6.2 and 6.3), one at a time.
 
 ghost use Rattle.std.specs.Prelude.{◌≡◌, ◌≢◌, ◌<◌, ◌≤◌, length, MatchOption, MatchResult, true, false, OnOk};
-ghost use Rattle.std.specs.Prelude.{OnErr, IfSome, IfErr, IsUtf8, ◌↔◌, ◌⊎◌, take, drop, List, [], ◌∷◌, ◌++◌};
+ghost use Rattle.std.specs.Prelude.{OnErr, IfSome, IfErr, IsUtf8, ◌↔◌, ◌⊎◌, List, [], ◌∷◌, ◌++◌};
 ghost use Rattle.std.specs.Prelude.{IsTrue, IfOk, encode_utf8};
 ghost use Rattle.std.specs.Str.{IsValidUpTo};
 ghost use Rattle.wm_read.specs.exact.Scan as scan;
@@ -10,7 +10,7 @@ ghost use Rattle.wm_read.specs.Tokens as tokens;
 ghost use Rattle.wm_read.specs.declared.faults.TextWhy.TheVariants.{NotUtf8, BadToken, OpenComment};
 ghost use Rattle.wm_read.specs.declared.tokens.scan.Mode.TheVariants as mode;
 ghost use Rattle.wm_read.specs.inner.Lexemes.{token_of, bytes_of, ahead_of, IsTold};
-ghost use Rattle.wm_read.specs.inner.Places.{HasNoFloat, IsFault, IsFloat, Steps};
+ghost use Rattle.wm_read.specs.inner.Places.{HasNoFloat, IsFault, IsFloat};
 
 use crate::faults::{TextRefusal, TextWhy};
 use crate::tokens::scan::{

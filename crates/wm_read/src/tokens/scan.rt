@@ -584,10 +584,8 @@ fn is_literal(atom: &[u8]) -> bool
 {
     match atom {
         [] => false,
-        [c, rest @ ..] => match *c {
-            b'+' | b'-' => has_form(rest),
-            _ => has_form(atom),
-        },
+        [b'+' | b'-', rest @ ..] => has_form(rest),
+        _ => has_form(atom),
     }
 }
 
