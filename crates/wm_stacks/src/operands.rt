@@ -170,8 +170,8 @@ impl Operands {
     }
 
     /// Takes the top operand away where a look at one word shows that it is above the floor and fits, and
-    /// puts the given one in its place, if one is given. Neither is a float: its width would have to be
-    /// looked at, or written.
+    /// puts the given one in its place, if one is given. False where one of them is a float: its width would
+    /// have to be looked at, or written.
     #[inline(always)]
     pub fn replace_near(&mut self, expected: ValType, given: Option<Entry>) -> bool
         ensures { DoneOrLeft (ReplacesEntries (expected ∷ []) given) result self.old self.new }
@@ -213,7 +213,7 @@ impl Operands {
         if height == 0 || height > IN_FIRST {
             return false;
         }
-        if !is_of_width(expected, self.widths.is_wide(height - 1)) || !has_type(given, expected) {
+        if !is_of_width(expected, self.widths.is_wide(height - 1)) || !is_as_wide(given, expected) {
             return false;
         }
         self.packed.replace_near(Kind::Float, kind_given(given))
@@ -236,7 +236,7 @@ impl Operands {
         if !is_of_width(top, self.widths.is_wide(height - 1)) {
             return false;
         }
-        if !is_of_width(under, self.widths.is_wide(height - 2)) || !has_type(given, under) {
+        if !is_of_width(under, self.widths.is_wide(height - 2)) || !is_as_wide(given, under) {
             return false;
         }
         self.packed
@@ -341,9 +341,9 @@ fn is_of_width(ty: ValType, wide: bool) -> bool
     }
 }
 
-// Whether what is given has this type, if it is a float.
+// Whether what is given is as wide as this type, if it is a float.
 #[inline(always)]
-fn has_type(given: Option<Entry>, ty: ValType) -> bool
+fn is_as_wide(given: Option<Entry>, ty: ValType) -> bool
     ensures { result ≡ true → (wide : Bool) → IsTrue (fits (entry_of Kind.Float wide) ty)
         → IsTold given wide }
 {

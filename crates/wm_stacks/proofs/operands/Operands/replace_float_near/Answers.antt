@@ -18,7 +18,7 @@ returns c =
     let fit : IsTrue (fits (entry_of Float (is_wide s.widths at)) c.args.expected) =
     subst (λ (b : Bool). IsTrue (fits (entry_of Float b) c.args.expected)) c.is_wide.ensures (c.is_of_width.ensures c.if-not-is_of_width.false) in (
       λ t. one_replaced s.packed q s.widths c.args.self.now at Float c.args.expected c.args.given c.self.view_is is fit
-          (c.has_type.ensures c.if-not-has_type.false (is_wide s.widths at) fit)
+          (c.is_as_wide.ensures c.if-not-is_as_wide.false (is_wide s.widths at) fit)
           (subst (λ (j : Option Kind). ReplacesKinds (Float ∷ []) j s.packed q) c.kind_given.ensures (c.replace_near.ensures.0 t)),
       λ t. ap (λ (z : Kinds). operands_of z s.widths) (c.replace_near.ensures.1 t) ∙ c.self.view_is,
     )

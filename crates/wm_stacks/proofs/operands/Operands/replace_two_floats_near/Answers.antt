@@ -22,7 +22,7 @@ returns c =
     subst (λ (b : Bool). IsTrue (fits (entry_of Float b) c.args.under)) c.is_wide-2.ensures (c.is_of_width-2.ensures c.if-not-is_of_width-2.false) in (
       λ t. two_replaced s.packed q s.widths c.args.self.now first second Float Float c.args.top c.args.under c.args.given c.self.view_is is is2
           (subst (λ (b : Bool). IsTrue (fits (entry_of Float b) c.args.top)) c.is_wide.ensures (c.is_of_width.ensures c.if-not-is_of_width.false)) fit
-          (c.has_type.ensures c.if-not-has_type.false (is_wide s.widths second) fit)
+          (c.is_as_wide.ensures c.if-not-is_as_wide.false (is_wide s.widths second) fit)
           (subst (λ (j : Option Kind). ReplacesKinds (Float ∷ Float ∷ []) j s.packed q) c.kind_given.ensures (c.replace_two_near.ensures.0 t)),
       λ t. ap (λ (z : Kinds). operands_of z s.widths) (c.replace_two_near.ensures.1 t) ∙ c.self.view_is,
     )
