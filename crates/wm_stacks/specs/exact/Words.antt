@@ -37,8 +37,7 @@ pub record Kinds : Type 0 where
 abbrev pub PushesKind : Kind → Kinds → Kinds → Type 0
 PushesKind k s z = z ≡ record { kinds = k ∷ s.kinds; floor = s.floor }
 
--- these kinds are taken from above the floor, the first of the list from the top, and this one, if any, is
--- put there
+-- these kinds are taken above the floor, the topmost first, and this one, if any, is put there
 abbrev pub ReplacesKinds : List Kind → Option Kind → Kinds → Kinds → Type 0
 ReplacesKinds taken given s z =
     (ks : List Kind) × (s.kinds ≡ taken ++ ks) × (s.floor ≤ length ks)

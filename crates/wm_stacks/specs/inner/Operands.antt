@@ -47,8 +47,7 @@ operands_of p w = record { entries = entries_in p.kinds w; floor = p.floor }
 abbrev pub PushesEntry : Entry → Floored → Floored → Type 0
 PushesEntry e s z = z ≡ record { entries = e ∷ s.entries; floor = s.floor }
 
--- operands of these types are taken from above the floor, the first of the list from the top, and this one,
--- if any, is put there
+-- operands of these types are taken above the floor, the topmost first, and this one, if any, is put there
 abbrev pub ReplacesEntries : List ValType → Option Entry → Floored → Floored → Type 0
 ReplacesEntries ts given s z =
     (taken es : List Entry) × (s.entries ≡ taken ++ es) × AgreeAll taken ts × (s.floor ≤ length es)
