@@ -10,7 +10,7 @@ PAGE = TOP / "docs/REFUSALS.md"
 ROWS = TOP / "crates/wm_rows/stdout"
 WORDS = TOP / "crates/wm_syntax/src/why.rt"
 TEXT_WORDS = TOP / "crates/wm_read/src/faults.rt"
-TABLE = TOP / "crates/wm_cli/src/refusals.rt"
+TABLE = TOP / "crates/wm_command/src/refusals.rt"
 
 # the groups of rows that each table has
 INPUTS = "# The smallest inputs of the refusals"

@@ -1,27 +1,15 @@
 //! The program `wmod`: reads a file, or standard input, and writes to standard output.
 #![tactic(auto)]
 
-mod answer;
-mod build;
-mod complaint;
-mod execute;
-mod explain;
-mod line;
-mod refusals;
-mod run;
-mod status;
-mod witness;
-mod words;
-
-use complaint::{complain, complain_of, explain_fault};
-use execute::execute;
-use explain::{explain, is_asked};
-use line::line;
-use status::{Status, exit_code};
 use std::process::ExitCode;
 use std::rt::{Env, Files};
 use std::{env, io};
-use words::LineFault;
+use wm_command::complaint::{complain, complain_of, explain_fault};
+use wm_command::execute::execute;
+use wm_command::explain::{explain, is_asked};
+use wm_command::line::line;
+use wm_command::status::{Status, exit_code};
+use wm_command::words::LineFault;
 
 /// The words that the program was started with.
 fn read_words<R: Env + Eprint + AllocGlobal>(rt: &R) -> Result<Vec<String>, LineFault> {

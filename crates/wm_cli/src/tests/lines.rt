@@ -1,0 +1,164 @@
+//! Tests of the words of the command line.
+
+use super::rows::play;
+use std::alloc::Global;
+use std::process::Abort;
+use std::test::Fail;
+use wm_command::line::line;
+use wm_command::words::LineFault;
+
+/// What words are read as, and what is said of wrong ones.
+const LINES: &str = r#"read wmod check = Check One 4294967295 None None None Standard None None
+read wmod check --limit 007 - = Check One 7 None None None Standard Some("-") None
+read wmod show = Show One 4294967295 None None None Standard None None
+read wmod build = Build One 4294967295 None None None Standard None None
+read wmod --limit=4611686018427387904 stats --profile 2 a.wasm = Stats Two 4611686018427387904 None None None Standard Some("a.wasm") Some("a.wasm")
+read wmod check --max-functions 7 = Check One 4294967295 Some(7) None None Standard None None
+read wmod stats --max-locals 4294967295 = Stats One 4294967295 None Some(4294967295) None Standard None None
+read wmod canon --max-open 0 = Canon One 4294967295 None None Some(0) Standard None None
+read wmod --max-open=3 show --max-locals 002 --max-functions 1 = Show One 4294967295 Some(1) Some(2) Some(3) Standard None None
+read wmod build --old-words a.wat = Build One 4294967295 None None None Older Some("a.wat") Some("a.wat")
+read wmod --old-words build --max-locals 0 = Build One 4294967295 None Some(0) None Older None None
+read wmod check --profile 3 = Check Three 4294967295 None None None Standard None None
+read wmod show --profile 4 - = Show Four 4294967295 None None None Standard Some("-") None
+read wmod run = words 2
+read wmod check --profile 0 = words 2
+read wmod check --profile 5 = words 2
+read wmod check --profile 01 = words 2
+read wmod check --profile one = words 2
+read wmod check --profile "" = words 2
+read wmod check --profile +1 = words 2
+read wmod check --limit +7 = words 2
+read wmod check --limit "" = words 2
+read wmod check --limit 0x7 = words 2
+read wmod check --limit 4611686018427387905 = words 2
+read wmod check --limit 99999999999999999999 = words 2
+read wmod check --max-functions +7 = words 2
+read wmod check --max-functions "" = words 2
+read wmod check --max-functions 0x7 = words 2
+read wmod check --max-functions 4294967296 = words 2
+read wmod check --max-locals +7 = words 2
+read wmod check --max-locals "" = words 2
+read wmod check --max-locals 0x7 = words 2
+read wmod check --max-locals 4294967296 = words 2
+read wmod check --max-open +7 = words 2
+read wmod check --max-open "" = words 2
+read wmod check --max-open 0x7 = words 2
+read wmod check --max-open 4294967296 = words 2
+read wmod check --old-words = words 2
+read wmod stats --old-words = words 2
+read wmod canon --old-words = words 2
+read wmod --old-words show = words 2
+read wmod = parser 2
+read wmod check --limit = parser 2
+read wmod run --profile = parser 2
+read wmod check --profile=1 --profile=2 = parser 2
+read wmod check --most 7 = parser 2
+read wmod check --max-locals = parser 2
+read wmod check --max-open=1 --max-open=2 = parser 2
+read wmod build --old-words --old-words = parser 2
+read wmod build --old-words=true = parser 2
+read wmod check a b = parser 2
+read wmod run --limit = parser 2
+read wmod --help = parser 0
+read wmod --version = parser 0
+read wmod --most = parser 2
+wrong wmod run --limit x = 'run' is no action: check, stats, canon, show, build, or explain alone
+wrong wmod CHECK = 'CHECK' is no action: check, stats, canon, show, build, or explain alone
+wrong wmod check --limit 0x10 = '0x10' is no limit: decimal digits, at most 4611686018427387904
+wrong wmod check --profile 5 = '5' is no profile: 1, 2, 3, 4
+wrong wmod check --profile "" = '' is no profile: 1, 2, 3, 4
+wrong wmod run --profile 5 --limit x --max-functions x --max-locals x --max-open x --old-words = 'run' is no action: check, stats, canon, show, build, or explain alone
+wrong wmod check --profile 5 --limit x --max-functions x --max-locals x --max-open x --old-words = '5' is no profile: 1, 2, 3, 4
+wrong wmod check --limit x --max-functions x --max-locals x --max-open x --old-words = 'x' is no limit: decimal digits, at most 4611686018427387904
+wrong wmod check --max-functions x --max-locals x --max-open x --old-words = 'x' is no number for --max-functions: decimal digits, at most 4294967295
+wrong wmod check --max-locals x --max-open x --old-words = 'x' is no number for --max-locals: decimal digits, at most 4294967295
+wrong wmod check --max-open x --old-words = 'x' is no number for --max-open: decimal digits, at most 4294967295
+wrong wmod check --old-words = 'check' takes no --old-words: only build does
+wrong wmod check --limit 7 --max-functions 0 --max-locals 0 --max-open 0 a = none
+wrong wmod build --old-words = none
+wrong wmod check --profile 4 --limit 7 a = none
+wrong wmod --most = none"#;
+
+const HELP: &str = "Checks and converts WebAssembly 1.0 modules, reading them once.\n\n  \
+    check    write `valid`, or why not and where\n  \
+    stats    write figures of a valid module's function bodies\n  \
+    canon    write a valid module as its canonical binary: shortest numbers, no custom sections\n  \
+    show     write a valid module as text: a field a line, and in a function an instruction a line\n  \
+    build    read a module as text, and write it as its canonical binary\n  \
+    explain  write what the NAME of a refusal means, as `wmod explain NAME`\n\n\
+    Usage: wmod [OPTIONS] <ACTION> [FILE]\n\n\
+    Arguments:\n  \
+    <ACTION>  check, stats, canon, show, build or explain\n  \
+    [FILE]    The file to read; standard input where there is none, or where it is -\n\n\
+    Options:\n      \
+    --profile <N>        1, 2, 3 or 4: floats under 3 and 4, sign extension under 2 and 4 [default: 1]\n      \
+    --limit <N>          The most bytes that the input may have [default: 4294967295]\n      \
+    --max-functions <N>  The most functions that the module may have, imported ones too [default: no limit]\n      \
+    --max-locals <N>     The most locals that a function may declare [default: no limit]\n      \
+    --max-open <N>       The most blocks, loops and ifs that may be open at once [default: no limit]\n      \
+    --old-words          Of `build`: read the words of older tools too, such as get_local\n  \
+    -h, --help               Print help\n  \
+    -V, --version            Print version\n\n\
+    Writes `refused at N: NAME` of any other input: N bytes were read when it was decided.\n\
+    `build` writes `text refused at N: NAME`: N bytes stand before the token that decided it;\n\
+    or `module refused at N: NAME` of an invalid module: N is a place of its canonical binary.\n\
+    `wmod explain NAME` says more of a NAME.\n\n\
+    A megabyte may declare 2^32 locals, gigabytes of text. With --max-functions F and --max-locals L\n\
+    `show` of a stranger's module is safe: it then writes at most some 4 F L bytes for locals.\n\n\
+    Exit status: 0 done, 1 refused, 2 wrong arguments, 3 cannot read or write, 4 out of memory.\n\n\
+    Examples:\n  \
+    wmod check module.wasm\n  \
+    wmod check --profile 3 with_floats.wasm\n  \
+    wmod stats --limit 1000000 < module.wasm\n  \
+    wmod canon module.wasm > canonical.wasm\n  \
+    wmod show module.wasm > module.wat\n  \
+    wmod show --max-functions 1000 --max-locals 1000 stranger.wasm > stranger.wat\n  \
+    wmod build module.wat > module.wasm\n  \
+    wmod build --old-words older.wat > module.wasm\n  \
+    wmod explain Index\n";
+
+const MISSING: &str = "error: the following required arguments were not provided:\n  <ACTION>\n\n\
+    Usage: wmod <ACTION> [FILE]\n\n\
+    For more information, try '--help'.\n";
+
+#[test]
+fn lines(rt: HostRuntime) -> Result<(), Fail> {
+    play(&rt, rt.alloc(), LINES)
+}
+
+/// What the parser says of these words.
+fn expect_said(rt: &impl Abort, alloc: Global, words: &[&str], wanted: &str) -> Result<(), Fail> {
+    let Err(LineFault::Parser(error)) = line(alloc, words) else {
+        assert!(rt; false, "no fault of the parser");
+        return Ok(());
+    };
+    let text = format!(in alloc; "{error}")?;
+    assert!(rt; text.as_str() == wanted, "{text}");
+    Ok(())
+}
+
+#[test]
+fn help_and_fault_texts(rt: HostRuntime) -> Result<(), Fail> {
+    expect_said(&rt, rt.alloc(), &["wmod", "--help"], HELP)?;
+    expect_said(&rt, rt.alloc(), &["wmod", "--version"], "wmod 0.1\n")?;
+    expect_said(&rt, rt.alloc(), &["wmod"], MISSING)
+}
+
+/// The text of a fault, and its exit status.
+fn expect_fault(
+    rt: &impl Abort,
+    alloc: Global,
+    fault: &LineFault,
+    wanted: &str,
+) -> Result<(), Fail> {
+    let text = format!(in alloc; "{fault}: {}", fault.code())?;
+    assert!(rt; text.as_str() == wanted, "{text}");
+    Ok(())
+}
+
+#[test]
+fn texts_and_codes_of_faults(rt: HostRuntime) -> Result<(), Fail> {
+    expect_fault(&rt, rt.alloc(), &LineFault::Words, "bad words: 2")?;
+    expect_fault(&rt, rt.alloc(), &LineFault::Memory, "out of memory: 4")
+}

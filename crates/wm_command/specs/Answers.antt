@@ -1,0 +1,13 @@
+-- What a writer got, and how a run answers.
+use Rattle.std.specs.Prelude.{◌≡◌, ℕ, ◌≤◌, Bool, true, false, List, Option, length, take}
+use Rattle.std.specs.Io.KnownBytes.{Appends}
+use Rattle.wm_command.specs.declared.status.Status.{Status}
+use Rattle.wm_command.specs.declared.status.Status.TheVariants.{Io}
+
+-- The text was written whole and handed on, and the status is this one; or the writer failed, a beginning of
+-- the text was written, and the status is Io.
+abbrev pub IsAnswered : List ℕ → Status → Option (List ℕ) → Option (List ℕ) → Bool → Bool → Status → Type 0
+IsAnswered text wanted old new false flushed status = Appends old new text × (flushed ≡ true)
+    × (status ≡ wanted)
+IsAnswered text wanted old new true flushed status =
+    ((n : ℕ) × (n ≤ length text) × Appends old new (take n text)) × (status ≡ Io)

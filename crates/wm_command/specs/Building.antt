@@ -1,0 +1,56 @@
+-- What `build` may write for a text, and how it may end.
+use Rattle.std.specs.Prelude.{◌≡◌, ◌≢◌, ◌≤◌, ◌<◌, ◌^◌, ◌+◌, ◌⊎◌, ℕ, List, Err, length}
+use Rattle.wm_syntax.specs.declared.profile.Profile.{Profile}
+use Rattle.wm_syntax.specs.declared.why.Why.{Why}
+use Rattle.wm_syntax.specs.declared.why.Why.TheVariants.{Memory, TooLong}
+use Rattle.wm_syntax.specs.Modules.{Module}
+use Rattle.wm_decode.specs.declared.refusal.Refusal.{Refusal}
+use Rattle.wm_rules.specs.declared.policy.Policy.{Policy}
+use Rattle.wm_rules.specs.Policies.{Within}
+use Rattle.wm_rules.specs.Meanings.{Meaning}
+use Rattle.wm_rules.specs.Validation.{Valid}
+use Rattle.wm_rules.specs.inner.Validators.{verdict}
+use Rattle.wm_write.specs.Canon.{Fits, canon}
+use Rattle.wm_read.specs.declared.faults.TextWhy.{TextWhy}
+use Rattle.wm_read.specs.declared.faults.TextWhy.TheVariants as fault
+use Rattle.wm_read.specs.declared.spellings.Spellings.{Spellings}
+use Rattle.wm_read.specs.Spellings.{IsTextOf}
+use Rattle.wm_read.specs.TokenFaults.{TellsText}
+use Rattle.wm_command.specs.declared.status.Status.{Status}
+use Rattle.wm_command.specs.declared.status.Status.TheVariants.{Done, Refused}
+use Rattle.wm_command.specs.Refused.{module_line, refusal_line, text_line, too_large_line}
+
+-- Of a module that a text writes: its canonical binary, where it is valid and within the policy;
+-- where it is not, the refusal of that binary, of which what its name says is so. A module of which a
+-- section would be too large has none, and is refused for that.
+abbrev pub ModuleOut : Profile → Policy → Module → List ℕ → Status → Type 0
+ModuleOut p q m written status =
+    (Valid m × Within q m × Fits m × (written ≡ canon m) × (status ≡ Done))
+    ⊎ ((Valid m → Within q m → ⊥) × Fits m
+    × ((r : Refusal) × (r.why ≢ Memory) × (r.at ≤ length (canon m)) × (verdict p (2 ^ 62) q (canon m) ≡ Err r)
+    × Meaning p (2 ^ 62) q (canon m) r × (written ≡ module_line r.at r.why))
+    × (status ≡ Refused))
+    ⊎ ((Fits m → ⊥) × (written ≡ too_large_line) × (status ≡ Refused))
+
+-- Of a text: what becomes of the module that it writes, or a refusal at a place within
+-- it where it writes none, which says of its bytes, its tokens and its end what TellsText says.
+abbrev pub TextOut : Profile → Policy → Spellings → List ℕ → List ℕ → Status → Type 0
+TextOut p q s text written status =
+    ((m : Module) × IsTextOf p s m text × ModuleOut p q m written status)
+    ⊎ (((m : Module) → IsTextOf p s m text → ⊥)
+    × ((place : ℕ) × (why : TextWhy) × (why ≢ fault.Memory) × (place ≤ length text)
+    × TellsText p text why place × (written ≡ text_line place why))
+    × (status ≡ Refused))
+
+-- of an input, which is a text where it is no longer than the limit
+abbrev pub BuildOut : Profile → ℕ → Policy → Spellings → List ℕ → List ℕ → Status → Type 0
+BuildOut p limit q s input written status =
+    ((length input ≤ limit) × TextOut p q s input written status)
+    ⊎ ((limit < length input) × (written ≡ refusal_line (limit + 1) TooLong) × (status ≡ Refused))
+
+-- a refusal of a text or of its module
+abbrev pub IsBuildRefusal : List ℕ → Type 0
+IsBuildRefusal written =
+    ((place : ℕ) × (why : TextWhy) × (why ≢ fault.Memory) × (written ≡ text_line place why))
+    ⊎ ((place : ℕ) × (why : Why) × (why ≢ Memory) × (written ≡ module_line place why))
+    ⊎ (written ≡ too_large_line)

@@ -1,0 +1,32 @@
+-- The exit statuses of the program: 0 done, 1 refused, 2 a fault of the command line, 3
+-- input or output, 4 memory.
+use Rattle.std.specs.Prelude.{ℕ, Result, Ok, Err}
+use Rattle.clap.specs.Values.{kind_of}
+use Rattle.clap.specs.declared.error.kind.ErrorKind.{ErrorKind}
+use Rattle.clap.specs.declared.error.kind.ErrorKind.TheVariants.{DisplayHelp, DisplayVersion, OutOfMemory}
+use Rattle.wm_command.specs.declared.status.Status.{Status}
+use Rattle.wm_command.specs.declared.status.Status.TheVariants.{Done, Refused, Io, Memory}
+use Rattle.wm_command.specs.declared.words.LineFault.{LineFault}
+use Rattle.wm_command.specs.declared.words.LineFault.TheVariants as fault
+
+abbrev pub exit_status : Status → ℕ
+exit_status Done = 0
+exit_status Refused = 1
+exit_status Io = 3
+exit_status Memory = 4
+
+-- a request for help, or for the version, is no fault
+abbrev pub kind_code : ErrorKind → ℕ
+kind_code OutOfMemory = 4
+kind_code DisplayHelp = 0
+kind_code DisplayVersion = 0
+kind_code _ = 2
+
+abbrev pub fault_code : LineFault → ℕ
+fault_code (fault.Parser e) = kind_code (kind_of e)
+fault_code fault.Words = 2
+fault_code fault.Memory = 4
+
+abbrev pub end_code : Result Status LineFault → ℕ
+end_code (Ok status) = exit_status status
+end_code (Err fault) = fault_code fault

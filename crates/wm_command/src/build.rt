@@ -1,0 +1,205 @@
+//! What `build` does: it reads a text, and writes the canonical binary of the module that the text writes.
+
+ghost use Rattle.std.specs.Prelude.{◌≡◌, ◌≢◌, ◌<◌, ◌≤◌, ◌+◌, ◌^◌, ◌↔◌, ◌||◌, ◌++◌, ℕ, List, Err, IfOk};
+ghost use Rattle.std.specs.Prelude.{IfSome, false, length, true};
+ghost use Rattle.std.specs.Io.KnownBytes.{IsAtEnd};
+ghost use Rattle.wm_command.specs.Answers.{IsAnswered};
+ghost use Rattle.wm_command.specs.Building.{ModuleOut, TextOut};
+ghost use Rattle.wm_command.specs.declared.build.InputFault.TheVariants as fault;
+ghost use Rattle.wm_command.specs.declared.status.Status.{Status};
+ghost use Rattle.wm_command.specs.declared.words.Action.TheVariants as action;
+ghost use Rattle.wm_command.specs.Outcome.{IsOutput, IsRightFor};
+ghost use Rattle.wm_command.specs.Refused.{module_line, text_line, too_large_line};
+ghost use Rattle.wm_read.specs.declared.check.CheckFault.TheVariants as check;
+ghost use Rattle.wm_read.specs.declared.faults.TextWhy.TheVariants as text;
+ghost use Rattle.wm_syntax.specs.Profiles.{IsOf};
+ghost use Rattle.wm_syntax.specs.Values.{value_of};
+
+use crate::answer::answer;
+use crate::run::refuse;
+use crate::status::Status;
+use std::alloc::Global;
+use wm_decode::Refusal;
+use wm_read::check::{CheckFault, checked_bytes};
+use wm_read::faults::{TextRefusal, TextWhy};
+use wm_read::spellings::Spellings;
+use wm_read::text::read_text;
+use wm_rules::Policy;
+use wm_syntax::io::{Dest, Source};
+use wm_syntax::modules::Module;
+use wm_syntax::profile::Profile;
+use wm_syntax::why::Why;
+
+const PIECE: usize = 4096;
+
+/// Why an input was not read whole.
+#[derive(Clone, Copy, PartialEq, Eq, Debug)]
+enum InputFault {
+    /// It is longer than the limit.
+    TooLong,
+    /// The reader failed.
+    Io,
+    /// Memory was refused.
+    Memory,
+}
+
+/// All bytes of an input that is no longer than the limit.
+fn read_all<R: Source>(alloc: Global, r: &mut R, limit: u64) -> Result<Vec<u8>, InputFault>
+    requires open { R.has_failed r.old ≡ false }
+    requires limit { limit ≤ 2 ^ 62 }
+    ensures whole { IfOk result (λ all. IfSome (R.remaining r.old) (λ input. IsAtEnd (R.remaining r.new)
+        × (all.items ≡ input)
+        × (length input ≤ limit))) }
+    ensures long { result ≡ Err fault.TooLong → IfSome (R.remaining r.old)
+        (λ input. (read rest : List ℕ) × (input ≡ read ++ rest) × (limit < length read)) }
+    ensures failed { (result ≡ Err fault.Io) ↔ (R.has_failed r.new ≡ true) }
+{
+    let mut all = Vec::new(alloc);
+    let mut piece = [0u8; PIECE];
+    // each turn but the last takes at least one byte
+    for _ in 0..limit + 1 {
+        let n = match r.get(&mut piece) {
+            Ok(0) => return Ok(all),
+            Ok(n) => n,
+            Err(_) => return Err(InputFault::Io),
+        };
+        if let Err(_) = all.extend_from_slice(&piece[..n]) {
+            return Err(InputFault::Memory);
+        }
+        if all.len() as u64 > limit {
+            return Err(InputFault::TooLong);
+        }
+    }
+    // not reached: so many turns take more than the limit
+    Err(InputFault::TooLong)
+}
+
+/// Reads a text of at most `limit` bytes, and writes the canonical binary of its module,
+/// or why there is none.
+pub fn build<R: Source, W: Dest>(
+    alloc: Global,
+    profile: Profile,
+    limit: u64,
+    policy: Policy,
+    spellings: Spellings,
+    r: &mut R,
+    w: &mut W,
+) -> Status
+    requires source { R.has_failed r.old ≡ false }
+    requires dest { W.has_failed w.old ≡ false }
+    requires limit { limit ≤ 2 ^ 62 }
+    ensures answered { R.has_failed r.new ≡ false → result ≢ Status.Memory → (text : List ℕ)
+        × (status : Status)
+        × IsOutput action.Build text status
+        × IfSome (R.remaining r.old)
+        (λ input. IsRightFor action.Build profile limit policy spellings input (R.remaining r.new) text
+        status)
+        × IsAnswered text status (W.contents w.old) (W.contents w.new) (W.has_failed w.new)
+        (W.is_flushed w.new) result }
+    ensures reader { R.has_failed r.new ≡ true → (result ≡ Status.Io) × (w.new ≡ w.old) }
+    ensures memory { result ≡ Status.Memory → w.new ≡ w.old }
+    ensures io { (result ≡ Status.Io) ↔ ((R.has_failed r.new || W.has_failed w.new) ≡ true) }
+{
+    match read_all(alloc, r, limit) {
+        Ok(text) => convert(alloc, profile, policy, spellings, &text, w),
+        Err(InputFault::TooLong) => {
+            let at = limit + 1;
+            refuse(
+                alloc,
+                Refusal {
+                    at,
+                    why: Why::TooLong,
+                },
+                w,
+            )
+        }
+        Err(InputFault::Io) => Status::Io,
+        Err(InputFault::Memory) => Status::Memory,
+    }
+}
+
+/// Writes what becomes of a text.
+fn convert<W: Dest>(
+    alloc: Global,
+    profile: Profile,
+    policy: Policy,
+    spellings: Spellings,
+    text: &[u8],
+    w: &mut W,
+) -> Status
+    requires { W.has_failed w.old ≡ false }
+    ensures answered { result ≢ Status.Memory → (written : List ℕ) × (status : Status)
+        × TextOut profile policy spellings text.now written status
+        × IsAnswered written status (W.contents w.old) (W.contents w.new) (W.has_failed w.new)
+        (W.is_flushed w.new) result }
+    ensures memory { result ≡ Status.Memory → w.new ≡ w.old }
+    ensures io { (result ≡ Status.Io) ↔ (W.has_failed w.new ≡ true) }
+{
+    match read_text(alloc, profile, spellings, text) {
+        Ok(m) => convert_module(alloc, profile, policy, &m, w),
+        Err(refusal) => refuse_text(alloc, refusal, w),
+    }
+}
+
+/// Writes what becomes of a module of the profile.
+fn convert_module<W: Dest>(
+    alloc: Global,
+    profile: Profile,
+    policy: Policy,
+    m: &Module,
+    w: &mut W,
+) -> Status
+    requires open { W.has_failed w.old ≡ false }
+    requires instructions { IsOf profile (value_of m.now) }
+    ensures answered { result ≢ Status.Memory → (written : List ℕ) × (status : Status)
+        × ModuleOut profile policy (value_of m.now) written status
+        × IsAnswered written status (W.contents w.old) (W.contents w.new) (W.has_failed w.new)
+        (W.is_flushed w.new) result }
+    ensures memory { result ≡ Status.Memory → w.new ≡ w.old }
+    ensures io { (result ≡ Status.Io) ↔ (W.has_failed w.new ≡ true) }
+{
+    match checked_bytes(alloc, profile, policy, m) {
+        Ok(bytes) => answer(w, &bytes, Status::Done),
+        Err(CheckFault::Refused(refusal)) => refuse_module(alloc, refusal, w),
+        Err(CheckFault::TooLarge) => answer(w, b"module refused: TooLarge\n", Status::Refused),
+        Err(CheckFault::Memory) => Status::Memory,
+    }
+}
+
+/// Writes the refusal of a text, unless memory was refused.
+fn refuse_text<W: Dest>(alloc: Global, refusal: TextRefusal, w: &mut W) -> Status
+    requires { W.has_failed w.old ≡ false }
+    ensures answered { result ≢ Status.Memory → (refusal.why ≢ text.Memory)
+        × IsAnswered (text_line refusal.at refusal.why) Status.Refused
+        (W.contents w.old) (W.contents w.new) (W.has_failed w.new) (W.is_flushed w.new) result }
+    ensures memory { result ≡ Status.Memory → w.new ≡ w.old }
+    ensures io { (result ≡ Status.Io) ↔ (W.has_failed w.new ≡ true) }
+{
+    let why = match refusal.why {
+        TextWhy::Memory => return Status::Memory,
+        why => why,
+    };
+    match format!(in alloc; "text refused at {}: {}\n", refusal.at, why.name()) {
+        Ok(text) => answer(w, text.as_bytes(), Status::Refused),
+        Err(_) => Status::Memory,
+    }
+}
+
+/// Writes the refusal of a module that a text writes.
+fn refuse_module<W: Dest>(alloc: Global, refusal: Refusal, w: &mut W) -> Status
+    requires { W.has_failed w.old ≡ false }
+    ensures answered { result ≢ Status.Memory
+        → IsAnswered (module_line refusal.at refusal.why) Status.Refused
+        (W.contents w.old) (W.contents w.new) (W.has_failed w.new) (W.is_flushed w.new) result }
+    ensures memory { result ≡ Status.Memory → w.new ≡ w.old }
+    ensures io { (result ≡ Status.Io) ↔ (W.has_failed w.new ≡ true) }
+{
+    match format!(in alloc;
+        "module refused at {}: {}\n",
+        refusal.at,
+        refusal.why.name()
+    ) {
+        Ok(text) => answer(w, text.as_bytes(), Status::Refused),
+        Err(_) => Status::Memory,
+    }
+}

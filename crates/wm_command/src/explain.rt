@@ -1,0 +1,188 @@
+//! `wmod explain NAME`: what the NAME of a refusal means.
+
+ghost use Rattle.std.specs.Prelude.{◌≡◌, ◌≢◌, ◌⊎◌, Err, IfErr, IfOk, length, map};
+ghost use Rattle.std.specs.String.{string_bytes};
+ghost use Rattle.wm_command.specs.Lines.{asks_to_explain};
+ghost use Rattle.wm_command.specs.declared.status.Status.{Status};
+ghost use Rattle.wm_command.specs.declared.words.LineFault.TheVariants.{Memory, Words};
+
+use crate::answer::answer;
+use crate::complaint::{complain, complain_of};
+use crate::refusals::{OF_MODULES, OF_TEXTS};
+use crate::status::Status;
+use crate::witness::Witness;
+use crate::words::LineFault;
+use std::alloc::{AllocError, Global};
+use std::{fmt, io};
+use wm_syntax::io::output::Output as OutputOf;
+
+/// A line of the table of refusals.
+#[derive(Clone, Copy)]
+struct Refusal<'a> {
+    name: &'a str,
+    means: &'a str,
+    section: &'a str,
+    input: &'a str,
+    advice: &'a str,
+}
+
+impl<'a> Refusal<'a> {
+    fn of(line: &'a str) -> Option<Refusal<'a>> {
+        let (name, rest) = line.split_once(" | ")?;
+        let (means, rest) = rest.split_once(" | ")?;
+        let (section, rest) = rest.split_once(" | ")?;
+        let (input, advice) = rest.split_once(" | ")?;
+        Some(Refusal {
+            name,
+            means,
+            section,
+            input,
+            advice,
+        })
+    }
+}
+
+impl fmt::Display for Refusal<'_> {
+    fn fmt<W: fmt::Write>(&self, f: &mut fmt::Formatter<W>) -> fmt::Result {
+        let Refusal {
+            name,
+            means,
+            section,
+            input,
+            advice,
+        } = self;
+        write!(
+            f,
+            "{name}\n  {means}\n  Standard: {section}\n  Smallest input: {input}\n  What to do: {advice}\n"
+        )
+    }
+}
+
+/// Words of the command line that ask for no explanation that there is.
+#[derive(Drop)]
+enum Wrong<'a> {
+    /// There is not just one NAME.
+    Count,
+    /// No refusal has this NAME; these are nearest to it.
+    Name(&'a str, &'a str),
+}
+
+impl fmt::Display for Wrong<'_> {
+    fn fmt<W: fmt::Write>(&self, f: &mut fmt::Formatter<W>) -> fmt::Result {
+        match self {
+            Wrong::Count => f.write_str("explain takes one NAME of a refusal, such as Index"),
+            Wrong::Name(name, nearest) => {
+                write!(f, "'{name}' is no refusal's NAME; the nearest:{nearest}")
+            }
+        }
+    }
+}
+
+/// Whether these words, of which the first is the program's name, ask for an explanation.
+pub fn is_asked(words: &[String]) -> bool
+    ensures { result ≡ asks_to_explain (map string_bytes words.now) }
+{
+    match words.get(1) {
+        Some(word) => word.as_str() == "explain",
+        None => false,
+    }
+}
+
+/// Says on standard output what a NAME means. Standard error says where there is not one NAME, or where no
+/// refusal has it. What is said has no clause: rows of the tests show it.
+pub fn explain<R: Print + Eprint + AllocGlobal>(
+    rt: &R,
+    words: &[String],
+) -> Result<Status, LineFault>
+    ensures count { length words.now ≢ 3 → result ≡ Err Words }
+    ensures ok { IfOk result (λ status. (status ≡ Status.Done) ⊎ (status ≡ Status.Io)) }
+    ensures fault { IfErr result (λ e. (e ≡ Words) ⊎ (e ≡ Memory)) }
+{
+    let [_, _, name] = words else {
+        return complain_of_words(rt, &Wrong::Count);
+    };
+    let Ok(text) = explained(rt.alloc(), name.as_str()) else {
+        return out_of_memory(rt);
+    };
+    if !text.is_empty() {
+        return Ok(say(rt, text.as_str()));
+    }
+    match nearest(rt.alloc(), name.as_str()) {
+        Ok(names) => complain_of_words(rt, &Wrong::Name(name.as_str(), names.as_str())),
+        Err(_) => out_of_memory(rt),
+    }
+}
+
+fn complain_of_words<R: Eprint>(rt: &R, what: &Wrong<'_>) -> Result<Status, LineFault>
+    ensures { result ≡ Err Words }
+{
+    complain(rt, &LineFault::Words);
+    complain(rt, what);
+    Err(LineFault::Words)
+}
+
+fn out_of_memory<R: Eprint>(rt: &R) -> Result<Status, LineFault>
+    ensures { result ≡ Err Memory }
+{
+    complain(rt, &LineFault::Memory);
+    Err(LineFault::Memory)
+}
+
+fn say<R: Print + Eprint>(rt: &R, text: &str) -> Status
+    ensures { (result ≡ Status.Done) ⊎ (result ≡ Status.Io) }
+{
+    let mut dest = OutputOf::new(Witness::new(io::writer(rt)));
+    let status = answer(&mut dest, text.as_bytes(), Status::Done);
+    if let Status::Io = status {
+        match dest.into_inner().error() {
+            Some(error) => complain_of(rt, &status, "standard output", error),
+            // a write that took nothing
+            None => complain(rt, &status),
+        }
+    }
+    status
+}
+
+/// What the lines with this NAME say: of a module, of a text, of both or of none.
+fn explained(alloc: Global, name: &str) -> Result<String, AllocError> {
+    let mut text = String::new(alloc);
+    for line in OF_MODULES.lines().chain(OF_TEXTS.lines()) {
+        match Refusal::of(line) {
+            Some(refusal) if refusal.name == name => {
+                let said = format!(in alloc; "{refusal}")?;
+                text.push_str(said.as_str())?;
+            }
+            _ => {}
+        }
+    }
+    Ok(text)
+}
+
+/// The NAMEs that share the longest front with this word, in either case, each after a space.
+fn nearest(alloc: Global, word: &str) -> Result<String, AllocError> {
+    let mut names = String::new(alloc);
+    let mut longest = 0;
+    for line in OF_MODULES.lines().chain(OF_TEXTS.lines()) {
+        let Some(refusal) = Refusal::of(line) else {
+            continue;
+        };
+        let shared = shared_front(refusal.name, word);
+        if shared > longest {
+            longest = shared;
+            names.clear();
+        }
+        if shared == longest {
+            names.push(' ')?;
+            names.push_str(refusal.name)?;
+        }
+    }
+    Ok(names)
+}
+
+/// How many bytes two words have in common at their front, in either case.
+fn shared_front(one: &str, other: &str) -> usize {
+    one.bytes()
+        .zip(other.bytes())
+        .take_while(|(a, b)| a.eq_ignore_ascii_case(b))
+        .count()
+}

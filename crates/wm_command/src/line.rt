@@ -1,0 +1,420 @@
+//! The words of the command line.
+
+ghost use Rattle.std.specs.Prelude.{ℕ, ◌≡◌, ◌≢◌, ◌<◌, ◌≤◌, ◌^◌, ◌⊎◌, [], Option, false, codes, map};
+ghost use Rattle.std.specs.Prelude.{option_map, IfOk, IfErr, IfSome, SomeIff, MatchOption};
+ghost use Rattle.std.specs.Str.Parse.{IsNumeral, digits_value};
+ghost use Rattle.clap.specs.Words.{app_of, fault_of, first_value, found_of, rule_of};
+ghost use Rattle.wm_command.specs.declared.words.LineFault.TheVariants.{Memory, Words};
+ghost use Rattle.wm_command.specs.Lines.{IsFaultOf, IsLimit, IsMost, IsPolicy, IsProfile, IsSpellings, IsWrong};
+ghost use Rattle.wm_command.specs.Lines.{Says, SaysNone, action_name, action_rule, file_rule, flag_rule};
+ghost use Rattle.wm_command.specs.Lines.{option_rule, profile_name, versioned, wmod, word_of};
+ghost use Rattle.wm_read.specs.declared.spellings.Spellings.{Spellings};
+ghost use Rattle.wm_rules.specs.declared.policy.Policy.{Policy};
+ghost use Rattle.wm_syntax.specs.declared.profile.Profile.{Profile};
+
+use crate::words::{Action, Line, LineFault};
+use clap::{Arg, ArgAction, ArgMatches, Command};
+use std::alloc::{AllocError, Global};
+use std::convert::AsStr;
+use std::fmt;
+use wm_read::spellings::Spellings;
+use wm_rules::Policy;
+use wm_syntax::profile::Profile;
+
+const DEFAULT_LIMIT: u64 = 4294967295;
+
+const MOST_LIMIT: u64 = 4611686018427387904;
+
+/// A limit in decimal digits, at most 2^62.
+fn limit_of(text: &str) -> Option<u64>
+    ensures { SomeIff result (IsNumeral 10 text.now × (digits_value 10 text.now ≤ 2 ^ 62))
+        (digits_value 10 text.now) }
+{
+    // `parse` takes a sign
+    if text.starts_with('+') {
+        return None;
+    }
+    match text.parse::<u64>() {
+        Ok(limit) if limit <= MOST_LIMIT => Some(limit),
+        _ => None,
+    }
+}
+
+/// A limit of a policy in decimal digits, below 2^32.
+fn most_of(text: &str) -> Option<u32>
+    ensures { SomeIff result (IsNumeral 10 text.now × (digits_value 10 text.now < 2 ^ 32))
+        (digits_value 10 text.now) }
+{
+    // `parse` takes a sign
+    if text.starts_with('+') {
+        return None;
+    }
+    text.parse::<u32>().ok()
+}
+
+/// The action of this name.
+fn action_of(text: &str) -> Option<Action>
+    ensures { MatchOption result ((a : Action) → text.now ≢ action_name a) (λ a. text.now ≡ action_name a) }
+{
+    match text {
+        "check" => Some(Action::Check),
+        "stats" => Some(Action::Stats),
+        "canon" => Some(Action::Canon),
+        "show" => Some(Action::Show),
+        "build" => Some(Action::Build),
+        _ => None,
+    }
+}
+
+/// The profile of this name.
+fn profile_of(text: &str) -> Option<Profile>
+    ensures { MatchOption result ((p : Profile) → text.now ≢ profile_name p)
+        (λ p. text.now ≡ profile_name p) }
+{
+    match text {
+        "1" => Some(Profile::One),
+        "2" => Some(Profile::Two),
+        "3" => Some(Profile::Three),
+        "4" => Some(Profile::Four),
+        _ => None,
+    }
+}
+
+const ABOUT: &str = "Checks and converts WebAssembly 1.0 modules, reading them once.\n\n  \
+    check    write `valid`, or why not and where\n  \
+    stats    write figures of a valid module's function bodies\n  \
+    canon    write a valid module as its canonical binary: shortest numbers, no custom sections\n  \
+    show     write a valid module as text: a field a line, and in a function an instruction a line\n  \
+    build    read a module as text, and write it as its canonical binary\n  \
+    explain  write what the NAME of a refusal means, as `wmod explain NAME`";
+
+const ANSWERS: &str =
+    "Writes `refused at N: NAME` of any other input: N bytes were read when it was decided.\n\
+    `build` writes `text refused at N: NAME`: N bytes stand before the token that decided it;\n\
+    or `module refused at N: NAME` of an invalid module: N is a place of its canonical binary.\n\
+    `wmod explain NAME` says more of a NAME.\n\n\
+    A megabyte may declare 2^32 locals, gigabytes of text. With --max-functions F and --max-locals L\n\
+    `show` of a stranger's module is safe: it then writes at most some 4 F L bytes for locals.\n\n\
+    Exit status: 0 done, 1 refused, 2 wrong arguments, 3 cannot read or write, 4 out of memory.\n\n\
+    Examples:\n  \
+    wmod check module.wasm\n  \
+    wmod check --profile 3 with_floats.wasm\n  \
+    wmod stats --limit 1000000 < module.wasm\n  \
+    wmod canon module.wasm > canonical.wasm\n  \
+    wmod show module.wasm > module.wat\n  \
+    wmod show --max-functions 1000 --max-locals 1000 stranger.wasm > stranger.wat\n  \
+    wmod build module.wat > module.wasm\n  \
+    wmod build --old-words older.wat > module.wasm\n  \
+    wmod explain Index";
+
+// what help says of each option
+const PROFILE: &str =
+    "1, 2, 3 or 4: floats under 3 and 4, sign extension under 2 and 4 [default: 1]";
+
+const LIMIT: &str = "The most bytes that the input may have [default: 4294967295]";
+
+const MAX_FUNCTIONS: &str =
+    "The most functions that the module may have, imported ones too [default: no limit]";
+
+const MAX_LOCALS: &str = "The most locals that a function may declare [default: no limit]";
+
+const MAX_OPEN: &str =
+    "The most blocks, loops and ifs that may be open at once [default: no limit]";
+
+const OLD_WORDS: &str = "Of `build`: read the words of older tools too, such as get_local";
+
+fn action_arg<'a>(alloc: Global) -> Arg<'a>
+    ensures rule { rule_of result ≡ action_rule }
+    ensures local { result.global ≡ false }
+{
+    Arg::new(alloc, "ACTION")
+        .required(true)
+        .action(ArgAction::Set)
+        .help("check, stats, canon, show, build or explain")
+}
+
+/// An option with one value, a number.
+fn option_arg<'a>(alloc: Global, name: &'a str, help: &'a str) -> Arg<'a>
+    ensures rule { rule_of result ≡ option_rule name.entry.now }
+    ensures local { result.global ≡ false }
+{
+    Arg::new(alloc, name)
+        .long(name)
+        .value_name("N")
+        .action(ArgAction::Set)
+        .help(help)
+}
+
+fn flag_arg<'a>(alloc: Global, name: &'a str, help: &'a str) -> Arg<'a>
+    ensures rule { rule_of result ≡ flag_rule name.entry.now }
+    ensures local { result.global ≡ false }
+{
+    Arg::new(alloc, name)
+        .long(name)
+        .action(ArgAction::SetTrue)
+        .help(help)
+}
+
+fn file_arg<'a>(alloc: Global) -> Arg<'a>
+    ensures rule { rule_of result ≡ file_rule }
+    ensures local { result.global ≡ false }
+{
+    Arg::new(alloc, "FILE").action(ArgAction::Set).help(
+        "The file to read; standard input where there is none, or where it is -",
+    )
+}
+
+/// The command before it has arguments: its name, its version and its texts.
+fn bare_command<'a>(alloc: Global) -> Command<'a>
+    ensures { app_of result ≡ versioned (codes "wmod") }
+{
+    Command::new(alloc, "wmod")
+        .version("0.1")
+        .about(ABOUT)
+        .after_help(ANSWERS)
+}
+
+/// The command as `clap` knows it.
+fn command<'a>(alloc: Global) -> Result<Command<'a>, AllocError>
+    ensures { IfOk result (λ c. app_of c ≡ wmod) }
+{
+    bare_command(alloc)
+        .arg(action_arg(alloc))?
+        .arg(option_arg(alloc, "profile", PROFILE))?
+        .arg(option_arg(alloc, "limit", LIMIT))?
+        .arg(option_arg(alloc, "max-functions", MAX_FUNCTIONS))?
+        .arg(option_arg(alloc, "max-locals", MAX_LOCALS))?
+        .arg(option_arg(alloc, "max-open", MAX_OPEN))?
+        .arg(flag_arg(alloc, "old-words", OLD_WORDS))?
+        .arg(file_arg(alloc))
+}
+
+/// The profile that this word names; without one, the first.
+fn profile_by(word: Option<&str>) -> Option<Profile>
+    ensures { let said = option_map (λ s. s.now) word.entry in
+        MatchOption result ((p : Profile) → IsProfile said p
+        → ⊥) (IsProfile said) }
+{
+    match word {
+        None => Some(Profile::One),
+        Some(text) => profile_of(text),
+    }
+}
+
+/// The limit that this word says; without one, 2^32 - 1.
+fn limit_by(word: Option<&str>) -> Option<u64>
+    ensures { let said = option_map (λ s. s.now) word.entry in MatchOption result ((n : ℕ) → IsLimit said n
+        → ⊥) (IsLimit said) }
+{
+    match word {
+        None => Some(DEFAULT_LIMIT),
+        Some(text) => limit_of(text),
+    }
+}
+
+/// The limit of a policy that this word says; without one, none.
+fn most_by(word: Option<&str>) -> Option<Option<u32>>
+    ensures { let said = option_map (λ s. s.now) word.entry in
+        MatchOption result ((most : Option ℕ) → IsMost said most
+        → ⊥) (IsMost said) }
+{
+    match word {
+        None => Some(None),
+        Some(text) => most_of(text).map(Some),
+    }
+}
+
+/// The policy of the options.
+fn policy_in(matches: &ArgMatches<'_>) -> Option<Policy>
+    ensures { let word = first_value (found_of matches.now) in
+        MatchOption result ((q : Policy) → IsPolicy word q
+        → ⊥) (IsPolicy word) }
+{
+    Some(Policy {
+        functions: most_by(matches.get_str("max-functions"))?,
+        locals: most_by(matches.get_str("max-locals"))?,
+        depth: most_by(matches.get_str("max-open"))?,
+    })
+}
+
+/// The spellings by this word of the flag, which only `build` takes.
+fn spellings_by(flag: Option<&str>, action: Action) -> Option<Spellings>
+    ensures { let said = option_map (λ s. s.now) flag.entry in
+        MatchOption result ((s : Spellings) → IsSpellings said action s
+        → ⊥) (IsSpellings said action) }
+{
+    match (flag, action) {
+        (Some("true"), Action::Build) => Some(Spellings::Older),
+        (Some("true"), _) => None,
+        _ => Some(Spellings::Standard),
+    }
+}
+
+/// What the words of the arguments say.
+fn read(alloc: Global, matches: &ArgMatches<'_>) -> Result<Line, LineFault>
+    ensures ok { IfOk result (Says (first_value (found_of matches.now))) }
+    ensures fault { IfErr result (λ e. ((e ≡ Words) × SaysNone (first_value (found_of matches.now)))
+        ⊎ (e ≡ Memory)) }
+{
+    let Some(action) = matches.get_str("ACTION").and_then(action_of) else {
+        return Err(LineFault::Words);
+    };
+    let Some(profile) = profile_by(matches.get_str("profile")) else {
+        return Err(LineFault::Words);
+    };
+    let Some(limit) = limit_by(matches.get_str("limit")) else {
+        return Err(LineFault::Words);
+    };
+    let Some(policy) = policy_in(matches) else {
+        return Err(LineFault::Words);
+    };
+    let Some(spellings) = spellings_by(matches.get_str("old-words"), action) else {
+        return Err(LineFault::Words);
+    };
+    let file = match matches.get_str("FILE") {
+        None => None,
+        Some(name) => Some(String::from_str(alloc, name)?),
+    };
+    Ok(Line {
+        action,
+        profile,
+        limit,
+        policy,
+        spellings,
+        file,
+    })
+}
+
+/// Reads the words, of which the first is the program's name.
+pub fn line<S: AsStr>(alloc: Global, words: &[S]) -> Result<Line, LineFault>
+    // The parser takes the words, and they say this line.
+    ensures ok { IfOk result (λ l. (fault_of wmod (map S.text words.now) ≡ [])
+        × Says (word_of (map S.text words.now)) l) }
+    // The parser has a fault of this kind for them, or takes them and they say no line;
+    // or memory was refused.
+    ensures fault { IfErr result (IsFaultOf (map S.text words.now)) }
+{
+    match command(alloc)?.try_get_matches_from(words) {
+        Ok(matches) => read(alloc, &matches),
+        Err(error) => Err(LineFault::Parser(error)),
+    }
+}
+
+/// A word that says nothing its argument may be.
+#[derive(Clone, Copy, PartialEq, Eq, Debug)]
+pub enum WrongWord<'a> {
+    Action(&'a str),
+    Profile(&'a str),
+    Limit(&'a str),
+    MaxFunctions(&'a str),
+    MaxLocals(&'a str),
+    MaxOpen(&'a str),
+    /// The action beside which older words are asked for.
+    OldWords(&'a str),
+}
+
+/// Says that this is no number for the option.
+fn no_number<W: fmt::Write>(f: &mut fmt::Formatter<W>, word: &str, option: &str) -> fmt::Result {
+    write!(
+        f,
+        "'{word}' is no number for {option}: decimal digits, at most {}",
+        u32::MAX
+    )
+}
+
+impl fmt::Display for WrongWord<'_> {
+    fn fmt<W: fmt::Write>(&self, f: &mut fmt::Formatter<W>) -> fmt::Result {
+        match self {
+            WrongWord::Action(word) => write!(
+                f,
+                "'{word}' is no action: check, stats, canon, show, build, or explain alone"
+            ),
+            WrongWord::Profile(word) => write!(f, "'{word}' is no profile: 1, 2, 3, 4"),
+            WrongWord::Limit(word) => {
+                write!(
+                    f,
+                    "'{word}' is no limit: decimal digits, at most {MOST_LIMIT}"
+                )
+            }
+            WrongWord::MaxFunctions(word) => no_number(f, word, "--max-functions"),
+            WrongWord::MaxLocals(word) => no_number(f, word, "--max-locals"),
+            WrongWord::MaxOpen(word) => no_number(f, word, "--max-open"),
+            WrongWord::OldWords(word) => write!(
+                f,
+                "'{word}' takes no --old-words: only build does"
+            ),
+        }
+    }
+}
+
+/// The first wrong word of a policy, in the order of its options.
+fn wrong_in_policy<'a>(matches: &ArgMatches<'a>) -> Option<WrongWord<'a>>
+    ensures { IfSome result (IsWrong (first_value (found_of matches.now))) }
+{
+    if let Some(word) = matches.get_str("max-functions") {
+        if most_of(word).is_none() {
+            return Some(WrongWord::MaxFunctions(word));
+        }
+    }
+    if let Some(word) = matches.get_str("max-locals") {
+        if most_of(word).is_none() {
+            return Some(WrongWord::MaxLocals(word));
+        }
+    }
+    if let Some(word) = matches.get_str("max-open") {
+        if most_of(word).is_none() {
+            return Some(WrongWord::MaxOpen(word));
+        }
+    }
+    None
+}
+
+/// The action beside which `--old-words` stands, where that is not `build`.
+fn wrong_by_flag<'a>(matches: &ArgMatches<'a>) -> Option<WrongWord<'a>>
+    ensures { IfSome result (IsWrong (first_value (found_of matches.now))) }
+{
+    match (matches.get_str("old-words"), matches.get_str("ACTION")) {
+        (Some("true"), Some(action)) if action != "build" => Some(WrongWord::OldWords(action)),
+        _ => None,
+    }
+}
+
+/// The first word that is wrong, in the order ACTION, `--profile`, `--limit`, `--max-functions`,
+/// `--max-locals`, `--max-open`, `--old-words`.
+fn wrong_in<'a>(matches: &ArgMatches<'a>) -> Option<WrongWord<'a>>
+    ensures { IfSome result (IsWrong (first_value (found_of matches.now))) }
+{
+    if let Some(word) = matches.get_str("ACTION") {
+        if action_of(word).is_none() {
+            return Some(WrongWord::Action(word));
+        }
+    }
+    if let Some(word) = matches.get_str("profile") {
+        if profile_of(word).is_none() {
+            return Some(WrongWord::Profile(word));
+        }
+    }
+    if let Some(word) = matches.get_str("limit") {
+        if limit_of(word).is_none() {
+            return Some(WrongWord::Limit(word));
+        }
+    }
+    match wrong_in_policy(matches) {
+        Some(word) => Some(word),
+        None => wrong_by_flag(matches),
+    }
+}
+
+/// The first of these words that is wrong, where the parser takes them all. None also where memory
+/// was refused.
+pub fn wrong_word<'a, S: AsStr>(alloc: Global, words: &'a [S]) -> Option<WrongWord<'a>>
+    ensures { IfSome result (IsWrong (word_of (map S.text words.entry.now))) }
+{
+    let Ok(command) = command(alloc) else {
+        return None;
+    };
+    match command.try_get_matches_from(words) {
+        Ok(matches) => wrong_in(&matches),
+        Err(_) => None,
+    }
+}

@@ -1,0 +1,194 @@
+//! What each action does.
+
+ghost use Rattle.std.specs.Prelude.{◌≡◌, ◌≢◌, ◌≤◌, ◌^◌, ◌↔◌, ◌||◌, ◌⊎◌, ℕ, List, IfSome, false, true};
+ghost use Rattle.wm_syntax.specs.Values.{value_of};
+ghost use Rattle.wm_rules.specs.inner.Loaders.{module_in};
+ghost use Rattle.wm_write.specs.Canon.{canon};
+ghost use Rattle.wm_write.specs.Layout.{layout};
+ghost use Rattle.wm_command.specs.Answers.{IsAnswered};
+ghost use Rattle.wm_command.specs.declared.status.Status.{Status};
+ghost use Rattle.wm_command.specs.Outcome.{IsRightFor, IsOutput, stats_text};
+ghost use Rattle.wm_command.specs.Refused.{refusal_line};
+
+use crate::answer::answer;
+use crate::build::build;
+use crate::status::Status;
+use crate::words::{Action, Line};
+use std::alloc::Global;
+use wm_decode::Refusal;
+use wm_read::spellings::Spellings;
+use wm_rules::{Checked, FromFault, Policy, Summary, load_from, validate_from};
+use wm_syntax::io::{Dest, Source};
+use wm_syntax::profile::Profile;
+use wm_syntax::why::Why;
+use wm_write::encode::{WriteFault, encode};
+use wm_write::print::{PrintFault, print};
+
+/// Reads the input to its end, or to where it is refused, does what the action says, and writes the answer, a
+/// refusal too. Where memory was refused or the reader failed nothing is written.
+pub fn run<R: Source, W: Dest>(
+    alloc: Global,
+    action: Action,
+    profile: Profile,
+    limit: u64,
+    policy: Policy,
+    spellings: Spellings,
+    r: &mut R,
+    w: &mut W,
+) -> Status
+    requires source { R.has_failed r.old ≡ false }
+    requires dest { W.has_failed w.old ≡ false }
+    requires limit { limit ≤ 2 ^ 62 }
+    // What is to be written for the input is written whole, or, where the writer failed, a beginning of it.
+    ensures answered { R.has_failed r.new ≡ false → result ≢ Status.Memory → (text : List ℕ)
+        × (status : Status)
+        × IsOutput action text status
+        × IfSome (R.remaining r.old) (λ input. IsRightFor action profile limit policy spellings input
+        (R.remaining r.new) text status)
+        × IsAnswered text status (W.contents w.old) (W.contents w.new) (W.has_failed w.new)
+        (W.is_flushed w.new) result }
+    ensures reader { R.has_failed r.new ≡ true → (result ≡ Status.Io) × (w.new ≡ w.old) }
+    ensures memory { result ≡ Status.Memory → w.new ≡ w.old }
+    ensures io { (result ≡ Status.Io) ↔ ((R.has_failed r.new || W.has_failed w.new) ≡ true) }
+{
+    match action {
+        Action::Check => match validate_from(alloc, r, profile, limit, policy) {
+            Ok(_) => answer(w, b"valid\n", Status::Done),
+            Err(fault) => answer_fault(alloc, fault, w),
+        },
+        Action::Stats => match validate_from(alloc, r, profile, limit, policy) {
+            Ok(summary) => report(alloc, summary, w),
+            Err(fault) => answer_fault(alloc, fault, w),
+        },
+        Action::Canon => match load_from(alloc, r, profile, limit, policy) {
+            Ok(checked) => write_canonical(&checked, w),
+            Err(fault) => answer_fault(alloc, fault, w),
+        },
+        Action::Show => match load_from(alloc, r, profile, limit, policy) {
+            Ok(checked) => write_text(&checked, w),
+            Err(fault) => answer_fault(alloc, fault, w),
+        },
+        Action::Build => build(alloc, profile, limit, policy, spellings, r, w),
+    }
+}
+
+/// Does what the line says with this input, and writes the answer.
+pub fn run_line<R: Source, W: Dest>(alloc: Global, line: &Line, r: &mut R, w: &mut W) -> Status
+    requires source { R.has_failed r.old ≡ false }
+    requires dest { W.has_failed w.old ≡ false }
+    // What is to be written for the input is written whole, or, where the writer failed, a beginning of it.
+    ensures answered { R.has_failed r.new ≡ false → result ≢ Status.Memory → (text : List ℕ)
+        × (status : Status)
+        × IsOutput line.now.action text status
+        × IfSome (R.remaining r.old)
+        (λ input. IsRightFor line.now.action line.now.profile line.now.limit line.now.policy
+        line.now.spellings input
+        (R.remaining r.new) text status)
+        × IsAnswered text status (W.contents w.old) (W.contents w.new) (W.has_failed w.new)
+        (W.is_flushed w.new) result }
+    ensures reader { R.has_failed r.new ≡ true → (result ≡ Status.Io) × (w.new ≡ w.old) }
+    ensures memory { result ≡ Status.Memory → w.new ≡ w.old }
+    ensures io { (result ≡ Status.Io) ↔ ((R.has_failed r.new || W.has_failed w.new) ≡ true) }
+{
+    run(
+        alloc,
+        line.action,
+        line.profile,
+        line.limit,
+        line.policy,
+        line.spellings,
+        r,
+        w,
+    )
+}
+
+/// Writes the five figures, unless memory was refused.
+fn report<W: Dest>(alloc: Global, summary: Summary, w: &mut W) -> Status
+    requires { W.has_failed w.old ≡ false }
+    ensures answered { result ≢ Status.Memory
+        → IsAnswered (stats_text summary) Status.Done
+        (W.contents w.old) (W.contents w.new) (W.has_failed w.new) (W.is_flushed w.new) result }
+    ensures memory { result ≡ Status.Memory → w.new ≡ w.old }
+    ensures io { (result ≡ Status.Io) ↔ (W.has_failed w.new ≡ true) }
+{
+    let Summary {
+        functions,
+        moves,
+        operands,
+        controls,
+        probes,
+    } = summary;
+    let text = format!(in alloc;
+        "functions {functions}\nmoves {moves}\noperands {operands}\n\
+        controls {controls}\nprobes {probes}\n"
+    );
+    match text {
+        Ok(text) => answer(w, text.as_bytes(), Status::Done),
+        Err(_) => Status::Memory,
+    }
+}
+
+/// Writes the canonical binary of a module, and flushes.
+fn write_canonical<W: Dest>(checked: &Checked, w: &mut W) -> Status
+    requires { W.has_failed w.old ≡ false }
+    ensures { IsAnswered (canon (value_of (module_in checked.now))) Status.Done (W.contents w.old)
+        (W.contents w.new)
+        (W.has_failed w.new) (W.is_flushed w.new) result }
+{
+    match encode(checked.module(), w) {
+        Ok(_) => answer(w, b"", Status::Done),
+        // no module that was loaded is too large
+        Err(WriteFault::TooLarge) => Status::Io,
+        Err(WriteFault::Io { written: _ }) => Status::Io,
+    }
+}
+
+/// Writes the text of a module, and flushes.
+fn write_text<W: Dest>(checked: &Checked, w: &mut W) -> Status
+    requires { W.has_failed w.old ≡ false }
+    ensures { IsAnswered (layout (value_of (module_in checked.now))) Status.Done (W.contents w.old)
+        (W.contents w.new)
+        (W.has_failed w.new) (W.is_flushed w.new) result }
+{
+    match print(checked, w) {
+        Ok(()) => answer(w, b"", Status::Done),
+        Err(PrintFault::Io) => Status::Io,
+    }
+}
+
+/// Writes the refusal of an input, unless memory was refused. Where the reader failed nothing is written.
+fn answer_fault<W: Dest>(alloc: Global, fault: FromFault, w: &mut W) -> Status
+    requires { W.has_failed w.old ≡ false }
+    ensures answered { fault ≢ FromFault.Io → result ≢ Status.Memory → (refusal : Refusal)
+        × (fault ≡ FromFault.Refused refusal)
+        × (refusal.why ≢ Why.Memory)
+        × IsAnswered (refusal_line refusal.at refusal.why) Status.Refused
+        (W.contents w.old) (W.contents w.new) (W.has_failed w.new) (W.is_flushed w.new) result }
+    ensures reader { fault ≡ FromFault.Io → (result ≡ Status.Io) × (w.new ≡ w.old) }
+    ensures memory { result ≡ Status.Memory → w.new ≡ w.old }
+    ensures io { (result ≡ Status.Io) ↔ ((fault ≡ FromFault.Io) ⊎ (W.has_failed w.new ≡ true)) }
+{
+    match fault {
+        FromFault::Refused(refusal) => refuse(alloc, refusal, w),
+        FromFault::Io => Status::Io,
+    }
+}
+
+/// Writes a refusal, unless memory was refused.
+pub(crate) fn refuse<W: Dest>(alloc: Global, refusal: Refusal, w: &mut W) -> Status
+    requires { W.has_failed w.old ≡ false }
+    ensures answered { result ≢ Status.Memory → (refusal.why ≢ Why.Memory)
+        × IsAnswered (refusal_line refusal.at refusal.why) Status.Refused
+        (W.contents w.old) (W.contents w.new) (W.has_failed w.new) (W.is_flushed w.new) result }
+    ensures memory { result ≡ Status.Memory → w.new ≡ w.old }
+    ensures io { (result ≡ Status.Io) ↔ (W.has_failed w.new ≡ true) }
+{
+    let why = match refusal.why {
+        Why::Memory => return Status::Memory,
+        why => why,
+    };
+    match format!(in alloc; "refused at {}: {}\n", refusal.at, why.name()) {
+        Ok(text) => answer(w, text.as_bytes(), Status::Refused),
+        Err(_) => Status::Memory,
+    }
+}
