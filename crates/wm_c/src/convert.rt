@@ -18,12 +18,12 @@ use crate::options::{Asked, Options};
 use crate::output::{Output, Unbuilt, filled};
 use std::alloc::Global;
 use wm_decode::Refusal;
-use wm_read::check::{CheckFault, checked_bytes};
 use wm_read::text::read_text;
 use wm_rules::{Checked, Loader, Policy};
 use wm_syntax::modules::Module;
 use wm_syntax::profile::Profile;
 use wm_syntax::why::Why;
+use wm_write::check::{CheckFault, checked_bytes};
 use wm_write::in_memory::{MakeFault, encoded, printed};
 
 /// Writes the canonical binary of a valid module. The result is the output's status.

@@ -5,9 +5,9 @@ ghost use Rattle.wm_c.specs.Conversions.{Fills, misuse, no_room, refuses, unbuil
 
 use crate::codes::{refused_status, text_number, text_status, why_number};
 use wm_decode::Refusal;
-use wm_read::check::CheckFault;
 use wm_read::faults::TextRefusal;
 use wm_syntax::why::Why;
+use wm_write::check::CheckFault;
 
 /// How a conversion ended: `wmod_output` of the header, which says what each field means.
 #[repr(C)]

@@ -10,7 +10,7 @@ ghost use Rattle.wm_command.specs.declared.status.Status.{Status};
 ghost use Rattle.wm_command.specs.declared.words.Action.TheVariants as action;
 ghost use Rattle.wm_command.specs.Outcome.{IsOutput, IsRightFor};
 ghost use Rattle.wm_command.specs.Refused.{module_line, text_line, too_large_line};
-ghost use Rattle.wm_read.specs.declared.check.CheckFault.TheVariants as check;
+ghost use Rattle.wm_write.specs.declared.check.CheckFault.TheVariants as check;
 ghost use Rattle.wm_read.specs.declared.faults.TextWhy.TheVariants as text;
 ghost use Rattle.wm_syntax.specs.Profiles.{IsOf};
 ghost use Rattle.wm_syntax.specs.Values.{value_of};
@@ -20,7 +20,6 @@ use crate::run::refuse;
 use crate::status::Status;
 use std::alloc::Global;
 use wm_decode::Refusal;
-use wm_read::check::{CheckFault, checked_bytes};
 use wm_read::faults::{TextRefusal, TextWhy};
 use wm_read::spellings::Spellings;
 use wm_read::text::read_text;
@@ -29,6 +28,7 @@ use wm_syntax::io::{Dest, Source};
 use wm_syntax::modules::Module;
 use wm_syntax::profile::Profile;
 use wm_syntax::why::Why;
+use wm_write::check::{CheckFault, checked_bytes};
 
 const PIECE: usize = 4096;
 

@@ -8,7 +8,6 @@ pub mod Whole
 pub mod Parts
 pub mod StringFaults
 pub mod Places
-pub mod Checks
 pub mod Readers
 pub mod Ends
 pub mod Indices
@@ -49,14 +48,5 @@ pub mod ModuleLaws
 pub mod OlderWords
 pub mod TextLaws
 pub mod Spaces
-pub mod PrintedNumbers
-pub mod PrintedTokens
-pub mod PrintedFloats
-pub mod PrintedForms
-pub mod PrintedRanges
-pub mod PrintedBodies
-pub mod PrintedFields
-pub mod PrintedParts
-pub mod PrintedTexts
 pub mod Stretches
 pub mod Keys

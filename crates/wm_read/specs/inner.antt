@@ -12,7 +12,6 @@ pub mod Named
 pub mod Pieces
 pub mod Places
 pub mod Views
-pub mod Printed
 pub mod Renewed
 pub mod Stretches
 pub mod Tails

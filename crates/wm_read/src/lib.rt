@@ -1,7 +1,6 @@
 //! The text format (chapter 6), read.
 #![tactic(auto)]
 
-pub mod check;
 mod code;
 pub mod faults;
 mod fields;

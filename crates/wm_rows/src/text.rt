@@ -5,7 +5,6 @@ use std::alloc::Global;
 use std::fmt::Write;
 use std::io;
 use std::io::ErrorKind;
-use wm_read::check::{CheckFault, check, checked_bytes};
 use wm_read::faults::{TextRefusal, TextWhy};
 use wm_read::spellings::Spellings;
 use wm_read::text::read_text;
@@ -14,6 +13,7 @@ use wm_syntax::io::input::Input;
 use wm_syntax::io::output::Output;
 use wm_syntax::modules::Module;
 use wm_syntax::why::Why;
+use wm_write::check::{CheckFault, check, checked_bytes};
 use wm_write::encode::encode;
 use wm_write::print::print;
 

@@ -15,4 +15,5 @@ fn laws_are_called(_rt: HostRuntime) {
     laws::one_canon_one_module();
     laws::canon_loads();
     laws::loaded_modules_by_their_bytes();
+    laws::printed_texts_write_their_modules();
 }

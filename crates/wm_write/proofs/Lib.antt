@@ -11,3 +11,13 @@ pub mod LeastRuns
 pub mod OpLengths
 pub mod Shortest
 pub mod RoundTrip
+pub mod Checks
+pub mod PrintedNumbers
+pub mod PrintedTokens
+pub mod PrintedFloats
+pub mod PrintedForms
+pub mod PrintedRanges
+pub mod PrintedBodies
+pub mod PrintedFields
+pub mod PrintedParts
+pub mod PrintedTexts

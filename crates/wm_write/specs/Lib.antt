@@ -2,3 +2,4 @@ pub mod Canon
 pub mod FloatText
 pub mod Layout
 pub mod exact
+pub mod inner

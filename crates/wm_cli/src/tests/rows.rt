@@ -21,12 +21,12 @@ use super::HEADER;
 use super::desk::sit;
 use super::ends::{BROKEN, Mode};
 use super::faults::{End, Faults, Task, are_faults_told, follow, follow_failing};
-use wm_command::line::{line, wrong_word};
-use wm_command::status::{Status, exit_code};
-use wm_command::words::{Action, Line, LineFault};
 use std::alloc::Global;
 use std::process::Abort;
 use std::test::Fail;
+use wm_command::line::{line, wrong_word};
+use wm_command::status::{Status, exit_code};
+use wm_command::words::{Action, Line, LineFault};
 use wm_rules::Policy;
 use wm_syntax::profile::Profile;
 

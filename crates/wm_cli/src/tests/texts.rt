@@ -58,5 +58,4 @@ fn laws_are_called(_rt: HostRuntime) {
     laws::modules_are_read_as_written();
     laws::one_module();
     laws::modules_tell_their_profiles();
-    laws::printed_texts_write_their_modules();
 }

@@ -1,7 +1,7 @@
 use Rattle.std.proofs.Common.{◌∙◌, Err, List, ap, inl, inr, refl, subst, sym, ℕ}
 use Rattle.wm_syntax.specs.Values.{value_of}
 use Rattle.wm_write.specs.Canon.{canon}
-use Rattle.wm_read.proofs.Checks.{fits}
+use Rattle.wm_write.proofs.Checks.{fits}
 use Rattle.wm_command.specs.Answers.{IsAnswered}
 use Rattle.wm_command.specs.Refused.{module_line}
 use Rattle.wm_command.specs.declared.status.Status.TheVariants as status

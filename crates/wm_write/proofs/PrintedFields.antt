@@ -20,11 +20,11 @@ use Rattle.wm_write.specs.Layout as l
 use Rattle.wm_read.specs.Identifiers.{Id, Resolves}
 use Rattle.wm_read.specs.Written.{Named, Names, Scope, TypeUse, WritesGroups, WritesResults, WritesType, ids_of, types_of}
 use Rattle.wm_read.specs.Fields.{WritesConst, WritesDesc, WritesExport, WritesField, WritesGlobalType, WritesLimits, WritesMax, WritesName, WritesOffset, WritesSignature, WritesTableType, element_field, export_field, function_field, global_field, import_field, memory_field, segment_field, start_field, table_field, type_field}
-use Rattle.wm_read.specs.inner.Printed.{tokens}
-use Rattle.wm_read.proofs.PrintedTokens.{IsBreak, IsHead, body_line_breaks, field_line_breaks, gap_breaks}
-use Rattle.wm_read.proofs.PrintedForms.{IsPrefix, Prints, head_is, id_at, prints_as, prints_block, prints_form, prints_id, prints_nothing, prints_number, prints_string, prints_then, prints_type, prints_use, prints_word}
-use Rattle.wm_read.proofs.PrintedRanges.{AreFine, Counts, IsFine}
-use Rattle.wm_read.proofs.PrintedBodies.{HasNames, Numbers, f_prefix, g_prefix, instructions_printed, prints_const, prints_type_use, t_prefix, type_head}
+use Rattle.wm_write.specs.inner.Printed.{tokens}
+use Rattle.wm_write.proofs.PrintedTokens.{IsBreak, IsHead, body_line_breaks, field_line_breaks, gap_breaks}
+use Rattle.wm_write.proofs.PrintedForms.{IsPrefix, Prints, head_is, id_at, prints_as, prints_block, prints_form, prints_id, prints_nothing, prints_number, prints_string, prints_then, prints_type, prints_use, prints_word}
+use Rattle.wm_write.proofs.PrintedRanges.{AreFine, Counts, IsFine}
+use Rattle.wm_write.proofs.PrintedBodies.{HasNames, Numbers, f_prefix, g_prefix, instructions_printed, prints_const, prints_type_use, t_prefix, type_head}
 
 -- ---- types
 

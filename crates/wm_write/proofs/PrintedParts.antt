@@ -18,10 +18,10 @@ use Rattle.wm_read.specs.Identifiers.{AreDistinct, Id, Ids}
 use Rattle.wm_read.specs.Written.{Names}
 use Rattle.wm_read.specs.Fields.{Field, element_field, element_of, export_field, export_of, function_field, global_field, id_in, import_field, import_of, imports_in, memory_field, module_of, names_of, segment_field, segment_of, start_field, start_of, table_field, type_field, type_of}
 use Rattle.wm_read.specs.Fields as f
-use Rattle.wm_read.proofs.PrintedNumbers.{one_decimal}
-use Rattle.wm_read.proofs.PrintedForms.{id_at}
-use Rattle.wm_read.proofs.PrintedBodies.{Numbers}
-use Rattle.wm_read.proofs.PrintedFields.{import_id}
+use Rattle.wm_write.proofs.PrintedNumbers.{one_decimal}
+use Rattle.wm_write.proofs.PrintedForms.{id_at}
+use Rattle.wm_write.proofs.PrintedBodies.{Numbers}
+use Rattle.wm_write.proofs.PrintedFields.{import_id}
 
 -- ---- numbered identifiers
 

@@ -1,11 +1,11 @@
 use Rattle.std.proofs.Common.{subst}
 use Rattle.wm_write.specs.Layout.{layout, module_words}
 use Rattle.wm_read.specs.Fields.{Writes}
-use Rattle.wm_read.specs.inner.Printed.{tokens}
+use Rattle.wm_write.specs.inner.Printed.{tokens}
 use Rattle.wm_read.proofs.ModuleLaws.{one_module}
-use Rattle.wm_read.proofs.PrintedTexts.{printed_writes}
+use Rattle.wm_write.proofs.PrintedTexts.{printed_writes}
 use Rattle.wm_read.proofs.Whole.{one_list}
-use Rattle.wm_read.proofs.laws.printed_texts_write_their_modules.Goals as goal
+use Rattle.wm_write.proofs.laws.printed_texts_write_their_modules.Goals as goal
 
 pub returns-clause-written : goal.returns-clause-written
 returns-clause-written c = λ p limit q b m loads. let h = printed_writes p limit q b m loads in (tokens (module_words m), h.0, h.1)

@@ -1,6 +1,6 @@
 use Rattle.wm_syntax.specs.Values.{value_of}
-use Rattle.wm_read.proofs.Checks.{encoded_spells}
-use Rattle.wm_read.proofs.check.encoded.Goals as goal
+use Rattle.wm_write.proofs.Checks.{encoded_spells}
+use Rattle.wm_write.proofs.check.encoded.Goals as goal
 
 pub returns-in-Ok-clause-written : goal.returns-in-Ok-clause-written
 returns-in-Ok-clause-written c =

@@ -2,7 +2,7 @@
 use Rattle.std.proofs.Common.{rules, arith, ◌^◌}
 use Rattle.wm_decode.proofs.DecoderCalls.{are_bytes}
 use Rattle.wm_rules.proofs.Verdicts.{meaning_of}
-use Rattle.wm_read.proofs.check.judge.Goals as goal
+use Rattle.wm_write.proofs.check.judge.Goals as goal
 
 pub returns-in-Err-finish-clause-same : goal.returns-in-Err-finish-clause-same
 returns-in-Err-finish-clause-same c = search rules

@@ -37,10 +37,10 @@ use Rattle.wm_read.specs.Tokens.{Token, IsAtom, is_id_char, is_lower}
 use Rattle.wm_read.specs.Identifiers.{Ids, ResolvesLabel}
 use Rattle.wm_read.specs.Written.{Closes, Names, Opens, Scope, TypeUse, WritesAccess, WritesBlockType, WritesElse, WritesInstruction, WritesInstructions, WritesOperand, WritesSimple, WritesTable}
 use Rattle.wm_read.specs.Written as w
-use Rattle.wm_read.specs.inner.Printed.{tokens}
-use Rattle.wm_read.proofs.PrintedTokens.{IsBreak, IsHead, body_line_breaks, gap_breaks}
-use Rattle.wm_read.proofs.PrintedForms.{IsPrefix, Prints, head_is, id_at, prints_as, prints_float, prints_form, prints_index, prints_integer, prints_key, prints_label, prints_nothing, prints_then, prints_type, prints_use, prints_word}
-use Rattle.wm_read.proofs.PrintedRanges.{AreFine, Counts, IsFine, IsFineInstruction}
+use Rattle.wm_write.specs.inner.Printed.{tokens}
+use Rattle.wm_write.proofs.PrintedTokens.{IsBreak, IsHead, body_line_breaks, gap_breaks}
+use Rattle.wm_write.proofs.PrintedForms.{IsPrefix, Prints, head_is, id_at, prints_as, prints_float, prints_form, prints_index, prints_integer, prints_key, prints_label, prints_nothing, prints_then, prints_type, prints_use, prints_word}
+use Rattle.wm_write.proofs.PrintedRanges.{AreFine, Counts, IsFine, IsFineInstruction}
 
 -- ---- the names of instructions are atoms
 

@@ -1,8 +1,8 @@
 use Rattle.std.proofs.Common.{◌≡◌, ◌∙◌, Err, ap, rules, subst, sym}
-use Rattle.wm_read.specs.declared.check.CheckFault.TheVariants as fault
+use Rattle.wm_write.specs.declared.check.CheckFault.TheVariants as fault
 use Rattle.wm_syntax.specs.Values.{value_of}
-use Rattle.wm_read.proofs.Checks.{SpelledAs, accepted, refused}
-use Rattle.wm_read.proofs.check.checked_bytes.Goals as goal
+use Rattle.wm_write.proofs.Checks.{SpelledAs, accepted, refused}
+use Rattle.wm_write.proofs.check.checked_bytes.Goals as goal
 
 pub returns-clause-given : goal.returns-clause-given
 returns-clause-given c =

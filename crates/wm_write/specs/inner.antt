@@ -1,0 +1,2 @@
+-- What proofs name of printed words. Contracts do not.
+pub mod Printed
