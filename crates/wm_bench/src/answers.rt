@@ -5,7 +5,6 @@ use std::alloc::Global;
 use std::io;
 use std::io::{BufWriter, ErrorKind};
 use wm_decode::Refusal;
-use wm_read::check::{CheckFault, check, checked_bytes};
 use wm_read::faults::TextRefusal;
 use wm_read::spellings::Spellings;
 use wm_read::text::read_text;
@@ -14,6 +13,7 @@ use wm_syntax::io::Dest;
 use wm_syntax::io::output::Output;
 use wm_syntax::modules::Module;
 use wm_syntax::profile::Profile;
+use wm_write::check::{CheckFault, check, checked_bytes};
 use wm_write::encode::encode;
 use wm_write::print::print;
 
