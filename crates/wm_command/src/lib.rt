@@ -1,4 +1,5 @@
-//! The command `wmod`: its words, and what each action does.
+//! The command `wmod`: its words, and what each action does. `wm_cli` has the program, and the tests: for these
+//! `run` and `witness` are public.
 #![tactic(auto)]
 
 mod answer;

@@ -1,2 +1,2 @@
--- What proofs name of printed words. Contracts do not.
+-- Which token each printed word stands for. Only the proof of printed_texts_write_their_modules names it.
 pub mod Printed

@@ -1,4 +1,5 @@
-//! Writing: the canonical binary of a module, and its text. Of a module that was made or read as a value, whether it is valid.
+//! Writing: the canonical binary of a module, and its text. And `check`, which judges a module that was made
+//! or read as a value, by its canonical binary.
 #![tactic(auto)]
 
 mod batch;

@@ -1,4 +1,4 @@
--- The tokens that printed words are meant for.
+-- The token that a printed word means, and those of a list of words.
 use Rattle.std.specs.Prelude.{List, map}
 use Rattle.wm_write.specs.Layout.{WordMeaning, Word, opening, closing, string, atom}
 use Rattle.wm_read.specs.Tokens as tok
