@@ -28,8 +28,7 @@ ModuleOut p q m written status =
     (Valid m × Within q m × Fits m × (written ≡ canon m) × (status ≡ Done))
     ⊎ ((Valid m → Within q m → ⊥) × Fits m
     × ((r : Refusal) × (r.why ≢ Memory) × (r.at ≤ length (canon m)) × (verdict p (2 ^ 62) q (canon m) ≡ Err r)
-    × Meaning p (2 ^ 62) q (canon m) r × (written ≡ module_line r.at r.why))
-    × (status ≡ Refused))
+    × Meaning p (2 ^ 62) q (canon m) r × (written ≡ module_line r.at r.why)) × (status ≡ Refused))
     ⊎ ((Fits m → ⊥) × (written ≡ too_large_line) × (status ≡ Refused))
 
 -- Of a text: what becomes of the module that it writes, or a refusal at a place within

@@ -1,5 +1,4 @@
--- The exit statuses of the program: 0 done, 1 refused, 2 a fault of the command line, 3
--- input or output, 4 memory.
+-- The exit statuses: 0 done, 1 refused, 2 a fault of the command line, 3 input or output, 4 memory.
 use Rattle.std.specs.Prelude.{ℕ, Result, Ok, Err}
 use Rattle.clap.specs.Values.{kind_of}
 use Rattle.clap.specs.declared.error.kind.ErrorKind.{ErrorKind}
