@@ -9,7 +9,7 @@ TOP = pathlib.Path(__file__).resolve().parent.parent
 PAGE = TOP / "docs/REFUSALS.md"
 ROWS = TOP / "crates/wm_rows/stdout"
 WORDS = TOP / "crates/wm_syntax/src/why.rt"
-TEXT_WORDS = TOP / "crates/wm_read/src/faults.rt"
+TEXT_WORDS = TOP / "crates/wm_tokens/src/faults.rt"
 TABLE = TOP / "crates/wm_command/src/refusals.rt"
 
 # the groups of rows that each table has

@@ -11,8 +11,8 @@ use Rattle.wm_rules.specs.Validation.{Accepted}
 use Rattle.wm_c.specs.declared.answer.Answer.{Answer}
 use Rattle.wm_c.specs.Answers.{IsRight, in_numbers}
 use Rattle.wm_write.specs.declared.check.CheckFault.TheVariants as check
-use Rattle.wm_read.specs.declared.faults.TextWhy.{TextWhy}
-use Rattle.wm_read.specs.declared.faults.TextWhy.TheVariants as text
+use Rattle.wm_tokens.specs.declared.faults.TextWhy.{TextWhy}
+use Rattle.wm_tokens.specs.declared.faults.TextWhy.TheVariants as text
 use Rattle.wm_c.specs.declared.output.Unbuilt.{Unbuilt}
 use Rattle.wm_c.specs.declared.output.Unbuilt.TheVariants.{TooLong, Text, Check}
 use Rattle.wm_c.specs.Conversions.{IsMemory, unbuilt}

@@ -8,8 +8,8 @@ use Rattle.wm_syntax.specs.declared.why.Why.TheVariants.{Mismatch, Arity, Limits
 use Rattle.wm_syntax.specs.declared.why.Why.TheVariants.{StartType, NotConst, Immutable, Align, ElsePlace}
 use Rattle.wm_syntax.specs.declared.why.Why.TheVariants.{TooLong, Memory, ManyFunctions, ManyLocals, Deep}
 use Rattle.wm_syntax.specs.declared.profile.Profile.{Profile}
-use Rattle.wm_read.specs.declared.faults.TextWhy.{TextWhy}
-use Rattle.wm_read.specs.declared.faults.TextWhy.TheVariants as text
+use Rattle.wm_tokens.specs.declared.faults.TextWhy.{TextWhy}
+use Rattle.wm_tokens.specs.declared.faults.TextWhy.TheVariants as text
 use Rattle.wm_syntax.specs.declared.profile.Profile.TheVariants as profile
 
 -- of a refusal; 0 stands for none

@@ -13,10 +13,10 @@ use Rattle.wm_rules.specs.Validation.{Valid}
 use Rattle.wm_write.specs.Canon.{Fits, canon}
 use Rattle.wm_write.specs.declared.check.CheckFault.{CheckFault}
 use Rattle.wm_write.specs.declared.check.CheckFault.TheVariants as check
-use Rattle.wm_read.specs.declared.faults.TextWhy.TheVariants as text
+use Rattle.wm_tokens.specs.declared.faults.TextWhy.TheVariants as text
 use Rattle.wm_read.specs.declared.spellings.Spellings.{Spellings}
 use Rattle.wm_read.specs.Spellings.{IsTextOf}
-use Rattle.wm_read.specs.TokenFaults.{TellsText}
+use Rattle.wm_tokens.specs.TokenFaults.{TellsText}
 use Rattle.wm_c.specs.declared.output.Output.{Output}
 use Rattle.wm_c.specs.declared.output.Unbuilt.{Unbuilt}
 use Rattle.wm_c.specs.declared.output.Unbuilt.TheVariants.{TooLong, Text, Check}

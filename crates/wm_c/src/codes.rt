@@ -4,7 +4,7 @@ ghost use Rattle.std.specs.Prelude.{◌≡◌, ◌≢◌, MatchOption};
 ghost use Rattle.wm_syntax.specs.declared.why.Why.{Why as AWhy};
 ghost use Rattle.wm_syntax.specs.declared.profile.Profile.{Profile as AProfile};
 ghost use Rattle.wm_c.specs.Codes.{profile_code, status_code, text_code, text_status_code, why_code};
-ghost use Rattle.wm_read.specs.declared.faults.TextWhy.{TextWhy as ATextWhy};
+ghost use Rattle.wm_tokens.specs.declared.faults.TextWhy.{TextWhy as ATextWhy};
 
 use wm_read::faults::TextWhy;
 use wm_syntax::profile::Profile;

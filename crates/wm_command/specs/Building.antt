@@ -11,11 +11,11 @@ use Rattle.wm_rules.specs.Meanings.{Meaning}
 use Rattle.wm_rules.specs.Validation.{Valid}
 use Rattle.wm_rules.specs.inner.Validators.{verdict}
 use Rattle.wm_write.specs.Canon.{Fits, canon}
-use Rattle.wm_read.specs.declared.faults.TextWhy.{TextWhy}
-use Rattle.wm_read.specs.declared.faults.TextWhy.TheVariants as fault
+use Rattle.wm_tokens.specs.declared.faults.TextWhy.{TextWhy}
+use Rattle.wm_tokens.specs.declared.faults.TextWhy.TheVariants as fault
 use Rattle.wm_read.specs.declared.spellings.Spellings.{Spellings}
 use Rattle.wm_read.specs.Spellings.{IsTextOf}
-use Rattle.wm_read.specs.TokenFaults.{TellsText}
+use Rattle.wm_tokens.specs.TokenFaults.{TellsText}
 use Rattle.wm_command.specs.declared.status.Status.{Status}
 use Rattle.wm_command.specs.declared.status.Status.TheVariants.{Done, Refused}
 use Rattle.wm_command.specs.Refused.{module_line, refusal_line, text_line, too_large_line}

@@ -11,7 +11,7 @@ ghost use Rattle.wm_command.specs.declared.words.Action.TheVariants as action;
 ghost use Rattle.wm_command.specs.Outcome.{IsOutput, IsRightFor};
 ghost use Rattle.wm_command.specs.Refused.{module_line, text_line, too_large_line};
 ghost use Rattle.wm_write.specs.declared.check.CheckFault.TheVariants as check;
-ghost use Rattle.wm_read.specs.declared.faults.TextWhy.TheVariants as text;
+ghost use Rattle.wm_tokens.specs.declared.faults.TextWhy.TheVariants as text;
 ghost use Rattle.wm_syntax.specs.Profiles.{IsOf};
 ghost use Rattle.wm_syntax.specs.Values.{value_of};
 

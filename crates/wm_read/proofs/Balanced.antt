@@ -11,7 +11,7 @@ use Rattle.wm_syntax.specs.Instructions.{Instructions}
 use Rattle.wm_syntax.specs.Modules.{Export, Element, Segment, constant, empty_module}
 use Rattle.wm_syntax.specs.Profiles.{feature_of, has, HasInstructions}
 use Rattle.wm_syntax.proofs.ProfileLaws.{four_has, module_of_four}
-use Rattle.wm_read.specs.Tokens.{Token, open_paren, close_paren, atom}
+use Rattle.wm_tokens.specs.Tokens.{Token, open_paren, close_paren, atom}
 use Rattle.wm_read.specs.Identifiers.{Ids, Resolves}
 use Rattle.wm_read.specs.Written.{Named, WritesGroups, Names, TypeUse, Scope, WritesInstructions}
 use Rattle.wm_read.specs.Fields.{WritesName, WritesLimits, WritesTableType, WritesGlobalType, WritesConst, WritesExport, WritesStrings, WritesOffset}

@@ -2,8 +2,8 @@
 use Rattle.std.proofs.Common.{◌≡◌, ℕ, zero, suc, ◌<◌, ◌≤◌, ◌↔◌, List, [], ◌∷◌, ◌++◌, length, Option, Some, None, refl, sym, ap, subst, ◌∙◌, arith, append_assoc, length-append}
 use Rattle.wm_syntax.specs.declared.instructions.Op.{Op}
 use Rattle.wm_syntax.specs.declared.profile.Profile.{Profile}
-use Rattle.wm_read.specs.Tokens.{Token, open_paren, close_paren, string, atom}
-use Rattle.wm_read.proofs.Basics.{same_some, same_tail}
+use Rattle.wm_tokens.specs.Tokens.{Token, open_paren, close_paren, string, atom}
+use Rattle.wm_tokens.proofs.Basics.{same_some, same_tail}
 use Rattle.wm_read.specs.Identifiers.{Id, WritesId}
 use Rattle.wm_read.specs.Written.{Scope, UnnamedTypeUse}
 use Rattle.wm_read.specs.inner.Pieces.{Opened, Piece, plain, jump, opens, middle, closes, after, piece_ops, pieces_ops, WritesPiece, WritesPieces, WritesOps}

@@ -2,9 +2,9 @@
 use Rattle.std.proofs.Common.{◌≡◌, ℕ, ◌<◌, ◌≤◌, List, [], ◌∷◌, ◌++◌, length, Option, Some, None, refl, sym, ap, subst, ◌∙◌, arith}
 use Rattle.wm_syntax.specs.declared.instructions.Op.{Op}
 use Rattle.wm_syntax.specs.declared.profile.Profile.{Profile}
-use Rattle.wm_read.specs.Tokens.{Token, open_paren, close_paren, string, atom}
-use Rattle.wm_read.specs.declared.faults.TextWhy.{TextWhy}
-use Rattle.wm_read.specs.declared.faults.TextWhy.TheVariants.{Expected}
+use Rattle.wm_tokens.specs.Tokens.{Token, open_paren, close_paren, string, atom}
+use Rattle.wm_tokens.specs.declared.faults.TextWhy.{TextWhy}
+use Rattle.wm_tokens.specs.declared.faults.TextWhy.TheVariants.{Expected}
 use Rattle.wm_read.specs.inner.Views.{Fails}
 use Rattle.wm_read.specs.exact.TypeUses.{call_use_at, instructions_at}
 use Rattle.wm_read.specs.inner.Bodies.{CanTake, IsOver}
@@ -14,7 +14,7 @@ use Rattle.wm_syntax.proofs.Places.{after_append}
 use Rattle.wm_read.specs.Written.{Scope}
 use Rattle.wm_read.specs.inner.Pieces.{Open, Opened, Piece, after, piece_ops}
 use Rattle.wm_read.specs.exact.Reading.{Reader, ◌>>=◌, piece_at, ops_at}
-use Rattle.wm_read.proofs.Basics.{same_some}
+use Rattle.wm_tokens.proofs.Basics.{same_some}
 use Rattle.wm_read.proofs.BuiltBodies.{IsNext, is_next, takes, whole}
 use Rattle.wm_read.proofs.PieceLaws.{piece_sound}
 use Rattle.wm_read.proofs.Readers.{bind_is}

@@ -6,9 +6,9 @@ use Rattle.wm_syntax.specs.Instructions.{Instructions, HasOps}
 use Rattle.wm_syntax.specs.Profiles.{HasInstructions}
 use Rattle.wm_syntax.specs.inner.Building.{body_in, tree_of}
 use Rattle.wm_syntax.proofs.Places.{leads}
-use Rattle.wm_read.specs.Tokens.{Token, open_paren, close_paren, string, atom}
+use Rattle.wm_tokens.specs.Tokens.{Token, open_paren, close_paren, string, atom}
 use Rattle.wm_read.specs.Fields.{HasDistinct}
-use Rattle.wm_read.proofs.Basics.{same_some}
+use Rattle.wm_tokens.proofs.Basics.{same_some}
 use Rattle.wm_read.specs.Written.{Scope, UnnamedTypeUse, WritesInstructions}
 use Rattle.wm_read.specs.exact.Reading.{Reader, ops_at}
 use Rattle.wm_read.proofs.Readers.{BeginsClose, Sound, bind_ok, made_is}

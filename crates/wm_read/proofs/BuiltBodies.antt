@@ -7,12 +7,12 @@ use Rattle.wm_syntax.specs.declared.instructions.Op.TheVariants as op
 use Rattle.wm_syntax.specs.Instructions.{Instructions, none, snoc, simple, table, block, loop, choice}
 use Rattle.wm_syntax.specs.inner.Building.{Open, in_block, in_loop, in_first, in_second, Place, at, labels, place_after, placed, if_placed}
 use Rattle.wm_syntax.proofs.Places.{after_append}
-use Rattle.wm_read.specs.Tokens.{Token}
+use Rattle.wm_tokens.specs.Tokens.{Token}
 use Rattle.wm_read.specs.Written.{Scope}
 use Rattle.wm_read.specs.declared.code.blocks.Opening.TheVariants.{Block, Loop, If}
 use Rattle.wm_read.specs.inner.Bodies.{CanTake, is_first, IsOver}
 use Rattle.wm_read.specs.inner.Pieces.{Opened, Piece, plain, jump, opens, middle, closes, after, piece_ops, WritesPiece}
-use Rattle.wm_read.proofs.Basics.{same_head, same_tail}
+use Rattle.wm_tokens.proofs.Basics.{same_head, same_tail}
 
 -- ---- ops one after another
 

@@ -7,7 +7,7 @@ use Rattle.std.proofs.lemmas.Option.{slice_get_within}
 use Rattle.wm_read.specs.Identifiers.{Id, Ids, AreDistinct}
 use Rattle.wm_read.specs.exact.Reading.{place_of}
 use Rattle.wm_read.specs.exact.Fields.{all_new}
-use Rattle.wm_read.proofs.Basics.{same_some}
+use Rattle.wm_tokens.proofs.Basics.{same_some}
 use Rattle.wm_read.proofs.Indices.{distinct_nearest, place_found, place_nearest}
 
 -- the last one of a list, and those before it

@@ -6,15 +6,15 @@ use Rattle.wm_syntax.specs.declared.instructions.LoadOp.{LoadOp}
 use Rattle.wm_syntax.specs.declared.instructions.LoadOp.TheVariants as l
 use Rattle.wm_syntax.specs.declared.instructions.StoreOp.{StoreOp}
 use Rattle.wm_syntax.specs.declared.instructions.StoreOp.TheVariants as s
-use Rattle.wm_read.specs.Tokens.{Token, open_paren, close_paren, string, atom}
+use Rattle.wm_tokens.specs.Tokens.{Token, open_paren, close_paren, string, atom}
 use Rattle.wm_read.specs.Identifiers.{Id, Ids}
 use Rattle.wm_read.specs.exact.Fields.{is_new}
 use Rattle.wm_read.specs.exact.Reading.{open_at, atom_at, word_of, index_of, paren_at, id_at, key_at, exponent_of}
-use Rattle.wm_read.specs.exact.Scan.{lexed}
+use Rattle.wm_tokens.specs.exact.Scan.{lexed}
 use Rattle.wm_read.specs.exact.TextModules.{frame_at}
-use Rattle.wm_read.proofs.Basics.{same_some}
+use Rattle.wm_tokens.proofs.Basics.{same_some}
 use Rattle.wm_read.proofs.Readers.{bind_ok}
-use Rattle.wm_read.proofs.Whole.{ahead_ends, ahead_nil}
+use Rattle.wm_tokens.proofs.Whole.{ahead_ends, ahead_nil}
 
 pub nothing_left : (b : List ℕ) → length b ≡ 0 → lexed b ≡ []
 nothing_left [] e = ahead_ends [] (sym ahead_nil)

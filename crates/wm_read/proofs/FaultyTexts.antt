@@ -13,22 +13,22 @@ use Rattle.wm_syntax.specs.declared.profile.Feature.TheVariants.{Floats}
 use Rattle.wm_syntax.specs.Modules.{Module}
 use Rattle.wm_syntax.specs.Profiles.{has, HasConst, HasFunction, HasGlobal, HasInstructions, IsOf}
 use Rattle.wm_syntax.proofs.ProfileLaws.{all_append}
-use Rattle.wm_read.specs.Tokens.{Token, open_paren, close_paren, string, atom, Blank, LastSpace, AreTokens}
-use Rattle.wm_read.specs.TokenFaults.{IsAmong, LeadsTo, FirstFault}
-use Rattle.wm_read.specs.TokenFaults as lead
+use Rattle.wm_tokens.specs.Tokens.{Token, open_paren, close_paren, string, atom, Blank, LastSpace, AreTokens}
+use Rattle.wm_tokens.specs.TokenFaults.{IsAmong, LeadsTo, FirstFault}
+use Rattle.wm_tokens.specs.TokenFaults as lead
 use Rattle.wm_read.specs.Identifiers.{Id, WritesId, Resolves}
 use Rattle.wm_read.specs.Written.{Paren, WritesGroups, WritesResults, Names, Scope, TypeUse, WritesInstructions, ids_of}
 use Rattle.wm_read.specs.Fields.{Field, type_field, import_field, function_field, table_field, memory_field, global_field, export_field, start_field, element_field, segment_field, WritesName, WritesSignature, WritesLimits, WritesTableType, WritesGlobalType, WritesConst, WritesDesc, WritesExport, WritesOffset, WritesStrings, WritesField, Writes, function_of, global_of, element_of, segment_of, names_of}
 use Rattle.wm_read.specs.Spellings.{IsTextOf, replaced}
-use Rattle.wm_read.specs.declared.faults.TextWhy.{TextWhy}
+use Rattle.wm_tokens.specs.declared.faults.TextWhy.{TextWhy}
 use Rattle.wm_read.specs.declared.spellings.Spellings.{Spellings}
 use Rattle.wm_read.specs.declared.spellings.Spellings.TheVariants.{Standard, Older}
 use Rattle.wm_read.specs.exact.Reading.{is_word}
-use Rattle.wm_read.specs.inner.Places.{HasNoFloat, over_blank}
-use Rattle.wm_read.proofs.Ahead.{ahead_last}
+use Rattle.wm_tokens.specs.inner.Places.{HasNoFloat, over_blank}
+use Rattle.wm_tokens.proofs.Ahead.{ahead_last}
 use Rattle.wm_read.proofs.OlderWords.{stays_or_word}
-use Rattle.wm_read.proofs.Places.{lead_steps, moved, no_tokens, steps_any}
-use Rattle.wm_read.proofs.Whole.{ahead_nil}
+use Rattle.wm_tokens.proofs.Places.{lead_steps, moved, no_tokens, steps_any}
+use Rattle.wm_tokens.proofs.Whole.{ahead_nil}
 use Rattle.wm_read.proofs.WrittenForms.{Closed, keeps_then, keeps_paren, keeps_id, keeps_groups, keeps_results, keeps_index, keeps_use, keeps_instructions, keeps_limits, keeps_table_type, keeps_global_type, keeps_const, keeps_name, keeps_export, keeps_element, keeps_segment}
 
 -- each token is one without floats

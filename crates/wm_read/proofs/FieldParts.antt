@@ -25,7 +25,7 @@ use Rattle.wm_syntax.specs.declared.profile.Profile.{Profile}
 use Rattle.wm_syntax.specs.exact.NameTable.{class_named}
 use Rattle.wm_syntax.specs.Modules.{constant}
 use Rattle.wm_syntax.specs.Profiles.{HasConst, HasDesc}
-use Rattle.wm_read.specs.Tokens.{Token, open_paren, close_paren, string, atom}
+use Rattle.wm_tokens.specs.Tokens.{Token, open_paren, close_paren, string, atom}
 use Rattle.wm_read.specs.Identifiers.{Id, Ids, AreDistinct, WritesId, Resolves, ResolvesLabel}
 use Rattle.wm_read.specs.Written.{Named, Names, Scope, Paren, TypeUse}
 use Rattle.wm_read.specs.Fields.{HasDistinct, WritesConst, WritesDesc, WritesExport, WritesGlobalType, WritesLimits, WritesName, WritesOffset, WritesStrings, WritesTableType}
@@ -35,8 +35,8 @@ use Rattle.wm_read.specs.exact.TypeUses.{call_use_at}
 use Rattle.wm_read.specs.exact.NamedUses.{named_use_at}
 use Rattle.wm_read.specs.exact.FieldTypes.{limits_at, table_type_at, global_type_at}
 use Rattle.wm_read.specs.exact.Fields.{item_word, with_word, item_named, headed_at, name_at, strings_at, bytes_at, const_kind, const_class, const_at, offset_at, desc_kind, desc_at, space_of, item_at}
-use Rattle.wm_read.proofs.Atoms.{magnitude_more}
-use Rattle.wm_read.proofs.Basics.{chosen, same_some}
+use Rattle.wm_tokens.proofs.Atoms.{magnitude_more}
+use Rattle.wm_tokens.proofs.Basics.{chosen, same_some}
 use Rattle.wm_read.proofs.FieldTypes.{NoNumber, OfGlobalType, limits_sound, limits_complete, table_type_sound, table_type_complete, global_type_sound, global_type_complete}
 use Rattle.wm_floats.specs.exact.Atoms.{float_of}
 use Rattle.wm_syntax.specs.declared.instructions.FloatType.TheVariants as float

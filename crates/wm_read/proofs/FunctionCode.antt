@@ -7,11 +7,11 @@ use Rattle.wm_syntax.specs.declared.types.ValType.{ValType}
 use Rattle.wm_syntax.specs.declared.profile.Profile.{Profile}
 use Rattle.wm_syntax.specs.Instructions.{Instructions}
 use Rattle.wm_syntax.specs.Modules.{Function}
-use Rattle.wm_read.specs.Tokens.{Token, open_paren, close_paren, string, atom}
+use Rattle.wm_tokens.specs.Tokens.{Token, open_paren, close_paren, string, atom}
 use Rattle.wm_read.specs.Identifiers.{Id, Ids}
 use Rattle.wm_read.specs.Written.{Named, Names, Scope, ids_of, types_of}
-use Rattle.wm_read.specs.declared.faults.TextWhy.{TextWhy}
-use Rattle.wm_read.specs.declared.faults.TextWhy.TheVariants as why
+use Rattle.wm_tokens.specs.declared.faults.TextWhy.{TextWhy}
+use Rattle.wm_tokens.specs.declared.faults.TextWhy.TheVariants as why
 use Rattle.wm_read.specs.declared.code.named.NamedRun.{NamedRun}
 use Rattle.wm_read.specs.declared.code.named.NamedRun.TheVariants.{Unnamed}
 use Rattle.wm_read.specs.exact.Reading.{◌>>=◌, ops_at}
@@ -20,7 +20,7 @@ use Rattle.wm_read.specs.exact.Fields.{all_new, function_at, function_by, functi
 use Rattle.wm_read.specs.inner.Fields.{head_at}
 use Rattle.wm_read.specs.inner.Named.{named_of, named_list}
 use Rattle.wm_read.specs.inner.Views.{Fails, IsOfReaders, NotMemory}
-use Rattle.wm_read.proofs.Basics.{same_some}
+use Rattle.wm_tokens.proofs.Basics.{same_some}
 use Rattle.wm_read.proofs.Groups.{fails_read, fails_on}
 use Rattle.wm_read.proofs.NamedGroups.{named_append, named_push}
 use Rattle.wm_read.proofs.Readers.{bind_is}

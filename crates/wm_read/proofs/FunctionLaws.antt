@@ -8,7 +8,7 @@ use Rattle.wm_syntax.specs.declared.profile.Profile.{Profile}
 use Rattle.wm_syntax.specs.Instructions.{Instructions}
 use Rattle.wm_syntax.specs.Modules.{Function}
 use Rattle.wm_syntax.specs.Profiles.{HasFunction, HasInstructions}
-use Rattle.wm_read.specs.Tokens.{Token, open_paren, close_paren, string, atom}
+use Rattle.wm_tokens.specs.Tokens.{Token, open_paren, close_paren, string, atom}
 use Rattle.wm_read.specs.Identifiers.{AreDistinct}
 use Rattle.wm_read.specs.Written.{Named, Names, Scope, TypeUse, WritesGroup, WritesGroups, WritesInstructions, ids_of, types_of}
 use Rattle.wm_read.specs.Fields.{HasDistinct}
@@ -17,7 +17,7 @@ use Rattle.wm_read.specs.exact.Reading.{Reader, then_at}
 use Rattle.wm_read.specs.exact.TypeUses.{instructions_at, named_at}
 use Rattle.wm_read.specs.exact.NamedUses.{named_use_at}
 use Rattle.wm_read.specs.exact.Fields.{all_new, function_at, function_by, function_of, is_function}
-use Rattle.wm_read.proofs.Basics.{chosen, same_some}
+use Rattle.wm_tokens.proofs.Basics.{chosen, same_some}
 use Rattle.wm_read.proofs.BodyTheorem.{law_read, law_written}
 use Rattle.wm_read.proofs.DistinctIds.{are_distinct, distinct_new}
 use Rattle.wm_read.proofs.NamedGroups.{NotGroup, OfGroups, groups_are_read, groups_are_written}

@@ -7,14 +7,14 @@ use Rattle.wm_syntax.specs.Spelling.{Form}
 use Rattle.wm_syntax.specs.Types.{Signature}
 use Rattle.wm_syntax.specs.declared.types.ValType.{ValType}
 use Rattle.wm_syntax.specs.declared.profile.Profile.{Profile}
-use Rattle.wm_read.specs.Tokens.{Token, open_paren, close_paren, string, atom}
+use Rattle.wm_tokens.specs.Tokens.{Token, open_paren, close_paren, string, atom}
 use Rattle.wm_read.specs.Written.{Names}
-use Rattle.wm_read.specs.declared.faults.TextWhy.{TextWhy}
-use Rattle.wm_read.specs.declared.faults.TextWhy.TheVariants as why
+use Rattle.wm_tokens.specs.declared.faults.TextWhy.{TextWhy}
+use Rattle.wm_tokens.specs.declared.faults.TextWhy.TheVariants as why
 use Rattle.wm_read.specs.inner.Views.{Fails, IsOfReaders, IsRefusal}
 use Rattle.wm_read.specs.exact.Reading.{Reader, ◌>>=◌, made, atom_at, index_of, type_of, paren_at, many_at, then_at}
 use Rattle.wm_read.specs.exact.TypeUses.{types_at, adding, begins_group, groups_at, joined, same_types, no_types, fits, checked, use_at, begins_open, alone_by, call_use_at}
-use Rattle.wm_read.proofs.Basics.{same_some}
+use Rattle.wm_tokens.proofs.Basics.{same_some}
 use Rattle.wm_read.proofs.Readers.{Sound, bind_is}
 use Rattle.wm_read.proofs.TypeUseLaws.{OfUnnamed, group_begins, group_sound, same_types_are, types_same}
 

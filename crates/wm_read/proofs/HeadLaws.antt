@@ -14,7 +14,7 @@ use Rattle.wm_syntax.specs.Types.{Signature}
 use Rattle.wm_syntax.specs.Modules.{Import, Function}
 use Rattle.wm_syntax.specs.declared.profile.Profile.{Profile}
 use Rattle.wm_syntax.specs.Profiles.{HasSignature}
-use Rattle.wm_read.specs.Tokens.{Token, open_paren, close_paren, atom}
+use Rattle.wm_tokens.specs.Tokens.{Token, open_paren, close_paren, atom}
 use Rattle.wm_read.specs.Identifiers.{Id, WritesId, Resolves}
 use Rattle.wm_read.specs.Written.{Keyword, Paren, UnsignedNumber, WritesType, Named, WritesGroups, Names, TypeUse, WritesInstructions, ids_of}
 use Rattle.wm_read.specs.Fields.{Field, type_field, import_field, function_field, table_field, memory_field, global_field, export_field, start_field, element_field, segment_field, WritesName, WritesSignature, WritesMax, WritesLimits, WritesTableType, WritesGlobalType, WritesConst, WritesDesc, WritesExport, WritesOffset, WritesStrings, WritesField, names_of}
@@ -23,7 +23,7 @@ use Rattle.wm_read.specs.exact.FirstReading.{Noted, with_item, with_type, free_i
 use Rattle.wm_read.specs.exact.Signatures.{signature_at}
 use Rattle.wm_read.specs.exact.Reading.{Reader, ◌>>=◌, close_at, id_at}
 use Rattle.wm_read.specs.exact.TypeUses.{begins_open}
-use Rattle.wm_read.proofs.Atoms.{magnitude_more}
+use Rattle.wm_tokens.proofs.Atoms.{magnitude_more}
 use Rattle.wm_read.proofs.Balanced.{AllBalanced, balanced_then, balanced_groups, balanced_use, balanced_instructions, balanced_limits, balanced_table_type, balanced_global_type, balanced_const, balanced_export, balanced_start, balanced_element, balanced_segment}
 use Rattle.wm_read.proofs.FieldParts.{name_complete}
 use Rattle.wm_read.proofs.Immediates.{NotId, id_complete}

@@ -5,7 +5,7 @@ use Rattle.wm_syntax.specs.declared.modules.ExportKind.{ExportKind}
 use Rattle.wm_syntax.specs.declared.modules.ExportKind.TheVariants as kind
 use Rattle.wm_syntax.specs.Types.{Signature}
 use Rattle.wm_syntax.specs.declared.profile.Profile.{Profile}
-use Rattle.wm_read.specs.Tokens.{Token, open_paren, close_paren, string, atom}
+use Rattle.wm_tokens.specs.Tokens.{Token, open_paren, close_paren, string, atom}
 use Rattle.wm_read.specs.Identifiers.{Id, Ids, AreDistinct, WritesId}
 use Rattle.wm_read.specs.Written.{Names}
 use Rattle.wm_read.specs.Fields.{HasDistinct, WritesName}
@@ -16,7 +16,7 @@ use Rattle.wm_read.specs.exact.FirstReading.{Noted, with_item, with_type, free_i
 use Rattle.wm_read.specs.exact.Signatures.{signature_at}
 use Rattle.wm_read.specs.exact.Reading.{Reader, ◌>>=◌, open_at, close_at, atom_at, id_at}
 use Rattle.wm_read.specs.exact.TypeUses.{begins_open}
-use Rattle.wm_read.proofs.Basics.{chosen, same_some}
+use Rattle.wm_tokens.proofs.Basics.{chosen, same_some}
 use Rattle.wm_read.proofs.DistinctIds.{new_distinct}
 use Rattle.wm_read.proofs.FieldParts.{name_sound}
 use Rattle.wm_read.proofs.Immediates.{id_sound}

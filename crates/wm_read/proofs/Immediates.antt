@@ -9,10 +9,10 @@ use Rattle.wm_syntax.specs.declared.types.ValType.{ValType}
 use Rattle.wm_syntax.specs.declared.types.ValType.TheVariants.{I32, I64, F32, F64}
 use Rattle.wm_syntax.specs.declared.profile.Profile.{Profile}
 use Rattle.wm_syntax.specs.Profiles.{HasBlockType, HasType, has, type_feature}
-use Rattle.wm_read.specs.Tokens.{Token, open_paren, close_paren, string, atom, is_lower, is_digit, digit_value, Digits, IsInteger, IsIdentifier, Magnitude}
-use Rattle.wm_read.specs.exact.Scan.{magnitude_of}
-use Rattle.wm_read.proofs.Basics.{chosen, same_some, same_head}
-use Rattle.wm_read.proofs.Atoms.{magnitude_more, magnitude_found}
+use Rattle.wm_tokens.specs.Tokens.{Token, open_paren, close_paren, string, atom, is_lower, is_digit, digit_value, Digits, IsInteger, IsIdentifier, Magnitude}
+use Rattle.wm_tokens.specs.exact.Scan.{magnitude_of}
+use Rattle.wm_tokens.proofs.Basics.{chosen, same_some, same_head}
+use Rattle.wm_tokens.proofs.Atoms.{magnitude_more, magnitude_found}
 use Rattle.wm_read.specs.Identifiers.{Id, Ids, WritesId, IsLabel, ResolvesLabel}
 use Rattle.wm_syntax.specs.Types.{type_text}
 use Rattle.wm_read.specs.Written.{Paren, WritesType, WritesBlockType, WritesInteger, WritesKey, WritesAccess, Closes}

@@ -2,10 +2,10 @@
 use Rattle.std.proofs.Common.{◌≡◌, ℕ, zero, suc, ◌<◌, true, false, List, [], ◌∷◌, Option, Some, None, refl, sym, ap, subst, ◌∙◌, inl, inr, arith}
 use Rattle.std.specs.Prelude.{◌==◌, ◌^◌, nat_lt, slice_get, ◌≢◌}
 use Rattle.std.proofs.lemmas.Bool.{cond-true, cond-false, cond_both, eqb-true, eq-eqb, and_parts, and_from, ltb-true, lt-ltb, and_left, ne_eqb}
-use Rattle.wm_read.specs.Tokens.{IsUnsigned, IsIdentifier}
-use Rattle.wm_read.specs.exact.Scan.{magnitude_of}
-use Rattle.wm_read.proofs.Basics.{chosen, same_some}
-use Rattle.wm_read.proofs.Atoms.{magnitude_more, magnitude_found}
+use Rattle.wm_tokens.specs.Tokens.{IsUnsigned, IsIdentifier}
+use Rattle.wm_tokens.specs.exact.Scan.{magnitude_of}
+use Rattle.wm_tokens.proofs.Basics.{chosen, same_some}
+use Rattle.wm_tokens.proofs.Atoms.{magnitude_more, magnitude_found}
 use Rattle.wm_read.specs.Identifiers.{Id, Ids, AreDistinct, IsIndex, IsLabel, Resolves, ResolvesLabel}
 use Rattle.wm_read.specs.exact.Reading.{same_bytes, atom_at, unsigned_of, is_id, place_of, index_of}
 use Rattle.wm_read.proofs.Readers.{Sound, Complete, Any, bind_ok, bind_is, same_is, is_same, atom_sound, atom_complete}

@@ -2,17 +2,17 @@
 use Rattle.std.proofs.Common.{◌≡◌, ◌≢◌, ℕ, ◌<◌, ◌≤◌, Bool, true, false, not, List, [], ◌∷◌, length, Some, None, refl, sym, ap, subst, ◌∙◌, inr, arith, get_or}
 use Rattle.std.specs.Prelude.{◌==◌, ◌&&◌, nat_le}
 use Rattle.std.proofs.lemmas.Bool.{and_from, or_from, le-leb, ne_eqb, cond-true, cond-false}
-use Rattle.wm_read.specs.Tokens.{Token, atom, is_lower, is_space}
-use Rattle.wm_read.specs.exact.Scan.{after_spaces, ahead, first, atom_in, is_atom, is_nil, lexed}
+use Rattle.wm_tokens.specs.Tokens.{Token, atom, is_lower, is_space}
+use Rattle.wm_tokens.specs.exact.Scan.{after_spaces, ahead, first, atom_in, is_atom, is_nil, lexed}
 use Rattle.wm_read.specs.exact.Reading.{key_at, key_by, is_id, id_at, again_at, block_type_at}
-use Rattle.wm_read.specs.declared.tokens.scan.Class.TheVariants as k
-use Rattle.wm_read.specs.inner.Stretches.{BeginsWord}
+use Rattle.wm_tokens.specs.declared.scan.Class.TheVariants as k
+use Rattle.wm_read.specs.inner.Firsts.{BeginsWord}
 use Rattle.wm_read.specs.Identifiers.{Id}
 use Rattle.wm_syntax.specs.declared.profile.Profile.{Profile}
-use Rattle.wm_read.proofs.Atoms.{kind_more}
-use Rattle.wm_read.proofs.Ahead.{ahead_is, class_atom}
-use Rattle.wm_read.proofs.PlainAtoms.{lower_is}
-use Rattle.wm_read.proofs.Whole.{ahead_takes, spaces_lexed}
+use Rattle.wm_tokens.proofs.Atoms.{kind_more}
+use Rattle.wm_tokens.proofs.Ahead.{ahead_is, class_atom}
+use Rattle.wm_tokens.proofs.PlainAtoms.{lower_is}
+use Rattle.wm_tokens.proofs.Whole.{ahead_takes, spaces_lexed}
 
 word_first : (c : ℕ) (t : List ℕ) → is_lower c ≡ true → first (atom (c ∷ (atom_in t).0)) (atom_in t).1 ≡ ahead (c ∷ t)
 word_first c t lower = sym (ahead_is c t k.Atom (class_atom c (lower_is c lower)) ∙ cond-true (is_atom (c ∷ (atom_in t).0)) _ _ (kind_more (c ∷ (atom_in t).0) (inr (inr lower))))

@@ -1,13 +1,3 @@
-pub mod Basics
-pub mod Comments
-pub mod Atoms
-pub mod Strings
-pub mod Ahead
-pub mod PlainAtoms
-pub mod Whole
-pub mod Parts
-pub mod StringFaults
-pub mod Places
 pub mod Readers
 pub mod Ends
 pub mod Indices
@@ -38,6 +28,7 @@ pub mod ModuleFields
 pub mod NamedUses
 pub mod SignatureLaws
 pub mod HeadSteps
+pub mod Skips
 pub mod Tails
 pub mod WrittenForms
 pub mod Balanced
@@ -48,5 +39,4 @@ pub mod ModuleLaws
 pub mod OlderWords
 pub mod TextLaws
 pub mod Spaces
-pub mod Stretches
 pub mod Keys

@@ -10,7 +10,7 @@ use Rattle.wm_syntax.specs.Modules.{Element, Export, Function, GlobalDef, Import
 use Rattle.wm_syntax.specs.declared.instructions.Op.{Op}
 use Rattle.wm_syntax.specs.declared.profile.Profile.{Profile}
 use Rattle.wm_syntax.specs.inner.Building.{tree_of}
-use Rattle.wm_read.specs.Tokens.{Token, open_paren, close_paren, string, atom}
+use Rattle.wm_tokens.specs.Tokens.{Token, open_paren, close_paren, string, atom}
 use Rattle.wm_read.specs.Written.{Named, Names, Scope, ids_of, types_of}
 use Rattle.std.specs.Prelude.{codes}
 use Rattle.wm_read.specs.Fields.{Field, type_field, import_field, function_field, table_field, memory_field, global_field, export_field, start_field, element_field, segment_field, module_of}
@@ -22,7 +22,7 @@ use Rattle.wm_read.specs.exact.TypeUses.{begins_open, call_use_at, instructions_
 use Rattle.wm_read.specs.exact.NamedUses.{named_use_at}
 use Rattle.wm_read.specs.exact.Fields.{field_at, field_word, fields_at, function_at, function_by, function_of, is_function}
 use Rattle.wm_read.specs.Written.{Paren, TypeUse}
-use Rattle.wm_read.proofs.Basics.{chosen, same_some}
+use Rattle.wm_tokens.proofs.Basics.{chosen, same_some}
 use Rattle.wm_read.proofs.FieldLaws.{OfKind, field_front}
 use Rattle.wm_read.proofs.Groups.{many_is}
 use Rattle.wm_read.proofs.NamedGroups.{OfGroups, groups_are_written}

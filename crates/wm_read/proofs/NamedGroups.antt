@@ -8,7 +8,7 @@ use Rattle.wm_syntax.specs.declared.types.ValType.TheVariants.{I32, I64, F32, F6
 use Rattle.wm_syntax.specs.declared.profile.Profile.{Profile}
 use Rattle.wm_syntax.specs.Profiles.{HasType}
 use Rattle.wm_syntax.proofs.ProfileLaws.{all_append, all_back, all_front}
-use Rattle.wm_read.specs.Tokens.{Token, open_paren, close_paren, string, atom}
+use Rattle.wm_tokens.specs.Tokens.{Token, open_paren, close_paren, string, atom}
 use Rattle.wm_read.specs.Identifiers.{WritesId}
 use Rattle.wm_syntax.specs.Types.{type_text}
 use Rattle.wm_read.specs.Written.{Named, Paren, WritesGroup, WritesGroups, types_of}
@@ -17,10 +17,10 @@ use Rattle.wm_read.specs.exact.TypeUses.{types_at, begins_group, unnamed, inside
 use Rattle.wm_read.specs.declared.code.named.NamedRun.{NamedRun}
 use Rattle.wm_read.specs.declared.code.named.NamedRun.TheVariants.{Unnamed}
 use Rattle.std.specs.Prelude.{Result}
-use Rattle.wm_read.specs.declared.faults.TextFault.{TextFault}
+use Rattle.wm_tokens.specs.declared.faults.TextFault.{TextFault}
 use Rattle.wm_read.specs.inner.Views.{Reads}
 use Rattle.wm_read.specs.inner.Named.{named_of, named_list}
-use Rattle.wm_read.proofs.Basics.{chosen, same_some}
+use Rattle.wm_tokens.proofs.Basics.{chosen, same_some}
 use Rattle.wm_read.proofs.Readers.{Sound, Complete, Any, Begins, BeginsClose, bind_ok, bind_is, is_same, made_sound, made_is, paren_sound, paren_complete, many_sound, many_complete}
 use Rattle.wm_read.proofs.Groups.{NoAtom, fails_refused, groups_on, groups_out, groups_done, rest_shorter}
 use Rattle.wm_read.proofs.Immediates.{NotId, OfType, type_sound, type_complete}

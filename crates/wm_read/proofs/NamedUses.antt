@@ -7,17 +7,17 @@ use Rattle.wm_syntax.specs.Spelling.{Form, Each}
 use Rattle.wm_syntax.specs.Types.{Signature}
 use Rattle.wm_syntax.specs.declared.types.ValType.{ValType}
 use Rattle.wm_syntax.specs.declared.profile.Profile.{Profile}
-use Rattle.wm_read.specs.Tokens.{Token}
+use Rattle.wm_tokens.specs.Tokens.{Token}
 use Rattle.wm_read.specs.Identifiers.{AreDistinct, Resolves}
 use Rattle.wm_read.specs.Written.{Named, Names, Paren, TypeUse, WritesGroups, WritesResults, WritesUnnamed, types_of}
 use Rattle.wm_read.specs.exact.Reading.{◌>>=◌, made, atom_at, index_of, then_at, paren_at}
 use Rattle.wm_read.specs.exact.TypeUses.{begins_group, fits, groups_at, joined, named_at, no_types, unnamed}
 use Rattle.wm_read.specs.exact.NamedUses.{none_written, used_of, used_at, results_at, use_parts, named_use_at}
-use Rattle.wm_read.specs.declared.faults.TextWhy.{TextWhy}
+use Rattle.wm_tokens.specs.declared.faults.TextWhy.{TextWhy}
 use Rattle.wm_read.specs.declared.code.named.NamedRun.{NamedRun}
 use Rattle.wm_read.specs.inner.Named.{named_of, named_list}
 use Rattle.wm_read.specs.inner.Views.{Fails}
-use Rattle.wm_read.proofs.Basics.{chosen, same_some}
+use Rattle.wm_tokens.proofs.Basics.{chosen, same_some}
 use Rattle.wm_read.proofs.Groups.{fails_on}
 use Rattle.wm_read.proofs.Indices.{index_sound, index_complete}
 use Rattle.wm_read.proofs.NamedGroups.{NamedOf, OfGroups, groups_are_read, groups_are_written, named_push}

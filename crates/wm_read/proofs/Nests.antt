@@ -12,7 +12,7 @@ use Rattle.wm_syntax.specs.Instructions.{Instruction, Instructions, none, snoc, 
 use Rattle.std.specs.List.{AllByRecursion}
 use Rattle.wm_syntax.specs.Profiles.{HasInstructions, IsOpOf}
 use Rattle.wm_syntax.proofs.ProfileLaws.{all_append, by_ops, labels_of}
-use Rattle.wm_read.specs.Tokens.{Token}
+use Rattle.wm_tokens.specs.Tokens.{Token}
 use Rattle.wm_read.specs.declared.code.blocks.Opening.{Opening}
 use Rattle.wm_read.specs.declared.code.blocks.Opening.TheVariants.{Block, Loop, If}
 use Rattle.wm_read.specs.Identifiers.{Id}

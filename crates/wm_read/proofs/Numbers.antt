@@ -3,10 +3,10 @@ use Rattle.std.proofs.Common.{◌≡◌, ℕ, zero, suc, ◌<◌, ◌≤◌, ◌
 use Rattle.std.specs.Prelude.{min, nat_lt, nat_le, pos, neg_ℤ, ◌-ℤ◌, ◌^◌, ◌==◌, ◌≢◌}
 use Rattle.std.specs.Option.{option_map, MatchOption}
 use Rattle.std.proofs.lemmas.Bool.{cond-true, cond-false, lt-ltb, le-ltb, le-leb, leb-true, eq-eqb, ne_eqb}
-use Rattle.wm_read.specs.Tokens.{digit_value}
-use Rattle.wm_read.specs.exact.Scan.{magnitude_of}
-use Rattle.wm_read.proofs.Basics.{same_some}
-use Rattle.wm_read.proofs.Atoms.{first_digit}
+use Rattle.wm_tokens.specs.Tokens.{digit_value}
+use Rattle.wm_tokens.specs.exact.Scan.{magnitude_of}
+use Rattle.wm_tokens.proofs.Basics.{same_some}
+use Rattle.wm_tokens.proofs.Atoms.{first_digit}
 use Rattle.wm_read.specs.exact.Reading.{◌>>=◌, unsigned_of, plus_of, minus_of, plain_of, integer_of, exponent_below, exponent_of, after_key}
 use Rattle.std.specs.Borrow.{Bor}
 use Rattle.wm_read.proofs.Immediates.{key_found, key_more}

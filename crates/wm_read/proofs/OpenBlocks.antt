@@ -12,7 +12,7 @@ use Rattle.wm_read.specs.inner.Blocks.{IsMissing, IsOuter, changed, open_of, blo
 use Rattle.wm_read.specs.inner.Ids.{id_of}
 use Rattle.wm_read.specs.inner.Pieces.{labels}
 use Rattle.wm_read.specs.exact.Reading.{◌>>=◌, place_of, same_bytes}
-use Rattle.wm_read.proofs.Basics.{same_some}
+use Rattle.wm_tokens.proofs.Basics.{same_some}
 use Rattle.wm_read.proofs.Readers.{same_is, same_from, is_same}
 
 pub same_back : (a b : List ℕ) → same_bytes a b ≡ true → same_bytes b a ≡ true

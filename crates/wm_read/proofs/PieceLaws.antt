@@ -26,8 +26,8 @@ use Rattle.wm_syntax.specs.declared.profile.Profile.{Profile}
 use Rattle.wm_syntax.specs.Opcodes.{opcode, load, store}
 use Rattle.wm_syntax.specs.OpClasses.{class_of, IsClassOfOp}
 use Rattle.wm_syntax.specs.Profiles.{HasBlockType, HasSimple, IsOpOf}
-use Rattle.wm_read.specs.Tokens.{Token, open_paren, close_paren, string, atom, is_lower}
-use Rattle.wm_read.proofs.Basics.{chosen, same_some}
+use Rattle.wm_tokens.specs.Tokens.{Token, open_paren, close_paren, string, atom, is_lower}
+use Rattle.wm_tokens.proofs.Basics.{chosen, same_some}
 use Rattle.wm_read.specs.declared.code.blocks.Opening.{Opening}
 use Rattle.wm_read.specs.declared.code.blocks.Opening.TheVariants.{Block, Loop, If}
 use Rattle.wm_read.specs.Identifiers.{Id, Ids, AreDistinct, WritesId, Resolves, ResolvesLabel}

@@ -16,7 +16,7 @@ use Rattle.wm_read.specs.Written.{Names}
 use Rattle.wm_read.specs.Fields.{Field, type_field, import_field, function_field, table_field, memory_field, global_field, export_field, start_field, element_field, segment_field, start_of, names_of, IsDefinition, IsImport, HasDistinct}
 use Rattle.wm_read.specs.exact.Fields.{is_new, space_of}
 use Rattle.wm_read.specs.exact.FirstReading.{Noted, nothing, with_item, with_type}
-use Rattle.wm_read.proofs.Basics.{chosen, same_some}
+use Rattle.wm_tokens.proofs.Basics.{chosen, same_some}
 use Rattle.wm_read.proofs.DistinctIds.{distinct_new}
 use Rattle.wm_read.proofs.HeadSteps.{with_item_distinct, with_type_distinct}
 

@@ -7,7 +7,7 @@ use Rattle.wm_syntax.specs.declared.types.ValType.{ValType}
 use Rattle.wm_syntax.specs.declared.modules.ExportKind.{ExportKind}
 use Rattle.wm_syntax.specs.declared.modules.ExportKind.TheVariants as kind
 use Rattle.wm_syntax.specs.declared.profile.Profile.{Profile}
-use Rattle.wm_read.specs.Tokens.{Token, open_paren, close_paren, string, atom}
+use Rattle.wm_tokens.specs.Tokens.{Token, open_paren, close_paren, string, atom}
 use Rattle.wm_read.specs.Fields.{Field, WritesName}
 use Rattle.wm_read.specs.Identifiers.{Id, Ids, WritesId, Resolves}
 use Rattle.wm_syntax.specs.Types.{type_text}
@@ -23,7 +23,7 @@ use Rattle.wm_read.specs.exact.TextModules.{all_names_at, end_at}
 use Rattle.wm_read.specs.exact.TypeUses.{begins_open, named_at}
 use Rattle.wm_read.specs.inner.Fields.{head_at as function_head_at}
 use Rattle.wm_read.specs.inner.Tails.{IsTail}
-use Rattle.wm_read.proofs.Basics.{chosen, same_some, same_tail}
+use Rattle.wm_tokens.proofs.Basics.{chosen, same_some, same_tail}
 use Rattle.wm_read.proofs.FieldParts.{name_sound}
 use Rattle.wm_read.proofs.Immediates.{id_sound}
 use Rattle.wm_read.proofs.ModuleFields.{field_behind}

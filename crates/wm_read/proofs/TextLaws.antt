@@ -5,21 +5,22 @@ use Rattle.wm_syntax.specs.declared.profile.Profile.{Profile}
 use Rattle.wm_syntax.specs.Modules.{Module}
 use Rattle.wm_read.specs.Fields.{Writes}
 use Rattle.wm_read.specs.Spellings.{replaced}
-use Rattle.wm_read.specs.TokenFaults.{IsOfEnd}
-use Rattle.wm_read.specs.Tokens.{Token, Tokens}
-use Rattle.wm_read.specs.declared.faults.TextWhy.{TextWhy}
-use Rattle.wm_read.specs.declared.faults.TextWhy.TheVariants as why
+use Rattle.wm_tokens.specs.TokenFaults.{IsOfEnd, IsOfTokens, TellsFault}
+use Rattle.wm_tokens.specs.Tokens.{Token, Tokens}
+use Rattle.wm_tokens.specs.declared.faults.TextWhy.{TextWhy}
+use Rattle.wm_tokens.specs.declared.faults.TextWhy.TheVariants as why
 use Rattle.wm_read.specs.declared.spellings.Spellings.{Spellings}
 use Rattle.wm_read.specs.declared.spellings.Spellings.TheVariants as spelling
-use Rattle.wm_read.specs.exact.Scan.{lexed}
+use Rattle.wm_tokens.specs.exact.Scan.{lexed}
 use Rattle.wm_read.specs.exact.TextModules.{module_at}
-use Rattle.wm_read.specs.inner.Ends.{can_end}
+use Rattle.wm_tokens.specs.inner.Ends.{can_end}
 use Rattle.wm_read.specs.inner.Renewed.{Renewed}
-use Rattle.wm_read.specs.inner.Views.{Fails}
+use Rattle.wm_read.specs.inner.Views.{Fails, IsOfReaders}
 use Rattle.wm_read.proofs.Ends.{nothing_left}
 use Rattle.wm_read.proofs.ModuleLaws.{found, more}
 use Rattle.wm_read.proofs.OlderWords.{standard_stays}
-use Rattle.wm_read.proofs.Whole.{one_list}
+use Rattle.wm_tokens.proofs.Places.{no_tokens}
+use Rattle.wm_tokens.proofs.Whole.{one_list}
 
 pub given : (p : Profile) (s : Spellings) (text : List ℕ) (m : Module) → Tokens text (lexed text) → module_at p (map (replaced s) (lexed text)) ≡ Some m
     → (k : List Token) × Tokens text k × Writes p (map (replaced s) k) m
@@ -76,3 +77,18 @@ pub end_memory : (w : TextWhy) → w ≡ why.Memory → IsTrue (can_end w)
 end_memory w e = subst (λ (z : TextWhy). IsTrue (can_end z)) (sym e) refl
 
 pub ruleset spelled_laws = (read_itself, read_copy, copy_empty, nothing_left, end_expected, end_memory)
+
+-- ---- what readers refuse is no fault of the tokens
+
+not_of_readers : (w : TextWhy) → IsOfTokens w → IsOfReaders w → ⊥
+not_of_readers why.OpenComment h r = r
+not_of_readers why.OpenString h r = r
+not_of_readers why.BadEscape h r = r
+not_of_readers why.BadToken h r = r
+not_of_readers _ h r = h
+
+pub tells_none : (text : List ℕ) (k : List Token) (why : TextWhy) (at : ℕ) → Tokens text k → IsOfReaders why → TellsFault true text why at
+tells_none text k why at t r w n = (
+  (λ h. absurd (no_tokens text w n k h t)),
+  (λ p. absurd (not_of_readers w p.0 (subst IsOfReaders p.1 r))),
+)

@@ -9,7 +9,7 @@ use Rattle.wm_syntax.specs.declared.instructions.Op.TheVariants as op
 use Rattle.wm_syntax.specs.declared.profile.Profile.{Profile}
 use Rattle.wm_syntax.specs.Instructions.{Instruction, Instructions, none, snoc, simple, table, block, loop, choice, HasOp, HasOps, HasElse}
 use Rattle.wm_syntax.specs.Profiles.{HasBlockType, HasInstruction, HasInstructions}
-use Rattle.wm_read.specs.Tokens.{Token}
+use Rattle.wm_tokens.specs.Tokens.{Token}
 use Rattle.wm_read.specs.declared.code.blocks.Opening.{Opening}
 use Rattle.wm_read.specs.declared.code.blocks.Opening.TheVariants.{Block, Loop, If}
 use Rattle.wm_read.specs.Identifiers.{Id}

@@ -11,8 +11,8 @@ use Rattle.wm_syntax.proofs.ProfileLaws.{all_append, all_back, all_front}
 use Rattle.wm_syntax.proofs.SameTypes.{means, reflexive}
 use Rattle.wm_syntax.specs.Types.{Signature}
 use Rattle.wm_syntax.specs.declared.profile.Profile.{Profile}
-use Rattle.wm_read.specs.Tokens.{Token, open_paren, close_paren, string, atom}
-use Rattle.wm_read.proofs.Basics.{chosen, same_some}
+use Rattle.wm_tokens.specs.Tokens.{Token, open_paren, close_paren, string, atom}
+use Rattle.wm_tokens.proofs.Basics.{chosen, same_some}
 use Rattle.wm_read.specs.Identifiers.{Id, AreDistinct, Resolves}
 use Rattle.wm_syntax.specs.Types.{type_text}
 use Rattle.wm_read.specs.Written.{Paren, Names, Named, WritesType, WritesUnnamed, WritesGroup, UnnamedTypeUse, types_of}

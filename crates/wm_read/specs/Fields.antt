@@ -14,7 +14,7 @@ use Rattle.wm_syntax.specs.declared.profile.Profile.{Profile}
 use Rattle.wm_syntax.specs.Types.{Signature}
 use Rattle.wm_syntax.specs.Profiles.{IsOf}
 use Rattle.wm_syntax.specs.Modules.{Import, Function, GlobalDef, Export, Element, Segment, Module, constant}
-use Rattle.wm_read.specs.Tokens.{Token, string}
+use Rattle.wm_tokens.specs.Tokens.{Token, string}
 use Rattle.wm_read.specs.Identifiers.{Id, AreDistinct, WritesId, Resolves}
 use Rattle.wm_read.specs.Written.{Keyword, Paren, Nothing, UnsignedNumber, WritesType, Named, WritesGroups}
 use Rattle.wm_read.specs.Written.{WritesResults, types_of, ids_of, Names, TypeUse, WritesSimple}

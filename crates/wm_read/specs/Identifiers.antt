@@ -1,7 +1,7 @@
 -- Identifiers and what they mean (sections 6.1.3, 6.6).
 use Rattle.std.specs.Prelude.{◌≡◌, ◌≢◌, ℕ, ◌<◌, ◌^◌, ◌⊎◌, List, [], ◌∷◌, Option, Some, None, slice_get}
 use Rattle.wm_syntax.specs.Spelling.{Form, Exactly}
-use Rattle.wm_read.specs.Tokens.{Token, atom, IsUnsigned, IsIdentifier}
+use Rattle.wm_tokens.specs.Tokens.{Token, atom, IsUnsigned, IsIdentifier}
 
 -- an identifier, or none
 abbrev pub Id : Type 0

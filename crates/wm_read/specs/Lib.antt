@@ -1,9 +1,6 @@
-pub mod Faults
 pub mod Fields
 pub mod Identifiers
 pub mod Spellings
-pub mod TokenFaults
-pub mod Tokens
 pub mod Written
 pub mod exact
 pub mod inner

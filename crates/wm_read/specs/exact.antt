@@ -5,7 +5,6 @@ pub mod Fields
 pub mod FirstReading
 pub mod NamedUses
 pub mod Reading
-pub mod Scan
 pub mod Signatures
 pub mod TextModules
 pub mod TypeUses

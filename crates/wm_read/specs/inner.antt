@@ -3,15 +3,12 @@
 pub mod Blocks
 pub mod Bodies
 pub mod CodePieces
-pub mod Ends
 pub mod Fields
+pub mod Firsts
 pub mod Heads
 pub mod Ids
-pub mod Lexemes
 pub mod Named
 pub mod Pieces
-pub mod Places
 pub mod Views
 pub mod Renewed
-pub mod Stretches
 pub mod Tails

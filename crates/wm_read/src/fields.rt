@@ -3,7 +3,7 @@
 ghost use Rattle.std.specs.Prelude.{◌≡◌};
 ghost use Rattle.wm_read.specs.exact.Fields as fields;
 ghost use Rattle.wm_read.specs.exact.Reading as reading;
-ghost use Rattle.wm_read.specs.exact.Scan.{lexed};
+ghost use Rattle.wm_tokens.specs.exact.Scan.{lexed};
 ghost use Rattle.wm_read.specs.inner.Blocks.{names_of};
 ghost use Rattle.wm_read.specs.inner.Fields.{field_of};
 ghost use Rattle.wm_read.specs.inner.Tails.{IsTail};
@@ -11,7 +11,6 @@ ghost use Rattle.wm_read.specs.inner.Views.{Reads};
 
 use crate::code::functions::function;
 use crate::code::operands::{begins_index, close, id, index, open};
-use crate::faults::TextFault;
 use crate::fields::constants::{constant, constant_end, offset};
 use crate::fields::items::{desc, item};
 use crate::fields::signatures::signature;
@@ -23,6 +22,7 @@ use std::alloc::Global;
 use wm_syntax::modules::{Element, Export, Function, GlobalDef, Import, Segment};
 use wm_syntax::profile::Profile;
 use wm_syntax::types::{FuncType, Limits};
+use wm_tokens::faults::TextFault;
 
 pub(crate) mod constants;
 pub(crate) mod items;
@@ -33,7 +33,7 @@ pub(crate) mod types;
 pub(crate) mod words;
 
 /// A field, with the identifier that it defines.
-#[derive(Debug, Drop)]
+#[derive(Drop)]
 pub enum Field<'a> {
     Type(Option<&'a [u8]>, FuncType),
     Import(Option<&'a [u8]>, Import),

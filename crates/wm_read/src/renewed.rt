@@ -5,11 +5,11 @@ ghost use Rattle.std.specs.Prelude.{◌≡◌, ◌-◌, ◌<◌, ◌≤◌, ◌+
 ghost use Rattle.std.specs.Prelude.{length, take};
 ghost use Rattle.std.specs.Option.{option_copied};
 ghost use Rattle.std.specs.Str.{bytes_eq};
-ghost use Rattle.wm_read.specs.inner.Lexemes.{token_of};
+ghost use Rattle.wm_tokens.specs.inner.Lexemes.{token_of};
 ghost use Rattle.wm_read.specs.inner.Renewed.{Renewed, filled_words, part_for};
 
-use crate::tokens::lexeme::{Found, Lexeme, ahead};
 use std::alloc::{AllocError, Global};
+use wm_tokens::lexeme::{Found, Lexeme, ahead};
 
 /// Whether an atom is this word.
 fn is(atom: &[u8], word: &[u8]) -> bool

@@ -5,13 +5,13 @@ ghost use Rattle.std.specs.Prelude.{length, map, true};
 ghost use Rattle.std.specs.Str.{IsValidUpTo};
 ghost use Rattle.wm_read.specs.Fields.{Writes};
 ghost use Rattle.wm_read.specs.Spellings.{replaced};
-ghost use Rattle.wm_read.specs.TokenFaults.{IsOfEnd, TellsFault};
-ghost use Rattle.wm_read.specs.Tokens.{Token, Tokens};
-ghost use Rattle.wm_read.specs.declared.faults.TextWhy.TheVariants.{Expected, Memory, NotUtf8};
-ghost use Rattle.wm_read.specs.exact.Scan.{lexed};
+ghost use Rattle.wm_tokens.specs.TokenFaults.{IsOfEnd, TellsFault};
+ghost use Rattle.wm_tokens.specs.Tokens.{Token, Tokens};
+ghost use Rattle.wm_tokens.specs.declared.faults.TextWhy.TheVariants.{Expected, Memory, NotUtf8};
+ghost use Rattle.wm_tokens.specs.exact.Scan.{lexed};
 ghost use Rattle.wm_read.specs.exact.TextModules as modules;
 ghost use Rattle.wm_read.specs.inner.Blocks.{names_of};
-ghost use Rattle.wm_read.specs.inner.Ends.{can_end};
+ghost use Rattle.wm_tokens.specs.inner.Ends.{can_end};
 ghost use Rattle.wm_read.specs.inner.Tails.{IsTail};
 ghost use Rattle.wm_read.specs.inner.Views.{Reads};
 ghost use Rattle.wm_syntax.specs.Modules as values;
@@ -20,16 +20,16 @@ ghost use Rattle.wm_syntax.specs.Values.{value_of};
 ghost use Rattle.wm_syntax.specs.declared.profile.Feature.TheVariants.{Floats};
 
 use crate::code::operands::{close, id, open, refuse, word};
-use crate::faults::{TextFault, TextRefusal, TextWhy};
 use crate::fields::lists::read_fields;
 use crate::names::heads::read_heads;
 use crate::names::identifiers::Names;
 use crate::renewed::renewed;
 use crate::spellings::Spellings;
-use crate::tokens::lexeme::{check_tokens, first_float, next_token};
 use std::alloc::Global;
 use wm_syntax::modules::Module;
 use wm_syntax::profile::{Feature, Profile};
+use wm_tokens::faults::{TextFault, TextRefusal, TextWhy};
+use wm_tokens::lexeme::{check_tokens, first_float, next_token};
 
 /// `( module id?`; the identifier means nothing.
 #[tactic(auto, using(crate::proofs::Ends::open_stands))]

@@ -33,7 +33,7 @@ use Rattle.wm_syntax.specs.Opcodes.{load, opcode, store}
 use Rattle.wm_syntax.specs.Instructions.{Instruction, Instructions, none, snoc, simple, table, block, loop, choice, else_ops, ops_of, instruction_ops}
 use Rattle.wm_syntax.specs.Modules.{IsU32, constant}
 use Rattle.wm_write.specs.Layout.{Word, access_words, word_at, atom, body_line, const_words, gap, immediate_words, op_words, result_words, type_name, type_use, type_word}
-use Rattle.wm_read.specs.Tokens.{Token, IsAtom, is_id_char, is_lower}
+use Rattle.wm_tokens.specs.Tokens.{Token, IsAtom, is_id_char, is_lower}
 use Rattle.wm_read.specs.Identifiers.{Ids, ResolvesLabel}
 use Rattle.wm_read.specs.Written.{Closes, Names, Opens, Scope, TypeUse, WritesAccess, WritesBlockType, WritesElse, WritesInstruction, WritesInstructions, WritesOperand, WritesSimple, WritesTable}
 use Rattle.wm_read.specs.Written as w

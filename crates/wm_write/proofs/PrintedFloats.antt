@@ -18,7 +18,7 @@ use Rattle.wm_floats.proofs.WrittenDigits.{next, fold_append}
 use Rattle.wm_floats.proofs.HexDigits.{sixteen}
 use Rattle.wm_floats.proofs.Rounding.{exact}
 use Rattle.wm_floats.proofs.Units.{units_of_fields}
-use Rattle.wm_read.specs.Tokens.{is_id_char, IsLiteral}
+use Rattle.wm_tokens.specs.Tokens.{is_id_char, IsLiteral}
 use Rattle.wm_write.proofs.PrintedNumbers.{decimal_printed}
 use Rattle.wm_write.proofs.PrintedTokens.{hex_value}
 

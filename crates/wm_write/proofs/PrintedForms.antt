@@ -15,8 +15,8 @@ use Rattle.wm_write.specs.FloatText.{float_text}
 use Rattle.wm_syntax.specs.Floats.{signif, expon}
 use Rattle.wm_syntax.specs.declared.instructions.FloatType.{FloatType}
 use Rattle.wm_write.proofs.PrintedFloats.{printed_float, float_literal}
-use Rattle.wm_read.specs.Tokens as tok
-use Rattle.wm_read.specs.Tokens.{Token, open_paren, close_paren, is_id_char, is_lower, IsAtom, IsIdentifier, IsUnsigned, IsInteger}
+use Rattle.wm_tokens.specs.Tokens as tok
+use Rattle.wm_tokens.specs.Tokens.{Token, open_paren, close_paren, is_id_char, is_lower, IsAtom, IsIdentifier, IsUnsigned, IsInteger}
 use Rattle.wm_read.specs.Identifiers.{Id, Ids, WritesId, Resolves, ResolvesLabel}
 use Rattle.wm_read.specs.Written.{Keyword as AWord, Paren, Nothing, UnsignedNumber, WritesType, WritesKey, WritesInteger, WritesFloat}
 use Rattle.wm_write.specs.inner.Printed.{token_of, tokens}

@@ -7,9 +7,9 @@ use Rattle.std.proofs.lemmas.Bool.{cond-true, and_from, le-leb}
 use Rattle.std.proofs.lemmas.List.Folds.{list_all-append}
 use Rattle.std.proofs.lemmas.Fmt.{decimal_by_steps}
 use Rattle.wm_syntax.specs.Leb128.{FitsBits}
-use Rattle.wm_read.specs.Tokens.{Digits, IsDigit, digit_value, is_digit, is_id_char, value, Magnitude, IsUnsigned, IsInteger, IsNumber}
-use Rattle.wm_read.proofs.Basics.{same_some}
-use Rattle.wm_read.proofs.Atoms.{magnitude_more}
+use Rattle.wm_tokens.specs.Tokens.{Digits, IsDigit, digit_value, is_digit, is_id_char, value, Magnitude, IsUnsigned, IsInteger, IsNumber}
+use Rattle.wm_tokens.proofs.Basics.{same_some}
+use Rattle.wm_tokens.proofs.Atoms.{magnitude_more}
 
 -- ---- a digit
 

@@ -10,8 +10,8 @@ use Rattle.std.proofs.lemmas.Str.Ascii.{IsAscii-cons, IsAscii-nil}
 use Rattle.wm_syntax.specs.Spelling.{Each, AreBytes}
 use Rattle.wm_write.specs.FloatText.{hex_digit}
 use Rattle.wm_write.specs.Layout.{WordMeaning, Word, opening, closing, string, atom, is_plain, escaped, meaning_text, word_text, words_text, word_at, gap, field_line, body_line, number, quoted, parens, form, last_line}
-use Rattle.wm_read.specs.Tokens.{Token, open_paren, close_paren, is_space, is_digit, is_lower, is_upper, is_id_char, digit_value, Blank, Space, StringElement, String, TokenText, Ends, IsAtom, IsIdentifier, IsNumber, IsWord, IsDigit, AreTokens, Tokens}
-use Rattle.wm_read.specs.Tokens as tok
+use Rattle.wm_tokens.specs.Tokens.{Token, open_paren, close_paren, is_space, is_digit, is_lower, is_upper, is_id_char, digit_value, Blank, Space, StringElement, String, TokenText, Ends, IsAtom, IsIdentifier, IsNumber, IsWord, IsDigit, AreTokens, Tokens}
+use Rattle.wm_tokens.specs.Tokens as tok
 use Rattle.wm_write.specs.inner.Printed.{token_of, tokens}
 use Rattle.wm_write.proofs.PrintedNumbers.{decimal_printed, decimal_magnitude}
 

@@ -1,10 +1,11 @@
-//! Tests of `wm_read`: what is printed of a refused text where no row of `wm_rows` shows it, and its laws.
+//! Tests of `wm_tokens` and `wm_read`: what is printed of a refused text where no row of `wm_rows` shows it, and their laws.
 
 use std::alloc::Global;
 use std::process::Abort;
 use std::test::Fail;
 use wm_read::faults::{TextRefusal, TextWhy};
 use wm_read::laws;
+use wm_tokens::laws as token_laws;
 
 /// A refusal with a short text, and the two that are in no row: a text needs gigabytes for the first, and the
 /// second is never printed.
@@ -45,9 +46,9 @@ fn refusals_are_printed(rt: HostRuntime) -> Result<(), Fail> {
 #[test]
 fn laws_are_called(_rt: HostRuntime) {
     laws::standard_words_stay();
-    laws::one_list_of_tokens();
-    laws::one_first_fault();
-    laws::faults_begin_no_token();
+    token_laws::one_list_of_tokens();
+    token_laws::one_first_fault();
+    token_laws::faults_begin_no_token();
     laws::faulty_texts_write_no_module();
     laws::bodies_are_read_as_written();
     laws::one_body();

@@ -17,7 +17,7 @@ use Rattle.wm_syntax.specs.declared.instructions.op_class.OpClass.TheVariants as
 use Rattle.wm_syntax.specs.declared.profile.Profile.{Profile}
 use Rattle.wm_syntax.specs.exact.NameTable.{class_named}
 use Rattle.wm_syntax.specs.Modules.{Function}
-use Rattle.wm_read.specs.Tokens.{string, atom}
+use Rattle.wm_tokens.specs.Tokens.{string, atom}
 use Rattle.wm_read.specs.Identifiers.{Id, Ids}
 use Rattle.wm_read.specs.Written.{Named, Names, types_of, ids_of}
 use Rattle.wm_read.specs.Fields.{Field, type_field, import_field, function_field, table_field, memory_field}

@@ -6,7 +6,7 @@ use Rattle.wm_syntax.specs.declared.modules.ExportKind.{ExportKind}
 use Rattle.wm_syntax.specs.declared.modules.ExportKind.TheVariants as kind
 use Rattle.wm_syntax.specs.declared.profile.Profile.{Profile}
 use Rattle.wm_syntax.specs.Types.{Signature}
-use Rattle.wm_read.specs.Tokens.{Token, open_paren, close_paren, string, atom}
+use Rattle.wm_tokens.specs.Tokens.{Token, open_paren, close_paren, string, atom}
 use Rattle.wm_read.specs.Identifiers.{Id, Ids}
 use Rattle.wm_read.specs.Written.{Names}
 use Rattle.wm_read.specs.declared.fields.words.FieldKind.{FieldKind}

@@ -19,8 +19,8 @@ use Rattle.wm_syntax.specs.declared.profile.Profile.{Profile}
 use Rattle.wm_syntax.specs.exact.NameTable.{class_named}
 use Rattle.wm_syntax.specs.Opcodes.{load, store}
 use Rattle.wm_syntax.specs.Profiles.{has, type_feature}
-use Rattle.wm_read.specs.Tokens.{Token, open_paren, close_paren, atom, is_lower}
-use Rattle.wm_read.specs.exact.Scan.{magnitude_of, is_nil}
+use Rattle.wm_tokens.specs.Tokens.{Token, open_paren, close_paren, atom, is_lower}
+use Rattle.wm_tokens.specs.exact.Scan.{magnitude_of, is_nil}
 use Rattle.wm_read.specs.declared.code.blocks.Opening.{Opening}
 use Rattle.wm_read.specs.declared.code.blocks.Opening.TheVariants.{Block, Loop, If}
 use Rattle.wm_read.specs.Identifiers.{Id, Ids}

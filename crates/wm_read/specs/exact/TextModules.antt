@@ -3,7 +3,7 @@
 use Rattle.std.specs.Prelude.{List, [], Option, Some, None, codes}
 use Rattle.wm_syntax.specs.declared.profile.Profile.{Profile}
 use Rattle.wm_syntax.specs.Modules.{Module}
-use Rattle.wm_read.specs.Tokens.{Token}
+use Rattle.wm_tokens.specs.Tokens.{Token}
 use Rattle.wm_read.specs.Fields.{module_of}
 use Rattle.wm_read.specs.Written.{Names}
 use Rattle.wm_read.specs.exact.Fields.{fields_at}

@@ -4,7 +4,7 @@ use Rattle.std.specs.Prelude.{if◌then◌else◌, length, codes, flat_map, map,
 use Rattle.wm_syntax.specs.declared.types.ValType.{ValType}
 use Rattle.wm_syntax.specs.Runs.{same}
 use Rattle.wm_syntax.specs.Types.{Signature}
-use Rattle.wm_read.specs.Tokens.{Token, open_paren, atom}
+use Rattle.wm_tokens.specs.Tokens.{Token, open_paren, atom}
 use Rattle.wm_syntax.specs.inner.Building.{tree_of}
 use Rattle.wm_syntax.specs.Instructions.{Instructions}
 use Rattle.wm_syntax.specs.declared.profile.Profile.{Profile}

@@ -4,8 +4,8 @@ use Rattle.std.specs.Map.{lookup}
 use Rattle.std.specs.Option.{unwrap_or}
 use Rattle.std.specs.Str.{bytes_eq}
 use Rattle.wm_read.specs.Spellings.{older_words, replaced}
-use Rattle.wm_read.specs.Tokens.{Token, atom, Ends}
-use Rattle.wm_read.specs.exact.Scan.{lexed}
+use Rattle.wm_tokens.specs.Tokens.{Token, atom, Ends}
+use Rattle.wm_tokens.specs.exact.Scan.{lexed}
 use Rattle.wm_read.specs.declared.spellings.Spellings.TheVariants.{Older}
 
 -- a standard word and spaces, as long as the older one

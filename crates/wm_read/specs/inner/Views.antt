@@ -1,9 +1,9 @@
 -- What a reader of the code gives, and where it refuses.
 use Rattle.std.specs.Prelude.{◌≡◌, Option, Some, None, Result, Ok, Err}
-use Rattle.wm_read.specs.declared.faults.TextWhy.{TextWhy}
-use Rattle.wm_read.specs.declared.faults.TextWhy.TheVariants.{NotUtf8, BadToken, OpenComment, OpenString}
-use Rattle.wm_read.specs.declared.faults.TextWhy.TheVariants.{BadEscape, Memory}
-use Rattle.wm_read.specs.declared.faults.TextFault.{TextFault}
+use Rattle.wm_tokens.specs.declared.faults.TextWhy.{TextWhy}
+use Rattle.wm_tokens.specs.declared.faults.TextWhy.TheVariants.{NotUtf8, BadToken, OpenComment, OpenString}
+use Rattle.wm_tokens.specs.declared.faults.TextWhy.TheVariants.{BadEscape, Memory}
+use Rattle.wm_tokens.specs.declared.faults.TextFault.{TextFault}
 
 -- a name that is no fault of the bytes or of the tokens
 abbrev pub IsOfReaders : TextWhy → Type 0

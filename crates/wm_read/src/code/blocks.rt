@@ -11,7 +11,7 @@ use std::collections::BTreeMap;
 use std::marker::Model;
 
 /// What opens a block.
-#[derive(Clone, Copy, PartialEq, Eq, Debug)]
+#[derive(Clone, Copy, PartialEq, Eq)]
 pub enum Opening {
     Block,
     Loop,
@@ -19,7 +19,7 @@ pub enum Opening {
 }
 
 /// An open block: its identifier, and whether an `else` may still come.
-#[derive(Clone, Copy, Debug)]
+#[derive(Clone, Copy)]
 pub struct Block<'a> {
     pub id: Option<&'a [u8]>,
     pub may_else: bool,
@@ -28,7 +28,7 @@ pub struct Block<'a> {
 }
 
 /// The open blocks of a body, the innermost last.
-#[derive(Debug, Drop)]
+#[derive(Drop)]
 pub struct OpenBlocks<'a> {
     blocks: Vec<Block<'a>>,
     /// The place of the innermost block with each identifier.

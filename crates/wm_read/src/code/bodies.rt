@@ -1,8 +1,8 @@
 //! Bodies: tokens up to the parenthesis that closes a function.
 
 ghost use Rattle.std.specs.Prelude.{◌≡◌, ◌∷◌, ◌<◌, ◌^◌, [], IfErr, OnOk, Some, length, map};
-ghost use Rattle.wm_read.specs.declared.faults.TextWhy.TheVariants.{Memory};
-ghost use Rattle.wm_read.specs.exact.Scan.{lexed};
+ghost use Rattle.wm_tokens.specs.declared.faults.TextWhy.TheVariants.{Memory};
+ghost use Rattle.wm_tokens.specs.exact.Scan.{lexed};
 ghost use Rattle.wm_read.specs.exact.TypeUses.{instructions_at};
 ghost use Rattle.wm_read.specs.inner.Blocks.{scope_of};
 ghost use Rattle.wm_read.specs.inner.Bodies.{CanTake};
@@ -16,18 +16,18 @@ ghost use Rattle.wm_syntax.specs.declared.instructions.Op.TheVariants as Op;
 use crate::code::blocks::{OpenBlocks, Opening};
 use crate::code::operands::refuse;
 use crate::code::pieces::{Piece, read_piece};
-use crate::faults::{TextFault, TextWhy};
 use crate::names::identifiers::Scope;
-use crate::tokens::lexeme::{Lexeme, first_token};
 use std::alloc::Global;
 use wm_syntax::instructions::{Op, Simple};
 use wm_syntax::modules::body::Body;
 use wm_syntax::modules::body_builder::{BodyBuilder, BodyFault};
 use wm_syntax::profile::Profile;
 use wm_syntax::types::ValType;
+use wm_tokens::faults::{TextFault, TextWhy};
+use wm_tokens::lexeme::{Lexeme, first_token};
 
 /// A body that is being read: its ops so far, and the blocks that are open.
-#[derive(Debug, Drop)]
+#[derive(Drop)]
 struct OpenBody<'a> {
     builder: BodyBuilder,
     blocks: OpenBlocks<'a>,

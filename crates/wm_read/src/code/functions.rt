@@ -3,9 +3,9 @@
 ghost use Rattle.std.specs.Prelude.{◌≡◌, ◌≢◌, ◌++◌, ◌<◌, ◌≤◌, ◌⊎◌, ◌^◌, [], IfErr, IfOk, IfSome, MatchOption};
 ghost use Rattle.std.specs.Prelude.{false, length, true};
 ghost use Rattle.wm_read.specs.Written as written;
-ghost use Rattle.wm_read.specs.declared.faults.TextWhy.TheVariants.{Memory, RepeatedId, TooManyLocals};
+ghost use Rattle.wm_tokens.specs.declared.faults.TextWhy.TheVariants.{Memory, RepeatedId, TooManyLocals};
 ghost use Rattle.wm_read.specs.exact.Fields as fields;
-ghost use Rattle.wm_read.specs.exact.Scan.{lexed};
+ghost use Rattle.wm_tokens.specs.exact.Scan.{lexed};
 ghost use Rattle.wm_read.specs.inner.Blocks.{names_of};
 ghost use Rattle.wm_read.specs.inner.Fields.{head_at};
 ghost use Rattle.wm_read.specs.inner.Named.{named_list, named_of, params_of};
@@ -18,15 +18,15 @@ use crate::code::named::NamedRun;
 use crate::code::named_uses::{NamedUse, Params, named_use};
 use crate::code::operands::{refuse, type_named};
 use crate::code::type_uses::{no_form, type_index};
-use crate::faults::{TextFault, TextWhy};
+use crate::literals::{is, is_id};
 use crate::names::identifiers::{Names, Scope, Space, is_new};
-use crate::tokens::lexeme::{Lexeme, next_token, skip_space};
-use crate::tokens::literals::{is, is_id};
 use std::alloc::{AllocError, Global};
 use wm_syntax::modules::Function;
 use wm_syntax::modules::locals::Locals;
 use wm_syntax::profile::Profile;
 use wm_syntax::why::Why;
+use wm_tokens::faults::{TextFault, TextWhy};
+use wm_tokens::lexeme::{Lexeme, next_token, skip_space};
 
 /// Adds the identifier of a run, or as many items with none. It tells whether it added them: it does not
 /// add an identifier that is there.

@@ -3,22 +3,22 @@
 ghost use Rattle.std.specs.Prelude.{◌≡◌, ◌++◌, ◌∷◌, [], IfSome, None, OnOk, replicate};
 ghost use Rattle.wm_read.specs.Written.{types_of};
 ghost use Rattle.wm_read.specs.exact.Reading as reading;
-ghost use Rattle.wm_read.specs.exact.Scan.{lexed};
+ghost use Rattle.wm_tokens.specs.exact.Scan.{lexed};
 ghost use Rattle.wm_read.specs.exact.TypeUses as uses;
 ghost use Rattle.wm_read.specs.inner.Named.{named_list, named_of};
 ghost use Rattle.wm_read.specs.inner.Views.{Reads};
 
 use crate::code::operands::{close, no_type, open, type_of, val_type, word};
 use crate::code::type_uses::begins_group;
-use crate::faults::TextFault;
-use crate::tokens::lexeme::{Lexeme, next_token};
-use crate::tokens::literals::is_id;
+use crate::literals::is_id;
 use std::alloc::{AllocError, Global};
 use wm_syntax::profile::Profile;
 use wm_syntax::types::ValType;
+use wm_tokens::faults::TextFault;
+use wm_tokens::lexeme::{Lexeme, next_token};
 
 /// A run of parameters or of locals: one with an identifier, or some of one type with none.
-#[derive(Clone, Copy, Debug)]
+#[derive(Clone, Copy)]
 pub enum NamedRun<'a> {
     One(&'a [u8], ValType),
     Unnamed(u32, ValType),

@@ -4,7 +4,7 @@ ghost use Rattle.std.specs.Prelude.{◌≡◌, ◌≤◌, ◌++◌, IfErr, IfOk,
 ghost use Rattle.std.specs.Option.{option_map};
 ghost use Rattle.wm_read.specs.Written as written;
 ghost use Rattle.wm_read.specs.exact.NamedUses as uses;
-ghost use Rattle.wm_read.specs.exact.Scan.{lexed};
+ghost use Rattle.wm_tokens.specs.exact.Scan.{lexed};
 ghost use Rattle.wm_read.specs.inner.Blocks.{names_of};
 ghost use Rattle.wm_read.specs.inner.Named.{named_list, params_of};
 ghost use Rattle.wm_read.specs.inner.Views.{IsOfReaders, IsRefusal, NotMemory, Reads};
@@ -14,14 +14,14 @@ use crate::code::named::NamedRun;
 use crate::code::type_uses::{
     begins_group, fits, groups, no_form, nothing, refuse_index, type_at, type_index,
 };
-use crate::faults::{TextFault, TextWhy};
 use crate::names::identifiers::Names;
 use std::alloc::{AllocError, Global};
 use wm_syntax::profile::Profile;
 use wm_syntax::types::{FuncType, ValType};
+use wm_tokens::faults::{TextFault, TextWhy};
 
 /// The parameters of a type use: those of its type, with no identifiers, or those that are written.
-#[derive(Debug, Drop)]
+#[derive(Drop)]
 pub enum Params<'n, 'a> {
     OfType(&'n [ValType]),
     Written(Vec<NamedRun<'a>>),
@@ -29,7 +29,7 @@ pub enum Params<'n, 'a> {
 
 /// A type use: the index of the type, and as many parameters as the type has, with the
 /// identifiers that are written.
-#[derive(Debug, Drop)]
+#[derive(Drop)]
 pub struct NamedUse<'n, 'a> {
     pub index: u32,
     pub params: Params<'n, 'a>,

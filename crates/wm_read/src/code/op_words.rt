@@ -4,7 +4,7 @@
 ghost use Rattle.std.specs.Prelude.{◌≡◌, ◌≤◌, length};
 ghost use Rattle.wm_syntax.specs.exact.NameTable.{class_named};
 
-use crate::tokens::literals::is;
+use crate::literals::is;
 use wm_syntax::instructions::op_class::OpClass;
 use wm_syntax::instructions::op_names::{name_of, op_named};
 use wm_syntax::instructions::opcodes::op_of;

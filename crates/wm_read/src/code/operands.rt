@@ -3,30 +3,30 @@
 ghost use Rattle.std.specs.Prelude.{◌≡◌, ◌≢◌, ◌≤◌, ◌<◌, [], Some, None, Option};
 ghost use Rattle.std.specs.Prelude.{IfErr, IfOk, IsTrue, length, true, ℕ};
 ghost use Rattle.wm_floats.specs.exact.Atoms as atoms;
-ghost use Rattle.wm_read.specs.declared.faults.TextWhy.TheVariants.{Expected};
+ghost use Rattle.wm_tokens.specs.declared.faults.TextWhy.TheVariants.{Expected};
 ghost use Rattle.wm_read.specs.exact.Reading as reading;
-ghost use Rattle.wm_read.specs.exact.Scan.{lexed};
+ghost use Rattle.wm_tokens.specs.exact.Scan.{lexed};
 ghost use Rattle.wm_read.specs.exact.TypeUses as uses;
-ghost use Rattle.wm_read.specs.inner.Ends.{can_end};
+ghost use Rattle.wm_tokens.specs.inner.Ends.{can_end};
 ghost use Rattle.wm_read.specs.inner.Ids.{id_of};
 ghost use Rattle.wm_read.specs.inner.Pieces.{labels};
 ghost use Rattle.wm_read.specs.inner.Views.{IsRefusal, Reads};
-ghost use Rattle.wm_read.specs.inner.Stretches.{BeginsWord};
+ghost use Rattle.wm_read.specs.inner.Firsts.{BeginsWord};
 ghost use Rattle.wm_syntax.specs.declared.instructions.FloatType.TheVariants as float;
 
 use crate::code::blocks::OpenBlocks;
-use crate::faults::{TextFault, TextWhy};
-use crate::names::identifiers::{Space, is_same_id};
-use crate::tokens::lexeme::{Lexeme, first_token, next_token, skip_space};
-use crate::tokens::literals::{
+use crate::literals::{
     after_key, constant32, constant64, exponent, float32, float64, is, is_float, is_id, is_word,
     unsigned,
 };
-use crate::tokens::scan::after_spaces;
+use crate::names::identifiers::{Space, is_same_id};
 use std::alloc::Global;
 use wm_syntax::instructions::MemArg;
 use wm_syntax::profile::{Feature, Profile};
 use wm_syntax::types::ValType;
+use wm_tokens::faults::{TextFault, TextWhy};
+use wm_tokens::lexeme::{Lexeme, first_token, next_token, skip_space};
+use wm_tokens::scan::after_spaces;
 
 /// A refusal at the first token of a text; where there is none, another token is needed there.
 #[tactic(auto, using(crate::proofs::Ends::nothing_left))]
@@ -196,7 +196,7 @@ pub fn label<'a>(blocks: &OpenBlocks, text: &'a [u8]) -> Result<(u32, &'a [u8]),
 /// A text from behind the white space by itself that stands first, so that what may be left out is looked for
 /// there, and it is not walked again where nothing of it is written.
 #[inline(always)]
-#[tactic(auto, using(crate::proofs::Whole::spaces_lexed))]
+#[tactic(auto, using(wm_tokens::proofs::Whole::spaces_lexed))]
 fn unspaced(text: &[u8]) -> &[u8]
     ensures { lexed result.now ≡ lexed text.now }
 {

@@ -2,7 +2,7 @@
 
 ghost use Rattle.std.specs.Prelude.{◌≡◌, ◌≢◌, ◌≤◌, [], Some, IfOk, length};
 ghost use Rattle.wm_floats.specs.exact.Atoms as atoms;
-ghost use Rattle.wm_read.specs.exact.Scan.{lexed};
+ghost use Rattle.wm_tokens.specs.exact.Scan.{lexed};
 ghost use Rattle.wm_read.specs.inner.Blocks.{names_of, scope_of};
 ghost use Rattle.wm_read.specs.exact.TypeUses.{call_use_at};
 ghost use Rattle.wm_read.specs.inner.CodePieces.{FitsPiece, piece_of, HasOperand};
@@ -21,7 +21,6 @@ use crate::code::operands::{
     label, no_instruction, refuse, with,
 };
 use crate::code::type_uses::type_use;
-use crate::faults::{TextFault, TextWhy};
 use crate::names::identifiers::{Names, Scope};
 use std::alloc::Global;
 use wm_syntax::instructions::accesses::{loaded, stored};
@@ -29,9 +28,10 @@ use wm_syntax::instructions::op_class::{Immediates, OpClass};
 use wm_syntax::instructions::{LoadOp, Op, Simple, StoreOp};
 use wm_syntax::profile::Profile;
 use wm_syntax::types::ValType;
+use wm_tokens::faults::{TextFault, TextWhy};
 
 /// A piece of a body.
-#[derive(Debug, Drop)]
+#[derive(Drop)]
 pub enum Piece<'a> {
     Plain(Simple),
     Table(Vec<u32>, u32),

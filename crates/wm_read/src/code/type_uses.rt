@@ -2,22 +2,22 @@
 
 ghost use Rattle.std.specs.Prelude.{◌≡◌, ◌≢◌, ◌≤◌, [], IfErr, MatchOption, None, Some, OnOk, codes, false, length};
 ghost use Rattle.std.specs.Prelude.{slice_get, true};
-ghost use Rattle.wm_read.specs.declared.faults.TextWhy.TheVariants.{Expected};
+ghost use Rattle.wm_tokens.specs.declared.faults.TextWhy.TheVariants.{Expected};
 ghost use Rattle.wm_read.specs.exact.Reading as reading;
-ghost use Rattle.wm_read.specs.exact.Scan.{lexed};
+ghost use Rattle.wm_tokens.specs.exact.Scan.{lexed};
 ghost use Rattle.wm_read.specs.exact.TypeUses as uses;
 ghost use Rattle.wm_read.specs.inner.Blocks.{names_of};
 ghost use Rattle.wm_read.specs.inner.Views.{IsRefusal, Reads};
 
 use crate::code::operands::{close, index, no_type, open, refuse, type_of, word};
-use crate::faults::{TextFault, TextWhy};
+use crate::literals::is;
 use crate::names::identifiers::Names;
-use crate::tokens::lexeme::{Lexeme, next_token};
-use crate::tokens::literals::is;
 use std::alloc::Global;
 use wm_syntax::modules::equality::same_list;
 use wm_syntax::profile::Profile;
 use wm_syntax::types::{FuncType, ValType};
+use wm_tokens::faults::{TextFault, TextWhy};
+use wm_tokens::lexeme::{Lexeme, next_token};
 
 /// Adds value types up to what is no atom.
 #[tactic(auto, using(crate::proofs::Groups::types_laws))]

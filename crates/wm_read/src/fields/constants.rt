@@ -3,22 +3,22 @@
 ghost use Rattle.std.specs.Prelude.{◌≡◌, ◌≢◌, []};
 ghost use Rattle.wm_read.specs.exact.Fields as fields;
 ghost use Rattle.wm_read.specs.exact.Reading as reading;
-ghost use Rattle.wm_read.specs.exact.Scan.{lexed};
+ghost use Rattle.wm_tokens.specs.exact.Scan.{lexed};
 ghost use Rattle.wm_read.specs.inner.Blocks.{names_of};
 ghost use Rattle.wm_read.specs.inner.Views.{IsRefusal, Reads};
 
 use crate::code::operands::{
     float_32, float_64, index, integer_32, integer_64, no_instruction, open, refuse, with, word,
 };
-use crate::faults::{TextFault, TextWhy};
 use crate::names::identifiers::Names;
-use crate::tokens::lexeme::{Lexeme, next_token};
 use std::alloc::Global;
 use wm_syntax::instructions::Op;
 use wm_syntax::instructions::op_class::{Immediates, OpClass};
 use wm_syntax::instructions::op_names::op_named;
 use wm_syntax::profile::Profile;
 use wm_syntax::types::Const;
+use wm_tokens::faults::{TextFault, TextWhy};
+use wm_tokens::lexeme::{Lexeme, next_token};
 
 /// What is wrong with an atom, the first token of a text, that begins no constant.
 fn no_constant(profile: Profile, atom: &[u8], text: &[u8]) -> TextFault

@@ -4,7 +4,7 @@ ghost use Rattle.std.specs.Prelude.{◌≡◌, OnOk};
 ghost use Rattle.wm_read.specs.Fields.{module_of};
 ghost use Rattle.wm_read.specs.exact.Fields as fields;
 ghost use Rattle.wm_read.specs.exact.Reading as reading;
-ghost use Rattle.wm_read.specs.exact.Scan.{lexed};
+ghost use Rattle.wm_tokens.specs.exact.Scan.{lexed};
 ghost use Rattle.wm_read.specs.inner.Blocks.{names_of};
 ghost use Rattle.wm_read.specs.inner.Fields.{field_of, with_field};
 ghost use Rattle.wm_read.specs.inner.Tails.{IsTail};
@@ -12,12 +12,12 @@ ghost use Rattle.wm_read.specs.inner.Views.{Reads};
 ghost use Rattle.wm_syntax.specs.Values.{value_of};
 
 use crate::code::operands::begins_open;
-use crate::faults::TextFault;
 use crate::fields::{Field, read_field};
 use crate::names::identifiers::Names;
 use std::alloc::{AllocError, Global};
 use wm_syntax::modules::Module;
 use wm_syntax::profile::Profile;
+use wm_tokens::faults::TextFault;
 
 /// Adds what a field has. Of start functions the first counts.
 fn add(whole: &mut Module, field: Field) -> Result<(), AllocError>

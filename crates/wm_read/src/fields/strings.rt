@@ -3,13 +3,13 @@
 ghost use Rattle.std.specs.Prelude.{◌≡◌};
 ghost use Rattle.std.specs.String as string;
 ghost use Rattle.wm_read.specs.exact.Fields as fields;
-ghost use Rattle.wm_read.specs.exact.Scan.{lexed};
+ghost use Rattle.wm_tokens.specs.exact.Scan.{lexed};
 ghost use Rattle.wm_read.specs.inner.Views.{Reads};
 
 use crate::code::operands::refuse;
-use crate::faults::{TextFault, TextWhy};
-use crate::tokens::lexeme::{Lexeme, next_token, string_bytes};
 use std::alloc::Global;
+use wm_tokens::faults::{TextFault, TextWhy};
+use wm_tokens::lexeme::{Lexeme, next_token, string_bytes};
 
 /// A string that is UTF-8.
 #[tactic(auto, using(crate::proofs::FieldCode::name_laws))]

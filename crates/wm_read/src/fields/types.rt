@@ -3,15 +3,15 @@
 ghost use Rattle.std.specs.Prelude.{◌≡◌};
 ghost use Rattle.wm_read.specs.exact.FieldTypes as fields;
 ghost use Rattle.wm_read.specs.exact.Reading as reading;
-ghost use Rattle.wm_read.specs.exact.Scan.{lexed};
+ghost use Rattle.wm_tokens.specs.exact.Scan.{lexed};
 ghost use Rattle.wm_read.specs.inner.Views.{Reads};
 
 use crate::code::operands::{number, paren_type, refuse, val_type, word};
-use crate::faults::{TextFault, TextWhy};
-use crate::tokens::lexeme::{Lexeme, next_token};
-use crate::tokens::literals::{is_id, is_word};
+use crate::literals::{is_id, is_word};
 use wm_syntax::profile::Profile;
 use wm_syntax::types::{GlobalType, Limits};
+use wm_tokens::faults::{TextFault, TextWhy};
+use wm_tokens::lexeme::{Lexeme, next_token};
 
 /// A number below 2^32.
 #[tactic(auto, using(crate::proofs::FieldTypes::id_no_number))]

@@ -3,28 +3,28 @@
 
 ghost use Rattle.std.specs.Prelude.{◌≡◌, ◌≢◌, ◌≤◌, [], OnOk};
 ghost use Rattle.wm_read.specs.exact.FirstReading as first;
-ghost use Rattle.wm_read.specs.exact.Scan.{lexed};
+ghost use Rattle.wm_tokens.specs.exact.Scan.{lexed};
 ghost use Rattle.wm_read.specs.inner.Blocks.{names_of};
 ghost use Rattle.wm_read.specs.inner.Heads.{noted_of};
 ghost use Rattle.wm_read.specs.inner.Ids.{id_of};
 ghost use Rattle.wm_read.specs.inner.Views.{Reads};
 
 use crate::code::operands::{begins_open, close, id, open, refuse};
-use crate::faults::{TextFault, TextWhy};
 use crate::fields::items::space_of;
 use crate::fields::signatures::signature;
 use crate::fields::strings::name;
 use crate::fields::words::{FieldKind, field_kind, item_kind};
 use crate::names::identifiers::{Names, Space, is_new};
-use crate::tokens::lexeme::{Lexeme, next_token};
-use crate::tokens::scan::{after_spaces, plain_atom};
-use crate::tokens::stretches::after_stretches;
 use std::alloc::{AllocError, Global};
 use wm_syntax::modules::ExportKind;
 use wm_syntax::profile::Profile;
+use wm_tokens::faults::{TextFault, TextWhy};
+use wm_tokens::lexeme::{Lexeme, next_token};
+use wm_tokens::scan::{after_spaces, plain_atom};
+use wm_tokens::stretches::after_stretches;
 
 /// What the heads so far have said.
-#[derive(Debug, Drop)]
+#[derive(Drop)]
 struct Noted<'a> {
     names: Names<'a>,
     /// Whether a function, table, memory or global was defined.
@@ -63,7 +63,7 @@ fn free_id<'a>(space: &Space, text: &'a [u8]) -> Result<(Option<&'a [u8]>, &'a [
 }
 
 /// Past the parenthesis that closes so many.
-#[tactic(auto, using(crate::proofs::HeadSteps::skip_laws, crate::proofs::Stretches::skip_laws))]
+#[tactic(auto, using(crate::proofs::HeadSteps::skip_laws, crate::proofs::Skips::skip_laws))]
 fn skip(depth: usize, text: &[u8]) -> Result<&[u8], TextFault>
     requires { depth ≤ 2 }
     ensures { Reads (λ r. lexed r.now) result (first.skip depth (lexed text.now)) }

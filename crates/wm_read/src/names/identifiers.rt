@@ -5,21 +5,21 @@ ghost use Rattle.wm_read.specs.exact.Fields.{is_new as new};
 ghost use Rattle.wm_read.specs.exact.Reading.{is_same_id as same_id, place_of};
 ghost use Rattle.wm_read.specs.inner.Ids.{defined, id_of, place_in};
 
-use crate::tokens::literals::is;
+use crate::literals::is;
 use std::alloc::{AllocError, Global};
 use std::collections::BTreeMap;
 use std::marker::Model;
 use wm_syntax::types::{FuncType, ValType};
 
 /// An item with an identifier, behind so many with none.
-#[derive(Clone, Copy, Debug)]
+#[derive(Clone, Copy)]
 pub struct Identified<'a> {
     before: usize,
     id: &'a [u8],
 }
 
 /// The identifiers of an index space, in the order of its items. Items with none take no memory.
-#[derive(Debug, Drop)]
+#[derive(Drop)]
 pub struct Space<'a> {
     /// How many items there are.
     count: usize,
@@ -146,7 +146,7 @@ fn define<'a>(
 }
 
 /// What a module defines, for what its fields use: its types and the identifiers of its index spaces.
-#[derive(Debug, Drop)]
+#[derive(Drop)]
 pub struct Names<'a> {
     pub signatures: Vec<FuncType>,
     pub types: Space<'a>,
@@ -157,7 +157,7 @@ pub struct Names<'a> {
 }
 
 /// What the identifiers of a function's body mean, its labels aside.
-#[derive(Debug, Drop)]
+#[derive(Drop)]
 pub struct Scope<'n, 'a> {
     pub names: &'n Names<'a>,
     pub locals: Space<'a>,

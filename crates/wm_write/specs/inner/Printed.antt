@@ -1,7 +1,7 @@
 -- The token that a printed word means, and those of a list of words.
 use Rattle.std.specs.Prelude.{List, map}
 use Rattle.wm_write.specs.Layout.{WordMeaning, Word, opening, closing, string, atom}
-use Rattle.wm_read.specs.Tokens as tok
+use Rattle.wm_tokens.specs.Tokens as tok
 
 abbrev pub token_of : WordMeaning → tok.Token
 token_of opening = tok.open_paren

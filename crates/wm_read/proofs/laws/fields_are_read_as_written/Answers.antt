@@ -1,5 +1,5 @@
 use Rattle.std.proofs.Common.{◌∷◌}
-use Rattle.wm_read.specs.Tokens.{close_paren}
+use Rattle.wm_tokens.specs.Tokens.{close_paren}
 use Rattle.wm_read.proofs.FieldLaws.{fields_complete, fields_sound}
 use Rattle.wm_read.proofs.laws.fields_are_read_as_written.Goals as goal
 

@@ -1,4 +1,4 @@
-use Rattle.wm_read.specs.inner.Lexemes.{token_of}
+use Rattle.wm_tokens.specs.inner.Lexemes.{token_of}
 use Rattle.wm_read.proofs.OlderWords.{blank_renews, first_renews}
 use Rattle.wm_read.proofs.renewed.next_part.Goals as goal
 

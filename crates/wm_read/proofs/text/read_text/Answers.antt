@@ -1,5 +1,5 @@
 use Rattle.std.proofs.Common.{true}
-use Rattle.wm_read.proofs.Places.{fault_end, tells_first}
+use Rattle.wm_tokens.proofs.Places.{fault_end, tells_first}
 use Rattle.wm_read.proofs.text.read_text.Goals as goal
 
 pub told_first-requires : goal.told_first-requires

@@ -1,7 +1,7 @@
 use Rattle.std.proofs.Common.{Bool, sym, subst, ◌∙◌, arith}
-use Rattle.wm_read.specs.TokenFaults.{TellsFault}
-use Rattle.wm_read.specs.declared.faults.TextWhy.TheVariants.{BadToken}
-use Rattle.wm_read.proofs.Places.{float_end, float_told, no_float_told}
+use Rattle.wm_tokens.specs.TokenFaults.{TellsFault}
+use Rattle.wm_tokens.specs.declared.faults.TextWhy.TheVariants.{BadToken}
+use Rattle.wm_tokens.proofs.Places.{float_end, float_told, no_float_told}
 use Rattle.wm_read.proofs.text.told_first.Goals as goal
 
 pub returns-then-has-clause-fault : goal.returns-then-has-clause-fault

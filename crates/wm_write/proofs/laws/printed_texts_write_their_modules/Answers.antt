@@ -4,7 +4,7 @@ use Rattle.wm_read.specs.Fields.{Writes}
 use Rattle.wm_write.specs.inner.Printed.{tokens}
 use Rattle.wm_read.proofs.ModuleLaws.{one_module}
 use Rattle.wm_write.proofs.PrintedTexts.{printed_writes}
-use Rattle.wm_read.proofs.Whole.{one_list}
+use Rattle.wm_tokens.proofs.Whole.{one_list}
 use Rattle.wm_write.proofs.laws.printed_texts_write_their_modules.Goals as goal
 
 pub returns-clause-written : goal.returns-clause-written

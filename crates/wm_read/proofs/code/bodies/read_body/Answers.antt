@@ -1,8 +1,8 @@
 use Rattle.std.proofs.Common.{◌≡◌, ◌∷◌, sym, ap, ◌∙◌}
-use Rattle.wm_read.specs.Tokens.{close_paren}
-use Rattle.wm_read.specs.exact.Scan.{lexed}
+use Rattle.wm_tokens.specs.Tokens.{close_paren}
+use Rattle.wm_tokens.specs.exact.Scan.{lexed}
 use Rattle.wm_read.specs.inner.Blocks.{scope_of}
-use Rattle.wm_read.specs.inner.Lexemes.{token_of}
+use Rattle.wm_tokens.specs.inner.Lexemes.{token_of}
 use Rattle.wm_read.proofs.BodyLoop.{body_over, body_open, fails_by}
 use Rattle.wm_read.proofs.code.bodies.read_body.Goals as goal
 

@@ -1,5 +1,5 @@
 use Rattle.std.proofs.Common.{◌≡◌, length}
-use Rattle.wm_read.specs.exact.Scan.{lexed}
+use Rattle.wm_tokens.specs.exact.Scan.{lexed}
 use Rattle.wm_read.specs.exact.Reading.{ops_at}
 use Rattle.wm_read.specs.exact.TypeUses.{instructions_at, call_use_at}
 use Rattle.wm_read.specs.inner.Blocks.{names_of, scope_of}

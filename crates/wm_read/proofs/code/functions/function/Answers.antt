@@ -1,8 +1,8 @@
 use Rattle.std.proofs.Common.{refl, ap, ◌∙◌, ◌++◌, rules}
 use Rattle.wm_read.specs.Written.{ids_of}
-use Rattle.wm_read.specs.declared.faults.TextWhy.{TextWhy}
+use Rattle.wm_tokens.specs.declared.faults.TextWhy.{TextWhy}
 use Rattle.wm_read.specs.exact.Fields.{function_at}
-use Rattle.wm_read.specs.exact.Scan.{lexed}
+use Rattle.wm_tokens.specs.exact.Scan.{lexed}
 use Rattle.wm_read.specs.exact.TypeUses.{instructions_at}
 use Rattle.wm_read.specs.inner.Blocks.{names_of}
 use Rattle.wm_read.specs.inner.Named.{named_list, params_of}

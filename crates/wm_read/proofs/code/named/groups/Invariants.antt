@@ -1,5 +1,5 @@
 use Rattle.std.proofs.Common.{◌≡◌, length}
-use Rattle.wm_read.specs.exact.Scan.{lexed}
+use Rattle.wm_tokens.specs.exact.Scan.{lexed}
 use Rattle.wm_read.specs.exact.TypeUses.{named_at, named_groups_at}
 use Rattle.wm_read.specs.inner.Named.{named_list}
 use Rattle.wm_read.proofs.NamedGroups.{after_named}

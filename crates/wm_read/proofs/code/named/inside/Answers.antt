@@ -1,7 +1,7 @@
 use Rattle.std.proofs.Common.{◌≡◌, ◌∷◌, sym, ap, ◌∙◌}
-use Rattle.wm_read.specs.Tokens.{atom}
-use Rattle.wm_read.specs.exact.Scan.{lexed}
-use Rattle.wm_read.specs.inner.Lexemes.{token_of}
+use Rattle.wm_tokens.specs.Tokens.{atom}
+use Rattle.wm_tokens.specs.exact.Scan.{lexed}
+use Rattle.wm_tokens.specs.inner.Lexemes.{token_of}
 use Rattle.wm_read.specs.inner.Named.{named_list}
 use Rattle.wm_read.proofs.NamedGroups.{reads_other}
 use Rattle.wm_read.proofs.code.named.inside.Goals as goal

@@ -1,6 +1,6 @@
 use Rattle.std.proofs.Common.{◌≡◌, length}
 use Rattle.wm_read.specs.exact.Reading.{made}
-use Rattle.wm_read.specs.exact.Scan.{lexed}
+use Rattle.wm_tokens.specs.exact.Scan.{lexed}
 use Rattle.wm_read.specs.exact.TypeUses.{adding_named, types_at, unnamed}
 use Rattle.wm_read.specs.inner.Named.{named_list}
 use Rattle.wm_read.proofs.code.named.unnamed.Given as goal

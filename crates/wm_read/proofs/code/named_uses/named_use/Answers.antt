@@ -1,9 +1,9 @@
 use Rattle.std.proofs.Common.{Some, ap, ◌∙◌, rules}
 use Rattle.std.specs.Prelude.{codes}
 use Rattle.std.specs.Option.{option_map}
-use Rattle.wm_read.specs.declared.faults.TextWhy.{TextWhy}
+use Rattle.wm_tokens.specs.declared.faults.TextWhy.{TextWhy}
 use Rattle.wm_read.specs.exact.Reading.{◌>>=◌, made}
-use Rattle.wm_read.specs.exact.Scan.{lexed}
+use Rattle.wm_tokens.specs.exact.Scan.{lexed}
 use Rattle.wm_read.specs.exact.TypeUses.{groups_at, joined, named_at}
 use Rattle.wm_read.specs.exact.NamedUses.{named_use_at, used_of}
 use Rattle.wm_read.specs.inner.Blocks.{names_of}

@@ -1,4 +1,4 @@
-use Rattle.wm_read.specs.exact.Scan.{lexed}
+use Rattle.wm_tokens.specs.exact.Scan.{lexed}
 use Rattle.wm_read.proofs.Groups.{group_shrinks}
 use Rattle.wm_read.proofs.code.type_uses.groups.Goals as goal
 

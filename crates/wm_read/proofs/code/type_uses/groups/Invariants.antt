@@ -1,6 +1,6 @@
 use Rattle.std.proofs.Common.{◌≡◌, length}
 use Rattle.wm_read.specs.exact.Reading.{made}
-use Rattle.wm_read.specs.exact.Scan.{lexed}
+use Rattle.wm_tokens.specs.exact.Scan.{lexed}
 use Rattle.wm_read.specs.exact.TypeUses.{groups_at, joined}
 use Rattle.wm_read.proofs.Groups.{after_groups}
 use Rattle.wm_read.proofs.code.type_uses.groups.Given as goal

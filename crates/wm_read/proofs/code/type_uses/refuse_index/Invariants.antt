@@ -1,5 +1,5 @@
 use Rattle.std.proofs.Common.{◌≤ℤ◌, ◌+ℤ◌, pos, length}
-use Rattle.wm_read.specs.exact.Scan.{lexed}
+use Rattle.wm_tokens.specs.exact.Scan.{lexed}
 use Rattle.wm_read.proofs.code.type_uses.refuse_index.Given as goal
 
 abbrev pub invariant-loop : goal.invariant-loop

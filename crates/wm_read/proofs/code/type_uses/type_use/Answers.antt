@@ -1,12 +1,12 @@
 use Rattle.std.proofs.Common.{◌≡◌, None, ◌∙◌, ap, rules}
 use Rattle.std.specs.Prelude.{codes}
 use Rattle.wm_read.specs.exact.Reading.{made}
-use Rattle.wm_read.specs.exact.Scan.{lexed}
+use Rattle.wm_tokens.specs.exact.Scan.{lexed}
 use Rattle.wm_read.specs.exact.TypeUses.{call_use_at, fits, groups_at, joined}
 use Rattle.wm_read.specs.inner.Blocks.{names_of}
 use Rattle.wm_read.proofs.Ends.{index_stands}
 use Rattle.wm_read.proofs.Groups.{use_found, use_wrong, use_untyped, call_found, call_form, call_none, params_fail, results_fail, fails_at, fails_use}
-use Rattle.wm_read.specs.declared.faults.TextWhy.{TextWhy}
+use Rattle.wm_tokens.specs.declared.faults.TextWhy.{TextWhy}
 use Rattle.wm_read.specs.inner.Views.{Fails}
 use Rattle.wm_read.proofs.code.type_uses.type_use.Goals as goal
 

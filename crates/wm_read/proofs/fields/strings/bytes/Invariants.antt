@@ -1,5 +1,5 @@
 use Rattle.std.proofs.Common.{◌≡◌, length}
-use Rattle.wm_read.specs.exact.Scan.{lexed}
+use Rattle.wm_tokens.specs.exact.Scan.{lexed}
 use Rattle.wm_read.specs.exact.Fields.{bytes_at, strings_at}
 use Rattle.wm_read.proofs.FieldCode.{after_bytes}
 use Rattle.wm_read.proofs.fields.strings.bytes.Given as goal

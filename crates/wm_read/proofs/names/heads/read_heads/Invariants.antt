@@ -1,6 +1,6 @@
 use Rattle.std.proofs.Common.{◌≡◌, length}
 use Rattle.wm_read.specs.exact.FirstReading.{heads_at, names_at, names_in}
-use Rattle.wm_read.specs.exact.Scan.{lexed}
+use Rattle.wm_tokens.specs.exact.Scan.{lexed}
 use Rattle.wm_read.specs.inner.Heads.{noted_of}
 use Rattle.wm_read.proofs.names.heads.read_heads.Given as goal
 

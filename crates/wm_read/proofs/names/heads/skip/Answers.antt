@@ -1,8 +1,8 @@
 use Rattle.std.proofs.Common.{◌≡◌, ◌∷◌, ◌∙◌, ◌<◌, ap, length, arith}
-use Rattle.wm_read.specs.Tokens.{string, atom}
-use Rattle.wm_read.specs.exact.Scan.{lexed}
-use Rattle.wm_read.specs.inner.Lexemes.{token_of, bytes_of}
-use Rattle.wm_read.proofs.Stretches.{skip_plain, plain_within, skip_string_on, skip_atom_on}
+use Rattle.wm_tokens.specs.Tokens.{string, atom}
+use Rattle.wm_tokens.specs.exact.Scan.{lexed}
+use Rattle.wm_tokens.specs.inner.Lexemes.{token_of, bytes_of}
+use Rattle.wm_read.proofs.Skips.{skip_plain, plain_within, skip_string_on, skip_atom_on}
 use Rattle.wm_read.proofs.names.heads.skip.Goals as goal
 
 pub loop-open-smaller-in-Some : goal.loop-open-smaller-in-Some

@@ -1,6 +1,6 @@
 use Rattle.std.proofs.Common.{◌≡◌, ◌≤◌, ◌+◌, length}
 use Rattle.wm_read.specs.exact.FirstReading.{skip}
-use Rattle.wm_read.specs.exact.Scan.{lexed}
+use Rattle.wm_tokens.specs.exact.Scan.{lexed}
 use Rattle.wm_read.proofs.names.heads.skip.Given as goal
 
 abbrev pub invariant-loop-open : goal.invariant-loop-open

@@ -1,5 +1,0 @@
-use Rattle.wm_read.proofs.Places.{nothing_begins}
-use Rattle.wm_read.proofs.laws.faults_begin_no_token.Goals as goal
-
-pub returns : goal.returns
-returns c = nothing_begins

@@ -1,5 +1,0 @@
-use Rattle.wm_read.proofs.Whole.{one_list}
-use Rattle.wm_read.proofs.laws.one_list_of_tokens.Goals as goal
-
-pub returns : goal.returns
-returns c = one_list

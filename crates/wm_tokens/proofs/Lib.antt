@@ -1,0 +1,11 @@
+pub mod Basics
+pub mod Comments
+pub mod Atoms
+pub mod Strings
+pub mod Ahead
+pub mod PlainAtoms
+pub mod Whole
+pub mod Parts
+pub mod StringFaults
+pub mod Places
+pub mod PlainStretches

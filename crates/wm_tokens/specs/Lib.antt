@@ -1,0 +1,5 @@
+pub mod Faults
+pub mod TokenFaults
+pub mod Tokens
+pub mod exact
+pub mod inner

@@ -1,0 +1,6 @@
+-- What values hold inside. Contracts name these words and say what follows from them: their
+-- bodies need not be believed.
+pub mod Ends
+pub mod Lexemes
+pub mod Places
+pub mod Stretches

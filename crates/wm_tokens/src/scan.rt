@@ -1,0 +1,685 @@
+//! How the bytes of a text are told apart.
+
+ghost use Rattle.std.specs.Prelude.{◌≡◌, ◌≤◌, ◌+◌, zero, length, take, drop, false, Some, None, MatchOption};
+ghost use Rattle.std.specs.Prelude.{IfSome, IfErr, MatchResult, ◌*◌, ◌<◌, ◌∷◌, get_or, min, true, ℕ};
+ghost use Rattle.std.specs.Option.{option_map};
+ghost use Rattle.wm_tokens.specs.exact.Scan as scan;
+ghost use Rattle.wm_tokens.specs.declared.scan.Mode.TheVariants.{Plain, Escape, Digits};
+ghost use Rattle.wm_tokens.specs.Tokens as tokens;
+ghost use Rattle.wm_tokens.specs.inner.Lexemes.{part_of, IsMode, IsStep};
+
+use crate::faults::TextWhy;
+use wm_floats::atoms::has_form;
+
+/// What begins with a byte, between tokens.
+#[derive(Clone, Copy, Debug, PartialEq, Eq)]
+pub enum Class {
+    Space,
+    Semicolon,
+    Opening,
+    Closing,
+    Quote,
+    /// A character of atoms.
+    Atom,
+    /// Nothing does.
+    Other,
+}
+
+/// Where in a string the next byte stands.
+#[derive(Clone, Copy, Debug, PartialEq, Eq)]
+pub enum Mode {
+    /// In no escape.
+    Plain,
+    /// Behind a backslash.
+    Escape,
+    /// Behind the first digit of `\hh`, which has this value.
+    Low(u8),
+    /// Behind `\u`.
+    Brace,
+    /// Within the braces: the value so far, at most 0x110000, and whether a digit stands last.
+    Digits(u32, bool),
+}
+
+/// What a byte of a string does.
+#[derive(Clone, Copy, Debug, PartialEq, Eq)]
+pub enum Step {
+    /// It gives nothing yet.
+    On(Mode),
+    /// It gives this byte.
+    Byte(u8),
+    /// It gives the UTF-8 of this scalar value.
+    Scalar(u32),
+    /// It ends the string.
+    End,
+    /// It can't stand here.
+    Bad,
+}
+
+/// What begins with this byte.
+#[inline(always)]
+#[tactic(auto, unfolding(crate::specs::exact::Scan::class_of))]
+pub fn class_of(byte: u8) -> Class
+    ensures { result ≡ scan.class_of byte }
+{
+    match byte {
+        b' ' | b'\t' | b'\n' | b'\r' => Class::Space,
+        b';' => Class::Semicolon,
+        b'(' => Class::Opening,
+        b')' => Class::Closing,
+        b'"' => Class::Quote,
+        _ => {
+            if is_id_char(byte) {
+                Class::Atom
+            } else {
+                Class::Other
+            }
+        }
+    }
+}
+
+// Each character of atoms stands at its own place, and a comma, which is none, at every other.
+static ID_CHARS: [u8; 256] = *b"\
+    ,,,,,,,,,,,,,,,,,,,,,,,,,,,,,,,,\
+    ,!,#$%&',,*+,-./0123456789:,<=>?\
+    @ABCDEFGHIJKLMNOPQRSTUVWXYZ,\\,^_\
+    `abcdefghijklmnopqrstuvwxyz,|,~,\
+    ,,,,,,,,,,,,,,,,,,,,,,,,,,,,,,,,\
+    ,,,,,,,,,,,,,,,,,,,,,,,,,,,,,,,,\
+    ,,,,,,,,,,,,,,,,,,,,,,,,,,,,,,,,\
+    ,,,,,,,,,,,,,,,,,,,,,,,,,,,,,,,,";
+
+/// Whether this byte is a character of atoms (section 6.3.5, idchar).
+#[inline(always)]
+pub fn is_id_char(byte: u8) -> bool
+    ensures { result ≡ tokens.is_id_char byte }
+{
+    ID_CHARS[byte as usize] != b','
+}
+
+/// Whether this byte is a decimal digit.
+#[inline(always)]
+fn is_digit(byte: u8) -> bool
+    ensures { result ≡ tokens.is_digit byte }
+{
+    b'0' <= byte && byte <= b'9'
+}
+
+/// Whether this byte is white space by itself (section 6.2.3).
+#[inline(always)]
+fn is_space(byte: u8) -> bool
+    ensures { result ≡ tokens.is_space byte }
+{
+    matches!(byte, b' ' | b'\t' | b'\n' | b'\r')
+}
+
+/// A text from its first byte on that is not white space by itself. Most tokens are parted by one such byte
+/// or none, and these are told in place; a longer run is passed over out of line.
+#[inline(always)]
+pub fn after_spaces(text: &[u8]) -> &[u8]
+    ensures { result.now ≡ scan.after_spaces text.now }
+{
+    match text {
+        [first, more @ ..] if is_space(*first) => match more {
+            [second, ..] if is_space(*second) => after_run(more),
+            _ => more,
+        },
+        _ => text,
+    }
+}
+
+/// The same, for a run of white space.
+#[inline(never)]
+fn after_run(text: &[u8]) -> &[u8]
+    ensures { result.now ≡ scan.after_spaces text.now }
+{
+    let mut rest = within_run(text);
+    while let [c, more @ ..] = rest {
+        if !is_space(*c) {
+            return rest;
+        }
+        rest = more;
+    }
+    rest
+}
+
+/// A text from within the white space that stands first, near its end: four bytes are asked in a step.
+#[inline(always)]
+fn within_run(text: &[u8]) -> &[u8]
+    ensures { scan.after_spaces result.now ≡ scan.after_spaces text.now }
+{
+    let mut rest = text;
+    while let [a, b, c, d, more @ ..] = rest {
+        if !(is_space(*a) && is_space(*b) && is_space(*c) && is_space(*d)) {
+            return rest;
+        }
+        rest = more;
+    }
+    rest
+}
+
+/// What stands behind a line comment (section 6.2.4), from the text after its `;;`.
+pub fn after_line(text: &[u8]) -> &[u8]
+    ensures { result.now ≡ scan.after_line text.now }
+{
+    let mut rest = within_line(text);
+    while let [c, more @ ..] = rest {
+        rest = more;
+        if *c == b'\n' {
+            return rest;
+        }
+    }
+    rest
+}
+
+/// A line comment from within it, near its end: four bytes are asked in a step.
+#[inline(always)]
+fn within_line(text: &[u8]) -> &[u8]
+    ensures { scan.after_line result.now ≡ scan.after_line text.now }
+{
+    let mut rest = text;
+    while let [a, b, c, d, more @ ..] = rest {
+        if *a == b'\n' || *b == b'\n' || *c == b'\n' || *d == b'\n' {
+            return rest;
+        }
+        rest = more;
+    }
+    rest
+}
+
+/// What stands first in a block comment, and what follows it.
+enum Part<'a> {
+    /// `;)`
+    Close(&'a [u8]),
+    /// `(;`
+    Open(&'a [u8]),
+    /// Another byte.
+    On(&'a [u8]),
+    /// The end of the text.
+    End,
+}
+
+/// What stands first in a block comment.
+#[tactic(auto, unfolding(crate::specs::exact::Scan::comment_part))]
+fn comment_part(text: &[u8]) -> Part
+    ensures { part_of result ≡ scan.comment_part text.now }
+{
+    match text {
+        [b';', b')', rest @ ..] => Part::Close(rest),
+        [b'(', b';', rest @ ..] => Part::Open(rest),
+        [_, rest @ ..] => Part::On(rest),
+        [] => Part::End,
+    }
+}
+
+/// What stands behind a block comment (section 6.2.4), from the text after its `(;`; none
+/// where it does not end.
+#[tactic(auto, using(crate::proofs::Parts::part_laws))]
+pub fn after_comment(text: &[u8]) -> Option<&[u8]>
+    ensures { MatchOption result (scan.after_comment zero text.now ≡ None)
+        (λ r. scan.after_comment zero text.now ≡ Some r.now) }
+{
+    let mut rest = text;
+    let mut open = 0usize;
+    loop {
+        match comment_part(rest) {
+            Part::Close(more) => {
+                if open == 0 {
+                    return Some(more);
+                }
+                open -= 1;
+                rest = more;
+            }
+            Part::Open(more) => {
+                open += 1;
+                rest = more;
+            }
+            Part::On(more) => rest = more,
+            Part::End => return None,
+        }
+    }
+}
+
+// The value of each hexadecimal digit stands at its own place, and 16, which none has, at every other.
+static DIGITS: [u8; 256] = [
+    16, 16, 16, 16, 16, 16, 16, 16, 16, 16, 16, 16, 16, 16, 16, 16, 16, 16, 16, 16, 16, 16, 16, 16,
+    16, 16, 16, 16, 16, 16, 16, 16, 16, 16, 16, 16, 16, 16, 16, 16, 16, 16, 16, 16, 16, 16, 16, 16,
+    0, 1, 2, 3, 4, 5, 6, 7, 8, 9, 16, 16, 16, 16, 16, 16, 16, 10, 11, 12, 13, 14, 15, 16, 16, 16,
+    16, 16, 16, 16, 16, 16, 16, 16, 16, 16, 16, 16, 16, 16, 16, 16, 16, 16, 16, 16, 16, 16, 16, 10,
+    11, 12, 13, 14, 15, 16, 16, 16, 16, 16, 16, 16, 16, 16, 16, 16, 16, 16, 16, 16, 16, 16, 16, 16,
+    16, 16, 16, 16, 16, 16, 16, 16, 16, 16, 16, 16, 16, 16, 16, 16, 16, 16, 16, 16, 16, 16, 16, 16,
+    16, 16, 16, 16, 16, 16, 16, 16, 16, 16, 16, 16, 16, 16, 16, 16, 16, 16, 16, 16, 16, 16, 16, 16,
+    16, 16, 16, 16, 16, 16, 16, 16, 16, 16, 16, 16, 16, 16, 16, 16, 16, 16, 16, 16, 16, 16, 16, 16,
+    16, 16, 16, 16, 16, 16, 16, 16, 16, 16, 16, 16, 16, 16, 16, 16, 16, 16, 16, 16, 16, 16, 16, 16,
+    16, 16, 16, 16, 16, 16, 16, 16, 16, 16, 16, 16, 16, 16, 16, 16, 16, 16, 16, 16, 16, 16, 16, 16,
+    16, 16, 16, 16, 16, 16, 16, 16, 16, 16, 16, 16, 16, 16,
+];
+
+/// The value of a hexadecimal digit (section 6.3.1).
+#[inline(always)]
+pub fn digit_value(byte: u8) -> Option<u8>
+    ensures { result ≡ tokens.digit_value byte }
+{
+    let value = DIGITS[byte as usize];
+    if value < 16 { Some(value) } else { None }
+}
+
+/// What the next byte of a string does (section 6.3.3).
+#[inline(always)]
+#[tactic(auto, unfolding(crate::specs::exact::Scan::string_step))]
+pub fn string_step(mode: Mode, byte: u8) -> Step
+    requires { IsMode mode }
+    ensures step { result ≡ scan.string_step mode byte }
+    ensures next { IsStep result }
+{
+    match mode {
+        Mode::Plain => match byte {
+            b'"' => Step::End,
+            b'\\' => Step::On(Mode::Escape),
+            _ => {
+                if byte >= 0x20 && byte != 0x7F {
+                    Step::Byte(byte)
+                } else {
+                    Step::Bad
+                }
+            }
+        },
+        Mode::Escape => escape_step(byte),
+        Mode::Low(high) => match digit_value(byte) {
+            Some(low) => Step::Byte(high * 16 + low),
+            None => Step::Bad,
+        },
+        Mode::Brace => {
+            if byte == b'{' {
+                Step::On(Mode::Digits(0, false))
+            } else {
+                Step::Bad
+            }
+        }
+        Mode::Digits(n, after) => digits_step(n, after, byte),
+    }
+}
+
+/// What the byte behind a backslash does.
+#[tactic(auto, unfolding(crate::specs::exact::Scan::string_step))]
+fn escape_step(byte: u8) -> Step
+    ensures step { result ≡ scan.string_step Escape byte }
+    ensures next { IsStep result }
+{
+    match byte {
+        b't' => Step::Byte(0x09),
+        b'n' => Step::Byte(0x0A),
+        b'r' => Step::Byte(0x0D),
+        b'"' => Step::Byte(0x22),
+        b'\'' => Step::Byte(0x27),
+        b'\\' => Step::Byte(0x5C),
+        b'u' => Step::On(Mode::Brace),
+        _ => match digit_value(byte) {
+            Some(high) => Step::On(Mode::Low(high)),
+            None => Step::Bad,
+        },
+    }
+}
+
+/// What a byte behind `\u{` does.
+#[tactic(auto, unfolding(crate::specs::exact::Scan::string_step))]
+fn digits_step(n: u32, after: bool, byte: u8) -> Step
+    requires { n ≤ 0x11_0000 }
+    ensures step { result ≡ scan.string_step (Digits n after) byte }
+    ensures next { IsStep result }
+{
+    if byte == b'_' && after {
+        return Step::On(Mode::Digits(n, false));
+    }
+    if byte == b'}' && after && is_scalar(n) {
+        return Step::Scalar(n);
+    }
+    match digit_value(byte) {
+        Some(d) => Step::On(Mode::Digits((n * 16 + u32::from(d)).min(0x11_0000), true)),
+        None => Step::Bad,
+    }
+}
+
+/// Whether a number is a scalar value of Unicode.
+fn is_scalar(n: u32) -> bool
+    ensures { result ≡ tokens.is_scalar n }
+{
+    n < 0xD800 || (0xE000 <= n && n < 0x11_0000)
+}
+
+/// The byte that stands first in a string, and what follows it; none where something else stands there, or an
+/// escape of more than three characters.
+#[inline(always)]
+#[tactic(auto, using(crate::proofs::Strings::rest_laws, crate::proofs::Strings::why_laws, crate::proofs::Strings::given_laws))]
+pub fn given_first(text: &[u8]) -> Option<(u8, &[u8])>
+    ensures rest { IfSome result (λ x. scan.rest_of (scan.string_in Plain text.now)
+        ≡ scan.rest_of (scan.string_in Plain x.1.now)) }
+    ensures why { IfSome result (λ x. scan.why_in Plain text.now ≡ scan.why_in Plain x.1.now) }
+    ensures given { IfSome result (λ x. scan.given_in Plain text.now ≡ x.0 ∷ scan.given_in Plain x.1.now) }
+    ensures shorter { IfSome result (λ x. length x.1.now < length text.now) }
+{
+    let [c, more @ ..] = text else {
+        return None;
+    };
+    match string_step(Mode::Plain, *c) {
+        Step::Byte(byte) => Some((byte, more)),
+        Step::On(mode) => given_within(mode, more),
+        Step::Scalar(_) | Step::End | Step::Bad => None,
+    }
+}
+
+/// The same within an escape, behind its first character.
+#[inline(always)]
+#[tactic(auto, using(crate::proofs::Strings::rest_laws, crate::proofs::Strings::why_laws, crate::proofs::Strings::given_laws))]
+fn given_within(mode: Mode, text: &[u8]) -> Option<(u8, &[u8])>
+    requires { IsMode mode }
+    ensures rest { IfSome result (λ x. scan.rest_of (scan.string_in mode text.now)
+        ≡ scan.rest_of (scan.string_in Plain x.1.now)) }
+    ensures why { IfSome result (λ x. scan.why_in mode text.now ≡ scan.why_in Plain x.1.now) }
+    ensures given { IfSome result (λ x. scan.given_in mode text.now ≡ x.0 ∷ scan.given_in Plain x.1.now) }
+    ensures shorter { IfSome result (λ x. length x.1.now < length text.now) }
+{
+    let [c, more @ ..] = text else {
+        return None;
+    };
+    match string_step(mode, *c) {
+        Step::Byte(byte) => Some((byte, more)),
+        Step::On(next) => given_last(next, more),
+        Step::Scalar(_) | Step::End | Step::Bad => None,
+    }
+}
+
+/// The same behind the second character of an escape.
+#[inline(always)]
+#[tactic(auto, using(crate::proofs::Strings::rest_laws, crate::proofs::Strings::why_laws, crate::proofs::Strings::given_laws))]
+fn given_last(mode: Mode, text: &[u8]) -> Option<(u8, &[u8])>
+    requires { IsMode mode }
+    ensures rest { IfSome result (λ x. scan.rest_of (scan.string_in mode text.now)
+        ≡ scan.rest_of (scan.string_in Plain x.1.now)) }
+    ensures why { IfSome result (λ x. scan.why_in mode text.now ≡ scan.why_in Plain x.1.now) }
+    ensures given { IfSome result (λ x. scan.given_in mode text.now ≡ x.0 ∷ scan.given_in Plain x.1.now) }
+    ensures shorter { IfSome result (λ x. length x.1.now < length text.now) }
+{
+    let [c, more @ ..] = text else {
+        return None;
+    };
+    match string_step(mode, *c) {
+        Step::Byte(byte) => Some((byte, more)),
+        _ => None,
+    }
+}
+
+/// A string from where no byte stands first that `given_first` finds.
+fn after_given(text: &[u8]) -> &[u8]
+    ensures rest { scan.rest_of (scan.string_in Plain result.now)
+        ≡ scan.rest_of (scan.string_in Plain text.now) }
+    ensures why { scan.why_in Plain result.now ≡ scan.why_in Plain text.now }
+    ensures within { length result.now ≤ length text.now }
+{
+    let mut rest = text;
+    while let Some((_, more)) = given_first(rest) {
+        rest = more;
+    }
+    rest
+}
+
+/// What stands behind a string (section 6.3.3), from the text after its quotation mark.
+#[inline(never)]
+#[tactic(auto, using(crate::proofs::Strings::rest_laws, crate::proofs::Strings::why_laws))]
+pub fn after_string(text: &[u8]) -> Result<&[u8], TextWhy>
+    ensures rest { MatchResult result (λ r. scan.rest_of (scan.string_in Plain text.now) ≡ Some r.now)
+        (λ _. scan.rest_of (scan.string_in Plain text.now) ≡ None) }
+    ensures why { IfErr result (λ w. w ≡ scan.why_in Plain text.now) }
+{
+    let mut rest = after_given(text);
+    let mut mode = Mode::Plain;
+    while let [c, more @ ..] = rest {
+        match string_step(mode, *c) {
+            Step::On(next) => {
+                mode = next;
+                rest = more;
+            }
+            Step::Byte(_) | Step::Scalar(_) => {
+                mode = Mode::Plain;
+                rest = after_given(more);
+            }
+            Step::End => return Ok(more),
+            Step::Bad => return Err(bad_in(mode)),
+        }
+    }
+    Err(TextWhy::OpenString)
+}
+
+/// What a byte that can't stand in a string is called: outside of an escape it is a control character.
+fn bad_in(mode: Mode) -> TextWhy
+    ensures { result ≡ scan.bad_in mode }
+{
+    match mode {
+        Mode::Plain => TextWhy::BadToken,
+        _ => TextWhy::BadEscape,
+    }
+}
+
+/// How many characters of atoms stand first. Four are asked in a step, while four are left.
+#[inline(always)]
+pub fn atom_len(text: &[u8]) -> usize
+    ensures within { result ≤ length text.now }
+    ensures atom { scan.atom_in text.now ≡ (take result text.now, drop result text.now) }
+{
+    let mut i = 0;
+    while text.len() - i >= 4 {
+        if !is_id_char(text[i]) {
+            return i;
+        }
+        if !is_id_char(text[i + 1]) {
+            return i + 1;
+        }
+        if !is_id_char(text[i + 2]) {
+            return i + 2;
+        }
+        if !is_id_char(text[i + 3]) {
+            return i + 3;
+        }
+        i += 4;
+    }
+    atom_end(i, text)
+}
+
+/// The same, where so many are known to stand first.
+fn atom_end(known: usize, text: &[u8]) -> usize
+    requires within { known ≤ length text.now }
+    requires known { (k : ℕ) → k < known → tokens.is_id_char (get_or text.now k 0) ≡ true }
+    ensures within { result ≤ length text.now }
+    ensures atom { scan.atom_in text.now ≡ (take result text.now, drop result text.now) }
+{
+    let mut i = known;
+    while i < text.len() {
+        if !is_id_char(text[i]) {
+            return i;
+        }
+        i += 1;
+    }
+    i
+}
+
+/// The atom that stands first, and what follows it, where its first byte tells that it is one: a word, an
+/// identifier, or decimal digits alone. None where another token stands first, or an atom of another form.
+#[inline(always)]
+pub fn plain_atom(text: &[u8]) -> Option<(&[u8], &[u8])>
+    ensures { IfSome result (λ x. scan.first (tokens.atom x.0.now) x.1.now ≡ scan.ahead text.now) }
+{
+    match text {
+        [b'a'..=b'z', ..] => Some(text.split_at(atom_len(text))),
+        [b'0'..=b'9', ..] => plain_number(text),
+        [b'$', ..] => plain_id(text),
+        _ => None,
+    }
+}
+
+/// How many decimal digits stand first.
+#[inline(always)]
+fn digits_len(text: &[u8]) -> usize
+    ensures within { result ≤ length text.now }
+    ensures digits { (k : ℕ) → k < result → tokens.is_digit (get_or text.now k 0) ≡ true }
+{
+    let mut i = 0;
+    while i < text.len() {
+        if !is_digit(text[i]) {
+            return i;
+        }
+        i += 1;
+    }
+    i
+}
+
+/// The decimal digits that stand first, and what follows them, where that is no character of atoms.
+#[inline(always)]
+fn plain_number(text: &[u8]) -> Option<(&[u8], &[u8])>
+    ensures { IfSome result (λ x. scan.first (tokens.atom x.0.now) x.1.now ≡ scan.ahead text.now) }
+{
+    let n = digits_len(text);
+    if n == 0 {
+        return None;
+    }
+    if n < text.len() && is_id_char(text[n]) {
+        return None;
+    }
+    Some(text.split_at(n))
+}
+
+/// The identifier that stands first, from its `$` on, and what follows it.
+#[inline(always)]
+fn plain_id(text: &[u8]) -> Option<(&[u8], &[u8])>
+    requires { get_or text.now 0 0 ≡ 36 }
+    ensures { IfSome result (λ x. scan.first (tokens.atom x.0.now) x.1.now ≡ scan.ahead text.now) }
+{
+    let n = atom_len(text);
+    if n < 2 { None } else { Some(text.split_at(n)) }
+}
+
+/// Whether characters of atoms are an identifier (section 6.3.5), a number (6.3.1), a float (6.3.2) or a word
+/// (6.3.4).
+pub fn is_atom(atom: &[u8]) -> bool
+    ensures { result ≡ scan.is_atom atom.now }
+{
+    match atom {
+        [b'$', rest @ ..] => !rest.is_empty(),
+        [b'a'..=b'z', ..] => true,
+        _ => is_number(atom) || is_literal(atom),
+    }
+}
+
+/// Whether an atom is a number, with a sign or with none.
+fn is_number(atom: &[u8]) -> bool
+    ensures { result ≡ scan.is_number atom.now }
+{
+    match atom {
+        [b'+' | b'-', rest @ ..] => magnitude(rest).is_some(),
+        _ => magnitude(atom).is_some(),
+    }
+}
+
+/// Whether an atom has the form of a float, with a sign or with none.
+fn is_literal(atom: &[u8]) -> bool
+    ensures { result ≡ scan.is_literal atom.now }
+{
+    match atom {
+        [] => false,
+        [b'+' | b'-', rest @ ..] => has_form(rest),
+        _ => has_form(atom),
+    }
+}
+
+/// Whether an atom is one only for being a float (section 6.3.2), and so none where there are no floats.
+pub fn is_float_alone(atom: &[u8]) -> bool
+    ensures { result ≡ scan.is_float_alone atom.now }
+{
+    match atom.first() {
+        None | Some(b'$' | b'a'..=b'z') => false,
+        Some(_) => is_literal(atom) && !is_number(atom),
+    }
+}
+
+/// The value of a number with no sign (section 6.3.1), or 2^64 if it is greater.
+pub fn magnitude(text: &[u8]) -> Option<u128>
+    ensures { result ≡ option_map (λ n. min n 0x1_0000_0000_0000_0000) (scan.magnitude_of text.now) }
+{
+    match short_decimal(text) {
+        Some(n) => Some(u128::from(n)),
+        None => any_magnitude(text),
+    }
+}
+
+/// The value of a number below 10^9 that is decimal digits alone, which most numbers are.
+#[inline(always)]
+#[tactic(auto, using(crate::proofs::Atoms::decimal_laws))]
+pub fn short_decimal(text: &[u8]) -> Option<u32>
+    ensures value { IfSome result (λ n. scan.magnitude_of text.now ≡ Some n) }
+    ensures small { IfSome result (λ n. n < 1_000_000_000) }
+{
+    let mut rest = text;
+    let mut n = 0u32;
+    let mut after = false;
+    while let [c, more @ ..] = rest {
+        if *c < b'0' || *c > b'9' || n >= 100_000_000 {
+            return None;
+        }
+        n = n * 10 + u32::from(*c - b'0');
+        after = true;
+        rest = more;
+    }
+    if after { Some(n) } else { None }
+}
+
+/// The value of a number in any form, or 2^64 if it is greater.
+fn any_magnitude(text: &[u8]) -> Option<u128>
+    ensures { result ≡ option_map (λ n. min n 0x1_0000_0000_0000_0000) (scan.magnitude_of text.now) }
+{
+    match text {
+        [b'0', b'x', rest @ ..] => digits(16, rest),
+        _ => digits(10, text),
+    }
+}
+
+/// The value of digits with single underscores between them, or 2^64 if it is greater.
+#[tactic(auto, using(crate::proofs::Atoms::number_laws))]
+pub fn digits(base: u8, text: &[u8]) -> Option<u128>
+    requires low { 2 ≤ base }
+    requires high { base ≤ 16 }
+    ensures { result ≡ scan.number_in base 0 false text.now }
+{
+    let mut rest = text;
+    let mut n = 0u128;
+    let mut after = false;
+    while let Some((c, more)) = rest.split_first() {
+        (n, after) = number_next(base, n, after, *c)?;
+        rest = more;
+    }
+    if after { Some(n) } else { None }
+}
+
+/// The value of digits with one more byte, and whether a digit stands last; none where
+/// this byte can't follow.
+#[tactic(auto, unfolding(crate::specs::exact::Scan::number_next))]
+fn number_next(base: u8, n: u128, after: bool, byte: u8) -> Option<(u128, bool)>
+    requires high { base ≤ 16 }
+    requires small { n ≤ 0x1_0000_0000_0000_0000 }
+    ensures next { result ≡ scan.number_next base n after byte }
+    ensures small { IfSome result (λ x. x.0 ≤ 0x1_0000_0000_0000_0000) }
+{
+    if byte == b'_' && after {
+        return Some((n, false));
+    }
+    match digit_value(byte) {
+        Some(d) if d < base => Some((with_digit(base, n, d), true)),
+        _ => None,
+    }
+}
+
+/// A number with one more digit, or 2^64 if that is greater.
+fn with_digit(base: u8, n: u128, d: u8) -> u128
+    requires { (base ≤ 16) × (n ≤ 0x1_0000_0000_0000_0000) }
+    ensures next { result ≡ min (n * base + d) 0x1_0000_0000_0000_0000 }
+    ensures small { result ≤ 0x1_0000_0000_0000_0000 }
+{
+    (n * u128::from(base) + u128::from(d)).min(1 << 64)
+}
