@@ -2,7 +2,7 @@
 use Rattle.std.specs.Prelude.{◌≡◌, ◌≢◌, ℕ, ◌≤◌, List, Result, Ok, Err, length}
 use Rattle.wm_syntax.specs.declared.why.Why.TheVariants.{Memory}
 use Rattle.wm_syntax.specs.declared.profile.Profile.{Profile}
-use Rattle.wm_decode.specs.declared.refusal.Refusal.{Refusal}
+use Rattle.wm_machine.specs.declared.refusal.Refusal.{Refusal}
 use Rattle.wm_rules.specs.declared.checker.Summary.{Summary}
 use Rattle.wm_rules.specs.declared.policy.Policy.{Policy}
 use Rattle.wm_rules.specs.Bounds.{SummaryOf}

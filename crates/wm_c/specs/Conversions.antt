@@ -3,7 +3,7 @@ use Rattle.std.specs.Prelude.{◌≡◌, ◌≢◌, ◌<◌, ◌≤◌, ◌^◌,
 use Rattle.wm_syntax.specs.declared.profile.Profile.{Profile}
 use Rattle.wm_syntax.specs.declared.why.Why.TheVariants as why
 use Rattle.wm_syntax.specs.Modules.{Module}
-use Rattle.wm_decode.specs.declared.refusal.Refusal.{Refusal}
+use Rattle.wm_machine.specs.declared.refusal.Refusal.{Refusal}
 use Rattle.wm_rules.specs.declared.policy.Policy.{Policy}
 use Rattle.wm_rules.specs.inner.Validators.{verdict}
 use Rattle.wm_rules.specs.Loading.{Loads}

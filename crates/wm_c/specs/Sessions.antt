@@ -2,7 +2,7 @@
 use Rattle.std.specs.Prelude.{◌≡◌, ℕ, List, IfSome, Some}
 use Rattle.wm_syntax.specs.declared.profile.Profile.{Profile}
 use Rattle.wm_syntax.specs.declared.why.Why.TheVariants.{Memory}
-use Rattle.wm_decode.specs.declared.refusal.Refusal.{Refusal}
+use Rattle.wm_machine.specs.declared.refusal.Refusal.{Refusal}
 use Rattle.wm_rules.specs.declared.policy.Policy.{Policy}
 use Rattle.wm_rules.specs.inner.Validators.{HasRead, refusal_in}
 use Rattle.wm_c.specs.declared.answer.Answer.{Answer}

@@ -6,7 +6,7 @@ ghost use Rattle.wm_c.specs.Codes.{status_code};
 ghost use Rattle.wm_c.specs.Handles.{Holds, HoldsAnswer, HoldsRefusal, RanOut, TakesNothing, TakesPieces};
 ghost use Rattle.wm_c.specs.Options.{Asking, Asks, plain_options};
 ghost use Rattle.wm_c.specs.declared.answer.Answer.{Answer as AnAnswer};
-ghost use Rattle.wm_decode.specs.declared.refusal.Refusal.{Refusal as ARefusal};
+ghost use Rattle.wm_machine.specs.declared.refusal.Refusal.{Refusal as ARefusal};
 ghost use Rattle.wm_rules.specs.Validation.{Accepted};
 ghost use Rattle.wm_rules.specs.declared.policy.Policy.{Policy as APolicy};
 ghost use Rattle.wm_syntax.specs.declared.profile.Profile.{Profile as AProfile};

@@ -6,7 +6,7 @@ ghost use Rattle.wm_c.specs.Codes.{status_code};
 ghost use Rattle.wm_c.specs.Sessions.{HasTaken, HasEnded, IsReading, IsOver};
 ghost use Rattle.wm_c.specs.Sessions.{StateRanOut, StateRefused, StateTaken};
 ghost use Rattle.wm_c.specs.declared.session.State.TheVariants.{Ended};
-ghost use Rattle.wm_decode.specs.declared.refusal.Refusal.{Refusal as ARefusal};
+ghost use Rattle.wm_machine.specs.declared.refusal.Refusal.{Refusal as ARefusal};
 ghost use Rattle.wm_rules.specs.Validation.{Accepted};
 ghost use Rattle.wm_rules.specs.declared.policy.Policy.{Policy as APolicy};
 ghost use Rattle.wm_rules.specs.inner.Validators.{HasRead, HavingRead, refusal_in};

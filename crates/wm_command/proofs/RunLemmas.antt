@@ -7,7 +7,7 @@ use Rattle.std.proofs.Common.{◌≢◌, ℕ, zero, suc, Bool, true, false, subs
 use Rattle.wm_syntax.specs.declared.profile.Profile.{Profile}
 use Rattle.wm_syntax.specs.declared.why.Why.{Why}
 use Rattle.wm_syntax.specs.declared.why.Why.TheVariants.{Memory, TooLong}
-use Rattle.wm_decode.specs.declared.refusal.Refusal.{Refusal}
+use Rattle.wm_machine.specs.declared.refusal.Refusal.{Refusal}
 use Rattle.wm_command.specs.declared.status.Status.{Status}
 use Rattle.wm_command.specs.declared.status.Status.TheVariants as status
 use Rattle.wm_command.specs.declared.words.Action.TheVariants.{Check, Stats, Canon, Show, Build}

@@ -19,7 +19,7 @@ use Rattle.wm_write.specs.Canon.{canon}
 use Rattle.wm_write.specs.Layout.{layout}
 use Rattle.wm_rules.specs.inner.Validators.{verdict}
 use Rattle.wm_rules.specs.Validation.{Accepted}
-use Rattle.wm_decode.specs.declared.refusal.Refusal.{Refusal}
+use Rattle.wm_machine.specs.declared.refusal.Refusal.{Refusal}
 use Rattle.wm_rules.specs.Meanings.{Meaning}
 use Rattle.wm_command.specs.Refused.{refusal_line}
 use Rattle.wm_command.specs.Building.{BuildOut, IsBuildRefusal}

@@ -6,20 +6,20 @@ use Rattle.std.proofs.lemmas.List.{drop-drop, take_rest}
 use Rattle.wm_syntax.specs.declared.profile.Profile.{Profile}
 use Rattle.wm_syntax.specs.declared.why.Why.{Why}
 use Rattle.wm_syntax.specs.declared.why.Why.TheVariants as why
-use Rattle.wm_decode.specs.declared.machine.Machine.{Machine}
-use Rattle.wm_decode.specs.declared.machine.Machine.TheVariants as machine
-use Rattle.wm_decode.specs.declared.machine.InCustom.TheVariants as custom
-use Rattle.wm_decode.specs.declared.machine.member.SectionKind.{SectionKind}
-use Rattle.wm_decode.specs.declared.machine.member.InMember.TheVariants as at
+use Rattle.wm_machine.specs.declared.machine.Machine.{Machine}
+use Rattle.wm_machine.specs.declared.machine.Machine.TheVariants as machine
+use Rattle.wm_machine.specs.declared.machine.InCustom.TheVariants as custom
+use Rattle.wm_machine.specs.declared.machine.member.SectionKind.{SectionKind}
+use Rattle.wm_machine.specs.declared.machine.member.InMember.TheVariants as at
 use Rattle.wm_decode.specs.declared.shortcuts.Shortcut.{Shortcut}
-use Rattle.wm_decode.specs.Items.{Item, data_byte}
-use Rattle.wm_decode.specs.Sinks.{all_taken, and_then}
-use Rattle.wm_decode.specs.exact.Steps.{machine_in_member}
-use Rattle.wm_decode.specs.exact.MemberSteps.{data_or_over}
-use Rattle.wm_decode.specs.exact.Live.{IsAt, MayRunOutAtByte, decoder_after, live_or_refused, refusal_in_machine}
+use Rattle.wm_machine.specs.Items.{Item, data_byte}
+use Rattle.wm_machine.specs.Sinks.{all_taken, and_then}
+use Rattle.wm_machine.specs.exact.Steps.{machine_in_member}
+use Rattle.wm_machine.specs.exact.MemberSteps.{data_or_over}
+use Rattle.wm_machine.specs.exact.Live.{IsAt, MayRunOutAtByte, decoder_after, live_or_refused, refusal_in_machine}
 use Rattle.wm_decode.specs.exact.Shortcuts.{Advances, live_so}
-use Rattle.wm_decode.proofs.Header.{stays}
-use Rattle.wm_decode.proofs.Stretches.{data_decoded, data_ended, goes_on, is_refused, skips, still_live, stops}
+use Rattle.wm_machine.proofs.Header.{stays}
+use Rattle.wm_machine.proofs.Stretches.{data_decoded, data_ended, goes_on, is_refused, skips, still_live, stops}
 
 pub not_both : (r : Option Why) (w : Why) → r ≡ None → r ≡ Some w → ⊥
 not_both r w a b = let s : None ≡ Some w = sym a ∙ b in cc

@@ -6,29 +6,29 @@ use Rattle.wm_syntax.specs.declared.profile.Profile.{Profile}
 use Rattle.wm_syntax.specs.declared.why.Why.{Why}
 use Rattle.wm_syntax.specs.declared.why.Why.TheVariants as why
 use Rattle.wm_syntax.specs.exact.Reading.{fresh}
-use Rattle.wm_decode.specs.declared.machine.Machine.{Machine}
-use Rattle.wm_decode.specs.declared.machine.Machine.TheVariants as machine
-use Rattle.wm_decode.specs.declared.machine.Event.{Event}
-use Rattle.wm_decode.specs.declared.machine.Plain.{Plain}
-use Rattle.wm_decode.specs.declared.machine.member.SectionKind.{SectionKind}
-use Rattle.wm_decode.specs.declared.machine.member.InMember.{InMember}
-use Rattle.wm_decode.specs.declared.machine.member.InMember.TheVariants as at
+use Rattle.wm_machine.specs.declared.machine.Machine.{Machine}
+use Rattle.wm_machine.specs.declared.machine.Machine.TheVariants as machine
+use Rattle.wm_machine.specs.declared.machine.Event.{Event}
+use Rattle.wm_machine.specs.declared.machine.Plain.{Plain}
+use Rattle.wm_machine.specs.declared.machine.member.SectionKind.{SectionKind}
+use Rattle.wm_machine.specs.declared.machine.member.InMember.{InMember}
+use Rattle.wm_machine.specs.declared.machine.member.InMember.TheVariants as at
 use Rattle.wm_decode.specs.declared.shortcuts.Shortcut.{Shortcut}
 use Rattle.wm_decode.specs.declared.shortcuts.short_steps.Stepped.{Stepped}
-use Rattle.wm_decode.specs.Items.{Item}
-use Rattle.wm_decode.specs.Sinks.{Taken, and_then}
+use Rattle.wm_machine.specs.Items.{Item}
+use Rattle.wm_machine.specs.Sinks.{Taken, and_then}
 use Rattle.wm_decode.specs.exact.Completed.{Completed, Completes, LastMayRunOut, completed_part, completed_taken, last_taken, with_last}
 use Rattle.wm_decode.specs.exact.Completed.Completes.{no_byte, one_byte, one_name}
-use Rattle.wm_decode.specs.exact.Steps.{machine_in_member, step_of}
-use Rattle.wm_decode.specs.exact.MemberSteps.{after_name, member_step}
-use Rattle.wm_decode.specs.declared.refusal.Refusal.{Refusal}
-use Rattle.wm_decode.specs.exact.Live.{IsAt, IsRefused, Live, MayRunOutAtByte, decoder_after, event_effect, live_from, name_taken, refusal_in_machine}
+use Rattle.wm_machine.specs.exact.Steps.{machine_in_member, step_of}
+use Rattle.wm_machine.specs.exact.MemberSteps.{after_name, member_step}
+use Rattle.wm_machine.specs.declared.refusal.Refusal.{Refusal}
+use Rattle.wm_machine.specs.exact.Live.{IsAt, IsRefused, Live, MayRunOutAtByte, decoder_after, event_effect, live_from, name_taken, refusal_in_machine}
 use Rattle.wm_decode.specs.exact.ShortSteps.{StepsTo, after_stepped, part_event}
 use Rattle.wm_decode.specs.exact.Shortcuts.{Advances, live_so, why_refused}
 use Rattle.wm_decode.proofs.Advances.{advances_by, advances_none, advances_on, advances_out, not_both, same_why}
-use Rattle.wm_decode.proofs.Header.{stays}
+use Rattle.wm_machine.proofs.Header.{stays}
 use Rattle.wm_decode.proofs.ShortSteps.{first_step, part_room}
-use Rattle.wm_decode.proofs.Stretches.{goes_on, is_refused, still_live, stops}
+use Rattle.wm_machine.proofs.Stretches.{goes_on, is_refused, still_live, stops}
 use Rattle.wm_decode.proofs.WholeNames.{name_reached}
 
 -- what is answered where nothing is given

@@ -3,25 +3,29 @@ use Rattle.std.proofs.Common.{◌≡◌, ◌≢◌, ℕ, zero, suc, ◌+◌, ◌
 use Rattle.wm_syntax.specs.declared.why.Why.{Why}
 use Rattle.wm_syntax.specs.declared.why.Why.TheVariants as why
 use Rattle.wm_syntax.specs.Spelling.{AreBytes}
-use Rattle.wm_decode.specs.declared.refusal.Refusal.{Refusal}
+use Rattle.wm_machine.specs.declared.refusal.Refusal.{Refusal}
 use Rattle.wm_decode.specs.declared.decoder.state.Decoder.{Decoder}
-use Rattle.wm_decode.specs.declared.machine.Machine.{Machine}
-use Rattle.wm_decode.specs.declared.machine.Machine.TheVariants as machine
-use Rattle.wm_decode.specs.Items.{Item, Marks, items_at}
-use Rattle.wm_decode.specs.Grammar.{Items}
-use Rattle.wm_decode.specs.Sinks.{and_then, all_taken}
-use Rattle.wm_decode.specs.exact.Live.{Live, IsAt, IsRefused, live_or_refused, state_of, decoder_after, live_at_start, Fed, answer_at_end_of, answer_at_end, Finished}
-use Rattle.wm_decode.specs.Decoding.{Setting, Takes, Refused, NeverFloat, EndsInFloat, held_in}
-use Rattle.wm_decode.specs.inner.Decoders.{RanOut, HasDecoded, answer_of, Having, refusal_of_decoder}
-use Rattle.wm_decode.proofs.ByteLists.{bytes-append, front_bytes}
-use Rattle.wm_decode.proofs.MachineAndSink.{Used, reached, used_of, used_refused, settled_ok, settled_not, decoded_append, takes_of_ended, ended_of_takes, given_taken, marks_taken, so_far, never}
-use Rattle.wm_decode.proofs.Fronts.{is_front, name_kept}
-use Rattle.wm_decode.proofs.TakenItems.{is_memory}
-use Rattle.wm_decode.specs.Fronts.{IsFront, SoFar}
-use Rattle.wm_decode.proofs.OneFront.{one_front}
-use Rattle.wm_decode.specs.exact.Runs.{MachineState, state_after, marks, state_at_start}
-use Rattle.wm_decode.proofs.Header.{is_at, late_memory}
-use Rattle.wm_decode.proofs.Floats.{ends_in_float}
+use Rattle.wm_machine.specs.declared.machine.Machine.{Machine}
+use Rattle.wm_machine.specs.declared.machine.Machine.TheVariants as machine
+use Rattle.wm_machine.specs.Items.{Item, Marks, items_at}
+use Rattle.wm_machine.specs.Grammar.{Items}
+use Rattle.wm_machine.specs.Sinks.{and_then, all_taken}
+use Rattle.wm_machine.specs.exact.Live.{Live, IsAt, IsRefused, live_or_refused, decoder_after, live_at_start, Fed, answer_at_end_of, answer_at_end, Finished}
+use Rattle.wm_decode.specs.exact.Standing.{state_of}
+use Rattle.wm_machine.specs.Decoding.{Setting, Takes, Refused, NeverFloat, EndsInFloat}
+use Rattle.wm_decode.specs.SoFar.{held_in}
+use Rattle.wm_decode.specs.inner.Decoders.{RanOut, HasDecoded, Having, refusal_of_decoder}
+use Rattle.wm_machine.specs.inner.Answers.{answer_of}
+use Rattle.wm_machine.proofs.ByteLists.{bytes-append, front_bytes}
+use Rattle.wm_machine.proofs.MachineAndSink.{Used, reached, used_of, used_refused, settled_ok, settled_not, decoded_append, takes_of_ended, ended_of_takes, given_taken, marks_taken, so_far, never}
+use Rattle.wm_machine.proofs.Fronts.{is_front, name_kept}
+use Rattle.wm_machine.proofs.TakenItems.{is_memory}
+use Rattle.wm_machine.specs.Fronts.{IsFront}
+use Rattle.wm_decode.specs.SoFar.{SoFar}
+use Rattle.wm_machine.proofs.OneFront.{one_front}
+use Rattle.wm_machine.specs.exact.Runs.{MachineState, state_after, marks, state_at_start}
+use Rattle.wm_machine.proofs.Header.{is_at, late_memory}
+use Rattle.wm_machine.proofs.Floats.{ends_in_float}
 
 -- why an input is refused at its end
 abbrev AtEnd : Why → Type 0

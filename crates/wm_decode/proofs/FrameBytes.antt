@@ -4,19 +4,19 @@ use Rattle.std.proofs.lemmas.List.{take_rest}
 use Rattle.wm_syntax.specs.declared.profile.Profile.{Profile}
 use Rattle.wm_syntax.specs.declared.profile.Profile.TheVariants.{One}
 use Rattle.wm_syntax.specs.declared.why.Why.{Why}
-use Rattle.wm_decode.specs.declared.machine.Machine.{Machine}
-use Rattle.wm_decode.specs.declared.machine.Machine.TheVariants as machine
-use Rattle.wm_decode.specs.declared.machine.Event.TheVariants as event
-use Rattle.wm_decode.specs.declared.machine.Plain.{Plain}
+use Rattle.wm_machine.specs.declared.machine.Machine.{Machine}
+use Rattle.wm_machine.specs.declared.machine.Machine.TheVariants as machine
+use Rattle.wm_machine.specs.declared.machine.Event.TheVariants as event
+use Rattle.wm_machine.specs.declared.machine.Plain.{Plain}
 use Rattle.wm_decode.specs.declared.shortcuts.Shortcut.{Shortcut}
-use Rattle.wm_decode.specs.Items.{Item}
-use Rattle.wm_decode.specs.Sections.{header}
+use Rattle.wm_machine.specs.Items.{Item}
+use Rattle.wm_machine.specs.Sections.{header}
 use Rattle.wm_decode.specs.exact.Completed.{Completed, Completes, completed_part, with_last}
 use Rattle.wm_decode.specs.exact.Completed.Completes.{no_byte, one_byte, one_name}
-use Rattle.wm_decode.specs.exact.Live.{IsAt, refusal_in_machine}
+use Rattle.wm_machine.specs.exact.Live.{IsAt, refusal_in_machine}
 use Rattle.wm_decode.specs.exact.Frames.{IsFrameStep, LeadsTo}
 use Rattle.wm_decode.specs.exact.ShortSteps.{part_event}
-use Rattle.wm_decode.specs.exact.Steps.{header_step, step_of}
+use Rattle.wm_machine.specs.exact.Steps.{header_step, step_of}
 use Rattle.wm_decode.specs.exact.Shortcuts.{Advances}
 use Rattle.wm_decode.proofs.Advances.{advances_none}
 use Rattle.wm_decode.proofs.Completed.{alone, ok, starts_live, still_there}

@@ -3,18 +3,18 @@ use Rattle.std.proofs.Common.{◌≡◌, ℕ, zero, suc, ◌+◌, ◌-◌, ◌^�
 use Rattle.wm_syntax.specs.declared.profile.Profile.{Profile}
 use Rattle.wm_syntax.specs.declared.types.ValType.{ValType}
 use Rattle.wm_syntax.specs.exact.Reading.{fresh}
-use Rattle.wm_decode.specs.declared.machine.Machine.TheVariants as machine
-use Rattle.wm_decode.specs.declared.machine.Event.{Event}
-use Rattle.wm_decode.specs.declared.machine.Event.TheVariants as event
-use Rattle.wm_decode.specs.declared.machine.Plain.TheVariants as plain
-use Rattle.wm_decode.specs.declared.machine.member.SectionKind.TheVariants as section_kind
-use Rattle.wm_decode.specs.declared.machine.member.InMember.TheVariants as at
+use Rattle.wm_machine.specs.declared.machine.Machine.TheVariants as machine
+use Rattle.wm_machine.specs.declared.machine.Event.{Event}
+use Rattle.wm_machine.specs.declared.machine.Event.TheVariants as event
+use Rattle.wm_machine.specs.declared.machine.Plain.TheVariants as plain
+use Rattle.wm_machine.specs.declared.machine.member.SectionKind.TheVariants as section_kind
+use Rattle.wm_machine.specs.declared.machine.member.InMember.TheVariants as at
 use Rattle.wm_decode.specs.declared.shortcuts.function_types.InParams.{InParams}
 use Rattle.wm_decode.specs.declared.shortcuts.in_section.InSection.{InSection}
 use Rattle.wm_decode.specs.declared.shortcuts.short_steps.Stepped.{Stepped}
-use Rattle.wm_decode.specs.exact.Steps.{machine_in_member}
-use Rattle.wm_decode.specs.exact.MemberSteps.{after_param, after_result, member_step, on_number, on_type, with_item_given}
-use Rattle.wm_decode.specs.exact.ValueSteps.{value_type_of}
+use Rattle.wm_machine.specs.exact.Steps.{machine_in_member}
+use Rattle.wm_machine.specs.exact.MemberSteps.{after_param, after_result, member_step, on_number, on_type, with_item_given}
+use Rattle.wm_machine.specs.exact.ValueSteps.{value_type_of}
 use Rattle.wm_decode.specs.exact.ShortSteps.{StepsTo}
 use Rattle.wm_decode.specs.exact.TypeStarts.{before_results, in_params, params_after}
 use Rattle.wm_decode.specs.exact.Completed.{Completes}

@@ -6,30 +6,30 @@ use Rattle.wm_syntax.specs.exact.Reading.{fresh, unsigned_push}
 use Rattle.wm_syntax.specs.declared.numbers.Step.{Step}
 use Rattle.wm_syntax.specs.inner.Numbers.{Partial}
 use Rattle.wm_decode.specs.exact.WholeOps.{LiesAt}
-use Rattle.wm_decode.specs.declared.machine.Machine.{Machine}
-use Rattle.wm_decode.specs.declared.machine.Machine.TheVariants as machine
-use Rattle.wm_decode.specs.declared.machine.Event.{Event}
-use Rattle.wm_decode.specs.declared.machine.Event.TheVariants as event
-use Rattle.wm_decode.specs.declared.machine.Plain.TheVariants as plain
-use Rattle.wm_decode.specs.declared.machine.member.SectionKind.TheVariants as section_kind
-use Rattle.wm_decode.specs.declared.machine.member.InMember.TheVariants as at
-use Rattle.wm_decode.specs.declared.machine.member.InEntry.{InEntry}
-use Rattle.wm_decode.specs.declared.machine.member.InEntry.TheVariants as entry
-use Rattle.wm_decode.specs.declared.step.reading.Reading.{Reading}
-use Rattle.wm_decode.specs.declared.step.values.InRun.{InRun}
-use Rattle.wm_decode.specs.declared.step.values.InRun.TheVariants as run
+use Rattle.wm_machine.specs.declared.machine.Machine.{Machine}
+use Rattle.wm_machine.specs.declared.machine.Machine.TheVariants as machine
+use Rattle.wm_machine.specs.declared.machine.Event.{Event}
+use Rattle.wm_machine.specs.declared.machine.Event.TheVariants as event
+use Rattle.wm_machine.specs.declared.machine.Plain.TheVariants as plain
+use Rattle.wm_machine.specs.declared.machine.member.SectionKind.TheVariants as section_kind
+use Rattle.wm_machine.specs.declared.machine.member.InMember.TheVariants as at
+use Rattle.wm_machine.specs.declared.machine.member.InEntry.{InEntry}
+use Rattle.wm_machine.specs.declared.machine.member.InEntry.TheVariants as entry
+use Rattle.wm_machine.specs.declared.step.reading.Reading.{Reading}
+use Rattle.wm_machine.specs.declared.step.values.InRun.{InRun}
+use Rattle.wm_machine.specs.declared.step.values.InRun.TheVariants as run
 use Rattle.wm_decode.specs.declared.shortcuts.heads.InHead.{InHead}
 use Rattle.wm_decode.specs.declared.shortcuts.in_section.InSection.{InSection}
 use Rattle.wm_decode.specs.declared.shortcuts.short_steps.Stepped.{Stepped}
-use Rattle.wm_decode.specs.exact.MemberSteps.{member_in_entry, on_number, on_value, runs_or_body, with_item_given}
-use Rattle.wm_decode.specs.exact.ValueSteps.{read_number, read_type, value_type_of}
+use Rattle.wm_machine.specs.exact.MemberSteps.{member_in_entry, on_number, on_value, runs_or_body, with_item_given}
+use Rattle.wm_machine.specs.exact.ValueSteps.{read_number, read_type, value_type_of}
 use Rattle.wm_decode.specs.exact.ShortSteps.{StepsTo}
 use Rattle.wm_decode.specs.exact.Heads.{IsShort, head_after, in_head}
 use Rattle.wm_decode.specs.exact.Completed.{Completes}
 use Rattle.wm_decode.specs.exact.Completed.Completed.{part}
 use Rattle.wm_decode.specs.exact.Completed.Completes.{no_byte}
 use Rattle.wm_decode.specs.exact.WholeMembers.{before_member}
-use Rattle.wm_decode.specs.declared.step.reading.Reading.TheVariants.{More, Done}
+use Rattle.wm_machine.specs.declared.step.reading.Reading.TheVariants.{More, Done}
 use Rattle.wm_decode.proofs.Completed.{byte_on}
 use Rattle.wm_decode.proofs.NumberSteps.{framed, number_whole}
 use Rattle.wm_decode.proofs.WholeNumbers.{u32_one, u32_short, u32_two}

@@ -7,8 +7,8 @@ use Rattle.wm_syntax.specs.declared.profile.Profile.{Profile}
 use Rattle.wm_syntax.specs.declared.why.Why.{Why}
 use Rattle.wm_decode.specs.declared.shortcuts.Shortcut.{Shortcut}
 use Rattle.wm_decode.specs.declared.shortcuts.indices.InIndices.{InIndices}
-use Rattle.wm_decode.specs.Items.{Item}
-use Rattle.wm_decode.specs.Sinks.{all_taken}
+use Rattle.wm_machine.specs.Items.{Item}
+use Rattle.wm_machine.specs.Sinks.{all_taken}
 use Rattle.wm_decode.specs.exact.Completed.{Completed, Completes, with_last}
 use Rattle.wm_decode.specs.exact.Completed.Completed.{part}
 use Rattle.wm_decode.specs.exact.Completed.Completes.{no_byte}
@@ -17,7 +17,7 @@ use Rattle.wm_decode.specs.exact.Shortcuts.{Advances}
 use Rattle.wm_decode.proofs.Completed.{Gave, alone, gave_last, ok}
 use Rattle.wm_decode.proofs.Completed.Gave.{also, nothing}
 use Rattle.wm_decode.proofs.IndexNumbers.{index_completes, indices_start}
-use Rattle.wm_decode.proofs.TakenItems.{last_number}
+use Rattle.wm_machine.proofs.TakenItems.{last_number}
 use Rattle.wm_decode.proofs.WholeNumbers.{u32_short}
 
 -- a byte that is a whole index

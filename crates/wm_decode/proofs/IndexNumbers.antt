@@ -6,29 +6,29 @@ use Rattle.wm_syntax.specs.inner.Numbers.{Partial}
 use Rattle.wm_syntax.specs.declared.why.Why.TheVariants as why
 use Rattle.wm_syntax.specs.declared.instructions.Op.TheVariants as op
 use Rattle.wm_syntax.specs.exact.Reading.{fresh, unsigned_push}
-use Rattle.wm_decode.specs.declared.machine.Machine.{Machine}
-use Rattle.wm_decode.specs.declared.machine.Machine.TheVariants as machine
-use Rattle.wm_decode.specs.declared.machine.Event.TheVariants as event
-use Rattle.wm_decode.specs.declared.machine.Plain.TheVariants as plain
-use Rattle.wm_decode.specs.declared.machine.member.SectionKind.{SectionKind}
-use Rattle.wm_decode.specs.declared.machine.member.SectionKind.TheVariants as section_kind
-use Rattle.wm_decode.specs.declared.machine.member.InMember.{InMember}
-use Rattle.wm_decode.specs.declared.machine.member.InMember.TheVariants as at
-use Rattle.wm_decode.specs.declared.machine.member.IndexOf.TheVariants as index_of
-use Rattle.wm_decode.specs.declared.machine.member.InEntry.TheVariants as entry
-use Rattle.wm_decode.specs.declared.step.expressions.InExpression.TheVariants as expression
+use Rattle.wm_machine.specs.declared.machine.Machine.{Machine}
+use Rattle.wm_machine.specs.declared.machine.Machine.TheVariants as machine
+use Rattle.wm_machine.specs.declared.machine.Event.TheVariants as event
+use Rattle.wm_machine.specs.declared.machine.Plain.TheVariants as plain
+use Rattle.wm_machine.specs.declared.machine.member.SectionKind.{SectionKind}
+use Rattle.wm_machine.specs.declared.machine.member.SectionKind.TheVariants as section_kind
+use Rattle.wm_machine.specs.declared.machine.member.InMember.{InMember}
+use Rattle.wm_machine.specs.declared.machine.member.InMember.TheVariants as at
+use Rattle.wm_machine.specs.declared.machine.member.IndexOf.TheVariants as index_of
+use Rattle.wm_machine.specs.declared.machine.member.InEntry.TheVariants as entry
+use Rattle.wm_machine.specs.declared.step.expressions.InExpression.TheVariants as expression
 use Rattle.wm_decode.specs.declared.shortcuts.short_steps.Stepped.{Stepped}
 use Rattle.wm_decode.specs.declared.shortcuts.indices.IndexList.{IndexList}
 use Rattle.wm_decode.specs.declared.shortcuts.indices.IndexList.TheVariants as list
 use Rattle.wm_decode.specs.declared.shortcuts.indices.InIndices.{InIndices}
-use Rattle.wm_decode.specs.exact.OpSteps.{on_answer}
-use Rattle.wm_decode.specs.exact.ExpressionSteps.{after_label, expression_failed}
-use Rattle.wm_decode.specs.exact.MemberSteps.{member_step, on_number, after_index, index_item, with_item_given, member_in_entry, entry_after_op, op_event}
+use Rattle.wm_machine.specs.exact.OpSteps.{on_answer}
+use Rattle.wm_machine.specs.exact.ExpressionSteps.{after_label, expression_failed}
+use Rattle.wm_machine.specs.exact.MemberSteps.{member_step, on_number, after_index, index_item, with_item_given, member_in_entry, entry_after_op, op_event}
 use Rattle.wm_decode.specs.exact.ShortSteps.{StepsTo}
 use Rattle.wm_decode.specs.exact.Completed.{Completed, Completes, with_last}
 use Rattle.wm_decode.specs.exact.Completed.Completed.{part}
 use Rattle.wm_decode.specs.exact.Completed.Completes.{no_byte}
-use Rattle.wm_decode.specs.exact.Steps.{machine_in_member}
+use Rattle.wm_machine.specs.exact.Steps.{machine_in_member}
 use Rattle.wm_decode.specs.exact.Indices.{LiesIn, after_last, at_index, before_index, followed_in, index_part, indices_ended, indices_past, list_past, members_after, room_in}
 use Rattle.wm_decode.specs.exact.WholeOps.{LiesAt}
 use Rattle.wm_decode.proofs.NumberSteps.{NumberGoesOn, framed, number_whole}

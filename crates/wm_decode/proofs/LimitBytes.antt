@@ -3,25 +3,25 @@ use Rattle.std.proofs.Common.{◌≡◌, ℕ, ◌+◌, ◌-◌, ◌<◌, ◌≤�
 use Rattle.wm_syntax.specs.declared.profile.Profile.{Profile}
 use Rattle.wm_syntax.specs.declared.types.Limits.{Limits}
 use Rattle.wm_syntax.specs.exact.Reading.{fresh}
-use Rattle.wm_decode.specs.declared.machine.Machine.{Machine}
-use Rattle.wm_decode.specs.declared.machine.Machine.TheVariants as machine
-use Rattle.wm_decode.specs.declared.machine.Event.{Event}
-use Rattle.wm_decode.specs.declared.machine.member.SectionKind.{SectionKind}
-use Rattle.wm_decode.specs.declared.machine.member.SectionKind.TheVariants as section_kind
-use Rattle.wm_decode.specs.declared.machine.member.InMember.{InMember}
-use Rattle.wm_decode.specs.declared.machine.member.InMember.TheVariants as at
-use Rattle.wm_decode.specs.declared.step.reading.Reading.{Reading}
-use Rattle.wm_decode.specs.declared.step.reading.Reading.TheVariants.{More, Done}
-use Rattle.wm_decode.specs.declared.step.values.InLimits.{InLimits}
-use Rattle.wm_decode.specs.declared.step.values.InLimits.TheVariants as limits
-use Rattle.wm_decode.specs.declared.step.values.InTableType.TheVariants as table
-use Rattle.wm_decode.specs.declared.step.values.InValue.TheVariants as value
+use Rattle.wm_machine.specs.declared.machine.Machine.{Machine}
+use Rattle.wm_machine.specs.declared.machine.Machine.TheVariants as machine
+use Rattle.wm_machine.specs.declared.machine.Event.{Event}
+use Rattle.wm_machine.specs.declared.machine.member.SectionKind.{SectionKind}
+use Rattle.wm_machine.specs.declared.machine.member.SectionKind.TheVariants as section_kind
+use Rattle.wm_machine.specs.declared.machine.member.InMember.{InMember}
+use Rattle.wm_machine.specs.declared.machine.member.InMember.TheVariants as at
+use Rattle.wm_machine.specs.declared.step.reading.Reading.{Reading}
+use Rattle.wm_machine.specs.declared.step.reading.Reading.TheVariants.{More, Done}
+use Rattle.wm_machine.specs.declared.step.values.InLimits.{InLimits}
+use Rattle.wm_machine.specs.declared.step.values.InLimits.TheVariants as limits
+use Rattle.wm_machine.specs.declared.step.values.InTableType.TheVariants as table
+use Rattle.wm_machine.specs.declared.step.values.InValue.TheVariants as value
 use Rattle.wm_decode.specs.declared.shortcuts.in_section.InSection.{InSection}
 use Rattle.wm_decode.specs.declared.shortcuts.limited.Limited.{Limited}
 use Rattle.wm_decode.specs.declared.shortcuts.limited.Limited.TheVariants as limited
-use Rattle.wm_decode.specs.exact.Steps.{machine_in_member}
-use Rattle.wm_decode.specs.exact.MemberSteps.{member_step, on_value, with_item_given}
-use Rattle.wm_decode.specs.exact.ValueSteps.{after_min, flag_step, limits_push, map_reading, of_memory, of_table, read_number}
+use Rattle.wm_machine.specs.exact.Steps.{machine_in_member}
+use Rattle.wm_machine.specs.exact.MemberSteps.{member_step, on_value, with_item_given}
+use Rattle.wm_machine.specs.exact.ValueSteps.{after_min, flag_step, limits_push, map_reading, of_memory, of_table, read_number}
 use Rattle.wm_decode.specs.exact.Limited.{LimitsBegin, LimitsLie, in_limits, limited_item, limited_section}
 use Rattle.wm_decode.specs.exact.ShortSteps.{StepsTo, part_event}
 use Rattle.wm_decode.specs.exact.Completed.{Completes}

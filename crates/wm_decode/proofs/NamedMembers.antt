@@ -4,23 +4,23 @@ use Rattle.wm_syntax.specs.declared.profile.Profile.{Profile}
 use Rattle.wm_syntax.specs.declared.modules.ImportDesc.TheVariants as desc
 use Rattle.wm_syntax.specs.declared.modules.ExportKind.{ExportKind}
 use Rattle.wm_syntax.specs.exact.Reading.{fresh, unsigned_push}
-use Rattle.wm_decode.specs.declared.machine.Machine.{Machine}
-use Rattle.wm_decode.specs.declared.machine.Machine.TheVariants as machine
-use Rattle.wm_decode.specs.declared.machine.NameKind.TheVariants as name
-use Rattle.wm_decode.specs.declared.machine.Plain.TheVariants as plain
-use Rattle.wm_decode.specs.declared.machine.member.SectionKind.TheVariants as section_kind
-use Rattle.wm_decode.specs.declared.machine.member.InMember.TheVariants as at
-use Rattle.wm_decode.specs.declared.step.reading.Reading.TheVariants.{Done}
-use Rattle.wm_decode.specs.declared.step.values.InValue.TheVariants as value
-use Rattle.wm_decode.specs.declared.step.values.InImportDesc.TheVariants as import
-use Rattle.wm_decode.specs.declared.step.values.InExportDesc.TheVariants as target
+use Rattle.wm_machine.specs.declared.machine.Machine.{Machine}
+use Rattle.wm_machine.specs.declared.machine.Machine.TheVariants as machine
+use Rattle.wm_machine.specs.declared.machine.NameKind.TheVariants as name
+use Rattle.wm_machine.specs.declared.machine.Plain.TheVariants as plain
+use Rattle.wm_machine.specs.declared.machine.member.SectionKind.TheVariants as section_kind
+use Rattle.wm_machine.specs.declared.machine.member.InMember.TheVariants as at
+use Rattle.wm_machine.specs.declared.step.reading.Reading.TheVariants.{Done}
+use Rattle.wm_machine.specs.declared.step.values.InValue.TheVariants as value
+use Rattle.wm_machine.specs.declared.step.values.InImportDesc.TheVariants as import
+use Rattle.wm_machine.specs.declared.step.values.InExportDesc.TheVariants as target
 use Rattle.wm_decode.specs.declared.shortcuts.in_section.InSection.{InSection}
-use Rattle.wm_decode.specs.exact.Steps.{machine_in_member}
-use Rattle.wm_decode.specs.exact.MemberSteps.{on_value, with_item_given}
-use Rattle.wm_decode.specs.exact.ValueSteps.{desc_kind_step, of_export, of_import, read_number}
+use Rattle.wm_machine.specs.exact.Steps.{machine_in_member}
+use Rattle.wm_machine.specs.exact.MemberSteps.{on_value, with_item_given}
+use Rattle.wm_machine.specs.exact.ValueSteps.{desc_kind_step, of_export, of_import, read_number}
 use Rattle.wm_decode.specs.exact.ShortSteps.{StepsTo}
-use Rattle.wm_decode.specs.exact.Members.{member_at_start}
-use Rattle.wm_decode.specs.declared.machine.member.SectionKind.{SectionKind}
+use Rattle.wm_machine.specs.exact.Members.{member_at_start}
+use Rattle.wm_machine.specs.declared.machine.member.SectionKind.{SectionKind}
 use Rattle.wm_decode.specs.exact.Completed.{Completes}
 use Rattle.wm_decode.specs.exact.Completed.Completed.{part, named}
 use Rattle.wm_decode.specs.exact.Completed.Completes.{no_byte, one_name}

@@ -8,22 +8,23 @@ use Rattle.wm_syntax.specs.exact.Reading.{unsigned_push}
 use Rattle.wm_syntax.specs.declared.profile.Profile.{Profile}
 use Rattle.wm_syntax.specs.declared.why.Why.{Why}
 use Rattle.wm_syntax.specs.declared.why.Why.TheVariants as why
-use Rattle.wm_decode.specs.declared.machine.Event.{Event}
-use Rattle.wm_decode.specs.declared.machine.InCustom.{InCustom}
-use Rattle.wm_decode.specs.declared.machine.InCustom.TheVariants as custom
-use Rattle.wm_decode.specs.declared.machine.Machine.{Machine}
-use Rattle.wm_decode.specs.declared.machine.Machine.TheVariants as machine
-use Rattle.wm_decode.specs.declared.refusal.Refusal.{Refusal}
+use Rattle.wm_machine.specs.declared.machine.Event.{Event}
+use Rattle.wm_machine.specs.declared.machine.InCustom.{InCustom}
+use Rattle.wm_machine.specs.declared.machine.InCustom.TheVariants as custom
+use Rattle.wm_machine.specs.declared.machine.Machine.{Machine}
+use Rattle.wm_machine.specs.declared.machine.Machine.TheVariants as machine
+use Rattle.wm_machine.specs.declared.refusal.Refusal.{Refusal}
 use Rattle.wm_decode.specs.declared.decoder.state.Decoder.{Decoder}
-use Rattle.wm_decode.specs.declared.machine.member.InMember.TheVariants as at
-use Rattle.wm_decode.specs.exact.MemberSteps.{on_number}
+use Rattle.wm_machine.specs.declared.machine.member.InMember.TheVariants as at
+use Rattle.wm_machine.specs.exact.MemberSteps.{on_number}
 use Rattle.wm_decode.specs.inner.Decoders.{refusal_of_decoder}
-use Rattle.wm_decode.specs.exact.Live.{IsRefused, MayRunOutAtByte, MayTake, live_with, live_or_refused}
-use Rattle.wm_decode.specs.Items.{Item}
-use Rattle.wm_decode.specs.Sections.{header}
-use Rattle.wm_decode.specs.exact.Steps.{custom_after_length, custom_step, header_step, custom_name_step, step_of}
-use Rattle.wm_decode.proofs.MemberFloats.{component_memory}
-use Rattle.wm_decode.proofs.AfterTheHeader.{IsLive, IsHeader, step_out}
+use Rattle.wm_machine.specs.exact.Live.{IsRefused, MayRunOutAtByte, MayTake, live_or_refused}
+use Rattle.wm_decode.specs.exact.Standing.{live_with}
+use Rattle.wm_machine.specs.Items.{Item}
+use Rattle.wm_machine.specs.Sections.{header}
+use Rattle.wm_machine.specs.exact.Steps.{custom_after_length, custom_step, header_step, custom_name_step, step_of}
+use Rattle.wm_machine.proofs.MemberFloats.{component_memory}
+use Rattle.wm_machine.proofs.AfterTheHeader.{IsLive, IsHeader, step_out}
 
 abbrev Never : Machine → Type 0
 Never m = m ≡ machine.Refused why.Memory → ⊥

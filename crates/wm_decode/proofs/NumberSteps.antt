@@ -6,17 +6,17 @@ use Rattle.wm_syntax.specs.declared.numbers.Step.TheVariants as step
 use Rattle.wm_syntax.specs.inner.Numbers.{Partial}
 use Rattle.wm_syntax.specs.exact.Reading.{fresh, unsigned_push}
 use Rattle.wm_syntax.specs.declared.profile.Profile.{Profile}
-use Rattle.wm_decode.specs.declared.machine.Machine.{Machine}
-use Rattle.wm_decode.specs.declared.machine.Machine.TheVariants as machine
-use Rattle.wm_decode.specs.declared.machine.Event.{Event}
-use Rattle.wm_decode.specs.declared.machine.Plain.{Plain}
-use Rattle.wm_decode.specs.declared.machine.member.SectionKind.{SectionKind}
-use Rattle.wm_decode.specs.declared.machine.member.InMember.{InMember}
+use Rattle.wm_machine.specs.declared.machine.Machine.{Machine}
+use Rattle.wm_machine.specs.declared.machine.Machine.TheVariants as machine
+use Rattle.wm_machine.specs.declared.machine.Event.{Event}
+use Rattle.wm_machine.specs.declared.machine.Plain.{Plain}
+use Rattle.wm_machine.specs.declared.machine.member.SectionKind.{SectionKind}
+use Rattle.wm_machine.specs.declared.machine.member.InMember.{InMember}
 use Rattle.wm_decode.specs.declared.shortcuts.short_steps.Stepped.{Stepped}
 use Rattle.wm_decode.specs.exact.Completed.{Completed, Completes, completed_part, with_last}
 use Rattle.wm_decode.specs.exact.Completed.Completes.{one_byte}
-use Rattle.wm_decode.specs.exact.Steps.{machine_in_member, step_of}
-use Rattle.wm_decode.specs.exact.MemberSteps.{member_step}
+use Rattle.wm_machine.specs.exact.Steps.{machine_in_member, step_of}
+use Rattle.wm_machine.specs.exact.MemberSteps.{member_step}
 use Rattle.wm_decode.specs.exact.ShortSteps.{StepsTo, after_stepped, part_event}
 use Rattle.wm_decode.specs.exact.WholeOps.{IsNumber, LiesAt, NumberGoes}
 use Rattle.wm_decode.proofs.Completed.{byte_on}

@@ -4,22 +4,22 @@ use Rattle.wm_syntax.specs.declared.profile.Profile.{Profile}
 use Rattle.wm_syntax.specs.declared.instructions.Op.{Op}
 use Rattle.wm_syntax.specs.declared.instructions.Op.TheVariants as op
 use Rattle.wm_syntax.specs.exact.Reading.{fresh, unsigned_push}
-use Rattle.wm_decode.specs.declared.machine.Machine.{Machine}
-use Rattle.wm_decode.specs.declared.machine.Machine.TheVariants as machine
-use Rattle.wm_decode.specs.declared.machine.Event.TheVariants as event
-use Rattle.wm_decode.specs.declared.machine.Plain.TheVariants as plain
-use Rattle.wm_decode.specs.declared.machine.member.SectionKind.{SectionKind}
-use Rattle.wm_decode.specs.declared.machine.member.IndexOf.{IndexOf}
-use Rattle.wm_decode.specs.declared.machine.member.ConstantOf.{ConstantOf}
-use Rattle.wm_decode.specs.declared.machine.member.LengthOf.{LengthOf}
-use Rattle.wm_decode.specs.declared.machine.member.InMember.TheVariants as at
+use Rattle.wm_machine.specs.declared.machine.Machine.{Machine}
+use Rattle.wm_machine.specs.declared.machine.Machine.TheVariants as machine
+use Rattle.wm_machine.specs.declared.machine.Event.TheVariants as event
+use Rattle.wm_machine.specs.declared.machine.Plain.TheVariants as plain
+use Rattle.wm_machine.specs.declared.machine.member.SectionKind.{SectionKind}
+use Rattle.wm_machine.specs.declared.machine.member.IndexOf.{IndexOf}
+use Rattle.wm_machine.specs.declared.machine.member.ConstantOf.{ConstantOf}
+use Rattle.wm_machine.specs.declared.machine.member.LengthOf.{LengthOf}
+use Rattle.wm_machine.specs.declared.machine.member.InMember.TheVariants as at
 use Rattle.wm_decode.specs.declared.shortcuts.in_section.InSection.{InSection}
 use Rattle.wm_decode.specs.declared.shortcuts.segments.Segments.{Segments}
 use Rattle.wm_decode.specs.declared.shortcuts.segments.Segments.TheVariants as segments
-use Rattle.wm_decode.specs.exact.Steps.{machine_in_member}
-use Rattle.wm_decode.specs.exact.ExpressionSteps.{at_next_op}
-use Rattle.wm_decode.specs.exact.Members.{member_at_start}
-use Rattle.wm_decode.specs.exact.MemberSteps.{after_index, constant_over, index_item, list_or_over, on_number, with_item_given}
+use Rattle.wm_machine.specs.exact.Steps.{machine_in_member}
+use Rattle.wm_machine.specs.exact.ExpressionSteps.{at_next_op}
+use Rattle.wm_machine.specs.exact.Members.{member_at_start}
+use Rattle.wm_machine.specs.exact.MemberSteps.{after_index, constant_over, index_item, list_or_over, on_number, with_item_given}
 use Rattle.wm_decode.specs.exact.Segments.{index_of, offset_of, section_of, size_of}
 use Rattle.wm_decode.specs.exact.ShortSteps.{StepsTo}
 use Rattle.wm_decode.specs.exact.Completed.{Completed, Completes}

@@ -8,29 +8,29 @@ use Rattle.wm_syntax.specs.declared.why.Why.TheVariants as why
 use Rattle.wm_syntax.specs.declared.instructions.Op.TheVariants as op
 use Rattle.wm_syntax.specs.exact.Reading.{fresh}
 use Rattle.wm_syntax.specs.inner.Numbers.{Partial}
-use Rattle.wm_decode.specs.declared.machine.Machine.{Machine}
-use Rattle.wm_decode.specs.declared.machine.Machine.TheVariants as machine
-use Rattle.wm_decode.specs.declared.machine.Event.{Event}
-use Rattle.wm_decode.specs.declared.machine.Event.TheVariants as event
-use Rattle.wm_decode.specs.declared.machine.Plain.{Plain}
-use Rattle.wm_decode.specs.declared.machine.Plain.TheVariants as plain
-use Rattle.wm_decode.specs.declared.machine.member.SectionKind.{SectionKind}
-use Rattle.wm_decode.specs.declared.machine.member.SectionKind.TheVariants as section_kind
-use Rattle.wm_decode.specs.declared.machine.member.InMember.{InMember}
-use Rattle.wm_decode.specs.declared.machine.member.InMember.TheVariants as at
-use Rattle.wm_decode.specs.declared.machine.member.InEntry.TheVariants as entry
-use Rattle.wm_decode.specs.declared.step.expressions.InExpression.TheVariants as expression
-use Rattle.wm_decode.specs.declared.step.ops.InOp.{InOp}
-use Rattle.wm_decode.specs.declared.step.ops.InOp.TheVariants as in_op
+use Rattle.wm_machine.specs.declared.machine.Machine.{Machine}
+use Rattle.wm_machine.specs.declared.machine.Machine.TheVariants as machine
+use Rattle.wm_machine.specs.declared.machine.Event.{Event}
+use Rattle.wm_machine.specs.declared.machine.Event.TheVariants as event
+use Rattle.wm_machine.specs.declared.machine.Plain.{Plain}
+use Rattle.wm_machine.specs.declared.machine.Plain.TheVariants as plain
+use Rattle.wm_machine.specs.declared.machine.member.SectionKind.{SectionKind}
+use Rattle.wm_machine.specs.declared.machine.member.SectionKind.TheVariants as section_kind
+use Rattle.wm_machine.specs.declared.machine.member.InMember.{InMember}
+use Rattle.wm_machine.specs.declared.machine.member.InMember.TheVariants as at
+use Rattle.wm_machine.specs.declared.machine.member.InEntry.TheVariants as entry
+use Rattle.wm_machine.specs.declared.step.expressions.InExpression.TheVariants as expression
+use Rattle.wm_machine.specs.declared.step.ops.InOp.{InOp}
+use Rattle.wm_machine.specs.declared.step.ops.InOp.TheVariants as in_op
 use Rattle.wm_decode.specs.declared.shortcuts.short_steps.Stepped.{Stepped}
-use Rattle.wm_decode.specs.Items.{Item}
-use Rattle.wm_decode.specs.Sinks.{and_then}
-use Rattle.wm_decode.specs.exact.Steps.{step_of, machine_in_member}
-use Rattle.wm_decode.specs.exact.MemberSteps.{member_in_entry, entry_after_op, op_event}
-use Rattle.wm_decode.specs.exact.ExpressionSteps.{after_reading}
+use Rattle.wm_machine.specs.Items.{Item}
+use Rattle.wm_machine.specs.Sinks.{and_then}
+use Rattle.wm_machine.specs.exact.Steps.{step_of, machine_in_member}
+use Rattle.wm_machine.specs.exact.MemberSteps.{member_in_entry, entry_after_op, op_event}
+use Rattle.wm_machine.specs.exact.ExpressionSteps.{after_reading}
 use Rattle.wm_decode.specs.exact.ShortSteps.{StepsTo, part_event}
 use Rattle.wm_decode.specs.exact.Completed.{LastMayRunOut, completed_part}
-use Rattle.wm_decode.specs.exact.Live.{MayRunOutAtByte, MayRunOutAtEvent, live_from, event_effect, decoder_after}
+use Rattle.wm_machine.specs.exact.Live.{MayRunOutAtByte, MayRunOutAtEvent, live_from, event_effect, decoder_after}
 use Rattle.wm_decode.specs.exact.Shortcuts.{live_so}
 use Rattle.wm_decode.proofs.OpLists.{is_alone}
 

@@ -5,24 +5,24 @@ use Rattle.wm_syntax.specs.declared.types.ValType.{ValType}
 use Rattle.wm_syntax.specs.declared.types.GlobalType.{GlobalType}
 use Rattle.wm_syntax.specs.declared.instructions.Op.{Op}
 use Rattle.wm_syntax.specs.declared.instructions.Op.TheVariants as op
-use Rattle.wm_decode.specs.declared.machine.Machine.{Machine}
-use Rattle.wm_decode.specs.declared.machine.Machine.TheVariants as machine
-use Rattle.wm_decode.specs.declared.machine.Event.TheVariants as event
-use Rattle.wm_decode.specs.declared.machine.Plain.TheVariants as plain
-use Rattle.wm_decode.specs.declared.machine.member.SectionKind.{SectionKind}
-use Rattle.wm_decode.specs.declared.machine.member.SectionKind.TheVariants as section_kind
-use Rattle.wm_decode.specs.declared.machine.member.ConstantOf.{ConstantOf}
-use Rattle.wm_decode.specs.declared.machine.member.ConstantOf.TheVariants as constant
-use Rattle.wm_decode.specs.declared.machine.member.InMember.TheVariants as at
-use Rattle.wm_decode.specs.declared.step.reading.Reading.TheVariants.{More, Done}
-use Rattle.wm_decode.specs.declared.step.values.InGlobalType.TheVariants as global_type
-use Rattle.wm_decode.specs.declared.step.ops.InOp.TheVariants.{First}
-use Rattle.wm_decode.specs.declared.step.expressions.InExpression.TheVariants as expression
+use Rattle.wm_machine.specs.declared.machine.Machine.{Machine}
+use Rattle.wm_machine.specs.declared.machine.Machine.TheVariants as machine
+use Rattle.wm_machine.specs.declared.machine.Event.TheVariants as event
+use Rattle.wm_machine.specs.declared.machine.Plain.TheVariants as plain
+use Rattle.wm_machine.specs.declared.machine.member.SectionKind.{SectionKind}
+use Rattle.wm_machine.specs.declared.machine.member.SectionKind.TheVariants as section_kind
+use Rattle.wm_machine.specs.declared.machine.member.ConstantOf.{ConstantOf}
+use Rattle.wm_machine.specs.declared.machine.member.ConstantOf.TheVariants as constant
+use Rattle.wm_machine.specs.declared.machine.member.InMember.TheVariants as at
+use Rattle.wm_machine.specs.declared.step.reading.Reading.TheVariants.{More, Done}
+use Rattle.wm_machine.specs.declared.step.values.InGlobalType.TheVariants as global_type
+use Rattle.wm_machine.specs.declared.step.ops.InOp.TheVariants.{First}
+use Rattle.wm_machine.specs.declared.step.expressions.InExpression.TheVariants as expression
 use Rattle.wm_decode.specs.declared.shortcuts.in_section.InSection.{InSection}
-use Rattle.wm_decode.specs.exact.Steps.{machine_in_member}
-use Rattle.wm_decode.specs.exact.ExpressionSteps.{after_reading, at_next_op}
-use Rattle.wm_decode.specs.exact.MemberSteps.{after_constant, constant_over, member_step, on_value, op_event, with_item_given}
-use Rattle.wm_decode.specs.exact.ValueSteps.{read_type, value_type_of, var_step}
+use Rattle.wm_machine.specs.exact.Steps.{machine_in_member}
+use Rattle.wm_machine.specs.exact.ExpressionSteps.{after_reading, at_next_op}
+use Rattle.wm_machine.specs.exact.MemberSteps.{after_constant, constant_over, member_step, on_value, op_event, with_item_given}
+use Rattle.wm_machine.specs.exact.ValueSteps.{read_type, value_type_of, var_step}
 use Rattle.wm_decode.specs.exact.ShortSteps.{StepsTo}
 use Rattle.wm_decode.specs.exact.Completed.{Completed, Completes, with_last}
 use Rattle.wm_decode.specs.exact.Completed.Completed.{part}

@@ -4,22 +4,22 @@ use Rattle.std.proofs.lemmas.List.{drop-drop, take_more}
 use Rattle.wm_syntax.specs.declared.profile.Profile.{Profile}
 use Rattle.wm_syntax.specs.declared.why.Why.{Why}
 use Rattle.wm_syntax.specs.exact.Reading.{fresh}
-use Rattle.wm_decode.specs.declared.machine.Machine.{Machine}
-use Rattle.wm_decode.specs.declared.machine.Machine.TheVariants as machine
-use Rattle.wm_decode.specs.declared.machine.Event.{Event}
-use Rattle.wm_decode.specs.declared.machine.Event.TheVariants as event
-use Rattle.wm_decode.specs.declared.machine.NameKind.{NameKind}
-use Rattle.wm_decode.specs.declared.machine.member.SectionKind.{SectionKind}
-use Rattle.wm_decode.specs.declared.machine.member.InMember.{InMember}
-use Rattle.wm_decode.specs.declared.machine.member.InMember.TheVariants as at
-use Rattle.wm_decode.specs.Items.{Item}
-use Rattle.wm_decode.specs.Sinks.{and_then}
-use Rattle.wm_decode.specs.exact.Steps.{machine_in_member, step_of}
-use Rattle.wm_decode.specs.exact.MemberSteps.{after_length, after_name, name_length_step, on_number}
-use Rattle.wm_decode.specs.exact.Live.{decoder_after, live_from, name_taken}
+use Rattle.wm_machine.specs.declared.machine.Machine.{Machine}
+use Rattle.wm_machine.specs.declared.machine.Machine.TheVariants as machine
+use Rattle.wm_machine.specs.declared.machine.Event.{Event}
+use Rattle.wm_machine.specs.declared.machine.Event.TheVariants as event
+use Rattle.wm_machine.specs.declared.machine.NameKind.{NameKind}
+use Rattle.wm_machine.specs.declared.machine.member.SectionKind.{SectionKind}
+use Rattle.wm_machine.specs.declared.machine.member.InMember.{InMember}
+use Rattle.wm_machine.specs.declared.machine.member.InMember.TheVariants as at
+use Rattle.wm_machine.specs.Items.{Item}
+use Rattle.wm_machine.specs.Sinks.{and_then}
+use Rattle.wm_machine.specs.exact.Steps.{machine_in_member, step_of}
+use Rattle.wm_machine.specs.exact.MemberSteps.{after_length, after_name, name_length_step, on_number}
+use Rattle.wm_machine.specs.exact.Live.{decoder_after, live_from, name_taken}
 use Rattle.wm_decode.specs.exact.Shortcuts.{live_so}
 use Rattle.wm_decode.proofs.ShortSteps.{first_step}
-use Rattle.wm_decode.proofs.Stretches.{names}
+use Rattle.wm_machine.proofs.Stretches.{names}
 use Rattle.wm_decode.proofs.WholeNumbers.{u32_one}
 
 module _ (of : SectionKind) (kind : NameKind) where

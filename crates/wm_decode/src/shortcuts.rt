@@ -6,8 +6,6 @@
 ghost use Rattle.std.specs.Prelude.{◌≡◌, ◌<◌, None, Some, length, min};
 ghost use Rattle.wm_decode.specs.exact.Shortcuts.{Advances, why_refused};
 
-use crate::machine::member::{InEntry, InMember, IndexOf, SectionKind};
-use crate::machine::{Machine, refusal_of};
 use crate::shortcuts::chains::Link;
 use crate::shortcuts::entries::{Body, LastEnd, entries};
 use crate::shortcuts::exports::exports;
@@ -21,9 +19,11 @@ use crate::shortcuts::limited::limited_member;
 use crate::shortcuts::segments::segment_head;
 use crate::shortcuts::short_bytes::short;
 use crate::shortcuts::stretches::{data, pass};
-use crate::sink::Sink;
-use crate::step::expressions::InExpression;
-use crate::step::values::{InGlobalType, InLimits, InTableType, InValue};
+use wm_machine::machine::member::{InEntry, InMember, IndexOf, SectionKind};
+use wm_machine::machine::{Machine, refusal_of};
+use wm_machine::sink::Sink;
+use wm_machine::step::expressions::InExpression;
+use wm_machine::step::values::{InGlobalType, InLimits, InTableType, InValue};
 use wm_syntax::profile::Profile;
 use wm_syntax::why::Why;
 

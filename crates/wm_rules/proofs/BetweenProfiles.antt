@@ -3,12 +3,12 @@ use Rattle.std.proofs.Common.{◌≡◌, ℕ, List, refl, subst, sym}
 use Rattle.std.specs.List.{AllByRecursion}
 use Rattle.wm_syntax.specs.declared.profile.Profile.{Profile}
 use Rattle.wm_syntax.specs.Profiles.{Extends}
-use Rattle.wm_decode.specs.BetweenProfiles.{HasItem, SameUpToProfile}
-use Rattle.wm_decode.specs.Flat.{FlatModule, IsFlatOf, SpellsFlat, flat_items}
-use Rattle.wm_decode.specs.inner.Decoders.{answer_of}
-use Rattle.wm_decode.proofs.BetweenProfiles.{answers_apart, made_apart}
-use Rattle.wm_decode.proofs.ItemsOfProfiles.{spelled_with_items}
-use Rattle.wm_decode.proofs.Nesting.{flat_from, flat_to}
+use Rattle.wm_machine.specs.BetweenProfiles.{HasItem, SameUpToProfile}
+use Rattle.wm_machine.specs.Flat.{FlatModule, IsFlatOf, SpellsFlat, flat_items}
+use Rattle.wm_machine.specs.inner.Answers.{answer_of}
+use Rattle.wm_machine.proofs.BetweenProfiles.{answers_apart, made_apart}
+use Rattle.wm_machine.proofs.ItemsOfProfiles.{spelled_with_items}
+use Rattle.wm_machine.proofs.Nesting.{flat_from, flat_to}
 use Rattle.wm_rules.specs.declared.policy.Policy.{Policy}
 use Rattle.wm_rules.specs.Validation.{Accepted}
 use Rattle.wm_rules.specs.exact.Checking.{summary_in}

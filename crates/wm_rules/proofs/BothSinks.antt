@@ -1,9 +1,9 @@
 -- Two sinks at once take what each of them takes.
 use Rattle.std.proofs.Common.{◌≡◌, List, [], ◌∷◌, Result, Ok, Err, refl, ap, inl, inr}
 use Rattle.wm_syntax.specs.declared.why.Why.{Why}
-use Rattle.wm_decode.specs.Items.{Item}
-use Rattle.wm_decode.specs.Sinks.{and_then, all_taken, RunsOut, Took}
-use Rattle.wm_decode.specs.exact.TwoSinks.{after_both, either_runs_out}
+use Rattle.wm_machine.specs.Items.{Item}
+use Rattle.wm_machine.specs.Sinks.{and_then, all_taken, RunsOut, Took}
+use Rattle.wm_machine.specs.exact.TwoSinks.{after_both, either_runs_out}
 
 module _ {A B : Type 0} (f : A → Item → Result A Why) (g : B → Item → Result B Why) where
   -- what one item leaves of both

@@ -2,8 +2,8 @@
 use Rattle.std.proofs.Common.{◌≡◌, ℕ, List, [], ◌∷◌, ◌++◌, Result, Ok, Err, map, refl, sym, ap, ◌∙◌, append_assoc, append-nil}
 use Rattle.wm_syntax.specs.declared.why.Why.{Why}
 use Rattle.wm_syntax.specs.Modules.{Segment}
-use Rattle.wm_decode.specs.Items.{Item, data_byte}
-use Rattle.wm_decode.specs.Sinks.{RunsOut, Taken, Took, all_taken}
+use Rattle.wm_machine.specs.Items.{Item, data_byte}
+use Rattle.wm_machine.specs.Sinks.{RunsOut, Taken, Took, all_taken}
 use Rattle.wm_rules.specs.exact.Built.{Built, after, change_last, with_segments}
 
 same_last : {X : Type 0} (f g : X → X) → ((x : X) → f x ≡ g x) → (xs : List X) → change_last f xs ≡ change_last g xs

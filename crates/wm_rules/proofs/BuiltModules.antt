@@ -19,9 +19,9 @@ use Rattle.wm_syntax.specs.inner.Building.{Place, at, start, placed, if_placed, 
 use Rattle.wm_syntax.proofs.Places.{leads}
 use Rattle.wm_syntax.specs.exact.Runs.{add_run}
 use Rattle.wm_syntax.specs.Modules.{locals_of}
-use Rattle.wm_decode.specs.Items.{Item, param, result_count, one_result, import_name, import_desc, function, table, memory, global, const_op, export, element, element_function, locals, body_op, segment, data_byte}
-use Rattle.wm_decode.specs.Sinks.{and_then, all_taken}
-use Rattle.wm_decode.specs.Flat.{FlatModule, FlatGlobal, FlatElement, FlatCode, FlatSegment, type_items, import_items, global_items, export_items, start_items, element_items, code_items, segment_items, flat_items, constant_ops, IsFlatOf, IsIndexOf, IsCodeOf, IsGlobalOf, IsElementOf, IsSegmentOf}
+use Rattle.wm_machine.specs.Items.{Item, param, result_count, one_result, import_name, import_desc, function, table, memory, global, const_op, export, element, element_function, locals, body_op, segment, data_byte}
+use Rattle.wm_machine.specs.Sinks.{and_then, all_taken}
+use Rattle.wm_machine.specs.Flat.{FlatModule, FlatGlobal, FlatElement, FlatCode, FlatSegment, type_items, import_items, global_items, export_items, start_items, element_items, code_items, segment_items, flat_items, constant_ops, IsFlatOf, IsIndexOf, IsCodeOf, IsGlobalOf, IsElementOf, IsSegmentOf}
 use Rattle.wm_rules.specs.declared.builder.Purpose.{Purpose}
 use Rattle.wm_rules.specs.declared.builder.Purpose.TheVariants as purpose
 use Rattle.wm_rules.specs.exact.Built.{Built, change_last, holding, nothing, expecting, member_added, if_it_stands, name_from, after}

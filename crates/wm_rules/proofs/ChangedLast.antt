@@ -1,7 +1,7 @@
 -- What a change of the last item of a list does.
 use Rattle.std.proofs.Common.{◌≡◌, ℕ, ◌-◌, ◌<◌, List, [], ◌∷◌, Result, Ok, Err, length, slice_index_or, slice_set, ap, sym, ◌∙◌, arith}
 use Rattle.wm_syntax.specs.declared.why.Why.{Why}
-use Rattle.wm_decode.specs.Sinks.{Taken}
+use Rattle.wm_machine.specs.Sinks.{Taken}
 use Rattle.wm_rules.specs.exact.Built.{change_last}
 
 changed : {X : Type 0} (f : X → X) (x : X) (xs : List X) (e : X) → slice_index_or (x ∷ xs) (length xs) e ≡ e → change_last f (x ∷ xs) ≡ slice_set (x ∷ xs) (length xs) (f e)

@@ -21,18 +21,18 @@ use Rattle.wm_typing.proofs.Folds.{taken_from}
 use Rattle.wm_typing.proofs.StacksAfterOps.{no_operands}
 use Rattle.wm_syntax.specs.Instructions.{openings, endings}
 use Rattle.wm_typing.proofs.AfterCalls.{after_started, nested_said, twice_at}
-use Rattle.wm_decode.specs.Grammar.{IsExpression}
-use Rattle.wm_decode.specs.Items.{Item, body, body_op}
+use Rattle.wm_machine.specs.Grammar.{IsExpression}
+use Rattle.wm_machine.specs.Items.{Item, body, body_op}
 use Rattle.wm_syntax.specs.Modules.{locals_of}
-use Rattle.wm_decode.specs.Sinks.{and_then, all_taken}
+use Rattle.wm_machine.specs.Sinks.{and_then, all_taken}
 use Rattle.wm_rules.specs.Bounds.{FiguresWithin}
 use Rattle.wm_rules.specs.exact.Checking.{after, body_begun, empty_checker, greatest, with_progress}
 use Rattle.wm_rules.specs.Holding.{Held}
-use Rattle.wm_decode.specs.Flat.{FlatCode, code_items}
+use Rattle.wm_machine.specs.Flat.{FlatCode, code_items}
 use Rattle.wm_rules.proofs.OutsideBodies.{parts_one}
 use Rattle.wm_rules.specs.exact.Spaces.{context_of, next_type}
 use Rattle.wm_rules.proofs.CodeMembers.{Agree, OneResults, declared, entry_held, in_body, ops_agree, runs_sound, runs_takes, settled, taken_typed}
-use Rattle.wm_decode.proofs.EntryBytes.{run_part}
+use Rattle.wm_machine.proofs.EntryBytes.{run_part}
 
 -- no body is at hand, and the figures so far are those of entries of at most so many bytes, which are no more than an
 -- input may have

@@ -22,14 +22,14 @@ use Rattle.wm_syntax.specs.Instructions.{openings, endings}
 use Rattle.wm_typing.proofs.Folds.{taken_from, refused_from, ended_iff}
 use Rattle.wm_typing.proofs.StacksAfterOps.{front_typed, body_can}
 use Rattle.wm_typing.proofs.AfterCalls.{after_started, controls_said, nested_said}
-use Rattle.wm_decode.specs.Grammar.{IsExpression}
-use Rattle.wm_decode.specs.Items.{Item, body_op}
-use Rattle.wm_decode.specs.Sinks.{and_then, all_taken}
+use Rattle.wm_machine.specs.Grammar.{IsExpression}
+use Rattle.wm_machine.specs.Items.{Item, body_op}
+use Rattle.wm_machine.specs.Sinks.{and_then, all_taken}
 use Rattle.wm_rules.specs.exact.Spaces.{context_of, next_type}
 use Rattle.wm_rules.specs.exact.Checking.{after, body_begun, greatest, checker_after_op, with_body, with_progress}
 use Rattle.wm_rules.specs.Holding.{Held}
-use Rattle.wm_decode.specs.Flat.{FlatCode, IsCodeOf, code_items}
-use Rattle.wm_decode.proofs.EntryBytes.{run_part}
+use Rattle.wm_machine.specs.Flat.{FlatCode, IsCodeOf, code_items}
+use Rattle.wm_machine.proofs.EntryBytes.{run_part}
 use Rattle.wm_rules.proofs.MemberFolds.{Member}
 
 -- a body is at hand, or it has just ended

@@ -17,17 +17,17 @@ use Rattle.wm_syntax.specs.declared.why.Why.TheVariants as why
 use Rattle.wm_syntax.specs.Modules.{constant}
 use Rattle.wm_syntax.specs.Runs.{same}
 use Rattle.wm_syntax.proofs.SameTypes.{means, reflexive}
-use Rattle.wm_decode.specs.Grammar.{IsExpression}
+use Rattle.wm_machine.specs.Grammar.{IsExpression}
 use Rattle.wm_syntax.specs.Instructions.{openings, endings}
-use Rattle.wm_decode.specs.Items.{Item, const_op, element_function, data_byte}
-use Rattle.wm_decode.specs.Sinks.{and_then, all_taken}
+use Rattle.wm_machine.specs.Items.{Item, const_op, element_function, data_byte}
+use Rattle.wm_machine.specs.Sinks.{and_then, all_taken}
 use Rattle.wm_rules.specs.declared.constants.Constant.{Constant}
 use Rattle.wm_rules.specs.Validation.{TypedConst}
 use Rattle.wm_rules.specs.exact.Spaces.{one_if}
 use Rattle.wm_rules.specs.exact.Constants.{constant_after, constant_expecting, of_global, of_type, visible}
 use Rattle.wm_rules.specs.exact.Checking.{after, constant_begun, where_ok, with_constant}
 use Rattle.wm_rules.specs.Holding.{Held}
-use Rattle.wm_decode.specs.Flat.{FlatGlobal, FlatElement, FlatSegment, constant_ops, global_items, element_items, segment_items}
+use Rattle.wm_machine.specs.Flat.{FlatGlobal, FlatElement, FlatSegment, constant_ops, global_items, element_items, segment_items}
 use Rattle.wm_rules.proofs.GoodValues.{IsTypedConst}
 use Rattle.wm_rules.proofs.MemberFolds.{cond_ok, Member}
 

@@ -7,13 +7,13 @@ use Rattle.wm_syntax.specs.declared.modules.ImportDesc.{ImportDesc}
 use Rattle.wm_syntax.specs.declared.modules.ImportDesc.TheVariants as desc
 use Rattle.wm_syntax.specs.declared.profile.Profile.{Profile}
 use Rattle.wm_syntax.specs.Types.{SpellsU32}
-use Rattle.wm_decode.specs.Fronts.{IsFront, name_more, name_after, outside_bytes, unfinished_name}
-use Rattle.wm_decode.specs.Grammar.{Code, loose}
-use Rattle.wm_decode.specs.Items.{Item, Zone, outside, name, entry, closing, Mark, Marks, items_at, put_item, import_desc, import_module, import_name, export_name, body, locals, body_op}
-use Rattle.wm_decode.specs.MarkedForms.{marks_ending, entry_marks, name_marks, name_byte_marks}
-use Rattle.wm_decode.specs.Sinks.{all_taken}
-use Rattle.wm_decode.proofs.EntryBytes.{run_part}
-use Rattle.wm_decode.proofs.GrammarValues.{reads_body}
+use Rattle.wm_machine.specs.Fronts.{IsFront, name_more, name_after, outside_bytes, unfinished_name}
+use Rattle.wm_machine.specs.Grammar.{Code, loose}
+use Rattle.wm_machine.specs.Items.{Item, Zone, outside, name, entry, closing, Mark, Marks, items_at, put_item, import_desc, import_module, import_name, export_name, body, locals, body_op}
+use Rattle.wm_machine.specs.MarkedForms.{marks_ending, entry_marks, name_marks, name_byte_marks}
+use Rattle.wm_machine.specs.Sinks.{all_taken}
+use Rattle.wm_machine.proofs.EntryBytes.{run_part}
+use Rattle.wm_machine.proofs.GrammarValues.{reads_body}
 use Rattle.wm_rules.specs.exact.Checking.{after, empty_checker}
 use Rattle.wm_rules.specs.Holding.{Held}
 use Rattle.wm_rules.specs.Kept.{list_entries, item_weight}

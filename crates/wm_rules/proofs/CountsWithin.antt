@@ -5,8 +5,8 @@ use Rattle.wm_syntax.specs.declared.instructions.Op.{Op}
 use Rattle.wm_syntax.specs.declared.instructions.Op.TheVariants as op
 use Rattle.wm_syntax.specs.declared.modules.ImportDesc.TheVariants as desc
 use Rattle.wm_syntax.specs.Instructions.{endings, openings}
-use Rattle.wm_decode.specs.Items.{Item, import_desc, function, body, locals, body_op}
-use Rattle.wm_decode.specs.Sinks.{all_taken}
+use Rattle.wm_machine.specs.Items.{Item, import_desc, function, body, locals, body_op}
+use Rattle.wm_machine.specs.Sinks.{all_taken}
 use Rattle.wm_rules.specs.declared.counts.Counts.{Counts}
 use Rattle.wm_rules.specs.declared.policy.Policy.{Policy}
 use Rattle.wm_rules.specs.exact.Counting.{count_after, counted, counts_at_start, open_after, open_within, with_functions, with_locals, with_open}

@@ -14,7 +14,7 @@ use Rattle.wm_typing.specs.inner.Frames.{Frames, running, in_table, ended, Holds
 use Rattle.wm_typing.specs.exact.Ops.{labels_of}
 use Rattle.wm_typing.proofs.OpenListOps.{end_place, place_after, place_on}
 use Rattle.wm_typing.proofs.WholeBodies.{from_body, place_of}
-use Rattle.wm_decode.specs.Grammar.{HasLabels}
+use Rattle.wm_machine.specs.Grammar.{HasLabels}
 use Rattle.wm_rules.specs.Meanings.{heads_of}
 
 -- how many labels are due at a place, and after one op more

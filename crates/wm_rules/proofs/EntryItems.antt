@@ -10,14 +10,14 @@ use Rattle.wm_syntax.specs.Instructions.{SpellsOp}
 use Rattle.wm_syntax.specs.Opcodes.{opcode}
 use Rattle.wm_syntax.specs.Types.{type_byte}
 use Rattle.wm_syntax.proofs.ProfileLaws.{all_append}
-use Rattle.wm_decode.specs.Flat.{code_items}
-use Rattle.wm_decode.specs.Fronts.{IsFront}
-use Rattle.wm_decode.specs.Grammar.{Code, EachOp, Expression, FunctionType, Global, IsExpression, loose}
-use Rattle.wm_decode.specs.Items.{Item, Zone, outside, name, Mark, Marks, new_type, param, result_count, one_result, global, const_op, element, element_function, body, locals, body_op, segment, data_byte, put_item, items_at}
-use Rattle.wm_decode.specs.MarkedForms.{MarkedForm, Index, Then, marks_ending, name_byte_marks, name_marks, entry_marks, outside_mark}
-use Rattle.wm_decode.proofs.ReadValues.{HasByte, byte_some, front_some, number_some, parts-append, parts-entered, parts-some}
-use Rattle.wm_decode.proofs.EntryBytes.{run_part}
-use Rattle.wm_decode.proofs.GrammarValues.{reads_body}
+use Rattle.wm_machine.specs.Flat.{code_items}
+use Rattle.wm_machine.specs.Fronts.{IsFront}
+use Rattle.wm_machine.specs.Grammar.{Code, EachOp, Expression, FunctionType, Global, IsExpression, loose}
+use Rattle.wm_machine.specs.Items.{Item, Zone, outside, name, Mark, Marks, new_type, param, result_count, one_result, global, const_op, element, element_function, body, locals, body_op, segment, data_byte, put_item, items_at}
+use Rattle.wm_machine.specs.MarkedForms.{MarkedForm, Index, Then, marks_ending, name_byte_marks, name_marks, entry_marks, outside_mark}
+use Rattle.wm_machine.proofs.ReadValues.{HasByte, byte_some, front_some, number_some, parts-append, parts-entered, parts-some}
+use Rattle.wm_machine.proofs.EntryBytes.{run_part}
+use Rattle.wm_machine.proofs.GrammarValues.{reads_body}
 use Rattle.wm_rules.specs.Meanings.{InEntry}
 use Rattle.wm_rules.proofs.EveryRule.{Has, IsAlone, IsNamed, Leaves, PassesMembers, has_index, has_leaf, has_members, has_number, has_then, has_times, has_vector}
 

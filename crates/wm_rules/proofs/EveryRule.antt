@@ -6,10 +6,10 @@ use Rattle.wm_syntax.specs.declared.profile.Profile.{Profile}
 use Rattle.wm_syntax.specs.Types.{SpellsU32}
 use Rattle.wm_syntax.specs.Instructions.{SpellsOp}
 use Rattle.wm_syntax.specs.Spelling.{Form}
-use Rattle.wm_decode.specs.Items.{Item, new_type, param, one_result, import_module, import_name, import_desc, function, table, memory, global, const_op, export_name, start, element, element_function, body, locals, body_op, segment, data_byte, Marks}
-use Rattle.wm_decode.specs.Sections.{header}
-use Rattle.wm_decode.specs.MarkedForms.{MarkedForm, Empty, MarkedByte, Then, Times, Leaf, MarkedNumber, Vector, Index, Name, nothing_at, marks_ending, name_marks}
-use Rattle.wm_decode.specs.Grammar.{FunctionType, ImportForm, EachOp, Expression, Global, ExportForm, ElementForm, Code, SegmentForm, Paired, Contents, Section, Custom, Customs, Optional, Chain, ModuleForm}
+use Rattle.wm_machine.specs.Items.{Item, new_type, param, one_result, import_module, import_name, import_desc, function, table, memory, global, const_op, export_name, start, element, element_function, body, locals, body_op, segment, data_byte, Marks}
+use Rattle.wm_machine.specs.Sections.{header}
+use Rattle.wm_machine.specs.MarkedForms.{MarkedForm, Empty, MarkedByte, Then, Times, Leaf, MarkedNumber, Vector, Index, Name, nothing_at, marks_ending, name_marks}
+use Rattle.wm_machine.specs.Grammar.{FunctionType, ImportForm, EachOp, Expression, Global, ExportForm, ElementForm, Code, SegmentForm, Paired, Contents, Section, Custom, Customs, Optional, Chain, ModuleForm}
 
 -- an item that is complete at a byte outside names and code entries, or none
 abbrev pub IsPlain : Option Item → Type 0

@@ -23,9 +23,9 @@ use Rattle.wm_typing.specs.Typing.{function_type}
 use Rattle.wm_syntax.specs.declared.modules.ExportKind.TheVariants as kind
 use Rattle.wm_syntax.specs.inner.Building.{Place, at, labels, placed}
 use Rattle.wm_syntax.specs.inner.Building as places
-use Rattle.wm_decode.specs.Items.{Item, new_type, param, result_count, one_result, import_module, import_name, import_desc, function, table, memory, global, const_op, export_name, export, start, element, element_function, body, locals, body_op, segment, data_byte}
-use Rattle.wm_decode.specs.Sinks.{and_then}
-use Rattle.wm_decode.proofs.Alike.{IsGiven}
+use Rattle.wm_machine.specs.Items.{Item, new_type, param, result_count, one_result, import_module, import_name, import_desc, function, table, memory, global, const_op, export_name, export, start, element, element_function, body, locals, body_op, segment, data_byte}
+use Rattle.wm_machine.specs.Sinks.{and_then}
+use Rattle.wm_machine.proofs.Alike.{IsGiven}
 use Rattle.wm_rules.specs.declared.constants.Constant.{Constant}
 use Rattle.wm_rules.specs.exact.Constants.{constant_after, first_only, of_type, of_global, visible}
 use Rattle.wm_rules.specs.exact.Spaces.{context_of, next_type, function_added, global_added, import_added, memory_added, index_check, param_added, plain, result_added, table_added, type_begun}

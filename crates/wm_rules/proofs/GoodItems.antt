@@ -13,16 +13,16 @@ use Rattle.wm_typing.specs.TypedBodies.{IsTypedBody}
 use Rattle.wm_typing.specs.Bodies.{no_stats}
 use Rattle.wm_typing.specs.Contexts.{body_context}
 use Rattle.wm_typing.specs.Typing.{function_type}
-use Rattle.wm_decode.specs.Grammar.{IsExpression}
-use Rattle.wm_decode.specs.Items.{Item}
+use Rattle.wm_machine.specs.Grammar.{IsExpression}
+use Rattle.wm_machine.specs.Items.{Item}
 use Rattle.wm_syntax.specs.Modules.{locals_of}
-use Rattle.wm_decode.specs.Sinks.{all_taken}
+use Rattle.wm_machine.specs.Sinks.{all_taken}
 use Rattle.wm_rules.specs.Bounds.{deepest_nesting}
 use Rattle.wm_rules.specs.Validation.{TypedConst, is_some_item}
 use Rattle.wm_rules.specs.exact.Spaces.{context_of, items_in, next_type, one_if}
 use Rattle.wm_rules.specs.Holding.{IndexSpaces, Held}
 use Rattle.wm_rules.specs.exact.Checking.{after, empty_checker}
-use Rattle.wm_decode.specs.Flat.{FlatModule, FlatGlobal, FlatElement, FlatCode, FlatSegment, IsCodeOf, type_items, import_items, global_items, export_items, element_items, code_items, segment_items}
+use Rattle.wm_machine.specs.Flat.{FlatModule, FlatGlobal, FlatElement, FlatCode, FlatSegment, IsCodeOf, type_items, import_items, global_items, export_items, element_items, code_items, segment_items}
 use Rattle.wm_rules.proofs.GoodValues.{IsGrammatical, IsTypedConst, flat_functions, flat_tables, flat_memories, flat_globals, flat_context, flat_items, TypedCode, IsGood}
 use Rattle.wm_rules.proofs.Members.{parts_by_member, function_part, table_part, memory_part, start_part}
 use Rattle.wm_rules.proofs.MemberFolds.{puts, puts_keep, GoodAll, seq_takes, seq_sound, all_to, all_from}

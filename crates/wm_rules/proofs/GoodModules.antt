@@ -19,7 +19,7 @@ use Rattle.wm_typing.specs.Contexts.{body_context, context, result_in, result_of
 use Rattle.wm_typing.specs.Typing.{Context, Typed, function_type}
 use Rattle.wm_syntax.specs.Modules.{locals_of}
 use Rattle.wm_rules.specs.Validation.{TypedConst, Valid, is_some_item, items_of, module_context}
-use Rattle.wm_decode.specs.Flat.{FlatModule, FlatGlobal, FlatElement, FlatCode, FlatSegment, IsFlatOf, IsIndexOf, IsCodeOf, IsGlobalOf, IsElementOf, IsSegmentOf}
+use Rattle.wm_machine.specs.Flat.{FlatModule, FlatGlobal, FlatElement, FlatCode, FlatSegment, IsFlatOf, IsIndexOf, IsCodeOf, IsGlobalOf, IsElementOf, IsSegmentOf}
 use Rattle.wm_rules.proofs.GoodValues.{IsTypedConst, TypedCode, IsGood, flat_context, flat_functions, flat_globals, flat_tables, flat_memories, flat_items}
 use Rattle.wm_rules.proofs.ItemMembers.{no_type}
 use Rattle.wm_rules.proofs.Pairwise.{all_get, one_item, pairs_from, pairs_to, some_at}

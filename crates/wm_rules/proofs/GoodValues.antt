@@ -13,8 +13,8 @@ use Rattle.wm_syntax.specs.Modules.{imported_function, imported_table, imported_
 use Rattle.wm_typing.specs.TypedBodies.{IsTypedBody}
 use Rattle.wm_typing.specs.Contexts.{body_context, context}
 use Rattle.wm_typing.specs.Typing.{Context, function_type}
-use Rattle.wm_decode.specs.Flat.{FlatModule, FlatCode, constant_ops}
-use Rattle.wm_decode.specs.Grammar.{IsExpression}
+use Rattle.wm_machine.specs.Flat.{FlatModule, FlatCode, constant_ops}
+use Rattle.wm_machine.specs.Grammar.{IsExpression}
 use Rattle.wm_syntax.specs.Modules.{locals_of}
 use Rattle.wm_rules.specs.Validation.{TypedConst, ValidDesc, ValidTable, ValidMemory, is_some_item}
 

@@ -5,14 +5,14 @@ use Rattle.std.specs.List.{AllByRecursion}
 use Rattle.std.proofs.lemmas.List.{length-map}
 use Rattle.wm_syntax.specs.declared.profile.Profile.{Profile}
 use Rattle.wm_syntax.proofs.ProfileLaws.{all_append, all_front}
-use Rattle.wm_decode.specs.Fronts.{IsFront, entry_more, entry_after, entry_bytes}
-use Rattle.wm_decode.specs.Grammar.{Code, IsExpression, Items, loose, strict}
-use Rattle.wm_decode.specs.Items.{Item, Zone, outside, name, entry, closing, Mark, Marks, body, locals, body_op, put_item, items_at}
-use Rattle.wm_decode.specs.MarkedForms.{marks_ending, name_byte_marks, name_marks, entry_marks, in_zone}
-use Rattle.wm_decode.specs.Sinks.{all_taken}
-use Rattle.wm_decode.proofs.ReadValues.{HasByte, number_some, parts-append, parts-entered, parts-some}
-use Rattle.wm_decode.proofs.EntryBytes.{run_part}
-use Rattle.wm_decode.proofs.GrammarValues.{reads_body}
+use Rattle.wm_machine.specs.Fronts.{IsFront, entry_more, entry_after, entry_bytes}
+use Rattle.wm_machine.specs.Grammar.{Code, IsExpression, Items, loose, strict}
+use Rattle.wm_machine.specs.Items.{Item, Zone, outside, name, entry, closing, Mark, Marks, body, locals, body_op, put_item, items_at}
+use Rattle.wm_machine.specs.MarkedForms.{marks_ending, name_byte_marks, name_marks, entry_marks, in_zone}
+use Rattle.wm_machine.specs.Sinks.{all_taken}
+use Rattle.wm_machine.proofs.ReadValues.{HasByte, number_some, parts-append, parts-entered, parts-some}
+use Rattle.wm_machine.proofs.EntryBytes.{run_part}
+use Rattle.wm_machine.proofs.GrammarValues.{reads_body}
 use Rattle.wm_rules.specs.Bounds.{FiguresWithin, run_more, longest_after, longest_entry}
 use Rattle.wm_rules.specs.exact.Checking.{after, empty_checker}
 use Rattle.wm_rules.specs.Holding.{Held}

@@ -7,7 +7,7 @@ use Rattle.wm_syntax.specs.declared.why.Why.{Why}
 use Rattle.wm_syntax.specs.declared.why.Why.TheVariants.{Arity}
 use Rattle.wm_syntax.specs.Types.{Signature}
 use Rattle.wm_typing.specs.Contexts.{AreTypes}
-use Rattle.wm_decode.specs.Sinks.{Taken, and_then}
+use Rattle.wm_machine.specs.Sinks.{Taken, and_then}
 use Rattle.wm_rules.specs.exact.Spaces.{on_last, one_param_more, one_result_more}
 
 -- an answer that is carried on by a function

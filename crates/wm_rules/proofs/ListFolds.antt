@@ -10,7 +10,7 @@ use Rattle.wm_syntax.specs.Modules.{Import, imported_function, imported_table, i
 use Rattle.wm_rules.specs.Validation.{ValidDesc, ValidTable, ValidMemory, is_some_item}
 use Rattle.wm_rules.specs.exact.Spaces.{one_if}
 use Rattle.wm_rules.specs.Holding.{Held}
-use Rattle.wm_decode.specs.Flat.{FlatGlobal}
+use Rattle.wm_machine.specs.Flat.{FlatGlobal}
 use Rattle.wm_rules.proofs.MemberFolds.{puts, GoodAll}
 use Rattle.wm_rules.proofs.ItemMembers.{put_sig, put_import, put_desc, put_function, put_table, put_memory, in_space, in_types, GoodImport, GoodImportDesc, GoodTable, GoodMemory}
 use Rattle.wm_rules.proofs.ConstantMembers.{put_global}

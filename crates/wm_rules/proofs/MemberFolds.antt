@@ -2,8 +2,8 @@
 use Rattle.std.proofs.Common.{◌≡◌, List, [], ◌∷◌, ◌++◌, Bool, true, false, cond, Result, Ok, Err, refl, sym, ◌∙◌, ap, subst, append_assoc, ◌↔◌}
 use Rattle.std.specs.List.{AllByRecursion, flat_map}
 use Rattle.wm_syntax.specs.declared.why.Why.{Why}
-use Rattle.wm_decode.specs.Items.{Item}
-use Rattle.wm_decode.specs.Sinks.{and_then, all_taken}
+use Rattle.wm_machine.specs.Items.{Item}
+use Rattle.wm_machine.specs.Sinks.{and_then, all_taken}
 
 pub cond_ok : {A : Type 0} (b : Bool) (x y : A) (w : Why) → cond b (Ok x) (Err w) ≡ Ok y → (b ≡ true) × (x ≡ y)
 cond_ok true x y w e = (refl, cc)

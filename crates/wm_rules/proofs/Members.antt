@@ -1,8 +1,8 @@
 -- The items of a flat value, each list by its members.
 use Rattle.std.proofs.Common.{ℕ, ◌≡◌, List, [], ◌∷◌, ◌++◌, Option, Some, None, refl, ap, map, flat_map, option_to_list}
 use Rattle.wm_syntax.specs.declared.types.Limits.{Limits}
-use Rattle.wm_decode.specs.Flat.{FlatModule, type_items, import_items, global_items, export_items, start_items, element_items, code_items, segment_items, flat_items}
-use Rattle.wm_decode.specs.Items.{Item, function, table, memory, start}
+use Rattle.wm_machine.specs.Flat.{FlatModule, type_items, import_items, global_items, export_items, start_items, element_items, code_items, segment_items, flat_items}
+use Rattle.wm_machine.specs.Items.{Item, function, table, memory, start}
 
 abbrev pub function_part : ℕ → List Item
 function_part x = function x ∷ []

@@ -3,7 +3,7 @@ use Rattle.std.proofs.Common.{◌≡◌, ℕ, List, refl}
 use Rattle.wm_syntax.specs.declared.profile.Profile.{Profile}
 use Rattle.wm_syntax.specs.Profiles.{Extends}
 use Rattle.wm_syntax.proofs.ProfileLaws.{is_of_more}
-use Rattle.wm_decode.proofs.Nesting.{spells_more}
+use Rattle.wm_machine.proofs.Nesting.{spells_more}
 use Rattle.wm_rules.specs.declared.policy.Policy.{Policy}
 use Rattle.wm_rules.specs.Validation.{Accepted}
 

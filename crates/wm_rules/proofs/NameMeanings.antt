@@ -3,9 +3,9 @@ use Rattle.std.proofs.Common.{ℕ, ◌⊎◌, inl, inr, List}
 use Rattle.wm_syntax.specs.declared.profile.Profile.{Profile}
 use Rattle.wm_syntax.specs.declared.why.Why.{Why}
 use Rattle.wm_syntax.specs.declared.why.Why.TheVariants as why
-use Rattle.wm_decode.specs.declared.refusal.Refusal.{Refusal}
-use Rattle.wm_decode.specs.Items.{items_at}
-use Rattle.wm_decode.specs.Meanings.{AtItem, IsRuleName, Meant, MeansOfFormat, MeaningOfFormat, RefusesBy}
+use Rattle.wm_machine.specs.declared.refusal.Refusal.{Refusal}
+use Rattle.wm_machine.specs.Items.{items_at}
+use Rattle.wm_machine.specs.Meanings.{AtItem, IsRuleName, Meant, MeansOfFormat, MeaningOfFormat, RefusesBy}
 use Rattle.wm_rules.specs.declared.policy.Policy.{Policy}
 use Rattle.wm_rules.specs.exact.Policing.{checker_after, checker_at_start}
 use Rattle.wm_rules.specs.Meanings.{Means, Meaning}

@@ -3,8 +3,8 @@ use Rattle.std.proofs.Common.{◌≡◌, List, [], ◌∷◌, Option, None, Some
 use Rattle.wm_syntax.specs.declared.why.Why.{Why}
 use Rattle.wm_syntax.specs.declared.modules.ImportDesc.{ImportDesc}
 use Rattle.wm_syntax.specs.declared.modules.ImportDesc.TheVariants as desc
-use Rattle.wm_decode.specs.Items.{Item, import_desc, function, body, locals, body_op}
-use Rattle.wm_decode.specs.Sinks.{RunsOut, Took, all_taken}
+use Rattle.wm_machine.specs.Items.{Item, import_desc, function, body, locals, body_op}
+use Rattle.wm_machine.specs.Sinks.{RunsOut, Took, all_taken}
 use Rattle.wm_rules.specs.declared.counts.Counts.{Counts}
 use Rattle.wm_rules.specs.exact.Checking.{after}
 use Rattle.wm_rules.specs.exact.Counting.{counted, counts_at_start}

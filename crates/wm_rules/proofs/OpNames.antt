@@ -29,7 +29,7 @@ use Rattle.wm_typing.specs.exact.Ops.{push_all, after_call as then_on, drive_fix
 use Rattle.wm_typing.specs.Bodies.{BodyState, Body}
 use Rattle.wm_typing.specs.exact.Bodies.{context_in, body_after_op, body_from as body_stepped_to, unless_refused}
 use Rattle.wm_typing.specs.Probes.{probes_in}
-use Rattle.wm_decode.specs.Sinks.{and_then}
+use Rattle.wm_machine.specs.Sinks.{and_then}
 use Rattle.std.proofs.lemmas.Bool.{leb-false}
 use Rattle.std.proofs.Common.{map, inl, inr}
 use Rattle.wm_typing.specs.OpenLists.{Head, head, head_of}

@@ -10,9 +10,9 @@ use Rattle.wm_syntax.specs.declared.modules.ImportDesc.TheVariants as desc
 use Rattle.wm_syntax.specs.Instructions.{opens, openings, endings}
 use Rattle.wm_syntax.specs.Modules.{locals_of}
 use Rattle.wm_typing.specs.OpenLists.{levels}
-use Rattle.wm_decode.specs.Items.{Item, import_desc, function, body, locals, body_op}
-use Rattle.wm_decode.specs.Meanings.{IsRuleName}
-use Rattle.wm_decode.specs.Sinks.{all_taken}
+use Rattle.wm_machine.specs.Items.{Item, import_desc, function, body, locals, body_op}
+use Rattle.wm_machine.specs.Meanings.{IsRuleName}
+use Rattle.wm_machine.specs.Sinks.{all_taken}
 use Rattle.wm_rules.specs.declared.counts.Counts.{Counts}
 use Rattle.wm_rules.specs.declared.policy.Policy.{Policy}
 use Rattle.wm_rules.specs.exact.Checking.{after, empty_checker}

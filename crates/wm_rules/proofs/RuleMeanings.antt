@@ -34,10 +34,10 @@ use Rattle.wm_typing.proofs.AfterCalls.{nested_said, no_typing}
 use Rattle.wm_typing.proofs.BegunBodies.{begun_body}
 use Rattle.wm_typing.proofs.StacksAfterOps.{body_can, front_typed}
 use Rattle.wm_typing.proofs.OneOp.{holds_can}
-use Rattle.wm_decode.specs.Flat.{code_items}
-use Rattle.wm_decode.specs.Items.{Item, new_type, param, result_count, one_result, import_module, import_name, import_desc, function, table, memory, global, const_op, export_name, export, start, element, element_function, body, locals, body_op, segment, data_byte}
-use Rattle.wm_decode.specs.Meanings.{IsRuleName}
-use Rattle.wm_decode.specs.Sinks.{all_taken, and_then}
+use Rattle.wm_machine.specs.Flat.{code_items}
+use Rattle.wm_machine.specs.Items.{Item, new_type, param, result_count, one_result, import_module, import_name, import_desc, function, table, memory, global, const_op, export_name, export, start, element, element_function, body, locals, body_op, segment, data_byte}
+use Rattle.wm_machine.specs.Meanings.{IsRuleName}
+use Rattle.wm_machine.specs.Sinks.{all_taken, and_then}
 use Rattle.wm_rules.specs.declared.constants.Constant.{Constant}
 use Rattle.wm_rules.specs.Holding.{IndexSpaces, Held}
 use Rattle.wm_rules.specs.exact.Constants.{constant_expecting, visible}

@@ -19,8 +19,8 @@ use Rattle.wm_typing.specs.exact.Bodies.{context_in, declared_more, declared_to,
 use Rattle.wm_typing.specs.Probes.{probes_in}
 use Rattle.wm_typing.specs.declared.body_checker.Progress.{Progress}
 use Rattle.wm_typing.specs.declared.body_checker.Progress.TheVariants.{Inside, Ended}
-use Rattle.wm_decode.specs.Items.{Item, new_type, param, result_count, one_result, import_module, import_name, import_desc, function, table, memory, global, const_op, export_name, export, start, element, element_function, body, locals, body_op, segment, data_byte}
-use Rattle.wm_decode.specs.Sinks.{all_taken, and_then}
+use Rattle.wm_machine.specs.Items.{Item, new_type, param, result_count, one_result, import_module, import_name, import_desc, function, table, memory, global, const_op, export_name, export, start, element, element_function, body, locals, body_op, segment, data_byte}
+use Rattle.wm_machine.specs.Sinks.{all_taken, and_then}
 use Rattle.wm_rules.specs.declared.constants.Constant.{Constant}
 use Rattle.wm_rules.specs.exact.Constants.{constant_after, first_only, of_global, of_type, visible}
 use Rattle.wm_rules.specs.exact.Spaces.{on_last, one_param_more, one_result_more, with_types, context_of, next_type}

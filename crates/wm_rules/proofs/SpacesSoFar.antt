@@ -4,9 +4,9 @@ use Rattle.wm_syntax.specs.declared.types.ValType.{ValType}
 use Rattle.wm_syntax.specs.declared.instructions.Op.{Op}
 use Rattle.wm_syntax.specs.declared.modules.ImportDesc.TheVariants as desc
 use Rattle.wm_syntax.specs.Types.{Signature}
-use Rattle.wm_decode.specs.Flat.{code_items}
-use Rattle.wm_decode.specs.Items.{Item, new_type, param, one_result, import_desc, global, const_op, element, body, body_op, segment}
-use Rattle.wm_decode.proofs.EntryBytes.{run_part}
+use Rattle.wm_machine.specs.Flat.{code_items}
+use Rattle.wm_machine.specs.Items.{Item, new_type, param, one_result, import_desc, global, const_op, element, body, body_op, segment}
+use Rattle.wm_machine.proofs.EntryBytes.{run_part}
 use Rattle.wm_rules.specs.Holding.{IndexSpaces}
 use Rattle.wm_rules.specs.Meanings.{InEntry, IsConstantOf, context_so_far, no_spaces, so_far, with_item, with_items, with_last_type}
 use Rattle.wm_rules.proofs.EntryItems.{ConstantItems, HasType}

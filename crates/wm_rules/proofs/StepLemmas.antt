@@ -6,8 +6,8 @@ use Rattle.wm_typing.specs.Bodies.{Body}
 use Rattle.wm_syntax.specs.declared.why.Why.{Why}
 use Rattle.wm_syntax.specs.declared.instructions.Op.{Op}
 use Rattle.wm_typing.specs.exact.Bodies.{body_after_op}
-use Rattle.wm_decode.specs.Items.{data_byte}
-use Rattle.wm_decode.specs.Sinks.{RunsOut, Took, all_taken}
+use Rattle.wm_machine.specs.Items.{data_byte}
+use Rattle.wm_machine.specs.Sinks.{RunsOut, Took, all_taken}
 use Rattle.wm_rules.specs.exact.Spaces.{context_of}
 use Rattle.wm_rules.specs.exact.Checking.{after, op_taken}
 use Rattle.wm_rules.specs.Holding.{Held}

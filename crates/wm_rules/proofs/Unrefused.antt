@@ -7,8 +7,8 @@ use Rattle.wm_typing.specs.declared.body_checker.Progress.{Progress}
 use Rattle.wm_typing.specs.declared.body_checker.Progress.TheVariants.{Inside, Ended}
 use Rattle.wm_typing.specs.Bodies.{Body, stats_after, BodyState}
 use Rattle.wm_typing.specs.exact.Bodies.{body_at_start, declared_more, declared_to, progress_at, body_after_op, body_from as body_to, unless_refused, with_state}
-use Rattle.wm_decode.specs.Items.{Item, new_type, param, result_count, one_result, import_module, import_name, import_desc, function, table, memory, global, const_op, export_name, export, start, element, element_function, body, locals, body_op, segment, data_byte}
-use Rattle.wm_decode.specs.Sinks.{all_taken}
+use Rattle.wm_machine.specs.Items.{Item, new_type, param, result_count, one_result, import_module, import_name, import_desc, function, table, memory, global, const_op, export_name, export, start, element, element_function, body, locals, body_op, segment, data_byte}
+use Rattle.wm_machine.specs.Sinks.{all_taken}
 use Rattle.wm_rules.specs.exact.Checking.{after, body_begun, checker_after_op, with_body, with_progress}
 use Rattle.wm_rules.specs.Holding.{Held}
 use Rattle.wm_rules.specs.exact.Spaces.{context_of, next_type}

@@ -12,8 +12,8 @@ use Rattle.wm_syntax.specs.Types.{Signature}
 use Rattle.wm_typing.specs.declared.body_checker.Progress.{Progress}
 use Rattle.wm_typing.specs.declared.body_checker.Progress.TheVariants.{Inside, Ended}
 use Rattle.wm_typing.specs.Bodies.{Body}
-use Rattle.wm_decode.specs.Items.{Item, new_type, param, result_count, one_result, import_module, import_name, import_desc, function, table, memory, global, const_op, export_name, export, start, element, element_function, body, locals, body_op, segment, data_byte}
-use Rattle.wm_decode.specs.Sinks.{and_then, all_taken}
+use Rattle.wm_machine.specs.Items.{Item, new_type, param, result_count, one_result, import_module, import_name, import_desc, function, table, memory, global, const_op, export_name, export, start, element, element_function, body, locals, body_op, segment, data_byte}
+use Rattle.wm_machine.specs.Sinks.{and_then, all_taken}
 use Rattle.wm_rules.specs.declared.constants.Constant.{Constant}
 use Rattle.wm_rules.specs.exact.Spaces.{on_last, one_param_more, one_result_more, type_begun, param_added, result_added, function_added, function_imported, global_added, global_imported, table_added, memory_added, import_added, with_types}
 use Rattle.wm_rules.specs.Holding.{IndexSpaces, Held}

@@ -3,8 +3,8 @@ use Rattle.std.specs.Prelude.{ℕ, ◌+◌, ◌-◌, ◌^◌, List, length, min,
 use Rattle.wm_syntax.specs.declared.modules.ImportDesc.TheVariants.{Func, Global}
 use Rattle.wm_syntax.specs.Types.{Signature}
 use Rattle.wm_typing.specs.Bodies.{body_entries}
-use Rattle.wm_decode.specs.Items.{Item, new_type, param, one_result, import_desc, function, global}
-use Rattle.wm_decode.specs.Items.{export_name}
+use Rattle.wm_machine.specs.Items.{Item, new_type, param, one_result, import_desc, function, global}
+use Rattle.wm_machine.specs.Items.{export_name}
 use Rattle.wm_rules.specs.Holding.{IndexSpaces, Held}
 
 -- parameters and results

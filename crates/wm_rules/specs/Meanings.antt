@@ -23,15 +23,15 @@ use Rattle.wm_syntax.specs.declared.types.ValType.TheVariants.{I32, I64, F32, F6
 use Rattle.wm_stacks.specs.declared.entries.FrameKind.TheVariants.{If}
 use Rattle.wm_typing.specs.OpenLists.{Head, head, work, Place, open_at, within, complete, at, levels}
 use Rattle.wm_typing.specs.TypedBodies.{HaveTyping, IsTypedBody}
-use Rattle.wm_decode.specs.Flat.{FlatCode, code_items}
+use Rattle.wm_machine.specs.Flat.{FlatCode, code_items}
 use Rattle.wm_typing.specs.Contexts.{context, body_context}
 use Rattle.wm_typing.specs.Typing.{Context, Typed, TypedSimple, function_type}
-use Rattle.wm_decode.specs.declared.refusal.Refusal.{Refusal}
-use Rattle.wm_decode.specs.Items.{Item, new_type, param, result_count, one_result, import_desc}
-use Rattle.wm_decode.specs.Items.{function, table, memory}
-use Rattle.wm_decode.specs.Items.{global, const_op, export_name, export, start, element, element_function}
-use Rattle.wm_decode.specs.Items.{body, locals, body_op, segment}
-use Rattle.wm_decode.specs.Meanings.{AtItem, Meant, MeansOfFormat}
+use Rattle.wm_machine.specs.declared.refusal.Refusal.{Refusal}
+use Rattle.wm_machine.specs.Items.{Item, new_type, param, result_count, one_result, import_desc}
+use Rattle.wm_machine.specs.Items.{function, table, memory}
+use Rattle.wm_machine.specs.Items.{global, const_op, export_name, export, start, element, element_function}
+use Rattle.wm_machine.specs.Items.{body, locals, body_op, segment}
+use Rattle.wm_machine.specs.Meanings.{AtItem, Meant, MeansOfFormat}
 use Rattle.wm_rules.specs.declared.policy.Policy.{Policy}
 use Rattle.wm_rules.specs.Holding.{IndexSpaces}
 use Rattle.wm_rules.specs.Policies.{AtMost, GoesPast}

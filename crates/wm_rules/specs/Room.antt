@@ -1,7 +1,7 @@
 -- Where a checker may refuse an item because memory ran out.
 use Rattle.std.specs.Prelude.{◌≢◌, ◌≤◌, ◌⊎◌, None, length}
 use Rattle.wm_typing.specs.Bodies.{Body}
-use Rattle.wm_decode.specs.Items.{Item, result_count, import_module, import_name, body_op, data_byte}
+use Rattle.wm_machine.specs.Items.{Item, result_count, import_module, import_name, body_op, data_byte}
 use Rattle.wm_rules.specs.Holding.{Held}
 
 -- A body has used up what its stacks keep in themselves, or has refused an op.

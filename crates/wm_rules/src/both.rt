@@ -1,7 +1,7 @@
 //! Two sinks at once.
 
 ghost use Rattle.std.specs.Prelude.{◌≡◌};
-ghost use Rattle.wm_decode.specs.exact.TwoSinks.{after_both, both_take_data, either_runs_out};
+ghost use Rattle.wm_machine.specs.exact.TwoSinks.{after_both, both_take_data, either_runs_out};
 
 use wm_decode::{Item, Sink};
 use wm_syntax::why::Why;

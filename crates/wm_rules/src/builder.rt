@@ -2,8 +2,8 @@
 
 ghost use Rattle.std.specs.Prelude.{◌≡◌, ◌∷◌, [], ◌++◌, IfErr, IfOk, Ok, refl};
 ghost use Rattle.std.specs.String.{string_bytes};
-ghost use Rattle.wm_decode.specs.Sinks.{RunsOut, Taken, Took, items_for};
-ghost use Rattle.wm_decode.specs.Items.{body, export, import_desc, new_type, start};
+ghost use Rattle.wm_machine.specs.Sinks.{RunsOut, Taken, Took, items_for};
+ghost use Rattle.wm_machine.specs.Items.{body, export, import_desc, new_type, start};
 ghost use Rattle.wm_rules.specs.exact.Built.{Built, after, body_ended, change_last, constant_ended};
 ghost use Rattle.wm_rules.specs.exact.Built.{constant_taken, expecting, locals_taken, name_from, nothing};
 ghost use Rattle.wm_rules.specs.exact.Built.{op_taken, valued};

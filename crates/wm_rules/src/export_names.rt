@@ -1,7 +1,7 @@
 //! The names of a module's exports.
 
 ghost use Rattle.std.specs.Prelude.{◌≡◌, [], OnErr};
-ghost use Rattle.wm_decode.specs.Sinks.{Taken};
+ghost use Rattle.wm_machine.specs.Sinks.{Taken};
 ghost use Rattle.wm_rules.specs.exact.Checking.{names_with};
 ghost use Rattle.wm_rules.specs.Kept.{capped_count, name_entries};
 ghost use Rattle.wm_rules.specs.exact.Names.{AreHashed, bytes_of, hash_of as hash_of_bytes};

@@ -2,8 +2,8 @@
 use Rattle.std.proofs.Common.{◌≡◌, List, [], ◌∷◌, Result, Ok, Err, IfErr, refl, ◌∙◌, ap}
 use Rattle.wm_syntax.specs.declared.why.Why.{Why}
 use Rattle.wm_syntax.specs.declared.why.Why.TheVariants as why
-use Rattle.wm_decode.specs.Items.{Item}
-use Rattle.wm_decode.specs.Sinks.{RunsOut, and_then, all_taken, Took}
+use Rattle.wm_machine.specs.Items.{Item}
+use Rattle.wm_machine.specs.Sinks.{RunsOut, and_then, all_taken, Took}
 
 all_quiet : {H : Type 0} (after : H → Item → Result H Why) (h : H) → ((x : Item) → after h x ≡ Ok h) → (xs : List Item) → all_taken after h xs ≡ Ok h
 all_quiet after h quiet [] = refl

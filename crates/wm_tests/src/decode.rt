@@ -13,7 +13,8 @@ use sinks::{Full, NONE, Recorder, nothing_seen};
 use std::alloc::{AllocError, Global};
 use std::process::Abort;
 use std::test::Fail;
-use wm_decode::{Decoder, Refusal, laws};
+use wm_decode::{Decoder, Refusal};
+use wm_machine::laws;
 use wm_syntax::profile::Profile;
 use wm_syntax::why::Why;
 

@@ -25,9 +25,9 @@ use Rattle.wm_syntax.proofs.Spellings.{unsigned_spells, signed_spells}
 use Rattle.wm_syntax.proofs.FloatBytes.{float_spells}
 use Rattle.wm_syntax.proofs.Bodies.{has_ops}
 use Rattle.wm_syntax.proofs.Flat.{spelled_by_ops}
-use Rattle.wm_decode.specs.Sections.{ListSection, StartSection, Customs, SpellsConst, SpellsDesc, SpellsImport, SpellsGlobal, SpellsExport, SpellsElement, SpellsRun, SpellsLocals, SpellsCode, SpellsSegment, SpellsModule, kind_byte}
+use Rattle.wm_machine.specs.Sections.{ListSection, StartSection, Customs, SpellsConst, SpellsDesc, SpellsImport, SpellsGlobal, SpellsExport, SpellsElement, SpellsRun, SpellsLocals, SpellsCode, SpellsSegment, SpellsModule, kind_byte}
 use Rattle.wm_syntax.specs.Modules.{locals_of}
-use Rattle.wm_decode.proofs.NameBytes.{utf8_bytes}
+use Rattle.wm_machine.proofs.NameBytes.{utf8_bytes}
 use Rattle.wm_syntax.specs.Runs.{same, type_before, runs_of}
 use Rattle.wm_syntax.proofs.SameTypes.{means}
 use Rattle.wm_write.specs.Canon.{u32_bytes, op_bytes, ops_bytes}

@@ -14,7 +14,7 @@ use Rattle.wm_syntax.specs.declared.modules.ImportDesc.TheVariants.{Func, Table,
 use Rattle.wm_syntax.specs.declared.modules.ExportKind.{ExportKind}
 use Rattle.wm_syntax.specs.declared.modules.ExportKind.TheVariants as kind
 use Rattle.wm_syntax.specs.Modules.{AreLimits, Element, Export, Function, GlobalDef, Import, IsU32, Segment, constant}
-use Rattle.wm_decode.proofs.NameBytes.{utf8_bytes}
+use Rattle.wm_machine.proofs.NameBytes.{utf8_bytes}
 use Rattle.wm_write.specs.Layout.{body_line, body_words, const_words, desc_words, field_line, form, function_name, function_words, gap, global_name, global_type_words, item_words, limits_words, max_words, memory_name, number, offset_words, params_words, places, quoted, results_words, spaced, table_name, table_words, type_name, type_use, type_word, types_words}
 use Rattle.wm_write.specs.Layout as l
 use Rattle.wm_read.specs.Identifiers.{Id, Resolves}

@@ -19,7 +19,7 @@ use Rattle.wm_syntax.specs.Instructions.{Instruction, Instructions, none, snoc, 
 use Rattle.wm_syntax.specs.Modules.{Module, Import, Function, GlobalDef, Export, Element, Segment, constant, constant_body}
 use Rattle.wm_syntax.proofs.Spellings.{shortest_is_least, signed_is_least, unsigned_range}
 use Rattle.wm_syntax.proofs.FloatBytes.{float_one}
-use Rattle.wm_decode.specs.Sections.{Customs, ListSection, StartSection, header, SpellsConst, SpellsDesc, SpellsImport, SpellsGlobal, SpellsExport, SpellsElement, SpellsRun, SpellsLocals, SpellsCode, SpellsSegment, SpellsModule, kind_byte}
+use Rattle.wm_machine.specs.Sections.{Customs, ListSection, StartSection, header, SpellsConst, SpellsDesc, SpellsImport, SpellsGlobal, SpellsExport, SpellsElement, SpellsRun, SpellsLocals, SpellsCode, SpellsSegment, SpellsModule, kind_byte}
 use Rattle.wm_write.specs.Canon.{u32_bytes, op_bytes, ops_bytes, listed, sized, value_type_bytes, signature_bytes, bounds_bytes, limits_bytes, table_bytes, global_type_bytes, desc_bytes, import_bytes, constant_bytes, global_bytes, export_bytes, element_bytes, run_bytes, code_contents, code_bytes, segment_bytes, list_section, start_section, canon, Fits, NoLonger, HasShortestSections}
 use Rattle.wm_syntax.proofs.NumberLoops.{short}
 use Rattle.wm_write.proofs.LeastRuns.{least_locals, number_rises}

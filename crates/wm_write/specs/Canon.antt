@@ -2,8 +2,8 @@
 -- maximal runs of one type, no else before an empty second branch (section 5.5).
 use Rattle.std.specs.Prelude.{ℕ, ◌≡◌, ◌<◌, ◌≤◌, ◌^◌, List, [], ◌∷◌, ◌++◌, Option, Some, None, Bool, true}
 use Rattle.std.specs.Prelude.{false, ℤ, length, flat_map}
-use Rattle.wm_decode.specs.Sections.{header, kind_byte, SpellsImport, SpellsGlobal, SpellsExport}
-use Rattle.wm_decode.specs.Sections.{SpellsElement, SpellsCode, SpellsSegment}
+use Rattle.wm_machine.specs.Sections.{header, kind_byte, SpellsImport, SpellsGlobal, SpellsExport}
+use Rattle.wm_machine.specs.Sections.{SpellsElement, SpellsCode, SpellsSegment}
 use Rattle.wm_syntax.specs.Instructions.{float_bytes, ops_of}
 use Rattle.wm_syntax.specs.Leb128.{signed_bytes, unsigned_bytes}
 use Rattle.wm_syntax.specs.Modules.{Import, Function, GlobalDef, Export, Element, Segment, Module, constant}

@@ -4,17 +4,17 @@ use Rattle.std.specs.Prelude.{Option, Some, None, Result, Ok, slice_range}
 use Rattle.wm_syntax.specs.declared.profile.Profile.{Profile}
 use Rattle.wm_syntax.specs.declared.why.Why.{Why}
 use Rattle.wm_syntax.specs.exact.Reading.{fresh}
-use Rattle.wm_decode.specs.declared.machine.NameKind.{NameKind}
-use Rattle.wm_decode.specs.declared.machine.Plain.{Plain}
-use Rattle.wm_decode.specs.declared.machine.Machine.{Machine}
-use Rattle.wm_decode.specs.declared.machine.Machine.TheVariants as machine
-use Rattle.wm_decode.specs.declared.machine.member.SectionKind.{SectionKind}
-use Rattle.wm_decode.specs.declared.machine.member.InMember.TheVariants as at
-use Rattle.wm_decode.specs.exact.Steps.{machine_in_member, step_of}
-use Rattle.wm_decode.specs.exact.MemberSteps.{after_name}
-use Rattle.wm_decode.specs.Items.{Item}
-use Rattle.wm_decode.specs.exact.Runs.{name_item, plain_item}
-use Rattle.wm_decode.specs.exact.Live.{MayRunOutAt, name_taken, refusal_in_machine}
+use Rattle.wm_machine.specs.declared.machine.NameKind.{NameKind}
+use Rattle.wm_machine.specs.declared.machine.Plain.{Plain}
+use Rattle.wm_machine.specs.declared.machine.Machine.{Machine}
+use Rattle.wm_machine.specs.declared.machine.Machine.TheVariants as machine
+use Rattle.wm_machine.specs.declared.machine.member.SectionKind.{SectionKind}
+use Rattle.wm_machine.specs.declared.machine.member.InMember.TheVariants as at
+use Rattle.wm_machine.specs.exact.Steps.{machine_in_member, step_of}
+use Rattle.wm_machine.specs.exact.MemberSteps.{after_name}
+use Rattle.wm_machine.specs.Items.{Item}
+use Rattle.wm_machine.specs.exact.Runs.{name_item, plain_item}
+use Rattle.wm_machine.specs.exact.Live.{MayRunOutAt, name_taken, refusal_in_machine}
 use Rattle.wm_decode.specs.exact.ShortSteps.{part_event}
 use Rattle.wm_decode.specs.exact.WholeNames.{NameLies}
 

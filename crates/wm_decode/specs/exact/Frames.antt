@@ -1,11 +1,11 @@
 -- Bytes of the header and of the frames of sections: the exact form, for the proofs above it.
 use Rattle.std.specs.Prelude.{◌≡◌, ◌<◌, ◌≤◌, ℕ, List, [], None, length}
 use Rattle.wm_syntax.specs.declared.profile.Profile.{Profile}
-use Rattle.wm_decode.specs.declared.machine.Machine.{Machine}
-use Rattle.wm_decode.specs.declared.machine.Event.TheVariants.{Nothing}
+use Rattle.wm_machine.specs.declared.machine.Machine.{Machine}
+use Rattle.wm_machine.specs.declared.machine.Event.TheVariants.{Nothing}
 use Rattle.wm_decode.specs.exact.Completed.{Completes}
-use Rattle.wm_decode.specs.exact.Steps.{step_of}
-use Rattle.wm_decode.specs.exact.Live.{refusal_in_machine}
+use Rattle.wm_machine.specs.exact.Steps.{step_of}
+use Rattle.wm_machine.specs.exact.Live.{refusal_in_machine}
 
 -- the byte leads from one machine to another under each profile, and completes nothing
 pub record IsFrameStep (m : Machine) (c : ℕ) (n : Machine) : Type 0 where

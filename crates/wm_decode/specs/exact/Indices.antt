@@ -6,26 +6,26 @@ use Rattle.wm_syntax.specs.declared.why.Why.{Why}
 use Rattle.wm_syntax.specs.declared.why.Why.TheVariants as why
 use Rattle.wm_syntax.specs.declared.instructions.Op.TheVariants as op
 use Rattle.wm_syntax.specs.exact.Reading.{fresh}
-use Rattle.wm_decode.specs.declared.machine.Machine.{Machine}
-use Rattle.wm_decode.specs.declared.machine.Machine.TheVariants as machine
-use Rattle.wm_decode.specs.declared.machine.Plain.{Plain}
-use Rattle.wm_decode.specs.declared.machine.Plain.TheVariants as plain
-use Rattle.wm_decode.specs.declared.machine.member.SectionKind.{SectionKind}
-use Rattle.wm_decode.specs.declared.machine.member.SectionKind.TheVariants as section_kind
-use Rattle.wm_decode.specs.declared.machine.member.InMember.{InMember}
-use Rattle.wm_decode.specs.declared.machine.member.InMember.TheVariants as at
-use Rattle.wm_decode.specs.declared.machine.member.IndexOf.TheVariants as index_of
-use Rattle.wm_decode.specs.declared.machine.member.InEntry.TheVariants as entry
-use Rattle.wm_decode.specs.declared.step.expressions.InExpression.TheVariants as expression
+use Rattle.wm_machine.specs.declared.machine.Machine.{Machine}
+use Rattle.wm_machine.specs.declared.machine.Machine.TheVariants as machine
+use Rattle.wm_machine.specs.declared.machine.Plain.{Plain}
+use Rattle.wm_machine.specs.declared.machine.Plain.TheVariants as plain
+use Rattle.wm_machine.specs.declared.machine.member.SectionKind.{SectionKind}
+use Rattle.wm_machine.specs.declared.machine.member.SectionKind.TheVariants as section_kind
+use Rattle.wm_machine.specs.declared.machine.member.InMember.{InMember}
+use Rattle.wm_machine.specs.declared.machine.member.InMember.TheVariants as at
+use Rattle.wm_machine.specs.declared.machine.member.IndexOf.TheVariants as index_of
+use Rattle.wm_machine.specs.declared.machine.member.InEntry.TheVariants as entry
+use Rattle.wm_machine.specs.declared.step.expressions.InExpression.TheVariants as expression
 use Rattle.wm_decode.specs.declared.shortcuts.indices.IndexList.{IndexList}
 use Rattle.wm_decode.specs.declared.shortcuts.indices.IndexList.TheVariants as list
 use Rattle.wm_decode.specs.declared.shortcuts.indices.InIndices.{InIndices}
-use Rattle.wm_decode.specs.Items.{Item}
-use Rattle.wm_decode.specs.Sinks.{all_taken}
-use Rattle.wm_decode.specs.exact.Runs.{plain_item}
-use Rattle.wm_decode.specs.exact.Steps.{machine_in_member}
-use Rattle.wm_decode.specs.exact.ExpressionSteps.{at_next_op}
-use Rattle.wm_decode.specs.exact.MemberSteps.{member_in_entry}
+use Rattle.wm_machine.specs.Items.{Item}
+use Rattle.wm_machine.specs.Sinks.{all_taken}
+use Rattle.wm_machine.specs.exact.Runs.{plain_item}
+use Rattle.wm_machine.specs.exact.Steps.{machine_in_member}
+use Rattle.wm_machine.specs.exact.ExpressionSteps.{at_next_op}
+use Rattle.wm_machine.specs.exact.MemberSteps.{member_in_entry}
 
 -- where in a member of a section the indices of a list stand
 abbrev pub at_index : IndexList → InMember

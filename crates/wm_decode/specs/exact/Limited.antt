@@ -2,15 +2,15 @@
 use Rattle.std.specs.Prelude.{◌≡◌, ◌⊎◌, ◌+◌, ℕ, List, Some, None, slice_index}
 use Rattle.wm_syntax.specs.declared.types.Limits.{Limits}
 use Rattle.wm_syntax.specs.exact.Reading.{unsigned_push}
-use Rattle.wm_decode.specs.declared.machine.Plain.{Plain}
-use Rattle.wm_decode.specs.declared.machine.Plain.TheVariants as plain
-use Rattle.wm_decode.specs.declared.machine.member.SectionKind.{SectionKind}
-use Rattle.wm_decode.specs.declared.machine.member.SectionKind.TheVariants as section_kind
-use Rattle.wm_decode.specs.declared.machine.member.InMember.{InMember}
-use Rattle.wm_decode.specs.declared.machine.member.InMember.TheVariants as at
-use Rattle.wm_decode.specs.declared.step.values.InLimits.{InLimits}
-use Rattle.wm_decode.specs.declared.step.values.InTableType.TheVariants as table
-use Rattle.wm_decode.specs.declared.step.values.InValue.TheVariants as value
+use Rattle.wm_machine.specs.declared.machine.Plain.{Plain}
+use Rattle.wm_machine.specs.declared.machine.Plain.TheVariants as plain
+use Rattle.wm_machine.specs.declared.machine.member.SectionKind.{SectionKind}
+use Rattle.wm_machine.specs.declared.machine.member.SectionKind.TheVariants as section_kind
+use Rattle.wm_machine.specs.declared.machine.member.InMember.{InMember}
+use Rattle.wm_machine.specs.declared.machine.member.InMember.TheVariants as at
+use Rattle.wm_machine.specs.declared.step.values.InLimits.{InLimits}
+use Rattle.wm_machine.specs.declared.step.values.InTableType.TheVariants as table
+use Rattle.wm_machine.specs.declared.step.values.InValue.TheVariants as value
 use Rattle.wm_decode.specs.declared.shortcuts.limited.Limited.{Limited}
 use Rattle.wm_decode.specs.declared.shortcuts.limited.Limited.TheVariants as limited
 use Rattle.wm_decode.specs.exact.WholeOps.{LiesAt}

@@ -1,12 +1,12 @@
 -- The head of a segment that lies in a piece: the exact form, for the proofs above it.
-use Rattle.wm_decode.specs.declared.machine.member.SectionKind.{SectionKind}
-use Rattle.wm_decode.specs.declared.machine.member.SectionKind.TheVariants as section_kind
-use Rattle.wm_decode.specs.declared.machine.member.IndexOf.{IndexOf}
-use Rattle.wm_decode.specs.declared.machine.member.IndexOf.TheVariants as index
-use Rattle.wm_decode.specs.declared.machine.member.ConstantOf.{ConstantOf}
-use Rattle.wm_decode.specs.declared.machine.member.ConstantOf.TheVariants as constant
-use Rattle.wm_decode.specs.declared.machine.member.LengthOf.{LengthOf}
-use Rattle.wm_decode.specs.declared.machine.member.LengthOf.TheVariants as length_of
+use Rattle.wm_machine.specs.declared.machine.member.SectionKind.{SectionKind}
+use Rattle.wm_machine.specs.declared.machine.member.SectionKind.TheVariants as section_kind
+use Rattle.wm_machine.specs.declared.machine.member.IndexOf.{IndexOf}
+use Rattle.wm_machine.specs.declared.machine.member.IndexOf.TheVariants as index
+use Rattle.wm_machine.specs.declared.machine.member.ConstantOf.{ConstantOf}
+use Rattle.wm_machine.specs.declared.machine.member.ConstantOf.TheVariants as constant
+use Rattle.wm_machine.specs.declared.machine.member.LengthOf.{LengthOf}
+use Rattle.wm_machine.specs.declared.machine.member.LengthOf.TheVariants as length_of
 use Rattle.wm_decode.specs.declared.shortcuts.segments.Segments.{Segments}
 use Rattle.wm_decode.specs.declared.shortcuts.segments.Segments.TheVariants as segments
 

@@ -2,16 +2,16 @@
 -- exact form, for the proofs above it.
 use Rattle.std.specs.Prelude.{◌≡◌, ℕ, suc, Option, Some, None}
 use Rattle.wm_syntax.specs.declared.profile.Profile.{Profile}
-use Rattle.wm_decode.specs.declared.machine.Plain.{Plain}
-use Rattle.wm_decode.specs.declared.machine.Event.{Event}
-use Rattle.wm_decode.specs.declared.machine.Event.TheVariants as event
-use Rattle.wm_decode.specs.declared.machine.Machine.{Machine}
-use Rattle.wm_decode.specs.declared.machine.Machine.TheVariants as machine
-use Rattle.wm_decode.specs.declared.machine.member.SectionKind.{SectionKind}
-use Rattle.wm_decode.specs.declared.machine.member.InMember.{InMember}
+use Rattle.wm_machine.specs.declared.machine.Plain.{Plain}
+use Rattle.wm_machine.specs.declared.machine.Event.{Event}
+use Rattle.wm_machine.specs.declared.machine.Event.TheVariants as event
+use Rattle.wm_machine.specs.declared.machine.Machine.{Machine}
+use Rattle.wm_machine.specs.declared.machine.Machine.TheVariants as machine
+use Rattle.wm_machine.specs.declared.machine.member.SectionKind.{SectionKind}
+use Rattle.wm_machine.specs.declared.machine.member.InMember.{InMember}
 use Rattle.wm_decode.specs.declared.shortcuts.short_steps.Stepped.{Stepped}
 use Rattle.wm_decode.specs.declared.shortcuts.short_steps.Place.{Place}
-use Rattle.wm_decode.specs.exact.Steps.{step_of}
+use Rattle.wm_machine.specs.exact.Steps.{step_of}
 
 -- what a byte completes, if it completes an item
 abbrev pub part_event : Option Plain → Event

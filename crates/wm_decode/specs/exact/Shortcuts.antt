@@ -5,11 +5,11 @@ use Rattle.std.specs.Prelude.{Option, Result, Ok, Err}
 use Rattle.wm_syntax.specs.declared.profile.Profile.{Profile}
 use Rattle.wm_syntax.specs.declared.why.Why.{Why}
 use Rattle.wm_syntax.specs.declared.why.Why.TheVariants as why
-use Rattle.wm_decode.specs.declared.machine.Machine.{Machine}
+use Rattle.wm_machine.specs.declared.machine.Machine.{Machine}
 use Rattle.wm_decode.specs.declared.shortcuts.Shortcut.{Shortcut}
-use Rattle.wm_decode.specs.Items.{Item}
-use Rattle.wm_decode.specs.exact.Live.{IsAt, IsRefused, Live, MayRunOutAtByte, decoder_after}
-use Rattle.wm_decode.specs.exact.Live.{refusal_in_machine}
+use Rattle.wm_machine.specs.Items.{Item}
+use Rattle.wm_machine.specs.exact.Live.{IsAt, IsRefused, Live, MayRunOutAtByte, decoder_after}
+use Rattle.wm_machine.specs.exact.Live.{refusal_in_machine}
 
 -- a decoder of this machine and this sink, with this name at hand, after so many bytes of the input
 abbrev pub live_so : {H : Type 0} → Machine → List ℕ → H → ℕ → Live H

@@ -1,13 +1,13 @@
 -- Where a shortcut stands in a function type: the exact form, for the proofs above it.
 use Rattle.std.specs.Prelude.{ℕ, ◌-◌}
 use Rattle.wm_syntax.specs.exact.Reading.{fresh}
-use Rattle.wm_decode.specs.declared.machine.Machine.{Machine}
-use Rattle.wm_decode.specs.declared.machine.Machine.TheVariants as machine
-use Rattle.wm_decode.specs.declared.machine.member.SectionKind.TheVariants as section_kind
-use Rattle.wm_decode.specs.declared.machine.member.InMember.TheVariants as at
+use Rattle.wm_machine.specs.declared.machine.Machine.{Machine}
+use Rattle.wm_machine.specs.declared.machine.Machine.TheVariants as machine
+use Rattle.wm_machine.specs.declared.machine.member.SectionKind.TheVariants as section_kind
+use Rattle.wm_machine.specs.declared.machine.member.InMember.TheVariants as at
 use Rattle.wm_decode.specs.declared.shortcuts.function_types.InParams.{InParams}
 use Rattle.wm_decode.specs.declared.shortcuts.in_section.InSection.{InSection}
-use Rattle.wm_decode.specs.exact.MemberSteps.{after_param}
+use Rattle.wm_machine.specs.exact.MemberSteps.{after_param}
 use Rattle.wm_decode.specs.exact.WholeMembers.{in_member}
 
 -- the machine before the count of the results

@@ -1,11 +1,11 @@
 -- Where a machine stands in a section: the exact form, for the proofs above it.
 use Rattle.std.specs.Prelude.{ℕ, ◌-◌}
-use Rattle.wm_decode.specs.declared.machine.Machine.{Machine}
-use Rattle.wm_decode.specs.declared.machine.Machine.TheVariants as machine
-use Rattle.wm_decode.specs.declared.machine.member.SectionKind.{SectionKind}
-use Rattle.wm_decode.specs.declared.machine.member.InMember.{InMember}
+use Rattle.wm_machine.specs.declared.machine.Machine.{Machine}
+use Rattle.wm_machine.specs.declared.machine.Machine.TheVariants as machine
+use Rattle.wm_machine.specs.declared.machine.member.SectionKind.{SectionKind}
+use Rattle.wm_machine.specs.declared.machine.member.InMember.{InMember}
 use Rattle.wm_decode.specs.declared.shortcuts.in_section.InSection.{InSection}
-use Rattle.wm_decode.specs.exact.Members.{member_at_start}
+use Rattle.wm_machine.specs.exact.Members.{member_at_start}
 
 -- the machine at a place in a member, and before a member
 abbrev pub in_member : SectionKind → InMember → InSection → Machine

@@ -3,9 +3,9 @@
 use Rattle.std.specs.Prelude.{◌≡◌, ℕ, ◌+◌, ◌^◌, ◌<◌, List, slice_index}
 use Rattle.wm_syntax.specs.exact.Reading.{fresh}
 use Rattle.wm_syntax.specs.declared.modules.ExportKind.{ExportKind}
-use Rattle.wm_decode.specs.declared.step.reading.Reading.TheVariants.{More}
-use Rattle.wm_decode.specs.declared.step.values.InExportDesc.TheVariants as target
-use Rattle.wm_decode.specs.exact.ValueSteps.{target_kind_step}
+use Rattle.wm_machine.specs.declared.step.reading.Reading.TheVariants.{More}
+use Rattle.wm_machine.specs.declared.step.values.InExportDesc.TheVariants as target
+use Rattle.wm_machine.specs.exact.ValueSteps.{target_kind_step}
 
 -- a name that has bytes, with its length in one byte, lies from a place up to another
 pub record NameLies (bytes : List ℕ) (from stop : ℕ) : Type 0 where

@@ -10,21 +10,21 @@ use Rattle.wm_syntax.specs.inner.Numbers.{Partial}
 use Rattle.wm_syntax.specs.exact.Reading.{fresh}
 use Rattle.wm_syntax.specs.declared.profile.Profile.{Profile}
 use Rattle.wm_syntax.specs.declared.instructions.Op.{Op}
-use Rattle.wm_decode.specs.declared.machine.Machine.{Machine}
-use Rattle.wm_decode.specs.declared.machine.Machine.TheVariants as machine
-use Rattle.wm_decode.specs.declared.machine.member.SectionKind.{SectionKind}
-use Rattle.wm_decode.specs.declared.machine.member.InMember.TheVariants as at
-use Rattle.wm_decode.specs.declared.machine.member.InEntry.TheVariants as entry
-use Rattle.wm_decode.specs.declared.step.expressions.InExpression.TheVariants as expression
+use Rattle.wm_machine.specs.declared.machine.Machine.{Machine}
+use Rattle.wm_machine.specs.declared.machine.Machine.TheVariants as machine
+use Rattle.wm_machine.specs.declared.machine.member.SectionKind.{SectionKind}
+use Rattle.wm_machine.specs.declared.machine.member.InMember.TheVariants as at
+use Rattle.wm_machine.specs.declared.machine.member.InEntry.TheVariants as entry
+use Rattle.wm_machine.specs.declared.step.expressions.InExpression.TheVariants as expression
 use Rattle.wm_decode.specs.declared.shortcuts.in_body.InBody.{InBody}
 use Rattle.wm_decode.specs.declared.shortcuts.whole_ops.Read.{Read}
 use Rattle.wm_decode.specs.declared.shortcuts.whole_ops.Took.{Took}
 use Rattle.wm_decode.specs.declared.shortcuts.whole_ops.Took.TheVariants as took
-use Rattle.wm_decode.specs.declared.step.reading.Reading.{Reading}
-use Rattle.wm_decode.specs.declared.step.reading.Reading.TheVariants.{More, Done, Bad}
-use Rattle.wm_decode.specs.declared.step.ops.InOp.{InOp}
-use Rattle.wm_decode.specs.declared.step.ops.InOp.TheVariants.{First}
-use Rattle.wm_decode.specs.Items.{Item, body_op}
+use Rattle.wm_machine.specs.declared.step.reading.Reading.{Reading}
+use Rattle.wm_machine.specs.declared.step.reading.Reading.TheVariants.{More, Done, Bad}
+use Rattle.wm_machine.specs.declared.step.ops.InOp.{InOp}
+use Rattle.wm_machine.specs.declared.step.ops.InOp.TheVariants.{First}
+use Rattle.wm_machine.specs.Items.{Item, body_op}
 use Rattle.wm_syntax.specs.declared.instructions.Numeric.{Numeric}
 use Rattle.wm_syntax.specs.declared.instructions.Simple.TheVariants as s
 use Rattle.wm_syntax.specs.declared.instructions.Op.TheVariants as op
@@ -32,9 +32,9 @@ use Rattle.wm_syntax.specs.declared.instructions.op_class.OpClass.{OpClass}
 use Rattle.wm_syntax.specs.declared.instructions.op_class.OpClass.TheVariants.{Plain}
 use Rattle.wm_syntax.specs.declared.profile.Feature.TheVariants.{Base}
 use Rattle.wm_syntax.specs.exact.ByteTable.{class_feature, classes, row_in}
-use Rattle.wm_decode.specs.declared.step.ops.LoadOrStore.{LoadOrStore}
-use Rattle.wm_decode.specs.exact.OpSteps.{access_class, op_push, first_step}
-use Rattle.wm_decode.specs.exact.ExpressionSteps.{at_next_op, after_op}
+use Rattle.wm_machine.specs.declared.step.ops.LoadOrStore.{LoadOrStore}
+use Rattle.wm_machine.specs.exact.OpSteps.{access_class, op_push, first_step}
+use Rattle.wm_machine.specs.exact.ExpressionSteps.{at_next_op, after_op}
 
 -- what a byte leaves of a number: the number with no byte after it, or what goes on
 abbrev pub NumberGoes : {T : Type 0} → Step T × Partial → (Partial → Type 0) → List ℕ → T → Type 0

@@ -2,12 +2,13 @@
 use Rattle.std.specs.Prelude.{◌≡◌, ℕ, ◌≤◌, ◌<◌, List, Option, Some, None, Result, Ok, Err, ◌⊎◌, length}
 use Rattle.wm_syntax.specs.declared.why.Why.{Why}
 use Rattle.wm_syntax.specs.Spelling.{AreBytes}
-use Rattle.wm_decode.specs.declared.refusal.Refusal.{Refusal}
+use Rattle.wm_machine.specs.declared.refusal.Refusal.{Refusal}
 use Rattle.wm_decode.specs.declared.decoder.state.Decoder.{Decoder}
-use Rattle.wm_decode.specs.Items.{Item}
-use Rattle.wm_decode.specs.Sinks.{and_then}
-use Rattle.wm_decode.specs.exact.Live.{state_of, decoder_after, live_at_start, answer_at_end}
-use Rattle.wm_decode.specs.Decoding.{Setting}
+use Rattle.wm_machine.specs.Items.{Item}
+use Rattle.wm_machine.specs.Sinks.{and_then}
+use Rattle.wm_machine.specs.exact.Live.{decoder_after, live_at_start, answer_at_end}
+use Rattle.wm_decode.specs.exact.Standing.{state_of}
+use Rattle.wm_machine.specs.Decoding.{Setting}
 use Rattle.wm_syntax.specs.declared.why.Why.TheVariants as why
 
 -- memory ran out somewhere in these bytes, and not in the header
@@ -32,11 +33,6 @@ pub record HasDecoded {S H : Type 0} (held : S → H) (after : H → Item → Re
 abbrev pub Having : {S H : Type 0} → (S → H) → (H → Item → Result H Why) → Decoder S
     → (Setting H → List ℕ → Type 0) → Type 0
 Having {S} {H} held after d P = (s : Setting H) (bytes : List ℕ) → HasDecoded held after d s bytes → P s bytes
-
--- what a decoder answers to a whole input, however it is cut, unless memory runs out
-abbrev pub answer_of : {H : Type 0} → (H → Item → Result H Why) → Setting H → List ℕ → Result H Refusal
-answer_of after s bytes =
-    and_then (decoder_after after s.profile s.limit (live_at_start s.first) bytes) answer_at_end
 
 -- the refusal that a decoder has answered
 abbrev pub refusal_of_decoder : {S H : Type 0} → (S → H) → Decoder S → Option Refusal

@@ -3,20 +3,20 @@
 ghost use Rattle.std.specs.Prelude.{◌≡◌, ◌≢◌, ◌⊎◌, ◌++◌, IfErr, MatchResult, Ok, OnOk, [], length, map};
 ghost use Rattle.std.specs.Prelude.{slice_index};
 ghost use Rattle.std.specs.Str.{is_utf8};
-ghost use Rattle.wm_decode.specs.Sinks.{Taken, all_taken};
-ghost use Rattle.wm_decode.specs.exact.Runs.{name_item, plain_item};
-ghost use Rattle.wm_decode.specs.exact.Live.{MayRunOutAt, name_taken, effect_of_maybe};
+ghost use Rattle.wm_machine.specs.Sinks.{Taken, all_taken};
+ghost use Rattle.wm_machine.specs.exact.Runs.{name_item, plain_item};
+ghost use Rattle.wm_machine.specs.exact.Live.{MayRunOutAt, name_taken, effect_of_maybe};
 ghost use Rattle.wm_syntax.specs.declared.why.Why.TheVariants.{Memory};
-ghost use Rattle.wm_decode.specs.Items.{body, body_op, data_byte, export, import_desc, locals, new_type};
-ghost use Rattle.wm_decode.specs.Items.{one_result, param, result_count};
+ghost use Rattle.wm_machine.specs.Items.{body, body_op, data_byte, export, import_desc, locals, new_type};
+ghost use Rattle.wm_machine.specs.Items.{one_result, param, result_count};
 ghost use Rattle.wm_syntax.specs.declared.modules.ImportDesc.TheVariants as ImportDesc;
 ghost use Rattle.wm_decode.specs.exact.Indices.{index_item_in};
 ghost use Rattle.wm_decode.specs.exact.Completed.{LastMayRunOut, completed_part, last_taken};
 
-use crate::item::Item;
-use crate::machine::{NameKind, Plain};
 use crate::shortcuts::indices::IndexList;
-use crate::sink::Sink;
+use wm_machine::item::Item;
+use wm_machine::machine::{NameKind, Plain};
+use wm_machine::sink::Sink;
 use wm_syntax::instructions::Op;
 use wm_syntax::modules::ExportKind;
 use wm_syntax::names::is_name;
@@ -248,7 +248,7 @@ pub(crate) fn give_data<S: Sink>(sink: &mut S, byte: &[u8]) -> Result<(), Why>
 }
 
 // Gives bytes of a data segment at once; none is refused, but for want of memory.
-#[tactic(auto, using(crate::proofs::TakenItems::slice_room))]
+#[tactic(auto, using(wm_machine::proofs::TakenItems::slice_room))]
 pub(crate) fn give_bytes<S: Sink>(sink: &mut S, bytes: &[u8]) -> Result<(), Why>
     ensures given { MatchResult result
         (λ u. all_taken S.after (S.held sink.old) (map data_byte bytes.now) ≡ Ok (S.held sink.new))

@@ -2,8 +2,8 @@
 
 ghost use Rattle.std.specs.Prelude.{◌≤◌, ◌^◌};
 
-use crate::machine::Machine;
 use std::fmt;
+use wm_machine::machine::Machine;
 use wm_syntax::profile::Profile;
 
 /// Takes a module in pieces, and gives its items to a sink.

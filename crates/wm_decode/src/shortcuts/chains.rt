@@ -3,9 +3,9 @@
 ghost use Rattle.std.specs.Prelude.{◌<◌, length};
 ghost use Rattle.wm_decode.specs.exact.Shortcuts.{Advances};
 
-use crate::machine::Machine;
 use crate::shortcuts::Shortcut;
-use crate::sink::Sink;
+use wm_machine::machine::Machine;
+use wm_machine::sink::Sink;
 use wm_syntax::profile::Profile;
 
 /// A shortcut that others may come before or after.

@@ -6,7 +6,7 @@ ghost use Rattle.std.specs.Prelude.{◌≡◌, ◌+◌, ◌<◌, IfSome, length,
 ghost use Rattle.wm_decode.specs.exact.WholeOps.{WholeOp};
 
 use crate::shortcuts::whole_ops::{Read, const_32, const_64, with_index};
-use crate::step::ops::Indexed;
+use wm_machine::step::ops::Indexed;
 use wm_syntax::instructions::Op;
 
 /// The instruction of a constant expression, and the place of the `end` after it.

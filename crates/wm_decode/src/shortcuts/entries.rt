@@ -4,16 +4,16 @@ ghost use Rattle.std.specs.Prelude.{◌<◌, length};
 ghost use Rattle.wm_decode.specs.exact.Shortcuts.{Advances};
 
 use crate::decoder::give::give_end;
-use crate::machine::Machine;
-use crate::machine::member::{InMember, SectionKind};
 use crate::shortcuts::Shortcut;
 use crate::shortcuts::chains::{Link, repeated};
 use crate::shortcuts::heads::Head;
 use crate::shortcuts::in_body::InBody;
 use crate::shortcuts::in_section::InSection;
 use crate::shortcuts::whole_ops::take_ops;
-use crate::sink::Sink;
-use crate::step::framed;
+use wm_machine::machine::Machine;
+use wm_machine::machine::member::{InMember, SectionKind};
+use wm_machine::sink::Sink;
+use wm_machine::step::framed;
 use wm_syntax::profile::Profile;
 
 /// The ops of an entry that lie whole in the bytes.

@@ -10,14 +10,14 @@ ghost use Rattle.wm_decode.specs.exact.WholeNames.{IsKindByte, NameLies};
 ghost use Rattle.wm_decode.specs.exact.WholeOps.{LiesAt};
 
 use crate::decoder::give::{give_export, give_name};
-use crate::machine::member::{InMember, SectionKind};
-use crate::machine::{Machine, NameKind};
 use crate::shortcuts::Shortcut;
 use crate::shortcuts::chains::Link;
 use crate::shortcuts::in_section::InSection;
 use crate::shortcuts::whole_names::name_end;
 use crate::shortcuts::whole_numbers::u32_at;
-use crate::sink::Sink;
+use wm_machine::machine::member::{InMember, SectionKind};
+use wm_machine::machine::{Machine, NameKind};
+use wm_machine::sink::Sink;
 use wm_syntax::modules::ExportKind;
 use wm_syntax::profile::Profile;
 

@@ -6,9 +6,9 @@ ghost use Rattle.std.specs.Prelude.{◌≡◌, IfSome, false, true};
 ghost use Rattle.wm_syntax.specs.exact.Reading.{fresh};
 ghost use Rattle.wm_decode.specs.exact.Frames.{IsFrameStep};
 
-use crate::machine::Machine;
-use crate::machine::member::SectionKind;
-use crate::step::counted;
+use wm_machine::machine::Machine;
+use wm_machine::machine::member::SectionKind;
+use wm_machine::step::counted;
 use wm_syntax::numbers::{Num32, Step};
 
 /// The kind of section that this id begins.

@@ -7,15 +7,15 @@
 
 ghost use Rattle.std.specs.Prelude.{◌≡◌, ◌<◌, IfSome, length, slice_index, true, ℕ};
 ghost use Rattle.wm_syntax.specs.exact.Reading.{fresh};
-ghost use Rattle.wm_decode.specs.Sections.{header};
+ghost use Rattle.wm_machine.specs.Sections.{header};
 ghost use Rattle.wm_decode.specs.exact.Frames.{IsFrameStep, LeadsTo};
 ghost use Rattle.wm_decode.specs.exact.Shortcuts.{Advances};
 
-use crate::machine::Machine;
-use crate::machine::member::SectionKind;
 use crate::shortcuts::Shortcut;
 use crate::shortcuts::frame_bytes::{begun, count_end, frame_byte, size_end, size_more};
-use crate::sink::Sink;
+use wm_machine::machine::Machine;
+use wm_machine::machine::member::SectionKind;
+use wm_machine::sink::Sink;
 use wm_syntax::numbers::Num32;
 use wm_syntax::profile::Profile;
 

@@ -5,18 +5,18 @@
 ghost use Rattle.std.specs.Prelude.{◌≡◌, ◌-◌, ◌<◌, ◌≤◌, ◌^◌, IfSome, Ok, length, slice_index};
 ghost use Rattle.wm_decode.specs.exact.Shortcuts.{Advances};
 ghost use Rattle.wm_decode.specs.exact.TypeStarts.{before_results, in_params, params_after};
-ghost use Rattle.wm_decode.specs.exact.ValueSteps.{value_type_of};
+ghost use Rattle.wm_machine.specs.exact.ValueSteps.{value_type_of};
 ghost use Rattle.wm_decode.specs.exact.WholeMembers.{before_member};
 
 use crate::decoder::give::{give_new_type, give_param, give_result, give_result_count};
-use crate::machine::Machine;
-use crate::machine::member::{InMember, SectionKind};
 use crate::shortcuts::Shortcut;
 use crate::shortcuts::chains::{Link, repeated};
 use crate::shortcuts::in_section::InSection;
-use crate::sink::Sink;
-use crate::step::types::after_param;
-use crate::step::values::value_type;
+use wm_machine::machine::Machine;
+use wm_machine::machine::member::{InMember, SectionKind};
+use wm_machine::sink::Sink;
+use wm_machine::step::types::after_param;
+use wm_machine::step::values::value_type;
 use wm_syntax::profile::Profile;
 use wm_syntax::types::ValType;
 use wm_syntax::why::Why;

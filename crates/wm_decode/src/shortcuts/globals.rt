@@ -4,21 +4,21 @@
 //! step.
 
 ghost use Rattle.std.specs.Prelude.{◌≡◌, ◌<◌, IfSome, Ok, length, slice_index};
-ghost use Rattle.wm_decode.specs.declared.step.reading.Reading.TheVariants.{Done};
+ghost use Rattle.wm_machine.specs.declared.step.reading.Reading.TheVariants.{Done};
 ghost use Rattle.wm_decode.specs.exact.Shortcuts.{Advances};
-ghost use Rattle.wm_decode.specs.exact.ValueSteps.{value_type_of, var_step};
+ghost use Rattle.wm_machine.specs.exact.ValueSteps.{value_type_of, var_step};
 ghost use Rattle.wm_decode.specs.exact.WholeMembers.{before_member};
 ghost use Rattle.wm_decode.specs.exact.WholeOps.{WholeOp};
 
 use crate::decoder::give::give;
-use crate::machine::member::{InMember, SectionKind};
-use crate::machine::{Machine, Plain};
 use crate::shortcuts::Shortcut;
 use crate::shortcuts::chains::{Link, repeated};
 use crate::shortcuts::constants::{Constant, constant_at};
 use crate::shortcuts::in_section::InSection;
-use crate::sink::Sink;
-use crate::step::values::{InGlobalType, value_type};
+use wm_machine::machine::member::{InMember, SectionKind};
+use wm_machine::machine::{Machine, Plain};
+use wm_machine::sink::Sink;
+use wm_machine::step::values::{InGlobalType, value_type};
 use wm_syntax::instructions::Op;
 use wm_syntax::profile::Profile;
 use wm_syntax::types::GlobalType;

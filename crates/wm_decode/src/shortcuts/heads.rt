@@ -6,19 +6,19 @@
 ghost use Rattle.std.specs.Prelude.{◌≡◌, ◌+◌, ◌-◌, ◌<◌, ◌≤◌, ◌^◌, IfSome, Ok, length, slice_index};
 ghost use Rattle.wm_decode.specs.exact.Heads.{IsShort, head_after, in_head};
 ghost use Rattle.wm_decode.specs.exact.Shortcuts.{Advances};
-ghost use Rattle.wm_decode.specs.exact.ValueSteps.{value_type_of};
+ghost use Rattle.wm_machine.specs.exact.ValueSteps.{value_type_of};
 ghost use Rattle.wm_decode.specs.exact.WholeMembers.{before_member};
 
 use crate::decoder::give::{give_body, give_locals};
-use crate::machine::Machine;
-use crate::machine::member::{InEntry, InMember, SectionKind};
 use crate::shortcuts::Shortcut;
 use crate::shortcuts::chains::Link;
 use crate::shortcuts::in_section::InSection;
 use crate::shortcuts::whole_numbers::Whole;
-use crate::sink::Sink;
-use crate::step::entries::runs_or_body;
-use crate::step::values::{InRun, value_type};
+use wm_machine::machine::Machine;
+use wm_machine::machine::member::{InEntry, InMember, SectionKind};
+use wm_machine::sink::Sink;
+use wm_machine::step::entries::runs_or_body;
+use wm_machine::step::values::{InRun, value_type};
 use wm_syntax::profile::Profile;
 use wm_syntax::types::ValType;
 use wm_syntax::why::Why;

@@ -11,13 +11,13 @@ ghost use Rattle.wm_decode.specs.exact.WholeNames.{NameLies};
 ghost use Rattle.wm_decode.specs.exact.WholeOps.{LiesAt};
 
 use crate::decoder::give::{give_import, give_name};
-use crate::machine::member::{InMember, SectionKind};
-use crate::machine::{Machine, NameKind};
 use crate::shortcuts::Shortcut;
 use crate::shortcuts::in_section::InSection;
 use crate::shortcuts::whole_names::name_end;
 use crate::shortcuts::whole_numbers::u32_at;
-use crate::sink::Sink;
+use wm_machine::machine::member::{InMember, SectionKind};
+use wm_machine::machine::{Machine, NameKind};
+use wm_machine::sink::Sink;
 use wm_syntax::profile::Profile;
 
 /// Where the two names of an import end, where it ends, and the index of its function's type.

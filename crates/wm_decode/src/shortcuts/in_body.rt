@@ -3,11 +3,11 @@
 ghost use Rattle.std.specs.Prelude.{◌≡◌, ◌-◌, ◌≤◌, IfSome};
 ghost use Rattle.wm_decode.specs.exact.WholeOps.{before_op};
 
-use crate::machine::Machine;
-use crate::machine::member::{InEntry, InMember, SectionKind};
 use crate::shortcuts::in_section::InSection;
-use crate::step::expressions::InExpression;
-use crate::step::ops::InOp;
+use wm_machine::machine::Machine;
+use wm_machine::machine::member::{InEntry, InMember, SectionKind};
+use wm_machine::step::expressions::InExpression;
+use wm_machine::step::ops::InOp;
 
 /// What is known before an op of a code entry: of the section, how many bytes come after the next
 /// and how many members after this one, of the entry how many bytes come after the next, and how

@@ -4,13 +4,13 @@
 //! shortcut can be taken, and what is known of the section makes the machine after it.
 
 ghost use Rattle.std.specs.Prelude.{◌≡◌, ◌-◌, ◌<◌, ◌≤◌, IfSome};
-ghost use Rattle.wm_decode.specs.exact.Steps.{machine_in_member};
+ghost use Rattle.wm_machine.specs.exact.Steps.{machine_in_member};
 ghost use Rattle.wm_decode.specs.exact.WholeMembers.{before_member, in_member, section_after};
 
-use crate::machine::Machine;
-use crate::machine::member::{InMember, SectionKind};
-use crate::step::framed;
-use crate::step::members::begin;
+use wm_machine::machine::Machine;
+use wm_machine::machine::member::{InMember, SectionKind};
+use wm_machine::step::framed;
+use wm_machine::step::members::begin;
 
 /// What is known of a section at a byte of a member: how many functions await their code, how many bytes of
 /// the section come after this one, and how many members after this one.

@@ -9,15 +9,15 @@ ghost use Rattle.wm_decode.specs.exact.Indices.{followed_indices, index_room, in
 ghost use Rattle.wm_decode.specs.exact.Indices.{most_indices};
 
 use crate::decoder::give::give_short_index;
-use crate::machine::Machine;
-use crate::machine::member::{InEntry, InMember, IndexOf, SectionKind};
 use crate::shortcuts::in_section::InSection;
 use crate::shortcuts::whole_indices::whole_indices;
 use crate::shortcuts::{Shortcut, at_most};
-use crate::sink::Sink;
-use crate::step::entries::entry_framed;
-use crate::step::expressions::{InExpression, opened};
-use crate::step::framed;
+use wm_machine::machine::Machine;
+use wm_machine::machine::member::{InEntry, InMember, IndexOf, SectionKind};
+use wm_machine::sink::Sink;
+use wm_machine::step::entries::entry_framed;
+use wm_machine::step::expressions::{InExpression, opened};
+use wm_machine::step::framed;
 use wm_syntax::numbers::{Num32, short_front};
 use wm_syntax::profile::Profile;
 

@@ -9,13 +9,13 @@ ghost use Rattle.wm_decode.specs.exact.Shortcuts.{Advances};
 ghost use Rattle.wm_decode.specs.exact.WholeMembers.{before_member};
 
 use crate::decoder::give::give;
-use crate::machine::member::{InMember, SectionKind};
-use crate::machine::{Machine, Plain};
 use crate::shortcuts::Shortcut;
 use crate::shortcuts::in_section::InSection;
 use crate::shortcuts::whole_numbers::u32_at;
-use crate::sink::Sink;
-use crate::step::values::{InLimits, InTableType, InValue};
+use wm_machine::machine::member::{InMember, SectionKind};
+use wm_machine::machine::{Machine, Plain};
+use wm_machine::sink::Sink;
+use wm_machine::step::values::{InLimits, InTableType, InValue};
 use wm_syntax::profile::Profile;
 use wm_syntax::types::Limits;
 

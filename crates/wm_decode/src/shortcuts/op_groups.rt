@@ -3,7 +3,7 @@
 ghost use Rattle.std.specs.Prelude.{◌≢◌, ◌≤◌, ◌⊎◌};
 ghost use Rattle.wm_decode.specs.exact.WholeOps.{HasAccess, HasNumeric};
 
-use crate::step::ops::LoadOrStore;
+use wm_machine::step::ops::LoadOrStore;
 use wm_syntax::instructions::{
     BinaryOp, Comparison, Conversion, FloatBinaryOp, FloatComparison, FloatType, FloatUnaryOp,
     IntType, LoadOp, Numeric, SignExtension, StoreOp, UnaryOp,

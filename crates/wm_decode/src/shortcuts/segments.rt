@@ -5,22 +5,22 @@
 
 ghost use Rattle.std.specs.Prelude.{◌≡◌, ◌+◌, IfSome, slice_index};
 ghost use Rattle.wm_syntax.specs.exact.Reading.{unsigned_push};
-ghost use Rattle.wm_decode.specs.exact.MemberSteps.{index_item, list_or_over};
+ghost use Rattle.wm_machine.specs.exact.MemberSteps.{index_item, list_or_over};
 ghost use Rattle.wm_decode.specs.exact.Segments.{index_of, section_of, size_of};
 ghost use Rattle.wm_decode.specs.exact.Shortcuts.{Advances};
 ghost use Rattle.wm_decode.specs.exact.WholeMembers.{before_member};
 ghost use Rattle.wm_decode.specs.exact.WholeOps.{LiesAt, WholeOp};
 
 use crate::decoder::give::give;
-use crate::machine::member::{InMember, IndexOf, SectionKind};
-use crate::machine::{Machine, Plain, refusal_of};
 use crate::shortcuts::Shortcut;
 use crate::shortcuts::constants::{Constant, constant_at};
 use crate::shortcuts::in_section::InSection;
 use crate::shortcuts::whole_numbers::u32_at;
-use crate::sink::Sink;
-use crate::step::framed;
-use crate::step::members::{data_or_over, functions_or_over};
+use wm_machine::machine::member::{InMember, IndexOf, SectionKind};
+use wm_machine::machine::{Machine, Plain, refusal_of};
+use wm_machine::sink::Sink;
+use wm_machine::step::framed;
+use wm_machine::step::members::{data_or_over, functions_or_over};
 use wm_syntax::instructions::Op;
 use wm_syntax::profile::Profile;
 

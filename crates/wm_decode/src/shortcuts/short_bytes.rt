@@ -5,15 +5,15 @@ ghost use Rattle.wm_decode.specs.exact.ShortSteps.{StepsTo, standing};
 ghost use Rattle.wm_decode.specs.exact.Shortcuts.{Advances};
 
 use crate::decoder::give::give_part;
-use crate::machine::Machine;
-use crate::machine::member::{InEntry, InMember, SectionKind};
 use crate::shortcuts::Shortcut;
 use crate::shortcuts::short_steps::{
     Place, Stepped, form_byte, local_count_byte, local_type_byte, param_byte, param_count_byte,
     result_byte, result_count_byte, run_count_byte, size_byte,
 };
-use crate::sink::Sink;
-use crate::step::values::InRun;
+use wm_machine::machine::Machine;
+use wm_machine::machine::member::{InEntry, InMember, SectionKind};
+use wm_machine::sink::Sink;
+use wm_machine::step::values::InRun;
 use wm_syntax::profile::Profile;
 
 // Takes the byte at a place of a section that goes on after it, where it was found what the byte does there

@@ -5,12 +5,12 @@
 ghost use Rattle.std.specs.Prelude.{◌≡◌, ◌-◌, ◌<◌, IfSome};
 ghost use Rattle.wm_decode.specs.exact.ShortSteps.{StepsTo, standing};
 
-use crate::machine::member::{InEntry, InMember, SectionKind};
-use crate::machine::{Machine, Plain};
 use crate::shortcuts::in_section::InSection;
-use crate::step::entries::runs_or_body;
-use crate::step::types::after_param;
-use crate::step::values::{InRun, value_type};
+use wm_machine::machine::member::{InEntry, InMember, SectionKind};
+use wm_machine::machine::{Machine, Plain};
+use wm_machine::step::entries::runs_or_body;
+use wm_machine::step::types::after_param;
+use wm_machine::step::values::{InRun, value_type};
 use wm_syntax::numbers::{Num32, Step};
 use wm_syntax::profile::Profile;
 

@@ -5,13 +5,13 @@ ghost use Rattle.std.specs.Prelude.{◌<◌, length};
 ghost use Rattle.wm_decode.specs.exact.Shortcuts.{Advances};
 
 use crate::decoder::give::give_bytes;
-use crate::machine::member::InMember;
-use crate::machine::{InCustom, Machine, refusal_of};
 use crate::shortcuts::in_section::InSection;
 use crate::shortcuts::{Shortcut, at_most};
-use crate::sink::Sink;
-use crate::step::framed;
-use crate::step::members::data_or_over;
+use wm_machine::machine::member::InMember;
+use wm_machine::machine::{InCustom, Machine, refusal_of};
+use wm_machine::sink::Sink;
+use wm_machine::step::framed;
+use wm_machine::step::members::data_or_over;
 use wm_syntax::profile::Profile;
 
 /// Takes the bytes of a data segment. The sink is given them at once.

@@ -7,11 +7,11 @@ ghost use Rattle.wm_decode.specs.exact.Indices.{LiesIn, before_index, followed_i
 ghost use Rattle.wm_decode.specs.exact.WholeOps.{LiesAt};
 
 use crate::decoder::give::give_index;
-use crate::machine::Machine;
 use crate::shortcuts::Shortcut;
 use crate::shortcuts::indices::InIndices;
 use crate::shortcuts::whole_numbers::{Whole, u32_at};
-use crate::sink::Sink;
+use wm_machine::machine::Machine;
+use wm_machine::sink::Sink;
 use wm_syntax::profile::Profile;
 
 // After so many indices that have one byte each the loop over those of any length ends: the decoder's next

@@ -5,22 +5,22 @@
 ghost use Rattle.std.specs.Prelude.{◌≡◌, ◌+◌, ◌<◌, ◌≤◌, ◌^◌, ℕ, IfSome, Some, length, slice_index};
 ghost use Rattle.wm_syntax.specs.declared.profile.Profile.{Profile};
 ghost use Rattle.wm_syntax.specs.exact.Reading.{fresh};
-ghost use Rattle.wm_decode.specs.declared.step.reading.Reading.TheVariants.{More};
-ghost use Rattle.wm_decode.specs.declared.step.ops.InOp.TheVariants.{BlockType, CallType, Const32};
-ghost use Rattle.wm_decode.specs.declared.step.ops.InOp.TheVariants.{Const64, Memory};
-ghost use Rattle.wm_decode.specs.exact.OpSteps.{access_class, fresh_index, index_op};
-ghost use Rattle.wm_decode.specs.exact.ExpressionSteps.{after_op, at_next_op};
+ghost use Rattle.wm_machine.specs.declared.step.reading.Reading.TheVariants.{More};
+ghost use Rattle.wm_machine.specs.declared.step.ops.InOp.TheVariants.{BlockType, CallType, Const32};
+ghost use Rattle.wm_machine.specs.declared.step.ops.InOp.TheVariants.{Const64, Memory};
+ghost use Rattle.wm_machine.specs.exact.OpSteps.{access_class, fresh_index, index_op};
+ghost use Rattle.wm_machine.specs.exact.ExpressionSteps.{after_op, at_next_op};
 ghost use Rattle.wm_decode.specs.exact.WholeOps.{GaveAs, OpUnder, RanTo, TookAs, WholeOp};
 ghost use Rattle.wm_decode.specs.exact.WholeOps.{class_row, first_read};
 
-use crate::item::Item;
 use crate::shortcuts::op_groups::{
     binary, comparison, conversion, float_binary, float_comparison, float_unary, narrow_load,
     narrow_store, sign_extension, unary,
 };
 use crate::shortcuts::whole_numbers::{s32_at, s64_at, u32_at};
-use crate::sink::Sink;
-use crate::step::ops::{Indexed, LoadOrStore, Opening, Sizing, push_32, push_64};
+use wm_machine::item::Item;
+use wm_machine::sink::Sink;
+use wm_machine::step::ops::{Indexed, LoadOrStore, Opening, Sizing, push_32, push_64};
 use wm_syntax::instructions::FloatType::{F32, F64};
 use wm_syntax::instructions::IntType::{I32, I64};
 use wm_syntax::instructions::op_class::{Immediates, OpClass};

@@ -23,10 +23,10 @@ use Rattle.wm_rules.specs.declared.builder.Purpose.{Purpose}
 use Rattle.wm_rules.specs.declared.builder.Purpose.TheVariants as purpose
 use Rattle.wm_rules.specs.declared.builder.Pending.{Pending}
 use Rattle.wm_syntax.specs.exact.Runs.{add_run}
-use Rattle.wm_decode.specs.Items.{Item, new_type, param, result_count, one_result, import_module, import_name}
-use Rattle.wm_decode.specs.Items.{import_desc, function, table, memory, global, const_op, export_name, export}
-use Rattle.wm_decode.specs.Items.{start, element, element_function, body, locals, body_op, segment, data_byte}
-use Rattle.wm_decode.specs.Sinks.{and_then}
+use Rattle.wm_machine.specs.Items.{Item, new_type, param, result_count, one_result, import_module, import_name}
+use Rattle.wm_machine.specs.Items.{import_desc, function, table, memory, global, const_op, export_name, export}
+use Rattle.wm_machine.specs.Items.{start, element, element_function, body, locals, body_op, segment, data_byte}
+use Rattle.wm_machine.specs.Sinks.{and_then}
 
 -- a code entry at hand: its locals, and its body so far
 pub record Code : Type 0 where

@@ -21,10 +21,10 @@ use Rattle.wm_typing.specs.declared.stats.BodyStats.{BodyStats}
 use Rattle.wm_typing.specs.Bodies.{Body, no_stats, no_body}
 use Rattle.wm_typing.specs.Typing.{function_type}
 use Rattle.wm_typing.specs.exact.Bodies.{body_at_start, declared_more, progress_at, body_after_op}
-use Rattle.wm_decode.specs.Items.{Item, new_type, param, result_count, one_result, import_module, import_name}
-use Rattle.wm_decode.specs.Items.{import_desc, function, table, memory, global, const_op, export_name, export}
-use Rattle.wm_decode.specs.Items.{start, element, element_function, body, locals, body_op, segment, data_byte}
-use Rattle.wm_decode.specs.Sinks.{and_then}
+use Rattle.wm_machine.specs.Items.{Item, new_type, param, result_count, one_result, import_module, import_name}
+use Rattle.wm_machine.specs.Items.{import_desc, function, table, memory, global, const_op, export_name, export}
+use Rattle.wm_machine.specs.Items.{start, element, element_function, body, locals, body_op, segment, data_byte}
+use Rattle.wm_machine.specs.Sinks.{and_then}
 use Rattle.wm_rules.specs.declared.checker.Summary.{Summary}
 use Rattle.wm_rules.specs.declared.constants.Constant.{Constant}
 use Rattle.wm_rules.specs.exact.Spaces.{no_items, context_of, type_begun, param_added, result_added}

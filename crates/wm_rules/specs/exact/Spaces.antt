@@ -15,7 +15,7 @@ use Rattle.wm_syntax.specs.declared.why.Why.TheVariants as why
 use Rattle.wm_syntax.specs.Types.{Signature}
 use Rattle.wm_typing.specs.Contexts.{AreTypes, context}
 use Rattle.wm_typing.specs.Typing.{Context}
-use Rattle.wm_decode.specs.Sinks.{and_then}
+use Rattle.wm_machine.specs.Sinks.{and_then}
 use Rattle.wm_rules.specs.Holding.{IndexSpaces}
 
 abbrev pub no_items : IndexSpaces

@@ -1,7 +1,7 @@
 //! Sinks of the tests of the decoder: they write down, count or refuse.
 
 ghost use Rattle.std.specs.Prelude.{◌≡◌, Err, IfErr, Ok, refl};
-ghost use Rattle.wm_decode.specs.Items.{data_byte};
+ghost use Rattle.wm_machine.specs.Items.{data_byte};
 ghost use Rattle.wm_syntax.specs.declared.why.Why.TheVariants.{Arity, Memory};
 
 use std::alloc::{AllocError, Global};

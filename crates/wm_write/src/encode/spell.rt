@@ -3,7 +3,7 @@
 ghost use Rattle.std.specs.Prelude.{◌≡◌, ◌++◌, ◌∷◌, [], length, ◌≤◌, ◌+◌, pos};
 ghost use Rattle.wm_write.specs.Canon.{desc_bytes, global_type_bytes, limits_bytes, immediates};
 ghost use Rattle.wm_write.specs.Canon.{op_bytes, u32_bytes};
-ghost use Rattle.wm_decode.specs.Sections.{kind_byte};
+ghost use Rattle.wm_machine.specs.Sections.{kind_byte};
 ghost use Rattle.wm_syntax.specs.declared.instructions.Op.{Op};
 ghost use Rattle.wm_syntax.specs.Instructions.{float_bytes};
 ghost use Rattle.wm_syntax.specs.Leb128.{signed_bytes};

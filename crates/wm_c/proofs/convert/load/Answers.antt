@@ -1,6 +1,6 @@
 -- What is said of the bytes whatever comes after them is said of them.
 use Rattle.std.proofs.Common.{◌≡◌, ◌++◌, List, ℕ, [], Result, Err, append-nil, subst}
-use Rattle.wm_decode.specs.declared.refusal.Refusal.{Refusal}
+use Rattle.wm_machine.specs.declared.refusal.Refusal.{Refusal}
 use Rattle.wm_rules.specs.declared.checker.Summary.{Summary}
 use Rattle.wm_rules.specs.inner.Validators.{verdict}
 use Rattle.wm_rules.specs.Meanings.{Meaning}

@@ -1,9 +1,9 @@
 use Rattle.std.proofs.Common.{◌≡◌, ◌<◌, ◌+◌, ◌++◌, ℕ, Result, Err, MatchResult, rules, slice_range, slice_index, subst, sym}
 use Rattle.wm_syntax.specs.declared.why.Why.{Why}
 use Rattle.wm_syntax.specs.declared.why.Why.TheVariants.{Memory}
-use Rattle.wm_decode.specs.declared.machine.Event.{Event}
-use Rattle.wm_decode.specs.exact.Live.{MayRunOutAtEvent}
-use Rattle.wm_decode.proofs.Room.{name_ends}
+use Rattle.wm_machine.specs.declared.machine.Event.{Event}
+use Rattle.wm_machine.specs.exact.Live.{MayRunOutAtEvent}
+use Rattle.wm_machine.proofs.Room.{name_ends}
 use Rattle.wm_decode.proofs.decoder.deliver.Goals as goal
 
 pub returns-in_err-end_name-in-EndsName-clause-room : goal.returns-in_err-end_name-in-EndsName-clause-room

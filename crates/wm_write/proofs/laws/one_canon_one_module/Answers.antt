@@ -1,7 +1,7 @@
 use Rattle.std.proofs.Common.{subst, sym}
 use Rattle.wm_syntax.specs.declared.profile.Profile.TheVariants.{Four}
-use Rattle.wm_decode.specs.Sections.{SpellsModule}
-use Rattle.wm_decode.proofs.OneSpelling.{one_spelling}
+use Rattle.wm_machine.specs.Sections.{SpellsModule}
+use Rattle.wm_machine.proofs.OneSpelling.{one_spelling}
 use Rattle.wm_write.specs.Canon.{canon}
 use Rattle.wm_write.proofs.CanonSpells.{spells}
 use Rattle.wm_write.proofs.Ranges.{locals_of_four}

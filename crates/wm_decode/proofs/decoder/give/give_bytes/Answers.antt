@@ -1,4 +1,4 @@
-use Rattle.wm_decode.proofs.TakenItems.{slice_taken}
+use Rattle.wm_machine.proofs.TakenItems.{slice_taken}
 use Rattle.wm_decode.proofs.decoder.give.give_bytes.Goals as goal
 
 pub returns-clause-given : goal.returns-clause-given

@@ -1,5 +1,5 @@
 use Rattle.std.proofs.Common.{◌+◌, refl, subst, sym, arith}
-use Rattle.wm_decode.specs.declared.machine.Machine.TheVariants as machine
+use Rattle.wm_machine.specs.declared.machine.Machine.TheVariants as machine
 use Rattle.wm_decode.specs.exact.Frames.{LeadsTo}
 use Rattle.wm_decode.proofs.FrameBytes.{frames_advance, frames_join, header_leads}
 use Rattle.wm_decode.proofs.shortcuts.frames.from_header.Goals as goal

@@ -1,5 +1,5 @@
 use Rattle.std.proofs.Common.{slice_index, subst}
-use Rattle.wm_decode.specs.declared.machine.Machine.TheVariants as machine
+use Rattle.wm_machine.specs.declared.machine.Machine.TheVariants as machine
 use Rattle.wm_syntax.specs.exact.Reading.{fresh}
 use Rattle.wm_decode.specs.exact.Frames.{IsFrameStep}
 use Rattle.wm_decode.proofs.FrameBytes.{frames_more}

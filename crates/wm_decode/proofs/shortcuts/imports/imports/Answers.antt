@@ -1,5 +1,5 @@
 use Rattle.std.proofs.Common.{◌+◌, ◌<◌, ◌≤◌, ◌-◌, arith, refl}
-use Rattle.wm_decode.specs.declared.machine.member.SectionKind.TheVariants as section_kind
+use Rattle.wm_machine.specs.declared.machine.member.SectionKind.TheVariants as section_kind
 use Rattle.wm_decode.specs.exact.WholeMembers.{before_member, section_after}
 use Rattle.wm_decode.proofs.Completed.{none_yet, ok, then_refused, then_taken}
 use Rattle.wm_decode.proofs.Completed.Gave.{also, nothing}

@@ -1,6 +1,6 @@
 use Rattle.std.proofs.Common.{◌≡◌, ◌<◌, Ok, arith, length, rules, slice_index, subst}
 use Rattle.wm_decode.specs.exact.Indices.{index_item_in}
-use Rattle.wm_decode.proofs.TakenItems.{number_taken}
+use Rattle.wm_machine.proofs.TakenItems.{number_taken}
 use Rattle.wm_decode.proofs.shortcuts.indices.give_indices.Goals as goal
 
 pub loop-i-preserved : goal.loop-i-preserved

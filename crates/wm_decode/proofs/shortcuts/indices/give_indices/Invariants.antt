@@ -1,5 +1,5 @@
 use Rattle.std.proofs.Common.{◌≡◌, Ok, take, map}
-use Rattle.wm_decode.specs.Sinks.{all_taken}
+use Rattle.wm_machine.specs.Sinks.{all_taken}
 use Rattle.wm_decode.specs.exact.Indices.{index_item_in}
 use Rattle.wm_decode.proofs.shortcuts.indices.give_indices.Given as goal
 

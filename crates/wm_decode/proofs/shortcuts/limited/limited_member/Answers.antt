@@ -1,6 +1,6 @@
 use Rattle.std.proofs.Common.{◌-◌, ◌∙◌, ap, arith}
-use Rattle.wm_decode.specs.declared.machine.member.InMember.TheVariants as at
-use Rattle.wm_decode.specs.exact.Steps.{machine_in_member}
+use Rattle.wm_machine.specs.declared.machine.member.InMember.TheVariants as at
+use Rattle.wm_machine.specs.exact.Steps.{machine_in_member}
 use Rattle.wm_decode.proofs.Completed.{first_taken}
 use Rattle.wm_decode.proofs.Completed.Gave.{nothing}
 use Rattle.wm_decode.proofs.LimitBytes.{limits_complete}

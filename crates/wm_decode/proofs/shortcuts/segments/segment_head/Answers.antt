@@ -1,6 +1,6 @@
 use Rattle.std.proofs.Common.{◌+◌, ◌-◌, ◌≤◌, ◌<◌, ap, arith, length, refl, ◌∙◌}
 use Rattle.wm_decode.specs.exact.Segments.{section_of}
-use Rattle.wm_decode.specs.exact.Steps.{machine_in_member}
+use Rattle.wm_machine.specs.exact.Steps.{machine_in_member}
 use Rattle.wm_decode.proofs.Completed.{first_refused, first_taken, ok}
 use Rattle.wm_decode.proofs.Completed.Gave.{also, nothing}
 use Rattle.wm_decode.proofs.SegmentHeads.{head_closed, head_indexed, head_offset, head_sized}

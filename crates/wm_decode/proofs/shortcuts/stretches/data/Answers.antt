@@ -1,8 +1,8 @@
 use Rattle.std.proofs.Common.{◌-◌, ap, arith, refl, ◌∙◌}
-use Rattle.wm_decode.specs.declared.machine.member.InMember.TheVariants as at
+use Rattle.wm_machine.specs.declared.machine.member.InMember.TheVariants as at
 use Rattle.wm_decode.specs.declared.shortcuts.in_section.InSection.{InSection}
-use Rattle.wm_decode.specs.exact.Live.{refusal_in_machine}
-use Rattle.wm_decode.specs.exact.Steps.{machine_in_member}
+use Rattle.wm_machine.specs.exact.Live.{refusal_in_machine}
+use Rattle.wm_machine.specs.exact.Steps.{machine_in_member}
 use Rattle.wm_decode.specs.exact.WholeMembers.{in_member}
 use Rattle.wm_decode.proofs.Advances.{advances_by, advances_data, advances_data_end, advances_data_out}
 use Rattle.wm_decode.proofs.shortcuts.stretches.data.Goals as goal

@@ -1,5 +1,5 @@
 use Rattle.std.proofs.Common.{◌-◌, ap, arith, refl, ◌∙◌}
-use Rattle.wm_decode.specs.declared.machine.Machine.TheVariants.{Custom}
+use Rattle.wm_machine.specs.declared.machine.Machine.TheVariants.{Custom}
 use Rattle.wm_decode.proofs.Advances.{advances_by, advances_pass}
 use Rattle.wm_decode.proofs.shortcuts.stretches.pass.Goals as goal
 

@@ -1,6 +1,6 @@
 use Rattle.std.proofs.Common.{rules, sym, subst, SFits, w64}
 use Rattle.std.proofs.lemmas.Int.{to_z-of_z}
-use Rattle.wm_decode.specs.exact.OpSteps.{const_64_op}
+use Rattle.wm_machine.specs.exact.OpSteps.{const_64_op}
 use Rattle.wm_decode.specs.exact.WholeOps.{WholeOp}
 use Rattle.wm_decode.proofs.OpLists.{whole_const_64}
 use Rattle.wm_decode.proofs.shortcuts.whole_ops.const_64.Goals as goal

@@ -1,4 +1,4 @@
-use Rattle.wm_decode.specs.Sinks.{items_for}
+use Rattle.wm_machine.specs.Sinks.{items_for}
 use Rattle.wm_rules.proofs.BothSinks.{first_refused, first_ran_out, second_took, second_ran_out}
 use Rattle.wm_rules.proofs.both.BothSink.take.Goals as goal
 

@@ -1,5 +1,5 @@
 use Rattle.wm_rules.specs.inner.Builders.{built}
-use Rattle.wm_decode.specs.Sinks.{items_for}
+use Rattle.wm_machine.specs.Sinks.{items_for}
 use Rattle.wm_rules.proofs.BuiltData.{bytes_room, bytes_took}
 use Rattle.wm_rules.proofs.builder.Builder.take_other.Goals as goal
 

@@ -1,4 +1,4 @@
-use Rattle.wm_decode.specs.Sinks.{items_for}
+use Rattle.wm_machine.specs.Sinks.{items_for}
 use Rattle.wm_rules.specs.exact.Policing.{counts_in}
 use Rattle.wm_rules.proofs.NoCounts.{counted_ran_out, counted_took, refused_ran_out, refused_took}
 use Rattle.wm_rules.proofs.checker.Checker.take_by_both.Goals as goal

@@ -1,6 +1,7 @@
 use Rattle.std.proofs.Common.{◌≡◌, ◌≤◌, ℕ, List, ◌++◌, drop, arith, ap, sym, ◌∙◌, subst, slice_range}
 use Rattle.wm_syntax.specs.declared.profile.Profile.{Profile}
-use Rattle.wm_decode.specs.exact.Live.{decoder_after, live_with}
+use Rattle.wm_machine.specs.exact.Live.{decoder_after}
+use Rattle.wm_decode.specs.exact.Standing.{live_with}
 use Rattle.wm_decode.proofs.OpLists.{range_split}
 use Rattle.wm_decode.proofs.decoder.state.Decoder.advance.Goals as goal
 

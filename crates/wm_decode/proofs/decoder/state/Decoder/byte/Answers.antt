@@ -1,5 +1,5 @@
 use Rattle.std.proofs.Common.{get_or, sym, ◌∙◌}
-use Rattle.wm_decode.proofs.Header.{memory_late, goes_at}
+use Rattle.wm_machine.proofs.Header.{memory_late, goes_at}
 use Rattle.wm_decode.proofs.decoder.state.Decoder.byte.Goals as goal
 
 pub returns-in-Some-clause-memory : goal.returns-in-Some-clause-memory

@@ -1,5 +1,5 @@
 use Rattle.std.proofs.Common.{◌≡◌, length, arith, ap}
-use Rattle.wm_decode.proofs.Room.{only_byte}
+use Rattle.wm_machine.proofs.Room.{only_byte}
 use Rattle.wm_decode.proofs.decoder.state.Decoder.bytes.Goals as goal
 
 pub returns-in-Err-clause-room : goal.returns-in-Err-clause-room

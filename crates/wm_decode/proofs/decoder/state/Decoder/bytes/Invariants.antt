@@ -1,5 +1,6 @@
 use Rattle.std.proofs.Common.{ℕ, ◌∷◌, ◌≡◌, ◌+◌, ◌-◌, ◌≤◌, ◌<◌, slice_range, [], drop, length}
-use Rattle.wm_decode.specs.exact.Live.{MayRunOutAtByte, decoder_after, IsRefused, IsAt, live_with}
+use Rattle.wm_machine.specs.exact.Live.{MayRunOutAtByte, decoder_after, IsRefused, IsAt}
+use Rattle.wm_decode.specs.exact.Standing.{live_with}
 use Rattle.wm_decode.proofs.decoder.state.Decoder.bytes.Given as goal
 
 abbrev pub invariant-loop-i : goal.invariant-loop-i

@@ -1,6 +1,6 @@
 use Rattle.std.proofs.Common.{arith}
 use Rattle.wm_decode.proofs.DecoderCalls.{are_bytes, fed_after, on_taken, on_so_far, on_refused, on_same, on_place, on_header, on_float, on_refusal, stands_refused}
-use Rattle.wm_decode.specs.exact.Live.{state_of}
+use Rattle.wm_decode.specs.exact.Standing.{state_of}
 use Rattle.wm_decode.proofs.NoMemory.{take_room}
 use Rattle.wm_decode.proofs.decoder.state.Decoder.feed.Goals as goal
 

@@ -1,9 +1,9 @@
 use Rattle.std.proofs.Common.{◌≡◌, ◌+◌, ◌-◌, ◌≤◌, ℕ, List, ◌++◌, length, drop, take, arith, ap, sym, ◌∙◌, length-drop, refl, append_assoc, slice_range}
 use Rattle.std.proofs.lemmas.List.{drop-drop}
-use Rattle.wm_decode.specs.exact.Live.{decoder_after}
-use Rattle.wm_decode.specs.declared.machine.Machine.TheVariants as machine
-use Rattle.wm_decode.specs.declared.machine.member.InMember.TheVariants as at
-use Rattle.wm_decode.proofs.Stretches.{names}
+use Rattle.wm_machine.specs.exact.Live.{decoder_after}
+use Rattle.wm_machine.specs.declared.machine.Machine.TheVariants as machine
+use Rattle.wm_machine.specs.declared.machine.member.InMember.TheVariants as at
+use Rattle.wm_machine.proofs.Stretches.{names}
 use Rattle.wm_decode.proofs.decoder.state.Decoder.name_part.Goals as goal
 
 pub returns-clause-moved : goal.returns-clause-moved

@@ -1,4 +1,4 @@
-use Rattle.wm_decode.proofs.Room.{kept_byte}
+use Rattle.wm_machine.proofs.Room.{kept_byte}
 use Rattle.wm_decode.proofs.decoder.state.Decoder.take_cut.Goals as goal
 
 pub returns-in-Ok-clause-room : goal.returns-in-Ok-clause-room

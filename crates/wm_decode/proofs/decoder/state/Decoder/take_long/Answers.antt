@@ -1,7 +1,7 @@
 use Rattle.std.proofs.Common.{◌≡◌, ℕ, ◌+◌, ◌-◌, ◌≤◌, ◌<◌, List, [], length, take, drop, arith, sym, ap, length-drop, length-take}
 use Rattle.std.proofs.lemmas.List.{take-append-drop}
-use Rattle.wm_decode.proofs.Limits.{long_fed, refused_cut}
-use Rattle.wm_decode.specs.exact.Live.{live_with}
+use Rattle.wm_machine.proofs.Limits.{long_fed, refused_cut}
+use Rattle.wm_decode.specs.exact.Standing.{live_with}
 use Rattle.wm_decode.proofs.decoder.state.Decoder.take_long.Goals as goal
 
 some : (n : ℕ) (b : List ℕ) → n < length b → drop n b ≡ [] → ⊥

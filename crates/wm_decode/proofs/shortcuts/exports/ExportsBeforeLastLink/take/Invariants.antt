@@ -1,5 +1,5 @@
 use Rattle.std.proofs.Common.{◌≤◌, None, length}
-use Rattle.wm_decode.specs.declared.machine.member.SectionKind.TheVariants as section_kind
+use Rattle.wm_machine.specs.declared.machine.member.SectionKind.TheVariants as section_kind
 use Rattle.wm_decode.specs.exact.Shortcuts.{Advances}
 use Rattle.wm_decode.specs.exact.WholeMembers.{before_member, section_after}
 use Rattle.wm_decode.proofs.shortcuts.exports.ExportsBeforeLastLink.take.Given as goal

@@ -1,5 +1,5 @@
 use Rattle.std.proofs.Common.{Ok, refl}
-use Rattle.wm_decode.specs.Sinks.{items_for}
+use Rattle.wm_machine.specs.Sinks.{items_for}
 use Rattle.wm_tests.proofs.IdleSinks.{ok_room, taken_quietly}
 use Rattle.wm_tests.proofs.decode.sinks.CounterSink.take.Goals as goal
 

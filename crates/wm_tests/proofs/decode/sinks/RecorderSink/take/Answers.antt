@@ -1,5 +1,5 @@
 use Rattle.std.proofs.Common.{Ok, refl}
-use Rattle.wm_decode.specs.Sinks.{items_for}
+use Rattle.wm_machine.specs.Sinks.{items_for}
 use Rattle.wm_tests.proofs.IdleSinks.{any_room, quiet_or_memory}
 use Rattle.wm_tests.proofs.decode.sinks.RecorderSink.take.Goals as goal
 

@@ -1,6 +1,0 @@
-use Rattle.wm_decode.proofs.OneFlat.{one_flat}
-use Rattle.wm_decode.proofs.OneModule.{module_of_parts}
-use Rattle.wm_decode.proofs.laws.items_determine_module.Goals as goal
-
-pub returns : goal.returns
-returns c = record { flat = one_flat; nested = module_of_parts }

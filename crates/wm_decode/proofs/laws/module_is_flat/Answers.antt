@@ -1,5 +1,0 @@
-use Rattle.wm_decode.proofs.Nesting.{flat_from, flat_to}
-use Rattle.wm_decode.proofs.laws.module_is_flat.Goals as goal
-
-pub returns : goal.returns
-returns c = record { flat = flat_to; nested = flat_from }

@@ -1,5 +1,0 @@
-use Rattle.wm_decode.proofs.Nesting.{spells_more}
-use Rattle.wm_decode.proofs.laws.more_features_spell_as_much.Goals as goal
-
-pub returns : goal.returns
-returns c = λ p q m b more h. spells_more p q more m b h

@@ -1,5 +1,0 @@
-use Rattle.wm_decode.proofs.BetweenProfiles.{answers_apart}
-use Rattle.wm_decode.proofs.laws.profiles_answer_alike.Goals as goal
-
-pub returns : goal.returns
-returns g c = λ p q limit first input more. answers_apart p q more g.S.Sink.after limit first input

@@ -1,5 +1,0 @@
-use Rattle.wm_decode.proofs.TakenItems.{slices_taken}
-use Rattle.wm_decode.proofs.laws.slices_join.Goals as goal
-
-pub returns : goal.returns
-returns g c = slices_taken g.S.Sink.after

@@ -1,0 +1,18 @@
+-- How a decoder stands, as the machine and the sink over the bytes so far.
+use Rattle.std.specs.Prelude.{List, ℕ, ◌++◌, Result}
+use Rattle.wm_machine.specs.declared.refusal.Refusal.{Refusal}
+use Rattle.wm_decode.specs.declared.decoder.state.Decoder.{Decoder}
+use Rattle.wm_machine.specs.exact.Live.{Live, live_or_refused}
+
+-- how a decoder stands, by what is seen of its sink
+abbrev pub state_of : {S H : Type 0} → (S → H) → Decoder S → Result (Live H) Refusal
+state_of held d = live_or_refused d.machine d.name.items (held d.sink) d.at
+
+-- how it stands within a piece, with this part of it in the name at hand
+abbrev pub live_with : {S H : Type 0} → (S → H) → Decoder S → List ℕ → Live H
+live_with held d part = record {
+  machine = d.machine;
+  name = d.name.items ++ part;
+  held = held d.sink;
+  at = d.at;
+}

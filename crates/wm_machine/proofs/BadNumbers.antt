@@ -1,0 +1,892 @@
+-- BadNumber is given at a byte with which no number goes on that has begun and must stand.
+use Rattle.std.proofs.Common.{◌≡◌, ◌≢◌, ℕ, zero, suc, ◌<◌, ◌^◌, ◌⊎◌, inl, inr, Bool, true, false, List, [], ◌∷◌, ◌++◌, Option, Some, None, Result, ℤ, pos, refl, sym, ◌∙◌, ap, subst, arith, nat_eq, nat_lt, nat_le, append_assoc, append-nil}
+use Rattle.std.proofs.lemmas.Bool.{cond_both}
+use Rattle.std.specs.Prelude.{slice_index}
+use Rattle.std.specs.Str.{is_utf8}
+use Rattle.wm_syntax.specs.declared.numbers.Step.{Step}
+use Rattle.wm_syntax.specs.declared.numbers.Step.TheVariants as step
+use Rattle.wm_syntax.specs.inner.Numbers.{Partial, SignedRest, UnsignedAfter, SignedAfter}
+use Rattle.wm_syntax.specs.exact.Reading.{fresh, last_signed, unsigned_push, signed_push}
+use Rattle.wm_syntax.specs.exact.ByteTable.{class_under}
+use Rattle.wm_syntax.specs.declared.profile.Profile.{Profile}
+use Rattle.wm_syntax.specs.Profiles.{has, type_feature}
+use Rattle.wm_syntax.specs.declared.types.ValType.{ValType}
+use Rattle.wm_syntax.specs.declared.types.ValType.TheVariants.{I32, I64, F32, F64}
+use Rattle.wm_syntax.specs.declared.types.Limits.{Limits}
+use Rattle.wm_syntax.specs.declared.types.GlobalType.{GlobalType}
+use Rattle.wm_syntax.specs.declared.modules.ImportDesc.TheVariants as desc
+use Rattle.wm_syntax.specs.declared.instructions.Op.{Op}
+use Rattle.wm_syntax.specs.declared.instructions.Op.TheVariants as op
+use Rattle.wm_syntax.specs.declared.instructions.op_class.OpClass.{OpClass}
+use Rattle.wm_syntax.specs.declared.instructions.op_class.OpClass.TheVariants.{Plain as APlain, With, Float, None as NoClass}
+use Rattle.wm_syntax.specs.declared.instructions.op_class.Immediates.{Immediates}
+use Rattle.wm_syntax.specs.declared.instructions.op_class.Immediates.TheVariants as k
+use Rattle.wm_syntax.specs.declared.why.Why.{Why}
+use Rattle.wm_syntax.specs.declared.why.Why.TheVariants as why
+use Rattle.wm_machine.specs.declared.step.reading.Reading.{Reading}
+use Rattle.wm_machine.specs.declared.step.reading.Reading.TheVariants.{More, Done, Bad}
+use Rattle.wm_machine.specs.declared.step.ops.Opening.{Opening}
+use Rattle.wm_machine.specs.declared.step.ops.InOp.{InOp}
+use Rattle.wm_machine.specs.declared.step.ops.InOp.TheVariants as in_op
+use Rattle.wm_machine.specs.declared.step.values.InLimits.{InLimits}
+use Rattle.wm_machine.specs.declared.step.values.InLimits.TheVariants as limits
+use Rattle.wm_machine.specs.declared.step.values.InTableType.{InTableType}
+use Rattle.wm_machine.specs.declared.step.values.InTableType.TheVariants as table
+use Rattle.wm_machine.specs.declared.step.values.InGlobalType.{InGlobalType}
+use Rattle.wm_machine.specs.declared.step.values.InGlobalType.TheVariants as global
+use Rattle.wm_machine.specs.declared.step.values.InImportDesc.{InImportDesc}
+use Rattle.wm_machine.specs.declared.step.values.InImportDesc.TheVariants as import
+use Rattle.wm_machine.specs.declared.step.values.InExportDesc.{InExportDesc}
+use Rattle.wm_machine.specs.declared.step.values.InExportDesc.TheVariants as target
+use Rattle.wm_machine.specs.declared.step.values.InRun.{InRun}
+use Rattle.wm_machine.specs.declared.step.values.InRun.TheVariants as run
+use Rattle.wm_machine.specs.declared.step.values.InValue.{InValue}
+use Rattle.wm_machine.specs.declared.step.values.InValue.TheVariants as value
+use Rattle.wm_machine.specs.declared.step.expressions.InExpression.{InExpression}
+use Rattle.wm_machine.specs.declared.step.expressions.InExpression.TheVariants as expression
+use Rattle.wm_machine.specs.declared.machine.Plain.TheVariants as plain
+use Rattle.wm_machine.specs.Meanings.{Integer, u32, s32, s64, spells, goes_on, CanGoOn, MustStand, WrongNumber}
+use Rattle.wm_machine.specs.exact.ValueSteps.{read_number, map_reading, after_min, limits_push, table_type_push, type_under, value_type_of, read_type, global_type_push, desc_push, target_push, run_push, value_push}
+use Rattle.wm_machine.specs.exact.OpSteps.{block_op, float_32_step, float_64_step, index_op, call_op, memory_op, const_32_op, const_64_op, on_answer, immediates, first_step, block_step, closing_step, op_push}
+use Rattle.wm_machine.specs.exact.ExpressionSteps.{start, ends as op_ends, after_op, after_label, after_reading, expression_failed, expression_step}
+use Rattle.wm_machine.proofs.OpRest.{at_offset}
+use Rattle.std.proofs.Common.{◌↔◌}
+use Rattle.wm_syntax.specs.Spelling.{AreBytes}
+use Rattle.wm_syntax.specs.Leb128.{Signed}
+use Rattle.wm_syntax.proofs.Readers.{unsigned_fresh, signed_fresh, signed_law, Goes as NumberGoes}
+use Rattle.wm_machine.specs.declared.machine.NameKind.{NameKind}
+use Rattle.wm_machine.specs.declared.machine.NameKind.TheVariants as name
+use Rattle.wm_machine.specs.declared.machine.InCustom.{InCustom}
+use Rattle.wm_machine.specs.declared.machine.InCustom.TheVariants as custom
+use Rattle.wm_machine.specs.declared.machine.Machine.{Machine}
+use Rattle.wm_machine.specs.declared.machine.Machine.TheVariants as machine
+use Rattle.wm_machine.specs.declared.machine.Event.{Event}
+use Rattle.wm_machine.specs.declared.machine.Event.TheVariants as event
+use Rattle.wm_machine.specs.declared.machine.member.SectionKind.{SectionKind}
+use Rattle.wm_machine.specs.declared.machine.member.SectionKind.TheVariants as section_kind
+use Rattle.wm_machine.specs.declared.machine.member.IndexOf.{IndexOf}
+use Rattle.wm_machine.specs.declared.machine.member.IndexOf.TheVariants as index
+use Rattle.wm_machine.specs.declared.machine.member.ConstantOf.{ConstantOf}
+use Rattle.wm_machine.specs.declared.machine.member.ConstantOf.TheVariants as constant
+use Rattle.wm_machine.specs.declared.machine.member.LengthOf.{LengthOf}
+use Rattle.wm_machine.specs.declared.machine.member.LengthOf.TheVariants as length_of
+use Rattle.wm_machine.specs.declared.machine.member.InEntry.{InEntry}
+use Rattle.wm_machine.specs.declared.machine.member.InEntry.TheVariants as entry
+use Rattle.wm_machine.specs.declared.machine.member.InMember.{InMember}
+use Rattle.wm_machine.specs.declared.machine.member.InMember.TheVariants as at
+use Rattle.wm_machine.specs.Items.{Zone, Marks}
+use Rattle.wm_machine.specs.Sections.{header}
+use Rattle.wm_machine.specs.Grammar.{strict}
+use Rattle.wm_machine.specs.exact.Members.{section_kind_of, member_at_start}
+use Rattle.wm_machine.specs.exact.MemberSteps.{on_number, on_value, on_type, with_item_given, after_param, after_result, after_name, after_length, name_step, functions_or_over, index_item, after_index, constant_over, after_constant, data_or_over, list_or_over, runs_or_body, entry_after_op, entry_step, member_in_entry, member_step}
+use Rattle.wm_machine.specs.exact.Steps.{custom_after_length, machine_in_custom, custom_step, machine_in_member, machine_after_count, machine_after_paired_count, after_count, begun_section, machine_if_rising, section_start, machine_in_contents, after_size, custom_size, header_step, step_of}
+use Rattle.wm_machine.specs.exact.Runs.{byte_read, ByteRead, MachineState, zone_of, after_byte, state_after, marks, state_at_start}
+use Rattle.wm_machine.specs.exact.Live.{IsRefused}
+use Rattle.wm_machine.proofs.Numbers.{NumberNext, number_next}
+use Rattle.wm_machine.proofs.MachineStates.{Fits, step_fits, run_fits}
+use Rattle.wm_machine.proofs.MachineAndSink.{begin_fits}
+use Rattle.wm_machine.proofs.WholeMachine.{MayEnd, MachineRest, machine_follows, ends, begin_to, run_to}
+use Rattle.wm_machine.proofs.Fronts.{is_front}
+use Rattle.wm_machine.proofs.OpSound.{HasRoom, RoomAfter, fresh_room, unsigned_room, signed_room, last_byte, last_signed_byte}
+use Rattle.wm_machine.proofs.WrongMembers.{can_stand}
+use Rattle.wm_machine.proofs.NumbersAtHand.{Num, num_op, num_limits, num_table, num_global, num_desc, num_target, num_run, num_value, num_expression, num_entry, num_member, num_custom, num_machine, RestOf, Rests, number_can}
+use Rattle.wm_machine.proofs.SpelledBytes.{whole_bytes}
+use Rattle.wm_machine.proofs.FramedBytes.{Numbers, numbers}
+
+abbrev IsNew : Num → Type 0
+IsNew None = Unit {0}
+IsNew (Some q) = q.1 ≡ fresh
+
+-- What a byte makes of a state. Outside a number it is refused by another name, or a number may begin. In one, it goes on with the
+-- number, unless a size refuses it.
+module _ {M : Type 0} (fail : Why → M) (num : M → Num) where
+  abbrev IsCut : M → Type 0
+  IsCut x = (w : Why) × (x ≡ fail w) × (w ≢ why.BadNumber)
+
+  abbrev Settled : M → Type 0
+  Settled x = IsNew (num x) × (x ≢ fail why.BadNumber)
+
+  abbrev Pushed : {T : Type 0} → Integer → Step T × Partial → M → Type 0
+  Pushed i (step.More, s) x = ((num x ≡ Some (i, s)) × (x ≢ fail why.BadNumber)) ⊎ IsCut x
+  Pushed i (step.Done v, s) x = Settled x
+  Pushed i (step.Bad, s) x = x ≡ fail why.BadNumber
+
+  abbrev Law : Num → ℕ → M → Type 0
+  Law None c x = Settled x
+  Law (Some (u32, r)) c x = Pushed u32 (unsigned_push 32 r c) x
+  Law (Some (s32, r)) c x = Pushed s32 (signed_push 32 r c) x
+  Law (Some (s64, r)) c x = Pushed s64 (signed_push 64 r c) x
+
+-- the same of a state around it
+module _ {M N : Type 0} (fail : Why → M) (num : M → Num) (refuse : Why → N) (outer : N → Num) (f : M → N) (bad : (w : Why) → f (fail w) ≡ refuse w)
+    (keeps : (x : M) → (i : Integer) (s : Partial) → num x ≡ Some (i, s) → ((outer (f x) ≡ Some (i, s)) × (f x ≢ refuse why.BadNumber)) ⊎ IsCut refuse outer (f x))
+    (new : (x : M) → Settled fail num x → Settled refuse outer (f x)) where
+  lift_push : {T : Type 0} (i : Integer) (q : Step T × Partial) (x : M) → Pushed fail num i q x → Pushed refuse outer i q (f x)
+  lift_push i (step.More, s) x (inl h) = keeps x i s h.0
+  lift_push i (step.More, s) x (inr h) = inr (h.0, ap f h.1 ∙ bad h.0, h.2)
+  lift_push i (step.Done v, s) x h = new x h
+  lift_push i (step.Bad, s) x h = ap f h ∙ bad why.BadNumber
+
+  lift : (n : Num) (c : ℕ) (x : M) → Law fail num n c x → Law refuse outer n c (f x)
+  lift None c x h = new x h
+  lift (Some (u32, r)) c x h = lift_push u32 (unsigned_push 32 r c) x h
+  lift (Some (s32, r)) c x h = lift_push s32 (signed_push 32 r c) x h
+  lift (Some (s64, r)) c x h = lift_push s64 (signed_push 64 r c) x h
+
+-- readers
+abbrev num_reading : {R X : Type 0} → (R → Num) → Reading R X → Num
+num_reading num (More r) = num r
+num_reading num (Done x) = None
+num_reading num (Bad w) = None
+
+module _ {R X : Type 0} (num : R → Num) where
+  abbrev ReadLaw : Num → ℕ → Reading R X → Type 0
+  ReadLaw = Law {M = Reading R X} Bad (num_reading num)
+
+  abbrev ReadSettled : Reading R X → Type 0
+  ReadSettled = Settled {M = Reading R X} Bad (num_reading num)
+
+  answer_law : {T : Type 0} (i : Integer) (q : Step T × Partial) (more : Partial → R) (done : T → Reading R X) → ((s : Partial) → num (more s) ≡ Some (i, s)) → ((v : T) → ReadSettled (done v)) → Pushed {M = Reading R X} Bad (num_reading num) i q (on_answer q (λ s. More (more s)) done (Bad why.BadNumber))
+  answer_law i (step.More, s) more done m d = inl (m s, λ e. cc)
+  answer_law i (step.Done v, s) more done m d = d v
+  answer_law i (step.Bad, s) more done m d = refl
+
+  number_law : (q : Step ℕ × Partial) (more : Partial → R) (done : ℕ → Reading R X) → ((s : Partial) → num (more s) ≡ Some (u32, s)) → ((v : ℕ) → ReadSettled (done v)) → Pushed {M = Reading R X} Bad (num_reading num) u32 q (read_number q more done)
+  number_law (step.More, s) more done m d = inl (m s, λ e. cc)
+  number_law (step.Done v, s) more done m d = d v
+  number_law (step.Bad, s) more done m d = refl
+
+  new_more : (r : R) → IsNew (num r) → ReadSettled (More r)
+  new_more r h = (h, λ e. cc)
+
+  new_done : (x : X) → ReadSettled (Done x)
+  new_done x = (tt, λ e. cc)
+
+  new_byte : ReadSettled (Bad why.BadByte)
+  new_byte = (tt, λ e. cc)
+
+  new_float : ReadSettled (Bad why.Float)
+  new_float = (tt, λ e. cc)
+
+  under_law : (p : Profile) (t : ValType) (f : ValType → Reading R X) → ((t : ValType) → ReadSettled (f t)) → ReadSettled (read_type (type_under p t) f)
+  under_law p t f h = cond_both (has p (type_feature t)) _ _ (λ (q : Result ValType Why). ReadSettled (read_type q f)) (λ _. h t) (λ _. new_float)
+
+  type_law : (p : Profile) (c : ℕ) (f : ValType → Reading R X) → ((t : ValType) → ReadSettled (f t)) → ReadSettled (read_type (value_type_of p c) f)
+  type_law p c f h =
+      let P : Result ValType Why → Type 0 = λ q. ReadSettled (read_type q f) in
+      cond_both (nat_eq c 0x7F) _ _ P (λ _. under_law p I32 f h) (λ _. cond_both (nat_eq c 0x7E) _ _ P (λ _. under_law p I64 f h)
+      (λ _. cond_both (nat_eq c 0x7D) _ _ P (λ _. under_law p F32 f h) (λ _. cond_both (nat_eq c 0x7C) _ _ P (λ _. under_law p F64 f h) (λ _. new_byte))))
+
+-- a reader within another
+module _ {R S X Y : Type 0} (num : R → Num) (outer : S → Num) (f : R → S) (g : X → Y) (same : (r : R) → outer (f r) ≡ num r) where
+  within_keeps : (x : Reading R X) (i : Integer) (s : Partial) → num_reading num x ≡ Some (i, s)
+      → ((num_reading outer (map_reading f g x) ≡ Some (i, s)) × (map_reading f g x ≢ Bad why.BadNumber)) ⊎ IsCut {M = Reading S Y} Bad (num_reading outer) (map_reading f g x)
+  within_keeps (More r) i s e = inl (same r ∙ e, λ e. cc)
+  within_keeps (Done x) i s e = absurd (cc)
+  within_keeps (Bad w) i s e = absurd (cc)
+
+  within_new : (x : Reading R X) → ReadSettled {R = R} {X = X} num x → ReadSettled {R = S} {X = Y} outer (map_reading f g x)
+  within_new (More r) h = (subst IsNew (sym (same r)) h.0, λ e. cc)
+  within_new (Done x) h = (tt, λ e. cc)
+  within_new (Bad w) h = (tt, λ e. h.1 (ap Bad (let s : w ≡ why.BadNumber = cc in s)))
+
+  within_law : (n : Num) (c : ℕ) (x : Reading R X) → ReadLaw num n c x → ReadLaw outer n c (map_reading f g x)
+  within_law = lift {M = Reading R X} {N = Reading S Y} Bad (num_reading num) Bad (num_reading outer) (map_reading f g) (λ w. refl) within_keeps within_new
+
+-- ops
+immediates_new : (kind : Immediates) → IsNew (num_op (immediates kind))
+immediates_new k.Block = tt
+immediates_new k.Loop = tt
+immediates_new k.If = tt
+immediates_new k.MemorySize = tt
+immediates_new k.MemoryGrow = tt
+immediates_new k.F32Const = tt
+immediates_new k.F64Const = tt
+immediates_new _ = refl
+
+abbrev OpLaw : Num → ℕ → Reading InOp Op → Type 0
+OpLaw = ReadLaw {R = InOp} {X = Op} num_op
+
+abbrev OpNew : Reading InOp Op → Type 0
+OpNew = ReadSettled {R = InOp} {X = Op} num_op
+
+first_law : (class : OpClass) → OpNew (first_step class)
+first_law (APlain o) = new_done num_op o
+first_law (With kind) = new_more num_op (immediates kind) (immediates_new kind)
+first_law Float = (tt, λ e. cc)
+first_law NoClass = (tt, λ e. cc)
+
+block_law : (p : Profile) (i : Opening) (c : ℕ) → OpNew (block_step p i c)
+block_law p i c = cond_both (nat_eq c 0x40) _ _ OpNew (λ _. new_done num_op _) (λ _. type_law num_op p c (λ t. Done (block_op i (Some t))) (λ t. new_done num_op _))
+
+float_32_law : (left low c : ℕ) → OpNew (float_32_step left low c)
+float_32_law zero low c = new_done num_op _
+float_32_law (suc left) low c = new_more num_op _ tt
+
+float_64_law : (left low c : ℕ) → OpNew (float_64_step left low c)
+float_64_law zero low c = new_done num_op _
+float_64_law (suc left) low c = new_more num_op _ tt
+
+closing_law : (o : Op) (c : ℕ) → OpNew (closing_step o c)
+closing_law o c = cond_both (nat_eq c 0x00) _ _ OpNew (λ _. new_done num_op o) (λ _. new_byte num_op)
+
+op_law : (p : Profile) (q : InOp) (c : ℕ) → OpLaw (num_op q) c (op_push p q c)
+op_law p in_op.First c = first_law (class_under p c)
+op_law p (in_op.BlockType i) c = block_law p i c
+op_law p (in_op.Index i r) c = answer_law num_op u32 (unsigned_push 32 r c) (λ t. in_op.Index i t) (λ n. Done (index_op i n)) (λ s. refl) (λ n. new_done num_op (index_op i n))
+op_law p (in_op.CallType r) c = answer_law num_op u32 (unsigned_push 32 r c) (λ t. in_op.CallType t) (λ n. More (in_op.CallTable n)) (λ s. refl) (λ n. new_more num_op (in_op.CallTable n) tt)
+op_law p (in_op.CallTable n) c = closing_law (call_op n) c
+op_law p (in_op.Memory m) c = closing_law (memory_op m) c
+op_law p (in_op.Const32 r) c = answer_law num_op s32 (signed_push 32 r c) (λ t. in_op.Const32 t) (λ z. Done (const_32_op z)) (λ s. refl) (λ z. new_done num_op (const_32_op z))
+op_law p (in_op.Const64 r) c = answer_law num_op s64 (signed_push 64 r c) (λ t. in_op.Const64 t) (λ z. Done (const_64_op z)) (λ s. refl) (λ z. new_done num_op (const_64_op z))
+op_law p (in_op.Float32 left low) c = float_32_law left low c
+op_law p (in_op.Float64 left low) c = float_64_law left low c
+op_law p (in_op.Align a r) c = answer_law num_op u32 (unsigned_push 32 r c) (λ t. in_op.Align a t) (λ n. More (in_op.Offset a n fresh)) (λ s. refl) (λ n. new_more num_op (in_op.Offset a n fresh) refl)
+op_law p (in_op.Offset a n r) c = answer_law num_op u32 (unsigned_push 32 r c) (λ t. in_op.Offset a n t) (λ m. Done (at_offset a n m)) (λ s. refl) (λ m. new_done num_op (at_offset a n m))
+
+-- values
+min_law : (bounded : Bool) (n : ℕ) → ReadSettled {R = InLimits} {X = Limits} num_limits (after_min bounded n)
+min_law true n = new_more num_limits (limits.Max n fresh) refl
+min_law false n = (tt, λ e. cc)
+
+limits_law : (l : InLimits) (c : ℕ) → ReadLaw num_limits (num_limits l) c (limits_push l c)
+limits_law limits.Flag c =
+    let P : Reading InLimits Limits → Type 0 = ReadSettled num_limits in
+    cond_both (nat_eq c 0x00) _ _ P (λ _. new_more num_limits _ refl) (λ _. cond_both (nat_eq c 0x01) _ _ P (λ _. new_more num_limits _ refl) (λ _. new_byte num_limits))
+limits_law (limits.Min bounded r) c = number_law num_limits (unsigned_push 32 r c) (λ s. limits.Min bounded s) (after_min bounded) (λ s. refl) (min_law bounded)
+limits_law (limits.Max min r) c = number_law num_limits (unsigned_push 32 r c) (λ s. limits.Max min s) (λ n. Done (record { min = min; max = Some n })) (λ s. refl) (λ n. new_done num_limits _)
+
+table_law : (t : InTableType) (c : ℕ) → ReadLaw num_table (num_table t) c (table_type_push t c)
+table_law table.ElementType c = cond_both (nat_eq c 0x70) _ _ (ReadSettled {R = InTableType} {X = Limits} num_table) (λ _. new_more num_table _ tt) (λ _. new_byte num_table)
+table_law (table.Limits l) c = within_law num_limits num_table table.Limits (λ y. y) (λ r. refl) (num_limits l) c (limits_push l c) (limits_law l c)
+
+global_law : (p : Profile) (g : InGlobalType) (c : ℕ) → ReadSettled {R = InGlobalType} {X = GlobalType} num_global (global_type_push p g c)
+global_law p global.Type c = type_law num_global p c (λ t. More (global.Var t)) (λ t. new_more num_global (global.Var t) tt)
+global_law p (global.Var t) c = go c
+  where
+    go : (d : ℕ) → ReadSettled {R = InGlobalType} {X = GlobalType} num_global (global_type_push p (global.Var t) d)
+    go zero = new_done num_global _
+    go (suc zero) = new_done num_global _
+    go (suc (suc d)) = new_byte num_global
+
+desc_law : (p : Profile) (d : InImportDesc) (c : ℕ) → ReadLaw num_desc (num_desc d) c (desc_push p d c)
+desc_law p import.Kind c = go c
+  where
+    go : (d : ℕ) → ReadSettled num_desc (desc_push p import.Kind d)
+    go zero = new_more num_desc (import.Func fresh) refl
+    go (suc zero) = new_more num_desc (import.Table table.ElementType) tt
+    go (suc (suc zero)) = new_more num_desc (import.Memory limits.Flag) tt
+    go (suc (suc (suc zero))) = new_more num_desc (import.Global global.Type) tt
+    go (suc (suc (suc (suc d)))) = new_byte num_desc
+desc_law p (import.Func r) c = number_law num_desc (unsigned_push 32 r c) import.Func (λ n. Done (desc.Func n)) (λ s. refl) (λ n. new_done num_desc (desc.Func n))
+desc_law p (import.Table t) c = within_law num_table num_desc import.Table desc.Table (λ r. refl) (num_table t) c (table_type_push t c) (table_law t c)
+desc_law p (import.Memory l) c = within_law num_limits num_desc import.Memory desc.Memory (λ r. refl) (num_limits l) c (limits_push l c) (limits_law l c)
+desc_law p (import.Global g) c = within_law num_global num_desc import.Global desc.Global (λ r. refl) None c (global_type_push p g c) (global_law p g c)
+
+target_law : (t : InExportDesc) (c : ℕ) → ReadLaw num_target (num_target t) c (target_push t c)
+target_law target.Kind c = go c
+  where
+    go : (d : ℕ) → ReadSettled num_target (target_push target.Kind d)
+    go zero = new_more num_target _ refl
+    go (suc zero) = new_more num_target _ refl
+    go (suc (suc zero)) = new_more num_target _ refl
+    go (suc (suc (suc zero))) = new_more num_target _ refl
+    go (suc (suc (suc (suc d)))) = new_byte num_target
+target_law (target.Index k r) c = number_law num_target (unsigned_push 32 r c) (λ s. target.Index k s) (λ n. Done (k, n)) (λ s. refl) (λ n. new_done num_target (k, n))
+
+pub run_law : (p : Profile) (r : InRun) (c : ℕ) → ReadLaw num_run (num_run r) c (run_push p r c)
+run_law p (run.Count r) c = number_law num_run (unsigned_push 32 r c) run.Count (λ n. More (run.Type n)) (λ s. refl) (λ n. new_more num_run (run.Type n) tt)
+run_law p (run.Type n) c = type_law num_run p c (λ t. Done (n, t)) (λ t. new_done num_run (n, t))
+
+value_law : (p : Profile) (v : InValue) (c : ℕ) → ReadLaw num_value (num_value v) c (value_push p v c)
+value_law p (value.Import d) c = within_law num_desc num_value value.Import plain.Import (λ r. refl) (num_desc d) c (desc_push p d c) (desc_law p d c)
+value_law p (value.Table t) c = within_law num_table num_value value.Table plain.Table (λ r. refl) (num_table t) c (table_type_push t c) (table_law t c)
+value_law p (value.Memory l) c = within_law num_limits num_value value.Memory plain.Memory (λ r. refl) (num_limits l) c (limits_push l c) (limits_law l c)
+value_law p (value.Export t) c = within_law num_target num_value value.Export _ (λ r. refl) (num_target t) c (target_push t c) (target_law t c)
+
+module _ {M : Type 0} (fail : Why → M) (num : M → Num) where
+  on_number_law : (q : Step ℕ × Partial) (more : Partial → M) (done : ℕ → M × Event) → ((s : Partial) → num (more s) ≡ Some (u32, s)) → ((s : Partial) → more s ≢ fail why.BadNumber) → ((n : ℕ) → Settled fail num (done n).0) → Pushed fail num u32 q (on_number q more done fail).0
+  on_number_law (step.More, s) more done a b d = inl (a s, b s)
+  on_number_law (step.Done n, s) more done a b d = d n
+  on_number_law (step.Bad, s) more done a b d = refl
+
+  module _ {R X : Type 0} (inner : R → Num) (more : R → M) (done : X → M × Event) (same : (r : R) → num (more r) ≡ inner r) (live : (r : R) → more r ≢ fail why.BadNumber) (none : (w : Why) → IsNew (num (fail w))) (apart : (w : Why) → fail w ≡ fail why.BadNumber → w ≡ why.BadNumber)
+      (over : (x : X) → Settled fail num (done x).0) where
+    abbrev heard : Reading R X → M
+    heard q = (on_value q more done fail).0
+
+    heard_keeps : (q : Reading R X) (i : Integer) (s : Partial) → num_reading inner q ≡ Some (i, s) → ((num (heard q) ≡ Some (i, s)) × (heard q ≢ fail why.BadNumber)) ⊎ IsCut fail num (heard q)
+    heard_keeps (More r) i s e = inl (same r ∙ e, live r)
+    heard_keeps (Done x) i s e = absurd (cc)
+    heard_keeps (Bad w) i s e = absurd (cc)
+
+    heard_new : (q : Reading R X) → ReadSettled {R = R} {X = X} inner q → Settled fail num (heard q)
+    heard_new (More r) h = (subst IsNew (sym (same r)) h.0, live r)
+    heard_new (Done x) h = over x
+    heard_new (Bad w) h = (none w, λ e. h.1 (ap Bad (apart w e)))
+
+    on_value_law : (n : Num) (c : ℕ) (q : Reading R X) → ReadLaw inner n c q → Law fail num n c (heard q)
+    on_value_law = lift {M = Reading R X} {N = M} Bad (num_reading inner) fail num heard (λ w. refl) heard_keeps heard_new
+
+-- expressions
+abbrev ExpressionNew : InExpression → Type 0
+ExpressionNew = Settled expression.Failed num_expression
+
+ends_new : (depth : ℕ) → ExpressionNew (op_ends depth)
+ends_new zero = (tt, λ e. cc)
+ends_new (suc n) = (tt, λ e. cc)
+
+after_op_new : (depth : ℕ) (o : Op) → ExpressionNew (after_op depth o)
+after_op_new depth op.End = ends_new depth
+after_op_new depth (op.BrTable n) = (refl, λ e. cc)
+after_op_new depth (op.Block t) = (tt, λ e. cc)
+after_op_new depth (op.Loop t) = (tt, λ e. cc)
+after_op_new depth (op.If t) = (tt, λ e. cc)
+after_op_new depth o = (tt, λ e. cc)
+
+after_label_new : (depth left : ℕ) → ExpressionNew (after_label depth left)
+after_label_new depth zero = (tt, λ e. cc)
+after_label_new depth (suc n) = (refl, λ e. cc)
+
+reading_keeps : (depth : ℕ) (x : Reading InOp Op) (i : Integer) (s : Partial) → num_reading num_op x ≡ Some (i, s) → ((num_expression (after_reading depth x).0 ≡ Some (i, s)) × ((after_reading depth x).0 ≢ expression.Failed why.BadNumber)) ⊎ IsCut expression.Failed num_expression (after_reading depth x).0
+reading_keeps depth (More r) i s e = inl (e, λ e. cc)
+reading_keeps depth (Done o) i s e = absurd (cc)
+reading_keeps depth (Bad w) i s e = absurd (cc)
+
+reading_new : (depth : ℕ) (x : Reading InOp Op) → OpNew x → ExpressionNew (after_reading depth x).0
+reading_new depth (More r) h = (h.0, λ e. cc)
+reading_new depth (Done o) h = after_op_new depth o
+reading_new depth (Bad w) h = (tt, λ e. h.1 (ap Bad (let s : w ≡ why.BadNumber = cc in s)))
+
+label_law : (depth left : ℕ) (q : Step ℕ × Partial) → Pushed expression.Failed num_expression u32 q (on_answer q (λ s. (expression.Label depth left s, None)) (λ l. (after_label depth left, Some (op.Label l))) (expression_failed why.BadNumber)).0
+label_law depth left (step.More, s) = inl (refl, λ e. cc)
+label_law depth left (step.Done v, s) = after_label_new depth left
+label_law depth left (step.Bad, s) = refl
+
+expression_law : (p : Profile) (e : InExpression) (c : ℕ) → Law expression.Failed num_expression (num_expression e) c (expression_step p e c).0
+expression_law p (expression.Op depth q) c =
+    lift {M = Reading InOp Op} {N = InExpression} Bad (num_reading num_op) expression.Failed num_expression (λ x. (after_reading depth x).0) (λ w. refl) (reading_keeps depth) (reading_new depth) (num_op q) c (op_push p q c) (op_law p q c)
+expression_law p (expression.Label depth left r) c = label_law depth left (unsigned_push 32 r c)
+expression_law p expression.Over c = (tt, λ e. cc)
+expression_law p (expression.Failed w) c = (tt, λ e. cc)
+
+-- code entries
+abbrev EntryNew : InEntry → Type 0
+EntryNew = Settled entry.Failed num_entry
+
+runs_new : (n : ℕ) → EntryNew (runs_or_body n)
+runs_new zero = (tt, λ e. cc)
+runs_new (suc n) = (refl, λ e. cc)
+
+body_keeps : (x : InExpression) (i : Integer) (s : Partial) → num_expression x ≡ Some (i, s) → ((num_entry (entry_after_op x) ≡ Some (i, s)) × (entry_after_op x ≢ entry.Failed why.BadNumber)) ⊎ IsCut entry.Failed num_entry (entry_after_op x)
+body_keeps (expression.Op depth q) i s e = inl (e, λ e. cc)
+body_keeps (expression.Label depth left r) i s e = inl (e, λ e. cc)
+body_keeps expression.Over i s e = absurd (cc)
+body_keeps (expression.Failed w) i s e = absurd (cc)
+
+body_new : (x : InExpression) → ExpressionNew x → EntryNew (entry_after_op x)
+body_new (expression.Op depth q) h = (h.0, λ e. cc)
+body_new (expression.Label depth left r) h = (h.0, λ e. cc)
+body_new expression.Over h = (tt, λ e. cc)
+body_new (expression.Failed w) h = (tt, λ e. h.1 (ap expression.Failed (let s : w ≡ why.BadNumber = cc in s)))
+
+entry_apart : (w : Why) → entry.Failed w ≡ entry.Failed why.BadNumber → w ≡ why.BadNumber
+entry_apart w e = cc
+
+entry_law : (p : Profile) (q : InEntry) (c : ℕ) → Law entry.Failed num_entry (num_entry q) c (entry_step p q c).0
+entry_law p (entry.RunCount r) c = on_number_law entry.Failed num_entry (unsigned_push 32 r c) entry.RunCount (λ n. (runs_or_body n, event.Nothing)) (λ s. refl) (λ s e. cc) runs_new
+entry_law p (entry.Run more r) c =
+    on_value_law entry.Failed num_entry num_run (λ s. entry.Run more s) (λ x. with_item_given (runs_or_body more) (plain.Locals x.0 x.1)) (λ s. refl) (λ s e. cc) (λ w. tt) entry_apart (λ x. runs_new more) (num_run r) c (run_push p r c) (run_law p r c)
+entry_law p (entry.Body e) c = lift expression.Failed num_expression entry.Failed num_entry entry_after_op (λ w. refl) body_keeps body_new (num_expression e) c (expression_step p e c).0 (expression_law p e c)
+entry_law p entry.Over c = (tt, λ e. cc)
+entry_law p (entry.Failed w) c = (tt, λ e. cc)
+
+-- members
+abbrev MemberNew : InMember → Type 0
+MemberNew = Settled at.Failed num_member
+
+param_new : (n : ℕ) → MemberNew (after_param n)
+param_new zero = (refl, λ e. cc)
+param_new (suc n) = (tt, λ e. cc)
+
+result_new : (n : ℕ) → MemberNew (after_result n)
+result_new zero = (tt, λ e. cc)
+result_new (suc n) = (tt, λ e. cc)
+
+name_new : (of : NameKind) → MemberNew (after_name of)
+name_new name.ImportModule = (refl, λ e. cc)
+name_new name.ImportName = (tt, λ e. cc)
+name_new name.Export = (tt, λ e. cc)
+name_new name.Custom = (tt, λ e. cc)
+
+length_new : (of : NameKind) (n : ℕ) → MemberNew (after_length of n).0
+length_new of zero = name_new of
+length_new of (suc n) = (tt, λ e. cc)
+
+name_step_new : (of : NameKind) (n : ℕ) → MemberNew (name_step of n).0
+name_step_new of zero = name_new of
+name_step_new of (suc n) = (tt, λ e. cc)
+
+functions_new : (n : ℕ) → MemberNew (functions_or_over n)
+functions_new zero = (tt, λ e. cc)
+functions_new (suc n) = (refl, λ e. cc)
+
+data_new : (n : ℕ) → MemberNew (data_or_over n)
+data_new zero = (tt, λ e. cc)
+data_new (suc n) = (tt, λ e. cc)
+
+list_new : (of : LengthOf) (n : ℕ) → MemberNew (list_or_over of n)
+list_new length_of.Functions n = functions_new n
+list_new length_of.Bytes n = data_new n
+
+index_new : (of : IndexOf) → MemberNew (after_index of)
+index_new index.Function = (tt, λ e. cc)
+index_new index.Start = (tt, λ e. cc)
+index_new index.Element = (tt, λ e. cc)
+index_new (index.ElementFunction more) = functions_new more
+index_new index.Segment = (tt, λ e. cc)
+
+over_new : (of : ConstantOf) → MemberNew (constant_over of)
+over_new constant.Global = (tt, λ e. cc)
+over_new constant.Element = (refl, λ e. cc)
+over_new constant.Segment = (refl, λ e. cc)
+
+constant_keeps : (of : ConstantOf) (x : InExpression) (i : Integer) (s : Partial) → num_expression x ≡ Some (i, s) → ((num_member (after_constant of x) ≡ Some (i, s)) × (after_constant of x ≢ at.Failed why.BadNumber)) ⊎ IsCut at.Failed num_member (after_constant of x)
+constant_keeps of (expression.Op depth q) i s e = inl (e, λ e. cc)
+constant_keeps of (expression.Label depth left r) i s e = inl (e, λ e. cc)
+constant_keeps of expression.Over i s e = absurd (cc)
+constant_keeps of (expression.Failed w) i s e = absurd (cc)
+
+constant_new : (of : ConstantOf) (x : InExpression) → ExpressionNew x → MemberNew (after_constant of x)
+constant_new of (expression.Op depth q) h = (h.0, λ e. cc)
+constant_new of (expression.Label depth left r) h = (h.0, λ e. cc)
+constant_new of expression.Over h = over_new of
+constant_new of (expression.Failed w) h = (tt, λ e. h.1 (ap expression.Failed (let s : w ≡ why.BadNumber = cc in s)))
+
+framed_keeps : (n : ℕ) (x : InEntry) (i : Integer) (s : Partial) → num_entry x ≡ Some (i, s) → ((num_member (member_in_entry n x) ≡ Some (i, s)) × (member_in_entry n x ≢ at.Failed why.BadNumber)) ⊎ IsCut at.Failed num_member (member_in_entry n x)
+framed_keeps n (entry.Failed w) i s e = absurd (cc)
+framed_keeps n entry.Over i s e = absurd (cc)
+framed_keeps zero (entry.RunCount r) i s e = inr (why.BodyEnd, refl, λ e. cc)
+framed_keeps zero (entry.Run l r) i s e = inr (why.BodyEnd, refl, λ e. cc)
+framed_keeps zero (entry.Body x) i s e = inr (why.BodyEnd, refl, λ e. cc)
+framed_keeps (suc n) (entry.RunCount r) i s e = inl (e, λ e. cc)
+framed_keeps (suc n) (entry.Run l r) i s e = inl (e, λ e. cc)
+framed_keeps (suc n) (entry.Body x) i s e = inl (e, λ e. cc)
+
+framed_new : (n : ℕ) (x : InEntry) → EntryNew x → MemberNew (member_in_entry n x)
+framed_new n (entry.Failed w) h = (tt, λ e. h.1 (ap entry.Failed (let s : w ≡ why.BadNumber = cc in s)))
+framed_new zero entry.Over h = (tt, λ e. cc)
+framed_new (suc n) entry.Over h = (tt, λ e. cc)
+framed_new zero (entry.RunCount r) h = (tt, λ e. cc)
+framed_new zero (entry.Run l r) h = (tt, λ e. cc)
+framed_new zero (entry.Body x) h = (tt, λ e. cc)
+framed_new (suc n) (entry.RunCount r) h = (h.0, λ e. cc)
+framed_new (suc n) (entry.Run l r) h = (h.0, λ e. cc)
+framed_new (suc n) (entry.Body x) h = (h.0, λ e. cc)
+
+at_apart : (w : Why) → at.Failed w ≡ at.Failed why.BadNumber → w ≡ why.BadNumber
+at_apart w e = cc
+
+type_new : (p : Profile) (c : ℕ) (done : ValType → InMember × Event) → ((t : ValType) → MemberNew (done t).0) → MemberNew (on_type (value_type_of p c) done at.Failed).0
+type_new p c done h =
+    let P : Result ValType Why → Type 0 = λ q. MemberNew (on_type q done at.Failed).0 in
+    cond_both (nat_eq c 0x7F) _ _ P (λ _. under I32) (λ _. cond_both (nat_eq c 0x7E) _ _ P (λ _. under I64)
+    (λ _. cond_both (nat_eq c 0x7D) _ _ P (λ _. under F32) (λ _. cond_both (nat_eq c 0x7C) _ _ P (λ _. under F64) (λ _. (tt, λ e. cc)))))
+  where
+    under : (t : ValType) → MemberNew (on_type (type_under p t) done at.Failed).0
+    under t = cond_both (has p (type_feature t)) _ _ (λ (q : Result ValType Why). MemberNew (on_type q done at.Failed).0) (λ _. h t) (λ _. (tt, λ e. cc))
+
+member_law : (p : Profile) (q : InMember) (c : ℕ) → Law at.Failed num_member (num_member q) c (member_step p q c).0
+member_law p at.TypeForm c = cond_both (nat_eq c 0x60) _ _ (λ (x : InMember × Event). MemberNew x.0) (λ _. (refl, λ e. cc)) (λ _. (tt, λ e. cc))
+member_law p (at.ParamCount r) c = on_number_law at.Failed num_member (unsigned_push 32 r c) at.ParamCount (λ n. (after_param n, event.Nothing)) (λ s. refl) (λ s e. cc) param_new
+member_law p (at.Param more) c = type_new p c (λ t. with_item_given (after_param more) (plain.Param t)) (λ t. param_new more)
+member_law p (at.ResultCount r) c = on_number_law at.Failed num_member (unsigned_push 32 r c) at.ResultCount (λ n. with_item_given (after_result n) (plain.ResultCount n)) (λ s. refl) (λ s e. cc) result_new
+member_law p (at.ResultType more) c = type_new p c (λ t. with_item_given (after_result more) (plain.OneResult t)) (λ t. result_new more)
+member_law p (at.NameLength of r) c = on_number_law at.Failed num_member (unsigned_push 32 r c) (λ s. at.NameLength of s) (after_length of) (λ s. refl) (λ s e. cc) (length_new of)
+member_law p (at.Name of more) c = name_step_new of more
+member_law p (at.Value v) c = on_value_law at.Failed num_member num_value at.Value (λ q. with_item_given at.Over q) (λ s. refl) (λ s e. cc) (λ w. tt) at_apart (λ x. (tt, λ e. cc)) (num_value v) c (value_push p v c) (value_law p v c)
+member_law p (at.Index of r) c = on_number_law at.Failed num_member (unsigned_push 32 r c) (λ s. at.Index of s) (λ n. with_item_given (after_index of) (index_item of n)) (λ s. refl) (λ s e. cc) (λ n. index_new of)
+member_law p (at.GlobalType g) c = on_value_law at.Failed num_member num_global at.GlobalType (λ t. with_item_given (at.Constant constant.Global start) (plain.Global t)) (λ s. refl) (λ s e. cc) (λ w. tt) at_apart (λ x. (tt, λ e. cc)) None c (global_type_push p g c) (global_law p g c)
+member_law p (at.Constant of e) c = lift expression.Failed num_expression at.Failed num_member (after_constant of) (λ w. refl) (constant_keeps of) (constant_new of) (num_expression e) c (expression_step p e c).0 (expression_law p e c)
+member_law p (at.Length of r) c = on_number_law at.Failed num_member (unsigned_push 32 r c) (λ s. at.Length of s) (λ n. (list_or_over of n, event.Nothing)) (λ s. refl) (λ s e. cc) (list_new of)
+member_law p (at.Data more) c = data_new more
+member_law p (at.EntrySize r) c = on_number_law at.Failed num_member (unsigned_push 32 r c) at.EntrySize (λ n. with_item_given (member_in_entry n (entry.RunCount fresh)) plain.Body) (λ s. refl) (λ s e. cc) (λ n. framed_new n (entry.RunCount fresh) (refl, λ e. cc))
+member_law p (at.Entry more q) c = lift entry.Failed num_entry at.Failed num_member (member_in_entry more) (λ w. refl) (framed_keeps more) (framed_new more) (num_entry q) c (entry_step p q c).0 (entry_law p q c)
+member_law p at.Over c = (tt, λ e. cc)
+member_law p (at.Failed w) c = (tt, λ e. cc)
+
+-- the machine
+length_settled : (n : ℕ) → Settled custom.Failed num_custom (custom_after_length n).0
+length_settled zero = (tt, λ e. cc)
+length_settled (suc n) = (tt, λ e. cc)
+
+custom_law : (q : InCustom) (c : ℕ) → Law custom.Failed num_custom (num_custom q) c (custom_step q c).0
+custom_law (custom.Length r) c = on_number_law custom.Failed num_custom (unsigned_push 32 r c) custom.Length custom_after_length (λ s. refl) (λ s e. cc) length_settled
+custom_law (custom.Name zero) c = (tt, λ e. cc)
+custom_law (custom.Name (suc n)) c = (tt, λ e. cc)
+custom_law custom.Skip c = (tt, λ e. cc)
+custom_law (custom.Failed w) c = (tt, λ e. cc)
+
+abbrev MachineNew : Machine → Type 0
+MachineNew = Settled machine.Refused num_machine
+
+abbrev Kept : Machine → Integer → Partial → Type 0
+Kept m i s = ((num_machine m ≡ Some (i, s)) × (m ≢ machine.Refused why.BadNumber)) ⊎ IsCut machine.Refused num_machine m
+
+begin_new : (of : SectionKind) → IsNew (num_member (member_at_start of))
+begin_new section_kind.Type = tt
+begin_new section_kind.Import = refl
+begin_new section_kind.Function = refl
+begin_new section_kind.Table = tt
+begin_new section_kind.Memory = tt
+begin_new section_kind.Global = tt
+begin_new section_kind.Export = refl
+begin_new section_kind.Start = refl
+begin_new section_kind.Element = refl
+begin_new section_kind.Code = refl
+begin_new section_kind.Segment = refl
+
+section_keeps : (of : SectionKind) (functions bytes left : ℕ) (x : InMember) (i : Integer) (s : Partial) → num_member x ≡ Some (i, s) → Kept (machine_in_member of functions bytes left x) i s
+section_keeps of functions bytes left (at.Failed w) i s e = absurd (cc)
+section_keeps of functions zero zero at.Over i s e = absurd (cc)
+section_keeps of functions (suc n) zero at.Over i s e = absurd (cc)
+section_keeps of functions zero (suc l) at.Over i s e = absurd (cc)
+section_keeps of functions (suc n) (suc l) at.Over i s e = absurd (cc)
+section_keeps of functions zero left x i s e = inr (why.SectionEnd, refl, λ e. cc)
+section_keeps of functions (suc n) left x i s e = inl (e, λ e. cc)
+
+section_new : (of : SectionKind) (functions bytes left : ℕ) (x : InMember) → MemberNew x → MachineNew (machine_in_member of functions bytes left x)
+section_new of functions bytes left (at.Failed w) h = (tt, λ e. h.1 (ap at.Failed (let s : w ≡ why.BadNumber = cc in s)))
+section_new of functions zero zero at.Over h = (tt, λ e. cc)
+section_new of functions (suc n) zero at.Over h = (tt, λ e. cc)
+section_new of functions zero (suc l) at.Over h = (tt, λ e. cc)
+section_new of functions (suc n) (suc l) at.Over h = (begin_new of, λ e. cc)
+section_new of functions zero left x h = (tt, λ e. cc)
+section_new of functions (suc n) left x h = (h.0, λ e. cc)
+
+custom_keeps : (last functions n : ℕ) (x : InCustom) (i : Integer) (s : Partial) → num_custom x ≡ Some (i, s) → Kept (machine_in_custom last functions n x) i s
+custom_keeps last functions n (custom.Failed w) i s e = absurd (cc)
+custom_keeps last functions zero custom.Skip i s e = absurd (cc)
+custom_keeps last functions zero (custom.Length r) i s e = inr (why.SectionEnd, refl, λ e. cc)
+custom_keeps last functions zero (custom.Name m) i s e = absurd (cc)
+custom_keeps last functions (suc n) custom.Skip i s e = absurd (cc)
+custom_keeps last functions (suc n) (custom.Length r) i s e = inl (e, λ e. cc)
+custom_keeps last functions (suc n) (custom.Name m) i s e = absurd (cc)
+
+custom_new : (last functions n : ℕ) (x : InCustom) → Settled custom.Failed num_custom x → MachineNew (machine_in_custom last functions n x)
+custom_new last functions n (custom.Failed w) h = (tt, λ e. h.1 (ap custom.Failed (let s : w ≡ why.BadNumber = cc in s)))
+custom_new last functions zero custom.Skip h = (tt, λ e. cc)
+custom_new last functions zero (custom.Length r) h = (tt, λ e. cc)
+custom_new last functions zero (custom.Name m) h = (tt, λ e. cc)
+custom_new last functions (suc n) custom.Skip h = (tt, λ e. cc)
+custom_new last functions (suc n) (custom.Length r) h = (h.0, λ e. cc)
+custom_new last functions (suc n) (custom.Name m) h = (tt, λ e. cc)
+
+start_member : (of : SectionKind) → MemberNew (member_at_start of)
+start_member section_kind.Type = (tt, λ e. cc)
+start_member section_kind.Import = (refl, λ e. cc)
+start_member section_kind.Function = (refl, λ e. cc)
+start_member section_kind.Table = (tt, λ e. cc)
+start_member section_kind.Memory = (tt, λ e. cc)
+start_member section_kind.Global = (tt, λ e. cc)
+start_member section_kind.Export = (refl, λ e. cc)
+start_member section_kind.Start = (refl, λ e. cc)
+start_member section_kind.Element = (refl, λ e. cc)
+start_member section_kind.Code = (refl, λ e. cc)
+start_member section_kind.Segment = (refl, λ e. cc)
+
+listed_new : (of : SectionKind) (functions bytes n : ℕ) → MachineNew (machine_after_count of functions bytes n)
+listed_new of functions bytes zero = section_new of functions bytes zero at.Over (tt, λ e. cc)
+listed_new of functions bytes (suc n) = section_new of functions bytes n (member_at_start of) (start_member of)
+
+paired_new : (of : SectionKind) (functions bytes n : ℕ) → MachineNew (machine_after_paired_count of functions bytes n)
+paired_new section_kind.Function functions bytes n = listed_new section_kind.Function n bytes n
+paired_new section_kind.Code functions bytes n = cond_both (nat_eq n functions) _ _ MachineNew (λ _. listed_new section_kind.Code 0 bytes n) (λ _. (tt, λ e. cc))
+paired_new of functions bytes n = listed_new of functions bytes n
+
+count_law : (of : SectionKind) (functions more : ℕ) (q : Step ℕ × Partial) → Pushed machine.Refused num_machine u32 q (after_count of functions more q).0
+count_law of functions zero (step.More, s) = inr (why.SectionEnd, refl, λ e. cc)
+count_law of functions (suc n) (step.More, s) = inl (refl, λ e. cc)
+count_law of functions more (step.Done n, s) = paired_new of functions more n
+count_law of functions more (step.Bad, s) = refl
+
+contents_new : (of : SectionKind) (functions more : ℕ) → MachineNew (machine_in_contents of functions more)
+contents_new section_kind.Start functions more = (refl, λ e. cc)
+contents_new of functions more = (refl, λ e. cc)
+
+size_new : (of : SectionKind) (functions n : ℕ) → MachineNew (after_size of functions n)
+size_new of functions zero = (tt, λ e. cc)
+size_new of functions (suc n) = contents_new of functions n
+
+begun_new : (of : SectionKind) (functions : ℕ) → MachineNew (begun_section of functions).0
+begun_new section_kind.Segment zero = (refl, λ e. cc)
+begun_new section_kind.Segment (suc n) = (tt, λ e. cc)
+begun_new of functions = (refl, λ e. cc)
+
+rising_new : (last functions id : ℕ) (q : Option SectionKind) → MachineNew (machine_if_rising last functions id q).0
+rising_new last functions id None = (tt, λ e. cc)
+rising_new last functions id (Some of) = cond_both (nat_le id last) _ _ (λ (q : Machine × Event). MachineNew q.0) (λ _. (tt, λ e. cc)) (λ _. begun_new of functions)
+
+start_new : (last functions c : ℕ) → MachineNew (section_start last functions c).0
+start_new last functions zero = (refl, λ e. cc)
+start_new last functions (suc m) = rising_new last functions (suc m) (section_kind_of (suc m))
+
+header_new : (n c : ℕ) → MachineNew (header_step n c).0
+header_new n c =
+    let P : Machine × Event → Type 0 = λ q. MachineNew q.0 in
+    cond_both (nat_lt n 8) _ _ P
+    (λ _. cond_both (nat_eq c (slice_index header n)) _ _ P
+    (λ _. cond_both (nat_lt n 7) _ _ P (λ _. (tt, λ e. cc)) (λ _. (tt, λ e. cc)))
+    (λ _. cond_both (nat_lt n 4) _ _ P (λ _. (tt, λ e. cc)) (λ _. (tt, λ e. cc))))
+    (λ _. (tt, λ e. cc))
+
+machine_law : (p : Profile) (m : Machine) (c : ℕ) → (IsRefused m → ⊥) → Law machine.Refused num_machine (num_machine m) c (step_of p m c).0
+machine_law p (machine.Header n) c live = header_new n c
+machine_law p (machine.Between last functions) c live = start_new last functions c
+machine_law p (machine.CustomSize last functions r) c live = on_number_law machine.Refused num_machine (unsigned_push 32 r c) (λ s. machine.CustomSize last functions s) (λ n. (custom_size last functions n, event.Nothing)) (λ s. refl) (λ s e. cc) (λ n. custom_new last functions n (custom.Length fresh) (refl, λ e. cc))
+machine_law p (machine.Custom last functions more q) c live = lift custom.Failed num_custom machine.Refused num_machine (machine_in_custom last functions more) (λ w. refl) (custom_keeps last functions more) (custom_new last functions more) (num_custom q) c (custom_step q c).0 (custom_law q c)
+machine_law p (machine.Size of functions r) c live = on_number_law machine.Refused num_machine (unsigned_push 32 r c) (λ s. machine.Size of functions s) (λ n. (after_size of functions n, event.Nothing)) (λ s. refl) (λ s e. cc) (size_new of functions)
+machine_law p (machine.Count of functions more r) c live = count_law of functions more (unsigned_push 32 r c)
+machine_law p (machine.Section of functions more left q) c live = lift at.Failed num_member machine.Refused num_machine (machine_in_member of functions more left) (λ w. refl) (section_keeps of functions more left) (section_new of functions more left) (num_member q) c (member_step p q c).0 (member_law p q c)
+machine_law p (machine.Refused w) c live = absurd (live tt)
+
+-- the number that has begun and can go on
+abbrev After : Integer → Partial → List ℕ → Type 0
+After u32 r y = UnsignedAfter 32 r y × HasRoom 32 r
+After s32 r y = SignedAfter 32 r y × HasRoom 32 r
+After s64 r y = SignedAfter 64 r y × HasRoom 64 r
+
+fresh_after : (i : Integer) → After i fresh []
+fresh_after u32 = (unsigned_fresh 32 (omega arith), fresh_room 32 (omega arith))
+fresh_after s32 = (signed_fresh 32 (omega arith), fresh_room 32 (omega arith))
+fresh_after s64 = (signed_fresh 64 (omega arith), fresh_room 64 (omega arith))
+
+abbrev Tracked : Num → List ℕ → Type 0
+Tracked None b = Unit {0}
+Tracked (Some q) b = (before begun : List ℕ) × (b ≡ before ++ begun) × After q.0 q.1 begun
+
+new_tracked : (n : Num) (b : List ℕ) → IsNew n → Tracked n b
+new_tracked None b h = tt
+new_tracked (Some q) b h = (b, [], sym (append-nil b), subst (λ r. After q.0 r []) (sym h) (fresh_after q.0))
+
+abbrev PushAfter : {T : Type 0} → Integer → Step T × Partial → List ℕ → Type 0
+PushAfter i (step.More, s) y = After i s y
+PushAfter i (step.Done v, s) y = Unit {0}
+PushAfter i (step.Bad, s) y = Unit {0}
+
+unsigned_pushed : (r : Partial) (y : List ℕ) (c : ℕ) → c < 2 ^ 8 → After u32 r y → PushAfter u32 (unsigned_push 32 r c) (y ++ c ∷ [])
+unsigned_pushed r y c byte u = go (unsigned_push 32 r c) (numbers r y c byte u.0) (unsigned_room 32 r c u.1 byte)
+  where
+    go : (q : Step ℕ × Partial) → Numbers (y ++ c ∷ []) q → RoomAfter 32 q → PushAfter u32 q (y ++ c ∷ [])
+    go (step.More, s) h room = (h, room)
+    go (step.Done v, s) h room = tt
+    go (step.Bad, s) h room = tt
+
+module _ (bits : ℕ) (r : Partial) (y : List ℕ) (c : ℕ) (byte : c < 2 ^ 8) (u : SignedAfter bits r y) where
+  abbrev SignedThen : Step ℤ × Partial → Type 0
+  SignedThen (step.More, s) = SignedAfter bits s (y ++ c ∷ [])
+  SignedThen (step.Done v, s) = Unit {0}
+  SignedThen (step.Bad, s) = Unit {0}
+
+  signed_pushed : SignedThen (signed_push bits r c)
+  signed_pushed = go (signed_push bits r c) (λ z more. signed_law bits r z c more byte)
+    where
+      go : (q : Step ℤ × Partial) → ((z : ℤ) (more : List ℕ) → SignedRest bits r z (c ∷ more) ↔ NumberGoes (SignedRest bits) q z more) → SignedThen q
+      go (step.More, s) next = record {
+        same = λ z d more.
+            let to = u.same z c (d ∷ more) in
+            let on = next z (d ∷ more) in
+            let e : (y ++ c ∷ []) ++ d ∷ more ≡ y ++ c ∷ d ∷ more = append_assoc y (c ∷ []) (d ∷ more) in
+            (λ v. on.0 (to.0 (subst (λ w. Signed bits z w) e v)), λ v. subst (λ w. Signed bits z w) (sym e) (to.1 (on.1 v)));
+      }
+      go (step.Done v, s) next = tt
+      go (step.Bad, s) next = tt
+
+of_32 : (q : Step ℤ × Partial) (r : Partial) (y : List ℕ) (c : ℕ) (byte : c < 2 ^ 8) (u : SignedAfter 32 r y) → SignedThen 32 r y c byte u q → RoomAfter 32 q → PushAfter s32 q (y ++ c ∷ [])
+of_32 (step.More, s) r y c byte u h room = (h, room)
+of_32 (step.Done v, s) r y c byte u h room = tt
+of_32 (step.Bad, s) r y c byte u h room = tt
+
+of_64 : (q : Step ℤ × Partial) (r : Partial) (y : List ℕ) (c : ℕ) (byte : c < 2 ^ 8) (u : SignedAfter 64 r y) → SignedThen 64 r y c byte u q → RoomAfter 64 q → PushAfter s64 q (y ++ c ∷ [])
+of_64 (step.More, s) r y c byte u h room = (h, room)
+of_64 (step.Done v, s) r y c byte u h room = tt
+of_64 (step.Bad, s) r y c byte u h room = tt
+
+pushed_tracked : {T : Type 0} (i : Integer) (q : Step T × Partial) (before y b : List ℕ) (c : ℕ) → PushAfter i q (y ++ c ∷ []) → b ≡ before ++ y → (x : Machine) → Pushed machine.Refused num_machine i q x → Tracked (num_machine x) (b ++ c ∷ [])
+pushed_tracked i (step.More, s) before y b c a e x (inl h) = subst (λ n. Tracked n (b ++ c ∷ [])) (sym h.0) (before, y ++ c ∷ [], ap (λ z. z ++ c ∷ []) e ∙ append_assoc before y (c ∷ []), a)
+pushed_tracked i (step.More, s) before y b c a e x (inr h) = subst (λ m. Tracked (num_machine m) (b ++ c ∷ [])) (sym h.1) tt
+pushed_tracked i (step.Done v, s) before y b c a e x h = new_tracked (num_machine x) (b ++ c ∷ []) h.0
+pushed_tracked i (step.Bad, s) before y b c a e x h = subst (λ m. Tracked (num_machine m) (b ++ c ∷ [])) (sym h) tt
+
+law_tracked : (n : Num) (c : ℕ) → c < 2 ^ 8 → (x : Machine) (b : List ℕ) → Law machine.Refused num_machine n c x → Tracked n b → Tracked (num_machine x) (b ++ c ∷ [])
+law_tracked None c byte x b h t = new_tracked (num_machine x) (b ++ c ∷ []) h.0
+law_tracked (Some (u32, r)) c byte x b h t = pushed_tracked u32 (unsigned_push 32 r c) t.0 t.1 b c (unsigned_pushed r t.1 c byte t.3) t.2 x h
+law_tracked (Some (s32, r)) c byte x b h t = pushed_tracked s32 (signed_push 32 r c) t.0 t.1 b c (of_32 (signed_push 32 r c) r t.1 c byte t.3.0 (signed_pushed 32 r t.1 c byte t.3.0) (signed_room 32 r c t.3.1 byte)) t.2 x h
+law_tracked (Some (s64, r)) c byte x b h t = pushed_tracked s64 (signed_push 64 r c) t.0 t.1 b c (of_64 (signed_push 64 r c) r t.1 c byte t.3.0 (signed_pushed 64 r t.1 c byte t.3.0) (signed_room 64 r c t.3.1 byte)) t.2 x h
+
+heard_tracked : (zone : Zone) (y : List ℕ) (c : ℕ) (m : Machine) (e : Event) (b : List ℕ) → Tracked (num_machine m) b → Tracked (num_machine (byte_read machine.Refused zone y c (m, e)).at) b
+heard_tracked zone y c m event.Nothing b h = h
+heard_tracked zone y c m (event.Complete x) b h = h
+heard_tracked zone y c m event.DataByte b h = h
+heard_tracked zone y c m event.InName b h = h
+heard_tracked zone y c m (event.EndsName kind) b h = cond_both (is_utf8 (y ++ c ∷ [])) _ _ (λ (z : ByteRead Machine). Tracked (num_machine z.at) b) (λ _. h) (λ _. tt)
+heard_tracked zone y c m (event.EmptyName kind) b h = h
+
+-- what was refused stays so
+once_refused : (p : Profile) (m : Machine) (c : ℕ) (b : List ℕ) → c < 2 ^ 8 → Tracked (num_machine m) b → Tracked (num_machine (step_of p m c).0) (b ++ c ∷ [])
+once_refused p (machine.Refused w) c b byte t = tt
+once_refused p m c b byte t = law_tracked (num_machine m) c byte (step_of p m c).0 b (machine_law p m c (λ i. i)) t
+
+run_tracked : (p : Profile) (s : MachineState) (before b : List ℕ) → AreBytes b → Tracked (num_machine s.machine) before → Tracked (num_machine (state_after p s b).machine) (before ++ b)
+run_tracked p s before [] a t = subst (λ y. Tracked (num_machine s.machine) y) (sym (append-nil before)) t
+run_tracked p s before (c ∷ b) a t =
+    let one = heard_tracked (zone_of s.machine) s.name c (step_of p s.machine c).0 (step_of p s.machine c).1 (before ++ c ∷ []) (once_refused p s.machine c before a.0 t) in
+    subst (λ y. Tracked (num_machine (state_after p (after_byte p s c) b).machine) y) (append_assoc before (c ∷ []) b) (run_tracked p (after_byte p s c) (before ++ c ∷ []) b a.1 one)
+
+-- what may still come of it
+to_spelled : (i : Integer) (r : Partial) (y b : List ℕ) → After i r y → b ≢ [] → RestOf i r b → spells i (y ++ b)
+to_spelled i r y [] a some h = absurd (some refl)
+to_spelled u32 r y (d ∷ b) a some h = (h.0, (a.0.same h.0 d b).1 h.1)
+to_spelled s32 r y (d ∷ b) a some h = (h.0, (a.0.same h.0 d b).1 h.1)
+to_spelled s64 r y (d ∷ b) a some h = (h.0, (a.0.same h.0 d b).1 h.1)
+
+from_spelled : (i : Integer) (r : Partial) (y : List ℕ) (d : ℕ) (b : List ℕ) → After i r y → spells i (y ++ d ∷ b) → RestOf i r (d ∷ b)
+from_spelled u32 r y d b a h = (h.0, (a.0.same h.0 d b).0 h.1)
+from_spelled s32 r y d b a h = (h.0, (a.0.same h.0 d b).0 h.1)
+from_spelled s64 r y d b a h = (h.0, (a.0.same h.0 d b).0 h.1)
+
+from_goes : (i : Integer) (r : Partial) (y b : List ℕ) → After i r y → goes_on i y b → RestOf i r b
+from_goes i r y [] a h = absurd (h.0 refl)
+from_goes i r y (d ∷ b) a h = from_spelled i r y d b a h.1
+
+last_comes : (i : Integer) (r : Partial) (y : List ℕ) → After i r y → RestOf i r (0 ∷ [])
+last_comes u32 r y a = (r.low, last_byte r a.1.0)
+last_comes s32 r y a = (last_signed r (pos 0), last_signed_byte 32 r a.1.0)
+last_comes s64 r y a = (last_signed r (pos 0), last_signed_byte 64 r a.1.0)
+
+-- by a byte it goes on, is whole, or fails
+abbrev Onward : {T : Type 0} → Integer → Partial → ℕ → Step T × Partial → Type 0
+Onward i r c (step.More, s) = (b : List ℕ) → RestOf i s b → RestOf i r (c ∷ b)
+Onward i r c (step.Done v, s) = RestOf i r (c ∷ [])
+Onward i r c (step.Bad, s) = (b : List ℕ) → RestOf i r (c ∷ b) → ⊥
+
+onward_u32 : (r : Partial) (c : ℕ) → c < 2 ^ 8 → Onward u32 r c (unsigned_push 32 r c)
+onward_u32 r c byte = go (unsigned_push 32 r c) (number_next r c byte)
+  where
+    go : (q : Step ℕ × Partial) → NumberNext r c q → Onward u32 r c q
+    go (step.More, s) n = λ b h. (h.0, (n h.0 b).1 h.1)
+    go (step.Done v, s) n = (v, (n v []).1 (refl, refl))
+    go (step.Bad, s) n = λ b h. (n h.0 b).0 h.1
+
+onward_s32 : (r : Partial) (c : ℕ) → c < 2 ^ 8 → Onward s32 r c (signed_push 32 r c)
+onward_s32 r c byte = go (signed_push 32 r c) (λ z more. signed_law 32 r z c more byte)
+  where
+    go : (q : Step ℤ × Partial) → ((z : ℤ) (more : List ℕ) → SignedRest 32 r z (c ∷ more) ↔ NumberGoes (SignedRest 32) q z more) → Onward s32 r c q
+    go (step.More, s) n = λ b h. (h.0, (n h.0 b).1 h.1)
+    go (step.Done v, s) n = (v, (n v []).1 (refl, refl))
+    go (step.Bad, s) n = λ b h. (n h.0 b).0 h.1
+
+onward_s64 : (r : Partial) (c : ℕ) → c < 2 ^ 8 → Onward s64 r c (signed_push 64 r c)
+onward_s64 r c byte = go (signed_push 64 r c) (λ z more. signed_law 64 r z c more byte)
+  where
+    go : (q : Step ℤ × Partial) → ((z : ℤ) (more : List ℕ) → SignedRest 64 r z (c ∷ more) ↔ NumberGoes (SignedRest 64) q z more) → Onward s64 r c q
+    go (step.More, s) n = λ b h. (h.0, (n h.0 b).1 h.1)
+    go (step.Done v, s) n = (v, (n v []).1 (refl, refl))
+    go (step.Bad, s) n = λ b h. (n h.0 b).0 h.1
+
+same_refused : (v w : Why) → machine.Refused v ≡ machine.Refused w → v ≡ w
+same_refused v w e = cc
+
+-- where the name is given no number goes on with the byte
+push_ended : {T : Type 0} (i : Integer) (r : Partial) (c : ℕ) (q : Step T × Partial) (x : Machine) → Onward i r c q → Pushed machine.Refused num_machine i q x → x ≡ machine.Refused why.BadNumber → (b : List ℕ) → RestOf i r (c ∷ b) → ⊥
+push_ended i r c (step.More, s) x o (inl h) e = absurd (h.1 e)
+push_ended i r c (step.More, s) x o (inr h) e = absurd (h.2 (same_refused h.0 why.BadNumber (sym h.1 ∙ e)))
+push_ended i r c (step.Done v, s) x o h e = absurd (h.1 e)
+push_ended i r c (step.Bad, s) x o h e = o
+
+law_ended : (i : Integer) (r : Partial) (c : ℕ) → c < 2 ^ 8 → (x : Machine) → Law machine.Refused num_machine (Some (i, r)) c x → x ≡ machine.Refused why.BadNumber → (b : List ℕ) → RestOf i r (c ∷ b) → ⊥
+law_ended u32 r c byte x h e = push_ended u32 r c (unsigned_push 32 r c) x (onward_u32 r c byte) h e
+law_ended s32 r c byte x h e = push_ended s32 r c (signed_push 32 r c) x (onward_s32 r c byte) h e
+law_ended s64 r c byte x h e = push_ended s64 r c (signed_push 64 r c) x (onward_s64 r c byte) h e
+
+-- In a whole input the rest of the number comes.
+module _ (p : Profile) where
+  abbrev Comes : Integer → Partial → List ℕ → Type 0
+  Comes i r more = (b rest : List ℕ) × (more ≡ b ++ rest) × (b ≢ []) × RestOf i r b
+
+  heard_or : (zone : Zone) (y : List ℕ) (c : ℕ) (m : Machine) (e : Event) → ((byte_read machine.Refused zone y c (m, e)).at ≡ m) ⊎ ((byte_read machine.Refused zone y c (m, e)).at ≡ machine.Refused why.BadUtf8)
+  heard_or zone y c m event.Nothing = inl refl
+  heard_or zone y c m (event.Complete x) = inl refl
+  heard_or zone y c m event.DataByte = inl refl
+  heard_or zone y c m event.InName = inl refl
+  heard_or zone y c m (event.EndsName kind) = cond_both (is_utf8 (y ++ c ∷ [])) _ _ (λ (z : ByteRead Machine). (z.at ≡ m) ⊎ (z.at ≡ machine.Refused why.BadUtf8)) (λ _. inl refl) (λ _. inr refl)
+  heard_or zone y c m (event.EmptyName kind) = inl refl
+
+  no_end : (m : Machine) (i : Integer) (r : Partial) → num_machine m ≡ Some (i, r) → MayEnd m → ⊥
+  no_end (machine.Between last zero) i r e h = absurd (cc)
+  no_end m i r e h = absurd h
+
+  step_comes : {T : Type 0} (i : Integer) (r : Partial) (d : ℕ) (more : List ℕ) (q : Step T × Partial) (x : Machine) (y : List ℕ) (k : Marks) → Onward i r d q → Pushed machine.Refused num_machine i q x → MachineRest strict p x y more k → ((s : Partial) → num_machine x ≡ Some (i, s) → Comes i s more) → Comes i r (d ∷ more)
+  step_comes i r d more (step.More, s) x y k o (inl h) m rec = let g = rec s h.0 in (d ∷ g.0, g.1, ap (λ z. d ∷ z) g.2, (λ e. cc), o g.0 g.4)
+  step_comes i r d more (step.More, s) x y k o (inr h) m rec = absurd (subst (λ z. MachineRest strict p z y more k) h.1 m)
+  step_comes i r d more (step.Done v, s) x y k o h m rec = (d ∷ [], more, refl, (λ e. cc), o)
+  step_comes i r d more (step.Bad, s) x y k o h m rec = absurd (subst (λ z. MachineRest strict p z y more k) h m)
+
+  law_comes : (i : Integer) (r : Partial) (d : ℕ) → d < 2 ^ 8 → (more : List ℕ) (x : Machine) (y : List ℕ) (k : Marks) → Law machine.Refused num_machine (Some (i, r)) d x → MachineRest strict p x y more k → ((s : Partial) → num_machine x ≡ Some (i, s) → Comes i s more) → Comes i r (d ∷ more)
+  law_comes u32 r d byte more x y k h = step_comes u32 r d more (unsigned_push 32 r d) x y k (onward_u32 r d byte) h
+  law_comes s32 r d byte more x y k h = step_comes s32 r d more (signed_push 32 r d) x y k (onward_s32 r d byte) h
+  law_comes s64 r d byte more x y k h = step_comes s64 r d more (signed_push 64 r d) x y k (onward_s64 r d byte) h
+
+  not_refused : (m : Machine) (i : Integer) (r : Partial) → num_machine m ≡ Some (i, r) → IsRefused m → ⊥
+  not_refused (machine.Refused w) i r e h = absurd (cc)
+  not_refused m i r e h = h
+
+  rest_comes : (more : List ℕ) (m : Machine) (y : List ℕ) (k : Marks) (i : Integer) (r : Partial) → Fits m → AreBytes more → num_machine m ≡ Some (i, r) → MachineRest strict p m y more k → Comes i r more
+  rest_comes [] m y k i r f a e h = absurd (no_end m i r e (ends strict p tt m y k f h).1)
+  rest_comes (d ∷ more) m y k i r f a e h =
+      let x : Machine = (step_of p m d).0 in
+      let n = byte_read machine.Refused (zone_of m) y d (step_of p m d) in
+      let g = (machine_follows strict p m y d a.0 f).to tt more k h in
+      let law : Law machine.Refused num_machine (Some (i, r)) d x = subst (λ z. Law machine.Refused num_machine z d x) e (machine_law p m d (not_refused m i r e)) in
+      elim (heard_or (zone_of m) y d x (step_of p m d).1) [
+        | inl same ↦
+            let s : MachineRest strict p x n.name more g.0 = subst (λ z. MachineRest strict p z n.name more g.0) same g.2 in
+            law_comes i r d a.0 more x n.name g.0 law s (λ t j. rest_comes more x n.name g.0 i t (step_fits p m d a.0 f) a.1 j s)
+        | inr bad ↦ absurd (subst (λ z. MachineRest strict p z n.name more g.0) bad g.2)
+      ]
+
+-- of the bytes
+back_bytes : (a b : List ℕ) → AreBytes (a ++ b) → AreBytes b
+back_bytes [] b h = h
+back_bytes (c ∷ a) b h = back_bytes a b h.1
+
+module _ (p : Profile) (b : List ℕ) (bytes : AreBytes b) (c : ℕ) (byte : c < 2 ^ 8) where
+  abbrev Now : MachineState
+  Now = state_after p state_at_start b
+
+  number_says : (i : Integer) (r : Partial) → num_machine Now.machine ≡ Some (i, r) → Fits Now.machine → (IsRefused Now.machine → ⊥) → ((before begun : List ℕ) × (b ≡ before ++ begun) × After i r begun) → ((more : List ℕ) → RestOf i r (c ∷ more) → ⊥) → WrongNumber p (b ++ c ∷ [])
+  number_says i r e f live t none = record {
+    before = t.0;
+    begun = t.1;
+    byte = c;
+    number = i;
+    whole = ap (λ y. y ++ c ∷ []) t.2;
+    front = subst (CanGoOn p) t.2 (marks p state_at_start b, is_front p b bytes live);
+    some = (0 ∷ [], ((λ e. cc), to_spelled i r t.1 (0 ∷ []) t.3 (λ e. cc) (last_comes i r t.1 t.3)));
+    place = subst (MustStand p (goes_on i t.1)) t.2 (record {
+      can = λ y s. can_stand p b bytes (Rests (num_machine Now.machine)) (number_can p Now.machine Now.name) y (subst (λ n. Rests n y) (sym e) (from_goes i r t.1 y t.3 s));
+      must = λ more k w.
+          let all : AreBytes more = back_bytes b more (whole_bytes p (b ++ more) k w) in
+          let g = run_to strict p tt state_at_start b more k bytes begin_fits (begin_to strict p (b ++ more) k w) in
+          let s = rest_comes p more Now.machine Now.name g.0 i r f all e g.2 in
+          (s.0, s.1, s.2, (s.3, to_spelled i r t.1 s.0 t.3 s.3 s.4));
+    });
+    none = λ more h. none more (from_spelled i r t.1 c more t.3 h);
+  }
+
+  pub wrong_number : (m : Machine) → m ≡ Now.machine → (IsRefused m → ⊥) → (step_of p m c).0 ≡ machine.Refused why.BadNumber → WrongNumber p (b ++ c ∷ [])
+  wrong_number m same live e = go (num_machine Now.machine) refl (subst (λ z. Law machine.Refused num_machine (num_machine z) c (step_of p m c).0) same (machine_law p m c live)) (run_tracked p state_at_start [] b bytes tt)
+    where
+      go : (n : Num) → num_machine Now.machine ≡ n → Law machine.Refused num_machine n c (step_of p m c).0 → Tracked n b → WrongNumber p (b ++ c ∷ [])
+      go None is h t = absurd (h.1 e)
+      go (Some (i, r)) is h t = number_says i r is (run_fits p state_at_start b bytes begin_fits) (subst (λ z. IsRefused z → ⊥) same live) t (law_ended i r c byte (step_of p m c).0 h e)

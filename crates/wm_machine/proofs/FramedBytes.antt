@@ -1,0 +1,396 @@
+-- Where the machine stands in the frame of a module: in the header, between sections, or in one.
+use Rattle.std.specs.List.{AllByRecursion}
+use Rattle.std.proofs.Common.{◌≡◌, ◌≢◌, ◌≤◌, ℕ, zero, suc, ◌+◌, ◌<◌, ◌^◌, ◌⊎◌, inl, inr, List, [], ◌∷◌, ◌++◌, Option, Some, None, length, take, refl, sym, ◌∙◌, ap, subst, arith, append_assoc, append-nil, length-append, nat_eq, nat_lt, nat_le}
+use Rattle.std.proofs.lemmas.Bool.{cond_both, ltb-true, ltb-false, leb-false, eqb-true}
+use Rattle.std.specs.Prelude.{slice_index}
+use Rattle.std.specs.Str.{is_utf8}
+use Rattle.wm_syntax.specs.declared.profile.Profile.{Profile}
+use Rattle.wm_syntax.specs.declared.numbers.Step.{Step}
+use Rattle.wm_syntax.specs.declared.numbers.Step.TheVariants.{More, Done, Bad}
+use Rattle.wm_syntax.specs.Spelling.{AreBytes, Each}
+use Rattle.wm_syntax.specs.Leb128.{Unsigned}
+use Rattle.wm_syntax.specs.Types.{SpellsU32}
+use Rattle.wm_syntax.specs.inner.Numbers.{Partial, UnsignedAfter}
+use Rattle.wm_syntax.specs.exact.Reading.{fresh, unsigned_push}
+use Rattle.wm_syntax.proofs.Readers.{unsigned_fresh}
+use Rattle.wm_machine.specs.declared.machine.InCustom.{InCustom}
+use Rattle.wm_machine.specs.declared.machine.InCustom.TheVariants as custom
+use Rattle.wm_machine.specs.declared.machine.Machine.{Machine}
+use Rattle.wm_machine.specs.declared.machine.Machine.TheVariants as machine
+use Rattle.wm_machine.specs.declared.machine.Event.{Event}
+use Rattle.wm_machine.specs.declared.machine.Event.TheVariants as event
+use Rattle.wm_machine.specs.declared.machine.member.SectionKind.{SectionKind}
+use Rattle.wm_machine.specs.declared.machine.member.SectionKind.TheVariants as section_kind
+use Rattle.wm_machine.specs.declared.machine.member.InMember.{InMember}
+use Rattle.wm_machine.specs.declared.machine.member.InMember.TheVariants as at
+use Rattle.wm_machine.specs.Items.{Zone}
+use Rattle.wm_machine.specs.Sections.{header}
+use Rattle.wm_machine.specs.exact.Members.{id_of, section_kind_of, member_at_start}
+use Rattle.wm_machine.specs.exact.MemberSteps.{on_number, member_step}
+use Rattle.wm_machine.specs.exact.Steps.{machine_in_custom, custom_step, machine_in_member, machine_after_count, machine_after_paired_count, after_count, begun_section, machine_if_rising, section_start, after_size, custom_size, header_step, step_of}
+use Rattle.wm_machine.specs.exact.Runs.{byte_read, ByteRead, MachineState, zone_of, after_byte, state_after}
+use Rattle.wm_machine.proofs.Numbers.{NumberNext, number_next}
+use Rattle.wm_machine.proofs.MachineStates.{IsNamed, component_named}
+use Rattle.wm_machine.specs.Meanings.{RawSection, SpellsRaw, SpellsSections, HasFrom, Declare}
+
+-- one section more
+each_more : (xs : List RawSection) (x : RawSection) (a b : List ℕ) → Each SpellsRaw xs a → SpellsRaw x b → Each SpellsRaw (xs ++ x ∷ []) (a ++ b)
+each_more [] x a b e h = (b, [], ap (λ y. y ++ b) e ∙ sym (append-nil b), h, refl)
+each_more (y ∷ ys) x a b e h = (e.0, e.1 ++ b, ap (λ z. z ++ b) e.2 ∙ append_assoc e.0 e.1 b, e.3, each_more ys x e.1 b e.4 h)
+
+sections_more : (xs : List RawSection) (x : RawSection) (a b : List ℕ) → SpellsSections xs a → SpellsRaw x b → SpellsSections (xs ++ x ∷ []) (a ++ b)
+sections_more xs x a b e h = (e.0, e.1 ++ b, ap (λ z. z ++ b) e.2 ∙ append_assoc e.0 e.1 b, e.3, each_more xs x e.1 b e.4 h)
+
+-- whole sections, the last of which, custom ones aside, has this id
+pub record Past (last : ℕ) (b : List ℕ) : Type 0 where
+  pub sections : List RawSection
+  pub spelled : SpellsSections sections b
+  pub seen : (last ≡ 0) ⊎ HasFrom last sections
+  pub declared : ℕ
+  pub declares : Declare declared sections
+  pub below : AllByRecursion (λ s. s.id ≤ last) sections
+
+pub record AtSize (last id : ℕ) (r : Partial) (b : List ℕ) : Type 0 where
+  pub front : List ℕ
+  pub begun : List ℕ
+  pub whole : b ≡ front ++ id ∷ begun
+  pub past : Past last front
+  pub number : UnsignedAfter 32 r begun
+
+-- in the contents of a section, so many bytes of which are left
+pub record InContents (last id left : ℕ) (b : List ℕ) : Type 0 where
+  pub front : List ℕ
+  pub size : List ℕ
+  pub contents : List ℕ
+  pub n : ℕ
+  pub whole : b ≡ front ++ id ∷ (size ++ contents)
+  pub past : Past last front
+  pub number : SpellsU32 n size
+  pub room : n ≡ length contents + left
+
+-- the functions that the machine counts are those that were declared, up to the code section
+abbrev pub Counts : (last functions : ℕ) {b : List ℕ} → Past last b → Type 0
+Counts last functions h = last < 10 → functions ≡ h.declared
+
+-- the same in a section with this id, once its count was read
+abbrev pub CountsIn : SectionKind → ℕ → (contents : List ℕ) → ℕ → Type 0
+CountsIn section_kind.Function functions contents declared =
+    (number more : List ℕ) × (contents ≡ number ++ more) × SpellsU32 functions number
+CountsIn of functions contents declared = id_of of < 10 → functions ≡ declared
+
+abbrev pub Framed : Machine → List ℕ → Type 0
+Framed (machine.Header n) b = (n < 8) × (b ≡ take n header)
+Framed (machine.Between last functions) b = (h : Past last b) × Counts last functions h
+Framed (machine.CustomSize last functions r) b = (h : AtSize last 0 r b) × Counts last functions h.past
+Framed (machine.Custom last functions more q) b = (h : InContents last 0 (suc more) b) × Counts last functions h.past
+Framed (machine.Size of functions r) b = (last : ℕ) × (last < id_of of) × (h : AtSize last (id_of of) r b) × Counts last functions h.past
+Framed (machine.Count of functions more r) b =
+    (last : ℕ) × (last < id_of of) × (h : InContents last (id_of of) (suc more) b) × Counts last functions h.past × UnsignedAfter 32 r h.contents
+Framed (machine.Section of functions more left q) b =
+    (last : ℕ) × (last < id_of of) × (h : InContents last (id_of of) (suc more) b) × CountsIn of functions h.contents h.past.declared
+Framed (machine.Refused w) b = Unit {0}
+
+-- the section as bytes
+raw_section : (last id : ℕ) (b : List ℕ) (h : InContents last id 0 b) → SpellsRaw (record { id = id; contents = h.contents }) (id ∷ (h.size ++ h.contents))
+raw_section last id b h =
+    let same : h.n ≡ length h.contents = let r = h.room in omega (arith, r) in
+    (id ∷ [], h.size ++ h.contents, refl, refl, (h.size, h.contents, refl, subst (λ n. SpellsU32 n h.size) same h.number, refl))
+
+-- one section more
+pub all_up : (P Q : RawSection → Type 0) → ((s : RawSection) → P s → Q s) → (xs : List RawSection) → AllByRecursion P xs → AllByRecursion Q xs
+all_up P Q f [] a = tt
+all_up P Q f (x ∷ xs) a = (f x a.0, all_up P Q f xs a.1)
+
+all_more : (P : RawSection → Type 0) (xs : List RawSection) (x : RawSection) → AllByRecursion P xs → P x → AllByRecursion P (xs ++ x ∷ [])
+all_more P [] x a h = (h, tt)
+all_more P (y ∷ xs) x a h = (a.0, all_more P xs x a.1 h)
+
+declares_more : (n : ℕ) (xs : List RawSection) (one : RawSection) → one.id ≢ 3 → Declare n xs → Declare n (xs ++ one ∷ [])
+declares_more n xs one other (inl h) =
+    inl (record { before = h.before; after = h.after ++ one ∷ []; number = h.number; more = h.more; whole = ap (λ y. y ++ one ∷ []) h.whole ∙ append_assoc h.before (record { id = 3; contents = h.number ++ h.more } ∷ h.after) (one ∷ []); spelled = h.spelled })
+declares_more n xs one other (inr h) = inr (h.0, all_more (λ s. s.id ≢ 3) xs one h.1 other)
+
+ended : (last id : ℕ) (b : List ℕ) (next : ℕ) (h : InContents last id 0 b) → last ≤ next → id ≤ next
+    → ((xs : List RawSection) → ((last ≡ 0) ⊎ HasFrom last xs) → (next ≡ 0) ⊎ HasFrom next (xs ++ record { id = id; contents = h.contents } ∷ []))
+    → (n : ℕ) → Declare n (h.past.sections ++ record { id = id; contents = h.contents } ∷ []) → Past next b
+ended last id b next h up own seen n declares =
+    let p = h.past in
+    let one : RawSection = record { id = id; contents = h.contents } in
+    record {
+      sections = p.sections ++ one ∷ [];
+      spelled = subst (λ y. SpellsSections (p.sections ++ one ∷ []) y) (sym h.whole) (sections_more p.sections one h.front (id ∷ (h.size ++ h.contents)) p.spelled (raw_section last id b h));
+      seen = seen p.sections p.seen;
+      declared = n;
+      declares = declares;
+      below = all_more (λ s. s.id ≤ next) p.sections one (all_up (λ s. s.id ≤ last) (λ s. s.id ≤ next) (λ s l. omega (arith, l, up)) p.sections p.below) own;
+    }
+
+-- a custom section leaves what was seen, another one is the last
+custom_seen : (last : ℕ) (one : RawSection) (xs : List RawSection) → ((last ≡ 0) ⊎ HasFrom last xs) → (last ≡ 0) ⊎ HasFrom last (xs ++ one ∷ [])
+custom_seen last one xs (inl e) = inl e
+custom_seen last one xs (inr h) = inr (record { before = h.before; one = h.one; after = h.after ++ one ∷ []; whole = ap (λ y. y ++ one ∷ []) h.whole ∙ append_assoc h.before (h.one ∷ h.after) (one ∷ []); from = h.from })
+
+own_seen : (id : ℕ) (one : RawSection) → one.id ≡ id → (xs : List RawSection) → (id ≡ 0) ⊎ HasFrom id (xs ++ one ∷ [])
+own_seen id one e xs = inr (record { before = xs; one = one; after = []; whole = refl; from = omega (arith, e) })
+
+-- one byte of the contents
+unfoldable pub one_byte : (last id left : ℕ) (b : List ℕ) (c : ℕ) → InContents last id (suc left) b → InContents last id left (b ++ c ∷ [])
+one_byte last id left b c h = record {
+  front = h.front;
+  size = h.size;
+  contents = h.contents ++ c ∷ [];
+  n = h.n;
+  whole = ap (λ y. y ++ c ∷ []) h.whole ∙ (append_assoc h.front (id ∷ (h.size ++ h.contents)) (c ∷ []) ∙ ap (λ y. h.front ++ id ∷ y) (append_assoc h.size h.contents (c ∷ [])));
+  past = h.past;
+  number = h.number;
+  room = let r = h.room in omega (arith, r, length-append h.contents (c ∷ []));
+}
+
+-- one byte more of the contents leaves their count
+one_more : (of : SectionKind) (functions : ℕ) (contents : List ℕ) (d c : ℕ) → CountsIn of functions contents d → CountsIn of functions (contents ++ c ∷ []) d
+one_more section_kind.Function functions contents d c t = (t.0, t.1 ++ c ∷ [], ap (λ y. y ++ c ∷ []) t.2 ∙ append_assoc t.0 t.1 (c ∷ []), t.3)
+one_more section_kind.Type functions contents d c t = t
+one_more section_kind.Import functions contents d c t = t
+one_more section_kind.Table functions contents d c t = t
+one_more section_kind.Memory functions contents d c t = t
+one_more section_kind.Global functions contents d c t = t
+one_more section_kind.Export functions contents d c t = t
+one_more section_kind.Start functions contents d c t = t
+one_more section_kind.Element functions contents d c t = t
+one_more section_kind.Code functions contents d c t = t
+one_more section_kind.Segment functions contents d c t = t
+
+begins_number : (y : List ℕ) → y ≡ [] → UnsignedAfter 32 fresh y
+begins_number y e = subst (UnsignedAfter 32 fresh) (sym e) (unsigned_fresh 32 (omega arith))
+
+-- in a custom section
+in_custom : (last functions left : ℕ) (q : InCustom) (b : List ℕ) (h : InContents last 0 left b) → Counts last functions h.past → Framed (machine_in_custom last functions left q) b
+unfolding ended
+in_custom last functions left (custom.Failed w) b h t = tt
+in_custom last functions zero custom.Skip b h t =
+    (ended last 0 b last h (omega arith) (omega arith) (custom_seen last _) h.past.declared (declares_more h.past.declared h.past.sections (record { id = 0; contents = h.contents }) (λ e. omega (arith, e)) h.past.declares), t)
+in_custom last functions zero (custom.Length r) b h t = tt
+in_custom last functions zero (custom.Name m) b h t = tt
+in_custom last functions (suc n) custom.Skip b h t = (h, t)
+in_custom last functions (suc n) (custom.Length r) b h t = (h, t)
+in_custom last functions (suc n) (custom.Name m) b h t = (h, t)
+
+-- what the sections declare once this one is over
+abbrev Declared : SectionKind → ℕ → List RawSection → List ℕ → ℕ → Type 0
+Declared of functions xs contents n = Declare n (xs ++ record { id = id_of of; contents = contents } ∷ []) × (id_of of < 10 → functions ≡ n)
+
+other_declares : (of : SectionKind) (functions : ℕ) (xs : List RawSection) (contents : List ℕ) (d : ℕ) → id_of of ≢ 3 → Declare d xs → (id_of of < 10 → functions ≡ d) → (n : ℕ) × Declared of functions xs contents n
+other_declares of functions xs contents d other h t = (d, (declares_more d xs (record { id = id_of of; contents = contents }) other h, t))
+
+over_declares : (of : SectionKind) (functions : ℕ) (xs : List RawSection) (contents : List ℕ) (d : ℕ) → Declare d xs → CountsIn of functions contents d → (n : ℕ) × Declared of functions xs contents n
+over_declares section_kind.Function functions xs contents d h t =
+    (functions, (inl (record { before = xs; after = []; number = t.0; more = t.1; whole = ap (λ y. xs ++ record { id = 3; contents = y } ∷ []) t.2; spelled = t.3 }), λ l. refl))
+over_declares section_kind.Type functions xs contents d h t = other_declares section_kind.Type functions xs contents d (λ e. omega (arith, e)) h t
+over_declares section_kind.Import functions xs contents d h t = other_declares section_kind.Import functions xs contents d (λ e. omega (arith, e)) h t
+over_declares section_kind.Table functions xs contents d h t = other_declares section_kind.Table functions xs contents d (λ e. omega (arith, e)) h t
+over_declares section_kind.Memory functions xs contents d h t = other_declares section_kind.Memory functions xs contents d (λ e. omega (arith, e)) h t
+over_declares section_kind.Global functions xs contents d h t = other_declares section_kind.Global functions xs contents d (λ e. omega (arith, e)) h t
+over_declares section_kind.Export functions xs contents d h t = other_declares section_kind.Export functions xs contents d (λ e. omega (arith, e)) h t
+over_declares section_kind.Start functions xs contents d h t = other_declares section_kind.Start functions xs contents d (λ e. omega (arith, e)) h t
+over_declares section_kind.Element functions xs contents d h t = other_declares section_kind.Element functions xs contents d (λ e. omega (arith, e)) h t
+over_declares section_kind.Code functions xs contents d h t = other_declares section_kind.Code functions xs contents d (λ e. omega (arith, e)) h t
+over_declares section_kind.Segment functions xs contents d h t = other_declares section_kind.Segment functions xs contents d (λ e. omega (arith, e)) h t
+
+-- in another one
+in_member : (last : ℕ) (of : SectionKind) (functions bytes left : ℕ) (q : InMember) (b : List ℕ) → last < id_of of → (h : InContents last (id_of of) bytes b) → CountsIn of functions h.contents h.past.declared → Framed (machine_in_member of functions bytes left q) b
+unfolding ended
+in_member last of functions bytes left (at.Failed w) b up h t = tt
+in_member last of functions zero zero at.Over b up h t =
+    let d = over_declares of functions h.past.sections h.contents h.past.declared h.past.declares t in
+    (ended last (id_of of) b (id_of of) h (omega (arith, up)) (omega arith) (λ xs s. own_seen (id_of of) _ refl xs) d.0 d.1.0, d.1.1)
+in_member last of functions (suc n) zero at.Over b up h t = tt
+in_member last of functions zero (suc l) at.Over b up h t = tt
+in_member last of functions (suc n) (suc l) at.Over b up h t = (last, up, h, t)
+in_member last of functions zero left q b up h t = tt
+in_member last of functions (suc n) left q b up h t = (last, up, h, t)
+
+-- at its count
+listed : (last : ℕ) (of : SectionKind) (functions bytes n : ℕ) (b : List ℕ) → last < id_of of → (h : InContents last (id_of of) bytes b) → CountsIn of functions h.contents h.past.declared → Framed (machine_after_count of functions bytes n) b
+listed last of functions bytes zero b up h t = in_member last of functions bytes zero at.Over b up h t
+listed last of functions bytes (suc n) b up h t = in_member last of functions bytes n (member_at_start of) b up h t
+
+counted : (last : ℕ) (of : SectionKind) (functions bytes n : ℕ) (b : List ℕ) → last < id_of of → (h : InContents last (id_of of) bytes b) → Counts last functions h.past → SpellsU32 n h.contents → Framed (machine_after_paired_count of functions bytes n) b
+counted last section_kind.Function functions bytes n b up h t u = listed last section_kind.Function n bytes n b up h (h.contents, [], sym (append-nil h.contents), u)
+counted last section_kind.Code functions bytes n b up h t u =
+    cond_both (nat_eq n functions) _ _ (λ (m : Machine). Framed m b) (λ _. listed last section_kind.Code 0 bytes n b up h (λ l. absurd (omega (arith, l)))) (λ _. tt)
+counted last section_kind.Type functions bytes n b up h t u = listed last section_kind.Type functions bytes n b up h (λ l. t (omega (arith, l, up)))
+counted last section_kind.Import functions bytes n b up h t u = listed last section_kind.Import functions bytes n b up h (λ l. t (omega (arith, l, up)))
+counted last section_kind.Table functions bytes n b up h t u = listed last section_kind.Table functions bytes n b up h (λ l. t (omega (arith, l, up)))
+counted last section_kind.Memory functions bytes n b up h t u = listed last section_kind.Memory functions bytes n b up h (λ l. t (omega (arith, l, up)))
+counted last section_kind.Global functions bytes n b up h t u = listed last section_kind.Global functions bytes n b up h (λ l. t (omega (arith, l, up)))
+counted last section_kind.Export functions bytes n b up h t u = listed last section_kind.Export functions bytes n b up h (λ l. t (omega (arith, l, up)))
+counted last section_kind.Start functions bytes n b up h t u = listed last section_kind.Start functions bytes n b up h (λ l. t (omega (arith, l, up)))
+counted last section_kind.Element functions bytes n b up h t u = listed last section_kind.Element functions bytes n b up h (λ l. t (omega (arith, l, up)))
+counted last section_kind.Segment functions bytes n b up h t u = listed last section_kind.Segment functions bytes n b up h (λ l. absurd (omega (arith, l)))
+
+-- the number so far, or the number
+abbrev pub Numbers : List ℕ → Step ℕ × Partial → Type 0
+Numbers y (More, r) = UnsignedAfter 32 r y
+Numbers y (Done n, r) = SpellsU32 n y
+Numbers y (Bad, r) = Unit {0}
+
+pub numbers : (r : Partial) (y : List ℕ) (c : ℕ) → c < 2 ^ 8 → UnsignedAfter 32 r y → Numbers (y ++ c ∷ []) (unsigned_push 32 r c)
+numbers r y c byte u = go (unsigned_push 32 r c) (number_next r c byte)
+  where
+    go : (q : Step ℕ × Partial) → NumberNext r c q → Numbers (y ++ c ∷ []) q
+    go (More, s) next = record {
+      same = λ n d more.
+          let to = u.same n c (d ∷ more) in
+          let on = next n (d ∷ more) in
+          let e : (y ++ c ∷ []) ++ d ∷ more ≡ y ++ c ∷ d ∷ more = append_assoc y (c ∷ []) (d ∷ more) in
+          (λ v. on.0 (to.0 (subst (λ z. Unsigned 32 n z) e v)), λ v. subst (λ z. Unsigned 32 n z) (sym e) (to.1 (on.1 v)));
+    }
+    go (Done v, s) next = (u.same v c []).1 ((next v []).1 (refl, refl))
+    go (Bad, s) next = tt
+
+at_count : (last : ℕ) (of : SectionKind) (functions more : ℕ) (q : Step ℕ × Partial) (b : List ℕ) → last < id_of of → (h : InContents last (id_of of) more b) → Counts last functions h.past → Numbers h.contents q → Framed (after_count of functions more q).0 b
+at_count last of functions zero (More, r) b up h t u = tt
+at_count last of functions (suc n) (More, r) b up h t u = (last, up, h, t, u)
+at_count last of functions more (Done n, r) b up h t u = counted last of functions more n b up h t u
+at_count last of functions more (Bad, r) b up h t u = tt
+
+-- at its size
+abbrev pub Sizes : ℕ → ℕ → ℕ → List ℕ → Step ℕ × Partial → Type 0
+Sizes last functions id b (More, r) = (h : AtSize last id r b) × Counts last functions h.past
+Sizes last functions id b (Done n, r) = (h : InContents last id n b) × Counts last functions h.past × (h.contents ≡ [])
+Sizes last functions id b (Bad, r) = Unit {0}
+
+pub at_size : (last functions id : ℕ) (r : Partial) (b : List ℕ) (c : ℕ) → c < 2 ^ 8 → (h : AtSize last id r b) → Counts last functions h.past → Sizes last functions id (b ++ c ∷ []) (unsigned_push 32 r c)
+at_size last functions id r b c byte h t = go (unsigned_push 32 r c) (numbers r h.begun c byte h.number)
+  where
+    joined : b ++ c ∷ [] ≡ h.front ++ id ∷ (h.begun ++ c ∷ [])
+    joined = ap (λ y. y ++ c ∷ []) h.whole ∙ append_assoc h.front (id ∷ h.begun) (c ∷ [])
+
+    go : (q : Step ℕ × Partial) → Numbers (h.begun ++ c ∷ []) q → Sizes last functions id (b ++ c ∷ []) q
+    go (More, s) u = (record { front = h.front; begun = h.begun ++ c ∷ []; whole = joined; past = h.past; number = u }, t)
+    go (Done v, s) u = (
+      record {
+        front = h.front;
+        size = h.begun ++ c ∷ [];
+        contents = [];
+        n = v;
+        whole = joined ∙ ap (λ y. h.front ++ id ∷ y) (sym (append-nil (h.begun ++ c ∷ [])));
+        past = h.past;
+        number = u;
+        room = omega arith;
+      },
+      t,
+      refl,
+    )
+    go (Bad, s) u = tt
+
+at_custom_size : (last functions : ℕ) (q : Step ℕ × Partial) (b : List ℕ) → Sizes last functions 0 b q
+    → Framed (on_number q (λ s. machine.CustomSize last functions s) (λ n. (custom_size last functions n, event.Nothing)) machine.Refused).0 b
+at_custom_size last functions (More, r) b h = h
+at_custom_size last functions (Done n, r) b h = in_custom last functions n (custom.Length fresh) b h.0 h.1
+at_custom_size last functions (Bad, r) b h = tt
+
+in_contents : (last : ℕ) (of : SectionKind) (functions n : ℕ) (b : List ℕ) → last < id_of of → (h : InContents last (id_of of) n b) → Counts last functions h.past → h.contents ≡ [] → Framed (after_size of functions n) b
+in_contents last of functions zero b up h t e = tt
+in_contents last section_kind.Start functions (suc n) b up h t e = (last, up, h, λ l. t (omega (arith, l, up)))
+in_contents last section_kind.Type functions (suc n) b up h t e = (last, up, h, t, begins_number h.contents e)
+in_contents last section_kind.Import functions (suc n) b up h t e = (last, up, h, t, begins_number h.contents e)
+in_contents last section_kind.Function functions (suc n) b up h t e = (last, up, h, t, begins_number h.contents e)
+in_contents last section_kind.Table functions (suc n) b up h t e = (last, up, h, t, begins_number h.contents e)
+in_contents last section_kind.Memory functions (suc n) b up h t e = (last, up, h, t, begins_number h.contents e)
+in_contents last section_kind.Global functions (suc n) b up h t e = (last, up, h, t, begins_number h.contents e)
+in_contents last section_kind.Export functions (suc n) b up h t e = (last, up, h, t, begins_number h.contents e)
+in_contents last section_kind.Element functions (suc n) b up h t e = (last, up, h, t, begins_number h.contents e)
+in_contents last section_kind.Code functions (suc n) b up h t e = (last, up, h, t, begins_number h.contents e)
+in_contents last section_kind.Segment functions (suc n) b up h t e = (last, up, h, t, begins_number h.contents e)
+
+at_its_size : (last : ℕ) (of : SectionKind) (functions : ℕ) (q : Step ℕ × Partial) (b : List ℕ) → last < id_of of → Sizes last functions (id_of of) b q
+    → Framed (on_number q (λ s. machine.Size of functions s) (λ n. (after_size of functions n, event.Nothing)) machine.Refused).0 b
+at_its_size last of functions (More, r) b up h = (last, up, h.0, h.1)
+at_its_size last of functions (Done n, r) b up h = in_contents last of functions n b up h.0 h.1 h.2
+at_its_size last of functions (Bad, r) b up h = tt
+
+-- at its id
+begins : (last id : ℕ) (b : List ℕ) → Past last b → AtSize last id fresh (b ++ id ∷ [])
+begins last id b h = record { front = b; begun = []; whole = refl; past = h; number = unsigned_fresh 32 (omega arith) }
+
+begun : (last : ℕ) (of : SectionKind) (functions : ℕ) (b : List ℕ) → last < id_of of → (h : AtSize last (id_of of) fresh b) → Counts last functions h.past → Framed (begun_section of functions).0 b
+begun last section_kind.Segment zero b up h t = (last, up, h, t)
+begun last section_kind.Segment (suc n) b up h t = tt
+begun last section_kind.Type functions b up h t = (last, up, h, t)
+begun last section_kind.Import functions b up h t = (last, up, h, t)
+begun last section_kind.Function functions b up h t = (last, up, h, t)
+begun last section_kind.Table functions b up h t = (last, up, h, t)
+begun last section_kind.Memory functions b up h t = (last, up, h, t)
+begun last section_kind.Global functions b up h t = (last, up, h, t)
+begun last section_kind.Export functions b up h t = (last, up, h, t)
+begun last section_kind.Start functions b up h t = (last, up, h, t)
+begun last section_kind.Element functions b up h t = (last, up, h, t)
+begun last section_kind.Code functions b up h t = (last, up, h, t)
+
+rising : (last functions id : ℕ) (q : Option SectionKind) (b : List ℕ) → IsNamed id q → (h : Past last b) → Counts last functions h → Framed (machine_if_rising last functions id q).0 (b ++ id ∷ [])
+rising last functions id None b named h t = tt
+rising last functions id (Some of) b named h t =
+    cond_both (nat_le id last) _ _ (λ (q : Machine × Event). Framed q.0 (b ++ id ∷ [])) (λ _. tt)
+    (λ a. begun last of functions (b ++ id ∷ []) (let above : last < id = leb-false id last a in omega (arith, above, named)) (at_id named) t)
+  where
+    at_id : (e : id ≡ id_of of) → AtSize last (id_of of) fresh (b ++ id ∷ [])
+    at_id e = record { front = b; begun = []; whole = ap (λ i. b ++ i ∷ []) e; past = h; number = unsigned_fresh 32 (omega arith) }
+
+starts : (last functions c : ℕ) (b : List ℕ) (h : Past last b) → Counts last functions h → Framed (section_start last functions c).0 (b ++ c ∷ [])
+unfolding begins
+starts last functions zero b h t = (begins last 0 b h, t)
+starts last functions (suc m) b h t = rising last functions (suc m) (section_kind_of (suc m)) b (component_named m) h t
+
+-- in the header
+header_more : (n : ℕ) → n < 8 → take n header ++ slice_index header n ∷ [] ≡ take (n + 1) header
+header_more zero l = refl
+header_more (suc zero) l = refl
+header_more (suc (suc zero)) l = refl
+header_more (suc (suc (suc zero))) l = refl
+header_more (suc (suc (suc (suc zero)))) l = refl
+header_more (suc (suc (suc (suc (suc zero))))) l = refl
+header_more (suc (suc (suc (suc (suc (suc zero)))))) l = refl
+header_more (suc (suc (suc (suc (suc (suc (suc zero))))))) l = refl
+header_more (suc (suc (suc (suc (suc (suc (suc (suc n)))))))) l = absurd (omega (arith, l))
+
+in_header : (n c : ℕ) (b : List ℕ) → n < 8 → b ≡ take n header → Framed (header_step n c).0 (b ++ c ∷ [])
+in_header n c b low e =
+    let P : Machine × Event → Type 0 = λ q. Framed q.0 (b ++ c ∷ []) in
+    cond_both (nat_lt n 8) _ _ P
+    (λ _. cond_both (nat_eq c (slice_index header n)) _ _ P
+    (λ is.
+    let same : b ++ c ∷ [] ≡ take (n + 1) header = ap (λ y. y ++ c ∷ []) e ∙ (ap (λ d. take n header ++ d ∷ []) (eqb-true c (slice_index header n) is) ∙ header_more n low) in
+    cond_both (nat_lt n 7) _ _ P
+    (λ a. (let l = ltb-true n 7 a in omega (arith, l), same))
+    (λ a. let seven : n + 1 ≡ 8 = let l = ltb-false n 7 a in omega (arith, l, low) in
+    (record { sections = []; spelled = (b ++ c ∷ [], [], sym (append-nil (b ++ c ∷ [])), same ∙ ap (λ i. take i header) seven, refl); seen = inl refl; declared = 0; declares = inr (refl, tt); below = tt }, λ l. refl)))
+    (λ _. cond_both (nat_lt n 4) _ _ P (λ _. tt) (λ _. tt)))
+    (λ _. tt)
+
+-- each byte
+pub step_framed : (p : Profile) (m : Machine) (c : ℕ) (b : List ℕ) → c < 2 ^ 8 → Framed m b → Framed (step_of p m c).0 (b ++ c ∷ [])
+unfolding one_byte
+step_framed p (machine.Header n) c b byte h = in_header n c b h.0 h.1
+step_framed p (machine.Between last functions) c b byte h = starts last functions c b h.0 h.1
+step_framed p (machine.CustomSize last functions r) c b byte h = at_custom_size last functions (unsigned_push 32 r c) (b ++ c ∷ []) (at_size last functions 0 r b c byte h.0 h.1)
+step_framed p (machine.Custom last functions more q) c b byte h = in_custom last functions more (custom_step q c).0 (b ++ c ∷ []) (one_byte last 0 more b c h.0) h.1
+step_framed p (machine.Size of functions r) c b byte h = at_its_size h.0 of functions (unsigned_push 32 r c) (b ++ c ∷ []) h.1 (at_size h.0 functions (id_of of) r b c byte h.2 h.3)
+step_framed p (machine.Count of functions more r) c b byte h = at_count h.0 of functions more (unsigned_push 32 r c) (b ++ c ∷ []) h.1 (one_byte h.0 (id_of of) more b c h.2) h.3 (numbers r h.2.contents c byte h.4)
+step_framed p (machine.Section of functions more left q) c b byte h =
+    in_member h.0 of functions more left (member_step p q c).0 (b ++ c ∷ []) h.1 (one_byte h.0 (id_of of) more b c h.2) (one_more of functions h.2.contents h.2.past.declared c h.3)
+step_framed p (machine.Refused w) c b byte h = tt
+
+heard_framed : (zone : Zone) (y : List ℕ) (c : ℕ) (m : Machine) (e : Event) (b : List ℕ) → Framed m b → Framed (byte_read machine.Refused zone y c (m, e)).at b
+heard_framed zone y c m event.Nothing b f = f
+heard_framed zone y c m (event.Complete x) b f = f
+heard_framed zone y c m event.DataByte b f = f
+heard_framed zone y c m event.InName b f = f
+heard_framed zone y c m (event.EndsName kind) b f = cond_both (is_utf8 (y ++ c ∷ [])) _ _ (λ (h : ByteRead Machine). Framed h.at b) (λ _. f) (λ _. tt)
+heard_framed zone y c m (event.EmptyName kind) b f = f
+
+pub run_framed : (p : Profile) (s : MachineState) (before b : List ℕ) → AreBytes b → Framed s.machine before → Framed (state_after p s b).machine (before ++ b)
+run_framed p s before [] a f = subst (λ y. Framed s.machine y) (sym (append-nil before)) f
+run_framed p s before (c ∷ b) a f =
+    let one : Framed (after_byte p s c).machine (before ++ c ∷ []) = heard_framed (zone_of s.machine) s.name c (step_of p s.machine c).0 (step_of p s.machine c).1 (before ++ c ∷ []) (step_framed p s.machine c before a.0 f) in
+    subst (λ y. Framed (state_after p (after_byte p s c) b).machine y) (append_assoc before (c ∷ []) b) (run_framed p (after_byte p s c) (before ++ c ∷ []) b a.1 one)

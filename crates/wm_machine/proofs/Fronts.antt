@@ -1,0 +1,145 @@
+-- Bytes that were not refused are those of some module, sizes, names and the number of code entries aside.
+use Rattle.std.proofs.Common.{◌≡◌, ℕ, zero, suc, ◌-◌, List, [], ◌∷◌, ◌++◌, Option, Some, None, length, refl, sym, ◌∙◌, ap, inl, inr, arith, drop}
+use Rattle.std.proofs.lemmas.Bool.{cond_both}
+use Rattle.std.specs.Str.{is_utf8}
+use Rattle.wm_syntax.specs.declared.profile.Profile.{Profile}
+use Rattle.wm_syntax.specs.Spelling.{AreBytes}
+use Rattle.wm_machine.specs.declared.machine.InCustom.{InCustom}
+use Rattle.wm_machine.specs.declared.machine.InCustom.TheVariants as custom
+use Rattle.wm_machine.specs.declared.machine.Machine.{Machine}
+use Rattle.wm_machine.specs.declared.machine.Machine.TheVariants as machine
+use Rattle.wm_machine.specs.declared.machine.Event.{Event}
+use Rattle.wm_machine.specs.declared.machine.Event.TheVariants as event
+use Rattle.wm_machine.specs.declared.machine.member.SectionKind.{SectionKind}
+use Rattle.wm_machine.specs.declared.machine.member.SectionKind.TheVariants as section_kind
+use Rattle.wm_machine.specs.declared.machine.member.InMember.{InMember}
+use Rattle.wm_machine.specs.declared.machine.member.InMember.TheVariants as at
+use Rattle.wm_machine.specs.Items.{Zone}
+use Rattle.wm_machine.specs.MarkedForms.{MarkedForm, MarkedByte, Then, Times, Counted, MarkedNumber, Name, Sized, Filled, nothing_at, marks_ending, outside_mark}
+use Rattle.wm_machine.specs.Sections.{header}
+use Rattle.wm_machine.specs.Grammar.{Contents, Customs, Optional, MayMiss, Chain, loose}
+use Rattle.wm_machine.specs.exact.Members.{id_of, section_kind_of}
+use Rattle.wm_machine.specs.exact.Steps.{step_of}
+use Rattle.wm_machine.specs.exact.Runs.{zone_in, zone_of, byte_read, ByteRead, MachineState, after_byte, state_after, marks, state_at_start}
+use Rattle.wm_machine.specs.exact.Live.{IsRefused}
+use Rattle.wm_machine.specs.Fronts.{IsFront, name_more, name_after, unfinished_name}
+use Rattle.wm_machine.proofs.Numbers.{Left}
+use Rattle.wm_machine.proofs.OpenMembers.{Comes, some_then, some_times, some_counted, some_number, some_sized, some_filled, some_text, some_name_left, some_name, zeros, zeros_length, zeros_bytes, some_component, some_one}
+use Rattle.wm_machine.proofs.MemberBytes.{OneOf, ComponentRest}
+use Rattle.wm_machine.proofs.MemberSound.{CanGo}
+use Rattle.wm_machine.proofs.Customs.{unnamed, CustomRest}
+use Rattle.wm_machine.proofs.LaterNumbers.{ForSome}
+use Rattle.wm_machine.proofs.MachineStates.{IsNamed, component_named, FitsCustom, Fits, run_fits}
+use Rattle.wm_machine.proofs.WholeMachine.{Known, KnownIn, Later, After, InSize, ListOf, Listed, Within, MachineRest, begin_from, run_from}
+use Rattle.wm_machine.proofs.MachineAndSink.{begin_fits}
+
+pub some_custom : (n : ℕ) (q : InCustom) (y : List ℕ) → FitsCustom q → Comes (CustomRest loose n q y)
+some_custom n (custom.Length r) y h = some_filled n _ (some_text unnamed r h)
+some_custom n (custom.Name more) y h = some_filled n _ (some_name_left unnamed y (suc more))
+some_custom n custom.Skip y h = record { bytes = zeros n; marks = marks_ending None (zeros n); spelled = (zeros_length n, zeros_bytes n, refl) }
+some_custom n (custom.Failed w) y h = absurd h
+
+module _ (p : Profile) where
+  pub some_listed : (of : SectionKind) (f n : ℕ) → Comes (ListOf loose p of f n)
+  some_listed section_kind.Function f n = let t = some_times n (OneOf loose p section_kind.Function) (some_one p section_kind.Function) in record { bytes = t.bytes; marks = t.marks; spelled = ((λ d. absurd d), t.spelled) }
+  some_listed section_kind.Code f n = let t = some_times n (OneOf loose p section_kind.Code) (some_one p section_kind.Code) in record { bytes = t.bytes; marks = t.marks; spelled = ((λ d. absurd d), t.spelled) }
+  some_listed of f n = some_times n (OneOf loose p of) (some_one p of)
+
+  some_contents : (of : SectionKind) (f : ℕ) → Comes (Contents loose p f (id_of of))
+  some_contents section_kind.Start f = some_one p section_kind.Start
+  some_contents of f = some_number nothing_at (ListOf loose p of f) (some_listed of f)
+
+  -- each section may be there
+  with_section : (f : ℕ) (of : SectionKind) → Comes (Optional loose p f (id_of of))
+  with_section f of =
+      let C : ℕ → MarkedForm = λ n. Sized loose n (Contents loose p f (id_of of)) in
+      let c = some_then (MarkedByte (id_of of) None) (MarkedNumber nothing_at C) (record { bytes = id_of of ∷ []; marks = outside_mark None ∷ []; spelled = (refl, refl) })
+      (some_number nothing_at C (λ n. some_sized n (Contents loose p f (id_of of)) (some_contents of f))) in
+      record { bytes = c.bytes; marks = c.marks; spelled = inl c.spelled }
+
+  without_section : (f id : ℕ) → MayMiss f id → Comes (Optional loose p f id)
+  without_section f id may = record { bytes = []; marks = []; spelled = inr (may, (refl, refl)) }
+
+  by_component : (f id : ℕ) (of : Option SectionKind) → IsNamed id of → Comes (Optional loose p f id)
+  by_component f id None late = without_section f id (λ e. elim e [ inl a ↦ omega (arith, a, late) | inr a ↦ omega (arith, a, late) ])
+  by_component f id (Some of) e = rw e (with_section f of)
+
+  some_optional : (f id : ℕ) → Comes (Optional loose p f id)
+  some_optional f zero = without_section f 0 (λ e. elim e [ inl a ↦ omega (arith, a) | inr a ↦ omega (arith, a) ])
+  some_optional f (suc m) = by_component f (suc m) (section_kind_of (suc m)) (component_named m)
+
+  no_customs : Comes (Customs loose)
+  no_customs = record { bytes = []; marks = []; spelled = (0, (refl, refl)) }
+
+  some_chain : (f count id : ℕ) → Comes (Chain loose p f count id)
+  some_chain f zero id = no_customs
+  some_chain f (suc count) id = some_then (Customs loose) (Then (Optional loose p f id) (Chain loose p f count (suc id))) no_customs (some_then (Optional loose p f id) (Chain loose p f count (suc id)) (some_optional f id) (some_chain f count (suc id)))
+
+  some_for : (C : ℕ → Type 0) (P : ℕ → MarkedForm) (f : ℕ) → C f → Comes (P f) → Comes (ForSome C P)
+  some_for C P f c s = record { bytes = s.bytes; marks = s.marks; spelled = (f, c, s.spelled) }
+
+  pub some_later : (last functions : ℕ) → Comes (Later loose p last functions)
+  some_later last functions = some_for (Known last functions) (λ f. Chain loose p f (11 - last) (suc last)) functions (λ l. refl) (some_chain functions (11 - last) (suc last))
+
+  pub some_after : (of : SectionKind) (f : ℕ) → Comes (After loose p of f)
+  some_after of f = some_chain f (11 - id_of of) (suc (id_of of))
+
+  pub some_size : (of : SectionKind) (f n : ℕ) → Comes (InSize loose p of f n)
+  some_size of f n = some_then (Sized loose n (Contents loose p f (id_of of))) (After loose p of f) (some_sized n (Contents loose p f (id_of of)) (some_contents of f)) (some_after of f)
+
+  some_within : (of : SectionKind) (left more : ℕ) (q : InMember) (y : List ℕ) → CanGo more q → Comes (Within loose p of left q y)
+  some_within of left more q y go = some_then (ComponentRest loose p q y) (Times left (OneOf loose p of)) (some_component p more q y go) (some_times left (OneOf loose p of) (some_one p of))
+
+  pub some_machine : (m : Machine) (y : List ℕ) → Fits m → (IsRefused m → ⊥) → Comes (MachineRest loose p m y)
+  some_machine (machine.Header n) y h live = let l = some_later 0 0 in
+      record { bytes = drop n header ++ l.bytes; marks = marks_ending None (drop n header) ++ l.marks; spelled = (h, record { front = drop n header; back = l.bytes; front_marks = marks_ending None (drop n header); back_marks = l.marks; bytes = refl; marks = refl; first = (refl, refl); second = l.spelled }) }
+  some_machine (machine.Between last functions) y h live = some_later last functions
+  some_machine (machine.CustomSize last functions r) y h live = some_counted nothing_at (λ n. Then (Filled loose n (Name loose unnamed)) (Later loose p last functions)) r h.0 (λ n. some_then (Filled loose n (Name loose unnamed)) (Later loose p last functions) (some_filled n (Name loose unnamed) (some_name unnamed)) (some_later last functions))
+  some_machine (machine.Custom last functions more q) y h live = some_then (CustomRest loose (suc more) q y) (Later loose p last functions) (some_custom (suc more) q y h.1) (some_later last functions)
+  some_machine (machine.Size of functions r) y h live = some_for (KnownIn (id_of of) functions) (λ f. Counted (Left r) nothing_at (InSize loose p of f)) functions (λ l. refl) (some_counted nothing_at (InSize loose p of functions) r h.0 (some_size of functions))
+  some_machine (machine.Count of functions more r) y h live =
+      some_for (KnownIn (id_of of) functions) (λ f. Then (Sized loose (suc more) (Listed loose p of r f)) (After loose p of f)) functions (λ l. refl)
+      (some_then (Sized loose (suc more) (Listed loose p of r functions)) (After loose p of functions) (some_sized (suc more) (Listed loose p of r functions) (some_counted nothing_at (ListOf loose p of functions) r h.0 (some_listed of functions))) (some_after of functions))
+  some_machine (machine.Section of functions more left q) y h live =
+      some_then (Sized loose (suc more) (Within loose p of left q y)) (Later loose p (id_of of) functions) (some_sized (suc more) (Within loose p of left q y) (some_within of left (suc more) q y h.2)) (some_later (id_of of) functions)
+  some_machine (machine.Refused w) y h live = absurd (live tt)
+
+  pub length_marks : (b : List ℕ) (s : MachineState) → length b ≡ length (marks p s b)
+  length_marks [] s = refl
+  length_marks (c ∷ b) s = ap suc (length_marks b (after_byte p s c))
+
+  -- bytes that were not refused are a front
+  pub is_front : (b : List ℕ) → AreBytes b → (IsRefused (state_after p state_at_start b).machine → ⊥) → IsFront p b (marks p state_at_start b)
+  is_front b bytes live =
+      let c = some_machine (state_after p state_at_start b).machine (state_after p state_at_start b).name (run_fits p state_at_start b bytes begin_fits) live in
+      record { rest = c.bytes; rest_marks = c.marks; same = length_marks b state_at_start; whole = begin_from loose p (b ++ c.bytes) (marks p state_at_start b ++ c.marks) (run_from loose p state_at_start b c.bytes c.marks bytes begin_fits c.spelled) }
+
+-- the bytes that are kept of a name: a byte of a code entry is in none
+snoc_length : (b : List ℕ) (c : ℕ) → length (b ++ c ∷ []) ≡ suc (length b)
+snoc_length [] c = refl
+snoc_length (d ∷ b) c = ap suc (snoc_length b c)
+
+no_name : (q : InMember) (n : ℕ) → name_more (zone_in q) n ≡ 0
+no_name (at.Entry zero q) n = refl
+no_name (at.Entry (suc m) q) n = refl
+no_name q n = refl
+
+outside_name : (m : Machine) (n : ℕ) → name_more (zone_of m) n ≡ 0
+outside_name (machine.Section of functions more left q) n = no_name q n
+outside_name m n = refl
+
+heard_name : (zone : Zone) → ((n : ℕ) → name_more zone n ≡ 0) → (name : List ℕ) (c : ℕ) (m : Machine) (e : Event) → length (byte_read machine.Refused zone name c (m, e)).name ≡ name_more (byte_read machine.Refused zone name c (m, e)).mark.zone (length name)
+heard_name zone none name c m event.Nothing = sym (none (length name))
+heard_name zone none name c m (event.Complete q) = sym (none (length name))
+heard_name zone none name c m event.DataByte = refl
+heard_name zone none name c m event.InName = snoc_length name c
+heard_name zone none name c m (event.EmptyName kind) = refl
+heard_name zone none name c m (event.EndsName kind) = cond_both (is_utf8 (name ++ c ∷ [])) _ _ (λ (d : ByteRead Machine). length d.name ≡ name_more d.mark.zone (length name)) (λ _. refl) (λ _. refl)
+
+run_name : (p : Profile) (b : List ℕ) (s : MachineState) → length (state_after p s b).name ≡ name_after (length s.name) (marks p s b)
+run_name p [] s = refl
+run_name p (c ∷ b) s =
+    run_name p b (after_byte p s c) ∙ ap (λ n. name_after n (marks p (after_byte p s c) b)) (heard_name (zone_of s.machine) (outside_name s.machine) s.name c (step_of p s.machine c).0 (step_of p s.machine c).1)
+
+pub name_kept : (p : Profile) (b : List ℕ) → length (state_after p state_at_start b).name ≡ unfinished_name (marks p state_at_start b)
+name_kept p b = run_name p b state_at_start

@@ -1,0 +1,366 @@
+-- Each rule of the flat grammar reads a value, and the whole of it a flat module.
+use Rattle.std.proofs.Common.{ℕ, ◌-◌, ◌≡◌, ◌≤◌, ◌<◌, ◌^◌, List, [], ◌∷◌, ◌++◌, Option, Some, None, length, flat_map, map, refl, sym, ◌∙◌, ap, subst, append-nil, length-append, arith, ◌⊎◌, inl, inr}
+use Rattle.std.specs.List.{AllByRecursion}
+use Rattle.std.proofs.lemmas.List.Concat.{flat_map_single}
+use Rattle.wm_syntax.specs.declared.types.ValType.{ValType}
+use Rattle.wm_syntax.specs.declared.types.Limits.{Limits}
+use Rattle.wm_syntax.specs.declared.types.GlobalType.{GlobalType}
+use Rattle.wm_syntax.specs.declared.instructions.Op.{Op}
+use Rattle.wm_syntax.specs.declared.instructions.Op.TheVariants as op
+use Rattle.wm_syntax.specs.declared.modules.ImportDesc.{ImportDesc}
+use Rattle.wm_syntax.specs.declared.modules.ImportDesc.TheVariants as desc
+use Rattle.wm_syntax.specs.declared.modules.ExportKind.{ExportKind}
+use Rattle.wm_syntax.specs.declared.profile.Profile.{Profile}
+use Rattle.wm_syntax.specs.Spelling.{Form, Byte as OneByte, Exactly, AreBytes, Each, ◌▸◌}
+use Rattle.wm_syntax.specs.Types.{SpellsU32, SpellsList, SpellsBytes, SpellsName, SpellsValType, SpellsSignature, SpellsLimits, SpellsBounds, SpellsTableType, SpellsGlobalType, type_byte}
+use Rattle.wm_syntax.specs.Profiles.{HasDesc, HasSignature, HasType}
+use Rattle.wm_syntax.specs.Instructions.{SpellsOp}
+use Rattle.wm_syntax.specs.Opcodes.{opcode}
+use Rattle.wm_machine.specs.Sections.{Section as SectionForm, Those, ListSection, StartSection, Customs as CustomForms, SpellsCustom, SpellsDesc, SpellsImport, SpellsExport, SpellsRun, kind_byte, header}
+use Rattle.wm_machine.specs.Items.{Item, Marks, items_at, new_type, param, result_count, one_result, import_module, import_name, import_desc, function, table, memory, global, const_op, export_name, export, start, element, element_function, body, body_op, segment, data_byte}
+use Rattle.wm_machine.specs.MarkedForms.{MarkedForm, Empty, MarkedByte, Literal, Then, Times, MarkedNumber, Vector, Index, Name, Sized, nothing_at, marks_ending}
+use Rattle.wm_machine.specs.Grammar.{strict, ValueType, ResultTypes, FunctionType, ImportForm, HasGlobalType, EachOp, Expression, Global, ExportForm, ElementForm, Run, Code, DataByte, SegmentForm, Paired, Custom, Customs, MayMiss, Chain, ModuleForm}
+use Rattle.wm_machine.specs.Flat.{FlatModule, HasImport, type_items, import_items, global_items, export_items, start_items, element_items, code_items, segment_items, flat_items, SpellsOps, SpellsFlatGlobal, SpellsFlatElement, SpellsFlatCode, SpellsFlatSegment, InOrder, flat_sections, SpellsFlat}
+use Rattle.wm_machine.proofs.EntryBytes.{run_part}
+use Rattle.wm_machine.proofs.Those.{those_from, those_to}
+use Rattle.wm_machine.proofs.ReadValues.{Reads, HasByte, parts-append, parts-nothing, parts-some, number_some, front_some, byte_some, Many, reads_as, reads_byte, reads_leaf, reads_then, reads_after, reads_number, reads_times, reads_vector, reads_sized, reads_entry, reads_list, reads_index, reads_name}
+
+-- function types
+reads_type : (p : Profile) (part : ValType → Item) → Reads (ValueType p part) (Those (HasType p) SpellsValType) (λ t. part t ∷ [])
+reads_type p part = reads_leaf (Those (HasType p) SpellsValType) part (λ t b h. byte_some (type_byte t) b h.1)
+
+reads_results : (p : Profile) → Reads {X = List ValType} (ResultTypes p) (SpellsList (Those (HasType p) SpellsValType)) (λ ts. result_count (length ts) ∷ map one_result ts)
+reads_results p = reads_as (reads_number (λ n. Some (result_count n)) (λ n. reads_times (reads_type p one_result) n))
+    (λ z b h. (z.1, (h.0, h.1, h.2, subst (λ m. SpellsU32 m h.0) h.4.0 h.3, h.4.1), cc (h.4.0, flat_map_single one_result z.1)))
+    (λ ts b h. ((length ts, ts), (h.0, h.1, h.2, h.3, (refl, h.4)), ap (λ y. result_count (length ts) ∷ y) (flat_map_single one_result ts)))
+
+types_from : (p : Profile) (ts : List ValType) (b : List ℕ) → SpellsList (Those (HasType p) SpellsValType) ts b → AllByRecursion (HasType p) ts × SpellsList SpellsValType ts b
+types_from p ts b h = let v = those_from (HasType p) SpellsValType ts h.1 h.4 in (v.0, (h.0, h.1, h.2, h.3, v.1))
+
+types_to : (p : Profile) (ts : List ValType) (b : List ℕ) → AllByRecursion (HasType p) ts → SpellsList SpellsValType ts b → SpellsList (Those (HasType p) SpellsValType) ts b
+types_to p ts b g h = (h.0, h.1, h.2, h.3, those_to (HasType p) SpellsValType ts h.1 g h.4)
+
+reads_signature : (p : Profile) → Reads (FunctionType p) (Those (HasSignature p) SpellsSignature) type_items
+reads_signature p = reads_as (reads_then (reads_byte 0x60 (Some new_type)) (reads_then (reads_list param (reads_type p param)) (reads_results p)))
+    (λ z b h.
+    let i = h.4 in
+    let x = types_from p z.1.0 i.0 i.3 in
+    let y = types_from p z.1.1 i.1 i.4 in
+    (record { params = z.1.0; results = z.1.1 }, ((x.0, y.0), (h.0, h.1, h.2, h.3, (i.0, i.1, i.2, x.1, y.1))), refl))
+    (λ f b h.
+    let r = h.1 in
+    let i = r.4 in
+    ((tt, (f.params, f.results)), (r.0, r.1, r.2, r.3, (i.0, i.1, i.2, types_to p f.params i.0 h.0.0 i.3, types_to p f.results i.1 h.0.1 i.4)), refl))
+
+-- imports
+desc_some : (d : ImportDesc) (b : List ℕ) → SpellsDesc d b → HasByte b
+desc_some (desc.Func x) b h = front_some b h.0 h.1 h.2 (byte_some 0x00 h.0 h.3)
+desc_some (desc.Table l) b h = front_some b h.0 h.1 h.2 (byte_some 0x01 h.0 h.3)
+desc_some (desc.Memory l) b h = front_some b h.0 h.1 h.2 (byte_some 0x02 h.0 h.3)
+desc_some (desc.Global g) b h = front_some b h.0 h.1 h.2 (byte_some 0x03 h.0 h.3)
+
+reads_import : (p : Profile) → Reads (ImportForm strict p) (Those (HasImport p) SpellsImport) import_items
+reads_import p = reads_as
+    (reads_then (reads_name (λ text. Some (import_module text))) (reads_then (reads_name (λ text. Some (import_name text))) (reads_leaf (Those (HasDesc p) SpellsDesc) import_desc (λ d b h. desc_some d b h.1))))
+    (λ z b h. let i = h.4 in let d = i.4 in (record { module_name = z.0; item_name = z.1.0; desc = z.1.1 }, (d.0, (h.0, h.1, h.2, h.3, (i.0, i.1, i.2, i.3, d.1))), refl))
+    (λ i b h. let r = h.1 in let j = r.4 in ((i.module_name, (i.item_name, i.desc)), (r.0, r.1, r.2, r.3, (j.0, j.1, j.2, j.3, (h.0, j.4))), refl))
+
+-- tables, memories and the types of globals
+table_some : (l : Limits) (b : List ℕ) → SpellsTableType l b → HasByte b
+table_some l b h = front_some b h.0 h.1 h.2 (byte_some 0x70 h.0 h.3)
+
+limits_some : (l : Limits) (b : List ℕ) → SpellsLimits l b → HasByte b
+limits_some l b h = bounds_some l.min l.max b h
+  where
+    bounds_some : (min : ℕ) (max : Option ℕ) (b : List ℕ) → SpellsBounds min max b → HasByte b
+    bounds_some min None b h = front_some b h.0 h.1 h.2 (byte_some 0x00 h.0 h.3)
+    bounds_some min (Some max) b h = front_some b h.0 h.1 h.2 (byte_some 0x01 h.0 h.3)
+
+global_some : (g : GlobalType) (b : List ℕ) → SpellsGlobalType g b → HasByte b
+global_some g b h = front_some b h.0 h.1 h.2 (byte_some (type_byte g.ty) h.0 h.3)
+
+-- expressions
+op_some : (o : Op) (b : List ℕ) → SpellsOp o b → HasByte b
+op_some (op.Simple i) b h = front_some b h.0 h.1 h.2 (byte_some (opcode i).0 h.0 h.3)
+op_some (op.Block t) b h = front_some b h.0 h.1 h.2 (byte_some 0x02 h.0 h.3)
+op_some (op.Loop t) b h = front_some b h.0 h.1 h.2 (byte_some 0x03 h.0 h.3)
+op_some (op.If t) b h = front_some b h.0 h.1 h.2 (byte_some 0x04 h.0 h.3)
+op_some op.Else b h = byte_some 0x05 b h
+op_some op.End b h = byte_some 0x0B b h
+op_some (op.BrTable n) b h = front_some b h.0 h.1 h.2 (byte_some 0x0E h.0 h.3)
+op_some (op.Label l) b h = number_some l b h
+
+module _ (part : Op → Item) where
+  ops_to : (ops : List Op) (b : List ℕ) (k : Marks) → EachOp part ops b k → Each SpellsOp ops b × (items_at k ≡ map part ops)
+  ops_to [] b k h = (h.0, ap items_at h.1)
+  ops_to (o ∷ ops) b k h =
+      let v = ops_to ops h.back h.back_marks h.second in
+      let e = parts-some (Some (part o)) h.front (op_some o h.front h.first.0) in
+      ((h.front, h.back, h.bytes, h.first.0, v.0), ap items_at h.marks ∙ (parts-append h.front_marks h.back_marks ∙ cc (ap items_at h.first.1, e, v.1)))
+
+  ops_from : (ops : List Op) (b : List ℕ) → Each SpellsOp ops b → (k : Marks) × EachOp part ops b k × (items_at k ≡ map part ops)
+  ops_from [] b h = ([], (h, refl), refl)
+  ops_from (o ∷ ops) b h =
+      let v = ops_from ops h.1 h.4 in
+      let e = parts-some (Some (part o)) h.0 (op_some o h.0 h.3) in (
+        marks_ending (Some (part o)) h.0 ++ v.0,
+        record { front = h.0; back = h.1; front_marks = marks_ending (Some (part o)) h.0; back_marks = v.0; bytes = h.2; marks = refl; first = (h.3, refl); second = v.1 },
+        parts-append (marks_ending (Some (part o)) h.0) v.0 ∙ cc (e, v.2),
+      )
+
+  reads_ops : (p : Profile) → Reads (Expression p part) (SpellsOps p) (map part)
+  reads_ops p = record {
+    to = λ b k h. let v = ops_to h.0 b k h.3 in (h.0, (h.1, h.2, v.0), v.1);
+    from = λ ops b h. let v = ops_from ops b h.2 in (v.0, (ops, h.0, h.1, v.1), v.2);
+  }
+
+reads_global : (p : Profile) → Reads (Global p) (SpellsFlatGlobal p) global_items
+reads_global p = reads_as (reads_then (reads_leaf (Those (HasGlobalType p) SpellsGlobalType) global (λ g b h. global_some g b h.1)) (reads_ops const_op p))
+    (λ z b h. (record { ty = z.0; init = z.1 }, h, refl))
+    (λ g b h. ((g.ty, g.init), h, refl))
+
+-- exports
+reads_export : Reads (ExportForm strict) SpellsExport export_items
+reads_export = reads_as
+    (reads_then (reads_name (λ text. Some (export_name text)))
+    (reads_leaf {X = ExportKind × ℕ} (λ t. OneByte (kind_byte t.0) ▸ SpellsU32 t.1) (λ t. export t.0 t.1) (λ t b h. front_some b h.0 h.1 h.2 (byte_some (kind_byte t.0) h.0 h.3))))
+    (λ z b h. (record { name = z.0; kind = z.1.0; index = z.1.1 }, h, refl))
+    (λ e b h. ((e.name, (e.kind, e.index)), h, refl))
+
+-- element segments
+reads_element : (p : Profile) → Reads (ElementForm p) (SpellsFlatElement p) element_items
+reads_element p = reads_as (reads_then (reads_index element) (reads_then (reads_ops const_op p) (reads_list element_function (reads_index element_function))))
+    (λ z b h. (record { table = z.0; offset = z.1.0; functions = z.1.1 }, h, refl))
+    (λ e b h. ((e.table, (e.offset, e.functions)), h, refl))
+
+-- code: the size, at which the body begins, and then runs and ops in just so many bytes
+pub reads_body : (p : Profile) → Reads {X = List (ℕ × ValType) × List Op} (Then (Vector (Run p)) (Expression p body_op)) (λ z. SpellsList (SpellsRun p) z.0 ▸ SpellsOps p z.1) (λ z. map run_part z.0 ++ map body_op z.1)
+reads_body p = reads_then (reads_list run_part (reads_leaf (SpellsRun p) run_part (λ r b h. let u = h.1 in front_some b u.0 u.1 u.2 (number_some r.0 u.0 u.3)))) (reads_ops body_op p)
+
+reads_code : (p : Profile) → Reads (Code strict p) (SpellsFlatCode p) code_items
+reads_code p = reads_as (reads_sized (reads_entry (reads_body p)) (Some body))
+    (λ z b h. (record { runs = z.0; ops = z.1 }, h, refl))
+    (λ c b h. ((c.runs, c.ops), h, refl))
+
+-- data segments: a byte spells itself
+SpellsByte : ℕ → Form ℕ
+SpellsByte c b = (b ≡ c ∷ []) × (c < 2 ^ 8)
+
+bytes_to : (bytes b : List ℕ) → Each SpellsByte bytes b → (b ≡ bytes) × AreBytes bytes
+unfolding SpellsByte
+bytes_to [] b h = (h, tt)
+bytes_to (c ∷ bytes) b h = let v = bytes_to bytes h.1 h.4 in (cc (h.2, h.3.0, v.0), (h.3.1, v.1))
+
+bytes_from : (bytes : List ℕ) → AreBytes bytes → Each SpellsByte bytes bytes
+unfolding SpellsByte
+bytes_from [] h = refl
+bytes_from (c ∷ bytes) h = (c ∷ [], bytes, refl, (refl, h.0), bytes_from bytes h.1)
+
+reads_bytes : Reads (Vector DataByte) SpellsBytes (map data_byte)
+unfolding SpellsByte
+reads_bytes = reads_as (reads_list data_byte (reads_leaf SpellsByte data_byte (λ c b h. byte_some c b h.0)))
+    (λ bytes b h. (bytes, (h.0, h.1, h.2, h.3, bytes_to bytes h.1 h.4), refl))
+    (λ bytes b h. (bytes, (h.0, h.1, h.2, h.3, subst (Each SpellsByte bytes) (sym h.4.0) (bytes_from bytes h.4.1)), refl))
+
+reads_segment : (p : Profile) → Reads (SegmentForm p) (SpellsFlatSegment p) segment_items
+reads_segment p = reads_as (reads_then (reads_index segment) (reads_then (reads_ops const_op p) reads_bytes))
+    (λ z b h. (record { memory = z.0; offset = z.1.0; bytes = z.1.1 }, h, refl))
+    (λ s b h. ((s.memory, (s.offset, s.bytes)), h, refl))
+
+-- sections (section 5.5.2)
+reads_section : {X : Type 0} {P : MarkedForm} {V : X → Form ℕ} {p : X → List Item} (id : ℕ) → Reads P V p
+    → Reads (Then (MarkedByte id None) (MarkedNumber nothing_at (λ n. Sized strict n P))) (λ x. SectionForm id (V x)) p
+reads_section id r = reads_after (reads_byte id None) (reads_sized r None)
+
+-- custom sections: a name, and then the bytes that are left of the size
+filled_size : (n : ℕ) (front back : List ℕ) → length front ≤ n → length back ≡ n - length front → n ≡ length (front ++ back)
+filled_size n front back fits size = omega (arith, length-append front back)
+
+reads_custom : Reads (Custom strict) SpellsCustom (λ c. [])
+reads_custom = reads_after (reads_byte 0 None) record {
+  to = λ b k h.
+      let f = h.rest in
+      let u = unnamed.to f.front f.front_marks f.first in (
+        record { name = u.0; bytes = f.back },
+        (
+          h.front,
+          h.back,
+          h.bytes,
+          subst (λ m. SpellsU32 m h.front) (filled_size h.n f.front f.back (f.fits tt) f.size ∙ ap length (sym f.bytes)) h.number,
+          (f.front, f.back, f.bytes, u.1, (refl, f.are_bytes)),
+        ),
+        ap items_at h.marks
+            ∙ (parts-append (marks_ending None h.front) h.back_marks
+            ∙ cc (parts-nothing h.front, ap items_at f.marks, parts-append f.front_marks (marks_ending None f.back), u.2, parts-nothing f.back)),
+      );
+  from = λ c b h.
+      let f = h.4 in
+      let u = unnamed.from c.name f.0 f.3 in (
+        marks_ending None h.0 ++ (u.0 ++ marks_ending None f.1),
+        record {
+          n = length h.1;
+          front = h.0;
+          back = h.1;
+          back_marks = u.0 ++ marks_ending None f.1;
+          bytes = h.2;
+          marks = refl;
+          number = h.3;
+          rest = record {
+            front = f.0;
+            back = f.1;
+            front_marks = u.0;
+            bytes = f.2;
+            marks = refl;
+            first = u.1;
+            fits = λ s. omega (arith, length-append f.0 f.1, ap length f.2);
+            size = omega (arith, length-append f.0 f.1, ap length f.2);
+            are_bytes = f.4.1;
+          };
+        },
+        parts-append (marks_ending None h.0) (u.0 ++ marks_ending None f.1) ∙ cc (parts-nothing h.0, parts-append u.0 (marks_ending None f.1), u.2, parts-nothing f.1),
+      );
+}
+  where
+    unnamed : Reads (Name strict (λ text. None)) SpellsName (λ text. [])
+    unnamed = reads_name (λ text. None)
+
+flat_map_nothing : {X : Type 0} (xs : List X) → flat_map {A = Item} (λ x. []) xs ≡ []
+flat_map_nothing [] = refl
+flat_map_nothing (x ∷ xs) = flat_map_nothing xs
+
+reads_customs : Reads {X = Unit {0}} (Customs strict) (λ u. CustomForms) (λ u. [])
+reads_customs = record {
+  to = λ b k h. let v = (reads_times reads_custom h.0).to b k h.1 in (tt, (v.0, v.1.1), v.2 ∙ flat_map_nothing v.0);
+  from = λ u b h. let v = (reads_times reads_custom (length h.0)).from h.0 b (refl, h.1) in (v.0, (length h.0, v.1), v.2 ∙ flat_map_nothing h.0);
+}
+
+-- a section that may be left out, where its value has no item
+abbrev OrNothing : Type 0 → ℕ → MarkedForm → MarkedForm
+OrNothing M id P b k = Then (MarkedByte id None) (MarkedNumber nothing_at (λ n. Sized strict n P)) b k ⊎ (M × Empty b k)
+
+reads_or_nothing : {X : Type 0} {P : MarkedForm} {V : X → Form ℕ} {p : X → List Item} (M : Type 0) (IsNone : X → Type 0) (id : ℕ)
+    → (M → (x : X) × IsNone x) → ((x : X) → IsNone x → M × (p x ≡ [])) → Reads P V p
+    → Reads (OrNothing M id P) (λ x b. SectionForm id (V x) b ⊎ (IsNone x × (b ≡ []))) p
+reads_or_nothing M IsNone id none missing r = record {
+  to = λ b k h. elim h [
+    | inl s ↦ (let v = (reads_section id r).to b k s in (v.0, inl v.1, v.2))
+    | inr e ↦ (let n = none e.0 in (n.0, inr (n.1, e.1.0), ap items_at e.1.1 ∙ sym (missing n.0 n.1).1))
+  ];
+  from = λ x b h. elim h [
+    | inl s ↦ (let v = (reads_section id r).from x b s in (v.0, inl v.1, v.2))
+    | inr e ↦ (let m = missing x e.0 in ([], inr (m.0, (e.1, refl)), sym m.1))
+  ];
+}
+
+reads_listed : {X : Type 0} {P : MarkedForm} {V : X → Form ℕ} {p : X → List Item} (M : Type 0) (id : ℕ) → M → Reads P V p
+    → Reads (OrNothing M id (Vector P)) (ListSection id V) (flat_map p)
+reads_listed {p = p} M id may r = reads_or_nothing M (λ xs. xs ≡ []) id (λ m. ([], refl)) (λ xs e. (may, ap (flat_map p) e)) (reads_vector r)
+
+reads_start : (M : Type 0) → M → Reads (OrNothing M 8 (Index start)) StartSection start_items
+reads_start M may = record {
+  to = λ b k h. elim h [
+    | inl s ↦ (let v = (reads_section 8 (reads_index start)).to b k s in (Some v.0, v.1, v.2))
+    | inr e ↦ (None, e.1.0, ap items_at e.1.1)
+  ];
+  from = start_from;
+}
+  where
+    start_from : (x : Option ℕ) (b : List ℕ) → StartSection x b → (k : Marks) × OrNothing M 8 (Index start) b k × (items_at k ≡ start_items x)
+    start_from None b h = ([], inr (may, (h, refl)), refl)
+    start_from (Some x) b h = let v = (reads_section 8 (reads_index start)).from x b h in (v.0, inl v.1, v.2)
+
+-- a list of so many
+abbrev SoMany : Type 0 → ℕ → Type 0
+SoMany X f = (xs : List X) × (length xs ≡ f)
+
+module _ {X : Type 0} {P : MarkedForm} {V : X → Form ℕ} {p : X → List Item} (f : ℕ) (r : Reads P V p) where
+  reads_paired : Reads {X = SoMany X f} (Paired strict f P) (λ z. SpellsList V z.0) (λ z. flat_map p z.0)
+  reads_paired = reads_as (reads_number nothing_at counted)
+      (λ z b h. ((z.1, sym h.4.1.0 ∙ h.4.0), (h.0, h.1, h.2, subst (λ m. SpellsU32 m h.0) h.4.1.0 h.3, h.4.1.1), refl))
+      (λ z b h. ((length z.0, z.0), (h.0, h.1, h.2, h.3, (z.1, (refl, h.4))), refl))
+    where
+      counted : (n : ℕ) → Reads (λ b k. (strict → n ≡ f) × Times n P b k) (λ xs b. (n ≡ f) × Many V n xs b) (flat_map p)
+      counted n = record {
+        to = λ b k h. let v = (reads_times r n).to b k h.1 in (v.0, (h.0 tt, v.1), v.2);
+        from = λ xs b h. let v = (reads_times r n).from xs b h.1 in (v.0, ((λ s. h.0), v.1), v.2);
+      }
+
+  reads_paired_section : (M : Type 0) (id : ℕ) → (M → f ≡ 0) → (f ≡ 0 → M) → Reads {X = SoMany X f} (OrNothing M id (Paired strict f P)) (λ z. ListSection id V z.0) (λ z. flat_map p z.0)
+  reads_paired_section M id none may = reads_or_nothing M (λ z. z.0 ≡ []) id (λ m. (([], sym (none m)), refl)) (λ z e. (may (sym z.1 ∙ ap length e), ap (flat_map p) e)) reads_paired
+
+-- one section, with what comes before it and after it
+reads_next : {X Y : Type 0} {P Q : MarkedForm} {V : X → Form ℕ} {W : Y → Form ℕ} {p : X → List Item} {q : Y → List Item}
+    → Reads P V p → Reads Q W q → Reads {X = X × Y} (Then (Customs strict) (Then P Q)) (λ z. CustomForms ▸ V z.0 ▸ W z.1) (λ z. p z.0 ++ q z.1)
+reads_next r s = reads_after reads_customs (reads_then r s)
+
+reads_last : {X : Type 0} {P : MarkedForm} {V : X → Form ℕ} {p : X → List Item} → Reads P V p → Reads (Then (Customs strict) (Then P (Customs strict))) (λ x. CustomForms ▸ V x ▸ CustomForms) p
+reads_last {p = p} r = reads_as (reads_next r reads_customs) (λ z b h. (z.0, h, append-nil (p z.0))) (λ x b h. ((x, tt), h, append-nil (p x)))
+
+-- where each member is an item
+reads_parts : {X Y : Type 0} {P : MarkedForm} {V : X → Form ℕ} (part : Y → Item) (list : X → List Y) → Reads P V (λ x. flat_map (λ y. part y ∷ []) (list x)) → Reads P V (λ x. map part (list x))
+reads_parts part list r = reads_as r (λ x b h. (x, h, flat_map_single part (list x))) (λ x b h. (x, h, flat_map_single part (list x)))
+
+others_may : (f id : ℕ) → (id ≡ 3 → ⊥) → (id ≡ 10 → ⊥) → MayMiss f id
+others_may f id not_functions not_code e = elim e [ inl h ↦ absurd (not_functions h) | inr h ↦ absurd (not_code h) ]
+
+module _ (p : Profile) where
+  -- a flat module with so many functions, and so many code entries
+  abbrev WithFunctions : ℕ → Type 0
+  WithFunctions f = (v : FlatModule) × (length v.functions ≡ f) × (length v.codes ≡ f)
+
+  reads_chain : (f : ℕ) → Reads {X = WithFunctions f} (Chain strict p f 11 1) (λ w. InOrder (flat_sections p w.0)) (λ w. flat_items w.0)
+  reads_chain f = reads_as
+      (reads_next (reads_listed (MayMiss f 1) 1 (others_may f 1 (λ e. cc) (λ e. cc)) (reads_signature p))
+      (reads_next (reads_listed (MayMiss f 2) 2 (others_may f 2 (λ e. cc) (λ e. cc)) (reads_import p))
+      (reads_next (reads_parts function (λ xs. xs.0) (reads_paired_section f (reads_index function) (MayMiss f 3) 3 (λ m. m (inl refl)) (λ e i. e)))
+      (reads_next (reads_parts table (λ xs. xs) (reads_listed (MayMiss f 4) 4 (others_may f 4 (λ e. cc) (λ e. cc)) (reads_leaf SpellsTableType table table_some)))
+      (reads_next (reads_parts memory (λ xs. xs) (reads_listed (MayMiss f 5) 5 (others_may f 5 (λ e. cc) (λ e. cc)) (reads_leaf SpellsLimits memory limits_some)))
+      (reads_next (reads_listed (MayMiss f 6) 6 (others_may f 6 (λ e. cc) (λ e. cc)) (reads_global p))
+      (reads_next (reads_listed (MayMiss f 7) 7 (others_may f 7 (λ e. cc) (λ e. cc)) reads_export)
+      (reads_next (reads_start (MayMiss f 8) (others_may f 8 (λ e. cc) (λ e. cc)))
+      (reads_next (reads_listed (MayMiss f 9) 9 (others_may f 9 (λ e. cc) (λ e. cc)) (reads_element p))
+      (reads_next (reads_paired_section f (reads_code p) (MayMiss f 10) 10 (λ m. m (inr refl)) (λ e i. e))
+      (reads_last (reads_listed (MayMiss f 11) 11 (others_may f 11 (λ e. cc) (λ e. cc)) (reads_segment p)))))))))))))
+      (λ z b h.
+      let z3 = z.1.1 in
+      let z6 = z3.1.1.1 in
+      let z9 = z6.1.1.1 in (
+        (
+          record {
+            types = z.0;
+            imports = z.1.0;
+            functions = z3.0.0;
+            tables = z3.1.0;
+            memories = z3.1.1.0;
+            globals = z6.0;
+            exports = z6.1.0;
+            start = z6.1.1.0;
+            elements = z9.0;
+            codes = z9.1.0.0;
+            segments = z9.1.1;
+          },
+          z3.0.1,
+          z9.1.0.1,
+        ),
+        h,
+        refl,
+      ))
+      (λ w b h.
+      let v = w.0 in (
+        (v.types, (v.imports, ((v.functions, w.1), (v.tables, (v.memories, (v.globals, (v.exports, (v.start, (v.elements, ((v.codes, w.2), v.segments)))))))))),
+        h,
+        refl,
+      ))
+
+  reads_header : Reads {X = Unit {0}} (Literal header) (λ u h. h ≡ header) (λ u. [])
+  reads_header = record { to = λ b k h. (tt, h.0, ap items_at h.1); from = λ u b h. (marks_ending None header, (h, refl), refl) }
+
+  reads_module : (f : ℕ) → Reads {X = WithFunctions f} (Then (Literal header) (Chain strict p f 11 1)) (λ w. Exactly header ▸ InOrder (flat_sections p w.0)) (λ w. flat_items w.0)
+  reads_module f = reads_after reads_header (reads_chain f)
+
+-- each reading of a whole input is that of a flat module, and the other way round
+pub items_to : (p : Profile) (b : List ℕ) (k : Marks) → ModuleForm strict p b k → (v : FlatModule) × SpellsFlat p v b × (items_at k ≡ flat_items v)
+items_to p b k h = let u = (reads_module p h.0).to b k h.1 in (u.0.0, (u.0.2 ∙ sym u.0.1, u.1), u.2)
+
+pub items_from : (p : Profile) (v : FlatModule) (b : List ℕ) → SpellsFlat p v b → (k : Marks) × ModuleForm strict p b k × (items_at k ≡ flat_items v)
+items_from p v b h = let u = (reads_module p (length v.functions)).from (v, refl, h.0) b h.1 in (u.0, (length v.functions, u.1), u.2)

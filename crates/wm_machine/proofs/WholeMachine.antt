@@ -1,0 +1,604 @@
+-- What may still come of a module, and that each byte goes on with it.
+use Rattle.std.proofs.Common.{◌≡◌, ℕ, zero, suc, ◌+◌, ◌-◌, ◌<◌, ◌≤◌, ◌^◌, ◌⊎◌, inl, inr, List, [], ◌∷◌, ◌++◌, Option, Some, None, refl, sym, ◌∙◌, ap, subst, arith, true, false, nat_eq, nat_lt, nat_le, cond, drop, get_or, add-one, drop-cons}
+use Rattle.std.proofs.lemmas.Bool.{cond_both, eqb-true, eqb-false, ltb-true, ltb-false, leb-true, leb-false}
+use Rattle.std.specs.Str.{is_utf8}
+use Rattle.wm_syntax.specs.declared.why.Why.{Why}
+use Rattle.wm_syntax.specs.declared.why.Why.TheVariants as why
+use Rattle.wm_syntax.specs.declared.profile.Profile.{Profile}
+use Rattle.wm_syntax.specs.Spelling.{AreBytes}
+use Rattle.wm_syntax.specs.declared.numbers.Step.{Step}
+use Rattle.wm_syntax.specs.declared.numbers.Step.TheVariants.{More, Done, Bad}
+use Rattle.wm_syntax.specs.inner.Numbers.{Partial}
+use Rattle.wm_syntax.specs.exact.Reading.{fresh, unsigned_push}
+use Rattle.wm_machine.specs.declared.machine.InCustom.{InCustom}
+use Rattle.wm_machine.specs.declared.machine.InCustom.TheVariants as custom
+use Rattle.wm_machine.specs.declared.machine.Machine.{Machine}
+use Rattle.wm_machine.specs.declared.machine.Machine.TheVariants as machine
+use Rattle.wm_machine.specs.declared.machine.Event.{Event}
+use Rattle.wm_machine.specs.declared.machine.Event.TheVariants as event
+use Rattle.wm_machine.specs.declared.machine.member.SectionKind.{SectionKind}
+use Rattle.wm_machine.specs.declared.machine.member.SectionKind.TheVariants as section_kind
+use Rattle.wm_machine.specs.declared.machine.member.InMember.{InMember}
+use Rattle.wm_machine.specs.declared.machine.member.InMember.TheVariants as at
+use Rattle.wm_machine.specs.Items.{Zone, outside, Mark, Marks, data_byte}
+use Rattle.wm_machine.specs.MarkedForms.{MarkedForm, Empty, Literal, Then, Times, Name, Sized, Filled, Counted, nothing_at, marks_ending, outside_mark}
+use Rattle.wm_machine.specs.Sections.{header}
+use Rattle.wm_machine.specs.Grammar.{Contents, Chain, ModuleForm}
+use Rattle.wm_machine.specs.exact.Members.{id_of, section_kind_of, member_at_start as begin_component}
+use Rattle.wm_machine.specs.exact.MemberSteps.{on_number, member_step}
+use Rattle.wm_machine.specs.exact.Steps.{machine_in_custom, custom_step, machine_in_member, machine_after_count, machine_after_paired_count, after_count, begun_section, machine_if_rising, section_start, after_size, custom_size, header_step, step_of}
+use Rattle.wm_machine.specs.exact.Runs.{name_item, byte_read, ByteRead, MachineState, zone_in, zone_of, read_byte, after_byte, state_after, marks, state_at_start, plain_item}
+use Rattle.wm_machine.proofs.FirstBytes.{Next, Same, HasBytes, Never, head_same, tail_same, not_nil, same_refl, same_then, next_to, next_never, next_then, then_has, empty_then, never_then, then_same, ends_first, fails_first}
+use Rattle.wm_machine.proofs.Numbers.{Left}
+use Rattle.wm_machine.proofs.Counts.{CountedNext, counted_next, counted_has, counted_same, number_fresh}
+use Rattle.wm_machine.proofs.NamesAndSizes.{NameLeft, TextLeft, text_has, text_fresh, left_has, named_byte, AnyBytes, any_none, any_more, sized_next, sized_has, sized_none, sized_empty, sized_over, sized_never, sized_same, filled_none, filled_same}
+use Rattle.wm_machine.proofs.MemberBytes.{OneOf, ComponentRest, then_empty, begin_same, component_has, component_follows}
+use Rattle.wm_machine.proofs.Customs.{unnamed, CustomRest, custom_follows, custom_has}
+use Rattle.wm_machine.proofs.Chains.{Where, Missing, same_or_more, InSection, InCustomSection, custom_next, section_goes, not_first, over_missing, over, renumbered}
+use Rattle.wm_machine.proofs.LaterNumbers.{ForSome, some_next, some_none, some_same, some_never, some_then, some_counted, some_known, some_where, some_read}
+use Rattle.wm_machine.proofs.MemberSound.{MayGo, can_begin, can_go_on}
+use Rattle.wm_machine.proofs.MachineStates.{IsNamed, component_named, FitsAt, Fits, may_begin, byte_fits}
+
+-- a module may end here
+abbrev pub MayEnd : Machine → Type 0
+MayEnd (machine.Between last zero) = Unit {0}
+MayEnd m = ⊥
+
+-- The number of functions is known after their section, and after code it is zero.
+abbrev pub Known : (last functions f : ℕ) → Type 0
+Known last functions f = 3 ≤ last → f ≡ functions
+
+-- the same in the section of this id
+abbrev pub KnownIn : (id functions f : ℕ) → Type 0
+KnownIn id functions f = 3 < id → f ≡ functions
+
+below_or : (a b : ℕ) → (a < b) ⊎ (b ≤ a)
+below_or a b = (elim (nat_lt a b) as (λ v. nat_lt a b ≡ v → (a < b) ⊎ (b ≤ a)) [
+  | true ↦ λ e. inl (ltb-true a b e)
+  | false ↦ λ e. inr (ltb-false a b e)
+]) refl
+
+module _ (demanded : Type 0) (p : Profile) where
+  -- the sections after the last one, where so many functions await their code
+  abbrev pub Later : (last functions : ℕ) → MarkedForm
+  Later last functions = ForSome (Known last functions) (λ f. Chain demanded p f (11 - last) (suc last))
+
+  -- the sections after this one
+  abbrev pub After : SectionKind → ℕ → MarkedForm
+  After of f = Chain demanded p f (11 - id_of of) (suc (id_of of))
+
+  abbrev pub InSize : SectionKind → (f n : ℕ) → MarkedForm
+  InSize of f n = Then (Sized demanded n (Contents demanded p f (id_of of))) (After of f)
+
+  -- so many members
+  abbrev pub ListOf : SectionKind → (f n : ℕ) → MarkedForm
+  ListOf section_kind.Function f n = Where (demanded → n ≡ f) (Times n (OneOf demanded p section_kind.Function))
+  ListOf section_kind.Code f n = Where (demanded → n ≡ f) (Times n (OneOf demanded p section_kind.Code))
+  ListOf of f n = Times n (OneOf demanded p of)
+
+  abbrev pub Listed : SectionKind → Partial → ℕ → MarkedForm
+  Listed of r f = Counted (Left r) nothing_at (ListOf of f)
+
+  -- the rest of a member, and so many more
+  abbrev pub Within : SectionKind → ℕ → InMember → List ℕ → MarkedForm
+  Within of left q so_far = Then (ComponentRest demanded p q so_far) (Times left (OneOf demanded p of))
+
+  abbrev pub InHeader : ℕ → MarkedForm
+  InHeader n b k = (n < 8) × Then (Literal (drop n header)) (Later 0 0) b k
+
+  abbrev pub MachineRest : Machine → List ℕ → MarkedForm
+  MachineRest (machine.Header n) so_far = InHeader n
+  MachineRest (machine.Between last functions) so_far = Later last functions
+  MachineRest (machine.CustomSize last functions r) so_far = Counted (Left r) nothing_at (λ n. Then (Filled demanded n (Name demanded unnamed)) (Later last functions))
+  MachineRest (machine.Custom last functions more q) so_far = Then (CustomRest demanded (suc more) q so_far) (Later last functions)
+  MachineRest (machine.Size of functions r) so_far = ForSome (KnownIn (id_of of) functions) (λ f. Counted (Left r) nothing_at (InSize of f))
+  MachineRest (machine.Count of functions more r) so_far = ForSome (KnownIn (id_of of) functions) (λ f. Then (Sized demanded (suc more) (Listed of r f)) (After of f))
+  MachineRest (machine.Section of functions more left q) so_far = Then (Sized demanded (suc more) (Within of left q so_far)) (Later (id_of of) functions)
+  MachineRest (machine.Refused w) so_far = Never
+
+  abbrev pub StateRest : MachineState → MarkedForm
+  StateRest s = MachineRest s.machine s.name
+
+  abbrev pub Continues : MarkedForm → ℕ → ByteRead Machine → Type 0
+  Continues P c h = Next demanded P c h.mark (MachineRest h.at h.name)
+
+  abbrev listens : List ℕ → ℕ → Machine × Event → ByteRead Machine
+  listens so_far c q = byte_read machine.Refused outside so_far c q
+
+  has_same : (P Q : MarkedForm) → Same demanded P Q → HasBytes demanded Q → HasBytes demanded P
+  has_same P Q e h = λ s k i. h s k (e.to s [] k i)
+
+  -- from a part of the machine to the whole of it, whatever the byte completes
+  module _ {M : Type 0} (refuse : Why → M) (rest : M → List ℕ → MarkedForm) (frame : M → Machine) (stuck : (w : Why) → frame (refuse w) ≡ machine.Refused w)
+      (Fine : M → Type 0) (fine : (w : Why) → Fine (refuse w)) (P F : MarkedForm) (zone : Zone) (so_far : List ℕ) (c : ℕ)
+      (go : (m : M) (x : Mark) (y : List ℕ) → Fine m → Next demanded P c x (rest m y) → Next demanded F c x (MachineRest (frame m) y)) where
+    abbrev Inner : ByteRead M → Type 0
+    Inner h = Next demanded P c h.mark (rest h.at h.name)
+
+    lifted : (m : M) (e : Event) → Fine m → Inner (byte_read refuse zone so_far c (m, e)) → Continues F c (byte_read machine.Refused zone so_far c (frame m, e))
+    lifted m event.Nothing i h = go m (record { zone = zone; item = None }) [] i h
+    lifted m (event.Complete q) i h = go m (record { zone = zone; item = Some (plain_item q) }) [] i h
+    lifted m event.DataByte i h = go m (outside_mark (Some (data_byte c))) [] i h
+    lifted m event.InName i h = go m named_byte (so_far ++ c ∷ []) i h
+    lifted m (event.EmptyName kind) i h = go m (outside_mark (name_item kind [])) [] i h
+    lifted m (event.EndsName kind) i h =
+        let name : List ℕ = so_far ++ c ∷ [] in
+        (elim (is_utf8 name) as (λ v.
+        Inner (cond v (record { at = m; name = []; mark = outside_mark (name_item kind name) }) (record { at = refuse why.BadUtf8; name = []; mark = outside_mark None }))
+        → Continues F c (cond v (record { at = frame m; name = []; mark = outside_mark (name_item kind name) }) (record { at = machine.Refused why.BadUtf8; name = []; mark = outside_mark None }))) [
+          | true ↦ λ g. go m (outside_mark (name_item kind name)) [] i g
+          | false ↦ λ g. subst (λ y. Next demanded F c (outside_mark None) (MachineRest y [])) (stuck why.BadUtf8) (go (refuse why.BadUtf8) (outside_mark None) [] (fine why.BadUtf8) g)
+        ]) h
+
+  -- in a custom section
+  custom_same : (last functions more : ℕ) (q : InCustom) (y : List ℕ) → Same demanded (Then (CustomRest demanded more q y) (Later last functions)) (MachineRest (machine_in_custom last functions more q) y)
+  custom_same last functions more (custom.Failed w) y = never_then demanded Never (Later last functions) (same_refl demanded Never)
+  custom_same last functions zero custom.Skip y = let L : MarkedForm = Later last functions in
+      same_then demanded (Then (AnyBytes demanded 0) L) (Then Empty L) L (then_same demanded (AnyBytes demanded 0) L Empty L (any_none demanded) (same_refl demanded L)) (empty_then demanded L)
+  custom_same last functions zero (custom.Length r) y = never_then demanded (CustomRest demanded 0 (custom.Length r) y) (Later last functions) (filled_none demanded (TextLeft demanded r unnamed) (text_has demanded unnamed r))
+  custom_same last functions zero (custom.Name more) y = never_then demanded (CustomRest demanded 0 (custom.Name more) y) (Later last functions) (filled_none demanded (NameLeft demanded y (suc more) unnamed) (left_has demanded y more unnamed))
+  custom_same last functions (suc n) custom.Skip y = same_refl demanded (MachineRest (machine.Custom last functions n custom.Skip) y)
+  custom_same last functions (suc n) (custom.Length r) y = same_refl demanded (MachineRest (machine.Custom last functions n (custom.Length r)) y)
+  custom_same last functions (suc n) (custom.Name more) y = same_refl demanded (MachineRest (machine.Custom last functions n (custom.Name more)) y)
+
+  in_custom : (last functions more : ℕ) (q : InCustom) (so_far : List ℕ) (c : ℕ) → c < 2 ^ 8 → Continues (MachineRest (machine.Custom last functions more q) so_far) c (listens so_far c (step_of p (machine.Custom last functions more q) c))
+  in_custom last functions more q so_far c byte =
+      let P : MarkedForm = CustomRest demanded (suc more) q so_far in
+      let L : MarkedForm = Later last functions in
+      lifted custom.Failed (CustomRest demanded more) (machine_in_custom last functions more) (λ w. refl) (λ m. Unit {0}) (λ w. tt) P (Then P L) outside so_far c
+      (λ m x y i h. next_to demanded (Then P L) (Then (CustomRest demanded more m y) L) (MachineRest (machine_in_custom last functions more m) y) c x (custom_same last functions more m y) (next_then demanded P L c x (CustomRest demanded more m y) h (custom_has demanded more q so_far)))
+      (custom_step q c).0 (custom_step q c).1 tt (custom_follows demanded more so_far c q byte)
+
+  -- at its size
+  abbrev InCustoms : (last functions n : ℕ) → MarkedForm
+  InCustoms last functions n = Then (Filled demanded n (Name demanded unnamed)) (Later last functions)
+
+  custom_size_same : (last functions n : ℕ) → Same demanded (InCustoms last functions n) (MachineRest (custom_size last functions n) [])
+  custom_size_same last functions n =
+      let L : MarkedForm = Later last functions in
+      let R : MarkedForm = CustomRest demanded n (custom.Length fresh) [] in
+      same_then demanded (InCustoms last functions n) (Then R L) (MachineRest (custom_size last functions n) [])
+      (then_same demanded (Filled demanded n (Name demanded unnamed)) L R L (filled_same demanded (Name demanded unnamed) (TextLeft demanded fresh unnamed) n (text_fresh demanded unnamed)) (same_refl demanded L))
+      (custom_same last functions n (custom.Length fresh) [])
+
+  custom_sizes : (last functions : ℕ) (r : Partial) (so_far : List ℕ) (c : ℕ) (q : Step ℕ × Partial) → CountedNext demanded nothing_at (InCustoms last functions) r c q
+      → Continues (Counted (Left r) nothing_at (InCustoms last functions)) c (listens so_far c (on_number q (λ s. machine.CustomSize last functions s) (λ n. (custom_size last functions n, event.Nothing)) machine.Refused))
+  custom_sizes last functions r so_far c (More, s) h = h
+  custom_sizes last functions r so_far c (Done v, s) h = next_to demanded (Counted (Left r) nothing_at (InCustoms last functions)) (InCustoms last functions v) (MachineRest (custom_size last functions v) []) c (outside_mark None) (custom_size_same last functions v) h
+  custom_sizes last functions r so_far c (Bad, s) h = h
+
+  -- the contents of a section
+  abbrev IsList : SectionKind → ℕ → MarkedForm
+  IsList section_kind.Start f = OneOf demanded p section_kind.Start
+  IsList of f = Listed of fresh f
+
+  contents_same : (of : SectionKind) (f : ℕ) → Same demanded (Contents demanded p f (id_of of)) (IsList of f)
+  contents_same section_kind.Start f = same_refl demanded (OneOf demanded p section_kind.Start)
+  contents_same of f = number_fresh demanded nothing_at (ListOf of f) (ListOf of f) (λ n. same_refl demanded (ListOf of f n))
+
+  -- once the number of functions was read
+  list_read : (of : SectionKind) (functions more v : ℕ) → (id_of of ≡ 3 → ⊥) → Same demanded (ForSome (KnownIn (id_of of) functions) (λ f. Then (Sized demanded more (Times v (OneOf demanded p of))) (After of f))) (Then (Sized demanded more (Times v (OneOf demanded p of))) (Later (id_of of) functions))
+  list_read of functions more v other =
+      let S : MarkedForm = Sized demanded more (Times v (OneOf demanded p of)) in
+      let C : ℕ → Type 0 = KnownIn (id_of of) functions in
+      let D : ℕ → Type 0 = Known (id_of of) functions in
+      same_then demanded (ForSome C (λ f. Then S (After of f))) (Then S (ForSome C (After of))) (Then S (ForSome D (After of)))
+      (some_then demanded C S (After of))
+      (then_same demanded S (ForSome C (After of)) S (ForSome D (After of)) (same_refl demanded S)
+      (some_known demanded C D (After of) (λ f k l. k (above (id_of of) other l)) (λ f k l. k (omega (arith, l)))))
+    where
+      above : (id : ℕ) → (id ≡ 3 → ⊥) → 3 ≤ id → 3 < id
+      above id other l = elim (same_or_more 3 id l) [ inl e ↦ absurd (other (sym e)) | inr a ↦ a ]
+
+  code_read : (functions more v : ℕ) → v ≡ functions
+      → Same demanded (ForSome (KnownIn 10 functions) (λ f. Then (Sized demanded more (ListOf section_kind.Code f v)) (After section_kind.Code f))) (Then (Sized demanded more (Times v (OneOf demanded p section_kind.Code))) (Later 10 0))
+  code_read functions more v e =
+      let X : MarkedForm = Times v (OneOf demanded p section_kind.Code) in
+      let D : ℕ → Type 0 = λ f. f ≡ functions in
+      let Q : ℕ → MarkedForm = After section_kind.Code in
+      same_then demanded (ForSome (KnownIn 10 functions) (λ f. Then (Sized demanded more (Where (demanded → v ≡ f) X)) (Q f))) (Then (Sized demanded more X) (ForSome D Q)) (Then (Sized demanded more X) (Later 10 0))
+      (some_read demanded (KnownIn 10 functions) D v more X Q (λ f k w. k (omega arith)) (λ f d. (λ l. d, e ∙ sym d)))
+      (then_same demanded (Sized demanded more X) (ForSome D Q) (Sized demanded more X) (Later 10 0) (same_refl demanded (Sized demanded more X)) (record {
+        to = λ s b k h. (0, λ l. refl, renumbered demanded p h.0 0 b k h.2);
+        from = λ b k h. (functions, refl, renumbered demanded p h.0 functions b k h.2);
+      }))
+
+  code_other : (functions more v : ℕ) → (v ≡ functions → ⊥) → Same demanded (ForSome (KnownIn 10 functions) (λ f. Then (Sized demanded more (ListOf section_kind.Code f v)) (After section_kind.Code f))) Never
+  code_other functions more v ne =
+      some_never demanded (KnownIn 10 functions) (λ f. Then (Sized demanded more (ListOf section_kind.Code f v)) (After section_kind.Code f)) (λ f k.
+      never_then demanded (Sized demanded more (ListOf section_kind.Code f v)) (After section_kind.Code f) (record {
+        to = λ s b m h. ne (h.1.0 s ∙ k (omega arith));
+        from = λ b m h. absurd h;
+      }))
+
+  function_read : (functions more v : ℕ)
+      → Same demanded (ForSome (KnownIn 3 functions) (λ f. Then (Sized demanded more (ListOf section_kind.Function f v)) (After section_kind.Function f))) (Then (Sized demanded more (Times v (OneOf demanded p section_kind.Function))) (Later 3 v))
+  function_read functions more v =
+      some_read demanded (KnownIn 3 functions) (Known 3 v) v more (Times v (OneOf demanded p section_kind.Function)) (After section_kind.Function) (λ f k e l. sym e)
+      (λ f d. (λ l. absurd (omega (arith, l)), sym (d (omega arith))))
+
+  -- between sections
+  none_rises : (last functions m : ℕ) → (suc last ≤ suc m → suc m < suc last + (11 - last) → ⊥) → Next demanded (Later last functions) (suc m) (outside_mark None) Never
+  none_rises last functions m none = next_never demanded (Later last functions) (suc m) (outside_mark None) (λ s b k h. not_first demanded p h.0 (11 - last) (suc last) m b k none h.2)
+
+  -- a section whose id is above the last one
+  abbrev Opens : (f last id : ℕ) → Type 0
+  Opens f last id = Next demanded (Chain demanded p f (11 - last) (suc last)) id (outside_mark None) (Where (Missing f (suc last) id) (InSection demanded p f id (Chain demanded p f (11 - id) (suc id))))
+
+  opens : (f last m : ℕ) → last ≤ m → suc m ≤ 11 → Opens f last (suc m)
+  opens f last m above few =
+      let e : suc m ≡ suc last + (m - last) = omega (arith, above) in
+      let n : suc ((m - last) + (11 - suc m)) ≡ 11 - last = omega (arith, above, few) in
+      subst (λ y. Next demanded (Chain demanded p f y (suc last)) (suc m) (outside_mark None) (Where (Missing f (suc last) (suc m)) (InSection demanded p f (suc m) (Chain demanded p f (11 - suc m) (suc (suc m)))))) n
+      (section_goes demanded p f (m - last) (11 - suc m) (suc last) m e)
+
+  id_few : (of : SectionKind) → id_of of ≤ 11
+  id_few section_kind.Type = omega arith
+  id_few section_kind.Import = omega arith
+  id_few section_kind.Function = omega arith
+  id_few section_kind.Table = omega arith
+  id_few section_kind.Memory = omega arith
+  id_few section_kind.Global = omega arith
+  id_few section_kind.Export = omega arith
+  id_few section_kind.Start = omega arith
+  id_few section_kind.Element = omega arith
+  id_few section_kind.Code = omega arith
+  id_few section_kind.Segment = omega arith
+
+  opens_of : (of : SectionKind) (f last m : ℕ) → suc m ≡ id_of of → last < id_of of → Opens f last (id_of of)
+  opens_of of f last m e above = subst (Opens f last) e (opens f last m (omega (arith, e, above)) (omega (arith, e, id_few of)))
+
+  -- what is known where it opens
+  module _ (last functions id : ℕ) (fits : FitsAt last functions) (above : last < id) (late : 10 < id → functions ≡ 0) where
+    known_in : (f : ℕ) → Known last functions f → Missing f (suc last) id → KnownIn id functions f
+    known_in f k miss l = elim (below_or last 3) [
+      | inl few ↦ miss 3 (omega (arith, few)) l (inl refl) ∙ sym (fits.0 few)
+      | inr a ↦ k a
+    ]
+
+    none_left : (f : ℕ) → KnownIn id functions f → Missing f (suc last) id
+    none_left f k i low high e = elim e [
+      | inl a ↦ k (omega (arith, a, high)) ∙ fits.0 (omega (arith, a, low))
+      | inr a ↦ k (omega (arith, a, high)) ∙ late (omega (arith, a, high))
+    ]
+
+    known_before : (f : ℕ) → KnownIn id functions f → Known last functions f
+    known_before f k l = k (omega (arith, l, above))
+
+  size_opens : (of : SectionKind) (last functions m : ℕ) → suc m ≡ id_of of → FitsAt last functions → last < id_of of → (10 < id_of of → functions ≡ 0) → Next demanded (Later last functions) (id_of of) (outside_mark None) (MachineRest (machine.Size of functions fresh) [])
+  size_opens of last functions m e fits above late =
+      let C : ℕ → Type 0 = Known last functions in
+      let D : ℕ → Type 0 = KnownIn (id_of of) functions in
+      let M : ℕ → Type 0 = λ f. Missing f (suc last) (id_of of) in
+      let Q : ℕ → MarkedForm = λ f. Counted (Left fresh) nothing_at (InSize of f) in
+      next_to demanded (Later last functions) (ForSome C (λ f. Where (M f) (Q f))) (ForSome D Q) (id_of of) (outside_mark None)
+      (some_where demanded C D M Q (known_in last functions (id_of of) fits above late) (λ f k. (known_before last functions (id_of of) fits above late f k, none_left last functions (id_of of) fits above late f k)))
+      (some_next demanded C (λ f. Chain demanded p f (11 - last) (suc last)) (λ f. Where (M f) (Q f)) (id_of of) (outside_mark None) (λ f. opens_of of f last m e above))
+
+  -- no code can come after data
+  no_code : (last n m : ℕ) → suc m ≡ 11 → FitsAt last (suc n) → last < 11 → Next demanded (Later last (suc n)) 11 (outside_mark None) Never
+  no_code last n m e fits above = next_never demanded (Later last (suc n)) 11 (outside_mark None) (λ s b k h.
+      elim (below_or last 3) [
+        | inl few ↦ let z = fits.0 few in omega (arith, z)
+        | inr known ↦ elim (below_or last 10) [
+          | inr late ↦ let z = fits.1 late in omega (arith, z)
+          | inl early ↦
+              let g = (opens_of section_kind.Segment h.0 last m e above).to s b k h.2 in
+              let z : h.0 ≡ 0 = g.2.0 10 (omega (arith, early)) (omega arith) (inr refl) in
+              let y : h.0 ≡ suc n = h.1 known in
+              omega (arith, y, z)
+        ]
+      ])
+
+  begun : (of : SectionKind) (last functions m : ℕ) (so_far : List ℕ) → suc m ≡ id_of of → FitsAt last functions → last < id_of of → Continues (Later last functions) (id_of of) (listens so_far (id_of of) (begun_section of functions))
+  begun section_kind.Segment last zero m so_far e fits above = size_opens section_kind.Segment last 0 m e fits above (λ l. refl)
+  begun section_kind.Segment last (suc n) m so_far e fits above = no_code last n m e fits above
+  begun of last functions m so_far e fits above = size_opens of last functions m e fits above (λ l. absurd (omega (arith, l)))
+
+  rises : (last functions m : ℕ) (so_far : List ℕ) (q : Option SectionKind) → IsNamed (suc m) q → FitsAt last functions → Continues (Later last functions) (suc m) (listens so_far (suc m) (machine_if_rising last functions (suc m) q))
+  rises last functions m so_far None name_item fits = none_rises last functions m (λ low high. omega (arith, name_item, low, high))
+  rises last functions m so_far (Some of) name_item fits =
+      cond_both (nat_le (suc m) last) _ _ (λ (q : Machine × Event). Continues (Later last functions) (suc m) (listens so_far (suc m) q))
+      (λ a. let low : suc m ≤ last = leb-true (suc m) last a in none_rises last functions m (λ up high. omega (arith, low, up)))
+      (λ a. let above : last < suc m = leb-false (suc m) last a in
+      subst (λ i. Continues (Later last functions) i (listens so_far i (begun_section of functions))) (sym name_item) (begun of last functions m so_far name_item fits (omega (arith, above, name_item))))
+
+  between : (last functions : ℕ) (so_far : List ℕ) (c : ℕ) → FitsAt last functions → Continues (Later last functions) c (listens so_far c (section_start last functions c))
+  between last functions so_far zero fits =
+      let C : ℕ → Type 0 = Known last functions in
+      let Q : ℕ → MarkedForm = λ f. Chain demanded p f (11 - last) (suc last) in
+      let N : ℕ → MarkedForm = λ n. Filled demanded n (Name demanded unnamed) in
+      next_to demanded (Later last functions) (ForSome C (λ f. InCustomSection demanded p f (Q f))) (MachineRest (machine.CustomSize last functions fresh) []) 0 (outside_mark None)
+      (same_then demanded (ForSome C (λ f. Counted (Left fresh) nothing_at (λ n. Then (N n) (Q f)))) (Counted (Left fresh) nothing_at (λ n. ForSome C (λ f. Then (N n) (Q f)))) (Counted (Left fresh) nothing_at (λ n. Then (N n) (Later last functions)))
+      (some_counted demanded C (Left fresh) nothing_at (λ f n. Then (N n) (Q f)))
+      (counted_same demanded (Left fresh) (Left fresh) nothing_at (λ n. ForSome C (λ f. Then (N n) (Q f))) (λ n. Then (N n) (Later last functions)) (λ n b. (λ h. h, λ h. h)) (λ n. some_then demanded C (N n) Q)))
+      (some_next demanded C Q (λ f. InCustomSection demanded p f (Q f)) 0 (outside_mark None) (λ f. custom_next demanded p f (11 - last) last))
+  between last functions so_far (suc m) fits = rises last functions m so_far (section_kind_of (suc m)) (component_named m) fits
+
+  -- in the header
+  literal_next : (d : ℕ) (text : List ℕ) → Next demanded (Literal (d ∷ text)) d (outside_mark None) (Literal text)
+  literal_next d text = record {
+    to = λ s b k h. (marks_ending None text, h.1 ∙ any_more demanded text d, (tail_same d d b text h.0, refl));
+    from = λ b k g. (ap (λ y. d ∷ y) g.2.0, g.1 ∙ (ap (λ y. outside_mark None ∷ y) g.2.1 ∙ sym (any_more demanded text d)));
+  }
+
+  literal_none : (d c : ℕ) (text : List ℕ) → (c ≡ d → ⊥) → Next demanded (Literal (d ∷ text)) c (outside_mark None) Never
+  literal_none d c text ne = next_never demanded (Literal (d ∷ text)) c (outside_mark None) (λ s b k h. ne (head_same c d b text h.0))
+
+  literal_has : (d : ℕ) (text : List ℕ) → HasBytes demanded (Literal (d ∷ text))
+  literal_has d text s k h = not_nil d text (sym h.0)
+
+  header_cut : (n : ℕ) → n < 8 → drop n header ≡ get_or header n 0 ∷ drop (n + 1) header
+  header_cut n h = rw add-one (drop-cons header n 0 h)
+
+  header_first : (n c : ℕ) (x : Mark) (Q : MarkedForm) → n < 8 → Next demanded (Then (Literal (get_or header n 0 ∷ drop (n + 1) header)) (Later 0 0)) c x Q → Next demanded (InHeader n) c x Q
+  header_first n c x Q few h = record {
+    to = λ s b k i. h.to s b k (subst (λ y. Then (Literal y) (Later 0 0) (c ∷ b) k) (header_cut n few) i.1);
+    from = λ b k g. (few, subst (λ y. Then (Literal y) (Later 0 0) (c ∷ b) k) (sym (header_cut n few)) (h.from b k g));
+  }
+
+  header_more : (n : ℕ) → n < 8 → n < 7 → Next demanded (Then (Literal (get_or header n 0 ∷ drop (n + 1) header)) (Later 0 0)) (get_or header n 0) (outside_mark None) (InHeader (n + 1))
+  header_more n few fewer =
+      let d : ℕ = get_or header n 0 in
+      let later : List ℕ = drop (n + 1) header in
+      let lt : n + 1 < 8 = omega arith in
+      next_to demanded (Then (Literal (d ∷ later)) (Later 0 0)) (Then (Literal later) (Later 0 0)) (InHeader (n + 1)) d (outside_mark None)
+      (record { to = λ s b k h. (lt, h); from = λ b k h. h.1 })
+      (next_then demanded (Literal (d ∷ later)) (Later 0 0) d (outside_mark None) (Literal later) (literal_next d later) (literal_has d later))
+
+  header_last : (n : ℕ) → n < 8 → 7 ≤ n → Next demanded (Then (Literal (get_or header n 0 ∷ drop (n + 1) header)) (Later 0 0)) (get_or header n 0) (outside_mark None) (Later 0 0)
+  header_last n few last =
+      let e : n ≡ 7 = omega arith in
+      rw e (ends_first demanded (Literal (0 ∷ [])) (Later 0 0) (Later 0 0) 0 (outside_mark None) (literal_next 0 []) (literal_has 0 []) (same_refl demanded (Later 0 0)))
+
+  in_header : (n : ℕ) (so_far : List ℕ) (c : ℕ) → Continues (InHeader n) c (listens so_far c (header_step n c))
+  in_header n so_far c =
+      let P : Machine × Event → Type 0 = λ q. Continues (InHeader n) c (listens so_far c q) in
+      let d : ℕ = get_or header n 0 in
+      let later : List ℕ = drop (n + 1) header in
+      cond_both (nat_lt n 8) _ _ P
+      (λ a. let few : n < 8 = ltb-true n 8 a in
+      cond_both (nat_eq c d) _ _ P
+      (λ e. rw (eqb-true c d e) (cond_both (nat_lt n 7) _ _ (λ (q : Machine × Event). Continues (InHeader n) d (listens so_far d q))
+      (λ f. header_first n d (outside_mark None) (InHeader (n + 1)) few (header_more n few (ltb-true n 7 f)))
+      (λ f. header_first n d (outside_mark None) (Later 0 0) few (header_last n few (ltb-false n 7 f)))))
+      (λ e. let halt : Next demanded (InHeader n) c (outside_mark None) Never = header_first n c (outside_mark None) Never few (fails_first demanded (Literal (d ∷ later)) (Later 0 0) c (outside_mark None) (literal_none d c later (eqb-false c d e)) (literal_has d later)) in
+      cond_both (nat_lt n 4) _ _ P (λ _. halt) (λ _. halt)))
+      (λ a. next_never demanded (InHeader n) c (outside_mark None) (λ s b k h. omega (arith, ltb-false n 8 a, h.0)))
+
+  in_header_has : (n : ℕ) → HasBytes demanded (InHeader n)
+  in_header_has n s k h = then_has demanded (Literal (get_or header n 0 ∷ drop (n + 1) header)) (Later 0 0) (literal_has (get_or header n 0) (drop (n + 1) header)) s k (subst (λ y. Then (Literal y) (Later 0 0) [] k) (header_cut n h.0) h.1)
+
+  -- a module as the machine sees it
+  pub begin_to : (b : List ℕ) (k : Marks) → ModuleForm demanded p b k → StateRest state_at_start b k
+  begin_to b k h =
+      let few : 0 < 8 = omega arith in
+      let t = h.1 in
+      (few, record { front = t.front; back = t.back; front_marks = t.front_marks; back_marks = t.back_marks; bytes = t.bytes; marks = t.marks; first = t.first; second = (h.0, λ l. absurd (omega (arith, l)), t.second) })
+
+  pub begin_from : (b : List ℕ) (k : Marks) → StateRest state_at_start b k → ModuleForm demanded p b k
+  begin_from b k h =
+      let t = h.1 in let q = t.second in
+      (q.0, record { front = t.front; back = t.back; front_marks = t.front_marks; back_marks = t.back_marks; bytes = t.bytes; marks = t.marks; first = t.first; second = q.2 })
+
+  pub may_end : (m : Machine) (so_far : List ℕ) → MayEnd m → MachineRest m so_far [] []
+  may_end (machine.Between last zero) so_far i = (0, λ l. refl, over demanded p 0 (11 - last) (suc last) (λ i e. refl))
+  may_end m so_far i = absurd i
+
+  -- no function awaits its code where a module ends
+  end_known : (last functions : ℕ) → FitsAt last functions → (f : ℕ) → Known last functions f → Missing f (suc last) (suc last + (11 - last)) → functions ≡ 0
+  end_known last functions fits f k miss = elim (below_or last 3) [
+    | inl few ↦ fits.0 few
+    | inr known ↦ elim (below_or last 10) [
+      | inr late ↦ fits.1 late
+      | inl early ↦ sym (k known) ∙ miss 10 (omega (arith, early)) (omega (arith, early)) (inr refl)
+    ]
+  ]
+
+  is_end : (last functions : ℕ) → functions ≡ 0 → MayEnd (machine.Between last functions)
+  is_end last zero e = tt
+  is_end last (suc n) e = omega (arith, e)
+
+  -- where a member begins
+  begin_at : (of : SectionKind) (y : List ℕ) → Same demanded (OneOf demanded p of) (ComponentRest demanded p (begin_component of) y)
+  begin_at section_kind.Type y = begin_same demanded p section_kind.Type
+  begin_at section_kind.Import y = begin_same demanded p section_kind.Import
+  begin_at section_kind.Function y = begin_same demanded p section_kind.Function
+  begin_at section_kind.Table y = begin_same demanded p section_kind.Table
+  begin_at section_kind.Memory y = begin_same demanded p section_kind.Memory
+  begin_at section_kind.Global y = begin_same demanded p section_kind.Global
+  begin_at section_kind.Export y = begin_same demanded p section_kind.Export
+  begin_at section_kind.Start y = begin_same demanded p section_kind.Start
+  begin_at section_kind.Element y = begin_same demanded p section_kind.Element
+  begin_at section_kind.Code y = begin_same demanded p section_kind.Code
+  begin_at section_kind.Segment y = begin_same demanded p section_kind.Segment
+
+  one_has : (of : SectionKind) → HasBytes demanded (OneOf demanded p of)
+  one_has of = has_same (OneOf demanded p of) (ComponentRest demanded p (begin_component of) []) (begin_same demanded p of) (component_has demanded p 0 (begin_component of) [] (can_begin 0 (omega arith) of))
+
+  -- in a section
+  abbrev Rest : SectionKind → ℕ → ℕ → InMember → List ℕ → ℕ → MarkedForm
+  Rest of more left q y functions = Then (Sized demanded more (Within of left q y)) (Later (id_of of) functions)
+
+  frame_same : (of : SectionKind) (functions more left : ℕ) (q : InMember) (y : List ℕ) → more < 2 ^ 32 → MayGo more q → Same demanded (Rest of more left q y functions) (MachineRest (machine_in_member of functions more left q) y)
+  frame_same of functions more left (at.Failed w) y few go =
+      let T : MarkedForm = Times left (OneOf demanded p of) in
+      never_then demanded (Sized demanded more (Then Never T)) (Later (id_of of) functions)
+      (same_then demanded (Sized demanded more (Then Never T)) (Sized demanded more Never) Never (sized_same demanded (Then Never T) Never more (never_then demanded Never T (same_refl demanded Never))) (sized_never demanded more))
+  frame_same of functions zero zero at.Over y few go =
+      let L : MarkedForm = Later (id_of of) functions in
+      let E : MarkedForm = Then Empty Empty in
+      same_then demanded (Then (Sized demanded 0 E) L) (Then Empty L) L
+      (then_same demanded (Sized demanded 0 E) L Empty L
+      (same_then demanded (Sized demanded 0 E) (Sized demanded 0 Empty) Empty (sized_same demanded E Empty 0 (empty_then demanded Empty)) (sized_empty demanded)) (same_refl demanded L))
+      (empty_then demanded L)
+  frame_same of functions (suc n) zero at.Over y few go =
+      let E : MarkedForm = Then Empty Empty in
+      never_then demanded (Sized demanded (suc n) E) (Later (id_of of) functions)
+      (same_then demanded (Sized demanded (suc n) E) (Sized demanded (suc n) Empty) Never (sized_same demanded E Empty (suc n) (empty_then demanded Empty)) (sized_over demanded n))
+  frame_same of functions zero (suc l) at.Over y few go =
+      let T : MarkedForm = Then (OneOf demanded p of) (Times l (OneOf demanded p of)) in
+      never_then demanded (Sized demanded 0 (Then Empty T)) (Later (id_of of) functions)
+      (sized_none demanded (Then Empty T) (has_same (Then Empty T) T (empty_then demanded T) (then_has demanded (OneOf demanded p of) (Times l (OneOf demanded p of)) (one_has of))))
+  frame_same of functions (suc n) (suc l) at.Over y few go =
+      let L : MarkedForm = Later (id_of of) functions in
+      let T : MarkedForm = Times l (OneOf demanded p of) in
+      let O : MarkedForm = Then (OneOf demanded p of) T in
+      let B : MarkedForm = ComponentRest demanded p (begin_component of) y in
+      then_same demanded (Sized demanded (suc n) (Then Empty O)) L (Sized demanded (suc n) (Then B T)) L
+      (sized_same demanded (Then Empty O) (Then B T) (suc n) (same_then demanded (Then Empty O) O (Then B T) (empty_then demanded O) (then_same demanded (OneOf demanded p of) T B T (begin_at of y) (same_refl demanded T))))
+      (same_refl demanded L)
+  frame_same of functions zero left q y few go =
+      never_then demanded (Sized demanded 0 (Within of left q y)) (Later (id_of of) functions)
+      (sized_none demanded (Within of left q y) (then_has demanded (ComponentRest demanded p q y) (Times left (OneOf demanded p of)) (component_has demanded p 0 q y go)))
+  frame_same of functions (suc n) left q y few go = same_refl demanded (MachineRest (machine.Section of functions n left q) y)
+
+  in_section : (of : SectionKind) (functions more left : ℕ) (q : InMember) (so_far : List ℕ) (c : ℕ) → c < 2 ^ 8 → Fits (machine.Section of functions more left q)
+      → Continues (MachineRest (machine.Section of functions more left q) so_far) c (byte_read machine.Refused (zone_in q) so_far c (step_of p (machine.Section of functions more left q) c))
+  in_section of functions more left q so_far c byte fits =
+      let P : MarkedForm = ComponentRest demanded p q so_far in
+      let T : MarkedForm = Times left (OneOf demanded p of) in
+      let L : MarkedForm = Later (id_of of) functions in
+      let F : MarkedForm = Then (Sized demanded (suc more) (Then P T)) L in
+      let few : more < 2 ^ 32 = (let l = fits.1 in omega (arith, l)) in
+      lifted at.Failed (ComponentRest demanded p) (machine_in_member of functions more left) (λ w. refl) (MayGo more) (λ w. tt) P F (zone_in q) so_far c
+      (λ m x y i h.
+      let R : MarkedForm = ComponentRest demanded p m y in
+      next_to demanded F (Then (Sized demanded more (Then R T)) L) (MachineRest (machine_in_member of functions more left m) y) c x (frame_same of functions more left m y few i)
+      (next_then demanded (Sized demanded (suc more) (Then P T)) L c x (Sized demanded more (Then R T))
+      (sized_next demanded (Then P T) (Then R T) more c x (next_then demanded P T c x R h (component_has demanded p (suc more) q so_far fits.2))) (sized_has demanded (Then P T) more)))
+      (member_step p q c).0 (member_step p q c).1 (can_go_on p more q c byte fits.2) (component_follows demanded p more q so_far c fits.2 byte)
+
+  -- at the count of its members
+  listed_same : (of : SectionKind) (functions more n : ℕ) → more < 2 ^ 32 → Same demanded (Then (Sized demanded more (Times n (OneOf demanded p of))) (Later (id_of of) functions)) (MachineRest (machine_after_count of functions more n) [])
+  listed_same of functions more zero few =
+      let L : MarkedForm = Later (id_of of) functions in
+      let E : MarkedForm = Then Empty Empty in
+      same_then demanded (Then (Sized demanded more Empty) L) (Then (Sized demanded more E) L) (MachineRest (machine_after_count of functions more zero) [])
+      (then_same demanded (Sized demanded more Empty) L (Sized demanded more E) L (sized_same demanded Empty E more (then_empty demanded Empty)) (same_refl demanded L))
+      (frame_same of functions more zero at.Over [] few tt)
+  listed_same of functions more (suc n) few =
+      let L : MarkedForm = Later (id_of of) functions in
+      let O : MarkedForm = OneOf demanded p of in
+      let B : MarkedForm = ComponentRest demanded p (begin_component of) [] in
+      let T : MarkedForm = Times n O in
+      same_then demanded (Then (Sized demanded more (Then O T)) L) (Then (Sized demanded more (Then B T)) L) (MachineRest (machine_after_count of functions more (suc n)) [])
+      (then_same demanded (Sized demanded more (Then O T)) L (Sized demanded more (Then B T)) L (sized_same demanded (Then O T) (Then B T) more (then_same demanded O T B T (begin_same demanded p of) (same_refl demanded T))) (same_refl demanded L))
+      (frame_same of functions more n (begin_component of) [] few (may_begin more few of))
+
+  abbrev Read : SectionKind → (functions more v : ℕ) → MarkedForm
+  Read of functions more v = ForSome (KnownIn (id_of of) functions) (λ f. Then (Sized demanded more (ListOf of f v)) (After of f))
+
+  abbrev AllOf : SectionKind → (functions more v : ℕ) → MarkedForm
+  AllOf of functions more v = Then (Sized demanded more (Times v (OneOf demanded p of))) (Later (id_of of) functions)
+
+  counted_as : (of : SectionKind) (functions more v : ℕ) → more < 2 ^ 32 → Same demanded (Read of functions more v) (MachineRest (machine_after_paired_count of functions more v) [])
+  counted_as section_kind.Function functions more v few =
+      same_then demanded (Read section_kind.Function functions more v) (AllOf section_kind.Function v more v) (MachineRest (machine_after_count section_kind.Function v more v) [])
+      (function_read functions more v) (listed_same section_kind.Function v more v few)
+  counted_as section_kind.Code functions more v few =
+      cond_both (nat_eq v functions) _ _ (λ (m : Machine). Same demanded (Read section_kind.Code functions more v) (MachineRest m []))
+      (λ a. same_then demanded (Read section_kind.Code functions more v) (AllOf section_kind.Code 0 more v) (MachineRest (machine_after_count section_kind.Code 0 more v) [])
+      (code_read functions more v (eqb-true v functions a)) (listed_same section_kind.Code 0 more v few))
+      (λ a. code_other functions more v (eqb-false v functions a))
+  counted_as of functions more v few =
+      same_then demanded (Read of functions more v) (AllOf of functions more v) (MachineRest (machine_after_count of functions more v) [])
+      (list_read of functions more v (λ e. omega (arith, e))) (listed_same of functions more v few)
+
+  module _ (of : SectionKind) (functions more : ℕ) (r : Partial) (so_far : List ℕ) (c : ℕ) where
+    abbrev AtCount : MarkedForm
+    AtCount = MachineRest (machine.Count of functions more r) so_far
+
+    count_next : (X : ℕ → MarkedForm) → ((f : ℕ) → Next demanded (Listed of r f) c (outside_mark None) (X f)) → Next demanded AtCount c (outside_mark None) (ForSome (KnownIn (id_of of) functions) (λ f. Then (Sized demanded more (X f)) (After of f)))
+    count_next X h =
+        some_next demanded (KnownIn (id_of of) functions) (λ f. Then (Sized demanded (suc more) (Listed of r f)) (After of f)) (λ f. Then (Sized demanded more (X f)) (After of f)) c (outside_mark None)
+        (λ f. next_then demanded (Sized demanded (suc more) (Listed of r f)) (After of f) c (outside_mark None) (Sized demanded more (X f)) (sized_next demanded (Listed of r f) (X f) more c (outside_mark None) (h f)) (sized_has demanded (Listed of r f) more))
+
+    count_ends : (X : ℕ → MarkedForm) → ((f : ℕ) → Next demanded (Listed of r f) c (outside_mark None) (X f)) → ((f : ℕ) → Same demanded (Sized demanded more (X f)) Never) → Next demanded AtCount c (outside_mark None) Never
+    count_ends X h never =
+        next_to demanded AtCount (ForSome (KnownIn (id_of of) functions) (λ f. Then (Sized demanded more (X f)) (After of f))) Never c (outside_mark None)
+        (some_never demanded (KnownIn (id_of of) functions) (λ f. Then (Sized demanded more (X f)) (After of f)) (λ f k. never_then demanded (Sized demanded more (X f)) (After of f) (never f)))
+        (count_next X h)
+
+  counts : (of : SectionKind) (functions more : ℕ) (r : Partial) (so_far : List ℕ) (c : ℕ) (q : Step ℕ × Partial) → suc more < 2 ^ 32 → ((f : ℕ) → CountedNext demanded nothing_at (ListOf of f) r c q)
+      → Continues (AtCount of functions more r so_far c) c (listens so_far c (after_count of functions more q))
+  counts of functions zero r so_far c (More, s) few h = count_ends of functions 0 r so_far c (Listed of s) h (λ f. sized_none demanded (Listed of s f) (counted_has demanded nothing_at (ListOf of f) s))
+  counts of functions (suc n) r so_far c (More, s) few h = count_next of functions (suc n) r so_far c (Listed of s) h
+  counts of functions more r so_far c (Done v, s) few h =
+      next_to demanded (AtCount of functions more r so_far c) (Read of functions more v) (MachineRest (machine_after_paired_count of functions more v) []) c (outside_mark None) (counted_as of functions more v (omega (arith, few)))
+      (count_next of functions more r so_far c (λ f. ListOf of f v) h)
+  counts of functions more r so_far c (Bad, s) few h = count_ends of functions more r so_far c (λ f. Never) h (λ f. sized_never demanded more)
+
+  -- at its size
+  contents_has : (of : SectionKind) (f : ℕ) → HasBytes demanded (Contents demanded p f (id_of of))
+  contents_has section_kind.Start f = one_has section_kind.Start
+  contents_has of f = has_same (Contents demanded p f (id_of of)) (Listed of fresh f) (contents_same of f) (counted_has demanded nothing_at (ListOf of f) fresh)
+
+  size_same : (of : SectionKind) (functions n : ℕ) → Same demanded (ForSome (KnownIn (id_of of) functions) (λ f. InSize of f n)) (MachineRest (after_size of functions n) [])
+  size_same of functions zero =
+      some_never demanded (KnownIn (id_of of) functions) (λ f. InSize of f 0) (λ f k.
+      never_then demanded (Sized demanded 0 (Contents demanded p f (id_of of))) (After of f) (sized_none demanded (Contents demanded p f (id_of of)) (contents_has of f)))
+  size_same section_kind.Start functions (suc n) =
+      let O : MarkedForm = OneOf demanded p section_kind.Start in
+      let B : MarkedForm = ComponentRest demanded p (begin_component section_kind.Start) [] in
+      let C : ℕ → Type 0 = KnownIn 8 functions in
+      let D : ℕ → Type 0 = Known 8 functions in
+      let Q : ℕ → MarkedForm = After section_kind.Start in
+      same_then demanded (ForSome C (λ f. Then (Sized demanded (suc n) O) (Q f))) (Then (Sized demanded (suc n) O) (ForSome C Q)) (Then (Sized demanded (suc n) (Then B Empty)) (ForSome D Q))
+      (some_then demanded C (Sized demanded (suc n) O) Q)
+      (then_same demanded (Sized demanded (suc n) O) (ForSome C Q) (Sized demanded (suc n) (Then B Empty)) (ForSome D Q)
+      (sized_same demanded O (Then B Empty) (suc n) (same_then demanded O B (Then B Empty) (begin_same demanded p section_kind.Start) (then_empty demanded B)))
+      (some_known demanded C D Q (λ f k l. k (omega arith)) (λ f k l. k (omega arith))))
+  size_same of functions (suc n) =
+      some_same demanded (KnownIn (id_of of) functions) (λ f. InSize of f (suc n)) (λ f. Then (Sized demanded (suc n) (Listed of fresh f)) (After of f)) (λ f.
+      then_same demanded (Sized demanded (suc n) (Contents demanded p f (id_of of))) (After of f) (Sized demanded (suc n) (Listed of fresh f)) (After of f)
+      (sized_same demanded (Contents demanded p f (id_of of)) (Listed of fresh f) (suc n) (contents_same of f)) (same_refl demanded (After of f)))
+
+  abbrev AtSize : SectionKind → ℕ → Partial → MarkedForm
+  AtSize of functions r = ForSome (KnownIn (id_of of) functions) (λ f. Counted (Left r) nothing_at (InSize of f))
+
+  sizes : (of : SectionKind) (functions : ℕ) (r : Partial) (so_far : List ℕ) (c : ℕ) (q : Step ℕ × Partial) → ((f : ℕ) → CountedNext demanded nothing_at (InSize of f) r c q)
+      → Continues (AtSize of functions r) c (listens so_far c (on_number q (λ s. machine.Size of functions s) (λ n. (after_size of functions n, event.Nothing)) machine.Refused))
+  sizes of functions r so_far c (More, s) h =
+      some_next demanded (KnownIn (id_of of) functions) (λ f. Counted (Left r) nothing_at (InSize of f)) (λ f. Counted (Left s) nothing_at (InSize of f)) c (outside_mark None) h
+  sizes of functions r so_far c (Done v, s) h =
+      next_to demanded (AtSize of functions r) (ForSome (KnownIn (id_of of) functions) (λ f. InSize of f v)) (MachineRest (after_size of functions v) []) c (outside_mark None) (size_same of functions v)
+      (some_next demanded (KnownIn (id_of of) functions) (λ f. Counted (Left r) nothing_at (InSize of f)) (λ f. InSize of f v) c (outside_mark None) h)
+  sizes of functions r so_far c (Bad, s) h = some_none demanded (KnownIn (id_of of) functions) (λ f. Counted (Left r) nothing_at (InSize of f)) c (outside_mark None) h
+
+  -- each byte goes on with what may still come
+  pub machine_follows : (m : Machine) (so_far : List ℕ) (c : ℕ) → c < 2 ^ 8 → Fits m → Continues (MachineRest m so_far) c (byte_read machine.Refused (zone_of m) so_far c (step_of p m c))
+  machine_follows (machine.Header n) so_far c byte fits = in_header n so_far c
+  machine_follows (machine.Between last functions) so_far c byte fits = between last functions so_far c fits
+  machine_follows (machine.CustomSize last functions r) so_far c byte fits = custom_sizes last functions r so_far c (unsigned_push 32 r c) (counted_next demanded nothing_at (InCustoms last functions) r c byte)
+  machine_follows (machine.Custom last functions more q) so_far c byte fits = in_custom last functions more q so_far c byte
+  machine_follows (machine.Size of functions r) so_far c byte fits = sizes of functions r so_far c (unsigned_push 32 r c) (λ f. counted_next demanded nothing_at (InSize of f) r c byte)
+  machine_follows (machine.Count of functions more r) so_far c byte fits = counts of functions more r so_far c (unsigned_push 32 r c) fits.2 (λ f. counted_next demanded nothing_at (ListOf of f) r c byte)
+  machine_follows (machine.Section of functions more left q) so_far c byte fits = in_section of functions more left q so_far c byte fits
+  machine_follows (machine.Refused w) so_far c byte fits = next_never demanded Never c (outside_mark None) (λ s b k h. h)
+
+  pub ends : demanded → (m : Machine) (so_far : List ℕ) (k : Marks) → Fits m → MachineRest m so_far [] k → (k ≡ []) × MayEnd m
+  ends s (machine.Header n) so_far k fits h = absurd (in_header_has n s k h)
+  ends s (machine.Between last functions) so_far k fits h =
+      let r = over_missing demanded p h.0 (11 - last) (suc last) k h.2 in
+      (r.0, is_end last functions (end_known last functions fits h.0 h.1 r.1))
+  ends s (machine.CustomSize last functions r) so_far k fits h = absurd (counted_has demanded nothing_at (InCustoms last functions) r s k h)
+  ends s (machine.Custom last functions more q) so_far k fits h = absurd (then_has demanded (CustomRest demanded (suc more) q so_far) (Later last functions) (custom_has demanded more q so_far) s k h)
+  ends s (machine.Size of functions r) so_far k fits h = absurd (counted_has demanded nothing_at (InSize of h.0) r s k h.2)
+  ends s (machine.Count of functions more r) so_far k fits h = absurd (then_has demanded (Sized demanded (suc more) (Listed of r h.0)) (After of h.0) (sized_has demanded (Listed of r h.0) more) s k h.2)
+  ends s (machine.Section of functions more left q) so_far k fits h = absurd (then_has demanded (Sized demanded (suc more) (Within of left q so_far)) (Later (id_of of) functions) (sized_has demanded (Within of left q so_far) more) s k h)
+  ends s (machine.Refused w) so_far k fits h = absurd h
+
+  -- what a module that begins with these bytes is after them
+  pub run_to : demanded → (s : MachineState) (b more : List ℕ) (k : Marks) → AreBytes b → Fits s.machine → StateRest s (b ++ more) k → (later : Marks) × (k ≡ marks p s b ++ later) × StateRest (state_after p s b) more later
+  run_to d s [] more k a fits h = (k, refl, h)
+  run_to d s (c ∷ b) more k a fits h =
+      let g = (machine_follows s.machine s.name c a.0 fits).to d (b ++ more) k h in
+      let r = run_to d (after_byte p s c) b more g.0 a.1 (byte_fits p s c a.0 fits) g.2 in
+      (r.0, g.1 ∙ ap (λ y. (read_byte p s c).mark ∷ y) r.1, r.2)
+
+  pub run_from : (s : MachineState) (b more : List ℕ) (k : Marks) → AreBytes b → Fits s.machine → StateRest (state_after p s b) more k → StateRest s (b ++ more) (marks p s b ++ k)
+  run_from s [] more k a fits h = h
+  run_from s (c ∷ b) more k a fits h =
+      (machine_follows s.machine s.name c a.0 fits).from (b ++ more) ((read_byte p s c).mark ∷ (marks p (after_byte p s c) b ++ k))
+      (marks p (after_byte p s c) b ++ k, refl, run_from (after_byte p s c) b more k a.1 (byte_fits p s c a.0 fits) h)

@@ -1,0 +1,5 @@
+use Rattle.wm_machine.proofs.Nesting.{spells_more}
+use Rattle.wm_machine.proofs.laws.more_features_spell_as_much.Goals as goal
+
+pub returns : goal.returns
+returns c = λ p q m b more h. spells_more p q more m b h

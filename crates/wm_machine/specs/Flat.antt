@@ -1,0 +1,191 @@
+-- The flat value of a module (section 5.5): what its items tell in order, an expression as its
+-- ops and locals as runs.
+use Rattle.std.specs.Prelude.{◌≡◌, ℕ, ◌<◌, ◌^◌, List, [], ◌∷◌, ◌++◌, Option, Some, None, length, map}
+use Rattle.std.specs.Prelude.{flat_map}
+use Rattle.std.specs.List.{AllByRecursion, AllZip}
+use Rattle.wm_syntax.specs.declared.types.ValType.{ValType}
+use Rattle.wm_syntax.specs.declared.types.Limits.{Limits}
+use Rattle.wm_syntax.specs.declared.types.GlobalType.{GlobalType}
+use Rattle.wm_syntax.specs.declared.types.Const.{Const}
+use Rattle.wm_syntax.specs.declared.instructions.Op.{Op}
+use Rattle.wm_syntax.specs.declared.instructions.Op.TheVariants as op
+use Rattle.wm_syntax.specs.declared.profile.Profile.{Profile}
+use Rattle.wm_syntax.specs.Spelling.{Form, Exactly, Each, ◌▸◌}
+use Rattle.wm_syntax.specs.Types.{Signature, SpellsU32, SpellsList, SpellsBytes, SpellsSignature}
+use Rattle.wm_syntax.specs.Types.{SpellsLimits, SpellsTableType, SpellsGlobalType}
+use Rattle.wm_syntax.specs.Instructions.{HasOps, SpellsOp}
+use Rattle.wm_syntax.specs.Modules.{Import, Function, GlobalDef, Export, Element, Segment, Module, constant}
+use Rattle.wm_syntax.specs.Profiles.{HasDesc, HasSignature, IsOpOf}
+use Rattle.wm_machine.specs.Sections.{Sized, Those, ListSection, StartSection, Customs, SpellsImport}
+use Rattle.wm_machine.specs.Sections.{SpellsExport, SpellsRun, header}
+use Rattle.wm_syntax.specs.Modules.{locals_of}
+use Rattle.wm_machine.specs.Grammar.{IsExpression, HasGlobalType}
+use Rattle.wm_machine.specs.Items.{Item, new_type, param, result_count, one_result, import_module, import_name}
+use Rattle.wm_machine.specs.Items.{import_desc, function, table, memory, global, const_op, export_name, export}
+use Rattle.wm_machine.specs.Items.{start, element, element_function, body, locals, body_op, segment, data_byte}
+
+-- a global: its type, and the ops of its initialiser (section 5.5.9)
+pub record FlatGlobal : Type 0 where
+  pub ty : GlobalType
+  pub init : List Op
+
+-- an element segment: a table, the ops that say where in it, and functions (section 5.5.12)
+pub record FlatElement : Type 0 where
+  pub table : ℕ
+  pub offset : List Op
+  pub functions : List ℕ
+
+-- a code entry: runs of locals of one type, and the ops of the body (section 5.5.13)
+pub record FlatCode : Type 0 where
+  pub runs : List (ℕ × ValType)
+  pub ops : List Op
+
+-- a data segment: a memory, the ops that say where in it, and bytes (section 5.5.14)
+pub record FlatSegment : Type 0 where
+  pub memory : ℕ
+  pub offset : List Op
+  pub bytes : List ℕ
+
+-- A module, section by section (section 5.5.15). Of a function its type's index stands in one section and its
+-- code in another.
+pub record FlatModule : Type 0 where
+  pub types : List Signature
+  pub imports : List Import
+  pub functions : List ℕ
+  pub tables : List Limits
+  pub memories : List Limits
+  pub globals : List FlatGlobal
+  pub exports : List Export
+  pub start : Option ℕ
+  pub elements : List FlatElement
+  pub codes : List FlatCode
+  pub segments : List FlatSegment
+
+-- The items of each member, in the order of its bytes.
+abbrev pub type_items : Signature → List Item
+type_items f = new_type ∷ map param f.params ++ result_count (length f.results) ∷ map one_result f.results
+
+abbrev pub import_items : Import → List Item
+import_items i = import_module i.module_name ∷ import_name i.item_name ∷ import_desc i.desc ∷ []
+
+abbrev pub global_items : FlatGlobal → List Item
+global_items g = global g.ty ∷ map const_op g.init
+
+abbrev pub export_items : Export → List Item
+export_items e = export_name e.name ∷ export e.kind e.index ∷ []
+
+abbrev pub start_items : Option ℕ → List Item
+start_items None = []
+start_items (Some x) = start x ∷ []
+
+abbrev pub element_items : FlatElement → List Item
+element_items e = element e.table ∷ map const_op e.offset ++ map element_function e.functions
+
+abbrev pub code_items : FlatCode → List Item
+code_items c = body ∷ map (λ r. locals r.0 r.1) c.runs ++ map body_op c.ops
+
+abbrev pub segment_items : FlatSegment → List Item
+segment_items s = segment s.memory ∷ map const_op s.offset ++ map data_byte s.bytes
+
+-- the items of a module, in order
+abbrev pub flat_items : FlatModule → List Item
+flat_items v =
+    flat_map type_items v.types
+    ++ (flat_map import_items v.imports
+    ++ (map function v.functions
+    ++ (map table v.tables
+    ++ (map memory v.memories
+    ++ (flat_map global_items v.globals
+    ++ (flat_map export_items v.exports
+    ++ (start_items v.start
+    ++ (flat_map element_items v.elements
+    ++ (flat_map code_items v.codes
+    ++ flat_map segment_items v.segments)))))))))
+
+-- an expression of the profile: its ops, each spelled, joined (section 5.4.6)
+abbrev pub SpellsOps : Profile → List Op → Form ℕ
+SpellsOps p ops b = IsExpression ops × AllByRecursion (IsOpOf p) ops × Each SpellsOp ops b
+
+-- imports (section 5.5.5), of a global of a type of the profile
+abbrev pub HasImport : Profile → Import → Type 0
+HasImport p i = HasDesc p i.desc
+
+-- globals (section 5.5.9)
+abbrev pub SpellsFlatGlobal : Profile → FlatGlobal → Form ℕ
+SpellsFlatGlobal p g = Those (HasGlobalType p) SpellsGlobalType g.ty ▸ SpellsOps p g.init
+
+-- element segments (section 5.5.12)
+abbrev pub SpellsFlatElement : Profile → FlatElement → Form ℕ
+SpellsFlatElement p e = SpellsU32 e.table ▸ SpellsOps p e.offset ▸ SpellsList SpellsU32 e.functions
+
+-- code (section 5.5.13): in so many bytes, runs and the ops of the body
+abbrev pub SpellsFlatCode : Profile → FlatCode → Form ℕ
+SpellsFlatCode p c = Sized (SpellsList (SpellsRun p) c.runs ▸ SpellsOps p c.ops)
+
+-- data segments (section 5.5.14)
+abbrev pub SpellsFlatSegment : Profile → FlatSegment → Form ℕ
+SpellsFlatSegment p s = SpellsU32 s.memory ▸ SpellsOps p s.offset ▸ SpellsBytes s.bytes
+
+-- sections in order, with custom sections before, between and after them (section 5.5.15)
+abbrev pub InOrder : List (Form ℕ) → Form ℕ
+InOrder [] = Customs
+InOrder (P ∷ sections) = Customs ▸ P ▸ InOrder sections
+
+-- the section of each list, by its id (section 5.5.2)
+abbrev pub flat_sections : Profile → FlatModule → List (Form ℕ)
+flat_sections p v =
+    ListSection 1 (Those (HasSignature p) SpellsSignature) v.types
+    ∷ ListSection 2 (Those (HasImport p) SpellsImport) v.imports
+    ∷ ListSection 3 SpellsU32 v.functions
+    ∷ ListSection 4 SpellsTableType v.tables
+    ∷ ListSection 5 SpellsLimits v.memories
+    ∷ ListSection 6 (SpellsFlatGlobal p) v.globals
+    ∷ ListSection 7 SpellsExport v.exports
+    ∷ StartSection v.start
+    ∷ ListSection 9 (SpellsFlatElement p) v.elements
+    ∷ ListSection 10 (SpellsFlatCode p) v.codes
+    ∷ ListSection 11 (SpellsFlatSegment p) v.segments
+    ∷ []
+
+-- a module (section 5.5.15), as many code entries as functions
+abbrev pub SpellsFlat : Profile → FlatModule → Form ℕ
+SpellsFlat p v b = (length v.codes ≡ length v.functions) × (Exactly header ▸ InOrder (flat_sections p v)) b
+
+-- the ops of a constant expression: its one, and the end (section 3.3.7)
+abbrev pub constant_ops : Const → List Op
+constant_ops c = op.Simple (constant c) ∷ op.End ∷ []
+
+-- What a member of a flat value says of a member of the module (sections 2.5.3, 2.5.6 to 2.5.8): a
+-- function's type index,
+abbrev pub IsIndexOf : Function → ℕ → Type 0
+IsIndexOf f x = x ≡ f.type_index
+
+-- its locals, run by run, and its body's ops, which are those of its instructions and the end;
+abbrev pub IsCodeOf : Function → FlatCode → Type 0
+IsCodeOf f c = (locals_of c.runs ≡ f.locals) × (length f.locals < 2 ^ 32)
+    × (HasOps f.body ▸ Exactly (op.End ∷ [])) c.ops
+
+-- a global, an element segment and a data segment, with the ops of a constant.
+abbrev pub IsGlobalOf : GlobalDef → FlatGlobal → Type 0
+IsGlobalOf g v = (v.ty ≡ g.ty) × (v.init ≡ constant_ops g.init)
+
+abbrev pub IsElementOf : Element → FlatElement → Type 0
+IsElementOf e v = (v.table ≡ e.table) × (v.offset ≡ constant_ops e.offset) × (v.functions ≡ e.functions)
+
+abbrev pub IsSegmentOf : Segment → FlatSegment → Type 0
+IsSegmentOf s v = (v.memory ≡ s.memory) × (v.offset ≡ constant_ops s.offset) × (v.bytes ≡ s.bytes)
+
+-- The flat value is one of the module, member by member. A module has several: an else before an empty list
+-- may be there or not, and locals are cut into runs in many ways.
+pub record IsFlatOf (m : Module) (v : FlatModule) : Type 0 where
+  pub types : v.types ≡ m.types
+  pub imports : v.imports ≡ m.imports
+  pub functions : AllZip IsIndexOf m.functions v.functions
+  pub tables : v.tables ≡ m.tables
+  pub memories : v.memories ≡ m.memories
+  pub globals : AllZip IsGlobalOf m.globals v.globals
+  pub exports : v.exports ≡ m.exports
+  pub start : v.start ≡ m.start
+  pub elements : AllZip IsElementOf m.elements v.elements
+  pub codes : AllZip IsCodeOf m.functions v.codes
+  pub segments : AllZip IsSegmentOf m.segments v.segments

@@ -1,0 +1,12 @@
+pub mod BetweenProfiles
+pub mod Decoding
+pub mod Flat
+pub mod Fronts
+pub mod Grammar
+pub mod Items
+pub mod MarkedForms
+pub mod Meanings
+pub mod Sections
+pub mod Sinks
+pub mod exact
+pub mod inner

@@ -1,0 +1,68 @@
+-- What a sink is to those who give it items: what it holds, and what each of them makes of that.
+use Rattle.std.specs.Prelude.{◌≡◌, ◌≢◌, List, [], ◌∷◌, Result, Ok, Err, map}
+use Rattle.wm_syntax.specs.declared.why.Why.{Why}
+use Rattle.wm_syntax.specs.declared.why.Why.TheVariants as why
+use Rattle.wm_syntax.specs.declared.modules.ImportDesc.TheVariants as desc
+use Rattle.wm_machine.specs.declared.item.Item.{Item as Given}
+use Rattle.wm_machine.specs.declared.item.Item.TheVariants as items
+use Rattle.wm_machine.specs.Items.{Item, new_type, param, result_count, one_result, import_module, import_name}
+use Rattle.wm_machine.specs.Items.{import_desc, function, table, memory, global, const_op, export_name, export}
+use Rattle.wm_machine.specs.Items.{start, element, element_function, body, locals, body_op, segment, data_byte}
+
+-- what a lent item stands for, without where its bytes lie: of a slice of data each byte is an item
+abbrev pub items_for : Given → List Item
+items_for items.NewType = new_type ∷ []
+items_for (items.Param t) = param t ∷ []
+items_for (items.Results n) = result_count n ∷ []
+items_for (items.Result t) = one_result t ∷ []
+items_for (items.ImportModule text) = import_module text.now ∷ []
+items_for (items.ImportName text) = import_name text.now ∷ []
+items_for (items.ImportFunc x) = import_desc (desc.Func x) ∷ []
+items_for (items.ImportTable l) = import_desc (desc.Table l) ∷ []
+items_for (items.ImportMemory l) = import_desc (desc.Memory l) ∷ []
+items_for (items.ImportGlobal g) = import_desc (desc.Global g) ∷ []
+items_for (items.Func x) = function x ∷ []
+items_for (items.Table l) = table l ∷ []
+items_for (items.Memory l) = memory l ∷ []
+items_for (items.Global g) = global g ∷ []
+items_for (items.ConstOp o) = const_op o ∷ []
+items_for (items.ExportName text) = export_name text.now ∷ []
+items_for (items.Export kind x) = export kind x ∷ []
+items_for (items.Start x) = start x ∷ []
+items_for (items.Elem x) = element x ∷ []
+items_for (items.ElemFunc x) = element_function x ∷ []
+items_for items.Body = body ∷ []
+items_for (items.Locals n t) = locals n t ∷ []
+items_for (items.Op o) = body_op o ∷ []
+items_for (items.Segment x) = segment x ∷ []
+items_for (items.DataBytes bytes) = map data_byte bytes.now
+
+abbrev pub and_then : {A B E : Type 0} → Result A E → (A → Result B E) → Result B E
+and_then (Ok x) f = f x
+and_then (Err e) f = Err e
+
+-- what is held after some items, one after another, or why one of them is refused
+abbrev pub all_taken : {H : Type 0} → (H → Item → Result H Why) → H → List Item → Result H Why
+all_taken after h [] = Ok h
+all_taken after h (x ∷ xs) = and_then (after h x) (λ g. all_taken after g xs)
+
+-- What a receiver answered, and holds now, is what was expected, unless memory ran out.
+abbrev pub Taken : {H U : Type 0} → Result H Why → Result U Why → H → Type 0
+Taken expected (Ok u) now = expected ≡ Ok now
+Taken expected (Err w) now = w ≢ why.Memory → expected ≡ Err w
+
+-- Memory is refused only where it may run out at the item; of several items nothing is said.
+abbrev pub RunsOut : {H U : Type 0} → (H → Item → Type 0) → H → List Item → Result U Why → Type 0
+RunsOut may h (x ∷ []) (Err w) = w ≡ why.Memory → may h x
+RunsOut may h xs result = Unit {0}
+
+-- The same, but for why it is refused.
+abbrev pub TakenOrNot : {H U : Type 0} → Result H Why → Result U Why → H → Type 0
+TakenOrNot {H} expected (Ok u) now = expected ≡ Ok now
+TakenOrNot {H} expected (Err w) now = w ≢ why.Memory → (h : H) → expected ≡ Ok h → ⊥
+
+-- A sink that held h took a lent item that stands for these: it holds what they leave one by one, and refuses
+-- what they don't leave; a single item it refuses by its own name.
+abbrev pub Took : {H U : Type 0} → (H → Item → Result H Why) → H → List Item → Result U Why → H → Type 0
+Took after h (x ∷ []) result now = Taken (after h x) result now
+Took after h xs result now = TakenOrNot (all_taken after h xs) result now

@@ -1,0 +1,150 @@
+-- What each byte does between sections and to the frame of one: the exact form of the byte step, for the
+-- proofs above it.
+use Rattle.std.specs.Prelude.{ℕ, zero, suc, ◌+◌, ◌==◌, nat_lt, nat_le, if◌then◌else◌, slice_index, Option}
+use Rattle.std.specs.Prelude.{Some, None}
+use Rattle.wm_syntax.specs.declared.numbers.Step.{Step}
+use Rattle.wm_syntax.specs.declared.numbers.Step.TheVariants.{More, Done, Bad}
+use Rattle.wm_syntax.specs.inner.Numbers.{Partial}
+use Rattle.wm_syntax.specs.exact.Reading.{fresh, unsigned_push}
+use Rattle.wm_syntax.specs.declared.profile.Profile.{Profile}
+use Rattle.wm_syntax.specs.declared.why.Why.{Why}
+use Rattle.wm_syntax.specs.declared.why.Why.TheVariants as why
+use Rattle.wm_machine.specs.declared.machine.NameKind.TheVariants as kind
+use Rattle.wm_machine.specs.declared.machine.InCustom.{InCustom}
+use Rattle.wm_machine.specs.declared.machine.InCustom.TheVariants as custom
+use Rattle.wm_machine.specs.declared.machine.Machine.{Machine}
+use Rattle.wm_machine.specs.declared.machine.Machine.TheVariants as machine
+use Rattle.wm_machine.specs.declared.machine.Event.{Event}
+use Rattle.wm_machine.specs.declared.machine.Event.TheVariants as event
+use Rattle.wm_machine.specs.declared.machine.member.SectionKind.{SectionKind}
+use Rattle.wm_machine.specs.declared.machine.member.SectionKind.TheVariants as section_kind
+use Rattle.wm_machine.specs.declared.machine.member.InMember.{InMember}
+use Rattle.wm_machine.specs.declared.machine.member.InMember.TheVariants as at
+use Rattle.wm_machine.specs.Sections.{header}
+use Rattle.wm_machine.specs.exact.Members.{id_of, section_kind_of, member_at_start}
+use Rattle.wm_machine.specs.exact.MemberSteps.{on_number, member_step}
+
+-- custom sections
+abbrev pub no_custom : Why → InCustom × Event
+no_custom w = (custom.Failed w, event.Nothing)
+
+abbrev pub custom_after_length : ℕ → InCustom × Event
+custom_after_length zero = (custom.Skip, event.EmptyName kind.Custom)
+custom_after_length (suc n) = (custom.Name n, event.Nothing)
+
+abbrev pub custom_length_step : Partial → ℕ → InCustom × Event
+custom_length_step r c = on_number (unsigned_push 32 r c) custom.Length custom_after_length custom.Failed
+
+abbrev pub custom_name_step : ℕ → InCustom × Event
+custom_name_step zero = (custom.Skip, event.EndsName kind.Custom)
+custom_name_step (suc n) = (custom.Name n, event.InName)
+
+abbrev pub custom_step : InCustom → ℕ → InCustom × Event
+custom_step (custom.Length r) c = custom_length_step r c
+custom_step (custom.Name more) c = custom_name_step more
+custom_step custom.Skip c = (custom.Skip, event.Nothing)
+custom_step (custom.Failed w) c = no_custom why.SectionEnd
+
+-- the machine in a custom section with so many bytes left
+abbrev pub machine_in_custom : ℕ → ℕ → ℕ → InCustom → Machine
+machine_in_custom last functions left (custom.Failed w) = machine.Refused w
+machine_in_custom last functions zero custom.Skip = machine.Between last functions
+machine_in_custom last functions zero q = machine.Refused why.SectionEnd
+machine_in_custom last functions (suc n) q = machine.Custom last functions n q
+
+-- the machine at a place in a member, with so many bytes of the section left and so many
+-- members after this one
+abbrev pub machine_in_member : SectionKind → ℕ → ℕ → ℕ → InMember → Machine
+machine_in_member of functions bytes left (at.Failed w) = machine.Refused w
+machine_in_member of functions zero zero at.Over = machine.Between (id_of of) functions
+machine_in_member of functions (suc n) zero at.Over = machine.Refused why.SectionEnd
+machine_in_member of functions zero (suc l) at.Over = machine.Refused why.SectionEnd
+machine_in_member of functions (suc n) (suc l) at.Over = machine.Section of functions n l (member_at_start of)
+machine_in_member of functions zero left q = machine.Refused why.SectionEnd
+machine_in_member of functions (suc n) left q = machine.Section of functions n left q
+
+abbrev pub machine_refused : Why → Machine × Event
+machine_refused w = (machine.Refused w, event.Nothing)
+
+-- the machine after the count of a section's members
+abbrev pub machine_after_count : SectionKind → ℕ → ℕ → ℕ → Machine
+machine_after_count of functions bytes zero = machine_in_member of functions bytes zero at.Over
+machine_after_count of functions bytes (suc n) = machine_in_member of functions bytes n (member_at_start of)
+
+-- the same, where functions member_at_start to await their code, or get it
+abbrev pub machine_after_paired_count : SectionKind → ℕ → ℕ → ℕ → Machine
+machine_after_paired_count section_kind.Function functions bytes n =
+    machine_after_count section_kind.Function n bytes n
+machine_after_paired_count section_kind.Code functions bytes n =
+    if n == functions then machine_after_count section_kind.Code 0 bytes n else machine.Refused why.CodeCount
+machine_after_paired_count of functions bytes n = machine_after_count of functions bytes n
+
+abbrev pub count_more : SectionKind → ℕ → ℕ → Partial → Machine × Event
+count_more of functions zero r = machine_refused why.SectionEnd
+count_more of functions (suc n) r = (machine.Count of functions n r, event.Nothing)
+
+abbrev pub after_count : SectionKind → ℕ → ℕ → Step ℕ × Partial → Machine × Event
+after_count of functions more (More, r) = count_more of functions more r
+after_count of functions more (Done n, r) = (machine_after_paired_count of functions more n, event.Nothing)
+after_count of functions more (Bad, r) = machine_refused why.BadNumber
+
+abbrev pub count_step : SectionKind → ℕ → ℕ → Partial → ℕ → Machine × Event
+count_step of functions more r c = after_count of functions more (unsigned_push 32 r c)
+
+-- data are the last section: no code can come after their id
+abbrev pub begun_section : SectionKind → ℕ → Machine × Event
+begun_section section_kind.Segment (suc n) = machine_refused why.CodeCount
+begun_section of functions = (machine.Size of functions fresh, event.Nothing)
+
+abbrev pub machine_if_rising : ℕ → ℕ → ℕ → Option SectionKind → Machine × Event
+machine_if_rising last functions id None = machine_refused why.SectionId
+machine_if_rising last functions id (Some of) = if nat_le id last then machine_refused why.SectionOrder
+    else begun_section of functions
+
+abbrev pub section_start : ℕ → ℕ → ℕ → Machine × Event
+section_start last functions zero = (machine.CustomSize last functions fresh, event.Nothing)
+section_start last functions (suc m) = machine_if_rising last functions (suc m) (section_kind_of (suc m))
+
+-- the contents of a section of so many bytes
+abbrev pub machine_in_contents : SectionKind → ℕ → ℕ → Machine
+machine_in_contents section_kind.Start functions more =
+    machine.Section section_kind.Start functions more 0 (member_at_start section_kind.Start)
+machine_in_contents of functions more = machine.Count of functions more fresh
+
+abbrev pub after_size : SectionKind → ℕ → ℕ → Machine
+after_size of functions zero = machine.Refused why.SectionEnd
+after_size of functions (suc n) = machine_in_contents of functions n
+
+abbrev pub size_step : SectionKind → ℕ → Partial → ℕ → Machine × Event
+size_step of functions r c =
+    on_number (unsigned_push 32 r c) (λ s. machine.Size of functions s)
+    (λ n. (after_size of functions n, event.Nothing)) machine.Refused
+
+abbrev pub custom_size : ℕ → ℕ → ℕ → Machine
+custom_size last functions n = machine_in_custom last functions n (custom.Length fresh)
+
+abbrev pub custom_size_step : ℕ → ℕ → Partial → ℕ → Machine × Event
+custom_size_step last functions r c =
+    on_number (unsigned_push 32 r c) (λ s. machine.CustomSize last functions s)
+    (λ n. (custom_size last functions n, event.Nothing)) machine.Refused
+
+abbrev pub header_step : ℕ → ℕ → Machine × Event
+header_step n c =
+    if nat_lt n 8
+    then (if c == slice_index header n
+    then (if nat_lt n 7 then (machine.Header (n + 1), event.Nothing)
+    else (machine.Between 0 0, event.Nothing))
+    else (if nat_lt n 4 then machine_refused why.Magic else machine_refused why.Version))
+    else machine_refused why.Version
+
+abbrev pub step_of : Profile → Machine → ℕ → Machine × Event
+step_of p (machine.Header n) c = header_step n c
+step_of p (machine.Between last functions) c = section_start last functions c
+step_of p (machine.CustomSize last functions r) c = custom_size_step last functions r c
+step_of p (machine.Custom last functions more q) c =
+    (machine_in_custom last functions more (custom_step q c).0, (custom_step q c).1)
+step_of p (machine.Size of functions r) c = size_step of functions r c
+step_of p (machine.Count of functions more r) c = count_step of functions more r c
+step_of p (machine.Section of functions more left q) c =
+    (machine_in_member of functions more left (member_step p q c).0, (member_step p q c).1)
+step_of p (machine.Refused w) c = machine_refused w

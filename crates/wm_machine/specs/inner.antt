@@ -1,0 +1,3 @@
+-- What values hold inside. Contracts name these words and say what follows from them: their
+-- bodies need not be believed.
+pub mod Answers

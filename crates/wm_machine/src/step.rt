@@ -1,0 +1,343 @@
+//! What one byte does between sections and to the frame of one.
+
+ghost use Rattle.std.specs.Prelude.{◌≡◌};
+ghost use Rattle.wm_machine.specs.exact.Steps.{custom_length_step, custom_name_step, custom_step};
+ghost use Rattle.wm_machine.specs.exact.Steps.{machine_in_custom, machine_in_member, machine_refused};
+ghost use Rattle.wm_machine.specs.exact.Steps.{section_start, machine_after_count, machine_after_paired_count};
+ghost use Rattle.wm_machine.specs.exact.Steps.{count_step, after_size, size_step, custom_size};
+ghost use Rattle.wm_machine.specs.exact.Steps.{custom_size_step, header_step, step_of};
+
+use crate::machine::member::{InMember, SectionKind};
+use crate::machine::{Event, InCustom, Machine, NameKind};
+use crate::step::members::{begin, member_byte};
+use wm_syntax::numbers::{Num32, Step};
+use wm_syntax::profile::Profile;
+use wm_syntax::why::Why;
+
+pub mod entries;
+pub mod expressions;
+pub mod members;
+pub mod ops;
+pub mod reading;
+pub mod types;
+pub mod values;
+
+fn no_custom(why: Why) -> (InCustom, Event)
+    ensures { result ≡ (InCustom.Failed why, Event.Nothing) }
+{
+    (InCustom::Failed(why), Event::Nothing)
+}
+
+fn name_length(mut number: Num32, byte: u8) -> (InCustom, Event)
+    ensures { result ≡ custom_length_step number byte }
+{
+    match number.push(byte) {
+        Step::More => (InCustom::Length(number), Event::Nothing),
+        Step::Done(0) => (InCustom::Skip, Event::EmptyName(NameKind::Custom)),
+        Step::Done(n) => (InCustom::Name { more: n - 1 }, Event::Nothing),
+        Step::Bad => no_custom(Why::BadNumber),
+    }
+}
+
+fn name_byte(more: u32) -> (InCustom, Event)
+    ensures { result ≡ custom_name_step more }
+{
+    if more == 0 {
+        (InCustom::Skip, Event::EndsName(NameKind::Custom))
+    } else {
+        (InCustom::Name { more: more - 1 }, Event::InName)
+    }
+}
+
+fn custom_byte(part: InCustom, byte: u8) -> (InCustom, Event)
+    ensures { result ≡ custom_step part byte }
+{
+    match part {
+        InCustom::Length(number) => name_length(number, byte),
+        InCustom::Name { more } => name_byte(more),
+        InCustom::Skip => (InCustom::Skip, Event::Nothing),
+        InCustom::Failed(_) => no_custom(Why::SectionEnd),
+    }
+}
+
+fn refused(why: Why) -> (Machine, Event)
+    ensures { result ≡ machine_refused why }
+{
+    (Machine::Refused(why), Event::Nothing)
+}
+
+// The machine in a custom section with so many bytes left
+fn custom_framed(last: u8, functions: u32, left: u32, part: InCustom) -> Machine
+    ensures { result ≡ machine_in_custom last functions left part }
+{
+    match part {
+        InCustom::Failed(why) => Machine::Refused(why),
+        InCustom::Skip if left == 0 => Machine::Between { last, functions },
+        _ if left == 0 => Machine::Refused(Why::SectionEnd),
+        _ => {
+            let more = left - 1;
+            Machine::Custom {
+                last,
+                functions,
+                more,
+                part,
+            }
+        }
+    }
+}
+
+/// The machine at a place in a member, with so many bytes of the section left and so many members after this.
+pub fn framed(of: SectionKind, functions: u32, bytes: u32, left: u32, at: InMember) -> Machine
+    ensures { result ≡ machine_in_member of functions bytes left at }
+{
+    let (left, at) = match at {
+        InMember::Failed(why) => return Machine::Refused(why),
+        InMember::Over if left == 0 && bytes == 0 => {
+            let last = of.id();
+            return Machine::Between { last, functions };
+        }
+        InMember::Over if left == 0 => return Machine::Refused(Why::SectionEnd),
+        InMember::Over => (left - 1, begin(of)),
+        _ => (left, at),
+    };
+    if bytes == 0 {
+        return Machine::Refused(Why::SectionEnd);
+    }
+    let more = bytes - 1;
+    Machine::Section {
+        of,
+        functions,
+        more,
+        left,
+        at,
+    }
+}
+
+// The machine after the count of a section's members
+fn listed(of: SectionKind, functions: u32, bytes: u32, count: u32) -> Machine
+    ensures { result ≡ machine_after_count of functions bytes count }
+{
+    if count == 0 {
+        framed(of, functions, bytes, 0, InMember::Over)
+    } else {
+        framed(of, functions, bytes, count - 1, begin(of))
+    }
+}
+
+/// The same, where functions begin to await their code, or get it.
+pub fn counted(of: SectionKind, functions: u32, bytes: u32, count: u32) -> Machine
+    ensures { result ≡ machine_after_paired_count of functions bytes count }
+{
+    match of {
+        SectionKind::Function => listed(of, count, bytes, count),
+        SectionKind::Code if count == functions => listed(of, 0, bytes, count),
+        SectionKind::Code => Machine::Refused(Why::CodeCount),
+        _ => listed(of, functions, bytes, count),
+    }
+}
+
+fn count(
+    of: SectionKind,
+    functions: u32,
+    more: u32,
+    mut number: Num32,
+    byte: u8,
+) -> (Machine, Event)
+    ensures { result ≡ count_step of functions more number byte }
+{
+    match number.push(byte) {
+        Step::More if more == 0 => refused(Why::SectionEnd),
+        Step::More => {
+            let more = more - 1;
+            (
+                Machine::Count {
+                    of,
+                    functions,
+                    more,
+                    number,
+                },
+                Event::Nothing,
+            )
+        }
+        Step::Done(n) => (counted(of, functions, more, n), Event::Nothing),
+        Step::Bad => refused(Why::BadNumber),
+    }
+}
+
+fn section_start(last: u8, functions: u32, byte: u8) -> (Machine, Event)
+    ensures { result ≡ section_start last functions byte }
+{
+    let number = Num32::new();
+    if byte == 0 {
+        return (
+            Machine::CustomSize {
+                last,
+                functions,
+                number,
+            },
+            Event::Nothing,
+        );
+    }
+    match SectionKind::of(byte) {
+        None => refused(Why::SectionId),
+        Some(_) if byte <= last => refused(Why::SectionOrder),
+        Some(SectionKind::Segment) if functions > 0 => refused(Why::CodeCount),
+        Some(of) => (
+            Machine::Size {
+                of,
+                functions,
+                number,
+            },
+            Event::Nothing,
+        ),
+    }
+}
+
+fn after_size(of: SectionKind, functions: u32, size: u32) -> Machine
+    ensures { result ≡ after_size of functions size }
+{
+    if size == 0 {
+        return Machine::Refused(Why::SectionEnd);
+    }
+    let more = size - 1;
+    match of {
+        SectionKind::Start => {
+            let at = begin(of);
+            Machine::Section {
+                of,
+                functions,
+                more,
+                left: 0,
+                at,
+            }
+        }
+        _ => {
+            let number = Num32::new();
+            Machine::Count {
+                of,
+                functions,
+                more,
+                number,
+            }
+        }
+    }
+}
+
+fn section_size(of: SectionKind, functions: u32, mut number: Num32, byte: u8) -> (Machine, Event)
+    ensures { result ≡ size_step of functions number byte }
+{
+    match number.push(byte) {
+        Step::More => (
+            Machine::Size {
+                of,
+                functions,
+                number,
+            },
+            Event::Nothing,
+        ),
+        Step::Done(n) => (after_size(of, functions, n), Event::Nothing),
+        Step::Bad => refused(Why::BadNumber),
+    }
+}
+
+fn after_custom_size(last: u8, functions: u32, size: u32) -> Machine
+    ensures { result ≡ custom_size last functions size }
+{
+    custom_framed(last, functions, size, InCustom::Length(Num32::new()))
+}
+
+fn custom_size(last: u8, functions: u32, mut number: Num32, byte: u8) -> (Machine, Event)
+    ensures { result ≡ custom_size_step last functions number byte }
+{
+    match number.push(byte) {
+        Step::More => (
+            Machine::CustomSize {
+                last,
+                functions,
+                number,
+            },
+            Event::Nothing,
+        ),
+        Step::Done(n) => (after_custom_size(last, functions, n), Event::Nothing),
+        Step::Bad => refused(Why::BadNumber),
+    }
+}
+
+const HEADER: [u8; 8] = [0x00, 0x61, 0x73, 0x6D, 0x01, 0x00, 0x00, 0x00];
+
+fn in_header(at: u8, byte: u8) -> (Machine, Event)
+    ensures { result ≡ header_step at byte }
+{
+    if at > 7 {
+        return refused(Why::Version);
+    }
+    if byte != HEADER[at as usize] {
+        refused(if at < 4 { Why::Magic } else { Why::Version })
+    } else if at < 7 {
+        (Machine::Header(at + 1), Event::Nothing)
+    } else {
+        let start = Machine::Between {
+            last: 0,
+            functions: 0,
+        };
+        (start, Event::Nothing)
+    }
+}
+
+/// Takes one more byte, and says what it completes. The machine stays in its place: to hand it back is a copy
+/// more.
+#[inline(never)]
+pub fn step(profile: Profile, machine: &mut Machine, byte: u8) -> Event
+    ensures { (machine.new, result) ≡ step_of profile machine.old byte }
+{
+    let (next, event) = stepped(profile, *machine, byte);
+    *machine = next;
+    event
+}
+
+// The machine after one more byte, and what this byte completes
+#[inline(always)]
+fn stepped(profile: Profile, machine: Machine, byte: u8) -> (Machine, Event)
+    ensures { result ≡ step_of profile machine byte }
+{
+    match machine {
+        Machine::Header(at) => in_header(at, byte),
+        Machine::Between { last, functions } => section_start(last, functions, byte),
+        Machine::CustomSize {
+            last,
+            functions,
+            number,
+        } => custom_size(last, functions, number, byte),
+        Machine::Custom {
+            last,
+            functions,
+            more,
+            part,
+        } => {
+            let (part, event) = custom_byte(part, byte);
+            (custom_framed(last, functions, more, part), event)
+        }
+        Machine::Size {
+            of,
+            functions,
+            number,
+        } => section_size(of, functions, number, byte),
+        Machine::Count {
+            of,
+            functions,
+            more,
+            number,
+        } => count(of, functions, more, number, byte),
+        Machine::Section {
+            of,
+            functions,
+            more,
+            left,
+            at,
+        } => {
+            let (at, event) = member_byte(profile, at, byte);
+            (framed(of, functions, more, left, at), event)
+        }
+        Machine::Refused(why) => refused(why),
+    }
+}

@@ -1,0 +1,353 @@
+//! One op (section 5.4), byte by byte. The labels of a br_table are not read here.
+
+ghost use Rattle.std.specs.Prelude.{◌≡◌};
+ghost use Rattle.wm_syntax.specs.exact.ByteTable.{class_under};
+ghost use Rattle.wm_machine.specs.exact.OpSteps.{access_op, align_step, block_op, block_step, call_type_step};
+ghost use Rattle.wm_machine.specs.exact.OpSteps.{closing_step, const_32_step, const_64_step, first_step};
+ghost use Rattle.wm_machine.specs.exact.OpSteps.{float_32_step, float_64_step, pushed_32, pushed_64};
+ghost use Rattle.wm_machine.specs.exact.OpSteps.{fresh_access, fresh_index, immediates, index_op};
+ghost use Rattle.wm_machine.specs.exact.OpSteps.{op_index_step, memory_op, offset_step, op_push};
+
+use crate::step::reading::Reading;
+use crate::step::values::value_type;
+use wm_syntax::instructions::op_class::{Immediates, OpClass};
+use wm_syntax::instructions::opcodes::op_of;
+use wm_syntax::instructions::{LoadOp, MemArg, Op, Simple, StoreOp};
+use wm_syntax::numbers::{Int32, Int64, Num32, Step};
+use wm_syntax::profile::Profile;
+use wm_syntax::types::ValType;
+use wm_syntax::why::Why;
+
+/// An op that opens a list of instructions.
+#[derive(Clone, Copy)]
+pub enum Opening {
+    Block,
+    Loop,
+    If,
+}
+
+impl Opening {
+    #[inline(always)]
+    pub fn op(self, ty: Option<ValType>) -> Op
+        ensures { result ≡ block_op self ty }
+    {
+        match self {
+            Opening::Block => Op::Block(ty),
+            Opening::Loop => Op::Loop(ty),
+            Opening::If => Op::If(ty),
+        }
+    }
+}
+
+/// An op whose only immediate is an index, or how many labels follow it.
+#[derive(Clone, Copy)]
+pub enum Indexed {
+    Br,
+    BrIf,
+    BrTable,
+    Call,
+    LocalGet,
+    LocalSet,
+    LocalTee,
+    GlobalGet,
+    GlobalSet,
+}
+
+impl Indexed {
+    #[inline(always)]
+    pub fn op(self, index: u32) -> Op
+        ensures { result ≡ index_op self index }
+    {
+        match self {
+            Indexed::Br => Op::Simple(Simple::Br(index)),
+            Indexed::BrIf => Op::Simple(Simple::BrIf(index)),
+            Indexed::BrTable => Op::BrTable(index),
+            Indexed::Call => Op::Simple(Simple::Call(index)),
+            Indexed::LocalGet => Op::Simple(Simple::LocalGet(index)),
+            Indexed::LocalSet => Op::Simple(Simple::LocalSet(index)),
+            Indexed::LocalTee => Op::Simple(Simple::LocalTee(index)),
+            Indexed::GlobalGet => Op::Simple(Simple::GlobalGet(index)),
+            Indexed::GlobalSet => Op::Simple(Simple::GlobalSet(index)),
+        }
+    }
+}
+
+/// An op on the size of the memory.
+#[derive(Clone, Copy)]
+pub enum Sizing {
+    Size,
+    Grow,
+}
+
+impl Sizing {
+    #[inline(always)]
+    pub fn op(self) -> Op
+        ensures { result ≡ memory_op self }
+    {
+        match self {
+            Sizing::Size => Op::Simple(Simple::MemorySize),
+            Sizing::Grow => Op::Simple(Simple::MemoryGrow),
+        }
+    }
+}
+
+/// An op that reads or writes the memory.
+#[derive(Clone, Copy)]
+pub enum LoadOrStore {
+    Load(LoadOp),
+    Store(StoreOp),
+}
+
+impl LoadOrStore {
+    #[inline(always)]
+    pub fn op(self, at: MemArg) -> Op
+        ensures { result ≡ access_op self at }
+    {
+        match self {
+            LoadOrStore::Load(op) => Op::Simple(Simple::Load(op, at)),
+            LoadOrStore::Store(op) => Op::Simple(Simple::Store(op, at)),
+        }
+    }
+}
+
+/// Where in an op the next byte stands.
+#[derive(Clone, Copy)]
+pub enum InOp {
+    /// Before its first byte.
+    First,
+    BlockType(Opening),
+    Index {
+        op: Indexed,
+        number: Num32,
+    },
+    /// In the type of an indirect call.
+    CallType(Num32),
+    /// Before the byte 00 that ends one.
+    CallTable {
+        ty: u32,
+    },
+    /// Before the byte 00 that ends an op on the memory's size.
+    Memory(Sizing),
+    Const32(Int32),
+    Const64(Int64),
+    /// In the bytes of a float, with so many after the next. Those so far are the highest of its bits.
+    Float32 {
+        left: u8,
+        bits: u32,
+    },
+    Float64 {
+        left: u8,
+        bits: u64,
+    },
+    Align {
+        op: LoadOrStore,
+        number: Num32,
+    },
+    Offset {
+        op: LoadOrStore,
+        align: u32,
+        number: Num32,
+    },
+}
+
+fn before_index(op: Indexed) -> InOp
+    ensures { result ≡ fresh_index op }
+{
+    let number = Num32::new();
+    InOp::Index { op, number }
+}
+
+fn before_access(op: LoadOrStore) -> InOp
+    ensures { result ≡ fresh_access op }
+{
+    let number = Num32::new();
+    InOp::Align { op, number }
+}
+
+// Where the immediates of an op begin
+fn immediates(kind: Immediates) -> InOp
+    ensures { result ≡ immediates kind }
+{
+    match kind {
+        Immediates::Block => InOp::BlockType(Opening::Block),
+        Immediates::Loop => InOp::BlockType(Opening::Loop),
+        Immediates::If => InOp::BlockType(Opening::If),
+        Immediates::Br => before_index(Indexed::Br),
+        Immediates::BrIf => before_index(Indexed::BrIf),
+        Immediates::BrTable => before_index(Indexed::BrTable),
+        Immediates::Call => before_index(Indexed::Call),
+        Immediates::CallIndirect => InOp::CallType(Num32::new()),
+        Immediates::LocalGet => before_index(Indexed::LocalGet),
+        Immediates::LocalSet => before_index(Indexed::LocalSet),
+        Immediates::LocalTee => before_index(Indexed::LocalTee),
+        Immediates::GlobalGet => before_index(Indexed::GlobalGet),
+        Immediates::GlobalSet => before_index(Indexed::GlobalSet),
+        Immediates::MemorySize => InOp::Memory(Sizing::Size),
+        Immediates::MemoryGrow => InOp::Memory(Sizing::Grow),
+        Immediates::I32Const => InOp::Const32(Int32::new()),
+        Immediates::I64Const => InOp::Const64(Int64::new()),
+        Immediates::F32Const => InOp::Float32 { left: 3, bits: 0 },
+        Immediates::F64Const => InOp::Float64 { left: 7, bits: 0 },
+        Immediates::Load(op) => before_access(LoadOrStore::Load(op)),
+        Immediates::Store(op) => before_access(LoadOrStore::Store(op)),
+    }
+}
+
+fn first(profile: Profile, byte: u8) -> Reading<InOp, Op>
+    ensures { result ≡ first_step (class_under profile byte) }
+{
+    match op_of(profile, byte) {
+        OpClass::Plain(op) => Reading::Done(op),
+        OpClass::With(kind) => Reading::More(immediates(kind)),
+        OpClass::Float => Reading::Bad(Why::Float),
+        OpClass::None => Reading::Bad(Why::BadOpcode),
+    }
+}
+
+fn block_type(profile: Profile, op: Opening, byte: u8) -> Reading<InOp, Op>
+    ensures { result ≡ block_step profile op byte }
+{
+    if byte == 0x40 {
+        return Reading::Done(op.op(None));
+    }
+    match value_type(profile, byte) {
+        Ok(ty) => Reading::Done(op.op(Some(ty))),
+        Err(why) => Reading::Bad(why),
+    }
+}
+
+fn index(op: Indexed, mut number: Num32, byte: u8) -> Reading<InOp, Op>
+    ensures { result ≡ op_index_step op number byte }
+{
+    match number.push(byte) {
+        Step::More => Reading::More(InOp::Index { op, number }),
+        Step::Done(n) => Reading::Done(op.op(n)),
+        Step::Bad => Reading::Bad(Why::BadNumber),
+    }
+}
+
+fn call_type(mut number: Num32, byte: u8) -> Reading<InOp, Op>
+    ensures { result ≡ call_type_step number byte }
+{
+    match number.push(byte) {
+        Step::More => Reading::More(InOp::CallType(number)),
+        Step::Done(ty) => Reading::More(InOp::CallTable { ty }),
+        Step::Bad => Reading::Bad(Why::BadNumber),
+    }
+}
+
+// An op that ends with the byte 00
+fn closing(op: Op, byte: u8) -> Reading<InOp, Op>
+    ensures { result ≡ closing_step op byte }
+{
+    match byte {
+        0x00 => Reading::Done(op),
+        _ => Reading::Bad(Why::BadByte),
+    }
+}
+
+fn const_32(mut number: Int32, byte: u8) -> Reading<InOp, Op>
+    ensures { result ≡ const_32_step number byte }
+{
+    match number.push(byte) {
+        Step::More => Reading::More(InOp::Const32(number)),
+        Step::Done(z) => Reading::Done(Op::Simple(Simple::I32Const(z))),
+        Step::Bad => Reading::Bad(Why::BadNumber),
+    }
+}
+
+fn const_64(mut number: Int64, byte: u8) -> Reading<InOp, Op>
+    ensures { result ≡ const_64_step number byte }
+{
+    match number.push(byte) {
+        Step::More => Reading::More(InOp::Const64(number)),
+        Step::Done(z) => Reading::Done(Op::Simple(Simple::I64Const(z))),
+        Step::Bad => Reading::Bad(Why::BadNumber),
+    }
+}
+
+/// The bits of a float so far after one more byte, which takes the highest place: each byte moves those
+/// before it down by one.
+#[inline(always)]
+pub fn push_32(bits: u32, byte: u8) -> u32
+    ensures { result ≡ pushed_32 bits byte }
+{
+    bits / 0x100 + u32::from(byte) * 0x100_0000
+}
+
+#[inline(always)]
+pub fn push_64(bits: u64, byte: u8) -> u64
+    ensures { result ≡ pushed_64 bits byte }
+{
+    bits / 0x100 + u64::from(byte) * 0x100_0000_0000_0000
+}
+
+fn float_32(left: u8, bits: u32, byte: u8) -> Reading<InOp, Op>
+    ensures { result ≡ float_32_step left bits byte }
+{
+    let bits = push_32(bits, byte);
+    if left == 0 {
+        Reading::Done(Op::Simple(Simple::F32Const(bits)))
+    } else {
+        let left = left - 1;
+        Reading::More(InOp::Float32 { left, bits })
+    }
+}
+
+fn float_64(left: u8, bits: u64, byte: u8) -> Reading<InOp, Op>
+    ensures { result ≡ float_64_step left bits byte }
+{
+    let bits = push_64(bits, byte);
+    if left == 0 {
+        Reading::Done(Op::Simple(Simple::F64Const(bits)))
+    } else {
+        let left = left - 1;
+        Reading::More(InOp::Float64 { left, bits })
+    }
+}
+
+fn align(op: LoadOrStore, mut number: Num32, byte: u8) -> Reading<InOp, Op>
+    ensures { result ≡ align_step op number byte }
+{
+    match number.push(byte) {
+        Step::More => Reading::More(InOp::Align { op, number }),
+        Step::Done(align) => Reading::More(InOp::Offset {
+            op,
+            align,
+            number: Num32::new(),
+        }),
+        Step::Bad => Reading::Bad(Why::BadNumber),
+    }
+}
+
+fn offset(op: LoadOrStore, align: u32, mut number: Num32, byte: u8) -> Reading<InOp, Op>
+    ensures { result ≡ offset_step op align number byte }
+{
+    match number.push(byte) {
+        Step::More => Reading::More(InOp::Offset { op, align, number }),
+        Step::Done(offset) => Reading::Done(op.op(MemArg { align, offset })),
+        Step::Bad => Reading::Bad(Why::BadNumber),
+    }
+}
+
+impl InOp {
+    /// What one more byte makes of the op.
+    pub fn push(self, profile: Profile, byte: u8) -> Reading<InOp, Op>
+        ensures { result ≡ op_push profile self byte }
+    {
+        match self {
+            InOp::First => first(profile, byte),
+            InOp::BlockType(op) => block_type(profile, op, byte),
+            InOp::Index { op, number } => index(op, number, byte),
+            InOp::CallType(number) => call_type(number, byte),
+            InOp::CallTable { ty } => closing(Op::Simple(Simple::CallIndirect(ty)), byte),
+            InOp::Memory(op) => closing(op.op(), byte),
+            InOp::Const32(number) => const_32(number, byte),
+            InOp::Const64(number) => const_64(number, byte),
+            InOp::Float32 { left, bits } => float_32(left, bits, byte),
+            InOp::Float64 { left, bits } => float_64(left, bits, byte),
+            InOp::Align { op, number } => align(op, number, byte),
+            InOp::Offset { op, align, number } => offset(op, align, number, byte),
+        }
+    }
+}
