@@ -17,8 +17,7 @@ import tempfile
 TOP = pathlib.Path(__file__).resolve().parent.parent
 PAGE = TOP / "docs/EDITS.md"
 # so many at most stand in the must-fail/ of a crate, since the gate's time is mostly theirs
-MOST = {"wm_syntax": 18, "wm_rules": 13}
-MOST_ELSEWHERE = 12
+MOST = 12
 # what says that the contract refused nothing, or less than it should
 IS_FAULT = re.compile(r"^(rt: )?must-fail .*(NOT REFUSED|NOT TRIED|BAD EDIT|only because|only by a limit)")
 
@@ -66,12 +65,12 @@ def can_be_tried():
     faults, count = [], 0
     rows = dict(re.findall(r"(?ms)^## `(\w+)`$(.*?)(?=^## |\Z)", PAGE.read_text(encoding="utf-8")))
     for crate in sorted((TOP / "crates").iterdir()):
-        files, most = edits_of(crate), MOST.get(crate.name, MOST_ELSEWHERE)
+        files = edits_of(crate)
         count += len(files)
         faults += [fault for file in files.values() for fault in faults_of(crate, file)]
         of_the_gate = [name for name, file in files.items() if file.parent.name == "must-fail"]
-        if len(of_the_gate) > most:
-            faults.append(f"{crate.name}: {len(of_the_gate)} edits in must-fail/, where at most {most} are to stand")
+        if len(of_the_gate) > MOST:
+            faults.append(f"{crate.name}: {len(of_the_gate)} edits in must-fail/, where at most {MOST} are to stand")
         if sorted(of_the_gate) != sorted(re.findall(r"(?m)^\| `(\w+)` \|", rows.get(crate.name, ""))):
             faults.append(f"{crate.name}: other edits in must-fail/ than rows in {PAGE.name}")
     print(*faults, f"edits: {count}, faults: {len(faults)}", sep="\n")
