@@ -7,6 +7,7 @@ mod build;
 pub mod complaint;
 pub mod execute;
 pub mod explain;
+pub mod laws;
 pub mod line;
 mod refusals;
 pub mod run;

@@ -4,8 +4,8 @@ use Rattle.wm_syntax.specs.declared.instructions.Op.{Op}
 use Rattle.wm_syntax.specs.declared.profile.Profile.{Profile}
 use Rattle.wm_tokens.specs.Tokens.{Token, open_paren, close_paren, string, atom}
 use Rattle.wm_tokens.proofs.Basics.{same_some, same_tail}
-use Rattle.wm_read.specs.Identifiers.{Id, WritesId}
-use Rattle.wm_read.specs.Written.{Scope, UnnamedTypeUse}
+use Rattle.wm_tokens.specs.Identifiers.{Id, WritesId}
+use Rattle.wm_tokens.specs.Written.{Scope, UnnamedTypeUse}
 use Rattle.wm_read.specs.inner.Pieces.{Opened, Piece, plain, jump, opens, middle, closes, after, piece_ops, pieces_ops, WritesPiece, WritesPieces, WritesOps}
 use Rattle.wm_read.specs.exact.Reading.{Reader, ◌>>=◌, piece_at, ops_within, ops_at}
 use Rattle.wm_read.proofs.Readers.{Sound, bind_ok, bind_is, BeginsClose}

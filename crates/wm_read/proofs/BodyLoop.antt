@@ -11,7 +11,7 @@ use Rattle.wm_read.specs.inner.Bodies.{CanTake, IsOver}
 use Rattle.wm_syntax.specs.Instructions.{Instructions}
 use Rattle.wm_syntax.specs.inner.Building.{Place, at, start, place_after, if_placed, body_at, body_in}
 use Rattle.wm_syntax.proofs.Places.{after_append}
-use Rattle.wm_read.specs.Written.{Scope}
+use Rattle.wm_tokens.specs.Written.{Scope}
 use Rattle.wm_read.specs.inner.Pieces.{Open, Opened, Piece, after, piece_ops}
 use Rattle.wm_read.specs.exact.Reading.{Reader, ◌>>=◌, piece_at, ops_at}
 use Rattle.wm_tokens.proofs.Basics.{same_some}

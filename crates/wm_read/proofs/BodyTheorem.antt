@@ -7,14 +7,14 @@ use Rattle.wm_syntax.specs.Profiles.{HasInstructions}
 use Rattle.wm_syntax.specs.inner.Building.{body_in, tree_of}
 use Rattle.wm_syntax.proofs.Places.{leads}
 use Rattle.wm_tokens.specs.Tokens.{Token, open_paren, close_paren, string, atom}
-use Rattle.wm_read.specs.Fields.{HasDistinct}
+use Rattle.wm_tokens.specs.Fields.{HasDistinct}
 use Rattle.wm_tokens.proofs.Basics.{same_some}
-use Rattle.wm_read.specs.Written.{Scope, UnnamedTypeUse, WritesInstructions}
+use Rattle.wm_tokens.specs.Written.{Scope, UnnamedTypeUse, WritesInstructions}
 use Rattle.wm_read.specs.exact.Reading.{Reader, ops_at}
 use Rattle.wm_read.proofs.Readers.{BeginsClose, Sound, bind_ok, made_is}
 use Rattle.wm_read.proofs.PieceLaws.{IsScope, ReadsUse}
 use Rattle.wm_read.proofs.BodyLaws.{ops_sound, ops_complete}
-use Rattle.wm_read.specs.Identifiers.{AreDistinct}
+use Rattle.wm_tokens.specs.Identifiers.{AreDistinct}
 use Rattle.wm_read.specs.exact.TypeUses.{instructions_at, call_use_at as type_use_at}
 use Rattle.wm_read.proofs.TypeUseLaws.{KnowsTypes, call_sound, reads_use}
 use Rattle.wm_read.proofs.Trees.{body_flat}

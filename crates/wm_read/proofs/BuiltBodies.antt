@@ -8,7 +8,7 @@ use Rattle.wm_syntax.specs.Instructions.{Instructions, none, snoc, simple, table
 use Rattle.wm_syntax.specs.inner.Building.{Open, in_block, in_loop, in_first, in_second, Place, at, labels, place_after, placed, if_placed}
 use Rattle.wm_syntax.proofs.Places.{after_append}
 use Rattle.wm_tokens.specs.Tokens.{Token}
-use Rattle.wm_read.specs.Written.{Scope}
+use Rattle.wm_tokens.specs.Written.{Scope}
 use Rattle.wm_read.specs.declared.code.blocks.Opening.TheVariants.{Block, Loop, If}
 use Rattle.wm_read.specs.inner.Bodies.{CanTake, is_first, IsOver}
 use Rattle.wm_read.specs.inner.Pieces.{Opened, Piece, plain, jump, opens, middle, closes, after, piece_ops, WritesPiece}

@@ -4,7 +4,7 @@ use Rattle.std.specs.Prelude.{is_none, slice_get}
 use Rattle.std.proofs.lemmas.Bool.{and_from, and_parts}
 use Rattle.std.proofs.lemmas.List.{append-nil}
 use Rattle.std.proofs.lemmas.Option.{slice_get_within}
-use Rattle.wm_read.specs.Identifiers.{Id, Ids, AreDistinct}
+use Rattle.wm_tokens.specs.Identifiers.{Id, Ids, AreDistinct}
 use Rattle.wm_read.specs.exact.Reading.{place_of}
 use Rattle.wm_read.specs.exact.Fields.{all_new}
 use Rattle.wm_tokens.proofs.Basics.{same_some}

@@ -7,7 +7,7 @@ use Rattle.wm_syntax.specs.declared.instructions.LoadOp.TheVariants as l
 use Rattle.wm_syntax.specs.declared.instructions.StoreOp.{StoreOp}
 use Rattle.wm_syntax.specs.declared.instructions.StoreOp.TheVariants as s
 use Rattle.wm_tokens.specs.Tokens.{Token, open_paren, close_paren, string, atom}
-use Rattle.wm_read.specs.Identifiers.{Id, Ids}
+use Rattle.wm_tokens.specs.Identifiers.{Id, Ids}
 use Rattle.wm_read.specs.exact.Fields.{is_new}
 use Rattle.wm_read.specs.exact.Reading.{open_at, atom_at, word_of, index_of, paren_at, id_at, key_at, exponent_of}
 use Rattle.wm_tokens.specs.exact.Scan.{lexed}

@@ -16,9 +16,9 @@ use Rattle.wm_syntax.proofs.ProfileLaws.{all_append}
 use Rattle.wm_tokens.specs.Tokens.{Token, open_paren, close_paren, string, atom, Blank, LastSpace, AreTokens}
 use Rattle.wm_tokens.specs.TokenFaults.{IsAmong, LeadsTo, FirstFault}
 use Rattle.wm_tokens.specs.TokenFaults as lead
-use Rattle.wm_read.specs.Identifiers.{Id, WritesId, Resolves}
-use Rattle.wm_read.specs.Written.{Paren, WritesGroups, WritesResults, Names, Scope, TypeUse, WritesInstructions, ids_of}
-use Rattle.wm_read.specs.Fields.{Field, type_field, import_field, function_field, table_field, memory_field, global_field, export_field, start_field, element_field, segment_field, WritesName, WritesSignature, WritesLimits, WritesTableType, WritesGlobalType, WritesConst, WritesDesc, WritesExport, WritesOffset, WritesStrings, WritesField, Writes, function_of, global_of, element_of, segment_of, names_of}
+use Rattle.wm_tokens.specs.Identifiers.{Id, WritesId, Resolves}
+use Rattle.wm_tokens.specs.Written.{Paren, WritesGroups, WritesResults, Names, Scope, TypeUse, WritesInstructions, ids_of}
+use Rattle.wm_tokens.specs.Fields.{Field, type_field, import_field, function_field, table_field, memory_field, global_field, export_field, start_field, element_field, segment_field, WritesName, WritesSignature, WritesLimits, WritesTableType, WritesGlobalType, WritesConst, WritesDesc, WritesExport, WritesOffset, WritesStrings, WritesField, Writes, function_of, global_of, element_of, segment_of, names_of}
 use Rattle.wm_read.specs.Spellings.{IsTextOf, replaced}
 use Rattle.wm_tokens.specs.declared.faults.TextWhy.{TextWhy}
 use Rattle.wm_read.specs.declared.spellings.Spellings.{Spellings}

@@ -10,9 +10,9 @@ use Rattle.wm_syntax.specs.Modules.{Function}
 use Rattle.wm_syntax.specs.Profiles.{HasConst, HasDesc, HasFunction, HasGlobal, HasSignature, IsOf}
 use Rattle.wm_syntax.specs.Types.{Signature}
 use Rattle.wm_tokens.specs.Tokens.{Token, open_paren, close_paren, string, atom}
-use Rattle.wm_read.specs.Identifiers.{WritesId, Resolves}
-use Rattle.wm_read.specs.Written.{Names, Paren}
-use Rattle.wm_read.specs.Fields.{Field, type_field, import_field, function_field, table_field, memory_field, global_field, export_field, start_field, element_field, segment_field, HasDistinct, WritesExport, WritesField, WritesLimits, WritesName, WritesStrings, WritesTableType, module_of}
+use Rattle.wm_tokens.specs.Identifiers.{WritesId, Resolves}
+use Rattle.wm_tokens.specs.Written.{Names, Paren}
+use Rattle.wm_tokens.specs.Fields.{Field, type_field, import_field, function_field, table_field, memory_field, global_field, export_field, start_field, element_field, segment_field, HasDistinct, WritesExport, WritesField, WritesLimits, WritesName, WritesStrings, WritesTableType, module_of}
 use Rattle.wm_read.specs.declared.fields.words.FieldKind.{FieldKind}
 use Rattle.wm_read.specs.declared.fields.words.FieldKind.TheVariants as kind
 use Rattle.wm_read.specs.exact.Reading.{atom_at, id_at, index_of, labels_at, then_at}

@@ -26,9 +26,9 @@ use Rattle.wm_syntax.specs.exact.NameTable.{class_named}
 use Rattle.wm_syntax.specs.Modules.{constant}
 use Rattle.wm_syntax.specs.Profiles.{HasConst, HasDesc}
 use Rattle.wm_tokens.specs.Tokens.{Token, open_paren, close_paren, string, atom}
-use Rattle.wm_read.specs.Identifiers.{Id, Ids, AreDistinct, WritesId, Resolves, ResolvesLabel}
-use Rattle.wm_read.specs.Written.{Named, Names, Scope, Paren, TypeUse}
-use Rattle.wm_read.specs.Fields.{HasDistinct, WritesConst, WritesDesc, WritesExport, WritesGlobalType, WritesLimits, WritesName, WritesOffset, WritesStrings, WritesTableType}
+use Rattle.wm_tokens.specs.Identifiers.{Id, Ids, AreDistinct, WritesId, Resolves, ResolvesLabel}
+use Rattle.wm_tokens.specs.Written.{Named, Names, Scope, Paren, TypeUse}
+use Rattle.wm_tokens.specs.Fields.{HasDistinct, WritesConst, WritesDesc, WritesExport, WritesGlobalType, WritesLimits, WritesName, WritesOffset, WritesStrings, WritesTableType}
 use Rattle.wm_read.specs.inner.Pieces.{Piece, plain}
 use Rattle.wm_read.specs.exact.Reading.{Reader, ◌>>=◌, made, close_at, atom_at, then_at, paren_at, id_at, index_of, integer_of, labels_at, class_at, kind_at, piece_at, same_bytes}
 use Rattle.wm_read.specs.exact.TypeUses.{call_use_at}

@@ -8,9 +8,9 @@ use Rattle.wm_syntax.specs.declared.types.ValType.{ValType}
 use Rattle.wm_syntax.specs.declared.profile.Profile.{Profile}
 use Rattle.wm_syntax.specs.Profiles.{HasType}
 use Rattle.wm_tokens.specs.Tokens.{Token, open_paren, close_paren, string, atom, IsUnsigned}
-use Rattle.wm_read.specs.Fields.{WritesGlobalType, WritesLimits, WritesMax, WritesTableType}
+use Rattle.wm_tokens.specs.Fields.{WritesGlobalType, WritesLimits, WritesMax, WritesTableType}
 use Rattle.wm_syntax.specs.Types.{type_text}
-use Rattle.wm_read.specs.Written.{UnsignedNumber, Paren, Keyword}
+use Rattle.wm_tokens.specs.Written.{UnsignedNumber, Paren, Keyword}
 use Rattle.wm_read.specs.exact.FieldTypes.{const_type, global_type_at, limits_at, limits_of, max_at, table_type_at, var_type}
 use Rattle.wm_read.specs.exact.Reading.{◌>>=◌, atom_at, is_id, is_word, paren_at, then_at, type_of, unsigned_of, word_of}
 use Rattle.wm_tokens.proofs.Basics.{chosen, same_some}

@@ -6,7 +6,7 @@ use Rattle.wm_floats.specs.FloatText.{IsFloat}
 use Rattle.wm_floats.specs.exact.Atoms.{float_of}
 use Rattle.wm_floats.proofs.Ranges.{float_small}
 use Rattle.wm_floats.proofs.Written.{float_found, float_more}
-use Rattle.wm_read.specs.Written.{WritesFloat}
+use Rattle.wm_tokens.specs.Written.{WritesFloat}
 use Rattle.wm_read.specs.exact.Reading.{atom_at}
 use Rattle.wm_read.proofs.Readers.{Sound, Complete, Any, atom_sound, atom_complete}
 

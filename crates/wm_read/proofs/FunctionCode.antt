@@ -8,8 +8,8 @@ use Rattle.wm_syntax.specs.declared.profile.Profile.{Profile}
 use Rattle.wm_syntax.specs.Instructions.{Instructions}
 use Rattle.wm_syntax.specs.Modules.{Function}
 use Rattle.wm_tokens.specs.Tokens.{Token, open_paren, close_paren, string, atom}
-use Rattle.wm_read.specs.Identifiers.{Id, Ids}
-use Rattle.wm_read.specs.Written.{Named, Names, Scope, ids_of, types_of}
+use Rattle.wm_tokens.specs.Identifiers.{Id, Ids}
+use Rattle.wm_tokens.specs.Written.{Named, Names, Scope, ids_of, types_of}
 use Rattle.wm_tokens.specs.declared.faults.TextWhy.{TextWhy}
 use Rattle.wm_tokens.specs.declared.faults.TextWhy.TheVariants as why
 use Rattle.wm_read.specs.declared.code.named.NamedRun.{NamedRun}

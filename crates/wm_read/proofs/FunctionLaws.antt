@@ -9,9 +9,9 @@ use Rattle.wm_syntax.specs.Instructions.{Instructions}
 use Rattle.wm_syntax.specs.Modules.{Function}
 use Rattle.wm_syntax.specs.Profiles.{HasFunction, HasInstructions}
 use Rattle.wm_tokens.specs.Tokens.{Token, open_paren, close_paren, string, atom}
-use Rattle.wm_read.specs.Identifiers.{AreDistinct}
-use Rattle.wm_read.specs.Written.{Named, Names, Scope, TypeUse, WritesGroup, WritesGroups, WritesInstructions, ids_of, types_of}
-use Rattle.wm_read.specs.Fields.{HasDistinct}
+use Rattle.wm_tokens.specs.Identifiers.{AreDistinct}
+use Rattle.wm_tokens.specs.Written.{Named, Names, Scope, TypeUse, WritesGroup, WritesGroups, WritesInstructions, ids_of, types_of}
+use Rattle.wm_tokens.specs.Fields.{HasDistinct}
 use Rattle.wm_read.specs.inner.Pieces.{Piece, WritesPieces}
 use Rattle.wm_read.specs.exact.Reading.{Reader, then_at}
 use Rattle.wm_read.specs.exact.TypeUses.{instructions_at, named_at}

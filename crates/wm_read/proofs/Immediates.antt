@@ -13,9 +13,9 @@ use Rattle.wm_tokens.specs.Tokens.{Token, open_paren, close_paren, string, atom,
 use Rattle.wm_tokens.specs.exact.Scan.{magnitude_of}
 use Rattle.wm_tokens.proofs.Basics.{chosen, same_some, same_head}
 use Rattle.wm_tokens.proofs.Atoms.{magnitude_more, magnitude_found}
-use Rattle.wm_read.specs.Identifiers.{Id, Ids, WritesId, IsLabel, ResolvesLabel}
+use Rattle.wm_tokens.specs.Identifiers.{Id, Ids, WritesId, IsLabel, ResolvesLabel}
 use Rattle.wm_syntax.specs.Types.{type_text}
-use Rattle.wm_read.specs.Written.{Paren, WritesType, WritesBlockType, WritesInteger, WritesKey, WritesAccess, Closes}
+use Rattle.wm_tokens.specs.Written.{Paren, WritesType, WritesBlockType, WritesInteger, WritesKey, WritesAccess, Closes}
 use Rattle.wm_read.specs.exact.Reading.{◌>>=◌, same_bytes, atom_at, unsigned_of, plain_of, plus_of, minus_of, integer_of, type_named, type_of, is_id, is_word, id_at, index_of, made, then_at, paren_at, block_type_at, again_at, is_same_id, after_key, key_by, key_at, exponent_below, exponent_of, align_at, memarg, access_at, begins_index, labels_at}
 use Rattle.wm_read.proofs.Readers.{Sound, Complete, Any, Both, bind_ok, bind_is, same_is, is_same, atom_sound, atom_complete, then_sound, then_complete, paren_sound, paren_complete, made_sound, made_is}
 use Rattle.wm_read.proofs.Indices.{id_is, is_identifier, unsigned_found, unsigned_more, label_found, label_more}

@@ -6,7 +6,7 @@ use Rattle.wm_tokens.specs.Tokens.{IsUnsigned, IsIdentifier}
 use Rattle.wm_tokens.specs.exact.Scan.{magnitude_of}
 use Rattle.wm_tokens.proofs.Basics.{chosen, same_some}
 use Rattle.wm_tokens.proofs.Atoms.{magnitude_more, magnitude_found}
-use Rattle.wm_read.specs.Identifiers.{Id, Ids, AreDistinct, IsIndex, IsLabel, Resolves, ResolvesLabel}
+use Rattle.wm_tokens.specs.Identifiers.{Id, Ids, AreDistinct, IsIndex, IsLabel, Resolves, ResolvesLabel}
 use Rattle.wm_read.specs.exact.Reading.{same_bytes, atom_at, unsigned_of, is_id, place_of, index_of}
 use Rattle.wm_read.proofs.Readers.{Sound, Complete, Any, bind_ok, bind_is, same_is, is_same, atom_sound, atom_complete}
 

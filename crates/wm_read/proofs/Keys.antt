@@ -7,7 +7,7 @@ use Rattle.wm_tokens.specs.exact.Scan.{after_spaces, ahead, first, atom_in, is_a
 use Rattle.wm_read.specs.exact.Reading.{key_at, key_by, is_id, id_at, again_at, block_type_at}
 use Rattle.wm_tokens.specs.declared.scan.Class.TheVariants as k
 use Rattle.wm_read.specs.inner.Firsts.{BeginsWord}
-use Rattle.wm_read.specs.Identifiers.{Id}
+use Rattle.wm_tokens.specs.Identifiers.{Id}
 use Rattle.wm_syntax.specs.declared.profile.Profile.{Profile}
 use Rattle.wm_tokens.proofs.Atoms.{kind_more}
 use Rattle.wm_tokens.proofs.Ahead.{ahead_is, class_atom}

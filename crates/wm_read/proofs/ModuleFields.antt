@@ -11,9 +11,9 @@ use Rattle.wm_syntax.specs.declared.instructions.Op.{Op}
 use Rattle.wm_syntax.specs.declared.profile.Profile.{Profile}
 use Rattle.wm_syntax.specs.inner.Building.{tree_of}
 use Rattle.wm_tokens.specs.Tokens.{Token, open_paren, close_paren, string, atom}
-use Rattle.wm_read.specs.Written.{Named, Names, Scope, ids_of, types_of}
+use Rattle.wm_tokens.specs.Written.{Named, Names, Scope, ids_of, types_of}
 use Rattle.std.specs.Prelude.{codes}
-use Rattle.wm_read.specs.Fields.{Field, type_field, import_field, function_field, table_field, memory_field, global_field, export_field, start_field, element_field, segment_field, module_of}
+use Rattle.wm_tokens.specs.Fields.{Field, type_field, import_field, function_field, table_field, memory_field, global_field, export_field, start_field, element_field, segment_field, module_of}
 use Rattle.wm_read.specs.declared.fields.words.FieldKind.{FieldKind}
 use Rattle.wm_read.specs.inner.Fields.{head_at, or, with_field}
 use Rattle.wm_read.specs.inner.Pieces.{Opened, after, piece_ops}
@@ -21,7 +21,7 @@ use Rattle.wm_read.specs.exact.Reading.{◌>>=◌, made, many_at, ops_at, ops_wi
 use Rattle.wm_read.specs.exact.TypeUses.{begins_open, call_use_at, instructions_at, named_at}
 use Rattle.wm_read.specs.exact.NamedUses.{named_use_at}
 use Rattle.wm_read.specs.exact.Fields.{field_at, field_word, fields_at, function_at, function_by, function_of, is_function}
-use Rattle.wm_read.specs.Written.{Paren, TypeUse}
+use Rattle.wm_tokens.specs.Written.{Paren, TypeUse}
 use Rattle.wm_tokens.proofs.Basics.{chosen, same_some}
 use Rattle.wm_read.proofs.FieldLaws.{OfKind, field_front}
 use Rattle.wm_read.proofs.Groups.{many_is}

@@ -7,9 +7,9 @@ use Rattle.wm_syntax.specs.declared.profile.Profile.{Profile}
 use Rattle.wm_syntax.specs.Modules.{Module}
 use Rattle.wm_syntax.specs.Profiles.{IsOf}
 use Rattle.wm_tokens.specs.Tokens.{Token, open_paren, close_paren, atom}
-use Rattle.wm_read.specs.Identifiers.{Id, WritesId}
-use Rattle.wm_read.specs.Written.{Names}
-use Rattle.wm_read.specs.Fields.{Field, HasDistinct, IsDefinition, IsImport, WritesField, Writes, module_of, names_of, start_of}
+use Rattle.wm_tokens.specs.Identifiers.{Id, WritesId}
+use Rattle.wm_tokens.specs.Written.{Names}
+use Rattle.wm_tokens.specs.Fields.{Field, HasDistinct, IsDefinition, IsImport, WritesField, Writes, module_of, names_of, start_of}
 use Rattle.wm_read.specs.exact.Fields.{fields_at}
 use Rattle.wm_read.specs.exact.FirstReading.{Noted, nothing, heads_at, names_in, names_at}
 use Rattle.wm_read.specs.exact.Reading.{◌>>=◌, made, open_at, close_at, atom_at, word_of, id_at}

@@ -9,9 +9,9 @@ use Rattle.wm_syntax.specs.declared.profile.Profile.{Profile}
 use Rattle.wm_syntax.specs.Profiles.{HasType}
 use Rattle.wm_syntax.proofs.ProfileLaws.{all_append, all_back, all_front}
 use Rattle.wm_tokens.specs.Tokens.{Token, open_paren, close_paren, string, atom}
-use Rattle.wm_read.specs.Identifiers.{WritesId}
+use Rattle.wm_tokens.specs.Identifiers.{WritesId}
 use Rattle.wm_syntax.specs.Types.{type_text}
-use Rattle.wm_read.specs.Written.{Named, Paren, WritesGroup, WritesGroups, types_of}
+use Rattle.wm_tokens.specs.Written.{Named, Paren, WritesGroup, WritesGroups, types_of}
 use Rattle.wm_read.specs.exact.Reading.{◌>>=◌, made, is_id, atom_at, type_of, paren_at}
 use Rattle.wm_read.specs.exact.TypeUses.{types_at, begins_group, unnamed, inside_at, named_groups_at, named_at, joined_named, adding_named}
 use Rattle.wm_read.specs.declared.code.named.NamedRun.{NamedRun}

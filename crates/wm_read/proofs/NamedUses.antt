@@ -8,8 +8,8 @@ use Rattle.wm_syntax.specs.Types.{Signature}
 use Rattle.wm_syntax.specs.declared.types.ValType.{ValType}
 use Rattle.wm_syntax.specs.declared.profile.Profile.{Profile}
 use Rattle.wm_tokens.specs.Tokens.{Token}
-use Rattle.wm_read.specs.Identifiers.{AreDistinct, Resolves}
-use Rattle.wm_read.specs.Written.{Named, Names, Paren, TypeUse, WritesGroups, WritesResults, WritesUnnamed, types_of}
+use Rattle.wm_tokens.specs.Identifiers.{AreDistinct, Resolves}
+use Rattle.wm_tokens.specs.Written.{Named, Names, Paren, TypeUse, WritesGroups, WritesResults, WritesUnnamed, types_of}
 use Rattle.wm_read.specs.exact.Reading.{◌>>=◌, made, atom_at, index_of, then_at, paren_at}
 use Rattle.wm_read.specs.exact.TypeUses.{begins_group, fits, groups_at, joined, named_at, no_types, unnamed}
 use Rattle.wm_read.specs.exact.NamedUses.{none_written, used_of, used_at, results_at, use_parts, named_use_at}

@@ -15,8 +15,8 @@ use Rattle.wm_syntax.proofs.ProfileLaws.{all_append, by_ops, labels_of}
 use Rattle.wm_tokens.specs.Tokens.{Token}
 use Rattle.wm_read.specs.declared.code.blocks.Opening.{Opening}
 use Rattle.wm_read.specs.declared.code.blocks.Opening.TheVariants.{Block, Loop, If}
-use Rattle.wm_read.specs.Identifiers.{Id}
-use Rattle.wm_read.specs.Written.{Scope, WritesInstruction, WritesInstructions, WritesElse, Opens, Closes}
+use Rattle.wm_tokens.specs.Identifiers.{Id}
+use Rattle.wm_tokens.specs.Written.{Scope, WritesInstruction, WritesInstructions, WritesElse, Opens, Closes}
 use Rattle.wm_read.specs.inner.Pieces.{Open, Opened, labels, Piece, plain, jump, opens, middle, closes, after, piece_ops, pieces_ops, opening_word, opening_op, is_if, IsPieceOf, WritesPiece, WritesPieces, WritesOps}
 
 abbrev opened : Id → Bool → Open

@@ -7,7 +7,7 @@ use Rattle.std.proofs.lemmas.Bool.{cond-true, cond-false}
 use Rattle.std.proofs.lemmas.List.{reverse-append, take_more, take_all}
 use Rattle.std.proofs.lemmas.Slice.Eq.{bytes_eq-Decides}
 use Rattle.wm_read.specs.declared.code.blocks.Block.{Block}
-use Rattle.wm_read.specs.Identifiers.{Ids}
+use Rattle.wm_tokens.specs.Identifiers.{Ids}
 use Rattle.wm_read.specs.inner.Blocks.{IsMissing, IsOuter, changed, open_of, blocks_of, place_from}
 use Rattle.wm_read.specs.inner.Ids.{id_of}
 use Rattle.wm_read.specs.inner.Pieces.{labels}

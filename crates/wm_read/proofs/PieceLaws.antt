@@ -30,11 +30,11 @@ use Rattle.wm_tokens.specs.Tokens.{Token, open_paren, close_paren, string, atom,
 use Rattle.wm_tokens.proofs.Basics.{chosen, same_some}
 use Rattle.wm_read.specs.declared.code.blocks.Opening.{Opening}
 use Rattle.wm_read.specs.declared.code.blocks.Opening.TheVariants.{Block, Loop, If}
-use Rattle.wm_read.specs.Identifiers.{Id, Ids, AreDistinct, WritesId, Resolves, ResolvesLabel}
+use Rattle.wm_tokens.specs.Identifiers.{Id, Ids, AreDistinct, WritesId, Resolves, ResolvesLabel}
 use Rattle.wm_syntax.specs.OpNames.{op_name}
 use Rattle.wm_syntax.specs.exact.NameTable.{class_named, immediates_name}
 use Rattle.wm_syntax.proofs.NamedOps.{found_named, only_named}
-use Rattle.wm_read.specs.Written.{Names, Scope, UnnamedTypeUse, WritesOperand, WritesBlockType, WritesInteger, WritesFloat, WritesAccess}
+use Rattle.wm_tokens.specs.Written.{Names, Scope, UnnamedTypeUse, WritesOperand, WritesBlockType, WritesInteger, WritesFloat, WritesAccess}
 use Rattle.wm_floats.specs.exact.Atoms.{float_of}
 use Rattle.wm_read.proofs.Floats.{float_sound, float_complete}
 use Rattle.wm_read.specs.inner.Pieces.{Opened, labels, Piece, plain, jump, opens, middle, closes, opening_word, IsPieceOf, WritesPiece}

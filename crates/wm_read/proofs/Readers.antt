@@ -5,8 +5,8 @@ use Rattle.std.proofs.lemmas.Bool.{cond-true, cond-false, eqb-true, eq-eqb, and_
 use Rattle.wm_syntax.specs.Spelling.{Form, Each, ◌▸◌}
 use Rattle.wm_tokens.specs.Tokens.{Token, open_paren, close_paren, string, atom}
 use Rattle.wm_tokens.proofs.Basics.{chosen, same_some}
-use Rattle.wm_read.specs.Identifiers.{One}
-use Rattle.wm_read.specs.Written.{Paren}
+use Rattle.wm_tokens.specs.Identifiers.{One}
+use Rattle.wm_tokens.specs.Written.{Paren}
 use Rattle.wm_read.specs.exact.Reading.{Reader, same_bytes, made, ◌>>=◌, open_at, close_at, atom_at, word_of, then_at, paren_at, many_at}
 
 -- what is read stands in front

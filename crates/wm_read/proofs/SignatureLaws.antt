@@ -7,8 +7,8 @@ use Rattle.wm_syntax.specs.declared.profile.Profile.{Profile}
 use Rattle.wm_syntax.specs.Profiles.{HasSignature}
 use Rattle.wm_syntax.specs.Types.{Signature}
 use Rattle.wm_tokens.specs.Tokens.{Token, open_paren, close_paren, string, atom}
-use Rattle.wm_read.specs.Written.{Named, Paren}
-use Rattle.wm_read.specs.Fields.{WritesSignature}
+use Rattle.wm_tokens.specs.Written.{Named, Paren}
+use Rattle.wm_tokens.specs.Fields.{WritesSignature}
 use Rattle.wm_read.specs.exact.Reading.{Reader, then_at, paren_at}
 use Rattle.wm_read.specs.exact.Signatures.{signature_of, signature_at}
 use Rattle.wm_read.specs.exact.NamedUses.{results_at}

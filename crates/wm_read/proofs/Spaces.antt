@@ -9,7 +9,7 @@ use Rattle.std.specs.Str.{bytes_eq}
 use Rattle.std.proofs.lemmas.Bool.{cond-true, cond-false}
 use Rattle.std.proofs.lemmas.List.{append-nil, length-replicate, replicate-append-replicate}
 use Rattle.std.proofs.lemmas.Slice.Eq.{bytes_eq-Decides}
-use Rattle.wm_read.specs.Identifiers.{Id, Ids}
+use Rattle.wm_tokens.specs.Identifiers.{Id, Ids}
 use Rattle.wm_read.specs.declared.names.identifiers.Identified.{Identified}
 use Rattle.wm_read.specs.exact.Reading.{◌>>=◌, is_same_id, place_of, same_bytes}
 use Rattle.wm_read.specs.inner.Ids.{HasPlaces, defined, spaced, spread}

@@ -4,7 +4,7 @@ use Rattle.std.proofs.lemmas.Bool.{cond-true, cond-false, lt-ltb, le-ltb, ltb-tr
 use Rattle.std.proofs.lemmas.List.{append-nil}
 use Rattle.std.specs.Prelude.{nat_lt, not}
 use Rattle.wm_tokens.specs.Tokens.{Token, open_paren, close_paren, string, atom}
-use Rattle.wm_read.specs.Identifiers.{Ids}
+use Rattle.wm_tokens.specs.Identifiers.{Ids}
 use Rattle.wm_read.specs.inner.Pieces.{Piece, jump}
 use Rattle.wm_read.specs.exact.Reading.{◌>>=◌, atom_at, index_of, is_word, begins_index, few_labels_at, labels_at, split_last, table_of, table_at}
 use Rattle.wm_tokens.specs.declared.faults.TextWhy.{TextWhy}

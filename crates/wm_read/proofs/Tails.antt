@@ -8,10 +8,10 @@ use Rattle.wm_syntax.specs.declared.modules.ExportKind.{ExportKind}
 use Rattle.wm_syntax.specs.declared.modules.ExportKind.TheVariants as kind
 use Rattle.wm_syntax.specs.declared.profile.Profile.{Profile}
 use Rattle.wm_tokens.specs.Tokens.{Token, open_paren, close_paren, string, atom}
-use Rattle.wm_read.specs.Fields.{Field, WritesName}
-use Rattle.wm_read.specs.Identifiers.{Id, Ids, WritesId, Resolves}
+use Rattle.wm_tokens.specs.Fields.{Field, WritesName}
+use Rattle.wm_tokens.specs.Identifiers.{Id, Ids, WritesId, Resolves}
 use Rattle.wm_syntax.specs.Types.{type_text}
-use Rattle.wm_read.specs.Written.{Named, Names, Paren, TypeUse, WritesGroup, WritesGroups, WritesResults, WritesType, WritesUnnamed}
+use Rattle.wm_tokens.specs.Written.{Named, Names, Paren, TypeUse, WritesGroup, WritesGroups, WritesResults, WritesType, WritesUnnamed}
 use Rattle.wm_read.specs.declared.fields.words.FieldKind.{FieldKind}
 use Rattle.wm_read.specs.declared.fields.words.FieldKind.TheVariants as field
 use Rattle.wm_read.specs.exact.Fields.{field_at, field_named, is_new, item_named, name_at, space_of}

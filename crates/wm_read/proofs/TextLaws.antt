@@ -3,7 +3,7 @@ use Rattle.std.proofs.Common.{◌≡◌, ◌≢◌, ℕ, ◌<◌, true, false, L
 use Rattle.std.specs.Prelude.{IsTrue}
 use Rattle.wm_syntax.specs.declared.profile.Profile.{Profile}
 use Rattle.wm_syntax.specs.Modules.{Module}
-use Rattle.wm_read.specs.Fields.{Writes}
+use Rattle.wm_tokens.specs.Fields.{Writes}
 use Rattle.wm_read.specs.Spellings.{replaced}
 use Rattle.wm_tokens.specs.TokenFaults.{IsOfEnd, IsOfTokens, TellsFault}
 use Rattle.wm_tokens.specs.Tokens.{Token, Tokens}

@@ -13,9 +13,9 @@ use Rattle.wm_syntax.specs.Types.{Signature}
 use Rattle.wm_syntax.specs.declared.profile.Profile.{Profile}
 use Rattle.wm_tokens.specs.Tokens.{Token, open_paren, close_paren, string, atom}
 use Rattle.wm_tokens.proofs.Basics.{chosen, same_some}
-use Rattle.wm_read.specs.Identifiers.{Id, AreDistinct, Resolves}
+use Rattle.wm_tokens.specs.Identifiers.{Id, AreDistinct, Resolves}
 use Rattle.wm_syntax.specs.Types.{type_text}
-use Rattle.wm_read.specs.Written.{Paren, Names, Named, WritesType, WritesUnnamed, WritesGroup, UnnamedTypeUse, types_of}
+use Rattle.wm_tokens.specs.Written.{Paren, Names, Named, WritesType, WritesUnnamed, WritesGroup, UnnamedTypeUse, types_of}
 use Rattle.wm_read.specs.exact.Reading.{Reader, ◌>>=◌, atom_at, type_of, index_of, then_at, paren_at}
 use Rattle.wm_read.specs.exact.TypeUses.{types_at, begins_group, groups_at, same_types, no_types, joined, fits, checked, use_at, begins_open, call_use_at}
 use Rattle.wm_read.proofs.Readers.{Sound, Complete, Any, Both, Begins, BeginsClose, bind_ok, bind_is, is_same, then_sound, then_complete, paren_sound, paren_complete, many_sound, many_complete}

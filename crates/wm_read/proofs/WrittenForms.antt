@@ -19,10 +19,10 @@ use Rattle.wm_syntax.specs.Modules.{Export, Element, Segment, constant}
 use Rattle.wm_syntax.specs.Opcodes.{opcode, load, store}
 use Rattle.wm_syntax.specs.Profiles.{has, HasSimple, HasConst, HasInstruction, HasInstructions}
 use Rattle.wm_tokens.specs.Tokens.{Token, open_paren, close_paren, string, atom, IsIdentifier, IsInteger, IsNumber, IsUnsigned}
-use Rattle.wm_read.specs.Identifiers.{Id, Ids, One, IsIndex, IsLabel, WritesId, Resolves, ResolvesLabel}
+use Rattle.wm_tokens.specs.Identifiers.{Id, Ids, One, IsIndex, IsLabel, WritesId, Resolves, ResolvesLabel}
 use Rattle.wm_syntax.specs.Types.{type_text}
-use Rattle.wm_read.specs.Written.{Keyword, Paren, UnsignedNumber, WritesType, Named, WritesGroup, WritesGroups, WritesUnnamed, WritesResults, Names, TypeUse, Scope, WritesKey, WritesAccess, WritesOperand, WritesSimple, WritesBlockType, Closes, WritesElse, Opens, WritesTable, WritesInstruction, WritesInstructions}
-use Rattle.wm_read.specs.Fields.{WritesName, WritesMax, WritesLimits, WritesTableType, WritesGlobalType, WritesConst, WritesExport, WritesStrings, WritesOffset}
+use Rattle.wm_tokens.specs.Written.{Keyword, Paren, UnsignedNumber, WritesType, Named, WritesGroup, WritesGroups, WritesUnnamed, WritesResults, Names, TypeUse, Scope, WritesKey, WritesAccess, WritesOperand, WritesSimple, WritesBlockType, Closes, WritesElse, Opens, WritesTable, WritesInstruction, WritesInstructions}
+use Rattle.wm_tokens.specs.Fields.{WritesName, WritesMax, WritesLimits, WritesTableType, WritesGlobalType, WritesConst, WritesExport, WritesStrings, WritesOffset}
 use Rattle.wm_read.specs.exact.Reading.{is_word}
 use Rattle.wm_read.proofs.PieceLaws.{simple_word}
 

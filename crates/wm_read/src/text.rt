@@ -3,7 +3,7 @@
 ghost use Rattle.std.specs.Prelude.{◌≡◌, ◌≢◌, ◌<◌, ◌≤◌, ◌↔◌, [], IfErr, IfOk, IsTrue, IsUtf8, List};
 ghost use Rattle.std.specs.Prelude.{length, map, true};
 ghost use Rattle.std.specs.Str.{IsValidUpTo};
-ghost use Rattle.wm_read.specs.Fields.{Writes};
+ghost use Rattle.wm_tokens.specs.Fields.{Writes};
 ghost use Rattle.wm_read.specs.Spellings.{replaced};
 ghost use Rattle.wm_tokens.specs.TokenFaults.{IsOfEnd, TellsFault};
 ghost use Rattle.wm_tokens.specs.Tokens.{Token, Tokens};

@@ -5,8 +5,8 @@ use Rattle.std.specs.List.{list_all}
 use Rattle.std.proofs.lemmas.Bool.{cond_both, or_cases, and_parts, and_from, eqb-true}
 use Rattle.std.proofs.lemmas.List.{drop_more}
 use Rattle.std.proofs.lemmas.List.Folds.{list_all-append}
-use Rattle.wm_tokens.specs.Tokens.{Token, string, atom, is_digit, is_id_char, is_lower, is_space, IsAtom}
-use Rattle.wm_tokens.specs.exact.Scan.{after_spaces, ahead, first, lexed, has_tokens}
+use Rattle.wm_tokens.specs.Tokens.{atom, is_digit, is_id_char, is_lower, is_space, IsAtom}
+use Rattle.wm_tokens.specs.exact.Scan.{after_spaces, has_tokens}
 use Rattle.wm_tokens.specs.inner.Places.{Steps}
 use Rattle.wm_tokens.specs.inner.Stretches.{Passes, here, over_blank, over_atom, AtHand, nothing, word, digits, dollar, other, after_byte, place_of, IsPart, Leads}
 use Rattle.wm_tokens.proofs.Atoms.{number_found}

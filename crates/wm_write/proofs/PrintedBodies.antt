@@ -34,9 +34,9 @@ use Rattle.wm_syntax.specs.Instructions.{Instruction, Instructions, none, snoc, 
 use Rattle.wm_syntax.specs.Modules.{IsU32, constant}
 use Rattle.wm_write.specs.Layout.{Word, access_words, word_at, atom, body_line, const_words, gap, immediate_words, op_words, result_words, type_name, type_use, type_word}
 use Rattle.wm_tokens.specs.Tokens.{Token, IsAtom, is_id_char, is_lower}
-use Rattle.wm_read.specs.Identifiers.{Ids, ResolvesLabel}
-use Rattle.wm_read.specs.Written.{Closes, Names, Opens, Scope, TypeUse, WritesAccess, WritesBlockType, WritesElse, WritesInstruction, WritesInstructions, WritesOperand, WritesSimple, WritesTable}
-use Rattle.wm_read.specs.Written as w
+use Rattle.wm_tokens.specs.Identifiers.{Ids, ResolvesLabel}
+use Rattle.wm_tokens.specs.Written.{Closes, Names, Opens, Scope, TypeUse, WritesAccess, WritesBlockType, WritesElse, WritesInstruction, WritesInstructions, WritesOperand, WritesSimple, WritesTable}
+use Rattle.wm_tokens.specs.Written as w
 use Rattle.wm_write.specs.inner.Printed.{tokens}
 use Rattle.wm_write.proofs.PrintedTokens.{IsBreak, IsHead, body_line_breaks, gap_breaks}
 use Rattle.wm_write.proofs.PrintedForms.{IsPrefix, Prints, head_is, id_at, prints_as, prints_float, prints_form, prints_index, prints_integer, prints_key, prints_label, prints_nothing, prints_then, prints_type, prints_use, prints_word}

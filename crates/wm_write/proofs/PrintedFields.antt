@@ -17,9 +17,9 @@ use Rattle.wm_syntax.specs.Modules.{AreLimits, Element, Export, Function, Global
 use Rattle.wm_machine.proofs.NameBytes.{utf8_bytes}
 use Rattle.wm_write.specs.Layout.{body_line, body_words, const_words, desc_words, field_line, form, function_name, function_words, gap, global_name, global_type_words, item_words, limits_words, max_words, memory_name, number, offset_words, params_words, places, quoted, results_words, spaced, table_name, table_words, type_name, type_use, type_word, types_words}
 use Rattle.wm_write.specs.Layout as l
-use Rattle.wm_read.specs.Identifiers.{Id, Resolves}
-use Rattle.wm_read.specs.Written.{Named, Names, Scope, TypeUse, WritesGroups, WritesResults, WritesType, ids_of, types_of}
-use Rattle.wm_read.specs.Fields.{WritesConst, WritesDesc, WritesExport, WritesField, WritesGlobalType, WritesLimits, WritesMax, WritesName, WritesOffset, WritesSignature, WritesTableType, element_field, export_field, function_field, global_field, import_field, memory_field, segment_field, start_field, table_field, type_field}
+use Rattle.wm_tokens.specs.Identifiers.{Id, Resolves}
+use Rattle.wm_tokens.specs.Written.{Named, Names, Scope, TypeUse, WritesGroups, WritesResults, WritesType, ids_of, types_of}
+use Rattle.wm_tokens.specs.Fields.{WritesConst, WritesDesc, WritesExport, WritesField, WritesGlobalType, WritesLimits, WritesMax, WritesName, WritesOffset, WritesSignature, WritesTableType, element_field, export_field, function_field, global_field, import_field, memory_field, segment_field, start_field, table_field, type_field}
 use Rattle.wm_write.specs.inner.Printed.{tokens}
 use Rattle.wm_write.proofs.PrintedTokens.{IsBreak, IsHead, body_line_breaks, field_line_breaks, gap_breaks}
 use Rattle.wm_write.proofs.PrintedForms.{IsPrefix, Prints, head_is, id_at, prints_as, prints_block, prints_form, prints_id, prints_nothing, prints_number, prints_string, prints_then, prints_type, prints_use, prints_word}

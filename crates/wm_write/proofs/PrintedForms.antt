@@ -17,8 +17,8 @@ use Rattle.wm_syntax.specs.declared.instructions.FloatType.{FloatType}
 use Rattle.wm_write.proofs.PrintedFloats.{printed_float, float_literal}
 use Rattle.wm_tokens.specs.Tokens as tok
 use Rattle.wm_tokens.specs.Tokens.{Token, open_paren, close_paren, is_id_char, is_lower, IsAtom, IsIdentifier, IsUnsigned, IsInteger}
-use Rattle.wm_read.specs.Identifiers.{Id, Ids, WritesId, Resolves, ResolvesLabel}
-use Rattle.wm_read.specs.Written.{Keyword as AWord, Paren, Nothing, UnsignedNumber, WritesType, WritesKey, WritesInteger, WritesFloat}
+use Rattle.wm_tokens.specs.Identifiers.{Id, Ids, WritesId, Resolves, ResolvesLabel}
+use Rattle.wm_tokens.specs.Written.{Keyword as AWord, Paren, Nothing, UnsignedNumber, WritesType, WritesKey, WritesInteger, WritesFloat}
 use Rattle.wm_write.specs.inner.Printed.{token_of, tokens}
 use Rattle.wm_write.proofs.PrintedNumbers.{decimal_printed, decimal_text, signed_text, signed_chars, signed_number}
 use Rattle.wm_write.proofs.PrintedTokens.{IsBreak, IsHead, Stands, atom_good, block_stands, both_stand, form_stands, gap_breaks, good_stands, none_stand, number_good, string_good}

@@ -14,10 +14,10 @@ use Rattle.wm_syntax.specs.declared.modules.ExportKind.{ExportKind}
 use Rattle.wm_syntax.specs.declared.modules.ExportKind.TheVariants as kind
 use Rattle.wm_syntax.specs.Modules.{Element, Export, Function, GlobalDef, Import, Module, Segment, all_functions, all_globals, all_memories, all_tables, imported_function, imported_global, imported_memory, imported_table}
 use Rattle.wm_write.specs.Layout.{places}
-use Rattle.wm_read.specs.Identifiers.{AreDistinct, Id, Ids}
-use Rattle.wm_read.specs.Written.{Names}
-use Rattle.wm_read.specs.Fields.{Field, element_field, element_of, export_field, export_of, function_field, global_field, id_in, import_field, import_of, imports_in, memory_field, module_of, names_of, segment_field, segment_of, start_field, start_of, table_field, type_field, type_of}
-use Rattle.wm_read.specs.Fields as f
+use Rattle.wm_tokens.specs.Identifiers.{AreDistinct, Id, Ids}
+use Rattle.wm_tokens.specs.Written.{Names}
+use Rattle.wm_tokens.specs.Fields.{Field, element_field, element_of, export_field, export_of, function_field, global_field, id_in, import_field, import_of, imports_in, memory_field, module_of, names_of, segment_field, segment_of, start_field, start_of, table_field, type_field, type_of}
+use Rattle.wm_tokens.specs.Fields as f
 use Rattle.wm_write.proofs.PrintedNumbers.{one_decimal}
 use Rattle.wm_write.proofs.PrintedForms.{id_at}
 use Rattle.wm_write.proofs.PrintedBodies.{Numbers}

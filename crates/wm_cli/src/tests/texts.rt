@@ -1,8 +1,10 @@
-//! Tests of `wm_tokens` and `wm_read`: what is printed of a refused text where no row of `wm_rows` shows it, and their laws.
+//! Tests of `wm_tokens` and `wm_read`: what is printed of a refused text where no row of `wm_rows` shows it, and their laws,
+//! with the one of `wm_command`.
 
 use std::alloc::Global;
 use std::process::Abort;
 use std::test::Fail;
+use wm_command::laws::printed_texts_write_no_other;
 use wm_read::faults::{TextRefusal, TextWhy};
 use wm_read::laws;
 use wm_tokens::laws as token_laws;
@@ -59,4 +61,5 @@ fn laws_are_called(_rt: HostRuntime) {
     laws::modules_are_read_as_written();
     laws::one_module();
     laws::modules_tell_their_profiles();
+    printed_texts_write_no_other();
 }

@@ -18,10 +18,10 @@ use Rattle.wm_syntax.specs.declared.profile.Profile.{Profile}
 use Rattle.wm_syntax.specs.exact.NameTable.{class_named}
 use Rattle.wm_syntax.specs.Modules.{Function}
 use Rattle.wm_tokens.specs.Tokens.{string, atom}
-use Rattle.wm_read.specs.Identifiers.{Id, Ids}
-use Rattle.wm_read.specs.Written.{Named, Names, types_of, ids_of}
-use Rattle.wm_read.specs.Fields.{Field, type_field, import_field, function_field, table_field, memory_field}
-use Rattle.wm_read.specs.Fields.{global_field, export_field, start_field, element_field, segment_field}
+use Rattle.wm_tokens.specs.Identifiers.{Id, Ids}
+use Rattle.wm_tokens.specs.Written.{Named, Names, types_of, ids_of}
+use Rattle.wm_tokens.specs.Fields.{Field, type_field, import_field, function_field, table_field, memory_field}
+use Rattle.wm_tokens.specs.Fields.{global_field, export_field, start_field, element_field, segment_field}
 use Rattle.wm_read.specs.declared.fields.words.FieldKind.{FieldKind}
 use Rattle.wm_read.specs.declared.fields.words.FieldKind.TheVariants as field
 use Rattle.wm_read.specs.exact.Reading.{Reader, ◌>>=◌, made, same_bytes, open_at, close_at, atom_at, then_at}

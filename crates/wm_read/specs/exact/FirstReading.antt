@@ -7,8 +7,8 @@ use Rattle.wm_syntax.specs.declared.modules.ExportKind.TheVariants as kind
 use Rattle.wm_syntax.specs.declared.profile.Profile.{Profile}
 use Rattle.wm_syntax.specs.Types.{Signature}
 use Rattle.wm_tokens.specs.Tokens.{Token, open_paren, close_paren, string, atom}
-use Rattle.wm_read.specs.Identifiers.{Id, Ids}
-use Rattle.wm_read.specs.Written.{Names}
+use Rattle.wm_tokens.specs.Identifiers.{Id, Ids}
+use Rattle.wm_tokens.specs.Written.{Names}
 use Rattle.wm_read.specs.declared.fields.words.FieldKind.{FieldKind}
 use Rattle.wm_read.specs.declared.fields.words.FieldKind.TheVariants as field
 use Rattle.wm_read.specs.exact.Fields.{field_named, is_new, item_named, name_at, space_of}

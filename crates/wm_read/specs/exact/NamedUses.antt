@@ -4,7 +4,7 @@ use Rattle.std.specs.Prelude.{ℕ, ◌&&◌, List, Bool, Option, Some, None, if�
 use Rattle.wm_syntax.specs.declared.types.ValType.{ValType}
 use Rattle.wm_syntax.specs.declared.profile.Profile.{Profile}
 use Rattle.wm_syntax.specs.Types.{Signature}
-use Rattle.wm_read.specs.Written.{Named, Names, types_of}
+use Rattle.wm_tokens.specs.Written.{Named, Names, types_of}
 use Rattle.wm_read.specs.exact.Reading.{Reader, ◌>>=◌, made, atom_at, index_of, then_at, paren_at}
 use Rattle.wm_read.specs.exact.TypeUses.{fits, groups_at, joined, named_at, no_types, unnamed}
 

@@ -23,9 +23,9 @@ use Rattle.wm_tokens.specs.Tokens.{Token, open_paren, close_paren, atom, is_lowe
 use Rattle.wm_tokens.specs.exact.Scan.{magnitude_of, is_nil}
 use Rattle.wm_read.specs.declared.code.blocks.Opening.{Opening}
 use Rattle.wm_read.specs.declared.code.blocks.Opening.TheVariants.{Block, Loop, If}
-use Rattle.wm_read.specs.Identifiers.{Id, Ids}
+use Rattle.wm_tokens.specs.Identifiers.{Id, Ids}
 use Rattle.wm_syntax.specs.Types.{type_text}
-use Rattle.wm_read.specs.Written.{Scope}
+use Rattle.wm_tokens.specs.Written.{Scope}
 use Rattle.wm_read.specs.inner.Pieces.{Opened, labels, Piece, plain, jump, opens, middle, closes, after}
 use Rattle.wm_read.specs.inner.Pieces.{piece_ops}
 

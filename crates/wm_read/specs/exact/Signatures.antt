@@ -3,7 +3,7 @@ use Rattle.std.specs.Prelude.{List, codes}
 use Rattle.wm_syntax.specs.declared.types.ValType.{ValType}
 use Rattle.wm_syntax.specs.declared.profile.Profile.{Profile}
 use Rattle.wm_syntax.specs.Types.{Signature}
-use Rattle.wm_read.specs.Written.{Named, types_of}
+use Rattle.wm_tokens.specs.Written.{Named, types_of}
 use Rattle.wm_read.specs.exact.Reading.{Reader, made, then_at, paren_at}
 use Rattle.wm_read.specs.exact.NamedUses.{results_at}
 use Rattle.wm_read.specs.exact.TypeUses.{named_at}

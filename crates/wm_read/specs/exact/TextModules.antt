@@ -4,8 +4,8 @@ use Rattle.std.specs.Prelude.{List, [], Option, Some, None, codes}
 use Rattle.wm_syntax.specs.declared.profile.Profile.{Profile}
 use Rattle.wm_syntax.specs.Modules.{Module}
 use Rattle.wm_tokens.specs.Tokens.{Token}
-use Rattle.wm_read.specs.Fields.{module_of}
-use Rattle.wm_read.specs.Written.{Names}
+use Rattle.wm_tokens.specs.Fields.{module_of}
+use Rattle.wm_tokens.specs.Written.{Names}
 use Rattle.wm_read.specs.exact.Fields.{fields_at}
 use Rattle.wm_read.specs.exact.FirstReading.{names_at}
 use Rattle.wm_read.specs.exact.Reading.{◌>>=◌, made, open_at, close_at, atom_at, word_of, id_at}

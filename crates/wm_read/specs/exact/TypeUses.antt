@@ -8,7 +8,7 @@ use Rattle.wm_tokens.specs.Tokens.{Token, open_paren, atom}
 use Rattle.wm_syntax.specs.inner.Building.{tree_of}
 use Rattle.wm_syntax.specs.Instructions.{Instructions}
 use Rattle.wm_syntax.specs.declared.profile.Profile.{Profile}
-use Rattle.wm_read.specs.Written.{Named, Names, Scope}
+use Rattle.wm_tokens.specs.Written.{Named, Names, Scope}
 use Rattle.wm_read.specs.exact.Reading.{Reader, ◌>>=◌, made, same_bytes, is_id, atom_at, type_of, index_of}
 use Rattle.wm_read.specs.exact.Reading.{then_at, paren_at, many_at, ops_at}
 

@@ -7,10 +7,10 @@ use Rattle.std.specs.Str.{bytes_eq}
 use Rattle.wm_read.specs.declared.code.blocks.Block.{Block}
 use Rattle.wm_read.specs.declared.names.identifiers.Names as names
 use Rattle.wm_read.specs.declared.names.identifiers.Scope as scope
-use Rattle.wm_read.specs.Identifiers.{Id}
+use Rattle.wm_tokens.specs.Identifiers.{Id}
 use Rattle.wm_read.specs.inner.Ids.{id_of, place_in}
 use Rattle.wm_read.specs.inner.Pieces.{Open, Opened}
-use Rattle.wm_read.specs.Written.{Names, Scope}
+use Rattle.wm_tokens.specs.Written.{Names, Scope}
 
 abbrev pub open_of : Block → Open
 open_of b = record { id = id_of b.id; may_else = b.may_else }

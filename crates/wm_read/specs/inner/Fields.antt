@@ -4,10 +4,10 @@ use Rattle.wm_syntax.specs.declared.profile.Profile.{Profile}
 use Rattle.wm_syntax.specs.Modules.{Module}
 use Rattle.wm_read.specs.declared.fields.Field.{Field as Code}
 use Rattle.wm_read.specs.declared.fields.Field.TheVariants as code
-use Rattle.wm_read.specs.Fields.{Field, type_field, import_field, function_field, table_field, memory_field}
-use Rattle.wm_read.specs.Fields.{global_field, export_field, start_field, element_field, segment_field}
+use Rattle.wm_tokens.specs.Fields.{Field, type_field, import_field, function_field, table_field, memory_field}
+use Rattle.wm_tokens.specs.Fields.{global_field, export_field, start_field, element_field, segment_field}
 use Rattle.wm_read.specs.inner.Ids.{id_of}
-use Rattle.wm_read.specs.Written.{Named, Names}
+use Rattle.wm_tokens.specs.Written.{Named, Names}
 use Rattle.wm_read.specs.exact.NamedUses.{named_use_at}
 use Rattle.wm_read.specs.exact.Reading.{Reader, then_at}
 use Rattle.wm_read.specs.exact.TypeUses.{named_at}

@@ -5,7 +5,7 @@ use Rattle.std.specs.BTreeMap.{BTreeMap, get_by}
 use Rattle.std.specs.Cmp.Lexicographic.{slice_cmp}
 use Rattle.std.specs.Ordering.{nat_cmp}
 use Rattle.wm_read.specs.declared.names.identifiers.Identified.{Identified}
-use Rattle.wm_read.specs.Identifiers.{Id, Ids}
+use Rattle.wm_tokens.specs.Identifiers.{Id, Ids}
 use Rattle.wm_read.specs.exact.Reading.{is_same_id, place_of}
 
 abbrev pub id_of : Option (Bor (List ℕ)) → Id

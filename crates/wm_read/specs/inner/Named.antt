@@ -4,7 +4,7 @@ use Rattle.wm_read.specs.declared.code.named.NamedRun.{NamedRun}
 use Rattle.wm_read.specs.declared.code.named.NamedRun.TheVariants.{One, Unnamed}
 use Rattle.wm_read.specs.declared.code.named_uses.Params.{Params}
 use Rattle.wm_read.specs.declared.code.named_uses.Params.TheVariants.{OfType, Written}
-use Rattle.wm_read.specs.Written.{Named}
+use Rattle.wm_tokens.specs.Written.{Named}
 use Rattle.wm_read.specs.exact.TypeUses.{unnamed}
 
 -- the items of a run

@@ -11,8 +11,8 @@ use Rattle.wm_syntax.specs.Profiles.{HasBlockType, HasSimple}
 use Rattle.wm_tokens.specs.Tokens.{Token}
 use Rattle.wm_read.specs.declared.code.blocks.Opening.{Opening}
 use Rattle.wm_read.specs.declared.code.blocks.Opening.TheVariants.{Block, Loop, If}
-use Rattle.wm_read.specs.Identifiers.{Id, Ids}
-use Rattle.wm_read.specs.Written.{Scope, WritesSimple, WritesTable, Opens, Closes}
+use Rattle.wm_tokens.specs.Identifiers.{Id, Ids}
+use Rattle.wm_tokens.specs.Written.{Scope, WritesSimple, WritesTable, Opens, Closes}
 
 -- an open block: its identifier, and whether an else may still come
 pub record Open : Type 0 where

@@ -2,7 +2,7 @@
 
 ghost use Rattle.std.specs.Prelude.{◌≡◌, ◌≢◌, ◌++◌, ◌<◌, ◌≤◌, ◌⊎◌, ◌^◌, [], IfErr, IfOk, IfSome, MatchOption};
 ghost use Rattle.std.specs.Prelude.{false, length, true};
-ghost use Rattle.wm_read.specs.Written as written;
+ghost use Rattle.wm_tokens.specs.Written as written;
 ghost use Rattle.wm_tokens.specs.declared.faults.TextWhy.TheVariants.{Memory, RepeatedId, TooManyLocals};
 ghost use Rattle.wm_read.specs.exact.Fields as fields;
 ghost use Rattle.wm_tokens.specs.exact.Scan.{lexed};

@@ -1,7 +1,7 @@
 //! Parameters and locals, with their identifiers (sections 6.4.3 and 6.6.5).
 
 ghost use Rattle.std.specs.Prelude.{◌≡◌, ◌++◌, ◌∷◌, [], IfSome, None, OnOk, replicate};
-ghost use Rattle.wm_read.specs.Written.{types_of};
+ghost use Rattle.wm_tokens.specs.Written.{types_of};
 ghost use Rattle.wm_read.specs.exact.Reading as reading;
 ghost use Rattle.wm_tokens.specs.exact.Scan.{lexed};
 ghost use Rattle.wm_read.specs.exact.TypeUses as uses;

@@ -2,7 +2,7 @@
 
 ghost use Rattle.std.specs.Prelude.{◌≡◌, ◌≤◌, ◌++◌, IfErr, IfOk, OnOk, replicate, length};
 ghost use Rattle.std.specs.Option.{option_map};
-ghost use Rattle.wm_read.specs.Written as written;
+ghost use Rattle.wm_tokens.specs.Written as written;
 ghost use Rattle.wm_read.specs.exact.NamedUses as uses;
 ghost use Rattle.wm_tokens.specs.exact.Scan.{lexed};
 ghost use Rattle.wm_read.specs.inner.Blocks.{names_of};

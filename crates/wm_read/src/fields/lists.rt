@@ -1,7 +1,7 @@
 //! The fields of a module (section 6.6.13), given what it defines.
 
 ghost use Rattle.std.specs.Prelude.{◌≡◌, OnOk};
-ghost use Rattle.wm_read.specs.Fields.{module_of};
+ghost use Rattle.wm_tokens.specs.Fields.{module_of};
 ghost use Rattle.wm_read.specs.exact.Fields as fields;
 ghost use Rattle.wm_read.specs.exact.Reading as reading;
 ghost use Rattle.wm_tokens.specs.exact.Scan.{lexed};

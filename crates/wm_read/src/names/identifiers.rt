@@ -32,7 +32,7 @@ pub struct Space<'a> {
 }
 
 impl<'a> Model for Space<'a> {
-    ghost use Rattle.wm_read.specs.Identifiers.{Ids};
+    ghost use Rattle.wm_tokens.specs.Identifiers.{Ids};
     ghost use Rattle.std.specs.Prelude.{◌≡◌, length};
     ghost use Rattle.wm_read.specs.inner.Ids.{HasPlaces, spaced};
 

@@ -1,7 +1,7 @@
 -- Stretches of a text that are white space by itself and plain atoms alone.
 use Rattle.std.specs.Prelude.{◌≡◌, ◌<◌, ◌==◌, ◌⊎◌, ℕ, List, [], ◌∷◌, ◌++◌, true, if◌then◌else◌, length}
 use Rattle.std.specs.List.{list_all}
-use Rattle.wm_tokens.specs.Tokens.{Token, atom, is_digit, is_id_char, is_lower, is_space, IsIdentifier, IsWord}
+use Rattle.wm_tokens.specs.Tokens.{atom, is_digit, is_id_char, is_lower, is_space, IsIdentifier, IsWord}
 use Rattle.wm_tokens.specs.exact.Scan.{ahead, blank, first}
 
 -- from the first text blanks and atoms lead to the second

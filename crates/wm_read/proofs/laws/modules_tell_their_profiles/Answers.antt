@@ -3,7 +3,7 @@ use Rattle.wm_syntax.specs.declared.profile.Profile.{Profile}
 use Rattle.wm_syntax.specs.Modules.{Module}
 use Rattle.wm_syntax.specs.Profiles.{IsOf}
 use Rattle.wm_syntax.proofs.ProfileLaws.{is_of_more}
-use Rattle.wm_read.specs.Fields.{Writes}
+use Rattle.wm_tokens.specs.Fields.{Writes}
 use Rattle.wm_tokens.specs.Tokens.{Token}
 use Rattle.wm_read.proofs.laws.modules_tell_their_profiles.Goals as goal
 

@@ -1,5 +1,5 @@
 use Rattle.std.proofs.Common.{refl, ap, ◌∙◌, ◌++◌, rules}
-use Rattle.wm_read.specs.Written.{ids_of}
+use Rattle.wm_tokens.specs.Written.{ids_of}
 use Rattle.wm_tokens.specs.declared.faults.TextWhy.{TextWhy}
 use Rattle.wm_read.specs.exact.Fields.{function_at}
 use Rattle.wm_tokens.specs.exact.Scan.{lexed}

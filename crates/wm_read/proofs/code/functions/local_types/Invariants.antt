@@ -1,6 +1,6 @@
 use Rattle.std.proofs.Common.{◌≡◌, ◌++◌, ◌<◌, length}
 use Rattle.std.specs.Prelude.{◌^◌}
-use Rattle.wm_read.specs.Written.{types_of}
+use Rattle.wm_tokens.specs.Written.{types_of}
 use Rattle.wm_read.specs.inner.Named.{named_list}
 use Rattle.wm_read.proofs.code.functions.local_types.Given as goal
 

@@ -1,5 +1,5 @@
 use Rattle.std.proofs.Common.{◌≡◌, take}
-use Rattle.wm_read.specs.Written.{types_of}
+use Rattle.wm_tokens.specs.Written.{types_of}
 use Rattle.wm_read.specs.inner.Named.{named_list}
 use Rattle.wm_read.proofs.code.named_uses.types_of.Given as goal
 

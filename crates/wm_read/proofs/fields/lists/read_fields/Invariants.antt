@@ -1,6 +1,6 @@
 use Rattle.std.proofs.Common.{◌≡◌, length}
 use Rattle.wm_syntax.specs.Values.{value_of}
-use Rattle.wm_read.specs.Fields.{module_of}
+use Rattle.wm_tokens.specs.Fields.{module_of}
 use Rattle.wm_read.specs.exact.Fields.{fields_at}
 use Rattle.wm_read.specs.exact.Reading.{made}
 use Rattle.wm_tokens.specs.exact.Scan.{lexed}

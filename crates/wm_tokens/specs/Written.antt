@@ -17,7 +17,7 @@ use Rattle.wm_syntax.specs.Opcodes.{opcode, load, store}
 use Rattle.wm_syntax.specs.Instructions.{Instruction, Instructions, none, snoc, simple, table, block, loop}
 use Rattle.wm_syntax.specs.Instructions.{choice}
 use Rattle.wm_tokens.specs.Tokens.{Token, open_paren, close_paren, atom, IsUnsigned, IsInteger}
-use Rattle.wm_read.specs.Identifiers.{Id, Ids, One, WritesId, Resolves, ResolvesLabel}
+use Rattle.wm_tokens.specs.Identifiers.{Id, Ids, One, WritesId, Resolves, ResolvesLabel}
 
 -- this word, a keyword of the text format (section 6.3.1)
 abbrev pub Keyword : List ℕ → Form Token

@@ -15,10 +15,10 @@ use Rattle.wm_syntax.specs.Types.{Signature}
 use Rattle.wm_syntax.specs.Profiles.{IsOf}
 use Rattle.wm_syntax.specs.Modules.{Import, Function, GlobalDef, Export, Element, Segment, Module, constant}
 use Rattle.wm_tokens.specs.Tokens.{Token, string}
-use Rattle.wm_read.specs.Identifiers.{Id, AreDistinct, WritesId, Resolves}
-use Rattle.wm_read.specs.Written.{Keyword, Paren, Nothing, UnsignedNumber, WritesType, Named, WritesGroups}
-use Rattle.wm_read.specs.Written.{WritesResults, types_of, ids_of, Names, TypeUse, WritesSimple}
-use Rattle.wm_read.specs.Written.{WritesInstructions}
+use Rattle.wm_tokens.specs.Identifiers.{Id, AreDistinct, WritesId, Resolves}
+use Rattle.wm_tokens.specs.Written.{Keyword, Paren, Nothing, UnsignedNumber, WritesType, Named, WritesGroups}
+use Rattle.wm_tokens.specs.Written.{WritesResults, types_of, ids_of, Names, TypeUse, WritesSimple}
+use Rattle.wm_tokens.specs.Written.{WritesInstructions}
 
 abbrev pub WritesName : List ℕ → Form Token
 WritesName name k = IsUtf8 name × (k ≡ string name ∷ [])
