@@ -188,7 +188,7 @@ module _ {S H : Type 0} (held : S → H) (after : H → Item → Result H Why) (
     | inr o ↦ let t : Err o.refusal ≡ Err r = sym o.stands ∙ e in let u : o.refusal ≡ r = cc in let v : o.refusal.at ≡ r.at = ap (λ (y : Refusal). y.at) u in omega (arith, o.place, v)
   ]
 
-  -- memory does not state_after out in the header
+  -- memory does not run out in the header
   pub after_header : (d : Decoder S) (b : List ℕ) (r : Refusal) → state_of held d ≡ Err r → HasDecoded held after d s b → length b ≤ 8 → r.why ≢ why.Memory
   after_header d b r e a few memory =
       let place : r.at ≤ length b = after_place d b r e a in

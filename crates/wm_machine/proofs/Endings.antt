@@ -26,7 +26,7 @@ pub record IsEnding (depth labels : ℕ) (ops : List Op) : Type 0 where
   pub closed : endings ops ≡ depth + openings ops + 1
   pub first : (front back : List Op) → ops ≡ front ++ back → (back ≡ []) ⊎ (endings front ≤ depth + openings front)
 
--- an op that openings u lists and endings v of them
+-- an op that opens u lists and closes v of them
 module _ (o : Op) (u v : ℕ) (opened : (ops : List Op) → openings (o ∷ ops) ≡ u + openings ops) (shut : (ops : List Op) → endings (o ∷ ops) ≡ v + endings ops)
     (d e : ℕ) (same : d + u ≡ e + v) where
   fewer : (l m : ℕ) (ops : List Op) → (HasLabels l (o ∷ ops) → HasLabels m ops) → IsEnding d l (o ∷ ops) → IsEnding e m ops

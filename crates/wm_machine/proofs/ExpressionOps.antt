@@ -59,7 +59,7 @@ balanced_append x y p q = record {
         let whole : endings x ≡ openings x = p.even in
         rw h (omega (arith, closed-append x g, opened-append x g))
 
--- an op that openings and endings nothing
+-- an op that opens and closes nothing
 balanced_cons : (o : Op) (x : List Op) → OpensNone o → ClosesNone o → Balanced x → Balanced (o ∷ x)
 balanced_cons o x p q h = record {
   even = q x ∙ h.even ∙ sym (p x);
@@ -81,7 +81,7 @@ end_front [] b e = omega arith
 end_front (r ∷ []) b e = let same : op.End ≡ r = cc in subst (λ (r : Op). endings (r ∷ []) ≤ openings (r ∷ []) + 1) same (omega arith)
 end_front (r ∷ q ∷ g) b e = cc
 
--- a list between an op that openings it and its end
+-- a list between an op that opens it and its end
 balanced_wrap : (o : Op) (x : List Op) → OpensOne o → ClosesNone o → Balanced x → Balanced (o ∷ x ++ op.End ∷ [])
 balanced_wrap o x p q h = record {
   even =
@@ -169,7 +169,7 @@ mutual
   whole_ops none ops h = moved [] ops h (record { balanced = balanced_none; labels = λ r k. k })
   whole_ops (snoc s i) ops (x, y, e, h, k) = moved (x ++ y) ops e (whole_append x y (whole_ops s x h) (whole_op i y k))
 
--- the ops of a list, and the end that endings it, are an expression
+-- the ops of a list, and the end that closes it, are an expression
 pub is_expression : (s : Instructions) (ops : List Op) → HasOps s ops → IsExpression (ops ++ op.End ∷ [])
 is_expression s ops h =
     let w : IsWhole ops = whole_ops s ops h in

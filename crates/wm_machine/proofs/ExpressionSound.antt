@@ -40,7 +40,7 @@ SoundExpression left (expression.Label depth labels r) = HasRoom 32 r × (depth 
 SoundExpression left expression.Over = Unit {0}
 SoundExpression left (expression.Failed w) = ⊥
 
--- the same of what a byte leaves, which may have expression_failed
+-- the same of what a byte leaves, which may have failed
 abbrev pub FineExpression : ℕ → InExpression → Type 0
 FineExpression left (expression.Failed w) = Unit {0}
 FineExpression left at = SoundExpression left at

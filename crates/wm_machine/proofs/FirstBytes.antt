@@ -20,7 +20,7 @@ pub not_nil : {A : Type 0} (c : A) (b : List A) → c ∷ b ≡ [] → ⊥
 not_nil c b h = cc
 
 module _ (demanded : Type 0) where
-  -- after this byte, of which m is outside_mark, P goes on as Q
+  -- after this byte, of which m is said, P goes on as Q
   pub record Next (P : MarkedForm) (c : ℕ) (m : Mark) (Q : MarkedForm) : Type 0 where
     pub to : demanded → (b : List ℕ) (k : Marks) → P (c ∷ b) k → Goes m Q b k
     pub from : (b : List ℕ) (k : Marks) → Goes m Q b k → P (c ∷ b) k

@@ -126,7 +126,7 @@ run_enters p (c ∷ b) s n f l =
     run_enters p b (after_byte p s c) (entry_more (read_byte p s c).mark.zone n)
     (λ m. heard_enters (zone_of s.machine) s.name c (step_of p s.machine c).0 (step_of p s.machine c).1 (step_enters p s.machine c) (some_more (read_byte p s c).mark.zone n m)) l
 
--- something that may come, and begins with a state_after of locals
+-- something that may come, and begins with a run of locals
 record RunComes (P : MarkedForm) : Type 0 where
   bytes : List ℕ
   marks : Marks
@@ -187,7 +187,7 @@ module _ (p : Profile) where
   runs_come : (more : ℕ) (r : InRun) → SoundRun r → RunComes (EntryRest loose p (entry.Run more r))
   runs_come more r h = run_then (Leaf (run_rest p r) run_part) (Then (Times more (Run p)) (Expression p body_op)) (run_comes p r h) (some_runs p more)
 
-  -- a whole state_after, and what follows it
+  -- a whole run, and what follows it
   first_run : (n : ℕ) → RunComes (Then (Times (suc n) (Run p)) (Expression p body_op))
   first_run n =
       let rest = some_runs p n in
@@ -276,7 +276,7 @@ module _ (p : Profile) where
           by_place e.of e.functions e.more e.left e.rest e.place e.is fits.2.1.1
     ]
 
--- at such a byte memory may state_after out at an op of the body alone
+-- at such a byte memory may run out at an op of the body alone
 not_memory : why.Float ≡ why.Memory → ⊥
 not_memory e = cc
 

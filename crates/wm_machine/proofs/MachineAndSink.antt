@@ -265,7 +265,7 @@ module _ {H : Type 0} (after : H → Item → Result H Why) (p : Profile) (limit
 pub begin_fits : Fits state_at_start.machine
 begin_fits = omega arith
 
--- what is outside_mark of the bytes of a module is what the machine says
+-- what is said of the bytes of a module is what the machine says
 pub items_are : (p : Profile) (b : List ℕ) (k : Marks) → AreBytes b → Items p b k → (k ≡ marks p state_at_start b) × MayEnd (state_after p state_at_start b).machine
 items_are p b k bytes i =
     let whole : Items p (b ++ []) k = subst (λ y. Items p y k) (sym (append-nil b)) i in

@@ -1,4 +1,4 @@
--- The bytes so far of an input have one reading: as long as the bytes of two inputs agree, so does what is outside_mark of them.
+-- The bytes so far of an input have one reading: as long as the bytes of two inputs agree, so does what is said of them.
 use Rattle.std.proofs.Common.{ℕ, zero, suc, ◌≡◌, ◌+◌, ◌-◌, ◌≤◌, ◌<◌, ◌^◌, ◌⊎◌, inl, inr, List, [], ◌∷◌, ◌++◌, Option, Some, None, length, refl, sym, ◌∙◌, ap, subst, append-nil, append_assoc, arith, nat_eq, true, false}
 use Rattle.std.proofs.lemmas.Bool.{eqb-true, eqb-false}
 use Rattle.wm_syntax.specs.declared.instructions.Op.{Op}
@@ -470,7 +470,7 @@ module _ (p : Profile) where
       let section : Tail id h.back h.back_marks = subst (λ y. Tail id y h.back_marks) (sym s.bytes) (subst (λ y. Tail id (s.front ++ s.back) y) (sym s.marks) (after_section f id s.front s.front_marks s.first s.back s.back_marks rest)) in
       subst (λ y. Tail id y k) (sym h.bytes) (subst (λ y. Tail id (h.front ++ h.back) y) (sym h.marks) (after_customs h.first.0 id h.front h.front_marks h.first.1 h.back h.back_marks section))
 
-  -- the first byte of a section, of which nothing is outside_mark
+  -- the first byte of a section, of which nothing is said
   begun : (id : ℕ) (F : ℕ → MarkedForm) (Q : MarkedForm) (b : List ℕ) (k : Marks) → Then (Then (MarkedByte id None) (MarkedNumber nothing_at F)) Q b k → (rest : List ℕ) × (later : Marks) × (b ≡ id ∷ rest) × (k ≡ outside_mark None ∷ later)
   begun id F Q b k h =
       let s = h.first in (
@@ -518,7 +518,7 @@ module _ (p : Profile) where
       (agree_then Done h.front h.front_marks i.front i.front_marks h.back h.back_marks i.back i.back_marks (literal_alike header h.front h.front_marks i.front i.front_marks h.first i.first)
       (λ d. tails_agree t.0 u.0 1 low h.back h.back_marks i.back i.back_marks t.1 u.1))
 
--- what is outside_mark of the bytes that both begin with
+-- what is said of the bytes that both begin with
 same_front : (b u v : List ℕ) (j k s t : Marks) → length b ≡ length j → length b ≡ length k → Agree (b ++ u) (j ++ s) (b ++ v) (k ++ t) → j ≡ k
 same_front [] u v [] [] s t l m h = refl
 same_front [] u v [] (n ∷ k) s t l m h = cc

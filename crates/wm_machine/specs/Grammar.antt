@@ -61,7 +61,7 @@ HasLabels zero (op.Label l ∷ ops) = ⊥
 HasLabels zero (op.BrTable n ∷ ops) = HasLabels (suc n) ops
 HasLabels zero (_ ∷ ops) = HasLabels zero ops
 
--- The ops of an expression (section 5.4.6) up to the end that endings it, else anywhere: as many ends as
+-- The ops of an expression (section 5.4.6) up to the end that closes it, else anywhere: as many ends as
 -- openings and one more, and in no shorter front so many.
 pub record IsExpression (ops : List Op) : Type 0 where
   pub labels : HasLabels 0 ops

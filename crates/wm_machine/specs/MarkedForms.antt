@@ -1,5 +1,5 @@
 -- Of what the grammar is made. A shape says which bytes spell something, and what is
--- outside_mark beside each byte.
+-- said beside each byte.
 use Rattle.std.specs.Prelude.{ℕ, zero, suc, ◌-◌, ◌≡◌, ◌≤◌, List, [], ◌∷◌, ◌++◌, Option, Some, None, length}
 use Rattle.std.specs.Prelude.{IsUtf8}
 use Rattle.wm_syntax.specs.Spelling.{Form, AreBytes}

@@ -326,7 +326,7 @@ module _ (v : FlatModule) where
       (puts_keep (λ h x. h) (λ h. h.most ≡ no_stats) (λ h x i. i) (option_to_list v.start) after_exports
       (puts_keep put_export (λ h. h.most ≡ no_stats) (λ h x i. i) v.exports after_globals refl))
 
-  -- the greatest controls are those of the deepest_nesting body
+  -- the greatest controls are those of the deepest body
   pub controls_at_end : (fs : List Function) → IsGood v → AllZip IsCodeOf fs v.codes → at_end.most.controls ≡ deepest_nesting fs
   controls_at_end fs d r =
       let one : OneResults after_elements = subst (λ s. AllByRecursion (λ f. length f.results ≤ 1) s.types) (sym spaces_before_code) d.types in

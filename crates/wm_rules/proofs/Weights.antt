@@ -1,4 +1,4 @@
--- What is kept of the items that were taken is their item_weight.
+-- What is kept of the items that were taken is their weight.
 use Rattle.std.proofs.Common.{ℕ, ◌+◌, ◌≡◌, List, [], ◌∷◌, ◌++◌, Option, Some, None, Bool, true, false, cond, Result, Ok, Err, length, refl, subst, arith, length-append, sum_by, nat_eq, nat_lt}
 use Rattle.std.proofs.lemmas.List.Sums.{sum_by-cons, sum_by_push}
 use Rattle.wm_syntax.specs.declared.types.ValType.{ValType}
@@ -97,7 +97,7 @@ import_grows (desc.Table l) s z e = sized_stays s.has_table _ s (record s { has_
 import_grows (desc.Memory l) s z e = sized_stays s.has_memory _ s (record s { has_memory = true }) z refl e
 import_grows (desc.Global g) s z e = global_import_grows g s z e
 
--- an item that is taken adds its item_weight
+-- an item that is taken adds its weight
 abbrev Adds : Held → ℕ → Held → Type 0
 Adds h n g = list_entries g ≡ list_entries h + n
 

@@ -48,7 +48,7 @@ take_law true [] (x ∷ xs) ts = (λ h. tt, λ h. tt)
 take_law false [] (x ∷ xs) ts = (λ h. cc, λ h. absurd h)
 take_law un (e ∷ es) (x ∷ xs) ts = take_step un es xs ts e x (fits e x) refl (take_law un es xs ts)
 
--- the lists that entry_of_type types on top of a frame give
+-- the lists that known types on top of a frame give
 known_agrees : (x : ValType) → Agrees (entry_of_type x) x
 known_agrees I32 = refl
 known_agrees I64 = refl

@@ -77,7 +77,7 @@ closes_to g gs below es m t k e =
     close_after g gs below k (take_all (reverse (option_to_list t)) (stack_at g gs below es m)) (take_types g.unreachable es (reverse (option_to_list t))) e
     (takes_to g gs below (reverse (option_to_list t)) es m e)
 
--- a frame that is open_frame
+-- a frame that is opened
 pub opened_tracks : (k : FrameKind) (t : Option ValType) (gs : List Frame) (ops : List Entry) (m : ℕ) (ess : List (List Entry)) → Segments gs ops ess → Nested (head k t ∷ map head_of gs)
     → Tracks (open_frame k t (bare_at gs ops m)) (running (head k t ∷ map head_of gs) (empty ∷ piles_of gs ess))
 opened_tracks k t gs ops m ess h n = ([] ∷ ess, (ops, refl, refl, h), refl, refl, n)

@@ -49,7 +49,7 @@ name_item kind.ImportModule text = Some (import_module text)
 name_item kind.ImportName text = Some (import_name text)
 name_item kind.Export text = Some (export_name text)
 
--- where a machine stands, what it has of a name, and what is outside_mark of the byte
+-- where a machine stands, what it has of a name, and what is said of the byte
 pub record ByteRead (M : Type 0) : Type 0 where
   pub at : M
   pub name : List ℕ
@@ -104,7 +104,7 @@ abbrev pub state_after : Profile → MachineState → List ℕ → MachineState
 state_after p s [] = s
 state_after p s (c ∷ b) = state_after p (after_byte p s c) b
 
--- what is outside_mark of each of these bytes
+-- what is said of each of these bytes
 abbrev pub marks : Profile → MachineState → List ℕ → Marks
 marks p s [] = []
 marks p s (c ∷ b) = (read_byte p s c).mark ∷ marks p (after_byte p s c) b

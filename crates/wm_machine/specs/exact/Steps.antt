@@ -71,7 +71,7 @@ abbrev pub machine_after_count : SectionKind → ℕ → ℕ → ℕ → Machine
 machine_after_count of functions bytes zero = machine_in_member of functions bytes zero at.Over
 machine_after_count of functions bytes (suc n) = machine_in_member of functions bytes n (member_at_start of)
 
--- the same, where functions member_at_start to await their code, or get it
+-- the same, where functions begin to await their code, or get it
 abbrev pub machine_after_paired_count : SectionKind → ℕ → ℕ → ℕ → Machine
 machine_after_paired_count section_kind.Function functions bytes n =
     machine_after_count section_kind.Function n bytes n

@@ -61,7 +61,7 @@ abbrev pub in_spaces : Held → Result IndexSpaces Why → Result Held Why
 in_spaces h (Ok s) = Ok (record h { spaces = s })
 in_spaces h (Err w) = Err w
 
--- no_body changes
+-- nothing changes
 abbrev pub where_ok : Held → Result (Unit {0}) Why → Result Held Why
 where_ok h (Ok u) = Ok h
 where_ok h (Err w) = Err w

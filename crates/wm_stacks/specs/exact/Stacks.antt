@@ -91,7 +91,7 @@ down_to floor [] m = ([], m)
 down_to floor (e ∷ es) m = if nat_le floor (length es) then down_to floor es (count_after_move m)
     else (e ∷ es, m)
 
--- the stacks with the innermost frame mark_unreachable as unreachable
+-- the stacks with the innermost frame marked as unreachable
 abbrev pub mark_unreachable : Stack → Stack
 mark_unreachable s = record s { frames = marked_frames s.frames }
 

@@ -27,7 +27,7 @@ abbrev pub Closes : Option ValType → Stack → Result Frame Why → Stack → 
 Closes t s (Ok f) z = (k : Frame → Stack → Result Stack Why) → drive_close t s k ≡ k f z
 Closes t s (Err why) z = (k : Frame → Stack → Result Stack Why) → drive_close t s k ≡ Err why
 
--- at most this much more stack_weight and height
+-- at most this much more weight and height
 abbrev pub Adds : ℕ → ℕ → Stack → Stack → Type 0
 Adds w h s z = (stack_weight z ≤ stack_weight s + w) × (height_sum z ≤ height_sum s + h)
 

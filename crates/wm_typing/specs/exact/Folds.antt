@@ -9,7 +9,7 @@ use Rattle.wm_typing.specs.Typing.{Context}
 use Rattle.wm_typing.specs.Bodies.{Body}
 use Rattle.wm_typing.specs.exact.Bodies.{body_at_start, body_after_op}
 
--- a body that has body_at_start, with these declared locals
+-- a body that has begun, with these declared locals
 abbrev pub body_with_locals : Context → ℕ → List ValType → Body
 body_with_locals c x locals = record (body_at_start c x) { declared = locals }
 
