@@ -1,6 +1,6 @@
 #!/usr/bin/env python3
 """The two tables that follow from the names of instructions: `BY_NAME` of wm_syntax, the bytes in the order of their names, and
-`GUESSES` of wm_read, where each byte stands at the place that `long_guess` gives its name. Both are made from `name_at` of
+`GUESSES` of wm_bodies, where each byte stands at the place that `long_guess` gives its name. Both are made from `name_at` of
 op_names.rt. Status 1 where one of them stands otherwise. That `BY_NAME` is in order is proved, too; a wrong guess only costs time.
 
     bench/tables.py            says which is not as it should be
@@ -12,7 +12,7 @@ import sys
 
 CRATES = pathlib.Path(__file__).resolve().parent.parent / "crates"
 NAMES = CRATES / "wm_syntax/src/instructions/op_names.rt"
-GUESSED = CRATES / "wm_read/src/code/op_words.rt"
+GUESSED = CRATES / "wm_bodies/src/op_words.rt"
 # of two names with one place this one is guessed
 PREFERRED = b"memory.size"
 

@@ -16,7 +16,7 @@ use Rattle.wm_tokens.specs.Identifiers.{Ids, Resolves}
 use Rattle.wm_tokens.specs.Written.{Named, WritesGroups, Names, TypeUse, Scope, WritesInstructions}
 use Rattle.wm_tokens.specs.Fields.{WritesName, WritesLimits, WritesTableType, WritesGlobalType, WritesConst, WritesExport, WritesStrings, WritesOffset}
 use Rattle.wm_read.specs.exact.FirstReading.{skip}
-use Rattle.wm_read.specs.exact.Reading.{is_word}
+use Rattle.wm_bodies.specs.exact.Reading.{is_word}
 use Rattle.wm_read.proofs.WrittenForms.{Closed, keeps_then, keeps_groups, keeps_use, keeps_index, keeps_instructions, keeps_limits, keeps_table_type, keeps_global_type, keeps_const, keeps_export, keeps_element, keeps_segment}
 
 abbrev pub Balanced : List Token → Type 0

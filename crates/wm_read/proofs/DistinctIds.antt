@@ -5,10 +5,10 @@ use Rattle.std.proofs.lemmas.Bool.{and_from, and_parts}
 use Rattle.std.proofs.lemmas.List.{append-nil}
 use Rattle.std.proofs.lemmas.Option.{slice_get_within}
 use Rattle.wm_tokens.specs.Identifiers.{Id, Ids, AreDistinct}
-use Rattle.wm_read.specs.exact.Reading.{place_of}
+use Rattle.wm_bodies.specs.exact.Reading.{place_of}
 use Rattle.wm_read.specs.exact.Fields.{all_new}
 use Rattle.wm_tokens.proofs.Basics.{same_some}
-use Rattle.wm_read.proofs.Indices.{distinct_nearest, place_found, place_nearest}
+use Rattle.wm_bodies.proofs.Indices.{distinct_nearest, place_found, place_nearest}
 
 -- the last one of a list, and those before it
 get_last : (ids : Ids) (id : Id) (x : ℕ) (name : List ℕ) → slice_get (ids ++ id ∷ []) x ≡ Some (Some name)

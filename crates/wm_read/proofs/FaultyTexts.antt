@@ -23,7 +23,7 @@ use Rattle.wm_read.specs.Spellings.{IsTextOf, replaced}
 use Rattle.wm_tokens.specs.declared.faults.TextWhy.{TextWhy}
 use Rattle.wm_read.specs.declared.spellings.Spellings.{Spellings}
 use Rattle.wm_read.specs.declared.spellings.Spellings.TheVariants.{Standard, Older}
-use Rattle.wm_read.specs.exact.Reading.{is_word}
+use Rattle.wm_bodies.specs.exact.Reading.{is_word}
 use Rattle.wm_tokens.specs.inner.Places.{HasNoFloat, over_blank}
 use Rattle.wm_tokens.proofs.Ahead.{ahead_last}
 use Rattle.wm_read.proofs.OlderWords.{stays_or_word}

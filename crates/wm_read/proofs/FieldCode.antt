@@ -6,10 +6,10 @@ use Rattle.std.proofs.lemmas.Bool.{cond-false, cond-true, false_from_ne_true}
 use Rattle.std.proofs.lemmas.List.{append-nil}
 use Rattle.std.proofs.lemmas.Str.{IsUtf8-from_is_utf8, is_utf8-from_IsUtf8}
 use Rattle.wm_tokens.specs.Tokens.{Token, open_paren, close_paren, string, atom}
-use Rattle.wm_read.specs.exact.Reading.{◌>>=◌, made, atom_at}
+use Rattle.wm_bodies.specs.exact.Reading.{◌>>=◌, made, atom_at}
 use Rattle.wm_read.specs.exact.Fields.{name_at, strings_at}
 use Rattle.wm_tokens.proofs.Basics.{same_some}
-use Rattle.wm_read.proofs.Readers.{bind_ok}
+use Rattle.wm_bodies.proofs.Readers.{bind_ok}
 
 -- ---- names
 

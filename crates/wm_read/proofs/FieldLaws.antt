@@ -15,19 +15,19 @@ use Rattle.wm_tokens.specs.Written.{Names, Paren}
 use Rattle.wm_tokens.specs.Fields.{Field, type_field, import_field, function_field, table_field, memory_field, global_field, export_field, start_field, element_field, segment_field, HasDistinct, WritesExport, WritesField, WritesLimits, WritesName, WritesStrings, WritesTableType, module_of}
 use Rattle.wm_read.specs.declared.fields.words.FieldKind.{FieldKind}
 use Rattle.wm_read.specs.declared.fields.words.FieldKind.TheVariants as kind
-use Rattle.wm_read.specs.exact.Reading.{atom_at, id_at, index_of, labels_at, then_at}
-use Rattle.wm_read.specs.exact.TypeUses.{begins_open}
+use Rattle.wm_bodies.specs.exact.Reading.{atom_at, id_at, index_of, labels_at, then_at}
+use Rattle.wm_bodies.specs.exact.TypeUses.{begins_open}
 use Rattle.wm_read.specs.exact.Signatures.{signature_at}
 use Rattle.wm_read.specs.exact.FieldTypes.{limits_at, table_type_at, global_type_at}
 use Rattle.wm_read.specs.exact.Fields.{field_word, field_named, name_at, bytes_at, const_at, offset_at, desc_at, item_at, function_at, inside_at, field_at, fields_at}
 use Rattle.wm_read.proofs.FieldParts.{OfConst, OfDesc, OfOffset, headed_sound, headed_complete, with_found, name_sound, name_complete, bytes_sound, bytes_complete, const_sound, const_complete, offset_sound, offset_complete, desc_sound, desc_complete, item_sound, item_complete, indices_sound, indices_complete, number_not_id, table_not_id, type_not_id, use_not_id, close_number}
 use Rattle.wm_read.proofs.FieldTypes.{NoNumber, OfGlobalType, limits_sound, limits_complete, table_type_sound, table_type_complete, global_type_sound, global_type_complete}
 use Rattle.wm_read.proofs.FunctionLaws.{FunctionAt, function_sound, function_complete}
-use Rattle.wm_read.proofs.Immediates.{NotId, id_sound, id_complete}
-use Rattle.wm_read.proofs.Indices.{index_sound, index_complete}
-use Rattle.wm_read.proofs.Readers.{Sound, Complete, Any, Both, Begins, BeginsClose, made_is, made_sound, many_complete, many_sound, then_complete, then_sound}
+use Rattle.wm_bodies.proofs.Immediates.{NotId, id_sound, id_complete}
+use Rattle.wm_bodies.proofs.Indices.{index_sound, index_complete}
+use Rattle.wm_bodies.proofs.Readers.{Sound, Complete, Any, Both, Begins, BeginsClose, made_is, made_sound, many_complete, many_sound, then_complete, then_sound}
 use Rattle.wm_read.proofs.SignatureLaws.{OfSignature, signature_sound, signature_complete}
-use Rattle.wm_read.proofs.TypeUseLaws.{KnowsTypes}
+use Rattle.wm_bodies.proofs.TypeUseLaws.{KnowsTypes}
 
 -- ---- a field, within its parentheses
 

@@ -29,10 +29,10 @@ use Rattle.wm_tokens.specs.Tokens.{Token, open_paren, close_paren, string, atom}
 use Rattle.wm_tokens.specs.Identifiers.{Id, Ids, AreDistinct, WritesId, Resolves, ResolvesLabel}
 use Rattle.wm_tokens.specs.Written.{Named, Names, Scope, Paren, TypeUse}
 use Rattle.wm_tokens.specs.Fields.{HasDistinct, WritesConst, WritesDesc, WritesExport, WritesGlobalType, WritesLimits, WritesName, WritesOffset, WritesStrings, WritesTableType}
-use Rattle.wm_read.specs.inner.Pieces.{Piece, plain}
-use Rattle.wm_read.specs.exact.Reading.{Reader, ◌>>=◌, made, close_at, atom_at, then_at, paren_at, id_at, index_of, integer_of, labels_at, class_at, kind_at, piece_at, same_bytes}
-use Rattle.wm_read.specs.exact.TypeUses.{call_use_at}
-use Rattle.wm_read.specs.exact.NamedUses.{named_use_at}
+use Rattle.wm_bodies.specs.inner.Pieces.{Piece, plain}
+use Rattle.wm_bodies.specs.exact.Reading.{Reader, ◌>>=◌, made, close_at, atom_at, then_at, paren_at, id_at, index_of, integer_of, labels_at, class_at, kind_at, piece_at, same_bytes}
+use Rattle.wm_bodies.specs.exact.TypeUses.{call_use_at}
+use Rattle.wm_bodies.specs.exact.NamedUses.{named_use_at}
 use Rattle.wm_read.specs.exact.FieldTypes.{limits_at, table_type_at, global_type_at}
 use Rattle.wm_read.specs.exact.Fields.{item_word, with_word, item_named, headed_at, name_at, strings_at, bytes_at, const_kind, const_class, const_at, offset_at, desc_kind, desc_at, space_of, item_at}
 use Rattle.wm_tokens.proofs.Atoms.{magnitude_more}
@@ -40,13 +40,13 @@ use Rattle.wm_tokens.proofs.Basics.{chosen, same_some}
 use Rattle.wm_read.proofs.FieldTypes.{NoNumber, OfGlobalType, limits_sound, limits_complete, table_type_sound, table_type_complete, global_type_sound, global_type_complete}
 use Rattle.wm_floats.specs.exact.Atoms.{float_of}
 use Rattle.wm_syntax.specs.declared.instructions.FloatType.TheVariants as float
-use Rattle.wm_read.proofs.Floats.{float_complete}
-use Rattle.wm_read.proofs.Immediates.{NotId, NotIndex, id_sound, id_complete, integer_complete, labels_sound, labels_complete}
-use Rattle.wm_read.proofs.Indices.{distinct_nearest, index_sound, index_complete, number_not_id as number_no_id}
-use Rattle.wm_read.proofs.NamedUses.{UseEnds, uses_are_written, uses_are_read}
-use Rattle.wm_read.proofs.PieceLaws.{piece_named, piece_sound}
-use Rattle.wm_read.proofs.Readers.{Sound, Complete, Any, Both, BeginsClose, bind_ok, bind_is, is_same, same_is, made_is, made_sound, paren_complete, paren_sound, then_complete, then_sound}
-use Rattle.wm_read.proofs.TypeUseLaws.{KnowsTypes, call_sound}
+use Rattle.wm_bodies.proofs.Floats.{float_complete}
+use Rattle.wm_bodies.proofs.Immediates.{NotId, NotIndex, id_sound, id_complete, integer_complete, labels_sound, labels_complete}
+use Rattle.wm_bodies.proofs.Indices.{distinct_nearest, index_sound, index_complete, number_not_id as number_no_id}
+use Rattle.wm_bodies.proofs.NamedUses.{UseEnds, uses_are_written, uses_are_read}
+use Rattle.wm_bodies.proofs.PieceLaws.{piece_named, piece_sound}
+use Rattle.wm_bodies.proofs.Readers.{Sound, Complete, Any, Both, BeginsClose, bind_ok, bind_is, is_same, same_is, made_is, made_sound, paren_complete, paren_sound, then_complete, then_sound}
+use Rattle.wm_bodies.proofs.TypeUseLaws.{KnowsTypes, call_sound}
 
 -- ---- a form whose word says what it holds
 

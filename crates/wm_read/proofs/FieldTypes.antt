@@ -12,11 +12,11 @@ use Rattle.wm_tokens.specs.Fields.{WritesGlobalType, WritesLimits, WritesMax, Wr
 use Rattle.wm_syntax.specs.Types.{type_text}
 use Rattle.wm_tokens.specs.Written.{UnsignedNumber, Paren, Keyword}
 use Rattle.wm_read.specs.exact.FieldTypes.{const_type, global_type_at, limits_at, limits_of, max_at, table_type_at, var_type}
-use Rattle.wm_read.specs.exact.Reading.{◌>>=◌, atom_at, is_id, is_word, paren_at, then_at, type_of, unsigned_of, word_of}
+use Rattle.wm_bodies.specs.exact.Reading.{◌>>=◌, atom_at, is_id, is_word, paren_at, then_at, type_of, unsigned_of, word_of}
 use Rattle.wm_tokens.proofs.Basics.{chosen, same_some}
-use Rattle.wm_read.proofs.Immediates.{OfType, number_not_word, type_complete, type_sound}
-use Rattle.wm_read.proofs.Indices.{number_not_id, unsigned_found, unsigned_more}
-use Rattle.wm_read.proofs.Readers.{Sound, Complete, Any, Both, atom_complete, atom_sound, bind_is, bind_ok, made_is, made_sound, paren_complete, paren_sound, then_complete, then_sound, word_found, word_is}
+use Rattle.wm_bodies.proofs.Immediates.{OfType, number_not_word, type_complete, type_sound}
+use Rattle.wm_bodies.proofs.Indices.{number_not_id, unsigned_found, unsigned_more}
+use Rattle.wm_bodies.proofs.Readers.{Sound, Complete, Any, Both, atom_complete, atom_sound, bind_is, bind_ok, made_is, made_sound, paren_complete, paren_sound, then_complete, then_sound, word_found, word_is}
 
 -- ---- limits
 

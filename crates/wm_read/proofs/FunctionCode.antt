@@ -12,18 +12,18 @@ use Rattle.wm_tokens.specs.Identifiers.{Id, Ids}
 use Rattle.wm_tokens.specs.Written.{Named, Names, Scope, ids_of, types_of}
 use Rattle.wm_tokens.specs.declared.faults.TextWhy.{TextWhy}
 use Rattle.wm_tokens.specs.declared.faults.TextWhy.TheVariants as why
-use Rattle.wm_read.specs.declared.code.named.NamedRun.{NamedRun}
-use Rattle.wm_read.specs.declared.code.named.NamedRun.TheVariants.{Unnamed}
-use Rattle.wm_read.specs.exact.Reading.{◌>>=◌, ops_at}
-use Rattle.wm_read.specs.exact.TypeUses.{begins_open, instructions_at, unnamed}
-use Rattle.wm_read.specs.exact.Fields.{all_new, function_at, function_by, function_of, is_function, is_new}
+use Rattle.wm_bodies.specs.declared.named.NamedRun.{NamedRun}
+use Rattle.wm_bodies.specs.declared.named.NamedRun.TheVariants.{Unnamed}
+use Rattle.wm_bodies.specs.exact.Reading.{◌>>=◌, is_new, ops_at}
+use Rattle.wm_bodies.specs.exact.TypeUses.{begins_open, instructions_at, unnamed}
+use Rattle.wm_read.specs.exact.Fields.{all_new, function_at, function_by, function_of, is_function}
 use Rattle.wm_read.specs.inner.Fields.{head_at}
-use Rattle.wm_read.specs.inner.Named.{named_of, named_list}
-use Rattle.wm_read.specs.inner.Views.{Fails, IsOfReaders, NotMemory}
+use Rattle.wm_bodies.specs.inner.Named.{named_of, named_list}
+use Rattle.wm_bodies.specs.inner.Views.{Fails, IsOfReaders, NotMemory}
 use Rattle.wm_tokens.proofs.Basics.{same_some}
-use Rattle.wm_read.proofs.Groups.{fails_read, fails_on}
-use Rattle.wm_read.proofs.NamedGroups.{named_append, named_push}
-use Rattle.wm_read.proofs.Readers.{bind_is}
+use Rattle.wm_bodies.proofs.Groups.{fails_carried, fails_on, fails_read}
+use Rattle.wm_bodies.proofs.NamedGroups.{named_append, named_push}
+use Rattle.wm_bodies.proofs.Readers.{bind_is}
 
 -- ---- identifiers
 
@@ -160,24 +160,6 @@ types_many ts run j more n t m e f le =
 pub ruleset types_laws = (types_more, types_end, types_many)
 
 -- ---- the whole
-
-refused : {Y : Type 0} (v : TextWhy) (read : Option Y) → NotMemory v → Fails v read → read ≡ None
-refused why.Memory read h f = absurd h
-refused why.NotUtf8 read h f = absurd f
-refused why.BadToken read h f = absurd f
-refused why.OpenComment read h f = absurd f
-refused why.OpenString read h f = absurd f
-refused why.BadEscape read h f = absurd f
-refused _ read h f = f
-
-pub fails_carried : {Y : Type 0} (v w : TextWhy) (read : Option Y) → (NotMemory w → NotMemory v) → (IsOfReaders v → IsOfReaders w) → Fails v read → Fails w read
-fails_carried v why.Memory read h g f = tt
-fails_carried v why.NotUtf8 read h g f = g (fails_read v read f)
-fails_carried v why.BadToken read h g f = g (fails_read v read f)
-fails_carried v why.OpenComment read h g f = g (fails_read v read f)
-fails_carried v why.OpenString read h g f = g (fails_read v read f)
-fails_carried v why.BadEscape read h g f = g (fails_read v read f)
-fails_carried v _ read h g f = refused v read (h tt) f
 
 pub earlier_read : (w : TextWhy) → (w ≡ why.RepeatedId) ⊎ (w ≡ why.TooManyLocals) → IsOfReaders w
 earlier_read w (inl e) = subst IsOfReaders (sym e) tt

@@ -12,20 +12,20 @@ use Rattle.wm_tokens.specs.Tokens.{Token, open_paren, close_paren, string, atom}
 use Rattle.wm_tokens.specs.Identifiers.{AreDistinct}
 use Rattle.wm_tokens.specs.Written.{Named, Names, Scope, TypeUse, WritesGroup, WritesGroups, WritesInstructions, ids_of, types_of}
 use Rattle.wm_tokens.specs.Fields.{HasDistinct}
-use Rattle.wm_read.specs.inner.Pieces.{Piece, WritesPieces}
-use Rattle.wm_read.specs.exact.Reading.{Reader, then_at}
-use Rattle.wm_read.specs.exact.TypeUses.{instructions_at, named_at}
-use Rattle.wm_read.specs.exact.NamedUses.{named_use_at}
+use Rattle.wm_bodies.specs.inner.Pieces.{Piece, WritesPieces}
+use Rattle.wm_bodies.specs.exact.Reading.{Reader, then_at}
+use Rattle.wm_bodies.specs.exact.TypeUses.{instructions_at, named_at}
+use Rattle.wm_bodies.specs.exact.NamedUses.{named_use_at}
 use Rattle.wm_read.specs.exact.Fields.{all_new, function_at, function_by, function_of, is_function}
 use Rattle.wm_tokens.proofs.Basics.{chosen, same_some}
-use Rattle.wm_read.proofs.BodyTheorem.{law_read, law_written}
+use Rattle.wm_bodies.proofs.BodyTheorem.{law_read, law_written}
 use Rattle.wm_read.proofs.DistinctIds.{are_distinct, distinct_new}
-use Rattle.wm_read.proofs.NamedGroups.{NotGroup, OfGroups, groups_are_read, groups_are_written}
-use Rattle.wm_read.proofs.NamedUses.{UseEnds, uses_are_read, uses_are_written}
-use Rattle.wm_read.proofs.PieceLaws.{Follow, piece_follows}
-use Rattle.wm_read.proofs.Readers.{Sound, Complete, Both, BeginsClose, bind_is, bind_ok, then_complete, then_sound}
-use Rattle.wm_read.proofs.Trees.{body_flat}
-use Rattle.wm_read.proofs.TypeUseLaws.{AreOf, KnowsTypes}
+use Rattle.wm_bodies.proofs.NamedGroups.{NotGroup, OfGroups, groups_are_read, groups_are_written}
+use Rattle.wm_bodies.proofs.NamedUses.{UseEnds, uses_are_read, uses_are_written}
+use Rattle.wm_bodies.proofs.PieceLaws.{Follow, piece_follows}
+use Rattle.wm_bodies.proofs.Readers.{Sound, Complete, Both, BeginsClose, bind_is, bind_ok, then_complete, then_sound}
+use Rattle.wm_bodies.proofs.Trees.{body_flat}
+use Rattle.wm_bodies.proofs.TypeUseLaws.{AreOf, KnowsTypes}
 
 abbrev pub scope_of : Names → List Named → List Named → Scope
 scope_of names params locals = record { names = names; locals = ids_of (params ++ locals) }

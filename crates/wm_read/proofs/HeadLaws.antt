@@ -18,20 +18,20 @@ use Rattle.wm_tokens.specs.Tokens.{Token, open_paren, close_paren, atom}
 use Rattle.wm_tokens.specs.Identifiers.{Id, WritesId, Resolves}
 use Rattle.wm_tokens.specs.Written.{Keyword, Paren, UnsignedNumber, WritesType, Named, WritesGroups, Names, TypeUse, WritesInstructions, ids_of}
 use Rattle.wm_tokens.specs.Fields.{Field, type_field, import_field, function_field, table_field, memory_field, global_field, export_field, start_field, element_field, segment_field, WritesName, WritesSignature, WritesMax, WritesLimits, WritesTableType, WritesGlobalType, WritesConst, WritesDesc, WritesExport, WritesOffset, WritesStrings, WritesField, names_of}
-use Rattle.wm_read.specs.exact.Fields.{is_new, name_at, space_of}
+use Rattle.wm_read.specs.exact.Fields.{name_at, space_of}
 use Rattle.wm_read.specs.exact.FirstReading.{Noted, with_item, with_type, free_id_at, skip, type_head_at, desc_head_at, import_head_at, item_head_at, head_by, head_at, heads_within, heads_at}
 use Rattle.wm_read.specs.exact.Signatures.{signature_at}
-use Rattle.wm_read.specs.exact.Reading.{Reader, ◌>>=◌, close_at, id_at}
-use Rattle.wm_read.specs.exact.TypeUses.{begins_open}
+use Rattle.wm_bodies.specs.exact.Reading.{Reader, ◌>>=◌, close_at, id_at, is_new}
+use Rattle.wm_bodies.specs.exact.TypeUses.{begins_open}
 use Rattle.wm_tokens.proofs.Atoms.{magnitude_more}
 use Rattle.wm_read.proofs.Balanced.{AllBalanced, balanced_then, balanced_groups, balanced_use, balanced_instructions, balanced_limits, balanced_table_type, balanced_global_type, balanced_const, balanced_export, balanced_start, balanced_element, balanced_segment}
 use Rattle.wm_read.proofs.FieldParts.{name_complete}
-use Rattle.wm_read.proofs.Immediates.{NotId, id_complete}
-use Rattle.wm_read.proofs.Indices.{number_not_id}
-use Rattle.wm_read.proofs.Readers.{bind_is}
+use Rattle.wm_bodies.proofs.Immediates.{NotId, id_complete}
+use Rattle.wm_bodies.proofs.Indices.{number_not_id}
+use Rattle.wm_bodies.proofs.Readers.{bind_is}
 use Rattle.wm_read.proofs.Rules.{kind_of, after, allowed, note_all}
 use Rattle.wm_read.proofs.SignatureLaws.{signature_complete}
-use Rattle.wm_read.proofs.TypeUseLaws.{KnowsTypes}
+use Rattle.wm_bodies.proofs.TypeUseLaws.{KnowsTypes}
 
 -- ---- what stands in parentheses
 

@@ -11,16 +11,16 @@ use Rattle.wm_tokens.specs.Written.{Names}
 use Rattle.wm_tokens.specs.Fields.{HasDistinct, WritesName}
 use Rattle.wm_read.specs.declared.fields.words.FieldKind.{FieldKind}
 use Rattle.wm_read.specs.declared.fields.words.FieldKind.TheVariants as field
-use Rattle.wm_read.specs.exact.Fields.{field_named, is_new, item_named, name_at, space_of}
+use Rattle.wm_read.specs.exact.Fields.{field_named, item_named, name_at, space_of}
 use Rattle.wm_read.specs.exact.FirstReading.{Noted, with_item, with_type, free_id_at, skip, type_head_at, desc_head_at, import_head_at, item_head_at, start_head_at, other_head_at, head_by, head_at, heads_within, heads_at, names_in}
 use Rattle.wm_read.specs.exact.Signatures.{signature_at}
-use Rattle.wm_read.specs.exact.Reading.{Reader, ◌>>=◌, open_at, close_at, atom_at, id_at}
-use Rattle.wm_read.specs.exact.TypeUses.{begins_open}
+use Rattle.wm_bodies.specs.exact.Reading.{Reader, ◌>>=◌, open_at, close_at, atom_at, id_at, is_new}
+use Rattle.wm_bodies.specs.exact.TypeUses.{begins_open}
 use Rattle.wm_tokens.proofs.Basics.{chosen, same_some}
 use Rattle.wm_read.proofs.DistinctIds.{new_distinct}
 use Rattle.wm_read.proofs.FieldParts.{name_sound}
-use Rattle.wm_read.proofs.Immediates.{id_sound}
-use Rattle.wm_read.proofs.Readers.{Sound, bind_ok, bind_is}
+use Rattle.wm_bodies.proofs.Immediates.{id_sound}
+use Rattle.wm_bodies.proofs.Readers.{Sound, bind_ok, bind_is}
 use Rattle.wm_read.proofs.SignatureLaws.{OfSignature, signature_sound}
 
 -- ---- skipping

@@ -1,22 +1,4 @@
-pub mod Readers
-pub mod Ends
-pub mod Indices
-pub mod Floats
-pub mod Immediates
-pub mod OpWords
-pub mod PieceLaws
-pub mod BodyLaws
-pub mod BodyLoop
-pub mod BodyTheorem
-pub mod TypeUseLaws
-pub mod Trees
-pub mod Nests
-pub mod OpenBlocks
-pub mod Numbers
-pub mod Tables
-pub mod BuiltBodies
-pub mod Groups
-pub mod NamedGroups
+pub mod Frames
 pub mod FieldTypes
 pub mod DistinctIds
 pub mod FieldParts
@@ -25,7 +7,6 @@ pub mod FieldLaws
 pub mod FieldCode
 pub mod FunctionCode
 pub mod ModuleFields
-pub mod NamedUses
 pub mod SignatureLaws
 pub mod HeadSteps
 pub mod Skips
@@ -38,5 +19,3 @@ pub mod FaultyTexts
 pub mod ModuleLaws
 pub mod OlderWords
 pub mod TextLaws
-pub mod Spaces
-pub mod Keys

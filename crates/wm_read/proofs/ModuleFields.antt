@@ -16,20 +16,20 @@ use Rattle.std.specs.Prelude.{codes}
 use Rattle.wm_tokens.specs.Fields.{Field, type_field, import_field, function_field, table_field, memory_field, global_field, export_field, start_field, element_field, segment_field, module_of}
 use Rattle.wm_read.specs.declared.fields.words.FieldKind.{FieldKind}
 use Rattle.wm_read.specs.inner.Fields.{head_at, or, with_field}
-use Rattle.wm_read.specs.inner.Pieces.{Opened, after, piece_ops}
-use Rattle.wm_read.specs.exact.Reading.{◌>>=◌, made, many_at, ops_at, ops_within, piece_at}
-use Rattle.wm_read.specs.exact.TypeUses.{begins_open, call_use_at, instructions_at, named_at}
-use Rattle.wm_read.specs.exact.NamedUses.{named_use_at}
+use Rattle.wm_bodies.specs.inner.Pieces.{Opened, after, piece_ops}
+use Rattle.wm_bodies.specs.exact.Reading.{◌>>=◌, made, many_at, ops_at, ops_within, piece_at}
+use Rattle.wm_bodies.specs.exact.TypeUses.{begins_open, call_use_at, instructions_at, named_at}
+use Rattle.wm_bodies.specs.exact.NamedUses.{named_use_at}
 use Rattle.wm_read.specs.exact.Fields.{field_at, field_word, fields_at, function_at, function_by, function_of, is_function}
 use Rattle.wm_tokens.specs.Written.{Paren, TypeUse}
 use Rattle.wm_tokens.proofs.Basics.{chosen, same_some}
 use Rattle.wm_read.proofs.FieldLaws.{OfKind, field_front}
-use Rattle.wm_read.proofs.Groups.{many_is}
-use Rattle.wm_read.proofs.NamedGroups.{OfGroups, groups_are_written}
-use Rattle.wm_read.proofs.NamedUses.{uses_are_written}
-use Rattle.wm_read.proofs.PieceLaws.{piece_sound}
-use Rattle.wm_read.proofs.Readers.{Sound, bind_is, bind_ok, then_sound}
-use Rattle.wm_read.proofs.TypeUseLaws.{call_sound}
+use Rattle.wm_bodies.proofs.Groups.{many_is}
+use Rattle.wm_bodies.proofs.NamedGroups.{OfGroups, groups_are_written}
+use Rattle.wm_bodies.proofs.NamedUses.{uses_are_written}
+use Rattle.wm_bodies.proofs.PieceLaws.{piece_sound}
+use Rattle.wm_bodies.proofs.Readers.{Sound, bind_is, bind_ok, then_sound}
+use Rattle.wm_bodies.proofs.TypeUseLaws.{call_sound}
 
 -- ---- what is read stands in front, whatever the names are
 

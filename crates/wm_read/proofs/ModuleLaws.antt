@@ -12,16 +12,16 @@ use Rattle.wm_tokens.specs.Written.{Names}
 use Rattle.wm_tokens.specs.Fields.{Field, HasDistinct, IsDefinition, IsImport, WritesField, Writes, module_of, names_of, start_of}
 use Rattle.wm_read.specs.exact.Fields.{fields_at}
 use Rattle.wm_read.specs.exact.FirstReading.{Noted, nothing, heads_at, names_in, names_at}
-use Rattle.wm_read.specs.exact.Reading.{◌>>=◌, made, open_at, close_at, atom_at, word_of, id_at}
+use Rattle.wm_bodies.specs.exact.Reading.{◌>>=◌, made, open_at, close_at, atom_at, word_of, id_at}
 use Rattle.wm_read.specs.exact.TextModules.{end_at, frame_at, all_names_at, module_within, module_at}
 use Rattle.wm_tokens.proofs.Basics.{same_some}
 use Rattle.wm_read.proofs.FieldLaws.{fields_sound, fields_complete}
 use Rattle.wm_read.proofs.HeadLaws.{inside, field_opens, heads_are}
 use Rattle.wm_read.proofs.HeadSteps.{heads_distinct}
-use Rattle.wm_read.proofs.Immediates.{NotId, id_sound, id_complete}
-use Rattle.wm_read.proofs.Readers.{bind_ok, bind_is, made_is, open_found, close_found, word_found, word_is}
+use Rattle.wm_bodies.proofs.Immediates.{NotId, id_sound, id_complete}
+use Rattle.wm_bodies.proofs.Readers.{bind_ok, bind_is, made_is, open_found, close_found, word_found, word_is}
 use Rattle.wm_read.proofs.Rules.{Keeps, note_all, nothing_distinct, rules_kept, rules_noted}
-use Rattle.wm_read.proofs.TypeUseLaws.{KnowsTypes}
+use Rattle.wm_bodies.proofs.TypeUseLaws.{KnowsTypes}
 
 -- ---- the frame
 

@@ -12,7 +12,7 @@ use Rattle.std.specs.Str.{bytes_eq}
 use Rattle.wm_read.specs.Spellings.{older_words, replaced}
 use Rattle.wm_tokens.specs.Tokens.{Token, open_paren, close_paren, string, atom, is_id_char, is_digit, is_lower, is_upper, IsAtom, TokenText, Ends}
 use Rattle.wm_read.specs.declared.spellings.Spellings.TheVariants.{Standard, Older}
-use Rattle.wm_read.specs.exact.Reading.{is_word}
+use Rattle.wm_bodies.specs.exact.Reading.{is_word}
 use Rattle.wm_tokens.specs.exact.Scan.{ahead, no_more, blank, first, fault, lexed}
 use Rattle.wm_read.specs.inner.Renewed.{Renewed, filled, part_for}
 use Rattle.wm_tokens.proofs.Ahead.{IsAhead, IsBlank, ahead_blank, ahead_is_so, ahead_last, ahead_token}

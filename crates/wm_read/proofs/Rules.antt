@@ -14,7 +14,8 @@ use Rattle.wm_syntax.specs.Types.{Signature}
 use Rattle.wm_tokens.specs.Identifiers.{Id, Ids, AreDistinct}
 use Rattle.wm_tokens.specs.Written.{Names}
 use Rattle.wm_tokens.specs.Fields.{Field, type_field, import_field, function_field, table_field, memory_field, global_field, export_field, start_field, element_field, segment_field, start_of, names_of, IsDefinition, IsImport, HasDistinct}
-use Rattle.wm_read.specs.exact.Fields.{is_new, space_of}
+use Rattle.wm_read.specs.exact.Fields.{space_of}
+use Rattle.wm_bodies.specs.exact.Reading.{is_new}
 use Rattle.wm_read.specs.exact.FirstReading.{Noted, nothing, with_item, with_type}
 use Rattle.wm_tokens.proofs.Basics.{chosen, same_some}
 use Rattle.wm_read.proofs.DistinctIds.{distinct_new}

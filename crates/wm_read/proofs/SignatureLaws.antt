@@ -9,14 +9,14 @@ use Rattle.wm_syntax.specs.Types.{Signature}
 use Rattle.wm_tokens.specs.Tokens.{Token, open_paren, close_paren, string, atom}
 use Rattle.wm_tokens.specs.Written.{Named, Paren}
 use Rattle.wm_tokens.specs.Fields.{WritesSignature}
-use Rattle.wm_read.specs.exact.Reading.{Reader, then_at, paren_at}
+use Rattle.wm_bodies.specs.exact.Reading.{Reader, then_at, paren_at}
 use Rattle.wm_read.specs.exact.Signatures.{signature_of, signature_at}
-use Rattle.wm_read.specs.exact.NamedUses.{results_at}
-use Rattle.wm_read.specs.exact.TypeUses.{begins_group, named_at}
-use Rattle.wm_read.proofs.Readers.{Sound, Complete, Any, Both, BeginsClose, made_sound, made_is, paren_sound, paren_complete, then_sound, then_complete}
-use Rattle.wm_read.proofs.NamedGroups.{OfGroups, groups_are_written, groups_are_read}
-use Rattle.wm_read.proofs.NamedUses.{OfResults, results_sound, results_complete, no_param}
-use Rattle.wm_read.proofs.TypeUseLaws.{AreOf}
+use Rattle.wm_bodies.specs.exact.NamedUses.{results_at}
+use Rattle.wm_bodies.specs.exact.TypeUses.{begins_group, named_at}
+use Rattle.wm_bodies.proofs.Readers.{Sound, Complete, Any, Both, BeginsClose, made_sound, made_is, paren_sound, paren_complete, then_sound, then_complete}
+use Rattle.wm_bodies.proofs.NamedGroups.{OfGroups, groups_are_written, groups_are_read}
+use Rattle.wm_bodies.proofs.NamedUses.{OfResults, results_sound, results_complete, no_param}
+use Rattle.wm_bodies.proofs.TypeUseLaws.{AreOf}
 
 abbrev Parts : Profile → List Named × List ValType → Form Token
 Parts pr = Both (OfGroups pr (codes "param")) (OfResults pr)

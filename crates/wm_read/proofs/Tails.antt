@@ -14,22 +14,22 @@ use Rattle.wm_syntax.specs.Types.{type_text}
 use Rattle.wm_tokens.specs.Written.{Named, Names, Paren, TypeUse, WritesGroup, WritesGroups, WritesResults, WritesType, WritesUnnamed}
 use Rattle.wm_read.specs.declared.fields.words.FieldKind.{FieldKind}
 use Rattle.wm_read.specs.declared.fields.words.FieldKind.TheVariants as field
-use Rattle.wm_read.specs.exact.Fields.{field_at, field_named, is_new, item_named, name_at, space_of}
+use Rattle.wm_read.specs.exact.Fields.{field_at, field_named, item_named, name_at, space_of}
 use Rattle.wm_read.specs.exact.FirstReading.{Noted, nothing, with_item, with_type, free_id_at, skip, type_head_at, desc_head_at, import_head_at, item_head_at, head_by, head_at, heads_within, heads_at, names_at}
-use Rattle.wm_read.specs.exact.NamedUses.{named_use_at}
-use Rattle.wm_read.specs.exact.Reading.{Reader, ◌>>=◌, open_at, close_at, atom_at, id_at}
+use Rattle.wm_bodies.specs.exact.NamedUses.{named_use_at}
+use Rattle.wm_bodies.specs.exact.Reading.{Reader, ◌>>=◌, open_at, close_at, atom_at, id_at, is_new}
 use Rattle.wm_read.specs.exact.Signatures.{signature_at}
 use Rattle.wm_read.specs.exact.TextModules.{all_names_at, end_at}
-use Rattle.wm_read.specs.exact.TypeUses.{begins_open, named_at}
+use Rattle.wm_bodies.specs.exact.TypeUses.{begins_open, named_at}
 use Rattle.wm_read.specs.inner.Fields.{head_at as function_head_at}
 use Rattle.wm_read.specs.inner.Tails.{IsTail}
 use Rattle.wm_tokens.proofs.Basics.{chosen, same_some, same_tail}
 use Rattle.wm_read.proofs.FieldParts.{name_sound}
-use Rattle.wm_read.proofs.Immediates.{id_sound}
+use Rattle.wm_bodies.proofs.Immediates.{id_sound}
 use Rattle.wm_read.proofs.ModuleFields.{field_behind}
-use Rattle.wm_read.proofs.NamedGroups.{OfGroups, groups_are_written}
-use Rattle.wm_read.proofs.NamedUses.{uses_are_written}
-use Rattle.wm_read.proofs.Readers.{Sound, bind_ok, then_sound}
+use Rattle.wm_bodies.proofs.NamedGroups.{OfGroups, groups_are_written}
+use Rattle.wm_bodies.proofs.NamedUses.{uses_are_written}
+use Rattle.wm_bodies.proofs.Readers.{Sound, bind_ok, then_sound}
 use Rattle.wm_read.proofs.SignatureLaws.{OfSignature, signature_sound}
 
 -- ---- what is read stands in front

@@ -15,8 +15,8 @@ use Rattle.wm_tokens.specs.exact.Scan.{lexed}
 use Rattle.wm_read.specs.exact.TextModules.{module_at}
 use Rattle.wm_tokens.specs.inner.Ends.{can_end}
 use Rattle.wm_read.specs.inner.Renewed.{Renewed}
-use Rattle.wm_read.specs.inner.Views.{Fails, IsOfReaders}
-use Rattle.wm_read.proofs.Ends.{nothing_left}
+use Rattle.wm_bodies.specs.inner.Views.{Fails, IsOfReaders}
+use Rattle.wm_bodies.proofs.Ends.{nothing_left}
 use Rattle.wm_read.proofs.ModuleLaws.{found, more}
 use Rattle.wm_read.proofs.OlderWords.{standard_stays}
 use Rattle.wm_tokens.proofs.Places.{no_tokens}

@@ -23,8 +23,8 @@ use Rattle.wm_tokens.specs.Identifiers.{Id, Ids, One, IsIndex, IsLabel, WritesId
 use Rattle.wm_syntax.specs.Types.{type_text}
 use Rattle.wm_tokens.specs.Written.{Keyword, Paren, UnsignedNumber, WritesType, Named, WritesGroup, WritesGroups, WritesUnnamed, WritesResults, Names, TypeUse, Scope, WritesKey, WritesAccess, WritesOperand, WritesSimple, WritesBlockType, Closes, WritesElse, Opens, WritesTable, WritesInstruction, WritesInstructions}
 use Rattle.wm_tokens.specs.Fields.{WritesName, WritesMax, WritesLimits, WritesTableType, WritesGlobalType, WritesConst, WritesExport, WritesStrings, WritesOffset}
-use Rattle.wm_read.specs.exact.Reading.{is_word}
-use Rattle.wm_read.proofs.PieceLaws.{simple_word}
+use Rattle.wm_bodies.specs.exact.Reading.{is_word}
+use Rattle.wm_bodies.proofs.PieceLaws.{simple_word}
 
 -- So it is of lists of tokens, and of atoms: of words, identifiers and numbers.
 pub record Closed (B : List Token → Type 0) (A : List ℕ → Type 0) : Type 0 where

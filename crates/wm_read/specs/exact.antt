@@ -3,8 +3,5 @@
 pub mod FieldTypes
 pub mod Fields
 pub mod FirstReading
-pub mod NamedUses
-pub mod Reading
 pub mod Signatures
 pub mod TextModules
-pub mod TypeUses

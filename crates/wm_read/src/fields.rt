@@ -2,29 +2,30 @@
 
 ghost use Rattle.std.specs.Prelude.{◌≡◌};
 ghost use Rattle.wm_read.specs.exact.Fields as fields;
-ghost use Rattle.wm_read.specs.exact.Reading as reading;
+ghost use Rattle.wm_bodies.specs.exact.Reading as reading;
 ghost use Rattle.wm_tokens.specs.exact.Scan.{lexed};
-ghost use Rattle.wm_read.specs.inner.Blocks.{names_of};
+ghost use Rattle.wm_bodies.specs.inner.Blocks.{names_of};
 ghost use Rattle.wm_read.specs.inner.Fields.{field_of};
 ghost use Rattle.wm_read.specs.inner.Tails.{IsTail};
-ghost use Rattle.wm_read.specs.inner.Views.{Reads};
+ghost use Rattle.wm_bodies.specs.inner.Views.{Reads};
 
-use crate::code::functions::function;
-use crate::code::operands::{begins_index, close, id, index, open};
 use crate::fields::constants::{constant, constant_end, offset};
+use crate::fields::functions::function;
 use crate::fields::items::{desc, item};
 use crate::fields::signatures::signature;
 use crate::fields::strings::{bytes, name};
 use crate::fields::types::{global_type, limits, table_type};
 use crate::fields::words::{FieldKind, field_kind};
-use crate::names::identifiers::{Names, Space};
 use std::alloc::Global;
+use wm_bodies::identifiers::{Names, Space};
+use wm_bodies::operands::{begins_index, close, id, index, open};
 use wm_syntax::modules::{Element, Export, Function, GlobalDef, Import, Segment};
 use wm_syntax::profile::Profile;
 use wm_syntax::types::{FuncType, Limits};
 use wm_tokens::faults::TextFault;
 
 pub(crate) mod constants;
+pub(crate) mod functions;
 pub(crate) mod items;
 pub(crate) mod lists;
 pub(crate) mod signatures;
@@ -99,7 +100,7 @@ fn export<'a>(
 }
 
 /// The functions of an element segment.
-#[tactic(auto, using(crate::proofs::Tables::labels_laws, crate::proofs::FieldCode::atom_shrinks))]
+#[tactic(auto, using(wm_bodies::proofs::Tables::labels_laws, crate::proofs::FieldCode::atom_shrinks))]
 fn indices<'a>(
     alloc: Global,
     space: &Space,

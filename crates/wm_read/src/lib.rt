@@ -1,12 +1,10 @@
 //! The text format (chapter 6), read.
 #![tactic(auto)]
 
-mod code;
 pub mod faults;
 mod fields;
+mod heads;
 pub mod laws;
-mod literals;
-mod names;
 mod renewed;
 pub mod spellings;
 pub mod text;

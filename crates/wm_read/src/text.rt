@@ -10,29 +10,29 @@ ghost use Rattle.wm_tokens.specs.Tokens.{Token, Tokens};
 ghost use Rattle.wm_tokens.specs.declared.faults.TextWhy.TheVariants.{Expected, Memory, NotUtf8};
 ghost use Rattle.wm_tokens.specs.exact.Scan.{lexed};
 ghost use Rattle.wm_read.specs.exact.TextModules as modules;
-ghost use Rattle.wm_read.specs.inner.Blocks.{names_of};
+ghost use Rattle.wm_bodies.specs.inner.Blocks.{names_of};
 ghost use Rattle.wm_tokens.specs.inner.Ends.{can_end};
 ghost use Rattle.wm_read.specs.inner.Tails.{IsTail};
-ghost use Rattle.wm_read.specs.inner.Views.{Reads};
+ghost use Rattle.wm_bodies.specs.inner.Views.{Reads};
 ghost use Rattle.wm_syntax.specs.Modules as values;
 ghost use Rattle.wm_syntax.specs.Profiles.{has};
 ghost use Rattle.wm_syntax.specs.Values.{value_of};
 ghost use Rattle.wm_syntax.specs.declared.profile.Feature.TheVariants.{Floats};
 
-use crate::code::operands::{close, id, open, refuse, word};
 use crate::fields::lists::read_fields;
-use crate::names::heads::read_heads;
-use crate::names::identifiers::Names;
+use crate::heads::read_heads;
 use crate::renewed::renewed;
 use crate::spellings::Spellings;
 use std::alloc::Global;
+use wm_bodies::identifiers::Names;
+use wm_bodies::operands::{close, id, open, refuse, word};
 use wm_syntax::modules::Module;
 use wm_syntax::profile::{Feature, Profile};
 use wm_tokens::faults::{TextFault, TextRefusal, TextWhy};
 use wm_tokens::lexeme::{check_tokens, first_float, next_token};
 
 /// `( module id?`; the identifier means nothing.
-#[tactic(auto, using(crate::proofs::Ends::open_stands))]
+#[tactic(auto, using(wm_bodies::proofs::Ends::open_stands))]
 fn frame(text: &[u8]) -> Result<&[u8], TextFault>
     ensures read { Reads (λ r. lexed r.now) result (modules.frame_at (lexed text.now)) }
     ensures nothing { lexed text.now ≡ [] → IfErr result (λ e. e.why ≡ Expected) }
@@ -80,7 +80,7 @@ fn module_within<'a>(
 
 /// The module that the tokens of a whole text write: first what its fields define is
 /// read, and then the fields.
-#[tactic(auto, using(crate::proofs::Ends::frame_stands), unfolding(crate::specs::exact::TextModules::module_at))]
+#[tactic(auto, using(crate::proofs::Frames::frame_stands), unfolding(crate::specs::exact::TextModules::module_at))]
 fn read_module(alloc: Global, profile: Profile, text: &[u8]) -> Result<Module, TextFault>
     ensures read { Reads value_of result (modules.module_at profile (lexed text.now)) }
     ensures nothing { lexed text.now ≡ [] → IfErr result (λ e. e.why ≡ Expected) }

@@ -1,9 +1,10 @@
-//! Tests of `wm_tokens` and `wm_read`: what is printed of a refused text where no row of `wm_rows` shows it, and their laws,
-//! with the one of `wm_command`.
+//! Tests of `wm_tokens`, `wm_bodies` and `wm_read`: what is printed of a refused text where no row of `wm_rows` shows
+//! it, and their laws, with the one of `wm_command`.
 
 use std::alloc::Global;
 use std::process::Abort;
 use std::test::Fail;
+use wm_bodies::laws as body_laws;
 use wm_command::laws::printed_texts_write_no_other;
 use wm_read::faults::{TextRefusal, TextWhy};
 use wm_read::laws;
@@ -52,10 +53,10 @@ fn laws_are_called(_rt: HostRuntime) {
     token_laws::one_first_fault();
     token_laws::faults_begin_no_token();
     laws::faulty_texts_write_no_module();
-    laws::bodies_are_read_as_written();
-    laws::one_body();
-    laws::groups_are_read_as_written();
-    laws::type_uses_are_read_as_written();
+    body_laws::bodies_are_read_as_written();
+    body_laws::one_body();
+    body_laws::groups_are_read_as_written();
+    body_laws::type_uses_are_read_as_written();
     laws::heads_are_read_as_written();
     laws::fields_are_read_as_written();
     laws::modules_are_read_as_written();

@@ -5,8 +5,8 @@ use Rattle.wm_syntax.specs.declared.types.Limits.{Limits}
 use Rattle.wm_syntax.specs.declared.types.ValType.{ValType}
 use Rattle.wm_syntax.specs.declared.profile.Profile.{Profile}
 use Rattle.wm_tokens.specs.Tokens.{open_paren, atom}
-use Rattle.wm_read.specs.exact.Reading.{Reader, ◌>>=◌, made, atom_at, is_id, is_word, paren_at, then_at}
-use Rattle.wm_read.specs.exact.Reading.{type_of, unsigned_of, word_of}
+use Rattle.wm_bodies.specs.exact.Reading.{Reader, ◌>>=◌, made, atom_at, is_id, is_word, paren_at, then_at}
+use Rattle.wm_bodies.specs.exact.Reading.{type_of, unsigned_of, word_of}
 
 -- a number, or none
 abbrev pub max_at : Reader (Option ℕ)

@@ -1,6 +1,6 @@
 -- How the fields of a module are read, given what its heads define: the exact answers of the code's readers.
 use Rattle.std.specs.Prelude.{ℕ, suc, ◌&&◌, List, [], ◌∷◌, ◌++◌, Bool, true, Option, Some, None}
-use Rattle.std.specs.Prelude.{if◌then◌else◌, codes, flat_map, is_none, length, nat_lt}
+use Rattle.std.specs.Prelude.{if◌then◌else◌, codes, flat_map, length, nat_lt}
 use Rattle.std.specs.Str.{is_utf8}
 use Rattle.wm_syntax.specs.declared.types.Const.{Const}
 use Rattle.wm_syntax.specs.declared.types.Const.TheVariants as const
@@ -24,12 +24,12 @@ use Rattle.wm_tokens.specs.Fields.{Field, type_field, import_field, function_fie
 use Rattle.wm_tokens.specs.Fields.{global_field, export_field, start_field, element_field, segment_field}
 use Rattle.wm_read.specs.declared.fields.words.FieldKind.{FieldKind}
 use Rattle.wm_read.specs.declared.fields.words.FieldKind.TheVariants as field
-use Rattle.wm_read.specs.exact.Reading.{Reader, ◌>>=◌, made, same_bytes, open_at, close_at, atom_at, then_at}
-use Rattle.wm_read.specs.exact.Reading.{paren_at, many_at, id_at, index_of, place_of, integer_of, labels_at}
+use Rattle.wm_bodies.specs.exact.Reading.{Reader, ◌>>=◌, made, same_bytes, open_at, close_at, atom_at, then_at}
+use Rattle.wm_bodies.specs.exact.Reading.{paren_at, many_at, id_at, index_of, is_new, integer_of, labels_at}
 use Rattle.wm_read.specs.exact.FieldTypes.{limits_at, table_type_at, global_type_at}
 use Rattle.wm_read.specs.exact.Signatures.{signature_at}
-use Rattle.wm_read.specs.exact.NamedUses.{named_use_at}
-use Rattle.wm_read.specs.exact.TypeUses.{begins_open, instructions_at, named_at}
+use Rattle.wm_bodies.specs.exact.NamedUses.{named_use_at}
+use Rattle.wm_bodies.specs.exact.TypeUses.{begins_open, instructions_at, named_at}
 
 -- ---- words that begin a field or an item
 
@@ -126,11 +126,6 @@ item_at names =
     headed_at item_named (λ kind t. made (λ x. (kind, x)) (atom_at (index_of (space_of names kind)) t))
 
 -- ---- functions
-
--- no item of the space has this identifier
-abbrev pub is_new : Ids → Id → Bool
-is_new seen None = true
-is_new seen (Some a) = is_none (place_of seen a)
 
 -- each identifier comes for the first time
 abbrev pub all_new : Ids → Ids → Bool

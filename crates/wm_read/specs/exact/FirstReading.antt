@@ -11,10 +11,10 @@ use Rattle.wm_tokens.specs.Identifiers.{Id, Ids}
 use Rattle.wm_tokens.specs.Written.{Names}
 use Rattle.wm_read.specs.declared.fields.words.FieldKind.{FieldKind}
 use Rattle.wm_read.specs.declared.fields.words.FieldKind.TheVariants as field
-use Rattle.wm_read.specs.exact.Fields.{field_named, is_new, item_named, name_at, space_of}
+use Rattle.wm_read.specs.exact.Fields.{field_named, item_named, name_at, space_of}
 use Rattle.wm_read.specs.exact.Signatures.{signature_at}
-use Rattle.wm_read.specs.exact.Reading.{Reader, ◌>>=◌, made, open_at, close_at, atom_at, id_at}
-use Rattle.wm_read.specs.exact.TypeUses.{begins_open}
+use Rattle.wm_bodies.specs.exact.Reading.{Reader, ◌>>=◌, made, open_at, close_at, atom_at, id_at, is_new}
+use Rattle.wm_bodies.specs.exact.TypeUses.{begins_open}
 
 -- ---- what the heads so far have said
 

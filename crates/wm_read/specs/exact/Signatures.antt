@@ -4,9 +4,9 @@ use Rattle.wm_syntax.specs.declared.types.ValType.{ValType}
 use Rattle.wm_syntax.specs.declared.profile.Profile.{Profile}
 use Rattle.wm_syntax.specs.Types.{Signature}
 use Rattle.wm_tokens.specs.Written.{Named, types_of}
-use Rattle.wm_read.specs.exact.Reading.{Reader, made, then_at, paren_at}
-use Rattle.wm_read.specs.exact.NamedUses.{results_at}
-use Rattle.wm_read.specs.exact.TypeUses.{named_at}
+use Rattle.wm_bodies.specs.exact.Reading.{Reader, made, then_at, paren_at}
+use Rattle.wm_bodies.specs.exact.NamedUses.{results_at}
+use Rattle.wm_bodies.specs.exact.TypeUses.{named_at}
 
 -- identifiers of a type's parameters mean nothing
 abbrev pub signature_of : List Named × List ValType → Signature

@@ -8,7 +8,7 @@ use Rattle.wm_tokens.specs.Fields.{module_of}
 use Rattle.wm_tokens.specs.Written.{Names}
 use Rattle.wm_read.specs.exact.Fields.{fields_at}
 use Rattle.wm_read.specs.exact.FirstReading.{names_at}
-use Rattle.wm_read.specs.exact.Reading.{◌>>=◌, made, open_at, close_at, atom_at, word_of, id_at}
+use Rattle.wm_bodies.specs.exact.Reading.{◌>>=◌, made, open_at, close_at, atom_at, word_of, id_at}
 
 -- no token is left
 abbrev pub end_at : List Token → Option (Unit {0})

@@ -6,11 +6,11 @@ use Rattle.wm_read.specs.declared.fields.Field.{Field as Code}
 use Rattle.wm_read.specs.declared.fields.Field.TheVariants as code
 use Rattle.wm_tokens.specs.Fields.{Field, type_field, import_field, function_field, table_field, memory_field}
 use Rattle.wm_tokens.specs.Fields.{global_field, export_field, start_field, element_field, segment_field}
-use Rattle.wm_read.specs.inner.Ids.{id_of}
+use Rattle.wm_bodies.specs.inner.Ids.{id_of}
 use Rattle.wm_tokens.specs.Written.{Named, Names}
-use Rattle.wm_read.specs.exact.NamedUses.{named_use_at}
-use Rattle.wm_read.specs.exact.Reading.{Reader, then_at}
-use Rattle.wm_read.specs.exact.TypeUses.{named_at}
+use Rattle.wm_bodies.specs.exact.NamedUses.{named_use_at}
+use Rattle.wm_bodies.specs.exact.Reading.{Reader, then_at}
+use Rattle.wm_bodies.specs.exact.TypeUses.{named_at}
 
 -- a function's type use, and its locals
 abbrev pub head_at : Profile → Names → Reader ((ℕ × List Named) × List Named)

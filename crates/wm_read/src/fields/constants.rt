@@ -2,16 +2,16 @@
 
 ghost use Rattle.std.specs.Prelude.{◌≡◌, ◌≢◌, []};
 ghost use Rattle.wm_read.specs.exact.Fields as fields;
-ghost use Rattle.wm_read.specs.exact.Reading as reading;
+ghost use Rattle.wm_bodies.specs.exact.Reading as reading;
 ghost use Rattle.wm_tokens.specs.exact.Scan.{lexed};
-ghost use Rattle.wm_read.specs.inner.Blocks.{names_of};
-ghost use Rattle.wm_read.specs.inner.Views.{IsRefusal, Reads};
+ghost use Rattle.wm_bodies.specs.inner.Blocks.{names_of};
+ghost use Rattle.wm_bodies.specs.inner.Views.{IsRefusal, Reads};
 
-use crate::code::operands::{
+use std::alloc::Global;
+use wm_bodies::identifiers::Names;
+use wm_bodies::operands::{
     float_32, float_64, index, integer_32, integer_64, no_instruction, open, refuse, with, word,
 };
-use crate::names::identifiers::Names;
-use std::alloc::Global;
 use wm_syntax::instructions::Op;
 use wm_syntax::instructions::op_class::{Immediates, OpClass};
 use wm_syntax::instructions::op_names::op_named;

@@ -3,16 +3,16 @@
 ghost use Rattle.std.specs.Prelude.{◌≡◌};
 ghost use Rattle.wm_read.specs.exact.Fields as fields;
 ghost use Rattle.wm_tokens.specs.exact.Scan.{lexed};
-ghost use Rattle.wm_read.specs.inner.Blocks.{names_of};
-ghost use Rattle.wm_read.specs.inner.Ids.{id_of};
-ghost use Rattle.wm_read.specs.inner.Views.{Reads};
+ghost use Rattle.wm_bodies.specs.inner.Blocks.{names_of};
+ghost use Rattle.wm_bodies.specs.inner.Ids.{id_of};
+ghost use Rattle.wm_bodies.specs.inner.Views.{Reads};
 
-use crate::code::named_uses::named_use;
-use crate::code::operands::{close, close_forms, id, index, open, with};
 use crate::fields::types::{global_type, limits, table_type};
 use crate::fields::words::item_kind;
-use crate::names::identifiers::{Names, Space};
 use std::alloc::Global;
+use wm_bodies::identifiers::{Names, Space};
+use wm_bodies::named_uses::named_use;
+use wm_bodies::operands::{close, close_forms, id, index, open, with};
 use wm_syntax::modules::{ExportKind, ImportDesc};
 use wm_syntax::profile::Profile;
 use wm_tokens::faults::TextFault;

@@ -3,18 +3,18 @@
 ghost use Rattle.std.specs.Prelude.{◌≡◌, OnOk};
 ghost use Rattle.wm_tokens.specs.Fields.{module_of};
 ghost use Rattle.wm_read.specs.exact.Fields as fields;
-ghost use Rattle.wm_read.specs.exact.Reading as reading;
+ghost use Rattle.wm_bodies.specs.exact.Reading as reading;
 ghost use Rattle.wm_tokens.specs.exact.Scan.{lexed};
-ghost use Rattle.wm_read.specs.inner.Blocks.{names_of};
+ghost use Rattle.wm_bodies.specs.inner.Blocks.{names_of};
 ghost use Rattle.wm_read.specs.inner.Fields.{field_of, with_field};
 ghost use Rattle.wm_read.specs.inner.Tails.{IsTail};
-ghost use Rattle.wm_read.specs.inner.Views.{Reads};
+ghost use Rattle.wm_bodies.specs.inner.Views.{Reads};
 ghost use Rattle.wm_syntax.specs.Values.{value_of};
 
-use crate::code::operands::begins_open;
 use crate::fields::{Field, read_field};
-use crate::names::identifiers::Names;
 use std::alloc::{AllocError, Global};
+use wm_bodies::identifiers::Names;
+use wm_bodies::operands::begins_open;
 use wm_syntax::modules::Module;
 use wm_syntax::profile::Profile;
 use wm_tokens::faults::TextFault;

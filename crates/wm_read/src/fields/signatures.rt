@@ -3,19 +3,19 @@
 ghost use Rattle.std.specs.Prelude.{◌≡◌};
 ghost use Rattle.wm_read.specs.exact.Signatures.{signature_at};
 ghost use Rattle.wm_tokens.specs.exact.Scan.{lexed};
-ghost use Rattle.wm_read.specs.inner.Views.{Reads};
+ghost use Rattle.wm_bodies.specs.inner.Views.{Reads};
 
-use crate::code::named;
-use crate::code::named_uses::types_of;
-use crate::code::operands::{close_forms, open, word};
-use crate::code::type_uses::groups;
 use std::alloc::Global;
+use wm_bodies::named;
+use wm_bodies::named_uses::types_of;
+use wm_bodies::operands::{close_forms, open, word};
+use wm_bodies::type_uses::groups;
 use wm_syntax::profile::Profile;
 use wm_syntax::types::FuncType;
 use wm_tokens::faults::TextFault;
 
 /// `( func param* result* )`. Identifiers of parameters are allowed, and mean nothing.
-#[tactic(auto, unfolding(crate::specs::exact::Signatures::signature_at, crate::specs::exact::NamedUses::results_at))]
+#[tactic(auto, unfolding(crate::specs::exact::Signatures::signature_at, wm_bodies::specs::exact::NamedUses::results_at))]
 pub fn signature(
     alloc: Global,
     profile: Profile,

@@ -4,10 +4,10 @@ ghost use Rattle.std.specs.Prelude.{◌≡◌};
 ghost use Rattle.std.specs.String as string;
 ghost use Rattle.wm_read.specs.exact.Fields as fields;
 ghost use Rattle.wm_tokens.specs.exact.Scan.{lexed};
-ghost use Rattle.wm_read.specs.inner.Views.{Reads};
+ghost use Rattle.wm_bodies.specs.inner.Views.{Reads};
 
-use crate::code::operands::refuse;
 use std::alloc::Global;
+use wm_bodies::operands::refuse;
 use wm_tokens::faults::{TextFault, TextWhy};
 use wm_tokens::lexeme::{Lexeme, next_token, string_bytes};
 

@@ -2,12 +2,12 @@
 
 ghost use Rattle.std.specs.Prelude.{◌≡◌};
 ghost use Rattle.wm_read.specs.exact.FieldTypes as fields;
-ghost use Rattle.wm_read.specs.exact.Reading as reading;
+ghost use Rattle.wm_bodies.specs.exact.Reading as reading;
 ghost use Rattle.wm_tokens.specs.exact.Scan.{lexed};
-ghost use Rattle.wm_read.specs.inner.Views.{Reads};
+ghost use Rattle.wm_bodies.specs.inner.Views.{Reads};
 
-use crate::code::operands::{number, paren_type, refuse, val_type, word};
-use crate::literals::{is_id, is_word};
+use wm_bodies::literals::{is_id, is_word};
+use wm_bodies::operands::{number, paren_type, refuse, val_type, word};
 use wm_syntax::profile::Profile;
 use wm_syntax::types::{GlobalType, Limits};
 use wm_tokens::faults::{TextFault, TextWhy};

@@ -2,12 +2,12 @@
 
 ghost use Rattle.std.specs.Prelude.{◌≡◌, ◌≢◌, []};
 ghost use Rattle.wm_read.specs.exact.Fields.{field_named, item_named};
-ghost use Rattle.wm_read.specs.exact.Reading as reading;
+ghost use Rattle.wm_bodies.specs.exact.Reading as reading;
 ghost use Rattle.wm_tokens.specs.exact.Scan.{lexed};
-ghost use Rattle.wm_read.specs.inner.Views.{IsRefusal, Reads};
+ghost use Rattle.wm_bodies.specs.inner.Views.{IsRefusal, Reads};
 
-use crate::code::operands::refuse;
-use crate::literals::{is, is_word};
+use wm_bodies::literals::{is, is_word};
+use wm_bodies::operands::refuse;
 use wm_syntax::modules::ExportKind;
 use wm_tokens::faults::{TextFault, TextWhy};
 use wm_tokens::lexeme::{Lexeme, next_token};

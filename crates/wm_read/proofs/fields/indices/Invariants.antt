@@ -1,7 +1,7 @@
 use Rattle.std.proofs.Common.{◌≡◌, length}
 use Rattle.wm_tokens.specs.exact.Scan.{lexed}
-use Rattle.wm_read.specs.exact.Reading.{labels_at}
-use Rattle.wm_read.proofs.Tables.{with_front}
+use Rattle.wm_bodies.specs.exact.Reading.{labels_at}
+use Rattle.wm_bodies.proofs.Tables.{with_front}
 use Rattle.wm_read.proofs.fields.indices.Given as goal
 
 abbrev pub invariant-loop-rest : goal.invariant-loop-rest

@@ -1,5 +1,5 @@
 use Rattle.wm_tokens.specs.exact.Scan.{lexed}
-use Rattle.wm_read.specs.inner.Blocks.{names_of}
+use Rattle.wm_bodies.specs.inner.Blocks.{names_of}
 use Rattle.wm_read.proofs.Tails.{names_tail}
 use Rattle.wm_read.proofs.text.read_module.Goals as goal
 

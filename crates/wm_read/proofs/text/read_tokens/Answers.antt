@@ -1,6 +1,6 @@
 use Rattle.std.proofs.Common.{subst, sym, ◌∙◌}
-use Rattle.wm_read.specs.inner.Views.{IsOfReaders}
-use Rattle.wm_read.proofs.Groups.{fails_read}
+use Rattle.wm_bodies.specs.inner.Views.{IsOfReaders}
+use Rattle.wm_bodies.proofs.Groups.{fails_read}
 use Rattle.wm_read.proofs.TextLaws.{refused, tells_none}
 use Rattle.wm_tokens.specs.exact.Scan.{lexed}
 use Rattle.wm_read.proofs.text.read_tokens.Goals as goal

@@ -2,9 +2,9 @@ use Rattle.std.proofs.Common.{◌≡◌, length}
 use Rattle.wm_syntax.specs.Values.{value_of}
 use Rattle.wm_tokens.specs.Fields.{module_of}
 use Rattle.wm_read.specs.exact.Fields.{fields_at}
-use Rattle.wm_read.specs.exact.Reading.{made}
+use Rattle.wm_bodies.specs.exact.Reading.{made}
 use Rattle.wm_tokens.specs.exact.Scan.{lexed}
-use Rattle.wm_read.specs.inner.Blocks.{names_of}
+use Rattle.wm_bodies.specs.inner.Blocks.{names_of}
 use Rattle.wm_read.specs.inner.Tails.{IsTail}
 use Rattle.wm_read.proofs.ModuleFields.{after_fields}
 use Rattle.wm_read.proofs.fields.lists.read_fields.Given as goal

@@ -1,0 +1,5 @@
+-- Exact answers of functions, refusals included. They follow the code for the layers above,
+-- and need not be believed.
+pub mod NamedUses
+pub mod Reading
+pub mod TypeUses

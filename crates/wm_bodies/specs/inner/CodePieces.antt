@@ -1,0 +1,31 @@
+-- Pieces of the code, without where they lie in memory.
+use Rattle.std.specs.Prelude.{◌<◌, ◌^◌, length}
+use Rattle.wm_bodies.specs.declared.pieces.Piece.{Piece as Code}
+use Rattle.wm_bodies.specs.declared.pieces.Piece.TheVariants as p
+use Rattle.wm_syntax.specs.declared.instructions.op_class.Immediates.{Immediates}
+use Rattle.wm_syntax.specs.declared.instructions.op_class.Immediates.TheVariants as k
+use Rattle.wm_bodies.specs.inner.Ids.{id_of}
+use Rattle.wm_bodies.specs.inner.Pieces.{Piece, plain, jump, opens, middle, closes}
+
+abbrev pub piece_of : Code → Piece
+piece_of (p.Plain i) = plain i
+piece_of (p.Table ls l) = jump ls.items l
+piece_of (p.Opens o id t) = opens o (id_of id) t
+piece_of p.Middle = middle
+piece_of p.Closes = closes
+
+-- what follows the word of an instruction with these immediates is one operand, which can be read
+abbrev pub HasOperand : Immediates → Type 0
+HasOperand k.Block = ⊥
+HasOperand k.Loop = ⊥
+HasOperand k.If = ⊥
+HasOperand k.BrTable = ⊥
+HasOperand k.CallIndirect = ⊥
+HasOperand k.F32Const = ⊥
+HasOperand k.F64Const = ⊥
+HasOperand _ = Unit {0}
+
+-- a table has fewer than 2 ^ 32 labels before its default
+abbrev pub FitsPiece : Piece → Type 0
+FitsPiece (jump ls l) = length ls < 2 ^ 32
+FitsPiece _ = Unit {0}

@@ -1,0 +1,161 @@
+//! Type uses of functions and imports (section 6.6.3), whose parameters may have identifiers.
+
+ghost use Rattle.std.specs.Prelude.{◌≡◌, ◌≤◌, ◌++◌, IfErr, IfOk, OnOk, replicate, length};
+ghost use Rattle.std.specs.Option.{option_map};
+ghost use Rattle.wm_tokens.specs.Written as written;
+ghost use Rattle.wm_bodies.specs.exact.NamedUses as uses;
+ghost use Rattle.wm_tokens.specs.exact.Scan.{lexed};
+ghost use Rattle.wm_bodies.specs.inner.Blocks.{names_of};
+ghost use Rattle.wm_bodies.specs.inner.Named.{named_list, params_of};
+ghost use Rattle.wm_bodies.specs.inner.Views.{IsOfReaders, IsRefusal, NotMemory, Reads};
+
+use crate::identifiers::Names;
+use crate::named;
+use crate::named::NamedRun;
+use crate::type_uses::{
+    begins_group, fits, groups, no_form, nothing, refuse_index, type_at, type_index,
+};
+use std::alloc::{AllocError, Global};
+use wm_syntax::profile::Profile;
+use wm_syntax::types::{FuncType, ValType};
+use wm_tokens::faults::{TextFault, TextWhy};
+
+/// The parameters of a type use: those of its type, with no identifiers, or those that are written.
+#[derive(Drop)]
+pub enum Params<'n, 'a> {
+    OfType(&'n [ValType]),
+    Written(Vec<NamedRun<'a>>),
+}
+
+/// A type use: the index of the type, and as many parameters as the type has, with the
+/// identifiers that are written.
+#[derive(Drop)]
+pub struct NamedUse<'n, 'a> {
+    pub index: u32,
+    pub params: Params<'n, 'a>,
+}
+
+/// Adds so many times this type.
+#[tactic(auto, using(crate::proofs::NamedUses::times_laws))]
+fn push_times(types: &mut Vec<ValType>, count: u32, ty: ValType) -> Result<(), AllocError>
+    ensures { OnOk result (types.new.items ≡ types.old.items ++ replicate count ty) }
+{
+    for _ in 0..count {
+        types.push(ty)?;
+    }
+    Ok(())
+}
+
+/// The types of parameters.
+#[tactic(auto, using(crate::proofs::NamedUses::types_laws))]
+pub fn types_of(alloc: Global, params: &[NamedRun]) -> Result<Vec<ValType>, AllocError>
+    ensures { IfOk result (λ ts. ts.items ≡ written.types_of (named_list params.now)) }
+{
+    let mut types = Vec::new(alloc);
+    for run in params {
+        let (count, ty) = run.count_and_type();
+        push_times(&mut types, count, ty)?;
+    }
+    Ok(types)
+}
+
+/// The parameters of a use: those of the type where nothing is written, or those written where all is as in
+/// the type. Those of the type are not copied, so that they take no time.
+#[tactic(auto, using(crate::proofs::NamedUses::used_laws))]
+fn used<'n, 'a>(
+    alloc: Global,
+    ty: &'n FuncType,
+    params: Vec<NamedRun<'a>>,
+    results: &[ValType],
+) -> Result<Option<Params<'n, 'a>>, AllocError>
+    ensures { IfOk result (λ o. option_map params_of o
+        ≡ uses.used_of ty.now (named_list params.entry.items) results.now) }
+{
+    let written = types_of(alloc, &params)?;
+    if !fits(ty, &written, results) {
+        Ok(None)
+    } else if nothing(&written) && nothing(results) {
+        Ok(Some(Params::OfType(&ty.params)))
+    } else {
+        Ok(Some(Params::Written(params)))
+    }
+}
+
+/// The fault of a use whose parameters or results are not its type's, from the text of the use and the text
+/// after it: a wrong form that stands there, or the index. Locals are no wrong form where they may stand.
+fn misfit(locals: bool, text: &[u8], rest: &[u8]) -> TextFault
+    requires { 3 ≤ length (lexed text.now) }
+    ensures { IsRefusal result.why }
+{
+    if locals && begins_group(b"local", rest) {
+        return refuse_index(TextWhy::TypeUse, text);
+    }
+    match no_form(rest) {
+        Ok(()) => refuse_index(TextWhy::TypeUse, text),
+        Err(fault) => fault,
+    }
+}
+
+/// `( type idx )`, parameters and results, as many as stand first; `locals` tells whether locals
+/// may follow. Parameters and results that are not those of the type are a fault at the index,
+/// unless a wrong form follows.
+#[tactic(auto, using(crate::proofs::NamedUses::named_laws, crate::proofs::Ends::index_stands))]
+pub fn named_use<'n, 'a>(
+    alloc: Global,
+    profile: Profile,
+    names: &'n Names,
+    locals: bool,
+    text: &'a [u8],
+) -> Result<(NamedUse<'n, 'a>, &'a [u8]), TextFault>
+    ensures { Reads (λ x. ((x.0.index, params_of x.0.params), lexed x.1.now)) result
+        (uses.named_use_at profile (names_of names.now) (lexed text.now)) }
+{
+    let (index, rest) = type_index(names, text)?;
+    match type_at(names, index) {
+        Some(ty) => {
+            let (params, rest) = named::groups(alloc, profile, b"param", rest)?;
+            let (results, rest) = groups(alloc, profile, b"result", rest)?;
+            match used(alloc, ty, params, &results)? {
+                Some(params) => Ok((NamedUse { index, params }, rest)),
+                None => Err(misfit(locals, text, rest)),
+            }
+        }
+        None => Err(refuse_index(TextWhy::TypeUse, text)),
+    }
+}
+
+/// The fault of a call_indirect's type use, which was refused so. Whole forms that are not those of
+/// the type are a fault at the index; else the first identifier of a parameter is one, unless a wrong
+/// token stands before it. None stands at the text's end, so a fault there stays.
+pub fn call_fault(
+    alloc: Global,
+    profile: Profile,
+    names: &Names,
+    fault: TextFault,
+    text: &[u8],
+) -> TextFault
+    ensures memory { NotMemory result.why → NotMemory fault.why }
+    ensures readers { IsOfReaders fault.why → IsOfReaders result.why }
+{
+    if fault.why == TextWhy::Memory || fault.left == 0 {
+        return fault;
+    }
+    match with_ids(alloc, profile, names, text) {
+        Err(other) if other.why == TextWhy::Memory || other.left >= fault.left => other,
+        _ => TextFault {
+            why: TextWhy::TypeUse,
+            left: fault.left,
+        },
+    }
+}
+
+/// The same type use, with identifiers at its parameters.
+#[tactic(auto, using(crate::proofs::Groups::fails_read, crate::proofs::Groups::expected_read))]
+fn with_ids(alloc: Global, profile: Profile, names: &Names, text: &[u8]) -> Result<(), TextFault>
+    ensures { IfErr result (λ e. IsOfReaders e.why) }
+{
+    match named_use(alloc, profile, names, false, text) {
+        Ok((_used, rest)) => no_form(rest),
+        Err(other) => Err(other),
+    }
+}

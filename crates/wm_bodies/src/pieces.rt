@@ -1,0 +1,251 @@
+//! Pieces of a body: an instruction, or what opens, divides or closes a block.
+
+ghost use Rattle.std.specs.Prelude.{◌≡◌, ◌≢◌, ◌≤◌, [], Some, IfOk, length};
+ghost use Rattle.wm_floats.specs.exact.Atoms as atoms;
+ghost use Rattle.wm_tokens.specs.exact.Scan.{lexed};
+ghost use Rattle.wm_bodies.specs.inner.Blocks.{names_of, scope_of};
+ghost use Rattle.wm_bodies.specs.exact.TypeUses.{call_use_at};
+ghost use Rattle.wm_bodies.specs.inner.CodePieces.{FitsPiece, piece_of, HasOperand};
+ghost use Rattle.wm_bodies.specs.inner.Pieces as flat;
+ghost use Rattle.wm_bodies.specs.exact.Reading as reading;
+ghost use Rattle.wm_bodies.specs.inner.Views.{Reads};
+ghost use Rattle.wm_syntax.specs.Opcodes as table;
+ghost use Rattle.wm_syntax.specs.declared.instructions.FloatType.TheVariants as float;
+ghost use Rattle.wm_syntax.specs.declared.instructions.Simple.TheVariants as Simple;
+
+use crate::blocks::{OpenBlocks, Opening};
+use crate::identifiers::{Names, Scope};
+use crate::named_uses::call_fault;
+use crate::op_words::op_word;
+use crate::operands::{
+    access, again, begins_index, block_type, float_32, float_64, id, index, integer_32, integer_64,
+    label, no_instruction, refuse, with,
+};
+use crate::type_uses::type_use;
+use std::alloc::Global;
+use wm_syntax::instructions::accesses::{loaded, stored};
+use wm_syntax::instructions::op_class::{Immediates, OpClass};
+use wm_syntax::instructions::{LoadOp, Op, Simple, StoreOp};
+use wm_syntax::profile::Profile;
+use wm_syntax::types::ValType;
+use wm_tokens::faults::{TextFault, TextWhy};
+
+/// A piece of a body.
+#[derive(Drop)]
+pub enum Piece<'a> {
+    Plain(Simple),
+    Table(Vec<u32>, u32),
+    Opens(Opening, Option<&'a [u8]>, Option<ValType>),
+    Middle,
+    Closes,
+}
+
+fn opens(profile: Profile, opening: Opening, text: &[u8]) -> Result<(Piece, &[u8]), TextFault>
+    ensures fits { IfOk result (λ x. FitsPiece (piece_of x.0)) }
+    ensures read { Reads (λ x. (piece_of x.0, lexed x.1.now)) result
+        (reading.opens_at profile opening (lexed text.now)) }
+{
+    let (id, rest) = id(text);
+    let (ty, rest) = block_type(profile, rest)?;
+    Ok((Piece::Opens(opening, id, ty), rest))
+}
+
+#[tactic(auto, using(crate::proofs::Ends::load_width))]
+fn load(op: LoadOp, text: &[u8]) -> Result<(Simple, &[u8]), TextFault>
+    ensures { Reads (λ x. (flat.plain x.0, lexed x.1.now)) result
+        (reading.simple_at (Simple.Load op) (reading.access_at (table.load op).width) (lexed text.now)) }
+{
+    let (at, rest) = access(loaded(op).width, text)?;
+    Ok((Simple::Load(op, at), rest))
+}
+
+#[tactic(auto, using(crate::proofs::Ends::store_width))]
+fn store(op: StoreOp, text: &[u8]) -> Result<(Simple, &[u8]), TextFault>
+    ensures { Reads (λ x. (flat.plain x.0, lexed x.1.now)) result
+        (reading.simple_at (Simple.Store op) (reading.access_at (table.store op).width) (lexed text.now)) }
+{
+    let (at, rest) = access(stored(op).width, text)?;
+    Ok((Simple::Store(op, at), rest))
+}
+
+/// Labels, as many as stand first. One after the `most` that there may be is a fault.
+#[tactic(auto, using(crate::proofs::Tables::few_laws))]
+fn labels<'a>(
+    alloc: Global,
+    blocks: &OpenBlocks,
+    most: usize,
+    text: &'a [u8],
+) -> Result<(Vec<u32>, &'a [u8]), TextFault>
+    ensures few { IfOk result (λ x. length x.0.items ≤ most) }
+    ensures read { Reads (λ x. (x.0.items, lexed x.1.now)) result
+        (reading.few_labels_at (flat.labels blocks.now) most (lexed text.now)) }
+{
+    let mut labels = Vec::new(alloc);
+    let mut rest = text;
+    while begins_index(rest) {
+        if labels.len() >= most {
+            return Err(refuse(TextWhy::Expected, rest));
+        }
+        let (l, more) = label(blocks, rest)?;
+        labels.push(l)?;
+        rest = more;
+    }
+    Ok((labels, rest))
+}
+
+/// Labels, of which the last is the default.
+#[tactic(auto, using(crate::proofs::Tables::table_laws))]
+fn table<'a>(
+    alloc: Global,
+    blocks: &OpenBlocks,
+    text: &'a [u8],
+) -> Result<(Piece<'a>, &'a [u8]), TextFault>
+    ensures fits { IfOk result (λ x. FitsPiece (piece_of x.0)) }
+    ensures read { Reads (λ x. (piece_of x.0, lexed x.1.now)) result
+        (reading.table_at (flat.labels blocks.now) (lexed text.now)) }
+{
+    let (mut labels, rest) = labels(alloc, blocks, 0x1_0000_0000, text)?;
+    match labels.pop() {
+        Some(default) => Ok((Piece::Table(labels, default), rest)),
+        None => Err(refuse(TextWhy::Expected, rest)),
+    }
+}
+
+fn middle<'a>(
+    blocks: &OpenBlocks,
+    here: &[u8],
+    text: &'a [u8],
+) -> Result<(Piece<'a>, &'a [u8]), TextFault>
+    requires { lexed here.now ≢ [] }
+    ensures fits { IfOk result (λ x. FitsPiece (piece_of x.0)) }
+    ensures read { Reads (λ x. (piece_of x.0, lexed x.1.now)) result
+        (reading.middle_at blocks.now (lexed text.now)) }
+{
+    match blocks.innermost() {
+        Some(block) if block.may_else => Ok((Piece::Middle, again(block.id, text)?)),
+        _ => Err(refuse(TextWhy::UnknownWord, here)),
+    }
+}
+
+fn closes<'a>(
+    blocks: &OpenBlocks,
+    here: &[u8],
+    text: &'a [u8],
+) -> Result<(Piece<'a>, &'a [u8]), TextFault>
+    requires { lexed here.now ≢ [] }
+    ensures fits { IfOk result (λ x. FitsPiece (piece_of x.0)) }
+    ensures read { Reads (λ x. (piece_of x.0, lexed x.1.now)) result
+        (reading.closes_at blocks.now (lexed text.now)) }
+{
+    match blocks.innermost() {
+        Some(block) => Ok((Piece::Closes, again(block.id, text)?)),
+        None => Err(refuse(TextWhy::UnknownWord, here)),
+    }
+}
+
+/// What follows the word of an instruction with one operand.
+fn operand<'a>(
+    profile: Profile,
+    scope: &Scope,
+    blocks: &OpenBlocks,
+    kind: Immediates,
+    text: &'a [u8],
+) -> Result<(Piece<'a>, &'a [u8]), TextFault>
+    requires { HasOperand kind }
+    ensures fits { IfOk result (λ x. FitsPiece (piece_of x.0)) }
+    ensures read { Reads (λ x. (piece_of x.0, lexed x.1.now)) result
+        (reading.kind_at (call_use_at profile (names_of scope.now.names.now)) profile (scope_of scope.now)
+        blocks.now kind (lexed text.now)) }
+{
+    let (simple, rest) = match kind {
+        Immediates::Br => with(Simple::Br, label(blocks, text)?),
+        Immediates::BrIf => with(Simple::BrIf, label(blocks, text)?),
+        Immediates::Call => with(Simple::Call, index(&scope.names.functions, text)?),
+        Immediates::LocalGet => with(Simple::LocalGet, index(&scope.locals, text)?),
+        Immediates::LocalSet => with(Simple::LocalSet, index(&scope.locals, text)?),
+        Immediates::LocalTee => with(Simple::LocalTee, index(&scope.locals, text)?),
+        Immediates::GlobalGet => with(Simple::GlobalGet, index(&scope.names.globals, text)?),
+        Immediates::GlobalSet => with(Simple::GlobalSet, index(&scope.names.globals, text)?),
+        Immediates::MemorySize => (Simple::MemorySize, text),
+        Immediates::MemoryGrow => (Simple::MemoryGrow, text),
+        Immediates::I32Const => with(Simple::I32Const, integer_32(text)?),
+        Immediates::I64Const => with(Simple::I64Const, integer_64(text)?),
+        Immediates::Load(op) => load(op, text)?,
+        Immediates::Store(op) => store(op, text)?,
+        _ => return Err(refuse(TextWhy::UnknownWord, text)),
+    };
+    Ok((Piece::Plain(simple), rest))
+}
+
+/// What follows the word of an f32.const.
+fn constant_f32(alloc: Global, text: &[u8]) -> Result<(Piece, &[u8]), TextFault>
+    ensures fits { IfOk result (λ x. FitsPiece (piece_of x.0)) }
+    ensures read { Reads (λ x. (piece_of x.0, lexed x.1.now)) result
+        (reading.simple_at Simple.F32Const (reading.atom_at (atoms.float_of float.F32)) (lexed text.now)) }
+{
+    let (bits, rest) = float_32(alloc, text)?;
+    Ok((Piece::Plain(Simple::F32Const(bits)), rest))
+}
+
+/// What follows the word of an f64.const.
+fn constant_f64(alloc: Global, text: &[u8]) -> Result<(Piece, &[u8]), TextFault>
+    ensures fits { IfOk result (λ x. FitsPiece (piece_of x.0)) }
+    ensures read { Reads (λ x. (piece_of x.0, lexed x.1.now)) result
+        (reading.simple_at Simple.F64Const (reading.atom_at (atoms.float_of float.F64)) (lexed text.now)) }
+{
+    let (bits, rest) = float_64(alloc, text)?;
+    Ok((Piece::Plain(Simple::F64Const(bits)), rest))
+}
+
+/// What follows the word of a call_indirect.
+#[tactic(auto, using(crate::proofs::Groups::fails_read, crate::proofs::Groups::fails_carried))]
+fn indirect<'a>(
+    alloc: Global,
+    profile: Profile,
+    names: &Names,
+    text: &'a [u8],
+) -> Result<(Piece<'a>, &'a [u8]), TextFault>
+    ensures fits { IfOk result (λ x. FitsPiece (piece_of x.0)) }
+    ensures read { Reads (λ x. (piece_of x.0, lexed x.1.now)) result
+        (reading.simple_at Simple.CallIndirect (call_use_at profile (names_of names.now)) (lexed text.now)) }
+{
+    match type_use(alloc, profile, names, text) {
+        Ok((x, rest)) => Ok((Piece::Plain(Simple::CallIndirect(x)), rest)),
+        Err(fault) => Err(call_fault(alloc, profile, names, fault, text)),
+    }
+}
+
+/// The piece that begins with this word, which stands first in `here`, before `text`.
+#[tactic(auto, unfolding(crate::specs::exact::Reading::piece_at))]
+pub fn read_piece<'a>(
+    alloc: Global,
+    profile: Profile,
+    scope: &Scope,
+    blocks: &OpenBlocks,
+    word: &[u8],
+    here: &[u8],
+    text: &'a [u8],
+) -> Result<(Piece<'a>, &'a [u8]), TextFault>
+    requires { lexed here.now ≢ [] }
+    ensures fits { IfOk result (λ x. FitsPiece (piece_of x.0)) }
+    ensures read { Reads (λ x. (piece_of x.0, lexed x.1.now)) result
+        (reading.piece_at (call_use_at profile (names_of scope.now.names.now)) profile (scope_of scope.now)
+        blocks.now word.now (lexed text.now)) }
+{
+    match op_word(profile, word) {
+        OpClass::Plain(Op::Simple(simple)) => Ok((Piece::Plain(simple), text)),
+        OpClass::Plain(Op::Else) => middle(blocks, here, text),
+        OpClass::Plain(Op::End) => closes(blocks, here, text),
+        OpClass::Plain(_) => Err(refuse(TextWhy::UnknownWord, here)),
+        OpClass::With(Immediates::Block) => opens(profile, Opening::Block, text),
+        OpClass::With(Immediates::Loop) => opens(profile, Opening::Loop, text),
+        OpClass::With(Immediates::If) => opens(profile, Opening::If, text),
+        OpClass::With(Immediates::BrTable) => table(alloc, blocks, text),
+        OpClass::With(Immediates::CallIndirect) => indirect(alloc, profile, scope.names, text),
+        OpClass::With(Immediates::F32Const) => constant_f32(alloc, text),
+        OpClass::With(Immediates::F64Const) => constant_f64(alloc, text),
+        OpClass::With(kind) => operand(profile, scope, blocks, kind, text),
+        OpClass::Float => Err(refuse(TextWhy::Float, here)),
+        OpClass::None => Err(no_instruction(profile, word, here)),
+    }
+}

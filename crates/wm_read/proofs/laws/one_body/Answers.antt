@@ -1,5 +1,0 @@
-use Rattle.wm_read.proofs.BodyTheorem.{law_one}
-use Rattle.wm_read.proofs.laws.one_body.Goals as goal
-
-pub returns : goal.returns
-returns c = law_one
