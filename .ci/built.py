@@ -1,5 +1,6 @@
 """What is tried on the built programs, once `rt ci` has proved and built them, as both compilers built them: each growth of
-wmod and of wm_rows refused in turn (growths.py), and a million nested blocks (deep.py). Then the calls for C beside wmod
+wmod and of wm_rows refused in turn (growths.py), a million nested blocks (deep.py), and rows of the whole program's words, files and
+outputs (command.py). Then the calls for C beside wmod
 (c_calls.py), and what is installed (packages.py). The library for C, which `rt ci` proves and does not write, is built by
 `rt lib` first. That proves anew what no check on this machine has kept.
 
@@ -13,6 +14,7 @@ import sys
 
 sys.dont_write_bytecode = True
 import c_calls
+import command
 import deep
 import growths
 import packages
@@ -44,7 +46,7 @@ def print_tally():
 
 
 def main():
-    is_well = [does(it) for it in programs("wm_cli") for does in (growths.sweep, growths.is_name_lent, growths.is_long_list_let_go, deep.is_well)]
+    is_well = [does(it) for it in programs("wm_cli") for does in (growths.sweep, growths.is_name_lent, growths.is_long_list_let_go, deep.is_well, command.is_well)]
     is_well += [growths.sweep_rows(it) for it in programs("wm_rows")]
     print_tally()
     wmod = programs("wm_cli")[0]

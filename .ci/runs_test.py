@@ -1,5 +1,5 @@
 #!/usr/bin/env python3
-"""That the runs can fail: growths.py and deep.py are given a stand-in for wmod and for wm_rows, c_calls.py one for c_rows, and wm_rows
+"""That the runs can fail: growths.py, deep.py and command.py are given a stand-in for wmod and for wm_rows, c_calls.py one for c_rows, and wm_rows
 and the tests of wm_cli stand on libraries, as they should be and then with one thing wrong. It takes a quarter of an hour."""
 import os
 import pathlib
@@ -11,6 +11,7 @@ import tempfile
 
 sys.dont_write_bytecode = True
 import c_calls
+import command
 import deep
 import edits
 import growths
@@ -95,6 +96,16 @@ SEEDS = {
     "wm_rules/validator_forgets_a_piece": ["the validator and the loader differ"] * 2,
 }
 
+# what a stand-in for wmod writes by these words, and whether command.py finds it the answer
+TRIALS_OF_COMMANDS = {
+    "nothing wrong": ("wmod check", '1 "valid\\n" ""', "echo valid; exit 1", True),
+    "another status": ("wmod check", '0 "valid\\n" ""', "echo valid; exit 1", False),
+    "something is written": ("wmod check", '0 "" ""', "echo valid", False),
+    "a complaint": ("wmod check", '0 "valid\\n" ""', "echo valid; echo no >&2", False),
+    "a fault of standard output": ("shut wmod check", '3 "" ""', "echo valid 2>/dev/null || exit 3", True),
+    "the same, which is forgotten": ("shut wmod check", '3 "" ""', "echo valid 2>/dev/null; exit 0", False),
+}
+
 # an edit that the prover refuses, and whether this test of wm_cli then names a row (`rt try` may be too slow for all of them)
 NAMED = re.compile(r"test tests::readers_and_writers_that_fail \.\.\. FAILED\n    (?:\w+ \d+ )?wmod ")
 ENDS = {
@@ -122,6 +133,14 @@ def standing_in(room, does):
     program.write_text(f"#!/bin/sh\n{does} {rows}\n", encoding="ascii")
     program.chmod(0o755)
     return room
+
+
+def is_answer(room, words, wanted, does):
+    """Whether command.py finds that a stand-in which does this by these words answers so."""
+    program = pathlib.Path(room, "commanded")
+    program.write_text(f"#!/bin/sh\ntrap '' PIPE\n{does}\n", encoding="ascii")
+    program.chmod(0o755)
+    return command.answer(str(program), words.split(), room) == wanted
 
 
 def tried_with(room, edit, crate, *words, given=""):
@@ -171,6 +190,9 @@ def main():
         for name, (does, wanted) in TRIALS_OF_CALLS.items():
             if c_calls.are_rows_right(standing_in(room, does)) != wanted:
                 faults.append(f"c_calls.py and a stand-in for c_rows: {name}")
+        for name, (words, answer, does, wanted) in TRIALS_OF_COMMANDS.items():
+            if is_answer(room, words, answer, does) != wanted:
+                faults.append(f"command.py and a stand-in: {name}")
         # (no stand-in answers all that deep.py asks: what is looked at is how it ends)
         for name, deeper, wanted in (("nothing wrong", "", (0, b"valid\n")), ("it recurses", "nested(1000000);", (-11, b""))):
             if deep.run(built(room, RIGHT, deeper), "check", deep.DEEP) != wanted:

@@ -1,6 +1,5 @@
 //! Tests of what the program writes.
 
-pub(crate) mod desk;
 pub(crate) mod ends;
 pub(crate) mod faults;
 mod inputs;
@@ -161,44 +160,6 @@ fn readers_and_writers_that_fail(rt: HostRuntime) -> Result<(), Fail> {
     let failed = fail_ends(&rt, rt.alloc(), INPUTS)?;
     assert!(rt; failed.as_str() == FAILED, "{failed}");
     Ok(())
-}
-
-/// The whole program, where `(module)` stands on standard input, a module of profile 2 in the file
-/// `sign.wasm`, and a text with an older word in `old.wat`.
-const PROGRAM: &str = r#"desk wmod check = 1 "refused at 1: Magic\n" ""
-desk wmod build = 0 "\x00asm\x01\x00\x00\x00" ""
-desk wmod build - = 0 "\x00asm\x01\x00\x00\x00" ""
-desk wmod build --limit 7 = 1 "refused at 8: TooLong\n" ""
-desk wmod check sign.wasm = 1 "refused at 28: BadOpcode\n" ""
-desk wmod check --profile 2 sign.wasm = 0 "valid\n" ""
-desk wmod check --profile 2 --limit 28 sign.wasm = 1 "refused at 29: TooLong\n" ""
-desk wmod stats --profile 2 sign.wasm = 0 "functions 1\nmoves 6\noperands 1\ncontrols 1\nprobes 0\n" ""
-desk wmod canon --profile 2 sign.wasm = 0 "\x00asm\x01\x00\x00\x00\x01\x05\x01`\x00\x01\x7f\x03\x02\x01\x00\n\x08\x01\x06\x00A\xff\x01\xc0\x0b" ""
-desk wmod show --profile 2 sign.wasm = 0 "(module\n  (type $t0 (func (result i32)))\n  (func $f0 (type $t0)\n    i32.const 255\n    i32.extend8_s\n  )\n)\n" ""
-desk wmod build sign.wasm = 1 "text refused at 25: NotUtf8\n" ""
-desk wmod check --profile 2 --max-functions 0 sign.wasm = 1 "refused at 19: ManyFunctions\n" ""
-desk wmod check --profile 2 --max-functions 1 --max-locals 0 --max-open 0 sign.wasm = 0 "valid\n" ""
-desk wmod build old.wat = 1 "text refused at 17: Expected\n" ""
-desk wmod build --old-words old.wat = 0 "\x00asm\x01\x00\x00\x00\x04\x04\x01p\x00\x01" ""
-desk wmod check sign = 3 "" "wmod: input or output failed\nwmod: sign: entity not found\n"
-desk wmod run = 2 "" "wmod: bad words\nwmod: \'run\' is no action: check, stats, canon, show, build, or explain alone\n"
-desk wmod explain StartType = 0 "StartType\n  The start function has a parameter or a result.\n  Standard: 3.4.7\n  Smallest input: `01 05 01 60 00 01 7F 03 02 01 00 08 01 00`: refused at 22\n  What to do: Start at a function of type [] to [].\n" ""
-desk wmod explain Float = 0 "Float\n  A floating-point type or instruction, where the profile has none.\n  Standard: 5.3.1, 5.4\n  Smallest input: `06 02 01 7D`: refused at 12\n  What to do: The module is not wrong. Take `--profile 3`, or `--profile 4` for sign extension too.\nFloat\n  A floating-point type or instruction, where the profile has none.\n  Standard: 6.4.1, 6.5\n  Smallest input: `(module(global f32))`: at 15\n  What to do: The text is not wrong. Take `--profile 3` or `4`.\n" ""
-desk wmod explain BadEscape = 0 "BadEscape\n  An escape of a string that is none, or that means no scalar value. The string\'s opening quote decides.\n  Standard: 6.3.3\n  Smallest input: `\"\\x`: at 0\n  What to do: Use `\\t \\n \\r \\\" \\\' \\\\`, two hexadecimal digits, or `\\u{..}`.\n" ""
-desk wmod explain badbite = 2 "" "wmod: bad words\nwmod: \'badbite\' is no refusal\'s NAME; the nearest: BadByte\n"
-desk wmod explain Se = 2 "" "wmod: bad words\nwmod: \'Se\' is no refusal\'s NAME; the nearest: SectionId SectionOrder SectionEnd Second SecondStart\n"
-desk wmod explain = 2 "" "wmod: bad words\nwmod: explain takes one NAME of a refusal, such as Index\n"
-desk wmod explain Index Type = 2 "" "wmod: bad words\nwmod: explain takes one NAME of a refusal, such as Index\n"
-shut wmod explain Index = 3 "" "wmod: input or output failed\nwmod: standard output: broken pipe\n"
-desk wmod check --old-words = 2 "" "wmod: bad words\nwmod: \'check\' takes no --old-words: only build does\n"
-shut wmod check = 3 "" "wmod: input or output failed\nwmod: standard output: broken pipe\n"
-shut wmod canon --profile 2 sign.wasm = 3 "" "wmod: input or output failed\nwmod: standard output: broken pipe\n"
-shut wmod show --profile 2 sign.wasm = 3 "" "wmod: input or output failed\nwmod: standard output: broken pipe\n"
-shut wmod build = 3 "" "wmod: input or output failed\nwmod: standard output: broken pipe\n""#;
-
-#[test]
-fn the_whole_program(rt: HostRuntime) -> Result<(), Fail> {
-    play(&rt, rt.alloc(), PROGRAM)
 }
 
 #[test]

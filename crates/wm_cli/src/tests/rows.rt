@@ -6,8 +6,6 @@
 //! wmod WORDS < INPUT = the exit status, and what is written
 //! in N WORDS < INPUT = the same where the reader gives N bytes, one a call, and then fails
 //! out N WORDS < INPUT = the same where the writer takes N bytes, one a call, and then fails, at the flush if that is next
-//! desk WORDS = the exit status of the whole program, what it writes and what it complains of
-//! shut WORDS = the same, where standard output takes nothing
 //! ```
 //!
 //! The word `""` is the empty one. INPUT is a text for `build`. Else it is bytes in hexadecimal digits, with
@@ -18,7 +16,6 @@
 //! itself, and `check` for all that takes a binary. A text may be written as `bytes` and its bytes.
 
 use super::HEADER;
-use super::desk::sit;
 use super::ends::{BROKEN, Mode};
 use super::faults::{End, Faults, Task, are_faults_told, follow, follow_failing};
 use std::alloc::Global;
@@ -227,8 +224,6 @@ fn answer(alloc: Global, call: &str) -> Result<String, Fail> {
         Some(("wmod", _)) => obey_row(alloc, call),
         Some(("in", row)) => cut_row(alloc, End::Reader, row),
         Some(("out", row)) => cut_row(alloc, End::Writer, row),
-        Some(("desk", command)) => sit(alloc, words_of(alloc, command)?.as_slice(), false),
-        Some(("shut", command)) => sit(alloc, words_of(alloc, command)?.as_slice(), true),
         _ => Ok(format!(in alloc; "no such call")?),
     }
 }

@@ -1,0 +1,69 @@
+"""The whole program, as it was built: its words, its files and what it writes. Each row of command_rows.txt is played by one run.
+
+    .ci/command.py PROGRAM       wmod, as it was built
+"""
+import os
+import pathlib
+import shlex
+import subprocess
+import sys
+import tempfile
+
+ROWS = pathlib.Path(__file__).resolve().parent / "command_rows.txt"
+TYPED = b"(module)"
+FILES = {
+    "sign.wasm": bytes.fromhex("0061736D01000000 01050160 00017F 03020100 0A08010600 41FF01 C0 0B"),
+    "old.wat": b"(module (table 1 anyfunc))",
+}
+NAMED = {ord("\t"): r"\t", ord("\n"): r"\n", ord("\r"): r"\r", ord('"'): r"\"", ord("'"): r"\'", ord("\\"): r"\\"}
+
+
+def rows():
+    """The words and the answer of each row."""
+    lines = ROWS.read_text(encoding="ascii").splitlines()
+    return [line.split(" = ", 1) for line in lines if not line.startswith("#")]
+
+
+def escaped(text):
+    """In quotation marks, with the characters that a row writes for each byte."""
+    return '"' + "".join(NAMED.get(byte, chr(byte) if 32 <= byte < 127 else f"\\x{byte:02x}") for byte in text) + '"'
+
+
+def closed_pipe():
+    """The end of a pipe that is written to, of which nobody reads the other."""
+    read, write = os.pipe()
+    os.close(read)
+    return write
+
+
+def answer(program, words, folder):
+    """What a run of these words comes to, as a row has it."""
+    is_shut = words[0] == "shut"
+    out = closed_pipe() if is_shut else subprocess.PIPE
+    named = [program, *words[is_shut + 1 :]]
+    ran = subprocess.run(named, input=TYPED, stdout=out, stderr=subprocess.PIPE, cwd=folder, timeout=60, check=False)
+    if is_shut:
+        os.close(out)
+    return f"{ran.returncode} {escaped(ran.stdout or b'')} {escaped(ran.stderr)}"
+
+
+def is_well(program):
+    """Whether each row has its answer; says which have another."""
+    wrong = 0
+    with tempfile.TemporaryDirectory(prefix="command-") as folder:
+        for name, held in FILES.items():
+            pathlib.Path(folder, name).write_bytes(held)
+        played = rows()
+        for command, wanted in played:
+            found = answer(program, shlex.split(command), folder)
+            if found != wanted:
+                wrong += 1
+                print(f"command: {command}: {found}", flush=True)
+    print(f"command: {len(played)} rows, {wrong} wrong", flush=True)
+    return not wrong
+
+
+if __name__ == "__main__":
+    if len(sys.argv) != 2:
+        sys.exit(__doc__)
+    sys.exit(0 if is_well(os.path.abspath(sys.argv[1])) else 1)
