@@ -5,8 +5,7 @@ use Rattle.wm_syntax.specs.Spelling.{AreBytes}
 use Rattle.wm_machine.specs.declared.refusal.Refusal.{Refusal}
 use Rattle.wm_decode.specs.declared.decoder.state.Decoder.{Decoder}
 use Rattle.wm_machine.specs.Items.{Item}
-use Rattle.wm_machine.specs.Sinks.{and_then}
-use Rattle.wm_machine.specs.exact.Live.{decoder_after, live_at_start, answer_at_end}
+use Rattle.wm_machine.specs.exact.Live.{decoder_after, live_at_start}
 use Rattle.wm_decode.specs.exact.Standing.{state_of}
 use Rattle.wm_machine.specs.Decoding.{Setting}
 use Rattle.wm_syntax.specs.declared.why.Why.TheVariants as why

@@ -2,7 +2,7 @@ use Rattle.std.proofs.Common.{◌≡◌, ◌≤◌, ℕ, List, ◌++◌, drop, a
 use Rattle.wm_syntax.specs.declared.profile.Profile.{Profile}
 use Rattle.wm_machine.specs.exact.Live.{decoder_after}
 use Rattle.wm_decode.specs.exact.Standing.{live_with}
-use Rattle.wm_decode.proofs.OpLists.{range_split}
+use Rattle.wm_shortcuts.proofs.OpLists.{range_split}
 use Rattle.wm_decode.proofs.decoder.state.Decoder.advance.Goals as goal
 
 pub returns-then-next-i-2-clause-taken : goal.returns-then-next-i-2-clause-taken

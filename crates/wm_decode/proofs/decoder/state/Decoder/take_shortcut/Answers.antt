@@ -1,5 +1,5 @@
 use Rattle.std.proofs.Common.{◌++◌, Err, Some, List, ℕ, [], ap, arith, sym, ◌∙◌}
-use Rattle.wm_decode.proofs.Advances.{taken_moved, taken_stopped, taken_room}
+use Rattle.wm_shortcuts.proofs.Advances.{taken_moved, taken_stopped, taken_room}
 use Rattle.wm_decode.proofs.decoder.state.Decoder.take_shortcut.Goals as goal
 
 pub returns-in-None-clause-moved : goal.returns-in-None-clause-moved

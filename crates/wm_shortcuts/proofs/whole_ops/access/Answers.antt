@@ -1,0 +1,11 @@
+use Rattle.std.proofs.Common.{sym, subst}
+use Rattle.wm_shortcuts.specs.exact.WholeOps.{OpUnder}
+use Rattle.wm_shortcuts.proofs.OpLists.{under_access}
+use Rattle.wm_shortcuts.proofs.whole_ops.access.Goals as goal
+
+pub returns : goal.returns
+returns c =
+    let a = c.in_ok-align.align in
+    let o = c.in_ok-offset.offset in
+    subst (λ v. OpUnder c.args.profile c.args.bytes.now c.args.at o.next c.args.depth c.args.depth v) (sym c.op.ensures)
+    (under_access c.args.profile c.args.bytes.now c.args.at a.next o.next c.args.depth a.value o.value c.args.op c.requires.class c.in_ok-align.ensures c.in_ok-offset.ensures)

@@ -1,0 +1,14 @@
+-- Exact answers of functions, refusals included. They follow the code for the layers above,
+-- and need not be believed.
+pub mod Completed
+pub mod Frames
+pub mod Heads
+pub mod Indices
+pub mod Limited
+pub mod Segments
+pub mod ShortSteps
+pub mod Shortcuts
+pub mod TypeStarts
+pub mod WholeMembers
+pub mod WholeNames
+pub mod WholeOps

@@ -1,0 +1,19 @@
+-- Bytes of the header and of the frames of sections: the exact form, for the proofs above it.
+use Rattle.std.specs.Prelude.{◌≡◌, ◌<◌, ◌≤◌, ℕ, List, [], None, length}
+use Rattle.wm_syntax.specs.declared.profile.Profile.{Profile}
+use Rattle.wm_machine.specs.declared.machine.Machine.{Machine}
+use Rattle.wm_machine.specs.declared.machine.Event.TheVariants.{Nothing}
+use Rattle.wm_shortcuts.specs.exact.Completed.{Completes}
+use Rattle.wm_machine.specs.exact.Steps.{step_of}
+use Rattle.wm_machine.specs.exact.Live.{refusal_in_machine}
+
+-- the byte leads from one machine to another under each profile, and completes nothing
+pub record IsFrameStep (m : Machine) (c : ℕ) (n : Machine) : Type 0 where
+  pub steps : (p : Profile) → step_of p m c ≡ (n, Nothing)
+  pub goes_on : refusal_in_machine n ≡ None
+
+-- so do the first of these bytes
+pub record LeadsTo (p : Profile) (bytes : List ℕ) (m : Machine) (used : ℕ) (n : Machine) : Type 0 where
+  pub within : used ≤ length bytes
+  pub completes : Completes p bytes 0 m [] None used n
+  pub goes_on : 0 < used → refusal_in_machine n ≡ None

@@ -1,0 +1,31 @@
+-- What the byte step makes of a byte of function indices and of code entries, where the section goes on: the
+-- exact form, for the proofs above it.
+use Rattle.std.specs.Prelude.{◌≡◌, ℕ, suc, Option, Some, None}
+use Rattle.wm_syntax.specs.declared.profile.Profile.{Profile}
+use Rattle.wm_machine.specs.declared.machine.Plain.{Plain}
+use Rattle.wm_machine.specs.declared.machine.Event.{Event}
+use Rattle.wm_machine.specs.declared.machine.Event.TheVariants as event
+use Rattle.wm_machine.specs.declared.machine.Machine.{Machine}
+use Rattle.wm_machine.specs.declared.machine.Machine.TheVariants as machine
+use Rattle.wm_machine.specs.declared.machine.member.SectionKind.{SectionKind}
+use Rattle.wm_machine.specs.declared.machine.member.InMember.{InMember}
+use Rattle.wm_shortcuts.specs.declared.short_steps.Stepped.{Stepped}
+use Rattle.wm_shortcuts.specs.declared.short_steps.Place.{Place}
+use Rattle.wm_machine.specs.exact.Steps.{step_of}
+
+-- what a byte completes, if it completes an item
+abbrev pub part_event : Option Plain → Event
+part_event (Some part) = event.Complete part
+part_event None = event.Nothing
+
+abbrev pub standing : Place → Machine
+standing p = machine.Section p.of p.functions p.more p.left p.at
+
+abbrev pub after_stepped : SectionKind → ℕ → ℕ → Stepped → Machine
+after_stepped of functions more s = machine.Section of functions more s.left s.at
+
+-- under the profile this is what the byte does, where bytes of the section come after it
+abbrev pub StepsTo : Profile → SectionKind → ℕ → InMember → ℕ → Stepped → Type 0
+StepsTo p of left at c s = (functions more : ℕ)
+    → step_of p (machine.Section of functions (suc more) left at) c
+    ≡ (after_stepped of functions more s, part_event s.part)

@@ -1,0 +1,144 @@
+//! One byte of the frame of a section: of its id, its size or its count. It completes nothing.
+//!
+//! What is rare and what is refused is left to the byte step.
+
+ghost use Rattle.std.specs.Prelude.{◌≡◌, IfSome, false, true};
+ghost use Rattle.wm_syntax.specs.exact.Reading.{fresh};
+ghost use Rattle.wm_shortcuts.specs.exact.Frames.{IsFrameStep};
+
+use wm_machine::machine::Machine;
+use wm_machine::machine::member::SectionKind;
+use wm_machine::step::counted;
+use wm_syntax::numbers::{Num32, Step};
+
+/// The kind of section that this id begins.
+#[inline(always)]
+pub(crate) fn begun(last: u8, functions: u32, byte: u8) -> Option<SectionKind>
+    ensures { IfSome result (λ of. IsFrameStep (Machine.Between last functions) byte
+        (Machine.Size of functions fresh)) }
+{
+    let of = SectionKind::of(byte)?;
+    match of {
+        SectionKind::Segment if functions > 0 => None,
+        _ if byte <= last => None,
+        _ => Some(of),
+    }
+}
+
+/// How many bytes of the section come after the next, where this byte ends its size.
+#[inline(always)]
+pub(crate) fn size_end(of: SectionKind, functions: u32, mut number: Num32, byte: u8) -> Option<u32>
+    ensures { IfSome result (λ more. IsFrameStep (Machine.Size of functions number) byte
+        (Machine.Count of functions more fresh)) }
+{
+    let Step::Done(size) = number.push(byte) else {
+        return None;
+    };
+    if size == 0 {
+        return None;
+    }
+    match of {
+        SectionKind::Start => None,
+        _ => Some(size - 1),
+    }
+}
+
+/// The size so far, where it goes on after this byte.
+#[inline(always)]
+pub(crate) fn size_more(
+    of: SectionKind,
+    functions: u32,
+    mut number: Num32,
+    byte: u8,
+) -> Option<Num32>
+    ensures { IfSome result (λ n. IsFrameStep (Machine.Size of functions number) byte
+        (Machine.Size of functions n)) }
+{
+    match number.push(byte) {
+        Step::More => Some(number),
+        _ => None,
+    }
+}
+
+/// The machine after the count of a section's members, where this byte ends it.
+#[inline(always)]
+pub(crate) fn count_end(
+    of: SectionKind,
+    functions: u32,
+    more: u32,
+    mut number: Num32,
+    byte: u8,
+) -> Option<Machine>
+    ensures { IfSome result (λ n. IsFrameStep (Machine.Count of functions more number) byte n) }
+{
+    let Step::Done(n) = number.push(byte) else {
+        return None;
+    };
+    match counted(of, functions, more, n) {
+        Machine::Refused(_) => None,
+        next => Some(next),
+    }
+}
+
+// The machine after a byte of a frame, where it goes by the shorter way
+#[inline(always)]
+fn after_byte(machine: Machine, byte: u8) -> Option<Machine>
+    ensures { IfSome result (λ n. IsFrameStep machine byte n) }
+{
+    match machine {
+        Machine::Between { last, functions } => {
+            let of = begun(last, functions, byte)?;
+            let number = Num32::new();
+            Some(Machine::Size {
+                of,
+                functions,
+                number,
+            })
+        }
+        Machine::Size {
+            of,
+            functions,
+            number,
+        } => {
+            if let Some(number) = size_more(of, functions, number, byte) {
+                return Some(Machine::Size {
+                    of,
+                    functions,
+                    number,
+                });
+            }
+            let more = size_end(of, functions, number, byte)?;
+            let number = Num32::new();
+            Some(Machine::Count {
+                of,
+                functions,
+                more,
+                number,
+            })
+        }
+        Machine::Count {
+            of,
+            functions,
+            more,
+            number,
+        } => count_end(of, functions, more, number, byte),
+        _ => None,
+    }
+}
+
+/// Takes a byte of a frame, where it goes by the shorter way.
+#[inline(never)]
+pub(crate) fn frame_byte(machine: &mut Machine, byte: u8) -> bool
+    ensures taken { result ≡ true → IsFrameStep machine.old byte machine.new }
+    ensures left { result ≡ false → machine.new ≡ machine.old }
+{
+    // mostly a member comes: that is seen without a copy of the machine
+    if let Machine::Section { .. } = *machine {
+        return false;
+    }
+    let Some(next) = after_byte(*machine, byte) else {
+        return false;
+    };
+    *machine = next;
+    true
+}

@@ -1,0 +1,158 @@
+//! The header (section 5.5.15) and the frames of sections, which are ids, sizes and counts (section 5.5.2),
+//! one after another.
+//!
+//! Their bytes complete nothing. Left to the byte step are custom sections, counts of several bytes, the last
+//! byte of a start section's size, what is refused, and a header that no id of another section follows in the
+//! piece.
+
+ghost use Rattle.std.specs.Prelude.{◌≡◌, ◌<◌, IfSome, length, slice_index, true, ℕ};
+ghost use Rattle.wm_syntax.specs.exact.Reading.{fresh};
+ghost use Rattle.wm_machine.specs.Sections.{header};
+ghost use Rattle.wm_shortcuts.specs.exact.Frames.{IsFrameStep, LeadsTo};
+ghost use Rattle.wm_shortcuts.specs.exact.Shortcuts.{Advances};
+
+use crate::frame_bytes::{begun, count_end, frame_byte, size_end, size_more};
+use crate::ways::Shortcut;
+use wm_machine::machine::Machine;
+use wm_machine::machine::member::SectionKind;
+use wm_machine::sink::Sink;
+use wm_syntax::numbers::Num32;
+use wm_syntax::profile::Profile;
+
+/// How many bytes come before the count of a section's members, and how many of the section after its first
+/// byte.
+#[derive(Clone, Copy)]
+struct Sized {
+    next: usize,
+    more: u32,
+}
+
+// The size of a section, which stands behind its id and has one byte or two
+#[inline(always)]
+fn short_size(
+    machine: &Machine,
+    profile: Profile,
+    bytes: &[u8],
+    of: SectionKind,
+    functions: u32,
+) -> Option<Sized>
+    requires some { 3 < length bytes.now }
+    requires begun { IsFrameStep machine.now (slice_index bytes.now 0) (Machine.Size of functions fresh) }
+    ensures leads { IfSome result (λ s. LeadsTo profile bytes.now machine.now s.next
+        (Machine.Count of functions s.more fresh)) }
+    ensures within { IfSome result (λ s. s.next < length bytes.now) }
+{
+    let number = Num32::new();
+    if bytes[1] < 0x80 {
+        let more = size_end(of, functions, number, bytes[1])?;
+        return Some(Sized { next: 2, more });
+    }
+    let number = size_more(of, functions, number, bytes[1])?;
+    let more = size_end(of, functions, number, bytes[2])?;
+    Some(Sized { next: 3, more })
+}
+
+// Takes the id, the size and the count of a section, where the size has one byte or two and the count has
+// one, and says how many bytes they are
+#[inline(always)]
+#[tactic(auto, using(crate::proofs::FrameBytes::frames_none))]
+fn section_begin(machine: &mut Machine, profile: Profile, bytes: &[u8]) -> usize
+    ensures { LeadsTo profile bytes.now machine.old result machine.new }
+{
+    let Machine::Between { last, functions } = *machine else {
+        return 0;
+    };
+    if bytes.len() < 4 {
+        return 0;
+    }
+    let Some(of) = begun(last, functions, bytes[0]) else {
+        return 0;
+    };
+    let Some(size) = short_size(machine, profile, bytes, of, functions) else {
+        return 0;
+    };
+    let count = bytes[size.next];
+    let Some(next) = count_end(of, functions, size.more, Num32::new(), count) else {
+        return 0;
+    };
+    *machine = next;
+    size.next + 1
+}
+
+// Takes the frames of sections, one after another
+#[inline(always)]
+#[tactic(auto, using(crate::proofs::FrameBytes::frames_none))]
+fn sections(machine: &mut Machine, profile: Profile, bytes: &[u8]) -> usize
+    ensures { LeadsTo profile bytes.now machine.old result machine.new }
+{
+    let mut used = 0;
+    while used < bytes.len() {
+        used += section_begin(machine, profile, &bytes[used..]);
+        if used == bytes.len() || !frame_byte(machine, bytes[used]) {
+            break;
+        }
+        used += 1;
+    }
+    used
+}
+
+// Whether these bytes begin with the header
+#[inline(always)]
+fn has_header(bytes: &[u8]) -> bool
+    requires { 8 < length bytes.now }
+    ensures { result ≡ true → (i : ℕ) → i < 8 → slice_index bytes.now i ≡ slice_index header i }
+{
+    let magic = bytes[0] == 0x00 && bytes[1] == 0x61 && bytes[2] == 0x73 && bytes[3] == 0x6D;
+    magic && bytes[4] == 0x01 && bytes[5] == 0x00 && bytes[6] == 0x00 && bytes[7] == 0x00
+}
+
+// Takes the header, and the frames behind it
+#[inline(never)]
+#[tactic(auto, using(crate::proofs::Advances::advances_none))]
+fn from_header<S: Sink>(sink: &S, machine: &mut Machine, profile: Profile, bytes: &[u8]) -> Shortcut
+    requires { machine.old ≡ Machine.Header 0 }
+    ensures { Advances S.after S.may_run_out profile bytes.now machine.old (S.held sink.now) result
+        machine.new (S.held sink.now) }
+{
+    if bytes.len() <= 8 || !has_header(bytes) {
+        return Shortcut::none();
+    }
+    *machine = Machine::Between {
+        last: 0,
+        functions: 0,
+    };
+    let used = sections(machine, profile, &bytes[8..]);
+    // no shortcut ends in the header
+    if used == 0 {
+        *machine = Machine::Header(0);
+        return Shortcut::none();
+    }
+    Shortcut {
+        used: 8 + used,
+        refused: None,
+    }
+}
+
+/// Takes the header and bytes of frames. The sink is given nothing.
+#[tactic(auto, using(crate::proofs::Advances::advances_none))]
+pub(crate) fn frames<S: Sink>(
+    sink: &S,
+    machine: &mut Machine,
+    profile: Profile,
+    bytes: &[u8],
+) -> Shortcut
+    ensures { Advances S.after S.may_run_out profile bytes.now machine.old (S.held sink.now) result
+        machine.new (S.held sink.now) }
+{
+    match *machine {
+        Machine::Header(0) => from_header(sink, machine, profile, bytes),
+        Machine::Header(_) | Machine::Refused(_) => Shortcut::none(),
+        _ => {
+            let used = sections(machine, profile, bytes);
+            Shortcut {
+                used,
+                refused: None,
+            }
+        }
+    }
+}

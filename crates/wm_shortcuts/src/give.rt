@@ -1,0 +1,260 @@
+//! What goes to the sink: names, data and items without bytes.
+
+ghost use Rattle.std.specs.Prelude.{◌≡◌, ◌≢◌, ◌⊎◌, ◌++◌, IfErr, MatchResult, Ok, OnOk, [], length, map};
+ghost use Rattle.std.specs.Prelude.{slice_index};
+ghost use Rattle.std.specs.Str.{is_utf8};
+ghost use Rattle.wm_machine.specs.Sinks.{Taken, all_taken};
+ghost use Rattle.wm_machine.specs.exact.Runs.{name_item, plain_item};
+ghost use Rattle.wm_machine.specs.exact.Live.{MayRunOutAt, name_taken, effect_of_maybe};
+ghost use Rattle.wm_syntax.specs.declared.why.Why.TheVariants.{Memory};
+ghost use Rattle.wm_machine.specs.Items.{body, body_op, data_byte, export, import_desc, locals, new_type};
+ghost use Rattle.wm_machine.specs.Items.{one_result, param, result_count};
+ghost use Rattle.wm_syntax.specs.declared.modules.ImportDesc.TheVariants as ImportDesc;
+ghost use Rattle.wm_shortcuts.specs.exact.Indices.{index_item_in};
+ghost use Rattle.wm_shortcuts.specs.exact.Completed.{LastMayRunOut, completed_part, last_taken};
+
+use crate::indices::IndexList;
+use wm_machine::item::Item;
+use wm_machine::machine::{NameKind, Plain};
+use wm_machine::sink::Sink;
+use wm_syntax::instructions::Op;
+use wm_syntax::modules::ExportKind;
+use wm_syntax::names::is_name;
+use wm_syntax::types::ValType;
+use wm_syntax::why::Why;
+
+// The same answer, as a computed test
+fn is_text(bytes: &[u8]) -> bool
+    ensures { result ≡ is_utf8 bytes.now }
+{
+    is_name(bytes)
+}
+
+// Gives a name, if it is UTF-8
+pub(crate) fn give_name<S: Sink>(sink: &mut S, kind: NameKind, name: &[u8]) -> Result<(), Why>
+    ensures given { Taken (name_taken S.after kind name.now (S.held sink.old)) result (S.held sink.new) }
+    ensures room { IfErr result (λ w. w ≡ Memory
+        → MayRunOutAt S.may_run_out (name_item kind name.now) (S.held sink.old)) }
+{
+    if !is_text(name) {
+        return Err(Why::BadUtf8);
+    }
+    match kind {
+        NameKind::Custom => Ok(()),
+        NameKind::ImportModule => sink.take(Item::ImportModule(name)),
+        NameKind::ImportName => sink.take(Item::ImportName(name)),
+        NameKind::Export => sink.take(Item::ExportName(name)),
+    }
+}
+
+// Gives the name that is in the buffer and in this part of the piece
+pub fn end_name<S: Sink>(
+    sink: &mut S,
+    buffer: &mut Vec<u8>,
+    kind: NameKind,
+    part: &[u8],
+) -> Result<(), Why>
+    ensures given { Taken (name_taken S.after kind (buffer.old.items ++ part.now) (S.held sink.old)) result
+        (S.held sink.new) }
+    ensures empty { OnOk result (buffer.new.items ≡ []) }
+    ensures room { IfErr result (λ w. w ≡ Memory → (buffer.old.items ≢ [])
+        ⊎ MayRunOutAt S.may_run_out (name_item kind (buffer.old.items ++ part.now)) (S.held sink.old)) }
+{
+    if buffer.is_empty() {
+        give_name(sink, kind, part)
+    } else {
+        buffer.extend_from_slice(part)?;
+        give_name(sink, kind, buffer)?;
+        buffer.clear();
+        Ok(())
+    }
+}
+
+// Gives a name of no bytes
+pub fn give_empty<S: Sink>(sink: &mut S, kind: NameKind) -> Result<(), Why>
+    ensures given { Taken (effect_of_maybe S.after (name_item kind []) (S.held sink.old)) result
+        (S.held sink.new) }
+    ensures room { IfErr result (λ w. w ≡ Memory
+        → MayRunOutAt S.may_run_out (name_item kind []) (S.held sink.old)) }
+{
+    match kind {
+        NameKind::Custom => Ok(()),
+        NameKind::ImportModule => sink.take(Item::ImportModule(&[])),
+        NameKind::ImportName => sink.take(Item::ImportName(&[])),
+        NameKind::Export => sink.take(Item::ExportName(&[])),
+    }
+}
+
+// Gives an item that holds no bytes
+pub fn give_plain<S: Sink>(sink: &mut S, part: Plain) -> Result<(), Why>
+    ensures given { Taken (S.after (S.held sink.old) (plain_item part)) result (S.held sink.new) }
+    ensures room { IfErr result (λ w. w ≡ Memory → S.may_run_out (S.held sink.old) (plain_item part)) }
+{
+    sink.take(part.item())
+}
+
+// The same in place, for those of which it is known which they are
+#[inline(always)]
+pub(crate) fn give<S: Sink>(sink: &mut S, part: Plain) -> Result<(), Why>
+    ensures given { Taken (S.after (S.held sink.old) (plain_item part)) result (S.held sink.new) }
+    ensures room { IfErr result (λ w. w ≡ Memory → S.may_run_out (S.held sink.old) (plain_item part)) }
+{
+    sink.take(part.item())
+}
+
+// Items that come many at once: each by a function of its own. In the one above the item is not known before
+// it is inlined, so that for a sink with much code it stays out of line, and the item lies in memory.
+
+#[inline(always)]
+pub(crate) fn give_new_type<S: Sink>(sink: &mut S) -> Result<(), Why>
+    ensures given { Taken (S.after (S.held sink.old) new_type) result (S.held sink.new) }
+    ensures room { IfErr result (λ w. w ≡ Memory → S.may_run_out (S.held sink.old) new_type) }
+{
+    sink.take(Item::NewType)
+}
+
+#[inline(always)]
+pub(crate) fn give_param<S: Sink>(sink: &mut S, ty: ValType) -> Result<(), Why>
+    ensures given { Taken (S.after (S.held sink.old) (param ty)) result (S.held sink.new) }
+    ensures room { IfErr result (λ w. w ≡ Memory → S.may_run_out (S.held sink.old) (param ty)) }
+{
+    sink.take(Item::Param(ty))
+}
+
+// How many results a type has. It has several callers, so it would be copied.
+#[inline(never)]
+pub(crate) fn give_result_count<S: Sink>(sink: &mut S, count: u32) -> Result<(), Why>
+    ensures given { Taken (S.after (S.held sink.old) (result_count count)) result (S.held sink.new) }
+    ensures room { IfErr result (λ w. w ≡ Memory → S.may_run_out (S.held sink.old) (result_count count)) }
+{
+    sink.take(Item::Results(count))
+}
+
+#[inline(never)]
+pub(crate) fn give_result<S: Sink>(sink: &mut S, ty: ValType) -> Result<(), Why>
+    ensures given { Taken (S.after (S.held sink.old) (one_result ty)) result (S.held sink.new) }
+    ensures room { IfErr result (λ w. w ≡ Memory → S.may_run_out (S.held sink.old) (one_result ty)) }
+{
+    sink.take(Item::Result(ty))
+}
+
+#[inline(always)]
+pub(crate) fn give_import<S: Sink>(sink: &mut S, function: u32) -> Result<(), Why>
+    ensures given { Taken (S.after (S.held sink.old) (import_desc (ImportDesc.Func function))) result
+        (S.held sink.new) }
+    ensures room { IfErr result (λ w. w ≡ Memory
+        → S.may_run_out (S.held sink.old) (import_desc (ImportDesc.Func function))) }
+{
+    sink.take(Item::ImportFunc(function))
+}
+
+// It has two callers, so it would be copied.
+#[inline(never)]
+pub(crate) fn give_export<S: Sink>(sink: &mut S, kind: ExportKind, index: u32) -> Result<(), Why>
+    ensures given { Taken (S.after (S.held sink.old) (export kind index)) result (S.held sink.new) }
+    ensures room { IfErr result (λ w. w ≡ Memory → S.may_run_out (S.held sink.old) (export kind index)) }
+{
+    sink.take(Item::Export(kind, index))
+}
+
+// Gives an item that holds no bytes, if there is one
+#[inline(always)]
+pub(crate) fn give_part<S: Sink>(sink: &mut S, part: Option<Plain>) -> Result<(), Why>
+    ensures given { Taken (last_taken S.after (completed_part part) (S.held sink.old)) result
+        (S.held sink.new) }
+    ensures room { IfErr result (λ w. w ≡ Memory
+        → LastMayRunOut S.may_run_out (completed_part part) (S.held sink.old)) }
+{
+    let Some(part) = part else {
+        return Ok(());
+    };
+    match part {
+        Plain::Body => give_body(sink),
+        Plain::Locals(count, ty) => give_locals(sink, count, ty),
+        _ => give_plain(sink, part),
+    }
+}
+
+// What an entry's head and its last `end` complete: each by a function of its own, since an item that goes to
+// one for all items lies in memory.
+
+#[inline(never)]
+pub(crate) fn give_body<S: Sink>(sink: &mut S) -> Result<(), Why>
+    ensures given { Taken (S.after (S.held sink.old) body) result (S.held sink.new) }
+    ensures room { IfErr result (λ w. w ≡ Memory → S.may_run_out (S.held sink.old) body) }
+{
+    sink.take(Item::Body)
+}
+
+#[inline(never)]
+pub(crate) fn give_locals<S: Sink>(sink: &mut S, count: u32, ty: ValType) -> Result<(), Why>
+    ensures given { Taken (S.after (S.held sink.old) (locals count ty)) result (S.held sink.new) }
+    ensures room { IfErr result (λ w. w ≡ Memory → S.may_run_out (S.held sink.old) (locals count ty)) }
+{
+    sink.take(Item::Locals(count, ty))
+}
+
+#[inline(never)]
+pub(crate) fn give_end<S: Sink>(sink: &mut S) -> Result<(), Why>
+    ensures given { Taken (S.after (S.held sink.old) (body_op Op.End)) result (S.held sink.new) }
+    ensures room { IfErr result (λ w. w ≡ Memory → S.may_run_out (S.held sink.old) (body_op Op.End)) }
+{
+    sink.take(Item::Op(Op::End))
+}
+
+// Gives an index of a list. Out of line: it has several callers.
+#[inline(never)]
+pub(crate) fn give_index<S: Sink>(sink: &mut S, list: IndexList, index: u32) -> Result<(), Why>
+    ensures given { Taken (S.after (S.held sink.old) (index_item_in list index)) result (S.held sink.new) }
+    ensures room { IfErr result (λ w. w ≡ Memory
+        → S.may_run_out (S.held sink.old) (index_item_in list index)) }
+{
+    match list {
+        IndexList::Types => sink.take(Item::Func(index)),
+        IndexList::Functions { .. } => sink.take(Item::ElemFunc(index)),
+        IndexList::Labels { .. } => sink.take(Item::Op(Op::Label(index))),
+    }
+}
+
+// The same of one that is short, inline: with a second caller, as `give_index` would be, it would not stand
+// in the loop over indices of one byte each.
+#[inline(always)]
+pub(crate) fn give_short_index<S: Sink>(
+    sink: &mut S,
+    list: IndexList,
+    short: u32,
+) -> Result<(), Why>
+    ensures given { Taken (S.after (S.held sink.old) (index_item_in list short)) result (S.held sink.new) }
+    ensures room { IfErr result (λ w. w ≡ Memory
+        → S.may_run_out (S.held sink.old) (index_item_in list short)) }
+{
+    match list {
+        IndexList::Types => sink.take(Item::Func(short)),
+        IndexList::Functions { .. } => sink.take(Item::ElemFunc(short)),
+        IndexList::Labels { .. } => sink.take(Item::Op(Op::Label(short))),
+    }
+}
+
+// Gives a byte of a data segment
+#[inline(always)]
+pub fn give_data<S: Sink>(sink: &mut S, byte: &[u8]) -> Result<(), Why>
+    requires { length byte.now ≡ 1 }
+    ensures given { Taken (S.after (S.held sink.old) (data_byte (slice_index byte.now 0))) result
+        (S.held sink.new) }
+    ensures room { IfErr result (λ w. w ≡ Memory
+        → S.may_run_out (S.held sink.old) (data_byte (slice_index byte.now 0))) }
+{
+    sink.take(Item::DataBytes(byte))
+}
+
+// Gives bytes of a data segment at once; none is refused, but for want of memory.
+#[tactic(auto, using(wm_machine::proofs::TakenItems::slice_room))]
+pub(crate) fn give_bytes<S: Sink>(sink: &mut S, bytes: &[u8]) -> Result<(), Why>
+    ensures given { MatchResult result
+        (λ u. all_taken S.after (S.held sink.old) (map data_byte bytes.now) ≡ Ok (S.held sink.new))
+        (λ w. w ≡ Memory) }
+    ensures room { length bytes.now ≡ 1 → IfErr result (λ w. w ≡ Memory
+        → S.may_run_out (S.held sink.old) (data_byte (slice_index bytes.now 0))) }
+{
+    sink.take(Item::DataBytes(bytes))
+}

@@ -1,0 +1,280 @@
+//! Indices that follow one another (section 5.5.1): what the byte step makes of them, at once.
+//!
+//! Two or more of one byte each are found together. What is refused for its bytes is left to the byte step.
+
+ghost use Rattle.std.specs.Prelude.{◌≡◌, ◌≤◌, IfSome, length};
+ghost use Rattle.wm_shortcuts.specs.exact.Shortcuts.{Advances};
+ghost use Rattle.wm_shortcuts.specs.exact.Indices.{GaveEach, LiesIn, at_index, before_index, index_item_in};
+ghost use Rattle.wm_shortcuts.specs.exact.Indices.{followed_indices, index_room, indices_ended, indices_past};
+ghost use Rattle.wm_shortcuts.specs.exact.Indices.{most_indices};
+
+use crate::give::give_short_index;
+use crate::in_section::InSection;
+use crate::ways::{Shortcut, at_most};
+use crate::whole_indices::whole_indices;
+use wm_machine::machine::Machine;
+use wm_machine::machine::member::{InEntry, InMember, IndexOf, SectionKind};
+use wm_machine::sink::Sink;
+use wm_machine::step::entries::entry_framed;
+use wm_machine::step::expressions::{InExpression, opened};
+use wm_machine::step::framed;
+use wm_syntax::numbers::{Num32, short_front};
+use wm_syntax::profile::Profile;
+
+/// Of what the next index is.
+#[derive(Clone, Copy)]
+pub(crate) enum IndexList {
+    /// The types of functions (section 5.5.6): each is a member of its section.
+    Types,
+    /// The functions of an element segment (section 5.5.12), with so many after the next.
+    Functions { rest: u32 },
+    /// The labels of a br_table (section 5.4.1), with so many after the next. So many bytes of the entry come
+    /// after that, and so many blocks are open.
+    Labels { rest: u32, depth: u32, labels: u32 },
+}
+
+/// What is known before an index: of the section, how many functions await their code, how many bytes come
+/// after the next and how many members after this one; and of what the index is.
+#[derive(Clone, Copy)]
+pub(crate) struct InIndices {
+    pub(crate) of: SectionKind,
+    pub(crate) functions: u32,
+    pub(crate) more: u32,
+    pub(crate) left: u32,
+    pub(crate) list: IndexList,
+}
+
+// Before a label of a br_table
+fn labels(rest: u32, at: InEntry) -> Option<IndexList>
+    ensures at { IfSome result (λ l. InMember.Entry rest at ≡ at_index l) }
+    ensures of { IfSome result (λ l. (of : SectionKind) → LiesIn of l) }
+{
+    let InEntry::Body(at) = at else {
+        return None;
+    };
+    let InExpression::Label {
+        depth,
+        left: labels,
+        number,
+    } = at
+    else {
+        return None;
+    };
+    if !number.is_new() {
+        return None;
+    }
+    Some(IndexList::Labels {
+        rest,
+        depth,
+        labels,
+    })
+}
+
+impl IndexList {
+    // That of a place in a section
+    fn of(of: SectionKind, at: InMember) -> Option<IndexList>
+        ensures at { IfSome result (λ l. at ≡ at_index l) }
+        ensures of { IfSome result (λ l. LiesIn of l) }
+    {
+        let (list, number) = match at {
+            InMember::Index { of: list, number } => (list, number),
+            InMember::Entry { more, at } => return labels(more, at),
+            _ => return None,
+        };
+        if !number.is_new() {
+            return None;
+        }
+        match list {
+            IndexOf::Function => match of {
+                SectionKind::Function => Some(IndexList::Types),
+                _ => None,
+            },
+            IndexOf::ElementFunction { more: rest } => Some(IndexList::Functions { rest }),
+            _ => None,
+        }
+    }
+
+    // Where the next index of it stands
+    fn at(self) -> InMember
+        ensures { result ≡ at_index self }
+    {
+        let number = Num32::new();
+        match self {
+            IndexList::Types => InMember::Index {
+                of: IndexOf::Function,
+                number,
+            },
+            IndexList::Functions { rest } => InMember::Index {
+                of: IndexOf::ElementFunction { more: rest },
+                number,
+            },
+            IndexList::Labels {
+                rest,
+                depth,
+                labels,
+            } => {
+                let left = labels;
+                let at = InExpression::Label {
+                    depth,
+                    left,
+                    number,
+                };
+                InMember::Entry {
+                    more: rest,
+                    at: InEntry::Body(at),
+                }
+            }
+        }
+    }
+}
+
+impl InIndices {
+    /// That of a machine, where it stands so.
+    pub(crate) fn of(machine: Machine) -> Option<InIndices>
+        ensures machine { IfSome result (λ i. machine ≡ before_index i) }
+        ensures of { IfSome result (λ i. LiesIn i.of i.list) }
+    {
+        let Some((of, at, section)) = InSection::of(machine) else {
+            return None;
+        };
+        let list = IndexList::of(of, at)?;
+        Some(InIndices {
+            of,
+            functions: section.functions,
+            more: section.more,
+            left: section.left,
+            list,
+        })
+    }
+
+    /// How many bytes of all that they lie in come after the next.
+    pub(crate) fn room(self) -> u32
+        ensures { result ≡ index_room self }
+    {
+        match self.list {
+            IndexList::Types | IndexList::Functions { .. } => self.more,
+            IndexList::Labels { rest, .. } => self.more.min(rest),
+        }
+    }
+
+    /// How many come after which yet another comes.
+    pub(crate) fn followed(self) -> u32
+        ensures { result ≡ followed_indices self }
+    {
+        match self.list {
+            IndexList::Types => self.left,
+            IndexList::Functions { rest } => rest,
+            IndexList::Labels { labels, .. } => labels,
+        }
+    }
+
+    /// How many of one byte come after which yet another comes, and a byte of all that they lie in.
+    pub(crate) fn most(self) -> u32
+        ensures { result ≡ most_indices self }
+    {
+        self.room().min(self.followed())
+    }
+
+    /// The machine after so many bytes, which were so many indices.
+    pub(crate) fn after(self, used: u32, count: u32) -> Machine
+        requires room { used ≤ index_room self }
+        requires followed { count ≤ followed_indices self }
+        ensures { result ≡ before_index (indices_past self used count) }
+    {
+        let (left, list) = match self.list {
+            IndexList::Types => (self.left - count, IndexList::Types),
+            IndexList::Functions { rest } => {
+                let rest = rest - count;
+                (self.left, IndexList::Functions { rest })
+            }
+            IndexList::Labels {
+                rest,
+                depth,
+                labels,
+            } => {
+                let rest = rest - used;
+                let labels = labels - count;
+                let list = IndexList::Labels {
+                    rest,
+                    depth,
+                    labels,
+                };
+                (self.left, list)
+            }
+        };
+        Machine::Section {
+            of: self.of,
+            functions: self.functions,
+            more: self.more - used,
+            left,
+            at: list.at(),
+        }
+    }
+
+    /// The machine after the last of them, which has so many bytes before its last.
+    pub(crate) fn ended(self, used: u32) -> Machine
+        requires { used ≤ index_room self }
+        ensures { result ≡ indices_ended self used }
+    {
+        let at = match self.list {
+            IndexList::Types | IndexList::Functions { .. } => InMember::Over,
+            IndexList::Labels { rest, depth, .. } => {
+                entry_framed(rest - used, InEntry::Body(opened(depth)))
+            }
+        };
+        framed(self.of, self.functions, self.more - used, self.left, at)
+    }
+}
+
+// Gives a sink the index that each of these bytes is, up to one that it refuses. Out of line, where the loop
+// keeps its values in registers.
+#[inline(never)]
+fn give_indices<S: Sink>(sink: &mut S, list: IndexList, bytes: &[u8]) -> Shortcut
+    ensures within { result.used ≤ length bytes.now }
+    ensures given { GaveEach S.after (index_item_in list) bytes.now
+        (S.held sink.old) result.used result.refused
+        (S.held sink.new) }
+{
+    for (i, byte) in bytes.iter().enumerate() {
+        if let Err(why) = give_short_index(sink, list, u32::from(*byte)) {
+            return Shortcut {
+                used: i + 1,
+                refused: Some(why),
+            };
+        }
+    }
+    Shortcut {
+        used: bytes.len(),
+        refused: None,
+    }
+}
+
+/// Takes the indices at the front of these bytes: those of one byte each where there are two or more of them
+/// and another comes after them, or else those of any length.
+#[tactic(auto, using(crate::proofs::Advances::advances_none))]
+pub(crate) fn indices<S: Sink>(
+    sink: &mut S,
+    machine: &mut Machine,
+    profile: Profile,
+    bytes: &[u8],
+) -> Shortcut
+    ensures { Advances S.after S.may_run_out profile bytes.now machine.old (S.held sink.old) result
+        machine.new (S.held sink.new) }
+{
+    // alone, the first byte of a longer one is the byte step's
+    if bytes.len() == 1 && bytes[0] >= 0x80 {
+        return Shortcut::none();
+    }
+    let Some(before) = InIndices::of(*machine) else {
+        return Shortcut::none();
+    };
+    let most = at_most(before.most(), bytes.len());
+    let count = short_front(&bytes[..most as usize]);
+    if count < 2 {
+        return whole_indices(sink, machine, before, profile, bytes);
+    }
+    let given = give_indices(sink, before.list, &bytes[..count]);
+    let used = given.used as u32;
+    *machine = before.after(used, used);
+    given
+}

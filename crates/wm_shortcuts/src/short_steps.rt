@@ -1,0 +1,269 @@
+//! One byte of function types, or of a code entry's head: what the byte step makes of it, by a shorter way.
+//!
+//! What ends a section or is refused for its bytes is left to the byte step.
+
+ghost use Rattle.std.specs.Prelude.{◌≡◌, ◌-◌, ◌<◌, IfSome};
+ghost use Rattle.wm_shortcuts.specs.exact.ShortSteps.{StepsTo, standing};
+
+use crate::in_section::InSection;
+use wm_machine::machine::member::{InEntry, InMember, SectionKind};
+use wm_machine::machine::{Machine, Plain};
+use wm_machine::step::entries::runs_or_body;
+use wm_machine::step::types::after_param;
+use wm_machine::step::values::{InRun, value_type};
+use wm_syntax::numbers::{Num32, Step};
+use wm_syntax::profile::Profile;
+
+/// Where in a section the next byte stands, how many members come after this one, and the item that the last
+/// byte completed.
+#[derive(Clone, Copy)]
+pub(crate) struct Stepped {
+    pub(crate) left: u32,
+    pub(crate) at: InMember,
+    pub(crate) part: Option<Plain>,
+}
+
+/// Where a byte stands in a section that goes on after it: of what it is a list, how many functions await
+/// their code, how many bytes come after the next one and how many members after this one.
+#[derive(Clone, Copy)]
+pub(crate) struct Place {
+    pub(crate) of: SectionKind,
+    pub(crate) functions: u32,
+    pub(crate) more: u32,
+    pub(crate) left: u32,
+    pub(crate) at: InMember,
+}
+
+impl Place {
+    /// That of a machine, where it stands so.
+    #[inline(always)]
+    pub(crate) fn of(machine: Machine) -> Option<Place>
+        ensures machine { IfSome result (λ p. machine ≡ standing p) }
+        ensures more { IfSome result (λ p. 0 < p.more) }
+    {
+        let Some((of, at, section)) = InSection::of(machine) else {
+            return None;
+        };
+        if section.more == 0 {
+            return None;
+        }
+        Some(Place {
+            of,
+            functions: section.functions,
+            more: section.more,
+            left: section.left,
+            at,
+        })
+    }
+}
+
+/// In the size of a code entry
+#[inline(always)]
+pub(crate) fn size_byte(profile: Profile, left: u32, mut number: Num32, byte: u8) -> Option<Stepped>
+    ensures { IfSome result (λ s. StepsTo profile SectionKind.Code left (InMember.EntrySize number) byte s) }
+{
+    match number.push(byte) {
+        Step::More => Some(Stepped {
+            left,
+            at: InMember::EntrySize(number),
+            part: None,
+        }),
+        Step::Done(0) | Step::Bad => None,
+        Step::Done(size) => Some(Stepped {
+            left,
+            at: InMember::Entry {
+                more: size - 1,
+                at: InEntry::RunCount(Num32::new()),
+            },
+            part: Some(Plain::Body),
+        }),
+    }
+}
+
+/// In the count of an entry's runs of locals
+#[inline(always)]
+pub(crate) fn run_count_byte(
+    profile: Profile,
+    left: u32,
+    more: u32,
+    mut number: Num32,
+    byte: u8,
+) -> Option<Stepped>
+    ensures { IfSome result (λ s. StepsTo profile SectionKind.Code left
+        (InMember.Entry more (InEntry.RunCount number)) byte s) }
+{
+    let Step::Done(runs) = number.push(byte) else {
+        return None;
+    };
+    if more == 0 {
+        return None;
+    }
+    let at = runs_or_body(runs);
+    Some(Stepped {
+        left,
+        at: InMember::Entry { more: more - 1, at },
+        part: None,
+    })
+}
+
+/// In the count of a run of locals
+#[inline(always)]
+pub(crate) fn local_count_byte(
+    profile: Profile,
+    left: u32,
+    more: u32,
+    runs: u32,
+    mut number: Num32,
+    byte: u8,
+) -> Option<Stepped>
+    ensures { IfSome result (λ s. StepsTo profile SectionKind.Code left
+        (InMember.Entry more (InEntry.Run runs (InRun.Count number))) byte s) }
+{
+    if more == 0 {
+        return None;
+    }
+    let at = match number.push(byte) {
+        Step::More => InRun::Count(number),
+        Step::Done(count) => InRun::Type { count },
+        Step::Bad => return None,
+    };
+    Some(Stepped {
+        left,
+        at: InMember::Entry {
+            more: more - 1,
+            at: InEntry::Run { more: runs, at },
+        },
+        part: None,
+    })
+}
+
+/// At the type of a run of so many locals
+#[inline(always)]
+pub(crate) fn local_type_byte(
+    profile: Profile,
+    left: u32,
+    more: u32,
+    runs: u32,
+    count: u32,
+    byte: u8,
+) -> Option<Stepped>
+    ensures { IfSome result (λ s. StepsTo profile SectionKind.Code left
+        (InMember.Entry more (InEntry.Run runs (InRun.Type count))) byte s) }
+{
+    if more == 0 {
+        return None;
+    }
+    let Ok(ty) = value_type(profile, byte) else {
+        return None;
+    };
+    let at = runs_or_body(runs);
+    Some(Stepped {
+        left,
+        at: InMember::Entry { more: more - 1, at },
+        part: Some(Plain::Locals(count, ty)),
+    })
+}
+
+/// At the form of a function type
+#[inline(always)]
+pub(crate) fn form_byte(profile: Profile, left: u32, byte: u8) -> Option<Stepped>
+    ensures { IfSome result (λ s. StepsTo profile SectionKind.Type left InMember.TypeForm byte s) }
+{
+    if byte != 0x60 {
+        return None;
+    }
+    Some(Stepped {
+        left,
+        at: InMember::ParamCount(Num32::new()),
+        part: Some(Plain::NewType),
+    })
+}
+
+/// In the count of its parameters
+#[inline(always)]
+pub(crate) fn param_count_byte(
+    profile: Profile,
+    left: u32,
+    mut number: Num32,
+    byte: u8,
+) -> Option<Stepped>
+    ensures { IfSome result (λ s. StepsTo profile SectionKind.Type left (InMember.ParamCount number) byte s) }
+{
+    let Step::Done(count) = number.push(byte) else {
+        return None;
+    };
+    Some(Stepped {
+        left,
+        at: after_param(count),
+        part: None,
+    })
+}
+
+/// At a parameter, with so many after it
+#[inline(always)]
+pub(crate) fn param_byte(profile: Profile, left: u32, more: u32, byte: u8) -> Option<Stepped>
+    ensures { IfSome result (λ s. StepsTo profile SectionKind.Type left (InMember.Param more) byte s) }
+{
+    let Ok(ty) = value_type(profile, byte) else {
+        return None;
+    };
+    Some(Stepped {
+        left,
+        at: after_param(more),
+        part: Some(Plain::Param(ty)),
+    })
+}
+
+/// In the count of its results
+#[inline(always)]
+pub(crate) fn result_count_byte(
+    profile: Profile,
+    left: u32,
+    mut number: Num32,
+    byte: u8,
+) -> Option<Stepped>
+    ensures { IfSome result
+        (λ s. StepsTo profile SectionKind.Type left (InMember.ResultCount number) byte s) }
+{
+    let Step::Done(count) = number.push(byte) else {
+        return None;
+    };
+    let part = Some(Plain::ResultCount(count));
+    if count > 0 {
+        let at = InMember::ResultType { more: count - 1 };
+        return Some(Stepped { left, at, part });
+    }
+    next_type(left, part)
+}
+
+/// At a result, with so many after it
+#[inline(always)]
+pub(crate) fn result_byte(profile: Profile, left: u32, more: u32, byte: u8) -> Option<Stepped>
+    ensures { IfSome result (λ s. StepsTo profile SectionKind.Type left (InMember.ResultType more) byte s) }
+{
+    let Ok(ty) = value_type(profile, byte) else {
+        return None;
+    };
+    let part = Some(Plain::OneResult(ty));
+    if more > 0 {
+        let at = InMember::ResultType { more: more - 1 };
+        return Some(Stepped { left, at, part });
+    }
+    next_type(left, part)
+}
+
+// At the next function type, where there is one
+#[inline(always)]
+fn next_type(left: u32, part: Option<Plain>) -> Option<Stepped>
+    ensures some { IfSome result (λ s. 0 < left) }
+    ensures next { IfSome result (λ s. s ≡ record { left = left - 1; at = InMember.TypeForm; part = part }) }
+{
+    if left == 0 {
+        return None;
+    }
+    Some(Stepped {
+        left: left - 1,
+        at: InMember::TypeForm,
+        part,
+    })
+}

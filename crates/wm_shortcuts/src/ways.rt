@@ -1,0 +1,238 @@
+//! Which shortcut there may be from a state of the machine, and what a shortcut did.
+
+ghost use Rattle.std.specs.Prelude.{◌≡◌, ◌<◌, None, Some, length, min};
+ghost use Rattle.wm_shortcuts.specs.exact.Shortcuts.{Advances, why_refused};
+
+use crate::chains::Link;
+use crate::entries::{Body, LastEnd, entries};
+use crate::exports::exports;
+use crate::frames::frames;
+use crate::function_types::function_types;
+use crate::globals::globals;
+use crate::heads::runs;
+use crate::imports::imports;
+use crate::indices::indices;
+use crate::limited::limited_member;
+use crate::segments::segment_head;
+use crate::short_bytes::short;
+use crate::stretches::{data, pass};
+use wm_machine::machine::member::{InEntry, InMember, IndexOf, SectionKind};
+use wm_machine::machine::{Machine, refusal_of};
+use wm_machine::sink::Sink;
+use wm_machine::step::expressions::InExpression;
+use wm_machine::step::values::{InGlobalType, InLimits, InTableType, InValue};
+use wm_syntax::profile::Profile;
+use wm_syntax::why::Why;
+
+/// What a shortcut did.
+#[derive(Clone, Copy)]
+pub struct Shortcut {
+    /// How many bytes it took, with one that was refused: none where it cannot be taken.
+    pub used: usize,
+    /// Why the last of them was refused, if it was.
+    pub refused: Option<Why>,
+}
+
+impl Shortcut {
+    /// Where it cannot be taken.
+    #[inline(always)]
+    pub(crate) fn none() -> Shortcut
+        ensures used { result.used ≡ 0 }
+        ensures refused { result.refused ≡ None }
+    {
+        Shortcut {
+            used: 0,
+            refused: None,
+        }
+    }
+
+    /// Where the last of so many bytes was refused.
+    #[inline(always)]
+    pub(crate) fn out(used: usize, why: Why) -> Shortcut
+        ensures used { result.used ≡ used }
+        ensures refused { result.refused ≡ Some why }
+    {
+        Shortcut {
+            used,
+            refused: Some(why),
+        }
+    }
+
+    /// Where the last of so many bytes led to a machine, and the sink was given what it completed.
+    #[inline(always)]
+    pub(crate) fn ended(used: usize, given: Result<(), Why>, machine: &Machine) -> Shortcut
+        ensures used { result.used ≡ used }
+        ensures refused { result.refused ≡ why_refused given machine.now }
+    {
+        let refused = match given {
+            Ok(()) => refusal_of(*machine),
+            Err(why) => Some(why),
+        };
+        Shortcut { used, refused }
+    }
+}
+
+/// The less of a count and a length.
+pub fn at_most(count: u32, len: usize) -> u32
+    ensures { result ≡ min count len }
+{
+    (count as usize).min(len) as u32
+}
+
+/// Which shortcut there may be from a state, at its next byte. Nothing but time rests on this.
+#[derive(Clone, Copy)]
+enum Way {
+    Type,
+    Import,
+    Limited,
+    Global,
+    Export,
+    Entry,
+    Runs,
+    Ops,
+    Indices,
+    Short,
+    Segment,
+    Data,
+    Pass,
+    Frame,
+    One,
+}
+
+#[inline(always)]
+fn way_of(machine: Machine, next: u8) -> Way {
+    let (of, at) = match machine {
+        Machine::Section { of, at, .. } => (of, at),
+        Machine::Custom { .. } => return Way::Pass,
+        // what `frames` does not take, or not to its end: the header behind its begin, a custom section, the
+        // size of a start section, whose last byte is left
+        Machine::Header(1..) | Machine::CustomSize { .. } | Machine::Refused(_) => return Way::One,
+        Machine::Between { .. } if next == 0x00 => return Way::One,
+        Machine::Size {
+            of: SectionKind::Start,
+            ..
+        } => return Way::One,
+        _ => return Way::Frame,
+    };
+    match of {
+        SectionKind::Type => Way::Type,
+        SectionKind::Import => Way::Import,
+        SectionKind::Table | SectionKind::Memory => way_in_limited(at),
+        SectionKind::Global => way_in_globals(at),
+        SectionKind::Export => Way::Export,
+        SectionKind::Function => Way::Indices,
+        SectionKind::Element => way_in_elements(at),
+        SectionKind::Code => way_in_code(at),
+        SectionKind::Segment => way_in_data(at),
+        _ => Way::One,
+    }
+}
+
+fn way_in_limited(at: InMember) -> Way {
+    match at {
+        InMember::Value(at) => match at {
+            InValue::Table(InTableType::ElementType) | InValue::Memory(InLimits::Flag) => {
+                Way::Limited
+            }
+            _ => Way::One,
+        },
+        _ => Way::One,
+    }
+}
+
+fn way_in_globals(at: InMember) -> Way {
+    match at {
+        InMember::GlobalType(InGlobalType::Type) => Way::Global,
+        _ => Way::One,
+    }
+}
+
+fn way_in_elements(at: InMember) -> Way {
+    match at {
+        InMember::Index { of, .. } => match of {
+            IndexOf::Element => Way::Segment,
+            _ => Way::Indices,
+        },
+        _ => Way::One,
+    }
+}
+
+fn way_in_data(at: InMember) -> Way {
+    match at {
+        InMember::Index { .. } => Way::Segment,
+        InMember::Data { .. } => Way::Data,
+        _ => Way::One,
+    }
+}
+
+fn way_in_code(at: InMember) -> Way {
+    let InMember::Entry { at, .. } = at else {
+        return Way::Entry;
+    };
+    let at = match at {
+        InEntry::Run { .. } => return Way::Runs,
+        InEntry::Body(at) => at,
+        _ => return Way::Short,
+    };
+    match at {
+        InExpression::Op { .. } => Way::Ops,
+        InExpression::Label { .. } => Way::Indices,
+        _ => Way::One,
+    }
+}
+
+/// Takes the shortcut that there is from the machine's place, where no name goes on.
+#[tactic(auto, using(crate::proofs::Advances::advances_none))]
+pub fn take_way<S: Sink>(
+    sink: &mut S,
+    machine: &mut Machine,
+    profile: Profile,
+    bytes: &[u8],
+) -> Shortcut
+    requires { 0 < length bytes.now }
+    ensures { Advances S.after S.may_run_out profile bytes.now machine.old (S.held sink.old) result
+        machine.new (S.held sink.new) }
+{
+    match way_of(*machine, bytes[0]) {
+        Way::Type => {
+            let taken = function_types(sink, machine, profile, bytes);
+            if taken.used > 0 {
+                return taken;
+            }
+        }
+        Way::Entry => {
+            let taken = entries(sink, machine, profile, bytes);
+            if taken.used > 0 {
+                return taken;
+            }
+        }
+        Way::Runs => {
+            let taken = runs(sink, machine, profile, bytes);
+            if taken.used > 0 {
+                return taken;
+            }
+        }
+        Way::Ops => {
+            // of what comes byte by byte only the last `end` has a shortcut: the others want two bytes
+            if bytes.len() == 1 {
+                return LastEnd::take(sink, machine, profile, bytes);
+            }
+            let taken = Body::take(sink, machine, profile, bytes);
+            if taken.used > 0 {
+                return taken;
+            }
+        }
+        Way::Import => return imports(sink, machine, profile, bytes),
+        Way::Limited => return limited_member(sink, machine, profile, bytes),
+        Way::Global => return globals(sink, machine, profile, bytes),
+        Way::Export => return exports(sink, machine, profile, bytes),
+        Way::Indices => return indices(sink, machine, profile, bytes),
+        Way::Short => {}
+        Way::Segment => return segment_head(sink, machine, profile, bytes),
+        Way::Data => return data(sink, machine, profile, bytes),
+        Way::Pass => return pass(sink, machine, profile, bytes),
+        Way::Frame => return frames(sink, machine, profile, bytes),
+        Way::One => return Shortcut::none(),
+    }
+    short(sink, machine, profile, bytes)
+}

@@ -1,0 +1,580 @@
+//! The ops of a code entry, read whole from a piece: what the byte step makes of their bytes, at once.
+//!
+//! What is rare, and all that is refused for its bytes, is left to the byte step.
+
+ghost use Rattle.std.specs.Prelude.{◌≡◌, ◌+◌, ◌<◌, ◌≤◌, ◌^◌, ℕ, IfSome, Some, length, slice_index};
+ghost use Rattle.wm_syntax.specs.declared.profile.Profile.{Profile};
+ghost use Rattle.wm_syntax.specs.exact.Reading.{fresh};
+ghost use Rattle.wm_machine.specs.declared.step.reading.Reading.TheVariants.{More};
+ghost use Rattle.wm_machine.specs.declared.step.ops.InOp.TheVariants.{BlockType, CallType, Const32};
+ghost use Rattle.wm_machine.specs.declared.step.ops.InOp.TheVariants.{Const64, Memory};
+ghost use Rattle.wm_machine.specs.exact.OpSteps.{access_class, fresh_index, index_op};
+ghost use Rattle.wm_machine.specs.exact.ExpressionSteps.{after_op, at_next_op};
+ghost use Rattle.wm_shortcuts.specs.exact.WholeOps.{GaveAs, OpUnder, RanTo, TookAs, WholeOp};
+ghost use Rattle.wm_shortcuts.specs.exact.WholeOps.{class_row, first_read};
+
+use crate::op_groups::{
+    binary, comparison, conversion, float_binary, float_comparison, float_unary, narrow_load,
+    narrow_store, sign_extension, unary,
+};
+use crate::whole_numbers::{s32_at, s64_at, u32_at};
+use wm_machine::item::Item;
+use wm_machine::sink::Sink;
+use wm_machine::step::ops::{Indexed, LoadOrStore, Opening, Sizing, push_32, push_64};
+use wm_syntax::instructions::FloatType::{F32, F64};
+use wm_syntax::instructions::IntType::{I32, I64};
+use wm_syntax::instructions::op_class::{Immediates, OpClass};
+use wm_syntax::instructions::{LoadOp, MemArg, Numeric, Op, Simple, StoreOp};
+use wm_syntax::profile::{Feature, Profile};
+use wm_syntax::types::ValType;
+use wm_syntax::why::Why;
+
+/// An op that was read whole, the place after it, and how many blocks are open there.
+#[derive(Clone, Copy)]
+pub(crate) struct Read {
+    pub(crate) op: Op,
+    pub(crate) next: usize,
+    pub(crate) depth: u32,
+}
+
+/// What came of the op at a place.
+#[derive(Clone, Copy)]
+enum Took {
+    /// The sink took it: the place of the next op, and how many blocks are open there.
+    Next(usize, u32),
+    /// It is left to the byte step.
+    Left,
+    /// Why the sink refused it, and the place after its last byte.
+    Refused(Why, usize),
+}
+
+/// What came of the ops from a place on.
+#[derive(Clone, Copy)]
+pub(crate) struct Ran {
+    /// The bytes of the ops that the sink took, and of the one that it refused.
+    pub(crate) used: u32,
+    /// How many blocks are open after them.
+    pub(crate) depth: u32,
+    pub(crate) refused: Option<Why>,
+}
+
+// Readers of the ops after whose first byte comes nothing, an index, a type, a number or two. Where a profile
+// is named the op is one of this profile (`OpUnder`), else of each (`WholeOp`).
+
+#[inline(always)]
+#[tactic(auto, using(crate::proofs::OpLists::under_alone))]
+fn alone(profile: Profile, bytes: &[u8], at: usize, depth: u32, op: Op) -> Option<Read>
+    requires within { at < length bytes.now }
+    requires class { class_row profile (slice_index bytes.now at) ≡ OpClass.Plain op }
+    requires opens { after_op depth op ≡ at_next_op depth }
+    ensures { IfSome result (λ r. OpUnder profile bytes.now at r.next depth r.depth r.op) }
+{
+    prove!(at < bytes.len());
+    let next = at + 1;
+    Some(Read { op, next, depth })
+}
+
+#[inline(always)]
+fn end(profile: Profile, bytes: &[u8], at: usize, depth: u32) -> Option<Read>
+    requires within { at < length bytes.now }
+    requires class { class_row profile (slice_index bytes.now at) ≡ OpClass.Plain Op.End }
+    ensures { IfSome result (λ r. OpUnder profile bytes.now at r.next depth r.depth r.op) }
+{
+    prove!(at < bytes.len());
+    if depth == 0 {
+        return None;
+    }
+    Some(Read {
+        op: Op::End,
+        next: at + 1,
+        depth: depth - 1,
+    })
+}
+
+#[inline(always)]
+fn numeric(profile: Profile, bytes: &[u8], at: usize, depth: u32, op: Numeric) -> Option<Read>
+    requires within { at < length bytes.now }
+    requires class { class_row profile (slice_index bytes.now at)
+        ≡ OpClass.Plain (Op.Simple (Simple.Numeric op)) }
+    ensures { IfSome result (λ r. OpUnder profile bytes.now at r.next depth r.depth r.op) }
+{
+    alone(profile, bytes, at, depth, Op::Simple(Simple::Numeric(op)))
+}
+
+#[inline(always)]
+#[tactic(auto, using(crate::proofs::OpLists::whole_index))]
+pub(crate) fn with_index(bytes: &[u8], at: usize, depth: u32, op: Indexed) -> Option<Read>
+    requires within { at + 1 < length bytes.now }
+    requires first { (p : Profile) → first_read p (slice_index bytes.now at) ≡ More (fresh_index op) }
+    requires opens { (n : ℕ) → after_op depth (index_op op n) ≡ at_next_op depth }
+    ensures { IfSome result (λ r. WholeOp bytes.now at r.next depth r.depth r.op) }
+{
+    let index = u32_at(bytes, at + 1)?;
+    Some(Read {
+        op: op.op(index.value),
+        next: index.next,
+        depth,
+    })
+}
+
+// A load or a store
+#[inline(always)]
+fn access(profile: Profile, bytes: &[u8], at: usize, depth: u32, op: LoadOrStore) -> Option<Read>
+    requires within { at + 1 < length bytes.now }
+    requires class { class_row profile (slice_index bytes.now at) ≡ access_class op }
+    ensures { IfSome result (λ r. OpUnder profile bytes.now at r.next depth r.depth r.op) }
+{
+    let align = u32_at(bytes, at + 1)?;
+    if align.next >= bytes.len() {
+        return None;
+    }
+    let offset = u32_at(bytes, align.next)?;
+    let arg = MemArg {
+        align: align.value,
+        offset: offset.value,
+    };
+    Some(Read {
+        op: op.op(arg),
+        next: offset.next,
+        depth,
+    })
+}
+
+#[inline(always)]
+#[tactic(auto, using(crate::proofs::OpLists::whole_const_32))]
+pub(crate) fn const_32(bytes: &[u8], at: usize, depth: u32) -> Option<Read>
+    requires within { at + 1 < length bytes.now }
+    requires first { (p : Profile) → first_read p (slice_index bytes.now at) ≡ More (Const32 fresh) }
+    ensures { IfSome result (λ r. WholeOp bytes.now at r.next depth r.depth r.op) }
+{
+    let number = s32_at(bytes, at + 1)?;
+    Some(Read {
+        op: Op::Simple(Simple::I32Const(number.value)),
+        next: number.next,
+        depth,
+    })
+}
+
+#[inline(always)]
+#[tactic(auto, using(crate::proofs::OpLists::whole_const_64))]
+pub(crate) fn const_64(bytes: &[u8], at: usize, depth: u32) -> Option<Read>
+    requires within { at + 1 < length bytes.now }
+    requires first { (p : Profile) → first_read p (slice_index bytes.now at) ≡ More (Const64 fresh) }
+    ensures { IfSome result (λ r. WholeOp bytes.now at r.next depth r.depth r.op) }
+{
+    let number = s64_at(bytes, at + 1)?;
+    Some(Read {
+        op: Op::Simple(Simple::I64Const(number.value)),
+        next: number.next,
+        depth,
+    })
+}
+
+#[inline(always)]
+#[tactic(auto, using(crate::proofs::OpLists::whole_block))]
+fn with_type(bytes: &[u8], at: usize, depth: u32, op: Opening) -> Option<Read>
+    requires within { at + 1 < length bytes.now }
+    requires first { (p : Profile) → first_read p (slice_index bytes.now at) ≡ More (BlockType op) }
+    ensures { IfSome result (λ r. WholeOp bytes.now at r.next depth r.depth r.op) }
+{
+    if depth == u32::MAX {
+        return None;
+    }
+    let ty = match bytes[at + 1] {
+        0x40 => None,
+        0x7F => Some(ValType::I32),
+        0x7E => Some(ValType::I64),
+        _ => return None,
+    };
+    Some(Read {
+        op: op.op(ty),
+        next: at + 2,
+        depth: depth + 1,
+    })
+}
+
+// An indirect call, which ends with the byte 00.
+#[inline(always)]
+fn call_indirect(bytes: &[u8], at: usize, depth: u32) -> Option<Read>
+    requires within { at + 1 < length bytes.now }
+    requires first { (p : Profile) → first_read p (slice_index bytes.now at) ≡ More (CallType fresh) }
+    ensures { IfSome result (λ r. WholeOp bytes.now at r.next depth r.depth r.op) }
+{
+    let ty = u32_at(bytes, at + 1)?;
+    if ty.next >= bytes.len() || bytes[ty.next] != 0x00 {
+        return None;
+    }
+    Some(Read {
+        op: Op::Simple(Simple::CallIndirect(ty.value)),
+        next: ty.next + 1,
+        depth,
+    })
+}
+
+// An op on the size of the memory, which ends with the byte 00.
+#[inline(always)]
+fn memory(bytes: &[u8], at: usize, depth: u32, op: Sizing) -> Option<Read>
+    requires within { at + 1 < length bytes.now }
+    requires first { (p : Profile) → first_read p (slice_index bytes.now at) ≡ More (Memory op) }
+    ensures { IfSome result (λ r. WholeOp bytes.now at r.next depth r.depth r.op) }
+{
+    if bytes[at + 1] != 0x00 {
+        return None;
+    }
+    Some(Read {
+        op: op.op(),
+        next: at + 2,
+        depth,
+    })
+}
+
+// The floating-point constants, where the profile has them.
+
+fn float_32(profile: Profile, bytes: &[u8], at: usize, depth: u32) -> Option<Read>
+    requires within { at < length bytes.now }
+    requires class { class_row profile (slice_index bytes.now at) ≡ OpClass.With Immediates.F32Const }
+    ensures { IfSome result (λ r. OpUnder profile bytes.now at r.next depth r.depth r.op) }
+{
+    if bytes.len() - at < 5 {
+        return None;
+    }
+    let one = push_32(0, bytes[at + 1]);
+    let two = push_32(one, bytes[at + 2]);
+    let three = push_32(two, bytes[at + 3]);
+    let bits = push_32(three, bytes[at + 4]);
+    Some(Read {
+        op: Op::Simple(Simple::F32Const(bits)),
+        next: at + 5,
+        depth,
+    })
+}
+
+fn float_64(profile: Profile, bytes: &[u8], at: usize, depth: u32) -> Option<Read>
+    requires within { at < length bytes.now }
+    requires class { class_row profile (slice_index bytes.now at) ≡ OpClass.With Immediates.F64Const }
+    ensures { IfSome result (λ r. OpUnder profile bytes.now at r.next depth r.depth r.op) }
+{
+    if bytes.len() - at < 9 {
+        return None;
+    }
+    let one = push_64(0, bytes[at + 1]);
+    let two = push_64(one, bytes[at + 2]);
+    let three = push_64(two, bytes[at + 3]);
+    let four = push_64(three, bytes[at + 4]);
+    let five = push_64(four, bytes[at + 5]);
+    let six = push_64(five, bytes[at + 6]);
+    let seven = push_64(six, bytes[at + 7]);
+    let bits = push_64(seven, bytes[at + 8]);
+    Some(Read {
+        op: Op::Simple(Simple::F64Const(bits)),
+        next: at + 9,
+        depth,
+    })
+}
+
+// Gives an op that lies in what is left of the entry.
+#[inline(always)]
+fn give<S: Sink>(sink: &mut S, room: usize, read: Option<Read>) -> Took
+    ensures { GaveAs S.after (S.held sink.old) room read result (S.held sink.new) }
+{
+    let Some(read) = read else {
+        return Took::Left;
+    };
+    if read.next > room {
+        return Took::Left;
+    }
+    match sink.take(Item::Op(read.op)) {
+        Ok(()) => Took::Next(read.next, read.depth),
+        Err(why) => Took::Refused(why, read.next),
+    }
+}
+
+// Takes the op on floating-point numbers at a place.
+#[inline(never)]
+#[tactic(auto, using(crate::proofs::OpLists::gave_took))]
+fn take_float<S: Sink>(
+    sink: &mut S,
+    profile: Profile,
+    bytes: &[u8],
+    at: usize,
+    depth: u32,
+    room: usize,
+) -> Took
+    requires { at + 1 < length bytes.now }
+    ensures { TookAs S.after profile (S.held sink.old) bytes.now at depth room result (S.held sink.new) }
+{
+    if !profile.has(Feature::Floats) {
+        return Took::Left;
+    }
+    let byte = bytes[at];
+    match byte {
+        0x2A => {
+            let op = LoadOrStore::Load(LoadOp::F32Load);
+            give(sink, room, access(profile, bytes, at, depth, op))
+        }
+        0x2B => {
+            let op = LoadOrStore::Load(LoadOp::F64Load);
+            give(sink, room, access(profile, bytes, at, depth, op))
+        }
+        0x38 => {
+            let op = LoadOrStore::Store(StoreOp::F32Store);
+            give(sink, room, access(profile, bytes, at, depth, op))
+        }
+        0x39 => {
+            let op = LoadOrStore::Store(StoreOp::F64Store);
+            give(sink, room, access(profile, bytes, at, depth, op))
+        }
+        0x43 => give(sink, room, float_32(profile, bytes, at, depth)),
+        0x44 => give(sink, room, float_64(profile, bytes, at, depth)),
+        0x5B..=0x60 => {
+            let op = Numeric::FloatCompare(F32, float_comparison(byte));
+            give(sink, room, numeric(profile, bytes, at, depth, op))
+        }
+        0x61..=0x66 => {
+            let op = Numeric::FloatCompare(F64, float_comparison(byte));
+            give(sink, room, numeric(profile, bytes, at, depth, op))
+        }
+        0x8B..=0x91 => {
+            let op = Numeric::FloatUnary(F32, float_unary(byte));
+            give(sink, room, numeric(profile, bytes, at, depth, op))
+        }
+        0x92..=0x98 => {
+            let op = Numeric::FloatBinary(F32, float_binary(byte));
+            give(sink, room, numeric(profile, bytes, at, depth, op))
+        }
+        0x99..=0x9F => {
+            let op = Numeric::FloatUnary(F64, float_unary(byte));
+            give(sink, room, numeric(profile, bytes, at, depth, op))
+        }
+        0xA0..=0xA6 => {
+            let op = Numeric::FloatBinary(F64, float_binary(byte));
+            give(sink, room, numeric(profile, bytes, at, depth, op))
+        }
+        0xA8..=0xAB => {
+            let op = Numeric::Convert(conversion(byte));
+            give(sink, room, numeric(profile, bytes, at, depth, op))
+        }
+        0xAE..=0xBF => {
+            let op = Numeric::Convert(conversion(byte));
+            give(sink, room, numeric(profile, bytes, at, depth, op))
+        }
+        _ => Took::Left,
+    }
+}
+
+// Takes the op at a place, if it is among the most common ones. Each of them has its own code.
+#[inline(always)]
+#[tactic(auto, using(crate::proofs::OpLists::gave_took, crate::proofs::OpLists::gave_whole))]
+fn take_common<S: Sink>(
+    sink: &mut S,
+    profile: Profile,
+    bytes: &[u8],
+    at: usize,
+    depth: u32,
+    room: usize,
+) -> Took
+    requires { at + 1 < length bytes.now }
+    ensures { TookAs S.after profile (S.held sink.old) bytes.now at depth room result (S.held sink.new) }
+{
+    let byte = bytes[at];
+    match byte {
+        0x01 => {
+            let op = Op::Simple(Simple::Nop);
+            give(sink, room, alone(profile, bytes, at, depth, op))
+        }
+        0x02 => give(sink, room, with_type(bytes, at, depth, Opening::Block)),
+        0x03 => give(sink, room, with_type(bytes, at, depth, Opening::Loop)),
+        0x04 => give(sink, room, with_type(bytes, at, depth, Opening::If)),
+        0x05 => give(sink, room, alone(profile, bytes, at, depth, Op::Else)),
+        0x0B => give(sink, room, end(profile, bytes, at, depth)),
+        0x0C => give(sink, room, with_index(bytes, at, depth, Indexed::Br)),
+        0x0D => give(sink, room, with_index(bytes, at, depth, Indexed::BrIf)),
+        0x0F => {
+            let op = Op::Simple(Simple::Return);
+            give(sink, room, alone(profile, bytes, at, depth, op))
+        }
+        0x10 => give(sink, room, with_index(bytes, at, depth, Indexed::Call)),
+        0x1A => {
+            let op = Op::Simple(Simple::Drop);
+            give(sink, room, alone(profile, bytes, at, depth, op))
+        }
+        0x20 => give(sink, room, with_index(bytes, at, depth, Indexed::LocalGet)),
+        0x21 => give(sink, room, with_index(bytes, at, depth, Indexed::LocalSet)),
+        0x22 => give(sink, room, with_index(bytes, at, depth, Indexed::LocalTee)),
+        0x23 => give(sink, room, with_index(bytes, at, depth, Indexed::GlobalGet)),
+        0x24 => give(sink, room, with_index(bytes, at, depth, Indexed::GlobalSet)),
+        0x28 => {
+            let op = LoadOrStore::Load(LoadOp::I32Load);
+            give(sink, room, access(profile, bytes, at, depth, op))
+        }
+        0x36 => {
+            let op = LoadOrStore::Store(StoreOp::I32Store);
+            give(sink, room, access(profile, bytes, at, depth, op))
+        }
+        0x41 => give(sink, room, const_32(bytes, at, depth)),
+        0x42 => give(sink, room, const_64(bytes, at, depth)),
+        0x45 => {
+            let op = Numeric::Test(I32);
+            give(sink, room, numeric(profile, bytes, at, depth, op))
+        }
+        0x46..=0x4F => {
+            let op = Numeric::Compare(I32, comparison(byte));
+            give(sink, room, numeric(profile, bytes, at, depth, op))
+        }
+        0x6A..=0x78 => {
+            let op = Numeric::Binary(I32, binary(byte));
+            give(sink, room, numeric(profile, bytes, at, depth, op))
+        }
+        0x7C..=0x8A => {
+            let op = Numeric::Binary(I64, binary(byte));
+            give(sink, room, numeric(profile, bytes, at, depth, op))
+        }
+        _ => Took::Left,
+    }
+}
+
+// The same for those that are less common. Each has its own code too, but out of line: so the loop over ops
+// stays as small as it has to be for the most common ones to be inlined there.
+#[inline(never)]
+#[tactic(auto, using(crate::proofs::OpLists::gave_took, crate::proofs::OpLists::gave_whole))]
+fn take_uncommon<S: Sink>(
+    sink: &mut S,
+    profile: Profile,
+    bytes: &[u8],
+    at: usize,
+    depth: u32,
+    room: usize,
+) -> Took
+    requires { at + 1 < length bytes.now }
+    ensures { TookAs S.after profile (S.held sink.old) bytes.now at depth room result (S.held sink.new) }
+{
+    let byte = bytes[at];
+    match byte {
+        0x00 => {
+            let op = Op::Simple(Simple::Unreachable);
+            give(sink, room, alone(profile, bytes, at, depth, op))
+        }
+        0x11 => give(sink, room, call_indirect(bytes, at, depth)),
+        0x1B => {
+            let op = Op::Simple(Simple::Select);
+            give(sink, room, alone(profile, bytes, at, depth, op))
+        }
+        0x29 => {
+            let op = LoadOrStore::Load(LoadOp::I64Load);
+            give(sink, room, access(profile, bytes, at, depth, op))
+        }
+        0x2C..=0x2F => {
+            let op = LoadOrStore::Load(narrow_load(byte));
+            give(sink, room, access(profile, bytes, at, depth, op))
+        }
+        0x30..=0x35 => {
+            let op = LoadOrStore::Load(narrow_load(byte));
+            give(sink, room, access(profile, bytes, at, depth, op))
+        }
+        0x37 => {
+            let op = LoadOrStore::Store(StoreOp::I64Store);
+            give(sink, room, access(profile, bytes, at, depth, op))
+        }
+        0x3A..=0x3E => {
+            let op = LoadOrStore::Store(narrow_store(byte));
+            give(sink, room, access(profile, bytes, at, depth, op))
+        }
+        0x3F => give(sink, room, memory(bytes, at, depth, Sizing::Size)),
+        0x40 => give(sink, room, memory(bytes, at, depth, Sizing::Grow)),
+        0x50 => {
+            let op = Numeric::Test(I64);
+            give(sink, room, numeric(profile, bytes, at, depth, op))
+        }
+        0x51..=0x5A => {
+            let op = Numeric::Compare(I64, comparison(byte));
+            give(sink, room, numeric(profile, bytes, at, depth, op))
+        }
+        0x67..=0x69 => {
+            let op = Numeric::Unary(I32, unary(byte));
+            give(sink, room, numeric(profile, bytes, at, depth, op))
+        }
+        0x79..=0x7B => {
+            let op = Numeric::Unary(I64, unary(byte));
+            give(sink, room, numeric(profile, bytes, at, depth, op))
+        }
+        0xA7 => {
+            let op = Numeric::Wrap;
+            give(sink, room, numeric(profile, bytes, at, depth, op))
+        }
+        0xAC => {
+            let op = Numeric::ExtendS;
+            give(sink, room, numeric(profile, bytes, at, depth, op))
+        }
+        0xAD => {
+            let op = Numeric::ExtendU;
+            give(sink, room, numeric(profile, bytes, at, depth, op))
+        }
+        0xC0..=0xC4 => {
+            if !profile.has(Feature::SignExtension) {
+                return Took::Left;
+            }
+            let op = Numeric::SignExtend(sign_extension(byte));
+            give(sink, room, numeric(profile, bytes, at, depth, op))
+        }
+        _ => take_float(sink, profile, bytes, at, depth, room),
+    }
+}
+
+// After an op that the sink refused
+#[inline(always)]
+fn refused(used: usize, depth: u32, why: Why) -> Ran
+    requires { used < 2 ^ 32 }
+    ensures { result ≡ record { used = used; depth = depth; refused = Some why } }
+{
+    Ran {
+        used: used as u32,
+        depth,
+        refused: Some(why),
+    }
+}
+
+/// Takes ops while they lie whole in these bytes and in the next `room` of the entry.
+#[inline(never)]
+pub(crate) fn take_ops<S: Sink>(
+    sink: &mut S,
+    profile: Profile,
+    bytes: &[u8],
+    start: u32,
+    room: usize,
+) -> Ran
+    requires { room < 2 ^ 32 }
+    ensures within { result.used ≤ room }
+    ensures inside { result.used ≤ length bytes.now }
+    ensures one { length bytes.now ≤ 1 → result.used ≡ 0 }
+    ensures ran { RanTo S.after profile (S.held sink.old) bytes.now room start result.used result.depth
+        result.refused (S.held sink.new) }
+{
+    let mut used = 0;
+    let mut depth = start;
+    let end = room.min(bytes.len().saturating_sub(1));
+    while used < end {
+        match take_common(sink, profile, bytes, used, depth, room) {
+            Took::Next(next, inside) => {
+                used = next;
+                depth = inside;
+                continue;
+            }
+            Took::Left => {}
+            Took::Refused(why, next) => return refused(next, depth, why),
+        }
+        // called here, so that no answer of the common ops lies in memory
+        match take_uncommon(sink, profile, bytes, used, depth, room) {
+            Took::Next(next, inside) => {
+                used = next;
+                depth = inside;
+            }
+            Took::Left => break,
+            Took::Refused(why, place) => return refused(place, depth, why),
+        }
+    }
+    Ran {
+        used: used as u32,
+        depth,
+        refused: None,
+    }
+}
