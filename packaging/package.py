@@ -76,6 +76,16 @@ def install(archive, program, prefix):
     # what an older version put there and this one does not
     remove(to, [it for it in before if it not in {*made, *files, RECORD}])
     record(to, [*made, *files])
+    print(*told(to, files), sep="\n")
+
+
+def told(to, files):
+    """Where things went: a line, and one for each folder of bin, include, lib and share."""
+    yield f"wmod: installed below {to}"
+    parts = [it.partition("/") for it in files]
+    for folder in sorted({it[0] for it in parts}):
+        names = [name for at, _, name in parts if at == folder]
+        yield f"  {folder}: {', '.join(names) if len(names) < 6 else f'{len(names)} files: the manual page, pages in doc/wmod, completions'}"
 
 
 def record(to, names):
