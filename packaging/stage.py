@@ -91,8 +91,9 @@ def make(folder, prefix, archive, program):
         (folder / it).write_text(text, encoding="utf-8")
     shutil.copyfile(program, folder / "bin/wmod")
     shutil.copyfile(HEADER, folder / "include/wmod.h")
-    for page in [TOP / "README.md", *(TOP / "docs").glob("*.md")]:
-        shutil.copyfile(page, folder / "share/doc/wmod" / page.name)
+    # the pages, and the pictures that they show
+    for it in [TOP / "README.md", *(TOP / "docs").glob("*.md"), *(TOP / "docs").glob("*.svg")]:
+        shutil.copyfile(it, folder / "share/doc/wmod" / it.name)
     # whatever the umask of whoever made it
     for it in [folder, *folder.rglob("*")]:
         if not it.is_symlink():
