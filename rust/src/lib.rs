@@ -1,7 +1,8 @@
 //! Is this a valid WebAssembly 1.0 module? And what is its canonical binary, and its text?
 //!
-//! This crate calls the library of [wmod], which is proved: it answers [`Ok`] for exactly the valid modules within the limits
-//! that you set. WebAssembly 1.0 is covered; floats are admitted by the profiles that have them. Nothing of a module is run.
+//! This crate calls the library of [wmod], which is proved: unless memory runs out, it answers [`Ok`] for exactly the valid
+//! modules within the limits that you set. WebAssembly 1.0 is covered; floats are admitted by the profiles that have them.
+//! Nothing of a module is run.
 //!
 //! ```
 //! let module = b"\0asm\x01\0\0\0";
@@ -66,7 +67,7 @@ pub fn canon(bytes: &[u8]) -> Result<Vec<u8>, Error> {
     Options::new().canon(bytes)
 }
 
-/// A module as text, which [`build`] reads back. A megabyte of bytes may declare 2^32 locals, gigabytes of text: so show a
+/// A module as text, which [`build`] reads back. Thirty bytes may declare 2^32 - 1 locals, whose text has 17 GB: so show a
 /// stranger's module by [`Options`] with [`locals`](Options::locals) and [`functions`](Options::functions).
 ///
 /// ```

@@ -51,7 +51,7 @@ extern "C" {
 #define WMOD_LIMIT_DEFAULT ((uint64_t)0xFFFFFFFFu)
 #define WMOD_LIMIT_MOST ((uint64_t)1 << 62)
 
-/* Why an input is refused; docs/REFUSALS.md has each with the smallest input that gives it. */
+/* Why an input is refused; docs/REFUSALS.md has each with a small input that gives it. */
 enum {
   WMOD_WHY_MAGIC = 1, /* Magic */
   WMOD_WHY_VERSION = 2, /* Version */
@@ -170,8 +170,8 @@ typedef struct wmod_output {
  * 0 tells the length. What is written is made in memory first, so such a call costs as much as a whole one.
  *
  * wmod_canon: the canonical binary of a valid module. No buffer need be longer than the input.
- * wmod_show: the text of a valid module. A megabyte may declare 2^32 locals, gigabytes of text: of a stranger's
- *   module bound them by the options.
+ * wmod_show: the text of a valid module. Thirty bytes may declare 2^32 - 1 locals: 17 GB of text. Bound the locals of
+ *   a stranger's module by the options.
  * wmod_build: the canonical binary of the valid module that a text writes. It is refused as WMOD_WHY_TOO_LONG where the
  *   text is longer than the limit, as a WMOD_TEXT_.. where the text writes no module of the profile, as
  *   WMOD_WHY_TOO_LARGE where a section of the module's binary would be too large, and else as the module is. `at` is a

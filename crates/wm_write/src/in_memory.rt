@@ -86,8 +86,8 @@ pub fn encoded(alloc: Global, m: &Module) -> Result<Vec<u8>, MakeFault>
     }
 }
 
-/// The text of a module. A megabyte may declare 2^32 locals, gigabytes of text: of a stranger's module a
-/// policy bounds them.
+/// The text of a module. Thirty bytes may declare 2^32 - 1 locals, whose text has 17 GB: a policy bounds the
+/// locals of a stranger's module.
 pub fn printed(alloc: Global, checked: &Checked) -> Result<Vec<u8>, MakeFault>
     ensures written { IfOk result (λ b. b.items ≡ layout (value_of (module_in checked.now))) }
     ensures sized { result ≢ Err fault.TooLarge }
