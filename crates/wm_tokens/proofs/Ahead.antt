@@ -1,6 +1,6 @@
 -- What stands first in a text.
-use Rattle.std.proofs.Common.{◌≡◌, ℕ, zero, ◌⊎◌, Bool, true, false, cond, List, [], ◌∷◌, ◌++◌, Option, Some, None, refl, sym, ap, subst, ◌∙◌, inl, inr, append_assoc, take, drop, get_or, arith}
-use Rattle.std.specs.Prelude.{◌==◌, ◌&&◌}
+use Rattle.std.proofs.Common.{◌≡◌, ◌≢◌, ℕ, zero, ◌≤◌, length, ◌⊎◌, Bool, true, false, cond, List, [], ◌∷◌, ◌++◌, Option, Some, None, refl, sym, ap, subst, ◌∙◌, inl, inr, append_assoc, take, drop, get_or, arith}
+use Rattle.std.specs.Prelude.{◌==◌, ◌&&◌, IfNone}
 use Rattle.std.specs.List.{list_all}
 use Rattle.std.proofs.lemmas.Bool.{cond-true, cond-false, cond_both, eqb-true, ne_eqb, and_parts, or_cases, false_from_ne_true}
 use Rattle.std.proofs.lemmas.List.{append-nil}
@@ -185,6 +185,50 @@ pub ahead_is_so : (b : List ℕ) → IsAhead b (ahead b)
 unfolding ahead
 ahead_is_so [] = refl
 ahead_is_so (c ∷ b) = ahead_at_by c b (class_of c) (class_law c)
+
+-- ---- where no white space stands
+
+pub no_blank : (b : List ℕ) → ((r : List ℕ) → blank r ≢ ahead b) → (part r : List ℕ) → b ≡ part ++ r → Blank part → ⊥
+no_blank b none part r e h = none r (sym (ap ahead e ∙ ahead_blank part r h))
+
+pub no_line : (b : List ℕ) → ((r : List ℕ) → blank r ≢ ahead b) → LineComment b → ⊥
+no_line b none h = none [] (sym (ahead_last b h))
+
+-- ---- where no parenthesis stands
+
+closes_byte : (b r : List ℕ) → first close_paren r ≡ ahead b → get_or b 0 0 ≡ 41
+closes_byte b r e = by (subst (IsAhead b) (sym e) (ahead_is_so b))
+  where
+    by : IsAhead b (first close_paren r) → get_or b 0 0 ≡ 41
+    by (c, text, is, h, ends) = ap (λ (z : List ℕ). get_or z 0 0) (is ∙ ap (λ (z : List ℕ). z ++ r) h)
+
+opens_byte : (b r : List ℕ) → first open_paren r ≡ ahead b → get_or b 0 0 ≡ 40
+opens_byte b r e = by (subst (IsAhead b) (sym e) (ahead_is_so b))
+  where
+    by : IsAhead b (first open_paren r) → get_or b 0 0 ≡ 40
+    by (c, text, is, h, ends) = ap (λ (z : List ℕ). get_or z 0 0) (is ∙ ap (λ (z : List ℕ). z ++ r) h)
+
+abbrev pub NoParenthesis : List ℕ → Type 0
+NoParenthesis b = (r : List ℕ) → (first open_paren r ≢ ahead b) × (first close_paren r ≢ ahead b)
+
+pub no_parenthesis : (b : List ℕ) → (1 ≤ length b → get_or b 0 0 ≢ 40) → (1 ≤ length b → get_or b 0 0 ≢ 41) → NoParenthesis b
+no_parenthesis [] p q r = ((λ e. let f : 0 ≡ 40 = opens_byte [] r e in omega (arith, f)), (λ e. let f : 0 ≡ 41 = closes_byte [] r e in omega (arith, f)))
+no_parenthesis (c ∷ b) p q r = ((λ e. p (omega arith) (opens_byte (c ∷ b) r e)), (λ e. q (omega arith) (closes_byte (c ∷ b) r e)))
+
+-- a comment begins with no parenthesis
+pub no_opening : (b : List ℕ) → get_or b 0 0 ≡ 59 → (r : List ℕ) → first open_paren r ≢ ahead_opening b
+no_opening [] is r e = let f : 0 ≡ 59 = is in omega (arith, f)
+no_opening (d ∷ b) is r e = by (after_comment zero b) (e ∙ cond-true (d == 59) _ _ (ap (λ (x : ℕ). x == 59) is))
+  where
+    by : (o : Option (List ℕ)) → first open_paren r ≡ blank_or_fault o → ⊥
+    by None f = cc
+    by (Some x) f = cc
+
+pub none_opened : {X : Type 0} (b r : List ℕ) (o : Option X) → get_or b 0 0 ≡ 40 → r ≡ drop 1 b → IfNone o ((s : List ℕ) → first open_paren s ≢ ahead_opening r)
+    → IfNone o (NoParenthesis b)
+none_opened b r (Some x) is cut h = tt
+none_opened b r None is cut h =
+    λ s. ((λ e. h s (e ∙ sym (opens_first b r is cut))), (λ e. let f : 41 ≡ 40 = sym (closes_byte b s e) ∙ is in omega (arith, f)))
 
 -- ---- as the code reads an atom
 

@@ -1,6 +1,6 @@
 -- Strings and their escapes.
-use Rattle.std.proofs.Common.{◌≡◌, ℕ, ◌<◌, ◌≤◌, ◌+◌, ◌*◌, Bool, true, false, cond, List, [], ◌∷◌, ◌++◌, Option, Some, None, refl, sym, ap, subst, ◌∙◌, inl, inr, arith, append_assoc, ltb, ◌-◌, take, length, length-append}
-use Rattle.std.specs.Prelude.{◌==◌, ◌&&◌, ◌||◌, fold, encode_utf8, flat_map, nat_lt}
+use Rattle.std.proofs.Common.{◌≡◌, ℕ, zero, suc, ◌<◌, ◌≤◌, ◌+◌, ◌*◌, Bool, true, false, cond, List, [], ◌∷◌, ◌++◌, Option, Some, None, refl, sym, ap, subst, ◌∙◌, inl, inr, arith, append_assoc, ltb, ◌-◌, take, drop, get_or, length, length-append}
+use Rattle.std.specs.Prelude.{◌==◌, ◌&&◌, ◌||◌, IfNone, fold, encode_utf8, flat_map, nat_lt}
 use Rattle.std.specs.List.{list_any}
 use Rattle.std.proofs.lemmas.Bool.{cond-true, cond-false, cond_both, eqb-true, ne_eqb, and_parts, or_cases, lt-ltb, le-ltb, ltb-true, ltb-false, and_left}
 use Rattle.std.proofs.lemmas.List.{take_at}
@@ -10,7 +10,7 @@ use Rattle.wm_tokens.specs.declared.scan.Mode.{Mode}
 use Rattle.wm_tokens.specs.declared.scan.Mode.TheVariants as m
 use Rattle.wm_tokens.specs.declared.scan.Step.{Step}
 use Rattle.wm_tokens.specs.declared.scan.Step.TheVariants.{On, Byte, Scalar, End, Bad}
-use Rattle.wm_tokens.specs.exact.Scan.{with_digit, short_escape, first_escape, capped, string_step, string_next, string_in, giving, given_next, given_in, rest_of, first, string_or_fault, why_next, why_in, bad_in}
+use Rattle.wm_tokens.specs.exact.Scan.{with_digit, short_escape, first_escape, capped, string_step, string_next, string_in, giving, given_next, given_in, rest_of, first, string_or_fault, why_next, why_in, bad_in, byte_next, byte_at}
 use Rattle.wm_tokens.proofs.Basics.{same_some, both_are}
 use Rattle.wm_tokens.proofs.Atoms.{digit_goes, not_underscore, DigitsLeft, digit_before, any_after}
 
@@ -377,6 +377,54 @@ pub given_bad : (mode : Mode) (c : ℕ) (b : List ℕ) → Bad ≡ string_step m
 given_bad mode c b e = given_goes mode c b Bad e
 
 pub ruleset given_laws = (given_on, given_byte, given_scalar, given_end, given_bad)
+
+-- where no byte stands first that so many characters write
+none_goes : (n : ℕ) (mode : Mode) (c : ℕ) (b : List ℕ) (s : Step) → s ≡ string_step mode c → byte_at (suc n) mode (c ∷ b) ≡ byte_next s b (λ m. byte_at n m b)
+unfolding byte_at
+none_goes n mode c b s e = ap (λ (x : Step). byte_next x b (λ m. byte_at n m b)) (sym e)
+
+none_at_once : (mode : Mode) (b : List ℕ) → byte_at 0 mode b ≡ None
+unfolding byte_at
+none_at_once mode b = refl
+
+pub none_empty : (n : ℕ) (mode : Mode) (b : List ℕ) → length b ≡ 0 → byte_at n mode b ≡ None
+unfolding byte_at
+none_empty zero mode b e = refl
+none_empty (suc n) mode [] e = refl
+none_empty (suc n) mode (c ∷ b) e = absurd (omega (arith, e))
+
+none_on_3 : (mode next : Mode) (c : ℕ) (b : List ℕ) → On next ≡ string_step mode c → byte_at 3 mode (c ∷ b) ≡ byte_at 2 next b
+none_on_3 mode next c b e = none_goes 2 mode c b (On next) e
+
+none_on_2 : (mode next : Mode) (c : ℕ) (b : List ℕ) → On next ≡ string_step mode c → byte_at 2 mode (c ∷ b) ≡ byte_at 1 next b
+none_on_2 mode next c b e = none_goes 1 mode c b (On next) e
+
+pub none_far : {X : Type 0} (mode next : Mode) (b r : List ℕ) (o : Option X) → 1 ≤ length b → On next ≡ string_step mode (get_or b 0 0) → r ≡ drop 1 b → IfNone o (byte_at 2 next r ≡ None) → IfNone o (byte_at 3 mode b ≡ None)
+none_far mode next [] r o some e cut h = absurd (omega (arith, some))
+none_far mode next (c ∷ b) r (Some x) some e cut h = tt
+none_far mode next (c ∷ b) r None some e cut h = none_on_3 mode next c b e ∙ ap (byte_at 2 next) (sym cut) ∙ h
+
+pub none_near : {X : Type 0} (mode next : Mode) (b r : List ℕ) (o : Option X) → 1 ≤ length b → On next ≡ string_step mode (get_or b 0 0) → r ≡ drop 1 b → IfNone o (byte_at 1 next r ≡ None) → IfNone o (byte_at 2 mode b ≡ None)
+none_near mode next [] r o some e cut h = absurd (omega (arith, some))
+none_near mode next (c ∷ b) r (Some x) some e cut h = tt
+none_near mode next (c ∷ b) r None some e cut h = none_on_2 mode next c b e ∙ ap (byte_at 1 next) (sym cut) ∙ h
+
+pub none_on_1 : (mode next : Mode) (c : ℕ) (b : List ℕ) → On next ≡ string_step mode c → byte_at 1 mode (c ∷ b) ≡ None
+none_on_1 mode next c b e = none_goes 0 mode c b (On next) e ∙ none_at_once next b
+
+pub none_scalar : (n : ℕ) (mode : Mode) (c x : ℕ) (b : List ℕ) → Scalar x ≡ string_step mode c → byte_at n mode (c ∷ b) ≡ None
+none_scalar zero mode c x b e = none_at_once mode (c ∷ b)
+none_scalar (suc n) mode c x b e = none_goes n mode c b (Scalar x) e
+
+pub none_end : (n : ℕ) (mode : Mode) (c : ℕ) (b : List ℕ) → End ≡ string_step mode c → byte_at n mode (c ∷ b) ≡ None
+none_end zero mode c b e = none_at_once mode (c ∷ b)
+none_end (suc n) mode c b e = none_goes n mode c b End e
+
+pub none_bad : (n : ℕ) (mode : Mode) (c : ℕ) (b : List ℕ) → Bad ≡ string_step mode c → byte_at n mode (c ∷ b) ≡ None
+none_bad zero mode c b e = none_at_once mode (c ∷ b)
+none_bad (suc n) mode c b e = none_goes n mode c b Bad e
+
+pub ruleset none_laws = (none_empty, none_on_1, none_scalar, none_end, none_bad)
 
 -- of a whole string both are one reading
 pub given_same : (mode : Mode) (b r : List ℕ) → rest_of (string_in mode b) ≡ Some r → string_in mode b ≡ Some (given_in mode b, r)

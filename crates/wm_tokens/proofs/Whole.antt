@@ -1,8 +1,8 @@
 -- The tokens of a whole text.
-use Rattle.std.proofs.Common.{◌≡◌, ℕ, zero, suc, ◌<◌, ◌≤◌, Bool, cond, true, false, List, [], ◌∷◌, ◌++◌, length, Option, Some, None, refl, sym, ap, subst, ◌∙◌, inl, inr, arith, append_assoc, length-append, IsUtf8}
+use Rattle.std.proofs.Common.{◌≡◌, ◌≢◌, ℕ, zero, suc, ◌<◌, ◌≤◌, Bool, cond, true, false, List, [], ◌∷◌, ◌++◌, length, Option, Some, None, refl, sym, ap, subst, ◌∙◌, inl, inr, arith, append_assoc, length-append, IsUtf8}
 use Rattle.std.proofs.lemmas.List.{append-nil}
 use Rattle.wm_syntax.specs.Spelling.{Each}
-use Rattle.wm_tokens.specs.Tokens.{Token, is_space, Blank, LineComment, Space, AreTokens, Tokens}
+use Rattle.wm_tokens.specs.Tokens.{Token, is_space, Blank, LineComment, Space, LastSpace, AreTokens, Tokens}
 use Rattle.wm_tokens.specs.exact.Scan.{after_spaces, ahead, Ahead, no_more, blank, first, fault, adding, going, tokens_within, tokens_of, lexing, lexed_within, lexed, is_some, has_tokens}
 use Rattle.std.specs.Prelude.{Result, Ok, Err, OnErr, MatchResult}
 use Rattle.wm_tokens.proofs.Basics.{same_some}
@@ -200,6 +200,49 @@ pub spaces_within : (b : List ℕ) → length (after_spaces b) ≤ length b
 spaces_within b = spaces_along (λ r. length r ≤ length b) (λ x r e h. let lt : length r < length x = blank_shorter x r e in omega arith) b (omega arith)
 
 pub ruleset ahead_laws = (ahead_ends, ahead_skips, ahead_takes, ahead_stops, blank_shorter, first_shorter, spaces_lexed, spaces_within)
+
+-- ---- white space that is passed over
+
+-- it leads from the one to the other
+pub record Spaced (text rest : List ℕ) : Type 0 where
+  pub space : List ℕ
+  pub cut : text ≡ space ++ rest
+  pub last : LastSpace space
+  pub whole : rest ≢ [] → Space space
+
+space_then : (parts : List (List ℕ)) (b part : List ℕ) → Each (λ part b. (b ≡ part) × Blank part) parts b → Blank part → Space (b ++ part)
+space_then [] b part e h = (part ∷ [], (part, [], ap (λ (z : List ℕ). z ++ part) e ∙ sym (append-nil part), (refl, h), refl))
+space_then (p ∷ parts) b part (x, y, e, (is, q), more) h =
+    let g = space_then parts y part more h in (p ∷ g.0, (x, y ++ part, ap (λ (z : List ℕ). z ++ part) e ∙ append_assoc x y part, (is, q), g.1))
+
+spaced_skip : (text b r : List ℕ) → blank r ≡ ahead b → Spaced text b → Spaced text r
+spaced_skip text b r e s = by (subst (IsAhead b) (sym e) (ahead_is_so b))
+  where
+    before : (c : ℕ) (part : List ℕ) → b ≡ c ∷ part ++ r → Space s.space
+    before c part is = s.whole (λ nil. let f : [] ≡ c ∷ part ++ r = sym nil ∙ is in cc)
+
+    joined : (c : ℕ) (part : List ℕ) → b ≡ c ∷ part ++ r → text ≡ (s.space ++ c ∷ part) ++ r
+    joined c part is = s.cut ∙ ap (λ (z : List ℕ). s.space ++ z) is ∙ sym (append_assoc s.space (c ∷ part) r)
+
+    by : IsAhead b (blank r) → Spaced text r
+    by (c, part, is, inl h) =
+        let front : Space s.space = before c part is in
+        let all : Space (s.space ++ c ∷ part) = space_then front.0 s.space (c ∷ part) front.1 h in
+        record { space = s.space ++ c ∷ part; cut = joined c part is; last = inl all; whole = λ _. all }
+    by (c, part, is, inr (line, end)) = record {
+      space = s.space ++ c ∷ part;
+      cut = joined c part is;
+      last = inr (s.space, c ∷ part, refl, before c part is, line);
+      whole = λ some. absurd (some end);
+    }
+
+pub spaced_first : (text : List ℕ) → Spaced text (after_spaces text)
+spaced_first text = spaces_along (Spaced text) (spaced_skip text) text (record { space = []; cut = refl; last = inl ([], refl); whole = λ _. ([], refl) })
+
+pub spaced_on : (text b r : List ℕ) → blank r ≡ ahead b → Spaced text b → Spaced text (after_spaces r)
+spaced_on text b r e s = spaces_along (Spaced text) (spaced_skip text) r (spaced_skip text b r e s)
+
+pub ruleset spaced_laws = (spaced_first, spaced_on)
 
 pub some_adding : (t : Token) (o : Option (List Token)) → is_some (adding t o) ≡ is_some o
 some_adding t None = refl

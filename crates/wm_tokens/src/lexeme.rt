@@ -2,7 +2,7 @@
 
 ghost use Rattle.std.specs.Prelude.{◌≡◌, ◌≢◌, ◌<◌, ◌≤◌, length, MatchOption, MatchResult, true, false, OnOk};
 ghost use Rattle.std.specs.Prelude.{OnErr, IfSome, IfErr, IsUtf8, ◌↔◌, ◌⊎◌, List, [], ◌∷◌, ◌++◌};
-ghost use Rattle.std.specs.Prelude.{IsTrue, IfOk, encode_utf8};
+ghost use Rattle.std.specs.Prelude.{IsTrue, IfNone, IfOk, None, encode_utf8, ℕ};
 ghost use Rattle.std.specs.Str.{IsValidUpTo};
 ghost use Rattle.wm_tokens.specs.exact.Scan as scan;
 ghost use Rattle.wm_tokens.specs.TokenFaults.{FirstFault, IsPlace};
@@ -119,23 +119,31 @@ fn atom(text: &[u8]) -> Found
     }
 }
 
-/// The parenthesis that stands first, and what follows it; none where another token stands, or a block
-/// comment.
+/// Returns the parenthesis that stands first, and what follows it. `None` only where none stands first, as
+/// where a block comment begins.
 #[inline(always)]
 fn parenthesis(text: &[u8]) -> Option<(Lexeme, &[u8])>
-    ensures { IfSome result (λ x. scan.first (token_of x.0) x.1.now ≡ scan.ahead text.now) }
+    ensures found { IfSome result (λ x. scan.first (token_of x.0) x.1.now ≡ scan.ahead text.now) }
+    ensures none { IfNone result ((rest : List ℕ) → (scan.first tokens.open_paren rest ≢ scan.ahead text.now)
+        × (scan.first tokens.close_paren rest ≢ scan.ahead text.now)) }
 {
-    match text {
-        [b')', more @ ..] => Some((Lexeme::Close, more)),
-        [b'(', more @ ..] => opening_alone(more),
+    let [c, more @ ..] = text else {
+        return None;
+    };
+    match *c {
+        b')' => Some((Lexeme::Close, more)),
+        b'(' => opening_alone(more),
         _ => None,
     }
 }
 
-/// The same where an opening parenthesis stands, from the text after it.
+/// Returns an opening parenthesis and the text after it, given that text. `None` exactly where the two begin a
+/// block comment.
 #[inline(always)]
 fn opening_alone(text: &[u8]) -> Option<(Lexeme, &[u8])>
-    ensures { IfSome result (λ x. scan.first (token_of x.0) x.1.now ≡ scan.ahead_opening text.now) }
+    ensures found { IfSome result (λ x. scan.first (token_of x.0) x.1.now ≡ scan.ahead_opening text.now) }
+    ensures none { IfNone result ((rest : List ℕ)
+        → scan.first tokens.open_paren rest ≢ scan.ahead_opening text.now) }
 {
     match text {
         [b';', ..] => None,
@@ -232,11 +240,16 @@ pub fn first_float(text: &[u8]) -> Option<usize>
     }
 }
 
-/// A text from its first token on.
-#[tactic(auto, using(crate::proofs::Whole::ahead_laws))]
+/// Returns a text from its first token on. Only white space is passed over. What is left begins with none, and
+/// is no line comment alone.
+#[tactic(auto, using(crate::proofs::Whole::ahead_laws, crate::proofs::Whole::spaced_laws))]
 pub fn skip_space(text: &[u8]) -> &[u8]
     ensures same { scan.lexed result.now ≡ scan.lexed text.now }
     ensures within { length result.now ≤ length text.now }
+    ensures passed { (space : List ℕ) × (text.now ≡ space ++ result.now) × tokens.LastSpace space
+        × (result.now ≢ [] → tokens.Space space) }
+    ensures no_blank { (part rest : List ℕ) → result.now ≡ part ++ rest → ¬ (tokens.Blank part) }
+    ensures no_line { ¬ (tokens.LineComment result.now) }
 {
     let mut rest = after_spaces(text);
     loop {
@@ -340,6 +353,7 @@ fn push_given<'a>(bytes: &mut Vec<u8>, text: &'a [u8]) -> Result<&'a [u8], Alloc
     ensures given { IfOk result (λ r. bytes.new.items ++ scan.given_in mode.Plain r.now
         ≡ bytes.old.items ++ scan.given_in mode.Plain text.now) }
     ensures within { IfOk result (λ r. length r.now ≤ length text.now) }
+    ensures none { IfOk result (λ r. scan.byte_at 3 mode.Plain r.now ≡ None) }
 {
     let mut rest = text;
     while let Some((byte, more)) = given_first(rest) {

@@ -1,7 +1,7 @@
 //! How the bytes of a text are told apart.
 
 ghost use Rattle.std.specs.Prelude.{◌≡◌, ◌≤◌, ◌+◌, zero, length, take, drop, false, Some, None, MatchOption};
-ghost use Rattle.std.specs.Prelude.{IfSome, IfErr, MatchResult, ◌*◌, ◌<◌, ◌∷◌, get_or, min, true, ℕ};
+ghost use Rattle.std.specs.Prelude.{IfNone, IfSome, IfErr, MatchResult, ◌*◌, ◌<◌, ◌∷◌, get_or, min, true, ℕ};
 ghost use Rattle.std.specs.Option.{option_map};
 ghost use Rattle.wm_tokens.specs.exact.Scan as scan;
 ghost use Rattle.wm_tokens.specs.declared.scan.Mode.TheVariants.{Plain, Escape, Digits};
@@ -142,7 +142,8 @@ fn after_run(text: &[u8]) -> &[u8]
     rest
 }
 
-/// A text from within the white space that stands first, near its end: four bytes are asked in a step.
+/// A text from within the white space that stands first, near its end: four bytes are asked in a step. May
+/// return the text as it is: only speed depends on that.
 #[inline(always)]
 fn within_run(text: &[u8]) -> &[u8]
     ensures { scan.after_spaces result.now ≡ scan.after_spaces text.now }
@@ -171,7 +172,8 @@ pub fn after_line(text: &[u8]) -> &[u8]
     rest
 }
 
-/// A line comment from within it, near its end: four bytes are asked in a step.
+/// A line comment from within it, near its end: four bytes are asked in a step. May return the text as it is:
+/// only speed depends on that.
 #[inline(always)]
 fn within_line(text: &[u8]) -> &[u8]
     ensures { scan.after_line result.now ≡ scan.after_line text.now }
@@ -346,16 +348,17 @@ fn is_scalar(n: u32) -> bool
     n < 0xD800 || (0xE000 <= n && n < 0x11_0000)
 }
 
-/// The byte that stands first in a string, and what follows it; none where something else stands there, or an
-/// escape of more than three characters.
+/// Returns the byte that stands first in a string, and what follows it. `None` only where something else
+/// stands there, or an escape of more than three characters.
 #[inline(always)]
-#[tactic(auto, using(crate::proofs::Strings::rest_laws, crate::proofs::Strings::why_laws, crate::proofs::Strings::given_laws))]
+#[tactic(auto, using(crate::proofs::Strings::rest_laws, crate::proofs::Strings::why_laws, crate::proofs::Strings::given_laws, crate::proofs::Strings::none_laws))]
 pub fn given_first(text: &[u8]) -> Option<(u8, &[u8])>
     ensures rest { IfSome result (λ x. scan.rest_of (scan.string_in Plain text.now)
         ≡ scan.rest_of (scan.string_in Plain x.1.now)) }
     ensures why { IfSome result (λ x. scan.why_in Plain text.now ≡ scan.why_in Plain x.1.now) }
     ensures given { IfSome result (λ x. scan.given_in Plain text.now ≡ x.0 ∷ scan.given_in Plain x.1.now) }
     ensures shorter { IfSome result (λ x. length x.1.now < length text.now) }
+    ensures none { IfNone result (scan.byte_at 3 Plain text.now ≡ None) }
 {
     let [c, more @ ..] = text else {
         return None;
@@ -369,7 +372,7 @@ pub fn given_first(text: &[u8]) -> Option<(u8, &[u8])>
 
 /// The same within an escape, behind its first character.
 #[inline(always)]
-#[tactic(auto, using(crate::proofs::Strings::rest_laws, crate::proofs::Strings::why_laws, crate::proofs::Strings::given_laws))]
+#[tactic(auto, using(crate::proofs::Strings::rest_laws, crate::proofs::Strings::why_laws, crate::proofs::Strings::given_laws, crate::proofs::Strings::none_laws))]
 fn given_within(mode: Mode, text: &[u8]) -> Option<(u8, &[u8])>
     requires { IsMode mode }
     ensures rest { IfSome result (λ x. scan.rest_of (scan.string_in mode text.now)
@@ -377,6 +380,7 @@ fn given_within(mode: Mode, text: &[u8]) -> Option<(u8, &[u8])>
     ensures why { IfSome result (λ x. scan.why_in mode text.now ≡ scan.why_in Plain x.1.now) }
     ensures given { IfSome result (λ x. scan.given_in mode text.now ≡ x.0 ∷ scan.given_in Plain x.1.now) }
     ensures shorter { IfSome result (λ x. length x.1.now < length text.now) }
+    ensures none { IfNone result (scan.byte_at 2 mode text.now ≡ None) }
 {
     let [c, more @ ..] = text else {
         return None;
@@ -390,7 +394,7 @@ fn given_within(mode: Mode, text: &[u8]) -> Option<(u8, &[u8])>
 
 /// The same behind the second character of an escape.
 #[inline(always)]
-#[tactic(auto, using(crate::proofs::Strings::rest_laws, crate::proofs::Strings::why_laws, crate::proofs::Strings::given_laws))]
+#[tactic(auto, using(crate::proofs::Strings::rest_laws, crate::proofs::Strings::why_laws, crate::proofs::Strings::given_laws, crate::proofs::Strings::none_laws))]
 fn given_last(mode: Mode, text: &[u8]) -> Option<(u8, &[u8])>
     requires { IsMode mode }
     ensures rest { IfSome result (λ x. scan.rest_of (scan.string_in mode text.now)
@@ -398,22 +402,24 @@ fn given_last(mode: Mode, text: &[u8]) -> Option<(u8, &[u8])>
     ensures why { IfSome result (λ x. scan.why_in mode text.now ≡ scan.why_in Plain x.1.now) }
     ensures given { IfSome result (λ x. scan.given_in mode text.now ≡ x.0 ∷ scan.given_in Plain x.1.now) }
     ensures shorter { IfSome result (λ x. length x.1.now < length text.now) }
+    ensures none { IfNone result (scan.byte_at 1 mode text.now ≡ None) }
 {
     let [c, more @ ..] = text else {
         return None;
     };
     match string_step(mode, *c) {
         Step::Byte(byte) => Some((byte, more)),
-        _ => None,
+        Step::On(_) | Step::Scalar(_) | Step::End | Step::Bad => None,
     }
 }
 
-/// A string from where no byte stands first that `given_first` finds.
+/// Returns a string from where no byte stands first that `given_first` finds.
 fn after_given(text: &[u8]) -> &[u8]
     ensures rest { scan.rest_of (scan.string_in Plain result.now)
         ≡ scan.rest_of (scan.string_in Plain text.now) }
     ensures why { scan.why_in Plain result.now ≡ scan.why_in Plain text.now }
     ensures within { length result.now ≤ length text.now }
+    ensures none { scan.byte_at 3 Plain result.now ≡ None }
 {
     let mut rest = text;
     while let Some((_, more)) = given_first(rest) {
@@ -502,7 +508,8 @@ fn atom_end(known: usize, text: &[u8]) -> usize
 }
 
 /// The atom that stands first, and what follows it, where its first byte tells that it is one: a word, an
-/// identifier, or decimal digits alone. None where another token stands first, or an atom of another form.
+/// identifier, or decimal digits alone. None where another token stands first, or an atom of another form. May
+/// give up with `None`: only speed depends on that.
 #[inline(always)]
 pub fn plain_atom(text: &[u8]) -> Option<(&[u8], &[u8])>
     ensures { IfSome result (λ x. scan.first (tokens.atom x.0.now) x.1.now ≡ scan.ahead text.now) }
@@ -515,7 +522,7 @@ pub fn plain_atom(text: &[u8]) -> Option<(&[u8], &[u8])>
     }
 }
 
-/// How many decimal digits stand first.
+/// How many decimal digits stand first. May count fewer: only speed depends on that.
 #[inline(always)]
 fn digits_len(text: &[u8]) -> usize
     ensures within { result ≤ length text.now }
@@ -531,7 +538,8 @@ fn digits_len(text: &[u8]) -> usize
     i
 }
 
-/// The decimal digits that stand first, and what follows them, where that is no character of atoms.
+/// The decimal digits that stand first, and what follows them, where that is no character of atoms. May give
+/// up with `None`.
 #[inline(always)]
 fn plain_number(text: &[u8]) -> Option<(&[u8], &[u8])>
     ensures { IfSome result (λ x. scan.first (tokens.atom x.0.now) x.1.now ≡ scan.ahead text.now) }
@@ -546,7 +554,7 @@ fn plain_number(text: &[u8]) -> Option<(&[u8], &[u8])>
     Some(text.split_at(n))
 }
 
-/// The identifier that stands first, from its `$` on, and what follows it.
+/// The identifier that stands first, from its `$` on, and what follows it. May give up with `None`.
 #[inline(always)]
 fn plain_id(text: &[u8]) -> Option<(&[u8], &[u8])>
     requires { get_or text.now 0 0 ≡ 36 }
@@ -609,7 +617,8 @@ pub fn magnitude(text: &[u8]) -> Option<u128>
     }
 }
 
-/// The value of a number below 10^9 that is decimal digits alone, which most numbers are.
+/// The value of a number below 10^9 that is decimal digits alone, which most numbers are. May give up with
+/// `None`: only speed depends on that.
 #[inline(always)]
 #[tactic(auto, using(crate::proofs::Atoms::decimal_laws))]
 pub fn short_decimal(text: &[u8]) -> Option<u32>

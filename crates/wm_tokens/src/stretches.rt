@@ -59,7 +59,7 @@ fn after(hand: u32, byte: u8) -> u32
 }
 
 /// A text from behind a stretch that stands first in it, or behind a part of that: eight bytes are taken in a
-/// step, and a step may end within an atom.
+/// step, and a step may end within an atom. May return the text as it is: only speed depends on that.
 #[inline(never)]
 fn after_stretch(text: &[u8]) -> &[u8]
     ensures passes { Passes text.now result.now }
@@ -91,7 +91,7 @@ fn after_stretch(text: &[u8]) -> &[u8]
 
 /// A text from behind a stretch that stands first in it, or behind a part of that, and from its first byte on
 /// that is not white space by itself. It is looked for where a plain atom begins: parentheses stand near one
-/// another.
+/// another. May return the text as it is: only speed depends on that.
 #[inline(always)]
 #[tactic(auto, using(crate::proofs::PlainStretches::stretch_laws))]
 pub fn after_stretches(text: &[u8]) -> &[u8]

@@ -240,6 +240,17 @@ abbrev pub given_in : Mode → List ℕ → List ℕ
 given_in mode [] = []
 given_in mode (c ∷ b) = given_next (string_step mode c) (λ m. given_in m b)
 
+-- the byte that stands first in a string, and what follows it, where at most so many characters write it
+abbrev pub byte_next : Step → List ℕ → (Mode → Option (ℕ × List ℕ)) → Option (ℕ × List ℕ)
+byte_next (On mode) b more = more mode
+byte_next (Byte byte) b more = Some (byte, b)
+byte_next _ b more = None
+
+unfoldable pub byte_at : ℕ → Mode → List ℕ → Option (ℕ × List ℕ)
+byte_at zero mode b = None
+byte_at (suc n) mode [] = None
+byte_at (suc n) mode (c ∷ b) = byte_next (string_step mode c) b (λ m. byte_at n m b)
+
 -- what follows a string
 abbrev pub rest_of : Option (List ℕ × List ℕ) → Option (List ℕ)
 rest_of None = None
