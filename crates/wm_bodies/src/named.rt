@@ -1,21 +1,23 @@
 //! Parameters and locals, with their identifiers (sections 6.4.3 and 6.6.5).
 
-ghost use Rattle.std.specs.Prelude.{◌≡◌, ◌++◌, ◌∷◌, [], IfSome, None, OnOk, replicate};
+ghost use Rattle.std.specs.Prelude.{◌≡◌, ◌++◌, ◌∷◌, ◌⊎◌, [], IfOk, IfSome, None, OnOk, replicate};
 ghost use Rattle.wm_tokens.specs.Written.{types_of};
+ghost use Rattle.wm_tokens.specs.declared.faults.TextWhy.TheVariants.{RepeatedId, TooManyLocals};
 ghost use Rattle.wm_bodies.specs.exact.Reading as reading;
 ghost use Rattle.wm_tokens.specs.exact.Scan.{lexed};
 ghost use Rattle.wm_bodies.specs.exact.TypeUses as uses;
 ghost use Rattle.wm_bodies.specs.inner.Named.{named_list, named_of};
 ghost use Rattle.wm_bodies.specs.inner.Views.{Reads};
 
-use crate::literals::is_id;
-use crate::operands::{close, no_type, open, type_of, val_type, word};
+use crate::identifiers::Space;
+use crate::literals::{is, is_id};
+use crate::operands::{close, no_type, open, refuse, type_named, type_of, val_type, word};
 use crate::type_uses::begins_group;
 use std::alloc::{AllocError, Global};
 use wm_syntax::profile::Profile;
 use wm_syntax::types::ValType;
-use wm_tokens::faults::TextFault;
-use wm_tokens::lexeme::{Lexeme, next_token};
+use wm_tokens::faults::{TextFault, TextWhy};
+use wm_tokens::lexeme::{Lexeme, next_token, skip_space};
 
 /// A run of parameters or of locals: one with an identifier, or some of one type with none.
 #[derive(Clone, Copy)]
@@ -152,4 +154,46 @@ pub fn groups<'a>(
         rest = group(&mut named, profile, name, rest)?;
     }
     Ok((named, rest))
+}
+
+/// The first fault among the tokens of parameters and locals, of those that more than `left` bytes are left
+/// at: an identifier that comes again, or a local after the `most` that there may be. Rows of `wm_cli` test which
+/// of them it is, and where, with a small `most`: a text with 2^32 locals is too long.
+pub fn earlier_fault(
+    alloc: Global,
+    text: &[u8],
+    left: usize,
+    most: u32,
+) -> Result<Option<TextFault>, AllocError>
+    ensures { IfOk result (λ o. IfSome o (λ e. (e.why ≡ RepeatedId) ⊎ (e.why ≡ TooManyLocals))) }
+{
+    let mut seen = Space::new(alloc);
+    let mut in_locals = false;
+    let mut room = most;
+    let mut rest = text;
+    loop {
+        match next_token(rest) {
+            Some((Lexeme::Atom(atom), more)) => {
+                if skip_space(rest).len() <= left {
+                    return Ok(None);
+                }
+                if is_id(atom) {
+                    if seen.place(atom).is_some() {
+                        return Ok(Some(refuse(TextWhy::RepeatedId, rest)));
+                    }
+                    seen.push(Some(atom))?;
+                } else if is(atom, b"local") {
+                    in_locals = true;
+                } else if in_locals && type_named(atom).is_some() {
+                    if room == 0 {
+                        return Ok(Some(refuse(TextWhy::TooManyLocals, rest)));
+                    }
+                    room -= 1;
+                }
+                rest = more;
+            }
+            Some((_, more)) => rest = more,
+            None => return Ok(None),
+        }
+    }
 }

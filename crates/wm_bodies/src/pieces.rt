@@ -68,9 +68,9 @@ fn store(op: StoreOp, text: &[u8]) -> Result<(Simple, &[u8]), TextFault>
     Ok((Simple::Store(op, at), rest))
 }
 
-/// Labels, as many as stand first. One after the `most` that there may be is a fault.
+/// Labels, as many as stand first. One after the `most` that there may be is `Expected`, whatever it is.
 #[tactic(auto, using(crate::proofs::Tables::few_laws))]
-fn labels<'a>(
+pub fn labels<'a>(
     alloc: Global,
     blocks: &OpenBlocks,
     most: usize,

@@ -1,9 +1,9 @@
 //! Functions (section 6.6.5).
 
-ghost use Rattle.std.specs.Prelude.{◌≡◌, ◌≢◌, ◌++◌, ◌<◌, ◌≤◌, ◌⊎◌, ◌^◌, [], IfErr, IfOk, IfSome, MatchOption};
+ghost use Rattle.std.specs.Prelude.{◌≡◌, ◌≢◌, ◌++◌, ◌<◌, ◌≤◌, ◌⊎◌, ◌^◌, [], IfErr, IfOk, MatchOption};
 ghost use Rattle.std.specs.Prelude.{false, length, true};
 ghost use Rattle.wm_tokens.specs.Written as written;
-ghost use Rattle.wm_tokens.specs.declared.faults.TextWhy.TheVariants.{Memory, RepeatedId, TooManyLocals};
+ghost use Rattle.wm_tokens.specs.declared.faults.TextWhy.TheVariants.{Memory, TooManyLocals};
 ghost use Rattle.wm_read.specs.exact.Fields as fields;
 ghost use Rattle.wm_tokens.specs.exact.Scan.{lexed};
 ghost use Rattle.wm_bodies.specs.inner.Blocks.{names_of};
@@ -15,18 +15,16 @@ ghost use Rattle.wm_bodies.specs.inner.Views.{IsOfReaders, NotMemory, Reads};
 use std::alloc::{AllocError, Global};
 use wm_bodies::bodies::read_body;
 use wm_bodies::identifiers::{Names, Scope, Space, is_new};
-use wm_bodies::literals::{is, is_id};
 use wm_bodies::named;
 use wm_bodies::named::NamedRun;
 use wm_bodies::named_uses::{NamedUse, Params, named_use};
-use wm_bodies::operands::{refuse, type_named};
+use wm_bodies::operands::refuse;
 use wm_bodies::type_uses::{no_form, type_index};
 use wm_syntax::modules::Function;
 use wm_syntax::modules::locals::Locals;
 use wm_syntax::profile::Profile;
 use wm_syntax::why::Why;
 use wm_tokens::faults::{TextFault, TextWhy};
-use wm_tokens::lexeme::{Lexeme, next_token, skip_space};
 
 /// Adds the identifier of a run, or as many items with none. It tells whether it added them: it does not
 /// add an identifier that is there.
@@ -136,42 +134,6 @@ fn read_head<'n, 'a>(
     Ok((used, locals, rest))
 }
 
-/// The first fault among the tokens of parameters and locals that more than so many bytes are left at: an
-/// identifier that comes again, or a local after the 2^32 - 1 that there may be.
-fn earlier(alloc: Global, text: &[u8], left: usize) -> Result<Option<TextFault>, AllocError>
-    ensures { IfOk result (λ o. IfSome o (λ e. (e.why ≡ RepeatedId) ⊎ (e.why ≡ TooManyLocals))) }
-{
-    let mut seen = Space::new(alloc);
-    let mut in_locals = false;
-    let mut room = u32::MAX;
-    let mut rest = text;
-    loop {
-        match next_token(rest) {
-            Some((Lexeme::Atom(atom), more)) => {
-                if skip_space(rest).len() <= left {
-                    return Ok(None);
-                }
-                if is_id(atom) {
-                    if seen.place(atom).is_some() {
-                        return Ok(Some(refuse(TextWhy::RepeatedId, rest)));
-                    }
-                    seen.push(Some(atom))?;
-                } else if is(atom, b"local") {
-                    in_locals = true;
-                } else if in_locals && type_named(atom).is_some() {
-                    if room == 0 {
-                        return Ok(Some(refuse(TextWhy::TooManyLocals, rest)));
-                    }
-                    room -= 1;
-                }
-                rest = more;
-            }
-            Some((_, more)) => rest = more,
-            None => return Ok(None),
-        }
-    }
-}
-
 /// An identifier that comes again is a fault before this one, and so is a local too many, where it stands
 /// before it. The text begins with the type use.
 #[tactic(auto, using(crate::proofs::FunctionCode::earlier_read))]
@@ -185,7 +147,7 @@ fn first_fault(alloc: Global, names: &Names, fault: TextFault, text: &[u8]) -> T
     let Ok((_, rest)) = type_index(names, text) else {
         return fault;
     };
-    match earlier(alloc, rest, fault.left) {
+    match named::earlier_fault(alloc, rest, fault.left, u32::MAX) {
         Ok(Some(other)) => other,
         Ok(None) => fault,
         Err(_) => TextFault::MEMORY,

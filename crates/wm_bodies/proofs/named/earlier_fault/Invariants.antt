@@ -1,5 +1,5 @@
 use Rattle.std.proofs.Common.{length}
-use Rattle.wm_read.proofs.fields.functions.earlier.Given as goal
+use Rattle.wm_bodies.proofs.named.earlier_fault.Given as goal
 
 abbrev pub decreases-loop-atom : goal.decreases-loop-atom
 decreases-loop-atom l = length l.rest
