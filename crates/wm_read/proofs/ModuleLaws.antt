@@ -13,7 +13,7 @@ use Rattle.wm_tokens.specs.Fields.{Field, HasDistinct, IsDefinition, IsImport, W
 use Rattle.wm_read.specs.exact.Fields.{fields_at}
 use Rattle.wm_read.specs.exact.FirstReading.{Noted, nothing, heads_at, names_in, names_at}
 use Rattle.wm_bodies.specs.exact.Reading.{◌>>=◌, made, open_at, close_at, atom_at, word_of, id_at}
-use Rattle.wm_read.specs.exact.TextModules.{end_at, frame_at, all_names_at, module_within, module_at}
+use Rattle.wm_read.specs.exact.TextModules.{IsFollowed, end_at, frame_at, all_names_at, module_within, module_at}
 use Rattle.wm_tokens.proofs.Basics.{same_some}
 use Rattle.wm_read.proofs.FieldLaws.{fields_sound, fields_complete}
 use Rattle.wm_read.proofs.HeadLaws.{inside, field_opens, heads_are}
@@ -193,3 +193,24 @@ heads_are_read pr written fs front more of h order once distinct =
     let t = rules_noted fs (record { imports_first = order; one_start = once; distinct = distinct }) in
     noted_is pr written fs front more of h ∙ ap (λ (o : Option Noted). names_in (o >>= λ t. Some (t, close_paren ∷ more))) t.1
     ∙ ap (λ (z : Names). Some (z, close_paren ∷ more)) t.2
+
+-- ---- behind a module
+
+-- tokens that write a module, and one more
+pub followed : (p : Profile) (k : List Token) (m : Module) (t : Token) (more : List Token) → Writes p k m → IsFollowed p (k ++ t ∷ more)
+followed p k m t more w = by (inside (codes "module") (WritesId w.id ▸ Each (WritesField (names_of w.fields)) w.fields) k w.text)
+  where
+    by : (x : List Token) × ((WritesId w.id ▸ Each (WritesField (names_of w.fields)) w.fields) x) × ((rest : List Token) → k ++ rest ≡ open_paren ∷ atom (codes "module") ∷ (x ++ close_paren ∷ rest)) → IsFollowed p (k ++ t ∷ more)
+    by (x, (a, b, e, i, h), text) =
+        let j : List Token = b ++ close_paren ∷ t ∷ more in
+        let of : IsOf p (module_of w.fields) = subst (IsOf p) (sym w.value) w.instructions in
+        let all : k ++ t ∷ more ≡ open_paren ∷ atom (codes "module") ∷ (a ++ j) =
+        text (t ∷ more) ∙ ap (λ (z : List Token). open_paren ∷ atom (codes "module") ∷ z) (ap (λ (z : List Token). z ++ close_paren ∷ t ∷ more) e ∙ append_assoc a b (close_paren ∷ t ∷ more)) in
+        record {
+          inner = j;
+          names = names_of w.fields;
+          next = t;
+          more = more;
+          frame = ap frame_at all ∙ frame_is w.id a j i (fields_not_id (names_of w.fields) w.fields b (t ∷ more) h);
+          read = heads_are_read p (names_of w.fields) w.fields b (t ∷ more) of.types h w.imports_first w.one_start w.distinct;
+        }

@@ -1,24 +1,30 @@
 -- A text is read exactly where its tokens, in these spellings, write a module.
-use Rattle.std.proofs.Common.{◌≡◌, ◌≢◌, ℕ, ◌<◌, true, false, List, [], ◌∷◌, length, Option, Some, None, map, refl, sym, ap, subst, ◌∙◌, arith}
-use Rattle.std.specs.Prelude.{IsTrue}
+use Rattle.std.proofs.Common.{◌≡◌, ◌≢◌, ℕ, ◌<◌, true, false, List, [], ◌∷◌, ◌++◌, length, Option, Some, None, map, refl, sym, ap, subst, ◌∙◌, arith}
+use Rattle.std.proofs.lemmas.List.{map-append}
+use Rattle.std.specs.Prelude.{IsTrue, IfErr, Result, Ok, Err}
 use Rattle.wm_syntax.specs.declared.profile.Profile.{Profile}
 use Rattle.wm_syntax.specs.Modules.{Module}
 use Rattle.wm_tokens.specs.Fields.{Writes}
 use Rattle.wm_read.specs.Spellings.{replaced}
 use Rattle.wm_tokens.specs.TokenFaults.{IsOfEnd, IsOfTokens, TellsFault}
-use Rattle.wm_tokens.specs.Tokens.{Token, Tokens}
+use Rattle.wm_tokens.specs.Tokens.{Token, Tokens, close_paren}
+use Rattle.wm_tokens.specs.Written.{Names}
+use Rattle.wm_tokens.specs.declared.faults.TextFault.{TextFault}
 use Rattle.wm_tokens.specs.declared.faults.TextWhy.{TextWhy}
 use Rattle.wm_tokens.specs.declared.faults.TextWhy.TheVariants as why
 use Rattle.wm_read.specs.declared.spellings.Spellings.{Spellings}
 use Rattle.wm_read.specs.declared.spellings.Spellings.TheVariants as spelling
 use Rattle.wm_tokens.specs.exact.Scan.{lexed}
-use Rattle.wm_read.specs.exact.TextModules.{module_at}
+use Rattle.wm_read.specs.exact.TextModules.{IsFollowed, end_at, frame_at, all_names_at, module_at}
+use Rattle.wm_read.specs.exact.FirstReading.{names_at}
 use Rattle.wm_tokens.specs.inner.Ends.{can_end}
 use Rattle.wm_read.specs.inner.Renewed.{Renewed}
 use Rattle.wm_bodies.specs.inner.Views.{Fails, IsOfReaders}
+use Rattle.wm_bodies.specs.exact.Reading.{◌>>=◌, close_at}
 use Rattle.wm_bodies.proofs.Ends.{nothing_left}
-use Rattle.wm_read.proofs.ModuleLaws.{found, more}
+use Rattle.wm_read.proofs.ModuleLaws.{found, followed, more}
 use Rattle.wm_read.proofs.OlderWords.{standard_stays}
+use Rattle.wm_tokens.proofs.Basics.{same_some}
 use Rattle.wm_tokens.proofs.Places.{no_tokens}
 use Rattle.wm_tokens.proofs.Whole.{one_list}
 
@@ -92,3 +98,49 @@ tells_none text k why at t r w n = (
   (λ h. absurd (no_tokens text w n k h t)),
   (λ p. absurd (not_of_readers w p.0 (subst IsOfReaders p.1 r))),
 )
+
+-- ---- one more token behind a module
+
+pub on_err : {X : Type 0} (r : Result X TextFault) (e : TextFault) (P : TextFault → Type 0) → r ≡ Err e → P e → IfErr r P
+on_err {X} r e P is h = subst (λ (z : Result X TextFault). IfErr z P) (sym is) h
+
+-- as the code reads a text with no copy
+pub followed_itself : {X : Type 0} (p : Profile) (s : Spellings) (text : List ℕ) (r : Result X TextFault) → s ≡ spelling.Standard → IfErr r (λ e. e.why ≢ why.Memory → IsFollowed p (lexed text) → e.why ≡ why.Expected)
+    → IfErr r (λ e. e.why ≢ why.Memory → IsFollowed p (map (replaced s) (lexed text)) → e.why ≡ why.Expected)
+followed_itself p s text r is h =
+    let same : map (replaced s) (lexed text) ≡ lexed text = ap (λ (x : Spellings). map (replaced x) (lexed text)) is ∙ standard_stays (lexed text) in
+    subst (λ (z : List Token). IfErr r (λ e. e.why ≢ why.Memory → IsFollowed p z → e.why ≡ why.Expected)) (sym same) h
+
+-- what stands there is not refused
+pub not_failed : {Y : Type 0} (w : TextWhy) (read : Option Y) (y : Y) → Fails w read → w ≢ why.Memory → read ≡ Some y → ⊥
+not_failed {Y} w read y h n some = let f : ◌≡◌ {A = Option Y} None (Some y) = sym (fails_none w read h n) ∙ some in cc
+
+-- nor is the parenthesis behind the names
+pub closes_names : (p : Profile) (k rest more : List Token) (names given : Names) (w : TextWhy) → names_at p k ≡ Some (given, rest) → names_at p k ≡ Some (names, close_paren ∷ more)
+    → Fails w (close_at rest) → w ≢ why.Memory → ⊥
+closes_names p k rest more names given w e f h n =
+    let same : ◌≡◌ {A = Names × List Token} (given, rest) (names, close_paren ∷ more) = same_some (given, rest) (names, close_paren ∷ more) (sym e ∙ f) in
+    not_failed w (close_at rest) (tt, more) h n (ap (λ (z : Names × List Token). close_at z.1) same)
+
+-- and the names are not all, where a token follows
+pub followed_names : (p : Profile) (k j : List Token) (names : Names) → frame_at k ≡ Some j → all_names_at p j ≡ Some names → IsFollowed p k → ⊥
+followed_names p k j names frame all h =
+    let same : j ≡ h.inner = same_some j h.inner (sym frame ∙ h.frame) in
+    let none : all_names_at p j ≡ None = ap (λ (z : List Token). all_names_at p z) same
+    ∙ ap (λ (o : Option (Names × List Token)). ◌>>=◌ {B = Names} o (λ n. close_at n.1 >>= λ c. end_at c.1 >>= λ e. Some n.0)) h.read in
+    let f : ◌≡◌ {A = Option Names} None (Some names) = sym none ∙ all in cc
+
+pub not_followed : {X : Type 0} (p : Profile) (k j : List Token) (names : Names) (r : Result X TextFault) → frame_at k ≡ Some j → all_names_at p j ≡ Some names
+    → IfErr r (λ e. e.why ≢ why.Memory → IsFollowed p k → e.why ≡ why.Expected)
+not_followed p k j names (Ok x) frame all = tt
+not_followed p k j names (Err e) frame all = λ n h. absurd (followed_names p k j names frame all h)
+
+pub inner_names : (p : Profile) (k j : List Token) → frame_at k ≡ Some j → (h : IsFollowed p k) → names_at p j ≡ Some (h.names, close_paren ∷ h.next ∷ h.more)
+inner_names p k j frame h = ap (names_at p) (same_some j h.inner (sym frame ∙ h.frame)) ∙ h.read
+
+pub followed_text : (p : Profile) (s : Spellings) (text : List ℕ) (j k : List Token) (t : Token) (m : Module) → Tokens text (lexed text) → Tokens text (j ++ t ∷ k) → Writes p (map (replaced s) j) m
+    → IsFollowed p (map (replaced s) (lexed text))
+followed_text p s text j k t m all more writes =
+    let whole : map (replaced s) (lexed text) ≡ map (replaced s) j ++ replaced s t ∷ map (replaced s) k =
+    ap (map (replaced s)) (one_list text (lexed text) (j ++ t ∷ k) all more) ∙ map-append (replaced s) j (t ∷ k) in
+    subst (IsFollowed p) (sym whole) (followed p (map (replaced s) j) m (replaced s t) (map (replaced s) k) writes)

@@ -1,14 +1,16 @@
 //! Whole texts (section 6.6.13).
 
-ghost use Rattle.std.specs.Prelude.{◌≡◌, ◌≢◌, ◌<◌, ◌≤◌, ◌↔◌, [], IfErr, IfOk, IsTrue, IsUtf8, List};
-ghost use Rattle.std.specs.Prelude.{length, map, true};
+ghost use Rattle.std.specs.Prelude.{◌≡◌, ◌≢◌, ◌<◌, ◌≤◌, ◌↔◌, [], ◌∷◌, ◌++◌, IfErr, IfOk, IsTrue, IsUtf8, List};
+ghost use Rattle.std.specs.Prelude.{length, map, true, Some};
 ghost use Rattle.std.specs.Str.{IsValidUpTo};
 ghost use Rattle.wm_tokens.specs.Fields.{Writes};
 ghost use Rattle.wm_read.specs.Spellings.{replaced};
 ghost use Rattle.wm_tokens.specs.TokenFaults.{IsOfEnd, TellsFault};
-ghost use Rattle.wm_tokens.specs.Tokens.{Token, Tokens};
-ghost use Rattle.wm_tokens.specs.declared.faults.TextWhy.TheVariants.{Expected, Memory, NotUtf8};
+ghost use Rattle.wm_tokens.specs.Tokens.{Token, Tokens, close_paren};
+ghost use Rattle.wm_tokens.specs.Written as words;
+ghost use Rattle.wm_tokens.specs.declared.faults.TextWhy.TheVariants.{BadToken, Expected, Memory, NotUtf8};
 ghost use Rattle.wm_tokens.specs.exact.Scan.{lexed};
+ghost use Rattle.wm_read.specs.exact.FirstReading.{names_at};
 ghost use Rattle.wm_read.specs.exact.TextModules as modules;
 ghost use Rattle.wm_bodies.specs.inner.Blocks.{names_of};
 ghost use Rattle.wm_tokens.specs.inner.Ends.{can_end};
@@ -45,7 +47,8 @@ fn frame(text: &[u8]) -> Result<&[u8], TextFault>
 
 /// No token is left.
 fn end(text: &[u8]) -> Result<(), TextFault>
-    ensures { Reads (λ _. tt) result (modules.end_at (lexed text.now)) }
+    ensures read { Reads (λ _. tt) result (modules.end_at (lexed text.now)) }
+    ensures name { IfErr result (λ e. e.why ≡ Expected) }
 {
     match next_token(text) {
         None => Ok(()),
@@ -55,7 +58,9 @@ fn end(text: &[u8]) -> Result<(), TextFault>
 
 /// What the fields of a module define, behind which the text ends.
 fn all_names<'a>(alloc: Global, profile: Profile, text: &'a [u8]) -> Result<Names<'a>, TextFault>
-    ensures { Reads (λ n. names_of n) result (modules.all_names_at profile (lexed text.now)) }
+    ensures read { Reads (λ n. names_of n) result (modules.all_names_at profile (lexed text.now)) }
+    ensures followed { IfErr result (λ e. e.why ≢ Memory → (names : words.Names) (k : List Token)
+        → names_at profile (lexed text.now) ≡ Some (names, close_paren ∷ k) → e.why ≡ Expected) }
 {
     let (names, rest) = read_heads(alloc, profile, text)?;
     let rest = close(rest)?;
@@ -84,6 +89,8 @@ fn module_within<'a>(
 fn read_module(alloc: Global, profile: Profile, text: &[u8]) -> Result<Module, TextFault>
     ensures read { Reads value_of result (modules.module_at profile (lexed text.now)) }
     ensures nothing { lexed text.now ≡ [] → IfErr result (λ e. e.why ≡ Expected) }
+    ensures followed { IfErr result (λ e. e.why ≢ Memory
+        → modules.IsFollowed profile (lexed text.now) → e.why ≡ Expected) }
 {
     let inner = frame(text)?;
     let names = all_names(alloc, profile, inner)?;
@@ -101,6 +108,8 @@ fn read_spelled(
     ensures read { Reads value_of result
         (modules.module_at profile (map (replaced spellings) (lexed text.now))) }
     ensures empty { length text.now ≡ 0 → IfErr result (λ e. IsTrue (can_end e.why)) }
+    ensures followed { IfErr result (λ e. e.why ≢ Memory
+        → modules.IsFollowed profile (map (replaced spellings) (lexed text.now)) → e.why ≡ Expected) }
 {
     match spellings {
         Spellings::Standard => read_module(alloc, profile, text),
@@ -116,7 +125,8 @@ fn read_spelled(
 ///
 /// A text that is no UTF-8 is refused first, then the first fault of its tokens, then the first of what its
 /// fields define, and then the first of its fields. A refusal at the text's end is `Expected`, but for a
-/// comment or a string that does not end, and for memory.
+/// comment or a string that does not end, and for memory. A text of a module and more tokens is refused as
+/// `Expected`, unless it has a float that the profile lacks, or memory is refused.
 pub fn read_text(
     alloc: Global,
     profile: Profile,
@@ -133,6 +143,9 @@ pub fn read_text(
     ensures utf8_at { IfErr result (λ e. e.why ≡ NotUtf8 → IsValidUpTo text.now e.at) }
     ensures fault { IfErr result (λ e. e.why ≢ Memory
         → TellsFault (has profile Floats) text.now e.why e.at) }
+    ensures followed { IfErr result (λ e. e.why ≢ Memory → e.why ≢ BadToken → (j k : List Token) (t : Token)
+        (m : values.Module) → Tokens text.now (j ++ t ∷ k) → Writes profile (map (replaced spellings) j) m
+        → e.why ≡ Expected) }
 {
     match check_tokens(text) {
         Ok(()) => read_tokens(alloc, profile, spellings, text),
@@ -161,6 +174,9 @@ fn read_tokens(
     ensures fault { IfErr result (λ e. e.why ≢ Memory
         → TellsFault (has profile Floats) text.now e.why e.at) }
     ensures utf8 { IfErr result (λ e. e.why ≢ NotUtf8) }
+    ensures followed { IfErr result (λ e. e.why ≢ Memory → e.why ≢ BadToken → (j k : List Token) (t : Token)
+        (m : values.Module) → Tokens text.now (j ++ t ∷ k) → Writes profile (map (replaced spellings) j) m
+        → e.why ≡ Expected) }
 {
     match read_spelled(alloc, profile, spellings, text) {
         Ok(module) => Ok(module),
@@ -178,6 +194,7 @@ fn told_first(profile: Profile, text: &[u8], refusal: TextRefusal) -> TextRefusa
     ensures at { result.at ≤ length text.now }
     ensures end { result.at ≡ length text.now → IsOfEnd result.why }
     ensures memory { refusal.why ≡ Memory → result.why ≡ Memory }
+    ensures same { result.why ≢ BadToken → result.why ≡ refusal.why }
     ensures utf8 { refusal.why ≢ NotUtf8 → result.why ≢ NotUtf8 }
     ensures fault { result.why ≢ Memory → TellsFault (has profile Floats) text.now result.why result.at }
 {

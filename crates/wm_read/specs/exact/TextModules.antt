@@ -1,9 +1,9 @@
 -- How the text of a module is read: what its fields define, to the end of the text, and then its fields with
 -- these names. The exact answer of the code.
-use Rattle.std.specs.Prelude.{List, [], Option, Some, None, codes}
+use Rattle.std.specs.Prelude.{◌≡◌, List, [], ◌∷◌, Option, Some, None, codes}
 use Rattle.wm_syntax.specs.declared.profile.Profile.{Profile}
 use Rattle.wm_syntax.specs.Modules.{Module}
-use Rattle.wm_tokens.specs.Tokens.{Token}
+use Rattle.wm_tokens.specs.Tokens.{Token, close_paren}
 use Rattle.wm_tokens.specs.Fields.{module_of}
 use Rattle.wm_tokens.specs.Written.{Names}
 use Rattle.wm_read.specs.exact.Fields.{fields_at}
@@ -22,6 +22,15 @@ frame_at k = open_at k >>= λ o. atom_at (word_of (codes "module")) o.1 >>= λ w
 -- the names of fields, behind which the text ends
 abbrev pub all_names_at : Profile → List Token → Option Names
 all_names_at p k = names_at p k >>= λ n. close_at n.1 >>= λ c. end_at c.1 >>= λ e. Some n.0
+
+-- the names are read, and behind the last parenthesis stands one more token
+pub record IsFollowed (p : Profile) (k : List Token) : Type 0 where
+  pub inner : List Token
+  pub names : Names
+  pub next : Token
+  pub more : List Token
+  pub frame : frame_at k ≡ Some inner
+  pub read : names_at p inner ≡ Some (names, close_paren ∷ next ∷ more)
 
 abbrev pub module_within : Profile → Names → List Token → Option Module
 module_within p names k = made module_of (fields_at p names k) >>= λ m. close_at m.1 >>= λ c. Some m.0

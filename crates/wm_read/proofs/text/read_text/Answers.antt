@@ -1,4 +1,4 @@
-use Rattle.std.proofs.Common.{true}
+use Rattle.std.proofs.Common.{true, ◌∷◌, ◌++◌}
 use Rattle.wm_tokens.proofs.Places.{fault_end, tells_first}
 use Rattle.wm_read.proofs.text.read_text.Goals as goal
 
@@ -19,4 +19,8 @@ returns-in_default c = record {
   utf8 = ((λ none. absurd (c.told_first.ensures.utf8 c.in_default.not-NotUtf8 none)), (λ n. absurd (n (c.in-Err.ensures.fault c.in_default.not-NotUtf8).utf8)));
   utf8_at = λ none. absurd (c.told_first.ensures.utf8 c.in_default.not-NotUtf8 none);
   fault = c.told_first.ensures.fault;
+  followed = λ _ _ j k t m all w. absurd (c.in-Err.ensures.err (j ++ t ∷ k) all);
 }
+
+pub returns-in-NotUtf8-clause-followed : goal.returns-in-NotUtf8-clause-followed
+returns-in-NotUtf8-clause-followed c = λ _ _ j k t m all w. absurd (c.in-Err.ensures.err (j ++ t ∷ k) all)

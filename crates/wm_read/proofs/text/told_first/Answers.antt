@@ -1,4 +1,4 @@
-use Rattle.std.proofs.Common.{Bool, sym, subst, ◌∙◌, arith}
+use Rattle.std.proofs.Common.{Bool, refl, sym, subst, ◌∙◌, arith}
 use Rattle.wm_tokens.specs.TokenFaults.{TellsFault}
 use Rattle.wm_tokens.specs.declared.faults.TextWhy.TheVariants.{BadToken}
 use Rattle.wm_tokens.proofs.Places.{float_end, float_told, no_float_told}
@@ -12,6 +12,7 @@ returns-in-Some c = record {
   at = (let place = c.in-Some.ensures.6 in omega (arith, place));
   end = λ end. absurd (float_end c.args.text.now c.in-Some.at c.in-Some.ensures end);
   memory = λ e. absurd (c.in_default.not-Memory e);
+  same = λ n. absurd (n refl);
   utf8 = λ _ e. cc;
   fault = λ _. subst (λ (floats : Bool). TellsFault floats c.args.text.now BadToken c.in-Some.at) (sym c.if-has.false ∙ c.has.ensures) (float_told c.args.text.now c.in-Some.at c.requires.utf8 c.in-Some.ensures);
 }
@@ -21,6 +22,7 @@ returns-in-None c = record {
   at = c.requires.at;
   end = c.requires.end;
   memory = λ e. e;
+  same = λ _. refl;
   utf8 = λ n. n;
   fault = λ _. subst (λ (floats : Bool). TellsFault floats c.args.text.now c.args.refusal.why c.args.refusal.at) (sym c.if-has.false ∙ c.has.ensures)
       (no_float_told c.args.text.now c.args.refusal.why c.args.refusal.at c.in-None.ensures c.requires.fault);
