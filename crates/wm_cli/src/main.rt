@@ -5,7 +5,7 @@ use std::process::ExitCode;
 use std::rt::{Env, Files};
 use std::{env, io};
 use wm_command::complaint::{complain, complain_of, explain_fault};
-use wm_command::execute::execute;
+use wm_command::execute::{System, execute};
 use wm_command::explain::{explain, is_asked};
 use wm_command::line::line;
 use wm_command::status::{Status, exit_code};
@@ -37,7 +37,7 @@ fn obey<R: Env + Files + Input + Print + Eprint + AllocGlobal>(
         return explain(rt, words.as_slice());
     }
     match line(rt.alloc(), words.as_slice()) {
-        Ok(line) => Ok(execute(rt, &line)),
+        Ok(line) => Ok(execute(rt, &System(rt), &line)),
         Err(fault) => explain_fault(rt, words.as_slice(), fault),
     }
 }

@@ -152,7 +152,7 @@ out 3 wmod show < H = 3 "(mo""#;
 
 /// In how many runs of `INPUTS` an end fails: as often as it is called in runs without a
 /// fault. The gate prints it.
-const FAILED: &str = "39870 readers and 63276 writers that failed";
+const FAILED: &str = "39946 readers and 63372 writers that failed";
 
 #[test]
 fn readers_and_writers_that_fail(rt: HostRuntime) -> Result<(), Fail> {

@@ -1,13 +1,21 @@
 -- What the parser of the command makes of words.
-use Rattle.std.proofs.Common.{◌≡◌, ◌∙◌, refl, subst, sym, ap, true, [], List, Option}
-use Rattle.clap.specs.Words.{App, HasKind, HasMatchesOf, Text, fault_of, first_of, first_value, found_of, is_simple, is_simple_and_free, matches_of}
+use Rattle.std.proofs.Common.{◌≡◌, ◌∙◌, ℕ, inl, inr, refl, subst, sym, ap, codes, true, [], List, Option, None, Some}
+use Rattle.std.specs.Prelude.{◌≢◌, IfSome, MatchOption, option_map}
+use Rattle.std.proofs.lemmas.Option.{IfSome_then}
+use Rattle.clap.specs.Words.{App, HasKind, HasMatchesOf, Text, IsAmong, Kinds, fault_of, first_of, first_value, found_of, is_simple, is_simple_and_free, matches_of}
+use Rattle.clap.specs.Values.{kind_of}
 use Rattle.clap.specs.declared.error.Error.{Error}
+use Rattle.clap.specs.declared.error.kind.ErrorKind.TheVariants as kind
 use Rattle.clap.specs.declared.parser.matches.ArgMatches.{ArgMatches}
 use Rattle.clap.proofs.OnLiterals.{clap_on_literals}
 use Rattle.clap.proofs.WalkLemmas.{first_value-rows}
 use Rattle.wm_command.specs.declared.line.WrongWord.{WrongWord}
 use Rattle.wm_command.specs.declared.line.WrongWord.TheVariants as wrong
-use Rattle.wm_command.specs.Lines.{IsWrong, wmod, word_of}
+use Rattle.wm_command.specs.declared.words.Action.{Action}
+use Rattle.wm_command.specs.declared.words.Action.TheVariants.{Build}
+use Rattle.wm_command.specs.Lines.{IsLimit, IsMost, IsPolicy, IsProfile, IsWrong, NoneIsWrong, Stands, action_name, wmod, word_of}
+use Rattle.wm_rules.specs.declared.policy.Policy.{Policy}
+use Rattle.wm_syntax.specs.declared.profile.Profile.{Profile}
 
 simple : is_simple wmod ≡ true
 unfolding clap_on_literals
@@ -39,3 +47,51 @@ wrong_along word other same (wrong.MaxFunctions text) h = (sym (same _) ∙ h.0,
 wrong_along word other same (wrong.MaxLocals text) h = (sym (same _) ∙ h.0, h.1)
 wrong_along word other same (wrong.MaxOpen text) h = (sym (same _) ∙ h.0, h.1)
 wrong_along word other same (wrong.OldWords text) h = (sym (same _) ∙ h.0, sym (same _) ∙ h.1, h.2)
+
+pub none_along : (word other : Text → Option Text) → ((id : Text) → word id ≡ other id) → NoneIsWrong word → NoneIsWrong other
+none_along word other same none w h = none w (wrong_along other word (λ id. sym (same id)) w h)
+
+-- the word of ACTION, where there is one, names an action
+abbrev NamesAction : Option Text → Type 0
+NamesAction said = IfSome said (λ text. (a : Action) × (text ≡ action_name a))
+
+-- the word of ACTION, where there is one, is `build`
+abbrev NamesBuild : Option Text → Type 0
+NamesBuild said = IfSome said (λ text. text ≡ action_name Build)
+
+-- no word is wrong where each says something
+pub none_wrong : (word : Text → Option Text) → IfSome (word (codes "ACTION")) (λ text. (a : Action) × (text ≡ action_name a))
+    → ((p : Profile) × IsProfile (word (codes "profile")) p) → ((n : ℕ) × IsLimit (word (codes "limit")) n) → ((q : Policy) × IsPolicy word q)
+    → (Stands (word (codes "old-words")) → IfSome (word (codes "ACTION")) (λ text. text ≡ action_name Build)) → NoneIsWrong word
+none_wrong word action profile limit policy flag (wrong.Action w) h =
+    let named : NamesAction (Some w.now) = subst NamesAction h.0 action in h.1 named.0 named.1
+none_wrong word action profile limit policy flag (wrong.Profile w) h = h.1 profile.0 (subst (λ o. IsProfile o profile.0) h.0 profile.1)
+none_wrong word action profile limit policy flag (wrong.Limit w) h = h.1 limit.0 (subst (λ o. IsLimit o limit.0) h.0 limit.1)
+none_wrong word action profile limit policy flag (wrong.MaxFunctions w) h =
+    h.1 policy.0.functions (subst (λ o. IsMost o policy.0.functions) h.0 policy.1.functions)
+none_wrong word action profile limit policy flag (wrong.MaxLocals w) h =
+    h.1 policy.0.locals (subst (λ o. IsMost o policy.0.locals) h.0 policy.1.locals)
+none_wrong word action profile limit policy flag (wrong.MaxOpen w) h =
+    h.1 policy.0.depth (subst (λ o. IsMost o policy.0.depth) h.0 policy.1.depth)
+none_wrong word action profile limit policy flag (wrong.OldWords w) h = h.2 (subst NamesBuild h.1 (flag h.0))
+
+-- a fault other than of memory is one that the command gives
+pub faulty : (kinds : Kinds) (e : Error) → HasKind kinds e → kind_of e ≢ kind.OutOfMemory → kinds ≢ []
+faulty kinds e (inl memory) other none = other memory
+faulty kinds e (inr among) other none = subst (IsAmong (kind_of e)) none among
+
+-- what follows from what a clause says of both kinds of answer
+pub match_weaker : {X : Type 0} (o : Option X) {N M : Type 0} {P Q : X → Type 0} → MatchOption o N P → (N → M) → ((x : X) → P x → Q x) → MatchOption o M Q
+match_weaker None h n s = n h
+match_weaker (Some x) h n s = s x h
+
+-- what is right for the bytes that a reader has left is right for those that are held at the path which it was opened by
+pub opened : {A B : Type 0} (path : Option A) (p : A) (held : A → Option B) (left : Option B) (P : B → Type 0) → Some p ≡ path
+    → IfSome (held p) (λ bytes. left ≡ Some bytes) → IfSome left P → IfSome path (λ q. IfSome (held q) P)
+opened path p held left P is gives right =
+    let at : IfSome (held p) P = IfSome_then (held p) gives (λ bytes e. subst (λ o. IfSome o P) e right) in
+    subst (λ o. IfSome o (λ q. IfSome (held q) P)) is at
+
+-- where no limit is given there is one
+pub default_limit : {S : Type 0} (text : Option S) (f : S → Text) (said : Option Text) → option_map f text ≡ said → text ≡ None → (n : ℕ) × IsLimit said n
+default_limit text f said e is = (4294967295, subst (λ o. IsLimit o 4294967295) (ap (option_map f) (sym is) ∙ e) refl)

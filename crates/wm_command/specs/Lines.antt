@@ -142,6 +142,10 @@ IsWrong word (wrong.MaxOpen w) = (word (codes "max-open") ≡ Some w.now)
 IsWrong word (wrong.OldWords w) = Stands (word (codes "old-words")) × (word (codes "ACTION") ≡ Some w.now)
     × (w.now ≢ action_name Build)
 
+-- no argument's word is wrong
+abbrev pub NoneIsWrong : (Text → Option Text) → Type 0
+NoneIsWrong word = (w : WrongWord) → IsWrong word w → ⊥
+
 -- the word that `clap`'s reading of the command gives each argument, where it takes these words; the first of
 -- them is the program's name
 abbrev pub word_of : List Text → Text → Option Text

@@ -1,6 +1,7 @@
 //! What is said on standard error, where standard output can't say it.
 
 ghost use Rattle.std.specs.Prelude.{◌≡◌, IfOk, IfErr};
+ghost use Rattle.wm_command.specs.Codes.{fault_code};
 ghost use Rattle.wm_command.specs.declared.status.Status.{Status};
 
 use crate::line::wrong_word;
@@ -29,7 +30,8 @@ pub fn explain_fault<R: Print + Eprint + AllocGlobal>(
     words: &[String],
     fault: LineFault,
 ) -> Result<Status, LineFault>
-    ensures ok { IfOk result (λ status. status ≡ Status.Io) }
+    // Only help or the version that standard output does not take is a fault of output.
+    ensures ok { IfOk result (λ status. (status ≡ Status.Io) × (fault_code fault ≡ 0)) }
     ensures err { IfErr result (λ e. e ≡ fault) }
 {
     match &fault {
@@ -45,7 +47,7 @@ pub fn explain_fault<R: Print + Eprint + AllocGlobal>(
         LineFault::Parser(_) | LineFault::Memory => complain(rt, &LineFault::Memory),
         LineFault::Words => {
             complain(rt, &fault);
-            if let Some(word) = wrong_word(rt.alloc(), words) {
+            if let Ok(Some(word)) = wrong_word(rt.alloc(), words) {
                 complain(rt, &word);
             }
         }

@@ -1,6 +1,8 @@
 //! Doing what a line says, with the file that it names.
 
-ghost use Rattle.std.specs.Prelude.{◌≡◌, ◌≢◌, ℕ, List, Option, IfSome};
+ghost use Rattle.std.specs.Prelude.{◌≡◌, ◌≢◌, ℕ, List, Option, Some, None, IfOk, IfSome, option_map};
+ghost use Rattle.std.specs.String.{string_bytes};
+ghost use Rattle.wm_command.specs.Lines.{path_of};
 ghost use Rattle.wm_command.specs.declared.status.Status.{Status};
 ghost use Rattle.wm_command.specs.Outcome.{IsRightFor};
 
@@ -15,12 +17,49 @@ use std::{fs, io};
 use wm_syntax::io::input::Input as InputOf;
 use wm_syntax::io::output::Output as OutputOf;
 
-/// Opens what the line names and does what it says. No clause: what a file holds no contract can say. What is
-/// done with its bytes `follow` and `run_line` say.
-pub fn execute<R: Files + Input + Print + Eprint + AllocGlobal>(rt: &R, line: &Line) -> Status {
+/// Opens files by their paths.
+pub trait Opens {
+    type Opened: Read + Drop;
+
+    // The bytes of the file at a path, where the type tells them.
+    ghost held_at: { Self → List ℕ → Option (List ℕ) };
+
+    /// Opens the file at this path, to be read from its front.
+    fn open(&self, path: &str) -> io::Result<Self::Opened>
+        ensures { IfOk result (λ file. IfSome (held_at self.now path.now)
+            (λ bytes. Self.Opened.remaining file ≡ Some bytes)) };
+}
+
+/// The files of the system. No contract of std says what they hold.
+#[derive(Drop)]
+pub struct System<'a, R>(pub &'a R);
+
+impl<R: Files> Opens for System<'_, R> {
+    type Opened = R::File;
+
+    ghost held_at = { λ _ _. None };
+
+    fn open(&self, path: &str) -> io::Result<R::File> {
+        fs::open(self.0, path)
+    }
+}
+
+/// Opens what the line names and does what it says. No contract of std says what standard input gives.
+pub fn execute<R: Input + Print + Eprint + AllocGlobal, O: Opens>(
+    rt: &R,
+    files: &O,
+    line: &Line,
+) -> Status
+    // The status is right for the file that the line names, as `follow` says.
+    ensures { result ≢ Status.Io → result ≢ Status.Memory
+        → IfSome (path_of (option_map string_bytes line.now.file)) (λ path. IfSome (O.held_at files.now path)
+        (λ input. (left : Option (List ℕ)) × (text : List ℕ)
+        × IsRightFor line.now.action line.now.profile line.now.limit line.now.policy line.now.spellings input
+        left text result)) }
+{
     match line.path() {
         None => follow(rt, line, "standard input", rt.reader()),
-        Some(path) => match fs::open(rt, path) {
+        Some(path) => match files.open(path) {
             Ok(file) => follow(rt, line, path, file),
             Err(error) => {
                 complain_of(rt, &Status::Io, path, error);
@@ -39,7 +78,7 @@ fn follow<R: Print + Eprint + AllocGlobal, I: Read + Drop>(
     reader: I,
 ) -> Status
     // The status is right for what the reader gives, by the action, the profile, the limit, the policy and
-    // the spellings of this line. What standard output got no contract can say.
+    // the spellings of this line. No contract of std says what standard output got.
     ensures { result ≢ Status.Io → result ≢ Status.Memory → IfSome (I.remaining reader)
         (λ input. (left : Option (List ℕ)) × (text : List ℕ)
         × IsRightFor line.now.action line.now.profile line.now.limit line.now.policy line.now.spellings input

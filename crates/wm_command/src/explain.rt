@@ -1,7 +1,8 @@
 //! `wmod explain NAME`: what the NAME of a refusal means.
 
-ghost use Rattle.std.specs.Prelude.{◌≡◌, ◌≢◌, ◌⊎◌, Err, IfErr, IfOk, length, map};
+ghost use Rattle.std.specs.Prelude.{◌≡◌, ◌≢◌, ◌<◌, ◌⊎◌, ℕ, List, Err, IfErr, IfOk, false, length, map};
 ghost use Rattle.std.specs.String.{string_bytes};
+ghost use Rattle.wm_command.specs.Answers.{IsAnswered};
 ghost use Rattle.wm_command.specs.Lines.{asks_to_explain};
 ghost use Rattle.wm_command.specs.declared.status.Status.{Status};
 ghost use Rattle.wm_command.specs.declared.words.LineFault.TheVariants.{Memory, Words};
@@ -14,6 +15,7 @@ use crate::witness::Witness;
 use crate::words::LineFault;
 use std::alloc::{AllocError, Global};
 use std::{fmt, io};
+use wm_syntax::io::Dest;
 use wm_syntax::io::output::Output as OutputOf;
 
 /// A line of the table of refusals.
@@ -88,8 +90,8 @@ pub fn is_asked(words: &[String]) -> bool
     }
 }
 
-/// Says on standard output what a NAME means. Standard error says where there is not one NAME, or where no
-/// refusal has it. What is said has no clause: rows of the tests show it.
+/// Writes what a NAME means to standard output. Standard error says where there is not one NAME, or where no
+/// refusal has it. No contract of std says what standard output got: `explain_to` says what any writer got.
 pub fn explain<R: Print + Eprint + AllocGlobal>(
     rt: &R,
     words: &[String],
@@ -101,14 +103,39 @@ pub fn explain<R: Print + Eprint + AllocGlobal>(
     let [_, _, name] = words else {
         return complain_of_words(rt, &Wrong::Count);
     };
-    let Ok(text) = explained(rt.alloc(), name.as_str()) else {
+    let mut dest = OutputOf::new(Witness::new(io::writer(rt)));
+    let ended = explain_to(rt, name.as_str(), &mut dest);
+    if let Ok(Status::Io) = ended {
+        match dest.into_inner().error() {
+            Some(error) => complain_of(rt, &Status::Io, "standard output", error),
+            // a write that took nothing
+            None => complain(rt, &Status::Io),
+        }
+    }
+    ended
+}
+
+/// Writes what a NAME means. Standard error says where no refusal has it.
+fn explain_to<R: Eprint + AllocGlobal, W: Dest>(
+    rt: &R,
+    name: &str,
+    w: &mut W,
+) -> Result<Status, LineFault>
+    requires { W.has_failed w.old ≡ false }
+    // Some text is written whole, or, where the writer failed, a beginning of it.
+    ensures written { IfOk result (λ status. (text : List ℕ) × (0 < length text)
+        × IsAnswered text Status.Done (W.contents w.old) (W.contents w.new) (W.has_failed w.new)
+        (W.is_flushed w.new) status) }
+    ensures fault { IfErr result (λ e. ((e ≡ Words) ⊎ (e ≡ Memory)) × (w.new ≡ w.old)) }
+{
+    let Ok(text) = explained(rt.alloc(), name) else {
         return out_of_memory(rt);
     };
     if !text.is_empty() {
-        return Ok(say(rt, text.as_str()));
+        return Ok(answer(w, text.as_bytes(), Status::Done));
     }
-    match nearest(rt.alloc(), name.as_str()) {
-        Ok(names) => complain_of_words(rt, &Wrong::Name(name.as_str(), names.as_str())),
+    match nearest(rt.alloc(), name) {
+        Ok(names) => complain_of_words(rt, &Wrong::Name(name, names.as_str())),
         Err(_) => out_of_memory(rt),
     }
 }
@@ -126,21 +153,6 @@ fn out_of_memory<R: Eprint>(rt: &R) -> Result<Status, LineFault>
 {
     complain(rt, &LineFault::Memory);
     Err(LineFault::Memory)
-}
-
-fn say<R: Print + Eprint>(rt: &R, text: &str) -> Status
-    ensures { (result ≡ Status.Done) ⊎ (result ≡ Status.Io) }
-{
-    let mut dest = OutputOf::new(Witness::new(io::writer(rt)));
-    let status = answer(&mut dest, text.as_bytes(), Status::Done);
-    if let Status::Io = status {
-        match dest.into_inner().error() {
-            Some(error) => complain_of(rt, &status, "standard output", error),
-            // a write that took nothing
-            None => complain(rt, &status),
-        }
-    }
-    status
 }
 
 /// What the lines with this NAME say: of a module, of a text, of both or of none.

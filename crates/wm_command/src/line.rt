@@ -1,18 +1,20 @@
 //! The words of the command line.
 
-ghost use Rattle.std.specs.Prelude.{ℕ, ◌≡◌, ◌≢◌, ◌<◌, ◌≤◌, ◌^◌, ◌⊎◌, [], Option, false, codes, map};
+ghost use Rattle.std.specs.Prelude.{ℕ, ◌≡◌, ◌≢◌, ◌<◌, ◌≤◌, ◌^◌, ◌⊎◌, [], Option, Some, false, codes, map};
 ghost use Rattle.std.specs.Prelude.{option_map, IfOk, IfErr, IfSome, SomeIff, MatchOption};
 ghost use Rattle.std.specs.Str.Parse.{IsNumeral, digits_value};
 ghost use Rattle.clap.specs.Words.{app_of, fault_of, first_value, found_of, rule_of};
+ghost use Rattle.wm_command.specs.declared.words.Action.TheVariants.{Build};
 ghost use Rattle.wm_command.specs.declared.words.LineFault.TheVariants.{Memory, Words};
 ghost use Rattle.wm_command.specs.Lines.{IsFaultOf, IsLimit, IsMost, IsPolicy, IsProfile, IsSpellings, IsWrong};
-ghost use Rattle.wm_command.specs.Lines.{Says, SaysNone, action_name, action_rule, file_rule, flag_rule};
+ghost use Rattle.wm_command.specs.Lines.{NoneIsWrong, Says, SaysNone, Stands, action_name, action_rule, file_rule, flag_rule};
 ghost use Rattle.wm_command.specs.Lines.{option_rule, profile_name, versioned, wmod, word_of};
 ghost use Rattle.wm_read.specs.declared.spellings.Spellings.{Spellings};
 ghost use Rattle.wm_rules.specs.declared.policy.Policy.{Policy};
 ghost use Rattle.wm_syntax.specs.declared.profile.Profile.{Profile};
 
 use crate::words::{Action, Line, LineFault};
+use clap::error::ErrorKind;
 use clap::{Arg, ArgAction, ArgMatches, Command};
 use std::alloc::{AllocError, Global};
 use std::convert::AsStr;
@@ -93,7 +95,7 @@ const ANSWERS: &str =
     `build` writes `text refused at N: NAME`: N bytes stand before the token that decided it;\n\
     or `module refused at N: NAME` of an invalid module: N is a place of its canonical binary.\n\
     `wmod explain NAME` says more of a NAME.\n\n\
-    A megabyte may declare 2^32 locals, gigabytes of text. With --max-functions F and --max-locals L\n\
+    Thirty bytes may declare 2^32 - 1 locals: 17 GB of text. With --max-functions F and --max-locals L\n\
     `show` of a stranger's module is safe: it then writes at most some 4 F L bytes for locals.\n\n\
     Exit status: 0 done, 1 refused, 2 wrong arguments, 3 cannot read or write, 4 out of memory.\n\n\
     Examples:\n  \
@@ -347,74 +349,133 @@ impl fmt::Display for WrongWord<'_> {
     }
 }
 
+/// The word of ACTION, where it names no action.
+fn no_action<'a>(matches: &ArgMatches<'a>) -> Option<&'a str>
+    ensures { let word = first_value (found_of matches.now) (codes "ACTION") in
+        MatchOption result (IfSome word (λ text. (a : Action) × (text ≡ action_name a)))
+        (λ text. (word ≡ Some text.now) × ((a : Action) → text.now ≢ action_name a)) }
+{
+    let text = matches.get_str("ACTION")?;
+    match action_of(text) {
+        Some(_) => None,
+        None => Some(text),
+    }
+}
+
+/// The word of `--profile`, where it names no profile.
+fn no_profile<'a>(matches: &ArgMatches<'a>) -> Option<&'a str>
+    ensures { let word = first_value (found_of matches.now) (codes "profile") in
+        MatchOption result ((p : Profile) × IsProfile word p)
+        (λ text. (word ≡ Some text.now) × ((p : Profile) → text.now ≢ profile_name p)) }
+{
+    let text = matches.get_str("profile")?;
+    match profile_of(text) {
+        Some(_) => None,
+        None => Some(text),
+    }
+}
+
+/// The word of `--limit`, where it is no limit.
+fn no_limit<'a>(matches: &ArgMatches<'a>) -> Option<&'a str>
+    ensures { let word = first_value (found_of matches.now) (codes "limit") in
+        MatchOption result ((n : ℕ) × IsLimit word n)
+        (λ text. (word ≡ Some text.now) × ((n : ℕ) → IsLimit (Some text.now) n → ⊥)) }
+{
+    match matches.get_str("limit") {
+        None => None,
+        Some(text) => match limit_of(text) {
+            Some(_) => None,
+            None => Some(text),
+        },
+    }
+}
+
+/// The word of this option, where it is no limit of a policy.
+fn no_most<'a>(matches: &ArgMatches<'a>, option: &str) -> Option<&'a str>
+    ensures { let word = first_value (found_of matches.now) option.now in
+        MatchOption result ((most : Option ℕ) × IsMost word most)
+        (λ text. (word ≡ Some text.now) × ((most : Option ℕ) → IsMost (Some text.now) most → ⊥)) }
+{
+    let text = matches.get_str(option)?;
+    match most_of(text) {
+        Some(_) => None,
+        None => Some(text),
+    }
+}
+
+/// The action beside which `--old-words` stands, where that is not `build`.
+fn no_build<'a>(matches: &ArgMatches<'a>) -> Option<&'a str>
+    ensures { let word = first_value (found_of matches.now) in
+        MatchOption result
+        (Stands (word (codes "old-words")) → IfSome (word (codes "ACTION")) (λ text. text ≡ action_name Build))
+        (λ text. Stands (word (codes "old-words")) × (word (codes "ACTION") ≡ Some text.now)
+        × (text.now ≢ action_name Build)) }
+{
+    let flag = matches.get_str("old-words")?;
+    let action = matches.get_str("ACTION")?;
+    if flag != "true" {
+        return None;
+    }
+    match action {
+        "build" => None,
+        _ => Some(action),
+    }
+}
+
 /// The first wrong word of a policy, in the order of its options.
 fn wrong_in_policy<'a>(matches: &ArgMatches<'a>) -> Option<WrongWord<'a>>
-    ensures { IfSome result (IsWrong (first_value (found_of matches.now))) }
+    ensures { let word = first_value (found_of matches.now) in
+        MatchOption result ((q : Policy) × IsPolicy word q) (IsWrong word) }
 {
-    if let Some(word) = matches.get_str("max-functions") {
-        if most_of(word).is_none() {
-            return Some(WrongWord::MaxFunctions(word));
-        }
+    if let Some(word) = no_most(matches, "max-functions") {
+        return Some(WrongWord::MaxFunctions(word));
     }
-    if let Some(word) = matches.get_str("max-locals") {
-        if most_of(word).is_none() {
-            return Some(WrongWord::MaxLocals(word));
-        }
+    if let Some(word) = no_most(matches, "max-locals") {
+        return Some(WrongWord::MaxLocals(word));
     }
-    if let Some(word) = matches.get_str("max-open") {
-        if most_of(word).is_none() {
-            return Some(WrongWord::MaxOpen(word));
-        }
+    if let Some(word) = no_most(matches, "max-open") {
+        return Some(WrongWord::MaxOpen(word));
     }
     None
 }
 
-/// The action beside which `--old-words` stands, where that is not `build`.
-fn wrong_by_flag<'a>(matches: &ArgMatches<'a>) -> Option<WrongWord<'a>>
-    ensures { IfSome result (IsWrong (first_value (found_of matches.now))) }
-{
-    match (matches.get_str("old-words"), matches.get_str("ACTION")) {
-        (Some("true"), Some(action)) if action != "build" => Some(WrongWord::OldWords(action)),
-        _ => None,
-    }
-}
-
 /// The first word that is wrong, in the order ACTION, `--profile`, `--limit`, `--max-functions`,
-/// `--max-locals`, `--max-open`, `--old-words`.
+/// `--max-locals`, `--max-open`, `--old-words`; none where no word is.
 fn wrong_in<'a>(matches: &ArgMatches<'a>) -> Option<WrongWord<'a>>
-    ensures { IfSome result (IsWrong (first_value (found_of matches.now))) }
+    ensures { let word = first_value (found_of matches.now) in
+        MatchOption result (NoneIsWrong word) (IsWrong word) }
 {
-    if let Some(word) = matches.get_str("ACTION") {
-        if action_of(word).is_none() {
-            return Some(WrongWord::Action(word));
-        }
+    if let Some(word) = no_action(matches) {
+        return Some(WrongWord::Action(word));
     }
-    if let Some(word) = matches.get_str("profile") {
-        if profile_of(word).is_none() {
-            return Some(WrongWord::Profile(word));
-        }
+    if let Some(word) = no_profile(matches) {
+        return Some(WrongWord::Profile(word));
     }
-    if let Some(word) = matches.get_str("limit") {
-        if limit_of(word).is_none() {
-            return Some(WrongWord::Limit(word));
-        }
+    if let Some(word) = no_limit(matches) {
+        return Some(WrongWord::Limit(word));
     }
-    match wrong_in_policy(matches) {
-        Some(word) => Some(word),
-        None => wrong_by_flag(matches),
+    if let Some(word) = wrong_in_policy(matches) {
+        return Some(word);
     }
+    if let Some(action) = no_build(matches) {
+        return Some(WrongWord::OldWords(action));
+    }
+    None
 }
 
-/// The first of these words that is wrong, where the parser takes them all. None also where memory
-/// was refused.
-pub fn wrong_word<'a, S: AsStr>(alloc: Global, words: &'a [S]) -> Option<WrongWord<'a>>
-    ensures { IfSome result (IsWrong (word_of (map S.text words.entry.now))) }
+/// The first of these words that is wrong; none where no word is, or where the parser has a fault for them.
+pub fn wrong_word<'a, S: AsStr>(
+    alloc: Global,
+    words: &'a [S],
+) -> Result<Option<WrongWord<'a>>, AllocError>
+    ensures { let texts = map S.text words.entry.now in IfOk result (λ wrong.
+        MatchOption wrong (fault_of wmod texts ≡ [] → NoneIsWrong (word_of texts)) (IsWrong (word_of texts))) }
 {
-    let Ok(command) = command(alloc) else {
-        return None;
-    };
-    match command.try_get_matches_from(words) {
-        Ok(matches) => wrong_in(&matches),
-        Err(_) => None,
+    match command(alloc)?.try_get_matches_from(words) {
+        Ok(matches) => Ok(wrong_in(&matches)),
+        Err(error) => match error.kind() {
+            ErrorKind::OutOfMemory => Err(AllocError),
+            _ => Ok(None),
+        },
     }
 }

@@ -42,6 +42,7 @@ wmod build < (module(func)(import
 wmod build < (module(start)(start
 wmod build < (module(func $a)(func $a
 wmod build < (module(data -1))
+wmod build --profile 3 < (module(global f32 f32.const 1e39))
 wmod build < (module(import"\ff"
 wmod build < (module(data $a))
 wmod build < (module(func(type 0)))

@@ -104,7 +104,7 @@ const HELP: &str = "Checks and converts WebAssembly 1.0 modules, reading them on
     `build` writes `text refused at N: NAME`: N bytes stand before the token that decided it;\n\
     or `module refused at N: NAME` of an invalid module: N is a place of its canonical binary.\n\
     `wmod explain NAME` says more of a NAME.\n\n\
-    A megabyte may declare 2^32 locals, gigabytes of text. With --max-functions F and --max-locals L\n\
+    Thirty bytes may declare 2^32 - 1 locals: 17 GB of text. With --max-functions F and --max-locals L\n\
     `show` of a stranger's module is safe: it then writes at most some 4 F L bytes for locals.\n\n\
     Exit status: 0 done, 1 refused, 2 wrong arguments, 3 cannot read or write, 4 out of memory.\n\n\
     Examples:\n  \

@@ -6,6 +6,8 @@
 //! wmod WORDS < INPUT = the exit status, and what is written
 //! in N WORDS < INPUT = the same where the reader gives N bytes, one a call, and then fails
 //! out N WORDS < INPUT = the same where the writer takes N bytes, one a call, and then fails, at the flush if that is next
+//! labels TEXT = the labels that stand first, three at most, or the fault; and how many bytes are left
+//! earlier N TEXT = the first fault before the last N bytes, where two locals may stand, or none
 //! ```
 //!
 //! The word `""` is the empty one. INPUT is a text for `build`. Else it is bytes in hexadecimal digits, with
@@ -21,11 +23,15 @@ use super::faults::{End, Faults, Task, are_faults_told, follow, follow_failing};
 use std::alloc::Global;
 use std::process::Abort;
 use std::test::Fail;
+use wm_bodies::blocks::OpenBlocks;
+use wm_bodies::named::earlier_fault;
+use wm_bodies::pieces::labels;
 use wm_command::line::{line, wrong_word};
 use wm_command::status::{Status, exit_code};
 use wm_command::words::{Action, Line, LineFault};
 use wm_rules::Policy;
 use wm_syntax::profile::Profile;
+use wm_tokens::faults::TextFault;
 
 /// The words of a command.
 fn words_of(alloc: Global, command: &str) -> Result<Vec<&str>, Fail> {
@@ -88,7 +94,7 @@ fn read(alloc: Global, command: &str) -> Result<String, Fail> {
 
 /// What is said of the first wrong word of a command.
 fn wrong(alloc: Global, command: &str) -> Result<String, Fail> {
-    match wrong_word(alloc, words_of(alloc, command)?.as_slice()) {
+    match wrong_word(alloc, words_of(alloc, command)?.as_slice())? {
         Some(word) => Ok(format!(in alloc; "{word}")?),
         None => Ok(format!(in alloc; "none")?),
     }
@@ -216,6 +222,30 @@ fn cut_row(alloc: Global, end: End, row: &str) -> Result<String, Fail> {
     )?)
 }
 
+fn tell_text_fault(alloc: Global, fault: TextFault) -> Result<String, Fail> {
+    Ok(format!(in alloc; "{:?}, {} left", fault.why, fault.left)?)
+}
+
+/// The labels of a br_table outside of all blocks.
+fn three_labels(alloc: Global, text: &str) -> Result<String, Fail> {
+    let blocks = OpenBlocks::new(alloc);
+    match labels(alloc, &blocks, 3, text.as_bytes()) {
+        Ok((labels, rest)) => Ok(format!(in alloc; "{labels:?}, {} left", rest.len())?),
+        Err(fault) => tell_text_fault(alloc, fault),
+    }
+}
+
+/// The first fault of parameters and locals before the last bytes, where two locals may stand.
+fn two_locals(alloc: Global, row: &str) -> Result<String, Fail> {
+    let Some((left, text)) = row.split_once(' ') else {
+        return Err(Fail::new("no text"));
+    };
+    match earlier_fault(alloc, text.as_bytes(), left.parse::<usize>()?, 2)? {
+        Some(fault) => tell_text_fault(alloc, fault),
+        None => Ok(format!(in alloc; "none")?),
+    }
+}
+
 /// The answer to a call.
 fn answer(alloc: Global, call: &str) -> Result<String, Fail> {
     match call.split_once(' ') {
@@ -224,6 +254,8 @@ fn answer(alloc: Global, call: &str) -> Result<String, Fail> {
         Some(("wmod", _)) => obey_row(alloc, call),
         Some(("in", row)) => cut_row(alloc, End::Reader, row),
         Some(("out", row)) => cut_row(alloc, End::Writer, row),
+        Some(("labels", text)) => three_labels(alloc, text),
+        Some(("earlier", row)) => two_locals(alloc, row),
         _ => Ok(format!(in alloc; "no such call")?),
     }
 }

@@ -1,6 +1,7 @@
-//! Tests of `wm_tokens`, `wm_bodies` and `wm_read`: what is printed of a refused text where no row of `wm_rows` shows
-//! it, and their laws, with the one of `wm_command`.
+//! Tests of `wm_tokens`, `wm_bodies` and `wm_read`: what is printed of a refused text, and which fault is told, where no
+//! row of `wm_rows` shows it; and their laws, with the one of `wm_command`.
 
+use super::rows::play;
 use std::alloc::Global;
 use std::process::Abort;
 use std::test::Fail;
@@ -27,6 +28,19 @@ const REFUSALS: [(TextWhy, &str); 3] = [
     ),
 ];
 
+/// Labels and locals past the most that may stand, which are 2^32 in a text: gigabytes.
+const TOO_MANY: &str = r#"labels 0 1 2 3 4) = Expected, 4 left
+labels 0 1 2 $a) = Expected, 3 left
+labels 0 1 $a 3) = UnknownId, 5 left
+labels 0 1 2 nop = [0, 1, 2], 4 left
+earlier 5 (param i32 i32 i32) (local i32) (local $a i64)) nop = none
+earlier 0 (local i32 i32) (local $a i64) (local) = TooManyLocals, 12 left
+earlier 12 (local i32 i32) (local $a i64) (local) = none
+earlier 11 (local i32 i32) (local $a i64) (local) = TooManyLocals, 12 left
+earlier 0 (local i32 i64 i32 i32) = TooManyLocals, 8 left
+earlier 0 (local $a i32) (local $a i32) (local i32) = RepeatedId, 19 left
+earlier 0 (local $a i32) (local i32 i32) (local $a i32) = TooManyLocals, 19 left"#;
+
 fn expect_line(
     rt: &impl Abort,
     alloc: Global,
@@ -44,6 +58,11 @@ fn refusals_are_printed(rt: HostRuntime) -> Result<(), Fail> {
         expect_line(&rt, rt.alloc(), why, line)?;
     }
     Ok(())
+}
+
+#[test]
+fn too_many_labels_and_locals(rt: HostRuntime) -> Result<(), Fail> {
+    play(&rt, rt.alloc(), TOO_MANY)
 }
 
 #[test]
