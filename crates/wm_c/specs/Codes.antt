@@ -47,8 +47,36 @@ why_code Deep = 30
 
 -- of how a call ended that is refused so: 1 for the input, 4 where memory was refused
 abbrev pub status_code : Why → ℕ
+status_code Magic = 1
+status_code Version = 1
+status_code SectionId = 1
+status_code SectionOrder = 1
+status_code SectionEnd = 1
+status_code BadNumber = 1
+status_code BadUtf8 = 1
+status_code BadByte = 1
+status_code Float = 1
+status_code BadOpcode = 1
+status_code Truncated = 1
+status_code CodeCount = 1
+status_code BodyEnd = 1
+status_code TooManyLocals = 1
+status_code Index = 1
+status_code Mismatch = 1
+status_code Arity = 1
+status_code Limits = 1
+status_code Second = 1
+status_code DuplicateExport = 1
+status_code StartType = 1
+status_code NotConst = 1
+status_code Immutable = 1
+status_code Align = 1
+status_code ElsePlace = 1
+status_code TooLong = 1
 status_code Memory = 4
-status_code _ = 1
+status_code ManyFunctions = 1
+status_code ManyLocals = 1
+status_code Deep = 1
 
 -- of a text's refusal; 100 stands for a module of which a section is too large
 abbrev pub text_code : TextWhy → ℕ
@@ -75,8 +103,27 @@ text_code text.Memory = 120
 text_code text.BadFloat = 121
 
 abbrev pub text_status_code : TextWhy → ℕ
+text_status_code text.NotUtf8 = 1
+text_status_code text.BadToken = 1
+text_status_code text.OpenComment = 1
+text_status_code text.OpenString = 1
+text_status_code text.BadEscape = 1
+text_status_code text.Expected = 1
+text_status_code text.UnknownWord = 1
+text_status_code text.BadInteger = 1
+text_status_code text.BadName = 1
+text_status_code text.UnknownId = 1
+text_status_code text.RepeatedId = 1
+text_status_code text.TypeUse = 1
+text_status_code text.ImportPlace = 1
+text_status_code text.SecondStart = 1
+text_status_code text.NotConst = 1
+text_status_code text.BadAlign = 1
+text_status_code text.LabelEnd = 1
+text_status_code text.TooManyLocals = 1
+text_status_code text.Float = 1
 text_status_code text.Memory = 4
-text_status_code _ = 1
+text_status_code text.BadFloat = 1
 
 abbrev pub profile_code : Profile → ℕ
 profile_code profile.One = 1
