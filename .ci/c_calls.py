@@ -2,31 +2,34 @@
 binary, text and module of that text. Each growth of the samples is refused in turn: they end with status 4, or as with ample
 memory, and give back what they took. On a stack of 64 KiB they take a million nested blocks. What cannot be read has no answer.
 No bytes may lie at NULL, and no room. The calls of c_rows.txt are made one after another, and answer as it says. Header and samples
-are compiled as C89 and as C++98 first. Where the machine has no C compiler, this is said and nothing is tried.
+are compiled as C89 and as C++98 first. Where the machine has no C compiler, this is said and nothing is tried, which is a failure
+where CI is `true`.
 
     .ci/c_calls.py ARCHIVE PROGRAM       libwm_c.a and wmod, as they were built
 """
 import os
 import random
 import re
-import shutil
 import subprocess
 import sys
 import tempfile
 
+sys.dont_write_bytecode = True
 import deep
 import growths
+import needs
 
 HERE = os.path.dirname(os.path.abspath(__file__))
 CRATE = os.path.join(HERE, "../crates/wm_c")
 SAMPLES = ["check", "convert"]
-# the kit's allocation functions, which call malloc, realloc and free
-HEAP = os.path.join(os.path.dirname(subprocess.run(["rt", "doc"], capture_output=True, text=True, check=True).stdout.strip()), "c/liblibc_c.a")
 STRICT = ["-pedantic", "-Wall", "-Wextra", "-Werror", f"-I{CRATE}/include"]
 LANGUAGES = [["cc", "-std=c89", *STRICT], ["c++", "-x", "c++", "-std=c++98", "-Wno-long-long", *STRICT]]
 MODULES = 1000
 # in KiB: what the header says
 STACK = 64
+# the rows of calls. There are so many at least: no row is dropped unless this number is changed too
+ROWS = os.path.join(HERE, "c_rows.txt")
+LEAST = 98
 # what inputs of c_rows.txt stand for: a function that adds two numbers, one that extends a byte, a text with a word of older tools,
 # and one whose module is not valid
 INPUTS = {
@@ -76,12 +79,19 @@ def line_unread(words, env=None):
     return ran.returncode, ran.stdout
 
 
+def heap():
+    """The archive of the kit's allocation functions, which call malloc, realloc and free."""
+    page = subprocess.run(["rt", "doc"], capture_output=True, text=True, check=True).stdout.strip()
+    return os.path.join(os.path.dirname(page), "c/liblibc_c.a")
+
+
 def compiled(archive, room):
     """What a compiler said; nothing where all is well. The programs stand in the room then."""
     files = {name: f"{CRATE}/samples/{name}.c" for name in SAMPLES} | {name: f"{HERE}/{name}.c" for name in ("null_bytes", "c_rows")}
+    allocation = heap()
     for name, sample in files.items():
         strict = [[*words, "-c", sample, "-o", f"{room}/{name}.o"] for words in LANGUAGES]
-        linked = ["cc", "-O2", sample, f"-I{CRATE}/include", archive, HEAP, "-o", f"{room}/{name}"]
+        linked = ["cc", "-O2", sample, f"-I{CRATE}/include", archive, allocation, "-o", f"{room}/{name}"]
         for words in [*strict, linked]:
             ran = subprocess.run(words, capture_output=True, text=True, check=False)
             if ran.returncode:
@@ -144,7 +154,7 @@ def is_bare(room):
 
 def rows():
     """The rows of c_rows.txt, each call with its answer."""
-    with open(f"{HERE}/c_rows.txt", encoding="ascii") as it:
+    with open(ROWS, encoding="ascii") as it:
         lines = [row.rstrip("\n") for row in it if row.strip() and not row.startswith("#")]
     return [re.sub(rf" ({'|'.join(INPUTS)}) = ", lambda found: f" {INPUTS[found[1]]} = ", row) for row in lines]
 
@@ -158,6 +168,8 @@ def are_rows_right(room):
     wrong = [f"{row}: {answer}" for row, answer in zip(wanted, found) if row != answer]
     if status or len(found) != len(wanted):
         wrong.append(f"status {status} after {len(found)} rows")
+    if len(wanted) < LEAST:
+        wrong.append(f"{LEAST} rows at least are to be there")
     print(f"C: {len(wanted)} rows of calls: " + (f"wrong: {'; '.join(wrong[:3])}" if wrong else "well"), flush=True)
     return not wrong
 
@@ -172,9 +184,8 @@ def is_unanswered(room, program):
 
 def is_well(archive, program):
     """Whether all is well; says so."""
-    if not shutil.which("cc") or not shutil.which("c++"):
-        print("C: no compiler here, so header, samples and rows of calls were not tried", flush=True)
-        return True
+    if needs.missing("calls for C"):
+        return needs.is_well_untried("C: no compiler here, so header, samples and rows of calls were not tried")
     with tempfile.TemporaryDirectory(prefix="c-calls-") as room:
         fault = compiled(archive, room)
         wrong = [fault] if fault else [it for number in range(MODULES) for it in differences(room, program, number)]

@@ -6,6 +6,10 @@ has to refuse each, and not only because a proof names what is gone.
     .ci/edits.py CRATE..           all of these crates
     .ci/edits.py CRATE/NAME..      these alone
     .ci/edits.py --names           tries none: whether each has a name of its own and can be made, and which the gate tries
+    .ci/edits.py --judge           reads what `rt ci` said: whether a line tells of an edit that shows nothing, which `rt ci` passes
+
+An edit can be made where each old text stands once, the new text is another, the files it makes are others than before, but for
+comments and layout, and nothing in them is seen that does not parse (parses.py says what is looked at).
 """
 import pathlib
 import re
@@ -14,12 +18,13 @@ import subprocess
 import sys
 import tempfile
 
+sys.dont_write_bytecode = True
+import parses
+
 TOP = pathlib.Path(__file__).resolve().parent.parent
-PAGE = TOP / "docs/EDITS.md"
-# so many at most stand in the must-fail/ of a crate, since the gate's time is mostly theirs
-MOST = 12
-# what says that the contract refused nothing, or less than it should
-IS_FAULT = re.compile(r"^(rt: )?must-fail .*(NOT REFUSED|NOT TRIED|BAD EDIT|only because|only by a limit)")
+PAGE = "docs/EDITS.md"
+# what `rt must-fail` and `rt ci` say of an edit where the contract refused nothing, or less than it should
+IS_FAULT = re.compile(r"NOT REFUSED|NOT TRIED|BAD EDIT|only because a proof file names|only by a limit|^(rt: )?must-fail .*only because")
 
 
 def edits_of(crate):
@@ -48,32 +53,59 @@ def pairs_of(file):
 
 
 def faults_of(crate, file):
-    """Why an edit can't be made: each old text has to stand once in what the pairs before it made."""
-    pairs, made = pairs_of(file), {}
+    """Why an edit can't be made, or changes nothing. Each old text has to stand once in what the pairs before it made."""
+    pairs, stood, made = pairs_of(file), {}, {}
     if not pairs:
-        yield f"{crate.name}/{file.stem}: no pair"
+        yield "no pair"
     for path, old, new in pairs:
         if path not in made:
-            made[path] = (crate / path).read_text(encoding="utf-8") if (crate / path).is_file() else ""
+            made[path] = stood[path] = (crate / path).read_text(encoding="utf-8") if (crate / path).is_file() else ""
         if made[path].count(old) != 1:
-            yield f"{crate.name}/{file.stem}: {old!r} stands {made[path].count(old)} times in {path}"
+            yield f"{old!r} stands {made[path].count(old)} times in {path}"
+        if new == old:
+            yield f"{old!r} is both the old text and the new one"
         made[path] = made[path].replace(old, new)
+    suffixes = {path: pathlib.Path(path).suffix for path in made}
+    if pairs and all(parses.is_same(stood[path], made[path], suffix) for path, suffix in suffixes.items()):
+        yield "it changes nothing but comments and layout"
+    for path, suffix in suffixes.items():
+        yield from (f"{path} does not parse: {fault}" for fault in parses.faults_of(stood[path], made[path], suffix))
+
+
+def faults_of_page(top, crate, names):
+    """Whether the edits in the must-fail/ of a crate are the rows of the page."""
+    rows = dict(re.findall(r"(?ms)^## `(\w+)`$(.*?)(?=^## |\Z)", (top / PAGE).read_text(encoding="utf-8")))
+    if sorted(names) != sorted(re.findall(r"(?m)^\| `(\w+)` \|", rows.get(crate, ""))):
+        yield f"{crate}: other edits in must-fail/ than rows in {PAGE}"
+
+
+def names_of(top):
+    """How many edits there are, and why some can't be made or are not as the page has them."""
+    faults, count = [], 0
+    for crate in sorted((top / "crates").iterdir()):
+        files = edits_of(crate)
+        count += len(files)
+        faults += [f"{crate.name}/{name}: {fault}" for name, file in files.items() for fault in faults_of(crate, file)]
+        faults += faults_of_page(top, crate.name, [name for name, file in files.items() if file.parent.name == "must-fail"])
+    return count, faults
 
 
 def can_be_tried():
-    """Whether all edits can be made, and those of must-fail/ are not too many and the rows of the page; says what is wrong."""
-    faults, count = [], 0
-    rows = dict(re.findall(r"(?ms)^## `(\w+)`$(.*?)(?=^## |\Z)", PAGE.read_text(encoding="utf-8")))
-    for crate in sorted((TOP / "crates").iterdir()):
-        files = edits_of(crate)
-        count += len(files)
-        faults += [fault for file in files.values() for fault in faults_of(crate, file)]
-        of_the_gate = [name for name, file in files.items() if file.parent.name == "must-fail"]
-        if len(of_the_gate) > MOST:
-            faults.append(f"{crate.name}: {len(of_the_gate)} edits in must-fail/, where at most {MOST} are to stand")
-        if sorted(of_the_gate) != sorted(re.findall(r"(?m)^\| `(\w+)` \|", rows.get(crate.name, ""))):
-            faults.append(f"{crate.name}: other edits in must-fail/ than rows in {PAGE.name}")
+    """Whether all edits can be made, and those of must-fail/ are the rows of the page; says what is wrong."""
+    count, faults = names_of(TOP)
     print(*faults, f"edits: {count}, faults: {len(faults)}", sep="\n")
+    return not faults
+
+
+def judged(lines):
+    """The lines that tell of an edit which shows nothing."""
+    return [line.rstrip() for line in lines if IS_FAULT.search(line)]
+
+
+def is_judged_well(lines):
+    """Whether no line tells of such an edit; says which do."""
+    faults = judged(lines)
+    print(*(f"edits: it shows nothing: {line}" for line in faults), sep="\n", end="\n" if faults else "")
     return not faults
 
 
@@ -113,12 +145,14 @@ def main():
         sys.exit(__doc__)
     if sys.argv[1:] == ["--names"]:
         return 0 if can_be_tried() else 1
+    if sys.argv[1:] == ["--judge"]:
+        return 0 if is_judged_well(sys.stdin) else 1
     files = asked(sys.argv[1:])
     with tempfile.TemporaryDirectory(prefix="edits-") as room:
         said, status = tried(files, room)
-    faults = [line for line in said if IS_FAULT.search(line)]
+    faults = judged(said)
     count = sum(map(len, files.values()))
-    print(f"{count} edits: {len(faults)} of which the contract says less than it should", *(f"\n  {line.rstrip()}" for line in faults), sep="")
+    print(f"{count} edits: {len(faults)} of which the contract says less than it should", *(f"\n  {line}" for line in faults), sep="")
     return status or (1 if faults else 0)
 
 

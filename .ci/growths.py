@@ -1,17 +1,20 @@
 """Refuses each growth of a built program in turn: the first, the second, .. until a run meets none, once alone and once with all
 after it. Each such run of wmod ends with status 4, its one line and nothing written, or with the answer of ample memory. One of
-wm_rows ends with all answers of ample memory, or with status 1, its one line and some of these answers, each of them whole. A name that lies whole in what wmod reads at once takes no growth: it is lent. A list
-that a long body grew in doesn't stay for the bodies behind it, nor one of deeply nested blocks.
+wm_rows ends with all answers of ample memory, or with status 1, its one line and some of these answers, each of them whole. A name
+takes a growth only where what wmod reads at once ends within it: else it is lent. A list that a long body grew in doesn't stay for
+the bodies behind it, nor one of deeply nested blocks. An empty body and its locals take no growth.
 
     .ci/growths.py PROGRAM       wmod or wm_rows, as it was built
 """
 import collections
 import os
 import re
-import shutil
 import subprocess
 import sys
 import tempfile
+
+sys.dont_write_bytecode = True
+import needs
 
 HERE = os.path.dirname(os.path.abspath(__file__))
 OUT_OF_MEMORY = (4, b"", b"wmod: out of memory\n")
@@ -37,8 +40,8 @@ MODULES = {
 TEXT = r'(module (memory $mem0 1) (data $mem0 (offset i32.const 0) "\00\u{e9}\""))'
 OLDER = "(module (type (func)) (memory 1) (func (type 0) (local i32) current_memory set_local 0))"
 
-# custom sections, of which the last has a name that is longer than what is read at once
-NAMES = [f"{HEAD} 00 {section}" for section in ("01 00", "04 03 61 62 63", "F3 A2 04 F0 A2 04 70000*{61}")]
+# how many bytes are read at once (PIECE of wm_rules), a custom section with a name, and behind which of its bytes its name is cut
+PIECE, NAMED, CUTS = 4096, "00 04 03 61 62 63", (4, 5)
 
 # what a list that stays has room for at most: ops, and open blocks (MOST_KEPT of wm_syntax)
 MOST_KEPT = 1024
@@ -77,7 +80,7 @@ def runs_of(program):
 
 
 def compiler():
-    return next((it for it in ("cc", "gcc", "clang") if shutil.which(it)), None)
+    return needs.found(needs.COMPILER)
 
 
 class Refuser:
@@ -136,8 +139,7 @@ def beginnings(written):
 def swept(name, program, runs, kind_of_run, gives_back=False):
     """Whether all is well; prints how many runs there were of each kind. Some programs give back all that they took."""
     if compiler() is None:
-        print(f"growths: there is no C compiler here, so no growth of {name} was refused", flush=True)
-        return True
+        return needs.is_well_untried(f"growths: there is no C compiler here, so no growth of {name} was refused")
     kinds, wrong, asked = collections.Counter(), [], 0
     with tempfile.TemporaryDirectory(prefix="growths-") as room:
         refuser = Refuser(room)
@@ -157,16 +159,22 @@ def swept(name, program, runs, kind_of_run, gives_back=False):
     return not wrong and asked > 0
 
 
+def behind(place, section):
+    """A module with this section, behind so many bytes of which what is read at once ends."""
+    size = PIECE - len(bytes_of(HEAD)) - 3 - place
+    return bytes_of(HEAD) + b"\0" + number(size) + bytes(size) + bytes_of(section)
+
+
 def is_name_lent(program):
-    """Whether a name that lies whole in what is read takes no growth, and one that does not takes some."""
+    """Whether a name takes growths just where it is cut, of all places where what is read can end in its section or beside it."""
     if compiler() is None:
-        print("growths: there is no C compiler here, so no growths of wmod with names were counted", flush=True)
-        return True
+        return needs.is_well_untried("growths: there is no C compiler here, so no growths of wmod with names were counted")
     with tempfile.TemporaryDirectory(prefix="growths-") as room:
         refuser = Refuser(room)
-        without, whole, cut = (refuser.run(program, ["check"], bytes_of(module))[1] for module in NAMES)
-    print(f"growths of wmod, without a name, with one that lies whole and with one that is cut: {without}, {whole}, {cut}", flush=True)
-    return without == whole < cut
+        without = refuser.run(program, ["check"], behind(0, ""))[1]
+        more = [refuser.run(program, ["check"], behind(place, NAMED))[1] - without for place in range(len(bytes_of(NAMED)) + 1)]
+    print(f"growths of wmod for a name, by how many bytes of its section are read first: {more}", flush=True)
+    return min(more) == 0 and all((it > 0) == (place in CUTS) for place, it in enumerate(more))
 
 
 def number(value):
@@ -186,8 +194,7 @@ def is_long_list_let_go(program):
     """Whether a body behind one of more ops than a list that stays has room for takes one growth more than behind one of as many;
     and so of one with a block, behind blocks that are nested so deep."""
     if compiler() is None:
-        print("growths: there is no C compiler here, so no growths of wmod behind long bodies were counted", flush=True)
-        return True
+        return needs.is_well_untried("growths: there is no C compiler here, so no growths of wmod behind long bodies were counted")
     longs = [NOP * MOST_KEPT, NOP * (MOST_KEPT + 1)]
     deeps = [BLOCK * depth + END * depth for depth in (MOST_KEPT, MOST_KEPT + 1)]
     with tempfile.TemporaryDirectory(prefix="growths-") as room:
@@ -204,6 +211,17 @@ def is_long_list_let_go(program):
     return ops[0] + 1 == ops[1] and blocks[0] + 1 == blocks[1]
 
 
+def is_empty_body_free(program):
+    """Whether functions with no locals and no instructions take no growths of their own: five take as many as eight."""
+    if compiler() is None:
+        return needs.is_well_untried("growths: there is no C compiler here, so no growths of wmod for empty bodies were counted")
+    with tempfile.TemporaryDirectory(prefix="growths-") as room:
+        refuser = Refuser(room)
+        counts = [refuser.run(program, ["canon"], module_of(*[b""] * many))[1] for many in (5, 8)]
+    print(f"growths of wmod for five empty bodies and for eight: {counts}", flush=True)
+    return counts[0] == counts[1] > 0
+
+
 def sweep(program):
     return swept("wmod", program, runs_of(program), kind_of)
 
@@ -216,5 +234,5 @@ if __name__ == "__main__":
     if len(sys.argv) != 2:
         sys.exit(__doc__)
     is_of_rows = os.path.basename(sys.argv[1]).startswith("wm_rows")
-    trials = [sweep_rows] if is_of_rows else [sweep, is_name_lent, is_long_list_let_go]
+    trials = [sweep_rows] if is_of_rows else [sweep, is_name_lent, is_long_list_let_go, is_empty_body_free]
     sys.exit(0 if all([is_well(sys.argv[1]) for is_well in trials]) else 1)

@@ -1,5 +1,6 @@
-"""What is installed, in use: what the libraries show, the samples in each language, the manual page, the completions, the crate for
-cargo, and that nothing is left after `uninstall`. Where a tool is missing here, the line says so and its part is not tried.
+"""What is installed, in use: what the libraries show, the samples in each language, the manual page, the pictures of the pages,
+the completions, the crate for cargo, and that nothing is left after `uninstall`. Where a tool is missing here, the line
+says so and its part is not tried.
 
     .ci/packages.py ARCHIVE PROGRAM       libwm_c.a and wmod, as they were built
 """
@@ -11,7 +12,9 @@ import subprocess
 import sys
 import tempfile
 
+sys.dont_write_bytecode = True
 import c_calls
+import needs
 
 TOP = pathlib.Path(__file__).resolve().parent.parent
 SAMPLES = TOP / "crates/wm_c/samples"
@@ -190,6 +193,13 @@ def check_man(it):
         same("warnings of man", re.findall(r"warning.*", said), [])
 
 
+def check_pages(it):
+    """The pictures that installed pages show are installed beside them."""
+    folder = it.to / "share/doc/wmod"
+    shown = {name for page in folder.glob("*.md") for name in re.findall(r"!\[[^]]*\]\((.+?)\)", page.read_text(encoding="utf-8"))}
+    same("pictures that are missing", sorted(name for name in shown if not (folder / name).is_file()), [])
+
+
 def check_completions(it):
     file = it.to / "share/bash-completion/completions/wmod"
     run("bash", "-n", file)
@@ -251,8 +261,12 @@ def check_removed(it):
 
 
 def check_all(it):
-    missing = [tool for tool in ("cc", "c++", "pkg-config", "objcopy") if not it.has(tool)]
+    """Nothing can be tried without some tools (needs.py), which is a fault in CI."""
+    missing = needs.missing("what is installed")
+    if missing and needs.is_ci():
+        raise Fault(f"CI is to have {', '.join(missing)}")
     if missing:
+        it.said += [f"no {tool}" for tool in missing]
         return
     it.call("install", PREFIX)
     check_names(it)
@@ -263,6 +277,7 @@ def check_all(it):
     check_folder(it)
     check_layout(it)
     check_man(it)
+    check_pages(it)
     check_completions(it)
     check_crate(it)
     check_dist(it)

@@ -1,6 +1,13 @@
 #!/usr/bin/env python3
-"""That the runs can fail: growths.py, deep.py and command.py are given a stand-in for wmod and for wm_rows, c_calls.py one for c_rows, and wm_rows
-and the tests of wm_cli stand on libraries, as they should be and then with one thing wrong. It takes a quarter of an hour."""
+"""That the gate can fail. The small scripts are given copies of what they read (script_trials.py); growths.py, deep.py and command.py a stand-in for
+wmod and for wm_rows, c_calls.py one for c_rows; and wm_rows and the tests of wm_cli stand on libraries: as they should be and then with one
+thing wrong.
+
+    .ci/runs_test.py             all of these, which takes a quarter of an hour
+    .ci/runs_test.py --scripts   the small scripts alone, some seconds
+"""
+import contextlib
+import io
 import os
 import pathlib
 import re
@@ -15,6 +22,7 @@ import command
 import deep
 import edits
 import growths
+import script_trials
 
 # answers `valid` to all, with one growth; a text is told `module`
 STAND_IN = """
@@ -79,6 +87,25 @@ LISTS = {
     "that of ops stays": (f"size == {BEHIND_BLOCKS}", False),
     "that of open blocks stays": (f"size == {BEHIND_OPS}", False),
     "each body takes one": ("size > 1000", False),
+}
+
+# how long the modules are whose name is cut, and the one with no name: which take one growth more, and whether growths.py finds that
+# names are lent just where they are not cut
+CUT_NAMES = [len(growths.behind(place, growths.NAMED)) for place in growths.CUTS]
+NO_NAME = len(growths.behind(0, ""))
+IS_CUT = " || ".join(f"size == {it}" for it in CUT_NAMES)
+NAMES = {
+    "all that are cut are copied": (IS_CUT, True),
+    "none is copied": ("0", False),
+    "one that is cut is lent": (f"size == {CUT_NAMES[0]}", False),
+    "each is copied": (f"size > {NO_NAME}", False),
+    "each is copied, and what is cut twice": (f"size > {NO_NAME} && malloc(1) && ({IS_CUT})", False),
+    "one beside a cut is copied": (f"{IS_CUT} || size == {max(CUT_NAMES) + 1}", False),
+}
+# the same of empty bodies
+EMPTY = {
+    "they take no growth": ("0", True),
+    "each takes one": (f"size > {len(growths.module_of(*[b''] * 5))}", False),
 }
 
 # what a stand-in for c_rows does with the file of all rows, and whether c_calls.py finds no fault with it
@@ -168,41 +195,82 @@ def make(crates, edit):
     (folder / path).write_text(text.replace(old, new), encoding="utf-8")
 
 
+def trials_of_growths(room):
+    for name, (refused, deeper, wanted) in TRIALS.items():
+        if growths.sweep(built(room, refused, deeper)) != wanted:
+            yield f"growths.py and a stand-in: {name}"
+    for name, (refused, wanted) in TRIALS_OF_ROWS.items():
+        if growths.sweep_rows(built(room, refused, "")) != wanted:
+            yield f"growths.py and a stand-in for wm_rows: {name}"
+    for name, deeper, wanted in (("a block is kept", KEEPS, False), ("all is given back", GIVES_BACK, True)):
+        if growths.swept("a stand-in", built(room, RIGHT, deeper), [(["check"], b"")], growths.kind_of, gives_back=True) != wanted:
+            yield f"growths.py and a stand-in of which all is to be given back: {name}"
+
+
+def trials_of_counted_growths(room):
+    for name, (which, wanted) in NAMES.items():
+        if growths.is_name_lent(built(room, RIGHT, f"if ({which}) malloc(1);")) != wanted:
+            yield f"growths.py and a stand-in for names: {name}"
+    for name, (which, wanted) in EMPTY.items():
+        if growths.is_empty_body_free(built(room, RIGHT, f"if ({which}) malloc(1);")) != wanted:
+            yield f"growths.py and a stand-in for empty bodies: {name}"
+    for name, (which, wanted) in LISTS.items():
+        if growths.is_long_list_let_go(built(room, RIGHT, f"if ({which}) malloc(1);")) != wanted:
+            yield f"growths.py and a stand-in for long lists: {name}"
+
+
+def trials_of_calls(room):
+    for name, (does, wanted) in TRIALS_OF_CALLS.items():
+        if c_calls.are_rows_right(standing_in(room, does)) != wanted:
+            yield f"c_calls.py and a stand-in for c_rows: {name}"
+
+
+def trials_of_commands(room):
+    for name, (words, answer, does, wanted) in TRIALS_OF_COMMANDS.items():
+        if is_answer(room, words, answer, does) != wanted:
+            yield f"command.py and a stand-in: {name}"
+
+
+def trials_of_depth(room):
+    # (no stand-in answers all that deep.py asks: what is looked at is how it ends)
+    for name, deeper, wanted in (("nothing wrong", "", (0, b"valid\n")), ("it recurses", "nested(1000000);", (-11, b""))):
+        if deep.run(built(room, RIGHT, deeper), "check", deep.DEEP) != wanted:
+            yield f"deep.py and a stand-in: {name}"
+
+
+def trials_of_libraries(room):
+    for edit, wanted in SEEDS.items():
+        if answers_with(room, edit) != "".join(f"{row} = {answer}\n" for row, answer in zip(ROWS, wanted)):
+            yield f"wm_rows, where {edit or 'nothing'} is edited"
+    for edit, wanted in ENDS.items():
+        if bool(NAMED.search(tried_with(room, edit, "wm_cli", "--test"))) != wanted:
+            yield f"readers and writers that fail, where {edit or 'nothing'} is edited"
+
+
+# each yields the trials that went wrong
+OF_SCRIPTS = [
+    script_trials.trials_of_believed,
+    script_trials.trials_of_definitions,
+    script_trials.trials_of_refusals,
+    script_trials.trials_of_samples,
+    script_trials.trials_of_edits,
+    script_trials.trials_of_run,
+    script_trials.trials_of_build,
+    script_trials.trials_of_rows,
+    script_trials.trials_of_tools,
+]
+OF_RUNS = [trials_of_growths, trials_of_counted_growths, trials_of_calls, trials_of_commands, trials_of_depth, trials_of_libraries]
+
+
 def main():
+    if sys.argv[1:] not in ([], ["--scripts"]):
+        sys.exit(__doc__)
     faults = []
-    with tempfile.TemporaryDirectory(prefix="runs-test-") as room:
-        for name, (refused, deeper, wanted) in TRIALS.items():
-            if growths.sweep(built(room, refused, deeper)) != wanted:
-                faults.append(f"growths.py and a stand-in: {name}")
-        for name, (refused, wanted) in TRIALS_OF_ROWS.items():
-            if growths.sweep_rows(built(room, refused, "")) != wanted:
-                faults.append(f"growths.py and a stand-in for wm_rows: {name}")
-        for name, deeper, wanted in (("a block is kept", KEEPS, False), ("all is given back", GIVES_BACK, True)):
-            if growths.swept("a stand-in", built(room, RIGHT, deeper), [(["check"], b"")], growths.kind_of, gives_back=True) != wanted:
-                faults.append(f"growths.py and a stand-in of which all is to be given back: {name}")
-        names = (("one longer than a piece is lent", "", False), ("it is copied", "if (size > 9999) malloc(1);", True), ("each is copied", "if (size > 11) malloc(1);", False))
-        for name, deeper, wanted in names:
-            if growths.is_name_lent(built(room, RIGHT, deeper)) != wanted:
-                faults.append(f"growths.py and a stand-in for names: {name}")
-        for name, (which, wanted) in LISTS.items():
-            if growths.is_long_list_let_go(built(room, RIGHT, f"if ({which}) malloc(1);")) != wanted:
-                faults.append(f"growths.py and a stand-in for long lists: {name}")
-        for name, (does, wanted) in TRIALS_OF_CALLS.items():
-            if c_calls.are_rows_right(standing_in(room, does)) != wanted:
-                faults.append(f"c_calls.py and a stand-in for c_rows: {name}")
-        for name, (words, answer, does, wanted) in TRIALS_OF_COMMANDS.items():
-            if is_answer(room, words, answer, does) != wanted:
-                faults.append(f"command.py and a stand-in: {name}")
-        # (no stand-in answers all that deep.py asks: what is looked at is how it ends)
-        for name, deeper, wanted in (("nothing wrong", "", (0, b"valid\n")), ("it recurses", "nested(1000000);", (-11, b""))):
-            if deep.run(built(room, RIGHT, deeper), "check", deep.DEEP) != wanted:
-                faults.append(f"deep.py and a stand-in: {name}")
-        for edit, wanted in SEEDS.items():
-            if answers_with(room, edit) != "".join(f"{row} = {answer}\n" for row, answer in zip(ROWS, wanted)):
-                faults.append(f"wm_rows, where {edit or 'nothing'} is edited")
-        for edit, wanted in ENDS.items():
-            if bool(NAMED.search(tried_with(room, edit, "wm_cli", "--test"))) != wanted:
-                faults.append(f"readers and writers that fail, where {edit or 'nothing'} is edited")
+    for trials in OF_SCRIPTS if sys.argv[1:] else [*OF_SCRIPTS, *OF_RUNS]:
+        # (what a small script says of what is wrong on purpose tells a reader nothing)
+        quiet = contextlib.redirect_stdout(io.StringIO() if trials in OF_SCRIPTS else sys.stdout)
+        with tempfile.TemporaryDirectory(prefix="runs-test-") as room, quiet:
+            faults += trials(room)
     for fault in faults:
         print(f"runs_test: {fault}", file=sys.stderr)
     return 1 if faults else 0
