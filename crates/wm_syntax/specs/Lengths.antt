@@ -1,4 +1,4 @@
--- How many bytes an op has (section 5.4), where its numbers are spelled in the fewest (section 5.2.2).
+-- The encoded length of ops in bytes (Core spec 5.4), each number in its shortest encoding (Core spec 5.2.2).
 use Rattle.std.specs.Prelude.{ℕ, ◌+◌, List, length}
 use Rattle.std.specs.List.{sum_by}
 use Rattle.wm_syntax.specs.Leb128.{signed_bytes, unsigned_bytes}
@@ -11,11 +11,11 @@ use Rattle.wm_syntax.specs.declared.instructions.Simple.TheVariants.{MemorySize,
 use Rattle.wm_syntax.specs.declared.instructions.Simple.TheVariants.{I64Const, F32Const, F64Const}
 use Rattle.wm_syntax.specs.declared.instructions.Simple.TheVariants.{Load, Store}
 
--- a u32
+-- The length of a u32.
 abbrev pub index_len : ℕ → ℕ
 index_len n = length (unsigned_bytes 5 n)
 
--- what follows the byte of an instruction (sections 5.4.1 to 5.4.5)
+-- The length of the immediates of an instruction (Core spec 5.4.1 to 5.4.5).
 abbrev pub immediates_len : Simple → ℕ
 immediates_len (Br l) = index_len l
 immediates_len (BrIf l) = index_len l
@@ -36,7 +36,7 @@ immediates_len (Load o at) = index_len at.align + index_len at.offset
 immediates_len (Store o at) = index_len at.align + index_len at.offset
 immediates_len _ = 0
 
--- one op: its byte and what follows; a block, a loop or an if has the byte of its type behind it
+-- The length of one op: its first byte, if it has one, and what follows. A block type is one byte.
 abbrev pub op_len : Op → ℕ
 op_len (op.Simple i) = 1 + immediates_len i
 op_len (op.Block t) = 2
@@ -47,6 +47,6 @@ op_len op.End = 1
 op_len (op.BrTable n) = 1 + index_len n
 op_len (op.Label l) = index_len l
 
--- ops, joined
+-- The length of ops in all.
 abbrev pub ops_len : List Op → ℕ
 ops_len ops = sum_by op_len ops

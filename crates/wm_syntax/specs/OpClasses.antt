@@ -1,4 +1,4 @@
--- What the first byte of an instruction says of it (section 5.4).
+-- The classes of ops, which their first bytes determine (Core spec 5.4).
 use Rattle.std.specs.Prelude.{ℕ, Bool, ◌&&◌, nat_le, Option, [], ◌∷◌}
 use Rattle.std.specs.List.{list_any}
 use Rattle.std.specs.Option.{option_map}
@@ -10,7 +10,7 @@ use Rattle.wm_syntax.specs.declared.instructions.op_class.Immediates.TheVariants
 use Rattle.wm_syntax.specs.declared.instructions.op_class.OpClass.{OpClass}
 use Rattle.wm_syntax.specs.declared.instructions.op_class.OpClass.TheVariants.{Plain, With, Float, None}
 
--- what an op is by its first byte: the op itself, or a kind that has immediates
+-- The class of an op: its kind if it has immediates, else the op itself.
 abbrev pub class_of : Op → OpClass
 class_of (op.Simple (s.Br l)) = With k.Br
 class_of (op.Simple (s.BrIf l)) = With k.BrIf
@@ -35,18 +35,18 @@ class_of (op.If t) = With k.If
 class_of (op.BrTable n) = With k.BrTable
 class_of o = Plain o
 
--- the byte that begins an instruction, an else or an end; a label has none of its own
+-- The byte that begins an instruction, an else or an end. A label has none.
 abbrev pub first_byte : Op → Option ℕ
 first_byte o = option_map (λ row. row.0) (op_code o)
 
--- the bytes of the floating-point instructions (sections 5.4.4, 5.4.5)
+-- Whether a byte begins a floating-point instruction (Core spec 5.4.4, 5.4.5).
 abbrev pub is_float : ℕ → Bool
 is_float b =
     list_any (λ (r : ℕ × ℕ). nat_le r.0 b && nat_le b r.1)
     ((0x2A, 0x2B) ∷ (0x38, 0x39) ∷ (0x43, 0x44) ∷ (0x5B, 0x66) ∷ (0x8B, 0xA6) ∷ (0xA8, 0xAB) ∷ (0xAE, 0xBF)
     ∷ [])
 
--- the class is that of an instruction, an else or an end
+-- The class is that of an op: neither `Float` nor `None`.
 abbrev pub IsClassOfOp : OpClass → Type 0
 IsClassOfOp (Plain o) = Unit {0}
 IsClassOfOp (With kind) = Unit {0}

@@ -1,9 +1,9 @@
--- The names of instructions in the text format (section 6.5).
+-- The names of instructions in the text format (Core spec 6.5).
 use Rattle.std.specs.Prelude.{ℕ, List, Option}
 use Rattle.std.specs.Option.{option_map}
 use Rattle.wm_syntax.specs.declared.instructions.Op.{Op}
 use Rattle.wm_syntax.specs.Opcodes.{op_code}
 
--- the name of an instruction, an else or an end; a label has none
+-- The name of an instruction, an else or an end. A label has none.
 abbrev pub op_name : Op → Option (List ℕ)
 op_name o = option_map (λ row. row.1) (op_code o)

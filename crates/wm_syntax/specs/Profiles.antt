@@ -1,6 +1,6 @@
--- The instructions and the types of a profile. Each belongs to a feature, and a profile has some of these:
--- the first the standard on whole numbers, the second the five sign-extension instructions as well, the third
--- the whole standard, floats too, and the fourth all.
+-- The instructions and the types of each profile. Each of them belongs to a feature, and a profile has some
+-- of the features. `One` is WebAssembly 1.0 without floats, and `Two` also has the five sign-extension
+-- instructions. `Three` is all of WebAssembly 1.0, and `Four` also has the five sign-extension instructions.
 use Rattle.std.specs.Prelude.{Bool, true, false, IsTrue, Option, Some, None}
 use Rattle.std.specs.List.{AllByRecursion}
 use Rattle.wm_syntax.specs.declared.types.Const.{Const}
@@ -25,7 +25,7 @@ use Rattle.wm_syntax.specs.Instructions.{Instruction, Instructions, none, snoc, 
 use Rattle.wm_syntax.specs.Instructions.{choice}
 use Rattle.wm_syntax.specs.Modules.{Function, GlobalDef, Module, constant}
 
--- the features of each profile
+-- Whether a profile has a feature.
 abbrev pub has : Profile → Feature → Bool
 has p Base = true
 has One Floats = false
@@ -37,11 +37,11 @@ has Two SignExtension = true
 has Three SignExtension = false
 has Four SignExtension = true
 
--- a profile that has every feature of another
+-- The profile q has every feature of p.
 abbrev pub Extends : Profile → Profile → Type 0
 Extends q p = (f : Feature) → IsTrue (has p f) → IsTrue (has q f)
 
--- the feature of an instruction
+-- The feature of an instruction.
 abbrev pub feature_of : Simple → Feature
 feature_of (F32Const n) = Floats
 feature_of (F64Const n) = Floats
@@ -56,31 +56,32 @@ feature_of (Numeric (Convert op)) = Floats
 feature_of (Numeric (SignExtend op)) = SignExtension
 feature_of _ = Base
 
--- the feature of a value type
+-- The feature of a value type.
 abbrev pub type_feature : ValType → Feature
 type_feature I32 = Base
 type_feature I64 = Base
 type_feature F32 = Floats
 type_feature F64 = Floats
 
--- an instruction of the profile
+-- An instruction belongs to a profile if the profile has its feature.
 abbrev pub HasSimple : Profile → Simple → Type 0
 HasSimple p i = IsTrue (has p (feature_of i))
 
--- a value type of the profile
+-- A value type belongs to a profile if the profile has its feature.
 abbrev pub HasType : Profile → ValType → Type 0
 HasType p t = IsTrue (has p (type_feature t))
 
--- a block type: no result, or one of a type of the profile
+-- A block type belongs to a profile if it has no result, or the result's type belongs to the profile.
 abbrev pub HasBlockType : Profile → Option ValType → Type 0
 HasBlockType p None = Unit {0}
 HasBlockType p (Some t) = HasType p t
 
--- a constant expression: its instruction is of the profile
+-- A constant expression belongs to a profile if its instruction does.
 abbrev pub HasConst : Profile → Const → Type 0
 HasConst p c = HasSimple p (constant c)
 
--- of the flat form: an op of the profile
+-- An op of the flat form belongs to a profile if its instruction or its block type does. All other ops belong
+-- to every profile.
 abbrev pub IsOpOf : Profile → Op → Type 0
 IsOpOf p (op.Simple i) = HasSimple p i
 IsOpOf p (op.Block t) = HasBlockType p t
@@ -88,7 +89,7 @@ IsOpOf p (op.Loop t) = HasBlockType p t
 IsOpOf p (op.If t) = HasBlockType p t
 IsOpOf p _ = Unit {0}
 
--- the same of a tree and of a list: every instruction and every block type in it is of the profile
+-- A tree or a list belongs to a profile if every instruction and every block type in it does.
 abbrev mutual
   pub HasInstruction : Profile → Instruction → Type 0
   HasInstruction p (simple i) = HasSimple p i
@@ -102,24 +103,24 @@ abbrev mutual
   HasInstructions p none = Unit {0}
   HasInstructions p (snoc s i) = HasInstructions p s × HasInstruction p i
 
--- a function type of the profile: so are its value types
+-- A function type belongs to a profile if its value types do.
 abbrev pub HasSignature : Profile → Signature → Type 0
 HasSignature p f = AllByRecursion (HasType p) f.params × AllByRecursion (HasType p) f.results
 
--- what is imported: of a global its type
+-- The description of an import belongs to a profile, except that of a global whose type does not.
 abbrev pub HasDesc : Profile → ImportDesc → Type 0
 HasDesc p (Global g) = HasType p g.ty
 HasDesc p _ = Unit {0}
 
--- a function: its locals and its body
+-- A function belongs to a profile if the types of its locals and its body do.
 abbrev pub HasFunction : Profile → Function → Type 0
 HasFunction p f = AllByRecursion (HasType p) f.locals × HasInstructions p f.body
 
--- a global: its type and its initialiser
+-- A global belongs to a profile if its type and its initialiser do.
 abbrev pub HasGlobal : Profile → GlobalDef → Type 0
 HasGlobal p g = HasType p g.ty.ty × HasConst p g.init
 
--- a module of the profile: each value type, constant and instruction in it is
+-- A module belongs to a profile if each value type, each constant expression and each instruction in it does.
 pub record IsOf (p : Profile) (m : Module) : Type 0 where
   pub types : AllByRecursion (HasSignature p) m.types
   pub imports : AllByRecursion (λ i. HasDesc p i.desc) m.imports

@@ -1,4 +1,4 @@
--- The printed words of the refusals.
+-- The printed names of the refusals.
 use Rattle.std.specs.Prelude.{ℕ, List, codes}
 use Rattle.wm_syntax.specs.declared.why.Why.{Why}
 use Rattle.wm_syntax.specs.declared.why.Why.TheVariants.{Magic, Version, SectionId, SectionOrder, SectionEnd}

@@ -1,4 +1,4 @@
--- The value of a module.
+-- The value of a module that the code holds.
 use Rattle.wm_syntax.specs.Modules.{Module as ModuleValue}
 use Rattle.wm_syntax.specs.declared.modules.Module.{Module}
 

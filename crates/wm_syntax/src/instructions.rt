@@ -1,4 +1,4 @@
-//! Instructions: section 2.4 of the specification.
+//! Instructions (Core spec 2.4).
 
 ghost use Rattle.std.specs.Prelude.{◌≡◌};
 ghost use Rattle.wm_syntax.specs.Opcodes.{float_type, int_type};
@@ -11,7 +11,7 @@ pub mod op_class;
 pub mod op_names;
 pub mod opcodes;
 
-/// The whole numbers that an instruction works on.
+/// The integer type that an instruction works on.
 #[derive(Clone, Copy, PartialEq, Eq, Debug)]
 pub enum IntType {
     I32,
@@ -19,7 +19,7 @@ pub enum IntType {
 }
 
 impl IntType {
-    /// Their type.
+    /// Returns it as a value type.
     #[inline(always)]
     pub fn ty(self) -> ValType
         ensures { result ≡ int_type self }
@@ -31,7 +31,7 @@ impl IntType {
     }
 }
 
-/// The floats that an instruction works on.
+/// The floating-point type that an instruction works on.
 #[derive(Clone, Copy, PartialEq, Eq, Debug)]
 pub enum FloatType {
     F32,
@@ -39,7 +39,7 @@ pub enum FloatType {
 }
 
 impl FloatType {
-    /// Their type.
+    /// Returns it as a value type.
     #[inline(always)]
     pub fn ty(self) -> ValType
         ensures { result ≡ float_type self }
@@ -51,6 +51,7 @@ impl FloatType {
     }
 }
 
+/// An integer comparison (Core spec 2.4.1).
 #[derive(Clone, Copy, PartialEq, Eq, Debug)]
 pub enum Comparison {
     Eq,
@@ -65,6 +66,7 @@ pub enum Comparison {
     GeU,
 }
 
+/// An integer operator with one operand (Core spec 2.4.1).
 #[derive(Clone, Copy, PartialEq, Eq, Debug)]
 pub enum UnaryOp {
     Clz,
@@ -72,6 +74,7 @@ pub enum UnaryOp {
     Popcnt,
 }
 
+/// An integer operator with two operands (Core spec 2.4.1).
 #[derive(Clone, Copy, PartialEq, Eq, Debug)]
 pub enum BinaryOp {
     Add,
@@ -91,7 +94,7 @@ pub enum BinaryOp {
     Rotr,
 }
 
-/// Takes a narrow number's sign on into the upper bits.
+/// An operator that sign-extends the low 8, 16 or 32 bits of an integer. WebAssembly 1.0 has none of these.
 #[derive(Clone, Copy, PartialEq, Eq, Debug)]
 pub enum SignExtension {
     I32From8,
@@ -101,6 +104,7 @@ pub enum SignExtension {
     I64From32,
 }
 
+/// A floating-point comparison (Core spec 2.4.1).
 #[derive(Clone, Copy, PartialEq, Eq, Debug)]
 pub enum FloatComparison {
     Eq,
@@ -111,6 +115,7 @@ pub enum FloatComparison {
     Ge,
 }
 
+/// A floating-point operator with one operand (Core spec 2.4.1).
 #[derive(Clone, Copy, PartialEq, Eq, Debug)]
 pub enum FloatUnaryOp {
     Abs,
@@ -122,6 +127,7 @@ pub enum FloatUnaryOp {
     Sqrt,
 }
 
+/// A floating-point operator with two operands (Core spec 2.4.1).
 #[derive(Clone, Copy, PartialEq, Eq, Debug)]
 pub enum FloatBinaryOp {
     Add,
@@ -133,7 +139,7 @@ pub enum FloatBinaryOp {
     Copysign,
 }
 
-/// From whole numbers to floats, the other way round, and from floats to floats.
+/// A conversion whose operand or result, or both, is a float (Core spec 2.4.1).
 #[derive(Clone, Copy, PartialEq, Eq, Debug)]
 pub enum Conversion {
     I32TruncF32S,
@@ -160,7 +166,7 @@ pub enum Conversion {
     F64ReinterpretI64,
 }
 
-/// A numeric instruction other than a constant.
+/// A numeric instruction other than a constant (Core spec 2.4.1).
 #[derive(Clone, Copy, PartialEq, Eq, Debug)]
 pub enum Numeric {
     Test(IntType),
@@ -177,6 +183,7 @@ pub enum Numeric {
     SignExtend(SignExtension),
 }
 
+/// A load instruction without its memory argument (Core spec 2.4.4).
 #[derive(Clone, Copy, PartialEq, Eq, Debug)]
 pub enum LoadOp {
     I32Load,
@@ -195,6 +202,7 @@ pub enum LoadOp {
     I64Load32U,
 }
 
+/// A store instruction without its memory argument (Core spec 2.4.4).
 #[derive(Clone, Copy, PartialEq, Eq, Debug)]
 pub enum StoreOp {
     I32Store,
@@ -208,14 +216,16 @@ pub enum StoreOp {
     I64Store32,
 }
 
-/// Of a load or a store: the exponent of its alignment, and an offset (section 2.4.4).
+/// The memory argument of a load or a store: its alignment as an exponent of 2, and its offset
+/// (Core spec 2.4.4).
 #[derive(Clone, Copy, PartialEq, Eq, Debug)]
 pub struct MemArg {
     pub align: u32,
     pub offset: u32,
 }
 
-/// An instruction that holds no other and no list.
+/// An instruction that contains no other instruction and no list: all but `block`, `loop`, `if` and
+/// `br_table`.
 #[derive(Clone, Copy, PartialEq, Eq, Debug)]
 pub enum Simple {
     Unreachable,
@@ -236,7 +246,7 @@ pub enum Simple {
     MemoryGrow,
     I32Const(i32),
     I64Const(i64),
-    /// A float is its bits.
+    /// A float is held as its bits.
     F32Const(u32),
     F64Const(u64),
     Load(LoadOp, MemArg),
@@ -244,7 +254,8 @@ pub enum Simple {
     Numeric(Numeric),
 }
 
-/// One piece of the flat form of a list of instructions.
+/// An op: an instruction in the flat form of a body. `else`, `end` and each label of a `br_table` are ops
+/// too.
 #[derive(Clone, Copy, PartialEq, Eq, Debug)]
 pub enum Op {
     Simple(Simple),

@@ -1,4 +1,4 @@
-//! Readers and writers that remember whether they have failed.
+//! Byte readers and writers that record whether a call has failed.
 
 ghost use Rattle.std.specs.Prelude.{◌≡◌, ℕ, ◌<◌, ◌||◌, Bool, false, true, List, Option, length, take, is_err};
 ghost use Rattle.std.specs.Prelude.{IfOk, OnOk, IfErr, ◌≤◌};
@@ -10,54 +10,54 @@ use std::io;
 pub mod input;
 pub mod output;
 
-/// A reader.
+/// A reader of bytes.
 pub trait Source {
-    // The bytes that are still to come, where the type tells them.
+    // The bytes still to come, or `None` if the type does not determine them.
     ghost remaining: { Self → Option (List ℕ) };
-    // Whether some call has answered an error.
+    // Whether any call has returned an error.
     ghost has_failed: { Self → Bool };
 
-    /// Reads into `buf` and answers how many bytes: 0 only at the end, or where `buf` is empty. An error took
-    /// nothing; `Interrupted` is one.
+    /// Reads into `buf`, and returns how many bytes were read. Returns 0 only at the end, or if `buf` is
+    /// empty. An error, `Interrupted` among them, consumes nothing.
     fn get(&mut self, buf: &mut [u8]) -> io::Result<usize>
         ensures bound { ReadsAtMost result buf.new }
         ensures bytes { ReadConsumes (remaining self.old) (remaining self.new) result buf.new }
         ensures failed { has_failed self.new ≡ (has_failed self.old || is_err result) };
 
-    /// Whether some call has answered an error.
+    /// Whether any call has returned an error.
     fn failed(&self) -> bool
         ensures { result ≡ has_failed self.now };
 }
 
-/// A writer.
+/// A writer of bytes.
 pub trait Dest {
-    // The bytes that were written, where the type tells them.
+    // The bytes written so far, or `None` if the type does not determine them.
     ghost contents: { Self → Option (List ℕ) };
-    // Whether some call has answered an error.
+    // Whether any call has returned an error.
     ghost has_failed: { Self → Bool };
-    // Whether all that was written has been handed on; so it always is by a type that holds nothing back.
+    // Whether everything written has been passed on. It always has for a type that buffers nothing.
     ghost is_flushed: { Self → Bool } = { λ _. true };
 
-    /// Writes the first bytes of `buf` and answers how many: at least one where there is one. An error took
-    /// none; `Interrupted` is one.
+    /// Writes the first bytes of `buf`, and returns how many. It is at least one, unless `buf` is empty. An
+    /// error, `Interrupted` among them, writes nothing.
     fn put(&mut self, buf: &[u8]) -> io::Result<usize>
         ensures bound { WritesAtMost result buf.now }
         ensures some { IfOk result (λ n. 0 < length buf.now → 0 < n) }
         ensures bytes { WriteAppends (contents self.old) (contents self.new) result buf.now }
         ensures failed { has_failed self.new ≡ (has_failed self.old || is_err result) };
 
-    /// Hands on what is held back.
+    /// Passes on everything that is buffered.
     fn flush(&mut self) -> io::Result<()>
         ensures bytes { Keeps (contents self.old) (contents self.new) }
         ensures flushed { OnOk result (is_flushed self.new ≡ true) }
         ensures failed { has_failed self.new ≡ (has_failed self.old || is_err result) };
 
-    /// Whether some call has answered an error.
+    /// Whether any call has returned an error.
     fn failed(&self) -> bool
         ensures { result ≡ has_failed self.now };
 }
 
-/// Writes all of `bytes`. An error says how many of them were written before it.
+/// Writes all of `bytes`. Fails with the number of bytes that were written before the error.
 pub fn put_all<W: Dest>(w: &mut W, bytes: &[u8]) -> Result<(), usize>
     requires { W.has_failed w.old ≡ false }
     ensures written { OnOk result (Appends (W.contents w.old) (W.contents w.new) bytes.now) }

@@ -1,5 +1,5 @@
-//! The words that every other crate of wmod speaks: numbers, names, types, instructions and
-//! modules of WebAssembly 1.0, and the readers and writers of bytes.
+//! The types that every other crate of wmod shares: numbers, names, types, instructions and modules of
+//! WebAssembly 1.0. It also has the readers and writers of bytes.
 #![tactic(auto)]
 
 pub mod chunk;

@@ -1,4 +1,4 @@
-//! Modules (section 2.5).
+//! Modules (Core spec 2.5).
 
 ghost use Rattle.std.specs.Prelude.{◌≡◌};
 ghost use Rattle.wm_syntax.specs.Modules.{empty_module};
@@ -17,7 +17,7 @@ pub mod locals;
 pub mod ranges;
 mod sized_ops;
 
-/// What an import brings in (section 2.5.11). Of a function it is the index of its type.
+/// The description of an import (Core spec 2.5.11). A function is described by the index of its type.
 #[derive(Clone, Copy, PartialEq, Eq, Debug)]
 pub enum ImportDesc {
     Func(u32),
@@ -26,7 +26,7 @@ pub enum ImportDesc {
     Global(GlobalType),
 }
 
-/// What an export gives out (section 2.5.10).
+/// The kind of an exported item (Core spec 2.5.10).
 #[derive(Clone, Copy, PartialEq, Eq, Debug)]
 pub enum ExportKind {
     Func,
@@ -35,7 +35,7 @@ pub enum ExportKind {
     Global,
 }
 
-/// An import (section 2.5.11).
+/// An import: the names of a module and of an item in it, and its description (Core spec 2.5.11).
 #[derive(Debug, Drop)]
 pub struct Import {
     pub module_name: String,
@@ -56,7 +56,7 @@ impl Model for Import {
     } };
 }
 
-/// A function (section 2.5.3): the index of its type, its declared locals, and its body.
+/// A function: the index of its type, its declared locals, and its body (Core spec 2.5.3).
 #[derive(Debug, Drop)]
 pub struct Function {
     pub type_index: u32,
@@ -75,7 +75,7 @@ impl Model for Function {
     ghost view = { λ f. record { type_index = f.type_index; locals = f.locals; body = f.body } };
 }
 
-/// A global (section 2.5.6): its type and its initialiser.
+/// A global: its type and its initialiser (Core spec 2.5.6).
 #[derive(Debug, Drop)]
 pub struct GlobalDef {
     pub ty: GlobalType,
@@ -90,7 +90,7 @@ impl Model for GlobalDef {
     ghost view = { λ g. record { ty = g.ty; init = g.init } };
 }
 
-/// An export (section 2.5.10).
+/// An export: its name, and the kind and the index of an item (Core spec 2.5.10).
 #[derive(Debug, Drop)]
 pub struct Export {
     pub name: String,
@@ -107,7 +107,7 @@ impl Model for Export {
     ghost view = { λ e. record { name = string_bytes e.name; kind = e.kind; index = e.index } };
 }
 
-/// An element segment (section 2.5.7).
+/// An element segment: a table, an offset in it, and function indices (Core spec 2.5.7).
 #[derive(Debug, Drop)]
 pub struct Element {
     pub table: u32,
@@ -123,7 +123,7 @@ impl Model for Element {
     ghost view = { λ e. record { table = e.table; offset = e.offset; functions = e.functions.items } };
 }
 
-/// A data segment (section 2.5.8).
+/// A data segment: a memory, an offset in it, and bytes (Core spec 2.5.8).
 #[derive(Debug, Drop)]
 pub struct Segment {
     pub memory: u32,
@@ -139,7 +139,8 @@ impl Model for Segment {
     ghost view = { λ s. record { memory = s.memory; offset = s.offset; bytes = s.bytes.items } };
 }
 
-/// A module (section 2.5), valid or not. Tables and memories are lists, so that one with two can be held.
+/// A module, valid or not (Core spec 2.5). Tables and memories are lists, to represent an invalid module with
+/// two.
 #[derive(Debug, Drop)]
 pub struct Module {
     pub types: Vec<FuncType>,
@@ -155,7 +156,7 @@ pub struct Module {
 }
 
 impl Module {
-    /// The module without any part.
+    /// Returns the empty module.
     pub fn new(alloc: Global) -> Self
         ensures { value_of result ≡ empty_module }
     {

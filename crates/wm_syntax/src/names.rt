@@ -1,8 +1,8 @@
-//! Names (section 5.2.4).
+//! Names (Core spec 5.2.4).
 
 ghost use Rattle.std.specs.Prelude.{◌↔◌, IsTrue, IsUtf8};
 
-/// Whether these bytes are those of a name: whether they are UTF-8.
+/// Whether the bytes are those of a name, that is, UTF-8 (Core spec 5.2.4).
 pub fn is_name(bytes: &[u8]) -> bool
     ensures { IsTrue result ↔ IsUtf8 bytes.now }
 {

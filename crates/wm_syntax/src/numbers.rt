@@ -1,4 +1,4 @@
-//! Numbers as LEB128 (section 5.2.2), read byte by byte.
+//! Numbers in LEB128, read one byte at a time (Core spec 5.2.2).
 
 ghost use Rattle.wm_syntax.specs.Leb128.{FitsBits, Signed, Unsigned};
 ghost use Rattle.std.specs.Prelude.{ℕ, List, [], ◌∷◌, ◌++◌, pos, ◌-ℤ◌, ◌≡◌, ◌+◌, ◌-◌, ◌*◌, ◌^◌, ◌<◌, ◌≤◌};
@@ -12,19 +12,19 @@ use std::marker::Model;
 
 pub mod lengths;
 
-/// What a reader of a number answers to one byte.
+/// The answer of a number reader to one byte.
 #[derive(Clone, Copy, PartialEq, Eq, Debug)]
 pub enum Step<T> {
-    /// The number goes on.
+    /// The number needs more bytes.
     More,
-    /// This byte was the last one of the number.
+    /// The number ends with this byte.
     Done(T),
     /// No number begins with these bytes.
     Bad,
 }
 
-/// The bytes so far of a number of any width up to 64 bits (section 5.2.2), of which none is kept. The other
-/// readers of this module are this one at a width.
+/// Reads a number of any width up to 64 bits (Core spec 5.2.2). It retains none of the bytes. Each of the
+/// other readers of this module is this one at a fixed width.
 #[derive(Clone, Copy, Debug)]
 pub struct Leb128 {
     low: u64,
@@ -44,9 +44,10 @@ impl Model for Leb128 {
     ghost invariant = { λ r. (r.count ≤ 10) × (r.low < 2 ^ (7 * r.count)) };
 }
 
+// The state after the last byte: 10 bytes are the most that a number of 64 bits has.
 const OVER: Leb128 = Leb128 { low: 0, count: 10 };
 
-/// What the lowest bit of the byte at this place counts for.
+/// The weight of the lowest bit of the byte with this index, the first being 0.
 fn weight(place: u8) -> u64
     requires { place < 10 }
     ensures { result ≡ 2 ^ (7 * place) }
@@ -54,7 +55,7 @@ fn weight(place: u8) -> u64
     1 << (7 * place)
 }
 
-/// Whether a last byte leaves an unsigned number within so many more bits.
+/// Whether the last byte of an unsigned number fits the `bits` bits that are left.
 fn fits(bits: u8, byte: u8) -> bool
     requires { byte < 2 ^ 7 }
     ensures { result ≡ nat_lt byte (2 ^ bits) }
@@ -62,7 +63,8 @@ fn fits(bits: u8, byte: u8) -> bool
     bits > 6 || byte < 1 << bits
 }
 
-/// The same of a signed number, at a last byte whose sign bit is set.
+/// Whether the last byte of a negative number fits: it counts as `byte` - 2^7, which must be at least
+/// -2^`bits`.
 fn fits_below(bits: u8, byte: u8) -> bool
     requires from { 2 ^ 6 ≤ byte }
     requires below { byte < 2 ^ 7 }
@@ -72,7 +74,7 @@ fn fits_below(bits: u8, byte: u8) -> bool
 }
 
 impl Leb128 {
-    /// A reader that was given no byte yet.
+    /// Returns a reader that has read no byte.
     pub fn new() -> Self
         ensures unsigned { (bits : ℕ) → 0 < bits → UnsignedAfter bits result [] }
         ensures signed { (bits : ℕ) → 0 < bits → SignedAfter bits result [] }
@@ -87,7 +89,7 @@ impl Leb128 {
         self.count == 0
     }
 
-    /// A byte that is not the last one.
+    /// Takes a byte that is not the last one.
     fn more<T>(self, bits: u8, byte: u8) -> (Step<T>, Self)
         requires bits { bits ≤ 64 }
         requires byte { 2 ^ 7 ≤ byte }
@@ -121,7 +123,7 @@ impl Leb128 {
         }
     }
 
-    /// The number that ends with this byte, whose sign bit is not set.
+    /// Returns the number that ends with this byte, whose sign bit is clear.
     #[inline(always)]
     fn positive(self, byte: u8) -> i64
         requires place { self.count < 10 }
@@ -131,7 +133,8 @@ impl Leb128 {
         (self.low + u64::from(byte) * weight(self.count)) as i64
     }
 
-    /// The number that ends with this byte, whose sign bit is set: -1 less the number of the inverted bits.
+    /// Returns the number that ends with this byte, whose sign bit is set: -1 minus the number with all bits
+    /// inverted.
     #[inline(always)]
     fn negative(self, byte: u8) -> i64
         requires place { self.count < 10 }
@@ -165,7 +168,7 @@ impl Leb128 {
         }
     }
 
-    /// Takes the next byte of an unsigned number of so many bits.
+    /// Takes the next byte of an unsigned number of `bits` bits, at most 64.
     pub fn push_unsigned(&mut self, bits: u8, byte: u8) -> Step<u64>
         requires { bits ≤ 64 }
         ensures answers { (before : List ℕ) → UnsignedAfter bits self.old before
@@ -175,14 +178,14 @@ impl Leb128 {
         ensures pushed { (result, self.new) ≡ unsigned_push bits self.old byte }
         ensures range { IfDone result (λ n. n < 2 ^ bits) }
     {
-        // the use of a field, so that the proof knows what always holds of a reader
+        // Reads a field, so that the proof can use the invariant.
         let _ = &self.low;
         let (step, next) = self.advance_unsigned(bits, byte);
         *self = next;
         step
     }
 
-    /// Takes the next byte of a signed number of so many bits.
+    /// Takes the next byte of a signed number of `bits` bits, at most 64.
     #[inline(always)]
     pub fn push_signed(&mut self, bits: u8, byte: u8) -> Step<i64>
         requires { bits ≤ 64 }
@@ -193,7 +196,7 @@ impl Leb128 {
         ensures pushed { (result, self.new) ≡ signed_push bits self.old byte }
         ensures range { IfDone result (FitsBits bits) }
     {
-        // the use of a field, so that the proof knows what always holds of a reader
+        // Reads a field, so that the proof can use the invariant.
         let _ = &self.low;
         let (step, next) = self.advance_signed(bits, byte);
         *self = next;
@@ -201,7 +204,7 @@ impl Leb128 {
     }
 }
 
-/// The same answer with a u32.
+/// Narrows the answer to a u32.
 fn narrow(step: Step<u64>) -> Step<u32>
     requires { IfDone step (λ n. n < 2 ^ 32) }
     ensures { result ≡ step }
@@ -213,7 +216,7 @@ fn narrow(step: Step<u64>) -> Step<u32>
     }
 }
 
-/// The same answer with an i32.
+/// Narrows the answer to an i32.
 #[inline(always)]
 fn narrow_signed(step: Step<i64>) -> Step<i32>
     requires { IfDone step (FitsBits 32) }
@@ -226,7 +229,7 @@ fn narrow_signed(step: Step<i64>) -> Step<i32>
     }
 }
 
-/// Reads one u32 (section 5.2.2), byte by byte, keeping none of the bytes.
+/// Reads one u32, one byte at a time (Core spec 5.2.2). It retains none of the bytes.
 #[derive(Clone, Copy, Debug)]
 pub struct Num32 {
     bytes: Leb128,
@@ -243,7 +246,7 @@ impl Model for Num32 {
 }
 
 impl Num32 {
-    /// A reader that was given no byte yet.
+    /// Returns a reader that has read no byte.
     pub fn new() -> Self
         ensures after { UnsignedAfter 32 result [] }
         ensures fresh { result ≡ fresh }
@@ -252,7 +255,7 @@ impl Num32 {
         Num32 { bytes }
     }
 
-    /// Whether it was given no byte yet.
+    /// Whether the reader has read no byte.
     pub fn is_new(&self) -> bool
         ensures { (result ≡ true) ↔ (self.now ≡ fresh) }
     {
@@ -271,7 +274,7 @@ impl Num32 {
     }
 }
 
-/// How many bytes at the front are below 2^7: each of them is a whole u32 (section 5.2.2).
+/// Returns how many bytes at the front are below 2^7. Each of them is a whole u32 (Core spec 5.2.2).
 pub fn short_front(bytes: &[u8]) -> usize
     ensures value { result ≡ prefix_len (λ c. nat_lt c (2 ^ 7)) bytes.now }
     ensures within { result ≤ length bytes.now }
@@ -279,7 +282,7 @@ pub fn short_front(bytes: &[u8]) -> usize
     bytes.iter().take_while(|b| **b < 0x80).count()
 }
 
-/// Reads one u64 (section 5.2.2), byte by byte, keeping none of the bytes.
+/// Reads one u64, one byte at a time (Core spec 5.2.2). It retains none of the bytes.
 #[derive(Clone, Copy, Debug)]
 pub struct Num64 {
     bytes: Leb128,
@@ -296,7 +299,7 @@ impl Model for Num64 {
 }
 
 impl Num64 {
-    /// A reader that was given no byte yet.
+    /// Returns a reader that has read no byte.
     pub fn new() -> Self
         ensures after { UnsignedAfter 64 result [] }
         ensures fresh { result ≡ fresh }
@@ -317,7 +320,7 @@ impl Num64 {
     }
 }
 
-/// Reads one s32 (section 5.2.2), byte by byte, keeping none of the bytes.
+/// Reads one s32, one byte at a time (Core spec 5.2.2). It retains none of the bytes.
 #[derive(Clone, Copy, Debug)]
 pub struct Int32 {
     bytes: Leb128,
@@ -334,7 +337,7 @@ impl Model for Int32 {
 }
 
 impl Int32 {
-    /// A reader that was given no byte yet.
+    /// Returns a reader that has read no byte.
     pub fn new() -> Self
         ensures after { SignedAfter 32 result [] }
         ensures fresh { result ≡ fresh }
@@ -356,7 +359,7 @@ impl Int32 {
     }
 }
 
-/// Reads one s64 (section 5.2.2), byte by byte, keeping none of the bytes.
+/// Reads one s64, one byte at a time (Core spec 5.2.2). It retains none of the bytes.
 #[derive(Clone, Copy, Debug)]
 pub struct Int64 {
     bytes: Leb128,
@@ -373,7 +376,7 @@ impl Model for Int64 {
 }
 
 impl Int64 {
-    /// A reader that was given no byte yet.
+    /// Returns a reader that has read no byte.
     pub fn new() -> Self
         ensures after { SignedAfter 64 result [] }
         ensures fresh { result ≡ fresh }

@@ -1,25 +1,25 @@
-//! Which instructions and which types there are.
+//! Profiles, and the features of instructions and types.
 
 ghost use Rattle.std.specs.Prelude.{◌≡◌};
 ghost use Rattle.wm_syntax.specs.Profiles.{has};
 
-/// The instructions and the types that a module may use.
+/// The set of instructions and types that a module may use.
 #[derive(Clone, Copy, PartialEq, Eq, Debug)]
 pub enum Profile {
-    /// Those of WebAssembly 1.0 on whole numbers.
+    /// WebAssembly 1.0 without floats.
     One,
-    /// The same, and the five sign-extension instructions that came later.
+    /// WebAssembly 1.0 without floats, and the five sign-extension instructions that came later.
     Two,
     /// All of WebAssembly 1.0.
     Three,
-    /// The same, and the five sign-extension instructions.
+    /// All of WebAssembly 1.0, and the five sign-extension instructions.
     Four,
 }
 
-/// What an instruction or a type belongs to.
+/// The feature that an instruction or a type belongs to.
 #[derive(Clone, Copy, PartialEq, Eq, Debug)]
 pub enum Feature {
-    /// WebAssembly 1.0 on whole numbers.
+    /// WebAssembly 1.0 without floats.
     Base,
     /// The floats of WebAssembly 1.0: their types, and the instructions on them.
     Floats,

@@ -1,4 +1,4 @@
-//! Types (section 2.3).
+//! Types (Core spec 2.3).
 
 ghost use Rattle.std.specs.Prelude.{◌≡◌};
 ghost use Rattle.wm_syntax.specs.Profiles.{type_feature};
@@ -6,7 +6,7 @@ ghost use Rattle.wm_syntax.specs.Profiles.{type_feature};
 use crate::profile::Feature;
 use std::marker::Model;
 
-/// A value type (section 2.3.1): a whole number or a float, of 32 or of 64 bits.
+/// A value type: an integer or a float, of 32 or 64 bits (Core spec 2.3.1).
 #[derive(Clone, Copy, PartialEq, Eq, Debug)]
 pub enum ValType {
     I32,
@@ -16,7 +16,7 @@ pub enum ValType {
 }
 
 impl ValType {
-    /// What the type belongs to.
+    /// Returns the feature that the type belongs to.
     #[inline(always)]
     pub fn feature(self) -> Feature
         ensures { result ≡ type_feature self }
@@ -28,7 +28,7 @@ impl ValType {
     }
 }
 
-/// A function type (section 2.3.3): the types of what is passed and of what is returned.
+/// A function type: the types of the parameters and of the results (Core spec 2.3.3).
 #[derive(Debug, Drop)]
 pub struct FuncType {
     pub params: Vec<ValType>,
@@ -43,26 +43,27 @@ impl Model for FuncType {
     ghost view = { λ f. record { params = f.params.items; results = f.results.items } };
 }
 
-/// How large a table or a memory is at least and at most (section 2.3.4): elements, or pages of 64 KiB.
+/// The least and the greatest size of a table, in elements, or of a memory, in pages of 64 KiB
+/// (Core spec 2.3.4).
 #[derive(Clone, Copy, PartialEq, Eq, Debug)]
 pub struct Limits {
     pub min: u32,
     pub max: Option<u32>,
 }
 
-/// The type of a global's value, and whether it may be set (section 2.3.7).
+/// The type of a global's value, and whether the global may be set (Core spec 2.3.7).
 #[derive(Clone, Copy, PartialEq, Eq, Debug)]
 pub struct GlobalType {
     pub ty: ValType,
     pub var: bool,
 }
 
-/// A constant expression (section 3.3.7): a number, or the value of the global with this index.
+/// A constant expression: a number, or the value of the global with this index (Core spec 3.3.7).
 #[derive(Clone, Copy, PartialEq, Eq, Debug)]
 pub enum Const {
     I32(i32),
     I64(i64),
-    /// A float is its bits.
+    /// A float is held as its bits.
     F32(u32),
     F64(u64),
     Global(u32),

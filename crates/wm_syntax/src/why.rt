@@ -1,4 +1,4 @@
-//! Why an input is refused.
+//! The reasons why an input is refused.
 
 ghost use Rattle.std.specs.Prelude.{◌≡◌};
 ghost use Rattle.wm_syntax.specs.Refusals.{name_of};
@@ -8,16 +8,16 @@ use std::alloc::{AllocError, AllocFailed};
 use std::error::Error;
 use std::fmt;
 
-/// Why an input is refused.
+/// The reason why an input is refused.
 #[derive(Clone, Copy, PartialEq, Eq, Debug)]
 pub enum Why {
-    /// One of the first four bytes is not that of the magic.
+    /// One of the first four bytes differs from the magic.
     Magic,
-    /// One of the next four bytes is not that of the version.
+    /// One of the next four bytes differs from the version.
     Version,
     /// A section's id is above 11.
     SectionId,
-    /// A section's id, a custom one's aside, is not above the last such id.
+    /// A section that is not custom has an id that is not above the last such id.
     SectionOrder,
     /// A section's size and its contents do not agree.
     SectionEnd,
@@ -25,42 +25,43 @@ pub enum Why {
     BadNumber,
     /// A name is not UTF-8.
     BadUtf8,
-    /// Another byte is needed here.
+    /// Another byte is required here.
     BadByte,
-    /// A floating-point type or instruction, and the profile has none.
+    /// A float type or a float instruction, under a profile without floats.
     Float,
     /// No instruction of the profile begins with this byte.
     BadOpcode,
     /// The input ends inside the header or a section.
     Truncated,
-    /// There are not as many code entries as functions.
+    /// The number of code entries differs from the number of declared functions.
     CodeCount,
     /// A code entry's size and its contents do not agree.
     BodyEnd,
     /// A function declares 2^32 locals or more.
     TooManyLocals,
-    /// An index that names nothing.
+    /// An index that refers to nothing.
     Index,
-    /// An operand, a label or a constant has another type, or an if with a result has no
-    /// else; printed as `Type`.
+    /// An operand, a label or a constant has another type, or an `if` with a result has no `else`. Printed as
+    /// `Type`.
     Mismatch,
-    /// Too many results, a missing operand, operands left at an end, or not one constant instruction.
+    /// Too many results, a missing operand, operands left at an `else` or `end`, or a constant expression
+    /// that is not one instruction.
     Arity,
-    /// Limits out of range.
+    /// The limits of a table or a memory are out of range.
     Limits,
     /// A second table or memory.
     Second,
-    /// Two exports have one name.
+    /// Two exports have the same name.
     DuplicateExport,
-    /// The start function takes or gives something.
+    /// The start function has a parameter or a result.
     StartType,
-    /// An instruction that a constant expression cannot hold.
+    /// An instruction that is not allowed in a constant expression.
     NotConst,
-    /// A constant global is set.
+    /// An immutable global is set.
     Immutable,
     /// An alignment above the width of the access.
     Align,
-    /// An else outside the first branch of an if.
+    /// An `else` outside the first branch of an `if`.
     ElsePlace,
     /// The input is longer than the limit.
     TooLong,
@@ -70,12 +71,12 @@ pub enum Why {
     ManyFunctions,
     /// A function declares more locals than the policy allows.
     ManyLocals,
-    /// More blocks, loops and ifs are open than the policy allows.
+    /// More blocks, loops and ifs are open at once than the policy allows.
     Deep,
 }
 
 impl Why {
-    /// The word that is printed for it.
+    /// Returns the printed name of the refusal.
     pub fn name(self) -> &'static str
         ensures { result.now ≡ name_of self }
     {
@@ -115,7 +116,7 @@ impl Why {
 }
 
 impl Why {
-    /// What is wrong, in a sentence with no full stop.
+    /// Returns one sentence on the fault, without a full stop.
     fn sentence(self) -> &'static str {
         match self {
             Why::Magic => "a module begins with the bytes 00 61 73 6D",

@@ -1,6 +1,5 @@
--- The rows of the code's table of first bytes, for the proof of `op_of`, and its exact answer, for the layer
--- that builds on it: no promise rests on this list, since the other clauses of `op_of` speak of the table of
--- instructions alone.
+-- The code's table of first bytes, for the proof of `op_of`, and its exact answer, for the layer above. No
+-- promise rests on this table: the other clauses of `op_of` use the table of instructions alone.
 use Rattle.std.specs.Prelude.{ℕ, List, Option, Some, None as Nothing, slice_get}
 use Rattle.std.specs.Prelude.{if◌then◌else◌}
 use Rattle.wm_syntax.specs.declared.instructions.LoadOp.TheVariants.{F32Load, F64Load}
@@ -15,11 +14,11 @@ use Rattle.wm_syntax.specs.declared.profile.Feature.TheVariants.{Base, Floats}
 use Rattle.wm_syntax.specs.declared.profile.Profile.{Profile}
 use Rattle.wm_syntax.specs.Profiles.{feature_of, has}
 
--- what each byte begins, from 00 to FF: the code's own table
+-- The class of each byte, from 00 to FF: the code's own table.
 abbrev pub classes : List OpClass
 classes = CLASSES
 
--- the feature of the ops of a class
+-- The feature of the ops of a class.
 abbrev pub class_feature : OpClass → Feature
 class_feature (Plain (op.Simple i)) = feature_of i
 class_feature (With k.F32Const) = Floats
@@ -30,12 +29,12 @@ class_feature (With (k.Store F32Store)) = Floats
 class_feature (With (k.Store F64Store)) = Floats
 class_feature _ = Base
 
--- what is answered for the ops of a feature that the profile has not
+-- The answer for the ops of a feature that the profile does not have.
 abbrev pub left_out : Feature → OpClass
 left_out Floats = Float
 left_out _ = None
 
--- what is left of a class under a profile
+-- The answer for a class under a profile: the class itself if the profile has its feature.
 abbrev pub class_in : Profile → OpClass → OpClass
 class_in p c = if has p (class_feature c) then c else left_out (class_feature c)
 
@@ -43,6 +42,6 @@ abbrev pub row_in : Profile → Option OpClass → OpClass
 row_in p (Some c) = class_in p c
 row_in p Nothing = None
 
--- what a byte begins under a profile; what is no byte begins nothing
+-- The class of a byte under a profile. A number above FF has the class `None`.
 unfoldable pub class_under : Profile → ℕ → OpClass
 class_under p byte = row_in p (slice_get classes byte)

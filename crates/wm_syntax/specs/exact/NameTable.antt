@@ -1,6 +1,5 @@
--- The names of instructions by their bytes, the bytes in the order of the names, and the exact answer of
--- `op_named`, for the layer that builds on it: no promise rests on these lists, since the other clauses speak
--- of the table of instructions.
+-- The names of ops by their first bytes, the bytes sorted by name, and the exact answer of `op_named`, for
+-- the layer above. No promise rests on these lists: the other clauses use the table of instructions.
 use Rattle.std.specs.Prelude.{ℕ, Bool, false, List, [], ◌∷◌, Option, Some, None as Nothing, codes, map}
 use Rattle.std.specs.Prelude.{if◌then◌else◌}
 use Rattle.std.specs.Str.{bytes_eq}
@@ -14,7 +13,7 @@ use Rattle.wm_syntax.specs.OpNames.{op_name}
 use Rattle.wm_syntax.specs.declared.instructions.op_names.TheConstants.{BY_NAME}
 use Rattle.wm_syntax.specs.exact.ByteTable.{classes, class_in}
 
--- the name of the instructions that have these immediates
+-- The name of the instructions that have these immediates.
 abbrev pub immediates_name : Immediates → List ℕ
 immediates_name k.Block = codes "block"
 immediates_name k.Loop = codes "loop"
@@ -48,15 +47,15 @@ abbrev pub name_or_none : Option (List ℕ) → List ℕ
 name_or_none Nothing = []
 name_or_none (Some name) = name
 
--- the name of each byte, from 00 to FF; an empty one where the byte begins no instruction
+-- The name of each byte, from 00 to FF. It is empty if the byte begins no op.
 abbrev pub names : List (List ℕ)
 names = map (λ c. name_or_none (class_name c)) classes
 
--- the bytes that begin an instruction, in the order of the names: the code's own list
+-- The bytes that begin an op, sorted by name: the code's own list.
 abbrev pub by_name : List ℕ
 by_name = BY_NAME
 
--- the first class of the table that has this name
+-- Whether a class has this name, and the first class of a list that has it.
 abbrev pub has_name : OpClass → List ℕ → Bool
 has_name c w = elim (class_name c) [ Nothing ↦ false | Some name ↦ bytes_eq name w ]
 
@@ -64,6 +63,6 @@ abbrev pub first_named : List OpClass → List ℕ → OpClass
 first_named [] w = None
 first_named (c ∷ cs) w = if has_name c w then c else first_named cs w
 
--- what a word names under a profile
+-- The class of a word under a profile.
 unfoldable pub class_named : Profile → List ℕ → OpClass
 class_named p w = class_in p (first_named classes w)

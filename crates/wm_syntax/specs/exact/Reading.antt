@@ -1,4 +1,4 @@
--- The exact answer of the readers of numbers.
+-- The exact answers of the number readers.
 use Rattle.std.specs.Prelude.{ℕ, Bool, ◌+◌, ◌-◌, ◌*◌, ◌^◌, ℤ, pos, ◌+ℤ◌, ◌-ℤ◌, ◌*ℤ◌, nat_lt, nat_le}
 use Rattle.std.specs.Prelude.{if◌then◌else◌}
 use Rattle.wm_syntax.specs.inner.Numbers.{Partial}
@@ -11,14 +11,14 @@ fresh = record { low = 0; count = 0 }
 abbrev pub over : Partial
 over = record { low = 0; count = 10 }
 
--- a byte that is not the last one
+-- The answer to a byte that is not the last one.
 abbrev pub go_on : {A : Type 0} → ℕ → Partial → ℕ → Step A × Partial
 go_on bits r byte =
     if nat_lt (7 * r.count + 7) bits
     then (More, record { low = r.low + (byte - 2 ^ 7) * 2 ^ (7 * r.count); count = r.count + 1 })
     else (Bad, over)
 
--- the last byte, if it may stand there
+-- The answer to the last byte, which is `Bad` if the byte is not allowed.
 abbrev pub end_at : {A : Type 0} → Bool → A → Step A × Partial
 end_at may v = if may then (Done v, over) else (Bad, over)
 
@@ -30,7 +30,7 @@ unsigned_push bits r byte =
     else go_on bits r byte)
     else (Bad, over)
 
--- the number that a last byte stands for
+-- The number whose low bits were read, and whose last byte means `high`.
 abbrev pub last_signed : Partial → ℤ → ℤ
 last_signed r high = pos r.low +ℤ (pos (2 ^ (7 * r.count)) *ℤ high)
 

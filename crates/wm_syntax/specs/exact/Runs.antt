@@ -1,6 +1,6 @@
--- What each call on the runs of locals does, as a function of the list of types, refusals included. These
--- follow the code step by step, for the layers above, whose answers are functions of what they were given.
--- No promise rests on them alone.
+-- The exact answer of adding a run of locals, as a function of the list of types, refusals included. It
+-- follows the code for the layers above, whose answers are functions of their input. No promise rests on it
+-- alone.
 use Rattle.std.specs.Prelude.{ℕ, ◌+◌, ◌^◌, List, ◌++◌, Result, Ok, Err, length, replicate, nat_lt}
 use Rattle.std.specs.Prelude.{if◌then◌else◌}
 use Rattle.wm_syntax.specs.declared.types.ValType.{ValType}

@@ -1,4 +1,5 @@
--- What a builder of bodies keeps beside the ops, and what an op makes of it: an exact mirror of the code.
+-- The state that a builder of bodies keeps beside the ops, and how an op changes it. It mirrors the code
+-- exactly.
 use Rattle.std.specs.Prelude.{ℕ, zero, suc, ◌+◌, ◌-◌, ◌≡◌, Bool, true, false, List, [], ◌∷◌, ◌++◌, Option}
 use Rattle.std.specs.Prelude.{Some, length, take, slice_get, slice_set, if◌then◌else◌}
 use Rattle.wm_syntax.specs.declared.instructions.Op.{Op}
@@ -8,7 +9,7 @@ use Rattle.wm_syntax.specs.declared.modules.body_builder.Opened.TheVariants as o
 use Rattle.wm_syntax.specs.inner.Building.{Open, in_block, in_loop, in_first, in_second, Place, at, labels}
 use Rattle.wm_syntax.specs.inner.Building.{ops_at}
 
--- how the lists that are open were opened, the outermost first
+-- How each open list was opened, the outermost first.
 abbrev pub kind_of : Open → Opened
 kind_of (in_block t s) = opened.List
 kind_of (in_loop t s) = opened.List
@@ -23,18 +24,18 @@ abbrev pub open_at : Place → List Opened
 open_at (at outer s) = kinds outer
 open_at (labels outer s seen n) = kinds outer
 
--- how many labels of a br_table are still to come, the default too
+-- How many labels of a br_table are still to come, the default included.
 abbrev pub labels_at : Place → ℕ
 labels_at (at outer s) = 0
 labels_at (labels outer s seen n) = suc n
 
--- what is kept at a place
+-- The fields of a builder whose state is p.
 pub record Keeps (ops : List Op) (begun : List Opened) (left : ℕ) (p : Place) : Type 0 where
   pub ops_are : ops ≡ ops_at p
   pub begun_are : begun ≡ open_at p
   pub left_are : left ≡ labels_at p
 
--- the last of a list
+-- The last element of a list.
 abbrev pub last_of : {X : Type 0} → List X → Option X
 last_of xs = slice_get xs (length xs - 1)
 
@@ -50,7 +51,8 @@ abbrev pub is_else : Option Op → Bool
 is_else (Some op.Else) = true
 is_else _ = false
 
--- whether an op may stand
+-- Whether an op is allowed: in the innermost open list (`fits_list`), and where n labels are still to come
+-- (`fits`).
 abbrev pub fits_list : List Opened → Op → Bool
 fits_list begun op.Else = is_first (last_of begun)
 fits_list begun op.End = is_open begun
@@ -68,7 +70,7 @@ fits begun (suc n) o = is_label o
 abbrev pub last_set : {X : Type 0} → X → List X → List X
 last_set x xs = slice_set xs (length xs - 1) x
 
--- an end takes the place of an else right before it
+-- The ops after one more op. An end replaces an else directly before it.
 abbrev pub next_ops : Op → List Op → List Op
 next_ops op.End ops = if is_else (last_of ops) then last_set op.End ops else ops ++ op.End ∷ []
 next_ops o ops = ops ++ o ∷ []

@@ -1,4 +1,5 @@
--- How the logic tells bodies apart: by their ops. What is proved here stands in specs since a code needs it.
+-- A code of bodies, by which the logic tells them apart: their ops. The proofs are in specs because a code
+-- needs them.
 use Rattle.std.specs.Prelude.{ℕ, ◌+◌, suc, List, [], ◌∷◌, ◌++◌, Option, Some, ◌≡◌, length, map, refl}
 use Rattle.std.proofs.Common.{sym, ap, ◌∙◌, append_assoc, append-nil, arith}
 use Rattle.std.specs.Coded.{Coded, code_by, coded_list, coded×, coded_ℕ}
@@ -74,7 +75,7 @@ mutual
       ∙ instructions_run u outer s (instruction_ops i ++ r)
       ∙ instruction_run i outer (join s u) r
 
--- the ops of a body give it back
+-- A body can be recovered from its ops.
 pub again : (s : Instructions) → tree_of (ops_of s) ≡ s
 again s = ap (λ z. body_in (place_after start z)) (sym (append-nil (ops_of s))) ∙ ap body_in
     (instructions_run s [] none []) ∙ join_none s
@@ -85,7 +86,7 @@ ops_code = coded_list rows.the_row.coded
 abbrev pub instructions_code : Coded Instructions
 instructions_code = code_by (List Op) ops_code ops_of tree_of again
 
--- the held ops of a list, from its beginning
+-- The ops of a list, from its beginning, lead to that list.
 list_run : (s : Instructions) (outer : List Open) (r : List Op)
     → place_after (at outer none) (ops_of s ++ r) ≡ place_after (at outer s) r
 list_run s outer r = instructions_run s outer none r ∙ ap (λ u. place_after (at outer u) r) (join_none s)
@@ -126,7 +127,7 @@ labels_seen outer s (l ∷ ls) seen n =
     rw z (labels_seen outer s ls (seen ++ l ∷ []) n ∙ ap (λ y. Some (labels outer s y n))
     (append_assoc seen (l ∷ []) ls))
 
--- the held ops of a place lead to it
+-- The ops held in a state lead to it.
 pub held_lead : (p : Place) → place_after start (ops_at p) ≡ Some p
 held_lead (at outer s) =
     outer_run outer (ops_of s) ∙ ap (place_after (at outer none))
@@ -142,7 +143,7 @@ place_again p = ap place_of (held_lead p)
 abbrev pub place_code : Coded Place
 place_code = code_by (List Op) ops_code ops_at place_in place_again
 
--- a function, by its type's index, its locals and its body
+-- The code of a function: the index of its type, its locals and its body.
 abbrev pub function_code : Coded Function
 function_code =
     code_by (ℕ × (List ValType × Instructions))

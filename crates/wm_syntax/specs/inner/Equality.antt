@@ -1,5 +1,5 @@
--- Which values are the same, as a test: by their codes, which tell any two values apart. What is proved here
--- stands in specs since a comparison has its laws beside it.
+-- A test whether two values are the same, by their codes, which tell any two values apart. The proofs are in
+-- specs because a comparison needs its laws.
 use Rattle.std.specs.Prelude.{◌≡◌, ℕ, ◌==◌, ◌&&◌, Bool, true, false, List, Option}
 use Rattle.std.specs.Bool.{Decides}
 use Rattle.std.specs.Cmp.{IsPartialEquivalence, partial_equiv_from_equiv, decided}
@@ -25,7 +25,7 @@ use Rattle.wm_syntax.specs.inner.Codes.{instructions_code, function_code}
 use Rattle.wm_syntax.specs.Values.{value_of}
 use base.Stored.{Gv, gnil, gnum, gcons}
 
--- two codes, compared
+-- Compares two codes.
 same_code : Gv → Gv → Bool
 same_code gnil gnil = true
 same_code (gnum n) (gnum k) = n == k
@@ -56,7 +56,7 @@ is_code gnil = refl
 is_code (gnum n) = eq-eqb n n refl
 is_code (gcons a b) = and_from (same_code a a) (same_code b b) (is_code a) (is_code b)
 
--- two values, compared by their codes
+-- Compares two values by their codes.
 pub same_by : {A : Type 0} → Coded A → A → A → Bool
 same_by c a b = same_code (c.code a) (c.code b)
 
@@ -70,7 +70,7 @@ same_decides c a b = (
 pub same_laws : {A : Type 0} (c : Coded A) → IsPartialEquivalence (same_by c)
 same_laws c = partial_equiv_from_equiv (decided (same_by c) (same_decides c))
 
--- the codes of the values of a module
+-- The codes of the values in a module.
 pub body_code : Coded Instructions
 body_code = instructions_code
 

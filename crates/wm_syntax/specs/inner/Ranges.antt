@@ -1,4 +1,4 @@
--- What an op of a body holds: its numbers are in their ranges.
+-- The numbers in an op are in their ranges.
 use Rattle.wm_syntax.specs.Modules.{IsSimple, IsU32}
 use Rattle.wm_syntax.specs.declared.instructions.Op.{Op}
 use Rattle.wm_syntax.specs.declared.instructions.Op.TheVariants as op

@@ -1,4 +1,4 @@
--- What stands behind a reader or a writer, and whether it has failed.
+-- The reader or the writer that is wrapped, and whether a call has failed.
 use Rattle.std.specs.Prelude.{Bool}
 use Rattle.wm_syntax.specs.declared.io.input.Input.{Input}
 use Rattle.wm_syntax.specs.declared.io.output.Output.{Output}

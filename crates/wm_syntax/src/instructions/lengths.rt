@@ -1,4 +1,4 @@
-//! How many bytes an op has (section 5.4), without spelling it.
+//! The encoded length of an op, found without encoding it (Core spec 5.4).
 
 ghost use Rattle.std.specs.Prelude.{◌≡◌, ◌+◌, ◌≤◌};
 ghost use Rattle.wm_syntax.specs.Lengths.{immediates_len, index_len, op_len};
@@ -6,7 +6,7 @@ ghost use Rattle.wm_syntax.specs.Lengths.{immediates_len, index_len, op_len};
 use crate::instructions::{MemArg, Op, Simple};
 use crate::numbers::lengths::{number_len, signed_len};
 
-// How many bytes the memory argument of an access has.
+// Returns the encoded length of a memory argument, in bytes.
 #[inline(always)]
 fn access_len(at: MemArg) -> u64
     ensures value { result ≡ index_len at.align + index_len at.offset }
@@ -15,7 +15,8 @@ fn access_len(at: MemArg) -> u64
     number_len(u64::from(at.align)) + number_len(u64::from(at.offset))
 }
 
-// How many bytes stand behind the first byte of an instruction. It is lent: a copy would go through memory.
+// Returns how many bytes follow the first byte of an instruction. It is borrowed, since a copy would go
+// through memory.
 #[inline(always)]
 fn immediates_len(simple: &Simple) -> u64
     ensures value { result ≡ immediates_len simple.now }
@@ -41,7 +42,8 @@ fn immediates_len(simple: &Simple) -> u64
     }
 }
 
-/// How many bytes an op has. Inline, so that where it is known which op comes little is left to do.
+/// Returns the encoded length of an op in bytes, each number in its shortest encoding. Inlined, so that a
+/// call with a known op has little left to do.
 #[inline(always)]
 pub fn op_len(op: &Op) -> u64
     ensures { result ≡ op_len op.now }

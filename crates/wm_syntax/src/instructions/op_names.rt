@@ -1,4 +1,4 @@
-//! The names of instructions in the text format (section 6.5).
+//! The names of instructions in the text format (Core spec 6.5).
 
 ghost use Rattle.std.specs.Prelude.{◌≡◌, [], Option, Some, get_or, slice_index_or};
 ghost use Rattle.wm_syntax.specs.OpClasses.{IsClassOfOp, class_of, first_byte};
@@ -12,7 +12,7 @@ use crate::instructions::opcodes::op_of;
 use crate::profile::Profile;
 use std::cmp::Ordering;
 
-// The bytes that begin an instruction, an else or an end, in the order of their names.
+// The bytes that begin an instruction, an `else` or an `end`, sorted by name.
 const BY_NAME: [u8; 177] = [
     0x02, 0x0C, 0x0D, 0x0E, 0x10, 0x11, 0x1A, 0x05, 0x0B, 0x8B, 0x92, 0x8D, 0x43, 0xB2, 0xB3, 0xB4,
     0xB5, 0x98, 0xB6, 0x95, 0x5B, 0x8E, 0x60, 0x5E, 0x5F, 0x2A, 0x5D, 0x97, 0x96, 0x94, 0x5C, 0x90,
@@ -28,7 +28,7 @@ const BY_NAME: [u8; 177] = [
     0x00,
 ];
 
-/// The name of what this byte begins; empty where it begins nothing.
+/// Returns the name of the op that this byte begins, or an empty one if it begins none.
 pub fn name_of(byte: u8) -> &'static [u8]
     ensures named { (op : Op) → first_byte op ≡ Some byte → op_name op ≡ Some result.now }
     ensures exact { result.now ≡ slice_index_or names byte [] }
@@ -36,7 +36,7 @@ pub fn name_of(byte: u8) -> &'static [u8]
     name_at(byte)
 }
 
-// A row for each byte.
+// A table with one row for each byte.
 fn name_at(byte: u8) -> &'static [u8]
     ensures { result.now ≡ slice_index_or names byte [] }
 {
@@ -300,7 +300,7 @@ fn name_at(byte: u8) -> &'static [u8]
     }
 }
 
-// The byte whose name has this rank; 0 past the last.
+// The byte at this index of `BY_NAME`, or 0 past its end.
 fn byte_at(rank: usize) -> u8
     ensures { result ≡ get_or by_name rank 0 }
 {
@@ -310,12 +310,13 @@ fn byte_at(rank: usize) -> u8
     }
 }
 
-/// What this word names under the profile: an instruction, an else or an end; `Float` where it names an
-/// instruction on floats and the profile has none of these, `None` where it names nothing of the profile.
+/// Returns the class of the op with this name: an instruction, an `else` or an `end`. Returns `Float` if the
+/// name is a float instruction's and the profile has no floats. Returns `None` if the profile has no op of
+/// this name.
 #[tactic(auto, using(crate::proofs::NameSearch::search_laws))]
 pub fn op_named(profile: Profile, word: &[u8]) -> OpClass
-    // Each instruction of the profile that has this name is of this class, and the class is that
-    // of such an instruction.
+    // Each op of the profile with this name has this class. The class is that of an op of the profile with
+    // this name.
     ensures found { (op : Op) → op_name op ≡ Some word.now → IsOpOf profile op → result ≡ class_of op }
     ensures only { IsClassOfOp result → (op : Op) × (op_name op ≡ Some word.now) × IsOpOf profile op
         × (class_of op ≡ result) }

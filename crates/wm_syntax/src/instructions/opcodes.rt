@@ -1,4 +1,4 @@
-//! Which instruction a byte begins, and which byte an instruction (section 5.4).
+//! The first bytes of instructions, in both directions (Core spec 5.4).
 
 ghost use Rattle.std.specs.Prelude.{◌≡◌, ◌↔◌, IsTrue, IsFalse, slice_get};
 ghost use Rattle.wm_syntax.specs.declared.instructions.Op.{Op};
@@ -24,15 +24,16 @@ use crate::instructions::{
 };
 use crate::profile::{Feature, Profile};
 
-/// What this byte begins under the profile: an instruction, an else, an end, a floating-point instruction
-/// that the profile has not, or nothing (section 5.4).
+/// Returns the class of the op that this byte begins: an instruction, an `else` or an `end` (Core spec 5.4).
+/// Returns `Float` if it begins a float instruction and the profile has no floats. Returns `None` if it
+/// begins no op of the profile.
 pub fn op_of(profile: Profile, byte: u8) -> OpClass
-    // Each instruction of the profile that begins with the byte is of this class, and the class is that
-    // of such an instruction.
+    // Each op of the profile that begins with the byte has this class. The class is that of an op of the
+    // profile that begins with it.
     ensures found { (op : Op) → first_byte op ≡ Some byte → IsOpOf profile op → result ≡ class_of op }
     ensures only { IsClassOfOp result → (op : Op) × (first_byte op ≡ Some byte) × IsOpOf profile op
         × (class_of op ≡ result) }
-    // Float says that the profile has no floats, and that the byte begins an instruction on them.
+    // `Float` means that the profile has no floats, and that the byte begins a float instruction.
     ensures float { IsFalse (has profile Floats) → (result ≡ OpClass.Float) ↔ IsTrue (is_float byte) }
     ensures floats { IsTrue (has profile Floats) → result ≡ OpClass.Float → ⊥ }
     ensures exact { result ≡ class_under profile byte }
@@ -50,7 +51,7 @@ fn within(profile: Profile, class: OpClass) -> OpClass
     class
 }
 
-// What is answered for the ops of a feature that the profile has not.
+// The answer for the ops of a feature that the profile does not have.
 fn without(feature: Feature) -> OpClass
     ensures { result ≡ left_out feature }
 {
@@ -60,7 +61,7 @@ fn without(feature: Feature) -> OpClass
     }
 }
 
-// What the ops of a class belong to.
+// The feature of the ops of a class.
 fn feature_of_class(class: OpClass) -> Feature
     ensures { result ≡ class_feature class }
 {
@@ -76,7 +77,7 @@ fn feature_of_class(class: OpClass) -> Feature
     }
 }
 
-// What an instruction belongs to.
+// The feature of an instruction.
 fn feature_of_simple(simple: Simple) -> Feature
     ensures { result ≡ feature_of simple }
 {
@@ -95,7 +96,7 @@ fn feature_of_simple(simple: Simple) -> Feature
     }
 }
 
-// What each byte begins, from 00 to FF, under the profile that has all features.
+// The class of each byte, from 00 to FF, under a profile that has all features.
 static CLASSES: [OpClass; 256] = [
     // 0x00
     Plain(Op::Simple(Simple::Unreachable)),
@@ -371,7 +372,7 @@ static CLASSES: [OpClass; 256] = [
     OpClass::None,
 ];
 
-// What this byte begins under the profile that has all features.
+// The class of the byte under a profile that has all features.
 fn class_at(byte: u8) -> OpClass
     ensures { slice_get classes byte ≡ Some result }
 {

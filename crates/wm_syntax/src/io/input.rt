@@ -1,4 +1,4 @@
-//! A reader of std as a source.
+//! A `std` reader as a source.
 
 ghost use Rattle.std.specs.Prelude.{◌≡◌, false};
 
@@ -6,7 +6,7 @@ use super::Source;
 use std::io;
 use std::io::Read;
 
-/// A `Read` of std as a source. Its `Interrupted` is an error as any other.
+/// A `std` reader as a source. `Interrupted` counts as an error like any other.
 #[derive(Debug, Drop)]
 pub struct Input<R> {
     inner: R,
@@ -16,6 +16,7 @@ pub struct Input<R> {
 impl<R: Read> Input<R> {
     ghost use Rattle.wm_syntax.specs.inner.Streams.{input_failed, input_inner};
 
+    /// Wraps a reader.
     pub fn new(inner: R) -> Self
         ensures inner { input_inner result ≡ inner }
         ensures open { input_failed result ≡ false }
@@ -26,6 +27,7 @@ impl<R: Read> Input<R> {
         }
     }
 
+    /// Returns the wrapped reader.
     pub fn into_inner(self) -> R
         ensures { result ≡ input_inner self }
     {

@@ -1,4 +1,4 @@
-//! A writer of std as a destination.
+//! A `std` writer as a destination.
 
 ghost use Rattle.std.specs.Prelude.{◌≡◌, ◌<◌, ◌||◌, false, is_err, length, IfOk};
 ghost use Rattle.std.specs.Io.{WritesAtMost};
@@ -8,7 +8,7 @@ use super::Dest;
 use std::io;
 use std::io::{ErrorKind, Write};
 
-/// A `Write` of std as a destination. A write that takes nothing of at least one byte is an error.
+/// A `std` writer as a destination. A write of at least one byte that takes none is an error.
 #[derive(Debug, Drop)]
 pub struct Output<W> {
     inner: W,
@@ -20,6 +20,7 @@ pub struct Output<W> {
 impl<W: Write> Output<W> {
     ghost use Rattle.wm_syntax.specs.inner.Streams.{output_failed, output_inner};
 
+    /// Wraps a writer.
     pub fn new(inner: W) -> Self
         ensures inner { output_inner result ≡ inner }
         ensures open { output_failed result ≡ false }
@@ -31,6 +32,7 @@ impl<W: Write> Output<W> {
         }
     }
 
+    /// Returns the wrapped writer.
     pub fn into_inner(self) -> W
         ensures { result ≡ output_inner self }
     {
@@ -50,7 +52,7 @@ impl<W: Write> Dest for Output<W> {
 
     ghost is_flushed = { λ s. s.flushed };
 
-    // As any destination, and what is put is not handed on before a flush.
+    // The contract of `Dest::put`, and that the bytes are not passed on before a flush.
     fn put(&mut self, buf: &[u8]) -> io::Result<usize>
         ensures bound { WritesAtMost result buf.now }
         ensures some { IfOk result (λ n. 0 < length buf.now → 0 < n) }

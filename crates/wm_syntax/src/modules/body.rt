@@ -1,4 +1,4 @@
-//! Bodies, as their ops.
+//! Function bodies, held as their ops.
 
 ghost use Rattle.std.specs.Prelude.{◌≡◌, ◌-◌, ◌^◌, min};
 ghost use Rattle.wm_syntax.specs.Instructions.{ops_of};
@@ -31,7 +31,7 @@ impl Model for Body {
 }
 
 impl Body {
-    // The body with these ops.
+    // Makes the body with these ops.
     pub(crate) fn from_ops(ops: SizedOps) -> Self
         requires { ops ≡ ops_of (tree_of ops) }
         ensures { result ≡ tree_of ops }
@@ -39,15 +39,15 @@ impl Body {
         Body { ops }
     }
 
-    /// Its ops, without the end that closes it.
+    /// Borrows the ops of the body, without the `end` that closes it.
     pub fn ops(&self) -> &[Op]
         ensures { result.now ≡ ops_of self.now }
     {
         self.ops.as_slice()
     }
 
-    /// How many bytes its ops have (section 5.4), where each number has the fewest; 2^64 - 1 where there are
-    /// more. It was counted while the body was built.
+    /// Returns the encoded length of the ops in bytes, each number in its shortest encoding (Core spec 5.4).
+    /// It saturates at 2^64 - 1. It was counted while the body was built.
     pub fn encoded_len(&self) -> u64
         ensures { result ≡ min (ops_len (ops_of self.now)) (2 ^ 64 - 1) }
     {

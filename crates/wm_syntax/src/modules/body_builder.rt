@@ -1,4 +1,4 @@
-//! Bodies, built op by op.
+//! A builder of function bodies, which takes one op at a time.
 
 ghost use Rattle.std.specs.Prelude.{◌≡◌, ◌≢◌, ◌+◌, ◌++◌, ◌∷◌, [], None, Some, Ok, Err, IfErr, IfOk};
 ghost use Rattle.std.specs.Prelude.{List, MatchResult, OnErr, OnOk, false, true};
@@ -31,9 +31,9 @@ enum Opened {
 /// Why an op, or the end of a body, is not taken.
 #[derive(Clone, Copy, PartialEq, Eq, Debug)]
 pub enum BodyFault {
-    /// No body has ops that begin so, or, at the end, these ops.
+    /// No body has ops that begin so or, at the end, exactly these ops.
     Unbalanced,
-    /// A growth was refused.
+    /// Memory was refused.
     Memory,
 }
 
@@ -48,7 +48,7 @@ impl fmt::Display for BodyFault {
 
 impl Error for BodyFault {}
 
-// Whether an op may stand in a list of instructions.
+// Whether an op is allowed in the innermost open list.
 fn fits_list(begun: &[Opened], op: Op) -> bool
     ensures { result ≡ fits_list begun.now op }
 {
@@ -60,7 +60,7 @@ fn fits_list(begun: &[Opened], op: Op) -> bool
     }
 }
 
-// Whether an op may stand where so many labels are still to come.
+// Whether an op is allowed while `left` labels of a br_table are still to come.
 fn fits(begun: &[Opened], left: u64, op: Op) -> bool
     ensures { result ≡ fits begun.now left op }
 {
@@ -92,7 +92,7 @@ fn push(ops: &mut SizedOps, op: Op, len: u64) -> Result<(), BodyFault>
     }
 }
 
-// An end takes the place of an else right before it.
+// Appends an `end`, which replaces an `else` directly before it.
 fn push_end(ops: &mut SizedOps) -> Result<(), BodyFault>
     ensures ok { OnOk result (ops.new ≡ next_ops Op.End ops.old) }
     ensures err { IfErr result (λ fault. (fault ≡ BodyFault.Memory) × (ops.new ≡ ops.old)) }
@@ -105,7 +105,7 @@ fn push_end(ops: &mut SizedOps) -> Result<(), BodyFault>
     }
 }
 
-// An op that opens a list.
+// Appends an op that opens a list.
 fn push_open(
     ops: &mut SizedOps,
     begun: &mut Vec<Opened>,
@@ -121,7 +121,7 @@ fn push_open(
     if begun.push(opened).is_err() {
         return Err(BodyFault::Memory);
     }
-    // its own byte, and that of its type
+    // its own byte, and its block type's
     match push(ops, op, 2) {
         Ok(()) => Ok(()),
         Err(fault) => {
@@ -131,8 +131,8 @@ fn push_open(
     }
 }
 
-// Takes an op where it may stand. Most ops are instructions that hold no list, outside of a br_table: they go
-// a short way, inline, so that at each call it is known which op comes.
+// Takes an op if it is allowed. Most ops are instructions without a list, outside of a br_table. They take a
+// fast path inline, where the kind of the op is known at each call.
 #[inline(always)]
 fn push_op(
     ops: &mut SizedOps,
@@ -153,8 +153,8 @@ fn push_op(
     }
 }
 
-// An instruction that holds no list, outside of a br_table, where there is room for it. The op is lent: a
-// copy would go through memory.
+// The fast path for an instruction without a list, outside of a br_table, if there is room. The op is
+// borrowed, since a copy would go through memory.
 #[inline(always)]
 fn push_near(ops: &mut SizedOps, left: u64, op: &Op) -> bool
     ensures ops { result ≡ true → ops.new ≡ next_ops op.now ops.old }
@@ -169,7 +169,7 @@ fn push_near(ops: &mut SizedOps, left: u64, op: &Op) -> bool
     }
 }
 
-// The same, out of line: for any op.
+// The slow path for any op, out of line.
 #[inline(never)]
 fn push_any(
     ops: &mut SizedOps,
@@ -215,8 +215,8 @@ fn push_any(
     }
 }
 
-// Takes all ops out, where no list is open; what they took of memory may serve for the next ones. Out of
-// line, so that a caller is told in place where lists are open.
+// Takes all ops out when no list is open. Their memory may be reused for the next ones. Out of line, so that
+// only the check for open lists is inline.
 #[inline(never)]
 fn take_all(ops: &mut SizedOps, begun: &mut Vec<Opened>, alloc: Global) -> SizedOps
     requires { begun.old.items ≡ [] }
@@ -230,14 +230,14 @@ fn take_all(ops: &mut SizedOps, begun: &mut Vec<Opened>, alloc: Global) -> Sized
     ops.take(alloc)
 }
 
-/// Builds a body op by op. Contracts see where the ops so far stand; the laws `ops_lead_to_their_body` and
-/// `ops_lead_on` say which ops lead where.
+/// Builds a body from its ops, one at a time. Contracts see the builder's state. The laws
+/// `ops_lead_to_their_body` and `ops_lead_on` say which ops lead to which state.
 #[derive(Debug, Drop)]
 pub struct BodyBuilder {
     ops: SizedOps,
-    // how the lists that are open were opened
+    // how the open lists were opened, the outermost first
     begun: Vec<Opened>,
-    // how many labels of a br_table are still to come
+    // how many labels of a br_table are still to come, the default included
     left: u64,
 }
 
@@ -256,7 +256,7 @@ impl Model for BodyBuilder {
 }
 
 impl BodyBuilder {
-    /// No ops yet.
+    /// Returns a builder without ops.
     pub fn new(alloc: Global) -> Self
         ensures { result ≡ start }
     {
@@ -267,7 +267,7 @@ impl BodyBuilder {
         }
     }
 
-    /// Takes all ops away; what they took of memory is kept.
+    /// Removes all ops, but keeps their memory.
     pub fn clear(&mut self)
         ensures { self.new ≡ start }
     {
@@ -276,7 +276,8 @@ impl BodyBuilder {
         self.left = 0;
     }
 
-    /// Takes one op more. A refusal changes nothing.
+    /// Takes one more op. Fails with `Unbalanced` if no body has ops that begin so, and with `Memory` if
+    /// memory is refused. An error changes nothing.
     #[inline(always)]
     pub fn push(&mut self, op: Op) -> Result<(), BodyFault>
         ensures ok { OnOk result (placed self.old op ≡ Some self.new) }
@@ -287,8 +288,8 @@ impl BodyBuilder {
         push_op(&mut self.ops, &mut self.begun, &mut self.left, op)
     }
 
-    /// The same of an instruction that holds no list, lent, where no label of a br_table is to come and no
-    /// memory has to be asked for. Else it is false, and nothing changes.
+    /// Takes a borrowed instruction if it contains no list, no label of a br_table is due, and no memory is
+    /// needed. Otherwise returns false and changes nothing.
     #[inline(always)]
     pub fn push_near(&mut self, op: &Op) -> bool
         ensures taken { result ≡ true → placed self.old op.now ≡ Some self.new }
@@ -297,7 +298,7 @@ impl BodyBuilder {
         push_near(&mut self.ops, self.left, op)
     }
 
-    /// The body, where all that was opened has ended.
+    /// Returns the body. Fails with `Unbalanced` if a list is still open or a label is still due.
     pub fn finish(self) -> Result<Body, BodyFault>
         ensures ok { IfOk result (λ body. self ≡ at [] body) }
         ensures err { IfErr result (λ fault. (fault ≡ BodyFault.Unbalanced)
@@ -311,8 +312,8 @@ impl BodyBuilder {
         Ok(Body::from_ops(ops))
     }
 
-    /// The same, and from then on there are no ops; what they took of memory may serve for the next body.
-    /// Where lists are open or labels are to come nothing changes.
+    /// Returns the body, and leaves the builder without ops. Their memory may be reused for the next body.
+    /// Fails with `Unbalanced` and changes nothing if a list is still open or a label is still due.
     #[inline(always)]
     pub fn take_body(&mut self, alloc: Global) -> Result<Body, BodyFault>
         ensures ok { IfOk result (λ body. (self.old ≡ at [] body) × (self.new ≡ start)) }

@@ -1,5 +1,5 @@
-//! `==` on modules and on what they are made of (section 2.5): whether two are one value. What memory they
-//! hold, and in how many runs their locals were given, makes no difference.
+//! Equality of modules and of their parts (Core spec 2.5): `==` holds if both are one value. Neither the
+//! memory that they hold nor the runs in which their locals were given make a difference.
 
 ghost use Rattle.std.specs.Prelude.{◌≡◌, ◌↔◌, true};
 ghost use Rattle.wm_syntax.specs.Values.{value_of};
@@ -13,14 +13,14 @@ use crate::modules::{
 };
 use crate::types::{Const, FuncType, GlobalType, Limits, ValType};
 
-/// What is the same where its value is.
+/// A type whose values can be compared.
 pub trait Same {
-    /// Whether the two are the same value.
+    /// Whether both are the same value.
     fn same(&self, other: &Self) -> bool
         ensures { (result ≡ true) ↔ (self.now ≡ other.now) };
 }
 
-/// Whether two lists have the same values in the same order.
+/// Whether both lists have the same values in the same order.
 pub fn same_list<T: Same>(a: &[T], b: &[T]) -> bool
     ensures { (result ≡ true) ↔ (a.now ≡ b.now) }
 {
@@ -93,7 +93,7 @@ impl Same for Run {
     }
 }
 
-// Instructions, kind by kind: no test of all of them at once is proved.
+// Compares ops kind by kind, since no comparison of all kinds at once is proved.
 impl Same for Op {
     fn same(&self, other: &Op) -> bool {
         same_op(*self, *other)
@@ -428,7 +428,7 @@ impl PartialEq for Segment {
 }
 
 impl Module {
-    // Whether the two modules are one value (section 2.5): what memory they hold makes no difference.
+    // Whether both modules are one value (Core spec 2.5). The memory that they hold makes no difference.
     fn same(&self, other: &Module) -> bool
         ensures { (result ≡ true) ↔ (value_of self.now ≡ value_of other.now) }
     {
@@ -457,7 +457,7 @@ impl PartialEq for Module {
     }
 }
 
-/// `==` holds of two modules exactly where they are one value (section 2.5).
+/// `==` holds for two modules if and only if they are one value (Core spec 2.5).
 pub fn equal_modules_are_one_value()
     ensures { (m n : Module) → (⟦<Module as PartialEq>⟧.eq m n ≡ true) ↔ (value_of m ≡ value_of n) }
 {}

@@ -11,14 +11,14 @@ use crate::why::Why;
 use std::alloc::Global;
 use std::marker::Model;
 
-/// The types of a function's locals (section 5.5.13). However many there are, it holds an entry for
-/// each maximal run of one type. Contracts see the list of types.
+/// The types of a function's locals (Core spec 5.5.13). It holds one entry for each maximal run of one type,
+/// however many locals there are. Contracts see the list of types.
 #[derive(Debug, Drop)]
 pub struct Locals {
     runs: Vec<Run>,
 }
 
-/// Locals of one type, up to the one with index `end`, which no longer belongs to them.
+/// A run of locals of one type. The local with index `end` is the first one after it.
 #[derive(Clone, Copy, Debug, PartialEq, Eq)]
 pub struct Run {
     pub end: u32,
@@ -38,7 +38,7 @@ impl Model for Locals {
 }
 
 impl Locals {
-    /// No locals.
+    /// Returns an empty list of locals.
     pub fn new(alloc: Global) -> Self
         ensures { result ≡ [] }
     {
@@ -47,21 +47,21 @@ impl Locals {
         }
     }
 
-    /// Forgets the locals; what was taken of memory stays taken.
+    /// Removes all locals, but keeps their memory.
     pub fn clear(&mut self)
         ensures { self.new ≡ [] }
     {
         self.runs.clear();
     }
 
-    /// How many locals there are.
+    /// Returns how many locals there are.
     pub fn len(&self) -> u32
         ensures { result ≡ length self.now }
     {
         last_end_of(&self.runs)
     }
 
-    /// How many maximal runs of one type the locals are.
+    /// Returns how many maximal runs of one type there are.
     pub fn runs(&self) -> usize
         ensures count { result ≡ run_count self.now }
         ensures of { result ≡ length (runs_of self.now) }
@@ -69,7 +69,7 @@ impl Locals {
         self.runs.len()
     }
 
-    /// The maximal run with this index: how many locals, and of which type.
+    /// Returns the length and the type of the maximal run with this index, or `None` if there is no such run.
     pub fn run(&self, index: usize) -> Option<(u32, ValType)>
         ensures { result ≡ slice_get (runs_of self.now) index }
     {
@@ -79,7 +79,7 @@ impl Locals {
         }
     }
 
-    /// The maximal runs, each by its end, for a search by halving.
+    /// Borrows the maximal runs, each with its end, for a binary search.
     pub fn as_runs(&self) -> &[Run]
         ensures types { types_in 0 result.now ≡ self.now }
         ensures runs { AreRuns None 0 result.now }
@@ -87,9 +87,8 @@ impl Locals {
         &self.runs
     }
 
-    /// Adds `count` locals of one type. It is refused (`TooManyLocals`) where there would be 2^32 or
-    /// more, and by `Memory` only where the type differs from that of the last local. A refusal
-    /// changes nothing.
+    /// Adds `count` locals of one type. Fails with `TooManyLocals` if there would be 2^32 or more. Fails with
+    /// `Memory` only if there would be one more maximal run. An error changes nothing.
     pub fn add(&mut self, count: u32, ty: ValType) -> Result<(), Why>
         ensures ok { OnOk result (self.new ≡ self.old ++ replicate count ty) }
         ensures err { OnErr result (self.new ≡ self.old) }
@@ -109,7 +108,7 @@ impl Locals {
         self.append(total, ty)
     }
 
-    // Adds locals of one type, so that there are `end`.
+    // Adds locals of one type until there are `end`.
     fn append(&mut self, end: u32, ty: ValType) -> Result<(), Why>
         requires { length self.old < end }
         ensures ok { OnOk result (self.new ≡ self.old ++ replicate (end - length self.old) ty) }
@@ -129,7 +128,7 @@ impl Locals {
     }
 }
 
-// How many locals stand before a run.
+// The number of locals before a run.
 fn start_of(runs: &[Run], index: usize) -> u32
     requires { index < length runs.now }
     ensures { result ≡ start_at 0 runs.now index }
@@ -137,7 +136,7 @@ fn start_of(runs: &[Run], index: usize) -> u32
     if index == 0 { 0 } else { runs[index - 1].end }
 }
 
-// The end of the last run.
+// The end of the last run, or 0 if there is no run.
 fn last_end_of(runs: &[Run]) -> u32
     ensures { result ≡ last_end 0 runs.now }
 {

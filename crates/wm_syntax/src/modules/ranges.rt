@@ -1,5 +1,6 @@
-//! What each value of a module's types is: numbers of 32 bits, constants in their ranges, bytes, names
-//! (sections 2.2, 2.5). The types hold it, and to read each value once is what shows it of a whole module.
+//! Every value in a module is in the range of its type: 32-bit numbers, constants, bytes and names
+//! (Core spec 2.2, 2.5). The Rust types ensure it, and reading each value once proves it for the whole
+//! module.
 
 ghost use Rattle.std.specs.List.{AllByRecursion};
 ghost use Rattle.std.specs.Prelude.{◌<◌, IsUtf8};
@@ -13,11 +14,11 @@ use crate::modules::body::Body;
 use crate::modules::{Element, Export, Function, GlobalDef, Import, ImportDesc, Module, Segment};
 use crate::types::{Const, Limits};
 
-// A value of which its type says something.
+// A value whose type restricts its range.
 trait Ranged {
     ghost holds: { Self → Type 0 };
 
-    // Reads the value, and shows what its type says of it.
+    // Reads the value, which proves that it is in the range of its type.
     fn read(&self)
         ensures { holds self.now };
 }
@@ -191,7 +192,7 @@ impl Ranged for Function {
 }
 
 impl Module {
-    /// Reads each value of the module. What its types say of them holds: each is a value of section 2.5.
+    /// Reads each value of the module, which proves that each is in its range (Core spec 2.5).
     pub fn in_range(&self)
         ensures { IsModule (value_of self.now) }
     {

@@ -1,4 +1,5 @@
-//! Ops that are held with their length (section 5.4), so that it need not be counted before they are written.
+//! Ops held with their encoded length (Core spec 5.4), so that it need not be counted before they are
+//! written.
 
 ghost use Rattle.std.specs.Prelude.{◌≡◌, ◌++◌, ◌∷◌, ◌-◌, ◌^◌, [], Some, OnErr, OnOk, false, min, true};
 ghost use Rattle.wm_syntax.specs.Lengths.{op_len, ops_len};
@@ -10,14 +11,14 @@ use std::alloc::{AllocError, Global};
 use std::marker::Model;
 use std::{fmt, mem};
 
-// A list that is full gets room for so many ops more, or for twice as many as it has: most bodies then grow
-// two or three times.
+// A full list gets room for this many ops more, or for twice as many as it has. Most bodies then grow two or
+// three times.
 const FEW: usize = 64;
 
-/// A list that has room for at most so many ops stays when these are taken, and serves for the next ones.
+/// A list with room for at most this many ops is kept when they are taken, and reused for the next ones.
 pub(crate) const MOST_KEPT: usize = 1024;
 
-/// Ops, and how many bytes they have; 2^64 - 1 where there are more.
+/// Ops, and their encoded length in bytes, which saturates at 2^64 - 1.
 #[derive(Drop)]
 pub(crate) struct SizedOps {
     ops: Vec<Op>,
@@ -39,7 +40,7 @@ impl Model for SizedOps {
     ghost invariant = { λ o. o.len ≡ min (ops_len o.ops.items) (2 ^ 64 - 1) };
 }
 
-// The length is told by the ops.
+// Leaves out the length, which the ops determine.
 impl fmt::Debug for SizedOps {
     fn fmt<W: fmt::Write>(&self, f: &mut fmt::Formatter<W>) -> fmt::Result {
         fmt::Debug::fmt(&self.ops, f)
@@ -47,7 +48,7 @@ impl fmt::Debug for SizedOps {
 }
 
 impl SizedOps {
-    /// No ops yet.
+    /// Returns a list without ops.
     pub(crate) fn new(alloc: Global) -> Self
         ensures { result ≡ [] }
     {
@@ -63,21 +64,21 @@ impl SizedOps {
         &self.ops
     }
 
-    /// How many bytes they have; 2^64 - 1 where there are more.
+    /// Returns the encoded length of the ops in bytes, which saturates at 2^64 - 1.
     pub(crate) fn len(&self) -> u64
         ensures { result ≡ min (ops_len self.now) (2 ^ 64 - 1) }
     {
         self.len
     }
 
-    /// Adds an op, which has so many bytes.
+    /// Appends an op with this encoded length.
     #[inline(always)]
     pub(crate) fn push(&mut self, op: Op, len: u64) -> Result<(), AllocError>
         requires { len ≡ op_len op }
         ensures ok { OnOk result (self.new ≡ self.old ++ op ∷ []) }
         ensures err { OnErr result (self.new ≡ self.old) }
     {
-        // in two steps, so that no refused op comes back through memory
+        // in two steps, so that no refused op is returned through memory
         if self.ops.len() >= self.ops.capacity() {
             self.ops.reserve(FEW)?;
         }
@@ -86,7 +87,7 @@ impl SizedOps {
         Ok(())
     }
 
-    /// The same of an op that is lent, where there is room for it. Else it is false, and nothing changes.
+    /// Appends a borrowed op if there is room. Otherwise returns false and changes nothing.
     #[inline(always)]
     pub(crate) fn push_near(&mut self, op: &Op, len: u64) -> bool
         requires { len ≡ op_len op.now }
@@ -101,7 +102,7 @@ impl SizedOps {
         true
     }
 
-    /// An end takes the place of an else, which is the last op and has as many bytes.
+    /// Replaces the last op, an `else`, by an `end`. Both have one byte.
     pub(crate) fn end_else(&mut self)
         requires { last_of self.old ≡ Some Else }
         ensures { self.new ≡ last_set End self.old }
@@ -110,9 +111,8 @@ impl SizedOps {
         self.ops[last] = Op::End;
     }
 
-    /// Takes all ops out. From a short list they are copied once into memory that they fill, and the list
-    /// stays. A longer one, even where few ops stand in it, is taken itself, and so is one where that memory
-    /// is refused.
+    /// Takes all ops out. Ops of a list with a small capacity are copied once into memory of their exact
+    /// size, and the list is kept. Otherwise, or if that memory is refused, the list itself is taken.
     pub(crate) fn take(&mut self, alloc: Global) -> Self
         ensures taken { result ≡ self.old }
         ensures left { self.new ≡ [] }
@@ -129,7 +129,7 @@ impl SizedOps {
         all
     }
 
-    /// Takes all ops away; what they took of memory is kept.
+    /// Removes all ops, but keeps their memory.
     pub(crate) fn clear(&mut self)
         ensures { self.new ≡ [] }
     {
@@ -137,7 +137,7 @@ impl SizedOps {
         self.len = 0;
     }
 
-    /// Gives back memory that no op fills.
+    /// Releases memory that no op fills.
     pub(crate) fn shrink_to_fit(&mut self)
         ensures { self.new ≡ self.old }
     {

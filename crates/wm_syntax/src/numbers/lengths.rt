@@ -1,9 +1,10 @@
-//! How many bytes numbers have as LEB128 (section 5.2.2), in the fewest, without spelling them.
+//! The length of a number's shortest LEB128 encoding, found without encoding it (Core spec 5.2.2).
 
 ghost use Rattle.std.specs.Prelude.{◌≡◌, ◌≤◌, ◌<◌, length, pos};
 ghost use Rattle.wm_syntax.specs.Leb128.{signed_bytes, unsigned_bytes};
 
-/// How many bytes a number has, spelled in at most five. Most numbers have one.
+/// Returns the length of the shortest encoding of a number, in at most five bytes. Most numbers have one
+/// byte.
 #[inline(always)]
 pub fn number_len(value: u64) -> u64
     ensures value { result ≡ length (unsigned_bytes 5 value) }
@@ -16,7 +17,7 @@ pub fn number_len(value: u64) -> u64
     }
 }
 
-// The same of a number that does not have one byte, out of line.
+// Out of line: the length for a number of more than one byte.
 #[inline(never)]
 fn long_number_len(value: u64) -> u64
     requires { 128 ≤ value }
@@ -31,7 +32,8 @@ fn long_number_len(value: u64) -> u64
     }
 }
 
-/// How many bytes a signed number has, spelled in at most so many. Most numbers have one.
+/// Returns the length of the shortest encoding of a signed number, in at most `most` bytes. Most numbers have
+/// one byte.
 #[inline(always)]
 pub fn signed_len(value: i64, most: u64) -> u64
     requires some { 0 < most }
@@ -46,7 +48,7 @@ pub fn signed_len(value: i64, most: u64) -> u64
     }
 }
 
-// The same, out of line: of any number.
+// Out of line: the length for any number.
 #[inline(never)]
 #[tactic(auto, using(crate::proofs::Lengths::negative_len))]
 fn long_signed_len(value: i64, most: u64) -> u64
@@ -62,7 +64,8 @@ fn long_signed_len(value: i64, most: u64) -> u64
     }
 }
 
-// How many bytes a number that is not negative has, spelled as a signed one in at most so many.
+// Returns the length of the shortest encoding of a number that is not negative, as a signed one in at most
+// `most` bytes.
 fn positive_len(value: u64, most: u64) -> u64
     requires { most ≤ 10 }
     ensures value { result ≡ length (signed_bytes most (pos value)) }
