@@ -1,2 +1,3 @@
--- Exact answers of functions. They follow the code for the layers above, and need not be believed.
+-- Exact answers of functions. They follow the code, and the layers above use them. A reader need not believe
+-- them.
 pub mod Atoms

@@ -1,4 +1,4 @@
-//! Atoms that are floats (section 6.3.2).
+//! Atoms that denote floats (Core spec 6.3.2).
 
 ghost use Rattle.std.specs.Prelude.{◌≡◌, None, Some, IfOk, MatchOption};
 ghost use Rattle.std.specs.Option.{option_map};
@@ -12,10 +12,10 @@ use crate::widths::{canonical_nan, fraction_bits, infinity_bits, sign_bit};
 use std::alloc::{AllocError, Global};
 use wm_syntax::instructions::FloatType;
 
-// How many hexadecimal digits may stand before a point, and behind it: 2^49, which no memory holds.
+// The most hexadecimal digits before a point, and after it: 2^49, more than any memory holds.
 const MOST: usize = 0x2_0000_0000_0000;
 
-/// What follows a word.
+/// The text after this prefix, or `None` if the text does not begin with it.
 fn behind<'a>(word: &[u8], text: &'a [u8]) -> Option<&'a [u8]>
     ensures { MatchOption result (atoms.behind word.now text.now ≡ None)
         (λ r. atoms.behind word.now text.now ≡ Some r.now) }
@@ -23,7 +23,7 @@ fn behind<'a>(word: &[u8], text: &'a [u8]) -> Option<&'a [u8]>
     text.strip_prefix(word)
 }
 
-/// Whether a text is just this word.
+/// Whether the text is exactly this word.
 fn is_just(word: &[u8], text: &[u8]) -> bool
     ensures { result ≡ atoms.is_just word.now text.now }
 {
@@ -36,7 +36,7 @@ fn is_just(word: &[u8], text: &[u8]) -> bool
     }
 }
 
-/// The bits of a NaN with this payload. None where it is out of range, or is not digits.
+/// The bits of a NaN with this payload. `None` if it is out of range or not in digits.
 #[tactic(auto, using(crate::proofs::Held::payload_laws))]
 fn nan_bits(width: FloatType, digits: &[u8]) -> Option<u64>
     ensures { result ≡ atoms.nan_bits width digits.now }
@@ -47,7 +47,7 @@ fn nan_bits(width: FloatType, digits: &[u8]) -> Option<u64>
     payload_bits(width, held(16, digits))
 }
 
-/// The same of a number.
+/// The bits of a NaN with this payload, or `None` if it is out of range.
 fn payload_bits(width: FloatType, payload: u64) -> Option<u64>
     ensures { result ≡ atoms.payload_bits width payload }
 {
@@ -61,7 +61,7 @@ fn payload_bits(width: FloatType, payload: u64) -> Option<u64>
     }
 }
 
-/// The bits of a hexadecimal number, from behind its 0x.
+/// The bits of a hexadecimal number, given the text after its 0x.
 #[tactic(auto, using(crate::proofs::NumeralParts::numeral_laws))]
 fn hexadecimal(width: FloatType, digits: &[u8]) -> Result<Option<u64>, AllocError>
     ensures { IfOk result (λ o. o ≡ atoms.hexadecimal_of width digits.now) }
@@ -88,7 +88,7 @@ fn decimal(alloc: Global, width: FloatType, text: &[u8]) -> Result<Option<u64>, 
     }
 }
 
-/// The bits of a number with no sign.
+/// The bits of a number without a sign.
 fn number(alloc: Global, width: FloatType, text: &[u8]) -> Result<Option<u64>, AllocError>
     ensures { IfOk result (λ o. o ≡ atoms.number_bits width text.now) }
 {
@@ -98,7 +98,7 @@ fn number(alloc: Global, width: FloatType, text: &[u8]) -> Result<Option<u64>, A
     }
 }
 
-/// The bits of a float with no sign.
+/// The bits of a float without a sign.
 fn magnitude(alloc: Global, width: FloatType, text: &[u8]) -> Result<Option<u64>, AllocError>
     ensures { IfOk result (λ o. o ≡ atoms.magnitude_of width text.now) }
 {
@@ -114,7 +114,7 @@ fn magnitude(alloc: Global, width: FloatType, text: &[u8]) -> Result<Option<u64>
     }
 }
 
-/// The bits of a float behind a minus.
+/// The bits of a float, given the text after its minus.
 #[tactic(auto, using(crate::proofs::Ranges::range_laws))]
 fn negative(alloc: Global, width: FloatType, text: &[u8]) -> Result<Option<u64>, AllocError>
     ensures { IfOk result (λ o. o ≡ option_map (atoms.below_zero width)
@@ -126,9 +126,9 @@ fn negative(alloc: Global, width: FloatType, text: &[u8]) -> Result<Option<u64>,
     }
 }
 
-/// The bits of the float that an atom writes. None where it writes none of this width; that is also a number
-/// nearest to an infinity. Memory may run out where digits are copied without their underscores, or where a
-/// hexadecimal number has more digits than memory could hold.
+/// Returns the bits of the float that an atom denotes (Core spec 6.3.2). Returns `None` if it denotes none of
+/// this width, which includes a number nearest to an infinity. Fails if memory is refused for a copy of the
+/// digits, or if a hexadecimal number has more digits than memory could hold.
 #[tactic(auto, unfolding(crate::specs::exact::Atoms::float_of))]
 pub fn float_of(alloc: Global, width: FloatType, atom: &[u8]) -> Result<Option<u64>, AllocError>
     ensures { IfOk result (λ o. o ≡ atoms.float_of width atom.now) }
@@ -143,7 +143,7 @@ pub fn float_of(alloc: Global, width: FloatType, atom: &[u8]) -> Result<Option<u
     }
 }
 
-/// Whether an atom is a number with no sign, of which an integer is one.
+/// Whether an atom is a number without a sign. An integer is one.
 fn is_number(text: &[u8]) -> bool
     ensures { result ≡ atoms.is_number text.now }
 {
@@ -153,7 +153,7 @@ fn is_number(text: &[u8]) -> bool
     }
 }
 
-/// Whether an atom has the form of a float with no sign, whatever its width. An integer has it.
+/// Whether an atom has the form of a float without a sign, at any width (Core spec 6.3.2). An integer has it.
 #[tactic(auto, unfolding(crate::specs::exact::Atoms::has_form))]
 pub fn has_form(text: &[u8]) -> bool
     ensures { result ≡ atoms.has_form text.now }

@@ -1,4 +1,4 @@
-//! The float nearest to a number of binary digits (section 4.3.3).
+//! The float nearest to a number in binary digits (Core spec 4.3.3).
 
 ghost use Rattle.std.specs.Prelude.{◌≡◌, ℕ, ◌+◌, ◌-◌, ◌*◌, ◌/◌, ◌%◌, ◌^◌, ◌<◌, ◌≤◌, true, min};
 ghost use Rattle.std.specs.Prelude.{MatchOption, if◌then◌else◌};
@@ -12,8 +12,8 @@ use crate::widths::{fraction_bits, infinity_bits, lowest};
 use std::cmp::Ordering;
 use wm_syntax::instructions::FloatType;
 
-// The digits but for the lowest ones, and how the others stand to half of what the last digit that is kept
-// counts.
+// Drops the lowest `dropped` digits. Returns the other digits, and how the dropped part compares to half a
+// unit of the last digit kept.
 fn cut(digits: u64, dropped: u64) -> (u64, Ordering)
     requires { 0 < dropped }
     ensures kept { result.0 ≡ digits / 2 ^ dropped }
@@ -32,7 +32,7 @@ fn cut(digits: u64, dropped: u64) -> (u64, Ordering)
     (kept as u64, (2 * rest).cmp(&unit))
 }
 
-// The significand, rounded.
+// Rounds the significand. A tie goes to the even one, unless `more` digits follow.
 fn rounded(kept: u64, side: Ordering, more: bool) -> u64
     requires { kept < 2 ^ 53 }
     ensures near { result ≤ kept + 1 }
@@ -47,7 +47,7 @@ fn rounded(kept: u64, side: Ordering, more: bool) -> u64
     }
 }
 
-// The bits of significand * 2 ^ exponent units, or those of infinity.
+// The exponent's field plus the significand, or the bits of infinity if that is more.
 fn scaled(width: FloatType, significand: u64, exponent: u64) -> u64
     requires { significand ≤ 2 ^ 53 }
     ensures { result ≡ min (exponent * 2 ^ signif width + significand) (infinity width) }
@@ -58,7 +58,7 @@ fn scaled(width: FloatType, significand: u64, exponent: u64) -> u64
     ((exponent << fraction_bits(width)) + significand).min(infinity_bits(width))
 }
 
-// The digits with zeros after them.
+// Appends zeros to the digits.
 fn with_zeros(digits: u64, zeros: u64) -> u64
     requires some { 0 < digits }
     requires few { digits * 2 ^ zeros < 2 ^ 53 }
@@ -67,7 +67,7 @@ fn with_zeros(digits: u64, zeros: u64) -> u64
     digits << zeros
 }
 
-// How many binary digits a number has.
+// The number of binary digits of a number.
 fn length_of(digits: u64) -> u64
     requires { 0 < digits }
     ensures some { (0 < result) × (result ≤ 64) }
@@ -97,8 +97,8 @@ fn nearest_bits(width: FloatType, digits: u64, more: bool, up: u64, down: u64) -
     scaled(width, rounded(kept, side, more), exponent)
 }
 
-/// The bits of the float nearest to digits * 2 ^ up / 2 ^ down, or to a number that goes on with more digits.
-/// None where that is no finite float.
+/// Returns the bits of the float nearest to `digits` * 2^`up` / 2^`down`, or `None` if that is no finite
+/// float. If `more` is set, the number has more digits after these, not all of them 0.
 pub fn nearest_binary(width: FloatType, digits: u64, more: bool, up: u64, down: u64) -> Option<u64>
     requires sizes { (up ≤ 2 ^ 62) × (down ≤ 2 ^ 62) }
     requires cut { more ≡ true → 2 ^ 60 ≤ digits }

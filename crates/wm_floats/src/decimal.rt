@@ -1,4 +1,4 @@
-//! The float nearest to a decimal numeral (section 4.3.3).
+//! The float nearest to a decimal numeral (Core spec 4.3.3).
 
 ghost use Rattle.std.specs.Prelude.{◌≡◌, ℕ, ◌*◌, ◌^◌, MatchOption};
 ghost use Rattle.core.specs.Dec2flt.Rounding.{IsNearestBits};
@@ -28,7 +28,7 @@ fn nearest_bits(width: FloatType, text: &[u8]) -> u64
     }
 }
 
-/// The bits of the float nearest to a decimal numeral. None where that is no finite float.
+/// Returns the bits of the float nearest to a decimal numeral, or `None` if that is no finite float.
 pub fn nearest_decimal(width: FloatType, text: &[u8]) -> Option<u64>
     ensures { MatchOption result
         ((b : ℕ) → IsNearest width (digits_of (scan text.now) * 10 ^ tens_up (scan text.now))

@@ -1,4 +1,4 @@
-//! Digits with single underscores between them (section 6.3.1).
+//! Digits with single underscores between them (Core spec 6.3.1).
 
 ghost use Rattle.std.specs.Prelude.{◌≡◌, ◌+◌, ◌*◌, ◌^◌, ◌<◌, ◌≤◌, [], ◌∷◌, false, length, min};
 ghost use Rattle.std.specs.Char.{digit_value};
@@ -6,10 +6,10 @@ ghost use Rattle.std.specs.Str.Parse.{AllDigits, digits_value, digits_value_afte
 ghost use Rattle.wm_floats.specs.exact.Atoms as atoms;
 ghost use Rattle.wm_floats.specs.exact.Atoms.{plain};
 
-/// Numbers from this on are held here.
+/// The limit of `held`, 2^56, which also represents every greater number.
 pub const HELD: u64 = 0x100_0000_0000_0000;
 
-/// Whether a digit stands last after one more byte; none where this byte can't follow.
+/// Whether the text ends in a digit after one more byte, or `None` if this byte is not allowed.
 #[tactic(auto, unfolding(crate::specs::exact::Atoms::next_after))]
 fn next_after(base: u32, after: bool, byte: u8) -> Option<bool>
     requires { (2 ≤ base) × (base ≤ 16) }
@@ -25,7 +25,7 @@ fn next_after(base: u32, after: bool, byte: u8) -> Option<bool>
     }
 }
 
-/// Whether a text is digits with single underscores between them.
+/// Whether the text is one or more digits, with single underscores allowed between them.
 #[tactic(auto, using(crate::proofs::Underscores::digit_laws))]
 pub fn are_digits(base: u32, text: &[u8]) -> bool
     requires { (2 ≤ base) × (base ≤ 16) }
@@ -43,7 +43,7 @@ pub fn are_digits(base: u32, text: &[u8]) -> bool
     after
 }
 
-/// The same, or nothing at all.
+/// Whether the text is empty, or digits as for `are_digits`.
 pub fn are_digits_or_none(base: u32, text: &[u8]) -> bool
     requires { (2 ≤ base) × (base ≤ 16) }
     ensures { result ≡ atoms.are_digits_or_none base text.now }
@@ -54,7 +54,7 @@ pub fn are_digits_or_none(base: u32, text: &[u8]) -> bool
     }
 }
 
-/// The value of a digit.
+/// Returns the value of a digit.
 pub fn digit_of(byte: u8) -> u64
     requires { digit_value byte < 16 }
     ensures { result ≡ digit_value byte }
@@ -65,7 +65,7 @@ pub fn digit_of(byte: u8) -> u64
     }
 }
 
-/// How many digits a byte is.
+/// The number of digits in a byte: 0 for an underscore, else 1.
 fn counted(byte: u8) -> u64
     ensures count { result ≡ length (plain (byte ∷ [])) }
     ensures most { result ≤ 1 }
@@ -73,7 +73,7 @@ fn counted(byte: u8) -> u64
     if byte == b'_' { 0 } else { 1 }
 }
 
-/// How many digits a text has.
+/// Returns the number of digits in a text, without the underscores.
 pub fn count(text: &[u8]) -> u64
     ensures count { result ≡ length (plain text.now) }
     ensures most { result ≤ length text.now }
@@ -85,7 +85,7 @@ pub fn count(text: &[u8]) -> u64
     n
 }
 
-/// A number with one more byte behind its digits, held at 2^56.
+/// The number with one more byte after its digits, at most 2^56. An underscore changes nothing.
 #[tactic(auto, using(crate::proofs::Held::held_laws))]
 fn one_held(base: u64, n: u64, byte: u8) -> u64
     requires base { (2 ≤ base) × (base ≤ 16) }
@@ -100,7 +100,7 @@ fn one_held(base: u64, n: u64, byte: u8) -> u64
     (n * base + digit_of(byte)).min(HELD)
 }
 
-/// The number that digits make, held at 2^56.
+/// Returns the number that the digits denote, or 2^56 if it is greater.
 pub fn held(base: u64, text: &[u8]) -> u64
     requires base { (2 ≤ base) × (base ≤ 16) }
     requires digits { AllDigits base (plain text.now) }

@@ -1,4 +1,4 @@
-//! The float nearest to a hexadecimal literal (section 6.3.2).
+//! The float nearest to a hexadecimal number (Core spec 6.3.2).
 
 ghost use Rattle.std.specs.Prelude.{◌≡◌, ℕ, ◌+◌, ◌*◌, ◌^◌, ◌<◌, ◌≤◌, [], ◌∷◌, ◌++◌, false, length};
 ghost use Rattle.std.specs.Prelude.{MatchOption, if◌then◌else◌};
@@ -14,8 +14,8 @@ use crate::digits::{HELD, count, digit_of, held};
 use crate::parts::Parts;
 use wm_syntax::instructions::FloatType;
 
-// The digits so far: those that 64 bits hold, whether any later one is not 0, and how many later ones there
-// are.
+// The digits so far. The first ones are held in 64 bits. For the later ones, only their count and whether any
+// is not 0 are kept.
 #[derive(Clone, Copy)]
 pub struct Leading {
     digits: u64,
@@ -43,7 +43,7 @@ fn one_more(so_far: Leading, digit: u64) -> Leading
     }
 }
 
-// An underscore changes nothing.
+// Reads one byte. An underscore changes nothing.
 fn one_byte(so_far: Leading, byte: u8) -> Leading
     requires digit { AllDigits 16 (plain (byte ∷ [])) }
     requires left { so_far.left < 2 ^ 60 }
@@ -69,7 +69,7 @@ fn read(start: Leading, bytes: &[u8]) -> Leading
     so_far
 }
 
-// The digits before a point and behind it.
+// Reads the digits before a point and after it.
 fn read_both(whole: &[u8], part: &[u8]) -> Leading
     requires whole { AllDigits 16 (plain whole.now) }
     requires part { AllDigits 16 (plain part.now) }
@@ -86,8 +86,8 @@ fn read_both(whole: &[u8], part: &[u8]) -> Leading
     read(first, part)
 }
 
-/// The bits of the float nearest to hexadecimal digits with a point among them, times 2 ^ up / 2 ^ down. None
-/// where that is no finite float.
+/// Returns the bits of the float nearest to hexadecimal digits with a point among them, times 2^`up` /
+/// 2^`down`. Returns `None` if that is no finite float.
 pub fn nearest_hexadecimal(
     width: FloatType,
     whole: &[u8],
@@ -123,8 +123,8 @@ fn up_and_down(negative: bool, size: u64) -> (u64, u64)
     if negative { (0, size) } else { (size, 0) }
 }
 
-// The same where the exponent is held: that is farther than all the digits could move it back. So the number
-// is 0, or nearest to 0, or too large.
+// Reads a number whose exponent reached the limit of `held`, so that it outweighs all digits. The number is
+// 0, nearest to 0, or too large.
 fn far(width: FloatType, number: Parts) -> Option<u64>
     requires digits { HasDigits 16 (parts_of number) }
     requires short { length number.whole.now + length number.part.now ≤ 2 ^ 50 }
@@ -142,7 +142,7 @@ fn far(width: FloatType, number: Parts) -> Option<u64>
     None
 }
 
-/// The bits of the float nearest to a hexadecimal number. None where that is no finite float.
+/// Returns the bits of the float nearest to a hexadecimal number, or `None` if that is no finite float.
 #[tactic(auto, using(crate::proofs::Far::near_laws))]
 pub fn hexadecimal_bits(width: FloatType, number: Parts) -> Option<u64>
     requires digits { HasDigits 16 (parts_of number) }

@@ -1,4 +1,4 @@
-//! The float nearest to a decimal number that may have underscores (section 6.3.2).
+//! The float nearest to a decimal number, which may have underscores (Core spec 6.3.2).
 
 ghost use Rattle.std.specs.Prelude.{◌≡◌, ◌∷◌, ◌++◌, ◌<◌, length, IfOk, OnOk};
 ghost use Rattle.std.specs.Fmt.{sign_text};
@@ -12,7 +12,7 @@ use crate::parts::Parts;
 use std::alloc::{AllocError, Global};
 use wm_syntax::instructions::FloatType;
 
-/// Adds the digits of a text.
+/// Appends the digits of a text, without the underscores.
 #[tactic(auto, using(crate::proofs::Underscores::plain_laws))]
 fn push_digits(text: &mut Vec<u8>, digits: &[u8]) -> Result<(), AllocError>
     ensures { OnOk result (text.new.items ≡ text.old.items ++ plain digits.now) }
@@ -27,14 +27,14 @@ fn push_digits(text: &mut Vec<u8>, digits: &[u8]) -> Result<(), AllocError>
     Ok(())
 }
 
-/// What stands before the digits of an exponent.
+/// The text before the digits of an exponent.
 fn mark(negative: bool) -> &'static [u8]
     ensures { result.now ≡ 101 ∷ sign_text negative }
 {
     if negative { b"e-" } else { b"e" }
 }
 
-/// Adds an exponent, unless it has no digits.
+/// Appends an exponent, unless it has no digits.
 #[tactic(auto, using(crate::proofs::Kit::exponent_laws))]
 fn push_exponent(text: &mut Vec<u8>, negative: bool, digits: &[u8]) -> Result<(), AllocError>
     requires { 0 < length digits.now → 0 < length (plain digits.now) }
@@ -47,7 +47,7 @@ fn push_exponent(text: &mut Vec<u8>, negative: bool, digits: &[u8]) -> Result<()
     push_digits(text, digits)
 }
 
-/// A number as fast_float reads it.
+/// The number in the form that fast_float reads: with a point, and without underscores.
 #[tactic(auto, using(crate::proofs::Kit::text_laws))]
 fn numeral_text(alloc: Global, number: Parts) -> Result<Vec<u8>, AllocError>
     requires { 0 < length number.exponent.now → 0 < length (plain number.exponent.now) }
@@ -61,7 +61,8 @@ fn numeral_text(alloc: Global, number: Parts) -> Result<Vec<u8>, AllocError>
     Ok(text)
 }
 
-/// The bits of the float nearest to a decimal number. None where that is no finite float.
+/// Returns the bits of the float nearest to a decimal number, or `None` if that is no finite float. Fails if
+/// memory for a copy of its digits is refused.
 #[tactic(auto, using(crate::proofs::Kit::decimal_laws))]
 pub fn decimal_bits(
     alloc: Global,

@@ -1,4 +1,4 @@
-//! The parts of a number with no sign (section 6.3.2).
+//! The parts of a number without a sign (Core spec 6.3.2).
 
 ghost use Rattle.std.specs.Prelude.{◌≡◌, ◌≤◌, Some, None, MatchOption, length, take, drop};
 ghost use Rattle.wm_floats.specs.exact.Atoms as atoms;
@@ -6,7 +6,8 @@ ghost use Rattle.wm_floats.specs.inner.Parts.{parts_of};
 
 use crate::digits::{are_digits, are_digits_or_none};
 
-/// The digits of a number before its point and behind it, and those of its exponent, with their underscores.
+/// The digits of a number before its point and after it, and the sign and the digits of its exponent.
+/// Underscores are included.
 #[derive(Clone, Copy)]
 pub struct Parts<'a> {
     pub whole: &'a [u8],
@@ -21,7 +22,7 @@ fn is_mark(x: u8, y: u8, byte: u8) -> bool
     byte == x || byte == y
 }
 
-/// Where one of two bytes stands first, or the length where neither does.
+/// The index of the first byte that is one of these two, or the length if there is none.
 fn mark_at(x: u8, y: u8, text: &[u8]) -> usize
     ensures within { result ≤ length text.now }
     ensures front { (atoms.cut x y text.now).0 ≡ take result text.now }
@@ -44,7 +45,7 @@ fn tail(text: &[u8]) -> &[u8]
     }
 }
 
-/// Digits before a point and behind it.
+/// The digits before a point and after it, or `None` if they are malformed.
 fn both_sides<'a>(base: u32, whole: &'a [u8], part: &'a [u8]) -> Option<(&'a [u8], &'a [u8])>
     requires { (2 ≤ base) × (base ≤ 16) }
     ensures { MatchOption result (atoms.both_sides base whole.now part.now ≡ None)
@@ -61,7 +62,7 @@ fn both_sides<'a>(base: u32, whole: &'a [u8], part: &'a [u8]) -> Option<(&'a [u8
     }
 }
 
-/// The digits before a point and behind it, or all of them where there is none.
+/// The digits before a point and after it, or all of them if there is no point. `None` if they are malformed.
 fn around_point(base: u32, text: &[u8]) -> Option<(&[u8], &[u8])>
     requires { (2 ≤ base) × (base ≤ 16) }
     ensures { MatchOption result (atoms.around_point base text.now ≡ None)
@@ -71,7 +72,7 @@ fn around_point(base: u32, text: &[u8]) -> Option<(&[u8], &[u8])>
     both_sides(base, whole, tail(behind))
 }
 
-/// Whether a number is below 0, and its digits.
+/// Whether a number is negative, and its digits.
 fn signed(text: &[u8]) -> (bool, &[u8])
     ensures { atoms.signed text.now ≡ (result.0, result.1.now) }
 {
@@ -85,7 +86,8 @@ fn signed(text: &[u8]) -> (bool, &[u8])
     }
 }
 
-/// An exponent from its letter on, or none: whether it is below 0, and its digits.
+/// Whether an exponent, which begins with its letter, is negative, and its digits. An empty text is no
+/// exponent, with no digits. `None` if the digits are malformed.
 fn exponent_of(text: &[u8]) -> Option<(bool, &[u8])>
     ensures { MatchOption result (atoms.exponent_of text.now ≡ None)
         (λ x. atoms.exponent_of text.now ≡ Some (x.0, x.1.now)) }
@@ -103,7 +105,8 @@ fn exponent_of(text: &[u8]) -> Option<(bool, &[u8])>
     }
 }
 
-/// The parts of a number with no sign, whose exponent one of these letters begins.
+/// Splits a number without a sign into its parts. Its exponent begins with either of the two letters. Returns
+/// `None` if the text is no such number.
 pub fn numeral_of(base: u32, lower: u8, upper: u8, text: &[u8]) -> Option<Parts>
     requires { (2 ≤ base) × (base ≤ 16) }
     ensures { MatchOption result (atoms.numeral_of base lower upper text.now ≡ None)

@@ -1,4 +1,4 @@
-//! The two widths of floats (section 2.2.3).
+//! The two widths of floats (Core spec 2.2.3).
 
 ghost use Rattle.std.specs.Prelude.{◌≡◌, ◌+◌, ◌-◌, ◌^◌};
 ghost use Rattle.wm_syntax.specs.Floats.{expon, signif};
@@ -6,7 +6,7 @@ ghost use Rattle.wm_floats.specs.Nearest.{infinity, least};
 
 use wm_syntax::instructions::FloatType;
 
-/// How many bits there are below the exponent's field.
+/// Returns the number of bits below the exponent's field.
 pub fn fraction_bits(width: FloatType) -> u64
     ensures { result ≡ signif width }
 {
@@ -16,7 +16,7 @@ pub fn fraction_bits(width: FloatType) -> u64
     }
 }
 
-/// The bits of infinity.
+/// Returns the bits of infinity, without a sign.
 pub fn infinity_bits(width: FloatType) -> u64
     ensures { result ≡ infinity width }
 {
@@ -26,7 +26,7 @@ pub fn infinity_bits(width: FloatType) -> u64
     }
 }
 
-/// The least float above 0 is 2 to the minus this.
+/// Returns n for the least float above 0, which is 2^-n.
 pub fn lowest(width: FloatType) -> u64
     ensures { result ≡ least width }
 {
@@ -36,7 +36,7 @@ pub fn lowest(width: FloatType) -> u64
     }
 }
 
-/// The bit of the sign.
+/// Returns the sign bit.
 pub fn sign_bit(width: FloatType) -> u64
     ensures { result ≡ 2 ^ (signif width + expon width) }
 {
@@ -46,7 +46,7 @@ pub fn sign_bit(width: FloatType) -> u64
     }
 }
 
-/// The bits of the canonical NaN.
+/// Returns the bits of the canonical NaN, without a sign.
 pub fn canonical_nan(width: FloatType) -> u64
     ensures { result ≡ infinity width + 2 ^ (signif width - 1) }
 {

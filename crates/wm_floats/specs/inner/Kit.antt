@@ -1,4 +1,4 @@
--- The two widths in the kit's words.
+-- The two widths as formats of the kit.
 use lib.Ieee.{Format, binary32, binary64}
 use Rattle.wm_syntax.specs.declared.instructions.FloatType.{FloatType}
 use Rattle.wm_syntax.specs.declared.instructions.FloatType.TheVariants.{F32, F64}

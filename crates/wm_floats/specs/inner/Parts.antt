@@ -1,4 +1,4 @@
--- The parts of a number in the code, without where they lie in memory; and as the kit reads them.
+-- The parts of a number as the code holds them, and the same number as the kit reads it.
 use Rattle.std.specs.Prelude.{◌≡◌, ℕ, ◌<◌, true, false, List, [], ◌∷◌, ◌++◌, length}
 use Rattle.std.specs.Str.Parse.{AllDigits}
 use Rattle.fast_float.specs.Text.{exponent_text}
@@ -14,7 +14,7 @@ parts_of p = record {
   exponent = p.exponent.now;
 }
 
--- the parts are digits, but for underscores, and an exponent that is left out is not below 0
+-- The parts are digits, apart from underscores. An exponent that is left out is not negative.
 pub record HasDigits (base : ℕ) (n : Numeral) : Type 0 where
   pub whole : AllDigits base (plain n.whole)
   pub part : AllDigits base (plain n.part)
@@ -22,7 +22,7 @@ pub record HasDigits (base : ℕ) (n : Numeral) : Type 0 where
   pub some : 0 < length n.exponent → 0 < length (plain n.exponent)
   pub none : plain n.exponent ≡ [] → n.negative ≡ false
 
--- the text that the kit is given, which has a point always and no underscore
+-- The text that the kit reads: always with a point, and without underscores.
 abbrev pub kit_text : Numeral → List ℕ
 kit_text n = plain n.whole ++ ((46 ∷ plain n.part) ++ exponent_text n.negative (plain n.exponent))
 

@@ -379,7 +379,7 @@ fn class_at(byte: u8) -> OpClass
     CLASSES[byte as usize]
 }
 
-/// The byte that an instruction begins with (section 5.4).
+/// Returns the byte that an instruction begins with (Core spec 5.4).
 pub fn first_byte(simple: Simple) -> u8
     ensures { result ≡ (opcode simple).0 }
 {
