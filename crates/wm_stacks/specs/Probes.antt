@@ -1,11 +1,10 @@
--- How many runs of locals a search reads. A stranger can count them: the search halves what
--- lies between two places.
+-- The number of runs of locals that a binary search reads.
 use Rattle.std.specs.Prelude.{ℕ, zero, suc, ◌+◌, ◌-◌, ◌/◌, List, length, nat_lt, slice_index, if◌then◌else◌}
 use Rattle.wm_syntax.specs.declared.types.ValType.{ValType}
 use Rattle.wm_syntax.specs.Runs.{run_ends}
 
--- How many ends are read to find the first one above an index, by halving what lies between low and
--- high, in at most so many steps.
+-- The number of ends that a binary search between low and high reads for the first end above an index. It
+-- makes at most `left` steps.
 unfoldable pub halvings : ℕ → List ℕ → ℕ → ℕ → ℕ → ℕ
 halvings zero ends index low high = 0
 halvings (suc left) ends index low high =

@@ -1,4 +1,4 @@
--- What values hold inside. Contracts name these words and say what follows from them: their
--- bodies need not be believed.
+-- The inner state of values, and its invariants. Contracts use these names and say what follows from them. A
+-- reader need not believe their definitions.
 pub mod Operands
 pub mod Widths

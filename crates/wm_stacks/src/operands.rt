@@ -19,9 +19,9 @@ use wm_syntax::why::Why;
 
 /// The operands of a body, and the floor of its innermost frame.
 ///
-/// Two bits say of an operand that it is an i32, an i64 or a float, or that it is not known. How wide a
-/// float is stands apart, so that a body without floats has just those bits. Contracts see the list of the
-/// operands, the topmost first, and the floor.
+/// Two bits for each operand give its kind: i32, i64, a float, or unknown. The width of a float is held
+/// separately, so that a body without floats needs only those bits. Contracts see the list of the operands,
+/// the topmost first, and the floor.
 #[derive(Debug, Drop)]
 pub(crate) struct Operands {
     packed: Packed,
@@ -37,7 +37,7 @@ impl Model for Operands {
 }
 
 impl Operands {
-    /// No operands, and the floor at 0.
+    /// Returns a stack without operands, with the floor at 0.
     pub fn new(alloc: Global) -> Self
         ensures { result ≡ record { entries = []; floor = 0 } }
     {
@@ -46,7 +46,7 @@ impl Operands {
         Operands { packed, widths }
     }
 
-    /// Takes all operands away, and puts the floor at 0.
+    /// Removes all operands, and sets the floor to 0.
     pub fn clear(&mut self)
         ensures { self.new ≡ record { entries = []; floor = 0 } }
     {
@@ -54,7 +54,7 @@ impl Operands {
         self.widths.forget();
     }
 
-    /// How many operands stand.
+    /// Returns the number of operands, at most 2^62.
     #[inline(always)]
     pub fn height(&self) -> usize
         ensures height { result ≡ length self.now.entries }
@@ -77,8 +77,8 @@ impl Operands {
         self.packed.set_floor(floor);
     }
 
-    /// Puts an operand on top. `Memory` leaves everything as it was, and comes only where a word more
-    /// is needed than those that take none: of kinds, or for an f64 of widths.
+    /// Pushes an operand. Fails with `Memory` only if a word is needed that is not inline: for kinds, or for
+    /// the width of an f64. An error changes nothing.
     #[inline(always)]
     pub fn push(&mut self, entry: Entry) -> Result<(), Why>
         requires { length self.old.entries < 2 ^ 63 }
@@ -99,7 +99,7 @@ impl Operands {
         self.packed.push(kind)
     }
 
-    // The same of a float, out of the way of those that are none.
+    // Pushes a float. Out of line, so that other operands are pushed faster.
     #[inline(never)]
     fn push_float(&mut self, entry: Entry) -> Result<(), Why>
         requires float { kind_of entry ≡ Kind.Float }
@@ -118,7 +118,7 @@ impl Operands {
         }
     }
 
-    // An old bit of an f64 may stand where it comes.
+    // Pushes an f32. It clears the bit that an earlier f64 may have left at this index.
     fn push_f32(&mut self) -> Result<(), Why>
         requires { length self.old.entries < 2 ^ 63 }
         ensures ok { OnOk result (self.new ≡ record {
@@ -134,7 +134,7 @@ impl Operands {
         self.packed.push(Kind::Float)
     }
 
-    // Its bit is written first: where the other list refuses, it means nothing.
+    // Pushes an f64. Its bit is written first, since it means nothing if the kind is refused.
     fn push_f64(&mut self) -> Result<(), Why>
         requires { length self.old.entries < 2 ^ 63 }
         ensures ok { OnOk result (self.new ≡ record {
@@ -151,8 +151,8 @@ impl Operands {
         }
     }
 
-    /// Puts this float on top where the current word has a place for its kind, and the first word of widths
-    /// for its bit.
+    /// Pushes this float if the current word has a place for its kind, and the first word of widths for its
+    /// bit. Otherwise, or if it is no float, returns false and changes nothing.
     #[inline(always)]
     pub fn push_float_near(&mut self, float: Entry) -> bool
         ensures { DoneOrLeft (PushesEntry float) result self.old self.new }
@@ -169,9 +169,9 @@ impl Operands {
         self.packed.push_near(Kind::Float)
     }
 
-    /// Takes the top operand away where a look at one word shows that it is above the floor and fits, and
-    /// puts the given one in its place, if one is given. False where one of them is a float: its width would
-    /// have to be looked at, or written.
+    /// Removes the top operand and pushes the given one, if any. Returns false and changes nothing unless one
+    /// word shows that the top operand is above the floor and fits. It also returns false if either is a
+    /// float, whose width is in another word.
     #[inline(always)]
     pub fn replace_near(&mut self, expected: ValType, given: Option<Entry>) -> bool
         ensures { DoneOrLeft (ReplacesEntries (expected ∷ []) given) result self.old self.new }
@@ -185,7 +185,7 @@ impl Operands {
         self.packed.replace_near(top, kind_given(given))
     }
 
-    /// The same of the two topmost operands.
+    /// As `replace_near`, for the two topmost operands.
     #[inline(always)]
     pub fn replace_two_near(&mut self, under: ValType, top: ValType, given: Option<Entry>) -> bool
         ensures { DoneOrLeft (ReplacesEntries (top ∷ under ∷ []) given) result self.old self.new }
@@ -203,8 +203,8 @@ impl Operands {
             .replace_two_near(second, first, kind_given(given))
     }
 
-    /// The same of a float, which one bit more tells: only in the first word of widths, so that nothing is
-    /// called. A float is given in its place only where it has that type.
+    /// As `replace_near`, for a float whose width is in the first word of widths, so that no function is
+    /// called. A float is pushed in its place only if it has that type.
     #[inline(always)]
     pub fn replace_float_near(&mut self, expected: ValType, given: Option<Entry>) -> bool
         ensures { DoneOrLeft (ReplacesEntries (expected ∷ []) given) result self.old self.new }
@@ -219,7 +219,7 @@ impl Operands {
         self.packed.replace_near(Kind::Float, kind_given(given))
     }
 
-    /// The same of two floats.
+    /// As `replace_float_near`, for two floats. A float is pushed only if it has the type of the lower one.
     #[inline(always)]
     pub fn replace_two_floats_near(
         &mut self,
@@ -243,7 +243,7 @@ impl Operands {
             .replace_two_near(Kind::Float, Kind::Float, kind_given(given))
     }
 
-    /// The top operand, where one stands above the floor.
+    /// Returns the top operand, or `None` if there is none above the floor.
     #[inline(always)]
     pub fn top(&self) -> Option<Entry>
         ensures { MatchOption result (length self.now.entries ≤ self.now.floor)
@@ -258,7 +258,7 @@ impl Operands {
         }
     }
 
-    /// Takes the top operand away, if there is one.
+    /// Removes the top operand, if there is one.
     #[inline(always)]
     pub fn pop(&mut self)
         ensures { self.new ≡ record { entries = rest self.old.entries; floor = self.old.floor } }
@@ -266,7 +266,7 @@ impl Operands {
         self.packed.pop();
     }
 
-    /// Takes the operands above a height away.
+    /// Removes the operands above a height.
     #[inline(always)]
     pub fn truncate(&mut self, height: usize)
         ensures { self.new ≡ record {
@@ -278,7 +278,7 @@ impl Operands {
     }
 }
 
-// The kind of what is given.
+// The kind of the operand to push, if any.
 #[inline(always)]
 fn kind_given(given: Option<Entry>) -> Option<Kind>
     ensures { result ≡ option_map kind_of given }
@@ -292,7 +292,7 @@ fn kind_given(given: Option<Entry>) -> Option<Kind>
     }
 }
 
-// The kind of an operand of this type, which is no float.
+// The kind of an operand of this type, or `None` for a float.
 #[inline(always)]
 fn whole_kind(ty: ValType) -> Option<Kind>
     ensures { IfSome result (λ kind. (wide : Bool) → IsTrue (fits (entry_of kind wide) ty)) }
@@ -304,7 +304,7 @@ fn whole_kind(ty: ValType) -> Option<Kind>
     }
 }
 
-// The operand with this index, which is of this kind.
+// The operand with this index, given its kind.
 #[inline(always)]
 fn entry_at(widths: &Widths, at: usize, kind: Kind) -> Entry
     ensures { result ≡ entry_of kind (is_wide widths.now at) }
@@ -317,7 +317,7 @@ fn entry_at(widths: &Widths, at: usize, kind: Kind) -> Entry
     }
 }
 
-// Whether a float that is so wide is this one.
+// Whether this entry is the float of this width.
 #[inline(always)]
 fn is_float(float: Entry, wide: bool) -> bool
     ensures { result ≡ true → entry_of Kind.Float wide ≡ float }
@@ -329,7 +329,7 @@ fn is_float(float: Entry, wide: bool) -> bool
     }
 }
 
-// Whether a float that is so wide has this type.
+// Whether a float of this width has this type.
 #[inline(always)]
 fn is_of_width(ty: ValType, wide: bool) -> bool
     ensures { result ≡ true → IsTrue (fits (entry_of Kind.Float wide) ty) }
@@ -341,7 +341,7 @@ fn is_of_width(ty: ValType, wide: bool) -> bool
     }
 }
 
-// Whether what is given is as wide as this type, if it is a float.
+// Whether the operand to push, if it is a float, is as wide as this type.
 #[inline(always)]
 fn is_as_wide(given: Option<Entry>, ty: ValType) -> bool
     ensures { result ≡ true → (wide : Bool) → IsTrue (fits (entry_of Kind.Float wide) ty)
@@ -355,7 +355,7 @@ fn is_as_wide(given: Option<Entry>, ty: ValType) -> bool
     }
 }
 
-// Whether what is given is no float, or nothing is.
+// Whether the operand to push, if any, is no float.
 #[inline(always)]
 fn has_no_width(given: Option<Entry>) -> bool
     ensures { result ≡ true → (wide : Bool) → IsTold given wide }

@@ -1,4 +1,4 @@
-//! How wide the floats among the operands are.
+//! The widths of the floats among the operands.
 
 ghost use Rattle.std.specs.Prelude.{◌≡◌, ◌≢◌, ℕ, ◌/◌, ◌%◌, ◌<◌, ◌≤◌, true, false, [], IfErr, OnErr, OnOk};
 ghost use Rattle.std.specs.Prelude.{length, nat_eq, slice_index};
@@ -8,26 +8,27 @@ ghost use Rattle.wm_stacks.specs.inner.Widths.{Written, is_wide, words_of};
 use std::alloc::Global;
 use wm_syntax::why::Why;
 
-// So many operands have a bit in a word.
+// The number of operands that have their bits in one word.
 const BITS: usize = 64;
 
-/// So many have one in the first word.
+/// The number of operands that have their bits in the first word.
 pub(crate) const IN_FIRST: usize = BITS;
 
-/// Of each operand that is a float, whether it is an f64. Others have a bit too, which means nothing.
+/// For each operand that is a float, whether it is an f64. Other operands have a bit too, which means
+/// nothing.
 ///
-/// Operand i has bit i % 64 of word i / 64. Words are made where an f64 is pushed; a word that was not
-/// made has no bit set.
+/// Operand i has bit i % 64 of word i / 64. Words are made when an f64 is pushed. A word that was not made
+/// has no bit set.
 #[derive(Debug, Drop)]
 pub(crate) struct Widths {
-    // Word 0, which takes no memory.
+    // Word 0, which is inline.
     first: u64,
-    // Those from word 1 on.
+    // The words from word 1 on.
     rest: Vec<u64>,
 }
 
 impl Widths {
-    /// One word.
+    /// Returns widths with the first word only.
     pub fn new(alloc: Global) -> Self
         ensures { result.rest.items ≡ [] }
     {
@@ -37,7 +38,7 @@ impl Widths {
         }
     }
 
-    /// Lets all words but one go. What was taken of memory stays taken.
+    /// Removes all words but the first. Their memory is kept.
     pub fn forget(&mut self)
         ensures { self.new.rest.items ≡ [] }
     {
@@ -53,7 +54,7 @@ impl Widths {
         (bits >> (at % BITS)) & 1 == 1
     }
 
-    /// The operand with this index is an f32.
+    /// Records that the operand with this index is an f32.
     #[inline(always)]
     pub fn narrow(&mut self, at: usize)
         ensures { Written at false self.old self.new }
@@ -66,8 +67,8 @@ impl Widths {
         self.put(at, false);
     }
 
-    /// The operand with this index is an f64. `Memory` changes no width, and comes only where a word more
-    /// is needed than the one that takes none.
+    /// Records that the operand with this index is an f64. Fails with `Memory` only if a word is needed that
+    /// is not inline. An error changes no width.
     #[inline(always)]
     pub fn widen(&mut self, at: usize) -> Result<(), Why>
         ensures ok { OnOk result (Written at true self.old self.new) }
@@ -84,7 +85,7 @@ impl Widths {
         }
     }
 
-    /// Writes the bit of an operand into its word, which was made.
+    /// Writes the bit of an operand into its word, which was made before.
     #[inline(always)]
     pub fn put(&mut self, at: usize, wide: bool)
         requires { at / 64 ≤ length self.old.rest.items }
@@ -100,7 +101,7 @@ impl Widths {
         self.rest[index - 1] = word;
     }
 
-    // The word with this index.
+    // The word with this index, or 0 if it was not made.
     #[inline(always)]
     fn word(&self, index: usize) -> u64
         ensures { result ≡ slice_index (words_of self.now) index }
@@ -120,7 +121,7 @@ fn word_in(words: &[u64], index: usize) -> u64
     words.get(index).copied().unwrap_or(0)
 }
 
-// The word with the bit of an operand written.
+// The word with the bit of an operand set or cleared.
 #[inline(always)]
 fn with_bit(word: u64, at: usize, wide: bool) -> u64
     ensures there { nat_eq (bit_at result (at % 64)) 1 ≡ wide }
@@ -130,7 +131,7 @@ fn with_bit(word: u64, at: usize, wide: bool) -> u64
     if wide { word | bit } else { word & !bit }
 }
 
-// Makes words with no bit set, until there are so many.
+// Makes words with no bit set, until there are at least `count`.
 #[inline(always)]
 fn lengthen(words: &mut Vec<u64>, count: usize) -> Result<(), Why>
     ensures same { (i : ℕ) → slice_index words.new.items i ≡ slice_index words.old.items i }
@@ -144,7 +145,7 @@ fn lengthen(words: &mut Vec<u64>, count: usize) -> Result<(), Why>
     make_words(words, count)
 }
 
-// The same where there are fewer.
+// Makes the words that are missing. Out of line.
 #[inline(never)]
 fn make_words(words: &mut Vec<u64>, count: usize) -> Result<(), Why>
     requires { length words.old.items < count }

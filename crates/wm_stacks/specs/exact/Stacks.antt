@@ -1,6 +1,6 @@
--- What each call does, as a function of the two lists and the count, refusals included. These follow
--- the code step by step, for the layers above, whose answers are functions of what they were given.
--- No promise rests on them alone: the words of a call's other clauses are in Stack.
+-- The exact answer of each call, as a function of the two lists and the count, refusals included. These
+-- follow the code for the layers above, whose answers are functions of their input. No promise rests on them
+-- alone: the other clauses use the definitions of Stack.
 use Rattle.std.specs.Prelude.{ℕ, Bool, true, false, List, [], ◌∷◌, Option, Some, None, Result, Ok, Err}
 use Rattle.std.specs.Prelude.{length, nat_le, nat_lt, if◌then◌else◌}
 use Rattle.wm_syntax.specs.declared.types.ValType.{ValType}
@@ -14,7 +14,7 @@ use Rattle.wm_stacks.specs.declared.entries.Reach.{Reach}
 use Rattle.wm_stacks.specs.declared.entries.Reach.TheVariants.{Whole, Floor}
 use Rattle.wm_stacks.specs.Stack.{Stack, fits, fresh_frame, marked_frames, moves_after}
 
--- the first element, and those behind it
+-- The first element, and the elements after it.
 abbrev pub first : {A : Type 0} → List A → Option A
 first [] = None
 first (x ∷ xs) = Some x
@@ -23,7 +23,7 @@ abbrev pub rest : {A : Type 0} → List A → List A
 rest [] = []
 rest (x ∷ xs) = xs
 
--- one move more
+-- The count after one more move.
 abbrev pub count_after_move : ℕ → ℕ
 count_after_move n = moves_after 1 n
 
@@ -39,12 +39,12 @@ open_frame k t s = record s {
 abbrev pub look : Stack → Stack
 look s = record s { moves = count_after_move s.moves }
 
--- at the floor of a frame: one look, where it is unreachable
+-- The answer at the floor of a frame: one look if the frame is unreachable, else a refusal.
 abbrev pub at_floor : {A : Type 0} → A → Bool → Stack → Result A Why × Stack
 at_floor a true s = (Ok a, look s)
 at_floor a false s = (Err Arity, s)
 
--- the stacks without their top operand
+-- The stacks without their top operand: one move.
 abbrev pub pop_to : List Entry → Stack → Stack
 pop_to es s = record s { operands = es; moves = count_after_move s.moves }
 
@@ -62,7 +62,7 @@ abbrev pub in_frame : {A : Type 0} → List Frame → (Frame → Result A Why ×
 in_frame [] g s = (Err Arity, s)
 in_frame (f ∷ fs) g s = g f
 
--- takes one operand of a type
+-- Takes one operand of this type.
 abbrev pub take_one : ValType → Stack → Result Reach Why × Stack
 take_one t s = in_frame s.frames (λ f. take_above t f s.operands s) s
 
@@ -80,18 +80,18 @@ goes_on (Ok Whole, s) k = k s
 goes_on (Ok Floor, s) k = (Ok Floor, s)
 goes_on (Err why, s) k = (Err why, s)
 
--- takes operands of these types, the first of the list from the top
+-- Takes operands of these types, the first type from the top.
 abbrev pub take_all : List ValType → Stack → Result Reach Why × Stack
 take_all [] s = (Ok Whole, s)
 take_all (t ∷ ts) s = goes_on (take_one t s) (take_all ts)
 
--- the operands under the floor, and the moves to come down to it
+-- The operands below the floor, and the count after the others are removed.
 abbrev pub down_to : ℕ → List Entry → ℕ → List Entry × ℕ
 down_to floor [] m = ([], m)
 down_to floor (e ∷ es) m = if nat_le floor (length es) then down_to floor es (count_after_move m)
     else (e ∷ es, m)
 
--- the stacks with the innermost frame marked as unreachable
+-- The stacks with the innermost frame marked as unreachable.
 abbrev pub mark_unreachable : Stack → Stack
 mark_unreachable s = record s { frames = marked_frames s.frames }
 

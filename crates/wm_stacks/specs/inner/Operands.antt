@@ -1,4 +1,4 @@
--- Operands by their kinds and their widths.
+-- Operands, given by their kinds and widths.
 use Rattle.std.specs.Prelude.{ℕ, ◌≡◌, ◌≤◌, Bool, true, false, List, [], ◌∷◌, ◌++◌, Option, Some, None, length}
 use Rattle.std.specs.Prelude.{option_to_list}
 use Rattle.wm_syntax.specs.declared.types.ValType.{ValType}
@@ -11,7 +11,7 @@ use Rattle.wm_stacks.specs.declared.widths.Widths.{Widths}
 use Rattle.wm_stacks.specs.exact.Words.{Kinds}
 use Rattle.wm_stacks.specs.inner.Widths.{is_wide}
 
--- the operands of a body, the topmost first, and the floor of its innermost frame
+-- The operands of a body, the topmost first, and the floor of its innermost frame.
 pub record Floored : Type 0 where
   pub entries : List Entry
   pub floor : ℕ
@@ -23,7 +23,7 @@ kind_of entry.F32 = Float
 kind_of entry.F64 = Float
 kind_of entry.Unknown = Unknown
 
--- an entry of this kind, which is wide if it is a float
+-- The entry of this kind. If it is a float, it is an f64 if `wide` is set, else an f32.
 abbrev pub entry_of : Kind → Bool → Entry
 entry_of I32 wide = entry.I32
 entry_of I64 wide = entry.I64
@@ -31,12 +31,13 @@ entry_of Unknown wide = entry.Unknown
 entry_of Float true = entry.F64
 entry_of Float false = entry.F32
 
--- what is given is told by its kind, and by this width if it is a float
+-- The given entry, if any, is determined by its kind and, for a float, by this width.
 abbrev pub IsTold : Option Entry → Bool → Type 0
 IsTold None wide = Unit {0}
 IsTold (Some e) wide = entry_of (kind_of e) wide ≡ e
 
--- In both lists the topmost is the first, so an operand's index is how many are under it.
+-- The entries with these kinds and widths. In both lists the topmost is the first, and an operand's index is
+-- the number of operands below it.
 abbrev pub entries_in : List Kind → Widths → List Entry
 entries_in [] w = []
 entries_in (k ∷ ks) w = entry_of k (is_wide w (length ks)) ∷ entries_in ks w
@@ -47,7 +48,8 @@ operands_of p w = record { entries = entries_in p.kinds w; floor = p.floor }
 abbrev pub PushesEntry : Entry → Floored → Floored → Type 0
 PushesEntry e s z = z ≡ record { entries = e ∷ s.entries; floor = s.floor }
 
--- operands of these types are taken above the floor, the topmost first, and this one, if any, is put there
+-- Operands of these types are removed above the floor, the topmost first, and the given one is pushed, if
+-- any.
 abbrev pub ReplacesEntries : List ValType → Option Entry → Floored → Floored → Type 0
 ReplacesEntries ts given s z =
     (taken es : List Entry) × (s.entries ≡ taken ++ es) × AgreeAll taken ts × (s.floor ≤ length es)
