@@ -19,7 +19,7 @@ use Rattle.wm_floats.specs.Nearest.{infinity, least, units, IsFrom, doubled, bot
 use Rattle.wm_floats.specs.inner.Kit.{format_of}
 use Rattle.wm_floats.proofs.Units.{units_at, units_le}
 
--- the same numbers in the kit's words
+-- The constants of the standard in the kit's terms.
 pub record Same (w : FloatType) : Type 0 where
   pub hid_is : 2 ^ signif w ≡ hid (format_of w)
   pub twice : 2 ^ prec (format_of w) ≡ 2 * 2 ^ signif w
@@ -53,7 +53,7 @@ pair_of w num den m k near =
       below = rw (above, s.low_is) (omega (arith, near.below));
     }
 
--- and which of the two is chosen
+-- The candidate of a pair that is chosen.
 pub both_of : (w : FloatType) (num den m k : ℕ) → IsJustAbove (format_of w) num den m k → both w den (k * 2 ^ signif w + m) ≡ (2 * m + 1) * (den * 2 ^ k)
 both_of w num den m k near =
     let s = same w in
@@ -172,7 +172,8 @@ chosen_is w num den b D is =
     let x = chosen_at w num den m k D near in
     (x.0, x.1, one_pattern (format_of w) num den b (min x.0 (infinity w)) is x.2)
 
--- The kit's bits of the nearest float are those of the standard, where they are below infinity's. Else there is none.
+-- The kit's bits of the nearest float are those of the standard if they are below infinity's. Otherwise the
+-- standard has none.
 pub finite : (w : FloatType) (num den b : ℕ) → 0 < den → IsNearestBits (format_of w) num den b → b < infinity w → IsNearest w num den b
 finite w num den b D is h =
     let x = chosen_is w num den b D is in

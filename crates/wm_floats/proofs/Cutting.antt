@@ -1,4 +1,4 @@
--- What stands before one of two bytes, and from there on.
+-- The text before the first of two bytes, and the text from that byte on.
 use Rattle.std.proofs.Common.{◌≡◌, ℕ, zero, suc, ◌<◌, ◌≤◌, ◌⊎◌, Bool, true, false, cond, List, [], ◌∷◌, ◌++◌, length, refl, ap, ◌∙◌, inl, inr, arith, take, drop, get_or}
 use Rattle.std.proofs.lemmas.Bool.{cond-true, cond-false, or_cases, eqb-true}
 use Rattle.std.specs.Prelude.{◌==◌}
@@ -13,7 +13,7 @@ cut_here x y c b e = cond-true (is_mark x y c) _ _ e
 cut_later : (x y c : ℕ) (b : List ℕ) → is_mark x y c ≡ false → cut x y (c ∷ b) ≡ (c ∷ (cut x y b).0, (cut x y b).1)
 cut_later x y c b e = cond-false (is_mark x y c) _ _ e
 
--- as the code finds it
+-- The index at which the code cuts the text.
 pub cut_at : (x y : ℕ) (b : List ℕ) (n : ℕ) → n ≤ length b → ((k : ℕ) → k < n → is_mark x y (get_or b k 0) ≡ false)
     → ((n ≡ length b) ⊎ (is_mark x y (get_or b n 0) ≡ true)) → CutAt x y b n
 cut_at x y [] zero h all stop = (refl, refl)

@@ -15,7 +15,7 @@ use Rattle.wm_floats.proofs.Rounding.{Told, nearest_told, far_zero, far_large, f
 abbrev value_of : Numeral → ℕ
 value_of n = digits_value 16 (digits_of n)
 
--- the bits of a number whose exponent moves it so
+-- The bits of a number with this exponent.
 abbrev moved : FloatType → Numeral → ℕ → ℕ → Option ℕ
 moved w n u d = nearest w (value_of n * 2 ^ u) (16 ^ places n * 2 ^ d)
 

@@ -1,4 +1,4 @@
--- Numbers that are held at 2^56.
+-- Numbers that are limited to 2^56.
 use Rattle.std.proofs.Common.{◌≡◌, ℕ, ◌<◌, ◌≤◌, ◌+◌, ◌*◌, ◌^◌, Bool, true, false, cond, List, [], ◌∷◌, length, Option, None, sym, ap, ◌∙◌, inl, inr, arith, take, get_or, min}
 use Rattle.std.specs.Prelude.{◌≢◌, ◌==◌, nat_lt}
 use Rattle.std.specs.Char.{digit_value}

@@ -1,4 +1,4 @@
--- The first digits of a number: of none, of two texts, and what they say where no digit is left out.
+-- The first digits of a number: of no text, of two texts, and the number's bounds.
 use Rattle.std.proofs.Common.{ℕ, zero, suc, ◌≡◌, ◌+◌, ◌*◌, ◌^◌, ◌<◌, ◌≤◌, ◌++◌, true, false, List, refl, sym, ap, subst, ◌∙◌, arith}
 use Rattle.std.proofs.Math.Nat.{mul-le-mul_right}
 use Rattle.std.specs.Str.Parse.{digits_value, digits_value_after}
@@ -19,7 +19,7 @@ nothing l d m k =
       full = λ p. absurd (omega (arith, p, k));
     }
 
--- more digits follow only where 64 bits are full
+-- Digits are dropped only when 64 bits are full.
 pub is_cut : (n : ℕ) (l : Leading) → Leads n l → l.more ≡ true → 2 ^ 60 ≤ l.digits
 is_cut n l h t = by l.left refl
   where
@@ -32,7 +32,7 @@ pub both_read : (whole part : List ℕ) (l m : Leading) → l.digits ≡ 0 → l
     → Leads (digits_value 16 (whole ++ part)) m
 both_read whole part l m d o k r f g = subst (λ (n : ℕ). Leads n m) (sym (after_append 16 0 whole part)) (g (digits_value 16 whole) (f 0 (nothing l d o k)))
 
--- no first digits: the number is 0
+-- If the first digits are 0, the number is 0.
 pub is_zero : (n : ℕ) (l : Leading) → Leads n l → l.digits ≡ 0 → n ≡ 0
 is_zero n l h d = by l.left refl
   where
@@ -40,11 +40,11 @@ is_zero n l h d = by l.left refl
     by zero e = let one : 16 ^ l.left ≡ 1 = ap (λ x. 16 ^ x) e in omega (arith, h.sum, h.small, one, ap (λ x. x * 16 ^ l.left) d)
     by (suc k) e = absurd (omega (arith, h.full (omega (arith, e)), d))
 
--- some: it is not
+-- If the first digits are not 0, the number is not 0.
 pub not_zero : (n : ℕ) (l : Leading) → Leads n l → 0 < l.digits → 0 < n
 not_zero n l h d = omega (arith, h.sum, sixteen l.left, mul-le-mul_right (16 ^ l.left) d)
 
--- and how large it is at most
+-- An upper bound of the number.
 pub below_digits : (n : ℕ) (l : Leading) → Leads n l → l.digits < 2 ^ 64 → n < 2 ^ 64 * 16 ^ l.left
 below_digits n l h d =
     let e : (l.digits + 1) * 16 ^ l.left ≤ 2 ^ 64 * 16 ^ l.left = mul-le-mul_right (16 ^ l.left) (omega (arith, d)) in

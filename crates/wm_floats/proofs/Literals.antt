@@ -1,4 +1,4 @@
--- The numbers that the standard writes are those that the code takes apart.
+-- The numbers that the standard describes are those that the code splits into parts.
 use Rattle.std.proofs.Common.{◌≡◌, ℕ, ◌≤◌, ◌⊎◌, Bool, true, false, cond, List, [], ◌∷◌, ◌++◌, length, fold, Some, None, ◌≢◌, refl, sym, ap, subst, ◌∙◌, inl, inr, arith, append_assoc}
 use Rattle.std.specs.Prelude.{◌==◌, ◌&&◌, ◌||◌}
 use Rattle.std.specs.Char.{is_digit}
@@ -42,7 +42,7 @@ none_append : (x y : ℕ) (a b : List ℕ) → HasNone x y a → HasNone x y b �
 none_append x y [] b h k = k
 none_append x y (c ∷ a) b h k = (h.0, none_append x y a b h.1 k)
 
--- what an exponent's letters and the point are to a base
+-- The letters of an exponent and the point are no digits of a base.
 pub record Marks (base lower upper : ℕ) : Type 0 where
   pub small : base ≤ 16
   pub lower_is : NotDigit base lower
@@ -159,11 +159,11 @@ power_told x y u d b (inr (inr (ds, p, q, (f, r, all, l, (s, t, parts, minus, h)
     let v : digits_value 10 (plain t) ≡ d = w.value_is 0 ∙ sym q in
     subst (Power x y u d) (sym text) (record { power = (true, t); begins = mark_true x y g.0 g.2; is = exponent_is g.0 (45 ∷ t) (true, t) refl (w.are false); up_is = sym p; down_is = v })
 
--- back
+-- The other direction.
 letter_back : (x y c : ℕ) → is_mark x y c ≡ true → (Byte x ∣ Byte y) (c ∷ [])
 letter_back x y c e = elim (mark_is x y c e) [ inl k ↦ inl (ap (λ (z : ℕ). z ∷ []) k) | inr k ↦ inr (ap (λ (z : ℕ). z ∷ []) k) ]
 
--- which digits follow a letter, behind which sign
+-- The digits that follow a letter, and the sign before them.
 signed_back : (b : List ℕ) (e : Bool × List ℕ) → are_digits 10 false (signed b).1 ≡ true → signed b ≡ e
     → (d : ℕ) × (ds : List ℕ) × Digits 10 (d ∷ ds) e.1 × (((e.0 ≡ false) × ((b ≡ e.1) ⊎ (b ≡ 43 ∷ e.1))) ⊎ ((e.0 ≡ true) × (b ≡ 45 ∷ e.1)))
 signed_back [] e h s = absurd (let f : false ≡ true = h in cc)
@@ -224,7 +224,7 @@ power_back x y (c ∷ b) e m h = elim (chosen (are_digits 10 false (signed b).1)
 abbrev pub Number : ℕ → ℕ → ℕ → List ℕ → List ℕ → ℕ → ℕ → Form ℕ
 Number base x y whole part u d = Digits base whole ▸ Fraction base part ▸ Exponent x y u d
 
--- what the code makes of a number that is written so
+-- The code's parts of a number that has this form.
 pub record Taken (base x y : ℕ) (whole part : List ℕ) (u d : ℕ) (b : List ℕ) : Type 0 where
   pub numeral : Numeral
   pub is : numeral_of base x y b ≡ Some numeral
@@ -256,7 +256,7 @@ number_taken base x y whole part u d b m (a, r, all, digits, (p, e, rest, fracti
       down_is = k.down_is;
     }
 
--- back: what the code takes apart is written so
+-- The other direction: a number that the code splits has this form.
 pub record Given (base x y : ℕ) (n : Numeral) (b : List ℕ) : Type 0 where
   pub whole : List ℕ
   pub part : List ℕ

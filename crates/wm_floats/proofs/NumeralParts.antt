@@ -7,7 +7,7 @@ use Rattle.wm_syntax.specs.declared.instructions.FloatType.{FloatType}
 use Rattle.wm_floats.proofs.Basics.{chosen, same_some, none_some, bind_ok, bind_is}
 use Rattle.wm_floats.proofs.Underscores.{digits_all, digits_some, none_or_digits}
 
--- ---- what stands around a point
+-- ---- the digits around a point
 
 pub record Sides (base : ℕ) (whole part : List ℕ) (x : List ℕ × List ℕ) : Type 0 where
   pub whole_is : are_digits base false whole ≡ true

@@ -1,4 +1,4 @@
--- The bits of a float lie in their range.
+-- The bits of a float are in their range.
 use Rattle.std.proofs.Common.{ℕ, ◌≡◌, ◌+◌, ◌-◌, ◌^◌, ◌<◌, ◌≤◌, false, List, [], ◌∷◌, Option, Some, None, codes, nat_lt, option_map, refl, sym, ap, subst, ◌∙◌, arith, inl, inr, ltb-true}
 use Rattle.std.specs.Prelude.{◌==◌}
 use Rattle.std.specs.Str.Parse.{digits_value}
@@ -66,7 +66,7 @@ magnitude_small w a b e = elim (chosen (is_just (codes "inf") a) (Some (infinity
     by None e = number_small w a b e
     by (Some d) e = nan_small w d b e
 
--- as the code adds the sign
+-- The sum with the sign bit that the code makes.
 pub signed_fits : (w : FloatType) (a : List ℕ) (b s : ℕ) → Some b ≡ magnitude_of w a → s ≡ 2 ^ (signif w + expon w) → s + b < 2 ^ 64
 signed_fits w a b s e h = let f = fits w in omega (arith, magnitude_small w a b (sym e), f.word, h)
 

@@ -1,4 +1,4 @@
--- What bits stand for: neighbours, and order.
+-- The values of bits: neighbours, and order.
 use Rattle.std.proofs.Common.{ℕ, zero, suc, ◌≡◌, ◌+◌, ◌-◌, ◌*◌, ◌/◌, ◌%◌, ◌^◌, ◌<◌, ◌≤◌, sym, ap, subst, ◌∙◌, arith, inl, inr}
 use native.Mathlib.Nat.{mul-le-mul_right, mul-le-mul_left, mul-lt-mul_of_pos_right, le_trans, lt_of_lt_of_le, le_of_eq, pow-suc, eq-zero-or-pos}
 use lib.Pow.{pow_pos}
@@ -12,7 +12,7 @@ use Rattle.wm_floats.specs.Nearest.{units, of_fields}
 pub units_of_fields : (w : FloatType) (e t : ℕ) → t < 2 ^ signif w → units w (e * 2 ^ signif w + t) ≡ of_fields w e t
 units_of_fields w e t h = λ i. of_fields w (digits_div e h i) (digits_mod e h i)
 
--- what m * 2 ^ k units have as bits
+-- The bits of m * 2 ^ k units.
 pub units_at : (w : FloatType) (m k : ℕ) → m ≤ 2 * 2 ^ signif w → (0 < k → 2 ^ signif w ≤ m) → units w (k * 2 ^ signif w + m) ≡ m * 2 ^ k
 units_at w m k most normal =
     let h = 2 ^ signif w in
@@ -71,7 +71,7 @@ pub units_mono : (w : FloatType) (b n : ℕ) → units w b ≤ units w (b + n)
 units_mono w b zero = let e : b ≡ b + 0 = omega arith in le_of_eq (ap (units w) e)
 units_mono w b (suc n) = let e : b + n + 1 ≡ b + suc n = omega arith in le_trans (units_mono w b n) (le_trans (units_up w (b + n)) (le_of_eq (ap (units w) e)))
 
--- what lies lower stands for no more
+-- Lower bits have no greater value.
 pub units_le : (w : FloatType) (a b : ℕ) → a ≤ b → units w a ≤ units w b
 units_le w a b h = let e : a + (b - a) ≡ b = omega arith in le_trans (units_mono w a (b - a)) (le_of_eq (ap (units w) e))
 

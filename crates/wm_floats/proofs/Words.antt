@@ -1,4 +1,4 @@
--- A word and what follows it.
+-- A word and the text after it.
 use Rattle.std.proofs.Common.{◌≡◌, ℕ, Bool, true, false, List, [], ◌∷◌, ◌++◌, Option, Some, None, MatchOption, ◌≢◌, refl, sym, ap, ◌∙◌, append-nil, inl, inr}
 use Rattle.std.specs.Prelude.{◌==◌}
 use Rattle.std.specs.Borrow.{Bor}
@@ -25,7 +25,7 @@ behind_none word b never = by (behind word b) refl
     by None e = e
     by (Some r) e = absurd (never r (behind_found word b r e))
 
--- as the code takes it off
+-- The text after a word, as the code finds it.
 pub behind_cases : (word b : List ℕ) (r : Option (Bor (List ℕ))) → MatchOption r ((rest : List ℕ) → b ≢ word ++ rest) (λ x. b ≡ word ++ x.now)
     → MatchOption r (behind word b ≡ None) (λ x. behind word b ≡ Some x.now)
 behind_cases word b None h = behind_none word b h
@@ -39,7 +39,7 @@ just_is word b e = by (behind word b) refl e
     by (Some []) h e = behind_found word b [] h ∙ append-nil word
     by (Some (c ∷ r)) h e = absurd (let f : false ≡ true = e in cc)
 
--- what is no such word
+-- A text that is not this word.
 pub just_not : (word b : List ℕ) → b ≢ word → is_just word b ≡ false
 just_not word b never = by (is_just word b) refl
   where

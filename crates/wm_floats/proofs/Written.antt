@@ -1,4 +1,4 @@
--- The bits that the code finds in an atom are those that the atom writes.
+-- The bits that the code finds in an atom are those that the atom denotes.
 use Rattle.std.proofs.Common.{◌≡◌, ℕ, ◌<◌, ◌+◌, ◌-◌, ◌*◌, ◌^◌, Bool, true, false, List, [], ◌∷◌, ◌++◌, length, Option, Some, None, is_some, option_map, codes, nat_lt, refl, sym, ap, subst, ◌∙◌, inl, inr, arith, ltb-true, lt-ltb}
 use native.Mathlib.Nat.{mul-pos}
 use lib.Pow.{pow_pos}
@@ -220,7 +220,7 @@ float_found w bits (c ∷ a) e = elim (chosen (c == 43) (magnitude_of w a) _ (So
     by k None h e = absurd (none_some bits e)
     by k (Some n) h e = inr (n, sym (same_some (below_zero w n) bits e), (45 ∷ [], a, ap (λ (z : ℕ). z ∷ a) k, refl, magnitude_found w n a h))
 
--- an atom writes one float of a width
+-- An atom denotes one float of a width.
 pub one_float : (w : FloatType) (b c : ℕ) (a : List ℕ) → IsFloat w b a → IsFloat w c a → b ≡ c
 one_float w b c a p q = same_some b c (sym (float_more w b a p) ∙ float_more w c a q)
 

@@ -1,4 +1,4 @@
--- Digits as the standard writes them are the digits that the code tests, and have their value.
+-- Digits of the standard are the digits that the code tests, with the same value.
 use Rattle.std.proofs.Common.{◌≡◌, ℕ, ◌<◌, ◌≤◌, ◌+◌, ◌-◌, ◌*◌, ◌⊎◌, Bool, true, false, cond, List, [], ◌∷◌, ◌++◌, length, fold, Some, None, nat_lt, nat_le, refl, sym, ap, subst, ◌∙◌, inl, inr, arith}
 use Rattle.std.specs.Prelude.{◌==◌, ◌&&◌}
 use Rattle.std.specs.Char.{is_digit}
@@ -108,7 +108,7 @@ digit_back c h = elim (cases_lt c 48) [
 abbrev pub next : ℕ → ℕ → ℕ → ℕ
 next base n d = n * base + d
 
--- what the code makes of a text that writes these digits
+-- The code's view of a text that has these digits.
 pub record Writes (base : ℕ) (ds b : List ℕ) : Type 0 where
   pub are : (after : Bool) → are_digits base after b ≡ true
   pub value_is : (n : ℕ) → digits_value_after base n (plain b) ≡ fold (next base) n ds
@@ -151,7 +151,7 @@ digits_write base (d ∷ e ∷ ds) b h (x, y, all, (c, is, v, lt), (s, w, parts,
 
 -- ---- back
 
--- what is left of digits, after a digit or not
+-- The rest of some digits, after a digit or not.
 abbrev pub DigitsLeft : ℕ → Bool → List ℕ → Type 0
 DigitsLeft base false b = (d : ℕ) × (ds : List ℕ) × Digits base (d ∷ ds) b
 DigitsLeft base true b = (b ≡ []) ⊎ ((d : ℕ) × (ds w : List ℕ) × ((b ≡ 95 ∷ w) ⊎ (b ≡ w)) × Digits base (d ∷ ds) w)

@@ -1,4 +1,4 @@
--- Operands by their kinds and their widths, when one of the two lists changes.
+-- Operands given by their kinds and widths, when one of the two lists changes.
 use Rattle.std.proofs.Common.{ℕ, zero, suc, ◌≡◌, ◌≢◌, ◌-◌, ◌%◌, ◌<◌, ◌≤◌, Bool, IsTrue, List, [], ◌∷◌, ◌++◌, Option, None, Some, Result, Ok, Err, OnOk, OnErr, IfErr, length, drop, option_map, option_to_list, sym, refl, ap, ◌∙◌, subst, arith}
 use Rattle.wm_syntax.specs.declared.types.ValType.{ValType}
 use Rattle.wm_syntax.specs.declared.why.Why.{Why}
@@ -57,8 +57,8 @@ written_under at wide v w n h e i l = let apart : i ≢ at = omega (arith, e, l)
 pub written_there : (at : ℕ) (wide : Bool) (v w : Widths) (n : ℕ) → Written at wide v w → at ≡ n → entry_of Float (is_wide w n) ≡ entry_of Float wide
 written_there at wide v w n h e = ap (λ m. entry_of Float (is_wide w m)) (sym e) ∙ ap (λ b. entry_of Float b) h.there
 
--- Here p and v are the kinds and the widths before a call, q and w those after it, and now is what they
--- are before it.
+-- Here p and v are the kinds and the widths before a call, and q and w those after it. The operands before it
+-- are `now`.
 pub empty : (q : Kinds) (w : Widths) → q ≡ record { kinds = []; floor = 0 } → operands_of q w ≡ record { entries = []; floor = 0 }
 empty q w e = ap (λ (z : Kinds). operands_of z w) e
 
@@ -73,7 +73,7 @@ pub floor_set : (p q : Kinds) (v : Widths) (now : Floored) (floor : ℕ) → ope
 floor_set p q v now floor seen is =
     ap (λ (z : Kinds). operands_of z v) is ∙ ap (λ (z : Floored). let y : Floored = record { entries = z.entries; floor = floor } in y) seen
 
--- nothing changed, but for bits above the operands
+-- Nothing changed, except bits above the operands.
 pub kept : (p q : Kinds) (v w : Widths) (now : Floored) → operands_of p v ≡ now → q ≡ p
     → ((i : ℕ) → i < length p.kinds → is_wide w i ≡ is_wide v i) → operands_of q w ≡ now
 kept p q v w now seen is same =
@@ -105,11 +105,11 @@ pub push_err : {A : Type 0} (r : Result A Why) (p q : Kinds) (v w : Widths) (now
 push_err (Ok a) p q v w now seen is same = tt
 push_err (Err y) p q v w now seen is same = (is.0, kept p q v w now seen is.1 same)
 
--- the same kinds, whatever the bits above them
+-- The operands depend on the kinds, and not on the bits above them.
 pub widths_only : (p : Kinds) (v w : Widths) (now : Floored) → operands_of p v ≡ now → ((i : ℕ) → is_wide w i ≡ is_wide v i) → operands_of p w ≡ now
 widths_only p v w now seen same = kept p p v w now seen refl (λ i l. same i)
 
--- a refusal comes only at such a height
+-- An error comes only at such a height.
 pub near : {A : Type 0} (r : Result A Why) (n m : ℕ) → m ≡ n → OnErr r (64 ≤ n) → OnErr r (64 ≤ m)
 near (Ok a) n m e h = tt
 near (Err y) n m e h = omega (arith, e, h)
@@ -144,14 +144,14 @@ pub top_read : (p : Kinds) (v : Widths) (now : Floored) (k : Kind) (at : ℕ) (e
     → at ≡ length p.kinds - 1 → e ≡ entry_of k (is_wide v at) → first now.entries ≡ Some e
 top_read p v now k at e seen f a r = ap (λ (z : Floored). first z.entries) (sym seen) ∙ first_entry p.kinds v k at e f a r
 
--- What is given, of this kind, with those operands under it.
+-- The given operand, if any, above those operands.
 given_entries : (given : Option Entry) (ks : List Kind) (v : Widths) → IsTold given (is_wide v (length ks))
     → entries_in (option_to_list (option_map kind_of given) ++ ks) v ≡ option_to_list given ++ entries_in ks v
 given_entries None ks v told = refl
 given_entries (Some e) ks v told = ap (λ d. d ∷ entries_in ks v) told
 
--- One operand is replaced, or two: of each its kind and its width show that it fits. The given one comes at the
--- index of the lowest, where that width is its own, if it is a float.
+-- One operand or two are replaced. The kind and the width of each show that it fits. The given one gets the
+-- index of the lowest, whose width is its own if it is a float.
 pub one_replaced : (p q : Kinds) (v : Widths) (now : Floored) (at : ℕ) (k : Kind) (u : ValType) (given : Option Entry)
     → operands_of p v ≡ now → at ≡ length p.kinds - 1 → IsTrue (fits (entry_of k (is_wide v at)) u) → IsTold given (is_wide v at)
     → ReplacesKinds (k ∷ []) (option_map kind_of given) p q → ReplacesEntries (u ∷ []) given now (operands_of q v)

@@ -1,11 +1,11 @@
--- What a look at the current word tells of the operands on top.
+-- The operands on top that the current word shows.
 use Rattle.std.proofs.Common.{ℕ, suc, ◌≡◌, ◌+◌, ◌-◌, ◌*◌, ◌/◌, ◌%◌, ◌^◌, ◌<◌, ◌≤◌, List, [], ◌∷◌, ◌++◌, Option, Some, length, drop, get_or, option_to_list, sym, refl, ap, ◌∙◌, arith}
 use Rattle.wm_stacks.specs.declared.words.Kind.{Kind}
 use Rattle.wm_stacks.specs.exact.Stacks.{first, rest}
 use Rattle.wm_stacks.specs.exact.Words.{Kinds, ReplacesKinds, code_of, kind_of_code, kinds_in, kinds_of_word, kinds_under}
 use Rattle.wm_stacks.proofs.OperandWords.{kept_word, length-standing, pushed_standing, split_standing}
 
--- these kinds and this floor, seen as a value
+-- The value of these kinds and this floor.
 abbrev pub view_of : List Kind → ℕ → Kinds
 view_of ks floor = record { kinds = ks; floor = floor }
 
@@ -21,7 +21,7 @@ floor_seen ws c n floor now seen = ap (λ (v : Kinds). v.floor) seen
 pub height_seen : (ws : List ℕ) (c n floor : ℕ) (now : Kinds) → Seen ws c n floor now → length now.kinds ≡ n + 32 * length ws
 height_seen ws c n floor now seen = ap (λ es. length es) (kinds_seen ws c n floor now seen) ∙ length-standing ws c n
 
--- the top operand is taken, or the two topmost, and these kinds stand above what is left
+-- The top operand or the two topmost are removed, and these kinds are above the rest.
 pub one_replaced : (ws : List ℕ) (c n floor : ℕ) (now : Kinds) (k : Kind) (given : Option Kind) (after : List Kind)
     → 0 < n → floor < n + 32 * length ws → Seen ws c n floor now → kind_of_code (c % 4) ≡ k
     → after ≡ option_to_list given ++ kinds_in ws (c / 4) (n - 1) → ReplacesKinds (k ∷ []) given now (view_of after floor)
@@ -90,7 +90,7 @@ first_append (j ∷ ks) ls k h = h
 pub kept_seen : (ws vs : List ℕ) (c v floor : ℕ) (now : Kinds) → Seen ws c 32 floor now → vs ≡ ws ++ c ∷ [] → Seen vs v 0 floor now
 kept_seen ws vs c v floor now seen is = ap (λ xs. view_of (kinds_in xs v 0) floor) is ∙ ap (λ ks. view_of ks floor) (kept_word ws c v) ∙ seen
 
--- the top operand, where the current word has none: it stands in the last word on the list
+-- The top operand if the current word has none: it is in the last word on the list.
 first_of_last : (ws : List ℕ) → 0 < length ws → first (kinds_under ws) ≡ Some (kind_of_code (get_or ws (length ws - 1) 0 % 4))
 first_of_last [] h = absurd (omega (arith, h))
 first_of_last (w ∷ []) h = refl

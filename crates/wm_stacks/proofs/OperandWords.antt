@@ -1,4 +1,4 @@
--- The kinds that stand in words, those of the topmost operands being kept apart.
+-- The kinds in words, those of the topmost operands held separately.
 use Rattle.std.proofs.Common.{ℕ, zero, suc, ◌≡◌, ◌+◌, ◌-◌, ◌*◌, ◌/◌, ◌%◌, ◌^◌, ◌<◌, ◌≤◌, List, [], ◌∷◌, ◌++◌, length, take, drop, get_or, sym, refl, ap, ◌∙◌, arith}
 use Rattle.std.proofs.lemmas.List.{append-nil, append_assoc, drop_all, drop-append-le, drop-drop, length-append}
 use Rattle.std.proofs.Math.Seq.{drop-append-add}
@@ -25,7 +25,7 @@ length-under (w ∷ ws) =
 pub length-standing : (ws : List ℕ) (c n : ℕ) → length (kinds_in ws c n) ≡ n + 32 * length ws
 length-standing ws c n = omega (arith, length-append (kinds_of_word n c) (kinds_under ws), length-under ws, length-word n c)
 
--- a word keeps its lowest kinds where it loses its highest bits
+-- A word that loses its highest bits keeps its lowest kinds.
 cut_word : (n m w : ℕ) → n ≤ m → kinds_of_word n (w % 2 ^ (2 * m)) ≡ kinds_of_word n w
 cut_word zero m w h = refl
 cut_word (suc n) zero w h = absurd (omega (arith, h))
@@ -65,20 +65,20 @@ drop-word (suc k) (suc n) w =
     drop-word k n (w / 4) ∙ ap (kinds_of_word (n - k)) (shr-shr w 2 (2 * k) ∙ ap (λ j. w / 2 ^ j) i)
     ∙ ap (λ j. kinds_of_word j (w / 2 ^ (2 * suc k))) e
 
--- some operands of the current word taken away
+-- Some operands of the current word are removed.
 pub dropped_standing : (ws : List ℕ) (c n k : ℕ) → k ≤ n → drop k (kinds_in ws c n) ≡ kinds_in ws (c / 2 ^ (2 * k)) (n - k)
 dropped_standing ws c n k h =
     drop-append-le k (kinds_of_word n c) (kinds_under ws) (omega (arith, length-word n c, h))
     ∙ ap (λ ks. ks ++ kinds_under ws) (drop-word k n c)
 
--- the current word, which is full, on the list, and another begun
+-- The full current word goes on the list, and another begins.
 pub kept_word : (ws : List ℕ) → (c v : ℕ) → kinds_in (ws ++ c ∷ []) v 0 ≡ kinds_in ws c 32
 kept_word [] c v = refl
 kept_word (w ∷ ws) c v =
     ap (λ ks. ks ++ kinds_of_word 32 w) (kept_word ws c v)
     ∙ append_assoc (kinds_of_word 32 c) (kinds_under ws) (kinds_of_word 32 w)
 
--- the word with this index is the current one, and those above it are taken away
+-- The word with this index becomes the current one, and those above it are removed.
 back_to : (ws : List ℕ) (index : ℕ) → index < length ws
     → drop (32 * (length ws - index - 1)) (kinds_under ws) ≡ kinds_in (take index ws) (get_or ws index 0) 32
 back_to [] index h = absurd (omega (arith, h))
@@ -96,7 +96,7 @@ back_to (w ∷ ws) (suc index) h =
     ∙ ap (λ ks. ks ++ kinds_of_word 32 w) (back_to ws index (omega (arith, h)))
     ∙ append_assoc (kinds_of_word 32 (get_or ws index 0)) (kinds_under (take index ws)) (kinds_of_word 32 w)
 
--- operands taken away, so that some of the word with this index are left
+-- Operands are removed, so that some of the word with this index are left.
 pub back : (ws : List ℕ) (c n k index : ℕ) → index < length ws → k ≤ 32
     → drop (n + 32 * (length ws - index - 1) + k) (kinds_in ws c n) ≡ kinds_in (take index ws) (get_or ws index 0 / 2 ^ (2 * k)) (32 - k)
 back ws c n k index h l =

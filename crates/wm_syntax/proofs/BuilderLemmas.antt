@@ -1,4 +1,4 @@
--- What a builder of bodies keeps goes with where its ops stand.
+-- The state that a builder of bodies keeps agrees with its ops.
 use Rattle.std.proofs.Common.{◌≡◌, ℕ, zero, suc, ◌+◌, ◌-◌, Bool, true, false, List, [], ◌∷◌, ◌++◌, length, map, take, Option, Some, None, refl, sym, ap, ◌∙◌, append_assoc, append-nil, length-append, arith, slice_get, is_some, Result, Ok, Err, ◌≢◌}
 use Rattle.std.specs.Prelude.{slice_set, OnOk, OnErr}
 use Rattle.wm_syntax.specs.declared.modules.body_builder.BodyFault.{BodyFault}
@@ -14,7 +14,7 @@ use Rattle.wm_syntax.specs.inner.Building.{Open, in_block, in_loop, in_first, in
 use Rattle.wm_syntax.specs.inner.Codes.{place_again}
 use Rattle.wm_syntax.specs.inner.Builders.{Keeps, kinds, open_at, labels_at, last_of, is_first, is_else, is_open, fits, last_set, next_ops, next_open, next_left}
 
--- the last of a list
+-- The last element of a list.
 one_less : {X : Type 0} (xs : List X) (x : X) → length (xs ++ x ∷ []) - 1 ≡ length xs
 one_less xs x = omega (arith, length-append xs (x ∷ []))
 
@@ -38,7 +38,7 @@ last_gone xs x = ap (λ n. take n (xs ++ x ∷ [])) (one_less xs x) ∙ front_ta
 some_open : {X : Type 0} (xs : List X) (x : X) → length (xs ++ x ∷ []) ≡ suc (length xs)
 some_open xs x = omega (arith, length-append xs (x ∷ []))
 
--- whether an op fits is whether it may stand
+-- An op fits if and only if it is allowed.
 open_put : (xs : List Opened) (x : Opened) → is_open (xs ++ x ∷ []) ≡ true
 open_put [] x = refl
 open_put (y ∷ xs) x = refl
@@ -219,7 +219,7 @@ next_labels (labels outer s seen zero) q (op.Label l) e = let same : at outer (s
 next_labels (labels outer s seen (suc n)) q (op.Label l) e = let same : labels outer s (seen ++ l ∷ []) n ≡ q = cc in let less : suc (suc n) - 1 ≡ suc n = omega arith in less ∙ ap labels_at same
 next_labels (labels outer s seen n) q o e = absurd (cc)
 
--- what is kept after an op that stands there, and where that is
+-- The builder's fields after an op that is allowed, and its new state.
 pub keeps_next : (ops : List Op) (begun : List Opened) (left : ℕ) (p q : Place) (o : Op) → Keeps ops begun left p → placed p o ≡ Some q
     → Keeps (next_ops o ops) (next_open o begun) (next_left o left) q
 keeps_next ops begun left p q o k e = record {
@@ -234,7 +234,7 @@ keeps_there ops begun left p k = ap place_in k.ops_are ∙ place_again p
 pub keeps_fits : (ops : List Op) (begun : List Opened) (left : ℕ) (p : Place) (o : Op) → Keeps ops begun left p → fits begun left o ≡ is_some (placed p o)
 keeps_fits ops begun left p o k = ap (λ z. fits z left o) k.begun_are ∙ ap (λ z. fits (open_at p) z o) k.left_are ∙ fits_there p o
 
--- What a push leaves, taken or refused.
+-- The outcome of a push, whether the op is taken or refused.
 pub record Outcome (r : Result (Unit {0}) BodyFault) (ops : List Op) (begun : List Opened) (left : ℕ) (p : Place) (o : Op) : Type 0 where
   pub place : Place
   pub keeps : Keeps ops begun left place
@@ -256,7 +256,7 @@ outcome (Ok u) ops ops' begun begun' left left' p o k ok err un = go (placed p o
     go None is = absurd (cc (un (keeps_fits ops begun left p o k ∙ ap is_some is)))
     go (Some q) is = record { place = q; keeps = rw (ok.0, ok.1, ok.2) (keeps_next ops begun left p q o k is); taken = is; refused = tt }
 
--- What a push leaves that takes an op at once, or leaves it.
+-- The outcome of a push that takes an op on the fast path, or leaves it.
 pub record NearOutcome (taken_now : Bool) (ops : List Op) (begun : List Opened) (left : ℕ) (p : Place) (o : Op) : Type 0 where
   pub place : Place
   pub keeps : Keeps ops begun left place
@@ -275,7 +275,7 @@ near_outcome false ops ops' begun left p o k next opens none_left fit still_ther
     let same : ops' ≡ ops = still_there refl in
     record { place = p; keeps = rw same k; taken = λ e. absurd (cc e); left_there = λ _. refl }
 
--- which refusal comes when
+-- When each refusal comes.
 pub stands : (r : Result (Unit {0}) BodyFault) (ops : List Op) (begun : List Opened) (left : ℕ) (p q : Place) (o : Op) → Keeps ops begun left p
     → (fits begun left o ≡ true → r ≢ Err fault.Unbalanced) → placed p o ≡ Some q → r ≢ Err fault.Unbalanced
 stands r ops begun left p q o k f is = f (keeps_fits ops begun left p o k ∙ ap is_some is)

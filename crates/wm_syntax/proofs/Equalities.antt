@@ -1,4 +1,4 @@
--- What tells two values apart answers as the comparison of their codes does.
+-- A test whether two values are equal gives the same answer as the comparison of their codes.
 use Rattle.std.proofs.Common.{◌≡◌, ◌↔◌, Bool, true}
 use Rattle.std.specs.Bool.{one_answer}
 use Rattle.std.specs.Coded.{Coded}

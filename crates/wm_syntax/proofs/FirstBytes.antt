@@ -1,4 +1,4 @@
--- What a byte begins under a profile, by the table of instructions.
+-- The class of a byte under a profile, by the table of instructions.
 use Rattle.std.proofs.Common.{◌≡◌, ℕ, Bool, true, false, Option, Some, slice_get, refl, sym, ap, ◌∙◌}
 use Rattle.std.specs.Prelude.{None as Nothing}
 use Rattle.wm_syntax.specs.declared.instructions.Op.{Op}
@@ -16,13 +16,13 @@ pub row_under : (p : Profile) (byte : ℕ) (c : OpClass) → slice_get classes b
 unfolding class_under
 row_under p byte c e = ap (row_in p) (sym e)
 
--- each op of the profile that begins with the byte is of its class
+-- Each op of the profile that begins with the byte has this class.
 pub found_under : (p : Profile) (byte : ℕ) (o : Op) → first_byte o ≡ Some byte → IsOpOf p o → class_under p byte ≡ class_of o
 found_under p byte o f i =
     let e : slice_get classes byte ≡ Some (class_of o) = class_there o byte f in
     sym (row_under p byte (class_of o) e) ∙ found_in p byte (class_of o) e o f i
 
--- and there is one
+-- A class of an op is that of an op of the profile which begins with the byte.
 pub begins_under : (p : Profile) (byte : ℕ) → IsClassOfOp (class_under p byte) → (o : Op) × (first_byte o ≡ Some byte) × IsOpOf p o × (class_of o ≡ class_under p byte)
 unfolding class_under
 begins_under p byte f = go (slice_get classes byte) refl f
@@ -43,7 +43,7 @@ float_under p byte f = go (slice_get classes byte) refl f
         of false h = (float_in p byte c e h).0 f
     go Nothing e f = cc
 
--- where the profile has floats no byte is refused as one of theirs
+-- If the profile has floats, no byte has the class Float.
 pub no_float_under : (p : Profile) (byte : ℕ) → has p Floats ≡ true → class_under p byte ≡ Float → ⊥
 unfolding class_under
 no_float_under p byte h f = go (slice_get classes byte) refl f

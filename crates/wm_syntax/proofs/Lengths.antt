@@ -1,10 +1,10 @@
--- How many bytes a number has, byte by byte.
+-- The length of a number, byte by byte.
 use Rattle.std.proofs.Common.{◌≡◌, ℕ, zero, suc, ◌+◌, ◌-◌, ◌%◌, ◌/◌, ◌<◌, ◌≤◌, [], ◌∷◌, length, refl, ap, ◌∙◌, arith, ℤ, pos, negsuc, neg_ℤ, ◌≤ℤ◌, ◌<ℤ◌, Bool, true, false, cond, nat_lt}
 use Rattle.std.proofs.lemmas.Int.{ints}
 use Rattle.wm_syntax.specs.Leb128.{unsigned_bytes, signed_bytes}
 use Rattle.wm_syntax.proofs.NumberLoops.{last_byte, more_bytes, last_positive, more_positive, no_signed}
 
--- of a number: the last byte, a byte before others, the last of five
+-- For an unsigned number: the last byte, a byte before others, and the last of five bytes.
 last_len : (k n : ℕ) → 0 < k → n < 128 → length (unsigned_bytes k n) ≡ 1
 last_len k n some h = ap length (last_byte k n some h)
 
@@ -53,7 +53,7 @@ five_bytes n h =
       one_left (n / 128 / 128 / 128 / 128),
     )
 
--- the same of a signed number
+-- For a signed number: the last byte, and a byte before others.
 pub last_signed_len : (k n : ℕ) → 0 < k → n < 64 → length (signed_bytes k (pos n)) ≡ 1
 last_signed_len k n some h = ap length (last_positive k n some h)
 

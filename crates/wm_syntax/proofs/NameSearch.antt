@@ -1,4 +1,4 @@
--- A word among the sorted names.
+-- The search for a word among the sorted names.
 use Rattle.std.proofs.Common.{◌≡◌, ℕ, zero, suc, ◌<◌, ◌≤◌, ◌+◌, Bool, true, false, ◌&&◌, cond, List, [], ◌∷◌, length, Option, Some, None as Nothing, refl, sym, ap, subst, ◌∙◌, inl, inr, arith, get_or, slice_get}
 use Rattle.std.specs.Prelude.{map}
 use Rattle.std.specs.List.{list_all, list_any}
@@ -22,7 +22,7 @@ use Rattle.wm_syntax.proofs.NamedOps.{chosen, first_has}
 same_some : {A : Type 0} (x y : A) → ◌≡◌ {A = Option A} (Some x) (Some y) → x ≡ y
 same_some x y e = cc
 
--- the name of this rank
+-- The name at this index.
 abbrev pub at_rank : ℕ → List ℕ
 at_rank i = get_or names (get_or by_name i 0) []
 
@@ -32,7 +32,7 @@ Below w low = (i : ℕ) → i < low → slice_cmp nat_cmp (at_rank i) w ≡ Less
 abbrev pub Above : List ℕ → ℕ → Type 0
 Above w high = (i : ℕ) → high ≤ i → i < 177 → slice_cmp nat_cmp (at_rank i) w ≡ Greater
 
--- all in rising order
+-- All names are in rising order.
 sorted : List (List ℕ) → Bool
 sorted [] = true
 sorted (x ∷ xs) = list_all (λ y. is_lt (slice_cmp nat_cmp x y)) xs && sorted xs
@@ -109,7 +109,7 @@ equal_lists [] (y ∷ ys) e = cc
 equal_lists (x ∷ xs) [] e = cc
 equal_lists (x ∷ xs) (y ∷ ys) e = let g = equal_numbers x y (slice_cmp nat_cmp xs ys) e in ap (λ (z : ℕ). z ∷ xs) g.0 ∙ ap (λ (z : List ℕ). y ∷ z) (equal_lists xs ys g.1)
 
--- the class of each rank is the one that its name names
+-- The class at each index is that of its name.
 rows : map (λ b. slice_get classes b) by_name ≡ map (λ b. Some (first_named classes (get_or names b []))) by_name
 rows = refl
 
@@ -122,7 +122,7 @@ pub search_found : (p : Profile) (w : List ℕ) (middle : ℕ) → middle < 177 
 unfolding class_under class_named
 search_found p w middle lt e = ap (row_in p) (row_at middle lt) ∙ ap (λ (z : List ℕ). class_in p (first_named classes z)) (equal_lists (at_rank middle) w e)
 
--- each name of the table has a rank
+-- Each name of the table has an index.
 listed : OpClass → Bool
 listed c = elim (class_name c) [ Nothing ↦ true | Some name ↦ list_any (λ n. bytes_eq n name) ordered ]
 
@@ -168,6 +168,6 @@ search_none p w low high below above le = elim (first_has classes w) [
 
 pub ruleset search_laws = (below_more, above_more, search_found, search_none)
 
--- what the code compared
+-- The comparison that the code made.
 pub compared : (w name : List ℕ) (byte middle : ℕ) (r o : Ordering) → byte ≡ get_or by_name middle 0 → name ≡ get_or names byte [] → r ≡ slice_cmp nat_cmp name w → r ≡ o → slice_cmp nat_cmp (at_rank middle) w ≡ o
 compared w name byte middle r o b n e s = ap (λ (z : List ℕ). slice_cmp nat_cmp z w) (sym (n ∙ ap (λ (z : ℕ). get_or names z []) b)) ∙ sym e ∙ s

@@ -1,4 +1,4 @@
--- What a word names, by the table of instructions.
+-- The class that a word names, by the table of instructions.
 use Rattle.std.proofs.Common.{◌≡◌, ℕ, suc, slice_get, ◌⊎◌, Bool, true, false, cond, List, [], ◌∷◌, Option, Some, None as Nothing, refl, sym, ap, subst, ◌∙◌, inl, inr}
 use Rattle.std.specs.Prelude.{codes, slice_index_or}
 use Rattle.wm_syntax.specs.declared.instructions.IntType.TheVariants.{I32, I64}
@@ -31,7 +31,7 @@ use Rattle.std.proofs.lemmas.Slice.Eq.{bytes_eq-Decides}
 use Rattle.wm_syntax.specs.OpNames.{op_name}
 use Rattle.wm_syntax.specs.exact.NameTable.{names, class_name, has_name, first_named, class_named}
 
--- which of two a test chose
+-- The value that a test chose.
 pub chosen : {A : Type 0} (t : Bool) (x y z : A) → cond t x y ≡ z → ((t ≡ true) × (x ≡ z)) ⊎ ((t ≡ false) × (y ≡ z))
 chosen true x y z e = inl (refl, e)
 chosen false x y z e = inr (refl, e)
@@ -99,7 +99,7 @@ pub found_named : (p : Profile) (w : List ℕ) (o : Op) → op_name o ≡ Some w
 unfolding class_named
 found_named p w o e h = ap (class_in p) (named_op o w e) ∙ kept_class p (class_of o) (has_class p o h)
 
--- what is found has the name
+-- A class that is found has the name.
 has_found : (c : OpClass) (w : List ℕ) → has_name c w ≡ true → class_name c ≡ Some w
 has_found c w h = by (class_name c) refl h
   where
@@ -119,7 +119,7 @@ first_has (c ∷ cs) w = elim (chosen (has_name c w) c (first_named cs w) _ refl
     later (inl e) = inl e
     later (inr (i, e, n)) = inr (suc i, e, n)
 
--- what is named is an op of the profile that has this name
+-- A class of an op that is found is that of an op of the profile with this name.
 pub only_named : (p : Profile) (w : List ℕ) → IsClassOfOp (class_named p w) → (o : Op) × (op_name o ≡ Some w) × IsOpOf p o × (class_of o ≡ class_named p w)
 unfolding class_named
 only_named p w h =
@@ -131,7 +131,7 @@ only_named p w h =
           (b.0, sym (one_name b.0) ∙ ap class_name (b.3 ∙ q) ∙ m.2, b.2, b.3))
     ]
 
--- the name of an instruction stands at its byte
+-- The name of an instruction is at its byte.
 name_simple : (i : Simple) → slice_index_or names (opcode i).0 [] ≡ (opcode i).1
 name_simple (s.Numeric (Test I32)) = refl
 name_simple (s.Numeric (Test I64)) = refl
@@ -186,7 +186,7 @@ name_there b op.End h = there 0x0B b (codes "end") refl h
 name_there b (op.BrTable n) h = there 0x0E b (codes "br_table") refl h
 name_there b (op.Label l) h = cc
 
--- what the answer says
+-- The clauses of the answer.
 pub named_says : (p : Profile) (w : List ℕ) (c : OpClass) → c ≡ class_named p w
     → ((o : Op) → op_name o ≡ Some w → IsOpOf p o → c ≡ class_of o)
     × (IsClassOfOp c → (o : Op) × (op_name o ≡ Some w) × IsOpOf p o × (class_of o ≡ c))

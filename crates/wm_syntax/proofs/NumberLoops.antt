@@ -1,4 +1,4 @@
--- Writing a number from its low end.
+-- Writing a number, its low bits first.
 use Rattle.std.proofs.Common.{◌≡◌, ℕ, zero, suc, ◌+◌, ◌-◌, ◌%◌, ◌/◌, ◌<◌, ◌≤◌, List, [], ◌∷◌, ◌++◌, length, refl, sym, ap, ◌∙◌, append_assoc, append-nil, length-append, arith, nat_lt, true, false, ℤ, pos, negsuc, Bool, cond}
 use Rattle.std.proofs.lemmas.Bool.{lt-ltb}
 use Rattle.std.proofs.lemmas.Bool.Decides.{nat_tests}
@@ -38,7 +38,7 @@ unfolding signed_bytes
 more_negative zero n some h = absurd (omega arith)
 more_negative (suc k) n some h = rw (not_less n 64 h) (ap (λ (j : ℕ). (255 - n % 128) ∷ signed_bytes j (negsuc (n / 128))) (let e : k ≡ suc k - 1 = omega arith in e))
 
--- nothing is left where there is no room
+-- No bytes are written if there is no room.
 pub no_unsigned : (n : ℕ) → unsigned_bytes 0 n ≡ []
 unfolding unsigned_bytes
 no_unsigned n = refl
@@ -47,11 +47,11 @@ pub no_signed : (z : ℤ) → signed_bytes 0 z ≡ []
 unfolding signed_bytes
 no_signed z = refl
 
--- a step of the loop: b went out, and the rest is spelled by what is left
+-- A step of the loop: the byte x was written, and the bytes b are still to be written.
 pub one_more : (out b rest whole : List ℕ) (x : ℕ) → out ++ whole ≡ rest → whole ≡ x ∷ b → (out ++ x ∷ []) ++ b ≡ rest
 one_more out b rest whole x e w = append_assoc out (x ∷ []) b ∙ ap (λ z. out ++ z) (sym w) ∙ e
 
--- How a loop that writes byte by byte goes: the last byte, a byte before others, and no room.
+-- The steps of a loop that writes one byte at a time: the last byte, a byte before others, and no room.
 pub last_out : (new out rest whole : List ℕ) (x : ℕ) → new ≡ out ++ x ∷ [] → whole ≡ x ∷ [] → out ++ whole ≡ rest → new ≡ rest
 last_out new out rest whole x n w e = n ∙ ap (λ z. out ++ z) (sym w) ∙ e
 
@@ -64,7 +64,7 @@ none_out out rest whole w e = sym (append-nil out) ∙ ap (λ z. out ++ z) (sym 
 pub room_less : (new out : List ℕ) (x m k : ℕ) → new ≡ out ++ x ∷ [] → k < m → length out + (m - k) ≤ 16 → length new + (m - (k + 1)) ≤ 16
 room_less new out x m k n less room = let e : length new ≡ length out + 1 = ap length n ∙ length-append out (x ∷ []) in omega arith
 
--- a number has no more bytes than it may have
+-- A number has no more bytes than it is allowed to have.
 pub short : (k n : ℕ) → length (unsigned_bytes k n) ≤ k
 unfolding unsigned_bytes
 short zero n = omega arith

@@ -1,4 +1,4 @@
--- One spelling, one instruction: of a whole tree, and of a list up to what closes it.
+-- One encoding belongs to one instruction: for a whole tree, and for a list up to the byte that closes it.
 use Rattle.std.proofs.Common.{◌≡◌, ℕ, Bool, true, false, List, [], ◌∷◌, ◌++◌, length, inl, inr, ◌⊎◌, refl, sym, ap, ◌∙◌, subst, append_assoc, append-nil, arith, Option, Some, slice_get}
 use Rattle.std.proofs.lemmas.List.{append_cancel_left}
 use Rattle.wm_syntax.specs.Spelling.{Form, Byte, Each, ◌▸◌}
@@ -20,7 +20,7 @@ use Rattle.wm_syntax.proofs.OpTable.{found_simple}
 use Rattle.wm_syntax.proofs.Flat.{each_append, each_one}
 use Rattle.wm_syntax.proofs.Unambiguous.{same_simple, same_u32, then_same}
 
--- The first byte tells which instruction it is.
+-- The first byte determines the kind of instruction.
 first_op : Instruction → Op
 first_op (simple i) = op.Simple i
 first_op (table labels default) = op.BrTable (length labels)
@@ -50,7 +50,7 @@ some_same e = cc
 heads_same : {c d : ℕ} {x y : List ℕ} → c ∷ x ≡ d ∷ y → c ≡ d
 heads_same e = cc
 
--- the class that stands at a byte in the table
+-- The class at the first byte of an op in the table.
 pub class_there : (o : Op) (c : ℕ) → first_byte o ≡ Some c → slice_get classes c ≡ Some (class_of o)
 class_there (op.Simple i) c f = subst (λ (n : ℕ). slice_get classes n ≡ Some (class_of (op.Simple i))) (some_same f) (found_simple i)
 class_there (op.Block t) c f = subst (λ (n : ℕ). slice_get classes n ≡ Some (With k.Block)) (some_same f) refl
@@ -69,7 +69,7 @@ same_class i j a b u v p q e =
     let whole : h.0 ∷ (h.1 ++ u) ≡ g.0 ∷ (g.1 ++ v) = sym (ap (λ (z : List ℕ). z ++ u) h.2) ∙ e ∙ ap (λ (z : List ℕ). z ++ v) g.2 in
     some_same (sym (class_there (first_op i) h.0 h.3) ∙ ap (λ (n : ℕ). slice_get classes n) (heads_same whole) ∙ class_there (first_op j) g.0 g.3)
 
--- what a simple instruction is not
+-- The classes that no simple instruction has.
 is_structured : OpClass → Bool
 is_structured (With k.Block) = true
 is_structured (With k.Loop) = true
@@ -112,11 +112,11 @@ unfolding members
 spelled_members none a p = p
 spelled_members (snoc s i) a (x, y, e, p, q) = rw e (each_append SpellsInstruction (members s) (i ∷ []) x y (spelled_members s x p) (each_one SpellsInstruction i y q))
 
--- what stands after a list: an else or an end
+-- A list is followed by an else or an end.
 Closes : List ℕ → Type 0
 Closes u = (c : ℕ) × (r : List ℕ) × (u ≡ c ∷ r) × ((c ≡ 0x05) ⊎ (c ≡ 0x0B))
 
--- one instruction for each spelling, whatever follows
+-- Each encoding belongs to one instruction, whatever follows.
 Same : Instruction → Type 0
 Same i = (j : Instruction) (a b u v : List ℕ) → SpellsInstruction i a → SpellsInstruction j b → a ++ u ≡ b ++ v → (a ≡ b) × (i ≡ j)
 
@@ -170,7 +170,7 @@ lists_same s t h a b u v p q e cu cv =
     let r : (a ≡ b) × (members s ≡ members t) = each_same (members s) (members t) h a b u v (spelled_members s a p) (spelled_members t b q) e cu cv in
     (r.0, members_injective s t r.1)
 
--- an expression, by what its list is
+-- An expression is unambiguous if its list is.
 ends : (s t : Instructions) → AllSame (members s) → (a b u v : List ℕ) → SpellsExpression s a → SpellsExpression t b → a ++ u ≡ b ++ v → (a ≡ b) × (s ≡ t)
 unfolding Closes
 ends s t h a b u v (x, y, e, p, q) (x', y', e', p', q') f =
@@ -190,7 +190,7 @@ same_block_type t t' a b u v p q e =
     let same : block_byte t ≡ block_byte t' = first_bytes (block_byte t) (block_byte t') a b u v p q e in
     (p ∙ ap (λ (n : ℕ). n ∷ []) same ∙ sym q, block_tells t t' same)
 
--- a byte, a block type, and a form that is one already
+-- A byte, a block type, and a form that is unambiguous.
 typed_same : (c : ℕ) (t t' : Option ValType) (P P' : Form ℕ) (E : Type 0) → ((a b u v : List ℕ) → P a → P' b → a ++ u ≡ b ++ v → (a ≡ b) × E)
     → (a b u v : List ℕ) → (Byte c ▸ SpellsBlockType t ▸ P) a → (Byte c ▸ SpellsBlockType t' ▸ P') b → a ++ u ≡ b ++ v → (a ≡ b) × (t ≡ t') × E
 typed_same c t t' P P' E rest a b u v p q e =

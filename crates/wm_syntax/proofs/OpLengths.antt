@@ -1,4 +1,4 @@
--- The length of ops of which one is replaced by another that has as many bytes.
+-- The length of ops is unchanged if one op is replaced by another of the same length.
 use Rattle.std.proofs.Common.{◌≡◌, ℕ, zero, suc, ◌+◌, List, [], ◌∷◌, Some, slice_get, refl, sym, ap, ◌∙◌}
 use Rattle.std.specs.Prelude.{slice_set}
 use Rattle.std.proofs.lemmas.List.Sums.{sum_by-cons}

@@ -1,4 +1,4 @@
--- The table of bytes and the table of instructions say the same.
+-- The table of bytes and the table of instructions agree.
 use Rattle.std.proofs.Common.{◌≡◌, ◌↔◌, IsTrue, ℕ, zero, suc, ◌+◌, Bool, true, false, ◌&&◌, ◌==◌, not, List, [], ◌∷◌, Option, Some, slice_get, refl, sym, ap, ◌∙◌, subst, add-zero, arith}
 use Rattle.std.specs.Prelude.{None as Nothing, pos, if◌then◌else◌}
 use Rattle.std.specs.List.{list_all, enumerate_from}
@@ -79,7 +79,7 @@ found_simple (s.Store I32Store at) = refl
 found_simple (s.Store _ at) = refl
 found_simple _ = refl
 
--- what a test of a whole table says of one place
+-- A test of a whole table holds at each index.
 tested : (t : ℕ → OpClass → Bool) (xs : List OpClass) (n i : ℕ) (c : OpClass)
     → list_all (λ (e : ℕ × OpClass). t e.0 e.1) (enumerate_from n xs) ≡ true → slice_get xs i ≡ Some c → t (n + i) c ≡ true
 tested t [] n i c all e = cc
@@ -130,7 +130,7 @@ floats_feature Base e = cc
 floats_feature Floats e = refl
 floats_feature SignExtension e = cc
 
--- no row of the table says Float: that is what a profile without floats answers
+-- No row of the table is Float, which is the answer of a profile without floats.
 is_no_float : OpClass → Bool
 is_no_float Float = false
 is_no_float _ = true
@@ -214,7 +214,7 @@ plain_class op.End e = refl
 plain_class (op.Label l) e = refl
 plain_class _ e = cc
 
--- it stands at the byte of its class
+-- The sample op of a class begins with the byte of the class.
 sample_begins : (byte : ℕ) (c : OpClass) → slice_get classes byte ≡ Some c → IsClassOfOp c → (first_byte (sample c) ≡ Some byte) × (class_of (sample c) ≡ c)
 unfolding begins sample
 sample_begins byte c e i = go c i (subst (λ (m : ℕ). begins m c ≡ true) (let q : 0 + byte ≡ byte = omega arith in q) (tested begins classes 0 byte c all_begin e))
@@ -225,7 +225,7 @@ sample_begins byte c e i = go c i (subst (λ (m : ℕ). begins m c ≡ true) (le
     go Float i t = absurd i
     go None i t = absurd i
 
--- The same under a profile: an op has a class of its feature.
+-- Under a profile: the class of an op has the op's feature.
 simple_feature : (i : Simple) → class_feature (class_of (op.Simple i)) ≡ feature_of i
 simple_feature (s.Numeric x) = refl
 simple_feature (s.Load F32Load at) = refl
@@ -244,7 +244,8 @@ has_class p _ h = refl
 with_plain : (kind : Immediates) (o : Op) → With kind ≡ Plain o → ⊥
 with_plain kind o e = cc
 
--- the instruction of a class is of each profile that has the class: where it has a block type, it has no result
+-- The sample op of a class belongs to each profile that has the class. If it has a block type, it has no
+-- result.
 sample_has : (p : Profile) (c : OpClass) → class_of (sample c) ≡ c → IsTrue (has p (class_feature c)) → IsOpOf p (sample c)
 unfolding sample
 sample_has p (Plain (op.Simple i)) e h = h
@@ -271,7 +272,7 @@ sample_has p None e h = tt
 pub kept_class : (p : Profile) (c : OpClass) → IsTrue (has p (class_feature c)) → class_in p c ≡ c
 kept_class p c h = rw h refl
 
--- what is answered for a feature that a profile has not
+-- The answer for a feature that a profile does not have is no class of an op.
 no_left_out : (f : Feature) → IsClassOfOp (left_out f) → ⊥
 no_left_out Base h = h
 no_left_out Floats h = h
@@ -289,7 +290,7 @@ float_left_out Base e = cc
 float_left_out Floats e = refl
 float_left_out SignExtension e = cc
 
--- what a profile leaves of a class is that, or all of it
+-- A class under a profile is the class itself, or the answer for a missing feature.
 module _ (c : OpClass) where
   left_true : (b : Bool) → IsClassOfOp (if b then c else left_out (class_feature c)) → b ≡ true
   left_true true h = refl
@@ -318,7 +319,7 @@ begins_in p byte c e f =
     let found : (first_byte (sample c) ≡ Some byte) × (class_of (sample c) ≡ c) = sample_begins byte c e (subst IsClassOfOp same f) in
     (sample c, found.0, sample_has p c found.1 h, found.1 ∙ sym same)
 
--- Float is the answer for a byte of theirs where the profile has no floats
+-- If the profile has no floats, exactly the bytes of float instructions have the answer Float.
 pub float_in : (p : Profile) (byte : ℕ) (c : OpClass) → slice_get classes byte ≡ Some c → has p Floats ≡ false → (class_in p c ≡ Float) ↔ (is_float byte ≡ true)
 float_in p byte c e lacks = (to, from)
   where
@@ -331,13 +332,13 @@ float_in p byte c e lacks = (to, from)
         let f : has p (class_feature c) ≡ false = ap (has p) (floats_feature (class_feature c) g) ∙ lacks in
         rw f (left_out_float (class_feature c) g)
 
--- and for none where it has
+-- If the profile has floats, no byte has the answer Float.
 pub float_never : (p : Profile) (byte : ℕ) (c : OpClass) → slice_get classes byte ≡ Some c → has p Floats ≡ true → class_in p c ≡ Float → ⊥
 float_never p byte c e owns f =
     let g : (has p (class_feature c) ≡ false) × (is_floats (class_feature c) ≡ true) = left_float c (has p (class_feature c)) (not_float byte c e) f in
     let k : has p (class_feature c) ≡ true = ap (has p) (floats_feature (class_feature c) g.1) ∙ owns in
     let l : false ≡ true = sym g.0 ∙ k in cc
 
--- under no profile a byte of theirs is left without a class
+-- Under no profile has the byte of a float instruction the class None.
 pub float_not_none : (p : Profile) (byte : ℕ) (c : OpClass) → slice_get classes byte ≡ Some c → is_float byte ≡ true → class_in p c ≡ None → ⊥
 float_not_none p byte c e t n = left_none c (has p (class_feature c)) (is_float_at byte c e ∙ t) n

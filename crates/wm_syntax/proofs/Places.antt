@@ -7,7 +7,7 @@ use Rattle.wm_syntax.specs.Spelling.{Exactly, ◌▸◌}
 use Rattle.wm_syntax.specs.Instructions.{Instruction, Instructions, none, snoc, simple, table, block, loop, choice, HasOp, HasOps, HasElse}
 use Rattle.wm_syntax.specs.inner.Building.{Open, in_block, in_loop, in_first, in_second, Place, at, labels, start, closed, divided, placed, if_placed, place_after, body_in, tree_of}
 
--- on from where some ops lead
+-- Ops after a state that other ops lead to.
 then_on : (r : Option Place) (a b : List Op) → ((q : Place) → place_after q (a ++ b) ≡ if_placed (place_after q a) (λ p. place_after p b))
     → if_placed r (λ q. place_after q (a ++ b)) ≡ if_placed (if_placed r (λ q. place_after q a)) (λ p. place_after p b)
 then_on None a b h = refl
@@ -90,7 +90,7 @@ list_leads s ops h outer r = ops_lead s ops h outer none r ∙ ap (λ (u : Instr
 pub leads : (s : Instructions) (ops : List Op) → HasOps s ops → place_after start ops ≡ Some (at [] s)
 leads s ops h = ap (place_after start) (sym (append-nil ops)) ∙ list_leads s ops h [] []
 
--- The ops so far, in any form, of a place.
+-- The ops so far of a state, in any form.
 abbrev OpenOps : Open → List Op → Type 0
 OpenOps (in_block t before) = HasOps before ▸ Exactly (op.Block t ∷ [])
 OpenOps (in_loop t before) = HasOps before ▸ Exactly (op.Loop t ∷ [])
@@ -113,7 +113,7 @@ opened : (outer : List Open) (s : Instructions) (o : Open) (ops last : List Op) 
 opened outer s o ops last k (f, b, e, p, q) =
     (f ++ (b ++ last), [], ap (λ (o : List Op). o ++ last) e ∙ append_assoc f b last ∙ sym (append-nil (f ++ (b ++ last))), (f, b ++ last, refl, p, k b q), refl)
 
--- the same list of ops, put together in another way
+-- One list of ops, joined in another order.
 ended : (f1 g1 g2 b ops f f2 last : List Op) → ops ≡ f ++ b → f ≡ f1 ++ f2 → f2 ≡ g1 ++ g2 → ops ++ last ≡ f1 ++ (g1 ++ (g2 ++ (b ++ last)))
 ended f1 g1 g2 b ops f f2 last e e1 e2 = rw (e, e1, e2) (simp append_assoc)
 
@@ -266,7 +266,7 @@ on p ops e =
 pub tree_is : (s : Instructions) (ops : List Op) → HasOps s ops → tree_of ops ≡ s
 tree_is s ops h = ap body_in (leads s ops h)
 
--- one op more, where it may stand
+-- One more op, if it is allowed.
 step : (r : Option Place) (q : Place) → r ≡ Some q → if_placed r (λ p. place_after p []) ≡ Some q
 step None q e = absurd cc
 step (Some p) q e = e
@@ -277,7 +277,7 @@ one_more p q ops o e n =
     ∙ ap (λ r. if_placed r (λ x. place_after x (o ∷ []))) e
     ∙ step (placed p o) q n
 
--- and where it may not
+-- One more op, if it is not allowed.
 stuck : (r : Option Place) (more : List Op) (q : Place) → r ≡ None → if_placed r (λ p. place_after p more) ≡ Some q → ⊥
 stuck None more q e n = cc
 stuck (Some p) more q e n = cc

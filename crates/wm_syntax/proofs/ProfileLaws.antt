@@ -1,4 +1,4 @@
--- Profiles, by types, ops and instructions.
+-- Profiles: their types, ops and instructions.
 use Rattle.std.proofs.Common.{◌≡◌, false, true, IsTrue, ℕ, List, [], ◌∷◌, ◌++◌, ◌↔◌, Option, None, Some, map, inl, inr, refl, subst}
 use Rattle.std.specs.List.{AllByRecursion}
 use Rattle.wm_syntax.specs.declared.profile.Feature.{Feature}
@@ -16,13 +16,13 @@ use Rattle.wm_syntax.specs.Modules.{Element, Function, GlobalDef, Import, Module
 use Rattle.wm_syntax.specs.Profiles.{Extends, HasBlockType, HasConst, HasDesc, HasFunction, HasGlobal, HasInstruction, HasInstructions, HasSignature, HasType, IsOf, IsOpOf, feature_of, has, type_feature}
 use Rattle.wm_syntax.specs.Types.{Signature}
 
--- a fact of each member of a list, and another that follows from it
+-- A property of each member of a list, and another that follows from it.
 module _ {X : Type 0} (P Q : X → Type 0) (each : (x : X) → P x → Q x) where
   pub all_each : (xs : List X) → AllByRecursion P xs → AllByRecursion Q xs
   all_each [] h = tt
   all_each (x ∷ xs) h = (each x h.0, all_each xs h.1)
 
--- what one profile has, one that extends it has
+-- Everything in a profile is in each profile that extends it.
 module _ (p q : Profile) (more : Extends q p) where
   pub type_more : (t : ValType) → HasType p t → HasType q t
   type_more t h = more (type_feature t) h
@@ -84,7 +84,7 @@ extends_one q Base h = refl
 extends_one q Floats h = let e : false ≡ true = h in cc
 extends_one q SignExtension h = let e : false ≡ true = h in cc
 
--- the fourth has every feature, so everything is of it
+-- The fourth profile has every feature, so everything belongs to it.
 pub four_has : (f : Feature) → IsTrue (has Four f)
 four_has Base = refl
 four_has Floats = refl
@@ -137,7 +137,7 @@ module_of_four m = record {
   segments = all_of_each (λ (s : Segment). HasConst Four s.offset) (λ s. const_of_four s.offset) m.segments;
 }
 
--- a fact of each member of a joined list
+-- A property of each member of a joined list.
 module _ {X : Type 0} (P : X → Type 0) where
   pub all_append : (xs ys : List X) → AllByRecursion P xs → AllByRecursion P ys → AllByRecursion P (xs ++ ys)
   all_append [] ys h k = k
@@ -181,7 +181,7 @@ module _ (p : Profile) where
     to_ops none ops e h = rw e tt
     to_ops (snoc s i) ops (x, y, e, k, l) h = rw e (all_append (IsOpOf p) x y (to_ops s x k h.0) (to_op i y l h.1))
 
-  -- what stands before the ops that a first one opens
+  -- A property of an op and of all ops after it.
   opening : (o : Op) (ops x y : List Op) → ops ≡ x ++ y → x ≡ o ∷ [] → AllOf ops → IsOpOf p o × AllOf y
   opening o ops x y e f h =
       let whole : AllOf (x ++ y) = subst AllOf e h in

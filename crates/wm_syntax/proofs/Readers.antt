@@ -1,4 +1,4 @@
--- The readers of numbers answer by the grammar of numbers.
+-- The readers of numbers answer according to the grammar of numbers.
 use Rattle.std.proofs.Common.{◌≡◌, ℕ, zero, suc, true, false, subst, ◌+◌, ◌-◌, ◌*◌, ◌^◌, ◌<◌, ◌≤◌, inl, inr, ◌↔◌, List, [], ◌∷◌, ◌++◌, ℤ, pos, negsuc, ◌+ℤ◌, ◌-ℤ◌, ◌*ℤ◌, nat_lt, nat_le, refl, sym, ap, ◌∙◌, arith, append_assoc, append-nil, pow_pos}
 use Rattle.std.proofs.lemmas.Bool.{cond_both, ltb-true, ltb-false}
 use Rattle.std.proofs.lemmas.Bool.Decides.{nat_tests}
@@ -17,7 +17,7 @@ use Rattle.wm_syntax.proofs.Room.{pow7, pow_split, room_last}
 more_unsigned : (low m d w v : ℕ) → v ≡ w * 128 → low + (128 * m + d) * w ≡ (low + d * w) + m * v
 more_unsigned low m d w v e = rw e (omega arith)
 
--- products of whole numbers, as far as they are needed
+-- Products of integers, as far as they are needed.
 step_linear : (a x : ℤ) (n d : ℕ) → (a +ℤ pos n) +ℤ (x +ℤ pos d) ≡ (a +ℤ x) +ℤ pos (n + d)
 step_linear a x n d = omega (arith, ints)
 
@@ -50,20 +50,20 @@ more_signed low d w v h e =
 same_size : (bits k : ℕ) → bits - 7 * (k + 1) ≡ bits - 7 * k - 7
 same_size bits k = omega arith
 
--- How a spelling goes on after an answer, given what still may come for each state of a reader.
+-- How an encoding continues after an answer, given the bytes that may still come in each state of a reader.
 module _ {A : Type 0} (rest : Partial → A → Form ℕ) where
   abbrev pub Goes : Step A × Partial → A → Form ℕ
   Goes (More, r) n more = rest r n more
   Goes (Done v, r) n more = (n ≡ v) × (more ≡ [])
   Goes (Bad, r) n more = ⊥
 
-  -- a reader that has answered anything but More is through
+  -- A reader that has answered anything but More has finished.
   abbrev IsClosed : Step A × Partial → Type 0
   IsClosed (More, r) = Unit {0}
   IsClosed (Done v, r) = r ≡ over
   IsClosed (Bad, r) = r ≡ over
 
-  -- one that has answered More can still be ended, and is not at an end
+  -- A reader that has answered More can still be completed, and is not complete.
   abbrev IsLive : Step A × Partial → Type 0
   IsLive (More, r) = (n : A) × (more : List ℕ) × rest r n more
   IsLive (Done v, r) = Unit {0}
@@ -164,7 +164,7 @@ unsigned_some bits r n h = h.3
 both_ways : {A B C : Type 0} → A ↔ B → B ↔ C → A ↔ C
 both_ways p q = (λ a. q.0 (p.0 a), λ c. p.1 (q.1 c))
 
--- What a reader answers and holds after one byte more, by the law of that byte.
+-- The answer and the state of a reader after one more byte, by the law of that byte.
 module _ {A : Type 0} (Spells : A → Form ℕ) (rest : Partial → A → Form ℕ) where
   next_after : (r : Partial) (before : List ℕ) (c : ℕ) (p : Step A × Partial) → NumberAfter Spells (rest r) before
       → ((n : A) (more : List ℕ) → rest r n (c ∷ more) ↔ Goes rest p n more) → ((n : A) (d : ℕ) (more : List ℕ) → Goes rest p n (d ∷ more) ↔ rest p.1 n (d ∷ more))
@@ -321,7 +321,7 @@ signed_fresh bits some = record {
   );
 }
 
--- What was read is in its range.
+-- The number that was read is in its range.
 unsigned_last : (bits low c k : ℕ) → low < 2 ^ (7 * k) → 7 * k < bits → c < 2 ^ (bits - 7 * k) → low + c * 2 ^ (7 * k) < 2 ^ bits
 unsigned_last bits low c k a b d = room_last bits low c k (2 ^ (7 * k)) refl (omega arith) a d
 
@@ -375,7 +375,7 @@ signed_range bits r c low =
     (λ e. cond_both (nat_lt (7 * r.count + 7) bits) _ _ P (λ d. tt) (λ d. tt))))
     (λ a. tt)
 
--- both, for a reader that was pushed a byte
+-- The answer and the state of a reader of unsigned numbers after one more byte.
 pub unsigned_reads : (bits : ℕ) → bits ≤ 64 → (p : Step ℕ × Partial) (r old : Partial) (c : ℕ) → p ≡ unsigned_push bits r c → r ≡ old → c < 256
     → (before : List ℕ) → NumberAfter (Unsigned bits) (UnsignedRest bits old) before
     → Answers (Unsigned bits) p.0 (before ++ c ∷ []) × NumberAfter (Unsigned bits) (UnsignedRest bits p.1) (before ++ c ∷ [])
@@ -388,7 +388,7 @@ unsigned_reads bits few p r old c e same byte before a =
 pub unsigned_in_range : (bits : ℕ) (p : Step ℕ × Partial) (r : Partial) (c : ℕ) → p ≡ unsigned_push bits r c → r.low < 2 ^ (7 * r.count) → IfDone p.0 (λ n. n < 2 ^ bits)
 unsigned_in_range bits p r c e low = subst (λ (q : Step ℕ × Partial). IfDone q.0 (λ n. n < 2 ^ bits)) (sym e) (unsigned_range bits r c low)
 
--- both, for a reader that was pushed a byte
+-- The answer and the state of a reader of signed numbers after one more byte.
 pub signed_reads : (bits : ℕ) → bits ≤ 64 → (p : Step ℤ × Partial) (r old : Partial) (c : ℕ) → p ≡ signed_push bits r c → r ≡ old → c < 256
     → (before : List ℕ) → NumberAfter (Signed bits) (SignedRest bits old) before
     → Answers (Signed bits) p.0 (before ++ c ∷ []) × NumberAfter (Signed bits) (SignedRest bits p.1) (before ++ c ∷ [])

@@ -1,4 +1,4 @@
--- What a reader of numbers has read stays within its bits.
+-- The number that a reader has read stays within its bits.
 use Rattle.std.proofs.Common.{◌≡◌, ℕ, ◌+◌, ◌-◌, ◌*◌, ◌^◌, ◌<◌, ◌≤◌, sym, ap, ◌∙◌, arith}
 use Rattle.std.proofs.lemmas.Nat.{pow-add}
 use Rattle.std.proofs.Math.Nat.{mul-le-mul_left}
@@ -7,7 +7,7 @@ use Rattle.std.proofs.Math.Pow.{pow_mono}
 pub pow7 : (k : ℕ) → 2 ^ (7 * (k + 1)) ≡ 2 ^ (7 * k) * 128
 pow7 k = let e : 7 * (k + 1) ≡ 7 * k + 7 = omega arith in rw (e, pow-add 2 (7 * k) 7)
 
--- so many digits of weight w above what is below w
+-- A digit below p, of the weight w, above a number below w.
 pub room : (low c w p : ℕ) → low < w → c < p → low + c * w < w * p
 room low c w p a b = let more : c + 1 ≤ p = omega arith in let h : w * (c + 1) ≤ w * p = mul-le-mul_left w more in omega (arith, h)
 
@@ -29,7 +29,7 @@ below_pow bits byte many small = let le : 2 ^ 7 ≤ 2 ^ bits = pow_mono (let q :
 pub above_pow : (bits byte : ℕ) → 5 < bits → 64 ≤ byte → 128 ≤ byte + 2 ^ bits
 above_pow bits byte many from = let le : 2 ^ 6 ≤ 2 ^ bits = pow_mono (let q : 6 ≤ bits = omega arith in q) in omega (arith, le)
 
--- a digit of at most so many bits less one leaves room for the sign
+-- A last digit with one bit less than is left leaves room for the sign.
 pub room_signed : (bits x k : ℕ) → bits ≤ 64 → 7 * k < bits → x ≤ 2 ^ (bits - 7 * k - 1) → x * 2 ^ (7 * k) ≤ 2 ^ 63
 room_signed bits x k few read h =
     let p : 2 ^ (7 * k) * 2 ^ (bits - 7 * k - 1) ≡ 2 ^ (bits - 1) =

@@ -1,4 +1,4 @@
--- Value types are told apart by their bytes, and so are block types.
+-- Value types differ by their bytes, and so do block types.
 use Rattle.std.proofs.Common.{ℕ, ◌≡◌, Bool, true, false, Option, None, Some, refl, sym, ap, ◌∙◌, arith}
 use Rattle.std.specs.Prelude.{◌==◌, if◌then◌else◌}
 use Rattle.std.proofs.lemmas.Bool.Decides.{nat_tests}
@@ -39,7 +39,7 @@ differ t u n = of (same t u) refl
     of true e = absurd (n (means t u e))
     of false e = refl
 
--- block types too (section 5.3.2)
+-- Block types differ by their bytes too (Core spec 5.3.2).
 no_type : (t : ValType) → 0x40 ≡ type_byte t → ⊥
 no_type I32 e = absurd (omega (arith, e))
 no_type I64 e = absurd (omega (arith, e))

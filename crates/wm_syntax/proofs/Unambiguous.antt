@@ -1,4 +1,4 @@
--- One instruction for each spelling.
+-- Each encoding belongs to one instruction.
 use Rattle.std.proofs.Common.{◌≡◌, ℕ, List, [], ◌∷◌, ◌++◌, refl, sym, ap, ◌∙◌, append_assoc, Some, slice_get}
 use Rattle.std.proofs.lemmas.List.{append_cancel_left}
 use Rattle.wm_syntax.specs.Leb128.{Unsigned}
@@ -95,7 +95,7 @@ same_immediates (s.Numeric o) _ c a b u v p q h = cc
 some_injective : {x y : OpClass} → Some x ≡ Some y → x ≡ y
 some_injective e = cc
 
--- an instruction is spelled by one list alone, and no spelling begins another
+-- An encoding belongs to one list of instructions, and is no proper prefix of another.
 pub same_simple : (i j : Simple) (a b u v : List ℕ) → SpellsSimple i a → SpellsSimple j b → a ++ u ≡ b ++ v → (a ≡ b) × (i ≡ j)
 same_simple i j a b u v (x, y, e, p, q) (x', y', e', p', q') h =
     let whole : (opcode i).0 ∷ (y ++ u) ≡ (opcode j).0 ∷ (y' ++ v) = sym (front i a x y u e p) ∙ h ∙ front j b x' y' v e' p' in

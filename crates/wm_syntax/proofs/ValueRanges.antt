@@ -1,4 +1,4 @@
--- What is so of each value of a module is so of the whole.
+-- If each value of a module is in its range, the whole module is.
 use Rattle.std.proofs.Common.{ℕ, ◌<◌, List, [], ◌∷◌, ◌++◌, map}
 use Rattle.std.specs.List.{AllByRecursion}
 use Rattle.wm_syntax.specs.declared.instructions.Op.{Op}

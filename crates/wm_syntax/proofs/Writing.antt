@@ -1,4 +1,4 @@
--- What is written piece by piece.
+-- Bytes that are written in several pieces.
 use Rattle.std.proofs.Common.{◌≡◌, ℕ, ◌+◌, List, ◌++◌, Option, Some, None, take, drop, ap, ◌∙◌, append_assoc, Bool, false, ◌||◌}
 use Rattle.std.proofs.Math.Seq.{take-add}
 use Rattle.std.specs.Io.KnownBytes.{Appends}

@@ -1,5 +1,5 @@
--- The instructions and the types of each profile. Each of them belongs to a feature, and a profile has some
--- of the features. `One` is WebAssembly 1.0 without floats, and `Two` also has the five sign-extension
+-- The instructions and the types of each profile. Each of them belongs to a feature, and each profile has
+-- some features. `One` is WebAssembly 1.0 without floats, and `Two` also has the five sign-extension
 -- instructions. `Three` is all of WebAssembly 1.0, and `Four` also has the five sign-extension instructions.
 use Rattle.std.specs.Prelude.{Bool, true, false, IsTrue, Option, Some, None}
 use Rattle.std.specs.List.{AllByRecursion}

@@ -264,6 +264,7 @@ pub enum Op {
     If(Option<ValType>),
     Else,
     End,
+    /// How many labels come before the default. Each of them, and then the default, is a `Label`.
     BrTable(u32),
     Label(u32),
 }

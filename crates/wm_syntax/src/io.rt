@@ -18,7 +18,7 @@ pub trait Source {
     ghost has_failed: { Self → Bool };
 
     /// Reads into `buf`, and returns how many bytes were read. Returns 0 only at the end, or if `buf` is
-    /// empty. An error, `Interrupted` among them, consumes nothing.
+    /// empty. An error, including `Interrupted`, consumes nothing.
     fn get(&mut self, buf: &mut [u8]) -> io::Result<usize>
         ensures bound { ReadsAtMost result buf.new }
         ensures bytes { ReadConsumes (remaining self.old) (remaining self.new) result buf.new }
@@ -39,7 +39,7 @@ pub trait Dest {
     ghost is_flushed: { Self → Bool } = { λ _. true };
 
     /// Writes the first bytes of `buf`, and returns how many. It is at least one, unless `buf` is empty. An
-    /// error, `Interrupted` among them, writes nothing.
+    /// error, including `Interrupted`, writes nothing.
     fn put(&mut self, buf: &[u8]) -> io::Result<usize>
         ensures bound { WritesAtMost result buf.now }
         ensures some { IfOk result (λ n. 0 < length buf.now → 0 < n) }

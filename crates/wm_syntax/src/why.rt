@@ -44,8 +44,8 @@ pub enum Why {
     /// An operand, a label or a constant has another type, or an `if` with a result has no `else`. Printed as
     /// `Type`.
     Mismatch,
-    /// Too many results, a missing operand, operands left at an `else` or `end`, or a constant expression
-    /// that is not one instruction.
+    /// Too many results, a missing operand, or operands left at an `else` or `end`. Also a constant
+    /// expression that is not one instruction.
     Arity,
     /// The limits of a table or a memory are out of range.
     Limits,

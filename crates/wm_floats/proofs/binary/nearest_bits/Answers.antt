@@ -11,7 +11,7 @@ use Rattle.wm_floats.proofs.Cuts.{HasLength, significand, significand_with_zeros
 use Rattle.wm_floats.proofs.BinaryDigits.{RoundedOf, no_digits, with_zeros_nearest, cut_nearest}
 use Rattle.wm_floats.proofs.binary.nearest_bits.Goals as goal
 
--- what the function has worked out
+-- The values that the function has computed.
 record At (w : FloatType) (digits up down len e : ℕ) : Type 0 where
   has : HasLength digits len
   is : e ≡ len + (up + least w) - (signif w + 1 + down)
@@ -31,7 +31,7 @@ cut_fits w digits up down len e d at places =
 small : (w : FloatType) (m e : ℕ) → IsSignificand (format_of w) m e → m < 2 ^ 53
 small w m e is = lt_of_lt_of_le is.fits (pow_mono (same w).prec_small)
 
--- nothing is left out where zeros follow: 2 ^ 60 has more digits than the significand
+-- No digits were dropped if zeros follow: 2 ^ 60 has more digits than the significand.
 not_more : (w : FloatType) (m e digits s : ℕ) (more : Bool) → IsSignificand (format_of w) (digits * 2 ^ s) e → (more ≡ true → 2 ^ 60 ≤ digits) → more ≡ false
 not_more w m e digits s false is cut = refl
 not_more w m e digits s true is cut =

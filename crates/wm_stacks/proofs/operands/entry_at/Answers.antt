@@ -1,4 +1,4 @@
--- Of a float, the width tells.
+-- A float is determined by its width.
 use Rattle.std.proofs.Common.{ap, ◌∙◌}
 use Rattle.wm_stacks.specs.declared.words.Kind.TheVariants.{Float}
 use Rattle.wm_stacks.specs.inner.Operands.{entry_of}

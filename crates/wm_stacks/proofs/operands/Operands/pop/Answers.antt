@@ -1,4 +1,4 @@
--- One kind fewer, or none where none stands.
+-- One kind is removed, if there is one.
 use Rattle.wm_stacks.proofs.KindsAndWidths.{popped}
 use Rattle.wm_stacks.proofs.operands.Operands.pop.Goals as goal
 

@@ -1,4 +1,4 @@
--- What is no float is told by its kind.
+-- An operand that is no float is determined by its kind.
 use Rattle.std.proofs.Common.{◌≡◌, length, refl, ap, sym, ◌∙◌, arith}
 use Rattle.wm_stacks.specs.inner.Operands.{entry_of}
 use Rattle.wm_stacks.specs.inner.Widths.{is_wide}

@@ -1,4 +1,4 @@
--- The bit at its index is cleared, and those under it stay.
+-- The bit at its index is cleared, and those below it stay.
 use Rattle.std.proofs.Common.{false, length, arith}
 use Rattle.wm_stacks.specs.declared.entries.Entry.TheVariants.{F32}
 use Rattle.wm_stacks.specs.declared.words.Kind.TheVariants.{Float}

@@ -1,4 +1,4 @@
--- The bit at its index is set, and those under it stay.
+-- The bit at its index is set, and those below it stay.
 use Rattle.std.proofs.Common.{true, length, arith}
 use Rattle.wm_stacks.specs.declared.entries.Entry.TheVariants.{F64}
 use Rattle.wm_stacks.specs.declared.words.Kind.TheVariants.{Float}

@@ -1,4 +1,4 @@
--- The bit at its index is written, and those under it stay.
+-- The bit at its index is written, and those below it stay.
 use Rattle.std.proofs.Common.{◌∙◌, length}
 use Rattle.wm_stacks.specs.declared.words.Kind.TheVariants.{Float}
 use Rattle.wm_stacks.proofs.KindsAndWidths.{kept, pushed, written_there, written_under}

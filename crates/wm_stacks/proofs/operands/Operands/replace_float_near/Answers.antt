@@ -1,4 +1,4 @@
--- The kind of the top operand and its width show that it fits, and what is given has that width.
+-- The kind of the top operand and its width show that it fits. The given operand has that width.
 use Rattle.std.proofs.Common.{◌≡◌, ◌-◌, IsTrue, Bool, [], ◌∷◌, Option, length, ap, ◌∙◌, subst}
 use Rattle.wm_stacks.specs.declared.words.Kind.{Kind}
 use Rattle.wm_stacks.specs.declared.words.Kind.TheVariants.{Float}

@@ -1,4 +1,4 @@
--- Its kind shows that what is taken fits, and what is given is told by its kind.
+-- The kind of the top operand shows that it fits. The given operand is determined by its kind.
 use Rattle.std.proofs.Common.{◌-◌, [], ◌∷◌, length, refl, ap, ◌∙◌, subst}
 use Rattle.std.proofs.Common.{Option}
 use Rattle.wm_stacks.specs.declared.words.Kind.{Kind}

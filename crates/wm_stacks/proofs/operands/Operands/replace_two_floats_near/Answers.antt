@@ -1,4 +1,4 @@
--- The kinds of the two topmost operands and their widths show that they fit, and what is given has the width of
+-- The kinds of the two topmost operands and their widths show that they fit. The given operand is as wide as
 -- the lower one.
 use Rattle.std.proofs.Common.{◌≡◌, ◌-◌, IsTrue, Bool, [], ◌∷◌, Option, length, ap, ◌∙◌, subst}
 use Rattle.wm_stacks.specs.declared.words.Kind.{Kind}

@@ -1,4 +1,4 @@
--- Their kinds show that what is taken fits, and what is given is told by its kind.
+-- The kinds of the two topmost operands show that they fit. The given operand is determined by its kind.
 use Rattle.std.proofs.Common.{◌-◌, [], ◌∷◌, length, refl, ap, ◌∙◌, subst}
 use Rattle.std.proofs.Common.{Option}
 use Rattle.wm_stacks.specs.declared.words.Kind.{Kind}

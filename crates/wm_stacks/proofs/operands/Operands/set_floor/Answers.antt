@@ -1,4 +1,4 @@
--- The kinds stay.
+-- The kinds are unchanged.
 use Rattle.wm_stacks.proofs.KindsAndWidths.{floor_set}
 use Rattle.wm_stacks.proofs.operands.Operands.set_floor.Goals as goal
 

@@ -1,4 +1,4 @@
--- The kinds above the height go.
+-- The kinds above the height are removed.
 use Rattle.wm_stacks.proofs.KindsAndWidths.{cut}
 use Rattle.wm_stacks.proofs.operands.Operands.truncate.Goals as goal
 

@@ -1,4 +1,4 @@
--- As many kinds stand as the height says.
+-- There are as many kinds as the height says.
 use Rattle.std.proofs.Common.{◌-◌, ◌*◌, length, arith}
 use Rattle.wm_stacks.proofs.LastWord.{height_seen}
 use Rattle.wm_stacks.proofs.packed.Packed.kind_at.Goals as goal

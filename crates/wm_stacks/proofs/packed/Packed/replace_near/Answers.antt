@@ -1,4 +1,4 @@
--- The top operand stands in the current word, above the floor, and so does the one in its place.
+-- The top operand is in the current word, above the floor, and so is the one that replaces it.
 use Rattle.std.proofs.Common.{◌+◌, ◌-◌, ◌*◌, ◌/◌, ◌%◌, ◌^◌, ◌≡◌, ◌≤◌, ◌++◌, true, false, Option, length, option_to_list, ap, sym, ◌∙◌, arith}
 use Rattle.wm_stacks.specs.declared.words.Kind.{Kind}
 use Rattle.wm_stacks.specs.exact.Words.{kinds_in}

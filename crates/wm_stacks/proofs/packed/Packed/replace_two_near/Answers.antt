@@ -1,4 +1,4 @@
--- Both operands stand in the current word, above the floor, and so does the one in their place.
+-- Both operands are in the current word, above the floor, and so is the one that replaces them.
 use Rattle.std.proofs.Common.{◌+◌, ◌-◌, ◌*◌, ◌/◌, ◌%◌, ◌^◌, ◌≡◌, ◌≤◌, ◌++◌, true, false, Option, length, option_to_list, ap, sym, ◌∙◌, arith}
 use Rattle.wm_stacks.specs.declared.words.Kind.{Kind}
 use Rattle.wm_stacks.specs.exact.Words.{kind_of_code, kinds_in}

@@ -1,4 +1,4 @@
--- What the look did to the operands is what a take and a push would do.
+-- The fast path has the effect of a take and a push.
 use Rattle.std.proofs.Common.{true, false, ◌≡◌, [], ◌∷◌, reverse, arith}
 use Rattle.wm_stacks.proofs.Takes.{replaced}
 use Rattle.wm_stacks.proofs.stacks.Stacks.replace_near.Goals as goal

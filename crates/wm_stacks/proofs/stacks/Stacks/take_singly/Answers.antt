@@ -1,4 +1,4 @@
--- These clauses say a part of what is known of the whole take.
+-- These clauses are a part of what is proved of the whole take.
 use Rattle.std.proofs.Common.{length, reverse}
 use Rattle.std.proofs.lemmas.List.{length-reverse}
 use Rattle.wm_stacks.specs.Stack.{count_fitting, is_unreachable, above}

@@ -1,4 +1,4 @@
--- The test is of the operand's bit.
+-- The test reads the operand's bit.
 use Rattle.std.proofs.Common.{◌%◌, nat_eq, ap, ◌∙◌}
 use Rattle.std.specs.Int.{bit_at}
 use Rattle.std.proofs.lemmas.Nat.Bits.{shr_and_one}

@@ -1,4 +1,4 @@
--- Where its word was not made, the operand has no bit set.
+-- If its word was not made, the operand has no bit set.
 use Rattle.std.proofs.Common.{◌∷◌, refl, arith}
 use Rattle.wm_stacks.proofs.WidthWords.{past_words}
 use Rattle.wm_stacks.proofs.widths.Widths.narrow.Goals as goal

@@ -1,4 +1,4 @@
--- One word is written, and in it one bit.
+-- One bit in one word is written.
 use Rattle.std.proofs.Common.{◌∷◌, ◌-◌, ◌/◌, set, ap, ◌∙◌, arith}
 use Rattle.std.specs.Int.{bit_at}
 use Rattle.wm_stacks.proofs.WidthWords.{bits_written, first_written, next_written}

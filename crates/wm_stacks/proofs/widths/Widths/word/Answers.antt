@@ -1,4 +1,4 @@
--- The first word stands apart.
+-- The first word is held separately.
 use Rattle.std.proofs.Common.{ℕ, List, ◌∷◌, ◌-◌, get_or, ap, sym, ◌∙◌}
 use Rattle.wm_stacks.proofs.WidthWords.{next_word}
 use Rattle.wm_stacks.proofs.widths.Widths.word.Goals as goal

@@ -2,7 +2,7 @@ use Rattle.std.proofs.Common.{◌≡◌, ◌≤◌, ◌+◌, ◌-◌, ◌++◌, 
 use Rattle.wm_syntax.specs.Leb128.{signed_bytes}
 use Rattle.wm_syntax.proofs.chunk.Chunk.push_positive.Given as goal
 
--- what went out, and what is left of the number in the bytes that are left, spell it
+-- The bytes written so far and those of the remaining number are the whole encoding.
 abbrev pub invariant-loop : goal.invariant-loop
 invariant-loop l = record {
   room : length l.self + (l.most - l.counter) ≤ 16;

@@ -1,4 +1,4 @@
--- A number has no more bytes than it may have.
+-- A number has no more bytes than it is allowed to have.
 use Rattle.wm_syntax.proofs.NumberLoops.{signed_short_after}
 use Rattle.wm_syntax.proofs.chunk.Chunk.push_signed.Goals as goal
 

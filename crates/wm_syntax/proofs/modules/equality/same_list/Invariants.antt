@@ -1,4 +1,4 @@
--- What is left of both is the same exactly where both are.
+-- The rests of both lists are equal if and only if the lists are.
 use Rattle.std.proofs.Common.{◌≡◌, ◌↔◌, length}
 use Rattle.wm_syntax.proofs.modules.equality.same_list.Given as goal
 

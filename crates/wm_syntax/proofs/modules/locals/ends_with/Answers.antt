@@ -1,4 +1,4 @@
--- The last run is at the last place.
+-- The last run has the greatest index.
 use Rattle.std.proofs.Common.{sym, None, Some, ◌≡◌, ◌∙◌, ap, refl, true, rules}
 use denote.Enum.Bare.{sameb, same_true}
 use Rattle.wm_syntax.specs.declared.types.ValType.{ValType}

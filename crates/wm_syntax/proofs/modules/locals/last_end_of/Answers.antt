@@ -1,4 +1,4 @@
--- The last run is at the last place.
+-- The last run has the greatest index.
 use Rattle.std.proofs.Common.{sym}
 use Rattle.wm_syntax.proofs.RunLists.{last_end_at}
 use Rattle.wm_syntax.proofs.modules.locals.last_end_of.Goals as goal

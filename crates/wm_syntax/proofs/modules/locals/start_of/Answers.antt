@@ -1,4 +1,4 @@
--- Before a run stands what stands up to the end of the one before it.
+-- The locals before a run are those up to the end of the run before it.
 use Rattle.std.proofs.Common.{◌∙◌, sym, ap}
 use Rattle.wm_syntax.specs.inner.Runs.{start_at}
 use Rattle.wm_syntax.proofs.RunLists.{start_first, start_is}

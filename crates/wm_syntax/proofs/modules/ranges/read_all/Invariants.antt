@@ -1,4 +1,4 @@
--- What holds of all that is left holds of all.
+-- If the property holds for the rest of the values, it holds for all of them.
 use Rattle.std.proofs.Common.{length}
 use Rattle.std.specs.List.{AllByRecursion}
 use Rattle.wm_syntax.proofs.modules.ranges.read_all.Given as goal

@@ -1,4 +1,4 @@
--- A body is its ops.
+-- A body is determined by its ops.
 use Rattle.std.proofs.Common.{◌∙◌, sym, ap}
 use Rattle.wm_syntax.specs.inner.Building.{tree_of}
 use Rattle.wm_syntax.specs.Instructions.{ops_of}

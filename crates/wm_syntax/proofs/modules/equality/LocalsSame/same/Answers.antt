@@ -1,4 +1,4 @@
--- The maximal runs of types are one list.
+-- A list of types has one list of maximal runs.
 use Rattle.std.proofs.Common.{◌∙◌, sym, ap}
 use Rattle.wm_syntax.specs.inner.Runs.{types_in}
 use Rattle.wm_syntax.proofs.RunLists.{one_list}

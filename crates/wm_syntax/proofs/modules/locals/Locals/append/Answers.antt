@@ -1,4 +1,4 @@
--- A longer last run, or one run more.
+-- Either the last run becomes longer, or there is one more run.
 use Rattle.std.proofs.Common.{sym, subst, Bool, true, false, IsTrue, List, None, Some, ◌≡◌, ◌∙◌, ◌-◌, ap, length, slice_set, refl}
 use Rattle.wm_syntax.specs.declared.types.ValType.{ValType}
 use Rattle.wm_syntax.specs.declared.modules.locals.Run.{Run}
@@ -21,7 +21,7 @@ invariant_of-self c = (grown c).runs
 pub returns-then-ends_with-clause-ok : goal.returns-then-ends_with-clause-ok
 returns-then-ends_with-clause-ok c = (grown c).types
 
--- in both of what follows the last type is another
+-- In both proofs below, the last type is another type.
 no_last : (rs ds : List Run) (ty : ValType) (b : Bool) → ds ≡ rs → b ≡ false → (last_type None ds ≡ Some ty → IsTrue b) → last_type None rs ≡ Some ty → ⊥
 no_last rs ds ty b e f h t =
     let x : IsTrue b = h (ap (last_type None) e ∙ t) in

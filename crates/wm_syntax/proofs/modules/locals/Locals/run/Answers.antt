@@ -1,4 +1,4 @@
--- The runs are the maximal runs of the list.
+-- The runs are the maximal runs of the list of types.
 use Rattle.std.proofs.Common.{ℕ, ◌≡◌, ◌∙◌, ◌-◌, ◌<◌, None, Some, List, length, get_or, true, false, slice_get, ap, sym, subst, arith}
 use Rattle.std.proofs.lemmas.Option.{slice_get-get_or}
 use Rattle.wm_syntax.specs.declared.modules.locals.Run.{Run}

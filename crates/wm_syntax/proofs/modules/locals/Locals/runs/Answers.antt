@@ -1,4 +1,4 @@
--- The maximal runs are those of the list.
+-- The runs are the maximal runs of the list of types.
 use Rattle.std.proofs.Common.{None, ◌≡◌, ◌∙◌, length, rules, sym, ap}
 use Rattle.wm_syntax.specs.Runs.{run_count, runs_of}
 use Rattle.wm_syntax.proofs.RunLists.{run_count_is, runs_length}
