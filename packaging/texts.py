@@ -9,7 +9,7 @@ ACTION = re.compile(r" {2}(?P<name>\w+) {2,}(?P<says>.+)")
 OPTION = re.compile(r" {2,6}(?:-(?P<short>\w), )?--(?P<name>[\w-]+)(?: <(?P<value>\w+)>)? {2,}(?P<says>.+)")
 # A help text that begins with its values, as `1, 2 or 3: ..`, and one of an option that a single action takes.
 VALUES = re.compile(r"\d+(?:, \d+)* or \d+\b")
-ONLY = re.compile(r"Of `(\w+)`: ")
+ONLY = re.compile(r"With `(\w+)`: ")
 
 Action = collections.namedtuple("Action", "name says")
 Option = collections.namedtuple("Option", "short name value says values only")

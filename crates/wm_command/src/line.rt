@@ -83,20 +83,20 @@ fn profile_of(text: &str) -> Option<Profile>
 }
 
 const ABOUT: &str = "Checks and converts WebAssembly 1.0 modules, reading them once.\n\n  \
-    check    write `valid`, or why not and where\n  \
-    stats    write figures of a valid module's function bodies\n  \
-    canon    write a valid module as its canonical binary: shortest numbers, no custom sections\n  \
-    show     write a valid module as text: a field a line, and in a function an instruction a line\n  \
-    build    read a module as text, and write it as its canonical binary\n  \
-    explain  write what the NAME of a refusal means, as `wmod explain NAME`";
+    check    print `valid`, or why the input is refused and where\n  \
+    stats    print five figures about the function bodies of a valid module\n  \
+    canon    write a valid module in canonical binary form: shortest numbers, no custom sections\n  \
+    show     write a valid module as text: one line per field, and one per instruction\n  \
+    build    read a module as text, and write it in canonical binary form\n  \
+    explain  print what the NAME of a refusal means: `wmod explain NAME`";
 
 const ANSWERS: &str =
-    "Writes `refused at N: NAME` of any other input: N bytes were read when it was decided.\n\
-    `build` writes `text refused at N: NAME`: N bytes stand before the token that decided it;\n\
-    or `module refused at N: NAME` of an invalid module: N is a place of its canonical binary.\n\
-    `wmod explain NAME` says more of a NAME.\n\n\
-    Thirty bytes may declare 2^32 - 1 locals: 17 GB of text. With --max-functions F and --max-locals L\n\
-    `show` of a stranger's module is safe: it then writes at most some 4 F L bytes for locals.\n\n\
+    "Any other input gives `refused at N: NAME`: N bytes were read when it was decided.\n\
+    `build` prints `text refused at N: NAME` for a wrong text: N is the offset of the deciding token.\n\
+    It prints `module refused at N: NAME` for an invalid module: N counts bytes of its canonical binary.\n\
+    `wmod explain NAME` explains a NAME.\n\n\
+    A module of 30 bytes may declare 2^32 - 1 locals, which `show` writes as 17 GB of text. For untrusted\n\
+    modules set --max-functions F and --max-locals L: locals then take at most about 4 F L bytes.\n\n\
     Exit status: 0 done, 1 refused, 2 wrong arguments, 3 cannot read or write, 4 out of memory.\n\n\
     Examples:\n  \
     wmod check module.wasm\n  \
@@ -113,17 +113,18 @@ const ANSWERS: &str =
 const PROFILE: &str =
     "1, 2, 3 or 4: floats under 3 and 4, sign extension under 2 and 4 [default: 1]";
 
-const LIMIT: &str = "The most bytes that the input may have [default: 4294967295]";
+const LIMIT: &str = "The maximum length of the input in bytes [default: 4294967295]";
 
 const MAX_FUNCTIONS: &str =
-    "The most functions that the module may have, imported ones too [default: no limit]";
+    "The maximum number of functions, imported ones included [default: no limit]";
 
-const MAX_LOCALS: &str = "The most locals that a function may declare [default: no limit]";
+const MAX_LOCALS: &str =
+    "The maximum number of locals that a function declares [default: no limit]";
 
 const MAX_OPEN: &str =
-    "The most blocks, loops and ifs that may be open at once [default: no limit]";
+    "The maximum number of blocks, loops and ifs open at once [default: no limit]";
 
-const OLD_WORDS: &str = "Of `build`: read the words of older tools too, such as get_local";
+const OLD_WORDS: &str = "With `build`: accept the names of older tools too, such as get_local";
 
 fn action_arg<'a>(alloc: Global) -> Arg<'a>
     ensures rule { rule_of result ≡ action_rule }
@@ -161,9 +162,9 @@ fn file_arg<'a>(alloc: Global) -> Arg<'a>
     ensures rule { rule_of result ≡ file_rule }
     ensures local { result.global ≡ false }
 {
-    Arg::new(alloc, "FILE").action(ArgAction::Set).help(
-        "The file to read; standard input where there is none, or where it is -",
-    )
+    Arg::new(alloc, "FILE")
+        .action(ArgAction::Set)
+        .help("The file to read; standard input if it is missing or -")
 }
 
 /// The command before it has arguments: its name, its version and its texts.
