@@ -70,7 +70,7 @@ TRIALS_OF_DEFINED = {
     "a row to be read is missing": (DEFINED, BOTH_ROWS, r"\1", f"{READ}: 0 rows have wm_syntax.specs.Leb128"),
     "it is there twice": (DEFINED, BOTH_ROWS, r"\1\2\2", f"{READ}: 2 rows have wm_syntax.specs.Leb128"),
     "a row comes before one that it uses": (DEFINED, BOTH_ROWS, r"\2\1", f"{READ}: wm_syntax.specs.Leb128 comes before wm_syntax.specs.Spelling"),
-    "a row has no file": (DEFINED, r"`wm_write: Canon\.antt`", "Canon", f"{READ}: no file is in the row of the canonical binary"),
+    "a row has no file": (DEFINED, r"`wm_write: Canon\.antt`", "Canon", f"{READ}: no file is in the row of Defines the canonical binary"),
     "a file is gone": (DEFINED, r"`wm_write: Canon\.antt`", "`wm_write: Canons.antt`", f"{READ}: wm_write.specs.Canons is no file"),
     "a word to be read is gone": (DEFINED, "`IsIndex`", "`IsPlace`", f"{READ}: `IsPlace` is no word of wm_tokens.specs.Identifiers"),
     "an inner word is missing": (DEFINED, "`ops_at`, ", "", f"{INNER}: no row has `ops_at` of wm_syntax.specs.inner.Building"),
