@@ -74,10 +74,7 @@ impl fmt::Display for Wrong<'_> {
         match self {
             Wrong::Count => f.write_str("explain takes one NAME of a refusal, such as Index"),
             Wrong::Name(name, nearest) => {
-                write!(
-                    f,
-                    "'{name}' is not the NAME of a refusal; the nearest:{nearest}"
-                )
+                write!(f, "no refusal has the NAME '{name}'; nearest:{nearest}")
             }
         }
     }

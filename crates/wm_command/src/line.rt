@@ -118,8 +118,7 @@ const LIMIT: &str = "The maximum length of the input in bytes [default: 42949672
 const MAX_FUNCTIONS: &str =
     "The maximum number of functions, imported ones included [default: no limit]";
 
-const MAX_LOCALS: &str =
-    "The maximum number of locals that a function declares [default: no limit]";
+const MAX_LOCALS: &str = "The maximum number of locals a function declares [default: no limit]";
 
 const MAX_OPEN: &str =
     "The maximum number of blocks, loops and ifs open at once [default: no limit]";
@@ -162,9 +161,9 @@ fn file_arg<'a>(alloc: Global) -> Arg<'a>
     ensures rule { rule_of result ≡ file_rule }
     ensures local { result.global ≡ false }
 {
-    Arg::new(alloc, "FILE")
-        .action(ArgAction::Set)
-        .help("The file to read; standard input if it is missing or -")
+    Arg::new(alloc, "FILE").action(ArgAction::Set).help(
+        "The file to read; standard input if FILE is missing or it is -",
+    )
 }
 
 /// The command before it has arguments: its name, its version and its texts.

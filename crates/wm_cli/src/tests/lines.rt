@@ -90,12 +90,12 @@ const HELP: &str = "Checks and converts WebAssembly 1.0 modules, reading them on
     Usage: wmod [OPTIONS] <ACTION> [FILE]\n\n\
     Arguments:\n  \
     <ACTION>  check, stats, canon, show, build or explain\n  \
-    [FILE]    The file to read; standard input if it is missing or -\n\n\
+    [FILE]    The file to read; standard input if FILE is missing or it is -\n\n\
     Options:\n      \
     --profile <N>        1, 2, 3 or 4: floats under 3 and 4, sign extension under 2 and 4 [default: 1]\n      \
     --limit <N>          The maximum length of the input in bytes [default: 4294967295]\n      \
     --max-functions <N>  The maximum number of functions, imported ones included [default: no limit]\n      \
-    --max-locals <N>     The maximum number of locals that a function declares [default: no limit]\n      \
+    --max-locals <N>     The maximum number of locals a function declares [default: no limit]\n      \
     --max-open <N>       The maximum number of blocks, loops and ifs open at once [default: no limit]\n      \
     --old-words          With `build`: accept the names of older tools too, such as get_local\n  \
     -h, --help               Print help\n  \
