@@ -1,11 +1,11 @@
-//! Finds libwmod: in the folder that `WMOD_LIB_DIR` names, else where `pkg-config` says, else where the linker looks by itself.
-//! Where the folder has `libwmod.a`, that is linked, so that the program runs without the folder.
+//! Finds libwmod: in the folder that `WMOD_LIB_DIR` names, else by `pkg-config`, else in the linker's own folders.
+//! Links `libwmod.a` if the folder has it, so that the program runs without the folder.
 
 use std::env;
 use std::path::PathBuf;
 use std::process::Command;
 
-/// The folders that `pkg-config` names; none where that command is missing or does not know wmod.
+/// The folders that `pkg-config` names; none if that command is missing or does not know wmod.
 fn by_pkg_config() -> Vec<PathBuf> {
     let words = ["--libs-only-L", "--keep-system-libs", "wmod"];
     let Ok(ran) = Command::new("pkg-config").args(words).output() else {

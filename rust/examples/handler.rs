@@ -1,16 +1,16 @@
-//! What a service does with a module that a stranger uploads: `cargo run --example handler < module.wasm`
+//! A service that takes a stranger's module: `cargo run --example handler < module.wasm`
 
 use std::fmt;
 use std::io::{self, Read};
 use wmod::{Error, ErrorKind, Options};
 
-/// A module that the service takes.
+/// A module that the service accepts.
 struct Module {
     bytes: Vec<u8>,
     functions: u64,
 }
 
-/// Why it takes none.
+/// Why it accepts none.
 enum Rejection {
     TooLarge,
     Refused(Error),
@@ -19,7 +19,7 @@ enum Rejection {
 }
 
 impl Rejection {
-    /// The status of HTTP.
+    /// The HTTP status.
     fn status(&self) -> u16 {
         match self {
             Rejection::BrokenOff(_) => 400,
@@ -51,7 +51,7 @@ impl fmt::Display for Rejection {
     }
 }
 
-/// What this service takes.
+/// The limits of this service.
 fn policy() -> Options {
     Options::new()
         .max_bytes(1_000_000)
@@ -60,7 +60,7 @@ fn policy() -> Options {
         .depth(500)
 }
 
-/// Judges each piece before it is kept. So the first refusal ends the upload, and no more than the limit is ever held.
+/// Judges each piece before keeping it: the first refusal ends the upload, and memory holds no more than the limit.
 fn admit(mut body: impl Read, policy: &Options) -> Result<Module, Rejection> {
     let mut validator = policy.validator()?;
     let mut piece = [0; 16 * 1024];

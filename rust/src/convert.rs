@@ -1,6 +1,6 @@
 use crate::{sys, Error};
 
-/// What a call that writes gives. It is made with this room first, and where that is too small, with as much as it then asks for.
+/// Runs a conversion with a buffer of `room` bytes, and again with the length that it asks for if they are too few.
 pub(crate) fn converted(
     call: sys::Convert,
     options: &sys::Options,
@@ -11,7 +11,7 @@ pub(crate) fn converted(
     loop {
         out.try_reserve_exact(room).map_err(|_| Error::memory())?;
         let mut output = sys::Output::default();
-        // SAFETY: a pointer and the length of one slice, and room of so many bytes that `out` owns.
+        // SAFETY: pointer and length are those of one slice, and `out` owns `room` bytes.
         unsafe {
             call(
                 input.as_ptr(),
@@ -25,7 +25,7 @@ pub(crate) fn converted(
         let length = usize::try_from(output.length).map_err(|_| Error::memory())?;
         match output.status {
             sys::VALID if length <= room => {
-                // SAFETY: the call has written so many bytes.
+                // SAFETY: the call has written `length` bytes.
                 unsafe { out.set_len(length) };
                 return Ok(out);
             }

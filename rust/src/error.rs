@@ -2,34 +2,34 @@ use crate::sys;
 use std::fmt;
 use std::io;
 
-/// The first number of the refusals of a text.
+/// The smallest number of a text's refusal.
 const FIRST_OF_TEXT: u32 = 101;
 
-/// What kind of answer an [`Error`] is.
+/// The kind of an [`Error`].
 #[derive(Clone, Copy, PartialEq, Eq, Debug)]
 #[non_exhaustive]
 pub enum ErrorKind {
-    /// The module is not valid, or past a limit of the options.
+    /// The module is not valid, not of the profile, or past a limit of the options.
     Module,
-    /// The text writes no module.
+    /// The text writes no module of the profile.
     Text,
-    /// Memory was refused: nothing is known of the input.
+    /// Memory was refused: nothing is known about the input.
     Memory,
-    /// The linked library does not know what this crate asks for: it is of another version.
+    /// The linked library is of another version: it does not know what this crate asks for.
     Library,
 }
 
-/// Why there is no answer of the other kind: a refusal with its name and its place, or that memory was refused.
+/// Why a call failed: a refusal with its name and offset, refused memory, or another version of the library.
 #[derive(Clone, Copy, PartialEq, Eq)]
 pub struct Error {
     kind: ErrorKind,
     at: u64,
-    /// ended by a 0, as the library writes it
+    /// NUL-terminated, as the library writes it.
     name: [u8; 32],
 }
 
 impl Error {
-    /// From an answer that is not `VALID`.
+    /// Makes the error of an answer whose status is not `VALID`.
     pub(crate) fn of(status: u32, why: u32, at: u64) -> Error {
         let kind = match status {
             sys::REFUSED if why >= FIRST_OF_TEXT => ErrorKind::Text,
@@ -38,7 +38,7 @@ impl Error {
             _ => return Error::plain(ErrorKind::Library, b"Library"),
         };
         let mut name = [0; 32];
-        // SAFETY: a pointer and the length of one array. The library writes a 0 as its last byte.
+        // SAFETY: pointer and length are those of one array. The library writes a 0 as its last byte.
         unsafe { sys::wmod_why_name(why, name.as_mut_ptr().cast(), name.len()) };
         Error { kind, at, name }
     }
@@ -53,21 +53,23 @@ impl Error {
         Error { kind, at: 0, name }
     }
 
-    /// What kind of answer it is.
+    /// The kind of this error.
     pub fn kind(&self) -> ErrorKind {
         self.kind
     }
 
-    /// The name of the refusal, as `BadOpcode`: the page `REFUSALS.md` of wmod explains each. It is `Memory` where memory was
-    /// refused.
+    /// The name of the refusal, such as `BadOpcode`, or `Memory` if memory was refused. The page `REFUSALS.md` of wmod
+    /// explains each.
     pub fn why(&self) -> &str {
         let word = self.name.split(|it| *it == 0).next().unwrap_or_default();
         std::str::from_utf8(word).unwrap_or_default()
     }
 
-    /// The place of a refusal: how many bytes were read up to and including the one that settled it. Of a text it is how many
-    /// bytes stand before the token that did. Where [`build`](crate::build) refuses the module that a text writes, it is a place
-    /// of that module's canonical binary.
+    /// The offset of a refusal; `None` for another kind of error.
+    ///
+    /// For a binary it is the number of bytes read up to and including the deciding one. For a text it is the number of
+    /// bytes before the deciding token. If [`build`](crate::build) refuses the module that a text writes, it is an
+    /// offset in that module's canonical binary.
     pub fn place(&self) -> Option<u64> {
         matches!(self.kind, ErrorKind::Module | ErrorKind::Text).then_some(self.at)
     }
@@ -92,7 +94,7 @@ impl fmt::Debug for Error {
 
 impl std::error::Error for Error {}
 
-/// So that it goes through readers and writers: the [`io::Error`] holds it.
+/// The [`io::Error`] holds the error, so that it passes through readers and writers.
 impl From<Error> for io::Error {
     fn from(error: Error) -> io::Error {
         let kind = match error.kind {

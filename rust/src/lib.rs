@@ -1,8 +1,8 @@
-//! Is this a valid WebAssembly 1.0 module? And what is its canonical binary, and its text?
+//! Checks whether bytes are a valid WebAssembly 1.0 module, and converts modules to their canonical binary and to text.
 //!
-//! This crate calls the library of [wmod], which is proved: unless memory runs out, it answers [`Ok`] for exactly the valid
-//! modules within the limits that you set. WebAssembly 1.0 is covered; floats are admitted by the profiles that have them.
-//! Nothing of a module is run.
+//! This crate calls the library of [wmod], which is proved. Unless memory runs out, it returns [`Ok`] for exactly the
+//! valid modules of the profile within the limits that you set. The default profile refuses floats; [`Profile`] has the
+//! others. Modules are never run.
 //!
 //! ```
 //! let module = b"\0asm\x01\0\0\0";
@@ -15,24 +15,24 @@
 //!
 //! # Which call
 //!
-//! | You have | Call | You get |
+//! | You have | Call | Returns |
 //! |---|---|---|
 //! | a module in memory | [`validate`] | a [`Summary`], or an [`Error`] |
-//! | a module that comes in pieces, or from a reader | [`Validator`] | the same |
-//! | a module, and want its canonical binary | [`canon`] | bytes |
+//! | a module in pieces (input chunks), or from a reader | [`Validator`] | a [`Summary`], or an [`Error`] |
+//! | a module, and want its canonical binary | [`canon`] | its bytes |
 //! | a module, and want its text | [`show`] | a text that [`build`] reads |
 //! | a text | [`build`] | the canonical binary of its module |
-//! | a profile, or limits of your own | [`Options`] | each of these calls |
+//! | a profile, or limits of your own | [`Options`] | the same, from its methods |
 //!
 //! # Linking
 //!
-//! `WMOD_LIB_DIR` names the folder of `libwmod.a` while cargo builds. Without it `pkg-config` is asked, and then the linker
-//! looks where it looks by itself.
+//! While cargo builds, `WMOD_LIB_DIR` names the folder of `libwmod.a`. Without it the crate asks `pkg-config`, and then
+//! the linker searches its own folders.
 //!
 //! # Threads
 //!
-//! All functions may be called from any thread, side by side. A [`Validator`] stays on the thread that made it: that it may move
-//! to another is not proved of the library, so it is neither [`Send`] nor [`Sync`]. All other types are both.
+//! Any thread may call any function, at the same time as others. A [`Validator`] stays on the thread that made it: it
+//! is neither [`Send`] nor [`Sync`], since no proof of the library covers a move. All other types are both.
 //!
 //! [wmod]: https://crates.io/crates/wmod
 #![deny(missing_docs)]
@@ -47,7 +47,7 @@ pub use error::{Error, ErrorKind};
 pub use options::{Options, Profile};
 pub use validator::{Summary, Validator};
 
-/// Judges a module that lies in memory, by the default [`Options`].
+/// Validates a module in memory, with the default [`Options`].
 ///
 /// ```
 /// assert!(wmod::validate(b"\0asm\x01\0\0\0").is_ok());
@@ -56,8 +56,8 @@ pub fn validate(bytes: &[u8]) -> Result<Summary, Error> {
     Options::new().validate(bytes)
 }
 
-/// The canonical binary of a module: shortest numbers, no custom sections. Two modules have the same value exactly where these
-/// bytes are the same. It is never longer than the input.
+/// Returns the canonical binary of a module: shortest numbers, no custom sections. It is never longer than the input.
+/// Two modules have the same value if and only if these bytes are the same.
 ///
 /// ```
 /// let with_a_custom_section = b"\0asm\x01\0\0\0\0\x02\x01x";
@@ -67,8 +67,10 @@ pub fn canon(bytes: &[u8]) -> Result<Vec<u8>, Error> {
     Options::new().canon(bytes)
 }
 
-/// A module as text, which [`build`] reads back. Thirty bytes may declare 2^32 - 1 locals, whose text has 17 GB: so show a
-/// stranger's module by [`Options`] with [`locals`](Options::locals) and [`functions`](Options::functions).
+/// Returns the text of a module, which [`build`] reads back.
+///
+/// Thirty bytes may declare 2^32 - 1 locals, whose text has 17 GB. Bound a stranger's module by [`Options::locals`] and
+/// [`Options::functions`].
 ///
 /// ```
 /// assert_eq!(wmod::show(b"\0asm\x01\0\0\0").unwrap(), "(module)\n");
@@ -77,7 +79,7 @@ pub fn show(bytes: &[u8]) -> Result<String, Error> {
     Options::new().show(bytes)
 }
 
-/// The canonical binary of the module that a text writes.
+/// Returns the canonical binary of the module that a text writes.
 ///
 /// ```
 /// assert_eq!(wmod::build("(module)").unwrap(), b"\0asm\x01\0\0\0");
@@ -89,13 +91,13 @@ pub fn build(text: impl AsRef<[u8]>) -> Result<Vec<u8>, Error> {
     Options::new().build(text)
 }
 
-/// The version of the library that was linked: its major and its minor part.
+/// Returns the major and minor version of the linked library.
 ///
 /// ```
 /// assert_eq!(wmod::library_version().0, 1);
 /// ```
 pub fn library_version() -> (u32, u32) {
-    // SAFETY: it takes nothing.
+    // SAFETY: it has no arguments.
     let version = unsafe { sys::wmod_version() };
     (version >> 16, version & 0xFFFF)
 }

@@ -5,18 +5,18 @@ use crate::{sys, Error, ErrorKind, Summary, Validator};
 /// Which instructions a module may use.
 #[derive(Clone, Copy, PartialEq, Eq, Debug, Default)]
 pub enum Profile {
-    /// Those of WebAssembly 1.0 on whole numbers.
+    /// WebAssembly 1.0 without floats.
     #[default]
     One,
-    /// The same and the five sign-extension instructions.
+    /// `One`, and the five sign-extension instructions.
     Two,
     /// All of WebAssembly 1.0, floats too.
     Three,
-    /// The same and the five sign-extension instructions.
+    /// `Three`, and the five sign-extension instructions.
     Four,
 }
 
-/// What is asked for, beside the bytes: a profile and limits. Each call of this crate is here too.
+/// A profile and limits. Each call of this crate is a method here too.
 ///
 /// ```
 /// use wmod::{Options, Profile};
@@ -37,7 +37,7 @@ impl Default for Options {
 }
 
 impl Options {
-    /// The first profile, at most 2^32 - 1 bytes, and no other limit.
+    /// Returns the defaults: the first profile, at most 2^32 - 1 bytes, and no other limit.
     pub fn new() -> Options {
         Options(sys::Options {
             size: std::mem::size_of::<sys::Options>() as u64,
@@ -50,7 +50,7 @@ impl Options {
         })
     }
 
-    /// The instructions that a module may use.
+    /// Sets the instructions and types that a module may use.
     #[must_use]
     pub fn profile(mut self, profile: Profile) -> Options {
         self.0.profile = match profile {
@@ -62,64 +62,67 @@ impl Options {
         self
     }
 
-    /// The most bytes that the input may have, the text of [`build`](Options::build) too. More than 2^62 is taken as 2^62. A longer
-    /// input is refused as `TooLong`.
+    /// Sets the most bytes that the input may have, the text of [`build`](Options::build) too. More than 2^62 is taken
+    /// as 2^62. A longer input is refused as `TooLong`.
     #[must_use]
     pub fn max_bytes(mut self, most: u64) -> Options {
         self.0.max_bytes = most.min(sys::LIMIT_MOST);
         self
     }
 
-    /// The most functions that a module may have, imported ones counted. One with more is refused as `ManyFunctions`.
+    /// Sets the most functions that a module may have; imported ones count. A module with more is refused as
+    /// `ManyFunctions`.
     #[must_use]
     pub fn functions(mut self, most: u32) -> Options {
         self.0.functions = u64::from(most);
         self
     }
 
-    /// The most locals that a function may declare; parameters are not counted. One with more is refused as `ManyLocals`.
+    /// Sets the most locals that a function may declare; parameters do not count. A module with more is refused as
+    /// `ManyLocals`.
     #[must_use]
     pub fn locals(mut self, most: u32) -> Options {
         self.0.locals = u64::from(most);
         self
     }
 
-    /// The most blocks, loops and ifs that may be open at once in a function. More are refused as `Deep`.
+    /// Sets the most blocks, loops and ifs that may be open at once in a function. A module with more is refused as
+    /// `Deep`.
     #[must_use]
     pub fn depth(mut self, most: u32) -> Options {
         self.0.depth = u64::from(most);
         self
     }
 
-    /// Whether [`build`](Options::build) reads the words of older tools too, such as `get_local`.
+    /// Sets whether [`build`](Options::build) reads the words of older tools too, such as `get_local`.
     #[must_use]
     pub fn old_words(mut self, are_read: bool) -> Options {
         self.0.old_words = u64::from(are_read);
         self
     }
 
-    /// As [`validate`](crate::validate).
+    /// Validates as [`validate`](crate::validate) does, with these options.
     pub fn validate(&self, bytes: &[u8]) -> Result<Summary, Error> {
         judged(|answer| {
-            // SAFETY: a pointer and the length of one slice, and options and an answer apart from it.
+            // SAFETY: pointer and length are those of one slice; options and answer do not overlap it.
             unsafe { sys::wmod_validate_with(bytes.as_ptr(), bytes.len(), &self.0, answer) };
         })
     }
 
-    /// A [`Validator`] that has read nothing.
+    /// Returns a [`Validator`] with these options that has read nothing.
     pub fn validator(&self) -> Result<Validator, Error> {
         Validator::begun(&self.0)
     }
 
-    /// As [`canon`](crate::canon).
+    /// Converts as [`canon`](crate::canon) does, with these options.
     pub fn canon(&self, bytes: &[u8]) -> Result<Vec<u8>, Error> {
-        // so much is always enough
+        // the canonical binary is never longer than the input
         converted(sys::wmod_canon, &self.0, bytes, bytes.len())
     }
 
-    /// As [`show`](crate::show).
+    /// Converts as [`show`](crate::show) does, with these options.
     pub fn show(&self, bytes: &[u8]) -> Result<String, Error> {
-        // most modules have no longer text; for others the call is made twice
+        // few modules have a longer text; they cost a second call
         let text = converted(
             sys::wmod_show,
             &self.0,
@@ -129,7 +132,7 @@ impl Options {
         String::from_utf8(text).map_err(|_| Error::plain(ErrorKind::Library, b"Library"))
     }
 
-    /// As [`build`](crate::build).
+    /// Converts as [`build`](crate::build) does, with these options.
     ///
     /// ```
     /// let text = "(module (type (func (param i32))) (func (type 0) get_local 0 drop))";

@@ -1,5 +1,5 @@
-//! The declarations of `wmod.h`. A test below holds their layout against `layout.txt`; the project's own gate holds that
-//! file against the header.
+//! The declarations of `wmod.h`. A test below compares their layout with `layout.txt`. The project's CI compares that
+//! file with the header.
 
 use std::ffi::{c_char, c_void};
 
@@ -50,7 +50,7 @@ pub(crate) struct Validator {
     pub(crate) state: *mut c_void,
 }
 
-/// One of the three calls that write: from these bytes, by these options, into this room.
+/// One of the three conversions: input and its length, options, buffer and its length, output.
 pub(crate) type Convert =
     unsafe extern "C" fn(*const u8, usize, *const Options, *mut u8, usize, *mut Output) -> u32;
 
@@ -98,7 +98,7 @@ mod tests {
     use super::*;
     use std::mem::{offset_of, size_of};
 
-    /// A type's size and the places of its fields, as `layout.txt` writes them.
+    /// The size of a type and the offsets of its fields, as lines of `layout.txt`.
     macro_rules! laid {
         ($name:literal, $type:ident, $($field:ident)*) => {
             [

@@ -8,19 +8,19 @@ use std::ptr;
 #[derive(Clone, Copy, PartialEq, Eq, Debug)]
 #[non_exhaustive]
 pub struct Summary {
-    /// How many functions have a body.
+    /// The number of functions with a body.
     pub functions: u64,
-    /// The most pushes and pops of the two stacks in one body.
+    /// The most moves (pushes and pops of the two stacks) in one body.
     pub moves: u64,
-    /// The greatest height of the operand stack.
+    /// The greatest height of the operand stack in one body.
     pub operands: u64,
-    /// The greatest height of the control stack.
+    /// The greatest height of the control stack in one body.
     pub controls: u64,
     /// The most probes of one search for a local.
     pub probes: u64,
 }
 
-/// What a call answers that fills an answer.
+/// Makes a result of the answer that a call fills in.
 pub(crate) fn judged(call: impl FnOnce(&mut sys::Answer)) -> Result<Summary, Error> {
     let mut answer = sys::Answer::default();
     call(&mut answer);
@@ -36,7 +36,7 @@ pub(crate) fn judged(call: impl FnOnce(&mut sys::Answer)) -> Result<Summary, Err
     })
 }
 
-/// Judges a module that comes in pieces of any size. The answer is that of [`validate`](crate::validate) to the pieces joined.
+/// Validates a module in pieces of any size. The result is that of [`validate`](crate::validate) for the joined pieces.
 ///
 /// ```
 /// let mut validator = wmod::Validator::new()?;
@@ -46,7 +46,7 @@ pub(crate) fn judged(call: impl FnOnce(&mut sys::Answer)) -> Result<Summary, Err
 /// # Ok::<(), wmod::Error>(())
 /// ```
 ///
-/// It is a writer too, so that [`io::copy`] feeds it. A refusal ends the copy at once, and the error holds it:
+/// A validator is also a writer, so [`io::copy`] can feed it. A refusal ends the copy at once, and the error holds it:
 ///
 /// ```
 /// use std::io;
@@ -60,7 +60,7 @@ pub(crate) fn judged(call: impl FnOnce(&mut sys::Answer)) -> Result<Summary, Err
 /// # Ok::<(), wmod::Error>(())
 /// ```
 ///
-/// It stays on its thread:
+/// A validator stays on its thread:
 ///
 /// ```compile_fail
 /// fn sent<T: Send>() {}
@@ -73,7 +73,7 @@ pub struct Validator {
 }
 
 impl Validator {
-    /// One that has read nothing, with the default [`Options`]. [`Options::validator`] makes others.
+    /// Returns a validator that has read nothing, with the default [`Options`]. [`Options::validator`] takes others.
     pub fn new() -> Result<Validator, Error> {
         Options::new().validator()
     }
@@ -86,31 +86,32 @@ impl Validator {
             handle,
             _thread: PhantomData,
         };
-        // SAFETY: an empty handle. It may move, since the library is handed its address anew by each call.
+        // SAFETY: the handle is empty. It may move, since each call passes its address anew.
         match unsafe { sys::wmod_begin_with(&mut it.handle, options) } {
             sys::VALID => Ok(it),
             status => Err(Error::of(status, 0, 0)),
         }
     }
 
-    /// Takes the next piece. An error stays: no later piece is read, and [`finish`](Validator::finish) gives it again.
+    /// Takes the next piece. An error stays: no later piece is read, and [`finish`](Validator::finish) returns it
+    /// again.
     pub fn feed(&mut self, piece: &[u8]) -> Result<(), Error> {
-        // SAFETY: the handle that was begun, and a pointer and the length of one slice.
+        // SAFETY: the handle was begun; pointer and length are those of one slice.
         match unsafe { sys::wmod_feed(&mut self.handle, piece.as_ptr(), piece.len()) } {
             sys::VALID => Ok(()),
-            // only the end of the input says which refusal it was, as often as it is asked
+            // only `wmod_finish` says which refusal it was; it may be called again
             _ => self.ended().map(drop),
         }
     }
 
-    /// The end of the input.
+    /// Ends the input and returns its figures.
     pub fn finish(mut self) -> Result<Summary, Error> {
         self.ended()
     }
 
     fn ended(&mut self) -> Result<Summary, Error> {
         judged(|answer| {
-            // SAFETY: the handle that was begun.
+            // SAFETY: the handle was begun.
             unsafe { sys::wmod_finish(&mut self.handle, answer) };
         })
     }
@@ -118,7 +119,7 @@ impl Validator {
 
 impl Drop for Validator {
     fn drop(&mut self) {
-        // SAFETY: the handle that was begun; it is empty afterwards.
+        // SAFETY: the handle was begun; it is empty afterwards.
         unsafe { sys::wmod_end(&mut self.handle) }
     }
 }

@@ -1,8 +1,8 @@
-//! A module as canonical binary and as text.
+//! Conversions to canonical binary and to text.
 
 use wmod::{build, canon, show, ErrorKind, Options};
 
-/// Its numbers are longer than they need be, and it has a custom section.
+/// A module with numbers longer than needed, and a custom section.
 const LONG: &[u8] =
     b"\0asm\x01\0\0\0\x01\x88\0\x81\0\x60\x02\x7f\x7f\x01\x7f\x03\x02\x01\0\x0a\x09\x01\x07\0\x20\0\x20\x01\x6a\x0b\0\x02\x01x";
 const SHORT: &[u8] =

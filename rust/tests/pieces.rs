@@ -1,4 +1,4 @@
-//! A module that comes in pieces is judged as the whole.
+//! A module in pieces has the answer of the whole.
 
 use std::io::{self, Write};
 use wmod::{validate, Error, ErrorKind, Options, Profile, Validator};
