@@ -1,15 +1,14 @@
-"""Proves and builds crates side by side, as `crates.txt` allows, and tells how far it is.
+"""Proves and builds crates side by side, as far as `crates.txt` allows, and reports its progress.
 
-    packaging/build.py CRATE..     these crates, and first those that they stand on
+    packaging/build.py CRATE..     builds the crates below these first, then these
 
-A crate begins once all crates below it are built. Of those that can begin, the one at the bottom of the longest chain comes first. Each
-gets one process, and more while processors are free and each of them saves time: every process first loads the statements of all that
-its crate reaches. There are never more processes than processors, nor more than the free memory has room for. The first crate that
-fails stops the others.
+A crate starts once all crates below it are built. If several can start, the one at the bottom of the longest chain comes first. Each
+gets one process. It gets more while processors are free and each process saves time, since every process first loads the statements
+of all that its crate reaches. There are never more processes than processors, nor more than fit into the free memory. The first crate
+that fails stops the others.
 
-`rt` lets one command at a time work on a crate and those below it, in one copy of the sources. But it shares what it has proved and
-built among the copies on a machine. So crates that are built side by side are built in copies of their own, below out/, and the crates
-that are asked for at last in this one.
+`rt` runs one command at a time on a crate and those below it, in one copy of the sources. But the copies on a machine share what is
+proved and built. This script therefore builds each crate in a copy of its own, below out/. Only the requested crates are built here.
 """
 import os
 import pathlib
@@ -21,15 +20,15 @@ import tempfile
 import time
 
 TOP = pathlib.Path(__file__).resolve().parent.parent
-# what a process needs, in bytes
+# the memory that a process needs, in bytes
 MEMORY = 2_000_000_000
-# the minutes that one process more has to save
+# an additional process has to save this many minutes
 LEAST_GAIN = 0.25
 # the exit status for a crate that cannot be built
 FAILED = 70
 
-# The minutes of a crate that more processes share, and those that each needs anyway: to load what the crate stands on, and to build
-# it. Only their proportions matter: they order the crates, and they give the time left.
+# For each crate, the minutes that several processes share, and the minutes that each process needs anyway: to load the crates below,
+# and to build. Only the proportions matter: they order the crates and give the time left.
 MINUTES = {
     "wm_syntax": (4.0, 1.1),
     "wm_floats": (0.4, 0.4),
@@ -47,7 +46,7 @@ MINUTES = {
     "wm_cli": (0.4, 2.5),
     "wm_c": (0.4, 2.5),
 }
-# of a crate that has no line above
+# the minutes of a crate without a line above
 UNKNOWN = (3.0, 0.5)
 
 
@@ -56,19 +55,19 @@ def say(text):
 
 
 def crate_of(line):
-    """The crate that a line of crates.txt lists; nothing for another line."""
+    """Returns the crate that a line of crates.txt lists; an empty string for another line."""
     head, colon, _ = line.partition("#")[0].partition(":")
     return head.split()[0] if colon else ""
 
 
 def crates_below(lines):
-    """For each crate of crates.txt the crates of the file that it names."""
+    """Maps each crate of crates.txt to the crates of that file on its line."""
     named = {crate_of(line): line.partition("#")[0].partition(":")[2].split() for line in lines if crate_of(line)}
     return {crate: [it for it in below if it in named] for crate, below in named.items()}
 
 
 def wanted_of(below, crates):
-    """These crates and all below them, each with the crates that it names."""
+    """Maps these crates, and all below them, to the crates on their lines."""
     found, left = {}, list(crates)
     while left:
         crate = left.pop()
@@ -79,7 +78,7 @@ def wanted_of(below, crates):
 
 
 def processes_at_once():
-    """One for each processor that has memory."""
+    """Returns the most processes: one for each processor, as far as the memory suffices."""
     try:
         text = pathlib.Path("/proc/meminfo").read_text(encoding="ascii")
         free = int(text.split("MemAvailable:")[1].split()[0]) * 1024
@@ -89,18 +88,18 @@ def processes_at_once():
 
 
 def planned(crate, processes):
-    """The minutes that a crate is expected to take."""
+    """Returns the minutes that a crate is expected to take with so many processes."""
     shared, fixed = MINUTES.get(crate, UNKNOWN)
     return fixed + shared / processes
 
 
 def gain(crate, processes):
-    """The minutes that one process more saves."""
+    """Returns the minutes that one more process saves."""
     return planned(crate, processes) - planned(crate, processes + 1)
 
 
 class Plan:
-    """Which crates wait, run and are done, and which of them begin next."""
+    """The crates that wait, run and are done, and the choice of those that start next."""
 
     def __init__(self, below, most):
         self.below = below
@@ -116,7 +115,7 @@ class Plan:
         return plan
 
     def chain(self, crate):
-        """The minutes of the longest chain of crates that begins with this one."""
+        """Returns the minutes of the longest chain of crates that starts with this one."""
         if crate not in self.chains:
             self.chains[crate] = 0
             above = [self.chain(it) for it, below in self.below.items() if crate in below]
@@ -124,7 +123,7 @@ class Plan:
         return self.chains[crate]
 
     def begin(self):
-        """Begins the crates that can be begun now. Returns the processes of each."""
+        """Starts the crates that can start now. Returns the number of processes of each."""
         ready = [it for it in self.waiting if self.done.issuperset(self.below[it])]
         ready.sort(key=lambda it: (-self.chain(it), it))
         free = self.most - sum(self.running.values())
@@ -141,7 +140,7 @@ class Plan:
         self.done.add(crate)
 
     def minutes_left(self, gone, pace):
-        """The minutes to the end, where a crate takes `pace` of its planned time and `gone` has the minutes of each that runs."""
+        """Returns the minutes to the end if crates take `pace` times their planned minutes. `gone` has the minutes of each that runs."""
         plan, at = self.copy(), 0
         ends = {it: max(0, pace * planned(it, count) - gone[it]) for it, count in plan.running.items()}
         while plan.waiting or ends:
@@ -153,7 +152,7 @@ class Plan:
 
 
 class Copies:
-    """Copies of the sources, one for each crate that is being built, and this one for those that are asked for."""
+    """Copies of the sources: one for each crate that is being built. Requested crates use the checkout itself."""
 
     def __init__(self, below, asked, room):
         self.below = below
@@ -163,7 +162,7 @@ class Copies:
         self.taken = {}
 
     def take(self, crate):
-        """The folder to build a crate in."""
+        """Returns the folder to build a crate in."""
         if crate in self.asked:
             return TOP / "crates" / crate
         self.taken[crate] = self.free.pop() if self.free else self.make(self.room / f"copy{len(self.taken)}")
@@ -185,7 +184,7 @@ class Copies:
 
 
 class Build:
-    """Crates that are built, each by `rt` in a session of its own with a log of its own."""
+    """The running build: each crate by `rt`, in a process session of its own and with a log of its own."""
 
     def __init__(self, below, asked, room):
         self.plan = Plan(below, processes_at_once())
@@ -193,7 +192,7 @@ class Build:
         self.room = pathlib.Path(room)
         self.began = {}
         self.children = {}
-        # the minutes that the crates proved so far took, and those that were planned for them
+        # the minutes that the proved crates took so far, and the minutes that were planned for them
         self.took = 0
         self.expected = 0
 
@@ -214,7 +213,7 @@ class Build:
         return (time.monotonic() - self.began[crate]) / 60
 
     def left(self):
-        """What is said of the time left; nothing as long as no crate had to be proved."""
+        """Returns the words on the time left; empty until a crate had to be proved."""
         if not self.expected or len(self.plan.done) == len(self.plan.below):
             return ""
         gone = {it: self.minutes_of(it) for it in self.plan.running}
@@ -229,7 +228,7 @@ class Build:
             say(f"the crate {crate} could not be built")
             sys.exit(FAILED)
         minutes, expected = self.minutes_of(crate), planned(crate, self.plan.running[crate])
-        # a crate that an earlier run has proved is only looked at
+        # an earlier run may have proved the crate: its minutes say nothing about the pace
         if minutes > expected / 4:
             self.took += minutes
             self.expected += expected

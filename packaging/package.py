@@ -1,10 +1,10 @@
-"""What `./wmod` does with what was built, when it is called so:
+"""Installs, removes and archives the built files. `./wmod` calls it for:
 
-    ./wmod install PREFIX     puts all of it below PREFIX, a folder's whole path without blanks, as /usr/local
-    ./wmod uninstall PREFIX   removes what install put there, and the folders that it made where they are empty
+    ./wmod install PREFIX     puts all files below PREFIX, an absolute path without blanks, such as /usr/local
+    ./wmod uninstall PREFIX   removes the files that install put there, and the folders that it made if they are empty
     ./wmod dist [FOLDER]      makes wmod-VERSION-x86_64-linux.tar.gz there, and its checksum
 
-The first two work below DESTDIR where that is set. Before their words stand here two more: libwm_c.a and the program.
+The first two work below DESTDIR if it is set. This script takes two more arguments before these words: libwm_c.a and the program.
 """
 import hashlib
 import os
@@ -15,9 +15,9 @@ import tempfile
 
 import stage
 
-# What an install put there: a line for each file, and one that ends with a slash for each folder that it made.
+# The record of an install: a line for each file, and a line with a slash at its end for each folder that it made.
 RECORD = "share/doc/wmod/installed.txt"
-# wmod.pc of a folder that is put anywhere
+# the prefix in wmod.pc if the folder may be anywhere
 ANYWHERE = "${pcfiledir}/../.."
 
 
@@ -33,13 +33,13 @@ def target(prefix):
 
 
 def recorded(to):
-    """What an earlier install noted."""
+    """Returns the lines that an earlier install recorded."""
     record = to / RECORD
     return record.read_text(encoding="utf-8").splitlines() if record.is_file() else []
 
 
 def make_folder(folder, to, made):
-    """Makes a folder and those above it, and notes them by their way from PREFIX."""
+    """Makes a folder and its missing parents, and adds them to `made` by their paths from PREFIX."""
     if not folder.is_dir():
         make_folder(folder.parent, to, made)
         folder.mkdir()
@@ -48,7 +48,7 @@ def make_folder(folder, to, made):
 
 
 def put(source, place):
-    """The new file replaces the old at once, which may be running."""
+    """Replaces a file in one step, since the old one may be a running program."""
     beside = place.with_name(f".{place.name}.new")
     beside.unlink(missing_ok=True)
     if source.is_symlink():
@@ -69,18 +69,18 @@ def install(archive, program, prefix):
         files = sorted(str(it.relative_to(folder)) for it in folder.rglob("*") if it.is_symlink() or it.is_file())
         for it in files:
             make_folder((to / it).parent, to, made)
-        # before the files, so that an install that fails can be taken back
+        # before the files, so that an install that fails can be removed
         record(to, [*made, *files, *before])
         for it in files:
             put(folder / it, to / it)
-    # what an older version put there and this one does not
+    # files of an older version that this one does not have
     remove(to, [it for it in before if it not in {*made, *files, RECORD}])
     record(to, [*made, *files])
     print(*told(to, files), sep="\n")
 
 
 def told(to, files):
-    """Where things went: a line, and one for each folder of bin, include, lib and share."""
+    """Yields the report of an install: a line, and one for each of the folders bin, include, lib and share."""
     yield f"wmod: installed below {to}"
     parts = [it.partition("/") for it in files]
     for folder in sorted({it[0] for it in parts}):
@@ -93,7 +93,7 @@ def record(to, names):
 
 
 def remove(to, names):
-    """Removes files, and then folders where they are empty, the deepest first."""
+    """Removes files, and then the empty folders, the deepest first."""
     folders = sorted((os.path.normpath(to / it) for it in names if it.endswith("/")), key=lambda it: -len(it))
     for it in names:
         if not it.endswith("/"):
@@ -112,7 +112,7 @@ def uninstall(_archive, _program, prefix):
 
 
 def dist(archive, program, folder="."):
-    """The same files give the same bytes: names are sorted, and no time, user or group is kept."""
+    """Makes the archive. Equal files give equal bytes: names are sorted, and no time, user or group is kept."""
     name = f"wmod-{stage.version_of(program)}-x86_64-linux"
     file = pathlib.Path(folder, f"{name}.tar.gz")
     file.parent.mkdir(parents=True, exist_ok=True)

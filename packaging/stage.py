@@ -1,8 +1,8 @@
-"""Makes the stage: a folder with all that an installed wmod has, below bin/, lib/, include/ and share/.
+"""Makes the stage: a folder with all files of an installed wmod, below bin/, lib/, include/ and share/.
 
-    packaging/stage.py FOLDER PREFIX ARCHIVE PROGRAM       ARCHIVE is libwm_c.a and PROGRAM wmod, as they were built
+    packaging/stage.py FOLDER PREFIX ARCHIVE PROGRAM       ARCHIVE is the built libwm_c.a, and PROGRAM the built wmod
 
-PREFIX is what wmod.pc names. It may be ${pcfiledir}/../.., for a folder that is put anywhere.
+PREFIX is the prefix in wmod.pc. It may be ${pcfiledir}/../.., for a folder that may be anywhere.
 """
 import pathlib
 import re
@@ -15,7 +15,7 @@ import texts
 
 TOP = pathlib.Path(__file__).resolve().parent.parent
 HEADER = TOP / "crates/wm_c/include/wmod.h"
-# what the shared library shows
+# the symbols that the shared library exports
 EXPORTS = "{ global: wmod_*; local: *; };\n"
 COMPLETIONS = {
     "share/bash-completion/completions/wmod": texts.bash,
@@ -25,7 +25,7 @@ COMPLETIONS = {
 
 
 def run(*words, **how):
-    """Runs a command and returns what it prints. Where it fails, so does this script."""
+    """Runs a command and returns its output. Ends this script if the command fails."""
     if not shutil.which(words[0]):
         sys.exit(f"wmod: the command '{words[0]}' is missing here")
     ran = subprocess.run([str(it) for it in words], stdout=subprocess.PIPE, text=True, check=False, **how)
@@ -39,12 +39,12 @@ def version_of(program):
 
 
 def interface():
-    """The two numbers of the header's version."""
+    """Returns the major and the minor version of the header."""
     return [re.search(rf"#define WMOD_VERSION_{it} (\d+)", HEADER.read_text(encoding="utf-8"))[1] for it in ("MAJOR", "MINOR")]
 
 
 def one_object(archive, room):
-    """The library and the kit's allocation functions as one object that shows wmod_* alone: so no name of it meets one of the host's."""
+    """Links the library and the kit's allocation functions into one object. It exports only wmod_*, so no name clashes with the host's."""
     heap = pathlib.Path(run("rt", "doc").strip()).parent / "c/liblibc_c.a"
     for it in (archive, heap):
         (room / it.stem).mkdir()
@@ -56,7 +56,7 @@ def one_object(archive, room):
 
 
 def libraries(folder, archive):
-    """libwmod.a, and libwmod.so with its two links."""
+    """Makes libwmod.a, and libwmod.so with its two links."""
     major, minor = interface()
     shared = folder / f"libwmod.so.{major}.{minor}"
     with tempfile.TemporaryDirectory(prefix="wmod-") as name:
@@ -71,7 +71,7 @@ def libraries(folder, archive):
 
 
 def written(program, prefix):
-    """The texts that are made, each by its place."""
+    """Returns the generated files: their texts by their paths."""
     here, version = TOP / "packaging", version_of(program)
     said = texts.read_help(run(program, "--help"))
     man, described = [(here / it).read_text(encoding="utf-8") for it in ("wmod.1.in", "wmod.pc.in")]
@@ -91,10 +91,10 @@ def make(folder, prefix, archive, program):
         (folder / it).write_text(text, encoding="utf-8")
     shutil.copyfile(program, folder / "bin/wmod")
     shutil.copyfile(HEADER, folder / "include/wmod.h")
-    # the pages, and the pictures that they show
+    # the pages and their pictures
     for it in [TOP / "README.md", *(TOP / "docs").glob("*.md"), *(TOP / "docs").glob("*.svg")]:
         shutil.copyfile(it, folder / "share/doc/wmod" / it.name)
-    # whatever the umask of whoever made it
+    # the modes do not depend on the umask
     for it in [folder, *folder.rglob("*")]:
         if not it.is_symlink():
             it.chmod(0o755 if it.is_dir() or it.parent.name == "bin" or ".so." in it.name else 0o644)

@@ -1,13 +1,13 @@
-"""What is said of the options: the manual page and the completions of bash, zsh and fish, all made from `wmod --help`. A line of the
-help that is not understood is a fault, so that no option is lost when the help changes.
+"""Makes the manual page and the completions of bash, zsh and fish from `wmod --help`. A line of the help that it cannot parse is an
+error, so that no option is lost when the help changes.
 """
 import collections
 import re
 
-# The parts of `wmod --help` that list something.
+# The lines of `wmod --help` that list an action or an option.
 ACTION = re.compile(r" {2}(?P<name>\w+) {2,}(?P<says>.+)")
 OPTION = re.compile(r" {2,6}(?:-(?P<short>\w), )?--(?P<name>[\w-]+)(?: <(?P<value>\w+)>)? {2,}(?P<says>.+)")
-# A help text that begins with its values, as `1, 2 or 3: ..`, and one of an option that a single action takes.
+# The help text of an option that lists its values, such as `1, 2 or 3: ..`, and of one that a single action takes.
 VALUES = re.compile(r"\d+(?:, \d+)* or \d+\b")
 ONLY = re.compile(r"With `(\w+)`: ")
 
@@ -17,7 +17,7 @@ Help = collections.namedtuple("Help", "about actions options")
 
 
 def read_help(text):
-    """The list of actions and options."""
+    """Parses the help: the first paragraph, the actions and the options."""
     about, actions, _ = text.split("\n\n", 2)
     options = re.search(r"(?ms)^Options:\n(.*?)\n\n", text)[1]
     actions = [Action(**each(ACTION, line)) for line in actions.split("\n")]
@@ -37,12 +37,12 @@ def option(short, name, value, says):
 
 
 def filled(template, texts):
-    """The template with each @NAME@ replaced; one without a text is a fault."""
+    """Returns the template with each @NAME@ replaced. Fails with `KeyError` if a name has no text."""
     return re.sub(r"@([A-Z]+)@", lambda it: texts[it[1]], template)
 
 
 def troff(text):
-    """The text as man shows it letter by letter, with `words` in bold."""
+    """Escapes a text for man, with `words` in bold."""
     text = text.replace("\\", r"\e").replace("-", r"\-").replace("'", r"\(aq")
     return re.sub(r"`([^`]*)`", r"\\fB\1\\fR", text)
 
@@ -143,12 +143,12 @@ def zsh_option(it):
 
 
 def plain(text):
-    """The text without the marks of its `words`, which zsh may run."""
+    """Returns the text without backquotes, since zsh may run what is between them."""
     return text.replace("`", "")
 
 
 def quoted(text):
-    """The text in single quotes, as bash and zsh read it."""
+    """Returns the text in single quotes, as bash and zsh read it."""
     return "'" + text.replace("'", "'\\''") + "'"
 
 
