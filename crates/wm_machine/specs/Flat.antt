@@ -1,5 +1,5 @@
--- The flat value of a module (section 5.5): what its items tell in order, an expression as its
--- ops and locals as runs.
+-- The flat value of a module: its members in the order of the binary format. An expression is a list of ops, and locals
+-- are runs. Core spec 5.5.
 use Rattle.std.specs.Prelude.{◌≡◌, ℕ, ◌<◌, ◌^◌, List, [], ◌∷◌, ◌++◌, Option, Some, None, length, map}
 use Rattle.std.specs.Prelude.{flat_map}
 use Rattle.std.specs.List.{AllByRecursion, AllZip}
@@ -24,30 +24,29 @@ use Rattle.wm_machine.specs.Items.{Item, new_type, param, result_count, one_resu
 use Rattle.wm_machine.specs.Items.{import_desc, function, table, memory, global, const_op, export_name, export}
 use Rattle.wm_machine.specs.Items.{start, element, element_function, body, locals, body_op, segment, data_byte}
 
--- a global: its type, and the ops of its initialiser (section 5.5.9)
+-- a global: its type, and the ops of its initialiser (Core spec 5.5.9)
 pub record FlatGlobal : Type 0 where
   pub ty : GlobalType
   pub init : List Op
 
--- an element segment: a table, the ops that say where in it, and functions (section 5.5.12)
+-- an element segment: a table index, the ops of its offset, and function indices (Core spec 5.5.12)
 pub record FlatElement : Type 0 where
   pub table : ℕ
   pub offset : List Op
   pub functions : List ℕ
 
--- a code entry: runs of locals of one type, and the ops of the body (section 5.5.13)
+-- a code entry: its runs of locals, and the ops of its body (Core spec 5.5.13)
 pub record FlatCode : Type 0 where
   pub runs : List (ℕ × ValType)
   pub ops : List Op
 
--- a data segment: a memory, the ops that say where in it, and bytes (section 5.5.14)
+-- a data segment: a memory index, the ops of its offset, and its bytes (Core spec 5.5.14)
 pub record FlatSegment : Type 0 where
   pub memory : ℕ
   pub offset : List Op
   pub bytes : List ℕ
 
--- A module, section by section (section 5.5.15). Of a function its type's index stands in one section and its
--- code in another.
+-- A module, section by section. A function has its type index in `functions` and its code in `codes`. Core spec 5.5.15.
 pub record FlatModule : Type 0 where
   pub types : List Signature
   pub imports : List Import
@@ -61,7 +60,7 @@ pub record FlatModule : Type 0 where
   pub codes : List FlatCode
   pub segments : List FlatSegment
 
--- The items of each member, in the order of its bytes.
+-- The items of each kind of member, in the order of its bytes.
 abbrev pub type_items : Signature → List Item
 type_items f = new_type ∷ map param f.params ++ result_count (length f.results) ∷ map one_result f.results
 
@@ -87,7 +86,7 @@ code_items c = body ∷ map (λ r. locals r.0 r.1) c.runs ++ map body_op c.ops
 abbrev pub segment_items : FlatSegment → List Item
 segment_items s = segment s.memory ∷ map const_op s.offset ++ map data_byte s.bytes
 
--- the items of a module, in order
+-- the items of a module, in the order of its sections
 abbrev pub flat_items : FlatModule → List Item
 flat_items v =
     flat_map type_items v.types
@@ -102,36 +101,36 @@ flat_items v =
     ++ (flat_map code_items v.codes
     ++ flat_map segment_items v.segments)))))))))
 
--- an expression of the profile: its ops, each spelled, joined (section 5.4.6)
+-- an expression of the profile: the bytes of its ops, one after another (Core spec 5.4.6)
 abbrev pub SpellsOps : Profile → List Op → Form ℕ
 SpellsOps p ops b = IsExpression ops × AllByRecursion (IsOpOf p) ops × Each SpellsOp ops b
 
--- imports (section 5.5.5), of a global of a type of the profile
+-- the profile has the type of an imported global (Core spec 5.5.5)
 abbrev pub HasImport : Profile → Import → Type 0
 HasImport p i = HasDesc p i.desc
 
--- globals (section 5.5.9)
+-- a global: its type, of the profile, and its initialiser (Core spec 5.5.9)
 abbrev pub SpellsFlatGlobal : Profile → FlatGlobal → Form ℕ
 SpellsFlatGlobal p g = Those (HasGlobalType p) SpellsGlobalType g.ty ▸ SpellsOps p g.init
 
--- element segments (section 5.5.12)
+-- an element segment: a table index, an offset expression and function indices (Core spec 5.5.12)
 abbrev pub SpellsFlatElement : Profile → FlatElement → Form ℕ
 SpellsFlatElement p e = SpellsU32 e.table ▸ SpellsOps p e.offset ▸ SpellsList SpellsU32 e.functions
 
--- code (section 5.5.13): in so many bytes, runs and the ops of the body
+-- a code entry: its size, its runs of locals and the ops of its body (Core spec 5.5.13)
 abbrev pub SpellsFlatCode : Profile → FlatCode → Form ℕ
 SpellsFlatCode p c = Sized (SpellsList (SpellsRun p) c.runs ▸ SpellsOps p c.ops)
 
--- data segments (section 5.5.14)
+-- a data segment: a memory index, an offset expression and bytes (Core spec 5.5.14)
 abbrev pub SpellsFlatSegment : Profile → FlatSegment → Form ℕ
 SpellsFlatSegment p s = SpellsU32 s.memory ▸ SpellsOps p s.offset ▸ SpellsBytes s.bytes
 
--- sections in order, with custom sections before, between and after them (section 5.5.15)
+-- these sections in order, with custom sections before, between and after them (Core spec 5.5.15)
 abbrev pub InOrder : List (Form ℕ) → Form ℕ
 InOrder [] = Customs
 InOrder (P ∷ sections) = Customs ▸ P ▸ InOrder sections
 
--- the section of each list, by its id (section 5.5.2)
+-- the section of each list of a flat value, in the order of the ids (Core spec 5.5.2)
 abbrev pub flat_sections : Profile → FlatModule → List (Form ℕ)
 flat_sections p v =
     ListSection 1 (Those (HasSignature p) SpellsSignature) v.types
@@ -147,25 +146,25 @@ flat_sections p v =
     ∷ ListSection 11 (SpellsFlatSegment p) v.segments
     ∷ []
 
--- a module (section 5.5.15), as many code entries as functions
+-- a module: the header and the sections, with as many code entries as functions (Core spec 5.5.15)
 abbrev pub SpellsFlat : Profile → FlatModule → Form ℕ
 SpellsFlat p v b = (length v.codes ≡ length v.functions) × (Exactly header ▸ InOrder (flat_sections p v)) b
 
--- the ops of a constant expression: its one, and the end (section 3.3.7)
+-- the ops of a constant expression: its one instruction, and the end (Core spec 3.3.7)
 abbrev pub constant_ops : Const → List Op
 constant_ops c = op.Simple (constant c) ∷ op.End ∷ []
 
--- What a member of a flat value says of a member of the module (sections 2.5.3, 2.5.6 to 2.5.8): a
--- function's type index,
+-- The next five definitions relate a member of a flat value to a member of the module (Core spec 2.5.3, 2.5.6 to
+-- 2.5.8). Here x is the type index of the function.
 abbrev pub IsIndexOf : Function → ℕ → Type 0
 IsIndexOf f x = x ≡ f.type_index
 
--- its locals, run by run, and its body's ops, which are those of its instructions and the end;
+-- The runs expand to the locals of the function, fewer than 2^32. The ops are those of its body, and the end.
 abbrev pub IsCodeOf : Function → FlatCode → Type 0
 IsCodeOf f c = (locals_of c.runs ≡ f.locals) × (length f.locals < 2 ^ 32)
     × (HasOps f.body ▸ Exactly (op.End ∷ [])) c.ops
 
--- a global, an element segment and a data segment, with the ops of a constant.
+-- Equal parts, and the ops of the same constant expression: for a global, an element segment and a data segment.
 abbrev pub IsGlobalOf : GlobalDef → FlatGlobal → Type 0
 IsGlobalOf g v = (v.ty ≡ g.ty) × (v.init ≡ constant_ops g.init)
 
@@ -175,8 +174,8 @@ IsElementOf e v = (v.table ≡ e.table) × (v.offset ≡ constant_ops e.offset) 
 abbrev pub IsSegmentOf : Segment → FlatSegment → Type 0
 IsSegmentOf s v = (v.memory ≡ s.memory) × (v.offset ≡ constant_ops s.offset) × (v.bytes ≡ s.bytes)
 
--- The flat value is one of the module, member by member. A module has several: an else before an empty list
--- may be there or not, and locals are cut into runs in many ways.
+-- The flat value v is one of the module m, member by member. A module has several: an `else` before an empty list may
+-- be present or not, and locals can be split into runs in many ways.
 pub record IsFlatOf (m : Module) (v : FlatModule) : Type 0 where
   pub types : v.types ≡ m.types
   pub imports : v.imports ≡ m.imports

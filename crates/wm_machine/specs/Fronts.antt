@@ -1,4 +1,4 @@
--- What is said of the bytes so far of an input, which may still be refused for a size, a name or a count.
+-- Definitions about the front of an input: the bytes so far, which may still be refused for a size, a name or a count.
 use Rattle.std.specs.Prelude.{ℕ, zero, suc, ◌≡◌, ◌<◌, List, [], ◌∷◌, ◌++◌, Result, Ok, length, take}
 use Rattle.wm_syntax.specs.declared.profile.Profile.{Profile}
 use Rattle.wm_syntax.specs.declared.why.Why.{Why}
@@ -7,13 +7,15 @@ use Rattle.wm_machine.specs.Items.{Item, locals, Zone, outside, name, entry, clo
 use Rattle.wm_machine.specs.Grammar.{ModuleForm, Items, loose}
 use Rattle.wm_machine.specs.Sinks.{all_taken}
 
--- Some more bytes would make these a module, sizes, names and the number of code entries aside.
+-- The bytes b, with the marks k, can be continued to a module of the flat grammar under `loose`: sizes, names and the
+-- number of code entries are not checked.
 pub record IsFront (p : Profile) (b : List ℕ) (k : Marks) : Type 0 where
   pub rest : List ℕ
   pub rest_marks : Marks
   pub same : length b ≡ length k
   pub whole : ModuleForm loose p (b ++ rest) (k ++ rest_marks)
 
+-- one more than n after a byte in the zone `name`, else 0
 abbrev pub name_more : Zone → ℕ → ℕ
 name_more name n = suc n
 name_more _ n = zero
@@ -22,11 +24,11 @@ abbrev pub name_after : ℕ → Marks → ℕ
 name_after n [] = n
 name_after n (m ∷ k) = name_after (name_more m.zone n) k
 
--- how many bytes there are of a name that goes on after the last of these marks
+-- the number of bytes so far of a name that is unfinished after these marks; 0 if none is
 abbrev pub unfinished_name : Marks → ℕ
 unfinished_name k = name_after 0 k
 
--- how many bytes lie outside code entries, those of names too
+-- the number of bytes outside code entries, including those of names
 abbrev pub outside_bytes : Marks → ℕ
 outside_bytes [] = zero
 outside_bytes (m ∷ k) =
@@ -37,7 +39,7 @@ outside_bytes (m ∷ k) =
       | closing ↦ outside_bytes k
     ]
 
--- how many bytes lie in code entries
+-- the number of bytes inside code entries
 abbrev pub inside_bytes : Marks → ℕ
 inside_bytes [] = zero
 inside_bytes (m ∷ k) =
@@ -48,6 +50,7 @@ inside_bytes (m ∷ k) =
       | closing ↦ suc (inside_bytes k)
     ]
 
+-- one more than n after a byte in the zone `entry`, else 0
 abbrev pub entry_more : Zone → ℕ → ℕ
 entry_more entry n = suc n
 entry_more _ n = zero
@@ -56,12 +59,12 @@ abbrev pub entry_after : ℕ → Marks → ℕ
 entry_after n [] = n
 entry_after n (m ∷ k) = entry_after (entry_more m.zone n) k
 
--- how many bytes there are so far of the code entry at hand; after its last byte none is at hand
+-- the number of bytes after the size of an unfinished code entry; 0 if none is unfinished
 abbrev pub entry_bytes : Marks → ℕ
 entry_bytes k = entry_after 0 k
 
--- The bytes so far end inside the expression of a code entry: one is at hand, and whatever comes, sizes,
--- names and the number of code entries aside, no run of locals is the next item.
+-- The bytes so far end inside the expression of a code entry. An entry is unfinished, and no continuation under `loose`
+-- has a run of locals as its next item.
 pub record InExpression (p : Profile) (b : List ℕ) : Type 0 where
   pub marks : Marks
   pub front : IsFront p b marks
@@ -70,16 +73,16 @@ pub record InExpression (p : Profile) (b : List ℕ) : Type 0 where
       → ModuleForm loose p (b ++ more) (marks ++ later)
       → items_at later ≡ locals n t ∷ rest → ⊥
 
--- What the bytes so far tell, which may still be refused: where each lies, which items are complete in them,
--- and what a sink holds that took these.
+-- The bytes so far are the front of an input. Their marks say where each byte lies and which items are complete, and a
+-- sink that took these items has the state h.
 pub record Tells {H : Type 0} (after : H → Item → Result H Why) (p : Profile) (first : H) (bytes : List ℕ)
     (h : H)
     : Type 0 where
   pub marks : Marks
   pub front : IsFront p bytes marks
-  -- the bytes alone tell these marks
+  -- the bytes have no other marks
   pub alone : (other : Marks) → IsFront p bytes other → other ≡ marks
-  -- and those of each whole input that begins so
+  -- each whole input that begins with the bytes has these marks at its front
   pub begins : (more : List ℕ) (items : Marks) → Items p (bytes ++ more) items
       → marks ≡ take (length bytes) items
   pub taken : all_taken after first (items_at marks) ≡ Ok h

@@ -1,4 +1,4 @@
--- The items of a module as they come (chapter 2), and what is said of each byte.
+-- The items (decoder events) of a module, and the mark of each byte. Core spec, chapter 2.
 use Rattle.std.specs.Prelude.{ℕ, List, [], ◌∷◌, Option, Some, None}
 use Rattle.wm_syntax.specs.declared.types.ValType.{ValType}
 use Rattle.wm_syntax.specs.declared.types.Limits.{Limits}
@@ -7,7 +7,8 @@ use Rattle.wm_syntax.specs.declared.instructions.Op.{Op}
 use Rattle.wm_syntax.specs.declared.modules.ImportDesc.{ImportDesc}
 use Rattle.wm_syntax.specs.declared.modules.ExportKind.{ExportKind}
 
--- an item of a module, without where its bytes lie in memory; of a data segment each byte for itself
+-- An item of a module as a value: it has the bytes of a name, not their address. Each byte of a data segment is an
+-- item.
 pub data Item : Type 0 where
   new_type : Item
   param : ValType → Item
@@ -32,28 +33,29 @@ pub data Item : Type 0 where
   segment : ℕ → Item
   data_byte : ℕ → Item
 
--- Where a byte lies: anywhere else; in a name that goes on after it; in a code entry that goes on after it;
--- as the last byte of a code entry.
+-- Where a byte lies. `name`: in the bytes of a name, before the last. `entry`: after the size of a code entry, before
+-- its last byte. `closing`: the last byte of a code entry. `outside`: anywhere else.
 pub data Zone : Type 0 where
   outside : Zone
   name : Zone
   entry : Zone
   closing : Zone
 
--- what is said of a byte: where it lies, and the item that is complete at it
+-- the mark of a byte: its zone, and the item that it completes, if any
 pub record Mark : Type 0 where
   pub zone : Zone
   pub item : Option Item
 
--- what is said of each of some bytes
+-- the marks of some bytes, in order
 abbrev pub Marks : Type 0
 Marks = List Mark
 
+-- the items with this one before them, if any
 abbrev pub put_item : Option Item → List Item → List Item
 put_item None items = items
 put_item (Some part) items = part ∷ items
 
--- the items that are complete at some bytes, in order
+-- the items of these marks, in order
 abbrev pub items_at : Marks → List Item
 items_at [] = []
 items_at (m ∷ k) = put_item m.item (items_at k)

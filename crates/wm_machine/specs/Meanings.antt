@@ -1,5 +1,5 @@
--- What the name of a refusal says of the bytes up to its place. The last of them decided, or the input ends
--- there.
+-- The meaning of the name of a refusal: a statement about the bytes up to its offset. The last of them decided, or the
+-- input ends there.
 use Rattle.std.specs.Prelude.{◌≡◌, ◌≢◌, ℕ, ◌+◌, ◌<◌, ◌≤◌, ◌⊎◌, List, [], ◌∷◌, ◌++◌, length, take}
 use Rattle.std.specs.Prelude.{slice_index, Some, Result, Ok, Err, Option, IsTrue, IsUtf8, ℤ}
 use Rattle.std.specs.List.{AllByRecursion}
@@ -23,7 +23,7 @@ use Rattle.wm_machine.specs.Grammar.{Items, ModuleForm, Code, Run, Expression, s
 use Rattle.wm_machine.specs.Sinks.{all_taken}
 use Rattle.wm_machine.specs.Fronts.{IsFront}
 
--- A section as bytes (section 5.5.2): an id, and contents of which only the size is looked at.
+-- A section as bytes: an id, and contents of which only the size is checked. Core spec 5.5.2.
 pub record RawSection : Type 0 where
   pub id : ℕ
   pub contents : List ℕ
@@ -31,7 +31,7 @@ pub record RawSection : Type 0 where
 abbrev pub SpellsRaw : RawSection → Form ℕ
 SpellsRaw s = Section s.id (Exactly s.contents)
 
--- the header (section 5.5.15), and these sections
+-- the header, and then these sections (Core spec 5.5.15)
 abbrev pub SpellsSections : List RawSection → Form ℕ
 SpellsSections sections = Exactly header ▸ Each SpellsRaw sections
 
@@ -43,8 +43,8 @@ pub record HasFrom (id : ℕ) (sections : List RawSection) : Type 0 where
   pub whole : sections ≡ before ++ one ∷ after
   pub from : id ≤ one.id
 
--- Magic and Version (section 5.5.15): the bytes before the last are those of the header, and the last, at
--- such a place in it, is not.
+-- Magic and Version: all bytes but the last are those of the header, and the last is not. Its index in the header is at
+-- least `from` and less than `below`. Core spec 5.5.15.
 pub record WrongInHeader (from below : ℕ) (used : List ℕ) : Type 0 where
   pub front : List ℕ
   pub byte : ℕ
@@ -54,7 +54,7 @@ pub record WrongInHeader (from below : ℕ) (used : List ℕ) : Type 0 where
   pub before : length front < below
   pub wrong : byte ≢ slice_index header (length front)
 
--- After the header and whole sections comes the id of one more, which is wrong.
+-- The last byte comes after the header and complete sections, and is the wrong id of a further section.
 pub record WrongId (IsWrong : List RawSection → ℕ → Type 0) (used : List ℕ) : Type 0 where
   pub sections : List RawSection
   pub front : List ℕ
@@ -63,20 +63,21 @@ pub record WrongId (IsWrong : List RawSection → ℕ → Type 0) (used : List �
   pub before : SpellsSections sections front
   pub wrong : IsWrong sections id
 
--- SectionId: no section has this id (section 5.5.2)
+-- SectionId: no section has this id (Core spec 5.5.2)
 abbrev pub IsUnknown : List RawSection → ℕ → Type 0
 IsUnknown sections id = 11 < id
 
--- SectionOrder: the section has come, or one that must follow it (section 5.5.15). Ids rise, but for that of
--- custom sections, which is 0.
+-- SectionOrder: a section with this id or a greater one came before. Ids must rise, except the id 0 of custom sections.
+-- Core spec 5.5.15.
 abbrev pub IsLate : List RawSection → ℕ → Type 0
 IsLate sections id = (0 < id) × (id ≤ 11) × HasFrom id sections
 
--- Truncated (sections 5.5.2, 5.5.15): nothing follows these bytes. They end in the header, or after whole
--- sections in a further one, which more bytes would complete.
+-- Truncated, first case: the bytes end inside the header. Core spec 5.5.15.
 abbrev pub EndsInHeader : List ℕ → Type 0
 EndsInHeader used = (length used < 8) × (used ≡ take (length used) header)
 
+-- Truncated, second case: after the header and complete sections, the bytes end inside a further section, which more
+-- bytes would complete. Core spec 5.5.2.
 pub record EndsInSection (used : List ℕ) : Type 0 where
   pub sections : List RawSection
   pub front : List ℕ
@@ -89,10 +90,11 @@ pub record EndsInSection (used : List ℕ) : Type 0 where
   pub more : missing ≢ []
   pub section : SpellsRaw last (begun ++ missing)
 
+-- Truncated: no byte follows, and one of the two cases holds.
 abbrev pub EndsInside : List ℕ → List ℕ → Type 0
 EndsInside used rest = (rest ≡ []) × (EndsInHeader used ⊎ EndsInSection used)
 
--- What may have to stand at a place, where one byte decides of it.
+-- The things that may be required at an offset, where a single byte can be wrong.
 pub data Wanted : Type 0 where
   an_instruction : Wanted
   a_value_type : Wanted
@@ -103,11 +105,10 @@ pub data Wanted : Type 0 where
   a_kind : Wanted
   a_zero : Wanted
 
--- Its bytes. Of an instruction of the profile, an else or an end (sections 5.4, 5.4.6), of a value type of it
--- (5.3.1) and of a block type of it (5.3.2) these are all. Else they are the byte that begins a function type
--- (5.3.3) or a table type (5.3.6); that says whether there is a greatest size (5.3.4), or whether a global
--- may be set (5.3.7); the kind of an import (5.5.5) or an export (5.5.10); or the 00 that ends some
--- instructions (5.4.1, 5.4.4).
+-- The bytes of a required thing. All bytes of an instruction of the profile, an `else` or an `end` (Core spec 5.4,
+-- 5.4.6), or of a value type (5.3.1) or block type (5.3.2) of the profile. Otherwise one byte: the first of a function
+-- type (5.3.3) or table type (5.3.6); the flag of limits (5.3.4) or of mutability (5.3.7); the kind of an import
+-- (5.5.5) or an export (5.5.10); or the 00 that ends some instructions (5.4.1, 5.4.4).
 abbrev pub spelled : Profile → Wanted → Form ℕ
 spelled p an_instruction b =
     (o : Op) × (c : ℕ) × (first_byte o ≡ Some c) × IsOpOf p o × SpellsOp o b
@@ -119,15 +120,15 @@ spelled p a_flag b = (Byte 0x00 ∣ Byte 0x01) b
 spelled p a_kind b = (k : ExportKind) × Byte (kind_byte k) b
 spelled p a_zero b = Byte 0x00 b
 
--- After these bytes something of this form must stand. Each such thing can, sizes, names and the number of
--- code entries aside; and in each whole input that begins with these bytes one does. Where none begins so, as
--- after a size that is too small, the second half says nothing.
+-- After the bytes `before`, something that satisfies `IsThere` is required. `can`: each such thing may follow under
+-- `loose`. `must`: one follows in each whole input that begins with `before`. If there is no such input, as after a
+-- size that is too small, `must` says nothing.
 pub record MustStand (p : Profile) (IsThere : Form ℕ) (before : List ℕ) : Type 0 where
   pub can : (b : List ℕ) → IsThere b → (k : Marks) × IsFront p (before ++ b) k
   pub must : (more : List ℕ) (k : Marks) → Items p (before ++ more) k
       → (b rest : List ℕ) × (more ≡ b ++ rest) × IsThere b
 
--- The last byte is wrong where it stands: such a thing must stand there, and none begins with the byte.
+-- The last byte is wrong: a thing is required there, no spelling of it begins with the byte, and `IsWrong` holds.
 pub record WrongByte (p : Profile) (IsWrong : Wanted → ℕ → Type 0) (used : List ℕ) : Type 0 where
   pub before : List ℕ
   pub byte : ℕ
@@ -137,36 +138,37 @@ pub record WrongByte (p : Profile) (IsWrong : Wanted → ℕ → Type 0) (used :
   pub none : (more : List ℕ) → spelled p wanted (byte ∷ more) → ⊥
   pub wrong : IsWrong wanted byte
 
--- the types of floating-point numbers (section 5.3.1)
+-- the byte of a float type (Core spec 5.3.1)
 abbrev pub IsFloatType : ℕ → Type 0
 IsFloatType c = (c ≡ 0x7D) ⊎ (c ≡ 0x7C)
 
--- BadOpcode (section 5.4): no instruction of the profile begins so, nor one on floating-point numbers
+-- BadOpcode: an instruction is required. The byte begins none of the profile, and none on floats. Core spec 5.4.
 abbrev pub IsNoInstruction : Wanted → ℕ → Type 0
 IsNoInstruction an_instruction c = IsTrue (is_float c) → ⊥
 IsNoInstruction _ c = ⊥
 
--- Float (sections 5.3.1, 5.3.2, 5.4): an instruction on floating-point numbers, or a type of them. The
--- profile has neither, since nothing that must stand there begins with the byte.
+-- Float: the byte begins an instruction on floats, or is a float type. The profile lacks it, since nothing required
+-- there begins with the byte. Core spec 5.3.1, 5.3.2, 5.4.
 abbrev pub BeginsFloat : Wanted → ℕ → Type 0
 BeginsFloat an_instruction c = IsTrue (is_float c)
 BeginsFloat a_value_type c = IsFloatType c
 BeginsFloat a_block_type c = IsFloatType c
 BeginsFloat _ c = ⊥
 
--- BadByte (sections as at spelled): the byte begins nothing of what must stand there, and is not Float
+-- BadByte: something other than an instruction is required, and the byte begins nothing of it. If a value or block type
+-- is required, the byte is no float type. The sections are those of `spelled`.
 abbrev pub IsOtherByte : Wanted → ℕ → Type 0
 IsOtherByte an_instruction c = ⊥
 IsOtherByte a_value_type c = IsFloatType c → ⊥
 IsOtherByte a_block_type c = IsFloatType c → ⊥
 IsOtherByte _ c = Unit {0}
 
--- a name (section 5.2.4)
+-- a name (Core spec 5.2.4)
 abbrev pub IsName : Form ℕ
 IsName b = (text : List ℕ) × SpellsName text b
 
--- BadUtf8 (section 5.2.4): where a name must stand comes its length, and then so many bytes, which are not
--- UTF-8. After the length so many bytes of UTF-8 must stand.
+-- BadUtf8: a name is required. Its length comes, and then that many bytes, which are not UTF-8. After the length, UTF-8
+-- of that many bytes is required. Core spec 5.2.4.
 pub record BadName (p : Profile) (used : List ℕ) : Type 0 where
   pub before : List ℕ
   pub size : List ℕ
@@ -177,8 +179,7 @@ pub record BadName (p : Profile) (used : List ℕ) : Type 0 where
   pub place : MustStand p (λ b. (length b ≡ length text) × IsUtf8 b) (before ++ size)
   pub bad : IsUtf8 text → ⊥
 
--- The sections declare so many functions (sections 5.5.6, 5.5.15): the contents of one with id 3 begin with
--- this number, or there is none and the number is 0.
+-- the contents of a section with the id 3 begin with the number n (Core spec 5.5.6)
 pub record HasCount (n : ℕ) (sections : List RawSection) : Type 0 where
   pub before : List RawSection
   pub after : List RawSection
@@ -187,11 +188,12 @@ pub record HasCount (n : ℕ) (sections : List RawSection) : Type 0 where
   pub whole : sections ≡ before ++ record { id = 3; contents = number ++ more } ∷ after
   pub spelled : SpellsU32 n number
 
+-- the sections declare n functions: `HasCount n` holds, or no section has the id 3 and n is 0 (Core spec 5.5.15)
 abbrev pub Declare : ℕ → List RawSection → Type 0
 Declare n sections = HasCount n sections ⊎ ((n ≡ 0) × AllByRecursion (λ s. s.id ≢ 3) sections)
 
--- CodeCount (section 5.5.15): after these sections comes the beginning of one with id 10, up to the number of
--- its code entries, which is another than that of the functions.
+-- CodeCount, first case: after complete sections, a section with the id 10 begins, up to the number of its code
+-- entries. This number is not that of the functions. Core spec 5.5.15.
 pub record OtherCount (used : List ℕ) : Type 0 where
   pub sections : List RawSection
   pub front : List ℕ
@@ -207,7 +209,8 @@ pub record OtherCount (used : List ℕ) : Type 0 where
   pub declared : Declare functions sections
   pub differ : entries ≢ functions
 
--- Or functions were declared, no section with id 10 came, and the one with id 11 begins or the input ends.
+-- CodeCount, second case: functions are declared and no section has the id 10. The input ends, or a section with the
+-- id 11 begins. Core spec 5.5.15.
 pub record NoCode (used rest : List ℕ) : Type 0 where
   pub sections : List RawSection
   pub front : List ℕ
@@ -218,19 +221,18 @@ pub record NoCode (used rest : List ℕ) : Type 0 where
   pub some : 0 < functions
   pub none : AllByRecursion (λ s. s.id ≢ 10) sections
 
--- These bytes are a module, or begin one, sizes, names and the number of code entries aside.
+-- The bytes are the front of a module, or all of it, under `loose`.
 abbrev pub CanGoOn : Profile → List ℕ → Type 0
 CanGoOn p used = (k : Marks) × IsFront p used k
 
--- In the same sense these are a module, or become one by 0A 01 00, as by a code section of no entries.
+-- The bytes are a module under `loose`, or become one by the bytes 0A 01 00, a code section without entries.
 abbrev pub CanEnd : Profile → List ℕ → Type 0
 CanEnd p used =
     (rest : List ℕ) × ((rest ≡ []) ⊎ (rest ≡ 0x0A ∷ 0x01 ∷ 0x00 ∷ [])) × (k : Marks)
     × ModuleForm loose p (used ++ rest) k
 
--- SectionEnd (section 5.5.2): no module begins with these bytes, and after these sections one more comes up
--- to here. It has all bytes of its size, and these bytes are a module or begin one, sizes, names and the
--- number of code entries aside; or it has fewer, and in that sense these are one, or become one by 0A 01 00.
+-- SectionEnd: no whole input begins with these bytes, and after complete sections they end in or after one more. Either
+-- this one has all bytes of its size, and `CanGoOn` holds; or it has fewer, and `CanEnd` holds. Core spec 5.5.2.
 pub record OtherSize (p : Profile) (used : List ℕ) : Type 0 where
   pub sections : List RawSection
   pub front : List ℕ
@@ -244,16 +246,16 @@ pub record OtherSize (p : Profile) (used : List ℕ) : Type 0 where
   pub wrong : ((length contents ≡ bytes) × CanGoOn p used) ⊎ ((length contents < bytes) × CanEnd p used)
   pub none : (more : List ℕ) (k : Marks) → Items p (used ++ more) k → ⊥
 
--- A code entry without its size (section 5.5.13): runs of locals, and an expression.
+-- A code entry without its size: runs of locals, and an expression. Core spec 5.5.13.
 abbrev pub IsEntry : Profile → List ℕ → Type 0
 IsEntry p b = (k : Marks) × Then (Vector (Run p)) (Expression p body_op) b k
 
--- at least one byte is missing of such an entry
+-- the front of such an entry, from which at least one byte is missing
 abbrev pub BeginsEntry : Profile → List ℕ → Type 0
 BeginsEntry p b = (more : List ℕ) × (more ≢ []) × IsEntry p (b ++ more)
 
--- BodyEnd (section 5.5.13): where a code entry must stand comes its size, and then what it has up to here.
--- Either these are so many bytes and the entry goes on, or they are less and it is over.
+-- BodyEnd: a code entry is required. Its size comes, and then its contents up to here. Either these have that size and
+-- the entry is incomplete, or they are shorter and it is complete. Core spec 5.5.13.
 pub record OtherBodySize (p : Profile) (used : List ℕ) : Type 0 where
   pub before : List ℕ
   pub size : List ℕ
@@ -265,23 +267,24 @@ pub record OtherBodySize (p : Profile) (used : List ℕ) : Type 0 where
   pub wrong : ((length contents ≡ bytes) × BeginsEntry p contents)
       ⊎ ((length contents < bytes) × IsEntry p contents)
 
--- the integers of the format (section 5.2.2): of 32 bits without a sign, of 32 and of 64 bits with one
+-- the kinds of integers in a module: u32, s32 and s64 (Core spec 5.2.2)
 pub data Integer : Type 0 where
   u32 : Integer
   s32 : Integer
   s64 : Integer
 
+-- the bytes spell an integer of this kind (Core spec 5.2.2)
 abbrev pub spells : Integer → Form ℕ
 spells u32 b = (n : ℕ) × Unsigned 32 n b
 spells s32 b = (z : ℤ) × Signed 32 z b
 spells s64 b = (z : ℤ) × Signed 64 z b
 
--- the rest of an integer that has begun with these bytes
+-- the rest, at least one byte, of an integer that begins with the bytes `begun`
 abbrev pub goes_on : Integer → List ℕ → Form ℕ
 goes_on number begun b = (b ≢ []) × spells number (begun ++ b)
 
--- BadNumber (section 5.2.2): an integer has begun that can go on, and its rest must stand after the bytes
--- before. None goes on with the last byte.
+-- BadNumber: before the last byte an integer has begun, it can continue, and its rest is required. No integer of this
+-- kind continues with the last byte. Core spec 5.2.2.
 pub record WrongNumber (p : Profile) (used : List ℕ) : Type 0 where
   pub before : List ℕ
   pub begun : List ℕ
@@ -293,9 +296,9 @@ pub record WrongNumber (p : Profile) (used : List ℕ) : Type 0 where
   pub place : MustStand p (goes_on number begun) (before ++ begun)
   pub none : (more : List ℕ) → spells number (begun ++ byte ∷ more) → ⊥
 
--- What a name says of the bytes that were used, and of those behind them. Each name of the format has a line
--- of its own. TooLong: one byte more than the limit. Of the others nothing is said: of those of a checker of
--- rules (Index, Mismatch and so on) or of a policy, and of Memory.
+-- The meaning of a name, about the bytes `used` up to the offset and the bytes `rest` after it. Each name of the format
+-- has its own line. TooLong: `used` has one byte more than the limit. The other names have no meaning here: those of
+-- rules (Index, Mismatch and so on), those of a policy, and Memory.
 abbrev pub MeansOfFormat : Profile → ℕ → List ℕ → List ℕ → Why → Type 0
 MeansOfFormat p limit used rest why.Magic = WrongInHeader 0 4 used
 MeansOfFormat p limit used rest why.Version = WrongInHeader 4 8 used
@@ -313,7 +316,8 @@ MeansOfFormat p limit used rest why.BodyEnd = OtherBodySize p used
 MeansOfFormat p limit used rest why.BadNumber = WrongNumber p used
 MeansOfFormat p limit used rest w = Unit {0}
 
--- A refusal of an input: its place lies within it, and what its name says holds of the bytes up to there.
+-- A refusal of an input: its offset lies within the input, and `Says` holds for the bytes up to it, the rest, and its
+-- name.
 pub record Meant (Says : List ℕ → List ℕ → Why → Type 0) (input : List ℕ) (r : Refusal) : Type 0 where
   pub used : List ℕ
   pub rest : List ℕ
@@ -321,11 +325,12 @@ pub record Meant (Says : List ℕ → List ℕ → Why → Type 0) (input : List
   pub at : r.at ≡ length used
   pub means : Says used rest r.why
 
+-- a refusal of an input, with the meaning of its name as a name of the format
 abbrev pub MeaningOfFormat : Profile → ℕ → List ℕ → Refusal → Type 0
 MeaningOfFormat p limit input r = Meant (MeansOfFormat p limit) input r
 
--- The last byte completes an item, and of the items before it and of it this is true. All these bytes are a
--- module, or begin one, sizes, names and the number of code entries aside.
+-- The last byte completes an item, and `IsWrong` holds for the items before it and for it. The bytes are the front of a
+-- module, or all of it, under `loose`.
 pub record AtItem (p : Profile) (IsWrong : List Item → Item → Type 0) (used : List ℕ) : Type 0 where
   pub told : Marks
   pub last : Mark
@@ -334,12 +339,12 @@ pub record AtItem (p : Profile) (IsWrong : List Item → Item → Type 0) (used 
   pub completes : last.item ≡ Some item
   pub wrong : IsWrong (items_at told) item
 
--- a sink that held this takes the items, and then refuses the one by the name
+-- a sink with this first state takes the items, and then refuses the one item with the name w
 abbrev pub RefusesBy : {H : Type 0} → (H → Item → Result H Why) → H → Why → List Item → Item → Type 0
 RefusesBy {H} after first w items item =
     (h : H) × (all_taken after first items ≡ Ok h) × (after h item ≡ Err w)
 
--- the names that a sink may give: of a rule of a module (chapter 3; of a code entry 5.5.13), or of a policy
+-- the names that a sink may give: those of rules (Core spec, chapter 3, and 5.5.13 for code entries) and of a policy
 abbrev pub IsRuleName : Why → Type 0
 IsRuleName why.TooManyLocals = Unit {0}
 IsRuleName why.Index = Unit {0}
@@ -358,7 +363,7 @@ IsRuleName why.ManyLocals = Unit {0}
 IsRuleName why.Deep = Unit {0}
 IsRuleName w = ⊥
 
--- a sink that gives no other, whatever items it has taken since it held this
+-- a sink with this first state refuses items by names of rules only, whatever items it took before
 abbrev pub GivesRuleNames : {H : Type 0} → (H → Item → Result H Why) → H → Type 0
 GivesRuleNames {H} after first =
     (parts : List Item) (h : H) (x : Item) (w : Why) → all_taken after first parts ≡ Ok h → after h x ≡ Err w

@@ -1,4 +1,4 @@
--- What a sink is to those who give it items: what it holds, and what each of them makes of that.
+-- A sink as contracts see it: its state, and what each item makes of this state.
 use Rattle.std.specs.Prelude.{◌≡◌, ◌≢◌, List, [], ◌∷◌, Result, Ok, Err, map}
 use Rattle.wm_syntax.specs.declared.why.Why.{Why}
 use Rattle.wm_syntax.specs.declared.why.Why.TheVariants as why
@@ -9,7 +9,7 @@ use Rattle.wm_machine.specs.Items.{Item, new_type, param, result_count, one_resu
 use Rattle.wm_machine.specs.Items.{import_desc, function, table, memory, global, const_op, export_name, export}
 use Rattle.wm_machine.specs.Items.{start, element, element_function, body, locals, body_op, segment, data_byte}
 
--- what a lent item stands for, without where its bytes lie: of a slice of data each byte is an item
+-- the items that a borrowed item stands for: a slice of data bytes stands for one item per byte
 abbrev pub items_for : Given → List Item
 items_for items.NewType = new_type ∷ []
 items_for (items.Param t) = param t ∷ []
@@ -37,32 +37,33 @@ items_for (items.Op o) = body_op o ∷ []
 items_for (items.Segment x) = segment x ∷ []
 items_for (items.DataBytes bytes) = map data_byte bytes.now
 
+-- the result of f on an `Ok` value; an error stays as it is
 abbrev pub and_then : {A B E : Type 0} → Result A E → (A → Result B E) → Result B E
 and_then (Ok x) f = f x
 and_then (Err e) f = Err e
 
--- what is held after some items, one after another, or why one of them is refused
+-- the state after these items, one after another, or why the first of them is refused that is refused
 abbrev pub all_taken : {H : Type 0} → (H → Item → Result H Why) → H → List Item → Result H Why
 all_taken after h [] = Ok h
 all_taken after h (x ∷ xs) = and_then (after h x) (λ g. all_taken after g xs)
 
--- What a receiver answered, and holds now, is what was expected, unless memory ran out.
+-- The result is as expected, unless it is the error `Memory`. If it is `Ok`, the state now is as expected too.
 abbrev pub Taken : {H U : Type 0} → Result H Why → Result U Why → H → Type 0
 Taken expected (Ok u) now = expected ≡ Ok now
 Taken expected (Err w) now = w ≢ why.Memory → expected ≡ Err w
 
--- Memory is refused only where it may run out at the item; of several items nothing is said.
+-- If a single item is refused as `Memory`, memory may run out at it. This says nothing about no item or several.
 abbrev pub RunsOut : {H U : Type 0} → (H → Item → Type 0) → H → List Item → Result U Why → Type 0
 RunsOut may h (x ∷ []) (Err w) = w ≡ why.Memory → may h x
 RunsOut may h xs result = Unit {0}
 
--- The same, but for why it is refused.
+-- As `Taken`, but another error than `Memory` only means that the expected result is an error too, with any reason.
 abbrev pub TakenOrNot : {H U : Type 0} → Result H Why → Result U Why → H → Type 0
 TakenOrNot {H} expected (Ok u) now = expected ≡ Ok now
 TakenOrNot {H} expected (Err w) now = w ≢ why.Memory → (h : H) → expected ≡ Ok h → ⊥
 
--- A sink that held h took a lent item that stands for these: it holds what they leave one by one, and refuses
--- what they don't leave; a single item it refuses by its own name.
+-- A sink with the state h was given a borrowed item that stands for these items. Unless memory ran out, its state now
+-- is the one after these items, or it refused one of them. The reason is exact only for a single item.
 abbrev pub Took : {H U : Type 0} → (H → Item → Result H Why) → H → List Item → Result U Why → H → Type 0
 Took after h (x ∷ []) result now = Taken (after h x) result now
 Took after h xs result now = TakenOrNot (all_taken after h xs) result now

@@ -1,46 +1,48 @@
-//! The items that a decoder gives.
+//! The items (decoder events) that a decoder passes to its sink.
 
 use wm_syntax::instructions::Op;
 use wm_syntax::modules::ExportKind;
 use wm_syntax::types::{GlobalType, Limits, ValType};
 
-/// An item of a module, as it is complete at a byte. Names and data bytes are lent: they lie in the
-/// piece that was fed, or in the decoder where a name was cut.
+/// An item (decoder event): a part of a module, passed to the sink once its last byte is read. Names and data bytes
+/// are borrowed from the piece that was fed, or from the decoder if a name was split across pieces.
 #[derive(Clone, Copy, Debug)]
 pub enum Item<'a> {
     /// A function type begins.
     NewType,
     Param(ValType),
-    /// How many results the type at hand has.
+    /// The number of results of the function type being read.
     Results(u32),
     Result(ValType),
     ImportModule(&'a [u8]),
     ImportName(&'a [u8]),
-    /// An imported function, by the index of its type.
+    /// An imported function: the index of its type.
     ImportFunc(u32),
     ImportTable(Limits),
     ImportMemory(Limits),
     ImportGlobal(GlobalType),
-    /// A function of the module, by the index of its type.
+    /// A function of the module: the index of its type.
     Func(u32),
     Table(Limits),
     Memory(Limits),
     Global(GlobalType),
-    /// An op of a constant expression, its end too.
+    /// An op of a constant expression; its closing `end` is one too.
     ConstOp(Op),
     ExportName(&'a [u8]),
     Export(ExportKind, u32),
-    /// The start function.
+    /// The index of the start function.
     Start(u32),
-    /// An element segment, by the index of its table.
+    /// An element segment begins: the index of its table.
     Elem(u32),
+    /// A function index in an element segment.
     ElemFunc(u32),
     /// A code entry begins.
     Body,
+    /// A run of locals: their number and their type.
     Locals(u32, ValType),
-    /// An op of a code entry, its end too.
+    /// An op of a code entry; its closing `end` is one too.
     Op(Op),
-    /// A data segment, by the index of its memory.
+    /// A data segment begins: the index of its memory.
     Segment(u32),
     /// The next bytes of a data segment, at least one.
     DataBytes(&'a [u8]),

@@ -1,4 +1,4 @@
-//! Laws of the definitions, as the contracts of functions that do nothing.
+//! Laws that the definitions satisfy. Each law is the contract of a function that does nothing.
 
 ghost use Rattle.std.specs.Prelude.{◌≡◌, ◌+◌, ◌≤◌, ◌++◌, ◌↔◌, Err, ℕ, List, length, map};
 ghost use Rattle.std.specs.List.{AllByRecursion};
@@ -22,30 +22,29 @@ ghost use Rattle.wm_machine.specs.Fronts.{IsFront, entry_bytes, inside_bytes, ou
 
 use crate::sink::Sink;
 
-/// No input is read in two ways: beside each byte there is one mark.
+/// Bytes have at most one reading as a whole input: the marks beside them are unique.
 pub fn one_reading()
     ensures { (p : Profile) (b : List ℕ) (j k : Marks) → Items p b j → Items p b k → j ≡ k }
 {}
 
-/// The bytes so far of an input have one reading too, whatever may come.
+/// The front of an input has at most one reading too, whatever bytes may follow it.
 pub fn one_front()
     ensures { (p : Profile) (b : List ℕ) (j k : Marks) → IsFront p b j → IsFront p b k → j ≡ k }
 {}
 
-/// Each byte lies in a code entry or outside, and those of the entry at hand lie in one.
+/// Each byte lies either inside or outside code entries. The bytes of an unfinished code entry lie inside.
 pub fn bytes_are_in_zones()
     ensures all { (k : Marks) → outside_bytes k + inside_bytes k ≡ length k }
     ensures at_hand { (k : Marks) → entry_bytes k ≤ inside_bytes k }
 {}
 
-/// A sink takes a slice of data bytes as it takes the slice in two parts.
+/// A slice of data bytes has the same effect on a sink as the slice in two parts.
 pub fn slices_join<S: Sink>()
     ensures { (h : S.Held) (a b : List ℕ) → all_taken S.after h (map data_byte (a ++ b))
         ≡ and_then (all_taken S.after h (map data_byte a)) (λ g. all_taken S.after g (map data_byte b)) }
 {}
 
-/// A whole input has the items of a flat value with its bytes, and what has the bytes of a flat value is a
-/// whole input with its items.
+/// Bytes are a whole input if and only if they spell a flat value. The items are those of that value.
 pub fn items_are_flat()
     ensures read { (p : Profile) (b : List ℕ) (k : Marks) → Items p b k
         → (v : FlatModule) × SpellsFlat p v b × (items_at k ≡ flat_items v) }
@@ -53,7 +52,7 @@ pub fn items_are_flat()
         → (k : Marks) × Items p b k × (items_at k ≡ flat_items v) }
 {}
 
-/// The bytes of a module are those of a flat value of it, and the other way round.
+/// Bytes spell a module of the profile if and only if they spell a flat value of that module.
 pub fn module_is_flat()
     ensures flat { (p : Profile) (m : ModuleValue) (b : List ℕ) → SpellsModule p m b → IsOf p m
         → (v : FlatModule) × IsFlatOf m v × SpellsFlat p v b }
@@ -62,8 +61,7 @@ pub fn module_is_flat()
         → SpellsModule p m b × IsOf p m }
 {}
 
-/// What spells a module is a whole input with the items of a flat value of the module, and
-/// such an input spells it.
+/// Bytes spell a module of the profile if and only if they are a whole input with the items of one of its flat values.
 pub fn items_are_module()
     ensures items { (p : Profile) (m : ModuleValue) (b : List ℕ) → SpellsModule p m b → IsOf p m
         → (k : Marks) × (v : FlatModule) × Items p b k × IsFlatOf m v × (items_at k ≡ flat_items v) }
@@ -79,47 +77,47 @@ pub fn items_determine_module()
         → m ≡ n }
 {}
 
-/// Every module is of the fourth profile.
+/// Every module is of the profile `Four`.
 pub fn fourth_profile_has_all()
     ensures { (m : ModuleValue) → IsOf Four m }
 {}
 
-/// What spells a module under a profile spells it under each that has as much.
+/// Bytes that spell a module under a profile spell it under every profile that extends this one.
 pub fn more_features_spell_as_much()
     ensures { (p q : Profile) (m : ModuleValue) (b : List ℕ) → Extends q p → SpellsModule p m b
         → SpellsModule q m b }
 {}
 
-/// A whole input, and what spells a module, consist of bytes.
+/// A whole input consists of bytes (numbers below 256), and so does the spelling of a module.
 pub fn input_is_bytes()
     ensures whole { (p : Profile) (b : List ℕ) (k : Marks) → Items p b k → AreBytes b }
     ensures spelled { (p : Profile) (m : ModuleValue) (b : List ℕ) → SpellsModule p m b → AreBytes b }
 {}
 
-/// No bytes spell two modules (section 5.5.15), under two profiles either.
+/// No bytes spell two different modules, even under two profiles. Core spec 5.5.15.
 pub fn one_spelling_one_module()
     ensures { (p q : Profile) (m n : ModuleValue) (b : List ℕ) → SpellsModule p m b → SpellsModule q n b
         → m ≡ n }
 {}
 
-/// What the name of a refusal says of the bytes up to its place, over each sink that gives the names of rules
-/// alone. So the names of the format are the decoder's own.
+/// The name of a refusal means what `MeaningOfFormat` says about the bytes up to its offset. This holds over any sink
+/// that gives names of rules only, so the names of the format come from the decoder itself.
 pub fn format_names_mean<S: Sink>()
     ensures { (s : Setting S.Held) (input : List ℕ) (r : Refusal) → AreBytes input
         → GivesRuleNames S.after s.first
         → answer_of S.after s input ≡ Err r → MeaningOfFormat s.profile s.limit input r }
 {}
 
-/// By its own names a sink refuses an item that the last byte up to the place completes, after it took the
-/// items before.
+/// A refusal with the name of a rule comes from the sink. The sink took all items before, and then refused the item
+/// that the deciding byte completes.
 pub fn rule_names_are_of_items<S: Sink>()
     ensures { (s : Setting S.Held) (input : List ℕ) (r : Refusal) → AreBytes input → IsRuleName r.why
         → answer_of S.after s input ≡ Err r
         → Meant (λ used rest w. AtItem s.profile (RefusesBy S.after s.first w) used) input r }
 {}
 
-/// A profile answers an input as each does that has all its features, or it refuses a byte as `Float` or
-/// `BadOpcode`, and the other refuses no earlier.
+/// A profile and one that extends it give the same answer to an input, with one exception. The first may refuse a byte
+/// as `Float` or `BadOpcode`; then the second refuses no earlier, if at all.
 pub fn profiles_answer_alike<S: Sink>()
     ensures { (p q : Profile) (limit : ℕ) (first : S.Held) (input : List ℕ) → Extends q p
         → SameUpToProfile
@@ -127,8 +125,8 @@ pub fn profiles_answer_alike<S: Sink>()
         (answer_of S.after (record { profile = q; limit = limit; first = first }) input) }
 {}
 
-/// A flat value is spelled under a profile exactly where it is spelled under one that has its features and
-/// more, and each of its items is of the first: what has been left out of that is all there is between them.
+/// Bytes spell a flat value under a profile if and only if two conditions hold. They spell it under a profile that
+/// extends this one, and this profile has each item of the value.
 pub fn items_tell_the_profile()
     ensures { (p q : Profile) (v : FlatModule) (b : List ℕ) → Extends q p
         → SpellsFlat p v b ↔ SpellsFlat q v b × AllByRecursion (HasItem p) (flat_items v) }

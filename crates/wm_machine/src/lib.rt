@@ -1,5 +1,5 @@
-//! The machine that takes a module byte by byte (chapter 5): what a byte completes or why it is refused, and the grammar of
-//! modules that it is proved to meet.
+//! The decoder state machine: it takes a module one byte at a time, and returns what the byte completes or why it is
+//! refused. The grammar of modules that the machine is proved to meet is in `specs/`. Core spec, chapter 5.
 #![tactic(auto)]
 
 pub mod item;

@@ -1,4 +1,4 @@
-//! Where in the input the next byte stands, and what a byte completes.
+//! The state of the decoder state machine between two bytes, and what one byte completes.
 
 ghost use Rattle.std.specs.Prelude.{◌≡◌, ◌∷◌, []};
 ghost use Rattle.wm_machine.specs.Sinks.{items_for};
@@ -15,7 +15,7 @@ use wm_syntax::why::Why;
 
 pub mod member;
 
-/// Which name is read.
+/// The kind of name being read.
 #[derive(Clone, Copy)]
 pub enum NameKind {
     Custom,
@@ -24,7 +24,7 @@ pub enum NameKind {
     Export,
 }
 
-/// An item of a module that holds no bytes of the input.
+/// An item that borrows no bytes of the input: neither a name nor data bytes.
 #[derive(Clone, Copy)]
 pub enum Plain {
     NewType,
@@ -60,7 +60,7 @@ fn import(desc: ImportDesc) -> Item<'static>
 }
 
 impl Plain {
-    /// The item that it is.
+    /// Returns the `Item` to pass to a sink.
     #[inline(always)]
     pub fn item(self) -> Item<'static>
         ensures { items_for result ≡ plain_item self ∷ [] }
@@ -88,35 +88,33 @@ impl Plain {
     }
 }
 
-/// Where in a custom section the next byte stands.
-///
-/// Of a name, and of what has a size, the counts are those that come after the byte at hand.
+/// Parser state inside a custom section. Core spec 5.5.3.
 #[derive(Clone, Copy)]
 pub enum InCustom {
     Length(Num32),
-    /// In the name, with so many bytes of it after the next.
+    /// Inside the name; `more` bytes of it follow the next byte.
     Name { more: u32 },
-    /// After the name.
+    /// After the name, where any bytes may follow.
     Skip,
-    /// The byte was refused; the section's frame makes this a refusal at once.
+    /// The byte was refused; the same step turns this state into `Machine::Refused`.
     Failed(Why),
 }
 
-/// Where in the input the next byte stands: all that is known of the bytes so far, but for the
-/// bytes of a name that was cut.
+/// The state of the decoder state machine between two bytes. It holds all that is retained of the bytes so far, except
+/// the bytes of a name that is split across pieces.
 ///
-/// `functions` is how many functions await their code; `more` is how many bytes of the section come
-/// after the next one.
+/// `last` is the id of the last section that was not custom, or 0. `functions` is the number of functions declared,
+/// until the count of the code section is read. `more` is the number of bytes of the section after the next byte.
 #[derive(Clone, Copy)]
 pub enum Machine {
-    /// In the header, after so many bytes of it.
+    /// Inside the header, after this many bytes of it.
     Header(u8),
-    /// Between sections, after this id.
+    /// Before the id of a section.
     Between {
         last: u8,
         functions: u32,
     },
-    /// In the size of a custom section.
+    /// Inside the size of a custom section.
     CustomSize {
         last: u8,
         functions: u32,
@@ -128,20 +126,20 @@ pub enum Machine {
         more: u32,
         part: InCustom,
     },
-    /// In the size of another section.
+    /// Inside the size of any other section.
     Size {
         of: SectionKind,
         functions: u32,
         number: Num32,
     },
-    /// In how many members the section has.
+    /// Inside the member count of the section.
     Count {
         of: SectionKind,
         functions: u32,
         more: u32,
         number: Num32,
     },
-    /// In a member of the section, with so many after it.
+    /// Inside a member of the section; `left` members follow it.
     Section {
         of: SectionKind,
         functions: u32,
@@ -152,7 +150,7 @@ pub enum Machine {
     Refused(Why),
 }
 
-/// Why it refused, if it did.
+/// Returns the reason if the machine has refused the input.
 pub fn refusal_of(machine: Machine) -> Option<Why>
     ensures { result ≡ refusal_in_machine machine }
 {
@@ -162,15 +160,17 @@ pub fn refusal_of(machine: Machine) -> Option<Why>
     }
 }
 
-/// What a byte completes.
+/// The effect of one byte: the item that it completes, or its part in a name or in data.
 #[derive(Clone, Copy)]
 pub enum Event {
     Nothing,
     Complete(Plain),
-    /// It is a byte of a data segment.
+    /// The byte belongs to a data segment.
     DataByte,
-    /// It is a byte of a name that goes on.
+    /// The byte belongs to a name, and is not its last.
     InName,
+    /// The byte is the last of a name.
     EndsName(NameKind),
+    /// The byte ends the length 0 of a name.
     EmptyName(NameKind),
 }

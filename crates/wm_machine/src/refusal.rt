@@ -1,13 +1,13 @@
-//! Where and why an input is refused.
+//! The refusal of an input.
 
 use std::error::Error;
 use std::fmt;
 use wm_syntax::why::Why;
 
-/// Where and why an input is refused.
+/// The refusal of an input: its offset and its reason.
 #[derive(Clone, Copy, Debug, PartialEq, Eq)]
 pub struct Refusal {
-    /// How many bytes were used when it was decided, the deciding byte included.
+    /// The offset: the number of bytes read up to and including the deciding one.
     pub at: u64,
     pub why: Why,
 }

@@ -1,4 +1,4 @@
-//! Who receives the items of a module.
+//! The receiver of the items (decoder events) of a module.
 
 ghost use Rattle.std.specs.Prelude.{IsOk, Result, ℕ};
 ghost use Rattle.wm_syntax.specs.declared.why.Why.{Why};
@@ -8,25 +8,25 @@ ghost use Rattle.wm_machine.specs.Sinks.{RunsOut, Took, items_for};
 use crate::item::Item;
 use wm_syntax::why::Why;
 
-/// What receives the items of a module, one by one.
+/// A receiver of the items (decoder events) of a module, in the order of their bytes.
 pub trait Sink: Drop {
-    // what is seen of a sink
+    // the state of a sink, as contracts see it
     ghost Held: { Type 0 };
 
     ghost held: { Self → Held };
 
-    // what a sink holds after one more item, or why it refuses it
+    // the state after one more item, or why the sink refuses the item
     ghost after: { Held → AnItem → Result Held Why };
 
-    // where it may refuse an item because memory ran out
+    // whether memory may run out at this item: only then may the sink refuse it as `Memory`
     ghost may_run_out: { Held → AnItem → Type 0 };
 
-    /// Takes one item, or says why it is refused. Data bytes are taken as if they came one by one.
+    /// Takes one item, or returns why the sink refuses it. A slice of data bytes has the effect of its bytes one at a
+    /// time.
     fn take(&mut self, item: Item) -> Result<(), Why>
         ensures took { Took after (held self.old) (items_for item.entry) result (held self.new) }
         ensures room { RunsOut may_run_out (held self.old) (items_for item.entry) result };
 
-    // No sink refuses data bytes, but for want of memory: a refusal that the bytes decide never lies within a
-    // slice of them.
+    // No sink refuses data bytes, unless memory runs out. This excludes any other refusal inside a slice of data bytes.
     ghost takes_data: { (h : Held) (c : ℕ) → IsOk (after h (data_byte c)) };
 }

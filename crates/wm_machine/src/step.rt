@@ -1,4 +1,5 @@
-//! What one byte does between sections and to the frame of one.
+//! The slow path, one byte at a time: the header, section headers, custom sections, and the sizes and counts around
+//! members.
 
 ghost use Rattle.std.specs.Prelude.{◌≡◌};
 ghost use Rattle.wm_machine.specs.exact.Steps.{custom_length_step, custom_name_step, custom_step};
@@ -66,7 +67,7 @@ fn refused(why: Why) -> (Machine, Event)
     (Machine::Refused(why), Event::Nothing)
 }
 
-// The machine in a custom section with so many bytes left
+// Returns the state with `left` bytes of a custom section still to come
 fn custom_framed(last: u8, functions: u32, left: u32, part: InCustom) -> Machine
     ensures { result ≡ machine_in_custom last functions left part }
 {
@@ -86,7 +87,8 @@ fn custom_framed(last: u8, functions: u32, left: u32, part: InCustom) -> Machine
     }
 }
 
-/// The machine at a place in a member, with so many bytes of the section left and so many members after this.
+/// Returns the state inside a member, with `bytes` bytes of the section and `left` further members to come. Refuses
+/// with `SectionEnd` if the members are longer or shorter than the section's size.
 pub fn framed(of: SectionKind, functions: u32, bytes: u32, left: u32, at: InMember) -> Machine
     ensures { result ≡ machine_in_member of functions bytes left at }
 {
@@ -113,7 +115,7 @@ pub fn framed(of: SectionKind, functions: u32, bytes: u32, left: u32, at: InMemb
     }
 }
 
-// The machine after the count of a section's members
+// Returns the state after the member count of a section
 fn listed(of: SectionKind, functions: u32, bytes: u32, count: u32) -> Machine
     ensures { result ≡ machine_after_count of functions bytes count }
 {
@@ -124,7 +126,8 @@ fn listed(of: SectionKind, functions: u32, bytes: u32, count: u32) -> Machine
     }
 }
 
-/// The same, where functions begin to await their code, or get it.
+/// Returns the state after the member count of a section, and keeps the count of the function section. Refuses with
+/// `CodeCount` if the code section has another count.
 pub fn counted(of: SectionKind, functions: u32, bytes: u32, count: u32) -> Machine
     ensures { result ≡ machine_after_paired_count of functions bytes count }
 {
@@ -284,8 +287,7 @@ fn in_header(at: u8, byte: u8) -> (Machine, Event)
     }
 }
 
-/// Takes one more byte, and says what it completes. The machine stays in its place: to hand it back is a copy
-/// more.
+/// Takes one more byte and returns its effect. Updates the machine in place, which saves a copy.
 #[inline(never)]
 pub fn step(profile: Profile, machine: &mut Machine, byte: u8) -> Event
     ensures { (machine.new, result) ≡ step_of profile machine.old byte }
@@ -295,7 +297,7 @@ pub fn step(profile: Profile, machine: &mut Machine, byte: u8) -> Event
     event
 }
 
-// The machine after one more byte, and what this byte completes
+// Returns the state after one more byte, and the effect of this byte
 #[inline(always)]
 fn stepped(profile: Profile, machine: Machine, byte: u8) -> (Machine, Event)
     ensures { result ≡ step_of profile machine byte }

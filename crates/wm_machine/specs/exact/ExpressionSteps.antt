@@ -1,4 +1,4 @@
--- What each byte does to the reader of an expression: the exact form, for the proofs above it.
+-- Exact answers of the reader of an expression.
 use Rattle.std.specs.Prelude.{ℕ, zero, suc, ◌-◌, ◌^◌, nat_lt, if◌then◌else◌, Option, Some, None}
 use Rattle.wm_syntax.specs.inner.Numbers.{Partial}
 use Rattle.wm_syntax.specs.exact.Reading.{fresh, unsigned_push}
@@ -21,11 +21,11 @@ at_next_op depth = expression.Op depth First
 abbrev pub start : InExpression
 start = at_next_op 0
 
--- one block more, as far as a u32 counts
+-- one more open block, at most 2^32 - 1
 abbrev pub deeper : ℕ → ℕ
 deeper depth = if nat_lt depth (2 ^ 32 - 1) then suc depth else depth
 
--- after an end
+-- the state after an `end` with this many blocks open before it
 abbrev pub ends : ℕ → InExpression
 ends zero = expression.Over
 ends (suc n) = at_next_op n
@@ -38,7 +38,7 @@ after_op depth op.End = ends depth
 after_op depth (op.BrTable n) = expression.Label depth n fresh
 after_op depth o = at_next_op depth
 
--- after a label with so many after it
+-- the state after a label, with this many labels after it
 abbrev pub after_label : ℕ → ℕ → InExpression
 after_label depth zero = at_next_op depth
 after_label depth (suc n) = expression.Label depth n fresh

@@ -1,4 +1,4 @@
--- The machine and a sink over a list of bytes: the exact form, for the proofs above it.
+-- Exact answers of the machine and a sink over a list of bytes.
 use Rattle.std.specs.Prelude.{◌≡◌, ◌≢◌, ◌⊎◌, ◌≤◌, ◌<◌, IsOk, ℕ, zero, suc, ◌+◌, List, [], ◌∷◌, ◌++◌, Option}
 use Rattle.std.specs.Prelude.{Some, None, Result, Ok, Err, nat_lt, if◌then◌else◌}
 use Rattle.std.specs.Str.{is_utf8}
@@ -16,7 +16,7 @@ use Rattle.wm_machine.specs.Sinks.{and_then}
 use Rattle.wm_machine.specs.exact.Steps.{step_of}
 use Rattle.wm_machine.specs.exact.Runs.{name_item, plain_item}
 
--- what a sink holds after an item, if there is one
+-- the state of a sink after this item, if any
 abbrev pub effect_of_maybe : {H : Type 0} → (H → Item → Result H Why) → Option Item → H → Result H Why
 effect_of_maybe after None h = Ok h
 effect_of_maybe after (Some x) h = after h x
@@ -25,7 +25,7 @@ abbrev pub name_taken : {H : Type 0} → (H → Item → Result H Why) → NameK
 name_taken after kind text h = if is_utf8 text then effect_of_maybe after (name_item kind text) h
     else Err why.BadUtf8
 
--- what a name at hand has become, and what a sink holds, after what a byte completed
+-- the bytes so far of an unfinished name, and the state of the sink, after the effect of a byte
 abbrev pub event_effect : {H : Type 0} → (H → Item → Result H Why) → Event → List ℕ → ℕ → H
     → Result (List ℕ × H) Why
 event_effect after event.Nothing name c h = Ok ([], h)
@@ -37,13 +37,12 @@ event_effect after (event.EndsName kind) name c h =
 event_effect after (event.EmptyName kind) name c h =
     and_then (effect_of_maybe after (name_item kind []) h) (λ g. Ok ([], g))
 
--- Memory may run out at the item, if there is one.
+-- Memory may run out at this item, if any.
 abbrev pub MayRunOutAt : {H : Type 0} → (H → Item → Type 0) → Option Item → H → Type 0
 MayRunOutAt may None h = ⊥
 MayRunOutAt may (Some x) h = may h x
 
--- Memory may run out at what a byte completed: where the sink says so, or where bytes of
--- a name have to be kept.
+-- Memory may run out at the effect of a byte: if the sink says so, or if bytes of a name have to be retained.
 abbrev pub MayRunOutAtEvent : {H : Type 0} → (H → Item → Type 0) → Event → List ℕ → ℕ → H → Type 0
 MayRunOutAtEvent may event.Nothing name c h = ⊥
 MayRunOutAtEvent may (event.Complete p) name c h = may h (plain_item p)
@@ -68,11 +67,11 @@ abbrev pub live_from : {H : Type 0} → Machine → ℕ → Result (List ℕ × 
 live_from m at (Ok p) = live_or_refused m p.0 p.1 at
 live_from m at (Err w) = Err (record { at = at; why = w })
 
--- Memory may run out at what this byte completes.
+-- Memory may run out at the effect of this byte.
 abbrev pub MayTake : {H : Type 0} → (H → Item → Type 0) → Profile → Live H → ℕ → Type 0
 MayTake may p l c = MayRunOutAtEvent may (step_of p l.machine c).1 l.name c l.held
 
--- the same where nothing is known of the machine: one that has refused nothing never refuses for memory
+-- as `MayTake`, for any machine: one that has refused nothing never refuses with `Memory`
 abbrev pub MayRunOutAtByte : {H : Type 0} → (H → Item → Type 0) → Profile → Live H → ℕ → Type 0
 MayRunOutAtByte may p l c = MayTake may p l c ⊎ ((step_of p l.machine c).0 ≡ machine.Refused why.Memory)
 
@@ -84,7 +83,7 @@ live_byte after p limit l c =
     (event_effect after (step_of p l.machine c).1 l.name c l.held)
     else Err (record { at = limit + 1; why = why.TooLong })
 
--- the same for each byte, up to the first refusal
+-- `live_byte` for each byte, up to the first refusal
 abbrev pub decoder_after : {H : Type 0} → (H → Item → Result H Why) → Profile → ℕ → Live H → List ℕ
     → Result (Live H) Refusal
 decoder_after after p limit l [] = Ok l
@@ -102,7 +101,7 @@ abbrev pub IsRefused : Machine → Type 0
 IsRefused (machine.Refused w) = Unit {0}
 IsRefused m = ⊥
 
--- a byte's answer, unless memory ran out
+-- the result for one byte, unless memory ran out
 pub record ByteTaken {H : Type 0} (expected : Result (Live H) Refusal) (now : Live H) : Type 0 where
   pub as_expected : expected ≡ Ok now
   pub live : ¬ (IsRefused now.machine)
@@ -112,13 +111,13 @@ pub record ByteRefused {H : Type 0} (expected : Result (Live H) Refusal) (r : Re
   pub as_expected : r.why ≢ why.Memory → expected ≡ Err r
   pub standing : stands ≡ Err r
 
--- what a piece was answered, unless memory ran out
+-- the result for one piece, unless memory ran out
 abbrev pub Fed : {H U : Type 0} → Result (Live H) Refusal → Result U Refusal → Result (Live H) Refusal
     → Type 0
 Fed expected (Ok u) now = (expected ≡ now) × IsOk now
 Fed expected (Err r) now = (r.why ≢ why.Memory → expected ≡ Err r) × (now ≡ Err r)
 
--- at the input's end
+-- the result at the end of the input
 abbrev pub answer_at_end_of : {H : Type 0} → Machine → H → ℕ → Result H Refusal
 answer_at_end_of (machine.Between last zero) h at = Ok h
 answer_at_end_of (machine.Between last (suc n)) h at = Err (record { at = at; why = why.CodeCount })
@@ -132,8 +131,8 @@ abbrev pub Finished : {H S : Type 0} → Result H Refusal → (S → H) → Resu
 Finished expected held (Ok s) = expected ≡ Ok (held s)
 Finished expected held (Err r) = expected ≡ Err r
 
--- in the header the machine has come as far as this place, and all else comes after the header; memory can't
--- run out in it
+-- The machine fits the number `at` of bytes read. Inside the header it counts them. A refusal with `Memory` needs more
+-- than 8 bytes, another refusal needs nothing, and any other state at least 8.
 abbrev pub IsAt : Machine → ℕ → Type 0
 IsAt (machine.Header n) at = n ≡ at
 IsAt (machine.Refused w) at = w ≡ why.Memory → 8 < at

@@ -1,4 +1,4 @@
--- What each byte does within a member: the exact form, for the proofs above it.
+-- Exact answers of the slow path inside a member of a section.
 use Rattle.std.specs.Prelude.{ℕ, zero, suc, ◌==◌, if◌then◌else◌, Option, Some, None, Result, Ok, Err}
 use Rattle.wm_syntax.specs.declared.numbers.Step.{Step}
 use Rattle.wm_syntax.specs.declared.numbers.Step.TheVariants as step
@@ -42,25 +42,25 @@ use Rattle.wm_machine.specs.exact.ExpressionSteps.{start as begin_expression, ex
 abbrev pub member_failed : Why → InMember × Event
 member_failed w = (at.Failed w, event.Nothing)
 
--- what follows an answer of a number's reader
+-- the state and the effect that follow an answer of the reader of a number
 abbrev pub on_number : {M : Type 0} → Step ℕ × Partial → (Partial → M) → (ℕ → M × Event) → (Why → M) → M
     × Event
 on_number (step.More, r) more done bad = (more r, event.Nothing)
 on_number (step.Done n, r) more done bad = done n
 on_number (step.Bad, r) more done bad = (bad why.BadNumber, event.Nothing)
 
--- what follows an answer of a value's reader
+-- the state and the effect that follow an answer of the reader of a value
 abbrev pub on_value : {M R X : Type 0} → Reading R X → (R → M) → (X → M × Event) → (Why → M) → M × Event
 on_value (More r) more done bad = (more r, event.Nothing)
 on_value (Done x) more done bad = done x
 on_value (Bad w) more done bad = (bad w, event.Nothing)
 
--- what follows a value type
+-- the state and the effect that follow the byte of a value type
 abbrev pub on_type : {M : Type 0} → Result ValType Why → (ValType → M × Event) → (Why → M) → M × Event
 on_type (Ok t) done bad = done t
 on_type (Err w) done bad = (bad w, event.Nothing)
 
--- an item that is complete, and what comes then
+-- the state m after a byte that completes this item
 abbrev pub with_item_given : {M : Type 0} → M → Plain → M × Event
 with_item_given m part = (m, event.Complete part)
 
@@ -145,7 +145,7 @@ global_type_step p g c =
     on_value (global_type_push p g c) at.GlobalType
     (λ t. with_item_given (at.Constant constant.Global begin_expression) (plain.Global t)) at.Failed
 
--- constant expressions and what follows them
+-- constant expressions, and the lists after them
 abbrev pub constant_over : ConstantOf → InMember
 constant_over constant.Global = at.Over
 constant_over constant.Element = at.Length length_of.Functions fresh
@@ -156,7 +156,7 @@ after_constant of expression.Over = constant_over of
 after_constant of (expression.Failed w) = at.Failed w
 after_constant of e = at.Constant of e
 
--- what an op that is complete, if there is one, gives
+-- the effect of a byte that completes this op, if any
 abbrev pub op_event : (Op → Plain) → Option Op → Event
 op_event f (Some o) = event.Complete (f o)
 op_event f None = event.Nothing
@@ -209,7 +209,7 @@ entry_step p (entry.Body e) c = body_step p e c
 entry_step p entry.Over c = no_entry why.BodyEnd
 entry_step p (entry.Failed w) c = no_entry why.BodyEnd
 
--- the place in a code entry with so many bytes left
+-- the state with `left` bytes of a code entry to come
 abbrev pub member_in_entry : ℕ → InEntry → InMember
 member_in_entry left (entry.Failed w) = at.Failed w
 member_in_entry zero entry.Over = at.Over

@@ -1,5 +1,4 @@
--- What a section holds, by its id (section 5.5.2), and where each member begins: the exact form, for the
--- proofs above it.
+-- Exact answers about the kinds of sections, their ids (Core spec 5.5.2), and the state before a member.
 use Rattle.std.specs.Prelude.{ℕ, zero, suc, Option, Some, None}
 use Rattle.wm_syntax.specs.exact.Reading.{fresh}
 use Rattle.wm_machine.specs.declared.machine.NameKind.TheVariants as name

@@ -1,4 +1,4 @@
--- What each byte does to the reader of an op: the exact form, for the proofs above it.
+-- Exact answers of the reader of one op.
 use Rattle.std.specs.Prelude.{ℕ, zero, suc, ◌+◌, ◌*◌, ◌/◌, ◌^◌, ◌==◌, ℤ, if◌then◌else◌, Option, Some}
 use Rattle.std.specs.Prelude.{None as Nothing}
 use Rattle.wm_syntax.specs.declared.numbers.Step.{Step}
@@ -71,13 +71,13 @@ abbrev pub access_op : LoadOrStore → MemArg → Op
 access_op (accesses.Load o) at = op.Simple (s.Load o at)
 access_op (accesses.Store o) at = op.Simple (s.Store o at)
 
--- what follows an answer of a number's reader
+-- the result that follows an answer of the reader of a number
 abbrev pub on_answer : {T A : Type 0} → Step T × Partial → (Partial → A) → (T → A) → A → A
 on_answer (step.More, r) more done bad = more r
 on_answer (step.Done v, r) more done bad = done v
 on_answer (step.Bad, r) more done bad = bad
 
--- where immediates begin
+-- the states before immediates
 abbrev pub fresh_index : Indexed → InOp
 fresh_index i = at.Index i fresh
 
@@ -145,8 +145,8 @@ abbrev pub const_64_step : Partial → ℕ → Reading InOp Op
 const_64_step r c =
     on_answer (signed_push 64 r c) (λ s. More (at.Const64 s)) (λ z. Done (const_64_op z)) (Bad why.BadNumber)
 
--- One more byte of a float, which has the lowest first: it takes the highest place, and moves those before it
--- down by one. In the end all stand where they belong.
+-- One more byte of a float becomes the highest, and moves those before it down by one. A float has its lowest byte
+-- first, so at the end all bytes are where they belong.
 abbrev pub pushed : ℕ → ℕ → ℕ → ℕ
 pushed top low c = low / 256 + c * top
 
@@ -156,7 +156,7 @@ pushed_32 = pushed (2 ^ 24)
 abbrev pub pushed_64 : ℕ → ℕ → ℕ
 pushed_64 = pushed (2 ^ 56)
 
--- with so many bytes after it
+-- one byte of a float, with `left` bytes after it
 abbrev pub float_32_step : ℕ → ℕ → ℕ → Reading InOp Op
 float_32_step zero low c = Done (float_32_op (pushed_32 low c))
 float_32_step (suc left) low c = More (at.Float32 left (pushed_32 low c))

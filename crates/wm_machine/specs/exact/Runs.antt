@@ -1,5 +1,5 @@
--- The machine over a list of bytes: the exact form, for the proofs above it. Its state is the machine and the
--- bytes so far of a name that is being read.
+-- Exact answers of the machine over a list of bytes. The state is the machine, and the bytes so far of an unfinished
+-- name.
 use Rattle.std.specs.Prelude.{ℕ, zero, suc, List, [], ◌∷◌, ◌++◌, Option, Some, None, if◌then◌else◌}
 use Rattle.std.specs.Str.{is_utf8}
 use Rattle.wm_syntax.specs.declared.why.Why.{Why}
@@ -42,14 +42,14 @@ plain_item (plain.Locals n t) = locals n t
 plain_item (plain.BodyOp o) = body_op o
 plain_item (plain.Segment x) = segment x
 
--- the item that a name is
+-- the item of a name of this kind; the name of a custom section has none
 abbrev pub name_item : NameKind → List ℕ → Option Item
 name_item kind.Custom text = None
 name_item kind.ImportModule text = Some (import_module text)
 name_item kind.ImportName text = Some (import_name text)
 name_item kind.Export text = Some (export_name text)
 
--- where a machine stands, what it has of a name, and what is said of the byte
+-- the state after a byte, the bytes so far of an unfinished name, and the mark of the byte
 pub record ByteRead (M : Type 0) : Type 0 where
   pub at : M
   pub name : List ℕ
@@ -80,7 +80,7 @@ byte_read refuse zone so_far c (m, event.EmptyName kind) = record {
   mark = outside_mark (name_item kind []);
 }
 
--- where the next byte lies
+-- the zone of the next byte
 abbrev pub zone_in : InMember → Zone
 zone_in (at.Entry zero q) = closing
 zone_in (at.Entry (suc n) q) = entry
@@ -104,7 +104,7 @@ abbrev pub state_after : Profile → MachineState → List ℕ → MachineState
 state_after p s [] = s
 state_after p s (c ∷ b) = state_after p (after_byte p s c) b
 
--- what is said of each of these bytes
+-- the marks of these bytes
 abbrev pub marks : Profile → MachineState → List ℕ → Marks
 marks p s [] = []
 marks p s (c ∷ b) = (read_byte p s c).mark ∷ marks p (after_byte p s c) b

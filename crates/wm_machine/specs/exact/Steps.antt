@@ -1,5 +1,5 @@
--- What each byte does between sections and to the frame of one: the exact form of the byte step, for the
--- proofs above it.
+-- Exact answers of the slow path: the header, section headers, custom sections, and the sizes and counts around
+-- members.
 use Rattle.std.specs.Prelude.{ℕ, zero, suc, ◌+◌, ◌==◌, nat_lt, nat_le, if◌then◌else◌, slice_index, Option}
 use Rattle.std.specs.Prelude.{Some, None}
 use Rattle.wm_syntax.specs.declared.numbers.Step.{Step}
@@ -45,15 +45,14 @@ custom_step (custom.Name more) c = custom_name_step more
 custom_step custom.Skip c = (custom.Skip, event.Nothing)
 custom_step (custom.Failed w) c = no_custom why.SectionEnd
 
--- the machine in a custom section with so many bytes left
+-- the state with `left` bytes of a custom section to come
 abbrev pub machine_in_custom : ℕ → ℕ → ℕ → InCustom → Machine
 machine_in_custom last functions left (custom.Failed w) = machine.Refused w
 machine_in_custom last functions zero custom.Skip = machine.Between last functions
 machine_in_custom last functions zero q = machine.Refused why.SectionEnd
 machine_in_custom last functions (suc n) q = machine.Custom last functions n q
 
--- the machine at a place in a member, with so many bytes of the section left and so many
--- members after this one
+-- the state inside a member, with `bytes` bytes of the section and `left` further members to come
 abbrev pub machine_in_member : SectionKind → ℕ → ℕ → ℕ → InMember → Machine
 machine_in_member of functions bytes left (at.Failed w) = machine.Refused w
 machine_in_member of functions zero zero at.Over = machine.Between (id_of of) functions
@@ -66,12 +65,12 @@ machine_in_member of functions (suc n) left q = machine.Section of functions n l
 abbrev pub machine_refused : Why → Machine × Event
 machine_refused w = (machine.Refused w, event.Nothing)
 
--- the machine after the count of a section's members
+-- the state after the member count of a section
 abbrev pub machine_after_count : SectionKind → ℕ → ℕ → ℕ → Machine
 machine_after_count of functions bytes zero = machine_in_member of functions bytes zero at.Over
 machine_after_count of functions bytes (suc n) = machine_in_member of functions bytes n (member_at_start of)
 
--- the same, where functions begin to await their code, or get it
+-- the state after the member count; keeps that of the function section, and compares that of the code section with it
 abbrev pub machine_after_paired_count : SectionKind → ℕ → ℕ → ℕ → Machine
 machine_after_paired_count section_kind.Function functions bytes n =
     machine_after_count section_kind.Function n bytes n
@@ -91,7 +90,7 @@ after_count of functions more (Bad, r) = machine_refused why.BadNumber
 abbrev pub count_step : SectionKind → ℕ → ℕ → Partial → ℕ → Machine × Event
 count_step of functions more r c = after_count of functions more (unsigned_push 32 r c)
 
--- data are the last section: no code can come after their id
+-- the data section is the last: no code section can follow its id
 abbrev pub begun_section : SectionKind → ℕ → Machine × Event
 begun_section section_kind.Segment (suc n) = machine_refused why.CodeCount
 begun_section of functions = (machine.Size of functions fresh, event.Nothing)
@@ -105,7 +104,7 @@ abbrev pub section_start : ℕ → ℕ → ℕ → Machine × Event
 section_start last functions zero = (machine.CustomSize last functions fresh, event.Nothing)
 section_start last functions (suc m) = machine_if_rising last functions (suc m) (section_kind_of (suc m))
 
--- the contents of a section of so many bytes
+-- the state before the contents of a section, with `more` bytes of it after the next
 abbrev pub machine_in_contents : SectionKind → ℕ → ℕ → Machine
 machine_in_contents section_kind.Start functions more =
     machine.Section section_kind.Start functions more 0 (member_at_start section_kind.Start)

@@ -4,12 +4,12 @@ use Rattle.wm_syntax.specs.declared.why.Why.{Why}
 use Rattle.wm_machine.specs.Items.{Item, data_byte}
 use Rattle.wm_machine.specs.Sinks.{and_then}
 
--- an item goes to the one, and then to the other
+-- the states after an item that goes to the first sink and then to the second
 abbrev pub after_both : {A B : Type 0} → (A → Item → Result A Why) → (B → Item → Result B Why) → A × B → Item
     → Result (A × B) Why
 after_both f g h x = and_then (f h.0 x) (λ a. and_then (g h.1 x) (λ b. Ok (a, b)))
 
--- Memory may run out where it may in the first, or in the second once the first has taken the item.
+-- Memory may run out in the first sink, or in the second after the first has taken the item.
 abbrev pub either_runs_out : {A B : Type 0} → (A → Item → Result A Why) → (A → Item → Type 0)
     → (B → Item → Type 0) → A × B → Item → Type 0
 either_runs_out {A} f first second h x = first h.0 x ⊎ ((a : A) × (f h.0 x ≡ Ok a) × second h.1 x)
@@ -20,7 +20,7 @@ one_by_one (Ok a) (Ok b) p q = refl
 one_by_one (Ok a) (Err w) p q = q
 one_by_one (Err w) s p q = p
 
--- Where neither refuses data bytes, they don't.
+-- If neither sink refuses data bytes, both together refuse none.
 pub both_take_data : {A B : Type 0} (f : A → Item → Result A Why) (g : B → Item → Result B Why)
     → ((a : A) (c : ℕ) → IsOk (f a (data_byte c))) → ((b : B) (c : ℕ) → IsOk (g b (data_byte c)))
     → (h : A × B) (c : ℕ) → IsOk {T = A × B} (after_both f g h (data_byte c))

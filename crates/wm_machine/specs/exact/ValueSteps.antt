@@ -1,4 +1,4 @@
--- What each byte does to a reader of a value: the exact form, for the proofs above it.
+-- Exact answers of the readers of values.
 use Rattle.std.specs.Prelude.{ℕ, zero, suc, Bool, true, false, ◌==◌, if◌then◌else◌, Some, None, Result, Ok}
 use Rattle.std.specs.Prelude.{Err}
 use Rattle.wm_syntax.specs.declared.numbers.Step.{Step}
@@ -36,13 +36,13 @@ use Rattle.wm_machine.specs.declared.step.values.InRun.TheVariants as run
 use Rattle.wm_machine.specs.declared.step.values.InValue.{InValue}
 use Rattle.wm_machine.specs.declared.step.values.InValue.TheVariants as value
 
--- what follows an answer of a number's reader
+-- the result that follows an answer of the reader of a number
 abbrev pub read_number : {R X : Type 0} → Step ℕ × Partial → (Partial → R) → (ℕ → Reading R X) → Reading R X
 read_number (step.More, r) more done = More (more r)
 read_number (step.Done n, r) more done = done n
 read_number (step.Bad, r) more done = Bad why.BadNumber
 
--- a reader within another, and a value within another
+-- the result of an inner reader, as one of the outer reader
 abbrev pub map_reading : {R S X Y : Type 0} → (R → S) → (X → Y) → Reading R X → Reading S Y
 map_reading f g (More r) = More (f r)
 map_reading f g (Done x) = Done (g x)
@@ -78,7 +78,7 @@ abbrev pub table_type_push : InTableType → ℕ → Reading InTableType Limits
 table_type_push table.ElementType c = if c == 0x70 then More (table.Limits limits.Flag) else Bad why.BadByte
 table_type_push (table.Limits at) c = map_reading table.Limits (λ l. l) (limits_push at c)
 
--- a value type, where the profile has it
+-- the value type, or `Float` if the profile lacks it
 abbrev pub type_under : Profile → ValType → Result ValType Why
 type_under p t = if has p (type_feature t) then Ok t else Err why.Float
 
@@ -104,7 +104,7 @@ abbrev pub global_type_push : Profile → InGlobalType → ℕ → Reading InGlo
 global_type_push p global.Type c = read_type (value_type_of p c) (λ t. More (global.Var t))
 global_type_push p (global.Var t) c = var_step t c
 
--- what an import brings in
+-- import descriptors
 abbrev pub func_step : Partial → ℕ → Reading InImportDesc ImportDesc
 func_step r c = read_number (unsigned_push 32 r c) import.Func (λ n. Done (desc.Func n))
 
@@ -131,7 +131,7 @@ desc_push p (import.Table at) c = in_table (table_type_push at c)
 desc_push p (import.Memory at) c = in_memory (limits_push at c)
 desc_push p (import.Global at) c = in_global (global_type_push p at c)
 
--- what an export gives out
+-- export descriptors
 abbrev pub target_step : ExportKind → Partial → ℕ → Reading InExportDesc (ExportKind × ℕ)
 target_step k r c = read_number (unsigned_push 32 r c) (λ s. target.Index k s) (λ n. Done (k, n))
 

@@ -1,4 +1,4 @@
-//! What a section holds, and where in one of these members the next byte stands.
+//! The kinds of sections, and the parser state inside a member of a section.
 
 ghost use Rattle.std.specs.Prelude.{◌≡◌};
 ghost use Rattle.wm_machine.specs.exact.Members.{id_of, section_kind_of};
@@ -9,7 +9,7 @@ use crate::step::values::{InGlobalType, InRun, InValue};
 use wm_syntax::numbers::Num32;
 use wm_syntax::why::Why;
 
-/// Of what a section is a list (section 5.5.2); the start section is one member.
+/// The kind of a section that is not custom. The start section counts as one member. Core spec 5.5.2.
 #[derive(Clone, Copy)]
 pub enum SectionKind {
     Type,
@@ -26,7 +26,7 @@ pub enum SectionKind {
 }
 
 impl SectionKind {
-    /// The id of its section.
+    /// Returns the id of the section.
     pub fn id(self) -> u8
         ensures { result ≡ id_of self }
     {
@@ -45,7 +45,7 @@ impl SectionKind {
         }
     }
 
-    /// That of the section with this id.
+    /// Returns the kind of section with this id, or `None` if the id is 0 or above 11.
     pub fn of(id: u8) -> Option<SectionKind>
         ensures { result ≡ section_kind_of id }
     {
@@ -66,21 +66,21 @@ impl SectionKind {
     }
 }
 
-/// Which index is read.
+/// The role of the index being read.
 #[derive(Clone, Copy)]
 pub enum IndexOf {
-    /// The type of a function.
+    /// The type index of a function.
     Function,
     Start,
-    /// The table of an element segment.
+    /// The table index of an element segment.
     Element,
-    /// A function of an element segment, with so many after it.
+    /// A function index of an element segment; `more` indices follow it.
     ElementFunction { more: u32 },
-    /// The memory of a data segment.
+    /// The memory index of a data segment.
     Segment,
 }
 
-/// Which constant expression is read.
+/// The owner of the constant expression being read: a global, an element segment or a data segment.
 #[derive(Clone, Copy)]
 pub enum ConstantOf {
     Global,
@@ -88,28 +88,27 @@ pub enum ConstantOf {
     Segment,
 }
 
-/// Of what the length is read, after an offset.
+/// The list whose length is being read, after the offset expression of a segment.
 #[derive(Clone, Copy)]
 pub enum LengthOf {
     Functions,
     Bytes,
 }
 
-/// Where in a code entry the next byte stands.
+/// Parser state inside a code entry. Core spec 5.5.13.
 #[derive(Clone, Copy)]
 pub enum InEntry {
     RunCount(Num32),
-    /// In a run of locals, with so many after it.
+    /// Inside a run of locals; `more` runs follow it.
     Run { more: u32, at: InRun },
     Body(InExpression),
-    /// Nothing may follow.
+    /// The entry is complete.
     Over,
-    /// The byte was refused; the frames around make this a refusal at once.
+    /// The byte was refused; the same step turns this state into `Machine::Refused`.
     Failed(Why),
 }
 
-/// Where in a member the next byte stands. The counts are of what comes after the one at hand, so
-/// that each number is one that may be.
+/// Parser state inside a member of a section. A count excludes the part being read, so any `u32` is a valid count.
 #[derive(Clone, Copy)]
 pub enum InMember {
     TypeForm,
@@ -118,20 +117,20 @@ pub enum InMember {
     ResultCount(Num32),
     ResultType { more: u32 },
     NameLength { of: NameKind, number: Num32 },
-    /// In a name, with so many bytes of it after the next.
+    /// Inside a name; `more` bytes of it follow the next byte.
     Name { of: NameKind, more: u32 },
     Value(InValue),
     Index { of: IndexOf, number: Num32 },
     GlobalType(InGlobalType),
     Constant { of: ConstantOf, at: InExpression },
     Length { of: LengthOf, number: Num32 },
-    /// In the bytes of a data segment, with so many after the next.
+    /// Inside the bytes of a data segment; `more` of them follow the next byte.
     Data { more: u32 },
     EntrySize(Num32),
-    /// In a code entry, with so many bytes of it after the next.
+    /// Inside a code entry; `more` bytes of it follow the next byte.
     Entry { more: u32, at: InEntry },
-    /// Nothing of it may follow.
+    /// The member is complete.
     Over,
-    /// The byte was refused; the section's frame makes this a refusal at once.
+    /// The byte was refused; the same step turns this state into `Machine::Refused`.
     Failed(Why),
 }

@@ -1,4 +1,4 @@
-//! What one byte does within a code entry (section 5.5.13).
+//! The slow path inside a code entry. Core spec 5.5.13.
 
 ghost use Rattle.std.specs.Prelude.{◌≡◌};
 ghost use Rattle.wm_machine.specs.exact.MemberSteps.{no_entry, runs_or_body, runs_count_step, run_step};
@@ -88,7 +88,8 @@ fn entry_byte(profile: Profile, at: InEntry, byte: u8) -> (InEntry, Event)
     }
 }
 
-/// The place in a code entry with so many bytes left.
+/// Returns the state with `left` bytes of a code entry to come. Fails with `BodyEnd` if the entry is longer or shorter
+/// than its size.
 pub fn entry_framed(left: u32, at: InEntry) -> InMember
     ensures { result ≡ member_in_entry left at }
 {

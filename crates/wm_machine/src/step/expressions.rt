@@ -1,4 +1,4 @@
-//! One expression (section 5.4.6), byte by byte: ops up to the end that closes it.
+//! The reader of one expression, one byte at a time: ops up to the closing `end`. Core spec 5.4.6.
 
 ghost use Rattle.std.specs.Prelude.{◌≡◌};
 ghost use Rattle.wm_machine.specs.exact.ExpressionSteps.{after_label, after_op, ends, expression_step};
@@ -12,27 +12,27 @@ use wm_syntax::numbers::{Num32, Step};
 use wm_syntax::profile::Profile;
 use wm_syntax::why::Why;
 
-/// Where in an expression the next byte stands.
+/// Parser state inside an expression.
 #[derive(Clone, Copy)]
 pub enum InExpression {
-    /// In an op, with so many blocks open inside the expression.
+    /// Inside an op; `depth` blocks are open inside the expression.
     Op {
         depth: u32,
         at: InOp,
     },
-    /// In a label of a br_table, with so many labels after it.
+    /// Inside a label of a `br_table`; `left` labels follow it.
     Label {
         depth: u32,
         left: u32,
         number: Num32,
     },
-    /// Nothing may follow.
+    /// The expression is complete.
     Over,
     /// The byte was refused.
     Failed(Why),
 }
 
-/// Before an op.
+/// Returns the state before an op, with `depth` blocks open.
 pub fn opened(depth: u32) -> InExpression
     ensures { result ≡ at_next_op depth }
 {
@@ -54,7 +54,7 @@ fn after_op(depth: u32, op: Op) -> InExpression
     ensures { result ≡ after_op depth op }
 {
     match op {
-        // more blocks than a u32 counts are open only past the end of every section
+        // no section is long enough to open more blocks than a u32 counts
         Op::Block(_) | Op::Loop(_) | Op::If(_) => opened(depth.saturating_add(1)),
         Op::End => ends(depth),
         Op::BrTable(left) => InExpression::Label {
@@ -114,7 +114,7 @@ fn op_byte(profile: Profile, depth: u32, at: InOp, byte: u8) -> (InExpression, O
 }
 
 impl InExpression {
-    /// Before an expression.
+    /// Returns the state before the first op of an expression.
     pub fn new() -> Self
         ensures { result ≡ start }
     {
@@ -122,7 +122,7 @@ impl InExpression {
     }
 }
 
-/// The next place in an expression, and the op or label that this byte completes.
+/// Returns the next state inside an expression, and the op or label that this byte completes.
 pub fn expression_byte(profile: Profile, at: InExpression, byte: u8) -> (InExpression, Option<Op>)
     ensures { result ≡ expression_step profile at byte }
 {

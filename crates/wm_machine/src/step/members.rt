@@ -1,4 +1,4 @@
-//! What one byte does within a member: names, values, indices, constant expressions and data.
+//! The slow path inside a member of a section: names, values, indices, constant expressions and data.
 
 ghost use Rattle.std.specs.Prelude.{◌≡◌};
 ghost use Rattle.wm_machine.specs.exact.Members.{member_at_start};
@@ -22,7 +22,7 @@ use wm_syntax::numbers::{Num32, Step};
 use wm_syntax::profile::Profile;
 use wm_syntax::why::Why;
 
-/// The place before the first byte of a member.
+/// Returns the state before the first byte of a member.
 pub fn begin(of: SectionKind) -> InMember
     ensures { result ≡ member_at_start of }
 {
@@ -115,7 +115,7 @@ fn value(profile: Profile, at: InValue, byte: u8) -> (InMember, Event)
     }
 }
 
-/// In the functions of an element segment, with so many of them left, or after it.
+/// Returns the state with `left` function indices of an element segment to come, or `Over` if there are none.
 pub fn functions_or_over(left: u32) -> InMember
     ensures { result ≡ functions_or_over left }
 {
@@ -186,7 +186,7 @@ fn global_type(profile: Profile, at: InGlobalType, byte: u8) -> (InMember, Event
     }
 }
 
-// constant expressions and what follows them
+// constant expressions, and the lists after them
 
 fn constant_over(of: ConstantOf) -> InMember
     ensures { result ≡ constant_over of }
@@ -226,7 +226,7 @@ fn constant(profile: Profile, of: ConstantOf, at: InExpression, byte: u8) -> (In
     (after_constant(of, next), event)
 }
 
-/// In a data segment, with so many bytes of it left, or after it.
+/// Returns the state with `left` bytes of a data segment to come, or `Over` if there are none.
 pub fn data_or_over(left: u32) -> InMember
     ensures { result ≡ data_or_over left }
 {
@@ -250,7 +250,7 @@ fn length(of: LengthOf, mut number: Num32, byte: u8) -> (InMember, Event)
     }
 }
 
-/// The place in a member after one more byte, and what this byte completes.
+/// Returns the state inside a member after one more byte, and the effect of this byte.
 pub fn member_byte(profile: Profile, at: InMember, byte: u8) -> (InMember, Event)
     ensures { result ≡ member_step profile at byte }
 {

@@ -1,4 +1,4 @@
-//! One op (section 5.4), byte by byte. The labels of a br_table are not read here.
+//! The reader of one op, one byte at a time. The labels of a `br_table` are read in `expressions.rt`. Core spec 5.4.
 
 ghost use Rattle.std.specs.Prelude.{◌≡◌};
 ghost use Rattle.wm_syntax.specs.exact.ByteTable.{class_under};
@@ -18,7 +18,7 @@ use wm_syntax::profile::Profile;
 use wm_syntax::types::ValType;
 use wm_syntax::why::Why;
 
-/// An op that opens a list of instructions.
+/// An op that opens a block.
 #[derive(Clone, Copy)]
 pub enum Opening {
     Block,
@@ -39,7 +39,7 @@ impl Opening {
     }
 }
 
-/// An op whose only immediate is an index, or how many labels follow it.
+/// An op whose only immediate is a `u32`: an index, or for `br_table` the number of labels before the default one.
 #[derive(Clone, Copy)]
 pub enum Indexed {
     Br,
@@ -72,7 +72,7 @@ impl Indexed {
     }
 }
 
-/// An op on the size of the memory.
+/// `memory.size` or `memory.grow`.
 #[derive(Clone, Copy)]
 pub enum Sizing {
     Size,
@@ -91,7 +91,7 @@ impl Sizing {
     }
 }
 
-/// An op that reads or writes the memory.
+/// A load or a store.
 #[derive(Clone, Copy)]
 pub enum LoadOrStore {
     Load(LoadOp),
@@ -110,7 +110,7 @@ impl LoadOrStore {
     }
 }
 
-/// Where in an op the next byte stands.
+/// Parser state inside an op.
 #[derive(Clone, Copy)]
 pub enum InOp {
     /// Before its first byte.
@@ -120,17 +120,18 @@ pub enum InOp {
         op: Indexed,
         number: Num32,
     },
-    /// In the type of an indirect call.
+    /// Inside the type index of a `call_indirect`.
     CallType(Num32),
-    /// Before the byte 00 that ends one.
+    /// Before the byte 00 that ends a `call_indirect`.
     CallTable {
         ty: u32,
     },
-    /// Before the byte 00 that ends an op on the memory's size.
+    /// Before the byte 00 that ends a `memory.size` or `memory.grow`.
     Memory(Sizing),
     Const32(Int32),
     Const64(Int64),
-    /// In the bytes of a float, with so many after the next. Those so far are the highest of its bits.
+    /// Inside a float; `left` bytes of it follow the next byte. The bytes so far are in the highest positions of
+    /// `bits`.
     Float32 {
         left: u8,
         bits: u32,
@@ -164,7 +165,7 @@ fn before_access(op: LoadOrStore) -> InOp
     InOp::Align { op, number }
 }
 
-// Where the immediates of an op begin
+// Returns the state before the immediates of an op
 fn immediates(kind: Immediates) -> InOp
     ensures { result ≡ immediates kind }
 {
@@ -236,7 +237,7 @@ fn call_type(mut number: Num32, byte: u8) -> Reading<InOp, Op>
     }
 }
 
-// An op that ends with the byte 00
+// Takes the byte 00 that ends an op
 fn closing(op: Op, byte: u8) -> Reading<InOp, Op>
     ensures { result ≡ closing_step op byte }
 {
@@ -266,8 +267,8 @@ fn const_64(mut number: Int64, byte: u8) -> Reading<InOp, Op>
     }
 }
 
-/// The bits of a float so far after one more byte, which takes the highest place: each byte moves those
-/// before it down by one.
+/// Adds a byte to the bits of a float: it becomes the highest byte, and those before it move down by one. After all
+/// bytes, the first is the lowest.
 #[inline(always)]
 pub fn push_32(bits: u32, byte: u8) -> u32
     ensures { result ≡ pushed_32 bits byte }
@@ -275,6 +276,7 @@ pub fn push_32(bits: u32, byte: u8) -> u32
     bits / 0x100 + u32::from(byte) * 0x100_0000
 }
 
+/// Does the same as `push_32` for 64 bits.
 #[inline(always)]
 pub fn push_64(bits: u64, byte: u8) -> u64
     ensures { result ≡ pushed_64 bits byte }
@@ -331,7 +333,7 @@ fn offset(op: LoadOrStore, align: u32, mut number: Num32, byte: u8) -> Reading<I
 }
 
 impl InOp {
-    /// What one more byte makes of the op.
+    /// Takes one more byte of the op. Fails with `BadOpcode`, `Float`, `BadByte` or `BadNumber`.
     pub fn push(self, profile: Profile, byte: u8) -> Reading<InOp, Op>
         ensures { result ≡ op_push profile self byte }
     {

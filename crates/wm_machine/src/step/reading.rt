@@ -1,13 +1,13 @@
-//! What the reader of a value says of a byte.
+//! The result of a value reader after one byte.
 
 use wm_syntax::why::Why;
 
-/// What a reader of a value says of one more byte.
+/// The result of a value reader after one more byte.
 pub enum Reading<R, T> {
-    /// The value goes on.
+    /// The value needs more bytes.
     More(R),
-    /// The value ends with this byte.
+    /// The byte completes the value.
     Done(T),
-    /// No value goes on so.
+    /// No value continues with this byte.
     Bad(Why),
 }

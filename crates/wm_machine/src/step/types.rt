@@ -1,4 +1,4 @@
-//! What one byte does within a function type (section 5.3.3).
+//! The slow path inside a function type. Core spec 5.3.3.
 
 ghost use Rattle.std.specs.Prelude.{◌≡◌};
 ghost use Rattle.wm_machine.specs.exact.MemberSteps.{type_form_step, after_param, param_count_step};

@@ -1,5 +1,5 @@
-//! Readers of the values that end a part of a section: limits and the types made of them, what an import
-//! brings in and an export gives out, and a run of locals.
+//! Readers of values, one byte at a time: limits, table and global types, import and export descriptors, runs of
+//! locals.
 
 ghost use Rattle.std.specs.Prelude.{◌≡◌};
 ghost use Rattle.wm_machine.specs.exact.ValueSteps.{limits_push, min_step, max_step, table_type_push};
@@ -16,11 +16,11 @@ use wm_syntax::profile::Profile;
 use wm_syntax::types::{GlobalType, Limits, ValType};
 use wm_syntax::why::Why;
 
-/// Where in limits the next byte stands (section 5.3.4).
+/// Parser state inside limits. Core spec 5.3.4.
 #[derive(Clone, Copy)]
 pub enum InLimits {
     Flag,
-    /// In the least size, before a greatest one if it is bounded.
+    /// Inside the minimum; a maximum follows if `bounded`.
     Min { bounded: bool, number: Num32 },
     Max { min: u32, number: Num32 },
 }
@@ -68,7 +68,7 @@ fn limits_byte(at: InLimits, byte: u8) -> Reading<InLimits, Limits>
     }
 }
 
-/// Where in a table type the next byte stands (section 5.3.6).
+/// Parser state inside a table type. Core spec 5.3.6.
 #[derive(Clone, Copy)]
 pub enum InTableType {
     ElementType,
@@ -91,7 +91,7 @@ fn table_type_byte(at: InTableType, byte: u8) -> Reading<InTableType, Limits>
     }
 }
 
-// A value type, where the profile has it
+// Returns the value type, or fails with `Float` if the profile lacks it
 #[inline(always)]
 fn of_profile(profile: Profile, ty: ValType) -> Result<ValType, Why>
     ensures { result ≡ type_under profile ty }
@@ -103,7 +103,8 @@ fn of_profile(profile: Profile, ty: ValType) -> Result<ValType, Why>
     }
 }
 
-/// The value type of this byte (section 5.3.1) under the profile, or why it is none.
+/// Returns the value type of this byte. Fails with `Float` if the profile lacks the type, and with `BadByte` if no
+/// value type has this byte. Core spec 5.3.1.
 pub fn value_type(profile: Profile, byte: u8) -> Result<ValType, Why>
     ensures { result ≡ value_type_of profile byte }
 {
@@ -116,7 +117,7 @@ pub fn value_type(profile: Profile, byte: u8) -> Result<ValType, Why>
     }
 }
 
-/// Where in a global type the next byte stands (section 5.3.7).
+/// Parser state inside a global type. Core spec 5.3.7.
 #[derive(Clone, Copy)]
 pub enum InGlobalType {
     Type,
@@ -143,7 +144,7 @@ pub fn global_type_byte(
     }
 }
 
-/// Where in what an import brings in the next byte stands (section 5.5.5).
+/// Parser state inside an import descriptor. Core spec 5.5.5.
 #[derive(Clone, Copy)]
 pub enum InImportDesc {
     Kind,
@@ -211,7 +212,7 @@ fn desc_byte(profile: Profile, at: InImportDesc, byte: u8) -> Reading<InImportDe
     }
 }
 
-/// Where in what an export gives out the next byte stands (section 5.5.10).
+/// Parser state inside an export descriptor. Core spec 5.5.10.
 #[derive(Clone, Copy)]
 pub enum InExportDesc {
     Kind,
@@ -251,7 +252,7 @@ fn target_byte(at: InExportDesc, byte: u8) -> Reading<InExportDesc, (ExportKind,
     })
 }
 
-/// Where in a run of locals the next byte stands (section 5.5.13).
+/// Parser state inside a run of locals. Core spec 5.5.13.
 #[derive(Clone, Copy)]
 pub enum InRun {
     Count(Num32),
@@ -280,7 +281,7 @@ pub fn run_byte(profile: Profile, at: InRun, byte: u8) -> Reading<InRun, (u32, V
     }
 }
 
-/// Where in the value that ends an import, a table, a memory or an export the next byte stands.
+/// Parser state inside the value that ends an import, a table, a memory or an export.
 #[derive(Clone, Copy)]
 pub enum InValue {
     Import(InImportDesc),
