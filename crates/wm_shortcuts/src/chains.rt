@@ -1,4 +1,4 @@
-//! Shortcuts one after another: one and then another, or one again and again.
+//! Combined fast paths: one after another, or one repeated.
 
 ghost use Rattle.std.specs.Prelude.{◌<◌, length};
 ghost use Rattle.wm_shortcuts.specs.exact.Shortcuts.{Advances};
@@ -8,9 +8,9 @@ use wm_machine::machine::Machine;
 use wm_machine::sink::Sink;
 use wm_syntax::profile::Profile;
 
-/// A shortcut that others may come before or after.
+/// A fast path that can be combined with others.
 pub(crate) trait Link {
-    /// Takes bytes at once, or none.
+    /// Takes bytes in bulk, or none.
     fn take<S: Sink>(
         sink: &mut S,
         machine: &mut Machine,
@@ -22,7 +22,7 @@ pub(crate) trait Link {
             machine.new (S.held sink.new) };
 }
 
-/// A pair takes what its first does, and then what its second does from there on.
+/// A pair takes the bytes of its first fast path, and then those of its second.
 impl<A: Link, B: Link> Link for (A, B) {
     #[inline(always)]
     fn take<S: Sink>(
@@ -43,7 +43,7 @@ impl<A: Link, B: Link> Link for (A, B) {
     }
 }
 
-/// Takes what a shortcut does again and again, as long as it takes bytes and none is refused.
+/// Repeats a fast path as long as it takes bytes and none is refused.
 #[inline(always)]
 pub(crate) fn repeated<A: Link, S: Sink>(
     sink: &mut S,

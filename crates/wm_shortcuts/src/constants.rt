@@ -1,6 +1,6 @@
-//! Constant expressions (section 3.3.7.2) of one instruction, read whole from a piece.
+//! The reader of constant expressions of one instruction that lie whole in a piece. Core spec 3.3.7.
 //!
-//! Floating-point constants, and all that is refused for its bytes, are left to the byte step.
+//! Float constants, and bytes that the format refuses, take the slow path: the functions return `None` for them.
 
 ghost use Rattle.std.specs.Prelude.{◌≡◌, ◌+◌, ◌<◌, IfSome, length, slice_index};
 ghost use Rattle.wm_shortcuts.specs.exact.WholeOps.{WholeOp};
@@ -9,14 +9,14 @@ use crate::whole_ops::{Read, const_32, const_64, with_index};
 use wm_machine::step::ops::Indexed;
 use wm_syntax::instructions::Op;
 
-/// The instruction of a constant expression, and the place of the `end` after it.
+/// The instruction of a constant expression, and the index of the `end` after it.
 #[derive(Clone, Copy)]
 pub(crate) struct Constant {
     pub(crate) op: Op,
     pub(crate) stop: usize,
 }
 
-// A constant or the value of a global
+// Reads an integer constant or a `global.get`
 #[inline(always)]
 fn constant_op(bytes: &[u8], at: usize) -> Option<Read>
     requires { at + 1 < length bytes.now }
@@ -30,7 +30,7 @@ fn constant_op(bytes: &[u8], at: usize) -> Option<Read>
     }
 }
 
-/// The constant expression at a place, with its `end`.
+/// Reads the constant expression at the index `at`, with its `end`.
 #[inline(never)]
 pub(crate) fn constant_at(bytes: &[u8], at: usize) -> Option<Constant>
     requires { at + 1 < length bytes.now }

@@ -1,4 +1,4 @@
-//! Shortcuts for a code entry (section 5.5.13): its ops and its last `end`, and the head before them.
+//! Fast paths for a code entry: its head, its ops, and its last `end`. Core spec 5.5.13.
 
 ghost use Rattle.std.specs.Prelude.{◌<◌, length};
 ghost use Rattle.wm_shortcuts.specs.exact.Shortcuts.{Advances};
@@ -46,8 +46,7 @@ impl Link for Ops {
     }
 }
 
-// Takes the last `end` of an entry, whatever comes after it. With it the section may be over, or the machine
-// refuse.
+// Takes the last `end` of an entry, whatever follows. The section may end there, or the machine may refuse
 #[inline(never)]
 #[tactic(auto, using(crate::proofs::Advances::advances_none))]
 fn final_end<S: Sink>(
@@ -77,7 +76,7 @@ fn final_end<S: Sink>(
     Shortcut::ended(1, given, machine)
 }
 
-/// The last `end` of an entry; by a shorter way where another entry comes after it.
+/// The last `end` of an entry, with less work if another entry follows.
 pub(crate) struct LastEnd;
 
 #[tactic(auto, using(crate::proofs::Advances::advances_none))]
@@ -89,7 +88,7 @@ impl Link for LastEnd {
         profile: Profile,
         bytes: &[u8],
     ) -> Shortcut {
-        // first, so that another byte costs no look at the machine
+        // tested first: any other byte then costs no look at the machine
         if bytes[0] != 0x0B {
             return Shortcut::none();
         }
@@ -130,7 +129,7 @@ impl Link for Body {
     }
 }
 
-/// Takes the entries that lie in these bytes, as far as they have nothing rare.
+/// Takes the code entries that lie in these bytes, up to anything rare.
 pub(crate) fn entries<S: Sink>(
     sink: &mut S,
     machine: &mut Machine,

@@ -1,6 +1,6 @@
-//! A shortcut for exports (section 5.5.10) that follow one another, with the last of a section.
+//! Fast path for consecutive exports, including the last of a section. Core spec 5.5.10.
 //!
-//! Empty names and long ones, and what is refused for its bytes, are left to the byte step.
+//! Empty names, long names, and bytes that the format refuses take the slow path.
 
 ghost use Rattle.std.specs.Prelude.{◌≡◌, ◌+◌, ◌<◌, ◌≤◌, IfSome, length, slice_index};
 ghost use Rattle.wm_syntax.specs.exact.Reading.{unsigned_push};
@@ -21,7 +21,7 @@ use wm_machine::sink::Sink;
 use wm_syntax::modules::ExportKind;
 use wm_syntax::profile::Profile;
 
-/// Where the name of an export ends, where it ends, and what it gives out.
+/// An export: the index after its name, the index after all of it, and its descriptor.
 #[derive(Clone, Copy)]
 struct Export {
     stop: usize,
@@ -30,7 +30,7 @@ struct Export {
     index: u32,
 }
 
-// What is known of a machine that stands before an export
+// Returns the counts of the section if the machine is before an export
 #[inline(always)]
 fn at_export(machine: Machine) -> Option<InSection>
     ensures { IfSome result (λ i. machine ≡ before_member SectionKind.Export i) }
@@ -50,7 +50,7 @@ fn at_export(machine: Machine) -> Option<InSection>
     Some(section)
 }
 
-// What a byte says that an export gives out
+// Returns the kind of export that this byte stands for
 #[inline(always)]
 fn kind_of(byte: u8) -> Option<ExportKind>
     ensures { IfSome result (λ kind. IsKindByte byte kind) }
@@ -64,7 +64,7 @@ fn kind_of(byte: u8) -> Option<ExportKind>
     }
 }
 
-// The export at a place, where it lies in the first so many bytes and its name is short
+// Reads the export at the index `from`, if it ends by `end` and its name has 1 to 127 bytes
 #[inline(always)]
 fn export_at(bytes: &[u8], from: usize, end: usize) -> Option<Export>
     requires { end ≤ length bytes.now }
@@ -90,7 +90,7 @@ fn export_at(bytes: &[u8], from: usize, end: usize) -> Option<Export>
     })
 }
 
-/// The exports that lie in the bytes, as long as another export comes after each.
+/// The exports that lie in the bytes and are not the last of the section.
 struct ExportsBeforeLast;
 
 #[tactic(auto, using(crate::proofs::Advances::advances_none))]

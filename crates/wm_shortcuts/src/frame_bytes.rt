@@ -1,6 +1,6 @@
-//! One byte of the frame of a section: of its id, its size or its count. It completes nothing.
+//! One byte of a section header: of its id, its size or its member count. It completes no item.
 //!
-//! What is rare and what is refused is left to the byte step.
+//! Rare bytes and refused bytes take the slow path: the functions return `None` or `false` for them.
 
 ghost use Rattle.std.specs.Prelude.{◌≡◌, IfSome, false, true};
 ghost use Rattle.wm_syntax.specs.exact.Reading.{fresh};
@@ -11,7 +11,7 @@ use wm_machine::machine::member::SectionKind;
 use wm_machine::step::counted;
 use wm_syntax::numbers::{Num32, Step};
 
-/// The kind of section that this id begins.
+/// Returns the kind of section that this id begins.
 #[inline(always)]
 pub(crate) fn begun(last: u8, functions: u32, byte: u8) -> Option<SectionKind>
     ensures { IfSome result (λ of. IsFrameStep (Machine.Between last functions) byte
@@ -25,7 +25,7 @@ pub(crate) fn begun(last: u8, functions: u32, byte: u8) -> Option<SectionKind>
     }
 }
 
-/// How many bytes of the section come after the next, where this byte ends its size.
+/// Returns how many bytes of the section come after the next, if this byte ends its size.
 #[inline(always)]
 pub(crate) fn size_end(of: SectionKind, functions: u32, mut number: Num32, byte: u8) -> Option<u32>
     ensures { IfSome result (λ more. IsFrameStep (Machine.Size of functions number) byte
@@ -43,7 +43,7 @@ pub(crate) fn size_end(of: SectionKind, functions: u32, mut number: Num32, byte:
     }
 }
 
-/// The size so far, where it goes on after this byte.
+/// Returns the size so far, if it continues after this byte.
 #[inline(always)]
 pub(crate) fn size_more(
     of: SectionKind,
@@ -60,7 +60,7 @@ pub(crate) fn size_more(
     }
 }
 
-/// The machine after the count of a section's members, where this byte ends it.
+/// Returns the machine after the member count of a section, if this byte ends it.
 #[inline(always)]
 pub(crate) fn count_end(
     of: SectionKind,
@@ -80,7 +80,7 @@ pub(crate) fn count_end(
     }
 }
 
-// The machine after a byte of a frame, where it goes by the shorter way
+// Returns the machine after a byte of a section header
 #[inline(always)]
 fn after_byte(machine: Machine, byte: u8) -> Option<Machine>
     ensures { IfSome result (λ n. IsFrameStep machine byte n) }
@@ -126,13 +126,13 @@ fn after_byte(machine: Machine, byte: u8) -> Option<Machine>
     }
 }
 
-/// Takes a byte of a frame, where it goes by the shorter way.
+/// Takes a byte of a section header, and returns whether it did.
 #[inline(never)]
 pub(crate) fn frame_byte(machine: &mut Machine, byte: u8) -> bool
     ensures taken { result ≡ true → IsFrameStep machine.old byte machine.new }
     ensures left { result ≡ false → machine.new ≡ machine.old }
 {
-    // mostly a member comes: that is seen without a copy of the machine
+    // mostly a member comes: this test needs no copy of the machine
     if let Machine::Section { .. } = *machine {
         return false;
     }

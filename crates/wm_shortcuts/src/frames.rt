@@ -1,8 +1,7 @@
-//! The header (section 5.5.15) and the frames of sections, which are ids, sizes and counts (section 5.5.2),
-//! one after another.
+//! Fast path for the header (Core spec 5.5.15) and for section headers: ids, sizes and member counts (Core spec 5.5.2).
 //!
-//! Their bytes complete nothing. Left to the byte step are custom sections, counts of several bytes, the last
-//! byte of a start section's size, what is refused, and a header that no id of another section follows in the
+//! Their bytes complete no item. The slow path takes custom sections, counts of several bytes, the last byte of a start
+//! section's size, and refused bytes. It also takes a header if no id of a section, other than custom, follows in the
 //! piece.
 
 ghost use Rattle.std.specs.Prelude.{◌≡◌, ◌<◌, IfSome, length, slice_index, true, ℕ};
@@ -19,15 +18,14 @@ use wm_machine::sink::Sink;
 use wm_syntax::numbers::Num32;
 use wm_syntax::profile::Profile;
 
-/// How many bytes come before the count of a section's members, and how many of the section after its first
-/// byte.
+/// The number of bytes before the member count, and the number of bytes of the section after its first.
 #[derive(Clone, Copy)]
 struct Sized {
     next: usize,
     more: u32,
 }
 
-// The size of a section, which stands behind its id and has one byte or two
+// Reads the size of a section after its id, if it has one or two bytes
 #[inline(always)]
 fn short_size(
     machine: &Machine,
@@ -52,8 +50,8 @@ fn short_size(
     Some(Sized { next: 3, more })
 }
 
-// Takes the id, the size and the count of a section, where the size has one byte or two and the count has
-// one, and says how many bytes they are
+// Takes the id, size and count of a section, and returns their number of bytes. Takes none unless the size has one or
+// two bytes and the count has one
 #[inline(always)]
 #[tactic(auto, using(crate::proofs::FrameBytes::frames_none))]
 fn section_begin(machine: &mut Machine, profile: Profile, bytes: &[u8]) -> usize
@@ -79,7 +77,7 @@ fn section_begin(machine: &mut Machine, profile: Profile, bytes: &[u8]) -> usize
     size.next + 1
 }
 
-// Takes the frames of sections, one after another
+// Takes section headers, one after another
 #[inline(always)]
 #[tactic(auto, using(crate::proofs::FrameBytes::frames_none))]
 fn sections(machine: &mut Machine, profile: Profile, bytes: &[u8]) -> usize
@@ -106,7 +104,7 @@ fn has_header(bytes: &[u8]) -> bool
     magic && bytes[4] == 0x01 && bytes[5] == 0x00 && bytes[6] == 0x00 && bytes[7] == 0x00
 }
 
-// Takes the header, and the frames behind it
+// Takes the header, and the section headers after it
 #[inline(never)]
 #[tactic(auto, using(crate::proofs::Advances::advances_none))]
 fn from_header<S: Sink>(sink: &S, machine: &mut Machine, profile: Profile, bytes: &[u8]) -> Shortcut
@@ -122,7 +120,7 @@ fn from_header<S: Sink>(sink: &S, machine: &mut Machine, profile: Profile, bytes
         functions: 0,
     };
     let used = sections(machine, profile, &bytes[8..]);
-    // no shortcut ends in the header
+    // a fast path must take more than the header
     if used == 0 {
         *machine = Machine::Header(0);
         return Shortcut::none();
@@ -133,7 +131,7 @@ fn from_header<S: Sink>(sink: &S, machine: &mut Machine, profile: Profile, bytes
     }
 }
 
-/// Takes the header and bytes of frames. The sink is given nothing.
+/// Takes the header and bytes of section headers. Passes nothing to the sink.
 #[tactic(auto, using(crate::proofs::Advances::advances_none))]
 pub(crate) fn frames<S: Sink>(
     sink: &S,

@@ -1,6 +1,6 @@
-//! A shortcut for function types (section 5.5.4) that lie in the piece.
+//! Fast path for function types that lie in the piece. Core spec 5.5.4.
 //!
-//! Long counts, and what is refused for its bytes, are left to the byte step.
+//! Long counts, and bytes that the format refuses, take the slow path.
 
 ghost use Rattle.std.specs.Prelude.{◌≡◌, ◌-◌, ◌<◌, ◌≤◌, ◌^◌, IfSome, Ok, length, slice_index};
 ghost use Rattle.wm_shortcuts.specs.exact.Shortcuts.{Advances};
@@ -21,7 +21,7 @@ use wm_syntax::profile::Profile;
 use wm_syntax::types::ValType;
 use wm_syntax::why::Why;
 
-// What is known of a machine before a function type
+// Returns the counts of the section if the machine is before a function type
 #[inline(always)]
 fn at_type(machine: Machine) -> Option<InSection>
     ensures { IfSome result (λ i. machine ≡ before_member SectionKind.Type i) }
@@ -32,7 +32,7 @@ fn at_type(machine: Machine) -> Option<InSection>
     Some(section)
 }
 
-// The same before the count of its results
+// Returns the counts of the section if the machine is before the result count of a function type
 #[inline(always)]
 fn at_results(machine: Machine) -> Option<InSection>
     ensures { IfSome result (λ i. machine ≡ before_results i) }
@@ -49,8 +49,8 @@ fn at_results(machine: Machine) -> Option<InSection>
     Some(section)
 }
 
-/// What is known before a parameter, or before the count of the results: of the section as before the type,
-/// and how many parameters are still to come.
+/// The counts before a parameter, or before the result count. `params` is the number of parameters to come. The other
+/// fields are those of `Machine::Section`.
 #[derive(Clone, Copy)]
 pub(crate) struct InParams {
     pub(crate) functions: u32,
@@ -60,7 +60,7 @@ pub(crate) struct InParams {
 }
 
 impl InParams {
-    // The machine after so many more bytes, with so many parameters to come
+    // Returns the machine after `used` more bytes, with `params` parameters to come
     #[inline(always)]
     fn after(self, used: u32, params: u32) -> Machine
         requires { used ≤ self.more }
@@ -76,7 +76,8 @@ impl InParams {
     }
 }
 
-/// What came of parameters: how many bytes they have, how many are to come, and why the last was refused.
+/// The result of passing parameters: their number of bytes, how many are to come, and why the last was refused, if it
+/// was.
 #[derive(Clone, Copy)]
 struct GivenParams {
     used: usize,
@@ -84,7 +85,7 @@ struct GivenParams {
     refused: Option<Why>,
 }
 
-// The form of a type and the count of its parameters
+// Reads the form byte of a type and the count of its parameters
 #[inline(always)]
 fn begin_type(bytes: &[u8], start: InSection) -> Option<InParams>
     ensures within { IfSome result (λ i. 1 < length bytes.now) }
@@ -113,7 +114,7 @@ fn begin_type(bytes: &[u8], start: InSection) -> Option<InParams>
     })
 }
 
-// Gives the parameters that lie in these bytes, as long as bytes of the section come after them
+// Passes the parameters that lie in these bytes, as long as bytes of the section come after them
 #[inline(always)]
 fn give_params<S: Sink>(
     sink: &mut S,
@@ -156,7 +157,7 @@ fn give_params<S: Sink>(
     }
 }
 
-/// A type up to the count of its results.
+/// A function type up to its result count.
 struct Params;
 
 #[tactic(auto, using(crate::proofs::Advances::advances_none))]
@@ -186,7 +187,7 @@ impl Link for Params {
     }
 }
 
-// Takes the count of one result, and the result
+// Takes the result count 1 and the result, if another type follows
 #[inline(always)]
 fn one_result<S: Sink>(
     sink: &mut S,
@@ -213,7 +214,7 @@ fn one_result<S: Sink>(
     Shortcut { used: 2, refused }
 }
 
-// Takes the count of one result, and the result, whatever comes after it
+// Takes the result count 1 and the result, whatever follows
 #[inline(never)]
 fn last_result<S: Sink>(
     sink: &mut S,
@@ -239,8 +240,7 @@ fn last_result<S: Sink>(
     Shortcut::ended(2, given, machine)
 }
 
-// Takes the results of a type, at most one, whatever comes after it. With them the section may be over, or
-// the machine refuse.
+// Takes the results of a type, at most one, whatever follows. The section may end there, or the machine may refuse
 #[inline(never)]
 #[tactic(auto, using(crate::proofs::Advances::advances_none))]
 fn last_results<S: Sink>(
@@ -269,7 +269,7 @@ fn last_results<S: Sink>(
     last_result(sink, machine, profile, bytes, start, ty)
 }
 
-/// The results of a type, at most one; by a shorter way where another type comes after it.
+/// The results of a type, at most one, with less work if another type follows.
 struct Results;
 
 #[tactic(auto, using(crate::proofs::Advances::advances_none))]

@@ -1,4 +1,4 @@
-//! What goes to the sink: names, data and items without bytes.
+//! Passing items to the sink: names, data bytes and items without bytes.
 
 ghost use Rattle.std.specs.Prelude.{◌≡◌, ◌≢◌, ◌⊎◌, ◌++◌, IfErr, MatchResult, Ok, OnOk, [], length, map};
 ghost use Rattle.std.specs.Prelude.{slice_index};
@@ -23,14 +23,14 @@ use wm_syntax::names::is_name;
 use wm_syntax::types::ValType;
 use wm_syntax::why::Why;
 
-// The same answer, as a computed test
+// Whether the bytes are UTF-8; the contract names `is_utf8`, as the exact answers do
 fn is_text(bytes: &[u8]) -> bool
     ensures { result ≡ is_utf8 bytes.now }
 {
     is_name(bytes)
 }
 
-// Gives a name, if it is UTF-8
+// Passes a name to the sink, or fails with `BadUtf8`
 pub(crate) fn give_name<S: Sink>(sink: &mut S, kind: NameKind, name: &[u8]) -> Result<(), Why>
     ensures given { Taken (name_taken S.after kind name.now (S.held sink.old)) result (S.held sink.new) }
     ensures room { IfErr result (λ w. w ≡ Memory
@@ -47,7 +47,7 @@ pub(crate) fn give_name<S: Sink>(sink: &mut S, kind: NameKind, name: &[u8]) -> R
     }
 }
 
-// Gives the name that is in the buffer and in this part of the piece
+// Passes the name that begins in the buffer and ends with this part of the piece
 pub fn end_name<S: Sink>(
     sink: &mut S,
     buffer: &mut Vec<u8>,
@@ -70,7 +70,7 @@ pub fn end_name<S: Sink>(
     }
 }
 
-// Gives a name of no bytes
+// Passes an empty name
 pub fn give_empty<S: Sink>(sink: &mut S, kind: NameKind) -> Result<(), Why>
     ensures given { Taken (effect_of_maybe S.after (name_item kind []) (S.held sink.old)) result
         (S.held sink.new) }
@@ -85,7 +85,7 @@ pub fn give_empty<S: Sink>(sink: &mut S, kind: NameKind) -> Result<(), Why>
     }
 }
 
-// Gives an item that holds no bytes
+// Passes an item without bytes
 pub fn give_plain<S: Sink>(sink: &mut S, part: Plain) -> Result<(), Why>
     ensures given { Taken (S.after (S.held sink.old) (plain_item part)) result (S.held sink.new) }
     ensures room { IfErr result (λ w. w ≡ Memory → S.may_run_out (S.held sink.old) (plain_item part)) }
@@ -93,7 +93,7 @@ pub fn give_plain<S: Sink>(sink: &mut S, part: Plain) -> Result<(), Why>
     sink.take(part.item())
 }
 
-// The same in place, for those of which it is known which they are
+// Does the same inlined, for constant variants
 #[inline(always)]
 pub(crate) fn give<S: Sink>(sink: &mut S, part: Plain) -> Result<(), Why>
     ensures given { Taken (S.after (S.held sink.old) (plain_item part)) result (S.held sink.new) }
@@ -102,8 +102,8 @@ pub(crate) fn give<S: Sink>(sink: &mut S, part: Plain) -> Result<(), Why>
     sink.take(part.item())
 }
 
-// Items that come many at once: each by a function of its own. In the one above the item is not known before
-// it is inlined, so that for a sink with much code it stays out of line, and the item lies in memory.
+// Each item that comes in bulk has its own function. In `give` the variant is known only after inlining: for a sink
+// with much code the call stays out of line, and the item is passed in memory.
 
 #[inline(always)]
 pub(crate) fn give_new_type<S: Sink>(sink: &mut S) -> Result<(), Why>
@@ -121,7 +121,7 @@ pub(crate) fn give_param<S: Sink>(sink: &mut S, ty: ValType) -> Result<(), Why>
     sink.take(Item::Param(ty))
 }
 
-// How many results a type has. It has several callers, so it would be copied.
+// Out of line: it has several callers, and each would get a copy
 #[inline(never)]
 pub(crate) fn give_result_count<S: Sink>(sink: &mut S, count: u32) -> Result<(), Why>
     ensures given { Taken (S.after (S.held sink.old) (result_count count)) result (S.held sink.new) }
@@ -148,7 +148,7 @@ pub(crate) fn give_import<S: Sink>(sink: &mut S, function: u32) -> Result<(), Wh
     sink.take(Item::ImportFunc(function))
 }
 
-// It has two callers, so it would be copied.
+// Out of line: it has two callers, and each would get a copy
 #[inline(never)]
 pub(crate) fn give_export<S: Sink>(sink: &mut S, kind: ExportKind, index: u32) -> Result<(), Why>
     ensures given { Taken (S.after (S.held sink.old) (export kind index)) result (S.held sink.new) }
@@ -157,7 +157,7 @@ pub(crate) fn give_export<S: Sink>(sink: &mut S, kind: ExportKind, index: u32) -
     sink.take(Item::Export(kind, index))
 }
 
-// Gives an item that holds no bytes, if there is one
+// Passes an item without bytes, if there is one
 #[inline(always)]
 pub(crate) fn give_part<S: Sink>(sink: &mut S, part: Option<Plain>) -> Result<(), Why>
     ensures given { Taken (last_taken S.after (completed_part part) (S.held sink.old)) result
@@ -175,8 +175,8 @@ pub(crate) fn give_part<S: Sink>(sink: &mut S, part: Option<Plain>) -> Result<()
     }
 }
 
-// What an entry's head and its last `end` complete: each by a function of its own, since an item that goes to
-// one for all items lies in memory.
+// Each item of an entry's head, and its last `end`, has its own function: one for all items would get the item in
+// memory.
 
 #[inline(never)]
 pub(crate) fn give_body<S: Sink>(sink: &mut S) -> Result<(), Why>
@@ -202,7 +202,7 @@ pub(crate) fn give_end<S: Sink>(sink: &mut S) -> Result<(), Why>
     sink.take(Item::Op(Op::End))
 }
 
-// Gives an index of a list. Out of line: it has several callers.
+// Passes an index of a list. Out of line: it has several callers
 #[inline(never)]
 pub(crate) fn give_index<S: Sink>(sink: &mut S, list: IndexList, index: u32) -> Result<(), Why>
     ensures given { Taken (S.after (S.held sink.old) (index_item_in list index)) result (S.held sink.new) }
@@ -216,8 +216,8 @@ pub(crate) fn give_index<S: Sink>(sink: &mut S, list: IndexList, index: u32) -> 
     }
 }
 
-// The same of one that is short, inline: with a second caller, as `give_index` would be, it would not stand
-// in the loop over indices of one byte each.
+// Does the same for an index of one byte, inlined. `give_index` has further callers, so it would not be inlined in the
+// loop over such indices
 #[inline(always)]
 pub(crate) fn give_short_index<S: Sink>(
     sink: &mut S,
@@ -235,7 +235,7 @@ pub(crate) fn give_short_index<S: Sink>(
     }
 }
 
-// Gives a byte of a data segment
+// Passes one byte of a data segment
 #[inline(always)]
 pub fn give_data<S: Sink>(sink: &mut S, byte: &[u8]) -> Result<(), Why>
     requires { length byte.now ≡ 1 }
@@ -247,7 +247,7 @@ pub fn give_data<S: Sink>(sink: &mut S, byte: &[u8]) -> Result<(), Why>
     sink.take(Item::DataBytes(byte))
 }
 
-// Gives bytes of a data segment at once; none is refused, but for want of memory.
+// Passes bytes of a data segment in bulk; the sink refuses none, unless memory runs out
 #[tactic(auto, using(wm_machine::proofs::TakenItems::slice_room))]
 pub(crate) fn give_bytes<S: Sink>(sink: &mut S, bytes: &[u8]) -> Result<(), Why>
     ensures given { MatchResult result

@@ -1,7 +1,6 @@
-//! A shortcut for globals (section 5.5.9) that follow one another, with the last of a section.
+//! Fast path for consecutive globals, including the last of a section. Core spec 5.5.9.
 //!
-//! Globals whose value is a floating-point constant, and what is refused for its bytes, are left to the byte
-//! step.
+//! Globals with a float constant, and bytes that the format refuses, take the slow path.
 
 ghost use Rattle.std.specs.Prelude.{◌≡◌, ◌<◌, IfSome, Ok, length, slice_index};
 ghost use Rattle.wm_machine.specs.declared.step.reading.Reading.TheVariants.{Done};
@@ -23,14 +22,14 @@ use wm_syntax::instructions::Op;
 use wm_syntax::profile::Profile;
 use wm_syntax::types::GlobalType;
 
-/// The type of a global, and its value.
+/// The type of a global, and its initialiser.
 #[derive(Clone, Copy)]
 struct Found {
     ty: GlobalType,
     value: Constant,
 }
 
-// What is known of a machine that stands before a global
+// Returns the counts of the section if the machine is before a global
 #[inline(always)]
 fn at_global(machine: Machine) -> Option<InSection>
     ensures { IfSome result (λ i. machine ≡ before_member SectionKind.Global i) }
@@ -42,7 +41,7 @@ fn at_global(machine: Machine) -> Option<InSection>
     Some(section)
 }
 
-// The global at the front of these bytes, where it lies whole in them
+// Reads the global at the front of these bytes, if it lies whole in them
 #[inline(always)]
 fn global_at(profile: Profile, bytes: &[u8]) -> Option<Found>
     ensures ty { IfSome result (λ g. value_type_of profile (slice_index bytes.now 0) ≡ Ok g.ty.ty) }
@@ -67,7 +66,7 @@ fn global_at(profile: Profile, bytes: &[u8]) -> Option<Found>
     })
 }
 
-/// A global, whatever comes after it.
+/// One global, whatever follows it.
 struct Global;
 
 #[tactic(auto, using(crate::proofs::Advances::advances_none))]

@@ -1,7 +1,7 @@
-//! A shortcut for the head of a code entry (section 5.5.13): its size, the count of its runs of locals, and
-//! the runs that lie in the piece.
+//! Fast path for the head of a code entry: its size, the count of its runs of locals, and the runs that lie in the
+//! piece. Core spec 5.5.13.
 //!
-//! Long numbers, and what is refused for its bytes, are left to the byte step.
+//! Long numbers, and bytes that the format refuses, take the slow path.
 
 ghost use Rattle.std.specs.Prelude.{◌≡◌, ◌+◌, ◌-◌, ◌<◌, ◌≤◌, ◌^◌, IfSome, Ok, length, slice_index};
 ghost use Rattle.wm_shortcuts.specs.exact.Heads.{IsShort, head_after, in_head};
@@ -23,7 +23,7 @@ use wm_syntax::profile::Profile;
 use wm_syntax::types::ValType;
 use wm_syntax::why::Why;
 
-// What is known of a machine before the size of a code entry
+// Returns the counts of the section if the machine is before the size of a code entry
 #[inline(always)]
 fn at_entry(machine: Machine) -> Option<InSection>
     ensures { IfSome result (λ i. machine ≡ before_member SectionKind.Code i) }
@@ -40,8 +40,8 @@ fn at_entry(machine: Machine) -> Option<InSection>
     Some(section)
 }
 
-/// What is known before a run of locals, or before the first op: of the section as before its size, of the
-/// entry how many bytes come after the next, and how many runs are still to come.
+/// The counts before a run of locals, or before the first op. `rest` is the number of bytes of the entry after the next
+/// one, and `runs` the number of runs to come. The other fields are those of `Machine::Section`.
 #[derive(Clone, Copy)]
 pub(crate) struct InHead {
     pub(crate) functions: u32,
@@ -52,7 +52,7 @@ pub(crate) struct InHead {
 }
 
 impl InHead {
-    /// That of a machine, where it stands before a run.
+    /// Returns the counts if the machine is before a run.
     #[inline(always)]
     fn of(machine: Machine) -> Option<InHead>
         ensures { IfSome result (λ i. machine ≡ in_head i) }
@@ -80,7 +80,7 @@ impl InHead {
         })
     }
 
-    /// The machine after so many more bytes, with so many runs to come.
+    /// Returns the machine after `used` more bytes, with `runs` runs to come.
     #[inline(always)]
     fn after(self, used: u32, runs: u32) -> Machine
         requires section { used ≤ self.more }
@@ -100,15 +100,14 @@ impl InHead {
     }
 }
 
-/// The size of an entry and the count of its runs: how many bytes the size has, and what is known after the
-/// count.
+/// The size of an entry and its run count, once read: the number of bytes of the size, and the counts after both.
 #[derive(Clone, Copy)]
 struct Begun {
     sized: usize,
     at: InHead,
 }
 
-// A number of one byte or two
+// Reads a number of one or two bytes
 #[inline(always)]
 #[tactic(auto, using(crate::proofs::HeadBytes::short_one, crate::proofs::HeadBytes::short_two))]
 fn short_number(bytes: &[u8]) -> Option<Whole<u32>>
@@ -132,7 +131,7 @@ fn short_number(bytes: &[u8]) -> Option<Whole<u32>>
     })
 }
 
-// The size of an entry and the count of its runs, where bytes of the entry and of the section come after them
+// Reads the size of an entry and the count of its runs, if bytes of the entry and of the section come after them
 #[inline(always)]
 fn begin_head(bytes: &[u8], start: InSection) -> Option<Begun>
     ensures size { IfSome result (λ b. IsShort bytes.now b.sized (b.at.rest + 2)) }
@@ -167,7 +166,7 @@ fn begin_head(bytes: &[u8], start: InSection) -> Option<Begun>
     })
 }
 
-// The count of a run and its type, where the count has one byte
+// Reads the count of a run and its type, if the count has one byte
 #[inline(always)]
 fn run_at(profile: Profile, bytes: &[u8], at: usize) -> Option<(u32, ValType)>
     requires { at + 1 < length bytes.now }
@@ -184,7 +183,7 @@ fn run_at(profile: Profile, bytes: &[u8], at: usize) -> Option<(u32, ValType)>
     }
 }
 
-/// What came of runs: how many bytes they have, how many are still to come, and why the last was refused.
+/// The result of passing runs: their number of bytes, the runs still to come, and why the last was refused, if it was.
 #[derive(Clone, Copy)]
 struct GivenRuns {
     used: usize,
@@ -192,7 +191,7 @@ struct GivenRuns {
     refused: Option<Why>,
 }
 
-// Gives the runs that lie in these bytes, as long as bytes of the entry and of the section come after them
+// Passes the runs that lie in these bytes, as long as bytes of the entry and of the section come after them
 #[inline(always)]
 fn give_runs<S: Sink>(sink: &mut S, profile: Profile, bytes: &[u8], start: InHead) -> GivenRuns
     ensures section { result.used ≤ start.more }
@@ -231,7 +230,7 @@ fn give_runs<S: Sink>(sink: &mut S, profile: Profile, bytes: &[u8], start: InHea
     }
 }
 
-/// Takes runs of a code entry's locals, as far as their counts are short and they lie in these bytes.
+/// Takes the runs of locals that lie in these bytes, as long as their counts have one byte.
 #[tactic(auto, using(crate::proofs::Advances::advances_none))]
 pub(crate) fn runs<S: Sink>(
     sink: &mut S,

@@ -1,7 +1,7 @@
-//! A shortcut for imports (section 5.5.5) that follow one another.
+//! Fast path for consecutive imports of functions. Core spec 5.5.5.
 //!
-//! Empty names and long ones, imports of anything but a function, the last of a section, and what is refused
-//! for its bytes are left to the byte step.
+//! Empty names, long names, other imports, the last import of a section, and bytes that the format refuses take the
+//! slow path.
 
 ghost use Rattle.std.specs.Prelude.{◌≡◌, ◌+◌, ◌≤◌, IfSome, length, slice_index};
 ghost use Rattle.wm_syntax.specs.exact.Reading.{unsigned_push};
@@ -20,7 +20,7 @@ use wm_machine::machine::{Machine, NameKind};
 use wm_machine::sink::Sink;
 use wm_syntax::profile::Profile;
 
-/// Where the two names of an import end, where it ends, and the index of its function's type.
+/// An import of a function: the index after each of its two names, the index after all of it, and its type index.
 #[derive(Clone, Copy)]
 struct Import {
     middle: usize,
@@ -29,7 +29,7 @@ struct Import {
     index: u32,
 }
 
-// What is known of a machine that stands before an import
+// Returns the counts of the section if the machine is before an import
 #[inline(always)]
 fn at_import(machine: Machine) -> Option<InSection>
     ensures { IfSome result (λ i. machine ≡ before_member SectionKind.Import i) }
@@ -49,7 +49,7 @@ fn at_import(machine: Machine) -> Option<InSection>
     Some(section)
 }
 
-// The import of a function at a place, where it lies in the first so many bytes and its names are short
+// Reads the import of a function at the index `from`, if it ends by `end` and each name has 1 to 127 bytes
 #[inline(always)]
 fn import_at(bytes: &[u8], from: usize, end: usize) -> Option<Import>
     requires { end ≤ length bytes.now }
@@ -76,7 +76,7 @@ fn import_at(bytes: &[u8], from: usize, end: usize) -> Option<Import>
     })
 }
 
-/// Takes the imports of functions that lie in these bytes, as long as another import comes after each.
+/// Takes the imports of functions that lie in these bytes and are not the last import of the section.
 #[inline(never)]
 #[tactic(auto, using(crate::proofs::Advances::advances_none))]
 pub(crate) fn imports<S: Sink>(

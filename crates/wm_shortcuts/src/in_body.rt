@@ -1,4 +1,4 @@
-//! The machine before an op of a code entry.
+//! The state of the machine before an op of a code entry.
 
 ghost use Rattle.std.specs.Prelude.{◌≡◌, ◌-◌, ◌≤◌, IfSome};
 ghost use Rattle.wm_shortcuts.specs.exact.WholeOps.{before_op};
@@ -9,9 +9,8 @@ use wm_machine::machine::member::{InEntry, InMember, SectionKind};
 use wm_machine::step::expressions::InExpression;
 use wm_machine::step::ops::InOp;
 
-/// What is known before an op of a code entry: of the section, how many bytes come after the next
-/// and how many members after this one, of the entry how many bytes come after the next, and how
-/// many blocks are open.
+/// The counts before an op of a code entry. `rest` is the number of bytes of the entry after the next one, and `depth`
+/// the number of open blocks. The other fields are those of `Machine::Section`.
 #[derive(Clone, Copy)]
 pub(crate) struct InBody {
     pub(crate) of: SectionKind,
@@ -23,7 +22,7 @@ pub(crate) struct InBody {
 }
 
 impl InBody {
-    /// That of a machine, where it stands so.
+    /// Returns the counts if the machine is before an op.
     pub(crate) fn of(machine: Machine) -> Option<InBody>
         ensures { IfSome result (λ b. machine ≡ before_op b) }
     {
@@ -49,7 +48,7 @@ impl InBody {
         })
     }
 
-    /// The machine after so many more bytes of the entry, with so many blocks open.
+    /// Returns the machine after `used` more bytes of the entry, with `depth` blocks open.
     pub(crate) fn after(self, used: u32, depth: u32) -> Machine
         requires section { used ≤ self.more }
         requires entry { used ≤ self.rest }

@@ -1,7 +1,7 @@
-//! Where a machine stands in a section: what the shortcuts for members ask for first, and what they leave.
+//! The state of the machine inside a section, as the fast paths for members read and write it.
 //!
-//! `InSection::of` takes the machine apart. The section's kind and the place in the member tell whether a
-//! shortcut can be taken, and what is known of the section makes the machine after it.
+//! `InSection::of` takes the machine apart. The kind of section and the state in the member decide whether a fast path
+//! applies. From an `InSection` it then makes the new state.
 
 ghost use Rattle.std.specs.Prelude.{◌≡◌, ◌-◌, ◌<◌, ◌≤◌, IfSome};
 ghost use Rattle.wm_machine.specs.exact.Steps.{machine_in_member};
@@ -12,8 +12,7 @@ use wm_machine::machine::member::{InMember, SectionKind};
 use wm_machine::step::framed;
 use wm_machine::step::members::begin;
 
-/// What is known of a section at a byte of a member: how many functions await their code, how many bytes of
-/// the section come after this one, and how many members after this one.
+/// The counts of a section at a byte of a member. The fields are those of `Machine::Section`.
 #[derive(Clone, Copy)]
 pub(crate) struct InSection {
     pub(crate) functions: u32,
@@ -22,7 +21,7 @@ pub(crate) struct InSection {
 }
 
 impl InSection {
-    /// That of a machine in a member, behind the section's kind and the place in the member.
+    /// Returns the kind of section, the state in the member and the counts, if the machine is in a member.
     #[inline(always)]
     pub(crate) fn of(machine: Machine) -> Option<(SectionKind, InMember, InSection)>
         ensures { IfSome result (λ r. machine ≡ in_member r.0 r.1 r.2) }
@@ -45,7 +44,7 @@ impl InSection {
         Some((of, at, section))
     }
 
-    /// The same after so many more bytes, with so many members to come after the next.
+    /// Returns the counts after `used` more bytes, with `left` members to come after the next.
     #[inline(always)]
     pub(crate) fn after(self, used: u32, left: u32) -> InSection
         requires { used ≤ self.more }
@@ -58,7 +57,7 @@ impl InSection {
         }
     }
 
-    /// The machine at a place in a member of such a section.
+    /// Returns the machine with this state in a member of the section.
     #[inline(always)]
     pub(crate) fn at(self, of: SectionKind, at: InMember) -> Machine
         ensures { result ≡ in_member of at self }
@@ -72,7 +71,7 @@ impl InSection {
         }
     }
 
-    /// The machine before a member.
+    /// Returns the machine before a member.
     #[inline(always)]
     pub(crate) fn before(self, of: SectionKind) -> Machine
         ensures { result ≡ before_member of self }
@@ -80,7 +79,7 @@ impl InSection {
         self.at(of, begin(of))
     }
 
-    /// The machine before the next member, after so many more bytes.
+    /// Returns the machine before the next member, after `used` more bytes.
     #[inline(always)]
     pub(crate) fn next(self, of: SectionKind, used: u32) -> Machine
         requires section { used ≤ self.more }
@@ -90,8 +89,8 @@ impl InSection {
         self.after(used, self.left - 1).before(of)
     }
 
-    /// The machine after the last byte of a member, where so many bytes come before that one. With it the
-    /// section may be over, or the machine refuse.
+    /// Returns the machine after the last byte of a member, which `used` more bytes precede. The section may end
+    /// there, or the machine may refuse.
     #[inline(always)]
     pub(crate) fn over(self, of: SectionKind, used: u32) -> Machine
         requires { used ≤ self.more }

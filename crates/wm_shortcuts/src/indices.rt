@@ -1,6 +1,6 @@
-//! Indices that follow one another (section 5.5.1): what the byte step makes of them, at once.
+//! Fast path for consecutive indices. Core spec 5.5.1.
 //!
-//! Two or more of one byte each are found together. What is refused for its bytes is left to the byte step.
+//! Two or more indices of one byte each are found together. Bytes that the format refuses take the slow path.
 
 ghost use Rattle.std.specs.Prelude.{◌≡◌, ◌≤◌, IfSome, length};
 ghost use Rattle.wm_shortcuts.specs.exact.Shortcuts.{Advances};
@@ -21,20 +21,19 @@ use wm_machine::step::framed;
 use wm_syntax::numbers::{Num32, short_front};
 use wm_syntax::profile::Profile;
 
-/// Of what the next index is.
+/// The list of the next index.
 #[derive(Clone, Copy)]
 pub(crate) enum IndexList {
-    /// The types of functions (section 5.5.6): each is a member of its section.
+    /// The type indices of functions (Core spec 5.5.6): each is a member of its section.
     Types,
-    /// The functions of an element segment (section 5.5.12), with so many after the next.
+    /// The function indices of an element segment (Core spec 5.5.12); `rest` follow the next.
     Functions { rest: u32 },
-    /// The labels of a br_table (section 5.4.1), with so many after the next. So many bytes of the entry come
-    /// after that, and so many blocks are open.
+    /// The labels of a `br_table` (Core spec 5.4.1); `labels` follow the next. `rest` is the number of bytes of the
+    /// entry after the next byte, and `depth` the number of open blocks.
     Labels { rest: u32, depth: u32, labels: u32 },
 }
 
-/// What is known before an index: of the section, how many functions await their code, how many bytes come
-/// after the next and how many members after this one; and of what the index is.
+/// The counts before an index, and the list of this index. The counts are those of `Machine::Section`.
 #[derive(Clone, Copy)]
 pub(crate) struct InIndices {
     pub(crate) of: SectionKind,
@@ -44,7 +43,7 @@ pub(crate) struct InIndices {
     pub(crate) list: IndexList,
 }
 
-// Before a label of a br_table
+// Returns the list if the state in the entry is before a label of a `br_table`
 fn labels(rest: u32, at: InEntry) -> Option<IndexList>
     ensures at { IfSome result (λ l. InMember.Entry rest at ≡ at_index l) }
     ensures of { IfSome result (λ l. (of : SectionKind) → LiesIn of l) }
@@ -71,7 +70,7 @@ fn labels(rest: u32, at: InEntry) -> Option<IndexList>
 }
 
 impl IndexList {
-    // That of a place in a section
+    // Returns the list if the state in the member is before an index of one
     fn of(of: SectionKind, at: InMember) -> Option<IndexList>
         ensures at { IfSome result (λ l. at ≡ at_index l) }
         ensures of { IfSome result (λ l. LiesIn of l) }
@@ -94,7 +93,7 @@ impl IndexList {
         }
     }
 
-    // Where the next index of it stands
+    // Returns the state in the member before the next index of the list
     fn at(self) -> InMember
         ensures { result ≡ at_index self }
     {
@@ -129,7 +128,7 @@ impl IndexList {
 }
 
 impl InIndices {
-    /// That of a machine, where it stands so.
+    /// Returns the counts and the list if the machine is before an index.
     pub(crate) fn of(machine: Machine) -> Option<InIndices>
         ensures machine { IfSome result (λ i. machine ≡ before_index i) }
         ensures of { IfSome result (λ i. LiesIn i.of i.list) }
@@ -147,7 +146,7 @@ impl InIndices {
         })
     }
 
-    /// How many bytes of all that they lie in come after the next.
+    /// Returns how many bytes come after the next in the section, and for labels in the entry too.
     pub(crate) fn room(self) -> u32
         ensures { result ≡ index_room self }
     {
@@ -157,7 +156,7 @@ impl InIndices {
         }
     }
 
-    /// How many come after which yet another comes.
+    /// Returns how many indices to come are followed by another of the list.
     pub(crate) fn followed(self) -> u32
         ensures { result ≡ followed_indices self }
     {
@@ -168,14 +167,15 @@ impl InIndices {
         }
     }
 
-    /// How many of one byte come after which yet another comes, and a byte of all that they lie in.
+    /// Returns the greatest number of one-byte indices to take, such that another index follows each, and another byte
+    /// of the section and of the entry.
     pub(crate) fn most(self) -> u32
         ensures { result ≡ most_indices self }
     {
         self.room().min(self.followed())
     }
 
-    /// The machine after so many bytes, which were so many indices.
+    /// Returns the machine after `used` bytes, which were `count` indices.
     pub(crate) fn after(self, used: u32, count: u32) -> Machine
         requires room { used ≤ index_room self }
         requires followed { count ≤ followed_indices self }
@@ -211,7 +211,7 @@ impl InIndices {
         }
     }
 
-    /// The machine after the last of them, which has so many bytes before its last.
+    /// Returns the machine after the last index, which has `used` bytes before its last byte.
     pub(crate) fn ended(self, used: u32) -> Machine
         requires { used ≤ index_room self }
         ensures { result ≡ indices_ended self used }
@@ -226,8 +226,8 @@ impl InIndices {
     }
 }
 
-// Gives a sink the index that each of these bytes is, up to one that it refuses. Out of line, where the loop
-// keeps its values in registers.
+// Passes each of these bytes as an index, up to one that the sink refuses. Out of line: there the loop keeps its
+// values in registers
 #[inline(never)]
 fn give_indices<S: Sink>(sink: &mut S, list: IndexList, bytes: &[u8]) -> Shortcut
     ensures within { result.used ≤ length bytes.now }
@@ -249,8 +249,8 @@ fn give_indices<S: Sink>(sink: &mut S, list: IndexList, bytes: &[u8]) -> Shortcu
     }
 }
 
-/// Takes the indices at the front of these bytes: those of one byte each where there are two or more of them
-/// and another comes after them, or else those of any length.
+/// Takes the indices at the front of these bytes. If two or more have one byte each and another follows, it takes
+/// these; otherwise it takes those of any length.
 #[tactic(auto, using(crate::proofs::Advances::advances_none))]
 pub(crate) fn indices<S: Sink>(
     sink: &mut S,
@@ -261,7 +261,7 @@ pub(crate) fn indices<S: Sink>(
     ensures { Advances S.after S.may_run_out profile bytes.now machine.old (S.held sink.old) result
         machine.new (S.held sink.new) }
 {
-    // alone, the first byte of a longer one is the byte step's
+    // a single byte that begins a longer index takes the slow path
     if bytes.len() == 1 && bytes[0] >= 0x80 {
         return Shortcut::none();
     }

@@ -1,7 +1,7 @@
-//! Shortcuts: bytes that are taken at once, as the byte step of the machine takes them one by one.
+//! Fast paths: each takes many bytes in bulk, with the effect of the slow path (the machine's step for each byte).
 //!
-//! Each finds for itself whether it can be taken. It moves the machine and gives the sink what the bytes
-//! complete; the decoder does the rest.
+//! A fast path decides itself whether it applies. It updates the machine and passes the items that the bytes complete
+//! to the sink; the decoder does the rest.
 #![tactic(auto)]
 
 mod chains;

@@ -1,7 +1,6 @@
-//! A shortcut for tables and memories (sections 5.5.7 and 5.5.8): each is limits (section 5.3.4), those of a
-//! table behind the type of its elements.
+//! Fast path for tables and memories: limits, in a table after the element type. Core spec 5.3.4, 5.5.7, 5.5.8.
 //!
-//! What the piece cuts, and what is refused for its bytes, are left to the byte step.
+//! Members that are split across pieces, and bytes that the format refuses, take the slow path.
 
 ghost use Rattle.std.specs.Prelude.{◌≡◌, ◌<◌, ◌≤◌, IfSome, length};
 ghost use Rattle.wm_shortcuts.specs.exact.Limited.{LimitsBegin, LimitsLie, limited_item, limited_section};
@@ -19,7 +18,7 @@ use wm_machine::step::values::{InLimits, InTableType, InValue};
 use wm_syntax::profile::Profile;
 use wm_syntax::types::Limits;
 
-/// What has limits.
+/// The kind of member that has limits.
 #[derive(Clone, Copy)]
 pub(crate) enum Limited {
     Table,
@@ -37,7 +36,7 @@ impl Limited {
         }
     }
 
-    // The item of these limits
+    // Returns the item of these limits
     #[inline(always)]
     fn item(self, limits: Limits) -> Plain
         ensures { result ≡ limited_item self limits }
@@ -48,7 +47,7 @@ impl Limited {
         }
     }
 
-    // Where its limits begin
+    // Returns the index at which the limits begin
     #[inline(always)]
     fn begin(self, bytes: &[u8]) -> Option<usize>
         requires { 0 < length bytes.now }
@@ -63,21 +62,21 @@ impl Limited {
     }
 }
 
-/// What comes, and what is known before it.
+/// The kind of the next member, and the counts of the section before it.
 #[derive(Clone, Copy)]
 struct BeforeLimited {
     of: Limited,
     place: InSection,
 }
 
-/// Limits, and where they end.
+/// Limits, and the index after them.
 #[derive(Clone, Copy)]
 struct Found {
     limits: Limits,
     next: usize,
 }
 
-// What is known of a machine that stands before a table or a memory
+// Returns the kind and the counts if the machine is before a table or a memory
 #[inline(always)]
 fn at_limited(machine: Machine) -> Option<BeforeLimited>
     ensures { IfSome result (λ b. machine ≡ before_member (limited_section b.of) b.place) }
@@ -93,7 +92,7 @@ fn at_limited(machine: Machine) -> Option<BeforeLimited>
     Some(BeforeLimited { of, place })
 }
 
-// The limits at a place, where they lie whole in these bytes
+// Reads the limits at the index `from`, if they lie whole in these bytes
 #[inline(always)]
 fn limits_at(bytes: &[u8], from: usize) -> Option<Found>
     requires { from ≤ 1 }

@@ -1,4 +1,4 @@
-//! Which op of its kind a byte begins (section 5.4.5), for each of the types that have it.
+//! The op of a group that a first byte begins; ops of two types share one function. Core spec 5.4.4, 5.4.5.
 
 ghost use Rattle.std.specs.Prelude.{◌≢◌, ◌≤◌, ◌⊎◌};
 ghost use Rattle.wm_shortcuts.specs.exact.WholeOps.{HasAccess, HasNumeric};
@@ -161,7 +161,7 @@ pub(crate) fn float_binary(byte: u8) -> FloatBinaryOp
     }
 }
 
-// All but 0xAC and 0xAD, which extend an i32.
+// All conversions from 0xA8 on, except 0xAC and 0xAD, which extend an i32
 #[inline(always)]
 pub(crate) fn conversion(byte: u8) -> Conversion
     requires from { 0xA8 ≤ byte }

@@ -1,7 +1,7 @@
-//! A shortcut for the head of an element segment or a data segment (sections 5.5.12 and 5.5.14): its index,
-//! its offset, and its count of functions or its length.
+//! Fast path for the head of an element segment (Core spec 5.5.12) or a data segment (Core spec 5.5.14): its index, its
+//! offset expression, and its number of functions or bytes.
 //!
-//! What is refused for its bytes is left to the byte step.
+//! Bytes that the format refuses take the slow path.
 
 ghost use Rattle.std.specs.Prelude.{◌≡◌, ◌+◌, IfSome, slice_index};
 ghost use Rattle.wm_syntax.specs.exact.Reading.{unsigned_push};
@@ -24,7 +24,7 @@ use wm_machine::step::members::{data_or_over, functions_or_over};
 use wm_syntax::instructions::Op;
 use wm_syntax::profile::Profile;
 
-/// Of which segments a section is a list.
+/// The kind of segments in a section.
 #[derive(Clone, Copy)]
 pub(crate) enum Segments {
     Elements,
@@ -42,7 +42,7 @@ impl Segments {
         }
     }
 
-    // The item of a segment's index
+    // Returns the item of a segment's index
     #[inline(always)]
     fn item(self, index: u32) -> Plain
         ensures { result ≡ index_item (index_of self) index }
@@ -53,7 +53,7 @@ impl Segments {
         }
     }
 
-    // The place after the head, with so many functions or bytes to come
+    // Returns the state after the head, with `size` functions or bytes to come
     #[inline(always)]
     fn after_head(self, size: u32) -> InMember
         ensures { result ≡ list_or_over (size_of self) size }
@@ -65,14 +65,14 @@ impl Segments {
     }
 }
 
-/// Which segment comes, and what is known before it.
+/// The kind of the next segment, and the counts of the section before it.
 #[derive(Clone, Copy)]
 struct BeforeSegment {
     of: Segments,
     place: InSection,
 }
 
-/// The head of a segment: where its index ends, and where the head ends.
+/// The head of a segment. `middle` is where its index ends, and `next` is where the head ends.
 #[derive(Clone, Copy)]
 struct SegmentHead {
     index: u32,
@@ -82,7 +82,7 @@ struct SegmentHead {
     next: usize,
 }
 
-// What is known of a machine that stands before a segment
+// Returns the kind and the counts if the machine is before a segment
 #[inline(always)]
 fn at_segment(machine: Machine) -> Option<BeforeSegment>
     ensures { IfSome result (λ b. machine ≡ before_member (section_of b.of) b.place) }
@@ -104,7 +104,7 @@ fn at_segment(machine: Machine) -> Option<BeforeSegment>
     Some(BeforeSegment { of, place })
 }
 
-// The head at the front of these bytes, where it lies whole in them
+// Reads the head at the front of these bytes, if it lies whole in them
 #[inline(always)]
 fn head_at(bytes: &[u8]) -> Option<SegmentHead>
     ensures index { IfSome result (λ h. LiesAt (unsigned_push 32) bytes.now 0 h.middle h.index) }
@@ -135,7 +135,7 @@ fn head_at(bytes: &[u8]) -> Option<SegmentHead>
     })
 }
 
-/// Takes the head of a segment, with the segment where nothing comes after its head.
+/// Takes the head of a segment. This completes the segment if it has no functions or bytes.
 #[inline(never)]
 #[tactic(auto, using(crate::proofs::Advances::advances_none))]
 pub(crate) fn segment_head<S: Sink>(

@@ -1,4 +1,4 @@
-//! Shortcuts of one byte, in function types and in the head of a code entry.
+//! Fast paths of one byte, in function types and in the head of a code entry.
 
 ghost use Rattle.std.specs.Prelude.{◌≡◌, ◌<◌, IfSome, length, slice_index};
 ghost use Rattle.wm_shortcuts.specs.exact.ShortSteps.{StepsTo, standing};
@@ -16,7 +16,7 @@ use wm_machine::sink::Sink;
 use wm_machine::step::values::InRun;
 use wm_syntax::profile::Profile;
 
-// Takes the byte at a place of a section that goes on after it, where it was found what the byte does there
+// Takes one byte of a section that has a further byte; `found` is the effect of this byte, if it is known
 #[inline(always)]
 #[tactic(auto, using(crate::proofs::Advances::advances_none))]
 fn stepped<S: Sink>(
@@ -49,7 +49,7 @@ fn stepped<S: Sink>(
     Shortcut { used: 1, refused }
 }
 
-// In a section of function types
+// Takes one byte of the type section
 #[inline(always)]
 #[tactic(auto, using(crate::proofs::Advances::advances_none))]
 fn short_type<S: Sink>(
@@ -94,7 +94,7 @@ fn short_type<S: Sink>(
     }
 }
 
-// In the code section
+// Takes one byte of the code section
 #[inline(always)]
 #[tactic(auto, using(crate::proofs::Advances::advances_none))]
 fn short_code<S: Sink>(
@@ -140,7 +140,7 @@ fn short_code<S: Sink>(
     }
 }
 
-/// Takes a byte by the shorter way, where it has one.
+/// Takes one byte by a fast path, if there is one for it.
 #[inline(always)]
 #[tactic(auto, using(crate::proofs::Advances::advances_none))]
 pub(crate) fn short<S: Sink>(

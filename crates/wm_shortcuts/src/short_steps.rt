@@ -1,6 +1,6 @@
-//! One byte of function types, or of a code entry's head: what the byte step makes of it, by a shorter way.
+//! The effect of one byte of a function type or of a code entry's head, with less work than on the slow path.
 //!
-//! What ends a section or is refused for its bytes is left to the byte step.
+//! A byte that ends a section, or that the format refuses, takes the slow path: the functions return `None` for it.
 
 ghost use Rattle.std.specs.Prelude.{◌≡◌, ◌-◌, ◌<◌, IfSome};
 ghost use Rattle.wm_shortcuts.specs.exact.ShortSteps.{StepsTo, standing};
@@ -14,7 +14,7 @@ use wm_machine::step::values::{InRun, value_type};
 use wm_syntax::numbers::{Num32, Step};
 use wm_syntax::profile::Profile;
 
-/// Where in a section the next byte stands, how many members come after this one, and the item that the last
+/// The state after a byte: how many members come after this one, the state inside the member, and the item that the
 /// byte completed.
 #[derive(Clone, Copy)]
 pub(crate) struct Stepped {
@@ -23,8 +23,7 @@ pub(crate) struct Stepped {
     pub(crate) part: Option<Plain>,
 }
 
-/// Where a byte stands in a section that goes on after it: of what it is a list, how many functions await
-/// their code, how many bytes come after the next one and how many members after this one.
+/// The state before a byte of a section that has a further byte. The fields are those of `Machine::Section`.
 #[derive(Clone, Copy)]
 pub(crate) struct Place {
     pub(crate) of: SectionKind,
@@ -35,7 +34,7 @@ pub(crate) struct Place {
 }
 
 impl Place {
-    /// That of a machine, where it stands so.
+    /// Returns the state if the machine is in such a section.
     #[inline(always)]
     pub(crate) fn of(machine: Machine) -> Option<Place>
         ensures machine { IfSome result (λ p. machine ≡ standing p) }
@@ -57,7 +56,7 @@ impl Place {
     }
 }
 
-/// In the size of a code entry
+/// Takes a byte of the size of a code entry.
 #[inline(always)]
 pub(crate) fn size_byte(profile: Profile, left: u32, mut number: Num32, byte: u8) -> Option<Stepped>
     ensures { IfSome result (λ s. StepsTo profile SectionKind.Code left (InMember.EntrySize number) byte s) }
@@ -80,7 +79,7 @@ pub(crate) fn size_byte(profile: Profile, left: u32, mut number: Num32, byte: u8
     }
 }
 
-/// In the count of an entry's runs of locals
+/// Takes a byte of the count of an entry's runs of locals.
 #[inline(always)]
 pub(crate) fn run_count_byte(
     profile: Profile,
@@ -106,7 +105,7 @@ pub(crate) fn run_count_byte(
     })
 }
 
-/// In the count of a run of locals
+/// Takes a byte of the count of a run of locals.
 #[inline(always)]
 pub(crate) fn local_count_byte(
     profile: Profile,
@@ -137,7 +136,7 @@ pub(crate) fn local_count_byte(
     })
 }
 
-/// At the type of a run of so many locals
+/// Takes the type of a run of `count` locals.
 #[inline(always)]
 pub(crate) fn local_type_byte(
     profile: Profile,
@@ -164,7 +163,7 @@ pub(crate) fn local_type_byte(
     })
 }
 
-/// At the form of a function type
+/// Takes the form byte of a function type.
 #[inline(always)]
 pub(crate) fn form_byte(profile: Profile, left: u32, byte: u8) -> Option<Stepped>
     ensures { IfSome result (λ s. StepsTo profile SectionKind.Type left InMember.TypeForm byte s) }
@@ -179,7 +178,7 @@ pub(crate) fn form_byte(profile: Profile, left: u32, byte: u8) -> Option<Stepped
     })
 }
 
-/// In the count of its parameters
+/// Takes a byte of the count of its parameters.
 #[inline(always)]
 pub(crate) fn param_count_byte(
     profile: Profile,
@@ -199,7 +198,7 @@ pub(crate) fn param_count_byte(
     })
 }
 
-/// At a parameter, with so many after it
+/// Takes a parameter, with `more` after it.
 #[inline(always)]
 pub(crate) fn param_byte(profile: Profile, left: u32, more: u32, byte: u8) -> Option<Stepped>
     ensures { IfSome result (λ s. StepsTo profile SectionKind.Type left (InMember.Param more) byte s) }
@@ -214,7 +213,7 @@ pub(crate) fn param_byte(profile: Profile, left: u32, more: u32, byte: u8) -> Op
     })
 }
 
-/// In the count of its results
+/// Takes a byte of the count of its results.
 #[inline(always)]
 pub(crate) fn result_count_byte(
     profile: Profile,
@@ -236,7 +235,7 @@ pub(crate) fn result_count_byte(
     next_type(left, part)
 }
 
-/// At a result, with so many after it
+/// Takes a result, with `more` after it.
 #[inline(always)]
 pub(crate) fn result_byte(profile: Profile, left: u32, more: u32, byte: u8) -> Option<Stepped>
     ensures { IfSome result (λ s. StepsTo profile SectionKind.Type left (InMember.ResultType more) byte s) }
@@ -252,7 +251,7 @@ pub(crate) fn result_byte(profile: Profile, left: u32, more: u32, byte: u8) -> O
     next_type(left, part)
 }
 
-// At the next function type, where there is one
+// Returns the state before the next function type, if there is one
 #[inline(always)]
 fn next_type(left: u32, part: Option<Plain>) -> Option<Stepped>
     ensures some { IfSome result (λ s. 0 < left) }

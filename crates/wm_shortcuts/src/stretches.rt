@@ -1,5 +1,5 @@
-//! Shortcuts for bytes that are one stretch to the grammar: those of a data segment (section 5.5.14), and of a
-//! custom section behind its name (section 5.5.3).
+//! Fast paths for bytes without inner structure: those of a data segment (Core spec 5.5.14), and those of a custom
+//! section after its name (Core spec 5.5.3).
 
 ghost use Rattle.std.specs.Prelude.{◌<◌, length};
 ghost use Rattle.wm_shortcuts.specs.exact.Shortcuts.{Advances};
@@ -14,7 +14,7 @@ use wm_machine::step::framed;
 use wm_machine::step::members::data_or_over;
 use wm_syntax::profile::Profile;
 
-/// Takes the bytes of a data segment. The sink is given them at once.
+/// Takes the bytes of a data segment and passes them to the sink in bulk.
 #[tactic(auto, using(crate::proofs::Advances::advances_none))]
 pub(crate) fn data<S: Sink>(
     sink: &mut S,
@@ -52,7 +52,7 @@ pub(crate) fn data<S: Sink>(
     }
 }
 
-/// Skips the bytes of a custom section, but its last. The sink is given nothing.
+/// Skips the bytes of a custom section after its name, except the last. Passes nothing to the sink.
 #[tactic(auto, using(crate::proofs::Advances::advances_none))]
 pub(crate) fn pass<S: Sink>(
     sink: &S,

@@ -1,4 +1,4 @@
-//! Which shortcut there may be from a state of the machine, and what a shortcut did.
+//! The choice of a fast path by the state of the machine, and the result of a fast path.
 
 ghost use Rattle.std.specs.Prelude.{◌≡◌, ◌<◌, None, Some, length, min};
 ghost use Rattle.wm_shortcuts.specs.exact.Shortcuts.{Advances, why_refused};
@@ -24,17 +24,17 @@ use wm_machine::step::values::{InGlobalType, InLimits, InTableType, InValue};
 use wm_syntax::profile::Profile;
 use wm_syntax::why::Why;
 
-/// What a shortcut did.
+/// The result of a fast path.
 #[derive(Clone, Copy)]
 pub struct Shortcut {
-    /// How many bytes it took, with one that was refused: none where it cannot be taken.
+    /// The number of bytes taken, including a refused one; 0 if the fast path does not apply.
     pub used: usize,
-    /// Why the last of them was refused, if it was.
+    /// Why the last of these bytes was refused, if it was.
     pub refused: Option<Why>,
 }
 
 impl Shortcut {
-    /// Where it cannot be taken.
+    /// The result of a fast path that does not apply.
     #[inline(always)]
     pub(crate) fn none() -> Shortcut
         ensures used { result.used ≡ 0 }
@@ -46,7 +46,7 @@ impl Shortcut {
         }
     }
 
-    /// Where the last of so many bytes was refused.
+    /// The result after `used` bytes, the last of which was refused.
     #[inline(always)]
     pub(crate) fn out(used: usize, why: Why) -> Shortcut
         ensures used { result.used ≡ used }
@@ -58,7 +58,8 @@ impl Shortcut {
         }
     }
 
-    /// Where the last of so many bytes led to a machine, and the sink was given what it completed.
+    /// The result after `used` bytes, the last of which completed an item. It is refused if the sink or the machine
+    /// refused.
     #[inline(always)]
     pub(crate) fn ended(used: usize, given: Result<(), Why>, machine: &Machine) -> Shortcut
         ensures used { result.used ≡ used }
@@ -72,14 +73,14 @@ impl Shortcut {
     }
 }
 
-/// The less of a count and a length.
+/// Returns the smaller of a count and a length.
 pub fn at_most(count: u32, len: usize) -> u32
     ensures { result ≡ min count len }
 {
     (count as usize).min(len) as u32
 }
 
-/// Which shortcut there may be from a state, at its next byte. Nothing but time rests on this.
+/// The fast path to try from a state, at its next byte. A wrong choice costs only time.
 #[derive(Clone, Copy)]
 enum Way {
     Type,
@@ -104,8 +105,8 @@ fn way_of(machine: Machine, next: u8) -> Way {
     let (of, at) = match machine {
         Machine::Section { of, at, .. } => (of, at),
         Machine::Custom { .. } => return Way::Pass,
-        // what `frames` does not take, or not to its end: the header behind its begin, a custom section, the
-        // size of a start section, whose last byte is left
+        // `frames` does not take these, or not to their end: the header after its first byte, custom sections, and the
+        // size of a start section, whose last byte takes the slow path
         Machine::Header(1..) | Machine::CustomSize { .. } | Machine::Refused(_) => return Way::One,
         Machine::Between { .. } if next == 0x00 => return Way::One,
         Machine::Size {
@@ -181,7 +182,7 @@ fn way_in_code(at: InMember) -> Way {
     }
 }
 
-/// Takes the shortcut that there is from the machine's place, where no name goes on.
+/// Takes the fast path that applies to the machine's state, if any. None applies inside a name.
 #[tactic(auto, using(crate::proofs::Advances::advances_none))]
 pub fn take_way<S: Sink>(
     sink: &mut S,
@@ -213,7 +214,7 @@ pub fn take_way<S: Sink>(
             }
         }
         Way::Ops => {
-            // of what comes byte by byte only the last `end` has a shortcut: the others want two bytes
+            // with a single byte, only the last `end` has a fast path: the others need two bytes
             if bytes.len() == 1 {
                 return LastEnd::take(sink, machine, profile, bytes);
             }

@@ -1,4 +1,4 @@
-//! Indices of any length (section 5.5.1) that lie whole in a piece.
+//! Fast path for indices of any length that lie whole in a piece. Core spec 5.5.1.
 
 ghost use Rattle.std.specs.Prelude.{◌≡◌, ◌≤◌, IfSome, length};
 ghost use Rattle.wm_syntax.specs.exact.Reading.{unsigned_push};
@@ -14,13 +14,13 @@ use wm_machine::machine::Machine;
 use wm_machine::sink::Sink;
 use wm_syntax::profile::Profile;
 
-// After so many indices that have one byte each the loop over those of any length ends: the decoder's next
-// turn takes more of them, with fewer instructions each. A turn costs about what so many save. Only once in
-// so many it is looked at how long they were, so that longer ones stay as quick; for the first time behind
-// the first one, since a long one is what brings the decoder here.
+// The loop over indices of any length ends after this many in a row with one byte each: the decoder's next turn takes
+// such indices with fewer instructions each. A turn costs about what this many save. The lengths are checked only once
+// in this many indices, which keeps longer indices fast. The first check is after the first index, since a long one
+// leads here.
 const MANY_SHORT: u32 = 8;
 
-// The index at a place, where it lies in the first so many bytes
+// Reads the index at `from`, if it ends by `end`
 #[inline(always)]
 fn index_at(bytes: &[u8], from: usize, end: usize) -> Option<Whole<u32>>
     requires { end ≤ length bytes.now }
@@ -37,8 +37,7 @@ fn index_at(bytes: &[u8], from: usize, end: usize) -> Option<Whole<u32>>
     Some(index)
 }
 
-// Takes the last index of a list, where it lies in these bytes. After it the section may be over, or the
-// machine refuse.
+// Takes the last index of a list, if it lies in these bytes. The section may end there, or the machine may refuse
 #[inline(never)]
 #[tactic(auto, using(crate::proofs::Advances::advances_none))]
 fn last_index<S: Sink>(
@@ -63,8 +62,8 @@ fn last_index<S: Sink>(
     Shortcut::ended(used, given, machine)
 }
 
-/// Takes indices that lie in these bytes: the last of a list, or those after which another comes, until many
-/// have one byte each. Out of line, where the loop keeps its values in registers.
+/// Takes indices that lie in these bytes: the last of a list, or those that another follows, until many have one byte
+/// each. Out of line: there the loop keeps its values in registers.
 #[inline(never)]
 pub(crate) fn whole_indices<S: Sink>(
     sink: &mut S,
@@ -85,7 +84,7 @@ pub(crate) fn whole_indices<S: Sink>(
     let end = bytes.len().min(before.room() as usize);
     let mut used: usize = 0;
     let mut count = 0;
-    // where the last so many begin
+    // where the last `MANY_SHORT` indices begin
     let mut from = 0;
     while count < followed {
         if count % MANY_SHORT == 1 {

@@ -3,8 +3,8 @@
 ghost use Rattle.std.specs.Prelude.{◌≤◌, IfSome, length};
 ghost use Rattle.wm_shortcuts.specs.exact.WholeNames.{NameLies};
 
-/// Where a name ends whose length stands at this place: where the length has one byte, and the name has bytes
-/// and lies in the first so many.
+/// Returns the index after the name whose length is at `from`. Returns `None` unless the name has 1 to 127 bytes, with
+/// its length in one byte, and ends by `end`.
 #[inline(always)]
 pub(crate) fn name_end(bytes: &[u8], from: usize, end: usize) -> Option<usize>
     requires { end ≤ length bytes.now }

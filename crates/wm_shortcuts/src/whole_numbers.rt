@@ -1,4 +1,4 @@
-//! Numbers as LEB128 (section 5.2.2), read whole from a slice.
+//! Readers of LEB128 numbers that lie whole in a slice. Core spec 5.2.2.
 
 ghost use Rattle.std.specs.Prelude.{◌≡◌, ◌<◌, ◌^◌, IfSome, length};
 ghost use Rattle.wm_syntax.specs.exact.Reading.{signed_push, unsigned_push};
@@ -6,14 +6,14 @@ ghost use Rattle.wm_shortcuts.specs.exact.WholeOps.{LiesAt, one_signed};
 
 use wm_syntax::numbers::{Int32, Int64, Num32, Step};
 
-/// A number that was read whole, and the place after its last byte.
+/// A number, and the index after its last byte.
 #[derive(Clone, Copy)]
 pub(crate) struct Whole<T> {
     pub(crate) value: T,
     pub(crate) next: usize,
 }
 
-/// The u32 that begins at a place, where its last byte is in the slice too.
+/// Reads the u32 that begins at the index `at`. Returns `None` if none ends in the slice.
 #[inline(always)]
 #[tactic(auto, using(crate::proofs::WholeNumbers::u32_short, crate::proofs::WholeNumbers::u32_two))]
 pub(crate) fn u32_at(bytes: &[u8], at: usize) -> Option<Whole<u32>>
@@ -37,7 +37,7 @@ pub(crate) fn u32_at(bytes: &[u8], at: usize) -> Option<Whole<u32>>
     }
 }
 
-// The same, byte by byte; where there is none, the place itself with 0.
+// Reads the same one byte at a time. If there is none, `next` is `at`
 #[inline(never)]
 fn long_u32(bytes: &[u8], at: usize) -> Whole<u32>
     requires { at < length bytes.now }
@@ -54,7 +54,7 @@ fn long_u32(bytes: &[u8], at: usize) -> Whole<u32>
     Whole { value: 0, next: at }
 }
 
-// The number that one byte spells
+// Returns the number that one byte spells
 #[inline(always)]
 fn signed(byte: u8) -> i8
     requires { byte < 2 ^ 7 }
@@ -67,7 +67,7 @@ fn signed(byte: u8) -> i8
     }
 }
 
-/// The s32 that begins at a place, where its last byte is in the slice too.
+/// Reads the s32 that begins at the index `at`. Returns `None` if none ends in the slice.
 #[inline(always)]
 #[tactic(auto, using(crate::proofs::WholeNumbers::s32_short))]
 pub(crate) fn s32_at(bytes: &[u8], at: usize) -> Option<Whole<i32>>
@@ -86,7 +86,7 @@ pub(crate) fn s32_at(bytes: &[u8], at: usize) -> Option<Whole<i32>>
     }
 }
 
-// The same, byte by byte; where there is none, the place itself with 0.
+// Reads the same one byte at a time. If there is none, `next` is `at`
 #[inline(never)]
 fn long_s32(bytes: &[u8], at: usize) -> Whole<i32>
     requires { at < length bytes.now }
@@ -103,7 +103,7 @@ fn long_s32(bytes: &[u8], at: usize) -> Whole<i32>
     Whole { value: 0, next: at }
 }
 
-/// The s64 that begins at a place, where its last byte is in the slice too.
+/// Reads the s64 that begins at the index `at`. Returns `None` if none ends in the slice.
 #[inline(always)]
 #[tactic(auto, using(crate::proofs::WholeNumbers::s64_short))]
 pub(crate) fn s64_at(bytes: &[u8], at: usize) -> Option<Whole<i64>>
@@ -122,7 +122,7 @@ pub(crate) fn s64_at(bytes: &[u8], at: usize) -> Option<Whole<i64>>
     }
 }
 
-// The same, byte by byte; where there is none, the place itself with 0.
+// Reads the same one byte at a time. If there is none, `next` is `at`
 #[inline(never)]
 fn long_s64(bytes: &[u8], at: usize) -> Whole<i64>
     requires { at < length bytes.now }

@@ -1,6 +1,6 @@
-//! The ops of a code entry, read whole from a piece: what the byte step makes of their bytes, at once.
+//! Fast path for the ops of a code entry that lie whole in a piece. Core spec 5.4.
 //!
-//! What is rare, and all that is refused for its bytes, is left to the byte step.
+//! Rare ops, and bytes that the format refuses, take the slow path.
 
 ghost use Rattle.std.specs.Prelude.{◌≡◌, ◌+◌, ◌<◌, ◌≤◌, ◌^◌, ℕ, IfSome, Some, length, slice_index};
 ghost use Rattle.wm_syntax.specs.declared.profile.Profile.{Profile};
@@ -29,7 +29,7 @@ use wm_syntax::profile::{Feature, Profile};
 use wm_syntax::types::ValType;
 use wm_syntax::why::Why;
 
-/// An op that was read whole, the place after it, and how many blocks are open there.
+/// An op, the index after it, and how many blocks are open there.
 #[derive(Clone, Copy)]
 pub(crate) struct Read {
     pub(crate) op: Op,
@@ -37,29 +37,29 @@ pub(crate) struct Read {
     pub(crate) depth: u32,
 }
 
-/// What came of the op at a place.
+/// The result for one op.
 #[derive(Clone, Copy)]
 enum Took {
-    /// The sink took it: the place of the next op, and how many blocks are open there.
+    /// The sink took it: the index of the next op, and how many blocks are open there.
     Next(usize, u32),
-    /// It is left to the byte step.
+    /// The op takes the slow path.
     Left,
-    /// Why the sink refused it, and the place after its last byte.
+    /// The sink refused it: the reason, and the index after its last byte.
     Refused(Why, usize),
 }
 
-/// What came of the ops from a place on.
+/// The result for consecutive ops.
 #[derive(Clone, Copy)]
 pub(crate) struct Ran {
-    /// The bytes of the ops that the sink took, and of the one that it refused.
+    /// The number of bytes of the ops that the sink took, and of the one that it refused.
     pub(crate) used: u32,
     /// How many blocks are open after them.
     pub(crate) depth: u32,
     pub(crate) refused: Option<Why>,
 }
 
-// Readers of the ops after whose first byte comes nothing, an index, a type, a number or two. Where a profile
-// is named the op is one of this profile (`OpUnder`), else of each (`WholeOp`).
+// Readers of ops by their immediates: none, an index, a type, one number or two. A reader with a profile reads ops of
+// this profile (`OpUnder`); the others read ops of every profile (`WholeOp`).
 
 #[inline(always)]
 #[tactic(auto, using(crate::proofs::OpLists::under_alone))]
@@ -117,7 +117,7 @@ pub(crate) fn with_index(bytes: &[u8], at: usize, depth: u32, op: Indexed) -> Op
     })
 }
 
-// A load or a store
+// Reads a load or a store
 #[inline(always)]
 fn access(profile: Profile, bytes: &[u8], at: usize, depth: u32, op: LoadOrStore) -> Option<Read>
     requires within { at + 1 < length bytes.now }
@@ -193,7 +193,7 @@ fn with_type(bytes: &[u8], at: usize, depth: u32, op: Opening) -> Option<Read>
     })
 }
 
-// An indirect call, which ends with the byte 00.
+// Reads a `call_indirect`, which ends with the byte 00
 #[inline(always)]
 fn call_indirect(bytes: &[u8], at: usize, depth: u32) -> Option<Read>
     requires within { at + 1 < length bytes.now }
@@ -211,7 +211,7 @@ fn call_indirect(bytes: &[u8], at: usize, depth: u32) -> Option<Read>
     })
 }
 
-// An op on the size of the memory, which ends with the byte 00.
+// Reads a `memory.size` or `memory.grow`, which ends with the byte 00
 #[inline(always)]
 fn memory(bytes: &[u8], at: usize, depth: u32, op: Sizing) -> Option<Read>
     requires within { at + 1 < length bytes.now }
@@ -228,7 +228,7 @@ fn memory(bytes: &[u8], at: usize, depth: u32, op: Sizing) -> Option<Read>
     })
 }
 
-// The floating-point constants, where the profile has them.
+// Readers of float constants. The profile has them
 
 fn float_32(profile: Profile, bytes: &[u8], at: usize, depth: u32) -> Option<Read>
     requires within { at < length bytes.now }
@@ -272,7 +272,7 @@ fn float_64(profile: Profile, bytes: &[u8], at: usize, depth: u32) -> Option<Rea
     })
 }
 
-// Gives an op that lies in what is left of the entry.
+// Passes an op that ends within the next `room` bytes of the entry
 #[inline(always)]
 fn give<S: Sink>(sink: &mut S, room: usize, read: Option<Read>) -> Took
     ensures { GaveAs S.after (S.held sink.old) room read result (S.held sink.new) }
@@ -289,7 +289,7 @@ fn give<S: Sink>(sink: &mut S, room: usize, read: Option<Read>) -> Took
     }
 }
 
-// Takes the op on floating-point numbers at a place.
+// Takes the op on floats at the index `at`
 #[inline(never)]
 #[tactic(auto, using(crate::proofs::OpLists::gave_took))]
 fn take_float<S: Sink>(
@@ -362,7 +362,7 @@ fn take_float<S: Sink>(
     }
 }
 
-// Takes the op at a place, if it is among the most common ones. Each of them has its own code.
+// Takes the op at the index `at`, if it is one of the most common. Each has its own code
 #[inline(always)]
 #[tactic(auto, using(crate::proofs::OpLists::gave_took, crate::proofs::OpLists::gave_whole))]
 fn take_common<S: Sink>(
@@ -433,8 +433,8 @@ fn take_common<S: Sink>(
     }
 }
 
-// The same for those that are less common. Each has its own code too, but out of line: so the loop over ops
-// stays as small as it has to be for the most common ones to be inlined there.
+// Takes a less common op. Each has its own code too, but out of line: this keeps the loop over ops small enough for the
+// most common ones to be inlined there
 #[inline(never)]
 #[tactic(auto, using(crate::proofs::OpLists::gave_took, crate::proofs::OpLists::gave_whole))]
 fn take_uncommon<S: Sink>(
@@ -520,7 +520,7 @@ fn take_uncommon<S: Sink>(
     }
 }
 
-// After an op that the sink refused
+// The result after an op that the sink refused
 #[inline(always)]
 fn refused(used: usize, depth: u32, why: Why) -> Ran
     requires { used < 2 ^ 32 }
@@ -533,7 +533,7 @@ fn refused(used: usize, depth: u32, why: Why) -> Ran
     }
 }
 
-/// Takes ops while they lie whole in these bytes and in the next `room` of the entry.
+/// Takes ops as long as they lie whole in these bytes and in the next `room` bytes of the entry.
 #[inline(never)]
 pub(crate) fn take_ops<S: Sink>(
     sink: &mut S,
@@ -562,7 +562,7 @@ pub(crate) fn take_ops<S: Sink>(
             Took::Left => {}
             Took::Refused(why, next) => return refused(next, depth, why),
         }
-        // called here, so that no answer of the common ops lies in memory
+        // called here and not from `take_common`, whose result then does not lie in memory
         match take_uncommon(sink, profile, bytes, used, depth, room) {
             Took::Next(next, inside) => {
                 used = next;

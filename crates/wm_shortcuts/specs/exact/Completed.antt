@@ -1,4 +1,4 @@
--- What bytes complete, and where they lead, whatever receives it: the exact form, for the proofs above it.
+-- Exact answers: `Completes` gives the items that bytes complete and the next state, without the sink.
 use Rattle.std.specs.Prelude.{◌≡◌, ℕ, suc, ◌+◌, ◌-◌, ◌<◌, ◌≤◌, List, [], ◌∷◌, length, slice_index}
 use Rattle.std.specs.Prelude.{Option, Some, None, Result, Ok, slice_range}
 use Rattle.wm_syntax.specs.declared.profile.Profile.{Profile}
@@ -18,7 +18,7 @@ use Rattle.wm_machine.specs.exact.Live.{MayRunOutAt, name_taken, refusal_in_mach
 use Rattle.wm_shortcuts.specs.exact.ShortSteps.{part_event}
 use Rattle.wm_shortcuts.specs.exact.WholeNames.{NameLies}
 
--- an item that holds no bytes, or the bytes of a name
+-- an item without bytes, or a name with its bytes
 pub data Completed : Type 0 where
   part : Plain → Completed
   named : NameKind → List ℕ → Completed
@@ -31,7 +31,7 @@ abbrev pub with_last : Option Completed → List Completed → List Completed
 with_last (Some x) xs = x ∷ xs
 with_last None xs = xs
 
--- what a sink holds after what was completed, or why it is refused
+-- the state of a sink after this item or name, or why it is refused
 abbrev pub completed_taken : {H : Type 0} → (H → Item → Result H Why) → Completed → H → Result H Why
 completed_taken after (part x) h = after h (plain_item x)
 completed_taken after (named kind text) h = name_taken after kind text h
@@ -40,15 +40,14 @@ abbrev pub last_taken : {H : Type 0} → (H → Item → Result H Why) → Optio
 last_taken after (Some x) h = completed_taken after x h
 last_taken after None h = Ok h
 
--- Memory may run out at it.
+-- Memory may run out at this item or name, if any.
 abbrev pub LastMayRunOut : {H : Type 0} → (H → Item → Type 0) → Option Completed → H → Type 0
 LastMayRunOut may (Some (part x)) h = may h (plain_item x)
 LastMayRunOut may (Some (named kind text)) h = MayRunOutAt may (name_item kind text) h
 LastMayRunOut may None h = ⊥
 
--- From machine m, at the place `start` of a list, the bytes up to another place lead to another machine under
--- the profile. The last of them completes the one that may stand apart, and those before it complete the
--- others, the latest first.
+-- `Completes p bytes start m xs last i n`: under the profile p, the bytes from index `start` up to index i lead from
+-- machine m to machine n. The last byte or name completes `last`, if any; those before complete xs, the latest first.
 pub data Completes (p : Profile) (bytes : List ℕ) (start : ℕ) (m : Machine) : List Completed
     → Option Completed → ℕ → Machine → Type 0 where
   no_byte : Completes p bytes start m [] None start m

@@ -1,4 +1,4 @@
--- Bytes of the header and of the frames of sections: the exact form, for the proofs above it.
+-- Exact answers about the header and section headers.
 use Rattle.std.specs.Prelude.{◌≡◌, ◌<◌, ◌≤◌, ℕ, List, [], None, length}
 use Rattle.wm_syntax.specs.declared.profile.Profile.{Profile}
 use Rattle.wm_machine.specs.declared.machine.Machine.{Machine}
@@ -7,12 +7,12 @@ use Rattle.wm_shortcuts.specs.exact.Completed.{Completes}
 use Rattle.wm_machine.specs.exact.Steps.{step_of}
 use Rattle.wm_machine.specs.exact.Live.{refusal_in_machine}
 
--- the byte leads from one machine to another under each profile, and completes nothing
+-- Under every profile, the byte leads from machine m to machine n, which has not refused. It completes nothing.
 pub record IsFrameStep (m : Machine) (c : ℕ) (n : Machine) : Type 0 where
   pub steps : (p : Profile) → step_of p m c ≡ (n, Nothing)
   pub goes_on : refusal_in_machine n ≡ None
 
--- so do the first of these bytes
+-- Under the profile, the first `used` bytes lead from m to n and complete nothing. If there are any, n has not refused.
 pub record LeadsTo (p : Profile) (bytes : List ℕ) (m : Machine) (used : ℕ) (n : Machine) : Type 0 where
   pub within : used ≤ length bytes
   pub completes : Completes p bytes 0 m [] None used n

@@ -1,5 +1,4 @@
--- Indices of one byte each that follow one another, as the byte step reads them: the exact form, for the
--- proofs above it.
+-- Exact answers about consecutive indices, as the slow path reads them.
 use Rattle.std.specs.Prelude.{◌≡◌, ◌≢◌, ℕ, ◌+◌, ◌-◌, ◌<◌, min, List, length, map, take, slice_index, Result}
 use Rattle.std.specs.Prelude.{Ok, Err, Option, Some, None}
 use Rattle.wm_syntax.specs.declared.why.Why.{Why}
@@ -27,13 +26,13 @@ use Rattle.wm_machine.specs.exact.Steps.{machine_in_member}
 use Rattle.wm_machine.specs.exact.ExpressionSteps.{at_next_op}
 use Rattle.wm_machine.specs.exact.MemberSteps.{member_in_entry}
 
--- where in a member of a section the indices of a list stand
+-- the state in a member before an index of this list
 abbrev pub at_index : IndexList → InMember
 at_index list.Types = at.Index index_of.Function fresh
 at_index (list.Functions rest) = at.Index (index_of.ElementFunction rest) fresh
 at_index (list.Labels rest depth labels) = at.Entry rest (entry.Body (expression.Label depth labels fresh))
 
--- each type index is a member of the function section
+-- type indices are in the function section
 abbrev pub LiesIn : SectionKind → IndexList → Type 0
 LiesIn of list.Types = of ≡ section_kind.Function
 LiesIn of x = Unit {0}
@@ -42,7 +41,7 @@ LiesIn of x = Unit {0}
 abbrev pub before_index : InIndices → Machine
 before_index i = machine.Section i.of i.functions i.more i.left (at_index i.list)
 
--- how many bytes of all that they lie in come after the next
+-- how many bytes come after the next in the section, and for labels in the entry too
 abbrev pub room_in : ℕ → IndexList → ℕ
 room_in more (list.Labels rest depth labels) = min more rest
 room_in more x = more
@@ -50,7 +49,7 @@ room_in more x = more
 abbrev pub index_room : InIndices → ℕ
 index_room i = room_in i.more i.list
 
--- how many come after which yet another comes
+-- how many indices to come are followed by another of the list
 abbrev pub followed_in : ℕ → IndexList → ℕ
 followed_in left list.Types = left
 followed_in left (list.Functions rest) = rest
@@ -59,16 +58,16 @@ followed_in left (list.Labels rest depth labels) = labels
 abbrev pub followed_indices : InIndices → ℕ
 followed_indices i = followed_in i.left i.list
 
--- how many of one byte come after which yet another comes, and a byte of all that they lie in
+-- the greatest number of one-byte indices such that another index follows each, and another byte of section and entry
 abbrev pub most_indices : InIndices → ℕ
 most_indices i = min (room_in i.more i.list) (followed_in i.left i.list)
 
--- what is left after so many
+-- how many members come after the next, once n indices are read
 abbrev pub members_after : ℕ → IndexList → ℕ → ℕ
 members_after left list.Types n = left - n
 members_after left x n = left
 
--- the same after so many bytes, which were so many indices
+-- the list after `used` bytes, which were n indices
 abbrev pub list_past : IndexList → ℕ → ℕ → IndexList
 list_past list.Types used n = list.Types
 list_past (list.Functions rest) used n = list.Functions (rest - n)
@@ -81,16 +80,16 @@ indices_past i used n = record i {
   list = list_past i.list used n;
 }
 
--- the same where each has one byte
+-- the counts after n indices of one byte each
 abbrev pub indices_after : InIndices → ℕ → InIndices
 indices_after i n = indices_past i n n
 
--- where a member goes on after the last index of a list, so many bytes after the next one
+-- the state in a member after the last index of a list, which has n bytes before its last byte
 abbrev pub after_last : IndexList → ℕ → InMember
 after_last (list.Labels rest depth labels) n = member_in_entry (rest - n) (entry.Body (at_next_op depth))
 after_last l n = at.Over
 
--- the machine after the last index, which had so many bytes before its last
+-- the machine after the last index, which has n bytes before its last byte
 abbrev pub indices_ended : InIndices → ℕ → Machine
 indices_ended i n = machine_in_member i.of i.functions (i.more - n) i.left (after_last i.list n)
 
@@ -102,7 +101,7 @@ index_part (list.Labels rest depth labels) x = plain.BodyOp (op.Label x)
 abbrev pub index_item_in : IndexList → ℕ → Item
 index_item_in l x = plain_item (index_part l x)
 
--- a sink took an item for each of these bytes, or those before one that it refused
+-- a sink took an item for each of these bytes, or for those before one that it refused
 abbrev pub GaveEach : {H : Type 0} → (H → Item → Result H Why) → (ℕ → Item) → List ℕ → H → ℕ → Option Why → H
     → Type 0
 GaveEach after item bytes h used None g = (used ≡ length bytes) × (all_taken after h (map item bytes) ≡ Ok g)

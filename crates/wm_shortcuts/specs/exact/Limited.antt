@@ -1,4 +1,4 @@
--- A table or a memory that lies in a piece: the exact form, for the proofs above it.
+-- Exact answers about a table or a memory that lies in a piece.
 use Rattle.std.specs.Prelude.{◌≡◌, ◌⊎◌, ◌+◌, ℕ, List, Some, None, slice_index}
 use Rattle.wm_syntax.specs.declared.types.Limits.{Limits}
 use Rattle.wm_syntax.specs.exact.Reading.{unsigned_push}
@@ -15,7 +15,7 @@ use Rattle.wm_shortcuts.specs.declared.limited.Limited.{Limited}
 use Rattle.wm_shortcuts.specs.declared.limited.Limited.TheVariants as limited
 use Rattle.wm_shortcuts.specs.exact.WholeOps.{LiesAt}
 
--- the section of what has limits, where in them a byte stands, and what they complete
+-- for a table or a memory: its section, the state inside its limits, and the item that these complete
 abbrev pub limited_section : Limited → SectionKind
 limited_section limited.Table = section_kind.Table
 limited_section limited.Memory = section_kind.Memory
@@ -28,12 +28,12 @@ abbrev pub limited_item : Limited → Limits → Plain
 limited_item limited.Table l = plain.Table l
 limited_item limited.Memory l = plain.Memory l
 
--- the limits begin there: those of a table behind the type of its elements
+-- the limits begin at `from`: those of a table after the element type
 abbrev pub LimitsBegin : Limited → List ℕ → ℕ → Type 0
 LimitsBegin limited.Table bytes from = (slice_index bytes 0 ≡ 0x70) × (from ≡ 1)
 LimitsBegin limited.Memory bytes from = from ≡ 0
 
--- limits lie from one place up to another: with no greatest size, or with one
+-- limits lie from `from` up to `next`: without a maximum, or with one
 pub record LeastLies (bytes : List ℕ) (from next : ℕ) (l : Limits) : Type 0 where
   pub flag : slice_index bytes from ≡ 0
   pub least : ℕ

@@ -1,4 +1,4 @@
--- The head of a segment that lies in a piece: the exact form, for the proofs above it.
+-- Exact answers about the head of a segment.
 use Rattle.wm_machine.specs.declared.machine.member.SectionKind.{SectionKind}
 use Rattle.wm_machine.specs.declared.machine.member.SectionKind.TheVariants as section_kind
 use Rattle.wm_machine.specs.declared.machine.member.IndexOf.{IndexOf}
@@ -10,7 +10,7 @@ use Rattle.wm_machine.specs.declared.machine.member.LengthOf.TheVariants as leng
 use Rattle.wm_shortcuts.specs.declared.segments.Segments.{Segments}
 use Rattle.wm_shortcuts.specs.declared.segments.Segments.TheVariants as segments
 
--- the section of such segments, and what is read in turn: an index, an offset, and a count or a length
+-- the section of such segments, and the parts of their head in order: an index, an offset, and a count or a length
 abbrev pub section_of : Segments → SectionKind
 section_of segments.Elements = section_kind.Element
 section_of segments.Data = section_kind.Segment

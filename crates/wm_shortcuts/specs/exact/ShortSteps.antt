@@ -1,5 +1,4 @@
--- What the byte step makes of a byte of function indices and of code entries, where the section goes on: the
--- exact form, for the proofs above it.
+-- Exact answers about one byte of function types and of code entries, with a further byte in the section.
 use Rattle.std.specs.Prelude.{◌≡◌, ℕ, suc, Option, Some, None}
 use Rattle.wm_syntax.specs.declared.profile.Profile.{Profile}
 use Rattle.wm_machine.specs.declared.machine.Plain.{Plain}
@@ -13,7 +12,7 @@ use Rattle.wm_shortcuts.specs.declared.short_steps.Stepped.{Stepped}
 use Rattle.wm_shortcuts.specs.declared.short_steps.Place.{Place}
 use Rattle.wm_machine.specs.exact.Steps.{step_of}
 
--- what a byte completes, if it completes an item
+-- the effect of a byte that completes this item, if any
 abbrev pub part_event : Option Plain → Event
 part_event (Some part) = event.Complete part
 part_event None = event.Nothing
@@ -24,7 +23,7 @@ standing p = machine.Section p.of p.functions p.more p.left p.at
 abbrev pub after_stepped : SectionKind → ℕ → ℕ → Stepped → Machine
 after_stepped of functions more s = machine.Section of functions more s.left s.at
 
--- under the profile this is what the byte does, where bytes of the section come after it
+-- under the profile this is the effect of the byte c, if a further byte of the section comes after it
 abbrev pub StepsTo : Profile → SectionKind → ℕ → InMember → ℕ → Stepped → Type 0
 StepsTo p of left at c s = (functions more : ℕ)
     → step_of p (machine.Section of functions (suc more) left at) c

@@ -1,5 +1,4 @@
--- Bytes that a shortcut takes at once, as the byte step takes them one by one: the exact form,
--- for the proofs above it.
+-- Exact answers about a fast path: it takes bytes in bulk with the effect of the slow path.
 use Rattle.std.specs.Prelude.{◌≡◌, ◌≢◌, ℕ, ◌+◌, ◌<◌, ◌≤◌, List, [], length, drop, slice_index, Some, None}
 use Rattle.std.specs.Prelude.{Option, Result, Ok, Err}
 use Rattle.wm_syntax.specs.declared.profile.Profile.{Profile}
@@ -11,13 +10,12 @@ use Rattle.wm_machine.specs.Items.{Item}
 use Rattle.wm_machine.specs.exact.Live.{IsAt, IsRefused, Live, MayRunOutAtByte, decoder_after}
 use Rattle.wm_machine.specs.exact.Live.{refusal_in_machine}
 
--- a decoder of this machine and this sink, with this name at hand, after so many bytes of the input
+-- a decoder with this machine, this unfinished name and this state of its sink, after k bytes of the input
 abbrev pub live_so : {H : Type 0} → Machine → List ℕ → H → ℕ → Live H
 live_so m name h k = record { machine = m; name = name; held = h; at = k }
 
--- From machine m and a sink that held h a shortcut came to n and g over the first of these bytes. Under the
--- profile the byte step comes there too: within each limit, at each place of the input, and whatever name was
--- at hand.
+-- A fast path led over the first of these bytes from machine m and state h of the sink to machine n and state g. The
+-- slow path leads there too: within every limit, at every offset of the input, and with any unfinished name.
 pub record Advances {H : Type 0} (after : H → Item → Result H Why) (may : H → Item → Type 0) (p : Profile)
     (bytes : List ℕ) (m : Machine) (h : H) (s : Shortcut) (n : Machine) (g : H) : Type 0 where
   pub within : s.used ≤ length bytes
@@ -35,7 +33,7 @@ pub record Advances {H : Type 0} (after : H → Item → Result H Why) (may : H 
   pub room : (k : ℕ) (name : List ℕ) → length bytes ≤ 1 → s.refused ≡ Some why.Memory
       → MayRunOutAtByte may p (live_so m name h k) (slice_index bytes 0)
 
--- why what came of a byte is refused: by the sink, or else by the machine
+-- why the sink refused, or else why the machine did, if any
 abbrev pub why_refused : {U : Type 0} → Result U Why → Machine → Option Why
 why_refused (Ok u) n = refusal_in_machine n
 why_refused (Err w) n = Some w

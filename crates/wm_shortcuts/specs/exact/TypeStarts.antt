@@ -1,4 +1,4 @@
--- Where a shortcut stands in a function type: the exact form, for the proofs above it.
+-- Exact answers about the state of a machine inside a function type.
 use Rattle.std.specs.Prelude.{ℕ, ◌-◌}
 use Rattle.wm_syntax.specs.exact.Reading.{fresh}
 use Rattle.wm_machine.specs.declared.machine.Machine.{Machine}
@@ -10,14 +10,14 @@ use Rattle.wm_shortcuts.specs.declared.in_section.InSection.{InSection}
 use Rattle.wm_machine.specs.exact.MemberSteps.{after_param}
 use Rattle.wm_shortcuts.specs.exact.WholeMembers.{in_member}
 
--- the machine before the count of the results
+-- the machine before the result count
 abbrev pub before_results : InSection → Machine
 before_results = in_member section_kind.Type (at.ResultCount fresh)
 
--- the machine before a parameter, or before the count of the results where none is to come
+-- the machine before a parameter, or before the result count if none is to come
 abbrev pub in_params : InParams → Machine
 in_params i = machine.Section section_kind.Type i.functions i.more i.left (after_param i.params)
 
--- what is known there after so many more bytes, with so many parameters to come
+-- the counts there after `used` more bytes, with `params` parameters to come
 abbrev pub params_after : InParams → ℕ → ℕ → InParams
 params_after i used params = record i { more = i.more - used; params = params }

@@ -1,5 +1,4 @@
--- Numbers and ops that lie whole in a list of bytes, as the byte step reads them: the exact form, for the
--- proofs above it.
+-- Exact answers about numbers and ops that lie whole in a list of bytes, as the slow path reads them.
 use Rattle.std.specs.Prelude.{◌≡◌, ◌≢◌, ◌≤◌, ◌<◌, ℕ, ◌^◌, nat_lt, if◌then◌else◌, ℤ, pos, ◌-ℤ◌, List, [], ◌∷◌}
 use Rattle.std.specs.Prelude.{length, slice_range, Result, Ok, Err, Option, Some, None as Nothing, slice_get}
 use Rattle.wm_syntax.specs.declared.why.Why.{Why}
@@ -36,13 +35,13 @@ use Rattle.wm_machine.specs.declared.step.ops.LoadOrStore.{LoadOrStore}
 use Rattle.wm_machine.specs.exact.OpSteps.{access_class, op_push, first_step}
 use Rattle.wm_machine.specs.exact.ExpressionSteps.{at_next_op, after_op}
 
--- what a byte leaves of a number: the number with no byte after it, or what goes on
+-- after a byte of a number: the number v is complete and no byte follows, or the rest continues it
 abbrev pub NumberGoes : {T : Type 0} → Step T × Partial → (Partial → Type 0) → List ℕ → T → Type 0
 NumberGoes (step.More, s) rest b v = rest s
 NumberGoes (step.Done w, s) rest b v = (w ≡ v) × (b ≡ [])
 NumberGoes (step.Bad, s) rest b v = ⊥
 
--- these bytes, no more and no fewer, end a number for a reader of this step
+-- exactly these bytes complete the number v, for a reader with this step
 abbrev pub IsNumber : {T : Type 0} → (Partial → ℕ → Step T × Partial) → Partial → List ℕ → T → Type 0
 IsNumber push r [] v = ⊥
 IsNumber push r (c ∷ b) v = NumberGoes (push r c) (λ s. IsNumber push s b v) b v
@@ -52,23 +51,23 @@ OpGoes (More q) rest b o = rest q
 OpGoes (Done v) rest b o = (v ≡ o) × (b ≡ [])
 OpGoes (Bad w) rest b o = ⊥
 
--- these bytes, no more and no fewer, end an op
+-- exactly these bytes complete the op o
 abbrev pub IsOp : Profile → InOp → List ℕ → Op → Type 0
 IsOp p q [] o = ⊥
 IsOp p q (c ∷ b) o = OpGoes (op_push p q c) (λ r. IsOp p r b o) b o
 
--- a number that lies whole in a list, from a place on up to another
+-- the number v lies in the list from `start` up to `next`
 pub record LiesAt {T : Type 0} (push : Partial → ℕ → Step T × Partial) (bytes : List ℕ) (start next : ℕ)
     (v : T) : Type 0 where
   pub some : start < next
   pub within : next ≤ length bytes
   pub spelled : IsNumber push fresh (slice_range bytes start next) v
 
--- the number that one byte spells, which is below 2^7
+-- the number that one byte below 2^7 spells
 abbrev pub one_signed : ℕ → ℤ
 one_signed c = if nat_lt c (2 ^ 6) then pos c else pos c -ℤ pos (2 ^ 7)
 
--- what a byte begins under a profile, as its row of the table says
+-- the class of ops that a byte begins under a profile, as its row of the table says
 abbrev pub class_row : Profile → ℕ → OpClass
 class_row p byte = row_in p (slice_get classes byte)
 
@@ -80,26 +79,25 @@ HasNumeric byte o = slice_get classes byte ≡ Some (Plain (op.Simple (s.Numeric
 abbrev pub HasAccess : ℕ → LoadOrStore → Type 0
 HasAccess byte a = (slice_get classes byte ≡ Some (access_class a)) × (class_feature (access_class a) ≡ Base)
 
--- what a byte says of an op that begins with it
+-- the result of the reader of an op after this first byte
 abbrev pub first_read : Profile → ℕ → Reading InOp Op
 first_read p c = first_step (class_row p c)
 
--- an op of each profile that lies whole in a list, from a place on up to another, and how many blocks are
--- open before and after it
+-- an op of every profile lies in the list from `start` up to `next`; before it `depth` blocks are open, after it `inside`
 pub record WholeOp (bytes : List ℕ) (start next depth inside : ℕ) (o : Op) : Type 0 where
   pub some : start < next
   pub within : next ≤ length bytes
   pub spelled : (p : Profile) → IsOp p First (slice_range bytes start next) o
   pub opens : after_op depth o ≡ at_next_op inside
 
--- the same of an op of the profile
+-- as `WholeOp`, for an op of this profile
 pub record OpUnder (p : Profile) (bytes : List ℕ) (start next depth inside : ℕ) (o : Op) : Type 0 where
   pub some : start < next
   pub within : next ≤ length bytes
   pub spelled : IsOp p First (slice_range bytes start next) o
   pub opens : after_op depth o ≡ at_next_op inside
 
--- the sink was given what was read, if that lies in so many bytes
+-- the result of passing to the sink the op that was read, if it ends within `room` bytes
 abbrev pub GaveAs : {H : Type 0} → (H → Item → Result H Why) → H → ℕ → Option Read → Took → H → Type 0
 GaveAs after h room (Some r) (took.Next n d) g = (r.next ≡ n) × (r.depth ≡ d) × (n ≤ room)
     × (after h (body_op r.op) ≡ Ok g)
@@ -109,7 +107,7 @@ GaveAs after h room Nothing (took.Next n d) g = ⊥
 GaveAs after h room Nothing (took.Refused w n) g = ⊥
 GaveAs after h room x took.Left g = h ≡ g
 
--- what came of the op at a place: the sink took it, it was left, or the sink refused it
+-- the result for the op at `start`: the sink took it, it takes the slow path, or the sink refused it
 abbrev pub TookAs : {H : Type 0} → (H → Item → Result H Why) → Profile → H → List ℕ → ℕ → ℕ → ℕ → Took → H
     → Type 0
 TookAs after p h bytes start depth room (took.Next n d) g =
@@ -119,7 +117,7 @@ TookAs after p h bytes start depth room (took.Refused w n) g =
     (o : Op) × (d : ℕ) × OpUnder p bytes start n depth d o × (n ≤ room)
     × (w ≢ why.Memory → after h (body_op o) ≡ Err w)
 
--- from one place in a list to another lie whole ops, and the sink took them
+-- whole ops lie from `start` up to another index, and the sink took them
 pub data OpsTaken {H : Type 0} (after : H → Item → Result H Why) (p : Profile) (bytes : List ℕ)
     (room start depth : ℕ)
     (h : H) : ℕ → ℕ → H → Type 0 where
@@ -128,8 +126,7 @@ pub data OpsTaken {H : Type 0} (after : H → Item → Result H Why) (p : Profil
       → OpUnder p bytes n m d e o → m ≤ room
       → after g (body_op o) ≡ Ok f → OpsTaken after p bytes room start depth h m e f
 
--- what came of the ops from a place on: the sink took some, and where it refused another the bytes used are
--- those up to its end
+-- The result for consecutive ops: the sink took some. If it refused another, the bytes used include that op.
 abbrev pub RanTo : {H : Type 0} → (H → Item → Result H Why) → Profile → H → List ℕ → ℕ → ℕ → ℕ → ℕ
     → Option Why → H → Type 0
 RanTo after p h bytes room start used depth Nothing g = OpsTaken after p bytes room 0 start h used depth g
@@ -138,7 +135,7 @@ RanTo {H} after p h bytes room start used depth (Some w) g =
     × OpUnder p bytes n used d e o × (used ≤ room)
     × (w ≢ why.Memory → after f (body_op o) ≡ Err w)
 
--- the machine in an op of a code entry
+-- the machine inside an op of a code entry
 abbrev pub in_body : SectionKind → ℕ → ℕ → ℕ → ℕ → ℕ → InOp → Machine
 in_body of functions more left rest depth q =
     machine.Section of functions more left (at.Entry rest (entry.Body (expression.Op depth q)))
