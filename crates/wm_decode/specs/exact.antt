@@ -1,3 +1,3 @@
--- Exact answers of functions, refusals included. They follow the code for the layers above,
--- and need not be believed.
+-- Exact answers: the results of functions as spec functions, refusals included. They follow the code, serve the proofs
+-- of the layers above, and need not be believed.
 pub mod Standing

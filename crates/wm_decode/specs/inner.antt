@@ -1,3 +1,3 @@
--- What values hold inside. Contracts name these words and say what follows from them: their
--- bodies need not be believed.
+-- Inner states of values. Contracts name these definitions and state what follows from them, so their bodies need not
+-- be believed.
 pub mod Decoders

@@ -1,14 +1,14 @@
--- How a decoder stands, as the machine and the sink over the bytes so far.
+-- Exact answers about the state of a decoder: its machine, its unfinished name, and the state of its sink.
 use Rattle.std.specs.Prelude.{List, ℕ, ◌++◌, Result}
 use Rattle.wm_machine.specs.declared.refusal.Refusal.{Refusal}
 use Rattle.wm_decode.specs.declared.decoder.state.Decoder.{Decoder}
 use Rattle.wm_machine.specs.exact.Live.{Live, live_or_refused}
 
--- how a decoder stands, by what is seen of its sink
+-- the state of the decoder, or its refusal
 abbrev pub state_of : {S H : Type 0} → (S → H) → Decoder S → Result (Live H) Refusal
 state_of held d = live_or_refused d.machine d.name.items (held d.sink) d.at
 
--- how it stands within a piece, with this part of it in the name at hand
+-- the state of the decoder within a piece, with this part of the piece in the unfinished name
 abbrev pub live_with : {S H : Type 0} → (S → H) → Decoder S → List ℕ → Live H
 live_with held d part = record {
   machine = d.machine;

@@ -1,4 +1,4 @@
-//! What a decoder holds.
+//! The fields of a decoder.
 
 ghost use Rattle.std.specs.Prelude.{◌≤◌, ◌^◌};
 
@@ -6,7 +6,7 @@ use std::fmt;
 use wm_machine::machine::Machine;
 use wm_syntax::profile::Profile;
 
-/// Takes a module in pieces, and gives its items to a sink.
+/// A decoder: takes a module in pieces (input chunks), and passes its items (decoder events) to a sink.
 #[derive(Drop)]
 pub struct Decoder<S> {
     pub(crate) sink: S,
@@ -18,7 +18,7 @@ pub struct Decoder<S> {
     ghost in_range: { max_bytes ≤ 2 ^ 62 },
 }
 
-// The machine and the name at hand are its own affair.
+// Leaves out the machine and the unfinished name, which are internal
 impl<S: fmt::Debug> fmt::Debug for Decoder<S> {
     fn fmt<F: fmt::Write>(&self, f: &mut fmt::Formatter<F>) -> fmt::Result {
         f.debug_struct("Decoder")
