@@ -1,4 +1,4 @@
--- What the calls of a decoder say of all that it was fed.
+-- The promises of the decoder's calls, for all bytes that it was fed.
 use Rattle.std.proofs.Common.{◌≡◌, ◌≢◌, ℕ, zero, suc, ◌+◌, ◌<◌, ◌≤◌, ◌^◌, List, [], ◌∷◌, ◌++◌, Option, Some, None, Result, Ok, Err, IsOk, IfOk, IfErr, OnOk, MatchResult, length, refl, sym, ◌∙◌, ap, subst, inl, inr, ◌⊎◌, arith, take, get_or, length-append}
 use Rattle.wm_syntax.specs.declared.why.Why.{Why}
 use Rattle.wm_syntax.specs.declared.why.Why.TheVariants as why

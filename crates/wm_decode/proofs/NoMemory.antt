@@ -1,4 +1,4 @@
--- A machine that has refused nothing never refuses for memory: the sink does, or the bytes of a name.
+-- A machine that has refused nothing never refuses with `Memory`: only the sink does, or the bytes of a name.
 use Rattle.std.proofs.Common.{◌≡◌, ℕ, zero, suc, inl, inr, List, [], Option, Some, None, Result, Ok, Err, IfErr, ap, sym, ◌∙◌, subst, nat_eq, nat_lt, get_or}
 use Rattle.std.proofs.lemmas.Bool.{cond_both}
 use Rattle.wm_syntax.specs.declared.numbers.Step.{Step}

@@ -1,4 +1,4 @@
--- What is so of every machine that a byte can lead to, past the header.
+-- Properties of every machine that a byte can lead to after the header.
 use Rattle.std.proofs.Common.{◌≡◌, ℕ, zero, suc, Option, Some, None, refl, nat_eq, nat_le}
 use Rattle.std.proofs.lemmas.Bool.{cond_both}
 use Rattle.wm_syntax.specs.declared.numbers.Step.{Step}

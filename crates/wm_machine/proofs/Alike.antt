@@ -1,4 +1,4 @@
--- A second sink that never refuses what the first one takes: the decoder answers as over the first one alone.
+-- If a second sink never refuses an item that the first one takes, the decoder answers as over the first one alone.
 use Rattle.std.proofs.Common.{◌≡◌, ℕ, zero, suc, ◌+◌, Bool, true, false, cond, List, [], ◌∷◌, ◌++◌, Result, Ok, Err, refl, sym, ◌∙◌, ap, subst, nat_lt}
 use Rattle.std.specs.Str.{is_utf8}
 use Rattle.std.proofs.lemmas.Str.{is_utf8-from_IsUtf8}

@@ -1,4 +1,4 @@
--- A profile reads each byte as one that has its features and more, or lacks what the byte begins.
+-- A profile reads each byte as a profile that extends it does, unless it lacks the thing that the byte begins.
 use Rattle.std.proofs.Common.{◌≡◌, ◌⊎◌, ℕ, zero, suc, ◌+◌, ◌≤◌, List, [], ◌∷◌, Option, Some, None as Nothing, Result, Ok, Err, Bool, true, false, refl, sym, ◌∙◌, ap, subst, inl, inr, arith, length-append, nat_eq, nat_lt, cond}
 use Rattle.std.proofs.lemmas.Bool.{cond_both, cond-true}
 use Rattle.std.specs.Prelude.{slice_get}

@@ -1,4 +1,5 @@
--- BodyEnd is given where the bytes of a code entry's size are used up and the entry goes on, or where it is over and bytes are left.
+-- BodyEnd is given if the size of a code entry is used up and the entry is incomplete, or if the entry is complete and
+-- bytes are left.
 use Rattle.std.proofs.Common.{◌≡◌, ◌≢◌, ℕ, zero, suc, ◌+◌, ◌<◌, ◌^◌, ◌⊎◌, inl, inr, List, [], ◌∷◌, ◌++◌, Option, Some, None, Result, Ok, Err, length, refl, sym, ◌∙◌, ap, subst, arith, nat_eq, nat_lt, nat_le, append_assoc, append-nil, length-append}
 use Rattle.std.proofs.lemmas.Bool.{cond_both}
 use Rattle.std.specs.Prelude.{slice_index}

@@ -1,4 +1,4 @@
--- What may still come of a custom section, and that each byte goes on with it.
+-- The possible rest of a custom section, and how each byte continues it.
 use Rattle.std.proofs.Common.{ℕ, zero, suc, ◌<◌, ◌^◌, List, [], ◌∷◌, ◌++◌, Option, None}
 use Rattle.std.proofs.lemmas.Bool.{cond_both}
 use Rattle.std.specs.Str.{is_utf8}

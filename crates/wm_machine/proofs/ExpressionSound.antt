@@ -1,4 +1,4 @@
--- Which states a reader of an expression can be in, that something may still come in each, and where it gives the name
+-- The possible states of the reader of an expression: something may still come in each. Also, where it gives the name
 -- Float.
 use Rattle.std.proofs.Common.{◌≡◌, ◌⊎◌, inl, inr, subst, ℕ, zero, suc, ◌+◌, ◌-◌, ◌<◌, ◌≤◌, ◌^◌, List, [], ◌∷◌, ◌++◌, Some, None, refl, ap, arith, nat_lt}
 use Rattle.std.specs.List.{AllByRecursion}

@@ -1,5 +1,5 @@
--- How a shape goes on after its first byte. What holds only where all is demanded has `demanded` as a premise, so
--- that each law serves the strict grammar whole and of the loose one the way back.
+-- How a marked form continues after its first byte. A law that holds under `strict` only has `demanded` as a premise.
+-- Each law then serves the strict grammar in both directions, and the loose grammar on the way back.
 use Rattle.std.proofs.Common.{◌≡◌, ℕ, List, [], ◌∷◌, ◌++◌, Option, refl, sym, ◌∙◌, ap, subst, append_assoc}
 use Rattle.wm_machine.specs.Items.{Item, Mark, Marks}
 use Rattle.wm_machine.specs.MarkedForms.{MarkedForm, Empty, MarkedByte, Then, outside_mark}

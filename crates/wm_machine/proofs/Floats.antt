@@ -1,4 +1,4 @@
--- The name Float is given for a byte of floating-point numbers only.
+-- The name Float is given only for a byte that satisfies `IsFloatByte`.
 use Rattle.std.proofs.Common.{◌≡◌, ℕ, zero, suc, ◌+◌, ◌≤◌, List, [], ◌∷◌, ◌++◌, Option, Some, None, Result, Ok, Err, length, refl, sym, ◌∙◌, ap, subst, inl, inr, arith, append_assoc, nat_eq, nat_lt, get_or}
 use Rattle.std.proofs.lemmas.Bool.{cond_both}
 use Rattle.std.specs.Str.{is_utf8}

@@ -1,4 +1,4 @@
--- What the names of the format say of the bytes up to the place of a refusal.
+-- The meaning of the names of the format, for the bytes up to the offset of a refusal.
 use Rattle.std.proofs.Common.{◌≡◌, ◌≢◌, ℕ, zero, suc, ◌+◌, ◌<◌, ◌≤◌, ◌^◌, ◌⊎◌, inl, inr, List, [], ◌∷◌, ◌++◌, Option, Some, None, Result, Ok, Err, true, false, length, take, refl, sym, ◌∙◌, ap, subst, arith, append_assoc, append-nil, length-append, nat_eq, nat_lt, nat_le}
 use Rattle.std.proofs.lemmas.Bool.{cases_lt, cond_both, ltb-true, ltb-false, leb-true, eqb-false}
 use Rattle.std.specs.Prelude.{slice_index}

@@ -1,4 +1,4 @@
--- Bytes that were not refused are those of some module, sizes, names and the number of code entries aside.
+-- Bytes that were not refused are the front of some module under `loose`.
 use Rattle.std.proofs.Common.{◌≡◌, ℕ, zero, suc, ◌-◌, List, [], ◌∷◌, ◌++◌, Option, Some, None, length, refl, sym, ◌∙◌, ap, inl, inr, arith, drop}
 use Rattle.std.proofs.lemmas.Bool.{cond_both}
 use Rattle.std.specs.Str.{is_utf8}

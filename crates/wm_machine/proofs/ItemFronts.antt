@@ -1,4 +1,4 @@
--- The byte that completes an item makes a front with the bytes before it, although a size may refuse it.
+-- The bytes up to one that completes an item are a front, even if this byte is refused for a size.
 use Rattle.std.proofs.Common.{◌≡◌, ℕ, zero, suc, ◌<◌, ◌^◌, List, [], ◌∷◌, ◌++◌, Option, Some, None, Result, Ok, Err, refl, sym, ◌∙◌, ap, subst, arith, nat_eq, nat_lt, nat_le, append_assoc, length-append, true, false, cond, ◌+◌}
 use Rattle.std.proofs.lemmas.Bool.{cond_both}
 use Rattle.std.specs.Prelude.{slice_index}

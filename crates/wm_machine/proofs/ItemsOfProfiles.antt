@@ -1,4 +1,5 @@
--- What is spelled under a profile is what is spelled under one with more features, and has no item past the first.
+-- Bytes spell something under a profile if and only if they spell it under one with more features and the profile has
+-- each item.
 use Rattle.std.proofs.Common.{◌≡◌, ℕ, None, Some, List, [], ◌∷◌, ◌++◌, ◌↔◌, map, flat_map, inl, inr}
 use Rattle.std.specs.List.{AllByRecursion}
 use Rattle.wm_syntax.specs.declared.types.ValType.{ValType}

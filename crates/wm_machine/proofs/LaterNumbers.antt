@@ -1,4 +1,4 @@
--- A number that is read in one section and asked for in a later one.
+-- A number that is read in one section and required in a later one.
 use Rattle.std.proofs.Common.{◌≡◌, ℕ, List, Option}
 use Rattle.wm_machine.specs.Items.{Item, Mark}
 use Rattle.wm_machine.specs.MarkedForms.{MarkedForm, Then, Sized, Counted}

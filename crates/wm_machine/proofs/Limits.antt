@@ -1,4 +1,4 @@
--- A piece that passes the limit.
+-- A piece that exceeds the limit.
 use Rattle.std.proofs.Common.{◌≡◌, ℕ, ◌+◌, ◌<◌, ◌≤◌, List, [], ◌∷◌, ◌++◌, Result, Ok, Err, refl, ◌∙◌, ap, nat_lt, IsOk, arith}
 use Rattle.std.proofs.lemmas.Bool.{cond_both, ltb-true}
 use Rattle.wm_syntax.specs.declared.profile.Profile.{Profile}

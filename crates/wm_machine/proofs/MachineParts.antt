@@ -1,4 +1,4 @@
--- How a part of the machine goes on, whatever its states are: by what it reads next.
+-- How a part of the machine continues, whatever its states are: by the thing that it reads next.
 use Rattle.std.proofs.Common.{◌≡◌, ℕ, zero, suc, ◌<◌, ◌^◌, List, [], ◌∷◌, ◌++◌, Option, Some, None, refl, sym, ◌∙◌, ap, subst, nat_eq, cond, Result, Ok, Err}
 use Rattle.std.proofs.lemmas.Bool.{cond_both, eqb-true, eqb-false}
 use Rattle.std.specs.Str.{is_utf8}

@@ -1,4 +1,4 @@
--- Which states the machine can be in, and that each byte keeps to them.
+-- The possible states of the machine; each byte leads to one of them.
 use Rattle.std.proofs.Common.{◌≡◌, ℕ, zero, suc, ◌<◌, ◌≤◌, ◌^◌, List, [], ◌∷◌, ◌++◌, Option, Some, None, refl, arith, nat_eq, nat_lt, nat_le}
 use Rattle.std.proofs.lemmas.Bool.{cond_both, leb-false, ltb-true}
 use Rattle.std.specs.Str.{is_utf8}

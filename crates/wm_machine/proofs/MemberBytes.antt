@@ -1,4 +1,4 @@
--- What may still come of a member, and that each byte goes on with it.
+-- The possible rest of a member, and how each byte continues it.
 use Rattle.std.proofs.Common.{◌≡◌, ℕ, zero, suc, ◌<◌, ◌^◌, List, [], ◌∷◌, ◌++◌, Option, Some, None, length, refl, sym, ◌∙◌, ap, subst, arith, append-nil}
 use Rattle.wm_syntax.specs.exact.Reading.{fresh}
 use Rattle.wm_syntax.specs.Types.{SpellsLimits, SpellsTableType}

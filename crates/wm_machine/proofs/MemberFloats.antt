@@ -1,4 +1,4 @@
--- Within a member the name Float is given for a byte of floating-point numbers only, and Memory never.
+-- Within a member, the name Float is given only for a byte of floats, and Memory never.
 use Rattle.std.proofs.Common.{◌≡◌, ◌⊎◌, ℕ, zero, suc, Bool, true, false, Some, ap, subst, inl, inr, nat_eq, Result, Ok, Err}
 use Rattle.std.proofs.lemmas.Bool.{cond_both, eqb-true}
 use Rattle.wm_syntax.specs.declared.numbers.Step.{Step}

@@ -1,4 +1,4 @@
--- The places in a member that a decoder can be in: their numbers can still be ended, and open blocks counted.
+-- The possible states in a member: their numbers can still be completed, and their open blocks counted.
 use Rattle.std.proofs.Common.{ℕ, zero, suc, ◌<◌, ◌^◌, Bool, true, false, Some, arith, nat_eq, Result, Ok, Err}
 use Rattle.std.proofs.lemmas.Bool.{cond_both}
 use Rattle.wm_syntax.specs.declared.numbers.Step.{Step}

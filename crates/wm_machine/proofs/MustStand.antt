@@ -1,5 +1,5 @@
--- Where something must stand, each such thing has a value or a part that goes on from it, and each value or part begins with
--- one.
+-- Where something is required, each such thing has a value or a part that continues from it, and each value or part
+-- begins with one.
 use Rattle.std.proofs.Common.{◌≡◌, ℕ, length, ◌-◌, inl, inr, Bool, true, false, List, [], ◌∷◌, ◌++◌, Option, Some, None, refl, sym, ◌∙◌, ap, subst, append_assoc, append-nil}
 use Rattle.wm_syntax.specs.Spelling.{Form, Byte as OneByte}
 use Rattle.wm_syntax.specs.Types.{SpellsValType, SpellsLimits, SpellsBounds, SpellsVar}

@@ -1,4 +1,4 @@
--- What is UTF-8 consists of bytes.
+-- UTF-8 consists of bytes.
 use Rattle.std.proofs.Common.{◌≡◌, ℕ, ◌/◌, ◌<◌, ◌^◌, true, List, [], ◌∷◌, subst, inl, inr, arith, lt-ltb, le-ltb}
 use Rattle.std.proofs.lemmas.Bool.{cases_lt, and_parts}
 use Rattle.std.specs.Str.{IsUtf8}

@@ -1,4 +1,4 @@
--- How the bytes of a u32 go on, by the reader of numbers.
+-- How the bytes of a u32 continue, by the reader of numbers.
 use Rattle.std.proofs.Common.{◌≡◌, ℕ, ◌<◌, ◌^◌, ◌↔◌, List, [], ◌∷◌, arith}
 use Rattle.wm_syntax.specs.Types.{SpellsU32}
 use Rattle.wm_syntax.specs.declared.numbers.Step.{Step}

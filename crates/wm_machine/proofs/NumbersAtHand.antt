@@ -1,4 +1,4 @@
--- The number that a state is in, and that each rest of it can stand there.
+-- The number that is being read in a state; each rest of it can follow there.
 use Rattle.std.proofs.Common.{ℕ, suc, true, false, List, [], ◌∷◌, ◌++◌, Option, Some, None, ℤ, refl, sym, subst, arith, append-nil}
 use Rattle.wm_syntax.specs.declared.profile.Profile.{Profile}
 use Rattle.wm_syntax.specs.inner.Numbers.{Partial, UnsignedRest, SignedRest}

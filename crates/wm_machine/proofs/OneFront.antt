@@ -1,4 +1,4 @@
--- The bytes so far of an input have one reading: as long as the bytes of two inputs agree, so does what is said of them.
+-- The front of an input has one reading: as long as the bytes of two inputs agree, their marks agree.
 use Rattle.std.proofs.Common.{ℕ, zero, suc, ◌≡◌, ◌+◌, ◌-◌, ◌≤◌, ◌<◌, ◌^◌, ◌⊎◌, inl, inr, List, [], ◌∷◌, ◌++◌, Option, Some, None, length, refl, sym, ◌∙◌, ap, subst, append-nil, append_assoc, arith, nat_eq, true, false}
 use Rattle.std.proofs.lemmas.Bool.{eqb-true, eqb-false}
 use Rattle.wm_syntax.specs.declared.instructions.Op.{Op}

@@ -1,4 +1,4 @@
--- The flat value determines the module, and an input's marks say it.
+-- The flat value determines the module, and so do the items of an input.
 use Rattle.std.proofs.Common.{ℕ, ◌≡◌, List, [], ◌∷◌, ◌++◌, refl, sym, ◌∙◌, ap, subst}
 use Rattle.std.specs.List.{AllZip}
 use Rattle.std.proofs.lemmas.List.{append_cancel_right}

@@ -1,4 +1,4 @@
--- What an op is by its first byte, and what of it comes after that.
+-- The op that a first byte begins, and the rest of it.
 use Rattle.std.proofs.Common.{◌≡◌, IsTrue, ℕ, List, [], ◌∷◌, ◌++◌, Option, Some, refl, sym, ap, ◌∙◌, subst}
 use Rattle.std.specs.Prelude.{None as Nothing}
 use Rattle.wm_syntax.specs.declared.profile.Profile.{Profile}

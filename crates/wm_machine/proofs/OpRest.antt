@@ -1,4 +1,4 @@
--- What may still come of an op, and that each byte goes on with it.
+-- The possible rest of an op, and how each byte continues it.
 use Rattle.std.proofs.Common.{◌≡◌, IsTrue, ℕ, zero, suc, ◌<◌, ◌^◌, ◌↔◌, Result, Ok, Err, List, [], ◌∷◌, ◌++◌, Option, Some, ℤ, refl, sym, ap, ◌∙◌, subst, arith, nat_eq}
 use Rattle.std.specs.Prelude.{None as Nothing}
 use Rattle.std.proofs.lemmas.Bool.{cond_both, eqb-true, eqb-false}

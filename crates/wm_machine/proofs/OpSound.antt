@@ -1,4 +1,4 @@
--- Which states a reader of an op can be in, that something may still come in each, and where it gives the name Float.
+-- The possible states of the reader of an op: something may still come in each. Also, where it gives the name Float.
 use Rattle.std.proofs.Common.{◌≡◌, ℕ, zero, suc, Some, Result, Ok, Err, ap, ◌+◌, ◌-◌, ◌*◌, ◌<◌, ◌^◌, inl, inr, List, [], ◌∷◌, ℤ, pos, refl, subst, arith, nat_eq, nat_lt, nat_le, pow_pos}
 use Rattle.std.specs.Prelude.{None as Nothing}
 use Rattle.std.proofs.lemmas.Bool.{cond_both, eqb-true, ltb-true}

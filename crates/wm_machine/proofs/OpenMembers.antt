@@ -1,4 +1,4 @@
--- Something may still come at each place of a member, where sizes, names and counts are left open.
+-- Something may still come in each state of a member, under `loose`.
 use Rattle.std.proofs.Common.{◌≡◌, ℕ, zero, suc, ◌-◌, ◌<◌, ◌^◌, true, false, List, [], ◌∷◌, ◌++◌, Option, Some, None, length, refl, sym, subst, arith}
 use Rattle.wm_syntax.specs.inner.Numbers.{Partial}
 use Rattle.wm_syntax.specs.exact.Reading.{fresh}

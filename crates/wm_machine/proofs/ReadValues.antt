@@ -1,4 +1,4 @@
--- A shape and the values whose bytes it describes, with the items of each.
+-- A marked form and the values whose bytes it describes, with the items of each.
 use Rattle.std.proofs.Common.{ℕ, zero, suc, ◌≡◌, List, [], ◌∷◌, ◌++◌, Option, Some, None, length, flat_map, map, refl, sym, ◌∙◌, ap, subst, append-nil, IsUtf8}
 use Rattle.std.proofs.lemmas.List.Concat.{flat_map_single}
 use Rattle.wm_syntax.specs.Spelling.{Form, Each, ◌▸◌}

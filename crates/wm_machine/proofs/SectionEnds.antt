@@ -1,5 +1,5 @@
--- SectionEnd is given where the bytes of a section's size are used up and its contents go on, or where these are over and bytes are
--- left.
+-- SectionEnd is given if the size of a section is used up and its contents are incomplete, or if they are complete and
+-- bytes are left.
 use Rattle.std.proofs.Common.{◌≡◌, ◌≢◌, ℕ, zero, suc, ◌<◌, ◌^◌, ◌⊎◌, inl, inr, List, [], ◌∷◌, ◌++◌, Option, Some, None, true, length, refl, sym, ◌∙◌, ap, subst, arith, nat_eq, nat_lt, nat_le, append_assoc}
 use Rattle.std.proofs.lemmas.Bool.{cond_both}
 use Rattle.std.specs.Prelude.{slice_index}

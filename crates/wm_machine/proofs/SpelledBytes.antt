@@ -1,4 +1,4 @@
--- What is spelled consists of bytes.
+-- Everything that is spelled consists of bytes.
 use Rattle.std.proofs.Common.{ℕ, zero, suc, ◌<◌, ◌≤◌, ◌/◌, ◌%◌, ◌^◌, ℤ, List, [], ◌∷◌, Option, Some, None, length, sym, subst, arith, inl, inr, ◌-◌, Bool, true, false}
 use Rattle.std.proofs.lemmas.Option.{slice_get_within}
 use Rattle.wm_syntax.specs.declared.types.ValType.{ValType}

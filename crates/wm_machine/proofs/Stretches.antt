@@ -1,4 +1,4 @@
--- Bytes that all do the same: of a custom section, of a name, of data.
+-- Runs of bytes with the same effect: those of a custom section, of a name, of data.
 use Rattle.std.proofs.Common.{◌≡◌, ℕ, suc, ◌+◌, ◌-◌, ◌<◌, ◌≤◌, List, [], ◌∷◌, ◌++◌, Result, Ok, Err, Some, None, length, refl, sym, ◌∙◌, ap, arith, nat_lt, cond, drop, take, length-take, append-nil, append_assoc, map, slice_index}
 use Rattle.std.proofs.lemmas.Bool.{lt-ltb}
 use Rattle.std.proofs.lemmas.List.{take-append-drop, drop_more}

@@ -1,4 +1,4 @@
--- A sink that takes a list of items takes the parts of it one after the other, and a slice of data at once.
+-- A sink that takes a list of items takes its parts one after the other, and a slice of data in bulk.
 use Rattle.std.proofs.Common.{arith, ◌≡◌, ◌≢◌, ◌⊎◌, inl, inr, ℕ, List, [], ◌∷◌, ◌++◌, Result, Ok, Err, IfErr, IsOk, MatchResult, map, refl, sym, ◌∙◌, ap, ◌+◌, ◌<◌, length, take, slice_index}
 use Rattle.std.proofs.lemmas.List.{map-append, take_more}
 use Rattle.wm_syntax.specs.declared.why.Why.{Why}

@@ -1,4 +1,4 @@
--- Lists of those values for which something holds.
+-- Lists of values that satisfy a property.
 use Rattle.std.proofs.Common.{List, [], ◌∷◌, ℕ}
 use Rattle.std.specs.List.{AllByRecursion}
 use Rattle.wm_syntax.specs.Spelling.{Form, Each}

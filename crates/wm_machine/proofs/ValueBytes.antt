@@ -1,4 +1,4 @@
--- The readers of values: what may still come of a value, and that each byte goes on with it.
+-- The readers of values: the possible rest of a value, and how each byte continues it.
 use Rattle.std.proofs.Common.{◌≡◌, ℕ, zero, suc, ◌<◌, ◌^◌, ◌↔◌, Bool, true, false, List, [], ◌∷◌, ◌++◌, Option, Some, None, refl, sym, ◌∙◌, ap, subst, inl, inr, ◌⊎◌, append-nil, nat_eq, arith, Result, Ok, Err}
 use Rattle.std.proofs.lemmas.Bool.{cond_both, eqb-true, eqb-false}
 use Rattle.wm_syntax.specs.declared.numbers.Step.{Step}

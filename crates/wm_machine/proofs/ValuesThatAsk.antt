@@ -1,4 +1,4 @@
--- A value with an item at its last byte, and then what the value asks for.
+-- A value with an item at its last byte, and then the parts that depend on the value.
 use Rattle.std.proofs.Common.{◌≡◌, ℕ, ◌<◌, ◌^◌, ◌↔◌, List, [], ◌∷◌, ◌++◌, Option, Some, None, refl, sym, ◌∙◌, ap, subst}
 use Rattle.wm_syntax.specs.Spelling.{Form}
 use Rattle.wm_machine.specs.declared.step.reading.Reading.{Reading}

@@ -1,4 +1,4 @@
--- What may still come of a module, and that each byte goes on with it.
+-- The possible rest of a module, and how each byte continues it.
 use Rattle.std.proofs.Common.{◌≡◌, ℕ, zero, suc, ◌+◌, ◌-◌, ◌<◌, ◌≤◌, ◌^◌, ◌⊎◌, inl, inr, List, [], ◌∷◌, ◌++◌, Option, Some, None, refl, sym, ◌∙◌, ap, subst, arith, true, false, nat_eq, nat_lt, nat_le, cond, drop, get_or, add-one, drop-cons}
 use Rattle.std.proofs.lemmas.Bool.{cond_both, eqb-true, eqb-false, ltb-true, ltb-false, leb-true, leb-false}
 use Rattle.std.specs.Str.{is_utf8}

@@ -1,4 +1,4 @@
--- By BadOpcode, Float and BadByte a reader is refused where something must stand that does not begin with the byte.
+-- BadOpcode, Float and BadByte: the reader of a value refuses a byte that does not begin the required thing.
 use Rattle.std.proofs.Common.{◌≡◌, ℕ, zero, suc, ◌<◌, ◌^◌, inl, inr, Bool, true, false, List, [], ◌∷◌, ◌++◌, Option, Some, Result, Ok, Err, IsTrue, length, slice_get, get_or, refl, sym, ◌∙◌, ap, subst, arith, nat_eq}
 use Rattle.std.specs.Prelude.{None as Nothing}
 use Rattle.std.proofs.lemmas.Bool.{cond_both, eqb-true, eqb-false}

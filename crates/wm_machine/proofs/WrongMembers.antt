@@ -1,5 +1,4 @@
--- By BadOpcode, Float and BadByte a member, and the machine, is refused where something must stand that does not begin with the
--- byte.
+-- BadOpcode, Float and BadByte: a member, and the machine, refuses a byte that does not begin the required thing.
 use Rattle.std.proofs.Common.{◌≡◌, ℕ, zero, suc, ◌<◌, ◌≤◌, ◌^◌, List, [], ◌∷◌, ◌++◌, Some, None, Result, Ok, Err, length, refl, sym, ◌∙◌, ap, subst, arith, nat_eq, nat_lt, append_assoc}
 use Rattle.std.proofs.lemmas.Bool.{cond_both, eqb-false}
 use Rattle.std.specs.Prelude.{slice_index}

@@ -1,4 +1,4 @@
--- The bytes of code entries and those outside.
+-- The bytes inside and outside code entries.
 use Rattle.std.proofs.Common.{◌≡◌, ℕ, suc, ◌+◌, ◌≤◌, [], ◌∷◌, length, arith}
 use Rattle.wm_machine.specs.Items.{Zone, outside, name, entry, closing, Marks}
 use Rattle.wm_machine.specs.Fronts.{outside_bytes, inside_bytes, entry_more, entry_after, entry_bytes}

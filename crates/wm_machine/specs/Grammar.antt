@@ -105,7 +105,7 @@ ElementForm p = Then (Index element) (Then (Expression p const_op) (Vector (Inde
 abbrev pub Run : Profile → MarkedForm
 Run p = Leaf (SpellsRun p) (λ r. locals r.0 r.1)
 
--- a code entry: a size n, and in n bytes its runs of locals and an expression (Core spec 5.5.13)
+-- a code entry: a size n, and then its runs of locals and an expression, under `strict` in n bytes (Core spec 5.5.13)
 abbrev pub Code : Type 0 → Profile → MarkedForm
 Code demanded p =
     MarkedNumber (λ n. Some body)

@@ -105,10 +105,10 @@ pub data Wanted : Type 0 where
   a_kind : Wanted
   a_zero : Wanted
 
--- The bytes of a required thing. All bytes of an instruction of the profile, an `else` or an `end` (Core spec 5.4,
--- 5.4.6), or of a value type (5.3.1) or block type (5.3.2) of the profile. Otherwise one byte: the first of a function
--- type (5.3.3) or table type (5.3.6); the flag of limits (5.3.4) or of mutability (5.3.7); the kind of an import
--- (5.5.5) or an export (5.5.10); or the 00 that ends some instructions (5.4.1, 5.4.4).
+-- The bytes of a required thing. An instruction of the profile, an `else` or an `end` (Core spec 5.4, 5.4.6) has all
+-- its bytes here, as has a value type (5.3.1) or block type (5.3.2) of the profile. The others have one byte here: the
+-- first of a function type (5.3.3) or table type (5.3.6); the flag of limits (5.3.4) or of mutability (5.3.7); the
+-- kind of an import (5.5.5) or an export (5.5.10); the 00 that ends some instructions (5.4.1, 5.4.4).
 abbrev pub spelled : Profile → Wanted → Form ℕ
 spelled p an_instruction b =
     (o : Op) × (c : ℕ) × (first_byte o ≡ Some c) × IsOpOf p o × SpellsOp o b

@@ -42,7 +42,7 @@ abbrev pub and_then : {A B E : Type 0} → Result A E → (A → Result B E) →
 and_then (Ok x) f = f x
 and_then (Err e) f = Err e
 
--- the state after these items, one after another, or why the first of them is refused that is refused
+-- the state after these items, one after another, or the reason of the first refusal among them
 abbrev pub all_taken : {H : Type 0} → (H → Item → Result H Why) → H → List Item → Result H Why
 all_taken after h [] = Ok h
 all_taken after h (x ∷ xs) = and_then (after h x) (λ g. all_taken after g xs)

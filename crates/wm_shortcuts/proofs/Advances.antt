@@ -1,4 +1,4 @@
--- What shortcuts do is what the byte step does, one after another too.
+-- A fast path has the effect of the slow path; so have two, one after another.
 use Rattle.std.proofs.Common.{◌≡◌, ◌≢◌, ℕ, zero, suc, ◌+◌, ◌-◌, ◌<◌, ◌≤◌, List, [], Option, Some, None, Result, Ok, Err, MatchResult, IfErr, inl, inr, length, length-drop, length-take, map, drop, take, get_or, get_or-drop, get_or-take, slice_index, slice_range, refl, sym, ◌∙◌, ap, subst, arith}
 use Rattle.std.specs.Result.{result_err}
 use Rattle.std.proofs.Math.Seq.{take-length}

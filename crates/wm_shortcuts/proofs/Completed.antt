@@ -1,4 +1,4 @@
--- What bytes complete goes to a sink: at each exit of a shortcut it does what the byte step does.
+-- The items that bytes complete go to a sink: at each exit of a fast path this has the effect of the slow path.
 use Rattle.std.proofs.Common.{◌≡◌, ℕ, suc, ◌+◌, ◌-◌, ◌<◌, ◌≤◌, List, [], ◌∷◌, Option, Some, None, Result, Ok, Err, IfErr, inr, length, length-drop, drop, take, get_or, get_or-drop, slice_index, slice_range, refl, sym, ◌∙◌, ap, subst, arith}
 use Rattle.std.specs.Result.{result_err}
 use Rattle.std.proofs.lemmas.List.{drop-drop, take_rest}

@@ -1,4 +1,4 @@
--- The last `end` of an entry, after which its section goes on or may be over.
+-- The last `end` of an entry, after which its section continues or may end.
 use Rattle.std.proofs.Common.{◌≡◌, ℕ, ◌-◌, ◌<◌, List, [], Some, length, slice_index, refl, sym, ◌∙◌, ap}
 use Rattle.wm_syntax.specs.declared.profile.Profile.{Profile}
 use Rattle.wm_syntax.specs.declared.instructions.Op.TheVariants as op

@@ -1,4 +1,4 @@
--- Bytes of the header and of the frames of sections, one after another.
+-- Bytes of the header and of section headers, one after another.
 use Rattle.std.proofs.Common.{◌≡◌, ℕ, zero, suc, ◌+◌, ◌-◌, ◌<◌, ◌≤◌, List, [], Option, Some, None, Result, length, length-drop, drop, get_or-drop, slice_index, slice_range, refl, sym, ◌∙◌, ap, subst, arith}
 use Rattle.std.proofs.lemmas.List.{take_rest}
 use Rattle.wm_syntax.specs.declared.profile.Profile.{Profile}

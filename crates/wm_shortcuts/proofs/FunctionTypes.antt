@@ -1,4 +1,4 @@
--- A function type, taken at once, is what the byte step makes of it.
+-- The fast path for a function type has the effect of the slow path.
 use Rattle.std.proofs.Common.{◌≡◌, ℕ, zero, suc, ◌+◌, ◌-◌, ◌^◌, ◌<◌, ◌≤◌, List, [], ◌∷◌, Some, None, Ok, length, slice_index, refl, sym, ◌∙◌, ap, subst, arith}
 use Rattle.wm_syntax.specs.declared.profile.Profile.{Profile}
 use Rattle.wm_syntax.specs.declared.types.ValType.{ValType}

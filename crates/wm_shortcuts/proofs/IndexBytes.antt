@@ -1,4 +1,4 @@
--- Indices of one byte each, taken at once, are what the byte step makes of them.
+-- The fast path for indices of one byte each has the effect of the slow path.
 use Rattle.std.proofs.Common.{◌≡◌, ℕ, zero, suc, ◌+◌, ◌<◌, ◌≤◌, ◌^◌, List, [], ◌∷◌, Option, Some, None, Result, Ok, Err, Bool, true, false, length, length-take, map, min, take, get_or-take, slice_index, nat_lt, cond, refl, sym, ◌∙◌, ap, subst, arith}
 use Rattle.std.proofs.lemmas.Bool.{ltb-true}
 use Rattle.std.proofs.lemmas.List.{take-take}

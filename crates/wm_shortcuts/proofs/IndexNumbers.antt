@@ -1,4 +1,5 @@
--- An index of any length is taken as the byte step takes it: one after which another of its list comes, and the last.
+-- The fast path for an index of any length has the effect of the slow path, for the last of a list and for those
+-- before.
 use Rattle.std.proofs.Common.{◌≡◌, ℕ, suc, ◌+◌, ◌-◌, ◌<◌, ◌≤◌, List, [], Option, Some, None, slice_index, refl, sym, ◌∙◌, ap, subst, arith}
 use Rattle.wm_syntax.specs.declared.profile.Profile.{Profile}
 use Rattle.wm_syntax.specs.declared.numbers.Step.TheVariants as step

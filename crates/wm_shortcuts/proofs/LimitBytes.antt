@@ -1,4 +1,4 @@
--- A table or a memory, taken at once, is what the byte step makes of it.
+-- The fast path for a table or a memory has the effect of the slow path.
 use Rattle.std.proofs.Common.{◌≡◌, ℕ, ◌+◌, ◌-◌, ◌<◌, ◌≤◌, inl, inr, Bool, true, false, List, [], Some, None, length, slice_index, refl, sym, ap, subst, arith}
 use Rattle.wm_syntax.specs.declared.profile.Profile.{Profile}
 use Rattle.wm_syntax.specs.declared.types.Limits.{Limits}

@@ -1,4 +1,4 @@
--- An import and an export, taken at once, are what the byte step makes of them.
+-- The fast paths for imports and exports have the effect of the slow path.
 use Rattle.std.proofs.Common.{◌≡◌, ℕ, suc, ◌+◌, ◌-◌, ◌<◌, ◌≤◌, List, [], ◌∷◌, Some, None, length, slice_index, slice_range, refl, ◌∙◌, ap, arith}
 use Rattle.wm_syntax.specs.declared.profile.Profile.{Profile}
 use Rattle.wm_syntax.specs.declared.modules.ImportDesc.TheVariants as desc

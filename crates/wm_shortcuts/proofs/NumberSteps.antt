@@ -1,4 +1,4 @@
--- A number that lies whole in the piece, stepped byte by byte in a member, is that number.
+-- A number that lies whole in the piece, read one byte at a time in a member, is that number.
 use Rattle.std.proofs.Common.{◌≡◌, ℕ, zero, suc, ◌+◌, ◌-◌, ◌<◌, ◌≤◌, List, ◌∷◌, Option, None, length, drop, take, slice_index, slice_range, refl, sym, ◌∙◌, ap, subst, arith}
 use Rattle.std.proofs.lemmas.List.{drop_more}
 use Rattle.wm_syntax.specs.declared.numbers.Step.{Step}

@@ -1,4 +1,4 @@
--- A byte that goes by a shorter way does what the byte step says.
+-- The fast path for one byte has the effect of the slow path.
 use Rattle.std.proofs.Common.{◌≡◌, ℕ, zero, suc, ◌+◌, ◌-◌, ◌<◌, inl, Option, Some, None, List, Result, Err, length, refl, sym, ◌∙◌, ap, subst, drop, slice_index, cond, arith}
 use Rattle.std.proofs.lemmas.Bool.{lt-ltb}
 use Rattle.std.proofs.lemmas.List.{drop_more}

@@ -1,4 +1,4 @@
--- Members that hold a constant expression, taken at once, are what the byte step makes of them.
+-- The fast paths for members with a constant expression have the effect of the slow path.
 use Rattle.std.proofs.Common.{◌≡◌, ℕ, ◌+◌, ◌-◌, ◌<◌, ◌≤◌, List, [], ◌∷◌, Option, Some, None, Ok, length, slice_index, refl, ◌∙◌, ap, arith}
 use Rattle.wm_syntax.specs.declared.profile.Profile.{Profile}
 use Rattle.wm_syntax.specs.declared.types.ValType.{ValType}

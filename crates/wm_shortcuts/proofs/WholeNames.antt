@@ -1,4 +1,4 @@
--- A name whose bytes lie in the piece, stepped one by one, is given to the sink as those bytes.
+-- A name whose bytes lie in the piece, read one at a time, is passed to the sink as those bytes.
 use Rattle.std.proofs.Common.{◌≡◌, ℕ, suc, ◌+◌, ◌-◌, ◌^◌, ◌<◌, ◌≤◌, List, [], ◌∷◌, ◌++◌, Result, Ok, length, length-drop, drop, take, get_or, get_or-drop, slice_index, refl, sym, ◌∙◌, ap, arith}
 use Rattle.std.proofs.lemmas.List.{drop-drop, take_more}
 use Rattle.wm_syntax.specs.declared.profile.Profile.{Profile}

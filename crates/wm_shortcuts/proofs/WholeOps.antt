@@ -1,4 +1,4 @@
--- Whole ops, in a constant expression or a body, are given as those ops.
+-- Whole ops, in a constant expression or a body, are passed to the sink as those ops.
 use Rattle.std.proofs.Common.{◌≡◌, ℕ, zero, suc, ◌+◌, ◌-◌, ◌<◌, ◌≤◌, List, [], Option, Some, None, Result, Err, length, min, take, drop, slice_index, slice_range, refl, ◌∙◌, ap, subst, arith}
 use Rattle.wm_syntax.specs.declared.profile.Profile.{Profile}
 use Rattle.wm_syntax.specs.declared.why.Why.{Why}

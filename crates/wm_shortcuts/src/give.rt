@@ -47,7 +47,8 @@ pub(crate) fn give_name<S: Sink>(sink: &mut S, kind: NameKind, name: &[u8]) -> R
     }
 }
 
-// Passes the name that begins in the buffer and ends with this part of the piece
+/// Passes the name that begins in the buffer and ends with this part of the piece, then clears the buffer. Fails with
+/// `BadUtf8`, with `Memory` if the buffer cannot grow, or as the sink does.
 pub fn end_name<S: Sink>(
     sink: &mut S,
     buffer: &mut Vec<u8>,
@@ -70,7 +71,7 @@ pub fn end_name<S: Sink>(
     }
 }
 
-// Passes an empty name
+/// Passes an empty name.
 pub fn give_empty<S: Sink>(sink: &mut S, kind: NameKind) -> Result<(), Why>
     ensures given { Taken (effect_of_maybe S.after (name_item kind []) (S.held sink.old)) result
         (S.held sink.new) }
@@ -85,7 +86,7 @@ pub fn give_empty<S: Sink>(sink: &mut S, kind: NameKind) -> Result<(), Why>
     }
 }
 
-// Passes an item without bytes
+/// Passes an item without bytes.
 pub fn give_plain<S: Sink>(sink: &mut S, part: Plain) -> Result<(), Why>
     ensures given { Taken (S.after (S.held sink.old) (plain_item part)) result (S.held sink.new) }
     ensures room { IfErr result (λ w. w ≡ Memory → S.may_run_out (S.held sink.old) (plain_item part)) }
@@ -235,7 +236,7 @@ pub(crate) fn give_short_index<S: Sink>(
     }
 }
 
-// Passes one byte of a data segment
+/// Passes one byte of a data segment.
 #[inline(always)]
 pub fn give_data<S: Sink>(sink: &mut S, byte: &[u8]) -> Result<(), Why>
     requires { length byte.now ≡ 1 }

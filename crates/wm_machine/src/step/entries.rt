@@ -20,6 +20,7 @@ fn no_entry(why: Why) -> (InEntry, Event)
     (InEntry::Failed(why), Event::Nothing)
 }
 
+/// Returns the state with `left` runs of locals to come: before the next one, or before the body.
 pub fn runs_or_body(left: u32) -> InEntry
     ensures { result ≡ runs_or_body left }
 {
@@ -102,6 +103,7 @@ pub fn entry_framed(left: u32, at: InEntry) -> InMember
     }
 }
 
+/// Takes a byte of the size of a code entry. Fails with `BadNumber`, or with `BodyEnd` if the size is 0.
 pub fn entry_size(mut number: Num32, byte: u8) -> (InMember, Event)
     ensures { result ≡ entry_size_step number byte }
 {
@@ -115,6 +117,7 @@ pub fn entry_size(mut number: Num32, byte: u8) -> (InMember, Event)
     }
 }
 
+/// Takes a byte of a code entry, with `more` bytes of the entry after it.
 pub fn entry(profile: Profile, more: u32, at: InEntry, byte: u8) -> (InMember, Event)
     ensures { result ≡ member_of_entry profile more at byte }
 {

@@ -27,6 +27,7 @@ pub enum Opening {
 }
 
 impl Opening {
+    /// Returns the op with this block type.
     #[inline(always)]
     pub fn op(self, ty: Option<ValType>) -> Op
         ensures { result ≡ block_op self ty }
@@ -54,6 +55,7 @@ pub enum Indexed {
 }
 
 impl Indexed {
+    /// Returns the op with this immediate.
     #[inline(always)]
     pub fn op(self, index: u32) -> Op
         ensures { result ≡ index_op self index }
@@ -80,6 +82,7 @@ pub enum Sizing {
 }
 
 impl Sizing {
+    /// Returns the op.
     #[inline(always)]
     pub fn op(self) -> Op
         ensures { result ≡ memory_op self }
@@ -99,6 +102,7 @@ pub enum LoadOrStore {
 }
 
 impl LoadOrStore {
+    /// Returns the op with this alignment and offset.
     #[inline(always)]
     pub fn op(self, at: MemArg) -> Op
         ensures { result ≡ access_op self at }

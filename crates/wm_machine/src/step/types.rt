@@ -11,6 +11,7 @@ use wm_syntax::numbers::{Num32, Step};
 use wm_syntax::profile::Profile;
 use wm_syntax::why::Why;
 
+/// Takes the byte 60 that begins a function type. Fails with `BadByte`.
 pub fn type_form(byte: u8) -> (InMember, Event)
     ensures { result ≡ type_form_step byte }
 {
@@ -25,6 +26,7 @@ pub fn type_form(byte: u8) -> (InMember, Event)
     }
 }
 
+/// Returns the state with `left` parameters to come: before the next one, or before the result count.
 pub fn after_param(left: u32) -> InMember
     ensures { result ≡ after_param left }
 {
@@ -35,6 +37,7 @@ pub fn after_param(left: u32) -> InMember
     }
 }
 
+/// Takes a byte of the parameter count. Fails with `BadNumber`.
 pub fn param_count(mut number: Num32, byte: u8) -> (InMember, Event)
     ensures { result ≡ param_count_step number byte }
 {
@@ -45,6 +48,7 @@ pub fn param_count(mut number: Num32, byte: u8) -> (InMember, Event)
     }
 }
 
+/// Takes a parameter, with `more` after it. Fails as `value_type` does.
 pub fn param(profile: Profile, more: u32, byte: u8) -> (InMember, Event)
     ensures { result ≡ param_step profile more byte }
 {
@@ -64,6 +68,7 @@ fn after_result(left: u32) -> InMember
     }
 }
 
+/// Takes a byte of the result count. Fails with `BadNumber`.
 pub fn result_count(mut number: Num32, byte: u8) -> (InMember, Event)
     ensures { result ≡ result_count_step number byte }
 {
@@ -74,6 +79,7 @@ pub fn result_count(mut number: Num32, byte: u8) -> (InMember, Event)
     }
 }
 
+/// Takes a result, with `more` after it. Fails as `value_type` does.
 pub fn result_type(profile: Profile, more: u32, byte: u8) -> (InMember, Event)
     ensures { result ≡ result_step profile more byte }
 {

@@ -124,6 +124,7 @@ pub enum InGlobalType {
     Var(ValType),
 }
 
+/// Takes a byte of a global type. Fails as `value_type` does, or with `BadByte` for its mutability.
 pub fn global_type_byte(
     profile: Profile,
     at: InGlobalType,
@@ -269,6 +270,7 @@ fn run_count(mut number: Num32, byte: u8) -> Reading<InRun, (u32, ValType)>
     }
 }
 
+/// Takes a byte of a run of locals. Fails with `BadNumber`, or as `value_type` does.
 pub fn run_byte(profile: Profile, at: InRun, byte: u8) -> Reading<InRun, (u32, ValType)>
     ensures { result ≡ run_push profile at byte }
 {
@@ -330,6 +332,7 @@ fn export_part(reading: Reading<InExportDesc, (ExportKind, u32)>) -> Reading<InV
     }
 }
 
+/// Takes a byte of such a value. Fails with `BadByte`, `BadNumber` or `Float`.
 pub fn value_byte(profile: Profile, at: InValue, byte: u8) -> Reading<InValue, Plain>
     ensures { result ≡ value_push profile at byte }
 {

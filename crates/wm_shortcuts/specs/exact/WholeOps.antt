@@ -83,7 +83,8 @@ HasAccess byte a = (slice_get classes byte ≡ Some (access_class a)) × (class_
 abbrev pub first_read : Profile → ℕ → Reading InOp Op
 first_read p c = first_step (class_row p c)
 
--- an op of every profile lies in the list from `start` up to `next`; before it `depth` blocks are open, after it `inside`
+-- an op of every profile lies in the list from `start` up to `next`; before it `depth` blocks are open, after it
+-- `inside`
 pub record WholeOp (bytes : List ℕ) (start next depth inside : ℕ) (o : Op) : Type 0 where
   pub some : start < next
   pub within : next ≤ length bytes
