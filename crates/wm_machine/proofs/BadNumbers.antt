@@ -97,8 +97,8 @@ abbrev IsNew : Num → Type 0
 IsNew None = Unit {0}
 IsNew (Some q) = q.1 ≡ fresh
 
--- What a byte makes of a state. Outside a number it is refused by another name, or a number may begin. In one, it goes on with the
--- number, unless a size refuses it.
+-- The effect of a byte on a state. Outside a number, the byte is refused with another name, or a number may begin.
+-- Inside a number, it continues the number, unless a size refuses it.
 module _ {M : Type 0} (fail : Why → M) (num : M → Num) where
   abbrev IsCut : M → Type 0
   IsCut x = (w : Why) × (x ≡ fail w) × (w ≢ why.BadNumber)

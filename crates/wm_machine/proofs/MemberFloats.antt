@@ -72,7 +72,7 @@ IsOutside (at.EntrySize r) = ⊥
 IsOutside (at.Entry more q) = ⊥
 IsOutside q = Unit {0}
 
--- Of two names, neither of which the machine gives whatever the byte: the one for such bytes only, the other never.
+-- Two names that the machine does not give for just any byte: the one is for float bytes only, the other never comes.
 module _ (refusal : Why) (Fault : ℕ → Type 0) (other : (w : Why) → IsOther w → w ≡ refusal → ⊥) (float : (c : ℕ) → why.Float ≡ refusal → IsFloatByte c → Fault c) (c : ℕ) where
   same_bad : {R X : Type 0} (v w : Why) → ◌≡◌ {A = Reading R X} (Bad v) (Bad w) → v ≡ w
   same_bad v w e = cc

@@ -20,7 +20,7 @@ use Rattle.wm_machine.proofs.Nesting.{spells_more}
 use Rattle.wm_syntax.specs.Modules.{locals_of}
 use Rattle.wm_machine.proofs.OneModule.{constants_same}
 
--- Of the first form's bytes and the second's, whatever follows: they are the same, and then D holds.
+-- The bytes of the first form and of the second are equal, whatever follows them, and then D holds.
 abbrev pub Same : Form ℕ → Form ℕ → Type 0 → Type 0
 Same P Q D = (a b u v : List ℕ) → P a → Q b → a ++ u ≡ b ++ v → (a ≡ b) × D
 
@@ -221,13 +221,14 @@ section_begins id b h = (h.1, h.2 ∙ ap (λ y. y ++ h.1) h.3)
 section_same : {P Q : Form ℕ} (id : ℕ) → Same (Section id P) (Section id Q) ((c : List ℕ) × P c × Q c)
 section_same id = same_as (λ d. d.1) (then_same (byte_same id id) (λ e. sized_same))
 
--- Of a section: what spells it is empty or begins with its id, and of two values that it spells E holds.
+-- A section: its bytes are none or begin with its id, and E holds for two values that the same bytes spell.
 record IsSection {X : Type 0} (id : ℕ) (S : X → Form ℕ) (E : X → X → Type 0) : Type 0 where
   begins : (x : X) (b : List ℕ) → S x b → (b ≡ []) ⊎ BeginsWith id b
   missing : (x y : X) → S x [] → S y [] → E x y
   same : (x y : X) → Same (λ b. S x b × BeginsWith id b) (λ b. S y b × BeginsWith id b) (E x y)
 
--- Of sections from this id on, in order, with custom sections: the same, and a custom section at the front may be left out.
+-- Sections from this id on, in order, with custom sections: as `IsSection`, and a custom section at the front may be
+-- left out.
 record AreSections {X : Type 0} (id : ℕ) (T : X → Form ℕ) (E : X → X → Type 0) : Type 0 where
   begins : (x : X) (b : List ℕ) → T x b → (b ≡ []) ⊎ ((c : ℕ) × BeginsWith c b × ((c ≡ 0) ⊎ (id ≤ c)))
   left_out : (x : X) (c : Custom) (a b : List ℕ) → SpellsCustom c a → T x (a ++ b) → T x b

@@ -7,8 +7,7 @@ use Rattle.wm_syntax.specs.declared.instructions.Op.{Op}
 use Rattle.wm_syntax.specs.declared.modules.ImportDesc.{ImportDesc}
 use Rattle.wm_syntax.specs.declared.modules.ExportKind.{ExportKind}
 
--- An item of a module as a value: it has the bytes of a name, not their address. Each byte of a data segment is an
--- item.
+-- An item of a module as a value: it has the bytes of a name, not their address. Each data byte is an item.
 pub data Item : Type 0 where
   new_type : Item
   param : ValType → Item

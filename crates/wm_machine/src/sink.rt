@@ -21,8 +21,7 @@ pub trait Sink: Drop {
     // whether memory may run out at this item: only then may the sink refuse it as `Memory`
     ghost may_run_out: { Held → AnItem → Type 0 };
 
-    /// Takes one item, or returns why the sink refuses it. A slice of data bytes has the effect of its bytes one at a
-    /// time.
+    /// Takes one item, or returns why the sink refuses it. A slice of data bytes counts as its bytes one at a time.
     fn take(&mut self, item: Item) -> Result<(), Why>
         ensures took { Took after (held self.old) (items_for item.entry) result (held self.new) }
         ensures room { RunsOut may_run_out (held self.old) (items_for item.entry) result };

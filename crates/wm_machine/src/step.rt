@@ -1,5 +1,4 @@
-//! The slow path, one byte at a time: the header, section headers, custom sections, and the sizes and counts around
-//! members.
+//! The slow path, one byte at a time: the header, section headers, custom sections, and sizes and counts of sections.
 
 ghost use Rattle.std.specs.Prelude.{◌≡◌};
 ghost use Rattle.wm_machine.specs.exact.Steps.{custom_length_step, custom_name_step, custom_step};

@@ -76,8 +76,7 @@ impl InParams {
     }
 }
 
-/// The result of passing parameters: their number of bytes, how many are to come, and why the last was refused, if it
-/// was.
+/// The result of passing parameters: their number of bytes, those to come, and why the last was refused, if it was.
 #[derive(Clone, Copy)]
 struct GivenParams {
     used: usize,

@@ -176,8 +176,7 @@ pub(crate) fn give_part<S: Sink>(sink: &mut S, part: Option<Plain>) -> Result<()
     }
 }
 
-// Each item of an entry's head, and its last `end`, has its own function: one for all items would get the item in
-// memory.
+// Each item of an entry's head, and its last `end`, has its own function. One for all would get the item in memory.
 
 #[inline(never)]
 pub(crate) fn give_body<S: Sink>(sink: &mut S) -> Result<(), Why>

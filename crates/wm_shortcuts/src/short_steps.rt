@@ -14,8 +14,7 @@ use wm_machine::step::values::{InRun, value_type};
 use wm_syntax::numbers::{Num32, Step};
 use wm_syntax::profile::Profile;
 
-/// The state after a byte: how many members come after this one, the state inside the member, and the item that the
-/// byte completed.
+/// The state after a byte: the members after this one, the state inside the member, and the item that was completed.
 #[derive(Clone, Copy)]
 pub(crate) struct Stepped {
     pub(crate) left: u32,

@@ -58,8 +58,7 @@ impl Shortcut {
         }
     }
 
-    /// The result after `used` bytes, the last of which completed an item. It is refused if the sink or the machine
-    /// refused.
+    /// The result after `used` bytes, the last of which completed an item: the sink or the machine may have refused.
     #[inline(always)]
     pub(crate) fn ended(used: usize, given: Result<(), Why>, machine: &Machine) -> Shortcut
         ensures used { result.used ≡ used }

@@ -1,5 +1,4 @@
--- Exact answers of the machine over a list of bytes. The state is the machine, and the bytes so far of an unfinished
--- name.
+-- Exact answers of the machine over a list of bytes. The state is the machine, and the bytes of an unfinished name.
 use Rattle.std.specs.Prelude.{ℕ, zero, suc, List, [], ◌∷◌, ◌++◌, Option, Some, None, if◌then◌else◌}
 use Rattle.std.specs.Str.{is_utf8}
 use Rattle.wm_syntax.specs.declared.why.Why.{Why}

@@ -1,5 +1,4 @@
--- Exact answers of the slow path: the header, section headers, custom sections, and the sizes and counts around
--- members.
+-- Exact answers of the slow path: the header, section headers, custom sections, and sizes and counts of sections.
 use Rattle.std.specs.Prelude.{ℕ, zero, suc, ◌+◌, ◌==◌, nat_lt, nat_le, if◌then◌else◌, slice_index, Option}
 use Rattle.std.specs.Prelude.{Some, None}
 use Rattle.wm_syntax.specs.declared.numbers.Step.{Step}

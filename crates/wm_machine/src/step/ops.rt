@@ -134,8 +134,7 @@ pub enum InOp {
     Memory(Sizing),
     Const32(Int32),
     Const64(Int64),
-    /// Inside a float; `left` bytes of it follow the next byte. The bytes so far are in the highest positions of
-    /// `bits`.
+    /// Inside a float; `left` bytes of it follow the next byte. The bytes so far are the highest of `bits`.
     Float32 {
         left: u8,
         bits: u32,

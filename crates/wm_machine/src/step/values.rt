@@ -1,5 +1,4 @@
-//! Readers of values, one byte at a time: limits, table and global types, import and export descriptors, runs of
-//! locals.
+//! Readers of values, one byte at a time: limits, types of tables and globals, import and export descriptors, runs.
 
 ghost use Rattle.std.specs.Prelude.{◌≡◌};
 ghost use Rattle.wm_machine.specs.exact.ValueSteps.{limits_push, min_step, max_step, table_type_push};
