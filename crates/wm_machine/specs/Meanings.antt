@@ -316,7 +316,7 @@ MeansOfFormat p limit used rest why.BodyEnd = OtherBodySize p used
 MeansOfFormat p limit used rest why.BadNumber = WrongNumber p used
 MeansOfFormat p limit used rest w = Unit {0}
 
--- A refusal of an input: its offset is within the input, and `Says` holds for the bytes up to it, the rest, and its name.
+-- A refusal of an input: its offset is within the input. `Says` holds for the bytes up to it, the rest, and its name.
 pub record Meant (Says : List ℕ → List ℕ → Why → Type 0) (input : List ℕ) (r : Refusal) : Type 0 where
   pub used : List ℕ
   pub rest : List ℕ

@@ -53,7 +53,7 @@ enum Took {
 pub(crate) struct Ran {
     /// The number of bytes of the ops that the sink took, and of the one that it refused.
     pub(crate) used: u32,
-    /// How many blocks are open after them.
+    /// How many blocks are open after the ops that the sink took.
     pub(crate) depth: u32,
     pub(crate) refused: Option<Why>,
 }
