@@ -1,4 +1,4 @@
--- What a checker holds of a module so far.
+-- The state of a checker in the middle of a module.
 use Rattle.std.specs.Prelude.{ℕ, Bool, List, Option}
 use Rattle.wm_syntax.specs.declared.types.GlobalType.{GlobalType}
 use Rattle.wm_syntax.specs.Types.{Signature}
@@ -6,7 +6,8 @@ use Rattle.wm_typing.specs.declared.stats.BodyStats.{BodyStats}
 use Rattle.wm_typing.specs.Bodies.{Body}
 use Rattle.wm_rules.specs.declared.constants.Constant.{Constant}
 
--- In functions and globals the imported ones come first. A body is one for which a code entry came.
+-- The index spaces so far. Imported functions and globals come first. `functions` has the type index of each
+-- function, and `bodies` is the number of code entries. Core spec 2.5.1.
 pub record IndexSpaces : Type 0 where
   pub types : List Signature
   pub functions : List ℕ
@@ -17,8 +18,9 @@ pub record IndexSpaces : Type 0 where
   pub has_table : Bool
   pub has_memory : Bool
 
--- The index spaces; the export names, in the order of their bytes; the constant expression at hand; the body
--- at hand, or the last one; the greatest counts of the bodies that have ended.
+-- The state of a checker. `names` has the export names, in the order of their bytes. `constant` is the constant
+-- expression at hand. `body` is the body at hand, or the last one. `most` has the greatest figures of the
+-- bodies that have ended.
 pub record Held : Type 0 where
   pub spaces : IndexSpaces
   pub names : List (List ℕ)

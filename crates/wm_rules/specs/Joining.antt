@@ -1,8 +1,8 @@
--- The bytes of an input that comes in pieces.
+-- The bytes of an input that comes in pieces (input chunks).
 use Rattle.std.specs.Prelude.{ℕ, List, [], ◌∷◌, ◌++◌}
 use Rattle.std.specs.Borrow.{Bor}
 
--- of all pieces, in order
+-- The bytes of all pieces, in order.
 abbrev pub joined_bytes : List (Bor (List ℕ)) → List ℕ
 joined_bytes [] = []
 joined_bytes (piece ∷ pieces) = piece.now ++ joined_bytes pieces

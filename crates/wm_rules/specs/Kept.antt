@@ -1,4 +1,4 @@
--- How much a checker keeps, as the sum of the lengths of its lists.
+-- The number of entries that a checker retains: the sum of the lengths of its lists.
 use Rattle.std.specs.Prelude.{ℕ, ◌+◌, ◌-◌, ◌^◌, List, length, min, sum_by}
 use Rattle.wm_syntax.specs.declared.modules.ImportDesc.TheVariants.{Func, Global}
 use Rattle.wm_syntax.specs.Types.{Signature}
@@ -7,31 +7,31 @@ use Rattle.wm_machine.specs.Items.{Item, new_type, param, one_result, import_des
 use Rattle.wm_machine.specs.Items.{export_name}
 use Rattle.wm_rules.specs.Holding.{IndexSpaces, Held}
 
--- parameters and results
+-- The number of parameters and results of a function type.
 abbrev pub width : Signature → ℕ
 width f = length f.params + length f.results
 
--- types with their parameters and results, functions and globals, imported ones too
+-- The number of types with their parameters and results, functions and globals. Imported ones are included.
 abbrev pub entries_in : IndexSpaces → ℕ
 entries_in s = sum_by width s.types + length s.types + length s.functions + length s.globals
 
--- names with their bytes
+-- The number of names plus the number of their bytes.
 abbrev pub name_entries : List (List ℕ) → ℕ
 name_entries names = length names + sum_by length names
 
--- what a checker keeps of the items that were taken, but for those of a body
+-- The number of entries that a checker retains outside function bodies.
 abbrev pub list_entries : Held → ℕ
 list_entries h = entries_in h.spaces + name_entries h.names
 
--- all that it keeps: of the body at hand also its runs of locals, its operands and its frames
+-- The number of all entries: also the runs of locals, the operands and the frames of the body at hand.
 abbrev pub entries_of : Held → ℕ
 entries_of h = list_entries h + body_entries h.body
 
--- as much of a number as 64 bits can say
+-- The number, or 2^64 - 1 if it is greater.
 abbrev pub capped_count : ℕ → ℕ
 capped_count n = min n (2 ^ 64 - 1)
 
--- how many entries an item adds, but for those of a body
+-- The number of entries that an item adds outside function bodies.
 abbrev pub item_weight : Item → ℕ
 item_weight new_type = 1
 item_weight (param t) = 1

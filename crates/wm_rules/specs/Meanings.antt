@@ -1,6 +1,5 @@
--- What the name of a refusal says of the bytes up to its place, where a rule was broken or a limit of the
--- policy was passed: of the items that are complete in them. The names of the format say what they say of any
--- sink.
+-- The meaning of each name of a refusal, for the bytes up to the offset. Names of rules and of a policy speak
+-- of the items that are complete in these bytes. Names of the format mean the same for any sink.
 use Rattle.std.specs.Prelude.{◌≡◌, ◌≢◌, ℕ, ◌+◌, ◌-◌, ◌^◌, ◌<◌, ◌≤◌, Bool, true, false, List, [], ◌∷◌, ◌++◌}
 use Rattle.std.specs.Prelude.{None}
 use Rattle.std.specs.Prelude.{◌⊎◌, Option, Some, length, map, option_to_list, slice_get}
@@ -37,7 +36,7 @@ use Rattle.wm_rules.specs.Holding.{IndexSpaces}
 use Rattle.wm_rules.specs.Policies.{AtMost, GoesPast}
 use Rattle.wm_rules.specs.Validation.{ValidMemory, ValidTable}
 
--- The index spaces of the module so far (section 2.5.1), as its items tell them: what each of them adds.
+-- The index spaces of the module so far, computed from its items. Core spec 2.5.1.
 abbrev pub no_spaces : IndexSpaces
 no_spaces = record {
   types = [];
@@ -81,7 +80,7 @@ with_items s (x ∷ xs) = with_items (with_item s x) xs
 abbrev pub so_far : List Item → IndexSpaces
 so_far items = with_items no_spaces items
 
--- the context (section 3.4.10) of the module so far
+-- The context of the module so far. Core spec 3.4.10.
 abbrev pub context_so_far : IndexSpaces → Context
 context_so_far s = context s.types s.functions s.globals s.has_table s.has_memory
 
@@ -89,14 +88,14 @@ abbrev pub one_where : Bool → ℕ
 one_where true = 1
 one_where false = 0
 
--- how many there are of a kind
+-- The number of items of a kind.
 abbrev pub how_many : ExportKind → IndexSpaces → ℕ
 how_many kind.Func s = length s.functions
 how_many kind.Table s = one_where s.has_table
 how_many kind.Memory s = one_where s.has_memory
 how_many kind.Global s = length s.globals
 
--- Limits: a table or a memory, imported or own, whose limits are not valid (sections 3.2.3, 3.2.4)
+-- `Limits`: the limits of a table or a memory, imported or not, are invalid. Core spec 3.2.3 and 3.2.4.
 abbrev pub IsOutOfRange : List Item → Item → Type 0
 IsOutOfRange items (table l) = ValidTable l → ⊥
 IsOutOfRange items (memory l) = ValidMemory l → ⊥
@@ -104,7 +103,7 @@ IsOutOfRange items (import_desc (desc.Table l)) = ValidTable l → ⊥
 IsOutOfRange items (import_desc (desc.Memory l)) = ValidMemory l → ⊥
 IsOutOfRange items _ = ⊥
 
--- Second: a table or a memory where there is one (section 3.4.10)
+-- `Second`: a table or a memory, imported or not, comes after another one. Core spec 3.4.10.
 abbrev pub IsSecond : List Item → Item → Type 0
 IsSecond items (table l) = (so_far items).has_table ≡ true
 IsSecond items (memory l) = (so_far items).has_memory ≡ true
@@ -112,60 +111,61 @@ IsSecond items (import_desc (desc.Table l)) = (so_far items).has_table ≡ true
 IsSecond items (import_desc (desc.Memory l)) = (so_far items).has_memory ≡ true
 IsSecond items _ = ⊥
 
--- DuplicateExport: the name of an export before (section 3.4.10)
+-- `DuplicateExport`: an earlier export has the same name. Core spec 3.4.10.
 abbrev pub IsRepeated : List Item → Item → Type 0
 IsRepeated items (export_name n) = (before after : List Item) × (items ≡ before ++ export_name n ∷ after)
 IsRepeated items _ = ⊥
 
--- StartType: the start function has parameters or a result (section 3.4.7)
+-- `StartType`: the start function has parameters or a result. Core spec 3.4.7.
 abbrev pub IsNoStart : List Item → Item → Type 0
 IsNoStart items (start x) =
     (f : Signature) × (function_type (context_so_far (so_far items)) x ≡ Some f)
     × ((f.params ≡ []) × (f.results ≡ []) → ⊥)
 IsNoStart items _ = ⊥
 
--- The code entry at hand: its runs of locals and its ops so far.
+-- The code entry at hand: the items end with its runs of locals and its ops so far.
 pub record InEntry (items : List Item) : Type 0 where
   pub before : List Item
   pub code : FlatCode
   pub whole : items ≡ before ++ code_items code
 
--- the type of the function whose code comes next: imported functions have none (section 2.5.3)
+-- The type index of the function whose code entry comes next. Imported functions have no code entry.
+-- Core spec 2.5.3.
 abbrev pub next_function : IndexSpaces → Option ℕ
 next_function s = slice_get s.functions (s.imported_functions + s.bodies)
 
--- the context of the body of an entry, whose function has this type (section 3.4.1)
+-- The context of the entry's body, if its function has the type index `x`. Core spec 3.4.1.
 abbrev pub context_of_body : {items : List Item} → InEntry items → ℕ → Context
 context_of_body e x = body_context (context_so_far (so_far e.before)) x (locals_of e.code.runs)
 
--- The body at hand: the type of its function, and its ops so far, which have a typing in the lists of
--- instructions that they leave open.
+-- The body at hand: the type index of its function, and a typing of its ops so far. The ops are typed in the
+-- lists of instructions that they leave open.
 pub record InBody (items : List Item) : Type 0 where
   pub entry : InEntry items
   pub type_index : ℕ
   pub is_type : next_function (so_far entry.before) ≡ Some type_index
   pub typing : HaveTyping (context_of_body entry type_index) entry.code.ops
 
--- the lists of instructions that are open, the innermost first
+-- The heads of the open lists, the innermost first.
 abbrev pub heads_of : Place → List Head
 heads_of (open_at hs ws) = hs
 heads_of (within n seen hs ws) = hs
 heads_of (complete r s) = []
 
--- the context inside of them, with their labels
+-- The context inside the open lists, with their labels.
 abbrev pub context_inside : {items : List Item} → InBody items → Context
 context_inside b = at (context_of_body b.entry b.type_index) (heads_of b.typing.0)
 
--- A constant is the initialiser of a global, of its type, and names imported globals alone (section 3.4.10);
--- or the offset of a segment, an i32, and names any global (sections 3.4.5, 3.4.6). It has this type, and
--- names one of the first globals, so many.
+-- The item begins a constant expression of type `t` that may name the first `globals` globals only. The
+-- initialiser of a global has its type, and may name imported globals only (Core spec 3.4.10). The offset of a
+-- segment is an i32, and may name any global (Core spec 3.4.5 and 3.4.6).
 abbrev pub IsConstantOf : IndexSpaces → Item → ValType → ℕ → Type 0
 IsConstantOf s (global g) t globals = (t ≡ g.ty) × (globals ≡ s.imported_globals)
 IsConstantOf s (element x) t globals = (t ≡ I32) × (globals ≡ length s.globals)
 IsConstantOf s (segment x) t globals = (t ≡ I32) × (globals ≡ length s.globals)
 IsConstantOf s _ t globals = ⊥
 
--- The constant at hand, and its ops so far.
+-- The constant expression at hand: the items end with the one that begins it, and its ops so far.
 pub record InConstant (items : List Item) : Type 0 where
   pub before : List Item
   pub opening : Item
@@ -175,8 +175,8 @@ pub record InConstant (items : List Item) : Type 0 where
   pub globals : ℕ
   pub constant_of : IsConstantOf (so_far before) opening wanted globals
 
--- Index: no such type (sections 3.4.1, 3.4.9), function, table, memory or global (sections 3.4.5 to 3.4.8);
--- or a code entry for which no function is left;
+-- `Index`, outside constants and bodies: there is no such type (Core spec 3.4.1 and 3.4.9), function, table,
+-- memory or global (Core spec 3.4.5 to 3.4.8). Or a code entry comes when no function is left.
 abbrev pub NamesNothing : IndexSpaces → Item → Type 0
 NamesNothing s (function x) = length s.types ≤ x
 NamesNothing s (import_desc (desc.Func x)) = length s.types ≤ x
@@ -188,12 +188,13 @@ NamesNothing s body = next_function s ≡ None
 NamesNothing s (segment x) = how_many kind.Memory s ≤ x
 NamesNothing s _ = ⊥
 
--- in a constant a global that may not be named (sections 3.3.7, 3.4.10);
+-- `Index`, in a constant: the expression may not name this global. Core spec 3.3.7 and 3.4.10.
 abbrev pub ConstantNamesNothing : ℕ → Op → Type 0
 ConstantNamesNothing globals (op.Simple (simple.GlobalGet x)) = globals ≤ x
 ConstantNamesNothing globals _ = ⊥
 
--- in a body no such label, function, type, local or global, or no table or memory (sections 3.3.3 to 3.3.5).
+-- `Index`, in a body: there is no such label, function, type, local or global, or no table or memory.
+-- Core spec 3.3.3 to 3.3.5.
 abbrev pub OpNamesNothing : Context → Op → Type 0
 OpNamesNothing c (op.Simple (simple.Br l)) = slice_get c.labels l ≡ None
 OpNamesNothing c (op.Simple (simple.BrIf l)) = slice_get c.labels l ≡ None
@@ -216,19 +217,19 @@ HasNoItem items (const_op o) = (c : InConstant items) × ConstantNamesNothing c.
 HasNoItem items (body_op o) = (b : InBody items) × OpNamesNothing (context_inside b) o
 HasNoItem items x = NamesNothing (so_far items) x
 
--- Immutable: a global.set of a constant global (section 3.3.3)
+-- `Immutable`: a `global.set` names an immutable global. Core spec 3.3.3.
 abbrev pub SetsConstant : List GlobalType → Op → Type 0
 SetsConstant globals (op.Simple (simple.GlobalSet x)) =
     (g : GlobalType) × (slice_get globals x ≡ Some g) × (g.var ≡ false)
 SetsConstant globals _ = ⊥
 
--- Align: an alignment above the width of the access (section 3.3.4)
+-- `Align`: the alignment is greater than the width of the access. Core spec 3.3.4.
 abbrev pub IsAlignedPast : Op → Type 0
 IsAlignedPast (op.Simple (simple.Load o a)) = (load o).width < 2 ^ a.align
 IsAlignedPast (op.Simple (simple.Store o a)) = (store o).width < 2 ^ a.align
 IsAlignedPast _ = ⊥
 
--- NotConst: what no constant expression has, or a global.get of a global that varies (section 3.3.7)
+-- `NotConst`: no constant expression has this op, or it is a `global.get` of a mutable global. Core spec 3.3.7.
 abbrev pub CannotBeConstant : List GlobalType → Op → Type 0
 CannotBeConstant globals (op.Simple (simple.I32Const n)) = ⊥
 CannotBeConstant globals (op.Simple (simple.I64Const n)) = ⊥
@@ -239,7 +240,8 @@ CannotBeConstant globals (op.Simple (simple.GlobalGet x)) =
 CannotBeConstant globals op.End = ⊥
 CannotBeConstant globals _ = Unit {0}
 
--- of an instruction of a body, and of one of a constant expression, with the globals so far
+-- The item is an op of a body (`AtOp`) or of a constant expression (`AtConstant`), and `IsWrong` holds for it
+-- and the globals so far.
 abbrev pub AtOp : (List GlobalType → Op → Type 0) → List Item → Item → Type 0
 AtOp IsWrong items (body_op o) = IsWrong (so_far items).globals o
 AtOp IsWrong items _ = ⊥
@@ -248,7 +250,7 @@ abbrev pub AtConstant : (List GlobalType → Op → Type 0) → List Item → It
 AtConstant IsWrong items (const_op o) = IsWrong (so_far items).globals o
 AtConstant IsWrong items _ = ⊥
 
--- TooManyLocals: with the runs before it they are 2^32 or more (section 5.5.13)
+-- `TooManyLocals`: with this run, the code entry declares 2^32 locals or more. Core spec 5.5.13.
 abbrev pub AreTooMany : List Item → Item → Type 0
 AreTooMany items (locals n t) =
     (e : InEntry items) × (e.code.ops ≡ []) × (2 ^ 32 ≤ length (locals_of e.code.runs) + n)
@@ -258,28 +260,30 @@ abbrev pub IsNoFirstBranch : List Head → Type 0
 IsNoFirstBranch (head If t ∷ hs) = ⊥
 IsNoFirstBranch _ = Unit {0}
 
--- ElsePlace: an else where the innermost open list is not the first branch of an if (section 5.4.1)
+-- `ElsePlace`: an `else` comes while the innermost open list is not the first branch of an `if`.
+-- Core spec 5.4.1.
 abbrev pub IsElseOutside : List Item → Item → Type 0
 IsElseOutside items (body_op op.Else) = (b : InBody items) × IsNoFirstBranch (heads_of b.typing.0)
 IsElseOutside items _ = ⊥
 
--- some typed body begins with these ops (section 3.4.1)
+-- Some typed body begins with these ops. Core spec 3.4.1.
 abbrev pub BeginsBody : Context → List Op → Type 0
 BeginsBody c ops = (more : List Op) × IsTypedBody c (ops ++ more)
 
--- Of a label of a br_table it is not said: there the ops so far have a typing, but the default may take
--- operands that are not there.
+-- The ops before this op begin a typed body. Nothing is claimed before a label of a br_table. There the ops
+-- have a typing, but the default label may take operands that are missing.
 abbrev pub BeginsBefore : Context → List Op → Op → Type 0
 BeginsBefore c ops (op.Label l) = Unit {0}
 BeginsBefore c ops _ = BeginsBody c ops
 
--- Type and Arity, in a body (section 3.3): the ops so far begin a typed one, and none with this op
+-- `Type` and `Arity`, in a body: the ops so far begin a typed body, but with this op they do not.
+-- Core spec 3.3.
 abbrev pub EndsTyping : {items : List Item} → InBody items → Op → Type 0
 EndsTyping b o =
     BeginsBefore (context_of_body b.entry b.type_index) b.entry.code.ops o
     × (BeginsBody (context_of_body b.entry b.type_index) (b.entry.code.ops ++ o ∷ []) → ⊥)
 
--- Type: the instruction of a constant has another type than is wanted (section 3.3.7)
+-- `Type`, in a constant: the type of the instruction is not the wanted one. Core spec 3.3.7.
 abbrev pub HasOtherType : ValType → List GlobalType → Op → Type 0
 HasOtherType t globals (op.Simple (simple.I32Const n)) = t ≢ I32
 HasOtherType t globals (op.Simple (simple.I64Const n)) = t ≢ I64
@@ -289,26 +293,26 @@ HasOtherType t globals (op.Simple (simple.GlobalGet x)) =
     (g : GlobalType) × (slice_get globals x ≡ Some g) × (t ≢ g.ty)
 HasOtherType t globals _ = ⊥
 
--- Arity: a constant ends with no instruction, or has a second one (section 3.3.7);
+-- `Arity`, in a constant: it ends without an instruction, or has a second one. Core spec 3.3.7.
 abbrev pub IsNotOne : List Op → Op → Type 0
 IsNotOne ops op.End = ops ≡ []
 IsNotOne ops _ = ops ≢ []
 
--- a function type has two results or more (section 3.2.2)
+-- `Arity`, in a function type: another result comes, but the last type has one already. Core spec 3.2.2.
 abbrev pub LastHasResult : List Signature → Type 0
 LastHasResult [] = ⊥
 LastHasResult (f ∷ []) = f.results ≢ []
 LastHasResult (f ∷ g ∷ types) = LastHasResult (g ∷ types)
 
--- The lists of operand types that the innermost open list can leave (section 3.3.6): within the labels of a
--- br_table, below the i32 that it has taken.
+-- The innermost open list can leave these operand types. Among the labels of a br_table, the i32 that it took
+-- is not one of them. Core spec 3.3.6.
 abbrev pub Leaves : Context → Place → List ValType → Type 0
 Leaves c (open_at (h ∷ hs) (work first s ∷ ws)) types = Typed (at c (h ∷ hs)) s [] types
 Leaves c (within n seen (h ∷ hs) (work first s ∷ ws)) types = Typed (at c (h ∷ hs)) s [] (types ++ I32 ∷ [])
 Leaves c _ types = ⊥
 
--- Two lists of types, each with the topmost last, agree above some place, at which both have a type: that of
--- the operand which is there is another one than is wanted.
+-- The two lists of types, topmost last, agree above some position. At this position both have a type, and the
+-- types differ.
 pub record OperandDiffers (types takes : List ValType) : Type 0 where
   pub under : List ValType
   pub there : ValType
@@ -319,9 +323,10 @@ pub record OperandDiffers (types takes : List ValType) : Type 0 where
   pub taken : takes ≡ before ++ wanted ∷ above
   pub differ : there ≢ wanted
 
--- Type: in a body (sections 3.3.1 to 3.3.6) an op has a type in its context, but whatever it takes, an
--- operand of such a list has another type. So has the result of a list at an else or an end, unless an if with a
--- result ends there without an else; and at a label of a br_table the operand, or a label that was seen.
+-- `Type`, in a body. The op has a type in its context, but some operand has a type other than the op takes,
+-- whichever type the op has. At an `else` or an `end`, the result of the list has another type. No operand need
+-- differ if an `if` with a result ends without an `else`. At a label of a br_table, the operand has another
+-- type, or an earlier label has. Core spec 3.3.1 to 3.3.6.
 abbrev pub TypesDiffer : Context → Place → Op → List ValType → Type 0
 TypesDiffer c q (op.Simple p) types =
     ((takes gives : List ValType) × TypedSimple (at c (heads_of q)) p takes gives)
@@ -348,8 +353,8 @@ IsMistyped items (body_op o) =
     → TypesDiffer (context_of_body b.entry b.type_index) b.typing.0 o types)
 IsMistyped items _ = ⊥
 
--- Arity: in a body (sections 3.3.1 to 3.3.6) an op has a type in its context, but whatever it takes is more
--- than such a list has; and at an else or an end the list has not as many types as the result
+-- `Arity`, in a body. The op has a type in its context, but takes more operands than there are, whichever type
+-- it has. At an `else` or an `end`, the number of types is not that of the result. Core spec 3.3.1 to 3.3.6.
 abbrev pub CountDiffers : Context → Place → Op → List ValType → Type 0
 CountDiffers c q (op.Simple p) types =
     ((takes gives : List ValType) × TypedSimple (at c (heads_of q)) p takes gives)
@@ -374,7 +379,7 @@ HasWrongCount items (body_op o) =
     → CountDiffers (context_of_body b.entry b.type_index) b.typing.0 o types)
 HasWrongCount items _ = ⊥
 
--- ManyFunctions: the first function, imported or own, with which there are more than the policy allows
+-- `ManyFunctions`: the first function, imported or not, that exceeds the limit of the policy.
 abbrev pub AreManyFunctions : Policy → List Item → Item → Type 0
 AreManyFunctions q items (function x) =
     GoesPast q.functions (length (so_far items).functions) (length (so_far items).functions + 1)
@@ -382,16 +387,17 @@ AreManyFunctions q items (import_desc (desc.Func x)) =
     GoesPast q.functions (length (so_far items).functions) (length (so_far items).functions + 1)
 AreManyFunctions q items _ = ⊥
 
--- ManyLocals: the first run of locals with which the code entry declares more than the policy allows
+-- `ManyLocals`: the first run of locals with which the code entry exceeds the limit of the policy.
 abbrev pub AreManyLocals : Policy → List Item → Item → Type 0
 AreManyLocals q items (locals n t) =
     (e : InEntry items) × (e.code.ops ≡ [])
     × GoesPast q.locals (length (locals_of e.code.runs)) (length (locals_of e.code.runs) + n)
 AreManyLocals q items _ = ⊥
 
--- Deep: the first block, loop or if of the body with which more are open than the policy allows. After each
--- front of its ops so many are open as were opened and not ended. The body itself is an open list and no block,
--- so with this op as many blocks are open as there were open lists before.
+-- `Deep`: the first block, loop or if of the body with which more are open than the policy allows. After each
+-- front of the ops, the number of open blocks is that of the openings less that of the ends. The body itself is
+-- an open list but no block. Hence the number of open blocks with this op is the number of open lists before
+-- it.
 abbrev pub IsTooDeep : Policy → List Item → Item → Type 0
 IsTooDeep q items (body_op o) =
     (b : InBody items) × (opens o ≡ 1)
@@ -400,8 +406,8 @@ IsTooDeep q items (body_op o) =
     × (AtMost q.depth (levels b.typing.0) → ⊥)
 IsTooDeep q items _ = ⊥
 
--- What the name says. It is said of the 14 names of the format, of the twelve of rules, and of the three of a
--- policy. Nothing is said of Memory.
+-- The meaning of a name. It covers the 14 names of the format, the twelve of rules, and the three of a policy.
+-- Nothing is claimed for `Memory`.
 abbrev pub Means : Profile → ℕ → Policy → List ℕ → List ℕ → Why → Type 0
 Means p limit q used rest why.Index = AtItem p HasNoItem used
 Means p limit q used rest why.Limits = AtItem p IsOutOfRange used
@@ -420,6 +426,6 @@ Means p limit q used rest why.ManyLocals = AtItem p (AreManyLocals q) used
 Means p limit q used rest why.Deep = AtItem p (IsTooDeep q) used
 Means p limit q used rest w = MeansOfFormat p limit used rest w
 
--- A refusal of an input says this of the bytes up to its place, which lies within it.
+-- The offset of the refusal lies within the input, and the meaning of its name holds for the bytes up to it.
 abbrev pub Meaning : Profile → ℕ → Policy → List ℕ → Refusal → Type 0
 Meaning p limit q input r = Meant (Means p limit q) input r

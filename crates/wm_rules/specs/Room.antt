@@ -1,14 +1,16 @@
--- Where a checker may refuse an item because memory ran out.
+-- When a checker may refuse an item with `Memory`.
 use Rattle.std.specs.Prelude.{◌≢◌, ◌≤◌, ◌⊎◌, None, length}
 use Rattle.wm_typing.specs.Bodies.{Body}
 use Rattle.wm_machine.specs.Items.{Item, result_count, import_module, import_name, body_op, data_byte}
 use Rattle.wm_rules.specs.Holding.{Held}
 
--- A body has used up what its stacks keep in themselves, or has refused an op.
+-- The body has refused an op, or it has 64 operands or more, or 32 frames or more. Its stacks need no
+-- allocation below these heights.
 abbrev pub IsFull : Body → Type 0
 IsFull b = (b.refused ≢ None) ⊎ (64 ≤ length b.state.stacks.operands) ⊎ (32 ≤ length b.state.stacks.frames)
 
--- at an op where the body is full, and nowhere where nothing is kept of the item
+-- The checker may refuse the item with `Memory`. An op is refused so only if the body is full. An item of which
+-- nothing is retained never is.
 abbrev pub MayRunOut : Held → Item → Type 0
 MayRunOut h (result_count n) = ⊥
 MayRunOut h (import_module name) = ⊥

@@ -1,4 +1,4 @@
-//! Two sinks at once.
+//! A sink that is made of two sinks.
 
 ghost use Rattle.std.specs.Prelude.{◌≡◌};
 ghost use Rattle.wm_machine.specs.exact.TwoSinks.{after_both, both_take_data, either_runs_out};
@@ -6,7 +6,7 @@ ghost use Rattle.wm_machine.specs.exact.TwoSinks.{after_both, both_take_data, ei
 use wm_decode::{Item, Sink};
 use wm_syntax::why::Why;
 
-/// Two sinks that receive the same items: the first is asked first.
+/// Two sinks that receive the same items. The first is asked first.
 #[derive(Debug, Drop)]
 pub struct Both<A, B> {
     pub first: A,
@@ -14,6 +14,7 @@ pub struct Both<A, B> {
 }
 
 impl<A: Sink, B: Sink> Both<A, B> {
+    /// Returns a sink of the two.
     pub fn new(first: A, second: B) -> Self
         ensures first { result.first ≡ first }
         ensures second { result.second ≡ second }
@@ -31,7 +32,7 @@ impl<A: Sink, B: Sink> Sink for Both<A, B> {
 
     ghost may_run_out = { either_runs_out A.after A.may_run_out B.may_run_out };
 
-    // so that at each call it is known which item comes
+    // Inline, so that the kind of the item is known at each call.
     #[inline(always)]
     fn take(&mut self, item: Item) -> Result<(), Why> {
         match self.first.take(item) {

@@ -1,4 +1,4 @@
-//! A module, built item by item.
+//! Builds a module item by item.
 
 ghost use Rattle.std.specs.Prelude.{◌≡◌, ◌∷◌, [], ◌++◌, IfErr, IfOk, Ok, refl};
 ghost use Rattle.std.specs.String.{string_bytes};
@@ -25,8 +25,8 @@ use wm_syntax::modules::{
 use wm_syntax::types::{Const, FuncType, GlobalType, ValType};
 use wm_syntax::why::Why;
 
-/// What a constant expression is for: the initialiser of a global, or where a segment begins
-/// in a table or a memory.
+/// The purpose of a constant expression: the initialiser of a global, or the offset of a segment of a table or
+/// a memory.
 #[derive(Clone, Copy, PartialEq, Eq, Debug)]
 pub enum Purpose {
     Global(GlobalType),
@@ -34,41 +34,42 @@ pub enum Purpose {
     Segment(u32),
 }
 
-/// A constant expression at hand: what it is for, and its value once that came.
+/// A constant expression at hand: its purpose, and its value once its instruction came.
 #[derive(Clone, Copy, PartialEq, Eq, Debug)]
 pub struct Pending {
     purpose: Purpose,
     value: Option<Const>,
 }
 
-// A code entry at hand, as it is printed: its locals and its body so far.
+// The code entry at hand as `Debug` prints it: its locals and its body so far.
 #[derive(Clone, Copy, Debug)]
 struct Code<'a> {
     locals: &'a Locals,
     body: &'a BodyBuilder,
 }
 
-/// Builds a module of its items, valid or not. It refuses a name that is not UTF-8, a constant expression of
-/// another form, a misplaced op of a body, and 2^32 locals; items in an order that no decoder sends may be
-/// refused under any name.
+/// Builds a module from its items, valid or not. It refuses a name that is not UTF-8, a constant expression of
+/// another form, a misplaced op of a body, and 2^32 locals. Items in an order that no decoder sends may be
+/// refused with any name.
 #[derive(Drop)]
 pub struct Builder {
     alloc: Global,
     module_value: Module,
-    // of each function the index of its type
+    // The type index of each function.
     indices: Vec<u32>,
-    // the names of an import, and of an export
+    // The names of the import and of the export at hand.
     module_name: String,
     item_name: String,
     exported: String,
     constant: Option<Pending>,
-    // of a code entry at hand its locals
+    // The locals of the code entry at hand.
     locals: Option<Locals>,
-    // and its body so far. It stays here between entries, so that its memory serves for the next body
+    // The body so far of the code entry at hand. It stays here between entries, so that the next body reuses
+    // its memory.
     body: BodyBuilder,
 }
 
-// Where no code entry is at hand, what a body is built in is no part of what the builder holds.
+// Prints the body builder only if a code entry is at hand: otherwise it is not part of the state.
 impl fmt::Debug for Builder {
     fn fmt<W: fmt::Write>(&self, f: &mut fmt::Formatter<W>) -> fmt::Result {
         let body = &self.body;
@@ -101,7 +102,7 @@ fn push_param(last: &mut FuncType, ty: ValType) -> Result<(), Why>
     push(&mut last.params, ty)
 }
 
-// The last type has one more parameter.
+// Adds a parameter to the last type.
 fn add_param(types: &mut Vec<FuncType>, ty: ValType) -> Result<(), Why>
     ensures { Taken (Ok (change_last (λ s. record s { params = s.params ++ ty ∷ [] }) types.old.items)) result
         types.new.items }
@@ -134,7 +135,7 @@ fn push_function(last: &mut Element, index: u32) -> Result<(), Why>
     push(&mut last.functions, index)
 }
 
-// The last element segment has one more function.
+// Adds a function to the last element segment.
 fn add_element(elements: &mut Vec<Element>, index: u32) -> Result<(), Why>
     ensures { Taken (Ok (change_last (λ e. record e { functions = e.functions ++ index ∷ [] })
         elements.old.items)) result elements.new.items }
@@ -154,7 +155,7 @@ fn extend_bytes(last: &mut Segment, bytes: &[u8]) -> Result<(), Why>
     }
 }
 
-// The last data segment has more bytes.
+// Adds bytes to the last data segment.
 fn add_bytes(segments: &mut Vec<Segment>, bytes: &[u8]) -> Result<(), Why>
     ensures { Taken (Ok (change_last (λ s. record s { bytes = s.bytes ++ bytes.now }) segments.old.items))
         result segments.new.items }
@@ -165,7 +166,7 @@ fn add_bytes(segments: &mut Vec<Segment>, bytes: &[u8]) -> Result<(), Why>
     extend_bytes(last, bytes)
 }
 
-// The name of these bytes takes the place of another.
+// Replaces a name by the one with these bytes. Fails with `BadUtf8` if they are not UTF-8.
 fn set_name(alloc: Global, name: &mut String, bytes: &[u8]) -> Result<(), Why>
     ensures { Taken (name_from bytes.now) result (string_bytes name.new) }
 {
@@ -188,10 +189,10 @@ impl Sink for Builder {
 
     ghost after = { after };
 
-    // at any item
+    // Any item may be refused with `Memory`.
     ghost may_run_out = { λ h x. Unit {0} };
 
-    // Ops come many at once: inline, so that at each call it is known that one comes.
+    // Inline, so that the kind of the item is known at each call: ops come in bulk.
     #[inline(always)]
     fn take(&mut self, item: Item) -> Result<(), Why> {
         match item {
@@ -204,7 +205,7 @@ impl Sink for Builder {
 }
 
 impl Builder {
-    // The same, out of line: for an item that is no op of a body.
+    // Takes an item as `take` does. Out of line, for items that are not ops of a body.
     #[inline(never)]
     #[tactic(auto, using(crate::proofs::BuiltData::bytes_took, crate::proofs::BuiltData::bytes_room, crate::proofs::LastLemmas::taken_then))]
     fn take_other(&mut self, item: Item) -> Result<(), Why>
@@ -240,7 +241,7 @@ impl Builder {
         }
     }
 
-    /// Nothing came yet.
+    /// Returns a builder before the first item.
     pub fn new(alloc: Global) -> Self
         ensures { built result ≡ nothing }
     {
@@ -257,7 +258,7 @@ impl Builder {
         }
     }
 
-    /// The module so far.
+    /// Returns the module so far.
     pub fn into_module(self) -> Module
         ensures { value_of result ≡ (built self).value }
     {
@@ -304,7 +305,7 @@ impl Builder {
         Ok(())
     }
 
-    // A constant expression begins.
+    // Begins a constant expression.
     fn expect(&mut self, purpose: Purpose) -> Result<(), Why>
         ensures { Taken (Ok (expecting purpose (built self.old))) result (built self.new) }
     {
@@ -332,7 +333,7 @@ impl Builder {
         }
     }
 
-    // Its instruction came.
+    // Stores the value of the constant expression. Fails with `Arity` if it has one.
     fn give(&mut self, pending: Pending, value: Const) -> Result<(), Why>
         ensures { Taken (valued value (built self.old) pending pending.value) result (built self.new) }
     {
@@ -346,7 +347,7 @@ impl Builder {
         Ok(())
     }
 
-    // It ends: what it was for is complete, but for the rest of a segment.
+    // Ends the constant expression, and adds its global or segment. The contents of a segment come later.
     fn end_constant(&mut self, pending: Pending) -> Result<(), Why>
         ensures { Taken (constant_ended (built self.old) pending pending.value) result (built self.new) }
     {
@@ -382,7 +383,7 @@ impl Builder {
         ensures { Taken (after (built self.old) body) result (built self.new) }
     {
         if self.locals.is_some() {
-            // what a body that did not end took of memory goes with it
+            // free the memory of a body that did not end
             self.body = BodyBuilder::new(self.alloc);
         }
         self.body.clear();
@@ -400,8 +401,8 @@ impl Builder {
         }
     }
 
-    // Out of line, so that the loop over ops stays as small as it has to be for the common ones to be inlined
-    // there. The op is lent: a copy would go through memory. Most ops are taken at once.
+    // Out of line, so that the loop over ops is small enough for the common ones to be inlined there. The op is
+    // borrowed: a copy would go through memory. `push_near` is the fast path of most ops.
     #[inline(never)]
     fn take_op(&mut self, op: &Op) -> Result<(), Why>
         ensures { Taken (op_taken op.now (built self.old) (built self.old).code) result (built self.new) }
@@ -412,7 +413,8 @@ impl Builder {
         self.take_any_op(op)
     }
 
-    // The same of any op. An end is looked at first: where no list is open inside the body, it ends that.
+    // Takes any op. An `end` is tried first as the end of the body: it ends the body if no list is open inside
+    // it.
     #[inline(never)]
     fn take_any_op(&mut self, op: &Op) -> Result<(), Why>
         ensures { Taken (op_taken op.now (built self.old) (built self.old).code) result (built self.new) }
@@ -429,7 +431,7 @@ impl Builder {
             Ok(()) => Ok(()),
             Err(BodyFault::Memory) => Err(Why::Memory),
             Err(BodyFault::Unbalanced) => {
-                // what this body took of memory goes with it
+                // free the memory of this body
                 self.locals = None;
                 self.body = BodyBuilder::new(self.alloc);
                 Err(Why::ElsePlace)
@@ -437,7 +439,7 @@ impl Builder {
         }
     }
 
-    // The code entry at hand has this body.
+    // Ends the code entry at hand with this body.
     fn end_body(&mut self, body: Body) -> Result<(), Why>
         ensures { Taken (body_ended body (built self.old) (built self.old).code) result (built self.new) }
     {

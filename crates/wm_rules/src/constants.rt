@@ -1,4 +1,4 @@
-//! Constant expressions (section 3.3.7).
+//! Constant expressions. Core spec 3.3.7.
 
 ghost use Rattle.std.specs.Prelude.{◌≡◌, None, if◌then◌else◌};
 ghost use Rattle.wm_rules.specs.exact.Constants.{constant_after, constant_expecting, first_only, of_global};
@@ -8,19 +8,19 @@ use wm_syntax::instructions::{Op, Simple};
 use wm_syntax::types::{GlobalType, ValType};
 use wm_syntax::why::Why;
 
-/// A constant expression that is being read.
+/// A constant expression at hand.
 #[derive(Clone, Copy, PartialEq, Eq, Debug)]
 pub struct Constant {
-    /// The type that it is to have.
+    /// The type that it must have.
     pub expects: ValType,
-    /// How many of the globals it may name, the first ones.
+    /// The number of globals that it may name, counted from the first one.
     pub sees: usize,
     /// Whether its one instruction came.
     pub seen: bool,
 }
 
 impl Constant {
-    // Before its first op.
+    // Returns a constant expression before its first op.
     pub(crate) fn expecting(expects: ValType, sees: usize) -> Self
         ensures { result ≡ constant_expecting expects sees }
     {
@@ -31,7 +31,7 @@ impl Constant {
         }
     }
 
-    // Takes one op: none is left where the expression ends.
+    // Takes one op. Returns `None` if the op ends the expression.
     pub(crate) fn take(self, globals: &[GlobalType], op: Op) -> Result<Option<Constant>, Why>
         ensures { result ≡ constant_after globals.now op self }
     {
@@ -74,7 +74,7 @@ impl Constant {
         if self.seen { Ok(None) } else { Err(Why::Arity) }
     }
 
-    // Its instruction has this type.
+    // Takes the instruction, which has this type.
     fn with_type(self, ty: ValType) -> Result<Option<Constant>, Why>
         ensures { result ≡ of_type ty self }
     {
@@ -85,7 +85,7 @@ impl Constant {
     }
 }
 
-// The global with this index, if it is one of the first ones.
+// The global with this index, if it is one of the first `sees` globals.
 fn named(globals: &[GlobalType], sees: usize, index: u32) -> Option<GlobalType>
     ensures { result ≡ visible sees globals.now index }
 {

@@ -11,15 +11,16 @@ use std::collections::BTreeSet;
 use std::marker::Model;
 use wm_syntax::why::Why;
 
-// A name and its hash, in the order of the hashes. So two numbers mostly tell two names apart.
+// A name and its hash. Names are ordered by hash first, so comparing two hashes mostly decides.
 #[derive(Debug, Drop, PartialEq, Eq, PartialOrd, Ord)]
 struct HashedName {
     hash: u64,
     name: Vec<u8>,
 }
 
-// A tree and no hash table: a stranger chooses the names. Where they all have one hash, their bytes are
-// compared, and still as few names as the tree is deep.
+// The export names so far. They are in a tree and not in a hash table, since a stranger chooses the names. If
+// all names have one hash, their bytes are compared, and a search still compares only as many names as the tree
+// is deep.
 #[derive(Debug, Drop)]
 pub(crate) struct ExportNames {
     alloc: Global,
@@ -51,14 +52,14 @@ impl ExportNames {
         }
     }
 
-    // The names and their bytes.
+    // The number of names and their bytes, or 2^64 - 1 if there are more.
     pub(crate) fn kept(&self) -> u64
         ensures { result ≡ capped_count (name_entries self.now) }
     {
         self.kept
     }
 
-    // Adds a name, which is refused where it stands already.
+    // Adds a name. Fails with `DuplicateExport` if it was added before, and with `Memory` if memory runs out.
     pub(crate) fn add(&mut self, name: &[u8]) -> Result<(), Why>
         ensures { Taken (names_with name.now self.old) result self.new }
     {
@@ -91,7 +92,7 @@ fn put(alloc: Global, names: &mut BTreeSet<HashedName>, name: &[u8]) -> Result<(
     }
 }
 
-// FNV-1a in 64 bits. Any function of the bytes would serve.
+// The 64-bit FNV-1a hash. Any function of the bytes would do.
 fn hash_of(name: &[u8]) -> u64
     ensures { result ≡ hash_of_bytes name.now }
 {

@@ -1,4 +1,4 @@
-//! Limits (section 3.2.1).
+//! Valid limits. Core spec 3.2.1.
 
 ghost use Rattle.std.specs.Prelude.{◌≡◌, ◌^◌};
 ghost use Rattle.wm_rules.specs.exact.Spaces.{is_within};
@@ -7,7 +7,7 @@ use wm_syntax::types::Limits;
 
 const MOST_PAGES: u32 = 65536;
 
-// Of a table: every number of 32 bits is in range.
+// Whether the limits of a table are valid. Every u32 is in its range. Core spec 3.2.3.
 pub(crate) fn is_table_size(limits: Limits) -> bool
     ensures { result ≡ is_within (2 ^ 32) limits }
 {
@@ -17,7 +17,7 @@ pub(crate) fn is_table_size(limits: Limits) -> bool
     }
 }
 
-// Of a memory, in pages.
+// Whether the limits of a memory, in pages, are valid. Core spec 3.2.4.
 pub(crate) fn is_memory_size(limits: Limits) -> bool
     ensures { result ≡ is_within (2 ^ 16) limits }
 {

@@ -1,5 +1,5 @@
--- What a builder holds, and what each item makes of it, refusals included: an exact mirror of the code. What
--- it comes to is said by the law that the items of a module build that module.
+-- The state of a builder, and its state after each item, refusals included. It follows the code exactly. The
+-- law `items_build_their_module` states that the items of a module build it.
 use Rattle.std.specs.Prelude.{ℕ, List, [], ◌∷◌, ◌++◌, Option, Some, None, Result, Ok, Err, length, slice_get}
 use Rattle.std.specs.Prelude.{unwrap_or, if◌then◌else◌}
 use Rattle.std.specs.Str.{is_utf8}
@@ -28,13 +28,13 @@ use Rattle.wm_machine.specs.Items.{import_desc, function, table, memory, global,
 use Rattle.wm_machine.specs.Items.{start, element, element_function, body, locals, body_op, segment, data_byte}
 use Rattle.wm_machine.specs.Sinks.{and_then}
 
--- a code entry at hand: its locals, and its body so far
+-- A code entry at hand: its locals, and its body so far.
 pub record Code : Type 0 where
   pub locals : List ValType
   pub body : Place
 
--- the module so far; the types' indices of all its functions; and what is at hand: the names of an import or
--- an export, a constant expression, a code entry
+-- The state of a builder: the module so far, the type index of each function, and what is at hand. At hand may
+-- be the names of an import or an export, a constant expression, or a code entry.
 pub record Built : Type 0 where
   pub value : Module
   pub indices : List ℕ
@@ -44,7 +44,7 @@ pub record Built : Type 0 where
   pub constant : Option Pending
   pub code : Option Code
 
--- nothing is at hand
+-- The state with this module and these type indices, and with nothing at hand.
 abbrev pub holding : Module → List ℕ → Built
 holding m xs = record {
   value = m;
@@ -59,7 +59,7 @@ holding m xs = record {
 abbrev pub nothing : Built
 nothing = holding modules.empty_module []
 
--- with f of the last one, where there is one
+-- The list with `f` applied to its last item, if there is one.
 abbrev pub change_last : {X : Type 0} → (X → X) → List X → List X
 change_last f [] = []
 change_last f (x ∷ []) = f x ∷ []
@@ -74,7 +74,7 @@ with_elements h es = record h { value = record h.value { elements = es } }
 abbrev pub with_segments : Built → List Segment → Built
 with_segments h ss = record h { value = record h.value { segments = ss } }
 
--- a name is UTF-8
+-- Returns the name, or fails with `BadUtf8` if it is not UTF-8.
 abbrev pub name_from : List ℕ → Result (List ℕ) Why
 name_from text = if is_utf8 text then Ok text else Err why.BadUtf8
 
@@ -91,7 +91,7 @@ imported h d = record h {
   item_name = [];
 }
 
--- constant expressions
+-- A constant expression begins.
 abbrev pub expecting : Purpose → Built → Built
 expecting p h = record h { constant = Some (record { purpose = p; value = None }) }
 
@@ -125,8 +125,7 @@ abbrev pub constant_taken : Op → Built → Option Pending → Result Built Why
 constant_taken o h None = Err why.Index
 constant_taken o h (Some k) = in_constant o h k
 
--- code entries
--- the type of the next function whose code comes; where there is none the number is of no use
+-- The type index of the function whose code entry comes next; 0 if there is none.
 abbrev pub next_type : Built → ℕ
 next_type h = unwrap_or (slice_get h.indices (length h.value.functions)) 0
 
@@ -135,7 +134,7 @@ locals_taken n t h None = Err why.Index
 locals_taken n t h (Some c) =
     and_then (add_run n t c.locals) (λ ts. Ok (record h { code = Some (record c { locals = ts }) }))
 
--- an end that closes no list inside the body ends it
+-- The state after the `end` of a body. No other list of the body may be open.
 abbrev pub code_ended : Built → Code → Place → Result Built Why
 code_ended h c (at [] s) =
     Ok (record h {
@@ -148,7 +147,7 @@ code_ended h c (at [] s) =
 code_ended h c (at (o ∷ outer) s) = Err why.ElsePlace
 code_ended h c (labels outer s seen n) = Err why.ElsePlace
 
--- the code entry at hand has this body
+-- The state after the code entry at hand has this body.
 abbrev pub body_ended : Instructions → Built → Option Code → Result Built Why
 body_ended s h None = Err why.Index
 body_ended s h (Some c) = code_ended h c (at [] s)
@@ -165,7 +164,7 @@ abbrev pub op_taken : Op → Built → Option Code → Result Built Why
 op_taken o h None = Err why.Index
 op_taken o h (Some c) = if_it_stands o h c (placed c.body o)
 
--- one item
+-- The state after one item.
 abbrev pub after : Built → Item → Result Built Why
 after h new_type = Ok (with_types h (h.value.types ++ record { params = []; results = [] } ∷ []))
 after h (param t) =

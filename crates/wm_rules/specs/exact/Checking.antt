@@ -1,5 +1,5 @@
--- What a checker holds, and what each item makes of it, refusals included: an exact mirror of the code, for
--- the layers above. Which modules are valid is said in Validation, and how much of this is kept in Kept.
+-- The state of a checker, and its state after each item, refusals included. It follows the code exactly, for
+-- the layers above. `Validation` defines valid modules, and `Kept` the number of retained entries.
 use Rattle.std.specs.Prelude.{◌≡◌, ℕ, ◌<◌, ◌+◌, max, Bool, true, false, List, [], Option, Some, None, Result}
 use Rattle.std.specs.Prelude.{Ok, Err, length, nat_le, if◌then◌else◌}
 use Rattle.std.specs.BTreeSet.{insert_key}
@@ -33,7 +33,7 @@ use Rattle.wm_rules.specs.exact.Spaces.{index_check, plain, next_type}
 use Rattle.wm_rules.specs.Holding.{IndexSpaces, Held}
 use Rattle.wm_rules.specs.exact.Constants.{constant_after, constant_expecting}
 
--- a body at hand that was not refused has an open frame
+-- A body at hand that was not refused has an open frame.
 abbrev pub BodyIsOpen : Bool → Body → Type 0
 BodyIsOpen in_body b = in_body ≡ true → b.refused ≡ None → 0 < length b.state.stacks.frames
 
@@ -47,7 +47,7 @@ empty_checker = record {
   most = no_stats;
 }
 
--- the figures of the bodies that have ended
+-- The figures of the bodies that have ended.
 abbrev pub summary_in : Held → Summary
 summary_in h = record {
   functions = h.spaces.bodies;
@@ -61,7 +61,7 @@ abbrev pub in_spaces : Held → Result IndexSpaces Why → Result Held Why
 in_spaces h (Ok s) = Ok (record h { spaces = s })
 in_spaces h (Err w) = Err w
 
--- nothing changes
+-- The unchanged state, or the error.
 abbrev pub where_ok : Held → Result (Unit {0}) Why → Result Held Why
 where_ok h (Ok u) = Ok h
 where_ok h (Err w) = Err w
@@ -69,15 +69,15 @@ where_ok h (Err w) = Err w
 abbrev pub one_at_most : ℕ → Result (Unit {0}) Why
 one_at_most n = if nat_le n 1 then Ok tt else Err why.Arity
 
--- the constant expression that begins, of this type and naming the first of the globals
+-- The state after the start of a constant expression of this type that may name the first `sees` globals.
 abbrev pub constant_begun : ValType → ℕ → Held → Held
 constant_begun t sees h = record h { constant = Some (constant_expecting t sees) }
 
--- an initialiser names imported globals alone
+-- The state after the type of a global. Its initialiser may name imported globals only.
 abbrev pub global_begun : GlobalType → Held → Result Held Why
 global_begun g h = in_spaces (constant_begun g.ty h.spaces.imported_globals h) (global_added g h.spaces)
 
--- a segment of this table or memory: its offset names any global
+-- The state after the index of a segment's table or memory. The offset may name any global.
 abbrev pub offset_begun : ExportKind → ℕ → Held → Result Held Why
 offset_begun k x h =
     and_then (index_check k x h.spaces) (λ u. Ok (constant_begun I32 (length h.spaces.globals) h))
@@ -103,7 +103,7 @@ abbrev pub in_names : Held → Result (List (List ℕ)) Why → Result Held Why
 in_names h (Ok names) = Ok (record h { names = names })
 in_names h (Err w) = Err w
 
--- the body of the function with this type begins
+-- The state after the start of a body, whose function has this type index.
 abbrev pub body_begun : Held → Option ℕ → Result Held Why
 body_begun h None = Err why.Index
 body_begun h (Some x) =
@@ -140,7 +140,7 @@ abbrev pub op_taken : Op → Held → Result Held Why
 op_taken o h = if h.in_body then checker_after_op h (body_after_op (context_of h.spaces) o h.body)
     else Err why.Index
 
--- one item
+-- The state after one item.
 abbrev pub after : Held → Item → Result Held Why
 after h new_type = in_spaces h (type_begun h.spaces)
 after h (param t) = in_spaces h (param_added t h.spaces)

@@ -1,5 +1,5 @@
--- What the check of a constant expression (section 3.3.7) does at each op, refusals included. These follow
--- the code, for the layers above.
+-- The check of a constant expression op by op, refusals included. It follows the code, for the layers above.
+-- Core spec 3.3.7.
 use Rattle.std.specs.Prelude.{ℕ, true, false, List, Option, Some, None, Result, Ok, Err, slice_get, nat_lt}
 use Rattle.std.specs.Prelude.{if◌then◌else◌}
 use Rattle.wm_syntax.specs.declared.types.ValType.{ValType}
@@ -14,11 +14,11 @@ use Rattle.wm_syntax.specs.declared.why.Why.TheVariants.{Arity, Index, Mismatch,
 use Rattle.wm_syntax.specs.Runs.{same}
 use Rattle.wm_rules.specs.declared.constants.Constant.{Constant}
 
--- before its instruction came: the type that it is to have, and how many of the globals it may name
+-- The state before its instruction: the wanted type, and how many globals it may name.
 abbrev pub constant_expecting : ValType → ℕ → Constant
 constant_expecting t sees = record { expects = t; sees = sees; seen = false }
 
--- of this type
+-- The state after an instruction of this type.
 abbrev pub of_type : ValType → Constant → Result (Option Constant) Why
 of_type t k = if same t k.expects then Ok (Some (record k { seen = true })) else Err Mismatch
 
@@ -26,15 +26,15 @@ abbrev pub of_global : Option GlobalType → Constant → Result (Option Constan
 of_global None k = Err Index
 of_global (Some g) k = if g.var then Err NotConst else of_type g.ty k
 
--- only one instruction
+-- `Arity` if an instruction came before.
 abbrev pub first_only : Constant → Result (Option Constant) Why → Result (Option Constant) Why
 first_only k r = if k.seen then Err Arity else r
 
--- the global with this index, where it may be named
+-- The global with this index, if the expression may name it.
 abbrev pub visible : ℕ → List GlobalType → ℕ → Option GlobalType
 visible sees globals x = if nat_lt x sees then slice_get globals x else None
 
--- one op: None where the expression ends
+-- The state after one op; `None` if the expression ends.
 abbrev pub constant_after : List GlobalType → Op → Constant → Result (Option Constant) Why
 constant_after globals (op.Simple (I32Const n)) k = first_only k (of_type I32 k)
 constant_after globals (op.Simple (I64Const n)) k = first_only k (of_type I64 k)

@@ -1,6 +1,5 @@
--- The index spaces that a checker keeps, and what each item makes of them, refusals included. These follow
--- the code, for the layers above, whose answers are functions of what they were given. Which modules are
--- valid is said in Validation.
+-- The index spaces of a checker, and the spaces after each item, refusals included. They follow the code, for
+-- the layers above. `Validation` defines valid modules.
 use Rattle.std.specs.Prelude.{ℕ, ◌+◌, ◌≤◌, ◌^◌, ◌&&◌, Bool, true, false, List, [], ◌∷◌, ◌++◌, Option, Some}
 use Rattle.std.specs.Prelude.{None, Result, Ok, Err, length, slice_get, nat_lt, nat_le, nat_eq, if◌then◌else◌}
 use Rattle.wm_syntax.specs.declared.types.ValType.{ValType}
@@ -30,18 +29,18 @@ no_items = record {
   has_memory = false;
 }
 
--- what is true of the spaces of any module that is read, however far
+-- The invariant of the index spaces, at any moment of any module.
 pub record AreSpaces (types : List Signature) (functions : List ℕ) (globals : List GlobalType)
     (imported_functions imported_globals bodies : ℕ) : Type 0 where
   pub typed : AreTypes types functions
   pub bodies_fit : imported_functions + bodies ≤ length functions
   pub globals_fit : imported_globals ≤ length globals
 
--- the context in which a module's bodies are typed
+-- The context in which a module's bodies are typed.
 abbrev pub context_of : IndexSpaces → Context
 context_of s = context s.types s.functions s.globals s.has_table s.has_memory
 
--- with the last item changed, where there is one
+-- The list with its last item changed; `Index` if there is none.
 abbrev pub on_last : {X : Type 0} → (X → Result X Why) → List X → Result (List X) Why
 on_last f [] = Err why.Index
 on_last f (x ∷ []) = and_then (f x) (λ y. Ok (y ∷ []))
@@ -50,7 +49,7 @@ on_last f (x ∷ y ∷ ys) = and_then (on_last f (y ∷ ys)) (λ zs. Ok (x ∷ z
 abbrev pub one_param_more : ValType → Signature → Result Signature Why
 one_param_more t f = Ok (record f { params = f.params ++ t ∷ [] })
 
--- a type has one result at most
+-- The function type with one more result; `Arity` if it has one already.
 abbrev pub one_result_more : ValType → Signature → Result Signature Why
 one_result_more t f =
     if nat_eq (length f.results) 0 then Ok (record f { results = f.results ++ t ∷ [] }) else Err why.Arity
@@ -85,7 +84,7 @@ global_imported g s = Ok (record s {
   imported_globals = s.imported_globals + 1;
 })
 
--- limits in a range, and the least at most the greatest
+-- The limits are in a range, and the minimum is at most the maximum.
 abbrev pub max_is_within : ℕ → ℕ → Option ℕ → Bool
 max_is_within k min None = true
 max_is_within k min (Some max) = nat_le max k && nat_le min max
@@ -109,7 +108,7 @@ import_added (desc.Table l) s = table_added l s
 import_added (desc.Memory l) s = memory_added l s
 import_added (desc.Global g) s = global_imported g s
 
--- how many items of a kind there are
+-- The number of items of a kind.
 abbrev pub one_if : Bool → ℕ
 one_if true = 1
 one_if false = 0
@@ -120,11 +119,11 @@ items_in kind.Table s = one_if s.has_table
 items_in kind.Memory s = one_if s.has_memory
 items_in kind.Global s = length s.globals
 
--- the index names an item of this kind
+-- `Index` if no item of this kind has the index.
 abbrev pub index_check : ExportKind → ℕ → IndexSpaces → Result (Unit {0}) Why
 index_check k x s = if nat_lt x (items_in k s) then Ok tt else Err why.Index
 
--- the function takes and gives nothing
+-- The function type has no parameters and no results.
 abbrev pub is_plain : Signature → Bool
 is_plain f = nat_eq (length f.params) 0 && nat_eq (length f.results) 0
 
@@ -132,6 +131,6 @@ abbrev pub plain : Option Signature → Result (Unit {0}) Why
 plain None = Err why.Index
 plain (Some f) = if is_plain f then Ok tt else Err why.StartType
 
--- the type of the function whose code entry comes next
+-- The type index of the function whose code entry comes next.
 abbrev pub next_type : IndexSpaces → Option ℕ
 next_type s = slice_get s.functions (s.imported_functions + s.bodies)

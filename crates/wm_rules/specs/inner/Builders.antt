@@ -1,4 +1,4 @@
--- What a builder holds.
+-- The state of a builder.
 use Rattle.std.specs.Prelude.{List, Option, None, Some}
 use Rattle.std.specs.String.{string_bytes}
 use Rattle.wm_syntax.specs.declared.types.ValType.{ValType}
@@ -7,7 +7,7 @@ use Rattle.wm_syntax.specs.Values.{value_of}
 use Rattle.wm_rules.specs.declared.builder.Builder.{Builder}
 use Rattle.wm_rules.specs.exact.Built.{Built, Code}
 
--- the code entry at hand, where its locals stand
+-- The code entry at hand; `None` if there are no locals of one.
 abbrev pub code_at : Option (List ValType) → Place → Option Code
 code_at None p = None
 code_at (Some ts) p = Some (record { locals = ts; body = p })

@@ -1,4 +1,4 @@
-//! What a loader holds, and what it gives.
+//! The loader and its result.
 
 ghost use Rattle.wm_syntax.specs.Values.{value_of};
 ghost use Rattle.wm_rules.specs.Loading.{IsLoaded};
@@ -10,14 +10,14 @@ use crate::checker::Checker;
 use wm_decode::{Decoder, Refusal};
 use wm_syntax::modules::Module;
 
-/// A valid module (section 3.4.10) whose encoding is not too large: it was loaded.
+/// A module that was loaded: it is valid, and its encoding is not too large. Core spec 3.4.10.
 #[derive(Debug, Drop)]
 pub struct Checked {
     pub(crate) module_value: Module,
     ghost loaded: { ∥ IsLoaded (value_of module_value) ∥₁ },
 }
 
-/// Loads a module that comes in pieces. After a refusal it holds that alone.
+/// Loads a module that comes in pieces. After a refusal it holds only the refusal.
 #[derive(Debug, Drop)]
 pub struct Loader {
     pub(crate) state: Result<Decoder<Both<Checker, Builder>>, Refusal>,
