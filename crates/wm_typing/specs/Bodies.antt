@@ -1,4 +1,4 @@
--- What is held of a body that is being typed, and what it counts.
+-- The state of a body that is being typed, and its figures.
 use Rattle.std.specs.Prelude.{ℕ, ◌+◌, ◌*◌, ◌≤◌, ◌≡◌, List, [], Option, None, length, max}
 use Rattle.wm_syntax.specs.declared.types.ValType.{ValType}
 use Rattle.wm_syntax.specs.declared.why.Why.{Why}
@@ -7,13 +7,13 @@ use Rattle.wm_syntax.specs.Runs.{run_count}
 use Rattle.wm_typing.specs.declared.stats.BodyStats.{BodyStats}
 use Rattle.wm_typing.specs.declared.labels.BrTable.{BrTable}
 
--- the stacks, and the br_table whose labels are being read
+-- The stacks, and the br_table whose labels are being read.
 pub record BodyState : Type 0 where
   pub stacks : Stack
   pub table : Option BrTable
 
--- the index of the function's type and its result, its declared locals, the stacks, the counts since the body
--- began, and the refusal that ended it
+-- The state of a body: the type index and the result of its function, its declared locals, the stacks, the
+-- figures since it began, and the refusal that ended it.
 pub record Body : Type 0 where
   pub type_index : ℕ
   pub result : Option ValType
@@ -22,12 +22,12 @@ pub record Body : Type 0 where
   pub stats : BodyStats
   pub refused : Option Why
 
--- the runs, operands and frames that are kept
+-- The number of retained runs of locals, operands and frames.
 abbrev pub body_entries : Body → ℕ
 body_entries b = run_count b.declared + height_sum b.state.stacks
 
--- The counts after a call that left these stacks, and whose find read so many runs: the moves are those of
--- the stacks, the others the greatest so far.
+-- The figures after a call that left these stacks and read `probes` runs of locals. `moves` is that of the
+-- stacks, and the others are the greatest so far.
 abbrev pub stats_after : Stack → ℕ → BodyStats → BodyStats
 stats_after s probes b = record {
   moves = s.moves;
@@ -36,7 +36,7 @@ stats_after s probes b = record {
   probes = max b.probes probes;
 }
 
--- what n ops allow: so many entries and moves, and 32 runs read to find a local
+-- The bounds that n ops allow for entries, moves and figures. A search for a local reads at most 32 runs.
 pub record WithinOps (n : ℕ) (b : Body) : Type 0 where
   pub heights : height_sum b.state.stacks ≤ n + 1
   pub moves : b.state.stacks.moves + height_sum b.state.stacks ≤ 4 * n + 2
@@ -45,7 +45,7 @@ pub record WithinOps (n : ℕ) (b : Body) : Type 0 where
   pub controls : b.stats.controls ≤ n + 1
   pub probes : b.stats.probes ≤ 32
 
--- what was pushed was removed again
+-- The number of moves is at least twice each greatest height: all that was pushed was removed again.
 pub record Twice (s : BodyStats) : Type 0 where
   pub operands : 2 * s.operands ≤ s.moves
   pub controls : 2 * s.controls ≤ s.moves
@@ -53,7 +53,7 @@ pub record Twice (s : BodyStats) : Type 0 where
 abbrev pub no_stats : BodyStats
 no_stats = record { moves = 0; operands = 0; controls = 0; probes = 0 }
 
--- before the first body
+-- The state before the first body.
 abbrev pub no_body : Body
 no_body = record {
   type_index = 0;

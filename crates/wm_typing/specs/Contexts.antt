@@ -1,4 +1,4 @@
--- Contexts that a module gives, and the context of a body (sections 3.1.1, 3.4.1).
+-- The context of a module and the context of a body. Core spec 3.1.1 and 3.4.1.
 use Rattle.std.specs.Prelude.{ℕ, ◌<◌, ◌≤◌, List, [], ◌∷◌, ◌++◌, Bool, Option, Some, None, length, slice_get}
 use Rattle.std.specs.List.{AllByRecursion}
 use Rattle.wm_syntax.specs.declared.types.ValType.{ValType}
@@ -6,7 +6,7 @@ use Rattle.wm_syntax.specs.declared.types.GlobalType.{GlobalType}
 use Rattle.wm_syntax.specs.Types.{Signature}
 use Rattle.wm_typing.specs.Typing.{Context}
 
--- what the functions of a module share: no body is open, so there are no locals, labels and result
+-- The context that the functions of a module share. It has no locals, labels and result, since no body is open.
 abbrev pub context : List Signature → List ℕ → List GlobalType → Bool → Bool → Context
 context types functions globals table memory = record {
   types = types;
@@ -19,7 +19,7 @@ context types functions globals table memory = record {
   result = None;
 }
 
--- each type has at most one result, and each function has a type
+-- Each type has at most one result, and each function has a type.
 pub record AreTypes (types : List Signature) (functions : List ℕ) : Type 0 where
   pub results : AllByRecursion (λ f. length f.results ≤ 1) types
   pub indices : AllByRecursion (λ x. x < length types) functions
@@ -36,15 +36,15 @@ abbrev pub result_in : Option Signature → Option ValType
 result_in None = None
 result_in (Some f) = first_of f.results
 
--- the parameters and the result of the type with this index
+-- The parameters (`params_of`) and the result (`result_of`) of the type with this index.
 abbrev pub params_of : Context → ℕ → List ValType
 params_of c x = params_in (slice_get c.types x)
 
 abbrev pub result_of : Context → ℕ → Option ValType
 result_of c x = result_in (slice_get c.types x)
 
--- The context in which the body of a function is typed (section 3.4.1): its locals are the parameters of its
--- type and then the declared ones, its result is its one label too.
+-- The context in which the body of a function is typed. Its locals are the parameters of its type, then the
+-- declared locals. Its result is also its one label. Core spec 3.4.1.
 abbrev pub in_function : Context → ℕ → Option ValType → List ValType → Context
 in_function c x result declared =
     record c { locals = params_of c x ++ declared; labels = result ∷ []; result = result }

@@ -1,9 +1,9 @@
--- How deep instructions are nested in one another.
+-- The nesting depth of instructions.
 use Rattle.std.specs.Prelude.{ℕ, ◌+◌, max}
 use Rattle.wm_syntax.specs.Instructions.{Instruction, Instructions, none, snoc, simple, table, block, loop}
 use Rattle.wm_syntax.specs.Instructions.{choice}
 
--- the deepest nesting of block, loop and if: 0 where there is none
+-- The deepest nesting of block, loop and if; 0 if there is none.
 abbrev mutual
   pub depth : Instruction → ℕ
   depth (simple i) = 0

@@ -1,4 +1,4 @@
--- Bodies that are not complete: the lists of instructions that are open, the innermost first.
+-- Incomplete bodies: the lists of instructions that are open, the innermost first.
 use Rattle.std.specs.Prelude.{ℕ, ◌+◌, ◌≡◌, List, [], ◌∷◌, ◌++◌, Option, Some, None, map, max, length}
 use Rattle.std.specs.Prelude.{slice_get, option_to_list}
 use Rattle.std.specs.List.{AllByRecursion}
@@ -13,24 +13,25 @@ use Rattle.wm_stacks.specs.declared.entries.Frame.{Frame}
 use Rattle.wm_typing.specs.Nesting.{nesting}
 use Rattle.wm_typing.specs.Typing.{Context, Typed}
 
--- what an open list belongs to, with the result of that
+-- The construct that an open list belongs to, with the result of the construct.
 pub data Head : Type 0 where
   head : FrameKind → Option ValType → Head
 
 abbrev pub head_of : Frame → Head
 head_of f = head f.kind f.result
 
--- the complete first list, in the second list of an if; and the complete instructions of the open list so far
+-- The instructions of an open list that are complete so far. `first` is the complete first list, if the open
+-- list is the second list of an if.
 pub data Work : Type 0 where
   work : (first before : Instructions) → Work
 
 pub data Place : Type 0 where
   open_at : List Head → List Work → Place
-  -- within the labels of a br_table: how many come before the default, and those that were seen
+  -- Within the labels of a br_table: how many are left before the default, and those that were seen.
   within : ℕ → List ℕ → List Head → List Work → Place
   complete : Option ValType → Instructions → Place
 
--- the type of the label that an open list has (section 3.3.5)
+-- The type of the label of an open list. Core spec 3.3.5.
 abbrev pub label_type : Head → Option ValType
 label_type (head Loop t) = None
 label_type (head Func t) = t
@@ -38,11 +39,11 @@ label_type (head Block t) = t
 label_type (head If t) = t
 label_type (head Else t) = t
 
--- the context inside of open lists
+-- The context inside the open lists.
 abbrev pub at : Context → List Head → Context
 at c hs = record c { labels = map label_type hs }
 
--- what the instruction that opened a list took from the list around it
+-- The operands that the instruction that opened a list took from the list around it.
 abbrev pub taken_by : Head → List ValType
 taken_by (head Func t) = []
 taken_by (head Block t) = []
@@ -50,7 +51,7 @@ taken_by (head Loop t) = []
 taken_by (head If t) = I32 ∷ []
 taken_by (head Else t) = I32 ∷ []
 
--- in the second list of an if the first has its type
+-- If the list is the second one of an if, the first list has its type.
 abbrev pub FirstHolds : Context → Head → Instructions → Type 0
 FirstHolds c (head Func t) first = Unit {0}
 FirstHolds c (head Block t) first = Unit {0}
@@ -62,29 +63,30 @@ abbrev pub WorkCan : Context → Head → List ValType → Work → Type 0
 WorkCan c h taken (work first before) =
     FirstHolds c h first × ((types : List ValType) × Typed c before [] (types ++ taken))
 
--- each open list has a typing, from which the instruction that opened the list inside it
--- could take what it takes
+-- Each open list has a typing, and its topmost types are those taken by the list inside it. For the innermost
+-- list, `taken` are those types.
 abbrev pub OpenCan : Context → List ValType → List Head → List Work → Type 0
 OpenCan c taken [] [] = Unit {0}
 OpenCan c taken (h ∷ hs) [] = ⊥
 OpenCan c taken [] (w ∷ ws) = ⊥
 OpenCan c taken (h ∷ hs) (w ∷ ws) = WorkCan (at c (h ∷ hs)) h taken w × OpenCan c (taken_by h) hs ws
 
--- these labels exist, and have this type
+-- These labels exist and have this type.
 abbrev pub AllHave : List (Option ValType) → Option ValType → List ℕ → Type 0
 AllHave labels t seen = AllByRecursion (λ l. slice_get labels l ≡ Some t) seen
 
--- the labels of a br_table so far exist, and have one type
+-- The labels of a br_table so far exist and have one type.
 abbrev pub SeenCan : List Head → List ℕ → Type 0
 SeenCan hs seen = (t : Option ValType) × AllHave (map label_type hs) t seen
 
--- what is open at a place has a typing
+-- The open lists of the place have a typing, and so have the labels that were seen. A complete body has its
+-- type.
 abbrev pub CanType : Context → Place → Type 0
 CanType c (open_at hs ws) = OpenCan c [] hs ws
 CanType c (within n seen hs ws) = SeenCan hs seen × OpenCan c (I32 ∷ []) hs ws
 CanType c (complete r s) = Typed (at c (head Func r ∷ [])) s [] (option_to_list r)
 
--- the ops that opened a list inside of another one, with those of the instructions in it so far
+-- The ops of a list inside another one: the op that opened it, then those of its instructions so far.
 abbrev pub IsWork : Head → Work → List Op → Type 0
 IsWork (head Func t) (work first s) ops = ⊥
 IsWork (head Block t) (work first s) ops =
@@ -97,7 +99,7 @@ IsWork (head Else t) (work first s) ops =
     (then_ops : List Op) × (inner : List Op) × HasOps first then_ops × HasOps s inner
     × (ops ≡ op.If t ∷ then_ops ++ op.Else ∷ inner)
 
--- the body itself
+-- The ops so far of the body's own list.
 abbrev pub IsBodyWork : Option ValType → Head → Work → List Op → Type 0
 IsBodyWork r (head Func t) (work first s) ops = (t ≡ r) × (first ≡ none) × HasOps s ops
 IsBodyWork r (head Block t) w ops = ⊥
@@ -105,7 +107,7 @@ IsBodyWork r (head Loop t) w ops = ⊥
 IsBodyWork r (head If t) w ops = ⊥
 IsBodyWork r (head Else t) w ops = ⊥
 
--- the ops so far of open lists
+-- The ops so far of these open lists, in a body with this result.
 abbrev pub IsOpen : Option ValType → List Head → List Work → List Op → Type 0
 IsOpen r [] ws ops = ⊥
 IsOpen r (h ∷ hs) [] ops = ⊥
@@ -115,7 +117,7 @@ IsOpen r (h ∷ g ∷ hs) (w ∷ ws) ops =
     (outer : List Op) × (inner : List Op) × IsOpen r (g ∷ hs) ws outer × IsWork h w inner
     × (ops ≡ outer ++ inner)
 
--- the ops so far of a body with this result
+-- The ops so far of a body with this result, at this place.
 abbrev pub IsSoFar : Option ValType → Place → List Op → Type 0
 IsSoFar r (open_at hs ws) ops = IsOpen r hs ws ops
 IsSoFar r (within n seen hs ws) ops =
@@ -123,8 +125,8 @@ IsSoFar r (within n seen hs ws) ops =
     × (ops ≡ before ++ op.BrTable (length seen + n) ∷ map op.Label seen)
 IsSoFar r (complete t s) ops = (t ≡ r) × ((inner : List Op) × HasOps s inner × (ops ≡ inner ++ op.End ∷ []))
 
--- how many lists are open, and how deep the instructions so far are nested: 1 for those that
--- stand in the body itself
+-- The number of open lists (`levels`), and the nesting depth of the instructions so far (`deepest_so_far`).
+-- Instructions directly in the body have depth 1.
 abbrev pub levels : Place → ℕ
 levels (open_at hs ws) = length hs
 levels (within n seen hs ws) = length hs

@@ -1,4 +1,4 @@
--- What a body's check holds after the ops so far, and what its answers say of them.
+-- Typings of a body and of its ops so far, and the types that frames denote.
 use Rattle.std.specs.Prelude.{ℕ, ◌-◌, ◌≡◌, ◌↔◌, List, [], ◌∷◌, ◌++◌, Option, Some, None, map, length, take}
 use Rattle.std.specs.Prelude.{drop, reverse, option_to_list}
 use Rattle.wm_syntax.specs.declared.types.ValType.{ValType}
@@ -13,24 +13,23 @@ use Rattle.wm_typing.specs.Typing.{Context, Typed}
 use Rattle.wm_typing.specs.OpenLists.{Head, Work, work, Place, within, head_of, at, taken_by, CanType, IsOpen}
 use Rattle.wm_typing.specs.OpenLists.{IsSoFar}
 
--- the ops of a list of instructions, and the end of the body
+-- The ops of a list of instructions, then the `end` of the body.
 abbrev pub HasBodyOps : Instructions → List Op → Type 0
 HasBodyOps s ops = (inner : List Op) × HasOps s inner × (ops ≡ inner ++ op.End ∷ [])
 
--- the ops are those of a body that has its type (section 3.4.1), and of no other body
+-- The ops are those of exactly one body, and this body has its type. Core spec 3.4.1.
 pub record IsTypedBody (c : Context) (ops : List Op) : Type 0 where
   pub body : Instructions
   pub flat : HasBodyOps body ops
   pub only : (other : Instructions) → HasBodyOps other ops → other ≡ body
   pub typed : Typed c body [] (option_to_list c.result)
 
--- the ops so far have a typing in their open lists
+-- The ops so far have a typing in their open lists.
 abbrev pub HaveTyping : Context → List Op → Type 0
 HaveTyping c ops = (p : Place) × IsSoFar c.result p ops × CanType c p
 
--- Each open list of instructions, the innermost first, has from [] exactly the types that its frame
--- denotes: the operands above its floor, once those that the instruction which opened the list
--- inside it took are gone.
+-- Each open list, the innermost first, can give exactly the types that its frame denotes. The frame denotes the
+-- operands above its floor. The operands taken by the list inside it are gone from these.
 abbrev pub DenoteEach : Context → List ValType → List Frame → List Entry → List Work → Type 0
 DenoteEach c taken [] entries [] = Unit {0}
 DenoteEach c taken (f ∷ fs) entries (work first s ∷ ws) =
@@ -40,8 +39,8 @@ DenoteEach c taken (f ∷ fs) entries (work first s ∷ ws) =
     × DenoteEach c (taken_by (head_of f)) fs (drop (length entries - f.floor) entries) ws
 DenoteEach c taken _ entries _ = ⊥
 
--- The same of the ops so far. Where a table of labels is held they end within the labels of a br_table, and
--- nothing more is said.
+-- Each open list of the ops so far can give exactly the types that its frame denotes. Within the labels of a
+-- br_table, nothing is claimed but that the ops end there.
 abbrev pub FramesDenote : Context → List Op → Option BrTable → Stack → Type 0
 FramesDenote c ops (Some t) s =
     (n : ℕ) × (seen : List ℕ) × (hs : List Head) × (ws : List Work)

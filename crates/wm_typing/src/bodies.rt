@@ -1,4 +1,4 @@
-//! Whole bodies.
+//! Types whole function bodies.
 
 ghost use Rattle.std.specs.Prelude.{◌≡◌, ◌+◌, ◌*◌, ◌<◌, ◌≤◌, ◌^◌, ◌⊎◌, ℕ, List, [], ◌++◌, IfErr, IfOk};
 ghost use Rattle.std.specs.Prelude.{MatchResult, OnOk, None, length};
@@ -21,9 +21,10 @@ use wm_syntax::instructions::Op;
 use wm_syntax::types::ValType;
 use wm_syntax::why::Why;
 
-/// Types the body of a function of the type with this index: its declared locals in runs of one type,
-/// and its ops, the last `end` included. Where the ops end before the body, or go on after it, that is
-/// `BodyEnd`.
+/// Types the body of a function with this type index, and returns its figures. `runs` has its declared locals,
+/// and `ops` ends with the last `end`. Unless memory runs out, it succeeds if and only if there are fewer than
+/// 2^32 declared locals and the body has its type. Fails with `BodyEnd` if the ops end before the body or
+/// continue after it. Core spec 3.4.1.
 pub fn check_body(
     alloc: Global,
     context: &Context<'_>,
@@ -66,7 +67,7 @@ fn declare_all(checker: &mut BodyChecker, runs: &[(u32, ValType)]) -> Result<(),
     Ok(())
 }
 
-// Takes each op, the last of which ends the body.
+// Takes all ops. Fails with `BodyEnd` if the body does not end with the last op.
 fn step_all(checker: &mut BodyChecker, context: &Context<'_>, ops: &[Op]) -> Result<(), Why>
     requires begun { BodyAfter context.now checker.old.type_index checker.old.declared [] checker.old }
     requires few { length checker.old.declared < 2 ^ 32 }

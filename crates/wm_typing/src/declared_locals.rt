@@ -1,4 +1,4 @@
-//! A function's declared locals, and how they are searched.
+//! The declared locals of a function, and the search for one.
 
 ghost use Rattle.std.specs.Prelude.{◌≡◌, ◌+◌, ◌^◌, ◌<◌, ◌≤◌, ◌⊎◌, [], ◌++◌, Ok, Err, OnErr, OnOk};
 ghost use Rattle.std.specs.Prelude.{MatchResult, length, replicate, slice_get};
@@ -14,10 +14,9 @@ use wm_stacks::run_table::RunTable;
 use wm_syntax::types::ValType;
 use wm_syntax::why::Why;
 
-/// The declared locals, what searches found of them, and the most runs that one search read.
+/// The declared locals, the types that searches found, and the greatest number of runs that one search read.
 ///
-/// A local of a whole number that was found once is not searched again: its search would read what it read
-/// before.
+/// A local of a whole number that a search found is not searched again: the search would read the same runs.
 #[derive(Debug, Drop)]
 pub(crate) struct DeclaredLocals {
     table: RunTable,
@@ -40,7 +39,7 @@ impl Model for DeclaredLocals {
 }
 
 impl DeclaredLocals {
-    // None, and nothing was searched.
+    // Returns no locals, before any search.
     pub(crate) fn new(alloc: Global) -> Self
         ensures { result ≡ record { types = []; probes = 0 } }
     {
@@ -51,7 +50,7 @@ impl DeclaredLocals {
         }
     }
 
-    // Forgets the locals and the searches; what was taken of memory stays taken.
+    // Forgets the locals and the searches. It frees no memory.
     pub(crate) fn restart(&mut self)
         ensures { self.new ≡ record { types = []; probes = 0 } }
     {
@@ -59,7 +58,7 @@ impl DeclaredLocals {
         self.probes = 0;
     }
 
-    // Forgets the locals.
+    // Forgets the locals; `probes` stays.
     pub(crate) fn clear(&mut self)
         ensures { self.new ≡ record { types = []; probes = self.old.probes } }
     {
@@ -67,22 +66,22 @@ impl DeclaredLocals {
         self.known = KnownLocals::none();
     }
 
-    // How many maximal runs of one type they are.
+    // The number of maximal runs of one type.
     pub(crate) fn runs(&self) -> usize
         ensures { result ≡ run_count self.now.types }
     {
         self.table.runs()
     }
 
-    // The most runs that one search read.
+    // The greatest number of runs that one search read.
     pub(crate) fn probes(&self) -> u64
         ensures { result ≡ self.now.probes }
     {
         self.probes
     }
 
-    // Adds `count` locals of one type. It is refused (`TooManyLocals`) where there would be 2^32 or
-    // more, or by `Memory`. A refusal changes nothing.
+    // Adds `count` locals of one type. Fails with `TooManyLocals` if there would be 2^32 or more, or with
+    // `Memory`. A failure changes nothing.
     pub(crate) fn add(&mut self, count: u32, ty: ValType) -> Result<(), Why>
         ensures ok { OnOk result (self.new ≡ record {
           types = self.old.types ++ replicate count ty;
@@ -99,7 +98,7 @@ impl DeclaredLocals {
         self.table.add(count, ty)
     }
 
-    // The type of the local with this index, None where there is none.
+    // The type of the declared local with this index; `None` if there is none.
     #[inline(always)]
     pub(crate) fn find(&mut self, index: u32) -> Option<ValType>
         ensures ty { result ≡ slice_get self.old.types index }

@@ -1,4 +1,4 @@
-//! The function types of a module, in two lists.
+//! The function types of a module, stored in two lists.
 
 ghost use Rattle.std.specs.Prelude.{◌≡◌, ◌+◌, ◌-◌, ◌<◌, [], ◌∷◌, ◌++◌, None, Some, MatchOption, MatchResult};
 ghost use Rattle.std.specs.Prelude.{OnErr, OnOk, length, option_to_list, slice_get};
@@ -9,22 +9,22 @@ use std::alloc::{AllocError, Global};
 use std::marker::Model;
 use wm_syntax::types::ValType;
 
-/// Function types (section 2.3.3) that have one result at most. The parameters of all stand in one list, so
-/// that a type has no block of memory of its own. Contracts see the list of types.
+/// Function types with at most one result. The parameters of all types are in one list, so that a type needs no
+/// allocation of its own. Contracts see the list of types. Core spec 2.3.3.
 #[derive(Debug, Drop)]
 pub struct FuncTypes {
     params: Vec<ValType>,
     entries: Vec<TypeEntry>,
 }
 
-/// A function type that is lent.
+/// A borrowed function type.
 #[derive(Clone, Copy, Debug)]
 pub struct FuncTypeRef<'a> {
     pub params: &'a [ValType],
     pub result: Option<ValType>,
 }
 
-// Where the parameters of a type begin, how many there are, and its result
+// The start and the number of a type's parameters, and its result.
 #[derive(Clone, Copy, Debug, PartialEq, Eq)]
 struct TypeEntry {
     start: usize,
@@ -45,7 +45,7 @@ impl Model for FuncTypes {
 }
 
 impl FuncTypes {
-    /// No types.
+    /// Returns an empty list of types.
     pub fn new(alloc: Global) -> Self
         ensures { result ≡ [] }
     {
@@ -55,14 +55,14 @@ impl FuncTypes {
         }
     }
 
-    /// How many types there are.
+    /// The number of types.
     pub fn len(&self) -> usize
         ensures { result ≡ length self.now }
     {
         self.entries.len()
     }
 
-    /// The type with this index, None where there is none.
+    /// The type with this index, or `None` if there is none.
     #[inline]
     pub fn get(&self, index: usize) -> Option<FuncTypeRef<'_>>
         ensures { MatchOption result (slice_get self.now index ≡ None)
@@ -78,7 +78,8 @@ impl FuncTypes {
         })
     }
 
-    // The parameter with this index of a type, or how far past the last one that is.
+    // The parameter of a type with this index. Fails with `index` less the number of parameters if there is
+    // none.
     #[inline(always)]
     pub(crate) fn param(&self, ty: usize, index: u32) -> Result<ValType, u32>
         ensures { MatchResult result
@@ -97,7 +98,7 @@ impl FuncTypes {
         }
     }
 
-    /// The last type, None where there is none.
+    /// The last type, or `None` if there is none.
     pub fn last(&self) -> Option<FuncTypeRef<'_>>
         ensures { MatchOption result (slice_get self.now (length self.now - 1) ≡ None)
             (λ f. slice_get self.now (length self.now - 1) ≡ Some (record {
@@ -108,7 +109,7 @@ impl FuncTypes {
         self.get(self.len().saturating_sub(1))
     }
 
-    /// Adds a type.
+    /// Adds a type. Fails if memory runs out, and changes nothing then.
     pub fn push(&mut self, params: &[ValType], given: Option<ValType>) -> Result<(), AllocError>
         ensures ok { OnOk result (self.new ≡ self.old ++ record {
           params = params.now;
@@ -120,7 +121,7 @@ impl FuncTypes {
         Ok(())
     }
 
-    /// The last type has one more parameter.
+    /// Adds a parameter to the last type, which must exist. Fails if memory runs out, and changes nothing then.
     pub fn push_param(&mut self, ty: ValType) -> Result<(), AllocError>
         requires { 0 < length self.old }
         ensures ok { OnOk result
@@ -128,14 +129,14 @@ impl FuncTypes {
         ensures err { OnErr result (self.new ≡ self.old) }
     {
         self.params.push(ty)?;
-        // no test: a type has no more parameters than there are
+        // no test: its contract bounds the number of all parameters, and so the count of this type
         let _total = self.params.len();
         let last = self.entries.len() - 1;
         self.entries[last].count += 1;
         Ok(())
     }
 
-    /// The last type has this result, and no other.
+    /// Sets the result of the last type, which must exist.
     pub fn set_result(&mut self, ty: ValType)
         requires { 0 < length self.old }
         ensures { self.new ≡ with_last (λ f. record f { results = ty ∷ [] }) self.old }
@@ -145,7 +146,7 @@ impl FuncTypes {
     }
 }
 
-// Adds parameters, and the entry of their type.
+// Adds the parameters and the entry of a type. A failure changes nothing.
 fn push_entry(
     all: &mut Vec<ValType>,
     entries: &mut Vec<TypeEntry>,

@@ -1,4 +1,4 @@
-//! Locals of whole numbers whose types are known from an earlier search.
+//! Locals of whole numbers whose types an earlier search found.
 
 ghost use Rattle.std.specs.Prelude.{◌≡◌, ℕ, ◌⊎◌, IfSome};
 ghost use Rattle.wm_syntax.specs.declared.types.ValType.{ValType as AType};
@@ -6,10 +6,10 @@ ghost use Rattle.wm_typing.specs.inner.DeclaredLocals.{Knows};
 
 use wm_syntax::types::ValType;
 
-// So many locals have a bit each.
+// The number of locals that have a bit each.
 const IN_BITS: u32 = 64;
 
-// Which of the first 64 locals are known, and which of these have the type i64.
+// Bits for the first 64 locals: whether each is known, and whether its type is i64.
 #[derive(Clone, Copy, Debug)]
 pub(crate) struct KnownLocals {
     known: u64,
@@ -17,7 +17,7 @@ pub(crate) struct KnownLocals {
 }
 
 impl KnownLocals {
-    // None is known.
+    // Returns a value in which no local is known.
     pub(crate) fn none() -> Self
         ensures { (i : ℕ) (t : AType) → Knows result i t → ⊥ }
     {
@@ -39,7 +39,7 @@ impl KnownLocals {
         }
     }
 
-    // Remembers the type of a local, if it is one of the first and a whole number's.
+    // Remembers the type of a local if its index is below 64 and it is a whole number.
     pub(crate) fn note(&mut self, index: u32, ty: ValType)
         ensures { (i : ℕ) (t : AType) → Knows self.new i t → Knows self.old i t ⊎ ((i ≡ index) × (t ≡ ty)) }
     {
@@ -56,7 +56,7 @@ impl KnownLocals {
                 self.known |= bit;
                 self.wide |= bit;
             }
-            // floats are rare: a local of one is searched each time
+            // float locals are rare: they are searched each time
             ValType::F32 | ValType::F64 => {}
         }
     }

@@ -1,4 +1,4 @@
-//! Laws of the definitions.
+//! Laws of the definitions. Each law is the contract of an empty function.
 
 ghost use Rattle.std.specs.Prelude.{◌≡◌, ◌+◌, ◌≤◌, ◌↔◌, ℕ, suc, List, [], ◌∷◌, ◌++◌, Ok, Err, Option, length};
 ghost use Rattle.std.specs.Prelude.{replicate};
@@ -20,8 +20,8 @@ ghost use Rattle.wm_typing.specs.Nesting.{nesting};
 ghost use Rattle.wm_typing.specs.OpenLists.{Head, IsOpen, IsSoFar, OpenCan, Place, SeenCan, Work, within};
 ghost use Rattle.wm_typing.specs.Typing.{Context};
 
-/// Ops in turn are taken exactly where they have a typing in their open lists, and what is held then is
-/// what `After` says, if each type has at most one result.
+/// Ops one after another are taken if and only if they have a typing in their open lists. `BodyAfter` then
+/// holds. Each type must have at most one result.
 pub fn ops_in_turn()
     ensures taken { (c : Context) (x : ℕ) (locals : List ValType) (ops : List Op) (b : Body)
         → AllByRecursion (λ f. length f.results ≤ 1) c.types
@@ -32,7 +32,8 @@ pub fn ops_in_turn()
         → HaveTyping (body_context c x locals) ops → ⊥ }
 {}
 
-/// What `After` says of the ops and of what is held.
+/// Consequences of `BodyAfter`: a typing of the ops, the end of the body, the number of open frames, and
+/// `controls`.
 pub fn after_ops()
     ensures typed { (c : Context) (x : ℕ) (locals : List ValType) (ops : List Op) (b : Body)
         → BodyAfter c x locals ops b
@@ -48,25 +49,23 @@ pub fn after_ops()
         → (body : Instructions) → HasBodyOps body ops → b.stats.controls ≡ nesting body + 1 }
 {}
 
-/// A typed body's ops have a typing at each front of them.
+/// Each front of a typed body's ops has a typing in its open lists.
 pub fn fronts_of_typed_bodies()
     ensures { (c : Context) (x : ℕ) (locals : List ValType) (front back : List Op)
         → IsTypedBody (body_context c x locals) (front ++ back)
         → HaveTyping (body_context c x locals) front }
 {}
 
-/// Ops so far, outside the labels of a br_table, begin a typed body where they have a typing in the lists
-/// that they leave open. (Within those labels they may begin none: the default takes operands that were not
-/// asked.)
+/// Ops outside the labels of a br_table begin a typed body if they have a typing in the lists that they leave
+/// open. Ops that end among these labels may begin none: the default takes operands that were not checked.
 pub fn open_ops_begin_a_body()
     ensures { (c : Context) (x : ℕ) (locals : List ValType) (hs : List Head) (ws : List Work) (ops : List Op)
         → IsOpen (result_of c x) hs ws ops → OpenCan (body_context c x locals) [] hs ws
         → (more : List Op) × IsTypedBody (body_context c x locals) (ops ++ more) }
 {}
 
-/// Within a br_table (section 3.3.5): its count has a typing exactly where an i32 can be on top of the
-/// innermost list, and a label before the default exactly where it and those before it exist and have one
-/// type.
+/// The op of a br_table has a typing if and only if an i32 can be on top of the innermost list. A label before
+/// the default has one if and only if it and those before it exist and have one type. Core spec 3.3.5.
 pub fn labels_of_a_table()
     ensures count { (c : Context) (hs : List Head) (ws : List Work) (ops : List Op) (n : ℕ)
         → IsOpen c.result hs ws ops
@@ -77,13 +76,13 @@ pub fn labels_of_a_table()
         → HaveTyping c (ops ++ op.Label l ∷ []) ↔ (SeenCan hs (seen ++ l ∷ []) × OpenCan c (I32 ∷ []) hs ws) }
 {}
 
-/// Locals of one type are at most one run of them more.
+/// Locals of one type add at most one run.
 pub fn one_run_more()
     ensures { (locals : List ValType) (count : ℕ) (t : ValType)
         → run_count (locals ++ replicate count t) ≤ run_count locals + 1 }
 {}
 
-/// Ops so far are open in one way only.
+/// Some ops have at most one place: the lists that they leave open are unique.
 pub fn one_place()
     ensures { (r : Option ValType) (p q : Place) (ops : List Op) → IsSoFar r p ops → IsSoFar r q ops → p ≡ q }
 {}

@@ -1,4 +1,4 @@
-//! The typing of function bodies (chapter 3 of the specification), checked in one pass.
+//! Types function bodies in one pass. Core spec, chapter 3.
 #![tactic(auto)]
 
 mod blocks;

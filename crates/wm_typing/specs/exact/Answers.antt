@@ -1,5 +1,4 @@
--- How an answer of the code goes with the function that it follows: the same refusal,
--- unless memory was refused.
+-- How an answer of the code relates to its exact answer: both have the same refusal, unless memory runs out.
 use Rattle.std.specs.Prelude.{ℕ, ◌+◌, ◌^◌, ◌≡◌, ◌<◌, ◌≤◌, ◌⊎◌, true, false, nat_le, length, Option, Some}
 use Rattle.std.specs.Prelude.{None}
 use Rattle.std.specs.Prelude.{Result, Ok, Err}
@@ -12,39 +11,40 @@ use Rattle.wm_typing.specs.exact.Ops.{drive_close}
 use Rattle.wm_typing.specs.Typing.{Context}
 use Rattle.wm_typing.specs.Answers.{Room, stack_weight}
 
--- this is done, or refused for this reason, or memory is refused
+-- The call does this, or fails for this reason, or fails with `Memory`.
 abbrev pub Does : {A S : Type 0} → (A → S) → Result S Why → Result A Why → Type 0
 Does made r (Ok a) = r ≡ Ok (made a)
 Does made r (Err why) = (why ≡ Memory) ⊎ (r ≡ Err why)
 
--- the item, or this refusal where there is none
+-- The item, or this error if there is none.
 abbrev pub IsFound : {A : Type 0} → Option A → Why → Result A Why → Type 0
 IsFound o why (Ok a) = o ≡ Some a
 IsFound o why (Err w) = (o ≡ None) × (w ≡ why)
 
--- the result is taken and the frame is closed, or it is refused for this reason, whatever would come then
+-- The result is taken and the frame is closed, or the call fails for this reason, whatever `k` would do next.
 abbrev pub Closes : Option ValType → Stack → Result Frame Why → Stack → Type 0
 Closes t s (Ok f) z = (k : Frame → Stack → Result Stack Why) → drive_close t s k ≡ k f z
 Closes t s (Err why) z = (k : Frame → Stack → Result Stack Why) → drive_close t s k ≡ Err why
 
--- at most this much more weight and height
+-- There is at most this much more weight and height.
 abbrev pub Adds : ℕ → ℕ → Stack → Stack → Type 0
 Adds w h s z = (stack_weight z ≤ stack_weight s + w) × (height_sum z ≤ height_sum s + h)
 
--- a frame is open, and the heights are far from the greatest number
+-- A frame is open, and the stacks have fewer than 2^63 entries together.
 abbrev pub CanAct : Stack → Type 0
 CanAct s = (0 < length s.frames) × (height_sum s < 2 ^ 63)
 
--- What came of an act on the stacks: it is done, or refused for this reason, or memory is; that only where a
--- stack has no room in itself; and the stacks have at most so much more weight and height.
+-- The answer of a call on the stacks. It does this, or fails for this reason, or fails with `Memory`. `Memory`
+-- comes only if there are at least 64 operands or 32 frames. Weight and height grow by at most `w` and `h`.
 abbrev pub ActsAs : {A S : Type 0} → (A → S) → Result S Why → ℕ → ℕ → Stack → Stack → Result A Why → Type 0
 ActsAs made r w h s z result = Does made r result × Room s result × Adds w h s z
 
--- the same, where the stacks are what is made
+-- `ActsAs` for a call that makes the stacks.
 abbrev pub Acts : {A : Type 0} → Result Stack Why → ℕ → ℕ → Stack → Stack → Result A Why → Type 0
 Acts r w h s z result = ActsAs (λ _. z) r w h s z result
 
--- memory 0 exists and the alignment is at most the width; else the first of these that fails is named
+-- There is a memory, and the alignment is at most the width. Otherwise the error names the first of these that
+-- fails.
 abbrev pub MayAccess : {A : Type 0} → Context → ℕ → ℕ → Result A Why → Type 0
 MayAccess c align width (Ok a) = (c.has_memory ≡ true) × (nat_le (2 ^ align) width ≡ true)
 MayAccess c align width (Err w) =

@@ -1,7 +1,6 @@
--- What each call does to a body that is being typed, refusals included. These follow the code step by step,
--- for the layers above, whose answers are functions of what they were given. No promise rests on them alone
--- but how many runs an op reads (`probes_in`), which is that of its `find`: the words of a call's other
--- clauses are in After.
+-- The effect of each call on a body that is being typed, refusals included. They follow the code step by step,
+-- for the layers above. No promise rests on them alone except the number of runs that an op reads
+-- (`probes_in`), which is that of its `find`. The other clauses of the calls use `BodyAfter`.
 use Rattle.std.specs.Prelude.{ℕ, List, [], ◌∷◌, Option, Some, None, Result, Ok, Err}
 use Rattle.wm_syntax.specs.declared.types.ValType.{ValType}
 use Rattle.wm_syntax.specs.declared.why.Why.{Why}
@@ -29,16 +28,16 @@ body_at_start c x = record {
   refused = None;
 }
 
--- the context of the function at hand
+-- The context of the function at hand.
 abbrev pub context_in : Context → Body → Context
 context_in c b = in_function c b.type_index b.result b.declared
 
--- the declared locals are kept as long as a frame is open
+-- The declared locals, which are retained as long as a frame is open.
 abbrev pub while_open : List Frame → List ValType → List ValType
 while_open [] declared = []
 while_open (f ∷ fs) declared = declared
 
--- with these stacks, so many runs having been read
+-- The body with these stacks, after `probes` runs were read.
 abbrev pub with_state : Body → ℕ → BodyState → Body
 with_state b probes s =
     record b {
@@ -55,12 +54,12 @@ abbrev pub unless_refused : {A : Type 0} → Option Why → Result A Why → Res
 unless_refused None r = r
 unless_refused (Some why) r = Err why
 
--- one op more
+-- The body after one more op.
 abbrev pub body_after_op : Context → Op → Body → Result Body Why
 body_after_op c x b =
     unless_refused b.refused (body_from b (probes_in c b x) (step (context_in c b) b.state x))
 
--- a body has ended where no frame is open
+-- A body has ended if no frame is open.
 abbrev pub progress_at : List Frame → Progress
 progress_at [] = Ended
 progress_at (f ∷ fs) = Inside
@@ -69,11 +68,12 @@ abbrev pub declared_to : Body → Result (List ValType) Why → Result Body Why
 declared_to b (Ok types) = Ok (record b { declared = types; stats = stats_after b.state.stacks 0 b.stats })
 declared_to b (Err why) = Err why
 
--- more locals of one type
+-- The body with more locals of one type.
 abbrev pub declared_more : ℕ → ValType → Body → Result Body Why
 declared_more count t b = unless_refused b.refused (declared_to b (add_run count t b.declared))
 
--- what a refusal leaves: it is remembered, the counts go on, and the locals and the function's type stay
+-- The body after a refusal. The refusal is stored, the figures are updated, and the locals and the function's
+-- type stay.
 abbrev pub refused_with : Why → ℕ → BodyState → Body → Body
 refused_with why probes s b = record b {
   state = s;

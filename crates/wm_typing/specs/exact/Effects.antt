@@ -1,5 +1,5 @@
--- An exact mirror for the layers above: what a simple instruction does to operands, as a function of the
--- context, with the name of the refusal where it can do nothing. No promise rests on it alone: see `Typing`.
+-- The effect of a simple instruction on the operands, as a function of the context; `ill` with the refusal if
+-- it has none. It follows the code exactly, for the layers above. No promise rests on it alone: see `Typing`.
 use Rattle.std.specs.Prelude.{ℕ, ◌^◌, Bool, true, false, List, [], ◌∷◌, ◌++◌, Option, Some, None, slice_get}
 use Rattle.std.specs.Prelude.{option_to_list, nat_le}
 use Rattle.wm_syntax.specs.declared.types.ValType.{ValType}
@@ -17,11 +17,11 @@ use Rattle.wm_syntax.specs.Opcodes.{numeric, load, store}
 use Rattle.wm_typing.specs.Typing.{Context, function_type}
 
 pub data Effect : Type 0 where
-  -- from just these to those
+  -- Takes exactly `takes`, and gives exactly `gives`.
   fixed : (takes gives : List ValType) → Effect
-  -- the same, below an i32 that is taken first
+  -- As `fixed`, but takes an i32 first.
   indirect : (takes gives : List ValType) → Effect
-  -- these on top of any others, to any
+  -- Takes these with any others below them, and gives any.
   is_polymorphic : List ValType → Effect
   drops : Effect
   selects : Effect

@@ -1,4 +1,5 @@
--- Ops in turn, as the layers above take them: an exact mirror, of which the laws in `laws` say what it means.
+-- Ops taken one after another, for the layers above. They follow the code exactly, and the laws in `laws` state
+-- what they mean.
 use Rattle.std.specs.Prelude.{ℕ, List, [], ◌∷◌, Result, Ok, Err}
 use Rattle.wm_syntax.specs.declared.types.ValType.{ValType}
 use Rattle.wm_syntax.specs.declared.why.Why.{Why}
@@ -9,11 +10,11 @@ use Rattle.wm_typing.specs.Typing.{Context}
 use Rattle.wm_typing.specs.Bodies.{Body}
 use Rattle.wm_typing.specs.exact.Bodies.{body_at_start, body_after_op}
 
--- a body that has begun, with these declared locals
+-- A body that has begun, with these declared locals.
 abbrev pub body_with_locals : Context → ℕ → List ValType → Body
 body_with_locals c x locals = record (body_at_start c x) { declared = locals }
 
--- nothing comes after the end
+-- `BodyEnd` if an op comes after the end of the body.
 abbrev pub while_inside : List Frame → Result Body Why → Result Body Why
 while_inside [] r = Err BodyEnd
 while_inside (f ∷ fs) r = r

@@ -1,6 +1,6 @@
--- What each op does to the stacks, and to a br_table whose labels are being read, refusals included. These
--- follow the code step by step, for the layers above, whose answers are functions of what they were given. No
--- promise rests on them alone: the words of a call's other clauses are in After.
+-- The effect of each op on the stacks and on a br_table whose labels are being read, refusals included. They
+-- follow the code step by step, for the layers above. No promise rests on them alone: the other clauses of the
+-- calls use `BodyAfter`.
 use Rattle.std.specs.Prelude.{◌-◌, Bool, true, false, List, [], ◌∷◌, Option, Some, None, Result, Ok, Err}
 use Rattle.std.specs.Prelude.{reverse, map, slice_get, option_to_list, nat_eq, if◌then◌else◌}
 use Rattle.wm_syntax.specs.declared.types.ValType.{ValType}
@@ -34,7 +34,7 @@ abbrev pub push_all : List ValType → Stack → Stack
 push_all [] s = s
 push_all (t ∷ ts) s = push_all ts (push (entry_of_type t) s)
 
--- goes on from a call on the stacks that was not refused
+-- Continues after a call on the stacks that was not refused.
 abbrev pub after_call : {A : Type 0} → Result A Why × Stack → (A → Stack → Result Stack Why)
     → Result Stack Why
 after_call (Ok a, s) k = k a s
@@ -72,7 +72,8 @@ drive drops s = drive_drop s
 drive selects s = drive_select s
 drive (ill w) s = Err w
 
--- an instruction whose type depends on no label, function, global or operand
+-- The instruction is one that `fixed_type` handles: its type depends on no label, no function type and no
+-- operand.
 abbrev pub HasFixedType : Simple → Type 0
 HasFixedType (simple.LocalGet x) = Unit {0}
 HasFixedType (simple.LocalSet x) = Unit {0}
@@ -90,7 +91,8 @@ HasFixedType (simple.Store o at) = Unit {0}
 HasFixedType (simple.Numeric o) = Unit {0}
 HasFixedType p = ⊥
 
--- an instruction on numbers other than a test, a comparison and an operation on numbers of one type
+-- A numeric instruction other than a test, a comparison, a sign extension and an operation on numbers of one
+-- type.
 abbrev pub IsRareNumeric : Numeric → Type 0
 IsRareNumeric (numeric.Test t) = ⊥
 IsRareNumeric (numeric.Compare t c) = ⊥
@@ -102,7 +104,7 @@ IsRareNumeric (numeric.FloatBinary t o) = ⊥
 IsRareNumeric (numeric.SignExtend o) = ⊥
 IsRareNumeric o = Unit {0}
 
--- takes the result of the innermost frame, and closes it
+-- Takes the result of the innermost frame, and closes the frame.
 abbrev pub drive_close : Option ValType → Stack → (Frame → Stack → Result Stack Why) → Result Stack Why
 drive_close t s k = after_call (take_all (reverse (option_to_list t)) s) (λ r z. after_call (close z) k)
 
@@ -117,7 +119,7 @@ abbrev pub drive_else : List Frame → Stack → Result Stack Why
 drive_else [] s = Err why.ElsePlace
 drive_else (f ∷ fs) s = else_of f.kind f.result s
 
--- an if without else has no result
+-- Whether an `end` may close the frame: an `if` with a result needs an `else`.
 abbrev pub may_end : FrameKind → Option ValType → Bool
 may_end If (Some t) = false
 may_end If None = true
@@ -126,7 +128,7 @@ may_end Block t = true
 may_end Loop t = true
 may_end Else t = true
 
--- what an end gives to the frame around it, if there is one
+-- The result of an `end` goes to the frame around it, if there is one.
 abbrev pub give_to : List Frame → Option ValType → Stack → Stack
 give_to [] t s = s
 give_to (f ∷ fs) t s = push_all (option_to_list t) s
@@ -158,7 +160,7 @@ abbrev pub goes_with : Option (Option ValType) → Option ValType → Bool
 goes_with None t = true
 goes_with (Some u) t = same_label u t
 
--- a label of this type: the default, which ends the table, or one before it
+-- The effect of a label of this type. The default ends the table, and a label before it does not.
 abbrev pub drive_known : Option ValType → BrTable → Stack → Result BodyState Why
 drive_known u t s =
     if nat_eq t.left 0 then with_table None (drive_diverges (option_to_list u) s)
@@ -171,7 +173,7 @@ drive_label (Some u) t s = if goes_with t.seen u then drive_known u t s else Err
 abbrev pub labels_of : List Frame → List (Option ValType)
 labels_of fs = map label_of fs
 
--- the context inside of these frames
+-- The context inside these frames.
 abbrev pub within_frames : Context → List Frame → Context
 within_frames c fs = record c { labels = labels_of fs }
 
@@ -186,6 +188,6 @@ drive_op c op.End None s = with_table None (drive_end s.frames s)
 drive_op c (op.BrTable n) None s = with_table (Some (record { left = n; seen = None })) (drive_count s)
 drive_op c _ _ s = Err why.Index
 
--- one op, in the context of a body
+-- The effect of one op, in the context of a body.
 abbrev pub step : Context → BodyState → Op → Result BodyState Why
 step c s x = drive_op c x s.table s.stacks

@@ -1,4 +1,4 @@
--- Which ops can leave more operands or more frames than there were. These follow the code.
+-- Which ops may grow the operand stack or the control stack. They follow the code.
 use Rattle.std.specs.Prelude.{Bool, true, false}
 use Rattle.wm_syntax.specs.declared.instructions.Op.{Op}
 use Rattle.wm_syntax.specs.declared.instructions.Op.TheVariants as op

@@ -1,4 +1,4 @@
--- What an instruction of a fixed type takes, as a list.
+-- The operands that an instruction of a fixed type takes, as a list.
 use Rattle.std.specs.Prelude.{List, [], ◌∷◌}
 use Rattle.wm_syntax.specs.declared.types.ValType.{ValType}
 use Rattle.wm_typing.specs.declared.instructions.Takes.{Takes}

@@ -1,4 +1,4 @@
--- What a body's check holds after the ops so far.
+-- The state of a body's check after the ops so far.
 use Rattle.std.specs.Prelude.{ℕ, ◌+◌, ◌-◌, ◌*◌, ◌^◌, ◌<◌, ◌≤◌, ◌≡◌, List, [], Option, None, length}
 use Rattle.wm_syntax.specs.declared.types.ValType.{ValType}
 use Rattle.wm_syntax.specs.declared.instructions.Op.{Op}
@@ -11,7 +11,7 @@ use Rattle.wm_syntax.specs.Instructions.{openings, endings}
 use Rattle.wm_typing.specs.inner.Frames.{Frames, Holds, TracksWith}
 use Rattle.wm_typing.specs.Bodies.{Body, WithinOps}
 
--- what the stacks hold after these ops, in the context of a body
+-- The stacks and the br_table after these ops, in the context of a body.
 pub record Keeps (c : Context) (ops : List Op) (t : Option BrTable) (s : Stack) : Type 0 where
   pub frames : Frames
   pub place : Place
@@ -19,15 +19,15 @@ pub record Keeps (c : Context) (ops : List Op) (t : Option BrTable) (s : Stack) 
   pub holds : Holds c place frames
   pub goes : TracksWith t s frames
 
--- what was pushed so far was removed again or still stands
+-- All that was pushed so far was removed again or is still on its stack.
 pub record Steady (b : Body) : Type 0 where
   pub operands : length b.state.stacks.operands ≤ b.stats.moves
   pub frames : length b.state.stacks.frames ≤ b.stats.moves
   pub most_operands : 2 * b.stats.operands ≤ b.stats.moves + length b.state.stacks.operands
   pub most_controls : 2 * b.stats.controls ≤ b.stats.moves + length b.state.stacks.frames
 
--- What is held after `begin` in a context and with a type, the declared locals and the ops since then, where
--- nothing was refused. The clauses of the calls say what follows from it: nothing in it has to be believed.
+-- The state after `begin` with a context and a type index, then the declared locals and the ops, if nothing was
+-- refused. The clauses of the calls state what follows from it, so a reader need not believe it.
 pub record BodyAfter (c : Context) (x : ℕ) (locals : List ValType) (ops : List Op) (b : Body) : Type 0 where
   pub unrefused : b.refused ≡ None
   pub type_index : b.type_index ≡ x

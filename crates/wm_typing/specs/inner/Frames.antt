@@ -1,6 +1,6 @@
--- What `After` is made of: open lists of instructions beside the operands of their frames, the top
--- first. Nothing of it has to be believed: the clauses of `step` say what follows, in the words of
--- `Typing` and `OpenLists`.
+-- The parts of `BodyAfter`: the open lists of instructions beside the operands of their frames, topmost first.
+-- A reader need not believe them. The clauses of `step` state what follows, in the terms of `Typing` and
+-- `OpenLists`.
 use Rattle.std.specs.Prelude.{ℕ, ◌≡◌, Bool, true, false, IsTrue, List, [], ◌∷◌, ◌++◌, Option, Some, None, map}
 use Rattle.std.specs.Prelude.{reverse, length, option_to_list, ◌↔◌}
 use Rattle.wm_syntax.specs.declared.types.ValType.{ValType}
@@ -15,18 +15,18 @@ use Rattle.wm_typing.specs.Typing.{Context, Typed}
 use Rattle.wm_typing.specs.OpenLists.{Head, head, head_of, Work, work, Place, open_at, within, complete}
 use Rattle.wm_typing.specs.OpenLists.{label_type, at, taken_by, FirstHolds, AllHave}
 
--- the operands of a frame, and whether it is unreachable
+-- The operands of a frame, and whether it is unreachable.
 pub record Pile : Type 0 where
   pub dead : Bool
   pub entries : List Entry
 
 pub data Frames : Type 0 where
   running : List Head → List Pile → Frames
-  -- how many labels come before the default, and the type of those that were seen
+  -- How many labels are left before the default, and the type of those that were seen.
   in_table : ℕ → Option (Option ValType) → List Head → List Pile → Frames
   ended : Frames
 
--- the lists of types, the top first, that a frame's entries stand for
+-- The lists of types, topmost first, that a frame's entries stand for.
 abbrev pub Below : Bool → List ValType → Type 0
 Below true ts = Unit {0}
 Below false ts = ts ≡ []
@@ -36,11 +36,11 @@ Stands un [] ts = Below un ts
 Stands un (e ∷ es) [] = ⊥
 Stands un (e ∷ es) (t ∷ ts) = IsTrue (fits e t) × Stands un es ts
 
--- the lists of types, the top first, that the instructions lead to
+-- The lists of types, topmost first, that the instructions can give.
 abbrev pub Reach : Context → Instructions → List ValType → Type 0
 Reach c s ts = Typed c s [] (reverse ts)
 
--- what stands for each list of types that the instructions lead to, below those that were taken from it
+-- The frame's entries stand for exactly the types that the instructions can give below the types in `taken`.
 abbrev pub Meets : Context → Head → List ValType → Work → Pile → Type 0
 Meets c h taken (work first s) f =
     FirstHolds c h first × ((ts : List ValType) → Reach c s (reverse taken ++ ts)
@@ -52,7 +52,7 @@ AllMeet c taken (h ∷ hs) (w ∷ ws) (f ∷ fs) = Meets (at c (h ∷ hs)) h tak
     × AllMeet c (taken_by h) hs ws fs
 AllMeet c taken _ _ _ = ⊥
 
--- the labels that were seen, and the type that they have
+-- The labels that were seen exist and have this type; `None` if none was seen.
 abbrev pub HasSeen : List Head → List ℕ → Option (Option ValType) → Type 0
 HasSeen hs [] None = Unit {0}
 HasSeen hs (l ∷ ls) (Some t) = AllHave (map label_type hs) t (l ∷ ls)
@@ -65,7 +65,7 @@ Holds c (within n seen hs ws) (in_table m t gs fs) =
 Holds c (complete r s) ended = Typed (at c (head Func r ∷ [])) s [] (option_to_list r)
 Holds c _ _ = ⊥
 
--- the entries of each frame, of all operands
+-- The operands, cut into the entries of each frame.
 abbrev pub Segments : List Frame → List Entry → List (List Entry) → Type 0
 Segments [] ops [] = ops ≡ []
 Segments (g ∷ gs) ops (es ∷ ess) =
@@ -78,7 +78,7 @@ piles_of [] ess = []
 piles_of (g ∷ gs) [] = []
 piles_of (g ∷ gs) (es ∷ ess) = record { dead = g.unreachable; entries = es } ∷ piles_of gs ess
 
--- the outermost frame alone is a function's
+-- Only the outermost frame is that of the function.
 abbrev pub Nested : List Head → Type 0
 Nested [] = ⊥
 Nested (head Func t ∷ hs) = hs ≡ []
@@ -92,7 +92,7 @@ TracksRunning s hs fs =
     (ess : List (List Entry)) × Segments s.frames s.operands ess × (hs ≡ map head_of s.frames)
     × (fs ≡ piles_of s.frames ess) × Nested (map head_of s.frames)
 
--- the stacks, cut at the floors, are these frames
+-- The stacks, cut at the floors, are these frames.
 abbrev pub Tracks : Stack → Frames → Type 0
 Tracks s (running hs fs) = TracksRunning s hs fs
 Tracks s (in_table n seen hs fs) = ⊥
