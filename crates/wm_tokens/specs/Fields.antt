@@ -1,4 +1,4 @@
--- The text of a module (section 6.6): which tokens write it.
+-- The text of a module: which tokens write it. Core spec 6.6.
 use Rattle.std.specs.Prelude.{◌≡◌, ℕ, ◌<◌, ◌≤◌, ◌^◌, List, [], ◌∷◌, ◌++◌, Bool, true, false, Option, Some}
 use Rattle.std.specs.Prelude.{None, IsUtf8, AllPairs, codes, length, map, filter_map, flat_map, slice_get}
 use Rattle.std.specs.Prelude.{if◌then◌else◌}
@@ -45,7 +45,7 @@ WritesGlobalType true t = Paren (codes "mut") (WritesType t)
 abbrev pub WritesConst : Names → Const → Form Token
 WritesConst names c = WritesSimple (record { names = names; locals = [] }) [] (constant c)
 
--- a field's value, with the identifier that it defines
+-- The value of a field, with the identifier that it defines.
 pub data Field : Type 0 where
   type_field : Id → Signature → Field
   import_field : Id → Import → Field
@@ -58,8 +58,8 @@ pub data Field : Type 0 where
   element_field : Element → Field
   segment_field : Segment → Field
 
--- What an import brings in. The identifiers of a function's parameters mean nothing, so two of them may be
--- the same, which section 6.6.3 does not allow.
+-- The description of an import. The identifiers of a function's parameters mean nothing here. Two of them may
+-- thus be the same, which Core spec 6.6.3 does not allow.
 abbrev pub WritesDesc : Names → Id → ImportDesc → Form Token
 WritesDesc names id (Func x) = λ k. (ps : List Named)
     × Paren (codes "func") (WritesId id ▸ TypeUse names x ps) k
@@ -73,7 +73,7 @@ WritesExport names kind.Table x = Paren (codes "table") (Resolves names.tables x
 WritesExport names kind.Memory x = Paren (codes "memory") (Resolves names.memories x)
 WritesExport names kind.Global x = Paren (codes "global") (Resolves names.globals x)
 
--- a function (section 6.6.5): its parameters and locals are one space of distinct identifiers
+-- A function. Its parameters and locals are one index space of distinct identifiers. Core spec 6.6.5.
 abbrev pub WritesFunction : Names → Id → Function → Form Token
 WritesFunction names id f k =
     (params locals : List Named) × (types_of locals ≡ f.locals) × (length f.locals < 2 ^ 32)
@@ -82,7 +82,7 @@ WritesFunction names id f k =
     ▸ WritesGroups (codes "local") locals
     ▸ WritesInstructions (record { names = names; locals = ids_of (params ++ locals) }) [] f.body) k
 
--- the strings of a data field are joined
+-- The strings of a data field, which are joined.
 abbrev pub WritesStrings : List ℕ → Form Token
 WritesStrings bytes k = (items : List (List ℕ)) × (bytes ≡ flat_map (λ part. part) items)
     × (k ≡ map string items)
@@ -110,7 +110,7 @@ WritesField names (segment_field s) =
     Paren (codes "data") (Resolves names.memories s.memory ▸ WritesOffset names s.offset
     ▸ WritesStrings s.bytes)
 
--- what a list of fields has of each kind
+-- The value of a field, if the field is of this kind.
 abbrev pub type_of : Field → Option (Id × Signature)
 type_of (type_field id f) = Some (id, f)
 type_of _ = None
@@ -151,7 +151,7 @@ abbrev pub segment_of : Field → Option Segment
 segment_of (segment_field s) = Some s
 segment_of _ = None
 
--- the identifier that a field defines in each space
+-- The identifier that a field defines in each index space (`id_in`).
 abbrev pub imports_in : ExportKind → ImportDesc → Bool
 imports_in kind.Func (Func x) = true
 imports_in kind.Table (Table l) = true
@@ -202,7 +202,7 @@ abbrev pub IsImport : Field → Type 0
 IsImport (import_field id i) = Unit {0}
 IsImport _ = ⊥
 
--- in each space no two items have one identifier
+-- In each index space, no two items have the same identifier.
 pub record HasDistinct (names : Names) : Type 0 where
   pub types : AreDistinct names.types
   pub functions : AreDistinct names.functions
@@ -210,15 +210,16 @@ pub record HasDistinct (names : Names) : Type 0 where
   pub memories : AreDistinct names.memories
   pub globals : AreDistinct names.globals
 
--- a module (section 6.6.13) of the profile: each value type, constant and instruction in it is
+-- The tokens write a module of the profile: each value type, constant and instruction in it is of the profile.
+-- Core spec 6.6.13.
 pub record Writes (p : Profile) (k : List Token) (m : Module) : Type 0 where
   pub id : Id
   pub fields : List Field
   pub text : Paren (codes "module") (WritesId id ▸ Each (WritesField (names_of fields)) fields) k
   pub value : module_of fields ≡ m
   pub instructions : IsOf p m
-  -- imports stand before what is defined, at most one field is a start, and identifiers are
-  -- distinct in their spaces
+  -- Imports come before definitions, at most one field is a start, and the identifiers of each index space are
+  -- distinct.
   pub imports_first : AllPairs (λ f g. IsDefinition f → IsImport g → ⊥) fields
   pub one_start : length (filter_map start_of fields) ≤ 1
   pub distinct : HasDistinct (names_of fields)

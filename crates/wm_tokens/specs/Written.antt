@@ -1,4 +1,4 @@
--- The text of instructions (section 6.5): which tokens write an instruction, and a list of them.
+-- The text of instructions: which tokens write an instruction or a list of instructions. Core spec 6.5.
 use Rattle.std.specs.Prelude.{◌≡◌, ℕ, ◌<◌, ◌^◌, ◌⊎◌, List, [], ◌∷◌, ◌++◌, Option, Some, None, codes, length}
 use Rattle.std.specs.Prelude.{map, flat_map, slice_get, ℤ}
 use Rattle.wm_syntax.specs.Spelling.{Form, Exactly, Each, ◌▸◌, ◌∣◌}
@@ -19,11 +19,11 @@ use Rattle.wm_syntax.specs.Instructions.{choice}
 use Rattle.wm_tokens.specs.Tokens.{Token, open_paren, close_paren, atom, IsUnsigned, IsInteger}
 use Rattle.wm_tokens.specs.Identifiers.{Id, Ids, One, WritesId, Resolves, ResolvesLabel}
 
--- this word, a keyword of the text format (section 6.3.1)
+-- The token of this keyword. Core spec 6.2.2.
 abbrev pub Keyword : List ℕ → Form Token
 Keyword w = Exactly (atom w ∷ [])
 
--- ( word .. )
+-- An opening parenthesis, a keyword, `P`, and a closing parenthesis.
 abbrev pub Paren : List ℕ → Form Token → Form Token
 Paren word P = Exactly (open_paren ∷ atom word ∷ []) ▸ P ▸ Exactly (close_paren ∷ [])
 
@@ -33,15 +33,15 @@ Nothing = Exactly []
 abbrev pub UnsignedNumber : ℕ → Form Token
 UnsignedNumber = One (IsUnsigned 32)
 
--- types (section 6.4)
+-- The keyword of a value type. Core spec 6.4.1.
 abbrev pub WritesType : ValType → Form Token
 WritesType t = Keyword (type_text t)
 
--- a parameter or a local, with its identifier
+-- A parameter or a local, with its identifier or none.
 abbrev pub Named : Type 0
 Named = Id × ValType
 
--- ( word id type ), or ( word type* ) for several with no identifier
+-- `( word id type )` for one, or `( word type* )` for several without identifiers.
 abbrev pub WritesNamed : List ℕ → List ℕ → ValType → Form Token
 WritesNamed word name t = Paren word (WritesId (Some name) ▸ WritesType t)
 
@@ -53,7 +53,7 @@ WritesGroup word group k =
     ((name : List ℕ) × (t : ValType) × (group ≡ (Some name, t) ∷ []) × WritesNamed word name t k)
     ⊎ ((ts : List ValType) × (group ≡ map (λ t. (None, t)) ts) × WritesUnnamed word ts k)
 
--- any number of such groups
+-- Any number of such groups.
 abbrev pub WritesGroups : List ℕ → List Named → Form Token
 WritesGroups word all k = (groups : List (List Named)) × (all ≡ flat_map (λ g. g) groups)
     × Each (WritesGroup word) groups k
@@ -68,7 +68,7 @@ types_of ps = map (λ p. p.1) ps
 abbrev pub ids_of : List Named → Ids
 ids_of ps = map (λ p. p.0) ps
 
--- what the text has defined: the types, and the identifiers of each space
+-- The definitions of a text: its types, and the identifiers of each index space.
 pub record Names : Type 0 where
   pub signatures : List Signature
   pub types : Ids
@@ -77,8 +77,8 @@ pub record Names : Type 0 where
   pub memories : Ids
   pub globals : Ids
 
--- A type use (section 6.6.3): written parameters and results are those of the type, or none are written. The
--- parameters are as many as the type's, and have the identifiers written.
+-- A type use of the type with index `x`. Written parameters and results are those of the type, or none are
+-- written. `params` has as many parameters as the type, with the written identifiers. Core spec 6.6.3.
 abbrev pub TypeUse : Names → ℕ → List Named → Form Token
 TypeUse names x params k =
     (f : Signature) × (ps : List Named) × (rs : List ValType) × (slice_get names.signatures x ≡ Some f)
@@ -86,12 +86,13 @@ TypeUse names x params k =
     × (((ps ≡ []) × (rs ≡ []) × (params ≡ map (λ t. (None, t)) f.params))
     ⊎ ((types_of ps ≡ f.params) × (rs ≡ f.results) × (params ≡ ps)))
 
--- Instructions (section 6.5), with the identifiers of the locals and of the open labels, innermost first.
+-- The scope of an instruction: the names of the module, and the identifiers of the locals. The identifiers of
+-- the open labels, innermost first, are given beside it. Core spec 6.5.
 pub record Scope : Type 0 where
   pub names : Names
   pub locals : Ids
 
--- offset=N and align=N, each left out where it is 0 or the width
+-- `offset=N` or `align=N`; nothing if the value is the usual one, which is 0 or the width.
 abbrev pub WritesKey : List ℕ → ℕ → ℕ → Form Token
 WritesKey key usual n =
     (λ k. (n ≡ usual) × (k ≡ [])) ∣ One (λ n a. (digits : List ℕ) × (a ≡ key ++ digits)
@@ -104,11 +105,11 @@ WritesAccess width at = WritesKey (codes "offset=") 0 at.offset
 abbrev pub WritesInteger : ℕ → ℤ → Form Token
 WritesInteger bits = One (IsInteger bits)
 
--- the bits of a float
+-- A float with these bits.
 abbrev pub WritesFloat : FloatType → ℕ → Form Token
 WritesFloat w = One (IsFloat w)
 
--- a type use whose parameters have no identifiers
+-- A type use whose parameters have no identifiers.
 abbrev pub UnnamedTypeUse : Names → ℕ → Form Token
 UnnamedTypeUse names x k = (ts : List ValType) × TypeUse names x (map (λ t. (None, t)) ts) k
 
@@ -137,8 +138,8 @@ abbrev pub WritesBlockType : Option ValType → Form Token
 WritesBlockType None = Nothing
 WritesBlockType (Some t) = Paren (codes "result") (WritesType t)
 
--- The word else or end, and the block's identifier once more, or not. So it may follow the end of an if
--- without else, where section 6.5.2 has none.
+-- The keyword `else` or `end`, then the identifier of the block, or none. The identifier may also follow the
+-- `end` of an `if` without `else`, where Core spec 6.5.2 has none.
 abbrev pub Closes : List ℕ → Id → Form Token
 Closes word None = Keyword word
 Closes word (Some name) = Keyword word ∣ Exactly (atom word ∷ atom name ∷ [])
@@ -147,11 +148,11 @@ abbrev pub WritesElse : Id → Instructions → Form Token → Form Token
 WritesElse id none written = (Closes (codes "else") id ▸ written) ∣ Nothing
 WritesElse id (snoc s i) written = Closes (codes "else") id ▸ written
 
--- a block's word, its identifier and its type
+-- The keyword of a block, its identifier and its type.
 abbrev pub Opens : List ℕ → Id → Option ValType → Form Token
 Opens word id t = Keyword word ▸ WritesId id ▸ WritesBlockType t
 
--- a br_table: labels, fewer than 2 ^ 32, and then the default
+-- A br_table: fewer than 2^32 labels, and then the default.
 abbrev pub WritesTable : Ids → List ℕ → ℕ → Form Token
 WritesTable labels ls default =
     λ k. (length ls < 2 ^ 32) × (Keyword (codes "br_table") ▸ Each (ResolvesLabel labels) ls

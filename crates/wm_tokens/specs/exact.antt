@@ -1,3 +1,3 @@
--- Exact answers of functions, refusals included. They follow the code for the layers above,
--- and need not be believed.
+-- Exact answers of functions: each result as a function of the arguments, refusals included. Only proofs use
+-- them, so a reader need not believe them.
 pub mod Scan

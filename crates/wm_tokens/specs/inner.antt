@@ -1,5 +1,5 @@
--- What values hold inside. Contracts name these words and say what follows from them: their
--- bodies need not be believed.
+-- The inner state of values. Contracts name these definitions and state what follows from them, so a reader
+-- need not believe them.
 pub mod Ends
 pub mod Lexemes
 pub mod Places

@@ -1,4 +1,4 @@
-//! Where and why a text is refused.
+//! The refusals of a text: their reasons and offsets.
 
 ghost use Rattle.std.specs.Prelude.{◌≡◌, ◌+◌, ◌≤◌, ◌<◌, IsTrue, length};
 ghost use Rattle.wm_tokens.specs.Faults.{text_name_of};
@@ -12,7 +12,7 @@ use std::fmt;
 /// Why a text is refused.
 #[derive(Clone, Copy, Debug, PartialEq, Eq)]
 pub enum TextWhy {
-    /// A byte that is no part of UTF-8.
+    /// The text is not UTF-8.
     NotUtf8,
     /// A character or an atom that is no token, or a control character in a string.
     BadToken,
@@ -20,15 +20,15 @@ pub enum TextWhy {
     OpenComment,
     /// The text ends inside a string.
     OpenString,
-    /// An escape of a string that is none.
+    /// An escape of a string that is malformed, or that means no scalar value.
     BadEscape,
     /// Another token is needed here.
     Expected,
-    /// A word that names no field or no instruction, where one is expected.
+    /// A keyword that names no field or no instruction, where one is expected.
     UnknownWord,
-    /// No integer of the range.
+    /// A malformed integer, or one out of range.
     BadInteger,
-    /// No float of the width, or one that lies beyond the largest.
+    /// A malformed float, or one beyond the largest of its width.
     BadFloat,
     /// A name that is not UTF-8.
     BadName,
@@ -36,28 +36,28 @@ pub enum TextWhy {
     UnknownId,
     /// A second definition of an identifier in one index space.
     RepeatedId,
-    /// A type use of no type, or whose parameters or results are not its type's.
+    /// A type use that names no type, or has parameters or results other than those of its type.
     TypeUse,
     /// An import after a function, table, memory or global.
     ImportPlace,
     /// A second start function.
     SecondStart,
-    /// A constant expression of another form than the three that there are.
+    /// A constant expression of a form that is not allowed.
     NotConst,
-    /// An alignment that is no power of two.
+    /// An alignment that is not a power of two.
     BadAlign,
-    /// An identifier after `else` or `end` that is not its block's.
+    /// An identifier after `else` or `end` that is not that of its block.
     LabelEnd,
     /// A function declares 2^32 locals or more.
     TooManyLocals,
-    /// A floating-point type or instruction that the profile has not.
+    /// A floating-point type or instruction under a profile without floats.
     Float,
-    /// Memory was refused.
+    /// Memory ran out.
     Memory,
 }
 
 impl TextWhy {
-    /// The word that is printed for it.
+    /// Returns the name as it is printed.
     pub fn name(self) -> &'static str
         ensures { result.now ≡ text_name_of self }
     {
@@ -86,7 +86,7 @@ impl TextWhy {
         }
     }
 
-    /// What is wrong, in a sentence with no full stop.
+    /// Returns the error as a sentence without a full stop.
     fn sentence(self) -> &'static str {
         match self {
             TextWhy::NotUtf8 => "the text is not UTF-8",
@@ -122,10 +122,10 @@ impl fmt::Display for TextWhy {
 
 impl Error for TextWhy {}
 
-/// Where and why a text is refused.
+/// A refusal of a text.
 #[derive(Clone, Copy, Debug, PartialEq, Eq)]
 pub struct TextRefusal {
-    /// How many bytes stand before the token that decided it; the length of the text where its end did.
+    /// The number of bytes before the deciding token, or the length of the text if its end decided.
     pub at: usize,
     pub why: TextWhy,
 }
@@ -139,23 +139,24 @@ impl fmt::Display for TextRefusal {
 
 impl Error for TextRefusal {}
 
-/// Why a reader of tokens refuses, and how many bytes of the text are left at the token that decided it.
+/// The error of a reader of tokens. `left` is the number of bytes from the deciding token to the end of the
+/// text.
 #[derive(Clone, Copy, Debug, PartialEq, Eq)]
 pub struct TextFault {
     pub why: TextWhy,
     pub left: usize,
-    /// Where nothing is left another token is needed, or memory was refused.
+    /// If nothing is left, another token is needed or memory ran out.
     ghost ended: { left ≡ 0 → IsTrue (can_end why) },
 }
 
 impl TextFault {
-    /// Memory was refused, at no token.
+    /// Memory ran out, at no token.
     pub const MEMORY: TextFault = TextFault {
         why: TextWhy::Memory,
         left: 0,
     };
 
-    /// The same with its place in the whole text.
+    /// Returns the refusal with its offset in `text`, the whole text.
     pub fn refusal(self, text: &[u8]) -> TextRefusal
         ensures why { result.why ≡ self.why }
         ensures at { result.at ≤ length text.now }

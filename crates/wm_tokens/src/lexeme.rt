@@ -1,4 +1,4 @@
-//! The tokens of a text (sections 6.2 and 6.3), one at a time.
+//! Reads the tokens of a text, one at a time. Core spec 6.2 and 6.3.
 
 ghost use Rattle.std.specs.Prelude.{◌≡◌, ◌≢◌, ◌<◌, ◌≤◌, length, MatchOption, MatchResult, true, false, OnOk};
 ghost use Rattle.std.specs.Prelude.{OnErr, IfSome, IfErr, IsUtf8, ◌↔◌, ◌⊎◌, List, [], ◌∷◌, ◌++◌};
@@ -20,20 +20,20 @@ use crate::scan::{
 use crate::stretches::after_stretches;
 use std::alloc::{AllocError, Global};
 
-/// A token (section 6.3), as it lies in the text.
+/// A token as it is in the text. Core spec 6.2.2.
 #[derive(Clone, Copy, Debug)]
 pub enum Lexeme<'a> {
     /// `(`
     Open,
     /// `)`
     Close,
-    /// A string: what stands between its quotation marks. `string_bytes` gives the bytes that it means.
+    /// The text between the quotation marks of a string. `string_bytes` returns the bytes that it means.
     String(&'a [u8]),
-    /// An identifier, a number or a word.
+    /// An identifier, a number, a float or a keyword.
     Atom(&'a [u8]),
 }
 
-/// What stands first in a text, and what follows it.
+/// The start of a text, and the text after it.
 #[derive(Clone, Copy)]
 pub enum Found<'a> {
     /// The text is empty.
@@ -44,7 +44,7 @@ pub enum Found<'a> {
     Fault(TextWhy),
 }
 
-/// What stands first.
+/// Returns the start of the text, and the text after it.
 #[inline(always)]
 #[tactic(auto, unfolding(crate::specs::exact::Scan::ahead, crate::specs::exact::Scan::told))]
 pub fn ahead(text: &[u8]) -> Found
@@ -65,7 +65,7 @@ pub fn ahead(text: &[u8]) -> Found
     }
 }
 
-/// What stands first where a semicolon does, from the text after it.
+/// Does as `ahead` for a text that begins with a semicolon, given the text after it.
 fn semicolon(text: &[u8]) -> Found
     ensures found { ahead_of result ≡ scan.ahead_semicolon text.now }
     ensures why { IsTold BadToken result }
@@ -76,7 +76,7 @@ fn semicolon(text: &[u8]) -> Found
     }
 }
 
-/// What stands first where an opening parenthesis does, from the text after it.
+/// Does as `ahead` for a text that begins with an opening parenthesis, given the text after it.
 fn opening(text: &[u8]) -> Found
     ensures found { ahead_of result ≡ scan.ahead_opening text.now }
     ensures why { IsTold OpenComment result }
@@ -90,7 +90,7 @@ fn opening(text: &[u8]) -> Found
     }
 }
 
-/// What stands first where a quotation mark does, from the text after it.
+/// Does as `ahead` for a text that begins with a quotation mark, given the text after it.
 #[tactic(auto, using(crate::proofs::Strings::string_laws))]
 fn quote(text: &[u8]) -> Found
     ensures found { ahead_of result ≡ scan.string_or_fault (scan.string_in mode.Plain text.now) }
@@ -105,7 +105,7 @@ fn quote(text: &[u8]) -> Found
     }
 }
 
-/// What stands first where a character of atoms does.
+/// Does as `ahead` for a text that begins with a character of atoms.
 fn atom(text: &[u8]) -> Found
     requires { scan.starts_atom text.now }
     ensures found { ahead_of result ≡ scan.ahead text.now }
@@ -119,8 +119,8 @@ fn atom(text: &[u8]) -> Found
     }
 }
 
-/// Returns the parenthesis that stands first, and what follows it. `None` only where none stands first, as
-/// where a block comment begins.
+/// Returns the parenthesis at the start of the text, and the text after it. Returns `None` only if the text
+/// begins with none: a block comment does not.
 #[inline(always)]
 fn parenthesis(text: &[u8]) -> Option<(Lexeme, &[u8])>
     ensures found { IfSome result (λ x. scan.first (token_of x.0) x.1.now ≡ scan.ahead text.now) }
@@ -137,8 +137,8 @@ fn parenthesis(text: &[u8]) -> Option<(Lexeme, &[u8])>
     }
 }
 
-/// Returns an opening parenthesis and the text after it, given that text. `None` exactly where the two begin a
-/// block comment.
+/// Returns an opening parenthesis and the text after it, which it is given. Returns `None` if and only if the
+/// two begin a block comment.
 #[inline(always)]
 fn opening_alone(text: &[u8]) -> Option<(Lexeme, &[u8])>
     ensures found { IfSome result (λ x. scan.first (token_of x.0) x.1.now ≡ scan.ahead_opening text.now) }
@@ -151,8 +151,9 @@ fn opening_alone(text: &[u8]) -> Option<(Lexeme, &[u8])>
     }
 }
 
-/// The first token, and the text after it; none at the end, or where `check_tokens` finds a fault. Most that
-/// are asked for here are parentheses, which are found in place.
+/// Returns the first token, and the text after it. Returns `None` at the end of the text, or at a lexical
+/// error, which `check_tokens` finds. Most tokens that are read here are parentheses, which have an inline fast
+/// path.
 #[tactic(auto, using(crate::proofs::Whole::ahead_laws))]
 pub fn next_token(text: &[u8]) -> Option<(Lexeme, &[u8])>
     ensures token { MatchOption result (scan.lexed text.now ≡ [])
@@ -166,7 +167,7 @@ pub fn next_token(text: &[u8]) -> Option<(Lexeme, &[u8])>
     }
 }
 
-/// The same, for the loops that read most of the tokens: a plain atom is found with no call.
+/// Does as `next_token`, for the loops that read most tokens: it finds a plain atom without a call.
 #[inline(always)]
 #[tactic(auto, using(crate::proofs::Whole::ahead_laws))]
 pub fn first_token(text: &[u8]) -> Option<(Lexeme, &[u8])>
@@ -177,7 +178,7 @@ pub fn first_token(text: &[u8]) -> Option<(Lexeme, &[u8])>
     unspaced_token(after_spaces(text))
 }
 
-/// The same, where no white space by itself need be passed over.
+/// Does as `first_token`, after the white space bytes were skipped.
 #[inline(always)]
 #[tactic(auto, using(crate::proofs::Whole::ahead_laws))]
 fn unspaced_token(text: &[u8]) -> Option<(Lexeme, &[u8])>
@@ -191,7 +192,7 @@ fn unspaced_token(text: &[u8]) -> Option<(Lexeme, &[u8])>
     }
 }
 
-/// The same, whatever stands first.
+/// Does as `first_token`, for any start of the text. The slow path.
 #[inline(never)]
 #[tactic(auto, using(crate::proofs::Whole::ahead_laws))]
 fn any_token(text: &[u8]) -> Option<(Lexeme, &[u8])>
@@ -209,7 +210,7 @@ fn any_token(text: &[u8]) -> Option<(Lexeme, &[u8])>
     }
 }
 
-/// What stands first; most that is asked for here is a plain atom, which is found with no call.
+/// Does as `ahead`, but finds a plain atom without a call.
 fn first_found(text: &[u8]) -> Found
     ensures { ahead_of result ≡ scan.ahead text.now }
 {
@@ -219,7 +220,8 @@ fn first_found(text: &[u8]) -> Found
     }
 }
 
-/// Where the first literal stands that is a token only as a float, before any fault of the tokens.
+/// Returns the offset of the first atom that is a token only as a float. Returns `None` if there is none before
+/// the first lexical error.
 #[tactic(auto, using(crate::proofs::Places::float_laws))]
 pub fn first_float(text: &[u8]) -> Option<usize>
     ensures { MatchOption result (HasNoFloat text.now) (λ at. IsFloat text.now at) }
@@ -240,8 +242,8 @@ pub fn first_float(text: &[u8]) -> Option<usize>
     }
 }
 
-/// Returns a text from its first token on. Only white space is passed over. What is left begins with none, and
-/// is no line comment alone.
+/// Returns the text from its first token on, after white space and comments. The result begins with no white
+/// space, and is not a line comment alone.
 #[tactic(auto, using(crate::proofs::Whole::ahead_laws, crate::proofs::Whole::spaced_laws))]
 pub fn skip_space(text: &[u8]) -> &[u8]
     ensures same { scan.lexed result.now ≡ scan.lexed text.now }
@@ -260,12 +262,12 @@ pub fn skip_space(text: &[u8]) -> &[u8]
     }
 }
 
-/// Whether a text is UTF-8 and has tokens (section 6.3); then these are what `next_token`
-/// finds, one after the other.
+/// Checks that a text is UTF-8 and has tokens. `next_token` then finds these tokens, one after another.
+/// Core spec 6.2 and 6.3.
 ///
-/// A text that is no UTF-8 is refused at the first byte that is none. Otherwise the first fault is
-/// told: at the first byte of the atom or string that has it, or at the text's length where a comment
-/// or a string does not end.
+/// Fails with `NotUtf8` if the text is not UTF-8; the offset is the length of its longest front that is.
+/// Otherwise fails with the first lexical error. Its offset is the first byte of the wrong token, or the length
+/// of the text if a comment or a string does not end.
 #[tactic(auto, using(crate::proofs::Whole::stand_has))]
 pub fn check_tokens(text: &[u8]) -> Result<(), TextRefusal>
     ensures ok { OnOk result (tokens.Tokens text.now (scan.lexed text.now)) }
@@ -284,7 +286,7 @@ pub fn check_tokens(text: &[u8]) -> Result<(), TextRefusal>
     }
 }
 
-/// Whether a whole text is made of tokens.
+/// Checks that a text has tokens. Fails with the first lexical error, if the text is UTF-8.
 #[tactic(auto, using(crate::proofs::Whole::stand_laws, crate::proofs::Places::step_laws, crate::proofs::PlainStretches::kept_laws))]
 fn check_whole(text: &[u8]) -> Result<(), TextRefusal>
     ensures tokens { MatchResult result (λ _. scan.has_tokens text.now ≡ true)
@@ -306,7 +308,7 @@ fn check_whole(text: &[u8]) -> Result<(), TextRefusal>
     }
 }
 
-/// The fault of what stands first in the rest of a text.
+/// Returns the refusal for a lexical error at the start of `rest`, with its offset in `text`.
 #[tactic(auto, using(crate::proofs::Places::place_front))]
 fn fault(text: &[u8], rest: &[u8], why: TextWhy) -> TextRefusal
     requires within { length rest.now ≤ length text.now }
@@ -320,7 +322,8 @@ fn fault(text: &[u8], rest: &[u8], why: TextWhy) -> TextRefusal
     TextRefusal { at, why }
 }
 
-/// The bytes of a string (section 6.3.3), from what stands between its quotation marks.
+/// Returns the bytes of a string, given the text between its quotation marks. Fails if memory runs out.
+/// Core spec 6.3.3.
 #[tactic(auto, using(crate::proofs::Strings::given_laws))]
 pub fn string_bytes(alloc: Global, text: &[u8]) -> Result<Vec<u8>, AllocError>
     ensures { IfOk result (λ v. v.items ≡ bytes_of text.now) }
@@ -348,7 +351,7 @@ pub fn string_bytes(alloc: Global, text: &[u8]) -> Result<Vec<u8>, AllocError>
     Ok(bytes)
 }
 
-/// Adds the bytes that stand first in a string, as far as `given_first` finds them, and says what follows.
+/// Appends the first bytes of a string, as long as `given_first` finds them, and returns the rest.
 fn push_given<'a>(bytes: &mut Vec<u8>, text: &'a [u8]) -> Result<&'a [u8], AllocError>
     ensures given { IfOk result (λ r. bytes.new.items ++ scan.given_in mode.Plain r.now
         ≡ bytes.old.items ++ scan.given_in mode.Plain text.now) }
@@ -363,7 +366,7 @@ fn push_given<'a>(bytes: &mut Vec<u8>, text: &'a [u8]) -> Result<&'a [u8], Alloc
     Ok(rest)
 }
 
-/// Adds the UTF-8 of a scalar value.
+/// Appends the UTF-8 of a scalar value.
 fn push_scalar(bytes: &mut Vec<u8>, n: u32) -> Result<(), AllocError>
     requires { IsTrue (tokens.is_scalar n) }
     ensures { OnOk result (bytes.new.items ≡ bytes.old.items ++ encode_utf8 n) }

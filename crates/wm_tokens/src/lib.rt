@@ -1,5 +1,5 @@
-//! The tokens of the text format (sections 6.2 and 6.3): comments and blanks skipped, parentheses, strings and atoms
-//! told apart, and why and where a text is refused.
+//! The lexer of the text format. It skips white space and comments, and finds parentheses, strings and atoms.
+//! It also has the reasons and the offsets of refusals of a text. Core spec 6.2 and 6.3.
 #![tactic(auto)]
 
 pub mod faults;

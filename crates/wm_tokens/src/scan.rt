@@ -1,4 +1,4 @@
-//! How the bytes of a text are told apart.
+//! Scans the bytes of a text: white space, comments, strings, atoms and numbers.
 
 ghost use Rattle.std.specs.Prelude.{◌≡◌, ◌≤◌, ◌+◌, zero, length, take, drop, false, Some, None, MatchOption};
 ghost use Rattle.std.specs.Prelude.{IfNone, IfSome, IfErr, MatchResult, ◌*◌, ◌<◌, ◌∷◌, get_or, min, true, ℕ};
@@ -11,7 +11,7 @@ ghost use Rattle.wm_tokens.specs.inner.Lexemes.{part_of, IsMode, IsStep};
 use crate::faults::TextWhy;
 use wm_floats::atoms::has_form;
 
-/// What begins with a byte, between tokens.
+/// The kind of thing that a byte begins, between tokens.
 #[derive(Clone, Copy, Debug, PartialEq, Eq)]
 pub enum Class {
     Space,
@@ -21,29 +21,29 @@ pub enum Class {
     Quote,
     /// A character of atoms.
     Atom,
-    /// Nothing does.
+    /// The byte begins nothing.
     Other,
 }
 
-/// Where in a string the next byte stands.
+/// The state inside a string, before its next byte.
 #[derive(Clone, Copy, Debug, PartialEq, Eq)]
 pub enum Mode {
-    /// In no escape.
+    /// Outside escapes.
     Plain,
-    /// Behind a backslash.
+    /// After a backslash.
     Escape,
-    /// Behind the first digit of `\hh`, which has this value.
+    /// After the first digit of `\hh`, which has this value.
     Low(u8),
-    /// Behind `\u`.
+    /// After `\u`.
     Brace,
-    /// Within the braces: the value so far, at most 0x110000, and whether a digit stands last.
+    /// Inside the braces: the value so far, at most 0x110000, and whether the last character is a digit.
     Digits(u32, bool),
 }
 
-/// What a byte of a string does.
+/// The effect of a byte of a string.
 #[derive(Clone, Copy, Debug, PartialEq, Eq)]
 pub enum Step {
-    /// It gives nothing yet.
+    /// It gives no byte yet.
     On(Mode),
     /// It gives this byte.
     Byte(u8),
@@ -51,11 +51,11 @@ pub enum Step {
     Scalar(u32),
     /// It ends the string.
     End,
-    /// It can't stand here.
+    /// It is not allowed here.
     Bad,
 }
 
-/// What begins with this byte.
+/// Returns the kind of thing that this byte begins.
 #[inline(always)]
 #[tactic(auto, unfolding(crate::specs::exact::Scan::class_of))]
 pub fn class_of(byte: u8) -> Class
@@ -77,7 +77,7 @@ pub fn class_of(byte: u8) -> Class
     }
 }
 
-// Each character of atoms stands at its own place, and a comma, which is none, at every other.
+// Each character of atoms is at its own index. All others have a comma, which is no character of atoms.
 static ID_CHARS: [u8; 256] = *b"\
     ,,,,,,,,,,,,,,,,,,,,,,,,,,,,,,,,\
     ,!,#$%&',,*+,-./0123456789:,<=>?\
@@ -88,7 +88,7 @@ static ID_CHARS: [u8; 256] = *b"\
     ,,,,,,,,,,,,,,,,,,,,,,,,,,,,,,,,\
     ,,,,,,,,,,,,,,,,,,,,,,,,,,,,,,,,";
 
-/// Whether this byte is a character of atoms (section 6.3.5, idchar).
+/// Whether this byte is a character of atoms, `idchar`. Core spec 6.3.5.
 #[inline(always)]
 pub fn is_id_char(byte: u8) -> bool
     ensures { result ≡ tokens.is_id_char byte }
@@ -104,7 +104,7 @@ fn is_digit(byte: u8) -> bool
     b'0' <= byte && byte <= b'9'
 }
 
-/// Whether this byte is white space by itself (section 6.2.3).
+/// Whether this byte alone is white space. Core spec 6.2.3.
 #[inline(always)]
 fn is_space(byte: u8) -> bool
     ensures { result ≡ tokens.is_space byte }
@@ -112,8 +112,8 @@ fn is_space(byte: u8) -> bool
     matches!(byte, b' ' | b'\t' | b'\n' | b'\r')
 }
 
-/// A text from its first byte on that is not white space by itself. Most tokens are parted by one such byte
-/// or none, and these are told in place; a longer run is passed over out of line.
+/// Returns the text from its first byte on that is not white space; comments stay. At most one such byte is
+/// between most tokens, and it is skipped inline. A longer run is skipped out of line.
 #[inline(always)]
 pub fn after_spaces(text: &[u8]) -> &[u8]
     ensures { result.now ≡ scan.after_spaces text.now }
@@ -127,7 +127,7 @@ pub fn after_spaces(text: &[u8]) -> &[u8]
     }
 }
 
-/// The same, for a run of white space.
+/// Does as `after_spaces`, for a run of white space bytes.
 #[inline(never)]
 fn after_run(text: &[u8]) -> &[u8]
     ensures { result.now ≡ scan.after_spaces text.now }
@@ -142,8 +142,8 @@ fn after_run(text: &[u8]) -> &[u8]
     rest
 }
 
-/// A text from within the white space that stands first, near its end: four bytes are asked in a step. May
-/// return the text as it is: only speed depends on that.
+/// Returns the text from near the end of the white space at its start, in steps of four bytes. It may return
+/// the text unchanged: only speed depends on that.
 #[inline(always)]
 fn within_run(text: &[u8]) -> &[u8]
     ensures { scan.after_spaces result.now ≡ scan.after_spaces text.now }
@@ -158,7 +158,7 @@ fn within_run(text: &[u8]) -> &[u8]
     rest
 }
 
-/// What stands behind a line comment (section 6.2.4), from the text after its `;;`.
+/// Returns the text after a line comment, given the text after its `;;`. Core spec 6.2.4.
 pub fn after_line(text: &[u8]) -> &[u8]
     ensures { result.now ≡ scan.after_line text.now }
 {
@@ -172,8 +172,8 @@ pub fn after_line(text: &[u8]) -> &[u8]
     rest
 }
 
-/// A line comment from within it, near its end: four bytes are asked in a step. May return the text as it is:
-/// only speed depends on that.
+/// Returns the text from near the end of a line comment, in steps of four bytes. It may return the text
+/// unchanged: only speed depends on that.
 #[inline(always)]
 fn within_line(text: &[u8]) -> &[u8]
     ensures { scan.after_line result.now ≡ scan.after_line text.now }
@@ -188,7 +188,7 @@ fn within_line(text: &[u8]) -> &[u8]
     rest
 }
 
-/// What stands first in a block comment, and what follows it.
+/// The start of the text inside a block comment, and the text after it.
 enum Part<'a> {
     /// `;)`
     Close(&'a [u8]),
@@ -200,7 +200,7 @@ enum Part<'a> {
     End,
 }
 
-/// What stands first in a block comment.
+/// Returns the start of the text inside a block comment.
 #[tactic(auto, unfolding(crate::specs::exact::Scan::comment_part))]
 fn comment_part(text: &[u8]) -> Part
     ensures { part_of result ≡ scan.comment_part text.now }
@@ -213,8 +213,8 @@ fn comment_part(text: &[u8]) -> Part
     }
 }
 
-/// What stands behind a block comment (section 6.2.4), from the text after its `(;`; none
-/// where it does not end.
+/// Returns the text after a block comment, given the text after its `(;`. Returns `None` if the comment does
+/// not end. Core spec 6.2.4.
 #[tactic(auto, using(crate::proofs::Parts::part_laws))]
 pub fn after_comment(text: &[u8]) -> Option<&[u8]>
     ensures { MatchOption result (scan.after_comment zero text.now ≡ None)
@@ -241,7 +241,7 @@ pub fn after_comment(text: &[u8]) -> Option<&[u8]>
     }
 }
 
-// The value of each hexadecimal digit stands at its own place, and 16, which none has, at every other.
+// Each hexadecimal digit has its value at its index. All others have 16.
 static DIGITS: [u8; 256] = [
     16, 16, 16, 16, 16, 16, 16, 16, 16, 16, 16, 16, 16, 16, 16, 16, 16, 16, 16, 16, 16, 16, 16, 16,
     16, 16, 16, 16, 16, 16, 16, 16, 16, 16, 16, 16, 16, 16, 16, 16, 16, 16, 16, 16, 16, 16, 16, 16,
@@ -256,7 +256,7 @@ static DIGITS: [u8; 256] = [
     16, 16, 16, 16, 16, 16, 16, 16, 16, 16, 16, 16, 16, 16,
 ];
 
-/// The value of a hexadecimal digit (section 6.3.1).
+/// The value of a hexadecimal digit; `None` for another byte. Core spec 6.3.1.
 #[inline(always)]
 pub fn digit_value(byte: u8) -> Option<u8>
     ensures { result ≡ tokens.digit_value byte }
@@ -265,7 +265,7 @@ pub fn digit_value(byte: u8) -> Option<u8>
     if value < 16 { Some(value) } else { None }
 }
 
-/// What the next byte of a string does (section 6.3.3).
+/// Returns the effect of the next byte of a string. Core spec 6.3.3.
 #[inline(always)]
 #[tactic(auto, unfolding(crate::specs::exact::Scan::string_step))]
 pub fn string_step(mode: Mode, byte: u8) -> Step
@@ -301,7 +301,7 @@ pub fn string_step(mode: Mode, byte: u8) -> Step
     }
 }
 
-/// What the byte behind a backslash does.
+/// Returns the effect of the byte after a backslash.
 #[tactic(auto, unfolding(crate::specs::exact::Scan::string_step))]
 fn escape_step(byte: u8) -> Step
     ensures step { result ≡ scan.string_step Escape byte }
@@ -322,7 +322,7 @@ fn escape_step(byte: u8) -> Step
     }
 }
 
-/// What a byte behind `\u{` does.
+/// Returns the effect of a byte after `\u{`.
 #[tactic(auto, unfolding(crate::specs::exact::Scan::string_step))]
 fn digits_step(n: u32, after: bool, byte: u8) -> Step
     requires { n ≤ 0x11_0000 }
@@ -348,8 +348,8 @@ fn is_scalar(n: u32) -> bool
     n < 0xD800 || (0xE000 <= n && n < 0x11_0000)
 }
 
-/// Returns the byte that stands first in a string, and what follows it. `None` only where something else
-/// stands there, or an escape of more than three characters.
+/// Returns the first byte that a string gives, and the text after it. Returns `None` only if the string begins
+/// with something else, or with an escape of more than three characters.
 #[inline(always)]
 #[tactic(auto, using(crate::proofs::Strings::rest_laws, crate::proofs::Strings::why_laws, crate::proofs::Strings::given_laws, crate::proofs::Strings::none_laws))]
 pub fn given_first(text: &[u8]) -> Option<(u8, &[u8])>
@@ -370,7 +370,7 @@ pub fn given_first(text: &[u8]) -> Option<(u8, &[u8])>
     }
 }
 
-/// The same within an escape, behind its first character.
+/// Does as `given_first` inside an escape, after its first character.
 #[inline(always)]
 #[tactic(auto, using(crate::proofs::Strings::rest_laws, crate::proofs::Strings::why_laws, crate::proofs::Strings::given_laws, crate::proofs::Strings::none_laws))]
 fn given_within(mode: Mode, text: &[u8]) -> Option<(u8, &[u8])>
@@ -392,7 +392,7 @@ fn given_within(mode: Mode, text: &[u8]) -> Option<(u8, &[u8])>
     }
 }
 
-/// The same behind the second character of an escape.
+/// Does as `given_first` inside an escape, after its second character.
 #[inline(always)]
 #[tactic(auto, using(crate::proofs::Strings::rest_laws, crate::proofs::Strings::why_laws, crate::proofs::Strings::given_laws, crate::proofs::Strings::none_laws))]
 fn given_last(mode: Mode, text: &[u8]) -> Option<(u8, &[u8])>
@@ -413,7 +413,7 @@ fn given_last(mode: Mode, text: &[u8]) -> Option<(u8, &[u8])>
     }
 }
 
-/// Returns a string from where no byte stands first that `given_first` finds.
+/// Returns the string after all the bytes at its start that `given_first` finds.
 fn after_given(text: &[u8]) -> &[u8]
     ensures rest { scan.rest_of (scan.string_in Plain result.now)
         ≡ scan.rest_of (scan.string_in Plain text.now) }
@@ -428,7 +428,8 @@ fn after_given(text: &[u8]) -> &[u8]
     rest
 }
 
-/// What stands behind a string (section 6.3.3), from the text after its quotation mark.
+/// Returns the text after a string, given the text after its opening quotation mark. Fails with `OpenString` if
+/// the string does not end, and with `BadEscape` or `BadToken` at a byte that is not allowed. Core spec 6.3.3.
 #[inline(never)]
 #[tactic(auto, using(crate::proofs::Strings::rest_laws, crate::proofs::Strings::why_laws))]
 pub fn after_string(text: &[u8]) -> Result<&[u8], TextWhy>
@@ -455,7 +456,8 @@ pub fn after_string(text: &[u8]) -> Result<&[u8], TextWhy>
     Err(TextWhy::OpenString)
 }
 
-/// What a byte that can't stand in a string is called: outside of an escape it is a control character.
+/// Returns the error for a byte that is not allowed in a string. Outside escapes, such a byte is a control
+/// character.
 fn bad_in(mode: Mode) -> TextWhy
     ensures { result ≡ scan.bad_in mode }
 {
@@ -465,7 +467,7 @@ fn bad_in(mode: Mode) -> TextWhy
     }
 }
 
-/// How many characters of atoms stand first. Four are asked in a step, while four are left.
+/// The number of characters of atoms at the start of the text. It tests four a step, while four are left.
 #[inline(always)]
 pub fn atom_len(text: &[u8]) -> usize
     ensures within { result ≤ length text.now }
@@ -490,7 +492,7 @@ pub fn atom_len(text: &[u8]) -> usize
     atom_end(i, text)
 }
 
-/// The same, where so many are known to stand first.
+/// Does as `atom_len`, if the first `known` bytes are characters of atoms.
 fn atom_end(known: usize, text: &[u8]) -> usize
     requires within { known ≤ length text.now }
     requires known { (k : ℕ) → k < known → tokens.is_id_char (get_or text.now k 0) ≡ true }
@@ -507,9 +509,9 @@ fn atom_end(known: usize, text: &[u8]) -> usize
     i
 }
 
-/// The atom that stands first, and what follows it, where its first byte tells that it is one: a word, an
-/// identifier, or decimal digits alone. None where another token stands first, or an atom of another form. May
-/// give up with `None`: only speed depends on that.
+/// Returns the plain atom at the start of the text, and the text after it. A plain atom is a keyword, an
+/// identifier, or decimal digits alone. Returns `None` if the text begins with anything else. It may return
+/// `None` in any case: only speed depends on that.
 #[inline(always)]
 pub fn plain_atom(text: &[u8]) -> Option<(&[u8], &[u8])>
     ensures { IfSome result (λ x. scan.first (tokens.atom x.0.now) x.1.now ≡ scan.ahead text.now) }
@@ -522,7 +524,7 @@ pub fn plain_atom(text: &[u8]) -> Option<(&[u8], &[u8])>
     }
 }
 
-/// How many decimal digits stand first. May count fewer: only speed depends on that.
+/// The number of decimal digits at the start of the text, or fewer: only speed depends on that.
 #[inline(always)]
 fn digits_len(text: &[u8]) -> usize
     ensures within { result ≤ length text.now }
@@ -538,8 +540,8 @@ fn digits_len(text: &[u8]) -> usize
     i
 }
 
-/// The decimal digits that stand first, and what follows them, where that is no character of atoms. May give
-/// up with `None`.
+/// Returns the decimal digits at the start of the text, and the text after them, if no character of atoms
+/// follows. It may return `None` in any case.
 #[inline(always)]
 fn plain_number(text: &[u8]) -> Option<(&[u8], &[u8])>
     ensures { IfSome result (λ x. scan.first (tokens.atom x.0.now) x.1.now ≡ scan.ahead text.now) }
@@ -554,7 +556,8 @@ fn plain_number(text: &[u8]) -> Option<(&[u8], &[u8])>
     Some(text.split_at(n))
 }
 
-/// The identifier that stands first, from its `$` on, and what follows it. May give up with `None`.
+/// Returns the identifier at the start of the text, with its `$`, and the text after it. It may return `None`
+/// in any case.
 #[inline(always)]
 fn plain_id(text: &[u8]) -> Option<(&[u8], &[u8])>
     requires { get_or text.now 0 0 ≡ 36 }
@@ -564,8 +567,8 @@ fn plain_id(text: &[u8]) -> Option<(&[u8], &[u8])>
     if n < 2 { None } else { Some(text.split_at(n)) }
 }
 
-/// Whether characters of atoms are an identifier (section 6.3.5), a number (6.3.1), a float (6.3.2) or a word
-/// (6.3.4).
+/// Whether characters of atoms are an identifier (Core spec 6.3.5), a number (Core spec 6.3.1), a float
+/// (Core spec 6.3.2) or a keyword (Core spec 6.2.2).
 pub fn is_atom(atom: &[u8]) -> bool
     ensures { result ≡ scan.is_atom atom.now }
 {
@@ -576,7 +579,7 @@ pub fn is_atom(atom: &[u8]) -> bool
     }
 }
 
-/// Whether an atom is a number, with a sign or with none.
+/// Whether an atom is a number, with or without a sign.
 fn is_number(atom: &[u8]) -> bool
     ensures { result ≡ scan.is_number atom.now }
 {
@@ -586,7 +589,7 @@ fn is_number(atom: &[u8]) -> bool
     }
 }
 
-/// Whether an atom has the form of a float, with a sign or with none.
+/// Whether an atom has the form of a float, with or without a sign.
 fn is_literal(atom: &[u8]) -> bool
     ensures { result ≡ scan.is_literal atom.now }
 {
@@ -597,7 +600,7 @@ fn is_literal(atom: &[u8]) -> bool
     }
 }
 
-/// Whether an atom is one only for being a float (section 6.3.2), and so none where there are no floats.
+/// Whether an atom is a token only as a float, and so no token without floats. Core spec 6.3.2.
 pub fn is_float_alone(atom: &[u8]) -> bool
     ensures { result ≡ scan.is_float_alone atom.now }
 {
@@ -607,7 +610,8 @@ pub fn is_float_alone(atom: &[u8]) -> bool
     }
 }
 
-/// The value of a number with no sign (section 6.3.1), or 2^64 if it is greater.
+/// The value of a number without a sign, or 2^64 if it is greater; `None` if the text is no number.
+/// Core spec 6.3.1.
 pub fn magnitude(text: &[u8]) -> Option<u128>
     ensures { result ≡ option_map (λ n. min n 0x1_0000_0000_0000_0000) (scan.magnitude_of text.now) }
 {
@@ -617,8 +621,8 @@ pub fn magnitude(text: &[u8]) -> Option<u128>
     }
 }
 
-/// The value of a number below 10^9 that is decimal digits alone, which most numbers are. May give up with
-/// `None`: only speed depends on that.
+/// The value of a number below 10^9 that is decimal digits alone, as most numbers are. It may return `None` in
+/// any case: only speed depends on that.
 #[inline(always)]
 #[tactic(auto, using(crate::proofs::Atoms::decimal_laws))]
 pub fn short_decimal(text: &[u8]) -> Option<u32>
@@ -639,7 +643,7 @@ pub fn short_decimal(text: &[u8]) -> Option<u32>
     if after { Some(n) } else { None }
 }
 
-/// The value of a number in any form, or 2^64 if it is greater.
+/// The value of a number without a sign, in any form, or 2^64 if it is greater.
 fn any_magnitude(text: &[u8]) -> Option<u128>
     ensures { result ≡ option_map (λ n. min n 0x1_0000_0000_0000_0000) (scan.magnitude_of text.now) }
 {
@@ -649,7 +653,8 @@ fn any_magnitude(text: &[u8]) -> Option<u128>
     }
 }
 
-/// The value of digits with single underscores between them, or 2^64 if it is greater.
+/// The value of digits with single underscores between them, or 2^64 if it is greater; `None` if the text is
+/// something else.
 #[tactic(auto, using(crate::proofs::Atoms::number_laws))]
 pub fn digits(base: u8, text: &[u8]) -> Option<u128>
     requires low { 2 ≤ base }
@@ -666,8 +671,8 @@ pub fn digits(base: u8, text: &[u8]) -> Option<u128>
     if after { Some(n) } else { None }
 }
 
-/// The value of digits with one more byte, and whether a digit stands last; none where
-/// this byte can't follow.
+/// The value of digits with one more byte, and whether this byte is a digit. Returns `None` if the byte cannot
+/// follow.
 #[tactic(auto, unfolding(crate::specs::exact::Scan::number_next))]
 fn number_next(base: u8, n: u128, after: bool, byte: u8) -> Option<(u128, bool)>
     requires high { base ≤ 16 }

@@ -1,15 +1,14 @@
-//! Stretches of a text that are white space by itself and plain atoms: words, identifiers and decimal digits.
-//! Such a stretch is passed over by a machine that has no jump on what a byte is: a shift-based DFA, as Per
-//! Vognsen described it.
+//! Spans of a text that consist of white space bytes and plain atoms: keywords, identifiers and decimal digits.
+//! A shift-based DFA, as Per Vognsen described it, skips such a span without a branch on any byte.
 
 ghost use Rattle.std.specs.Prelude.{◌≡◌, ◌≤◌, ◌%◌, length};
 ghost use Rattle.wm_tokens.specs.inner.Stretches.{AtHand, Passes, after_byte, place_of};
 
 use crate::scan::after_spaces;
 
-// What a byte does to the atom at hand: a row has the next one for each, in five bits at its own place, and
-// what is at hand is told by its place. Nothing stands at 0, a word at 5, digits at 10, and the `$` of an
-// identifier at 15. A byte that no stretch has leads to 20, from where nothing leads away.
+// The transitions of the DFA: a row for each byte. A state is a bit position in a row, and the five bits there
+// are the next state. State 0 is outside atoms, 5 in a keyword or an identifier, 10 in digits, and 15 after the
+// `$` of an identifier. A byte that no span has leads to state 20, which is never left.
 const NOTHING: u32 = 0;
 
 const STOPPED: u32 = 20;
@@ -22,7 +21,7 @@ const DIGIT: u32 = 0x142_A8AA;
 
 const DOLLAR: u32 = 0x142_D0AF;
 
-/// A character of atoms with which no plain one begins.
+/// A character of atoms that begins no plain atom.
 const OTHER: u32 = 0x142_D0B4;
 
 const STOPS: u32 = 0x14A_5294;
@@ -50,7 +49,7 @@ static ROWS: [u32; 256] = [
     STOPS, STOPS, STOPS, STOPS, STOPS, STOPS, STOPS, STOPS, STOPS,
 ];
 
-/// What is at hand after one byte more. The bits above five mean nothing.
+/// The state after one more byte, in the lowest five bits. The bits above mean nothing.
 #[inline(always)]
 fn after(hand: u32, byte: u8) -> u32
     ensures { (h : AtHand) → hand % 32 ≡ place_of h → result % 32 ≡ place_of (after_byte h byte) }
@@ -58,8 +57,8 @@ fn after(hand: u32, byte: u8) -> u32
     ROWS[byte as usize] >> (hand % 32)
 }
 
-/// A text from behind a stretch that stands first in it, or behind a part of that: eight bytes are taken in a
-/// step, and a step may end within an atom. May return the text as it is: only speed depends on that.
+/// Returns the text after a span at its start, or after a part of the span. It takes eight bytes a step, and a
+/// step may end inside an atom. It may return the text unchanged: only speed depends on that.
 #[inline(never)]
 fn after_stretch(text: &[u8]) -> &[u8]
     ensures passes { Passes text.now result.now }
@@ -89,9 +88,9 @@ fn after_stretch(text: &[u8]) -> &[u8]
     rest
 }
 
-/// A text from behind a stretch that stands first in it, or behind a part of that, and from its first byte on
-/// that is not white space by itself. It is looked for where a plain atom begins: parentheses stand near one
-/// another. May return the text as it is: only speed depends on that.
+/// Returns the text after white space bytes and a span at its start, or after a part of these. A span is tried
+/// only where a plain atom begins, since parentheses are close to each other. It may return the text unchanged:
+/// only speed depends on that.
 #[inline(always)]
 #[tactic(auto, using(crate::proofs::PlainStretches::stretch_laws))]
 pub fn after_stretches(text: &[u8]) -> &[u8]

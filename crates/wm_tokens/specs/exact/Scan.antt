@@ -22,17 +22,17 @@ class_of c =
     else if c == 41 then Closing
     else if c == 34 then Quote else if is_id_char c then Atom else Other
 
--- behind the white space that stands first, but for comments
+-- The text after the white space bytes at its start; comments stay.
 abbrev pub after_spaces : List ℕ → List ℕ
 after_spaces [] = []
 after_spaces (c ∷ b) = if is_space c then after_spaces b else c ∷ b
 
--- behind a line comment's end
+-- The text after the end of a line comment.
 abbrev pub after_line : List ℕ → List ℕ
 after_line [] = []
 after_line (c ∷ b) = if c == 10 then b else after_line b
 
--- behind the end of a block comment with so many open within it
+-- The text after the end of a block comment that has `n` open comments inside it.
 abbrev pub after_comment : ℕ → List ℕ → Option (List ℕ)
 after_comment n [] = None
 after_comment n (c ∷ []) = None
@@ -41,7 +41,7 @@ after_comment zero (c ∷ d ∷ b) = if (c == 59) && (d == 41) then Some b
 after_comment (suc n) (c ∷ d ∷ b) = if (c == 59) && (d == 41) then after_comment n b
     else if (c == 40) && (d == 59) then after_comment (suc (suc n)) b else after_comment (suc n) (d ∷ b)
 
--- what stands first in a comment
+-- The start of the text inside a block comment.
 pub data CommentPart : Type 0 where
   close : List ℕ → CommentPart
   opening : List ℕ → CommentPart
@@ -54,14 +54,14 @@ comment_part (c ∷ []) = on []
 comment_part (c ∷ d ∷ b) = if (c == 59) && (d == 41) then close b
     else if (c == 40) && (d == 59) then opening b else on (d ∷ b)
 
--- strings
+-- The byte that an escape of one letter gives.
 abbrev pub short_escape : ℕ → Option ℕ
 short_escape c =
     if c == 116 then Some 0x09 else if c == 110 then Some 0x0A else if c == 114 then Some 0x0D
     else if c == 34 then Some 0x22
     else if c == 39 then Some 0x27 else if c == 92 then Some 0x5C else None
 
--- numbers past the last scalar value are alike
+-- The number; every number beyond the last scalar value becomes 0x110000.
 abbrev pub capped : ℕ → ℕ
 capped n = if nat_lt n 0x11_0000 then n else 0x11_0000
 
@@ -94,12 +94,12 @@ string_next (Scalar n) b more = giving (encode_utf8 n) (more Plain)
 string_next End b more = Some ([], b)
 string_next Bad b more = None
 
--- the bytes that the rest of a string gives, and what follows it
+-- The bytes that the rest of a string gives, and the text after it.
 abbrev pub string_in : Mode → List ℕ → Option (List ℕ × List ℕ)
 string_in mode [] = None
 string_in mode (c ∷ b) = string_next (string_step mode c) b (λ m. string_in m b)
 
--- atoms
+-- The characters of atoms at the start of the text, and the text after them.
 abbrev pub atom_in : List ℕ → List ℕ × List ℕ
 atom_in [] = ([], [])
 atom_in (c ∷ b) = if is_id_char c then (c ∷ (atom_in b).0, (atom_in b).1) else ([], c ∷ b)
@@ -110,16 +110,16 @@ digits_in base n false [] = None
 digits_in base n after (c ∷ b) = if (c == 95) && after then digits_in base n false b
     else with_digit base c None (λ d. digits_in base (n * base + d) true b)
 
--- the same, no further than 2 ^ 64
+-- The value of digits, or 2^64 if it is greater.
 abbrev pub number_in : ℕ → ℕ → Bool → List ℕ → Option ℕ
 number_in base n after b = option_map (λ k. min k 0x1_0000_0000_0000_0000) (digits_in base n after b)
 
--- the number and whether a digit stands last, after one more character
+-- The number after one more character, and whether this character is a digit.
 unfoldable pub number_next : ℕ → ℕ → Bool → ℕ → Option (ℕ × Bool)
 number_next base n after c = if (c == 95) && after then Some (n, false)
     else with_digit base c None (λ d. Some (min (n * base + d) 0x1_0000_0000_0000_0000, true))
 
--- behind a leading 0x hexadecimal
+-- The value of a number without a sign, which is hexadecimal after `0x`.
 abbrev pub magnitude_of : List ℕ → Option ℕ
 magnitude_of [] = None
 magnitude_of (c ∷ []) = digits_in 10 0 false (c ∷ [])
@@ -135,7 +135,7 @@ is_number [] = false
 is_number (c ∷ b) = if (c == 43) then is_some (magnitude_of b) else if c == 45 then is_some (magnitude_of b)
     else is_some (magnitude_of (c ∷ b))
 
--- the form of a float, with a sign or with none
+-- The form of a float, with or without a sign.
 abbrev pub is_literal : List ℕ → Bool
 is_literal [] = false
 is_literal (c ∷ b) = if c == 43 then has_form b else if c == 45 then has_form b else has_form (c ∷ b)
@@ -149,13 +149,13 @@ is_atom [] = false
 is_atom (c ∷ b) = if c == 36 then not (is_nil b) else if is_lower c then true
     else if is_number (c ∷ b) then true else is_literal (c ∷ b)
 
--- an atom that is one only for being a float
+-- An atom that is a token only as a float.
 abbrev pub is_float_alone : List ℕ → Bool
 is_float_alone [] = false
 is_float_alone (c ∷ b) = if c == 36 then false else if is_lower c then false
     else is_literal (c ∷ b) && not (is_number (c ∷ b))
 
--- what stands first
+-- The start of a text, and the text after it.
 pub data Ahead : Type 0 where
   no_more : Ahead
   blank : List ℕ → Ahead
@@ -192,7 +192,7 @@ unfoldable pub ahead : List ℕ → Ahead
 ahead [] = no_more
 ahead (c ∷ b) = ahead_by (class_of c) c b
 
--- the tokens that stand first, and what is left
+-- The tokens with one more token before them.
 abbrev pub adding : Token → Option (List Token) → Option (List Token)
 adding t None = None
 adding t (Some k) = Some (t ∷ k)
@@ -207,14 +207,14 @@ abbrev pub tokens_within : ℕ → List ℕ → Option (List Token)
 tokens_within zero b = None
 tokens_within (suc n) b = going (tokens_within n) (ahead b)
 
--- the tokens of bytes, if they have any
+-- The tokens of the text, if it has any.
 unfoldable pub tokens_of : List ℕ → Option (List Token)
 tokens_of b = tokens_within (suc (length b)) b
 
 abbrev pub has_tokens : List ℕ → Bool
 has_tokens b = is_some (tokens_of b)
 
--- the tokens before the first fault
+-- The tokens before the first lexical error.
 abbrev pub lexing : (List ℕ → List Token) → Ahead → List Token
 lexing more no_more = []
 lexing more (blank b) = more b
@@ -228,7 +228,7 @@ lexed_within (suc n) b = lexing (lexed_within n) (ahead b)
 unfoldable pub lexed : List ℕ → List Token
 lexed b = lexed_within (suc (length b)) b
 
--- the bytes that the rest of a string gives, before its end or its first fault
+-- The bytes that the rest of a string gives, before its end or its first error.
 abbrev pub given_next : Step → (Mode → List ℕ) → List ℕ
 given_next (On mode) more = more mode
 given_next (Byte byte) more = byte ∷ more Plain
@@ -240,7 +240,7 @@ abbrev pub given_in : Mode → List ℕ → List ℕ
 given_in mode [] = []
 given_in mode (c ∷ b) = given_next (string_step mode c) (λ m. given_in m b)
 
--- the byte that stands first in a string, and what follows it, where at most so many characters write it
+-- The first byte that a string gives, and the text after it, if at most `n` characters write it.
 abbrev pub byte_next : Step → List ℕ → (Mode → Option (ℕ × List ℕ)) → Option (ℕ × List ℕ)
 byte_next (On mode) b more = more mode
 byte_next (Byte byte) b more = Some (byte, b)
@@ -251,22 +251,22 @@ byte_at zero mode b = None
 byte_at (suc n) mode [] = None
 byte_at (suc n) mode (c ∷ b) = byte_next (string_step mode c) b (λ m. byte_at n m b)
 
--- what follows a string
+-- The text after a string.
 abbrev pub rest_of : Option (List ℕ × List ℕ) → Option (List ℕ)
 rest_of None = None
 rest_of (Some x) = Some x.1
 
--- an atom may stand first
+-- The text begins with a character of atoms.
 abbrev pub starts_atom : List ℕ → Type 0
 starts_atom [] = ⊥
 starts_atom (c ∷ b) = class_of c ≡ Atom
 
--- what a byte that can't stand in a string is called
+-- The error for a byte that is not allowed in a string.
 abbrev pub bad_in : Mode → TextWhy
 bad_in Plain = BadToken
 bad_in _ = BadEscape
 
--- what the fault of the rest of a string is called, where it has one
+-- The error in the rest of a string, if it has one.
 abbrev pub why_next : Mode → Step → (Mode → TextWhy) → TextWhy
 why_next mode (On next) more = more next
 why_next mode (Byte byte) more = more Plain
@@ -278,7 +278,7 @@ abbrev pub why_in : Mode → List ℕ → TextWhy
 why_in mode [] = OpenString
 why_in mode (c ∷ b) = why_next mode (string_step mode c) (λ m. why_in m b)
 
--- what a fault that stands first is called
+-- The name of a lexical error at the start of the text.
 abbrev pub told_by : Class → List ℕ → TextWhy
 told_by Opening b = OpenComment
 told_by Quote b = why_in Plain b

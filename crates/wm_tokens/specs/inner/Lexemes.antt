@@ -1,4 +1,4 @@
--- The values of the code, without where they lie in memory.
+-- The values of the code, without their addresses in memory.
 use Rattle.std.specs.Prelude.{◌≡◌, ◌<◌, ◌≤◌, ℕ, List, IsTrue}
 use Rattle.wm_tokens.specs.Tokens.{Token, open_paren, close_paren, string, atom, is_scalar}
 use Rattle.wm_tokens.specs.exact.Scan.{CommentPart, close, opening, on, over, Ahead, no_more, blank, first}
@@ -21,11 +21,11 @@ part_of (p.Open b) = opening b.now
 part_of (p.On b) = on b.now
 part_of p.End = over
 
--- the bytes of a string, by what stands between its quotation marks
+-- The bytes of a string, given the text between its quotation marks.
 abbrev pub bytes_of : List ℕ → List ℕ
 bytes_of text = given_in Plain text
 
--- the token that a lexeme is
+-- The token that a lexeme is.
 abbrev pub token_of : Lexeme → Token
 token_of Open = open_paren
 token_of Close = close_paren
@@ -38,12 +38,12 @@ ahead_of (Blank b) = blank b.now
 ahead_of (First t b) = first (token_of t) b.now
 ahead_of (Fault w) = fault
 
--- a fault has this name
+-- A lexical error has this name.
 abbrev pub IsTold : TextWhy → Found → Type 0
 IsTold why (Fault w) = w ≡ why
 IsTold why _ = Unit {0}
 
--- what the code's numbers keep to
+-- The bounds of the numbers in a state or an effect.
 abbrev pub IsMode : Mode → Type 0
 IsMode (Low h) = h < 16
 IsMode (Digits n after) = n ≤ 0x11_0000
