@@ -395,9 +395,9 @@ AreManyLocals q items (locals n t) =
 AreManyLocals q items _ = ⊥
 
 -- `Deep`: the first block, loop or if of the body with which more are open than the policy allows. After each
--- front of the ops, the number of open blocks is that of the openings less that of the ends. The body itself is
--- an open list but no block. Hence the number of open blocks with this op is the number of open lists before
--- it.
+-- front of the ops, the number of open blocks is the number of openings less the number of ends. The body
+-- itself is an open list but no block. Hence the number of open blocks with this op is the number of open lists
+-- before it.
 abbrev pub IsTooDeep : Policy → List Item → Item → Type 0
 IsTooDeep q items (body_op o) =
     (b : InBody items) × (opens o ≡ 1)

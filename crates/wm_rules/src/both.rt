@@ -6,7 +6,7 @@ ghost use Rattle.wm_machine.specs.exact.TwoSinks.{after_both, both_take_data, ei
 use wm_decode::{Item, Sink};
 use wm_syntax::why::Why;
 
-/// Two sinks that receive the same items. The first is asked first.
+/// Two sinks that receive the same items. `first` takes each item before `second`.
 #[derive(Debug, Drop)]
 pub struct Both<A, B> {
     pub first: A,

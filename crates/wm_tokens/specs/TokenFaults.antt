@@ -13,8 +13,7 @@ use Rattle.wm_tokens.specs.declared.faults.TextWhy.{TextWhy}
 use Rattle.wm_tokens.specs.declared.faults.TextWhy.TheVariants.{NotUtf8, BadToken, OpenComment, OpenString}
 use Rattle.wm_tokens.specs.declared.faults.TextWhy.TheVariants.{BadEscape, Expected, Memory}
 
--- The token is one, with floats or without. Without floats, an atom must be an identifier, a number or a
--- keyword.
+-- The token is one if there are floats. Without floats, an atom must be an identifier, a number or a keyword.
 abbrev pub IsAmong : Bool → Token → Type 0
 IsAmong floats (atom a) = IsTrue floats ⊎ IsIdentifier a ⊎ IsNumber a ⊎ IsWord a
 IsAmong floats _ = Unit {0}
@@ -52,12 +51,12 @@ Elements b = (parts : List (List ℕ)) × Each StringElement parts b
 abbrev pub EndsInString : Form ℕ
 EndsInString = Byte 34 ▸ Elements ▸ (Exactly [] ∣ EscapeFront)
 
--- A `\` with which no element of a string begins, although the text does not end inside an escape.
+-- A `\` that begins no element of a string, although the text does not end inside an escape.
 abbrev pub NoEscape : Form ℕ
 NoEscape b = (c : List ℕ) × (b ≡ 92 ∷ c) × (EscapeFront b → ⊥)
     × ((given part rest : List ℕ) → b ≡ part ++ rest → StringElement given part → ⊥)
 
--- A string begins here, and after some elements it has an escape that is none.
+-- A string begins here, and after some elements it has a malformed escape.
 abbrev pub HasNoEscape : Form ℕ
 HasNoEscape = Byte 34 ▸ Elements ▸ NoEscape
 

@@ -43,7 +43,7 @@ label_type (head Else t) = t
 abbrev pub at : Context → List Head → Context
 at c hs = record c { labels = map label_type hs }
 
--- The operands that the instruction that opened a list took from the list around it.
+-- The operands that the opening instruction of a list took from the list around it.
 abbrev pub taken_by : Head → List ValType
 taken_by (head Func t) = []
 taken_by (head Block t) = []

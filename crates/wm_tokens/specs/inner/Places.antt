@@ -18,12 +18,12 @@ abbrev pub IsFault : List ℕ → TextRefusal → Type 0
 IsFault text fault = (rest : List ℕ) × Steps true text rest × (scan.fault ≡ ahead rest)
     × (fault.why ≡ told rest) × IsPlace fault.why text rest fault.at
 
--- The first token that is none without floats begins at this offset.
+-- The first atom that is a token only as a float begins at this offset.
 abbrev pub IsFloat : List ℕ → ℕ → Type 0
 IsFloat text at = (rest more a : List ℕ) × Steps false text rest × (first (atom a) more ≡ ahead rest)
     × (IsAmong false (atom a) → ⊥) × (at + length rest ≡ length text)
 
--- There is none before the first lexical error, or before the end.
+-- There is no such atom before the first lexical error, or before the end.
 abbrev pub HasNoFloat : List ℕ → Type 0
 HasNoFloat text = (rest : List ℕ) × Steps false text rest
     × ((no_more ≡ ahead rest) ⊎ (scan.fault ≡ ahead rest))

@@ -1,6 +1,6 @@
--- The effect of each call on a body that is being typed, refusals included. They follow the code step by step,
+-- The effects of the calls on a body that is being typed, refusals included. They follow the code step by step,
 -- for the layers above. No promise rests on them alone except the number of runs that an op reads
--- (`probes_in`), which is that of its `find`. The other clauses of the calls use `BodyAfter`.
+-- (`probes_in`), as its `find` reads them. The other clauses of the calls use `BodyAfter`.
 use Rattle.std.specs.Prelude.{ℕ, List, [], ◌∷◌, Option, Some, None, Result, Ok, Err}
 use Rattle.wm_syntax.specs.declared.types.ValType.{ValType}
 use Rattle.wm_syntax.specs.declared.why.Why.{Why}

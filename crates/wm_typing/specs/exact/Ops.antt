@@ -1,4 +1,4 @@
--- The effect of each op on the stacks and on a br_table whose labels are being read, refusals included. They
+-- The effects of ops on the stacks and on a br_table whose labels are being read, refusals included. They
 -- follow the code step by step, for the layers above. No promise rests on them alone: the other clauses of the
 -- calls use `BodyAfter`.
 use Rattle.std.specs.Prelude.{◌-◌, Bool, true, false, List, [], ◌∷◌, Option, Some, None, Result, Ok, Err}
