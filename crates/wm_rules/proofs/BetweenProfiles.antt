@@ -1,4 +1,4 @@
--- Profiles beside those with more features: what they accept, and what they answer.
+-- Profiles compared with those that extend them: the inputs that they accept, and their answers.
 use Rattle.std.proofs.Common.{◌≡◌, ℕ, List, refl, subst, sym}
 use Rattle.std.specs.List.{AllByRecursion}
 use Rattle.wm_syntax.specs.declared.profile.Profile.{Profile}

@@ -1,4 +1,4 @@
--- Two sinks at once take what each of them takes.
+-- Two sinks together take the items that each of them takes.
 use Rattle.std.proofs.Common.{◌≡◌, List, [], ◌∷◌, Result, Ok, Err, refl, ap, inl, inr}
 use Rattle.wm_syntax.specs.declared.why.Why.{Why}
 use Rattle.wm_machine.specs.Items.{Item}

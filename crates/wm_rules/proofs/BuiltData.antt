@@ -1,4 +1,4 @@
--- A slice of data bytes is taken as its bytes are.
+-- A builder takes a slice of data bytes as it takes the bytes one by one.
 use Rattle.std.proofs.Common.{◌≡◌, ℕ, List, [], ◌∷◌, ◌++◌, Result, Ok, Err, map, refl, sym, ap, ◌∙◌, append_assoc, append-nil}
 use Rattle.wm_syntax.specs.declared.why.Why.{Why}
 use Rattle.wm_syntax.specs.Modules.{Segment}

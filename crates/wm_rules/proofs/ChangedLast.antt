@@ -1,4 +1,4 @@
--- What a change of the last item of a list does.
+-- A change of the last item of a list, for a builder.
 use Rattle.std.proofs.Common.{◌≡◌, ℕ, ◌-◌, ◌<◌, List, [], ◌∷◌, Result, Ok, Err, length, slice_index_or, slice_set, ap, sym, ◌∙◌, arith}
 use Rattle.wm_syntax.specs.declared.why.Why.{Why}
 use Rattle.wm_machine.specs.Sinks.{Taken}

@@ -1,4 +1,5 @@
--- A code entry item by item: what its body keeps is within the items so far, and after the last nothing is kept.
+-- A code entry item by item. The retained state of its body is within the items so far, and nothing is retained
+-- after the last.
 use Rattle.std.proofs.Common.{ℕ, ◌+◌, ◌-◌, ◌*◌, ◌≡◌, ◌≤◌, ◌<◌, ◌^◌, List, [], ◌∷◌, ◌++◌, Option, Some, None, true, false, Result, Ok, Err, length, replicate, refl, sym, ◌∙◌, ap, subst, append_assoc, append-nil, arith, lit<, map, length-append, inl, inr, ◌⊎◌}
 use Rattle.std.proofs.lemmas.List.{length-map}
 use Rattle.wm_syntax.specs.declared.types.ValType.{ValType}

@@ -1,4 +1,4 @@
--- What the checker does to the items of a code entry.
+-- The checker's answers to the items of a code entry.
 use Rattle.std.proofs.Common.{ℕ, ◌+◌, ◌≡◌, ◌≤◌, ◌<◌, ◌^◌, List, [], ◌∷◌, ◌++◌, Option, Some, None, Bool, true, false, cond, Result, Ok, Err, length, max, replicate, refl, sym, ◌∙◌, ap, subst, append_assoc, append-nil, length-append, lit<, arith, map, nat_lt}
 use Rattle.std.specs.List.{AllByRecursion}
 use Rattle.std.proofs.lemmas.Bool.{lt-ltb, ltb-true}

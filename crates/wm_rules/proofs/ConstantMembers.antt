@@ -1,4 +1,4 @@
--- What the checker does to the items of a global, an element segment and a data segment.
+-- The checker's answers to the items of a global, an element segment and a data segment.
 use Rattle.std.proofs.Common.{ℕ, zero, suc, ◌+◌, ◌≡◌, ◌<◌, ◌≤◌, List, [], ◌∷◌, ◌++◌, Option, Some, None, Bool, true, false, cond, Result, Ok, Err, length, take, refl, sym, ◌∙◌, ap, subst, append-nil, arith, map, nat_lt, slice_get}
 use Rattle.std.specs.List.{AllByRecursion}
 use Rattle.std.proofs.lemmas.Bool.{lt-ltb, ltb-true}

@@ -1,4 +1,5 @@
--- What a checker keeps of the items outside bodies has cost as many bytes outside code entries, at every front of an input.
+-- At every front of an input, the entries that a checker retains outside bodies are at most the bytes outside
+-- code entries.
 use Rattle.std.proofs.Common.{ℕ, suc, ◌+◌, ◌≡◌, ◌≤◌, List, [], ◌∷◌, ◌++◌, Option, Some, None, Ok, length, map, sum_by, refl, sym, ◌∙◌, ap, subst, arith}
 use Rattle.std.proofs.lemmas.List.Sums.{sum_by-cons}
 use Rattle.wm_syntax.specs.declared.types.ValType.{ValType}

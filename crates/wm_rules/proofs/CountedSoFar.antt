@@ -1,4 +1,4 @@
--- What is counted for a policy is what the items so far tell, where there is a limit.
+-- If there is a limit, the counts for a policy are those of the items so far.
 use Rattle.std.proofs.Common.{◌≡◌, ℕ, ◌+◌, ◌-◌, ◌≤◌, List, [], ◌∷◌, ◌++◌, Option, Some, None, Result, Ok, length, refl, sym, ◌∙◌, ap, subst, arith, length-append}
 use Rattle.std.specs.Prelude.{IfSome}
 use Rattle.wm_syntax.specs.declared.why.Why.{Why}

@@ -1,4 +1,4 @@
--- What is counted so far is within the policy: functions, locals, and the lists of the body that are open.
+-- The counts so far are within the policy: functions, locals, and the open lists of the body.
 use Rattle.std.proofs.Common.{◌≡◌, ℕ, ◌-◌, ◌≤◌, List, [], ◌∷◌, ◌++◌, Option, Some, None, Result, Ok, refl, sym, ap, subst, ◌∙◌, arith, append_assoc}
 use Rattle.wm_syntax.specs.declared.why.Why.{Why}
 use Rattle.wm_syntax.specs.declared.instructions.Op.{Op}

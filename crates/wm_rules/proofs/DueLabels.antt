@@ -1,4 +1,4 @@
--- In an expression a label stands just where one is due, as the open lists tell it.
+-- In an expression, a label comes if and only if one is due, by the open lists.
 use Rattle.std.proofs.Common.{◌≡◌, ℕ, zero, suc, Bool, List, [], ◌∷◌, ◌++◌, Option, Some, None, refl, sym, ◌∙◌, ap, subst, map}
 use Rattle.wm_syntax.specs.declared.types.ValType.{ValType}
 use Rattle.wm_syntax.specs.declared.instructions.Op.{Op}

@@ -1,5 +1,5 @@
--- Where an item comes that stands on others, those before it are there: a type before a parameter or a result, and a
--- constant or a code entry at hand before its next op.
+-- Items that need earlier ones: a type comes before a parameter or a result, and the start of a constant or a
+-- code entry comes before its ops.
 use Rattle.std.proofs.Common.{◌≡◌, ℕ, List, [], ◌∷◌, ◌++◌, Option, Some, None, refl, sym, ◌∙◌, ap, subst, map, inl, inr, ◌⊎◌, append_assoc, append-nil}
 use Rattle.std.specs.List.{AllByRecursion}
 use Rattle.wm_syntax.specs.declared.profile.Profile.{Profile}

@@ -1,5 +1,5 @@
--- What is true of no marks, of marks one after another, of bytes with a single item and of some rules of the flat grammar
--- is true of a whole module, whatever is demanded of sizes and names.
+-- A property of marks holds for a whole module, whatever is demanded of sizes and names, if it holds for each
+-- of these: no marks, marks one after another, bytes with a single item, and some rules of the flat grammar.
 use Rattle.std.proofs.Common.{◌≡◌, ℕ, zero, suc, List, [], ◌∷◌, ◌++◌, Option, Some, None, length, refl, sym, subst, inl, inr}
 use Rattle.wm_syntax.specs.declared.instructions.Op.{Op}
 use Rattle.wm_syntax.specs.declared.profile.Profile.{Profile}

@@ -1,4 +1,4 @@
--- What the check of a body takes, the building of it takes, op by op.
+-- A body builder takes every op that the check of a body takes.
 use Rattle.std.proofs.Common.{◌≡◌, ℕ, zero, suc, ◌-◌, Bool, true, false, cond, List, [], ◌∷◌, ◌++◌, Option, Some, None, Result, Ok, Err, map, refl, sym, ◌∙◌, ap, subst, inl, inr, ◌⊎◌, nat_eq, arith, slice_get, option_to_list}
 use Rattle.std.proofs.lemmas.Bool.Decides.{nat_tests}
 use Rattle.wm_syntax.specs.declared.types.ValType.{ValType}

@@ -1,4 +1,4 @@
--- What opened the frames of a body, op by op.
+-- The kinds of a body's open frames, op by op.
 use Rattle.std.proofs.Common.{◌≡◌, Bool, true, false, cond, List, [], ◌∷◌, Option, Some, None, Result, Ok, Err, length, map, reverse, refl, sym, ◌∙◌, ap, subst, nat_le, nat_lt, option_to_list}
 use Rattle.wm_syntax.specs.declared.types.ValType.{ValType}
 use Rattle.wm_syntax.specs.declared.types.ValType.TheVariants.{I32}

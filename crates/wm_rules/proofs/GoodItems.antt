@@ -1,4 +1,4 @@
--- The items of a flat value are taken exactly where it is good.
+-- The items of a flat value are taken if and only if the value is good.
 use Rattle.std.proofs.Common.{ℕ, ◌+◌, ◌≡◌, ◌≤◌, ◌<◌, List, [], ◌∷◌, ◌++◌, Option, Some, None, IfSome, false, ◌||◌, Ok, length, max, take, refl, sym, ◌∙◌, ap, subst, append_assoc, append-nil, length-append, arith, map, ◌↔◌, slice_get, option_to_list}
 use Rattle.std.specs.List.{AllByRecursion, filter_map, flat_map, AllZip}
 use Rattle.std.proofs.lemmas.List.{take-append-le}

@@ -1,4 +1,4 @@
--- A flat value is good exactly where a valid module has it.
+-- A flat value is good if and only if it is that of a valid module.
 use Rattle.std.proofs.Common.{ℕ, ◌≡◌, ◌≤◌, ◌<◌, ◌^◌, List, [], ◌∷◌, ◌++◌, Some, IfSome, length, refl, sym, ◌∙◌, ap, subst, map, slice_get, option_to_list}
 use Rattle.std.specs.List.{AllByRecursion, filter_map, AllZip}
 use Rattle.std.proofs.lemmas.List.{append_cancel_right}

@@ -1,4 +1,4 @@
--- When a flat value is good: each of its members is, by the rules of validation (section 3.4).
+-- A flat value is good if each of its members is, by the rules of validation. Core spec 3.4.
 use Rattle.std.specs.Prelude.{ℕ, ◌<◌, ◌≤◌, ◌^◌, ◌≡◌, ◌≢◌, List, [], ◌∷◌, ◌++◌, Some, IfSome, length, map, filter_map}
 use Rattle.std.specs.List.{AllByRecursion, AllZip}
 use Rattle.wm_syntax.specs.declared.types.ValType.{ValType}

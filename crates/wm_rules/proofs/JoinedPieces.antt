@@ -1,4 +1,4 @@
--- The pieces so far, and one more.
+-- The bytes of the pieces so far, and of one piece more.
 use Rattle.std.proofs.Common.{◌≡◌, ◌++◌, ◌<◌, ◌≤◌, ◌+◌, ℕ, zero, suc, List, [], ◌∷◌, take, length, get_or, refl, sym, ◌∙◌, ap, append_assoc, append-nil, arith}
 use Rattle.std.specs.Borrow.{Bor}
 use Rattle.wm_rules.specs.Joining.{joined_bytes}

@@ -1,5 +1,5 @@
--- At every front of an input: the bytes of the entry at hand pay for what is kept of its body, and between entries
--- nothing is kept of any.
+-- The retained state of bodies at every front of an input. It is bounded by the bytes of the entry at hand, and
+-- between entries nothing of a body is retained.
 use Rattle.std.proofs.Common.{ℕ, suc, ◌+◌, ◌-◌, ◌≡◌, ◌≤◌, List, [], ◌∷◌, ◌++◌, Option, Some, None, Ok, length, refl, sym, ◌∙◌, ap, subst, append-nil, arith, map, length-append, inl, inr, ◌⊎◌}
 use Rattle.std.specs.List.{AllByRecursion}
 use Rattle.std.proofs.lemmas.List.{length-map}

@@ -1,4 +1,4 @@
--- What a change of the last item of a list does.
+-- A change of the last item of a list, as an answer that may be refused.
 use Rattle.std.proofs.Common.{◌≡◌, ℕ, zero, suc, ◌-◌, ◌<◌, ◌≤◌, List, [], ◌∷◌, ◌++◌, Result, Ok, Err, length, slice_index_or, slice_set, nat_eq, if◌then◌else◌, Bool, true, false, OnErr, refl, ap, sym, subst, ◌∙◌, arith, length-append}
 use Rattle.std.proofs.lemmas.Bool.Decides.{nat_tests}
 use Rattle.std.specs.List.{AllByRecursion}

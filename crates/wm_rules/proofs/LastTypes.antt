@@ -1,4 +1,4 @@
--- What a change of the last function type answers.
+-- The answers to a change of the last function type.
 use Rattle.std.proofs.Common.{◌≡◌, ℕ, zero, suc, ◌-◌, ◌<◌, List, [], ◌∷◌, ◌++◌, Option, Some, None, Result, Ok, Err, length, get_or, slice_get, option_to_list, is_some, true, ◌+◌, ◌^◌, min, take, sum_by, refl, subst, arith}
 use Rattle.std.proofs.lemmas.Option.{slice_get-get_or}
 use Rattle.wm_syntax.specs.declared.types.ValType.{ValType}

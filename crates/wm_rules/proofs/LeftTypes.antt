@@ -1,4 +1,4 @@
--- What Arity says of the lists of types that the innermost open list can leave.
+-- The meaning of `Arity` for the lists of types that the innermost open list can leave.
 use Rattle.std.proofs.Common.{◌≡◌, ℕ, suc, ◌≤◌, ◌<◌, inl, inr, Bool, true, false, cond, List, [], ◌∷◌, ◌++◌, Option, Some, None, Result, Ok, Err, reverse, length, map, slice_get, option_to_list, refl, sym, ◌∙◌, ap, subst, arith, length-append, nat_eq, nat_le, ◌^◌}
 use Rattle.std.proofs.lemmas.List.{length-reverse}
 use Rattle.wm_syntax.specs.declared.types.ValType.{ValType}

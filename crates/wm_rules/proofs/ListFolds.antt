@@ -1,4 +1,4 @@
--- What is held after each list of a flat value, and what its members' being good comes to.
+-- The state after each list of a flat value, if the members of the list are good.
 use Rattle.std.proofs.Common.{ℕ, suc, ◌+◌, ◌≡◌, ◌≤◌, List, [], ◌∷◌, ◌++◌, None, Bool, true, false, ◌||◌, length, refl, sym, ◌∙◌, ap, append_assoc, append-nil, arith, map}
 use Rattle.std.specs.List.{AllByRecursion, filter_map}
 use Rattle.wm_syntax.specs.declared.types.Limits.{Limits}

@@ -1,5 +1,5 @@
--- Where operands are answered with Arity, too few of them stand above the floor of the innermost frame, or at the end of a
--- list too many.
+-- If the answer is `Arity`, too few operands are above the floor of the innermost frame, or too many at the end
+-- of a list.
 use Rattle.std.proofs.Common.{◌≡◌, ℕ, suc, ◌+◌, ◌-◌, ◌<◌, ◌⊎◌, inl, inr, Bool, true, false, cond, List, [], ◌∷◌, Option, Some, None, Result, Ok, Err, reverse, length, option_to_list, refl, sym, ◌∙◌, ap, subst, arith, length-append, nat_le, nat_lt}
 use Rattle.std.proofs.lemmas.Bool.{leb-true, leb-false, ltb-true}
 use Rattle.std.proofs.lemmas.List.{length-reverse}

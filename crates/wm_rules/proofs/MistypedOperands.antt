@@ -1,4 +1,5 @@
--- Where operands are answered with Mismatch, one of them has another type than is taken, whatever types the others stand for.
+-- If the answer is `Mismatch`, one operand has a type other than the taken one, whatever types the others stand
+-- for.
 use Rattle.std.proofs.Common.{◌≡◌, ◌⊎◌, inl, inr, Bool, true, false, cond, List, [], ◌∷◌, ◌++◌, Option, Some, None, Result, Ok, Err, reverse, length, option_to_list, refl, sym, ◌∙◌, ap, subst, arith, append-nil, append_assoc, length-append, nat_le, nat_lt}
 use Rattle.std.proofs.lemmas.Bool.{le-leb, leb-true}
 use Rattle.std.proofs.lemmas.List.{reverse-append, reverse-reverse}

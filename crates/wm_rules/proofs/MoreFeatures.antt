@@ -1,4 +1,4 @@
--- What a profile accepts, one that extends it accepts.
+-- An input that a profile accepts is accepted by each profile that extends it.
 use Rattle.std.proofs.Common.{◌≡◌, ℕ, List, refl}
 use Rattle.wm_syntax.specs.declared.profile.Profile.{Profile}
 use Rattle.wm_syntax.specs.Profiles.{Extends}

@@ -1,4 +1,4 @@
--- A set of names, each beside its hash, is the list of their bytes in order.
+-- A set of names with their hashes is the list of their bytes in order.
 use Rattle.std.proofs.Common.{◌≡◌, ℕ, Bool, true, false, not, List, [], ◌∷◌, map, Ok, Err, refl, ap, sym, ◌∙◌, ◌||◌}
 use Rattle.std.specs.declared.cmp.Ordering.{Ordering}
 use Rattle.std.specs.declared.cmp.Ordering.TheVariants.{Less, Equal, Greater}

@@ -1,4 +1,4 @@
--- What the name of a validator's refusal says, from what it says of the format and of the item that is refused.
+-- The meaning of a validator's refusal, from the meanings for the format and for the refused item.
 use Rattle.std.proofs.Common.{ℕ, ◌⊎◌, inl, inr, List}
 use Rattle.wm_syntax.specs.declared.profile.Profile.{Profile}
 use Rattle.wm_syntax.specs.declared.why.Why.{Why}

@@ -1,4 +1,4 @@
--- Names that are new, each after those before it, are those that differ pairwise.
+-- Names are pairwise different if and only if each one is new after those before it.
 use Rattle.std.proofs.Common.{min, ◌-◌, ◌^◌, subst, suc, ◌+◌, length, sum_by, cond, Ok, Err, arith, ℕ, ◌≡◌, ◌≢◌, List, [], ◌∷◌, Bool, true, false, ◌||◌, refl, sym, ◌∙◌, ap, ◌↔◌}
 use Rattle.std.specs.declared.cmp.Ordering.{Ordering}
 use Rattle.std.specs.declared.cmp.Ordering.TheVariants.{Less, Equal, Greater}

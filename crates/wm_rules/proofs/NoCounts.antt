@@ -1,4 +1,4 @@
--- A policy with no limits counts nothing, so its checker answers as the rules do.
+-- A policy without limits counts nothing, so its checker answers as the rules do.
 use Rattle.std.proofs.Common.{◌≡◌, List, [], ◌∷◌, Option, None, Some, Result, Ok, Err, refl, subst}
 use Rattle.wm_syntax.specs.declared.why.Why.{Why}
 use Rattle.wm_syntax.specs.declared.modules.ImportDesc.{ImportDesc}

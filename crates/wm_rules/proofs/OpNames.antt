@@ -1,4 +1,5 @@
--- Which names an op of a body is refused by, and what Index, Immutable, Align and ElsePlace say of it.
+-- The names that may refuse an op of a body, and the meanings of `Index`, `Immutable`, `Align` and `ElsePlace`
+-- for it.
 use Rattle.std.proofs.Common.{◌≡◌, ◌-◌, ◌^◌, ℕ, List, [], ◌∷◌, ◌++◌, Bool, true, false, cond, Option, Some, None, Result, Ok, Err, reverse, length, slice_get, option_to_list, subst, sym, refl}
 use Rattle.std.specs.Prelude.{nat_le, nat_lt, nat_eq}
 use Rattle.wm_syntax.specs.declared.types.ValType.{ValType}

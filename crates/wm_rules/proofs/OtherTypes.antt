@@ -1,4 +1,4 @@
--- What Type says of the lists of types that the innermost open list can leave.
+-- The meaning of `Type` for the lists of types that the innermost open list can leave.
 use Rattle.std.proofs.Common.{◌≡◌, ◌⊎◌, ℕ, ◌<◌, inl, inr, Bool, true, false, cond, List, [], ◌∷◌, ◌++◌, Option, Some, None, Result, Ok, Err, reverse, length, map, slice_get, option_to_list, refl, sym, ◌∙◌, ap, subst, nat_eq}
 use Rattle.wm_syntax.specs.declared.types.ValType.{ValType}
 use Rattle.wm_syntax.specs.declared.types.ValType.TheVariants.{I32}

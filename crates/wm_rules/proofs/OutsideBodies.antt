@@ -1,4 +1,4 @@
--- An item outside code entries leaves the body at hand and the figures as they are; and no type gets a second result.
+-- An item outside code entries changes neither the body at hand nor the figures. No type gets a second result.
 use Rattle.std.proofs.Common.{ℕ, ◌+◌, ◌≡◌, ◌≤◌, List, [], ◌∷◌, ◌++◌, Option, Some, None, Bool, true, false, cond, Result, Ok, Err, length, refl, sym, subst, arith, length-append, nat_eq, nat_lt}
 use Rattle.std.specs.List.{AllByRecursion}
 use Rattle.std.proofs.lemmas.Bool.{eqb-true}

@@ -1,4 +1,5 @@
--- Which names types, constants and code entries are refused by, and what Index, Type, Arity and NotConst say of them.
+-- The names that may refuse types, constants and code entries, and the meanings of `Index`, `Type`, `Arity` and
+-- `NotConst` for them.
 use Rattle.std.proofs.Common.{◌≡◌, ◌+◌, ◌^◌, ℕ, List, [], ◌∷◌, ◌++◌, Bool, true, false, cond, Option, Some, None, Result, Ok, Err, replicate, length, slice_get, subst, sym, ◌∙◌, ap, refl}
 use Rattle.std.specs.Prelude.{nat_le, nat_lt, nat_eq}
 use Rattle.wm_syntax.specs.declared.types.ValType.{ValType}

@@ -1,4 +1,4 @@
--- How the index spaces that the items tell grow, and which items leave them.
+-- The growth of the index spaces item by item, and the items that leave them unchanged.
 use Rattle.std.proofs.Common.{◌≡◌, ℕ, suc, ◌≤◌, ◌<◌, List, [], ◌∷◌, ◌++◌, length, map, refl, sym, ◌∙◌, ap, subst, arith, length-append}
 use Rattle.wm_syntax.specs.declared.types.ValType.{ValType}
 use Rattle.wm_syntax.specs.declared.instructions.Op.{Op}

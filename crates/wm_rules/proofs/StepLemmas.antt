@@ -1,4 +1,4 @@
--- What the checker makes of an item.
+-- The checker's answers to single items.
 use Rattle.std.proofs.Common.{◌≡◌, ℕ, true, List, [], ◌∷◌, map, Option, Some, None, Ok, Err, refl, sym, ◌∙◌, inl, inr}
 use Rattle.wm_syntax.specs.declared.why.Why.TheVariants as why
 use Rattle.wm_typing.specs.Answers.{Room}

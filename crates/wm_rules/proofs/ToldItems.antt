@@ -1,4 +1,4 @@
--- What a checker holds of the index spaces and of names is what the items tell.
+-- The index spaces and the names of a checker are those of its items.
 use Rattle.std.proofs.Common.{◌≡◌, ℕ, ◌+◌, ◌^◌, cond, Bool, true, false, List, [], ◌∷◌, ◌++◌, Option, Some, None, Result, Ok, Err, length, inl, inr, ◌⊎◌, ◌||◌, refl, sym, ◌∙◌, ap, subst, nat_lt, nat_eq}
 use Rattle.wm_syntax.specs.declared.why.Why.{Why}
 use Rattle.wm_syntax.specs.declared.why.Why.TheVariants as why

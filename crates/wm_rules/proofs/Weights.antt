@@ -1,4 +1,4 @@
--- What is kept of the items that were taken is their weight.
+-- The number of retained entries is the weight of the items that were taken.
 use Rattle.std.proofs.Common.{ℕ, ◌+◌, ◌≡◌, List, [], ◌∷◌, ◌++◌, Option, Some, None, Bool, true, false, cond, Result, Ok, Err, length, refl, subst, arith, length-append, sum_by, nat_eq, nat_lt}
 use Rattle.std.proofs.lemmas.List.Sums.{sum_by-cons, sum_by_push}
 use Rattle.wm_syntax.specs.declared.types.ValType.{ValType}

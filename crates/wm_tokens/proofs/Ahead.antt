@@ -1,4 +1,4 @@
--- What stands first in a text.
+-- The start of a text.
 use Rattle.std.proofs.Common.{◌≡◌, ◌≢◌, ℕ, zero, ◌≤◌, length, ◌⊎◌, Bool, true, false, cond, List, [], ◌∷◌, ◌++◌, Option, Some, None, refl, sym, ap, subst, ◌∙◌, inl, inr, append_assoc, take, drop, get_or, arith}
 use Rattle.std.specs.Prelude.{◌==◌, ◌&&◌, IfNone}
 use Rattle.std.specs.List.{list_all}

@@ -1,4 +1,4 @@
--- The first fault of the tokens: its name and its place.
+-- The first lexical error: its name and its offset.
 use Rattle.std.proofs.Common.{◌≡◌, ◌≢◌, ℕ, zero, ◌≤◌, ◌+◌, ◌-◌, ◌⊎◌, Bool, true, false, List, [], ◌∷◌, ◌++◌, length, Option, Some, None, refl, sym, ap, subst, ◌∙◌, inl, inr, arith, append_assoc, IsUtf8}
 use Rattle.std.specs.Prelude.{Result, Ok, Err, IfErr, ◌==◌, ◌↔◌}
 use Rattle.std.specs.Str.{IsValidUpTo}

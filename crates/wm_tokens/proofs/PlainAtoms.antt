@@ -1,4 +1,4 @@
--- Atoms whose first byte tells that they are some.
+-- Plain atoms: their first byte shows that they are atoms.
 use Rattle.std.proofs.Common.{◌≡◌, ℕ, zero, suc, ◌<◌, ◌≤◌, ◌+◌, ◌-◌, ◌*◌, ◌⊎◌, Bool, true, false, List, [], ◌∷◌, length, Some, refl, sym, ap, subst, ◌∙◌, inl, inr, arith, take, drop, get_or}
 use Rattle.std.specs.Prelude.{◌||◌, ◌==◌, nat_le, codes}
 use Rattle.std.specs.List.{list_any, list_all}

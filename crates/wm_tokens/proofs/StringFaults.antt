@@ -1,4 +1,4 @@
--- What is wrong with a string: the text ends within it, or an escape is none.
+-- The errors of a string: the text ends inside it, or an escape is malformed.
 use Rattle.std.proofs.Common.{◌≡◌, ℕ, zero, suc, ◌<◌, ◌+◌, ◌*◌, ◌⊎◌, Bool, true, false, List, [], ◌∷◌, ◌++◌, Option, Some, None, refl, sym, ap, subst, ◌∙◌, inl, inr, arith, append_assoc, length, length-append}
 use Rattle.std.specs.Prelude.{◌==◌, ◌&&◌, fold, encode_utf8}
 use Rattle.std.proofs.lemmas.Bool.{cond_both, eqb-true, and_parts}

@@ -1,4 +1,4 @@
--- What the calls leave, after the ops so far.
+-- The state after a call, given that after the ops so far.
 use Rattle.std.proofs.Common.{◌-◌, ℕ, Bool, true, false, cond, ◌≡◌, ◌≤◌, ◌<◌, ◌+◌, ◌^◌, List, [], ◌∷◌, ◌++◌, Option, None, Result, Ok, Err, MatchResult, OnOk, IfOk, length, max, sym, refl, ap, ◌∙◌, subst, arith, lit≤, length-append, ◌⊎◌, inl, inr, ◌↔◌}
 use Rattle.std.specs.Prelude.{nat_lt, replicate}
 use Rattle.wm_syntax.specs.declared.types.ValType.{ValType}

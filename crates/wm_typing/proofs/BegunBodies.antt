@@ -1,5 +1,5 @@
--- Ops that have a typing in the lists that they leave open begin a typed body: an unreachable in each of these, and its
--- end. The first branch of an if also gets an else and another unreachable.
+-- Ops that have a typing in the lists that they leave open begin a typed body. Each of these lists gets an
+-- `unreachable` and its end. The first branch of an `if` also gets an `else` and another `unreachable`.
 use Rattle.std.proofs.Common.{◌≡◌, List, [], ◌∷◌, ◌++◌, Option, Some, option_to_list, refl, subst}
 use Rattle.wm_syntax.specs.declared.types.ValType.{ValType}
 use Rattle.wm_syntax.specs.declared.types.ValType.TheVariants.{I32}

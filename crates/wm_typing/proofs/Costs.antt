@@ -1,4 +1,4 @@
--- What each op can add to the moves and to the heights.
+-- The bounds of what each op adds to the moves and to the heights.
 use Rattle.std.proofs.Common.{ℕ, zero, suc, ◌≡◌, ◌≤◌, ◌+◌, ◌-◌, Bool, true, false, cond, List, [], ◌∷◌, ◌++◌, Option, Some, None, Result, Ok, Err, reverse, length, slice_get, option_map, option_to_list, refl, sym, ap, ◌∙◌, subst, arith}
 use Rattle.std.specs.Prelude.{nat_le, nat_lt, nat_eq, ◌^◌, option_and_then}
 use Rattle.wm_syntax.specs.declared.types.ValType.{ValType}

@@ -1,4 +1,4 @@
--- What a frame denotes, with the top last.
+-- The types that a frame denotes, topmost last.
 use Rattle.std.proofs.Common.{ℕ, ◌≡◌, ◌+◌, ◌-◌, Bool, true, false, IsTrue, List, [], ◌∷◌, ◌++◌, length, take, drop, map, reverse, sym, refl, ap, ◌∙◌, subst, arith, length-append, ◌↔◌, inl, inr, ◌⊎◌}
 use Rattle.std.proofs.lemmas.List.{reverse-append, reverse-reverse}
 use Rattle.std.proofs.Math.Seq.{take-append_seam, drop-append_seam}

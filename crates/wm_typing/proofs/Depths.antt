@@ -1,4 +1,4 @@
--- How many lists are open, and how deep instructions were nested so far.
+-- The number of open lists, and the nesting depth of the instructions so far.
 use Rattle.std.proofs.Common.{ℕ, zero, suc, ◌≡◌, ◌+◌, List, [], ◌∷◌, ◌++◌, Option, Some, None, max, refl, subst, arith}
 use Rattle.wm_syntax.specs.declared.types.ValType.{ValType}
 use Rattle.wm_syntax.specs.declared.instructions.Op.{Op}

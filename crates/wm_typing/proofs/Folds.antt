@@ -1,4 +1,4 @@
--- Ops in turn.
+-- Ops taken one after another.
 use Rattle.std.proofs.Common.{ℕ, ◌≡◌, ◌<◌, List, [], ◌∷◌, ◌++◌, None, Result, Ok, Err, length, sym, refl, ap, ◌∙◌, subst, arith, append_assoc, append-nil, ◌↔◌}
 use Rattle.wm_syntax.specs.declared.types.ValType.{ValType}
 use Rattle.wm_syntax.specs.declared.why.Why.{Why}

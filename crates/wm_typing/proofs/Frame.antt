@@ -1,4 +1,4 @@
--- What one frame denotes, the top first, and what an instruction's shape does to it.
+-- The types that one frame denotes, topmost first, and the effect of an instruction on them.
 use Rattle.std.proofs.Common.{◌≡◌, Bool, true, false, cond, IsTrue, List, [], ◌∷◌, ◌++◌, Option, Some, None, reverse, map, sym, refl, ap, ◌∙◌, subst, append-nil, append_assoc, ◌↔◌}
 use Rattle.std.proofs.lemmas.List.{reverse-append, reverse-reverse}
 use Rattle.wm_syntax.specs.declared.types.ValType.{ValType}

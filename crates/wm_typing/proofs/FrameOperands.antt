@@ -1,4 +1,4 @@
--- The operands of one frame, the top first, and what an instruction does to them.
+-- The operands of one frame, topmost first, and the effect of an instruction on them.
 use Rattle.std.proofs.Common.{Bool, true, false, List, [], ◌∷◌, ◌++◌, Option, Some, None, reverse, map, if◌then◌else◌}
 use Rattle.wm_syntax.specs.declared.types.ValType.{ValType}
 use Rattle.wm_syntax.specs.declared.types.ValType.TheVariants.{I32}

@@ -1,4 +1,4 @@
--- Function types whose parameters stand in one list.
+-- Function types whose parameters are in one list.
 use Rattle.std.proofs.Common.{ℕ, zero, suc, ◌≡◌, ◌+◌, ◌-◌, ◌≤◌, ◌<◌, List, [], ◌∷◌, ◌++◌, Option, Some, None, length, take, drop, slice_get, slice_set, slice_range, get_or, option_to_list, refl, ap, sym, ◌∙◌, subst, arith, length-append, length-drop, length-take}
 use Rattle.std.proofs.lemmas.List.{take-append-le, drop-append-le, take_all, drop_at, map-append, length-map, length-set}
 use Rattle.std.proofs.lemmas.Option.{slice_get-map, slice_get-get_or}

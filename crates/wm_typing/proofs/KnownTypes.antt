@@ -1,4 +1,4 @@
--- What is known of locals when one more is noted, and after a search.
+-- The known locals after one more is noted, and after a search.
 use Rattle.std.proofs.Common.{ℕ, ◌≡◌, ◌-◌, ◌*◌, ◌%◌, ◌^◌, ◌<◌, ◌≤◌, ◌⊎◌, List, [], Some, inl, inr, ap, sym, ◌∙◌, subst, arith, w64, bit_and, bit_or}
 use Rattle.std.specs.Int.{bit_at}
 use Rattle.std.specs.Prelude.{slice_get}

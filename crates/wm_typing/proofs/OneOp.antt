@@ -1,4 +1,4 @@
--- One op, on the frames and on the open lists.
+-- The effect of one op on the frames and on the open lists.
 use Rattle.std.proofs.Common.{ℕ, zero, suc, ◌≡◌, Bool, true, false, cond, List, [], ◌∷◌, ◌++◌, Option, Some, None, reverse, map, slice_get, option_to_list, sym, refl, ap, ◌∙◌, subst, append-nil, append_assoc, ◌↔◌}
 use Rattle.std.proofs.lemmas.List.{reverse-append, reverse-reverse}
 use Rattle.wm_syntax.specs.declared.types.ValType.{ValType}

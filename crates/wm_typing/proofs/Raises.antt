@@ -1,4 +1,4 @@
--- Which ops leave no more operands, or no more frames, than there were.
+-- The ops that do not grow the operand stack, or the control stack.
 use Rattle.std.proofs.Common.{ℕ, ◌≡◌, ◌≤◌, ◌-◌, ◌^◌, Bool, true, false, cond, List, [], ◌∷◌, Option, Some, None, Result, Ok, Err, reverse, length, slice_get, option_to_list, refl, ap, subst, arith}
 use Rattle.std.specs.Prelude.{nat_le, nat_lt, nat_eq}
 use Rattle.wm_syntax.specs.declared.types.ValType.{ValType}

@@ -1,4 +1,4 @@
--- What the stacks hold after one op more.
+-- The stacks after one more op.
 use Rattle.std.proofs.Common.{◌≡◌, ◌<◌, List, [], ◌∷◌, ◌++◌, Option, Some, None, Ok, Err, map, length, option_to_list, sym, refl, ap, ◌∙◌, subst, arith}
 use Rattle.std.proofs.lemmas.List.{append_cancel_right, length-map}
 use Rattle.wm_syntax.specs.declared.types.ValType.{ValType}

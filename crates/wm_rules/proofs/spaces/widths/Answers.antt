@@ -1,4 +1,4 @@
--- One type more.
+-- One more type.
 use Rattle.std.proofs.Common.{◌<◌, length, arith}
 use Rattle.wm_rules.proofs.LastTypes.{one_width_more}
 use Rattle.wm_rules.proofs.spaces.widths.Goals as goal

@@ -1,4 +1,4 @@
--- The table is held against the definition at each of the 256 bytes, by computing.
+-- The table is compared with the definition at each of the 256 bytes, by computation.
 use Rattle.std.proofs.Common.{◌≡◌, ℕ, ◌<◌, ◌∙◌, Bool, true, false, List, Option, Some, None, cond, nat_eq, nat_lt, get_or, ap, refl, sym, arith}
 use Rattle.std.proofs.lemmas.Bool.{agree_below, agree_below_at, cond-true, cond-false, eqb-true, lt-ltb, le-ltb}
 use Rattle.wm_tokens.specs.declared.scan.TheConstants.{DIGITS}

@@ -1,4 +1,4 @@
--- The table is held against the definition at each of the 256 bytes, by computing.
+-- The table is compared with the definition at each of the 256 bytes, by computation.
 use Rattle.std.proofs.Common.{◌≡◌, ℕ, ◌<◌, true, not, nat_eq, get_or, List, refl, arith}
 use Rattle.std.proofs.lemmas.Bool.{agree_below, agree_below_at}
 use Rattle.wm_tokens.specs.declared.scan.TheConstants.{ID_CHARS}

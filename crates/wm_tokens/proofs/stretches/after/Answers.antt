@@ -1,4 +1,4 @@
--- Each row is held against the definition at each of the 256 bytes, by computing.
+-- Each row is compared with the definition at each of the 256 bytes, by computation.
 use Rattle.std.proofs.Common.{◌≡◌, ℕ, ◌<◌, ◌/◌, ◌%◌, ◌^◌, ◌∙◌, Bool, true, List, get_or, nat_eq, ap, refl, arith}
 use Rattle.std.proofs.lemmas.Bool.{agree_below, agree_below_at, eqb-true}
 use Rattle.wm_tokens.specs.declared.stretches.TheConstants.{ROWS}

@@ -1,4 +1,4 @@
--- The locals of the runs so far are a front of all.
+-- The locals of the runs so far are a front of all locals.
 use Rattle.std.proofs.Common.{take_all, ◌<◌, ◌^◌, [], ◌^◌, take, length, sym, subst, inl, inr}
 use Rattle.std.proofs.lemmas.Result.{err_from_is_err_and}
 use Rattle.wm_typing.specs.inner.Checking.{BodyAfter}

@@ -1,4 +1,4 @@
--- The ops so far were taken, and the body goes on.
+-- The ops so far were taken, and the body has not ended.
 use Rattle.std.proofs.Common.{◌<◌, length, take}
 use Rattle.wm_typing.specs.inner.Checking.{BodyAfter}
 use Rattle.wm_typing.proofs.bodies.step_all.Given as goal

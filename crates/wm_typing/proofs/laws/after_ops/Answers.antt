@@ -1,4 +1,4 @@
--- What stands and what was counted is that of the open lists.
+-- The heights and the figures are those of the open lists.
 use Rattle.wm_typing.specs.Contexts.{body_context}
 use Rattle.wm_typing.proofs.StacksAfterOps.{can_be_typed}
 use Rattle.wm_typing.proofs.AfterCalls.{nested_said, controls_said}

@@ -1,4 +1,4 @@
--- A typing of the whole is one of each front.
+-- A typing of all ops gives one of each front.
 use Rattle.std.proofs.Common.{◌++◌, refl}
 use Rattle.wm_typing.specs.Contexts.{body_context}
 use Rattle.wm_typing.proofs.StacksAfterOps.{front_typed, body_can}

@@ -1,4 +1,4 @@
--- The place within the labels is the only one.
+-- The place among the labels is the only one.
 use Rattle.wm_typing.proofs.Tables.{count_law, label_law}
 use Rattle.wm_typing.proofs.laws.labels_of_a_table.Goals as goal
 

@@ -1,4 +1,4 @@
--- By closing each list.
+-- The proof closes each list.
 use Rattle.std.proofs.Common.{refl}
 use Rattle.wm_typing.specs.Contexts.{body_context}
 use Rattle.wm_typing.proofs.BegunBodies.{begun_body}

@@ -1,4 +1,4 @@
--- From the start of a body.
+-- The proof begins at the start of a body.
 use Rattle.std.proofs.Common.{[]}
 use Rattle.wm_typing.specs.exact.Folds.{body_with_locals}
 use Rattle.wm_typing.proofs.AfterCalls.{after_started}

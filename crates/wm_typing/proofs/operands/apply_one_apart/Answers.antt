@@ -1,4 +1,4 @@
--- What is done at once is what the type says.
+-- The fast path does as the type says.
 use Rattle.std.proofs.Common.{None, option_map, refl}
 use Rattle.wm_typing.specs.Entries.{entry_of_type}
 use Rattle.wm_typing.proofs.Costs.{near_acts}

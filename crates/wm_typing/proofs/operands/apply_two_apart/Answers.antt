@@ -1,4 +1,4 @@
--- What is done at once is what the type says.
+-- The fast path does as the type says.
 use Rattle.std.proofs.Common.{Some}
 use Rattle.wm_typing.proofs.Costs.{near_acts}
 use Rattle.wm_typing.proofs.operands.apply_two_apart.Goals as goal

@@ -1,4 +1,4 @@
--- What an op can't have raised is no higher than what was counted before it.
+-- A height that the op cannot have grown is at most the one counted before.
 use Rattle.std.proofs.Common.{arith, sym, ◌∙◌}
 use Rattle.wm_typing.specs.Contexts.{in_function}
 use Rattle.wm_typing.proofs.Raises.{step_lower}

@@ -1,4 +1,4 @@
--- The function's frame is open, and nothing else.
+-- Only the function's frame is open.
 use Rattle.std.proofs.Common.{[], sym, subst}
 use Rattle.wm_typing.specs.inner.Checking.{BodyAfter}
 use Rattle.wm_typing.proofs.AfterCalls.{after_begun}

@@ -1,4 +1,4 @@
--- More locals before the first op: the frames are the same.
+-- More locals before the first op do not change the frames.
 use Rattle.wm_typing.proofs.AfterCalls.{locals_said}
 use Rattle.wm_typing.proofs.body_checker.BodyChecker.locals.Goals as goal
 

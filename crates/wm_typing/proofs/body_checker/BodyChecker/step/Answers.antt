@@ -1,4 +1,4 @@
--- What `advance` does goes with the typing.
+-- The result of `advance` agrees with the typing.
 use Rattle.std.proofs.Common.{◌∷◌, ◌++◌, [], length}
 use Rattle.wm_typing.proofs.AfterCalls.{within_after, stats_said, after_said, typed_said, ended_said, denotes_said, empty_said, ended_twice, nested_said, controls_said, on_ok}
 use Rattle.wm_typing.proofs.body_checker.BodyChecker.step.Goals as goal

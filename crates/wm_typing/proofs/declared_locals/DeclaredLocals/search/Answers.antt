@@ -1,4 +1,4 @@
--- What is known was found by searches that are counted.
+-- Known locals were found by searches that are counted.
 use Rattle.std.proofs.Common.{◌≤◌, ◌∙◌, sym, arith}
 use Rattle.wm_stacks.specs.Probes.{probes_for}
 use Rattle.wm_typing.proofs.KnownTypes.{found_within, found_more}

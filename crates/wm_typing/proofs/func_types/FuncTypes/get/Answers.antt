@@ -1,4 +1,4 @@
--- The parameters of a type lie where its entry says.
+-- The parameters of a type are where its entry says.
 use Rattle.std.proofs.Common.{ℕ, ◌≡◌, ◌+◌, ◌<◌, ◌≤◌, ◌∙◌, ap, sym, List, Some, length, slice_get, get_or, arith, rules}
 use Rattle.std.proofs.lemmas.Option.{slice_get-get_or}
 use Rattle.wm_typing.specs.declared.func_types.TypeEntry.{TypeEntry}

@@ -1,4 +1,4 @@
--- One type more, with its parameters at the end.
+-- One more type, with its parameters at the end.
 use Rattle.wm_typing.proofs.FuncTypeLists.{pushed}
 use Rattle.wm_typing.proofs.func_types.FuncTypes.push.Goals as goal
 

@@ -1,4 +1,4 @@
--- The parameters of the last type end at the end.
+-- The parameters of the last type are at the end of the list.
 use Rattle.std.proofs.Common.{arith, ◌∙◌}
 use Rattle.wm_typing.proofs.FuncTypeLists.{count_fits, param_pushed}
 use Rattle.wm_typing.proofs.func_types.FuncTypes.push_param.Goals as goal
