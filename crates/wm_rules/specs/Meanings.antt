@@ -276,8 +276,8 @@ abbrev pub BeginsBefore : Context → List Op → Op → Type 0
 BeginsBefore c ops (op.Label l) = Unit {0}
 BeginsBefore c ops _ = BeginsBody c ops
 
--- `Type` and `Arity`, in a body: the ops so far begin a typed body, but with this op they do not.
--- Core spec 3.3.
+-- `Type` and `Arity`, in a body: the ops so far begin a typed body (`BeginsBefore`), but with this op they do
+-- not. Core spec 3.3.
 abbrev pub EndsTyping : {items : List Item} → InBody items → Op → Type 0
 EndsTyping b o =
     BeginsBefore (context_of_body b.entry b.type_index) b.entry.code.ops o

@@ -9,8 +9,8 @@ use Rattle.wm_rules.specs.Holding.{Held}
 abbrev pub IsFull : Body → Type 0
 IsFull b = (b.refused ≢ None) ⊎ (64 ≤ length b.state.stacks.operands) ⊎ (32 ≤ length b.state.stacks.frames)
 
--- The checker may refuse the item with `Memory`. An op gets this refusal only if the body is full. Items that
--- are not retained never get it.
+-- The checker may refuse the item with `Memory`. An op gets this refusal only if the body is full. A result
+-- count, a name of an import and a data byte never get it.
 abbrev pub MayRunOut : Held → Item → Type 0
 MayRunOut h (result_count n) = ⊥
 MayRunOut h (import_module name) = ⊥

@@ -36,8 +36,8 @@ abbrev pub EndsInComment : List ℕ → Type 0
 EndsInComment b = (inside : List ℕ) × (b ≡ codes "(;" ++ inside)
     × ((part rest : List ℕ) → inside ≡ part ++ rest → CommentRest part → ⊥)
 
--- An escape that is cut off: `\`, perhaps with a digit; `\u`; or `\u{`, perhaps with digits and then an
--- underscore.
+-- An escape that is cut off: `\` alone or with a digit; `\u`; `\u{`; or `\u{` and digits, perhaps with an
+-- underscore after them.
 abbrev pub EscapeFront : Form ℕ
 EscapeFront b = (b ≡ codes "\\") ⊎ ((h : ℕ) × (Byte 92 ▸ IsDigit 16 h) b) ⊎ (b ≡ codes "\\u")
     ⊎ (b ≡ codes "\\u{")
