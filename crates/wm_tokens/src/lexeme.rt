@@ -120,7 +120,7 @@ fn atom(text: &[u8]) -> Found
 }
 
 /// Returns the parenthesis at the start of the text, and the text after it. Returns `None` only if the text
-/// begins with none: a block comment does not.
+/// begins with no parenthesis. A block comment begins with none.
 #[inline(always)]
 fn parenthesis(text: &[u8]) -> Option<(Lexeme, &[u8])>
     ensures found { IfSome result (λ x. scan.first (token_of x.0) x.1.now ≡ scan.ahead text.now) }

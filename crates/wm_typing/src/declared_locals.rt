@@ -16,7 +16,8 @@ use wm_syntax::why::Why;
 
 /// The declared locals, the types that searches found, and the greatest number of runs that one search read.
 ///
-/// A local of a whole number that a search found is not searched again: the search would read the same runs.
+/// Among the first 64 of them, a local of a whole number that a search found is not searched again. The search
+/// would read the same runs.
 #[derive(Debug, Drop)]
 pub(crate) struct DeclaredLocals {
     table: RunTable,
