@@ -10,7 +10,7 @@ use std::alloc::{AllocError, Global};
 use std::collections::BTreeMap;
 use std::marker::Model;
 
-/// What opens a block.
+/// The kind of a block.
 #[derive(Clone, Copy, PartialEq, Eq)]
 pub enum Opening {
     Block,
@@ -18,12 +18,12 @@ pub enum Opening {
     If,
 }
 
-/// An open block: its identifier, and whether an `else` may still come.
+/// An open block: its identifier, and whether an `else` may still follow.
 #[derive(Clone, Copy)]
 pub struct Block<'a> {
     pub id: Option<&'a [u8]>,
     pub may_else: bool,
-    /// The place of the nearest block around it that has its identifier too.
+    /// The position of the nearest enclosing block with its identifier; the outermost block has position 0.
     outer: Option<usize>,
 }
 
@@ -31,7 +31,7 @@ pub struct Block<'a> {
 #[derive(Drop)]
 pub struct OpenBlocks<'a> {
     blocks: Vec<Block<'a>>,
-    /// The place of the innermost block with each identifier.
+    /// The position of the innermost block with each identifier.
     places: BTreeMap<&'a [u8], usize>,
 }
 
@@ -49,7 +49,7 @@ impl<'a> Model for OpenBlocks<'a> {
 }
 
 impl<'a> OpenBlocks<'a> {
-    /// No blocks.
+    /// Returns an empty list.
     pub fn new(alloc: Global) -> Self
         ensures { result ≡ [] }
     {
@@ -59,7 +59,8 @@ impl<'a> OpenBlocks<'a> {
         }
     }
 
-    /// How deep the nearest block with this identifier is, in time logarithmic in the number of identifiers.
+    /// The depth of the nearest block with this identifier, in time logarithmic in the number of identifiers. The
+    /// innermost block has depth 0.
     pub fn depth(&self, name: &[u8]) -> Option<usize>
         ensures { result ≡ place_of (labels self.now) name.now }
     {
@@ -72,7 +73,7 @@ impl<'a> OpenBlocks<'a> {
         }
     }
 
-    /// The innermost open block.
+    /// Returns the innermost open block, if any.
     #[tactic(auto, using(crate::proofs::OpenBlocks::last_laws))]
     pub fn innermost(&self) -> Option<Block<'a>>
         ensures { MatchOption result (self.now ≡ []) (λ b. self.now ≡ open_of b ∷ drop 1 self.now) }
@@ -109,7 +110,7 @@ impl<'a> OpenBlocks<'a> {
         }
     }
 
-    /// Closes the innermost block.
+    /// Closes the innermost block and returns it. `None` if no block is open.
     #[tactic(auto, using(crate::proofs::OpenBlocks::pop_laws))]
     pub fn close(&mut self) -> Option<Block<'a>>
         ensures none { IfNone result ((self.old ≡ []) × (self.new ≡ [])) }
@@ -125,8 +126,8 @@ impl<'a> OpenBlocks<'a> {
     }
 }
 
-/// Notes a place of an identifier, or that it has none. Memory is needed only for an
-/// identifier that has no place.
+/// Sets or removes the position of an identifier. Fails only if the identifier has no position yet. An error changes
+/// nothing.
 fn put<'a>(
     places: &mut BTreeMap<&'a [u8], usize>,
     id: Option<&'a [u8]>,

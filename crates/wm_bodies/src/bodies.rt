@@ -1,4 +1,4 @@
-//! Bodies: tokens up to the parenthesis that closes a function.
+//! Reads function bodies: the tokens up to the parenthesis that closes the function.
 
 ghost use Rattle.std.specs.Prelude.{◌≡◌, ◌∷◌, ◌<◌, ◌^◌, [], IfErr, OnOk, Some, length, map};
 ghost use Rattle.wm_tokens.specs.declared.faults.TextWhy.TheVariants.{Memory};
@@ -26,14 +26,14 @@ use wm_syntax::types::ValType;
 use wm_tokens::faults::{TextFault, TextWhy};
 use wm_tokens::lexeme::{Lexeme, first_token};
 
-/// A body that is being read: its ops so far, and the blocks that are open.
+/// A body that is being read: its ops up to here, and its open blocks.
 #[derive(Drop)]
 struct OpenBody<'a> {
     builder: BodyBuilder,
     blocks: OpenBlocks<'a>,
 }
 
-/// Takes an op that may stand next.
+/// Appends an op that may come next. Fails with `Memory` only.
 #[inline(never)]
 #[tactic(auto, using(crate::proofs::BuiltBodies::op_laws))]
 fn push(builder: &mut BodyBuilder, op: Op) -> Result<(), TextFault>
@@ -48,8 +48,7 @@ fn push(builder: &mut BodyBuilder, op: Op) -> Result<(), TextFault>
     }
 }
 
-/// Takes an instruction that holds no list and may stand next: at once, where there is room for it. Most ops
-/// are such.
+/// Appends an instruction without a nested list, as most ops are. Takes the fast path where there is room for it.
 #[inline(always)]
 #[tactic(auto, using(crate::proofs::BuiltBodies::op_laws))]
 fn push_simple(builder: &mut BodyBuilder, simple: Simple) -> Result<(), TextFault>
@@ -64,7 +63,7 @@ fn push_simple(builder: &mut BodyBuilder, simple: Simple) -> Result<(), TextFaul
     }
 }
 
-/// Takes the labels of a br_table.
+/// Appends the labels of a `br_table`, without the default.
 #[tactic(auto, using(crate::proofs::BuiltBodies::label_laws))]
 fn push_labels(builder: &mut BodyBuilder, labels: &[u32]) -> Result<(), TextFault>
     requires { CanTake builder.old (map Op.Label labels.now) }
@@ -77,7 +76,7 @@ fn push_labels(builder: &mut BodyBuilder, labels: &[u32]) -> Result<(), TextFaul
     Ok(())
 }
 
-/// Takes a br_table.
+/// Appends a `br_table` with its labels.
 #[tactic(auto, using(crate::proofs::BuiltBodies::table_laws))]
 fn push_table(builder: &mut BodyBuilder, labels: &[u32], default: u32) -> Result<(), TextFault>
     requires few { length labels.now < 2 ^ 32 }
@@ -91,7 +90,7 @@ fn push_table(builder: &mut BodyBuilder, labels: &[u32], default: u32) -> Result
     push(builder, Op::Label(default))
 }
 
-/// The op that opens a block of this type.
+/// Returns the op that opens a block with this result type.
 fn opening_op(opening: Opening, ty: Option<ValType>) -> Op
     ensures { result ≡ flat.opening_op opening ty }
 {
@@ -102,14 +101,14 @@ fn opening_op(opening: Opening, ty: Option<ValType>) -> Op
     }
 }
 
-/// Whether an `else` may follow.
+/// Whether the block is an `if`, so that an `else` may follow.
 fn is_if(opening: Opening) -> bool
     ensures { result ≡ flat.is_if opening }
 {
     matches!(opening, Opening::If)
 }
 
-/// Adds a piece that may stand next. An error leaves a body of which nothing is known.
+/// Appends a piece that may come next. After an error the body is unspecified.
 fn add<'a>(body: &mut OpenBody<'a>, piece: Piece<'a>) -> Result<(), TextFault>
     requires fits { FitsPiece (piece_of piece) }
     requires stands { CanTake body.old.builder (flat.piece_ops (piece_of piece)) }
@@ -139,7 +138,7 @@ fn add<'a>(body: &mut OpenBody<'a>, piece: Piece<'a>) -> Result<(), TextFault>
     Ok(())
 }
 
-/// The body of a builder in which no list is open.
+/// Returns the body of a builder without open lists.
 fn finish(builder: BodyBuilder) -> Body
     requires { (s : Instructions) × (builder ≡ at [] s) }
     ensures { builder ≡ at [] result }
@@ -150,7 +149,9 @@ fn finish(builder: BodyBuilder) -> Body
     }
 }
 
-/// The body that stands before a closing parenthesis (section 6.5), and the text from that parenthesis on.
+/// Reads a body up to the closing parenthesis of its function, and returns the text from there on. Core spec 6.5.
+/// Fails as `read_piece` does. Fails with `Expected` if a block is open there, and at an opening parenthesis, a string
+/// or the end of the text.
 #[tactic(auto, using(crate::proofs::BodyLoop::body_laws))]
 pub fn read_body<'a>(
     alloc: Global,

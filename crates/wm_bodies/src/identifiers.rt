@@ -1,4 +1,4 @@
-//! What identifiers mean (section 6.6): the index spaces of a module, and the locals of a function.
+//! Index spaces with the identifiers of their items (Core spec 6.6): those of a module, and the locals of a function.
 
 ghost use Rattle.std.specs.Prelude.{◌≡◌, ◌++◌, ◌∷◌, [], ℕ, List, None, OnErr, OnOk, length, replicate};
 ghost use Rattle.wm_bodies.specs.exact.Reading.{is_new as new, is_same_id as same_id, place_of};
@@ -10,23 +10,23 @@ use std::collections::BTreeMap;
 use std::marker::Model;
 use wm_syntax::types::{FuncType, ValType};
 
-/// An item with an identifier, behind so many with none.
+/// An item with an identifier, after `before` items without one.
 #[derive(Clone, Copy)]
 pub struct Identified<'a> {
     before: usize,
     id: &'a [u8],
 }
 
-/// The identifiers of an index space, in the order of its items. Items with none take no memory.
+/// The identifiers of an index space, in the order of its items. Items without one take no memory.
 #[derive(Drop)]
 pub struct Space<'a> {
-    /// How many items there are.
+    /// The number of items.
     count: usize,
-    /// Those with an identifier.
+    /// The items with an identifier.
     identified: Vec<Identified<'a>>,
-    /// How many with none come after them.
+    /// The number of items without an identifier after the last one with an identifier.
     unnamed: usize,
-    /// The first place of each identifier.
+    /// The index of the first item with each identifier.
     places: BTreeMap<&'a [u8], usize>,
 }
 
@@ -44,7 +44,7 @@ impl<'a> Model for Space<'a> {
 }
 
 impl<'a> Space<'a> {
-    /// No items.
+    /// Returns a space without items.
     pub fn new(alloc: Global) -> Self
         ensures { result ≡ [] }
     {
@@ -56,7 +56,7 @@ impl<'a> Space<'a> {
         }
     }
 
-    /// Items of these types, with no identifiers, in constant time.
+    /// Returns a space with one item for each of these types, without identifiers, in constant time.
     #[tactic(auto, using(crate::proofs::Spaces::of_laws))]
     pub fn of_unnamed(alloc: Global, types: &[ValType]) -> Self
         ensures { result ≡ replicate (length types.now) None }
@@ -69,7 +69,7 @@ impl<'a> Space<'a> {
         }
     }
 
-    /// So many items more, with no identifiers, in constant time. An error adds nothing.
+    /// Appends `count` items without identifiers, in constant time. An error adds nothing.
     #[tactic(auto, using(crate::proofs::Spaces::unnamed_laws))]
     pub fn push_unnamed(&mut self, count: u32) -> Result<(), AllocError>
         ensures added { OnOk result (self.new ≡ self.old ++ replicate count None) }
@@ -84,7 +84,7 @@ impl<'a> Space<'a> {
         Ok(())
     }
 
-    /// One item more, with this identifier. An error adds nothing.
+    /// Appends an item with this identifier. An error adds nothing.
     #[tactic(auto, using(crate::proofs::Spaces::identified_laws))]
     fn push_id(&mut self, id: &'a [u8]) -> Result<(), AllocError>
         ensures added { OnOk result (self.new ≡ self.old ++ Some id.now ∷ []) }
@@ -109,7 +109,7 @@ impl<'a> Space<'a> {
         }
     }
 
-    /// One item more, with its identifier or with none. An error adds nothing.
+    /// Appends an item with or without an identifier. An error adds nothing.
     pub fn push(&mut self, id: Option<&'a [u8]>) -> Result<(), AllocError>
         ensures added { OnOk result (self.new ≡ self.old ++ id_of id.entry ∷ []) }
         ensures unchanged { OnErr result (self.new ≡ self.old) }
@@ -120,7 +120,7 @@ impl<'a> Space<'a> {
         }
     }
 
-    /// The first place of an identifier, in time logarithmic in their number.
+    /// The index of the first item with this identifier, in time logarithmic in the number of identifiers.
     pub fn place(&self, name: &[u8]) -> Option<usize>
         ensures { result ≡ place_of self.now name.now }
     {
@@ -128,7 +128,7 @@ impl<'a> Space<'a> {
     }
 }
 
-/// Notes the place of an identifier that has none. An error notes nothing.
+/// Maps an identifier to its index, unless it has one already. An error changes nothing.
 fn define<'a>(
     places: &mut BTreeMap<&'a [u8], usize>,
     id: &'a [u8],
@@ -144,7 +144,7 @@ fn define<'a>(
     Ok(())
 }
 
-/// What a module defines, for what its fields use: its types and the identifiers of its index spaces.
+/// The types of a module and the identifiers of its index spaces, which fields may refer to.
 #[derive(Drop)]
 pub struct Names<'a> {
     pub signatures: Vec<FuncType>,
@@ -155,14 +155,14 @@ pub struct Names<'a> {
     pub globals: Space<'a>,
 }
 
-/// What the identifiers of a function's body mean, its labels aside.
+/// The names that a function's body may refer to, except its labels.
 #[derive(Drop)]
 pub struct Scope<'n, 'a> {
     pub names: &'n Names<'a>,
     pub locals: Space<'a>,
 }
 
-/// Whether a block or an item has this identifier.
+/// Whether an optional identifier is this one.
 pub fn is_same_id(id: Option<&[u8]>, name: &[u8]) -> bool
     ensures { result ≡ same_id (id_of id.entry) name.now }
 {
@@ -172,7 +172,7 @@ pub fn is_same_id(id: Option<&[u8]>, name: &[u8]) -> bool
     }
 }
 
-/// Whether an item may have this identifier, or none, after the others of its space.
+/// Whether no item of the space has this identifier. `true` for `None`.
 pub fn is_new(space: &Space, id: Option<&[u8]>) -> bool
     ensures { result ≡ new space.now (id_of id.entry) }
 {

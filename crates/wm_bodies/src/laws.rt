@@ -1,4 +1,4 @@
-//! Laws of the definitions, as the contracts of functions that do nothing.
+//! Theorems about the definitions of this crate, as contracts of functions with empty bodies.
 
 ghost use Rattle.std.specs.Prelude.{◌≡◌, ◌∷◌, ◌++◌, [], ℕ, List, Some, codes};
 ghost use Rattle.std.specs.Prelude.{false};
@@ -15,9 +15,9 @@ ghost use Rattle.wm_syntax.specs.Instructions.{Instructions};
 ghost use Rattle.wm_syntax.specs.Profiles.{HasInstructions, HasSignature, HasType};
 ghost use Rattle.wm_syntax.specs.declared.profile.Profile.{Profile};
 
-/// Where identifiers are distinct in their spaces: what is read of a body is what the tokens before a closing
-/// parenthesis write, and what tokens before one write is read where the types that the text defines are of
-/// the profile.
+/// A body is read exactly as its tokens write it, if identifiers are distinct in their spaces. `read`: the tokens
+/// before a closing parenthesis write the instructions that were read, which are of the profile. `written`: such
+/// instructions are read if the tokens write them, and the profile has the types of the text.
 pub fn bodies_are_read_as_written()
     ensures read { (p : Profile) (sc : Scope) (k rest : List Token) (s : Instructions)
         → HasDistinct sc.names → AreDistinct sc.locals → instructions_at p sc k ≡ Some (s, rest)
@@ -29,8 +29,8 @@ pub fn bodies_are_read_as_written()
         → instructions_at p sc (front ++ close_paren ∷ more) ≡ Some (s, close_paren ∷ more) }
 {}
 
-/// Where identifiers are distinct in their spaces and types are of the profile, tokens write one list of
-/// instructions.
+/// Tokens write at most one list of instructions of the profile. Identifiers must be distinct in their spaces, and the
+/// profile must have the types of the text.
 pub fn one_body()
     ensures { (p : Profile) (sc : Scope) (front : List Token) (s t : Instructions)
         → HasDistinct sc.names → AreDistinct sc.locals → AllByRecursion (HasSignature p) sc.names.signatures
@@ -38,8 +38,8 @@ pub fn one_body()
         → WritesInstructions sc [] t front → HasInstructions p t → s ≡ t }
 {}
 
-/// What is read of groups of parameters or locals is what the tokens write, with types of the profile, and
-/// what tokens write so is read where no further group follows.
+/// Groups of parameters or locals are read exactly as their tokens write them, with types of the profile. `written`
+/// needs that no further group follows.
 pub fn groups_are_read_as_written()
     ensures read { (p : Profile) (word : List ℕ) (k : List Token) (all : List Named) (rest : List Token)
         → named_at p word k ≡ Some (all, rest)
@@ -50,9 +50,8 @@ pub fn groups_are_read_as_written()
         → begins_group word rest ≡ false → named_at p word (front ++ rest) ≡ Some (all, rest) }
 {}
 
-/// What is read of a type use is what the tokens write; and, where identifiers of types are distinct and the
-/// types are of the profile, what tokens write is read where no further form of a type use follows. So is
-/// that of a call_indirect, where no form at all follows.
+/// Type uses are read exactly as their tokens write them. `written` and `call_written` need distinct identifiers of
+/// types, and types of the profile. No group of parameters or results may follow; after a `call_indirect`, no form.
 pub fn type_uses_are_read_as_written()
     ensures read { (p : Profile) (names : Names) (k : List Token) (u : ℕ × List Named) (rest : List Token)
         → named_use_at p names k ≡ Some (u, rest)

@@ -1,5 +1,8 @@
-//! The text of functions (chapter 6), read: type uses, parameters and locals, instructions; and what their
-//! identifiers mean.
+//! Reads the text of functions (Core spec chapter 6): type uses, parameters, locals and instructions. It also
+//! resolves their identifiers.
+//!
+//! Contracts say which tokens a reader accepts, and with which value. The name of a refusal is mostly tested, not
+//! proved.
 #![tactic(auto)]
 
 pub mod blocks;

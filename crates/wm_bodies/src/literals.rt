@@ -1,4 +1,4 @@
-//! What atoms mean: numbers (section 6.3.1), identifiers and words.
+//! Values of atoms: numbers (Core spec 6.3.1 and 6.3.2), identifiers and keywords.
 
 ghost use Rattle.std.specs.Prelude.{◌≡◌, ◌≤◌, ◌<◌, ◌+◌, ◌^◌, ℕ, Some, None};
 ghost use Rattle.std.specs.Prelude.{MatchOption, IfOk, IfSome, pos, neg_ℤ, ◌≤ℤ◌, ◌<ℤ◌};
@@ -11,7 +11,7 @@ use wm_floats::atoms::float_of;
 use wm_syntax::instructions::FloatType;
 use wm_tokens::scan::{magnitude, short_decimal};
 
-/// Whether an atom is this word.
+/// Whether an atom is this keyword.
 #[tactic(auto, using(crate::proofs::Readers::same_laws))]
 pub fn is(atom: &[u8], word: &[u8]) -> bool
     ensures { result ≡ reading.same_bytes atom.now word.now }
@@ -19,23 +19,22 @@ pub fn is(atom: &[u8], word: &[u8]) -> bool
     atom == word
 }
 
-/// Whether an atom is an identifier (section 6.3.5).
+/// Whether an atom is an identifier. Core spec 6.3.5.
 pub fn is_id(atom: &[u8]) -> bool
     ensures { result ≡ reading.is_id atom.now }
 {
     matches!(atom, [b'$', _, ..])
 }
 
-/// Whether an atom is a word (section 6.2.2, keyword).
+/// Whether an atom begins with a lower-case letter, as a keyword does. Core spec 6.2.2. Also true for `inf` and `nan`.
 pub fn is_word(atom: &[u8]) -> bool
     ensures { result ≡ reading.is_word atom.now }
 {
     matches!(atom, [b'a'..=b'z', ..])
 }
 
-/// Whether an atom begins and goes on as the name of a floating-point type or instruction does.
-/// No instruction on whole numbers has such a name. It has no clause, since it decides only
-/// which name a refusal gets.
+/// Whether an atom looks like the name of a floating-point type or instruction. No instruction on integers alone has
+/// such a name. No contract: it decides only which name a refusal gets.
 pub fn is_float(atom: &[u8]) -> bool {
     if is(atom, b"f32") || is(atom, b"f64") {
         return true;
@@ -52,7 +51,7 @@ pub fn is_float(atom: &[u8]) -> bool {
     }
 }
 
-/// A number below 2^32 (section 6.3.1).
+/// Returns the value of an unsigned number below 2^32, else `None`. Core spec 6.3.1.
 #[tactic(auto, using(crate::proofs::Numbers::short_unsigned))]
 pub fn unsigned(atom: &[u8]) -> Option<u32>
     ensures { result ≡ reading.unsigned_of atom.now }
@@ -63,7 +62,7 @@ pub fn unsigned(atom: &[u8]) -> Option<u32>
     }
 }
 
-/// The same of a number in any form.
+/// The slow path of `unsigned`: a number in any form.
 #[tactic(auto, using(crate::proofs::Numbers::number_laws))]
 fn any_unsigned(atom: &[u8]) -> Option<u32>
     ensures { result ≡ reading.unsigned_of atom.now }
@@ -71,7 +70,8 @@ fn any_unsigned(atom: &[u8]) -> Option<u32>
     u32::try_from(magnitude(atom)?).ok()
 }
 
-/// A constant, where half of the numbers below `whole` stand for themselves.
+/// Returns the signed value of an integer literal, where `whole` is 2^N and `half` is 2^(N-1). Without a sign, a number
+/// from `half` up to `whole` means itself minus `whole`. `None` if it is out of range. Core spec 6.3.1.
 fn integer(half: u64, whole: u128, atom: &[u8]) -> Option<i128>
     requires whole { whole ≤ 2 ^ 64 }
     requires half { 0 < half }
@@ -86,7 +86,7 @@ fn integer(half: u64, whole: u128, atom: &[u8]) -> Option<i128>
     }
 }
 
-/// The same of a number after `+`.
+/// `integer` for the number after a `+`.
 #[tactic(auto, using(crate::proofs::Numbers::number_laws))]
 fn plus(half: u64, atom: &[u8]) -> Option<i128>
     ensures value { result ≡ reading.plus_of half atom.now }
@@ -98,7 +98,7 @@ fn plus(half: u64, atom: &[u8]) -> Option<i128>
     }
 }
 
-/// The same of a number after `-`.
+/// `integer` for the number after a `-`.
 #[tactic(auto, using(crate::proofs::Numbers::number_laws))]
 fn minus(half: u64, atom: &[u8]) -> Option<i128>
     requires { 0 < half }
@@ -111,7 +111,7 @@ fn minus(half: u64, atom: &[u8]) -> Option<i128>
     }
 }
 
-/// The same of a number with no sign.
+/// `integer` for a number without a sign.
 #[tactic(auto, using(crate::proofs::Numbers::number_laws))]
 fn plain(half: u64, whole: u128, atom: &[u8]) -> Option<i128>
     requires whole { whole ≤ 2 ^ 64 }
@@ -126,7 +126,7 @@ fn plain(half: u64, whole: u128, atom: &[u8]) -> Option<i128>
     }
 }
 
-/// The constant of an i32.
+/// Returns the constant of an `i32.const` as a signed number, written unsigned or signed. Core spec 6.3.1.
 pub fn constant32(atom: &[u8]) -> Option<i32>
     ensures { result ≡ reading.integer_of 32 atom.now }
 {
@@ -136,7 +136,7 @@ pub fn constant32(atom: &[u8]) -> Option<i32>
     }
 }
 
-/// The same in any form.
+/// The slow path of `constant32`: an integer in any form.
 #[tactic(auto, unfolding(crate::specs::exact::Reading::integer_of))]
 fn any_constant32(atom: &[u8]) -> Option<i32>
     ensures { result ≡ reading.integer_of 32 atom.now }
@@ -145,7 +145,7 @@ fn any_constant32(atom: &[u8]) -> Option<i32>
     Some(n as i32)
 }
 
-/// The constant of an i64.
+/// Returns the constant of an `i64.const` as a signed number, written unsigned or signed. Core spec 6.3.1.
 #[tactic(auto, unfolding(crate::specs::exact::Reading::integer_of))]
 pub fn constant64(atom: &[u8]) -> Option<i64>
     ensures { result ≡ reading.integer_of 64 atom.now }
@@ -154,7 +154,7 @@ pub fn constant64(atom: &[u8]) -> Option<i64>
     Some(n as i64)
 }
 
-/// The bits of an f32 (section 6.3.2). None also where a number is nearest to an infinity.
+/// Returns the bits of an f32. Core spec 6.3.2. `None` if the atom is no f32, or rounds to an infinity.
 #[tactic(auto, using(crate::proofs::Floats::word_laws))]
 pub fn float32(alloc: Global, atom: &[u8]) -> Result<Option<u32>, AllocError>
     ensures { IfOk result (λ o. o ≡ atoms.float_of float.F32 atom.now) }
@@ -165,14 +165,14 @@ pub fn float32(alloc: Global, atom: &[u8]) -> Result<Option<u32>, AllocError>
     }
 }
 
-/// The bits of an f64.
+/// Returns the bits of an f64. Core spec 6.3.2. `None` if the atom is no f64, or rounds to an infinity.
 pub fn float64(alloc: Global, atom: &[u8]) -> Result<Option<u64>, AllocError>
     ensures { IfOk result (λ o. o ≡ atoms.float_of float.F64 atom.now) }
 {
     float_of(alloc, FloatType::F64, atom)
 }
 
-/// What follows a key.
+/// Returns the rest of an atom after a key such as `offset=`. `None` if it does not begin with the key.
 pub fn after_key<'a>(key: &[u8], atom: &'a [u8]) -> Option<&'a [u8]>
     ensures { MatchOption result (reading.after_key key.now atom.now ≡ None)
         (λ r. reading.after_key key.now atom.now ≡ Some r.now) }
@@ -180,7 +180,8 @@ pub fn after_key<'a>(key: &[u8], atom: &'a [u8]) -> Option<&'a [u8]>
     atom.strip_prefix(key)
 }
 
-/// The exponent of a power of two. Accesses have at most eight bytes, so most numbers are one of four.
+/// Returns the exponent of a power of two, else `None`. Accesses are 1, 2, 4 or 8 bytes wide, so most numbers take the
+/// fast path.
 #[inline(always)]
 #[tactic(auto, unfolding(crate::specs::exact::Reading::exponent_of))]
 pub fn exponent(n: u32) -> Option<u32>
@@ -195,7 +196,7 @@ pub fn exponent(n: u32) -> Option<u32>
     }
 }
 
-/// The same of any number.
+/// The slow path of `exponent`: any number.
 #[inline(never)]
 fn any_exponent(n: u32) -> Option<u32>
     ensures { result ≡ reading.exponent_of n }

@@ -1,4 +1,4 @@
-//! Parameters and locals, with their identifiers (sections 6.4.3 and 6.6.5).
+//! Parameters and locals with their identifiers (Core spec 6.4.3 and 6.6.5).
 
 ghost use Rattle.std.specs.Prelude.{◌≡◌, ◌++◌, ◌∷◌, ◌⊎◌, [], IfOk, IfSome, None, OnOk, replicate};
 ghost use Rattle.wm_tokens.specs.Written.{types_of};
@@ -19,7 +19,7 @@ use wm_syntax::types::ValType;
 use wm_tokens::faults::{TextFault, TextWhy};
 use wm_tokens::lexeme::{Lexeme, next_token, skip_space};
 
-/// A run of parameters or of locals: one with an identifier, or some of one type with none.
+/// A run of parameters or locals: one with an identifier, or any number of one type without identifiers.
 #[derive(Clone, Copy)]
 pub enum NamedRun<'a> {
     One(&'a [u8], ValType),
@@ -27,7 +27,7 @@ pub enum NamedRun<'a> {
 }
 
 impl<'a> NamedRun<'a> {
-    /// How many items it is, and their type.
+    /// Returns the number of items and their type.
     #[tactic(auto, using(crate::proofs::NamedGroups::types_of_run))]
     pub fn count_and_type(self) -> (u32, ValType)
         ensures { types_of (named_of self.entry) ≡ replicate result.0 result.1 }
@@ -38,7 +38,8 @@ impl<'a> NamedRun<'a> {
         }
     }
 
-    // It with one item of this type more, where it has none but those without an identifier
+    // Returns the run with one more item of this type. `None` if the run has an identifier, another type, or 2^32 - 1
+    // items.
     fn longer(self, ty: ValType) -> Option<NamedRun<'a>>
         ensures { IfSome result (λ run. named_of run ≡ named_of self.entry ++ (None, ty) ∷ []) }
     {
@@ -52,7 +53,7 @@ impl<'a> NamedRun<'a> {
     }
 }
 
-/// Adds an item with no identifier: it lengthens the last run, where that has its type.
+/// Appends an item without an identifier. It lengthens the last run if that allows it.
 #[tactic(auto, using(crate::proofs::NamedGroups::push_laws))]
 fn push_unnamed(runs: &mut Vec<NamedRun>, ty: ValType) -> Result<(), AllocError>
     ensures { OnOk result (named_list runs.new.items ≡ named_list runs.old.items ++ (None, ty) ∷ []) }
@@ -68,7 +69,7 @@ fn push_unnamed(runs: &mut Vec<NamedRun>, ty: ValType) -> Result<(), AllocError>
     Ok(())
 }
 
-/// Adds items with no identifiers, up to what is no atom.
+/// Appends items without identifiers, up to a token that is no atom.
 #[tactic(auto, using(crate::proofs::NamedGroups::unnamed_laws))]
 fn unnamed<'a>(
     named: &mut Vec<NamedRun<'a>>,
@@ -94,7 +95,7 @@ fn unnamed<'a>(
     }
 }
 
-/// Adds what stands between a group's word and its closing parenthesis: an identifier and its type, or types.
+/// Appends the items between a group's keyword and its closing parenthesis: an identifier and its type, or types.
 #[tactic(auto, using(crate::proofs::NamedGroups::inside_laws))]
 fn inside<'a>(
     named: &mut Vec<NamedRun<'a>>,
@@ -118,7 +119,7 @@ fn inside<'a>(
     }
 }
 
-/// Adds what one group holds.
+/// Appends the items of one group.
 #[tactic(auto, using(crate::proofs::NamedGroups::group_none))]
 fn group<'a>(
     named: &mut Vec<NamedRun<'a>>,
@@ -136,8 +137,8 @@ fn group<'a>(
     close(rest)
 }
 
-/// What all groups with this word hold that stand first: `( word id valtype )` or `( word valtype* )`, where
-/// the word is `param` or `local`.
+/// Reads all groups `( name id valtype )` or `( name valtype* )` up to another token, and returns their items.
+/// `name` is `param` or `local`. Core spec 6.4.3 and 6.6.5.
 #[tactic(auto, using(crate::proofs::NamedGroups::named_laws))]
 pub fn groups<'a>(
     alloc: Global,
@@ -156,9 +157,10 @@ pub fn groups<'a>(
     Ok((named, rest))
 }
 
-/// The first fault among the tokens of parameters and locals, of those that more than `left` bytes are left
-/// at: an identifier that comes again, or a local after the `most` that there may be. Rows of `wm_cli` test which
-/// of them it is, and where, with a small `most`: a text with 2^32 locals is too long.
+/// Returns the first error among the tokens of parameters and locals: `RepeatedId` for a repeated identifier, or
+/// `TooManyLocals` for the local after the first `most`. Only tokens with more than `left` bytes left are searched.
+///
+/// Rows of `wm_cli` test the name and the offset with a small `most`, since a text with 2^32 locals is too long.
 pub fn earlier_fault(
     alloc: Global,
     text: &[u8],

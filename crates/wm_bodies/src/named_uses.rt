@@ -1,4 +1,4 @@
-//! Type uses of functions and imports (section 6.6.3), whose parameters may have identifiers.
+//! Type uses of functions and imports (Core spec 6.6.3), whose parameters may have identifiers.
 
 ghost use Rattle.std.specs.Prelude.{◌≡◌, ◌≤◌, ◌++◌, IfErr, IfOk, OnOk, replicate, length};
 ghost use Rattle.std.specs.Option.{option_map};
@@ -20,22 +20,21 @@ use wm_syntax::profile::Profile;
 use wm_syntax::types::{FuncType, ValType};
 use wm_tokens::faults::{TextFault, TextWhy};
 
-/// The parameters of a type use: those of its type, with no identifiers, or those that are written.
+/// The parameters of a type use: those of its type, without identifiers, or the written ones.
 #[derive(Drop)]
 pub enum Params<'n, 'a> {
     OfType(&'n [ValType]),
     Written(Vec<NamedRun<'a>>),
 }
 
-/// A type use: the index of the type, and as many parameters as the type has, with the
-/// identifiers that are written.
+/// A type use: the index of the type, and one parameter for each of the type's, with the written identifiers.
 #[derive(Drop)]
 pub struct NamedUse<'n, 'a> {
     pub index: u32,
     pub params: Params<'n, 'a>,
 }
 
-/// Adds so many times this type.
+/// Appends a type `count` times.
 #[tactic(auto, using(crate::proofs::NamedUses::times_laws))]
 fn push_times(types: &mut Vec<ValType>, count: u32, ty: ValType) -> Result<(), AllocError>
     ensures { OnOk result (types.new.items ≡ types.old.items ++ replicate count ty) }
@@ -46,7 +45,7 @@ fn push_times(types: &mut Vec<ValType>, count: u32, ty: ValType) -> Result<(), A
     Ok(())
 }
 
-/// The types of parameters.
+/// Returns the types of parameters, one for each.
 #[tactic(auto, using(crate::proofs::NamedUses::types_laws))]
 pub fn types_of(alloc: Global, params: &[NamedRun]) -> Result<Vec<ValType>, AllocError>
     ensures { IfOk result (λ ts. ts.items ≡ written.types_of (named_list params.now)) }
@@ -59,8 +58,8 @@ pub fn types_of(alloc: Global, params: &[NamedRun]) -> Result<Vec<ValType>, Allo
     Ok(types)
 }
 
-/// The parameters of a use: those of the type where nothing is written, or those written where all is as in
-/// the type. Those of the type are not copied, so that they take no time.
+/// Returns the parameters of a type use. They are the type's if no parameter and no result is written; these are
+/// borrowed, so they take no time. They are the written ones if parameters and results equal the type's. Else `None`.
 #[tactic(auto, using(crate::proofs::NamedUses::used_laws))]
 fn used<'n, 'a>(
     alloc: Global,
@@ -81,8 +80,9 @@ fn used<'n, 'a>(
     }
 }
 
-/// The fault of a use whose parameters or results are not its type's, from the text of the use and the text
-/// after it: a wrong form that stands there, or the index. Locals are no wrong form where they may stand.
+/// Returns the refusal of a type use whose parameters or results differ from its type's. `text` begins at the type
+/// use, `rest` after it. If a misplaced form follows, that is refused, else the index. `(local ..)` is no misplaced
+/// form if `locals` is set.
 fn misfit(locals: bool, text: &[u8], rest: &[u8]) -> TextFault
     requires { 3 ≤ length (lexed text.now) }
     ensures { IsRefusal result.why }
@@ -96,9 +96,10 @@ fn misfit(locals: bool, text: &[u8], rest: &[u8]) -> TextFault
     }
 }
 
-/// `( type idx )`, parameters and results, as many as stand first; `locals` tells whether locals
-/// may follow. Parameters and results that are not those of the type are a fault at the index,
-/// unless a wrong form follows.
+/// Reads a type use: `( type idx )`, then all parameters and results that follow. Core spec 6.6.3. `locals` is whether
+/// locals may follow.
+/// Fails with `TypeUse` at the index if no type has it, or if parameters or results differ from the type's. In the
+/// second case a misplaced form after them is `Expected` instead.
 #[tactic(auto, using(crate::proofs::NamedUses::named_laws, crate::proofs::Ends::index_stands))]
 pub fn named_use<'n, 'a>(
     alloc: Global,
@@ -124,9 +125,9 @@ pub fn named_use<'n, 'a>(
     }
 }
 
-/// The fault of a call_indirect's type use, which was refused so. Whole forms that are not those of
-/// the type are a fault at the index; else the first identifier of a parameter is one, unless a wrong
-/// token stands before it. None stands at the text's end, so a fault there stays.
+/// Refines the refusal of a `call_indirect`'s type use, whose parameters may have no identifiers. The type use is read
+/// again with identifiers allowed. An error at or before `fault` replaces it; else `fault` is at an identifier, and
+/// becomes `TypeUse`. A refusal at the end of the text stays, and so does `Memory`.
 pub fn call_fault(
     alloc: Global,
     profile: Profile,
@@ -149,7 +150,7 @@ pub fn call_fault(
     }
 }
 
-/// The same type use, with identifiers at its parameters.
+/// Reads a type use whose parameters may have identifiers. Fails with `Expected` if a form follows it.
 #[tactic(auto, using(crate::proofs::Groups::fails_read, crate::proofs::Groups::expected_read))]
 fn with_ids(alloc: Global, profile: Profile, names: &Names, text: &[u8]) -> Result<(), TextFault>
     ensures { IfErr result (λ e. IsOfReaders e.why) }

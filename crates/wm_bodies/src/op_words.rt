@@ -1,5 +1,5 @@
-//! What the word of an instruction names. Sorted names are searched in eight steps. So the byte that a
-//! word may name is guessed first, and asked whether this is its name.
+//! Looks up the keyword of an instruction. A binary search over the sorted names takes eight steps. To save them, the
+//! byte is guessed first, and its name compared with the keyword.
 
 ghost use Rattle.std.specs.Prelude.{◌≡◌, ◌≤◌, length};
 ghost use Rattle.wm_syntax.specs.exact.NameTable.{class_named};
@@ -10,9 +10,9 @@ use wm_syntax::instructions::op_names::{name_of, op_named};
 use wm_syntax::instructions::opcodes::op_of;
 use wm_syntax::profile::Profile;
 
-// The bytes of the instructions whose names have five characters and more, each at the place that
-// `long_guess` gives its name, and 0 at every other. Two names have one place: there stands `memory.size`,
-// and `i32.popcnt` is searched. A wrong byte here only costs time.
+// A hash table: the first byte of each instruction whose name has five characters or more, at the index that
+// `long_guess` computes from the name. All other entries are 0. Two names collide: the entry is `memory.size`, and
+// `i32.popcnt` is searched. A wrong byte here only costs time.
 static GUESSES: [u8; 512] = [
     0x00, 0x00, 0x00, 0x00, 0x00, 0x00, 0x63, 0x00, 0x00, 0x00, 0x00, 0x00, 0x81, 0x00, 0x00, 0x4F,
     0xA4, 0xA8, 0x00, 0x00, 0x00, 0x00, 0x00, 0x00, 0x00, 0x6D, 0x00, 0x00, 0x00, 0x00, 0x00, 0x00,
@@ -48,8 +48,7 @@ static GUESSES: [u8; 512] = [
     0x00, 0x00, 0x00, 0x00, 0x00, 0x00, 0x00, 0x2A, 0x00, 0x00, 0x00, 0x00, 0x7C, 0x00, 0x39, 0x00,
 ];
 
-/// The byte that a word of five characters and more may name. It has no clause, since it decides only where
-/// is looked first.
+/// Guesses the byte for a keyword of five characters or more. No contract: a wrong guess only costs time.
 #[inline(always)]
 fn long_guess(word: &[u8]) -> u8
     requires { 5 ≤ length word.now }
@@ -65,7 +64,7 @@ fn long_guess(word: &[u8]) -> u8
     GUESSES[sum % 512]
 }
 
-/// The same of a shorter word.
+/// Guesses the byte for a keyword of at most four characters.
 fn short_guess(word: &[u8]) -> u8 {
     match word {
         [b'e', b'n', ..] => 0x0B,
@@ -79,7 +78,7 @@ fn short_guess(word: &[u8]) -> u8 {
     }
 }
 
-/// The byte that a word may name.
+/// Guesses the byte for a keyword.
 #[inline(always)]
 fn guess(word: &[u8]) -> u8 {
     if word.len() < 5 {
@@ -89,7 +88,7 @@ fn guess(word: &[u8]) -> u8 {
     }
 }
 
-/// What this word names under the profile, as `op_named` says it.
+/// Returns what a keyword names under the profile, as `op_named` does.
 pub fn op_word(profile: Profile, word: &[u8]) -> OpClass
     ensures { result ≡ class_named profile word.now }
 {

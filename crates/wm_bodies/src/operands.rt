@@ -1,4 +1,4 @@
-//! What follows the word of an instruction: operands, from the first token of a text on.
+//! Readers of instruction operands. A reader takes the rest of the text, and returns a value and the text after it.
 
 ghost use Rattle.std.specs.Prelude.{◌≡◌, ◌≢◌, ◌≤◌, ◌<◌, [], Some, None, Option};
 ghost use Rattle.std.specs.Prelude.{IfErr, IfOk, IsTrue, length, true, ℕ};
@@ -28,7 +28,7 @@ use wm_tokens::faults::{TextFault, TextWhy};
 use wm_tokens::lexeme::{Lexeme, first_token, next_token, skip_space};
 use wm_tokens::scan::after_spaces;
 
-/// A refusal at the first token of a text; where there is none, another token is needed there.
+/// Returns a refusal at the first token of the text. `why` must be `Expected` or `Memory` if no token is left.
 #[tactic(auto, using(crate::proofs::Ends::nothing_left))]
 pub fn refuse(why: TextWhy, text: &[u8]) -> TextFault
     requires { lexed text.now ≡ [] → IsTrue (can_end why) }
@@ -41,7 +41,8 @@ pub fn refuse(why: TextWhy, text: &[u8]) -> TextFault
     }
 }
 
-/// An index or a depth from its number, the first token of a text.
+/// Returns the index or depth that an atom writes as a number. The atom is the first token of `text`.
+/// Fails with `Expected` for a keyword or an identifier, with `BadInteger` for another atom that is no `u32`.
 #[inline(always)]
 pub fn number(atom: &[u8], text: &[u8]) -> Result<u32, TextFault>
     requires { lexed text.now ≢ [] }
@@ -53,7 +54,8 @@ pub fn number(atom: &[u8], text: &[u8]) -> Result<u32, TextFault>
     }
 }
 
-/// An index or a depth from the place of its identifier, the first token of a text.
+/// Converts what an identifier resolved to into an index or a depth. The identifier is the first token of `text`.
+/// Fails with `UnknownId` for `None`, and for 2^32 or more.
 fn known(place: Option<usize>, text: &[u8]) -> Result<u32, TextFault>
     requires { lexed text.now ≢ [] }
     ensures { Reads (λ n. n) result (reading.small_place place) }
@@ -64,7 +66,7 @@ fn known(place: Option<usize>, text: &[u8]) -> Result<u32, TextFault>
     }
 }
 
-/// What is made of an operand, and the text after it.
+/// Applies `make` to an operand that was read. The text after it stays.
 #[inline(always)]
 pub fn with<'a, T, U, F: FnOnce(T) -> U>(make: F, read: (T, &'a [u8])) -> (U, &'a [u8])
     requires { F.pre make read.0 }
@@ -75,7 +77,9 @@ pub fn with<'a, T, U, F: FnOnce(T) -> U>(make: F, read: (T, &'a [u8])) -> (U, &'
     (make(operand), rest)
 }
 
-/// A number or an identifier of these items.
+/// Reads an index: a number, or an identifier of this index space. Core spec 6.6.1.
+/// Fails with `UnknownId` if the space lacks the identifier, with `BadInteger` for a numeral that is no `u32`,
+/// and else with `Expected`.
 pub fn index<'a>(space: &Space, text: &'a [u8]) -> Result<(u32, &'a [u8]), TextFault>
     ensures { Reads (λ x. (x.0, lexed x.1.now)) result
         (reading.atom_at (reading.index_of space.now) (lexed text.now)) }
@@ -89,7 +93,8 @@ pub fn index<'a>(space: &Space, text: &'a [u8]) -> Result<(u32, &'a [u8]), TextF
     }
 }
 
-/// A constant of 32 bits.
+/// Reads the constant of an `i32.const`, signed or unsigned. Core spec 6.3.1.
+/// Fails with `BadInteger` for a numeral that is no such integer, and else with `Expected`.
 pub fn integer_32(text: &[u8]) -> Result<(i32, &[u8]), TextFault>
     ensures { Reads (λ x. (x.0, lexed x.1.now)) result
         (reading.atom_at (reading.integer_of 32) (lexed text.now)) }
@@ -103,7 +108,7 @@ pub fn integer_32(text: &[u8]) -> Result<(i32, &[u8]), TextFault>
     }
 }
 
-/// A constant of 64 bits.
+/// Reads the constant of an `i64.const`, signed or unsigned. Core spec 6.3.1. It fails as `integer_32` does.
 pub fn integer_64(text: &[u8]) -> Result<(i64, &[u8]), TextFault>
     ensures { Reads (λ x. (x.0, lexed x.1.now)) result
         (reading.atom_at (reading.integer_of 64) (lexed text.now)) }
@@ -117,7 +122,8 @@ pub fn integer_64(text: &[u8]) -> Result<(i64, &[u8]), TextFault>
     }
 }
 
-/// A constant that is an f32.
+/// Reads the constant of an `f32.const`, and returns its bits. Core spec 6.3.2.
+/// Fails with `BadFloat` for a literal that is no f32, else with `Expected`, and with `Memory`.
 pub fn float_32(alloc: Global, text: &[u8]) -> Result<(u32, &[u8]), TextFault>
     ensures { Reads (λ x. (x.0, lexed x.1.now)) result
         (reading.atom_at (atoms.float_of float.F32) (lexed text.now)) }
@@ -131,7 +137,7 @@ pub fn float_32(alloc: Global, text: &[u8]) -> Result<(u32, &[u8]), TextFault>
     }
 }
 
-/// A constant that is an f64.
+/// Reads the constant of an `f64.const`, and returns its bits. Core spec 6.3.2. It fails as `float_32` does.
 pub fn float_64(alloc: Global, text: &[u8]) -> Result<(u64, &[u8]), TextFault>
     ensures { Reads (λ x. (x.0, lexed x.1.now)) result
         (reading.atom_at (atoms.float_of float.F64) (lexed text.now)) }
@@ -145,7 +151,7 @@ pub fn float_64(alloc: Global, text: &[u8]) -> Result<(u64, &[u8]), TextFault>
     }
 }
 
-/// What is wrong with an atom, the first token of a text, where a float is expected.
+/// Returns the refusal of an atom that is no float, where one is expected. The atom is the first token of `text`.
 fn no_float(atom: &[u8], text: &[u8]) -> TextFault
     requires { lexed text.now ≢ [] }
     ensures { IsRefusal result.why }
@@ -158,7 +164,7 @@ fn no_float(atom: &[u8], text: &[u8]) -> TextFault
     }
 }
 
-/// What is wrong with an atom, the first token of a text, where a whole number is expected.
+/// Returns the refusal of an atom that is no integer, where one is expected. The atom is the first token of `text`.
 #[inline(never)]
 fn no_integer(atom: &[u8], text: &[u8]) -> TextFault
     requires { lexed text.now ≢ [] }
@@ -171,14 +177,15 @@ fn no_integer(atom: &[u8], text: &[u8]) -> TextFault
     }
 }
 
-/// Whether a number or an identifier stands first.
+/// Whether the first token is an atom other than a keyword, as each index is.
 pub fn begins_index(text: &[u8]) -> bool
     ensures { result ≡ reading.begins_index (lexed text.now) }
 {
     matches!(next_token(text), Some((Lexeme::Atom(atom), _)) if !is_word(atom))
 }
 
-/// A number or the identifier of an open block.
+/// Reads a label: a number, or the identifier of an open block. Core spec 6.5.1 and 6.6.1.
+/// Returns a depth: 0 is the innermost block. It fails as `index` does.
 pub fn label<'a>(blocks: &OpenBlocks, text: &'a [u8]) -> Result<(u32, &'a [u8]), TextFault>
     ensures shorter { IfOk result (λ x. length x.1.now < length text.now) }
     ensures read { Reads (λ x. (x.0, lexed x.1.now)) result
@@ -193,8 +200,8 @@ pub fn label<'a>(blocks: &OpenBlocks, text: &'a [u8]) -> Result<(u32, &'a [u8]),
     }
 }
 
-/// A text from behind the white space by itself that stands first, so that what may be left out is looked for
-/// there, and it is not walked again where nothing of it is written.
+/// Returns the text after its leading white space; comments stay. Optional parts are searched from there, so that
+/// white space is passed over once if they are absent.
 #[inline(always)]
 #[tactic(auto, using(wm_tokens::proofs::Whole::spaces_lexed))]
 fn unspaced(text: &[u8]) -> &[u8]
@@ -203,8 +210,8 @@ fn unspaced(text: &[u8]) -> &[u8]
     after_spaces(text)
 }
 
-/// Whether a word stands first, as its first byte tells. Most identifiers that may stand are left out, and
-/// then the next instruction is not looked through to the end of its word.
+/// Whether the first byte begins a keyword. Most optional identifiers are absent. Then this test saves reading the
+/// next keyword to its end.
 #[inline(always)]
 #[tactic(auto, using(crate::proofs::Keys::word_begins))]
 fn begins_word(text: &[u8]) -> bool
@@ -213,7 +220,7 @@ fn begins_word(text: &[u8]) -> bool
     matches!(text, [b'a'..=b'z', ..])
 }
 
-/// An identifier, or none.
+/// Reads an optional identifier. Core spec 6.3.5.
 #[tactic(auto, using(crate::proofs::Keys::word_id))]
 pub fn id(text: &[u8]) -> (Option<&[u8]>, &[u8])
     ensures { Some (id_of result.0, lexed result.1.now) ≡ reading.id_at (lexed text.now) }
@@ -228,7 +235,8 @@ pub fn id(text: &[u8]) -> (Option<&[u8]>, &[u8])
     }
 }
 
-/// A block's identifier once more, or nothing.
+/// Reads the identifier of a block, which may be repeated after its `else` or `end`. Core spec 6.5.2.
+/// Fails with `LabelEnd` for another identifier.
 #[tactic(auto, using(crate::proofs::Keys::word_again))]
 pub fn again<'a>(id: Option<&[u8]>, text: &'a [u8]) -> Result<&'a [u8], TextFault>
     ensures { Reads (λ r. (tt, lexed r.now)) result (reading.again_at (id_of id.entry) (lexed text.now)) }
@@ -251,7 +259,7 @@ pub fn again<'a>(id: Option<&[u8]>, text: &'a [u8]) -> Result<&'a [u8], TextFaul
     }
 }
 
-/// An opening parenthesis.
+/// Reads an opening parenthesis. Fails with `Expected` for anything else.
 pub fn open(text: &[u8]) -> Result<&[u8], TextFault>
     ensures read { Reads (λ r. (tt, lexed r.now)) result (reading.open_at (lexed text.now)) }
     ensures nothing { lexed text.now ≡ [] → IfErr result (λ e. e.why ≡ Expected) }
@@ -262,14 +270,14 @@ pub fn open(text: &[u8]) -> Result<&[u8], TextFault>
     }
 }
 
-/// Whether a parenthesis is opened.
+/// Whether the first token is an opening parenthesis.
 pub fn begins_open(text: &[u8]) -> bool
     ensures { result ≡ uses.begins_open (lexed text.now) }
 {
     matches!(next_token(text), Some((Lexeme::Open, _)))
 }
 
-/// A closing parenthesis.
+/// Reads a closing parenthesis. Fails with `Expected` for anything else.
 pub fn close(text: &[u8]) -> Result<&[u8], TextFault>
     ensures { Reads (λ r. (tt, lexed r.now)) result (reading.close_at (lexed text.now)) }
 {
@@ -279,7 +287,8 @@ pub fn close(text: &[u8]) -> Result<&[u8], TextFault>
     }
 }
 
-/// A closing parenthesis where forms may stand: one that does is wrong by the word after its parenthesis.
+/// Reads a closing parenthesis where a form could come too. Fails with `Expected` for anything else.
+/// If a form begins there, the refusal is at the token after its opening parenthesis.
 pub fn close_forms(text: &[u8]) -> Result<&[u8], TextFault>
     ensures { Reads (λ r. (tt, lexed r.now)) result (reading.close_at (lexed text.now)) }
 {
@@ -290,7 +299,7 @@ pub fn close_forms(text: &[u8]) -> Result<&[u8], TextFault>
     }
 }
 
-/// This word.
+/// Reads this keyword. Fails with `Expected` for anything else.
 pub fn word<'a>(word: &[u8], text: &'a [u8]) -> Result<&'a [u8], TextFault>
     ensures { Reads (λ r. (tt, lexed r.now)) result
         (reading.atom_at (reading.word_of word.now) (lexed text.now)) }
@@ -301,7 +310,7 @@ pub fn word<'a>(word: &[u8], text: &'a [u8]) -> Result<&'a [u8], TextFault>
     }
 }
 
-/// The value type that an atom names.
+/// Returns the value type that an atom names, if any. Core spec 6.4.1.
 pub fn type_named(atom: &[u8]) -> Option<ValType>
     ensures { result ≡ reading.type_named atom.now }
 {
@@ -318,7 +327,7 @@ pub fn type_named(atom: &[u8]) -> Option<ValType>
     }
 }
 
-/// The same, if the profile has it.
+/// Returns the value type that an atom names, if any and if the profile has it.
 #[tactic(auto, using(crate::proofs::Immediates::type_laws))]
 pub fn type_of(profile: Profile, atom: &[u8]) -> Option<ValType>
     ensures { result ≡ reading.type_of profile atom.now }
@@ -327,13 +336,14 @@ pub fn type_of(profile: Profile, atom: &[u8]) -> Option<ValType>
     profile.has(ty.feature()).then_some(ty)
 }
 
-/// Whether an atom begins and goes on as the name of a floating-point type or instruction does, and the
-/// profile has none. It has no clause, since it decides only which name a refusal gets.
+/// Whether an atom looks like a floating-point type or instruction, and the profile has no floats. No contract: it
+/// decides only which name a refusal gets.
 fn is_left_out(profile: Profile, atom: &[u8]) -> bool {
     !profile.has(Feature::Floats) && is_float(atom)
 }
 
-/// What is wrong with an atom, the first token of a text, that is no value type of the profile.
+/// Returns the refusal of an atom that is no value type of the profile: `Float` or `Expected`. The atom is the first
+/// token of `text`.
 pub fn no_type(profile: Profile, atom: &[u8], text: &[u8]) -> TextFault
     requires { lexed text.now ≢ [] }
     ensures { IsRefusal result.why }
@@ -345,7 +355,8 @@ pub fn no_type(profile: Profile, atom: &[u8], text: &[u8]) -> TextFault
     }
 }
 
-/// What is wrong with an atom, the first token of a text, that names no instruction of the profile.
+/// Returns the refusal of an atom that names no instruction of the profile: `Float`, `UnknownWord` or `Expected`. The
+/// atom is the first token of `text`.
 pub fn no_instruction(profile: Profile, atom: &[u8], text: &[u8]) -> TextFault
     requires { lexed text.now ≢ [] }
     ensures { IsRefusal result.why }
@@ -359,7 +370,8 @@ pub fn no_instruction(profile: Profile, atom: &[u8], text: &[u8]) -> TextFault
     }
 }
 
-/// A value type of the profile.
+/// Reads a value type of the profile. Core spec 6.4.1.
+/// Fails with `Float` for a name of floats that the profile lacks, and else with `Expected`.
 pub fn val_type(profile: Profile, text: &[u8]) -> Result<(ValType, &[u8]), TextFault>
     ensures { Reads (λ x. (x.0, lexed x.1.now)) result
         (reading.atom_at (reading.type_of profile) (lexed text.now)) }
@@ -373,7 +385,7 @@ pub fn val_type(profile: Profile, text: &[u8]) -> Result<(ValType, &[u8]), TextF
     }
 }
 
-/// `( word valtype )`
+/// Reads `( name valtype )`, where `name` is the keyword.
 pub fn paren_type<'a>(
     profile: Profile,
     name: &[u8],
@@ -389,7 +401,7 @@ pub fn paren_type<'a>(
     Ok((ty, rest))
 }
 
-/// A block's type.
+/// Reads the optional result type of a block. Core spec 6.4.2 and 6.5.2.
 #[tactic(auto, using(crate::proofs::Keys::word_type))]
 pub fn block_type(profile: Profile, text: &[u8]) -> Result<(Option<ValType>, &[u8]), TextFault>
     ensures { Reads (λ x. (x.0, lexed x.1.now)) result (reading.block_type_at profile (lexed text.now)) }
@@ -407,7 +419,8 @@ pub fn block_type(profile: Profile, text: &[u8]) -> Result<(Option<ValType>, &[u
     }
 }
 
-/// Whether a word stands first that begins otherwise than a key, so that it is not looked through to its end.
+/// Whether the first byte begins a keyword, and differs from the key's. Then the key is absent, and the keyword need
+/// not be read to its end.
 #[inline(always)]
 #[tactic(auto, using(crate::proofs::Keys::other_key))]
 fn begins_other_word(key: &[u8], text: &[u8]) -> bool
@@ -423,7 +436,8 @@ fn begins_other_word(key: &[u8], text: &[u8]) -> bool
     }
 }
 
-/// A number behind a key, or the usual one.
+/// Reads a key such as `offset=` with its number, or returns `usual` if the key is absent. Core spec 6.5.5.
+/// Fails with `BadInteger` if no `u32` follows the key.
 pub fn key<'a>(key: &[u8], usual: u32, text: &'a [u8]) -> Result<(u32, &'a [u8]), TextFault>
     ensures { Reads (λ x. (x.0, lexed x.1.now)) result (reading.key_at key.now usual (lexed text.now)) }
 {
@@ -443,7 +457,8 @@ pub fn key<'a>(key: &[u8], usual: u32, text: &'a [u8]) -> Result<(u32, &'a [u8])
     }
 }
 
-/// The arguments of a load or a store of so many bytes.
+/// Reads the memory argument of a load or store of `width` bytes. Core spec 6.5.5.
+/// Fails with `BadInteger` as `key` does, and with `BadAlign` if the alignment is no power of two.
 #[tactic(auto, using(crate::proofs::Ends::align_stands))]
 pub fn access(width: u32, text: &[u8]) -> Result<(MemArg, &[u8]), TextFault>
     requires { reading.exponent_of width ≢ None }

@@ -1,4 +1,4 @@
-//! Pieces of a body: an instruction, or what opens, divides or closes a block.
+//! Reads the pieces of a body. A piece is an instruction, or opens, divides or closes a block.
 
 ghost use Rattle.std.specs.Prelude.{◌≡◌, ◌≢◌, ◌≤◌, [], Some, IfOk, length};
 ghost use Rattle.wm_floats.specs.exact.Atoms as atoms;
@@ -30,7 +30,7 @@ use wm_syntax::profile::Profile;
 use wm_syntax::types::ValType;
 use wm_tokens::faults::{TextFault, TextWhy};
 
-/// A piece of a body.
+/// A piece of a body: an instruction without nested lists, a `br_table`, or the start, `else` or `end` of a block.
 #[derive(Drop)]
 pub enum Piece<'a> {
     Plain(Simple),
@@ -68,7 +68,8 @@ fn store(op: StoreOp, text: &[u8]) -> Result<(Simple, &[u8]), TextFault>
     Ok((Simple::Store(op, at), rest))
 }
 
-/// Labels, as many as stand first. One after the `most` that there may be is `Expected`, whatever it is.
+/// Reads all labels up to another token, at most `most`. Core spec 6.5.2.
+/// Fails with `Expected` at a label after the first `most`, and as `label` does.
 #[tactic(auto, using(crate::proofs::Tables::few_laws))]
 pub fn labels<'a>(
     alloc: Global,
@@ -93,7 +94,7 @@ pub fn labels<'a>(
     Ok((labels, rest))
 }
 
-/// Labels, of which the last is the default.
+/// Reads the labels of a `br_table`, of which the last is the default. Core spec 6.5.2.
 #[tactic(auto, using(crate::proofs::Tables::table_laws))]
 fn table<'a>(
     alloc: Global,
@@ -143,7 +144,7 @@ fn closes<'a>(
     }
 }
 
-/// What follows the word of an instruction with one operand.
+/// Reads the operand of an instruction that has one, or none for `memory.size` and `memory.grow`.
 fn operand<'a>(
     profile: Profile,
     scope: &Scope,
@@ -177,7 +178,7 @@ fn operand<'a>(
     Ok((Piece::Plain(simple), rest))
 }
 
-/// What follows the word of an f32.const.
+/// Reads the operand of an `f32.const`.
 fn constant_f32(alloc: Global, text: &[u8]) -> Result<(Piece, &[u8]), TextFault>
     ensures fits { IfOk result (λ x. FitsPiece (piece_of x.0)) }
     ensures read { Reads (λ x. (piece_of x.0, lexed x.1.now)) result
@@ -187,7 +188,7 @@ fn constant_f32(alloc: Global, text: &[u8]) -> Result<(Piece, &[u8]), TextFault>
     Ok((Piece::Plain(Simple::F32Const(bits)), rest))
 }
 
-/// What follows the word of an f64.const.
+/// Reads the operand of an `f64.const`.
 fn constant_f64(alloc: Global, text: &[u8]) -> Result<(Piece, &[u8]), TextFault>
     ensures fits { IfOk result (λ x. FitsPiece (piece_of x.0)) }
     ensures read { Reads (λ x. (piece_of x.0, lexed x.1.now)) result
@@ -197,7 +198,7 @@ fn constant_f64(alloc: Global, text: &[u8]) -> Result<(Piece, &[u8]), TextFault>
     Ok((Piece::Plain(Simple::F64Const(bits)), rest))
 }
 
-/// What follows the word of a call_indirect.
+/// Reads the type use of a `call_indirect`.
 #[tactic(auto, using(crate::proofs::Groups::fails_read, crate::proofs::Groups::fails_carried))]
 fn indirect<'a>(
     alloc: Global,
@@ -215,7 +216,9 @@ fn indirect<'a>(
     }
 }
 
-/// The piece that begins with this word, which stands first in `here`, before `text`.
+/// Reads the piece that begins with the keyword `word`. Core spec 6.5. `here` begins at the keyword, `text` after it.
+/// Fails with `Float` for a name of floats that the profile lacks. Fails with `UnknownWord` for another keyword that is
+/// no instruction of the profile, and for an `else` or `end` without its block. Another atom is `Expected`.
 #[tactic(auto, unfolding(crate::specs::exact::Reading::piece_at))]
 pub fn read_piece<'a>(
     alloc: Global,

@@ -1,4 +1,5 @@
-//! Type uses (section 6.6.3): an index of a type, and what may be written of its parameters and results.
+//! Type uses (Core spec 6.6.3): the index of a type, and optional parameters and results. Parameters have no
+//! identifiers here.
 
 ghost use Rattle.std.specs.Prelude.{◌≡◌, ◌≢◌, ◌≤◌, [], IfErr, MatchOption, None, Some, OnOk, codes, false, length};
 ghost use Rattle.std.specs.Prelude.{slice_get, true};
@@ -19,7 +20,7 @@ use wm_syntax::types::{FuncType, ValType};
 use wm_tokens::faults::{TextFault, TextWhy};
 use wm_tokens::lexeme::{Lexeme, next_token};
 
-/// Adds value types up to what is no atom.
+/// Appends value types up to a token that is no atom.
 #[tactic(auto, using(crate::proofs::Groups::types_laws))]
 fn value_types<'a>(
     types: &mut Vec<ValType>,
@@ -44,7 +45,7 @@ fn value_types<'a>(
     }
 }
 
-/// Whether `( word` stands first.
+/// Whether the first two tokens are `( name`.
 pub fn begins_group(name: &[u8], text: &[u8]) -> bool
     ensures { result ≡ uses.begins_group name.now (lexed text.now) }
 {
@@ -57,7 +58,7 @@ pub fn begins_group(name: &[u8], text: &[u8]) -> bool
     }
 }
 
-/// Adds the value types of one group.
+/// Appends the value types of one group.
 #[tactic(auto, using(crate::proofs::Groups::group_laws))]
 fn group<'a>(
     types: &mut Vec<ValType>,
@@ -74,7 +75,7 @@ fn group<'a>(
     close(rest)
 }
 
-/// The value types of all groups `( word valtype* )` that stand first.
+/// Reads all groups `( name valtype* )` up to another token, and returns their value types. Core spec 6.4.3.
 #[tactic(auto, using(crate::proofs::Groups::groups_laws))]
 pub fn groups<'a>(
     alloc: Global,
@@ -93,7 +94,7 @@ pub fn groups<'a>(
     Ok((types, rest))
 }
 
-/// Whether value types are the same.
+/// Whether two lists of value types are equal.
 #[tactic(auto, using(crate::proofs::Groups::same_of))]
 fn same(written: &[ValType], types: &[ValType]) -> bool
     ensures { result ≡ uses.same_types written.now types.now }
@@ -109,7 +110,7 @@ pub fn nothing(written: &[ValType]) -> bool
     written.is_empty()
 }
 
-/// Whether nothing is written of a type's parameters and results, or just these.
+/// Whether written parameters and results are both empty, or equal those of the type.
 #[tactic(auto, unfolding(crate::specs::exact::TypeUses::fits))]
 pub fn fits(ty: &FuncType, params: &[ValType], results: &[ValType]) -> bool
     ensures { result ≡ uses.fits ty.now params.now results.now }
@@ -118,7 +119,7 @@ pub fn fits(ty: &FuncType, params: &[ValType], results: &[ValType]) -> bool
         || (same(params, &ty.params) && same(results, &ty.results))
 }
 
-/// No form stands first. One that does is wrong by the word after its parenthesis.
+/// Fails with `Expected` if a form comes first. The refusal is at the token after its opening parenthesis.
 pub fn no_form(text: &[u8]) -> Result<(), TextFault>
     ensures none { OnOk result (uses.begins_open (lexed text.now) ≡ false) }
     ensures form { IfErr result (λ e. (e.why ≡ Expected) × (uses.begins_open (lexed text.now) ≡ true)) }
@@ -129,8 +130,8 @@ pub fn no_form(text: &[u8]) -> Result<(), TextFault>
     }
 }
 
-/// What is wrong behind `( type idx`, which is not closed there: the index, if no type has it,
-/// or what stands there.
+/// Returns the refusal of `( type idx` without its closing parenthesis. It is at the index if no type has it, else at
+/// the token where the parenthesis is missing.
 fn unclosed(names: &Names, x: u32, at_index: &[u8], rest: &[u8]) -> TextFault
     requires { lexed at_index.now ≢ [] }
     ensures { IsRefusal result.why }
@@ -141,7 +142,8 @@ fn unclosed(names: &Names, x: u32, at_index: &[u8], rest: &[u8]) -> TextFault
     }
 }
 
-/// `( type idx )`
+/// Reads `( type idx )`, even if no type has the index. Fails with `TypeUse` at the index if no type has it and no `)`
+/// follows.
 #[tactic(auto, using(crate::proofs::Ends::atom_stands))]
 pub fn type_index<'a>(names: &Names, text: &'a [u8]) -> Result<(u32, &'a [u8]), TextFault>
     ensures { Reads (λ x. (x.0, lexed x.1.now)) result
@@ -157,7 +159,7 @@ pub fn type_index<'a>(names: &Names, text: &'a [u8]) -> Result<(u32, &'a [u8]), 
     }
 }
 
-/// The type with this index.
+/// Returns the type with this index, if any.
 pub fn type_at<'n>(names: &'n Names, x: u32) -> Option<&'n FuncType>
     ensures { MatchOption result (slice_get (names_of names.now).signatures x ≡ None)
         (λ ty. slice_get (names_of names.now).signatures x ≡ Some ty.now) }
@@ -165,7 +167,9 @@ pub fn type_at<'n>(names: &'n Names, x: u32) -> Option<&'n FuncType>
     names.signatures.get(x as usize)
 }
 
-/// The type use of a call_indirect, whose parameters have no identifiers.
+/// Reads the type use of a `call_indirect`, whose parameters have no identifiers. Core spec 6.5.2 and 6.6.3.
+/// Fails with `TypeUse` at the index if no type has it, or if parameters or results differ from the type's. Fails
+/// with `Expected` if another form follows.
 #[tactic(auto, using(crate::proofs::Groups::use_laws, crate::proofs::Ends::index_stands))]
 pub fn type_use<'a>(
     alloc: Global,
@@ -192,7 +196,7 @@ pub fn type_use<'a>(
     }
 }
 
-/// A refusal at the index of a type use, the third token of a text.
+/// Returns a refusal at the index of a type use, which is the third token of `text`.
 pub fn refuse_index(why: TextWhy, text: &[u8]) -> TextFault
     requires { 3 ≤ length (lexed text.now) }
     ensures { result.why ≡ why }

@@ -1,5 +1,5 @@
--- How the type uses of functions and imports are read, whose parameters may have identifiers: the exact
--- answers of the code's readers.
+-- Exact answers of the readers of type uses of functions and imports, whose parameters may have identifiers
+-- (Core spec 6.6.3).
 use Rattle.std.specs.Prelude.{ℕ, ◌&&◌, List, Bool, Option, Some, None, if◌then◌else◌, codes, slice_get}
 use Rattle.wm_syntax.specs.declared.types.ValType.{ValType}
 use Rattle.wm_syntax.specs.declared.profile.Profile.{Profile}
@@ -8,11 +8,12 @@ use Rattle.wm_tokens.specs.Written.{Named, Names, types_of}
 use Rattle.wm_bodies.specs.exact.Reading.{Reader, ◌>>=◌, made, atom_at, index_of, then_at, paren_at}
 use Rattle.wm_bodies.specs.exact.TypeUses.{fits, groups_at, joined, named_at, no_types, unnamed}
 
--- nothing is written
+-- No parameter and no result is written.
 abbrev pub none_written : List Named → List ValType → Bool
 none_written ps rs = no_types (types_of ps) && no_types rs
 
--- the parameters of a use, where those written are none or those of the type
+-- The parameters of a type use: the type's without identifiers if none are written, else the written ones. None if they
+-- do not fit.
 abbrev pub used_of : Signature → List Named → List ValType → Option (List Named)
 used_of f ps rs = if fits f (types_of ps) rs then Some (if none_written ps rs then unnamed f.params else ps)
     else None

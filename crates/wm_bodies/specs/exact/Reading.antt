@@ -1,4 +1,4 @@
--- How tokens are read: a value and the tokens after it. The exact answers of the code's readers.
+-- Exact answers of the readers of instructions: a value and the tokens after it, or None for a refusal.
 use Rattle.std.specs.Prelude.{ℕ, zero, suc, ◌-◌, ◌^◌, ◌==◌, ◌&&◌, not, List, [], ◌∷◌, ◌++◌, Bool, true, false}
 use Rattle.std.specs.Prelude.{Option, Some, None, if◌then◌else◌, is_none, length, codes, nat_lt, nat_le, ℤ, pos, neg_ℤ}
 use Rattle.std.specs.Prelude.{◌-ℤ◌}
@@ -43,7 +43,7 @@ same_bytes (c ∷ a) (d ∷ b) = (c == d) && same_bytes a b
 same_bytes [] (d ∷ b) = false
 same_bytes (c ∷ a) [] = false
 
--- one token
+-- ---- one token
 abbrev pub open_at : Reader (Unit {0})
 open_at (open_paren ∷ k) = Some (tt, k)
 open_at _ = None
@@ -62,7 +62,8 @@ word_of w a = if same_bytes a w then Some tt else None
 abbrev pub unsigned_of : List ℕ → Option ℕ
 unsigned_of a = magnitude_of a >>= λ n. if nat_lt n 0x1_0000_0000 then Some n else None
 
--- A constant, where half of the numbers below whole stand for themselves: no sign, plus or minus.
+-- An integer literal of N bits without a sign, with plus, or with minus. `whole` is 2^N, `half` is 2^(N-1).
+-- Without a sign, a number from `half` up to `whole` means itself minus `whole` (Core spec 6.3.1).
 abbrev pub plain_of : ℕ → ℕ → List ℕ → Option ℤ
 plain_of half whole a = magnitude_of a >>= λ n. if nat_lt n half then Some (pos n)
     else if nat_lt n whole then Some (pos n -ℤ pos whole) else None
@@ -87,7 +88,7 @@ type_named a =
     else if same_bytes a (type_text F32) then Some F32 else if same_bytes a (type_text F64) then Some F64
     else None
 
--- the same, if the profile has it
+-- The value type that an atom names, if the profile has it.
 abbrev pub type_of : Profile → List ℕ → Option ValType
 type_of p a = type_named a >>= λ t. if has p (type_feature t) then Some t else None
 
@@ -99,7 +100,7 @@ abbrev pub is_word : List ℕ → Bool
 is_word [] = false
 is_word (c ∷ a) = is_lower c
 
--- combinations
+-- ---- combinations of readers
 abbrev pub then_at : {X Y : Type 0} → Reader X → Reader Y → Reader (X × Y)
 then_at r s k = r k >>= λ x. s x.1 >>= λ y. Some ((x.0, y.0), y.1)
 
@@ -108,7 +109,7 @@ paren_at word r k =
     open_at k >>= λ o. atom_at (word_of word) o.1 >>= λ w. r w.1 >>= λ x. close_at x.1
     >>= λ c. Some (x.0, c.1)
 
--- as many as begin as they must
+-- Reads while `goes` holds, fewer than `n` times; None where it would need more.
 abbrev pub many_at : {X : Type 0} → ℕ → (List Token → Bool) → Reader X → Reader (List X)
 many_at zero goes r k = None
 many_at (suc n) goes r k =
@@ -117,30 +118,30 @@ many_at (suc n) goes r k =
 abbrev pub made : {X Y : Type 0} → (X → Y) → Option (X × List Token) → Option (Y × List Token)
 made f o = o >>= λ x. Some (f x.0, x.1)
 
--- an identifier, or none
+-- An optional identifier.
 abbrev pub id_at : Reader Id
 id_at (atom a ∷ k) = if is_id a then Some (Some a, k) else Some (None, atom a ∷ k)
 id_at k = Some (None, k)
 
--- where an identifier stands first in its space
+-- The index of the first item with an identifier.
 abbrev pub place_of : Ids → List ℕ → Option ℕ
 place_of [] name = None
 place_of (None ∷ ids) name = place_of ids name >>= λ x. Some (suc x)
 place_of (Some a ∷ ids) name = if same_bytes a name then Some 0 else (place_of ids name >>= λ x. Some (suc x))
 
--- no item of the space has this identifier
+-- No item of the space has this identifier; true for None.
 abbrev pub is_new : Ids → Id → Bool
 is_new seen None = true
 is_new seen (Some a) = is_none (place_of seen a)
 
--- places and depths of 2 ^ 32 and more are no indices
+-- Positions of 2^32 and more are no indices and no depths.
 abbrev pub small_place : Option ℕ → Option ℕ
 small_place place = place >>= λ x. if nat_lt x 0x1_0000_0000 then Some x else None
 
 abbrev pub index_of : Ids → List ℕ → Option ℕ
 index_of ids a = if is_id a then small_place (place_of ids a) else unsigned_of a
 
--- what follows a key
+-- The rest of an atom after a key such as offset=.
 abbrev pub after_key : List ℕ → List ℕ → Option (List ℕ)
 after_key [] a = Some a
 after_key (c ∷ key) [] = None
@@ -154,7 +155,7 @@ abbrev pub key_at : List ℕ → ℕ → Reader ℕ
 key_at key usual (atom a ∷ k) = key_by usual (after_key key a) a k
 key_at key usual k = Some (usual, k)
 
--- the exponent of a power of two
+-- The exponent of a power of two, if it is below the bound.
 abbrev pub exponent_below : ℕ → ℕ → Option ℕ
 exponent_below zero n = None
 exponent_below (suc e) n = if 2 ^ e == n then Some e else exponent_below e n
@@ -171,13 +172,13 @@ memarg x = record { align = x.1; offset = x.0 }
 abbrev pub access_at : ℕ → Reader MemArg
 access_at width k = made memarg (then_at (key_at (codes "offset=") 0) (align_at width) k)
 
--- a block's type
+-- The optional result type of a block (Core spec 6.4.2, 6.5.2).
 abbrev pub block_type_at : Profile → Reader (Option ValType)
 block_type_at p (open_paren ∷ k) =
     made Some (paren_at (codes "result") (atom_at (type_of p)) (open_paren ∷ k))
 block_type_at p k = Some (None, k)
 
--- a block's identifier once more, or not
+-- The identifier of a block, optionally repeated after its else or end.
 abbrev pub is_same_id : Id → List ℕ → Bool
 is_same_id None a = false
 is_same_id (Some name) a = same_bytes a name
@@ -187,7 +188,7 @@ again_at id (atom a ∷ k) = if is_id a then (if is_same_id id a then Some (tt, 
     else Some (tt, atom a ∷ k)
 again_at id k = Some (tt, k)
 
--- labels, of which the last is the default
+-- ---- the labels of a br_table, of which the last is the default
 abbrev pub begins_index : List Token → Bool
 begins_index (atom a ∷ k) = not (is_word a)
 begins_index _ = false
@@ -202,7 +203,7 @@ labels_at ids (atom a ∷ k) = if is_word a then Some ([], atom a ∷ k)
     else (index_of ids a >>= λ x. labels_at ids k >>= λ xs. Some (x ∷ xs.0, xs.1))
 labels_at ids k = Some ([], k)
 
--- no more labels than so many
+-- At most `most` labels.
 abbrev pub few_labels_at : Ids → ℕ → Reader (List ℕ)
 few_labels_at ids most k = labels_at ids k >>= λ x. if nat_lt most (length x.0) then None else Some x
 
@@ -212,7 +213,7 @@ table_of ls = split_last ls >>= λ r. if nat_lt (length r.0) 0x1_0000_0000 then 
 abbrev pub table_at : Ids → Reader Piece
 table_at ids k = labels_at ids k >>= λ x. table_of x.0 >>= λ p. Some (p, x.1)
 
--- else and end
+-- An else needs an open `if` without one; an end needs an open block.
 abbrev pub middle_at : Opened → Reader Piece
 middle_at [] k = None
 middle_at (b ∷ bs) k = if b.may_else then made (λ x. middle) (again_at b.id k) else None
@@ -227,7 +228,7 @@ simple_at f r k = made (λ x. plain (f x)) (r k)
 abbrev pub opens_at : Profile → Opening → Reader Piece
 opens_at p o k = made (λ x. opens o x.0 x.1) (then_at id_at (block_type_at p) k)
 
--- how a type use is read, by the layer of types
+-- The reader of a call_indirect's type use is a parameter: `TypeUses.antt` has it.
 module _ (use_at : Reader ℕ) where
   abbrev pub kind_at : Profile → Scope → Opened → Immediates → Reader Piece
   kind_at p sc bs k.Block = opens_at p Block
@@ -261,11 +262,11 @@ module _ (use_at : Reader ℕ) where
   class_at p sc bs class.Float = λ k. None
   class_at p sc bs class.None = λ k. None
 
-  -- a piece whose first word was read
+  -- A piece after its keyword `w`.
   unfoldable pub piece_at : Profile → Scope → Opened → List ℕ → Reader Piece
   piece_at p sc bs w = class_at p sc bs (class_named p w)
 
-  -- pieces up to the parenthesis that closes a function
+  -- The ops of pieces up to the parenthesis that closes the function, by recursion on a bound.
   abbrev pub ops_within : Profile → Scope → ℕ → Opened → Reader (List Op)
   ops_within p sc zero bs k = None
   ops_within p sc (suc n) bs (atom w ∷ k) =

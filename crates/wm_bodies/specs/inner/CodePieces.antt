@@ -1,4 +1,4 @@
--- Pieces of the code, without where they lie in memory.
+-- Pieces of the code as plain values, without their addresses.
 use Rattle.std.specs.Prelude.{◌<◌, ◌^◌, length}
 use Rattle.wm_bodies.specs.declared.pieces.Piece.{Piece as Code}
 use Rattle.wm_bodies.specs.declared.pieces.Piece.TheVariants as p
@@ -14,7 +14,7 @@ piece_of (p.Opens o id t) = opens o (id_of id) t
 piece_of p.Middle = middle
 piece_of p.Closes = closes
 
--- what follows the word of an instruction with these immediates is one operand, which can be read
+-- `operand` reads what follows the keyword of an instruction with these immediates.
 abbrev pub HasOperand : Immediates → Type 0
 HasOperand k.Block = ⊥
 HasOperand k.Loop = ⊥
@@ -25,7 +25,7 @@ HasOperand k.F32Const = ⊥
 HasOperand k.F64Const = ⊥
 HasOperand _ = Unit {0}
 
--- a table has fewer than 2 ^ 32 labels before its default
+-- A br_table has fewer than 2^32 labels before its default.
 abbrev pub FitsPiece : Piece → Type 0
 FitsPiece (jump ls l) = length ls < 2 ^ 32
 FitsPiece _ = Unit {0}

@@ -1,4 +1,4 @@
--- Parameters and locals of the code, without where they lie in memory.
+-- Parameters and locals of the code as plain values, without their addresses.
 use Rattle.std.specs.Prelude.{List, [], ◌∷◌, None, Some, flat_map, replicate}
 use Rattle.wm_bodies.specs.declared.named.NamedRun.{NamedRun}
 use Rattle.wm_bodies.specs.declared.named.NamedRun.TheVariants.{One, Unnamed}
@@ -7,7 +7,7 @@ use Rattle.wm_bodies.specs.declared.named_uses.Params.TheVariants.{OfType, Writt
 use Rattle.wm_tokens.specs.Written.{Named}
 use Rattle.wm_bodies.specs.exact.TypeUses.{unnamed}
 
--- the items of a run
+-- The items of a run.
 abbrev pub named_of : NamedRun → List Named
 named_of (One id t) = (Some id.now, t) ∷ []
 named_of (Unnamed n t) = replicate n (None, t)

@@ -1,5 +1,4 @@
--- The flat text of a body, for the proofs: its pieces in the order of the tokens, with
--- the blocks that are open.
+-- The flat form of a body's text, for the proofs: its pieces in the order of the tokens, with the open blocks.
 use Rattle.std.specs.Prelude.{◌≡◌, ℕ, List, [], ◌∷◌, ◌++◌, Bool, true, false, Option, codes, length, map}
 use Rattle.wm_syntax.specs.Spelling.{Form, ◌▸◌}
 use Rattle.wm_syntax.specs.declared.types.ValType.{ValType}
@@ -14,7 +13,7 @@ use Rattle.wm_bodies.specs.declared.blocks.Opening.TheVariants.{Block, Loop, If}
 use Rattle.wm_tokens.specs.Identifiers.{Id, Ids}
 use Rattle.wm_tokens.specs.Written.{Scope, WritesSimple, WritesTable, Opens, Closes}
 
--- an open block: its identifier, and whether an else may still come
+-- An open block: its identifier, and whether an else may still follow.
 pub record Open : Type 0 where
   pub id : Id
   pub may_else : Bool
@@ -47,7 +46,7 @@ opening_op Block t = op.Block t
 opening_op Loop t = op.Loop t
 opening_op If t = op.If t
 
--- the blocks after a piece
+-- The open blocks after a piece, innermost first.
 abbrev pub after : Opened → Piece → Opened
 after bs (plain i) = bs
 after bs (jump ls l) = bs
@@ -68,7 +67,7 @@ abbrev pub pieces_ops : List Piece → List Op
 pieces_ops [] = []
 pieces_ops (p ∷ ps) = piece_ops p ++ pieces_ops ps
 
--- a piece of the profile
+-- The piece's instruction and value types are of the profile.
 abbrev pub IsPieceOf : Profile → Piece → Type 0
 IsPieceOf p (plain i) = HasSimple p i
 IsPieceOf p (opens o id t) = HasBlockType p t
@@ -83,11 +82,11 @@ WritesPiece s (b ∷ bs) middle = λ k. (b.may_else ≡ true) × Closes (codes "
 WritesPiece s [] closes = λ k. ⊥
 WritesPiece s (b ∷ bs) closes = Closes (codes "end") b.id
 
--- pieces up to the end of all open blocks, of the profile
+-- The tokens write these pieces of the profile, and no block is open after them.
 abbrev pub WritesPieces : Profile → Scope → Opened → List Piece → Form Token
 WritesPieces p s bs [] = λ k. (bs ≡ []) × (k ≡ [])
 WritesPieces p s bs (q ∷ ps) = λ k. IsPieceOf p q × (WritesPiece s bs q ▸ WritesPieces p s (after bs q) ps) k
 
--- the ops of a body
+-- The tokens write pieces with these ops.
 abbrev pub WritesOps : Profile → Scope → Opened → List Op → Form Token
 WritesOps p s bs ops k = (ps : List Piece) × (ops ≡ pieces_ops ps) × WritesPieces p s bs ps k
