@@ -1,5 +1,4 @@
--- Older spellings of words, from before the standard, the words that they are read as, and what a text
--- writes.
+-- Older keywords, from before the standard; the keywords that they are read as; and which module a text writes.
 use Rattle.std.specs.Prelude.{ℕ, List, [], ◌∷◌, codes, map}
 use Rattle.std.specs.Map.{lookup}
 use Rattle.std.specs.Option.{unwrap_or}
@@ -11,7 +10,7 @@ use Rattle.wm_tokens.specs.Tokens.{Token, Tokens, atom}
 use Rattle.wm_read.specs.declared.spellings.Spellings.{Spellings}
 use Rattle.wm_read.specs.declared.spellings.Spellings.TheVariants.{Standard, Older}
 
--- each older word, and the standard word that it is read as
+-- Each older keyword, paired with the keyword of the standard that it is read as.
 abbrev pub older_words : List (List ℕ × List ℕ)
 older_words =
     (codes "get_local", codes "local.get")
@@ -27,13 +26,13 @@ older_words =
     ∷ (codes "anyfunc", codes "funcref")
     ∷ []
 
--- the token that one is read as: another only where it is an older word, and these are read
+-- The token that a token is read as. An older keyword becomes that of the standard under Older; all other tokens stay.
 abbrev pub replaced : Spellings → Token → Token
 replaced Older (atom a) = atom (unwrap_or (lookup (bytes_eq a) older_words) a)
 replaced Older t = t
 replaced Standard t = t
 
--- the text is UTF-8, and its tokens, with each older word replaced where those are read, write this module
--- (sections 6.2.2 and 6.6.13)
+-- The text is UTF-8 and has tokens, and these write this module of the profile. Under Older, older keywords are first
+-- replaced (Core spec 6.2.2 and 6.6.13).
 abbrev pub IsTextOf : Profile → Spellings → Module → List ℕ → Type 0
 IsTextOf p s m text = (k : List Token) × Tokens text k × Writes p (map (replaced s) k) m

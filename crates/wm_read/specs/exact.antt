@@ -1,5 +1,4 @@
--- Exact answers of functions, refusals included. They follow the code for the layers above,
--- and need not be believed.
+-- Exact answers: each reader as a function of the tokens, refusals included. Proofs use them; a reader can skip them.
 pub mod FieldTypes
 pub mod Fields
 pub mod FirstReading

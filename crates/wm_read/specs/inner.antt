@@ -1,5 +1,5 @@
--- What values hold inside. Contracts name these words and say what follows from them: their
--- bodies need not be believed.
+-- Inner states of values, for invariants and proofs. Contracts name these definitions and say what follows from them,
+-- so a reader can skip their bodies.
 pub mod Fields
 pub mod Heads
 pub mod Renewed

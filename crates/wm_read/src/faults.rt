@@ -1,3 +1,3 @@
-//! Why and where a text is refused: what who calls `read_text` needs of `wm_tokens`.
+//! The refusals of a text, re-exported from `wm_tokens` for callers of `read_text`.
 
 pub use wm_tokens::faults::{TextRefusal, TextWhy};

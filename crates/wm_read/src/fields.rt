@@ -1,4 +1,4 @@
-//! Fields (section 6.6), given what the module defines.
+//! The second pass: reads fields (Core spec 6.6), given what all fields of the module define.
 
 ghost use Rattle.std.specs.Prelude.{◌≡◌};
 ghost use Rattle.wm_read.specs.exact.Fields as fields;
@@ -48,7 +48,7 @@ pub enum Field<'a> {
     Segment(Segment),
 }
 
-/// Two names and an item.
+/// Reads the two names and the descriptor of an import. Core spec 6.6.4.
 fn import<'a>(
     alloc: Global,
     profile: Profile,
@@ -69,7 +69,7 @@ fn import<'a>(
     Ok((Field::Import(id, import), rest))
 }
 
-/// A global's identifier, type and initialiser.
+/// Reads a global's identifier, type and initialiser. Core spec 6.6.8.
 fn global<'a>(
     alloc: Global,
     profile: Profile,
@@ -85,7 +85,7 @@ fn global<'a>(
     Ok((Field::Global(id, GlobalDef { ty, init }), rest))
 }
 
-/// A name and an item.
+/// Reads the name and the descriptor of an export. Core spec 6.6.9.
 fn export<'a>(
     alloc: Global,
     names: &Names,
@@ -99,7 +99,7 @@ fn export<'a>(
     Ok((Field::Export(Export { name, kind, index }), rest))
 }
 
-/// The functions of an element segment.
+/// Reads indices up to another token. Core spec 6.6.11.
 #[tactic(auto, using(wm_bodies::proofs::Tables::labels_laws, crate::proofs::FieldCode::atom_shrinks))]
 fn indices<'a>(
     alloc: Global,
@@ -118,7 +118,7 @@ fn indices<'a>(
     Ok((indices, rest))
 }
 
-/// A table's index, an offset and functions.
+/// Reads an element segment: a table's index, an offset and functions. Core spec 6.6.11.
 fn element<'a>(
     alloc: Global,
     profile: Profile,
@@ -139,7 +139,7 @@ fn element<'a>(
     Ok((Field::Element(element), rest))
 }
 
-/// A memory's index, an offset and strings.
+/// Reads a data segment: a memory's index, an offset and strings. Core spec 6.6.12.
 fn segment<'a>(
     alloc: Global,
     profile: Profile,
@@ -160,7 +160,7 @@ fn segment<'a>(
     Ok((Field::Segment(segment), rest))
 }
 
-/// What stands between a field's word and its closing parenthesis.
+/// Reads the contents of a field: all between its keyword and its closing parenthesis.
 #[tactic(auto, using(crate::proofs::Tails::tail_id))]
 fn inside<'a>(
     alloc: Global,
@@ -206,7 +206,7 @@ fn inside<'a>(
     }
 }
 
-/// The parenthesis after a field of this kind.
+/// Reads the closing parenthesis of a field of this kind.
 fn field_end(profile: Profile, kind: FieldKind, text: &[u8]) -> Result<&[u8], TextFault>
     ensures { Reads (λ r. (tt, lexed r.now)) result (reading.close_at (lexed text.now)) }
 {
@@ -216,7 +216,7 @@ fn field_end(profile: Profile, kind: FieldKind, text: &[u8]) -> Result<&[u8], Te
     }
 }
 
-/// A field.
+/// Reads a field. Core spec 6.6.13.
 #[tactic(auto, using(crate::proofs::Tails::tail_laws), unfolding(crate::specs::exact::Fields::field_at))]
 pub fn read_field<'a>(
     alloc: Global,

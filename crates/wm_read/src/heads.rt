@@ -1,5 +1,5 @@
-//! A first reading of a module (section 6.6): what its fields define. Of each field it reads the head, and
-//! skips the rest.
+//! The first pass over a module (Core spec 6.6): it collects what the fields define. It reads the head of each field,
+//! and skips the rest by counting parentheses.
 
 ghost use Rattle.std.specs.Prelude.{◌≡◌, ◌≢◌, ◌≤◌, [], OnOk};
 ghost use Rattle.wm_read.specs.exact.FirstReading as first;
@@ -23,17 +23,17 @@ use wm_tokens::lexeme::{Lexeme, next_token};
 use wm_tokens::scan::{after_spaces, plain_atom};
 use wm_tokens::stretches::after_stretches;
 
-/// What the heads so far have said.
+/// The definitions in the heads up to here.
 #[derive(Drop)]
 struct Noted<'a> {
     names: Names<'a>,
     /// Whether a function, table, memory or global was defined.
     defined: bool,
-    /// Whether a field was a start.
+    /// Whether a start field was read.
     started: bool,
 }
 
-/// One item more of a kind.
+/// Appends an item to the index space of its kind.
 fn push_item<'a>(
     names: &mut Names<'a>,
     kind: ExportKind,
@@ -49,7 +49,7 @@ fn push_item<'a>(
     }
 }
 
-/// An identifier that no item of the space has, or none.
+/// Reads an optional identifier. Fails with `RepeatedId` if an item of the space has it already.
 #[tactic(auto, using(crate::proofs::Frames::id_stands))]
 fn free_id<'a>(space: &Space, text: &'a [u8]) -> Result<(Option<&'a [u8]>, &'a [u8]), TextFault>
     ensures { Reads (λ x. (id_of x.0, lexed x.1.now)) result (first.free_id_at space.now (lexed text.now)) }
@@ -62,7 +62,7 @@ fn free_id<'a>(space: &Space, text: &'a [u8]) -> Result<(Option<&'a [u8]>, &'a [
     }
 }
 
-/// Past the parenthesis that closes so many.
+/// Skips tokens until `depth` open parentheses are closed. Fails with `Expected` at the end of the text.
 #[tactic(auto, using(crate::proofs::HeadSteps::skip_laws, crate::proofs::Skips::skip_laws))]
 fn skip(depth: usize, text: &[u8]) -> Result<&[u8], TextFault>
     requires { depth ≤ 2 }
@@ -91,7 +91,7 @@ fn skip(depth: usize, text: &[u8]) -> Result<&[u8], TextFault>
     Ok(rest)
 }
 
-/// The rest of a type field, all of which is read.
+/// Reads the rest of a type field to its end, since type uses need its type.
 fn type_head<'a>(
     alloc: Global,
     profile: Profile,
@@ -109,7 +109,7 @@ fn type_head<'a>(
     Ok(rest)
 }
 
-/// What an import brings in, up to its identifier.
+/// Reads an import descriptor up to its identifier.
 fn desc_head<'a>(noted: &mut Noted<'a>, text: &'a [u8]) -> Result<&'a [u8], TextFault>
     ensures { Reads (λ r. (noted_of noted.new, lexed r.now)) result
         (first.desc_head_at (noted_of noted.old) (lexed text.now)) }
@@ -121,7 +121,7 @@ fn desc_head<'a>(noted: &mut Noted<'a>, text: &'a [u8]) -> Result<&'a [u8], Text
     Ok(rest)
 }
 
-/// The rest of an import.
+/// Reads the names and the descriptor's head of an import, and skips the rest.
 fn import_head<'a>(
     alloc: Global,
     noted: &mut Noted<'a>,
@@ -136,7 +136,7 @@ fn import_head<'a>(
     skip(2, rest)
 }
 
-/// The rest of a function, a table, a memory or a global.
+/// Reads the identifier of a function, table, memory or global, and skips the rest.
 fn item_head<'a>(
     noted: &mut Noted<'a>,
     kind: ExportKind,
@@ -152,7 +152,7 @@ fn item_head<'a>(
     Ok(rest)
 }
 
-/// The rest of a field of this kind, whose word is the first token of `word`.
+/// Reads the head of a field after its keyword, and skips the rest. `word` begins at the keyword.
 #[tactic(auto, unfolding(crate::specs::exact::FirstReading::head_by))]
 fn head_of<'a>(
     alloc: Global,
@@ -191,7 +191,7 @@ fn head_of<'a>(
     }
 }
 
-/// One field.
+/// Reads the head of a field, and skips the rest.
 #[tactic(auto, using(wm_bodies::proofs::Ends::atom_stands), unfolding(crate::specs::exact::FirstReading::head_at))]
 fn head<'a>(
     alloc: Global,
@@ -207,9 +207,9 @@ fn head<'a>(
     head_of(alloc, profile, noted, kind, word, rest)
 }
 
-/// What the fields define that stand first, and the text after them. An identifier is refused where
-/// it is defined a second time, an import at its word after a definition other than a type, and a
-/// second start at its word.
+/// Reads the heads of all fields up to another token. Returns what they define, and the text after them.
+/// Fails with `RepeatedId` at an identifier that is defined a second time. Fails at the keyword of a field with
+/// `ImportPlace`, for an import after a function, table, memory or global, and with `SecondStart`.
 #[tactic(auto, using(crate::proofs::HeadSteps::heads_laws))]
 pub fn read_heads<'a>(
     alloc: Global,

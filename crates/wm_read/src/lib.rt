@@ -1,4 +1,5 @@
-//! The text format (chapter 6), read.
+//! Reads a module in the text format (Core spec chapter 6) in two passes: the heads of all fields, then all fields.
+//! `text::read_text` reads a whole text.
 #![tactic(auto)]
 
 pub mod faults;

@@ -1,4 +1,4 @@
-//! Older words of a text, overwritten by their standard words.
+//! Overwrites the older keywords of a text by those of the standard.
 
 ghost use Rattle.std.specs.Map.{lookup};
 ghost use Rattle.std.specs.Prelude.{◌≡◌, ◌-◌, ◌<◌, ◌≤◌, ◌++◌, ℕ, List, IfOk, IfErr, IfSome, MatchOption};
@@ -11,14 +11,14 @@ ghost use Rattle.wm_read.specs.inner.Renewed.{Renewed, filled_words, part_for};
 use std::alloc::{AllocError, Global};
 use wm_tokens::lexeme::{Found, Lexeme, ahead};
 
-/// Whether an atom is this word.
+/// Whether an atom is this keyword.
 fn is(atom: &[u8], word: &[u8]) -> bool
     ensures { result ≡ bytes_eq atom.now word.now }
 {
     atom == word
 }
 
-/// The standard word of an older one, and spaces up to the older one's length.
+/// Returns the standard keyword for an older one, padded with spaces to the same length. `None` for any other atom.
 fn standard_word(atom: &[u8]) -> Option<&'static [u8]>
     ensures { option_copied result ≡ lookup (bytes_eq atom.now) filled_words }
 {
@@ -49,7 +49,7 @@ fn standard_word(atom: &[u8]) -> Option<&'static [u8]>
     }
 }
 
-/// What is written for a token, of which this is the text.
+/// Returns the bytes to write for a token, given its own bytes.
 fn part_of<'a>(token: Lexeme<'a>, text: &'a [u8]) -> &'a [u8]
     ensures { result.now ≡ part_for (token_of token.entry) text.now }
 {
@@ -62,7 +62,7 @@ fn part_of<'a>(token: Lexeme<'a>, text: &'a [u8]) -> &'a [u8]
     }
 }
 
-/// The front of a text that the rest of it follows.
+/// Returns the bytes of a text before its suffix `rest`.
 fn before<'a>(text: &'a [u8], rest: &[u8]) -> &'a [u8]
     requires { length rest.now < length text.now }
     ensures { result.now ≡ take (length text.now - length rest.now) text.now }
@@ -71,7 +71,7 @@ fn before<'a>(text: &'a [u8], rest: &[u8]) -> &'a [u8]
     part
 }
 
-/// What is written for what stands first, and the text after it; none at the end of tokens.
+/// Returns the bytes to write for the first token or white space, and the text after it. `None` if there is none.
 #[tactic(auto, using(crate::proofs::OlderWords::part_laws))]
 fn next_part(text: &[u8]) -> Option<(&[u8], &[u8])>
     ensures part { MatchOption result (Renewed text.now text.now)
@@ -85,8 +85,8 @@ fn next_part(text: &[u8]) -> Option<(&[u8], &[u8])>
     }
 }
 
-/// A copy of a text in which each older word is overwritten by its standard word, so that all
-/// else keeps its place.
+/// Returns a copy of a text in which each older keyword is overwritten by that of the standard. Each token keeps its
+/// offset. Fails only if memory is refused.
 pub fn renewed(alloc: Global, text: &[u8]) -> Result<Vec<u8>, AllocError>
     ensures { IfOk result (λ v. Renewed text.now v.items) }
 {

@@ -1,10 +1,10 @@
-//! Which spellings of words a text may have.
+//! Which keywords a text may use.
 
-/// The words that a text may have.
+/// Which keywords a text may use.
 #[derive(Clone, Copy, PartialEq, Eq, Debug)]
 pub enum Spellings {
-    /// Those of the standard.
+    /// The keywords of the standard.
     Standard,
-    /// Eleven of older texts as well, such as `get_local` for `local.get`.
+    /// The keywords of the standard, and eleven of older texts, such as `get_local` for `local.get`.
     Older,
 }

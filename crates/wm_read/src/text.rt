@@ -1,4 +1,4 @@
-//! Whole texts (section 6.6.13).
+//! Reads whole texts (Core spec 6.6.13).
 
 ghost use Rattle.std.specs.Prelude.{◌≡◌, ◌≢◌, ◌<◌, ◌≤◌, ◌↔◌, [], ◌∷◌, ◌++◌, IfErr, IfOk, IsTrue, IsUtf8, List};
 ghost use Rattle.std.specs.Prelude.{length, map, true, Some};
@@ -33,7 +33,7 @@ use wm_syntax::profile::{Feature, Profile};
 use wm_tokens::faults::{TextFault, TextRefusal, TextWhy};
 use wm_tokens::lexeme::{check_tokens, first_float, next_token};
 
-/// `( module id?`; the identifier means nothing.
+/// Reads `( module id?`. The identifier is ignored.
 #[tactic(auto, using(wm_bodies::proofs::Ends::open_stands))]
 fn frame(text: &[u8]) -> Result<&[u8], TextFault>
     ensures read { Reads (λ r. lexed r.now) result (modules.frame_at (lexed text.now)) }
@@ -45,7 +45,7 @@ fn frame(text: &[u8]) -> Result<&[u8], TextFault>
     Ok(rest)
 }
 
-/// No token is left.
+/// Fails with `Expected` if a token is left.
 fn end(text: &[u8]) -> Result<(), TextFault>
     ensures read { Reads (λ _. tt) result (modules.end_at (lexed text.now)) }
     ensures name { IfErr result (λ e. e.why ≡ Expected) }
@@ -56,7 +56,7 @@ fn end(text: &[u8]) -> Result<(), TextFault>
     }
 }
 
-/// What the fields of a module define, behind which the text ends.
+/// Returns what the fields of a module define. After them, only its closing parenthesis may be left.
 fn all_names<'a>(alloc: Global, profile: Profile, text: &'a [u8]) -> Result<Names<'a>, TextFault>
     ensures read { Reads (λ n. names_of n) result (modules.all_names_at profile (lexed text.now)) }
     ensures followed { IfErr result (λ e. e.why ≢ Memory → (names : words.Names) (k : List Token)
@@ -68,7 +68,7 @@ fn all_names<'a>(alloc: Global, profile: Profile, text: &'a [u8]) -> Result<Name
     Ok(names)
 }
 
-/// The module of the fields that stand first, which a closing parenthesis follows.
+/// Reads fields and a closing parenthesis, and returns the module of these fields.
 fn module_within<'a>(
     alloc: Global,
     profile: Profile,
@@ -83,8 +83,7 @@ fn module_within<'a>(
     Ok(module)
 }
 
-/// The module that the tokens of a whole text write: first what its fields define is
-/// read, and then the fields.
+/// Reads the module of a whole text in two passes: first what its fields define, then the fields.
 #[tactic(auto, using(crate::proofs::Frames::frame_stands), unfolding(crate::specs::exact::TextModules::module_at))]
 fn read_module(alloc: Global, profile: Profile, text: &[u8]) -> Result<Module, TextFault>
     ensures read { Reads value_of result (modules.module_at profile (lexed text.now)) }
@@ -97,7 +96,7 @@ fn read_module(alloc: Global, profile: Profile, text: &[u8]) -> Result<Module, T
     module_within(alloc, profile, &names, inner)
 }
 
-/// The same in these spellings. Where older words may stand, a copy is read in which they are overwritten.
+/// `read_module` in these spellings. Under `Older` it reads a copy in which older keywords are overwritten.
 #[tactic(auto, using(crate::proofs::TextLaws::spelled_laws))]
 fn read_spelled(
     alloc: Global,
@@ -120,13 +119,17 @@ fn read_spelled(
     }
 }
 
-/// The module that a text writes (chapter 6), of the profile, in these spellings. Under `Older` that is the
-/// module of its tokens with each older word replaced. Places are those of the text as it is.
+/// Reads the module that a text writes, which must be of the profile. Core spec chapter 6. Under `Older`, each older
+/// keyword counts as that of the standard. Offsets are bytes of the text as it was given.
 ///
-/// A text that is no UTF-8 is refused first, then the first fault of its tokens, then the first of what its
-/// fields define, and then the first of its fields. A refusal at the text's end is `Expected`, but for a
-/// comment or a string that does not end, and for memory. A text of a module and more tokens is refused as
-/// `Expected`, unless it has a float that the profile lacks, or memory is refused.
+/// Unless memory is refused, it returns the first error of the earliest kind.
+/// 1. Bytes that are no UTF-8.
+/// 2. Lexical errors; one is a float literal under a profile without floats.
+/// 3. Errors in what the fields define.
+/// 4. Other errors in fields.
+///
+/// At the end of the text, an error is `Expected`, `OpenComment`, `OpenString` or `Memory`. If tokens follow a module,
+/// the error is `Expected`, unless it is `Memory`, or `BadToken` for a float literal that the profile lacks.
 pub fn read_text(
     alloc: Global,
     profile: Profile,
@@ -156,7 +159,7 @@ pub fn read_text(
     }
 }
 
-/// The same of a text that has tokens, where a float is a token under each profile.
+/// `read_text` for a text that has tokens, if float literals count as tokens under each profile.
 #[tactic(auto, using(crate::proofs::TextLaws::text_laws))]
 fn read_tokens(
     alloc: Global,
@@ -184,8 +187,9 @@ fn read_tokens(
     }
 }
 
-/// What is told of a text that is UTF-8 and refused. Where the profile has no floats, a literal such as `1.5`
-/// is no token, so the first one is told before all else.
+/// Returns the refusal of a UTF-8 text, given the one that it has if float literals are tokens. Under a profile without
+/// floats, a literal such as `1.5` is no token. The first one before any lexical error is then refused as `BadToken`,
+/// unless memory was refused.
 fn told_first(profile: Profile, text: &[u8], refusal: TextRefusal) -> TextRefusal
     requires at { refusal.at ≤ length text.now }
     requires end { refusal.at ≡ length text.now → IsOfEnd refusal.why }

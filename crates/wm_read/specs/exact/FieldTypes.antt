@@ -1,4 +1,4 @@
--- How the types of tables, memories and globals are read: the exact answers of the code's readers.
+-- Exact answers of the readers of the types of tables, memories and globals (Core spec 6.4.4 to 6.4.7).
 use Rattle.std.specs.Prelude.{ℕ, ◌||◌, ◌∷◌, true, false, Option, Some, None, if◌then◌else◌, codes}
 use Rattle.wm_syntax.specs.declared.types.GlobalType.{GlobalType}
 use Rattle.wm_syntax.specs.declared.types.Limits.{Limits}
@@ -8,7 +8,7 @@ use Rattle.wm_tokens.specs.Tokens.{open_paren, atom}
 use Rattle.wm_bodies.specs.exact.Reading.{Reader, ◌>>=◌, made, atom_at, is_id, is_word, paren_at, then_at}
 use Rattle.wm_bodies.specs.exact.Reading.{type_of, unsigned_of, word_of}
 
--- a number, or none
+-- An optional number.
 abbrev pub max_at : Reader (Option ℕ)
 max_at (atom a ∷ k) = if is_word a || is_id a then Some (None, atom a ∷ k)
     else (unsigned_of a >>= λ n. Some (Some n, k))

@@ -1,4 +1,4 @@
--- How the fields of a module are read, given what its heads define: the exact answers of the code's readers.
+-- Exact answers of the readers of fields (Core spec 6.6), given what the heads of all fields define.
 use Rattle.std.specs.Prelude.{ℕ, suc, ◌&&◌, List, [], ◌∷◌, ◌++◌, Bool, true, Option, Some, None}
 use Rattle.std.specs.Prelude.{if◌then◌else◌, codes, flat_map, length, nat_lt}
 use Rattle.std.specs.Str.{is_utf8}
@@ -31,7 +31,7 @@ use Rattle.wm_read.specs.exact.Signatures.{signature_at}
 use Rattle.wm_bodies.specs.exact.NamedUses.{named_use_at}
 use Rattle.wm_bodies.specs.exact.TypeUses.{begins_open, instructions_at, named_at}
 
--- ---- words that begin a field or an item
+-- ---- keywords of fields and descriptors
 
 abbrev pub field_word : FieldKind → List ℕ
 field_word field.Type = codes "type"
@@ -51,7 +51,7 @@ item_word kind.Table = codes "table"
 item_word kind.Memory = codes "memory"
 item_word kind.Global = codes "global"
 
--- the first of these that has this word
+-- The first of these kinds that has this keyword.
 abbrev pub with_word : {K : Type 0} → (K → List ℕ) → List K → List ℕ → Option K
 with_word word [] a = None
 with_word word (x ∷ xs) a = if same_bytes a (word x) then Some x else with_word word xs a
@@ -64,7 +64,7 @@ field_named a =
 abbrev pub item_named : List ℕ → Option ExportKind
 item_named a = with_word item_word (kind.Func ∷ kind.Table ∷ kind.Memory ∷ kind.Global ∷ []) a
 
--- ( word .. ), where the word says how the rest is read
+-- ( keyword .. ), where the keyword decides how the rest is read.
 abbrev pub headed_at : {K X : Type 0} → (List ℕ → Option K) → (K → Reader X) → Reader X
 headed_at named r k =
     open_at k >>= λ o. atom_at named o.1 >>= λ w. r w.0 w.1 >>= λ x. close_at x.1 >>= λ c. Some (x.0, c.1)
@@ -79,7 +79,7 @@ abbrev pub strings_at : Reader (List (List ℕ))
 strings_at (string b ∷ k) = strings_at k >>= λ x. Some (b ∷ x.0, x.1)
 strings_at k = Some ([], k)
 
--- the bytes of all strings that stand first, joined
+-- The bytes of all strings up to another token, joined.
 abbrev pub bytes_at : Reader (List ℕ)
 bytes_at k = made (λ parts. flat_map (λ part. part) parts) (strings_at k)
 
@@ -104,7 +104,7 @@ const_at p names _ = None
 abbrev pub offset_at : Profile → Names → Reader Const
 offset_at p names = paren_at (codes "offset") (const_at p names)
 
--- ---- what is imported, and what is exported
+-- ---- descriptors of imports and exports
 
 abbrev pub desc_kind : Profile → Names → ExportKind → Reader ImportDesc
 desc_kind p names kind.Func t = made (λ u. desc.Func u.0) (named_use_at p names t)
@@ -127,7 +127,7 @@ item_at names =
 
 -- ---- functions
 
--- each identifier comes for the first time
+-- No identifier repeats, and none is among those seen.
 abbrev pub all_new : Ids → Ids → Bool
 all_new seen [] = true
 all_new seen (id ∷ ids) = is_new seen id && all_new (seen ++ id ∷ []) ids
@@ -137,7 +137,7 @@ function_of x params locals p names t =
     instructions_at p (record { names = names; locals = ids_of (params ++ locals) }) t
     >>= λ b. Some (record { type_index = x; locals = types_of locals; body = b.0 }, b.1)
 
--- fewer than 2 ^ 32 locals, and identifiers that are distinct
+-- There are fewer than 2^32 locals, and identifiers of parameters and locals are distinct.
 abbrev pub is_function : List Named → List Named → Bool
 is_function params locals =
     nat_lt (length (types_of locals)) 0x1_0000_0000 && all_new [] (ids_of (params ++ locals))
@@ -186,7 +186,7 @@ segment_at p names t =
     made (λ x. segment_field (record { memory = x.0; offset = x.1.0; bytes = x.1.1 }))
     (then_at (atom_at (index_of names.memories)) (then_at (offset_at p names) bytes_at) t)
 
--- what stands between a field's word and its closing parenthesis
+-- The contents of a field: all between its keyword and its closing parenthesis.
 abbrev pub inside_at : Profile → Names → FieldKind → Reader Field
 inside_at p names field.Type t = made (λ x. type_field x.0 x.1) (then_at id_at (signature_at p) t)
 inside_at p names field.Import t = import_at p names t
@@ -202,6 +202,6 @@ inside_at p names field.Data t = segment_at p names t
 unfoldable pub field_at : Profile → Names → Reader Field
 field_at p names = headed_at field_named (inside_at p names)
 
--- as many as begin with a parenthesis
+-- All fields up to a token that is no opening parenthesis.
 unfoldable pub fields_at : Profile → Names → Reader (List Field)
 fields_at p names t = many_at (suc (length t)) begins_open (field_at p names) t

@@ -1,5 +1,5 @@
--- What a first reading of a module finds: the types, and the identifiers of the index spaces. Of each field
--- it reads the head, and skips the rest. The exact answers of the code's readers.
+-- Exact answers of the first pass over a module: its types, and the identifiers of its index spaces. It reads the head
+-- of each field, and skips the rest.
 use Rattle.std.specs.Prelude.{ℕ, zero, suc, List, [], ◌∷◌, ◌++◌, Bool, true, false, Option, Some, None}
 use Rattle.std.specs.Prelude.{if◌then◌else◌, length}
 use Rattle.wm_syntax.specs.declared.modules.ExportKind.{ExportKind}
@@ -16,13 +16,13 @@ use Rattle.wm_read.specs.exact.Signatures.{signature_at}
 use Rattle.wm_bodies.specs.exact.Reading.{Reader, ◌>>=◌, made, open_at, close_at, atom_at, id_at, is_new}
 use Rattle.wm_bodies.specs.exact.TypeUses.{begins_open}
 
--- ---- what the heads so far have said
+-- ---- what the heads up to here define
 
 pub record Noted : Type 0 where
   pub names : Names
-  -- whether a function, table, memory or global was defined
+  -- Whether a function, table, memory or global was defined.
   pub defined : Bool
-  -- whether a field was a start
+  -- Whether a start field was read.
   pub started : Bool
 
 abbrev pub no_names : Names
@@ -45,11 +45,11 @@ with_type names id f = record names {
 
 -- ---- parts of heads
 
--- an identifier that no item of the space has, or none
+-- An optional identifier, which no item of the space may have.
 abbrev pub free_id_at : Ids → Reader Id
 free_id_at ids k = id_at k >>= λ i. if is_new ids i.0 then Some i else None
 
--- past the parenthesis that closes so many
+-- The tokens after the parenthesis that closes the last of these many open ones.
 abbrev pub skip : ℕ → List Token → Option (List Token)
 skip zero k = Some k
 skip (suc n) [] = None
@@ -58,7 +58,7 @@ skip (suc n) (close_paren ∷ k) = skip n k
 skip (suc n) (atom a ∷ k) = skip (suc n) k
 skip (suc n) (string b ∷ k) = skip (suc n) k
 
--- ---- the heads of fields, from behind their words; all tokens of the field are read or skipped
+-- ---- the heads of fields, after their keywords; all tokens of the field are read or skipped
 
 abbrev pub type_head_at : Profile → Noted → Reader Noted
 type_head_at p s k =
@@ -69,7 +69,7 @@ type_head_at p s k =
       c.1,
     )
 
--- the head of what an import brings in
+-- The head of an import descriptor: its keyword and its identifier.
 abbrev pub desc_head_at : Noted → Reader Noted
 desc_head_at s k =
     open_at k >>= λ o. atom_at item_named o.1 >>= λ w. free_id_at (space_of s.names w.0) w.1
@@ -112,7 +112,7 @@ head_at p s k = open_at k >>= λ o. atom_at field_named o.1 >>= λ w. head_by p 
 
 -- ---- all heads
 
--- as many as begin with a parenthesis
+-- The heads of all fields up to a token that is no opening parenthesis, by recursion on a bound.
 abbrev pub heads_within : Profile → ℕ → Noted → Reader Noted
 heads_within p zero s k = None
 heads_within p (suc n) s k = if begins_open k then (head_at p s k >>= λ x. heads_within p n x.0 x.1)

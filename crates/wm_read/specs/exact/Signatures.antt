@@ -1,4 +1,4 @@
--- How the type of a type field is read: the exact answer of the code's reader.
+-- The exact answer of the reader of a type field's function type (Core spec 6.4.3).
 use Rattle.std.specs.Prelude.{List, codes}
 use Rattle.wm_syntax.specs.declared.types.ValType.{ValType}
 use Rattle.wm_syntax.specs.declared.profile.Profile.{Profile}
@@ -8,7 +8,7 @@ use Rattle.wm_bodies.specs.exact.Reading.{Reader, made, then_at, paren_at}
 use Rattle.wm_bodies.specs.exact.NamedUses.{results_at}
 use Rattle.wm_bodies.specs.exact.TypeUses.{named_at}
 
--- identifiers of a type's parameters mean nothing
+-- The function type; identifiers of its parameters are ignored.
 abbrev pub signature_of : List Named × List ValType → Signature
 signature_of x = record { params = types_of x.0; results = x.1 }
 

@@ -1,5 +1,5 @@
--- How the text of a module is read: what its fields define, to the end of the text, and then its fields with
--- these names. The exact answer of the code.
+-- The exact answer for a whole text (Core spec 6.6.13). The first pass reads to the end of the text. The second reads
+-- the fields with the names that the first found.
 use Rattle.std.specs.Prelude.{◌≡◌, List, [], ◌∷◌, Option, Some, None, codes}
 use Rattle.wm_syntax.specs.declared.profile.Profile.{Profile}
 use Rattle.wm_syntax.specs.Modules.{Module}
@@ -10,20 +10,20 @@ use Rattle.wm_read.specs.exact.Fields.{fields_at}
 use Rattle.wm_read.specs.exact.FirstReading.{names_at}
 use Rattle.wm_bodies.specs.exact.Reading.{◌>>=◌, made, open_at, close_at, atom_at, word_of, id_at}
 
--- no token is left
+-- No token is left.
 abbrev pub end_at : List Token → Option (Unit {0})
 end_at [] = Some tt
 end_at _ = None
 
--- up to the first field; the identifier means nothing
+-- The tokens after ( module id?. The identifier is ignored.
 abbrev pub frame_at : List Token → Option (List Token)
 frame_at k = open_at k >>= λ o. atom_at (word_of (codes "module")) o.1 >>= λ w. id_at w.1 >>= λ i. Some i.1
 
--- the names of fields, behind which the text ends
+-- The names of all fields, where the module's closing parenthesis and the end of the text follow.
 abbrev pub all_names_at : Profile → List Token → Option Names
 all_names_at p k = names_at p k >>= λ n. close_at n.1 >>= λ c. end_at c.1 >>= λ e. Some n.0
 
--- the names are read, and behind the last parenthesis stands one more token
+-- The first pass succeeds up to the module's closing parenthesis, and one more token follows it.
 pub record IsFollowed (p : Profile) (k : List Token) : Type 0 where
   pub inner : List Token
   pub names : Names

@@ -1,4 +1,4 @@
--- Fields of the code, without where they lie in memory.
+-- Fields of the code as plain values, without their addresses.
 use Rattle.std.specs.Prelude.{ℕ, List, [], ◌∷◌, ◌++◌, Option, Some, None, codes}
 use Rattle.wm_syntax.specs.declared.profile.Profile.{Profile}
 use Rattle.wm_syntax.specs.Modules.{Module}
@@ -12,11 +12,11 @@ use Rattle.wm_bodies.specs.exact.NamedUses.{named_use_at}
 use Rattle.wm_bodies.specs.exact.Reading.{Reader, then_at}
 use Rattle.wm_bodies.specs.exact.TypeUses.{named_at}
 
--- a function's type use, and its locals
+-- The exact answer for a function's type use and its locals.
 abbrev pub head_at : Profile → Names → Reader ((ℕ × List Named) × List Named)
 head_at p names = then_at (named_use_at p names) (named_at p (codes "local"))
 
--- a field of the code
+-- The value of a field of the code.
 abbrev pub field_of : Code → Field
 field_of (code.Type id f) = type_field (id_of id) f
 field_of (code.Import id i) = import_field (id_of id) i
@@ -29,12 +29,12 @@ field_of (code.Start x) = start_field x
 field_of (code.Element e) = element_field e
 field_of (code.Segment s) = segment_field s
 
--- the first of these
+-- The first of two options that is not None.
 abbrev pub or : {X : Type 0} → Option X → Option X → Option X
 or (Some x) o = Some x
 or None o = o
 
--- a module, and what one more field has
+-- A module after one more field. A second start changes nothing.
 abbrev pub with_field : Module → Field → Module
 with_field m (type_field id f) = record m { types = m.types ++ f ∷ [] }
 with_field m (import_field id i) = record m { imports = m.imports ++ i ∷ [] }

@@ -1,4 +1,4 @@
--- What heads have said to the code, without where it lies in memory.
+-- The definitions in heads as a plain value, without addresses.
 use Rattle.wm_read.specs.declared.heads.Noted as heads
 use Rattle.wm_read.specs.exact.FirstReading.{Noted}
 use Rattle.wm_bodies.specs.inner.Blocks.{names_of}

@@ -1,4 +1,4 @@
-//! Constant expressions (section 3.3.7): one instruction, a number or the value of a global.
+//! Constant expressions (Core spec 3.3.7): one instruction, for a number or the value of a global.
 
 ghost use Rattle.std.specs.Prelude.{◌≡◌, ◌≢◌, []};
 ghost use Rattle.wm_read.specs.exact.Fields as fields;
@@ -20,7 +20,7 @@ use wm_syntax::types::Const;
 use wm_tokens::faults::{TextFault, TextWhy};
 use wm_tokens::lexeme::{Lexeme, next_token};
 
-/// What is wrong with an atom, the first token of a text, that begins no constant.
+/// Returns the refusal of an atom that begins no constant. The atom is the first token of `text`.
 fn no_constant(profile: Profile, atom: &[u8], text: &[u8]) -> TextFault
     requires { lexed text.now ≢ [] }
     ensures { IsRefusal result.why }
@@ -33,7 +33,7 @@ fn no_constant(profile: Profile, atom: &[u8], text: &[u8]) -> TextFault
     }
 }
 
-/// The instruction of a constant expression.
+/// Reads the instruction of a constant expression. Fails with `NotConst` for any other instruction of the profile.
 pub fn constant<'a>(
     alloc: Global,
     profile: Profile,
@@ -58,7 +58,8 @@ pub fn constant<'a>(
     }
 }
 
-/// The parenthesis after a constant. An instruction in its place is one too many.
+/// Reads the closing parenthesis after a constant. Fails with `NotConst` for a further instruction, and with `Expected`
+/// for a token that is no atom.
 pub fn constant_end(profile: Profile, text: &[u8]) -> Result<&[u8], TextFault>
     ensures { Reads (λ r. (tt, lexed r.now)) result (reading.close_at (lexed text.now)) }
 {
@@ -69,7 +70,7 @@ pub fn constant_end(profile: Profile, text: &[u8]) -> Result<&[u8], TextFault>
     }
 }
 
-/// `( offset const )`
+/// Reads `( offset const )`. Core spec 6.6.11 and 6.6.12.
 pub fn offset<'a>(
     alloc: Global,
     profile: Profile,

@@ -1,4 +1,4 @@
-//! Functions (section 6.6.5).
+//! Functions (Core spec 6.6.5).
 
 ghost use Rattle.std.specs.Prelude.{◌≡◌, ◌≢◌, ◌++◌, ◌<◌, ◌≤◌, ◌⊎◌, ◌^◌, [], IfErr, IfOk, MatchOption};
 ghost use Rattle.std.specs.Prelude.{false, length, true};
@@ -26,8 +26,7 @@ use wm_syntax::profile::Profile;
 use wm_syntax::why::Why;
 use wm_tokens::faults::{TextFault, TextWhy};
 
-/// Adds the identifier of a run, or as many items with none. It tells whether it added them: it does not
-/// add an identifier that is there.
+/// Appends the items of a run to a space. Returns `false` if the run has an identifier that is in the space already.
 #[tactic(auto, using(crate::proofs::FunctionCode::run_laws))]
 fn add_run<'a>(space: &mut Space<'a>, run: NamedRun<'a>) -> Result<bool, AllocError>
     ensures new { IfOk result (λ b. b ≡ fields.all_new space.old (written.ids_of (named_of run.entry))) }
@@ -46,7 +45,7 @@ fn add_run<'a>(space: &mut Space<'a>, run: NamedRun<'a>) -> Result<bool, AllocEr
     Ok(true)
 }
 
-/// A space with the identifiers of parameters or locals too, if they are distinct and new.
+/// Appends parameters or locals to a space. `None` if an identifier repeats or is in the space already.
 #[tactic(auto, using(crate::proofs::FunctionCode::ids_laws))]
 fn with_ids<'a>(
     mut space: Space<'a>,
@@ -65,7 +64,8 @@ fn with_ids<'a>(
     Ok(Some(space))
 }
 
-/// The space of a function's parameters, if their identifiers are distinct. Those of the type take no time.
+/// Returns the index space of a function's parameters. `None` if an identifier repeats. Parameters that are not written
+/// take constant time.
 #[tactic(auto, using(crate::proofs::FunctionCode::params_laws))]
 fn params_space<'a>(alloc: Global, params: &Params<'_, 'a>) -> Result<Option<Space<'a>>, AllocError>
     ensures { IfOk result (λ o. MatchOption o
@@ -79,7 +79,7 @@ fn params_space<'a>(alloc: Global, params: &Params<'_, 'a>) -> Result<Option<Spa
     }
 }
 
-/// The space of a function's parameters and locals, if their identifiers are distinct.
+/// Returns the index space of a function's parameters and locals. `None` if an identifier repeats.
 #[tactic(auto, using(crate::proofs::FunctionCode::space_laws))]
 fn locals_space<'a>(
     alloc: Global,
@@ -97,7 +97,8 @@ fn locals_space<'a>(
     }
 }
 
-/// The types of locals, which stand before this text. It has a token.
+/// Returns the types of locals, as runs. Fails with `TooManyLocals` if they are 2^32 or more. `text` begins after them;
+/// the refusal is at its first token.
 #[tactic(auto, using(crate::proofs::FunctionCode::types_laws))]
 fn local_types(alloc: Global, locals: &[NamedRun], text: &[u8]) -> Result<Locals, TextFault>
     requires { lexed text.now ≢ [] }
@@ -119,7 +120,7 @@ fn local_types(alloc: Global, locals: &[NamedRun], text: &[u8]) -> Result<Locals
     Ok(types)
 }
 
-/// A type use, and the locals after it.
+/// Reads a type use, and the locals after it.
 fn read_head<'n, 'a>(
     alloc: Global,
     profile: Profile,
@@ -134,8 +135,8 @@ fn read_head<'n, 'a>(
     Ok((used, locals, rest))
 }
 
-/// An identifier that comes again is a fault before this one, and so is a local too many, where it stands
-/// before it. The text begins with the type use.
+/// Returns the first error in a function's head, given an error there or right after it. A repeated identifier, or a
+/// local too many, replaces `fault` if it comes before. `text` begins at the type use.
 #[tactic(auto, using(crate::proofs::FunctionCode::earlier_read))]
 fn first_fault(alloc: Global, names: &Names, fault: TextFault, text: &[u8]) -> TextFault
     ensures memory { NotMemory result.why → NotMemory fault.why }
@@ -154,7 +155,9 @@ fn first_fault(alloc: Global, names: &Names, fault: TextFault, text: &[u8]) -> T
     }
 }
 
-/// What stands after a function's identifier: its type use, its locals and its body.
+/// Reads a function after its identifier: its type use, its locals and its body. Core spec 6.6.5.
+/// Fails with `RepeatedId` if an identifier of parameters and locals repeats, and with `TooManyLocals` for 2^32 locals
+/// or more. Fails with `Expected` if another form follows the locals.
 #[tactic(auto, using(crate::proofs::FunctionCode::function_laws, crate::proofs::Tails::head_stands))]
 pub fn function<'a>(
     alloc: Global,

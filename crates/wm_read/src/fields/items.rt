@@ -1,4 +1,4 @@
-//! What an import brings in (section 6.6.4), and what an export gives out (section 6.6.9).
+//! Descriptors of imports (Core spec 6.6.4) and of exports (Core spec 6.6.9).
 
 ghost use Rattle.std.specs.Prelude.{◌≡◌};
 ghost use Rattle.wm_read.specs.exact.Fields as fields;
@@ -17,7 +17,7 @@ use wm_syntax::modules::{ExportKind, ImportDesc};
 use wm_syntax::profile::Profile;
 use wm_tokens::faults::TextFault;
 
-/// What stands after the identifier of an import's item.
+/// Reads the type of an import, after its identifier.
 fn desc_type<'a>(
     alloc: Global,
     profile: Profile,
@@ -39,7 +39,7 @@ fn desc_type<'a>(
     }
 }
 
-/// An import's item: its identifier, if it has one, and what it is.
+/// Reads an import descriptor: its kind, its optional identifier, and its type. Core spec 6.6.4.
 pub fn desc<'a>(
     alloc: Global,
     profile: Profile,
@@ -60,7 +60,7 @@ pub fn desc<'a>(
     Ok((id, desc, rest))
 }
 
-/// The index space of these items.
+/// Returns the index space of a kind.
 pub(crate) fn space_of<'n, 'a>(names: &'n Names<'a>, kind: ExportKind) -> &'n Space<'a>
     ensures { result.now ≡ fields.space_of (names_of names.now) kind }
 {
@@ -72,7 +72,7 @@ pub(crate) fn space_of<'n, 'a>(names: &'n Names<'a>, kind: ExportKind) -> &'n Sp
     }
 }
 
-/// An export's item: its kind and its index.
+/// Reads an export descriptor: its kind and its index. Core spec 6.6.9.
 pub fn item<'a>(names: &Names, text: &'a [u8]) -> Result<(ExportKind, u32, &'a [u8]), TextFault>
     ensures { Reads (λ x. ((x.0, x.1), lexed x.2.now)) result
         (fields.item_at (names_of names.now) (lexed text.now)) }

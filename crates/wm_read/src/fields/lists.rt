@@ -1,4 +1,4 @@
-//! The fields of a module (section 6.6.13), given what it defines.
+//! All fields of a module (Core spec 6.6.13), given what they define.
 
 ghost use Rattle.std.specs.Prelude.{◌≡◌, OnOk};
 ghost use Rattle.wm_tokens.specs.Fields.{module_of};
@@ -19,7 +19,7 @@ use wm_syntax::modules::Module;
 use wm_syntax::profile::Profile;
 use wm_tokens::faults::TextFault;
 
-/// Adds what a field has. Of start functions the first counts.
+/// Adds a field to the module. If several fields are a start, the first counts.
 fn add(whole: &mut Module, field: Field) -> Result<(), AllocError>
     ensures { OnOk result (value_of whole.new ≡ with_field (value_of whole.old) (field_of field.entry)) }
 {
@@ -42,8 +42,8 @@ fn add(whole: &mut Module, field: Field) -> Result<(), AllocError>
     Ok(())
 }
 
-/// The module of all fields that stand first, and the text after them. Where identifiers are distinct in
-/// their spaces, `fields_are_read_as_written` says which tokens these are.
+/// Reads all fields up to another token. Returns their module, and the text after them. If identifiers are distinct in
+/// their spaces, `fields_are_read_as_written` says which fields are read.
 #[tactic(auto, using(crate::proofs::ModuleFields::fields_laws, crate::proofs::Tails::tail_field))]
 pub fn read_fields<'a>(
     alloc: Global,

@@ -1,4 +1,4 @@
-//! The type of a type field (section 6.4.3).
+//! The function type of a type field (Core spec 6.4.3).
 
 ghost use Rattle.std.specs.Prelude.{◌≡◌};
 ghost use Rattle.wm_read.specs.exact.Signatures.{signature_at};
@@ -14,7 +14,7 @@ use wm_syntax::profile::Profile;
 use wm_syntax::types::FuncType;
 use wm_tokens::faults::TextFault;
 
-/// `( func param* result* )`. Identifiers of parameters are allowed, and mean nothing.
+/// Reads `( func param* result* )`. Identifiers of parameters are allowed, and ignored.
 #[tactic(auto, unfolding(crate::specs::exact::Signatures::signature_at, wm_bodies::specs::exact::NamedUses::results_at))]
 pub fn signature(
     alloc: Global,

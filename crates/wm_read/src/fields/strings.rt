@@ -1,4 +1,4 @@
-//! Strings of fields: names (section 6.3.4), and the bytes of data segments.
+//! Strings of fields: names (Core spec 6.3.4), and the bytes of data segments.
 
 ghost use Rattle.std.specs.Prelude.{◌≡◌};
 ghost use Rattle.std.specs.String as string;
@@ -11,7 +11,8 @@ use wm_bodies::operands::refuse;
 use wm_tokens::faults::{TextFault, TextWhy};
 use wm_tokens::lexeme::{Lexeme, next_token, string_bytes};
 
-/// A string that is UTF-8.
+/// Reads a name: a string whose bytes are UTF-8. Fails with `BadName` if they are not, and with `Expected` if the first
+/// token is no string.
 #[tactic(auto, using(crate::proofs::FieldCode::name_laws))]
 pub fn name(alloc: Global, text: &[u8]) -> Result<(String, &[u8]), TextFault>
     ensures { Reads (λ x. (string.string_bytes x.0, lexed x.1.now)) result (fields.name_at (lexed text.now)) }
@@ -28,7 +29,7 @@ pub fn name(alloc: Global, text: &[u8]) -> Result<(String, &[u8]), TextFault>
     }
 }
 
-/// The bytes of all strings that stand first, joined.
+/// Reads strings up to another token, and returns their bytes, joined. Core spec 6.6.12.
 #[tactic(auto, using(crate::proofs::FieldCode::bytes_laws))]
 pub fn bytes(alloc: Global, text: &[u8]) -> Result<(Vec<u8>, &[u8]), TextFault>
     ensures { Reads (λ x. (x.0.items, lexed x.1.now)) result (fields.bytes_at (lexed text.now)) }

@@ -1,4 +1,4 @@
-//! The types of tables, memories and globals (section 6.4).
+//! The types of tables, memories and globals (Core spec 6.4.4 to 6.4.7).
 
 ghost use Rattle.std.specs.Prelude.{◌≡◌};
 ghost use Rattle.wm_read.specs.exact.FieldTypes as fields;
@@ -13,7 +13,7 @@ use wm_syntax::types::{GlobalType, Limits};
 use wm_tokens::faults::{TextFault, TextWhy};
 use wm_tokens::lexeme::{Lexeme, next_token};
 
-/// A number below 2^32.
+/// Reads a number below 2^32.
 #[tactic(auto, using(crate::proofs::FieldTypes::id_no_number))]
 fn minimum(text: &[u8]) -> Result<(u32, &[u8]), TextFault>
     ensures { Reads (λ x. (x.0, lexed x.1.now)) result
@@ -25,7 +25,7 @@ fn minimum(text: &[u8]) -> Result<(u32, &[u8]), TextFault>
     }
 }
 
-/// A number below 2^32, or no number.
+/// Reads an optional number below 2^32.
 fn maximum(text: &[u8]) -> Result<(Option<u32>, &[u8]), TextFault>
     ensures { Reads (λ x. (x.0, lexed x.1.now)) result (fields.max_at (lexed text.now)) }
 {
@@ -37,7 +37,7 @@ fn maximum(text: &[u8]) -> Result<(Option<u32>, &[u8]), TextFault>
     }
 }
 
-/// `u32 u32?`
+/// Reads `u32 u32?`. Core spec 6.4.4. Fails with `BadInteger` for a numeral that is no `u32`, and else with `Expected`.
 pub fn limits(text: &[u8]) -> Result<(Limits, &[u8]), TextFault>
     ensures { Reads (λ x. (x.0, lexed x.1.now)) result (fields.limits_at (lexed text.now)) }
 {
@@ -46,7 +46,7 @@ pub fn limits(text: &[u8]) -> Result<(Limits, &[u8]), TextFault>
     Ok((Limits { min, max }, rest))
 }
 
-/// `limits funcref`
+/// Reads `limits funcref`. Core spec 6.4.6. It fails as `limits` does, and with `Expected` if `funcref` is missing.
 pub fn table_type(text: &[u8]) -> Result<(Limits, &[u8]), TextFault>
     ensures { Reads (λ x. (x.0, lexed x.1.now)) result (fields.table_type_at (lexed text.now)) }
 {
@@ -55,7 +55,7 @@ pub fn table_type(text: &[u8]) -> Result<(Limits, &[u8]), TextFault>
     Ok((limits, rest))
 }
 
-/// A value type, or `( mut valtype )`.
+/// Reads `valtype` or `( mut valtype )`. Core spec 6.4.7.
 pub fn global_type(profile: Profile, text: &[u8]) -> Result<(GlobalType, &[u8]), TextFault>
     ensures { Reads (λ x. (x.0, lexed x.1.now)) result (fields.global_type_at profile (lexed text.now)) }
 {

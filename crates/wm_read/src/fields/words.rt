@@ -1,4 +1,4 @@
-//! The words that begin a field (section 6.6) and an item of an import or an export.
+//! The keywords of fields, and of the descriptors of imports and exports (Core spec 6.6).
 
 ghost use Rattle.std.specs.Prelude.{◌≡◌, ◌≢◌, []};
 ghost use Rattle.wm_read.specs.exact.Fields.{field_named, item_named};
@@ -12,7 +12,7 @@ use wm_syntax::modules::ExportKind;
 use wm_tokens::faults::{TextFault, TextWhy};
 use wm_tokens::lexeme::{Lexeme, next_token};
 
-/// What a field is.
+/// The kind of a field.
 #[derive(Clone, Copy, PartialEq, Eq)]
 pub enum FieldKind {
     Type,
@@ -27,7 +27,7 @@ pub enum FieldKind {
     Data,
 }
 
-/// The fields that a word begins.
+/// Returns the kind of field that has this keyword, if any.
 fn field_with(atom: &[u8]) -> Option<FieldKind>
     ensures { result ≡ field_named atom.now }
 {
@@ -56,7 +56,7 @@ fn field_with(atom: &[u8]) -> Option<FieldKind>
     }
 }
 
-/// The items that a word begins.
+/// Returns the kind of import or export that has this keyword, if any.
 fn item_with(atom: &[u8]) -> Option<ExportKind>
     ensures { result ≡ item_named atom.now }
 {
@@ -73,7 +73,7 @@ fn item_with(atom: &[u8]) -> Option<ExportKind>
     }
 }
 
-/// What is wrong with an atom, the first token of a text, where a form's word is expected.
+/// Returns the refusal of an atom that is no keyword of a field. The atom is the first token of `text`.
 fn no_form(atom: &[u8], text: &[u8]) -> TextFault
     requires { lexed text.now ≢ [] }
     ensures { IsRefusal result.why }
@@ -85,7 +85,7 @@ fn no_form(atom: &[u8], text: &[u8]) -> TextFault
     }
 }
 
-/// A field's word.
+/// Reads the keyword of a field. Fails with `UnknownWord` for another keyword, and else with `Expected`.
 pub fn field_kind(text: &[u8]) -> Result<(FieldKind, &[u8]), TextFault>
     ensures { Reads (λ x. (x.0, lexed x.1.now)) result (reading.atom_at field_named (lexed text.now)) }
 {
@@ -98,7 +98,7 @@ pub fn field_kind(text: &[u8]) -> Result<(FieldKind, &[u8]), TextFault>
     }
 }
 
-/// An item's word.
+/// Reads the keyword of a descriptor: `func`, `table`, `memory` or `global`. Fails with `Expected` for anything else.
 pub fn item_kind(text: &[u8]) -> Result<(ExportKind, &[u8]), TextFault>
     ensures { Reads (λ x. (x.0, lexed x.1.now)) result (reading.atom_at item_named (lexed text.now)) }
 {
