@@ -1,5 +1,5 @@
--- The canonical binary of a module: shortest numbers, empty sections omitted, no custom section, locals in
--- maximal runs of one type, no else before an empty second branch (section 5.5).
+-- The canonical binary of a module (Core spec 5.5). Numbers have the fewest bytes. Locals are in maximal runs of one
+-- type. It has no empty section, no custom section, and no else before an empty second branch.
 use Rattle.std.specs.Prelude.{ℕ, ◌≡◌, ◌<◌, ◌≤◌, ◌^◌, List, [], ◌∷◌, ◌++◌, Option, Some, None, Bool, true}
 use Rattle.std.specs.Prelude.{false, ℤ, length, flat_map}
 use Rattle.wm_machine.specs.Sections.{header, kind_byte, SpellsImport, SpellsGlobal, SpellsExport}
@@ -28,7 +28,7 @@ use Rattle.wm_syntax.specs.declared.types.GlobalType.{GlobalType}
 use Rattle.wm_syntax.specs.declared.types.Limits.{Limits}
 use Rattle.wm_syntax.specs.declared.types.ValType.{ValType}
 
--- numbers in the fewest bytes (section 5.2.2)
+-- Numbers in the fewest bytes (Core spec 5.2.2).
 abbrev pub u32_bytes : ℕ → List ℕ
 u32_bytes n = unsigned_bytes 5 n
 
@@ -38,7 +38,7 @@ s32_bytes z = signed_bytes 5 z
 abbrev pub s64_bytes : ℤ → List ℕ
 s64_bytes z = signed_bytes 10 z
 
--- what follows the byte of an instruction (sections 5.4.1 to 5.4.5)
+-- The bytes after the first byte of an instruction (Core spec 5.4.1 to 5.4.5).
 abbrev pub immediates : Simple → List ℕ
 immediates (Br l) = u32_bytes l
 immediates (BrIf l) = u32_bytes l
@@ -59,7 +59,7 @@ immediates (Load o at) = u32_bytes at.align ++ u32_bytes at.offset
 immediates (Store o at) = u32_bytes at.align ++ u32_bytes at.offset
 immediates _ = []
 
--- one op (section 5.4)
+-- The bytes of an op (Core spec 5.4).
 abbrev pub op_bytes : Op → List ℕ
 op_bytes (op.Simple i) = (opcode i).0 ∷ immediates i
 op_bytes (op.Block t) = 0x02 ∷ block_byte t ∷ []
@@ -70,27 +70,27 @@ op_bytes op.End = 0x0B ∷ []
 op_bytes (op.BrTable n) = 0x0E ∷ u32_bytes n
 op_bytes (op.Label l) = u32_bytes l
 
--- ops, joined
+-- The bytes of a list of ops, one after another.
 abbrev pub ops_bytes : List Op → List ℕ
 ops_bytes ops = flat_map op_bytes ops
 
--- vec(X): how many there are, and then each (section 5.1.3)
+-- vec(X): the number of values, then the bytes of each (Core spec 5.1.3).
 abbrev pub listed : {X : Type 0} → (X → List ℕ) → List X → List ℕ
 listed f xs = u32_bytes (length xs) ++ flat_map f xs
 
--- how many bytes there are, and then those (sections 5.1.3, 5.5.2)
+-- The number of bytes, then the bytes (Core spec 5.1.3, 5.5.2).
 abbrev pub sized : List ℕ → List ℕ
 sized b = u32_bytes (length b) ++ b
 
--- a value type (section 5.3.1)
+-- A value type (Core spec 5.3.1).
 abbrev pub value_type_bytes : ValType → List ℕ
 value_type_bytes t = type_byte t ∷ []
 
--- a function type (section 5.3.3)
+-- A function type (Core spec 5.3.3).
 abbrev pub signature_bytes : Signature → List ℕ
 signature_bytes s = 0x60 ∷ (listed value_type_bytes s.params ++ listed value_type_bytes s.results)
 
--- limits (section 5.3.4), which are also a memory type (section 5.3.5)
+-- Limits (Core spec 5.3.4), which are also a memory type (Core spec 5.3.5).
 abbrev pub bounds_bytes : ℕ → Option ℕ → List ℕ
 bounds_bytes min None = 0x00 ∷ u32_bytes min
 bounds_bytes min (Some max) = 0x01 ∷ (u32_bytes min ++ u32_bytes max)
@@ -98,11 +98,11 @@ bounds_bytes min (Some max) = 0x01 ∷ (u32_bytes min ++ u32_bytes max)
 abbrev pub limits_bytes : Limits → List ℕ
 limits_bytes l = bounds_bytes l.min l.max
 
--- a table type (section 5.3.6)
+-- A table type (Core spec 5.3.6).
 abbrev pub table_bytes : Limits → List ℕ
 table_bytes l = 0x70 ∷ limits_bytes l
 
--- a global type (section 5.3.7)
+-- A global type (Core spec 5.3.7).
 abbrev pub var_byte : Bool → ℕ
 var_byte false = 0x00
 var_byte true = 0x01
@@ -110,7 +110,7 @@ var_byte true = 0x01
 abbrev pub global_type_bytes : GlobalType → List ℕ
 global_type_bytes g = type_byte g.ty ∷ var_byte g.var ∷ []
 
--- an import (section 5.5.5)
+-- An import (Core spec 5.5.5).
 abbrev pub desc_bytes : ImportDesc → List ℕ
 desc_bytes (Func x) = 0x00 ∷ u32_bytes x
 desc_bytes (Table l) = 0x01 ∷ table_bytes l
@@ -120,24 +120,23 @@ desc_bytes (Global g) = 0x03 ∷ global_type_bytes g
 abbrev pub import_bytes : Import → List ℕ
 import_bytes i = sized i.module_name ++ (sized i.item_name ++ desc_bytes i.desc)
 
--- a constant expression (section 5.4.6)
+-- A constant expression (Core spec 5.4.6).
 abbrev pub constant_bytes : Const → List ℕ
 constant_bytes c = op_bytes (op.Simple (constant c)) ++ 0x0B ∷ []
 
--- a global (section 5.5.9)
+-- A global (Core spec 5.5.9).
 abbrev pub global_bytes : GlobalDef → List ℕ
 global_bytes g = global_type_bytes g.ty ++ constant_bytes g.init
 
--- an export (section 5.5.10)
+-- An export (Core spec 5.5.10).
 abbrev pub export_bytes : Export → List ℕ
 export_bytes e = sized e.name ++ kind_byte e.kind ∷ u32_bytes e.index
 
--- an element segment (section 5.5.12)
+-- An element segment (Core spec 5.5.12).
 abbrev pub element_bytes : Element → List ℕ
 element_bytes e = u32_bytes e.table ++ (constant_bytes e.offset ++ listed u32_bytes e.functions)
 
--- a code entry (section 5.5.13): maximal runs of locals of one type, and the body, behind
--- how many bytes they have
+-- A code entry (Core spec 5.5.13): its size in bytes, then its locals in maximal runs of one type, and its body.
 abbrev pub run_bytes : ℕ × ValType → List ℕ
 run_bytes r = u32_bytes r.0 ++ value_type_bytes r.1
 
@@ -147,11 +146,11 @@ code_contents f = listed run_bytes (runs_of f.locals) ++ (ops_bytes (ops_of f.bo
 abbrev pub code_bytes : Function → List ℕ
 code_bytes f = sized (code_contents f)
 
--- a data segment (section 5.5.14)
+-- A data segment (Core spec 5.5.14).
 abbrev pub segment_bytes : Segment → List ℕ
 segment_bytes s = u32_bytes s.memory ++ (constant_bytes s.offset ++ sized s.bytes)
 
--- a section (section 5.5.2), which is not there where it would be empty
+-- A section: its id, the size of its contents, and these (Core spec 5.5.2). The section of an empty list is omitted.
 abbrev pub section : ℕ → List ℕ → List ℕ
 section id contents = id ∷ sized contents
 
@@ -159,12 +158,12 @@ abbrev pub list_section : {X : Type 0} → ℕ → (X → List ℕ) → List X �
 list_section id f [] = []
 list_section id f (x ∷ xs) = section id (listed f (x ∷ xs))
 
--- the start section (section 5.5.11)
+-- The start section, omitted without a start function (Core spec 5.5.11).
 abbrev pub start_section : Option ℕ → List ℕ
 start_section None = []
 start_section (Some x) = section 8 (u32_bytes x)
 
--- a module (section 5.5.15)
+-- The canonical binary of a module: the header, then the sections in the order of their ids (Core spec 5.5.15).
 abbrev pub canon : Module → List ℕ
 canon m =
     header
@@ -180,10 +179,11 @@ canon m =
     ++ (list_section 10 code_bytes m.functions
     ++ list_section 11 segment_bytes m.segments))))))))))
 
--- The contents of each section can be sized: they have fewer than 2 ^ 32 bytes (section 5.5.2).
+-- The contents of a list's section have fewer than 2^32 bytes, as their size is a u32 (Core spec 5.5.2).
 abbrev pub CanBeSized : {X : Type 0} → (X → List ℕ) → List X → Type 0
 CanBeSized f xs = length (listed f xs) < 2 ^ 32
 
+-- The contents of each section have fewer than 2^32 bytes.
 pub record Fits (m : Module) : Type 0 where
   pub types : CanBeSized signature_bytes m.types
   pub imports : CanBeSized import_bytes m.imports
@@ -196,15 +196,15 @@ pub record Fits (m : Module) : Type 0 where
   pub codes : CanBeSized code_bytes m.functions
   pub segments : CanBeSized segment_bytes m.segments
 
--- These bytes are no longer than any that the form describes.
+-- The bytes a are no longer than any bytes of the form P.
 abbrev pub NoLonger : List ℕ → Form ℕ → Type 0
 NoLonger a P = (b : List ℕ) → P b → length a ≤ length b
 
--- The contents of each section are no longer than in any spelling of the same part (section 5.5), under each
--- profile.
+-- The contents of a list's section are no longer than any spelling of the same list (Core spec 5.5).
 abbrev pub IsShortest : {X : Type 0} → (X → List ℕ) → (X → Form ℕ) → List X → Type 0
 IsShortest f S xs = NoLonger (listed f xs) (SpellsList S xs)
 
+-- The contents of each section are no longer than any spelling of the same part, under each profile.
 pub record HasShortestSections (m : Module) : Type 0 where
   pub types : IsShortest signature_bytes SpellsSignature m.types
   pub imports : IsShortest import_bytes SpellsImport m.imports

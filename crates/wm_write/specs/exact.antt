@@ -1,4 +1,4 @@
--- Exact answers of functions. They follow the code for the layers above, and need not be believed.
+-- Exact answers of functions. Proofs use them; a reader can skip them.
 pub mod Aligns
 pub mod Measures
 pub mod Printing

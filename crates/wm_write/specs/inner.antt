@@ -1,2 +1,2 @@
--- Which token each printed word stands for. Only the proof of printed_texts_write_their_modules names it.
+-- The token of each printed word. Only the proof of `printed_texts_write_their_modules` uses it.
 pub mod Printed

@@ -1,4 +1,4 @@
-//! Some bytes of output that are put together, and go out by one `put`.
+//! A small buffer for output, which goes out by one `put`.
 
 ghost use Rattle.std.specs.Prelude.{◌≡◌, ◌+◌, ◌<◌, ◌≤◌, [], ◌∷◌, ◌++◌, decimal, length};
 ghost use Rattle.std.specs.Fmt.{signed_decimal};
@@ -6,10 +6,10 @@ ghost use Rattle.std.specs.Fmt.{signed_decimal};
 use itoa::{Buffer, Integer};
 use std::marker::Model;
 
-/// The most bytes of a batch.
+/// The capacity of a batch, in bytes.
 pub(crate) const ROOM: usize = 64;
 
-/// At most 64 bytes. Contracts see them as a list.
+/// A buffer of at most 64 bytes. Contracts see it as a list of bytes.
 #[derive(Drop)]
 pub(crate) struct Batch {
     bytes: [u8; ROOM],
@@ -54,7 +54,6 @@ impl Batch {
         self.len = 0;
     }
 
-    /// Adds some bytes.
     pub(crate) fn push(&mut self, bytes: &[u8])
         requires { length self.old + length bytes.now ≤ 64 }
         ensures { self.new ≡ self.old ++ bytes.now }
@@ -64,7 +63,6 @@ impl Batch {
         self.len = end;
     }
 
-    /// Adds a byte.
     pub(crate) fn push_byte(&mut self, byte: u8)
         requires { length self.old < 64 }
         ensures { self.new ≡ self.old ++ byte ∷ [] }
@@ -73,7 +71,6 @@ impl Batch {
         self.len += 1;
     }
 
-    /// Adds two bytes.
     #[inline(always)]
     pub(crate) fn push_two(&mut self, first: u8, second: u8)
         requires { length self.old + 2 ≤ 64 }
@@ -85,7 +82,7 @@ impl Batch {
         self.len = len + 2;
     }
 
-    // Adds a number in digits.
+    // Appends a number in decimal.
     fn push_digits<I: Integer>(&mut self, n: I)
         requires { length self.old + I.MAX_STR_LEN ≤ 64 }
         ensures text { self.new ≡ self.old ++ I.text n }
@@ -95,7 +92,7 @@ impl Batch {
         self.push(buffer.format(n).as_bytes());
     }
 
-    /// Adds an index in digits behind some bytes; a short one goes a short way.
+    /// Appends some bytes and an index in decimal. An index below 100 takes a fast path.
     #[inline(always)]
     pub(crate) fn push_index(&mut self, front: &[u8], n: u32)
         requires { length self.old + (length front.now + 10) ≤ 64 }
@@ -112,7 +109,7 @@ impl Batch {
         }
     }
 
-    /// Adds a constant behind some bytes; a small one goes a short way.
+    /// Appends some bytes and a constant in decimal. A constant from 0 to 99 takes a fast path.
     #[inline(always)]
     pub(crate) fn push_constant(&mut self, front: &[u8], value: i32)
         requires { length self.old + (length front.now + 11) ≤ 64 }
@@ -126,7 +123,7 @@ impl Batch {
         }
     }
 
-    /// Adds a number in digits behind some bytes. It is inline, since their length is known at each call.
+    /// Appends some bytes and a number in decimal. It is inline, since the length of `front` is known at each call.
     #[inline(always)]
     pub(crate) fn push_counted<I: Integer>(&mut self, front: &[u8], n: I)
         requires { length self.old + (length front.now + I.MAX_STR_LEN) ≤ 64 }

@@ -1,4 +1,4 @@
-//! Modules in bytes (section 5.5.15).
+//! Writes modules in the binary format (Core spec 5.5.15).
 
 ghost use Rattle.std.specs.Prelude.{◌≡◌, ◌≤◌, ◌↔◌, ℕ, Err, IfOk, length, take, false, true};
 ghost use Rattle.std.specs.Io.KnownBytes.{Appends};
@@ -31,13 +31,14 @@ pub enum WriteFault {
     /// The contents of a section have 2^32 bytes or more. Nothing was written.
     #[error("a section would have 2^32 bytes or more")]
     TooLarge,
-    /// The writer failed, after so many bytes.
+    /// The writer failed after `written` bytes.
     #[error("the writer failed after {written} bytes")]
     Io { written: u64 },
 }
 
-/// Writes the canonical binary of a module, and answers its length. No memory is taken. Each number and name
-/// is one `put`, and instructions go out some at a time, so a slow writer wants a buffer.
+/// Writes the canonical binary of a module, and returns its length in bytes. It allocates no memory.
+/// Fails with `TooLarge` if and only if a section does not fit, and with `Io` if the writer fails.
+/// Each number and name is one `put`, and instructions go out in batches. A slow writer needs a buffer.
 pub fn encode<W: Dest>(m: &Module, w: &mut W) -> Result<u64, WriteFault>
     requires open { W.has_failed w.old ≡ false }
     ensures written { IfOk result (λ n. (n ≡ length (canon (value_of m.now)))
@@ -60,7 +61,7 @@ pub fn encode<W: Dest>(m: &Module, w: &mut W) -> Result<u64, WriteFault>
     }
 }
 
-// Writes a module by the sizes of its sections.
+// Writes a module, given the sizes of its sections.
 fn put_module<W: Dest>(w: &mut W, written: &mut u64, m: &Module, sizes: &Sizes)
     requires measured { Measures sizes.now (value_of m.now) }
     requires fits { Fits (value_of m.now) }

@@ -1,4 +1,4 @@
-//! A module's canonical binary and its text, in memory.
+//! Writes a module's canonical binary or its text to memory.
 
 ghost use Rattle.std.specs.Prelude.{◌≡◌, ◌≢◌, ◌↔◌, [], Err, IfOk, false};
 ghost use Rattle.wm_rules.specs.inner.Loaders.{module_in};
@@ -17,7 +17,7 @@ use wm_rules::Checked;
 use wm_syntax::io::Dest;
 use wm_syntax::modules::Module;
 
-/// Why a module has no bytes in memory.
+/// Why a module was not written to memory.
 #[derive(Clone, Copy, PartialEq, Eq, Debug, Error)]
 pub enum MakeFault {
     /// The contents of a section have 2^32 bytes or more.
@@ -28,7 +28,7 @@ pub enum MakeFault {
     Memory,
 }
 
-// The bytes that were written so far.
+// A writer that keeps the bytes. It fails if memory is refused.
 #[derive(Drop)]
 struct Bytes {
     bytes: Vec<u8>,
@@ -73,7 +73,8 @@ impl Dest for Bytes {
     }
 }
 
-/// The canonical binary of a module.
+/// Returns the canonical binary of a module. Core spec 5.5.15.
+/// Fails with `TooLarge` if and only if the contents of a section have 2^32 bytes or more, else with `Memory`.
 pub fn encoded(alloc: Global, m: &Module) -> Result<Vec<u8>, MakeFault>
     ensures written { IfOk result (λ b. b.items ≡ canon (value_of m.now)) }
     ensures too_large { (result ≡ Err fault.TooLarge) ↔ (¬ Fits (value_of m.now)) }
@@ -86,8 +87,9 @@ pub fn encoded(alloc: Global, m: &Module) -> Result<Vec<u8>, MakeFault>
     }
 }
 
-/// The text of a module. Thirty bytes may declare 2^32 - 1 locals, whose text has 17 GB: a policy bounds the
-/// locals of a stranger's module.
+/// Returns the text of a loaded module. Core spec 6.6.13. Fails with `Memory` only.
+/// A module of thirty bytes can declare 2^32 - 1 locals, whose text has 17 GB. Load a stranger's module under a policy
+/// that bounds its locals.
 pub fn printed(alloc: Global, checked: &Checked) -> Result<Vec<u8>, MakeFault>
     ensures written { IfOk result (λ b. b.items ≡ layout (value_of (module_in checked.now))) }
     ensures sized { result ≢ Err fault.TooLarge }

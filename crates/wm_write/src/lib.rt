@@ -1,5 +1,5 @@
-//! Writing: the canonical binary of a module, and its text. And `check`, which judges a module that was made
-//! or read as a value, by its canonical binary.
+//! Writes a module as its canonical binary or as text. `check` validates a module that was built as a value, through
+//! its canonical binary.
 #![tactic(auto)]
 
 mod batch;

@@ -1,4 +1,4 @@
-//! Modules in text (chapter 6).
+//! Prints modules in the text format (Core spec chapter 6).
 
 ghost use Rattle.std.specs.Prelude.{◌≡◌, ◌≤◌, ◌++◌, ℕ, IsTrue, OnErr, OnOk, codes, false, is_err, length};
 ghost use Rattle.std.specs.Prelude.{take};
@@ -34,13 +34,13 @@ pub enum PrintFault {
     Io,
 }
 
-/// Writes the text of a module. No memory is taken. Each instruction is one `put`, and each other word one
-/// or two, so a slow writer wants a buffer.
+/// Writes the text of a loaded module. It allocates no memory. Fails with `Io` if the writer fails.
+/// Each instruction is one `put`, and each other word one or two. A slow writer needs a buffer.
 pub fn print<W: Dest>(checked: &Checked, w: &mut W) -> Result<(), PrintFault>
     requires open { W.has_failed w.old ≡ false }
     ensures written { OnOk result (Appends (W.contents w.old) (W.contents w.new)
         (layout (value_of (module_in checked.now)))) }
-    // A beginning of it went out.
+    // A prefix of the text went out.
     ensures beginning { OnErr result ((n : ℕ) × (n ≤ length (layout (value_of (module_in checked.now))))
         × Appends (W.contents w.old) (W.contents w.new)
         (take n (layout (value_of (module_in checked.now))))) }
@@ -85,14 +85,14 @@ fn put_all_fields<W: Dest>(w: &mut W, written: &mut u64, m: &Module)
     put_each::<SegmentField, W>(w, written, &m.segments);
 }
 
-// What stands behind the fields of a module.
+// Returns the text after the fields of a module.
 fn ending(m: &Module) -> &'static [u8]
     ensures { result.now ≡ last_line (field_words (value_of m.now)) ++ codes ")\n" }
 {
     if is_empty(m) { b")\n" } else { b"\n)\n" }
 }
 
-// Whether a module has no part.
+// Whether a module has no fields.
 fn is_empty(m: &Module) -> bool
     ensures { result ≡ is_empty_module (value_of m.now) }
 {

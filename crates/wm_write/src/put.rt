@@ -1,4 +1,4 @@
-//! Bytes to a writer, and how many.
+//! Writes bytes, numbers and lists to a writer, and computes their encoded lengths.
 
 ghost use Rattle.std.specs.Prelude.{◌≡◌, List, flat_map, length, ℕ};
 ghost use Rattle.wm_write.specs.Canon.{listed, sized, u32_bytes};
@@ -8,28 +8,28 @@ use crate::encode::spell::number;
 use wm_syntax::io::{Dest, put_all};
 use wm_syntax::numbers::lengths::number_len;
 
-/// A part of a module, in one of its forms.
+/// A part of a module, written in the binary or the text format.
 pub(crate) trait Part {
     type Value;
 
-    // its bytes
+    // The bytes of a value.
     ghost bytes: { Self.Value → List ℕ };
 
-    /// Writes the bytes of a value, unless the writer has failed or fails, and adds what
-    /// went out to `written`.
+    /// Writes the bytes of a value, and adds the number of bytes that went out to `written`. Nothing more goes out once
+    /// the writer has failed.
     fn put<W: Dest>(w: &mut W, written: &mut u64, value: &Self::Value)
         ensures { Sent (bytes value.now) (W.has_failed w.old, W.contents w.old, written.old)
             (W.has_failed w.new, W.contents w.new, written.new) };
 }
 
-/// A part of a binary, whose bytes are counted without being spelled.
+/// A part of the binary format whose length is computed without encoding it.
 pub(crate) trait Counted: Part {
-    /// How many bytes a value has; 2^64 - 1 where there are more.
+    /// The encoded length of a value in bytes, at most 2^64 - 1.
     fn len(value: &Self::Value) -> u64
         ensures { result ≡ capped (length (Self.bytes value.now)) };
 }
 
-/// Writes some bytes.
+/// Writes some bytes, and adds the number that went out to `written`. Nothing goes out if the writer has failed before.
 pub(crate) fn put_bytes<W: Dest>(w: &mut W, written: &mut u64, bytes: &[u8])
     ensures { Sent bytes.now (W.has_failed w.old, W.contents w.old, written.old)
         (W.has_failed w.new, W.contents w.new, written.new) }
@@ -43,7 +43,7 @@ pub(crate) fn put_bytes<W: Dest>(w: &mut W, written: &mut u64, bytes: &[u8])
     }
 }
 
-/// Writes a number.
+/// Writes a number in the fewest bytes. Core spec 5.2.2.
 pub(crate) fn put_number<W: Dest>(w: &mut W, written: &mut u64, value: u64)
     ensures { Sent (u32_bytes value) (W.has_failed w.old, W.contents w.old, written.old)
         (W.has_failed w.new, W.contents w.new, written.new) }
@@ -51,7 +51,7 @@ pub(crate) fn put_number<W: Dest>(w: &mut W, written: &mut u64, value: u64)
     put_bytes(w, written, number(value).as_slice());
 }
 
-/// Writes each of some values.
+/// Writes values one after another.
 #[tactic(auto, using(crate::proofs::Writes::sent_none))]
 pub(crate) fn put_each<P: Part, W: Dest>(w: &mut W, written: &mut u64, values: &[P::Value])
     ensures { Sent (flat_map P.bytes values.now) (W.has_failed w.old, W.contents w.old, written.old)
@@ -62,7 +62,7 @@ pub(crate) fn put_each<P: Part, W: Dest>(w: &mut W, written: &mut u64, values: &
     }
 }
 
-/// Writes how many values there are, and then each (section 5.1.3).
+/// Writes a vector: the number of values, then each value. Core spec 5.1.3.
 #[tactic(auto, using(crate::proofs::Writes::sent_then))]
 pub(crate) fn put_list<P: Part, W: Dest>(w: &mut W, written: &mut u64, values: &[P::Value])
     ensures { Sent (listed P.bytes values.now) (W.has_failed w.old, W.contents w.old, written.old)
@@ -72,7 +72,7 @@ pub(crate) fn put_list<P: Part, W: Dest>(w: &mut W, written: &mut u64, values: &
     put_each::<P, W>(w, written, values);
 }
 
-/// Writes how many bytes there are, and then those (section 5.1.3).
+/// Writes a vector of bytes: the number of bytes, then the bytes. Core spec 5.1.3.
 #[tactic(auto, using(crate::proofs::Writes::sent_then))]
 pub(crate) fn put_sized<W: Dest>(w: &mut W, written: &mut u64, bytes: &[u8])
     ensures { Sent (sized bytes.now) (W.has_failed w.old, W.contents w.old, written.old)
@@ -82,7 +82,7 @@ pub(crate) fn put_sized<W: Dest>(w: &mut W, written: &mut u64, bytes: &[u8])
     put_bytes(w, written, bytes);
 }
 
-// How many bytes some values have together; 2^64 - 1 where there are more.
+// The total length of values in bytes, at most 2^64 - 1.
 fn each_len<P: Counted>(values: &[P::Value]) -> u64
     ensures { result ≡ capped (length (flat_map P.bytes values.now)) }
 {
@@ -93,14 +93,14 @@ fn each_len<P: Counted>(values: &[P::Value]) -> u64
     sum
 }
 
-/// How many bytes a list has; 2^64 - 1 where there are more.
+/// The length that `put_list` writes in bytes, at most 2^64 - 1.
 pub(crate) fn list_len<P: Counted>(values: &[P::Value]) -> u64
     ensures { result ≡ capped (length (listed P.bytes values.now)) }
 {
     each_len::<P>(values).saturating_add(number_len(values.len() as u64))
 }
 
-/// How many bytes some bytes have behind their number; 2^64 - 1 where there are more.
+/// The length that `put_sized` writes in bytes, at most 2^64 - 1.
 pub(crate) fn sized_len(bytes: &[u8]) -> u64
     ensures { result ≡ capped (length (sized bytes.now)) }
 {

@@ -1,4 +1,4 @@
--- Alignments whose number of bytes is printed: at most eight, as in every valid module (section 3.3.4).
+-- Alignments that can be printed as a number of bytes: at most eight, as in every valid module (Core spec 3.3.4).
 use Rattle.std.specs.Prelude.{Bool, nat_le, true}
 use Rattle.std.specs.List.{list_all}
 use Rattle.wm_syntax.specs.declared.instructions.Op.{Op}

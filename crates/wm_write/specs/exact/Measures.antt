@@ -1,4 +1,4 @@
--- How many bytes the contents of sections have.
+-- The length of each section's contents, in bytes.
 use Rattle.std.specs.Prelude.{◌≡◌, length}
 use Rattle.wm_syntax.specs.Modules.{Module}
 use Rattle.wm_write.specs.declared.encode.sizes.Sizes.{Sizes}

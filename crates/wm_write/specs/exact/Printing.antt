@@ -1,4 +1,4 @@
--- What the printer's own functions answer.
+-- Exact answers of functions of the printer.
 use Rattle.std.specs.Prelude.{ℕ, ◌+◌, ◌<◌, ◌^◌, ◌&&◌, ◌==◌, Bool, List, codes, is_none, length}
 use Rattle.wm_syntax.specs.declared.modules.ExportKind.{ExportKind}
 use Rattle.wm_syntax.specs.declared.modules.ExportKind.TheVariants as kind
@@ -7,28 +7,28 @@ use Rattle.wm_syntax.specs.declared.modules.ImportDesc.TheVariants.{Func, Table,
 use Rattle.wm_syntax.specs.Modules.{Module}
 use Rattle.wm_write.specs.declared.print.fields.Places.{Places}
 
--- one more of its kind
+-- The counts after one more import.
 abbrev pub one_more : ImportDesc → Places → Places
 one_more (Func x) p = record p { functions = p.functions + 1 }
 one_more (Table l) p = record p { tables = p.tables + 1 }
 one_more (Memory l) p = record p { memories = p.memories + 1 }
 one_more (Global g) p = record p { globals = p.globals + 1 }
 
--- there is room to count one more
+-- One more import can be counted without overflow.
 pub record IsCountable (p : Places) : Type 0 where
   pub functions : p.functions + 1 < 2 ^ 64
   pub tables : p.tables + 1 < 2 ^ 64
   pub memories : p.memories + 1 < 2 ^ 64
   pub globals : p.globals + 1 < 2 ^ 64
 
--- what stands before the number of what an export gives out
+-- The text of an export descriptor before its index.
 abbrev pub item_front : ExportKind → List ℕ
 item_front kind.Func = codes " (func $f"
 item_front kind.Table = codes " (table $tab"
 item_front kind.Memory = codes " (memory $mem"
 item_front kind.Global = codes " (global $g"
 
--- a module without any part
+-- The module has no fields.
 abbrev pub is_empty_module : Module → Bool
 is_empty_module m =
     (length m.types == 0) && (length m.imports == 0) && (length m.functions == 0) && (length m.tables == 0)

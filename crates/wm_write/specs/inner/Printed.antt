@@ -1,4 +1,4 @@
--- The token that a printed word means, and those of a list of words.
+-- The token of a printed word, and the tokens of a list of words.
 use Rattle.std.specs.Prelude.{List, map}
 use Rattle.wm_write.specs.Layout.{WordMeaning, Word, opening, closing, string, atom}
 use Rattle.wm_tokens.specs.Tokens as tok

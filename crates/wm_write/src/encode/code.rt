@@ -1,4 +1,5 @@
-//! Code entries (section 5.5.13). Each stands behind its size, so it is counted before it is written.
+//! Writes code entries (Core spec 5.5.13). The size of an entry comes first, so it is computed before the entry is
+//! written.
 
 ghost use Rattle.std.specs.Prelude.{◌≡◌, ◌+◌, ◌<◌, ◌≤◌, ◌^◌, flat_map, length};
 ghost use Rattle.wm_syntax.specs.Instructions.{ops_of};
@@ -16,10 +17,10 @@ use wm_syntax::modules::body::Body;
 use wm_syntax::modules::locals::Locals;
 use wm_syntax::numbers::lengths::number_len;
 
-// The most bytes that an op has: an access, whose two numbers have five each.
+// The length of the longest op, in bytes: an access with two numbers of five bytes.
 const LONGEST_OP: usize = 11;
 
-/// What stands behind the size of a code entry: the locals and the body.
+/// The contents of a code entry after its size: the locals and the body.
 struct CodeContents;
 
 #[tactic(auto, using(crate::proofs::Writes::sent_then))]
@@ -58,7 +59,7 @@ fn put_runs<W: Dest>(w: &mut W, written: &mut u64, locals: &Locals)
     }
 }
 
-// Writes ops, as many at a time as a batch has room for.
+// Writes ops in batches.
 fn put_ops<W: Dest>(w: &mut W, written: &mut u64, ops: &[Op])
     ensures { Sent (ops_bytes ops.now) (W.has_failed w.old, W.contents w.old, written.old)
         (W.has_failed w.new, W.contents w.new, written.new) }
@@ -71,7 +72,7 @@ fn put_ops<W: Dest>(w: &mut W, written: &mut u64, ops: &[Op])
     put_bytes(w, written, batch.as_slice());
 }
 
-// Writes a batch that may have no room for one more op, and empties it.
+// Writes the batch and empties it, if it may have no room for one more op.
 #[inline(always)]
 fn put_full<W: Dest>(w: &mut W, written: &mut u64, batch: &mut Batch)
     ensures room { length batch.new + 11 ≤ 64 }
@@ -84,14 +85,14 @@ fn put_full<W: Dest>(w: &mut W, written: &mut u64, batch: &mut Batch)
     }
 }
 
-// How many bytes the ops of a body have; 2^64 - 1 where there are more. They were counted while it was built.
+// The encoded length of a body's ops in bytes, at most 2^64 - 1. It was counted while the body was built.
 fn ops_len(body: &Body) -> u64
     ensures { result ≡ capped (length (ops_bytes (ops_of body.now))) }
 {
     body.encoded_len()
 }
 
-// How many bytes the locals have, by their maximal runs of one type; 2^64 - 1 where there are more.
+// The encoded length of locals in maximal runs of one type: in bytes, at most 2^64 - 1.
 fn runs_len(locals: &Locals) -> u64
     ensures { result ≡ capped (length (listed run_bytes (runs_of locals.now))) }
 {
@@ -103,7 +104,7 @@ fn runs_len(locals: &Locals) -> u64
     sum
 }
 
-/// How many bytes the contents of the code section have; 2^64 - 1 where there are more.
+/// The length of the code section's contents in bytes, at most 2^64 - 1.
 pub(crate) fn codes_len(functions: &[Function]) -> u64
     ensures { result ≡ capped (length (listed code_bytes functions.now)) }
 {
@@ -114,7 +115,7 @@ pub(crate) fn codes_len(functions: &[Function]) -> u64
     sum
 }
 
-// How many bytes a code entry has; 2^64 - 1 where there are more.
+// The encoded length of a code entry with its size, in bytes, at most 2^64 - 1.
 fn code_len(function: &Function) -> u64
     ensures { result ≡ capped (length (code_bytes function.now)) }
 {
@@ -134,7 +135,7 @@ pub(crate) fn put_codes<W: Dest>(w: &mut W, written: &mut u64, functions: &[Func
     }
 }
 
-// Writes a code entry.
+// Writes a code entry: its size and its contents.
 fn put_code<W: Dest>(w: &mut W, written: &mut u64, function: &Function)
     requires { length (code_contents function.now) < 2 ^ 32 }
     ensures { Sent (code_bytes function.now) (W.has_failed w.old, W.contents w.old, written.old)

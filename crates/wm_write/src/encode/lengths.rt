@@ -1,4 +1,4 @@
-//! How many bytes constants and types have, without spelling them.
+//! Computes encoded lengths of constants, limits and import descriptors without encoding them.
 
 ghost use Rattle.std.specs.Prelude.{◌≡◌, ◌≤◌, length};
 ghost use Rattle.wm_write.specs.Canon.{constant_bytes, desc_bytes, limits_bytes};
@@ -7,7 +7,7 @@ use wm_syntax::modules::ImportDesc;
 use wm_syntax::numbers::lengths::{number_len, signed_len};
 use wm_syntax::types::{Const, Limits};
 
-/// How many bytes a constant expression has (section 5.4.6).
+/// The encoded length of a constant expression, in bytes. Core spec 5.4.6.
 pub(crate) fn constant_len(value: Const) -> u64
     ensures value { result ≡ length (constant_bytes value) }
     ensures short { result ≤ 12 }
@@ -21,7 +21,7 @@ pub(crate) fn constant_len(value: Const) -> u64
     }
 }
 
-/// How many bytes limits have (section 5.3.4).
+/// The encoded length of limits, in bytes. Core spec 5.3.4.
 pub(crate) fn limits_len(limits: Limits) -> u64
     ensures value { result ≡ length (limits_bytes limits) }
     ensures short { result ≤ 11 }
@@ -32,7 +32,7 @@ pub(crate) fn limits_len(limits: Limits) -> u64
     }
 }
 
-/// How many bytes there are of what an import brings in (section 5.5.5).
+/// The encoded length of an import descriptor, in bytes. Core spec 5.5.5.
 pub(crate) fn desc_len(desc: ImportDesc) -> u64
     ensures { result ≡ length (desc_bytes desc) }
 {

@@ -1,4 +1,4 @@
-//! The parts of a module in bytes (section 5.5).
+//! Encodes the members of sections (Core spec 5.5).
 
 use crate::batch::Batch;
 use crate::encode::lengths::{constant_len, desc_len, limits_len};
@@ -13,7 +13,7 @@ use wm_syntax::modules::{Element, Export, Function, GlobalDef, Import, Segment};
 use wm_syntax::numbers::lengths::number_len;
 use wm_syntax::types::{Const, FuncType, Limits, ValType};
 
-/// A value type (section 5.3.1).
+/// A value type. Core spec 5.3.1.
 struct ValueType;
 
 impl Part for ValueType {
@@ -34,7 +34,7 @@ impl Counted for ValueType {
     }
 }
 
-/// An index (section 5.5.1).
+/// An index. Core spec 5.5.1.
 struct Index;
 
 impl Part for Index {
@@ -55,7 +55,7 @@ impl Counted for Index {
     }
 }
 
-/// A constant expression (section 5.4.6).
+/// A constant expression. Core spec 5.4.6.
 struct ConstantExpression;
 
 #[tactic(auto, using(crate::proofs::Writes::sent_then))]
@@ -80,7 +80,7 @@ impl Counted for ConstantExpression {
     }
 }
 
-/// A function type (section 5.3.3).
+/// A function type. Core spec 5.3.3.
 pub(crate) struct TypeEntry;
 
 #[tactic(auto, using(crate::proofs::Writes::sent_byte, crate::proofs::Writes::sent_then))]
@@ -106,7 +106,7 @@ impl Counted for TypeEntry {
     }
 }
 
-/// An import (section 5.5.5).
+/// An import. Core spec 5.5.5.
 pub(crate) struct ImportEntry;
 
 #[tactic(auto, using(crate::proofs::Writes::sent_then))]
@@ -132,7 +132,7 @@ impl Counted for ImportEntry {
     }
 }
 
-/// A function in the function section (section 5.5.6).
+/// A function in the function section: the index of its type. Core spec 5.5.6.
 pub(crate) struct FunctionEntry;
 
 impl Part for FunctionEntry {
@@ -153,7 +153,7 @@ impl Counted for FunctionEntry {
     }
 }
 
-/// A table (section 5.5.7).
+/// A table. Core spec 5.5.7.
 pub(crate) struct TableEntry;
 
 impl Part for TableEntry {
@@ -176,7 +176,7 @@ impl Counted for TableEntry {
     }
 }
 
-/// A memory (section 5.5.8).
+/// A memory. Core spec 5.5.8.
 pub(crate) struct MemoryEntry;
 
 impl Part for MemoryEntry {
@@ -199,7 +199,7 @@ impl Counted for MemoryEntry {
     }
 }
 
-/// A global (section 5.5.9).
+/// A global. Core spec 5.5.9.
 pub(crate) struct GlobalEntry;
 
 #[tactic(auto, using(crate::proofs::Writes::sent_then))]
@@ -224,7 +224,7 @@ impl Counted for GlobalEntry {
     }
 }
 
-/// An export (section 5.5.10).
+/// An export. Core spec 5.5.10.
 pub(crate) struct ExportEntry;
 
 #[tactic(auto, using(crate::proofs::Writes::sent_then))]
@@ -247,7 +247,7 @@ impl Counted for ExportEntry {
     }
 }
 
-/// An element segment (section 5.5.12).
+/// An element segment. Core spec 5.5.12.
 pub(crate) struct ElementEntry;
 
 #[tactic(auto, using(crate::proofs::Writes::sent_then))]
@@ -273,7 +273,7 @@ impl Counted for ElementEntry {
     }
 }
 
-/// A data segment (section 5.5.14).
+/// A data segment. Core spec 5.5.14.
 pub(crate) struct SegmentEntry;
 
 #[tactic(auto, using(crate::proofs::Writes::sent_then))]

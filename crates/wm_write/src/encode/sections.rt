@@ -1,4 +1,4 @@
-//! Sections (section 5.5.2).
+//! Writes sections (Core spec 5.5.2).
 
 ghost use Rattle.std.specs.Prelude.{◌≡◌, ◌<◌, ◌^◌, ◌∷◌, length};
 ghost use Rattle.wm_write.specs.Canon.{code_bytes, list_section, listed, start_section, u32_bytes};
@@ -10,7 +10,7 @@ use crate::put::{Part, put_bytes, put_list};
 use wm_syntax::io::Dest;
 use wm_syntax::modules::Function;
 
-/// Writes the section of a list, unless that is empty.
+/// Writes the section of a list, unless the list is empty. `size` is the length of its contents, in bytes.
 pub(crate) fn put_section<P: Part, W: Dest>(
     w: &mut W,
     written: &mut u64,
@@ -29,7 +29,7 @@ pub(crate) fn put_section<P: Part, W: Dest>(
     put_list::<P, W>(w, written, values);
 }
 
-/// Writes the code section (section 5.5.13), unless there are no functions.
+/// Writes the code section, unless there are no functions. Core spec 5.5.13.
 pub(crate) fn put_code_section<W: Dest>(
     w: &mut W,
     written: &mut u64,
@@ -49,7 +49,7 @@ pub(crate) fn put_code_section<W: Dest>(
     put_codes(w, written, functions);
 }
 
-/// Writes the start section (section 5.5.11), unless there is no start function.
+/// Writes the start section, unless there is no start function. Core spec 5.5.11.
 pub(crate) fn put_start_section<W: Dest>(w: &mut W, written: &mut u64, start: Option<u32>)
     ensures { Sent (start_section start) (W.has_failed w.old, W.contents w.old, written.old)
         (W.has_failed w.new, W.contents w.new, written.new) }
@@ -62,7 +62,7 @@ pub(crate) fn put_start_section<W: Dest>(w: &mut W, written: &mut u64, start: Op
     put_bytes(w, written, index.as_slice());
 }
 
-// Writes what stands before the contents of a section.
+// Writes a section header: the id and the size of the contents.
 fn put_head<W: Dest>(w: &mut W, written: &mut u64, id: u8, size: u64)
     ensures { Sent (id ∷ u32_bytes size) (W.has_failed w.old, W.contents w.old, written.old)
         (W.has_failed w.new, W.contents w.new, written.new) }

@@ -1,4 +1,4 @@
-//! The sizes of sections (section 5.5.2).
+//! Computes the sizes of sections (Core spec 5.5.2).
 
 ghost use Rattle.std.specs.Prelude.{◌<◌, ◌^◌, ◌↔◌, IfSome, IsSome, IsTrue};
 ghost use Rattle.wm_syntax.specs.Values.{value_of};
@@ -12,7 +12,7 @@ use crate::encode::parts::{
 use crate::put::list_len;
 use wm_syntax::modules::Module;
 
-/// How many bytes the contents of each section have.
+/// The length of each section's contents, in bytes.
 #[derive(Drop)]
 pub(crate) struct Sizes {
     pub(crate) types: u64,
@@ -30,7 +30,7 @@ pub(crate) struct Sizes {
 impl Sizes {
     ghost use Rattle.wm_write.specs.exact.Measures.{Measures};
 
-    /// The sizes of a module's sections, None where one cannot be spelled.
+    /// Returns the sizes of a module's sections. `None` if and only if one is 2^32 or more.
     pub(crate) fn of(m: &Module) -> Option<Self>
         ensures fits { IsSome result ↔ Fits (value_of m.now) }
         ensures measured { IfSome result (λ s. Measures s (value_of m.now)) }
@@ -50,7 +50,7 @@ impl Sizes {
         if sizes.fit() { Some(sizes) } else { None }
     }
 
-    // Whether each of them can be spelled (section 5.5.2).
+    // Whether each size is below 2^32.
     fn fit(&self) -> bool
         ensures { IsTrue result ↔ ((self.now.types < 2 ^ 32) × (self.now.imports < 2 ^ 32)
             × (self.now.functions < 2 ^ 32)
@@ -71,7 +71,7 @@ impl Sizes {
     }
 }
 
-// Whether a size can be spelled (section 5.5.2).
+// Whether a size is below 2^32, since it is written as a `u32`. Core spec 5.5.2.
 fn fits(size: u64) -> bool
     ensures { IsTrue result ↔ (size < 2 ^ 32) }
 {

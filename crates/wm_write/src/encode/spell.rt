@@ -1,4 +1,4 @@
-//! Instructions in bytes, by the shortest numbers (section 5.4).
+//! Encodes instructions (Core spec 5.4) and types (Core spec 5.3), with the shortest numbers.
 
 ghost use Rattle.std.specs.Prelude.{◌≡◌, ◌++◌, ◌∷◌, [], length, ◌≤◌, ◌+◌, pos};
 ghost use Rattle.wm_write.specs.Canon.{desc_bytes, global_type_bytes, limits_bytes, immediates};
@@ -17,7 +17,7 @@ use wm_syntax::instructions::{Op, Simple};
 use wm_syntax::modules::{ExportKind, ImportDesc};
 use wm_syntax::types::{Const, GlobalType, Limits, ValType};
 
-/// The byte of a value type (section 5.3.1).
+/// Returns the byte of a value type. Core spec 5.3.1.
 pub(crate) fn value_byte(ty: ValType) -> u8
     ensures { result ≡ type_byte ty }
 {
@@ -38,7 +38,7 @@ fn block_byte(ty: Option<ValType>) -> u8
     }
 }
 
-/// One byte.
+/// Returns a chunk of one byte.
 pub(crate) fn one(byte: u8) -> Chunk
     ensures { result ≡ byte ∷ [] }
 {
@@ -55,7 +55,7 @@ fn two(first: u8, second: u8) -> Chunk
     chunk
 }
 
-/// A number.
+/// Returns a number in the fewest bytes, at most five. Core spec 5.2.2.
 pub(crate) fn number(value: u64) -> Chunk
     ensures { result ≡ u32_bytes value }
 {
@@ -73,7 +73,7 @@ fn with_number(byte: u8, value: u32) -> Chunk
     chunk
 }
 
-// Adds a number.
+// Appends a number in the fewest bytes.
 #[inline(always)]
 fn push_number(batch: &mut Batch, value: u32)
     requires { length batch.old + 5 ≤ 64 }
@@ -87,7 +87,7 @@ fn push_number(batch: &mut Batch, value: u32)
     }
 }
 
-// The same, out of line.
+// The slow path of `push_number`, for any number.
 #[inline(never)]
 fn push_long_number(batch: &mut Batch, value: u32)
     requires { length batch.old + 5 ≤ 64 }
@@ -97,7 +97,7 @@ fn push_long_number(batch: &mut Batch, value: u32)
     batch.push(number(u64::from(value)).as_slice());
 }
 
-// Adds a signed number, spelled in at most so many bytes.
+// Appends a signed number in the fewest bytes, at most `most`.
 fn push_signed(batch: &mut Batch, value: i64, most: usize)
     requires most { most ≤ 10 }
     requires room { length batch.old + most ≤ 64 }
@@ -109,7 +109,7 @@ fn push_signed(batch: &mut Batch, value: i64, most: usize)
     batch.push(chunk.as_slice());
 }
 
-// Adds the bits of a float, lowest byte first, in so many bytes (section 5.2.3).
+// Appends the bits of a float in `width` bytes, lowest byte first. Core spec 5.2.3.
 fn push_float(batch: &mut Batch, bits: u64, width: usize)
     requires { length batch.old + width ≤ 64 }
     ensures text { batch.new ≡ batch.old ++ float_bytes width bits }
@@ -122,7 +122,7 @@ fn push_float(batch: &mut Batch, bits: u64, width: usize)
     }
 }
 
-// Adds a byte and a number; both at once where the number has one byte.
+// Appends a byte and a number. A number of one byte takes a fast path.
 #[inline(always)]
 fn push_indexed(batch: &mut Batch, byte: u8, index: u32)
     requires { length batch.old + 11 ≤ 64 }
@@ -137,7 +137,7 @@ fn push_indexed(batch: &mut Batch, byte: u8, index: u32)
     }
 }
 
-// Adds an i32.const that is not negative; both bytes at once where the number has one byte.
+// Appends an `i32.const` that is not negative. A number of one byte takes a fast path.
 #[inline(always)]
 fn push_positive_const(batch: &mut Batch, value: u32)
     requires { length batch.old + 11 ≤ 64 }
@@ -152,7 +152,6 @@ fn push_positive_const(batch: &mut Batch, value: u32)
     }
 }
 
-// Adds an i32.const.
 #[inline(always)]
 fn push_i32_const(batch: &mut Batch, value: i32)
     requires { length batch.old + 11 ≤ 64 }
@@ -167,7 +166,7 @@ fn push_i32_const(batch: &mut Batch, value: i32)
     }
 }
 
-// Adds what stands behind the first byte of an instruction, at most ten bytes.
+// Appends the immediates of an instruction, which follow its first byte. They are at most ten bytes.
 fn push_immediates(batch: &mut Batch, simple: Simple)
     requires { length batch.old + 10 ≤ 64 }
     ensures text { batch.new ≡ batch.old ++ immediates simple }
@@ -199,7 +198,7 @@ fn push_immediates(batch: &mut Batch, simple: Simple)
     }
 }
 
-/// The instruction of a constant expression (section 3.3.7).
+/// Returns the instruction of a constant expression. Core spec 3.3.7.
 pub(crate) fn instruction_of(value: Const) -> Simple
     ensures { result ≡ constant value }
 {
@@ -212,7 +211,7 @@ pub(crate) fn instruction_of(value: Const) -> Simple
     }
 }
 
-// Adds a block's first byte and its type (section 5.3.2).
+// Appends the first byte of a block and its result type. Core spec 5.3.2.
 fn push_block(batch: &mut Batch, byte: u8, ty: Option<ValType>)
     requires { length batch.old + 2 ≤ 64 }
     ensures text { batch.new ≡ batch.old ++ byte ∷ block_byte ty ∷ [] }
@@ -222,7 +221,7 @@ fn push_block(batch: &mut Batch, byte: u8, ty: Option<ValType>)
     batch.push_byte(block_byte(ty));
 }
 
-// Adds any instruction.
+// The slow path of `push_simple`, for any instruction.
 #[inline(never)]
 fn push_rare(batch: &mut Batch, simple: Simple)
     requires { length batch.old + 11 ≤ 64 }
@@ -233,7 +232,7 @@ fn push_rare(batch: &mut Batch, simple: Simple)
     push_immediates(batch, simple);
 }
 
-// Adds an instruction. Common ones go a way of their own.
+// Appends an instruction. Common ones take fast paths.
 #[inline(always)]
 fn push_simple(batch: &mut Batch, simple: &Simple)
     requires { length batch.old + 11 ≤ 64 }
@@ -260,8 +259,8 @@ fn push_simple(batch: &mut Batch, simple: &Simple)
     }
 }
 
-/// Adds an op, at most eleven bytes. It is lent: a copy would go through memory. Most ops are simple
-/// instructions.
+/// Appends an op, at most eleven bytes. Core spec 5.4. The op is borrowed, since a copy would go through memory. Most
+/// ops are simple instructions.
 #[inline(always)]
 pub(crate) fn push_op(batch: &mut Batch, op: &Op)
     requires { length batch.old + 11 ≤ 64 }
@@ -274,7 +273,7 @@ pub(crate) fn push_op(batch: &mut Batch, op: &Op)
     }
 }
 
-// The same of any op, out of line.
+// The slow path of `push_op`, for any op.
 #[inline(never)]
 fn push_any_op(batch: &mut Batch, op: &Op)
     requires { length batch.old + 11 ≤ 64 }
@@ -296,7 +295,7 @@ fn push_any_op(batch: &mut Batch, op: &Op)
     }
 }
 
-/// Limits (section 5.3.4), at most eleven bytes.
+/// Appends limits, at most eleven bytes. Core spec 5.3.4.
 pub(crate) fn push_limits(chunk: &mut Chunk, limits: Limits)
     requires { length chunk.old + 11 ≤ 16 }
     ensures { chunk.new ≡ chunk.old ++ limits_bytes limits }
@@ -314,7 +313,7 @@ pub(crate) fn push_limits(chunk: &mut Chunk, limits: Limits)
     }
 }
 
-/// A global type (section 5.3.7).
+/// Appends a global type. Core spec 5.3.7.
 pub(crate) fn push_global_type(chunk: &mut Chunk, ty: GlobalType)
     requires { length chunk.old + 2 ≤ 16 }
     ensures { chunk.new ≡ chunk.old ++ global_type_bytes ty }
@@ -323,7 +322,7 @@ pub(crate) fn push_global_type(chunk: &mut Chunk, ty: GlobalType)
     chunk.push(if ty.var { 0x01 } else { 0x00 });
 }
 
-/// What an import brings in (section 5.5.5).
+/// Returns the bytes of an import descriptor. Core spec 5.5.5.
 pub(crate) fn spell_desc(desc: ImportDesc) -> Chunk
     ensures { result ≡ desc_bytes desc }
 {
@@ -358,14 +357,14 @@ fn kind_byte(kind: ExportKind) -> u8
     }
 }
 
-/// What an export gives out (section 5.5.10).
+/// Returns the bytes of an export descriptor. Core spec 5.5.10.
 pub(crate) fn spell_item(kind: ExportKind, index: u32) -> Chunk
     ensures { result ≡ kind_byte kind ∷ u32_bytes index }
 {
     with_number(kind_byte(kind), index)
 }
 
-/// A run of locals of one type (section 5.5.13).
+/// Returns the bytes of a run of locals of one type. Core spec 5.5.13.
 pub(crate) fn spell_run(count: u32, ty: ValType) -> Chunk
     ensures { result ≡ u32_bytes count ++ type_byte ty ∷ [] }
 {

@@ -1,4 +1,4 @@
-//! Instructions in text, one a line (section 6.5).
+//! Prints locals and instructions, an instruction on each line (Core spec 6.5).
 
 ghost use Rattle.std.specs.Prelude.{◌≡◌, ◌+◌, ◌^◌, ◌≤◌, ◌++◌, IsTrue, Some, codes, length, map};
 ghost use Rattle.std.specs.List.{list_all};
@@ -26,7 +26,7 @@ use wm_syntax::io::Dest;
 use wm_syntax::modules::locals::Locals;
 use wm_syntax::types::{Const, ValType};
 
-// The number of bytes of an alignment.
+// Returns an alignment in bytes, given its exponent.
 fn power(align: u32) -> u32
     requires { align ≤ 3 }
     ensures { result ≡ 2 ^ align }
@@ -39,7 +39,7 @@ fn power(align: u32) -> u32
     }
 }
 
-// Adds a part of a memory argument, unless it has its usual value.
+// Appends a part of a memory argument, unless it has its default value.
 fn push_key(line: &mut Batch, key: &[u8], usual: u32, n: u32)
     requires { length line.old + (length key.now + 11) ≤ 64 }
     ensures text { line.new ≡ line.old ++ words_text (key_words key.now usual n) }
@@ -52,7 +52,7 @@ fn push_key(line: &mut Batch, key: &[u8], usual: u32, n: u32)
     line.push_counted(key, n);
 }
 
-// Adds the memory argument of an access of this width.
+// Appends the memory argument of an access of `width` bytes.
 fn push_access(line: &mut Batch, width: u32, at: MemArg)
     requires usual { at.align ≤ 3 }
     requires room { length line.old + 36 ≤ 64 }
@@ -62,7 +62,7 @@ fn push_access(line: &mut Batch, width: u32, at: MemArg)
     push_key(line, b"align=", width, power(at.align));
 }
 
-// The byte that begins an op; a label has none of its own.
+// Returns the first byte of an op. A label has none.
 #[inline(always)]
 fn op_byte(op: &Op) -> Option<u8>
     ensures { result ≡ first_byte op.now }
@@ -79,7 +79,7 @@ fn op_byte(op: &Op) -> Option<u8>
     }
 }
 
-// The name of what this byte begins.
+// Returns the name of the op that begins with this byte, at most 19 bytes.
 fn name(byte: u8) -> &'static [u8]
     ensures named { (op : Op) → first_byte op ≡ Some byte → op_name op ≡ Some result.now }
     ensures short { length result.now ≤ 19 }
@@ -87,7 +87,7 @@ fn name(byte: u8) -> &'static [u8]
     name_of(byte)
 }
 
-// Adds the name of an op on a line of its own, at most 24 bytes, unless it is a label.
+// Appends the name of an op on a new line, at most 24 bytes. A label has no name.
 #[inline(always)]
 fn push_name(line: &mut Batch, op: &Op)
     requires { length line.old + 24 ≤ 64 }
@@ -100,7 +100,7 @@ fn push_name(line: &mut Batch, op: &Op)
     }
 }
 
-// Adds what stands behind the name of an instruction. It is lent: a copy would go through memory.
+// Appends the operands of an instruction. It is borrowed, since a copy would go through memory.
 #[inline(always)]
 fn push_immediates(line: &mut Batch, simple: &Simple)
     requires usual { IsTrue (is_simple_printable simple.now) }
@@ -133,7 +133,7 @@ fn push_immediates(line: &mut Batch, simple: &Simple)
     }
 }
 
-// Adds the type of a block.
+// Appends the result type of a block.
 fn push_block_type(line: &mut Batch, ty: Option<ValType>)
     requires { length line.old + 36 ≤ 64 }
     ensures { line.new ≡ line.old ++ words_text (result_words ty) }
@@ -148,7 +148,7 @@ fn push_block_type(line: &mut Batch, ty: Option<ValType>)
     }
 }
 
-// Adds what stands behind the name of an op, at most 36 bytes.
+// Appends the operands of an op, at most 36 bytes.
 #[inline(always)]
 fn push_operands(line: &mut Batch, op: &Op)
     requires usual { IsTrue (is_printable op.now) }
@@ -163,9 +163,8 @@ fn push_operands(line: &mut Batch, op: &Op)
     }
 }
 
-// Adds an op, at most 60 bytes: an instruction on a line of its own, or a label. The name of each of the most
-// common ones is copied with what stands around it, once it is known which op it is; of all others it is
-// looked up.
+// Appends an op, at most 60 bytes: an instruction on a new line, or a label. The most common ops take a fast path, with
+// the name and the text around it as one constant. The names of all others are looked up.
 #[inline(always)]
 fn push_line(line: &mut Batch, op: &Op)
     requires usual { IsTrue (is_printable op.now) }
@@ -181,7 +180,7 @@ fn push_line(line: &mut Batch, op: &Op)
     }
 }
 
-// The same of an instruction that holds no other.
+// `push_line` for an instruction without a nested list.
 #[inline(always)]
 fn push_instruction(line: &mut Batch, op: &Op, simple: &Simple)
     requires simple { op.now ≡ Op.Simple simple.now }
@@ -211,7 +210,7 @@ fn push_instruction(line: &mut Batch, op: &Op, simple: &Simple)
     }
 }
 
-// The same of any op.
+// The slow path of `push_line`, for any op.
 #[inline(always)]
 fn push_any_line(line: &mut Batch, op: &Op)
     requires usual { IsTrue (is_printable op.now) }
@@ -245,7 +244,7 @@ pub(crate) fn put_body<W: Dest>(w: &mut W, written: &mut u64, ops: &[Op])
     }
 }
 
-/// Writes the line of the locals, unless there are none.
+/// Writes the locals on a line, unless there are none.
 pub(crate) fn put_locals<W: Dest>(w: &mut W, written: &mut u64, locals: &Locals)
     ensures { Sent (words_text (types_words body_line (codes "local") locals.now))
         (W.has_failed w.old, W.contents w.old, written.old)
@@ -259,7 +258,7 @@ pub(crate) fn put_locals<W: Dest>(w: &mut W, written: &mut u64, locals: &Locals)
     put_bytes(w, written, b")");
 }
 
-// Writes the type of each local, however many there are, by their runs of one type.
+// Writes the type of each local, run by run.
 fn put_local_types<W: Dest>(w: &mut W, written: &mut u64, locals: &Locals)
     ensures { Sent (words_text (map type_word (locals_of (runs_of locals.now))))
         (W.has_failed w.old, W.contents w.old, written.old)

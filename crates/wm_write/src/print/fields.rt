@@ -1,4 +1,4 @@
-//! Fields of a printed module, a line each (section 6.6).
+//! Prints the fields of a module, each on a new line (Core spec 6.6).
 
 ghost use Rattle.std.specs.Prelude.{◌≡◌, ℕ, Bool, IsTrue, List, [], flat_map};
 ghost use Rattle.std.specs.List.{enumerate_from, list_all};
@@ -18,17 +18,17 @@ use wm_syntax::modules::{
 };
 use wm_syntax::types::{Const, FuncType, Limits};
 
-/// A kind of field that is named by the place of what it defines.
+/// A kind of field that defines an item, whose identifier is made of its index.
 pub(crate) trait Field {
     type Value;
 
-    // its words at a place
+    // The words of the field for an index and a value.
     ghost words: { ℕ × Self.Value → List Word };
 
-    // whether it can be printed
+    // Whether a value can be printed.
     ghost is_printable: { Self.Value → Bool };
 
-    /// Writes the field of a value at a place, unless the writer has failed or fails.
+    /// Writes the field of a value with this index. Nothing more goes out once the writer has failed.
     fn put<W: Dest>(w: &mut W, written: &mut u64, place: u128, value: &Self::Value)
         requires { IsTrue (is_printable value.now) }
         ensures { Sent (words_text (words (place, value.now)))
@@ -36,7 +36,7 @@ pub(crate) trait Field {
             (W.has_failed w.new, W.contents w.new, written.new) };
 }
 
-/// Writes a field for each value, from this place on.
+/// Writes a field for each value, with indices from `first` on.
 pub(crate) fn put_fields<F: Field, W: Dest>(
     w: &mut W,
     written: &mut u64,
@@ -48,7 +48,7 @@ pub(crate) fn put_fields<F: Field, W: Dest>(
         (W.has_failed w.old, W.contents w.old, written.old)
         (W.has_failed w.new, W.contents w.new, written.new) }
 {
-    // two lengths may add up to more than a u64 holds
+    // A u128, since the sum of two lengths may exceed a u64.
     let mut place = u128::from(first);
     for value in values {
         F::put(w, written, place, value);
@@ -162,7 +162,7 @@ impl Field for GlobalField {
     }
 }
 
-/// How many imports of each kind there are.
+/// The number of imports of each kind.
 #[derive(Clone, Copy)]
 pub(crate) struct Places {
     pub(crate) functions: u64,
@@ -185,7 +185,7 @@ impl Places {
         }
     }
 
-    // Counts one more of its kind.
+    // Counts an import.
     fn count(&mut self, desc: ImportDesc)
         requires { IsCountable self.old }
         ensures { self.new ≡ one_more desc self.old }
@@ -199,7 +199,7 @@ impl Places {
     }
 }
 
-/// Writes the imports, and answers how many there are of each kind.
+/// Writes the imports, and returns the number of each kind.
 pub(crate) fn put_imports<W: Dest>(w: &mut W, written: &mut u64, imports: &[Import]) -> Places
     ensures sent { Sent (words_text (import_fields [] imports.now))
         (W.has_failed w.old, W.contents w.old, written.old)
@@ -214,7 +214,7 @@ pub(crate) fn put_imports<W: Dest>(w: &mut W, written: &mut u64, imports: &[Impo
     before
 }
 
-// Writes an import, before which there are so many of each kind.
+// Writes an import, given the number of earlier ones of each kind.
 fn put_import<W: Dest>(w: &mut W, written: &mut u64, before: Places, import: &Import)
     ensures { Sent (words_text (import_field before import.now))
         (W.has_failed w.old, W.contents w.old, written.old)
@@ -227,7 +227,7 @@ fn put_import<W: Dest>(w: &mut W, written: &mut u64, before: Places, import: &Im
     put_bytes(w, written, b")");
 }
 
-// Writes what an import brings in.
+// Writes an import descriptor.
 fn put_desc<W: Dest>(w: &mut W, written: &mut u64, before: Places, desc: ImportDesc)
     ensures { Sent (words_text (desc_words before desc)) (W.has_failed w.old, W.contents w.old, written.old)
         (W.has_failed w.new, W.contents w.new, written.new) }
@@ -285,7 +285,7 @@ fn item_front(kind: ExportKind) -> &'static [u8]
     }
 }
 
-// Writes what an export gives out.
+// Writes an export descriptor.
 fn put_item<W: Dest>(w: &mut W, written: &mut u64, kind: ExportKind, index: u32)
     ensures { Sent (words_text (item_words kind index)) (W.has_failed w.old, W.contents w.old, written.old)
         (W.has_failed w.new, W.contents w.new, written.new) }
@@ -294,7 +294,7 @@ fn put_item<W: Dest>(w: &mut W, written: &mut u64, kind: ExportKind, index: u32)
     put_bytes(w, written, b")");
 }
 
-/// Writes the start function, where there is one.
+/// Writes the start field, if there is a start function.
 pub(crate) fn put_start<W: Dest>(w: &mut W, written: &mut u64, start: Option<u32>)
     ensures { Sent (words_text (start_field start)) (W.has_failed w.old, W.contents w.old, written.old)
         (W.has_failed w.new, W.contents w.new, written.new) }
@@ -306,7 +306,7 @@ pub(crate) fn put_start<W: Dest>(w: &mut W, written: &mut u64, start: Option<u32
     put_bytes(w, written, b")");
 }
 
-// Writes where in a table or a memory a segment begins.
+// Writes the offset of a segment in its table or memory.
 fn put_offset<W: Dest>(w: &mut W, written: &mut u64, offset: Const)
     ensures { Sent (words_text (offset_words offset)) (W.has_failed w.old, W.contents w.old, written.old)
         (W.has_failed w.new, W.contents w.new, written.new) }
@@ -316,7 +316,7 @@ fn put_offset<W: Dest>(w: &mut W, written: &mut u64, offset: Const)
     put_bytes(w, written, b")");
 }
 
-/// A function of an element segment.
+/// The identifier of a function in an element segment.
 struct FunctionName;
 
 impl Part for FunctionName {

@@ -1,4 +1,4 @@
-//! Floats in text, by their bits: hexadecimal, so that the text is exact (section 6.3.2).
+//! Prints floats from their bits. The text is hexadecimal, and therefore exact (Core spec 6.3.2).
 
 ghost use Rattle.std.specs.Prelude.{◌≡◌, ◌+◌, ◌<◌, ◌≤◌, ◌^◌, [], ◌∷◌, ◌++◌, codes, decimal, length};
 ghost use Rattle.wm_syntax.specs.declared.instructions.FloatType.TheVariants as float;
@@ -9,13 +9,13 @@ ghost use Rattle.wm_write.specs.Layout.{spaced, words_text};
 use crate::batch::Batch;
 use crate::print::words::hex_digit;
 
-// How many hexadecimal digits a fraction has at most.
+// The most hexadecimal digits of a fraction.
 const DIGITS: usize = 13;
 
-// What the first of them counts: 16^12.
+// The weight of the first of these digits: 16^12.
 const PLACE: u64 = 0x1_0000_0000_0000;
 
-/// Adds an f32 behind a space.
+/// Appends a space and an f32.
 pub(crate) fn push_f32(line: &mut Batch, bits: u64)
     requires { length line.old + 36 ≤ 64 }
     ensures { line.new ≡ line.old ++ words_text (spaced (float_text float.F32 bits) ∷ []) }
@@ -30,7 +30,7 @@ pub(crate) fn push_f32(line: &mut Batch, bits: u64)
     }
 }
 
-/// Adds an f64 behind a space.
+/// Appends a space and an f64.
 pub(crate) fn push_f64(line: &mut Batch, bits: u64)
     requires { length line.old + 36 ≤ 64 }
     ensures { line.new ≡ line.old ++ words_text (spaced (float_text float.F64 bits) ∷ []) }
@@ -45,7 +45,7 @@ pub(crate) fn push_f64(line: &mut Batch, bits: u64)
     }
 }
 
-// A space, and a minus where the sign's bit is set.
+// Returns a space, with a minus if the sign bit is set. `half` is the weight of that bit.
 fn front(bits: u64, half: u64) -> &'static [u8]
     ensures text { result.now ≡ 32 ∷ sign_text half bits }
     ensures short { length result.now ≤ 2 }
@@ -53,7 +53,7 @@ fn front(bits: u64, half: u64) -> &'static [u8]
     if bits < half { b" " } else { b" -" }
 }
 
-// Adds an infinity, or a NaN by its payload.
+// Appends an infinity, or a NaN with its payload.
 fn push_special(line: &mut Batch, payload: u64)
     requires { length line.old + 22 ≤ 64 }
     ensures { line.new ≡ line.old ++ special_text payload }
@@ -65,7 +65,7 @@ fn push_special(line: &mut Batch, payload: u64)
     }
 }
 
-// Adds a NaN by its payload.
+// Appends a NaN with its payload.
 fn push_nan(line: &mut Batch, payload: u64)
     requires { length line.old + 22 ≤ 64 }
     ensures { line.new ≡ line.old ++ (codes "nan:0x" ++ hexadecimal 16 payload) }
@@ -74,7 +74,7 @@ fn push_nan(line: &mut Batch, payload: u64)
     push_hexadecimal(line, payload, 16);
 }
 
-// Adds the hexadecimal digits of a number that is not 0, of which so many are enough.
+// Appends the hexadecimal digits of a number, at most the last `most`; none for 0.
 fn push_hexadecimal(line: &mut Batch, n: u64, most: usize)
     requires { length line.old + most ≤ 64 }
     ensures text { line.new ≡ line.old ++ hexadecimal most n }
@@ -90,7 +90,7 @@ fn push_hexadecimal(line: &mut Batch, n: u64, most: usize)
     line.push_byte(hex_digit((n % 16) as u8));
 }
 
-// Adds a number, by its fraction, which is n / 16^13, and its exponent, which has the bias in it.
+// Appends a finite number. Its fraction is n / 16^13, and `exponent` is its biased exponent.
 fn push_finite(line: &mut Batch, n: u64, bias: u32, exponent: u32)
     requires few { n < 16 ^ 13 }
     requires room { length line.old + 29 ≤ 64 }
@@ -103,7 +103,7 @@ fn push_finite(line: &mut Batch, n: u64, bias: u32, exponent: u32)
     }
 }
 
-// Adds a number below the normal floats, which has their least exponent, or zero.
+// Appends zero or a subnormal number, which has the least exponent of the normal ones.
 fn push_small(line: &mut Batch, n: u64, bias: u32)
     requires few { n < 16 ^ 13 }
     requires room { length line.old + 29 ≤ 64 }
@@ -116,7 +116,7 @@ fn push_small(line: &mut Batch, n: u64, bias: u32)
     }
 }
 
-// Adds a first digit, a fraction and an exponent.
+// Appends a first digit, a fraction and an exponent.
 fn push_scaled(line: &mut Batch, first: &[u8], n: u64, bias: u32, exponent: u32)
     requires few { n < 16 ^ 13 }
     requires room { length line.old + (length first.now + 26) ≤ 64 }
@@ -127,7 +127,7 @@ fn push_scaled(line: &mut Batch, first: &[u8], n: u64, bias: u32, exponent: u32)
     push_exponent(line, bias, exponent);
 }
 
-// Adds a point and the digits of n / 16^13, unless that is 0.
+// Appends a point and the digits of n / 16^13, unless that is 0.
 fn push_fraction(line: &mut Batch, n: u64)
     requires few { n < 16 ^ 13 }
     requires room { length line.old + 14 ≤ 64 }
@@ -141,7 +141,7 @@ fn push_fraction(line: &mut Batch, n: u64)
     push_places(line, n);
 }
 
-// Adds the digits of n / 16^13, but for zeros at the end.
+// Appends the digits of n / 16^13, without trailing zeros.
 fn push_places(line: &mut Batch, n: u64)
     requires few { n < 16 ^ 13 }
     requires room { length line.old + 13 ≤ 64 }
@@ -158,7 +158,7 @@ fn push_places(line: &mut Batch, n: u64)
     }
 }
 
-// Adds an exponent that has the bias in it.
+// Appends a biased exponent, with its sign.
 fn push_exponent(line: &mut Batch, bias: u32, exponent: u32)
     requires { length line.old + 12 ≤ 64 }
     ensures { line.new ≡ line.old ++ exponent_text bias exponent }
@@ -170,7 +170,7 @@ fn push_exponent(line: &mut Batch, bias: u32, exponent: u32)
     }
 }
 
-// Adds an exponent that is not negative.
+// Appends an exponent that is not negative.
 fn push_above(line: &mut Batch, exponent: u32)
     requires { length line.old + 12 ≤ 64 }
     ensures { line.new ≡ line.old ++ (codes "p+" ++ decimal exponent) }

@@ -1,4 +1,4 @@
-//! Words of a printed text, each with the white space before it (chapter 6).
+//! Prints words: tokens, each with the white space before it (Core spec chapter 6).
 
 ghost use Rattle.std.specs.Prelude.{◌≡◌, ◌+◌, ◌<◌, ◌≤◌, ◌++◌, ◌∷◌, ℕ, List, length, map, replicate};
 ghost use Rattle.wm_write.specs.FloatText.{hex_digit};
@@ -14,7 +14,7 @@ use itoa::{Buffer, Integer};
 use wm_syntax::io::Dest;
 use wm_syntax::types::{GlobalType, Limits, ValType};
 
-/// Writes a number behind some bytes.
+/// Writes some bytes and a number in decimal.
 pub(crate) fn put_counted<I: Integer, W: Dest>(w: &mut W, written: &mut u64, front: &[u8], n: I)
     ensures { Sent (front.now ++ I.text n) (W.has_failed w.old, W.contents w.old, written.old)
         (W.has_failed w.new, W.contents w.new, written.new) }
@@ -39,7 +39,7 @@ impl Part for TypeWord {
     }
 }
 
-/// A value type behind a space.
+/// Returns a space and the keyword of a value type.
 pub(crate) fn type_bytes(ty: ValType) -> &'static [u8]
     ensures { result.now ≡ 32 ∷ type_text ty }
 {
@@ -51,7 +51,8 @@ pub(crate) fn type_bytes(ty: ValType) -> &'static [u8]
     }
 }
 
-/// Writes a form of value types, unless there are none. The head is what stands before the first.
+/// Writes `head`, the value types and a closing parenthesis, unless there are no types. `head` has white space, an
+/// opening parenthesis and a keyword.
 pub(crate) fn put_types<W: Dest>(w: &mut W, written: &mut u64, head: &[u8], types: &[ValType])
     ensures { (before word : List ℕ) → head.now ≡ before ++ 40 ∷ word
         → Sent (words_text (types_words before word types.now))
@@ -66,14 +67,14 @@ pub(crate) fn put_types<W: Dest>(w: &mut W, written: &mut u64, head: &[u8], type
     put_bytes(w, written, b")");
 }
 
-/// Writes a value type as often as it is said.
+/// Writes a value type `count` times.
 pub(crate) fn put_run<W: Dest>(w: &mut W, written: &mut u64, count: u32, ty: ValType)
     ensures { Sent (words_text (map type_word (replicate count ty)))
         (W.has_failed w.old, W.contents w.old, written.old)
         (W.has_failed w.new, W.contents w.new, written.new) }
 {
     for _ in 0..count {
-        // there may be 2^32 words to go, and a writer that has failed takes none of them
+        // Up to 2^32 words may follow, and a writer that has failed takes none of them.
         if w.failed() {
             return;
         }
@@ -81,7 +82,7 @@ pub(crate) fn put_run<W: Dest>(w: &mut W, written: &mut u64, count: u32, ty: Val
     }
 }
 
-/// Writes limits.
+/// Writes limits. Core spec 6.4.4.
 pub(crate) fn put_limits<W: Dest>(w: &mut W, written: &mut u64, limits: Limits)
     ensures { Sent (words_text (limits_words limits)) (W.has_failed w.old, W.contents w.old, written.old)
         (W.has_failed w.new, W.contents w.new, written.new) }
@@ -90,7 +91,7 @@ pub(crate) fn put_limits<W: Dest>(w: &mut W, written: &mut u64, limits: Limits)
     put_max(w, written, limits.max);
 }
 
-// Writes the greatest size, where there is one.
+// Writes the maximum, if there is one.
 fn put_max<W: Dest>(w: &mut W, written: &mut u64, max: Option<u32>)
     ensures { Sent (words_text (max_words max)) (W.has_failed w.old, W.contents w.old, written.old)
         (W.has_failed w.new, W.contents w.new, written.new) }
@@ -101,7 +102,7 @@ fn put_max<W: Dest>(w: &mut W, written: &mut u64, max: Option<u32>)
     }
 }
 
-/// Writes a table type.
+/// Writes a table type. Core spec 6.4.6.
 pub(crate) fn put_table_type<W: Dest>(w: &mut W, written: &mut u64, limits: Limits)
     ensures { Sent (words_text (table_words limits)) (W.has_failed w.old, W.contents w.old, written.old)
         (W.has_failed w.new, W.contents w.new, written.new) }
@@ -110,7 +111,7 @@ pub(crate) fn put_table_type<W: Dest>(w: &mut W, written: &mut u64, limits: Limi
     put_bytes(w, written, b" funcref");
 }
 
-/// Writes a global type.
+/// Writes a global type. Core spec 6.4.7.
 pub(crate) fn put_global_type<W: Dest>(w: &mut W, written: &mut u64, ty: GlobalType)
     ensures { Sent (words_text (global_type_words ty)) (W.has_failed w.old, W.contents w.old, written.old)
         (W.has_failed w.new, W.contents w.new, written.new) }
@@ -124,7 +125,7 @@ pub(crate) fn put_global_type<W: Dest>(w: &mut W, written: &mut u64, ty: GlobalT
     }
 }
 
-/// Writes the use of a type.
+/// Writes a type use. Core spec 6.6.3.
 pub(crate) fn put_type_use<W: Dest>(w: &mut W, written: &mut u64, index: u32)
     ensures { Sent (words_text (type_use index)) (W.has_failed w.old, W.contents w.old, written.old)
         (W.has_failed w.new, W.contents w.new, written.new) }
@@ -134,7 +135,7 @@ pub(crate) fn put_type_use<W: Dest>(w: &mut W, written: &mut u64, index: u32)
     put_bytes(w, written, line.as_slice());
 }
 
-/// Adds the use of a type to a line.
+/// Appends a type use to a line.
 pub(crate) fn push_type_use(line: &mut Batch, index: u32)
     requires { length line.old + 20 ≤ 64 }
     ensures { line.new ≡ line.old ++ words_text (type_use index) }
@@ -143,7 +144,7 @@ pub(crate) fn push_type_use(line: &mut Batch, index: u32)
     line.push(b")");
 }
 
-/// A hexadecimal digit, in lower case.
+/// Returns a hexadecimal digit, in lower case.
 pub(crate) fn hex_digit(n: u8) -> u8
     requires { n < 16 }
     ensures { result ≡ hex_digit n }
@@ -157,7 +158,7 @@ fn is_plain(byte: u8) -> bool
     byte >= 0x20 && byte <= 0x7E && byte != b'"' && byte != b'\\'
 }
 
-/// A byte in a string.
+/// A byte of a string, escaped if need be. Core spec 6.3.3.
 struct Escaped;
 
 impl Part for Escaped {
@@ -180,7 +181,7 @@ impl Part for Escaped {
     }
 }
 
-/// Writes a string behind a space.
+/// Writes a space and a string.
 pub(crate) fn put_string<W: Dest>(w: &mut W, written: &mut u64, bytes: &[u8])
     ensures { Sent (word_text (quoted bytes.now)) (W.has_failed w.old, W.contents w.old, written.old)
         (W.has_failed w.new, W.contents w.new, written.new) }
